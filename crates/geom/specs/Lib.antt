@@ -1,0 +1,15 @@
+pub mod Limit
+pub mod Order
+pub mod Determinant
+pub mod Pixel
+pub mod OnSegment
+pub mod Segments
+pub mod Hot
+pub mod Route
+pub mod Operations
+pub mod Rounded
+pub mod Parity
+pub mod Noded
+pub mod ResultEdges
+pub mod Words
+pub mod Fault

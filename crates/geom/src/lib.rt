@@ -1,0 +1,23 @@
+//! Exact geometry on the integer grid: points, segments, edges and faults, and the definitions that every crate is
+//! proved against.
+#![tactic(auto)]
+
+mod edge;
+mod fault;
+mod op;
+pub mod pixel;
+mod point;
+mod rect;
+mod ring;
+mod segment;
+mod vector;
+mod words;
+
+pub use edge::{Counted, Edge};
+pub use fault::{Fault, NoMemory, Part, RunFault};
+pub use op::Op;
+pub use point::{COORDINATE_LIMIT, Pt};
+pub use rect::Rect;
+pub use ring::{Layer, Polygon, Ring, SimpleRing};
+pub use segment::{Seg, Source};
+pub use vector::Vector;

@@ -1,0 +1,84 @@
+//! Rings, layers and polygons.
+
+ghost use Rattle.std.specs.Prelude.{◌≢◌, ◌≡◌, ◌≤◌, List, AllPairs, length};
+ghost use Rattle.geom.specs.declared.point.Pt.{Pt};
+
+use crate::point::Pt;
+use std::alloc::Allocator;
+use std::marker::Model;
+
+/// A ring of a layer text: three points or more, the first one not repeated at the end. Points may occur several times.
+#[derive(Debug, Drop)]
+pub struct Ring<A: Allocator> {
+    points: Vec<Pt, A>,
+}
+
+impl<A: Allocator> Model for Ring<A> {
+    ghost Value = { List Pt };
+
+    ghost view = { λ r. r.points.items };
+
+    ghost invariant = { λ r. 3 ≤ length r.points.items };
+}
+
+impl<A: Allocator> Ring<A> {
+    /// The ring of these points.
+    pub fn new(points: Vec<Pt, A>) -> Ring<A>
+        requires { 3 ≤ length points.items }
+        ensures { result ≡ points.items }
+    {
+        Ring { points }
+    }
+
+    /// The points in their order, the first one not repeated.
+    pub fn points(&self) -> &[Pt]
+        ensures { result.now ≡ self.now }
+    {
+        &self.points
+    }
+}
+
+/// The rings of a layer text, in text order. Their grouping into polygons has no meaning.
+#[derive(Debug, Drop)]
+pub struct Layer<A: Allocator> {
+    pub rings: Vec<Ring<A>, A>,
+}
+
+/// A ring of a result: three points or more, and none twice.
+#[derive(Debug, Drop)]
+pub struct SimpleRing<A: Allocator> {
+    points: Vec<Pt, A>,
+}
+
+impl<A: Allocator> Model for SimpleRing<A> {
+    ghost Value = { List Pt };
+
+    ghost view = { λ r. r.points.items };
+
+    ghost invariant = { λ r. (3 ≤ length r.points.items) × AllPairs (λ p q. p ≢ q) r.points.items };
+}
+
+impl<A: Allocator> SimpleRing<A> {
+    /// The ring of these points.
+    pub fn new(points: Vec<Pt, A>) -> SimpleRing<A>
+        requires enough { 3 ≤ length points.items }
+        requires distinct { AllPairs (λ p q. p ≢ q) points.items }
+        ensures { result ≡ points.items }
+    {
+        SimpleRing { points }
+    }
+
+    /// The points in their order, the first one not repeated.
+    pub fn points(&self) -> &[Pt]
+        ensures { result.now ≡ self.now }
+    {
+        &self.points
+    }
+}
+
+/// A polygon of a result: its shell, and its holes in order.
+#[derive(Debug, Drop)]
+pub struct Polygon<A: Allocator> {
+    pub shell: SimpleRing<A>,
+    pub holes: Vec<SimpleRing<A>, A>,
+}
