@@ -1,0 +1,6 @@
+//! Where two segments cross.
+#![tactic(auto)]
+
+mod common_point;
+
+pub use common_point::cross;

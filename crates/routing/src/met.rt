@@ -1,0 +1,110 @@
+//! The pixels that a segment meets.
+ghost use Rattle.std.specs.Prelude.{◌≡◌, ◌↔◌, ◌^◌, IfSome, IsTrue, pos, ◌+ℤ◌, ◌≤ℤ◌};
+ghost use Rattle.std.specs.Int.RustNames.{unsigned_abs};
+ghost use Rattle.geom.specs.Limit.{AreInLimit, InLimit, IsWithin};
+ghost use Rattle.geom.specs.Determinant.{determinant};
+ghost use Rattle.geom.specs.Route.{Meets};
+ghost use Rattle.routing.specs.Corners.{PassesCorners, IsBetween, IsInBox};
+
+use geom::{Pt, Seg, Vector};
+
+// Whether a number is from one end to the other.
+fn is_between(a: i32, b: i32, c: i32) -> bool
+    ensures { IsTrue result ↔ IsBetween a b c }
+{
+    (a <= c && c <= b) || (b <= c && c <= a)
+}
+
+// The sum of the absolute values of a vector's coordinates.
+fn span(v: Vector) -> i64
+    ensures value { result ≡ pos (unsigned_abs v.dx) +ℤ pos (unsigned_abs v.dy) }
+    ensures small { IsWithin (2 ^ 30) result }
+{
+    v.dx.abs() + v.dy.abs()
+}
+
+// Twice a number.
+fn doubled(x: i64) -> i64
+    requires { IsWithin (2 ^ 59) x }
+    ensures value { result ≡ x +ℤ x }
+    ensures small { IsWithin (2 ^ 60) result }
+{
+    2 * x
+}
+
+// Whether a segment passes between the corners of a pixel, by its direction and the vector from its start to the pixel's centre.
+fn passes_corners(run: Vector, to: Vector) -> bool
+    ensures { IsTrue result ↔ PassesCorners run.dx run.dy to.dx to.dy }
+{
+    let twice = doubled(run.determinant(to));
+    let size = span(run);
+    if twice == size {
+        return run.dx > 0 && run.dy < 0;
+    }
+    if twice == -size {
+        return run.dx < 0 && run.dy > 0;
+    }
+    -size < twice && twice < size
+}
+
+// Whether a pixel's centre lies in the closed box of a segment.
+fn is_in_box(s: &Seg, pixel: Pt) -> bool
+    requires s_in { AreInLimit s.now.a s.now.b }
+    requires pixel_in { InLimit pixel }
+    ensures { IsTrue result ↔ IsInBox s.now pixel }
+{
+    is_between(s.a.x, s.b.x, pixel.x) && is_between(s.a.y, s.b.y, pixel.y)
+}
+
+/// Whether some point of a segment has the given pixel.
+pub fn meets(s: &Seg, pixel: Pt) -> bool
+    requires s_in { AreInLimit s.now.a s.now.b }
+    requires pixel_in { InLimit pixel }
+    ensures { IsTrue result ↔ Meets s.now pixel }
+{
+    is_in_box(s, pixel) && passes_corners(s.direction(), s.a.vector_to(pixel))
+}
+
+#[cfg(test)]
+mod tests {
+    use super::*;
+    use geom::Source;
+
+    fn segment(a: (i8, i8), b: (i8, i8)) -> Option<Seg>
+        ensures { IfSome result (λ s. AreInLimit s.a s.b) }
+    {
+        let start = Pt {
+            x: i32::from(a.0),
+            y: i32::from(a.1),
+        };
+        let end = Pt {
+            x: i32::from(b.0),
+            y: i32::from(b.1),
+        };
+        Seg::new(start, end, Source::A)
+    }
+
+    fn is_met(a: (i8, i8), b: (i8, i8), pixel: (i8, i8)) -> Option<bool> {
+        let s = segment(a, b)?;
+        Some(meets(
+            &s,
+            Pt {
+                x: i32::from(pixel.0),
+                y: i32::from(pixel.1),
+            },
+        ))
+    }
+
+    #[test]
+    fn met_pixels(rt: HostRuntime) {
+        assert_eq!(rt; is_met((0, 0), (10, 1), (0, 0)), Some(true));
+        assert_eq!(rt; is_met((0, 0), (10, 1), (5, 0)), Some(true));
+        assert_eq!(rt; is_met((0, 0), (10, 1), (5, 1)), Some(true));
+        assert_eq!(rt; is_met((0, 0), (10, 1), (4, 1)), Some(false));
+        assert_eq!(rt; is_met((0, 0), (10, 1), (10, 0)), Some(false));
+        assert_eq!(rt; is_met((0, 1), (1, 0), (1, 1)), Some(true));
+        assert_eq!(rt; is_met((0, 1), (1, 0), (0, 0)), Some(false));
+        assert_eq!(rt; is_met((0, 0), (1, -1), (1, 0)), Some(true));
+        assert_eq!(rt; is_met((0, 0), (1, -1), (0, -1)), Some(false));
+    }
+}
