@@ -10,27 +10,16 @@ use Rattle.geom.specs.OnSegment.{IsAt}
 use Rattle.geom.specs.Determinant.{determinant, turn}
 use Rattle.geom.specs.Hot.{CrossIn}
 use Rattle.crossing.specs.Crossing.{CrossesAt}
-use Rattle.geom.proofs.Integers.{linear, mul_nonneg, mul_pos, cancel_nonneg, cancel_pos}
+use Rattle.geom.proofs.Integers.{linear, mul_nonneg, mul_pos, cancel_nonneg, cancel_pos, unscale_eq}
 use Rattle.geom.proofs.Fraction.{gap_is, strict_gap_is, from_gap, from_strict_gap, weak}
 use Rattle.geom.proofs.Nearest.{IsNearest, nearest-is, nearest-unique}
 use Rattle.geom.proofs.Identity.{var, num, ◌⊕◌, ◌⊖◌, ◌⊗◌, ring}
 
--- ---- a positive factor is cancelled in an equation
-
-both_ways : (x y : ℤ) → x ≤ℤ y → y ≤ℤ x → x ≡ y
-both_ways x y h k = omega (arith, linear)
-
 gap_factor : (n x y : ℤ) → n *ℤ (y -ℤ x) ≡ (n *ℤ y) -ℤ (n *ℤ x)
 gap_factor n x y = ring (n ∷ x ∷ y ∷ []) (var 0 ⊗ (var 2 ⊖ var 1)) ((var 0 ⊗ var 2) ⊖ (var 0 ⊗ var 1)) refl
 
-cancel_le : (n x y : ℤ) → pos 0 <ℤ n → (n *ℤ x) ≤ℤ (n *ℤ y) → x ≤ℤ y
-cancel_le n x y p h = from_gap x y (cancel_nonneg n _ p (rw (gap_factor n x y) (gap_is _ _ h)))
-
-equal_le : (x y : ℤ) → x ≡ y → (x ≤ℤ y) × (y ≤ℤ x)
-equal_le x y e = (omega (arith, linear), omega (arith, linear))
-
-pub cancel_equal : (n x y : ℤ) → pos 0 <ℤ n → n *ℤ x ≡ n *ℤ y → x ≡ y
-cancel_equal n x y p e = both_ways x y (cancel_le n x y p (equal_le _ _ e).0) (cancel_le n y x p (equal_le _ _ e).1)
+cancel_equal : (n x y : ℤ) → pos 0 <ℤ n → n *ℤ x ≡ n *ℤ y → x ≡ y
+cancel_equal n x y p e = unscale_eq x y n e p
 
 -- ---- one point, written with two denominators, has one pixel
 
