@@ -1,0 +1,5 @@
+pub mod Weights
+pub mod Touch
+pub mod Noded
+pub mod Routes
+pub mod Rounding
