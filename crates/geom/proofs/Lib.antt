@@ -17,3 +17,4 @@ pub mod Routes
 pub mod RouteLaws
 pub mod Steps
 pub mod Examples
+pub mod Around

@@ -13,3 +13,8 @@ pub mod Noded
 pub mod ResultEdges
 pub mod Words
 pub mod Fault
+pub mod Directed
+pub mod ListOrder
+pub mod Rings
+pub mod Holes
+pub mod Canonical

@@ -2,6 +2,7 @@
 //! proved against.
 #![tactic(auto)]
 
+mod directed;
 mod edge;
 mod fault;
 mod op;
@@ -13,6 +14,7 @@ mod segment;
 mod vector;
 mod words;
 
+pub use directed::DirectedEdge;
 pub use edge::{Counted, Edge};
 pub use fault::{Fault, NoMemory, Part, RunFault};
 pub use op::Op;
