@@ -1,0 +1,7 @@
+pub mod Above
+pub mod Draws
+pub mod Kept
+pub mod Posts
+pub mod Steps
+pub mod Totals
+pub mod Trues

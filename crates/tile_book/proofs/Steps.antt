@@ -1,0 +1,119 @@
+-- Each step goes on with a legal history.
+use Rattle.std.proofs.Common.{◌≡◌, ◌≢◌, ℕ, ◌+◌, zero, suc, ◌<◌, ◌==◌, Bool, true, false, ◌||◌, ◌&&◌, not, List, [], ◌∷◌, ◌++◌, length, set, refl, sym, ap, ◌∙◌, subst, arith, length-set, get_or-set_same, get_or-set_other}
+use Rattle.std.proofs.lemmas.Bool.Decides.{nat_tests}
+use Rattle.std.proofs.lemmas.List.{append-nil}
+use mathlib.Core.Logic.{dite}
+use native.Mathlib.Decide.{ℕ_discrete}
+use Rattle.std.specs.Prelude.{slice_index_or, slice_set, nat_lt, if◌then◌else◌}
+use Rattle.tile_book.specs.declared.desk_core.Event.{Event}
+use Rattle.tile_book.specs.declared.desk_core.Event.TheVariants.{Draw, Post, Stop}
+use Rattle.tile_book.specs.declared.desk_core.Reply.{Reply}
+use Rattle.tile_book.specs.declared.desk_core.Reply.TheVariants.{Number, None, Ok, Stranger, Double, NoHand}
+use Rattle.tile_book.specs.Histories.{gone, is_live, live_draws, accepted_in, posted_by, one_if, is_in, expected, IsLegal}
+use Rattle.tile_book.specs.Machine.{CoreView, IsSound, Agrees, reply_of, after, draw_reply, post_reply}
+
+below : (h n : ℕ) → nat_lt h n ≡ true → h < n
+below h n e = grind (arith, nat_tests)
+
+-- what the machine replies is what is expected after the history
+pub replies : (c : CoreView) (before : List (Event × Reply)) (e : Event) → IsSound c → Agrees c before → reply_of c e ≡ expected c.limit (length c.spent) before e
+replies c before (Draw h) sound a = cases (nat_lt h (length c.spent)) refl
+  where
+    cases : (b : Bool) → nat_lt h (length c.spent) ≡ b → draw_reply c h ≡ expected c.limit (length c.spent) before (Draw h)
+    cases true is = let same = a.spent h (below h (length c.spent) is) in rw (is, ← a.word, same) refl
+    cases false is = rw is refl
+replies c before (Post h k) sound a = cases (nat_lt k c.limit) refl
+  where
+    cases : (b : Bool) → nat_lt k c.limit ≡ b → post_reply c h k ≡ expected c.limit (length c.spent) before (Post h k)
+    cases true is = let same = sound.held k (below k c.limit is) in rw (is, ← a.accepted, same) refl
+    cases false is = rw is refl
+replies c before (Stop h) sound a = refl
+
+live : (hands : ℕ) (before : List (Event × Reply)) (h : ℕ) → nat_lt h hands ≡ true → gone h before ≡ false → is_live hands before (Draw h) ≡ true
+live hands before h known here = rw (known, here) refl
+
+not_live : (hands : ℕ) (before : List (Event × Reply)) (h : ℕ) → gone h before ≡ true → is_live hands before (Draw h) ≡ false
+not_live hands before h spent = rw spent (off (nat_lt h hands))
+  where
+    off : (b : Bool) → (b && false) ≡ false
+    off true = refl
+    off false = refl
+
+unknown : (hands : ℕ) (before : List (Event × Reply)) (h : ℕ) → nat_lt h hands ≡ false → is_live hands before (Draw h) ≡ false
+unknown hands before h e = rw e refl
+
+-- setting one test
+at_set : (bs : List Bool) (h j : ℕ) → h < length bs → slice_index_or (slice_set bs h true) j false ≡ ((h == j) || slice_index_or bs j false)
+at_set bs h j lt = dite (ℕ_discrete j h) (λ same. here same) (λ apart. there apart)
+  where
+    here : j ≡ h → slice_index_or (slice_set bs h true) j false ≡ ((h == j) || slice_index_or bs j false)
+    here same =
+        let at : slice_index_or (slice_set bs h true) h false ≡ true = rw get_or-set_same refl in
+        let eq : (h == j) ≡ true = grind (arith, nat_tests) in
+        subst (λ i. slice_index_or (slice_set bs h true) i false ≡ true) (sym same) at ∙ sym (ap (λ b. b || slice_index_or bs j false) eq)
+
+    there : j ≢ h → slice_index_or (slice_set bs h true) j false ≡ ((h == j) || slice_index_or bs j false)
+    there apart =
+        let at : slice_index_or (slice_set bs h true) j false ≡ slice_index_or bs j false = rw get_or-set_other refl in
+        let ne : (h == j) ≡ false = grind (arith, nat_tests) in
+        at ∙ sym (ap (λ b. b || slice_index_or bs j false) ne)
+
+-- the machine stands where the longer history leaves it
+pub follows : (c : CoreView) (before : List (Event × Reply)) (e : Event) → IsSound c → Agrees c before → Agrees (after c e) ((e, reply_of c e) ∷ before)
+follows c before (Stop h) sound a = cases (nat_lt h (length c.spent)) refl
+  where
+    cases : (b : Bool) → nat_lt h (length c.spent) ≡ b → Agrees (after c (Stop h)) ((Stop h, reply_of c (Stop h)) ∷ before)
+    cases true is = rw is (record {
+      word = omega (arith, a.word ∙ ap (λ n. live_draws n before) (sym (length-set c.spent h true)));
+      spent = λ j lt. at_set c.spent h j (below h _ is) ∙ ap (λ b. (h == j) || b) (a.spent j (omega (arith, length-set c.spent h true)));
+      accepted = a.accepted ∙ sym (append-nil _);
+    })
+    cases false is = rw is (record {
+      word = omega (arith, a.word);
+      spent = λ j lt. let ne : (h == j) ≡ false = grind (arith, nat_tests) in a.spent j lt ∙ sym (ap (λ b. b || gone j before) ne);
+      accepted = a.accepted ∙ sym (append-nil _);
+    })
+follows c before (Post h k) sound a = cases (nat_lt h (length c.spent)) (nat_lt k c.limit) (slice_index_or c.held k false) refl refl refl
+  where
+    same : (r : Reply) → posted_by k r ≡ [] → Agrees c ((Post h k, r) ∷ before)
+    same r e = record { word = omega (arith, a.word); spent = λ j lt. a.spent j lt; accepted = a.accepted ∙ sym (ap (λ l. accepted_in before ++ l) e ∙ append-nil _) }
+
+    cases : (b d f : Bool) → nat_lt h (length c.spent) ≡ b → nat_lt k c.limit ≡ d → slice_index_or c.held k false ≡ f → Agrees (after c (Post h k)) ((Post h k, reply_of c (Post h k)) ∷ before)
+    cases false d f known small held = rw known (same NoHand refl)
+    cases true false f known small held = rw (known, small) (same Stranger refl)
+    cases true true true known small held = rw (known, small, held) (same Double refl)
+    cases true true false known small held = rw (known, small, held) (record { word = omega (arith, a.word); spent = λ j lt. a.spent j lt; accepted = ap (λ l. l ++ k ∷ []) a.accepted })
+follows c before (Draw h) sound a = cases (nat_lt h (length c.spent)) (slice_index_or c.spent h false) (nat_lt c.word c.limit) refl refl refl
+  where
+    cases : (b d f : Bool) → nat_lt h (length c.spent) ≡ b → slice_index_or c.spent h false ≡ d → nat_lt c.word c.limit ≡ f → Agrees (after c (Draw h)) ((Draw h, reply_of c (Draw h)) ∷ before)
+    cases false d f known spent more = rw known (record {
+      word = omega (arith, a.word, ap one_if (unknown (length c.spent) before h known));
+      spent = λ j lt. a.spent j lt;
+      accepted = a.accepted ∙ sym (append-nil _);
+    })
+    cases true true f known spent more = rw (known, spent) (record {
+      word = omega (arith, a.word, ap one_if (not_live (length c.spent) before h (sym (a.spent h (below h _ known)) ∙ spent)));
+      spent = λ j lt. again j lt (h == j) refl;
+      accepted = a.accepted ∙ sym (append-nil _);
+    })
+      where
+        again : (j : ℕ) → j < length c.spent → (b : Bool) → (h == j) ≡ b → slice_index_or c.spent j false ≡ ((h == j) || gone j before)
+        again j lt true e = let same : h ≡ j = grind (arith, nat_tests) in rw e (subst (λ i. slice_index_or c.spent i false ≡ true) same spent)
+        again j lt false e = rw e (a.spent j lt)
+    cases true false true known spent more = rw (known, spent, more) (record {
+      word = omega (arith, a.word, ap one_if (live (length c.spent) before h known (sym (a.spent h (below h _ known)) ∙ spent)));
+      spent = λ j lt. a.spent j lt;
+      accepted = a.accepted ∙ sym (append-nil _);
+    })
+    cases true false false known spent more = rw (known, spent, more) (record {
+      word =
+          let main : c.word + 1 ≡ one_if (is_live (length c.spent) before (Draw h)) + live_draws (length c.spent) before = omega (arith, a.word, ap one_if (live (length c.spent) before h known (sym (a.spent h (below h _ known)) ∙ spent))) in
+          main ∙ ap (λ n. one_if (is_live n before (Draw h)) + live_draws n before) (sym (length-set c.spent h true));
+      spent = λ j lt. at_set c.spent h j (below h _ known) ∙ ap (λ b. (h == j) || b) (a.spent j (omega (arith, length-set c.spent h true)));
+      accepted = a.accepted ∙ sym (append-nil _);
+    })
+
+-- a legal history stays legal
+pub goes_on : (c : CoreView) (before : List (Event × Reply)) (e : Event) → IsSound c → IsLegal c.limit (length c.spent) before → Agrees c before
+    → IsLegal c.limit (length c.spent) ((e, reply_of c e) ∷ before) × Agrees (after c e) ((e, reply_of c e) ∷ before)
+goes_on c before e sound legal a = ((replies c before e sound a, legal), follows c before e sound a)

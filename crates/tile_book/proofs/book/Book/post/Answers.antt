@@ -1,0 +1,25 @@
+use Rattle.std.proofs.Common.{◌≡◌, ◌<◌, None, Option, slice_index_or, length, length-append, ◌+◌, [], ◌∷◌, rules, arith, refl, sym, ap, ◌∙◌, subst}
+use Rattle.tile_book.specs.Books.{BookView, IsReplay, with_piece}
+use Rattle.tile_book.proofs.Posts.{pieces_lt, posted}
+use Rattle.tile_book.proofs.book.Book.post.Goals as goal
+
+pub push_reserved-requires : goal.push_reserved-requires
+push_reserved-requires g c =
+    let i = c.self.invariant in
+    let free : slice_index_or c.self.inside.held.items c.number-number.result None ≡ None = search rules in
+    let lt : c.number-number.result < c.self.inside.limit = c.if-number-self.false in
+    omega (arith, pieces_lt c.self.inside.held.items c.number-number.result (omega (arith, i.0.places)) free, i.0.count, i.0.places, i.2)
+
+pub invariant_of-self : goal.invariant_of-self
+invariant_of-self g c =
+    let i = c.self.invariant in
+    let k = c.number-number.result in
+    let free : slice_index_or c.self.inside.held.items k None ≡ None = search rules in
+    let lt : k < c.self.inside.limit = c.if-number-self.false in
+    let b : BookView g.row.P.Denot = record { limit = c.self.inside.limit; held = c.self.inside.held.items; accepted = c.self.inside.accepted.items } in
+    let next = posted g.P.Numbered.number_of b k c.args.piece i.0 lt free (sym c.number-number.ensures) in (
+      rw c.push_reserved.ensures.items next,
+      c.add.ensures.total ∙ omega (arith, i.1, ap length c.push_reserved.ensures.items, length-append c.self.inside.accepted.items (k ∷ [])),
+      rw c.push_reserved.ensures.capacity i.2,
+      i.3,
+    )

@@ -1,0 +1,16 @@
+-- How a share grows beside a hand's list.
+use Rattle.tile_book.specs.declared.worker.Ended.{Ended}
+use Rattle.std.specs.Prelude.{◌≡◌, true, length, IfNone, ℕ, ◌+◌, ◌<◌, List, [], ◌∷◌, Option, Some, None, max}
+
+-- the least number above all of these
+abbrev pub above : List ℕ → ℕ
+above [] = 0
+above (x ∷ xs) = max (x + 1) (above xs)
+
+abbrev pub one_if_fault : {A : Type 0} → Option A → ℕ
+one_if_fault None = 0
+one_if_fault (Some a) = 1
+
+-- of a new share and a new hand: the share has what was drawn, less what came back and what was not made, and the hand is spent
+abbrev pub HasGrown : {L : Type 0} → Ended L → Type 0
+HasGrown r = (r.share + r.returned + one_if_fault r.fault ≡ length r.hand.drawn) × IfNone r.fault (r.hand.spent ≡ true)

@@ -1,0 +1,8 @@
+pub mod Books
+pub mod Counts
+pub mod Drawing
+pub mod Growth
+pub mod Histories
+pub mod Machine
+pub mod Replies
+pub mod Shown

@@ -1,0 +1,14 @@
+-- What a piece that comes back says.
+use Rattle.std.specs.Prelude.{◌≡◌, ℕ, ◌<◌, ◌≤◌, Option, None, IsSome, slice_index_or}
+use Rattle.tile_book.specs.declared.book.Returned.{Returned}
+use Rattle.tile_book.specs.declared.book.Returned.TheVariants.{Stranger, Double}
+use Rattle.tile_book.specs.Books.{BookView}
+
+-- the piece comes back, as a stranger where its number is not below the limit, else because its number is held
+abbrev pub ComesBack : {P : Type 0} → (P → ℕ) → BookView P → P → Returned P → Type 0
+ComesBack number b p (Stranger q) = (q ≡ p) × (b.limit ≤ number p)
+ComesBack number b p (Double q) = (q ≡ p) × (number p < b.limit) × IsSome (slice_index_or b.held (number p) None)
+
+abbrev pub piece_of : {P : Type 0} → Returned P → P
+piece_of (Stranger q) = q
+piece_of (Double q) = q

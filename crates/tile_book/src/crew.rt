@@ -1,0 +1,150 @@
+//! Workers in threads, the calling thread being the first.
+
+ghost use Rattle.std.specs.Prelude.{◌≡◌, ◌+◌, ◌≤◌, true, [], All, IfOk, IfErr, length, vec_len};
+ghost use Rattle.tile_book.specs.Growth.{HasGrown};
+
+use crate::desk::Desk;
+use crate::draw::{Draw, Hand};
+use crate::gate::{Gate, Phase};
+use crate::job::Job;
+use crate::promise::OfDraw;
+use crate::share::{Limited, Share};
+use crate::worker::{Ended, work};
+use geom::NoMemory;
+use std::alloc::Allocator;
+use std::sync::Wait;
+use std::thread;
+use std::thread::{PromisedHandle, Scope, Threads};
+
+/// A worker for each hand. The calling thread is the first of them, and then runs each that could not be started.
+pub fn run_workers<
+    A: Allocator + Copy + Send + Sync,
+    J: Job<A> + Sync,
+    L: Limited + Send + Sync,
+    G: Gate + Sync,
+    R: Threads + Wait + Sync,
+>(
+    rt: &R,
+    alloc: A,
+    job: &J,
+    phase: Phase,
+    draw: &Draw<A>,
+    hands: Vec<Hand, A>,
+    desk: &Desk<J::Piece, L, A>,
+    shares: Vec<Share<L>, A>,
+    gate: &G,
+) -> Result<Vec<Ended<L>, A>, NoMemory>
+where
+    J::Piece: Send,
+    requires own { All (λ h. (h.draw ≡ draw.now) × (h.drawn ≡ [])) hands.items }
+    requires fresh { All (λ s. s ≡ 0) shares.items }
+    requires shares { vec_len shares ≡ vec_len hands }
+    requires count { draw.now.limit ≤ J.count job.now }
+    ensures len { IfOk result (λ v. vec_len v ≡ vec_len hands) }
+    ensures own { IfOk result (λ v. All (λ e. (e.hand.draw ≡ draw.now) × HasGrown e) v.items) }
+{
+    thread::scope(
+        thread::scope_env(),
+        rt,
+        |scope| -> Result<Vec<Ended<L>, A>, NoMemory>
+            requires { All (λ h. (h.draw ≡ draw.now) × (h.drawn ≡ [])) hands.items × All (λ s. s ≡ 0) shares.items × (vec_len shares ≡ vec_len hands) × (draw.now.limit ≤ J.count job.now) }
+            ensures { IfOk result (λ v. (vec_len v ≡ vec_len hands) × All (λ e. (e.hand.draw ≡ draw.entry.now) × HasGrown e) v.items) }
+        {
+            start_all(
+                scope, rt, alloc, job, phase, draw, hands, desk, shares, gate,
+            )
+        },
+    )
+}
+
+fn start_all<
+    's,
+    E,
+    A: Allocator + Copy + Send + Sync + 's,
+    J: Job<A> + Sync,
+    L: Limited + Send + Sync + 's,
+    G: Gate + Sync,
+    R: Threads + Wait + Sync,
+>(
+    scope: &'s Scope<'s, E>,
+    rt: &'s R,
+    alloc: A,
+    job: &'s J,
+    phase: Phase,
+    draw: &'s Draw<A>,
+    mut hands: Vec<Hand, A>,
+    desk: &'s Desk<J::Piece, L, A>,
+    mut shares: Vec<Share<L>, A>,
+    gate: &'s G,
+) -> Result<Vec<Ended<L>, A>, NoMemory>
+where
+    J::Piece: Send,
+    requires own { All (λ h. (h.draw ≡ draw.now) × (h.drawn ≡ [])) hands.items }
+    requires fresh { All (λ s. s ≡ 0) shares.items }
+    requires shares { vec_len shares ≡ vec_len hands }
+    requires count { draw.now.limit ≤ J.count job.now }
+    ensures { IfOk result (λ v. (vec_len v ≡ vec_len hands) × All (λ e. (e.hand.draw ≡ draw.now) × HasGrown e) v.items) }
+{
+    let mut ended = Vec::with_capacity(alloc, hands.len())?;
+    let mut running = Vec::with_capacity(alloc, hands.len())?;
+    let (Some(hand), Some(share)) = (hands.pop(), shares.pop()) else {
+        return Ok(ended);
+    };
+    while let Some(other) = hands.pop() {
+        let Some(theirs) = shares.pop() else {
+            unreachable!()
+        };
+        match start(
+            scope, rt, alloc, job, phase, draw, other, desk, theirs, gate,
+        ) {
+            Ok(handle) => running.push_reserved(handle),
+            Err(done) => ended.push_reserved(done),
+        }
+    }
+    ended.push_reserved(work(rt, alloc, job, phase, draw, hand, desk, share, gate));
+    while let Some(handle) = running.pop() {
+        ended.push_reserved(handle.join(rt));
+    }
+    Ok(ended)
+}
+
+// Starts a worker, or is it.
+fn start<
+    's,
+    E,
+    A: Allocator + Copy + Send + Sync + 's,
+    J: Job<A> + Sync,
+    L: Limited + Send + Sync + 's,
+    G: Gate + Sync,
+    R: Threads + Wait + Sync,
+>(
+    scope: &'s Scope<'s, E>,
+    rt: &'s R,
+    alloc: A,
+    job: &'s J,
+    phase: Phase,
+    draw: &'s Draw<A>,
+    hand: Hand,
+    desk: &'s Desk<J::Piece, L, A>,
+    share: Share<L>,
+    gate: &'s G,
+) -> Result<PromisedHandle<Ended<L>, OfDraw<'s, A>>, Ended<L>>
+where
+    J::Piece: Send,
+    requires own { (hand.draw ≡ draw.now) × (hand.drawn ≡ []) × (share ≡ 0) }
+    requires count { draw.now.limit ≤ J.count job.now }
+    ensures started { IfOk result (λ h. h.promise.0.now ≡ draw.now) }
+    ensures done { IfErr result (λ e. (e.hand.draw ≡ draw.now) × HasGrown e) }
+{
+    let started = scope.spawn_with(
+        OfDraw(draw),
+        move || -> Ended<L>
+            requires { (hand.draw ≡ draw.now) × (hand.drawn ≡ []) × (share ≡ 0) × (draw.now.limit ≤ J.count job.now) }
+            ensures { (result.hand.draw ≡ draw.entry.now) × HasGrown result }
+        { work(rt, alloc, job, phase, draw, hand, desk, share, gate) },
+    );
+    match started {
+        Ok(handle) => Ok(handle),
+        Err(refused) => Err((refused.value)()),
+    }
+}

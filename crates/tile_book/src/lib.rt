@@ -1,0 +1,26 @@
+//! Numbers that many hands draw, each once, a book of the pieces that they post, and the workers that do both in threads.
+#![tactic(auto)]
+
+mod book;
+mod crew;
+mod desk;
+mod desk_core;
+mod draw;
+mod gate;
+mod job;
+mod laws;
+mod promise;
+mod share;
+mod ticket;
+mod worker;
+
+pub use book::{Book, Numbered, Returned};
+pub use crew::run_workers;
+pub use desk::{Desk, close};
+pub use desk_core::{Core, Event, Reply};
+pub use draw::{Draw, Drawn, Hand, finish};
+pub use gate::{Gate, OpenGate, Phase};
+pub use job::Job;
+pub use laws::{word_is_new, word_stays_near};
+pub use share::{Limited, Share};
+pub use worker::{Ended, work};
