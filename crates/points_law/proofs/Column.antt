@@ -12,8 +12,7 @@ use Rattle.geom.specs.declared.point.Pt.{Pt}
 use Rattle.geom.specs.declared.edge.Edge.{Edge}
 use Rattle.geom.proofs.Lists.{In}
 use Rattle.points_law.proofs.Choices.{◌⊕◌, ◌∧∧◌, par, run, rise, Ordered, MeetAtEnds, Noded, eq_z, Even}
-use Rattle.geom.proofs.IntOrder.{expand, linear, scale_le, scale_lt, product_positive}
-use Rattle.points_law.proofs.Sign.{by_sign}
+use Rattle.geom.proofs.Integers.{expand, linear, scale_le, scale_lt, mul_pos, by_sign}
 use Rattle.points_law.proofs.Sign.{NoRoot, twice, not_zero, sign}
 use Rattle.points_law.proofs.Meet.{off, slope, gap, no_meet, no_cross}
 use Rattle.points_law.proofs.Sums.{par_cong, par_xor}
@@ -94,9 +93,9 @@ joined u1 u2 u3 u4 x1 x2 x3 x4 g h1 h2 h3 h4 e = grind arith
 
 pub scaled_test : (r a b : ℤ) → pos 0 <ℤ r → lt_z a b ≡ lt_z (pos 0) (r *ℤ (b -ℤ a))
 scaled_test r a b h = by_sign (b -ℤ a)
-    (λ k. less a b (r *ℤ (b -ℤ a)) k (flip (r *ℤ (b -ℤ a)) (r *ℤ (a -ℤ b)) (opposite r a b) (product_positive r (a -ℤ b) h (other a b k))))
+    (λ k. less a b (r *ℤ (b -ℤ a)) k (flip (r *ℤ (b -ℤ a)) (r *ℤ (a -ℤ b)) (opposite r a b) (mul_pos r (a -ℤ b) h (other a b k))))
     (λ k. same_case a b (r *ℤ (b -ℤ a)) k (ap (λ (t : ℤ). r *ℤ t) k ∙ none r))
-    (λ k. more a b (r *ℤ (b -ℤ a)) k (product_positive r (b -ℤ a) h k))
+    (λ k. more a b (r *ℤ (b -ℤ a)) k (mul_pos r (b -ℤ a) h k))
   where
     opposite : (r a b : ℤ) → r *ℤ (b -ℤ a) ≡ neg_ℤ (r *ℤ (a -ℤ b))
     opposite r a b = simp expand (omega (arith, linear))

@@ -9,9 +9,7 @@ use borrow.Author.Differences.{ints}
 use Rattle.geom.specs.declared.edge.Edge.{Edge}
 use Rattle.geom.specs.Pixel.{Point}
 use Rattle.points_law.proofs.Choices.{◌⊕◌, ◌∧∧◌, run, rise, MeetAtEnds, covers, above}
-use Rattle.geom.proofs.IntOrder.{expand, linear, scale_le, product_positive}
-use Rattle.geom.proofs.Integers.{cancel_pos}
-use Rattle.points_law.proofs.Sign.{by_sign}
+use Rattle.geom.proofs.Integers.{expand, linear, scale_le, mul_pos, cancel_pos, by_sign}
 use Rattle.points_law.proofs.Sign.{twice, stays_up}
 use Rattle.points_law.proofs.Meet.{off, slope, gap}
 use Rattle.points_law.proofs.Column.{cv, ab, weak, lt_le, up_to, no_root, cv_run, lt_from}
@@ -98,4 +96,4 @@ upward e f z k c m i j u v = above_is f z ∙ is_lt (pos 0) (lift f z) (cancel_p
     (subst (λ (t : ℤ). pos 0 <ℤ t) (sym (lifts (run e) (run f) (rise e) (rise f) (off e) (off f) z.x z.y z.n))
     (add_pos (slope f e *ℤ z.x +ℤ gap f e *ℤ z.n) (run f *ℤ lift e z)
     (stays_up (slope f e) (gap f e) k z.x z.n (no_root e f k m i j) (lt_from (pos 0) (twice (slope f e) (gap f e) k) u) c.low (weak z.x (z.n *ℤ (k +ℤ pos 1)) c.high))
-    (product_positive (run f) (lift e z) (cv_run f k j) (lt_from (pos 0) (lift e z) (sym (above_is e z) ∙ v))))))
+    (mul_pos (run f) (lift e z) (cv_run f k j) (lt_from (pos 0) (lift e z) (sym (above_is e z) ∙ v))))))

@@ -8,7 +8,7 @@ use borrow.Author.Differences.{ints}
 use Rattle.geom.specs.declared.edge.Edge.{Edge}
 use Rattle.geom.specs.Pixel.{Point}
 use Rattle.points_law.proofs.Choices.{run, rise, On, IsEnd, MeetAtEnds}
-use Rattle.geom.proofs.IntOrder.{expand, linear, product_positive, scale_lt}
+use Rattle.geom.proofs.Integers.{expand, linear, mul_pos, scale_lt}
 
 -- the line of e is y = (rise e * x + off e) / run e
 abbrev pub off : Edge → ℤ
@@ -23,7 +23,7 @@ gap f e = run e *ℤ off f -ℤ run f *ℤ off e
 
 -- the point of e at X / N
 abbrev pub at : (e : Edge) → pos 0 <ℤ run e → ℤ → (N : ℤ) → pos 0 <ℤ N → Point
-at e r X N h = record { x = X *ℤ run e; y = N *ℤ off e +ℤ X *ℤ rise e; n = N *ℤ run e; positive = product_positive N (run e) h r }
+at e r X N h = record { x = X *ℤ run e; y = N *ℤ off e +ℤ X *ℤ rise e; n = N *ℤ run e; positive = mul_pos N (run e) h r }
 
 -- the coordinate of a point of an edge, on plain numbers
 along : (N r p s X : ℤ) → (N *ℤ r) *ℤ p +ℤ (X -ℤ N *ℤ p) *ℤ r ≡ X *ℤ r
@@ -41,7 +41,7 @@ on_itself e r X N h i j = record {
   n = N *ℤ run e;
   m_low = omega (arith, linear);
   m_high = omega (arith, linear, width N e.p.x e.q.x);
-  n_positive = product_positive N (run e) h r;
+  n_positive = mul_pos N (run e) h r;
   at_x = ap (λ (t : ℤ). (N *ℤ run e) *ℤ t) (sym (along N (run e) e.p.x (rise e) X));
   at_y = ap (λ (t : ℤ). (N *ℤ run e) *ℤ t) (sym (aside N (run e) e.p.x e.p.y (rise e) X));
 }
@@ -63,7 +63,7 @@ on_other e f re X N h rf i j z = record {
   n = N *ℤ run f;
   m_low = omega (arith, linear);
   m_high = omega (arith, linear, width N f.p.x f.q.x);
-  n_positive = product_positive N (run f) h rf;
+  n_positive = mul_pos N (run f) h rf;
   at_x = swapped N (run e) (run f) X ∙ ap (λ (t : ℤ). (N *ℤ run e) *ℤ t) (sym (along N (run f) f.p.x (rise f) X));
   at_y = level N (run e) (run f) (rise e) (rise f) (off e) (off f) X z ∙ ap (λ (t : ℤ). (N *ℤ run e) *ℤ t) (sym (aside N (run f) f.p.x f.p.y (rise f) X));
 }
@@ -112,7 +112,7 @@ on_vertical e f re c x v u i j = record {
   n = run e *ℤ rise f;
   m_low = omega (arith, linear);
   m_high = omega (arith, linear, width (run e) f.p.y f.q.y);
-  n_positive = product_positive (run e) (rise f) re u;
+  n_positive = mul_pos (run e) (rise f) re u;
   at_x = upright (run e) (rise e) (off e) c f.p.y (run f) (rise f) v
       ∙ ap (λ (t : ℤ). run e *ℤ ((run e *ℤ rise f) *ℤ t +ℤ ((off e +ℤ c *ℤ rise e) -ℤ run e *ℤ f.p.y) *ℤ run f)) (sym x)
       ∙ ap (λ (t : ℤ). t *ℤ ((run e *ℤ rise f) *ℤ f.p.x +ℤ ((off e +ℤ c *ℤ rise e) -ℤ run e *ℤ f.p.y) *ℤ run f)) (sym (times_one (run e)));

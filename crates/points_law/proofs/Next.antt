@@ -12,9 +12,7 @@ use Rattle.geom.specs.declared.edge.Edge.{Edge}
 use Rattle.geom.proofs.Lists.{In}
 use Rattle.points_law.proofs.Choices.{◌⊕◌, ◌∧∧◌, par, run, rise, Ordered, Even, is, parity, left, right}
 use Rattle.points_law.proofs.ResultOfChoices.{Edges}
-use Rattle.geom.proofs.IntOrder.{expand, linear, product_positive, product_nonneg}
-use Rattle.geom.proofs.Integers.{cancel_pos}
-use Rattle.points_law.proofs.Sign.{by_sign}
+use Rattle.geom.proofs.Integers.{expand, linear, mul_pos, mul_nonneg, cancel_pos, by_sign}
 use Rattle.points_law.proofs.Meet.{slope}
 use Rattle.points_law.proofs.Sums.{par_cong, par_xor, par_and, par_none, and_false}
 use Rattle.points_law.proofs.Even.{is_same, same, same_is, same_refl, not_true, once}
@@ -44,7 +42,7 @@ upright_rise e (inr h) z = rises e.p.y e.q.y h.1
     rises p q i = omega (arith, ints)
 
 nothing_steeper : (rf re sf se : ℤ) → re ≡ pos 0 → pos 0 ≤ℤ rf → pos 0 <ℤ se → pos 0 <ℤ (re *ℤ sf -ℤ rf *ℤ se) → ⊥
-nothing_steeper rf re sf se z h i k = clash (re *ℤ sf) (rf *ℤ se) (ap (λ (t : ℤ). t *ℤ sf) z ∙ none sf) (product_nonneg rf se h (weak (pos 0) se i)) k
+nothing_steeper rf re sf se z h i k = clash (re *ℤ sf) (rf *ℤ se) (ap (λ (t : ℤ). t *ℤ sf) z ∙ none sf) (mul_nonneg rf se h (weak (pos 0) se i)) k
   where
     none : (s : ℤ) → pos 0 *ℤ s ≡ pos 0
     none s = omega (arith, ints)
@@ -61,9 +59,9 @@ sum_second a b h i = omega (arith, ints)
 by_runs : (f e g : Edge) → Ordered f → Ordered e → Ordered g → pos 0 <ℤ slope f e → pos 0 <ℤ slope e g → (run e ≡ pos 0) ⊎ (pos 0 <ℤ run e) → (run f ≡ pos 0) ⊎ (pos 0 <ℤ run f) → (run g ≡ pos 0) ⊎ (pos 0 <ℤ run g) → pos 0 <ℤ slope f g
 by_runs f e g of oe og h i (inl z) w x = absurd (nothing_steeper (run f) (run e) (rise f) (rise e) z (run_low f of) (upright_rise e oe z) h)
 by_runs f e g of oe og h i (inr r) (inr w) x = cancel_pos (run e) (slope f g) r (subst (λ (t : ℤ). pos 0 <ℤ t) (sym (chain (run f) (run e) (run g) (rise f) (rise e) (rise g)))
-    (sum_first (run f *ℤ slope e g) (run g *ℤ slope f e) (product_positive (run f) (slope e g) w i) (product_nonneg (run g) (slope f e) (run_low g og) (weak (pos 0) (slope f e) h))))
+    (sum_first (run f *ℤ slope e g) (run g *ℤ slope f e) (mul_pos (run f) (slope e g) w i) (mul_nonneg (run g) (slope f e) (run_low g og) (weak (pos 0) (slope f e) h))))
 by_runs f e g of oe og h i (inr r) (inl w) (inr x) = cancel_pos (run e) (slope f g) r (subst (λ (t : ℤ). pos 0 <ℤ t) (sym (chain (run f) (run e) (run g) (rise f) (rise e) (rise g)))
-    (sum_second (run f *ℤ slope e g) (run g *ℤ slope f e) (product_nonneg (run f) (slope e g) (run_low f of) (weak (pos 0) (slope e g) i)) (product_positive (run g) (slope f e) x h)))
+    (sum_second (run f *ℤ slope e g) (run g *ℤ slope f e) (mul_nonneg (run f) (slope e g) (run_low f of) (weak (pos 0) (slope e g) i)) (mul_pos (run g) (slope f e) x h)))
 by_runs f e g of oe og h i (inr r) (inl w) (inl x) = absurd (nothing_steeper (run e) (run g) (rise e) (rise g) x (run_low e oe) (upright_rise g og x) i)
 
 is_lt : (x : ℤ) → pos 0 <ℤ x → lt_z (pos 0) x ≡ true

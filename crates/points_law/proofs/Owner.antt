@@ -13,7 +13,7 @@ use Rattle.geom.specs.Pixel.{Point}
 use Rattle.geom.proofs.Lists.{In}
 use Rattle.points_law.proofs.Choices.{◌⊕◌, ◌∧∧◌, par, run, rise, Ordered, Small, Even, is, parity, counted, covers, above, K}
 use Rattle.points_law.proofs.ResultOfChoices.{Edges}
-use Rattle.geom.proofs.IntOrder.{expand, linear}
+use Rattle.geom.proofs.Integers.{expand, linear}
 use Rattle.points_law.proofs.Meet.{off, slope}
 use Rattle.points_law.proofs.Sums.{par_cong, par_xor}
 use Rattle.points_law.proofs.Even.{and_left, and_right, is_refl, same, same_is, not_true, once, even_sum}

@@ -11,8 +11,7 @@ use Rattle.geom.specs.declared.edge.Edge.{Edge}
 use Rattle.geom.specs.Pixel.{Point}
 use Rattle.geom.proofs.Lists.{In, Distinct}
 use Rattle.points_law.proofs.Choices.{◌⊕◌, ◌∧∧◌, run, rise, Small, MeetAtEnds, Noded, above, counted, parity, K, left, right}
-use Rattle.geom.proofs.IntOrder.{expand, linear, product_nonneg, product_positive}
-use Rattle.points_law.proofs.Sign.{by_sign}
+use Rattle.geom.proofs.Integers.{expand, linear, mul_nonneg, mul_pos, by_sign}
 use Rattle.points_law.proofs.Sign.{sign}
 use Rattle.points_law.proofs.Meet.{off, slope, gap, no_meet}
 use Rattle.points_law.proofs.Sums.{par_cong, par_xor}
@@ -111,9 +110,9 @@ mid_itself px py qx qy = simp (two_times, expand) (omega (arith, linear))
 
 pub pos_test : (r x : ℤ) → pos 0 <ℤ r → lt_z (pos 0) (r *ℤ x) ≡ lt_z (pos 0) x
 pos_test r x h = by_sign x
-    (λ s. low (r *ℤ x) x (below r x (product_positive r (neg_ℤ x) h (turned x s))) s)
+    (λ s. low (r *ℤ x) x (below r x (mul_pos r (neg_ℤ x) h (turned x s))) s)
     (λ s. ap (λ (t : ℤ). lt_z (pos 0) (r *ℤ t)) s ∙ ap (lt_z (pos 0)) (none r) ∙ ap (lt_z (pos 0)) (sym s))
-    (λ s. high (r *ℤ x) x (product_positive r x h s) s)
+    (λ s. high (r *ℤ x) x (mul_pos r x h s) s)
   where
     turned : (x : ℤ) → x <ℤ pos 0 → pos 0 <ℤ neg_ℤ x
     turned x s = omega (arith, ints)
@@ -204,10 +203,10 @@ product_bound a b h i = (low, high)
     down c a b h i = omega (arith, linear, simp expand at h, simp expand at i)
 
     high : (a *ℤ b) ≤ℤ pos 288230376151711744
-    high = up (pos 536870912) a b (product_nonneg (pos 536870912 -ℤ a) (pos 536870912 +ℤ b) (m a h) (p b i)) (product_nonneg (pos 536870912 +ℤ a) (pos 536870912 -ℤ b) (p a h) (m b i))
+    high = up (pos 536870912) a b (mul_nonneg (pos 536870912 -ℤ a) (pos 536870912 +ℤ b) (m a h) (p b i)) (mul_nonneg (pos 536870912 +ℤ a) (pos 536870912 -ℤ b) (p a h) (m b i))
 
     low : negsuc 288230376151711743 ≤ℤ (a *ℤ b)
-    low = down (pos 536870912) a b (product_nonneg (pos 536870912 -ℤ a) (pos 536870912 -ℤ b) (m a h) (m b i)) (product_nonneg (pos 536870912 +ℤ a) (pos 536870912 +ℤ b) (p a h) (p b i))
+    low = down (pos 536870912) a b (mul_nonneg (pos 536870912 -ℤ a) (pos 536870912 -ℤ b) (m a h) (m b i)) (mul_nonneg (pos 536870912 +ℤ a) (pos 536870912 +ℤ b) (p a h) (p b i))
 
 -- K x and a number that is smaller than K in absolute value
 pub near_test : (x w : ℤ) → ¬ (x ≡ pos 0) → negsuc 2305843009213693951 ≤ℤ w → w ≤ℤ pos 2305843009213693952 → lt_z (pos 0) (K *ℤ x -ℤ w) ≡ lt_z (pos 0) x
@@ -264,7 +263,7 @@ square_nonneg (pos n) = omega (arith, ints)
 square_nonneg (negsuc n) = omega (arith, ints)
 
 dot_pos : (e : Edge) → pos 0 <ℤ run e → pos 0 <ℤ dot e e
-dot_pos e r = sum (rise e *ℤ rise e) (run e *ℤ run e) (square_nonneg (rise e)) (product_positive (run e) (run e) r r)
+dot_pos e r = sum (rise e *ℤ rise e) (run e *ℤ run e) (square_nonneg (rise e)) (mul_pos (run e) (run e) r r)
   where
     sum : (a b : ℤ) → pos 0 ≤ℤ a → pos 0 <ℤ b → pos 0 <ℤ (a +ℤ b)
     sum a b h i = omega (arith, ints)

@@ -13,8 +13,7 @@ use Rattle.geom.proofs.Lists.{In}
 use Rattle.geom.proofs.Edges.{edge_path}
 use Rattle.points_law.proofs.Choices.{◌⊕◌, ◌∧∧◌, par, run, rise, Ordered, Noded, Even, is, parity, left, right, in_result}
 use Rattle.points_law.proofs.ResultOfChoices.{Edges}
-use Rattle.geom.proofs.IntOrder.{expand, linear, product_positive, product_nonneg}
-use Rattle.points_law.proofs.Sign.{by_sign}
+use Rattle.geom.proofs.Integers.{expand, linear, mul_pos, mul_nonneg, by_sign}
 use Rattle.points_law.proofs.Meet.{off, slope}
 use Rattle.points_law.proofs.Sums.{par_cong, par_xor, par_none, over, jump, walk}
 use Rattle.points_law.proofs.Even.{and_left, and_right, is_same, is_refl, same, same_is, same_refl, not_true, once}
@@ -143,7 +142,7 @@ run_low e (inr h) = least e.p.x e.q.x h.0
     least p q h = omega (arith, ints)
 
 product_low : (r s : ℤ) → pos 0 ≤ℤ r → pos 0 <ℤ s → pos 0 ≤ℤ (r *ℤ s)
-product_low r s h i = product_nonneg r s h (weak (pos 0) s i)
+product_low r s h i = mul_nonneg r s h (weak (pos 0) s i)
 
 -- nothing is steeper than an upright edge
 not_steeper : (f g : Edge) → Ordered f → Upright g → lt_z (pos 0) (slope f g) ≡ false
@@ -159,7 +158,7 @@ not_steeper f g o u = ap (λ (t : ℤ). lt_z (pos 0) (t *ℤ rise f -ℤ run f *
         no x w e h t = omega (arith, ints)
 
 steeper : (f g : Edge) → Upright f → pos 0 <ℤ run g → lt_z (pos 0) (slope f g) ≡ true
-steeper f g u r = ap (λ (t : ℤ). lt_z (pos 0) (run g *ℤ rise f -ℤ t *ℤ rise g)) (run_none f u) ∙ high (run g *ℤ rise f) (rise g) (product_positive (run g) (rise f) r (rise_some f u))
+steeper f g u r = ap (λ (t : ℤ). lt_z (pos 0) (run g *ℤ rise f -ℤ t *ℤ rise g)) (run_none f u) ∙ high (run g *ℤ rise f) (rise g) (mul_pos (run g) (rise f) r (rise_some f u))
   where
     high : (w s : ℤ) → pos 0 <ℤ w → lt_z (pos 0) (w -ℤ pos 0 *ℤ s) ≡ true
     high w s h = iff_bool (lt_z (pos 0) (w -ℤ pos 0 *ℤ s)) true (λ t. refl) (λ t. is_lt (w -ℤ pos 0 *ℤ s) (more w s h))

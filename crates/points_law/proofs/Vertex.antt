@@ -12,8 +12,7 @@ use Rattle.geom.specs.declared.edge.Edge.{Edge}
 use Rattle.geom.specs.Pixel.{Point}
 use Rattle.geom.proofs.Lists.{In}
 use Rattle.points_law.proofs.Choices.{◌⊕◌, ◌∧∧◌, par, run, rise, Ordered, Small, On, IsAt, IsEnd, MeetAtEnds, Noded, Even, eq_z, is, parity, counted, above, left, right, K}
-use Rattle.geom.proofs.IntOrder.{expand, linear, product_positive}
-use Rattle.points_law.proofs.Sign.{by_sign}
+use Rattle.geom.proofs.Integers.{expand, linear, mul_pos, by_sign}
 use Rattle.points_law.proofs.Meet.{off, slope, gap, at, on_itself, on_vertical}
 use Rattle.points_law.proofs.Sums.{par_cong, par_xor}
 use Rattle.points_law.proofs.Even.{and_left, and_right, eq_z_same, is_same, is_refl, same, same_is, even_sum}
@@ -248,9 +247,9 @@ by_factor r x y h e = ap (lt_z (pos 0)) e ∙ pos_test r x h
 
 not_zero_factor : (r x y : ℤ) → pos 0 <ℤ r → y ≡ r *ℤ x → ¬ (x ≡ pos 0) → ¬ (y ≡ pos 0)
 not_zero_factor r x y h e n z = by_sign x
-    (λ s. absurd (less (r *ℤ neg_ℤ x) (r *ℤ x) (opposite r x) (product_positive r (neg_ℤ x) h (turned x s)) (sym e ∙ z)))
+    (λ s. absurd (less (r *ℤ neg_ℤ x) (r *ℤ x) (opposite r x) (mul_pos r (neg_ℤ x) h (turned x s)) (sym e ∙ z)))
     (λ s. n s)
-    (λ s. absurd (more (r *ℤ x) (product_positive r x h s) (sym e ∙ z)))
+    (λ s. absurd (more (r *ℤ x) (mul_pos r x h s) (sym e ∙ z)))
   where
     turned : (x : ℤ) → x <ℤ pos 0 → pos 0 <ℤ neg_ℤ x
     turned x s = omega (arith, ints)
@@ -415,7 +414,7 @@ drop_by : (s o r x py qy : ℤ) → (s *ℤ x +ℤ o) -ℤ r *ℤ qy ≡ ((s *�
 drop_by s o r x py qy = simp expand (omega (arith, linear))
 
 lower_end : (e f : Edge) → Upright e → pos 0 <ℤ run f → over_pt f e.q <ℤ over_pt f e.p
-lower_end e f u r = less (over_pt f e.p) (over_pt f e.q) (run f *ℤ rise e) it (product_positive (run f) (rise e) r (rise_some e u))
+lower_end e f u r = less (over_pt f e.p) (over_pt f e.q) (run f *ℤ rise e) it (mul_pos (run f) (rise e) r (rise_some e u))
   where
     less : (a b c : ℤ) → b ≡ a -ℤ c → pos 0 <ℤ c → b <ℤ a
     less a b c h i = omega (arith, ints)
