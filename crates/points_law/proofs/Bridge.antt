@@ -15,8 +15,8 @@ use Rattle.geom.specs.declared.point.Pt.{Pt}
 use Rattle.geom.specs.declared.edge.Edge.{Edge}
 use Rattle.geom.specs.Pixel.{Point}
 use Rattle.geom.specs.ResultEdges.{left_side, right_side}
-use Rattle.points_law.proofs.Defs.{◌⊕◌, ◌∧∧◌, par, run, rise, K, Even, counted, parity, holds_at, is_result, in_result}
-use Rattle.points_law.proofs.Laws.{Edges}
+use Rattle.points_law.proofs.Choices.{◌⊕◌, ◌∧∧◌, par, run, rise, K, Even, counted, parity, holds_at, is_result, in_result}
+use Rattle.points_law.proofs.ResultOfChoices.{Edges}
 use Rattle.points_law.proofs.Result.{result_parity}
 
 -- whether the number is odd

@@ -11,9 +11,8 @@ use borrow.Author.Differences.{ints}
 use Rattle.geom.specs.declared.point.Pt.{Pt}
 use Rattle.geom.specs.declared.edge.Edge.{Edge}
 use Rattle.geom.proofs.Lists.{In}
-use Rattle.points_law.proofs.Defs.{◌⊕◌, ◌∧∧◌, par, run, rise, Ordered, MeetAtEnds, Noded, eq_z, Even}
-use Rattle.points_law.proofs.Ring.{expand, lin}
-use Rattle.points_law.proofs.Order.{mul_le, mul_lt, mul_pos, by_sign}
+use Rattle.points_law.proofs.Choices.{◌⊕◌, ◌∧∧◌, par, run, rise, Ordered, MeetAtEnds, Noded, eq_z, Even}
+use Rattle.geom.proofs.Integers.{expand, linear, scale_le, scale_lt, mul_pos, by_sign}
 use Rattle.points_law.proofs.Sign.{NoRoot, twice, not_zero, sign}
 use Rattle.points_law.proofs.Meet.{off, slope, gap, no_meet, no_cross}
 use Rattle.points_law.proofs.Sums.{par_cong, par_xor}
@@ -57,14 +56,14 @@ lt_le a b c h k = omega (arith, ints)
 pub no_root : (e f : Edge) (k : ℤ) → MeetAtEnds e f → cv e k ≡ true → cv f k ≡ true → NoRoot (slope f e) (gap f e) k
 no_root e f k m i j X N n l r =
     no_meet e f m (cv_run e k i) (cv_run f k j) X N n
-    (le_lt (N *ℤ e.p.x) (N *ℤ k) X (mul_le N e.p.x k (weak (pos 0) N n) (cv_low e k i)) l)
-    (lt_le X (N *ℤ (k +ℤ pos 1)) (N *ℤ e.q.x) r (mul_le N (k +ℤ pos 1) e.q.x (weak (pos 0) N n) (up_to k e.q.x (cv_high e k i))))
-    (weak (N *ℤ f.p.x) X (le_lt (N *ℤ f.p.x) (N *ℤ k) X (mul_le N f.p.x k (weak (pos 0) N n) (cv_low f k j)) l))
-    (weak X (N *ℤ f.q.x) (lt_le X (N *ℤ (k +ℤ pos 1)) (N *ℤ f.q.x) r (mul_le N (k +ℤ pos 1) f.q.x (weak (pos 0) N n) (up_to k f.q.x (cv_high f k j)))))
+    (le_lt (N *ℤ e.p.x) (N *ℤ k) X (scale_le e.p.x k N (cv_low e k i) (weak (pos 0) N n)) l)
+    (lt_le X (N *ℤ (k +ℤ pos 1)) (N *ℤ e.q.x) r (scale_le (k +ℤ pos 1) e.q.x N (up_to k e.q.x (cv_high e k i)) (weak (pos 0) N n)))
+    (weak (N *ℤ f.p.x) X (le_lt (N *ℤ f.p.x) (N *ℤ k) X (scale_le f.p.x k N (cv_low f k j) (weak (pos 0) N n)) l))
+    (weak X (N *ℤ f.q.x) (lt_le X (N *ℤ (k +ℤ pos 1)) (N *ℤ f.q.x) r (scale_le (k +ℤ pos 1) f.q.x N (up_to k f.q.x (cv_high f k j)) (weak (pos 0) N n))))
 
 -- ---- of two edges one is above the other
 turn_twice : (re rf se sf oe of k : ℤ) → twice (rf *ℤ se -ℤ re *ℤ sf) (rf *ℤ oe -ℤ re *ℤ of) k ≡ neg_ℤ (twice (re *ℤ sf -ℤ rf *ℤ se) (re *ℤ of -ℤ rf *ℤ oe) k)
-turn_twice re rf se sf oe of k = simp expand (omega (arith, lin))
+turn_twice re rf se sf oe of k = simp expand (omega (arith, linear))
 
 either : (x : ℤ) → ¬ (x ≡ pos 0) → lt_z (pos 0) x ⊕ lt_z (pos 0) (neg_ℤ x) ≡ true
 either x n = grind (arith, ints)
@@ -75,7 +74,7 @@ one_above e f k m i j =
     ∙ either (twice (slope f e) (gap f e) k) (not_zero (slope f e) (gap f e) k (no_root e f k m i j))
 
 same_twice : (r s o k : ℤ) → twice (r *ℤ s -ℤ r *ℤ s) (r *ℤ o -ℤ r *ℤ o) k ≡ pos 0
-same_twice r s o k = simp expand (omega (arith, lin))
+same_twice r s o k = simp expand (omega (arith, linear))
 
 pub not_above_itself : (e : Edge) (k : ℤ) → ab e e k ≡ false
 not_above_itself e k = ap (λ (t : ℤ). lt_z (pos 0) t) (same_twice (run e) (rise e) (off e) k)
@@ -99,7 +98,7 @@ scaled_test r a b h = by_sign (b -ℤ a)
     (λ k. more a b (r *ℤ (b -ℤ a)) k (mul_pos r (b -ℤ a) h k))
   where
     opposite : (r a b : ℤ) → r *ℤ (b -ℤ a) ≡ neg_ℤ (r *ℤ (a -ℤ b))
-    opposite r a b = simp expand (omega (arith, lin))
+    opposite r a b = simp expand (omega (arith, linear))
 
     flip : (x y : ℤ) → x ≡ neg_ℤ y → pos 0 <ℤ y → x <ℤ pos 0
     flip x y e h = omega (arith, ints)
@@ -120,10 +119,10 @@ scaled_test r a b h = by_sign (b -ℤ a)
     more a b x h k = grind (arith, ints)
 
 at_start : (re rf se sf oe px py : ℤ) → (re *ℤ sf -ℤ rf *ℤ se) *ℤ px +ℤ (re *ℤ (py *ℤ rf -ℤ px *ℤ sf) -ℤ rf *ℤ oe) *ℤ pos 1 ≡ rf *ℤ (re *ℤ py -ℤ (oe +ℤ px *ℤ se))
-at_start re rf se sf oe px py = simp expand (omega (arith, lin))
+at_start re rf se sf oe px py = simp expand (omega (arith, linear))
 
 at_stop : (re se oe px py qx qy : ℤ) → (re *ℤ (qy -ℤ py) -ℤ (qx -ℤ px) *ℤ se) *ℤ qx +ℤ (re *ℤ (py *ℤ (qx -ℤ px) -ℤ px *ℤ (qy -ℤ py)) -ℤ (qx -ℤ px) *ℤ oe) *ℤ pos 1 ≡ (qx -ℤ px) *ℤ (re *ℤ qy -ℤ (oe +ℤ qx *ℤ se))
-at_stop re se oe px py qx qy = simp expand (omega (arith, lin))
+at_stop re se oe px py qx qy = simp expand (omega (arith, linear))
 
 abbrev height : Edge → Edge → ℤ → Bool
 height f e c = lt_z (pos 0) (slope f e *ℤ c +ℤ gap f e *ℤ pos 1)
@@ -213,7 +212,7 @@ upright e f k m i j x y =
     (vertical_cover f.p.x f.q.x k x) (vertical_cover f.p.x f.q.x (k +ℤ pos 1) x)
     (same_top (eq_z f.p.x (k +ℤ pos 1)) (eq_z f.q.x (k +ℤ pos 1)) (lt_z (off e +ℤ (k +ℤ pos 1) *ℤ rise e) (run e *ℤ f.p.y)) (lt_z (off e +ℤ (k +ℤ pos 1) *ℤ rise e) (run e *ℤ f.q.y))
     (ap (λ (t : ℤ). eq_z t (k +ℤ pos 1)) x)
-    (λ h. both_sides (run e *ℤ f.p.y) (run e *ℤ f.q.y) (off e +ℤ (k +ℤ pos 1) *ℤ rise e) (mul_lt (run e) f.p.y f.q.y (cv_run e k i) y)
+    (λ h. both_sides (run e *ℤ f.p.y) (run e *ℤ f.q.y) (off e +ℤ (k +ℤ pos 1) *ℤ rise e) (scale_lt f.p.y f.q.y (run e) y (cv_run e k i))
     (no_cross e f m (cv_run e k i) (k +ℤ pos 1) (low_next e.p.x k (cv_low e k i)) (cv_high e (k +ℤ pos 1) j) (x ∙ eq_z_same f.q.x (k +ℤ pos 1) h) (flat f.p.x f.q.x x) (rises f.p.y f.q.y y))))
   where
     low_next : (a k : ℤ) → a ≤ℤ k → a <ℤ (k +ℤ pos 1)

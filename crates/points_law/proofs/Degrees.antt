@@ -19,7 +19,7 @@ use Rattle.geom.proofs.Points.{same_point_refl}
 use Rattle.geom.proofs.Steps.{joined, step_of, step_apart}
 use Rattle.geom.proofs.Lists.{In, contains_in, in_contains, map_in, counts_some}
 use Rattle.geom.proofs.RouteLaws.{route_starts, route_ends}
-use Rattle.points_law.proofs.Defs.{◌⊕◌, ◌∧∧◌, par, is}
+use Rattle.points_law.proofs.Choices.{◌⊕◌, ◌∧∧◌, par, is}
 use Rattle.points_law.proofs.Sums.{par_cong, par_same, par_xor, par_and, fubini, and_comm, and_dist, xor_self}
 use Rattle.points_law.proofs.Even.{same, same_is, same_refl, once}
 use Rattle.points_law.proofs.Bridge.{par_filter}

@@ -11,7 +11,7 @@ use Rattle.geom.specs.declared.point.Pt.{Pt}
 use Rattle.geom.specs.declared.edge.Edge.{Edge}
 use Rattle.geom.proofs.Lists.{In, Distinct}
 use Rattle.geom.proofs.Edges.{edge_path}
-use Rattle.points_law.proofs.Defs.{◌⊕◌, ◌∧∧◌, par, eq_z, is, Even}
+use Rattle.points_law.proofs.Choices.{◌⊕◌, ◌∧∧◌, par, eq_z, is, Even}
 use Rattle.points_law.proofs.Sums.{par_cong, par_same, par_xor, par_and, par_none, and_false}
 
 pub and_left : (a b : Bool) → a ∧∧ b ≡ true → a ≡ true

@@ -8,9 +8,8 @@ use lib.Signed.{◌<ℤ◌, ◌≤ℤ◌, lt_z, le_z, shr_z}
 use borrow.Author.Differences.{ints}
 use Rattle.geom.specs.declared.edge.Edge.{Edge}
 use Rattle.geom.specs.Pixel.{Point}
-use Rattle.points_law.proofs.Defs.{◌⊕◌, ◌∧∧◌, run, rise, MeetAtEnds, covers, above}
-use Rattle.points_law.proofs.Ring.{expand, lin}
-use Rattle.points_law.proofs.Order.{mul_le, mul_pos, factor_pos, by_sign}
+use Rattle.points_law.proofs.Choices.{◌⊕◌, ◌∧∧◌, run, rise, MeetAtEnds, covers, above}
+use Rattle.geom.proofs.Integers.{expand, linear, scale_le, mul_pos, cancel_pos, by_sign}
 use Rattle.points_law.proofs.Sign.{twice, stays_up}
 use Rattle.points_law.proofs.Meet.{off, slope, gap}
 use Rattle.points_law.proofs.Column.{cv, ab, weak, lt_le, up_to, no_root, cv_run, lt_from}
@@ -61,8 +60,8 @@ le_le a b c h k = omega (arith, ints)
 
 low_test : (z : Point) (k p : ℤ) → InColumn z k → le_z (z.n *ℤ p) z.x ≡ le_z p k
 low_test z k p c = same_le p k (z.n *ℤ p) z.x
-    (λ h. le_le (z.n *ℤ p) (z.n *ℤ k) z.x (mul_le z.n p k (weak (pos 0) z.n z.positive) h) c.low)
-    (λ h. lt_le z.x (z.n *ℤ (k +ℤ pos 1)) (z.n *ℤ p) c.high (mul_le z.n (k +ℤ pos 1) p (weak (pos 0) z.n z.positive) (up_to k p h)))
+    (λ h. le_le (z.n *ℤ p) (z.n *ℤ k) z.x (scale_le p k z.n h (weak (pos 0) z.n z.positive)) c.low)
+    (λ h. lt_le z.x (z.n *ℤ (k +ℤ pos 1)) (z.n *ℤ p) c.high (scale_le (k +ℤ pos 1) p z.n (up_to k p h) (weak (pos 0) z.n z.positive)))
 
 pub covers_is : (z : Point) (k : ℤ) → InColumn z k → (e : Edge) → covers e z ≡ cv e k
 covers_is z k c e = ap (λ (t : Bool). t ∧∧ lt_z z.x (z.n *ℤ e.q.x)) (low_test z k e.p.x c)
@@ -77,13 +76,13 @@ shift : (a b x : ℤ) → b -ℤ a ≡ x → lt_z a b ≡ lt_z (pos 0) x
 shift a b x h = grind (arith, ints)
 
 lift_of : (r s X Y N px py : ℤ) → s *ℤ (X -ℤ N *ℤ px) -ℤ r *ℤ (Y -ℤ N *ℤ py) ≡ (s *ℤ X +ℤ (py *ℤ r -ℤ px *ℤ s) *ℤ N) -ℤ r *ℤ Y
-lift_of r s X Y N px py = simp expand (omega (arith, lin))
+lift_of r s X Y N px py = simp expand (omega (arith, linear))
 
 pub above_is : (e : Edge) (z : Point) → above e z ≡ lt_z (pos 0) (lift e z)
 above_is e z = shift (run e *ℤ (z.y -ℤ z.n *ℤ e.p.y)) (rise e *ℤ (z.x -ℤ z.n *ℤ e.p.x)) (lift e z) (lift_of (run e) (rise e) z.x z.y z.n e.p.x e.p.y)
 
 lifts : (re rf se sf oe of X Y N : ℤ) → re *ℤ ((sf *ℤ X +ℤ of *ℤ N) -ℤ rf *ℤ Y) ≡ ((re *ℤ sf -ℤ rf *ℤ se) *ℤ X +ℤ (re *ℤ of -ℤ rf *ℤ oe) *ℤ N) +ℤ rf *ℤ ((se *ℤ X +ℤ oe *ℤ N) -ℤ re *ℤ Y)
-lifts re rf se sf oe of X Y N = simp expand (omega (arith, lin))
+lifts re rf se sf oe of X Y N = simp expand (omega (arith, linear))
 
 add_pos : (x y : ℤ) → pos 0 ≤ℤ x → pos 0 <ℤ y → pos 0 <ℤ (x +ℤ y)
 add_pos x y h k = omega (arith, ints)
@@ -93,7 +92,7 @@ is_lt a b h = grind (arith, ints)
 
 -- what is above an edge that is above z is above z
 pub upward : (e f : Edge) (z : Point) (k : ℤ) → InColumn z k → MeetAtEnds e f → cv e k ≡ true → cv f k ≡ true → ab f e k ≡ true → above e z ≡ true → above f z ≡ true
-upward e f z k c m i j u v = above_is f z ∙ is_lt (pos 0) (lift f z) (factor_pos (run e) (lift f z) (cv_run e k i)
+upward e f z k c m i j u v = above_is f z ∙ is_lt (pos 0) (lift f z) (cancel_pos (run e) (lift f z) (cv_run e k i)
     (subst (λ (t : ℤ). pos 0 <ℤ t) (sym (lifts (run e) (run f) (rise e) (rise f) (off e) (off f) z.x z.y z.n))
     (add_pos (slope f e *ℤ z.x +ℤ gap f e *ℤ z.n) (run f *ℤ lift e z)
     (stays_up (slope f e) (gap f e) k z.x z.n (no_root e f k m i j) (lt_from (pos 0) (twice (slope f e) (gap f e) k) u) c.low (weak z.x (z.n *ℤ (k +ℤ pos 1)) c.high))

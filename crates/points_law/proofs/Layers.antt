@@ -29,8 +29,8 @@ use Rattle.geom.proofs.Edges.{before_cases, before_strict}
 use Rattle.geom.proofs.Lists.{In, Distinct, in_contains, in_map, map_in}
 use Rattle.geom.proofs.Points.{int_eq_true, int_eq_refl, same_point_true, same_point_refl}
 use Rattle.points_law.specs.Law.{AreLayers}
-use Rattle.points_law.proofs.Defs.{◌⊕◌, ◌∧∧◌, par, run, rise, Small, On, IsAt, IsEnd, Noded, Even, is, covers, counted, parity, left, right, holds_at, in_result}
-use Rattle.points_law.proofs.Laws.{Edges}
+use Rattle.points_law.proofs.Choices.{◌⊕◌, ◌∧∧◌, par, run, rise, Small, On, IsAt, IsEnd, Noded, Even, is, covers, counted, parity, left, right, holds_at, in_result}
+use Rattle.points_law.proofs.ResultOfChoices.{Edges}
 use Rattle.points_law.proofs.Sums.{par_cong, par_same}
 use Rattle.points_law.proofs.Even.{same, same_is, same_refl, is_same, is_refl, by_test, not_true}
 use Rattle.points_law.proofs.Bridge.{par_is_odd, par_filter, left_back, right_back}

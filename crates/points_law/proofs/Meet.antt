@@ -7,9 +7,8 @@ use lib.Signed.{◌<ℤ◌, ◌≤ℤ◌}
 use borrow.Author.Differences.{ints}
 use Rattle.geom.specs.declared.edge.Edge.{Edge}
 use Rattle.geom.specs.Pixel.{Point}
-use Rattle.points_law.proofs.Defs.{run, rise, On, IsEnd, MeetAtEnds}
-use Rattle.points_law.proofs.Ring.{expand, lin}
-use Rattle.points_law.proofs.Order.{mul_pos, mul_lt}
+use Rattle.points_law.proofs.Choices.{run, rise, On, IsEnd, MeetAtEnds}
+use Rattle.geom.proofs.Integers.{expand, linear, mul_pos, scale_lt}
 
 -- the line of e is y = (rise e * x + off e) / run e
 abbrev pub off : Edge → ℤ
@@ -28,31 +27,31 @@ at e r X N h = record { x = X *ℤ run e; y = N *ℤ off e +ℤ X *ℤ rise e; n
 
 -- the coordinate of a point of an edge, on plain numbers
 along : (N r p s X : ℤ) → (N *ℤ r) *ℤ p +ℤ (X -ℤ N *ℤ p) *ℤ r ≡ X *ℤ r
-along N r p s X = simp expand (omega (arith, lin))
+along N r p s X = simp expand (omega (arith, linear))
 
 aside : (N r p y s X : ℤ) → (N *ℤ r) *ℤ y +ℤ (X -ℤ N *ℤ p) *ℤ s ≡ N *ℤ (y *ℤ r -ℤ p *ℤ s) +ℤ X *ℤ s
-aside N r p y s X = simp expand (omega (arith, lin))
+aside N r p y s X = simp expand (omega (arith, linear))
 
 pub width : (N p q : ℤ) → N *ℤ (q -ℤ p) ≡ N *ℤ q -ℤ N *ℤ p
-width N p q = simp expand (omega (arith, lin))
+width N p q = simp expand (omega (arith, linear))
 
 pub on_itself : (e : Edge) (r : pos 0 <ℤ run e) (X N : ℤ) (h : pos 0 <ℤ N) → (N *ℤ e.p.x) ≤ℤ X → X ≤ℤ (N *ℤ e.q.x) → On e (at e r X N h)
 on_itself e r X N h i j = record {
   m = X -ℤ N *ℤ e.p.x;
   n = N *ℤ run e;
-  m_low = omega (arith, lin);
-  m_high = omega (arith, lin, width N e.p.x e.q.x);
+  m_low = omega (arith, linear);
+  m_high = omega (arith, linear, width N e.p.x e.q.x);
   n_positive = mul_pos N (run e) h r;
   at_x = ap (λ (t : ℤ). (N *ℤ run e) *ℤ t) (sym (along N (run e) e.p.x (rise e) X));
   at_y = ap (λ (t : ℤ). (N *ℤ run e) *ℤ t) (sym (aside N (run e) e.p.x e.p.y (rise e) X));
 }
 
 swapped : (N re rf X : ℤ) → (N *ℤ rf) *ℤ (X *ℤ re) ≡ (N *ℤ re) *ℤ (X *ℤ rf)
-swapped N re rf X = simp expand (omega (arith, lin))
+swapped N re rf X = simp expand (omega (arith, linear))
 
 level : (N re rf se sf oe of X : ℤ) → (re *ℤ sf -ℤ rf *ℤ se) *ℤ X +ℤ (re *ℤ of -ℤ rf *ℤ oe) *ℤ N ≡ pos 0
     → (N *ℤ rf) *ℤ (N *ℤ oe +ℤ X *ℤ se) ≡ (N *ℤ re) *ℤ (N *ℤ of +ℤ X *ℤ sf)
-level N re rf se sf oe of X h = simp expand (omega (arith, lin, simp expand at (ap (λ (t : ℤ). N *ℤ t) h), none N))
+level N re rf se sf oe of X h = simp expand (omega (arith, linear, simp expand at (ap (λ (t : ℤ). N *ℤ t) h), none N))
   where
     none : (N : ℤ) → N *ℤ pos 0 ≡ pos 0
     none N = omega (arith, ints)
@@ -62,18 +61,18 @@ on_other : (e f : Edge) (re : pos 0 <ℤ run e) (X N : ℤ) (h : pos 0 <ℤ N) �
 on_other e f re X N h rf i j z = record {
   m = X -ℤ N *ℤ f.p.x;
   n = N *ℤ run f;
-  m_low = omega (arith, lin);
-  m_high = omega (arith, lin, width N f.p.x f.q.x);
+  m_low = omega (arith, linear);
+  m_high = omega (arith, linear, width N f.p.x f.q.x);
   n_positive = mul_pos N (run f) h rf;
   at_x = swapped N (run e) (run f) X ∙ ap (λ (t : ℤ). (N *ℤ run e) *ℤ t) (sym (along N (run f) f.p.x (rise f) X));
   at_y = level N (run e) (run f) (rise e) (rise f) (off e) (off f) X z ∙ ap (λ (t : ℤ). (N *ℤ run e) *ℤ t) (sym (aside N (run f) f.p.x f.p.y (rise f) X));
 }
 
 left_of : (N r p X : ℤ) → pos 0 <ℤ r → (N *ℤ p) <ℤ X → X *ℤ r ≡ (N *ℤ r) *ℤ p → ⊥
-left_of N r p X h i e = omega (arith, lin, simp expand at (mul_lt r (N *ℤ p) X h i), simp expand at e)
+left_of N r p X h i e = omega (arith, linear, simp expand at (scale_lt (N *ℤ p) X r i h), simp expand at e)
 
 right_of : (N r q X : ℤ) → pos 0 <ℤ r → X <ℤ (N *ℤ q) → X *ℤ r ≡ (N *ℤ r) *ℤ q → ⊥
-right_of N r q X h i e = omega (arith, lin, simp expand at (mul_lt r X (N *ℤ q) h i), simp expand at e)
+right_of N r q X h i e = omega (arith, linear, simp expand at (scale_lt X (N *ℤ q) r i h), simp expand at e)
 
 -- strictly inside e's columns the point of e is no end of e
 no_end : (e : Edge) (r : pos 0 <ℤ run e) (X N : ℤ) (h : pos 0 <ℤ N) → (N *ℤ e.p.x) <ℤ X → X <ℤ (N *ℤ e.q.x) → IsEnd e (at e r X N h) → ⊥
@@ -97,10 +96,10 @@ upright r s o c py fr fs e = subst (λ (t : ℤ). (r *ℤ fs) *ℤ (c *ℤ r) �
     none x = omega (arith, ints)
 
     plain : (r s o c py fs : ℤ) → (r *ℤ fs) *ℤ (c *ℤ r) ≡ r *ℤ ((r *ℤ fs) *ℤ c +ℤ ((o +ℤ c *ℤ s) -ℤ r *ℤ py) *ℤ pos 0)
-    plain r s o c py fs = simp (none, expand) (omega (arith, lin))
+    plain r s o c py fs = simp (none, expand) (omega (arith, linear))
 
 upright_y : (r s o c py fs : ℤ) → (r *ℤ fs) *ℤ (o +ℤ c *ℤ s) ≡ r *ℤ ((r *ℤ fs) *ℤ py +ℤ ((o +ℤ c *ℤ s) -ℤ r *ℤ py) *ℤ fs)
-upright_y r s o c py fs = simp expand (omega (arith, lin))
+upright_y r s o c py fs = simp expand (omega (arith, linear))
 
 pub times_one : (x : ℤ) → pos 1 *ℤ x ≡ x
 times_one x = omega (arith, ints)
@@ -111,8 +110,8 @@ pub on_vertical : (e f : Edge) (re : pos 0 <ℤ run e) (c : ℤ) → f.p.x ≡ c
 on_vertical e f re c x v u i j = record {
   m = (off e +ℤ c *ℤ rise e) -ℤ run e *ℤ f.p.y;
   n = run e *ℤ rise f;
-  m_low = omega (arith, lin);
-  m_high = omega (arith, lin, width (run e) f.p.y f.q.y);
+  m_low = omega (arith, linear);
+  m_high = omega (arith, linear, width (run e) f.p.y f.q.y);
   n_positive = mul_pos (run e) (rise f) re u;
   at_x = upright (run e) (rise e) (off e) c f.p.y (run f) (rise f) v
       ∙ ap (λ (t : ℤ). run e *ℤ ((run e *ℤ rise f) *ℤ t +ℤ ((off e +ℤ c *ℤ rise e) -ℤ run e *ℤ f.p.y) *ℤ run f)) (sym x)

@@ -10,10 +10,9 @@ use borrow.Author.Differences.{ints}
 use Rattle.geom.specs.declared.point.Pt.{Pt}
 use Rattle.geom.specs.declared.edge.Edge.{Edge}
 use Rattle.geom.proofs.Lists.{In}
-use Rattle.points_law.proofs.Defs.{◌⊕◌, ◌∧∧◌, par, run, rise, Ordered, Even, is, parity, left, right}
-use Rattle.points_law.proofs.Laws.{Edges}
-use Rattle.points_law.proofs.Ring.{expand, lin}
-use Rattle.points_law.proofs.Order.{mul_pos, mul_nonneg, factor_pos, by_sign}
+use Rattle.points_law.proofs.Choices.{◌⊕◌, ◌∧∧◌, par, run, rise, Ordered, Even, is, parity, left, right}
+use Rattle.points_law.proofs.ResultOfChoices.{Edges}
+use Rattle.geom.proofs.Integers.{expand, linear, mul_pos, mul_nonneg, cancel_pos, by_sign}
 use Rattle.points_law.proofs.Meet.{slope}
 use Rattle.points_law.proofs.Sums.{par_cong, par_xor, par_and, par_none, and_false}
 use Rattle.points_law.proofs.Even.{is_same, same, same_is, same_refl, not_true, once}
@@ -23,7 +22,7 @@ use Rattle.points_law.proofs.Turn.{before, ends_at, crossing, turned_p, turned_q
 
 -- ---- the order round v is transitive
 chain : (rf re rg sf se sg : ℤ) → re *ℤ (rg *ℤ sf -ℤ rf *ℤ sg) ≡ rf *ℤ (rg *ℤ se -ℤ re *ℤ sg) +ℤ rg *ℤ (re *ℤ sf -ℤ rf *ℤ se)
-chain rf re rg sf se sg = simp expand (omega (arith, lin))
+chain rf re rg sf se sg = simp expand (omega (arith, linear))
 
 some_run : (r : ℤ) → pos 0 ≤ℤ r → (r ≡ pos 0) ⊎ (pos 0 <ℤ r)
 some_run r h = by_sign r (λ s. absurd (clash r h s)) (λ s. inl s) (λ s. inr s)
@@ -59,9 +58,9 @@ sum_second a b h i = omega (arith, ints)
 
 by_runs : (f e g : Edge) → Ordered f → Ordered e → Ordered g → pos 0 <ℤ slope f e → pos 0 <ℤ slope e g → (run e ≡ pos 0) ⊎ (pos 0 <ℤ run e) → (run f ≡ pos 0) ⊎ (pos 0 <ℤ run f) → (run g ≡ pos 0) ⊎ (pos 0 <ℤ run g) → pos 0 <ℤ slope f g
 by_runs f e g of oe og h i (inl z) w x = absurd (nothing_steeper (run f) (run e) (rise f) (rise e) z (run_low f of) (upright_rise e oe z) h)
-by_runs f e g of oe og h i (inr r) (inr w) x = factor_pos (run e) (slope f g) r (subst (λ (t : ℤ). pos 0 <ℤ t) (sym (chain (run f) (run e) (run g) (rise f) (rise e) (rise g)))
+by_runs f e g of oe og h i (inr r) (inr w) x = cancel_pos (run e) (slope f g) r (subst (λ (t : ℤ). pos 0 <ℤ t) (sym (chain (run f) (run e) (run g) (rise f) (rise e) (rise g)))
     (sum_first (run f *ℤ slope e g) (run g *ℤ slope f e) (mul_pos (run f) (slope e g) w i) (mul_nonneg (run g) (slope f e) (run_low g og) (weak (pos 0) (slope f e) h))))
-by_runs f e g of oe og h i (inr r) (inl w) (inr x) = factor_pos (run e) (slope f g) r (subst (λ (t : ℤ). pos 0 <ℤ t) (sym (chain (run f) (run e) (run g) (rise f) (rise e) (rise g)))
+by_runs f e g of oe og h i (inr r) (inl w) (inr x) = cancel_pos (run e) (slope f g) r (subst (λ (t : ℤ). pos 0 <ℤ t) (sym (chain (run f) (run e) (run g) (rise f) (rise e) (rise g)))
     (sum_second (run f *ℤ slope e g) (run g *ℤ slope f e) (mul_nonneg (run f) (slope e g) (run_low f of) (weak (pos 0) (slope e g) i)) (mul_pos (run g) (slope f e) x h)))
 by_runs f e g of oe og h i (inr r) (inl w) (inl x) = absurd (nothing_steeper (run e) (run g) (rise e) (rise g) x (run_low e oe) (upright_rise g og x) i)
 

@@ -11,9 +11,9 @@ use Rattle.geom.specs.declared.point.Pt.{Pt}
 use Rattle.geom.specs.declared.edge.Edge.{Edge}
 use Rattle.geom.specs.Pixel.{Point}
 use Rattle.geom.proofs.Lists.{In}
-use Rattle.points_law.proofs.Defs.{◌⊕◌, ◌∧∧◌, par, run, rise, Ordered, Small, Even, is, parity, counted, covers, above, K}
-use Rattle.points_law.proofs.Laws.{Edges}
-use Rattle.points_law.proofs.Ring.{expand, lin}
+use Rattle.points_law.proofs.Choices.{◌⊕◌, ◌∧∧◌, par, run, rise, Ordered, Small, Even, is, parity, counted, covers, above, K}
+use Rattle.points_law.proofs.ResultOfChoices.{Edges}
+use Rattle.geom.proofs.Integers.{expand, linear}
 use Rattle.points_law.proofs.Meet.{off, slope}
 use Rattle.points_law.proofs.Sums.{par_cong, par_xor}
 use Rattle.points_law.proofs.Even.{and_left, and_right, is_refl, same, same_is, not_true, once, even_sum}
@@ -54,7 +54,7 @@ left_in : (v : Pt) → InColumn (left_of v) (v.x -ℤ pos 1)
 left_in v = record { low = left_low v.x; high = left_high v.x }
 
 lift_left : (kk r s o x y : ℤ) → (s *ℤ (kk *ℤ x -ℤ pos 1) +ℤ o *ℤ kk) -ℤ r *ℤ (kk *ℤ y) ≡ kk *ℤ ((s *ℤ x +ℤ o) -ℤ r *ℤ y) -ℤ s
-lift_left kk r s o x y = simp expand (omega (arith, lin))
+lift_left kk r s o x y = simp expand (omega (arith, linear))
 
 small_rise : (s : ℤ) → negsuc 536870911 ≤ℤ s → s ≤ℤ pos 536870912 → (negsuc 2305843009213693951 ≤ℤ s) × (s ≤ℤ pos 2305843009213693952)
 small_rise s h i = omega (arith, ints)

@@ -7,8 +7,8 @@ use lib.IntN.{ℤ}
 use Rattle.geom.specs.declared.edge.Edge.{Edge}
 use Rattle.geom.specs.Pixel.{Point}
 use Rattle.geom.proofs.Lists.{In}
-use Rattle.points_law.proofs.Defs.{◌⊕◌, ◌∧∧◌, MeetAtEnds, Noded, Even, covers, above, counted, parity, left, right, in_result}
-use Rattle.points_law.proofs.Laws.{Edges, ResultParity}
+use Rattle.points_law.proofs.Choices.{◌⊕◌, ◌∧∧◌, MeetAtEnds, Noded, Even, covers, above, counted, parity, left, right, in_result}
+use Rattle.points_law.proofs.ResultOfChoices.{Edges, ResultParity}
 use Rattle.points_law.proofs.Sums.{par_cong, over, jump, walk}
 use Rattle.points_law.proofs.Even.{and_left, and_right, same, same_is, same_refl, once}
 use Rattle.points_law.proofs.Column.{cv, ab, cv_run, one_above, not_above_itself, among, anywhere, differ}

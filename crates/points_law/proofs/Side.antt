@@ -10,9 +10,8 @@ use borrow.Author.Differences.{ints}
 use Rattle.geom.specs.declared.edge.Edge.{Edge}
 use Rattle.geom.specs.Pixel.{Point}
 use Rattle.geom.proofs.Lists.{In, Distinct}
-use Rattle.points_law.proofs.Defs.{◌⊕◌, ◌∧∧◌, run, rise, Small, MeetAtEnds, Noded, above, counted, parity, K, left, right}
-use Rattle.points_law.proofs.Ring.{expand, lin}
-use Rattle.points_law.proofs.Order.{mul_nonneg, mul_pos, by_sign}
+use Rattle.points_law.proofs.Choices.{◌⊕◌, ◌∧∧◌, run, rise, Small, MeetAtEnds, Noded, above, counted, parity, K, left, right}
+use Rattle.geom.proofs.Integers.{expand, linear, mul_nonneg, mul_pos, by_sign}
 use Rattle.points_law.proofs.Sign.{sign}
 use Rattle.points_law.proofs.Meet.{off, slope, gap, no_meet}
 use Rattle.points_law.proofs.Sums.{par_cong, par_xor}
@@ -104,10 +103,10 @@ two_times x = omega (arith, ints)
 
 mid_of : (sf rf of px py qx qy : ℤ) → ((qx -ℤ px) *ℤ sf -ℤ rf *ℤ (qy -ℤ py)) *ℤ (px +ℤ qx) +ℤ ((qx -ℤ px) *ℤ of -ℤ rf *ℤ (py *ℤ (qx -ℤ px) -ℤ px *ℤ (qy -ℤ py))) *ℤ pos 2
     ≡ (qx -ℤ px) *ℤ ((sf *ℤ (px +ℤ qx) +ℤ of *ℤ pos 2) -ℤ rf *ℤ (py +ℤ qy))
-mid_of sf rf of px py qx qy = simp (two_times, expand) (omega (arith, lin))
+mid_of sf rf of px py qx qy = simp (two_times, expand) (omega (arith, linear))
 
 mid_itself : (px py qx qy : ℤ) → ((qy -ℤ py) *ℤ (px +ℤ qx) +ℤ (py *ℤ (qx -ℤ px) -ℤ px *ℤ (qy -ℤ py)) *ℤ pos 2) -ℤ (qx -ℤ px) *ℤ (py +ℤ qy) ≡ pos 0
-mid_itself px py qx qy = simp (two_times, expand) (omega (arith, lin))
+mid_itself px py qx qy = simp (two_times, expand) (omega (arith, linear))
 
 pub pos_test : (r x : ℤ) → pos 0 <ℤ r → lt_z (pos 0) (r *ℤ x) ≡ lt_z (pos 0) x
 pos_test r x h = by_sign x
@@ -119,7 +118,7 @@ pos_test r x h = by_sign x
     turned x s = omega (arith, ints)
 
     below : (r x : ℤ) → pos 0 <ℤ (r *ℤ neg_ℤ x) → (r *ℤ x) <ℤ pos 0
-    below r x h = omega (arith, lin, simp expand at h)
+    below r x h = omega (arith, linear, simp expand at h)
 
     none : (r : ℤ) → r *ℤ pos 0 ≡ pos 0
     none r = omega (arith, ints)
@@ -173,7 +172,7 @@ above_mid e f k m i j c = sign (slope f e) (gap f e) k (e.p.x +ℤ e.q.x) (pos 2
 -- ---- the side point is so near that no edge is passed
 lift_at : (kk d se re sx sy sf rf of : ℤ) → (sf *ℤ (kk *ℤ sx -ℤ d *ℤ se) +ℤ of *ℤ (kk *ℤ pos 2)) -ℤ rf *ℤ (kk *ℤ sy +ℤ d *ℤ re)
     ≡ kk *ℤ ((sf *ℤ sx +ℤ of *ℤ pos 2) -ℤ rf *ℤ sy) -ℤ d *ℤ (sf *ℤ se +ℤ rf *ℤ re)
-lift_at kk d se re sx sy sf rf of = simp (two_times, expand) (omega (arith, lin))
+lift_at kk d se re sx sy sf rf of = simp (two_times, expand) (omega (arith, linear))
 
 abbrev pub dot : Edge → Edge → ℤ
 dot f e = rise f *ℤ rise e +ℤ run f *ℤ run e
@@ -198,10 +197,10 @@ product_bound a b h i = (low, high)
     square x = omega (arith, ints)
 
     up : (c a b : ℤ) → pos 0 ≤ℤ ((c -ℤ a) *ℤ (c +ℤ b)) → pos 0 ≤ℤ ((c +ℤ a) *ℤ (c -ℤ b)) → (a *ℤ b) ≤ℤ (c *ℤ c)
-    up c a b h i = omega (arith, lin, simp expand at h, simp expand at i)
+    up c a b h i = omega (arith, linear, simp expand at h, simp expand at i)
 
     down : (c a b : ℤ) → pos 0 ≤ℤ ((c -ℤ a) *ℤ (c -ℤ b)) → pos 0 ≤ℤ ((c +ℤ a) *ℤ (c +ℤ b)) → neg_ℤ (c *ℤ c) ≤ℤ (a *ℤ b)
-    down c a b h i = omega (arith, lin, simp expand at h, simp expand at i)
+    down c a b h i = omega (arith, linear, simp expand at h, simp expand at i)
 
     high : (a *ℤ b) ≤ℤ pos 288230376151711744
     high = up (pos 536870912) a b (mul_nonneg (pos 536870912 -ℤ a) (pos 536870912 +ℤ b) (m a h) (p b i)) (mul_nonneg (pos 536870912 +ℤ a) (pos 536870912 -ℤ b) (p a h) (m b i))

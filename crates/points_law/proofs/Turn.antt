@@ -11,10 +11,9 @@ use Rattle.geom.specs.declared.point.Pt.{Pt}
 use Rattle.geom.specs.declared.edge.Edge.{Edge}
 use Rattle.geom.proofs.Lists.{In}
 use Rattle.geom.proofs.Edges.{edge_path}
-use Rattle.points_law.proofs.Defs.{◌⊕◌, ◌∧∧◌, par, run, rise, Ordered, Noded, Even, is, parity, left, right, in_result}
-use Rattle.points_law.proofs.Laws.{Edges}
-use Rattle.points_law.proofs.Ring.{expand, lin}
-use Rattle.points_law.proofs.Order.{mul_pos, mul_nonneg, by_sign}
+use Rattle.points_law.proofs.Choices.{◌⊕◌, ◌∧∧◌, par, run, rise, Ordered, Noded, Even, is, parity, left, right, in_result}
+use Rattle.points_law.proofs.ResultOfChoices.{Edges}
+use Rattle.geom.proofs.Integers.{expand, linear, mul_pos, mul_nonneg, by_sign}
 use Rattle.points_law.proofs.Meet.{off, slope}
 use Rattle.points_law.proofs.Sums.{par_cong, par_xor, par_none, over, jump, walk}
 use Rattle.points_law.proofs.Even.{and_left, and_right, is_same, is_refl, same, same_is, same_refl, not_true, once}
@@ -171,17 +170,17 @@ steeper f g u r = ap (λ (t : ℤ). lt_z (pos 0) (run g *ℤ rise f -ℤ t *ℤ 
         more w s h = omega (arith, ints)
 
 from_start : (rf sf rg sg px py : ℤ) → twice (rg *ℤ sf -ℤ rf *ℤ sg) (rg *ℤ (py *ℤ rf -ℤ px *ℤ sf) -ℤ rf *ℤ (py *ℤ rg -ℤ px *ℤ sg)) px ≡ rg *ℤ sf -ℤ rf *ℤ sg
-from_start rf sf rg sg px py = simp expand (omega (arith, lin))
+from_start rf sf rg sg px py = simp expand (omega (arith, linear))
 
 pub ab_start : (f g : Edge) → f.p ≡ g.p → ab f g g.p.x ≡ lt_z (pos 0) (slope f g)
 ab_start f g e = ap (λ (w : Pt). lt_z (pos 0) (twice (slope f g) (run g *ℤ (w.y *ℤ run f -ℤ w.x *ℤ rise f) -ℤ run f *ℤ off g) g.p.x)) e
     ∙ ap (lt_z (pos 0)) (from_start (run f) (rise f) (run g) (rise g) g.p.x g.p.y)
 
 from_stop : (rf sf rg sg qx qy : ℤ) → twice (rg *ℤ sf -ℤ rf *ℤ sg) (rg *ℤ (qy *ℤ rf -ℤ qx *ℤ sf) -ℤ rf *ℤ (qy *ℤ rg -ℤ qx *ℤ sg)) (qx -ℤ pos 1) ≡ rf *ℤ sg -ℤ rg *ℤ sf
-from_stop rf sf rg sg qx qy = simp expand (omega (arith, lin))
+from_stop rf sf rg sg qx qy = simp expand (omega (arith, linear))
 
 off_stop : (px py qx qy : ℤ) → py *ℤ (qx -ℤ px) -ℤ px *ℤ (qy -ℤ py) ≡ qy *ℤ (qx -ℤ px) -ℤ qx *ℤ (qy -ℤ py)
-off_stop px py qx qy = simp expand (omega (arith, lin))
+off_stop px py qx qy = simp expand (omega (arith, linear))
 
 pub ab_stop : (f g : Edge) → f.q ≡ g.q → ab f g (g.q.x -ℤ pos 1) ≡ lt_z (pos 0) (slope g f)
 ab_stop f g e = ap (λ (t : ℤ). lt_z (pos 0) (twice (slope f g) (run g *ℤ t -ℤ run f *ℤ off g) (g.q.x -ℤ pos 1))) (off_stop f.p.x f.p.y f.q.x f.q.y)

@@ -11,9 +11,8 @@ use Rattle.geom.specs.declared.point.Pt.{Pt}
 use Rattle.geom.specs.declared.edge.Edge.{Edge}
 use Rattle.geom.specs.Pixel.{Point}
 use Rattle.geom.proofs.Lists.{In}
-use Rattle.points_law.proofs.Defs.{◌⊕◌, ◌∧∧◌, par, run, rise, Ordered, Small, On, IsAt, IsEnd, MeetAtEnds, Noded, Even, eq_z, is, parity, counted, above, left, right, K}
-use Rattle.points_law.proofs.Ring.{expand, lin}
-use Rattle.points_law.proofs.Order.{mul_pos, by_sign}
+use Rattle.points_law.proofs.Choices.{◌⊕◌, ◌∧∧◌, par, run, rise, Ordered, Small, On, IsAt, IsEnd, MeetAtEnds, Noded, Even, eq_z, is, parity, counted, above, left, right, K}
+use Rattle.geom.proofs.Integers.{expand, linear, mul_pos, by_sign}
 use Rattle.points_law.proofs.Meet.{off, slope, gap, at, on_itself, on_vertical}
 use Rattle.points_law.proofs.Sums.{par_cong, par_xor}
 use Rattle.points_law.proofs.Even.{and_left, and_right, eq_z_same, is_same, is_refl, same, same_is, even_sum}
@@ -78,10 +77,10 @@ unit : (x : ℤ) → pos 1 *ℤ x ≡ x
 unit x = omega (arith, ints)
 
 flat_x : (r x p : ℤ) → r *ℤ x ≡ pos 1 *ℤ (r *ℤ p +ℤ (x -ℤ p) *ℤ r)
-flat_x r x p = simp (unit, expand) (omega (arith, lin))
+flat_x r x p = simp (unit, expand) (omega (arith, linear))
 
 flat_y : (r s x y p t : ℤ) → (s *ℤ x +ℤ (t *ℤ r -ℤ p *ℤ s)) -ℤ r *ℤ y ≡ pos 0 → r *ℤ y ≡ pos 1 *ℤ (r *ℤ t +ℤ (x -ℤ p) *ℤ s)
-flat_y r s x y p t h = simp (unit, expand) (omega (arith, lin, simp expand at h))
+flat_y r s x y p t h = simp (unit, expand) (omega (arith, linear, simp expand at h))
 
 pub on_sloping : (f : Edge) (v : Pt) → pos 0 <ℤ run f → f.p.x ≤ℤ v.x → v.x ≤ℤ f.q.x → over_pt f v ≡ pos 0 → On f (whole v)
 on_sloping f v r i j h = record {
@@ -107,7 +106,7 @@ upright_x s x p m r h i = ap (λ (t : ℤ). s *ℤ t) h ∙ plain s p m ∙ ap (
     none x = omega (arith, ints)
 
     plain : (s p m : ℤ) → s *ℤ p ≡ pos 1 *ℤ (s *ℤ p +ℤ m *ℤ pos 0)
-    plain s p m = simp (none, unit) (omega (arith, lin))
+    plain s p m = simp (none, unit) (omega (arith, linear))
 
 pub on_upright : (f : Edge) (v : Pt) → f.p.x ≡ f.q.x → v.x ≡ f.p.x → f.p.y ≤ℤ v.y → v.y ≤ℤ f.q.y → f.p.y <ℤ f.q.y → On f (whole v)
 on_upright f v u x i j r = record {
@@ -160,10 +159,10 @@ over_vertex : Pt → Pt → Bool
 over_vertex v w = eq_z w.x v.x ∧∧ lt_z v.y w.y
 
 at_p : (r s px py y : ℤ) → (s *ℤ px +ℤ (py *ℤ r -ℤ px *ℤ s)) -ℤ r *ℤ y ≡ r *ℤ (py -ℤ y)
-at_p r s px py y = simp expand (omega (arith, lin))
+at_p r s px py y = simp expand (omega (arith, linear))
 
 at_q : (px py qx qy y : ℤ) → ((qy -ℤ py) *ℤ qx +ℤ (py *ℤ (qx -ℤ px) -ℤ px *ℤ (qy -ℤ py))) -ℤ (qx -ℤ px) *ℤ y ≡ (qx -ℤ px) *ℤ (qy -ℤ y)
-at_q px py qx qy y = simp expand (omega (arith, lin))
+at_q px py qx qy y = simp expand (omega (arith, linear))
 
 higher_p : (f : Edge) (v : Pt) → pos 0 <ℤ run f → f.p.x ≡ v.x → lt_z v.y f.p.y ≡ higher f v
 higher_p f v r h = scaled_test (run f) v.y f.p.y r ∙ ap (lt_z (pos 0)) (sym (at_p (run f) (rise f) f.p.x f.p.y v.y)) ∙ ap (λ (t : ℤ). lt_z (pos 0) ((rise f *ℤ t +ℤ off f) -ℤ run f *ℤ v.y)) h
@@ -238,10 +237,10 @@ east_west es n o a ev v h =
 
 -- ---- an edge that goes right from v
 at_start : (re rf se sf of px py : ℤ) → (re *ℤ sf -ℤ rf *ℤ se) *ℤ px +ℤ (re *ℤ of -ℤ rf *ℤ (py *ℤ re -ℤ px *ℤ se)) *ℤ pos 1 ≡ re *ℤ ((sf *ℤ px +ℤ of) -ℤ rf *ℤ py)
-at_start re rf se sf of px py = simp expand (omega (arith, lin))
+at_start re rf se sf of px py = simp expand (omega (arith, linear))
 
 at_stop : (rf sf of px py qx qy : ℤ) → ((qx -ℤ px) *ℤ sf -ℤ rf *ℤ (qy -ℤ py)) *ℤ qx +ℤ ((qx -ℤ px) *ℤ of -ℤ rf *ℤ (py *ℤ (qx -ℤ px) -ℤ px *ℤ (qy -ℤ py))) *ℤ pos 1 ≡ (qx -ℤ px) *ℤ ((sf *ℤ qx +ℤ of) -ℤ rf *ℤ qy)
-at_stop rf sf of px py qx qy = simp expand (omega (arith, lin))
+at_stop rf sf of px py qx qy = simp expand (omega (arith, linear))
 
 by_factor : (r x y : ℤ) → pos 0 <ℤ r → y ≡ r *ℤ x → lt_z (pos 0) y ≡ lt_z (pos 0) x
 by_factor r x y h e = ap (lt_z (pos 0)) e ∙ pos_test r x h
@@ -256,7 +255,7 @@ not_zero_factor r x y h e n z = by_sign x
     turned x s = omega (arith, ints)
 
     opposite : (r x : ℤ) → r *ℤ neg_ℤ x ≡ neg_ℤ (r *ℤ x)
-    opposite r x = simp expand (omega (arith, lin))
+    opposite r x = simp expand (omega (arith, linear))
 
     less : (a b : ℤ) → a ≡ neg_ℤ b → pos 0 <ℤ a → b ≡ pos 0 → ⊥
     less a b h i j = omega (arith, ints)
@@ -268,13 +267,13 @@ no_height : (f : Edge) (v : Pt) → v ≡ f.p → higher f v ≡ false
 no_height f v h = ap (λ (w : Pt). higher f w) h ∙ ap (lt_z (pos 0)) (at_p (run f) (rise f) f.p.x f.p.y f.p.y ∙ none (run f) f.p.y)
   where
     none : (r y : ℤ) → r *ℤ (y -ℤ y) ≡ pos 0
-    none r y = simp expand (omega (arith, lin))
+    none r y = simp expand (omega (arith, linear))
 
 no_height_q : (f : Edge) (v : Pt) → v ≡ f.q → higher f v ≡ false
 no_height_q f v h = ap (λ (w : Pt). higher f w) h ∙ ap (lt_z (pos 0)) (at_q f.p.x f.p.y f.q.x f.q.y f.q.y ∙ none (run f) f.q.y)
   where
     none : (r y : ℤ) → r *ℤ (y -ℤ y) ≡ pos 0
-    none r y = simp expand (omega (arith, lin))
+    none r y = simp expand (omega (arith, linear))
 
 pub cover_p : (p q : ℤ) → lt_z p q ≡ true → le_z p p ∧∧ lt_z p q ≡ true
 cover_p p q h = grind (arith, ints)
@@ -412,7 +411,7 @@ rise_some e u = rises e.p.y e.q.y u.tall
 
 -- f's height at e's two ends
 drop_by : (s o r x py qy : ℤ) → (s *ℤ x +ℤ o) -ℤ r *ℤ qy ≡ ((s *ℤ x +ℤ o) -ℤ r *ℤ py) -ℤ r *ℤ (qy -ℤ py)
-drop_by s o r x py qy = simp expand (omega (arith, lin))
+drop_by s o r x py qy = simp expand (omega (arith, linear))
 
 lower_end : (e f : Edge) → Upright e → pos 0 <ℤ run f → over_pt f e.q <ℤ over_pt f e.p
 lower_end e f u r = less (over_pt f e.p) (over_pt f e.q) (run f *ℤ rise e) it (mul_pos (run f) (rise e) r (rise_some e u))
@@ -424,10 +423,10 @@ lower_end e f u r = less (over_pt f e.p) (over_pt f e.q) (run f *ℤ rise e) it 
     it = ap (λ (t : ℤ). (rise f *ℤ t +ℤ off f) -ℤ run f *ℤ e.q.y) (sym u.flat) ∙ drop_by (rise f) (off f) (run f) e.p.x e.p.y e.q.y
 
 mid_sum : (s o r px py qx qy : ℤ) → (s *ℤ (px +ℤ qx) +ℤ o *ℤ pos 2) -ℤ r *ℤ (py +ℤ qy) ≡ ((s *ℤ px +ℤ o) -ℤ r *ℤ py) +ℤ ((s *ℤ qx +ℤ o) -ℤ r *ℤ qy)
-mid_sum s o r px py qx qy = simp (two_times, expand) (omega (arith, lin))
+mid_sum s o r px py qx qy = simp (two_times, expand) (omega (arith, linear))
 
 end_height : (o c s r y : ℤ) → pos 1 *ℤ o +ℤ c *ℤ s ≡ (pos 1 *ℤ r) *ℤ y → (s *ℤ c +ℤ o) -ℤ r *ℤ y ≡ pos 0
-end_height o c s r y h = simp expand (omega (arith, lin, simp unit at h))
+end_height o c s r y h = simp expand (omega (arith, linear, simp unit at h))
 
 no_ends : (e f : Edge) → Upright e → (r : pos 0 <ℤ run f) → over_pt f e.q <ℤ pos 0 → pos 0 <ℤ over_pt f e.p → IsEnd e (at f r e.p.x (pos 1) one) → ⊥
 no_ends e f u r h i (inl k) = never (over_pt f e.p) (end_height (off f) e.p.x (rise f) (run f) e.p.y k.1) i
@@ -452,10 +451,10 @@ not_between e f m u r i j h k = no_ends e f u r h k
     last a b h = omega (arith, ints)
 
     above_p : (s o r x y : ℤ) → pos 0 <ℤ ((s *ℤ x +ℤ o) -ℤ r *ℤ y) → (r *ℤ y) ≤ℤ (o +ℤ x *ℤ s)
-    above_p s o r x y h = simp expand (omega (arith, lin))
+    above_p s o r x y h = simp expand (omega (arith, linear))
 
     below_q : (s o r x y : ℤ) → ((s *ℤ x +ℤ o) -ℤ r *ℤ y) <ℤ pos 0 → (o +ℤ x *ℤ s) ≤ℤ (r *ℤ y)
-    below_q s o r x y h = simp expand (omega (arith, lin))
+    below_q s o r x y h = simp expand (omega (arith, linear))
 
 sum_sign : (p q g : ℤ) → g ≡ p +ℤ q → q <ℤ p → (q <ℤ pos 0 → pos 0 <ℤ p → ⊥) → lt_z (pos 0) g ≡ lt_z (pos 0) p
 sum_sign p q g e h n = grind (arith, ints)
@@ -537,13 +536,13 @@ level_q : (f : Edge) (v : Pt) → v ≡ f.p → over_pt f v ≡ pos 0
 level_q f v h = ap (λ (w : Pt). over_pt f w) h ∙ at_p (run f) (rise f) f.p.x f.p.y f.p.y ∙ none (run f) f.p.y
   where
     none : (r y : ℤ) → r *ℤ (y -ℤ y) ≡ pos 0
-    none r y = simp expand (omega (arith, lin))
+    none r y = simp expand (omega (arith, linear))
 
 level_s : (f : Edge) (v : Pt) → v ≡ f.q → over_pt f v ≡ pos 0
 level_s f v h = ap (λ (w : Pt). over_pt f w) h ∙ at_q f.p.x f.p.y f.q.x f.q.y f.q.y ∙ none (run f) f.q.y
   where
     none : (r y : ℤ) → r *ℤ (y -ℤ y) ≡ pos 0
-    none r y = simp expand (omega (arith, lin))
+    none r y = simp expand (omega (arith, linear))
 
 pub slope_run : (f : Edge) → slopes f ≡ true → pos 0 <ℤ run f
 slope_run f h = rises f.p.x f.q.x (lt_from f.p.x f.q.x h)

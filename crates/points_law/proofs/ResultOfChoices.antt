@@ -5,7 +5,7 @@ use mathlib.Core.Path.{◌≡◌}
 use Rattle.geom.specs.declared.edge.Edge.{Edge}
 use Rattle.geom.specs.Pixel.{Point}
 use Rattle.geom.proofs.Lists.{In, Distinct}
-use Rattle.points_law.proofs.Defs.{Ordered, Small, Noded, Even, parity, in_result}
+use Rattle.points_law.proofs.Choices.{Ordered, Small, Noded, Even, parity, in_result}
 
 pub record Edges (es : List Edge) : Type 0 where
   pub distinct : Distinct es
