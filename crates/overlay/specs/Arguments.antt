@@ -1,0 +1,67 @@
+-- The parser's arguments, as far as they show that what is required is there.
+use Rattle.std.specs.Prelude.{◌≡◌, ◌≤◌, true, false, is_some, List, [], ◌∷◌, Some, None, codes, pos}
+use Rattle.clap.specs.Words.{AddsArg, AddsInTurn, IsPlainArg, IsSignedIn, Text, args_of, groups_of, first_value, one_text, without_minus}
+use Rattle.clap.specs.Built.{TakesValue}
+use Rattle.clap.specs.Facts.{WantsDefault, least_values}
+use Rattle.clap.specs.declared.builder.ArgAction.TheVariants.{Set}
+use Rattle.clap.specs.declared.builder.value_parser.ValueParser.TheVariants.{Signed}
+use Rattle.clap.specs.declared.builder.arg.Arg.{Arg}
+use Rattle.clap.specs.declared.builder.command.Command.{Command}
+use Rattle.clap.specs.declared.builder.command.Command.TheViews.{out-Command}
+use Rattle.clap.specs.declared.parser.matches.Found.{Found}
+
+-- an argument of the command, one that excludes nothing
+pub record IsOwnArg (id : Text) (a : Arg) : Type 0 where
+  pub id_is : a.id.now ≡ id
+  pub plain : IsPlainArg a
+  pub local : a.global ≡ false
+
+-- one that is required and takes a value
+pub record IsWanted (id : Text) (a : Arg) : Type 0 where
+  pub own : IsOwnArg id a
+  pub takes_value : TakesValue a
+
+-- one that takes a number, and has a default
+pub record IsNumberArg (id : Text) (a : Arg) : Type 0 where
+  pub own : IsOwnArg id a
+  pub set : a.action ≡ Some Set
+  pub no_delimiter : a.val_delim ≡ None
+  pub one_value : 1 ≤ least_values a
+  pub has_default : WantsDefault a
+  pub parser : a.value_parser ≡ Some (Signed (pos 0) (pos 4294967295))
+
+abbrev pub IsFlagArg : Text → Arg → Type 0
+IsFlagArg id a = IsOwnArg id a
+
+-- the command, as its arguments were added
+pub record IsOverlayCommand (c : Command) : Type 0 where
+  pub start : Command
+  pub word : Arg
+  pub a : Arg
+  pub b : Arg
+  pub tile : Arg
+  pub workers : Arg
+  pub report : Arg
+  pub chain : AddsInTurn AddsArg start (word ∷ a ∷ b ∷ tile ∷ workers ∷ report ∷ []) c
+  pub no_args : args_of start ≡ []
+  pub no_groups : groups_of start ≡ []
+  pub no_globals : (out-Command start).has_globals ≡ false
+  pub no_negation : (out-Command start).subcommand_negates_reqs ≡ false
+  pub is_word : IsWanted (codes "command") word
+  pub is_a : IsWanted (codes "a") a
+  pub is_b : IsWanted (codes "b") b
+  pub is_tile : IsNumberArg (codes "tile") tile
+  pub is_workers : IsNumberArg (codes "workers") workers
+  pub is_report : IsFlagArg (codes "report") report
+
+-- the text of the id, of which a first hyphen is left out, is a number below 2^32
+abbrev pub HasNumber : Found → Text → Type 0
+HasNumber f id = (t : Text) × (one_text f id ≡ Some (without_minus t)) × IsSignedIn (pos 0) (pos 4294967295) t
+
+-- the required words and the numbers are there
+pub record HasWords (f : Found) : Type 0 where
+  pub word : is_some (first_value f (codes "command")) ≡ true
+  pub a : is_some (first_value f (codes "a")) ≡ true
+  pub b : is_some (first_value f (codes "b")) ≡ true
+  pub tile : HasNumber f (codes "tile")
+  pub workers : HasNumber f (codes "workers")

@@ -1,0 +1,4 @@
+pub mod Sinks
+pub mod Texts
+pub mod CommandLine
+pub mod Arguments

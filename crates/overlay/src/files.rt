@@ -1,0 +1,59 @@
+//! Where layer texts are read.
+
+ghost use Rattle.std.specs.Prelude.{◌≤◌, IfOk, length};
+
+use std::alloc::Allocator;
+use std::io::{ErrorKind, Read};
+use std::{fs, io, rt};
+
+/// The greatest number of bytes of a layer text.
+pub const LENGTH_LIMIT: usize = 268_435_456;
+
+/// What is read at most: one byte past the limit.
+pub const READ_LIMIT: usize = 268_435_457;
+
+/// Why a file is not read.
+#[derive(Clone, Copy, Debug, PartialEq, Eq)]
+pub enum LoadFault {
+    Unreadable,
+    Memory,
+}
+
+pub trait Files {
+    /// A file's bytes, to its end or to one byte past the limit.
+    fn load<A: Allocator>(&mut self, alloc: A, name: &str) -> Result<Vec<u8, A>, LoadFault>
+        ensures { IfOk result (λ bytes. length bytes.items ≤ READ_LIMIT) };
+}
+
+/// The machine's files.
+#[derive(Drop)]
+pub struct Disk<'a, R> {
+    rt: &'a R,
+}
+
+impl<'a, R: rt::Files + AllocGlobal> Disk<'a, R> {
+    pub fn new(rt: &'a R) -> Disk<'a, R> {
+        Disk { rt }
+    }
+
+    fn read<A: Allocator>(&self, alloc: A, name: &str) -> io::Result<Vec<u8, A>> {
+        let mut bytes = Vec::new(alloc);
+        fs::open(self.rt, name)?
+            .take(READ_LIMIT as u64)
+            .read_to_end(&mut bytes)?;
+        Ok(bytes)
+    }
+}
+
+impl<R: rt::Files + AllocGlobal> Files for Disk<'_, R> {
+    fn load<A: Allocator>(&mut self, alloc: A, name: &str) -> Result<Vec<u8, A>, LoadFault> {
+        match self.read(alloc, name) {
+            Ok(mut bytes) => {
+                bytes.truncate(READ_LIMIT);
+                Ok(bytes)
+            }
+            Err(error) if error.kind() == ErrorKind::OutOfMemory => Err(LoadFault::Memory),
+            Err(_) => Err(LoadFault::Unreadable),
+        }
+    }
+}
