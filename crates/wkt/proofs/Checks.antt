@@ -1,0 +1,197 @@
+-- What the check knows at each byte, and what it answers.
+use Rattle.std.proofs.Common.{◌≡◌, ℕ, suc, ◌+◌, ◌-◌, ◌<◌, ◌≤◌, Bool, true, false, min, List, [], ◌∷◌, ◌++◌, length, get_or, take, drop, ◌⊎◌, inl, inr, Option, Some, None, Result, refl, sym, ap, subst, ◌∙◌, arith, length-drop}
+use Rattle.std.specs.Prelude.{MatchOption, MatchResult, map, nat_lt, if◌then◌else◌, option_and_then, option_map}
+use Rattle.std.proofs.Math.Seq.{drop-cons}
+use Rattle.std.proofs.Math.Numerals.{add-one}
+use Rattle.std.proofs.lemmas.List.{append-nil, map_push, length-append, drop_all}
+use Rattle.wkt.specs.declared.places.Place.{Place}
+use Rattle.wkt.specs.declared.places.Place.TheVariants.{Between, Ended}
+use Rattle.geom.specs.declared.point.Pt.{Pt}
+use Rattle.wkt.specs.declared.outline.Outline.{Outline}
+use Rattle.geom.specs.declared.fault.Fault.{Fault}
+use Rattle.geom.specs.declared.fault.Fault.TheVariants.{LayerLong, Syntax, NumberRange, RingShort, RingOpen, TooManySegments, BadTile, BadWorkers, TooManyTiles, NotNoded, Memory, Write}
+use Rattle.wkt.specs.declared.reader.Reader.{Reader}
+use Rattle.wkt.specs.declared.reader.Event.{Event}
+use Rattle.wkt.specs.declared.reader.Event.TheVariants.{Nothing, Open as Opens, Point as EventPoint, Last, Close as Closes}
+use Rattle.wkt.specs.LayerText.{Point, Ring, IsLayer, IsBroken}
+use Rattle.wkt.specs.Machine.{class_of, turn, Notes, noted, step, run, start, may_end, walk, is_multi_after}
+use Rattle.wkt.specs.Reading.{u32_max, Idle, ReaderIs, Says, Went}
+use Rattle.geom.specs.Segments.{layer_steps}
+use Rattle.wkt.specs.Refusals.{length_limit, all_numbers, first_outside, place_of, is_closed, fault_at, or_else, first_fault, plain, IsRead, IsAccepted, HasFault, IsRefused}
+use Rattle.wkt.specs.Outlines.{IsOutline}
+use Rattle.wkt.specs.Surveying.{Sketch, sketch, Shown, fresh, took, judged}
+use Rattle.wkt.proofs.Sound.{accepted, some_is}
+use Rattle.wkt.proofs.Fronts.{begin, goes_on, stops, is_broken, noted_multi}
+use Rattle.wkt.proofs.Boxes.{box_is}
+use Rattle.wkt.proofs.Closing.{layer_steps-are}
+use Rattle.wkt.proofs.Surveys.{segments, all_segments, box, read_segments, read_numbers, closed_segments, outline_of, Clean, Surveyed, SurveyedAt, noted_survey, segments-push-le}
+
+pub record Checked (text : List ℕ) (at : ℕ) (r : Reader) (s : Shown) : Type 0 where
+  pub notes : Notes
+  pub on : run (length text) start text ≡ run (length text) (record { place = r.place; notes = notes }) (drop at text)
+  pub walked : walk begin (take at text) ≡ Some (r.place, r.multi)
+  pub is : ReaderIs r notes
+  pub survey : SurveyedAt s notes
+  pub few : length (read_segments notes.rings notes.points) ≤ at
+
+-- ---- at the start
+
+pub checked_first : (text : List ℕ) (r : Reader) (s : Shown) → r.place ≡ start.place → ReaderIs r start.notes → s ≡ fresh → Checked text 0 r s
+checked_first text r s p h e = record {
+  notes = start.notes;
+  on = ap (λ (q : Place). run (length text) (record { place = q; notes = start.notes }) text) (sym p);
+  walked = ap (λ (q : Place). Some (q, false)) (sym p) ∙ ap (λ (b : Bool). Some (r.place, b)) (sym h.0);
+  is = h;
+  survey = subst (λ (x : Shown). SurveyedAt x start.notes) (sym e) (record { inside = refl; fault = refl; outline = refl; at_is = refl; count = refl; ends = tt });
+  few = omega arith;
+}
+
+-- ---- a byte more
+
+few_more : (rings : List Ring) (ps : List Point) (p : Point) → length (read_segments rings (ps ++ p ∷ [])) ≤ length (read_segments rings ps) + 1
+few_more rings ps p =
+    let e : map place_of (ps ++ p ∷ []) ≡ map place_of ps ++ place_of p ∷ [] = map_push place_of ps p in
+    let l = segments-push-le (map place_of ps) (place_of p) in
+    rw e (omega (arith, length-append (all_segments rings) (segments (map place_of ps ++ place_of p ∷ [])), length-append (all_segments rings) (segments (map place_of ps)), l))
+
+few_noted : (e : Event) (at : ℕ) (m m' : Notes) → Says e at m m' → length (read_segments m'.rings m'.points) ≤ length (read_segments m.rings m.points) + 1
+few_noted Nothing at m m' h = rw (h.0, h.2) (omega arith)
+few_noted Opens at m m' h = rw (h.0, h.2, h.3) (omega arith)
+few_noted (EventPoint x y) at m m' h = rw (h.2, h.4) (few_more m.rings m.points h.0)
+few_noted (Last x y) at m m' h = rw (h.3, h.4, closed_segments m.rings m.ring_at (m.points ++ h.0 ∷ [])) (few_more m.rings m.points h.0)
+few_noted Closes at m m' h = rw (h.1, h.2, closed_segments m.rings m.ring_at m.points) (omega arith)
+
+pub run_on : (text : List ℕ) (at : ℕ) (p q : Place) (m : Notes) → at < length text → turn p (class_of (get_or text at 0)) m.multi ≡ Some q
+    → run (length text) (record { place = p; notes = m }) (drop at text) ≡ run (length text) (record { place = q; notes = noted at p (class_of (get_or text at 0)) m }) (drop (at + 1) text)
+run_on text at p q m lt e =
+    let b = get_or text at 0 in
+    let t = drop (suc at) text in
+    let here : length text - length (b ∷ t) ≡ at = omega (arith, length-drop (suc at) text) in
+    ap (run (length text) (record { place = p; notes = m })) (drop-cons text at 0 lt)
+    ∙ ap (λ (k : ℕ). option_and_then (λ s'. run (length text) s' t) (step k (record { place = p; notes = m }) (class_of b))) here
+    ∙ ap (λ (o : Option Place). option_and_then (λ s'. run (length text) s' t) (option_map (λ x. record { place = x; notes = noted at p (class_of b) m }) o)) e
+    ∙ ap (λ (k : ℕ). run (length text) (record { place = q; notes = noted at p (class_of b) m }) (drop k text)) (sym (add-one at))
+
+pub run_off : (text : List ℕ) (at : ℕ) (p : Place) (m : Notes) → at < length text → turn p (class_of (get_or text at 0)) m.multi ≡ None
+    → run (length text) (record { place = p; notes = m }) (drop at text) ≡ None
+run_off text at p m lt e =
+    let b = get_or text at 0 in
+    let t = drop (suc at) text in
+    ap (run (length text) (record { place = p; notes = m })) (drop-cons text at 0 lt)
+    ∙ ap (λ (o : Option Place). option_and_then (λ s'. run (length text) s' t) (option_map (λ x. record { place = x; notes = noted (length text - length (b ∷ t)) p (class_of b) m }) o)) e
+
+pub checked_more : (text : List ℕ) (at : ℕ) (r : Reader) (s : Shown) (e : Event) (r' : Reader) → at < length text → (c : Checked text at r s) → Went at (get_or text at 0) r c.notes e r' → Checked text (at + 1) r' (took s at e)
+checked_more text at r s e r' lt c w =
+    let k = class_of (get_or text at 0) in
+    let t : Some r'.place ≡ turn r.place k r.multi = sym w.place ∙ ap (turn r.place k) (sym c.is.0) in
+    let b : r'.multi ≡ is_multi_after r.place k r.multi = w.notes.0 ∙ noted_multi at r.place k c.notes ∙ ap (is_multi_after r.place k) (sym c.is.0) in
+    let f = few_noted e at c.notes (noted at r.place k c.notes) w.says in
+    record {
+      notes = noted at r.place k c.notes;
+      on = c.on ∙ run_on text at r.place r'.place c.notes lt w.place;
+      walked = goes_on text at r.place r'.place k r.multi r'.multi lt c.walked refl t b;
+      is = w.notes;
+      survey = noted_survey s at e c.notes (noted at r.place k c.notes) w.says c.survey;
+      few = omega (arith, c.few, f);
+    }
+
+-- ---- the answers
+
+pub checked_stop : (text : List ℕ) (at : ℕ) (r : Reader) (s : Shown) → at < length text → (c : Checked text at r s) → turn r.place (class_of (get_or text at 0)) c.notes.multi ≡ None → IsBroken text at
+checked_stop text at r s lt c e = stops text at r.place (class_of (get_or text at 0)) r.multi lt c.walked refl (sym e ∙ ap (turn r.place (class_of (get_or text at 0))) (sym c.is.0))
+
+pub checked_broken : (text : List ℕ) (at : ℕ) (r : Reader) (s : Shown) → length text ≤ at → Checked text at r s → may_end r.place ≡ false → IsBroken text (length text)
+checked_broken text at r s le c e = is_broken text r.place r.multi at le c.walked e
+
+pub idle_end : (p : Place) (m : Notes) → may_end p ≡ true → Idle p m → m.points ≡ []
+idle_end Between m e i = i
+idle_end Ended m e i = i
+idle_end p m e i = absurd cc
+
+-- ---- the answer
+
+-- what is answered of the text
+abbrev pub Answers : List ℕ → Result Outline Fault → Type 0
+Answers text x = MatchResult x (λ outline. (rings : List Ring) × IsAccepted text rings × IsOutline (plain rings) outline) (λ fault. IsRefused text fault)
+
+-- a ring's fault is one of the two
+abbrev OfRing : Fault → Type 0
+OfRing f = (at : ℕ) × ((f ≡ RingShort at) ⊎ (f ≡ RingOpen at))
+
+of_tests : (b c : Bool) (at : ℕ) (f : Fault) → (if b then Some (RingShort at) else (if c then None else Some (RingOpen at))) ≡ Some f → OfRing f
+of_tests true c at f e = (at, inl (sym (some_is (RingShort at) f e)))
+of_tests false true at f e = absurd cc
+of_tests false false at f e = (at, inr (sym (some_is (RingOpen at) f e)))
+
+of_first : (o r : Option Fault) (f : Fault) → (o ≡ Some f → OfRing f) → (r ≡ Some f → OfRing f) → or_else o r ≡ Some f → OfRing f
+of_first None r f g h e = h e
+of_first (Some k) r f g h e = g e
+
+of_ring : (rings : List Ring) (f : Fault) → first_fault rings ≡ Some f → OfRing f
+of_ring [] f e = absurd cc
+of_ring (r ∷ rings) f e =
+    let pts : List Pt = map place_of r.points in
+    of_first (fault_at r.at pts) (first_fault rings) f (of_tests (nat_lt (length pts) 4) (is_closed pts) r.at f) (of_ring rings f) e
+
+refused : (text : List ℕ) (f : Fault) → OfRing f → HasFault text f → IsRefused text f
+refused text (RingShort o) k h = h
+refused text (RingOpen o) k h = h
+refused text LayerLong (at, inl e) h = absurd cc
+refused text LayerLong (at, inr e) h = absurd cc
+refused text (Syntax o) (at, inl e) h = absurd cc
+refused text (Syntax o) (at, inr e) h = absurd cc
+refused text (NumberRange o) (at, inl e) h = absurd cc
+refused text (NumberRange o) (at, inr e) h = absurd cc
+refused text (TooManySegments n) (at, inl e) h = absurd cc
+refused text (TooManySegments n) (at, inr e) h = absurd cc
+refused text BadTile (at, inl e) h = absurd cc
+refused text BadTile (at, inr e) h = absurd cc
+refused text BadWorkers (at, inl e) h = absurd cc
+refused text BadWorkers (at, inr e) h = absurd cc
+refused text (TooManyTiles n) (at, inl e) h = absurd cc
+refused text (TooManyTiles n) (at, inr e) h = absurd cc
+refused text (NotNoded g k) (at, inl e) h = absurd cc
+refused text (NotNoded g k) (at, inr e) h = absurd cc
+refused text Memory (at, inl e) h = absurd cc
+refused text Memory (at, inr e) h = absurd cc
+refused text Write (at, inl e) h = absurd cc
+refused text Write (at, inr e) h = absurd cc
+
+outlined : (rings : List Ring) (o : Outline) → first_fault rings ≡ None → length (all_segments rings) ≤ u32_max → sketch o ≡ outline_of (all_segments rings) → IsOutline (plain rings) o
+outlined rings o sound few e =
+    let steps : layer_steps (plain rings) ≡ all_segments rings = layer_steps-are rings sound in
+    let lengths : min (length (all_segments rings)) u32_max ≡ length (all_segments rings) = omega arith in
+    record {
+      count = ap (λ (x : Sketch). x.segments) e ∙ lengths ∙ ap (λ (x : List (Pt × Pt)). length x) (sym steps);
+      box = box_is (layer_steps (plain rings)) o.bounds (ap (λ (x : Sketch). x.bounds) e ∙ ap box (sym steps));
+    }
+
+answered_clean : (text : List ℕ) (s : Shown) (outline : Outline) (rings : List Ring) (at : ℕ) (f : Option Fault) → s.fault ≡ f → sketch outline ≡ s.outline → IsRead text rings → length (all_segments rings) ≤ u32_max → Clean s rings at [] → Answers text (judged None f outline)
+answered_clean text s outline rings at None e sk h few c =
+    let inside : first_outside (all_numbers rings) ≡ None = ap first_outside (sym (append-nil (all_numbers rings))) ∙ c.inside in
+    let sound : first_fault rings ≡ None = sym c.fault ∙ e in
+    (rings, record { read = h; inside = inside; sound = sound }, outlined rings outline sound few (sk ∙ c.outline ∙ ap outline_of (append-nil (all_segments rings))))
+answered_clean text s outline rings at (Some f) e sk h few c =
+    let inside : first_outside (all_numbers rings) ≡ None = ap first_outside (sym (append-nil (all_numbers rings))) ∙ c.inside in
+    let fault : first_fault rings ≡ Some f = sym c.fault ∙ e in
+    refused text f (of_ring rings f fault) (rings, h, inside, fault)
+
+answered : (text : List ℕ) (s : Shown) (outline : Outline) (rings : List Ring) (at : ℕ) (o : Option ℕ) → s.outside ≡ o → sketch outline ≡ s.outline → IsRead text rings → length (all_segments rings) ≤ u32_max → Surveyed s rings at []
+    → Answers text (judged o s.fault outline)
+answered text s outline rings at None out sk h few c =
+    answered_clean text s outline rings at s.fault refl sk h few
+    (subst (λ (o : Option ℕ). MatchOption o (Clean s rings at []) (λ o. first_outside (read_numbers rings []) ≡ Some o)) out c)
+answered text s outline rings at (Some k) out sk h few c =
+    let found : first_outside (read_numbers rings []) ≡ Some k = subst (λ (o : Option ℕ). MatchOption o (Clean s rings at []) (λ o. first_outside (read_numbers rings []) ≡ Some o)) out c in
+    (rings, h, ap first_outside (sym (append-nil (all_numbers rings))) ∙ found)
+
+pub checked_whole : (text : List ℕ) (at : ℕ) (r : Reader) (s : Shown) (outline : Outline) → length text ≤ at → at ≤ length text → length text ≤ length_limit → Checked text at r s → may_end r.place ≡ true
+    → sketch outline ≡ s.outline → Answers text (judged s.outside s.fault outline)
+checked_whole text at r s outline le ge small c e sk =
+    let m = c.notes in
+    let ended : run (length text) start text ≡ Some (record { place = r.place; notes = m }) = c.on ∙ ap (run (length text) (record { place = r.place; notes = m })) (drop_all at text le) in
+    let none : m.points ≡ [] = idle_end r.place m e c.is.3 in
+    let few : length (read_segments m.rings []) ≤ at = subst (λ (ps : List Point). length (read_segments m.rings ps) ≤ at) none c.few in
+    let few' : length (all_segments m.rings) ≤ at = subst (λ (x : List (Pt × Pt)). length x ≤ at) (append-nil (all_segments m.rings)) few in
+    answered text s outline m.rings m.ring_at s.outside refl sk (record { short = small; layer = accepted text (record { place = r.place; notes = m }) ended e }) (omega (arith, few'))
+    (subst (λ (ps : List Point). Surveyed s m.rings m.ring_at ps) none c.survey)

@@ -1,0 +1,13 @@
+pub mod Bytes
+pub mod Rests
+pub mod Back
+pub mod Sound
+pub mod Complete
+pub mod Fronts
+pub mod Grows
+pub mod Steps
+pub mod Surveys
+pub mod Boxes
+pub mod Closing
+pub mod Checks
+pub mod Collections

@@ -1,0 +1,27 @@
+use Rattle.std.proofs.Common.{◌∙◌, refl, arith, length, sym, subst, ◌+◌, ◌≡◌, ap}
+use Rattle.std.specs.Prelude.{◌≤◌}
+use Rattle.wkt.specs.Refusals.{length_limit}
+use Rattle.wkt.specs.Surveying.{Shown, shown}
+use Rattle.wkt.proofs.Checks.{Answers, Checked, checked_more, checked_stop, checked_broken, checked_whole}
+use Rattle.wkt.proofs.check.check_layer.Goals as goal
+
+pub returns-in_default : goal.returns-in_default
+returns-in_default c =
+    let small : length c.args.text.now ≤ length_limit = omega (arith, c.if-text-gt-LENGTH_LIMIT.false) in
+    (small, checked_stop c.args.text.now c.loop-at.at c.loop-at.reader (shown c.loop-at.survey) c.loop-at-test.true c.loop-at.invariant (c.in_default.ensures c.loop-at.invariant.notes c.loop-at.invariant.is))
+
+pub loop-at-preserved : goal.loop-at-preserved
+loop-at-preserved c =
+    subst (λ (s : Shown). Checked c.args.text.now (c.loop-at.at + 1) c.step.new.self s) (sym c.note.ensures)
+    (checked_more c.args.text.now c.loop-at.at c.loop-at.reader (shown c.loop-at.survey) c.in-Some.event c.step.new.self c.loop-at-test.true c.loop-at.invariant (c.in-Some.ensures c.loop-at.invariant.notes c.loop-at.invariant.is))
+
+pub returns-then-not-may_end : goal.returns-then-not-may_end
+returns-then-not-may_end c =
+    let small : length c.args.text.now ≤ length_limit = omega (arith, c.if-text-gt-LENGTH_LIMIT.false) in
+    (small, checked_broken c.args.text.now c.loop-at.at c.loop-at.reader (shown c.loop-at.survey) c.loop-at-test.false c.loop-at.invariant (sym c.may_end.ensures ∙ c.if-not-may_end.true))
+
+pub returns : goal.returns
+returns c =
+    let small : length c.args.text.now ≤ length_limit = omega (arith, c.if-text-gt-LENGTH_LIMIT.false) in
+    subst (Answers c.args.text.now) (sym c.verdict.ensures)
+    (checked_whole c.args.text.now c.loop-at.at c.loop-at.reader (shown c.loop-at.survey) c.loop-at.survey.outline c.loop-at-test.false c.loop-at.auto.at-end small c.loop-at.invariant (sym c.may_end.ensures ∙ c.if-not-may_end.false) refl)

@@ -1,0 +1,34 @@
+-- What the code's collector gathers.
+use Rattle.std.specs.Prelude.{ℕ, ◌-◌, ◌≤◌, List, [], ◌∷◌, ◌++◌, length, take, pos, unwrap_or}
+use Rattle.geom.specs.declared.point.Pt.{Pt}
+use Rattle.wkt.specs.declared.read.Collector.{Collector}
+use Rattle.wkt.specs.declared.reader.Number.{Number as Numeral}
+use Rattle.wkt.specs.declared.reader.Event.{Event}
+use Rattle.wkt.specs.declared.reader.Event.TheVariants.{Nothing, Open, Point, Last, Close}
+use Rattle.wkt.specs.Reading.{value_of}
+
+abbrev pub point_value : Numeral → Numeral → Pt
+point_value x y = record { x = unwrap_or (value_of x) (pos 0); y = unwrap_or (value_of y) (pos 0) }
+
+-- whole rings, each without its last point, and the points of one
+abbrev pub Gathered : Type 0
+Gathered = List (List Pt) × List Pt
+
+abbrev pub but_last : List Pt → List Pt
+but_last ps = take (length ps - 1) ps
+
+abbrev pub gathered : Event → Gathered → Gathered
+gathered Nothing g = g
+gathered Open g = g
+gathered (Point x y) g = (g.0, g.1 ++ point_value x y ∷ [])
+gathered (Last x y) g = (g.0 ++ but_last (g.1 ++ point_value x y ∷ []) ∷ [], [])
+gathered Close g = (g.0 ++ but_last g.1 ∷ [], [])
+
+-- a ring that closes has four points or more
+abbrev pub Enough : Event → Gathered → Type 0
+Enough (Last x y) g = 3 ≤ length g.1
+Enough Close g = 4 ≤ length g.1
+Enough e g = Unit {0}
+
+abbrev pub view : {A : Type 0} → Collector A → Gathered
+view c = (c.rings.items, c.points.items)

@@ -1,0 +1,36 @@
+//! A layer text, checked without memory.
+
+ghost use Rattle.std.specs.Prelude.{List, MatchResult};
+ghost use Rattle.wkt.specs.LayerText.{Ring};
+ghost use Rattle.wkt.specs.Refusals.{IsAccepted, IsRefused, plain};
+ghost use Rattle.wkt.specs.Outlines.{IsOutline};
+
+use crate::outline::Outline;
+use crate::reader::Reader;
+use crate::survey::Survey;
+use geom::Fault;
+
+/// The greatest length of a layer text, in bytes.
+pub const LENGTH_LIMIT: usize = 268_435_456;
+
+/// The outline of a layer text, or why it is refused: too long, no layer text, a number out of range, or a ring with
+/// too few points or left open, in this order. Takes no memory.
+pub fn check_layer(text: &[u8]) -> Result<Outline, Fault>
+    ensures { MatchResult result (λ outline. (rings : List Ring) × IsAccepted text.now rings × IsOutline (plain rings) outline) (λ fault. IsRefused text.now fault) }
+{
+    if text.len() > LENGTH_LIMIT {
+        return Err(Fault::LayerLong);
+    }
+    let mut reader = Reader::new();
+    let mut survey = Survey::new();
+    for (at, byte) in text.iter().enumerate() {
+        let Some(event) = reader.step(at, *byte) else {
+            return Err(Fault::Syntax(at));
+        };
+        survey.note(at, event);
+    }
+    if !reader.may_end() {
+        return Err(Fault::Syntax(text.len()));
+    }
+    survey.verdict()
+}
