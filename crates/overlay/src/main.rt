@@ -4,8 +4,10 @@
 mod asked;
 mod cli;
 mod files;
+mod rounding;
 mod sink;
 mod stream;
+mod tally;
 mod text;
 
 pub use asked::{CliFault, Command, Request};
