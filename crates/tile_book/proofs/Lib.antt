@@ -1,4 +1,5 @@
 pub mod Above
+pub mod Accepted
 pub mod Draws
 pub mod Kept
 pub mod Posts

@@ -9,8 +9,9 @@ use Rattle.tile_book.specs.declared.desk_core.Event.{Event}
 use Rattle.tile_book.specs.declared.desk_core.Event.TheVariants.{Draw, Post, Stop}
 use Rattle.tile_book.specs.declared.desk_core.Reply.{Reply}
 use Rattle.tile_book.specs.declared.desk_core.Reply.TheVariants.{Number, None, Ok, Stranger, Double, NoHand}
-use Rattle.tile_book.specs.Histories.{gone, is_live, live_draws, accepted_in, posted_by, one_if, is_in, expected, IsLegal}
-use Rattle.tile_book.specs.Machine.{CoreView, IsSound, Agrees, reply_of, after, draw_reply, post_reply}
+use Rattle.tile_book.specs.History.{has_ended, is_live, live_draws, accepted_in, posted_by, one_if, is_in, expected, IsLegal, followed_by}
+use Rattle.tile_book.specs.Machine.{CoreView, IsSound, Agrees, reply_of, after, replies_of, after_all, draw_reply, post_reply}
+use Rattle.tile_book.proofs.Trues.{trues_set, trues_more, posts}
 
 below : (h n : ℕ) → nat_lt h n ≡ true → h < n
 below h n e = grind (arith, nat_tests)
@@ -29,10 +30,10 @@ replies c before (Post h k) sound a = cases (nat_lt k c.limit) refl
     cases false is = rw is refl
 replies c before (Stop h) sound a = refl
 
-live : (hands : ℕ) (before : List (Event × Reply)) (h : ℕ) → nat_lt h hands ≡ true → gone h before ≡ false → is_live hands before (Draw h) ≡ true
+live : (hands : ℕ) (before : List (Event × Reply)) (h : ℕ) → nat_lt h hands ≡ true → has_ended h before ≡ false → is_live hands before (Draw h) ≡ true
 live hands before h known here = rw (known, here) refl
 
-not_live : (hands : ℕ) (before : List (Event × Reply)) (h : ℕ) → gone h before ≡ true → is_live hands before (Draw h) ≡ false
+not_live : (hands : ℕ) (before : List (Event × Reply)) (h : ℕ) → has_ended h before ≡ true → is_live hands before (Draw h) ≡ false
 not_live hands before h spent = rw spent (off (nat_lt h hands))
   where
     off : (b : Bool) → (b && false) ≡ false
@@ -70,7 +71,7 @@ follows c before (Stop h) sound a = cases (nat_lt h (length c.spent)) refl
     })
     cases false is = rw is (record {
       word = omega (arith, a.word);
-      spent = λ j lt. let ne : (h == j) ≡ false = grind (arith, nat_tests) in a.spent j lt ∙ sym (ap (λ b. b || gone j before) ne);
+      spent = λ j lt. let ne : (h == j) ≡ false = grind (arith, nat_tests) in a.spent j lt ∙ sym (ap (λ b. b || has_ended j before) ne);
       accepted = a.accepted ∙ sym (append-nil _);
     })
 follows c before (Post h k) sound a = cases (nat_lt h (length c.spent)) (nat_lt k c.limit) (slice_index_or c.held k false) refl refl refl
@@ -97,7 +98,7 @@ follows c before (Draw h) sound a = cases (nat_lt h (length c.spent)) (slice_ind
       accepted = a.accepted ∙ sym (append-nil _);
     })
       where
-        again : (j : ℕ) → j < length c.spent → (b : Bool) → (h == j) ≡ b → slice_index_or c.spent j false ≡ ((h == j) || gone j before)
+        again : (j : ℕ) → j < length c.spent → (b : Bool) → (h == j) ≡ b → slice_index_or c.spent j false ≡ ((h == j) || has_ended j before)
         again j lt true e = let same : h ≡ j = grind (arith, nat_tests) in rw e (subst (λ i. slice_index_or c.spent i false ≡ true) same spent)
         again j lt false e = rw e (a.spent j lt)
     cases true false true known spent more = rw (known, spent, more) (record {
@@ -117,3 +118,65 @@ follows c before (Draw h) sound a = cases (nat_lt h (length c.spent)) (slice_ind
 pub goes_on : (c : CoreView) (before : List (Event × Reply)) (e : Event) → IsSound c → IsLegal c.limit (length c.spent) before → Agrees c before
     → IsLegal c.limit (length c.spent) ((e, reply_of c e) ∷ before) × Agrees (after c e) ((e, reply_of c e) ∷ before)
 goes_on c before e sound legal a = ((replies c before e sound a, legal), follows c before e sound a)
+
+-- the machine stays sound, and of its size
+pub stays_sound : (c : CoreView) (e : Event) → IsSound c → IsSound (after c e) × ((after c e).limit ≡ c.limit) × (length (after c e).spent ≡ length c.spent)
+stays_sound c (Stop h) s = cases (nat_lt h (length c.spent)) refl
+  where
+    cases : (b : Bool) → nat_lt h (length c.spent) ≡ b → IsSound (after c (Stop h)) × ((after c (Stop h)).limit ≡ c.limit) × (length (after c (Stop h)).spent ≡ length c.spent)
+    cases false is = rw is (s, refl, refl)
+    cases true is = rw is (
+      record {
+        limit = s.limit;
+        hands = omega (arith, s.hands, length-set c.spent h true);
+        word = omega (arith, s.word, trues_more c.spent h);
+        places = s.places;
+        held = s.held;
+        count = s.count;
+      },
+      refl,
+      length-set c.spent h true,
+    )
+stays_sound c (Post h k) s = cases (nat_lt h (length c.spent)) (nat_lt k c.limit) (slice_index_or c.held k false) refl refl refl
+  where
+    cases : (b d f : Bool) → nat_lt h (length c.spent) ≡ b → nat_lt k c.limit ≡ d → slice_index_or c.held k false ≡ f
+        → IsSound (after c (Post h k)) × ((after c (Post h k)).limit ≡ c.limit) × (length (after c (Post h k)).spent ≡ length c.spent)
+    cases false d f known small held = rw known (s, refl, refl)
+    cases true false f known small held = rw (known, small) (s, refl, refl)
+    cases true true true known small held = rw (known, small, held) (s, refl, refl)
+    cases true true false known small held = rw (known, small, held) (posts c k s (below k c.limit small) held, refl, refl)
+stays_sound c (Draw h) s = cases (nat_lt h (length c.spent)) (slice_index_or c.spent h false) (nat_lt c.word c.limit) refl refl refl
+  where
+    cases : (b d f : Bool) → nat_lt h (length c.spent) ≡ b → slice_index_or c.spent h false ≡ d → nat_lt c.word c.limit ≡ f
+        → IsSound (after c (Draw h)) × ((after c (Draw h)).limit ≡ c.limit) × (length (after c (Draw h)).spent ≡ length c.spent)
+    cases false d f known spent more = rw known (s, refl, refl)
+    cases true true f known spent more = rw (known, spent) (s, refl, refl)
+    cases true false true known spent more = rw (known, spent, more) (
+      record { limit = s.limit; hands = s.hands; word = let lt = below c.word c.limit more in omega arith; places = s.places; held = s.held; count = s.count },
+      refl,
+      refl,
+    )
+    cases true false false known spent more = rw (known, spent, more) (
+      record {
+        limit = s.limit;
+        hands = omega (arith, s.hands, length-set c.spent h true);
+        word = omega (arith, s.word, trues_set c.spent h (below h (length c.spent) known) spent);
+        places = s.places;
+        held = s.held;
+        count = s.count;
+      },
+      refl,
+      length-set c.spent h true,
+    )
+
+-- the replies to a whole list go on with a legal history
+pub all_go_on : (c : CoreView) (before : List (Event × Reply)) (es : List Event) → IsSound c → IsLegal c.limit (length c.spent) before → Agrees c before
+    → IsLegal c.limit (length c.spent) (followed_by before es (replies_of c es)) × Agrees (after_all c es) (followed_by before es (replies_of c es))
+all_go_on c before [] sound legal agrees = (legal, agrees)
+all_go_on c before (e ∷ es) sound legal agrees =
+    let now = goes_on c before e sound legal agrees in
+    let kept = stays_sound c e sound in
+    let longer = (e, reply_of c e) ∷ before in
+    let next = after c e in
+    let rest = all_go_on next longer es kept.0 (subst (λ (p : ℕ × ℕ). IsLegal p.0 p.1 longer) (λ i. (sym kept.1 i, sym kept.2 i)) now.0) now.1 in
+    (subst (λ (p : ℕ × ℕ). IsLegal p.0 p.1 (followed_by longer es (replies_of next es))) (λ i. (kept.1 i, kept.2 i)) rest.0, rest.1)

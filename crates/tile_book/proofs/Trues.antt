@@ -5,7 +5,7 @@ use Rattle.std.specs.Prelude.{slice_index_or, slice_set}
 use Rattle.std.proofs.lemmas.Bool.Decides.{nat_tests}
 use mathlib.Core.Logic.{dite}
 use native.Mathlib.Decide.{ℕ_discrete}
-use Rattle.tile_book.specs.Histories.{one_if, is_in}
+use Rattle.tile_book.specs.History.{one_if, is_in}
 use Rattle.tile_book.specs.Machine.{CoreView, trues, IsSound, new_core}
 
 pub trues_le : (bs : List Bool) → trues bs ≤ length bs

@@ -2,7 +2,7 @@ pub mod Books
 pub mod Counts
 pub mod Drawing
 pub mod Growth
-pub mod Histories
+pub mod History
 pub mod Machine
 pub mod Replies
 pub mod Shown

@@ -4,7 +4,7 @@ use Rattle.tile_book.specs.declared.desk_core.Event.{Event}
 use Rattle.tile_book.specs.declared.desk_core.Event.TheVariants.{Draw, Post, Stop}
 use Rattle.tile_book.specs.declared.desk_core.Reply.{Reply}
 use Rattle.tile_book.specs.declared.desk_core.Reply.TheVariants.{Number, None, Ok, Stranger, Double, NoHand}
-use Rattle.tile_book.specs.Histories.{gone, live_draws, accepted_in, is_in, one_if}
+use Rattle.tile_book.specs.History.{has_ended, live_draws, accepted_in, is_in, one_if}
 
 pub record CoreView : Type 0 where
   pub limit : ℕ
@@ -86,5 +86,5 @@ new_core n hands = record { limit = n; word = 0; spent = replicate hands false; 
 -- the core stands where the history leaves it
 pub record Agrees (c : CoreView) (before : List (Event × Reply)) : Type 0 where
   pub word : c.word ≡ live_draws (length c.spent) before
-  pub spent : (h : ℕ) → h < length c.spent → is_spent c h ≡ gone h before
+  pub spent : (h : ℕ) → h < length c.spent → is_spent c h ≡ has_ended h before
   pub accepted : c.accepted ≡ accepted_in before

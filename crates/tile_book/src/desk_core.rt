@@ -2,7 +2,7 @@
 
 ghost use Rattle.std.specs.Prelude.{◌≡◌, ◌<◌, ◌≤◌, List, [], ◌∷◌, IfOk, OnErr, length, replicate};
 ghost use Rattle.tile_book.specs.Machine.{reply_of, after, replies_of, after_all, posted_after, drawn_after, stopped_after, draw_reply, post_reply, stop_reply, new_core, Agrees};
-ghost use Rattle.tile_book.specs.Histories.{IsLegal, expected};
+ghost use Rattle.tile_book.specs.History.{IsLegal, followed_by};
 ghost use Rattle.tile_book.specs.declared.desk_core.Event.{Event};
 ghost use Rattle.tile_book.specs.declared.desk_core.Reply.{Reply};
 
@@ -10,7 +10,7 @@ use geom::NoMemory;
 use std::alloc::Allocator;
 use std::marker::Model;
 
-/// What a hand does.
+/// What a hand does: it draws, posts the piece of a number, or stops.
 #[derive(Clone, Copy, PartialEq, Eq, Debug)]
 pub enum Event {
     Draw(u32),
@@ -18,7 +18,7 @@ pub enum Event {
     Stop(u32),
 }
 
-/// What it is told.
+/// What a hand is told.
 #[derive(Clone, Copy, PartialEq, Eq, Debug)]
 pub enum Reply {
     Number(u32),
@@ -29,7 +29,7 @@ pub enum Reply {
     NoHand,
 }
 
-/// The word, the hands that are spent, and the numbers that were accepted.
+/// The draw word, the hands that are spent, and the numbers that were accepted.
 #[derive(Drop)]
 pub struct Core<A: Allocator> {
     limit: u32,
@@ -52,7 +52,87 @@ impl<A: Allocator> Model for Core<A> {
     ghost invariant = { λ c. IsSound record { limit = c.limit; word = c.word; spent = c.spent.items; held = c.held.items; accepted = c.accepted.items } × (c.limit ≤ vec_capacity c.accepted) };
 }
 
-impl<A: Allocator + Copy> Core<A> {
+impl<A: Allocator> Core<A> {
+    /// A new core for the numbers below a limit of at most 65,536, and at most 64 hands. It reserves all that `step` needs.
+    pub fn new(alloc: A, limit: u32, hands: u32) -> Result<Core<A>, NoMemory>
+    where
+        A: Copy,
+        requires limit { limit ≤ 65536 }
+        requires hands { hands ≤ 64 }
+        ensures new { IfOk result (λ c. c ≡ new_core limit hands) }
+        ensures no_history { IfOk result (λ c. Agrees c []) }
+    {
+        let spent = vec![in alloc; false; hands as usize]?;
+        let held = vec![in alloc; false; limit as usize]?;
+        let accepted = Vec::with_capacity(alloc, limit as usize)?;
+        Ok(Core {
+            limit,
+            word: 0,
+            spent,
+            held,
+            accepted,
+        })
+    }
+
+    /// The reply to one event. After a legal history that agrees with the core the history stays legal, and agrees with it
+    /// again. It takes no memory.
+    pub fn step(&mut self, event: Event) -> Reply
+        ensures reply { result ≡ reply_of self.old event }
+        ensures after { self.new ≡ after self.old event }
+        ensures legal { (before : List (Event × Reply)) → IsLegal self.old.limit (length self.old.spent) before → Agrees self.old before
+            → IsLegal self.old.limit (length self.old.spent) ((event, result) ∷ before) × Agrees self.new ((event, result) ∷ before) }
+    {
+        // Read, so that the proof has the core's invariant.
+        let _limit = self.limit;
+        self.apply(event)
+    }
+
+    /// The replies to these events, in their order: a legal history, after one that agrees with the core. With no memory
+    /// nothing has changed.
+    pub fn replay<B: Allocator>(
+        &mut self,
+        alloc: B,
+        events: &[Event],
+    ) -> Result<Vec<Reply, B>, NoMemory>
+        ensures ok { IfOk result (λ rs. (rs.items ≡ replies_of self.old events.now) × (self.new ≡ after_all self.old events.now)) }
+        ensures legal { IfOk result (λ rs. (before : List (Event × Reply)) → IsLegal self.old.limit (length self.old.spent) before → Agrees self.old before
+            → IsLegal self.old.limit (length self.old.spent) (followed_by before events.now rs.items) × Agrees self.new (followed_by before events.now rs.items)) }
+        ensures err { OnErr result (self.new ≡ self.old) }
+    {
+        // Read, so that the proof has the core's invariant.
+        let _limit = self.limit;
+        let mut replies = Vec::with_capacity(alloc, events.len())?;
+        for event in events {
+            replies.push_reserved(self.step(*event));
+        }
+        Ok(replies)
+    }
+
+    /// How many live draws there were.
+    pub fn word(&self) -> u32
+        ensures { result ≡ self.now.word }
+    {
+        self.word
+    }
+
+    /// The accepted numbers, in their order.
+    pub fn accepted(&self) -> &[u32]
+        ensures { result.now ≡ self.now.accepted }
+    {
+        self.accepted.as_slice()
+    }
+
+    fn apply(&mut self, event: Event) -> Reply
+        ensures reply { result ≡ reply_of self.old event }
+        ensures after { self.new ≡ after self.old event }
+    {
+        match event {
+            Event::Draw(hand) => self.draw(hand),
+            Event::Post(hand, number) => self.post(hand, number),
+            Event::Stop(hand) => self.stop(hand),
+        }
+    }
+
     fn draw(&mut self, hand: u32) -> Reply
         ensures reply { result ≡ draw_reply self.old hand }
         ensures after { self.new ≡ drawn_after self.old hand }
@@ -101,57 +181,5 @@ impl<A: Allocator + Copy> Core<A> {
         }
         self.spent[hand as usize] = true;
         Reply::Ok
-    }
-
-    fn apply(&mut self, event: Event) -> Reply
-        ensures reply { result ≡ reply_of self.old event }
-        ensures after { self.new ≡ after self.old event }
-    {
-        match event {
-            Event::Draw(hand) => self.draw(hand),
-            Event::Post(hand, number) => self.post(hand, number),
-            Event::Stop(hand) => self.stop(hand),
-        }
-    }
-
-    /// One event. It takes no memory.
-    pub fn step(&mut self, event: Event) -> Reply
-        ensures reply { result ≡ reply_of self.old event }
-        ensures after { self.new ≡ after self.old event }
-        ensures legal { (before : List (Event × Reply)) → IsLegal self.old.limit (length self.old.spent) before → Agrees self.old before
-            → IsLegal self.old.limit (length self.old.spent) ((event, result) ∷ before) × Agrees self.new ((event, result) ∷ before) }
-    {
-        let _limit = self.limit;
-        self.apply(event)
-    }
-
-    /// That many numbers and hands. It reserves all that `step` needs.
-    pub fn new(alloc: A, limit: u32, hands: u32) -> Result<Core<A>, NoMemory>
-        requires limit { limit ≤ 65536 }
-        requires hands { hands ≤ 64 }
-        ensures new { IfOk result (λ c. c ≡ new_core limit hands) }
-    {
-        let spent = vec![in alloc; false; hands as usize]?;
-        let held = vec![in alloc; false; limit as usize]?;
-        let accepted = Vec::with_capacity(alloc, limit as usize)?;
-        Ok(Core {
-            limit,
-            word: 0,
-            spent,
-            held,
-            accepted,
-        })
-    }
-
-    /// The replies to a list of events. With no memory nothing has changed.
-    pub fn replay(&mut self, alloc: A, events: &[Event]) -> Result<Vec<Reply, A>, NoMemory>
-        ensures ok { IfOk result (λ rs. (rs.items ≡ replies_of self.old events.now) × (self.new ≡ after_all self.old events.now)) }
-        ensures err { OnErr result (self.new ≡ self.old) }
-    {
-        let mut replies = Vec::with_capacity(alloc, events.len())?;
-        for event in events {
-            replies.push_reserved(self.step(*event));
-        }
-        Ok(replies)
     }
 }

@@ -21,6 +21,6 @@ pub use desk_core::{Core, Event, Reply};
 pub use draw::{Draw, Drawn, Hand, finish};
 pub use gate::{Gate, OpenGate, Phase};
 pub use job::Job;
-pub use laws::{word_is_new, word_stays_near};
+pub use laws::{accepted_at_most_once, all_posted_all_held, word_is_new, word_stays_near};
 pub use share::{Limited, Share};
 pub use worker::{Ended, work};

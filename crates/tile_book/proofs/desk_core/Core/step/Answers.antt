@@ -2,7 +2,7 @@ use Rattle.std.proofs.Common.{◌≡◌, List, ◌∷◌, length, sym, ◌∙◌
 use Rattle.tile_book.specs.declared.desk_core.Event.{Event}
 use Rattle.tile_book.specs.declared.desk_core.Reply.{Reply}
 use Rattle.tile_book.specs.Machine.{CoreView, Agrees, IsSound}
-use Rattle.tile_book.specs.Histories.{IsLegal}
+use Rattle.tile_book.specs.History.{IsLegal}
 use Rattle.tile_book.proofs.Steps.{goes_on}
 use Rattle.tile_book.proofs.desk_core.Core.step.Goals as goal
 
