@@ -1,0 +1,13 @@
+pub mod Lanes
+pub mod Hits
+pub mod Masks
+pub mod Values
+pub mod PairLists
+pub mod Pairs
+pub mod Rects
+pub mod EdgeLists
+pub mod Meeting
+pub mod Ends
+pub mod Law
+pub mod SideLemmas
+pub mod Slices

@@ -1,0 +1,16 @@
+use Rattle.std.proofs.Common.{◌-◌}
+use Rattle.lane_tests.specs.Columns.{touches, pair_at, corners}
+use Rattle.lane_tests.proofs.Hits.{HasFound}
+use Rattle.lane_tests.proofs.boxes.push_touching.Given as goal
+
+abbrev pub invariant-loop-at : goal.invariant-loop-at
+invariant-loop-at g l = HasFound (λ k. touches (pair_at l.left l.bottom l.right l.top k) (corners l.rect)) l.from l.at l.end l.fn.out.items l.out.items
+
+abbrev pub decreases-loop-at : goal.decreases-loop-at
+decreases-loop-at g l = l.end - l.at
+
+abbrev pub invariant-loop-at-2 : goal.invariant-loop-at-2
+invariant-loop-at-2 g l = HasFound (λ k. touches (pair_at l.left l.bottom l.right l.top k) (corners l.rect)) l.from l.at l.end l.fn.out.items l.out.items
+
+abbrev pub decreases-loop-at-2 : goal.decreases-loop-at-2
+decreases-loop-at-2 g l = l.end - l.at

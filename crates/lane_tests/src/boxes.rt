@@ -1,0 +1,197 @@
+//! Boxes, and which of them meet a rectangle.
+
+ghost use Rattle.std.specs.Prelude.{◌≡◌, ℕ, List, ◌+◌, ◌-◌, ◌<◌, ◌≤◌, ◌^◌, ◌++◌, ◌∷◌, [], OnOk, OnErr, length};
+ghost use Rattle.lane_tests.specs.Columns.{AreColumns, IsColumn, corners, mask_of, pair_at, passing, touches};
+ghost use Rattle.lane_tests.specs.Boxes.{AreRects, rects_of};
+ghost use Rattle.lane_tests.specs.Meeting.{AreMeeting};
+ghost use Rattle.geom.specs.declared.rect.Rect.{Rect};
+
+use crate::columns::Columns;
+use geom::{NoMemory, Rect};
+use std::alloc::Allocator;
+use std::marker::Model;
+use std::simd::prelude::*;
+
+/// Closed boxes, numbered from 0 in the order in which they were added.
+#[derive(Drop)]
+pub struct Boxes<A: Allocator> {
+    columns: Columns<A>,
+    ghost are_rects: { AreRects columns },
+}
+
+impl<A: Allocator> Model for Boxes<A> {
+    ghost Value = { List Rect };
+
+    ghost view = { λ b. rects_of b.columns b.are_rects };
+}
+
+impl<A: Allocator + Copy> Boxes<A> {
+    /// No boxes.
+    pub fn new(alloc: A) -> Boxes<A>
+        ensures { result ≡ [] }
+    {
+        Boxes {
+            columns: Columns::new(alloc),
+        }
+    }
+}
+
+impl<A: Allocator> Boxes<A> {
+    /// How many boxes there are.
+    pub fn len(&self) -> usize
+        ensures value { result ≡ length self.now }
+        ensures few { result < 2 ^ 32 }
+    {
+        self.columns.len()
+    }
+
+    /// Adds a box. An `Err` changes nothing.
+    pub fn push(&mut self, rect: Rect) -> Result<(), NoMemory>
+        ensures ok { OnOk result (self.new ≡ self.old ++ rect ∷ []) }
+        ensures err { OnErr result (self.new ≡ self.old) }
+    {
+        self.columns.push(rect.lo, rect.hi)
+    }
+}
+
+/// The vector becomes the numbers, ascending, of the boxes that share a point with the rectangle. After an `Err` it is
+/// empty.
+pub fn meet_boxes<A: Allocator, B: Allocator>(
+    boxes: &Boxes<A>,
+    rect: Rect,
+    out: &mut Vec<u32, B>,
+) -> Result<(), NoMemory>
+    ensures ok { OnOk result (AreMeeting boxes.now rect 0 (length boxes.now) out.new.items) }
+    ensures err { OnErr result (out.new.items ≡ []) }
+{
+    meet_in(boxes, 0, boxes.len() as u32, rect, out)
+}
+
+/// As `meet_boxes`, of the boxes from `from` to below `to` alone.
+pub fn meet_in<A: Allocator, B: Allocator>(
+    boxes: &Boxes<A>,
+    from: u32,
+    to: u32,
+    rect: Rect,
+    out: &mut Vec<u32, B>,
+) -> Result<(), NoMemory>
+    requires in_order { from ≤ to }
+    requires in_range { to ≤ length boxes.now }
+    ensures ok { OnOk result (AreMeeting boxes.now rect from to out.new.items) }
+    ensures err { OnErr result (out.new.items ≡ []) }
+{
+    out.clear();
+    let columns = &boxes.columns;
+    match push_touching(
+        &columns.px,
+        &columns.py,
+        &columns.qx,
+        &columns.qy,
+        from as usize,
+        to as usize,
+        rect,
+        out,
+    ) {
+        Ok(()) => Ok(()),
+        Err(e) => {
+            out.clear();
+            Err(e)
+        }
+    }
+}
+
+// Adds the numbers of the boxes from `from` on that touch the rectangle.
+fn push_touching<A: Allocator>(
+    left: &[i32],
+    bottom: &[i32],
+    right: &[i32],
+    top: &[i32],
+    from: usize,
+    end: usize,
+    rect: Rect,
+    out: &mut Vec<u32, A>,
+) -> Result<(), NoMemory>
+    requires columns { AreColumns left.now bottom.now right.now top.now }
+    requires in_order { from ≤ end }
+    requires in_range { end ≤ length left.now }
+    ensures { OnOk result (out.new.items ≡ out.old.items ++ passing (λ k. touches (pair_at left.now bottom.now right.now top.now k) (corners rect)) from (end - from)) }
+{
+    let mut at = from;
+    while end - at >= 8 {
+        push_eight(left, bottom, right, top, at, rect, out)?;
+        at += 8;
+    }
+    while at < end {
+        if touches_at(left, bottom, right, top, at, rect) {
+            out.push(at as u32)?;
+        }
+        at += 1;
+    }
+    Ok(())
+}
+
+// Adds the numbers of those of the eight boxes from `at` on that touch the rectangle.
+#[inline(always)]
+fn push_eight<A: Allocator>(
+    left: &[i32],
+    bottom: &[i32],
+    right: &[i32],
+    top: &[i32],
+    at: usize,
+    rect: Rect,
+    out: &mut Vec<u32, A>,
+) -> Result<(), NoMemory>
+    requires columns { AreColumns left.now bottom.now right.now top.now }
+    requires in_range { at + 8 ≤ length left.now }
+    ensures { OnOk result (out.new.items ≡ out.old.items ++ passing (λ k. touches (pair_at left.now bottom.now right.now top.now k) (corners rect)) at 8) }
+{
+    let mut rest = touching(left, bottom, right, top, at, rect);
+    let mut number = at as u32;
+    while rest != 0 {
+        let skipped = rest.trailing_zeros();
+        number += skipped;
+        out.push(number)?;
+        number += 1;
+        rest = rest >> skipped >> 1;
+    }
+    Ok(())
+}
+
+// Whether one box touches the rectangle.
+#[inline(always)]
+fn touches_at(
+    left: &[i32],
+    bottom: &[i32],
+    right: &[i32],
+    top: &[i32],
+    at: usize,
+    rect: Rect,
+) -> bool
+    requires columns { AreColumns left.now bottom.now right.now top.now }
+    requires in_range { at < length left.now }
+    ensures { result ≡ touches (pair_at left.now bottom.now right.now top.now at) (corners rect) }
+{
+    (left[at] <= rect.hi.x)
+        & (bottom[at] <= rect.hi.y)
+        & (rect.lo.x <= right[at])
+        & (rect.lo.y <= top[at])
+}
+
+// Which of the eight boxes from `at` on touch the rectangle.
+#[inline(always)]
+fn touching(left: &[i32], bottom: &[i32], right: &[i32], top: &[i32], at: usize, rect: Rect) -> u64
+    requires left_fits { IsColumn left.now }
+    requires bottom_fits { IsColumn bottom.now }
+    requires right_fits { IsColumn right.now }
+    requires top_fits { IsColumn top.now }
+    requires left { at + 8 ≤ length left.now }
+    requires bottom { at + 8 ≤ length bottom.now }
+    requires right { at + 8 ≤ length right.now }
+    requires top { at + 8 ≤ length top.now }
+    ensures { result ≡ mask_of (λ k. touches (pair_at left.now bottom.now right.now top.now k) (corners rect)) at }
+{
+    (i32x8::from_slice(&left[at..]).simd_le(i32x8::splat(rect.hi.x))
+        & i32x8::from_slice(&bottom[at..]).simd_le(i32x8::splat(rect.hi.y))
+        & i32x8::from_slice(&right[at..]).simd_ge(i32x8::splat(rect.lo.x))
+        & i32x8::from_slice(&top[at..]).simd_ge(i32x8::splat(rect.lo.y))).to_bitmask()
+}
