@@ -3,6 +3,7 @@ pub mod Order
 pub mod Determinant
 pub mod Pixel
 pub mod OnSegment
+pub mod Box
 pub mod Segments
 pub mod Hot
 pub mod Route

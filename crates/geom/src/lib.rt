@@ -5,8 +5,9 @@
 mod edge;
 mod fault;
 mod op;
-pub mod pixel;
+mod pixel;
 mod point;
+mod rational;
 mod rect;
 mod ring;
 mod segment;
@@ -17,6 +18,7 @@ pub use edge::{Counted, Edge};
 pub use fault::{Fault, NoMemory, Part, RunFault};
 pub use op::Op;
 pub use point::{COORDINATE_LIMIT, Pt};
+pub use rational::RationalPoint;
 pub use rect::Rect;
 pub use ring::{Layer, Polygon, Ring, SimpleRing};
 pub use segment::{Seg, Source};
