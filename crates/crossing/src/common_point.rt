@@ -1,75 +1,12 @@
 //! The pixel of the common point of two segments.
-ghost use Rattle.std.specs.Prelude.{◌≡◌, ◌↔◌, ◌^◌, IfSome, ℤ, pos, ◌+ℤ◌, ◌-ℤ◌, ◌*ℤ◌, ◌≤ℤ◌, ◌<ℤ◌, neg_ℤ};
-ghost use Rattle.geom.specs.Limit.{AreInLimit, IsWithin, InLimit, coordinate_limit};
-ghost use Rattle.geom.specs.Pixel.{nearest};
+
+ghost use Rattle.std.specs.Prelude.{◌≡◌, ◌↔◌, ◌^◌, ◌⊎◌, IsTrue, IfSome, ℤ, pos, ◌+ℤ◌, ◌-ℤ◌, ◌*ℤ◌, ◌≤ℤ◌, ◌<ℤ◌, neg_ℤ};
+ghost use Rattle.geom.specs.Limit.{AreInLimit, IsQuotientWithin, IsWithin, coordinate_limit};
 ghost use Rattle.geom.specs.Hot.{CrossIn};
 ghost use Rattle.geom.specs.declared.point.Pt.{Pt};
 ghost use Rattle.crossing.specs.Crossing.{CrossesAt};
 
-use geom::pixel::nearest;
-use geom::{Pt, Seg};
-
-// The difference of two coordinates.
-fn difference(x: i32, y: i32) -> i64
-    ensures { result ≡ x -ℤ y }
-{
-    i64::from(x) - i64::from(y)
-}
-
-// The product of two numbers, in twice their width.
-fn wide_product(x: i64, y: i64) -> i128
-    ensures { result ≡ x *ℤ y }
-{
-    i128::from(x) * i128::from(y)
-}
-
-// The negative of a number.
-fn negated(x: i64) -> i64
-    requires { IsWithin (2 ^ 59) x }
-    ensures value { result ≡ neg_ℤ x }
-    ensures small { IsWithin (2 ^ 59) result }
-{
-    -x
-}
-
-// The whole number nearest to start + (e / det) (end - start).
-fn between(start: i32, end: i32, det: i64, e: i64) -> i32
-    requires start_in { IsWithin coordinate_limit start }
-    requires end_in { IsWithin coordinate_limit end }
-    requires det_small { IsWithin (2 ^ 59) det }
-    requires positive { pos 0 <ℤ det }
-    requires low { pos 0 ≤ℤ e }
-    requires high { e ≤ℤ det }
-    ensures { result ≡ nearest ((det *ℤ start) +ℤ (e *ℤ (end -ℤ start))) det }
-{
-    let first = wide_product(det, i64::from(start));
-    let rest = wide_product(e, difference(end, start));
-    nearest(first + rest, det)
-}
-
-// The pixel of the point of s at e / det, where e / det and f / det are from 0 to 1.
-fn crossing_at(s: &Seg, det: i64, e: i64, f: i64) -> Option<Pt>
-    requires s_in { AreInLimit s.now.a s.now.b }
-    requires det_small { IsWithin (2 ^ 59) det }
-    requires positive { pos 0 <ℤ det }
-    ensures { (p : Pt) → (result ≡ Some p) ↔ CrossesAt s.now.a s.now.b det e f p }
-{
-    if e < 0 {
-        return None;
-    }
-    if e > det {
-        return None;
-    }
-    if f < 0 {
-        return None;
-    }
-    if f > det {
-        return None;
-    }
-    let x = between(s.a.x, s.b.x, det, e);
-    let y = between(s.a.y, s.b.y, det, e);
-    Some(Pt { x, y })
-}
+use geom::{Pt, RationalPoint, Seg};
 
 /// The pixel of the common point of two segments, unless they are parallel or have none.
 pub fn cross(s: &Seg, t: &Seg) -> Option<Pt>
@@ -87,6 +24,86 @@ pub fn cross(s: &Seg, t: &Seg) -> Option<Pt>
     } else {
         None
     }
+}
+
+/// The pixel of the point of s at e / det, where e / det and f / det are from 0 to 1.
+fn crossing_at(s: &Seg, det: i64, e: i64, f: i64) -> Option<Pt>
+    requires s_in { AreInLimit s.now.a s.now.b }
+    requires det_small { IsWithin (2 ^ 59) det }
+    requires positive { pos 0 <ℤ det }
+    ensures { (p : Pt) → (result ≡ Some p) ↔ CrossesAt s.now.a s.now.b det e f p }
+{
+    if is_ratio(e, det) && is_ratio(f, det) {
+        Some(point_at(s, det, e).pixel())
+    } else {
+        None
+    }
+}
+
+/// Whether m / n is from 0 to 1.
+fn is_ratio(m: i64, n: i64) -> bool
+    ensures { IsTrue result ↔ ((pos 0 ≤ℤ m) × (m ≤ℤ n)) }
+{
+    0 <= m && m <= n
+}
+
+/// The point of s at e / det.
+fn point_at(s: &Seg, det: i64, e: i64) -> RationalPoint
+    requires s_in { AreInLimit s.now.a s.now.b }
+    requires det_small { IsWithin (2 ^ 59) det }
+    requires positive { pos 0 <ℤ det }
+    requires low { pos 0 ≤ℤ e }
+    requires high { e ≤ℤ det }
+    ensures x { result.x ≡ (det *ℤ s.now.a.x) +ℤ (e *ℤ (s.now.b.x -ℤ s.now.a.x)) }
+    ensures y { result.y ≡ (det *ℤ s.now.a.y) +ℤ (e *ℤ (s.now.b.y -ℤ s.now.a.y)) }
+    ensures n { result.n ≡ det }
+    ensures x_in { IsQuotientWithin coordinate_limit result.x det }
+    ensures y_in { IsQuotientWithin coordinate_limit result.y det }
+{
+    RationalPoint {
+        x: numerator_at(s.a.x, s.b.x, det, e),
+        y: numerator_at(s.a.y, s.b.y, det, e),
+        n: det,
+    }
+}
+
+/// The numerator of start + (e / det) (end - start) over det.
+fn numerator_at(start: i32, end: i32, det: i64, e: i64) -> i128
+    requires start_in { IsWithin coordinate_limit start }
+    requires end_in { IsWithin coordinate_limit end }
+    requires det_small { IsWithin (2 ^ 59) det }
+    requires positive { pos 0 <ℤ det }
+    requires low { pos 0 ≤ℤ e }
+    requires high { e ≤ℤ det }
+    ensures value { result ≡ (det *ℤ start) +ℤ (e *ℤ (end -ℤ start)) }
+    ensures within { IsQuotientWithin coordinate_limit result det }
+{
+    let first = wide_product(det, i64::from(start));
+    let rest = wide_product(e, difference(end, start));
+    first + rest
+}
+
+/// The product of two numbers, in twice their width.
+fn wide_product(x: i64, y: i64) -> i128
+    ensures { result ≡ x *ℤ y }
+{
+    i128::from(x) * i128::from(y)
+}
+
+/// The difference of two coordinates.
+fn difference(x: i32, y: i32) -> i64
+    ensures { result ≡ x -ℤ y }
+{
+    i64::from(x) - i64::from(y)
+}
+
+/// The negative of a determinant.
+fn negated(x: i64) -> i64
+    requires { IsWithin (2 ^ 59) x }
+    ensures value { result ≡ neg_ℤ x }
+    ensures small { IsWithin (2 ^ 59) result }
+{
+    -x
 }
 
 #[cfg(test)]

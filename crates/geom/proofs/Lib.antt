@@ -7,6 +7,7 @@ pub mod IntOrder
 pub mod Plane
 pub mod Along
 pub mod Pixels
+pub mod Boxes
 pub mod Edges
 pub mod Lists
 pub mod Points

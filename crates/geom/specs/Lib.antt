@@ -3,6 +3,8 @@ pub mod Order
 pub mod Determinant
 pub mod Pixel
 pub mod OnSegment
+pub mod Box
+pub mod Bounds
 pub mod Segments
 pub mod Hot
 pub mod Route
@@ -18,4 +20,3 @@ pub mod ListOrder
 pub mod Rings
 pub mod Holes
 pub mod Canonical
-pub mod Box

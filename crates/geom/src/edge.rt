@@ -2,10 +2,12 @@
 
 ghost use Rattle.std.specs.Prelude.{◌≡◌, ◌⊎◌, ◌^◌, MatchOption};
 ghost use Rattle.geom.specs.Limit.{AreInLimit, InLimit, IsWithin};
+ghost use Rattle.geom.specs.Box.{greatest_corner, least_corner};
 ghost use Rattle.geom.specs.Determinant.{side};
 ghost use Rattle.geom.specs.Order.{IsBefore};
 
 use crate::point::Pt;
+use crate::rect::Rect;
 
 /// An edge between two points of the grid, the lesser one first.
 #[derive(Clone, Copy, Debug, PartialEq, Eq, PartialOrd, Ord)]
@@ -27,6 +29,14 @@ impl Edge {
             return Some(Edge { p: e, q: c });
         }
         None
+    }
+
+    /// The least rectangle that has the edge.
+    pub fn bounds(&self) -> Rect
+        ensures lo { result.lo ≡ least_corner self.now.p self.now.q }
+        ensures hi { result.hi ≡ greatest_corner self.now.p self.now.q }
+    {
+        Rect::spanned_by(self.p, self.q)
     }
 
     /// Above 0 where a point is to the left of the edge's line, below 0 where it is to the right.

@@ -1,33 +1,32 @@
-//! Rounding to pixels.
+//! The pixels of points of the plane.
 
-ghost use Rattle.std.specs.Prelude.{◌≡◌, pos, neg_ℤ, ◌*ℤ◌, ◌≤ℤ◌, ◌<ℤ◌};
-ghost use Rattle.geom.specs.Limit.{coordinate_limit};
-ghost use Rattle.geom.specs.Pixel.{nearest};
+ghost use Rattle.std.specs.Prelude.{◌≡◌, pos, ◌<ℤ◌};
+ghost use Rattle.geom.specs.Limit.{IsQuotientWithin, coordinate_limit};
+ghost use Rattle.geom.specs.Pixel.{nearest, pixel, point_of};
+
+use crate::point::Pt;
+use crate::rational::RationalPoint;
+
+impl RationalPoint {
+    /// The pixel of the point, named by its centre: the nearest point of the grid, halves to the right and upward.
+    pub fn pixel(&self) -> Pt
+        requires x_in { IsQuotientWithin coordinate_limit self.now.x self.now.n }
+        requires y_in { IsQuotientWithin coordinate_limit self.now.y self.now.n }
+        ensures { result ≡ pixel (point_of self.now) }
+    {
+        Pt {
+            x: nearest(self.x, self.n),
+            y: nearest(self.y, self.n),
+        }
+    }
+}
 
 /// The whole number nearest to z / n, halves upward.
-pub fn nearest(z: i128, n: i64) -> i32
+fn nearest(z: i128, n: i64) -> i32
     requires positive { pos 0 <ℤ n }
-    requires low { (n *ℤ neg_ℤ (pos coordinate_limit)) ≤ℤ z }
-    requires high { z ≤ℤ (n *ℤ pos coordinate_limit) }
+    requires within { IsQuotientWithin coordinate_limit z n }
     ensures { result ≡ nearest z n }
 {
     let width = i128::from(n);
     (2 * z + width).div_euclid(2 * width) as i32
-}
-
-#[cfg(test)]
-mod tests {
-    use super::*;
-
-    #[test]
-    fn rounds(rt: HostRuntime) {
-        assert_eq!(rt; nearest(1, 2), 1);
-        assert_eq!(rt; nearest(-1, 2), 0);
-        assert_eq!(rt; nearest(-3, 2), -1);
-        assert_eq!(rt; nearest(2, 3), 1);
-        assert_eq!(rt; nearest(-2, 3), -1);
-        assert_eq!(rt; nearest(5, 3), 2);
-        assert_eq!(rt; nearest(4, 3), 1);
-        assert_eq!(rt; nearest(0, 7), 0);
-    }
 }

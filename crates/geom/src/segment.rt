@@ -2,9 +2,11 @@
 
 ghost use Rattle.std.specs.Prelude.{◌≡◌, ◌≢◌, ◌^◌, ◌-ℤ◌, MatchOption};
 ghost use Rattle.geom.specs.Limit.{AreInLimit, InLimit, IsWithin};
+ghost use Rattle.geom.specs.Box.{greatest_corner, least_corner};
 ghost use Rattle.geom.specs.Determinant.{side, turn};
 
 use crate::point::Pt;
+use crate::rect::Rect;
 use crate::vector::Vector;
 
 /// One of the two layers of an overlay.
@@ -41,6 +43,14 @@ impl Seg {
         ensures dy { result.dy ≡ self.now.b.y -ℤ self.now.a.y }
     {
         self.a.vector_to(self.b)
+    }
+
+    /// The least rectangle that has the segment.
+    pub fn bounds(&self) -> Rect
+        ensures lo { result.lo ≡ least_corner self.now.a self.now.b }
+        ensures hi { result.hi ≡ greatest_corner self.now.a self.now.b }
+    {
+        Rect::spanned_by(self.a, self.b)
     }
 
     /// The determinant of the directions of two segments: 0 where they are parallel.

@@ -7,7 +7,8 @@ use Rattle.std.proofs.lemmas.List.{append-nil}
 use Rattle.std.proofs.lemmas.List.Elements.{Contains-append_left, Contains-append_right, Contains-append_cases}
 use Rattle.geom.specs.declared.point.Pt.{Pt}
 use Rattle.geom.specs.declared.rect.Rect.{Rect}
-use Rattle.geom.specs.Box.{Holds, HoldsSteps, IsBox}
+use Rattle.geom.specs.Box.{IsInBox}
+use Rattle.geom.specs.Bounds.{HoldsSteps, IsBox}
 use Rattle.geom.proofs.Integers.{linear}
 use Rattle.geom.proofs.Lists.{In, contains_in, in_contains}
 use Rattle.wkt.specs.Surveying.{Corners, corners, grown, grown_by}
@@ -40,37 +41,37 @@ le_refl x = omega (arith, linear)
 record Spans (c : Corners) (p : Pt) : Type 0 where
   left : c.lo.x ≤ℤ p.x
   right : p.x ≤ℤ c.hi.x
-  below : c.lo.y ≤ℤ p.y
-  above : p.y ≤ℤ c.hi.y
+  bottom : c.lo.y ≤ℤ p.y
+  top : p.y ≤ℤ c.hi.y
 
 -- q holds both corners
 abbrev Within : Rect → Corners → Type 0
-Within q c = Holds q c.lo × Holds q c.hi
+Within q c = IsInBox q.lo q.hi c.lo × IsInBox q.lo q.hi c.hi
 
 spans_new : (c : Corners) (p : Pt) → Spans (grown c p) p
-spans_new c p = record { left = min_right c.lo.x p.x; right = max_right c.hi.x p.x; below = min_right c.lo.y p.y; above = max_right c.hi.y p.y }
+spans_new c p = record { left = min_right c.lo.x p.x; right = max_right c.hi.x p.x; bottom = min_right c.lo.y p.y; top = max_right c.hi.y p.y }
 
 spans_old : (c : Corners) (p q : Pt) → Spans c q → Spans (grown c p) q
 spans_old c p q s = record {
   left = le_trans (min_left c.lo.x p.x) s.left;
   right = le_trans s.right (max_left c.hi.x p.x);
-  below = le_trans (min_left c.lo.y p.y) s.below;
-  above = le_trans s.above (max_left c.hi.y p.y);
+  bottom = le_trans (min_left c.lo.y p.y) s.bottom;
+  top = le_trans s.top (max_left c.hi.y p.y);
 }
 
-within_grown : (q : Rect) (c : Corners) (p : Pt) → Within q c → Holds q p → Within q (grown c p)
+within_grown : (q : Rect) (c : Corners) (p : Pt) → Within q c → IsInBox q.lo q.hi p → Within q (grown c p)
 within_grown q c p (l, h) k = (
   record {
     left = le_min q.lo.x c.lo.x p.x l.left k.left;
     right = le_trans (min_left c.lo.x p.x) l.right;
-    below = le_min q.lo.y c.lo.y p.y l.below k.below;
-    above = le_trans (min_left c.lo.y p.y) l.above;
+    bottom = le_min q.lo.y c.lo.y p.y l.bottom k.bottom;
+    top = le_trans (min_left c.lo.y p.y) l.top;
   },
   record {
     left = le_trans h.left (max_left c.hi.x p.x);
     right = max_le q.hi.x c.hi.x p.x h.right k.right;
-    below = le_trans h.below (max_left c.hi.y p.y);
-    above = max_le q.hi.y c.hi.y p.y h.above k.above;
+    bottom = le_trans h.bottom (max_left c.hi.y p.y);
+    top = max_le q.hi.y c.hi.y p.y h.top k.top;
   },
 )
 
@@ -96,7 +97,7 @@ abbrev one : Pt → Corners
 one p = record { lo = p; hi = p }
 
 spans_one : (p : Pt) → Spans (one p) p
-spans_one p = record { left = le_refl p.x; right = le_refl p.x; below = le_refl p.y; above = le_refl p.y }
+spans_one p = record { left = le_refl p.x; right = le_refl p.x; bottom = le_refl p.y; top = le_refl p.y }
 
 hull_more : (done : List (Pt × Pt)) (o : Option Corners) (s : Pt × Pt) → Hull done o → Hull (done ++ s ∷ []) (grown_by o s)
 hull_more done None s e = record {
@@ -125,7 +126,7 @@ hull_rest done (s ∷ steps) o h =
 box_at : (steps : List (Pt × Pt)) (b : Option Rect) → Hull steps (option_map corners b) → MatchOption b (steps ≡ []) (IsBox steps)
 box_at steps None h = h
 box_at steps (Some r) h = record {
-  holds = λ s i. let k = h.spans s i in (record { left = k.0.left; right = k.0.right; below = k.0.below; above = k.0.above }, record { left = k.1.left; right = k.1.right; below = k.1.below; above = k.1.above });
+  holds = λ s i. let k = h.spans s i in (record { left = k.0.left; right = k.0.right; bottom = k.0.bottom; top = k.0.top }, record { left = k.1.left; right = k.1.right; bottom = k.1.bottom; top = k.1.top });
   least = h.least;
 }
 

@@ -2,7 +2,7 @@
 use Rattle.std.specs.Prelude.{◌≡◌, List, [], length, MatchOption}
 use Rattle.geom.specs.declared.point.Pt.{Pt}
 use Rattle.geom.specs.Segments.{layer_steps}
-use Rattle.geom.specs.Box.{IsBox}
+use Rattle.geom.specs.Bounds.{IsBox}
 use Rattle.wkt.specs.declared.outline.Outline.{Outline}
 
 -- the outline of the layer with these rings

@@ -70,7 +70,7 @@ impl Survey {
         ensures { shown self.new ≡ stretched (shown self.old) a b }
     {
         let bounds = match self.outline.bounds {
-            None => Rect::around(a, b),
+            None => Rect::spanned_by(a, b),
             Some(bounds) => bounds.with(a).with(b),
         };
         self.outline = Outline {

@@ -1,49 +1,36 @@
-use Rattle.std.proofs.Common.{◌≡◌, w32, w64, FitsSigned, to_z, of_z, to_z-of_z, arith, sym, ◌∙◌, ap, Some}
+use Rattle.std.proofs.Common.{◌≡◌, ◌↔◌, w64, FitsSigned, to_z, of_z, to_z-of_z, sym, ◌∙◌, ap, Some, refl}
 use Rattle.std.proofs.Math.IntN.{ℤ, pos, ◌+ℤ◌, ◌-ℤ◌, ◌*ℤ◌}
-use Rattle.std.specs.Prelude.{◌≤ℤ◌, false}
-use lib.Signed.{lt_z}
-use Rattle.std.proofs.lemmas.Int.{ints}
+use Rattle.std.specs.Prelude.{◌≤ℤ◌}
 use Rattle.geom.specs.declared.point.Pt.{Pt}
-use Rattle.geom.specs.Limit.{InLimit}
-use Rattle.geom.specs.Pixel.{nearest}
+use Rattle.geom.specs.Pixel.{nearest, pixel, point_of}
 use Rattle.crossing.proofs.common_point.crossing_at.Goals as goal
 
-result_is : (r det e s t : ℤ) → FitsSigned w32 r → FitsSigned w64 det → FitsSigned w64 e → FitsSigned w32 s → FitsSigned w32 t
-    → r ≡ nearest ((to_z w64 (of_z w64 det) *ℤ to_z w32 (of_z w32 s)) +ℤ (to_z w64 (of_z w64 e) *ℤ (to_z w32 (of_z w32 t) -ℤ to_z w32 (of_z w32 s)))) (to_z w64 (of_z w64 det))
-    → nearest ((det *ℤ s) +ℤ (e *ℤ (t -ℤ s))) det ≡ to_z w32 (of_z w32 r)
-result_is r det e s t f g h i j q =
-    let q' : r ≡ nearest ((det *ℤ s) +ℤ (e *ℤ (t -ℤ s))) det = simp to_z-of_z at q in
-    sym q' ∙ sym (to_z-of_z f)
+ratio_back : {P : Type 0} (m n : ℤ) → FitsSigned w64 m → FitsSigned w64 n → P ↔ ((pos 0 ≤ℤ to_z w64 (of_z w64 m)) × (to_z w64 (of_z w64 m) ≤ℤ to_z w64 (of_z w64 n))) → P ↔ ((pos 0 ≤ℤ m) × (m ≤ℤ n))
+ratio_back m n f g e = simp to_z-of_z at e
 
-x_fits : (p : Pt) → InLimit p → FitsSigned w32 p.x
-x_fits p h = omega (arith, ints)
-
-y_fits : (p : Pt) → InLimit p → FitsSigned w32 p.y
-y_fits p h = omega (arith, ints)
-
-low : (x : ℤ) → FitsSigned w64 x → lt_z (to_z w64 (of_z w64 x)) (pos 0) ≡ false → pos 0 ≤ℤ x
-low x f h = omega (arith, ints)
-
-high : (x y : ℤ) → FitsSigned w64 x → FitsSigned w64 y → lt_z (to_z w64 (of_z w64 y)) (to_z w64 (of_z w64 x)) ≡ false → x ≤ℤ y
-high x y f g h = omega (arith, ints)
+nearest_is : (z n det e s t : ℤ) → FitsSigned w64 det → FitsSigned w64 e → z ≡ (to_z w64 (of_z w64 det) *ℤ s) +ℤ (to_z w64 (of_z w64 e) *ℤ (t -ℤ s)) → n ≡ to_z w64 (of_z w64 det) → nearest ((det *ℤ s) +ℤ (e *ℤ (t -ℤ s))) det ≡ nearest z n
+nearest_is z n det e s t f g h k =
+    let h' : z ≡ (det *ℤ s) +ℤ (e *ℤ (t -ℤ s)) = simp to_z-of_z at h in
+    let k' : n ≡ det = simp to_z-of_z at k in
+    rw (h', k') refl
 
 inner : (p q : Pt) → Some p ≡ Some q → p ≡ q
 inner p q e = cc
 
-pub returns : goal.returns
-returns c p =
-    let ex = result_is _ _ _ _ _ (record { sfits = c.between-x.type_inv }) c.ranges.det c.ranges.e (x_fits c.args.s.now.a c.requires.s_in.a_in) (x_fits c.args.s.now.b c.requires.s_in.b_in) c.between-x.ensures in
-    let ey = result_is _ _ _ _ _ (record { sfits = c.between-y.type_inv }) c.ranges.det c.ranges.e (y_fits c.args.s.now.a c.requires.s_in.a_in) (y_fits c.args.s.now.b c.requires.s_in.b_in) c.between-y.ensures in (
-      λ t. let s = inner _ p t in record {
-        e_low = low _ c.ranges.e c.if-e-lt0.false;
-        e_high = high _ _ c.ranges.e c.ranges.det c.if-e-det.false;
-        f_low = low _ c.ranges.f c.if-f-lt0.false;
-        f_high = high _ _ c.ranges.f c.ranges.det c.if-f-det.false;
-        x_is = ex ∙ ap (λ (q : Pt). q.x) s;
-        y_is = ey ∙ ap (λ (q : Pt). q.y) s;
-      },
-      λ h. ap (λ (q : Pt). Some q) (point _ _ p (sym ex ∙ h.x_is) (sym ey ∙ h.y_is)),
+point : (x y : ℤ) (q : Pt) → x ≡ q.x → y ≡ q.y → (let r : Pt = record { x = x; y = y } in r ≡ q)
+point x y q e f = λ i. record { x = e i; y = f i }
+
+pub returns-then-is_ratio-2 : goal.returns-then-is_ratio-2
+returns-then-is_ratio-2 c p =
+    let s = c.args.s.now in
+    let r = c.point_at.result in
+    let q = c.point_at.ensures in
+    let we = (ratio_back c.args.e c.args.det c.ranges.e c.ranges.det c.is_ratio.ensures).0 c.if-is_ratio.true in
+    let wf = (ratio_back c.args.f c.args.det c.ranges.f c.ranges.det c.is_ratio-then-is_ratio.ensures).0 c.if-is_ratio-2.true in
+    let x = nearest_is r.x r.n c.args.det c.args.e s.a.x s.b.x c.ranges.det c.ranges.e q.x q.n in
+    let y = nearest_is r.y r.n c.args.det c.args.e s.a.y s.b.y c.ranges.det c.ranges.e q.y q.n in (
+      λ t.
+          let o : pixel (point_of r) ≡ p = sym c.pixel.ensures ∙ inner _ p t in
+          record { e_low = we.0; e_high = we.1; f_low = wf.0; f_high = wf.1; x_is = x ∙ ap (λ (u : Pt). u.x) o; y_is = y ∙ ap (λ (u : Pt). u.y) o },
+      λ h. ap (λ (u : Pt). Some u) (c.pixel.ensures ∙ point _ _ p (sym x ∙ h.x_is) (sym y ∙ h.y_is)),
     )
-  where
-    point : (x y : ℤ) (q : Pt) → x ≡ q.x → y ≡ q.y → (let r : Pt = record { x = x; y = y } in r ≡ q)
-    point x y q e f = λ i. record { x = e i; y = f i }

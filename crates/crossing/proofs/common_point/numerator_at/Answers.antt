@@ -3,12 +3,12 @@ use Rattle.std.proofs.Math.IntN.{ℤ, pos, neg_ℤ, ◌+ℤ◌, ◌-ℤ◌, ◌*
 use Rattle.std.specs.Prelude.{◌≤ℤ◌}
 use Rattle.std.specs.Int.{w128}
 use Rattle.std.proofs.lemmas.Int.{ints}
-use Rattle.geom.specs.Limit.{IsWithin, coordinate_limit}
+use Rattle.geom.specs.Limit.{IsQuotientWithin, IsWithin, coordinate_limit}
 use Rattle.geom.proofs.Integers.{linear, mul_nonneg}
 use Rattle.geom.proofs.Fraction.{gap_is, from_gap}
 use Rattle.geom.proofs.Bounds.{within_room, product_within, difference_within, fits_64, fits_128}
 use Rattle.geom.proofs.Identity.{var, ◌⊕◌, ◌⊖◌, ◌⊗◌, ring}
-use Rattle.crossing.proofs.common_point.between.Goals as goal
+use Rattle.crossing.proofs.common_point.numerator_at.Goals as goal
 
 first_is : (det start s r : ℤ) → IsWithin (2 ^ 59) det → IsWithin (2 ^ 28) start → s ≡ to_z w32 (of_z w32 start) → r ≡ to_z w64 (of_z w64 det) *ℤ to_z w64 (of_z w64 s) → r ≡ det *ℤ start
 first_is det start s r h k e f =
@@ -63,21 +63,16 @@ all det e start end s d r q h lo hi j k a b f g =
     let k' = within_room end k in
     sum_fits det (det *ℤ start) (e *ℤ (end -ℤ start)) r q h (product_within (2 ^ 59) (2 ^ 28) det start h j') (first_is det start s r h j' a f, rest_is det e start end d q h lo hi j' k' b g) (inside det e start end lo hi j k)
 
-det_back : (det : ℤ) → IsWithin (2 ^ 59) det → to_z w64 (of_z w64 det) ≡ det
-det_back det h = omega (arith, ints)
+pub overflow_add-result : goal.overflow_add-result
+overflow_add-result c = (all c.args.det c.args.e c.args.start c.args.end _ _ _ _ c.requires.det_small c.requires.low c.requires.high c.requires.start_in c.requires.end_in c.from.ensures c.difference.ensures c.wide_product-first.ensures c.wide_product-rest.ensures).0
 
-pub overflow_add-first : goal.overflow_add-first
-overflow_add-first c = (all c.args.det c.args.e c.args.start c.args.end _ _ _ _ c.requires.det_small c.requires.low c.requires.high c.requires.start_in c.requires.end_in c.from.ensures c.difference.ensures c.wide_product-first.ensures c.wide_product-rest.ensures).0
+sum_is : (r x : ℤ) → r ≡ x → (det : ℤ) → (det *ℤ neg_ℤ (pos coordinate_limit)) ≤ℤ x → x ≤ℤ (det *ℤ pos coordinate_limit) → IsQuotientWithin coordinate_limit r det
+sum_is r x e det h k = rw e (record { low = h; high = k })
 
-pub nearest-requires-clause-low : goal.nearest-requires-clause-low
-nearest-requires-clause-low c = rw (det_back c.args.det c.requires.det_small, (all c.args.det c.args.e c.args.start c.args.end _ _ _ _ c.requires.det_small c.requires.low c.requires.high c.requires.start_in c.requires.end_in c.from.ensures c.difference.ensures c.wide_product-first.ensures c.wide_product-rest.ensures).1)
-    (inside c.args.det c.args.e c.args.start c.args.end c.requires.low c.requires.high c.requires.start_in c.requires.end_in).0
+pub returns-clause-value : goal.returns-clause-value
+returns-clause-value c = (all c.args.det c.args.e c.args.start c.args.end _ _ _ _ c.requires.det_small c.requires.low c.requires.high c.requires.start_in c.requires.end_in c.from.ensures c.difference.ensures c.wide_product-first.ensures c.wide_product-rest.ensures).1
 
-pub nearest-requires-clause-high : goal.nearest-requires-clause-high
-nearest-requires-clause-high c = rw (det_back c.args.det c.requires.det_small, (all c.args.det c.args.e c.args.start c.args.end _ _ _ _ c.requires.det_small c.requires.low c.requires.high c.requires.start_in c.requires.end_in c.from.ensures c.difference.ensures c.wide_product-first.ensures c.wide_product-rest.ensures).1)
-    (inside c.args.det c.args.e c.args.start c.args.end c.requires.low c.requires.high c.requires.start_in c.requires.end_in).1
-
-pub returns : goal.returns
-returns c =
-    let f : FitsSigned w32 c.nearest.result = record { sfits = c.nearest.type_inv } in
-    to_z-of_z f ∙ rw (det_back c.args.det c.requires.det_small, (all c.args.det c.args.e c.args.start c.args.end _ _ _ _ c.requires.det_small c.requires.low c.requires.high c.requires.start_in c.requires.end_in c.from.ensures c.difference.ensures c.wide_product-first.ensures c.wide_product-rest.ensures).1) at c.nearest.ensures
+pub returns-clause-within : goal.returns-clause-within
+returns-clause-within c =
+    let b = inside c.args.det c.args.e c.args.start c.args.end c.requires.low c.requires.high c.requires.start_in c.requires.end_in in
+    sum_is _ _ (all c.args.det c.args.e c.args.start c.args.end _ _ _ _ c.requires.det_small c.requires.low c.requires.high c.requires.start_in c.requires.end_in c.from.ensures c.difference.ensures c.wide_product-first.ensures c.wide_product-rest.ensures).1 c.args.det b.0 b.1

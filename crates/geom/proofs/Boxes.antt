@@ -1,0 +1,45 @@
+-- Boxes: what their tests decide, and the box of a segment.
+use Rattle.std.proofs.Common.{arith}
+use Rattle.std.proofs.lemmas.Int.{by_lt_z}
+use lib.IntN.{ℤ, pos, ◌*ℤ◌}
+use lib.Signed.{◌<ℤ◌, ◌≤ℤ◌}
+use Rattle.geom.specs.declared.rect.Rect.{Rect}
+use Rattle.geom.specs.Box.{ShareAPoint}
+use Rattle.geom.proofs.Integers.{linear, expand, unscale_le}
+
+-- two closed intervals have a number in common, the greater of their least ones
+pub record Common (a b c d : ℤ) : Type 0 where
+  pub at : ℤ
+  pub a_from : a ≤ℤ at
+  pub b_to : at ≤ℤ b
+  pub c_from : c ≤ℤ at
+  pub d_to : at ≤ℤ d
+
+common : (a b c d : ℤ) → a ≤ℤ b → c ≤ℤ d → a ≤ℤ d → c ≤ℤ b → Common a b c d
+common a b c d p q r s = by_lt_z a c
+    (λ h. record { at = c; a_from = omega (arith, linear); b_to = s; c_from = omega (arith, linear); d_to = q })
+    (λ h. record { at = a; a_from = omega (arith, linear); b_to = p; c_from = h; d_to = r })
+
+once_from : (a x : ℤ) → a ≤ℤ x → (pos 1 *ℤ a) ≤ℤ x
+once_from a x h = simp expand (omega (arith, linear))
+
+once_to : (a x : ℤ) → x ≤ℤ a → x ≤ℤ (pos 1 *ℤ a)
+once_to a x h = simp expand (omega (arith, linear))
+
+pub share_out : (r s : Rect) → (r.lo.x ≤ℤ s.hi.x) × (s.lo.x ≤ℤ r.hi.x) → (r.lo.y ≤ℤ s.hi.y) × (s.lo.y ≤ℤ r.hi.y) → ShareAPoint r.lo r.hi s.lo s.hi
+share_out r s p q =
+    let u = common r.lo.x r.hi.x s.lo.x s.hi.x r.wide s.wide p.0 p.1 in
+    let v = common r.lo.y r.hi.y s.lo.y s.hi.y r.high s.high q.0 q.1 in (
+      record { x = u.at; y = v.at; n = pos 1; positive = omega (arith, linear) },
+      record { left = once_from _ _ u.a_from; right = once_to _ _ u.b_to; bottom = once_from _ _ v.a_from; top = once_to _ _ v.b_to },
+      record { left = once_from _ _ u.c_from; right = once_to _ _ u.d_to; bottom = once_from _ _ v.c_from; top = once_to _ _ v.d_to },
+    )
+
+over : (n z a b : ℤ) → pos 0 <ℤ n → (n *ℤ a) ≤ℤ z → z ≤ℤ (n *ℤ b) → a ≤ℤ b
+over n z a b p h k = unscale_le a b n (omega (arith, linear)) p
+
+pub share_in : (r s : Rect) → ShareAPoint r.lo r.hi s.lo s.hi → ((r.lo.x ≤ℤ s.hi.x) × (s.lo.x ≤ℤ r.hi.x)) × ((r.lo.y ≤ℤ s.hi.y) × (s.lo.y ≤ℤ r.hi.y))
+share_in r s (z, h, k) = (
+  (over z.n z.x r.lo.x s.hi.x z.positive h.left k.right, over z.n z.x s.lo.x r.hi.x z.positive k.left h.right),
+  (over z.n z.y r.lo.y s.hi.y z.positive h.bottom k.top, over z.n z.y s.lo.y r.hi.y z.positive k.bottom h.top),
+)
