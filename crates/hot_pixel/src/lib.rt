@@ -1,0 +1,2 @@
+//! The hot pixels that a tile owns.
+#![tactic(auto)]
