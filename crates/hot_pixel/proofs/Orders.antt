@@ -151,3 +151,9 @@ edge_less e f h = told (IsEdgeBefore e f) (e ≡ f) (IsEdgeBefore f e) (edge_cmp
 
 pub edges_once : (xs ys zs : List Edge) → IsPermutation xs ys → IsSorted edge_cmp ys → IsFiltered (DiffersFromLast same_edge) [] ys zs → IsSortedOnce edge_cmp xs zs
 edges_once = sorted_once edge_total edge_equivalence edge_ties same_edge_true
+
+pub points_ascending : (ps : List Pt) → AllPairs (λ p q. pt_cmp p q ≡ Less) ps → AllPairs IsBefore ps
+points_ascending ps h = λ i j d a b. pt_less (get_or ps i d) (get_or ps j d) (h i j d a b)
+
+pub edges_ascending : (es : List Edge) → AllPairs (λ e f. edge_cmp e f ≡ Less) es → AllPairs IsEdgeBefore es
+edges_ascending es h = λ i j d a b. edge_less (get_or es i d) (get_or es j d) (h i j d a b)
