@@ -1,0 +1,79 @@
+//! The boxes of segments.
+
+ghost use Rattle.std.specs.Prelude.{◌≡◌, ◌↔◌, IsTrue, int_le};
+ghost use Rattle.std.specs.Int.{int_min, int_max};
+ghost use Rattle.geom.specs.declared.point.Pt.{Pt};
+ghost use Rattle.geom.specs.Hot.{CrossIn};
+ghost use Rattle.crossing.specs.Boxes.{boxes_meet, spans_meet, IsInBox};
+
+use geom::Seg;
+
+// Whether the lesser one of a and b isn't past the greater one of c and d.
+fn reaches(a: i32, b: i32, c: i32, d: i32) -> bool
+    ensures { result ≡ int_le (int_min a b) (int_max c d) }
+{
+    let low = a.min(b);
+    let high = c.max(d);
+    low <= high
+}
+
+#[tactic(auto, unfolding(crate::specs::Boxes::spans_meet))]
+// Whether the numbers from a to b and those from c to d have one in common.
+fn spans_meet(a: i32, b: i32, c: i32, d: i32) -> bool
+    ensures { result ≡ spans_meet a b c d }
+{
+    reaches(a, b, c, d) && reaches(c, d, a, b)
+}
+
+// Whether two segments' columns and rows meet.
+fn boxes_meet(s: &Seg, t: &Seg) -> bool
+    ensures { result ≡ boxes_meet s.now t.now }
+{
+    spans_meet(s.a.x, s.b.x, t.a.x, t.b.x) && spans_meet(s.a.y, s.b.y, t.a.y, t.b.y)
+}
+
+/// Whether the closed boxes of two segments share a point. Where they don't, `cross` answers None.
+pub fn may_meet(s: &Seg, t: &Seg) -> bool
+    ensures value { result ≡ boxes_meet s.now t.now }
+    ensures exact { IsTrue result ↔ ((c : Pt) × IsInBox s.now c × IsInBox t.now c) }
+    ensures crossing { (c : Pt) → CrossIn s.now t.now c → IsTrue result }
+{
+    boxes_meet(s, t)
+}
+
+#[cfg(test)]
+mod tests {
+    use super::*;
+    use geom::{Pt, Source};
+
+    fn segment(a: (i8, i8), b: (i8, i8)) -> Option<Seg> {
+        let start = Pt {
+            x: i32::from(a.0),
+            y: i32::from(a.1),
+        };
+        let end = Pt {
+            x: i32::from(b.0),
+            y: i32::from(b.1),
+        };
+        Seg::new(start, end, Source::A)
+    }
+
+    #[test]
+    fn meeting_boxes(rt: HostRuntime) {
+        let table = [
+            ((0, 0), (4, 4), (4, 4), (8, 0), true),
+            ((0, 4), (4, 0), (5, 5), (4, 4), true),
+            ((0, 0), (4, 4), (5, 0), (8, 4), false),
+            ((0, 0), (4, 4), (0, 5), (4, 9), false),
+            ((0, 0), (9, 9), (8, 1), (9, 0), true),
+            ((9, 9), (0, 0), (3, 3), (3, 4), true),
+        ];
+        for (a, b, c, d, meet) in table {
+            let (Some(s), Some(t)) = (segment(a, b), segment(c, d)) else {
+                panic!(rt; "a segment of one point")
+            };
+            assert_eq!(rt; may_meet(&s, &t), meet);
+            assert_eq!(rt; may_meet(&t, &s), meet);
+        }
+    }
+}

@@ -1,0 +1,7 @@
+use Rattle.std.proofs.Common.{take}
+use Rattle.hot_pixel.specs.Candidates.{chosen}
+use Rattle.hot_pixel.specs.Lines.{AreEachLine}
+use Rattle.hot_pixel.proofs.lines.each_line.Given as goal
+
+abbrev pub invariant-loop-number : goal.invariant-loop-number
+invariant-loop-number g l = AreEachLine (chosen l.segments (take l.number-index l.numbers)) l.list.items

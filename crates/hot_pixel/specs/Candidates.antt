@@ -1,0 +1,23 @@
+-- Candidates: some segments of a list, by their numbers (own).
+use Rattle.std.specs.Prelude.{◌≡◌, ℕ, ◌+◌, ◌<◌, All, Contains, List, [], ◌∷◌, Some, count_by, length, slice_get}
+use Rattle.std.specs.List.{filter_map}
+use Rattle.std.specs.List.Sorted.{IsStrictlyIncreasing}
+use Rattle.geom.specs.declared.point.Pt.{Pt}
+use Rattle.geom.specs.declared.segment.Seg.{Seg}
+use Rattle.geom.specs.Route.{Meets}
+use Rattle.crossing.specs.Boxes.{boxes_meet}
+
+-- the segments of these numbers
+abbrev pub chosen : List Seg → List ℕ → List Seg
+chosen segments numbers = filter_map (λ k. slice_get segments k) numbers
+
+-- numbers of segments, ascending and each once, those of all segments that meet an owned pixel among them
+pub record AreCandidates (Owns : Pt → Type 0) (segments : List Seg) (numbers : List ℕ) : Type 0 where
+  pub ascending : IsStrictlyIncreasing numbers
+  pub below : All (λ k. k < length segments) numbers
+  pub complete : (k : ℕ) (s : Seg) (c : Pt) → slice_get segments k ≡ Some s → Meets s c → Owns c → Contains numbers k
+
+-- the number of pairs of segments whose boxes share a point
+abbrev pub meeting_pairs : List Seg → ℕ
+meeting_pairs [] = 0
+meeting_pairs (s ∷ ss) = count_by (boxes_meet s) ss + meeting_pairs ss

@@ -1,0 +1,60 @@
+-- Lines: segments without their direction and layer, as edges.
+use Rattle.std.specs.Prelude.{◌≡◌, ◌⊎◌, ◌↔◌, ℕ, ◌+◌, Bool, ◌&&◌, Contains, List, [], ◌∷◌, count_by}
+use Rattle.geom.specs.declared.point.Pt.{Pt}
+use Rattle.geom.specs.declared.rect.Rect.{Rect}
+use Rattle.geom.specs.declared.segment.Seg.{Seg}
+use Rattle.geom.specs.declared.edge.Edge.{Edge}
+use Rattle.geom.specs.Hot.{CrossIn}
+use Rattle.crossing.specs.Boxes.{spans_meet}
+use Rattle.hot_pixel.specs.Rects.{IsIn}
+
+-- e has the ends of s
+abbrev pub IsLine : Edge → Seg → Type 0
+IsLine e s = ((e.p ≡ s.a) × (e.q ≡ s.b)) ⊎ ((e.p ≡ s.b) × (e.q ≡ s.a))
+
+-- the line of each segment, in their order
+abbrev pub AreEachLine : List Seg → List Edge → Type 0
+AreEachLine [] [] = Unit {0}
+AreEachLine [] (e ∷ es) = ⊥
+AreEachLine (s ∷ ss) [] = ⊥
+AreEachLine (s ∷ ss) (e ∷ es) = IsLine e s × AreEachLine ss es
+
+-- the lines of the segments, and no others
+pub record AreLines (segments : List Seg) (lines : List Edge) : Type 0 where
+  pub only : (e : Edge) → Contains lines e → (s : Seg) × Contains segments s × IsLine e s
+  pub all : (s : Seg) → Contains segments s → (e : Edge) × Contains lines e × IsLine e s
+
+-- segments on the two lines cross in c
+pub record CrossAt (e f : Edge) (c : Pt) : Type 0 where
+  pub cross : (s t : Seg) → IsLine e s → IsLine f t → CrossIn s t c
+
+-- the closed boxes of the two lines have a point in common
+abbrev pub lines_meet : Edge → Edge → Bool
+lines_meet e f = spans_meet e.p.x e.q.x f.p.x f.q.x && spans_meet e.p.y e.q.y f.p.y f.q.y
+
+-- the number of pairs of lines whose boxes share a point
+abbrev pub line_pairs : List Edge → ℕ
+line_pairs [] = 0
+line_pairs (e ∷ es) = count_by (lines_meet e) es + line_pairs es
+
+-- ---- lists of found pixels
+
+-- new has the points of old, and c too where the tile has it
+pub record HasPushed (tile : Rect) (c : Pt) (old new : List Pt) : Type 0 where
+  pub same : (d : Pt) → Contains new d ↔ (Contains old d ⊎ ((c ≡ d) × IsIn tile d))
+
+-- found has the ends of the lines that lie in the tile
+pub record HasEnds (tile : Rect) (lines : List Edge) (found : List Pt) : Type 0 where
+  pub same : (c : Pt) → Contains found c ↔ (((e : Edge) × Contains lines e × ((e.p ≡ c) ⊎ (e.q ≡ c))) × IsIn tile c)
+
+-- new has the points of old, and the crossings of e with the lines that lie in the tile
+pub record HasCrossed (tile : Rect) (e : Edge) (lines : List Edge) (old new : List Pt) : Type 0 where
+  pub kept : (c : Pt) → Contains old c → Contains new c
+  pub only : (c : Pt) → Contains new c → Contains old c ⊎ (((f : Edge) × Contains lines f × CrossAt f e c) × IsIn tile c)
+  pub all : (f : Edge) (c : Pt) → Contains lines f → CrossAt f e c → IsIn tile c → Contains new c
+
+-- new has the points of old, and the crossings of the lines that lie in the tile
+pub record HasAllCrossed (tile : Rect) (lines : List Edge) (old new : List Pt) : Type 0 where
+  pub kept : (c : Pt) → Contains old c → Contains new c
+  pub only : (c : Pt) → Contains new c → Contains old c ⊎ (((e : Edge) × (f : Edge) × Contains lines e × Contains lines f × CrossAt e f c) × IsIn tile c)
+  pub all : (e f : Edge) (c : Pt) → Contains lines e → Contains lines f → CrossAt e f c → IsIn tile c → Contains new c

@@ -1,0 +1,98 @@
+//! Lists of the pixels that a tile owns.
+
+ghost use Rattle.std.specs.Prelude.{◌≡◌, ◌↔◌, ◌+◌, ◌≤◌, ◌≤ℤ◌, All, AllPairs, Contains, IfOk, IfSome, IsTrue, OnOk, Some, count_by};
+ghost use Rattle.geom.specs.declared.point.Pt.{Pt};
+ghost use Rattle.geom.specs.Limit.{AreInLimit};
+ghost use Rattle.geom.specs.Order.{IsBefore};
+ghost use Rattle.hot_pixel.specs.Lines.{lines_meet, CrossAt, HasCrossed, HasEnds, HasPushed};
+ghost use Rattle.hot_pixel.specs.Rects.{holds, is_between, IsIn};
+
+use crate::count::Count;
+use crate::lines::on_line;
+use crossing::{cross, may_meet};
+use geom::{Edge, NoMemory, Pt, Rect};
+use std::alloc::Allocator;
+use std::sync::ledger::Ledger;
+
+/// Whether x is from low to high.
+fn is_between(low: i32, x: i32, high: i32) -> bool
+    ensures { result ≡ is_between low x high }
+{
+    low <= x && x <= high
+}
+
+/// Whether a point's column and row are the rectangle's.
+fn holds(tile: &Rect, p: Pt) -> bool
+    ensures { result ≡ holds tile.now p }
+{
+    is_between(tile.lo.x, p.x, tile.hi.x) && is_between(tile.lo.y, p.y, tile.hi.y)
+}
+
+/// Whether a rectangle has a point.
+fn is_in(tile: &Rect, p: Pt) -> bool
+    ensures { IsTrue result ↔ IsIn tile.now p }
+{
+    holds(tile, p)
+}
+
+/// Adds a pixel, if the tile has it.
+fn push_in<A: Allocator>(found: &mut Vec<Pt, A>, tile: &Rect, pixel: Pt) -> Result<(), NoMemory>
+    ensures { OnOk result (HasPushed tile.now pixel found.old.items found.new.items) }
+{
+    if is_in(tile, pixel) {
+        found.push(pixel)?;
+    }
+    Ok(())
+}
+
+/// The ends of the lines that lie in the tile.
+pub(crate) fn ends_in<A: Allocator>(
+    alloc: A,
+    tile: &Rect,
+    lines: &[Edge],
+) -> Result<Vec<Pt, A>, NoMemory>
+    ensures { IfOk result (λ v. HasEnds tile.now lines.now v.items) }
+{
+    let mut found = Vec::new(alloc);
+    for line in lines {
+        push_in(&mut found, tile, line.p)?;
+        push_in(&mut found, tile, line.q)?;
+    }
+    Ok(found)
+}
+
+/// The same pixels, ascending and each once.
+pub(crate) fn ascending<A: Allocator>(mut pixels: Vec<Pt, A>) -> Vec<Pt, A>
+    ensures order { AllPairs IsBefore result.items }
+    ensures same { (c : Pt) → Contains result.items c ↔ Contains pixels.items c }
+{
+    pixels.sort_unstable();
+    pixels.dedup();
+    pixels
+}
+
+/// Adds the crossings of a line with other lines that lie in the tile. It ticks at each ask of `cross`.
+pub(crate) fn cross_all<L: Ledger, A: Allocator>(
+    tile: &Rect,
+    line: &Edge,
+    others: &[Edge],
+    found: &mut Vec<Pt, A>,
+    count: &mut Count<L>,
+) -> Result<(), NoMemory>
+    requires line_in { AreInLimit line.now.p line.now.q }
+    requires others_in { All (λ e. AreInLimit e.p e.q) others.now }
+    ensures crossed { OnOk result (HasCrossed tile.now line.now others.now found.old.items found.new.items) }
+    ensures cost { count.new ≤ count.old + count_by (lines_meet line.now) others.now }
+{
+    let s = on_line(line);
+    for other in others {
+        let t = on_line(other);
+        if may_meet(&s, &t) {
+            count.tick();
+            if let Some(pixel) = cross(&s, &t) {
+                push_in(found, tile, pixel)?;
+            }
+        }
+    }
+    Ok(())
+}
