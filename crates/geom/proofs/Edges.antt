@@ -23,6 +23,10 @@ edge_path e f h k = path_j (λ (p : Pt) _. (q : Pt) → e.q ≡ q → (o : IsBef
 pub before_cases : (p q : Pt) → IsBefore p q → (p.x <ℤ q.x) ⊎ ((p.x ≡ q.x) × (p.y <ℤ q.y))
 before_cases p q h = by_lt_z p.x q.x (λ l. inl l) (λ l. let e : p.x ≡ q.x = (let c = h.column in omega (arith, linear)) in inr (e, h.row e))
 
+pub before_by_cases : (p q : Pt) → (p.x <ℤ q.x) ⊎ ((p.x ≡ q.x) × (p.y <ℤ q.y)) → IsBefore p q
+before_by_cases p q (inl l) = record { column = omega (arith, linear); row = λ e. absurd (omega (arith, linear)) }
+before_by_cases p q (inr l) = record { column = (let e = l.0 in omega (arith, linear)); row = λ e. l.1 }
+
 after_none : (p q : Pt) → (p.x <ℤ q.x) ⊎ ((p.x ≡ q.x) × (p.y <ℤ q.y)) → IsBefore q p → ⊥
 after_none p q (inl l) h = let c = h.column in omega (arith, linear)
 after_none p q (inr l) h = let r = h.row (sym l.0) in let s = l.1 in omega (arith, linear)

@@ -31,7 +31,7 @@ pub record IsNext (directed : List DirectedEdge) (u v w : Pt) : Type 0 where
 -- The rule closes into cycles: no edge stands in both directions, no two neighbours of a vertex lie in one direction from it,
 -- and at the end of each edge the first neighbour met is reached by an edge that leaves.
 pub record Closes (directed : List DirectedEdge) : Type 0 where
-  pub one_way : AreDirected directed
+  pub are_directed : AreDirected directed
   pub spread : (v a b : Pt) → IsNeighbour directed v a → IsNeighbour directed v b → a ≢ b → IsSooner v a b ⊎ IsSooner v b a
   pub turns : (u v : Pt) → Contains directed (from_to u v) → (w : Pt) × Contains directed (from_to v w) × IsNext directed u v w
 

@@ -1,0 +1,17 @@
+pub mod Lists
+pub mod Pieces
+pub mod Texts
+pub mod Walking
+pub mod Cycles
+pub mod Stacks
+pub mod Cutting
+pub mod Rounds
+pub mod Multiply
+pub mod Products
+pub mod Turns
+pub mod Signed
+pub mod Spokes
+pub mod Groups
+pub mod Ends
+pub mod Linking
+pub mod Choice

@@ -1,0 +1,65 @@
+-- The pieces of a ring have its edges, each once, visit no vertex twice, and have three points or more.
+use Rattle.std.proofs.Common.{◌≡◌, ℕ, suc, ◌≤◌, List, [], ◌∷◌, ◌++◌, length, refl, sym, ap, inl, inr, arith}
+use Rattle.std.specs.Prelude.{flat_map, IsPermutation, count_by, Bool}
+use Rattle.std.proofs.lemmas.List.Sorted.{IsPermutation-sym, IsPermutation-trans, IsPermutation-append_right, sum_by-IsPermutation}
+use Rattle.geom.specs.declared.point.Pt.{Pt}
+use Rattle.geom.specs.declared.directed.DirectedEdge.{DirectedEdge}
+use Rattle.geom.specs.ListOrder.{IsRotation}
+use Rattle.geom.specs.Directed.{from_to}
+use Rattle.geom.specs.Rings.{ring_edges, IsCut, AreRings}
+use Rattle.geom.specs.Rings.IsCut.{whole, taken}
+use Rattle.polygonize.proofs.Lists.{same_order, around-rotation, around-cut, in_permutation, in_left, in_right}
+use Rattle.geom.proofs.Lists.{In}
+
+append-nil : {X : Type 0} (xs : List X) → xs ++ [] ≡ xs
+append-nil [] = refl
+append-nil (x ∷ xs) = ap (λ t. x ∷ t) (append-nil xs)
+
+pub rotated_edges : (ring turned : List Pt) → IsRotation ring turned → IsPermutation (ring_edges ring) (ring_edges turned)
+rotated_edges ring turned r = IsPermutation-trans _ _ _ (same_order (ring_edges ring) (ring_edges (r.front ++ r.back)) (ap ring_edges r.was))
+    (IsPermutation-trans _ _ _ (around-rotation from_to r.front r.back) (same_order (ring_edges (r.back ++ r.front)) (ring_edges turned) (ap ring_edges (sym r.is))))
+
+-- the pieces have the ring's edges, each once
+pub cut_edges : {ring : List Pt} {pieces : List (List Pt)} → IsCut ring pieces → IsPermutation (ring_edges ring) (flat_map ring_edges pieces)
+cut_edges (whole {ring = r} s) = same_order (ring_edges r) (ring_edges r ++ []) (sym (append-nil (ring_edges r)))
+cut_edges (taken {ring = r} {pieces = ps} front v mid back e s c) =
+    IsPermutation-trans _ _ _ (same_order (ring_edges r) (ring_edges ((front ++ v ∷ mid) ++ v ∷ back)) (ap ring_edges e))
+    (IsPermutation-trans _ _ _ (around-cut from_to front v mid back)
+    (IsPermutation-append_right (ring_edges (v ∷ mid)) (ring_edges (front ++ v ∷ back)) (flat_map ring_edges ps) (cut_edges c)))
+
+-- ---- each piece has three points or more
+abbrev pub OneWay : List DirectedEdge → Type 0
+OneWay ds = (u v : Pt) → In (from_to u v) ds → ¬ (In (from_to v u) ds)
+
+three : (piece : List Pt) → ¬ (piece ≡ []) → OneWay (ring_edges piece) → 3 ≤ length piece
+three [] n o = absurd (n refl)
+three (p ∷ []) n o = absurd (o p p (inl refl) (inl refl))
+three (p ∷ q ∷ []) n o = absurd (o p q (inl refl) (inr (inl refl)))
+three (p ∷ q ∷ r ∷ rest) n o = long (length rest)
+  where
+    long : (n : ℕ) → 3 ≤ suc (suc (suc n))
+    long n = omega arith
+
+not_nil : (front : List Pt) (v : Pt) (back : List Pt) → ¬ (front ++ v ∷ back ≡ [])
+not_nil [] v back e = cc
+not_nil (x ∷ front) v back e = cc
+
+-- every member of the list, by recursion
+abbrev pub Each : {X : Type 0} → (X → Type 0) → List X → Type 0
+Each P [] = Unit {0}
+Each P (x ∷ xs) = P x × Each P xs
+
+pub cut_long : {ring : List Pt} {pieces : List (List Pt)} → IsCut ring pieces → ¬ (ring ≡ []) → OneWay (ring_edges ring) → Each (λ p. 3 ≤ length p) pieces
+cut_long (whole {ring = r} s) n o = (three r n o, tt)
+cut_long (taken {ring = r} {pieces = ps} front v mid back e s c) n o = (
+  three (v ∷ mid) (λ q. cc) (λ a b i j. o a b (inside _ (in_left (ring_edges (v ∷ mid)) (ring_edges (front ++ v ∷ back)) _ i)) (inside _ (in_left (ring_edges (v ∷ mid)) (ring_edges (front ++ v ∷ back)) _ j))),
+  cut_long c (not_nil front v back) (λ a b i j. o a b (inside _ (in_right (ring_edges (v ∷ mid)) (ring_edges (front ++ v ∷ back)) _ i)) (inside _ (in_right (ring_edges (v ∷ mid)) (ring_edges (front ++ v ∷ back)) _ j))),
+)
+  where
+    inside : (d : DirectedEdge) → In d (ring_edges (v ∷ mid) ++ ring_edges (front ++ v ∷ back)) → In d (ring_edges r)
+    inside d i = in_permutation _ _ d (IsPermutation-trans _ _ _ (IsPermutation-sym _ _ (around-cut from_to front v mid back)) (same_order _ _ (sym (ap ring_edges e)))) i
+
+-- ---- parity
+-- a count over the edges of the rings is that over the edges
+pub count_rings : (ds : List DirectedEdge) (rings : List (List Pt)) (test : DirectedEdge → Bool) → AreRings ds rings → count_by test (flat_map ring_edges rings) ≡ count_by test ds
+count_rings ds rings test r = sum_by-IsPermutation _ ds (flat_map ring_edges rings) r.together
