@@ -5,6 +5,7 @@
 mod edge;
 mod fault;
 mod op;
+mod pair;
 mod pixel;
 mod point;
 mod rational;
