@@ -59,3 +59,23 @@ joining c e n = by_lt_z c.x e.x
   where
     level : (c e : Pt) → c.x ≡ e.x → c.y ≡ e.y → c ≡ e
     level c e h k = λ i. record { x = h i; y = k i }
+
+-- any two points stand in the order, one way or the other, or are equal
+pub data PtOrder (p q : Pt) : Type 0 where
+  before : IsBefore p q → PtOrder p q
+  equal : p ≡ q → PtOrder p q
+  after : IsBefore q p → PtOrder p q
+
+pub pt_order : (p q : Pt) → PtOrder p q
+pt_order p q = by_lt_z p.x q.x
+    (λ l. before (record { column = omega (arith, linear); row = λ h. absurd (omega (arith, linear)) }))
+    (λ l. by_lt_z q.x p.x
+    (λ m. after (record { column = omega (arith, linear); row = λ h. absurd (omega (arith, linear)) }))
+    (λ m. by_lt_z p.y q.y
+    (λ d. before (record { column = m; row = λ h. d }))
+    (λ d. by_lt_z q.y p.y
+    (λ u. after (record { column = l; row = λ h. u }))
+    (λ u. equal (one_point p q (omega (arith, linear)) (omega (arith, linear)))))))
+  where
+    one_point : (p q : Pt) → p.x ≡ q.x → p.y ≡ q.y → p ≡ q
+    one_point p q h k = λ i. record { x = h i; y = k i }

@@ -12,6 +12,8 @@ pub mod Edges
 pub mod Lists
 pub mod Points
 pub mod Same
+pub mod Pairs
+pub mod PairLaws
 pub mod Hobby
 pub mod RouteLists
 pub mod Routes

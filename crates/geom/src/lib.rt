@@ -6,6 +6,7 @@ mod directed;
 mod edge;
 mod fault;
 mod op;
+mod pair;
 mod pixel;
 mod point;
 mod rational;
