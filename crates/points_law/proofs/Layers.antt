@@ -33,7 +33,7 @@ use Rattle.points_law.proofs.Choices.{◌⊕◌, ◌∧∧◌, par, run, rise, S
 use Rattle.points_law.proofs.ResultOfChoices.{Edges}
 use Rattle.points_law.proofs.Sums.{par_cong, par_same}
 use Rattle.points_law.proofs.Even.{same, same_is, same_refl, is_same, is_refl, by_test, not_true}
-use Rattle.points_law.proofs.Bridge.{par_is_odd, par_filter, left_back, right_back}
+use Rattle.points_law.proofs.Bridge.{par_is_odd, par_filter, left_back, right_back, holds_is}
 use Rattle.points_law.proofs.Result.{result_parity}
 use Rattle.points_law.proofs.Turn.{result_even}
 
@@ -264,3 +264,19 @@ module _ (op : Op) (cs : List Counted) (h : AreLayers cs) where
   pub result_has_even_degrees : HasEvenDegrees (result.result_edges op cs)
   result_has_even_degrees v = degree_is (result.result_edges op cs) v ∙ over_result (λ e. is v e.p ⊕ is v e.q)
       ∙ result_even edges all_edges (holds op) in_a in_b even_a even_b v
+
+  -- ---- what the laws round a vertex need: the result as a choice of edges
+  pub in_result_of : Edge → Bool
+  in_result_of e = in_result (holds op) in_a in_b edges e
+
+  pub edges_of_layers : Edges (edges_of cs)
+  edges_of_layers = edges_in cs h
+
+  pub result_is_even : Even in_result_of (edges_of cs)
+  unfolding edges in_result_of
+  result_is_even v = result_even edges all_edges (holds op) in_a in_b even_a even_b v
+
+  -- the operation holds at a point where the parity over the result is odd
+  pub holds_where_odd : (z : Point) → result.holds_at op cs z ≡ parity in_result_of (edges_of cs) z
+  unfolding edges in_result_of
+  holds_where_odd z = at_is z ∙ holds_is edges all_edges (holds op) (no_area op) in_a in_b even_a even_b z

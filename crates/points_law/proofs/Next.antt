@@ -124,7 +124,7 @@ no_before pf qf pg qg s h i = grind arith
 before_self : (p q s : Bool) → (p ≡ true → q ≡ false) → s ≡ false → (p ∧∧ q) ⊕ ((p ∧∧ p ⊕ q ∧∧ q) ∧∧ s) ≡ false
 before_self p q s h i = grind arith
 
-not_before_itself : (v : Pt) (e : Edge) → Ordered e → before v e e ≡ false
+pub not_before_itself : (v : Pt) (e : Edge) → Ordered e → before v e e ≡ false
 not_before_itself v e o = before_self (is v e.p) (is v e.q) (lt_z (pos 0) (slope e e)) (not_both e o v) (itself_flat e)
 
 drop_false : (x s : Bool) → x ⊕ s ≡ true → s ≡ false → x ≡ true

@@ -9,7 +9,7 @@ use lib.Signed.{◌<ℤ◌, ◌≤ℤ◌, lt_z, le_z}
 use borrow.Author.Differences.{ints}
 use Rattle.geom.specs.declared.point.Pt.{Pt}
 use Rattle.geom.specs.declared.edge.Edge.{Edge}
-use Rattle.geom.specs.Pixel.{Point}
+use Rattle.geom.specs.Holes.{left_of}
 use Rattle.geom.proofs.Lists.{In}
 use Rattle.points_law.proofs.Choices.{◌⊕◌, ◌∧∧◌, par, run, rise, Ordered, Small, Even, is, parity, counted, covers, above, K}
 use Rattle.points_law.proofs.ResultOfChoices.{Edges}
@@ -41,22 +41,19 @@ even_cover es h r ev k = par_cong (λ f. r f ∧∧ cv f k) (λ f. r f ∧∧ (l
     ∙ even_sum r es ev (λ w. le_z w.x k)
 
 -- ---- the point just left of a vertex
-abbrev pub left_of : Pt → Point
-left_of v = record { x = K *ℤ v.x -ℤ pos 1; y = K *ℤ v.y; n = K; positive = record { lt = tt } }
-
 left_low : (x : ℤ) → (K *ℤ (x -ℤ pos 1)) ≤ℤ (K *ℤ x -ℤ pos 1)
 left_low x = omega (arith, ints)
 
 left_high : (x : ℤ) → (K *ℤ x -ℤ pos 1) <ℤ (K *ℤ (x -ℤ pos 1 +ℤ pos 1))
 left_high x = omega (arith, ints)
 
-left_in : (v : Pt) → InColumn (left_of v) (v.x -ℤ pos 1)
+pub left_in : (v : Pt) → InColumn (left_of v) (v.x -ℤ pos 1)
 left_in v = record { low = left_low v.x; high = left_high v.x }
 
-lift_left : (kk r s o x y : ℤ) → (s *ℤ (kk *ℤ x -ℤ pos 1) +ℤ o *ℤ kk) -ℤ r *ℤ (kk *ℤ y) ≡ kk *ℤ ((s *ℤ x +ℤ o) -ℤ r *ℤ y) -ℤ s
+pub lift_left : (kk r s o x y : ℤ) → (s *ℤ (kk *ℤ x -ℤ pos 1) +ℤ o *ℤ kk) -ℤ r *ℤ (kk *ℤ y) ≡ kk *ℤ ((s *ℤ x +ℤ o) -ℤ r *ℤ y) -ℤ s
 lift_left kk r s o x y = simp expand (omega (arith, linear))
 
-small_rise : (s : ℤ) → negsuc 536870911 ≤ℤ s → s ≤ℤ pos 536870912 → (negsuc 2305843009213693951 ≤ℤ s) × (s ≤ℤ pos 2305843009213693952)
+pub small_rise : (s : ℤ) → negsuc 536870911 ≤ℤ s → s ≤ℤ pos 536870912 → (negsuc 2305843009213693951 ≤ℤ s) × (s ≤ℤ pos 2305843009213693952)
 small_rise s h i = omega (arith, ints)
 
 above_left : (f : Edge) (v : Pt) → Small f → ¬ (over_pt f v ≡ pos 0) → above f (left_of v) ≡ higher f v
@@ -67,10 +64,10 @@ if_chosen : (a c u w : Bool) → (a ≡ true → c ≡ true → u ≡ w) → a �
 if_chosen a c u w h = grind arith
 
 -- where no chosen edge comes to v from the left
-pub NoneFromLeft : (Edge → Bool) → List Edge → Pt → Type 0
+abbrev pub NoneFromLeft : (Edge → Bool) → List Edge → Pt → Type 0
 NoneFromLeft r es v = (f : Edge) → In f es → r f ≡ true → ¬ (v ≡ f.q)
 
-level_there : (es : List Edge) → Edges es → (v : Pt) → Vertex es v → (f : Edge) → In f es → cv f (v.x -ℤ pos 1) ≡ true → ¬ (v ≡ f.q) → ¬ (over_pt f v ≡ pos 0)
+pub level_there : (es : List Edge) → Edges es → (v : Pt) → Vertex es v → (f : Edge) → In f es → cv f (v.x -ℤ pos 1) ≡ true → ¬ (v ≡ f.q) → ¬ (over_pt f v ≡ pos 0)
 level_there es h v w f i c n z = no_end (vertex_end es h.noded v w f i (on_sloping f v (cv_run f (v.x -ℤ pos 1) c) (low_one f.p.x v.x (cv_low f (v.x -ℤ pos 1) c)) (high_one v.x f.q.x (cv_high f (v.x -ℤ pos 1) c)) z))
   where
     low_one : (p k : ℤ) → p ≤ℤ (k -ℤ pos 1) → p ≤ℤ k
@@ -87,7 +84,6 @@ level_there es h v w f i c n z = no_end (vertex_end es h.noded v w f i (on_slopi
     no_end (inr e) = n e
 
 pub parity_left : (es : List Edge) → Edges es → (r : Edge → Bool) → (v : Pt) → Vertex es v → NoneFromLeft r es v → parity r es (left_of v) ≡ west r es v
-unfolding NoneFromLeft
 parity_left es h r v w n = par_cong (λ f. r f ∧∧ counted f (left_of v)) (λ f. r f ∧∧ (cv f (v.x -ℤ pos 1) ∧∧ higher f v)) es
     (λ f i. ap (λ (t : Bool). r f ∧∧ (t ∧∧ above f (left_of v))) (covers_is (left_of v) (v.x -ℤ pos 1) (left_in v) f)
     ∙ if_chosen (r f) (cv f (v.x -ℤ pos 1)) (above f (left_of v)) (higher f v)
@@ -102,7 +98,6 @@ not_p : (p q : Bool) → (p ≡ true → q ≡ false) → q ≡ true → p ≡ f
 not_p p q h i = grind arith
 
 pub hole_left : (es : List Edge) → Edges es → (r : Edge → Bool) → (v : Pt) (e g : Edge) → In e es → In g es → v ≡ e.p → v ≡ g.p → lt_z (pos 0) (slope g e) ≡ true → NoneBetween r es v e g → NoneFromLeft r es v
-unfolding NoneFromLeft
 hole_left es h r v e g i j x y s none f k rf z = false≢true (sym (none f k rf at_v)
     ∙ middle (is v e.p) (is v e.q) (is v f.p) (is v f.q) (is v g.p) (is v g.q) (lt_z (pos 0) (slope e f)) (lt_z (pos 0) (slope f g)) (lt_z (pos 0) (slope g e))
     pe (not_both e (h.ordered e i) v pe) qf (not_p (is v f.p) (is v f.q) (not_both f (h.ordered f k) v) qf) pg (not_both g (h.ordered g j) v pg) s)

@@ -1,0 +1,28 @@
+//! The parity of every point, and even degrees.
+
+ghost use Rattle.points_law.specs.Law.{ResultHasEvenDegrees, ResultHasParity, RoundedAreLayers, RoundedHasEvenDegrees, SegmentsOfRingsClose};
+
+/// The parity of any point over the edges of the result is what the operation says of its parities in the two layers.
+pub fn result_has_parity()
+    ensures { ResultHasParity }
+{}
+
+/// Every point is an end of an even number of edges of the result.
+pub fn result_has_even_degrees()
+    ensures { ResultHasEvenDegrees }
+{}
+
+/// In a layer of rings every point begins as many segments as it ends.
+pub fn segments_of_rings_close()
+    ensures { SegmentsOfRingsClose }
+{}
+
+/// Where the segments of a layer close, every point is an end of an even number of its rounded edges of odd count.
+pub fn rounded_has_even_degrees()
+    ensures { RoundedHasEvenDegrees }
+{}
+
+/// The rounded edges of closed segments, once they are noded, are layers that the laws of this crate speak of.
+pub fn rounded_are_layers()
+    ensures { RoundedAreLayers }
+{}
