@@ -12,6 +12,7 @@ pub mod Edges
 pub mod Lists
 pub mod Points
 pub mod Same
+pub mod Orders
 pub mod Pairs
 pub mod PairLaws
 pub mod Hobby
@@ -19,5 +20,6 @@ pub mod RouteLists
 pub mod Routes
 pub mod RouteLaws
 pub mod Steps
+pub mod Meaning
 pub mod Examples
 pub mod Around

@@ -13,6 +13,7 @@ pub mod Rounded
 pub mod Parity
 pub mod Noded
 pub mod ResultEdges
+pub mod Laws
 pub mod Words
 pub mod Fault
 pub mod Directed

@@ -5,6 +5,7 @@
 mod directed;
 mod edge;
 mod fault;
+pub mod laws;
 mod op;
 mod pair;
 mod pixel;
