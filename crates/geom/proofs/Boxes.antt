@@ -1,11 +1,14 @@
 -- Boxes: what their tests decide, and the box of a segment.
-use Rattle.std.proofs.Common.{arith}
-use Rattle.std.proofs.lemmas.Int.{by_lt_z}
+use Rattle.std.proofs.Common.{◌⊎◌, inl, inr, arith}
+use Rattle.std.proofs.lemmas.Int.{ints, clamps, by_lt_z}
+use Rattle.std.specs.Int.{int_min, int_max}
 use lib.IntN.{ℤ, pos, ◌*ℤ◌}
 use lib.Signed.{◌<ℤ◌, ◌≤ℤ◌}
+use Rattle.geom.specs.declared.point.Pt.{Pt}
 use Rattle.geom.specs.declared.rect.Rect.{Rect}
-use Rattle.geom.specs.Box.{ShareAPoint}
+use Rattle.geom.specs.Box.{IsInBox, ShareAPoint, greatest_corner, least_corner}
 use Rattle.geom.proofs.Integers.{linear, expand, unscale_le}
+use Rattle.geom.proofs.Along.{Between}
 
 -- two closed intervals have a number in common, the greater of their least ones
 pub record Common (a b c d : ℤ) : Type 0 where
@@ -43,3 +46,22 @@ share_in r s (z, h, k) = (
   (over z.n z.x r.lo.x s.hi.x z.positive h.left k.right, over z.n z.x s.lo.x r.hi.x z.positive k.left h.right),
   (over z.n z.y r.lo.y s.hi.y z.positive h.bottom k.top, over z.n z.y s.lo.y r.hi.y z.positive k.bottom h.top),
 )
+
+-- ---- the least box of two points
+
+min_to : (a b c : ℤ) → Between a b c → int_min a b ≤ℤ c
+min_to a b c (inl h) = omega (arith, ints, clamps, h)
+min_to a b c (inr h) = omega (arith, ints, clamps, h)
+
+max_from : (a b c : ℤ) → Between a b c → c ≤ℤ int_max a b
+max_from a b c (inl h) = omega (arith, ints, clamps, h)
+max_from a b c (inr h) = omega (arith, ints, clamps, h)
+
+between_of : (a b c : ℤ) → int_min a b ≤ℤ c → c ≤ℤ int_max a b → Between a b c
+between_of a b c h k = by_lt_z b a (λ l. inr (omega (arith, ints, clamps), omega (arith, ints, clamps))) (λ l. inl (omega (arith, ints, clamps), omega (arith, ints, clamps)))
+
+pub box_of_between : (a b c : Pt) → Between a.x b.x c.x → Between a.y b.y c.y → IsInBox (least_corner a b) (greatest_corner a b) c
+box_of_between a b c h k = record { left = min_to a.x b.x c.x h; right = max_from a.x b.x c.x h; bottom = min_to a.y b.y c.y k; top = max_from a.y b.y c.y k }
+
+pub between_of_box : (a b c : Pt) → IsInBox (least_corner a b) (greatest_corner a b) c → Between a.x b.x c.x × Between a.y b.y c.y
+between_of_box a b c h = (between_of a.x b.x c.x h.left h.right, between_of a.y b.y c.y h.bottom h.top)

@@ -1,9 +1,7 @@
 -- The laws that show what the definitions mean.
 use Rattle.std.proofs.Common.{◌≡◌, ◌≢◌, ◌⊎◌, inl, inr, ⊎_elim, refl, sym, ap, subst, ◌∙◌, arith, ◌↔◌, ◌-◌, ◌<◌, List, length, get_or, Some}
 use Rattle.std.specs.Prelude.{slice_get, Contains}
-use Rattle.std.proofs.lemmas.Int.{ints, clamps}
 use Rattle.std.proofs.lemmas.Option.{slice_get-get_or}
-use Rattle.std.specs.Int.{int_min, int_max}
 use lib.IntN.{ℤ, pos, ◌+ℤ◌, ◌-ℤ◌, ◌*ℤ◌, neg_ℤ}
 use lib.Signed.{◌<ℤ◌, ◌≤ℤ◌}
 use Rattle.geom.specs.declared.point.Pt.{Pt}
@@ -15,7 +13,8 @@ use Rattle.geom.specs.Hot.{CrossIn}
 use Rattle.geom.specs.Laws.{IsInSquare, AreOnePoint, PixelIsNearest, PixelOfAnyFraction, PixelOfGridPoint, MetPixelsAreInBounds, OrderIsAlongSegment, RouteIsOne, RouteRunsFromEndToEnd, CrossingIsSymmetric, CrossingHasNoDirection}
 use Rattle.geom.proofs.Integers.{linear, expand}
 use Rattle.geom.proofs.Plane.{RoundsTo, HasPixel}
-use Rattle.geom.proofs.Along.{Between, rounds_alike, meets_box}
+use Rattle.geom.proofs.Along.{rounds_alike, meets_box}
+use Rattle.geom.proofs.Boxes.{box_of_between}
 use Rattle.geom.proofs.Pixels.{has_pixel, in_pixel, pixel_is, piece, meets_in}
 use Rattle.geom.proofs.Pairs.{on_turned}
 use Rattle.geom.proofs.RouteLaws.{earlier_by_order, order_by_earlier, one_route, route_starts, route_ends}
@@ -40,18 +39,10 @@ whole_rounds n x c p e = record { from = rw e (simp expand (omega (arith, linear
 pub pixel_of_grid_point : PixelOfGridPoint
 pixel_of_grid_point v z h = pixel_is z v (record { column = whole_rounds z.n z.x v.x z.positive h.x_is; row = whole_rounds z.n z.y v.y z.positive h.y_is })
 
-min_to : (a b c : ℤ) → Between a b c → int_min a b ≤ℤ c
-min_to a b c (inl h) = omega (arith, ints, clamps, h)
-min_to a b c (inr h) = omega (arith, ints, clamps, h)
-
-max_from : (a b c : ℤ) → Between a b c → c ≤ℤ int_max a b
-max_from a b c (inl h) = omega (arith, ints, clamps, h)
-max_from a b c (inr h) = omega (arith, ints, clamps, h)
-
 pub met_pixels_are_in_bounds : MetPixelsAreInBounds
 met_pixels_are_in_bounds s c m =
     let b = meets_box (piece s) c (meets_in s c m) in
-    record { left = min_to s.a.x s.b.x c.x b.0; right = max_from s.a.x s.b.x c.x b.0; bottom = min_to s.a.y s.b.y c.y b.1; top = max_from s.a.y s.b.y c.y b.1 }
+    box_of_between s.a s.b c b.0 b.1
 
 pub order_is_along_segment : OrderIsAlongSegment
 order_is_along_segment s c e m n = ((λ h. order_by_earlier s c e m n h), (λ h. earlier_by_order s c e h))

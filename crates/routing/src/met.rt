@@ -1,38 +1,24 @@
 //! The pixels that a segment meets.
-ghost use Rattle.std.specs.Prelude.{◌≡◌, ◌↔◌, ◌^◌, IfSome, IsTrue, pos, ◌+ℤ◌, ◌≤ℤ◌};
+
+ghost use Rattle.std.specs.Prelude.{◌≡◌, ◌↔◌, ◌^◌, IfSome, IsTrue, pos, ◌+ℤ◌};
 ghost use Rattle.std.specs.Int.RustNames.{unsigned_abs};
 ghost use Rattle.geom.specs.Limit.{AreInLimit, InLimit, IsWithin};
-ghost use Rattle.geom.specs.Determinant.{determinant};
 ghost use Rattle.geom.specs.Route.{Meets};
-ghost use Rattle.routing.specs.Corners.{PassesCorners, IsBetween, IsInBox};
+ghost use Rattle.routing.specs.Corners.{PassesCorners};
 
 use geom::{Pt, Seg, Vector};
 
-// Whether a number is from one end to the other.
-fn is_between(a: i32, b: i32, c: i32) -> bool
-    ensures { IsTrue result ↔ IsBetween a b c }
+/// Whether some point of a segment has the given pixel. No division is done.
+pub fn meets(s: &Seg, pixel: Pt) -> bool
+    requires s_in { AreInLimit s.now.a s.now.b }
+    requires pixel_in { InLimit pixel }
+    ensures { IsTrue result ↔ Meets s.now pixel }
 {
-    (a <= c && c <= b) || (b <= c && c <= a)
+    s.bounds().holds(pixel) && passes_corners(s.direction(), s.a.vector_to(pixel))
 }
 
-// The sum of the absolute values of a vector's coordinates.
-fn span(v: Vector) -> i64
-    ensures value { result ≡ pos (unsigned_abs v.dx) +ℤ pos (unsigned_abs v.dy) }
-    ensures small { IsWithin (2 ^ 30) result }
-{
-    v.dx.abs() + v.dy.abs()
-}
-
-// Twice a number.
-fn doubled(x: i64) -> i64
-    requires { IsWithin (2 ^ 59) x }
-    ensures value { result ≡ x +ℤ x }
-    ensures small { IsWithin (2 ^ 60) result }
-{
-    2 * x
-}
-
-// Whether a segment passes between the corners of a pixel, by its direction and the vector from its start to the pixel's centre.
+/// Whether a segment passes between the corners of a pixel, by its direction and the vector from its start to the
+/// pixel's centre.
 fn passes_corners(run: Vector, to: Vector) -> bool
     ensures { IsTrue result ↔ PassesCorners run.dx run.dy to.dx to.dy }
 {
@@ -47,22 +33,21 @@ fn passes_corners(run: Vector, to: Vector) -> bool
     -size < twice && twice < size
 }
 
-// Whether a pixel's centre lies in the closed box of a segment.
-fn is_in_box(s: &Seg, pixel: Pt) -> bool
-    requires s_in { AreInLimit s.now.a s.now.b }
-    requires pixel_in { InLimit pixel }
-    ensures { IsTrue result ↔ IsInBox s.now pixel }
+/// The sum of the absolute values of a vector's coordinates.
+fn span(v: Vector) -> i64
+    ensures value { result ≡ pos (unsigned_abs v.dx) +ℤ pos (unsigned_abs v.dy) }
+    ensures small { IsWithin (2 ^ 30) result }
 {
-    is_between(s.a.x, s.b.x, pixel.x) && is_between(s.a.y, s.b.y, pixel.y)
+    v.dx.abs() + v.dy.abs()
 }
 
-/// Whether some point of a segment has the given pixel.
-pub fn meets(s: &Seg, pixel: Pt) -> bool
-    requires s_in { AreInLimit s.now.a s.now.b }
-    requires pixel_in { InLimit pixel }
-    ensures { IsTrue result ↔ Meets s.now pixel }
+/// Twice a number.
+fn doubled(x: i64) -> i64
+    requires { IsWithin (2 ^ 59) x }
+    ensures value { result ≡ x +ℤ x }
+    ensures small { IsWithin (2 ^ 60) result }
 {
-    is_in_box(s, pixel) && passes_corners(s.direction(), s.a.vector_to(pixel))
+    2 * x
 }
 
 #[cfg(test)]

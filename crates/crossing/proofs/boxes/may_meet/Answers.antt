@@ -5,7 +5,7 @@ use Rattle.crossing.proofs.boxes.may_meet.Goals as goal
 pub returns-clause-exact : goal.returns-clause-exact
 returns-clause-exact c = (
   (λ h. common_point c.args.s.now c.args.t.now (sym c.boxes_meet.ensures ∙ h)),
-  (λ (p, h, k). c.boxes_meet.ensures ∙ boxes_common c.args.s.now c.args.t.now p h k),
+  (λ h. c.boxes_meet.ensures ∙ boxes_common c.args.s.now c.args.t.now h),
 )
 
 pub returns-clause-crossing : goal.returns-clause-crossing
