@@ -1,12 +1,18 @@
 -- Boxes by their corners.
-use Rattle.std.proofs.Common.{◌≡◌, ℕ, zero, suc, List, [], ◌∷◌, ◌++◌, get_or, map, refl, sym, ap, ◌∙◌, ℤ}
+use Rattle.std.proofs.Common.{◌≡◌, ℕ, zero, suc, ◌+◌, ◌<◌, List, [], ◌∷◌, ◌++◌, length, get_or, map, refl, sym, ap, ◌∙◌, subst, ℤ, pos, w32, FitsSigned}
+use native.Mathlib.Nat.{suc_inj, suc-ne-zero}
+use Rattle.std.specs.List.{All}
+use Rattle.std.proofs.lemmas.List.{get_or-map, length-map}
+use Rattle.std.proofs.lemmas.Simd.{map-map}
+use Rattle.std.proofs.lemmas.Option.{slice_get-get_or}
 use Rattle.std.proofs.Math.Path.{path_j}
 use Rattle.std.proofs.Props.{props}
-use Rattle.std.specs.Prelude.{◌≤ℤ◌}
+use Rattle.std.specs.Prelude.{◌≤ℤ◌, Some, slice_get}
 use Rattle.geom.specs.declared.point.Pt.{Pt}
 use Rattle.geom.specs.declared.rect.Rect.{Rect}
-use Rattle.lane_tests.specs.Columns.{Ends, corners, nowhere}
-use Rattle.lane_tests.specs.Boxes.{AreRects, rects_of}
+use Rattle.lane_tests.specs.Columns.{AreColumns, Ends, corners, nowhere, pair_at, pairs_of}
+use Rattle.lane_tests.specs.Boxes.{AreRects, AreSmall, rects_of}
+use Rattle.lane_tests.proofs.PairLists.{get_or-pairs_of, length-pairs_of}
 use Rattle.lane_tests.proofs.Pairs.{grown, kept}
 
 le-prop : (a b : ℤ) → IsProp (a ≤ℤ b)
@@ -51,3 +57,51 @@ boxes_grown old now h k boxes r e f = grown corners corners_tell boxes (rects_of
 
 pub boxes_kept : (old now : List Ends) (h : AreRects old) (k : AreRects now) (boxes : List Rect) → rects_of old h ≡ boxes → now ≡ old → rects_of now k ≡ boxes
 boxes_kept old now h k boxes e f = kept corners corners_tell boxes (rects_of now k) old now (columns_are old h boxes e) (corners-rects_of now k) f
+
+-- ---- one box
+pub rect_at : (es : List Ends) (h : AreRects es) (boxes : List Rect) (k : ℕ) (r : Rect) → rects_of es h ≡ boxes → k < length boxes → corners r ≡ get_or es k nowhere → slice_get boxes k ≡ Some r
+rect_at es h boxes k r e l c =
+    let same : map corners boxes ≡ es = columns_are es h boxes e in
+    slice_get-get_or boxes k r l ∙ ap (λ b. Some b) (corners_tell (get_or boxes k r) r (sym (get_or-map corners boxes k r nowhere l) ∙ ap (λ es. get_or es k nowhere) same ∙ sym c))
+
+pub pair_of : (ls bs rs ts : List ℤ) (es : List Ends) → AreColumns ls bs rs ts → pairs_of ls bs rs ts ≡ es → (k : ℕ) → pair_at ls bs rs ts k ≡ get_or es k nowhere
+pair_of ls bs rs ts es h e k = sym (get_or-pairs_of ls bs rs ts k h.bottom_len h.right_len h.top_len) ∙ ap (λ es. get_or es k nowhere) e
+
+pub wide_at : (ls bs rs ts : List ℤ) (es : List Ends) → AreColumns ls bs rs ts → pairs_of ls bs rs ts ≡ es → AreRects es → (k : ℕ) → get_or ls k (pos 0) ≤ℤ get_or rs k (pos 0)
+wide_at ls bs rs ts es h e r k = subst (λ (p : Ends). p.0.x ≤ℤ p.1.x) (sym (pair_of ls bs rs ts es h e k)) (r.wide k)
+
+pub high_at : (ls bs rs ts : List ℤ) (es : List Ends) → AreColumns ls bs rs ts → pairs_of ls bs rs ts ≡ es → AreRects es → (k : ℕ) → get_or bs k (pos 0) ≤ℤ get_or ts k (pos 0)
+high_at ls bs rs ts es h e r k = subst (λ (p : Ends). p.0.y ≤ℤ p.1.y) (sym (pair_of ls bs rs ts es h e k)) (r.high k)
+
+-- ---- columns of boxes
+lefts_of_pairs : (ls bs rs ts : List ℤ) → length bs ≡ length ls → length rs ≡ length ls → length ts ≡ length ls → map (λ p. p.0.x) (pairs_of ls bs rs ts) ≡ ls
+lefts_of_pairs [] bs rs ts e f g = refl
+lefts_of_pairs (l ∷ ls) [] rs ts e f g = absurd (suc-ne-zero _ (sym e))
+lefts_of_pairs (l ∷ ls) (b ∷ bs) [] ts e f g = absurd (suc-ne-zero _ (sym f))
+lefts_of_pairs (l ∷ ls) (b ∷ bs) (r ∷ rs) [] e f g = absurd (suc-ne-zero _ (sym g))
+lefts_of_pairs (l ∷ ls) (b ∷ bs) (r ∷ rs) (t ∷ ts) e f g = ap (λ xs. l ∷ xs) (lefts_of_pairs ls bs rs ts (suc_inj e) (suc_inj f) (suc_inj g))
+
+pub lefts_are : (ls bs rs ts : List ℤ) (es : List Ends) (h : AreRects es) (boxes : List Rect) → AreColumns ls bs rs ts → pairs_of ls bs rs ts ≡ es → rects_of es h ≡ boxes → ls ≡ map (λ r. r.lo.x) boxes
+lefts_are ls bs rs ts es h boxes c e f =
+    sym (lefts_of_pairs ls bs rs ts c.bottom_len c.right_len c.top_len) ∙ ap (map (λ p. p.0.x)) (e ∙ sym (columns_are es h boxes f)) ∙ map-map (λ p. p.0.x) corners boxes
+
+pub all_small : (ls bs rs ts : List ℤ) (es : List Ends) (h : AreRects es) (boxes : List Rect) → AreColumns ls bs rs ts → pairs_of ls bs rs ts ≡ es → rects_of es h ≡ boxes → All AreSmall boxes
+all_small ls bs rs ts es h boxes c e f = λ k d l.
+    let same : corners (get_or boxes k d) ≡ pair_at ls bs rs ts k =
+    sym (get_or-map corners boxes k d nowhere l) ∙ ap (λ es. get_or es k nowhere) (columns_are es h boxes f) ∙ sym (pair_of ls bs rs ts es c e k) in
+    record {
+      left = subst (λ (p : Ends). FitsSigned w32 p.0.x) (sym same) (c.left.fits k);
+      bottom = subst (λ (p : Ends). FitsSigned w32 p.0.y) (sym same) (c.bottom.fits k);
+      right = subst (λ (p : Ends). FitsSigned w32 p.1.x) (sym same) (c.right.fits k);
+      top = subst (λ (p : Ends). FitsSigned w32 p.1.y) (sym same) (c.top.fits k);
+    }
+
+pub room : (ls bs rs ts : List ℤ) (es : List Ends) (h : AreRects es) (boxes : List Rect) → AreColumns ls bs rs ts → pairs_of ls bs rs ts ≡ es → rects_of es h ≡ boxes → length boxes ≡ length ls
+room ls bs rs ts es h boxes c e f = sym (length-map boxes corners) ∙ ap length (columns_are es h boxes f ∙ sym e) ∙ length-pairs_of ls bs rs ts c.bottom_len c.right_len c.top_len
+
+-- ---- columns read as slices
+pub same_pair : (ls bs rs ts ls' bs' rs' ts' : List ℤ) (k : ℕ) → ls' ≡ ls → bs' ≡ bs → rs' ≡ rs → ts' ≡ ts → pair_at ls' bs' rs' ts' k ≡ pair_at ls bs rs ts k
+same_pair ls bs rs ts ls' bs' rs' ts' k p q r s = λ i. pair_at (p i) (q i) (r i) (s i) k
+
+pub same_columns : (ls bs rs ts ls' bs' rs' ts' : List ℤ) → AreColumns ls bs rs ts → ls' ≡ ls → bs' ≡ bs → rs' ≡ rs → ts' ≡ ts → AreColumns ls' bs' rs' ts'
+same_columns ls bs rs ts ls' bs' rs' ts' h p q r s = rw (p, q, r, s) h

@@ -1,13 +1,13 @@
 //! Boxes, and which of them meet a rectangle.
 
-ghost use Rattle.std.specs.Prelude.{◌≡◌, ℕ, List, ◌+◌, ◌-◌, ◌<◌, ◌≤◌, ◌^◌, ◌++◌, ◌∷◌, [], OnOk, OnErr, length};
+ghost use Rattle.std.specs.Prelude.{◌≡◌, ℕ, List, ◌+◌, ◌-◌, ◌<◌, ◌≤◌, ◌≤ℤ◌, ◌^◌, ◌++◌, ◌∷◌, [], OnOk, OnErr, All, Some, length, map, slice_get};
 ghost use Rattle.lane_tests.specs.Columns.{AreColumns, IsColumn, corners, mask_of, pair_at, passing, touches};
-ghost use Rattle.lane_tests.specs.Boxes.{AreRects, rects_of};
+ghost use Rattle.lane_tests.specs.Boxes.{AreRects, AreSmall, rects_of};
 ghost use Rattle.lane_tests.specs.Meeting.{AreMeeting};
 ghost use Rattle.geom.specs.declared.rect.Rect.{Rect};
 
 use crate::columns::Columns;
-use geom::{NoMemory, Rect};
+use geom::{NoMemory, Pt, Rect};
 use std::alloc::Allocator;
 use std::marker::Model;
 use std::simd::prelude::*;
@@ -43,6 +43,24 @@ impl<A: Allocator> Boxes<A> {
         ensures few { result < 2 ^ 32 }
     {
         self.columns.len()
+    }
+
+    /// The box of a number.
+    pub fn get(&self, number: usize) -> Rect
+        requires { number < length self.now }
+        ensures { slice_get self.now number ≡ Some result }
+    {
+        let columns = &self.columns;
+        box_at(&columns.px, &columns.py, &columns.qx, &columns.qy, number)
+    }
+
+    /// The left sides, in the order of the boxes.
+    pub fn lefts(&self) -> &[i32]
+        ensures value { result.now ≡ map (λ r. r.lo.x) self.now }
+        ensures fit { All AreSmall self.now }
+    {
+        let columns = &self.columns;
+        &columns.px
     }
 
     /// Adds a box. An `Err` changes nothing.
@@ -97,6 +115,26 @@ pub fn meet_in<A: Allocator, B: Allocator>(
             out.clear();
             Err(e)
         }
+    }
+}
+
+// One box of columns.
+fn box_at(left: &[i32], bottom: &[i32], right: &[i32], top: &[i32], at: usize) -> Rect
+    requires columns { AreColumns left.now bottom.now right.now top.now }
+    requires in_range { at < length left.now }
+    requires wide { (pair_at left.now bottom.now right.now top.now at).0.x ≤ℤ (pair_at left.now bottom.now right.now top.now at).1.x }
+    requires high { (pair_at left.now bottom.now right.now top.now at).0.y ≤ℤ (pair_at left.now bottom.now right.now top.now at).1.y }
+    ensures { corners result ≡ pair_at left.now bottom.now right.now top.now at }
+{
+    Rect {
+        lo: Pt {
+            x: left[at],
+            y: bottom[at],
+        },
+        hi: Pt {
+            x: right[at],
+            y: top[at],
+        },
     }
 }
 
