@@ -1,0 +1,446 @@
+#!/usr/bin/env python3
+"""laws.py - the laws of noding_law and points_law, tried as they are written on small random cases.
+
+The definitions are those of crates/geom/specs, in exact arithmetic and without any short cut. Every law is tried on random
+cases, and then with a premise dropped on a case where its conclusion fails. Exit status 0: all laws held, and every dropped
+premise made its law fail.
+
+    laws.py [--cases N] [--seed N] [--reference FILE]
+
+With --reference the rounded edges and the result edges are also compared with those of FILE, a Python module that has
+`hot_pixels`, `route`, `rounded_edges` and `result_edges`.
+"""
+import argparse
+import importlib.util
+import random
+import sys
+from fractions import Fraction
+from math import ceil, floor
+
+HALF = Fraction(1, 2)
+K = 2**64
+OPS = {
+    "union": lambda a, b: a or b,
+    "intersection": lambda a, b: a and b,
+    "difference": lambda a, b: a and not b,
+    "symdifference": lambda a, b: a != b,
+}
+
+
+# ---- points, pixels, segments. A segment is (a, b, layer), an edge (p, q) with p before q.
+
+
+def determinant(dx, dy, ex, ey):
+    return dx * ey - dy * ex
+
+
+def turn(a, b, c, d):
+    return determinant(b[0] - a[0], b[1] - a[1], d[0] - c[0], d[1] - c[1])
+
+
+def side(c, e, h):
+    return turn(c, e, c, h)
+
+
+def pixel(z):
+    return floor(z[0] + HALF), floor(z[1] + HALF)
+
+
+def point_at(a, b, t):
+    return a[0] + t * (b[0] - a[0]), a[1] + t * (b[1] - a[1])
+
+
+def common_points(a, b, c, d):
+    """The parameters on a, b from which and to which it shares points with c, d; None where it shares none."""
+    k = turn(a, b, c, d)
+    if k != 0:
+        t = Fraction(turn(a, c, c, d), k)
+        u = Fraction(turn(a, c, a, b), k)
+        return (t, t) if 0 <= t <= 1 and 0 <= u <= 1 else None
+    if side(a, b, c) != 0:
+        return None
+    axis = 0 if a[0] != b[0] else 1
+    ends = sorted(Fraction(p[axis] - a[axis], b[axis] - a[axis]) for p in (c, d))
+    low, high = max(ends[0], Fraction(0)), min(ends[1], Fraction(1))
+    return (low, high) if low <= high else None
+
+
+def hot_pixels(segments, rounded=pixel):
+    hot = {s[0] for s in segments} | {s[1] for s in segments}
+    for s in segments:
+        for t in segments:
+            if turn(s[0], s[1], t[0], t[1]) != 0:
+                shared = common_points(s[0], s[1], t[0], t[1])
+                if shared:
+                    hot.add(rounded(point_at(s[0], s[1], shared[0])))
+    return hot
+
+
+def parameters(s, c):
+    """The parameters of the points of s with pixel c, as ((low, open), (high, open)); None where there is none."""
+    low, high = (Fraction(0), False), (Fraction(1), False)
+    for axis in (0, 1):
+        a, d = s[0][axis], s[1][axis] - s[0][axis]
+        near, far = c[axis] - HALF, c[axis] + HALF
+        if d == 0:
+            if not near <= a < far:
+                return None
+        elif d > 0:
+            low = max(low, ((near - a) / d, False))
+            high = min(high, ((far - a) / d, True), key=lambda b: (b[0], not b[1]))
+        else:
+            low = max(low, ((far - a) / d, True))
+            high = min(high, ((near - a) / d, False), key=lambda b: (b[0], not b[1]))
+    if low[0] > high[0] or (low[0] == high[0] and (low[1] or high[1])):
+        return None
+    return low, high
+
+
+def route(s, hot):
+    met = [(parameters(s, c), c) for c in hot if parameters(s, c)]
+    met.sort(key=lambda m: (m[0][0], m[0][1][0]))
+    for (first, _), (second, _) in zip(met, met[1:]):
+        assert first[1][0] < second[0][0] or (first[1][0] == second[0][0] and (first[1][1] or second[0][1]))
+    return [c for _, c in met]
+
+
+def edge_of(c, e):
+    return (c, e) if c < e else (e, c)
+
+
+def rounded_edges(segments, rounded=pixel):
+    """Each rounded edge with its counts in the two layers."""
+    hot = hot_pixels(segments, rounded)
+    counted = {}
+    for s in segments:
+        r = route(s, hot)
+        for c, e in zip(r, r[1:]):
+            counted.setdefault(edge_of(c, e), [0, 0])[s[2]] += 1
+    return counted
+
+
+def odd_edges(layer, counted):
+    return [e for e in sorted(counted) if counted[e][layer] % 2 == 1]
+
+
+def degree(edges, v):
+    return sum(v in e for e in edges)
+
+
+def has_even_degrees(edges):
+    return all(degree(edges, v) % 2 == 0 for e in edges for v in e)
+
+
+def is_noded(edges):
+    edges = sorted(edges)
+    for i, e in enumerate(edges):
+        for f in edges[i + 1 :]:
+            shared = common_points(e[0], e[1], f[0], f[1])
+            if shared and (shared[0] != shared[1] or not is_common_end(e, f, point_at(e[0], e[1], shared[0]))):
+                return False
+    return True
+
+
+def is_common_end(e, f, z):
+    return z in e and z in f
+
+
+def are_closed(layer, segments):
+    points = {p for s in segments for p in s[:2]}
+    return all(sum(s[2] == layer and s[0] == v for s in segments) == sum(s[2] == layer and s[1] == v for s in segments) for v in points)
+
+
+# ---- parity and the result
+
+
+def covers(e, z):
+    return e[0][0] <= z[0] < e[1][0]
+
+
+def height(e, z):
+    return side(e[0], e[1], z)
+
+
+def parity(edges, z):
+    return sum(covers(e, z) and height(e, z) < 0 for e in edges) % 2 == 1
+
+
+def left_side(u, v):
+    return Fraction(u[0] + v[0], 2) - Fraction(v[1] - u[1], K), Fraction(u[1] + v[1], 2) + Fraction(v[0] - u[0], K)
+
+
+def right_side(u, v):
+    return left_side(v, u)
+
+
+def holds_at(op, odd, z):
+    return op(parity(odd[0], z), parity(odd[1], z))
+
+
+def odd_in_both(counted):
+    return odd_edges(0, counted), odd_edges(1, counted)
+
+
+def is_result_edge(op, odd, u, v):
+    return holds_at(op, odd, left_side(u, v)) and not holds_at(op, odd, right_side(u, v))
+
+
+def directed_edges(op, counted):
+    odd = odd_in_both(counted)
+    both = [d for e in counted for d in (e, (e[1], e[0]))]
+    return sorted(d for d in both if is_result_edge(op, odd, *d))
+
+
+def without_direction(directed):
+    return {edge_of(*d) for d in directed}
+
+
+# ---- round a vertex
+
+
+def is_sooner(v, a, b):
+    if v < a and b < v:
+        return True
+    return ((v < a and v < b) or (a < v and b < v)) and side(v, a, b) < 0
+
+
+def is_met_before(v, u, a, b):
+    ua, ab, bu = is_sooner(v, u, a), is_sooner(v, a, b), is_sooner(v, b, u)
+    return (ua and ab) or (ab and bu) or (bu and ua)
+
+
+def neighbours(directed, v):
+    return {d[1] for d in directed if d[0] == v} | {d[0] for d in directed if d[1] == v}
+
+
+def next_points(directed, u, v):
+    near = neighbours(directed, v)
+    return [w for w in near if w != u and all(is_met_before(v, u, w, a) for a in near if a not in (u, w))]
+
+
+def left_of(v):
+    return v[0] - Fraction(1, K), Fraction(v[1])
+
+
+def nearest_below(directed, z):
+    below = [edge_of(*d) for d in directed if covers(edge_of(*d), z) and height(edge_of(*d), z) > 0]
+    gap = lambda e: Fraction(height(e, z)) / (e[1][0] - e[0][0])
+    return min(below, key=gap) if below else None
+
+
+def rings_of(directed):
+    """The cycles of the rule; only called where it closes."""
+    rings, left = [], set(directed)
+    while left:
+        u, v = min(left)
+        ring = []
+        while (u, v) in left:
+            left.remove((u, v))
+            ring.append(u)
+            u, v = v, next_points(directed, u, v)[0]
+        rings.append(ring)
+    return rings
+
+
+# ---- the laws: each answers what contradicts it, or None
+
+
+def rounded_edges_are_noded(segments, rounded=pixel):
+    return None if is_noded(rounded_edges(segments, rounded)) else "two rounded edges share a point that is not a common end"
+
+
+def rounded_has_even_degrees(segments):
+    counted = rounded_edges(segments)
+    for layer in (0, 1):
+        if are_closed(layer, segments) and not has_even_degrees(odd_edges(layer, counted)):
+            return f"an odd degree in layer {layer}"
+    return None
+
+
+def result_has_parity(op, counted, directed, points):
+    result, odd = without_direction(directed), odd_in_both(counted)
+    for z in points:
+        if parity(result, z) != holds_at(op, odd, z):
+            return f"the parity at {z[0]}, {z[1]} differs"
+    return None
+
+
+def result_has_even_degrees(directed):
+    return None if has_even_degrees(without_direction(directed)) else "an odd degree in the result"
+
+
+def result_edges_close(directed):
+    for u, v in directed:
+        if (v, u) in directed:
+            return f"an edge in both directions at {u}"
+        near = neighbours(directed, v)
+        if any(a != b and not is_sooner(v, a, b) and not is_sooner(v, b, a) for a in near for b in near):
+            return f"two neighbours of {v} in one direction"
+        if not any((v, w) in directed for w in next_points(directed, u, v)):
+            return f"no edge goes on from {u} to {v}"
+    return None
+
+
+def next_edge_is_one_to_one(directed):
+    for t, v in directed:
+        for u, x in directed:
+            if x == v and t != u and set(next_points(directed, t, v)) & set(next_points(directed, u, v)):
+                return f"two edges to {v} have one next edge"
+    return None
+
+
+def holes_are_grounded(op, counted, directed):
+    """Also that the result lies left of the least vertex of each hole."""
+    odd = odd_in_both(counted)
+    for ring in rings_of(directed):
+        v = min(ring)
+        corners = [(ring[i - 1], ring[i], ring[(i + 1) % len(ring)]) for i in range(len(ring))]
+        if not any(c[1] == v and side(v, c[0], c[2]) > 0 for c in corners):
+            continue
+        if not holds_at(op, odd, left_of(v)):
+            return f"the operation fails left of {v}"
+        below = nearest_below(directed, left_of(v))
+        if below is None or not below[0] < v:
+            return f"no edge that begins further left lies below {v}"
+    return None
+
+
+# ---- random cases
+
+
+def random_rings(rng, size):
+    def ring():
+        return [(rng.randint(0, size), rng.randint(0, size)) for _ in range(rng.randint(3, 6))]
+
+    return [[ring() for _ in range(rng.randint(1, 2))] for _ in (0, 1)]
+
+
+def segments_of(layers):
+    return [(a, b, layer) for layer in (0, 1) for ring in layers[layer] for a, b in zip(ring, ring[1:] + ring[:1]) if a != b]
+
+
+def random_segments(rng, size):
+    point = lambda: (rng.randint(0, size), rng.randint(0, size))
+    return [(a, b, rng.randint(0, 1)) for a, b in ((point(), point()) for _ in range(rng.randint(2, 7))) if a != b]
+
+
+def points_to_try(rng, counted, size):
+    points = [(Fraction(rng.randint(-7, 7 * size + 7), 7), Fraction(rng.randint(-5, 5 * size + 5), 5)) for _ in range(6)]
+    for e in list(counted)[:4]:
+        points += [e[0], left_of(e[1]), left_side(*e), right_side(*e), point_at(e[0], e[1], HALF)]
+    return points
+
+
+def try_case(rng, size, reference):
+    """The first law that a random case contradicts, with the case."""
+    free = random_segments(rng, size)
+    broken = rounded_edges_are_noded(free) or rounded_has_even_degrees(free)
+    if broken:
+        return broken, free
+    segments = segments_of(random_rings(rng, size))
+    counted = rounded_edges(segments)
+    points = points_to_try(rng, counted, size)
+    if not (are_closed(0, segments) and are_closed(1, segments)):
+        return "the segments of rings don't close", segments
+    broken = rounded_edges_are_noded(segments) or rounded_has_even_degrees(segments)
+    for name in OPS:
+        op = OPS[name]
+        directed = directed_edges(op, counted)
+        broken = broken or result_has_parity(op, counted, directed, points) or result_has_even_degrees(directed)
+        broken = broken or result_edges_close(directed) or next_edge_is_one_to_one(directed) or holes_are_grounded(op, counted, directed)
+        broken = broken or (reference and compare(reference, segments, counted, name, directed))
+    return (broken, segments) if broken else None
+
+
+def compare(reference, segments, counted, name, directed):
+    hot = reference.hot_pixels(segments)
+    theirs = reference.rounded_edges(segments, [reference.route(s, hot) for s in segments])
+    if {e: tuple(c) for e, c in theirs.items()} != {e: tuple(c) for e, c in counted.items()}:
+        return "the reference has other rounded edges"
+    if sorted(reference.result_edges(theirs, name)) != directed:
+        return f"the reference has another {name}"
+    return None
+
+
+# ---- with a premise dropped
+
+
+def unrounded(segments):
+    """The segments themselves as edges with counts."""
+    counted = {}
+    for a, b, layer in segments:
+        counted.setdefault(edge_of(a, b), [0, 0])[layer] += 1
+    return counted
+
+
+def closed_on_the_right(z):
+    """The pixel of z where pixels are closed on the right and bottom sides."""
+    return ceil(z[0] - HALF), floor(z[1] + HALF)
+
+
+def ring(layer, *points):
+    return [(a, b, layer) for a, b in zip(points, points[1:] + points[:1])]
+
+
+TWO_SQUARES = ring(0, (0, 0), (2, 0), (2, 2), (0, 2)) + ring(1, (1, 1), (3, 1), (3, 3), (1, 3))
+TWO_SEGMENTS = [((2, 3), (1, 4), 0), ((3, 4), (0, 3), 0)]
+OPEN_CORNER = [((3, 0), (1, 2), 0), ((2, 3), (1, 2), 1)]
+FAR = 2**40
+THIN_TRIANGLE = ring(0, (0, 0), (FAR, 1), (FAR - 1, 1))
+UNION = OPS["union"]
+
+
+def near_middle(counted):
+    """Points at and beside the middle of each edge."""
+    middles = [point_at(e[0], e[1], HALF) for e in counted]
+    beside = [side_of(*e) for e in counted for side_of in (left_side, right_side)]
+    between = [((y[0] + z[0]) / 2, (y[1] + z[1]) / 2) for y in middles for z in middles]
+    return middles + beside + between + [(Fraction(-1), Fraction(-1))]
+
+
+def dropped_premises():
+    """Each premise that a law needs, with what its conclusion says of a case that doesn't meet it."""
+    squares, corner, thin = unrounded(TWO_SQUARES), unrounded(OPEN_CORNER), unrounded(THIN_TRIANGLE)
+    outside = lambda a, b: not a
+
+    def parity_law(op, counted):
+        return result_has_parity(op, counted, directed_edges(op, counted), near_middle(counted))
+
+    yield "a crossing's pixel closed on the right", rounded_edges_are_noded(TWO_SEGMENTS, closed_on_the_right)
+    yield "edges not noded, parity", parity_law(UNION, squares)
+    yield "edges not noded, even degrees", result_has_even_degrees(directed_edges(UNION, squares))
+    yield "edges not noded, round a vertex", result_edges_close(directed_edges(UNION, squares))
+    yield "odd degrees, parity", parity_law(UNION, corner)
+    yield "odd degrees, even degrees", result_has_even_degrees(directed_edges(UNION, corner))
+    yield "odd degrees, round a vertex", result_edges_close(directed_edges(UNION, corner))
+    yield "coordinates far beyond the limit, parity", parity_law(UNION, thin)
+    yield "an operation that is true outside both layers, parity", parity_law(outside, thin)
+    yield "segments that don't close, even degrees", None if has_even_degrees(odd_edges(0, rounded_edges(TWO_SEGMENTS))) else "an odd degree"
+
+
+def main():
+    words = argparse.ArgumentParser(description=__doc__, formatter_class=argparse.RawDescriptionHelpFormatter)
+    words.add_argument("--cases", type=int, default=2000)
+    words.add_argument("--seed", type=int, default=1)
+    words.add_argument("--reference")
+    given = words.parse_args()
+    reference = None
+    if given.reference:
+        spec = importlib.util.spec_from_file_location("reference", given.reference)
+        reference = importlib.util.module_from_spec(spec)
+        spec.loader.exec_module(reference)
+    rng = random.Random(given.seed)
+    for case in range(given.cases):
+        broken = try_case(rng, rng.randint(2, 7), reference)
+        if broken:
+            print(f"case {case}: {broken[0]}: {broken[1]}")
+            return 1
+    print(f"{given.cases} cases: every law held")
+    kept = [premise for premise, broken in dropped_premises() if not broken]
+    for premise, broken in dropped_premises():
+        print(f"without the premise ({premise}): {broken or 'NOTHING FAILED'}")
+    return 1 if kept else 0
+
+
+if __name__ == "__main__":
+    sys.exit(main())
