@@ -6,3 +6,4 @@ pub mod Posts
 pub mod Steps
 pub mod Totals
 pub mod Trues
+pub mod Whole

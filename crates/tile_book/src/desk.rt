@@ -71,6 +71,17 @@ impl<P: Numbered + Drop, L: Limited, A: Allocator + Copy> Desk<P, L, A> {
         ))
     }
 
+    // The book of a desk that is not shared any more.
+    #[cfg(test)]
+    pub(crate) fn into_book(self) -> Book<P, L, A> {
+        let Desk {
+            limit: _,
+            shares: _,
+            book,
+        } = self;
+        book.into_inner()
+    }
+
     /// Takes the lock and posts.
     pub fn post(
         &self,

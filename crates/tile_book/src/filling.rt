@@ -1,0 +1,121 @@
+//! A whole pass over the numbers below a limit: draw, desk, workers, and the book at the end.
+
+ghost use Rattle.std.specs.Prelude.{◌≡◌, ◌+◌, ◌<◌, ◌≤◌, ℕ, true, All, IfOk, IsSome, None, flat_map, length, slice_index_or, sum, vec_len};
+ghost use Rattle.tile_book.specs.Growth.{HasGrown};
+
+use crate::book::{Book, Numbered};
+use crate::crew::run_workers;
+use crate::desk::{Desk, close};
+use crate::draw::{Draw, Hand, finish};
+use crate::gate::{Gate, Phase};
+use crate::job::Job;
+use crate::share::{Limited, Share};
+use crate::worker::Ended;
+use geom::NoMemory;
+use std::alloc::Allocator;
+use std::sync::Wait;
+use std::sync::ledger::Blank;
+use std::thread::Threads;
+
+/// What a whole pass gives.
+#[derive(Drop)]
+pub struct Filled<P: Numbered, L: Limited, A: Allocator> {
+    /// The pieces that were posted.
+    pub book: Book<P, L, A>,
+    /// How many pieces came back from the book. Where none did, it is full.
+    pub returned: u64,
+}
+
+/// Makes and posts the piece of each number below a limit of at most 65,536, by 1 to 64 workers, of which the calling
+/// thread is the first. It answers `NoMemory` only where a growth was refused, in whichever thread.
+pub fn fill<
+    A: Allocator + Copy + Send + Sync,
+    J: Job<A> + Sync,
+    L: Limited + Send + Sync,
+    G: Gate + Sync,
+    R: Threads + Wait + Sync,
+>(
+    rt: &R,
+    alloc: A,
+    blank: Blank,
+    limit: u32,
+    workers: u32,
+    job: &J,
+    phase: Phase,
+    gate: &G,
+) -> Result<Filled<J::Piece, L, A>, NoMemory>
+where
+    J::Piece: Send,
+    requires name { blank.name ≡ L.name }
+    requires parts { (blank.parts ≡ L.parts) × (blank.parts ≡ workers) }
+    requires limit { (limit ≡ L.limit) × (limit ≤ 65536) }
+    requires workers { (0 < workers) × (workers ≤ 64) }
+    requires count { limit ≤ J.count job.now }
+    ensures limit { IfOk result (λ f. f.book.limit ≡ limit) }
+    ensures counted { IfOk result (λ f. length f.book.accepted + f.returned ≡ limit) }
+    ensures full { IfOk result (λ f. f.returned ≡ 0 → (k : ℕ) → k < limit → IsSome (slice_index_or f.book.held k None)) }
+{
+    let (draw, hands) = Draw::new(alloc, limit, workers)?;
+    let (desk, shares) = Desk::new(alloc, blank, limit, workers)?;
+    let ended = run_workers(rt, alloc, job, phase, &draw, hands, &desk, shares, gate)?;
+    settle(alloc, draw, desk, ended)
+}
+
+/// Ends a pass of new hands and shares whose workers are all there: without a fault the draw is finished and the desk
+/// closed, and where no piece came back either, the book is full.
+pub fn settle<P: Numbered + Drop, L: Limited, A: Allocator + Copy>(
+    alloc: A,
+    draw: Draw<A>,
+    desk: Desk<P, L, A>,
+    ended: Vec<Ended<L>, A>,
+) -> Result<Filled<P, L, A>, NoMemory>
+    requires own { All (λ e. (e.hand.draw ≡ draw) × HasGrown e) ended.items }
+    requires all { (vec_len ended ≡ draw.hands) × (draw.hands ≡ desk.shares) × (draw.hands ≤ 64) }
+    requires limit { draw.limit ≡ desk.limit }
+    ensures limit { IfOk result (λ f. f.book.limit ≡ desk.limit) }
+    ensures counted { IfOk result (λ f. length f.book.accepted + f.returned ≡ desk.limit) }
+    ensures full { IfOk result (λ f. f.returned ≡ 0 → (k : ℕ) → k < desk.limit → IsSome (slice_index_or f.book.held k None)) }
+{
+    let (hands, shares, returned) = parted(alloc, &draw, ended)?;
+    let Ok(_drawn) = finish(draw, hands) else {
+        unreachable!()
+    };
+    let Ok(book) = close(desk, shares) else {
+        unreachable!()
+    };
+    Ok(Filled { book, returned })
+}
+
+// The hands and the shares, and how many pieces came back, where no worker has a fault.
+fn parted<L: Limited, A: Allocator + Copy>(
+    alloc: A,
+    draw: &Draw<A>,
+    mut ended: Vec<Ended<L>, A>,
+) -> Result<(Vec<Hand, A>, Vec<Share<L>, A>, u64), NoMemory>
+    requires own { All (λ e. (e.hand.draw ≡ draw.now) × HasGrown e) ended.items }
+    requires few { vec_len ended ≤ 64 }
+    ensures lens { IfOk result (λ r. (vec_len r.0 ≡ vec_len ended) × (vec_len r.1 ≡ vec_len ended)) }
+    ensures spent { IfOk result (λ r. All (λ h. (h.draw ≡ draw.now) × (h.spent ≡ true)) r.0.items) }
+    ensures counted { IfOk result (λ r. sum r.1.items + r.2 ≡ length (flat_map (λ h. h.drawn) r.0.items)) }
+{
+    let mut hands = Vec::with_capacity(alloc, ended.len())?;
+    let mut shares = Vec::with_capacity(alloc, ended.len())?;
+    let mut all_returned = 0;
+    while let Some(
+        Ended {
+            hand,
+            share,
+            returned,
+            fault,
+        },
+    ) = ended.pop()
+    {
+        if fault.is_some() {
+            return Err(NoMemory);
+        }
+        hands.push_reserved(hand);
+        shares.push_reserved(share);
+        all_returned += returned as u64;
+    }
+    Ok((hands, shares, all_returned))
+}

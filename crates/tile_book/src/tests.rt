@@ -1,0 +1,398 @@
+//! Tests of the desk on vectors from outside, with threads, and with every request for memory refused in turn.
+
+ghost use Rattle.std.specs.Prelude.{◌≡◌, ◌<◌, ◌≤◌, IfOk};
+
+use super::*;
+use bumpalo::Bump;
+use geom::NoMemory;
+use std::alloc::{Allocator, Global};
+use std::marker::Brand;
+use std::process::Abort;
+use std::sync::Wait;
+use std::sync::atomic::{AtomicBool, Ordering};
+use std::sync::ledger::Blank;
+use std::test::*;
+use std::thread;
+use std::thread::Threads;
+
+// A piece that is its number.
+#[derive(Drop)]
+struct Note {
+    number: u32,
+}
+
+impl Numbered for Note {
+    ghost number_of = { λ n. n.number };
+
+    fn number(&self) -> u32 {
+        self.number
+    }
+}
+
+#[derive(Drop)]
+struct Notes {
+    count: u32,
+}
+
+impl<A: Allocator + Copy> Job<A> for Notes {
+    type Piece = Note;
+
+    ghost count = { λ n. n.count };
+
+    fn piece(&self, _alloc: A, number: u32) -> Result<Note, NoMemory> {
+        Ok(Note { number })
+    }
+}
+
+const EVENTS: [(Event, Reply, u32); 10] = [
+    (Event::Draw(1), Reply::Number(0), 1),
+    (Event::Draw(0), Reply::Number(1), 2),
+    (Event::Post(0, 1), Reply::Ok, 2),
+    (Event::Draw(0), Reply::None, 3),
+    (Event::Post(1, 0), Reply::Ok, 3),
+    (Event::Draw(1), Reply::None, 4),
+    (Event::Post(1, 0), Reply::Double, 4),
+    (Event::Post(0, 2), Reply::Stranger, 4),
+    (Event::Draw(0), Reply::None, 4),
+    (Event::Draw(2), Reply::NoHand, 4),
+];
+
+#[test]
+fn core_replies(rt: HostRuntime) -> Result<(), Fail> {
+    let mut stepped = Core::new(rt.alloc(), 2, 2)?;
+    let mut events = Vec::new(rt.alloc());
+    let mut replies = Vec::new(rt.alloc());
+    for (event, reply, word) in EVENTS {
+        assert_eq!(rt; stepped.step(event), reply, "{event:?}");
+        assert_eq!(rt; stepped.word(), word, "{event:?}");
+        events.push(event)?;
+        replies.push(reply)?;
+    }
+    assert_eq!(rt; stepped.accepted(), [1, 0].as_slice());
+    let mut replayed = Core::new(rt.alloc(), 2, 2)?;
+    let told = replayed.replay(rt.alloc(), &events)?;
+    assert_eq!(rt; told.as_slice(), replies.as_slice());
+    assert_eq!(rt; replayed.accepted(), [1, 0].as_slice());
+    Ok(())
+}
+
+#[test]
+fn core_of_no_numbers(rt: HostRuntime) -> Result<(), Fail> {
+    let mut core = Core::new(rt.alloc(), 0, 2)?;
+    for (event, reply) in [
+        (Event::Draw(0), Reply::None),
+        (Event::Draw(1), Reply::None),
+        (Event::Post(0, 0), Reply::Stranger),
+        (Event::Stop(0), Reply::Ok),
+        (Event::Stop(2), Reply::NoHand),
+    ] {
+        assert_eq!(rt; core.step(event), reply, "{event:?}");
+    }
+    assert_eq!(rt; core.word(), 2);
+    Ok(())
+}
+
+// A draw of two hands, with both.
+fn two_hands<A: Allocator + Copy>(alloc: A, limit: u32) -> Result<(Draw<A>, Hand, Hand), NoMemory>
+    requires { limit ≤ 65536 }
+    ensures { IfOk result (λ r. (r.0.limit ≡ limit) × (r.1.draw ≡ r.0) × (r.2.draw ≡ r.0)) }
+{
+    let (draw, mut hands) = Draw::new(alloc, limit, 2)?;
+    let (Some(one), Some(other)) = (hands.pop(), hands.pop()) else {
+        return Err(NoMemory);
+    };
+    Ok((draw, one, other))
+}
+
+#[test]
+fn finish_of_two_spent_hands(rt: HostRuntime) -> Result<(), Fail> {
+    let (draw, mut one, mut other) = two_hands(rt.alloc(), 2)?;
+    let drawn = [draw.draw(&mut one), draw.draw(&mut other)];
+    assert_eq!(rt; drawn, [Some(0), Some(1)]);
+    assert_eq!(rt; draw.draw(&mut one), None);
+    assert_eq!(rt; draw.draw(&mut other), None);
+    assert_eq!(rt; draw.draw(&mut other), None);
+    let mut hands = Vec::new(rt.alloc());
+    hands.push(one)?;
+    hands.push(other)?;
+    let Ok(drawn) = finish(draw, hands) else {
+        return Err(Fail::from("all hands are spent"));
+    };
+    assert_eq!(rt; drawn.limit(), 2);
+    Ok(())
+}
+
+#[test]
+fn finish_hands_back(rt: HostRuntime) -> Result<(), Fail> {
+    let (draw, mut one, mut other) = two_hands(rt.alloc(), 2)?;
+    let Err((draw, hands)) = finish(draw, Vec::new(rt.alloc())) else {
+        return Err(Fail::from("no hand was handed in"));
+    };
+    assert!(rt; hands.is_empty());
+    draw.draw(&mut one);
+    draw.draw(&mut other);
+    draw.draw(&mut one);
+    assert!(rt; one.is_spent() && !other.is_spent());
+    let mut hands = Vec::new(rt.alloc());
+    hands.push(one)?;
+    let Err((draw, mut hands)) = finish(draw, hands) else {
+        return Err(Fail::from("a hand is missing"));
+    };
+    assert!(rt; hands.len() == 1);
+    hands.push(other)?;
+    let Err((_draw, hands)) = finish(draw, hands) else {
+        return Err(Fail::from("a hand has not met the end"));
+    };
+    assert!(rt; hands.len() == 2);
+    Ok(())
+}
+
+const POSTED: [(u32, Posted); 5] = [
+    (2, Posted::Accepted),
+    (0, Posted::Accepted),
+    (2, Posted::Double),
+    (5, Posted::Stranger),
+    (1, Posted::Accepted),
+];
+
+#[derive(Clone, Copy, PartialEq, Eq, Debug)]
+enum Posted {
+    Accepted,
+    Stranger,
+    Double,
+}
+
+// What was answered, where a piece that came back has its number.
+fn told(answer: Result<(), Returned<Note>>, number: u32) -> Option<Posted> {
+    match answer {
+        Ok(()) => Some(Posted::Accepted),
+        Err(Returned::Stranger(note)) if note.number == number => Some(Posted::Stranger),
+        Err(Returned::Double(note)) if note.number == number => Some(Posted::Double),
+        Err(_) => None,
+    }
+}
+
+#[test]
+fn posts_at_the_desk(rt: HostRuntime) -> Result<(), Fail> {
+    at_the_desk::<Brand, _>(&rt, rt.alloc(), Blank::new(1))
+}
+
+fn at_the_desk<L: Limited, R: Wait + Abort>(rt: &R, alloc: Global, blank: Blank) -> Result<(), Fail>
+    requires name { blank.name ≡ L.name }
+    requires parts { (blank.parts ≡ L.parts) × (blank.parts ≡ 1) }
+    requires limit { L.limit ≡ 3 }
+{
+    let (desk, mut shares) = Desk::<Note, L, Global>::new(alloc, blank, 3, 1)?;
+    let Some(mut share) = shares.pop() else {
+        return Err(Fail::from("one share"));
+    };
+    for (number, expected) in POSTED {
+        let (same, answer) = desk.post(rt, share, Note { number });
+        share = same;
+        assert!(rt; told(answer, number) == Some(expected), "{number}");
+    }
+    let Err((desk, mut shares)) = close(desk, shares) else {
+        return Err(Fail::from("the share is missing"));
+    };
+    assert!(rt; shares.is_empty());
+    shares.push(share)?;
+    let Ok(book) = close(desk, shares) else {
+        return Err(Fail::from("all shares are there"));
+    };
+    assert_eq!(rt; book.accepted(), [2, 0, 1].as_slice());
+    assert!(rt; book.held().iter().all(|note| note.is_some()));
+    Ok(())
+}
+
+#[test]
+fn posts_in_the_book(rt: HostRuntime) -> Result<(), Fail> {
+    in_the_book::<Brand, _>(&rt, rt.alloc(), Blank::new(1))
+}
+
+fn in_the_book<L: Limited, R: Abort>(rt: &R, alloc: Global, blank: Blank) -> Result<(), Fail>
+    requires name { blank.name ≡ L.name }
+    requires parts { (blank.parts ≡ L.parts) × (blank.parts ≡ 1) }
+    requires limit { L.limit ≡ 3 }
+{
+    let (desk, mut shares) = Desk::<Note, L, Global>::new(alloc, blank, 3, 1)?;
+    let Some(mut share) = shares.pop() else {
+        return Err(Fail::from("one share"));
+    };
+    let mut book = desk.into_book();
+    for (number, expected) in POSTED {
+        let (same, answer) = book.post(share, Note { number });
+        share = same;
+        assert!(rt; told(answer, number) == Some(expected), "{number}");
+    }
+    assert_eq!(rt; book.limit(), 3);
+    assert_eq!(rt; book.accepted(), [2, 0, 1].as_slice());
+    assert!(rt; book.held().iter().all(|note| note.is_some()));
+    Ok(())
+}
+
+#[test]
+fn book_of_no_numbers(rt: HostRuntime) -> Result<(), Fail> {
+    no_numbers::<Brand, _>(&rt, rt.alloc(), Blank::new(1))
+}
+
+fn no_numbers<L: Limited, R: Wait + Abort>(rt: &R, alloc: Global, blank: Blank) -> Result<(), Fail>
+    requires name { blank.name ≡ L.name }
+    requires parts { (blank.parts ≡ L.parts) × (blank.parts ≡ 1) }
+    requires limit { L.limit ≡ 0 }
+{
+    let (desk, mut shares) = Desk::<Note, L, Global>::new(alloc, blank, 0, 1)?;
+    let Some(share) = shares.pop() else {
+        return Err(Fail::from("one share"));
+    };
+    let (_share, answer) = desk.post(rt, share, Note { number: 0 });
+    assert!(rt; told(answer, 0) == Some(Posted::Stranger));
+    Ok(())
+}
+
+#[test]
+fn one_worker_of_five_numbers(rt: HostRuntime) -> Result<(), Fail> {
+    one_worker::<Brand, _>(&rt, rt.alloc(), Blank::new(1))
+}
+
+fn one_worker<L: Limited, R: Wait + Abort>(rt: &R, alloc: Global, blank: Blank) -> Result<(), Fail>
+    requires name { blank.name ≡ L.name }
+    requires parts { (blank.parts ≡ L.parts) × (blank.parts ≡ 1) }
+    requires limit { L.limit ≡ 5 }
+{
+    let (draw, hand, _other) = two_hands(alloc, 5)?;
+    let (desk, mut shares) = Desk::<Note, L, Global>::new(alloc, blank, 5, 1)?;
+    let Some(share) = shares.pop() else {
+        return Err(Fail::from("one share"));
+    };
+    let Ended {
+        hand,
+        share,
+        returned,
+        fault,
+    } = work(
+        rt,
+        alloc,
+        &Notes { count: 5 },
+        Phase::Route,
+        &draw,
+        hand,
+        &desk,
+        share,
+        &OpenGate,
+    );
+    assert!(rt; hand.is_spent() && returned == 0 && fault.is_none());
+    shares.push(share)?;
+    let Ok(book) = close(desk, shares) else {
+        return Err(Fail::from("all shares are there"));
+    };
+    assert_eq!(rt; book.accepted(), [0, 1, 2, 3, 4].as_slice());
+    assert!(rt; book.held().iter().all(|note| note.is_some()));
+    Ok(())
+}
+
+#[test]
+fn two_workers_of_five_numbers(rt: HostRuntime) -> Result<(), Fail> {
+    two_workers::<Brand, _, _>(&rt, rt.alloc(), Blank::new(2), &OpenGate)
+}
+
+fn two_workers<L: Limited + Send + Sync, G: Gate + Sync, R: Threads + Wait + Abort + Sync>(
+    rt: &R,
+    alloc: Global,
+    blank: Blank,
+    gate: &G,
+) -> Result<(), Fail>
+    requires name { blank.name ≡ L.name }
+    requires parts { (blank.parts ≡ L.parts) × (blank.parts ≡ 2) }
+    requires limit { L.limit ≡ 5 }
+{
+    let job = Notes { count: 5 };
+    let filled: Filled<Note, L, Global> = fill(rt, alloc, blank, 5, 2, &job, Phase::Route, gate)?;
+    assert!(rt; filled.returned == 0);
+    assert!(rt; filled.book.accepted().len() == 5);
+    assert!(rt; filled.book.held().iter().all(|note| note.is_some()));
+    Ok(())
+}
+
+// Holds number 0 until the piece of number 1 was posted, or for 10,000,000 turns.
+#[derive(Drop)]
+struct Holding {
+    seen: AtomicBool,
+    gave_up: AtomicBool,
+}
+
+impl Gate for Holding {
+    fn drawn(&self, _phase: Phase, number: u32) {
+        if number != 0 {
+            return;
+        }
+        for _ in 0..10_000_000 {
+            if self.seen.load(Ordering::SeqCst) {
+                return;
+            }
+            thread::yield_now();
+        }
+        self.gave_up.store(true, Ordering::SeqCst);
+    }
+
+    fn posted(&self, _phase: Phase, number: u32) {
+        if number == 1 {
+            self.seen.store(true, Ordering::SeqCst);
+        }
+    }
+}
+
+#[test]
+fn two_workers_at_the_same_time(rt: HostRuntime) -> Result<(), Fail> {
+    let gate = Holding {
+        seen: AtomicBool::new(false),
+        gave_up: AtomicBool::new(false),
+    };
+    two_workers::<Brand, _, _>(&rt, rt.alloc(), Blank::new(2), &gate)?;
+    assert!(rt; gate.seen.load(Ordering::SeqCst) && !gate.gave_up.load(Ordering::SeqCst));
+    Ok(())
+}
+
+const ROOM: usize = 448;
+
+// A heap of `ROOM` bytes of which that many are taken.
+fn heap_with(alloc: Global, taken: usize) -> Result<Bump<Global>, Fail> {
+    let heap = Bump::new(alloc);
+    heap.set_allocation_limit(Some(ROOM));
+    for _ in 0..taken {
+        if heap.try_alloc(0u8).is_err() {
+            return Err(Fail::from("room for one byte"));
+        }
+    }
+    Ok(heap)
+}
+
+fn desk_fits<L: Limited>(heap: &Bump<Global>, blank: Blank) -> bool
+    requires name { blank.name ≡ L.name }
+    requires parts { (blank.parts ≡ L.parts) × (blank.parts ≡ 2) }
+    requires limit { L.limit ≡ 8 }
+{
+    Desk::<Note, L, _>::new(heap, blank, 8, 2).is_ok()
+}
+
+// With less and less room the last request is refused first, and then each before it.
+#[test]
+fn refuses_where_memory_does(rt: HostRuntime) -> Result<(), Fail> {
+    let mut most = [0, 0, 0];
+    for taken in 0..ROOM {
+        let heap = heap_with(rt.alloc(), taken)?;
+        let draw = Draw::new(&heap, 8, 2).is_ok();
+        let heap = heap_with(rt.alloc(), taken)?;
+        let core = Core::new(&heap, 8, 2).is_ok();
+        let heap = heap_with(rt.alloc(), taken)?;
+        let desk = desk_fits::<Brand>(&heap, Blank::new(2));
+        for (most, fits) in most.iter_mut().zip([draw, core, desk]) {
+            assert!(rt; !fits || *most == taken, "{taken}");
+            *most += usize::from(fits);
+        }
+    }
+    // The bytes that each takes at least: a word; a test for each hand and number, and numbers; places and numbers.
+    for (most, bytes) in most.into_iter().zip([8, 2 + 8 + 32, 64 + 32]) {
+        assert!(rt; most > 0 && most <= (ROOM + 1).saturating_sub(bytes), "{most}");
+    }
+    Ok(())
+}
