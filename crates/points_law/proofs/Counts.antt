@@ -1,6 +1,6 @@
 -- The same in other words: counts, lists of chosen edges, sides of edges turned round.
 use mathlib.Core.Path.{◌≡◌, refl, sym, ◌∙◌, ap}
-use mathlib.Core.Bool.{Bool, true, false, not, cond}
+use mathlib.Core.Bool.{Bool, true, false, cond}
 use mathlib.Core.List.{List, [], ◌∷◌}
 use Prim.Native.Nat.{ℕ, ◌+◌, ◌%◌}
 use native.Mathlib.Omega.{arith}
@@ -15,7 +15,7 @@ use Rattle.geom.specs.declared.point.Pt.{Pt}
 use Rattle.geom.specs.declared.edge.Edge.{Edge}
 use Rattle.geom.specs.Pixel.{Point}
 use Rattle.geom.specs.ResultEdges.{left_side, right_side}
-use Rattle.points_law.proofs.Choices.{◌⊕◌, ◌∧∧◌, par, run, rise, K, Even, counted, parity, holds_at, in_result}
+use Rattle.points_law.proofs.Choices.{◌⊕◌, ◌∧∧◌, par, run, rise, K, Even, parity, holds_at, in_result}
 use Rattle.points_law.proofs.ResultOfChoices.{Edges}
 use Rattle.points_law.proofs.Result.{result_parity}
 
