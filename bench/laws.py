@@ -289,14 +289,19 @@ def next_edge_is_one_to_one(directed):
     return None
 
 
-def holes_are_grounded(op, counted, directed):
-    """Also that the result lies left of the least vertex of each hole."""
-    odd = odd_in_both(counted)
+def holes_of(directed):
     for ring in rings_of(directed):
         v = min(ring)
         corners = [(ring[i - 1], ring[i], ring[(i + 1) % len(ring)]) for i in range(len(ring))]
-        if not any(c[1] == v and side(v, c[0], c[2]) > 0 for c in corners):
-            continue
+        if any(c[1] == v and side(v, c[0], c[2]) > 0 for c in corners):
+            yield ring
+
+
+def holes_are_grounded(op, counted, directed):
+    """Also that the result lies left of the least vertex of each hole."""
+    odd = odd_in_both(counted)
+    for ring in holes_of(directed):
+        v = min(ring)
         if not holds_at(op, odd, left_of(v)):
             return f"the operation fails left of {v}"
         below = nearest_below(directed, left_of(v))
@@ -309,10 +314,16 @@ def holes_are_grounded(op, counted, directed):
 
 
 def random_rings(rng, size):
+    """One or two rings a layer; every third time the first layer has a frame round them all, so that there are holes."""
+
     def ring():
         return [(rng.randint(0, size), rng.randint(0, size)) for _ in range(rng.randint(3, 6))]
 
-    return [[ring() for _ in range(rng.randint(1, 2))] for _ in (0, 1)]
+    layers = [[ring() for _ in range(rng.randint(1, 2))] for _ in (0, 1)]
+    if rng.randint(0, 2) == 0:
+        low, high = -1, size + 1
+        layers[0].append([(low, low), (high, low), (high, high), (low, high)])
+    return layers
 
 
 def segments_of(layers):

@@ -112,6 +112,3 @@ in_result op a b es e =
 -- the same by directed edges: from u to v, with the result on the left
 abbrev pub holds_at : (Bool → Bool → Bool) → (Edge → Bool) → (Edge → Bool) → List Edge → Point → Bool
 holds_at op a b es z = op (parity a es z) (parity b es z)
-
-abbrev pub is_result : (Bool → Bool → Bool) → (Edge → Bool) → (Edge → Bool) → List Edge → Pt → Pt → Bool
-is_result op a b es u v = holds_at op a b es (left_side u v) ∧∧ not (holds_at op a b es (right_side u v))

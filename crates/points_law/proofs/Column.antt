@@ -168,9 +168,6 @@ one_here k = omega (arith, ints)
 one_next : (k : ℤ) → k ≤ℤ (pos 1 *ℤ (k +ℤ pos 1))
 one_next k = omega (arith, ints)
 
-pub same_x : (a b : ℤ) → eq_z a b ≡ true → (a ≤ℤ b) × (b ≤ℤ a)
-same_x a b h = (le_from a b (and_left (le_z a b) (le_z b a) h), le_from b a (and_right (le_z a b) (le_z b a) h))
-
 sloping : (e f : Edge) (k : ℤ) → MeetAtEnds e f → cv e k ≡ true → cv e (k +ℤ pos 1) ≡ true → pos 0 <ℤ run f
     → (cv f k ∧∧ ab f e k) ⊕ (cv f (k +ℤ pos 1) ∧∧ ab f e (k +ℤ pos 1)) ≡ top e (k +ℤ pos 1) f.p ⊕ top e (k +ℤ pos 1) f.q
 sloping e f k m i j rf =

@@ -22,7 +22,7 @@ use Rattle.geom.proofs.RouteLaws.{route_starts, route_ends}
 use Rattle.points_law.proofs.Choices.{◌⊕◌, ◌∧∧◌, par, is}
 use Rattle.points_law.proofs.Sums.{par_cong, par_same, par_xor, par_and, fubini, and_comm, and_dist, xor_self}
 use Rattle.points_law.proofs.Even.{same, same_is, same_refl, once}
-use Rattle.points_law.proofs.Bridge.{par_filter}
+use Rattle.points_law.proofs.Counts.{par_filter}
 use Rattle.points_law.proofs.Layers.{odd_is, degree_is, par_map, distinct, both_ways, and_is, same_point_is}
 
 -- the ends of a step that are v, modulo 2

@@ -11,8 +11,8 @@ use Rattle.geom.specs.Rings.{IsSooner, IsMetBefore, IsNeighbour, IsNext}
 use Rattle.geom.proofs.Lists.{In}
 use Rattle.points_law.proofs.Choices.{◌⊕◌, Even, is, parity, left, right}
 use Rattle.points_law.proofs.ResultOfChoices.{Edges}
-use Rattle.points_law.proofs.Even.{by_test}
-use Rattle.points_law.proofs.Bridge.{left_turned, right_turned}
+use Rattle.points_law.proofs.Even.{by_test, clash}
+use Rattle.points_law.proofs.Counts.{left_turned, right_turned}
 use Rattle.points_law.proofs.Turn.{before, ends_at, crossing}
 use Rattle.points_law.proofs.Next.{side_before, side_after, NoneBetween, across, leaves, pair}
 use Rattle.points_law.proofs.Spokes.{Joins, is_start, no_start, Spoke, spoke, joins_ends, one_edge, one_far, sooner_of, met_before}
@@ -59,9 +59,6 @@ cond_yes t x y h = grind arith
 
 cond_no : (t x y : Bool) → t ≡ false → cond t x y ≡ y
 cond_no t x y h = grind arith
-
-clash : {P : Type 0} (t : Bool) → t ≡ false → t ≡ true → P
-clash t h k = absurd (let e : false ≡ true = sym h ∙ k in cc)
 
 flipped : (x y a : Bool) → y ≡ x ⊕ a → a ≡ true → x ≡ false → y ≡ true
 flipped x y a h i j = grind arith

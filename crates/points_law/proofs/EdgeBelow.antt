@@ -10,12 +10,12 @@ use Rattle.geom.proofs.Integers.{expand, linear, scale_le, unscale_le, by_sign}
 use Rattle.geom.proofs.Lists.{In}
 use Rattle.points_law.proofs.Choices.{◌∧∧◌, Even, run, rise, covers, above, parity, K}
 use Rattle.points_law.proofs.ResultOfChoices.{Edges}
-use Rattle.points_law.proofs.Even.{by_test}
+use Rattle.points_law.proofs.Even.{by_test, clash}
 use Rattle.points_law.proofs.Meet.{off}
 use Rattle.points_law.proofs.Column.{cv_low, cv_run, weak}
 use Rattle.points_law.proofs.Heights.{covers_is, above_is}
 use Rattle.points_law.proofs.Vertex.{over_pt, Vertex}
-use Rattle.points_law.proofs.Owner.{NoneFromLeft, edge_below, left_in, lift_left, small_rise, level_there}
+use Rattle.points_law.proofs.HoleVertex.{NoneFromLeft, edge_below, left_in, lift_left, small_rise, level_there}
 
 -- ---- an edge that is not above the point, and does not end at v, is below it
 lift_height : (kk r s px py x y : ℤ) → (r *ℤ (kk *ℤ y -ℤ kk *ℤ py)) -ℤ (s *ℤ ((kk *ℤ x -ℤ pos 1) -ℤ kk *ℤ px)) ≡ neg_ℤ ((s *ℤ (kk *ℤ x -ℤ pos 1) +ℤ (py *ℤ r -ℤ px *ℤ s) *ℤ kk) -ℤ r *ℤ (kk *ℤ y))
@@ -60,9 +60,6 @@ test_positive a h = grind (arith, ints)
 
 same_value : (a : ℤ) → a ≤ℤ a
 same_value a = omega (arith, ints)
-
-clash : {P : Type 0} (t : Bool) → t ≡ false → t ≡ true → P
-clash t h k = absurd (let e : false ≡ true = sym h ∙ k in cc)
 
 -- a chosen edge below the point just left of v, none of those among xs being nearer
 pub record NearestOf (es : List Edge) (r : Edge → Bool) (v : Pt) (xs : List Edge) : Type 0 where

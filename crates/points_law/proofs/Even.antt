@@ -55,6 +55,10 @@ pub by_test : (t : Bool) (P : Type 0) → (t ≡ true → P) → (t ≡ false �
 by_test true P f g = f refl
 by_test false P f g = g refl
 
+pub clash : {P : Type 0} (t : Bool) → t ≡ false → t ≡ true → P
+clash true h k = absurd (let e : true ≡ false = h in cc)
+clash false h k = absurd (let e : false ≡ true = k in cc)
+
 pub not_true : (t : Bool) → ¬ (t ≡ true) → t ≡ false
 not_true true h = absurd (h refl)
 not_true false h = refl

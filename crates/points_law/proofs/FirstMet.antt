@@ -5,7 +5,7 @@ use Rattle.geom.specs.declared.edge.Edge.{Edge}
 use Rattle.geom.proofs.Lists.{In}
 use Rattle.points_law.proofs.Choices.{◌⊕◌, ◌∧∧◌, Even}
 use Rattle.points_law.proofs.ResultOfChoices.{Edges}
-use Rattle.points_law.proofs.Even.{same, same_is, same_refl, by_test, not_true}
+use Rattle.points_law.proofs.Even.{same, same_is, same_refl, by_test, not_true, clash}
 use Rattle.points_law.proofs.Turn.{before, ends_at}
 use Rattle.points_law.proofs.Next.{between, NoneBetween, another, before_trans, not_before_itself, pair}
 
@@ -48,9 +48,6 @@ passes r n s h i j = grind arith
 
 passed : (r n s : Bool) → r ∧∧ (n ∧∧ not s) ≡ true → (r ≡ true) × (n ≡ true) × (s ≡ false)
 passed r n s h = (grind arith, grind arith, grind arith)
-
-clash : {P : Type 0} (t : Bool) → t ≡ false → t ≡ true → P
-clash t h k = absurd (let e : false ≡ true = sym h ∙ k in cc)
 
 module _ (es : List Edge) (h : Edges es) (r : Edge → Bool) (v : Pt) (e : Edge) (i : In e es) (x : ends_at v e ≡ true) where
   is_candidate : (f : Edge) → r f ≡ true → ends_at v f ≡ true → ¬ (e ≡ f) → candidate r v e f ≡ true

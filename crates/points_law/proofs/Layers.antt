@@ -32,8 +32,8 @@ use Rattle.points_law.specs.Law.{AreLayers}
 use Rattle.points_law.proofs.Choices.{◌⊕◌, ◌∧∧◌, par, run, rise, Small, On, IsAt, IsEnd, Noded, Even, is, covers, counted, parity, left, right, holds_at, in_result}
 use Rattle.points_law.proofs.ResultOfChoices.{Edges}
 use Rattle.points_law.proofs.Sums.{par_cong, par_same}
-use Rattle.points_law.proofs.Even.{same, same_is, same_refl, is_same, is_refl, by_test, not_true}
-use Rattle.points_law.proofs.Bridge.{par_is_odd, par_filter, left_back, right_back, holds_is}
+use Rattle.points_law.proofs.Even.{same, same_is, same_refl, is_same, is_refl, by_test, not_true, clash}
+use Rattle.points_law.proofs.Counts.{par_is_odd, par_filter, left_back, right_back, holds_is}
 use Rattle.points_law.proofs.Result.{result_parity}
 use Rattle.points_law.proofs.Turn.{result_even}
 
@@ -163,13 +163,10 @@ at_of : (v : Pt) (z : Point) → at_test v z ≡ true → IsAt v z
 unfolding at_test
 at_of v z h = let k = both_of (int_eq z.x (z.n *ℤ v.x)) (int_eq z.y (z.n *ℤ v.y)) h in (int_eq_true z.x (z.n *ℤ v.x) k.0, int_eq_true z.y (z.n *ℤ v.y) k.1)
 
-false_true : {P : Type 0} (t : Bool) → t ≡ false → t ≡ true → P
-false_true t h k = absurd (let e : false ≡ true = sym h ∙ k in cc)
-
 -- which end it is can be found out
 which_end : (e : Edge) (z : Point) → noded.IsEnd e z → IsEnd e z
 which_end e z h = by_test (at_test e.p z) (IsEnd e z) (λ t. inl (at_of e.p z t))
-    (λ f. let c : Coincides e.q z = ∥∥₁_elim h (Coincides-prop e.q z) (⊎_elim (λ p. false_true (at_test e.p z) f (test_of e.p z p)) (λ q. q)) in inr (c.x_is, c.y_is))
+    (λ f. let c : Coincides e.q z = ∥∥₁_elim h (Coincides-prop e.q z) (⊎_elim (λ p. clash (at_test e.p z) f (test_of e.p z p)) (λ q. q)) in inr (c.x_is, c.y_is))
 
 on_edge : (e : Edge) (z : Point) → On e z → IsOn e.p e.q z
 on_edge e z o = (o.m, o.n, record { ratio = record { positive = o.n_positive; from = o.m_low; to = o.m_high }; x_is = o.at_x; y_is = o.at_y })

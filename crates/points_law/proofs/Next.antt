@@ -194,15 +194,6 @@ leaves es h r ev v e g i j x y n rg s none = (near, flips (side_after r es v g) 
         (par_cong (λ f. r f ∧∧ (ends_at v f ∧∧ between v e f g)) (λ f. false) es (λ f k. silent (r f) (ends_at v f) (between v e f g) (none f k)) ∙ par_none es)
         (around es h r ev v e g i j x y n)
 
--- two edges with one next edge are one
-both_between : (ef fe eg ge fg gf : Bool) → ef ⊕ fe ≡ true → eg ⊕ ge ≡ true → fg ⊕ gf ≡ true → (ef ∧∧ fg ⊕ fg ∧∧ ge) ⊕ ge ∧∧ ef ≡ false → (fe ∧∧ eg ⊕ eg ∧∧ gf) ⊕ gf ∧∧ fe ≡ false → ⊥
-both_between ef fe eg ge fg gf h i j k m = grind arith
-
-pub one_to_one : (es : List Edge) → Edges es → (r : Edge → Bool) → (v : Pt) (e f g : Edge) → In e es → In f es → In g es → ends_at v e ≡ true → ends_at v f ≡ true → ends_at v g ≡ true → ¬ (e ≡ g) → ¬ (f ≡ g)
-    → r e ≡ true → r f ≡ true → NoneBetween r es v e g → NoneBetween r es v f g → ¬ ¬ (e ≡ f)
-one_to_one es h r v e f g i j k x y z n m re rf b c d = both_between (before v e f) (before v f e) (before v e g) (before v g e) (before v f g) (before v g f)
-    (pair es h v e f i j x y d) (pair es h v e g i k x z n) (pair es h v f g j k y z m) (b f j rf y) (c e i re x)
-
 -- there is another chosen edge at v
 pub another : (es : List Edge) → Edges es → (r : Edge → Bool) → Even r es → (v : Pt) (e : Edge) → In e es → ends_at v e ≡ true → r e ≡ true → ¬ ((f : Edge) → In f es → ends_at v f ≡ true → r f ≡ true → f ≡ e)
 another es h r ev v e i x re only = false≢true (sym (ev v)

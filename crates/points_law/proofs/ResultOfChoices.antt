@@ -16,7 +16,3 @@ pub record Edges (es : List Edge) : Type 0 where
 abbrev pub ResultParity : Type 0
 ResultParity = (es : List Edge) → Edges es → (op : Bool → Bool → Bool) → op false false ≡ false → (a b : Edge → Bool) → Even a es → Even b es → (z : Point)
     → parity (in_result op a b es) es z ≡ op (parity a es z) (parity b es z)
-
--- an even number of result edges ends at each point
-abbrev pub ResultEven : Type 0
-ResultEven = (es : List Edge) → Edges es → (op : Bool → Bool → Bool) → (a b : Edge → Bool) → Even a es → Even b es → Even (in_result op a b es) es

@@ -1,5 +1,5 @@
 -- Which points and edges the corners of a ring have.
-use Rattle.std.proofs.Common.{◌≡◌, ◌⊎◌, inl, inr, Bool, true, false, List, [], ◌∷◌, ◌++◌, refl, sym, ◌∙◌, subst, ⊎_elim}
+use Rattle.std.proofs.Common.{◌≡◌, ◌⊎◌, inl, inr, false, List, [], ◌∷◌, ◌++◌, refl, sym, subst, ⊎_elim}
 use Rattle.std.specs.List.{flat_map}
 use Rattle.std.proofs.lemmas.List.Concat.{flat_map-cons}
 use Rattle.geom.specs.declared.point.Pt.{Pt}
@@ -8,7 +8,7 @@ use Rattle.geom.specs.Rings.{along, around}
 use Rattle.geom.proofs.Edges.{joining}
 use Rattle.geom.proofs.Lists.{In}
 use Rattle.points_law.proofs.Choices.{is}
-use Rattle.points_law.proofs.Even.{by_test, is_same, is_refl}
+use Rattle.points_law.proofs.Even.{by_test, is_same, is_refl, clash}
 
 -- f of two elements
 pub record Pair {X Y : Type 0} (f : X → X → Y) (xs : List X) (t : Y) : Type 0 where
@@ -58,9 +58,6 @@ compare p q = by_test (is p q) ((p ≡ q) ⊎ (IsBefore p q ⊎ IsBefore q p))
     (λ s. inl (is_same p q s))
     (λ s. inr (either p q (λ e. clash (is q q) (subst (λ w. is w q ≡ false) e s) (is_refl q))))
   where
-    clash : {P : Type 0} (t : Bool) → t ≡ false → t ≡ true → P
-    clash t h k = absurd (let e : false ≡ true = sym h ∙ k in cc)
-
     either : (p q : Pt) → ¬ (p ≡ q) → IsBefore p q ⊎ IsBefore q p
     either p q n = let j = joining p q n in ⊎_elim
         (λ m. inl (subst (λ w. IsBefore w q) m.0 (subst (λ w. IsBefore j.edge.p w) m.1 j.edge.ordered)))

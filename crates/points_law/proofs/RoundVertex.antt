@@ -27,19 +27,16 @@ use Rattle.geom.proofs.Lists.{In, contains_in, in_contains}
 use Rattle.points_law.specs.Law.{AreLayers}
 use Rattle.points_law.proofs.Choices.{Even, is, covers, parity}
 use Rattle.points_law.proofs.ResultOfChoices.{Edges}
-use Rattle.points_law.proofs.Even.{by_test, is_same, is_refl}
+use Rattle.points_law.proofs.Even.{by_test, is_same, is_refl, clash}
 use Rattle.points_law.proofs.Meet.{slope}
 use Rattle.points_law.proofs.Next.{NoneBetween}
-use Rattle.points_law.proofs.Owner.{hole_left, hole_inside}
+use Rattle.points_law.proofs.HoleVertex.{hole_left, hole_inside}
 use Rattle.points_law.proofs.Layers.{and_is, in_result_of, edges_of_layers, result_is_even, holds_where_odd}
 use Rattle.points_law.proofs.Spokes.{Joins, spoke, joins_ends, one_edge, not_loop, comes_in, slope_out, between_of}
 use Rattle.points_law.proofs.FirstMet.{none_between}
 use Rattle.points_law.proofs.Directions.{Bounds, Arrival, Link, arrives, link, neighbour, one_way, spread, turns}
 use Rattle.points_law.proofs.EdgeBelow.{NearestOf, nearest_below, begins_left}
 use Rattle.points_law.proofs.RingLists.{Pair, in_around, in_flat, before_other, neither_before}
-
-clash : {P : Type 0} (t : Bool) → t ≡ false → t ≡ true → P
-clash t h k = absurd (let e : false ≡ true = sym h ∙ k in cc)
 
 -- ---- one to one
 opposite : (v a b : Pt) → side v a b ≡ neg_ℤ (side v b a)
@@ -94,9 +91,6 @@ both_sides l r h k = grind arith
 lies_over : (e : Edge) (v : Pt) → geom.covers e (left_of v) ≡ covers e (left_of v)
 lies_over e v = and_is (le_z ((left_of v).n *ℤ e.p.x) (left_of v).x) (lt_z (left_of v).x ((left_of v).n *ℤ e.q.x))
 
-is_after : (s d : ℤ) → s ≡ neg_ℤ d → pos 0 <ℤ d → s <ℤ pos 0
-is_after s d h k = omega (arith, ints)
-
 is_steep : (s d e : ℤ) → s ≡ neg_ℤ d → d ≡ neg_ℤ e → pos 0 <ℤ e → lt_z (pos 0) s ≡ true
 is_steep s d e h i k = grind (arith, ints)
 
@@ -145,7 +139,7 @@ module _ (op : Op) (cs : List Counted) (h : AreLayers cs) (directed : List Direc
 
   pub closes : Closes directed
   closes = record {
-    one_way = record { ascending = R.ascending; one_way = one_way es all_edges r even directed exact };
+    are_directed = record { ascending = R.ascending; one_way = one_way es all_edges r even directed exact };
     spread = spread es all_edges r even directed exact;
     turns = turns es all_edges r even directed exact;
   }

@@ -2,7 +2,7 @@
 use mathlib.Core.Path.{◌≡◌, refl, sym, ◌∙◌, ap, subst}
 use mathlib.Core.Bool.{Bool, true, false, not, false≢true}
 use mathlib.Core.List.{List}
-use mathlib.Core.Logic.{◌⊎◌, inl, inr}
+use mathlib.Core.Logic.{inl, inr}
 use native.Mathlib.Omega.{arith}
 use lib.IntN.{ℤ, pos, ◌-ℤ◌, ◌*ℤ◌, neg_ℤ}
 use lib.Signed.{◌<ℤ◌, ◌≤ℤ◌, lt_z, le_z}
@@ -90,13 +90,6 @@ one_down es n f g i j u v e = two_tops' f.p.y g.p.y (λ h. sym (bottom_on es n g
     two_tops' a b f g = by_sign (b -ℤ a) (λ s. g (o1 a b s)) (λ s. f (o2 a b s)) (λ s. f (o3 a b s))
 
 -- ---- the kinds of edges at v
-no_slope_flat : (p q : ℤ) → lt_z p q ≡ false → (p <ℤ q) ⊎ (p ≡ q) → p ≡ q
-no_slope_flat p q h (inl k) = absurd (clash p q h k)
-  where
-    clash : (p q : ℤ) → lt_z p q ≡ false → p <ℤ q → ⊥
-    clash p q h k = omega (arith, ints)
-no_slope_flat p q h (inr k) = k
-
 pub upright_of : (e : Edge) → Ordered e → slopes e ≡ false → Upright e
 upright_of e (inl h) s = absurd (clash e.p.x e.q.x s h)
   where

@@ -47,9 +47,6 @@ stops f v = is v f.q ∧∧ slopes f
 abbrev pub goes_up : Edge → Pt → Bool
 goes_up f v = is v f.p ∧∧ not (slopes f)
 
-abbrev pub goes_down : Edge → Pt → Bool
-goes_down f v = is v f.q ∧∧ not (slopes f)
-
 -- ---- a vertex on an edge is an end of it
 abbrev pub whole : Pt → Point
 whole v = record { x = v.x; y = v.y; n = pos 1; positive = record { lt = tt } }
@@ -175,9 +172,6 @@ parts_at p q k h = grind (arith, ints)
 
 is_slope : (p q : ℤ) → p <ℤ q → not (lt_z p q) ≡ false
 is_slope p q h = grind (arith, ints)
-
-no_slope : (p q : ℤ) → p ≡ q → lt_z p q ≡ false
-no_slope p q h = grind (arith, ints)
 
 plus_none : (x a b c : Bool) → x ≡ a ⊕ b → c ≡ false → x ≡ (a ⊕ b) ⊕ c
 plus_none x a b c h i = grind arith

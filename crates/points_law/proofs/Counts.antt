@@ -1,6 +1,6 @@
--- The same in other words: counts, lists of chosen edges, directed edges.
+-- The same in other words: counts, lists of chosen edges, sides of edges turned round.
 use mathlib.Core.Path.{◌≡◌, refl, sym, ◌∙◌, ap}
-use mathlib.Core.Bool.{Bool, true, false, not, cond}
+use mathlib.Core.Bool.{Bool, true, false, cond}
 use mathlib.Core.List.{List, [], ◌∷◌}
 use Prim.Native.Nat.{ℕ, ◌+◌, ◌%◌}
 use native.Mathlib.Omega.{arith}
@@ -15,7 +15,7 @@ use Rattle.geom.specs.declared.point.Pt.{Pt}
 use Rattle.geom.specs.declared.edge.Edge.{Edge}
 use Rattle.geom.specs.Pixel.{Point}
 use Rattle.geom.specs.ResultEdges.{left_side, right_side}
-use Rattle.points_law.proofs.Choices.{◌⊕◌, ◌∧∧◌, par, run, rise, K, Even, counted, parity, holds_at, is_result, in_result}
+use Rattle.points_law.proofs.Choices.{◌⊕◌, ◌∧∧◌, par, run, rise, K, Even, parity, holds_at, in_result}
 use Rattle.points_law.proofs.ResultOfChoices.{Edges}
 use Rattle.points_law.proofs.Result.{result_parity}
 
@@ -35,15 +35,6 @@ by_choice a p x xs false e h = h
 pub par_filter : {X : Type 0} (a p : X → Bool) (xs : List X) → par p (filter a xs) ≡ par (λ y. a y ∧∧ p y) xs
 par_filter a p [] = refl
 par_filter a p (x ∷ xs) = by_choice a p x xs (a x) refl (par_filter a p xs)
-
--- the parity over the result edges, as a list of their own
-pub over_result : (es : List Edge) → Edges es → (op : Bool → Bool → Bool) → op false false ≡ false → (a b : Edge → Bool) → Even a es → Even b es → (z : Point)
-    → par (λ e. counted e z) (filter (in_result op a b es) es) ≡ op (par (λ e. counted e z) (filter a es)) (par (λ e. counted e z) (filter b es))
-over_result es h op o a b ea eb z =
-    par_filter (in_result op a b es) (λ e. counted e z) es
-    ∙ result_parity es h op o a b ea eb z
-    ∙ ap (λ (t : Bool). op t (parity b es z)) (sym (par_filter a (λ e. counted e z) es))
-    ∙ ap (λ (t : Bool). op (par (λ e. counted e z) (filter a es)) t) (sym (par_filter b (λ e. counted e z) es))
 
 -- ---- directed edges
 abbrev parity_at : (Edge → Bool) → List Edge → ℤ → ℤ → Bool
@@ -67,15 +58,6 @@ left_back op a b es u v = ap (λ (t : Bool). op t (parity b es (left_side v u)))
 
 pub right_back : (op : Bool → Bool → Bool) (a b : Edge → Bool) (es : List Edge) (u v : Pt) → holds_at op a b es (right_side v u) ≡ holds_at op a b es (left_side u v)
 right_back op a b es u v = ap (λ (t : Bool). op t (parity b es (right_side v u))) (right_turned a es u v) ∙ ap (λ (t : Bool). op (parity a es (left_side u v)) t) (right_turned b es u v)
-
-one_way : (l r : Bool) → l ⊕ r ≡ (l ∧∧ not r) ⊕ (r ∧∧ not l)
-one_way l r = grind arith
-
--- an edge is in the result in one direction or the other, and never in both
-pub directed : (op : Bool → Bool → Bool) (a b : Edge → Bool) (es : List Edge) (e : Edge) → in_result op a b es e ≡ is_result op a b es e.p e.q ⊕ is_result op a b es e.q e.p
-directed op a b es e = one_way (holds_at op a b es (left_side e.p e.q)) (holds_at op a b es (right_side e.p e.q))
-    ∙ ap (λ (t : Bool). is_result op a b es e.p e.q ⊕ (t ∧∧ not (holds_at op a b es (left_side e.p e.q)))) (sym (left_back op a b es e.p e.q))
-    ∙ ap (λ (t : Bool). is_result op a b es e.p e.q ⊕ (holds_at op a b es (left_side e.q e.p) ∧∧ not t)) (sym (right_back op a b es e.p e.q))
 
 -- the operation at a point is the parity over the result edges: what is proved of an even choice holds of the result
 pub holds_is : (es : List Edge) → Edges es → (op : Bool → Bool → Bool) → op false false ≡ false → (a b : Edge → Bool) → Even a es → Even b es → (z : Point)
