@@ -2,3 +2,4 @@ pub mod Sinks
 pub mod Texts
 pub mod CommandLine
 pub mod Arguments
+pub mod Runs

@@ -13,13 +13,15 @@ use clap::{Arg, ArgAction, ArgMatches, Command, value_parser};
 use std::alloc::{AllocError, Global};
 use std::convert::AsStr;
 
-const ABOUT: &str = "Overlays two polygon layers on the integer grid, exactly and with proved rounding.";
+const ABOUT: &str =
+    "Overlays two polygon layers on the integer grid, exactly and with proved rounding.";
 
 const TILE_HELP: &str = "The side of a tile, in grid units, 16 to 33554432";
 
 const WORKERS_HELP: &str = "The number of threads, 1 to 64";
 
-const AFTER: &str = "edges prints a line `x1 y1 x2 y2 countA countB` for each edge of both layers after rounding.
+const AFTER: &str =
+    "edges prints a line `x1 y1 x2 y2 countA countB` for each edge of both layers after rounding.
 Coordinates are whole numbers from -16777216 to 16777216, in grid units.
 
 Exit status: 0 answered, 1 a file, the output or memory failed, 2 command line not accepted,
@@ -78,7 +80,9 @@ fn described<'a>(alloc: Global) -> Command<'a>
     ensures local { (fields_of result).has_globals ≡ false }
     ensures negates { (fields_of result).subcommand_negates_reqs ≡ false }
 {
-    Command::new(alloc, "overlay").about(ABOUT).after_help(AFTER)
+    Command::new(alloc, "overlay")
+        .about(ABOUT)
+        .after_help(AFTER)
 }
 
 /// The command as `clap` reads it.
@@ -87,11 +91,20 @@ fn parser<'a>(alloc: Global) -> Result<Command<'a>, AllocError>
     ensures chain { IfOk result (λ c. IsOverlayCommand c) }
 {
     let word = word_arg(alloc);
-    let a = file_arg(alloc, "a", "A", "The first layer's file: POLYGON and MULTIPOLYGON texts");
+    let a = file_arg(
+        alloc,
+        "a",
+        "A",
+        "The first layer's file: POLYGON and MULTIPOLYGON texts",
+    );
     let b = file_arg(alloc, "b", "B", "The second layer's file");
     let tile = number_arg(alloc, "tile", "262144", TILE_HELP);
     let workers = number_arg(alloc, "workers", "4", WORKERS_HELP);
-    let report = flag_arg(alloc, "report", "Prints the numbers of the run to standard error");
+    let report = flag_arg(
+        alloc,
+        "report",
+        "Prints the numbers of the run to standard error",
+    );
     described(alloc)
         .arg(word)?
         .arg(a)?

@@ -5,12 +5,10 @@ ghost use Rattle.std.specs.Prelude.{◌≤◌, IfOk, length};
 use std::alloc::Allocator;
 use std::io::{ErrorKind, Read};
 use std::{fs, io, rt};
+use wkt::LENGTH_LIMIT;
 
-/// The greatest number of bytes of a layer text.
-pub const LENGTH_LIMIT: usize = 268_435_456;
-
-/// What is read at most: one byte past the limit.
-pub const READ_LIMIT: usize = 268_435_457;
+/// What is read of a file at most, in bytes: one past the limit of a layer text.
+pub const READ_LIMIT: usize = LENGTH_LIMIT + 1;
 
 /// Why a file is not read.
 #[derive(Clone, Copy, Debug, PartialEq, Eq)]

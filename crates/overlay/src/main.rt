@@ -3,7 +3,9 @@
 
 mod asked;
 mod cli;
+mod engine;
 mod files;
+mod program;
 mod rounding;
 mod sink;
 mod stream;
@@ -12,9 +14,20 @@ mod text;
 
 pub use asked::{CliFault, Command, Request};
 pub use cli::request;
+pub use engine::{Plan, edges};
 pub use files::{Disk, Files, LoadFault};
+pub use program::{drive, drive_process};
 pub use sink::{MemSink, Sink, SinkFault, write_all};
+use std::process::ExitCode;
 pub use stream::{ErrSink, StdSink, Stream};
-pub use text::{Report, edges_text, line, report_text, status};
+pub use text::{Report, line, report_text, status};
 
-fn main() {}
+fn main(rt: HostRuntime) -> ExitCode {
+    let mut out = Stream::new(rt.stdout());
+    let mut err = Stream::new(rt.stderr());
+    let mut files = Disk::new(&rt);
+    ExitCode::from(drive_process(&rt, &mut files, &mut out, &mut err))
+}
+
+#[cfg(test)]
+mod tests;

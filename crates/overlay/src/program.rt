@@ -1,0 +1,182 @@
+//! The program, over files and sinks.
+
+ghost use Rattle.std.specs.Prelude.{◌≡◌, ◌<◌, ◌⊎◌};
+ghost use Rattle.overlay.specs.Texts.{status_of};
+
+use crate::asked::{CliFault, Command, Request};
+use crate::cli::request;
+use crate::engine::{Plan, edges};
+use crate::files::{Files, LoadFault};
+use crate::sink::{Sink, write_all};
+use crate::text::{Report, line, report_text, status};
+use geom::RunFault;
+use std::alloc::Global;
+use std::convert::AsStr;
+use std::env;
+use std::io::ErrorKind;
+use std::rt::Env;
+use tile_book::OpenGate;
+
+/// The exit status where all was answered, or help was asked for.
+const ANSWERED: u8 = 0;
+
+/// The exit status where a file, the output or memory failed.
+const FAILED: u8 = 1;
+
+/// The exit status of a command line that isn't accepted.
+const NOT_ACCEPTED: u8 = 2;
+
+/// Does what a command line asks for, of which the first word is the program's name, and answers the exit status. The
+/// text goes to `out`; the line of a fault, the parser's text and the report go to `err`. A fault of the command line
+/// comes before one of its command word, then those of file A, file B and the run.
+pub fn drive<S: AsStr, F: Files, O: Sink, E: Sink>(
+    alloc: Global,
+    words: &[S],
+    files: &mut F,
+    out: &mut O,
+    err: &mut E,
+) -> u8
+    requires out { O.failed out.old < u64.MAX }
+    requires err { E.failed err.old < u64.MAX }
+{
+    match request(alloc, words) {
+        Ok(asked) => answer(alloc, &asked, files, out, err),
+        Err(fault) => tell_command_line(&fault, out, err),
+    }
+}
+
+/// Does what the words of the process ask for. Words that are no text are a command line that isn't accepted.
+pub fn drive_process<R: Env + AllocGlobal, F: Files, O: Sink, E: Sink>(
+    rt: &R,
+    files: &mut F,
+    out: &mut O,
+    err: &mut E,
+) -> u8
+    requires out { O.failed out.old < u64.MAX }
+    requires err { E.failed err.old < u64.MAX }
+{
+    let words = match env::args(rt) {
+        Ok(words) => words.collect::<Vec<String>>(rt.alloc()),
+        Err(error) if error.kind() == ErrorKind::OutOfMemory => return tell_no_memory(err),
+        Err(_) => return tell(err, b"overlay: a word is not UTF-8\n", NOT_ACCEPTED),
+    };
+    match words {
+        Ok(words) => drive(rt.alloc(), words.as_slice(), files, out, err),
+        Err(_) => tell_no_memory(err),
+    }
+}
+
+/// Reads both files, A before B, and runs what is asked for.
+fn answer<F: Files, O: Sink, E: Sink>(
+    alloc: Global,
+    asked: &Request<'_>,
+    files: &mut F,
+    out: &mut O,
+    err: &mut E,
+) -> u8
+    requires out { O.failed out.old < u64.MAX }
+    requires err { E.failed err.old < u64.MAX }
+{
+    let a = match files.load(alloc, asked.a) {
+        Ok(bytes) => bytes,
+        Err(fault) => return tell_file(fault, b"overlay: A: cannot read\n", err),
+    };
+    let b = match files.load(alloc, asked.b) {
+        Ok(bytes) => bytes,
+        Err(fault) => return tell_file(fault, b"overlay: B: cannot read\n", err),
+    };
+    match run(alloc, asked, a.as_slice(), b.as_slice(), out) {
+        Ok(report) if asked.report => show_report(alloc, &report, err),
+        Ok(_) => ANSWERED,
+        Err(fault) => tell_fault(alloc, &fault, err),
+    }
+}
+
+/// Runs the command on two layer texts.
+fn run<O: Sink>(
+    alloc: Global,
+    asked: &Request<'_>,
+    a: &[u8],
+    b: &[u8],
+    out: &mut O,
+) -> Result<Report<Global>, RunFault>
+    requires { O.failed out.old < u64.MAX }
+{
+    let plan = Plan {
+        side: asked.side,
+        workers: asked.workers,
+    };
+    match asked.command {
+        Command::Edges => edges(alloc, a, b, plan, &OpenGate, out),
+    }
+}
+
+/// Writes what is said of a command line, and answers the status.
+fn tell_command_line<O: Sink, E: Sink>(fault: &CliFault, out: &mut O, err: &mut E) -> u8
+    requires out { O.failed out.old < u64.MAX }
+    requires err { E.failed err.old < u64.MAX }
+{
+    match fault {
+        CliFault::Unknown => tell(err, b"overlay: unknown command\n", NOT_ACCEPTED),
+        CliFault::Help(text) => show(out, text.as_bytes()),
+        CliFault::Refused(text) => tell(err, text.as_bytes(), NOT_ACCEPTED),
+        CliFault::Memory => tell_no_memory(err),
+    }
+}
+
+fn tell_file<E: Sink>(fault: LoadFault, text: &[u8], err: &mut E) -> u8
+    requires { E.failed err.old < u64.MAX }
+    ensures { result ≡ FAILED }
+{
+    match fault {
+        LoadFault::Unreadable => tell(err, text, FAILED),
+        LoadFault::Memory => tell_no_memory(err),
+    }
+}
+
+/// Writes a fault's line, and answers its status, or that of want of memory where there is none for the line.
+fn tell_fault<E: Sink>(alloc: Global, fault: &RunFault, err: &mut E) -> u8
+    requires { E.failed err.old < u64.MAX }
+    ensures { (result ≡ status_of fault.now) ⊎ (result ≡ FAILED) }
+{
+    match line(alloc, fault) {
+        Ok(text) => tell(err, text.as_slice(), status(fault)),
+        Err(_) => tell_no_memory(err),
+    }
+}
+
+/// Writes the report, and answers 0, or 1 where it can't be written.
+fn show_report<E: Sink>(alloc: Global, report: &Report<Global>, err: &mut E) -> u8
+    requires { E.failed err.old < u64.MAX }
+{
+    match report_text(alloc, report) {
+        Ok(text) => show(err, text.as_slice()),
+        Err(_) => tell_no_memory(err),
+    }
+}
+
+fn tell_no_memory<E: Sink>(err: &mut E) -> u8
+    requires { E.failed err.old < u64.MAX }
+    ensures { result ≡ FAILED }
+{
+    tell(err, b"overlay: 10 out of memory\n", FAILED)
+}
+
+/// Writes a line, and answers the status. The status stays where the line can't be written.
+fn tell<E: Sink>(err: &mut E, text: &[u8], answer: u8) -> u8
+    requires { E.failed err.old < u64.MAX }
+    ensures { result ≡ answer }
+{
+    let _ = write_all(err, text);
+    answer
+}
+
+/// Writes a text, and answers 0, or 1 where it can't be written.
+fn show<S: Sink>(sink: &mut S, text: &[u8]) -> u8
+    requires { S.failed sink.old < u64.MAX }
+{
+    match write_all(sink, text) {
+        Ok(()) => ANSWERED,
+        Err(_) => FAILED,
+    }
+}
