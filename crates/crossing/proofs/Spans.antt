@@ -70,8 +70,7 @@ pub common_point : (s t : Seg) → boxes_meet s t ≡ true → ShareAPoint (leas
 common_point s t h =
     let l = and_both _ _ h in
     let x = common_of s.a.x s.b.x t.a.x t.b.x l.0 in
-    let y = common_of s.a.y s.b.y t.a.y t.b.y l.1 in
-    (
+    let y = common_of s.a.y s.b.y t.a.y t.b.y l.1 in (
       record { x = x.at; y = y.at; n = pos 1; positive = omega (arith, linear) },
       record { left = once_from _ _ x.first_from; right = once_to _ _ x.first_to; bottom = once_from _ _ y.first_from; top = once_to _ _ y.first_to },
       record { left = once_from _ _ x.second_from; right = once_to _ _ x.second_to; bottom = once_from _ _ y.second_from; top = once_to _ _ y.second_to },
