@@ -1,12 +1,13 @@
 #!/usr/bin/env python3
 """Compares the built program with a reference, byte for byte, on the samples and on generated layer pairs.
 
-    python3 bench/compare.py --reference PATH [--program PATH] [--pairs N] [--seed N] [--first N]
+    python3 bench/compare.py --reference PATH [--program PATH] [--pairs N] [--seed N] [--first N] [--report]
 
 The reference is a program with the same command line (a Python file is run by this Python). Every pair is run as
-`edges A B --report`: status, standard output and standard error have to be equal. Pair k has generator k modulo the
-number of generators and its own seed, so one pair can be run again by `--first k --pairs 1`. A pair that differs is left
-in bench/out/, and the exit status is 1.
+`edges A B`: status, standard output and standard error have to be equal, with `--report` also the reports (these differ
+where there are several tiles, as long as the program has one). Pair k has generator k modulo the number of generators and
+its own seed, so one pair can be run again by `--first k --pairs 1`. A pair that differs is left in bench/out/, and the exit
+status is 1.
 """
 import argparse
 import os
@@ -134,9 +135,9 @@ def pair(k, seed):
     return text_of(first(rng)), text_of(second(rng))
 
 
-def outcome(command, a, b):
+def outcome(command, a, b, report):
     start = time.monotonic()
-    run = subprocess.run(command + ["edges", a, b, "--report"], stdout=subprocess.PIPE, stderr=subprocess.PIPE)
+    run = subprocess.run(command + ["edges", a, b] + ["--report"] * report, stdout=subprocess.PIPE, stderr=subprocess.PIPE)
     return (run.returncode, run.stdout, run.stderr), time.monotonic() - start
 
 
@@ -151,6 +152,7 @@ def main():
     parser.add_argument("--pairs", type=int, default=100)
     parser.add_argument("--first", type=int, default=0)
     parser.add_argument("--seed", type=int, default=1)
+    parser.add_argument("--report", action="store_true")
     args = parser.parse_args()
     folder = os.path.join(ROOT, "bench/out")
     os.makedirs(folder, exist_ok=True)
@@ -164,8 +166,8 @@ def main():
         runs.append(("pair %d (%s)" % (k, GENERATORS[k % len(GENERATORS)].__name__), *names))
     bad, lines, ours, theirs = 0, 0, 0.0, 0.0
     for name, a, b in runs:
-        got, took = outcome(program_of(args.program), a, b)
-        want, took_reference = outcome(program_of(args.reference), a, b)
+        got, took = outcome(program_of(args.program), a, b, args.report)
+        want, took_reference = outcome(program_of(args.reference), a, b, args.report)
         ours, theirs, lines = ours + took, theirs + took_reference, lines + got[1].count(b"\n")
         if got != want:
             bad += 1
