@@ -9,6 +9,7 @@ abbrev pub ComesBack : {P : Type 0} → (P → ℕ) → BookView P → P → Ret
 ComesBack number b p (Stranger q) = (q ≡ p) × (b.limit ≤ number p)
 ComesBack number b p (Double q) = (q ≡ p) × (number p < b.limit) × IsSome (slice_index_or b.held (number p) None)
 
-abbrev pub piece_of : {P : Type 0} → Returned P → P
-piece_of (Stranger q) = q
-piece_of (Double q) = q
+-- at a desk whose book holds what others posted too: the piece comes back, as a stranger where its number is not below the limit
+abbrev pub SentBack : {P : Type 0} → (P → ℕ) → ℕ → P → Returned P → Type 0
+SentBack number limit p (Stranger q) = (q ≡ p) × (limit ≤ number p)
+SentBack number limit p (Double q) = (q ≡ p) × (number p < limit)

@@ -51,7 +51,8 @@ impl<P: Numbered + Drop, L: Limited, A: Allocator> Book<P, L, A> {
     /// Accepts a piece whose number is below the limit and not held yet, and counts it in the share. Otherwise the piece
     /// comes back and nothing has changed. It takes no memory.
     pub fn post(&mut self, share: Share<L>, piece: P) -> (Share<L>, Result<(), Returned<P>>)
-        ensures { MatchResult result.1
+        ensures limit { self.old.limit ≡ L.limit }
+        ensures answer { MatchResult result.1
             (λ _. (P.number_of piece < self.old.limit) × (slice_index_or self.old.held (P.number_of piece) None ≡ None) × (self.new ≡ with_piece self.old (P.number_of piece) piece) × (result.0 ≡ share + 1))
             (λ r. ComesBack P.number_of self.old piece r × (self.new ≡ self.old) × (result.0 ≡ share)) }
     {

@@ -1,7 +1,7 @@
 //! The desk: a book under a lock, and its shares.
 
 ghost use Rattle.std.specs.Prelude.{◌≡◌, ◌+◌, ◌<◌, ◌≤◌, ◌↔◌, ℕ, [], All, IfOk, IfErr, IsOk, IsSome, None, MatchResult, slice_index_or, length, sum, vec_len};
-ghost use Rattle.tile_book.specs.Replies.{piece_of};
+ghost use Rattle.tile_book.specs.Replies.{SentBack};
 
 use crate::book::{Book, Numbered, Returned};
 use crate::share::{Limited, Share};
@@ -82,14 +82,15 @@ impl<P: Numbered + Drop, L: Limited, A: Allocator + Copy> Desk<P, L, A> {
         book.into_inner()
     }
 
-    /// Takes the lock and posts.
+    /// Takes the lock and posts: accepted, and the share grows by one; or the piece comes back, as a stranger where its
+    /// number is not below the limit, else because a piece of its number is held.
     pub fn post(
         &self,
         rt: &impl Wait,
         share: Share<L>,
         piece: P,
     ) -> (Share<L>, Result<(), Returned<P>>)
-        ensures { MatchResult result.1 (λ _. result.0 ≡ share + 1) (λ r. (result.0 ≡ share) × (piece_of r ≡ piece)) }
+        ensures { MatchResult result.1 (λ _. (P.number_of piece < self.now.limit) × (result.0 ≡ share + 1)) (λ r. SentBack P.number_of self.now.limit piece r × (result.0 ≡ share)) }
     {
         self.book.lock(rt).post(share, piece)
     }

@@ -392,7 +392,10 @@ fn refuses_where_memory_does(rt: HostRuntime) -> Result<(), Fail> {
     }
     // The bytes that each takes at least: a word; a test for each hand and number, and numbers; places and numbers.
     for (most, bytes) in most.into_iter().zip([8, 2 + 8 + 32, 64 + 32]) {
-        assert!(rt; most > 0 && most <= (ROOM + 1).saturating_sub(bytes), "{most}");
+        assert!(rt;
+            most > 0 && most <= (ROOM + 1).saturating_sub(bytes),
+            "{most}"
+        );
     }
     Ok(())
 }
