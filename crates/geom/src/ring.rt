@@ -32,7 +32,8 @@ impl<A: Allocator> Ring<A> {
 
     /// The points in their order, the first one not repeated.
     pub fn points(&self) -> &[Pt]
-        ensures { result.now ≡ self.now }
+        ensures points { result.now ≡ self.now }
+        ensures enough { 3 ≤ length self.now }
     {
         &self.points
     }
@@ -70,7 +71,9 @@ impl<A: Allocator> SimpleRing<A> {
 
     /// The points in their order, the first one not repeated.
     pub fn points(&self) -> &[Pt]
-        ensures { result.now ≡ self.now }
+        ensures points { result.now ≡ self.now }
+        ensures enough { 3 ≤ length self.now }
+        ensures distinct { AllPairs (λ p q. p ≢ q) self.now }
     {
         &self.points
     }

@@ -17,7 +17,7 @@ use Rattle.wkt.specs.LayerText.{Point, Ring, IsLayer, IsBroken}
 use Rattle.wkt.specs.Machine.{class_of, turn, Notes, noted, step, run, start, may_end, walk, is_multi_after}
 use Rattle.wkt.specs.Reading.{u32_max, Idle, ReaderIs, Says, Went}
 use Rattle.geom.specs.Segments.{layer_steps}
-use Rattle.wkt.specs.Refusals.{length_limit, all_numbers, first_outside, place_of, is_closed, fault_at, or_else, first_fault, plain, IsRead, IsAccepted, HasFault, IsRefused}
+use Rattle.wkt.specs.Refusals.{length_limit, all_numbers, first_outside, place_of, is_closed, fault_at, or_else, first_fault, plain, IsRead, IsAccepted, HasFault, StandsFor, IsRefused}
 use Rattle.wkt.specs.Outlines.{IsOutline}
 use Rattle.wkt.specs.Surveying.{Sketch, sketch, Shown, fresh, took, judged}
 use Rattle.wkt.proofs.Sound.{accepted, some_is}
@@ -112,7 +112,7 @@ idle_end p m e i = absurd cc
 
 -- what is answered of the text
 abbrev pub Answers : List ℕ → Result Outline Fault → Type 0
-Answers text x = MatchResult x (λ outline. (rings : List Ring) × IsAccepted text rings × IsOutline (plain rings) outline) (λ fault. IsRefused text fault)
+Answers text x = MatchResult x (λ outline. (rings : List (List Pt)) × StandsFor text rings × IsOutline rings outline) (λ fault. IsRefused text fault)
 
 -- a ring's fault is one of the two
 abbrev OfRing : Fault → Type 0
@@ -170,7 +170,7 @@ answered_clean : (text : List ℕ) (s : Shown) (outline : Outline) (rings : List
 answered_clean text s outline rings at None e sk h few c =
     let inside : first_outside (all_numbers rings) ≡ None = ap first_outside (sym (append-nil (all_numbers rings))) ∙ c.inside in
     let sound : first_fault rings ≡ None = sym c.fault ∙ e in
-    (rings, record { read = h; inside = inside; sound = sound }, outlined rings outline sound few (sk ∙ c.outline ∙ ap outline_of (append-nil (all_segments rings))))
+    (plain rings, (rings, record { read = h; inside = inside; sound = sound }, refl), outlined rings outline sound few (sk ∙ c.outline ∙ ap outline_of (append-nil (all_segments rings))))
 answered_clean text s outline rings at (Some f) e sk h few c =
     let inside : first_outside (all_numbers rings) ≡ None = ap first_outside (sym (append-nil (all_numbers rings))) ∙ c.inside in
     let fault : first_fault rings ≡ Some f = sym c.fault ∙ e in

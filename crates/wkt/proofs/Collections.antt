@@ -30,7 +30,7 @@ front_step : (b : Bool) (x : Number) (xs ys : List Number) → (first_outside (x
 front_step true x xs ys f e = absurd cc
 front_step false x xs ys f e = f e
 
-front_inside : (xs ys : List Number) → first_outside (xs ++ ys) ≡ None → (first_outside xs ≡ None) × (first_outside ys ≡ None)
+pub front_inside : (xs ys : List Number) → first_outside (xs ++ ys) ≡ None → (first_outside xs ≡ None) × (first_outside ys ≡ None)
 front_inside [] ys e = (refl, e)
 front_inside (x ∷ xs) ys e = front_step (nat_lt coordinate_limit (unsigned_abs x.value)) x xs ys (front_inside xs ys) e
 
@@ -38,7 +38,7 @@ valued : (c : Numeral) (x : Number) → Valued c x → nat_lt coordinate_limit (
 valued c x (inl (e, f)) g = absurd cc
 valued c x (inr (e, f)) g = ap (λ (o : Option ℤ). unwrap_or o (pos 0)) e
 
-inside_head : (b : Bool) (k : ℕ) (o : Option ℕ) → cond b (Some k) o ≡ None → (b ≡ false) × (o ≡ None)
+pub inside_head : (b : Bool) (k : ℕ) (o : Option ℕ) → cond b (Some k) o ≡ None → (b ≡ false) × (o ≡ None)
 inside_head true k o e = absurd cc
 inside_head false k o e = (refl, e)
 

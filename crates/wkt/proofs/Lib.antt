@@ -11,3 +11,8 @@ pub mod Boxes
 pub mod Closing
 pub mod Checks
 pub mod Collections
+pub mod Inside
+pub mod Exclusive
+pub mod Bounded
+pub mod Written
+pub mod Writing

@@ -51,7 +51,7 @@ found_step : (b : Bool) (x : Number) (xs ys : List Number) (o : ℕ) → (first_
 found_step true x xs ys o f e = e
 found_step false x xs ys o f e = f e
 
-outside_then : (xs ys : List Number) → first_outside xs ≡ None → first_outside (xs ++ ys) ≡ first_outside ys
+pub outside_then : (xs ys : List Number) → first_outside xs ≡ None → first_outside (xs ++ ys) ≡ first_outside ys
 outside_then [] ys e = refl
 outside_then (x ∷ xs) ys e = outside_step (nat_lt coordinate_limit (unsigned_abs x.value)) x xs ys (outside_then xs ys) e
 
@@ -98,7 +98,7 @@ pub segments-push-le : (pts : List Pt) (q : Pt) → length (segments (pts ++ q �
 segments-push-le [] q = omega arith
 segments-push-le (a ∷ qs) q = rw (segments_from-push a qs q) (omega (arith, length-append (segments_from a qs) (step_of (last_of a qs) q), step_short (same_point (last_of a qs) q) (last_of a qs, q)))
 
-last_of-push : (a : Pt) (qs : List Pt) (q : Pt) → last_of a (qs ++ q ∷ []) ≡ q
+pub last_of-push : (a : Pt) (qs : List Pt) (q : Pt) → last_of a (qs ++ q ∷ []) ≡ q
 last_of-push a [] q = refl
 last_of-push a (b ∷ qs) q = last_of-push b qs q
 

@@ -55,28 +55,32 @@ first_fault (r ∷ rs) = or_else (fault_at r.at (map place_of r.points)) (first_
 
 -- ---- a text
 
+-- the text is within the length limit, and is a layer with these rings as they are written
+pub record IsRead (text : List ℕ) (written : List Ring) : Type 0 where
+  pub short : length text ≤ length_limit
+  pub layer : IsLayer text written
+
+-- and nothing is wrong with them
+pub record IsAccepted (text : List ℕ) (written : List Ring) : Type 0 where
+  pub read : IsRead text written
+  pub inside : first_outside (all_numbers written) ≡ None
+  pub sound : first_fault written ≡ None
+
 -- the points of the rings, without the last of each, which is its first again
 abbrev pub plain : List Ring → List (List Pt)
-plain rings = map (λ r. take (length r.points - 1) (map place_of r.points)) rings
+plain written = map (λ r. take (length r.points - 1) (map place_of r.points)) written
 
--- the text is within the length limit and is a layer with these rings
-pub record IsRead (text : List ℕ) (rings : List Ring) : Type 0 where
-  pub short : length text ≤ length_limit
-  pub layer : IsLayer text rings
-
--- the text is a layer with these rings, and nothing is wrong with it
-pub record IsAccepted (text : List ℕ) (rings : List Ring) : Type 0 where
-  pub read : IsRead text rings
-  pub inside : first_outside (all_numbers rings) ≡ None
-  pub sound : first_fault rings ≡ None
+-- the text is accepted, and stands for these rings, whose first points are not repeated
+abbrev pub StandsFor : List ℕ → List (List Pt) → Type 0
+StandsFor text rings = (written : List Ring) × IsAccepted text written × (plain written ≡ rings)
 
 -- a number of the text is outside the coordinate limit, the first one at this offset
 abbrev pub HasOutside : List ℕ → ℕ → Type 0
-HasOutside text o = (rings : List Ring) × IsRead text rings × (first_outside (all_numbers rings) ≡ Some o)
+HasOutside text o = (written : List Ring) × IsRead text written × (first_outside (all_numbers written) ≡ Some o)
 
 -- all numbers are within the coordinate limit, and the first ring at fault has this fault
 abbrev pub HasFault : List ℕ → Fault → Type 0
-HasFault text f = (rings : List Ring) × IsRead text rings × (first_outside (all_numbers rings) ≡ None) × (first_fault rings ≡ Some f)
+HasFault text f = (written : List Ring) × IsRead text written × (first_outside (all_numbers written) ≡ None) × (first_fault written ≡ Some f)
 
 -- the fault that the text is refused for
 abbrev pub IsRefused : List ℕ → Fault → Type 0

@@ -1,8 +1,9 @@
 //! A layer text, checked without memory.
 
-ghost use Rattle.std.specs.Prelude.{List, MatchResult};
-ghost use Rattle.wkt.specs.LayerText.{Ring};
-ghost use Rattle.wkt.specs.Refusals.{IsAccepted, IsRefused, plain};
+ghost use Rattle.std.specs.Prelude.{List, IfOk, IfSome, MatchResult};
+ghost use Rattle.geom.specs.Limit.{AreInLimit};
+ghost use Rattle.geom.specs.declared.point.Pt.{Pt};
+ghost use Rattle.wkt.specs.Refusals.{IsRefused, StandsFor};
 ghost use Rattle.wkt.specs.Outlines.{IsOutline};
 
 use crate::outline::Outline;
@@ -16,7 +17,8 @@ pub const LENGTH_LIMIT: usize = 268_435_456;
 /// The outline of a layer text, or why it is refused: too long, no layer text, a number out of range, or a ring with
 /// too few points or left open, in this order. Takes no memory.
 pub fn check_layer(text: &[u8]) -> Result<Outline, Fault>
-    ensures { MatchResult result (λ outline. (rings : List Ring) × IsAccepted text.now rings × IsOutline (plain rings) outline) (λ fault. IsRefused text.now fault) }
+    ensures answer { MatchResult result (λ outline. (rings : List (List Pt)) × StandsFor text.now rings × IsOutline rings outline) (λ fault. IsRefused text.now fault) }
+    ensures in_limit { IfOk result (λ outline. IfSome outline.bounds (λ r. AreInLimit r.lo r.hi)) }
 {
     if text.len() > LENGTH_LIMIT {
         return Err(Fault::LayerLong);

@@ -2,12 +2,19 @@
 #![tactic(auto)]
 
 mod check;
+mod laws;
 mod outline;
 mod places;
 mod read;
 mod reader;
 mod survey;
+mod write;
 
 pub use check::{LENGTH_LIMIT, check_layer};
+pub use laws::{one_reading, one_refusal};
 pub use outline::Outline;
 pub use read::read_layer;
+pub use write::write_multi;
+
+#[cfg(test)]
+mod tests;

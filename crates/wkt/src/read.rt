@@ -1,8 +1,9 @@
 //! A layer text, read into rings.
 
-ghost use Rattle.std.specs.Prelude.{◌≡◌, ◌⊎◌, List, IfOk, MatchResult, OnOk};
-ghost use Rattle.wkt.specs.LayerText.{Ring as TextRing};
-ghost use Rattle.wkt.specs.Refusals.{IsAccepted, IsRefused, plain};
+ghost use Rattle.std.specs.Prelude.{◌≡◌, ◌⊎◌, List, All, IfOk, MatchResult, OnOk};
+ghost use Rattle.geom.specs.Limit.{InLimit};
+ghost use Rattle.geom.specs.declared.point.Pt.{Pt as PtOf};
+ghost use Rattle.wkt.specs.Refusals.{IsRefused, StandsFor};
 ghost use Rattle.wkt.specs.Collecting.{Enough, gathered, point_value, view};
 
 use crate::check::check_layer;
@@ -64,8 +65,8 @@ impl<A: Allocator + Copy> Collector<A> {
 
 /// The rings of a text that is accepted.
 fn rings<A: Allocator + Copy>(alloc: A, text: &[u8]) -> Result<Vec<Ring<A>, A>, NoMemory>
-    requires { (rings : List TextRing) × IsAccepted text.now rings }
-    ensures { IfOk result (λ found. (rings : List TextRing) × IsAccepted text.now rings × (found.items ≡ plain rings)) }
+    requires { (rings : List (List PtOf)) × StandsFor text.now rings }
+    ensures { IfOk result (λ found. StandsFor text.now found.items) }
 {
     let mut reader = Reader::new();
     let mut collector = Collector {
@@ -85,7 +86,8 @@ fn rings<A: Allocator + Copy>(alloc: A, text: &[u8]) -> Result<Vec<Ring<A>, A>, 
 /// The rings of a layer text in their order, or why it is refused, as `check_layer` says; `Memory` only on a text that
 /// `check_layer` accepts.
 pub fn read_layer<A: Allocator + Copy>(alloc: A, text: &[u8]) -> Result<Layer<A>, Fault>
-    ensures { MatchResult result (λ layer. (rings : List TextRing) × IsAccepted text.now rings × (layer.rings.items ≡ plain rings)) (λ fault. IsRefused text.now fault ⊎ ((fault ≡ Fault.Memory) × (rings : List TextRing) × IsAccepted text.now rings)) }
+    ensures answer { MatchResult result (λ layer. StandsFor text.now layer.rings.items) (λ fault. IsRefused text.now fault ⊎ ((fault ≡ Fault.Memory) × (rings : List (List PtOf)) × StandsFor text.now rings)) }
+    ensures in_limit { IfOk result (λ layer. All (λ ring. All InLimit ring) layer.rings.items) }
 {
     check_layer(text)?;
     match rings(alloc, text) {

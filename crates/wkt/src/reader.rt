@@ -96,6 +96,11 @@ impl Reader {
         ensures { (m : Notes) → ReaderIs self.old m → Stepped at byte self.old m result self.new }
     {
         let class = Class::of(byte);
+        // Most bytes are digits behind digits.
+        if let (Place::DigitsX | Place::DigitsY, Class::Digit(digit)) = (self.place, class) {
+            self.number = self.number.with_digit(digit);
+            return Some(Event::Nothing);
+        }
         let place = self.place;
         let next = place.turn(class, self.multi)?;
         let event = place.event(class, self.x, self.number);

@@ -5,11 +5,11 @@ use Rattle.wkt.proofs.read.rings.Goals as goal
 
 pub unreachable-requires : goal.unreachable-requires
 unreachable-requires g c =
-    collected_stop c.args.text.now c.loop-at.at c.loop-at.reader (view c.loop-at.collector) c.requires.0 c.loop-at-test.true c.requires.1 c.loop-at.invariant (c.in_default.ensures c.loop-at.invariant.notes c.loop-at.invariant.is)
+    collected_stop c.args.text.now c.loop-at.at c.loop-at.reader (view c.loop-at.collector) c.requires.1.0 c.loop-at-test.true c.requires.1.1 c.loop-at.invariant (c.in_default.ensures c.loop-at.invariant.notes c.loop-at.invariant.is)
 
 pub note-requires : goal.note-requires
 note-requires g c =
-    collected_enough c.args.text.now c.loop-at.at c.loop-at.reader (view c.loop-at.collector) c.in-Some.event c.step.new.self c.requires.0 c.loop-at-test.true c.requires.1 c.loop-at.invariant (c.in-Some.ensures c.loop-at.invariant.notes c.loop-at.invariant.is)
+    collected_enough c.args.text.now c.loop-at.at c.loop-at.reader (view c.loop-at.collector) c.in-Some.event c.step.new.self c.requires.1.0 c.loop-at-test.true c.requires.1.1 c.loop-at.invariant (c.in-Some.ensures c.loop-at.invariant.notes c.loop-at.invariant.is)
 
 pub loop-at-preserved : goal.loop-at-preserved
 loop-at-preserved g c =
@@ -17,4 +17,4 @@ loop-at-preserved g c =
     (collected_more c.args.text.now c.loop-at.at c.loop-at.reader (view c.loop-at.collector) c.in-Some.event c.step.new.self c.loop-at-test.true c.loop-at.invariant (c.in-Some.ensures c.loop-at.invariant.notes c.loop-at.invariant.is))
 
 pub returns : goal.returns
-returns g c = (c.requires.0, c.requires.1, collected_done c.args.text.now c.loop-at.at c.loop-at.reader (view c.loop-at.collector) c.requires.0 c.loop-at-test.false c.requires.1 c.loop-at.invariant)
+returns g c = (c.requires.1.0, c.requires.1.1, sym (collected_done c.args.text.now c.loop-at.at c.loop-at.reader (view c.loop-at.collector) c.requires.1.0 c.loop-at-test.false c.requires.1.1 c.loop-at.invariant))

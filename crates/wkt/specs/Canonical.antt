@@ -1,0 +1,32 @@
+-- The canonical text of polygons (OGC 06-103r4; the spelling is own): upper case, one space behind the keyword, `, `
+-- between, the shell before the holes, each ring's first point again at its end, plain decimals, LF at the end.
+use Rattle.std.specs.Prelude.{ℕ, List, [], ◌∷◌, ◌++◌, codes}
+use Rattle.std.specs.List.{flat_map}
+use Rattle.geom.specs.Words.{pt_words}
+use Rattle.geom.specs.declared.point.Pt.{Pt}
+use Rattle.geom.specs.declared.ring.Polygon.{Polygon}
+
+-- `, ` before each item
+abbrev pub more_of : {X : Type 0} → (X → List ℕ) → List X → List ℕ
+more_of f xs = flat_map (λ x. 44 ∷ 32 ∷ f x) xs
+
+-- `(`, the items with `, ` between them, `)`
+abbrev pub listed : {X : Type 0} → (X → List ℕ) → X → List X → List ℕ
+listed f x xs = 40 ∷ (f x ++ (more_of f xs ++ 41 ∷ []))
+
+-- a ring's points, and the first again
+abbrev pub ring_text : List Pt → List ℕ
+ring_text [] = []
+ring_text (p ∷ ps) = listed pt_words p (ps ++ p ∷ [])
+
+-- the shell, then the holes
+abbrev pub polygon_text : {A : Type 0} → Polygon A → List ℕ
+polygon_text p = listed ring_text p.shell p.holes.items
+
+abbrev pub multi_text : {A : Type 0} → List (Polygon A) → List ℕ
+multi_text [] = codes "MULTIPOLYGON EMPTY" ++ 10 ∷ []
+multi_text (p ∷ ps) = codes "MULTIPOLYGON " ++ (listed polygon_text p ps ++ 10 ∷ [])
+
+-- the rings of polygons in the order of their text
+abbrev pub rings_of : {A : Type 0} → List (Polygon A) → List (List Pt)
+rings_of polygons = flat_map (λ p. p.shell ∷ p.holes.items) polygons

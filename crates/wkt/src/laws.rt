@@ -1,0 +1,19 @@
+//! Laws of layer texts.
+
+ghost use Rattle.std.specs.Prelude.{◌≡◌, ℕ, List};
+ghost use Rattle.geom.specs.declared.fault.Fault.{Fault};
+ghost use Rattle.geom.specs.declared.point.Pt.{Pt};
+ghost use Rattle.wkt.specs.LayerText.{IsLayer, Ring};
+ghost use Rattle.wkt.specs.Refusals.{IsRefused, StandsFor};
+
+/// A text stands for at most one list of rings.
+pub fn one_reading()
+    ensures written { (text : List ℕ) (a b : List Ring) → IsLayer text a → IsLayer text b → a ≡ b }
+    ensures plain { (text : List ℕ) (a b : List (List Pt)) → StandsFor text a → StandsFor text b → a ≡ b }
+{}
+
+/// A text is refused for at most one reason, and for none if it is accepted.
+pub fn one_refusal()
+    ensures reason { (text : List ℕ) (f g : Fault) → IsRefused text f → IsRefused text g → f ≡ g }
+    ensures accepted { (text : List ℕ) (rings : List (List Pt)) (f : Fault) → StandsFor text rings → IsRefused text f → ⊥ }
+{}

@@ -1,0 +1,116 @@
+//! Polygons, written as the canonical line.
+
+ghost use Rattle.std.specs.Prelude.{◌≡◌, ◌≤◌, ◌++◌, ◌∷◌, All, IfOk, OnOk, length};
+ghost use Rattle.geom.specs.Limit.{InLimit};
+ghost use Rattle.std.specs.Fmt.{signed_decimal};
+ghost use Rattle.geom.specs.Words.{pt_words};
+ghost use Rattle.wkt.specs.Canonical.{more_of, multi_text, polygon_text, ring_text, rings_of};
+ghost use Rattle.wkt.specs.Refusals.{StandsFor, length_limit};
+
+use geom::{NoMemory, Polygon, Pt, SimpleRing};
+use itoa::Buffer;
+use std::alloc::{AllocError, Allocator};
+
+/// Adds a number in decimal digits.
+fn push_number<A: Allocator>(text: &mut Vec<u8, A>, number: i32) -> Result<(), AllocError>
+    ensures { OnOk result (text.new.items ≡ text.old.items ++ signed_decimal number) }
+{
+    let mut buffer = Buffer::new();
+    text.extend_from_slice(buffer.format(number).as_bytes())
+}
+
+fn push_point<A: Allocator>(text: &mut Vec<u8, A>, point: Pt) -> Result<(), AllocError>
+    ensures { OnOk result (text.new.items ≡ text.old.items ++ pt_words point) }
+{
+    push_number(text, point.x)?;
+    text.push(b' ')?;
+    push_number(text, point.y)
+}
+
+fn push_more_points<A: Allocator>(text: &mut Vec<u8, A>, points: &[Pt]) -> Result<(), AllocError>
+    ensures { OnOk result (text.new.items ≡ text.old.items ++ more_of pt_words points.now) }
+{
+    for point in points {
+        text.extend_from_slice(b", ")?;
+        push_point(text, *point)?;
+    }
+    Ok(())
+}
+
+/// Adds a ring, its first point again at its end.
+fn push_ring<A: Allocator, B: Allocator>(
+    text: &mut Vec<u8, A>,
+    ring: &SimpleRing<B>,
+) -> Result<(), AllocError>
+    ensures text { OnOk result (text.new.items ≡ text.old.items ++ ring_text ring.now) }
+    ensures enough { 3 ≤ length ring.now }
+{
+    let points = ring.points();
+    text.push(b'(')?;
+    push_point(text, points[0])?;
+    push_more_points(text, &points[1..])?;
+    push_more_points(text, &points[..1])?;
+    text.push(b')')?;
+    Ok(())
+}
+
+fn push_more_rings<A: Allocator, B: Allocator>(
+    text: &mut Vec<u8, A>,
+    rings: &[SimpleRing<B>],
+) -> Result<(), AllocError>
+    ensures text { OnOk result (text.new.items ≡ text.old.items ++ more_of ring_text rings.now) }
+    ensures enough { OnOk result (All (λ ring. 3 ≤ length ring) rings.now) }
+{
+    for ring in rings {
+        text.extend_from_slice(b", ")?;
+        push_ring(text, ring)?;
+    }
+    Ok(())
+}
+
+fn push_polygon<A: Allocator, B: Allocator>(
+    text: &mut Vec<u8, A>,
+    polygon: &Polygon<B>,
+) -> Result<(), AllocError>
+    ensures text { OnOk result (text.new.items ≡ text.old.items ++ polygon_text polygon.now) }
+    ensures enough { OnOk result (All (λ ring. 3 ≤ length ring) (polygon.now.shell ∷ polygon.now.holes.items)) }
+{
+    text.push(b'(')?;
+    push_ring(text, &polygon.shell)?;
+    push_more_rings(text, &polygon.holes)?;
+    text.push(b')')?;
+    Ok(())
+}
+
+fn push_more_polygons<A: Allocator, B: Allocator>(
+    text: &mut Vec<u8, A>,
+    polygons: &[Polygon<B>],
+) -> Result<(), AllocError>
+    ensures text { OnOk result (text.new.items ≡ text.old.items ++ more_of polygon_text polygons.now) }
+    ensures enough { OnOk result (All (λ ring. 3 ≤ length ring) (rings_of polygons.now)) }
+{
+    for polygon in polygons {
+        text.extend_from_slice(b", ")?;
+        push_polygon(text, polygon)?;
+    }
+    Ok(())
+}
+
+/// The canonical line of a list of polygons, in bytes, with LF at its end. Within the limits it is a layer text, and
+/// stands for the rings of the polygons.
+pub fn write_multi<A: Allocator, B: Allocator>(
+    alloc: A,
+    polygons: &[Polygon<B>],
+) -> Result<Vec<u8, A>, NoMemory>
+    ensures text { IfOk result (λ text. text.items ≡ multi_text polygons.now) }
+    ensures reads_again { IfOk result (λ text. length text.items ≤ length_limit → All (λ ring. All InLimit ring) (rings_of polygons.now) → StandsFor text.items (rings_of polygons.now)) }
+{
+    let Some((first, rest)) = polygons.split_first() else {
+        return Ok(Vec::from_slice(alloc, b"MULTIPOLYGON EMPTY\n")?);
+    };
+    let mut text = Vec::from_slice(alloc, b"MULTIPOLYGON (")?;
+    push_polygon(&mut text, first)?;
+    push_more_polygons(&mut text, rest)?;
+    text.extend_from_slice(b")\n")?;
+    Ok(text)
+}
