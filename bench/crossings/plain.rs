@@ -1,4 +1,4 @@
-// The same as crates/speed, in plain Rust: rustc -O plain.rs
+// The same as speed.rt, in plain Rust.
 use std::time::Instant;
 
 #[derive(Clone, Copy, PartialEq)]

@@ -9,7 +9,7 @@ use Rattle.std.proofs.lemmas.Cmp.{then_total, on_total, and_equiv, on_equiv, int
 use Rattle.geom.specs.declared.point.Pt.{Pt}
 use Rattle.geom.specs.declared.edge.Edge.{Edge}
 use Rattle.geom.specs.Order.{IsBefore}
-use Rattle.geom.specs.Rounded.{IsEdgeBefore}
+use Rattle.geom.specs.EdgeOrder.{IsEdgeBefore}
 use Rattle.geom.proofs.Integers.{linear}
 use Rattle.geom.proofs.Edges.{edge_path, before_strict}
 use Rattle.geom.proofs.Points.{same_point_true}

@@ -1,5 +1,6 @@
 pub mod Limit
 pub mod Order
+pub mod EdgeOrder
 pub mod Determinant
 pub mod Pixel
 pub mod OnSegment

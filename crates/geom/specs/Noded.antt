@@ -1,9 +1,9 @@
--- Noded edges (own): no two of them share a point but a common end.
+-- Noded edges (Hobby 1999, in this project's own statement): no two different ones share a point but a common end.
 use Rattle.std.specs.Prelude.{◌≡◌, ◌≢◌, ◌⊎◌, List, Contains}
 use Rattle.geom.specs.declared.edge.Edge.{Edge}
 use Rattle.geom.specs.Pixel.{Point, Coincides}
 use Rattle.geom.specs.OnSegment.{IsOn}
-use Rattle.geom.specs.Rounded.{IsEdgeBefore}
+use Rattle.geom.specs.EdgeOrder.{IsEdgeBefore}
 
 -- z is an end of e
 abbrev pub IsEnd : Edge → Point → Type 0

@@ -5,7 +5,7 @@ use Rattle.geom.specs.Pixel.{Point}
 use Rattle.geom.specs.Determinant.{determinant}
 use Rattle.geom.specs.Rounded.{is_odd}
 
--- z lies in the columns from p, inclusive, to q, exclusive
+-- z's x is from that of p, inclusive, to that of q, exclusive; so a vertical edge covers nothing
 abbrev pub covers : Edge → Point → Bool
 covers e z = int_le (z.n *ℤ e.p.x) z.x && int_lt z.x (z.n *ℤ e.q.x)
 

@@ -1,18 +1,14 @@
 -- Rounded edges and their counts (Hobby 1999, in this project's own statement).
-use Rattle.std.specs.Prelude.{◌≡◌, ◌⊎◌, ◌↔◌, ℕ, ◌+◌, ◌%◌, ◌<◌, ◌==◌, ◌&&◌, ◌||◌, Bool, false, List, [], ◌∷◌, ◌++◌, AllPairs, Contains, if◌then◌else◌, count_by, filter, map}
+use Rattle.std.specs.Prelude.{◌≡◌, ◌↔◌, ℕ, ◌+◌, ◌%◌, ◌<◌, ◌==◌, ◌&&◌, ◌||◌, Bool, false, List, [], ◌∷◌, ◌++◌, AllPairs, Contains, if◌then◌else◌, count_by, filter, map}
 use Rattle.geom.specs.declared.point.Pt.{Pt}
 use Rattle.geom.specs.declared.segment.Source.{Source}
 use Rattle.geom.specs.declared.segment.Source.TheVariants.{A, B}
 use Rattle.geom.specs.declared.segment.Seg.{Seg}
 use Rattle.geom.specs.declared.edge.Edge.{Edge}
 use Rattle.geom.specs.declared.edge.Counted.{Counted}
-use Rattle.geom.specs.Order.{IsBefore}
+pub use Rattle.geom.specs.EdgeOrder.{IsEdgeBefore}
 use Rattle.geom.specs.Segments.{same_point, same_source, neighbours}
 use Rattle.geom.specs.Route.{AreRoutes}
-
--- e is less than f: by p, then by q
-abbrev pub IsEdgeBefore : Edge → Edge → Type 0
-IsEdgeBefore e f = IsBefore e.p f.p ⊎ ((e.p ≡ f.p) × IsBefore e.q f.q)
 
 -- the two points of the step are the ends of e, in either order
 abbrev pub joins : Edge → Pt × Pt → Bool
@@ -46,7 +42,7 @@ abbrev pub odd_edges : Source → List Counted → List Edge
 odd_edges A counted = edges_of (filter (λ c. is_odd c.in_a) counted)
 odd_edges B counted = edges_of (filter (λ c. is_odd c.in_b) counted)
 
--- the number of edges that end at v
+-- the number of edges of which v is an end
 abbrev pub degree : List Edge → Pt → ℕ
 degree edges v = count_by (λ e. same_point e.p v || same_point e.q v) edges
 

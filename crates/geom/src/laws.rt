@@ -3,7 +3,7 @@
 ghost use Rattle.std.specs.Prelude.{◌≡◌};
 ghost use Rattle.std.specs.Ordering.{MatchOrdering};
 ghost use Rattle.geom.specs.Order.{IsBefore};
-ghost use Rattle.geom.specs.Rounded.{IsEdgeBefore};
+ghost use Rattle.geom.specs.EdgeOrder.{IsEdgeBefore};
 ghost use Rattle.geom.specs.Laws.{CrossingHasNoDirection, CrossingIsSymmetric, MetPixelsAreInBounds, OrderIsAlongSegment, PixelIsNearest, PixelOfAnyFraction, PixelOfGridPoint, RouteIsOne, RouteRunsFromEndToEnd};
 
 use crate::edge::Edge;
