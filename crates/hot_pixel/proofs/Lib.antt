@@ -2,6 +2,6 @@ pub mod Lists
 pub mod Orders
 pub mod Hot
 pub mod LineLaws
-pub mod Sweep
+pub mod SweepLaws
 pub mod Candidates
 pub mod RectLaws

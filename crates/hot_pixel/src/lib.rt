@@ -4,3 +4,4 @@
 mod count;
 mod lines;
 mod pixels;
+mod sweep;
