@@ -1,7 +1,7 @@
-pub mod Lists
+pub mod ListLaws
 pub mod Orders
-pub mod Hot
+pub mod HotLaws
 pub mod LineLaws
 pub mod SweepLaws
-pub mod Candidates
+pub mod CandidateLaws
 pub mod RectLaws

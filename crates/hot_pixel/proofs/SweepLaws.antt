@@ -4,8 +4,8 @@ use Rattle.std.proofs.Math.IntN.{ℤ, pos}
 use Rattle.std.specs.Prelude.{All, AllPairs, Contains, Option, Some, filter, ◌≤ℤ◌, ◌<ℤ◌, int_le, count_by}
 use Rattle.std.proofs.Math.Seq.{drop-cons}
 use Rattle.std.proofs.lemmas.Int.{ints, by_lt_z}
-use Rattle.std.proofs.lemmas.List.{take_more, get_or_default, length-drop, get_or-drop}
-use Rattle.std.proofs.lemmas.List.Elements.{Contains-push, Contains-push_cases, Contains-get_or}
+use Rattle.std.proofs.lemmas.List.{take_more, take-append-drop, get_or_default, length-drop, get_or-drop}
+use Rattle.std.proofs.lemmas.List.Elements.{All-contains, Contains-append_left, Contains-push, Contains-push_cases, Contains-get_or}
 use Rattle.std.proofs.lemmas.List.Sums.{sum_by_push, sum_by-cons, sum_by-take-le}
 use Rattle.geom.specs.declared.point.Pt.{Pt}
 use Rattle.geom.specs.declared.rect.Rect.{Rect}
@@ -22,8 +22,8 @@ use Rattle.geom.proofs.Along.{Between, meets_box}
 use Rattle.geom.proofs.Pixels.{piece, meets_in}
 use Rattle.hot_pixel.specs.Lines.{IsLine, AreLines, CrossAt, HasPushed, HasEnds, HasCrossed, HasAllCrossed, lines_meet, line_pairs}
 use Rattle.lane_tests.specs.Meeting.{IsIn}
-use Rattle.hot_pixel.proofs.Lists.{in_cons, from_cons, here, none_in, in_push, in_take_more, in_filter, head_pair}
-use Rattle.hot_pixel.proofs.Hot.{first_meets, second_meets, cross_back}
+use Rattle.hot_pixel.proofs.ListLaws.{in_cons, from_cons, here, none_in, in_push, in_take_more, in_filter, head_pair}
+use Rattle.hot_pixel.proofs.HotLaws.{first_meets, second_meets, cross_back}
 use Rattle.hot_pixel.proofs.LineLaws.{segment_of, segment_line, cross_at, count_filter, pairs_push}
 
 -- ---- the ends of lines
@@ -232,6 +232,15 @@ module _ (lines : List Edge) (i : ℕ) (e : Edge) (active kept : List Edge) (up 
       let d : line_pairs (take (i + 1) lines) ≡ line_pairs (take i lines ++ e ∷ []) = ap line_pairs longer in
       let f = pairs_push (take i lines) e in
       omega arith
+
+  -- what holds of each line holds of the kept ones
+  pub kept_all : (P : Edge → Type 0) → All P lines → All P kept
+  kept_all P all = λ k d m. let f = get_or kept k d in All-contains P lines f all (subst (λ (es : List Edge). Contains es f) (take-append-drop i lines) (Contains-append_left (take i lines) (drop i lines) f (kept_among f (Contains-get_or kept k d m))))
+
+pub pairs_take : (n : ℕ) (es : List Edge) → line_pairs (take n es) ≤ line_pairs es
+pairs_take zero es = omega arith
+pairs_take (suc n) [] = omega arith
+pairs_take (suc n) (e ∷ es) = let a = sum_by-take-le (λ x. cond {A = ℕ} (lines_meet e x) 1 0) es n in let b = pairs_take n es in omega arith
 
 pub all_none : (tile : Rect) (old : List Pt) → HasAllCrossed tile [] old old
 all_none tile old = record { kept = λ c h. h; only = λ c h. inl h; all = λ e f c h k a t. absurd (none_in e h) }

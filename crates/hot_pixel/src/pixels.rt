@@ -8,12 +8,12 @@ ghost use Rattle.hot_pixel.specs.Lines.{lines_meet, CrossAt, HasCrossed, HasEnds
 ghost use Rattle.hot_pixel.specs.Rects.{holds, is_between};
 ghost use Rattle.lane_tests.specs.Meeting.{IsIn};
 
-use crate::count::Count;
 use crate::lines::on_line;
 use crossing::{cross, may_meet};
 use geom::{Edge, NoMemory, Pt, Rect};
 use std::alloc::Allocator;
 use std::sync::ledger::Ledger;
+use tiling::Count;
 
 #[tactic(auto, unfolding(crate::specs::Rects::is_between))]
 // Whether x is from low to high.

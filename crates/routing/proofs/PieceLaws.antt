@@ -4,7 +4,7 @@ use Rattle.std.specs.Prelude.{All, AllPairs, Contains, Option, Some, None, slice
 use Rattle.std.specs.Option.{option_map}
 use Rattle.std.specs.List.{filter_map}
 use Rattle.std.proofs.lemmas.List.{take_more}
-use Rattle.std.proofs.lemmas.List.Elements.{Contains-push_cases, Contains-push, Contains-get_or, filter_map-append}
+use Rattle.std.proofs.lemmas.List.Elements.{All-contains, Contains-push_cases, Contains-push, Contains-get_or, filter_map-append}
 use Rattle.std.proofs.lemmas.Cmp.{tied_itself}
 use Rattle.std.proofs.lemmas.Option.{slice_get-get_or}
 use Rattle.geom.specs.declared.point.Pt.{Pt}
@@ -14,9 +14,11 @@ use Rattle.geom.specs.Hot.{IsHot}
 use Rattle.geom.specs.Route.{Meets, IsEarlier}
 use Rattle.lane_tests.specs.Meeting.{IsIn}
 use Rattle.hot_pixel.specs.Candidates.{chosen, AreCandidates, AreOwnedHot}
-use Rattle.hot_pixel.proofs.Lists.{in_cons, from_cons, here, none_in, in_push, in_take_more}
+use Rattle.hot_pixel.proofs.ListLaws.{in_cons, from_cons, here, none_in, in_push, in_take_more}
 use Rattle.hot_pixel.proofs.Orders.{IsSortedOnce}
-use Rattle.hot_pixel.proofs.Candidates.{owned_of_all, owned_by, hot_of_candidates, hot_from_candidates}
+use Rattle.hot_pixel.proofs.CandidateLaws.{owned_of_all, owned_of_chosen, owned_by, hot_of_candidates, hot_from_candidates, at_contains}
+use Rattle.hot_pixel.proofs.HotLaws.{hot_limit}
+use Rattle.geom.specs.Limit.{InLimit, AreInLimit}
 use Rattle.routing.specs.declared.record.Record.{Record}
 use Rattle.routing.specs.declared.record.Candidate.{Candidate}
 use Rattle.routing.specs.Steps.{steps_to}
@@ -215,3 +217,18 @@ piece_of_all Owned segments numbers tile candidates hot records same are is h = 
       in_tile = (same r.pixel).1 own;
       steps_are = k.steps_are;
     })
+
+-- ---- limits
+pub candidates_limit : (segments : List Seg) (numbers : List ℕ) → All (λ s. AreInLimit s.a s.b) segments → All (λ c. AreInLimit c.segment.a c.segment.b) (candidates_of segments numbers)
+candidates_limit segments numbers limits = λ k d l. let c = get_or (candidates_of segments numbers) k d in let r = (in_candidates segments numbers c).0 (Contains-get_or (candidates_of segments numbers) k d l) in All-contains (λ (s : Seg). AreInLimit s.a s.b) segments c.segment limits (at_contains segments c.number c.segment r.1)
+
+pub pixels_limit : (Owned : Pt → Type 0) (segments : List Seg) (pixels : List Pt) → All (λ s. AreInLimit s.a s.b) segments → AreOwnedHot Owned segments pixels → All InLimit pixels
+pixels_limit Owned segments pixels limits h = λ k d l. hot_limit segments (get_or pixels k d) limits ((h.exact (get_or pixels k d)).0 (Contains-get_or pixels k d l)).0
+
+-- ---- what `piece` makes
+pub piece_of_owned : (Owned : Pt → Type 0) (segments : List Seg) (numbers : List ℕ) (tile : Rect) (pixels : List Pt) (found records : List Record) → ((c : Pt) → IsIn tile c ↔ Owned c) → AreCandidates Owned segments numbers → AreOwnedHot Owned segments pixels
+    → HasRecords (candidates_of segments numbers) pixels found → IsSortedOnce record_cmp found records → IsPiece tile (candidates_of segments numbers) (length pixels) records
+piece_of_owned Owned segments numbers tile pixels found records same are hot all once =
+    piece_is segments numbers tile pixels found records
+    (owned_by Owned (IsIn tile) (chosen segments numbers) pixels (λ c. ((λ h. (same c).1 h), (λ h. (same c).0 h))) (owned_of_chosen Owned segments numbers pixels are hot))
+    all once (length pixels) refl

@@ -13,6 +13,7 @@ ghost use Rattle.routing.specs.declared.record.Candidate.{Candidate};
 ghost use Rattle.routing.specs.Pieces.{candidates_of, segments_of, IsPiece, IsPieceOf};
 ghost use Rattle.routing.specs.Found.{HasRecordsOf, HasRecords};
 
+use crate::columns::columns_of;
 use crate::met::meets;
 use crate::record::{Candidate, Record, steps_to};
 use geom::{NoMemory, Pt, Rect, Seg};
@@ -64,20 +65,6 @@ fn add_met<A: Allocator>(
         }
     }
     Ok(())
-}
-
-/// The pixels from the least to the greatest column of a segment, of pixels in ascending order.
-fn columns_of(s: &Seg, pixels: &[Pt]) -> &[Pt]
-    requires { AllPairs IsBefore pixels.now }
-    ensures only { (c : Pt) → Contains result.now c → Contains pixels.now c }
-    ensures all { (c : Pt) → Contains pixels.now c → Meets s.now c → Contains result.now c }
-{
-    let left = s.a.x.min(s.b.x);
-    let right = s.a.x.max(s.b.x);
-    let from = pixels.partition_point(|c| c.x < left);
-    let rest = &pixels[from..];
-    let count = rest.partition_point(|c| c.x <= right);
-    &rest[..count]
 }
 
 /// The segments of these numbers, with them.
@@ -134,6 +121,7 @@ pub fn piece<A: Allocator + Copy>(
     ensures candidates { IfOk result (λ p. p.candidates.items ≡ candidates_of segments.now numbers.now) }
     ensures exact { IfOk result (λ p. IsPieceOf (Owns grid.now number) segments.now p.hot p.records.items) }
 {
+    let tile = grid.rect(number);
     let pixels = hot_in(alloc, grid, number, segments, numbers)?;
     let candidates = candidates_of(alloc, segments, numbers)?;
     let mut records = records_of(alloc, &candidates, &pixels)?;
@@ -144,7 +132,7 @@ pub fn piece<A: Allocator + Copy>(
     }
     Ok(Piece {
         number,
-        tile: grid.rect(number),
+        tile,
         candidates,
         hot: pixels.len() as u32,
         records,

@@ -22,14 +22,14 @@ loop-other-preserved g c =
     elim c.if-may_meet.branch [
       | then-may_meet+in-Some+in_ok-push_in w ↦ rw (w.found-is, w.count-is) (
         (let p = pair_found e f s t on_e on_f (Some w.in-Some.pixel) w.in-Some.ensures w.in-Some.pixel refl in
-        crossed_push tile e others i f c.args.found.now.items c.loop-other.found.items l is inv.0 w.push_in.new.found.items w.in-Some.pixel p.0 p.1 w.in_ok-push_in.ensures),
+            crossed_push tile e others i f c.args.found.now.items c.loop-other.found.items l is inv.0 w.push_in.new.found.items w.in-Some.pixel p.0 p.1 w.in_ok-push_in.ensures),
         (let m : lines_meet e f ≡ true = meet_lines e f s t on_e on_f ∙ sym c.may_meet.ensures.value ∙ w.if-may_meet.true in
-        cost_meets e f others i c.args.count.now c.loop-other.count w.tick.new.self l is m inv.1 w.tick.ensures),
+            cost_meets e f others i c.args.count.now c.loop-other.count w.tick.new.self l is m inv.1 w.tick.ensures),
       )
       | then-may_meet+in_default w ↦ rw (w.found-is, w.count-is) (
         crossed_skip tile e others i f c.args.found.now.items c.loop-other.found.items l is inv.0 (pair_none e f s t on_e on_f w.cross.result w.cross.ensures w.in_default.not-Some),
         (let m : lines_meet e f ≡ true = meet_lines e f s t on_e on_f ∙ sym c.may_meet.ensures.value ∙ w.if-may_meet.true in
-        cost_meets e f others i c.args.count.now c.loop-other.count w.tick.new.self l is m inv.1 w.tick.ensures),
+            cost_meets e f others i c.args.count.now c.loop-other.count w.tick.new.self l is m inv.1 w.tick.ensures),
       )
       | else-may_meet w ↦ rw (w.found-is, w.count-is) (
         crossed_skip tile e others i f c.args.found.now.items c.loop-other.found.items l is inv.0 (pair_apart e f s t on_e on_f c.may_meet.result c.may_meet.ensures.crossing w.if-may_meet.false),
