@@ -10,7 +10,7 @@ use crate::rect::Rect;
 use crate::vector::Vector;
 
 /// One of the two layers of an overlay.
-#[derive(Clone, Copy, Debug, PartialEq, Eq)]
+#[derive(Clone, Copy, Debug, PartialEq, Eq, PartialOrd, Ord)]
 pub enum Source {
     A,
     B,

@@ -1,7 +1,7 @@
-pub mod Lists
+pub mod ListLaws
 pub mod Orders
-pub mod Hot
+pub mod HotLaws
 pub mod LineLaws
-pub mod Sweep
-pub mod Candidates
+pub mod SweepLaws
+pub mod CandidateLaws
 pub mod RectLaws

@@ -6,7 +6,8 @@ use Rattle.std.proofs.lemmas.Int.{ints}
 use Rattle.geom.specs.declared.point.Pt.{Pt}
 use Rattle.geom.specs.declared.rect.Rect.{Rect}
 use Rattle.geom.proofs.Points.{and_both, both_and}
-use Rattle.hot_pixel.specs.Rects.{holds, is_between, IsIn}
+use Rattle.hot_pixel.specs.Rects.{holds, is_between}
+use Rattle.lane_tests.specs.Meeting.{IsIn}
 
 le_true : (x y : ℤ) → x ≤ℤ y → int_le x y ≡ true
 le_true x y h = sym (omega (arith, ints))
@@ -15,9 +16,11 @@ true_le : (x y : ℤ) → int_le x y ≡ true → x ≤ℤ y
 true_le x y h = omega (arith, ints)
 
 within : (low x high : ℤ) → is_between low x high ≡ true → (low ≤ℤ x) × (x ≤ℤ high)
+unfolding is_between
 within low x high h = let a = and_both _ _ h in (true_le low x a.0, true_le x high a.1)
 
 into_within : (low x high : ℤ) → low ≤ℤ x → x ≤ℤ high → is_between low x high ≡ true
+unfolding is_between
 into_within low x high h k = both_and _ _ (le_true low x h) (le_true x high k)
 
 pub holds_is : (r : Rect) (p : Pt) → (holds r p ≡ true) ↔ IsIn r p

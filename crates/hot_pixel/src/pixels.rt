@@ -5,16 +5,18 @@ ghost use Rattle.geom.specs.declared.point.Pt.{Pt};
 ghost use Rattle.geom.specs.Limit.{AreInLimit};
 ghost use Rattle.geom.specs.Order.{IsBefore};
 ghost use Rattle.hot_pixel.specs.Lines.{lines_meet, CrossAt, HasCrossed, HasEnds, HasPushed};
-ghost use Rattle.hot_pixel.specs.Rects.{holds, is_between, IsIn};
+ghost use Rattle.hot_pixel.specs.Rects.{holds, is_between};
+ghost use Rattle.lane_tests.specs.Meeting.{IsIn};
 
-use crate::count::Count;
 use crate::lines::on_line;
 use crossing::{cross, may_meet};
 use geom::{Edge, NoMemory, Pt, Rect};
 use std::alloc::Allocator;
 use std::sync::ledger::Ledger;
+use tiling::Count;
 
-/// Whether x is from low to high.
+#[tactic(auto, unfolding(crate::specs::Rects::is_between))]
+// Whether x is from low to high.
 fn is_between(low: i32, x: i32, high: i32) -> bool
     ensures { result ≡ is_between low x high }
 {

@@ -56,11 +56,15 @@ abbrev pub HasEndsOf : Seg → Seg → Type 0
 HasEndsOf s t = ((s.a ≡ t.a) × (s.b ≡ t.b)) ⊎ ((s.a ≡ t.b) × (s.b ≡ t.a))
 
 turned : (a b : Pt) (z : Point) → IsOn a b z → IsOn b a z
-turned a b z (m, n, h) = (n -ℤ m, n, record {
-  ratio = record { positive = h.ratio.positive; from = (let k = h.ratio.to in omega (arith, linear)); to = (let k = h.ratio.from in omega (arith, linear)) };
-  x_is = (let e = simp expand at h.x_is in simp expand (omega (arith, linear)));
-  y_is = (let e = simp expand at h.y_is in simp expand (omega (arith, linear)));
-})
+turned a b z (m, n, h) = (
+  n -ℤ m,
+  n,
+  record {
+    ratio = record { positive = h.ratio.positive; from = (let k = h.ratio.to in omega (arith, linear)); to = (let k = h.ratio.from in omega (arith, linear)) };
+    x_is = (let e = simp expand at h.x_is in simp expand (omega (arith, linear)));
+    y_is = (let e = simp expand at h.y_is in simp expand (omega (arith, linear)));
+  },
+)
 
 pub on_line : (s t : Seg) (z : Point) → HasEndsOf s t → IsOn s.a s.b z → IsOn t.a t.b z
 on_line s t z (inl (e, f)) h = subst (λ (p : Pt). IsOn p t.b z) e (subst (λ (p : Pt). IsOn s.a p z) f h)

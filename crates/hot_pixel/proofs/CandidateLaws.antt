@@ -7,9 +7,9 @@ use Rattle.geom.specs.declared.point.Pt.{Pt}
 use Rattle.geom.specs.declared.segment.Seg.{Seg}
 use Rattle.geom.specs.Hot.{IsHot}
 use Rattle.geom.specs.Route.{Meets}
-use Rattle.hot_pixel.specs.Candidates.{chosen, AreCandidates}
-use Rattle.hot_pixel.proofs.Lists.{in_cons, from_cons, here, none_in}
-use Rattle.hot_pixel.proofs.Hot.{hot_lines}
+use Rattle.hot_pixel.specs.Candidates.{chosen, AreCandidates, AreOwnedHot}
+use Rattle.hot_pixel.proofs.ListLaws.{in_cons, from_cons, here, none_in}
+use Rattle.hot_pixel.proofs.HotLaws.{hot_lines}
 
 -- ---- the chosen segments
 chosen_cons : (segments : List Seg) (k : ℕ) (ks : List ℕ) (o : Option Seg) → slice_get segments k ≡ o → (s : Seg) → Contains (chosen segments (k ∷ ks)) s ↔ ((o ≡ Some s) ⊎ Contains (chosen segments ks) s)
@@ -46,3 +46,28 @@ module _ (Owns : Pt → Type 0) (segments : List Seg) (numbers : List ℕ) (are 
 
 pub all_chosen : (P : Seg → Type 0) (segments : List Seg) (numbers : List ℕ) → ((s : Seg) → Contains segments s → P s) → (s : Seg) → Contains (chosen segments numbers) s → P s
 all_chosen P segments numbers h s k = h s (among segments numbers s k)
+
+-- what a tile owns of the hot pixels, by another word for owning and for all segments
+pub owned_by : (Owned Other : Pt → Type 0) (segments : List Seg) (pixels : List Pt) → ((c : Pt) → Owned c ↔ Other c) → AreOwnedHot Owned segments pixels → AreOwnedHot Other segments pixels
+owned_by Owned Other segments pixels same h = record { ascending = h.ascending; exact = λ c. ((λ k. let r = (h.exact c).0 k in (r.0, (same c).0 r.1)), (λ k. (h.exact c).1 (k.0, (same c).1 k.1))) }
+
+pub owned_of_all : (Owned : Pt → Type 0) (segments : List Seg) (numbers : List ℕ) (pixels : List Pt) → AreCandidates Owned segments numbers → AreOwnedHot Owned (chosen segments numbers) pixels → AreOwnedHot Owned segments pixels
+owned_of_all Owned segments numbers pixels are h = record {
+  ascending = h.ascending;
+  exact = λ c. (
+    (λ k. let r = (h.exact c).0 k in (hot_from_candidates Owned segments numbers are c r.0, r.1)),
+    (λ k. (h.exact c).1 (hot_of_candidates Owned segments numbers are c k.1 k.0, k.1)),
+  );
+}
+
+pub candidates_by : (Owned Other : Pt → Type 0) (segments : List Seg) (numbers : List ℕ) → ((c : Pt) → Other c → Owned c) → AreCandidates Owned segments numbers → AreCandidates Other segments numbers
+candidates_by Owned Other segments numbers to h = record { ascending = h.ascending; below = h.below; complete = λ k s c at met own. h.complete k s c at met (to c own) }
+
+pub owned_of_chosen : (Owned : Pt → Type 0) (segments : List Seg) (numbers : List ℕ) (pixels : List Pt) → AreCandidates Owned segments numbers → AreOwnedHot Owned segments pixels → AreOwnedHot Owned (chosen segments numbers) pixels
+owned_of_chosen Owned segments numbers pixels are h = record {
+  ascending = h.ascending;
+  exact = λ c. (
+    (λ k. let r = (h.exact c).0 k in (hot_of_candidates Owned segments numbers are c r.1 r.0, r.1)),
+    (λ k. (h.exact c).1 (hot_from_candidates Owned segments numbers are c k.0, k.1)),
+  );
+}

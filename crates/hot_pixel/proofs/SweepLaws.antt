@@ -1,12 +1,12 @@
 -- The sweep over lines: what it has found so far.
 use Rattle.std.proofs.Common.{◌≡◌, ◌⊎◌, inl, inr, ℕ, zero, suc, ◌+◌, ◌<◌, ◌≤◌, List, [], ◌∷◌, ◌++◌, Bool, true, false, cond, refl, sym, ◌∙◌, ap, arith, subst, length, get_or, take, drop, ◌↔◌, ⊎_elim}
 use Rattle.std.proofs.Math.IntN.{ℤ, pos}
-use Rattle.std.specs.Prelude.{All, AllPairs, Contains, Some, filter, ◌≤ℤ◌, ◌<ℤ◌, int_le, count_by}
+use Rattle.std.specs.Prelude.{All, AllPairs, Contains, Option, Some, filter, ◌≤ℤ◌, ◌<ℤ◌, int_le, count_by}
 use Rattle.std.proofs.Math.Seq.{drop-cons}
 use Rattle.std.proofs.lemmas.Int.{ints, by_lt_z}
-use Rattle.std.proofs.lemmas.List.{take_more, get_or_default, length-drop, get_or-drop}
-use Rattle.std.proofs.lemmas.List.Elements.{Contains-push, Contains-push_cases}
-use Rattle.std.proofs.lemmas.List.Sums.{sum_by_push, sum_by-cons}
+use Rattle.std.proofs.lemmas.List.{take_more, take-append-drop, get_or_default, length-drop, get_or-drop}
+use Rattle.std.proofs.lemmas.List.Elements.{All-contains, Contains-append_left, Contains-push, Contains-push_cases, Contains-get_or}
+use Rattle.std.proofs.lemmas.List.Sums.{sum_by_push, sum_by-cons, sum_by-take-le}
 use Rattle.geom.specs.declared.point.Pt.{Pt}
 use Rattle.geom.specs.declared.rect.Rect.{Rect}
 use Rattle.geom.specs.declared.segment.Seg.{Seg}
@@ -14,15 +14,16 @@ use Rattle.geom.specs.declared.edge.Edge.{Edge}
 use Rattle.geom.specs.Hot.{IsHot, CrossIn}
 use Rattle.geom.specs.Hot.IsHot.{start, end, crossing}
 use Rattle.geom.specs.Route.{Meets}
+use Rattle.geom.specs.Limit.{InLimit, AreInLimit}
 use Rattle.geom.specs.Rounded.{IsEdgeBefore}
 use Rattle.geom.proofs.Integers.{linear, expand}
 use Rattle.geom.specs.Determinant.{turn}
 use Rattle.geom.proofs.Along.{Between, meets_box}
 use Rattle.geom.proofs.Pixels.{piece, meets_in}
 use Rattle.hot_pixel.specs.Lines.{IsLine, AreLines, CrossAt, HasPushed, HasEnds, HasCrossed, HasAllCrossed, lines_meet, line_pairs}
-use Rattle.hot_pixel.specs.Rects.{IsIn}
-use Rattle.hot_pixel.proofs.Lists.{in_cons, from_cons, here, none_in, in_push, in_take_more, in_filter, head_pair}
-use Rattle.hot_pixel.proofs.Hot.{first_meets, second_meets, cross_back}
+use Rattle.lane_tests.specs.Meeting.{IsIn}
+use Rattle.hot_pixel.proofs.ListLaws.{in_cons, from_cons, here, none_in, in_push, in_take_more, in_filter, head_pair}
+use Rattle.hot_pixel.proofs.HotLaws.{first_meets, second_meets, cross_back}
 use Rattle.hot_pixel.proofs.LineLaws.{segment_of, segment_line, cross_at, count_filter, pairs_push}
 
 -- ---- the ends of lines
@@ -106,6 +107,33 @@ right_of e f c far h =
     let u = meets_box (piece (segment_of f)) c (meets_in (segment_of f) c (first_meets (segment_of f) (segment_of e) c x)) in
     let v = meets_box (piece (segment_of e)) c (meets_in (segment_of e) c (second_meets (segment_of f) (segment_of e) c x)) in
     apart f.p.x f.q.x e.p.x e.q.x c.x f.ordered.column e.ordered.column far u.0 v.0
+
+-- ---- one pair: what `cross` and `may_meet` say of segments on the two lines
+module _ (e f : Edge) (s t : Seg) (on_e : IsLine e s) (on_f : IsLine f t) where
+  crossing_in : (c : Pt) → CrossAt f e c → CrossIn s t c
+  crossing_in c h = (cross_turn f e c h).cross s t on_e on_f
+
+  pub pair_found : (r : Option Pt) → ((p : Pt) → (r ≡ Some p) ↔ CrossIn s t p) → (p : Pt) → r ≡ Some p → CrossAt f e p × ((c : Pt) → CrossAt f e c → p ≡ c)
+  pair_found r h p k = (cross_turn e f p (cross_at e f s t p on_e on_f ((h p).0 k)), λ c g. let m : r ≡ Some c = (h c).1 (crossing_in c g) in cc)
+
+  pub pair_none : (r : Option Pt) → ((p : Pt) → (r ≡ Some p) ↔ CrossIn s t p) → ((p : Pt) → r ≡ Some p → ⊥) → (c : Pt) → CrossAt f e c → ⊥
+  pair_none r h k c g = k c ((h c).1 (crossing_in c g))
+
+  pub pair_apart : (b : Bool) → ((c : Pt) → CrossIn s t c → b ≡ true) → b ≡ false → (c : Pt) → CrossAt f e c → ⊥
+  pair_apart b h k c g = let m = h c (crossing_in c g) in cc
+
+-- ---- the ticks of one line
+cost_more : (e f : Edge) (others : List Edge) (i : ℕ) → i < length others → f ≡ get_or others i f → count_by (lines_meet e) (take (i + 1) others) ≡ count_by (lines_meet e) (take i others) + cond {A = ℕ} (lines_meet e f) 1 0
+cost_more e f others i l is = ap (count_by (lines_meet e)) (take_more others i f l ∙ ap (λ (x : Edge). take i others ++ x ∷ []) (sym is)) ∙ sum_by_push (λ x. cond {A = ℕ} (lines_meet e x) 1 0) (take i others) f
+
+pub cost_meets : (e f : Edge) (others : List Edge) (i first now after : ℕ) → i < length others → f ≡ get_or others i f → lines_meet e f ≡ true → now ≤ first + count_by (lines_meet e) (take i others) → after ≡ now + 1 → after ≤ first + count_by (lines_meet e) (take (i + 1) others)
+cost_meets e f others i first now after l is h k g = let a = cost_more e f others i l is in let b : cond {A = ℕ} (lines_meet e f) 1 0 ≡ 1 = ap (λ (t : Bool). cond {A = ℕ} t 1 0) h in omega arith
+
+pub cost_skips : (e f : Edge) (others : List Edge) (i first now : ℕ) → i < length others → f ≡ get_or others i f → now ≤ first + count_by (lines_meet e) (take i others) → now ≤ first + count_by (lines_meet e) (take (i + 1) others)
+cost_skips e f others i first now l is k = let a = cost_more e f others i l is in omega arith
+
+pub cost_all : (e : Edge) (others : List Edge) (i first now : ℕ) → now ≤ first + count_by (lines_meet e) (take i others) → now ≤ first + count_by (lines_meet e) others
+cost_all e others i first now k = let a = sum_by-take-le (λ x. cond {A = ℕ} (lines_meet e x) 1 0) others i in omega arith
 
 -- ---- the active lines
 -- of the first i lines those that a later one may meet, and perhaps others
@@ -205,6 +233,15 @@ module _ (lines : List Edge) (i : ℕ) (e : Edge) (active kept : List Edge) (up 
       let f = pairs_push (take i lines) e in
       omega arith
 
+  -- what holds of each line holds of the kept ones
+  pub kept_all : (P : Edge → Type 0) → All P lines → All P kept
+  kept_all P all = λ k d m. let f = get_or kept k d in All-contains P lines f all (subst (λ (es : List Edge). Contains es f) (take-append-drop i lines) (Contains-append_left (take i lines) (drop i lines) f (kept_among f (Contains-get_or kept k d m))))
+
+pub pairs_take : (n : ℕ) (es : List Edge) → line_pairs (take n es) ≤ line_pairs es
+pairs_take zero es = omega arith
+pairs_take (suc n) [] = omega arith
+pairs_take (suc n) (e ∷ es) = let a = sum_by-take-le (λ x. cond {A = ℕ} (lines_meet e x) 1 0) es n in let b = pairs_take n es in omega arith
+
 pub all_none : (tile : Rect) (old : List Pt) → HasAllCrossed tile [] old old
 all_none tile old = record { kept = λ c h. h; only = λ c h. inl h; all = λ e f c h k a t. absurd (none_in e h) }
 
@@ -236,3 +273,11 @@ found_hot tile L lines ends found are h g c = (to, λ k. from k.0 k.1)
     from (start s k e) t = let x = are.all s k in g.kept c ((h.same c).1 ((x.0, x.1, start_in x.0 s c x.2 e), t))
     from (end s k e) t = let x = are.all s k in g.kept c ((h.same c).1 ((x.0, x.1, end_in x.0 s c x.2 e), t))
     from (crossing s u k m x) t = let y = are.all s k in let z = are.all u m in g.all y.0 z.0 c y.1 z.1 (cross_at y.0 z.0 s u c y.2 z.2 x) t
+
+-- the lines keep the limits
+pub lines_limit : (L : List Seg) (lines : List Edge) → ((s : Seg) → Contains L s → AreInLimit s.a s.b) → AreLines L lines → All (λ e. AreInLimit e.p e.q) lines
+lines_limit L lines limits are = λ k d l. let e = get_or lines k d in let r = are.only e (Contains-get_or lines k d l) in by_ends e r.0 r.2 (limits r.0 r.1)
+  where
+    by_ends : (e : Edge) (s : Seg) → IsLine e s → AreInLimit s.a s.b → AreInLimit e.p e.q
+    by_ends e s (inl (p, q)) h = record { a_in = subst InLimit (sym p) h.a_in; b_in = subst InLimit (sym q) h.b_in }
+    by_ends e s (inr (p, q)) h = record { a_in = subst InLimit (sym p) h.b_in; b_in = subst InLimit (sym q) h.a_in }

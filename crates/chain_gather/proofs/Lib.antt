@@ -1,0 +1,4 @@
+pub mod Flat
+pub mod Walk
+pub mod Tally
+pub mod Gathering

@@ -1,0 +1,56 @@
+-- Records of all segments in order, links between neighbours of one segment, and how often each edge is a link (own).
+use Rattle.std.specs.Prelude.{◌≡◌, ◌≢◌, ◌⊎◌, ◌↔◌, ℕ, ◌+◌, ◌<◌, ◌==◌, Bool, ◌&&◌, List, [], ◌∷◌, AllPairs, Contains, count_by, map, slice_index_or}
+use Rattle.geom.specs.declared.point.Pt.{Pt}
+use Rattle.geom.specs.declared.segment.Source.{Source}
+use Rattle.geom.specs.declared.segment.Source.TheVariants.{A, B}
+use Rattle.geom.specs.declared.segment.Seg.{Seg}
+use Rattle.geom.specs.declared.edge.Edge.{Edge}
+use Rattle.geom.specs.declared.edge.Counted.{Counted}
+use Rattle.geom.specs.Segments.{same_point, same_source}
+use Rattle.geom.specs.Rounded.{IsEdgeBefore, joins}
+use Rattle.routing.specs.declared.record.Record.{Record}
+use Rattle.routing.specs.Pieces.{IsRecord}
+use Rattle.chain_gather.specs.declared.link.Link.{Link}
+
+-- by segment, then by the steps along it
+abbrev pub IsRecordBefore : Record → Record → Type 0
+IsRecordBefore r q = (r.segment < q.segment) ⊎ ((r.segment ≡ q.segment) × (r.steps < q.steps))
+
+-- the records of all routes, in order
+pub record AreRecords (segments : List Seg) (records : List Record) : Type 0 where
+  pub ascending : AllPairs IsRecordBefore records
+  pub exact : (r : Record) → Contains records r ↔ IsRecord segments r
+
+-- ---- links
+
+-- two records of one segment have different pixels
+abbrev pub AreApart : List Record → Type 0
+AreApart records = AllPairs (λ r q. r.segment ≡ q.segment → r.pixel ≢ q.pixel) records
+
+abbrev pub same_edge : Edge → Edge → Bool
+same_edge e f = same_point e.p f.p && same_point e.q f.q
+
+-- the link is of the edge and the layer
+abbrev pub is_of : Edge → Source → Link → Bool
+is_of e layer link = same_edge e link.edge && same_source link.layer layer
+
+abbrev pub count_links : Edge → Source → List Link → ℕ
+count_links e layer links = count_by (is_of e layer) links
+
+abbrev pub layer_at : List Seg → ℕ → Source
+layer_at segments k = slice_index_or (map (λ s. s.layer) segments) k A
+
+-- the pairs of neighbours
+abbrev pub record_pairs : List Record → List (Record × Record)
+record_pairs [] = []
+record_pairs (r ∷ []) = []
+record_pairs (r ∷ q ∷ rs) = (r, q) ∷ record_pairs (q ∷ rs)
+
+-- the pair is a link of the edge and the layer
+abbrev pub makes : (ℕ → Source) → Edge → Source → Record × Record → Bool
+makes layers e layer pair = (pair.0.segment == pair.1.segment) && (joins e (pair.0.pixel, pair.1.pixel) && same_source (layers pair.0.segment) layer)
+
+-- each edge among the links, once and ascending, with its counts
+pub record AreCounts (links : List Link) (counted : List Counted) : Type 0 where
+  pub ascending : AllPairs (λ c d. IsEdgeBefore c.edge d.edge) counted
+  pub exact : (c : Counted) → Contains counted c ↔ ((count_links c.edge A links ≡ c.in_a) × (count_links c.edge B links ≡ c.in_b) × (0 < c.in_a + c.in_b))

@@ -1,0 +1,234 @@
+-- The records of a piece, as they are found.
+use Rattle.std.proofs.Common.{◌≡◌, ◌⊎◌, inl, inr, ℕ, zero, suc, ◌+◌, ◌<◌, ◌≤◌, List, [], ◌∷◌, ◌++◌, Less, refl, sym, ◌∙◌, ap, arith, subst, length, get_or, take, map, ◌↔◌, ⊎_elim}
+use Rattle.std.specs.Prelude.{All, AllPairs, Contains, Option, Some, None, slice_get}
+use Rattle.std.specs.Option.{option_map}
+use Rattle.std.specs.List.{filter_map}
+use Rattle.std.proofs.lemmas.List.{take_more}
+use Rattle.std.proofs.lemmas.List.Elements.{All-contains, Contains-push_cases, Contains-push, Contains-get_or, filter_map-append}
+use Rattle.std.proofs.lemmas.Cmp.{tied_itself}
+use Rattle.std.proofs.lemmas.Option.{slice_get-get_or}
+use Rattle.geom.specs.declared.point.Pt.{Pt}
+use Rattle.geom.specs.declared.rect.Rect.{Rect}
+use Rattle.geom.specs.declared.segment.Seg.{Seg}
+use Rattle.geom.specs.Hot.{IsHot}
+use Rattle.geom.specs.Route.{Meets, IsEarlier}
+use Rattle.lane_tests.specs.Meeting.{IsIn}
+use Rattle.hot_pixel.specs.Candidates.{chosen, AreCandidates, AreOwnedHot}
+use Rattle.hot_pixel.proofs.ListLaws.{in_cons, from_cons, here, none_in, in_push, in_take_more}
+use Rattle.hot_pixel.proofs.Orders.{IsSortedOnce}
+use Rattle.hot_pixel.proofs.CandidateLaws.{owned_of_all, owned_of_chosen, owned_by, hot_of_candidates, hot_from_candidates, at_contains}
+use Rattle.hot_pixel.proofs.HotLaws.{hot_limit}
+use Rattle.geom.specs.Limit.{InLimit, AreInLimit}
+use Rattle.routing.specs.declared.record.Record.{Record}
+use Rattle.routing.specs.declared.record.Candidate.{Candidate}
+use Rattle.routing.specs.Steps.{steps_to}
+use Rattle.routing.specs.Found.{IsRecordOf, HasRecordsOf, HasRecords}
+use Rattle.routing.specs.Pieces.{candidate_at, candidates_of, segments_of, IsRecord, IsAlong, IsPieceOf, IsRecordIn, IsAlongIn, IsPiece}
+use Rattle.routing.proofs.StepLaws.{earlier_from_steps, same_from_steps}
+use Rattle.routing.proofs.RecordOrder.{record_cmp, record_total, record_less}
+
+-- ---- one segment
+pub records_none : (number : ℕ) (s : Seg) (old : List Record) → HasRecordsOf number s [] old old
+records_none number s old = record { same = λ r. (λ h. inl h, λ h. ⊎_elim (λ k. k) (λ k. absurd (none_in r.pixel k.1)) h) }
+
+module _ (number : ℕ) (s : Seg) (old : List Record) (pixels : List Pt) (list : List Record) (i : ℕ) (pixel : Pt) (below : i < length pixels) (is : pixel ≡ get_or pixels i pixel) (h : HasRecordsOf number s (take i pixels) old list) where
+  more : (r : Record) → (Contains (take (i + 1) pixels) r.pixel) ↔ (Contains (take i pixels) r.pixel ⊎ (pixel ≡ r.pixel))
+  more r = in_take_more pixels i pixel below is r.pixel
+
+  pub records_skip : ¬ (Meets s pixel) → HasRecordsOf number s (take (i + 1) pixels) old list
+  records_skip misses = record {
+    same = λ r. (
+      (λ k. ⊎_elim (λ l. inl l) (λ l. inr (l.0, (more r).1 (inl l.1))) ((h.same r).0 k)),
+      (λ k. (h.same r).1 (⊎_elim (λ l. inl l) (λ l. ⊎_elim (λ m. inr (l.0, m)) (λ e. absurd (misses (subst (λ (c : Pt). Meets s c) (sym e) l.0.met))) ((more r).0 l.1)) k)),
+    );
+  }
+
+  pub records_push : Meets s pixel → (x : Record) → x.segment ≡ number → x.steps ≡ steps_to s pixel → x.pixel ≡ pixel → HasRecordsOf number s (take (i + 1) pixels) old (list ++ x ∷ [])
+  records_push meets x e f g = record { same = λ r. (to r, from r) }
+    where
+      is_of : IsRecordOf number s x
+      is_of = record { numbered = e; met = subst (λ (c : Pt). Meets s c) (sym g) meets; steps_are = f ∙ ap (steps_to s) (sym g) }
+
+      only : (r : Record) → IsRecordOf number s r → pixel ≡ r.pixel → x ≡ r
+      only r k p = let a : x.segment ≡ r.segment = e ∙ sym k.numbered in let b : x.pixel ≡ r.pixel = g ∙ p in let d : x.steps ≡ r.steps = f ∙ ap (steps_to s) p ∙ sym k.steps_are in λ j. record { segment = a j; steps = d j; pixel = b j }
+
+      to : (r : Record) → Contains (list ++ x ∷ []) r → Contains old r ⊎ (IsRecordOf number s r × Contains (take (i + 1) pixels) r.pixel)
+      to r k = ⊎_elim
+          (λ l. ⊎_elim (λ m. inl m) (λ m. inr (m.0, (more r).1 (inl m.1))) ((h.same r).0 l))
+          (λ p. inr (subst (λ (y : Record). IsRecordOf number s y) p is_of, (more r).1 (inr (sym g ∙ ap (λ (y : Record). y.pixel) p))))
+          (Contains-push_cases list x r k)
+
+      from : (r : Record) → Contains old r ⊎ (IsRecordOf number s r × Contains (take (i + 1) pixels) r.pixel) → Contains (list ++ x ∷ []) r
+      from r k = ⊎_elim
+          (λ l. in_push list r x ((h.same r).1 (inl l)))
+          (λ l. ⊎_elim (λ m. in_push list r x ((h.same r).1 (inr (l.0, m)))) (λ p. subst (λ (y : Record). Contains (list ++ x ∷ []) y) (only r l.0 p) (Contains-push list x)) ((more r).0 l.1))
+          k
+
+-- ---- the candidates of a tile
+pub all_none : (pixels : List Pt) → HasRecords [] pixels []
+all_none pixels = record { same = λ r. (λ h. absurd (none_in r h), λ h. absurd (none_in h.0.0 h.0.1)) }
+
+-- one more candidate, whose pixels may be any part that has those that it meets
+pub all_more : (candidates : List Candidate) (pixels part : List Pt) (i : ℕ) (x : Candidate) (list new : List Record) → i < length candidates → x ≡ get_or candidates i x
+    → ((c : Pt) → Contains part c → Contains pixels c) → ((c : Pt) → Contains pixels c → Meets x.segment c → Contains part c)
+    → HasRecords (take i candidates) pixels list → HasRecordsOf x.number x.segment part list new → HasRecords (take (i + 1) candidates) pixels new
+all_more candidates pixels part i x list new l is only all h g = record {
+  same = λ r. (
+    (λ k. ⊎_elim
+        (λ m. let n = (h.same r).0 m in ((n.0.0, (in_take_more candidates i x l is n.0.0).1 (inl n.0.1), n.0.2), n.1))
+        (λ m. ((x, (in_take_more candidates i x l is x).1 (inr refl), m.0), only r.pixel m.1))
+        ((g.same r).0 k)),
+    (λ ((c, k, m), at). ⊎_elim
+        (λ n. (g.same r).1 (inl ((h.same r).1 ((c, n, m), at))))
+        (λ n. let m' : IsRecordOf x.number x.segment r = subst (λ (y : Candidate). IsRecordOf y.number y.segment r) (sym n) m in (g.same r).1 (inr (m', all r.pixel at m'.met)))
+        ((in_take_more candidates i x l is c).0 k)),
+  );
+}
+
+-- ---- candidates by their numbers
+pub candidates_more : (segments : List Seg) (numbers : List ℕ) (i k : ℕ) (s : Seg) → i < length numbers → k ≡ get_or numbers i k → slice_get segments k ≡ Some s
+    → candidates_of segments (take (i + 1) numbers) ≡ candidates_of segments (take i numbers) ++ (record { number = k; segment = s }) ∷ []
+candidates_more segments numbers i k s l e h =
+    let f : take (i + 1) numbers ≡ take i numbers ++ k ∷ [] = take_more numbers i k l ∙ ap (λ (n : ℕ). take i numbers ++ n ∷ []) (sym e) in
+    ap (candidates_of segments) f ∙ filter_map-append (candidate_at segments) (take i numbers) (k ∷ []) ∙ ap (λ (cs : List Candidate). candidates_of segments (take i numbers) ++ cs) one
+  where
+    one : candidates_of segments (k ∷ []) ≡ (record { number = k; segment = s }) ∷ []
+    one = rw h refl
+
+pub same_segments : (segments : List Seg) (numbers : List ℕ) → segments_of (candidates_of segments numbers) ≡ chosen segments numbers
+same_segments segments [] = refl
+same_segments segments (n ∷ ns) = by_get (slice_get segments n) refl
+  where
+    by_get : (o : Option Seg) → slice_get segments n ≡ o → segments_of (candidates_of segments (n ∷ ns)) ≡ chosen segments (n ∷ ns)
+    by_get None e = rw e (same_segments segments ns)
+    by_get (Some s) e = rw e (ap (λ (ss : List Seg). s ∷ ss) (same_segments segments ns))
+
+candidates_cons : (segments : List Seg) (k : ℕ) (ks : List ℕ) (o : Option Seg) → slice_get segments k ≡ o → (c : Candidate) → Contains (candidates_of segments (k ∷ ks)) c ↔ (((k ≡ c.number) × (o ≡ Some c.segment)) ⊎ Contains (candidates_of segments ks) c)
+candidates_cons segments k ks None e c = rw e ((λ h. inr h), (λ h. ⊎_elim (λ f. absurd (let g = f.1 in cc)) (λ f. f) h))
+candidates_cons segments k ks (Some t) e c = rw e (
+  (λ h. ⊎_elim (λ f. inl (ap (λ (x : Candidate). x.number) f, ap (λ (x : Candidate). Some x.segment) f)) (λ f. inr f) (from_cons _ (candidates_of segments ks) c h)),
+  (λ h. ⊎_elim (λ f. let a : k ≡ c.number = f.0 in let b : t ≡ c.segment = (let g = f.1 in cc) in let x : Candidate = record { number = k; segment = t } in let g : x ≡ c = λ i. record { number = a i; segment = b i } in subst (λ (y : Candidate). Contains (x ∷ candidates_of segments ks) y) g (here x (candidates_of segments ks))) (λ f. in_cons _ (candidates_of segments ks) c f) h),
+)
+
+-- a candidate is a segment with its number, which is listed
+pub in_candidates : (segments : List Seg) (numbers : List ℕ) (c : Candidate) → Contains (candidates_of segments numbers) c ↔ (Contains numbers c.number × (slice_get segments c.number ≡ Some c.segment))
+in_candidates segments [] c = (λ h. absurd (none_in c h), λ h. absurd (none_in c.number h.0))
+in_candidates segments (n ∷ ns) c = (
+  (λ h. ⊎_elim
+      (λ f. (subst (λ (k : ℕ). Contains (n ∷ ns) k) f.0 (here n ns), ap (slice_get segments) (sym f.0) ∙ f.1))
+      (λ f. let r = (in_candidates segments ns c).0 f in (in_cons n ns c.number r.0, r.1))
+      ((candidates_cons segments n ns (slice_get segments n) refl c).0 h)),
+  (λ h. (candidates_cons segments n ns (slice_get segments n) refl c).1 (⊎_elim (λ e. inl (e, ap (slice_get segments) e ∙ h.1)) (λ e. inr ((in_candidates segments ns c).1 (e, h.1))) (from_cons n ns c.number h.0))),
+)
+
+some_same : {s t : Seg} {o : Option Seg} → o ≡ Some s → o ≡ Some t → s ≡ t
+some_same {s} {t} {o} e f = cc
+
+-- ---- the piece that was made
+module _ (segments : List Seg) (numbers : List ℕ) (tile : Rect) (pixels : List Pt) (found records : List Record) (hot : AreOwnedHot (IsIn tile) (chosen segments numbers) pixels) (all : HasRecords (candidates_of segments numbers) pixels found) (once : IsSortedOnce record_cmp found records) where
+  candidates : List Candidate
+  candidates = candidates_of segments numbers
+
+  hot_here : AreOwnedHot (IsIn tile) (segments_of (candidates_of segments numbers)) pixels
+  hot_here = subst (λ (ss : List Seg). AreOwnedHot (IsIn tile) ss pixels) (sym (same_segments segments numbers)) hot
+
+  to : (r : Record) → Contains records r → IsRecordIn tile (candidates_of segments numbers) r
+  to r k =
+      let ((c, m, of), at) = (all.same r).0 ((once.same r).0 k) in
+      let (h, t) = (hot_here.exact r.pixel).0 at in
+      let same : c ≡ (record { number = r.segment; segment = c.segment }) = (let n = of.numbered in λ i. record { number = n (~ i); segment = c.segment }) in
+      record { s = c.segment; listed = subst (λ (x : Candidate). Contains (candidates_of segments numbers) x) same m; hot = h; met = of.met; in_tile = t; steps_are = of.steps_are }
+
+  from : (r : Record) → IsRecordIn tile (candidates_of segments numbers) r → Contains records r
+  from r h = (once.same r).1 ((all.same r).1 ((record { number = r.segment; segment = h.s }, h.listed, record { numbered = refl; met = h.met; steps_are = h.steps_are }), (hot_here.exact r.pixel).1 (h.hot, h.in_tile)))
+
+  at : (k : ℕ) (s : Seg) → Contains (candidates_of segments numbers) (record { number = k; segment = s }) → slice_get segments k ≡ Some s
+  at k s h = ((in_candidates segments numbers (record { number = k; segment = s })).0 h).1
+
+  -- two records of one segment
+  along : (r q : Record) → IsRecordIn tile (candidates_of segments numbers) r → IsRecordIn tile (candidates_of segments numbers) q → record_cmp r q ≡ Less → IsAlongIn (candidates_of segments numbers) r q
+  along r q h k less = ⊎_elim (λ l. inl l) (λ l. inr (l.0, λ s listed. step s (some_same (at r.segment h.s h.listed) (at r.segment s listed)) (some_same (at q.segment k.s k.listed) (ap (slice_get segments) (sym l.0) ∙ at r.segment s listed)) l.0 l.1)) (record_less r q less)
+    where
+      step : (s : Seg) → h.s ≡ s → k.s ≡ s → r.segment ≡ q.segment → (r.steps < q.steps) ⊎ (r.steps ≡ q.steps) → IsEarlier s r.pixel q.pixel
+      step s e f n l =
+          let hm : Meets s r.pixel = subst (λ (u : Seg). Meets u r.pixel) e h.met in
+          let km : Meets s q.pixel = subst (λ (u : Seg). Meets u q.pixel) f k.met in
+          let hs : r.steps ≡ steps_to s r.pixel = h.steps_are ∙ ap (λ (u : Seg). steps_to u r.pixel) e in
+          let ks : q.steps ≡ steps_to s q.pixel = k.steps_are ∙ ap (λ (u : Seg). steps_to u q.pixel) f in
+          ⊎_elim
+          (λ m. earlier_from_steps s r.pixel q.pixel hm km (below hs ks m))
+          (λ m. absurd (
+            let p : r.pixel ≡ q.pixel = same_from_steps s r.pixel q.pixel hm km (sym hs ∙ m ∙ ks) in
+            let whole : r ≡ q = λ i. record { segment = n i; steps = m i; pixel = p i } in
+            let o = tied_itself record_total q in
+            let z : record_cmp q q ≡ Less = subst (λ (x : Record). record_cmp x q ≡ Less) whole less in
+            cc
+          ))
+          l
+        where
+          below : {a b c d : ℕ} → a ≡ c → b ≡ d → a < b → c < d
+          below {a} {b} {c} {d} e f l = omega arith
+
+  pub piece_is : (n : ℕ) → n ≡ length pixels → IsPiece tile (candidates_of segments numbers) n records
+  piece_is n e = record {
+    pixels = pixels;
+    are_hot = hot_here;
+    hot_is = e;
+    ordered = λ i j d a b. along (get_or records i d) (get_or records j d) (to _ (Contains-get_or records i d (omega arith))) (to _ (Contains-get_or records j d b)) (once.ascending i j d a b);
+    exact = λ r. (to r, from r);
+  }
+
+-- ---- a piece of candidates that leave out no segment is that of all segments
+pub piece_of_all : (Owned : Pt → Type 0) (segments : List Seg) (numbers : List ℕ) (tile : Rect) (candidates : List Candidate) (hot : ℕ) (records : List Record)
+    → ((c : Pt) → IsIn tile c ↔ Owned c) → AreCandidates Owned segments numbers → candidates ≡ candidates_of segments numbers → IsPiece tile candidates hot records → IsPieceOf Owned segments hot records
+piece_of_all Owned segments numbers tile candidates hot records same are is h = record {
+  pixels = h.pixels;
+  are_hot = owned_of_all Owned segments numbers h.pixels are (owned_by (IsIn tile) Owned (chosen segments numbers) h.pixels same (subst (λ (ss : List Seg). AreOwnedHot (IsIn tile) ss h.pixels) segs h.are_hot));
+  hot_is = h.hot_is;
+  ordered = λ i j d a b. along (get_or records i d) (get_or records j d) ((h.exact _).0 (Contains-get_or records i d (omega arith))) (h.ordered i j d a b);
+  exact = λ r. (to r, from r);
+}
+  where
+    segs : segments_of candidates ≡ chosen segments numbers
+    segs = ap segments_of is ∙ same_segments segments numbers
+
+    into : (k : ℕ) (s : Seg) → Contains numbers k → slice_get segments k ≡ Some s → Contains candidates (record { number = k; segment = s })
+    into k s c e = subst (λ (cs : List Candidate). Contains cs (record { number = k; segment = s })) (sym is) ((in_candidates segments numbers (record { number = k; segment = s })).1 (c, e))
+
+    out : (k : ℕ) (s : Seg) → Contains candidates (record { number = k; segment = s }) → Contains numbers k × (slice_get segments k ≡ Some s)
+    out k s c = (in_candidates segments numbers (record { number = k; segment = s })).0 (subst (λ (cs : List Candidate). Contains cs (record { number = k; segment = s })) is c)
+
+    along : (r q : Record) → IsRecordIn tile candidates r → IsAlongIn candidates r q → IsAlong segments r q
+    along r q k (inl l) = inl l
+    along r q k (inr (e, f)) = inr (e, λ s m. f s (into r.segment s (out r.segment k.s k.listed).0 m))
+
+    to : (r : Record) → Contains records r → IsRecord segments r × Owned r.pixel
+    to r c =
+        let k = (h.exact r).0 c in
+        let m = out r.segment k.s k.listed in
+        (record { s = k.s; is_at = m.1; hot = hot_from_candidates Owned segments numbers are r.pixel (subst (λ (ss : List Seg). IsHot ss r.pixel) segs k.hot); met = k.met; steps_are = k.steps_are }, (same r.pixel).0 k.in_tile)
+
+    from : (r : Record) → IsRecord segments r × Owned r.pixel → Contains records r
+    from r (k, own) = (h.exact r).1 (record {
+      s = k.s;
+      listed = into r.segment k.s (are.complete r.segment k.s r.pixel k.is_at k.met own) k.is_at;
+      hot = subst (λ (ss : List Seg). IsHot ss r.pixel) (sym segs) (hot_of_candidates Owned segments numbers are r.pixel own k.hot);
+      met = k.met;
+      in_tile = (same r.pixel).1 own;
+      steps_are = k.steps_are;
+    })
+
+-- ---- limits
+pub candidates_limit : (segments : List Seg) (numbers : List ℕ) → All (λ s. AreInLimit s.a s.b) segments → All (λ c. AreInLimit c.segment.a c.segment.b) (candidates_of segments numbers)
+candidates_limit segments numbers limits = λ k d l. let c = get_or (candidates_of segments numbers) k d in let r = (in_candidates segments numbers c).0 (Contains-get_or (candidates_of segments numbers) k d l) in All-contains (λ (s : Seg). AreInLimit s.a s.b) segments c.segment limits (at_contains segments c.number c.segment r.1)
+
+pub pixels_limit : (Owned : Pt → Type 0) (segments : List Seg) (pixels : List Pt) → All (λ s. AreInLimit s.a s.b) segments → AreOwnedHot Owned segments pixels → All InLimit pixels
+pixels_limit Owned segments pixels limits h = λ k d l. hot_limit segments (get_or pixels k d) limits ((h.exact (get_or pixels k d)).0 (Contains-get_or pixels k d l)).0
+
+-- ---- what `piece` makes
+pub piece_of_owned : (Owned : Pt → Type 0) (segments : List Seg) (numbers : List ℕ) (tile : Rect) (pixels : List Pt) (found records : List Record) → ((c : Pt) → IsIn tile c ↔ Owned c) → AreCandidates Owned segments numbers → AreOwnedHot Owned segments pixels
+    → HasRecords (candidates_of segments numbers) pixels found → IsSortedOnce record_cmp found records → IsPiece tile (candidates_of segments numbers) (length pixels) records
+piece_of_owned Owned segments numbers tile pixels found records same are hot all once =
+    piece_is segments numbers tile pixels found records
+    (owned_by Owned (IsIn tile) (chosen segments numbers) pixels (λ c. ((λ h. (same c).1 h), (λ h. (same c).0 h))) (owned_of_chosen Owned segments numbers pixels are hot))
+    all once (length pixels) refl
