@@ -6,7 +6,7 @@ use Rattle.geom.specs.declared.rect.Rect.{Rect}
 use Rattle.geom.specs.declared.fault.Fault.{Fault}
 use Rattle.geom.specs.Limit.{AreInLimit}
 use Rattle.geom.specs.Segments.{layer_steps}
-use Rattle.geom.specs.Box.{IsBox}
+use Rattle.geom.specs.Bounds.{IsBox}
 use Rattle.wkt.specs.declared.outline.Outline.{Outline}
 use Rattle.wkt.specs.Refusals.{StandsFor}
 use Rattle.wkt.proofs.Checks.{Answers}

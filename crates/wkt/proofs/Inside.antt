@@ -9,7 +9,8 @@ use Rattle.geom.specs.declared.point.Pt.{Pt}
 use Rattle.geom.specs.declared.rect.Rect.{Rect}
 use Rattle.geom.specs.Limit.{coordinate_limit, IsWithin, InLimit, AreInLimit}
 use Rattle.geom.specs.Segments.{same_point, neighbours, ring_steps, layer_steps}
-use Rattle.geom.specs.Box.{Holds, HoldsSteps, IsBox}
+use Rattle.geom.specs.Box.{IsInBox}
+use Rattle.geom.specs.Bounds.{HoldsSteps, IsBox}
 use Rattle.geom.proofs.Integers.{linear}
 use Rattle.geom.proofs.Lists.{In, contains_in}
 use Rattle.wkt.specs.LayerText.{Number, Point, Ring}
@@ -104,11 +105,11 @@ whole = record {
   high = le_z_yes tt;
 }
 
-held : (p : Pt) → InLimit p → Holds whole p
-held p h = record { left = h.x_in.low; right = h.x_in.high; below = h.y_in.low; above = h.y_in.high }
+held : (p : Pt) → InLimit p → IsInBox whole.lo whole.hi p
+held p h = record { left = h.x_in.low; right = h.x_in.high; bottom = h.y_in.low; top = h.y_in.high }
 
-limited : (p : Pt) → Holds whole p → InLimit p
-limited p h = record { x_in = record { low = h.left; high = h.right }; y_in = record { low = h.below; high = h.above } }
+limited : (p : Pt) → IsInBox whole.lo whole.hi p → InLimit p
+limited p h = record { x_in = record { low = h.left; high = h.right }; y_in = record { low = h.bottom; high = h.top } }
 
 pub box_in : (rings : List (List Pt)) (r : Rect) → All (λ ring. All InLimit ring) rings → IsBox (layer_steps rings) r → AreInLimit r.lo r.hi
 box_in rings r h box =

@@ -16,3 +16,4 @@ pub mod Exclusive
 pub mod Bounded
 pub mod Written
 pub mod Writing
+pub mod Squares

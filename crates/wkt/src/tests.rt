@@ -9,7 +9,7 @@ use std::process::Abort;
 use std::test::Fail;
 
 fn rect(x0: i32, y0: i32, x1: i32, y1: i32) -> Option<Rect> {
-    Some(Rect::around(Pt { x: x0, y: y0 }, Pt { x: x1, y: y1 }))
+    Some(Rect::spanned_by(Pt { x: x0, y: y0 }, Pt { x: x1, y: y1 }))
 }
 
 fn refused(rt: &impl Abort, table: &[(&str, Fault)]) {

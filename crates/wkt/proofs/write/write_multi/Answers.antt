@@ -1,4 +1,4 @@
-use Rattle.std.proofs.Common.{◌≡◌, ◌∙◌, ◌≤◌, ◌∷◌, List, ℕ, ap, length, subst, sym, arith}
+use Rattle.std.proofs.Common.{◌≡◌, ◌∙◌, ◌≤◌, ◌∷◌, List, [], ℕ, ap, length, subst, sym, arith}
 use Rattle.std.specs.Prelude.{All}
 use Rattle.geom.specs.declared.point.Pt.{Pt}
 use Rattle.wkt.specs.Canonical.{multi_text, rings_of}
@@ -13,7 +13,7 @@ returns-in_default-clause-reads_again g c = λ short inside.
     let none = no_items c.args.polygons.now c.in_default.ensures.cases in
     let text = c.in_ok-from_slice.ensures.items ∙ ap multi_text (sym none) in
     subst (λ (t : List ℕ). StandsFor t (rings_of c.args.polygons.now)) (sym text)
-    (reads_again c.args.polygons.now (subst (λ ps. All (λ (ring : List Pt). 3 ≤ length ring) (rings_of ps)) (sym none) (all_of (λ (ring : List Pt). 3 ≤ length ring) _ tt))
+    (reads_again c.args.polygons.now (subst (λ ps. All (λ (ring : List Pt). 3 ≤ length ring) (rings_of ps)) (sym none) (all_of (λ (ring : List Pt). 3 ≤ length ring) [] tt))
     (subst (λ (t : List ℕ). length t ≤ length_limit) text short) inside)
 
 pub returns-clause-text : goal.returns-clause-text
