@@ -71,18 +71,18 @@ fn step(x: u64) -> u64 {
     x.wrapping_mul(6364136223846793005).wrapping_add(1442695040888963407)
 }
 
-fn point(x: u64, bits: u64) -> Pt {
-    Pt { x: ((x >> 40) & bits) as i32, y: ((step(x) >> 40) & bits) as i32 }
+fn point(x: u64, range: u64) -> Pt {
+    Pt { x: ((x >> 40) % range) as i32, y: ((step(x) >> 40) % range) as i32 }
 }
 
-fn samples(n: u32, bits: u64) -> Vec<Seg> {
+fn samples(n: u32, range: u64) -> Vec<Seg> {
     let mut all = Vec::new();
     let mut x = 1u64;
     for _ in 0..n {
         x = step(x);
-        let a = point(x, bits);
+        let a = point(x, range);
         x = step(step(x));
-        let b = point(x, bits);
+        let b = point(x, range);
         if a != b {
             all.push(Seg { a, b, layer: 0 });
         }
@@ -117,8 +117,8 @@ fn meet_all(all: &[Seg], rounds: usize) -> u64 {
 }
 
 fn main() {
-    for (name, bits) in [("near", 63), ("far", 16_777_215)] {
-        let all = samples(4096, bits);
+    for (name, range) in [("near", 64), ("far", 16_777_216)] {
+        let all = samples(4096, range);
         let start = Instant::now();
         let sum = cross_all(&all, 1000);
         println!("{name} cross {} ms, sum {sum}", start.elapsed().as_millis());

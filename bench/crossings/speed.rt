@@ -1,7 +1,7 @@
 //! Times `cross` and `meets` over many pairs of segments; prints nanoseconds a call and a sum of the answers.
 #![tactic(auto)]
 
-ghost use Rattle.std.specs.Prelude.{IfSome};
+ghost use Rattle.std.specs.Prelude.{◌<◌, ◌≤◌};
 ghost use Rattle.geom.specs.Limit.{AreInLimit};
 
 use crossing::cross;
@@ -24,16 +24,25 @@ fn step(x: u64) -> u64 {
         .wrapping_add(1442695040888963407)
 }
 
-/// A point with the lowest `bits` bits of its coordinates taken from a random word.
-fn point(x: u64, bits: u64) -> Pt {
-    let y = step(x);
+/// A coordinate from a random word, below `range`.
+fn coordinate(x: u64, range: u64) -> i32
+    requires some { 0 < range }
+    requires small { range ≤ 16_777_216 }
+{
+    ((x >> 40) % range) as i32
+}
+
+fn point(x: u64, range: u64) -> Pt
+    requires some { 0 < range }
+    requires small { range ≤ 16_777_216 }
+{
     Pt {
-        x: ((x >> 40) & bits) as i32,
-        y: ((y >> 40) & bits) as i32,
+        x: coordinate(x, range),
+        y: coordinate(step(x), range),
     }
 }
 
-fn sample(a: Pt, b: Pt) -> Option<Sample> {
+fn within_limit(a: Pt, b: Pt) -> Option<Sample> {
     if a.is_in_limit() && b.is_in_limit() {
         let segment = Seg::new(a, b, Source::A)?;
         Some(Sample { segment })
@@ -42,14 +51,17 @@ fn sample(a: Pt, b: Pt) -> Option<Sample> {
     }
 }
 
-fn samples(alloc: Global, n: u32, bits: u64) -> Result<Vec<Sample, Global>, NoMemory> {
+fn samples(alloc: Global, n: u32, range: u64) -> Result<Vec<Sample, Global>, NoMemory>
+    requires some { 0 < range }
+    requires small { range ≤ 16_777_216 }
+{
     let mut all = Vec::new(alloc);
     let mut x = 1u64;
     for _ in 0..n {
         x = step(x);
-        let a = point(x, bits);
+        let a = point(x, range);
         x = step(step(x));
-        if let Some(made) = sample(a, point(x, bits)) {
+        if let Some(made) = within_limit(a, point(x, range)) {
             all.push(made)?;
         }
     }
@@ -82,8 +94,11 @@ fn meet_all(all: &[Sample], rounds: usize) -> u64 {
     sum
 }
 
-fn measure(rt: &(impl Print + Clock), alloc: Global, name: &str, bits: u64) -> io::Result<()> {
-    let Ok(all) = samples(alloc, 4096, bits) else {
+fn measure(rt: &(impl Print + Clock), alloc: Global, name: &str, range: u64) -> io::Result<()>
+    requires some { 0 < range }
+    requires small { range ≤ 16_777_216 }
+{
+    let Ok(all) = samples(alloc, 4096, range) else {
         return Ok(());
     };
     let start = Instant::now(rt)?;
@@ -97,6 +112,6 @@ fn measure(rt: &(impl Print + Clock), alloc: Global, name: &str, bits: u64) -> i
 }
 
 fn main(rt: HostRuntime) -> io::Result<()> {
-    measure(&rt, rt.alloc(), "near", 63)?;
-    measure(&rt, rt.alloc(), "far", 16_777_215)
+    measure(&rt, rt.alloc(), "near", 64)?;
+    measure(&rt, rt.alloc(), "far", 16_777_216)
 }
