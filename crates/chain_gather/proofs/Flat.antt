@@ -120,7 +120,7 @@ module _ (segments : List Seg) (k : ℕ) (s : Seg) (rs : List Record) (at : slic
   own_order r q a b (inr (e, l)) =
       let (u, uh, um, us) = own_record r a in
       let (v, vh, vm, vs) = own_record q b in
-      earlier_from_steps_to s r.pixel q.pixel um vm (subst (λ (m : ℕ). m < steps_to s q.pixel) us (subst (λ (n : ℕ). r.steps < n) vs l))
+      earlier_from_steps s r.pixel q.pixel um vm (subst (λ (m : ℕ). m < steps_to s q.pixel) us (subst (λ (n : ℕ). r.steps < n) vs l))
 
   in_route : (c : Pt) → Contains (route_of k rs) c ↔ (IsHot segments c × Meets s c)
   in_route c = (to, from)

@@ -95,13 +95,13 @@ candidates_more segments numbers i k s l e h =
     one : candidates_of segments (k ∷ []) ≡ (record { number = k; segment = s }) ∷ []
     one = rw h refl
 
+segments_cons : (segments : List Seg) (n : ℕ) (ns : List ℕ) (o : Option Seg) → slice_get segments n ≡ o → segments_of (candidates_of segments ns) ≡ chosen segments ns → segments_of (candidates_of segments (n ∷ ns)) ≡ chosen segments (n ∷ ns)
+segments_cons segments n ns None e rest = rw e rest
+segments_cons segments n ns (Some s) e rest = rw e (ap (λ (ss : List Seg). s ∷ ss) rest)
+
 pub same_segments : (segments : List Seg) (numbers : List ℕ) → segments_of (candidates_of segments numbers) ≡ chosen segments numbers
 same_segments segments [] = refl
-same_segments segments (n ∷ ns) = by_get (slice_get segments n) refl
-  where
-    by_get : (o : Option Seg) → slice_get segments n ≡ o → segments_of (candidates_of segments (n ∷ ns)) ≡ chosen segments (n ∷ ns)
-    by_get None e = rw e (same_segments segments ns)
-    by_get (Some s) e = rw e (ap (λ (ss : List Seg). s ∷ ss) (same_segments segments ns))
+same_segments segments (n ∷ ns) = segments_cons segments n ns (slice_get segments n) refl (same_segments segments ns)
 
 candidates_cons : (segments : List Seg) (k : ℕ) (ks : List ℕ) (o : Option Seg) → slice_get segments k ≡ o → (c : Candidate) → Contains (candidates_of segments (k ∷ ks)) c ↔ (((k ≡ c.number) × (o ≡ Some c.segment)) ⊎ Contains (candidates_of segments ks) c)
 candidates_cons segments k ks None e c = rw e ((λ h. inr h), (λ h. ⊎_elim (λ f. absurd (let g = f.1 in cc)) (λ f. f) h))
@@ -136,7 +136,7 @@ module _ (segments : List Seg) (numbers : List ℕ) (tile : Rect) (pixels : List
   to r k =
       let ((c, m, of), at) = (all.same r).0 ((once.same r).0 k) in
       let (h, t) = (hot_here.exact r.pixel).0 at in
-      let same : c ≡ (record { number = r.segment; segment = c.segment }) = (let n = of.numbered in λ i. record { number = n (~ i); segment = c.segment }) in
+      let same : c ≡ (record { number = r.segment; segment = c.segment }) = (let n : c.number ≡ r.segment = sym of.numbered in λ i. record { number = n i; segment = c.segment }) in
       record { s = c.segment; listed = subst (λ (x : Candidate). Contains (candidates_of segments numbers) x) same m; hot = h; met = of.met; in_tile = t; steps_are = of.steps_are }
 
   from : (r : Record) → IsRecordIn tile (candidates_of segments numbers) r → Contains records r
@@ -158,11 +158,11 @@ module _ (segments : List Seg) (numbers : List ℕ) (tile : Rect) (pixels : List
           ⊎_elim
           (λ m. earlier_from_steps s r.pixel q.pixel hm km (below hs ks m))
           (λ m. absurd (
-            let p : r.pixel ≡ q.pixel = same_from_steps s r.pixel q.pixel hm km (sym hs ∙ m ∙ ks) in
-            let whole : r ≡ q = λ i. record { segment = n i; steps = m i; pixel = p i } in
-            let o = tied_itself record_total q in
-            let z : record_cmp q q ≡ Less = subst (λ (x : Record). record_cmp x q ≡ Less) whole less in
-            cc
+          let p : r.pixel ≡ q.pixel = same_from_steps s r.pixel q.pixel hm km (sym hs ∙ m ∙ ks) in
+          let whole : r ≡ q = λ i. record { segment = n i; steps = m i; pixel = p i } in
+          let o = tied_itself record_total q in
+          let z : record_cmp q q ≡ Less = subst (λ (x : Record). record_cmp x q ≡ Less) whole less in
+          cc
           ))
           l
         where
@@ -232,3 +232,10 @@ piece_of_owned Owned segments numbers tile pixels found records same are hot all
     piece_is segments numbers tile pixels found records
     (owned_by Owned (IsIn tile) (chosen segments numbers) pixels (λ c. ((λ h. (same c).1 h), (λ h. (same c).0 h))) (owned_of_chosen Owned segments numbers pixels are hot))
     all once (length pixels) refl
+
+pub piece_made : (Owned : Pt → Type 0) (segments : List Seg) (numbers : List ℕ) (tile : Rect) (pixels ps : List Pt) (cs ds : List Candidate) (found records : List Record) (n : ℕ) → ((c : Pt) → IsIn tile c ↔ Owned c) → AreCandidates Owned segments numbers → AreOwnedHot Owned segments pixels
+    → ps ≡ pixels → cs ≡ candidates_of segments numbers → ds ≡ cs → HasRecords ds ps found → IsSortedOnce record_cmp found records → n ≡ length pixels → IsPiece tile cs n records
+piece_made Owned segments numbers tile pixels ps cs ds found records n same are hot ep ec ed all once en =
+    let all' : HasRecords (candidates_of segments numbers) pixels found = subst (λ (xs : List Candidate). HasRecords xs pixels found) (ed ∙ ec) (subst (λ (xs : List Pt). HasRecords ds xs found) ep all) in
+    let made = piece_of_owned Owned segments numbers tile pixels found records same are hot all' once in
+    subst (λ (xs : List Candidate). IsPiece tile xs n records) (sym ec) (subst (λ (m : ℕ). IsPiece tile (candidates_of segments numbers) m records) (sym en) made)

@@ -2,10 +2,12 @@
 #![tactic(auto)]
 
 mod columns;
+mod finding;
 mod met;
-mod piece;
+mod pieces;
 mod record;
 
+pub use finding::piece;
 pub use met::meets;
-pub use piece::{Piece, piece};
+pub use pieces::Piece;
 pub use record::{Candidate, Record};

@@ -4,7 +4,7 @@ use Rattle.std.proofs.lemmas.Result.{IfOk-weaker}
 use Rattle.chain_gather.proofs.Walk.{records_below, records_apart, rounded_are}
 use Rattle.chain_gather.proofs.edges.rounded_edges.Goals as goal
 
-pub links-requires : goal.links-list-requires
+pub links-requires : goal.links-requires
 links-requires g c = record {
   below = ∥∥₁_elim c.requires.records (hlevel props) (λ r. records_below c.args.segments.now c.args.records.now r);
   apart = ∥∥₁_elim c.requires.records (hlevel props) (λ r. records_apart c.args.segments.now c.args.records.now r);

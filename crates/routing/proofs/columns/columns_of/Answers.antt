@@ -22,5 +22,5 @@ returns-clause-all c =
     let from = c.first_from-from.result in
     let past = c.first_past-past.result in
     let is : c.up_to.result.now ≡ take past (drop from ps) = c.up_to.ensures ∙ ap (take past) c.starting_at-rest.ensures in
-    let after = subst (λ (qs : List Pt). (k : ℕ) (d : Pt) → past ≤ k → k < length qs → c.bounds.result.hi.x <ℤ (get_or qs k d).x) c.starting_at-rest.ensures c.first_past-past.ensures.after in
-    λ p h m. subst (λ (qs : List Pt). Contains qs p) (sym is) (in_columns c.args.s.now ps from past c.bounds.result.lo c.bounds.result.hi c.bounds.ensures.lo c.bounds.ensures.hi c.first_from-from.ensures.before after p h m)
+    let after = subst (λ (qs : List Pt). (k : ℕ) (d : Pt) → past ≤ k → k < length qs → c.bounds-bounds.result.hi.x <ℤ (get_or qs k d).x) c.starting_at-rest.ensures c.first_past-past.ensures.after in
+    λ p h m. subst (λ (qs : List Pt). Contains qs p) (sym is) (in_columns c.args.s.now ps from past c.bounds-bounds.result.lo c.bounds-bounds.result.hi c.bounds-bounds.ensures.lo c.bounds-bounds.ensures.hi c.first_from-from.ensures.before after p h m)

@@ -4,8 +4,8 @@ use Rattle.std.proofs.lemmas.List.{get_or_default, take_all}
 use Rattle.geom.specs.declared.point.Pt.{Pt}
 use Rattle.routing.specs.Found.{HasRecordsOf}
 use Rattle.routing.proofs.PieceLaws.{records_none, records_skip, records_push}
-use Rattle.routing.proofs.piece.add_met.Goals as goal
-use Rattle.routing.proofs.piece.add_met.Goals.{then-meets+in_ok-push, else-meets}
+use Rattle.routing.proofs.finding.add_met.Goals as goal
+use Rattle.routing.proofs.finding.add_met.Goals.{then-meets+in_ok-push, else-meets}
 
 pub loop-pixel-init : goal.loop-pixel-init
 loop-pixel-init g c = records_none c.args.number c.args.s.now c.args.records.now.items

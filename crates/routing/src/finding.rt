@@ -1,47 +1,23 @@
-//! Pieces: what the routes have in one tile.
+//! How a piece is found: the hot pixels of its tile, and among them those that each candidate meets.
 
 ghost use Rattle.std.specs.Prelude.{ℕ, ◌≡◌, ◌↔◌, ◌⊎◌, ◌<◌, ◌^◌, All, AllPairs, Contains, IfOk, OnOk, length};
 ghost use Rattle.geom.specs.declared.point.Pt.{Pt};
-ghost use Rattle.geom.specs.declared.segment.Seg.{Seg};
 ghost use Rattle.geom.specs.Limit.{AreInLimit, InLimit};
 ghost use Rattle.geom.specs.Order.{IsBefore};
 ghost use Rattle.lane_tests.specs.Meeting.{IsIn};
 ghost use Rattle.tiling.specs.Tiles.{tile_count, Owns};
 ghost use Rattle.hot_pixel.specs.Candidates.{AreCandidates};
-ghost use Rattle.routing.specs.declared.record.Record.{Record};
-ghost use Rattle.routing.specs.declared.record.Candidate.{Candidate};
-ghost use Rattle.routing.specs.Pieces.{candidates_of, segments_of, IsPiece, IsPieceOf};
+ghost use Rattle.routing.specs.Pieces.{candidates_of, IsPieceOf};
 ghost use Rattle.routing.specs.Found.{HasRecordsOf, HasRecords};
 
 use crate::columns::columns_of;
 use crate::met::meets;
+use crate::pieces::Piece;
 use crate::record::{Candidate, Record, steps_to};
-use geom::{NoMemory, Pt, Rect, Seg};
+use geom::{NoMemory, Pt, Seg};
 use hot_pixel::hot_in;
 use std::alloc::Allocator;
-use std::marker::Model;
-use tile_book::Numbered;
 use tiling::Grid;
-
-/// What the routes have in one tile: its number, its rectangle, the candidate segments, how many of its pixels are hot, and
-/// the records of the candidates' hot pixels in it.
-#[derive(Drop)]
-pub struct Piece<A: Allocator> {
-    pub number: u32,
-    pub tile: Rect,
-    pub candidates: Vec<Candidate, A>,
-    pub hot: u32,
-    pub records: Vec<Record, A>,
-    ghost exact: { ∥ IsPiece tile candidates.items hot records.items ∥₁ },
-}
-
-impl<A: Allocator> Numbered for Piece<A> {
-    ghost number_of = { λ p. p.number };
-
-    fn number(&self) -> u32 {
-        self.number
-    }
-}
 
 /// Adds the records of a segment at these pixels.
 fn add_met<A: Allocator>(

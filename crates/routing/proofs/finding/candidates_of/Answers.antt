@@ -5,7 +5,7 @@ use Rattle.std.proofs.lemmas.Option.{slice_get_read}
 use Rattle.routing.specs.declared.record.Candidate.{Candidate}
 use Rattle.routing.specs.Pieces.{candidates_of}
 use Rattle.routing.proofs.PieceLaws.{candidates_more}
-use Rattle.routing.proofs.piece.candidates_of.Goals as goal
+use Rattle.routing.proofs.finding.candidates_of.Goals as goal
 
 pub loop-number-preserved : goal.loop-number-preserved
 loop-number-preserved g c =

@@ -1,0 +1,28 @@
+//! Pieces: what the routes have in one tile.
+
+ghost use Rattle.routing.specs.Pieces.{IsPiece};
+
+use crate::record::{Candidate, Record};
+use geom::Rect;
+use std::alloc::Allocator;
+use tile_book::Numbered;
+
+/// What the routes have in one tile: its number, its rectangle, the candidate segments, how many of its pixels are hot, and
+/// the records of the candidates' hot pixels in it.
+#[derive(Drop)]
+pub struct Piece<A: Allocator> {
+    pub number: u32,
+    pub tile: Rect,
+    pub candidates: Vec<Candidate, A>,
+    pub hot: u32,
+    pub records: Vec<Record, A>,
+    ghost exact: { ∥ IsPiece tile candidates.items hot records.items ∥₁ },
+}
+
+impl<A: Allocator> Numbered for Piece<A> {
+    ghost number_of = { λ p. p.number };
+
+    fn number(&self) -> u32 {
+        self.number
+    }
+}
