@@ -2,5 +2,9 @@
 #![tactic(auto)]
 
 mod directed;
+mod label;
+mod odd;
 
 pub use directed::Directed;
+pub use label::labels;
+pub use odd::{OddEdges, directions};

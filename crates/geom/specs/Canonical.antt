@@ -1,5 +1,5 @@
 -- The one list of polygons of directed edges (own).
-use Rattle.std.specs.Prelude.{◌≢◌, ◌↔◌, pos, ◌<ℤ◌, List, ◌∷◌, AllPairs, Contains, flat_map}
+use Rattle.std.specs.Prelude.{◌≡◌, ◌≢◌, ◌↔◌, Bool, pos, ◌<ℤ◌, List, ◌∷◌, AllPairs, Contains, count_by, flat_map}
 use Rattle.geom.specs.declared.point.Pt.{Pt}
 use Rattle.geom.specs.declared.directed.DirectedEdge.{DirectedEdge}
 use Rattle.geom.specs.Determinant.{side}
@@ -59,3 +59,7 @@ pub record ArePolygons (directed : List DirectedEdge) (polygons : List Shape) : 
 -- the rings of a text
 abbrev pub written_rings : List Shape → List (List Pt)
 written_rings polygons = flat_map (λ p. p.shell ∷ p.holes) polygons
+
+-- the rings of the text have each directed edge once: any count over their edges is that over the directed edges
+abbrev pub HaveEachEdge : List DirectedEdge → List Shape → Type 0
+HaveEachEdge directed polygons = (test : DirectedEdge → Bool) → count_by test (flat_map ring_edges (written_rings polygons)) ≡ count_by test directed

@@ -15,3 +15,9 @@ pub mod Groups
 pub mod Ends
 pub mod Linking
 pub mod Choice
+pub mod Numbers
+pub mod Mapping
+pub mod Turning
+pub mod Writing
+pub mod Grouping
+pub mod Gaps

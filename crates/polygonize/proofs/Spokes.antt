@@ -30,7 +30,7 @@ by_test : {P : Type 0} (t : Bool) → (t ≡ true → P) → (t ≡ false → P)
 by_test true f g = f refl
 by_test false f g = g refl
 
-not_less : (p q : Pt) → ¬ (IsBefore p q) → less p q ≡ false
+pub not_less : (p q : Pt) → ¬ (IsBefore p q) → less p q ≡ false
 not_less p q n = by_test (less p q) (λ h. absurd (n (less_is p q h))) (λ h. h)
 
 pub same_or_not : (p q : Pt) → (p ≡ q) ⊎ (p ≢ q)

@@ -34,7 +34,10 @@ fn walk<A: Allocator + Copy>(
 }
 
 /// The cycles, each begun at its least number, in the order of these.
-pub fn cycles<A: Allocator + Copy>(alloc: A, next: &[usize]) -> Result<Vec<Vec<usize, A>, A>, NoMemory>
+pub fn cycles<A: Allocator + Copy>(
+    alloc: A,
+    next: &[usize],
+) -> Result<Vec<Vec<usize, A>, A>, NoMemory>
     requires in_range { All (λ k. k < length next.now) next.now }
     requires one_to_one { IsOneToOne next.now }
     ensures { IfOk result (λ found. AreCycles next.now (map (λ v. v.items) found.items)) }

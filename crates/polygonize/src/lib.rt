@@ -2,7 +2,15 @@
 #![tactic(auto)]
 
 mod angle;
+mod below;
 mod cut;
 mod cycle;
+mod hole;
+mod number;
+mod piece;
+mod polygon;
 mod ring;
 mod successor;
+mod written;
+
+pub use polygon::polygons;

@@ -1,0 +1,113 @@
+//! The directed edges of a result.
+
+ghost use Rattle.std.specs.Prelude.{◌≡◌, ◌++◌, All, IfOk, OnOk, length, map};
+ghost use Rattle.geom.specs.Limit.{AreInLimit};
+ghost use Rattle.geom.specs.Directed.{AreResultEdges};
+ghost use Rattle.face_label.specs.Label.{both_ways, ways, ways_of};
+
+use crate::directed::Directed;
+use crate::odd::{OddEdges, directions};
+use geom::{Counted, DirectedEdge, Edge, NoMemory, Op};
+use rayon::prelude::*;
+use std::alloc::{AllocError, Allocator};
+use std::thread::Threads;
+
+/// The directions of all edges, one after another.
+fn in_turn<A: Allocator + Copy>(
+    alloc: A,
+    odd: &OddEdges<A>,
+    counted: &[Counted],
+    op: Op,
+) -> Result<Vec<(bool, bool), A>, AllocError>
+    requires { All (λ c. AreInLimit c.edge.p c.edge.q) counted.now }
+    ensures { IfOk result (λ all. all.items ≡ map (λ c. both_ways op odd.now c.edge) counted.now) }
+{
+    counted
+        .iter()
+        .map(|one| directions(odd, one.edge, op))
+        .collect(alloc)
+}
+
+/// The directions of all edges, by many threads, or one after another where these find no memory.
+fn labelled<A: Allocator + Copy + Sync + Send, R: Threads + Sync>(
+    rt: &R,
+    alloc: A,
+    odd: &OddEdges<A>,
+    counted: &[Counted],
+    op: Op,
+) -> Result<Vec<(bool, bool), A>, AllocError>
+    requires { All (λ c. AreInLimit c.edge.p c.edge.q) counted.now }
+    ensures { IfOk result (λ all. all.items ≡ map (λ c. both_ways op odd.now c.edge) counted.now) }
+{
+    let made: Result<Vec<(bool, bool), A>, AllocError> = counted
+        .par_iter()
+        .map(
+            |one: &Counted| -> (bool, bool)
+                requires { AreInLimit one.now.edge.p one.now.edge.q }
+                ensures { result ≡ both_ways op odd.entry.now one.now.edge }
+            { directions(odd, one.edge, op) },
+        )
+        .collect(rt, alloc);
+    match made {
+        Ok(all) => Ok(all),
+        Err(_) => in_turn(alloc, odd, counted, op),
+    }
+}
+
+/// Adds an edge in its directions.
+fn add<A: Allocator>(
+    edges: &mut Vec<DirectedEdge, A>,
+    edge: Edge,
+    way: (bool, bool),
+) -> Result<(), NoMemory>
+    ensures { OnOk result (edges.new.items ≡ edges.old.items ++ ways edge way) }
+{
+    if way.0 {
+        edges.push(DirectedEdge {
+            from: edge.p,
+            to: edge.q,
+        })?;
+    }
+    if way.1 {
+        edges.push(DirectedEdge {
+            from: edge.q,
+            to: edge.p,
+        })?;
+    }
+    Ok(())
+}
+
+/// All edges in their directions.
+fn directed_edges<A: Allocator + Copy>(
+    alloc: A,
+    counted: &[Counted],
+    labels: &[(bool, bool)],
+) -> Result<Vec<DirectedEdge, A>, NoMemory>
+    requires { length labels.now ≡ length counted.now }
+    ensures { IfOk result (λ edges. edges.items ≡ ways_of counted.now labels.now) }
+{
+    let mut edges = Vec::new(alloc);
+    for i in 0..counted.len() {
+        add(&mut edges, counted[i].edge, labels[i])?;
+    }
+    Ok(edges)
+}
+
+/// The directed edges of the result, ascending by start, then by end.
+pub fn labels<A: Allocator + Copy + Sync + Send, R: Threads + Sync>(
+    rt: &R,
+    alloc: A,
+    counted: &[Counted],
+    op: Op,
+) -> Result<Directed<A>, NoMemory>
+    requires { All (λ c. AreInLimit c.edge.p c.edge.q) counted.now }
+    ensures { IfOk result (λ directed. AreResultEdges op counted.now directed) }
+{
+    let odd = OddEdges::of(alloc, counted)?;
+    let labels = labelled(rt, alloc, &odd, counted, op)?;
+    let mut edges = directed_edges(alloc, counted, &labels)?;
+    edges.sort_unstable();
+    // an edge is listed once, so this leaves the list as it is where the rounded edges differ
+    edges.dedup();
+    Ok(Directed::new(edges))
+}

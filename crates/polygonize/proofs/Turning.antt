@@ -1,0 +1,97 @@
+-- Rings begun at their least number, and how they are added to the written ones.
+use Rattle.std.proofs.Common.{◌≡◌, ℕ, suc, ◌<◌, ◌≤◌, List, [], ◌∷◌, ◌++◌, length, get_or, map, take, drop, refl, sym, ◌∙◌, ap, subst, arith, length-append, append_assoc}
+use Rattle.std.specs.Prelude.{All, AllPairs, IsPermutation, flat_map}
+use Rattle.std.proofs.lemmas.List.{take-append-drop, map-append, append-nil}
+use Rattle.std.proofs.lemmas.List.Elements.{All-nil, All-cons, All-head, All-tail, All-append, All-push}
+use Rattle.std.proofs.lemmas.List.Concat.{flat_map-append}
+use Rattle.std.proofs.lemmas.List.Sorted.{IsPermutation-refl, IsPermutation-trans, IsPermutation-append, IsPermutation-append_left, IsPermutation-append_right, IsPermutation-append_comm, IsPermutation-middle, IsPermutation-cons, IsPermutation-to_front, IsPermutation-sym, All-permutation, length_permutation}
+use Rattle.std.proofs.Math.Seq.{drop-cons}
+use Rattle.geom.specs.declared.point.Pt.{Pt}
+use Rattle.geom.specs.declared.directed.DirectedEdge.{DirectedEdge}
+use Rattle.geom.specs.ListOrder.{IsRotation}
+use Rattle.geom.specs.Rings.{ring_edges, IsSimple}
+use Rattle.polygonize.specs.Next.{edge_at, ring_of}
+use Rattle.polygonize.specs.Number.{IsVertex}
+use Rattle.polygonize.specs.Written.{IsTurned, AreTurned, AreAdded, IsSound, backward}
+use Rattle.polygonize.proofs.Lists.{same_order}
+use Rattle.polygonize.proofs.Ends.{all_pairs_permutation}
+use Rattle.polygonize.proofs.Pieces.{rotated_edges}
+
+-- ---- one ring
+pub turned_at : (ring : List ℕ) (k : ℕ) → k < length ring → All (λ j. get_or ring k 0 ≤ j) ring → IsTurned ring (drop k ring ++ take k ring)
+turned_at ring k h l = record {
+  front = take k ring;
+  back = drop k ring;
+  was = sym (take-append-drop k ring);
+  is = refl;
+  least = let P : ℕ → Type 0 = λ t. All (λ j. t ≤ j) (drop k ring ++ take k ring) in subst P (sym first)
+      (All-permutation (λ j. get_or ring k 0 ≤ j) ring (drop k ring ++ take k ring) (IsPermutation-trans _ _ _ (same_order ring (take k ring ++ drop k ring) (sym (take-append-drop k ring))) (IsPermutation-append_comm (take k ring) (drop k ring))) l);
+}
+  where
+    first : get_or (drop k ring ++ take k ring) 0 0 ≡ get_or ring k 0
+    first = ap (λ t. get_or (t ++ take k ring) 0 0) (drop-cons ring k 0 h)
+
+pub turned_permutation : (ring turned : List ℕ) → IsTurned ring turned → IsPermutation ring turned
+turned_permutation ring turned t = IsPermutation-trans _ _ _ (same_order ring (t.front ++ t.back) t.was) (IsPermutation-trans _ _ _ (IsPermutation-append_comm t.front t.back) (same_order (t.back ++ t.front) turned (sym t.is)))
+
+pub turned_length : (ring turned : List ℕ) → IsTurned ring turned → length turned ≡ length ring
+turned_length ring turned t = length_permutation ring turned (turned_permutation ring turned t)
+
+pub turned_sound : (ds : List DirectedEdge) (ring turned : List ℕ) → IsTurned ring turned → IsSound ds ring → IsSound ds turned
+turned_sound ds ring turned t s = record {
+  long = let P : ℕ → Type 0 = λ n. 3 ≤ n in subst P (sym (turned_length ring turned t)) s.long;
+  simple = all_pairs_permutation (λ p q. ¬ (p ≡ q)) (λ x y n e. n (sym e)) ring turned (turned_permutation ring turned t) s.simple;
+  vertices = All-permutation (IsVertex ds) ring turned (turned_permutation ring turned t) s.vertices;
+}
+
+pub turned_edges : (ds : List DirectedEdge) (ring turned : List ℕ) → IsTurned ring turned → IsPermutation (ring_edges (ring_of ds ring)) (ring_edges (ring_of ds turned))
+turned_edges ds ring turned t = rotated_edges (ring_of ds ring) (ring_of ds turned) (record {
+  front = ring_of ds t.front;
+  back = ring_of ds t.back;
+  was = ap (ring_of ds) t.was ∙ map-append (λ i. (edge_at ds i).from) t.front t.back;
+  is = ap (ring_of ds) t.is ∙ map-append (λ i. (edge_at ds i).from) t.back t.front;
+})
+
+-- ---- several
+pub turned_all_sound : (ds : List DirectedEdge) (pieces turned : List (List ℕ)) → AreTurned pieces turned → All (IsSound ds) pieces → All (IsSound ds) turned
+turned_all_sound ds [] [] t h = All-nil (IsSound ds)
+turned_all_sound ds [] (w ∷ ws) t h = absurd t
+turned_all_sound ds (p ∷ ps) [] t h = absurd t
+turned_all_sound ds (p ∷ ps) (w ∷ ws) t h = All-cons (IsSound ds) w ws (turned_sound ds p w t.0 (All-head (IsSound ds) p ps h)) (turned_all_sound ds ps ws t.1 (All-tail (IsSound ds) p ps h))
+
+abbrev pub edges_in : List DirectedEdge → List (List ℕ) → List DirectedEdge
+edges_in ds rings = flat_map ring_edges (map (ring_of ds) rings)
+
+pub turned_all_edges : (ds : List DirectedEdge) (pieces turned : List (List ℕ)) → AreTurned pieces turned → IsPermutation (edges_in ds pieces) (edges_in ds turned)
+turned_all_edges ds [] [] t = IsPermutation-refl []
+turned_all_edges ds [] (w ∷ ws) t = absurd t
+turned_all_edges ds (p ∷ ps) [] t = absurd t
+turned_all_edges ds (p ∷ ps) (w ∷ ws) t = IsPermutation-append (ring_edges (ring_of ds p)) (ring_edges (ring_of ds w)) (edges_in ds ps) (edges_in ds ws) (turned_edges ds p w t.0) (turned_all_edges ds ps ws t.1)
+
+-- ---- the pieces of a ring, taken from the end, and written at the end
+pub record Adding (pieces left old new : List (List ℕ)) : Type 0 where
+  pub done : List (List ℕ)
+  pub turned : List (List ℕ)
+  pub parts : pieces ≡ left ++ done
+  pub each : AreTurned done turned
+  pub appended : new ≡ old ++ backward turned
+
+pub none_added : (pieces old : List (List ℕ)) → Adding pieces pieces old old
+none_added pieces old = record { done = []; turned = []; parts = sym (append-nil pieces); each = tt; appended = sym (append-nil old) }
+
+pub one_added : (pieces left rest old new : List (List ℕ)) (piece turned : List ℕ) → left ≡ rest ++ piece ∷ [] → IsTurned piece turned → Adding pieces left old new → Adding pieces rest old (new ++ turned ∷ [])
+one_added pieces left rest old new piece turned e t a = record {
+  done = piece ∷ a.done;
+  turned = turned ∷ a.turned;
+  parts = a.parts ∙ ap (λ x. x ++ a.done) e ∙ append_assoc rest (piece ∷ []) a.done;
+  each = (t, a.each);
+  appended = ap (λ x. x ++ turned ∷ []) a.appended ∙ append_assoc old (backward a.turned) (turned ∷ []);
+}
+
+pub all_added : (pieces old new : List (List ℕ)) → Adding pieces [] old new → AreAdded pieces old new
+all_added pieces old new a = record { turned = a.turned; each = (let P : List (List ℕ) → Type 0 = λ t. AreTurned t a.turned in subst P (sym a.parts) a.each); appended = a.appended }
+
+pub step_added : {V W : Type 0} (f : V → List ℕ) (g : W → List ℕ) (pieces : List (List ℕ)) (left rest : List V) (piece : V) (old : List (List ℕ)) (new more : List W) (w : W) → left ≡ rest ++ piece ∷ [] → more ≡ new ++ w ∷ [] → IsTurned (f piece) (g w)
+    → Adding pieces (map f left) old (map g new) → Adding pieces (map f rest) old (map g more)
+step_added f g pieces left rest piece old new more w e q t a = let P : List (List ℕ) → Type 0 = Adding pieces (map f rest) old in subst P (sym (ap (map g) q ∙ map-append g new (w ∷ [])))
+    (one_added pieces (map f left) (map f rest) old (map g new) (f piece) (g w) (ap (map f) e ∙ map-append f rest (piece ∷ [])) t a)

@@ -1,0 +1,5 @@
+use Rattle.std.proofs.Common.{◌<◌, length}
+use Rattle.polygonize.proofs.piece.first_piece.Given as goal
+
+abbrev pub invariant-loop-i : goal.invariant-loop-i
+invariant-loop-i g l = l.best < length l.pieces

@@ -1,0 +1,22 @@
+use Rattle.std.proofs.Common.{◌≡◌, map}
+use Rattle.std.proofs.lemmas.List.Sorted.{All-permutation}
+use Rattle.std.proofs.lemmas.Result.{IfOk-weaker}
+use Rattle.geom.specs.Canonical.{HaveEachEdge, written_rings}
+use Rattle.polygonize.specs.Next.{ring_of}
+use Rattle.polygonize.specs.Written.{IsSound}
+use Rattle.polygonize.proofs.Writing.{text_has_each, unmapped}
+use Rattle.polygonize.proofs.polygon.polygons.Goals as goal
+
+pub grouped-requires : goal.grouped-requires
+grouped-requires g c = record {
+  sound = rw c.deref.ensures.value
+      (All-permutation (λ w. IsSound c.edges-edges.result.now w.ring.items) c.in_ok-written.written.items c.sort_unstable_by_key.new.self.items c.sort_unstable_by_key.ensures.permutation
+      (unmapped (IsSound c.edges-edges.result.now) (λ w. w.ring.items) c.in_ok-written.written.items c.in_ok-written.ensures.sound));
+}
+
+pub returns : goal.returns
+returns g c = IfOk-weaker c.grouped.result
+    (λ found. written_rings (map (λ p. record { shell = p.shell; holes = p.holes.items }) found.items) ≡ map (λ w. ring_of c.args.directed.now w.ring.items) c.sort_unstable_by_key.new.self.items)
+    (λ found. HaveEachEdge c.args.directed.now (map (λ p. record { shell = p.shell; holes = p.holes.items }) found.items))
+    (λ found h. text_has_each (λ w. w.ring.items) c.args.directed.now c.in_ok-written.written.items c.sort_unstable_by_key.new.self.items (map (λ p. record { shell = p.shell; holes = p.holes.items }) found.items) (rw c.edges-edges.ensures.value at c.in_ok-written.ensures.edges) c.sort_unstable_by_key.ensures.permutation h)
+    (rw (c.deref.ensures.value, c.edges-edges.ensures.value) at c.grouped.ensures)

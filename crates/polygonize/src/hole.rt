@@ -1,0 +1,41 @@
+//! Shells and holes.
+
+ghost use Rattle.std.specs.Prelude.{◌≡◌, ◌+◌, ◌<◌, All, if◌then◌else◌, int_lt, length, nat_lt, pos};
+ghost use Rattle.geom.specs.Determinant.{side};
+ghost use Rattle.polygonize.specs.Next.{edge_at};
+
+use crate::angle::side_of;
+use geom::DirectedEdge;
+
+/// The place after another one in a ring of n.
+fn following(n: usize, i: usize) -> usize
+    requires { i < n }
+    ensures value { result ≡ (if nat_lt (i + 1) n then i + 1 else 0) }
+    ensures inside { result < n }
+{
+    if i + 1 < n { i + 1 } else { 0 }
+}
+
+/// Whether the ring turns to the right at its vertex at the place i: the next edge lies counter-clockwise of the way back.
+fn turns_right(edges: &[DirectedEdge], before: usize, at: usize, after: usize) -> bool
+    requires before_in { before < length edges.now }
+    requires at_in { at < length edges.now }
+    requires after_in { after < length edges.now }
+    ensures { result ≡ int_lt (pos 0) (side (edge_at edges.now at).from (edge_at edges.now before).from (edge_at edges.now after).from) }
+{
+    side_of(edges[at].from, edges[before].from, edges[after].from) > 0
+}
+
+/// Whether a ring of vertices, begun at its least one, is a hole.
+pub fn is_hole(edges: &[DirectedEdge], ring: &[usize]) -> bool
+    requires inside { All (λ k. k < length edges.now) ring.now }
+{
+    for i in 0..ring.len() {
+        let at = following(ring.len(), i);
+        let after = following(ring.len(), at);
+        if ring[at] == ring[0] && turns_right(edges, ring[i], ring[at], ring[after]) {
+            return true;
+        }
+    }
+    false
+}

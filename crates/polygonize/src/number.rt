@@ -1,0 +1,79 @@
+//! Numbers of vertices: that of a vertex is the place of the first edge that leaves it, so numbers are ordered as points are.
+
+ghost use Rattle.std.specs.Prelude.{◌≡◌, ◌≢◌, ◌<◌, All, IfOk, false, length, map, slice_index, true};
+ghost use Rattle.geom.specs.Directed.{AreDirected};
+ghost use Rattle.polygonize.specs.Next.{ring_of};
+ghost use Rattle.polygonize.specs.Number.{AreNumbers, IsLastNumber, IsNumber};
+
+use geom::{DirectedEdge, NoMemory, Pt};
+use std::alloc::{AllocError, Allocator};
+
+fn are_same(p: Pt, q: Pt) -> bool
+    ensures yes { result ≡ true → p ≡ q }
+    ensures no { result ≡ false → p ≢ q }
+{
+    p == q
+}
+
+/// The number of the vertex where the edge at i starts, from that of the edge before it.
+fn number_at(edges: &[DirectedEdge], last: usize, i: usize) -> usize
+    requires directed { AreDirected edges.now }
+    requires inside { i < length edges.now }
+    requires last { IsLastNumber edges.now i last }
+    ensures { IsNumber edges.now i result }
+{
+    if are_same(edges[last].from, edges[i].from) {
+        last
+    } else {
+        i
+    }
+}
+
+/// For each edge the number of the vertex where it starts.
+pub fn start_numbers<A: Allocator + Copy>(
+    alloc: A,
+    edges: &[DirectedEdge],
+) -> Result<Vec<usize, A>, NoMemory>
+    requires { AreDirected edges.now }
+    ensures { IfOk result (λ numbers. AreNumbers edges.now numbers.items) }
+{
+    let mut numbers = Vec::new(alloc);
+    let mut last = 0;
+    for i in 0..edges.len() {
+        last = number_at(edges, last, i);
+        numbers.push(last)?;
+    }
+    Ok(numbers)
+}
+
+/// The vertices of a cycle of edges, by their numbers.
+pub fn vertices_of<A: Allocator + Copy>(
+    alloc: A,
+    numbers: &[usize],
+    cycle: &[usize],
+) -> Result<Vec<usize, A>, NoMemory>
+    requires { All (λ k. k < length numbers.now) cycle.now }
+    ensures { IfOk result (λ ring. ring.items ≡ map (λ k. slice_index numbers.now k) cycle.now) }
+{
+    let vertices: Result<Vec<usize, A>, AllocError> = cycle
+        .iter()
+        .map(|place| numbers[*place])
+        .collect(alloc);
+    Ok(vertices?)
+}
+
+/// The points of a ring of vertices.
+pub fn points_of<A: Allocator + Copy>(
+    alloc: A,
+    edges: &[DirectedEdge],
+    ring: &[usize],
+) -> Result<Vec<Pt, A>, NoMemory>
+    requires { All (λ k. k < length edges.now) ring.now }
+    ensures { IfOk result (λ points. points.items ≡ ring_of edges.now ring.now) }
+{
+    let points: Result<Vec<Pt, A>, AllocError> = ring
+        .iter()
+        .map(|vertex| edges[*vertex].from)
+        .collect(alloc);
+    Ok(points?)
+}

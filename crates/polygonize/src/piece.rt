@@ -1,0 +1,68 @@
+//! The pieces of a ring as they are written.
+
+ghost use Rattle.std.specs.Prelude.{◌<◌, ◌≤◌, All, length, map, slice_index};
+ghost use Rattle.polygonize.specs.Number.{IsVertex};
+ghost use Rattle.polygonize.specs.Written.{IsSound, IsTurned};
+
+use crate::angle::side_of;
+use geom::DirectedEdge;
+use std::alloc::Allocator;
+
+/// Where a ring has its least vertex.
+fn least_place(ring: &[usize]) -> usize
+    requires { 0 < length ring.now }
+    ensures inside { result < length ring.now }
+    ensures least { All (λ k. slice_index ring.now result ≤ k) ring.now }
+{
+    let mut best = 0;
+    for i in 0..ring.len() {
+        if ring[i] < ring[best] {
+            best = i;
+        }
+    }
+    best
+}
+
+/// A ring without repeated vertices, begun at its least one: its least rotation.
+pub fn turned<A: Allocator>(mut ring: Vec<usize, A>) -> Vec<usize, A>
+    requires { 0 < length ring.items }
+    ensures { IsTurned ring.items result.items }
+{
+    let place = least_place(&ring);
+    ring.rotate_left(place);
+    ring
+}
+
+/// Whether a piece comes back to the ring's least vertex, and with a greater angle than another one that does.
+fn comes_later(edges: &[DirectedEdge], least: usize, piece: &[usize], other: &[usize]) -> bool
+    requires least { IsVertex edges.now least }
+    requires sound { IsSound edges.now piece.now }
+    requires other_sound { IsSound edges.now other.now }
+{
+    if piece[0] != least {
+        return false;
+    }
+    let last = edges[piece[piece.len() - 1]].from;
+    let other_last = edges[other[other.len() - 1]].from;
+    other[0] != least || side_of(edges[least].from, other_last, last) > 0
+}
+
+/// Of the pieces of a ring that begin at its least vertex, that which comes back to it with the greatest angle.
+pub fn first_piece<A: Allocator>(
+    edges: &[DirectedEdge],
+    least: usize,
+    pieces: &[Vec<usize, A>],
+) -> usize
+    requires least { IsVertex edges.now least }
+    requires some { 0 < length pieces.now }
+    requires sound { All (λ p. IsSound edges.now p.items) pieces.now }
+    ensures { result < length pieces.now }
+{
+    let mut best = 0;
+    for i in 0..pieces.len() {
+        if comes_later(edges, least, &pieces[i], &pieces[best]) {
+            best = i;
+        }
+    }
+    best
+}

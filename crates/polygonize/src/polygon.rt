@@ -1,0 +1,83 @@
+//! The polygons of a result.
+
+ghost use Rattle.std.specs.Prelude.{◌≡◌, ◌+◌, ◌<◌, ◌≤◌, All, IfOk, drop, length, map, take, vec_len};
+ghost use Rattle.geom.specs.Canonical.{HaveEachEdge, written_rings};
+ghost use Rattle.geom.specs.Limit.{AreInLimit};
+ghost use Rattle.geom.specs.Rings.{Closes};
+ghost use Rattle.polygonize.specs.Next.{ring_of};
+ghost use Rattle.polygonize.specs.Written.{IsSound};
+
+use crate::number::points_of;
+use crate::written::{Written, written_rings};
+use face_label::Directed;
+use geom::{DirectedEdge, NoMemory, Polygon, SimpleRing};
+use std::alloc::Allocator;
+
+/// A ring of vertices by its points.
+fn simple_ring<A: Allocator + Copy>(
+    alloc: A,
+    edges: &[DirectedEdge],
+    ring: &[usize],
+) -> Result<SimpleRing<A>, NoMemory>
+    requires { IsSound edges.now ring.now }
+    ensures { IfOk result (λ points. points ≡ ring_of edges.now ring.now) }
+{
+    Ok(SimpleRing::new(points_of(alloc, edges, ring)?))
+}
+
+/// The holes that stand from a place on.
+fn holes_from<A: Allocator + Copy>(
+    alloc: A,
+    edges: &[DirectedEdge],
+    written: &[Written<A>],
+    start: usize,
+) -> Result<Vec<SimpleRing<A>, A>, NoMemory>
+    requires inside { start ≤ length written.now }
+    requires sound { All (λ w. IsSound edges.now w.ring.items) written.now }
+    ensures inside { IfOk result (λ holes. start + vec_len holes ≤ length written.now) }
+    ensures rings { IfOk result (λ holes. holes.items ≡ map (λ w. ring_of edges.now w.ring.items) (take (vec_len holes) (drop start written.now))) }
+{
+    let mut holes = Vec::new(alloc);
+    let mut end = start;
+    while end < written.len() && written[end].place.is_hole {
+        holes.push(simple_ring(alloc, edges, &written[end].ring)?)?;
+        end += 1;
+    }
+    Ok(holes)
+}
+
+/// The polygons of rings that stand in the order of the text: each shell begins one.
+fn grouped<A: Allocator + Copy>(
+    alloc: A,
+    edges: &[DirectedEdge],
+    written: &[Written<A>],
+) -> Result<Vec<Polygon<A>, A>, NoMemory>
+    requires sound { All (λ w. IsSound edges.now w.ring.items) written.now }
+    ensures { IfOk result (λ found. written_rings (map (λ p. record { shell = p.shell; holes = p.holes.items }) found.items) ≡ map (λ w. ring_of edges.now w.ring.items) written.now) }
+{
+    let mut polygons = Vec::new(alloc);
+    let mut at = 0;
+    while at < written.len() {
+        let shell = simple_ring(alloc, edges, &written[at].ring)?;
+        let holes = holes_from(alloc, edges, written, at + 1)?;
+        at += 1 + holes.len();
+        polygons.push(Polygon { shell, holes })?;
+    }
+    Ok(polygons)
+}
+
+/// The polygons of a result, by its directed edges, in canonical order: a ring that visits a vertex twice is cut there, each
+/// ring begins at its least vertex, and a polygon's holes and the polygons stand in the order of their points.
+pub fn polygons<A: Allocator + Copy>(
+    alloc: A,
+    directed: &Directed<A>,
+) -> Result<Vec<Polygon<A>, A>, NoMemory>
+    requires closes { Closes directed.now }
+    requires in_limit { All (λ d. AreInLimit d.from d.to) directed.now }
+    ensures { IfOk result (λ found. HaveEachEdge directed.now (map (λ p. record { shell = p.shell; holes = p.holes.items }) found.items)) }
+{
+    let edges = directed.edges();
+    let mut written = written_rings(alloc, edges)?;
+    written.sort_unstable_by_key(|ring| ring.place);
+    grouped(alloc, edges, &written)
+}

@@ -1,0 +1,175 @@
+//! The rings of the result as they are written, each with its place in the order of the text.
+
+ghost use Rattle.std.specs.Prelude.{◌≡◌, ◌<◌, ◌≤◌, [], All, IfOk, OnOk, length, map};
+ghost use Rattle.geom.specs.Limit.{AreInLimit};
+ghost use Rattle.geom.specs.Rings.{AreRings, Closes};
+ghost use Rattle.polygonize.specs.Number.{AreNumbers, IsVertex};
+ghost use Rattle.polygonize.specs.Next.{ring_of};
+ghost use Rattle.polygonize.specs.Stack.{AreStacked};
+ghost use Rattle.polygonize.specs.Written.{AreAdded, ArePlaces, HaveEdges, IsRingWritten, IsSound};
+
+use crate::below::nearest_below;
+use crate::cut::cut;
+use crate::hole::is_hole;
+use crate::number::{start_numbers, vertices_of};
+use crate::piece::{first_piece, turned};
+use crate::ring::ring_places;
+use geom::{DirectedEdge, NoMemory};
+use std::alloc::Allocator;
+
+/// The first two vertices of a ring, which tell it from all others: they are an edge's.
+#[derive(Clone, Copy, Debug, PartialEq, Eq, PartialOrd, Ord)]
+pub struct Opening {
+    first: usize,
+    second: usize,
+}
+
+impl Opening {
+    fn of(ring: &[usize]) -> Opening
+        requires { 2 ≤ length ring.now }
+    {
+        Opening {
+            first: ring[0],
+            second: ring[1],
+        }
+    }
+}
+
+/// The place of a ring in the text: by its polygon's shell, the shell first, then by its own opening.
+#[derive(Clone, Copy, Debug, PartialEq, Eq, PartialOrd, Ord)]
+pub struct Place {
+    shell: Opening,
+    pub is_hole: bool,
+    opening: Opening,
+}
+
+/// A ring of vertices as it is written.
+#[derive(Debug, Drop)]
+pub struct Written<A: Allocator> {
+    pub place: Place,
+    pub ring: Vec<usize, A>,
+}
+
+/// Writes the pieces of a ring. A hole's go to the polygon of the shell that is given; a shell's first piece is a shell itself.
+fn write_pieces<A: Allocator + Copy>(
+    edges: &[DirectedEdge],
+    least: usize,
+    mut pieces: Vec<Vec<usize, A>, A>,
+    owner: Option<Opening>,
+    written: &mut Vec<Written<A>, A>,
+) -> Result<Opening, NoMemory>
+    requires least { IsVertex edges.now least }
+    requires some { 0 < length pieces.items }
+    requires sound { All (λ p. IsSound edges.now p.items) pieces.items }
+    ensures { OnOk result (AreAdded (map (λ p. p.items) pieces.items) (map (λ w. w.ring.items) written.old.items) (map (λ w. w.ring.items) written.new.items)) }
+{
+    let first = first_piece(edges, least, &pieces);
+    let shell = match owner {
+        Some(shell) => shell,
+        None => Opening::of(&pieces[first]),
+    };
+    while let Some(piece) = pieces.pop() {
+        let ring = turned(piece);
+        let place = Place {
+            shell,
+            is_hole: owner.is_some() || pieces.len() != first,
+            opening: Opening::of(&ring),
+        };
+        written.push(Written { place, ring })?;
+    }
+    Ok(shell)
+}
+
+/// The shell of the ring's polygon, where the ring is a hole and the ring of the edge below it was written.
+fn owner_of(edges: &[DirectedEdge], ring: &[usize], shell_of: &[Option<Opening>]) -> Option<Opening>
+    requires edges_in { All (λ d. AreInLimit d.from d.to) edges.now }
+    requires some { 0 < length ring.now }
+    requires inside { All (λ k. k < length edges.now) ring.now }
+    requires same_length { length shell_of.now ≡ length edges.now }
+{
+    if is_hole(edges, ring) {
+        let below = nearest_below(edges, edges[ring[0]].from)?;
+        shell_of[below]
+    } else {
+        None
+    }
+}
+
+/// Keeps the shell of the polygon for each edge of a ring.
+fn keep_shell(shell_of: &mut [Option<Opening>], cycle: &[usize], shell: Opening)
+    requires { All (λ k. k < length shell_of.old) cycle.now }
+{
+    for place in cycle {
+        shell_of[*place] = Some(shell);
+    }
+}
+
+/// Writes the pieces of the ring of these edges. `places` is empty, and is left so.
+fn write_ring<A: Allocator + Copy>(
+    alloc: A,
+    edges: &[DirectedEdge],
+    numbers: &[usize],
+    cycle: &[usize],
+    places: &mut [Option<usize>],
+    shell_of: &mut [Option<Opening>],
+    written: &mut Vec<Written<A>, A>,
+) -> Result<(), NoMemory>
+    requires edges_in { All (λ d. AreInLimit d.from d.to) edges.now }
+    requires numbers { AreNumbers edges.now numbers.now }
+    requires cycle { ArePlaces edges.now cycle.now }
+    requires places { length places.old ≡ length edges.now }
+    requires shells { length shell_of.old ≡ length edges.now }
+    requires clear { AreStacked [] places.old }
+    ensures written { OnOk result (IsRingWritten edges.now cycle.now (map (λ w. w.ring.items) written.old.items) (map (λ w. w.ring.items) written.new.items)) }
+    ensures clear { OnOk result (AreStacked [] places.new) }
+{
+    let ring = vertices_of(alloc, numbers, cycle)?;
+    let owner = owner_of(edges, &ring, shell_of);
+    let pieces = cut(alloc, &ring, places)?;
+    let shell = write_pieces(edges, ring[0], pieces, owner, written)?;
+    keep_shell(shell_of, cycle, shell);
+    Ok(())
+}
+
+/// Writes the rings of all cycles. They ascend by their least vertices, so that of an edge below a hole comes before the hole.
+fn write_cycles<A: Allocator + Copy>(
+    alloc: A,
+    edges: &[DirectedEdge],
+    numbers: &[usize],
+    cycles: &[Vec<usize, A>],
+    places: &mut [Option<usize>],
+    shell_of: &mut [Option<Opening>],
+) -> Result<Vec<Written<A>, A>, NoMemory>
+    requires edges_in { All (λ d. AreInLimit d.from d.to) edges.now }
+    requires numbers { AreNumbers edges.now numbers.now }
+    requires cycles { All (λ c. ArePlaces edges.now c.items) cycles.now }
+    requires rings { AreRings edges.now (map (ring_of edges.now) (map (λ c. c.items) cycles.now)) }
+    requires places { length places.old ≡ length edges.now }
+    requires shells { length shell_of.old ≡ length edges.now }
+    requires clear { AreStacked [] places.old }
+    ensures edges { IfOk result (λ written. HaveEdges edges.now (map (λ w. w.ring.items) written.items)) }
+    ensures sound { IfOk result (λ written. All (IsSound edges.now) (map (λ w. w.ring.items) written.items)) }
+{
+    let mut written = Vec::new(alloc);
+    for cycle in cycles {
+        write_ring(alloc, edges, numbers, cycle, places, shell_of, &mut written)?;
+    }
+    Ok(written)
+}
+
+/// All rings as they are written, in no order yet.
+pub fn written_rings<A: Allocator + Copy>(
+    alloc: A,
+    edges: &[DirectedEdge],
+) -> Result<Vec<Written<A>, A>, NoMemory>
+    requires closes { Closes edges.now }
+    requires edges_in { All (λ d. AreInLimit d.from d.to) edges.now }
+    ensures edges { IfOk result (λ written. HaveEdges edges.now (map (λ w. w.ring.items) written.items)) }
+    ensures sound { IfOk result (λ written. All (IsSound edges.now) (map (λ w. w.ring.items) written.items)) }
+{
+    let numbers = start_numbers(alloc, edges)?;
+    let cycles = ring_places(alloc, edges)?;
+    let mut places = vec![in alloc; None; edges.len()]?;
+    let mut shell_of = vec![in alloc; None; edges.len()]?;
+    write_cycles(alloc, edges, &numbers, &cycles, &mut places, &mut shell_of)
+}
