@@ -12,6 +12,7 @@ use geom::{Fault, Layer, NoMemory, Pt, Ring};
 use std::alloc::Allocator;
 use std::mem;
 
+/// The point that two numbers write, where both are in range.
 fn point_of(x: Number, y: Number) -> Pt
     ensures { result ≡ point_value x y }
 {
@@ -40,6 +41,7 @@ impl<A: Allocator + Copy> Collector<A> {
         Ok(())
     }
 
+    /// One point more.
     fn point(&mut self, x: Number, y: Number) -> Result<(), NoMemory>
         ensures { OnOk result (view self.new ≡ gathered (Event.Point x y) (view self.old)) }
     {
@@ -47,6 +49,7 @@ impl<A: Allocator + Copy> Collector<A> {
         Ok(())
     }
 
+    /// Notes an event.
     fn note(&mut self, alloc: A, event: Event) -> Result<(), NoMemory>
         requires { Enough event (view self.old) }
         ensures { OnOk result (view self.new ≡ gathered event (view self.old)) }

@@ -57,6 +57,7 @@ pub enum Event {
     Close,
 }
 
+/// A reader of one layer text: its place in the grammar, and the numbers of the point at hand.
 #[derive(Clone, Copy, Debug)]
 pub struct Reader {
     place: Place,
@@ -66,6 +67,7 @@ pub struct Reader {
 }
 
 impl Reader {
+    /// Before the first byte.
     pub fn new() -> Reader
         ensures place { result.place ≡ start.place }
         ensures notes { ReaderIs result start.notes }

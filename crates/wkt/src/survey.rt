@@ -7,6 +7,7 @@ use crate::outline::Outline;
 use crate::reader::{Event, Number};
 use geom::{Fault, Pt, Rect};
 
+/// What is known of a layer text so far: its first number out of range, its first fault of a ring, and its outline.
 #[derive(Drop)]
 pub struct Survey {
     /// The offset of the first number outside the limit; behind it nothing else is noted.
@@ -20,6 +21,7 @@ pub struct Survey {
 }
 
 impl Survey {
+    /// Before the first byte.
     pub fn new() -> Survey
         ensures { shown result ≡ fresh }
     {
@@ -79,6 +81,7 @@ impl Survey {
         };
     }
 
+    /// One point more in the ring at hand.
     #[inline(always)]
     fn add(&mut self, p: Pt)
         ensures { shown self.new ≡ added (shown self.old) p }
@@ -92,6 +95,7 @@ impl Survey {
         self.last = p;
     }
 
+    /// One point more, unless a number was out of range before.
     #[inline(always)]
     fn point(&mut self, x: Number, y: Number)
         ensures { shown self.new ≡ pointed (shown self.old) x y }
@@ -128,6 +132,7 @@ impl Survey {
         self.points = 0;
     }
 
+    /// The answer at the end: a number out of range goes before a fault of a ring.
     pub fn verdict(self) -> Result<Outline, Fault>
         ensures { result ≡ judged self.outside self.fault self.outline }
     {

@@ -19,6 +19,7 @@ fn push_number<A: Allocator>(text: &mut Vec<u8, A>, number: i32) -> Result<(), A
     text.extend_from_slice(buffer.format(number).as_bytes())
 }
 
+/// Adds a point: x, a space, y.
 fn push_point<A: Allocator>(text: &mut Vec<u8, A>, point: Pt) -> Result<(), AllocError>
     ensures { OnOk result (text.new.items ≡ text.old.items ++ pt_words point) }
 {
@@ -27,6 +28,7 @@ fn push_point<A: Allocator>(text: &mut Vec<u8, A>, point: Pt) -> Result<(), Allo
     push_number(text, point.y)
 }
 
+/// Adds a comma, a space and a point for each point.
 fn push_more_points<A: Allocator>(text: &mut Vec<u8, A>, points: &[Pt]) -> Result<(), AllocError>
     ensures { OnOk result (text.new.items ≡ text.old.items ++ more_of pt_words points.now) }
 {
@@ -54,6 +56,7 @@ fn push_ring<A: Allocator, B: Allocator>(
     Ok(())
 }
 
+/// Adds a comma, a space and a ring for each ring.
 fn push_more_rings<A: Allocator, B: Allocator>(
     text: &mut Vec<u8, A>,
     rings: &[SimpleRing<B>],
@@ -68,6 +71,7 @@ fn push_more_rings<A: Allocator, B: Allocator>(
     Ok(())
 }
 
+/// Adds a polygon, the shell before the holes.
 fn push_polygon<A: Allocator, B: Allocator>(
     text: &mut Vec<u8, A>,
     polygon: &Polygon<B>,
@@ -82,6 +86,7 @@ fn push_polygon<A: Allocator, B: Allocator>(
     Ok(())
 }
 
+/// Adds a comma, a space and a polygon for each polygon.
 fn push_more_polygons<A: Allocator, B: Allocator>(
     text: &mut Vec<u8, A>,
     polygons: &[Polygon<B>],
