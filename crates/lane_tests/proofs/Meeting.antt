@@ -9,9 +9,12 @@ use Rattle.std.proofs.lemmas.List.FromFn.{length-range_with_len, get_or-range_wi
 use Rattle.std.proofs.lemmas.Int.{ints, by_lt_z}
 use Rattle.std.proofs.lemmas.Bool.{cases_lt}
 use Rattle.geom.proofs.Lists.{In, contains_in, in_contains}
+use Rattle.geom.specs.declared.point.Pt.{Pt}
 use Rattle.geom.specs.declared.rect.Rect.{Rect}
 use Rattle.lane_tests.specs.Columns.{corners, nowhere, touches, passing, touching_numbers}
-use Rattle.lane_tests.specs.Meeting.{SharePoint, MeetsAt, AreMeeting}
+use Rattle.geom.specs.Box.{IsInBox, ShareAPoint}
+use Rattle.geom.proofs.Boxes.{share_in, share_out}
+use Rattle.lane_tests.specs.Meeting.{AreMeeting, MeetsAt}
 
 -- ---- a common point, by four comparisons
 le_yes : (a b : ℤ) → a ≤ℤ b → int_le a b ≡ true
@@ -33,10 +36,8 @@ four_of true true false s e = cc
 four_of true false r s e = cc
 four_of false q r s e = cc
 
-pub touches_from : (b r : Rect) → SharePoint b r → touches (corners b) (corners r) ≡ true
-touches_from b r (p, i, j) =
-    all_four _ _ _ _ (le_yes _ _ (through b.lo.x p.x r.hi.x i.left j.right)) (le_yes _ _ (through b.lo.y p.y r.hi.y i.bottom j.top))
-    (le_yes _ _ (through r.lo.x p.x b.hi.x j.left i.right)) (le_yes _ _ (through r.lo.y p.y b.hi.y j.bottom i.top))
+pub touches_from : (b r : Rect) → ShareAPoint b.lo b.hi r.lo r.hi → touches (corners b) (corners r) ≡ true
+touches_from b r h = let s = share_in b r h in all_four _ _ _ _ (le_yes _ _ s.0.0) (le_yes _ _ s.1.0) (le_yes _ _ s.0.1) (le_yes _ _ s.1.1)
 
 record Common (a b c d : ℤ) : Type 0 where
   at : ℤ
@@ -55,12 +56,19 @@ itself a = omega (arith, ints)
 overlap : (a b c d : ℤ) → a ≤ℤ b → c ≤ℤ d → a ≤ℤ d → c ≤ℤ b → Common a b c d
 overlap a b c d h k l m = by_lt_z a c (λ n. record { at = c; low = at_most a c n; high = m; from = itself c; to = k }) (λ n. record { at = a; low = itself a; high = h; from = n; to = l })
 
-pub share_from : (b r : Rect) → touches (corners b) (corners r) ≡ true → SharePoint b r
-share_from b r e =
-    let t = four_of _ _ _ _ e in
-    let x = overlap b.lo.x b.hi.x r.lo.x r.hi.x b.wide r.wide (le_from _ _ t.0) (le_from _ _ t.2) in
-    let y = overlap b.lo.y b.hi.y r.lo.y r.hi.y b.high r.high (le_from _ _ t.1) (le_from _ _ t.3) in
+share_from : (b r : Rect) → touches (corners b) (corners r) ≡ true → ShareAPoint b.lo b.hi r.lo r.hi
+share_from b r e = let t = four_of _ _ _ _ e in share_out b r (le_from _ _ t.0, le_from _ _ t.2) (le_from _ _ t.1, le_from _ _ t.3)
+
+-- boxes with whole corners that share a point share a point of the grid
+pub shared_whole : (b r : Rect) → ShareAPoint b.lo b.hi r.lo r.hi → (p : Pt) × IsInBox b.lo b.hi p × IsInBox r.lo r.hi p
+shared_whole b r h =
+    let s = share_in b r h in
+    let x = overlap b.lo.x b.hi.x r.lo.x r.hi.x b.wide r.wide s.0.0 s.0.1 in
+    let y = overlap b.lo.y b.hi.y r.lo.y r.hi.y b.high r.high s.1.0 s.1.1 in
     (record { x = x.at; y = y.at }, record { left = x.low; right = x.high; bottom = y.low; top = y.high }, record { left = x.from; right = x.to; bottom = y.from; top = y.to })
+
+pub whole_shared : (b r : Rect) (p : Pt) → IsInBox b.lo b.hi p → IsInBox r.lo r.hi p → ShareAPoint b.lo b.hi r.lo r.hi
+whole_shared b r p i j = share_out b r (through _ _ _ i.left j.right, through _ _ _ j.left i.right) (through _ _ _ i.bottom j.top, through _ _ _ j.bottom i.top)
 
 -- ---- members of a filtered range
 in_range : (a n k : ℕ) → In k (range_with_len a n) → (a ≤ k) × (k < a + n)

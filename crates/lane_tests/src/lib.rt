@@ -12,3 +12,6 @@ pub use boxes::{Boxes, meet_boxes, meet_in};
 pub use edges::{Edges, odd_above};
 pub use points::{Half, Probe};
 pub use segs::{Segs, sides};
+
+#[cfg(test)]
+mod tests;

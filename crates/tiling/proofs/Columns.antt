@@ -9,7 +9,7 @@ use Rattle.std.proofs.lemmas.Bool.{cases_lt}
 use Rattle.geom.specs.Limit.{IsWithin, coordinate_limit}
 use Rattle.geom.specs.declared.point.Pt.{Pt}
 use Rattle.geom.specs.declared.rect.Rect.{Rect}
-use Rattle.lane_tests.specs.Meeting.{IsIn}
+use Rattle.geom.specs.Box.{IsInBox}
 use Rattle.tiling.specs.Tiles.{CoversBounds, HasTile, IsOver, Owns, Tiling, steps, tile_count}
 
 -- the k-th column from low has x
@@ -139,14 +139,14 @@ past_last : (low x : ℤ) (a s : ℕ) → 0 < s → x ≤ℤ (low +ℤ pos (a + 
 past_last low x a s h l = omega (arith, ints)
 
 -- the corners of a tile
-pub record AreCorners (g : Tiling) (number : ℕ) (r : Rect) : Type 0 where
-  pub left : r.lo.x ≡ g.left +ℤ pos (number % g.columns * g.side)
-  pub right : r.hi.x ≡ g.left +ℤ pos (number % g.columns * g.side + g.side - 1)
-  pub bottom : r.lo.y ≡ g.bottom +ℤ pos (number / g.columns * g.side)
-  pub top : r.hi.y ≡ g.bottom +ℤ pos (number / g.columns * g.side + g.side - 1)
+pub record AreCorners (g : Tiling) (number : ℕ) (lo hi : Pt) : Type 0 where
+  pub left : lo.x ≡ g.left +ℤ pos (number % g.columns * g.side)
+  pub right : hi.x ≡ g.left +ℤ pos (number % g.columns * g.side + g.side - 1)
+  pub bottom : lo.y ≡ g.bottom +ℤ pos (number / g.columns * g.side)
+  pub top : hi.y ≡ g.bottom +ℤ pos (number / g.columns * g.side + g.side - 1)
 
-pub owned_from : (g : Tiling) (number : ℕ) (r : Rect) (p : Pt) → 0 < g.side → number < tile_count g → AreCorners g number r → IsIn r p → Owns g number p
-owned_from g number r p s h c i =
+pub owned_from : (g : Tiling) (number : ℕ) (lo hi : Pt) (p : Pt) → 0 < g.side → number < tile_count g → AreCorners g number lo hi → IsInBox lo hi p → Owns g number p
+owned_from g number lo hi p s h c i =
     record {
       column = number % g.columns;
       row = number / g.columns;
@@ -157,8 +157,8 @@ owned_from g number r p s h c i =
       number_is = sym (div-add-mod' number g.columns);
     }
 
-pub in_from : (g : Tiling) (number : ℕ) (r : Rect) (p : Pt) → 0 < g.side → number < tile_count g → AreCorners g number r → Owns g number p → IsIn r p
-in_from g number r p s h c o =
+pub in_from : (g : Tiling) (number : ℕ) (lo hi : Pt) (p : Pt) → 0 < g.side → number < tile_count g → AreCorners g number lo hi → Owns g number p → IsInBox lo hi p
+in_from g number lo hi p s h c o =
     let same = one_place g.columns (number / g.columns) (number % g.columns) o.row o.column (mod-lt number (some_columns number g.rows g.columns h)) o.in_columns (div-add-mod' number g.columns ∙ o.number_is) in
     let across = column_from_steps g.left p.x g.side (number % g.columns) s (o.column_is ∙ ap pos (sym same.1)) in
     let up = column_from_steps g.bottom p.y g.side (number / g.columns) s (o.row_is ∙ ap pos (sym same.0)) in
@@ -170,10 +170,10 @@ in_from g number r p s h c o =
     }
 
 -- a rectangle at the corners of a tile has the points that the tile owns
-pub exact : (g h : Tiling) (number : ℕ) (r : Rect) → h ≡ g → 0 < h.side → number < tile_count g → AreCorners h number r → (p : Pt) → IsIn r p ↔ Owns g number p
-exact g h number r e s k c p =
+pub exact : (g h : Tiling) (number : ℕ) (lo hi : Pt) → h ≡ g → 0 < h.side → number < tile_count g → AreCorners h number lo hi → (p : Pt) → IsInBox lo hi p ↔ Owns g number p
+exact g h number lo hi e s k c p =
     let l : number < tile_count h = subst (λ (g : Tiling). number < tile_count g) (sym e) k in
-    subst (λ (g : Tiling). IsIn r p ↔ Owns g number p) e (owned_from h number r p s l c, in_from h number r p s l c)
+    subst (λ (g : Tiling). IsInBox lo hi p ↔ Owns g number p) e (owned_from h number lo hi p s l c, in_from h number lo hi p s l c)
 
 pub corner : (z low n : ℤ) → FitsSigned w32 z → FitsSigned w32 low → z ≡ to_z w32 (of_z w32 low) +ℤ n → to_z w32 (of_z w32 z) ≡ low +ℤ n
 corner z low n f g e = to_z-of_z f ∙ e ∙ ap (λ x. x +ℤ n) (to_z-of_z g)
@@ -219,7 +219,7 @@ inside low high x side columns s h l c =
     widths : (low x high : ℤ) (v w : ℕ) → pos v ≡ x -ℤ low → pos w ≡ high -ℤ low → x ≤ℤ high → v ≤ w
     widths low x high v w e f l = omega (arith, ints)
 
-pub covers : (r : Rect) (side : ℕ) (g : Tiling) → 0 < side → IsOver r side g → (p : Pt) → IsIn r p → HasTile g p
+pub covers : (r : Rect) (side : ℕ) (g : Tiling) → 0 < side → IsOver r side g → (p : Pt) → IsInBox r.lo r.hi p → HasTile g p
 covers r side g s o p i =
     let a = inside r.lo.x r.hi.x p.x side g.columns s i.left i.right o.columns_are in
     let b = inside r.lo.y r.hi.y p.y side g.rows s i.bottom i.top o.rows_are in (

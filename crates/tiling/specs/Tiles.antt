@@ -1,12 +1,12 @@
 -- Tiles (own): the columns and rows of a grid, the points that a tile owns, and the refusals.
-use Rattle.std.specs.Prelude.{◌≡◌, ◌↔◌, ◌⊎◌, ◌^◌, ℕ, ℤ, pos, ◌+◌, ◌*◌, ◌<◌, ◌≤◌, ◌+ℤ◌, ◌-ℤ◌, Option, Some, None}
+use Rattle.std.specs.Prelude.{◌≡◌, ◌↔◌, ◌⊎◌, ◌^◌, ℕ, ℤ, pos, ◌+◌, ◌-◌, ◌*◌, ◌%◌, ◌<◌, ◌≤◌, ◌+ℤ◌, ◌-ℤ◌, Option, Some, None}
 use Rattle.std.specs.Int.{int_div_euclid}
 use Rattle.geom.specs.Limit.{AreInLimit, IsWithin}
 use Rattle.geom.specs.declared.fault.Fault.{Fault}
 use Rattle.geom.specs.declared.fault.Fault.TheVariants.{LayerLong, Syntax, NumberRange, RingShort, RingOpen, TooManySegments, BadTile, BadWorkers, TooManyTiles, NotNoded, Memory, Write}
 use Rattle.geom.specs.declared.point.Pt.{Pt}
 use Rattle.geom.specs.declared.rect.Rect.{Rect}
-use Rattle.lane_tests.specs.Meeting.{IsIn}
+use Rattle.geom.specs.Box.{IsInBox}
 
 -- a grid: its least corner, the side of its tiles, and how many columns and rows it has
 pub record Tiling : Type 0 where
@@ -33,6 +33,13 @@ pub record Owns (g : Tiling) (k : ℕ) (p : Pt) : Type 0 where
 -- some tile owns p
 abbrev pub HasTile : Tiling → Pt → Type 0
 HasTile g p = (k : ℕ) × Owns g k p
+
+-- the least and the greatest x that tile k owns
+abbrev pub tile_left : Tiling → ℕ → ℤ
+tile_left g k = g.left +ℤ pos (k % g.columns * g.side)
+
+abbrev pub tile_right : Tiling → ℕ → ℤ
+tile_right g k = g.left +ℤ pos (k % g.columns * g.side + g.side - 1)
 
 abbrev pub tile_count : Tiling → ℕ
 tile_count g = g.rows * g.columns
@@ -78,7 +85,7 @@ AreBounds (Some r) = AreInLimit r.lo r.hi
 -- every point of the box has a tile
 abbrev pub CoversBounds : Option Rect → Tiling → Type 0
 CoversBounds None g = Unit {0}
-CoversBounds (Some r) g = (p : Pt) → IsIn r p → HasTile g p
+CoversBounds (Some r) g = (p : Pt) → IsInBox r.lo r.hi p → HasTile g p
 
 -- what the code keeps of a grid: room for its coordinates in 32 bits
 pub record HasRoom (g : Tiling) : Type 0 where

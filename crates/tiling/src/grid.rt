@@ -3,8 +3,8 @@
 ghost use Rattle.std.specs.Prelude.{◌≡◌, ◌↔◌, ◌^◌, ℕ, pos, ◌+◌, ◌-◌, ◌*◌, ◌<◌, ◌≤◌, ◌+ℤ◌, ◌≤ℤ◌, IfOk, MatchResult, Some};
 ghost use Rattle.geom.specs.Limit.{IsWithin};
 ghost use Rattle.geom.specs.declared.point.Pt.{Pt};
-ghost use Rattle.lane_tests.specs.Meeting.{IsIn};
-ghost use Rattle.tiling.specs.Tiles.{AreBounds, CoversBounds, HasRoom, HasTile, IsGridOf, IsRefusal, IsSide, Owns, Tiling, steps, tile_count};
+ghost use Rattle.geom.specs.Box.{IsInBox};
+ghost use Rattle.tiling.specs.Tiles.{AreBounds, CoversBounds, HasRoom, HasTile, IsGridOf, IsRefusal, IsSide, Owns, Tiling, steps, tile_count, tile_left, tile_right};
 
 use geom::{Fault, Pt, Rect};
 use std::marker::Model;
@@ -84,7 +84,9 @@ impl Grid {
     /// The rectangle that has exactly the points that a tile owns.
     pub fn rect(&self, number: u32) -> Rect
         requires { number < tile_count self.now }
-        ensures exact { (p : Pt) → IsIn result p ↔ Owns self.now number p }
+        ensures exact { (p : Pt) → IsInBox result.lo result.hi p ↔ Owns self.now number p }
+        ensures left { result.lo.x ≡ tile_left self.now number }
+        ensures right { result.hi.x ≡ tile_right self.now number }
         ensures near { result.hi.x ≤ℤ pos (2 ^ 30) }
     {
         let (left, right) = ends(self.left, number % self.columns, self.side, self.columns);
@@ -144,7 +146,7 @@ fn ends(low: i32, index: u32, side: u32, columns: u32) -> (i32, i32)
 }
 
 // How many columns of this side reach from low to high.
-fn steps_over(low: i32, high: i32, side: u32) -> u64
+pub(crate) fn steps_over(low: i32, high: i32, side: u32) -> u64
     requires order { low ≤ℤ high }
     requires low { IsWithin (2 ^ 28) low }
     requires high { IsWithin (2 ^ 28) high }

@@ -1,4 +1,4 @@
-//! Tiles of the plane, and which boxes meet a tile or a vertical strip.
+//! Tiles of the plane: the grid, the tile that owns a point, and the rectangle of a tile.
 #![tactic(auto)]
 
 mod count;
