@@ -33,7 +33,6 @@ fn at(start: i32, end: i32, det: i64, e: i64) -> i32 {
     nearest(i128::from(det) * i128::from(start) + i128::from(e) * i128::from(run), det)
 }
 
-#[inline(never)]
 fn cross(s: &Seg, t: &Seg) -> Option<Pt> {
     let mut det = determinant(vector(s.a, s.b), vector(t.a, t.b));
     let mut e = determinant(vector(t.a, t.b), vector(t.a, s.a));
@@ -49,7 +48,6 @@ fn cross(s: &Seg, t: &Seg) -> Option<Pt> {
     Some(Pt { x: at(s.a.x, s.b.x, det, e), y: at(s.a.y, s.b.y, det, e) })
 }
 
-#[inline(never)]
 fn meets(s: &Seg, c: Pt) -> bool {
     let in_box = s.a.x.min(s.b.x) <= c.x && c.x <= s.a.x.max(s.b.x) && s.a.y.min(s.b.y) <= c.y && c.y <= s.a.y.max(s.b.y);
     if !in_box {

@@ -1,5 +1,5 @@
 -- Boxes: what their tests decide, and the box of a segment.
-use Rattle.std.proofs.Common.{◌⊎◌, inl, inr, arith}
+use Rattle.std.proofs.Common.{inl, inr, arith}
 use Rattle.std.proofs.lemmas.Int.{ints, clamps, by_lt_z}
 use Rattle.std.specs.Int.{int_min, int_max}
 use lib.IntN.{ℤ, pos, ◌*ℤ◌}

@@ -1,16 +1,14 @@
 -- The laws that show what the definitions mean.
-use Rattle.std.proofs.Common.{◌≡◌, ◌≢◌, ◌⊎◌, inl, inr, ⊎_elim, refl, sym, ap, subst, ◌∙◌, arith, ◌↔◌, ◌-◌, ◌<◌, List, length, get_or, Some}
-use Rattle.std.specs.Prelude.{slice_get, Contains}
+use Rattle.std.proofs.Common.{◌≡◌, ◌≢◌, sym, ap, subst, ◌∙◌, arith, ◌-◌, ◌<◌, List, length, get_or, Some}
+use Rattle.std.specs.Prelude.{slice_get}
 use Rattle.std.proofs.lemmas.Option.{slice_get-get_or}
-use lib.IntN.{ℤ, pos, ◌+ℤ◌, ◌-ℤ◌, ◌*ℤ◌, neg_ℤ}
-use lib.Signed.{◌<ℤ◌, ◌≤ℤ◌}
+use lib.IntN.{ℤ, pos, ◌*ℤ◌, neg_ℤ}
+use lib.Signed.{◌<ℤ◌}
 use Rattle.geom.specs.declared.point.Pt.{Pt}
-use Rattle.geom.specs.declared.segment.Seg.{Seg}
-use Rattle.geom.specs.Pixel.{Point, Coincides, pixel}
+use Rattle.geom.specs.Pixel.{Point, pixel}
 use Rattle.geom.specs.OnSegment.{IsOn}
 use Rattle.geom.specs.Determinant.{turn}
-use Rattle.geom.specs.Hot.{CrossIn}
-use Rattle.geom.specs.Laws.{IsInSquare, AreOnePoint, PixelIsNearest, PixelOfAnyFraction, PixelOfGridPoint, MetPixelsAreInBounds, OrderIsAlongSegment, RouteIsOne, RouteRunsFromEndToEnd, CrossingIsSymmetric, CrossingHasNoDirection}
+use Rattle.geom.specs.Laws.{IsInSquare, PixelIsNearest, PixelOfAnyFraction, PixelOfGridPoint, MetPixelsAreInBounds, OrderIsAlongSegment, RouteIsOne, RouteRunsFromEndToEnd, CrossingIsSymmetric, CrossingHasNoDirection}
 use Rattle.geom.proofs.Integers.{linear, expand}
 use Rattle.geom.proofs.Plane.{RoundsTo, HasPixel}
 use Rattle.geom.proofs.Along.{rounds_alike, meets_box}

@@ -1,5 +1,5 @@
 -- The orders of points and edges: that of the program is that of the definitions, and it is strict.
-use Rattle.std.proofs.Common.{◌≡◌, ◌⊎◌, inl, inr, Bool, true, false, Ordering, Less, Equal, Greater, sym, ◌∙◌, subst, arith, refl, rules}
+use Rattle.std.proofs.Common.{◌≡◌, inl, inr, Bool, true, Ordering, Less, Equal, Greater, sym, ◌∙◌, subst, arith, rules}
 use Rattle.std.proofs.Math.IntN.{ℤ}
 use Rattle.std.specs.Prelude.{◌<ℤ◌, ◌≤ℤ◌, ◌&&◌}
 use Rattle.std.specs.Cmp.{IsTotalOrder, IsEquivalence, int_ranks}

@@ -3,12 +3,11 @@ use Rattle.std.proofs.Common.{◌≡◌, ◌⊎◌, inl, inr, ⊎_elim, Bool, tr
 use Rattle.std.specs.Bool.{IsTrue, OnFalse, MatchBool}
 use Rattle.std.proofs.Math.Logic.{∥∥₁_elim}
 use Rattle.std.proofs.Props.{props}
-use lib.IntN.{ℤ, pos}
+use lib.IntN.{pos}
 use Rattle.geom.specs.declared.edge.Edge.{Edge}
-use Rattle.geom.specs.Pixel.{Point, Coincides}
 use Rattle.geom.specs.Order.{IsBefore, IsUpTo}
 use Rattle.geom.specs.Determinant.{side}
-use Rattle.geom.specs.Noded.{IsEnd, IsBad, MeetOnlyAtEnds}
+use Rattle.geom.specs.Noded.{IsBad, MeetOnlyAtEnds}
 use Rattle.geom.proofs.Pairs.{AreOnOneSide, ShareInner, beside, lone_end, one_line, following, overlapping, crossing_inner, exchanged}
 
 bad : (e f : Edge) → ShareInner e.p e.q f.p f.q → IsBad e f

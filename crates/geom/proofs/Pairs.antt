@@ -8,7 +8,7 @@ use Rattle.geom.specs.Pixel.{Point, Coincides}
 use Rattle.geom.specs.OnSegment.{IsAt, IsOn}
 use Rattle.geom.specs.Order.{IsBefore, IsUpTo}
 use Rattle.geom.specs.Determinant.{turn, side}
-use Rattle.geom.proofs.Integers.{linear, expand, scale_le, scale_lt, unscale_le, unscale_lt, unscale_eq, mul_pos, mul_nonneg, by_sign}
+use Rattle.geom.proofs.Integers.{linear, expand, scale_le, scale_lt, unscale_le, unscale_eq, mul_pos, mul_nonneg, by_sign}
 use Rattle.geom.proofs.Edges.{before_cases, before_strict, PtOrder, before, equal, after, pt_order}
 use Rattle.geom.proofs.Same.{whole_path}
 

@@ -1,7 +1,6 @@
-use Rattle.std.proofs.Common.{◌≡◌, ◌⊎◌, ◌^◌, ◌↔◌, true, false, Bool, w64, to_z, of_z, to_z-of_z, lit<, inl, inr, refl, ◌∙◌}
+use Rattle.std.proofs.Common.{◌≡◌, ◌⊎◌, ◌^◌, ◌↔◌, true, false, Bool, w64, to_z, of_z, to_z-of_z, lit<, refl, ◌∙◌}
 use Rattle.std.specs.Bool.{IsTrue}
 use lib.IntN.{ℤ, pos}
-use lib.Signed.{◌<ℤ◌}
 use Rattle.geom.specs.declared.edge.Edge.{Edge}
 use Rattle.geom.specs.Limit.{IsWithin}
 use Rattle.geom.specs.Noded.{IsBad}
