@@ -13,10 +13,13 @@ pub const READ_LIMIT: usize = LENGTH_LIMIT + 1;
 /// Why a file is not read.
 #[derive(Clone, Copy, Debug, PartialEq, Eq)]
 pub enum LoadFault {
+    /// It can't be opened or read: it is missing, a folder, or not for this user.
     Unreadable,
+    /// Memory ran out while it was read.
     Memory,
 }
 
+/// Where files are read by their names.
 pub trait Files {
     /// A file's bytes, to its end or to one byte past the limit.
     fn load<A: Allocator>(&mut self, alloc: A, name: &str) -> Result<Vec<u8, A>, LoadFault>
@@ -30,6 +33,7 @@ pub struct Disk<'a, R> {
 }
 
 impl<'a, R: rt::Files + AllocGlobal> Disk<'a, R> {
+    /// The files that a runtime reads.
     pub fn new(rt: &'a R) -> Disk<'a, R> {
         Disk { rt }
     }

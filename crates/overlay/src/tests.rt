@@ -458,7 +458,14 @@ fn helps(rt: HostRuntime) -> Result<(), Fail> {
         "help on standard output"
     );
     assert!(rt; err.bytes().is_empty());
+    Ok(())
+}
+
+#[test]
+fn fails_to_help(rt: HostRuntime) -> Result<(), Fail> {
+    let words = ["overlay", "--help"];
     let mut full = MemSink::new(rt.alloc(), 10)?;
+    let mut err = MemSink::new(rt.alloc(), 4000)?;
     assert_eq!(rt;
         drive(rt.alloc(), &words, &mut MemFiles, &mut full, &mut err),
         1
@@ -534,6 +541,7 @@ fn fails_to_write(rt: HostRuntime) -> Result<(), Fail> {
     );
     assert!(rt; out.bytes() == SQUARES.as_bytes());
     let words = ["overlay", "edges", "decimal", "other"];
+    let mut out = MemSink::new(rt.alloc(), 1000)?;
     let mut err = OneByOne::new(rt.alloc(), 1, false);
     assert_eq!(rt;
         drive(rt.alloc(), &words, &mut MemFiles, &mut out, &mut err),

@@ -8,7 +8,7 @@ use geom::{Counted, Fault, NoMemory, Part, Pt, RunFault};
 use itoa::{Buffer, Integer};
 use std::alloc::{AllocError, Allocator};
 
-/// The program's exit status at a fault.
+/// The program's exit status at a fault: 1 where memory or the sink failed, 4 where edges cross, otherwise 3.
 pub fn status(fault: &RunFault) -> u8
     ensures { result ≡ status_of fault.now }
 {
@@ -19,7 +19,7 @@ pub fn status(fault: &RunFault) -> u8
     }
 }
 
-/// The fault's line.
+/// The line that the program prints for a fault, with its LF.
 pub fn line<A: Allocator>(alloc: A, fault: &RunFault) -> Result<Vec<u8, A>, NoMemory>
     ensures { IfOk result (λ text. text.items ≡ line_of fault.now) }
 {
@@ -34,12 +34,19 @@ pub fn line<A: Allocator>(alloc: A, fault: &RunFault) -> Result<Vec<u8, A>, NoMe
 /// The numbers of a run.
 #[derive(Debug, Drop)]
 pub struct Report<A: Allocator> {
+    /// The segments of the first layer.
     pub segments_a: u32,
+    /// The segments of the second layer.
     pub segments_b: u32,
+    /// The hot pixels.
     pub hot: u64,
+    /// The pixels on the routes of all segments.
     pub records: u64,
+    /// The rounded edges.
     pub edges: u32,
+    /// The pieces that were made again.
     pub remade: u32,
+    /// Each tile's own hot pixels, and its records.
     pub tiles: Vec<(u32, u32), A>,
 }
 
