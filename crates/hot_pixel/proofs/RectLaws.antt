@@ -7,7 +7,7 @@ use Rattle.geom.specs.declared.point.Pt.{Pt}
 use Rattle.geom.specs.declared.rect.Rect.{Rect}
 use Rattle.geom.proofs.Points.{and_both, both_and}
 use Rattle.hot_pixel.specs.Rects.{holds, is_between}
-use Rattle.lane_tests.specs.Meeting.{IsIn}
+use Rattle.hot_pixel.specs.Rects.{IsIn}
 
 le_true : (x y : ℤ) → x ≤ℤ y → int_le x y ≡ true
 le_true x y h = sym (omega (arith, ints))

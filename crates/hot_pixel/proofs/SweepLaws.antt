@@ -21,7 +21,7 @@ use Rattle.geom.specs.Determinant.{turn}
 use Rattle.geom.proofs.Along.{Between, meets_box}
 use Rattle.geom.proofs.Pixels.{piece, meets_in}
 use Rattle.hot_pixel.specs.Lines.{IsLine, AreLines, CrossAt, HasPushed, HasEnds, HasCrossed, HasAllCrossed, lines_meet, line_pairs}
-use Rattle.lane_tests.specs.Meeting.{IsIn}
+use Rattle.hot_pixel.specs.Rects.{IsIn}
 use Rattle.hot_pixel.proofs.ListLaws.{in_cons, from_cons, here, none_in, in_push, in_take_more, in_filter, head_pair}
 use Rattle.hot_pixel.proofs.HotLaws.{first_meets, second_meets, cross_back}
 use Rattle.hot_pixel.proofs.LineLaws.{segment_of, segment_line, cross_at, count_filter, pairs_push}

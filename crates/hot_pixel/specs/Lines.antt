@@ -6,7 +6,7 @@ use Rattle.geom.specs.declared.segment.Seg.{Seg}
 use Rattle.geom.specs.declared.edge.Edge.{Edge}
 use Rattle.geom.specs.Hot.{CrossIn}
 use Rattle.crossing.specs.Boxes.{spans_meet}
-use Rattle.lane_tests.specs.Meeting.{IsIn}
+use Rattle.hot_pixel.specs.Rects.{IsIn}
 
 -- e has the ends of s
 abbrev pub IsLine : Edge → Seg → Type 0

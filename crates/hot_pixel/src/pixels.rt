@@ -6,7 +6,7 @@ ghost use Rattle.geom.specs.Limit.{AreInLimit};
 ghost use Rattle.geom.specs.Order.{IsBefore};
 ghost use Rattle.hot_pixel.specs.Lines.{lines_meet, CrossAt, HasCrossed, HasEnds, HasPushed};
 ghost use Rattle.hot_pixel.specs.Rects.{holds, is_between};
-ghost use Rattle.lane_tests.specs.Meeting.{IsIn};
+ghost use Rattle.hot_pixel.specs.Rects.{IsIn};
 
 use crate::lines::on_line;
 use crossing::{cross, may_meet};

@@ -3,7 +3,7 @@
 ghost use Rattle.std.specs.Prelude.{◌≡◌, ◌+◌, ◌<◌, ◌≤◌, All, AllPairs, IfOk, OnOk, filter, int_le, length};
 ghost use Rattle.geom.specs.Limit.{AreInLimit};
 ghost use Rattle.geom.specs.Rounded.{IsEdgeBefore};
-ghost use Rattle.lane_tests.specs.Meeting.{IsIn};
+ghost use Rattle.hot_pixel.specs.Rects.{IsIn};
 ghost use Rattle.hot_pixel.specs.Candidates.{chosen, meeting_pairs, AreOwnedHot};
 ghost use Rattle.hot_pixel.specs.Lines.{line_pairs, HasAllCrossed};
 

@@ -12,7 +12,7 @@ use Rattle.geom.specs.declared.rect.Rect.{Rect}
 use Rattle.geom.specs.declared.segment.Seg.{Seg}
 use Rattle.geom.specs.Hot.{IsHot}
 use Rattle.geom.specs.Route.{Meets, IsEarlier}
-use Rattle.lane_tests.specs.Meeting.{IsIn}
+use Rattle.hot_pixel.specs.Rects.{IsIn}
 use Rattle.hot_pixel.specs.Candidates.{chosen, AreCandidates, AreOwnedHot}
 use Rattle.hot_pixel.proofs.ListLaws.{in_cons, from_cons, here, none_in, in_push, in_take_more}
 use Rattle.hot_pixel.proofs.Orders.{IsSortedOnce}

@@ -7,7 +7,7 @@ use Rattle.geom.specs.declared.rect.Rect.{Rect}
 use Rattle.geom.specs.declared.segment.Seg.{Seg}
 use Rattle.geom.specs.Hot.{IsHot}
 use Rattle.geom.specs.Route.{Meets, IsEarlier}
-use Rattle.lane_tests.specs.Meeting.{IsIn}
+use Rattle.hot_pixel.specs.Rects.{IsIn}
 use Rattle.hot_pixel.specs.Candidates.{AreOwnedHot}
 use Rattle.routing.specs.declared.record.Record.{Record}
 use Rattle.routing.specs.declared.record.Candidate.{Candidate}

@@ -1,5 +1,5 @@
 use Rattle.std.proofs.lemmas.Result.{IfOk-weaker}
-use Rattle.lane_tests.specs.Meeting.{IsIn}
+use Rattle.hot_pixel.specs.Rects.{IsIn}
 use Rattle.tiling.specs.Tiles.{Owns}
 use Rattle.hot_pixel.specs.Candidates.{chosen}
 use Rattle.hot_pixel.proofs.CandidateLaws.{owned_by, owned_of_all}

@@ -1,6 +1,6 @@
 use Rattle.std.proofs.Common.{◌≡◌, List, subst, sym, ap, ◌∙◌, refl, length}
 use Rattle.std.specs.Prelude.{All, AllPairs}
-use Rattle.lane_tests.specs.Meeting.{IsIn}
+use Rattle.hot_pixel.specs.Rects.{IsIn}
 use Rattle.geom.specs.declared.point.Pt.{Pt}
 use Rattle.geom.specs.Limit.{InLimit, AreInLimit}
 use Rattle.geom.specs.Order.{IsBefore}
