@@ -7,12 +7,16 @@ here="$(cd "$(dirname "$0")" && pwd)"
 work="$(mktemp -d)"
 trap 'rm -rf "$work"' EXIT
 mkdir -p "$work/crates/speed/src"
-for crate in geom crossing routing; do
+crates="geom lane_tests tiling crossing tile_book hot_pixel routing"
+for crate in $crates; do
     cp -r "$here/../../crates/$crate" "$work/crates/$crate"
     rm -rf "$work/crates/$crate/out"
 done
-cp "$here/speed.rt" "$work/crates/speed/src/main.rt"
-printf 'geom:\ncrossing: geom\nrouting: geom\nspeed: geom crossing routing\n' > "$work/crates.txt"
+cp "$here/speed.rt.txt" "$work/crates/speed/src/main.rt"
+for crate in $crates; do
+    grep -E "^$crate[: ]" "$here/../../crates.txt"
+done > "$work/crates.txt"
+echo 'speed: geom crossing routing' >> "$work/crates.txt"
 rustc -O -o "$work/plain" "$here/plain.rs"
 echo 'plain Rust'
 "$work/plain"
