@@ -9,6 +9,7 @@ mod program;
 mod rounding;
 mod sink;
 mod stream;
+mod strips;
 mod tally;
 mod text;
 

@@ -2,6 +2,7 @@
 
 ghost use Rattle.geom.specs.Limit.{AreInLimit, InLimit};
 
+use crate::strips::Strips;
 use crate::tally::Tally;
 use crossing::cross;
 use geom::{Counted, Edge, Layer, NoMemory, Pt, Ring, Seg, Source};
@@ -18,8 +19,8 @@ pub struct Rounding<A: Allocator> {
 
 /// The segments between two points, in either direction: how many each layer has.
 #[derive(Clone, Copy, Debug)]
-struct Span {
-    seg: Seg,
+pub struct Span {
+    pub seg: Seg,
     in_a: u32,
     in_b: u32,
     ghost inside: { AreInLimit seg.a seg.b },
@@ -27,8 +28,8 @@ struct Span {
 
 /// A hot pixel, by its centre.
 #[derive(Clone, Copy, Debug, PartialEq, Eq, PartialOrd, Ord)]
-struct Hot {
-    at: Pt,
+pub struct Hot {
+    pub at: Pt,
     ghost inside: { InLimit at },
 }
 
@@ -39,12 +40,12 @@ pub fn round<A: Allocator + Copy>(
     b: &Layer<A>,
 ) -> Result<Rounding<A>, NoMemory> {
     let spans = spans_of(alloc, a, b)?;
-    let hot = hot_pixels(alloc, spans.as_slice())?;
+    let hot = Strips::of(hot_pixels(alloc, spans.as_slice())?);
     let mut links = Tally::new(alloc);
     let mut route = Vec::new(alloc);
     let mut records: u32 = 0;
     for span in spans.as_slice() {
-        fill_route(&mut route, span, hot.as_slice())?;
+        fill_route(&mut route, span, &hot)?;
         records = with_records(records, span, route.len()).ok_or(NoMemory)?;
         add_links(&mut links, span, route.as_slice())?;
     }
@@ -133,6 +134,32 @@ impl Span {
         a.min(b) <= c.max(d) && c.min(d) <= a.max(b)
     }
 
+    /// The rows, some to spare, of the pixels that the span may meet between two columns, itself going from left to right.
+    pub fn rows_between(&self, first: i64, last: i64) -> (i64, i64) {
+        let (a, b) = (i64::from(self.seg.a.y), i64::from(self.seg.b.y));
+        let ends = self
+            .row_at(first.saturating_sub(1))
+            .zip(self.row_at(last.saturating_add(1)));
+        match ends {
+            Some((from, to)) => (
+                from.min(to).saturating_sub(1),
+                from.max(to).saturating_add(2),
+            ),
+            None => (a.min(b), a.max(b)),
+        }
+    }
+
+    /// The row of the span at a column, or at its nearer end where it doesn't reach there, rounded down. A span of one
+    /// column has none.
+    fn row_at(&self, column: i64) -> Option<i64> {
+        let left = i64::from(self.seg.a.x);
+        let run = i64::from(self.seg.b.x).checked_sub(left)?;
+        let rise = i64::from(self.seg.b.y).checked_sub(i64::from(self.seg.a.y))?;
+        let along = column.saturating_sub(left).max(0).min(run);
+        let climbed = along.checked_mul(rise)?.checked_div_euclid(run)?;
+        climbed.checked_add(i64::from(self.seg.a.y))
+    }
+
     /// The hot pixel in which two spans cross.
     fn crossing(&self, other: &Span) -> Option<Hot> {
         let at = cross(&self.seg, &other.seg)?;
@@ -214,19 +241,27 @@ impl<A: Allocator> HotList<A> {
 fn fill_route<A: Allocator>(
     route: &mut Vec<Pt, A>,
     span: &Span,
-    hot: &[Hot],
+    hot: &Strips<A>,
 ) -> Result<(), NoMemory> {
     let Seg { a, b, .. } = span.seg;
     route.clear();
-    let reached = &hot[hot.partition_point(|pixel| pixel.at.x < a.x)..];
-    let inside = &reached[..reached.partition_point(|pixel| pixel.at.x <= b.x)];
-    for pixel in inside {
-        if meets(&span.seg, pixel.at) {
-            route.push(pixel.at)?;
-        }
+    for strip in hot.strip_of(a.x)..=hot.strip_of(b.x) {
+        add_met(route, span, hot.near(strip, span))?;
     }
     if b.y < a.y {
         route.sort_unstable_by(|c, d| c.x.cmp(&d.x).then(d.y.cmp(&c.y)));
+    } else {
+        route.sort_unstable();
+    }
+    Ok(())
+}
+
+/// Adds those of some hot pixels that a span meets.
+fn add_met<A: Allocator>(route: &mut Vec<Pt, A>, span: &Span, hot: &[Hot]) -> Result<(), NoMemory> {
+    for pixel in hot {
+        if meets(&span.seg, pixel.at) {
+            route.push(pixel.at)?;
+        }
     }
     Ok(())
 }
