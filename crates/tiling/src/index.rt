@@ -1,16 +1,17 @@
 //! Boxes in the order of their left sides, to find those that meet a rectangle.
 
-ghost use Rattle.std.specs.Prelude.{◌≡◌, ◌<◌, ◌≤◌, ◌^◌, ◌+◌, ◌*◌, ℕ, ℤ, pos, [], All, IfOk, List, OnErr, OnOk, get_or, length, map, max};
+ghost use Rattle.std.specs.Prelude.{◌≡◌, ◌<◌, ◌≤◌, ◌≤ℤ◌, ◌^◌, ◌+◌, ◌*◌, ℕ, ℤ, pos, [], All, IfOk, List, OnErr, OnOk, get_or, length, map, max};
 ghost use Rattle.std.specs.List.{range_with_len, zip};
 ghost use Rattle.std.specs.List.Sorted.{IsPermutation, IsSorted};
 ghost use Rattle.std.specs.Ordering.{int_cmp, nat_cmp, ordering_then};
 ghost use Rattle.geom.specs.declared.rect.Rect.{Rect};
+ghost use Rattle.lane_tests.specs.Boxes.{AreSmall};
 ghost use Rattle.lane_tests.specs.Meeting.{AreMeeting};
-ghost use Rattle.tiling.specs.Index.{AreIndexed, IsKept, Item, count_begun, first_reaching, lefts_of};
+ghost use Rattle.tiling.specs.Index.{AreIndexed, AreReaching, IsKept, Item, count_begun, first_reaching, lefts_of};
 
 use crate::count::Count;
 use crate::search::places_between;
-use geom::{NoMemory, Rect};
+use geom::{NoMemory, Pt, Rect};
 use lane_tests::{Boxes, meet_in};
 use std::alloc::Allocator;
 use std::marker::{Brand, Model};
@@ -71,12 +72,38 @@ impl<A: Allocator> Index<A> {
     }
 
     /// The vector becomes the numbers, ascending, of the boxes that share a point with the rectangle. After an `Err` it is
-    /// empty.
+    /// empty. Boxes that were indexed have 32-bit sides.
     pub fn find<B: Allocator>(&self, rect: Rect, out: &mut Vec<u32, B>) -> Result<(), NoMemory>
         ensures ok { OnOk result ((boxes : List Rect) → AreIndexed boxes self.now → AreMeeting boxes rect 0 (length boxes) out.new.items) }
         ensures err { OnErr result (out.new.items ≡ []) }
+        ensures small { (boxes : List Rect) → AreIndexed boxes self.now → All AreSmall boxes }
     {
         find_from::<Brand, A, B>(self, rect, Blank::new(1), out)
+    }
+
+    /// As `find`, of the boxes that have an x from `low` to `high`.
+    pub fn between<B: Allocator>(
+        &self,
+        low: i32,
+        high: i64,
+        out: &mut Vec<u32, B>,
+    ) -> Result<(), NoMemory>
+        requires { low ≤ℤ high }
+        ensures ok { OnOk result ((boxes : List Rect) → AreIndexed boxes self.now → AreReaching boxes low high out.new.items) }
+        ensures err { OnErr result (out.new.items ≡ []) }
+    {
+        let right = high.min(i64::from(i32::MAX)) as i32;
+        let rect = Rect {
+            lo: Pt {
+                x: low,
+                y: i32::MIN,
+            },
+            hi: Pt {
+                x: right,
+                y: i32::MAX,
+            },
+        };
+        self.find(rect, out)
     }
 }
 
@@ -92,6 +119,7 @@ fn find_from<L: Ledger, A: Allocator, B: Allocator>(
     requires some { 0 < L.parts }
     ensures ok { OnOk result ((boxes : List Rect) → AreIndexed boxes index.now → AreMeeting boxes rect 0 (length boxes) out.new.items) }
     ensures err { OnErr result (out.new.items ≡ []) }
+    ensures small { (boxes : List Rect) → AreIndexed boxes index.now → All AreSmall boxes }
 {
     let mut count = Count::<L>::new(blank);
     let lefts = index.sorted.lefts();

@@ -2,6 +2,7 @@ use Rattle.std.proofs.Common.{◌≡◌, ℕ, ◌<◌, ◌++◌, map, take, arit
 use Rattle.std.proofs.lemmas.List.{take_at, length-map}
 use Rattle.std.specs.List.Sorted.{IsPermutation}
 use Rattle.tiling.proofs.Indexing.{finds_all, found_within, kept_len, kept_up}
+use Rattle.tiling.proofs.Reaching.{small_all}
 use Rattle.tiling.proofs.index.find_from.Goals as goal
 
 small : (xs ys : List ℕ) (m n : ℕ) → xs ≡ ys → m ≡ n → ((k : ℕ) → k < length ys → get_or ys k 0 < m) → (k : ℕ) → k < length xs → get_or xs k 0 < n
@@ -38,3 +39,9 @@ returns-in-Ok-clause-ok g c =
     (c.renumber.ensures ∙ ap (map (λ k. get_or c.deref-in-Ok.result.now k 0)) c.deref_mut.ensures.value)
     (whole (λ k. get_or c.deref-in-Ok.result.now k 0) _ c.meet_in.new.out.items _ _ _ _ c.meet_in.new.out.ok.0 c.deref_mut.ensures.value c.renumber.ensures c.sort_unstable.ensures.permutation)
     c.sort_unstable.ensures.sorted
+
+pub returns-in-Ok-clause-small : goal.returns-in-Ok-clause-small
+returns-in-Ok-clause-small g c = small_all c.args.index.now c.index.inside.numbers.items c.index.inside.sorted c.index.inside.greatest.items c.index.invariant c.index.view_is c.lefts-lefts.ensures.fit
+
+pub returns-clause-small : goal.returns-clause-small
+returns-clause-small g c = small_all c.args.index.now c.index.inside.numbers.items c.index.inside.sorted c.index.inside.greatest.items c.index.invariant c.index.view_is c.lefts-lefts.ensures.fit
