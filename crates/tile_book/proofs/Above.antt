@@ -1,7 +1,12 @@
+-- The measure of a worker's loop: how far its hand's numbers reach.
 use Rattle.std.proofs.Common.{◌≡◌, ℕ, ◌+◌, ◌<◌, ◌≤◌, List, [], ◌∷◌, ◌++◌, max, arith, refl}
 use Rattle.std.specs.Prelude.{All}
 use Rattle.std.proofs.lemmas.List.Elements.{All-head, All-tail}
-use Rattle.tile_book.specs.Growth.{above}
+
+-- the least number above all of these
+abbrev pub above : List ℕ → ℕ
+above [] = 0
+above (x ∷ xs) = max (x + 1) (above xs)
 
 pub above_le : (xs : List ℕ) (k : ℕ) → All (λ x. x < k) xs → above xs ≤ k
 above_le [] k h = omega arith

@@ -2,7 +2,7 @@
 
 ghost use Rattle.std.specs.Prelude.{◌≡◌, ◌+◌, ◌<◌, ◌≤◌, ℕ, None, MatchResult, length, slice_index_or};
 ghost use Rattle.tile_book.specs.Books.{IsReplay, with_piece};
-ghost use Rattle.tile_book.specs.Replies.{ComesBack};
+ghost use Rattle.tile_book.specs.Replies.{ComesBack, IsLegalPost, accepted_reply, as_reply};
 
 use crate::share::{Limited, Share};
 use std::alloc::Allocator;
@@ -55,6 +55,7 @@ impl<P: Numbered + Drop, L: Limited, A: Allocator> Book<P, L, A> {
         ensures answer { MatchResult result.1
             (λ _. (P.number_of piece < self.old.limit) × (slice_index_or self.old.held (P.number_of piece) None ≡ None) × (self.new ≡ with_piece self.old (P.number_of piece) piece) × (result.0 ≡ share + 1))
             (λ r. ComesBack P.number_of self.old piece r × (self.new ≡ self.old) × (result.0 ≡ share)) }
+        ensures legal { MatchResult result.1 (λ _. IsLegalPost self.old (P.number_of piece) accepted_reply) (λ r. IsLegalPost self.old (P.number_of piece) (as_reply r)) }
     {
         let number = piece.number();
         if number >= self.limit {

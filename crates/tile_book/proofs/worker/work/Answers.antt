@@ -1,6 +1,5 @@
 use Rattle.std.proofs.Common.{rules, ◌≡◌, ◌+◌, ◌-◌, ◌≤◌, ◌<◌, ◌++◌, ◌∷◌, [], length, length-append, arith, ap}
-use Rattle.tile_book.specs.Growth.{above}
-use Rattle.tile_book.proofs.Above.{above_le, above_push}
+use Rattle.tile_book.proofs.Above.{above, above_le, above_push}
 use Rattle.tile_book.proofs.worker.work.Goals as goal
 
 pub overflow_add-returned : goal.overflow_add-returned

@@ -1,5 +1,5 @@
 use Rattle.std.proofs.Common.{◌≡◌, ◌+◌, ◌-◌, ◌≤◌, length}
-use Rattle.tile_book.specs.Growth.{above}
+use Rattle.tile_book.proofs.Above.{above}
 use Rattle.tile_book.proofs.worker.work.Given as goal
 
 abbrev pub invariant-loop-number : goal.invariant-loop-number
