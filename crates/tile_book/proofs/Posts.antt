@@ -6,11 +6,7 @@ use Rattle.std.proofs.lemmas.Bool.Decides.{nat_tests}
 use mathlib.Core.Logic.{dite}
 use native.Mathlib.Decide.{ℕ_discrete}
 use Rattle.tile_book.specs.Counts.{is_it, times}
-use Rattle.std.proofs.Common.{nat_lt, true≢false}
-use Rattle.tile_book.specs.declared.book.Returned.TheVariants.{Stranger, Double}
-use Rattle.tile_book.specs.History.{accepted_in, is_in}
-use Rattle.tile_book.specs.Replies.{as_reply, accepted_reply, IsLegalPost}
-use Rattle.tile_book.proofs.Accepted.{times_snoc, not_in, is_there}
+use Rattle.tile_book.proofs.Accepted.{times_snoc}
 use Rattle.tile_book.specs.Books.{BookView, pieces, one_if_some, HoldsAt, IsReplay, with_piece}
 
 it_same : (x : ℕ) → is_it x x ≡ 1
@@ -93,29 +89,3 @@ all_held (Some p ∷ os) e (suc k) h = all_held os (omega arith) k (omega arith)
 
 pub full : {P : Type 0} (number : P → ℕ) (b : BookView P) → IsReplay number b → length b.accepted ≡ b.limit → (k : ℕ) → k < b.limit → IsSome (slice_index_or b.held k None)
 full number b h e k lt = all_held b.held (omega (arith, h.count, h.places)) k (omega (arith, h.places))
-
-lt_true : (h n : ℕ) → h < n → nat_lt h n ≡ true
-lt_true h n lt = grind (arith, nat_tests)
-
-le_false : (h n : ℕ) → n ≤ h → nat_lt h n ≡ false
-le_false h n le = grind (arith, nat_tests)
-
-once_if_some : {P : Type 0} (o : Option P) (B : P → Type 0) (n : ℕ) → IsSome o → MatchOption o (n ≡ 0) (λ p. B p × (n ≡ 1)) → n ≡ 1
-once_if_some None B n some h = absurd (true≢false (sym some))
-once_if_some (Some p) B n some h = h.1
-
--- the reply to a post is the legal one
-pub posts_legally : {P : Type 0} (number : P → ℕ) (b : BookView P) (k : ℕ) → IsReplay number b → k < b.limit → slice_index_or b.held k None ≡ None → IsLegalPost b k accepted_reply
-posts_legally number b k h lt free = λ hands hand before known same.
-    let never : times k b.accepted ≡ 0 = subst (HoldsAt number b.accepted k) free (h.held k lt) in
-    let out : is_in k (accepted_in before) ≡ false = not_in k (accepted_in before) (ap (times k) same ∙ never) in
-    rw (lt_true hand hands known, lt_true k b.limit lt, out) refl
-
-pub strange_legally : {P : Type 0} (b : BookView P) (k : ℕ) (q : P) → b.limit ≤ k → IsLegalPost b k (as_reply (Stranger q))
-strange_legally b k q le = λ hands hand before known same. rw (lt_true hand hands known, le_false k b.limit le) refl
-
-pub double_legally : {P : Type 0} (number : P → ℕ) (b : BookView P) (k : ℕ) (q : P) → IsReplay number b → k < b.limit → IsSome (slice_index_or b.held k None) → IsLegalPost b k (as_reply (Double q))
-double_legally number b k q h lt some = λ hands hand before known same.
-    let once : times k b.accepted ≡ 1 = once_if_some (slice_index_or b.held k None) (λ p. number p ≡ k) (times k b.accepted) some (h.held k lt) in
-    let there : is_in k (accepted_in before) ≡ true = is_there k (accepted_in before) (ap (times k) same ∙ once) in
-    rw (lt_true hand hands known, lt_true k b.limit lt, there) refl
