@@ -36,6 +36,20 @@ in_none k (x ∷ xs) e = cases (in_none k xs) (x == k) refl
     cases later true is = absurd (true≢false (sym (ap (λ b. b || is_in k xs) is) ∙ e))
     cases later false is = rw is (omega (arith, later (sym (ap (λ b. b || is_in k xs) is) ∙ e)))
 
+pub not_in : (k : ℕ) (xs : List ℕ) → times k xs ≡ 0 → is_in k xs ≡ false
+not_in k xs none = cases (is_in k xs) refl
+  where
+    cases : (b : Bool) → is_in k xs ≡ b → b ≡ false
+    cases true is = absurd (omega (arith, in_some k xs is))
+    cases false is = refl
+
+pub is_there : (k : ℕ) (xs : List ℕ) → times k xs ≡ 1 → is_in k xs ≡ true
+is_there k xs once = cases (is_in k xs) refl
+  where
+    cases : (b : Bool) → is_in k xs ≡ b → b ≡ true
+    cases true is = refl
+    cases false is = absurd (omega (arith, in_none k xs is))
+
 pub times_snoc : (x : ℕ) (xs : List ℕ) (y : ℕ) → times x (xs ++ y ∷ []) ≡ times x xs + is_it x y
 times_snoc x xs y = omega (arith, total_append (is_it x) xs (y ∷ []))
 

@@ -1,5 +1,6 @@
 pub mod Above
 pub mod Accepted
+pub mod Calls
 pub mod Draws
 pub mod Kept
 pub mod Posts

@@ -5,19 +5,14 @@ use Rattle.std.specs.Prelude.{slice_index_or, slice_set, MatchOption, if◌then�
 use Rattle.std.proofs.lemmas.Bool.Decides.{nat_tests}
 use mathlib.Core.Logic.{dite}
 use native.Mathlib.Decide.{ℕ_discrete}
-use Rattle.tile_book.specs.Books.{BookView, times, pieces, one_if_some, HoldsAt, IsReplay, with_piece}
+use Rattle.tile_book.specs.Counts.{is_it, times}
+use Rattle.tile_book.proofs.Accepted.{times_snoc}
+use Rattle.tile_book.specs.Books.{BookView, pieces, one_if_some, HoldsAt, IsReplay, with_piece}
 
-abbrev it : ℕ → ℕ → ℕ
-it x y = if y == x then 1 else 0
-
-pub times_push : (x : ℕ) (xs : List ℕ) (y : ℕ) → times x (xs ++ y ∷ []) ≡ times x xs + it x y
-times_push x [] y = omega arith
-times_push x (z ∷ xs) y = omega (arith, times_push x xs y)
-
-it_same : (x : ℕ) → it x x ≡ 1
+it_same : (x : ℕ) → is_it x x ≡ 1
 it_same x = grind (arith, nat_tests)
 
-it_other : (x y : ℕ) → x ≢ y → it x y ≡ 0
+it_other : (x y : ℕ) → x ≢ y → is_it x y ≡ 0
 it_other x y apart = grind (arith, nat_tests)
 
 module _ {P : Type 0} where
@@ -42,7 +37,7 @@ module _ {P : Type 0} where
   posted number b k p h lt free is = record {
     places = length-set _ _ _ ∙ h.places;
     held = λ j below. dite (ℕ_discrete j k) (λ same. here j same) (λ apart. there j below apart);
-    below = λ j some. dite (ℕ_discrete j k) (λ same. omega arith) (λ apart. h.below j (omega (arith, times_push j b.accepted k, it_other j k apart)));
+    below = λ j some. dite (ℕ_discrete j k) (λ same. omega arith) (λ apart. h.below j (omega (arith, times_snoc j b.accepted k, it_other j k apart)));
     count = omega (arith, pieces_set b.held k p (omega (arith, h.places)) free, length-append b.accepted (k ∷ []), h.count);
   }
     where
@@ -57,12 +52,12 @@ module _ {P : Type 0} where
           let room : k < length b.held = omega (arith, h.places) in
           let at : slice_index_or (slice_set b.held k (Some p)) k None ≡ Some p = rw get_or-set_same refl in
           subst (λ i. New i (slice_index_or (slice_set b.held k (Some p)) i None)) (sym same)
-          (subst (New k) (sym at) (is, omega (arith, times_push k b.accepted k, it_same k, never)))
+          (subst (New k) (sym at) (is, omega (arith, times_snoc k b.accepted k, it_same k, never)))
 
       there : (j : ℕ) → j < b.limit → j ≢ k → New j (slice_index_or (slice_set b.held k (Some p)) j None)
       there j below apart =
           let at : slice_index_or (slice_set b.held k (Some p)) j None ≡ slice_index_or b.held j None = rw get_or-set_other refl in
-          let same : times j (b.accepted ++ k ∷ []) ≡ times j b.accepted = omega (arith, times_push j b.accepted k, it_other j k apart) in
+          let same : times j (b.accepted ++ k ∷ []) ≡ times j b.accepted = omega (arith, times_snoc j b.accepted k, it_other j k apart) in
           subst (New j) (sym at) (subst (λ n. MatchOption (slice_index_or b.held j None) (n ≡ 0) (λ q. (number q ≡ j) × (n ≡ 1))) (sym same) (h.held j below))
 
 pub no_pieces : (P : Type 0) (n : ℕ) → pieces {P = P} (replicate n None) ≡ 0

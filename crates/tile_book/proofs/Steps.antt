@@ -30,10 +30,10 @@ replies c before (Post h k) sound a = cases (nat_lt k c.limit) refl
     cases false is = rw is refl
 replies c before (Stop h) sound a = refl
 
-live : (hands : ℕ) (before : List (Event × Reply)) (h : ℕ) → nat_lt h hands ≡ true → has_ended h before ≡ false → is_live hands before (Draw h) ≡ true
+pub live : (hands : ℕ) (before : List (Event × Reply)) (h : ℕ) → nat_lt h hands ≡ true → has_ended h before ≡ false → is_live hands before (Draw h) ≡ true
 live hands before h known here = rw (known, here) refl
 
-not_live : (hands : ℕ) (before : List (Event × Reply)) (h : ℕ) → has_ended h before ≡ true → is_live hands before (Draw h) ≡ false
+pub not_live : (hands : ℕ) (before : List (Event × Reply)) (h : ℕ) → has_ended h before ≡ true → is_live hands before (Draw h) ≡ false
 not_live hands before h spent = rw spent (off (nat_lt h hands))
   where
     off : (b : Bool) → (b && false) ≡ false

@@ -1,12 +1,8 @@
 -- How a share grows beside a hand's list.
 use Rattle.tile_book.specs.declared.worker.Ended.{Ended}
-use Rattle.std.specs.Prelude.{◌≡◌, true, length, IfNone, ℕ, ◌+◌, ◌<◌, List, [], ◌∷◌, Option, Some, None, max}
+use Rattle.std.specs.Prelude.{◌≡◌, true, length, IfNone, ℕ, ◌+◌, Option, Some, None}
 
--- the least number above all of these
-abbrev pub above : List ℕ → ℕ
-above [] = 0
-above (x ∷ xs) = max (x + 1) (above xs)
-
+-- 1 where a piece was not made
 abbrev pub one_if_fault : {A : Type 0} → Option A → ℕ
 one_if_fault None = 0
 one_if_fault (Some a) = 1

@@ -1,4 +1,5 @@
 pub mod Books
+pub mod Calls
 pub mod Counts
 pub mod Drawing
 pub mod Growth

@@ -2,6 +2,7 @@
 
 ghost use Rattle.std.specs.Prelude.{◌≡◌, ◌+◌, ◌<◌, ◌≤◌, ℕ, None, MatchResult, length, slice_index_or};
 ghost use Rattle.tile_book.specs.Books.{IsReplay, with_piece};
+ghost use Rattle.tile_book.specs.Calls.{HasHistory, PostsLegally, post_told};
 ghost use Rattle.tile_book.specs.Replies.{ComesBack};
 
 use crate::share::{Limited, Share};
@@ -55,6 +56,7 @@ impl<P: Numbered + Drop, L: Limited, A: Allocator> Book<P, L, A> {
         ensures answer { MatchResult result.1
             (λ _. (P.number_of piece < self.old.limit) × (slice_index_or self.old.held (P.number_of piece) None ≡ None) × (self.new ≡ with_piece self.old (P.number_of piece) piece) × (result.0 ≡ share + 1))
             (λ r. ComesBack P.number_of self.old piece r × (self.new ≡ self.old) × (result.0 ≡ share)) }
+        ensures legal { PostsLegally self.old.limit self.old.accepted self.new.accepted (P.number_of piece) (post_told result.1) }
     {
         let number = piece.number();
         if number >= self.limit {
@@ -89,6 +91,7 @@ impl<P: Numbered + Drop, L: Limited, A: Allocator> Book<P, L, A> {
     pub fn accepted(&self) -> &[u32]
         ensures accepted { result.now ≡ self.now.accepted }
         ensures replay { IsReplay P.number_of self.now }
+        ensures history { HasHistory self.now.limit self.now.accepted }
     {
         self.accepted.as_slice()
     }

@@ -1,6 +1,7 @@
 //! The desk: a book under a lock, and its shares.
 
 ghost use Rattle.std.specs.Prelude.{◌≡◌, ◌+◌, ◌<◌, ◌≤◌, ◌↔◌, ℕ, [], All, IfOk, IfErr, IsOk, IsSome, None, MatchResult, slice_index_or, length, sum, vec_len};
+ghost use Rattle.tile_book.specs.Calls.{HasLegalPost, post_told};
 ghost use Rattle.tile_book.specs.Replies.{SentBack};
 
 use crate::book::{Book, Numbered, Returned};
@@ -90,7 +91,8 @@ impl<P: Numbered + Drop, L: Limited, A: Allocator + Copy> Desk<P, L, A> {
         share: Share<L>,
         piece: P,
     ) -> (Share<L>, Result<(), Returned<P>>)
-        ensures { MatchResult result.1 (λ _. (P.number_of piece < self.now.limit) × (result.0 ≡ share + 1)) (λ r. SentBack P.number_of self.now.limit piece r × (result.0 ≡ share)) }
+        ensures answer { MatchResult result.1 (λ _. (P.number_of piece < self.now.limit) × (result.0 ≡ share + 1)) (λ r. SentBack P.number_of self.now.limit piece r × (result.0 ≡ share)) }
+        ensures legal { HasLegalPost self.now.limit (P.number_of piece) (post_told result.1) }
     {
         self.book.lock(rt).post(share, piece)
     }

@@ -1,7 +1,8 @@
 //! Numbers that many hands draw, each once.
 
-ghost use Rattle.std.specs.Prelude.{◌≡◌, ◌+◌, ◌<◌, ◌≤◌, ◌++◌, ◌∷◌, [], ◌↔◌, true, false, All, IfOk, IfErr, IfSome, IfNone, IsOk, vec_len, length};
+ghost use Rattle.std.specs.Prelude.{◌≡◌, ℕ, ◌+◌, ◌<◌, ◌≤◌, ◌++◌, ◌∷◌, [], ◌↔◌, true, false, All, IfOk, IfErr, IfSome, IfNone, IsOk, vec_len, length};
 ghost use Rattle.std.specs.Prelude.{flat_map};
+ghost use Rattle.tile_book.specs.Calls.{DrawsLegally, draw_told};
 ghost use Rattle.tile_book.specs.Drawing.{ticket};
 ghost use Rattle.tile_book.specs.Counts.{HoldsEachOnce};
 
@@ -108,6 +109,8 @@ impl<A: Allocator> Draw<A> {
         ensures small { IfSome result (λ _. self.now.limit ≤ 65536) }
         ensures some { IfSome result (λ k. (k < self.now.limit) × (hand.old.spent ≡ false) × (hand.new.spent ≡ false) × (hand.new.drawn ≡ hand.old.drawn ++ k ∷ []) × All (λ x. x < k) hand.old.drawn) }
         ensures none { IfNone result ((hand.new.spent ≡ true) × (hand.new.drawn ≡ hand.old.drawn)) }
+        ensures live { hand.old.spent ≡ false → (word : ℕ) × DrawsLegally self.now.limit word (word + 1) false hand.new.spent (draw_told result) }
+        ensures spent { hand.old.spent ≡ true → (word : ℕ) → DrawsLegally self.now.limit word word true hand.new.spent (draw_told result) }
     {
         if hand.spent {
             return None;

@@ -1,6 +1,7 @@
 //! One worker: draws numbers, makes their pieces and posts them.
 
 ghost use Rattle.std.specs.Prelude.{◌≡◌, ◌+◌, ◌≤◌, true, IfNone, IfSome, length};
+ghost use mathlib.Core.List.{IsPrefix};
 ghost use Rattle.geom.specs.declared.fault.Fault.TheVariants.{Memory};
 ghost use Rattle.tile_book.specs.Growth.{one_if_fault};
 
@@ -43,6 +44,7 @@ pub fn work<A: Allocator + Copy, J: Job<A>, L: Limited, G: Gate, R: Wait>(
     requires own { hand.draw ≡ draw.now }
     requires count { draw.now.limit ≤ J.count job.now }
     ensures own { result.hand.draw ≡ draw.now }
+    ensures continues { IsPrefix hand.drawn result.hand.drawn }
     ensures grown { result.share + result.returned + one_if_fault result.fault + length hand.drawn ≡ share + length result.hand.drawn }
     ensures spent { IfNone result.fault (result.hand.spent ≡ true) }
     ensures memory { IfSome result.fault (λ f. f ≡ Memory) }

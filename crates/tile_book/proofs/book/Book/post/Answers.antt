@@ -1,6 +1,11 @@
 use Rattle.std.proofs.Common.{◌≡◌, ◌<◌, None, Option, slice_index_or, length, length-append, ◌+◌, [], ◌∷◌, rules, arith, refl, sym, ap, ◌∙◌, subst}
 use Rattle.tile_book.specs.Books.{BookView, IsReplay, with_piece}
+use Rattle.std.proofs.Common.{ℕ, List, IsSome}
+use Rattle.std.proofs.lemmas.Grind.{common_steps}
+use Rattle.tile_book.specs.declared.desk_core.Reply.TheVariants as reply
+use Rattle.tile_book.specs.Calls.{PostsLegally}
 use Rattle.tile_book.proofs.Posts.{pieces_lt, posted}
+use Rattle.tile_book.proofs.Calls.{posts_new, posts_stranger, posts_double}
 use Rattle.tile_book.proofs.book.Book.post.Goals as goal
 
 pub push_reserved-requires : goal.push_reserved-requires
@@ -23,3 +28,25 @@ invariant_of-self g c =
       rw c.push_reserved.ensures.capacity i.2,
       i.3,
     )
+
+pub returns-then-number-self-clause-legal : goal.returns-then-number-self-clause-legal
+returns-then-number-self-clause-legal g c =
+    let b : BookView g.row.P.Denot = c.args.self.now in
+    posts_stranger g.P.Numbered.number_of b (g.P.Numbered.number_of c.args.piece) (search rules)
+
+pub returns-then-is_some-clause-legal : goal.returns-then-is_some-clause-legal
+returns-then-is_some-clause-legal g c =
+    let b : BookView g.row.P.Denot = c.args.self.now in
+    let k = g.P.Numbered.number_of c.args.piece in
+    let kept : IsReplay g.P.Numbered.number_of b = subst (IsReplay g.P.Numbered.number_of) c.self.view_is c.self.invariant.0 in
+    let some : IsSome (slice_index_or b.held k None) = grind (arith, common_steps) in
+    let lt : k < b.limit = search rules in
+    posts_double g.P.Numbered.number_of b k kept lt some
+
+pub returns-clause-legal : goal.returns-clause-legal
+returns-clause-legal g c =
+    let k = c.number-number.result in
+    let free : slice_index_or c.self.inside.held.items k None ≡ None = search rules in
+    let lt : k < c.self.inside.limit = c.if-number-self.false in
+    let b : BookView g.row.P.Denot = record { limit = c.self.inside.limit; held = c.self.inside.held.items; accepted = c.self.inside.accepted.items } in
+    subst (λ (x : BookView g.row.P.Denot × ℕ × List ℕ). PostsLegally x.0.limit x.0.accepted x.2 x.1 reply.Ok) (λ j. (c.self.view_is j, c.number-number.ensures j, sym c.push_reserved.ensures.items j)) (posts_new g.P.Numbered.number_of b k c.self.invariant.0 lt free)
