@@ -1,5 +1,5 @@
 -- The columns of a grid: those of a number, of an interval, and of the points of a rectangle.
-use Rattle.std.proofs.Common.{◌≡◌, ◌⊎◌, ℕ, suc, ◌+◌, ◌-◌, ◌*◌, ◌/◌, ◌%◌, ◌^◌, ◌<◌, ◌≤◌, arith, inl, inr, refl, sym, ap, ◌∙◌, subst, ℤ, pos, negsuc, ◌-ℤ◌, ◌+ℤ◌, w32, w64, to_z, of_z, to_z-of_z, FitsSigned}
+use Rattle.std.proofs.Common.{◌≡◌, ℕ, suc, ◌+◌, ◌-◌, ◌*◌, ◌/◌, ◌%◌, ◌^◌, ◌<◌, ◌≤◌, arith, inl, inr, refl, sym, ap, ◌∙◌, subst, ℤ, pos, negsuc, ◌-ℤ◌, ◌+ℤ◌, w32, w64, to_z, of_z, to_z-of_z, FitsSigned}
 use Rattle.std.specs.Prelude.{◌↔◌, ◌≤ℤ◌, ◌<ℤ◌, nat_abs}
 use Rattle.std.specs.Int.{int_div_euclid}
 use Rattle.std.proofs.lemmas.Int.{ints}
@@ -10,7 +10,7 @@ use Rattle.geom.specs.Limit.{IsWithin, coordinate_limit}
 use Rattle.geom.specs.declared.point.Pt.{Pt}
 use Rattle.geom.specs.declared.rect.Rect.{Rect}
 use Rattle.geom.specs.Box.{IsInBox}
-use Rattle.tiling.specs.Tiles.{CoversBounds, HasTile, IsOver, Owns, Tiling, steps, tile_count}
+use Rattle.tiling.specs.Tiles.{HasTile, IsOver, Owns, Tiling, steps, tile_count}
 
 -- the k-th column from low has x
 pub record IsColumnOf (low : ℤ) (side : ℕ) (x : ℤ) (k : ℕ) : Type 0 where
@@ -24,9 +24,9 @@ steps_are low x w side e = ap (λ z. int_div_euclid z (pos side)) (sym e)
 pub pos_same : (a b : ℕ) → pos a ≡ pos b → a ≡ b
 pos_same a b e = cc
 
-record Whole (z : ℤ) : Type 0 where
-  width : ℕ
-  is : pos width ≡ z
+pub record Whole (z : ℤ) : Type 0 where
+  pub width : ℕ
+  pub is : pos width ≡ z
 
 whole : (z : ℤ) (side k : ℕ) → int_div_euclid z (pos side) ≡ pos k → Whole z
 whole (pos n) side k e = record { width = n; is = refl }
@@ -77,7 +77,7 @@ column_from_steps low x side k s e =
 after_first : (low x : ℤ) (a : ℕ) → (low +ℤ pos a) ≤ℤ x → low ≤ℤ x
 after_first low x a h = omega (arith, ints)
 
-between : (low x : ℤ) → low ≤ℤ x → Whole (x -ℤ low)
+pub between : (low x : ℤ) → low ≤ℤ x → Whole (x -ℤ low)
 between low x h = record { width = nat_abs (x -ℤ low); is = omega (arith, ints) }
 
 pub steps_from_column : (low x : ℤ) (side k : ℕ) → 0 < side → IsColumnOf low side x k → steps low side x ≡ pos k
@@ -188,7 +188,7 @@ last_near low z k columns side h l m e =
     near low z a h l e = omega (arith, ints)
 
 -- ---- the columns over an interval
-columns_from : (low high : ℤ) (side columns w : ℕ) → pos w ≡ high -ℤ low → pos columns ≡ steps low side high +ℤ pos 1 → columns ≡ w / side + 1
+pub columns_from : (low high : ℤ) (side columns w : ℕ) → pos w ≡ high -ℤ low → pos columns ≡ steps low side high +ℤ pos 1 → columns ≡ w / side + 1
 columns_from low high side columns w e c = let f : pos columns ≡ pos (w / side) +ℤ pos 1 = c ∙ ap (λ z. z +ℤ pos 1) (steps_are low high w side e) in omega (arith, ints)
 
 fewer_steps : (v w side : ℕ) → 0 < side → v ≤ w → v / side ≤ w / side
@@ -200,12 +200,12 @@ fewer_steps v w side s h = elim (cases_lt (w / side) (v / side)) [
   | inr few ↦ few
 ]
 
-record Step (low : ℤ) (side : ℕ) (x : ℤ) (columns : ℕ) : Type 0 where
-  number : ℕ
-  is : steps low side x ≡ pos number
-  within : number < columns
+pub record Step (low : ℤ) (side : ℕ) (x : ℤ) (columns : ℕ) : Type 0 where
+  pub number : ℕ
+  pub is : steps low side x ≡ pos number
+  pub within : number < columns
 
-inside : (low high x : ℤ) (side columns : ℕ) → 0 < side → low ≤ℤ x → x ≤ℤ high → pos columns ≡ steps low side high +ℤ pos 1 → Step low side x columns
+pub inside : (low high x : ℤ) (side columns : ℕ) → 0 < side → low ≤ℤ x → x ≤ℤ high → pos columns ≡ steps low side high +ℤ pos 1 → Step low side x columns
 inside low high x side columns s h l c =
     let v = between low x h in
     let w = between low high (through low x high h l) in

@@ -1,1 +1,4 @@
 pub mod Tiles
+pub mod Index
+pub mod Bins
+pub mod Strips

@@ -1,8 +1,14 @@
-//! Tiles of the plane: the grid, the tile that owns a point, and the rectangle of a tile.
+//! Tiles of the plane, and which boxes meet a tile or a vertical strip.
 #![tactic(auto)]
 
+mod bins;
 mod count;
 mod grid;
+mod index;
+mod search;
+mod strips;
 
+pub use bins::Bins;
 pub use count::Count;
 pub use grid::{GREATEST_SIDE, Grid, LEAST_SIDE, MOST_TILES};
+pub use strips::Strips;
