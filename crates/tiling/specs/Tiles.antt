@@ -1,5 +1,5 @@
 -- Tiles (own): the columns and rows of a grid, the points that a tile owns, and the refusals.
-use Rattle.std.specs.Prelude.{◌≡◌, ◌↔◌, ◌⊎◌, ◌^◌, ℕ, ℤ, pos, ◌+◌, ◌-◌, ◌*◌, ◌%◌, ◌<◌, ◌≤◌, ◌+ℤ◌, ◌-ℤ◌, Option, Some, None}
+use Rattle.std.specs.Prelude.{◌≡◌, ◌^◌, ℕ, ℤ, pos, ◌+◌, ◌-◌, ◌*◌, ◌%◌, ◌<◌, ◌≤◌, ◌+ℤ◌, ◌-ℤ◌, Option, Some, None}
 use Rattle.std.specs.Int.{int_div_euclid}
 use Rattle.geom.specs.Limit.{AreInLimit, IsWithin}
 use Rattle.geom.specs.declared.fault.Fault.{Fault}

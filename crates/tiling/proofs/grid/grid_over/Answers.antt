@@ -1,6 +1,4 @@
-use Rattle.std.proofs.Common.{◌≡◌, ◌≤◌, ◌<◌, ◌*◌, rules, arith, refl, to_z-of_z, FitsSigned, w32}
-use Rattle.std.proofs.lemmas.Int.{ints}
-use Rattle.tiling.specs.Tiles.{most_tiles}
+use Rattle.std.proofs.Common.{rules, arith, refl, to_z-of_z, FitsSigned, w32}
 use Rattle.tiling.proofs.Columns.{covers, near_28, wide}
 use Rattle.tiling.proofs.grid.grid_over.Goals as goal
 

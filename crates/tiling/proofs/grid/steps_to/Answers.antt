@@ -1,4 +1,4 @@
-use Rattle.std.proofs.Common.{◌≡◌, ap, ◌/◌, ◌∙◌, ◌+◌, ◌-◌, arith, pos, sym}
+use Rattle.std.proofs.Common.{ap, ◌∙◌, pos, sym}
 use Rattle.tiling.proofs.Columns.{steps_are, width_is, same_quotient}
 use Rattle.tiling.proofs.grid.steps_to.Goals as goal
 

@@ -1,4 +1,4 @@
-use Rattle.std.proofs.Common.{◌≡◌, ◌%◌, ◌<◌, ℕ, rules, sym, subst, FitsSigned, w32, to_z-of_z, ◌∙◌, ap}
+use Rattle.std.proofs.Common.{◌%◌, ◌<◌, rules, sym, subst, FitsSigned, w32, ◌∙◌, ap}
 use Rattle.std.proofs.Math.Nat.{mod-lt}
 use Rattle.tiling.specs.Tiles.{Tiling, tile_count, tile_left, tile_right}
 use Rattle.tiling.proofs.Columns.{corner, exact, last_near, some_columns}

@@ -1,4 +1,4 @@
-use Rattle.std.proofs.Common.{◌≡◌, ◌+◌, ◌*◌, ℕ, pos, ap, sym, subst, rules, arith, to_z-of_z, FitsSigned, w32, ◌∙◌}
+use Rattle.std.proofs.Common.{◌≡◌, ◌+◌, ◌*◌, ℕ, pos, sym, subst, rules, arith, to_z-of_z, FitsSigned, w32, ◌∙◌}
 use Rattle.tiling.proofs.Columns.{owner_is, pos_same, steps_after}
 use Rattle.tiling.specs.Tiles.{HasTile, Owns, Tiling, steps}
 use Rattle.geom.specs.declared.point.Pt.{Pt}
