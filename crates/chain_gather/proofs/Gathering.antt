@@ -18,13 +18,10 @@ use Rattle.routing.specs.Pieces.{IsRecord, IsPieceOf}
 use Rattle.routing.proofs.StepLaws.{same_from_steps}
 use Rattle.routing.proofs.RecordOrder.{record_cmp, record_total, record_less}
 use Rattle.chain_gather.specs.Links.{IsRecordBefore, AreRecords}
+use Rattle.chain_gather.specs.Gathered.{HasTilesBelow}
 
 some_same : {s t : Seg} {o : Option Seg} → o ≡ Some s → o ≡ Some t → s ≡ t
 some_same {s} {t} {o} e f = cc
-
--- list has the records of the tiles below k
-pub record HasTilesBelow (g : Tiling) (segments : List Seg) (k : ℕ) (list : List Record) : Type 0 where
-  pub same : (r : Record) → Contains list r ↔ (IsRecord segments r × ((j : ℕ) × (j < k) × Owns g j r.pixel))
 
 pub below_none : (g : Tiling) (segments : List Seg) → HasTilesBelow g segments 0 []
 below_none g segments = record { same = λ r. (λ h. absurd (none_in r h), λ h. absurd (let l = h.1.1 in omega arith)) }

@@ -2,3 +2,8 @@ pub mod Flat
 pub mod Walk
 pub mod Tally
 pub mod Gathering
+pub mod Near
+pub mod Covering
+pub mod Chosen
+pub mod Adding
+pub mod OwnLaws

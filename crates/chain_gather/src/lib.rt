@@ -3,6 +3,9 @@
 
 mod edges;
 mod link;
+mod own;
 mod rounded;
+mod tiles;
 
 pub use rounded::{Rounded, TileNumbers};
+pub use tiles::gather;

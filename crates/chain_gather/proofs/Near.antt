@@ -1,0 +1,158 @@
+-- The segments near a tile, from the bins, and as candidates.
+use Rattle.std.proofs.Common.{◌≡◌, ◌⊎◌, inl, inr, ℕ, zero, suc, ◌+◌, ◌<◌, ◌≤◌, List, [], ◌∷◌, ◌++◌, refl, sym, ◌∙◌, ap, arith, subst, length, get_or, map, ◌↔◌, ⊎_elim}
+use Rattle.std.specs.Prelude.{All, AllPairs, Contains, Option, Some, None, slice_get, ◌≤ℤ◌}
+use Rattle.std.proofs.Math.IntN.{ℤ}
+use Rattle.std.proofs.lemmas.List.Elements.{Contains-get_or}
+use Rattle.std.proofs.lemmas.Option.{slice_get_within}
+use Rattle.geom.specs.declared.point.Pt.{Pt}
+use Rattle.geom.specs.declared.rect.Rect.{Rect}
+use Rattle.geom.specs.declared.segment.Seg.{Seg}
+use Rattle.geom.specs.Box.{IsInBox, greatest_corner, least_corner}
+use Rattle.geom.specs.Route.{Meets}
+use Rattle.geom.proofs.Integers.{linear}
+use Rattle.geom.proofs.Meaning.{met_pixels_are_in_bounds}
+use Rattle.tiling.specs.Tiles.{Tiling, Owns}
+use Rattle.tiling.specs.Index.{AreIndexed}
+use Rattle.tiling.specs.Bins.{Binned, IsBin}
+use Rattle.hot_pixel.specs.Candidates.{AreCandidates}
+use Rattle.hot_pixel.proofs.ListLaws.{in_cons, from_cons, here, none_in, head_pair, tail_pairs, pairs_cons}
+use Rattle.routing.specs.declared.record.Candidate.{Candidate}
+use Rattle.routing.specs.Pieces.{candidates_of}
+use Rattle.routing.proofs.PieceLaws.{in_candidates}
+use Rattle.chain_gather.specs.Gathered.{AreBoxesOf, AreBinsOf, IsNear, IsNumberedBefore, AreTileCandidates}
+
+some_same : {s t : Seg} {o : Option Seg} → o ≡ Some s → o ≡ Some t → s ≡ t
+some_same {s} {t} {o} e f = cc
+
+-- ---- boxes
+
+-- b is the least box of s
+pub record IsBoxOf (s : Seg) (b : Rect) : Type 0 where
+  pub lo : b.lo ≡ least_corner s.a s.b
+  pub hi : b.hi ≡ greatest_corner s.a s.b
+
+first_box : (s : Seg) (ss : List Seg) (b : Rect) (bs : List Rect) → AreBoxesOf (s ∷ ss) (b ∷ bs) → IsBoxOf s b
+first_box s ss b bs e =
+    let p : Pt × Pt = (b.lo, b.hi) in
+    let q : Pt × Pt = (least_corner s.a s.b, greatest_corner s.a s.b) in
+    let h : p ≡ q = cc in
+    record { lo = ap (λ (x : Pt × Pt). x.0) h; hi = ap (λ (x : Pt × Pt). x.1) h }
+
+other_boxes : (s : Seg) (ss : List Seg) (b : Rect) (bs : List Rect) → AreBoxesOf (s ∷ ss) (b ∷ bs) → AreBoxesOf ss bs
+other_boxes s ss b bs e = cc
+
+segment_at : (segments : List Seg) (boxes : List Rect) (k : ℕ) (b : Rect) → AreBoxesOf segments boxes → slice_get boxes k ≡ Some b → (s : Seg) × (slice_get segments k ≡ Some s) × IsBoxOf s b
+segment_at [] [] k b e at = absurd (cc)
+segment_at [] (c ∷ cs) k b e at = absurd (cc)
+segment_at (s ∷ ss) [] k b e at = absurd (cc)
+segment_at (s ∷ ss) (c ∷ cs) zero b e at = let g : c ≡ b = cc in (s, refl, subst (λ (r : Rect). IsBoxOf s r) g (first_box s ss c cs e))
+segment_at (s ∷ ss) (c ∷ cs) (suc k) b e at = segment_at ss cs k b (other_boxes s ss c cs e) at
+
+box_at : (segments : List Seg) (boxes : List Rect) (k : ℕ) (s : Seg) → AreBoxesOf segments boxes → slice_get segments k ≡ Some s → (b : Rect) × (slice_get boxes k ≡ Some b) × IsBoxOf s b
+box_at [] [] k s e at = absurd (cc)
+box_at [] (c ∷ cs) k s e at = absurd (cc)
+box_at (t ∷ ss) [] k s e at = absurd (cc)
+box_at (t ∷ ss) (c ∷ cs) zero s e at = let g : t ≡ s = cc in (c, refl, subst (λ (r : Seg). IsBoxOf r c) g (first_box t ss c cs e))
+box_at (t ∷ ss) (c ∷ cs) (suc k) s e at = box_at ss cs k s (other_boxes t ss c cs e) at
+
+pub in_same_box : (lo hi low high p : Pt) → lo ≡ low → hi ≡ high → IsInBox lo hi p → IsInBox low high p
+in_same_box lo hi low high p e f h = subst (λ (q : Pt). IsInBox low q p) f (subst (λ (q : Pt). IsInBox q hi p) e h)
+
+-- ---- a bin has the numbers of the segments near its tile
+module _ (g : Tiling) (segments : List Seg) (boxes : List Rect) (k : ℕ) (numbers : List ℕ) (are : AreBoxesOf segments boxes) (bin : IsBin g k boxes numbers) where
+  into_bin : (n : ℕ) (s : Seg) (p : Pt) → slice_get segments n ≡ Some s → IsInBox (least_corner s.a s.b) (greatest_corner s.a s.b) p → Owns g k p → Contains numbers n
+  into_bin n s p at inside owned =
+      let (b, is, box) = box_at segments boxes n s are at in
+      (bin.exact n).1 (b, is, (p, in_same_box _ _ b.lo b.hi p (sym box.lo) (sym box.hi) inside, owned))
+
+  out_of_bin : (n : ℕ) → Contains numbers n → (s : Seg) × (slice_get segments n ≡ Some s) × ((p : Pt) × IsInBox (least_corner s.a s.b) (greatest_corner s.a s.b) p × Owns g k p)
+  out_of_bin n h =
+      let (b, is, (p, inside, owned)) = (bin.exact n).0 h in
+      let (s, at, box) = segment_at segments boxes n b are is in
+      (s, at, (p, in_same_box b.lo b.hi _ _ p box.lo box.hi inside, owned))
+
+  pub bin_candidates : AreCandidates (Owns g k) segments numbers
+  bin_candidates = record {
+    ascending = λ i l. bin.ascending i (i + 1) 0 (omega arith) l;
+    below = λ i d l. let m = out_of_bin (get_or numbers i d) (Contains-get_or numbers i d l) in slice_get_within segments (get_or numbers i d) m.0 m.1;
+    complete = λ n s c at met owned. into_bin n s c at (met_pixels_are_in_bounds s c met) owned;
+  }
+
+ascend_cons : (segments : List Seg) (n : ℕ) (ns : List ℕ) (o : Option Seg) → slice_get segments n ≡ o → AllPairs (λ i j. i < j) (n ∷ ns) → AllPairs IsNumberedBefore (candidates_of segments ns) → AllPairs IsNumberedBefore (candidates_of segments (n ∷ ns))
+ascend_cons segments n ns None e p rest = rw e rest
+ascend_cons segments n ns (Some s) e p rest = rw e (pairs_cons IsNumberedBefore (record { number = n; segment = s }) (candidates_of segments ns) (λ c h. head_pair (λ i j. i < j) n ns c.number p ((in_candidates segments ns c).0 h).0) rest)
+
+candidates_ascend : (segments : List Seg) (numbers : List ℕ) → AllPairs (λ i j. i < j) numbers → AllPairs IsNumberedBefore (candidates_of segments numbers)
+candidates_ascend segments [] p = λ i j d a b. absurd (omega arith)
+candidates_ascend segments (n ∷ ns) p = ascend_cons segments n ns (slice_get segments n) refl p (candidates_ascend segments ns (tail_pairs (λ i j. i < j) n ns p))
+
+module _ (g : Tiling) (segments : List Seg) (boxes : List Rect) (k : ℕ) (numbers : List ℕ) (are : AreBoxesOf segments boxes) (bin : IsBin g k boxes numbers) where
+  to : (c : Candidate) → Contains (candidates_of segments numbers) c → IsNear g segments k c
+  to c h =
+      let (n, at) = (in_candidates segments numbers c).0 h in
+      let (s, is, (p, inside, owned)) = out_of_bin g segments boxes k numbers are bin c.number n in
+      let e : s ≡ c.segment = some_same is at in
+      record { is_at = at; point = p; in_box = subst (λ (t : Seg). IsInBox (least_corner t.a t.b) (greatest_corner t.a t.b) p) e inside; owned = owned }
+
+  from : (c : Candidate) → IsNear g segments k c → Contains (candidates_of segments numbers) c
+  from c h = (in_candidates segments numbers c).1 (into_bin g segments boxes k numbers are bin c.number c.segment h.point h.is_at h.in_box h.owned, h.is_at)
+
+  pub tile_candidates : AreTileCandidates g segments k (candidates_of segments numbers)
+  tile_candidates = record { ascending = candidates_ascend segments numbers bin.ascending; exact = λ c. (to c, from c) }
+
+-- ---- candidates by ascending numbers are told by what they contain
+apart : (c d : Candidate) → c.number < d.number → c ≡ d → ⊥
+apart c d l e = let f = ap (λ (x : Candidate). x.number) e in omega arith
+
+pub one_list : (xs ys : List Candidate) → AllPairs IsNumberedBefore xs → AllPairs IsNumberedBefore ys → ((c : Candidate) → Contains xs c ↔ Contains ys c) → xs ≡ ys
+one_list [] [] p q h = refl
+one_list [] (y ∷ ys) p q h = absurd (none_in y ((h y).1 (here y ys)))
+one_list (x ∷ xs) [] p q h = absurd (none_in x ((h x).0 (here x xs)))
+one_list (x ∷ xs) (y ∷ ys) p q h = λ i. first i ∷ one_list xs ys (tail_pairs IsNumberedBefore x xs p) (tail_pairs IsNumberedBefore y ys q) (λ c. (into c, out c)) i
+  where
+    first : x ≡ y
+    first = ⊎_elim
+        (λ e. sym e)
+        (λ a. ⊎_elim (λ e. e) (λ b. absurd (let l = head_pair IsNumberedBefore y ys x q a in let m = head_pair IsNumberedBefore x xs y p b in omega arith)) (from_cons x xs y ((h y).1 (here y ys))))
+        (from_cons y ys x ((h x).0 (here x xs)))
+
+    into : (c : Candidate) → Contains xs c → Contains ys c
+    into c k = ⊎_elim (λ e. absurd (apart x c (head_pair IsNumberedBefore x xs c p k) (first ∙ e))) (λ m. m) (from_cons y ys c ((h c).0 (in_cons x xs c k)))
+
+    out : (c : Candidate) → Contains ys c → Contains xs c
+    out c k = ⊎_elim (λ e. absurd (apart y c (head_pair IsNumberedBefore y ys c q k) (sym first ∙ e))) (λ m. m) (from_cons x xs c ((h c).1 (in_cons y ys c k)))
+
+pub one_candidates : (g : Tiling) (segments : List Seg) (k : ℕ) (xs ys : List Candidate) → AreTileCandidates g segments k xs → AreTileCandidates g segments k ys → xs ≡ ys
+one_candidates g segments k xs ys a b = one_list xs ys a.ascending b.ascending (λ c. (λ h. (b.exact c).1 ((a.exact c).0 h), λ h. (a.exact c).1 ((b.exact c).0 h)))
+
+-- ---- rectangles are told by their points
+close : {x y : ℤ} → x ≤ℤ y → y ≤ℤ x → x ≡ y
+close {x} {y} h k = omega (arith, linear)
+
+itself : (x : ℤ) → x ≤ℤ x
+itself x = omega (arith, linear)
+
+has_lo : (r : Rect) → IsInBox r.lo r.hi r.lo
+has_lo r = record { left = itself r.lo.x; right = r.wide; bottom = itself r.lo.y; top = r.high }
+
+has_hi : (r : Rect) → IsInBox r.lo r.hi r.hi
+has_hi r = record { left = r.wide; right = itself r.hi.x; bottom = r.high; top = itself r.hi.y }
+
+pub one_rect : (r q : Rect) → ((p : Pt) → IsInBox r.lo r.hi p ↔ IsInBox q.lo q.hi p) → (r.lo ≡ q.lo) × (r.hi ≡ q.hi)
+one_rect r q h =
+    let a = (h r.lo).0 (has_lo r) in
+    let b = (h q.lo).1 (has_lo q) in
+    let c = (h r.hi).0 (has_hi r) in
+    let d = (h q.hi).1 (has_hi q) in
+    let lx : r.lo.x ≡ q.lo.x = close b.left a.left in
+    let ly : r.lo.y ≡ q.lo.y = close b.bottom a.bottom in
+    let hx : r.hi.x ≡ q.hi.x = close c.right d.right in
+    let hy : r.hi.y ≡ q.hi.y = close c.top d.top in
+    (λ i. record { x = lx i; y = ly i }, λ i. record { x = hx i; y = hy i })
+
+-- ---- what a bin says
+pub near_by_bin : (g : Tiling) (segments : List Seg) (bins : Binned) (k : ℕ) (numbers list : List ℕ) → AreBinsOf g segments bins → ((boxes : List Rect) → AreIndexed boxes bins.items → IsBin bins.grid k boxes numbers) → list ≡ numbers
+    → AreCandidates (Owns g k) segments list × AreTileCandidates g segments k (candidates_of segments list)
+near_by_bin g segments bins k numbers list are found e =
+    let bin : IsBin g k are.boxes numbers = subst (λ (h : Tiling). IsBin h k are.boxes numbers) are.grid_is (found are.boxes are.indexed) in
+    rw e (bin_candidates g segments are.boxes k numbers are.are_boxes bin, tile_candidates g segments are.boxes k numbers are.are_boxes bin)

@@ -1,0 +1,101 @@
+-- What is gathered from the tiles of a grid (own).
+use Rattle.std.specs.Prelude.{◌≡◌, ◌↔◌, ℕ, ◌<◌, ◌≤◌, ◌==◌, ◌&&◌, Bool, List, AllPairs, Contains, Option, Some, None, length, map, slice_get}
+use Rattle.geom.specs.declared.point.Pt.{Pt}
+use Rattle.geom.specs.declared.rect.Rect.{Rect}
+use Rattle.geom.specs.declared.segment.Seg.{Seg}
+use Rattle.geom.specs.Segments.{same_point, same_source}
+use Rattle.geom.specs.Box.{IsInBox, greatest_corner, least_corner}
+use Rattle.tiling.specs.Tiles.{Tiling, Owns, HasTile}
+use Rattle.tiling.specs.Index.{AreIndexed}
+use Rattle.tiling.specs.Bins.{Binned}
+use Rattle.hot_pixel.specs.Rects.{IsIn}
+use Rattle.routing.specs.declared.record.Record.{Record}
+use Rattle.routing.specs.declared.record.Candidate.{Candidate}
+use Rattle.routing.specs.declared.pieces.Piece.{Piece}
+use Rattle.routing.specs.Pieces.{IsRecord, IsPieceOf}
+use Rattle.chain_gather.specs.declared.rounded.TileNumbers.{TileNumbers}
+
+-- ---- what a caller hands in
+
+abbrev pub corners : Rect → Pt × Pt
+corners b = (b.lo, b.hi)
+
+abbrev pub box_corners : Seg → Pt × Pt
+box_corners s = (least_corner s.a s.b, greatest_corner s.a s.b)
+
+-- the least boxes of the segments, in their order
+abbrev pub AreBoxesOf : List Seg → List Rect → Type 0
+AreBoxesOf segments boxes = map corners boxes ≡ map box_corners segments
+
+-- the bins are those of the segments' boxes over the grid
+pub record AreBinsOf (g : Tiling) (segments : List Seg) (bins : Binned) : Type 0 where
+  pub grid_is : bins.grid ≡ g
+  pub boxes : List Rect
+  pub are_boxes : AreBoxesOf segments boxes
+  pub indexed : AreIndexed boxes bins.items
+
+-- every point of each segment's box has a tile
+abbrev pub HaveTiles : Tiling → List Seg → Type 0
+HaveTiles g segments = (s : Seg) (p : Pt) → Contains segments s → IsInBox (least_corner s.a s.b) (greatest_corner s.a s.b) p → HasTile g p
+
+-- the bounds hold the ends of all segments; without bounds there are none
+abbrev pub BoundsHold : Option Rect → List Seg → Type 0
+BoundsHold None segments = (s : Seg) → ¬ (Contains segments s)
+BoundsHold (Some r) segments = (s : Seg) → Contains segments s → IsInBox r.lo r.hi s.a × IsInBox r.lo r.hi s.b
+
+-- ---- which pieces of a book count
+
+-- c is the segment of its number, and the segment's box has a point that tile k owns
+pub record IsNear (g : Tiling) (segments : List Seg) (k : ℕ) (c : Candidate) : Type 0 where
+  pub is_at : slice_get segments c.number ≡ Some c.segment
+  pub point : Pt
+  pub in_box : IsInBox (least_corner c.segment.a c.segment.b) (greatest_corner c.segment.a c.segment.b) point
+  pub owned : Owns g k point
+
+abbrev pub IsNumberedBefore : Candidate → Candidate → Type 0
+IsNumberedBefore c d = c.number < d.number
+
+-- the segments whose boxes have a point that tile k owns, ascending by number
+pub record AreTileCandidates (g : Tiling) (segments : List Seg) (k : ℕ) (candidates : List Candidate) : Type 0 where
+  pub ascending : AllPairs IsNumberedBefore candidates
+  pub exact : (c : Candidate) → Contains candidates c ↔ IsNear g segments k c
+
+-- whether c is s with this number, by comparisons
+abbrev pub is_candidate : Candidate → ℕ → Seg → Bool
+is_candidate c number s = (c.number == number) && same_point c.segment.a s.a && same_point c.segment.b s.b && same_source c.segment.layer s.layer
+
+-- the piece was made from what tile k has: its rectangle and its candidates
+pub record IsOwn {A : Type 0} (g : Tiling) (segments : List Seg) (k : ℕ) (piece : Piece A) : Type 0 where
+  pub tile : (p : Pt) → IsIn piece.tile p ↔ Owns g k p
+  pub candidates : AreTileCandidates g segments k piece.candidates.items
+
+-- place k holds a piece that was made from what tile k has
+pub record HoldsOwn {A : Type 0} (g : Tiling) (segments : List Seg) (held : List (Option (Piece A))) (k : ℕ) : Type 0 where
+  pub piece : Piece A
+  pub is_at : slice_get held k ≡ Some (Some piece)
+  pub own : IsOwn g segments k piece
+
+-- n is how many numbers below limit have P
+pub record IsCountBelow (limit : ℕ) (P : ℕ → Type 0) (n : ℕ) : Type 0 where
+  pub those : List ℕ
+  pub ascending : AllPairs (λ i j. i < j) those
+  pub exact : (k : ℕ) → Contains those k ↔ ((k < limit) × P k)
+  pub number_is : n ≡ length those
+
+-- ---- what tiles have
+
+-- the numbers of the tiles below limit: how many hot pixels each owns, and how many records it has
+pub record AreTileNumbers (g : Tiling) (segments : List Seg) (limit : ℕ) (tiles : List TileNumbers) : Type 0 where
+  pub one_each : length tiles ≡ limit
+  pub each : (k : ℕ) (n : TileNumbers) → slice_get tiles k ≡ Some n → ∥ ((records : List Record) × IsPieceOf (Owns g k) segments n.hot records × (n.records ≡ length records)) ∥₁
+
+-- the records of the tiles below k
+pub record HasTilesBelow (g : Tiling) (segments : List Seg) (k : ℕ) (list : List Record) : Type 0 where
+  pub same : (r : Record) → Contains list r ↔ (IsRecord segments r × ((j : ℕ) × (j < k) × Owns g j r.pixel))
+
+-- records and numbers of the tiles below k, and how many of them the book had no piece for
+pub record AreGathered {A : Type 0} (g : Tiling) (segments : List Seg) (held : List (Option (Piece A))) (k : ℕ) (records : List Record) (tiles : List TileNumbers) (remade : ℕ) : Type 0 where
+  pub records_are : ∥ HasTilesBelow g segments k records ∥₁
+  pub tiles_are : AreTileNumbers g segments k tiles
+  pub remade_is : IsCountBelow k (λ j. ¬ (HoldsOwn g segments held j)) remade
+  pub few : remade ≤ k

@@ -1,0 +1,136 @@
+//! Gathering the pieces of all tiles.
+
+ghost use Rattle.std.specs.Prelude.{◌≡◌, ◌+◌, ◌<◌, ◌++◌, ◌∷◌, [], All, IfOk, OnOk, length};
+ghost use Rattle.geom.specs.Limit.{AreInLimit};
+ghost use Rattle.geom.specs.Noded.{IsNoded};
+ghost use Rattle.geom.specs.Rounded.{AreRounded, edges_of};
+ghost use Rattle.tiling.specs.Tiles.{tile_count, Owns};
+ghost use Rattle.hot_pixel.specs.Candidates.{AreCandidates};
+ghost use Rattle.routing.specs.Pieces.{candidates_of};
+ghost use Rattle.chain_gather.specs.Gathered.{AreBinsOf, AreGathered, AreTileCandidates, AreTileNumbers, HaveTiles, HoldsOwn, IsCountBelow};
+
+use crate::edges::rounded_edges;
+use crate::own::own_piece;
+use crate::rounded::{Rounded, TileNumbers};
+use geom::{NoMemory, Seg};
+use routing::{Piece, Record, piece};
+use std::alloc::Allocator;
+use tile_book::{Book, Limited};
+use tiling::{Bins, Grid};
+
+/// What was gathered from some tiles: their records, their numbers, and how many of their pieces were made anew.
+#[derive(Drop)]
+pub(crate) struct Found<A: Allocator> {
+    pub records: Vec<Record, A>,
+    pub tiles: Vec<TileNumbers, A>,
+    pub remade: u32,
+}
+
+impl<A: Allocator> Found<A> {
+    /// Adds the records and the numbers of a tile's piece. More records than a `u32` counts are refused as want of memory.
+    fn add(&mut self, piece: &Piece<A>) -> Result<(), NoMemory>
+        ensures records { OnOk result (self.new.records.items ≡ self.old.records.items ++ piece.now.records.items) }
+        ensures tiles { OnOk result (self.new.tiles.items ≡ self.old.tiles.items ++ (record { hot = piece.now.hot; records = length piece.now.records.items }) ∷ []) }
+        ensures remade { self.new.remade ≡ self.old.remade }
+    {
+        if piece.records.len() > u32::MAX as usize {
+            return Err(NoMemory);
+        }
+        self.records.extend_from_slice(&piece.records)?;
+        self.tiles.push(TileNumbers {
+            hot: piece.hot,
+            records: piece.records.len() as u32,
+        })?;
+        Ok(())
+    }
+}
+
+/// Adds a tile: by the book's piece, or where that is missing or was made from something else, by a new one. The numbers are
+/// those of the segments near the tile.
+fn add_tile<L: Limited, A: Allocator + Copy>(
+    alloc: A,
+    found: &mut Found<A>,
+    book: &Book<Piece<A>, L, A>,
+    grid: &Grid,
+    tile: u32,
+    segments: &[Seg],
+    numbers: &[u32],
+) -> Result<(), NoMemory>
+    requires tile { tile < tile_count grid.now }
+    requires limits { All (λ s. AreInLimit s.a s.b) segments.now }
+    requires candidates { AreCandidates (Owns grid.now tile) segments.now numbers.now }
+    requires near { AreTileCandidates grid.now segments.now tile (candidates_of segments.now numbers.now) }
+    requires few { tile < 65536 }
+    requires before { AreGathered grid.now segments.now book.now.held tile found.old.records.items found.old.tiles.items found.old.remade }
+    ensures { OnOk result (AreGathered grid.now segments.now book.now.held (tile + 1) found.new.records.items found.new.tiles.items found.new.remade) }
+{
+    if let Some(held) = own_piece(book, grid, tile, segments, numbers) {
+        return found.add(held);
+    }
+    let made = piece(alloc, grid, tile, segments, numbers)?;
+    found.add(&made)?;
+    found.remade += 1;
+    Ok(())
+}
+
+/// All tiles, in the order of their numbers.
+fn all_tiles<L: Limited, A: Allocator + Copy>(
+    alloc: A,
+    book: &Book<Piece<A>, L, A>,
+    grid: &Grid,
+    bins: &Bins<A>,
+    segments: &[Seg],
+) -> Result<Found<A>, NoMemory>
+    requires limits { All (λ s. AreInLimit s.a s.b) segments.now }
+    requires bins { AreBinsOf grid.now segments.now bins.now }
+    ensures { IfOk result (λ f. AreGathered grid.now segments.now book.now.held (tile_count grid.now) f.records.items f.tiles.items f.remade) }
+{
+    let mut found = Found {
+        records: Vec::new(alloc),
+        tiles: Vec::new(alloc),
+        remade: 0,
+    };
+    let mut numbers = Vec::new(alloc);
+    for tile in 0..grid.tiles() {
+        bins.bin(tile, &mut numbers)?;
+        add_tile(alloc, &mut found, book, grid, tile, segments, &numbers)?;
+    }
+    Ok(found)
+}
+
+/// The rounded edges of the segments, ascending with their counts, and each tile's numbers. A piece of the book counts where
+/// its own input is what its tile has now; a missing or strange one is made anew, and `remade` says how many were. More
+/// records than a `u32` counts are refused as want of memory.
+pub fn gather<L: Limited, A: Allocator + Copy>(
+    alloc: A,
+    book: Book<Piece<A>, L, A>,
+    grid: &Grid,
+    bins: &Bins<A>,
+    segments: &[Seg],
+) -> Result<Rounded<A>, NoMemory>
+    requires limits { All (λ s. AreInLimit s.a s.b) segments.now }
+    requires covered { HaveTiles grid.now segments.now }
+    requires bins { AreBinsOf grid.now segments.now bins.now }
+    ensures rounded { IfOk result (λ r. ∥ AreRounded segments.now r.edges.items ∥₁) }
+    ensures noded { IfOk result (λ r. IsNoded (edges_of r.edges.items)) }
+    ensures tiles { IfOk result (λ r. AreTileNumbers grid.now segments.now (tile_count grid.now) r.tiles.items) }
+    ensures remade { IfOk result (λ r. IsCountBelow (tile_count grid.now) (λ k. ¬ (HoldsOwn grid.now segments.now book.held k)) r.remade) }
+{
+    let Found {
+        mut records,
+        tiles,
+        remade,
+    } = all_tiles(alloc, &book, grid, bins, segments)?;
+    drop(book);
+    records.sort_unstable();
+    records.dedup();
+    if records.len() > u32::MAX as usize {
+        return Err(NoMemory);
+    }
+    let edges = rounded_edges(alloc, segments, &records)?;
+    Ok(Rounded {
+        edges,
+        tiles,
+        remade,
+    })
+}
