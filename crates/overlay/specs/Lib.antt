@@ -2,4 +2,5 @@ pub mod Sinks
 pub mod Texts
 pub mod CommandLine
 pub mod Arguments
+pub mod Rounds
 pub mod Runs

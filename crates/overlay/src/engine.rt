@@ -1,16 +1,20 @@
 //! The engine's calls: two layer texts in, a text to a sink.
 
 ghost use Rattle.std.specs.Prelude.{◌≡◌, ◌+◌, ◌<◌, ◌≤◌, IfOk, IsTrue, MatchResult, nat_lt};
+ghost use Rattle.tiling.specs.Tiles.{AreBounds};
+ghost use Rattle.overlay.specs.Rounds.{AreJointBounds, IsTooFine, IsUsableGrid};
+ghost use Rattle.overlay.specs.Sinks.{SentAll, SentPart};
 ghost use Rattle.geom.specs.Fault.{number_of};
 ghost use Rattle.wkt.specs.Refusals.{IsRefused};
-ghost use Rattle.overlay.specs.Runs.{HasOutline, IsChecked, IsMade, IsPlan, IsRefusedAt, IsRefusedPlan, Runs, part_of, segment_limit};
+ghost use Rattle.overlay.specs.Runs.{AreEdgesWritten, HasOutline, IsChecked, IsPlan, IsRefusedAt, IsRefusedPlan, IsSide, Runs, part_of, segment_limit};
 
 use crate::rounding::{Rounding, round};
 use crate::sink::{Sink, write_all};
 use crate::text::{Report, edges_text};
-use geom::{Fault, NoMemory, Part, RunFault, Source};
+use geom::{Fault, NoMemory, Part, Rect, RunFault, Source};
 use std::alloc::Allocator;
 use tile_book::Gate;
+use tiling::Grid;
 use wkt::{Outline, check_layer, read_layer};
 
 /// The least side of a tile, in grid units.
@@ -34,16 +38,24 @@ pub struct Plan {
     pub workers: u32,
 }
 
+/// What is known of the inputs before anything is made: the numbers of segments of both layers, and the grid over them.
+#[derive(Clone, Copy)]
+pub(crate) struct Inputs {
+    pub segments_a: u32,
+    pub segments_b: u32,
+    pub grid: Grid,
+}
+
 /// What is written, and the numbers of the run.
 #[derive(Drop)]
-struct Made<A: Allocator> {
-    text: Vec<u8, A>,
-    report: Report<A>,
+pub(crate) struct Made<A: Allocator> {
+    pub text: Vec<u8, A>,
+    pub report: Report<A>,
 }
 
 /// Writes the rounded edges of two layers to a sink. It is refused for the first of these: a bad tile side, a bad number
-/// of workers, layer A, layer B, too many segments; then for want of memory, and where the sink fails. Only a sink that
-/// fails has taken anything then. The gate is not called, since there is one tile.
+/// of workers, layer A, layer B, too many segments, too many tiles; then for want of memory, and where the sink fails. Only
+/// a sink that fails has taken anything then. The gate is not called, since there is one tile.
 pub fn edges<A: Allocator + Copy, G: Gate, S: Sink>(
     alloc: A,
     a: &[u8],
@@ -53,15 +65,26 @@ pub fn edges<A: Allocator + Copy, G: Gate, S: Sink>(
     sink: &mut S,
 ) -> Result<Report<A>, RunFault>
     requires { S.failed sink.old < u64.MAX }
-    ensures { Runs S.failed S.settled S.taken sink.old sink.new plan a.now b.now result }
+    ensures { Runs S.failed S.settled S.taken sink.old sink.new plan a.now b.now (AreEdgesWritten plan a.now b.now) result }
 {
-    let segments = checked(a, b, plan)?;
-    let Ok(made) = make_edges(alloc, a, b, segments) else {
+    let inputs = checked(a, b, plan)?;
+    let Ok(made) = make_edges(alloc, a, b, plan, &inputs) else {
         return Err(RunFault {
             at: Part::Run,
             fault: Fault::Memory,
         });
     };
+    send(made, sink)
+}
+
+/// Sends a text whole, and answers its report.
+pub(crate) fn send<A: Allocator, S: Sink>(
+    made: Made<A>,
+    sink: &mut S,
+) -> Result<Report<A>, RunFault>
+    requires { S.failed sink.old < u64.MAX }
+    ensures { MatchResult result (λ report. (report ≡ made.report) × SentAll S.failed S.settled S.taken sink.old sink.new made.text.items) (λ f. (f.at ≡ Part.Run) × (f.fault ≡ Fault.Write) × SentPart S.failed S.settled S.taken sink.old sink.new made.text.items) }
+{
     if write_all(sink, made.text.as_slice()).is_err() {
         return Err(RunFault {
             at: Part::Run,
@@ -71,15 +94,20 @@ pub fn edges<A: Allocator + Copy, G: Gate, S: Sink>(
     Ok(made.report)
 }
 
-/// The numbers of segments of both layers, where nothing is refused.
-fn checked(a: &[u8], b: &[u8], plan: Plan) -> Result<(u32, u32), RunFault>
-    ensures { MatchResult result (λ n. IsChecked plan a.now b.now n.0 n.1) (λ f. IsRefusedAt plan a.now b.now f.at f.fault) }
+/// The numbers of segments of both layers and the grid over them, where nothing is refused.
+pub(crate) fn checked(a: &[u8], b: &[u8], plan: Plan) -> Result<Inputs, RunFault>
+    ensures { MatchResult result (λ n. IsChecked plan a.now b.now n.segments_a n.segments_b n.grid) (λ f. IsRefusedAt plan a.now b.now f.at f.fault) }
 {
     check_plan(plan)?;
     let outline_a = outline_of(a, Source::A)?;
     let outline_b = outline_of(b, Source::B)?;
     check_total(outline_a.segments, outline_b.segments)?;
-    Ok((outline_a.segments, outline_b.segments))
+    let grid = grid_over(outline_a.bounds, outline_b.bounds, plan.side)?;
+    Ok(Inputs {
+        segments_a: outline_a.segments,
+        segments_b: outline_b.segments,
+        grid,
+    })
 }
 
 fn check_plan(plan: Plan) -> Result<(), RunFault>
@@ -101,7 +129,8 @@ fn check_plan(plan: Plan) -> Result<(), RunFault>
 }
 
 fn outline_of(text: &[u8], layer: Source) -> Result<Outline, RunFault>
-    ensures { MatchResult result (λ o. HasOutline text.now o) (λ f. (f.at ≡ part_of layer) × IsRefused text.now f.fault) }
+    ensures answer { MatchResult result (λ o. HasOutline text.now o) (λ f. (f.at ≡ part_of layer) × IsRefused text.now f.fault) }
+    ensures in_limit { IfOk result (λ o. AreBounds o.bounds) }
 {
     match check_layer(text) {
         Ok(outline) => Ok(outline),
@@ -134,20 +163,50 @@ fn check_total(a: u32, b: u32) -> Result<(), RunFault>
     Ok(())
 }
 
+/// The grid over the segments of two layers with these bounds.
+fn grid_over(a: Option<Rect>, b: Option<Rect>, side: u32) -> Result<Grid, RunFault>
+    requires a_in { AreBounds a }
+    requires b_in { AreBounds b }
+    requires side { IsSide side }
+    ensures { MatchResult result (λ g. IsUsableGrid a b side g) (λ f. IsTooFine a b side f.at f.fault) }
+{
+    match Grid::new(joint_bounds(a, b), side) {
+        Ok(grid) => Ok(grid),
+        Err(fault) => Err(RunFault {
+            at: Part::Run,
+            fault,
+        }),
+    }
+}
+
+/// The least box that has both.
+fn joint_bounds(a: Option<Rect>, b: Option<Rect>) -> Option<Rect>
+    ensures joint { AreJointBounds a b result }
+    ensures in_limit { AreBounds a → AreBounds b → AreBounds result }
+{
+    match (a, b) {
+        (Some(r), Some(s)) => Some(r.with(s.lo).with(s.hi)),
+        (Some(r), None) => Some(r),
+        (None, other) => other,
+    }
+}
+
 /// The text of the rounded edges, and the report.
 fn make_edges<A: Allocator + Copy>(
     alloc: A,
     a: &[u8],
     b: &[u8],
-    segments: (u32, u32),
+    plan: Plan,
+    inputs: &Inputs,
 ) -> Result<Made<A>, NoMemory>
-    ensures { IfOk result (λ m. IsMade segments.0 segments.1 m.text.items m.report) }
+    requires { IsChecked plan a.now b.now inputs.now.segments_a inputs.now.segments_b inputs.now.grid }
+    ensures { IfOk result (λ m. AreEdgesWritten plan a.now b.now m.text.items m.report) }
 {
     let rounding = rounded(alloc, a, b)?;
     let text = edges_text(alloc, rounding.edges.as_slice())?;
     let report = Report {
-        segments_a: segments.0,
-        segments_b: segments.1,
+        segments_a: inputs.segments_a,
+        segments_b: inputs.segments_b,
         hot: u64::from(rounding.hot),
         records: u64::from(rounding.records),
         edges: u32::try_from(rounding.edges.len()).map_err(|_| NoMemory)?,

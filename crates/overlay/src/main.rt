@@ -7,6 +7,7 @@ mod engine;
 mod files;
 mod program;
 mod rounding;
+mod segments;
 mod sink;
 mod stream;
 mod strips;
