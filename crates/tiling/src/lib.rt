@@ -12,3 +12,6 @@ pub use bins::Bins;
 pub use count::Count;
 pub use grid::{GREATEST_SIDE, Grid, LEAST_SIDE, MOST_TILES};
 pub use strips::Strips;
+
+#[cfg(test)]
+mod tests;
