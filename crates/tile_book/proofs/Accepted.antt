@@ -1,10 +1,10 @@
 -- What a legal history accepts.
-use Rattle.std.proofs.Common.{◌≡◌, ℕ, zero, suc, ◌+◌, ◌<◌, ◌≤◌, ◌==◌, Bool, true, false, ◌||◌, ◌&&◌, List, [], ◌∷◌, ◌++◌, refl, sym, ap, ◌∙◌, subst, arith}
+use Rattle.std.proofs.Common.{◌≡◌, ℕ, zero, suc, ◌+◌, ◌<◌, ◌≤◌, ◌==◌, Bool, true, false, ◌||◌, List, [], ◌∷◌, ◌++◌, refl, sym, ap, ◌∙◌, subst, arith}
 use Rattle.std.proofs.lemmas.Bool.Decides.{nat_tests}
 use Rattle.std.proofs.lemmas.List.{append-nil}
 use Rattle.std.specs.Prelude.{nat_lt}
 use mathlib.Core.Bool.{true≢false}
-use Rattle.tile_book.specs.Counts.{total, is_it, times, once_below, HoldsEachOnce}
+use Rattle.tile_book.specs.Counts.{is_it, times, once_below, HoldsEachOnce}
 use Rattle.tile_book.specs.declared.desk_core.Event.{Event}
 use Rattle.tile_book.specs.declared.desk_core.Event.TheVariants.{Draw, Post, Stop}
 use Rattle.tile_book.specs.declared.desk_core.Reply.{Reply}

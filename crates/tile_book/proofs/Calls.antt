@@ -9,7 +9,7 @@ use Rattle.tile_book.specs.declared.desk_core.Event.{Event}
 use Rattle.tile_book.specs.declared.desk_core.Event.TheVariants.{Post}
 use Rattle.tile_book.specs.declared.desk_core.Reply.{Reply}
 use Rattle.tile_book.specs.declared.desk_core.Reply.TheVariants as reply
-use Rattle.tile_book.specs.Counts.{is_it, times}
+use Rattle.tile_book.specs.Counts.{times}
 use Rattle.tile_book.specs.History.{accepted_in, is_in, has_ended, one_if, IsLegal}
 use Rattle.tile_book.specs.Books.{BookView, HoldsAt, IsReplay, with_piece}
 use Rattle.tile_book.specs.Replies.{ComesBack, SentBack}

@@ -1,15 +1,15 @@
 -- Each step goes on with a legal history.
-use Rattle.std.proofs.Common.{◌≡◌, ◌≢◌, ℕ, ◌+◌, zero, suc, ◌<◌, ◌==◌, Bool, true, false, ◌||◌, ◌&&◌, not, List, [], ◌∷◌, ◌++◌, length, set, refl, sym, ap, ◌∙◌, subst, arith, length-set, get_or-set_same, get_or-set_other}
+use Rattle.std.proofs.Common.{◌≡◌, ◌≢◌, ℕ, ◌+◌, ◌<◌, ◌==◌, Bool, true, false, ◌||◌, ◌&&◌, List, [], ◌∷◌, ◌++◌, length, refl, sym, ap, ◌∙◌, subst, arith, length-set, get_or-set_same, get_or-set_other}
 use Rattle.std.proofs.lemmas.Bool.Decides.{nat_tests}
 use Rattle.std.proofs.lemmas.List.{append-nil}
 use mathlib.Core.Logic.{dite}
 use native.Mathlib.Decide.{ℕ_discrete}
-use Rattle.std.specs.Prelude.{slice_index_or, slice_set, nat_lt, if◌then◌else◌}
+use Rattle.std.specs.Prelude.{slice_index_or, slice_set, nat_lt}
 use Rattle.tile_book.specs.declared.desk_core.Event.{Event}
 use Rattle.tile_book.specs.declared.desk_core.Event.TheVariants.{Draw, Post, Stop}
 use Rattle.tile_book.specs.declared.desk_core.Reply.{Reply}
-use Rattle.tile_book.specs.declared.desk_core.Reply.TheVariants.{Number, None, Ok, Stranger, Double, NoHand}
-use Rattle.tile_book.specs.History.{has_ended, is_live, live_draws, accepted_in, posted_by, one_if, is_in, expected, IsLegal, followed_by}
+use Rattle.tile_book.specs.declared.desk_core.Reply.TheVariants.{Stranger, Double, NoHand}
+use Rattle.tile_book.specs.History.{has_ended, is_live, live_draws, accepted_in, posted_by, one_if, expected, IsLegal, followed_by}
 use Rattle.tile_book.specs.Machine.{CoreView, IsSound, Agrees, reply_of, after, replies_of, after_all, draw_reply, post_reply}
 use Rattle.tile_book.proofs.Trues.{trues_set, trues_more, posts}
 

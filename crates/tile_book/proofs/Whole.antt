@@ -1,13 +1,13 @@
 -- What a whole pass counts.
-use Rattle.std.proofs.Common.{◌≡◌, ℕ, zero, suc, ◌+◌, ◌<◌, ◌≤◌, ◌==◌, Bool, true, false, List, [], ◌∷◌, ◌++◌, Option, Some, None, length, length-append, sum, flat_map, refl, sym, ap, ◌∙◌, arith, true≢false}
+use Rattle.std.proofs.Common.{◌≡◌, ℕ, zero, suc, ◌+◌, ◌<◌, ◌≤◌, false, List, [], ◌∷◌, ◌++◌, Option, Some, None, length, length-append, sum, flat_map, refl, sym, ap, ◌∙◌, arith, true≢false}
 use Rattle.std.proofs.lemmas.Bool.Decides.{nat_tests}
 use Rattle.std.proofs.lemmas.Grind.{flat_map-append}
 use Rattle.std.proofs.lemmas.List.Sums.{sum_by_push}
-use Rattle.std.specs.Prelude.{nat_lt, IfNone}
+use Rattle.std.specs.Prelude.{IfNone}
 use Rattle.std.specs.Option.{is_some}
-use Rattle.tile_book.specs.Counts.{total, is_it, times, once_below, HoldsEachOnce}
+use Rattle.tile_book.specs.Counts.{is_it, times, once_below, HoldsEachOnce}
 use Rattle.tile_book.specs.Growth.{one_if_fault}
-use Rattle.tile_book.proofs.Totals.{it_is, once_step, once_some}
+use Rattle.tile_book.proofs.Totals.{it_is, once_some}
 
 -- how often a list has the numbers below n
 abbrev times_below : ℕ → List ℕ → ℕ

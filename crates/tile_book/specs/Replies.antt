@@ -1,5 +1,5 @@
 -- What a piece that comes back says.
-use Rattle.std.specs.Prelude.{◌≡◌, ℕ, ◌<◌, ◌≤◌, Option, None, IsSome, slice_index_or}
+use Rattle.std.specs.Prelude.{◌≡◌, ℕ, ◌<◌, ◌≤◌, None, IsSome, slice_index_or}
 use Rattle.tile_book.specs.declared.book.Returned.{Returned}
 use Rattle.tile_book.specs.declared.book.Returned.TheVariants.{Stranger, Double}
 use Rattle.tile_book.specs.Books.{BookView}

@@ -4,7 +4,7 @@ ghost use Rattle.std.specs.Prelude.{◌≡◌, ◌<◌, ◌≤◌, IfOk};
 
 use super::*;
 use bumpalo::Bump;
-use geom::NoMemory;
+use geom::{Fault, NoMemory};
 use std::alloc::{Allocator, Global};
 use std::marker::Brand;
 use std::process::Abort;
@@ -29,9 +29,11 @@ impl Numbered for Note {
     }
 }
 
+// Makes the notes of the numbers below `room`, and is refused memory for the others.
 #[derive(Drop)]
 struct Notes {
     count: u32,
+    room: u32,
 }
 
 impl<A: Allocator + Copy> Job<A> for Notes {
@@ -40,6 +42,9 @@ impl<A: Allocator + Copy> Job<A> for Notes {
     ghost count = { λ n. n.count };
 
     fn piece(&self, _alloc: A, number: u32) -> Result<Note, NoMemory> {
+        if number >= self.room {
+            return Err(NoMemory);
+        }
         Ok(Note { number })
     }
 }
@@ -102,6 +107,21 @@ fn two_hands<A: Allocator + Copy>(alloc: A, limit: u32) -> Result<(Draw<A>, Hand
         return Err(NoMemory);
     };
     Ok((draw, one, other))
+}
+
+#[test]
+fn draw_of_no_numbers(rt: HostRuntime) -> Result<(), Fail> {
+    let (draw, mut one, mut other) = two_hands(rt.alloc(), 0)?;
+    assert_eq!(rt; draw.draw(&mut one), None);
+    assert_eq!(rt; draw.draw(&mut other), None);
+    let mut hands = Vec::new(rt.alloc());
+    hands.push(one)?;
+    hands.push(other)?;
+    let Ok(drawn) = finish(draw, hands) else {
+        return Err(Fail::from("all hands are spent"));
+    };
+    assert_eq!(rt; drawn.limit(), 0);
+    Ok(())
 }
 
 #[test]
@@ -177,7 +197,22 @@ fn posts_at_the_desk(rt: HostRuntime) -> Result<(), Fail> {
     at_the_desk::<Brand, _>(&rt, rt.alloc(), Blank::new(1))
 }
 
-fn at_the_desk<L: Limited, R: Wait + Abort>(rt: &R, alloc: Global, blank: Blank) -> Result<(), Fail>
+// Posts on a thread of its own.
+fn post_elsewhere<L: Limited + Send + Sync, R: Threads + Wait + Sync>(
+    rt: &R,
+    desk: &Desk<Note, L, Global>,
+    share: Share<L>,
+    note: Note,
+) -> (Share<L>, Result<(), Returned<Note>>) {
+    thread::join(rt, move || desk.post(rt, share, note), || ()).0
+}
+
+// One share, which two threads post with in turn.
+fn at_the_desk<L: Limited + Send + Sync, R: Threads + Wait + Abort + Sync>(
+    rt: &R,
+    alloc: Global,
+    blank: Blank,
+) -> Result<(), Fail>
     requires name { blank.name ≡ L.name }
     requires parts { (blank.parts ≡ L.parts) × (blank.parts ≡ 1) }
     requires limit { L.limit ≡ 3 }
@@ -186,9 +221,16 @@ fn at_the_desk<L: Limited, R: Wait + Abort>(rt: &R, alloc: Global, blank: Blank)
     let Some(mut share) = shares.pop() else {
         return Err(Fail::from("one share"));
     };
+    let mut elsewhere = false;
     for (number, expected) in POSTED {
-        let (same, answer) = desk.post(rt, share, Note { number });
+        let note = Note { number };
+        let (same, answer) = if elsewhere {
+            post_elsewhere(rt, &desk, share, note)
+        } else {
+            desk.post(rt, share, note)
+        };
         share = same;
+        elsewhere = !elsewhere;
         assert!(rt; told(answer, number) == Some(expected), "{number}");
     }
     let Err((desk, mut shares)) = close(desk, shares) else {
@@ -251,18 +293,59 @@ fn no_numbers<L: Limited, R: Wait + Abort>(rt: &R, alloc: Global, blank: Blank) 
 
 #[test]
 fn one_worker_of_five_numbers(rt: HostRuntime) -> Result<(), Fail> {
-    one_worker::<Brand, _>(&rt, rt.alloc(), Blank::new(1))
+    let job = Notes { count: 5, room: 5 };
+    let left = one_worker::<Brand, _>(&rt, rt.alloc(), Blank::new(1), 5, &job)?;
+    assert!(rt; left.is_finished && left.returned == 0 && left.fault.is_none());
+    assert_eq!(rt; left.accepted.as_slice(), [0, 1, 2, 3, 4].as_slice());
+    Ok(())
 }
 
-fn one_worker<L: Limited, R: Wait + Abort>(rt: &R, alloc: Global, blank: Blank) -> Result<(), Fail>
+// The draw goes on past the limit of the book, which sends those pieces back.
+#[test]
+fn one_worker_of_two_strangers(rt: HostRuntime) -> Result<(), Fail> {
+    let job = Notes { count: 5, room: 5 };
+    let left = one_worker::<Brand, _>(&rt, rt.alloc(), Blank::new(1), 3, &job)?;
+    assert!(rt; left.is_finished && left.returned == 2 && left.fault.is_none());
+    assert_eq!(rt; left.accepted.as_slice(), [0, 1, 2].as_slice());
+    Ok(())
+}
+
+#[test]
+fn one_worker_without_memory(rt: HostRuntime) -> Result<(), Fail> {
+    let job = Notes { count: 5, room: 3 };
+    let left = one_worker::<Brand, _>(&rt, rt.alloc(), Blank::new(1), 5, &job)?;
+    assert!(rt; !left.is_finished && left.returned == 0);
+    assert!(rt; left.fault == Some(Fault::Memory));
+    assert_eq!(rt; left.accepted.as_slice(), [0, 1, 2].as_slice());
+    Ok(())
+}
+
+// What one worker leaves: whether its draw is finished, what it hands back, and the numbers that the book accepted.
+#[derive(Drop)]
+struct Left {
+    is_finished: bool,
+    returned: u32,
+    fault: Option<Fault>,
+    accepted: Vec<u32>,
+}
+
+// The one worker of a draw of five numbers.
+fn one_worker<L: Limited, R: Wait>(
+    rt: &R,
+    alloc: Global,
+    blank: Blank,
+    limit: u32,
+    job: &Notes,
+) -> Result<Left, Fail>
     requires name { blank.name ≡ L.name }
     requires parts { (blank.parts ≡ L.parts) × (blank.parts ≡ 1) }
-    requires limit { L.limit ≡ 5 }
+    requires limit { (limit ≡ L.limit) × (limit ≤ 65536) }
+    requires count { 5 ≤ job.now.count }
 {
-    let (draw, hand, _other) = two_hands(alloc, 5)?;
-    let (desk, mut shares) = Desk::<Note, L, Global>::new(alloc, blank, 5, 1)?;
-    let Some(share) = shares.pop() else {
-        return Err(Fail::from("one share"));
+    let (draw, mut hands) = Draw::new(alloc, 5, 1)?;
+    let (desk, mut shares) = Desk::<Note, L, Global>::new(alloc, blank, limit, 1)?;
+    let (Some(hand), Some(share)) = (hands.pop(), shares.pop()) else {
+        return Err(Fail::from("one hand and one share"));
     };
     let Ended {
         hand,
@@ -272,7 +355,7 @@ fn one_worker<L: Limited, R: Wait + Abort>(rt: &R, alloc: Global, blank: Blank) 
     } = work(
         rt,
         alloc,
-        &Notes { count: 5 },
+        job,
         Phase::Route,
         &draw,
         hand,
@@ -280,14 +363,20 @@ fn one_worker<L: Limited, R: Wait + Abort>(rt: &R, alloc: Global, blank: Blank) 
         share,
         &OpenGate,
     );
-    assert!(rt; hand.is_spent() && returned == 0 && fault.is_none());
+    let mut hands = Vec::new(alloc);
+    hands.push(hand)?;
     shares.push(share)?;
+    let is_finished = finish(draw, hands).is_ok();
     let Ok(book) = close(desk, shares) else {
         return Err(Fail::from("all shares are there"));
     };
-    assert_eq!(rt; book.accepted(), [0, 1, 2, 3, 4].as_slice());
-    assert!(rt; book.held().iter().all(|note| note.is_some()));
-    Ok(())
+    let accepted = book.accepted().to_vec(alloc)?;
+    Ok(Left {
+        is_finished,
+        returned,
+        fault,
+        accepted,
+    })
 }
 
 #[test]
@@ -305,7 +394,7 @@ fn two_workers<L: Limited + Send + Sync, G: Gate + Sync, R: Threads + Wait + Abo
     requires parts { (blank.parts ≡ L.parts) × (blank.parts ≡ 2) }
     requires limit { L.limit ≡ 5 }
 {
-    let job = Notes { count: 5 };
+    let job = Notes { count: 5, room: 5 };
     let filled: Filled<Note, L, Global> = fill(rt, alloc, blank, 5, 2, &job, Phase::Route, gate)?;
     assert!(rt; filled.returned == 0);
     assert!(rt; filled.book.accepted().len() == 5);

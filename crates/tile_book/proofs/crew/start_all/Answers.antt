@@ -1,4 +1,4 @@
-use Rattle.std.proofs.Common.{rules, [], arith, ap, length, ◌+◌, ◌≡◌, ◌∙◌, sym}
+use Rattle.std.proofs.Common.{rules, [], arith, ap, length, ◌≡◌, ◌∙◌}
 use Rattle.tile_book.proofs.Kept.{popped, pushed}
 use Rattle.tile_book.specs.Growth.{HasGrown}
 use Rattle.tile_book.proofs.crew.start_all.Goals as goal

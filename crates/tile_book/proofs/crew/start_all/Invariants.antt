@@ -1,4 +1,4 @@
-use Rattle.std.proofs.Common.{◌≡◌, ◌+◌, ◌≤◌, [], All, length, vec_len, vec_capacity}
+use Rattle.std.proofs.Common.{◌≡◌, ◌+◌, ◌≤◌, [], All, vec_len, vec_capacity}
 use Rattle.tile_book.specs.Growth.{HasGrown}
 use Rattle.tile_book.proofs.crew.start_all.Given as goal
 

@@ -1,4 +1,4 @@
-use Rattle.std.proofs.Common.{◌≡◌, ◌<◌, ℕ, IsSome, None, slice_index_or, arith, sym, ◌∙◌, ap, subst}
+use Rattle.std.proofs.Common.{◌<◌, ℕ, IsSome, None, slice_index_or, arith, sym, ap, subst}
 use Rattle.tile_book.specs.Books.{BookView}
 use Rattle.tile_book.proofs.Posts.{full}
 use Rattle.tile_book.proofs.desk.close.Goals as goal

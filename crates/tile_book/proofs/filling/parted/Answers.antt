@@ -1,4 +1,4 @@
-use Rattle.std.proofs.Common.{◌≡◌, ◌+◌, ◌*◌, ◌^◌, ◌<◌, ◌≤◌, true, length, flat_map, sum, vec_len, rules, arith, ap, ◌∙◌, sym}
+use Rattle.std.proofs.Common.{◌≡◌, ◌^◌, ◌<◌, true, length, flat_map, sum, rules, arith, ap}
 use Rattle.tile_book.specs.Growth.{HasGrown}
 use Rattle.tile_book.specs.Shown.{HandView}
 use Rattle.tile_book.proofs.Kept.{popped, pushed}

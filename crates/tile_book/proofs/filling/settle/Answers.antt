@@ -1,4 +1,4 @@
-use Rattle.std.proofs.Common.{◌≡◌, ◌+◌, length, sum, arith, ap}
+use Rattle.std.proofs.Common.{◌≡◌, length, sum, arith, ap}
 use Rattle.tile_book.proofs.Whole.{each_once_length}
 use Rattle.tile_book.proofs.filling.settle.Goals as goal
 

@@ -4,4 +4,4 @@ abbrev pub ghosts-one_worker-L-Ledger : goal.ghosts-one_worker-L-Ledger
 ghosts-one_worker-L-Ledger g a = record { name = a.blank.name; parts = a.blank.parts }
 
 abbrev pub ghosts-one_worker-L-Limited : goal.ghosts-one_worker-L-Limited
-ghosts-one_worker-L-Limited g a = record { limit = 5 }
+ghosts-one_worker-L-Limited g a = record { limit = a.limit }

@@ -1,4 +1,4 @@
-use Rattle.std.proofs.Common.{ℕ, subst}
+use Rattle.std.proofs.Common.{subst}
 use Rattle.tile_book.specs.Books.{BookView}
 use Rattle.tile_book.specs.Calls.{HasHistory}
 use Rattle.tile_book.proofs.Calls.{has_history}

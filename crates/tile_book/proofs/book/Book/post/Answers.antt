@@ -1,5 +1,5 @@
-use Rattle.std.proofs.Common.{◌≡◌, ◌<◌, None, Option, slice_index_or, length, length-append, ◌+◌, [], ◌∷◌, rules, arith, refl, sym, ap, ◌∙◌, subst}
-use Rattle.tile_book.specs.Books.{BookView, IsReplay, with_piece}
+use Rattle.std.proofs.Common.{◌≡◌, ◌<◌, None, slice_index_or, length, length-append, [], ◌∷◌, rules, arith, sym, ap, ◌∙◌, subst}
+use Rattle.tile_book.specs.Books.{BookView, IsReplay}
 use Rattle.std.proofs.Common.{ℕ, List, IsSome}
 use Rattle.std.proofs.lemmas.Grind.{common_steps}
 use Rattle.tile_book.specs.declared.desk_core.Reply.TheVariants as reply

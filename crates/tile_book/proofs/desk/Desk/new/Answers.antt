@@ -1,4 +1,4 @@
-use Rattle.std.proofs.Common.{◌≡◌, ◌<◌, ℕ, None, replicate, rules, arith, refl, sym, ap, ◌∙◌, subst}
+use Rattle.std.proofs.Common.{◌≡◌, ℕ, None, replicate, rules, ap, ◌∙◌}
 use Rattle.tile_book.proofs.Posts.{opened}
 use Rattle.tile_book.proofs.desk.Desk.new.Goals as goal
 

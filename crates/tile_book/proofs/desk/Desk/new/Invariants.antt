@@ -1,4 +1,4 @@
-use Rattle.std.proofs.Common.{◌≡◌, ◌+◌, ◌≤◌, ℕ, All, None, length, vec_len, replicate}
+use Rattle.std.proofs.Common.{◌≡◌, ◌+◌, All, None, vec_len, replicate}
 use Rattle.tile_book.proofs.desk.Desk.new.Given as goal
 
 abbrev pub invariant-loop : goal.invariant-loop

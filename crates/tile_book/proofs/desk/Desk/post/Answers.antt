@@ -1,4 +1,4 @@
-use Rattle.std.proofs.Common.{◌≡◌, sym, ap, ◌∙◌}
+use Rattle.std.proofs.Common.{sym, ap, ◌∙◌}
 use Rattle.tile_book.proofs.Calls.{told_by_desk}
 use Rattle.tile_book.proofs.desk.Desk.post.Goals as goal
 

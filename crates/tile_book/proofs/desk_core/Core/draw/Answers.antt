@@ -1,6 +1,6 @@
-use Rattle.std.proofs.Common.{◌≡◌, ◌<◌, ◌≤◌, ◌^◌, ◌+◌, Fits, w32, length, true, false, arith, rules, length-set, ◌∙◌}
+use Rattle.std.proofs.Common.{◌≡◌, ◌<◌, length, true, false, arith, rules, length-set}
 use Rattle.std.specs.Prelude.{slice_index_or}
-use Rattle.tile_book.proofs.Trues.{trues_le, trues_set, trues_lt}
+use Rattle.tile_book.proofs.Trues.{trues_le, trues_set}
 use Rattle.tile_book.proofs.desk_core.Core.draw.Goals as goal
 
 pub overflow_add-self-else-word-self : goal.overflow_add-self-else-word-self

@@ -1,4 +1,4 @@
-use Rattle.std.proofs.Common.{◌≡◌, ℕ, Bool, false, List, [], replicate, rules, sym, subst}
+use Rattle.std.proofs.Common.{◌≡◌, ℕ, Bool, false, List, replicate, rules, sym, subst}
 use Rattle.tile_book.specs.Machine.{IsSound}
 use Rattle.tile_book.proofs.Trues.{starts}
 use Rattle.tile_book.proofs.desk_core.Core.new.Goals as goal

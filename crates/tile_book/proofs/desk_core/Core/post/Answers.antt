@@ -1,4 +1,4 @@
-use Rattle.std.proofs.Common.{◌≡◌, ◌<◌, length, false, arith, rules}
+use Rattle.std.proofs.Common.{◌≡◌, ◌<◌, false, arith, rules}
 use Rattle.std.specs.Prelude.{slice_index_or}
 use Rattle.tile_book.specs.Machine.{CoreView}
 use Rattle.tile_book.proofs.Trues.{trues_lt, posts}

@@ -1,5 +1,4 @@
-use Rattle.std.proofs.Common.{◌≡◌, List, ◌∷◌, length, sym, ◌∙◌, subst}
-use Rattle.tile_book.specs.declared.desk_core.Event.{Event}
+use Rattle.std.proofs.Common.{◌∷◌, length, sym, subst}
 use Rattle.tile_book.specs.declared.desk_core.Reply.{Reply}
 use Rattle.tile_book.specs.Machine.{CoreView, Agrees, IsSound}
 use Rattle.tile_book.specs.History.{IsLegal}

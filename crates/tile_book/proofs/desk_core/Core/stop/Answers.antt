@@ -1,4 +1,4 @@
-use Rattle.std.proofs.Common.{◌≡◌, true, arith, rules, length-set}
+use Rattle.std.proofs.Common.{true, arith, length-set}
 use Rattle.tile_book.proofs.Trues.{trues_more}
 use Rattle.tile_book.proofs.desk_core.Core.stop.Goals as goal
 

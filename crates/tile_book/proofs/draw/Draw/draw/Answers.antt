@@ -1,7 +1,6 @@
-use Rattle.std.proofs.Common.{arith, sym, ◌∙◌, ap, rules, refl}
+use Rattle.std.proofs.Common.{arith, sym, ◌∙◌, ap, refl}
 use mathlib.Core.Option.{none}
 use Rattle.atomic_table.specs.Table.{step}
-use Rattle.tile_book.specs.Drawing.{IsFair}
 use Rattle.tile_book.proofs.Draws.{draws}
 use Rattle.tile_book.proofs.draw.Draw.draw.Goals as goal
 

@@ -1,4 +1,4 @@
-use Rattle.std.proofs.Common.{arith, sym, ◌∙◌, ap, rules, refl}
+use Rattle.std.proofs.Common.{arith, sym, ◌∙◌, ap}
 use mathlib.Core.Option.{none}
 use Rattle.atomic_table.specs.Table.{step}
 use Rattle.tile_book.proofs.Draws.{ends}

@@ -1,4 +1,4 @@
-use Rattle.std.proofs.Common.{◌≡◌, ℕ, suc, ◌+◌, List, [], ◌∷◌, ◌++◌, All, length, flat_map, true, arith, sym, ◌∙◌, ap, subst, rules, refl, append_assoc}
+use Rattle.std.proofs.Common.{◌≡◌, suc, ◌+◌, List, [], ◌∷◌, ◌++◌, All, length, flat_map, true, arith, ◌∙◌, ap, subst, append_assoc}
 use mathlib.Core.Option.{none}
 use Rattle.atomic_table.specs.Table.{step}
 use Rattle.tile_book.specs.Drawing.{ticket}

@@ -1,4 +1,4 @@
-use Rattle.std.proofs.Common.{◌≡◌, ◌+◌, ◌<◌, List, [], ◌∷◌, ◌++◌, All, vec_len, length, flat_map, ℕ, ◌-◌}
+use Rattle.std.proofs.Common.{◌≡◌, List, [], ◌++◌, length, flat_map}
 use Rattle.tile_book.specs.Drawing.{ticket}
 use Rattle.tile_book.specs.Shown.{HandView}
 use Rattle.tile_book.proofs.draw.Draw.gathered.Given as goal

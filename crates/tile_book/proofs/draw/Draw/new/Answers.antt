@@ -1,4 +1,4 @@
-use Rattle.std.proofs.Common.{◌≡◌, ℕ, ◌+◌, ◌-◌, ◌<◌, List, [], ◌∷◌, ◌++◌, All, length, true, false, arith, sym, ◌∙◌, ap, subst, rules, refl}
+use Rattle.std.proofs.Common.{◌≡◌, ℕ, ◌+◌, ◌-◌, List, [], ◌∷◌, ◌++◌, false, arith, ◌∙◌, ap, rules, refl}
 use Rattle.std.proofs.lemmas.List.Elements.{All-push}
 use Rattle.tile_book.specs.declared.ticket.Ticket.{Ticket}
 use Rattle.tile_book.specs.Drawing.{ticket, one_less, one_hand}

@@ -1,4 +1,4 @@
-use Rattle.std.proofs.Common.{◌≡◌, ◌+◌, ◌-◌, [], All, vec_len, vec_capacity, ◌≤◌, true, false}
+use Rattle.std.proofs.Common.{◌≡◌, ◌-◌, [], All, vec_len, vec_capacity, ◌≤◌, false}
 use Rattle.tile_book.specs.Drawing.{ticket}
 use Rattle.tile_book.proofs.draw.Draw.new.Given as goal
 

@@ -1,4 +1,4 @@
-use Rattle.std.proofs.Common.{arith, sym, ◌∙◌, ap, rules, refl}
+use Rattle.std.proofs.Common.{arith, sym, ◌∙◌, ap}
 use Rattle.tile_book.proofs.Draws.{joins}
 use Rattle.tile_book.proofs.draw.Draw.taken_in.Goals as goal
 
