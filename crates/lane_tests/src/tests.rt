@@ -1,5 +1,7 @@
 //! The kernels against plain loops, at lengths round whole chunks of eight and with the differing item at each place.
 
+ghost use Rattle.std.specs.Prelude.{◌<◌, All, IsTrue, length};
+ghost use Rattle.geom.specs.Limit.{AreInLimit};
 ghost use Rattle.lane_tests.specs.Probe.{IsProbe};
 
 use crate::{Boxes, Edges, Half, Probe, Segs, meet_boxes, meet_in, odd_above, sides};
@@ -412,5 +414,62 @@ fn parities_at_every_length(rt: HostRuntime) -> Result<(), Fail> {
             dy: -1,
         },
     )?;
+    Ok(())
+}
+
+fn all_in_limit(edges: &[Edge]) -> bool
+    ensures { IsTrue result → All (λ e. AreInLimit e.p e.q) edges.now }
+{
+    edges.iter().all(|e| e.p.is_in_limit() && e.q.is_in_limit())
+}
+
+fn all_in_range(numbers: &[u32], edges: &[Edge]) -> bool
+    ensures { IsTrue result → All (λ k. k < length edges.now) numbers.now }
+{
+    let count = edges.len();
+    numbers.iter().all(|number| (*number as usize) < count)
+}
+
+// The edges of these numbers.
+fn chosen(
+    rt: &impl Abort,
+    alloc: Global,
+    edges: &[Edge],
+    numbers: &[u32],
+) -> Result<Edges<Global>, Fail> {
+    assert!(rt; all_in_limit(edges));
+    assert!(rt; all_in_range(numbers, edges));
+    Ok(Edges::of(alloc, edges, numbers)?)
+}
+
+#[test]
+fn chosen_edges(rt: HostRuntime) -> Result<(), Fail> {
+    let list = [
+        (pt(0, 0), pt(4, 0)),
+        (pt(0, 0), pt(4, 4)),
+        (pt(4, 0), pt(4, 4)),
+        (pt(1, 5), pt(9, 5)),
+    ];
+    let edges = edges_of(&rt, rt.alloc(), list.as_slice())?;
+    let below = Probe {
+        x2: 3,
+        y2: -1,
+        dx: 0,
+        dy: 0,
+    };
+    let table = [
+        ([].as_slice(), false),
+        ([1].as_slice(), true),
+        ([2].as_slice(), false),
+        ([3, 1].as_slice(), false),
+        ([1, 1].as_slice(), false),
+        ([0, 1, 3].as_slice(), true),
+        ([3, 3, 2, 3].as_slice(), true),
+    ];
+    for (numbers, odd) in table {
+        let chosen = chosen(&rt, rt.alloc(), &edges, numbers)?;
+        assert_eq!(rt; chosen.len(), numbers.len());
+        assert_eq!(rt; odd_above(&chosen, below), odd);
+    }
     Ok(())
 }
