@@ -1,7 +1,7 @@
 -- Which points have tiles.
-use Rattle.std.proofs.Common.{◌≡◌, Option, Some, None, List, arith}
+use Rattle.std.proofs.Common.{Option, Some, None, List, arith}
 use Rattle.std.proofs.Math.IntN.{ℤ}
-use Rattle.std.specs.Prelude.{Contains, ◌≤ℤ◌}
+use Rattle.std.specs.Prelude.{◌≤ℤ◌}
 use Rattle.std.specs.Int.{int_min, int_max}
 use Rattle.std.proofs.lemmas.Int.{int_min_is, int_max_is}
 use Rattle.geom.specs.declared.point.Pt.{Pt}
@@ -10,7 +10,7 @@ use Rattle.geom.specs.declared.segment.Seg.{Seg}
 use Rattle.geom.specs.Box.{IsInBox, greatest_corner, least_corner}
 use Rattle.geom.proofs.Integers.{linear}
 use Rattle.geom.proofs.Meaning.{met_pixels_are_in_bounds}
-use Rattle.tiling.specs.Tiles.{Tiling, HasTile, CoversBounds}
+use Rattle.tiling.specs.Tiles.{Tiling, CoversBounds}
 use Rattle.chain_gather.specs.Gathered.{HaveTiles, BoundsHold}
 use Rattle.chain_gather.proofs.Gathering.{AreCovered}
 

@@ -1,13 +1,12 @@
 -- The neighbours in a list of records, and those in the segments' routes.
-use Rattle.std.proofs.Common.{◌≡◌, inl, inr, ℕ, zero, suc, ◌+◌, ◌<◌, ◌≤◌, List, [], ◌∷◌, ◌++◌, Bool, true, false, cond, refl, sym, ◌∙◌, ap, arith, subst, length, get_or, ◌↔◌, ⊎_elim, map, eqb}
+use Rattle.std.proofs.Common.{◌≡◌, inl, inr, ℕ, suc, ◌+◌, ◌<◌, ◌≤◌, List, [], ◌∷◌, ◌++◌, Bool, true, false, cond, refl, sym, ◌∙◌, ap, arith, subst, length, ◌↔◌, ⊎_elim, map, eqb}
 use Rattle.std.specs.Prelude.{AllPairs, Contains, Option, Some, filter, count_by, slice_get, ◌&&◌, ◌≢◌, not, if◌then◌else◌}
 use Rattle.std.proofs.lemmas.List.{get_or_default}
-use Rattle.std.proofs.lemmas.List.Elements.{Contains-get_or}
 use Rattle.std.proofs.lemmas.List.Kept.{AllPairs-filter}
 use Rattle.std.proofs.lemmas.List.Sums.{sum_by-append, sum_by-cons}
 use Rattle.std.proofs.lemmas.Bool.{eqb-true, eq-eqb}
 use Rattle.std.proofs.lemmas.Bool.Decides.{eqb_tells}
-use Rattle.std.proofs.lemmas.Option.{slice_get_within, get_or_from_slice_get, slice_get-get_or}
+use Rattle.std.proofs.lemmas.Option.{slice_get_within, get_or_from_slice_get}
 use Rattle.std.proofs.Math.ListN.{get_or-map}
 use Rattle.std.proofs.lemmas.List.{length-map}
 use Rattle.geom.specs.declared.point.Pt.{Pt}
@@ -20,7 +19,7 @@ use Rattle.geom.specs.Hot.{IsHot}
 use Rattle.geom.specs.Route.{Meets, IsEarlier, IsRoute, AreRoutes}
 use Rattle.geom.specs.Route.AreRoutes.{none, next}
 use Rattle.geom.specs.Rounded.{joins, route_steps, count}
-use Rattle.hot_pixel.proofs.ListLaws.{in_cons, from_cons, here, none_in, in_filter, in_map, head_pair, tail_pairs, pairs_map, filter_none, no_one}
+use Rattle.hot_pixel.proofs.ListLaws.{in_cons, here, in_filter, in_map, head_pair, tail_pairs, pairs_map, filter_none, no_one}
 use Rattle.routing.specs.declared.record.Record.{Record}
 use Rattle.routing.specs.Steps.{steps_to}
 use Rattle.routing.specs.Pieces.{IsRecord}

@@ -1,6 +1,6 @@
 -- The segments near a tile, from the bins, and as candidates.
-use Rattle.std.proofs.Common.{◌≡◌, ◌⊎◌, inl, inr, ℕ, zero, suc, ◌+◌, ◌<◌, ◌≤◌, List, [], ◌∷◌, ◌++◌, refl, sym, ◌∙◌, ap, arith, subst, length, get_or, map, ◌↔◌, ⊎_elim}
-use Rattle.std.specs.Prelude.{All, AllPairs, Contains, Option, Some, None, slice_get, ◌≤ℤ◌}
+use Rattle.std.proofs.Common.{◌≡◌, ℕ, zero, suc, ◌+◌, ◌<◌, List, [], ◌∷◌, refl, sym, ◌∙◌, ap, arith, subst, get_or, ◌↔◌, ⊎_elim}
+use Rattle.std.specs.Prelude.{AllPairs, Contains, Option, Some, None, slice_get, ◌≤ℤ◌}
 use Rattle.std.proofs.Math.IntN.{ℤ}
 use Rattle.std.proofs.lemmas.List.Elements.{Contains-get_or}
 use Rattle.std.proofs.lemmas.Option.{slice_get_within}
@@ -8,7 +8,6 @@ use Rattle.geom.specs.declared.point.Pt.{Pt}
 use Rattle.geom.specs.declared.rect.Rect.{Rect}
 use Rattle.geom.specs.declared.segment.Seg.{Seg}
 use Rattle.geom.specs.Box.{IsInBox, greatest_corner, least_corner}
-use Rattle.geom.specs.Route.{Meets}
 use Rattle.geom.proofs.Integers.{linear}
 use Rattle.geom.proofs.Meaning.{met_pixels_are_in_bounds}
 use Rattle.tiling.specs.Tiles.{Tiling, Owns}

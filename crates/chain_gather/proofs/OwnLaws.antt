@@ -1,5 +1,5 @@
 -- Which pieces were made from what their tiles have.
-use Rattle.std.proofs.Common.{◌≡◌, Bool, true, false, MatchBool, List, ℕ, refl, sym, ◌∙◌, ap, subst, ◌↔◌}
+use Rattle.std.proofs.Common.{◌≡◌, Bool, true, false, MatchBool, List, ℕ, refl, sym, ◌∙◌, subst, ◌↔◌}
 use Rattle.std.proofs.Math.Logic.{∥∥₁_map}
 use Rattle.std.specs.Prelude.{◌&&◌, IsTrue}
 use Rattle.geom.specs.declared.point.Pt.{Pt}

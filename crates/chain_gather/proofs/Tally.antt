@@ -10,12 +10,11 @@ use Rattle.std.proofs.lemmas.List.Quantifiers.{all_pairs_push}
 use Rattle.std.proofs.lemmas.List.Sums.{sum_by-cons, sum_by_push, count_by-le-length}
 use Rattle.std.proofs.lemmas.List.{length-take}
 use Rattle.std.proofs.lemmas.List.Sorted.{sum_by-IsPermutation, sorted_far, ranks_by}
-use Rattle.geom.specs.declared.point.Pt.{Pt}
 use Rattle.geom.specs.declared.segment.Source.{Source}
 use Rattle.geom.specs.declared.segment.Source.TheVariants.{A, B}
 use Rattle.geom.specs.declared.edge.Edge.{Edge}
 use Rattle.geom.specs.declared.edge.Counted.{Counted}
-use Rattle.geom.specs.Segments.{same_point, same_source}
+use Rattle.geom.specs.Segments.{same_source}
 use Rattle.geom.specs.Rounded.{IsEdgeBefore}
 use Rattle.geom.proofs.Points.{and_both, same_point_refl}
 use Rattle.hot_pixel.proofs.ListLaws.{in_cons, here, none_in, in_push, in_take_more, no_one, no_true}

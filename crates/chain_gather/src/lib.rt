@@ -9,3 +9,6 @@ mod tiles;
 
 pub use rounded::{Rounded, TileNumbers};
 pub use tiles::gather;
+
+#[cfg(test)]
+mod tests;

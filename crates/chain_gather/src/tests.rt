@@ -1,0 +1,210 @@
+//! Tests of gathering, with a book that holds nothing and one whose pieces were made from other segments.
+
+ghost use Rattle.std.specs.Prelude.{◌≡◌, ◌≤◌, All, Contains, IfOk, IfSome};
+ghost use Rattle.geom.specs.Box.{IsInBox};
+ghost use Rattle.geom.specs.Limit.{AreInLimit};
+ghost use Rattle.chain_gather.specs.Gathered.{AreBinsOf, AreBoxesOf};
+
+use super::*;
+use geom::{Counted, Edge, NoMemory, Pt, Rect, Seg, Source};
+use lane_tests::Boxes;
+use routing::{Piece, piece};
+use std::alloc::{Allocator, Global};
+use std::marker::Brand;
+use std::sync::Wait;
+use std::sync::ledger::Blank;
+use std::test::*;
+use tile_book::{Book, Desk, Limited, close};
+use tiling::{Bins, Grid};
+
+type Ends = ((i32, i32), (i32, i32));
+
+// A triangle, and a bow tie whose crossing lies on the corner of four tiles.
+const ROW: [Ends; 7] = [
+    ((0, 0), (1, 0)),
+    ((1, 0), (0, 1)),
+    ((0, 1), (0, 0)),
+    ((15, 15), (16, 16)),
+    ((16, 16), (15, 16)),
+    ((15, 16), (16, 15)),
+    ((16, 15), (15, 15)),
+];
+
+const BOW_TIE: [Ends; 4] = [
+    ((0, 0), (1, 1)),
+    ((1, 1), (0, 1)),
+    ((0, 1), (1, 0)),
+    ((1, 0), (0, 0)),
+];
+
+// The rounded edges of the row, with their counts in layer A.
+const EDGES: [(Ends, u32); 7] = [
+    (((0, 0), (0, 1)), 1),
+    (((0, 0), (1, 0)), 1),
+    (((0, 1), (1, 0)), 1),
+    (((15, 15), (16, 15)), 1),
+    (((15, 15), (16, 16)), 1),
+    (((15, 16), (16, 16)), 2),
+    (((16, 15), (16, 16)), 1),
+];
+
+// The hot pixels and the records of the row's tiles.
+const TILES: [(u32, u32); 4] = [(4, 8), (1, 2), (1, 2), (1, 3)];
+
+fn point(at: (i32, i32)) -> Pt {
+    Pt { x: at.0, y: at.1 }
+}
+
+fn segment_in(bounds: &Rect, ends: Ends) -> Option<Seg>
+    ensures { IfSome result (λ s. AreInLimit s.a s.b × IsInBox bounds.now.lo bounds.now.hi s.a × IsInBox bounds.now.lo bounds.now.hi s.b) }
+{
+    let (a, b) = (point(ends.0), point(ends.1));
+    if a.is_in_limit() && b.is_in_limit() && bounds.holds(a) && bounds.holds(b) {
+        Seg::new(a, b, Source::A)
+    } else {
+        None
+    }
+}
+
+fn segments_in<A: Allocator>(
+    alloc: A,
+    bounds: &Rect,
+    ends: &[Ends],
+) -> Result<Vec<Seg, A>, NoMemory>
+    ensures { IfOk result (λ v. All (λ s. AreInLimit s.a s.b × IsInBox bounds.now.lo bounds.now.hi s.a × IsInBox bounds.now.lo bounds.now.hi s.b) v.items) }
+{
+    let mut segments = Vec::new(alloc);
+    for pair in ends {
+        let Some(segment) = segment_in(bounds, *pair) else {
+            return Err(NoMemory);
+        };
+        segments.push(segment)?;
+    }
+    Ok(segments)
+}
+
+fn boxes_of<A: Allocator + Copy>(alloc: A, segments: &[Seg]) -> Result<Boxes<A>, NoMemory>
+    ensures { IfOk result (λ boxes. AreBoxesOf segments.now boxes) }
+{
+    let mut boxes = Boxes::new(alloc);
+    for segment in segments {
+        boxes.push(segment.bounds())?;
+    }
+    Ok(boxes)
+}
+
+fn bins_of<A: Allocator + Copy>(
+    alloc: A,
+    grid: &Grid,
+    segments: &[Seg],
+) -> Result<Bins<A>, NoMemory>
+    ensures { IfOk result (λ bins. AreBinsOf grid.now segments.now bins) }
+{
+    let boxes = boxes_of(alloc, segments)?;
+    Bins::build(alloc, grid, &boxes)
+}
+
+// A book of the pieces of the first tiles, made from these segments.
+fn book_of<L: Limited>(
+    rt: &impl Wait,
+    alloc: Global,
+    blank: Blank,
+    grid: &Grid,
+    posted: u32,
+    segments: &[Seg],
+) -> Result<Book<Piece<Global>, L, Global>, NoMemory>
+    requires name { blank.name ≡ L.name }
+    requires parts { (blank.parts ≡ L.parts) × (blank.parts ≡ 1) }
+    requires limit { L.limit ≡ 4 }
+    requires segments { All (λ s. AreInLimit s.a s.b) segments.now }
+{
+    let bins = bins_of(alloc, grid, segments)?;
+    let (desk, mut shares) = Desk::new(alloc, blank, 4, 1)?;
+    let Some(mut share) = shares.pop() else {
+        return Err(NoMemory);
+    };
+    let mut numbers = Vec::new(alloc);
+    for tile in 0..posted.min(grid.tiles()) {
+        bins.bin(tile, &mut numbers)?;
+        let made = piece(alloc, grid, tile, segments, &numbers)?;
+        let (same, _answer) = desk.post(rt, share, made);
+        share = same;
+    }
+    shares.push(share)?;
+    close(desk, shares).map_err(|_| NoMemory)
+}
+
+// The row gathered over tiles of side 16, with a book of the first tiles' pieces, made from other segments.
+fn gathered<L: Limited>(
+    rt: &impl Wait,
+    alloc: Global,
+    blank: Blank,
+    posted: u32,
+    others: &[Ends],
+) -> Result<Rounded<Global>, NoMemory>
+    requires name { blank.name ≡ L.name }
+    requires parts { (blank.parts ≡ L.parts) × (blank.parts ≡ 1) }
+    requires limit { L.limit ≡ 4 }
+{
+    let bounds = Rect::spanned_by(point((0, 0)), point((16, 16)));
+    if !bounds.lo.is_in_limit() || !bounds.hi.is_in_limit() {
+        return Err(NoMemory);
+    }
+    let Ok(grid) = Grid::new(Some(bounds), 16) else {
+        return Err(NoMemory);
+    };
+    let segments = segments_in(alloc, &bounds, &ROW)?;
+    let bins = bins_of(alloc, &grid, &segments)?;
+    let strange = segments_in(alloc, &bounds, others)?;
+    let book = book_of::<L>(rt, alloc, blank, &grid, posted, &strange)?;
+    gather(alloc, book, &grid, &bins, &segments)
+}
+
+fn is_edge(counted: &Counted, expected: &(Ends, u32)) -> bool {
+    let ((p, q), in_a) = *expected;
+    counted.edge.p == point(p)
+        && counted.edge.q == point(q)
+        && counted.in_a == in_a
+        && counted.in_b == 0
+}
+
+fn is_row(rounded: &Rounded<Global>) -> bool {
+    rounded.edges.len() == EDGES.len()
+        && rounded.tiles.len() == TILES.len()
+        && rounded
+            .edges
+            .iter()
+            .zip(&EDGES)
+            .all(|(counted, expected)| is_edge(counted, expected))
+        && rounded
+            .tiles
+            .iter()
+            .zip(&TILES)
+            .all(|(tile, expected)| (tile.hot, tile.records) == *expected)
+}
+
+#[test]
+fn an_empty_book(rt: HostRuntime) -> Result<(), Fail> {
+    let rounded = gathered::<Brand>(&rt, rt.alloc(), Blank::new(1), 0, &ROW)?;
+    assert!(rt; is_row(&rounded));
+    assert_eq!(rt; rounded.remade, 4);
+    Ok(())
+}
+
+#[test]
+fn a_book_of_other_segments(rt: HostRuntime) -> Result<(), Fail> {
+    let rounded = gathered::<Brand>(&rt, rt.alloc(), Blank::new(1), 4, &BOW_TIE)?;
+    assert!(rt; is_row(&rounded));
+    assert_eq!(rt; rounded.remade, 4);
+    Ok(())
+}
+
+#[test]
+fn a_book_of_the_same_segments(rt: HostRuntime) -> Result<(), Fail> {
+    for posted in 0..5 {
+        let rounded = gathered::<Brand>(&rt, rt.alloc(), Blank::new(1), posted, &ROW)?;
+        assert!(rt; is_row(&rounded));
+        assert_eq!(rt; rounded.remade, 4 - posted);
+    }
+    Ok(())
+}
