@@ -1,3 +1,6 @@
 pub mod Doubling
 pub mod Orders
 pub mod Listing
+pub mod Chosen
+pub mod Sides
+pub mod Striping

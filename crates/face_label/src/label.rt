@@ -4,9 +4,11 @@ ghost use Rattle.std.specs.Prelude.{◌≡◌, ◌++◌, All, IfOk, OnOk, length
 ghost use Rattle.geom.specs.Limit.{AreInLimit};
 ghost use Rattle.geom.specs.Directed.{AreResultEdges};
 ghost use Rattle.face_label.specs.Label.{both_ways, ways, ways_of};
+ghost use Rattle.face_label.specs.Strip.{IsSpanned, layers_at};
 
 use crate::directed::Directed;
-use crate::odd::{OddEdges, directions};
+use crate::odd::directions;
+use crate::strip::StripSet;
 use geom::{Counted, DirectedEdge, Edge, NoMemory, Op};
 use rayon::prelude::*;
 use std::alloc::{AllocError, Allocator};
@@ -15,16 +17,17 @@ use std::thread::Threads;
 /// The directions of all edges, one after another.
 fn in_turn<A: Allocator + Copy>(
     alloc: A,
-    odd: &OddEdges<A>,
+    strips: &StripSet<A>,
     counted: &[Counted],
     op: Op,
 ) -> Result<Vec<(bool, bool), A>, AllocError>
-    requires { All (λ c. AreInLimit c.edge.p c.edge.q) counted.now }
-    ensures { IfOk result (λ all. all.items ≡ map (λ c. both_ways op odd.now c.edge) counted.now) }
+    requires in_limit { All (λ c. AreInLimit c.edge.p c.edge.q) counted.now }
+    requires spanned { All (λ c. IsSpanned strips.now.a c.edge × IsSpanned strips.now.b c.edge) counted.now }
+    ensures { IfOk result (λ all. all.items ≡ map (λ c. both_ways op (layers_at strips.now.a strips.now.b c.edge) c.edge) counted.now) }
 {
     counted
         .iter()
-        .map(|one| directions(odd, one.edge, op))
+        .map(|one| directions(strips, one.edge, op))
         .collect(alloc)
 }
 
@@ -32,25 +35,27 @@ fn in_turn<A: Allocator + Copy>(
 fn labelled<A: Allocator + Copy + Sync + Send, R: Threads + Sync>(
     rt: &R,
     alloc: A,
-    odd: &OddEdges<A>,
+    strips: &StripSet<A>,
     counted: &[Counted],
     op: Op,
 ) -> Result<Vec<(bool, bool), A>, AllocError>
-    requires { All (λ c. AreInLimit c.edge.p c.edge.q) counted.now }
-    ensures { IfOk result (λ all. all.items ≡ map (λ c. both_ways op odd.now c.edge) counted.now) }
+    requires in_limit { All (λ c. AreInLimit c.edge.p c.edge.q) counted.now }
+    requires spanned { All (λ c. IsSpanned strips.now.a c.edge × IsSpanned strips.now.b c.edge) counted.now }
+    ensures { IfOk result (λ all. all.items ≡ map (λ c. both_ways op (layers_at strips.now.a strips.now.b c.edge) c.edge) counted.now) }
 {
     let made: Result<Vec<(bool, bool), A>, AllocError> = counted
         .par_iter()
         .map(
             |one: &Counted| -> (bool, bool)
-                requires { AreInLimit one.now.edge.p one.now.edge.q }
-                ensures { result ≡ both_ways op odd.entry.now one.now.edge }
-            { directions(odd, one.edge, op) },
+                requires in_limit { AreInLimit one.now.edge.p one.now.edge.q }
+                requires spanned { IsSpanned strips.now.a one.now.edge × IsSpanned strips.now.b one.now.edge }
+                ensures { result ≡ both_ways op (layers_at strips.entry.now.a strips.entry.now.b one.now.edge) one.now.edge }
+            { directions(strips, one.edge, op) },
         )
         .collect(rt, alloc);
     match made {
         Ok(all) => Ok(all),
-        Err(_) => in_turn(alloc, odd, counted, op),
+        Err(_) => in_turn(alloc, strips, counted, op),
     }
 }
 
@@ -103,8 +108,8 @@ pub fn labels<A: Allocator + Copy + Sync + Send, R: Threads + Sync>(
     requires { All (λ c. AreInLimit c.edge.p c.edge.q) counted.now }
     ensures { IfOk result (λ directed. AreResultEdges op counted.now directed) }
 {
-    let odd = OddEdges::of(alloc, counted)?;
-    let labels = labelled(rt, alloc, &odd, counted, op)?;
+    let strips = StripSet::build(alloc, counted)?;
+    let labels = labelled(rt, alloc, &strips, counted, op)?;
     let mut edges = directed_edges(alloc, counted, &labels)?;
     edges.sort_unstable();
     // an edge is listed once, so this leaves the list as it is where the rounded edges differ

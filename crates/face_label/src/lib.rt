@@ -4,7 +4,11 @@
 mod directed;
 mod label;
 mod odd;
+mod strip;
+#[cfg(test)]
+mod tests;
 
 pub use directed::Directed;
 pub use label::labels;
-pub use odd::{OddEdges, directions};
+pub use odd::directions;
+pub use strip::StripSet;

@@ -1,31 +1,18 @@
-//! The edges of odd count of each layer, and the directions in which an edge bounds the result.
+//! The edges of odd count of a layer, and the directions in which an edge bounds the result.
 
-ghost use Rattle.std.specs.Prelude.{◌≡◌, ◌&&◌, ◌++◌, ◌∷◌, [], All, IfOk, OnOk, if◌then◌else◌, not};
+ghost use Rattle.std.specs.Prelude.{◌≡◌, ◌&&◌, ◌++◌, ◌∷◌, [], IfOk, OnOk, if◌then◌else◌, not};
 ghost use Rattle.geom.specs.Limit.{AreInLimit};
 ghost use Rattle.geom.specs.ResultEdges.{left_side};
 ghost use Rattle.geom.specs.Rounded.{odd_edges};
-ghost use Rattle.geom.specs.declared.segment.Source.TheVariants as source;
 ghost use Rattle.lane_tests.specs.Probe.{IsProbe, point_of};
-ghost use Rattle.face_label.specs.Label.{OddLayers, both_ways, counts_odd, holds_in};
+ghost use Rattle.face_label.specs.Label.{both_ways, counts_odd, holds_in};
+ghost use Rattle.face_label.specs.Strip.{IsSpanned, layers_at};
 ghost use Rattle.face_label.specs.Double.{IsDouble};
 
+use crate::strip::StripSet;
 use geom::{Counted, Edge, NoMemory, Op, Pt, Source};
 use lane_tests::{Edges, Probe, odd_above};
 use std::alloc::Allocator;
-use std::marker::Model;
-
-/// The edges of odd count of the two layers.
-#[derive(Drop)]
-pub struct OddEdges<A: Allocator> {
-    a: Edges<A>,
-    b: Edges<A>,
-}
-
-impl<A: Allocator> Model for OddEdges<A> {
-    ghost Value = { OddLayers };
-
-    ghost view = { λ o. record { a = o.a; b = o.b } };
-}
 
 /// Whether an edge has an odd count in a layer.
 fn is_odd_in(counted: &Counted, layer: Source) -> bool
@@ -38,9 +25,12 @@ fn is_odd_in(counted: &Counted, layer: Source) -> bool
 }
 
 /// Adds an edge if its count in the layer is odd.
-fn add_odd<A: Allocator>(odd: &mut Edges<A>, one: Counted, layer: Source) -> Result<(), NoMemory>
-    requires { AreInLimit one.edge.p one.edge.q }
-    ensures { OnOk result (odd.new ≡ odd.old ++ (if counts_odd layer one then one.edge ∷ [] else [])) }
+fn add_odd<A: Allocator>(
+    odd: &mut Vec<Edge, A>,
+    one: Counted,
+    layer: Source,
+) -> Result<(), NoMemory>
+    ensures { OnOk result (odd.new.items ≡ odd.old.items ++ (if counts_odd layer one then one.edge ∷ [] else [])) }
 {
     if is_odd_in(&one, layer) {
         odd.push(one.edge)?;
@@ -49,32 +39,18 @@ fn add_odd<A: Allocator>(odd: &mut Edges<A>, one: Counted, layer: Source) -> Res
 }
 
 /// The edges of odd count of one layer.
-fn odd_in<A: Allocator + Copy>(
+pub fn odd_in<A: Allocator + Copy>(
     alloc: A,
     counted: &[Counted],
     layer: Source,
-) -> Result<Edges<A>, NoMemory>
-    requires { All (λ c. AreInLimit c.edge.p c.edge.q) counted.now }
-    ensures { IfOk result (λ odd. odd ≡ odd_edges layer counted.now) }
+) -> Result<Vec<Edge, A>, NoMemory>
+    ensures { IfOk result (λ odd. odd.items ≡ odd_edges layer counted.now) }
 {
-    let mut odd = Edges::new(alloc);
+    let mut odd = Vec::new(alloc);
     for one in counted {
         add_odd(&mut odd, *one, layer)?;
     }
     Ok(odd)
-}
-
-impl<A: Allocator + Copy> OddEdges<A> {
-    /// Those of rounded edges.
-    pub fn of(alloc: A, counted: &[Counted]) -> Result<OddEdges<A>, NoMemory>
-        requires { All (λ c. AreInLimit c.edge.p c.edge.q) counted.now }
-        ensures { IfOk result (λ odd. odd ≡ record { a = odd_edges source.A counted.now; b = odd_edges source.B counted.now }) }
-    {
-        Ok(OddEdges {
-            a: odd_in(alloc, counted, Source::A)?,
-            b: odd_in(alloc, counted, Source::B)?,
-        })
-    }
 }
 
 /// The side point on the left of the edge directed from u to v.
@@ -91,12 +67,12 @@ fn left_probe(u: Pt, v: Pt) -> Probe
     }
 }
 
-/// Whether a point lies in the result.
-fn holds_at<A: Allocator>(odd: &OddEdges<A>, probe: Probe, op: Op) -> bool
+/// Whether a point lies in the result, by the edges of odd count of both layers.
+fn holds_at<A: Allocator>(a: &Edges<A>, b: &Edges<A>, probe: Probe, op: Op) -> bool
     requires { IsProbe probe }
-    ensures { result ≡ holds_in op odd.now (point_of probe) }
+    ensures { result ≡ holds_in op (record { a = a.now; b = b.now }) (point_of probe) }
 {
-    op.holds(odd_above(&odd.a, probe), odd_above(&odd.b, probe))
+    op.holds(odd_above(a, probe), odd_above(b, probe))
 }
 
 /// Whether the first holds and the second doesn't.
@@ -107,12 +83,15 @@ fn only(first: bool, second: bool) -> bool
 }
 
 /// Whether an edge bounds the result as directed from p to q, and whether as directed from q to p: the result lies on its
-/// left and not on its right.
-pub fn directions<A: Allocator>(odd: &OddEdges<A>, edge: Edge, op: Op) -> (bool, bool)
-    requires { AreInLimit edge.p edge.q }
-    ensures { result ≡ both_ways op odd.now edge }
+/// left and not on its right. Asked over the edges of odd count in the strip of the edge's midpoint.
+pub fn directions<A: Allocator>(strips: &StripSet<A>, edge: Edge, op: Op) -> (bool, bool)
+    requires in_limit { AreInLimit edge.p edge.q }
+    requires spanned { IsSpanned strips.now.a edge × IsSpanned strips.now.b edge }
+    ensures { result ≡ both_ways op (layers_at strips.now.a strips.now.b edge) edge }
 {
-    let left = holds_at(odd, left_probe(edge.p, edge.q), op);
-    let right = holds_at(odd, left_probe(edge.q, edge.p), op);
+    let a = strips.a.over(edge);
+    let b = strips.b.over(edge);
+    let left = holds_at(a, b, left_probe(edge.p, edge.q), op);
+    let right = holds_at(a, b, left_probe(edge.q, edge.p), op);
     (only(left, right), only(right, left))
 }

@@ -22,3 +22,5 @@ pub mod Writing
 pub mod Grouping
 pub mod Gaps
 pub mod Least
+pub mod Deciding
+pub mod Striping

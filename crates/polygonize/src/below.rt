@@ -1,9 +1,16 @@
 //! The nearest edge below a point.
 
-ghost use Rattle.std.specs.Prelude.{◌≡◌, ◌⊎◌, ◌<◌, All, IfSome, length};
-ghost use Rattle.geom.specs.Limit.{AreInLimit, InLimit};
+ghost use Rattle.std.specs.Prelude.{◌≡◌, ◌⊎◌, ◌<◌, ◌≤ℤ◌, All, IfOk, IfSome, List, OnOk, length};
+ghost use Rattle.geom.specs.Limit.{AreInLimit, InLimit, IsWithin, coordinate_limit};
+ghost use Rattle.geom.specs.declared.rect.Rect.{Rect};
+ghost use Rattle.tiling.specs.Index.{AreIndexed};
+ghost use Rattle.tiling.specs.Strips.{IsFill, strip_count};
+ghost use Rattle.polygonize.specs.Below.{AreColumns, AreStrips};
 
-use geom::{DirectedEdge, Edge, Pt};
+use geom::{DirectedEdge, Edge, NoMemory, Pt, Rect};
+use lane_tests::Boxes;
+use std::alloc::Allocator;
+use tiling::Strips;
 
 /// The gap between an edge and a point just left of a vertex above it: (side + rise / 2^64) / run grid units.
 #[derive(Clone, Copy)]
@@ -58,15 +65,138 @@ fn nearer(best: Option<Gap>, found: Option<Gap>) -> Option<Gap>
     }
 }
 
-/// The number of the nearest edge below the point just left of v.
-pub fn nearest_below(edges: &[DirectedEdge], v: Pt) -> Option<usize>
+/// The number of the nearest edge below the point just left of v, among those of the given numbers.
+fn nearest_among(edges: &[DirectedEdge], numbers: &[u32], v: Pt) -> Option<usize>
     requires edges_in { All (λ d. AreInLimit d.from d.to) edges.now }
     requires v_in { InLimit v }
+    requires inside { All (λ k. k < length edges.now) numbers.now }
     ensures { IfSome result (λ i. i < length edges.now) }
 {
     let mut best = None;
-    for i in 0..edges.len() {
+    for number in numbers {
+        let i = *number as usize;
         best = nearer(best, gap_below(edges[i], i, v));
     }
     Some(best?.number)
+}
+
+/// Directed edges by vertical strips, and the numbers of those that have a whole x in the strip that was asked for last.
+#[derive(Drop)]
+pub struct EdgeStrips<A: Allocator> {
+    pub strips: Strips<A>,
+    pub filled: Option<u32>,
+    pub numbers: Vec<u32, A>,
+}
+
+/// The box of each edge.
+fn boxes_of<A: Allocator + Copy>(alloc: A, edges: &[DirectedEdge]) -> Result<Boxes<A>, NoMemory>
+    ensures { IfOk result (λ boxes. length boxes ≡ length edges.now) }
+{
+    let mut boxes = Boxes::new(alloc);
+    for edge in edges {
+        boxes.push(Rect::spanned_by(edge.from, edge.to))?;
+    }
+    Ok(boxes)
+}
+
+fn least(a: i32, b: i32) -> i32
+    ensures first { result ≤ℤ a }
+    ensures second { result ≤ℤ b }
+    ensures one { (result ≡ a) ⊎ (result ≡ b) }
+{
+    if b < a { b } else { a }
+}
+
+fn greatest(a: i32, b: i32) -> i32
+    ensures first { a ≤ℤ result }
+    ensures second { b ≤ℤ result }
+    ensures one { (result ≡ a) ⊎ (result ≡ b) }
+{
+    if a < b { b } else { a }
+}
+
+/// The least and the greatest x of starts, of which this is one.
+fn columns_from(first: Pt, edges: &[DirectedEdge]) -> (i32, i32)
+    requires first_in { InLimit first }
+    requires edges_in { All (λ d. AreInLimit d.from d.to) edges.now }
+    ensures { AreColumns edges.now result.0 result.1 }
+{
+    let mut low = first.x;
+    let mut high = first.x;
+    for edge in edges {
+        low = least(low, edge.from.x);
+        high = greatest(high, edge.from.x);
+    }
+    (low, high)
+}
+
+/// The least and the greatest x of starts, both 0 where there are none.
+fn columns(edges: &[DirectedEdge]) -> (i32, i32)
+    requires { All (λ d. AreInLimit d.from d.to) edges.now }
+    ensures { AreColumns edges.now result.0 result.1 }
+{
+    if edges.is_empty() {
+        (0, 0)
+    } else {
+        columns_from(edges[0].from, edges)
+    }
+}
+
+/// The least width that gives at most 256 strips.
+fn strip_width(low: i32, high: i32) -> u32
+    requires order { low ≤ℤ high }
+    requires low_in { IsWithin coordinate_limit low }
+    requires high_in { IsWithin coordinate_limit high }
+    ensures { 0 < result }
+{
+    (high - low) as u32 / 256 + 1
+}
+
+impl<A: Allocator + Copy> EdgeStrips<A> {
+    /// Those of the edges, no strip being filled.
+    pub fn build(alloc: A, edges: &[DirectedEdge]) -> Result<EdgeStrips<A>, NoMemory>
+        requires { All (λ d. AreInLimit d.from d.to) edges.now }
+        ensures { IfOk result (λ s. AreStrips edges.now s.strips s.numbers.items) }
+    {
+        let (low, high) = columns(edges);
+        let boxes = boxes_of(alloc, edges)?;
+        Ok(EdgeStrips {
+            strips: Strips::build(alloc, low, high, strip_width(low, high), &boxes)?,
+            filled: None,
+            numbers: Vec::new(alloc),
+        })
+    }
+
+    /// Fills the numbers of a strip, unless they are there already.
+    fn fill(&mut self, strip: u32) -> Result<(), NoMemory>
+        requires { strip < strip_count self.old.strips }
+        ensures strips { self.new.strips ≡ self.old.strips }
+        ensures numbers { OnOk result ((self.new.numbers.items ≡ self.old.numbers.items) ⊎ ((boxes : List Rect) → AreIndexed boxes self.old.strips.items → IsFill self.old.strips strip boxes self.new.numbers.items)) }
+    {
+        if self.filled != Some(strip) {
+            self.filled = None;
+            self.strips.fill(strip, &mut self.numbers)?;
+            self.filled = Some(strip);
+        }
+        Ok(())
+    }
+
+    /// The number of the nearest edge below the point just left of a vertex.
+    pub fn nearest_below(
+        &mut self,
+        edges: &[DirectedEdge],
+        v: Pt,
+    ) -> Result<Option<usize>, NoMemory>
+        requires edges_in { All (λ d. AreInLimit d.from d.to) edges.now }
+        requires v_in { InLimit v }
+        requires left { self.old.strips.low ≤ℤ v.x }
+        requires right { v.x ≤ℤ self.old.strips.high }
+        requires strips { AreStrips edges.now self.old.strips self.old.numbers.items }
+        ensures strips { OnOk result (AreStrips edges.now self.new.strips self.new.numbers.items) }
+        ensures inside { IfOk result (λ found. IfSome found (λ i. i < length edges.now)) }
+    {
+        let strip = self.strips.strip_of(v.x + v.x);
+        self.fill(strip)?;
+        Ok(nearest_among(edges, &self.numbers, v))
+    }
 }

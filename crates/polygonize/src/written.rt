@@ -3,12 +3,13 @@
 ghost use Rattle.std.specs.Prelude.{◌≡◌, ◌<◌, ◌≤◌, [], All, IfOk, OnOk, length, map};
 ghost use Rattle.geom.specs.Limit.{AreInLimit};
 ghost use Rattle.geom.specs.Rings.{AreRings, Closes};
+ghost use Rattle.polygonize.specs.Below.{AreStrips};
 ghost use Rattle.polygonize.specs.Number.{AreNumbers, IsVertex};
 ghost use Rattle.polygonize.specs.Next.{ring_of};
 ghost use Rattle.polygonize.specs.Stack.{AreStacked};
 ghost use Rattle.polygonize.specs.Written.{AreAdded, ArePlaces, HaveEdges, IsCanonical, IsRingWritten, IsSound};
 
-use crate::below::nearest_below;
+use crate::below::EdgeStrips;
 use crate::cut::cut;
 use crate::hole::is_hole;
 use crate::number::{start_numbers, vertices_of};
@@ -81,17 +82,25 @@ fn write_pieces<A: Allocator + Copy>(
 }
 
 /// The shell of the ring's polygon, where the ring is a hole and the ring of the edge below it was written.
-fn owner_of(edges: &[DirectedEdge], ring: &[usize], shell_of: &[Option<Opening>]) -> Option<Opening>
+fn owner_of<A: Allocator + Copy>(
+    edges: &[DirectedEdge],
+    strips: &mut EdgeStrips<A>,
+    ring: &[usize],
+    shell_of: &[Option<Opening>],
+) -> Result<Option<Opening>, NoMemory>
     requires edges_in { All (λ d. AreInLimit d.from d.to) edges.now }
     requires some { 0 < length ring.now }
     requires inside { All (λ k. k < length edges.now) ring.now }
     requires same_length { length shell_of.now ≡ length edges.now }
+    requires strips { AreStrips edges.now strips.old.strips strips.old.numbers.items }
+    ensures { OnOk result (AreStrips edges.now strips.new.strips strips.new.numbers.items) }
 {
-    if is_hole(edges, ring) {
-        let below = nearest_below(edges, edges[ring[0]].from)?;
-        shell_of[below]
-    } else {
-        None
+    if !is_hole(edges, ring) {
+        return Ok(None);
+    }
+    match strips.nearest_below(edges, edges[ring[0]].from)? {
+        Some(below) => Ok(shell_of[below]),
+        None => Ok(None),
     }
 }
 
@@ -110,6 +119,7 @@ fn write_ring<A: Allocator + Copy>(
     edges: &[DirectedEdge],
     numbers: &[usize],
     cycle: &[usize],
+    strips: &mut EdgeStrips<A>,
     places: &mut [Option<usize>],
     shell_of: &mut [Option<Opening>],
     written: &mut Vec<Written<A>, A>,
@@ -120,11 +130,13 @@ fn write_ring<A: Allocator + Copy>(
     requires places { length places.old ≡ length edges.now }
     requires shells { length shell_of.old ≡ length edges.now }
     requires clear { AreStacked [] places.old }
+    requires strips { AreStrips edges.now strips.old.strips strips.old.numbers.items }
+    ensures strips { OnOk result (AreStrips edges.now strips.new.strips strips.new.numbers.items) }
     ensures written { OnOk result (IsRingWritten edges.now cycle.now (map (λ w. w.ring.items) written.old.items) (map (λ w. w.ring.items) written.new.items)) }
     ensures clear { OnOk result (AreStacked [] places.new) }
 {
     let ring = vertices_of(alloc, numbers, cycle)?;
-    let owner = owner_of(edges, &ring, shell_of);
+    let owner = owner_of(edges, strips, &ring, shell_of)?;
     let pieces = cut(alloc, &ring, places)?;
     let shell = write_pieces(edges, ring[0], pieces, owner, written)?;
     keep_shell(shell_of, cycle, shell);
@@ -137,6 +149,7 @@ fn write_cycles<A: Allocator + Copy>(
     edges: &[DirectedEdge],
     numbers: &[usize],
     cycles: &[Vec<usize, A>],
+    strips: &mut EdgeStrips<A>,
     places: &mut [Option<usize>],
     shell_of: &mut [Option<Opening>],
 ) -> Result<Vec<Written<A>, A>, NoMemory>
@@ -147,12 +160,22 @@ fn write_cycles<A: Allocator + Copy>(
     requires places { length places.old ≡ length edges.now }
     requires shells { length shell_of.old ≡ length edges.now }
     requires clear { AreStacked [] places.old }
+    requires strips { AreStrips edges.now strips.old.strips strips.old.numbers.items }
     ensures edges { IfOk result (λ written. HaveEdges edges.now (map (λ w. w.ring.items) written.items)) }
     ensures sound { IfOk result (λ written. All (IsCanonical edges.now) (map (λ w. w.ring.items) written.items)) }
 {
     let mut written = Vec::new(alloc);
     for cycle in cycles {
-        write_ring(alloc, edges, numbers, cycle, places, shell_of, &mut written)?;
+        write_ring(
+            alloc,
+            edges,
+            numbers,
+            cycle,
+            strips,
+            places,
+            shell_of,
+            &mut written,
+        )?;
     }
     Ok(written)
 }
@@ -169,7 +192,16 @@ pub fn written_rings<A: Allocator + Copy>(
 {
     let numbers = start_numbers(alloc, edges)?;
     let cycles = ring_places(alloc, edges)?;
+    let mut strips = EdgeStrips::build(alloc, edges)?;
     let mut places = vec![in alloc; None; edges.len()]?;
     let mut shell_of = vec![in alloc; None; edges.len()]?;
-    write_cycles(alloc, edges, &numbers, &cycles, &mut places, &mut shell_of)
+    write_cycles(
+        alloc,
+        edges,
+        &numbers,
+        &cycles,
+        &mut strips,
+        &mut places,
+        &mut shell_of,
+    )
 }

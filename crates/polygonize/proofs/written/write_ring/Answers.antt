@@ -3,8 +3,8 @@ use Rattle.polygonize.proofs.Writing.{cut_some, mapped_some, ring_sound, ring_so
 use Rattle.polygonize.specs.Written.{IsSound}
 use Rattle.polygonize.proofs.written.write_ring.Goals as goal
 
-pub owner_of-owner-requires-clause-inside : goal.owner_of-owner-requires-clause-inside
-owner_of-owner-requires-clause-inside g c = rw c.deref.ensures.value (vertices_inside c.args.edges.now c.in_ok-ring.ring.items _ refl (ring_vertices c.args.edges.now c.args.numbers.now c.args.cycle.now c.in_ok-ring.ring.items c.requires.numbers c.requires.cycle c.in_ok-ring.ensures))
+pub owner_of-requires-clause-inside : goal.owner_of-requires-clause-inside
+owner_of-requires-clause-inside g c = rw c.deref.ensures.value (vertices_inside c.args.edges.now c.in_ok-ring.ring.items _ refl (ring_vertices c.args.edges.now c.args.numbers.now c.args.cycle.now c.in_ok-ring.ring.items c.requires.numbers c.requires.cycle c.in_ok-ring.ensures))
 
 pub cut-requires-clause-inside : goal.cut-requires-clause-inside
 cut-requires-clause-inside g c = rw c.deref-2.ensures.value (vertices_inside c.args.edges.now c.in_ok-ring.ring.items _ c.requires.places (ring_vertices c.args.edges.now c.args.numbers.now c.args.cycle.now c.in_ok-ring.ring.items c.requires.numbers c.requires.cycle c.in_ok-ring.ensures))

@@ -1,0 +1,158 @@
+-- How the edges of the strips are found.
+use Rattle.std.proofs.Common.{◌≡◌, ◌⊎◌, ℕ, suc, ◌+◌, ◌<◌, ◌≤◌, Bool, true, false, cond, List, [], ◌∷◌, ◌++◌, length, get_or, map, take, Option, Some, None, refl, sym, ◌∙◌, ap, subst, inl, inr, arith, length-append, ℤ, pos, ◌+ℤ◌, ◌*ℤ◌, w32, to_z, of_z, to_z-of_z, FitsSigned}
+use Rattle.std.specs.Prelude.{◌≤ℤ◌, ◌<ℤ◌, All, AllPairs, Contains, slice_get, nat_abs, int_lt, filter}
+use Rattle.std.specs.Option.{option_map}
+use Rattle.std.specs.Int.{int_min, int_max, int_div_euclid}
+use Rattle.std.proofs.lemmas.Int.{ints}
+use Rattle.std.proofs.lemmas.Bool.{cases_lt}
+use Rattle.std.proofs.lemmas.List.{get_or_default, length-map}
+use Rattle.std.proofs.lemmas.List.Elements.{All-more, All-weaker, All-filter, All-map}
+use Rattle.std.proofs.lemmas.Option.{slice_get-map, slice_get_within}
+use Rattle.std.proofs.Math.ListN.{get_or-append}
+use Rattle.std.proofs.Math.Seq.{get_or-append_seam}
+use Rattle.geom.specs.declared.edge.Edge.{Edge}
+use Rattle.geom.specs.declared.edge.Counted.{Counted}
+use Rattle.geom.specs.declared.rect.Rect.{Rect}
+use Rattle.geom.specs.declared.segment.Source.{Source}
+use Rattle.geom.specs.declared.segment.Source.TheVariants.{A, B}
+use Rattle.geom.specs.Limit.{AreInLimit, IsWithin, coordinate_limit}
+use Rattle.geom.specs.Rounded.{is_odd, odd_edges}
+use Rattle.geom.proofs.Integers.{expand, linear}
+use Rattle.lane_tests.specs.Columns.{corners}
+use Rattle.tiling.specs.Index.{Item}
+use Rattle.tiling.specs.Strips.{IsFill, IsInStrip, MeetsStrip, Striped}
+use Rattle.face_label.specs.Strip.{AreBoxesOf, AreColumnsOf, AreInStrip, AreStriped, IsIndexOf, IsSpanned, StripedLayer, edge_corners}
+
+-- ---- columns
+pub back : (x : ℤ) → IsWithin coordinate_limit x → to_z w32 (of_z w32 x) ≡ x
+back x h = let a : FitsSigned w32 x = omega (arith, ints) in simp to_z-of_z
+
+pub columns_are : (cs : List Counted) (low high l h : ℤ) → l ≡ low → h ≡ high → AreColumnsOf cs low high → AreColumnsOf cs l h
+columns_are cs low high l h e f o = let P : ℤ → Type 0 = λ t. AreColumnsOf cs t h in let Q : ℤ → Type 0 = λ t. AreColumnsOf cs low t in subst P (sym e) (subst Q (sym f) o)
+
+pub first_columns : (first : Edge) → AreInLimit first.p first.q → AreColumnsOf [] (to_z w32 (of_z w32 first.p.x)) (to_z w32 (of_z w32 first.q.x))
+first_columns first h = columns_are [] first.p.x first.q.x _ _ (back first.p.x h.a_in.x_in) (back first.q.x h.b_in.x_in) (record { order = first.ordered.column; low_in = h.a_in.x_in; high_in = h.b_in.x_in; spans = λ k d l. absurd (omega arith) })
+
+one_within : (r a b : ℤ) → (r ≡ a) ⊎ (r ≡ b) → IsWithin coordinate_limit a → IsWithin coordinate_limit b → IsWithin coordinate_limit r
+one_within r a b (inl e) h k = let P : ℤ → Type 0 = IsWithin coordinate_limit in subst P (sym e) h
+one_within r a b (inr e) h k = let P : ℤ → Type 0 = IsWithin coordinate_limit in subst P (sym e) k
+
+le_through : (a b c : ℤ) → a ≤ℤ b → b ≤ℤ c → a ≤ℤ c
+le_through a b c h k = omega (arith, linear)
+
+pub more_columns : (cs : List Counted) (i : ℕ) (c : Counted) (low high a b p q l h : ℤ) → a ≡ low → b ≡ high → p ≡ c.edge.p.x → q ≡ c.edge.q.x → i < length cs → get_or cs i c ≡ c → AreInLimit c.edge.p c.edge.q
+    → l ≤ℤ a → l ≤ℤ p → (l ≡ a) ⊎ (l ≡ p) → b ≤ℤ h → q ≤ℤ h → (h ≡ b) ⊎ (h ≡ q) → AreColumnsOf (take i cs) low high → AreColumnsOf (take (i + 1) cs) l h
+more_columns cs i c low high a b p q l h ea eb ep eq inside here limit l1' l2' l3' h1' h2' h3' o = record {
+  order = le_through l low h l1 (le_through low high h o.order h1);
+  low_in = one_within l low c.edge.p.x l3 o.low_in limit.a_in.x_in;
+  high_in = one_within h high c.edge.q.x h3 o.high_in limit.b_in.x_in;
+  spans = All-more (λ c. (l ≤ℤ c.edge.p.x) × (c.edge.q.x ≤ℤ h)) cs i c inside
+      (All-weaker (λ c. (low ≤ℤ c.edge.p.x) × (c.edge.q.x ≤ℤ high)) (λ c. (l ≤ℤ c.edge.p.x) × (c.edge.q.x ≤ℤ h)) (λ d s. (le_through l low d.edge.p.x l1 s.0, le_through d.edge.q.x high h s.1 h1)) (take i cs) o.spans)
+      (let P : Counted → Type 0 = λ c. (l ≤ℤ c.edge.p.x) × (c.edge.q.x ≤ℤ h) in subst P (sym here) (l2, h2));
+}
+  where
+    l1 : l ≤ℤ low
+    l1 = let P : ℤ → Type 0 = λ t. l ≤ℤ t in subst P ea l1'
+
+    h1 : high ≤ℤ h
+    h1 = let P : ℤ → Type 0 = λ t. t ≤ℤ h in subst P eb h1'
+
+    l2 : l ≤ℤ c.edge.p.x
+    l2 = let P : ℤ → Type 0 = λ t. l ≤ℤ t in subst P ep l2'
+
+    h2 : c.edge.q.x ≤ℤ h
+    h2 = let P : ℤ → Type 0 = λ t. t ≤ℤ h in subst P eq h2'
+
+    l3 : (l ≡ low) ⊎ (l ≡ c.edge.p.x)
+    l3 = let P : ℤ → Type 0 = λ t. (l ≡ t) ⊎ (l ≡ c.edge.p.x) in let Q : ℤ → Type 0 = λ t. (l ≡ a) ⊎ (l ≡ t) in subst P ea (subst Q ep l3')
+
+    h3 : (h ≡ high) ⊎ (h ≡ c.edge.q.x)
+    h3 = let P : ℤ → Type 0 = λ t. (h ≡ t) ⊎ (h ≡ c.edge.q.x) in let Q : ℤ → Type 0 = λ t. (h ≡ b) ⊎ (h ≡ t) in subst P eb (subst Q eq h3')
+
+-- ---- boxes
+lt_off : (a b : ℤ) → b ≤ℤ a → int_lt a b ≡ false
+lt_off a b h = grind (arith, ints)
+
+min_first : (a b : ℤ) → a ≤ℤ b → int_min a b ≡ a
+min_first a b h = ap (λ t. cond t b a) (lt_off b a h)
+
+max_second : (a b : ℤ) → a ≤ℤ b → int_max a b ≡ b
+max_second a b h = ap (λ t. cond t a b) (lt_off b a h)
+
+-- the edge and the box of a number
+pub record Paired (edges : List Edge) (boxes : List Rect) (k : ℕ) (e : Edge) (b : Rect) : Type 0 where
+  pub edge : slice_get edges k ≡ Some e
+  pub box : slice_get boxes k ≡ Some b
+  pub left : b.lo.x ≡ e.p.x
+  pub right : b.hi.x ≡ e.q.x
+
+paired : (edges : List Edge) (boxes : List Rect) (k : ℕ) (e : Edge) (b : Rect) → slice_get edges k ≡ Some e → slice_get boxes k ≡ Some b → corners b ≡ edge_corners e → Paired edges boxes k e b
+paired edges boxes k e b f g h = record { edge = f; box = g; left = ap (λ c. c.0.x) h ∙ min_first e.p.x e.q.x e.ordered.column; right = ap (λ c. c.1.x) h ∙ max_second e.p.x e.q.x e.ordered.column }
+
+some_in : {X : Type 0} (x y : X) → Some x ≡ Some y → x ≡ y
+some_in x y e = cc
+
+from_box : (edges : List Edge) (boxes : List Rect) → AreBoxesOf edges boxes → (k : ℕ) (b : Rect) → slice_get boxes k ≡ Some b → (e : Edge) × Paired edges boxes k e b
+from_box edges boxes a k b h = told (slice_get edges k) refl (sym (slice_get-map corners boxes k ∙ ap (option_map corners) h) ∙ ap (λ t. slice_get t k) a ∙ slice_get-map edge_corners edges k)
+  where
+    told : (o : Option Edge) → slice_get edges k ≡ o → Some (corners b) ≡ option_map edge_corners (slice_get edges k) → (e : Edge) × Paired edges boxes k e b
+    told None q r = absurd (let s : Some (corners b) ≡ None = r ∙ ap (option_map edge_corners) q in cc)
+    told (Some e) q r = (e, paired edges boxes k e b q h (some_in (corners b) (edge_corners e) (r ∙ ap (option_map edge_corners) q)))
+
+from_edge : (edges : List Edge) (boxes : List Rect) → AreBoxesOf edges boxes → (k : ℕ) (e : Edge) → slice_get edges k ≡ Some e → (b : Rect) × Paired edges boxes k e b
+from_edge edges boxes a k e h = told (slice_get boxes k) refl (sym (slice_get-map corners boxes k) ∙ ap (λ t. slice_get t k) a ∙ slice_get-map edge_corners edges k ∙ ap (option_map edge_corners) h)
+  where
+    told : (o : Option Rect) → slice_get boxes k ≡ o → option_map corners (slice_get boxes k) ≡ Some (edge_corners e) → (b : Rect) × Paired edges boxes k e b
+    told None q r = absurd (let s : None ≡ Some (edge_corners e) = sym (ap (option_map corners) q) ∙ r in cc)
+    told (Some b) q r = (b, paired edges boxes k e b h q (some_in (corners b) (edge_corners e) (sym (ap (option_map corners) q) ∙ r)))
+
+-- ---- strips
+pub fill_in_range : (edges : List Edge) (items : List Item) (x : IsIndexOf edges items) (s : Striped) (strip : ℕ) (numbers : List ℕ) → IsFill s strip x.boxes numbers → All (λ k. k < length edges) numbers
+fill_in_range edges items x s strip numbers f = λ k d h. let m = (f.exact (get_or numbers k d)).0 (k, h, get_or_default numbers k (get_or numbers k d) d h) in let p = from_box edges x.boxes x.are_boxes (get_or numbers k d) m.0 m.1 in slice_get_within edges (get_or numbers k d) p.0 p.1.edge
+
+pub fill_chosen : (edges : List Edge) (items : List Item) (x : IsIndexOf edges items) (s : Striped) (strip : ℕ) (numbers : List ℕ) (chosen : List Edge) → IsFill s strip x.boxes numbers → map (λ e. Some e) chosen ≡ map (slice_get edges) numbers → AreInStrip s strip edges chosen
+fill_chosen edges items x s strip numbers chosen f e = record {
+  numbers = numbers;
+  ascending = f.ascending;
+  exact = λ k. (
+    (λ c. let m = (f.exact k).0 c in let p = from_box edges x.boxes x.are_boxes k m.0 m.1 in let w = m.2 in
+        (p.0, p.1.edge, (w.0, (let P : ℤ → Type 0 = λ t. t ≤ℤ w.0 in subst P p.1.left w.1), (let P : ℤ → Type 0 = λ t. w.0 ≤ℤ t in subst P p.1.right w.2), w.3))),
+    (λ m. let p = from_edge edges x.boxes x.are_boxes k m.0 m.1 in let w = m.2 in
+        (f.exact k).1 (p.0, p.1.box, (w.0, (let P : ℤ → Type 0 = λ t. t ≤ℤ w.0 in subst P (sym p.1.left) w.1), (let P : ℤ → Type 0 = λ t. w.0 ≤ℤ t in subst P (sym p.1.right) w.2), w.3))),
+  );
+  are = e;
+}
+
+pub more_striped : (edges : List Edge) (s : Striped) (found : List (List Edge)) (strip : ℕ) (chosen : List Edge) → length found ≡ strip → AreInStrip s strip edges chosen → AreStriped edges s found → AreStriped edges s (found ++ chosen ∷ [])
+more_striped edges s found strip chosen e a t k h = elim (cases_lt k (length found)) [
+  | inl l ↦ (let P : List Edge → Type 0 = AreInStrip s k edges in subst P (sym (get_or-append found (chosen ∷ []) [] k l)) (t k l))
+  | inr l ↦ (let q : k ≡ length found = at_end k (length found) l (let P : ℕ → Type 0 = λ n. k < n in subst P (length-append found (chosen ∷ [])) h) in
+      let P : List Edge → Type 0 = AreInStrip s k edges in subst P (sym (ap (λ n. get_or (found ++ chosen ∷ []) n []) q ∙ get_or-append_seam found chosen [] [])) (let Q : ℕ → Type 0 = λ n. AreInStrip s n edges chosen in subst Q (sym e ∙ sym q) a))
+]
+  where
+    at_end : (k n : ℕ) → n ≤ k → k < n + 1 → k ≡ n
+    at_end k n h l = omega arith
+
+-- ---- the odd edges are in the limit
+pub odd_in_limit : (layer : Source) (cs : List Counted) → All (λ c. AreInLimit c.edge.p c.edge.q) cs → All (λ e. AreInLimit e.p e.q) (odd_edges layer cs)
+odd_in_limit A cs h = All-map (λ e. AreInLimit e.p e.q) (λ c. c.edge) (filter (λ c. is_odd c.in_a) cs) (All-filter (λ c. is_odd c.in_a) (λ c. AreInLimit c.edge.p c.edge.q) cs h)
+odd_in_limit B cs h = All-map (λ e. AreInLimit e.p e.q) (λ c. c.edge) (filter (λ c. is_odd c.in_b) cs) (All-filter (λ c. is_odd c.in_b) (λ c. AreInLimit c.edge.p c.edge.q) cs h)
+
+-- ---- the sum of two ends
+pub sum_low : (low p q : ℤ) → low ≤ℤ p → p ≤ℤ q → (pos 2 *ℤ low) ≤ℤ (p +ℤ q)
+sum_low low p q h o = simp expand (omega (arith, linear))
+
+pub sum_high : (high p q : ℤ) → q ≤ℤ high → p ≤ℤ q → (p +ℤ q) ≤ℤ (pos 2 *ℤ high)
+sum_high high p q h o = simp expand (omega (arith, linear))
+
+pub grown : (edges : List Edge) (s : Striped) (found new : List (List Edge)) (strip : ℕ) (chosen : List Edge) → new ≡ found ++ chosen ∷ [] → length found ≡ strip → AreInStrip s strip edges chosen → AreStriped edges s found → (length new ≡ strip + 1) × AreStriped edges s new
+grown edges s found new strip chosen n e a t = (
+  ap length n ∙ length-append found (chosen ∷ []) ∙ ap (λ k. k + 1) e,
+  let P : List (List Edge) → Type 0 = AreStriped edges s in subst P (sym n) (more_striped edges s found strip chosen e a t),
+)
+
+pub spanned : (a b : StripedLayer) (low high from to : ℤ) (cs : List Counted) → low ≡ from → high ≡ to → a.strips.low ≡ low → a.strips.high ≡ high → b.strips.low ≡ low → b.strips.high ≡ high → All (λ c. (from ≤ℤ c.edge.p.x) × (c.edge.q.x ≤ℤ to)) cs → All (λ c. IsSpanned a c.edge × IsSpanned b c.edge) cs
+spanned a b low high from to cs e f al ah bl bh h = All-weaker (λ c. (from ≤ℤ c.edge.p.x) × (c.edge.q.x ≤ℤ to)) (λ c. IsSpanned a c.edge × IsSpanned b c.edge) (λ c s. (one a c s (al ∙ e) (ah ∙ f), one b c s (bl ∙ e) (bh ∙ f))) cs h
+  where
+    one : (l : StripedLayer) (c : Counted) → (from ≤ℤ c.edge.p.x) × (c.edge.q.x ≤ℤ to) → l.strips.low ≡ from → l.strips.high ≡ to → IsSpanned l c.edge
+    one l c s e f = record { left = (let P : ℤ → Type 0 = λ t. t ≤ℤ c.edge.p.x in subst P (sym e) s.0); right = (let P : ℤ → Type 0 = λ t. c.edge.q.x ≤ℤ t in subst P (sym f) s.1) }
