@@ -1,8 +1,6 @@
 -- What the check knows at each byte, and what it answers.
-use Rattle.std.proofs.Common.{◌≡◌, ℕ, suc, ◌+◌, ◌-◌, ◌<◌, ◌≤◌, Bool, true, false, min, List, [], ◌∷◌, ◌++◌, length, get_or, take, drop, ◌⊎◌, inl, inr, Option, Some, None, Result, refl, sym, ap, subst, ◌∙◌, arith, length-drop}
-use Rattle.std.specs.Prelude.{MatchOption, MatchResult, map, nat_lt, if◌then◌else◌, option_and_then, option_map}
-use Rattle.std.proofs.Math.Seq.{drop-cons}
-use Rattle.std.proofs.Math.Numerals.{add-one}
+use Rattle.std.proofs.Common.{◌≡◌, ℕ, ◌+◌, ◌<◌, ◌≤◌, Bool, true, false, min, List, [], ◌∷◌, ◌++◌, length, get_or, ◌⊎◌, inl, inr, Option, Some, None, Result, refl, sym, ap, subst, ◌∙◌, arith}
+use Rattle.std.specs.Prelude.{MatchOption, MatchResult, map, nat_lt, if◌then◌else◌}
 use Rattle.std.proofs.lemmas.List.{append-nil, map_push, length-append, drop_all}
 use Rattle.wkt.specs.declared.places.Place.{Place}
 use Rattle.wkt.specs.declared.places.Place.TheVariants.{Between, Ended}
@@ -13,38 +11,42 @@ use Rattle.geom.specs.declared.fault.Fault.TheVariants.{LayerLong, Syntax, Numbe
 use Rattle.wkt.specs.declared.reader.Reader.{Reader}
 use Rattle.wkt.specs.declared.reader.Event.{Event}
 use Rattle.wkt.specs.declared.reader.Event.TheVariants.{Nothing, Open as Opens, Point as EventPoint, Last, Close as Closes}
-use Rattle.wkt.specs.LayerText.{Point, Ring, IsLayer, IsBroken}
-use Rattle.wkt.specs.Machine.{class_of, turn, Notes, noted, step, run, start, may_end, walk, is_multi_after}
+use Rattle.wkt.specs.LayerText.{Point, Ring, IsBroken}
+use Rattle.wkt.specs.Machine.{class_of, turn, Notes, noted, run, start, may_end}
 use Rattle.wkt.specs.Reading.{u32_max, Idle, ReaderIs, Says, Went}
 use Rattle.geom.specs.Segments.{layer_steps}
-use Rattle.wkt.specs.Refusals.{length_limit, all_numbers, first_outside, place_of, is_closed, fault_at, or_else, first_fault, plain, IsRead, IsAccepted, HasFault, StandsFor, IsRefused}
+use Rattle.wkt.specs.Running.{HasRead, HasPassed, Passes}
+use Rattle.wkt.specs.Refusals.{length_limit, all_numbers, first_outside, place_of, is_closed, fault_at, or_else, first_fault, plain, IsRead, HasFault, StandsFor, IsRefused}
 use Rattle.wkt.specs.Outlines.{IsOutline}
 use Rattle.wkt.specs.Surveying.{Sketch, sketch, Shown, fresh, took, judged}
 use Rattle.wkt.proofs.Sound.{accepted, some_is}
-use Rattle.wkt.proofs.Fronts.{begin, goes_on, stops, is_broken, noted_multi}
+use Rattle.wkt.proofs.Fronts.{stops, is_broken}
+use Rattle.wkt.proofs.Passing.{read_first, read_more}
 use Rattle.wkt.proofs.Boxes.{box_is}
 use Rattle.wkt.proofs.Closing.{layer_steps-are}
 use Rattle.wkt.proofs.Surveys.{segments, all_segments, box, read_segments, read_numbers, closed_segments, outline_of, Clean, Surveyed, SurveyedAt, noted_survey, segments-push-le}
 
+-- the reader has come to this offset with these notes, and the survey is of them
+pub record Known (text : List ℕ) (at : ℕ) (r : Reader) (s : Shown) (m : Notes) : Type 0 where
+  pub read : HasRead text at r m
+  pub survey : SurveyedAt s m
+  pub few : length (read_segments m.rings m.points) ≤ at
+
 pub record Checked (text : List ℕ) (at : ℕ) (r : Reader) (s : Shown) : Type 0 where
   pub notes : Notes
-  pub on : run (length text) start text ≡ run (length text) (record { place = r.place; notes = notes }) (drop at text)
-  pub walked : walk begin (take at text) ≡ Some (r.place, r.multi)
-  pub is : ReaderIs r notes
-  pub survey : SurveyedAt s notes
-  pub few : length (read_segments notes.rings notes.points) ≤ at
+  pub known : Known text at r s notes
 
 -- ---- at the start
 
-pub checked_first : (text : List ℕ) (r : Reader) (s : Shown) → r.place ≡ start.place → ReaderIs r start.notes → s ≡ fresh → Checked text 0 r s
-checked_first text r s p h e = record {
-  notes = start.notes;
-  on = ap (λ (q : Place). run (length text) (record { place = q; notes = start.notes }) text) (sym p);
-  walked = ap (λ (q : Place). Some (q, false)) (sym p) ∙ ap (λ (b : Bool). Some (r.place, b)) (sym h.0);
-  is = h;
+pub known_first : (text : List ℕ) (r : Reader) (s : Shown) → r.place ≡ start.place → ReaderIs r start.notes → s ≡ fresh → Known text 0 r s start.notes
+known_first text r s p h e = record {
+  read = read_first text r p h;
   survey = subst (λ (x : Shown). SurveyedAt x start.notes) (sym e) (record { inside = refl; fault = refl; outline = refl; at_is = refl; count = refl; ends = tt });
   few = omega arith;
 }
+
+pub checked_first : (text : List ℕ) (r : Reader) (s : Shown) → r.place ≡ start.place → ReaderIs r start.notes → s ≡ fresh → Checked text 0 r s
+checked_first text r s p h e = record { notes = start.notes; known = known_first text r s p h e }
 
 -- ---- a byte more
 
@@ -61,47 +63,43 @@ few_noted (EventPoint x y) at m m' h = rw (h.2, h.4) (few_more m.rings m.points 
 few_noted (Last x y) at m m' h = rw (h.3, h.4, closed_segments m.rings m.ring_at (m.points ++ h.0 ∷ [])) (few_more m.rings m.points h.0)
 few_noted Closes at m m' h = rw (h.1, h.2, closed_segments m.rings m.ring_at m.points) (omega arith)
 
-pub run_on : (text : List ℕ) (at : ℕ) (p q : Place) (m : Notes) → at < length text → turn p (class_of (get_or text at 0)) m.multi ≡ Some q
-    → run (length text) (record { place = p; notes = m }) (drop at text) ≡ run (length text) (record { place = q; notes = noted at p (class_of (get_or text at 0)) m }) (drop (at + 1) text)
-run_on text at p q m lt e =
-    let b = get_or text at 0 in
-    let t = drop (suc at) text in
-    let here : length text - length (b ∷ t) ≡ at = omega (arith, length-drop (suc at) text) in
-    ap (run (length text) (record { place = p; notes = m })) (drop-cons text at 0 lt)
-    ∙ ap (λ (k : ℕ). option_and_then (λ s'. run (length text) s' t) (step k (record { place = p; notes = m }) (class_of b))) here
-    ∙ ap (λ (o : Option Place). option_and_then (λ s'. run (length text) s' t) (option_map (λ x. record { place = x; notes = noted at p (class_of b) m }) o)) e
-    ∙ ap (λ (k : ℕ). run (length text) (record { place = q; notes = noted at p (class_of b) m }) (drop k text)) (sym (add-one at))
-
-pub run_off : (text : List ℕ) (at : ℕ) (p : Place) (m : Notes) → at < length text → turn p (class_of (get_or text at 0)) m.multi ≡ None
-    → run (length text) (record { place = p; notes = m }) (drop at text) ≡ None
-run_off text at p m lt e =
-    let b = get_or text at 0 in
-    let t = drop (suc at) text in
-    ap (run (length text) (record { place = p; notes = m })) (drop-cons text at 0 lt)
-    ∙ ap (λ (o : Option Place). option_and_then (λ s'. run (length text) s' t) (option_map (λ x. record { place = x; notes = noted (length text - length (b ∷ t)) p (class_of b) m }) o)) e
-
-pub checked_more : (text : List ℕ) (at : ℕ) (r : Reader) (s : Shown) (e : Event) (r' : Reader) → at < length text → (c : Checked text at r s) → Went at (get_or text at 0) r c.notes e r' → Checked text (at + 1) r' (took s at e)
-checked_more text at r s e r' lt c w =
-    let k = class_of (get_or text at 0) in
-    let t : Some r'.place ≡ turn r.place k r.multi = sym w.place ∙ ap (turn r.place k) (sym c.is.0) in
-    let b : r'.multi ≡ is_multi_after r.place k r.multi = w.notes.0 ∙ noted_multi at r.place k c.notes ∙ ap (is_multi_after r.place k) (sym c.is.0) in
-    let f = few_noted e at c.notes (noted at r.place k c.notes) w.says in
+pub known_more : (text : List ℕ) (at : ℕ) (r : Reader) (s : Shown) (m : Notes) (e : Event) (r' : Reader) → at < length text → Known text at r s m → Went at (get_or text at 0) r m e r' → Known text (at + 1) r' (took s at e) (noted at r.place (class_of (get_or text at 0)) m)
+known_more text at r s m e r' lt c w =
+    let m' = noted at r.place (class_of (get_or text at 0)) m in
+    let f = few_noted e at m m' w.says in
     record {
-      notes = noted at r.place k c.notes;
-      on = c.on ∙ run_on text at r.place r'.place c.notes lt w.place;
-      walked = goes_on text at r.place r'.place k r.multi r'.multi lt c.walked refl t b;
-      is = w.notes;
-      survey = noted_survey s at e c.notes (noted at r.place k c.notes) w.says c.survey;
+      read = read_more text at r m e r' lt c.read w;
+      survey = noted_survey s at e m m' w.says c.survey;
       few = omega (arith, c.few, f);
     }
+
+pub checked_more : (text : List ℕ) (at : ℕ) (r : Reader) (s : Shown) (e : Event) (r' : Reader) → at < length text → (c : Checked text at r s) → Went at (get_or text at 0) r c.notes e r' → Checked text (at + 1) r' (took s at e)
+checked_more text at r s e r' lt c w = record { notes = noted at r.place (class_of (get_or text at 0)) c.notes; known = known_more text at r s c.notes e r' lt c.known w }
+
+-- ---- bytes that complete nothing
+
+few_passed : (a b : ℕ) (rings rings' : List Ring) (ps ps' : List Point) → rings' ≡ rings → ps' ≡ ps → a ≤ b → length (read_segments rings ps) ≤ a → length (read_segments rings' ps') ≤ b
+few_passed a b rings rings' ps ps' e f le h = rw (e, f) (omega (arith, h))
+
+pub known_on : (text : List ℕ) (at end : ℕ) (r r' : Reader) (s : Shown) (m : Notes) → Known text at r s m → at ≤ end → (p : HasPassed text end r' m) → Known text end r' s p.notes
+known_on text at end r r' s m c le p = record {
+  read = p.read;
+  survey = noted_survey s at Nothing m p.notes (p.rings, p.ring_at, p.points) c.survey;
+  few = few_passed at end m.rings p.notes.rings m.points p.notes.points p.rings p.points le c.few;
+}
+
+pub checked_on : (text : List ℕ) (at end : ℕ) (r r' : Reader) (s : Shown) → Checked text at r s → Passes text at end r r' → Checked text end r' s
+checked_on text at end r r' s c w =
+    let p : HasPassed text end r' c.notes = w.passed c.notes c.known.read in
+    record { notes = p.notes; known = known_on text at end r r' s c.notes c.known w.onward p }
 
 -- ---- the answers
 
 pub checked_stop : (text : List ℕ) (at : ℕ) (r : Reader) (s : Shown) → at < length text → (c : Checked text at r s) → turn r.place (class_of (get_or text at 0)) c.notes.multi ≡ None → IsBroken text at
-checked_stop text at r s lt c e = stops text at r.place (class_of (get_or text at 0)) r.multi lt c.walked refl (sym e ∙ ap (turn r.place (class_of (get_or text at 0))) (sym c.is.0))
+checked_stop text at r s lt c e = stops text at r.place (class_of (get_or text at 0)) r.multi lt c.known.read.walked refl (sym e ∙ ap (turn r.place (class_of (get_or text at 0))) (sym c.known.read.is.0))
 
 pub checked_broken : (text : List ℕ) (at : ℕ) (r : Reader) (s : Shown) → length text ≤ at → Checked text at r s → may_end r.place ≡ false → IsBroken text (length text)
-checked_broken text at r s le c e = is_broken text r.place r.multi at le c.walked e
+checked_broken text at r s le c e = is_broken text r.place r.multi at le c.known.read.walked e
 
 pub idle_end : (p : Place) (m : Notes) → may_end p ≡ true → Idle p m → m.points ≡ []
 idle_end Between m e i = i
@@ -185,13 +183,13 @@ answered text s outline rings at (Some k) out sk h few c =
     let found : first_outside (read_numbers rings []) ≡ Some k = subst (λ (o : Option ℕ). MatchOption o (Clean s rings at []) (λ o. first_outside (read_numbers rings []) ≡ Some o)) out c in
     (rings, h, ap first_outside (sym (append-nil (all_numbers rings))) ∙ found)
 
-pub checked_whole : (text : List ℕ) (at : ℕ) (r : Reader) (s : Shown) (outline : Outline) → length text ≤ at → at ≤ length text → length text ≤ length_limit → Checked text at r s → may_end r.place ≡ true
+pub checked_whole : (text : List ℕ) (at : ℕ) (r : Reader) (s : Shown) (outline : Outline) → length text ≤ at → length text ≤ length_limit → Checked text at r s → may_end r.place ≡ true
     → sketch outline ≡ s.outline → Answers text (judged s.outside s.fault outline)
-checked_whole text at r s outline le ge small c e sk =
+checked_whole text at r s outline le small c e sk =
     let m = c.notes in
-    let ended : run (length text) start text ≡ Some (record { place = r.place; notes = m }) = c.on ∙ ap (run (length text) (record { place = r.place; notes = m })) (drop_all at text le) in
-    let none : m.points ≡ [] = idle_end r.place m e c.is.3 in
-    let few : length (read_segments m.rings []) ≤ at = subst (λ (ps : List Point). length (read_segments m.rings ps) ≤ at) none c.few in
+    let ended : run (length text) start text ≡ Some (record { place = r.place; notes = m }) = c.known.read.on ∙ ap (run (length text) (record { place = r.place; notes = m })) (drop_all at text le) in
+    let none : m.points ≡ [] = idle_end r.place m e c.known.read.is.3 in
+    let few : length (read_segments m.rings []) ≤ at = subst (λ (ps : List Point). length (read_segments m.rings ps) ≤ at) none c.known.few in
     let few' : length (all_segments m.rings) ≤ at = subst (λ (x : List (Pt × Pt)). length x ≤ at) (append-nil (all_segments m.rings)) few in
-    answered text s outline m.rings m.ring_at s.outside refl sk (record { short = small; layer = accepted text (record { place = r.place; notes = m }) ended e }) (omega (arith, few'))
-    (subst (λ (ps : List Point). Surveyed s m.rings m.ring_at ps) none c.survey)
+    answered text s outline m.rings m.ring_at s.outside refl sk (record { short = small; layer = accepted text (record { place = r.place; notes = m }) ended e }) (omega (arith, few', c.known.read.within))
+    (subst (λ (ps : List Point). Surveyed s m.rings m.ring_at ps) none c.known.survey)

@@ -1,5 +1,5 @@
 -- The segments of closed rings, from point to point, are those of the rings without their last points.
-use Rattle.std.proofs.Common.{◌≡◌, ℕ, suc, ◌+◌, ◌-◌, ◌<◌, ◌≤◌, Bool, true, false, cond, List, [], ◌∷◌, ◌++◌, length, take, Option, Some, None, refl, sym, ap, subst, ◌∙◌, arith}
+use Rattle.std.proofs.Common.{◌≡◌, ℕ, ◌-◌, ◌≤◌, Bool, true, false, cond, List, [], ◌∷◌, ◌++◌, length, take, Option, Some, None, refl, sym, ap, ◌∙◌, arith}
 use Rattle.std.specs.Prelude.{map, filter, not, nat_lt}
 use Rattle.std.specs.List.{flat_map}
 use Rattle.std.proofs.lemmas.List.{length-map}
@@ -9,7 +9,7 @@ use Rattle.geom.specs.declared.fault.Fault.{Fault}
 use Rattle.geom.specs.declared.fault.Fault.TheVariants.{RingShort, RingOpen}
 use Rattle.geom.specs.Segments.{same_point, neighbours, ring_steps, layer_steps}
 use Rattle.geom.proofs.Points.{same_point_true}
-use Rattle.wkt.specs.LayerText.{Point, Ring}
+use Rattle.wkt.specs.LayerText.{Ring}
 use Rattle.wkt.specs.Refusals.{place_of, last_of, is_closed, fault_at, or_else, first_fault, plain}
 use Rattle.wkt.proofs.Surveys.{segments_from, segments, all_segments}
 

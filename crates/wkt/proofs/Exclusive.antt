@@ -1,11 +1,11 @@
 -- A text has one reading or one refusal, and not both.
-use Rattle.std.proofs.Common.{◌≡◌, ◌⊎◌, inl, inr, ℕ, ◌<◌, ◌≤◌, List, length, Option, Some, None, refl, sym, ap, subst, ◌∙◌, arith}
+use Rattle.std.proofs.Common.{◌≡◌, ◌⊎◌, inl, inr, ℕ, ◌<◌, ◌≤◌, List, length, Option, Some, None, refl, sym, ap, ◌∙◌, arith}
 use Rattle.std.specs.Prelude.{option_map}
 use Rattle.std.proofs.lemmas.Bool.{cases_lt}
 use Rattle.geom.specs.declared.point.Pt.{Pt}
 use Rattle.geom.specs.declared.fault.Fault.{Fault}
 use Rattle.geom.specs.declared.fault.Fault.TheVariants.{LayerLong, Syntax, NumberRange, RingShort, RingOpen, TooManySegments, BadTile, BadWorkers, TooManyTiles, NotNoded, Memory, Write}
-use Rattle.wkt.specs.LayerText.{Ring, IsLayer, IsBroken}
+use Rattle.wkt.specs.LayerText.{Ring, IsBroken}
 use Rattle.wkt.specs.Refusals.{length_limit, all_numbers, first_outside, or_else, first_fault, plain, IsRead, IsAccepted, StandsFor, IsRefused}
 use Rattle.wkt.proofs.Complete.{at_most_one}
 use Rattle.wkt.proofs.Sound.{some_is}

@@ -1,6 +1,6 @@
 -- Rings whose numbers are inside the limit have points in the limit, and so has their box.
-use Rattle.std.proofs.Common.{◌≡◌, ◌⊎◌, inl, inr, ℕ, zero, suc, ◌-◌, ◌<◌, ◌≤◌, Bool, true, false, cond, List, [], ◌∷◌, ◌++◌, length, take, Option, Some, None, refl, sym, ap, subst, ◌∙◌, arith, ℤ, pos, negsuc}
-use Rattle.std.specs.Prelude.{◌≤ℤ◌, neg_ℤ, All, Contains, filter, map, not, nat_lt, slice_index_or, unsigned_abs}
+use Rattle.std.proofs.Common.{◌≡◌, inl, inr, ℕ, zero, suc, ◌-◌, ◌≤◌, Bool, true, false, cond, List, [], ◌∷◌, ◌++◌, length, None, subst, arith, ℤ, pos, negsuc}
+use Rattle.std.specs.Prelude.{neg_ℤ, All, filter, map, not, nat_lt, unsigned_abs}
 use Rattle.std.specs.List.{AllByRecursion, flat_map}
 use Rattle.std.specs.Int.Signed.{le_z_yes}
 use Rattle.std.proofs.lemmas.Bool.Decides.{nat_tests}
@@ -10,10 +10,10 @@ use Rattle.geom.specs.declared.rect.Rect.{Rect}
 use Rattle.geom.specs.Limit.{coordinate_limit, IsWithin, InLimit, AreInLimit}
 use Rattle.geom.specs.Segments.{same_point, neighbours, ring_steps, layer_steps}
 use Rattle.geom.specs.Box.{IsInBox}
-use Rattle.geom.specs.Bounds.{HoldsSteps, IsBox}
+use Rattle.geom.specs.Bounds.{IsBox}
 use Rattle.geom.proofs.Integers.{linear}
 use Rattle.geom.proofs.Lists.{In, contains_in}
-use Rattle.wkt.specs.LayerText.{Number, Point, Ring}
+use Rattle.wkt.specs.LayerText.{Point, Ring}
 use Rattle.wkt.specs.Refusals.{place_of, numbers, all_numbers, first_outside, plain, StandsFor}
 use Rattle.wkt.proofs.Collections.{front_inside, inside_head}
 

@@ -4,11 +4,11 @@ pub mod Back
 pub mod Sound
 pub mod Complete
 pub mod Fronts
-pub mod Grows
 pub mod Steps
 pub mod Surveys
 pub mod Boxes
 pub mod Closing
+pub mod Passing
 pub mod Checks
 pub mod Collections
 pub mod Inside

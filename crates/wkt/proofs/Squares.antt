@@ -1,5 +1,5 @@
 -- The corners of a square are four different points.
-use Rattle.std.proofs.Common.{◌≡◌, ℤ, List, [], ◌∷◌, ap, arith}
+use Rattle.std.proofs.Common.{[], ◌∷◌, ap, arith}
 use Rattle.std.specs.Prelude.{◌≢◌, ◌<ℤ◌, AllPairs}
 use Rattle.std.proofs.lemmas.List.Kept.{AllPairs-cons}
 use Rattle.geom.specs.declared.point.Pt.{Pt}

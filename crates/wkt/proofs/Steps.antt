@@ -1,6 +1,7 @@
 -- A step of the code's reader is a step of the machine.
 use Rattle.std.proofs.Common.{◌≡◌, ℕ, ◌+◌, ◌*◌, ◌<◌, Bool, true, false, cond, eqb, ltb, min, [], Some, refl, sym, ap, subst, ◌∙◌, arith}
-use Rattle.std.specs.Prelude.{IfSome, slice_index, ◌&&◌}
+use Rattle.std.specs.Prelude.{IfSome, IsTrue, nat_le, slice_index, ◌&&◌}
+use Rattle.std.proofs.lemmas.Bool.Decides.{nat_tests}
 use Rattle.wkt.proofs.Back.{if_cond, if_one}
 use Rattle.wkt.proofs.Sound.{at_some}
 use Rattle.wkt.specs.declared.places.Place.{Place}
@@ -9,6 +10,7 @@ use Rattle.wkt.specs.declared.places.Class.{Class}
 use Rattle.wkt.specs.declared.places.Class.TheVariants.{Space, Digit, Minus, Comma, Open, Close, Letter}
 use Rattle.wkt.specs.declared.reader.Number.{Number as Numeral}
 use Rattle.wkt.specs.declared.reader.Reader.{Reader}
+use Rattle.wkt.specs.declared.reader.Event.TheVariants.{Point as EventPoint}
 use Rattle.wkt.specs.LayerText.{multipolygon_word, empty_word}
 use Rattle.wkt.specs.Machine.{class_of, turn, opened, closed, Notes, signed, number, noted, is_multi_after}
 use Rattle.wkt.specs.Reading.{u32_max, number_next, x_next, event_of, IsNumeralOf, StandsFor, Idle, ReaderIs, Says, Went}
@@ -20,9 +22,12 @@ abbrev IsSmall : Class → Type 0
 IsSmall (Digit d) = d < 256
 IsSmall k = Unit {0}
 
-small : (byte : ℕ) (k : Class) → byte < 256 → IsKind byte k → IsSmall k
-small byte (Digit d) lt (h, e) = omega arith
-small byte k lt h = tt
+digit_small : (b : ℕ) → IsTrue (nat_le 48 b && nat_le b 57) → b < 256
+digit_small b h = grind (arith, nat_tests)
+
+small : (byte : ℕ) (k : Class) → IsKind byte k → IsSmall k
+small byte (Digit d) (h, e) = let b : byte < 256 = digit_small byte h in omega arith
+small byte k h = tt
 
 one_digit : (d : ℕ) → d < 256 → d ≡ min d u32_max
 one_digit d lt = omega arith
@@ -145,10 +150,10 @@ idles at p k m g = tt
 multis : (at : ℕ) (p : Place) (k : Class) (multi : Bool) (m : Notes) → multi ≡ m.multi → is_multi_after p k multi ≡ (noted at p k m).multi
 multis at p k multi m e = ap (is_multi_after p k) e ∙ sym (noted_multi at p k m)
 
-pub went : (at byte : ℕ) (k : Class) (old : Reader) (m : Notes) (next : Place) → byte < 256 → k ≡ class_of byte → Some next ≡ turn old.place k old.multi → ReaderIs old m
+pub went : (at byte : ℕ) (k : Class) (old : Reader) (m : Notes) (next : Place) → k ≡ class_of byte → Some next ≡ turn old.place k old.multi → ReaderIs old m
     → Went at byte old m (event_of old.place k old.x old.number) (record { place = next; multi = is_multi_after old.place k old.multi; x = x_next old.place k old.x old.number; number = number_next old.place k at old.number })
-went at byte k old m next lt e f r =
-    let s : IsSmall k = small byte k lt (subst (IsKind byte) (sym e) (kinds byte)) in
+went at byte k old m next e f r =
+    let s : IsSmall k = small byte k (subst (IsKind byte) (sym e) (kinds byte)) in
     let t : turn old.place (class_of byte) m.multi ≡ Some next = sym (ap (turn old.place (class_of byte)) r.0) ∙ sym (f ∙ ap (λ (x : Class). turn old.place x old.multi) e) in
     let i : Idle next (noted at old.place (class_of byte) m) = at_some (turn old.place (class_of byte) m.multi) next (λ q. Idle q (noted at old.place (class_of byte) m)) t (idles at old.place (class_of byte) m r.3) in
     let w : Went at byte old m (event_of old.place (class_of byte) old.x old.number) (record { place = next; multi = is_multi_after old.place (class_of byte) old.multi; x = x_next old.place (class_of byte) old.x old.number; number = number_next old.place (class_of byte) at old.number }) = record {
@@ -157,3 +162,9 @@ went at byte k old m next lt e f r =
       says = says at old.place (class_of byte) old.x old.number m r.1 r.2 r.3;
     } in
     subst (λ (x : Class). Went at byte old m (event_of old.place x old.x old.number) (record { place = next; multi = is_multi_after old.place x old.multi; x = x_next old.place x old.x old.number; number = number_next old.place x at old.number })) (sym e) w
+
+-- a point before a comma
+pub went_comma : (at byte : ℕ) (old : Reader) (m : Notes) → old.place ≡ DigitsY → byte ≡ 44 → ReaderIs old m → Went at byte old m (EventPoint old.x old.number) (record { place = BeforePoint; multi = old.multi; x = old.x; number = old.number })
+went_comma at byte old m e f r =
+    subst (λ (p : Place). Went at byte old m (event_of p Comma old.x old.number) (record { place = BeforePoint; multi = is_multi_after p Comma old.multi; x = x_next p Comma old.x old.number; number = number_next p Comma at old.number })) e
+    (went at byte Comma old m BeforePoint (sym (ap class_of f)) (sym (ap (λ (p : Place). turn p Comma old.multi) e)) r)

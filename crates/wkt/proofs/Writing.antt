@@ -1,13 +1,12 @@
 -- What the writer has written after one item more.
 use Rattle.std.proofs.Common.{◌≡◌, ℕ, ◌+◌, ◌<◌, ◌≤◌, List, [], ◌∷◌, ◌++◌, length, take, drop, refl, sym, ap, subst, ◌∙◌, append_assoc, arith}
 use Rattle.std.specs.Prelude.{All, codes, slice_index_or}
-use Rattle.std.specs.List.{AllByRecursion}
 use Rattle.std.proofs.lemmas.List.{append-nil, take_more}
 use Rattle.std.proofs.lemmas.Grind.{flat_map-append}
 use Rattle.geom.specs.declared.point.Pt.{Pt}
 use Rattle.geom.specs.declared.ring.Polygon.{Polygon}
 use Rattle.geom.specs.Words.{pt_words}
-use Rattle.wkt.specs.Canonical.{more_of, listed, ring_text, polygon_text, multi_text, rings_of}
+use Rattle.wkt.specs.Canonical.{more_of, ring_text, polygon_text, multi_text, rings_of}
 use Rattle.wkt.proofs.Inside.{all_of, of_all, both_all}
 
 -- ---- a list

@@ -19,7 +19,7 @@ use Rattle.geom.specs.Limit.{coordinate_limit, IsWithin, InLimit}
 use Rattle.geom.specs.Segments.{same_point}
 use Rattle.geom.specs.Words.{pt_words}
 use Rattle.geom.proofs.Points.{same_point_refl}
-use Rattle.wkt.specs.Refusals.{length_limit, place_of, last_of, is_closed, fault_at, or_else, numbers, all_numbers, first_outside, first_fault, plain, StandsFor}
+use Rattle.wkt.specs.Refusals.{length_limit, place_of, is_closed, fault_at, or_else, numbers, all_numbers, first_outside, first_fault, plain, StandsFor}
 use Rattle.wkt.specs.Canonical.{more_of, listed, ring_text, polygon_text, multi_text, rings_of}
 use Rattle.wkt.proofs.Surveys.{outside_then, last_of-push}
 use Rattle.wkt.proofs.Inside.{of_all, of_within}

@@ -1,5 +1,5 @@
 -- What the code's collector gathers.
-use Rattle.std.specs.Prelude.{ℕ, ◌-◌, ◌≤◌, List, [], ◌∷◌, ◌++◌, length, take, pos, unwrap_or}
+use Rattle.std.specs.Prelude.{◌-◌, nat_lt, if◌then◌else◌, List, [], ◌∷◌, ◌++◌, length, take, pos, unwrap_or}
 use Rattle.geom.specs.declared.point.Pt.{Pt}
 use Rattle.wkt.specs.declared.read.Collector.{Collector}
 use Rattle.wkt.specs.declared.reader.Number.{Number as Numeral}
@@ -17,18 +17,16 @@ Gathered = List (List Pt) × List Pt
 abbrev pub but_last : List Pt → List Pt
 but_last ps = take (length ps - 1) ps
 
+-- the ring closes, and is kept where it has points enough
+abbrev pub closed : Gathered → Gathered
+closed g = (if nat_lt (length g.1) 4 then (g.0, []) else (g.0 ++ but_last g.1 ∷ [], []))
+
 abbrev pub gathered : Event → Gathered → Gathered
 gathered Nothing g = g
 gathered Open g = g
 gathered (Point x y) g = (g.0, g.1 ++ point_value x y ∷ [])
-gathered (Last x y) g = (g.0 ++ but_last (g.1 ++ point_value x y ∷ []) ∷ [], [])
-gathered Close g = (g.0 ++ but_last g.1 ∷ [], [])
-
--- a ring that closes has four points or more
-abbrev pub Enough : Event → Gathered → Type 0
-Enough (Last x y) g = 3 ≤ length g.1
-Enough Close g = 4 ≤ length g.1
-Enough e g = Unit {0}
+gathered (Last x y) g = closed (g.0, g.1 ++ point_value x y ∷ [])
+gathered Close g = closed g
 
 abbrev pub view : {A : Type 0} → Collector A → Gathered
 view c = (c.rings.items, c.points.items)

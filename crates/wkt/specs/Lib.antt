@@ -4,5 +4,6 @@ pub mod Outlines
 pub mod Canonical
 pub mod Machine
 pub mod Reading
+pub mod Running
 pub mod Surveying
 pub mod Collecting

@@ -1,5 +1,5 @@
 -- What the code's survey does at each event.
-use Rattle.std.specs.Prelude.{ℕ, ◌+◌, ◌==◌, nat_lt, min, if◌then◌else◌, List, fold, ℤ, pos, Option, Some, None, option_map, Result, Ok, Err}
+use Rattle.std.specs.Prelude.{ℕ, ◌+◌, ◌==◌, nat_lt, min, if◌then◌else◌, ℤ, pos, Option, Some, None, option_map, Result, Ok, Err}
 use Rattle.std.specs.Int.{int_min, int_max}
 use Rattle.geom.specs.declared.point.Pt.{Pt}
 use Rattle.geom.specs.declared.rect.Rect.{Rect}

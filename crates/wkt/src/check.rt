@@ -25,11 +25,13 @@ pub fn check_layer(text: &[u8]) -> Result<Outline, Fault>
     }
     let mut reader = Reader::new();
     let mut survey = Survey::new();
-    for (at, byte) in text.iter().enumerate() {
-        let Some(event) = reader.step(at, *byte) else {
+    let mut at = 0;
+    while at < text.len() {
+        let Some(event) = reader.step(at, text[at]) else {
             return Err(Fault::Syntax(at));
         };
         survey.note(at, event);
+        at = reader.pass_point(text, at + 1);
     }
     if !reader.may_end() {
         return Err(Fault::Syntax(text.len()));

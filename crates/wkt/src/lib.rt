@@ -7,6 +7,7 @@ mod outline;
 mod places;
 mod read;
 mod reader;
+mod runs;
 mod survey;
 mod write;
 

@@ -1,13 +1,14 @@
 //! A layer text, read into rings.
 
-ghost use Rattle.std.specs.Prelude.{◌≡◌, ◌⊎◌, List, All, IfOk, MatchResult, OnOk};
+ghost use Rattle.std.specs.Prelude.{◌≡◌, ◌⊎◌, List, All, IfOk, [], MatchResult, OnOk};
 ghost use Rattle.geom.specs.Limit.{InLimit};
 ghost use Rattle.geom.specs.declared.point.Pt.{Pt as PtOf};
 ghost use Rattle.wkt.specs.Refusals.{IsRefused, StandsFor};
-ghost use Rattle.wkt.specs.Collecting.{Enough, gathered, point_value, view};
+ghost use Rattle.wkt.specs.Collecting.{closed, gathered, point_value, view};
 
-use crate::check::check_layer;
+use crate::check::{LENGTH_LIMIT, check_layer};
 use crate::reader::{Event, Number, Reader};
+use crate::survey::Survey;
 use geom::{Fault, Layer, NoMemory, Pt, Ring};
 use std::alloc::Allocator;
 use std::mem;
@@ -30,12 +31,25 @@ pub struct Collector<A: Allocator> {
 }
 
 impl<A: Allocator + Copy> Collector<A> {
-    /// The ring closes. Its last point is its first, and isn't kept.
+    /// Without rings.
+    fn new(alloc: A) -> Collector<A>
+        ensures { view result ≡ ([], []) }
+    {
+        Collector {
+            rings: Vec::new(alloc),
+            points: Vec::new(alloc),
+        }
+    }
+
+    /// The ring closes. Its last point is its first, and isn't kept; nor is a ring of too few points, since no text with
+    /// one is accepted.
     fn close(&mut self, alloc: A) -> Result<(), NoMemory>
-        requires { Enough Event.Close (view self.old) }
-        ensures { OnOk result (view self.new ≡ gathered Event.Close (view self.old)) }
+        ensures { OnOk result (view self.new ≡ closed (view self.old)) }
     {
         let mut points = mem::replace(&mut self.points, Vec::new(alloc));
+        if points.len() < 4 {
+            return Ok(());
+        }
         points.truncate(points.len() - 1);
         self.rings.push(Ring::new(points))?;
         Ok(())
@@ -50,8 +64,8 @@ impl<A: Allocator + Copy> Collector<A> {
     }
 
     /// Notes an event.
+    #[inline(always)]
     fn note(&mut self, alloc: A, event: Event) -> Result<(), NoMemory>
-        requires { Enough event (view self.old) }
         ensures { OnOk result (view self.new ≡ gathered event (view self.old)) }
     {
         match event {
@@ -66,24 +80,37 @@ impl<A: Allocator + Copy> Collector<A> {
     }
 }
 
-/// The rings of a text that is accepted.
-fn rings<A: Allocator + Copy>(alloc: A, text: &[u8]) -> Result<Vec<Ring<A>, A>, NoMemory>
-    requires { (rings : List (List PtOf)) × StandsFor text.now rings }
-    ensures { IfOk result (λ found. StandsFor text.now found.items) }
+/// The rings of a text, or why it is refused; `Memory` as soon as there is none, whatever the text.
+fn gather<A: Allocator + Copy>(alloc: A, text: &[u8]) -> Result<Vec<Ring<A>, A>, Fault>
+    ensures { MatchResult result (λ rings. StandsFor text.now rings.items) (λ fault. IsRefused text.now fault ⊎ (fault ≡ Fault.Memory)) }
 {
-    let mut reader = Reader::new();
-    let mut collector = Collector {
-        rings: Vec::new(alloc),
-        points: Vec::new(alloc),
-    };
-    for (at, byte) in text.iter().enumerate() {
-        let Some(event) = reader.step(at, *byte) else {
-            unreachable!();
-        };
-        collector.note(alloc, event)?;
+    if text.len() > LENGTH_LIMIT {
+        return Err(Fault::LayerLong);
     }
-    let Collector { rings, .. } = collector;
-    Ok(rings)
+    let mut reader = Reader::new();
+    let mut survey = Survey::new();
+    let mut collector = Collector::new(alloc);
+    let mut at = 0;
+    while at < text.len() {
+        let Some(event) = reader.step(at, text[at]) else {
+            return Err(Fault::Syntax(at));
+        };
+        survey.note(at, event);
+        let Ok(()) = collector.note(alloc, event) else {
+            return Err(Fault::Memory);
+        };
+        at = reader.pass_point(text, at + 1);
+    }
+    if !reader.may_end() {
+        return Err(Fault::Syntax(text.len()));
+    }
+    match survey.verdict() {
+        Ok(_) => {
+            let Collector { rings, .. } = collector;
+            Ok(rings)
+        }
+        Err(fault) => Err(fault),
+    }
 }
 
 /// The rings of a layer text in their order, or why it is refused, as `check_layer` says; `Memory` only on a text that
@@ -92,9 +119,13 @@ pub fn read_layer<A: Allocator + Copy>(alloc: A, text: &[u8]) -> Result<Layer<A>
     ensures answer { MatchResult result (λ layer. StandsFor text.now layer.rings.items) (λ fault. IsRefused text.now fault ⊎ ((fault ≡ Fault.Memory) × (rings : List (List PtOf)) × StandsFor text.now rings)) }
     ensures in_limit { IfOk result (λ layer. All (λ ring. All InLimit ring) layer.rings.items) }
 {
-    check_layer(text)?;
-    match rings(alloc, text) {
+    match gather(alloc, text) {
         Ok(rings) => Ok(Layer { rings }),
-        Err(_) => Err(Fault::Memory),
+        // The text may be at fault behind the place where memory ran out.
+        Err(Fault::Memory) => {
+            check_layer(text)?;
+            Err(Fault::Memory)
+        }
+        Err(fault) => Err(fault),
     }
 }

@@ -1,10 +1,12 @@
 //! A reader of layer texts, byte by byte.
 
-ghost use Rattle.std.specs.Prelude.{◌≡◌, ℕ, min};
+ghost use Rattle.std.specs.Prelude.{◌≡◌, ◌≤◌, ℕ, length, min};
 ghost use Rattle.wkt.specs.Machine.{Notes, start, may_end};
 ghost use Rattle.wkt.specs.Reading.{ReaderIs, Stepped, number_next, x_next, event_of, value_of, with_digit};
+ghost use Rattle.wkt.specs.Running.{Passes};
 
 use crate::places::{Class, Place};
+use crate::runs::{behind_spaces, number};
 use geom::COORDINATE_LIMIT;
 
 /// A number as it is written, and the offset of its first byte.
@@ -34,13 +36,15 @@ impl Number {
     pub fn with_digit(self, digit: u8) -> Number
         ensures { result ≡ with_digit self digit }
     {
-        Number {
-            magnitude: self
-                .magnitude
+        // No saturation where none can be: it takes longer.
+        let magnitude = if self.magnitude < 400_000_000 {
+            self.magnitude * 10 + u32::from(digit)
+        } else {
+            self.magnitude
                 .saturating_mul(10)
-                .saturating_add(u32::from(digit)),
-            ..self
-        }
+                .saturating_add(u32::from(digit))
+        };
+        Number { magnitude, ..self }
     }
 }
 
@@ -97,12 +101,12 @@ impl Reader {
     pub fn step(&mut self, at: usize, byte: u8) -> Option<Event>
         ensures { (m : Notes) → ReaderIs self.old m → Stepped at byte self.old m result self.new }
     {
-        let class = Class::of(byte);
-        // Most bytes are digits behind digits.
-        if let (Place::DigitsX | Place::DigitsY, Class::Digit(digit)) = (self.place, class) {
-            self.number = self.number.with_digit(digit);
-            return Some(Event::Nothing);
+        // Most points stand before a comma.
+        if let (Place::DigitsY, b',') = (self.place, byte) {
+            self.place = Place::BeforePoint;
+            return Some(Event::Point(self.x, self.number));
         }
+        let class = Class::of(byte);
         let place = self.place;
         let next = place.turn(class, self.multi)?;
         let event = place.event(class, self.x, self.number);
@@ -111,6 +115,50 @@ impl Reader {
         self.number = place.number_after(class, at, self.number);
         self.place = next;
         Some(event)
+    }
+
+    /// Before a point, passes the point without its end, as far as it stands there; elsewhere nothing. The offset behind
+    /// it.
+    #[inline(always)]
+    pub fn pass_point(&mut self, text: &[u8], at: usize) -> usize
+        requires { at ≤ length text.now }
+        ensures { Passes text.now at result self.old self.new }
+    {
+        let Place::BeforePoint = self.place else {
+            return at;
+        };
+        let from = behind_spaces(text, at);
+        let Some((x, end)) = number(text, from) else {
+            return from;
+        };
+        self.number = x;
+        self.place = Place::DigitsX;
+        self.pass_second(text, end)
+    }
+
+    /// Behind a point's first number, passes the gap and the second number, as far as they stand there. The offset behind
+    /// them.
+    #[inline(always)]
+    fn pass_second(&mut self, text: &[u8], at: usize) -> usize
+        requires within { at ≤ length text.now }
+        requires place { self.old.place ≡ Place.DigitsX }
+        ensures { Passes text.now at result self.old self.new }
+    {
+        if at >= text.len() {
+            return at;
+        }
+        let Class::Space = Class::of(text[at]) else {
+            return at;
+        };
+        self.x = self.number;
+        self.place = Place::BeforeY;
+        let from = behind_spaces(text, at + 1);
+        let Some((y, end)) = number(text, from) else {
+            return from;
+        };
+        self.number = y;
+        self.place = Place::DigitsY;
+        end
     }
 }
 

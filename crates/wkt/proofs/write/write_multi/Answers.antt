@@ -1,4 +1,4 @@
-use Rattle.std.proofs.Common.{◌≡◌, ◌∙◌, ◌≤◌, ◌∷◌, List, [], ℕ, ap, length, subst, sym, arith}
+use Rattle.std.proofs.Common.{◌∙◌, ◌≤◌, List, [], ℕ, ap, length, subst, sym}
 use Rattle.std.specs.Prelude.{All}
 use Rattle.geom.specs.declared.point.Pt.{Pt}
 use Rattle.wkt.specs.Canonical.{multi_text, rings_of}

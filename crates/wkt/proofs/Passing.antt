@@ -1,0 +1,164 @@
+-- What the reader passes from byte to byte, and in one go.
+use Rattle.std.proofs.Common.{◌≡◌, ℕ, suc, ◌+◌, ◌-◌, ◌<◌, ◌≤◌, Bool, true, false, List, ◌∷◌, length, get_or, drop, Option, Some, refl, sym, ap, subst, ◌∙◌, arith, length-drop}
+use Rattle.std.specs.Prelude.{option_and_then, option_map}
+use Rattle.std.proofs.Math.Seq.{drop-cons}
+use Rattle.std.proofs.Math.Numerals.{add-one}
+use Rattle.wkt.specs.declared.places.Place.{Place}
+use Rattle.wkt.specs.declared.places.Place.TheVariants.{BeforePoint, MinusX, DigitsX, BeforeY, MinusY, DigitsY}
+use Rattle.wkt.specs.declared.places.Class.{Class}
+use Rattle.wkt.specs.declared.places.Class.TheVariants.{Space, Digit, Minus}
+use Rattle.wkt.specs.declared.reader.Number.{Number as Numeral}
+use Rattle.wkt.specs.declared.reader.Reader.{Reader}
+use Rattle.wkt.specs.declared.reader.Event.{Event}
+use Rattle.wkt.specs.declared.reader.Event.TheVariants.{Nothing}
+use Rattle.wkt.specs.Machine.{class_of, turn, Notes, noted, step, run, start, is_multi_after}
+use Rattle.wkt.specs.Reading.{with_digit, number_next, x_next, event_of, ReaderIs, Says, Went}
+use Rattle.wkt.specs.Running.{HasRead, HasPassed, Passes, before, behind_minus, behind_digit, reader_at, PassesSpaces, PassesDigits, PassesNumber}
+use Rattle.wkt.proofs.Fronts.{goes_on, noted_multi}
+use Rattle.wkt.proofs.Steps.{went}
+
+-- ---- a byte
+
+pub run_on : (text : List ℕ) (at : ℕ) (p q : Place) (m : Notes) → at < length text → turn p (class_of (get_or text at 0)) m.multi ≡ Some q
+    → run (length text) (record { place = p; notes = m }) (drop at text) ≡ run (length text) (record { place = q; notes = noted at p (class_of (get_or text at 0)) m }) (drop (at + 1) text)
+run_on text at p q m lt e =
+    let b = get_or text at 0 in
+    let t = drop (suc at) text in
+    let here : length text - length (b ∷ t) ≡ at = omega (arith, length-drop (suc at) text) in
+    ap (run (length text) (record { place = p; notes = m })) (drop-cons text at 0 lt)
+    ∙ ap (λ (k : ℕ). option_and_then (λ s'. run (length text) s' t) (step k (record { place = p; notes = m }) (class_of b))) here
+    ∙ ap (λ (o : Option Place). option_and_then (λ s'. run (length text) s' t) (option_map (λ x. record { place = x; notes = noted at p (class_of b) m }) o)) e
+    ∙ ap (λ (k : ℕ). run (length text) (record { place = q; notes = noted at p (class_of b) m }) (drop k text)) (sym (add-one at))
+
+pub read_first : (text : List ℕ) (r : Reader) → r.place ≡ start.place → ReaderIs r start.notes → HasRead text 0 r start.notes
+read_first text r p h = record {
+  within = omega arith;
+  on = ap (λ (q : Place). run (length text) (record { place = q; notes = start.notes }) text) (sym p);
+  walked = ap (λ (q : Place). Some (q, false)) (sym p) ∙ ap (λ (b : Bool). Some (r.place, b)) (sym h.0);
+  is = h;
+}
+
+pub read_more : (text : List ℕ) (at : ℕ) (r : Reader) (m : Notes) (e : Event) (r' : Reader) → at < length text → HasRead text at r m → Went at (get_or text at 0) r m e r' → HasRead text (at + 1) r' (noted at r.place (class_of (get_or text at 0)) m)
+read_more text at r m e r' lt h w =
+    let k = class_of (get_or text at 0) in
+    let t : Some r'.place ≡ turn r.place k r.multi = sym w.place ∙ ap (turn r.place k) (sym h.is.0) in
+    let b : r'.multi ≡ is_multi_after r.place k r.multi = w.notes.0 ∙ noted_multi at r.place k m ∙ ap (is_multi_after r.place k) (sym h.is.0) in
+    record {
+      within = omega arith;
+      on = h.on ∙ run_on text at r.place r'.place m lt w.place;
+      walked = goes_on text at r.place r'.place k r.multi r'.multi lt h.walked refl t b;
+      is = w.notes;
+    }
+
+-- ---- what nothing completes
+
+pub passes_none : (text : List ℕ) (at : ℕ) (r : Reader) → at ≤ length text → Passes text at at r r
+passes_none text at r le = record { onward = omega arith; within = le; passed = λ m h. record { notes = m; read = h; rings = refl; ring_at = refl; points = refl } }
+
+pub passes_then : (text : List ℕ) (a b c : ℕ) (q r s : Reader) → Passes text a b q r → Passes text b c r s → Passes text a c q s
+passes_then text a b c q r s f g = record {
+  onward = omega (arith, f.onward, g.onward);
+  within = g.within;
+  passed = λ m h.
+      let p : HasPassed text b r m = f.passed m h in
+      let k : HasPassed text c s p.notes = g.passed p.notes p.read in
+      record { notes = k.notes; read = k.read; rings = k.rings ∙ p.rings; ring_at = k.ring_at ∙ p.ring_at; points = k.points ∙ p.points };
+}
+
+-- one byte that completes nothing
+passes_byte : (text : List ℕ) (at : ℕ) (k : Class) (old : Reader) (next : Place) → at < length text → class_of (get_or text at 0) ≡ k → turn old.place k old.multi ≡ Some next → event_of old.place k old.x old.number ≡ Nothing
+    → Passes text at (at + 1) old (record { place = next; multi = is_multi_after old.place k old.multi; x = x_next old.place k old.x old.number; number = number_next old.place k at old.number })
+passes_byte text at k old next lt is turns none = record {
+  onward = omega arith;
+  within = omega arith;
+  passed = λ m h.
+      let new : Reader = record { place = next; multi = is_multi_after old.place k old.multi; x = x_next old.place k old.x old.number; number = number_next old.place k at old.number } in
+      let e : Event = event_of old.place k old.x old.number in
+      let m' : Notes = noted at old.place (class_of (get_or text at 0)) m in
+      let w : Went at (get_or text at 0) old m e new = went at (get_or text at 0) k old m next (sym is) (sym turns) h.is in
+      let s : Says Nothing at m m' = subst (λ (x : Event). Says x at m m') none w.says in
+      record { notes = m'; read = read_more text at old m e new lt h w; rings = s.0; ring_at = s.1; points = s.2 };
+}
+
+space : (text : List ℕ) (at : ℕ) → at < length text → class_of (get_or text at 0) ≡ Space → (second multi : Bool) (x n : Numeral) → Passes text at (at + 1) (reader_at (before second) multi x n) (reader_at (before second) multi x n)
+space text at lt is false multi x n = passes_byte text at Space (reader_at BeforePoint multi x n) BeforePoint lt is refl refl
+space text at lt is true multi x n = passes_byte text at Space (reader_at BeforeY multi x n) BeforeY lt is refl refl
+
+minus : (text : List ℕ) (at : ℕ) → at < length text → class_of (get_or text at 0) ≡ Minus → (second multi : Bool) (x n : Numeral)
+    → Passes text at (at + 1) (reader_at (before second) multi x n) (reader_at (behind_minus second) multi x (record { at = at; negative = true; magnitude = 0 }))
+minus text at lt is false multi x n = passes_byte text at Minus (reader_at BeforePoint multi x n) MinusX lt is refl refl
+minus text at lt is true multi x n = passes_byte text at Minus (reader_at BeforeY multi x n) MinusY lt is refl refl
+
+first_digit : (text : List ℕ) (at d : ℕ) → at < length text → class_of (get_or text at 0) ≡ Digit d → (second multi : Bool) (x n : Numeral)
+    → Passes text at (at + 1) (reader_at (before second) multi x n) (reader_at (behind_digit second) multi x (record { at = at; negative = false; magnitude = d }))
+first_digit text at d lt is false multi x n = passes_byte text at (Digit d) (reader_at BeforePoint multi x n) DigitsX lt is refl refl
+first_digit text at d lt is true multi x n = passes_byte text at (Digit d) (reader_at BeforeY multi x n) DigitsY lt is refl refl
+
+signed_digit : (text : List ℕ) (at d : ℕ) → at < length text → class_of (get_or text at 0) ≡ Digit d → (second multi : Bool) (x n : Numeral)
+    → Passes text at (at + 1) (reader_at (behind_minus second) multi x n) (reader_at (behind_digit second) multi x (record n { magnitude = d }))
+signed_digit text at d lt is false multi x n = passes_byte text at (Digit d) (reader_at MinusX multi x n) DigitsX lt is refl refl
+signed_digit text at d lt is true multi x n = passes_byte text at (Digit d) (reader_at MinusY multi x n) DigitsY lt is refl refl
+
+digit : (text : List ℕ) (at d : ℕ) → at < length text → class_of (get_or text at 0) ≡ Digit d → (second multi : Bool) (x n : Numeral)
+    → Passes text at (at + 1) (reader_at (behind_digit second) multi x n) (reader_at (behind_digit second) multi x (with_digit n d))
+digit text at d lt is false multi x n = passes_byte text at (Digit d) (reader_at DigitsX multi x n) DigitsX lt is refl refl
+digit text at d lt is true multi x n = passes_byte text at (Digit d) (reader_at DigitsY multi x n) DigitsY lt is refl refl
+
+-- ---- runs
+
+pub spaces_none : (text : List ℕ) (at : ℕ) → at ≤ length text → PassesSpaces text at at
+spaces_none text at le = λ second multi x n. passes_none text at (reader_at (before second) multi x n) le
+
+pub spaces_more : (text : List ℕ) (at end : ℕ) → PassesSpaces text at end → end < length text → class_of (get_or text end 0) ≡ Space → PassesSpaces text at (end + 1)
+spaces_more text at end p lt is = λ second multi x n.
+    let r = reader_at (before second) multi x n in
+    passes_then text at end (end + 1) r r r (p second multi x n) (space text end lt is second multi x n)
+
+pub digits_none : (text : List ℕ) (at : ℕ) (n : Numeral) → at ≤ length text → PassesDigits text at at n n
+digits_none text at n le = λ second multi x. passes_none text at (reader_at (behind_digit second) multi x n) le
+
+pub digits_more : (text : List ℕ) (at end d : ℕ) (n l : Numeral) → PassesDigits text at end n l → end < length text → class_of (get_or text end 0) ≡ Digit d → PassesDigits text at (end + 1) n (with_digit l d)
+digits_more text at end d n l p lt is = λ second multi x.
+    passes_then text at end (end + 1) (reader_at (behind_digit second) multi x n) (reader_at (behind_digit second) multi x l) (reader_at (behind_digit second) multi x (with_digit l d))
+    (p second multi x) (digit text end d lt is second multi x l)
+
+pub positive : (text : List ℕ) (at end d : ℕ) (read : Numeral) → at < length text → class_of (get_or text at 0) ≡ Digit d → PassesDigits text (at + 1) end (record { at = at; negative = false; magnitude = d }) read → PassesNumber text at end read
+positive text at end d read lt is p = λ second multi x n.
+    passes_then text at (at + 1) end (reader_at (before second) multi x n) (reader_at (behind_digit second) multi x (record { at = at; negative = false; magnitude = d })) (reader_at (behind_digit second) multi x read)
+    (first_digit text at d lt is second multi x n) (p second multi x)
+
+pub negative : (text : List ℕ) (at end d : ℕ) (read : Numeral) → at < length text → class_of (get_or text at 0) ≡ Minus → at + 1 < length text → class_of (get_or text (at + 1) 0) ≡ Digit d
+    → PassesDigits text (at + 1 + 1) end (record { at = at; negative = true; magnitude = d }) read → PassesNumber text at end read
+negative text at end d read lt is lt' is' p = λ second multi x n.
+    let signed : Numeral = record { at = at; negative = true; magnitude = 0 } in
+    let first : Numeral = record { at = at; negative = true; magnitude = d } in
+    passes_then text at (at + 1) end (reader_at (before second) multi x n) (reader_at (behind_minus second) multi x signed) (reader_at (behind_digit second) multi x read)
+    (minus text at lt is second multi x n)
+    (passes_then text (at + 1) (at + 1 + 1) end (reader_at (behind_minus second) multi x signed) (reader_at (behind_digit second) multi x first) (reader_at (behind_digit second) multi x read)
+    (signed_digit text (at + 1) d lt' is' second multi x signed) (p second multi x))
+
+-- ---- a point
+
+-- behind its first number
+pub first_number : (text : List ℕ) (at from end : ℕ) (r : Reader) (read : Numeral) → r.place ≡ BeforePoint → PassesSpaces text at from → PassesNumber text from end read → Passes text at end r (reader_at DigitsX r.multi r.x read)
+first_number text at from end r read e f g =
+    let b : Reader = reader_at BeforePoint r.multi r.x r.number in
+    subst (λ (p : Place). Passes text at end (reader_at p r.multi r.x r.number) (reader_at DigitsX r.multi r.x read)) (sym e)
+    (passes_then text at from end b b (reader_at DigitsX r.multi r.x read) (f false r.multi r.x r.number) (g false r.multi r.x r.number))
+
+pub before_first : (text : List ℕ) (at from : ℕ) (r : Reader) → r.place ≡ BeforePoint → PassesSpaces text at from → Passes text at from r r
+before_first text at from r e f =
+    subst (λ (p : Place). Passes text at from (reader_at p r.multi r.x r.number) (reader_at p r.multi r.x r.number)) (sym e) (f false r.multi r.x r.number)
+
+-- behind the gap
+pub before_second : (text : List ℕ) (at from : ℕ) (r : Reader) → r.place ≡ DigitsX → at < length text → class_of (get_or text at 0) ≡ Space → PassesSpaces text (at + 1) from → Passes text at from r (reader_at BeforeY r.multi r.number r.number)
+before_second text at from r e lt is f =
+    let b : Reader = reader_at BeforeY r.multi r.number r.number in
+    subst (λ (p : Place). Passes text at from (reader_at p r.multi r.x r.number) b) (sym e)
+    (passes_then text at (at + 1) from (reader_at DigitsX r.multi r.x r.number) b b
+    (passes_byte text at Space (reader_at DigitsX r.multi r.x r.number) BeforeY lt is refl refl) (f true r.multi r.number r.number))
+
+pub second_number : (text : List ℕ) (at from end : ℕ) (r : Reader) (read : Numeral) → r.place ≡ DigitsX → at < length text → class_of (get_or text at 0) ≡ Space → PassesSpaces text (at + 1) from → PassesNumber text from end read
+    → Passes text at end r (reader_at DigitsY r.multi r.number read)
+second_number text at from end r read e lt is f g =
+    passes_then text at from end r (reader_at BeforeY r.multi r.number r.number) (reader_at DigitsY r.multi r.number read) (before_second text at from r e lt is f) (g true r.multi r.number r.number)
