@@ -3,3 +3,4 @@ pub mod Texts
 pub mod CommandLine
 pub mod Arguments
 pub mod Runs
+pub mod Results

@@ -36,9 +36,9 @@ pub struct Plan {
 
 /// What is written, and the numbers of the run.
 #[derive(Drop)]
-struct Made<A: Allocator> {
-    text: Vec<u8, A>,
-    report: Report<A>,
+pub struct Made<A: Allocator> {
+    pub text: Vec<u8, A>,
+    pub report: Report<A>,
 }
 
 /// Writes the rounded edges of two layers to a sink. It is refused for the first of these: a bad tile side, a bad number
@@ -56,7 +56,17 @@ pub fn edges<A: Allocator + Copy, G: Gate, S: Sink>(
     ensures { Runs S.failed S.settled S.taken sink.old sink.new plan a.now b.now result }
 {
     let segments = checked(a, b, plan)?;
-    let Ok(made) = make_edges(alloc, a, b, segments) else {
+    send(make_edges(alloc, a, b, segments), sink)
+}
+
+/// Sends the text that was made, and gives its report.
+pub fn send<A: Allocator, S: Sink>(
+    made: Result<Made<A>, NoMemory>,
+    sink: &mut S,
+) -> Result<Report<A>, RunFault>
+    requires { S.failed sink.old < u64.MAX }
+{
+    let Ok(made) = made else {
         return Err(RunFault {
             at: Part::Run,
             fault: Fault::Memory,
@@ -72,7 +82,7 @@ pub fn edges<A: Allocator + Copy, G: Gate, S: Sink>(
 }
 
 /// The numbers of segments of both layers, where nothing is refused.
-fn checked(a: &[u8], b: &[u8], plan: Plan) -> Result<(u32, u32), RunFault>
+pub fn checked(a: &[u8], b: &[u8], plan: Plan) -> Result<(u32, u32), RunFault>
     ensures { MatchResult result (λ n. IsChecked plan a.now b.now n.0 n.1) (λ f. IsRefusedAt plan a.now b.now f.at f.fault) }
 {
     check_plan(plan)?;
@@ -145,20 +155,23 @@ fn make_edges<A: Allocator + Copy>(
 {
     let rounding = rounded(alloc, a, b)?;
     let text = edges_text(alloc, rounding.edges.as_slice())?;
-    let report = Report {
+    Ok(Made { text, report: report_of(alloc, &rounding, segments)? })
+}
+
+pub fn report_of<A: Allocator + Copy>(alloc: A, rounding: &Rounding<A>, segments: (u32, u32)) -> Result<Report<A>, NoMemory> {
+    Ok(Report {
         segments_a: segments.0,
         segments_b: segments.1,
         hot: u64::from(rounding.hot),
         records: u64::from(rounding.records),
         edges: u32::try_from(rounding.edges.len()).map_err(|_| NoMemory)?,
         remade: 0,
-        tiles: one_tile(alloc, &rounding)?,
-    };
-    Ok(Made { text, report })
+        tiles: one_tile(alloc, rounding)?,
+    })
 }
 
 /// The rounded edges of two layers that were checked.
-fn rounded<A: Allocator + Copy>(alloc: A, a: &[u8], b: &[u8]) -> Result<Rounding<A>, NoMemory> {
+pub fn rounded<A: Allocator + Copy>(alloc: A, a: &[u8], b: &[u8]) -> Result<Rounding<A>, NoMemory> {
     let Ok(layer_a) = read_layer(alloc, a) else {
         return Err(NoMemory);
     };
