@@ -11,7 +11,9 @@ use geom::{Edge, Fault, Part, Pt, RunFault};
 use linked_list_allocator::LocalHeap;
 use std::alloc::{AllocError, Allocator};
 use std::process::Abort;
+use std::sync::Wait;
 use std::test::Fail;
+use std::thread::Threads;
 use tile_book::OpenGate;
 
 const SQUARE: &str = "POLYGON ((0 0, 4 0, 4 4, 0 4, 0 0))\n";
@@ -246,7 +248,7 @@ const CASES: [Case; 24] = [
         Told::Text("overlay: unknown command\n"),
     ),
     (
-        &["union", "square", "other"],
+        &["symDifference", "square", "other"],
         2,
         "",
         Told::Text("overlay: unknown command\n"),
@@ -345,13 +347,14 @@ const CASES: [Case; 24] = [
     ),
 ];
 
-fn check_case<R: AllocGlobal + Abort>(rt: &R, case: Case) -> Result<(), Fail> {
+fn check_case<R: AllocGlobal + Abort + Threads + Wait + Sync>(rt: &R, case: Case) -> Result<(), Fail> {
     let (rest, want, text, told) = case;
     let mut words = vec![in rt.alloc(); "overlay"; 1]?;
     words.extend_from_slice(rest)?;
     let mut out = MemSink::new(rt.alloc(), 4000)?;
     let mut err = MemSink::new(rt.alloc(), 4000)?;
     let status = drive(
+        rt,
         rt.alloc(),
         words.as_slice(),
         &mut MemFiles,
@@ -394,14 +397,14 @@ const REFUSED: [(&str, &str); 8] = [
     ("open", "4 open ring at 9\n"),
 ];
 
-fn check_refused<R: AllocGlobal + Abort>(
+fn check_refused<R: AllocGlobal + Abort + Threads + Wait + Sync>(
     rt: &R,
     words: &[&str],
     want: &[&str],
 ) -> Result<(), Fail> {
     let mut out = MemSink::new(rt.alloc(), 4000)?;
     let mut err = MemSink::new(rt.alloc(), 4000)?;
-    let status = drive(rt.alloc(), words, &mut MemFiles, &mut out, &mut err);
+    let status = drive(rt, rt.alloc(), words, &mut MemFiles, &mut out, &mut err);
     let mut line = Vec::new(rt.alloc());
     for part in want {
         line.extend_from_slice(part.as_bytes())?;
@@ -450,7 +453,7 @@ fn helps(rt: HostRuntime) -> Result<(), Fail> {
     let mut out = MemSink::new(rt.alloc(), 4000)?;
     let mut err = MemSink::new(rt.alloc(), 4000)?;
     assert_eq!(rt;
-        drive(rt.alloc(), &words, &mut MemFiles, &mut out, &mut err),
+        drive(&rt, rt.alloc(), &words, &mut MemFiles, &mut out, &mut err),
         0
     );
     assert!(rt;
@@ -467,7 +470,7 @@ fn fails_to_help(rt: HostRuntime) -> Result<(), Fail> {
     let mut full = MemSink::new(rt.alloc(), 10)?;
     let mut err = MemSink::new(rt.alloc(), 4000)?;
     assert_eq!(rt;
-        drive(rt.alloc(), &words, &mut MemFiles, &mut full, &mut err),
+        drive(&rt, rt.alloc(), &words, &mut MemFiles, &mut full, &mut err),
         1
     );
     assert!(rt; err.bytes().is_empty());
@@ -529,14 +532,14 @@ fn fails_to_write(rt: HostRuntime) -> Result<(), Fail> {
     let mut out = OneByOne::new(rt.alloc(), 1, false);
     let mut err = MemSink::new(rt.alloc(), 1000)?;
     assert_eq!(rt;
-        drive(rt.alloc(), &words, &mut MemFiles, &mut out, &mut err),
+        drive(&rt, rt.alloc(), &words, &mut MemFiles, &mut out, &mut err),
         1
     );
     assert!(rt; err.bytes() == b"overlay: 11 write failed\n".as_slice());
     let mut out = MemSink::new(rt.alloc(), 1000)?;
     let mut err = OneByOne::new(rt.alloc(), 1, false);
     assert_eq!(rt;
-        drive(rt.alloc(), &words, &mut MemFiles, &mut out, &mut err),
+        drive(&rt, rt.alloc(), &words, &mut MemFiles, &mut out, &mut err),
         1
     );
     assert!(rt; out.bytes() == SQUARES.as_bytes());
@@ -544,7 +547,7 @@ fn fails_to_write(rt: HostRuntime) -> Result<(), Fail> {
     let mut out = MemSink::new(rt.alloc(), 1000)?;
     let mut err = OneByOne::new(rt.alloc(), 1, false);
     assert_eq!(rt;
-        drive(rt.alloc(), &words, &mut MemFiles, &mut out, &mut err),
+        drive(&rt, rt.alloc(), &words, &mut MemFiles, &mut out, &mut err),
         3
     );
     Ok(())
