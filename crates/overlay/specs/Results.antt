@@ -8,6 +8,9 @@ use Rattle.geom.specs.Directed.{AreResultEdges}
 use Rattle.geom.specs.ListOrder.{IsLeastRotation}
 use Rattle.polygonize.specs.Written.{AreSimple}
 use Rattle.wkt.specs.Canonical.{listed, ring_text}
+use Rattle.overlay.specs.declared.engine.Plan.{Plan}
+use Rattle.overlay.specs.declared.text.Report.{Report}
+use Rattle.overlay.specs.Runs.{Reports}
 
 -- `(`, the shell, the holes, `)`
 abbrev pub shape_text : Shape → List ℕ
@@ -28,3 +31,9 @@ pub record IsResultText (op : Op) (counted : List Counted) (text : List ℕ) : T
   pub simple : AreSimple (written_rings polygons)
   pub least : All (λ ring. IsLeastRotation ring ring) (written_rings polygons)
   pub written : text ≡ result_line polygons
+
+-- the text of the result, and its report
+pub record IsResultWritten {M : Type 0} (op : Op) (plan : Plan) (a b : List ℕ) (text : List ℕ) (report : Report M) : Type 0 where
+  pub counted : List Counted
+  pub result : IsResultText op counted text
+  pub reports : Reports plan a b counted report

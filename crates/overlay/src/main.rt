@@ -7,12 +7,10 @@ mod engine;
 mod files;
 mod operation;
 mod program;
-mod rounding;
+mod rounds;
 mod segments;
 mod sink;
 mod stream;
-mod strips;
-mod tally;
 mod text;
 
 pub use asked::{CliFault, Command, Request};

@@ -113,7 +113,7 @@ fn perform<R: Threads + Wait + Sync, O: Sink>(
         workers: asked.workers,
     };
     match asked.command {
-        Command::Edges => edges(alloc, a, b, plan, &OpenGate, out),
+        Command::Edges => edges(rt, alloc, a, b, plan, &OpenGate, out),
         Command::Apply(op) => run(rt, alloc, op, a, b, plan, &OpenGate, out),
     }
 }
