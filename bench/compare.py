@@ -1,13 +1,13 @@
 #!/usr/bin/env python3
 """Compares the built program with a reference, byte for byte, on the samples and on generated layer pairs.
 
-    python3 bench/compare.py --reference PATH [--program PATH] [--pairs N] [--seed N] [--first N] [--report]
+    python3 bench/compare.py --reference PATH [--program PATH] [--pairs N] [--seed N] [--first N] [--report] [--plans]
 
 The reference is a program with the same command line (a Python file is run by this Python). Every pair is run as
-`edges A B`: status, standard output and standard error have to be equal, with `--report` also the reports (these differ
-where there are several tiles, as long as the program has one). Pair k has generator k modulo the number of generators and
-its own seed, so one pair can be run again by `--first k --pairs 1`. A pair that differs is left in bench/out/, and the exit
-status is 1.
+`edges A B`: status, standard output and standard error have to be equal, with `--report` also the reports. With `--plans`
+the program is also run with other tile sides and numbers of workers, and has to give the same bytes as before, or what the
+reference says of that side where it refuses it. Pair k has generator k modulo the number of generators and its own seed, so
+one pair can be run again by `--first k --pairs 1`. A pair that differs is left in bench/out/, and the exit status is 1.
 """
 import argparse
 import os
@@ -135,10 +135,28 @@ def pair(k, seed):
     return text_of(first(rng)), text_of(second(rng))
 
 
-def outcome(command, a, b, report):
+# Tile sides and numbers of workers beside the default ones.
+PLANS = [(16, 1), (16, 2), (33, 7), (1000, 2), (33_554_432, 7)]
+
+
+def outcome(command, a, b, report, plan=()):
+    words = ["--tile=%d" % plan[0], "--workers=%d" % plan[1]] if plan else []
     start = time.monotonic()
-    run = subprocess.run(command + ["edges", a, b] + ["--report"] * report, stdout=subprocess.PIPE, stderr=subprocess.PIPE)
+    run = subprocess.run(command + ["edges", a, b] + words + ["--report"] * report, stdout=subprocess.PIPE, stderr=subprocess.PIPE)
     return (run.returncode, run.stdout, run.stderr), time.monotonic() - start
+
+
+def plans_differ(program, reference, a, b, report, answer):
+    """Which plans give something else than the answer of the default one, or than the reference's refusal."""
+    bad = []
+    for plan in PLANS:
+        got, _ = outcome(program, a, b, report, plan)
+        if got[0] == 0 and not report and got == answer:
+            continue
+        want, _ = outcome(reference, a, b, report, plan)
+        if got != want or (got[0] == 0 and got[1] != answer[1]):
+            bad.append(plan)
+    return bad
 
 
 def program_of(path):
@@ -153,6 +171,7 @@ def main():
     parser.add_argument("--first", type=int, default=0)
     parser.add_argument("--seed", type=int, default=1)
     parser.add_argument("--report", action="store_true")
+    parser.add_argument("--plans", action="store_true")
     args = parser.parse_args()
     folder = os.path.join(ROOT, "bench/out")
     os.makedirs(folder, exist_ok=True)
@@ -172,6 +191,9 @@ def main():
         if got != want:
             bad += 1
             print("%s differs: %s %s (status %d, reference %d)" % (name, a, b, got[0], want[0]))
+        elif args.plans and (plans := plans_differ(program_of(args.program), program_of(args.reference), a, b, args.report, got)):
+            bad += 1
+            print("%s differs by plan: %s %s %s" % (name, a, b, plans))
         elif folder in a:
             os.remove(a)
             os.remove(b)

@@ -1,7 +1,6 @@
 -- The segments of two layers, their boxes, and what of them is rounded (own).
-use Rattle.std.specs.Prelude.{◌≡◌, ◌++◌, ◌≤◌, ◌<◌, not, ℕ, All, List, [], Option, MatchOption, filter, length, map, sum_by}
+use Rattle.std.specs.Prelude.{◌≡◌, ◌++◌, ◌≤◌, ◌<◌, not, ℕ, All, List, [], Option, MatchOption, filter, map, sum_by}
 use Rattle.geom.specs.Bounds.{IsBox}
-use Rattle.geom.specs.Box.{greatest_corner, least_corner}
 use Rattle.geom.specs.Limit.{AreInLimit, InLimit}
 use Rattle.geom.specs.Rounded.{AreRounded}
 use Rattle.geom.specs.Segments.{AreSegments, layer_steps, parts, same_point, tagged}
@@ -15,6 +14,8 @@ use Rattle.geom.specs.declared.fault.Fault.TheVariants.{TooManyTiles}
 use Rattle.geom.specs.declared.fault.Part.{Part}
 use Rattle.geom.specs.declared.fault.Part.TheVariants.{Run}
 use Rattle.tiling.specs.Tiles.{CoversBounds, IsGridOf, Tiling, most_tiles, tile_count}
+use Rattle.chain_gather.specs.Gathered.{AreTileNumbers}
+use Rattle.chain_gather.specs.declared.rounded.TileNumbers.{TileNumbers}
 use Rattle.wkt.specs.LayerText.{Ring}
 use Rattle.wkt.specs.Refusals.{IsAccepted, plain}
 
@@ -33,10 +34,6 @@ proper layer steps = map (tagged layer) (filter (λ step. not (same_point step.0
 -- new has the segments of these steps behind those of old
 abbrev pub HasSteps : Source → List (Pt × Pt) → List Seg → List Seg → Type 0
 HasSteps layer steps old new = map parts new ≡ map parts old ++ proper layer steps
-
--- the boxes are the least boxes of the segments, in their order
-abbrev pub AreBoxesOf : List Seg → List Rect → Type 0
-AreBoxesOf segments boxes = map {B = Pt × Pt} (λ b. (b.lo, b.hi)) boxes ≡ map {B = Pt × Pt} (λ s. (least_corner s.a s.b, greatest_corner s.a s.b)) segments
 
 -- the segments of the layers that two texts stand for
 pub record AreSegmentsOf (a b : List ℕ) (segments : List Seg) : Type 0 where
@@ -81,3 +78,18 @@ pub record IsGridOver (rings_a rings_b : List Ring) (side : ℕ) (g : Tiling) : 
   pub bounds : Option Rect
   pub are_bounds : AreBoundsOf (layer_steps (plain rings_a) ++ layer_steps (plain rings_b)) bounds
   pub is_grid : IsGridOf bounds side g
+
+-- ---- what is rounded
+
+-- the counted edges are the rounded edges of the layers of two texts, and the tiles' numbers those of their pieces
+pub record AreRoundedOver (a b : List ℕ) (g : Tiling) (counted : List Counted) (tiles : List TileNumbers) : Type 0 where
+  pub segments : List Seg
+  pub are_segments : AreSegmentsOf a b segments
+  pub rounded : ∥ AreRounded segments counted ∥₁
+  pub tiles_are : AreTileNumbers g segments (tile_count g) tiles
+
+-- the numbers of each tile, and their sums
+pub record TellsTiles (tiles : List TileNumbers) (hot records : ℕ) (told : List (ℕ × ℕ)) : Type 0 where
+  pub told_is : told ≡ map (λ t. (t.hot, t.records)) tiles
+  pub hot_is : hot ≡ sum_by (λ t. t.hot) tiles
+  pub records_is : records ≡ sum_by (λ t. t.records) tiles

@@ -18,7 +18,8 @@ use Rattle.wkt.specs.Refusals.{IsAccepted, IsRefused, plain}
 use Rattle.overlay.specs.declared.text.Report.{Report}
 use Rattle.overlay.specs.Sinks.{SentAll, SentPart}
 use Rattle.overlay.specs.Texts.{edges_text_of}
-use Rattle.overlay.specs.Rounds.{AreBoundsOf, IsGridOver}
+use Rattle.chain_gather.specs.declared.rounded.TileNumbers.{TileNumbers}
+use Rattle.overlay.specs.Rounds.{AreBoundsOf, AreRoundedOver, IsGridOver, TellsTiles}
 use Rattle.overlay.specs.declared.engine.Plan.{Plan}
 
 -- the side of a tile is within its limits, in grid units
@@ -86,7 +87,7 @@ pub record IsChecked (plan : Plan) (a b : List ℕ) (segments_a segments_b : ℕ
   pub are_bounds : AreBoundsOf (layer_steps (plain rings_a) ++ layer_steps (plain rings_b)) bounds
   pub covers : CoversBounds bounds grid
 
--- the report has the numbers of the segments and of the edges
+-- the report of these edges: they are the rounded edges of the layers, and its numbers are those of the segments, the edges, the hot pixels and the records, of each tile and in all
 pub record Reports {M : Type 0} (plan : Plan) (a b : List ℕ) (counted : List Counted) (report : Report M) : Type 0 where
   pub rings_a : List Ring
   pub rings_b : List Ring
@@ -95,6 +96,9 @@ pub record Reports {M : Type 0} (plan : Plan) (a b : List ℕ) (counted : List C
   pub segments_a : report.segments_a ≡ segment_count rings_a
   pub segments_b : report.segments_b ≡ segment_count rings_b
   pub edges : report.edges ≡ length counted
+  pub tiles : List TileNumbers
+  pub rounded : AreRoundedOver a b grid counted tiles
+  pub told : TellsTiles tiles report.hot report.records report.tiles.items
 
 -- the text of the edges, and their report
 pub record AreEdgesWritten {M : Type 0} (plan : Plan) (a b : List ℕ) (text : List ℕ) (report : Report M) : Type 0 where

@@ -8,14 +8,16 @@ ghost use Rattle.geom.specs.Fault.{number_of};
 ghost use Rattle.wkt.specs.Refusals.{IsRefused};
 ghost use Rattle.overlay.specs.Runs.{AreEdgesWritten, HasOutline, IsChecked, IsPlan, IsRefusedAt, IsRefusedPlan, IsSide, Runs, part_of, segment_limit};
 
-use crate::rounding::{Rounding, round};
+use crate::rounds::{report_of, rounded_layers};
 use crate::sink::{Sink, write_all};
 use crate::text::{Report, edges_text};
 use geom::{Fault, NoMemory, Part, Rect, RunFault, Source};
 use std::alloc::Allocator;
+use std::sync::Wait;
+use std::thread::Threads;
 use tile_book::Gate;
 use tiling::Grid;
-use wkt::{Outline, check_layer, read_layer};
+use wkt::{Outline, check_layer};
 
 /// The least side of a tile, in grid units.
 const LEAST_SIDE: u32 = 16;
@@ -55,20 +57,21 @@ pub(crate) struct Made<A: Allocator> {
 
 /// Writes the rounded edges of two layers to a sink. It is refused for the first of these: a bad tile side, a bad number
 /// of workers, layer A, layer B, too many segments, too many tiles; then for want of memory, and where the sink fails. Only
-/// a sink that fails has taken anything then. The gate is not called, since there is one tile.
-pub fn edges<A: Allocator + Copy, G: Gate, S: Sink>(
+/// a sink that fails has taken anything then. The workers call the gate.
+pub fn edges<A: Allocator + Copy + Send + Sync, G: Gate + Sync, S: Sink, R: Threads + Wait + Sync>(
+    rt: &R,
     alloc: A,
     a: &[u8],
     b: &[u8],
     plan: Plan,
-    _gate: &G,
+    gate: &G,
     sink: &mut S,
 ) -> Result<Report<A>, RunFault>
     requires { S.failed sink.old < u64.MAX }
     ensures { Runs S.failed S.settled S.taken sink.old sink.new plan a.now b.now (AreEdgesWritten plan a.now b.now) result }
 {
     let inputs = checked(a, b, plan)?;
-    let Ok(made) = make_edges(alloc, a, b, plan, &inputs) else {
+    let Ok(made) = make_edges(rt, alloc, a, b, plan, &inputs, gate) else {
         return Err(RunFault {
             at: Part::Run,
             fault: Fault::Memory,
@@ -192,49 +195,20 @@ fn joint_bounds(a: Option<Rect>, b: Option<Rect>) -> Option<Rect>
 }
 
 /// The text of the rounded edges, and the report.
-fn make_edges<A: Allocator + Copy>(
+fn make_edges<A: Allocator + Copy + Send + Sync, G: Gate + Sync, R: Threads + Wait + Sync>(
+    rt: &R,
     alloc: A,
     a: &[u8],
     b: &[u8],
     plan: Plan,
     inputs: &Inputs,
+    gate: &G,
 ) -> Result<Made<A>, NoMemory>
     requires { IsChecked plan a.now b.now inputs.now.segments_a inputs.now.segments_b inputs.now.grid }
     ensures { IfOk result (λ m. AreEdgesWritten plan a.now b.now m.text.items m.report) }
 {
-    let rounding = rounded(alloc, a, b)?;
-    let text = edges_text(alloc, rounding.edges.as_slice())?;
-    let report = Report {
-        segments_a: inputs.segments_a,
-        segments_b: inputs.segments_b,
-        hot: u64::from(rounding.hot),
-        records: u64::from(rounding.records),
-        edges: u32::try_from(rounding.edges.len()).map_err(|_| NoMemory)?,
-        remade: 0,
-        tiles: one_tile(alloc, &rounding)?,
-    };
+    let noded = rounded_layers(rt, alloc, a, b, plan, inputs, gate)?;
+    let text = edges_text(alloc, &noded.edges)?;
+    let report = report_of(alloc, inputs, &noded)?;
     Ok(Made { text, report })
-}
-
-/// The rounded edges of two layers that were checked.
-fn rounded<A: Allocator + Copy>(alloc: A, a: &[u8], b: &[u8]) -> Result<Rounding<A>, NoMemory> {
-    let Ok(layer_a) = read_layer(alloc, a) else {
-        return Err(NoMemory);
-    };
-    let Ok(layer_b) = read_layer(alloc, b) else {
-        return Err(NoMemory);
-    };
-    round(alloc, &layer_a, &layer_b)
-}
-
-/// The tile that owns all hot pixels, or none where there are none.
-fn one_tile<A: Allocator>(
-    alloc: A,
-    rounding: &Rounding<A>,
-) -> Result<Vec<(u32, u32), A>, NoMemory> {
-    let mut tiles = Vec::new(alloc);
-    if rounding.hot > 0 {
-        tiles.push((rounding.hot, rounding.records))?;
-    }
-    Ok(tiles)
 }

@@ -6,12 +6,10 @@ mod cli;
 mod engine;
 mod files;
 mod program;
-mod rounding;
+mod rounds;
 mod segments;
 mod sink;
 mod stream;
-mod strips;
-mod tally;
 mod text;
 
 pub use asked::{CliFault, Command, Request};

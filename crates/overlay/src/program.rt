@@ -15,6 +15,8 @@ use std::convert::AsStr;
 use std::env;
 use std::io::ErrorKind;
 use std::rt::Env;
+use std::sync::Wait;
+use std::thread::Threads;
 use tile_book::OpenGate;
 
 /// The exit status where all was answered, or help was asked for.
@@ -29,7 +31,8 @@ const NOT_ACCEPTED: u8 = 2;
 /// Does what a command line asks for, of which the first word is the program's name, and answers the exit status. The
 /// text goes to `out`; the line of a fault, the parser's text and the report go to `err`. A fault of the command line
 /// comes before one of its command word, then those of file A, file B and the run.
-pub fn drive<S: AsStr, F: Files, O: Sink, E: Sink>(
+pub fn drive<R: Threads + Wait + Sync, S: AsStr, F: Files, O: Sink, E: Sink>(
+    rt: &R,
     alloc: Global,
     words: &[S],
     files: &mut F,
@@ -40,13 +43,13 @@ pub fn drive<S: AsStr, F: Files, O: Sink, E: Sink>(
     requires err { E.failed err.old < u64.MAX }
 {
     match request(alloc, words) {
-        Ok(asked) => answer(alloc, &asked, files, out, err),
+        Ok(asked) => answer(rt, alloc, &asked, files, out, err),
         Err(fault) => tell_command_line(&fault, out, err),
     }
 }
 
 /// Does what the words of the process ask for. Words that are no text are a command line that isn't accepted.
-pub fn drive_process<R: Env + AllocGlobal, F: Files, O: Sink, E: Sink>(
+pub fn drive_process<R: Env + AllocGlobal + Threads + Wait + Sync, F: Files, O: Sink, E: Sink>(
     rt: &R,
     files: &mut F,
     out: &mut O,
@@ -61,13 +64,14 @@ pub fn drive_process<R: Env + AllocGlobal, F: Files, O: Sink, E: Sink>(
         Err(_) => return tell(err, b"overlay: a word is not UTF-8\n", NOT_ACCEPTED),
     };
     match words {
-        Ok(words) => drive(rt.alloc(), words.as_slice(), files, out, err),
+        Ok(words) => drive(rt, rt.alloc(), words.as_slice(), files, out, err),
         Err(_) => tell_no_memory(err),
     }
 }
 
 /// Reads both files, A before B, and runs what is asked for.
-fn answer<F: Files, O: Sink, E: Sink>(
+fn answer<R: Threads + Wait + Sync, F: Files, O: Sink, E: Sink>(
+    rt: &R,
     alloc: Global,
     asked: &Request<'_>,
     files: &mut F,
@@ -85,15 +89,16 @@ fn answer<F: Files, O: Sink, E: Sink>(
         Ok(bytes) => bytes,
         Err(fault) => return tell_file(fault, b"overlay: B: cannot read\n", err),
     };
-    match run(alloc, asked, a.as_slice(), b.as_slice(), out) {
+    match perform(rt, alloc, asked, a.as_slice(), b.as_slice(), out) {
         Ok(report) if asked.report => show_report(alloc, &report, err),
         Ok(_) => ANSWERED,
         Err(fault) => tell_fault(alloc, &fault, err),
     }
 }
 
-/// Runs the command on two layer texts.
-fn run<O: Sink>(
+/// Does what the command asks for on two layer texts.
+fn perform<R: Threads + Wait + Sync, O: Sink>(
+    rt: &R,
     alloc: Global,
     asked: &Request<'_>,
     a: &[u8],
@@ -107,7 +112,7 @@ fn run<O: Sink>(
         workers: asked.workers,
     };
     match asked.command {
-        Command::Edges => edges(alloc, a, b, plan, &OpenGate, out),
+        Command::Edges => edges(rt, alloc, a, b, plan, &OpenGate, out),
     }
 }
 

@@ -4,7 +4,8 @@ ghost use Rattle.std.specs.Prelude.{◌≡◌, ◌++◌, ◌≤◌, ◌∷◌, [
 ghost use Rattle.geom.specs.Limit.{InLimit};
 ghost use Rattle.geom.specs.Segments.{AreSegments, ring_steps};
 ghost use Rattle.std.specs.List.{flat_map};
-ghost use Rattle.overlay.specs.Rounds.{AllInLimit, AreBoxesOf, AreRingsInLimit, HasSteps};
+ghost use Rattle.chain_gather.specs.Gathered.{AreBoxesOf};
+ghost use Rattle.overlay.specs.Rounds.{AllInLimit, AreRingsInLimit, HasSteps};
 
 use geom::{Layer, NoMemory, Pt, Ring, Seg, Source};
 use lane_tests::Boxes;

@@ -4,15 +4,16 @@ ghost use Rattle.std.specs.Prelude.{◌≡◌, Some, Option, List, ℕ};
 
 use crate::files::READ_LIMIT;
 use crate::{
-    Files, LoadFault, MemSink, Plan, Report, Sink, SinkFault, drive, edges, line, report_text,
-    status, write_all,
+    Files, LoadFault, MemSink, Report, Sink, SinkFault, drive, line, report_text, status, write_all,
 };
 use geom::{Edge, Fault, Part, Pt, RunFault};
-use linked_list_allocator::LocalHeap;
 use std::alloc::{AllocError, Allocator};
 use std::process::Abort;
+use std::sync::Wait;
 use std::test::Fail;
-use tile_book::OpenGate;
+use std::thread::Threads;
+
+mod plans;
 
 const SQUARE: &str = "POLYGON ((0 0, 4 0, 4 4, 0 4, 0 0))\n";
 
@@ -149,41 +150,6 @@ const TWICE: &str = "0 0 0 4 1 1\n0 0 4 0 1 1\n0 4 4 4 1 1\n4 0 4 4 1 1\n";
 
 const BENT: &str =
     "0 0 0 8 1 0\n0 0 5 0 1 0\n0 8 10 1 1 0\n5 -4 5 0 0 1\n5 -4 9 -4 0 1\n5 0 9 -4 0 1\n5 0 10 1 1 0\n";
-
-const PLAN: Plan = Plan {
-    side: 16,
-    workers: 2,
-};
-
-/// The edges of the two overlapping squares, a crossing at one half, two equal squares, a route through a pixel that
-/// the other layer's end made hot, and nothing.
-#[test]
-fn writes_edges(rt: HostRuntime) -> Result<(), Fail> {
-    let table = [
-        ("square", "other", SQUARES),
-        ("bow", "nothing", BOW),
-        ("square", "windows", TWICE),
-        ("wedge", "below", BENT),
-        ("nothing", "empty", ""),
-    ];
-    for (a, b, want) in table {
-        let a = bytes_of(rt.alloc(), a)?.expect(&rt, "a file");
-        let b = bytes_of(rt.alloc(), b)?.expect(&rt, "a file");
-        let mut sink = MemSink::new(rt.alloc(), 1000)?;
-        let answer = edges(
-            rt.alloc(),
-            a.as_slice(),
-            b.as_slice(),
-            PLAN,
-            &OpenGate,
-            &mut sink,
-        );
-        assert!(rt; answer.is_ok(), "answers {want}");
-        assert!(rt; sink.bytes() == want.as_bytes(), "writes {want}");
-        assert!(rt; sink.is_settled(), "settles {want}");
-    }
-    Ok(())
-}
 
 /// What a run prints to standard error.
 #[derive(Clone, Copy)]
@@ -345,13 +311,17 @@ const CASES: [Case; 24] = [
     ),
 ];
 
-fn check_case<R: AllocGlobal + Abort>(rt: &R, case: Case) -> Result<(), Fail> {
+fn check_case<R: AllocGlobal + Abort + Threads + Wait + Sync>(
+    rt: &R,
+    case: Case,
+) -> Result<(), Fail> {
     let (rest, want, text, told) = case;
     let mut words = vec![in rt.alloc(); "overlay"; 1]?;
     words.extend_from_slice(rest)?;
     let mut out = MemSink::new(rt.alloc(), 4000)?;
     let mut err = MemSink::new(rt.alloc(), 4000)?;
     let status = drive(
+        rt,
         rt.alloc(),
         words.as_slice(),
         &mut MemFiles,
@@ -394,14 +364,14 @@ const REFUSED: [(&str, &str); 8] = [
     ("open", "4 open ring at 9\n"),
 ];
 
-fn check_refused<R: AllocGlobal + Abort>(
+fn check_refused<R: AllocGlobal + Abort + Threads + Wait + Sync>(
     rt: &R,
     words: &[&str],
     want: &[&str],
 ) -> Result<(), Fail> {
     let mut out = MemSink::new(rt.alloc(), 4000)?;
     let mut err = MemSink::new(rt.alloc(), 4000)?;
-    let status = drive(rt.alloc(), words, &mut MemFiles, &mut out, &mut err);
+    let status = drive(rt, rt.alloc(), words, &mut MemFiles, &mut out, &mut err);
     let mut line = Vec::new(rt.alloc());
     for part in want {
         line.extend_from_slice(part.as_bytes())?;
@@ -450,7 +420,7 @@ fn helps(rt: HostRuntime) -> Result<(), Fail> {
     let mut out = MemSink::new(rt.alloc(), 4000)?;
     let mut err = MemSink::new(rt.alloc(), 4000)?;
     assert_eq!(rt;
-        drive(rt.alloc(), &words, &mut MemFiles, &mut out, &mut err),
+        drive(&rt, rt.alloc(), &words, &mut MemFiles, &mut out, &mut err),
         0
     );
     assert!(rt;
@@ -467,7 +437,7 @@ fn fails_to_help(rt: HostRuntime) -> Result<(), Fail> {
     let mut full = MemSink::new(rt.alloc(), 10)?;
     let mut err = MemSink::new(rt.alloc(), 4000)?;
     assert_eq!(rt;
-        drive(rt.alloc(), &words, &mut MemFiles, &mut full, &mut err),
+        drive(&rt, rt.alloc(), &words, &mut MemFiles, &mut full, &mut err),
         1
     );
     assert!(rt; err.bytes().is_empty());
@@ -529,14 +499,14 @@ fn fails_to_write(rt: HostRuntime) -> Result<(), Fail> {
     let mut out = OneByOne::new(rt.alloc(), 1, false);
     let mut err = MemSink::new(rt.alloc(), 1000)?;
     assert_eq!(rt;
-        drive(rt.alloc(), &words, &mut MemFiles, &mut out, &mut err),
+        drive(&rt, rt.alloc(), &words, &mut MemFiles, &mut out, &mut err),
         1
     );
     assert!(rt; err.bytes() == b"overlay: 11 write failed\n".as_slice());
     let mut out = MemSink::new(rt.alloc(), 1000)?;
     let mut err = OneByOne::new(rt.alloc(), 1, false);
     assert_eq!(rt;
-        drive(rt.alloc(), &words, &mut MemFiles, &mut out, &mut err),
+        drive(&rt, rt.alloc(), &words, &mut MemFiles, &mut out, &mut err),
         1
     );
     assert!(rt; out.bytes() == SQUARES.as_bytes());
@@ -544,36 +514,9 @@ fn fails_to_write(rt: HostRuntime) -> Result<(), Fail> {
     let mut out = MemSink::new(rt.alloc(), 1000)?;
     let mut err = OneByOne::new(rt.alloc(), 1, false);
     assert_eq!(rt;
-        drive(rt.alloc(), &words, &mut MemFiles, &mut out, &mut err),
+        drive(&rt, rt.alloc(), &words, &mut MemFiles, &mut out, &mut err),
         3
     );
-    Ok(())
-}
-
-/// With little memory a run answers its text or refusal 10, and a refused run has written nothing.
-#[test]
-fn refuses_growths(rt: HostRuntime) -> Result<(), Fail> {
-    let mut refused: u32 = 0;
-    for i in 0..300usize {
-        let heap = LocalHeap::new(rt.alloc(), i * 64)?;
-        let mut sink = MemSink::new(rt.alloc(), 1000)?;
-        let answer = edges(
-            &heap,
-            SQUARE.as_bytes(),
-            OTHER.as_bytes(),
-            PLAN,
-            &OpenGate,
-            &mut sink,
-        );
-        match answer {
-            Ok(_) => assert!(rt; sink.bytes() == SQUARES.as_bytes()),
-            Err(fault) => {
-                assert!(rt; fault.fault == Fault::Memory && sink.bytes().is_empty());
-                refused = refused.saturating_add(1);
-            }
-        }
-    }
-    assert!(rt; refused > 4 && refused < 290, "{refused} refused");
     Ok(())
 }
 

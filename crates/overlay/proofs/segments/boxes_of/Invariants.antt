@@ -1,5 +1,5 @@
 use Rattle.std.proofs.Common.{take}
-use Rattle.overlay.specs.Rounds.{AreBoxesOf}
+use Rattle.chain_gather.specs.Gathered.{AreBoxesOf}
 use Rattle.overlay.proofs.segments.boxes_of.Given as goal
 
 abbrev pub invariant-loop-segment : goal.invariant-loop-segment

@@ -1,0 +1,255 @@
+//! The rounded edges of two layers, by plans of all kinds.
+
+use super::{BENT, BOW, OTHER, SQUARE, SQUARES, TWICE};
+use crate::{MemSink, Plan, Sink, edges, report_text};
+use geom::Fault;
+use std::process::Abort;
+use std::sync::Wait;
+use std::sync::atomic::{AtomicBool, Ordering};
+use std::test::Fail;
+use std::thread;
+use std::thread::Threads;
+use tile_book::{Gate, OpenGate, Phase};
+
+/// Two layers, the side of a tile, their edges, and how the report begins.
+type Row = (&'static str, &'static str, u32, &'static str, &'static str);
+
+/// A square, and a bow tie far from the origin whose crossing at one half belongs to the last of four tiles.
+const APART: &str =
+    "POLYGON ((0 0, 1 0, 0 1, 0 0)) POLYGON ((15 15, 16 16, 15 16, 16 15, 15 15))\n";
+
+const APART_EDGES: &str =
+    "0 0 0 1 1 0\n0 0 1 0 1 0\n0 1 1 0 1 0\n15 15 16 15 1 0\n15 15 16 16 1 0\n15 16 16 16 2 0\n16 15 16 16 1 0\n";
+
+/// A hundred times the size of two squares that overlap.
+const LARGE: &str = "POLYGON ((0 0, 400 0, 400 400, 0 400, 0 0))\n";
+
+const LARGE_OTHER: &str = "POLYGON ((200 200, 600 200, 600 600, 200 600, 200 200))\n";
+
+const LARGE_EDGES: &str =
+    "0 0 0 400 1 0\n0 0 400 0 1 0\n0 400 200 400 1 0\n200 200 200 400 0 1\n200 200 400 200 0 1\n200 400 200 600 0 1\n200 400 400 400 1 0\n200 600 600 600 0 1\n400 0 400 200 1 0\n400 200 400 400 1 0\n400 200 600 200 0 1\n600 200 600 600 0 1\n";
+
+/// The whole range of coordinates.
+const WHOLE: &str =
+    "POLYGON ((-16777216 -16777216, 16777216 -16777216, 16777216 16777216, -16777216 16777216, -16777216 -16777216))\n";
+
+const WHOLE_EDGES: &str =
+    "-16777216 -16777216 -16777216 16777216 1 0\n-16777216 -16777216 16777216 -16777216 1 0\n-16777216 16777216 16777216 16777216 1 0\n16777216 -16777216 16777216 16777216 1 0\n";
+
+const ROWS: [Row; 10] = [
+    (
+        SQUARE,
+        OTHER,
+        16,
+        SQUARES,
+        "segments 4 4\nhot 10\nrecords 20\nedges 12\ntiles 1\nremade 0\ntile 0 10 20\n",
+    ),
+    (
+        "POLYGON ((0 0, 1 1, 0 1, 1 0, 0 0))\n",
+        "",
+        16,
+        BOW,
+        "segments 4 0\nhot 4\nrecords 9\nedges 4\ntiles 1\nremade 0\ntile 0 4 9\n",
+    ),
+    (
+        "POLYGON ((0 0, 10 1, 0 8, 0 0))\n",
+        "POLYGON ((5 0, 5 -4, 9 -4, 5 0))\n",
+        16,
+        BENT,
+        "segments 3 3\nhot 6\nrecords 13\nedges 7\ntiles 1\nremade 0\ntile 0 6 13\n",
+    ),
+    (
+        "",
+        "polygon empty",
+        16,
+        "",
+        "segments 0 0\nhot 0\nrecords 0\nedges 0\ntiles 0\nremade 0\n",
+    ),
+    (
+        SQUARE,
+        "POLYGON ((0 0, 4 0,\r\n4 4, 0 4, 0 0))\r\n",
+        16,
+        TWICE,
+        "segments 4 4\nhot 4\nrecords 16\nedges 4\ntiles 1\nremade 0\ntile 0 4 16\n",
+    ),
+    (
+        LARGE,
+        LARGE_OTHER,
+        16,
+        LARGE_EDGES,
+        "segments 4 4\nhot 10\nrecords 20\nedges 12\ntiles 1444\nremade 0\ntile 0 1 2\ntile 1 0 0\n",
+    ),
+    (
+        LARGE,
+        LARGE_OTHER,
+        33_554_432,
+        LARGE_EDGES,
+        "segments 4 4\nhot 10\nrecords 20\nedges 12\ntiles 1\nremade 0\ntile 0 10 20\n",
+    ),
+    (
+        APART,
+        "",
+        16,
+        APART_EDGES,
+        "segments 7 0\nhot 7\nrecords 15\nedges 7\ntiles 4\nremade 0\ntile 0 4 8\ntile 1 1 2\ntile 2 1 2\ntile 3 1 3\n",
+    ),
+    (
+        APART,
+        "",
+        33_554_432,
+        APART_EDGES,
+        "segments 7 0\nhot 7\nrecords 15\nedges 7\ntiles 1\nremade 0\ntile 0 7 15\n",
+    ),
+    (
+        WHOLE,
+        "",
+        33_554_432,
+        WHOLE_EDGES,
+        "segments 4 0\nhot 4\nrecords 8\nedges 4\ntiles 4\nremade 0\ntile 0 1 2\ntile 1 1 2\ntile 2 1 2\ntile 3 1 2\n",
+    ),
+];
+
+fn check<R: AllocGlobal + Abort + Threads + Wait + Sync>(
+    rt: &R,
+    row: Row,
+    workers: u32,
+) -> Result<(), Fail> {
+    let (a, b, side, want, numbers) = row;
+    let plan = Plan { side, workers };
+    let mut sink = MemSink::new(rt.alloc(), 4000)?;
+    let report = edges(
+        rt,
+        rt.alloc(),
+        a.as_bytes(),
+        b.as_bytes(),
+        plan,
+        &OpenGate,
+        &mut sink,
+    )?;
+    let told = report_text(rt.alloc(), &report)?;
+    assert!(rt;
+        sink.bytes() == want.as_bytes()
+            && sink.is_settled()
+            && told.starts_with(numbers.as_bytes()),
+        "{want}"
+    );
+    Ok(())
+}
+
+/// Each plan gives the same bytes.
+#[test]
+fn rounds_rows(rt: HostRuntime) -> Result<(), Fail> {
+    for row in ROWS {
+        for workers in [1, 3, 64] {
+            check(&rt, row, workers)?;
+        }
+    }
+    Ok(())
+}
+
+const FINE: Plan = Plan {
+    side: 16,
+    workers: 2,
+};
+
+#[test]
+fn tells_each_tile(rt: HostRuntime) -> Result<(), Fail> {
+    let mut sink = MemSink::new(rt.alloc(), 4000)?;
+    let report = edges(
+        &rt,
+        rt.alloc(),
+        LARGE.as_bytes(),
+        LARGE_OTHER.as_bytes(),
+        FINE,
+        &OpenGate,
+        &mut sink,
+    )?;
+    assert_eq!(rt; report.tiles.get(481).copied(), Some((1, 2)));
+    Ok(())
+}
+
+#[test]
+fn refuses_many_tiles(rt: HostRuntime) -> Result<(), Fail> {
+    let mut sink = MemSink::new(rt.alloc(), 4000)?;
+    let answer = edges(
+        &rt,
+        rt.alloc(),
+        WHOLE.as_bytes(),
+        b"",
+        FINE,
+        &OpenGate,
+        &mut sink,
+    );
+    let fault = answer.err().map(|fault| fault.fault);
+    assert_eq!(rt; fault, Some(Fault::TooManyTiles(4_398_050_705_409)));
+    Ok(())
+}
+
+/// Holds tile 0 until the piece of tile 1 was posted, or for 10,000,000 turns.
+#[derive(Drop)]
+struct Holding {
+    seen: AtomicBool,
+    gave_up: AtomicBool,
+}
+
+impl Gate for Holding {
+    fn drawn(&self, _phase: Phase, number: u32) {
+        if number != 0 {
+            return;
+        }
+        for _ in 0..10_000_000 {
+            if self.seen.load(Ordering::SeqCst) {
+                return;
+            }
+            thread::yield_now();
+        }
+        self.gave_up.store(true, Ordering::SeqCst);
+    }
+
+    fn posted(&self, _phase: Phase, number: u32) {
+        if number == 1 {
+            self.seen.store(true, Ordering::SeqCst);
+        }
+    }
+}
+
+/// Two workers are at work at the same time.
+#[test]
+fn works_side_by_side(rt: HostRuntime) -> Result<(), Fail> {
+    let gate = Holding {
+        seen: AtomicBool::new(false),
+        gave_up: AtomicBool::new(false),
+    };
+    let mut sink = MemSink::new(rt.alloc(), 4000)?;
+    edges(
+        &rt,
+        rt.alloc(),
+        LARGE.as_bytes(),
+        LARGE_OTHER.as_bytes(),
+        FINE,
+        &gate,
+        &mut sink,
+    )?;
+    assert!(rt; gate.seen.load(Ordering::SeqCst) && !gate.gave_up.load(Ordering::SeqCst));
+    Ok(())
+}
+
+/// A sink with room for five bytes takes them and fails.
+#[test]
+fn fills_a_small_sink(rt: HostRuntime) -> Result<(), Fail> {
+    let mut sink = MemSink::new(rt.alloc(), 5)?;
+    let answer = edges(
+        &rt,
+        rt.alloc(),
+        SQUARE.as_bytes(),
+        OTHER.as_bytes(),
+        FINE,
+        &OpenGate,
+        &mut sink,
+    );
+    let fault = answer.err().map(|fault| fault.fault);
+    assert!(rt;
+        fault == Some(Fault::Write) && sink.bytes() == b"0 0 0".as_slice() && sink.failures() == 1
+    );
+    Ok(())
+}
