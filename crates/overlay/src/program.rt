@@ -114,6 +114,7 @@ fn perform<R: Threads + Wait + Sync, O: Sink>(
     };
     match asked.command {
         Command::Edges => edges(rt, alloc, a, b, plan, &OpenGate, out),
+        Command::Apply(op) => run(rt, alloc, op, a, b, plan, &OpenGate, out),
     }
 }
 
