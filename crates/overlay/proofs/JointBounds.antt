@@ -1,13 +1,13 @@
 -- The bounds of two layers together.
-use Rattle.std.proofs.Common.{◌≡◌, ◌⊎◌, inl, inr, List, [], ◌∷◌, ◌++◌, refl, sym, subst, ap, arith, ⊎_elim}
+use Rattle.std.proofs.Common.{◌≡◌, ◌⊎◌, inl, inr, List, [], ◌∷◌, ◌++◌, sym, subst, arith, ⊎_elim}
 use Rattle.std.proofs.Math.IntN.{ℤ}
-use Rattle.std.specs.Prelude.{◌≤ℤ◌, Contains, Option, Some, None, IfSome}
+use Rattle.std.specs.Prelude.{◌≤ℤ◌, Option, Some, None, IfSome}
 use Rattle.std.specs.Int.{int_min, int_max}
 use Rattle.std.proofs.lemmas.Int.{ints, clamps}
 use Rattle.std.proofs.lemmas.List.{append-nil}
 use Rattle.geom.specs.Bounds.{HoldsSteps, IsBox}
 use Rattle.geom.specs.Box.{IsInBox}
-use Rattle.geom.specs.Limit.{AreInLimit, InLimit, IsWithin, coordinate_limit}
+use Rattle.geom.specs.Limit.{AreInLimit, IsWithin, coordinate_limit}
 use Rattle.geom.specs.declared.point.Pt.{Pt}
 use Rattle.geom.specs.declared.rect.Rect.{Rect}
 use Rattle.geom.proofs.Lists.{In, contains_in, in_contains, in_append}

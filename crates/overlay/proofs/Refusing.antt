@@ -1,12 +1,12 @@
 -- From what a part of the check says to what the whole check says.
 use Rattle.std.proofs.Common.{◌≡◌, ◌∙◌, ◌+◌, ◌<◌, ℕ, List, subst, sym, ap, ap₂, arith}
 use Rattle.geom.specs.declared.fault.Fault.{Fault}
-use Rattle.geom.specs.declared.fault.Fault.TheVariants.{TooManySegments, TooManyTiles}
+use Rattle.geom.specs.declared.fault.Fault.TheVariants.{TooManySegments}
 use Rattle.geom.specs.declared.fault.Part.{Part}
 use Rattle.geom.specs.declared.fault.Part.TheVariants.{A, B, Run}
 use Rattle.geom.specs.Segments.{layer_steps}
 use Rattle.std.specs.Prelude.{◌≤◌}
-use Rattle.tiling.specs.Tiles.{Tiling, tile_count}
+use Rattle.tiling.specs.Tiles.{Tiling}
 use Rattle.wkt.specs.declared.outline.Outline.{Outline}
 use Rattle.wkt.specs.Refusals.{IsRefused, plain}
 use Rattle.overlay.specs.Rounds.{IsGridOver, IsJointGrid, IsTooFine, IsUsableGrid}

@@ -9,7 +9,7 @@ use Rattle.geom.specs.declared.point.Pt.{Pt}
 use Rattle.geom.specs.declared.segment.Seg.{Seg}
 use Rattle.geom.specs.declared.segment.Source.{Source}
 use Rattle.geom.specs.declared.segment.Source.TheVariants.{A, B}
-use Rattle.geom.specs.Segments.{AreSegments, layer_steps, neighbours, parts, ring_steps, same_point, tagged}
+use Rattle.geom.specs.Segments.{AreSegments, neighbours, parts, ring_steps, same_point, tagged}
 use Rattle.overlay.specs.Rounds.{HasSteps, proper}
 
 map-append : {X Y : Type 0} (f : X → Y) (xs ys : List X) → map f (xs ++ ys) ≡ map f xs ++ map f ys

@@ -1,10 +1,9 @@
 -- From two texts that were checked to what the theorems say of their rounded edges.
-use Rattle.std.proofs.Common.{◌≡◌, ◌⊎◌, ℕ, List, [], ◌∷◌, ◌++◌, length, map, get_or, ◌<◌, inl, inr, refl, sym, subst, ap, arith, ⊎_elim, ◌∙◌}
+use Rattle.std.proofs.Common.{◌≡◌, ℕ, List, [], ◌∷◌, ◌++◌, length, map, get_or, ◌<◌, inl, inr, refl, sym, subst, ap, arith, ⊎_elim}
 use Rattle.std.proofs.Math.Logic.{∥∥₁_elim, ∥∥₁_map}
 use Rattle.std.proofs.Props.{props}
 use Rattle.std.specs.Prelude.{All, Contains, Err, IfOk, None, Ok, Option, Result, Some}
 use Rattle.std.proofs.lemmas.List.{get_or-map, length-map}
-use Rattle.geom.specs.Box.{IsInBox}
 use Rattle.geom.specs.Limit.{AreInLimit}
 use Rattle.geom.specs.Rounded.{AreRounded}
 use Rattle.geom.specs.Segments.{AreSegments, layer_steps, parts, tagged}

@@ -1,5 +1,5 @@
 -- The parser's arguments, as far as they show that what is required is there.
-use Rattle.std.specs.Prelude.{◌≡◌, ◌≤◌, true, false, is_some, List, [], ◌∷◌, Some, None, codes, pos}
+use Rattle.std.specs.Prelude.{◌≡◌, ◌≤◌, true, false, is_some, [], ◌∷◌, Some, None, codes, pos}
 use Rattle.clap.specs.Words.{AddsArg, AddsInTurn, IsPlainArg, IsSignedIn, Text, args_of, groups_of, first_value, one_text, without_minus}
 use Rattle.clap.specs.Built.{TakesValue}
 use Rattle.clap.specs.Facts.{WantsDefault, least_values}

@@ -1,5 +1,5 @@
 -- The segments of two layers, their boxes, and what of them is rounded (own).
-use Rattle.std.specs.Prelude.{◌≡◌, ◌++◌, ◌≤◌, ◌<◌, not, ℕ, All, List, [], Option, MatchOption, filter, length, map, sum_by}
+use Rattle.std.specs.Prelude.{◌≡◌, ◌++◌, ◌≤◌, ◌<◌, not, ℕ, All, List, [], Option, MatchOption, filter, map, sum_by}
 use Rattle.geom.specs.Bounds.{IsBox}
 use Rattle.geom.specs.Limit.{AreInLimit, InLimit}
 use Rattle.geom.specs.Rounded.{AreRounded}

@@ -1,6 +1,5 @@
-use Rattle.std.proofs.Common.{ap, ◌∙◌, arith}
+use Rattle.std.proofs.Common.{◌∙◌, arith}
 use Rattle.points_law.specs.Law.{AreLayers}
-use Rattle.overlay.specs.Results.{IsResultText}
 use Rattle.overlay.proofs.Results.{layers_known}
 use Rattle.overlay.proofs.operation.make_result.Goals as goal
 

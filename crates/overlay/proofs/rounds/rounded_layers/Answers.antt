@@ -1,6 +1,5 @@
 use Rattle.std.proofs.Common.{List, subst, sym, arith}
 use Rattle.std.proofs.lemmas.Result.{IfOk-weaker}
-use Rattle.geom.specs.declared.edge.Counted.{Counted}
 use Rattle.geom.specs.declared.segment.Seg.{Seg}
 use Rattle.geom.specs.Rounded.{AreRounded}
 use Rattle.chain_gather.specs.Gathered.{AreTileNumbers, HaveTiles}
