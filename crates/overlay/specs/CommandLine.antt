@@ -6,8 +6,9 @@ use Rattle.clap.specs.Words.{App, IsAmong, Kinds, Row, Rule, Text, fault_of, fir
 use Rattle.clap.specs.declared.builder.ArgAction.TheVariants.{Set, SetTrue}
 use Rattle.clap.specs.declared.builder.value_parser.ValueParser.TheVariants.{Signed}
 use Rattle.clap.specs.declared.error.kind.ErrorKind.TheVariants.{DisplayHelp}
+use Rattle.geom.specs.declared.op.Op.TheVariants.{Union, Intersection, Difference, SymDifference}
 use Rattle.overlay.specs.declared.asked.Command.{Command}
-use Rattle.overlay.specs.declared.asked.Command.TheVariants.{Edges}
+use Rattle.overlay.specs.declared.asked.Command.TheVariants.{Edges, Apply}
 use Rattle.overlay.specs.declared.asked.Request.{Request}
 use Rattle.overlay.specs.declared.asked.CliFault.{CliFault}
 use Rattle.overlay.specs.declared.asked.CliFault.TheVariants.{Unknown, Help, Refused, Memory}
@@ -41,9 +42,14 @@ overlay_app = with_rule (with_rule (with_rule (with_rule (with_rule (with_rule (
 unfoldable pub held : List Text → List Row
 held words = matches_of overlay_app words
 
--- the command words that are offered: the four set operations get theirs with the engine's call for them
+-- the command words that are offered
 abbrev pub command_of : Text → Option Command
-command_of word = if bytes_eq word (codes "edges") then Some Edges else None
+command_of word =
+    if bytes_eq word (codes "edges") then Some Edges else
+    (if bytes_eq word (codes "union") then Some (Apply Union) else
+    (if bytes_eq word (codes "intersection") then Some (Apply Intersection) else
+    (if bytes_eq word (codes "difference") then Some (Apply Difference) else
+    (if bytes_eq word (codes "symdifference") then Some (Apply SymDifference) else None))))
 
 -- the text held for the id is this number's, in decimal digits
 abbrev pub IsHeldNumber : Text → List Row → ℕ → Type 0

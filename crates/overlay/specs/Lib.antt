@@ -4,3 +4,4 @@ pub mod CommandLine
 pub mod Arguments
 pub mod Rounds
 pub mod Runs
+pub mod Results

@@ -1,5 +1,6 @@
 //! What a command line asks for, and why it may be refused.
 
+use geom::Op;
 use std::alloc::{AllocError, AllocFailed};
 use thiserror::Error;
 
@@ -8,6 +9,8 @@ use thiserror::Error;
 pub enum Command {
     /// The rounded edges of both layers, with their counts.
     Edges,
+    /// A set operation on both layers.
+    Apply(Op),
 }
 
 /// A command line that was accepted.

@@ -10,6 +10,7 @@ use crate::asked;
 use crate::asked::{CliFault, Request};
 use clap::error::ErrorKind;
 use clap::{Arg, ArgAction, ArgMatches, Command, value_parser};
+use geom::Op;
 use std::alloc::{AllocError, Global};
 use std::convert::AsStr;
 
@@ -21,13 +22,15 @@ const TILE_HELP: &str = "The side of a tile, in grid units, 16 to 33554432";
 const WORKERS_HELP: &str = "The number of threads, 1 to 64";
 
 const AFTER: &str =
-    "edges prints a line `x1 y1 x2 y2 countA countB` for each edge of both layers after rounding.
+    "union, intersection, difference and symdifference print the result of that operation on the two
+layers as one MULTIPOLYGON text.
+edges prints a line `x1 y1 x2 y2 countA countB` for each edge of both layers after rounding.
 Coordinates are whole numbers from -16777216 to 16777216, in grid units.
 
 Exit status: 0 answered, 1 a file, the output or memory failed, 2 command line not accepted,
 3 input refused, 4 edges cross.
 
-Example: overlay edges parcels.wkt zones.wkt > edges.txt";
+Example: overlay intersection parcels.wkt zones.wkt > common.wkt";
 
 fn word_arg<'a>(alloc: Global) -> Arg<'a>
     ensures rule { rule_of result ≡ word_rule }
@@ -36,7 +39,7 @@ fn word_arg<'a>(alloc: Global) -> Arg<'a>
     Arg::new(alloc, "command")
         .action(ArgAction::Set)
         .required(true)
-        .help("What to compute: edges")
+        .help("What to compute: union, intersection, difference, symdifference or edges")
 }
 
 fn file_arg<'a>(alloc: Global, id: &'a str, name: &'a str, help: &'a str) -> Arg<'a>
@@ -143,6 +146,10 @@ fn command_named(word: &str) -> Option<asked::Command>
 {
     match word {
         "edges" => Some(asked::Command::Edges),
+        "union" => Some(asked::Command::Apply(Op::Union)),
+        "intersection" => Some(asked::Command::Apply(Op::Intersection)),
+        "difference" => Some(asked::Command::Apply(Op::Difference)),
+        "symdifference" => Some(asked::Command::Apply(Op::SymDifference)),
         _ => None,
     }
 }

@@ -7,6 +7,7 @@ use crate::asked::{CliFault, Command, Request};
 use crate::cli::request;
 use crate::engine::{Plan, edges};
 use crate::files::{Files, LoadFault};
+use crate::operation::run;
 use crate::sink::{Sink, write_all};
 use crate::text::{Report, line, report_text, status};
 use geom::RunFault;
@@ -113,6 +114,7 @@ fn perform<R: Threads + Wait + Sync, O: Sink>(
     };
     match asked.command {
         Command::Edges => edges(rt, alloc, a, b, plan, &OpenGate, out),
+        Command::Apply(op) => run(rt, alloc, op, a, b, plan, &OpenGate, out),
     }
 }
 

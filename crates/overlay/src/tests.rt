@@ -13,6 +13,7 @@ use std::sync::Wait;
 use std::test::Fail;
 use std::thread::Threads;
 
+mod operations;
 mod plans;
 
 const SQUARE: &str = "POLYGON ((0 0, 4 0, 4 4, 0 4, 0 0))\n";
@@ -166,7 +167,19 @@ const ERROR: &[u8] = b"error: ";
 /// A command line behind the program's name, its exit status, and what it prints.
 type Case = (&'static [&'static str], u8, &'static str, Told);
 
-const CASES: [Case; 24] = [
+const CASES: [Case; 26] = [
+    (
+        &["intersection", "square", "other", "--tile=16", "--report"],
+        0,
+        "MULTIPOLYGON (((2 2, 4 2, 4 4, 2 4, 2 2)))\n",
+        Told::Text("segments 4 4\nhot 10\nrecords 20\nedges 12\ntiles 1\nremade 0\ntile 0 10 20\n"),
+    ),
+    (
+        &["union", "none", "other"],
+        1,
+        "",
+        Told::Text("overlay: A: cannot read\n"),
+    ),
     (&["edges", "square", "other"], 0, SQUARES, Told::Text("")),
     (
         &["edges", "square", "other", "--tile=16", "--report"],
@@ -212,7 +225,7 @@ const CASES: [Case; 24] = [
         Told::Text("overlay: unknown command\n"),
     ),
     (
-        &["union", "square", "other"],
+        &["symDifference", "square", "other"],
         2,
         "",
         Told::Text("overlay: unknown command\n"),

@@ -21,3 +21,4 @@ pub mod Turning
 pub mod Writing
 pub mod Grouping
 pub mod Gaps
+pub mod Least

@@ -18,7 +18,7 @@ use Rattle.polygonize.proofs.Rounds.{less_apart}
 use Rattle.polygonize.proofs.Spokes.{not_less}
 
 -- the starts don't descend
-start_order : (ds : List DirectedEdge) → AreDirected ds → (m k : ℕ) → m < k → k < length ds → ¬ (IsBefore (edge_at ds k).from (edge_at ds m).from)
+pub start_order : (ds : List DirectedEdge) → AreDirected ds → (m k : ℕ) → m < k → k < length ds → ¬ (IsBefore (edge_at ds k).from (edge_at ds m).from)
 start_order ds a m k h l b = by_kind (a.ascending m k nothing h l)
   where
     by_kind : IsDirectedBefore (edge_at ds m) (edge_at ds k) → ⊥

@@ -26,7 +26,7 @@ use Rattle.polygonize.proofs.Turns.{less_is, is_less, neither_less, one_way, cha
 use Rattle.polygonize.proofs.Rounds.{less_not, less_apart}
 
 -- ---- tests and facts
-by_test : {P : Type 0} (t : Bool) → (t ≡ true → P) → (t ≡ false → P) → P
+pub by_test : {P : Type 0} (t : Bool) → (t ≡ true → P) → (t ≡ false → P) → P
 by_test true f g = f refl
 by_test false f g = g refl
 

@@ -12,7 +12,7 @@ use Rattle.geom.specs.ListOrder.{IsRotation}
 use Rattle.geom.specs.Rings.{ring_edges, IsSimple}
 use Rattle.polygonize.specs.Next.{edge_at, ring_of}
 use Rattle.polygonize.specs.Number.{IsVertex}
-use Rattle.polygonize.specs.Written.{IsTurned, AreTurned, AreAdded, IsSound, backward}
+use Rattle.polygonize.specs.Written.{IsTurned, AreTurned, AreAdded, IsSound, IsCanonical, backward}
 use Rattle.polygonize.proofs.Lists.{same_order}
 use Rattle.polygonize.proofs.Ends.{all_pairs_permutation}
 use Rattle.polygonize.proofs.Pieces.{rotated_edges}
@@ -53,11 +53,11 @@ turned_edges ds ring turned t = rotated_edges (ring_of ds ring) (ring_of ds turn
 })
 
 -- ---- several
-pub turned_all_sound : (ds : List DirectedEdge) (pieces turned : List (List ℕ)) → AreTurned pieces turned → All (IsSound ds) pieces → All (IsSound ds) turned
-turned_all_sound ds [] [] t h = All-nil (IsSound ds)
+pub turned_all_sound : (ds : List DirectedEdge) (pieces turned : List (List ℕ)) → AreTurned pieces turned → All (IsSound ds) pieces → All (IsCanonical ds) turned
+turned_all_sound ds [] [] t h = All-nil (IsCanonical ds)
 turned_all_sound ds [] (w ∷ ws) t h = absurd t
 turned_all_sound ds (p ∷ ps) [] t h = absurd t
-turned_all_sound ds (p ∷ ps) (w ∷ ws) t h = All-cons (IsSound ds) w ws (turned_sound ds p w t.0 (All-head (IsSound ds) p ps h)) (turned_all_sound ds ps ws t.1 (All-tail (IsSound ds) p ps h))
+turned_all_sound ds (p ∷ ps) (w ∷ ws) t h = All-cons (IsCanonical ds) w ws (record { sound = turned_sound ds p w t.0 (All-head (IsSound ds) p ps h); least = t.0.least }) (turned_all_sound ds ps ws t.1 (All-tail (IsSound ds) p ps h))
 
 abbrev pub edges_in : List DirectedEdge → List (List ℕ) → List DirectedEdge
 edges_in ds rings = flat_map ring_edges (map (ring_of ds) rings)

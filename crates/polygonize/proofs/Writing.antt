@@ -17,7 +17,7 @@ use Rattle.geom.proofs.Lists.{In, contains_in, in_contains, map_in}
 use Rattle.polygonize.specs.Cycle.{AreCycles, IsLeastFirst}
 use Rattle.polygonize.specs.Next.{AreNext, edge_at, ring_of}
 use Rattle.polygonize.specs.Number.{AreNumbers, IsVertex}
-use Rattle.polygonize.specs.Written.{IsTurned, AreTurned, AreAdded, IsSound, ArePlaces, IsRingWritten, HaveEdges, backward}
+use Rattle.polygonize.specs.Written.{IsTurned, AreTurned, AreAdded, IsSound, IsCanonical, ArePlaces, IsRingWritten, HaveEdges, backward}
 use Rattle.polygonize.proofs.Lists.{same_order, in_permutation, in_left, in_right}
 use Rattle.polygonize.proofs.Pieces.{cut_edges, cut_long, Each}
 use Rattle.polygonize.proofs.Mapping.{cut_map, cut_all, cut_simple, all_left, all_right}
@@ -87,10 +87,10 @@ pieces_sound ds ring pieces some v o c = sound pieces (unmapped (λ p. 3 ≤ len
 -- ---- what the loop keeps
 pub record Writing (ds : List DirectedEdge) (cycles : List (List ℕ)) (i : ℕ) (written : List (List ℕ)) : Type 0 where
   pub edges : IsPermutation (edges_in ds (take i cycles)) (edges_in ds written)
-  pub sound : All (IsSound ds) written
+  pub sound : All (IsCanonical ds) written
 
 pub nothing_written : (ds : List DirectedEdge) (cycles : List (List ℕ)) → Writing ds cycles 0 []
-nothing_written ds cycles = record { edges = IsPermutation-refl []; sound = All-nil (IsSound ds) }
+nothing_written ds cycles = record { edges = IsPermutation-refl []; sound = All-nil (IsCanonical ds) }
 
 edges_append : (ds : List DirectedEdge) (xs ys : List (List ℕ)) → edges_in ds (xs ++ ys) ≡ edges_in ds xs ++ edges_in ds ys
 edges_append ds xs ys = ap (flat_map ring_edges) (map-append (ring_of ds) xs ys) ∙ flat_map-append ring_edges (map (ring_of ds) xs) (map (ring_of ds) ys)
@@ -110,7 +110,7 @@ one_written ds cycles i cycle old new h here r w = record {
   edges = IsPermutation-trans _ _ _ (same_order _ _ (ap (edges_in ds) front ∙ edges_append ds (take i cycles) (cycle ∷ [])))
       (IsPermutation-trans _ _ _ (IsPermutation-append (edges_in ds (take i cycles)) (edges_in ds old) (edges_in ds (cycle ∷ [])) (edges_in ds (backward r.added.turned)) w.edges ring_is)
       (same_order _ _ (sym (ap (edges_in ds) r.added.appended ∙ edges_append ds old (backward r.added.turned)))));
-  sound = let P : List (List ℕ) → Type 0 = All (IsSound ds) in subst P (sym r.added.appended) (All-append (IsSound ds) old (backward r.added.turned) w.sound (all_backward (IsSound ds) r.added.turned (turned_all_sound ds r.pieces r.added.turned r.added.each r.sound)));
+  sound = let P : List (List ℕ) → Type 0 = All (IsCanonical ds) in subst P (sym r.added.appended) (All-append (IsCanonical ds) old (backward r.added.turned) w.sound (all_backward (IsCanonical ds) r.added.turned (turned_all_sound ds r.pieces r.added.turned r.added.each r.sound)));
 }
   where
     front : take (i + 1) cycles ≡ take i cycles ++ cycle ∷ []

@@ -31,6 +31,15 @@ abbrev pub backward : {X : Type 0} → List X → List X
 backward [] = []
 backward (x ∷ xs) = backward xs ++ x ∷ []
 
+-- each ring has three points or more, and none twice
+abbrev pub AreSimple : List (List Pt) → Type 0
+AreSimple rings = All (λ ring. (3 ≤ length ring) × IsSimple ring) rings
+
+-- and begins at its least vertex
+pub record IsCanonical (ds : List DirectedEdge) (ring : List ℕ) : Type 0 where
+  pub sound : IsSound ds ring
+  pub least : All (λ k. slice_index_or ring 0 0 ≤ k) ring
+
 -- the written rings are the old ones and the pieces, the last one first, each begun at its least number
 pub record AreAdded (pieces old new : List (List ℕ)) : Type 0 where
   pub turned : List (List ℕ)

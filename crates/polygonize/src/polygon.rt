@@ -3,9 +3,10 @@
 ghost use Rattle.std.specs.Prelude.{◌≡◌, ◌+◌, ◌<◌, ◌≤◌, All, IfOk, drop, length, map, take, vec_len};
 ghost use Rattle.geom.specs.Canonical.{HaveEachEdge, written_rings};
 ghost use Rattle.geom.specs.Limit.{AreInLimit};
+ghost use Rattle.geom.specs.ListOrder.{IsLeastRotation};
 ghost use Rattle.geom.specs.Rings.{Closes};
 ghost use Rattle.polygonize.specs.Next.{ring_of};
-ghost use Rattle.polygonize.specs.Written.{IsSound};
+ghost use Rattle.polygonize.specs.Written.{AreSimple, IsSound};
 
 use crate::number::points_of;
 use crate::written::{Written, written_rings};
@@ -74,7 +75,9 @@ pub fn polygons<A: Allocator + Copy>(
 ) -> Result<Vec<Polygon<A>, A>, NoMemory>
     requires closes { Closes directed.now }
     requires in_limit { All (λ d. AreInLimit d.from d.to) directed.now }
-    ensures { IfOk result (λ found. HaveEachEdge directed.now (map (λ p. record { shell = p.shell; holes = p.holes.items }) found.items)) }
+    ensures each_edge { IfOk result (λ found. HaveEachEdge directed.now (map (λ p. record { shell = p.shell; holes = p.holes.items }) found.items)) }
+    ensures simple { IfOk result (λ found. AreSimple (written_rings (map (λ p. record { shell = p.shell; holes = p.holes.items }) found.items))) }
+    ensures least { IfOk result (λ found. All (λ ring. IsLeastRotation ring ring) (written_rings (map (λ p. record { shell = p.shell; holes = p.holes.items }) found.items))) }
 {
     let edges = directed.edges();
     let mut written = written_rings(alloc, edges)?;

@@ -6,7 +6,7 @@ ghost use Rattle.geom.specs.Rings.{AreRings, Closes};
 ghost use Rattle.polygonize.specs.Number.{AreNumbers, IsVertex};
 ghost use Rattle.polygonize.specs.Next.{ring_of};
 ghost use Rattle.polygonize.specs.Stack.{AreStacked};
-ghost use Rattle.polygonize.specs.Written.{AreAdded, ArePlaces, HaveEdges, IsRingWritten, IsSound};
+ghost use Rattle.polygonize.specs.Written.{AreAdded, ArePlaces, HaveEdges, IsCanonical, IsRingWritten, IsSound};
 
 use crate::below::nearest_below;
 use crate::cut::cut;
@@ -148,7 +148,7 @@ fn write_cycles<A: Allocator + Copy>(
     requires shells { length shell_of.old ≡ length edges.now }
     requires clear { AreStacked [] places.old }
     ensures edges { IfOk result (λ written. HaveEdges edges.now (map (λ w. w.ring.items) written.items)) }
-    ensures sound { IfOk result (λ written. All (IsSound edges.now) (map (λ w. w.ring.items) written.items)) }
+    ensures sound { IfOk result (λ written. All (IsCanonical edges.now) (map (λ w. w.ring.items) written.items)) }
 {
     let mut written = Vec::new(alloc);
     for cycle in cycles {
@@ -165,7 +165,7 @@ pub fn written_rings<A: Allocator + Copy>(
     requires closes { Closes edges.now }
     requires edges_in { All (λ d. AreInLimit d.from d.to) edges.now }
     ensures edges { IfOk result (λ written. HaveEdges edges.now (map (λ w. w.ring.items) written.items)) }
-    ensures sound { IfOk result (λ written. All (IsSound edges.now) (map (λ w. w.ring.items) written.items)) }
+    ensures sound { IfOk result (λ written. All (IsCanonical edges.now) (map (λ w. w.ring.items) written.items)) }
 {
     let numbers = start_numbers(alloc, edges)?;
     let cycles = ring_places(alloc, edges)?;

@@ -1,9 +1,13 @@
 use Rattle.std.proofs.Common.{◌≡◌, map}
+use Rattle.std.specs.Prelude.{All}
+use Rattle.std.proofs.lemmas.List.Elements.{All-weaker}
 use Rattle.std.proofs.lemmas.List.Sorted.{All-permutation}
 use Rattle.std.proofs.lemmas.Result.{IfOk-weaker}
 use Rattle.geom.specs.Canonical.{HaveEachEdge, written_rings}
+use Rattle.geom.specs.ListOrder.{IsLeastRotation}
 use Rattle.polygonize.specs.Next.{ring_of}
-use Rattle.polygonize.specs.Written.{IsSound}
+use Rattle.polygonize.specs.Written.{AreSimple, IsCanonical, IsSound}
+use Rattle.polygonize.proofs.Least.{least_rings, simple_rings}
 use Rattle.polygonize.proofs.Writing.{text_has_each, unmapped}
 use Rattle.polygonize.proofs.polygon.polygons.Goals as goal
 
@@ -11,12 +15,32 @@ pub grouped-requires : goal.grouped-requires
 grouped-requires g c = record {
   sound = rw c.deref.ensures.value
       (All-permutation (λ w. IsSound c.edges-edges.result.now w.ring.items) c.in_ok-written.written.items c.sort_unstable_by_key.new.self.items c.sort_unstable_by_key.ensures.permutation
-      (unmapped (IsSound c.edges-edges.result.now) (λ w. w.ring.items) c.in_ok-written.written.items c.in_ok-written.ensures.sound));
+      (All-weaker (λ w. IsCanonical c.edges-edges.result.now w.ring.items) (λ w. IsSound c.edges-edges.result.now w.ring.items) (λ w k. k.sound) c.in_ok-written.written.items
+      (unmapped (IsCanonical c.edges-edges.result.now) (λ w. w.ring.items) c.in_ok-written.written.items c.in_ok-written.ensures.sound)));
 }
 
-pub returns : goal.returns
-returns g c = IfOk-weaker c.grouped.result
+pub returns-clause-each_edge : goal.returns-clause-each_edge
+returns-clause-each_edge g c = IfOk-weaker c.grouped.result
     (λ found. written_rings (map (λ p. record { shell = p.shell; holes = p.holes.items }) found.items) ≡ map (λ w. ring_of c.args.directed.now w.ring.items) c.sort_unstable_by_key.new.self.items)
     (λ found. HaveEachEdge c.args.directed.now (map (λ p. record { shell = p.shell; holes = p.holes.items }) found.items))
     (λ found h. text_has_each (λ w. w.ring.items) c.args.directed.now c.in_ok-written.written.items c.sort_unstable_by_key.new.self.items (map (λ p. record { shell = p.shell; holes = p.holes.items }) found.items) (rw c.edges-edges.ensures.value at c.in_ok-written.ensures.edges) c.sort_unstable_by_key.ensures.permutation h)
+    (rw (c.deref.ensures.value, c.edges-edges.ensures.value) at c.grouped.ensures)
+
+pub returns-clause-least : goal.returns-clause-least
+returns-clause-least g c = IfOk-weaker c.grouped.result
+    (λ found. written_rings (map (λ p. record { shell = p.shell; holes = p.holes.items }) found.items) ≡ map (λ w. ring_of c.args.directed.now w.ring.items) c.sort_unstable_by_key.new.self.items)
+    (λ found. All (λ ring. IsLeastRotation ring ring) (written_rings (map (λ p. record { shell = p.shell; holes = p.holes.items }) found.items)))
+    (λ found h. least_rings (λ w. w.ring.items) c.args.directed.now c.requires.closes.are_directed c.sort_unstable_by_key.new.self.items (map (λ p. record { shell = p.shell; holes = p.holes.items }) found.items)
+    (All-permutation (λ w. IsCanonical c.args.directed.now w.ring.items) c.in_ok-written.written.items c.sort_unstable_by_key.new.self.items c.sort_unstable_by_key.ensures.permutation
+    (unmapped (IsCanonical c.args.directed.now) (λ w. w.ring.items) c.in_ok-written.written.items (rw c.edges-edges.ensures.value at c.in_ok-written.ensures.sound))) h)
+    (rw (c.deref.ensures.value, c.edges-edges.ensures.value) at c.grouped.ensures)
+
+pub returns-clause-simple : goal.returns-clause-simple
+returns-clause-simple g c = IfOk-weaker c.grouped.result
+    (λ found. written_rings (map (λ p. record { shell = p.shell; holes = p.holes.items }) found.items) ≡ map (λ w. ring_of c.args.directed.now w.ring.items) c.sort_unstable_by_key.new.self.items)
+    (λ found. AreSimple (written_rings (map (λ p. record { shell = p.shell; holes = p.holes.items }) found.items)))
+    (λ found h. simple_rings (λ w. w.ring.items) c.args.directed.now c.sort_unstable_by_key.new.self.items (map (λ p. record { shell = p.shell; holes = p.holes.items }) found.items)
+    (All-permutation (λ w. IsSound c.args.directed.now w.ring.items) c.in_ok-written.written.items c.sort_unstable_by_key.new.self.items c.sort_unstable_by_key.ensures.permutation
+    (All-weaker (λ w. IsCanonical c.args.directed.now w.ring.items) (λ w. IsSound c.args.directed.now w.ring.items) (λ w k. k.sound) c.in_ok-written.written.items
+    (unmapped (IsCanonical c.args.directed.now) (λ w. w.ring.items) c.in_ok-written.written.items (rw c.edges-edges.ensures.value at c.in_ok-written.ensures.sound)))) h)
     (rw (c.deref.ensures.value, c.edges-edges.ensures.value) at c.grouped.ensures)

@@ -1,0 +1,275 @@
+//! The four operations on small layers, whose results were worked out by hand from the rules.
+
+use super::{OTHER, SQUARE};
+use crate::{MemSink, Plan, Sink, report_text, run};
+use geom::{Fault, Op};
+use std::process::Abort;
+use std::sync::Wait;
+use std::test::Fail;
+use std::thread::Threads;
+use tile_book::OpenGate;
+
+/// Two layers, an operation, and its result.
+type Row = (&'static str, &'static str, Op, &'static str);
+
+const EMPTY: &str = "MULTIPOLYGON EMPTY\n";
+
+const BELOW: &str = "POLYGON ((5 0, 5 -4, 9 -4, 5 0))\n";
+
+const LARGE: &str = "POLYGON ((0 0, 400 0, 400 400, 0 400, 0 0))\n";
+
+const LARGE_OTHER: &str = "POLYGON ((200 200, 600 200, 600 600, 200 600, 200 200))\n";
+
+const LARGE_COMMON: &str = "MULTIPOLYGON (((200 200, 400 200, 400 400, 200 400, 200 200)))\n";
+
+const APART: &str =
+    "POLYGON ((0 0, 1 0, 0 1, 0 0)) POLYGON ((15 15, 16 16, 15 16, 16 15, 15 15))\n";
+
+const APART_UNION: &str = "MULTIPOLYGON (((0 0, 1 0, 0 1, 0 0)), ((15 15, 16 15, 16 16, 15 15)))\n";
+
+const WHOLE: &str =
+    "POLYGON ((-16777216 -16777216, 16777216 -16777216, 16777216 16777216, -16777216 16777216, -16777216 -16777216))\n";
+
+const WHOLE_UNION: &str =
+    "MULTIPOLYGON (((-16777216 -16777216, 16777216 -16777216, 16777216 16777216, -16777216 16777216, -16777216 -16777216)))\n";
+
+const COMMON: Row = (
+    SQUARE,
+    OTHER,
+    Op::Intersection,
+    "MULTIPOLYGON (((2 2, 4 2, 4 4, 2 4, 2 2)))\n",
+);
+
+const NOTHING: Row = ("", "polygon empty", Op::Union, EMPTY);
+
+const LARGE_ROW: Row = (LARGE, LARGE_OTHER, Op::Intersection, LARGE_COMMON);
+
+const APART_ROW: Row = (APART, "", Op::Union, APART_UNION);
+
+const WHOLE_ROW: Row = (WHOLE, "", Op::Union, WHOLE_UNION);
+
+const ROWS: [Row; 17] = [
+    (
+        SQUARE,
+        OTHER,
+        Op::SymDifference,
+        "MULTIPOLYGON (((0 0, 4 0, 4 2, 2 2, 2 4, 0 4, 0 0)), ((2 4, 4 4, 4 2, 6 2, 6 6, 2 6, 2 4)))\n",
+    ),
+    // a hole
+    (
+        "POLYGON ((0 0, 9 0, 9 9, 0 9, 0 0))\n",
+        "POLYGON ((3 3, 6 3, 6 6, 3 6, 3 3))\n",
+        Op::Difference,
+        "MULTIPOLYGON (((0 0, 9 0, 9 9, 0 9, 0 0), (3 3, 3 6, 6 6, 6 3, 3 3)))\n",
+    ),
+    // a crossing at one half
+    (
+        "POLYGON ((0 0, 1 1, 0 1, 1 0, 0 0))\n",
+        "",
+        Op::Union,
+        "MULTIPOLYGON (((0 0, 1 0, 1 1, 0 0)))\n",
+    ),
+    // a corner just above, and on, a side
+    (
+        "POLYGON ((0 0, 10 1, 0 8, 0 0))\n",
+        BELOW,
+        Op::Union,
+        "MULTIPOLYGON (((0 0, 5 0, 10 1, 0 8, 0 0)), ((5 -4, 9 -4, 5 0, 5 -4)))\n",
+    ),
+    (
+        "POLYGON ((0 0, 10 1, 10 0, 0 0))\n",
+        BELOW,
+        Op::Union,
+        "MULTIPOLYGON (((5 -4, 9 -4, 5 0, 5 -4)), ((5 0, 10 0, 10 1, 5 0)))\n",
+    ),
+    // crossings between grid points
+    (
+        "POLYGON ((0 0, 6 0, 0 5, 0 0))\n",
+        "POLYGON ((1 1, 7 1, 7 7, 1 7, 1 1))\n",
+        Op::Intersection,
+        "MULTIPOLYGON (((1 1, 5 1, 1 4, 1 1)))\n",
+    ),
+    (
+        "POLYGON ((0 0, 6 0, 0 5, 0 0))\n",
+        "POLYGON ((1 1, 7 1, 7 7, 1 7, 1 1))\n",
+        Op::Union,
+        "MULTIPOLYGON (((0 0, 6 0, 5 1, 7 1, 7 7, 1 7, 1 4, 0 5, 0 0)))\n",
+    ),
+    ("", "polygon empty", Op::Intersection, EMPTY),
+    ("", "polygon empty", Op::Difference, EMPTY),
+    ("", "polygon empty", Op::SymDifference, EMPTY),
+    // equal layers, and a layer that has each segment twice
+    (SQUARE, SQUARE, Op::Difference, EMPTY),
+    (
+        "POLYGON ((0 0, 4 0, 4 4, 0 4, 0 0))\nPOLYGON ((0 0, 4 0, 4 4, 0 4, 0 0))\n",
+        "",
+        Op::Union,
+        EMPTY,
+    ),
+    // a hole that touches the shell at its least vertex
+    (
+        SQUARE,
+        "POLYGON ((0 0, 3 1, 1 3, 0 0))\n",
+        Op::Difference,
+        "MULTIPOLYGON (((0 0, 4 0, 4 4, 0 4, 0 0), (0 0, 1 3, 3 1, 0 0)))\n",
+    ),
+    // four squares, each inside the one before
+    (
+        "POLYGON ((0 0, 9 0, 9 9, 0 9, 0 0), (1 1, 8 1, 8 8, 1 8, 1 1), (2 2, 7 2, 7 7, 2 7, 2 2), (3 3, 6 3, 6 6, 3 6, 3 3))\n",
+        "",
+        Op::Union,
+        "MULTIPOLYGON (((0 0, 9 0, 9 9, 0 9, 0 0), (1 1, 1 8, 8 8, 8 1, 1 1)), ((2 2, 7 2, 7 7, 2 7, 2 2), (3 3, 3 6, 6 6, 6 3, 3 3)))\n",
+    ),
+    // a hole below which there is another hole
+    (
+        "POLYGON ((0 0, 9 0, 9 9, 0 9, 0 0), (1 1, 4 1, 4 3, 1 3, 1 1), (3 5, 7 5, 7 7, 3 7, 3 5))\n",
+        "",
+        Op::Union,
+        "MULTIPOLYGON (((0 0, 9 0, 9 9, 0 9, 0 0), (1 1, 1 3, 4 3, 4 1, 1 1), (3 5, 3 7, 7 7, 7 5, 3 5)))\n",
+    ),
+    // holes that touch one another
+    (
+        "POLYGON ((0 0, 9 0, 9 9, 0 9, 0 0), (2 2, 4 2, 4 4, 2 4, 2 2), (4 4, 6 4, 6 6, 4 6, 4 4))\n",
+        "",
+        Op::Union,
+        "MULTIPOLYGON (((0 0, 9 0, 9 9, 0 9, 0 0), (2 2, 2 4, 4 4, 4 2, 2 2), (4 4, 4 6, 6 6, 6 4, 4 4)))\n",
+    ),
+    // a hole that touches a side
+    (
+        "POLYGON ((0 0, 9 0, 9 9, 0 9, 0 0), (5 0, 6 3, 4 3, 5 0))\n",
+        "",
+        Op::Union,
+        "MULTIPOLYGON (((0 0, 5 0, 9 0, 9 9, 0 9, 0 0), (4 3, 6 3, 5 0, 4 3)))\n",
+    ),
+];
+
+/// A row, the side of a tile, the number of workers, and how the report begins.
+type Reported = (Row, u32, u32, &'static str);
+
+const FINE_REPORT: &str =
+    "segments 4 4\nhot 10\nrecords 20\nedges 12\ntiles 1444\nremade 0\ntile 0 1 2\n";
+
+const REPORTED: [Reported; 8] = [
+    (
+        COMMON,
+        16,
+        2,
+        "segments 4 4\nhot 10\nrecords 20\nedges 12\ntiles 1\nremade 0\ntile 0 10 20\n",
+    ),
+    (
+        NOTHING,
+        16,
+        2,
+        "segments 0 0\nhot 0\nrecords 0\nedges 0\ntiles 0\nremade 0\n",
+    ),
+    (LARGE_ROW, 16, 1, FINE_REPORT),
+    (LARGE_ROW, 16, 3, FINE_REPORT),
+    (LARGE_ROW, 16, 64, FINE_REPORT),
+    (
+        LARGE_ROW,
+        33_554_432,
+        2,
+        "segments 4 4\nhot 10\nrecords 20\nedges 12\ntiles 1\nremade 0\ntile 0 10 20\n",
+    ),
+    (
+        APART_ROW,
+        16,
+        2,
+        "segments 7 0\nhot 7\nrecords 15\nedges 7\ntiles 4\nremade 0\ntile 0 4 8\ntile 1 1 2\ntile 2 1 2\ntile 3 1 3\n",
+    ),
+    (
+        WHOLE_ROW,
+        33_554_432,
+        2,
+        "segments 4 0\nhot 4\nrecords 8\nedges 4\ntiles 4\nremade 0\ntile 0 1 2\ntile 1 1 2\ntile 2 1 2\ntile 3 1 2\n",
+    ),
+];
+
+fn check<R: AllocGlobal + Abort + Threads + Wait + Sync>(
+    rt: &R,
+    reported: Reported,
+) -> Result<(), Fail> {
+    let ((a, b, op, want), side, workers, numbers) = reported;
+    let plan = Plan { side, workers };
+    let mut sink = MemSink::new(rt.alloc(), 1000)?;
+    let report = run(
+        rt,
+        rt.alloc(),
+        op,
+        a.as_bytes(),
+        b.as_bytes(),
+        plan,
+        &OpenGate,
+        &mut sink,
+    )?;
+    let told = report_text(rt.alloc(), &report)?;
+    assert!(rt;
+        sink.bytes() == want.as_bytes()
+            && sink.is_settled()
+            && told.starts_with(numbers.as_bytes()),
+        "{want}"
+    );
+    Ok(())
+}
+
+#[test]
+fn overlays_rows(rt: HostRuntime) -> Result<(), Fail> {
+    for row in ROWS {
+        check(&rt, (row, 16, 2, "segments "))?;
+    }
+    for reported in REPORTED {
+        check(&rt, reported)?;
+    }
+    Ok(())
+}
+
+/// What a run on a sink with this room is refused for, and what the sink has then.
+fn refused<R: AllocGlobal + Abort + Threads + Wait + Sync>(
+    rt: &R,
+    a: &str,
+    side: u32,
+    room: usize,
+    want: Fault,
+    written: &str,
+) -> Result<(), Fail> {
+    let plan = Plan { side, workers: 2 };
+    let mut sink = MemSink::new(rt.alloc(), room)?;
+    let answer = run(
+        rt,
+        rt.alloc(),
+        Op::Union,
+        a.as_bytes(),
+        b"",
+        plan,
+        &OpenGate,
+        &mut sink,
+    );
+    let fault = answer.err().map(|fault| fault.fault);
+    assert!(rt;
+        fault == Some(want) && sink.bytes() == written.as_bytes(),
+        "{want}"
+    );
+    Ok(())
+}
+
+#[test]
+fn refuses_to_overlay(rt: HostRuntime) -> Result<(), Fail> {
+    refused(&rt, SQUARE, 16, 5, Fault::Write, "MULTI")?;
+    refused(&rt, SQUARE, 15, 100, Fault::BadTile, "")?;
+    refused(
+        &rt,
+        "POLYGON ((0 0, 1 0, 0 1))",
+        16,
+        100,
+        Fault::RingShort(9),
+        "",
+    )?;
+    refused(
+        &rt,
+        WHOLE,
+        16,
+        100,
+        Fault::TooManyTiles(4_398_050_705_409),
+        "",
+    )
+}
