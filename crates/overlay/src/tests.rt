@@ -6,7 +6,7 @@ use crate::files::READ_LIMIT;
 use crate::{
     Files, LoadFault, MemSink, Report, Sink, SinkFault, drive, line, report_text, status, write_all,
 };
-use geom::{Edge, Fault, Part, Pt, RunFault};
+use geom::{Fault, Part, RunFault};
 use std::alloc::{AllocError, Allocator};
 use std::process::Abort;
 use std::sync::Wait;
@@ -458,25 +458,14 @@ fn fails_to_help(rt: HostRuntime) -> Result<(), Fail> {
 }
 
 #[test]
-fn says_that_edges_cross(rt: HostRuntime) -> Result<(), Fail> {
-    let at = |x, y| Pt { x, y };
+fn says_why_a_run_is_refused(rt: HostRuntime) -> Result<(), Fail> {
     let fault = RunFault {
         at: Part::Run,
-        fault: Fault::NotNoded(
-            Edge {
-                p: at(0, 0),
-                q: at(4, 4),
-            },
-            Edge {
-                p: at(0, 4),
-                q: at(4, 0),
-            },
-        ),
+        fault: Fault::TooManyTiles(65792),
     };
-    assert_eq!(rt; status(&fault), 4);
+    assert_eq!(rt; status(&fault), 3);
     assert!(rt;
-        line(rt.alloc(), &fault)?.as_slice()
-            == b"overlay: 9 edges cross: 0 0 4 4, 0 4 4 0\n".as_slice()
+        line(rt.alloc(), &fault)?.as_slice() == b"overlay: 8 too many tiles: 65792\n".as_slice()
     );
     Ok(())
 }
