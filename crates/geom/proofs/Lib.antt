@@ -23,3 +23,6 @@ pub mod Steps
 pub mod Meaning
 pub mod Examples
 pub mod Around
+pub mod ListOrder
+pub mod OneRotation
+pub mod OneCut
