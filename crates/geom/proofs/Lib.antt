@@ -26,3 +26,5 @@ pub mod Around
 pub mod ListOrder
 pub mod OneRotation
 pub mod OneCut
+pub mod RingEdges
+pub mod OneRing
