@@ -28,3 +28,4 @@ pub mod OneRotation
 pub mod OneCut
 pub mod RingEdges
 pub mod OneRing
+pub mod OneOwner
