@@ -29,3 +29,5 @@ pub mod OneCut
 pub mod RingEdges
 pub mod OneRing
 pub mod OneOwner
+pub mod SameRings
+pub mod SamePolygons

@@ -103,7 +103,7 @@ edges_of_one [] r i u = absurd i
 edges_of_one (t ∷ rings) r (inl e) u = subst (λ x. Distinct (ring_edges x)) e (distinct_front (ring_edges t) (flat_map ring_edges rings) u)
 edges_of_one (t ∷ rings) r (inr i) u = edges_of_one rings r i (distinct_back (ring_edges t) (flat_map ring_edges rings) u)
 
-edges_distinct : (directed : List DirectedEdge) (rings : List (List Pt)) → AreDirected directed → AreRings directed rings → Distinct (flat_map ring_edges rings)
+pub edges_distinct : (directed : List DirectedEdge) (rings : List (List Pt)) → AreDirected directed → AreRings directed rings → Distinct (flat_map ring_edges rings)
 edges_distinct directed rings a r = simple_distinct (flat_map ring_edges rings) (simple_permutation directed (flat_map ring_edges rings) r.together (directed_simple directed a))
 
 distinct_simple : {X : Type 0} (xs : List X) → Distinct xs → IsSimple xs
@@ -124,7 +124,7 @@ one_piece directed rings a are r i pieces c p q d = one_among pieces
     (simple_distinct (flat_map ring_edges pieces) (simple_permutation (ring_edges r) (flat_map ring_edges pieces) (cut_edges c) (ring_distinct directed rings a are r i))) p q d
 
 -- ---- the first piece
-opposite : (v a b : Pt) → side v a b ≡ neg_ℤ (side v b a)
+pub opposite : (v a b : Pt) → side v a b ≡ neg_ℤ (side v b a)
 opposite v a b = over v.x v.y a.x a.y b.x b.y
   where
     over : (vx vy ax ay bx by : ℤ) → ((ax -ℤ vx) *ℤ (by -ℤ vy)) -ℤ ((ay -ℤ vy) *ℤ (bx -ℤ vx)) ≡ neg_ℤ (((bx -ℤ vx) *ℤ (ay -ℤ vy)) -ℤ ((by -ℤ vy) *ℤ (ax -ℤ vx)))
@@ -161,7 +161,7 @@ one_first directed rings a are r i pieces c p q m n f g = one_piece directed rin
         (λ ne. greatest_first f.from (piece_edge r pieces c p m (from_to f.from f.at) f.arrives) ne) (pt_order f.from g.from)
 
 -- ---- written pieces
-some_edge : (ring : List Pt) → ¬ (ring ≡ []) → (d : DirectedEdge) × In d (ring_edges ring)
+pub some_edge : (ring : List Pt) → ¬ (ring ≡ []) → (d : DirectedEdge) × In d (ring_edges ring)
 some_edge [] n = absurd (n refl)
 some_edge (x ∷ []) n = (from_to x x, inl refl)
 some_edge (x ∷ y ∷ ys) n = (from_to x y, inl refl)
