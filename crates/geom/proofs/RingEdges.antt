@@ -20,11 +20,11 @@ along-append f x [] y zs z = refl
 along-append f x (w ∷ ys) y zs z = ap (λ t. f x w ∷ t) (along-append f w ys y zs z)
 
 -- the same list in another order
-same_order : {X : Type 0} (xs ys : List X) → xs ≡ ys → IsPermutation xs ys
+pub same_order : {X : Type 0} (xs ys : List X) → xs ≡ ys → IsPermutation xs ys
 same_order {X} xs ys e = let P : List X → Type 0 = λ t. IsPermutation xs t in subst P e (IsPermutation-refl xs)
 
 -- the middle list to the front
-to_front : {X : Type 0} (us vs ws : List X) → IsPermutation (us ++ (vs ++ ws)) (vs ++ (us ++ ws))
+pub to_front : {X : Type 0} (us vs ws : List X) → IsPermutation (us ++ (vs ++ ws)) (vs ++ (us ++ ws))
 to_front us vs ws = IsPermutation-trans _ _ _ (same_order (us ++ (vs ++ ws)) ((us ++ vs) ++ ws) (sym (append_assoc us vs ws)))
     (IsPermutation-trans _ _ _ (IsPermutation-append_left ws (us ++ vs) (vs ++ us) (IsPermutation-append_comm us vs)) (same_order ((vs ++ us) ++ ws) (vs ++ (us ++ ws)) (append_assoc vs us ws)))
 

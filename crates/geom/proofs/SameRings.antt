@@ -29,7 +29,7 @@ not_both : (a b : ℤ) → a ≡ neg_ℤ b → a <ℤ pos 0 → b <ℤ pos 0 →
 not_both a b h i j = omega (arith, ints)
 
 -- no two points are each met sooner than the other
-not_sooner : (v a b : Pt) → IsSooner v a b → IsSooner v b a → ⊥
+pub not_sooner : (v a b : Pt) → IsSooner v a b → IsSooner v b a → ⊥
 not_sooner v a b (inl (h, k)) (inl (l, m)) = before_strict v a h m
 not_sooner v a b (inl (h, k)) (inr (inl (l, m), n)) = before_strict b v k l
 not_sooner v a b (inl (h, k)) (inr (inr (l, m), n)) = before_strict v a h m
