@@ -55,7 +55,7 @@ pair_order : (x y : Edge × Edge) → IsBeforePair x y ⊎ (((x.0 ≡ y.0) × (x
 pair_order x y = ⊎_elim (λ l. inl (inl l)) (λ m. ⊎_elim (λ e. ⊎_elim (λ l. inl (inr (e, l))) (λ n. ⊎_elim (λ f. inr (inl (e, f))) (λ g. inr (inr (inr (sym e, g)))) n) (edge_order x.1 y.1)) (λ g. inr (inr (inl g))) m) (edge_order x.0 y.0)
 
 -- what the derived order of edges computes
-abbrev partial_edge_cmp : Edge → Edge → Option Ordering
+abbrev pub partial_edge_cmp : Edge → Edge → Option Ordering
 partial_edge_cmp e f = partial_ordering_then (partial_ordering_then (Some (int_cmp e.p.x f.p.x)) (Some (int_cmp e.p.y f.p.y))) (partial_ordering_then (Some (int_cmp e.q.x f.q.x)) (Some (int_cmp e.q.y f.q.y)))
 
 then_some : (o u : Ordering) → partial_ordering_then (Some o) (Some u) ≡ Some (ordering_then o u)
@@ -63,7 +63,7 @@ then_some Less u = refl
 then_some Equal u = refl
 then_some Greater u = refl
 
-partial_edge_is : (e f : Edge) → partial_edge_cmp e f ≡ Some (edge_cmp e f)
+pub partial_edge_is : (e f : Edge) → partial_edge_cmp e f ≡ Some (edge_cmp e f)
 partial_edge_is e f =
     (λ i. partial_ordering_then (then_some (int_cmp e.p.x f.p.x) (int_cmp e.p.y f.p.y) i) (then_some (int_cmp e.q.x f.q.x) (int_cmp e.q.y f.q.y) i)) ∙ then_some (pt_cmp e.p f.p) (pt_cmp e.q f.q)
 
