@@ -17,6 +17,7 @@ use Rattle.tiling.specs.Tiles.{Tiling, Owns, tile_count}
 use Rattle.chain_gather.proofs.Gathering.{owner_below}
 use Rattle.noding_test.specs.Verdicts.{common_corner, IsOwnBad, IsLeastPair}
 use Rattle.noding_test.specs.Passes.{IsBadBelow, IsLesser, EdgesHaveTiles}
+use Rattle.noding_test.proofs.Deciding.{edge_before, least_shown, shown}
 use Rattle.noding_test.proofs.NearEdges.{least_by}
 use Rattle.noding_test.proofs.VerdictLaws.{corner_is_common}
 
@@ -31,12 +32,7 @@ edge_order e f = tell (edge_cmp e f) (edge_ranks e f)
 
 -- an order that is known to hold
 pub ascends : (counted : List Counted) → ∥ AllPairs (λ c d. IsEdgeBefore c.edge d.edge) counted ∥₁ → AllPairs (λ c d. IsEdgeBefore c.edge d.edge) counted
-ascends counted h = λ i j d a b. told (get_or counted i d).edge (get_or counted j d).edge (∥∥₁_map h (λ p. p i j d a b))
-  where
-    told : (e f : Edge) → ∥ IsEdgeBefore e f ∥₁ → IsEdgeBefore e f
-    told e f h = ⊎_elim (λ l. l)
-        (λ m. absurd (∥∥₁_elim h (hlevel props) (λ k. ⊎_elim (λ s. edge_before_itself f (subst (λ (x : Edge). IsEdgeBefore x f) s k)) (λ g. edge_before_itself e (edge_before_trans e f e k g)) m)))
-        (edge_order e f)
+ascends counted h = λ i j d a b. shown (edge_before (get_or counted i d).edge (get_or counted j d).edge) (∥∥₁_map h (λ p. p i j d a b))
 
 abbrev IsBeforePair : Edge × Edge → Edge × Edge → Type 0
 IsBeforePair x y = IsPairBefore x.0 x.1 y.0 y.1
@@ -170,6 +166,6 @@ none_is_noded g edges covered h = λ e f e_in f_in apart. ⊎_elim
     (edge_order e f)
 
 -- what the least bad pair of all tiles says of the edges
-pub least_of_tiles : (g : Tiling) (edges : List Edge) → EdgesHaveTiles g edges → (bad : Option (Edge × Edge)) → ∥ IsLeastPair (IsBadBelow g (tile_count g) edges) bad ∥₁ → MatchOption bad (IsNoded edges) (λ pair. ∥ IsLeastBad edges pair.0 pair.1 ∥₁)
+pub least_of_tiles : (g : Tiling) (edges : List Edge) → EdgesHaveTiles g edges → (bad : Option (Edge × Edge)) → ∥ IsLeastPair (IsBadBelow g (tile_count g) edges) bad ∥₁ → MatchOption bad (IsNoded edges) (λ pair. IsLeastBad edges pair.0 pair.1)
 least_of_tiles g edges covered None h = ∥∥₁_elim h (hlevel props) (λ l. none_is_noded g edges covered l)
-least_of_tiles g edges covered (Some pair) h = ∥∥₁_map h (λ l. least_is_bad g edges pair.0 pair.1 covered l)
+least_of_tiles g edges covered (Some pair) h = least_shown edges pair.0 pair.1 (∥∥₁_map h (λ l. least_is_bad g edges pair.0 pair.1 covered l))

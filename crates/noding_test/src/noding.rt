@@ -63,7 +63,7 @@ pub fn noded<A: Allocator + Copy + Send + Sync, G: Gate + Sync, R: Threads + Wai
     requires covered { EdgesHaveTiles grid.now (edges_of rounded.edges.items) }
     ensures { MatchResult result
         (λ n. (n.edges ≡ rounded.edges) × (n.tiles ≡ rounded.tiles) × (n.remade ≡ rounded.remade))
-        (λ f. (f ≡ Memory) ⊎ ((e h : Edge) × (f ≡ NotNoded e h) × ∥ IsLeastBad (edges_of rounded.edges.items) e h ∥₁)) }
+        (λ f. (f ≡ Memory) ⊎ ((e h : Edge) × (f ≡ NotNoded e h) × IsLeastBad (edges_of rounded.edges.items) e h)) }
 {
     let blank = Blank::new(u64::from(workers));
     by_tiles::<Brand, A, G, R>(rt, alloc, blank, rounded, grid, workers, gate)
@@ -92,7 +92,7 @@ fn by_tiles<
     requires covered { EdgesHaveTiles grid.now (edges_of rounded.edges.items) }
     ensures { MatchResult result
         (λ n. (n.edges ≡ rounded.edges) × (n.tiles ≡ rounded.tiles) × (n.remade ≡ rounded.remade))
-        (λ f. (f ≡ Memory) ⊎ ((e h : Edge) × (f ≡ NotNoded e h) × ∥ IsLeastBad (edges_of rounded.edges.items) e h ∥₁)) }
+        (λ f. (f ≡ Memory) ⊎ ((e h : Edge) × (f ≡ NotNoded e h) × IsLeastBad (edges_of rounded.edges.items) e h)) }
 {
     match least_bad_of::<L, A, G, R>(rt, alloc, blank, &rounded.edges, grid, workers, gate) {
         Ok(None) => Ok(settled(rounded)),
@@ -123,7 +123,7 @@ fn least_bad_of<
     requires limits { All (λ c. AreInLimit c.edge.p c.edge.q) counted.now }
     requires ascending { ∥ AllPairs (λ c d. IsEdgeBefore c.edge d.edge) counted.now ∥₁ }
     requires covered { EdgesHaveTiles grid.now (edges_of counted.now) }
-    ensures { IfOk result (λ bad. MatchOption bad (IsNoded (edges_of counted.now)) (λ pair. ∥ IsLeastBad (edges_of counted.now) pair.0 pair.1 ∥₁)) }
+    ensures { IfOk result (λ bad. MatchOption bad (IsNoded (edges_of counted.now)) (λ pair. IsLeastBad (edges_of counted.now) pair.0 pair.1)) }
 {
     let boxes = boxes_of(alloc, counted)?;
     let bins = Bins::build(alloc, grid, &boxes)?;

@@ -19,4 +19,4 @@ returns-in-Ok-Some g c =
     let e = c.in-Ok-Some.e in
     let f = c.in-Ok-Some.f in
     let h = rw c.in-Ok-Some.field-0-is at c.in-Ok-Some.ensures in
-    inr (e, f, refl, subst (λ (cs : List Counted). ∥ IsLeastBad (edges_of cs) e f ∥₁) c.deref.ensures.value h)
+    inr (e, f, refl, subst (λ (cs : List Counted). IsLeastBad (edges_of cs) e f) c.deref.ensures.value h)
