@@ -1,4 +1,4 @@
-use Rattle.chain_gather.proofs.tests.a_book_of_the_same_segments.Given as goal
+use Rattle.chain_gather.proofs.tests.gathers_from_books.Given as goal
 
 abbrev pub ghosts-gathered-L-Ledger : goal.ghosts-gathered-L-Ledger
 ghosts-gathered-L-Ledger g a = record { name = a.blank.name; parts = a.blank.parts }
