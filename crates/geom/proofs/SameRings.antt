@@ -1,6 +1,6 @@
 -- The rings of directed edges are one list: each edge is followed by one edge, so two rings with a common edge are one.
 use Rattle.std.proofs.Common.{◌≡◌, ◌⊎◌, inl, inr, List, [], ◌∷◌, ◌++◌, map, refl, sym, ◌∙◌, ap, subst, ⊎_elim, arith}
-use Rattle.std.specs.Prelude.{◌≢◌, All, Contains, flat_map, IsPermutation}
+use Rattle.std.specs.Prelude.{◌≢◌, All, AllPairs, Contains, flat_map, IsPermutation}
 use Rattle.std.proofs.lemmas.List.{map-append}
 use Rattle.std.proofs.lemmas.List.Elements.{All-nil, All-cons, All-head, All-tail, All-contains}
 use Rattle.std.proofs.lemmas.List.Sorted.{IsPermutation-sym, All-permutation}
@@ -11,7 +11,7 @@ use Rattle.geom.specs.declared.point.Pt.{Pt}
 use Rattle.geom.specs.declared.directed.DirectedEdge.{DirectedEdge}
 use Rattle.geom.specs.Order.{IsBefore}
 use Rattle.geom.specs.Determinant.{side}
-use Rattle.geom.specs.Directed.{from_to, AreDirected}
+use Rattle.geom.specs.Directed.{from_to, IsDirectedBefore}
 use Rattle.geom.specs.ListOrder.{IsListBefore, IsRotation, IsLeastRotation}
 use Rattle.geom.specs.Rings.{IsSooner, IsMetBefore, IsNext, along, around, ring_edges, Corner, corner, corners, Follows, AreRings}
 use Rattle.geom.proofs.Edges.{PtOrder, pt_order, before_strict}
@@ -21,7 +21,7 @@ use Rattle.geom.proofs.Orders.{before_itself}
 use Rattle.geom.proofs.ListOrder.{list_before_itself, list_before_trans, neither_list_before, same_ascending}
 use Rattle.geom.proofs.OneCut.{simple_distinct}
 use Rattle.geom.proofs.OneRotation.{rotation_back, rotation_trans}
-use Rattle.geom.proofs.OneRing.{opposite, some_edge, ring_distinct}
+use Rattle.geom.proofs.OneRing.{opposite, some_edge, ring_simple}
 use Rattle.geom.proofs.RingEdges.{around-rotation, in_permutation, in_flat, flat_in}
 
 -- ---- the next vertex is one
@@ -177,11 +177,11 @@ same_begun directed r s d ds es b c = rotation_trans r (map (λ (e : DirectedEdg
     (rotation_back s (map (λ (e : DirectedEdge). e.from) (d ∷ es)) c.rotation)
 
 -- ---- the rings
-module _ (directed : List DirectedEdge) (a : AreDirected directed) where
+module _ (directed : List DirectedEdge) (asc : AllPairs IsDirectedBefore directed) where
   same_ring : (rs ts : List (List Pt)) → AreRings directed rs → AreRings directed ts → (r s : List Pt) (d : DirectedEdge) → Contains rs r → Contains ts s → In d (ring_edges r) → In d (ring_edges s) → r ≡ s
   same_ring rs ts ar at r s d i j k l =
-      let b = begun directed r d (All-contains (λ ring. All (Follows directed) (corners ring)) rs r ar.follow i) (simple_distinct (ring_edges r) (ring_distinct directed rs a ar r i)) k in
-      let c = begun directed s d (All-contains (λ ring. All (Follows directed) (corners ring)) ts s at.follow j) (simple_distinct (ring_edges s) (ring_distinct directed ts a at s j)) l in
+      let b = begun directed r d (All-contains (λ ring. All (Follows directed) (corners ring)) rs r ar.follow i) (simple_distinct (ring_edges r) (ring_simple directed rs asc ar r i)) k in
+      let c = begun directed s d (All-contains (λ ring. All (Follows directed) (corners ring)) ts s at.follow j) (simple_distinct (ring_edges s) (ring_simple directed ts asc at s j)) l in
       let turned : IsRotation r s = same_begun directed r s d b.0 c.0 b.1 c.1 in
       neither_list_before r s (λ h. (All-contains (λ ring. IsLeastRotation ring ring) ts s at.least j).none_less r (rotation_back r s turned) h)
       (λ h. (All-contains (λ ring. IsLeastRotation ring ring) rs r ar.least i).none_less s turned h)
