@@ -8,6 +8,7 @@ use Rattle.geom.specs.declared.edge.Edge.{Edge}
 use Rattle.geom.specs.Parity.{parity}
 use Rattle.geom.specs.Pixel.{Point, nearest}
 use Rattle.geom.specs.ResultEdges.{left_side, right_side}
+use Rattle.geom.specs.RingParity.{ring_parity}
 
 half : nearest (pos 1) (pos 2) ≡ pos 1
 half = refl
@@ -68,3 +69,28 @@ left_of_slope = refl
 right_of_slope : parity triangle (right_side slope.p slope.q) ≡ true
 unfolding low slope right
 right_of_slope = refl
+
+-- the triangle as a ring, turned round, and as a hole in a square
+abbrev corners : List Pt
+corners = point (pos 0) (pos 0) ∷ point (pos 4) (pos 0) ∷ point (pos 4) (pos 4) ∷ []
+
+abbrev turned : List Pt
+turned = point (pos 4) (pos 4) ∷ point (pos 4) (pos 0) ∷ point (pos 0) (pos 0) ∷ []
+
+abbrev square : List Pt
+square = point (negsuc 0) (negsuc 0) ∷ point (pos 5) (negsuc 0) ∷ point (pos 5) (pos 5) ∷ point (negsuc 0) (pos 5) ∷ []
+
+in_ring : ring_parity (corners ∷ []) (at (pos 4) (pos 2) (pos 0) (pos 0)) ≡ true
+in_ring = refl
+
+in_turned_ring : ring_parity (turned ∷ []) (at (pos 4) (pos 2) (pos 0) (pos 0)) ≡ true
+in_turned_ring = refl
+
+beside_ring : ring_parity (corners ∷ []) (at (pos 2) (pos 6) (pos 0) (pos 0)) ≡ false
+beside_ring = refl
+
+in_hole : ring_parity (square ∷ turned ∷ []) (at (pos 4) (pos 2) (pos 0) (pos 0)) ≡ false
+in_hole = refl
+
+beside_hole : ring_parity (square ∷ turned ∷ []) (at (pos 2) (pos 6) (pos 0) (pos 0)) ≡ true
+beside_hole = refl
