@@ -60,6 +60,7 @@ pub fn rounded_layers<A: Allocator + Copy + Send + Sync, G: Gate + Sync, R: Thre
     requires { IsChecked plan a.now b.now inputs.now.segments_a inputs.now.segments_b inputs.now.grid }
     ensures rounded { IfOk result (λ n. AreRoundedOver a.now b.now inputs.now.grid n.edges.items n.tiles.items) }
     ensures layers { IfOk result (λ n. ∥ AreLayers n.edges.items ∥₁) }
+    ensures few { IfOk result (λ n. n.remade ≤ tile_count inputs.now.grid) }
     ensures in_limit { IfOk result (λ n. All (λ c. AreInLimit c.edge.p c.edge.q) n.edges.items) }
 {
     let segments = read_segments(alloc, a, b, inputs)?;
@@ -100,6 +101,7 @@ fn gathered<A: Allocator + Copy + Send + Sync, G: Gate + Sync, R: Threads + Wait
     requires covered { HaveTiles grid.now segments.now }
     ensures rounded { IfOk result (λ n. ∥ AreRounded segments.now n.edges.items ∥₁) }
     ensures tiles { IfOk result (λ n. AreTileNumbers grid.now segments.now (tile_count grid.now) n.tiles.items) }
+    ensures few { IfOk result (λ n. n.remade ≤ tile_count grid.now) }
 {
     let blank = Blank::new(u64::from(workers));
     by_tiles::<Brand, A, G, R>(rt, alloc, blank, grid, workers, segments, gate)
@@ -128,6 +130,7 @@ fn by_tiles<
     requires covered { HaveTiles grid.now segments.now }
     ensures rounded { IfOk result (λ n. ∥ AreRounded segments.now n.edges.items ∥₁) }
     ensures tiles { IfOk result (λ n. AreTileNumbers grid.now segments.now (tile_count grid.now) n.tiles.items) }
+    ensures few { IfOk result (λ n. n.remade ≤ tile_count grid.now) }
 {
     let boxes = boxes_of(alloc, segments)?;
     let bins = Bins::build(alloc, grid, &boxes)?;
