@@ -1,8 +1,7 @@
-//! The kernels against plain loops, at lengths round whole chunks of eight and with the differing item at each place.
+//! The kernels against plain loops, at lengths round whole chunks and with the differing item at each place.
 
-ghost use Rattle.std.specs.Prelude.{◌<◌, All, IsTrue, length};
-ghost use Rattle.geom.specs.Limit.{AreInLimit};
-ghost use Rattle.lane_tests.specs.Probe.{IsProbe};
+ghost use Rattle.std.specs.Prelude.{◌*◌, ◌<◌, ◌≤◌, All, IsTrue, length};
+ghost use Rattle.geom.specs.Limit.{AreInLimit, IsWithin, coordinate_limit};
 
 use crate::{Boxes, Edges, Half, Probe, Segs, meet_boxes, meet_in, odd_above, sides};
 use geom::{COORDINATE_LIMIT, Edge, NoMemory, Pt, Rect, Seg, Source};
@@ -10,23 +9,87 @@ use std::alloc::Global;
 use std::process::Abort;
 use std::test::Fail;
 
-const LENGTHS: [u32; 11] = [0, 1, 7, 8, 9, 15, 16, 17, 31, 32, 33];
+const LENGTHS: [u32; 14] = [0, 1, 7, 8, 9, 15, 16, 17, 31, 32, 33, 255, 256, 257];
 
 fn pt(x: i32, y: i32) -> Pt {
     Pt { x, y }
 }
 
-// The numbers of the boxes that meet the rectangle, by a plain loop.
-fn plain_meeting(alloc: Global, boxes: &[Rect], rect: Rect) -> Result<Vec<u32>, NoMemory> {
-    let mut found = Vec::new(alloc);
-    let mut number = 0u32;
-    for b in boxes {
-        if b.shares_point(&rect) {
-            found.push(number)?;
+// Whether the numbers are those of the boxes from `from` to below `to` that share a point with the rectangle, ascending, by a
+// plain loop.
+fn is_plain(boxes: &Boxes<Global>, from: u32, to: u32, rect: Rect, found: &[u32]) -> bool
+    requires { to ≤ length boxes.now }
+{
+    let mut rest = found.iter();
+    for number in from..to {
+        if boxes.get(number as usize).shares_point(&rect) && rest.next() != Some(&number) {
+            return false;
         }
-        number = number.wrapping_add(1);
     }
-    Ok(found)
+    rest.next().is_none()
+}
+
+// Whether the boxes that meet the rectangle are found as by the plain loop, among all and in two parts.
+fn boxes_agree(alloc: Global, boxes: &Boxes<Global>, rect: Rect) -> Result<bool, NoMemory> {
+    let count = boxes.len() as u32;
+    let half = count / 2;
+    let mut found = Vec::new(alloc);
+    meet_boxes(boxes, rect, &mut found)?;
+    let whole = is_plain(boxes, 0, count, rect, &found);
+    meet_in(boxes, 0, half, rect, &mut found)?;
+    let first = is_plain(boxes, 0, half, rect, &found);
+    meet_in(boxes, half, count, rect, &mut found)?;
+    Ok(whole && first && is_plain(boxes, half, count, rect, &found))
+}
+
+// Boxes with one at a place and another at all others.
+fn boxes_with_one(
+    alloc: Global,
+    length: u32,
+    place: u32,
+    one: Rect,
+    other: Rect,
+) -> Result<Boxes<Global>, NoMemory> {
+    let mut boxes = Boxes::new(alloc);
+    for at in 0..length {
+        boxes.push(if at == place { one } else { other })?;
+    }
+    Ok(boxes)
+}
+
+#[test]
+fn boxes_of_the_table(rt: HostRuntime) -> Result<(), Fail> {
+    let mut boxes = Boxes::new(rt.alloc());
+    for (left, bottom, right, top) in [
+        (15, 15, 20, 20),
+        (16, 0, 20, 5),
+        (-5, -5, 0, 0),
+        (-5, 3, 40, 3),
+        (3, -9, 3, -1),
+    ] {
+        boxes.push(Rect::spanned_by(pt(left, bottom), pt(right, top)))?;
+    }
+    let mut found = Vec::new(rt.alloc());
+    meet_boxes(&boxes, Rect::spanned_by(pt(0, 0), pt(15, 15)), &mut found)?;
+    assert_eq!(rt; found.as_slice(), [0, 2, 3].as_slice());
+    Ok(())
+}
+
+#[test]
+fn boxes_at_every_length(rt: HostRuntime) -> Result<(), Fail> {
+    let limit = COORDINATE_LIMIT;
+    let corner = Rect::spanned_by(pt(limit, limit), pt(limit, limit));
+    let whole = Rect::spanned_by(pt(-limit, -limit), pt(limit, limit));
+    let outside = Rect::spanned_by(pt(-limit, -limit), pt(limit - 1, limit));
+    for length in LENGTHS {
+        for place in 0..length.max(1) {
+            for (one, other) in [(whole, outside), (outside, whole)] {
+                let boxes = boxes_with_one(rt.alloc(), length, place, one, other)?;
+                assert!(rt; boxes_agree(rt.alloc(), &boxes, corner)?);
+            }
+        }
+    }
+    Ok(())
 }
 
 // The sign of the determinant of b - a and z - a, of twice z - a.
@@ -35,141 +98,48 @@ fn plain_side(a: Pt, b: Pt, z: Half) -> i8 {
     let rise = i64::from(b.y).wrapping_sub(i64::from(a.y));
     let along = i64::from(z.x2).wrapping_sub(i64::from(a.x).wrapping_mul(2));
     let up = i64::from(z.y2).wrapping_sub(i64::from(a.y).wrapping_mul(2));
-    let left = run.wrapping_mul(up);
-    let right = rise.wrapping_mul(along);
-    if left > right {
-        1
-    } else if left < right {
-        -1
-    } else {
-        0
-    }
+    run.wrapping_mul(up)
+        .wrapping_sub(rise.wrapping_mul(along))
+        .signum() as i8
 }
 
-// Whether an odd number of edges cover the probe's column and lie above it, by fractions of 2^64.
-fn plain_parity(edges: &[Edge], z: Probe) -> bool {
-    let unit = 1i128 << 64;
-    let x = i128::from(z.x2)
-        .wrapping_mul(1i128 << 63)
-        .wrapping_add(i128::from(z.dx));
-    let y = i128::from(z.y2)
-        .wrapping_mul(1i128 << 63)
-        .wrapping_add(i128::from(z.dy));
-    let mut odd = false;
-    for e in edges {
-        let px = i128::from(e.p.x).wrapping_mul(unit);
-        let qx = i128::from(e.q.x).wrapping_mul(unit);
-        let run = i128::from(e.q.x).wrapping_sub(i128::from(e.p.x));
-        let rise = i128::from(e.q.y).wrapping_sub(i128::from(e.p.y));
-        let over = run.wrapping_mul(y.wrapping_sub(i128::from(e.p.y).wrapping_mul(unit)));
-        let under = rise.wrapping_mul(x.wrapping_sub(px));
-        if px <= x && x < qx && over < under {
-            odd = !odd;
+// Adds a segment whose ends differ and are in the coordinate limit.
+fn push_seg(segs: &mut Segs<Global>, a: Pt, b: Pt) -> Result<(), NoMemory> {
+    if let Some(seg) = Seg::new(a, b, Source::A) {
+        if seg.a.is_in_limit() && seg.b.is_in_limit() {
+            segs.push(seg)?;
         }
     }
-    odd
-}
-
-// Checks one list of boxes against the plain loop, whole and in two parts.
-fn check_boxes(rt: &impl Abort, alloc: Global, list: &[Rect], rect: Rect) -> Result<(), Fail> {
-    let mut boxes = Boxes::new(alloc);
-    for b in list {
-        boxes.push(*b)?;
-    }
-    let plain = plain_meeting(alloc, list, rect)?;
-    let mut found = Vec::new(alloc);
-    meet_boxes(&boxes, rect, &mut found)?;
-    assert_eq!(rt; found.as_slice(), plain.as_slice());
-    let count = boxes.len() as u32;
-    let half = count / 2;
-    let mut parts = Vec::new(alloc);
-    meet_in(&boxes, 0, half, rect, &mut parts)?;
-    meet_in(&boxes, half, count, rect, &mut found)?;
-    for number in &found {
-        parts.push(*number)?;
-    }
-    assert_eq!(rt; parts.as_slice(), plain.as_slice());
     Ok(())
 }
 
-// A list of this length with one item at a place and another at all others.
-fn with_one<T: Copy + Drop>(
+// Whether the side of each of `length` segments, which are the same but for one, is that of the plain loop.
+fn sides_agree(
     alloc: Global,
     length: u32,
     place: u32,
-    one: T,
-    other: T,
-) -> Result<Vec<T>, NoMemory> {
-    let mut list = Vec::new(alloc);
-    for at in 0..length {
-        list.push(if at == place { one } else { other })?;
-    }
-    Ok(list)
-}
-
-#[test]
-fn boxes_of_the_table(rt: HostRuntime) -> Result<(), Fail> {
-    let rect = Rect::spanned_by(pt(0, 0), pt(15, 15));
-    let table = [
-        (pt(15, 15), pt(20, 20), true),
-        (pt(16, 0), pt(20, 5), false),
-        (pt(-5, -5), pt(0, 0), true),
-        (pt(-5, 3), pt(40, 3), true),
-        (pt(3, -9), pt(3, -1), false),
-    ];
-    for (lo, hi, meets) in table {
-        let mut boxes = Boxes::new(rt.alloc());
-        boxes.push(Rect::spanned_by(lo, hi))?;
-        let mut found = Vec::new(rt.alloc());
-        meet_boxes(&boxes, rect, &mut found)?;
-        assert_eq!(rt; found.len() == 1, meets);
-    }
-    Ok(())
-}
-
-#[test]
-fn boxes_at_every_length(rt: HostRuntime) -> Result<(), Fail> {
-    let least = pt(-COORDINATE_LIMIT, -COORDINATE_LIMIT);
-    let greatest = pt(COORDINATE_LIMIT, COORDINATE_LIMIT);
-    let corner = Rect::spanned_by(greatest, greatest);
-    let whole = Rect::spanned_by(least, greatest);
-    let outside = Rect::spanned_by(least, pt(COORDINATE_LIMIT - 1, COORDINATE_LIMIT));
-    for length in LENGTHS {
-        for place in 0..length {
-            check_boxes(
-                &rt,
-                rt.alloc(),
-                with_one(rt.alloc(), length, place, whole, outside)?.as_slice(),
-                corner,
-            )?;
-            check_boxes(
-                &rt,
-                rt.alloc(),
-                with_one(rt.alloc(), length, place, outside, whole)?.as_slice(),
-                corner,
-            )?;
-        }
-    }
-    check_boxes(&rt, rt.alloc(), [].as_slice(), corner)?;
-    Ok(())
-}
-
-// Checks the sides of segments against the plain loop.
-fn check_sides(rt: &impl Abort, alloc: Global, list: &[(Pt, Pt)], z: Half) -> Result<(), Fail> {
-    assert!(rt; z.is_near());
+    one: (Pt, Pt),
+    other: (Pt, Pt),
+    z: Half,
+) -> Result<bool, NoMemory> {
     let mut segs = Segs::new(alloc);
-    let mut plain = Vec::new(alloc);
-    for (a, b) in list {
-        let seg = Seg::new(*a, *b, Source::A).ok_or("equal ends")?;
-        assert!(rt; seg.a.is_in_limit());
-        assert!(rt; seg.b.is_in_limit());
-        segs.push(seg)?;
-        plain.push(plain_side(*a, *b, z))?;
+    for at in 0..length {
+        let (a, b) = if at == place { one } else { other };
+        push_seg(&mut segs, a, b)?;
     }
     let mut signs = vec![in alloc; 0i8; segs.len()]?;
-    sides(&segs, z, &mut signs);
-    assert_eq!(rt; signs.as_slice(), plain.as_slice());
-    Ok(())
+    if z.is_near() {
+        sides(&segs, z, &mut signs);
+    }
+    let mut at = 0u32;
+    for sign in &signs {
+        let (a, b) = if at == place { one } else { other };
+        if *sign != plain_side(a, b, z) {
+            return Ok(false);
+        }
+        at = at.wrapping_add(1);
+    }
+    Ok(at == length && z.is_near())
 }
 
 #[test]
@@ -182,8 +152,8 @@ fn sides_of_the_table(rt: HostRuntime) -> Result<(), Fail> {
         (pt(0, 1), pt(2, 1), -1),
     ];
     for (a, b, sign) in table {
-        assert_eq!(rt; plain_side(a, b, z), sign);
-        check_sides(&rt, rt.alloc(), [(a, b)].as_slice(), z)?;
+        let agree = sides_agree(rt.alloc(), 1, 0, (a, b), (b, a), z)?;
+        assert!(rt; agree && plain_side(a, b, z) == sign);
     }
     Ok(())
 }
@@ -193,162 +163,131 @@ fn sides_at_every_length(rt: HostRuntime) -> Result<(), Fail> {
     let limit = COORDINATE_LIMIT;
     let one = (pt(-limit, -limit), pt(limit, limit - 1));
     let other = (pt(limit, limit), pt(-limit, -limit));
-    let points = [
-        Half {
-            x2: 33_554_433,
-            y2: 33_554_433,
-        },
-        Half {
-            x2: -33_554_433,
-            y2: 33_554_433,
-        },
-        Half { x2: 0, y2: 0 },
-        Half { x2: 0, y2: -1 },
-    ];
-    for z in points {
+    let most = 33_554_433;
+    for (x2, y2) in [(most, most), (-most, most), (0, 0), (0, -1)] {
         for length in LENGTHS {
-            for place in 0..length {
-                check_sides(
-                    &rt,
-                    rt.alloc(),
-                    with_one(rt.alloc(), length, place, one, other)?.as_slice(),
-                    z,
-                )?;
+            for place in 0..length.max(1) {
+                assert!(rt; sides_agree(rt.alloc(), length, place, one, other, Half { x2, y2 })?);
             }
         }
-        check_sides(&rt, rt.alloc(), [].as_slice(), z)?;
     }
     Ok(())
 }
 
-// Edges of these ends.
-fn edges_of(rt: &impl Abort, alloc: Global, list: &[(Pt, Pt)]) -> Result<Vec<Edge>, Fail> {
-    let mut edges = Vec::new(alloc);
+// Whether an edge covers the probe's column and lies above it, by fractions of 2^64.
+fn is_above(p: Pt, q: Pt, z: Probe) -> bool {
+    let x = (i128::from(z.x2) << 63).wrapping_add(i128::from(z.dx));
+    let y = (i128::from(z.y2) << 63).wrapping_add(i128::from(z.dy));
+    let px = i128::from(p.x) << 64;
+    let py = i128::from(p.y) << 64;
+    let run = i128::from(q.x).wrapping_sub(i128::from(p.x));
+    let rise = i128::from(q.y).wrapping_sub(i128::from(p.y));
+    let over = run.wrapping_mul(y.wrapping_sub(py));
+    let under = rise.wrapping_mul(x.wrapping_sub(px));
+    px <= x && x < i128::from(q.x) << 64 && over < under
+}
+
+// The parity at a probe by a plain loop.
+fn plain_parity(edges: &[(Pt, Pt)], z: Probe) -> bool {
+    let mut odd = false;
+    for (p, q) in edges {
+        if is_above(*p, *q, z) {
+            odd = !odd;
+        }
+    }
+    odd
+}
+
+fn is_small(x: i32) -> bool
+    ensures { IsTrue result → IsWithin (2 * coordinate_limit) x }
+{
+    -2 * COORDINATE_LIMIT <= x && x <= 2 * COORDINATE_LIMIT
+}
+
+// The parity by lanes, where the point is near enough.
+fn lanes_parity(edges: &Edges<Global>, z: Probe) -> Option<bool> {
+    if is_small(z.x2) && is_small(z.y2) && is_small(z.dx) && is_small(z.dy) {
+        Some(odd_above(edges, z))
+    } else {
+        None
+    }
+}
+
+// The edges with these ends.
+fn edges_of(alloc: Global, list: &[(Pt, Pt)]) -> Result<Edges<Global>, NoMemory> {
+    let mut edges = Edges::new(alloc);
     for (p, q) in list {
-        edges.push(Edge::between(*p, *q).ok_or("equal ends")?)?;
+        if let Some(edge) = Edge::between(*p, *q) {
+            if edge.p.is_in_limit() && edge.q.is_in_limit() {
+                edges.push(edge)?;
+            }
+        }
     }
     Ok(edges)
 }
 
-// The answer of the lanes.
-fn lanes_parity(rt: &impl Abort, alloc: Global, list: &[Edge], z: Probe) -> Result<bool, Fail>
-    requires { IsProbe z }
-{
-    let mut edges = Edges::new(alloc);
-    for edge in list {
-        let edge = *edge;
-        assert!(rt; edge.p.is_in_limit());
-        assert!(rt; edge.q.is_in_limit());
-        edges.push(edge)?;
+#[test]
+fn parities_of_the_table(rt: HostRuntime) -> Result<(), Fail> {
+    let list = [
+        (pt(0, 0), pt(4, 0)),
+        (pt(0, 0), pt(4, 4)),
+        (pt(4, 0), pt(4, 4)),
+    ];
+    let edges = edges_of(rt.alloc(), list.as_slice())?;
+    let table = [
+        (4, 2, 0, 0, true),
+        (8, 2, 0, 0, false),
+        (8, 2, -1, 0, true),
+        (0, 0, 0, 0, false),
+        (0, -2, 0, 0, false),
+        (4, 4, -4, 4, false),
+        (4, 4, 4, -4, true),
+    ];
+    for (x2, y2, dx, dy, odd) in table {
+        let z = Probe { x2, y2, dx, dy };
+        let agrees = lanes_parity(&edges, z) == Some(odd);
+        assert!(rt; agrees && plain_parity(list.as_slice(), z) == odd);
     }
-    Ok(odd_above(&edges, z))
+    Ok(())
 }
 
-// Checks the answer at a probe over the edges of the table.
-fn check_table(rt: &impl Abort, alloc: Global, z: Probe, odd: bool) -> Result<(), Fail>
-    requires { IsProbe z }
-{
-    let edges = edges_of(
-        rt,
-        alloc,
-        [
-            (pt(0, 0), pt(4, 0)),
-            (pt(0, 0), pt(4, 4)),
-            (pt(4, 0), pt(4, 4)),
-        ]
-        .as_slice(),
-    )?;
-    assert_eq!(rt; plain_parity(&edges, z), odd);
-    assert_eq!(rt; lanes_parity(rt, alloc, &edges, z)?, odd);
-    Ok(())
+// Whether the parity at a probe is that of the plain loop, over `length` edges that are the same but for one.
+fn parity_agrees(
+    alloc: Global,
+    length: u32,
+    place: u32,
+    one: (Pt, Pt),
+    other: (Pt, Pt),
+    z: Probe,
+) -> Result<bool, NoMemory> {
+    let mut list = Vec::new(alloc);
+    for at in 0..length {
+        list.push(if at == place { one } else { other })?;
+    }
+    let edges = edges_of(alloc, &list)?;
+    let counted = edges.len() == list.len();
+    Ok(counted && lanes_parity(&edges, z) == Some(plain_parity(&list, z)))
+}
+
+// Whether they are at every length and place.
+fn lengths_agree(
+    alloc: Global,
+    one: (Pt, Pt),
+    other: (Pt, Pt),
+    z: Probe,
+) -> Result<bool, NoMemory> {
+    for length in LENGTHS {
+        for place in 0..length.max(1) {
+            if !parity_agrees(alloc, length, place, one, other, z)? {
+                return Ok(false);
+            }
+        }
+    }
+    Ok(true)
 }
 
 #[test]
-fn parities_of_the_table(rt: HostRuntime) -> Result<(), Fail> {
-    check_table(
-        &rt,
-        rt.alloc(),
-        Probe {
-            x2: 4,
-            y2: 2,
-            dx: 0,
-            dy: 0,
-        },
-        true,
-    )?;
-    check_table(
-        &rt,
-        rt.alloc(),
-        Probe {
-            x2: 8,
-            y2: 2,
-            dx: 0,
-            dy: 0,
-        },
-        false,
-    )?;
-    check_table(
-        &rt,
-        rt.alloc(),
-        Probe {
-            x2: 8,
-            y2: 2,
-            dx: -1,
-            dy: 0,
-        },
-        true,
-    )?;
-    check_table(
-        &rt,
-        rt.alloc(),
-        Probe {
-            x2: 0,
-            y2: 0,
-            dx: 0,
-            dy: 0,
-        },
-        false,
-    )?;
-    check_table(
-        &rt,
-        rt.alloc(),
-        Probe {
-            x2: 0,
-            y2: -2,
-            dx: 0,
-            dy: 0,
-        },
-        false,
-    )?;
-    check_table(
-        &rt,
-        rt.alloc(),
-        Probe {
-            x2: 4,
-            y2: 4,
-            dx: -4,
-            dy: 4,
-        },
-        false,
-    )?;
-    check_table(
-        &rt,
-        rt.alloc(),
-        Probe {
-            x2: 4,
-            y2: 4,
-            dx: 4,
-            dy: -4,
-        },
-        true,
-    )?;
-    Ok(())
-}
-
-// Checks the answers at a probe at every length against the plain loop, over edges at the ends of the coordinate limit.
-fn check_lengths(rt: &impl Abort, alloc: Global, z: Probe) -> Result<(), Fail>
-    requires { IsProbe z }
-{
+fn parities_at_every_length(rt: HostRuntime) -> Result<(), Fail> {
     let limit = COORDINATE_LIMIT;
     let ends = [
         (pt(-limit, -limit), pt(limit, limit)),
@@ -357,64 +296,29 @@ fn check_lengths(rt: &impl Abort, alloc: Global, z: Probe) -> Result<(), Fail>
         (pt(0, limit), pt(limit, limit)),
         (pt(-limit, -limit), pt(0, -limit)),
     ];
-    let edges = edges_of(rt, alloc, ends.as_slice())?;
-    for one in &edges {
-        for other in &edges {
-            for length in LENGTHS {
-                for place in 0..length {
-                    let list = with_one(alloc, length, place, *one, *other)?;
-                    assert_eq!(rt; lanes_parity(rt, alloc, &list, z)?, plain_parity(&list, z));
-                }
+    let most = 2 * limit;
+    for (x2, y2, dx, dy) in [
+        (0, 0, most, -most),
+        (0, 0, 0, -1),
+        (most, most - 2, -1, 0),
+        (-most, -most, 0, -1),
+    ] {
+        for one in ends {
+            for other in ends {
+                assert!(rt; lengths_agree(rt.alloc(), one, other, Probe { x2, y2, dx, dy })?);
             }
         }
     }
-    assert_eq!(rt; lanes_parity(rt, alloc, [].as_slice(), z)?, false);
     Ok(())
 }
 
-#[test]
-fn parities_at_every_length(rt: HostRuntime) -> Result<(), Fail> {
-    check_lengths(
-        &rt,
-        rt.alloc(),
-        Probe {
-            x2: 0,
-            y2: 0,
-            dx: 33_554_432,
-            dy: -33_554_432,
-        },
-    )?;
-    check_lengths(
-        &rt,
-        rt.alloc(),
-        Probe {
-            x2: 0,
-            y2: 0,
-            dx: 0,
-            dy: -1,
-        },
-    )?;
-    check_lengths(
-        &rt,
-        rt.alloc(),
-        Probe {
-            x2: 33_554_432,
-            y2: 33_554_430,
-            dx: -1,
-            dy: 0,
-        },
-    )?;
-    check_lengths(
-        &rt,
-        rt.alloc(),
-        Probe {
-            x2: -33_554_432,
-            y2: -33_554_432,
-            dx: 0,
-            dy: -1,
-        },
-    )?;
-    Ok(())
+// The edges of these numbers, or none where an edge is outside the limit or a number out of range.
+fn chosen(alloc: Global, list: &[Edge], numbers: &[u32]) -> Result<Edges<Global>, NoMemory> {
+    if all_in_limit(list) && all_in_range(numbers, list) {
+        Edges::of(alloc, list, numbers)
+    } else {
+        Ok(Edges::new(alloc))
+    }
 }
 
 fn all_in_limit(edges: &[Edge]) -> bool
@@ -430,27 +334,12 @@ fn all_in_range(numbers: &[u32], edges: &[Edge]) -> bool
     numbers.iter().all(|number| (*number as usize) < count)
 }
 
-// The edges of these numbers.
-fn chosen(
-    rt: &impl Abort,
-    alloc: Global,
-    edges: &[Edge],
-    numbers: &[u32],
-) -> Result<Edges<Global>, Fail> {
-    assert!(rt; all_in_limit(edges));
-    assert!(rt; all_in_range(numbers, edges));
-    Ok(Edges::of(alloc, edges, numbers)?)
-}
-
 #[test]
 fn chosen_edges(rt: HostRuntime) -> Result<(), Fail> {
-    let list = [
-        (pt(0, 0), pt(4, 0)),
-        (pt(0, 0), pt(4, 4)),
-        (pt(4, 0), pt(4, 4)),
-        (pt(1, 5), pt(9, 5)),
-    ];
-    let edges = edges_of(&rt, rt.alloc(), list.as_slice())?;
+    let mut list = Vec::new(rt.alloc());
+    for (px, py, qx, qy) in [(0, 0, 4, 0), (0, 0, 4, 4), (4, 0, 4, 4), (1, 5, 9, 5)] {
+        list.push(Edge::between(pt(px, py), pt(qx, qy)).ok_or("equal ends")?)?;
+    }
     let below = Probe {
         x2: 3,
         y2: -1,
@@ -467,9 +356,11 @@ fn chosen_edges(rt: HostRuntime) -> Result<(), Fail> {
         ([3, 3, 2, 3].as_slice(), true),
     ];
     for (numbers, odd) in table {
-        let chosen = chosen(&rt, rt.alloc(), &edges, numbers)?;
-        assert_eq!(rt; chosen.len(), numbers.len());
-        assert_eq!(rt; odd_above(&chosen, below), odd);
+        let chosen = chosen(rt.alloc(), &list, numbers)?;
+        assert_eq!(rt;
+            (chosen.len(), odd_above(&chosen, below)),
+            (numbers.len(), odd)
+        );
     }
     Ok(())
 }

@@ -1,6 +1,6 @@
 //! The grid, the bins and the strips on small examples, and bins and strips against a plain loop over all boxes.
 
-ghost use Rattle.std.specs.Prelude.{◌≡◌, ◌<◌, IfOk};
+ghost use Rattle.std.specs.Prelude.{◌≡◌, ◌<◌};
 ghost use Rattle.tiling.specs.Tiles.{tile_count};
 
 use crate::{Bins, Count, Grid, Strips};
@@ -12,86 +12,92 @@ use std::process::Abort;
 use std::sync::ledger::{Blank, Ledger};
 use std::test::Fail;
 
-fn pt(x: i32, y: i32) -> Pt {
-    Pt { x, y }
+// The box with these sides.
+fn rect(left: i32, bottom: i32, right: i32, top: i32) -> Rect {
+    Rect::spanned_by(Pt { x: left, y: bottom }, Pt { x: right, y: top })
 }
 
-// The grid over bounds in the coordinate limit.
-fn grid_over(rt: &impl Abort, bounds: Option<Rect>, side: u32) -> Result<Grid, Fault> {
+// The grid over bounds; a fault that no grid has stands for bounds outside the coordinate limit.
+fn grid_over(bounds: Option<Rect>, side: u32) -> Result<Grid, Fault> {
     match bounds {
         None => Grid::new(None, side),
         Some(r) => {
-            assert!(rt; r.lo.is_in_limit());
-            assert!(rt; r.hi.is_in_limit());
-            Grid::new(Some(r), side)
+            if r.lo.is_in_limit() && r.hi.is_in_limit() {
+                Grid::new(Some(r), side)
+            } else {
+                Err(Fault::Write)
+            }
         }
     }
 }
 
-// The tile of a point of the bounds.
-fn tile_in(rt: &impl Abort, r: Rect, side: u32, p: Pt) -> Result<u32, Fault> {
-    assert!(rt; r.lo.is_in_limit());
-    assert!(rt; r.hi.is_in_limit());
-    assert!(rt; r.holds(p));
-    match Grid::new(Some(r), side) {
-        Ok(grid) => Ok(grid.tile_of(p)),
+// The tile of a point, where it lies in the bounds.
+fn tile_in(r: Rect, side: u32, p: Pt) -> Option<u32> {
+    if r.lo.is_in_limit() && r.hi.is_in_limit() && r.holds(p) {
+        if let Ok(grid) = Grid::new(Some(r), side) {
+            return Some(grid.tile_of(p));
+        }
+    }
+    None
+}
+
+// The rectangle of a tile.
+fn rect_of(r: Rect, side: u32, number: u32) -> Option<Rect> {
+    let grid = grid_over(Some(r), side).ok()?;
+    if number < grid.tiles() {
+        Some(grid.rect(number))
+    } else {
+        None
+    }
+}
+
+// How many tiles there are, or the fault.
+fn tiles_over(bounds: Option<Rect>, side: u32) -> Result<u32, Fault> {
+    match grid_over(bounds, side) {
+        Ok(grid) => Ok(grid.tiles()),
         Err(e) => Err(e),
     }
 }
 
-fn rect_of(rt: &impl Abort, r: Rect, side: u32, number: u32) -> Result<Rect, Fault> {
-    let grid = grid_over(rt, Some(r), side)?;
-    assert!(rt; number < grid.tiles());
-    Ok(grid.rect(number))
-}
-
 #[test]
 fn grids(rt: HostRuntime) {
-    let wide = Rect::spanned_by(pt(0, 0), pt(600, 600));
-    let flat = Rect::spanned_by(pt(-17, 0), pt(15, 0));
-    let small = Rect::spanned_by(pt(0, 0), pt(16, 16));
+    let limit = COORDINATE_LIMIT;
+    let whole = Some(rect(-limit, -limit, limit, limit));
     let table = [
-        (Some(wide), 1444),
-        (Some(flat), 3),
-        (Some(small), 4),
-        (None, 0),
+        (Some(rect(0, 0, 600, 600)), 16, Ok(1444)),
+        (Some(rect(-17, 0, 15, 0)), 16, Ok(3)),
+        (Some(rect(0, 0, 16, 16)), 16, Ok(4)),
+        (None, 16, Ok(0)),
+        (whole, 15, Err(Fault::BadTile)),
+        (None, 33_554_433, Err(Fault::BadTile)),
+        (whole, 16, Err(Fault::TooManyTiles(4_398_050_705_409))),
+        (whole, 33_554_432, Ok(4)),
     ];
-    for (bounds, tiles) in table {
-        match grid_over(&rt, bounds, 16) {
-            Ok(grid) => assert_eq!(rt; grid.tiles(), tiles),
-            Err(_) => assert!(rt; false),
-        }
-    }
-    assert_eq!(rt; tile_in(&rt, wide, 16, pt(400, 200)), Ok(481));
-    assert_eq!(rt;
-        rect_of(&rt, wide, 16, 481),
-        Ok(Rect::spanned_by(pt(400, 192), pt(415, 207)))
-    );
-    assert_eq!(rt;
-        rect_of(&rt, wide, 16, 1443),
-        Ok(Rect::spanned_by(pt(592, 592), pt(607, 607)))
-    );
-    for (x, tile) in [(-17, 0u32), (-2, 0), (-1, 1), (14, 1), (15, 2)] {
-        assert_eq!(rt; tile_in(&rt, flat, 16, pt(x, 0)), Ok(tile));
+    for (bounds, side, tiles) in table {
+        assert!(rt; tiles_over(bounds, side) == tiles);
     }
 }
 
 #[test]
-fn refusals(rt: HostRuntime) {
-    let limit = COORDINATE_LIMIT;
-    let whole = Rect::spanned_by(pt(-limit, -limit), pt(limit, limit));
-    assert_eq!(rt; grid_over(&rt, Some(whole), 15).err(), Some(Fault::BadTile));
-    assert_eq!(rt;
-        grid_over(&rt, None, 33_554_433).err(),
-        Some(Fault::BadTile)
-    );
-    assert_eq!(rt;
-        grid_over(&rt, Some(whole), 16).err(),
-        Some(Fault::TooManyTiles(4_398_050_705_409))
-    );
-    match grid_over(&rt, Some(whole), 33_554_432) {
-        Ok(grid) => assert_eq!(rt; grid.tiles(), 4),
-        Err(_) => assert!(rt; false),
+fn points_and_tiles(rt: HostRuntime) {
+    let wide = rect(0, 0, 600, 600);
+    let flat = rect(-17, 0, 15, 0);
+    let table = [
+        (wide, 400, 200, 481u32),
+        (flat, -17, 0, 0),
+        (flat, -2, 0, 0),
+        (flat, -1, 0, 1),
+        (flat, 14, 0, 1),
+        (flat, 15, 0, 2),
+    ];
+    for (bounds, x, y, tile) in table {
+        assert!(rt; tile_in(bounds, 16, Pt { x, y }) == Some(tile));
+    }
+    for (tile, tiles) in [
+        (481, rect(400, 192, 415, 207)),
+        (1443, rect(592, 592, 607, 607)),
+    ] {
+        assert!(rt; rect_of(wide, 16, tile) == Some(tiles));
     }
 }
 
@@ -103,37 +109,34 @@ fn boxes_of(alloc: Global, list: &[Rect]) -> Result<Boxes<Global>, NoMemory> {
     Ok(boxes)
 }
 
-// The bin of a tile by a plain loop over all boxes.
-fn plain_bin(alloc: Global, boxes: &[Rect], tile: Rect) -> Result<Vec<u32>, NoMemory> {
-    let mut found = Vec::new(alloc);
+// Whether the numbers are those of the boxes that share a point with a rectangle, ascending, by a plain loop.
+fn is_plain(list: &[Rect], area: Rect, found: &[u32]) -> bool {
+    let mut next = 0usize;
     let mut number = 0u32;
-    for b in boxes {
-        if b.shares_point(&tile) {
-            found.push(number)?;
+    for b in list {
+        if b.shares_point(&area) {
+            if found.get(next) != Some(&number) {
+                return false;
+            }
+            next = next.wrapping_add(1);
         }
         number = number.wrapping_add(1);
     }
-    Ok(found)
+    next == found.len()
 }
 
-// The bins of boxes over a grid, each against the plain loop.
-fn check_bins(
-    rt: &impl Abort,
-    alloc: Global,
-    bounds: Rect,
-    side: u32,
-    list: &[Rect],
-) -> Result<(), Fail> {
-    let grid = grid_over(rt, Some(bounds), side)?;
+// Whether the bin of each tile is that of the plain loop.
+fn bins_agree(alloc: Global, grid: &Grid, list: &[Rect]) -> Result<bool, NoMemory> {
     let boxes = boxes_of(alloc, list)?;
-    let bins = Bins::build(alloc, &grid, &boxes)?;
+    let bins = Bins::build(alloc, grid, &boxes)?;
     let mut found = Vec::new(alloc);
     for number in 0..grid.tiles() {
         bins.bin(number, &mut found)?;
-        let plain = plain_bin(alloc, list, grid.rect(number))?;
-        assert_eq!(rt; found.as_slice(), plain.as_slice());
+        if !is_plain(list, grid.rect(number), &found) {
+            return Ok(false);
+        }
     }
-    Ok(())
+    Ok(true)
 }
 
 // Boxes at places that look thrown, some of them points, some with the same left side.
@@ -146,182 +149,180 @@ fn scattered(alloc: Global, count: u32) -> Result<Vec<Rect>, NoMemory> {
         let y = (seed >> 17 & 511) as i32;
         let wide = (seed >> 26 & 31) as i32;
         let high = (seed >> 5 & 63) as i32;
-        let right = x.wrapping_add(wide.wrapping_mul(wide));
-        list.push(Rect::spanned_by(pt(x, y), pt(right, y.wrapping_add(high))))?;
+        list.push(rect(
+            x,
+            y,
+            x.wrapping_add(wide.wrapping_mul(wide)),
+            y.wrapping_add(high),
+        ))?;
     }
     Ok(list)
 }
 
 fn example() -> [Rect; 4] {
     [
-        Rect::spanned_by(pt(0, 0), pt(600, 600)),
-        Rect::spanned_by(pt(100, 0), pt(101, 1)),
-        Rect::spanned_by(pt(500, 0), pt(501, 1)),
-        Rect::spanned_by(pt(100, 100), pt(100, 100)),
+        rect(0, 0, 600, 600),
+        rect(100, 0, 101, 1),
+        rect(500, 0, 501, 1),
+        rect(100, 100, 100, 100),
     ]
+}
+
+// The bin of a tile, and the places.
+fn bin_and_places<L: Ledger>(
+    alloc: Global,
+    grid: &Grid,
+    number: u32,
+    blank: Blank,
+) -> Result<(Vec<u32>, (u32, u32)), NoMemory>
+    requires name { blank.name ≡ L.name }
+    requires parts { blank.parts ≡ L.parts }
+    requires some { 0 < L.parts }
+    requires tile { number < tile_count grid.now }
+{
+    let boxes = boxes_of(alloc, example().as_slice())?;
+    let bins = Bins::build(alloc, grid, &boxes)?;
+    let mut count = Count::<L>::new(blank);
+    let places = bins.places(number, &mut count);
+    let mut found = Vec::new(alloc);
+    bins.bin(number, &mut found)?;
+    Ok((found, places))
 }
 
 #[test]
 fn bins_of_the_table(rt: HostRuntime) -> Result<(), Fail> {
-    let grid = grid_over(&rt, Some(Rect::spanned_by(pt(0, 0), pt(600, 600))), 16)?;
-    let boxes = boxes_of(rt.alloc(), example().as_slice())?;
-    let bins = Bins::build(rt.alloc(), &grid, &boxes)?;
     let table = [
-        (6u32, [0u32, 1].as_slice()),
-        (31, [0, 2].as_slice()),
-        (37, [0].as_slice()),
-        (234, [0, 3].as_slice()),
+        (6u32, [0u32, 1].as_slice(), (0u32, 3u32)),
+        (31, [0, 2].as_slice(), (0, 4)),
+        (37, [0].as_slice(), (0, 4)),
+        (234, [0, 3].as_slice(), (0, 3)),
     ];
-    let mut found = Vec::new(rt.alloc());
-    for (number, numbers) in table {
+    let grid = grid_over(Some(rect(0, 0, 600, 600)), 16)?;
+    for (number, numbers, places) in table {
         assert!(rt; number < grid.tiles());
-        bins.bin(number, &mut found)?;
-        assert_eq!(rt; found.as_slice(), numbers);
+        let (found, between) = bin_and_places::<Brand>(rt.alloc(), &grid, number, Blank::new(1))?;
+        assert!(rt; found.as_slice() == numbers && between == places);
     }
-    Ok(())
-}
-
-// The places of a tile.
-fn places_of<L: Ledger>(bins: &Bins<Global>, number: u32, blank: Blank) -> (u32, u32)
-    requires name { blank.name ≡ L.name }
-    requires parts { blank.parts ≡ L.parts }
-    requires some { 0 < L.parts }
-    requires tile { number < tile_count bins.now.grid }
-{
-    let mut count = Count::<L>::new(blank);
-    bins.places(number, &mut count)
-}
-
-#[test]
-fn places_of_the_table(rt: HostRuntime) -> Result<(), Fail> {
-    let grid = grid_over(&rt, Some(Rect::spanned_by(pt(0, 0), pt(600, 600))), 16)?;
-    let boxes = boxes_of(rt.alloc(), example().as_slice())?;
-    let bins = Bins::build(rt.alloc(), &grid, &boxes)?;
-    assert!(rt; grid.tiles() > 6);
-    assert_eq!(rt; places_of::<Brand>(&bins, 6, Blank::new(1)), (0, 3));
     Ok(())
 }
 
 #[test]
 fn bins_against_the_plain_loop(rt: HostRuntime) -> Result<(), Fail> {
-    let bounds = Rect::spanned_by(pt(0, 0), pt(600, 600));
-    check_bins(&rt, rt.alloc(), bounds, 16, example().as_slice())?;
-    check_bins(&rt, rt.alloc(), bounds, 16, [].as_slice())?;
-    check_bins(
-        &rt,
-        rt.alloc(),
-        bounds,
-        50,
-        scattered(rt.alloc(), 100)?.as_slice(),
-    )?;
     let limit = COORDINATE_LIMIT;
-    let whole = Rect::spanned_by(pt(-limit, -limit), pt(limit, limit));
+    let bounds = rect(0, 0, 600, 600);
+    let whole = rect(-limit, -limit, limit, limit);
+    let four = example();
+    let many = scattered(rt.alloc(), 100)?;
     let ends = [
-        Rect::spanned_by(pt(limit, limit), pt(limit, limit)),
-        Rect::spanned_by(pt(-limit, -limit), pt(-limit, -limit)),
+        rect(limit, limit, limit, limit),
+        rect(-limit, -limit, -limit, -limit),
         whole,
     ];
-    check_bins(&rt, rt.alloc(), whole, 33_554_432, ends.as_slice())
+    let table = [
+        (bounds, 16, four.as_slice()),
+        (bounds, 16, [].as_slice()),
+        (bounds, 50, many.as_slice()),
+        (whole, 33_554_432, ends.as_slice()),
+    ];
+    for (bounds, side, list) in table {
+        let grid = grid_over(Some(bounds), side)?;
+        assert!(rt; bins_agree(rt.alloc(), &grid, list)?);
+    }
+    Ok(())
 }
 
-// The numbers of the boxes that have an x from left to right, by a plain loop over all boxes.
-fn plain_fill(alloc: Global, boxes: &[Rect], left: i64, right: i64) -> Result<Vec<u32>, NoMemory> {
-    let mut found = Vec::new(alloc);
+// Whether the numbers are those of the boxes that have an x from left to right, ascending, by a plain loop.
+fn is_plain_fill(list: &[Rect], left: i64, right: i64, found: &[u32]) -> bool {
+    let mut next = 0usize;
     let mut number = 0u32;
-    for b in boxes {
+    for b in list {
         if i64::from(b.lo.x) <= right && left <= i64::from(b.hi.x) {
-            found.push(number)?;
+            if found.get(next) != Some(&number) {
+                return false;
+            }
+            next = next.wrapping_add(1);
         }
         number = number.wrapping_add(1);
     }
-    Ok(found)
+    next == found.len()
 }
 
-// The strips of boxes, each against the plain loop, and how many there are.
-fn check_strips(
-    rt: &impl Abort,
+// The strips over these boxes, where their ends are in the coordinate limit and in order.
+fn strips_over(
     alloc: Global,
     low: i32,
     high: i32,
     width: u32,
     list: &[Rect],
-) -> Result<u32, Fail> {
-    let strips = strips_over(rt, alloc, low, high, width, list)?;
+) -> Result<Option<Strips<Global>>, NoMemory> {
+    let first = Pt { x: low, y: 0 };
+    let last = Pt { x: high, y: 0 };
+    if !(first.is_in_limit() && last.is_in_limit() && low <= high && width > 0) {
+        return Ok(None);
+    }
+    let boxes = boxes_of(alloc, list)?;
+    Ok(Some(Strips::build(alloc, low, high, width, &boxes)?))
+}
+
+// How many strips there are, where what each has is as by the plain loop.
+fn strips_agree(
+    alloc: Global,
+    low: i32,
+    high: i32,
+    width: u32,
+    list: &[Rect],
+) -> Result<Option<u32>, NoMemory> {
+    let Some(strips) = strips_over(alloc, low, high, width, list)? else {
+        return Ok(None);
+    };
     let mut found = Vec::new(alloc);
     let mut left = i64::from(low);
     for strip in 0..strips.strips() {
         strips.fill(strip, &mut found)?;
         let right = left.wrapping_add(i64::from(width) - 1);
-        let plain = plain_fill(alloc, list, left, right)?;
-        assert_eq!(rt; found.as_slice(), plain.as_slice());
+        if !is_plain_fill(list, left, right, &found) {
+            return Ok(None);
+        }
         left = right.wrapping_add(1);
     }
-    Ok(strips.strips())
-}
-
-fn strips_over(
-    rt: &impl Abort,
-    alloc: Global,
-    low: i32,
-    high: i32,
-    width: u32,
-    list: &[Rect],
-) -> Result<Strips<Global>, Fail>
-    ensures low { IfOk result (λ s. s.low ≡ low) }
-    ensures high { IfOk result (λ s. s.high ≡ high) }
-{
-    let first = Pt { x: low, y: 0 };
-    let last = Pt { x: high, y: 0 };
-    assert!(rt; first.is_in_limit());
-    assert!(rt; last.is_in_limit());
-    assert!(rt; low <= high);
-    assert!(rt; width > 0);
-    let boxes = boxes_of(alloc, list)?;
-    Ok(Strips::build(alloc, low, high, width, &boxes)?)
-}
-
-#[test]
-fn strips_of_the_example(rt: HostRuntime) -> Result<(), Fail> {
-    let list = [
-        Rect::spanned_by(pt(0, 0), pt(5, 1)),
-        Rect::spanned_by(pt(4, 0), pt(4, 9)),
-        Rect::spanned_by(pt(6, 0), pt(9, 0)),
-    ];
-    let strips = strips_over(&rt, rt.alloc(), 0, 9, 5, list.as_slice())?;
-    assert_eq!(rt; strips.strips(), 2);
-    let mut found = Vec::new(rt.alloc());
-    for (strip, numbers) in [(0u32, [0u32, 1].as_slice()), (1, [0, 2].as_slice())] {
-        assert!(rt; strip < strips.strips());
-        strips.fill(strip, &mut found)?;
-        assert_eq!(rt; found.as_slice(), numbers);
-    }
-    assert_eq!(rt; strips.strip_of(9), 0);
-    assert_eq!(rt; strips.strip_of(10), 1);
-    Ok(())
+    Ok(Some(strips.strips()))
 }
 
 #[test]
 fn strips_against_the_plain_loop(rt: HostRuntime) -> Result<(), Fail> {
-    let list = scattered(rt.alloc(), 100)?;
-    assert_eq!(rt;
-        check_strips(&rt, rt.alloc(), -17, 500, 7, list.as_slice())?,
-        74
-    );
-    assert_eq!(rt; check_strips(&rt, rt.alloc(), 3, 3, 1, list.as_slice())?, 1);
     let limit = COORDINATE_LIMIT;
+    let many = scattered(rt.alloc(), 100)?;
     let ends = [
-        Rect::spanned_by(pt(limit, 0), pt(i32::MAX, 0)),
-        Rect::spanned_by(pt(i32::MIN, 0), pt(-limit - 1, 0)),
-        Rect::spanned_by(pt(i32::MAX, 0), pt(i32::MAX, 0)),
-        Rect::spanned_by(pt(-limit, 0), pt(-limit, 0)),
+        rect(limit, 0, i32::MAX, 0),
+        rect(i32::MIN, 0, -limit - 1, 0),
+        rect(i32::MAX, 0, i32::MAX, 0),
+        rect(-limit, 0, -limit, 0),
     ];
-    assert_eq!(rt;
-        check_strips(&rt, rt.alloc(), -limit, limit, u32::MAX, ends.as_slice())?,
-        1
-    );
-    assert_eq!(rt;
-        check_strips(&rt, rt.alloc(), -limit, limit, 131_073, ends.as_slice())?,
-        256
-    );
+    let table = [
+        (-17, 500, 7, many.as_slice(), 74u32),
+        (3, 3, 1, many.as_slice(), 1),
+        (-limit, limit, u32::MAX, ends.as_slice(), 1),
+        (-limit, limit, 131_073, ends.as_slice(), 256),
+    ];
+    for (low, high, width, list, strips) in table {
+        assert!(rt; strips_agree(rt.alloc(), low, high, width, list)? == Some(strips));
+    }
+    Ok(())
+}
+
+#[test]
+fn strips_of_the_example(rt: HostRuntime) -> Result<(), Fail> {
+    let mut boxes = Boxes::new(rt.alloc());
+    for (left, bottom, right, top) in [(0, 0, 5, 1), (4, 0, 4, 9), (6, 0, 9, 0)] {
+        boxes.push(rect(left, bottom, right, top))?;
+    }
+    let strips = Strips::build(rt.alloc(), 0, 9, 5, &boxes)?;
+    let mut found = Vec::new(rt.alloc());
+    for (x2, strip, numbers) in [(9, 0u32, [0u32, 1].as_slice()), (10, 1, [0, 2].as_slice())] {
+        assert!(rt; strip < strips.strips());
+        strips.fill(strip, &mut found)?;
+        assert!(rt; found.as_slice() == numbers && strips.strip_of(x2) == strip);
+    }
+    assert_eq!(rt; strips.strips(), 2);
     Ok(())
 }
