@@ -242,6 +242,37 @@ def rings_of(directed):
     return rings
 
 
+def cut(ring):
+    """The pieces of a ring: the first place whose point stood earlier ends a piece, which begins there and is taken out."""
+    pieces = []
+    while len(set(ring)) < len(ring):
+        end = next(i for i, v in enumerate(ring) if v in ring[:i])
+        start = ring.index(ring[end])
+        pieces.append(ring[start:end])
+        ring = ring[:start] + ring[end:]
+    return pieces + [ring]
+
+
+def ring_edges(ring):
+    return list(zip(ring, ring[1:] + ring[:1]))
+
+
+def spans(u, v, z):
+    return u[0] <= z[0] < v[0]
+
+
+def runs_above(u, v, z):
+    return side(u, v, z) < 0
+
+
+def side_above(u, v, z):
+    return (spans(u, v, z) and runs_above(u, v, z)) or (spans(v, u, z) and runs_above(v, u, z))
+
+
+def ring_parity(rings, z):
+    return sum(side_above(u, v, z) for ring in rings for u, v in ring_edges(ring)) % 2 == 1
+
+
 # ---- the laws: each answers what contradicts it, or None
 
 
@@ -262,6 +293,14 @@ def result_has_parity(op, counted, directed, points):
     for z in points:
         if parity(result, z) != holds_at(op, odd, z):
             return f"the parity at {z[0]}, {z[1]} differs"
+    return None
+
+
+def text_has_parity(op, counted, rings, points):
+    odd = odd_in_both(counted)
+    for z in points:
+        if ring_parity(rings, z) != holds_at(op, odd, z):
+            return f"the parity over the rings at {z[0]}, {z[1]} differs"
     return None
 
 
@@ -359,8 +398,16 @@ def try_case(rng, size, reference):
         directed = directed_edges(op, counted)
         broken = broken or result_has_parity(op, counted, directed, points) or result_has_even_degrees(directed)
         broken = broken or result_edges_close(directed) or next_edge_is_one_to_one(directed) or holes_are_grounded(op, counted, directed)
+        broken = broken or try_text(op, counted, directed, points)
         broken = broken or (reference and compare(reference, segments, counted, name, directed))
     return (broken, segments) if broken else None
+
+
+def try_text(op, counted, directed, points):
+    """The rings of the result, whole and cut, as those of a text."""
+    rings = rings_of(directed)
+    pieces = [piece for ring in rings for piece in cut(ring)]
+    return text_has_parity(op, counted, rings, points) or text_has_parity(op, counted, pieces, points)
 
 
 def compare(reference, segments, counted, name, directed):
@@ -426,6 +473,9 @@ def dropped_premises():
     yield "odd degrees, round a vertex", result_edges_close(directed_edges(UNION, corner))
     yield "coordinates far beyond the limit, parity", parity_law(UNION, thin)
     yield "an operation that is true outside both layers, parity", parity_law(outside, thin)
+    rounded, either = rounded_edges(TWO_SQUARES), OPS["symdifference"]
+    some = rings_of(directed_edges(either, rounded))[1:]
+    yield "a ring left out, parity over the rings", text_has_parity(either, rounded, some, near_middle(rounded))
     yield "segments that don't close, even degrees", None if has_even_degrees(odd_edges(0, rounded_edges(TWO_SEGMENTS))) else "an odd degree"
 
 

@@ -1,7 +1,7 @@
 #!/usr/bin/env python3
 """Measures the built program on generated layers, and prints the rows of docs/CHECKING.md.
 
-    python3 bench/measure.py [--program PATH] [--folder PATH] [--only WORD]
+    python3 bench/measure.py [--program PATH] [--folder PATH] [--only WORD] [--command edges]
 
 The layers are always the same. Each is run with the default tile side and a fitting one, by 1 and by 4 workers, output to
 /dev/null: seconds on the clock, the processor's seconds, and the greatest memory in megabytes.
@@ -59,32 +59,56 @@ def cells(rng, count, side, steps, left, bottom):
     return "".join(rows)
 
 
+def parcel_columns(segments):
+    return int((segments / 8) ** 0.5)
+
+
 def parcels_and_zones(segments):
-    """Parcels against zones, each layer with about half of the segments; and how wide they are."""
+    """Parcels against zones, each layer with about half of the segments."""
     rng = random.Random(segments)
-    parcels = int((segments / 8) ** 0.5)
+    parcels = parcel_columns(segments)
     zones = int((segments / 64) ** 0.5)
-    wide = parcels * 1000
-    return cells(rng, parcels, 1000, 1, 0, 0), cells(rng, zones, wide // zones, 8, 300, 200), wide
+    return cells(rng, parcels, 1000, 1, 0, 0), cells(rng, zones, parcels * 1000 // zones, 8, 300, 200)
+
+
+def twice(shape, *numbers):
+    """Two layers of one kind."""
+    rng = random.Random(5)
+    return shape(rng, *numbers), shape(rng, *numbers)
+
+
+def samples():
+    return tuple(open(os.path.join(ROOT, "samples", name)).read() for name in ("parcels.wkt", "zones.wkt"))
 
 
 def layers():
-    """Name, both layers, and a fitting tile side."""
-    rng = random.Random(5)
-    read = lambda name: open(os.path.join(ROOT, "samples", name)).read()
-    yield "the samples", read("parcels.wkt"), read("zones.wkt"), 4096
-    yield "1,000 + 1,000 segments of rectangles", rectangles(rng, 250, 10**5, 8000), rectangles(rng, 250, 10**5, 8000), 8192
-    yield "1,000 + 1,000 long segments, half a million crossings", star(rng, 1000, 10**6), star(rng, 1000, 10**6), 65536
-    yield "500,000 + 500,000 segments of rectangles", rectangles(rng, 125000, 10**6, 1500), rectangles(rng, 125000, 10**6, 1500), 8192
-    yield "262,144 copies of one square", polygon([(0, 0), (4, 0), (4, 4), (0, 4)]) * 262144, "", 262144
+    """Name, how both layers are made, and a fitting tile side."""
+    yield "the samples", samples, 4096
+    yield "1,000 + 1,000 segments of rectangles", lambda: twice(rectangles, 250, 10**5, 8000), 8192
+    yield "1,000 + 1,000 long segments, half a million crossings", lambda: twice(star, 1000, 10**6), 65536
+    yield "500,000 + 500,000 segments of rectangles", lambda: twice(rectangles, 125000, 10**6, 1500), 8192
+    yield "262,144 copies of one square", lambda: (polygon([(0, 0), (4, 0), (4, 4), (0, 4)]) * 262144, ""), 262144
     for segments in (10_000, 100_000, 1_000_000):
-        parcels, zones, wide = parcels_and_zones(segments)
-        yield "parcels against zones, {:,} segments".format(segments), parcels, zones, max(wide // 64, 16)
-    yield "268,435,456 spaces", " " * 268435456, "", 262144
+        side = max(parcel_columns(segments) * 1000 // 64, 16)
+        yield "parcels against zones, {:,} segments".format(segments), lambda count=segments: parcels_and_zones(count), side
+    yield "268,435,456 spaces", lambda: (" " * 268435456, ""), 262144
 
 
-def measured(program, a, b, side, workers):
-    words = [program, "edges", a, b, "--report", "--tile=%d" % side, "--workers=%d" % workers]
+def write(make, a, b):
+    """Writes both layers, by a process of its own: what it takes would count as memory of the programs started later."""
+    child = os.fork()
+    if child == 0:
+        for path, text in zip((a, b), make()):
+            with open(path, "w") as f:
+                f.write(text)
+        os._exit(0)
+    _, status = os.waitpid(child, 0)
+    if status:
+        sys.exit("the layers were not written")
+
+
+def measured(program, command, a, b, side, workers):
+    words = [program, command, a, b, "--report", "--tile=%d" % side, "--workers=%d" % workers]
     start = time.monotonic()
     run = subprocess.Popen(words, stdout=subprocess.DEVNULL, stderr=subprocess.PIPE)
     told = run.stderr.read().decode()
@@ -99,19 +123,18 @@ def main():
     parser.add_argument("--program", default=os.path.join(ROOT, "crates/overlay/out/overlay"))
     parser.add_argument("--folder", default=os.path.join(ROOT, "bench/out"))
     parser.add_argument("--only", default="")
+    parser.add_argument("--command", default="edges")
     args = parser.parse_args()
     os.makedirs(args.folder, exist_ok=True)
     a, b = os.path.join(args.folder, "a.wkt"), os.path.join(args.folder, "b.wkt")
     print("| layers | segments | hot pixels | edges | tile side, tiles | workers | seconds | processor | MB |")
     print("|---|---|---|---|---|---|---|---|---|")
-    for name, first, second, side in layers():
+    for name, make, side in layers():
         if args.only not in name:
             continue
-        for path, text in ((a, first), (b, second)):
-            with open(path, "w") as f:
-                f.write(text)
+        write(make, a, b)
         for side, workers in ((262144, 1), (262144, 4), (side, 1), (side, 4)):
-            status, numbers, seconds, busy, memory = measured(args.program, a, b, side, workers)
+            status, numbers, seconds, busy, memory = measured(args.program, args.command, a, b, side, workers)
             if status:
                 print("%s: status %d, %s" % (name, status, numbers))
                 return 1

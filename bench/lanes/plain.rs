@@ -1,4 +1,5 @@
-// The same loops as in speed.rt.txt, in plain Rust without lanes and without branches over the items.
+// The same loops as in speed.rt.txt, in plain Rust without lanes, without branches over the items and without tests of bounds.
+// `rustc` makes vector code of `odd_above`.
 use std::time::Instant;
 
 const ITEMS: u32 = 1_000_000;
@@ -84,19 +85,23 @@ fn odd_above(edges: &Columns, z: &Probe) -> bool {
     count % 2 == 1
 }
 
+// How many numbers were found; they stand in front of the others.
 #[inline(never)]
-fn meet_boxes(boxes: &Columns, lo: Pt, hi: Pt, found: &mut Vec<u32>) {
+fn meet_boxes(boxes: &Columns, lo: Pt, hi: Pt, found: &mut Vec<u32>) -> usize {
     let length = boxes.px.len();
     let (pxs, pys, qxs, qys) = (&boxes.px[..length], &boxes.py[..length], &boxes.qx[..length], &boxes.qy[..length]);
-    // each number is written, and stays where its box meets the rectangle
-    found.resize(length + 1, 0);
+    if found.len() <= length {
+        found.resize(length + 1, 0);
+    }
+    // each number is written, and the next one in its place where its box doesn't meet the rectangle
     let mut count = 0;
     for i in 0..length {
         let meets = (pxs[i] <= hi.0) & (pys[i] <= hi.1) & (lo.0 <= qxs[i]) & (lo.1 <= qys[i]);
-        found[count] = i as u32;
+        // at most i numbers were found before, and there is room for one more than there are boxes
+        unsafe { *found.get_unchecked_mut(count) = i as u32 };
         count += meets as usize;
     }
-    found.truncate(count);
+    count
 }
 
 fn ask(edges: &Columns) -> u32 {
@@ -115,15 +120,18 @@ fn ask(edges: &Columns) -> u32 {
     odd
 }
 
-fn meet(boxes: &Columns, found: &mut Vec<u32>) -> usize {
+fn meet(boxes: &Columns, found: &mut Vec<u32>, half: bool) -> usize {
     let mut sum = 0;
     let mut x = 7u64;
     for _ in 0..ASKS {
         x = step(x);
         let lo = point(x);
         x = step(step(x));
-        meet_boxes(boxes, lo, beside(lo, x), found);
-        sum += found.len();
+        sum += if half {
+            meet_boxes(boxes, (0, -8_388_608), (8_388_607, 8_388_607), found)
+        } else {
+            meet_boxes(boxes, lo, beside(lo, x), found)
+        };
     }
     sum
 }
@@ -138,8 +146,11 @@ fn measure(name: &str, short: bool) {
         let odd = ask(&edges);
         println!("plain odd_above {name} {} {odd}", start.elapsed().as_micros());
         let start = Instant::now();
-        let sum = meet(&boxes, &mut found);
+        let sum = meet(&boxes, &mut found, false);
         println!("plain meet_boxes {name} {} {sum}", start.elapsed().as_micros());
+        let start = Instant::now();
+        let sum = meet(&boxes, &mut found, true);
+        println!("plain meet_boxes half_of_{name} {} {sum}", start.elapsed().as_micros());
     }
 }
 

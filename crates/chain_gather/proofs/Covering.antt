@@ -17,7 +17,7 @@ use Rattle.chain_gather.proofs.Gathering.{AreCovered}
 within : (lo hi a b p : ℤ) → lo ≤ℤ a → a ≤ℤ hi → lo ≤ℤ b → b ≤ℤ hi → int_min a b ≤ℤ p → p ≤ℤ int_max a b → (lo ≤ℤ p) × (p ≤ℤ hi)
 within lo hi a b p h k l m u v = (omega (arith, linear, int_min_is a b), omega (arith, linear, int_max_is a b))
 
-inside : (r : Rect) (a b p : Pt) → IsInBox r.lo r.hi a → IsInBox r.lo r.hi b → IsInBox (least_corner a b) (greatest_corner a b) p → IsInBox r.lo r.hi p
+pub inside : (r : Rect) (a b p : Pt) → IsInBox r.lo r.hi a → IsInBox r.lo r.hi b → IsInBox (least_corner a b) (greatest_corner a b) p → IsInBox r.lo r.hi p
 inside r a b p h k l =
     let x = within r.lo.x r.hi.x a.x b.x p.x h.left h.right k.left k.right l.left l.right in
     let y = within r.lo.y r.hi.y a.y b.y p.y h.bottom h.top k.bottom k.top l.bottom l.top in

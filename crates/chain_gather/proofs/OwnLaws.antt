@@ -20,7 +20,7 @@ use Rattle.chain_gather.proofs.Near.{in_same_box, one_candidates, one_rect}
 abbrev pub same_rect : Rect → Rect → Bool
 same_rect r q = same_point r.lo q.lo && same_point r.hi q.hi
 
-same_point_path : (u v : Pt) → u ≡ v → same_point u v ≡ true
+pub same_point_path : (u v : Pt) → u ≡ v → same_point u v ≡ true
 same_point_path u v e = subst (λ (w : Pt). same_point u w ≡ true) e (same_point_refl u)
 
 module _ {A : Type 0} (g : Tiling) (segments : List Seg) (k : ℕ) (piece : Piece A) (rect : Rect) (exact : (p : Pt) → IsInBox rect.lo rect.hi p ↔ Owns g k p) where

@@ -1,4 +1,4 @@
-//! Tests of gathering, with a book that holds nothing and one whose pieces were made from other segments.
+//! Tests of gathering, with books that hold nothing, pieces of other segments, or the tiles' own pieces.
 
 ghost use Rattle.std.specs.Prelude.{◌≡◌, ◌≤◌, All, Contains, IfOk, IfSome};
 ghost use Rattle.geom.specs.Box.{IsInBox};
@@ -6,6 +6,7 @@ ghost use Rattle.geom.specs.Limit.{AreInLimit};
 ghost use Rattle.chain_gather.specs.Gathered.{AreBinsOf, AreBoxesOf};
 
 use super::*;
+use bumpalo::Bump;
 use geom::{Counted, Edge, NoMemory, Pt, Rect, Seg, Source};
 use lane_tests::Boxes;
 use routing::{Piece, piece};
@@ -105,14 +106,14 @@ fn bins_of<A: Allocator + Copy>(
 }
 
 // A book of the pieces of the first tiles, made from these segments.
-fn book_of<L: Limited>(
+fn book_of<L: Limited, A: Allocator + Copy>(
     rt: &impl Wait,
-    alloc: Global,
+    alloc: A,
     blank: Blank,
     grid: &Grid,
     posted: u32,
     segments: &[Seg],
-) -> Result<Book<Piece<Global>, L, Global>, NoMemory>
+) -> Result<Book<Piece<A>, L, A>, NoMemory>
     requires name { blank.name ≡ L.name }
     requires parts { (blank.parts ≡ L.parts) × (blank.parts ≡ 1) }
     requires limit { L.limit ≡ 4 }
@@ -134,14 +135,16 @@ fn book_of<L: Limited>(
     close(desk, shares).map_err(|_| NoMemory)
 }
 
-// The row gathered over tiles of side 16, with a book of the first tiles' pieces, made from other segments.
-fn gathered<L: Limited>(
+// The row gathered over tiles of side 16, in the second allocator, with a book of the first tiles' pieces, made from other
+// segments.
+fn gathered<L: Limited, A: Allocator + Copy>(
     rt: &impl Wait,
-    alloc: Global,
+    alloc: A,
+    own: A,
     blank: Blank,
     posted: u32,
     others: &[Ends],
-) -> Result<Rounded<Global>, NoMemory>
+) -> Result<Rounded<A>, NoMemory>
     requires name { blank.name ≡ L.name }
     requires parts { (blank.parts ≡ L.parts) × (blank.parts ≡ 1) }
     requires limit { L.limit ≡ 4 }
@@ -156,8 +159,8 @@ fn gathered<L: Limited>(
     let segments = segments_in(alloc, &bounds, &ROW)?;
     let bins = bins_of(alloc, &grid, &segments)?;
     let strange = segments_in(alloc, &bounds, others)?;
-    let book = book_of::<L>(rt, alloc, blank, &grid, posted, &strange)?;
-    gather(alloc, book, &grid, &bins, &segments)
+    let book = book_of::<L, A>(rt, alloc, blank, &grid, posted, &strange)?;
+    gather(own, book, &grid, &bins, &segments)
 }
 
 fn is_edge(counted: &Counted, expected: &(Ends, u32)) -> bool {
@@ -168,7 +171,7 @@ fn is_edge(counted: &Counted, expected: &(Ends, u32)) -> bool {
         && counted.in_b == 0
 }
 
-fn is_row(rounded: &Rounded<Global>) -> bool {
+fn is_row<A: Allocator>(rounded: &Rounded<A>) -> bool {
     rounded.edges.len() == EDGES.len()
         && rounded.tiles.len() == TILES.len()
         && rounded
@@ -183,28 +186,59 @@ fn is_row(rounded: &Rounded<Global>) -> bool {
             .all(|(tile, expected)| (tile.hot, tile.records) == *expected)
 }
 
-#[test]
-fn an_empty_book(rt: HostRuntime) -> Result<(), Fail> {
-    let rounded = gathered::<Brand>(&rt, rt.alloc(), Blank::new(1), 0, &ROW)?;
-    assert!(rt; is_row(&rounded));
-    assert_eq!(rt; rounded.remade, 4);
-    Ok(())
-}
+// The segments whose pieces a book has, those of how many tiles, and how many pieces are made anew.
+const BOOKS: [(&[Ends], u32, u32); 6] = [
+    (&ROW, 0, 4),
+    (&ROW, 1, 3),
+    (&ROW, 2, 2),
+    (&ROW, 3, 1),
+    (&ROW, 4, 0),
+    (&BOW_TIE, 4, 4),
+];
 
 #[test]
-fn a_book_of_other_segments(rt: HostRuntime) -> Result<(), Fail> {
-    let rounded = gathered::<Brand>(&rt, rt.alloc(), Blank::new(1), 4, &BOW_TIE)?;
-    assert!(rt; is_row(&rounded));
-    assert_eq!(rt; rounded.remade, 4);
-    Ok(())
-}
-
-#[test]
-fn a_book_of_the_same_segments(rt: HostRuntime) -> Result<(), Fail> {
-    for posted in 0..5 {
-        let rounded = gathered::<Brand>(&rt, rt.alloc(), Blank::new(1), posted, &ROW)?;
-        assert!(rt; is_row(&rounded));
-        assert_eq!(rt; rounded.remade, 4 - posted);
+fn gathers_from_books(rt: HostRuntime) -> Result<(), Fail> {
+    for (others, posted, remade) in BOOKS {
+        let alloc = rt.alloc();
+        let rounded = gathered::<Brand, _>(&rt, alloc, alloc, Blank::new(1), posted, others)?;
+        assert!(rt;
+            is_row(&rounded) && rounded.remade == remade,
+            "{posted}, {remade}"
+        );
     }
+    Ok(())
+}
+
+const ROOM: usize = 4_032;
+
+// Whether the row is gathered in a heap of `ROOM` bytes of which that many are taken, with the first tiles' own pieces.
+fn fits(rt: &impl Wait, alloc: Global, posted: u32, taken: usize) -> Result<bool, NoMemory> {
+    let others = Bump::new(alloc);
+    let heap = Bump::try_with_capacity(alloc, ROOM)?;
+    heap.set_allocation_limit(Some(0));
+    heap.try_alloc_slice_fill_clone(taken, 0u8)?;
+    Ok(gathered::<Brand, _>(rt, &others, &heap, Blank::new(1), posted, &ROW).is_ok())
+}
+
+// With less and less room the last request is refused first, and then each before it. The first place, in words of 8 bytes,
+// at which one is.
+fn spare(rt: &impl Wait, alloc: Global, posted: u32) -> Result<usize, NoMemory> {
+    for taken in 0..ROOM / 8 {
+        if !fits(rt, alloc, posted, 8 * taken)? {
+            return Ok(taken);
+        }
+    }
+    Err(NoMemory)
+}
+
+// The tiles' own pieces are taken from the book, and not made anew.
+#[test]
+fn asks_for_less_with_a_full_book(rt: HostRuntime) -> Result<(), Fail> {
+    let with_none = spare(&rt, rt.alloc(), 0)?;
+    let with_all = spare(&rt, rt.alloc(), 4)?;
+    assert!(rt;
+        0 < with_none && with_none < with_all,
+        "{with_none}, {with_all}"
+    );
     Ok(())
 }

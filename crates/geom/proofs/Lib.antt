@@ -3,7 +3,6 @@ pub mod Identity
 pub mod Fraction
 pub mod Nearest
 pub mod Bounds
-pub mod IntOrder
 pub mod Plane
 pub mod Along
 pub mod Pixels

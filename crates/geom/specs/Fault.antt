@@ -1,5 +1,5 @@
 -- The refusals (own): their numbers, what each is about, and the words that are printed.
-use Rattle.std.specs.Prelude.{ℕ, Bool, not, nat_lt, List, ◌++◌, codes}
+use Rattle.std.specs.Prelude.{ℕ, Bool, not, nat_eq, nat_lt, ◌&&◌, List, ◌++◌, codes}
 use Rattle.std.specs.Fmt.{decimal}
 use Rattle.geom.specs.declared.fault.Fault.{Fault}
 use Rattle.geom.specs.declared.fault.Fault.TheVariants.{LayerLong, Syntax, NumberRange, RingShort, RingOpen, TooManySegments, BadTile, BadWorkers, TooManyTiles, NotNoded, Memory, Write}
@@ -21,11 +21,11 @@ number_of (NotNoded e f) = 9
 number_of Memory = 10
 number_of Write = 11
 
--- the refusals of a text, 0 to 4, are about a layer; all others are about the run
+-- the refusals of a text, 0 to 4, are about a layer; the others are about the run, but for 9, which no run answers
 abbrev pub belongs : Part → Fault → Bool
 belongs A f = nat_lt (number_of f) 5
 belongs B f = nat_lt (number_of f) 5
-belongs Run f = not (nat_lt (number_of f) 5)
+belongs Run f = not (nat_lt (number_of f) 5) && not (nat_eq (number_of f) 9)
 
 abbrev pub fault_words : Fault → List ℕ
 fault_words LayerLong = codes "0 layer too long"

@@ -23,3 +23,4 @@ pub mod ListOrder
 pub mod Rings
 pub mod Holes
 pub mod Canonical
+pub mod RingParity

@@ -103,7 +103,7 @@ pub enum Part {
     Run,
 }
 
-/// Why a run is refused: the refusals of a text are about a layer, the others about the run.
+/// Why a run is refused: the refusals of a text are about a layer, the others about the run. No run answers that edges cross.
 #[derive(Clone, Copy, Debug)]
 pub struct RunFault {
     pub at: Part,

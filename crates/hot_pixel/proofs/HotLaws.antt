@@ -12,7 +12,7 @@ use Rattle.geom.specs.Hot.{IsHot, CrossIn}
 use Rattle.geom.specs.Hot.IsHot.{start, end, crossing}
 use Rattle.geom.specs.Route.{Meets}
 use Rattle.geom.specs.Limit.{InLimit, AreInLimit, IsWithin, coordinate_limit}
-use Rattle.geom.proofs.IntOrder.{linear, expand}
+use Rattle.geom.proofs.Integers.{linear, expand}
 use Rattle.geom.proofs.Along.{Between, meets_box}
 use Rattle.geom.proofs.Pixels.{piece, meets_in, meets_out}
 use Rattle.geom.proofs.Routes as routes

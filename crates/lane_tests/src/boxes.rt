@@ -1,6 +1,6 @@
 //! Boxes, and which of them meet a rectangle.
 
-ghost use Rattle.std.specs.Prelude.{◌≡◌, ℕ, List, ◌+◌, ◌-◌, ◌<◌, ◌≤◌, ◌≤ℤ◌, ◌^◌, ◌++◌, ◌∷◌, [], OnOk, OnErr, All, Some, length, map, slice_get};
+ghost use Rattle.std.specs.Prelude.{◌≡◌, ℕ, List, ◌+◌, ◌-◌, ◌*◌, ◌<◌, ◌≤◌, ◌≤ℤ◌, ◌^◌, ◌++◌, ◌∷◌, [], OnOk, OnErr, All, Some, length, map, slice_get, take};
 ghost use Rattle.lane_tests.specs.Columns.{AreColumns, IsColumn, corners, mask_of, pair_at, passing, touches};
 ghost use Rattle.lane_tests.specs.Boxes.{AreRects, AreSmall, rects_of};
 ghost use Rattle.lane_tests.specs.Meeting.{AreMeeting};
@@ -11,6 +11,9 @@ use geom::{NoMemory, Pt, Rect};
 use std::alloc::Allocator;
 use std::marker::Model;
 use std::simd::prelude::*;
+
+// How many chunks of eight boxes are tested before what was found is added.
+const CHUNKS: usize = 32;
 
 /// Closed boxes, numbered from 0 in the order in which they were added.
 #[derive(Drop)]
@@ -156,8 +159,9 @@ fn push_touching<A: Allocator>(
 {
     let mut at = from;
     while end - at >= 8 {
-        push_eight(left, bottom, right, top, at, rect, out)?;
-        at += 8;
+        let chunks = ((end - at) / 8).min(CHUNKS);
+        push_chunks(left, bottom, right, top, at, chunks, rect, out)?;
+        at += 8 * chunks;
     }
     while at < end {
         if touches_at(left, bottom, right, top, at, rect) {
@@ -168,31 +172,60 @@ fn push_touching<A: Allocator>(
     Ok(())
 }
 
-// Adds the numbers of those of the eight boxes from `at` on that touch the rectangle.
+// Adds the numbers of those boxes of some chunks of eight from `from` on that touch the rectangle.
+fn push_chunks<A: Allocator>(
+    left: &[i32],
+    bottom: &[i32],
+    right: &[i32],
+    top: &[i32],
+    from: usize,
+    chunks: usize,
+    rect: Rect,
+    out: &mut Vec<u32, A>,
+) -> Result<(), NoMemory>
+    requires columns { AreColumns left.now bottom.now right.now top.now }
+    requires few { chunks ≤ 32 }
+    requires in_range { from + 8 * chunks ≤ length left.now }
+    ensures { OnOk result (out.new.items ≡ out.old.items ++ passing (λ k. touches (pair_at left.now bottom.now right.now top.now k) (corners rect)) from (8 * chunks)) }
+{
+    let mut found = [0u32; 8 * CHUNKS];
+    let mut count = 0;
+    for chunk in 0..chunks {
+        let at = from + 8 * chunk;
+        count = note_eight(left, bottom, right, top, at, rect, &mut found, count);
+    }
+    out.extend_from_slice(&found[..count])?;
+    Ok(())
+}
+
+// Writes the numbers of those of the eight boxes from `at` on that touch the rectangle behind the first `count` numbers.
+// Each number is written, and the next one in its place where its box doesn't touch, so that no branch depends on a box.
 #[inline(always)]
-fn push_eight<A: Allocator>(
+fn note_eight(
     left: &[i32],
     bottom: &[i32],
     right: &[i32],
     top: &[i32],
     at: usize,
     rect: Rect,
-    out: &mut Vec<u32, A>,
-) -> Result<(), NoMemory>
+    found: &mut [u32],
+    count: usize,
+) -> usize
     requires columns { AreColumns left.now bottom.now right.now top.now }
     requires in_range { at + 8 ≤ length left.now }
-    ensures { OnOk result (out.new.items ≡ out.old.items ++ passing (λ k. touches (pair_at left.now bottom.now right.now top.now k) (corners rect)) at 8) }
+    requires room { count + 8 ≤ length found.old }
+    ensures noted { take result found.new ≡ take count found.old ++ passing (λ k. touches (pair_at left.now bottom.now right.now top.now k) (corners rect)) at 8 }
+    ensures few { result ≤ count + 8 }
+    ensures room { length found.new ≡ length found.old }
 {
     let mut rest = touching(left, bottom, right, top, at, rect);
-    let mut number = at as u32;
-    while rest != 0 {
-        let skipped = rest.trailing_zeros();
-        number += skipped;
-        out.push(number)?;
-        number += 1;
-        rest = rest >> skipped >> 1;
+    let mut end = count;
+    for lane in 0..8u32 {
+        found[end] = at as u32 + lane;
+        end += (rest % 2) as usize;
+        rest /= 2;
     }
-    Ok(())
+    end
 }
 
 // Whether one box touches the rectangle.

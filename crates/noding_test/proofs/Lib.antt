@@ -1,2 +1,6 @@
 pub mod VerdictLaws
 pub mod NearEdges
+pub mod Deciding
+pub mod Least
+pub mod OwnVerdicts
+pub mod EdgeBins

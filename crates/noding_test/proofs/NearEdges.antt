@@ -1,7 +1,6 @@
 -- The edges near a tile.
-use Rattle.std.proofs.Common.{◌≡◌, ◌⊎◌, inl, inr, ℕ, zero, suc, ◌+◌, ◌<◌, List, [], ◌∷◌, ◌++◌, refl, sym, ◌∙◌, ap, arith, subst, length, get_or, take, ◌↔◌, ⊎_elim}
-use Rattle.std.specs.Prelude.{All, AllPairs, Contains, Option, Some, None, map, slice_get}
-use Rattle.std.specs.List.{filter_map}
+use Rattle.std.proofs.Common.{◌≡◌, ℕ, ◌+◌, ◌<◌, List, [], ◌∷◌, ◌++◌, refl, sym, ◌∙◌, ap, arith, subst, length, get_or, take, ◌↔◌, ⊎_elim}
+use Rattle.std.specs.Prelude.{All, AllPairs, Contains, Option, Some, None, slice_get}
 use Rattle.std.specs.Option.{option_map}
 use Rattle.std.proofs.lemmas.List.{take_more}
 use Rattle.std.proofs.lemmas.List.Elements.{All-contains, Contains-get_or, filter_map-append}
@@ -13,7 +12,6 @@ use Rattle.geom.specs.declared.edge.Counted.{Counted}
 use Rattle.geom.specs.Box.{IsInBox, greatest_corner, least_corner}
 use Rattle.geom.specs.Limit.{AreInLimit}
 use Rattle.geom.specs.EdgeOrder.{IsEdgeBefore}
-use Rattle.geom.specs.Noded.{IsPairBefore}
 use Rattle.geom.specs.Rounded.{edges_of}
 use Rattle.tiling.specs.Tiles.{Tiling, Owns}
 use Rattle.hot_pixel.specs.Rects.{IsIn}
@@ -25,7 +23,7 @@ some_counted : {c d : Counted} {o : Option Counted} → o ≡ Some c → o ≡ S
 some_counted {c} {d} {o} a b = cc
 
 -- ---- the edges of some numbers
-first_chosen : (counted : List Counted) (n : ℕ) (ns : List ℕ) (c : Counted) → slice_get counted n ≡ Some c → chosen_edges counted (n ∷ ns) ≡ c.edge ∷ chosen_edges counted ns
+pub first_chosen : (counted : List Counted) (n : ℕ) (ns : List ℕ) (c : Counted) → slice_get counted n ≡ Some c → chosen_edges counted (n ∷ ns) ≡ c.edge ∷ chosen_edges counted ns
 first_chosen counted n ns c e = rw e refl
 
 none_chosen : (counted : List Counted) (n : ℕ) (ns : List ℕ) → slice_get counted n ≡ None → chosen_edges counted (n ∷ ns) ≡ chosen_edges counted ns

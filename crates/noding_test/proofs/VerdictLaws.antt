@@ -1,7 +1,7 @@
 -- Bad pairs among ascending edges.
-use Rattle.std.proofs.Common.{◌≡◌, ◌⊎◌, inl, inr, ℕ, ◌+◌, ◌<◌, ◌≤◌, List, Option, Some, None, refl, sym, ◌∙◌, ap, arith, subst, length, get_or, ⊎_elim}
+use Rattle.std.proofs.Common.{◌≡◌, inl, inr, ℕ, ◌+◌, ◌<◌, ◌≤◌, List, Option, Some, None, refl, sym, ◌∙◌, ap, arith, subst, length, get_or, ⊎_elim}
 use Rattle.std.proofs.Math.IntN.{ℤ}
-use Rattle.std.specs.Prelude.{All, AllPairs, Contains, slice_get, ◌<ℤ◌, ◌≤ℤ◌}
+use Rattle.std.specs.Prelude.{AllPairs, Contains, slice_get, ◌<ℤ◌, ◌≤ℤ◌}
 use Rattle.std.specs.Int.{int_min, int_max}
 use Rattle.std.proofs.lemmas.Bool.{cases_lt}
 use Rattle.std.proofs.lemmas.Int.{int_min_is, int_max_is}
@@ -13,8 +13,8 @@ use Rattle.geom.specs.declared.segment.Source.TheVariants.{A}
 use Rattle.geom.specs.Box.{IsInBox, greatest_corner, least_corner}
 use Rattle.geom.specs.EdgeOrder.{IsEdgeBefore}
 use Rattle.geom.specs.Order.{IsBefore}
-use Rattle.geom.specs.Noded.{IsBad, IsPairBefore, MeetOnlyAtEnds}
-use Rattle.geom.specs.Pixel.{Point, pixel}
+use Rattle.geom.specs.Noded.{IsBad, MeetOnlyAtEnds}
+use Rattle.geom.specs.Pixel.{pixel}
 use Rattle.geom.proofs.Integers.{linear}
 use Rattle.geom.proofs.Meaning.{met_pixels_are_in_bounds}
 use Rattle.geom.proofs.Orders.{before_itself, edge_before_itself, edge_before_trans}

@@ -2,9 +2,16 @@
 #![tactic(auto)]
 
 mod finding;
-mod noded;
+mod noded_edges;
+mod noding;
+mod own;
+mod pairs;
 mod verdicts;
 
 pub use finding::verdict;
-pub use noded::{Noded, settled};
+pub use noded_edges::{Noded, settled};
+pub use noding::noded;
 pub use verdicts::Verdict;
+
+#[cfg(test)]
+mod tests;

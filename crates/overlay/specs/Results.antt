@@ -6,6 +6,9 @@ use Rattle.geom.specs.declared.directed.DirectedEdge.{DirectedEdge}
 use Rattle.geom.specs.Canonical.{HaveEachEdge, Shape, written_rings}
 use Rattle.geom.specs.Directed.{AreResultEdges}
 use Rattle.geom.specs.ListOrder.{IsLeastRotation}
+use Rattle.geom.specs.Pixel.{Point}
+use Rattle.geom.specs.ResultEdges.{holds_at}
+use Rattle.geom.specs.RingParity.{ring_parity}
 use Rattle.polygonize.specs.Written.{AreSimple}
 use Rattle.wkt.specs.Canonical.{listed, ring_text}
 use Rattle.overlay.specs.declared.engine.Plan.{Plan}
@@ -22,7 +25,8 @@ result_line [] = codes "MULTIPOLYGON EMPTY" ++ 10 ∷ []
 result_line (p ∷ ps) = codes "MULTIPOLYGON " ++ (listed shape_text p ps ++ 10 ∷ [])
 
 -- The text is the canonical line of polygons whose rings together have each directed edge of the result once. No ring visits a
--- point twice, and each is read from its least rotation.
+-- point twice, and each is read from its least rotation. Any point lies in the polygons, by the even-odd rule over all their
+-- rings, exactly where the operation holds of its parities in the two rounded layers.
 pub record IsResultText (op : Op) (counted : List Counted) (text : List ℕ) : Type 0 where
   pub directed : List DirectedEdge
   pub bound : AreResultEdges op counted directed
@@ -30,6 +34,7 @@ pub record IsResultText (op : Op) (counted : List Counted) (text : List ℕ) : T
   pub each_edge : HaveEachEdge directed polygons
   pub simple : AreSimple (written_rings polygons)
   pub least : All (λ ring. IsLeastRotation ring ring) (written_rings polygons)
+  pub points : (z : Point) → ring_parity (written_rings polygons) z ≡ holds_at op counted z
   pub written : text ≡ result_line polygons
 
 -- the text of the result, and its report

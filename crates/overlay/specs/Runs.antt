@@ -10,7 +10,7 @@ use Rattle.geom.specs.Segments.{layer_steps}
 use Rattle.geom.specs.declared.segment.Source.{Source}
 use Rattle.geom.specs.declared.segment.Source.TheVariants.{A as FromA, B as FromB}
 use Rattle.geom.specs.declared.rect.Rect.{Rect}
-use Rattle.tiling.specs.Tiles.{CoversBounds, Tiling, most_tiles, tile_count}
+use Rattle.tiling.specs.Tiles.{CoversBounds, IsSide, Tiling, most_tiles, tile_count}
 use Rattle.wkt.specs.LayerText.{Ring}
 use Rattle.wkt.specs.Outlines.{IsOutline}
 use Rattle.wkt.specs.declared.outline.Outline.{Outline}
@@ -21,11 +21,6 @@ use Rattle.overlay.specs.Texts.{edges_text_of}
 use Rattle.chain_gather.specs.declared.rounded.TileNumbers.{TileNumbers}
 use Rattle.overlay.specs.Rounds.{AreBoundsOf, AreRoundedOver, IsGridOver, TellsTiles}
 use Rattle.overlay.specs.declared.engine.Plan.{Plan}
-
--- the side of a tile is within its limits, in grid units
-pub record IsSide (side : ℕ) : Type 0 where
-  pub low : 16 ≤ side
-  pub high : side ≤ 33_554_432
 
 -- the number of workers is within its limits
 pub record IsCrew (workers : ℕ) : Type 0 where

@@ -5,7 +5,7 @@ use Rattle.std.specs.Fmt.{decimal}
 use Rattle.geom.specs.Words.{edge_words}
 use Rattle.geom.specs.Fault.{fault_words}
 use Rattle.geom.specs.declared.fault.Fault.{Fault}
-use Rattle.geom.specs.declared.fault.Fault.TheVariants.{NotNoded, Memory, Write}
+use Rattle.geom.specs.declared.fault.Fault.TheVariants.{Memory, Write}
 use Rattle.geom.specs.declared.fault.Part.{Part}
 use Rattle.geom.specs.declared.fault.Part.TheVariants.{A, B, Run}
 use Rattle.geom.specs.declared.fault.RunFault.{RunFault}
@@ -15,7 +15,6 @@ use Rattle.overlay.specs.declared.text.Report.{Report}
 abbrev pub status_of_fault : Fault → ℕ
 status_of_fault Memory = 1
 status_of_fault Write = 1
-status_of_fault (NotNoded e f) = 4
 status_of_fault _ = 3
 
 abbrev pub status_of : RunFault → ℕ

@@ -1,12 +1,12 @@
 //! The engine's calls: two layer texts in, a text to a sink.
 
 ghost use Rattle.std.specs.Prelude.{◌≡◌, ◌+◌, ◌<◌, ◌≤◌, IfOk, IsTrue, MatchResult, nat_lt};
-ghost use Rattle.tiling.specs.Tiles.{AreBounds};
+ghost use Rattle.tiling.specs.Tiles.{AreBounds, IsSide};
 ghost use Rattle.overlay.specs.Rounds.{AreJointBounds, IsTooFine, IsUsableGrid};
 ghost use Rattle.overlay.specs.Sinks.{SentAll, SentPart};
 ghost use Rattle.geom.specs.Fault.{number_of};
 ghost use Rattle.wkt.specs.Refusals.{IsRefused};
-ghost use Rattle.overlay.specs.Runs.{AreEdgesWritten, HasOutline, IsChecked, IsPlan, IsRefusedAt, IsRefusedPlan, IsSide, Runs, part_of, segment_limit};
+ghost use Rattle.overlay.specs.Runs.{AreEdgesWritten, HasOutline, IsChecked, IsPlan, IsRefusedAt, IsRefusedPlan, Runs, part_of, segment_limit};
 
 use crate::rounds::{report_of, rounded_layers};
 use crate::sink::{Sink, write_all};
@@ -16,14 +16,8 @@ use std::alloc::Allocator;
 use std::sync::Wait;
 use std::thread::Threads;
 use tile_book::Gate;
-use tiling::Grid;
+use tiling::{GREATEST_SIDE, Grid, LEAST_SIDE};
 use wkt::{Outline, check_layer};
-
-/// The least side of a tile, in grid units.
-const LEAST_SIDE: u32 = 16;
-
-/// The greatest side of a tile, in grid units.
-const GREATEST_SIDE: u32 = 33_554_432;
 
 /// The greatest number of workers.
 const GREATEST_CREW: u32 = 64;

@@ -1,20 +1,21 @@
 //! The engine's calls and the program, over files and sinks in memory.
 
-ghost use Rattle.std.specs.Prelude.{◌≡◌, Some, Option, List, ℕ};
+ghost use Rattle.std.specs.Prelude.{◌<◌};
 
 use crate::files::READ_LIMIT;
 use crate::{
-    Files, LoadFault, MemSink, Report, Sink, SinkFault, drive, line, report_text, status, write_all,
+    Files, LoadFault, MemSink, Plan, Report, Sink, drive, edges, line, report_text, run, status,
 };
-use geom::{Edge, Fault, Part, Pt, RunFault};
-use std::alloc::{AllocError, Allocator};
-use std::process::Abort;
+use geom::{Fault, NoMemory, Op, Part, RunFault};
+use std::alloc::{AllocError, Allocator, Global};
 use std::sync::Wait;
 use std::test::Fail;
 use std::thread::Threads;
+use tile_book::{Gate, OpenGate};
 
 mod operations;
 mod plans;
+mod sinks;
 
 const SQUARE: &str = "POLYGON ((0 0, 4 0, 4 4, 0 4, 0 0))\n";
 
@@ -42,6 +43,18 @@ const TEXTS: [(&str, &str); 16] = [
         "POLYGON ((0 0, 4 0, 4 4, 0 4, 0 0), (1 1, 2 2, 1 1))",
     ),
 ];
+
+const LINE: &str = "MULTIPOLYGON (((2 2, 4 2, 4 4, 2 4, 2 2)))\n";
+
+const SQUARES: &str =
+    "0 0 0 4 1 0\n0 0 4 0 1 0\n0 4 2 4 1 0\n2 2 2 4 0 1\n2 2 4 2 0 1\n2 4 2 6 0 1\n2 4 4 4 1 0\n2 6 6 6 0 1\n4 0 4 2 1 0\n4 2 4 4 1 0\n4 2 6 2 0 1\n6 2 6 6 0 1\n";
+
+const BOW: &str = "0 0 1 0 1 0\n0 0 1 1 1 0\n0 1 1 1 2 0\n1 0 1 1 1 0\n";
+
+const TWICE: &str = "0 0 0 4 1 1\n0 0 4 0 1 1\n0 4 4 4 1 1\n4 0 4 4 1 1\n";
+
+const BENT: &str =
+    "0 0 0 8 1 0\n0 0 5 0 1 0\n0 8 10 1 1 0\n5 -4 5 0 0 1\n5 -4 9 -4 0 1\n5 0 9 -4 0 1\n5 0 10 1 1 0\n";
 
 #[derive(Drop)]
 struct MemFiles;
@@ -84,90 +97,103 @@ impl Files for MemFiles {
     }
 }
 
-/// A sink that takes one byte a call, and fails at one of its calls, or at `finish`.
-#[derive(Drop)]
-struct OneByOne<A: Allocator> {
-    taken: Vec<u8, A>,
-    calls: u64,
-    fails_at: u64,
-    finish_fails: bool,
-    failures: u64,
-    settled: bool,
-}
-
-impl<A: Allocator> OneByOne<A> {
-    fn new(alloc: A, fails_at: u64, finish_fails: bool) -> OneByOne<A>
-        ensures { result.failures ≡ 0 }
-    {
-        OneByOne {
-            taken: Vec::new(alloc),
-            calls: 0,
-            fails_at,
-            finish_fails,
-            failures: 0,
-            settled: false,
-        }
+/// Writes the result of an operation on two layers, or their edges.
+fn overlaid<G: Gate + Sync, S: Sink, R: Threads + Wait + Sync>(
+    rt: &R,
+    alloc: Global,
+    op: Option<Op>,
+    layers: (&str, &str),
+    plan: Plan,
+    gate: &G,
+    sink: &mut S,
+) -> Result<Report<Global>, RunFault>
+    requires { S.failed sink.old < u64.MAX }
+{
+    let (a, b) = (layers.0.as_bytes(), layers.1.as_bytes());
+    match op {
+        Some(op) => run(rt, alloc, op, a, b, plan, gate, sink),
+        None => edges(rt, alloc, a, b, plan, gate, sink),
     }
 }
 
-impl<A: Allocator> Sink for OneByOne<A> {
-    ghost failed = { λ s. s.failures };
-
-    ghost settled = { λ s. s.settled };
-
-    ghost taken = { λ s. Some s.taken.items };
-
-    fn write(&mut self, bytes: &[u8]) -> Result<usize, SinkFault> {
-        self.settled = false;
-        self.calls = self.calls.saturating_add(1);
-        if self.calls == self.fails_at || self.taken.push(bytes[0]).is_err() {
-            self.failures += 1;
-            return Err(SinkFault);
-        }
-        Ok(1)
-    }
-
-    fn finish(&mut self) -> Result<(), SinkFault> {
-        self.calls = self.calls.saturating_add(1);
-        if self.finish_fails {
-            self.failures += 1;
-            return Err(SinkFault);
-        }
-        self.settled = true;
-        Ok(())
-    }
-
-    fn failures(&self) -> u64 {
-        self.failures
-    }
+/// Whether a run gives this text, settled, and a report that begins so.
+fn is_overlaid<R: Threads + Wait + Sync>(
+    rt: &R,
+    alloc: Global,
+    op: Option<Op>,
+    layers: (&str, &str),
+    plan: Plan,
+    text: &str,
+    report: &str,
+) -> Result<bool, NoMemory> {
+    let mut sink = MemSink::new(alloc, 4000)?;
+    let Ok(answer) = overlaid(rt, alloc, op, layers, plan, &OpenGate, &mut sink) else {
+        return Ok(false);
+    };
+    let told = report_text(alloc, &answer)?;
+    Ok(sink.bytes() == text.as_bytes() && sink.is_settled() && told.starts_with(report.as_bytes()))
 }
 
-const SQUARES: &str =
-    "0 0 0 4 1 0\n0 0 4 0 1 0\n0 4 2 4 1 0\n2 2 2 4 0 1\n2 2 4 2 0 1\n2 4 2 6 0 1\n2 4 4 4 1 0\n2 6 6 6 0 1\n4 0 4 2 1 0\n4 2 4 4 1 0\n4 2 6 2 0 1\n6 2 6 6 0 1\n";
-
-const BOW: &str = "0 0 1 0 1 0\n0 0 1 1 1 0\n0 1 1 1 2 0\n1 0 1 1 1 0\n";
-
-const TWICE: &str = "0 0 0 4 1 1\n0 0 4 0 1 1\n0 4 4 4 1 1\n4 0 4 4 1 1\n";
-
-const BENT: &str =
-    "0 0 0 8 1 0\n0 0 5 0 1 0\n0 8 10 1 1 0\n5 -4 5 0 0 1\n5 -4 9 -4 0 1\n5 0 9 -4 0 1\n5 0 10 1 1 0\n";
-
-/// What a run prints to standard error.
+/// What is printed.
 #[derive(Clone, Copy)]
 enum Told {
     /// These bytes.
     Text(&'static str),
-    /// What the parser says of a command line.
-    Parser,
+    /// A text that begins so.
+    Begins(&'static str),
+}
+
+fn is_told(bytes: &[u8], told: Told) -> bool {
+    match told {
+        Told::Text(text) => bytes == text.as_bytes(),
+        Told::Begins(text) => bytes.starts_with(text.as_bytes()),
+    }
+}
+
+/// What the program answers and prints.
+#[derive(Drop)]
+struct Outcome {
+    status: u8,
+    out: MemSink<Global>,
+    err: MemSink<Global>,
+}
+
+/// Drives a command line behind the program's name, with room for so many bytes in both sinks.
+fn driven<R: Threads + Wait + Sync>(
+    rt: &R,
+    alloc: Global,
+    rest: &[&str],
+    rooms: (usize, usize),
+) -> Result<Outcome, NoMemory> {
+    let mut words = Vec::new(alloc);
+    words.push("overlay")?;
+    words.extend_from_slice(rest)?;
+    let mut out = MemSink::new(alloc, rooms.0)?;
+    let mut err = MemSink::new(alloc, rooms.1)?;
+    let status = drive(
+        rt,
+        alloc,
+        words.as_slice(),
+        &mut MemFiles,
+        &mut out,
+        &mut err,
+    );
+    Ok(Outcome { status, out, err })
+}
+
+fn is_outcome(outcome: &Outcome, status: u8, out: Told, err: Told) -> bool {
+    outcome.status == status
+        && is_told(outcome.out.bytes(), out)
+        && is_told(outcome.err.bytes(), err)
 }
 
 /// How the parser begins what it says of a line.
-const ERROR: &[u8] = b"error: ";
+const PARSER: Told = Told::Begins("error: ");
 
-/// A command line behind the program's name, its exit status, and what it prints.
+/// A command line behind the program's name, its exit status, and what it prints to standard output and standard error.
 type Case = (&'static [&'static str], u8, &'static str, Told);
 
-const CASES: [Case; 26] = [
+const CASES: [Case; 42] = [
     (
         &["intersection", "square", "other", "--tile=16", "--report"],
         0,
@@ -231,62 +257,32 @@ const CASES: [Case; 26] = [
         Told::Text("overlay: unknown command\n"),
     ),
     // The command line goes before the command word.
-    (
-        &["foo", "square", "other", "--tile", "x"],
-        2,
-        "",
-        Told::Parser,
-    ),
-    (&["foo", "square"], 2, "", Told::Parser),
-    (&[], 2, "", Told::Parser),
-    (&["edges", "square", "other", "more"], 2, "", Told::Parser),
-    (
-        &["edges", "square", "other", "--side", "16"],
-        2,
-        "",
-        Told::Parser,
-    ),
-    (
-        &["edges", "square", "other", "--tile=-1"],
-        2,
-        "",
-        Told::Parser,
-    ),
+    (&["foo", "square", "other", "--tile", "x"], 2, "", PARSER),
+    (&["foo", "square"], 2, "", PARSER),
+    (&[], 2, "", PARSER),
+    (&["edges", "square", "other", "more"], 2, "", PARSER),
+    (&["edges", "square", "other", "--side", "16"], 2, "", PARSER),
+    (&["edges", "square", "other", "--tile=-1"], 2, "", PARSER),
     (
         &["edges", "square", "other", "--tile", "1.5"],
         2,
         "",
-        Told::Parser,
+        PARSER,
     ),
-    (
-        &["edges", "square", "other", "--tile="],
-        2,
-        "",
-        Told::Parser,
-    ),
+    (&["edges", "square", "other", "--tile="], 2, "", PARSER),
     (
         &["edges", "square", "other", "--tile=4294967296"],
         2,
         "",
-        Told::Parser,
+        PARSER,
     ),
-    (
-        &["edges", "square", "other", "--workers=-1"],
-        2,
-        "",
-        Told::Parser,
-    ),
-    (
-        &["edges", "square", "other", "--workers="],
-        2,
-        "",
-        Told::Parser,
-    ),
+    (&["edges", "square", "other", "--workers=-1"], 2, "", PARSER),
+    (&["edges", "square", "other", "--workers="], 2, "", PARSER),
     (
         &["edges", "square", "other", "--workers=4294967296"],
         2,
         "",
-        Told::Parser,
+        PARSER,
     ),
     (
         &[
@@ -322,213 +318,166 @@ const CASES: [Case; 26] = [
         "",
         Told::Text("overlay: 6 bad tile side\n"),
     ),
+    // Each refusal of a text, on either layer.
+    (
+        &["edges", "decimal", "empty"],
+        3,
+        "",
+        Told::Text("overlay: A: 1 syntax at 16\n"),
+    ),
+    (
+        &["edges", "empty", "decimal"],
+        3,
+        "",
+        Told::Text("overlay: B: 1 syntax at 16\n"),
+    ),
+    (
+        &["edges", "cut", "empty"],
+        3,
+        "",
+        Told::Text("overlay: A: 1 syntax at 13\n"),
+    ),
+    (
+        &["edges", "empty", "cut"],
+        3,
+        "",
+        Told::Text("overlay: B: 1 syntax at 13\n"),
+    ),
+    (
+        &["edges", "joined", "empty"],
+        3,
+        "",
+        Told::Text("overlay: A: 1 syntax at 13\n"),
+    ),
+    (
+        &["edges", "empty", "joined"],
+        3,
+        "",
+        Told::Text("overlay: B: 1 syntax at 13\n"),
+    ),
+    (
+        &["edges", "bare", "empty"],
+        3,
+        "",
+        Told::Text("overlay: A: 1 syntax at 9\n"),
+    ),
+    (
+        &["edges", "empty", "bare"],
+        3,
+        "",
+        Told::Text("overlay: B: 1 syntax at 9\n"),
+    ),
+    (
+        &["edges", "outside", "empty"],
+        3,
+        "",
+        Told::Text("overlay: A: 2 number out of range at 15\n"),
+    ),
+    (
+        &["edges", "empty", "outside"],
+        3,
+        "",
+        Told::Text("overlay: B: 2 number out of range at 15\n"),
+    ),
+    (
+        &["edges", "short", "empty"],
+        3,
+        "",
+        Told::Text("overlay: A: 3 short ring at 9\n"),
+    ),
+    (
+        &["edges", "empty", "short"],
+        3,
+        "",
+        Told::Text("overlay: B: 3 short ring at 9\n"),
+    ),
+    (
+        &["edges", "inner", "empty"],
+        3,
+        "",
+        Told::Text("overlay: A: 3 short ring at 36\n"),
+    ),
+    (
+        &["edges", "empty", "inner"],
+        3,
+        "",
+        Told::Text("overlay: B: 3 short ring at 36\n"),
+    ),
+    (
+        &["edges", "open", "empty"],
+        3,
+        "",
+        Told::Text("overlay: A: 4 open ring at 9\n"),
+    ),
+    (
+        &["edges", "empty", "open"],
+        3,
+        "",
+        Told::Text("overlay: B: 4 open ring at 9\n"),
+    ),
 ];
-
-fn check_case<R: AllocGlobal + Abort + Threads + Wait + Sync>(
-    rt: &R,
-    case: Case,
-) -> Result<(), Fail> {
-    let (rest, want, text, told) = case;
-    let mut words = vec![in rt.alloc(); "overlay"; 1]?;
-    words.extend_from_slice(rest)?;
-    let mut out = MemSink::new(rt.alloc(), 4000)?;
-    let mut err = MemSink::new(rt.alloc(), 4000)?;
-    let status = drive(
-        rt,
-        rt.alloc(),
-        words.as_slice(),
-        &mut MemFiles,
-        &mut out,
-        &mut err,
-    );
-    assert_eq!(rt; status, want, "status of {rest:?}");
-    assert!(rt; out.bytes() == text.as_bytes(), "output of {rest:?}");
-    match told {
-        Told::Text(line) => {
-            assert!(rt; err.bytes() == line.as_bytes(), "messages of {rest:?}");
-        }
-        Told::Parser => {
-            assert!(rt;
-                err.bytes().starts_with(ERROR),
-                "the parser's text of {rest:?}"
-            );
-        }
-    }
-    Ok(())
-}
 
 #[test]
 fn answers_command_lines(rt: HostRuntime) -> Result<(), Fail> {
-    for case in CASES {
-        check_case(&rt, case)?;
+    for (words, status, out, err) in CASES {
+        let outcome = driven(&rt, rt.alloc(), words, (4000, 4000))?;
+        assert!(rt;
+            is_outcome(&outcome, status, Told::Text(out), err),
+            "{words:?}"
+        );
     }
     Ok(())
 }
 
-/// A file whose text is refused, and the words for it.
-const REFUSED: [(&str, &str); 8] = [
-    ("decimal", "1 syntax at 16\n"),
-    ("cut", "1 syntax at 13\n"),
-    ("joined", "1 syntax at 13\n"),
-    ("bare", "1 syntax at 9\n"),
-    ("outside", "2 number out of range at 15\n"),
-    ("short", "3 short ring at 9\n"),
-    ("inner", "3 short ring at 36\n"),
-    ("open", "4 open ring at 9\n"),
+/// A segment count past the limit, and a text of one byte too many.
+const LARGE: [Case; 4] = [
+    (
+        &["edges", "many", "empty"],
+        3,
+        "",
+        Told::Text("overlay: 5 too many segments: 1048580\n"),
+    ),
+    (
+        &["edges", "empty", "many"],
+        3,
+        "",
+        Told::Text("overlay: 5 too many segments: 1048580\n"),
+    ),
+    (
+        &["edges", "long", "empty"],
+        3,
+        "",
+        Told::Text("overlay: A: 0 layer too long\n"),
+    ),
+    (
+        &["edges", "empty", "long"],
+        3,
+        "",
+        Told::Text("overlay: B: 0 layer too long\n"),
+    ),
 ];
 
-fn check_refused<R: AllocGlobal + Abort + Threads + Wait + Sync>(
-    rt: &R,
-    words: &[&str],
-    want: &[&str],
-) -> Result<(), Fail> {
-    let mut out = MemSink::new(rt.alloc(), 4000)?;
-    let mut err = MemSink::new(rt.alloc(), 4000)?;
-    let status = drive(rt, rt.alloc(), words, &mut MemFiles, &mut out, &mut err);
-    let mut line = Vec::new(rt.alloc());
-    for part in want {
-        line.extend_from_slice(part.as_bytes())?;
-    }
-    assert_eq!(rt; status, 3, "status of {words:?}");
-    assert!(rt; out.bytes().is_empty(), "output of {words:?}");
-    assert!(rt; err.bytes() == line.as_slice(), "messages of {words:?}");
-    Ok(())
-}
-
-/// Each refusal of a text, on either layer.
-#[test]
-fn refuses_layers(rt: HostRuntime) -> Result<(), Fail> {
-    for (name, words) in REFUSED {
-        let as_a = ["overlay", "edges", name, "empty"];
-        let as_b = ["overlay", "edges", "empty", name];
-        check_refused(&rt, &as_a, &["overlay: A: ", words])?;
-        check_refused(&rt, &as_b, &["overlay: B: ", words])?;
-    }
-    Ok(())
-}
-
-/// A text of one byte too many, and one segment count past the limit.
 #[test]
 fn refuses_large_layers(rt: HostRuntime) -> Result<(), Fail> {
-    let many = ["overlay: 5 too many segments: 1048580\n"];
-    check_refused(&rt, &["overlay", "edges", "many", "empty"], &many)?;
-    check_refused(&rt, &["overlay", "edges", "empty", "many"], &many)?;
-    let long = "0 layer too long\n";
-    check_refused(
-        &rt,
-        &["overlay", "edges", "long", "empty"],
-        &["overlay: A: ", long],
-    )?;
-    check_refused(
-        &rt,
-        &["overlay", "edges", "empty", "long"],
-        &["overlay: B: ", long],
-    )?;
+    for (words, status, out, err) in LARGE {
+        let outcome = driven(&rt, rt.alloc(), words, (4000, 4000))?;
+        assert!(rt;
+            is_outcome(&outcome, status, Told::Text(out), err),
+            "{words:?}"
+        );
+    }
     Ok(())
 }
 
 #[test]
-fn helps(rt: HostRuntime) -> Result<(), Fail> {
-    let words = ["overlay", "--help"];
-    let mut out = MemSink::new(rt.alloc(), 4000)?;
-    let mut err = MemSink::new(rt.alloc(), 4000)?;
-    assert_eq!(rt;
-        drive(&rt, rt.alloc(), &words, &mut MemFiles, &mut out, &mut err),
-        0
-    );
-    assert!(rt;
-        out.bytes().starts_with(b"Overlays two polygon layers"),
-        "help on standard output"
-    );
-    assert!(rt; err.bytes().is_empty());
-    Ok(())
-}
-
-#[test]
-fn fails_to_help(rt: HostRuntime) -> Result<(), Fail> {
-    let words = ["overlay", "--help"];
-    let mut full = MemSink::new(rt.alloc(), 10)?;
-    let mut err = MemSink::new(rt.alloc(), 4000)?;
-    assert_eq!(rt;
-        drive(&rt, rt.alloc(), &words, &mut MemFiles, &mut full, &mut err),
-        1
-    );
-    assert!(rt; err.bytes().is_empty());
-    Ok(())
-}
-
-#[test]
-fn says_that_edges_cross(rt: HostRuntime) -> Result<(), Fail> {
-    let at = |x, y| Pt { x, y };
+fn says_why_a_run_is_refused(rt: HostRuntime) -> Result<(), Fail> {
     let fault = RunFault {
         at: Part::Run,
-        fault: Fault::NotNoded(
-            Edge {
-                p: at(0, 0),
-                q: at(4, 4),
-            },
-            Edge {
-                p: at(0, 4),
-                q: at(4, 0),
-            },
-        ),
+        fault: Fault::TooManyTiles(65792),
     };
-    assert_eq!(rt; status(&fault), 4);
+    assert_eq!(rt; status(&fault), 3);
     assert!(rt;
-        line(rt.alloc(), &fault)?.as_slice()
-            == b"overlay: 9 edges cross: 0 0 4 4, 0 4 4 0\n".as_slice()
-    );
-    Ok(())
-}
-
-const LINE: &[u8] = b"MULTIPOLYGON (((2 2, 4 2, 4 4, 2 4, 2 2)))\n";
-
-/// A sink is called no more once it has failed.
-#[test]
-fn sends_byte_by_byte(rt: HostRuntime) -> Result<(), Fail> {
-    let mut sink = OneByOne::new(rt.alloc(), 0, false);
-    assert!(rt; write_all(&mut sink, LINE).is_ok());
-    assert!(rt; sink.taken.as_slice() == LINE);
-    for at in 1..=43u64 {
-        let mut sink = OneByOne::new(rt.alloc(), at, false);
-        assert!(rt; write_all(&mut sink, LINE).is_err());
-        assert_eq!(rt; sink.taken.len() as u64, at - 1);
-        assert_eq!(rt; sink.calls, at, "no call after a failure");
-        assert_eq!(rt; sink.failures, 1);
-    }
-    let mut sink = OneByOne::new(rt.alloc(), 0, true);
-    assert!(rt; write_all(&mut sink, LINE).is_err());
-    assert!(rt; sink.taken.as_slice() == LINE);
-    let mut five = MemSink::new(rt.alloc(), 5)?;
-    assert!(rt; write_all(&mut five, LINE).is_err());
-    assert!(rt; five.bytes() == b"MULTI".as_slice());
-    assert_eq!(rt; five.failures(), 1);
-    Ok(())
-}
-
-#[test]
-fn fails_to_write(rt: HostRuntime) -> Result<(), Fail> {
-    let words = ["overlay", "edges", "square", "other", "--report"];
-    let mut out = OneByOne::new(rt.alloc(), 1, false);
-    let mut err = MemSink::new(rt.alloc(), 1000)?;
-    assert_eq!(rt;
-        drive(&rt, rt.alloc(), &words, &mut MemFiles, &mut out, &mut err),
-        1
-    );
-    assert!(rt; err.bytes() == b"overlay: 11 write failed\n".as_slice());
-    let mut out = MemSink::new(rt.alloc(), 1000)?;
-    let mut err = OneByOne::new(rt.alloc(), 1, false);
-    assert_eq!(rt;
-        drive(&rt, rt.alloc(), &words, &mut MemFiles, &mut out, &mut err),
-        1
-    );
-    assert!(rt; out.bytes() == SQUARES.as_bytes());
-    let words = ["overlay", "edges", "decimal", "other"];
-    let mut out = MemSink::new(rt.alloc(), 1000)?;
-    let mut err = OneByOne::new(rt.alloc(), 1, false);
-    assert_eq!(rt;
-        drive(&rt, rt.alloc(), &words, &mut MemFiles, &mut out, &mut err),
-        3
+        line(rt.alloc(), &fault)?.as_slice() == b"overlay: 8 too many tiles: 65792\n".as_slice()
     );
     Ok(())
 }

@@ -8,13 +8,12 @@ use geom::{Counted, Fault, NoMemory, Part, Pt, RunFault};
 use itoa::{Buffer, Integer};
 use std::alloc::{AllocError, Allocator};
 
-/// The program's exit status at a fault: 1 where memory or the sink failed, 4 where edges cross, otherwise 3.
+/// The program's exit status at a fault: 1 where memory or the sink failed, otherwise 3.
 pub fn status(fault: &RunFault) -> u8
     ensures { result ≡ status_of fault.now }
 {
     match fault.fault {
         Fault::Memory | Fault::Write => 1,
-        Fault::NotNoded(_, _) => 4,
         _ => 3,
     }
 }

@@ -42,7 +42,7 @@ pub and_is : (a b : Bool) → a && b ≡ a ∧∧ b
 and_is true b = refl
 and_is false b = refl
 
-either : (a b : Bool) → (a ≡ true → b ≡ true → ⊥) → a || b ≡ a ⊕ b
+pub either : (a b : Bool) → (a ≡ true → b ≡ true → ⊥) → a || b ≡ a ⊕ b
 either true true n = absurd (n refl refl)
 either true false n = refl
 either false b n = refl
@@ -119,10 +119,10 @@ over_all t cs d p =
     ∙ sym (par_map edge_of (λ e. chosen t cs e ∧∧ p e) cs)
 
 -- ---- what is asked of the edges
-tail_pairs : {X : Type 0} (R : X → X → Type 0) (x : X) (xs : List X) → AllPairs R (x ∷ xs) → AllPairs R xs
+pub tail_pairs : {X : Type 0} (R : X → X → Type 0) (x : X) (xs : List X) → AllPairs R (x ∷ xs) → AllPairs R xs
 tail_pairs R x xs p = λ i j d a b. p (suc i) (suc j) d (omega arith) (omega arith)
 
-first_pairs : {X : Type 0} (R : X → X → Type 0) (x y : X) (xs : List X) → AllPairs R (x ∷ xs) → Contains xs y → R x y
+pub first_pairs : {X : Type 0} (R : X → X → Type 0) (x y : X) (xs : List X) → AllPairs R (x ∷ xs) → Contains xs y → R x y
 first_pairs R x y xs p (k, l, e) = subst (λ z. R x z) e (p 0 (suc k) y (omega arith) (omega arith))
 
 before_itself : (e f : Edge) → e ≡ f → IsEdgeBefore e f → ⊥

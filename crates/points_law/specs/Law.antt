@@ -6,11 +6,15 @@ use Rattle.geom.specs.declared.segment.Source.{Source}
 use Rattle.geom.specs.declared.segment.Source.TheVariants.{A, B}
 use Rattle.geom.specs.declared.segment.Seg.{Seg}
 use Rattle.geom.specs.declared.edge.Counted.{Counted}
+use Rattle.geom.specs.declared.directed.DirectedEdge.{DirectedEdge}
+use Rattle.geom.specs.Canonical.{HaveEachEdge, Shape, written_rings}
+use Rattle.geom.specs.Directed.{AreResultEdges}
 use Rattle.geom.specs.Limit.{AreInLimit}
 use Rattle.geom.specs.Pixel.{Point}
 use Rattle.geom.specs.Rounded.{AreRounded, IsEdgeBefore, edges_of, odd_edges, HasEvenDegrees}
 use Rattle.geom.specs.Segments.{AreClosed, AreSegments}
 use Rattle.geom.specs.Parity.{parity}
+use Rattle.geom.specs.RingParity.{ring_parity}
 use Rattle.geom.specs.Noded.{IsNoded}
 use Rattle.geom.specs.ResultEdges.{holds_at, result_edges}
 
@@ -25,6 +29,12 @@ pub record AreLayers (counted : List Counted) : Type 0 where
 -- the parity of any point over the edges of the result is what the operation says of its parities in the two rounded layers
 abbrev pub ResultHasParity : Type 0
 ResultHasParity = (op : Op) (counted : List Counted) → AreLayers counted → (z : Point) → parity (result_edges op counted) z ≡ holds_at op counted z
+
+-- Any point lies in the polygons of a text, by the even-odd rule over all their rings, exactly where the operation holds of its
+-- parities in the two rounded layers: for polygons whose rings together have each directed edge of the result once.
+abbrev pub TextHasParity : Type 0
+TextHasParity = (op : Op) (counted : List Counted) → AreLayers counted → (directed : List DirectedEdge) → AreResultEdges op counted directed
+    → (polygons : List Shape) → HaveEachEdge directed polygons → (z : Point) → ring_parity (written_rings polygons) z ≡ holds_at op counted z
 
 -- every point is an end of an even number of edges of the result
 abbrev pub ResultHasEvenDegrees : Type 0

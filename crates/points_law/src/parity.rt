@@ -1,10 +1,16 @@
 //! The parity of every point, and even degrees.
 
-ghost use Rattle.points_law.specs.Law.{ResultHasEvenDegrees, ResultHasParity, RoundedAreLayers, RoundedHasEvenDegrees, SegmentsOfRingsClose};
+ghost use Rattle.points_law.specs.Law.{ResultHasEvenDegrees, ResultHasParity, RoundedAreLayers, RoundedHasEvenDegrees, SegmentsOfRingsClose, TextHasParity};
 
 /// The parity of any point over the edges of the result is what the operation says of its parities in the two layers.
 pub fn result_has_parity()
     ensures { ResultHasParity }
+{}
+
+/// Any point lies in the polygons of a text, by parity over their rings, exactly where the operation holds of its parities
+/// in the two layers: for polygons whose rings together have each directed edge of the result once.
+pub fn text_has_parity()
+    ensures { TextHasParity }
 {}
 
 /// Every point is an end of an even number of edges of the result.

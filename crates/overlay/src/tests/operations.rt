@@ -1,9 +1,10 @@
 //! The four operations on small layers, whose results were worked out by hand from the rules.
 
-use super::{OTHER, SQUARE};
-use crate::{MemSink, Plan, Sink, report_text, run};
-use geom::{Fault, Op};
-use std::process::Abort;
+use super::plans::{APART, LARGE, LARGE_OTHER, WHOLE};
+use super::{LINE, OTHER, SQUARE, is_overlaid, overlaid};
+use crate::{MemSink, Plan};
+use geom::{Fault, NoMemory, Op};
+use std::alloc::Global;
 use std::sync::Wait;
 use std::test::Fail;
 use std::thread::Threads;
@@ -16,29 +17,14 @@ const EMPTY: &str = "MULTIPOLYGON EMPTY\n";
 
 const BELOW: &str = "POLYGON ((5 0, 5 -4, 9 -4, 5 0))\n";
 
-const LARGE: &str = "POLYGON ((0 0, 400 0, 400 400, 0 400, 0 0))\n";
-
-const LARGE_OTHER: &str = "POLYGON ((200 200, 600 200, 600 600, 200 600, 200 200))\n";
-
 const LARGE_COMMON: &str = "MULTIPOLYGON (((200 200, 400 200, 400 400, 200 400, 200 200)))\n";
 
-const APART: &str =
-    "POLYGON ((0 0, 1 0, 0 1, 0 0)) POLYGON ((15 15, 16 16, 15 16, 16 15, 15 15))\n";
-
 const APART_UNION: &str = "MULTIPOLYGON (((0 0, 1 0, 0 1, 0 0)), ((15 15, 16 15, 16 16, 15 15)))\n";
-
-const WHOLE: &str =
-    "POLYGON ((-16777216 -16777216, 16777216 -16777216, 16777216 16777216, -16777216 16777216, -16777216 -16777216))\n";
 
 const WHOLE_UNION: &str =
     "MULTIPOLYGON (((-16777216 -16777216, 16777216 -16777216, 16777216 16777216, -16777216 16777216, -16777216 -16777216)))\n";
 
-const COMMON: Row = (
-    SQUARE,
-    OTHER,
-    Op::Intersection,
-    "MULTIPOLYGON (((2 2, 4 2, 4 4, 2 4, 2 2)))\n",
-);
+const COMMON: Row = (SQUARE, OTHER, Op::Intersection, LINE);
 
 const NOTHING: Row = ("", "polygon empty", Op::Union, EMPTY);
 
@@ -185,91 +171,84 @@ const REPORTED: [Reported; 8] = [
     ),
 ];
 
-fn check<R: AllocGlobal + Abort + Threads + Wait + Sync>(
+/// Whether a row by this plan gives its result, and a report that begins so.
+fn is_given<R: Threads + Wait + Sync>(
     rt: &R,
+    alloc: Global,
     reported: Reported,
-) -> Result<(), Fail> {
-    let ((a, b, op, want), side, workers, numbers) = reported;
+) -> Result<bool, NoMemory> {
+    let ((a, b, op, text), side, workers, report) = reported;
     let plan = Plan { side, workers };
-    let mut sink = MemSink::new(rt.alloc(), 1000)?;
-    let report = run(
-        rt,
-        rt.alloc(),
-        op,
-        a.as_bytes(),
-        b.as_bytes(),
-        plan,
-        &OpenGate,
-        &mut sink,
-    )?;
-    let told = report_text(rt.alloc(), &report)?;
-    assert!(rt;
-        sink.bytes() == want.as_bytes()
-            && sink.is_settled()
-            && told.starts_with(numbers.as_bytes()),
-        "{want}"
-    );
-    Ok(())
+    is_overlaid(rt, alloc, Some(op), (a, b), plan, text, report)
 }
 
 #[test]
 fn overlays_rows(rt: HostRuntime) -> Result<(), Fail> {
     for row in ROWS {
-        check(&rt, (row, 16, 2, "segments "))?;
+        assert!(rt;
+            is_given(&rt, rt.alloc(), (row, 16, 2, "segments "))?,
+            "{row:?}"
+        );
     }
     for reported in REPORTED {
-        check(&rt, reported)?;
+        assert!(rt; is_given(&rt, rt.alloc(), reported)?, "{reported:?}");
     }
     Ok(())
 }
 
-/// What a run on a sink with this room is refused for, and what the sink has then.
-fn refused<R: AllocGlobal + Abort + Threads + Wait + Sync>(
-    rt: &R,
-    a: &str,
-    side: u32,
-    room: usize,
-    want: Fault,
-    written: &str,
-) -> Result<(), Fail> {
-    let plan = Plan { side, workers: 2 };
-    let mut sink = MemSink::new(rt.alloc(), room)?;
-    let answer = run(
-        rt,
-        rt.alloc(),
-        Op::Union,
-        a.as_bytes(),
-        b"",
-        plan,
-        &OpenGate,
-        &mut sink,
-    );
-    let fault = answer.err().map(|fault| fault.fault);
-    assert!(rt;
-        fault == Some(want) && sink.bytes() == written.as_bytes(),
-        "{want}"
-    );
-    Ok(())
-}
+/// An operation, or edges, of a layer and nothing, the side of a tile, the room of the sink, what the run is refused for,
+/// and what the sink has then.
+type Refused = (Option<Op>, &'static str, u32, usize, Fault, &'static str);
 
-#[test]
-fn refuses_to_overlay(rt: HostRuntime) -> Result<(), Fail> {
-    refused(&rt, SQUARE, 16, 5, Fault::Write, "MULTI")?;
-    refused(&rt, SQUARE, 15, 100, Fault::BadTile, "")?;
-    refused(
-        &rt,
+const REFUSED: [Refused; 6] = [
+    (Some(Op::Union), SQUARE, 16, 5, Fault::Write, "MULTI"),
+    (None, SQUARE, 16, 5, Fault::Write, "0 0 0"),
+    (Some(Op::Union), SQUARE, 15, 100, Fault::BadTile, ""),
+    (
+        Some(Op::Union),
         "POLYGON ((0 0, 1 0, 0 1))",
         16,
         100,
         Fault::RingShort(9),
         "",
-    )?;
-    refused(
-        &rt,
+    ),
+    (
+        Some(Op::Union),
         WHOLE,
         16,
         100,
         Fault::TooManyTiles(4_398_050_705_409),
         "",
-    )
+    ),
+    (
+        None,
+        WHOLE,
+        16,
+        100,
+        Fault::TooManyTiles(4_398_050_705_409),
+        "",
+    ),
+];
+
+/// Whether a run with a second layer of no segments is refused for this, and has written so much.
+fn is_refused<R: Threads + Wait + Sync>(
+    rt: &R,
+    alloc: Global,
+    refused: Refused,
+) -> Result<bool, NoMemory> {
+    let (op, a, side, room, fault, written) = refused;
+    let plan = Plan { side, workers: 2 };
+    let mut sink = MemSink::new(alloc, room)?;
+    let answer = overlaid(rt, alloc, op, (a, ""), plan, &OpenGate, &mut sink);
+    let found = answer.err().map(|found| found.fault);
+    Ok(found == Some(fault) && sink.bytes() == written.as_bytes())
+}
+
+#[test]
+fn refuses_to_overlay(rt: HostRuntime) -> Result<(), Fail> {
+    for refused in REFUSED {
+        let (_, a, ..) = refused;
+        assert!(rt; is_refused(&rt, rt.alloc(), refused)?, "{a}");
+    }
+    Ok(())
 }

@@ -1,36 +1,32 @@
 //! The rounded edges of two layers, by plans of all kinds.
 
-use super::{BENT, BOW, OTHER, SQUARE, SQUARES, TWICE};
-use crate::{MemSink, Plan, Sink, edges, report_text};
-use geom::Fault;
-use std::process::Abort;
-use std::sync::Wait;
+use super::{BENT, BOW, OTHER, SQUARE, SQUARES, TWICE, is_overlaid, overlaid};
+use crate::{MemSink, Plan};
 use std::sync::atomic::{AtomicBool, Ordering};
 use std::test::Fail;
 use std::thread;
-use std::thread::Threads;
-use tile_book::{Gate, OpenGate, Phase};
+use tile_book::{Gate, Phase};
 
 /// Two layers, the side of a tile, their edges, and how the report begins.
 type Row = (&'static str, &'static str, u32, &'static str, &'static str);
 
 /// A square, and a bow tie far from the origin whose crossing at one half belongs to the last of four tiles.
-const APART: &str =
+pub(super) const APART: &str =
     "POLYGON ((0 0, 1 0, 0 1, 0 0)) POLYGON ((15 15, 16 16, 15 16, 16 15, 15 15))\n";
 
 const APART_EDGES: &str =
     "0 0 0 1 1 0\n0 0 1 0 1 0\n0 1 1 0 1 0\n15 15 16 15 1 0\n15 15 16 16 1 0\n15 16 16 16 2 0\n16 15 16 16 1 0\n";
 
 /// A hundred times the size of two squares that overlap.
-const LARGE: &str = "POLYGON ((0 0, 400 0, 400 400, 0 400, 0 0))\n";
+pub(super) const LARGE: &str = "POLYGON ((0 0, 400 0, 400 400, 0 400, 0 0))\n";
 
-const LARGE_OTHER: &str = "POLYGON ((200 200, 600 200, 600 600, 200 600, 200 200))\n";
+pub(super) const LARGE_OTHER: &str = "POLYGON ((200 200, 600 200, 600 600, 200 600, 200 200))\n";
 
 const LARGE_EDGES: &str =
     "0 0 0 400 1 0\n0 0 400 0 1 0\n0 400 200 400 1 0\n200 200 200 400 0 1\n200 200 400 200 0 1\n200 400 200 600 0 1\n200 400 400 400 1 0\n200 600 600 600 0 1\n400 0 400 200 1 0\n400 200 400 400 1 0\n400 200 600 200 0 1\n600 200 600 600 0 1\n";
 
 /// The whole range of coordinates.
-const WHOLE: &str =
+pub(super) const WHOLE: &str =
     "POLYGON ((-16777216 -16777216, 16777216 -16777216, 16777216 16777216, -16777216 16777216, -16777216 -16777216))\n";
 
 const WHOLE_EDGES: &str =
@@ -109,79 +105,16 @@ const ROWS: [Row; 10] = [
     ),
 ];
 
-fn check<R: AllocGlobal + Abort + Threads + Wait + Sync>(
-    rt: &R,
-    row: Row,
-    workers: u32,
-) -> Result<(), Fail> {
-    let (a, b, side, want, numbers) = row;
-    let plan = Plan { side, workers };
-    let mut sink = MemSink::new(rt.alloc(), 4000)?;
-    let report = edges(
-        rt,
-        rt.alloc(),
-        a.as_bytes(),
-        b.as_bytes(),
-        plan,
-        &OpenGate,
-        &mut sink,
-    )?;
-    let told = report_text(rt.alloc(), &report)?;
-    assert!(rt;
-        sink.bytes() == want.as_bytes()
-            && sink.is_settled()
-            && told.starts_with(numbers.as_bytes()),
-        "{want}"
-    );
-    Ok(())
-}
-
 /// Each plan gives the same bytes.
 #[test]
 fn rounds_rows(rt: HostRuntime) -> Result<(), Fail> {
-    for row in ROWS {
+    for (a, b, side, text, report) in ROWS {
         for workers in [1, 3, 64] {
-            check(&rt, row, workers)?;
+            let plan = Plan { side, workers };
+            let holds = is_overlaid(&rt, rt.alloc(), None, (a, b), plan, text, report)?;
+            assert!(rt; holds, "{text}");
         }
     }
-    Ok(())
-}
-
-const FINE: Plan = Plan {
-    side: 16,
-    workers: 2,
-};
-
-#[test]
-fn tells_each_tile(rt: HostRuntime) -> Result<(), Fail> {
-    let mut sink = MemSink::new(rt.alloc(), 4000)?;
-    let report = edges(
-        &rt,
-        rt.alloc(),
-        LARGE.as_bytes(),
-        LARGE_OTHER.as_bytes(),
-        FINE,
-        &OpenGate,
-        &mut sink,
-    )?;
-    assert_eq!(rt; report.tiles.get(481).copied(), Some((1, 2)));
-    Ok(())
-}
-
-#[test]
-fn refuses_many_tiles(rt: HostRuntime) -> Result<(), Fail> {
-    let mut sink = MemSink::new(rt.alloc(), 4000)?;
-    let answer = edges(
-        &rt,
-        rt.alloc(),
-        WHOLE.as_bytes(),
-        b"",
-        FINE,
-        &OpenGate,
-        &mut sink,
-    );
-    let fault = answer.err().map(|fault| fault.fault);
-    assert_eq!(rt; fault, Some(Fault::TooManyTiles(4_398_050_705_409)));
     Ok(())
 }
 
@@ -220,36 +153,17 @@ fn works_side_by_side(rt: HostRuntime) -> Result<(), Fail> {
         seen: AtomicBool::new(false),
         gave_up: AtomicBool::new(false),
     };
+    let plan = Plan {
+        side: 16,
+        workers: 2,
+    };
     let mut sink = MemSink::new(rt.alloc(), 4000)?;
-    edges(
-        &rt,
-        rt.alloc(),
-        LARGE.as_bytes(),
-        LARGE_OTHER.as_bytes(),
-        FINE,
-        &gate,
-        &mut sink,
-    )?;
-    assert!(rt; gate.seen.load(Ordering::SeqCst) && !gate.gave_up.load(Ordering::SeqCst));
-    Ok(())
-}
-
-/// A sink with room for five bytes takes them and fails.
-#[test]
-fn fills_a_small_sink(rt: HostRuntime) -> Result<(), Fail> {
-    let mut sink = MemSink::new(rt.alloc(), 5)?;
-    let answer = edges(
-        &rt,
-        rt.alloc(),
-        SQUARE.as_bytes(),
-        OTHER.as_bytes(),
-        FINE,
-        &OpenGate,
-        &mut sink,
-    );
-    let fault = answer.err().map(|fault| fault.fault);
+    let layers = (LARGE, LARGE_OTHER);
+    let report = overlaid(&rt, rt.alloc(), None, layers, plan, &gate, &mut sink)?;
     assert!(rt;
-        fault == Some(Fault::Write) && sink.bytes() == b"0 0 0".as_slice() && sink.failures() == 1
+        gate.seen.load(Ordering::SeqCst)
+            && !gate.gave_up.load(Ordering::SeqCst)
+            && report.tiles.get(481).copied() == Some((1, 2))
     );
     Ok(())
 }

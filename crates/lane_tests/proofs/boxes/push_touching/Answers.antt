@@ -7,7 +7,7 @@ pub loop-at-init : goal.loop-at-init
 loop-at-init g c = found_none _ _ _ _ c.requires.in_order
 
 pub loop-at-preserved : goal.loop-at-preserved
-loop-at-preserved g c = found_part _ _ _ _ _ _ _ _ c.loop-at.invariant (omega arith) c.in_ok-push_eight.ensures
+loop-at-preserved g c = found_part _ _ _ _ _ _ _ _ c.loop-at.invariant (omega arith) c.in_ok-push_chunks.ensures
 
 one : {A : Type 0} (p : ℕ → Bool) (from at end : ℕ) (old now : List ℕ) (r : Bool) (next out : Vec ℕ A) → HasFound p from at end old now → at < end → r ≡ p at → r ≡ true → next.items ≡ now ++ at ∷ [] → out ≡ next → HasFound p from (at + 1) end old out.items
 one p from at end old now r next out h k e t f g = found_one p from at end old now out.items h k (sym e ∙ t) (ap (λ v. v.items) g ∙ f)

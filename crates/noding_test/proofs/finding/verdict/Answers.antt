@@ -3,10 +3,8 @@ use Rattle.std.specs.Prelude.{All, AllPairs}
 use Rattle.geom.specs.declared.edge.Edge.{Edge}
 use Rattle.geom.specs.EdgeOrder.{IsEdgeBefore}
 use Rattle.geom.specs.Limit.{AreInLimit}
-use Rattle.geom.specs.Rounded.{edges_of}
-use Rattle.tiling.specs.Tiles.{Owns}
 use Rattle.hot_pixel.specs.Rects.{IsIn}
-use Rattle.noding_test.specs.Verdicts.{chosen_edges, IsLeastPair, IsOwnBad}
+use Rattle.noding_test.specs.Verdicts.{IsLeastPair, IsOwnBad}
 use Rattle.noding_test.proofs.NearEdges.{chosen_ascend, chosen_limits, least_by, same_bad}
 use Rattle.noding_test.proofs.finding.verdict.Goals as goal
 

@@ -10,7 +10,7 @@ returns-then-plan-lt-LEAST_SIDE c = λ a b. bad_tile (λ h. elim c.then-plan-lt-
 ])
 
 pub returns-then-plan-eq0 : goal.returns-then-plan-eq0
-returns-then-plan-eq0 c = λ a b. bad_workers (record { low = omega arith; high = omega arith }) (λ h. elim c.then-plan-eq0.branch [
+returns-then-plan-eq0 c = λ a b. bad_workers (omega arith, omega arith) (λ h. elim c.then-plan-eq0.branch [
   | then-plan-eq0-via-then-plan-eq0 w ↦ omega arith
   | then-plan-eq0-via-else-plan-eq0+then-plan-gt-GREATEST_CREW w ↦ omega arith
 ])

@@ -5,6 +5,7 @@ use Rattle.geom.specs.declared.edge.Counted.{Counted}
 use Rattle.geom.specs.declared.edge.Edge.{Edge}
 use Rattle.geom.specs.Limit.{AreInLimit}
 use Rattle.points_law.proofs.RoundVertex.{closes}
+use Rattle.points_law.proofs.TextParity.{text_has_parity}
 use Rattle.polygonize.proofs.Writing.{unmapped}
 use Rattle.wkt.specs.Canonical.{multi_text}
 use Rattle.overlay.specs.Results.{IsResultText}
@@ -31,5 +32,6 @@ returns g c = IfOk-weaker c.write_multi.result (λ text. text.items ≡ multi_te
       each_edge = c.in_ok-polygons.ensures.each_edge;
       simple = c.in_ok-polygons.ensures.simple;
       least = c.in_ok-polygons.ensures.least;
+      points = text_has_parity c.args.op c.args.counted.now c.requires c.in_ok-directed.directed c.in_ok-directed.ensures (shapes c.in_ok-polygons.polygons.items) c.in_ok-polygons.ensures.each_edge;
       written = h ∙ ap multi_text c.as_slice.ensures.value ∙ line_is c.in_ok-polygons.polygons.items;
     }) c.write_multi.ensures.text

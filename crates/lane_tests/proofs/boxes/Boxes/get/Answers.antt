@@ -1,4 +1,4 @@
-use Rattle.std.proofs.Common.{◌≡◌, ◌∙◌, ap, arith, length, subst, sym}
+use Rattle.std.proofs.Common.{◌∙◌, ap, arith, length, subst, sym}
 use Rattle.std.specs.Prelude.{◌≤ℤ◌}
 use Rattle.lane_tests.specs.Columns.{Ends}
 use Rattle.lane_tests.proofs.Rects.{high_at, pair_of, rect_at, room, same_columns, same_pair, wide_at}

@@ -1,0 +1,88 @@
+-- Which verdicts were made from what their tiles have.
+use Rattle.std.proofs.Common.{◌≡◌, Bool, true, false, MatchBool, ℕ, zero, suc, ◌+◌, ◌<◌, List, [], ◌∷◌, ◌++◌, refl, sym, ◌∙◌, ap, arith, subst, length, get_or, take, ◌↔◌, ⊎_elim}
+use Rattle.std.proofs.Math.Logic.{∥∥₁_map}
+use Rattle.std.specs.Prelude.{All, IsTrue, Some, slice_get}
+use Rattle.std.proofs.lemmas.List.{take_more}
+use Rattle.std.proofs.lemmas.Option.{slice_get_cases, slice_get_read}
+use Rattle.geom.specs.declared.point.Pt.{Pt}
+use Rattle.geom.specs.declared.rect.Rect.{Rect}
+use Rattle.geom.specs.declared.edge.Edge.{Edge}
+use Rattle.geom.specs.declared.edge.Counted.{Counted}
+use Rattle.geom.specs.Box.{IsInBox}
+use Rattle.geom.specs.Rounded.{edges_of}
+use Rattle.geom.proofs.Points.{both_and}
+use Rattle.tiling.specs.Tiles.{Tiling, Owns}
+use Rattle.hot_pixel.specs.Rects.{IsIn}
+use Rattle.chain_gather.proofs.Near.{in_same_box, one_rect}
+use Rattle.chain_gather.proofs.OwnLaws.{same_rect, same_point_path}
+use Rattle.noding_test.specs.declared.verdicts.Verdict.{Verdict}
+use Rattle.noding_test.specs.Verdicts.{chosen_edges, AreNear, IsLeastPair, IsOwnBad}
+use Rattle.noding_test.specs.Passes.{IsOwnVerdict}
+use Rattle.noding_test.proofs.NearEdges.{chosen_more, first_chosen, least_by, same_bad}
+use Rattle.noding_test.proofs.VerdictLaws.{some_same}
+
+-- ---- the edges of some numbers
+abbrev AreBelow : List Counted → List ℕ → Type 0
+AreBelow counted numbers = All (λ n. n < length counted) numbers
+
+below_rest : (counted : List Counted) (n : ℕ) (ns : List ℕ) → AreBelow counted (n ∷ ns) → AreBelow counted ns
+below_rest counted n ns h = λ k d l. h (suc k) d (omega arith)
+
+item_of : (counted : List Counted) (n : ℕ) → n < length counted → (c : Counted) × (slice_get counted n ≡ Some c)
+item_of counted n l = ⊎_elim (λ p. (p.0, p.2)) (λ p. absurd (let h = p.0 in omega arith)) (slice_get_cases counted n).1
+
+-- as many edges as numbers
+pub length_chosen : (counted : List Counted) (numbers : List ℕ) → All (λ n. n < length counted) numbers → length (chosen_edges counted numbers) ≡ length numbers
+length_chosen counted [] h = refl
+length_chosen counted (n ∷ ns) h =
+    let (c, e) = item_of counted n (h 0 n (omega arith)) in
+    ap length (first_chosen counted n ns c e) ∙ ap suc (length_chosen counted ns (below_rest counted n ns h))
+
+-- the edge of each number
+chosen_listed : (counted : List Counted) (numbers : List ℕ) → All (λ n. n < length counted) numbers → (i n : ℕ) (c : Counted) → i < length numbers → n ≡ get_or numbers i n → slice_get counted n ≡ Some c
+    → slice_get (chosen_edges counted numbers) i ≡ Some c.edge
+chosen_listed counted [] h i n c l e at = absurd (omega arith)
+chosen_listed counted (m ∷ ms) h zero n c l e at =
+    let f : slice_get counted m ≡ Some c = subst (λ (k : ℕ). slice_get counted k ≡ Some c) e at in
+    ap (λ (es : List Edge). slice_get es 0) (first_chosen counted m ms c f)
+chosen_listed counted (m ∷ ms) h (suc i) n c l e at =
+    let (d, f) = item_of counted m (h 0 m (omega arith)) in
+    ap (λ (es : List Edge). slice_get es (suc i)) (first_chosen counted m ms d f) ∙ chosen_listed counted ms (below_rest counted m ms h) i n c (omega arith) e at
+
+-- ---- one edge after another
+module _ (counted : List Counted) (numbers : List ℕ) (edges : List Edge) (i n : ℕ) (c : Counted) (x : Edge) (low : i < length numbers) (high : i < length edges) (number_is : n ≡ get_or numbers i n) (at : slice_get counted n ≡ Some c) (item_is : x ≡ get_or edges i x) where
+  pub near_more : x ≡ c.edge → take i edges ≡ chosen_edges counted (take i numbers) → take (i + 1) edges ≡ chosen_edges counted (take (i + 1) numbers)
+  near_more e same =
+      take_more edges i x high ∙ ap (λ (y : Edge). take i edges ++ y ∷ []) (sym item_is ∙ e) ∙ ap (λ (es : List Edge). es ++ c.edge ∷ []) same ∙ sym (chosen_more counted numbers i n c low number_is at)
+
+  pub near_differs : All (λ k. k < length counted) numbers → (x ≡ c.edge → ⊥) → edges ≡ chosen_edges counted numbers → ⊥
+  near_differs below fails same =
+      let a : slice_get edges i ≡ Some x = slice_get_read edges (length edges) i x refl high item_is in
+      let b : slice_get edges i ≡ Some c.edge = ap (λ (es : List Edge). slice_get es i) same ∙ chosen_listed counted numbers below i n c low number_is at in
+      fails (some_same a b)
+
+-- ---- own verdicts
+module _ {A : Type 0} (g : Tiling) (k : ℕ) (counted : List Counted) (numbers : List ℕ) (verdict : Verdict A) (rect : Rect) (exact : (p : Pt) → IsInBox rect.lo rect.hi p ↔ Owns g k p) where
+  -- the rectangle is the tile's
+  pub own_by_edges : (edges : List Edge) (b : Bool) → verdict.tile.lo ≡ rect.lo → verdict.tile.hi ≡ rect.hi → edges ≡ verdict.edges.items → IsTrue b ↔ (edges ≡ chosen_edges counted numbers)
+      → MatchBool b (IsOwnVerdict g k counted numbers verdict) (¬ (IsOwnVerdict g k counted numbers verdict))
+  own_by_edges edges true lo hi is h = record {
+    tile = λ p. (
+      (λ l. (exact p).0 (in_same_box verdict.tile.lo verdict.tile.hi rect.lo rect.hi p lo hi l)),
+      (λ o. in_same_box rect.lo rect.hi verdict.tile.lo verdict.tile.hi p (sym lo) (sym hi) ((exact p).1 o)),
+    );
+    edges = sym is ∙ h.0 refl;
+  }
+  own_by_edges edges false lo hi is h = λ own. let e = h.1 (is ∙ own.edges) in absurd (cc)
+
+  -- it is another one
+  pub own_by_rect : (b : Bool) → b ≡ same_rect verdict.tile rect → b ≡ false → MatchBool b (IsOwnVerdict g k counted numbers verdict) (¬ (IsOwnVerdict g k counted numbers verdict))
+  own_by_rect b e f = subst (λ (v : Bool). MatchBool v (IsOwnVerdict g k counted numbers verdict) (¬ (IsOwnVerdict g k counted numbers verdict))) (sym f) (λ own.
+      let r = one_rect verdict.tile rect (λ p. (λ l. (exact p).1 ((own.tile p).0 l), λ l. (own.tile p).1 ((exact p).0 l))) in
+      let t : same_rect verdict.tile rect ≡ true = both_and _ _ (same_point_path verdict.tile.lo rect.lo r.0) (same_point_path verdict.tile.hi rect.hi r.1) in
+      absurd (cc))
+
+-- an own verdict has the least bad pair of its tile
+pub own_verdict_is : {A : Type 0} (g : Tiling) (k : ℕ) (counted : List Counted) (numbers : List ℕ) (verdict : Verdict A) → AreNear g k counted numbers → IsOwnVerdict g k counted numbers verdict → ∥ IsLeastPair (IsOwnBad (Owns g k) (edges_of counted)) verdict.bad ∥₁
+own_verdict_is g k counted numbers verdict near own =
+    ∥∥₁_map verdict.exact (λ h. least_by _ _ verdict.bad (same_bad g k verdict.tile counted numbers own.tile near) (subst (λ (es : List Edge). IsLeastPair (IsOwnBad (IsIn verdict.tile) es) verdict.bad) own.edges h))

@@ -1,0 +1,67 @@
+-- The least bad pair over tiles (own).
+use Rattle.std.specs.Prelude.{◌≡◌, ◌↔◌, ◌⊎◌, ◌<◌, ℕ, List, Contains, Option, Some, None, map, slice_get}
+use Rattle.geom.specs.declared.point.Pt.{Pt}
+use Rattle.geom.specs.declared.rect.Rect.{Rect}
+use Rattle.geom.specs.declared.edge.Edge.{Edge}
+use Rattle.geom.specs.declared.edge.Counted.{Counted}
+use Rattle.geom.specs.Box.{IsInBox, greatest_corner, least_corner}
+use Rattle.geom.specs.Noded.{IsPairBefore}
+use Rattle.tiling.specs.Bins.{Binned}
+use Rattle.tiling.specs.Index.{AreIndexed}
+use Rattle.tiling.specs.Tiles.{Tiling, Owns, HasTile}
+use Rattle.hot_pixel.specs.Rects.{IsIn}
+use Rattle.chain_gather.specs.Gathered.{corners}
+use Rattle.noding_test.specs.declared.verdicts.Verdict.{Verdict}
+use Rattle.noding_test.specs.Verdicts.{IsOwnBad, chosen_edges}
+
+-- ---- what a caller hands in
+
+-- every point of each edge's box has a tile
+abbrev pub EdgesHaveTiles : Tiling → List Edge → Type 0
+EdgesHaveTiles g edges = (e : Edge) (p : Pt) → Contains edges e → IsInBox (least_corner e.p e.q) (greatest_corner e.p e.q) p → HasTile g p
+
+-- the bounds hold the ends of all edges; without bounds there are none
+abbrev pub BoundsHoldEdges : Option Rect → List Edge → Type 0
+BoundsHoldEdges None edges = (e : Edge) → ¬ (Contains edges e)
+BoundsHoldEdges (Some r) edges = (e : Edge) → Contains edges e → IsInBox r.lo r.hi e.p × IsInBox r.lo r.hi e.q
+
+-- ---- the edges near a tile
+
+abbrev pub edge_corners : Counted → Pt × Pt
+edge_corners c = (least_corner c.edge.p c.edge.q, greatest_corner c.edge.p c.edge.q)
+
+-- the least boxes of the edges, in their order
+abbrev pub AreBoxesOfEdges : List Counted → List Rect → Type 0
+AreBoxesOfEdges counted boxes = map corners boxes ≡ map edge_corners counted
+
+-- the bins are those of the edges' boxes over the grid
+pub record AreBinsOfEdges (g : Tiling) (counted : List Counted) (bins : Binned) : Type 0 where
+  pub grid_is : bins.grid ≡ g
+  pub boxes : List Rect
+  pub are_boxes : AreBoxesOfEdges counted boxes
+  pub indexed : AreIndexed boxes bins.items
+
+-- ---- which verdicts of a book count
+
+-- the verdict was made from what tile k has: its rectangle, and the edges of these numbers
+pub record IsOwnVerdict {A : Type 0} (g : Tiling) (k : ℕ) (counted : List Counted) (numbers : List ℕ) (verdict : Verdict A) : Type 0 where
+  pub tile : (p : Pt) → IsIn verdict.tile p ↔ Owns g k p
+  pub edges : verdict.edges.items ≡ chosen_edges counted numbers
+
+-- place k holds a verdict that was made from what tile k has
+pub record HoldsOwnVerdict {A : Type 0} (g : Tiling) (k : ℕ) (counted : List Counted) (numbers : List ℕ) (held : List (Option (Verdict A))) : Type 0 where
+  pub verdict : Verdict A
+  pub is_at : slice_get held k ≡ Some (Some verdict)
+  pub own : IsOwnVerdict g k counted numbers verdict
+
+-- ---- the least of all tiles
+
+-- a bad pair that belongs to one of the tiles below k
+abbrev pub IsBadBelow : Tiling → ℕ → List Edge → Edge → Edge → Type 0
+IsBadBelow g k edges e f = (j : ℕ) × (j < k) × IsOwnBad (Owns g j) edges e f
+
+-- found is the lesser of two pairs, or the only one
+abbrev pub IsLesser : Option (Edge × Edge) → Option (Edge × Edge) → Option (Edge × Edge) → Type 0
+IsLesser None other found = found ≡ other
+IsLesser (Some x) None found = found ≡ Some x
+IsLesser (Some x) (Some y) found = ((found ≡ Some x) × ¬ (IsPairBefore y.0 y.1 x.0 x.1)) ⊎ ((found ≡ Some y) × IsPairBefore y.0 y.1 x.0 x.1)
