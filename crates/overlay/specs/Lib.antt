@@ -5,3 +5,4 @@ pub mod Arguments
 pub mod Rounds
 pub mod Runs
 pub mod Results
+pub mod Determined

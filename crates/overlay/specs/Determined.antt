@@ -1,0 +1,21 @@
+-- What the two layers determine, whatever the plan of a run.
+use Rattle.std.specs.Prelude.{◌≡◌, ℕ, List}
+use Rattle.overlay.specs.declared.engine.Plan.{Plan}
+use Rattle.overlay.specs.declared.text.Report.{Report}
+use Rattle.overlay.specs.Runs.{AreEdgesWritten}
+
+-- the text of the edges is one: whatever the tile side and the number of workers, and whatever the threads did
+abbrev pub EdgesTextIsOne : Type 0 → Type 0 → Type 0
+EdgesTextIsOne M N = (a b : List ℕ) (plan other : Plan) (text text' : List ℕ) (report : Report M) (report' : Report N)
+    → AreEdgesWritten plan a b text report → AreEdgesWritten other a b text' report' → text ≡ text'
+
+-- numbers of reports in which the plan has no part
+pub record HaveOneSize {M N : Type 0} (report : Report M) (other : Report N) : Type 0 where
+  pub segments_a : report.segments_a ≡ other.segments_a
+  pub segments_b : report.segments_b ≡ other.segments_b
+  pub edges : report.edges ≡ other.edges
+
+-- the numbers of segments and of edges in the report are one
+abbrev pub EdgesSizesAreOne : Type 0 → Type 0 → Type 0
+EdgesSizesAreOne M N = (a b : List ℕ) (plan other : Plan) (text text' : List ℕ) (report : Report M) (report' : Report N)
+    → AreEdgesWritten plan a b text report → AreEdgesWritten other a b text' report' → HaveOneSize report report'

@@ -1,0 +1,12 @@
+//! What the two layers determine: each law is the contract of a function with an empty body.
+
+ghost use Rattle.overlay.specs.Determined.{EdgesSizesAreOne, EdgesTextIsOne};
+
+use std::alloc::Allocator;
+
+/// The text of the edges is determined by the two layers: it is the same for every tile side, number of workers and order
+/// of threads. So are the numbers of segments and of edges in the report.
+pub fn edges_text_is_one<A: Allocator, B: Allocator>()
+    ensures text { EdgesTextIsOne A B }
+    ensures sizes { EdgesSizesAreOne A B }
+{}
