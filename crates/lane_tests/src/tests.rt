@@ -122,24 +122,32 @@ fn sides_agree(
     other: (Pt, Pt),
     z: Half,
 ) -> Result<bool, NoMemory> {
+    if !z.is_near() {
+        return Ok(false);
+    }
     let mut segs = Segs::new(alloc);
     for at in 0..length {
-        let (a, b) = if at == place { one } else { other };
-        push_seg(&mut segs, a, b)?;
+        if at == place {
+            push_seg(&mut segs, one.0, one.1)?;
+        } else {
+            push_seg(&mut segs, other.0, other.1)?;
+        }
     }
     let mut signs = vec![in alloc; 0i8; segs.len()]?;
-    if z.is_near() {
-        sides(&segs, z, &mut signs);
-    }
+    sides(&segs, z, &mut signs);
     let mut at = 0u32;
     for sign in &signs {
-        let (a, b) = if at == place { one } else { other };
-        if *sign != plain_side(a, b, z) {
+        let plain = if at == place {
+            plain_side(one.0, one.1, z)
+        } else {
+            plain_side(other.0, other.1, z)
+        };
+        if *sign != plain {
             return Ok(false);
         }
         at = at.wrapping_add(1);
     }
-    Ok(at == length && z.is_near())
+    Ok(at == length)
 }
 
 #[test]
@@ -357,10 +365,8 @@ fn chosen_edges(rt: HostRuntime) -> Result<(), Fail> {
     ];
     for (numbers, odd) in table {
         let chosen = chosen(rt.alloc(), &list, numbers)?;
-        assert_eq!(rt;
-            (chosen.len(), odd_above(&chosen, below)),
-            (numbers.len(), odd)
-        );
+        let count = chosen.len();
+        assert!(rt; count == numbers.len() && odd_above(&chosen, below) == odd);
     }
     Ok(())
 }

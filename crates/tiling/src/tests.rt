@@ -1,6 +1,6 @@
 //! The grid, the bins and the strips on small examples, and bins and strips against a plain loop over all boxes.
 
-ghost use Rattle.std.specs.Prelude.{◌≡◌, ◌<◌};
+ghost use Rattle.std.specs.Prelude.{◌≡◌, ◌<◌, IfOk, pos};
 ghost use Rattle.tiling.specs.Tiles.{tile_count};
 
 use crate::{Bins, Count, Grid, Strips};
@@ -310,19 +310,27 @@ fn strips_against_the_plain_loop(rt: HostRuntime) -> Result<(), Fail> {
     Ok(())
 }
 
+// The strips of width 5 from 0 to 9 over three boxes.
+fn example_strips(alloc: Global) -> Result<Strips<Global>, NoMemory>
+    ensures low { IfOk result (λ s. s.low ≡ pos 0) }
+    ensures high { IfOk result (λ s. s.high ≡ pos 9) }
+{
+    let list = [rect(0, 0, 5, 1), rect(4, 0, 4, 9), rect(6, 0, 9, 0)];
+    let boxes = boxes_of(alloc, list.as_slice())?;
+    Strips::build(alloc, 0, 9, 5, &boxes)
+}
+
 #[test]
 fn strips_of_the_example(rt: HostRuntime) -> Result<(), Fail> {
-    let mut boxes = Boxes::new(rt.alloc());
-    for (left, bottom, right, top) in [(0, 0, 5, 1), (4, 0, 4, 9), (6, 0, 9, 0)] {
-        boxes.push(rect(left, bottom, right, top))?;
-    }
-    let strips = Strips::build(rt.alloc(), 0, 9, 5, &boxes)?;
+    let strips = example_strips(rt.alloc())?;
+    assert_eq!(rt; strips.strips(), 2);
+    assert_eq!(rt; strips.strip_of(9), 0);
+    assert_eq!(rt; strips.strip_of(10), 1);
     let mut found = Vec::new(rt.alloc());
-    for (x2, strip, numbers) in [(9, 0u32, [0u32, 1].as_slice()), (10, 1, [0, 2].as_slice())] {
+    for (strip, numbers) in [(0u32, [0u32, 1].as_slice()), (1, [0, 2].as_slice())] {
         assert!(rt; strip < strips.strips());
         strips.fill(strip, &mut found)?;
-        assert!(rt; found.as_slice() == numbers && strips.strip_of(x2) == strip);
+        assert_eq!(rt; found.as_slice(), numbers);
     }
-    assert_eq!(rt; strips.strips(), 2);
     Ok(())
 }
