@@ -49,7 +49,10 @@ impl<A: Allocator + Copy> Job<A> for Notes {
     }
 }
 
-const EVENTS: [(Event, Reply, u32); 10] = [
+/// An event, the reply, and the draw word then.
+type Step = (Event, Reply, u32);
+
+const OF_TWO: [Step; 10] = [
     (Event::Draw(1), Reply::Number(0), 1),
     (Event::Draw(0), Reply::Number(1), 2),
     (Event::Post(0, 1), Reply::Ok, 2),
@@ -62,38 +65,46 @@ const EVENTS: [(Event, Reply, u32); 10] = [
     (Event::Draw(2), Reply::NoHand, 4),
 ];
 
-#[test]
-fn core_replies(rt: HostRuntime) -> Result<(), Fail> {
-    let mut stepped = Core::new(rt.alloc(), 2, 2)?;
-    let mut events = Vec::new(rt.alloc());
-    let mut replies = Vec::new(rt.alloc());
-    for (event, reply, word) in EVENTS {
-        assert_eq!(rt; stepped.step(event), reply, "{event:?}");
-        assert_eq!(rt; stepped.word(), word, "{event:?}");
-        events.push(event)?;
-        replies.push(reply)?;
+const OF_NONE: [Step; 5] = [
+    (Event::Draw(0), Reply::None, 1),
+    (Event::Draw(1), Reply::None, 2),
+    (Event::Post(0, 0), Reply::Stranger, 2),
+    (Event::Stop(0), Reply::Ok, 2),
+    (Event::Stop(2), Reply::NoHand, 2),
+];
+
+// Whether a core of two hands replies so, event by event and in one replay.
+fn replies_so<A: Allocator + Copy>(
+    alloc: A,
+    limit: u32,
+    steps: &[Step],
+    accepted: &[u32],
+) -> Result<bool, NoMemory>
+    requires { limit ≤ 65536 }
+{
+    let mut stepped = Core::new(alloc, limit, 2)?;
+    let mut replayed = Core::new(alloc, limit, 2)?;
+    let mut events = Vec::new(alloc);
+    let mut replies = Vec::new(alloc);
+    let mut same = true;
+    for (event, reply, word) in steps {
+        same = same & (stepped.step(*event) == *reply) & (stepped.word() == *word);
+        events.push(*event)?;
+        replies.push(*reply)?;
     }
-    assert_eq!(rt; stepped.accepted(), [1, 0].as_slice());
-    let mut replayed = Core::new(rt.alloc(), 2, 2)?;
-    let told = replayed.replay(rt.alloc(), &events)?;
-    assert_eq!(rt; told.as_slice(), replies.as_slice());
-    assert_eq!(rt; replayed.accepted(), [1, 0].as_slice());
-    Ok(())
+    let told = replayed.replay(alloc, &events)?;
+    Ok(
+        same && told.as_slice() == replies.as_slice()
+            && stepped.accepted() == accepted
+            && replayed.accepted() == accepted,
+    )
 }
 
 #[test]
-fn core_of_no_numbers(rt: HostRuntime) -> Result<(), Fail> {
-    let mut core = Core::new(rt.alloc(), 0, 2)?;
-    for (event, reply) in [
-        (Event::Draw(0), Reply::None),
-        (Event::Draw(1), Reply::None),
-        (Event::Post(0, 0), Reply::Stranger),
-        (Event::Stop(0), Reply::Ok),
-        (Event::Stop(2), Reply::NoHand),
-    ] {
-        assert_eq!(rt; core.step(event), reply, "{event:?}");
-    }
-    assert_eq!(rt; core.word(), 2);
+fn core_replies(rt: HostRuntime) -> Result<(), Fail> {
+    assert!(rt;
+        replies_so(rt.alloc(), 2, &OF_TWO, &[1, 0])? && replies_so(rt.alloc(), 0, &OF_NONE, &[])?
+    );
     Ok(())
 }
 
@@ -109,36 +120,51 @@ fn two_hands<A: Allocator + Copy>(alloc: A, limit: u32) -> Result<(Draw<A>, Hand
     Ok((draw, one, other))
 }
 
-#[test]
-fn draw_of_no_numbers(rt: HostRuntime) -> Result<(), Fail> {
-    let (draw, mut one, mut other) = two_hands(rt.alloc(), 0)?;
-    assert_eq!(rt; draw.draw(&mut one), None);
-    assert_eq!(rt; draw.draw(&mut other), None);
-    let mut hands = Vec::new(rt.alloc());
+// Which of two hands draw in turn, and what they get.
+type Draws = &'static [(bool, Option<u32>)];
+
+const DRAWS: [(u16, Draws); 2] = [
+    (0, &[(true, None), (false, None)]),
+    (
+        2,
+        &[
+            (true, Some(0)),
+            (false, Some(1)),
+            (true, None),
+            (false, None),
+            (false, None),
+        ],
+    ),
+];
+
+// Whether the hands get this, and the draw can be finished then.
+fn draws_so<A: Allocator + Copy>(alloc: A, limit: u32, draws: Draws) -> Result<bool, NoMemory>
+    requires { limit ≤ 65536 }
+{
+    let (draw, mut one, mut other) = two_hands(alloc, limit)?;
+    let mut same = true;
+    for (is_one, number) in draws {
+        let drawn = if *is_one {
+            draw.draw(&mut one)
+        } else {
+            draw.draw(&mut other)
+        };
+        same = same & (drawn == *number);
+    }
+    let mut hands = Vec::new(alloc);
     hands.push(one)?;
     hands.push(other)?;
     let Ok(drawn) = finish(draw, hands) else {
-        return Err(Fail::from("all hands are spent"));
+        return Ok(false);
     };
-    assert_eq!(rt; drawn.limit(), 0);
-    Ok(())
+    Ok(same && drawn.limit() == limit)
 }
 
 #[test]
-fn finish_of_two_spent_hands(rt: HostRuntime) -> Result<(), Fail> {
-    let (draw, mut one, mut other) = two_hands(rt.alloc(), 2)?;
-    let drawn = [draw.draw(&mut one), draw.draw(&mut other)];
-    assert_eq!(rt; drawn, [Some(0), Some(1)]);
-    assert_eq!(rt; draw.draw(&mut one), None);
-    assert_eq!(rt; draw.draw(&mut other), None);
-    assert_eq!(rt; draw.draw(&mut other), None);
-    let mut hands = Vec::new(rt.alloc());
-    hands.push(one)?;
-    hands.push(other)?;
-    let Ok(drawn) = finish(draw, hands) else {
-        return Err(Fail::from("all hands are spent"));
-    };
-    assert_eq!(rt; drawn.limit(), 2);
+fn draws_of_two_hands(rt: HostRuntime) -> Result<(), Fail> {
+    for (limit, draws) in DRAWS {
+        assert!(rt; draws_so(rt.alloc(), u32::from(limit), draws)?, "{limit}");
+    }
     Ok(())
 }
 
@@ -291,32 +317,29 @@ fn no_numbers<L: Limited, R: Wait + Abort>(rt: &R, alloc: Global, blank: Blank) 
     Ok(())
 }
 
+/// How many pieces can be made, the limit of the book, and what one worker of five numbers leaves: whether its draw is
+/// finished, how many pieces came back, its fault, and the numbers that the book accepted.
+type Worked = (u32, u16, (bool, u32, Option<Fault>), &'static [u32]);
+
+// In the second the draw goes on past the limit of the book, which sends those pieces back.
+const WORKED: [Worked; 3] = [
+    (5, 5, (true, 0, None), &[0, 1, 2, 3, 4]),
+    (5, 3, (true, 2, None), &[0, 1, 2]),
+    (3, 5, (false, 0, Some(Fault::Memory)), &[0, 1, 2]),
+];
+
 #[test]
 fn one_worker_of_five_numbers(rt: HostRuntime) -> Result<(), Fail> {
-    let job = Notes { count: 5, room: 5 };
-    let left = one_worker::<Brand, _>(&rt, rt.alloc(), Blank::new(1), 5, &job)?;
-    assert!(rt; left.is_finished && left.returned == 0 && left.fault.is_none());
-    assert_eq!(rt; left.accepted.as_slice(), [0, 1, 2, 3, 4].as_slice());
-    Ok(())
-}
-
-// The draw goes on past the limit of the book, which sends those pieces back.
-#[test]
-fn one_worker_of_two_strangers(rt: HostRuntime) -> Result<(), Fail> {
-    let job = Notes { count: 5, room: 5 };
-    let left = one_worker::<Brand, _>(&rt, rt.alloc(), Blank::new(1), 3, &job)?;
-    assert!(rt; left.is_finished && left.returned == 2 && left.fault.is_none());
-    assert_eq!(rt; left.accepted.as_slice(), [0, 1, 2].as_slice());
-    Ok(())
-}
-
-#[test]
-fn one_worker_without_memory(rt: HostRuntime) -> Result<(), Fail> {
-    let job = Notes { count: 5, room: 3 };
-    let left = one_worker::<Brand, _>(&rt, rt.alloc(), Blank::new(1), 5, &job)?;
-    assert!(rt; !left.is_finished && left.returned == 0);
-    assert!(rt; left.fault == Some(Fault::Memory));
-    assert_eq!(rt; left.accepted.as_slice(), [0, 1, 2].as_slice());
+    for (room, limit, ended, accepted) in WORKED {
+        let job = Notes { count: 5, room };
+        let limit = u32::from(limit);
+        let left = one_worker::<Brand, _>(&rt, rt.alloc(), Blank::new(1), limit, &job)?;
+        assert!(rt;
+            (left.is_finished, left.returned, left.fault) == ended
+                && left.accepted.as_slice() == accepted,
+            "{room}, {limit}"
+        );
+    }
     Ok(())
 }
 
