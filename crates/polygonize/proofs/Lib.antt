@@ -24,3 +24,4 @@ pub mod Gaps
 pub mod Least
 pub mod Deciding
 pub mod Striping
+pub mod Sorted
