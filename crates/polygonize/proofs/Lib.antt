@@ -25,3 +25,5 @@ pub mod Least
 pub mod Deciding
 pub mod Striping
 pub mod Sorted
+pub mod Places
+pub mod Openings
