@@ -27,3 +27,4 @@ pub mod Striping
 pub mod Sorted
 pub mod Places
 pub mod Openings
+pub mod Entries

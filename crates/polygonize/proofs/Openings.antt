@@ -4,8 +4,8 @@ use Rattle.std.specs.Prelude.{◌&&◌, All, IsPermutation, count_by, flat_map, 
 use Rattle.std.specs.List.Sorted.{IsSortedByKey}
 use Rattle.std.proofs.lemmas.Bool.{cases_lt}
 use Rattle.std.proofs.lemmas.List.Elements.{All-head, All-tail}
-use Rattle.std.proofs.lemmas.List.Sums.{sum_by-append}
-use Rattle.std.proofs.lemmas.List.Sorted.{sum_by-IsPermutation}
+use Rattle.std.proofs.lemmas.List.Sums.{sum_by-append, sum_by-cons}
+use Rattle.std.proofs.lemmas.List.Sorted.{IsPermutation-map, sum_by-IsPermutation}
 use Rattle.geom.specs.declared.point.Pt.{Pt}
 use Rattle.geom.specs.declared.directed.DirectedEdge.{DirectedEdge}
 use Rattle.geom.specs.Directed.{from_to, IsDirectedBefore, AreDirected}
@@ -59,14 +59,23 @@ once x (d ∷ ds) a = let P : ℕ → Type 0 = λ n. n ≤ 1 in subst P (sym (co
 abbrev edges_of : List DirectedEdge → List (List ℕ) → List DirectedEdge
 edges_of ds rings = flat_map ring_edges (map (ring_of ds) rings)
 
-each_once : (ds : List DirectedEdge) → AreDirected ds → (rings : List (List ℕ)) → HaveEdges ds rings → (x : DirectedEdge) → count_by (same_edge x) (edges_of ds rings) ≤ 1
-each_once ds a rings h x = let P : ℕ → Type 0 = λ n. n ≤ 1 in subst P (sym (sum_by-IsPermutation (λ y. cond (same_edge x y) 1 0) ds (edges_of ds rings) h)) (once x ds (pairs_ascend IsDirectedBefore ds a.ascending))
+count_flat : {X Y Z : Type 0} (test : Z → Bool) (f : Y → List Z) (g : X → Y) (xs : List X) → count_by test (flat_map f (map g xs)) ≡ sum_by (λ x. count_by test (f (g x))) xs
+count_flat test f g [] = refl
+count_flat test f g (x ∷ xs) = sum_by-append (λ y. cond (test y) 1 0) (f (g x)) (flat_map f (map g xs)) ∙ ap (λ n. count_by test (f (g x)) + n) (count_flat test f g xs) ∙ sym (sum_by-cons (λ x. count_by test (f (g x))) x xs)
+
+-- in whatever order they stand
+each_once : (ds : List DirectedEdge) → AreDirected ds → (rings sorted : List (List ℕ)) → HaveEdges ds rings → IsPermutation rings sorted → (x : DirectedEdge) → count_by (same_edge x) (edges_of ds sorted) ≤ 1
+each_once ds a rings sorted h p x = let P : ℕ → Type 0 = λ n. n ≤ 1 in subst P (sym same) (once x ds (pairs_ascend IsDirectedBefore ds a.ascending))
+  where
+    same : count_by (same_edge x) (edges_of ds sorted) ≡ count_by (same_edge x) ds
+    same = count_flat (same_edge x) ring_edges (ring_of ds) sorted ∙ sum_by-IsPermutation (λ r. count_by (same_edge x) (ring_edges (ring_of ds r))) rings sorted p ∙ sym (count_flat (same_edge x) ring_edges (ring_of ds) rings)
+        ∙ sum_by-IsPermutation (λ y. cond (same_edge x y) 1 0) ds (edges_of ds rings) h
 
 -- ---- the first edge of a ring, by its opening
-first_edge : List DirectedEdge → Opening → DirectedEdge
+pub first_edge : List DirectedEdge → Opening → DirectedEdge
 first_edge ds o = from_to (edge_at ds o.first).from (edge_at ds o.second).from
 
-first_inside : (ds : List DirectedEdge) (ring : List ℕ) → 3 ≤ length ring → In (first_edge ds (opening_of ring)) (ring_edges (ring_of ds ring))
+pub first_inside : (ds : List DirectedEdge) (ring : List ℕ) → 3 ≤ length ring → In (first_edge ds (opening_of ring)) (ring_edges (ring_of ds ring))
 unfolding first_edge
 first_inside ds [] h = absurd (omega arith)
 first_inside ds (a ∷ []) h = absurd (omega arith)
@@ -133,11 +142,11 @@ of_map {X} S f (x ∷ xs) a = ((λ y i. a.0 (f y) (images xs y i)), of_map S f x
     images (z ∷ xs) y (inr i) = inr (images xs y i)
 
 -- the places of written rings ascend strictly after the sort
-pub strictly_sorted : (ds : List DirectedEdge) → AreDirected ds → (ws : List PlacedRing) → HaveEdges ds (map (λ w. w.ring) ws) → ((w : PlacedRing) → In w ws → IsCanonical ds w.ring) → ((w : PlacedRing) → In w ws → w.place.opening ≡ opening_of w.ring)
+pub strictly_sorted : (ds : List DirectedEdge) → AreDirected ds → (written ws : List PlacedRing) → HaveEdges ds (map (λ w. w.ring) written) → IsPermutation written ws → ((w : PlacedRing) → In w ws → IsCanonical ds w.ring) → ((w : PlacedRing) → In w ws → w.place.opening ≡ opening_of w.ring)
     → IsSortedByKey (λ w. w.place) place_cmp ws → Ascend (λ v w. PlaceLess v.place w.place) ws
-strictly_sorted ds a ws h c o s = both (λ v w. (v.place ≡ w.place) ⊎ PlaceLess v.place w.place) (λ v w. opening_of v.ring ≢ opening_of w.ring) (λ v w. PlaceLess v.place w.place) ws strict
+strictly_sorted ds a written ws h p c o s = both (λ v w. (v.place ≡ w.place) ⊎ PlaceLess v.place w.place) (λ v w. opening_of v.ring ≢ opening_of w.ring) (λ v w. PlaceLess v.place w.place) ws strict
     (sorted_places (λ w. w.place) ws s)
-    (of_map (λ r t. opening_of r ≢ opening_of t) (λ w. w.ring) ws (apart ds (map (λ w. w.ring) ws) (each_once ds a (map (λ w. w.ring) ws) h) long))
+    (of_map (λ r t. opening_of r ≢ opening_of t) (λ w. w.ring) ws (apart ds (map (λ w. w.ring) ws) (each_once ds a (map (λ w. w.ring) written) (map (λ w. w.ring) ws) h (IsPermutation-map (λ w. w.ring) written ws p)) long))
   where
     long : (ring : List ℕ) → In ring (map (λ w. w.ring) ws) → 3 ≤ length ring
     long ring i = let m = in_map (λ (w : PlacedRing). w.ring) ws ring i in let P : List ℕ → Type 0 = λ t. 3 ≤ length t in subst P m.2 (c m.0 m.1).sound.long
