@@ -45,7 +45,7 @@ owner_of (itself c h) = c
 owner_of (below v d ring c h l n k o w) = c
 
 -- ---- the edges of a written piece
-in_flat : {X Y : Type 0} (f : X → List Y) (xs : List X) (x : X) (y : Y) → In x xs → In y (f x) → In y (flat_map f xs)
+pub in_flat : {X Y : Type 0} (f : X → List Y) (xs : List X) (x : X) (y : Y) → In x xs → In y (f x) → In y (flat_map f xs)
 in_flat f [] x y i j = absurd i
 in_flat {X} {Y} f (z ∷ xs) x y (inl e) j = in_left (f z) (flat_map f xs) y (let P : X → Type 0 = λ t. In y (f t) in subst P (sym e) j)
 in_flat f (z ∷ xs) x y (inr i) j = in_right (f z) (flat_map f xs) y (in_flat f xs x y i j)

@@ -28,3 +28,4 @@ pub mod Sorted
 pub mod Places
 pub mod Openings
 pub mod Entries
+pub mod Assembled
