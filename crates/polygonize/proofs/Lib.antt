@@ -29,3 +29,4 @@ pub mod Places
 pub mod Openings
 pub mod Entries
 pub mod Assembled
+pub mod PlacedRings
