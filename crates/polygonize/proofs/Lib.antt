@@ -30,3 +30,4 @@ pub mod Openings
 pub mod Entries
 pub mod Assembled
 pub mod PlacedRings
+pub mod Ordered

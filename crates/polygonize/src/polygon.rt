@@ -1,10 +1,13 @@
 //! The polygons of a result.
 
-ghost use Rattle.std.specs.Prelude.{◌≡◌, ◌+◌, ◌<◌, ◌≤◌, true, All, IfOk, drop, length, map, take, vec_len};
-ghost use Rattle.geom.specs.Canonical.{HaveEachEdge, written_rings};
+ghost use Rattle.std.specs.Prelude.{◌≡◌, ◌+◌, ◌<◌, ◌≤◌, true, List, All, IfOk, drop, length, map, take, vec_len};
+ghost use Rattle.geom.specs.declared.point.Pt.{Pt};
+ghost use Rattle.geom.specs.Canonical.{ArePolygons, HaveEachEdge, written_rings};
+ghost use Rattle.geom.specs.Holes.{AreGrounded};
 ghost use Rattle.geom.specs.Limit.{AreInLimit};
 ghost use Rattle.geom.specs.ListOrder.{IsLeastRotation};
-ghost use Rattle.geom.specs.Rings.{Closes};
+ghost use Rattle.geom.specs.NodedEdges.{AreNodedEdges};
+ghost use Rattle.geom.specs.Rings.{AreRings, Closes};
 ghost use Rattle.polygonize.specs.Grouped.{AreGrouped, BeginsWithShell};
 ghost use Rattle.polygonize.specs.Next.{ring_of};
 ghost use Rattle.polygonize.specs.Written.{AreSimple, IsSound};
@@ -80,6 +83,9 @@ pub fn polygons<A: Allocator + Copy>(
 ) -> Result<Vec<Polygon<A>, A>, NoMemory>
     requires closes { Closes directed.now }
     requires in_limit { All (λ d. AreInLimit d.from d.to) directed.now }
+    requires noded { AreNodedEdges directed.now }
+    requires grounded { (rings : List (List Pt)) → AreRings directed.now rings → AreGrounded directed.now rings }
+    ensures polygons { IfOk result (λ found. ArePolygons directed.now (map (λ p. record { shell = p.shell; holes = p.holes.items }) found.items)) }
     ensures each_edge { IfOk result (λ found. HaveEachEdge directed.now (map (λ p. record { shell = p.shell; holes = p.holes.items }) found.items)) }
     ensures simple { IfOk result (λ found. AreSimple (written_rings (map (λ p. record { shell = p.shell; holes = p.holes.items }) found.items))) }
     ensures least { IfOk result (λ found. All (λ ring. IsLeastRotation ring ring) (written_rings (map (λ p. record { shell = p.shell; holes = p.holes.items }) found.items))) }
