@@ -4,11 +4,11 @@ use Rattle.std.proofs.lemmas.Result.{IfOk-weaker}
 use Rattle.geom.specs.declared.edge.Counted.{Counted}
 use Rattle.geom.specs.declared.edge.Edge.{Edge}
 use Rattle.geom.specs.Limit.{AreInLimit}
-use Rattle.points_law.proofs.RoundVertex.{closes}
+use Rattle.points_law.proofs.RoundVertex.{closes, grounded}
 use Rattle.polygonize.proofs.Writing.{unmapped}
 use Rattle.wkt.specs.Canonical.{multi_text}
 use Rattle.overlay.specs.Results.{IsResultText}
-use Rattle.overlay.proofs.Results.{directed_in, line_is, shapes}
+use Rattle.overlay.proofs.Results.{directed_in, line_is, noded_edges, shapes}
 use Rattle.overlay.proofs.operation.result_text.Goals as goal
 
 pub labels-requires : goal.labels-requires
@@ -20,6 +20,8 @@ pub polygons-requires : goal.polygons-requires
 polygons-requires g c = record {
   closes = closes c.args.op c.args.counted.now c.requires c.in_ok-directed.directed c.in_ok-directed.ensures;
   in_limit = directed_in c.args.op c.args.counted.now c.in_ok-directed.directed c.requires.in_limit c.in_ok-directed.ensures;
+  noded = noded_edges c.args.op c.args.counted.now c.in_ok-directed.directed c.requires.noded c.in_ok-directed.ensures;
+  grounded = λ rings are. grounded c.args.op c.args.counted.now c.requires c.in_ok-directed.directed c.in_ok-directed.ensures rings are;
 }
 
 pub returns : goal.returns
@@ -28,6 +30,7 @@ returns g c = IfOk-weaker c.write_multi.result (λ text. text.items ≡ multi_te
       directed = c.in_ok-directed.directed;
       bound = c.in_ok-directed.ensures;
       polygons = shapes c.in_ok-polygons.polygons.items;
+      are_polygons = c.in_ok-polygons.ensures.polygons;
       each_edge = c.in_ok-polygons.ensures.each_edge;
       simple = c.in_ok-polygons.ensures.simple;
       least = c.in_ok-polygons.ensures.least;
