@@ -60,9 +60,8 @@ fn grouped<A: Allocator + Copy>(
     written: &[Written<A>],
 ) -> Result<Vec<Polygon<A>, A>, NoMemory>
     requires sound { All (λ w. IsSound edges.now w.ring.items) written.now }
-    requires begins { BeginsWithShell (λ w. w.place.is_hole) written.now }
     ensures rings { IfOk result (λ found. written_rings (map (λ p. record { shell = p.shell; holes = p.holes.items }) found.items) ≡ map (λ w. ring_of edges.now w.ring.items) written.now) }
-    ensures groups { IfOk result (λ found. AreGrouped (λ w. w.place.is_hole) (λ w. ring_of edges.now w.ring.items) written.now (map (λ p. record { shell = p.shell; holes = p.holes.items }) found.items)) }
+    ensures groups { BeginsWithShell (λ w. w.place.is_hole) written.now → IfOk result (λ found. AreGrouped (λ w. w.place.is_hole) (λ w. ring_of edges.now w.ring.items) written.now (map (λ p. record { shell = p.shell; holes = p.holes.items }) found.items)) }
 {
     let mut polygons = Vec::new(alloc);
     let mut at = 0;
@@ -83,9 +82,7 @@ pub fn polygons<A: Allocator + Copy>(
 ) -> Result<Vec<Polygon<A>, A>, NoMemory>
     requires closes { Closes directed.now }
     requires in_limit { All (λ d. AreInLimit d.from d.to) directed.now }
-    requires noded { AreNodedEdges directed.now }
-    requires grounded { (rings : List (List Pt)) → AreRings directed.now rings → AreGrounded directed.now rings }
-    ensures polygons { IfOk result (λ found. ArePolygons directed.now (map (λ p. record { shell = p.shell; holes = p.holes.items }) found.items)) }
+    ensures polygons { AreNodedEdges directed.now → ((rings : List (List Pt)) → AreRings directed.now rings → AreGrounded directed.now rings) → IfOk result (λ found. ArePolygons directed.now (map (λ p. record { shell = p.shell; holes = p.holes.items }) found.items)) }
     ensures each_edge { IfOk result (λ found. HaveEachEdge directed.now (map (λ p. record { shell = p.shell; holes = p.holes.items }) found.items)) }
     ensures simple { IfOk result (λ found. AreSimple (written_rings (map (λ p. record { shell = p.shell; holes = p.holes.items }) found.items))) }
     ensures least { IfOk result (λ found. All (λ ring. IsLeastRotation ring ring) (written_rings (map (λ p. record { shell = p.shell; holes = p.holes.items }) found.items))) }

@@ -4,7 +4,6 @@ ghost use Rattle.std.specs.Prelude.{◌≡◌, ◌<◌, ◌≤◌, [], List, All
 ghost use Rattle.geom.specs.Limit.{AreInLimit};
 ghost use Rattle.geom.specs.declared.point.Pt.{Pt};
 ghost use Rattle.geom.specs.Holes.{AreGrounded};
-ghost use Rattle.geom.specs.NodedEdges.{AreNodedEdges};
 ghost use Rattle.geom.specs.Rings.{AreRings, Closes};
 ghost use Rattle.polygonize.specs.Below.{AreStrips};
 ghost use Rattle.polygonize.specs.Number.{AreNumbers, IsVertex};
@@ -191,11 +190,9 @@ pub fn written_rings<A: Allocator + Copy>(
 ) -> Result<Vec<Written<A>, A>, NoMemory>
     requires closes { Closes edges.now }
     requires edges_in { All (λ d. AreInLimit d.from d.to) edges.now }
-    requires noded { AreNodedEdges edges.now }
-    requires grounded { (rings : List (List Pt)) → AreRings edges.now rings → AreGrounded edges.now rings }
     ensures edges { IfOk result (λ written. HaveEdges edges.now (map (λ w. w.ring.items) written.items)) }
     ensures sound { IfOk result (λ written. All (IsCanonical edges.now) (map (λ w. w.ring.items) written.items)) }
-    ensures written { IfOk result (λ written. (rings : List (List Pt)) × AreWritten edges.now rings (map (λ w. record { place = w.place; ring = w.ring.items }) written.items)) }
+    ensures written { ((rings : List (List Pt)) → AreRings edges.now rings → AreGrounded edges.now rings) → IfOk result (λ written. (rings : List (List Pt)) × AreWritten edges.now rings (map (λ w. record { place = w.place; ring = w.ring.items }) written.items)) }
 {
     let numbers = start_numbers(alloc, edges)?;
     let cycles = ring_places(alloc, edges)?;

@@ -20,8 +20,6 @@ pub polygons-requires : goal.polygons-requires
 polygons-requires g c = record {
   closes = closes c.args.op c.args.counted.now c.requires c.in_ok-directed.directed c.in_ok-directed.ensures;
   in_limit = directed_in c.args.op c.args.counted.now c.in_ok-directed.directed c.requires.in_limit c.in_ok-directed.ensures;
-  noded = noded_edges c.args.op c.args.counted.now c.in_ok-directed.directed c.requires.noded c.in_ok-directed.ensures;
-  grounded = λ rings are. grounded c.args.op c.args.counted.now c.requires c.in_ok-directed.directed c.in_ok-directed.ensures rings are;
 }
 
 pub returns : goal.returns
@@ -30,7 +28,8 @@ returns g c = IfOk-weaker c.write_multi.result (λ text. text.items ≡ multi_te
       directed = c.in_ok-directed.directed;
       bound = c.in_ok-directed.ensures;
       polygons = shapes c.in_ok-polygons.polygons.items;
-      are_polygons = c.in_ok-polygons.ensures.polygons;
+      are_polygons = c.in_ok-polygons.ensures.polygons (noded_edges c.args.op c.args.counted.now c.in_ok-directed.directed c.requires.noded c.in_ok-directed.ensures)
+          (λ rings are. grounded c.args.op c.args.counted.now c.requires c.in_ok-directed.directed c.in_ok-directed.ensures rings are);
       each_edge = c.in_ok-polygons.ensures.each_edge;
       simple = c.in_ok-polygons.ensures.simple;
       least = c.in_ok-polygons.ensures.least;

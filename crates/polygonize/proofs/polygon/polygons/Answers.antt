@@ -21,17 +21,19 @@ grouped-requires g c = record {
       (All-permutation (λ w. IsSound c.edges-edges.result.now w.ring.items) c.in_ok-written.written.items c.sort_unstable_by_key.new.self.items c.sort_unstable_by_key.ensures.permutation
       (All-weaker (λ w. IsCanonical c.edges-edges.result.now w.ring.items) (λ w. IsSound c.edges-edges.result.now w.ring.items) (λ w k. k.sound) c.in_ok-written.written.items
       (unmapped (IsCanonical c.edges-edges.result.now) (λ w. w.ring.items) c.in_ok-written.written.items c.in_ok-written.ensures.sound)));
-  begins = rw c.deref.ensures.value (shell_first (λ w. record { place = w.place; ring = w.ring.items }) c.args.directed.now c.requires.closes.are_directed c.requires.noded c.in_ok-written.written.items c.sort_unstable_by_key.new.self.items
-      (rw c.edges-edges.ensures.value at c.in_ok-written.ensures.written) c.sort_unstable_by_key.ensures.permutation (sorted_by (λ w. w.place) place_cmp c.sort_unstable_by_key.new.self.items c.sort_unstable_by_key.ensures.sorted (λ a r q k. search rules)));
 }
 
 pub returns-clause-polygons : goal.returns-clause-polygons
-returns-clause-polygons g c = IfOk-weaker c.grouped.result
+returns-clause-polygons g c = λ noded grounded.
+    let written = rw c.edges-edges.ensures.value at c.in_ok-written.ensures.written in
+    let sorted = sorted_by (λ w. w.place) place_cmp c.sort_unstable_by_key.new.self.items c.sort_unstable_by_key.ensures.sorted (λ a r q k. search rules) in
+    let groups = rw (c.deref.ensures.value, c.edges-edges.ensures.value) at c.grouped.ensures.groups in
+    IfOk-weaker c.grouped.result
     (λ found. AreGrouped (λ w. w.place.is_hole) (λ w. ring_of c.args.directed.now w.ring.items) c.sort_unstable_by_key.new.self.items (map (λ p. record { shell = p.shell; holes = p.holes.items }) found.items))
     (λ found. ArePolygons c.args.directed.now (map (λ p. record { shell = p.shell; holes = p.holes.items }) found.items))
-    (λ found h. grouped_polygons (λ w. record { place = w.place; ring = w.ring.items }) c.args.directed.now c.requires.closes.are_directed c.requires.noded c.in_ok-written.written.items c.sort_unstable_by_key.new.self.items (map (λ p. record { shell = p.shell; holes = p.holes.items }) found.items)
-        (rw c.edges-edges.ensures.value at c.in_ok-written.ensures.written) c.sort_unstable_by_key.ensures.permutation (sorted_by (λ w. w.place) place_cmp c.sort_unstable_by_key.new.self.items c.sort_unstable_by_key.ensures.sorted (λ a r q k. search rules)) h)
-    (rw (c.deref.ensures.value, c.edges-edges.ensures.value) at c.grouped.ensures.groups)
+    (λ found h. grouped_polygons (λ w. record { place = w.place; ring = w.ring.items }) c.args.directed.now c.requires.closes.are_directed noded c.in_ok-written.written.items c.sort_unstable_by_key.new.self.items (map (λ p. record { shell = p.shell; holes = p.holes.items }) found.items)
+        (written grounded) c.sort_unstable_by_key.ensures.permutation sorted h)
+    (groups (shell_first (λ w. record { place = w.place; ring = w.ring.items }) c.args.directed.now c.requires.closes.are_directed noded c.in_ok-written.written.items c.sort_unstable_by_key.new.self.items (written grounded) c.sort_unstable_by_key.ensures.permutation sorted))
 
 pub returns-clause-each_edge : goal.returns-clause-each_edge
 returns-clause-each_edge g c = IfOk-weaker c.grouped.result
@@ -58,9 +60,3 @@ returns-clause-simple g c = IfOk-weaker c.grouped.result
     (All-weaker (λ w. IsCanonical c.args.directed.now w.ring.items) (λ w. IsSound c.args.directed.now w.ring.items) (λ w k. k.sound) c.in_ok-written.written.items
     (unmapped (IsCanonical c.args.directed.now) (λ w. w.ring.items) c.in_ok-written.written.items (rw c.edges-edges.ensures.value at c.in_ok-written.ensures.sound)))) h)
     (rw (c.deref.ensures.value, c.edges-edges.ensures.value) at c.grouped.ensures.rings)
-
-pub written_rings-requires-clause-noded : goal.written_rings-requires-clause-noded
-written_rings-requires-clause-noded g c = rw c.edges-edges.ensures.value c.requires.noded
-
-pub written_rings-requires-clause-grounded : goal.written_rings-requires-clause-grounded
-written_rings-requires-clause-grounded g c = rw c.edges-edges.ensures.value c.requires.grounded
