@@ -24,3 +24,5 @@ pub mod Gaps
 pub mod Least
 pub mod Deciding
 pub mod Striping
+pub mod Neighbours
+pub mod Holes
