@@ -26,3 +26,4 @@ pub mod Deciding
 pub mod Striping
 pub mod Neighbours
 pub mod Holes
+pub mod Nearness

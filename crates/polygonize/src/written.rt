@@ -95,8 +95,8 @@ fn owner_of<A: Allocator + Copy>(
     requires vertices { All (IsVertex edges.now) ring.now }
     requires least { All (λ k. slice_index_or ring.now 0 0 ≤ k) ring.now }
     requires same_length { length shell_of.now ≡ length edges.now }
-    requires strips { AreStrips edges.now strips.old.strips strips.old.numbers.items }
-    ensures { OnOk result (AreStrips edges.now strips.new.strips strips.new.numbers.items) }
+    requires strips { AreStrips edges.now strips.old.strips strips.old.filled strips.old.numbers.items }
+    ensures { OnOk result (AreStrips edges.now strips.new.strips strips.new.filled strips.new.numbers.items) }
 {
     if !is_hole(edges, ring) {
         return Ok(None);
@@ -134,8 +134,8 @@ fn write_ring<A: Allocator + Copy>(
     requires places { length places.old ≡ length edges.now }
     requires shells { length shell_of.old ≡ length edges.now }
     requires clear { AreStacked [] places.old }
-    requires strips { AreStrips edges.now strips.old.strips strips.old.numbers.items }
-    ensures strips { OnOk result (AreStrips edges.now strips.new.strips strips.new.numbers.items) }
+    requires strips { AreStrips edges.now strips.old.strips strips.old.filled strips.old.numbers.items }
+    ensures strips { OnOk result (AreStrips edges.now strips.new.strips strips.new.filled strips.new.numbers.items) }
     ensures written { OnOk result (IsRingWritten edges.now cycle.now (map (λ w. w.ring.items) written.old.items) (map (λ w. w.ring.items) written.new.items)) }
     ensures clear { OnOk result (AreStacked [] places.new) }
 {
@@ -165,7 +165,7 @@ fn write_cycles<A: Allocator + Copy>(
     requires places { length places.old ≡ length edges.now }
     requires shells { length shell_of.old ≡ length edges.now }
     requires clear { AreStacked [] places.old }
-    requires strips { AreStrips edges.now strips.old.strips strips.old.numbers.items }
+    requires strips { AreStrips edges.now strips.old.strips strips.old.filled strips.old.numbers.items }
     ensures edges { IfOk result (λ written. HaveEdges edges.now (map (λ w. w.ring.items) written.items)) }
     ensures sound { IfOk result (λ written. All (IsCanonical edges.now) (map (λ w. w.ring.items) written.items)) }
 {
