@@ -29,3 +29,6 @@ pub mod Places
 pub mod Openings
 pub mod Entries
 pub mod Assembled
+pub mod Neighbours
+pub mod Holes
+pub mod Nearness
