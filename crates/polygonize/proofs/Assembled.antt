@@ -12,6 +12,11 @@ use Rattle.geom.specs.Holes.IsOwner.{itself}
 use Rattle.geom.specs.ListOrder.{IsListBefore, IsLeastRotation}
 use Rattle.geom.specs.Rings.{along, ring_edges, AreRings, IsCut}
 use Rattle.geom.specs.Rings.IsCut.{whole}
+use Rattle.geom.specs.NodedEdges.{AreNodedEdges}
+use Rattle.geom.proofs.OneCut.{one_cut}
+use Rattle.geom.proofs.OneOwner.{one_owner}
+use Rattle.geom.proofs.OneRing.{one_ring, one_first as one_first_piece}
+use Rattle.geom.proofs.OneRotation.{one_rotation}
 use Rattle.geom.proofs.Lists.{In, contains_in, in_contains, in_map, map_in}
 use Rattle.polygonize.specs.Grouped.{Group, members, shape_of, AreGrouped}
 use Rattle.polygonize.specs.Next.{ring_of}
@@ -236,3 +241,13 @@ pub assembled : (ds : List DirectedEdge) → AreDirected ds → (rings : List (L
 assembled ds a rings r one ws e shapes g = let P : List Shape → Type 0 = ArePolygons ds in subst P (sym g.are_shapes) (polygons_of_groups ds a rings r one g.groups (let Q : List PlacedRing → Type 0 = AreEntries ds rings in subst Q (sym g.together) e)
     (λ k i. All-contains (λ k. k.shell.place.is_hole ≡ false) g.groups k g.shells (in_contains g.groups k i))
     (λ k i h j. All-contains (λ w. w.place.is_hole ≡ true) k.holes h (All-contains (λ k. All (λ w. w.place.is_hole ≡ true) k.holes) g.groups k g.holes (in_contains g.groups k i)) (in_contains k.holes h j)))
+
+-- ---- the values are one
+pub are_one : (ds : List DirectedEdge) (rings : List (List Pt)) → AreDirected ds → AreNodedEdges ds → AreRings ds rings → AreOne ds rings
+are_one ds rings a n r = record {
+  ring = one_ring ds rings a r;
+  cut = λ x ps qs c d. one_cut c d;
+  rotation = one_rotation;
+  first = λ x c pieces k p q i j l m. one_first_piece ds rings a r x c pieces k p q i j l m;
+  owner = one_owner ds rings a n r;
+}

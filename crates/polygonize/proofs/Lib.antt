@@ -32,3 +32,5 @@ pub mod Assembled
 pub mod Neighbours
 pub mod Holes
 pub mod Nearness
+pub mod PlacedRings
+pub mod Ordered

@@ -24,7 +24,7 @@ returns-clause-each_edge g c = IfOk-weaker c.grouped.result
     (λ found. written_rings (map (λ p. record { shell = p.shell; holes = p.holes.items }) found.items) ≡ map (λ w. ring_of c.args.directed.now w.ring.items) c.sort_unstable_by_key.new.self.items)
     (λ found. HaveEachEdge c.args.directed.now (map (λ p. record { shell = p.shell; holes = p.holes.items }) found.items))
     (λ found h. text_has_each (λ w. w.ring.items) c.args.directed.now c.in_ok-written.written.items c.sort_unstable_by_key.new.self.items (map (λ p. record { shell = p.shell; holes = p.holes.items }) found.items) (rw c.edges-edges.ensures.value at c.in_ok-written.ensures.edges) c.sort_unstable_by_key.ensures.permutation h)
-    (rw (c.deref.ensures.value, c.edges-edges.ensures.value) at c.grouped.ensures)
+    (rw (c.deref.ensures.value, c.edges-edges.ensures.value) at c.grouped.ensures.rings)
 
 pub returns-clause-least : goal.returns-clause-least
 returns-clause-least g c = IfOk-weaker c.grouped.result
@@ -33,7 +33,7 @@ returns-clause-least g c = IfOk-weaker c.grouped.result
     (λ found h. least_rings (λ w. w.ring.items) c.args.directed.now c.requires.closes.are_directed c.sort_unstable_by_key.new.self.items (map (λ p. record { shell = p.shell; holes = p.holes.items }) found.items)
     (All-permutation (λ w. IsCanonical c.args.directed.now w.ring.items) c.in_ok-written.written.items c.sort_unstable_by_key.new.self.items c.sort_unstable_by_key.ensures.permutation
     (unmapped (IsCanonical c.args.directed.now) (λ w. w.ring.items) c.in_ok-written.written.items (rw c.edges-edges.ensures.value at c.in_ok-written.ensures.sound))) h)
-    (rw (c.deref.ensures.value, c.edges-edges.ensures.value) at c.grouped.ensures)
+    (rw (c.deref.ensures.value, c.edges-edges.ensures.value) at c.grouped.ensures.rings)
 
 pub returns-clause-simple : goal.returns-clause-simple
 returns-clause-simple g c = IfOk-weaker c.grouped.result
@@ -43,4 +43,4 @@ returns-clause-simple g c = IfOk-weaker c.grouped.result
     (All-permutation (λ w. IsSound c.args.directed.now w.ring.items) c.in_ok-written.written.items c.sort_unstable_by_key.new.self.items c.sort_unstable_by_key.ensures.permutation
     (All-weaker (λ w. IsCanonical c.args.directed.now w.ring.items) (λ w. IsSound c.args.directed.now w.ring.items) (λ w k. k.sound) c.in_ok-written.written.items
     (unmapped (IsCanonical c.args.directed.now) (λ w. w.ring.items) c.in_ok-written.written.items (rw c.edges-edges.ensures.value at c.in_ok-written.ensures.sound)))) h)
-    (rw (c.deref.ensures.value, c.edges-edges.ensures.value) at c.grouped.ensures)
+    (rw (c.deref.ensures.value, c.edges-edges.ensures.value) at c.grouped.ensures.rings)

@@ -1,4 +1,3 @@
-use Rattle.polygonize.proofs.Assembled.{assembled}
 use Rattle.polygonize.specs.Number.{IsVertex}
 use Rattle.polygonize.specs.Next.{edge_at}
 use Rattle.polygonize.proofs.Mapping.{simple_map}
