@@ -31,3 +31,4 @@ pub mod OneRing
 pub mod OneOwner
 pub mod SameRings
 pub mod SamePolygons
+pub mod Owners

@@ -1,6 +1,6 @@
 -- Each directed edge is in one ring, and in one of its pieces; so a ring's least vertex and its first piece are one.
 use Rattle.std.proofs.Common.{◌≡◌, inl, inr, Bool, true, List, [], ◌∷◌, ◌++◌, refl, sym, ◌∙◌, subst, arith}
-use Rattle.std.specs.Prelude.{◌≢◌, ◌&&◌, Decides, Contains, flat_map, IsPermutation}
+use Rattle.std.specs.Prelude.{◌≢◌, ◌&&◌, Decides, AllPairs, Contains, flat_map, IsPermutation}
 use Rattle.std.proofs.lemmas.List.Elements.{All-contains, Contains-get_or}
 use Rattle.std.proofs.lemmas.List.Kept.{AllPairs-cons}
 use Rattle.std.proofs.lemmas.List.Sorted.{IsPermutation-sym}
@@ -55,12 +55,15 @@ same_edge_decides d e = (
 same_edge_flips : (d e : DirectedEdge) → same_edge d e ≡ same_edge e d
 same_edge_flips d e = one_answer (same_edge d e) (same_edge e d) (same_edge_decides d e) ((λ h. sym ((same_edge_decides e d).0 h)), (λ q. (same_edge_decides e d).1 (sym q)))
 
-directed_before_itself : (d : DirectedEdge) → IsDirectedBefore d d → ⊥
+pub directed_before_itself : (d : DirectedEdge) → IsDirectedBefore d d → ⊥
 directed_before_itself d (inl h) = before_itself d.from h
 directed_before_itself d (inr (e, h)) = before_itself d.to h
 
+ascending_simple : (directed : List DirectedEdge) → AllPairs IsDirectedBefore directed → IsSimple directed
+ascending_simple directed asc i j d l k e = directed_before_itself _ (subst (IsDirectedBefore _) (sym e) (asc i j d l k))
+
 pub directed_simple : (directed : List DirectedEdge) → AreDirected directed → IsSimple directed
-directed_simple directed a i j d l k e = directed_before_itself _ (subst (IsDirectedBefore _) (sym e) (a.ascending i j d l k))
+directed_simple directed a = ascending_simple directed a.ascending
 
 pub simple_permutation : (xs ys : List DirectedEdge) → IsPermutation xs ys → IsSimple xs → IsSimple ys
 simple_permutation xs ys p s = AllPairs-from_IsDistinct same_edge_decides ys (IsDistinct-IsPermutation same_edge same_edge_flips xs ys p (IsDistinct-from_AllPairs same_edge_decides xs s))
@@ -103,25 +106,29 @@ edges_of_one [] r i u = absurd i
 edges_of_one (t ∷ rings) r (inl e) u = subst (λ x. Distinct (ring_edges x)) e (distinct_front (ring_edges t) (flat_map ring_edges rings) u)
 edges_of_one (t ∷ rings) r (inr i) u = edges_of_one rings r i (distinct_back (ring_edges t) (flat_map ring_edges rings) u)
 
-pub edges_distinct : (directed : List DirectedEdge) (rings : List (List Pt)) → AreDirected directed → AreRings directed rings → Distinct (flat_map ring_edges rings)
-edges_distinct directed rings a r = simple_distinct (flat_map ring_edges rings) (simple_permutation directed (flat_map ring_edges rings) r.together (directed_simple directed a))
+edges_distinct : (directed : List DirectedEdge) (rings : List (List Pt)) → AllPairs IsDirectedBefore directed → AreRings directed rings → Distinct (flat_map ring_edges rings)
+edges_distinct directed rings asc r = simple_distinct (flat_map ring_edges rings) (simple_permutation directed (flat_map ring_edges rings) r.together (ascending_simple directed asc))
 
 distinct_simple : {X : Type 0} (xs : List X) → Distinct xs → IsSimple xs
 distinct_simple [] d = λ i j e l k. absurd (omega arith)
 distinct_simple {X} (x ∷ xs) d = AllPairs-cons (λ (p q : X). ¬ (p ≡ q)) x xs (λ k e l q. d.0 (contains_in xs x (subst (Contains xs) (sym q) (Contains-get_or xs k e l)))) (distinct_simple xs d.1)
 
 -- no edge is twice in a ring
-pub ring_distinct : (directed : List DirectedEdge) (rings : List (List Pt)) → AreDirected directed → AreRings directed rings → (r : List Pt) → Contains rings r → IsSimple (ring_edges r)
-ring_distinct directed rings a are r i = distinct_simple (ring_edges r) (edges_of_one rings r (contains_in rings r i) (edges_distinct directed rings a are))
+pub ring_simple : (directed : List DirectedEdge) (rings : List (List Pt)) → AllPairs IsDirectedBefore directed → AreRings directed rings → (r : List Pt) → Contains rings r → IsSimple (ring_edges r)
+ring_simple directed rings asc are r i = distinct_simple (ring_edges r) (edges_of_one rings r (contains_in rings r i) (edges_distinct directed rings asc are))
 
 pub one_ring : (directed : List DirectedEdge) (rings : List (List Pt)) → AreDirected directed → AreRings directed rings → (r s : List Pt) (d : DirectedEdge)
     → Contains rings r → Contains rings s → Contains (ring_edges r) d → Contains (ring_edges s) d → r ≡ s
-one_ring directed rings a are r s d = one_among rings (edges_distinct directed rings a are) r s d
+one_ring directed rings a are r s d = one_among rings (edges_distinct directed rings a.ascending are) r s d
+
+piece_of : (directed : List DirectedEdge) (rings : List (List Pt)) → AllPairs IsDirectedBefore directed → AreRings directed rings → (r : List Pt) → Contains rings r
+    → (pieces : List (List Pt)) → IsCut r pieces → (p q : List Pt) (d : DirectedEdge) → Contains pieces p → Contains pieces q → Contains (ring_edges p) d → Contains (ring_edges q) d → p ≡ q
+piece_of directed rings asc are r i pieces c p q d = one_among pieces
+    (simple_distinct (flat_map ring_edges pieces) (simple_permutation (ring_edges r) (flat_map ring_edges pieces) (cut_edges c) (ring_simple directed rings asc are r i))) p q d
 
 pub one_piece : (directed : List DirectedEdge) (rings : List (List Pt)) → AreDirected directed → AreRings directed rings → (r : List Pt) → Contains rings r
     → (pieces : List (List Pt)) → IsCut r pieces → (p q : List Pt) (d : DirectedEdge) → Contains pieces p → Contains pieces q → Contains (ring_edges p) d → Contains (ring_edges q) d → p ≡ q
-one_piece directed rings a are r i pieces c p q d = one_among pieces
-    (simple_distinct (flat_map ring_edges pieces) (simple_permutation (ring_edges r) (flat_map ring_edges pieces) (cut_edges c) (ring_distinct directed rings a are r i))) p q d
+one_piece directed rings a = piece_of directed rings a.ascending
 
 -- ---- the first piece
 pub opposite : (v a b : Pt) → side v a b ≡ neg_ℤ (side v b a)
@@ -139,9 +146,9 @@ one_start v a b f g (equal e) = e
 one_start v a b f g (before h) = absurd (not_both (side v b a) (side v a b) (opposite v b a) (f (λ e. before_itself a (subst (IsBefore a) e h))) (g (λ e. before_itself a (subst (IsBefore a) (sym e) h))))
 one_start v a b f g (after h) = absurd (not_both (side v b a) (side v a b) (opposite v b a) (f (λ e. before_itself b (subst (IsBefore b) (sym e) h))) (g (λ e. before_itself b (subst (IsBefore b) e h))))
 
-pub one_first : (directed : List DirectedEdge) (rings : List (List Pt)) → AreDirected directed → AreRings directed rings → (r : List Pt) → Contains rings r
+pub first_once : (directed : List DirectedEdge) (rings : List (List Pt)) → AllPairs IsDirectedBefore directed → AreRings directed rings → (r : List Pt) → Contains rings r
     → (pieces : List (List Pt)) → IsCut r pieces → (p q : List Pt) → Contains pieces p → Contains pieces q → IsFirstPiece r p → IsFirstPiece r q → p ≡ q
-one_first directed rings a are r i pieces c p q m n f g = one_piece directed rings a are r i pieces c p q (from_to f.from f.at) m n f.arrives
+first_once directed rings asc are r i pieces c p q m n f g = piece_of directed rings asc are r i pieces c p q (from_to f.from f.at) m n f.arrives
     (subst (λ d. Contains (ring_edges q) d) (joined (sym starts) (sym ends)) g.arrives)
   where
     ends : f.at ≡ g.at
@@ -159,6 +166,10 @@ one_first directed rings a are r i pieces c p q m n f g = one_piece directed rin
     starts : f.from ≡ g.from
     starts = one_start f.at f.from g.from (λ ne. f.greatest g.from (piece_edge r pieces c q n (from_to g.from f.at) at_first) ne)
         (λ ne. greatest_first f.from (piece_edge r pieces c p m (from_to f.from f.at) f.arrives) ne) (pt_order f.from g.from)
+
+pub one_first : (directed : List DirectedEdge) (rings : List (List Pt)) → AreDirected directed → AreRings directed rings → (r : List Pt) → Contains rings r
+    → (pieces : List (List Pt)) → IsCut r pieces → (p q : List Pt) → Contains pieces p → Contains pieces q → IsFirstPiece r p → IsFirstPiece r q → p ≡ q
+one_first directed rings a = first_once directed rings a.ascending
 
 -- ---- written pieces
 pub some_edge : (ring : List Pt) → ¬ (ring ≡ []) → (d : DirectedEdge) × In d (ring_edges ring)

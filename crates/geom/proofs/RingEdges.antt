@@ -1,5 +1,5 @@
 -- A ring's rotations and its pieces have its edges, each once.
-use Rattle.std.proofs.Common.{◌≡◌, inl, inr, List, [], ◌∷◌, ◌++◌, refl, sym, ◌∙◌, ap, subst, append_assoc}
+use Rattle.std.proofs.Common.{◌≡◌, inl, inr, List, [], ◌∷◌, ◌++◌, refl, sym, ◌∙◌, ap, subst, ⊎_elim, append_assoc}
 use Rattle.std.specs.Prelude.{Contains, flat_map, IsPermutation}
 use Rattle.std.proofs.lemmas.List.Sorted.{IsPermutation-refl, IsPermutation-sym, IsPermutation-trans, IsPermutation-append_comm, IsPermutation-append_left, IsPermutation-append_right, Contains-permutation}
 use Rattle.geom.specs.declared.point.Pt.{Pt}
@@ -8,7 +8,7 @@ use Rattle.geom.specs.ListOrder.{IsRotation}
 use Rattle.geom.specs.Directed.{from_to}
 use Rattle.geom.specs.Rings.{along, around, ring_edges, IsCut}
 use Rattle.geom.specs.Rings.IsCut.{whole, taken}
-use Rattle.geom.proofs.Lists.{In, contains_in, in_contains}
+use Rattle.geom.proofs.Lists.{In, contains_in, in_contains, in_append}
 
 append-nil : {X : Type 0} (xs : List X) → xs ++ [] ≡ xs
 append-nil [] = refl
@@ -20,11 +20,11 @@ along-append f x [] y zs z = refl
 along-append f x (w ∷ ys) y zs z = ap (λ t. f x w ∷ t) (along-append f w ys y zs z)
 
 -- the same list in another order
-same_order : {X : Type 0} (xs ys : List X) → xs ≡ ys → IsPermutation xs ys
+pub same_order : {X : Type 0} (xs ys : List X) → xs ≡ ys → IsPermutation xs ys
 same_order {X} xs ys e = let P : List X → Type 0 = λ t. IsPermutation xs t in subst P e (IsPermutation-refl xs)
 
 -- the middle list to the front
-to_front : {X : Type 0} (us vs ws : List X) → IsPermutation (us ++ (vs ++ ws)) (vs ++ (us ++ ws))
+pub to_front : {X : Type 0} (us vs ws : List X) → IsPermutation (us ++ (vs ++ ws)) (vs ++ (us ++ ws))
 to_front us vs ws = IsPermutation-trans _ _ _ (same_order (us ++ (vs ++ ws)) ((us ++ vs) ++ ws) (sym (append_assoc us vs ws)))
     (IsPermutation-trans _ _ _ (IsPermutation-append_left ws (us ++ vs) (vs ++ us) (IsPermutation-append_comm us vs)) (same_order ((vs ++ us) ++ ws) (vs ++ (us ++ ws)) (append_assoc vs us ws)))
 
@@ -76,6 +76,10 @@ pub in_flat : {X Y : Type 0} (f : X → List Y) (xs : List X) (x : X) (y : Y) �
 in_flat f [] x y i j = absurd i
 in_flat f (z ∷ xs) x y (inl e) j = in_front (f z) (flat_map f xs) y (subst (λ w. In y (f w)) (sym e) j)
 in_flat f (z ∷ xs) x y (inr i) j = in_back (f z) (flat_map f xs) y (in_flat f xs x y i j)
+
+pub flat_in : {X Y : Type 0} (f : X → List Y) (xs : List X) (y : Y) → In y (flat_map f xs) → (x : X) × In x xs × In y (f x)
+flat_in f [] y i = absurd i
+flat_in f (x ∷ xs) y i = ⊎_elim (λ j. (x, inl refl, j)) (λ j. let m = flat_in f xs y j in (m.0, inr m.1, m.2)) (in_append (f x) (flat_map f xs) y i)
 
 pub piece_edge : (ring : List Pt) (pieces : List (List Pt)) → IsCut ring pieces → (piece : List Pt) → Contains pieces piece → (d : DirectedEdge) → Contains (ring_edges piece) d → Contains (ring_edges ring) d
 piece_edge ring pieces c piece i d j = in_contains (ring_edges ring) d (in_permutation (flat_map ring_edges pieces) (ring_edges ring) d (IsPermutation-sym (ring_edges ring) (flat_map ring_edges pieces) (cut_edges c))

@@ -1,9 +1,9 @@
 -- The polygons of directed edges are one list.
 use Rattle.std.proofs.Common.{◌≡◌, List, [], sym, subst}
-use Rattle.std.specs.Prelude.{◌≢◌, Contains}
+use Rattle.std.specs.Prelude.{◌≢◌, AllPairs, Contains}
 use Rattle.geom.specs.declared.point.Pt.{Pt}
 use Rattle.geom.specs.declared.directed.DirectedEdge.{DirectedEdge}
-use Rattle.geom.specs.Directed.{AreDirected}
+use Rattle.geom.specs.Directed.{IsDirectedBefore}
 use Rattle.geom.specs.ListOrder.{IsListBefore, IsLeastRotation}
 use Rattle.geom.specs.Rings.{AreRings}
 use Rattle.geom.specs.Holes.{IsShell}
@@ -12,7 +12,7 @@ use Rattle.geom.proofs.Lists.{contains_in}
 use Rattle.geom.proofs.ListOrder.{list_before_itself, list_before_trans, same_ascending}
 use Rattle.geom.proofs.OneCut.{one_cut}
 use Rattle.geom.proofs.OneRotation.{one_rotation}
-use Rattle.geom.proofs.OneRing.{one_first}
+use Rattle.geom.proofs.OneRing.{first_once}
 use Rattle.geom.proofs.SameRings.{same_rings}
 
 -- ---- no ring is empty, since its polygon has a first piece at its least vertex
@@ -26,7 +26,7 @@ none_empty : (directed : List DirectedEdge) (ps : List Shape) (are : ArePolygons
 none_empty directed ps are i = let m = are.each [] i empty_shell in no_polygon directed are.rings m.0 m.2
 
 -- ---- the polygon of a shell
-module _ (directed : List DirectedEdge) (a : AreDirected directed) where
+module _ (directed : List DirectedEdge) (asc : AllPairs IsDirectedBefore directed) where
   pub same_polygon : (rings : List (List Pt)) → AreRings directed rings → (shell : List Pt) → Contains rings shell → (p q : Shape) → IsPolygon directed rings shell p → IsPolygon directed rings shell q → p ≡ q
   same_polygon rings are shell i p q m n = joined same_shell same_holes
     where
@@ -37,7 +37,7 @@ module _ (directed : List DirectedEdge) (a : AreDirected directed) where
       pieces = one_cut m.cut n.cut
 
       piece : m.piece ≡ n.piece
-      piece = one_first directed rings a are shell i m.pieces m.cut m.piece n.piece m.one (subst (λ (l : List (List Pt)). Contains l n.piece) (sym pieces) n.one) m.first n.first
+      piece = first_once directed rings asc are shell i m.pieces m.cut m.piece n.piece m.one (subst (λ (l : List (List Pt)). Contains l n.piece) (sym pieces) n.one) m.first n.first
 
       same_shell : p.shell ≡ q.shell
       same_shell = one_rotation m.piece p.shell q.shell m.least (subst (λ (x : List Pt). IsLeastRotation x q.shell) (sym piece) n.least)
@@ -64,4 +64,4 @@ module _ (directed : List DirectedEdge) (a : AreDirected directed) where
       (also_in ps qs m n rings) (also_in qs ps n m (sym rings))
     where
       rings : m.rings ≡ n.rings
-      rings = same_rings directed a m.rings n.rings m.are_rings n.are_rings (none_empty directed ps m) (none_empty directed qs n)
+      rings = same_rings directed asc m.rings n.rings m.are_rings n.are_rings (none_empty directed ps m) (none_empty directed qs n)

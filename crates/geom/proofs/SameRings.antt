@@ -1,6 +1,6 @@
 -- The rings of directed edges are one list: each edge is followed by one edge, so two rings with a common edge are one.
 use Rattle.std.proofs.Common.{◌≡◌, ◌⊎◌, inl, inr, List, [], ◌∷◌, ◌++◌, map, refl, sym, ◌∙◌, ap, subst, ⊎_elim, arith}
-use Rattle.std.specs.Prelude.{◌≢◌, All, Contains, flat_map, IsPermutation}
+use Rattle.std.specs.Prelude.{◌≢◌, All, AllPairs, Contains, flat_map, IsPermutation}
 use Rattle.std.proofs.lemmas.List.{map-append}
 use Rattle.std.proofs.lemmas.List.Elements.{All-nil, All-cons, All-head, All-tail, All-contains}
 use Rattle.std.proofs.lemmas.List.Sorted.{IsPermutation-sym, All-permutation}
@@ -11,7 +11,7 @@ use Rattle.geom.specs.declared.point.Pt.{Pt}
 use Rattle.geom.specs.declared.directed.DirectedEdge.{DirectedEdge}
 use Rattle.geom.specs.Order.{IsBefore}
 use Rattle.geom.specs.Determinant.{side}
-use Rattle.geom.specs.Directed.{from_to, AreDirected}
+use Rattle.geom.specs.Directed.{from_to, IsDirectedBefore}
 use Rattle.geom.specs.ListOrder.{IsListBefore, IsRotation, IsLeastRotation}
 use Rattle.geom.specs.Rings.{IsSooner, IsMetBefore, IsNext, along, around, ring_edges, Corner, corner, corners, Follows, AreRings}
 use Rattle.geom.proofs.Edges.{PtOrder, pt_order, before_strict}
@@ -21,15 +21,15 @@ use Rattle.geom.proofs.Orders.{before_itself}
 use Rattle.geom.proofs.ListOrder.{list_before_itself, list_before_trans, neither_list_before, same_ascending}
 use Rattle.geom.proofs.OneCut.{simple_distinct}
 use Rattle.geom.proofs.OneRotation.{rotation_back, rotation_trans}
-use Rattle.geom.proofs.OneRing.{opposite, some_edge, ring_distinct}
-use Rattle.geom.proofs.RingEdges.{around-rotation, in_permutation, in_flat}
+use Rattle.geom.proofs.OneRing.{opposite, some_edge, ring_simple}
+use Rattle.geom.proofs.RingEdges.{around-rotation, in_permutation, in_flat, flat_in}
 
 -- ---- the next vertex is one
 not_both : (a b : ℤ) → a ≡ neg_ℤ b → a <ℤ pos 0 → b <ℤ pos 0 → ⊥
 not_both a b h i j = omega (arith, ints)
 
 -- no two points are each met sooner than the other
-not_sooner : (v a b : Pt) → IsSooner v a b → IsSooner v b a → ⊥
+pub not_sooner : (v a b : Pt) → IsSooner v a b → IsSooner v b a → ⊥
 not_sooner v a b (inl (h, k)) (inl (l, m)) = before_strict v a h m
 not_sooner v a b (inl (h, k)) (inr (inl (l, m), n)) = before_strict b v k l
 not_sooner v a b (inl (h, k)) (inr (inr (l, m), n)) = before_strict v a h m
@@ -109,12 +109,12 @@ starts : (ring : List Pt) → map (λ (e : DirectedEdge). e.from) (ring_edges ri
 starts [] = refl
 starts (x ∷ xs) = starts_along x xs x
 
-record Split {X : Type 0} (x : X) (xs : List X) : Type 0 where
-  front : List X
-  back : List X
-  is : xs ≡ front ++ x ∷ back
+pub record Split {X : Type 0} (x : X) (xs : List X) : Type 0 where
+  pub front : List X
+  pub back : List X
+  pub is : xs ≡ front ++ x ∷ back
 
-split_at : {X : Type 0} (x : X) (xs : List X) → In x xs → Split x xs
+pub split_at : {X : Type 0} (x : X) (xs : List X) → In x xs → Split x xs
 split_at x [] i = absurd i
 split_at x (y ∷ ys) (inl e) = record { front = []; back = ys; is = ap (λ t. t ∷ ys) e }
 split_at x (y ∷ ys) (inr i) = let s = split_at x ys i in record { front = y ∷ s.front; back = s.back; is = ap (λ t. y ∷ t) s.is }
@@ -177,29 +177,20 @@ same_begun directed r s d ds es b c = rotation_trans r (map (λ (e : DirectedEdg
     (rotation_back s (map (λ (e : DirectedEdge). e.from) (d ∷ es)) c.rotation)
 
 -- ---- the rings
-module _ (directed : List DirectedEdge) (a : AreDirected directed) where
+module _ (directed : List DirectedEdge) (asc : AllPairs IsDirectedBefore directed) where
   same_ring : (rs ts : List (List Pt)) → AreRings directed rs → AreRings directed ts → (r s : List Pt) (d : DirectedEdge) → Contains rs r → Contains ts s → In d (ring_edges r) → In d (ring_edges s) → r ≡ s
   same_ring rs ts ar at r s d i j k l =
-      let b = begun directed r d (All-contains (λ ring. All (Follows directed) (corners ring)) rs r ar.follow i) (simple_distinct (ring_edges r) (ring_distinct directed rs a ar r i)) k in
-      let c = begun directed s d (All-contains (λ ring. All (Follows directed) (corners ring)) ts s at.follow j) (simple_distinct (ring_edges s) (ring_distinct directed ts a at s j)) l in
+      let b = begun directed r d (All-contains (λ ring. All (Follows directed) (corners ring)) rs r ar.follow i) (simple_distinct (ring_edges r) (ring_simple directed rs asc ar r i)) k in
+      let c = begun directed s d (All-contains (λ ring. All (Follows directed) (corners ring)) ts s at.follow j) (simple_distinct (ring_edges s) (ring_simple directed ts asc at s j)) l in
       let turned : IsRotation r s = same_begun directed r s d b.0 c.0 b.1 c.1 in
       neither_list_before r s (λ h. (All-contains (λ ring. IsLeastRotation ring ring) ts s at.least j).none_less r (rotation_back r s turned) h)
       (λ h. (All-contains (λ ring. IsLeastRotation ring ring) rs r ar.least i).none_less s turned h)
-
-  flat_in : (rings : List (List Pt)) (d : DirectedEdge) → In d (flat_map ring_edges rings) → (r : List Pt) × In r rings × In d (ring_edges r)
-  flat_in [] d i = absurd i
-  flat_in (r ∷ rings) d i = ⊎_elim (λ j. (r, inl refl, j)) (λ j. let m = flat_in rings d j in (m.0, inr m.1, m.2)) (either (ring_edges r) i)
-    where
-      either : (xs : List DirectedEdge) → In d (xs ++ flat_map ring_edges rings) → In d xs ⊎ In d (flat_map ring_edges rings)
-      either [] i = inr i
-      either (x ∷ xs) (inl e) = inl (inl e)
-      either (x ∷ xs) (inr i) = ⊎_elim (λ j. inl (inr j)) (λ j. inr j) (either xs i)
 
   -- a ring of the one list is in the other
   also_in : (rs ts : List (List Pt)) → AreRings directed rs → AreRings directed ts → (r : List Pt) → ¬ (r ≡ []) → Contains rs r → Contains ts r
   also_in rs ts ar at r n i =
       let e = some_edge r n in
-      let m = flat_in ts e.0 (in_permutation directed (flat_map ring_edges ts) e.0 at.together (in_permutation (flat_map ring_edges rs) directed e.0 (IsPermutation-sym directed (flat_map ring_edges rs) ar.together) (in_flat ring_edges rs r e.0 (contains_in rs r i) e.1))) in
+      let m = flat_in ring_edges ts e.0 (in_permutation directed (flat_map ring_edges ts) e.0 at.together (in_permutation (flat_map ring_edges rs) directed e.0 (IsPermutation-sym directed (flat_map ring_edges rs) ar.together) (in_flat ring_edges rs r e.0 (contains_in rs r i) e.1))) in
       subst (Contains ts) (sym (same_ring rs ts ar at r m.0 e.0 i (in_contains ts m.0 m.1) e.1 m.2)) (in_contains ts m.0 m.1)
 
   pub same_rings : (rs ts : List (List Pt)) → AreRings directed rs → AreRings directed ts → ¬ (Contains rs []) → ¬ (Contains ts []) → rs ≡ ts

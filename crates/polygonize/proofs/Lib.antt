@@ -29,5 +29,8 @@ pub mod Places
 pub mod Openings
 pub mod Entries
 pub mod Assembled
+pub mod Neighbours
+pub mod Holes
+pub mod Nearness
 pub mod PlacedRings
 pub mod Ordered

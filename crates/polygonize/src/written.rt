@@ -1,14 +1,12 @@
 //! The rings of the result as they are written, each with its place in the order of the text.
 
-ghost use Rattle.std.specs.Prelude.{◌≡◌, ◌<◌, ◌≤◌, [], List, All, IfOk, OnOk, length, map};
+ghost use Rattle.std.specs.Prelude.{◌≡◌, ◌<◌, ◌≤◌, [], All, IfOk, OnOk, length, map, slice_index_or};
+ghost use Rattle.geom.specs.Directed.{AreDirected};
 ghost use Rattle.geom.specs.Limit.{AreInLimit};
-ghost use Rattle.geom.specs.declared.point.Pt.{Pt};
-ghost use Rattle.geom.specs.Holes.{AreGrounded};
 ghost use Rattle.geom.specs.Rings.{AreRings, Closes};
 ghost use Rattle.polygonize.specs.Below.{AreStrips};
 ghost use Rattle.polygonize.specs.Number.{AreNumbers, IsVertex};
 ghost use Rattle.polygonize.specs.Next.{ring_of};
-ghost use Rattle.polygonize.specs.Placed.{AreWritten};
 ghost use Rattle.polygonize.specs.Stack.{AreStacked};
 ghost use Rattle.polygonize.specs.Written.{AreAdded, ArePlaces, HaveEdges, IsCanonical, IsRingWritten, IsSound};
 
@@ -91,12 +89,14 @@ fn owner_of<A: Allocator + Copy>(
     ring: &[usize],
     shell_of: &[Option<Opening>],
 ) -> Result<Option<Opening>, NoMemory>
+    requires directed { AreDirected edges.now }
     requires edges_in { All (λ d. AreInLimit d.from d.to) edges.now }
     requires some { 0 < length ring.now }
-    requires inside { All (λ k. k < length edges.now) ring.now }
+    requires vertices { All (IsVertex edges.now) ring.now }
+    requires least { All (λ k. slice_index_or ring.now 0 0 ≤ k) ring.now }
     requires same_length { length shell_of.now ≡ length edges.now }
-    requires strips { AreStrips edges.now strips.old.strips strips.old.numbers.items }
-    ensures { OnOk result (AreStrips edges.now strips.new.strips strips.new.numbers.items) }
+    requires strips { AreStrips edges.now strips.old.strips strips.old.filled strips.old.numbers.items }
+    ensures { OnOk result (AreStrips edges.now strips.new.strips strips.new.filled strips.new.numbers.items) }
 {
     if !is_hole(edges, ring) {
         return Ok(None);
@@ -127,14 +127,15 @@ fn write_ring<A: Allocator + Copy>(
     shell_of: &mut [Option<Opening>],
     written: &mut Vec<Written<A>, A>,
 ) -> Result<(), NoMemory>
+    requires closes { Closes edges.now }
     requires edges_in { All (λ d. AreInLimit d.from d.to) edges.now }
     requires numbers { AreNumbers edges.now numbers.now }
     requires cycle { ArePlaces edges.now cycle.now }
     requires places { length places.old ≡ length edges.now }
     requires shells { length shell_of.old ≡ length edges.now }
     requires clear { AreStacked [] places.old }
-    requires strips { AreStrips edges.now strips.old.strips strips.old.numbers.items }
-    ensures strips { OnOk result (AreStrips edges.now strips.new.strips strips.new.numbers.items) }
+    requires strips { AreStrips edges.now strips.old.strips strips.old.filled strips.old.numbers.items }
+    ensures strips { OnOk result (AreStrips edges.now strips.new.strips strips.new.filled strips.new.numbers.items) }
     ensures written { OnOk result (IsRingWritten edges.now cycle.now (map (λ w. w.ring.items) written.old.items) (map (λ w. w.ring.items) written.new.items)) }
     ensures clear { OnOk result (AreStacked [] places.new) }
 {
@@ -156,6 +157,7 @@ fn write_cycles<A: Allocator + Copy>(
     places: &mut [Option<usize>],
     shell_of: &mut [Option<Opening>],
 ) -> Result<Vec<Written<A>, A>, NoMemory>
+    requires closes { Closes edges.now }
     requires edges_in { All (λ d. AreInLimit d.from d.to) edges.now }
     requires numbers { AreNumbers edges.now numbers.now }
     requires cycles { All (λ c. ArePlaces edges.now c.items) cycles.now }
@@ -163,7 +165,7 @@ fn write_cycles<A: Allocator + Copy>(
     requires places { length places.old ≡ length edges.now }
     requires shells { length shell_of.old ≡ length edges.now }
     requires clear { AreStacked [] places.old }
-    requires strips { AreStrips edges.now strips.old.strips strips.old.numbers.items }
+    requires strips { AreStrips edges.now strips.old.strips strips.old.filled strips.old.numbers.items }
     ensures edges { IfOk result (λ written. HaveEdges edges.now (map (λ w. w.ring.items) written.items)) }
     ensures sound { IfOk result (λ written. All (IsCanonical edges.now) (map (λ w. w.ring.items) written.items)) }
 {
@@ -192,7 +194,7 @@ pub fn written_rings<A: Allocator + Copy>(
     requires edges_in { All (λ d. AreInLimit d.from d.to) edges.now }
     ensures edges { IfOk result (λ written. HaveEdges edges.now (map (λ w. w.ring.items) written.items)) }
     ensures sound { IfOk result (λ written. All (IsCanonical edges.now) (map (λ w. w.ring.items) written.items)) }
-    ensures written { ((rings : List (List Pt)) → AreRings edges.now rings → AreGrounded edges.now rings) → IfOk result (λ written. (rings : List (List Pt)) × AreWritten edges.now rings (map (λ w. record { place = w.place; ring = w.ring.items }) written.items)) }
+    ensures written { AreNodedEdges edges.now → ((rings : List (List Pt)) → AreRings edges.now rings → AreGrounded edges.now rings) → IfOk result (λ written. (rings : List (List Pt)) × AreWritten edges.now rings (map (λ w. record { place = w.place; ring = w.ring.items }) written.items)) }
 {
     let numbers = start_numbers(alloc, edges)?;
     let cycles = ring_places(alloc, edges)?;

@@ -5,4 +5,4 @@ use Rattle.polygonize.proofs.Writing.{Writing}
 use Rattle.polygonize.proofs.written.write_cycles.Given as goal
 
 abbrev pub invariant-loop-cycle : goal.invariant-loop-cycle
-invariant-loop-cycle g l = AreStacked [] l.places × Writing l.edges (map (λ c. c.items) l.cycles) l.cycle-index (map (λ w. w.ring.items) l.written.items) × AreStrips l.edges l.strips.strips l.strips.numbers.items
+invariant-loop-cycle g l = AreStacked [] l.places × Writing l.edges (map (λ c. c.items) l.cycles) l.cycle-index (map (λ w. w.ring.items) l.written.items) × AreStrips l.edges l.strips.strips l.strips.filled l.strips.numbers.items
