@@ -23,3 +23,12 @@ pub mod Steps
 pub mod Meaning
 pub mod Examples
 pub mod Around
+pub mod ListOrder
+pub mod OneRotation
+pub mod OneCut
+pub mod RingEdges
+pub mod OneRing
+pub mod OneOwner
+pub mod SameRings
+pub mod SamePolygons
+pub mod Owners

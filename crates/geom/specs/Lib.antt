@@ -18,6 +18,7 @@ pub mod Laws
 pub mod Words
 pub mod Fault
 pub mod Directed
+pub mod NodedEdges
 pub mod ListOrder
 pub mod Rings
 pub mod Holes

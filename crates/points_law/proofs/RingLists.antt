@@ -1,7 +1,5 @@
 -- Which points and edges the corners of a ring have.
-use Rattle.std.proofs.Common.{◌≡◌, ◌⊎◌, inl, inr, false, List, [], ◌∷◌, ◌++◌, refl, sym, subst, ⊎_elim}
-use Rattle.std.specs.List.{flat_map}
-use Rattle.std.proofs.lemmas.List.Concat.{flat_map-cons}
+use Rattle.std.proofs.Common.{◌≡◌, ◌⊎◌, inl, inr, false, List, [], ◌∷◌, refl, sym, subst, ⊎_elim}
 use Rattle.geom.specs.declared.point.Pt.{Pt}
 use Rattle.geom.specs.Order.{IsBefore}
 use Rattle.geom.specs.Rings.{along, around}
@@ -37,20 +35,6 @@ pub in_around : {X Y : Type 0} (f : X → X → Y) (xs : List X) (t : Y) → In 
 in_around f [] t i = absurd i
 in_around f (x ∷ xs) t i = let m = in_along f x xs x t i in
     record { first = m.first; second = m.second; is = m.is; first_in = m.first_in; second_in = ⊎_elim (λ j. inr j) (λ e. inl e) m.second_in }
-
-in_front : {X : Type 0} (xs ys : List X) (x : X) → In x xs → In x (xs ++ ys)
-in_front [] ys x i = absurd i
-in_front (y ∷ xs) ys x (inl e) = inl e
-in_front (y ∷ xs) ys x (inr i) = inr (in_front xs ys x i)
-
-in_back : {X : Type 0} (xs ys : List X) (x : X) → In x ys → In x (xs ++ ys)
-in_back [] ys x i = i
-in_back (y ∷ xs) ys x i = inr (in_back xs ys x i)
-
-pub in_flat : {X Y : Type 0} (f : X → List Y) (xs : List X) (x : X) (y : Y) → In x xs → In y (f x) → In y (flat_map f xs)
-in_flat f [] x y i j = absurd i
-in_flat f (z ∷ xs) x y (inl e) j = subst (λ (l : List _). In y l) (sym (flat_map-cons f z xs)) (in_front (f z) (flat_map f xs) y (subst (λ w. In y (f w)) (sym e) j))
-in_flat f (z ∷ xs) x y (inr i) j = subst (λ (l : List _). In y l) (sym (flat_map-cons f z xs)) (in_back (f z) (flat_map f xs) y (in_flat f xs x y i j))
 
 -- ---- of two points one is before the other, or they are one
 pub compare : (p q : Pt) → (p ≡ q) ⊎ (IsBefore p q ⊎ IsBefore q p)

@@ -19,11 +19,13 @@ use Rattle.geom.specs.Order.{IsBefore}
 use Rattle.geom.specs.Parity as geom
 use Rattle.geom.specs.Pixel.{Point}
 use Rattle.geom.specs.ResultEdges.{holds_at, left_side, right_side}
-use Rattle.geom.specs.Rings.{IsSooner, IsMetBefore, IsNext, Closes, Corner, corner, corners, ring_edges, Follows, AreRings}
+use Rattle.geom.specs.Rings.{IsMetBefore, IsNext, Closes, Corner, corner, corners, ring_edges, Follows, AreRings}
 use Rattle.geom.specs.Rounded.{edges_of}
 use Rattle.geom.proofs.Edges.{before_strict}
-use Rattle.geom.proofs.Integers.{expand, linear}
 use Rattle.geom.proofs.Lists.{In, contains_in, in_contains}
+use Rattle.geom.proofs.RingEdges.{in_flat}
+use Rattle.geom.proofs.OneRing.{opposite}
+use Rattle.geom.proofs.SameRings.{not_sooner}
 use Rattle.points_law.specs.Law.{AreLayers}
 use Rattle.points_law.proofs.Choices.{Even, is, covers, parity}
 use Rattle.points_law.proofs.ResultOfChoices.{Edges}
@@ -36,27 +38,9 @@ use Rattle.points_law.proofs.Spokes.{Joins, spoke, joins_ends, one_edge, not_loo
 use Rattle.points_law.proofs.FirstMet.{none_between}
 use Rattle.points_law.proofs.Directions.{Bounds, Arrival, Link, arrives, link, neighbour, one_way, spread, turns}
 use Rattle.points_law.proofs.EdgeBelow.{NearestOf, nearest_below, begins_left}
-use Rattle.points_law.proofs.RingLists.{Pair, in_around, in_flat, before_other, neither_before}
+use Rattle.points_law.proofs.RingLists.{Pair, in_around, before_other, neither_before}
 
 -- ---- one to one
-opposite : (v a b : Pt) → side v a b ≡ neg_ℤ (side v b a)
-opposite v a b = over v.x v.y a.x a.y b.x b.y
-  where
-    over : (vx vy ax ay bx by : ℤ) → ((ax -ℤ vx) *ℤ (by -ℤ vy)) -ℤ ((ay -ℤ vy) *ℤ (bx -ℤ vx)) ≡ neg_ℤ (((bx -ℤ vx) *ℤ (ay -ℤ vy)) -ℤ ((by -ℤ vy) *ℤ (ax -ℤ vx)))
-    over vx vy ax ay bx by = simp expand (omega (arith, linear))
-
-not_both_below : (a b : ℤ) → a ≡ neg_ℤ b → a <ℤ pos 0 → b <ℤ pos 0 → ⊥
-not_both_below a b h i j = omega (arith, ints)
-
--- no two points are each met sooner than the other
-not_sooner : (v a b : Pt) → IsSooner v a b → IsSooner v b a → ⊥
-not_sooner v a b (inl (h, k)) (inl (l, m)) = before_strict v a h m
-not_sooner v a b (inl (h, k)) (inr (inl (l, m), n)) = before_strict b v k l
-not_sooner v a b (inl (h, k)) (inr (inr (l, m), n)) = before_strict v a h m
-not_sooner v a b (inr (inl (h, k), n)) (inl (l, m)) = before_strict v a h m
-not_sooner v a b (inr (inr (h, k), n)) (inl (l, m)) = before_strict b v k l
-not_sooner v a b (inr (s, n)) (inr (t, m)) = not_both_below (side v a b) (side v b a) (opposite v a b) n m
-
 -- if w is met before u from t, then w is not met before t from u
 not_met : (v t u w : Pt) → IsMetBefore v t w u → IsMetBefore v u w t → ⊥
 not_met v t u w (inl (tw, wu)) (inl (uw, wt)) = not_sooner v t w tw wt

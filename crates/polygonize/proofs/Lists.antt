@@ -1,83 +1,12 @@
--- Neighbouring elements along and round lists; membership.
-use Rattle.std.proofs.Common.{◌≡◌, ◌⊎◌, ℕ, zero, suc, ◌<◌, List, [], ◌∷◌, ◌++◌, length, get_or, refl, sym, ◌∙◌, ap, subst, inl, inr, append_assoc, arith}
-use Rattle.std.specs.Prelude.{Contains, IsPermutation}
-use Rattle.std.proofs.lemmas.List.Sorted.{IsPermutation-refl, IsPermutation-sym, IsPermutation-trans, IsPermutation-append_comm, IsPermutation-append_left, IsPermutation-cons, IsPermutation-middle, Contains-permutation}
-use Rattle.geom.proofs.Lists.{In, Distinct, contains_in, in_contains}
-use Rattle.geom.specs.Rings.{along, around}
-
--- ---- along and round
-pub along-append : {X Y : Type 0} (f : X → X → Y) (x : X) (ys : List X) (y : X) (zs : List X) (z : X) → along f x (ys ++ y ∷ zs) z ≡ along f x ys y ++ along f y zs z
-along-append f x [] y zs z = refl
-along-append f x (w ∷ ys) y zs z = ap (λ t. f x w ∷ t) (along-append f w ys y zs z)
-
--- the same list in another order
-pub same_order : {X : Type 0} (xs ys : List X) → xs ≡ ys → IsPermutation xs ys
-same_order {X} xs ys e = let P : List X → Type 0 = λ t. IsPermutation xs t in subst P e (IsPermutation-refl xs)
-
--- the middle list to the front
-pub to_front : {X : Type 0} (us vs ws : List X) → IsPermutation (us ++ (vs ++ ws)) (vs ++ (us ++ ws))
-to_front us vs ws = IsPermutation-trans _ _ _ (same_order (us ++ (vs ++ ws)) ((us ++ vs) ++ ws) (sym (append_assoc us vs ws)))
-    (IsPermutation-trans _ _ _ (IsPermutation-append_left ws (us ++ vs) (vs ++ us) (IsPermutation-append_comm us vs)) (same_order ((vs ++ us) ++ ws) (vs ++ (us ++ ws)) (append_assoc vs us ws)))
-
--- a ring begun elsewhere has the same neighbours
-pub around-rotation : {X Y : Type 0} (f : X → X → Y) (front back : List X) → IsPermutation (around f (front ++ back)) (around f (back ++ front))
-around-rotation f [] back = same_order (around f back) (around f (back ++ [])) (ap (around f) (sym (append-nil back)))
-  where
-    append-nil : {X : Type 0} (xs : List X) → xs ++ [] ≡ xs
-    append-nil [] = refl
-    append-nil (x ∷ xs) = ap (λ t. x ∷ t) (append-nil xs)
-around-rotation f (x ∷ xs) [] = same_order (around f ((x ∷ xs) ++ [])) (around f (x ∷ xs)) (ap (around f) (append-nil (x ∷ xs)))
-  where
-    append-nil : {X : Type 0} (xs : List X) → xs ++ [] ≡ xs
-    append-nil [] = refl
-    append-nil (x ∷ xs) = ap (λ t. x ∷ t) (append-nil xs)
-around-rotation f (x ∷ xs) (y ∷ ys) = IsPermutation-trans _ _ _ (same_order (around f ((x ∷ xs) ++ y ∷ ys)) (along f x xs y ++ along f y ys x) (along-append f x xs y ys x))
-    (IsPermutation-trans _ _ _ (IsPermutation-append_comm (along f x xs y) (along f y ys x)) (same_order (along f y ys x ++ along f x xs y) (around f ((y ∷ ys) ++ x ∷ xs)) (sym (along-append f y ys x xs y))))
-
--- a ring that visits v twice falls into two
-pub around-cut : {X Y : Type 0} (f : X → X → Y) (front : List X) (v : X) (mid back : List X)
-    → IsPermutation (around f ((front ++ v ∷ mid) ++ v ∷ back)) (around f (v ∷ mid) ++ around f (front ++ v ∷ back))
-around-cut f [] v mid back = same_order (around f ((v ∷ mid) ++ v ∷ back)) (around f (v ∷ mid) ++ around f (v ∷ back)) (along-append f v mid v back v)
-around-cut f (x ∷ xs) v mid back =
-    IsPermutation-trans _ _ _ (same_order (along f x ((xs ++ v ∷ mid) ++ v ∷ back) x) (along f x xs v ++ (along f v mid v ++ along f v back x)) split)
-    (IsPermutation-trans _ _ _ (to_front (along f x xs v) (along f v mid v) (along f v back x))
-    (same_order (along f v mid v ++ (along f x xs v ++ along f v back x)) (along f v mid v ++ along f x (xs ++ v ∷ back) x) (ap (λ t. along f v mid v ++ t) (sym (along-append f x xs v back x)))))
-  where
-    split : along f x ((xs ++ v ∷ mid) ++ v ∷ back) x ≡ along f x xs v ++ (along f v mid v ++ along f v back x)
-    split = along-append f x (xs ++ v ∷ mid) v back x ∙ ap (λ t. t ++ along f v back x) (along-append f x xs v mid v) ∙ append_assoc (along f x xs v) (along f v mid v) (along f v back x)
-
--- ---- membership
-pub in_permutation : {X : Type 0} (xs ys : List X) (x : X) → IsPermutation xs ys → In x xs → In x ys
-in_permutation xs ys x p i = contains_in ys x (Contains-permutation xs ys x p (in_contains xs x i))
-
-pub in_left : {X : Type 0} (xs ys : List X) (x : X) → In x xs → In x (xs ++ ys)
-in_left [] ys x i = absurd i
-in_left (z ∷ xs) ys x (inl e) = inl e
-in_left (z ∷ xs) ys x (inr i) = inr (in_left xs ys x i)
-
-pub in_right : {X : Type 0} (xs ys : List X) (x : X) → In x ys → In x (xs ++ ys)
-in_right [] ys x i = i
-in_right (z ∷ xs) ys x i = inr (in_right xs ys x i)
-
-pub in_either : {X : Type 0} (xs ys : List X) (x : X) → In x (xs ++ ys) → In x xs ⊎ In x ys
-in_either [] ys x i = inr i
-in_either (z ∷ xs) ys x (inl e) = inl (inl e)
-in_either {X} (z ∷ xs) ys x (inr i) = further (in_either xs ys x i)
-  where
-    further : In x xs ⊎ In x ys → In x (z ∷ xs) ⊎ In x ys
-    further (inl j) = inl (inr j)
-    further (inr j) = inr j
-
--- x stands somewhere
-pub record Split {X : Type 0} (x : X) (xs : List X) : Type 0 where
-  pub front : List X
-  pub back : List X
-  pub is : xs ≡ front ++ x ∷ back
-
-pub split_at : {X : Type 0} (x : X) (xs : List X) → In x xs → Split x xs
-split_at x [] i = absurd i
-split_at x (y ∷ ys) (inl e) = record { front = []; back = ys; is = ap (λ t. t ∷ ys) e }
-split_at x (y ∷ ys) (inr i) = let s = split_at x ys i in record { front = y ∷ s.front; back = s.back; is = ap (λ t. y ∷ t) s.is }
+-- Lists whose elements are different; what `geom` has on neighbours and members.
+use Rattle.std.proofs.Common.{List, [], ◌∷◌, ◌++◌, refl, sym, subst, inl, inr}
+use Rattle.std.specs.Prelude.{IsPermutation}
+use Rattle.std.proofs.lemmas.List.Sorted.{IsPermutation-refl, IsPermutation-sym, IsPermutation-trans, IsPermutation-cons, IsPermutation-middle}
+use Rattle.geom.proofs.Lists.{In, Distinct}
+pub use Rattle.geom.proofs.RingEdges.{along-append, same_order, to_front, around-rotation, around-cut, in_permutation}
+pub use Rattle.geom.proofs.RingEdges.{in_front as in_left, in_back as in_right}
+pub use Rattle.geom.proofs.Lists.{in_append as in_either}
+pub use Rattle.geom.proofs.SameRings.{Split, split_at}
 
 -- ---- no element twice
 pub distinct_drop : {X : Type 0} (front : List X) (x : X) (back : List X) → Distinct (front ++ x ∷ back) → ¬ (In x (front ++ back)) × Distinct (front ++ back)

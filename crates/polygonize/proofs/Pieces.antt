@@ -1,31 +1,15 @@
 -- The pieces of a ring have its edges, each once, visit no vertex twice, and have three points or more.
 use Rattle.std.proofs.Common.{◌≡◌, ℕ, suc, ◌≤◌, List, [], ◌∷◌, ◌++◌, length, refl, sym, ap, inl, inr, arith}
-use Rattle.std.specs.Prelude.{flat_map, IsPermutation, count_by, Bool}
-use Rattle.std.proofs.lemmas.List.Sorted.{IsPermutation-sym, IsPermutation-trans, IsPermutation-append_right, sum_by-IsPermutation}
+use Rattle.std.specs.Prelude.{flat_map, count_by, Bool}
+use Rattle.std.proofs.lemmas.List.Sorted.{IsPermutation-sym, IsPermutation-trans, sum_by-IsPermutation}
 use Rattle.geom.specs.declared.point.Pt.{Pt}
 use Rattle.geom.specs.declared.directed.DirectedEdge.{DirectedEdge}
-use Rattle.geom.specs.ListOrder.{IsRotation}
 use Rattle.geom.specs.Directed.{from_to}
 use Rattle.geom.specs.Rings.{ring_edges, IsCut, AreRings}
 use Rattle.geom.specs.Rings.IsCut.{whole, taken}
-use Rattle.polygonize.proofs.Lists.{same_order, around-rotation, around-cut, in_permutation, in_left, in_right}
+use Rattle.polygonize.proofs.Lists.{same_order, around-cut, in_permutation, in_left, in_right}
 use Rattle.geom.proofs.Lists.{In}
-
-append-nil : {X : Type 0} (xs : List X) → xs ++ [] ≡ xs
-append-nil [] = refl
-append-nil (x ∷ xs) = ap (λ t. x ∷ t) (append-nil xs)
-
-pub rotated_edges : (ring turned : List Pt) → IsRotation ring turned → IsPermutation (ring_edges ring) (ring_edges turned)
-rotated_edges ring turned r = IsPermutation-trans _ _ _ (same_order (ring_edges ring) (ring_edges (r.front ++ r.back)) (ap ring_edges r.was))
-    (IsPermutation-trans _ _ _ (around-rotation from_to r.front r.back) (same_order (ring_edges (r.back ++ r.front)) (ring_edges turned) (ap ring_edges (sym r.is))))
-
--- the pieces have the ring's edges, each once
-pub cut_edges : {ring : List Pt} {pieces : List (List Pt)} → IsCut ring pieces → IsPermutation (ring_edges ring) (flat_map ring_edges pieces)
-cut_edges (whole {ring = r} s) = same_order (ring_edges r) (ring_edges r ++ []) (sym (append-nil (ring_edges r)))
-cut_edges (taken {ring = r} {pieces = ps} front v mid back e s c) =
-    IsPermutation-trans _ _ _ (same_order (ring_edges r) (ring_edges ((front ++ v ∷ mid) ++ v ∷ back)) (ap ring_edges e))
-    (IsPermutation-trans _ _ _ (around-cut from_to front v mid back)
-    (IsPermutation-append_right (ring_edges (v ∷ mid)) (ring_edges (front ++ v ∷ back)) (flat_map ring_edges ps) (cut_edges c)))
+pub use Rattle.geom.proofs.RingEdges.{rotated_edges, cut_edges}
 
 -- ---- each piece has three points or more
 abbrev pub OneWay : List DirectedEdge → Type 0
