@@ -26,3 +26,5 @@ pub mod Deciding
 pub mod Striping
 pub mod Neighbours
 pub mod Holes
+pub mod Beginnings
+pub mod Returns
