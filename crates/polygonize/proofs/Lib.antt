@@ -34,3 +34,5 @@ pub mod Holes
 pub mod Nearness
 pub mod PlacedRings
 pub mod Ordered
+pub mod Beginnings
+pub mod Returns
