@@ -36,3 +36,5 @@ pub mod PlacedRings
 pub mod Ordered
 pub mod Beginnings
 pub mod Returns
+pub mod Owning
+pub mod Filling

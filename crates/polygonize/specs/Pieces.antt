@@ -37,7 +37,7 @@ pub record ArePiecesWritten (ds : List DirectedEdge) (least : ℕ) (pieces : Lis
 -- a shell has no owner; that of a hole is kept for the nearest edge below its first vertex
 pub data IsOwnerFound (ds : List DirectedEdge) (ring : List ℕ) (shell_of : List (Option Opening)) (owner : Option Opening) : Type 0 where
   none : IsShell (ring_of ds ring) → owner ≡ None → IsOwnerFound ds ring shell_of owner
-  floating : ((e : Edge) → ¬ (LiesBelow ds (left_of (edge_at ds (slice_index_or ring 0 0)).from) e)) → IsOwnerFound ds ring shell_of owner
+  floating : IsHole (ring_of ds ring) → ((e : Edge) → ¬ (LiesBelow ds (left_of (edge_at ds (slice_index_or ring 0 0)).from) e)) → IsOwnerFound ds ring shell_of owner
   kept : (i : ℕ) → i < length ds → IsHole (ring_of ds ring) → IsNearestBelow ds (left_of (edge_at ds (slice_index_or ring 0 0)).from) (edge_at ds i) → owner ≡ slice_index_or shell_of i None → IsOwnerFound ds ring shell_of owner
 
 -- the shell is kept for the edges of a ring
