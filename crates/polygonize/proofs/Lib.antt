@@ -38,3 +38,6 @@ pub mod Beginnings
 pub mod Returns
 pub mod Owning
 pub mod Filling
+pub mod Keeping
+pub mod Entering
+pub mod Bridging
