@@ -81,9 +81,11 @@ pieces_written ds least pieces owner shell old new a = record {
       | inr i ↦ let r = entry_of shell (is_some owner) a.first 0 pieces a.entries a.each w (of_backward a.entries w i) in
           inr (r.0, r.1, one_piece shell (is_some owner) a.first r.0 (get_or pieces r.0 []) w (let Q : ℕ → Type 0 = λ n. IsEntered shell (is_some owner) a.first n (get_or pieces r.0 []) w in subst Q (plain r.0) r.2))
     ];
-    each = λ k n h. let r = piece_of shell (is_some owner) a.first 0 pieces a.entries a.each k h in
-        (r.0, in_contains new r.0 (let P : List PlacedRing → Type 0 = In r.0 in subst P (sym a.appended) (in_back old (backward a.entries) r.0 (in_backward a.entries r.0 r.1))),
-        one_piece shell (is_some owner) a.first k (get_or pieces k []) r.0 (let Q : ℕ → Type 0 = λ n. IsEntered shell (is_some owner) a.first n (get_or pieces k []) r.0 in subst Q (plain k) r.2));
+    each = λ k n h. let r = piece_of shell (is_some owner) a.first 0 pieces a.entries a.each k h in (
+      r.0,
+      in_contains new r.0 (let P : List PlacedRing → Type 0 = In r.0 in subst P (sym a.appended) (in_back old (backward a.entries) r.0 (in_backward a.entries r.0 r.1))),
+      one_piece shell (is_some owner) a.first k (get_or pieces k []) r.0 (let Q : ℕ → Type 0 = λ n. IsEntered shell (is_some owner) a.first n (get_or pieces k []) r.0 in subst Q (plain k) r.2),
+    );
   };
 }
   where

@@ -3,7 +3,7 @@ use Rattle.std.proofs.Common.{◌≡◌, ◌⊎◌, ℕ, zero, suc, ◌+◌, ◌
 use Rattle.std.specs.Prelude.{All, AllPairs, Contains, flat_map, is_some, unwrap_or}
 use Rattle.std.proofs.lemmas.Bool.{cases_eq, cases_lt}
 use Rattle.std.proofs.lemmas.List.{get_or-map, length-map}
-use Rattle.std.proofs.lemmas.List.Elements.{All-contains, All-get_or, Contains-get_or}
+use Rattle.std.proofs.lemmas.List.Elements.{All-contains, All-contains_itself, All-get_or, All-map, All-weaker, Contains-get_or}
 use Rattle.geom.specs.declared.point.Pt.{Pt}
 use Rattle.geom.specs.declared.directed.DirectedEdge.{DirectedEdge}
 use Rattle.geom.specs.Canonical.{IsFirstPiece}
@@ -21,9 +21,12 @@ use Rattle.geom.proofs.Orders.{before_trans}
 use Rattle.geom.proofs.RingEdges.{flat_in, in_permutation}
 use Rattle.polygonize.specs.declared.written.Opening.{Opening}
 use Rattle.polygonize.specs.Next.{nothing, edge_at, ring_of}
-use Rattle.polygonize.specs.Pieces.{IsOwnerFound, IsRingPlaced}
+use Rattle.polygonize.specs.Pieces.{HasItsEdges, IsOwnerFound, IsRingPlaced}
 use Rattle.polygonize.specs.Pieces.IsOwnerFound.{none, floating, kept}
-use Rattle.polygonize.specs.Placed.{PlacedRing, opening_of, IsPlaced, IsShellWritten, IsWrittenAmong}
+use Rattle.polygonize.specs.Placed.{PlacedRing, opening_of, IsPlaced, IsShellWritten, IsWrittenAmong, AreWritten}
+use Rattle.polygonize.specs.Written.{ArePlaces, HaveEdges, IsCanonical}
+use Rattle.polygonize.proofs.Entries.{owner_of}
+use Rattle.polygonize.proofs.Writing.{unmapped}
 use Rattle.polygonize.proofs.Holes.{least_point}
 use Rattle.polygonize.proofs.Lists.{Split, split_at}
 use Rattle.polygonize.proofs.Owning.{Law, among, end_on, index_of, law_of_hole, law_of_shell, placed, ring_cut, shell_written, start_on}
@@ -53,10 +56,6 @@ pub record AreFilled (ds : List DirectedEdge) (cycles : List (List ℕ)) (i : �
 
 pub nothing_filled : (ds : List DirectedEdge) (cycles : List (List ℕ)) (shell_of : List (Option Opening)) → AreFilled ds cycles 0 shell_of []
 nothing_filled ds cycles shell_of = record { placed = λ w c. absurd (contains_in [] w c); each = λ j h. absurd (omega arith); shells = λ j h. absurd (omega arith) }
-
--- the edges of the ring of a cycle are those at its places
-abbrev pub HasItsEdges : List DirectedEdge → List ℕ → Type 0
-HasItsEdges ds cycle = ring_edges (ring_of ds cycle) ≡ map (edge_at ds) cycle
 
 module _ (ds : List DirectedEdge) (closes : Closes ds) (noded : AreNodedEdges ds) (cycles : List (List ℕ)) (are : AreRings ds (map (ring_of ds) cycles)) (grounded : AreGrounded ds (map (ring_of ds) cycles))
     (edges : All (HasItsEdges ds) cycles) (inside : All (λ c. All (λ k. k < length ds) c) cycles) where
@@ -207,11 +206,22 @@ module _ (ds : List DirectedEdge) (closes : Closes ds) (noded : AreNodedEdges ds
       shells = λ j h k c. elim (cases_lt j i) [
         | inl l ↦ elim (r.kept.others k) [
           | inl e ↦ let b = f.shells j l k c in (b.0, b.1, e ∙ b.2, b.3, b.4)
-          | inr b ↦ (o.shell, o.firsts, b.1 ∙ ap Some o.opening, (let P : List Pt → Type 0 = λ t. IsOwner ds (map (ring_of ds) cycles) t o.shell in
-              subst P (r.same ∙ one_ring ds (map (ring_of ds) cycles) closes.are_directed are (ring_of ds (get_or cycles i [])) (ring_of ds (get_or cycles j [])) (edge_at ds k) (cycle_at i low) (cycle_at j (under j l)) (edge_in i low k b.0) (edge_in j (under j l) k c)) o.owner), o.is_first)
+          | inr b ↦ (
+            o.shell,
+            o.firsts,
+            b.1 ∙ ap Some o.opening,
+            (let P : List Pt → Type 0 = λ t. IsOwner ds (map (ring_of ds) cycles) t o.shell in
+                subst P (r.same ∙ one_ring ds (map (ring_of ds) cycles) closes.are_directed are (ring_of ds (get_or cycles i [])) (ring_of ds (get_or cycles j [])) (edge_at ds k) (cycle_at i low) (cycle_at j (under j l)) (edge_in i low k b.0) (edge_in j (under j l) k c)) o.owner),
+            o.is_first,
+          )
         ]
-        | inr l ↦ (o.shell, o.firsts, r.kept.here k (let P : ℕ → Type 0 = λ t. Contains (get_or cycles t []) k in subst P (this j h l) c) ∙ ap Some o.opening,
-            (let P : List Pt → Type 0 = λ t. IsOwner ds (map (ring_of ds) cycles) t o.shell in subst P (r.same ∙ ap (λ t. ring_of ds (get_or cycles t [])) (sym (this j h l))) o.owner), o.is_first)
+        | inr l ↦ (
+          o.shell,
+          o.firsts,
+          r.kept.here k (let P : ℕ → Type 0 = λ t. Contains (get_or cycles t []) k in subst P (this j h l) c) ∙ ap Some o.opening,
+          (let P : List Pt → Type 0 = λ t. IsOwner ds (map (ring_of ds) cycles) t o.shell in subst P (r.same ∙ ap (λ t. ring_of ds (get_or cycles t [])) (sym (this j h l))) o.owner),
+          o.is_first,
+        )
       ];
     }
       where
@@ -223,3 +233,27 @@ module _ (ds : List DirectedEdge) (closes : Closes ds) (noded : AreNodedEdges ds
 
         under : (j : ℕ) → j < i → j < length cycles
         under j l = omega (arith, low, l)
+
+-- ---- the loop over the cycles
+pub next_filled : {V : Type 0} (g : V → List ℕ) (ds : List DirectedEdge) → Closes ds → AreNodedEdges ds → (cycles : List V) → AreRings ds (map (ring_of ds) (map g cycles)) → AreGrounded ds (map (ring_of ds) (map g cycles)) → All (λ v. HasItsEdges ds (g v)) cycles → All (λ v. ArePlaces ds (g v)) cycles
+    → (i : ℕ) (v : V) (cycle : List ℕ) (shells_old shells_new : List (Option Opening)) (old new : List PlacedRing) → i < length cycles → cycle ≡ g v → get_or cycles i v ≡ v → IsRingPlaced ds cycle shells_old shells_new old new
+    → AreFilled ds (map g cycles) i shells_old old → AreFilled ds (map g cycles) (i + 1) shells_new new
+next_filled g ds c n cycles are grounded e p i v cycle so sn old new low k h r f = filled ds c n (map g cycles) are grounded (All-map (HasItsEdges ds) g cycles e) (All-map (λ c. All (λ k. k < length ds) c) g cycles (All-weaker (λ v. ArePlaces ds (g v)) (λ v. All (λ k. k < length ds) (g v)) (λ v q. q.inside) cycles p))
+    i (let m = length-map cycles g in omega (arith, m, low)) so sn old new f (let P : List ℕ → Type 0 = λ t. IsRingPlaced ds t so sn old new in subst P (k ∙ ap g (sym h) ∙ sym (get_or-map g cycles i v [] low)) r)
+
+two_maps : {X Y Z : Type 0} (f : X → Y) (h : Y → Z) (xs : List X) → map (λ x. h (f x)) xs ≡ map h (map f xs)
+two_maps f h [] = refl
+two_maps f h (x ∷ xs) = ap (λ t. h (f x) ∷ t) (two_maps f h xs)
+
+pub all_filled : {V W : Type 0} (g : V → List ℕ) (q : W → PlacedRing) (ds : List DirectedEdge) (cycles : List V) (i : ℕ) (shell_of : List (Option Opening)) (ws : List W) → AreRings ds (map (ring_of ds) (map g cycles)) → length cycles ≤ i → HaveEdges ds (map (λ w. (q w).ring) ws) → All (IsCanonical ds) (map (λ w. (q w).ring) ws)
+    → AreFilled ds (map g cycles) i shell_of (map q ws) → AreWritten ds (map (ring_of ds) (map g cycles)) (map q ws)
+all_filled g q ds cycles i shell_of ws are l e c f = record {
+  are_rings = are;
+  placed = All-weaker (Contains (map q ws)) (IsPlaced ds (map (ring_of ds) (map g cycles))) (λ w h. f.placed w h) (map q ws) (All-contains_itself (map q ws));
+  each = λ ring shell o pieces k piece h.
+      let m = in_map (ring_of ds) (map g cycles) ring (contains_in (map (ring_of ds) (map g cycles)) ring (owner_of o)) in
+      let n = index_of (map g cycles) m.0 [] m.1 in
+      f.each n.0 (let t = length-map cycles g in let u = n.1 in omega (arith, t, u, l)) pieces (let P : List Pt → Type 0 = λ t. IsCut t pieces in subst P (sym (ap (ring_of ds) n.2 ∙ m.2)) k) piece h;
+  canonical = All-map (λ w. IsCanonical ds w.ring) q ws (unmapped (IsCanonical ds) (λ w. (q w).ring) ws c);
+  edges = let P : List (List ℕ) → Type 0 = HaveEdges ds in subst P (two_maps q (λ w. w.ring) ws) e;
+}

@@ -173,8 +173,11 @@ module _ (ds : List DirectedEdge) (closes : Closes ds) (noded : AreNodedEdges ds
     pub law_of_shell : (first : ℕ) → first < length pieces → IsFirstPiece (ring_of ds ring) (ring_of ds (get_or pieces first [])) → Law false first (get_or pieces first [])
     law_of_shell first h f = λ k l w t. (
       (λ e. itself_turned (get_or pieces first []) w (first_canonical first h f) (let P : ℕ → Type 0 = λ n. IsTurned (get_or pieces n []) w in subst P e.1 t)),
-      (λ e. (refl, one_place k first l h (first_edge ds (opening_of w)) (turned_edge k l w t)
-          (let P : List ℕ → Type 0 = λ p. In (first_edge ds (opening_of w)) (ring_edges (ring_of ds p)) in subst P e (first_inside ds w (turned_sound ds (get_or pieces k []) w t (sound_at k l)).long)))),
+      (λ e. (
+        refl,
+        one_place k first l h (first_edge ds (opening_of w)) (turned_edge k l w t)
+            (let P : List ℕ → Type 0 = λ p. In (first_edge ds (opening_of w)) (ring_edges (ring_of ds p)) in subst P e (first_inside ds w (turned_sound ds (get_or pieces k []) w t (sound_at k l)).long)),
+      )),
     )
 
     pub law_of_hole : (first : ℕ) (shell : List Pt) (firsts : List ℕ) → IsHole (ring_of ds ring) → IsOwner ds rings (ring_of ds ring) shell → IsShellWritten ds shell firsts → Law true first firsts

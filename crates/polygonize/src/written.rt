@@ -11,7 +11,7 @@ ghost use Rattle.polygonize.specs.Below.{AreStrips};
 ghost use Rattle.polygonize.specs.Number.{AreNumbers, IsVertex};
 ghost use Rattle.polygonize.specs.Next.{ring_of};
 ghost use Rattle.polygonize.specs.Owning.{AreEntries, IsOwnerFound, KeepsShell};
-ghost use Rattle.polygonize.specs.Pieces.{IsRingPlaced};
+ghost use Rattle.polygonize.specs.Pieces.{HasItsEdges, IsRingPlaced};
 ghost use Rattle.polygonize.specs.Placed.{AreWritten, opening_of};
 ghost use Rattle.polygonize.specs.Stack.{AreStacked};
 ghost use Rattle.polygonize.specs.Written.{AreAdded, ArePlaces, HaveEdges, IsCanonical, IsRingWritten, IsSound};
@@ -163,7 +163,6 @@ fn write_ring<A: Allocator + Copy>(
     ensures strips { OnOk result (AreStrips edges.now strips.new.strips strips.new.filled strips.new.numbers.items) }
     ensures written { OnOk result (IsRingWritten edges.now cycle.now (map (λ w. w.ring.items) written.old.items) (map (λ w. w.ring.items) written.new.items)) }
     ensures placed { OnOk result (IsRingPlaced edges.now cycle.now shell_of.old shell_of.new (map (λ w. record { place = w.place; ring = w.ring.items }) written.old.items) (map (λ w. record { place = w.place; ring = w.ring.items }) written.new.items)) }
-    ensures same_length { OnOk result (length shell_of.new ≡ length shell_of.old) }
     ensures clear { OnOk result (AreStacked [] places.new) }
 {
     let ring = vertices_of(alloc, numbers, cycle)?;
@@ -193,6 +192,8 @@ fn write_cycles<A: Allocator + Copy>(
     requires shells { length shell_of.old ≡ length edges.now }
     requires clear { AreStacked [] places.old }
     requires strips { AreStrips edges.now strips.old.strips strips.old.filled strips.old.numbers.items }
+    requires its_edges { All (λ c. HasItsEdges edges.now c.items) cycles.now }
+    ensures written { AreNodedEdges edges.now → AreGrounded edges.now (map (ring_of edges.now) (map (λ c. c.items) cycles.now)) → IfOk result (λ written. AreWritten edges.now (map (ring_of edges.now) (map (λ c. c.items) cycles.now)) (map (λ w. record { place = w.place; ring = w.ring.items }) written.items)) }
     ensures edges { IfOk result (λ written. HaveEdges edges.now (map (λ w. w.ring.items) written.items)) }
     ensures sound { IfOk result (λ written. All (IsCanonical edges.now) (map (λ w. w.ring.items) written.items)) }
 {

@@ -32,8 +32,8 @@ returns-clause-polygons g c = λ noded grounded.
     (λ found. AreGrouped (λ w. w.place.is_hole) (λ w. ring_of c.args.directed.now w.ring.items) c.sort_unstable_by_key.new.self.items (map (λ p. record { shell = p.shell; holes = p.holes.items }) found.items))
     (λ found. ArePolygons c.args.directed.now (map (λ p. record { shell = p.shell; holes = p.holes.items }) found.items))
     (λ found h. grouped_polygons (λ w. record { place = w.place; ring = w.ring.items }) c.args.directed.now c.requires.closes.are_directed noded c.in_ok-written.written.items c.sort_unstable_by_key.new.self.items (map (λ p. record { shell = p.shell; holes = p.holes.items }) found.items)
-        (written grounded) c.sort_unstable_by_key.ensures.permutation sorted h)
-    (groups (shell_first (λ w. record { place = w.place; ring = w.ring.items }) c.args.directed.now c.requires.closes.are_directed noded c.in_ok-written.written.items c.sort_unstable_by_key.new.self.items (written grounded) c.sort_unstable_by_key.ensures.permutation sorted))
+    (written noded grounded) c.sort_unstable_by_key.ensures.permutation sorted h)
+    (groups (shell_first (λ w. record { place = w.place; ring = w.ring.items }) c.args.directed.now c.requires.closes.are_directed noded c.in_ok-written.written.items c.sort_unstable_by_key.new.self.items (written noded grounded) c.sort_unstable_by_key.ensures.permutation sorted))
 
 pub returns-clause-each_edge : goal.returns-clause-each_edge
 returns-clause-each_edge g c = IfOk-weaker c.grouped.result
