@@ -1,5 +1,5 @@
 -- From the edges and the polygons of a result to its text.
-use Rattle.std.proofs.Common.{◌≡◌, ◌⊎◌, inl, inr, List, [], ◌∷◌, ◌++◌, map, refl, sym, ap, subst}
+use Rattle.std.proofs.Common.{◌≡◌, ◌⊎◌, inl, inr, List, [], ◌∷◌, ◌++◌, map, refl, sym, ◌∙◌, ap, subst}
 use Rattle.std.specs.Prelude.{All, AllPairs, Contains}
 use Rattle.std.proofs.Math.Logic.{∥∥₁_elim}
 use Rattle.std.proofs.Props.{props}
@@ -13,8 +13,11 @@ use Rattle.geom.specs.declared.ring.Polygon.{Polygon}
 use Rattle.geom.specs.Canonical.{Shape}
 use Rattle.geom.specs.Directed.{AreResultEdges, IsResultEdge, Runs}
 use Rattle.geom.specs.Limit.{AreInLimit}
+use Rattle.geom.specs.Noded.{IsNoded}
+use Rattle.geom.specs.NodedEdges.{AreNodedEdges}
 use Rattle.geom.specs.Order.{IsBefore}
 use Rattle.geom.specs.Rounded.{IsEdgeBefore, edges_of}
+use Rattle.geom.proofs.Edges.{before_strict, edge_path}
 use Rattle.points_law.specs.Law.{AreLayers}
 use Rattle.polygonize.proofs.Rounds.{less_apart}
 use Rattle.wkt.specs.Canonical.{more_of, multi_text, polygon_text}
@@ -42,6 +45,19 @@ pub directed_in : (op : Op) (counted : List Counted) (directed : List DirectedEd
 directed_in op counted directed l r = All-weaker (Contains directed) (λ d. AreInLimit d.from d.to)
     (λ d h. let e : IsResultEdge op counted d = (r.exact d).0 h in run_in d e.edge e.runs (All-contains (λ e. AreInLimit e.p e.q) (edges_of counted) e.edge l e.rounded))
     directed (All-contains_itself directed)
+
+one_run : (d : DirectedEdge) (e f : Edge) → Runs d e → Runs d f → e ≡ f
+one_run d e f (inl h) (inl k) = edge_path e f (ap (λ t. t.from) (sym h ∙ k)) (ap (λ t. t.to) (sym h ∙ k))
+one_run d e f (inr h) (inr k) = edge_path e f (ap (λ t. t.to) (sym h ∙ k)) (ap (λ t. t.from) (sym h ∙ k))
+one_run d e f (inl h) (inr k) = absurd (before_strict e.p e.q e.ordered (let P : Pt → Type 0 = λ t. IsBefore t e.p in subst P (sym (ap (λ t. t.to) (sym h ∙ k))) (let Q : Pt → Type 0 = IsBefore f.p in subst Q (sym (ap (λ t. t.from) (sym h ∙ k))) f.ordered)))
+one_run d e f (inr h) (inl k) = absurd (before_strict e.p e.q e.ordered (let P : Pt → Type 0 = λ t. IsBefore t e.p in subst P (sym (ap (λ t. t.from) (sym h ∙ k))) (let Q : Pt → Type 0 = IsBefore f.p in subst Q (sym (ap (λ t. t.to) (sym h ∙ k))) f.ordered)))
+
+-- and so they meet only at ends, as those do
+pub noded_edges : (op : Op) (counted : List Counted) (directed : List DirectedEdge) → IsNoded (edges_of counted) → AreResultEdges op counted directed → AreNodedEdges directed
+noded_edges op counted directed n r = λ c d e f i j x y a. n e f (rounded c e i x) (rounded d f j y) a
+  where
+    rounded : (c : DirectedEdge) (e : Edge) → Contains directed c → Runs c e → Contains (edges_of counted) e
+    rounded c e i x = let b : IsResultEdge op counted c = (r.exact c).0 i in let P : Edge → Type 0 = Contains (edges_of counted) in subst P (one_run c b.edge e b.runs x) b.rounded
 
 -- ---- a layer is one in at most one way
 

@@ -1,8 +1,7 @@
 -- The numbers of vertices.
-use Rattle.std.proofs.Common.{◌≡◌, ◌≢◌, ◌⊎◌, ℕ, suc, zero, ◌+◌, ◌<◌, ◌≤◌, List, [], ◌∷◌, ◌++◌, length, length-append, get_or, map, refl, sym, ◌∙◌, ap, subst, inl, inr, arith}
+use Rattle.std.proofs.Common.{◌≡◌, ◌≢◌, ℕ, suc, zero, ◌+◌, ◌<◌, ◌≤◌, List, [], ◌∷◌, ◌++◌, length, length-append, get_or, map, refl, sym, ◌∙◌, ap, subst, inl, inr, arith}
 use Rattle.std.specs.Prelude.{All}
 use Rattle.std.proofs.lemmas.Bool.{cases_eq, cases_lt}
-use Rattle.std.proofs.lemmas.List.{get_or_default}
 use Rattle.std.proofs.lemmas.List.Elements.{All-map, All-head, All-tail}
 use Rattle.std.proofs.Math.Seq.{get_or-append_seam}
 use Rattle.std.proofs.Math.ListN.{get_or-append}
@@ -117,6 +116,22 @@ all_numbers ds i last numbers h w = record { same_length = same; each = λ m k. 
 
     same : length numbers ≡ length ds
     same = omega (arith, len, bound, h)
+
+-- numbers don't descend
+pub number_order : (ds : List DirectedEdge) → AreDirected ds → (i j k m : ℕ) → i ≤ j → j < length ds → IsNumber ds i k → IsNumber ds j m → k ≤ m
+number_order ds a i j k m l h n o = elim (cases_lt m k) [
+  | inr c ↦ c
+  | inl c ↦ absurd (elim (cases_lt i j) [
+    | inl d ↦ n.before m c (o.same ∙ sym (amid ds a m i j (below c n.low) d h o.same))
+    | inr d ↦ n.before m c (o.same ∙ ap (λ t. (edge_at ds t).from) (same d l))
+  ])
+]
+  where
+    below : {m k i : ℕ} → m < k → k ≤ i → m < i
+    below c d = omega arith
+
+    same : {i j : ℕ} → j ≤ i → i ≤ j → j ≡ i
+    same c d = omega arith
 
 -- ---- rings of vertices
 pub is_vertex : (ds : List DirectedEdge) (i k : ℕ) → i < length ds → IsNumber ds i k → IsVertex ds k

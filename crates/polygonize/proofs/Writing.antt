@@ -1,11 +1,11 @@
 -- The written rings have the edges of the cycles so far, each once.
-use Rattle.std.proofs.Common.{◌≡◌, ℕ, suc, zero, ◌+◌, ◌<◌, ◌≤◌, List, [], ◌∷◌, ◌++◌, length, get_or, map, take, refl, sym, ◌∙◌, ap, subst, arith, add-one, Bool, cond, inl, inr}
+use Rattle.std.proofs.Common.{◌≡◌, ℕ, suc, ◌+◌, ◌<◌, ◌≤◌, List, [], ◌∷◌, ◌++◌, length, get_or, map, take, refl, sym, ◌∙◌, ap, subst, arith, add-one, Bool, cond, inl, inr}
 use Rattle.std.specs.Prelude.{All, Contains, IsPermutation, flat_map, sum_by, count_by}
-use Rattle.std.proofs.lemmas.List.{map-append, append-nil, get_or-map, get_or_default, length-map, take_all}
-use Rattle.std.proofs.lemmas.List.Elements.{All-nil, All-cons, All-head, All-tail, All-append, All-weaker, Contains-get_or}
+use Rattle.std.proofs.lemmas.List.{map-append, append-nil, get_or-map, length-map, take_all}
+use Rattle.std.proofs.lemmas.List.Elements.{All-nil, All-cons, All-head, All-tail, All-append, All-map, All-weaker, Contains-get_or}
 use Rattle.std.proofs.lemmas.List.Concat.{flat_map-append}
 use Rattle.std.proofs.lemmas.List.Sums.{sum_by-append, sum_by-cons}
-use Rattle.std.proofs.lemmas.List.Sorted.{IsPermutation-refl, IsPermutation-trans, IsPermutation-append, IsPermutation-append_right, IsPermutation-append_comm, IsPermutation-sym, sum_by-IsPermutation}
+use Rattle.std.proofs.lemmas.List.Sorted.{IsPermutation-refl, IsPermutation-trans, IsPermutation-append, IsPermutation-append_comm, IsPermutation-sym, sum_by-IsPermutation}
 use Rattle.std.proofs.Math.Seq.{take-suc}
 use Rattle.geom.specs.declared.point.Pt.{Pt}
 use Rattle.geom.specs.declared.directed.DirectedEdge.{DirectedEdge}
@@ -17,11 +17,11 @@ use Rattle.geom.proofs.Lists.{In, contains_in, in_contains, map_in}
 use Rattle.polygonize.specs.Cycle.{AreCycles, IsLeastFirst}
 use Rattle.polygonize.specs.Next.{AreNext, edge_at, ring_of}
 use Rattle.polygonize.specs.Number.{AreNumbers, IsVertex}
-use Rattle.polygonize.specs.Written.{IsTurned, AreTurned, AreAdded, IsSound, IsCanonical, ArePlaces, IsRingWritten, HaveEdges, backward}
+use Rattle.polygonize.specs.Written.{IsTurned, AreAdded, IsSound, IsCanonical, ArePlaces, IsRingWritten, HaveEdges, backward}
 use Rattle.polygonize.proofs.Lists.{same_order, in_permutation, in_left, in_right}
 use Rattle.polygonize.proofs.Pieces.{cut_edges, cut_long, Each}
 use Rattle.polygonize.proofs.Mapping.{cut_map, cut_all, cut_simple, all_left, all_right}
-use Rattle.polygonize.proofs.Numbers.{same_vertex, numbered_vertices, numbered_ring}
+use Rattle.polygonize.proofs.Numbers.{same_vertex, number_order, numbered_vertices, numbered_ring}
 use Rattle.polygonize.proofs.Turning.{edges_in, turned_all_edges, turned_all_sound, turned_sound}
 
 -- ---- the ring of a cycle and its pieces
@@ -44,6 +44,7 @@ map_contains f xs x c = in_contains (map f xs) (f x) (map_in f xs x (contains_in
 pub places_of : (ds : List DirectedEdge) (next : List ℕ) → AreDirected ds → AreNext ds next → (cycles : List (List ℕ)) → AreCycles next cycles → AreRings ds (map (ring_of ds) cycles) → All (ArePlaces ds) cycles
 places_of ds next a n cycles c r i d h = record {
   some = some (get_or cycles i d) (c.least_first i d h);
+  least = c.least_first i d h;
   inside = All-weaker (λ k. k < length next) (λ k. k < length ds) (λ k l. omega (arith, l, len)) (get_or cycles i d) (c.are_cycles i d h).inside;
   one_way = ring_one_way ds (map (ring_of ds) cycles) a r (ring_of ds (get_or cycles i d)) (map_contains (ring_of ds) cycles (get_or cycles i d) (Contains-get_or cycles i d h));
 }
@@ -141,6 +142,18 @@ text_has_each {W = W} f ds ws vs shapes h p e test = ap (λ t. count_by test (fl
 -- ---- one ring of the loop
 pub ring_vertices : (ds : List DirectedEdge) (numbers cycle ring : List ℕ) → AreNumbers ds numbers → ArePlaces ds cycle → ring ≡ map (λ k. get_or numbers k 0) cycle → All (IsVertex ds) ring
 ring_vertices ds numbers cycle ring n p e = let P : List ℕ → Type 0 = All (IsVertex ds) in subst P (sym e) (numbered_vertices ds numbers n cycle p.inside)
+
+least_all : (cycle : List ℕ) → IsLeastFirst cycle → All (λ k. get_or cycle 0 0 ≤ k) cycle
+least_all [] l = absurd l
+least_all (i ∷ is) l = All-cons (λ k. i ≤ k) i is (omega arith) l
+
+-- the number of the least place is the least number
+pub ring_least : (ds : List DirectedEdge) (numbers cycle ring : List ℕ) → AreDirected ds → AreNumbers ds numbers → ArePlaces ds cycle → ring ≡ map (λ k. get_or numbers k 0) cycle → All (λ k. get_or ring 0 0 ≤ k) ring
+ring_least ds numbers cycle ring a n p e = let P : List ℕ → Type 0 = λ t. All (λ k. get_or t 0 0 ≤ k) t in subst P (sym e)
+    (let Q : ℕ → Type 0 = λ m. All (λ k. m ≤ k) (map (λ k. get_or numbers k 0) cycle) in subst Q (sym (get_or-map (λ k. get_or numbers k 0) cycle 0 0 0 p.some))
+    (All-map (λ k. get_or numbers (get_or cycle 0 0) 0 ≤ k) (λ k. get_or numbers k 0) cycle
+    (λ i d h. number_order ds a (get_or cycle 0 0) (get_or cycle i d) (get_or numbers (get_or cycle 0 0) 0) (get_or numbers (get_or cycle i d) 0) (least_all cycle p.least i d h) (p.inside i d h)
+    (n.each (get_or cycle 0 0) (p.inside 0 0 p.some)) (n.each (get_or cycle i d) (p.inside i d h)))))
 
 pub ring_some : (numbers cycle ring : List ℕ) → 0 < length cycle → ring ≡ map (λ k. get_or numbers k 0) cycle → 0 < length ring
 ring_some numbers cycle ring h e = let P : ℕ → Type 0 = λ n. 0 < n in subst P (sym (ap length e ∙ length-map cycle (λ k. get_or numbers k 0))) h

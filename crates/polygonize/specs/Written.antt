@@ -4,6 +4,7 @@ use Rattle.geom.specs.declared.directed.DirectedEdge.{DirectedEdge}
 use Rattle.geom.specs.declared.point.Pt.{Pt}
 use Rattle.geom.specs.Directed.{from_to}
 use Rattle.geom.specs.Rings.{ring_edges, IsSimple, IsCut}
+use Rattle.polygonize.specs.Cycle.{IsLeastFirst}
 use Rattle.polygonize.specs.Next.{ring_of}
 use Rattle.polygonize.specs.Number.{IsVertex}
 
@@ -46,9 +47,10 @@ pub record AreAdded (pieces old new : List (List ℕ)) : Type 0 where
   pub each : AreTurned pieces turned
   pub appended : new ≡ old ++ backward turned
 
--- places of a ring's edges, none of which runs back along another
+-- places of a ring's edges, none of which runs back along another; the least place comes first
 pub record ArePlaces (ds : List DirectedEdge) (cycle : List ℕ) : Type 0 where
   pub some : 0 < length cycle
+  pub least : IsLeastFirst cycle
   pub inside : All (λ k. k < length ds) cycle
   pub one_way : (u v : Pt) → Contains (ring_edges (ring_of ds cycle)) (from_to u v) → ¬ (Contains (ring_edges (ring_of ds cycle)) (from_to v u))
 

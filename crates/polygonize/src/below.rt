@@ -1,11 +1,15 @@
 //! The nearest edge below a point.
 
-ghost use Rattle.std.specs.Prelude.{◌≡◌, ◌⊎◌, ◌<◌, ◌≤ℤ◌, All, IfOk, IfSome, List, OnOk, length};
+ghost use Rattle.std.specs.Prelude.{◌≡◌, ◌⊎◌, ◌↔◌, ◌^◌, ◌<◌, ◌+ℤ◌, ◌*ℤ◌, ◌<ℤ◌, ◌≤ℤ◌, All, IfOk, IfSome, IsTrue, List, MatchOption, OnOk, length, pos, true};
+ghost use Rattle.geom.specs.declared.edge.Edge.{Edge};
+ghost use Rattle.geom.specs.Holes.{IsNearestBelow, LiesBelow, left_of};
 ghost use Rattle.geom.specs.Limit.{AreInLimit, InLimit, IsWithin, coordinate_limit};
+ghost use Rattle.geom.specs.Parity.{covers};
 ghost use Rattle.geom.specs.declared.rect.Rect.{Rect};
 ghost use Rattle.tiling.specs.Index.{AreIndexed};
 ghost use Rattle.tiling.specs.Strips.{IsFill, strip_count};
-ghost use Rattle.polygonize.specs.Below.{AreColumns, AreStrips};
+ghost use Rattle.polygonize.specs.Below.{AreBoxes, AreColumns, AreStrips, HasGapRoom, IsGap, IsLesserGap, IsLessGap, IsNearestAmong, NoneBelowAmong, RunsBelow};
+ghost use Rattle.polygonize.specs.Next.{edge_at};
 
 use geom::{DirectedEdge, Edge, NoMemory, Pt, Rect};
 use lane_tests::Boxes;
@@ -21,19 +25,37 @@ struct Gap {
     run: i64,
 }
 
+/// Whether the point just left of v has an x from the edge's first end, inclusive, to its second, exclusive.
+fn is_over(edge: &Edge, v: Pt) -> bool
+    requires edge_in { AreInLimit edge.now.p edge.now.q }
+    requires v_in { InLimit v }
+    ensures { IsTrue result ↔ (covers edge.now (left_of v) ≡ true) }
+{
+    edge.p.x < v.x && v.x <= edge.q.x
+}
+
+/// Whether side + rise / 2^64 is above 0.
+fn is_above(side: i64, rise: i64) -> bool
+    requires { IsWithin (2 ^ 26) rise }
+    ensures { IsTrue result ↔ (pos 0 <ℤ ((pos (2 ^ 64) *ℤ side) +ℤ rise)) }
+{
+    side > 0 || side == 0 && rise > 0
+}
+
 /// The gap to the edge with this number, if it lies below the point just left of v.
 fn gap_below(edge: DirectedEdge, number: usize, v: Pt) -> Option<Gap>
     requires edge_in { AreInLimit edge.from edge.to }
     requires v_in { InLimit v }
-    ensures { IfSome result (λ g. g.number ≡ number) }
+    ensures number { IfSome result (λ g. g.number ≡ number) }
+    ensures gap { MatchOption result ((e : Edge) → ¬ (RunsBelow edge (left_of v) e)) (λ g. IsGap edge v g) }
 {
     let edge = Edge::between(edge.from, edge.to)?;
-    if v.x <= edge.p.x || edge.q.x < v.x {
+    if !is_over(&edge, v) {
         return None;
     }
     let side = edge.side(v);
     let along = edge.p.vector_to(edge.q);
-    if side < 0 || side == 0 && along.dy <= 0 {
+    if !is_above(side, along.dy) {
         return None;
     }
     Some(Gap {
@@ -44,19 +66,33 @@ fn gap_below(edge: DirectedEdge, number: usize, v: Pt) -> Option<Gap>
     })
 }
 
-fn product(a: i64, b: i64) -> i128 {
+fn product(a: i64, b: i64) -> i128
+    ensures { result ≡ a *ℤ b }
+{
     i128::from(a) * i128::from(b)
 }
 
 /// Whether the point is nearer to the first edge than to the second.
-fn is_nearer(e: Gap, f: Gap) -> bool {
+fn is_nearer(e: Gap, f: Gap) -> bool
+    requires e_room { HasGapRoom e }
+    requires f_room { HasGapRoom f }
+    ensures { IsTrue result ↔ IsLessGap e f }
+{
     let first = product(e.side, f.run);
     let second = product(f.side, e.run);
-    first < second || first == second && product(e.rise, f.run) < product(f.rise, e.run)
+    if first < second {
+        return true;
+    }
+    if second < first {
+        return false;
+    }
+    product(e.rise, f.run) < product(f.rise, e.run)
 }
 
 fn nearer(best: Option<Gap>, found: Option<Gap>) -> Option<Gap>
-    ensures { (result ≡ best) ⊎ (result ≡ found) }
+    requires best_room { IfSome best HasGapRoom }
+    requires found_room { IfSome found HasGapRoom }
+    ensures { IsLesserGap best found result }
 {
     match (best, found) {
         (Some(e), Some(f)) => { if is_nearer(f, e) { Some(f) } else { Some(e) } }
@@ -70,7 +106,7 @@ fn nearest_among(edges: &[DirectedEdge], numbers: &[u32], v: Pt) -> Option<usize
     requires edges_in { All (λ d. AreInLimit d.from d.to) edges.now }
     requires v_in { InLimit v }
     requires inside { All (λ k. k < length edges.now) numbers.now }
-    ensures { IfSome result (λ i. i < length edges.now) }
+    ensures { MatchOption result (NoneBelowAmong edges.now numbers.now v) (λ i. IsNearestAmong edges.now numbers.now v i) }
 {
     let mut best = None;
     for number in numbers {
@@ -90,7 +126,7 @@ pub struct EdgeStrips<A: Allocator> {
 
 /// The box of each edge.
 fn boxes_of<A: Allocator + Copy>(alloc: A, edges: &[DirectedEdge]) -> Result<Boxes<A>, NoMemory>
-    ensures { IfOk result (λ boxes. length boxes ≡ length edges.now) }
+    ensures { IfOk result (λ boxes. AreBoxes edges.now (length edges.now) boxes) }
 {
     let mut boxes = Boxes::new(alloc);
     for edge in edges {
@@ -156,7 +192,7 @@ impl<A: Allocator + Copy> EdgeStrips<A> {
     /// Those of the edges, no strip being filled.
     pub fn build(alloc: A, edges: &[DirectedEdge]) -> Result<EdgeStrips<A>, NoMemory>
         requires { All (λ d. AreInLimit d.from d.to) edges.now }
-        ensures { IfOk result (λ s. AreStrips edges.now s.strips s.numbers.items) }
+        ensures { IfOk result (λ s. AreStrips edges.now s.strips s.filled s.numbers.items) }
     {
         let (low, high) = columns(edges);
         let boxes = boxes_of(alloc, edges)?;
@@ -171,7 +207,8 @@ impl<A: Allocator + Copy> EdgeStrips<A> {
     fn fill(&mut self, strip: u32) -> Result<(), NoMemory>
         requires { strip < strip_count self.old.strips }
         ensures strips { self.new.strips ≡ self.old.strips }
-        ensures numbers { OnOk result ((self.new.numbers.items ≡ self.old.numbers.items) ⊎ ((boxes : List Rect) → AreIndexed boxes self.old.strips.items → IsFill self.old.strips strip boxes self.new.numbers.items)) }
+        ensures filled { OnOk result (self.new.filled ≡ Some strip) }
+        ensures numbers { OnOk result (((self.old.filled ≡ Some strip) × (self.new.numbers.items ≡ self.old.numbers.items)) ⊎ ((boxes : List Rect) → AreIndexed boxes self.old.strips.items → IsFill self.old.strips strip boxes self.new.numbers.items)) }
     {
         if self.filled != Some(strip) {
             self.filled = None;
@@ -191,9 +228,10 @@ impl<A: Allocator + Copy> EdgeStrips<A> {
         requires v_in { InLimit v }
         requires left { self.old.strips.low ≤ℤ v.x }
         requires right { v.x ≤ℤ self.old.strips.high }
-        requires strips { AreStrips edges.now self.old.strips self.old.numbers.items }
-        ensures strips { OnOk result (AreStrips edges.now self.new.strips self.new.numbers.items) }
+        requires strips { AreStrips edges.now self.old.strips self.old.filled self.old.numbers.items }
+        ensures strips { OnOk result (AreStrips edges.now self.new.strips self.new.filled self.new.numbers.items) }
         ensures inside { IfOk result (λ found. IfSome found (λ i. i < length edges.now)) }
+        ensures nearest { IfOk result (λ found. MatchOption found ((e : Edge) → ¬ (LiesBelow edges.now (left_of v) e)) (λ i. IsNearestBelow edges.now (left_of v) (edge_at edges.now i))) }
     {
         let strip = self.strips.strip_of(v.x + v.x);
         self.fill(strip)?;

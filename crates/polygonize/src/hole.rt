@@ -1,8 +1,11 @@
 //! Shells and holes.
 
-ghost use Rattle.std.specs.Prelude.{◌≡◌, ◌+◌, ◌<◌, All, if◌then◌else◌, int_lt, length, nat_lt, pos};
+ghost use Rattle.std.specs.Prelude.{◌≡◌, ◌↔◌, ◌+◌, ◌<◌, ◌≤◌, All, IsTrue, if◌then◌else◌, int_lt, length, nat_lt, pos, slice_index_or};
 ghost use Rattle.geom.specs.Determinant.{side};
-ghost use Rattle.polygonize.specs.Next.{edge_at};
+ghost use Rattle.geom.specs.Directed.{AreDirected};
+ghost use Rattle.geom.specs.Holes.{IsHole};
+ghost use Rattle.polygonize.specs.Next.{edge_at, ring_of};
+ghost use Rattle.polygonize.specs.Number.{IsVertex};
 
 use crate::angle::side_of;
 use geom::DirectedEdge;
@@ -28,7 +31,10 @@ fn turns_right(edges: &[DirectedEdge], before: usize, at: usize, after: usize) -
 
 /// Whether a ring of vertices, begun at its least one, is a hole.
 pub fn is_hole(edges: &[DirectedEdge], ring: &[usize]) -> bool
-    requires inside { All (λ k. k < length edges.now) ring.now }
+    requires directed { AreDirected edges.now }
+    requires vertices { All (IsVertex edges.now) ring.now }
+    requires least { All (λ k. slice_index_or ring.now 0 0 ≤ k) ring.now }
+    ensures { IsTrue result ↔ IsHole (ring_of edges.now ring.now) }
 {
     for i in 0..ring.len() {
         let at = following(ring.len(), i);

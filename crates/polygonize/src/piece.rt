@@ -1,7 +1,11 @@
 //! The pieces of a ring as they are written.
 
-ghost use Rattle.std.specs.Prelude.{◌<◌, ◌≤◌, All, length, map, slice_index};
+ghost use Rattle.std.specs.Prelude.{◌↔◌, ℕ, ◌<◌, ◌≤◌, List, [], All, IsTrue, length, map, slice_index, slice_index_or};
+ghost use Rattle.geom.specs.Canonical.{IsFirstPiece};
+ghost use Rattle.geom.specs.Rings.{Closes};
+ghost use Rattle.polygonize.specs.Next.{ring_of};
 ghost use Rattle.polygonize.specs.Number.{IsVertex};
+ghost use Rattle.polygonize.specs.Piece.{ComesLater, IsRingCut};
 ghost use Rattle.polygonize.specs.Written.{IsSound, IsTurned};
 
 use crate::angle::side_of;
@@ -38,6 +42,7 @@ fn comes_later(edges: &[DirectedEdge], least: usize, piece: &[usize], other: &[u
     requires least { IsVertex edges.now least }
     requires sound { IsSound edges.now piece.now }
     requires other_sound { IsSound edges.now other.now }
+    ensures { IsTrue result ↔ ComesLater edges.now least piece.now other.now }
 {
     if piece[0] != least {
         return false;
@@ -56,7 +61,8 @@ pub fn first_piece<A: Allocator>(
     requires least { IsVertex edges.now least }
     requires some { 0 < length pieces.now }
     requires sound { All (λ p. IsSound edges.now p.items) pieces.now }
-    ensures { result < length pieces.now }
+    ensures inside { result < length pieces.now }
+    ensures first { (ring : List ℕ) → Closes edges.now → IsRingCut edges.now least ring (map (λ p. p.items) pieces.now) → IsFirstPiece (ring_of edges.now ring) (ring_of edges.now (slice_index_or (map (λ p. p.items) pieces.now) result [])) }
 {
     let mut best = 0;
     for i in 0..pieces.len() {

@@ -1,10 +1,14 @@
 //! The polygons of a result.
 
-ghost use Rattle.std.specs.Prelude.{◌≡◌, ◌+◌, ◌<◌, ◌≤◌, All, IfOk, drop, length, map, take, vec_len};
-ghost use Rattle.geom.specs.Canonical.{HaveEachEdge, written_rings};
+ghost use Rattle.std.specs.Prelude.{◌≡◌, ◌+◌, ◌<◌, ◌≤◌, true, List, All, IfOk, drop, length, map, take, vec_len};
+ghost use Rattle.geom.specs.declared.point.Pt.{Pt};
+ghost use Rattle.geom.specs.Canonical.{ArePolygons, HaveEachEdge, written_rings};
+ghost use Rattle.geom.specs.Holes.{AreGrounded};
 ghost use Rattle.geom.specs.Limit.{AreInLimit};
 ghost use Rattle.geom.specs.ListOrder.{IsLeastRotation};
-ghost use Rattle.geom.specs.Rings.{Closes};
+ghost use Rattle.geom.specs.NodedEdges.{AreNodedEdges};
+ghost use Rattle.geom.specs.Rings.{AreRings, Closes};
+ghost use Rattle.polygonize.specs.Grouped.{AreGrouped, BeginsWithShell};
 ghost use Rattle.polygonize.specs.Next.{ring_of};
 ghost use Rattle.polygonize.specs.Written.{AreSimple, IsSound};
 
@@ -37,6 +41,8 @@ fn holes_from<A: Allocator + Copy>(
     requires sound { All (λ w. IsSound edges.now w.ring.items) written.now }
     ensures inside { IfOk result (λ holes. start + vec_len holes ≤ length written.now) }
     ensures rings { IfOk result (λ holes. holes.items ≡ map (λ w. ring_of edges.now w.ring.items) (take (vec_len holes) (drop start written.now))) }
+    ensures holes { IfOk result (λ holes. All (λ w. w.place.is_hole ≡ true) (take (vec_len holes) (drop start written.now))) }
+    ensures then_shell { IfOk result (λ holes. BeginsWithShell (λ w. w.place.is_hole) (drop (start + vec_len holes) written.now)) }
 {
     let mut holes = Vec::new(alloc);
     let mut end = start;
@@ -54,7 +60,8 @@ fn grouped<A: Allocator + Copy>(
     written: &[Written<A>],
 ) -> Result<Vec<Polygon<A>, A>, NoMemory>
     requires sound { All (λ w. IsSound edges.now w.ring.items) written.now }
-    ensures { IfOk result (λ found. written_rings (map (λ p. record { shell = p.shell; holes = p.holes.items }) found.items) ≡ map (λ w. ring_of edges.now w.ring.items) written.now) }
+    ensures rings { IfOk result (λ found. written_rings (map (λ p. record { shell = p.shell; holes = p.holes.items }) found.items) ≡ map (λ w. ring_of edges.now w.ring.items) written.now) }
+    ensures groups { BeginsWithShell (λ w. w.place.is_hole) written.now → IfOk result (λ found. AreGrouped (λ w. w.place.is_hole) (λ w. ring_of edges.now w.ring.items) written.now (map (λ p. record { shell = p.shell; holes = p.holes.items }) found.items)) }
 {
     let mut polygons = Vec::new(alloc);
     let mut at = 0;
@@ -75,6 +82,7 @@ pub fn polygons<A: Allocator + Copy>(
 ) -> Result<Vec<Polygon<A>, A>, NoMemory>
     requires closes { Closes directed.now }
     requires in_limit { All (λ d. AreInLimit d.from d.to) directed.now }
+    ensures polygons { AreNodedEdges directed.now → ((rings : List (List Pt)) → AreRings directed.now rings → AreGrounded directed.now rings) → IfOk result (λ found. ArePolygons directed.now (map (λ p. record { shell = p.shell; holes = p.holes.items }) found.items)) }
     ensures each_edge { IfOk result (λ found. HaveEachEdge directed.now (map (λ p. record { shell = p.shell; holes = p.holes.items }) found.items)) }
     ensures simple { IfOk result (λ found. AreSimple (written_rings (map (λ p. record { shell = p.shell; holes = p.holes.items }) found.items))) }
     ensures least { IfOk result (λ found. All (λ ring. IsLeastRotation ring ring) (written_rings (map (λ p. record { shell = p.shell; holes = p.holes.items }) found.items))) }

@@ -3,6 +3,7 @@
 ghost use Rattle.std.specs.Prelude.{All, IfOk, map};
 ghost use Rattle.geom.specs.Rings.{AreRings};
 ghost use Rattle.polygonize.specs.Next.{ring_of};
+ghost use Rattle.polygonize.specs.Pieces.{HasItsEdges};
 ghost use Rattle.polygonize.specs.Written.{ArePlaces};
 ghost use Rattle.geom.specs.Rings.{Closes};
 
@@ -19,6 +20,7 @@ pub fn ring_places<A: Allocator + Copy>(
     requires { Closes edges.now }
     ensures places { IfOk result (λ found. All (ArePlaces edges.now) (map (λ v. v.items) found.items)) }
     ensures rings { IfOk result (λ found. AreRings edges.now (map (ring_of edges.now) (map (λ v. v.items) found.items))) }
+    ensures edges { IfOk result (λ found. All (HasItsEdges edges.now) (map (λ v. v.items) found.items)) }
 {
     let next = successors(alloc, edges)?;
     cycles(alloc, &next)

@@ -1,11 +1,18 @@
 //! The rings of the result as they are written, each with its place in the order of the text.
 
-ghost use Rattle.std.specs.Prelude.{◌≡◌, ◌<◌, ◌≤◌, [], All, IfOk, OnOk, length, map};
+ghost use Rattle.std.specs.Prelude.{◌≡◌, ◌<◌, ◌≤◌, ◌==◌, ◌||◌, [], List, All, IfOk, OnOk, is_some, length, map, not, slice_index_or, unwrap_or};
+ghost use Rattle.geom.specs.Directed.{AreDirected};
+ghost use Rattle.geom.specs.declared.point.Pt.{Pt};
+ghost use Rattle.geom.specs.Holes.{AreGrounded};
 ghost use Rattle.geom.specs.Limit.{AreInLimit};
+ghost use Rattle.geom.specs.NodedEdges.{AreNodedEdges};
 ghost use Rattle.geom.specs.Rings.{AreRings, Closes};
 ghost use Rattle.polygonize.specs.Below.{AreStrips};
 ghost use Rattle.polygonize.specs.Number.{AreNumbers, IsVertex};
 ghost use Rattle.polygonize.specs.Next.{ring_of};
+ghost use Rattle.polygonize.specs.Owning.{AreEntries, IsOwnerFound, KeepsShell};
+ghost use Rattle.polygonize.specs.Pieces.{HasItsEdges, IsRingPlaced};
+ghost use Rattle.polygonize.specs.Placed.{AreWritten, opening_of};
 ghost use Rattle.polygonize.specs.Stack.{AreStacked};
 ghost use Rattle.polygonize.specs.Written.{AreAdded, ArePlaces, HaveEdges, IsCanonical, IsRingWritten, IsSound};
 
@@ -28,6 +35,7 @@ pub struct Opening {
 impl Opening {
     fn of(ring: &[usize]) -> Opening
         requires { 2 ≤ length ring.now }
+        ensures { result ≡ opening_of ring.now }
     {
         Opening {
             first: ring[0],
@@ -51,6 +59,24 @@ pub struct Written<A: Allocator> {
     pub ring: Vec<usize, A>,
 }
 
+/// The shell that is given, or else the first piece.
+fn shell_of_pieces(owner: Option<Opening>, first: &[usize]) -> Opening
+    requires { 2 ≤ length first.now }
+    ensures { result ≡ unwrap_or owner (opening_of first.now) }
+{
+    match owner {
+        Some(shell) => shell,
+        None => Opening::of(first),
+    }
+}
+
+/// Whether the piece at i is a hole: of a hole's pieces each is one, and of a shell's each but the first.
+fn is_written_as_hole(owner: Option<Opening>, first: usize, i: usize) -> bool
+    ensures { result ≡ is_some owner || not (i == first) }
+{
+    owner.is_some() || i != first
+}
+
 /// Writes the pieces of a ring. A hole's go to the polygon of the shell that is given; a shell's first piece is a shell itself.
 fn write_pieces<A: Allocator + Copy>(
     edges: &[DirectedEdge],
@@ -62,18 +88,16 @@ fn write_pieces<A: Allocator + Copy>(
     requires least { IsVertex edges.now least }
     requires some { 0 < length pieces.items }
     requires sound { All (λ p. IsSound edges.now p.items) pieces.items }
-    ensures { OnOk result (AreAdded (map (λ p. p.items) pieces.items) (map (λ w. w.ring.items) written.old.items) (map (λ w. w.ring.items) written.new.items)) }
+    ensures added { OnOk result (AreAdded (map (λ p. p.items) pieces.items) (map (λ w. w.ring.items) written.old.items) (map (λ w. w.ring.items) written.new.items)) }
+    ensures entries { IfOk result (λ shell. AreEntries edges.now least (map (λ p. p.items) pieces.items) owner shell (map (λ w. record { place = w.place; ring = w.ring.items }) written.old.items) (map (λ w. record { place = w.place; ring = w.ring.items }) written.new.items)) }
 {
     let first = first_piece(edges, least, &pieces);
-    let shell = match owner {
-        Some(shell) => shell,
-        None => Opening::of(&pieces[first]),
-    };
+    let shell = shell_of_pieces(owner, &pieces[first]);
     while let Some(piece) = pieces.pop() {
         let ring = turned(piece);
         let place = Place {
             shell,
-            is_hole: owner.is_some() || pieces.len() != first,
+            is_hole: is_written_as_hole(owner, first, pieces.len()),
             opening: Opening::of(&ring),
         };
         written.push(Written { place, ring })?;
@@ -88,12 +112,15 @@ fn owner_of<A: Allocator + Copy>(
     ring: &[usize],
     shell_of: &[Option<Opening>],
 ) -> Result<Option<Opening>, NoMemory>
+    requires directed { AreDirected edges.now }
     requires edges_in { All (λ d. AreInLimit d.from d.to) edges.now }
     requires some { 0 < length ring.now }
-    requires inside { All (λ k. k < length edges.now) ring.now }
+    requires vertices { All (IsVertex edges.now) ring.now }
+    requires least { All (λ k. slice_index_or ring.now 0 0 ≤ k) ring.now }
     requires same_length { length shell_of.now ≡ length edges.now }
-    requires strips { AreStrips edges.now strips.old.strips strips.old.numbers.items }
-    ensures { OnOk result (AreStrips edges.now strips.new.strips strips.new.numbers.items) }
+    requires strips { AreStrips edges.now strips.old.strips strips.old.filled strips.old.numbers.items }
+    ensures strips { OnOk result (AreStrips edges.now strips.new.strips strips.new.filled strips.new.numbers.items) }
+    ensures owner { IfOk result (λ owner. IsOwnerFound edges.now ring.now shell_of.now owner) }
 {
     if !is_hole(edges, ring) {
         return Ok(None);
@@ -107,6 +134,7 @@ fn owner_of<A: Allocator + Copy>(
 /// Keeps the shell of the polygon for each edge of a ring.
 fn keep_shell(shell_of: &mut [Option<Opening>], cycle: &[usize], shell: Opening)
     requires { All (λ k. k < length shell_of.old) cycle.now }
+    ensures { KeepsShell cycle.now shell shell_of.old shell_of.new }
 {
     for place in cycle {
         shell_of[*place] = Some(shell);
@@ -124,15 +152,17 @@ fn write_ring<A: Allocator + Copy>(
     shell_of: &mut [Option<Opening>],
     written: &mut Vec<Written<A>, A>,
 ) -> Result<(), NoMemory>
+    requires closes { Closes edges.now }
     requires edges_in { All (λ d. AreInLimit d.from d.to) edges.now }
     requires numbers { AreNumbers edges.now numbers.now }
     requires cycle { ArePlaces edges.now cycle.now }
     requires places { length places.old ≡ length edges.now }
     requires shells { length shell_of.old ≡ length edges.now }
     requires clear { AreStacked [] places.old }
-    requires strips { AreStrips edges.now strips.old.strips strips.old.numbers.items }
-    ensures strips { OnOk result (AreStrips edges.now strips.new.strips strips.new.numbers.items) }
+    requires strips { AreStrips edges.now strips.old.strips strips.old.filled strips.old.numbers.items }
+    ensures strips { OnOk result (AreStrips edges.now strips.new.strips strips.new.filled strips.new.numbers.items) }
     ensures written { OnOk result (IsRingWritten edges.now cycle.now (map (λ w. w.ring.items) written.old.items) (map (λ w. w.ring.items) written.new.items)) }
+    ensures placed { OnOk result (IsRingPlaced edges.now cycle.now shell_of.old shell_of.new (map (λ w. record { place = w.place; ring = w.ring.items }) written.old.items) (map (λ w. record { place = w.place; ring = w.ring.items }) written.new.items)) }
     ensures clear { OnOk result (AreStacked [] places.new) }
 {
     let ring = vertices_of(alloc, numbers, cycle)?;
@@ -153,6 +183,7 @@ fn write_cycles<A: Allocator + Copy>(
     places: &mut [Option<usize>],
     shell_of: &mut [Option<Opening>],
 ) -> Result<Vec<Written<A>, A>, NoMemory>
+    requires closes { Closes edges.now }
     requires edges_in { All (λ d. AreInLimit d.from d.to) edges.now }
     requires numbers { AreNumbers edges.now numbers.now }
     requires cycles { All (λ c. ArePlaces edges.now c.items) cycles.now }
@@ -160,7 +191,9 @@ fn write_cycles<A: Allocator + Copy>(
     requires places { length places.old ≡ length edges.now }
     requires shells { length shell_of.old ≡ length edges.now }
     requires clear { AreStacked [] places.old }
-    requires strips { AreStrips edges.now strips.old.strips strips.old.numbers.items }
+    requires strips { AreStrips edges.now strips.old.strips strips.old.filled strips.old.numbers.items }
+    requires its_edges { All (λ c. HasItsEdges edges.now c.items) cycles.now }
+    ensures written { AreNodedEdges edges.now → AreGrounded edges.now (map (ring_of edges.now) (map (λ c. c.items) cycles.now)) → IfOk result (λ written. AreWritten edges.now (map (ring_of edges.now) (map (λ c. c.items) cycles.now)) (map (λ w. record { place = w.place; ring = w.ring.items }) written.items)) }
     ensures edges { IfOk result (λ written. HaveEdges edges.now (map (λ w. w.ring.items) written.items)) }
     ensures sound { IfOk result (λ written. All (IsCanonical edges.now) (map (λ w. w.ring.items) written.items)) }
 {
@@ -189,6 +222,7 @@ pub fn written_rings<A: Allocator + Copy>(
     requires edges_in { All (λ d. AreInLimit d.from d.to) edges.now }
     ensures edges { IfOk result (λ written. HaveEdges edges.now (map (λ w. w.ring.items) written.items)) }
     ensures sound { IfOk result (λ written. All (IsCanonical edges.now) (map (λ w. w.ring.items) written.items)) }
+    ensures written { AreNodedEdges edges.now → ((rings : List (List Pt)) → AreRings edges.now rings → AreGrounded edges.now rings) → IfOk result (λ written. (rings : List (List Pt)) × AreWritten edges.now rings (map (λ w. record { place = w.place; ring = w.ring.items }) written.items)) }
 {
     let numbers = start_numbers(alloc, edges)?;
     let cycles = ring_places(alloc, edges)?;

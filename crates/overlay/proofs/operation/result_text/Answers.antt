@@ -4,12 +4,12 @@ use Rattle.std.proofs.lemmas.Result.{IfOk-weaker}
 use Rattle.geom.specs.declared.edge.Counted.{Counted}
 use Rattle.geom.specs.declared.edge.Edge.{Edge}
 use Rattle.geom.specs.Limit.{AreInLimit}
-use Rattle.points_law.proofs.RoundVertex.{closes}
+use Rattle.points_law.proofs.RoundVertex.{closes, grounded}
 use Rattle.points_law.proofs.TextParity.{text_has_parity}
 use Rattle.polygonize.proofs.Writing.{unmapped}
 use Rattle.wkt.specs.Canonical.{multi_text}
 use Rattle.overlay.specs.Results.{IsResultText}
-use Rattle.overlay.proofs.Results.{directed_in, line_is, shapes}
+use Rattle.overlay.proofs.Results.{directed_in, line_is, noded_edges, shapes}
 use Rattle.overlay.proofs.operation.result_text.Goals as goal
 
 pub labels-requires : goal.labels-requires
@@ -29,6 +29,8 @@ returns g c = IfOk-weaker c.write_multi.result (λ text. text.items ≡ multi_te
       directed = c.in_ok-directed.directed;
       bound = c.in_ok-directed.ensures;
       polygons = shapes c.in_ok-polygons.polygons.items;
+      are_polygons = c.in_ok-polygons.ensures.polygons (noded_edges c.args.op c.args.counted.now c.in_ok-directed.directed c.requires.noded c.in_ok-directed.ensures)
+          (λ rings are. grounded c.args.op c.args.counted.now c.requires c.in_ok-directed.directed c.in_ok-directed.ensures rings are);
       each_edge = c.in_ok-polygons.ensures.each_edge;
       simple = c.in_ok-polygons.ensures.simple;
       least = c.in_ok-polygons.ensures.least;

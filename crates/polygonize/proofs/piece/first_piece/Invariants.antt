@@ -1,5 +1,6 @@
-use Rattle.std.proofs.Common.{◌<◌, length}
+use Rattle.std.proofs.Common.{◌<◌, length, map}
+use Rattle.polygonize.proofs.Returns.{IsBest}
 use Rattle.polygonize.proofs.piece.first_piece.Given as goal
 
 abbrev pub invariant-loop-i : goal.invariant-loop-i
-invariant-loop-i g l = l.best < length l.pieces
+invariant-loop-i g l = (l.best < length l.pieces) × IsBest l.edges l.least (map (λ p. p.items) l.pieces) l.i l.best

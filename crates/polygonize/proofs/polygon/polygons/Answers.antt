@@ -1,12 +1,16 @@
-use Rattle.std.proofs.Common.{◌≡◌, map}
+use Rattle.std.proofs.Common.{◌≡◌, map, rules}
 use Rattle.std.specs.Prelude.{All}
 use Rattle.std.proofs.lemmas.List.Elements.{All-weaker}
 use Rattle.std.proofs.lemmas.List.Sorted.{All-permutation}
 use Rattle.std.proofs.lemmas.Result.{IfOk-weaker}
-use Rattle.geom.specs.Canonical.{HaveEachEdge, written_rings}
+use Rattle.geom.specs.Canonical.{ArePolygons, HaveEachEdge, written_rings}
 use Rattle.geom.specs.ListOrder.{IsLeastRotation}
+use Rattle.polygonize.specs.Grouped.{AreGrouped}
 use Rattle.polygonize.specs.Next.{ring_of}
 use Rattle.polygonize.specs.Written.{AreSimple, IsCanonical, IsSound}
+use Rattle.polygonize.proofs.Ordered.{grouped_polygons, shell_first}
+use Rattle.polygonize.proofs.PlacedRings.{sorted_by}
+use Rattle.polygonize.proofs.Places.{place_cmp}
 use Rattle.polygonize.proofs.Least.{least_rings, simple_rings}
 use Rattle.polygonize.proofs.Writing.{text_has_each, unmapped}
 use Rattle.polygonize.proofs.polygon.polygons.Goals as goal
@@ -19,12 +23,24 @@ grouped-requires g c = record {
       (unmapped (IsCanonical c.edges-edges.result.now) (λ w. w.ring.items) c.in_ok-written.written.items c.in_ok-written.ensures.sound)));
 }
 
+pub returns-clause-polygons : goal.returns-clause-polygons
+returns-clause-polygons g c = λ noded grounded.
+    let written = rw c.edges-edges.ensures.value at c.in_ok-written.ensures.written in
+    let sorted = sorted_by (λ w. w.place) place_cmp c.sort_unstable_by_key.new.self.items c.sort_unstable_by_key.ensures.sorted (λ a r q k. search rules) in
+    let groups = rw (c.deref.ensures.value, c.edges-edges.ensures.value) at c.grouped.ensures.groups in
+    IfOk-weaker c.grouped.result
+    (λ found. AreGrouped (λ w. w.place.is_hole) (λ w. ring_of c.args.directed.now w.ring.items) c.sort_unstable_by_key.new.self.items (map (λ p. record { shell = p.shell; holes = p.holes.items }) found.items))
+    (λ found. ArePolygons c.args.directed.now (map (λ p. record { shell = p.shell; holes = p.holes.items }) found.items))
+    (λ found h. grouped_polygons (λ w. record { place = w.place; ring = w.ring.items }) c.args.directed.now c.requires.closes.are_directed noded c.in_ok-written.written.items c.sort_unstable_by_key.new.self.items (map (λ p. record { shell = p.shell; holes = p.holes.items }) found.items)
+    (written noded grounded) c.sort_unstable_by_key.ensures.permutation sorted h)
+    (groups (shell_first (λ w. record { place = w.place; ring = w.ring.items }) c.args.directed.now c.requires.closes.are_directed noded c.in_ok-written.written.items c.sort_unstable_by_key.new.self.items (written noded grounded) c.sort_unstable_by_key.ensures.permutation sorted))
+
 pub returns-clause-each_edge : goal.returns-clause-each_edge
 returns-clause-each_edge g c = IfOk-weaker c.grouped.result
     (λ found. written_rings (map (λ p. record { shell = p.shell; holes = p.holes.items }) found.items) ≡ map (λ w. ring_of c.args.directed.now w.ring.items) c.sort_unstable_by_key.new.self.items)
     (λ found. HaveEachEdge c.args.directed.now (map (λ p. record { shell = p.shell; holes = p.holes.items }) found.items))
     (λ found h. text_has_each (λ w. w.ring.items) c.args.directed.now c.in_ok-written.written.items c.sort_unstable_by_key.new.self.items (map (λ p. record { shell = p.shell; holes = p.holes.items }) found.items) (rw c.edges-edges.ensures.value at c.in_ok-written.ensures.edges) c.sort_unstable_by_key.ensures.permutation h)
-    (rw (c.deref.ensures.value, c.edges-edges.ensures.value) at c.grouped.ensures)
+    (rw (c.deref.ensures.value, c.edges-edges.ensures.value) at c.grouped.ensures.rings)
 
 pub returns-clause-least : goal.returns-clause-least
 returns-clause-least g c = IfOk-weaker c.grouped.result
@@ -33,7 +49,7 @@ returns-clause-least g c = IfOk-weaker c.grouped.result
     (λ found h. least_rings (λ w. w.ring.items) c.args.directed.now c.requires.closes.are_directed c.sort_unstable_by_key.new.self.items (map (λ p. record { shell = p.shell; holes = p.holes.items }) found.items)
     (All-permutation (λ w. IsCanonical c.args.directed.now w.ring.items) c.in_ok-written.written.items c.sort_unstable_by_key.new.self.items c.sort_unstable_by_key.ensures.permutation
     (unmapped (IsCanonical c.args.directed.now) (λ w. w.ring.items) c.in_ok-written.written.items (rw c.edges-edges.ensures.value at c.in_ok-written.ensures.sound))) h)
-    (rw (c.deref.ensures.value, c.edges-edges.ensures.value) at c.grouped.ensures)
+    (rw (c.deref.ensures.value, c.edges-edges.ensures.value) at c.grouped.ensures.rings)
 
 pub returns-clause-simple : goal.returns-clause-simple
 returns-clause-simple g c = IfOk-weaker c.grouped.result
@@ -43,4 +59,4 @@ returns-clause-simple g c = IfOk-weaker c.grouped.result
     (All-permutation (λ w. IsSound c.args.directed.now w.ring.items) c.in_ok-written.written.items c.sort_unstable_by_key.new.self.items c.sort_unstable_by_key.ensures.permutation
     (All-weaker (λ w. IsCanonical c.args.directed.now w.ring.items) (λ w. IsSound c.args.directed.now w.ring.items) (λ w k. k.sound) c.in_ok-written.written.items
     (unmapped (IsCanonical c.args.directed.now) (λ w. w.ring.items) c.in_ok-written.written.items (rw c.edges-edges.ensures.value at c.in_ok-written.ensures.sound)))) h)
-    (rw (c.deref.ensures.value, c.edges-edges.ensures.value) at c.grouped.ensures)
+    (rw (c.deref.ensures.value, c.edges-edges.ensures.value) at c.grouped.ensures.rings)

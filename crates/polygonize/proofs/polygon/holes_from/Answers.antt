@@ -1,0 +1,12 @@
+use Rattle.std.proofs.Common.{arith}
+use Rattle.std.proofs.lemmas.Grind.{common_steps}
+use Rattle.polygonize.proofs.Grouping.{one_hole}
+use Rattle.polygonize.proofs.polygon.holes_from.Goals as goal
+
+pub loop-end-preserved : goal.loop-end-preserved
+loop-end-preserved g c = (
+  grind (arith, common_steps),
+  grind (arith, common_steps),
+  grind (arith, common_steps),
+  one_hole (λ w. w.place.is_hole) c.args.written.now c.args.start _ _ c.loop-end.end c.index-written-end.result c.loop-end.invariant.0 c.loop-end-test.true c.if-written-end.true c.in_ok-push.ensures.len c.loop-end.invariant.3,
+)

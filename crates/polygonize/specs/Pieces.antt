@@ -1,0 +1,66 @@
+-- How the pieces of one ring are written, and under which shell.
+use Rattle.std.specs.Prelude.{◌≡◌, ◌⊎◌, ◌↔◌, ℕ, ◌<◌, ◌≤◌, Bool, false, List, [], All, Contains, Option, Some, None, length, map, slice_index_or, is_some, unwrap_or}
+use Rattle.geom.specs.declared.directed.DirectedEdge.{DirectedEdge}
+use Rattle.geom.specs.declared.edge.Edge.{Edge}
+use Rattle.geom.specs.declared.point.Pt.{Pt}
+use Rattle.geom.specs.Canonical.{IsFirstPiece}
+use Rattle.geom.specs.Holes.{IsHole, IsNearestBelow, IsShell, LiesBelow, left_of}
+use Rattle.geom.specs.Rings.{ring_edges, Closes, IsCut}
+use Rattle.polygonize.specs.declared.written.Opening.{Opening}
+use Rattle.polygonize.specs.Next.{edge_at, ring_of}
+use Rattle.polygonize.specs.Number.{IsVertex}
+use Rattle.polygonize.specs.Piece.{IsRingCut}
+use Rattle.polygonize.specs.Placed.{PlacedRing, opening_of}
+use Rattle.polygonize.specs.Written.{IsSound, IsTurned}
+
+-- the piece with the number k, as it is written under a shell; it is a shell itself where it is the first piece of a ring that has no owner
+pub record IsPieceWritten (shell : Opening) (owned : Bool) (first k : ℕ) (piece : List ℕ) (w : PlacedRing) : Type 0 where
+  pub turned : IsTurned piece w.ring
+  pub under : w.place.shell ≡ shell
+  pub opening : w.place.opening ≡ opening_of w.ring
+  pub hole : (w.place.is_hole ≡ false) ↔ ((owned ≡ false) × (k ≡ first))
+
+-- the pieces from the number n on are written, and nothing else is new
+pub record AreWrittenFrom (n : ℕ) (shell : Opening) (owned : Bool) (first : ℕ) (pieces : List (List ℕ)) (old new : List PlacedRing) : Type 0 where
+  pub kept : (w : PlacedRing) → Contains old w → Contains new w
+  pub only : (w : PlacedRing) → Contains new w → Contains old w ⊎ ((k : ℕ) × (k < length pieces) × IsPieceWritten shell owned first k (slice_index_or pieces k []) w)
+  pub each : (k : ℕ) → n ≤ k → k < length pieces → (w : PlacedRing) × Contains new w × IsPieceWritten shell owned first k (slice_index_or pieces k []) w
+
+-- the pieces of a ring that begins at the vertex `least` are written, under its owner's shell or else under its first piece
+pub record ArePiecesWritten (ds : List DirectedEdge) (least : ℕ) (pieces : List (List ℕ)) (owner : Option Opening) (shell : Opening) (old new : List PlacedRing) : Type 0 where
+  pub first : ℕ
+  pub inside : first < length pieces
+  pub is_first : (ring : List ℕ) → Closes ds → IsRingCut ds least ring pieces → IsFirstPiece (ring_of ds ring) (ring_of ds (slice_index_or pieces first []))
+  pub shell_is : shell ≡ unwrap_or owner (opening_of (slice_index_or pieces first []))
+  pub all : AreWrittenFrom 0 shell (is_some owner) first pieces old new
+
+-- a shell has no owner; that of a hole is kept for the nearest edge below its first vertex
+pub data IsOwnerFound (ds : List DirectedEdge) (ring : List ℕ) (shell_of : List (Option Opening)) (owner : Option Opening) : Type 0 where
+  none : IsShell (ring_of ds ring) → owner ≡ None → IsOwnerFound ds ring shell_of owner
+  floating : IsHole (ring_of ds ring) → ((e : Edge) → ¬ (LiesBelow ds (left_of (edge_at ds (slice_index_or ring 0 0)).from) e)) → IsOwnerFound ds ring shell_of owner
+  kept : (i : ℕ) → i < length ds → IsHole (ring_of ds ring) → IsNearestBelow ds (left_of (edge_at ds (slice_index_or ring 0 0)).from) (edge_at ds i) → owner ≡ slice_index_or shell_of i None → IsOwnerFound ds ring shell_of owner
+
+-- the shell is kept for the edges of a ring
+pub record KeepsShell (cycle : List ℕ) (shell : Opening) (old new : List (Option Opening)) : Type 0 where
+  pub here : (k : ℕ) → Contains cycle k → slice_index_or new k None ≡ Some shell
+  pub others : (k : ℕ) → (slice_index_or new k None ≡ slice_index_or old k None) ⊎ (Contains cycle k × (slice_index_or new k None ≡ Some shell))
+
+-- the ring of these edges is cut, its pieces are written, and their shell is kept for its edges
+pub record IsRingPlaced (ds : List DirectedEdge) (cycle : List ℕ) (shells_old shells_new : List (Option Opening)) (old new : List PlacedRing) : Type 0 where
+  pub ring : List ℕ
+  pub same : ring_of ds ring ≡ ring_of ds cycle
+  pub some : 0 < length ring
+  pub vertices : All (IsVertex ds) ring
+  pub least_first : All (λ k. slice_index_or ring 0 0 ≤ k) ring
+  pub pieces : List (List ℕ)
+  pub cut : IsCut ring pieces
+  pub sound : All (IsSound ds) pieces
+  pub owner : Option Opening
+  pub found : IsOwnerFound ds ring shells_old owner
+  pub shell : Opening
+  pub written : ArePiecesWritten ds (slice_index_or ring 0 0) pieces owner shell old new
+  pub kept : KeepsShell cycle shell shells_old shells_new
+
+-- the edges of the ring of a cycle are those at its places
+abbrev pub HasItsEdges : List DirectedEdge → List ℕ → Type 0
+HasItsEdges ds cycle = ring_edges (ring_of ds cycle) ≡ map (edge_at ds) cycle
