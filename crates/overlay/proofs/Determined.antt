@@ -45,7 +45,7 @@ module _ (a b : List ℕ) (g g' : Tiling) (cs ds : List Counted) (ms ns : List T
   pub one_counted : {P : Type 0} → IsProp P → (cs ≡ ds → P) → P
   one_counted prop f = ∥∥₁_elim h.rounded prop (λ p. ∥∥₁_elim k.rounded prop (λ q. f (both p q)))
 
-text_prop : (s t : List ℕ) → IsProp (s ≡ t)
+pub text_prop : (s t : List ℕ) → IsProp (s ≡ t)
 text_prop s t = hlevel props
 
 number_prop : (m n : ℕ) → IsProp (m ≡ n)

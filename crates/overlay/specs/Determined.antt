@@ -1,7 +1,9 @@
 -- What the two layers determine, whatever the plan of a run.
 use Rattle.std.specs.Prelude.{◌≡◌, ℕ, List}
+use Rattle.geom.specs.declared.op.Op.{Op}
 use Rattle.overlay.specs.declared.engine.Plan.{Plan}
 use Rattle.overlay.specs.declared.text.Report.{Report}
+use Rattle.overlay.specs.Results.{IsResultWritten}
 use Rattle.overlay.specs.Runs.{AreEdgesWritten}
 
 -- the text of the edges is one: whatever the tile side and the number of workers, and whatever the threads did
@@ -19,3 +21,13 @@ pub record HaveOneSize {M N : Type 0} (report : Report M) (other : Report N) : T
 abbrev pub EdgesSizesAreOne : Type 0 → Type 0 → Type 0
 EdgesSizesAreOne M N = (a b : List ℕ) (plan other : Plan) (text text' : List ℕ) (report : Report M) (report' : Report N)
     → AreEdgesWritten plan a b text report → AreEdgesWritten other a b text' report' → HaveOneSize report report'
+
+-- the text of a result is one
+abbrev pub ResultTextIsOne : Type 0 → Type 0 → Type 0
+ResultTextIsOne M N = (op : Op) (a b : List ℕ) (plan other : Plan) (text text' : List ℕ) (report : Report M) (report' : Report N)
+    → IsResultWritten op plan a b text report → IsResultWritten op other a b text' report' → text ≡ text'
+
+-- the numbers of segments and of edges in its report are one
+abbrev pub ResultSizesAreOne : Type 0 → Type 0 → Type 0
+ResultSizesAreOne M N = (op : Op) (a b : List ℕ) (plan other : Plan) (text text' : List ℕ) (report : Report M) (report' : Report N)
+    → IsResultWritten op plan a b text report → IsResultWritten op other a b text' report' → HaveOneSize report report'

@@ -3,7 +3,7 @@ use Rattle.std.specs.Prelude.{◌≡◌, ℕ, List, [], ◌∷◌, ◌++◌, All
 use Rattle.geom.specs.declared.op.Op.{Op}
 use Rattle.geom.specs.declared.edge.Counted.{Counted}
 use Rattle.geom.specs.declared.directed.DirectedEdge.{DirectedEdge}
-use Rattle.geom.specs.Canonical.{HaveEachEdge, Shape, written_rings}
+use Rattle.geom.specs.Canonical.{ArePolygons, HaveEachEdge, Shape, written_rings}
 use Rattle.geom.specs.Directed.{AreResultEdges}
 use Rattle.geom.specs.ListOrder.{IsLeastRotation}
 use Rattle.geom.specs.Pixel.{Point}
@@ -24,13 +24,14 @@ abbrev pub result_line : List Shape → List ℕ
 result_line [] = codes "MULTIPOLYGON EMPTY" ++ 10 ∷ []
 result_line (p ∷ ps) = codes "MULTIPOLYGON " ++ (listed shape_text p ps ++ 10 ∷ [])
 
--- The text is the canonical line of polygons whose rings together have each directed edge of the result once. No ring visits a
--- point twice, and each is read from its least rotation. Any point lies in the polygons, by the even-odd rule over all their
--- rings, exactly where the operation holds of its parities in the two rounded layers.
+-- The text is the canonical line of the polygons of the result's directed edges: each shell with its holes, in order. Their rings
+-- together have each of these edges once, none visits a point twice, and each is read from its least rotation. Any point lies in
+-- the polygons, by the even-odd rule over all their rings, exactly where the operation holds of its parities in the two rounded layers.
 pub record IsResultText (op : Op) (counted : List Counted) (text : List ℕ) : Type 0 where
   pub directed : List DirectedEdge
   pub bound : AreResultEdges op counted directed
   pub polygons : List Shape
+  pub are_polygons : ArePolygons directed polygons
   pub each_edge : HaveEachEdge directed polygons
   pub simple : AreSimple (written_rings polygons)
   pub least : All (λ ring. IsLeastRotation ring ring) (written_rings polygons)

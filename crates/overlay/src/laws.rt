@@ -1,6 +1,6 @@
 //! What the two layers determine: each law is the contract of a function with an empty body.
 
-ghost use Rattle.overlay.specs.Determined.{EdgesSizesAreOne, EdgesTextIsOne};
+ghost use Rattle.overlay.specs.Determined.{EdgesSizesAreOne, EdgesTextIsOne, ResultSizesAreOne, ResultTextIsOne};
 
 use std::alloc::Allocator;
 
@@ -9,4 +9,10 @@ use std::alloc::Allocator;
 pub fn edges_text_is_one<A: Allocator, B: Allocator>()
     ensures text { EdgesTextIsOne A B }
     ensures sizes { EdgesSizesAreOne A B }
+{}
+
+/// The text of a result is determined by the operation and the two layers, and so are those numbers.
+pub fn result_text_is_one<A: Allocator, B: Allocator>()
+    ensures text { ResultTextIsOne A B }
+    ensures sizes { ResultSizesAreOne A B }
 {}
