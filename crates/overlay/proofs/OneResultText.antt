@@ -32,9 +32,9 @@ one_text M N op a b plan other text text' report report' h k =
 pub result_text_is_one : (M N : Type 0) → ResultTextIsOne M N
 result_text_is_one M N = one_text M N
 
-one_result_size : (M N : Type 0) (op : Op) (a b : List ℕ) (plan other : Plan) (text text' : List ℕ) (report : Report M) (report' : Report N)
-    → IsResultWritten op plan a b text report → IsResultWritten op other a b text' report' → HaveOneSize report report'
-one_result_size M N op a b plan other text text' report report' h k = one_size a b plan other h.counted k.counted report report' h.reports k.reports
+one_result_size : (M N : Type 0) (op op' : Op) (a b : List ℕ) (plan other : Plan) (text text' : List ℕ) (report : Report M) (report' : Report N)
+    → IsResultWritten op plan a b text report → IsResultWritten op' other a b text' report' → HaveOneSize report report'
+one_result_size M N op op' a b plan other text text' report report' h k = one_size a b plan other h.counted k.counted report report' h.reports k.reports
 
 pub result_sizes_are_one : (M N : Type 0) → ResultSizesAreOne M N
 result_sizes_are_one M N = one_result_size M N

@@ -11,23 +11,25 @@ abbrev pub EdgesTextIsOne : Type 0 → Type 0 → Type 0
 EdgesTextIsOne M N = (a b : List ℕ) (plan other : Plan) (text text' : List ℕ) (report : Report M) (report' : Report N)
     → AreEdgesWritten plan a b text report → AreEdgesWritten other a b text' report' → text ≡ text'
 
--- numbers of reports in which the plan has no part
+-- the sums of two reports are the same; the plan has a part in those of single tiles alone, and in how many pieces were made again
 pub record HaveOneSize {M N : Type 0} (report : Report M) (other : Report N) : Type 0 where
   pub segments_a : report.segments_a ≡ other.segments_a
   pub segments_b : report.segments_b ≡ other.segments_b
   pub edges : report.edges ≡ other.edges
+  pub hot : report.hot ≡ other.hot
+  pub records : report.records ≡ other.records
 
--- the numbers of segments and of edges in the report are one
+-- the sums in the report are one
 abbrev pub EdgesSizesAreOne : Type 0 → Type 0 → Type 0
 EdgesSizesAreOne M N = (a b : List ℕ) (plan other : Plan) (text text' : List ℕ) (report : Report M) (report' : Report N)
     → AreEdgesWritten plan a b text report → AreEdgesWritten other a b text' report' → HaveOneSize report report'
 
--- the text of a result is one
+-- the text of a result is one: the operation and the two layers determine it
 abbrev pub ResultTextIsOne : Type 0 → Type 0 → Type 0
 ResultTextIsOne M N = (op : Op) (a b : List ℕ) (plan other : Plan) (text text' : List ℕ) (report : Report M) (report' : Report N)
     → IsResultWritten op plan a b text report → IsResultWritten op other a b text' report' → text ≡ text'
 
--- the numbers of segments and of edges in its report are one
+-- the sums in the report are one, also for two operations
 abbrev pub ResultSizesAreOne : Type 0 → Type 0 → Type 0
-ResultSizesAreOne M N = (op : Op) (a b : List ℕ) (plan other : Plan) (text text' : List ℕ) (report : Report M) (report' : Report N)
-    → IsResultWritten op plan a b text report → IsResultWritten op other a b text' report' → HaveOneSize report report'
+ResultSizesAreOne M N = (op op' : Op) (a b : List ℕ) (plan other : Plan) (text text' : List ℕ) (report : Report M) (report' : Report N)
+    → IsResultWritten op plan a b text report → IsResultWritten op' other a b text' report' → HaveOneSize report report'

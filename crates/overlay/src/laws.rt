@@ -5,13 +5,13 @@ ghost use Rattle.overlay.specs.Determined.{EdgesSizesAreOne, EdgesTextIsOne, Res
 use std::alloc::Allocator;
 
 /// The text of the edges is determined by the two layers: it is the same for every tile side, number of workers and order
-/// of threads. So are the numbers of segments and of edges in the report.
+/// of threads. So are the numbers of segments, hot pixels, records and edges in the report.
 pub fn edges_text_is_one<A: Allocator, B: Allocator>()
     ensures text { EdgesTextIsOne A B }
     ensures sizes { EdgesSizesAreOne A B }
 {}
 
-/// The text of a result is determined by the operation and the two layers, and so are those numbers.
+/// The text of a result is determined by the operation and the two layers. Those numbers are the same for every operation.
 pub fn result_text_is_one<A: Allocator, B: Allocator>()
     ensures text { ResultTextIsOne A B }
     ensures sizes { ResultSizesAreOne A B }
