@@ -28,7 +28,7 @@ use Rattle.overlay.proofs.Rounding.{covered}
 use Rattle.overlay.proofs.SumsOfTiles.{one_hot, one_records}
 
 -- ---- of two texts
-one_layer : (text : List ℕ) (rings others : List Ring) → IsAccepted text rings → IsAccepted text others → rings ≡ others
+pub one_layer : (text : List ℕ) (rings others : List Ring) → IsAccepted text rings → IsAccepted text others → rings ≡ others
 one_layer text rings others h k = at_most_one text rings others h.read.layer k.read.layer
 
 pub one_segments_of : (a b : List ℕ) (ss ts : List Seg) → AreSegmentsOf a b ss → AreSegmentsOf a b ts → ss ≡ ts

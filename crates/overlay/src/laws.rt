@@ -1,6 +1,6 @@
 //! What the two layers determine: each law is the contract of a function with an empty body.
 
-ghost use Rattle.overlay.specs.Determined.{EdgesSizesAreOne, EdgesTextIsOne, ResultSizesAreOne, ResultTextIsOne};
+ghost use Rattle.overlay.specs.Determined.{EdgesSizesAreOne, EdgesTextIsOne, RefusalIsOne, RefusedMayNotRun, ResultSizesAreOne, ResultTextIsOne};
 
 use std::alloc::Allocator;
 
@@ -15,4 +15,10 @@ pub fn edges_text_is_one<A: Allocator, B: Allocator>()
 pub fn result_text_is_one<A: Allocator, B: Allocator>()
     ensures text { ResultTextIsOne A B }
     ensures sizes { ResultSizesAreOne A B }
+{}
+
+/// A plan and two layers are refused for one reason, or for none where they are answered.
+pub fn one_refusal()
+    ensures reason { RefusalIsOne }
+    ensures answered { RefusedMayNotRun }
 {}
