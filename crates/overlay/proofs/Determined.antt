@@ -1,27 +1,34 @@
 -- Two runs on the same two layers have one list of segments and one of rounded edges, and so one text.
-use Rattle.std.proofs.Common.{◌≡◌, ℕ, List, length, sym, ap, subst, ◌∙◌}
+use Rattle.std.proofs.Common.{◌≡◌, ℕ, ◌<◌, ◌≤◌, List, Option, Some, None, length, refl, sym, ap, subst, ◌∙◌, arith}
 use Rattle.std.proofs.Math.Logic.{∥∥₁_elim}
 use Rattle.std.proofs.Props.{props}
 use Rattle.geom.specs.declared.point.Pt.{Pt}
+use Rattle.geom.specs.declared.rect.Rect.{Rect}
 use Rattle.geom.specs.declared.segment.Seg.{Seg}
 use Rattle.geom.specs.declared.edge.Counted.{Counted}
 use Rattle.geom.specs.Rounded.{AreRounded}
 use Rattle.geom.specs.Segments.{AreSegments}
+use Rattle.chain_gather.specs.Gathered.{AreTileNumbers}
 use Rattle.chain_gather.specs.declared.rounded.TileNumbers.{TileNumbers}
+use Rattle.chain_gather.proofs.Covering.{are_covered}
+use Rattle.chain_gather.proofs.Gathering.{AreCovered}
 use Rattle.points_law.proofs.OneResult.{one_rounded, one_segments}
-use Rattle.tiling.specs.Tiles.{Tiling}
+use Rattle.tiling.specs.Tiles.{CoversBounds, IsGridOf, Tiling, tile_count}
+use Rattle.tiling.proofs.Columns.{covers}
 use Rattle.wkt.specs.LayerText.{Ring}
 use Rattle.wkt.specs.Refusals.{IsAccepted, plain}
 use Rattle.wkt.proofs.Complete.{at_most_one}
 use Rattle.overlay.specs.Determined.{EdgesSizesAreOne, EdgesTextIsOne, HaveOneSize}
 use Rattle.overlay.specs.Rounds.{AreRoundedOver, AreSegmentsOf}
-use Rattle.overlay.specs.Runs.{AreEdgesWritten, Reports, segment_count}
+use Rattle.overlay.specs.Runs.{AreEdgesWritten, IsChecked, Reports, segment_count}
 use Rattle.overlay.specs.Texts.{edges_text_of}
 use Rattle.overlay.specs.declared.engine.Plan.{Plan}
 use Rattle.overlay.specs.declared.text.Report.{Report}
+use Rattle.overlay.proofs.Rounding.{covered}
+use Rattle.overlay.proofs.SumsOfTiles.{one_hot, one_records}
 
 -- ---- of two texts
-one_layer : (text : List ℕ) (rings others : List Ring) → IsAccepted text rings → IsAccepted text others → rings ≡ others
+pub one_layer : (text : List ℕ) (rings others : List Ring) → IsAccepted text rings → IsAccepted text others → rings ≡ others
 one_layer text rings others h k = at_most_one text rings others h.read.layer k.read.layer
 
 pub one_segments_of : (a b : List ℕ) (ss ts : List Seg) → AreSegmentsOf a b ss → AreSegmentsOf a b ts → ss ≡ ts
@@ -45,7 +52,7 @@ module _ (a b : List ℕ) (g g' : Tiling) (cs ds : List Counted) (ms ns : List T
   pub one_counted : {P : Type 0} → IsProp P → (cs ≡ ds → P) → P
   one_counted prop f = ∥∥₁_elim h.rounded prop (λ p. ∥∥₁_elim k.rounded prop (λ q. f (both p q)))
 
-text_prop : (s t : List ℕ) → IsProp (s ≡ t)
+pub text_prop : (s t : List ℕ) → IsProp (s ≡ t)
 text_prop s t = hlevel props
 
 number_prop : (m n : ℕ) → IsProp (m ≡ n)
@@ -61,6 +68,29 @@ one_text M N a b plan other text text' report report' h k =
 pub edges_text_is_one : (M N : Type 0) → EdgesTextIsOne M N
 edges_text_is_one M N = one_text M N
 
+-- ---- the tiles of a run have every hot pixel
+grid_covers : (bounds : Option Rect) (side : ℕ) (g : Tiling) → 0 < side → IsGridOf bounds side g → CoversBounds bounds g
+grid_covers None side g l h = tt
+grid_covers (Some r) side g l h = covers r side g l h
+
+some_side : (side : ℕ) → 16 ≤ side → 0 < side
+some_side side h = omega (arith, h)
+
+checked : {M : Type 0} (plan : Plan) (a b : List ℕ) (cs : List Counted) (report : Report M) (h : Reports plan a b cs report) → IsChecked plan a b (segment_count h.rings_a) (segment_count h.rings_b) h.grid
+checked plan a b cs report h = record {
+  rings_a = h.rings_a;
+  rings_b = h.rings_b;
+  ready = h.ready;
+  count_a = refl;
+  count_b = refl;
+  bounds = h.ready.is_grid.bounds;
+  are_bounds = h.ready.is_grid.are_bounds;
+  covers = grid_covers h.ready.is_grid.bounds plan.side h.grid (some_side plan.side h.ready.planned.side.0) h.ready.is_grid.is_grid;
+}
+
+tiles_cover : {M : Type 0} (plan : Plan) (a b : List ℕ) (cs : List Counted) (report : Report M) (h : Reports plan a b cs report) → AreCovered h.grid h.rounded.segments
+tiles_cover plan a b cs report h = are_covered h.grid h.rounded.segments (covered plan a b _ _ h.grid h.rounded.segments (checked plan a b cs report h) h.rounded.are_segments)
+
 -- ---- the numbers of reports
 pub one_size : {M N : Type 0} (a b : List ℕ) (plan other : Plan) (cs ds : List Counted) (report : Report M) (report' : Report N)
     → Reports plan a b cs report → Reports other a b ds report' → HaveOneSize report report'
@@ -69,7 +99,18 @@ one_size a b plan other cs ds report report' h k = record {
   segments_b = h.segments_b ∙ ap segment_count (one_layer b h.rings_b k.rings_b h.ready.accepted_b k.ready.accepted_b) ∙ sym k.segments_b;
   edges = one_counted a b h.grid k.grid cs ds h.tiles k.tiles h.rounded k.rounded (number_prop report.edges report'.edges)
       (λ e. h.edges ∙ ap length e ∙ sym k.edges);
+  hot = h.told.hot_is ∙ one_hot h.grid k.grid k.rounded.segments h.tiles k.tiles numbers k.rounded.tiles_are cover (tiles_cover other a b ds report' k) ∙ sym k.told.hot_is;
+  records = h.told.records_is ∙ one_records h.grid k.grid k.rounded.segments h.tiles k.tiles numbers k.rounded.tiles_are cover (tiles_cover other a b ds report' k) ∙ sym k.told.records_is;
 }
+  where
+    one : h.rounded.segments ≡ k.rounded.segments
+    one = one_segments_of a b h.rounded.segments k.rounded.segments h.rounded.are_segments k.rounded.are_segments
+
+    numbers : AreTileNumbers h.grid k.rounded.segments (tile_count h.grid) h.tiles
+    numbers = subst (λ (ss : List Seg). AreTileNumbers h.grid ss (tile_count h.grid) h.tiles) one h.rounded.tiles_are
+
+    cover : AreCovered h.grid k.rounded.segments
+    cover = subst (λ (ss : List Seg). AreCovered h.grid ss) one (tiles_cover plan a b cs report h)
 
 one_edges_size : (M N : Type 0) (a b : List ℕ) (plan other : Plan) (text text' : List ℕ) (report : Report M) (report' : Report N)
     → AreEdgesWritten plan a b text report → AreEdgesWritten other a b text' report' → HaveOneSize report report'

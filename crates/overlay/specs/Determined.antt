@@ -1,21 +1,45 @@
 -- What the two layers determine, whatever the plan of a run.
 use Rattle.std.specs.Prelude.{◌≡◌, ℕ, List}
+use Rattle.geom.specs.declared.fault.Fault.{Fault}
+use Rattle.geom.specs.declared.fault.Part.{Part}
+use Rattle.geom.specs.declared.op.Op.{Op}
 use Rattle.overlay.specs.declared.engine.Plan.{Plan}
 use Rattle.overlay.specs.declared.text.Report.{Report}
-use Rattle.overlay.specs.Runs.{AreEdgesWritten}
+use Rattle.overlay.specs.Results.{IsResultWritten}
+use Rattle.overlay.specs.Runs.{AreEdgesWritten, IsRefusedAt, MayRun}
 
 -- the text of the edges is one: whatever the tile side and the number of workers, and whatever the threads did
 abbrev pub EdgesTextIsOne : Type 0 → Type 0 → Type 0
 EdgesTextIsOne M N = (a b : List ℕ) (plan other : Plan) (text text' : List ℕ) (report : Report M) (report' : Report N)
     → AreEdgesWritten plan a b text report → AreEdgesWritten other a b text' report' → text ≡ text'
 
--- numbers of reports in which the plan has no part
+-- the sums of two reports are the same; the plan has a part in those of single tiles alone, and in how many pieces were made again
 pub record HaveOneSize {M N : Type 0} (report : Report M) (other : Report N) : Type 0 where
   pub segments_a : report.segments_a ≡ other.segments_a
   pub segments_b : report.segments_b ≡ other.segments_b
   pub edges : report.edges ≡ other.edges
+  pub hot : report.hot ≡ other.hot
+  pub records : report.records ≡ other.records
 
--- the numbers of segments and of edges in the report are one
+-- the sums in the report are one
 abbrev pub EdgesSizesAreOne : Type 0 → Type 0 → Type 0
 EdgesSizesAreOne M N = (a b : List ℕ) (plan other : Plan) (text text' : List ℕ) (report : Report M) (report' : Report N)
     → AreEdgesWritten plan a b text report → AreEdgesWritten other a b text' report' → HaveOneSize report report'
+
+-- the text of a result is one: the operation and the two layers determine it
+abbrev pub ResultTextIsOne : Type 0 → Type 0 → Type 0
+ResultTextIsOne M N = (op : Op) (a b : List ℕ) (plan other : Plan) (text text' : List ℕ) (report : Report M) (report' : Report N)
+    → IsResultWritten op plan a b text report → IsResultWritten op other a b text' report' → text ≡ text'
+
+-- the sums in the report are one, also for two operations
+abbrev pub ResultSizesAreOne : Type 0 → Type 0 → Type 0
+ResultSizesAreOne M N = (op op' : Op) (a b : List ℕ) (plan other : Plan) (text text' : List ℕ) (report : Report M) (report' : Report N)
+    → IsResultWritten op plan a b text report → IsResultWritten op' other a b text' report' → HaveOneSize report report'
+
+-- a plan and two layers are refused for one reason, at one place
+abbrev pub RefusalIsOne : Type 0
+RefusalIsOne = (plan : Plan) (a b : List ℕ) (part other : Part) (f g : Fault) → IsRefusedAt plan a b part f → IsRefusedAt plan a b other g → (part ≡ other) × (f ≡ g)
+
+-- and then they are not answered
+abbrev pub RefusedMayNotRun : Type 0
+RefusedMayNotRun = (plan : Plan) (a b : List ℕ) (part : Part) (f : Fault) → IsRefusedAt plan a b part f → MayRun plan a b → ⊥
