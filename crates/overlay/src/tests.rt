@@ -417,14 +417,21 @@ const CASES: [Case; 42] = [
     ),
 ];
 
+/// Whether a command line gives what its case says.
+fn is_answered<R: Threads + Wait + Sync>(
+    rt: &R,
+    alloc: Global,
+    case: Case,
+) -> Result<bool, NoMemory> {
+    let (words, status, out, err) = case;
+    let outcome = driven(rt, alloc, words, (4000, 4000))?;
+    Ok(is_outcome(&outcome, status, Told::Text(out), err))
+}
+
 #[test]
 fn answers_command_lines(rt: HostRuntime) -> Result<(), Fail> {
-    for (words, status, out, err) in CASES {
-        let outcome = driven(&rt, rt.alloc(), words, (4000, 4000))?;
-        assert!(rt;
-            is_outcome(&outcome, status, Told::Text(out), err),
-            "{words:?}"
-        );
+    for case in CASES {
+        assert!(rt; is_answered(&rt, rt.alloc(), case)?, "{:?}", case.0);
     }
     Ok(())
 }
