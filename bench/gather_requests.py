@@ -1,0 +1,98 @@
+#!/usr/bin/env python3
+"""Counts the requests for memory of `gather` with an empty and with a full book, on the row of chain_gather's tests.
+
+    python3 bench/gather_requests.py
+
+A copy of the crate gets four tests more: what goes before `gather`, and that with `gather`, for either book. Each is run by `rt try`
+with its N-th request refused; the least N with which it passes is one more than the number of its requests. Exit status 1 where a
+full book doesn't save requests. Needs the kit's `rt`.
+"""
+import os
+import re
+import shutil
+import subprocess
+import sys
+import tempfile
+
+ROOT = os.path.dirname(os.path.dirname(os.path.abspath(__file__)))
+CALL = "    gather(own, book, &grid, &bins, &segments)\n"
+TEST = """
+#[test]
+fn {name}(rt: HostRuntime) -> Result<(), Fail> {{
+    let _answer = {call}::<Brand, _>(&rt, rt.alloc(), rt.alloc(), Blank::new(1), {posted}, &ROW)?;
+    Ok(())
+}}
+"""
+BOOKS = (("empty", 0), ("full", 4))
+
+
+def with_tests(text):
+    """The tests' text with the four tests in place of its own."""
+    start = text.index("fn gathered<")
+    gathered = text[start:text.index("\n}\n", start) + 3]
+    assert gathered.count(CALL) == 1
+    before = gathered.replace("fn gathered<", "fn prepared<").replace(CALL, "    Ok(book)\n")
+    before = before.replace("Result<Rounded<A>, NoMemory>", "Result<Book<Piece<A>, L, A>, NoMemory>")
+    assert before.count("Book<Piece<A>, L, A>") == 1
+    text = text.replace("#[test]\n", "") + before
+    for book, posted in BOOKS:
+        for call in ("prepared", "gathered"):
+            text += TEST.format(name="%s_with_%s_book" % (call, book), call=call, posted=posted)
+    return text
+
+
+def copied(folder):
+    """A copy of the repository's crates, the tests of chain_gather exchanged; the folder of that crate."""
+    shutil.copy(os.path.join(ROOT, "crates.txt"), folder)
+    shutil.copytree(os.path.join(ROOT, "crates"), os.path.join(folder, "crates"), ignore=shutil.ignore_patterns("out", "must-fail"))
+    crate = os.path.join(folder, "crates", "chain_gather")
+    path = os.path.join(crate, "src", "tests.rt")
+    with open(path) as file:
+        text = with_tests(file.read())
+    with open(path, "w") as file:
+        file.write(text)
+    return crate
+
+
+def passing(crate, refused):
+    """The tests that pass where this request is refused."""
+    run = subprocess.run(["rt", "try", "--test", "--fail-alloc", str(refused)], cwd=crate, stdout=subprocess.PIPE, stderr=subprocess.STDOUT, text=True)
+    told = dict(re.findall(r"^test tests::(\w+) \.\.\. (\w+)$", run.stdout, re.M))
+    if len(told) != 4:
+        sys.exit("the tests did not run:\n" + run.stdout)
+    return {name for name, outcome in told.items() if outcome == "ok"}
+
+
+def requests(crate):
+    """The number of requests of each test: the greatest whose refusal makes it fail."""
+    answers = {}
+
+    def passes(name, refused):
+        if refused not in answers:
+            answers[refused] = passing(crate, refused)
+        return name in answers[refused]
+
+    counts = {}
+    for book, _ in BOOKS:
+        for call in ("prepared", "gathered"):
+            name = "%s_with_%s_book" % (call, book)
+            low, high = 0, 1024
+            assert passes(name, high)
+            while high - low > 1:
+                middle = (low + high) // 2
+                low, high = (low, middle) if passes(name, middle) else (middle, high)
+            counts[name] = low
+    return counts
+
+
+def main():
+    with tempfile.TemporaryDirectory() as folder:
+        counts = requests(copied(folder))
+    made = {book: counts["gathered_with_%s_book" % book] - counts["prepared_with_%s_book" % book] for book, _ in BOOKS}
+    for book, count in made.items():
+        print("%s book: %d requests by gather, the %d-th refused changes nothing" % (book, count, count + 1))
+    return 0 if 0 < made["full"] < made["empty"] else 1
+
+
+if __name__ == "__main__":
+    sys.exit(main())
