@@ -10,7 +10,7 @@ use Rattle.geom.specs.Bounds.{HoldsSteps, IsBox}
 use Rattle.geom.specs.Segments.{layer_steps}
 use Rattle.geom.proofs.Integers.{linear}
 use Rattle.geom.proofs.Lists.{contains_in}
-use Rattle.tiling.specs.Tiles.{IsGridOf, IsOver, Tiling, most_tiles, steps, tile_count}
+use Rattle.tiling.specs.Tiles.{IsGridOf, IsOver, Owns, Tiling, most_tiles, steps, tile_count}
 use Rattle.wkt.specs.LayerText.{Ring}
 use Rattle.wkt.specs.Refusals.{IsAccepted, IsRefused, plain}
 use Rattle.wkt.proofs.Exclusive.{not_both, same_refusal}
@@ -43,8 +43,8 @@ no_box r h =
 counts_same : (c d : ℕ) (w : ℤ) → pos c ≡ w → pos d ≡ w → c ≡ d
 counts_same c d w e f = let g : pos c ≡ pos d = e ∙ sym f in cc
 
-over_same : (r s : Rect) (side : ℕ) (g f : Tiling) (taken : List (Pt × Pt)) → IsBox taken r → IsBox taken s → IsOver r side g → IsOver s side f → tile_count g ≡ tile_count f
-over_same r s side g f taken h k o p = ap₂ (λ (m n : ℕ). m * n) rows columns
+over_path : (r s : Rect) (side : ℕ) (g f : Tiling) (taken : List (Pt × Pt)) → IsBox taken r → IsBox taken s → IsOver r side g → IsOver s side f → g ≡ f
+over_path r s side g f taken h k o p = λ i. record { left = (o.left_is ∙ lo_x ∙ sym p.left_is) i; bottom = (o.bottom_is ∙ lo_y ∙ sym p.bottom_is) i; side = (o.side_is ∙ sym p.side_is) i; columns = columns i; rows = rows i }
   where
     lo_x : r.lo.x ≡ s.lo.x
     lo_x = same_number r.lo.x s.lo.x (k.least r h.holds).0.left (h.least s k.holds).0.left
@@ -64,11 +64,18 @@ over_same r s side g f taken h k o p = ap₂ (λ (m n : ℕ). m * n) rows column
     rows : g.rows ≡ f.rows
     rows = counts_same g.rows f.rows _ (o.rows_are ∙ ap₂ (λ (a b : ℤ). steps a side b +ℤ pos 1) lo_y hi_y) p.rows_are
 
-grid_same : (bounds other : Option Rect) (side : ℕ) (g f : Tiling) (taken : List (Pt × Pt)) → AreBoundsOf taken bounds → AreBoundsOf taken other → IsGridOf bounds side g → IsGridOf other side f → tile_count g ≡ tile_count f
+pub grid_same : (bounds other : Option Rect) (side : ℕ) (g f : Tiling) (taken : List (Pt × Pt)) → AreBoundsOf taken bounds → AreBoundsOf taken other → IsGridOf bounds side g → IsGridOf other side f → tile_count g ≡ tile_count f
 grid_same None None side g f taken h k o p = ap₂ (λ (m n : ℕ). m * n) (o.2 ∙ sym p.2) (o.1 ∙ sym p.1)
 grid_same None (Some s) side g f taken h k o p = absurd (no_box s (subst (λ (zs : List (Pt × Pt)). IsBox zs s) h k))
 grid_same (Some r) None side g f taken h k o p = absurd (no_box r (subst (λ (zs : List (Pt × Pt)). IsBox zs r) k h))
-grid_same (Some r) (Some s) side g f taken h k o p = over_same r s side g f taken h k o p
+grid_same (Some r) (Some s) side g f taken h k o p = ap tile_count (over_path r s side g f taken h k o p)
+
+-- and it has the same tiles
+pub owns_same : (bounds : Option Rect) (other : Option Rect) (side : ℕ) (g f : Tiling) (taken : List (Pt × Pt)) → AreBoundsOf taken bounds → AreBoundsOf taken other → IsGridOf bounds side g → IsGridOf other side f
+    → (j : ℕ) (p : Pt) → Owns g j p → Owns f j p
+owns_same None other side g f taken h k o p j z w = absurd (let l = w.in_columns in let e = o.1 in omega (arith, l, e))
+owns_same (Some r) None side g f taken h k o p j z w = absurd (no_box r (subst (λ (zs : List (Pt × Pt)). IsBox zs r) k h))
+owns_same (Some r) (Some s) side g f taken h k o p j z w = subst (λ (t : Tiling). Owns t j z) (over_path r s side g f taken h k o p) w
 
 -- ---- one refusal
 module _ (plan : Plan) (a b : List ℕ) where

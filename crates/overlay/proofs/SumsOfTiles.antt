@@ -1,5 +1,5 @@
 -- Every hot pixel and every record belongs to one tile: so the sums over all tiles are the same for every grid.
-use Rattle.std.proofs.Common.{◌≡◌, inl, inr, ℕ, suc, ◌+◌, ◌<◌, ◌≤◌, List, [], ◌∷◌, ◌++◌, length, refl, sym, ap, subst, ◌∙◌, arith, ⊎_elim, sum_by}
+use Rattle.std.proofs.Common.{◌≡◌, inl, inr, ℕ, suc, ◌+◌, ◌<◌, ◌≤◌, List, [], ◌∷◌, ◌++◌, length, map, refl, sym, ap, ap₂, subst, ◌∙◌, arith, ⊎_elim, sum_by}
 use Rattle.std.proofs.Math.Logic.{∥∥₁_elim, ∥∥₁_map}
 use Rattle.std.proofs.Props.{props}
 use Rattle.std.proofs.lemmas.Bool.{cases_lt}
@@ -211,3 +211,31 @@ module _ (g f : Tiling) (segments : List Seg) (tiles others : List TileNumbers) 
   pub one_records : sum_by (λ t. t.records) tiles ≡ sum_by (λ t. t.records) others
   one_records = ∥∥₁_elim (all_records g segments tiles h c) (number_prop _ _) (λ p. ∥∥₁_elim (all_records f segments others k d) (number_prop _ _)
       (λ q. same_sum (IsRecord segments) _ _ _ _ p q (record_owned g segments tiles h c) (record_owned f segments others k d)))
+
+-- ---- the numbers of one tile
+same_part : {X : Type 0} (Is One Other : X → Type 0) (m n : ℕ) → IsPart Is One m → IsPart Is Other n → ((x : X) → One x → Other x) → ((x : X) → Other x → One x) → m ≡ n
+same_part Is One Other m n p q f g = p.number_is ∙ same_length p.those q.those p.distinct q.distinct (λ z i. q.all z (p.is z i) (f z (p.owned z i))) (λ z i. p.all z (q.is z i) (g z (q.owned z i))) ∙ sym q.number_is
+
+abbrev numbers_of : TileNumbers → ℕ × ℕ
+numbers_of t = (t.hot, t.records)
+
+told_prop : (t u : TileNumbers) → IsProp (numbers_of t ≡ numbers_of u)
+told_prop t u = hlevel props
+
+same_told : (ts us : List TileNumbers) → length ts ≡ length us → ((j : ℕ) (t u : TileNumbers) → slice_get ts j ≡ Some t → slice_get us j ≡ Some u → numbers_of t ≡ numbers_of u) → map numbers_of ts ≡ map numbers_of us
+same_told [] [] l f = refl
+same_told [] (u ∷ us) l f = absurd (omega (arith, l))
+same_told (t ∷ ts) [] l f = absurd (omega (arith, l))
+same_told (t ∷ ts) (u ∷ us) l f = ap₂ (λ (x : ℕ × ℕ) (xs : List (ℕ × ℕ)). x ∷ xs) (f 0 t u refl refl) (same_told ts us (omega (arith, l)) (λ j x y d e. f (suc j) x y d e))
+
+module _ (g f : Tiling) (segments : List Seg) (tiles others : List TileNumbers) (h : AreTileNumbers g segments (tile_count g) tiles) (k : AreTileNumbers f segments (tile_count f) others)
+    (count : tile_count g ≡ tile_count f) (to : (j : ℕ) (p : Pt) → Owns g j p → Owns f j p) (from : (j : ℕ) (p : Pt) → Owns f j p → Owns g j p) where
+  one_tile : (j : ℕ) (t u : TileNumbers) → slice_get tiles j ≡ Some t → slice_get others j ≡ Some u → numbers_of t ≡ numbers_of u
+  one_tile j t u d e = ∥∥₁_elim (h.each j t d) (told_prop t u) (λ (rs, p, m). ∥∥₁_elim (k.each j u e) (told_prop t u) (λ (us, q, n).
+      ap₂ (λ (x y : ℕ). (x, y))
+      (same_part (IsHot segments) _ _ _ _ (hot_part g segments j t.hot rs p) (hot_part f segments j u.hot us q) (to j) (from j))
+      (same_part (IsRecord segments) _ _ _ _ (record_part g segments j t.hot rs p t.records m) (record_part f segments j u.hot us q u.records n) (λ r o. to j r.pixel o) (λ r o. from j r.pixel o))))
+
+  -- where two grids have the same tiles, each tile's numbers are the same
+  pub one_told : map numbers_of tiles ≡ map numbers_of others
+  one_told = same_told tiles others (h.one_each ∙ count ∙ sym k.one_each) one_tile

@@ -1,6 +1,6 @@
 //! What the two layers determine: each law is the contract of a function with an empty body.
 
-ghost use Rattle.overlay.specs.Determined.{EdgesSizesAreOne, EdgesTextIsOne, RefusalIsOne, RefusedMayNotRun, ResultSizesAreOne, ResultTextIsOne};
+ghost use Rattle.overlay.specs.Determined.{EdgesSizesAreOne, EdgesTextIsOne, RefusalIsOne, RefusedMayNotRun, ResultSizesAreOne, ResultTextIsOne, TilesAreOne};
 
 use std::alloc::Allocator;
 
@@ -21,4 +21,9 @@ pub fn result_text_is_one<A: Allocator, B: Allocator>()
 pub fn one_refusal()
     ensures reason { RefusalIsOne }
     ensures answered { RefusedMayNotRun }
+{}
+
+/// The numbers of each tile in a report are determined by the two layers and the tile side.
+pub fn tiles_are_one<A: Allocator, B: Allocator>()
+    ensures { TilesAreOne A B }
 {}

@@ -18,7 +18,7 @@ pub use asked::{CliFault, Command, Request};
 pub use cli::request;
 pub use engine::{Plan, edges};
 pub use files::{Disk, Files, LoadFault};
-pub use laws::{edges_text_is_one, one_refusal, result_text_is_one};
+pub use laws::{edges_text_is_one, one_refusal, result_text_is_one, tiles_are_one};
 pub use operation::{result_text, run};
 pub use program::{drive, drive_process};
 pub use sink::{MemSink, Sink, SinkFault, write_all};
