@@ -34,7 +34,7 @@ def with_tests(text):
     before = gathered.replace("fn gathered<", "fn prepared<").replace(CALL, "    Ok(book)\n")
     before = before.replace("Result<Rounded<A>, NoMemory>", "Result<Book<Piece<A>, L, A>, NoMemory>")
     assert before.count("Book<Piece<A>, L, A>") == 1
-    text = text.replace("#[test]\n", "") + before
+    text = text[:text.index("#[test]\n")] + before
     for book, posted in BOOKS:
         for call in ("prepared", "gathered"):
             text += TEST.format(name="%s_with_%s_book" % (call, book), call=call, posted=posted)
