@@ -1,8 +1,8 @@
 -- A count over some members of a list, by their numbers, which leave out none that is counted.
-use Rattle.std.proofs.Common.{◌≡◌, ◌⊎◌, ℕ, zero, suc, ◌+◌, ◌-◌, ◌<◌, ◌≤◌, Bool, true, false, cond, List, [], ◌∷◌, length, get_or, map, Option, Some, None, refl, sym, ◌∙◌, ap, subst, inl, inr, arith}
-use Rattle.std.specs.Prelude.{AllPairs, Contains, count_by, slice_get}
+use Rattle.std.proofs.Common.{◌≡◌, ℕ, zero, suc, ◌+◌, ◌-◌, ◌<◌, ◌≤◌, Bool, true, false, cond, List, [], ◌∷◌, length, get_or, map, Option, Some, None, refl, sym, ◌∙◌, ap, subst, inl, inr, arith}
+use Rattle.std.specs.Prelude.{AllPairs, count_by, slice_get}
 use Rattle.std.proofs.lemmas.Bool.{cases_eq}
-use Rattle.geom.proofs.Lists.{In, contains_in, count-cons}
+use Rattle.geom.proofs.Lists.{In, count-cons}
 
 -- ascending, from i on
 abbrev From : ℕ → List ℕ → Type 0

@@ -1,6 +1,6 @@
 -- A point given with twice the numbers has the same parity; the right side of an edge is the left side of the edge turned round.
-use Rattle.std.proofs.Common.{◌≡◌, Bool, true, false, List, ◌^◌, refl, sym, ◌∙◌, ap, arith, w32, FitsSigned, to_z, of_z, to_z-of_z}
-use Rattle.std.specs.Prelude.{ℤ, pos, ◌+ℤ◌, ◌-ℤ◌, ◌*ℤ◌, ◌<ℤ◌, ◌≤ℤ◌, ◌&&◌, int_lt, int_le, count_by, not}
+use Rattle.std.proofs.Common.{◌≡◌, Bool, List, ◌^◌, refl, sym, ◌∙◌, ap, arith, w32, FitsSigned, to_z, of_z, to_z-of_z}
+use Rattle.std.specs.Prelude.{ℤ, pos, ◌+ℤ◌, ◌-ℤ◌, ◌*ℤ◌, ◌&&◌, int_lt, int_le, count_by, not}
 use Rattle.std.proofs.lemmas.Int.{ints}
 use Rattle.geom.specs.declared.point.Pt.{Pt}
 use Rattle.geom.specs.declared.op.Op.{Op}
@@ -14,7 +14,7 @@ use Rattle.geom.specs.ResultEdges.{left_side, right_side}
 use Rattle.geom.specs.Rounded.{is_odd}
 use Rattle.geom.proofs.Integers.{expand, linear, mul_assoc}
 use Rattle.face_label.specs.Double.{IsDouble}
-use Rattle.face_label.specs.Label.{OddLayers, holds_in, bounds, both_ways}
+use Rattle.face_label.specs.Label.{OddLayers, holds_in, both_ways}
 
 -- ---- tests
 le_double : (a b c d : ℤ) → c ≡ pos 2 *ℤ a → d ≡ pos 2 *ℤ b → int_le c d ≡ int_le a b

@@ -1,6 +1,6 @@
 -- The listed directed edges are those of the result.
-use Rattle.std.proofs.Common.{◌≡◌, ◌⊎◌, ◌↔◌, inl, inr, ℕ, suc, ◌+◌, ◌<◌, Bool, true, false, cond, List, [], ◌∷◌, ◌++◌, map, length, get_or, take, refl, sym, ◌∙◌, ap, subst, arith, add-one, append_assoc, Less, zero, filter}
-use Rattle.std.specs.Prelude.{Contains, AllPairs, ◌&&◌, not}
+use Rattle.std.proofs.Common.{◌≡◌, ◌⊎◌, inl, inr, ℕ, suc, ◌+◌, ◌<◌, Bool, true, false, cond, List, [], ◌∷◌, ◌++◌, map, length, get_or, take, refl, sym, ◌∙◌, ap, subst, arith, add-one, append_assoc, zero, filter}
+use Rattle.std.specs.Prelude.{◌&&◌, not}
 use Rattle.std.proofs.lemmas.List.{append-nil, map-append}
 use Rattle.std.proofs.lemmas.List.Elements.{filter-append}
 use Rattle.std.proofs.Math.Seq.{take-suc}
@@ -11,11 +11,10 @@ use Rattle.geom.specs.declared.segment.Source.TheVariants.{A, B}
 use Rattle.geom.specs.declared.edge.Edge.{Edge}
 use Rattle.geom.specs.declared.edge.Counted.{Counted}
 use Rattle.geom.specs.declared.directed.DirectedEdge.{DirectedEdge}
-use Rattle.geom.specs.ResultEdges.{left_side, right_side, is_result_edge, holds_at}
+use Rattle.geom.specs.ResultEdges.{left_side, is_result_edge, holds_at}
 use Rattle.geom.specs.Rounded.{edges_of, odd_edges}
 use Rattle.geom.specs.Directed.{from_to, AreDirected, IsResultEdge, AreResultEdges}
 use Rattle.geom.proofs.Lists.{In, contains_in, in_contains, in_append}
-use Rattle.geom.proofs.Points.{and_both}
 use Rattle.face_label.specs.Label.{OddLayers, both_ways, bounds, counts_odd, ways, ways_of}
 use Rattle.face_label.proofs.Doubling.{right_is_left}
 use Rattle.face_label.proofs.Orders.{IsSortedOnce, directed_cmp, directed_ascending}

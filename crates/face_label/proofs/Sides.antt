@@ -1,5 +1,5 @@
 -- The side points of an edge have over them only edges that have a whole x in the strip of its midpoint.
-use Rattle.std.proofs.Common.{◌≡◌, ℕ, suc, ◌+◌, ◌*◌, ◌/◌, ◌^◌, ◌<◌, ◌≤◌, Bool, true, List, [], ◌∷◌, length, get_or, map, Some, refl, sym, ◌∙◌, ap, subst, arith, zero-add}
+use Rattle.std.proofs.Common.{◌≡◌, ℕ, ◌+◌, ◌/◌, ◌^◌, ◌<◌, ◌≤◌, Bool, true, List, [], ◌∷◌, length, get_or, map, Some, refl, sym, ◌∙◌, ap, subst, arith, zero-add}
 use Rattle.std.specs.Prelude.{ℤ, pos, negsuc, ◌+ℤ◌, ◌-ℤ◌, ◌*ℤ◌, neg_ℤ, ◌<ℤ◌, ◌≤ℤ◌, ◌&&◌, int_lt, int_le, nat_abs, slice_get, All, not}
 use Rattle.std.specs.Int.{int_div_euclid}
 use lib.Signed.{le_z_yes}
@@ -12,7 +12,6 @@ use Rattle.geom.specs.declared.op.Op.{Op}
 use Rattle.geom.specs.declared.edge.Edge.{Edge}
 use Rattle.geom.specs.declared.edge.Counted.{Counted}
 use Rattle.geom.specs.Limit.{AreInLimit, IsWithin, coordinate_limit}
-use Rattle.geom.specs.Order.{IsBefore}
 use Rattle.geom.specs.Pixel.{Point}
 use Rattle.geom.specs.Operations.{holds}
 use Rattle.geom.specs.Parity.{covers, lies_above, parity}
@@ -21,7 +20,7 @@ use Rattle.geom.specs.Rounded.{is_odd}
 use Rattle.geom.proofs.Integers.{expand, linear, scale_le, unscale_lt}
 use Rattle.geom.proofs.Lists.{In, contains_in}
 use Rattle.geom.proofs.Points.{and_both}
-use Rattle.tiling.specs.Strips.{IsInStrip, Striped, strip_count}
+use Rattle.tiling.specs.Strips.{IsInStrip}
 use Rattle.tiling.specs.Tiles.{steps}
 use Rattle.face_label.specs.Label.{OddLayers, bounds, both_ways, holds_in}
 use Rattle.face_label.specs.Strip.{AreInStrip, IsSpanned, IsStriped, StripedLayer, edges_at, layers_at, strip_at}

@@ -1,11 +1,11 @@
 -- How the edges of the strips are found.
-use Rattle.std.proofs.Common.{◌≡◌, ◌⊎◌, ℕ, suc, ◌+◌, ◌<◌, ◌≤◌, Bool, true, false, cond, List, [], ◌∷◌, ◌++◌, length, get_or, map, take, Option, Some, None, refl, sym, ◌∙◌, ap, subst, inl, inr, arith, length-append, ℤ, pos, ◌+ℤ◌, ◌*ℤ◌, w32, to_z, of_z, to_z-of_z, FitsSigned}
-use Rattle.std.specs.Prelude.{◌≤ℤ◌, ◌<ℤ◌, All, AllPairs, Contains, slice_get, nat_abs, int_lt, filter}
+use Rattle.std.proofs.Common.{◌≡◌, ◌⊎◌, ℕ, ◌+◌, ◌<◌, ◌≤◌, false, cond, List, [], ◌∷◌, ◌++◌, length, get_or, map, take, Option, Some, None, refl, sym, ◌∙◌, ap, subst, inl, inr, arith, length-append, ℤ, pos, ◌+ℤ◌, ◌*ℤ◌, w32, to_z, of_z, to_z-of_z, FitsSigned}
+use Rattle.std.specs.Prelude.{◌≤ℤ◌, All, slice_get, int_lt, filter}
 use Rattle.std.specs.Option.{option_map}
-use Rattle.std.specs.Int.{int_min, int_max, int_div_euclid}
+use Rattle.std.specs.Int.{int_min, int_max}
 use Rattle.std.proofs.lemmas.Int.{ints}
 use Rattle.std.proofs.lemmas.Bool.{cases_lt}
-use Rattle.std.proofs.lemmas.List.{get_or_default, length-map}
+use Rattle.std.proofs.lemmas.List.{get_or_default}
 use Rattle.std.proofs.lemmas.List.Elements.{All-more, All-weaker, All-filter, All-map}
 use Rattle.std.proofs.lemmas.Option.{slice_get-map, slice_get_within}
 use Rattle.std.proofs.Math.ListN.{get_or-append}
@@ -20,7 +20,7 @@ use Rattle.geom.specs.Rounded.{is_odd, odd_edges}
 use Rattle.geom.proofs.Integers.{expand, linear}
 use Rattle.lane_tests.specs.Columns.{corners}
 use Rattle.tiling.specs.Index.{Item}
-use Rattle.tiling.specs.Strips.{IsFill, IsInStrip, MeetsStrip, Striped}
+use Rattle.tiling.specs.Strips.{IsFill, Striped}
 use Rattle.face_label.specs.Strip.{AreBoxesOf, AreColumnsOf, AreInStrip, AreStriped, IsIndexOf, IsSpanned, StripedLayer, edge_corners}
 
 -- ---- columns

@@ -1,7 +1,6 @@
 -- The edges of a layer by vertical strips (own).
 use Rattle.std.specs.Prelude.{◌≡◌, ◌↔◌, ◌<◌, ◌≤ℤ◌, ◌+ℤ◌, ℕ, ℤ, pos, List, [], All, AllPairs, Contains, Some, get_or, length, map, nat_abs, slice_get}
 use Rattle.std.specs.Int.{int_div_euclid}
-use Rattle.geom.specs.declared.point.Pt.{Pt}
 use Rattle.geom.specs.declared.edge.Edge.{Edge}
 use Rattle.geom.specs.declared.edge.Counted.{Counted}
 use Rattle.geom.specs.declared.rect.Rect.{Rect}

@@ -1,12 +1,10 @@
 -- Candidates and their hot pixels.
-use Rattle.std.proofs.Common.{◌≡◌, ◌⊎◌, inl, inr, ℕ, zero, suc, ◌+◌, ◌<◌, List, [], ◌∷◌, ◌++◌, refl, sym, ◌∙◌, ap, arith, subst, length, ◌↔◌, ⊎_elim}
-use Rattle.std.specs.Prelude.{All, Contains, Option, Some, None, slice_get}
-use Rattle.std.specs.List.{filter_map}
+use Rattle.std.proofs.Common.{◌≡◌, ◌⊎◌, inl, inr, ℕ, List, [], ◌∷◌, refl, ◌∙◌, ap, subst, ◌↔◌, ⊎_elim}
+use Rattle.std.specs.Prelude.{Contains, Option, Some, None, slice_get}
 use Rattle.std.proofs.lemmas.Option.{slice_get-get_or, get_or_from_slice_get, slice_get_within}
 use Rattle.geom.specs.declared.point.Pt.{Pt}
 use Rattle.geom.specs.declared.segment.Seg.{Seg}
 use Rattle.geom.specs.Hot.{IsHot}
-use Rattle.geom.specs.Route.{Meets}
 use Rattle.hot_pixel.specs.Candidates.{chosen, AreCandidates, AreOwnedHot}
 use Rattle.hot_pixel.proofs.ListLaws.{in_cons, from_cons, here, none_in}
 use Rattle.hot_pixel.proofs.HotLaws.{hot_lines}

@@ -1,13 +1,13 @@
 -- Hot pixels: where they lie, and that they depend on the segments' ends alone.
-use Rattle.std.proofs.Common.{◌≡◌, ◌⊎◌, inl, inr, List, refl, sym, subst, arith}
-use Rattle.std.proofs.Math.IntN.{ℤ, pos, ◌+ℤ◌, ◌-ℤ◌, ◌*ℤ◌, neg_ℤ}
-use Rattle.std.specs.Prelude.{All, Contains, ◌≤ℤ◌, ◌<ℤ◌, ◌≢◌}
+use Rattle.std.proofs.Common.{◌≡◌, ◌⊎◌, inl, inr, List, subst, arith}
+use Rattle.std.proofs.Math.IntN.{ℤ, pos, ◌-ℤ◌, neg_ℤ}
+use Rattle.std.specs.Prelude.{All, Contains, ◌≢◌}
 use Rattle.std.proofs.lemmas.List.Elements.{All-contains}
 use Rattle.geom.specs.declared.point.Pt.{Pt}
 use Rattle.geom.specs.declared.segment.Seg.{Seg}
-use Rattle.geom.specs.Pixel.{Point, pixel}
+use Rattle.geom.specs.Pixel.{Point}
 use Rattle.geom.specs.Determinant.{turn}
-use Rattle.geom.specs.OnSegment.{IsAt, IsOn}
+use Rattle.geom.specs.OnSegment.{IsOn}
 use Rattle.geom.specs.Hot.{IsHot, CrossIn}
 use Rattle.geom.specs.Hot.IsHot.{start, end, crossing}
 use Rattle.geom.specs.Route.{Meets}

@@ -1,7 +1,7 @@
 -- Lines, and how many pairs of them meet.
-use Rattle.std.proofs.Common.{◌≡◌, ◌⊎◌, inl, inr, ℕ, zero, suc, ◌+◌, ◌<◌, ◌≤◌, List, [], ◌∷◌, ◌++◌, Bool, true, false, cond, refl, sym, ◌∙◌, ap, arith, subst, length, get_or, take, ⊎_elim}
+use Rattle.std.proofs.Common.{◌≡◌, inl, inr, ℕ, ◌+◌, ◌<◌, ◌≤◌, List, [], ◌∷◌, ◌++◌, Bool, true, false, cond, refl, sym, ◌∙◌, ap, arith, subst, length, get_or, take, ⊎_elim}
 use Rattle.std.proofs.Math.IntN.{ℤ}
-use Rattle.std.specs.Prelude.{All, Contains, Option, Some, None, ◌&&◌, ◌≤ℤ◌, ◌<ℤ◌, int_le, count_by, filter, slice_get}
+use Rattle.std.specs.Prelude.{Contains, Option, Some, ◌&&◌, int_le, count_by, filter, slice_get}
 use Rattle.std.specs.Int.{int_min, int_max}
 use Rattle.std.specs.List.{filter_map, items_where_true, sum_by}
 use Rattle.std.specs.List.Retain.{IsFiltered}

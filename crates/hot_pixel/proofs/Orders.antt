@@ -1,10 +1,10 @@
 -- The orders of points and of edges, and lists that are sorted and rid of repeats.
-use Rattle.std.proofs.Common.{◌≡◌, ◌⊎◌, inl, inr, ℕ, ◌<◌, ◌≤◌, List, [], Bool, true, false, Ordering, Less, Equal, Greater, refl, sym, ◌∙◌, subst, arith, rules, length, get_or, ◌↔◌}
+use Rattle.std.proofs.Common.{◌≡◌, inl, inr, List, [], Bool, true, Ordering, Less, Equal, Greater, sym, ◌∙◌, subst, arith, rules, get_or, ◌↔◌}
 use Rattle.std.proofs.Math.IntN.{ℤ}
 use Rattle.std.specs.Prelude.{AllPairs, Contains, ◌<ℤ◌, ◌≤ℤ◌, ◌&&◌}
 use Rattle.std.specs.Cmp.{IsTotalOrder, IsEquivalence, int_ranks}
 use Rattle.std.specs.Cmp.Rules.{comparing}
-use Rattle.std.specs.Ordering.{eq_by_cmp, int_cmp, int_eq, ordering_then, MatchOrdering}
+use Rattle.std.specs.Ordering.{eq_by_cmp, int_cmp, ordering_then, MatchOrdering}
 use Rattle.std.specs.List.{dedup}
 use Rattle.std.specs.List.Sorted.{IsPermutation, IsSorted}
 use Rattle.std.specs.List.Retain.{IsFiltered, DiffersFromLast}

@@ -1,5 +1,5 @@
 -- The points of a rectangle, by a test and by inequalities.
-use Rattle.std.proofs.Common.{◌≡◌, Bool, true, sym, arith, ◌↔◌}
+use Rattle.std.proofs.Common.{◌≡◌, true, sym, arith, ◌↔◌}
 use Rattle.std.proofs.Math.IntN.{ℤ}
 use Rattle.std.specs.Prelude.{◌≤ℤ◌, int_le}
 use Rattle.std.proofs.lemmas.Int.{ints}

@@ -4,16 +4,15 @@ use Rattle.std.proofs.Math.IntN.{ℤ, pos}
 use Rattle.std.specs.Prelude.{All, AllPairs, Contains, Option, Some, filter, ◌≤ℤ◌, ◌<ℤ◌, int_le, count_by}
 use Rattle.std.proofs.Math.Seq.{drop-cons}
 use Rattle.std.proofs.lemmas.Int.{ints, by_lt_z}
-use Rattle.std.proofs.lemmas.List.{take_more, take-append-drop, get_or_default, length-drop, get_or-drop}
+use Rattle.std.proofs.lemmas.List.{take_more, take-append-drop, length-drop, get_or-drop}
 use Rattle.std.proofs.lemmas.List.Elements.{All-contains, Contains-append_left, Contains-push, Contains-push_cases, Contains-get_or}
-use Rattle.std.proofs.lemmas.List.Sums.{sum_by_push, sum_by-cons, sum_by-take-le}
+use Rattle.std.proofs.lemmas.List.Sums.{sum_by_push, sum_by-take-le}
 use Rattle.geom.specs.declared.point.Pt.{Pt}
 use Rattle.geom.specs.declared.rect.Rect.{Rect}
 use Rattle.geom.specs.declared.segment.Seg.{Seg}
 use Rattle.geom.specs.declared.edge.Edge.{Edge}
 use Rattle.geom.specs.Hot.{IsHot, CrossIn}
 use Rattle.geom.specs.Hot.IsHot.{start, end, crossing}
-use Rattle.geom.specs.Route.{Meets}
 use Rattle.geom.specs.Limit.{InLimit, AreInLimit}
 use Rattle.geom.specs.Rounded.{IsEdgeBefore}
 use Rattle.geom.proofs.Integers.{linear, expand}
@@ -22,7 +21,7 @@ use Rattle.geom.proofs.Along.{Between, meets_box}
 use Rattle.geom.proofs.Pixels.{piece, meets_in}
 use Rattle.hot_pixel.specs.Lines.{IsLine, AreLines, CrossAt, HasPushed, HasEnds, HasCrossed, HasAllCrossed, lines_meet, line_pairs}
 use Rattle.hot_pixel.specs.Rects.{IsIn}
-use Rattle.hot_pixel.proofs.ListLaws.{in_cons, from_cons, here, none_in, in_push, in_take_more, in_filter, head_pair}
+use Rattle.hot_pixel.proofs.ListLaws.{in_cons, here, none_in, in_push, in_take_more, in_filter, head_pair}
 use Rattle.hot_pixel.proofs.HotLaws.{first_meets, second_meets, cross_back}
 use Rattle.hot_pixel.proofs.LineLaws.{segment_of, segment_line, cross_at, count_filter, pairs_push}
 

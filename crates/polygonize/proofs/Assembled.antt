@@ -1,6 +1,6 @@
 -- The groups of the written rings, in the order of the text, are the polygons.
-use Rattle.std.proofs.Common.{◌≡◌, ◌≢◌, ◌⊎◌, ℕ, zero, suc, ◌≤◌, Bool, true, false, List, [], ◌∷◌, ◌++◌, length, map, refl, sym, ◌∙◌, ap, subst, inl, inr, arith}
-use Rattle.std.specs.Prelude.{All, AllPairs, Contains, flat_map}
+use Rattle.std.proofs.Common.{◌≡◌, ◌≢◌, ℕ, ◌≤◌, Bool, true, false, List, [], ◌∷◌, ◌++◌, length, map, refl, sym, ◌∙◌, ap, subst, inl, inr, arith}
+use Rattle.std.specs.Prelude.{All, Contains, flat_map}
 use Rattle.std.proofs.lemmas.List.Elements.{All-contains}
 use Rattle.std.proofs.lemmas.List.Sorted.{IsPermutation-sym}
 use Rattle.geom.specs.declared.point.Pt.{Pt}
@@ -10,7 +10,7 @@ use Rattle.geom.specs.Directed.{AreDirected}
 use Rattle.geom.specs.Holes.{IsOwner, IsShell}
 use Rattle.geom.specs.Holes.IsOwner.{itself}
 use Rattle.geom.specs.ListOrder.{IsListBefore, IsLeastRotation}
-use Rattle.geom.specs.Rings.{along, ring_edges, AreRings, IsCut}
+use Rattle.geom.specs.Rings.{ring_edges, AreRings}
 use Rattle.geom.specs.Rings.IsCut.{whole}
 use Rattle.geom.specs.NodedEdges.{AreNodedEdges}
 use Rattle.geom.proofs.OneCut.{one_cut}
@@ -21,12 +21,11 @@ use Rattle.geom.proofs.Lists.{In, contains_in, in_contains, in_map, map_in}
 use Rattle.polygonize.specs.Grouped.{Group, members, shape_of, AreGrouped}
 use Rattle.polygonize.specs.Next.{ring_of}
 use Rattle.polygonize.specs.Placed.{PlacedRing, opening_of, IsPlaced, IsWrittenAmong}
-use Rattle.polygonize.specs.Written.{IsCanonical}
-use Rattle.polygonize.proofs.Entries.{AreOne, AreEntries, IsEntry, entry, in_flat, one_first, one_shell, one_under, one_whole, owner_inside, owner_of, owner_shell, same_first, same_shell, written_edge}
+use Rattle.polygonize.proofs.Entries.{AreOne, AreEntries, IsEntry, entry, in_flat, one_shell, one_under, one_whole, owner_inside, owner_of, owner_shell, same_first, same_shell, written_edge}
 use Rattle.polygonize.proofs.Lists.{in_permutation}
 use Rattle.polygonize.proofs.Openings.{opening_before, same_numbers}
 use Rattle.polygonize.proofs.Places.{OpeningLess, PlaceLess, opening_itself, opening_one_way, place_one_way}
-use Rattle.polygonize.proofs.Sorted.{Ascend, ascend_map, ascend_pairs, between, compare, group_ascends, in_members, of_members, one_group, shells_ascend}
+use Rattle.polygonize.proofs.Sorted.{ascend_map, ascend_pairs, between, compare, group_ascends, in_members, of_members, one_group, shells_ascend}
 
 -- places by the opening of the shell alone
 shells_meet : (t g h : PlacedRing) → PlaceLess t.place g.place → PlaceLess g.place h.place → t.place.shell ≡ h.place.shell → h.place.shell ≡ g.place.shell

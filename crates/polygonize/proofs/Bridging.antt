@@ -1,6 +1,6 @@
 -- A ring that is written, from what is known of its parts.
-use Rattle.std.proofs.Common.{◌≡◌, ◌⊎◌, ℕ, zero, suc, ◌+◌, ◌<◌, ◌≤◌, Bool, true, false, List, [], ◌∷◌, ◌++◌, length, map, get_or, refl, sym, ◌∙◌, ap, subst, inl, inr, arith, Option, Some, None}
-use Rattle.std.specs.Prelude.{◌||◌, ◌==◌, ◌↔◌, Contains, is_some, not}
+use Rattle.std.proofs.Common.{◌≡◌, ◌⊎◌, ℕ, zero, suc, ◌+◌, ◌<◌, Bool, true, false, List, [], ◌∷◌, length, map, get_or, refl, sym, ◌∙◌, ap, subst, inl, inr, arith, Option}
+use Rattle.std.specs.Prelude.{◌||◌, ◌==◌, ◌↔◌, is_some, not}
 use Rattle.std.proofs.lemmas.Bool.{cases_eq}
 use Rattle.std.proofs.lemmas.Bool.Decides.{nat_tests}
 use Rattle.std.proofs.lemmas.List.{get_or_default}
@@ -14,7 +14,7 @@ use Rattle.polygonize.specs.Next.{ring_of}
 use Rattle.polygonize.specs.Number.{AreNumbers}
 use Rattle.polygonize.specs.Owning.{AreEntered, AreEntries, IsEntered}
 use Rattle.polygonize.specs.Owning as own
-use Rattle.polygonize.specs.Pieces.{ArePiecesWritten, AreWrittenFrom, IsOwnerFound, IsPieceWritten, IsRingPlaced, KeepsShell}
+use Rattle.polygonize.specs.Pieces.{ArePiecesWritten, IsOwnerFound, IsPieceWritten, IsRingPlaced, KeepsShell}
 use Rattle.polygonize.specs.Pieces.IsOwnerFound.{none, floating, kept}
 use Rattle.polygonize.specs.Placed.{PlacedRing}
 use Rattle.polygonize.specs.Written.{ArePlaces, backward}

@@ -1,6 +1,6 @@
 -- What the tests decide says that directed edges close into cycles.
-use Rattle.std.proofs.Common.{◌≡◌, ◌≢◌, ◌⊎◌, ℕ, ◌<◌, Bool, true, false, List, refl, sym, ◌∙◌, ap, subst, inl, inr, arith}
-use Rattle.std.specs.Prelude.{All, AllPairs, Contains, ◌&&◌, ◌||◌, not, ◌<ℤ◌, pos}
+use Rattle.std.proofs.Common.{◌≡◌, ◌≢◌, ◌⊎◌, ℕ, ◌<◌, Bool, true, List, sym, ◌∙◌, ap, subst, inl, inr, arith}
+use Rattle.std.specs.Prelude.{All, AllPairs, Contains, ◌&&◌, not, ◌<ℤ◌, pos}
 use Rattle.std.proofs.lemmas.Bool.{false≢true}
 use Rattle.std.proofs.lemmas.List.Elements.{All-contains}
 use Rattle.geom.specs.declared.point.Pt.{Pt}
@@ -12,7 +12,7 @@ use Rattle.geom.specs.Rings.{IsNeighbour, IsSooner, IsMetBefore, IsNext, Closes}
 use Rattle.geom.proofs.Points.{and_both, or_either, same_point_true, same_point_refl}
 use Rattle.polygonize.specs.declared.successor.Spoke.{Spoke}
 use Rattle.polygonize.specs.Spoke.{half, sooner, AreSpokes, no_spoke, spoke_at}
-use Rattle.polygonize.specs.Closing.{HasNext, IsFirst, are_apart, is_passed, met}
+use Rattle.polygonize.specs.Closing.{HasNext, are_apart, is_passed, met}
 use Rattle.polygonize.proofs.Turns.{Half, half_of, sooner_true}
 use Rattle.polygonize.proofs.Turns.Half.{right, left, itself}
 use Rattle.polygonize.proofs.Spokes.{found}

@@ -1,5 +1,5 @@
 -- The pieces of a ring, taken from the end, and their entries, written at the end.
-use Rattle.std.proofs.Common.{◌≡◌, ℕ, suc, ◌+◌, List, [], ◌∷◌, ◌++◌, length, map, refl, sym, ◌∙◌, ap, subst, Bool, Option, get_or, ◌<◌, append_assoc, length-append, arith}
+use Rattle.std.proofs.Common.{◌≡◌, ℕ, suc, List, [], ◌∷◌, ◌++◌, length, map, refl, sym, ◌∙◌, ap, subst, Bool, Option, get_or, ◌<◌, append_assoc, length-append, arith}
 use Rattle.std.specs.Prelude.{is_some, unwrap_or}
 use Rattle.geom.specs.declared.directed.DirectedEdge.{DirectedEdge}
 use Rattle.geom.specs.Canonical.{IsFirstPiece}

@@ -1,6 +1,6 @@
 -- What is known once the rings of some cycles are written, and that one more ring keeps it.
-use Rattle.std.proofs.Common.{◌≡◌, ◌⊎◌, ℕ, zero, suc, ◌+◌, ◌<◌, ◌≤◌, Bool, true, false, List, [], ◌∷◌, ◌++◌, length, map, get_or, refl, sym, ◌∙◌, ap, subst, inl, inr, arith, Option, Some, None}
-use Rattle.std.specs.Prelude.{All, AllPairs, Contains, flat_map, is_some, unwrap_or}
+use Rattle.std.proofs.Common.{◌≡◌, ◌⊎◌, ℕ, ◌+◌, ◌<◌, ◌≤◌, Bool, List, [], ◌∷◌, ◌++◌, length, map, get_or, refl, sym, ◌∙◌, ap, subst, inl, inr, arith, Option, Some, None}
+use Rattle.std.specs.Prelude.{All, Contains, flat_map, is_some, unwrap_or}
 use Rattle.std.proofs.lemmas.Bool.{cases_eq, cases_lt}
 use Rattle.std.proofs.lemmas.List.{get_or-map, length-map}
 use Rattle.std.proofs.lemmas.List.Elements.{All-contains, All-contains_itself, All-get_or, All-map, All-weaker, Contains-get_or}
@@ -8,7 +8,7 @@ use Rattle.geom.specs.declared.point.Pt.{Pt}
 use Rattle.geom.specs.declared.directed.DirectedEdge.{DirectedEdge}
 use Rattle.geom.specs.Canonical.{IsFirstPiece}
 use Rattle.geom.specs.Directed.{AreDirected}
-use Rattle.geom.specs.Holes.{AreGrounded, IsHole, IsLeastVertex, IsNearestBelow, IsOwner, IsShell, left_of}
+use Rattle.geom.specs.Holes.{AreGrounded, IsLeastVertex, IsNearestBelow, IsOwner, left_of}
 use Rattle.geom.specs.Holes.IsOwner.{itself, below}
 use Rattle.geom.specs.ListOrder.{IsListBefore, IsLeastRotation}
 use Rattle.geom.specs.NodedEdges.{AreNodedEdges}
@@ -28,7 +28,7 @@ use Rattle.polygonize.specs.Written.{ArePlaces, HaveEdges, IsCanonical}
 use Rattle.polygonize.proofs.Entries.{owner_of}
 use Rattle.polygonize.proofs.Writing.{unmapped}
 use Rattle.polygonize.proofs.Holes.{least_point}
-use Rattle.polygonize.proofs.Lists.{Split, split_at}
+use Rattle.polygonize.proofs.Lists.{split_at}
 use Rattle.polygonize.proofs.Owning.{Law, among, end_on, index_of, law_of_hole, law_of_shell, placed, ring_cut, shell_written, start_on}
 
 -- ---- orders

@@ -1,6 +1,6 @@
 -- Rings of the text, run by run.
 use Rattle.std.proofs.Common.{◌≡◌, ℕ, zero, suc, ◌+◌, ◌<◌, ◌≤◌, Bool, true, false, List, [], ◌∷◌, ◌++◌, length, get_or, map, take, drop, refl, sym, ◌∙◌, ap, subst, arith}
-use Rattle.std.specs.Prelude.{All, flat_map}
+use Rattle.std.specs.Prelude.{All}
 use Rattle.std.proofs.lemmas.List.{map-append, append-nil, get_or-drop, length-drop}
 use Rattle.std.proofs.lemmas.List.Elements.{All-append, All-cons, All-more, All-nil}
 use Rattle.std.proofs.lemmas.List.Concat.{flat_map-append}

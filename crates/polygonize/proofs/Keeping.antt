@@ -1,6 +1,5 @@
 -- The shell of a polygon, kept at the places of a ring's edges.
-use Rattle.std.proofs.Common.{◌≡◌, ◌≢◌, ◌⊎◌, ℕ, ◌+◌, ◌<◌, ◌≤◌, inl, inr, refl, sym, ◌∙◌, ap, subst, Option, Some, None, List, length, get_or, set, arith}
-use Rattle.std.specs.Prelude.{Contains}
+use Rattle.std.proofs.Common.{◌≡◌, ◌≢◌, ℕ, ◌+◌, ◌<◌, inl, inr, refl, sym, ◌∙◌, ap, Option, Some, None, List, length, get_or, set, arith}
 use Rattle.std.proofs.lemmas.Bool.{cases_eq, cases_lt}
 use Rattle.std.proofs.lemmas.List.{get_or_default, get_or-set_same, get_or-set_other}
 use Rattle.polygonize.specs.declared.written.Opening.{Opening}

@@ -1,5 +1,5 @@
 -- A ring that visits no vertex twice, begun at its least vertex, is its own least rotation.
-use Rattle.std.proofs.Common.{◌≡◌, ◌⊎◌, ℕ, zero, suc, ◌<◌, ◌≤◌, List, [], ◌∷◌, ◌++◌, length, get_or, map, refl, sym, ◌∙◌, ap, subst, inl, inr, arith}
+use Rattle.std.proofs.Common.{◌≡◌, ◌⊎◌, ℕ, suc, ◌<◌, ◌≤◌, List, [], ◌∷◌, ◌++◌, length, get_or, map, refl, sym, ◌∙◌, ap, subst, inl, inr, arith}
 use Rattle.std.specs.Prelude.{All}
 use Rattle.std.proofs.lemmas.List.{append-nil, get_or-map, length-map}
 use Rattle.std.proofs.lemmas.List.Elements.{All-map, All-weaker}
@@ -7,11 +7,11 @@ use Rattle.std.proofs.Math.Seq.{get_or-append_seam}
 use Rattle.geom.specs.declared.point.Pt.{Pt}
 use Rattle.geom.specs.declared.directed.DirectedEdge.{DirectedEdge}
 use Rattle.geom.specs.Order.{IsBefore}
-use Rattle.geom.specs.ListOrder.{IsListBefore, IsRotation, IsLeastRotation}
+use Rattle.geom.specs.ListOrder.{IsListBefore, IsLeastRotation}
 use Rattle.geom.specs.Rings.{IsSimple}
 use Rattle.geom.specs.Directed.{AreDirected}
 use Rattle.geom.proofs.Edges.{before_strict}
-use Rattle.polygonize.specs.Next.{nothing, edge_at, ring_of}
+use Rattle.polygonize.specs.Next.{edge_at, ring_of}
 use Rattle.polygonize.specs.Number.{IsVertex}
 use Rattle.polygonize.specs.Spoke.{less}
 use Rattle.geom.specs.Canonical.{Shape, written_rings}

@@ -1,12 +1,11 @@
 -- Written rings are told apart by their openings, which stand in the order of the rings.
-use Rattle.std.proofs.Common.{◌≡◌, ◌≢◌, ◌⊎◌, ℕ, zero, suc, ◌+◌, ◌<◌, ◌≤◌, Bool, true, false, cond, List, [], ◌∷◌, ◌++◌, length, map, refl, sym, ◌∙◌, ap, subst, inl, inr, arith}
+use Rattle.std.proofs.Common.{◌≡◌, ◌≢◌, ◌⊎◌, ℕ, ◌+◌, ◌<◌, ◌≤◌, Bool, true, false, cond, List, [], ◌∷◌, length, map, refl, sym, ◌∙◌, ap, subst, inl, inr, arith}
 use Rattle.std.specs.Prelude.{◌&&◌, All, IsPermutation, count_by, flat_map, sum_by}
 use Rattle.std.specs.List.Sorted.{IsSortedByKey}
 use Rattle.std.proofs.lemmas.Bool.{cases_lt}
 use Rattle.std.proofs.lemmas.List.Elements.{All-head, All-tail}
 use Rattle.std.proofs.lemmas.List.Sums.{sum_by-append, sum_by-cons}
 use Rattle.std.proofs.lemmas.List.Sorted.{IsPermutation-map, sum_by-IsPermutation}
-use Rattle.geom.specs.declared.point.Pt.{Pt}
 use Rattle.geom.specs.declared.directed.DirectedEdge.{DirectedEdge}
 use Rattle.geom.specs.Directed.{from_to, IsDirectedBefore, AreDirected}
 use Rattle.geom.specs.ListOrder.{IsListBefore}
@@ -22,7 +21,7 @@ use Rattle.polygonize.specs.Written.{HaveEdges, IsCanonical, IsSound}
 use Rattle.polygonize.proofs.Least.{vertex_order}
 use Rattle.polygonize.proofs.Numbers.{same_vertex}
 use Rattle.polygonize.proofs.Places.{OpeningLess, PlaceLess, pairs_ascend, place_cmp, sorted_places}
-use Rattle.polygonize.proofs.Rounds.{less_apart, less_not}
+use Rattle.polygonize.proofs.Rounds.{less_not}
 use Rattle.polygonize.proofs.Sorted.{Ascend}
 
 -- ---- each edge once

@@ -1,5 +1,5 @@
 -- What the pieces of one ring add to the written rings: each is placed under the shell that owns the ring.
-use Rattle.std.proofs.Common.{◌≡◌, ◌≢◌, ◌⊎◌, ℕ, zero, suc, ◌+◌, ◌<◌, ◌≤◌, Bool, true, false, List, [], ◌∷◌, ◌++◌, length, map, get_or, refl, sym, ◌∙◌, ap, subst, inl, inr, arith, Option, Some, None}
+use Rattle.std.proofs.Common.{◌≡◌, ◌≢◌, ◌⊎◌, ℕ, zero, suc, ◌<◌, ◌≤◌, Bool, true, false, List, [], ◌∷◌, length, map, get_or, refl, sym, ◌∙◌, ap, subst, inl, inr, arith}
 use Rattle.std.specs.Prelude.{All, Contains, flat_map, ◌↔◌}
 use Rattle.std.proofs.lemmas.List.{map-append}
 use Rattle.std.proofs.lemmas.List.Elements.{All-get_or, All-contains, Contains-get_or}
@@ -8,8 +8,7 @@ use Rattle.geom.specs.declared.point.Pt.{Pt}
 use Rattle.geom.specs.declared.directed.DirectedEdge.{DirectedEdge}
 use Rattle.geom.specs.Canonical.{IsFirstPiece}
 use Rattle.geom.specs.Directed.{from_to, AreDirected}
-use Rattle.geom.specs.Holes.{IsHole, IsOwner, IsShell}
-use Rattle.geom.specs.Holes.IsOwner.{itself}
+use Rattle.geom.specs.Holes.{IsHole, IsOwner}
 use Rattle.geom.specs.ListOrder.{IsLeastRotation, IsRotation}
 use Rattle.geom.specs.NodedEdges.{AreNodedEdges}
 use Rattle.geom.specs.Rings.{along, ring_edges, AreRings, Closes, IsCut}

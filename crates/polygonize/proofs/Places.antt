@@ -1,5 +1,5 @@
 -- The order of places in the text.
-use Rattle.std.proofs.Common.{◌≡◌, ◌⊎◌, ℕ, zero, suc, ◌<◌, ◌≤◌, Bool, true, false, List, [], ◌∷◌, length, get_or, refl, sym, ◌∙◌, ap, subst, inl, inr, arith, Ordering, Less, Equal, Greater}
+use Rattle.std.proofs.Common.{◌≡◌, ◌⊎◌, ℕ, suc, ◌<◌, ◌≤◌, Bool, true, false, List, [], ◌∷◌, length, get_or, refl, sym, ◌∙◌, subst, inl, inr, arith, Ordering, Less, Equal, Greater}
 use Rattle.std.specs.Prelude.{AllPairs}
 use Rattle.std.specs.Cmp.{IsTotalOrder, bool_cmp_total}
 use Rattle.std.specs.List.Sorted.{IsSortedByKey}
@@ -9,7 +9,7 @@ use Rattle.std.proofs.lemmas.List.Sorted.{ranks_by, sorted_far}
 use Rattle.geom.proofs.Lists.{In}
 use Rattle.polygonize.specs.declared.written.Opening.{Opening}
 use Rattle.polygonize.specs.declared.written.Place.{Place}
-use Rattle.polygonize.proofs.Sorted.{Ascend, IsOneWay}
+use Rattle.polygonize.proofs.Sorted.{Ascend}
 
 abbrev pub OpeningLess : Opening → Opening → Type 0
 OpeningLess o p = (o.first < p.first) ⊎ ((o.first ≡ p.first) × (o.second < p.second))

@@ -1,8 +1,7 @@
 -- The cycles of the next edge are the rings.
 use Rattle.std.proofs.Common.{◌≡◌, ◌≢◌, ℕ, zero, suc, ◌<◌, ◌≤◌, List, [], ◌∷◌, ◌++◌, length, map, get_or, take, drop, refl, sym, ◌∙◌, ap, subst, inl, inr, arith}
-use Rattle.std.specs.Prelude.{All, AllPairs, Contains, flat_map, IsPermutation, ◌<ℤ◌, ℤ}
+use Rattle.std.specs.Prelude.{All, AllPairs, Contains, flat_map, IsPermutation}
 use Rattle.std.specs.List.{take-map, drop-map}
-use borrow.Author.Differences.{ints}
 use Rattle.std.proofs.lemmas.List.{append-nil, map-append, take-append-drop, get_or-map, length-map}
 use Rattle.std.proofs.Math.Seq.{take-suc, take-length, take-append_seam, drop-append_seam}
 use Rattle.std.proofs.lemmas.List.Elements.{All-nil, All-cons, All-head, All-tail, All-map, Contains-get_or}

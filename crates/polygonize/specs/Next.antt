@@ -1,9 +1,7 @@
 -- For each directed edge of a list the place of the next one.
-use Rattle.std.specs.Prelude.{◌≡◌, ◌⊎◌, ℕ, ◌<◌, pos, List, length, map, slice_index, slice_index_or, All, AllPairs, Contains}
+use Rattle.std.specs.Prelude.{◌≡◌, ℕ, ◌<◌, pos, List, length, map, slice_index, slice_index_or, All}
 use Rattle.geom.specs.declared.point.Pt.{Pt}
 use Rattle.geom.specs.declared.directed.DirectedEdge.{DirectedEdge}
-use Rattle.geom.specs.Order.{IsBefore}
-use Rattle.geom.specs.Directed.{from_to}
 use Rattle.geom.specs.Rings.{IsNext}
 
 abbrev pub nothing : DirectedEdge

@@ -1,5 +1,5 @@
 -- Which shell a ring is written under, and the entries of its pieces.
-use Rattle.std.specs.Prelude.{◌≡◌, ◌⊎◌, ◌||◌, ◌==◌, ◌<◌, ◌≤◌, ℕ, suc, Bool, not, List, [], ◌∷◌, ◌++◌, All, Contains, Option, Some, None, is_some, length, slice_index_or, unwrap_or}
+use Rattle.std.specs.Prelude.{◌≡◌, ◌⊎◌, ◌||◌, ◌==◌, ◌<◌, ℕ, suc, Bool, not, List, [], ◌∷◌, ◌++◌, Contains, Option, Some, None, is_some, length, slice_index_or, unwrap_or}
 use Rattle.geom.specs.declared.edge.Edge.{Edge}
 use Rattle.geom.specs.declared.directed.DirectedEdge.{DirectedEdge}
 use Rattle.geom.specs.Canonical.{IsFirstPiece}
@@ -7,7 +7,6 @@ use Rattle.geom.specs.Holes.{IsHole, IsNearestBelow, IsShell, LiesBelow, left_of
 use Rattle.geom.specs.Rings.{Closes}
 use Rattle.polygonize.specs.declared.written.Opening.{Opening}
 use Rattle.polygonize.specs.Next.{edge_at, ring_of}
-use Rattle.polygonize.specs.Number.{IsVertex}
 use Rattle.polygonize.specs.Placed.{PlacedRing, opening_of}
 use Rattle.polygonize.specs.Piece.{IsRingCut}
 use Rattle.polygonize.specs.Written.{IsTurned, backward}

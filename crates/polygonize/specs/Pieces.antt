@@ -2,7 +2,6 @@
 use Rattle.std.specs.Prelude.{◌≡◌, ◌⊎◌, ◌↔◌, ℕ, ◌<◌, ◌≤◌, Bool, false, List, [], All, Contains, Option, Some, None, length, map, slice_index_or, is_some, unwrap_or}
 use Rattle.geom.specs.declared.directed.DirectedEdge.{DirectedEdge}
 use Rattle.geom.specs.declared.edge.Edge.{Edge}
-use Rattle.geom.specs.declared.point.Pt.{Pt}
 use Rattle.geom.specs.Canonical.{IsFirstPiece}
 use Rattle.geom.specs.Holes.{IsHole, IsNearestBelow, IsShell, LiesBelow, left_of}
 use Rattle.geom.specs.Rings.{ring_edges, Closes, IsCut}

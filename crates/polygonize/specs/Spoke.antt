@@ -4,11 +4,9 @@ use lib.Signed.{lt_z, le_z}
 use Rattle.geom.specs.declared.point.Pt.{Pt}
 use Rattle.geom.specs.declared.directed.DirectedEdge.{DirectedEdge}
 use Rattle.geom.specs.Determinant.{side}
-use Rattle.geom.specs.Directed.{from_to}
-use Rattle.geom.specs.Rings.{IsNeighbour, IsSooner, IsNext}
+use Rattle.geom.specs.Rings.{IsNext}
 use Rattle.polygonize.specs.declared.successor.Spoke.{Spoke}
 use Rattle.polygonize.specs.Next.{nothing, edge_at}
-use Rattle.geom.specs.Directed.{AreDirected}
 
 abbrev pub less : Pt → Pt → Bool
 less p q = lt_z p.x q.x || ((le_z p.x q.x && le_z q.x p.x) && lt_z p.y q.y)

@@ -1,6 +1,6 @@
 -- The pixels in a segment's columns, of pixels in ascending order.
-use Rattle.std.proofs.Common.{◌≡◌, ◌⊎◌, inl, inr, ℕ, ◌+◌, ◌-◌, ◌<◌, ◌≤◌, List, Bool, true, false, refl, sym, ◌∙◌, ap, arith, subst, length, get_or, take, drop, ⊎_elim}
-use Rattle.std.proofs.Math.IntN.{ℤ, pos, ◌+ℤ◌}
+use Rattle.std.proofs.Common.{◌≡◌, inl, inr, ℕ, ◌+◌, ◌-◌, ◌<◌, ◌≤◌, List, true, false, sym, ◌∙◌, ap, arith, subst, length, get_or, take, drop, ⊎_elim}
+use Rattle.std.proofs.Math.IntN.{ℤ}
 use Rattle.std.specs.Prelude.{AllPairs, Contains, ◌<ℤ◌, ◌≤ℤ◌, int_le, int_lt}
 use Rattle.std.specs.Int.{int_min, int_max}
 use Rattle.std.specs.List.Sorted.{IsPartitionedBy}

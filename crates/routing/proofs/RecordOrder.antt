@@ -1,5 +1,5 @@
 -- The order of records.
-use Rattle.std.proofs.Common.{◌≡◌, ◌⊎◌, inl, inr, ℕ, ◌<◌, List, [], Bool, true, Ordering, Less, Equal, Greater, refl, ◌∙◌, arith, rules}
+use Rattle.std.proofs.Common.{◌≡◌, ◌⊎◌, inl, inr, ◌<◌, List, [], Bool, true, Ordering, Less, refl, rules}
 use Rattle.std.specs.Prelude.{◌&&◌, ◌==◌}
 use Rattle.std.specs.Cmp.{IsTotalOrder, IsEquivalence}
 use Rattle.std.specs.Cmp.Rules.{comparing}
@@ -8,7 +8,6 @@ use Rattle.std.specs.List.Sorted.{IsPermutation, IsSorted}
 use Rattle.std.specs.List.Retain.{IsFiltered, DiffersFromLast}
 use Rattle.std.proofs.lemmas.Cmp.{by_ranked, ranked, then_total, on_total, nat_cmp_total, and_equiv, on_equiv, nat_eq_equiv}
 use Rattle.std.proofs.lemmas.Bool.{eqb-true}
-use Rattle.geom.specs.declared.point.Pt.{Pt}
 use Rattle.geom.specs.Segments.{same_point}
 use Rattle.geom.proofs.Points.{and_both, same_point_true}
 use Rattle.hot_pixel.proofs.Orders.{IsSortedOnce, sorted_once, pt_cmp, pt_total, pt_equivalence}

@@ -1,4 +1,4 @@
-use Rattle.std.proofs.Common.{◌≡◌, ◌<◌, ◌++◌, ◌∙◌, ap, arith, false, length, slice_index_or}
+use Rattle.std.proofs.Common.{◌<◌, ◌++◌, ◌∙◌, ap, arith, false, length, slice_index_or}
 use Rattle.std.proofs.lemmas.List.{get_or_default}
 use Rattle.face_label.specs.Label.{ways}
 use Rattle.face_label.proofs.Listing.{one_more}

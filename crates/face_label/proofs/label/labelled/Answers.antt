@@ -1,4 +1,4 @@
-use Rattle.std.proofs.Common.{◌≡◌, map, ap, ◌∙◌, sym}
+use Rattle.std.proofs.Common.{map, ap, ◌∙◌}
 use Rattle.rayon.proofs.ToStd.{slice-map}
 use Rattle.face_label.specs.Label.{both_ways}
 use Rattle.face_label.specs.Strip.{layers_at}

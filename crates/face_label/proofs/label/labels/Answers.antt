@@ -1,5 +1,4 @@
 use Rattle.std.proofs.Common.{◌≡◌, ◌∙◌, ap}
-use Rattle.geom.specs.Directed.{AreResultEdges}
 use Rattle.face_label.specs.Label.{ways_of}
 use Rattle.face_label.proofs.Listing.{are_directed, labels_of, layers_of, result_edges}
 use Rattle.face_label.proofs.Sides.{all_ways}

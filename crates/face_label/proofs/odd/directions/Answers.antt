@@ -1,7 +1,7 @@
-use Rattle.std.proofs.Common.{◌∙◌, ap, sym}
+use Rattle.std.proofs.Common.{◌∙◌, sym}
 use Rattle.lane_tests.specs.Probe.{point_of}
 use Rattle.face_label.specs.Label.{OddLayers, holds_in}
-use Rattle.face_label.specs.Strip.{edges_at, layers_at}
+use Rattle.face_label.specs.Strip.{layers_at}
 use Rattle.face_label.proofs.Doubling.{both, holds_double}
 use Rattle.face_label.proofs.odd.directions.Goals as goal
 

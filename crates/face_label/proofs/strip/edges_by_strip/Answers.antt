@@ -1,4 +1,4 @@
-use Rattle.std.proofs.Common.{◌≡◌, ◌<◌, ◌∙◌, ℕ, List, Some, ap, length, map, subst, sym}
+use Rattle.std.proofs.Common.{◌<◌, ◌∙◌, ℕ, List, ap, length, map, subst, sym}
 use Rattle.std.specs.Prelude.{All, slice_get}
 use Rattle.face_label.proofs.Striping.{fill_chosen, fill_in_range, grown}
 use Rattle.face_label.proofs.strip.edges_by_strip.Goals as goal

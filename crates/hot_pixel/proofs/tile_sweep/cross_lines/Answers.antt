@@ -1,4 +1,4 @@
-use Rattle.std.proofs.Common.{◌≡◌, ◌+◌, ◌≤◌, List, subst, sym, arith, take}
+use Rattle.std.proofs.Common.{◌+◌, ◌≤◌, List, subst, sym, arith}
 use Rattle.std.specs.Prelude.{All, count_by}
 use Rattle.std.proofs.lemmas.List.{take_all}
 use Rattle.geom.specs.declared.edge.Edge.{Edge}

@@ -1,4 +1,4 @@
-use Rattle.std.proofs.Common.{Option, Some, subst}
+use Rattle.std.proofs.Common.{Option, subst}
 use Rattle.polygonize.proofs.Nearness.{NearestSoFar, best_among, one_more}
 use Rattle.polygonize.specs.declared.below.Gap.{Gap}
 use Rattle.polygonize.proofs.below.nearest_among.Goals as goal

@@ -1,13 +1,10 @@
-use Rattle.std.proofs.Common.{◌≡◌, List, subst, sym, ap, ◌∙◌, refl, length}
+use Rattle.std.proofs.Common.{List, subst, sym, ap, ◌∙◌, length}
 use Rattle.std.specs.Prelude.{All, AllPairs}
-use Rattle.hot_pixel.specs.Rects.{IsIn}
 use Rattle.geom.specs.declared.point.Pt.{Pt}
 use Rattle.geom.specs.Limit.{InLimit, AreInLimit}
 use Rattle.geom.specs.Order.{IsBefore}
 use Rattle.tiling.specs.Tiles.{Owns}
 use Rattle.routing.specs.declared.record.Candidate.{Candidate}
-use Rattle.routing.specs.Found.{HasRecords}
-use Rattle.routing.specs.Pieces.{candidates_of, IsPiece}
 use Rattle.routing.proofs.RecordOrder.{records_once}
 use Rattle.routing.proofs.PieceLaws.{candidates_limit, pixels_limit, piece_made, piece_of_all}
 use Rattle.routing.proofs.finding.piece.Goals as goal

@@ -1,4 +1,4 @@
-use Rattle.std.proofs.Common.{◌≡◌, ℕ, ◌<◌, ℤ, ◌+ℤ◌, length, get_or, [], ap, sym, subst, ◌∙◌}
+use Rattle.std.proofs.Common.{ℕ, ◌<◌, ℤ, get_or, [], ap, sym, subst, ◌∙◌}
 use Rattle.std.specs.Prelude.{◌≤ℤ◌, pos, ◌*ℤ◌, nat_abs}
 use Rattle.std.specs.Int.{int_div_euclid}
 use Rattle.std.proofs.lemmas.List.{get_or_default}
