@@ -21,9 +21,9 @@ use Rattle.geom.proofs.Orders.{before_trans}
 use Rattle.geom.proofs.RingEdges.{flat_in, in_permutation}
 use Rattle.polygonize.specs.declared.written.Opening.{Opening}
 use Rattle.polygonize.specs.Next.{nothing, edge_at, ring_of}
-use Rattle.polygonize.specs.Owning.{HasItsEdges, IsOwnerFound, IsRingPlaced}
+use Rattle.polygonize.specs.Owning.{IsOwnerFound, IsRingPlaced}
 use Rattle.polygonize.specs.Placed.{PlacedRing, opening_of, IsPlaced, IsShellWritten, IsWrittenAmong, AreWritten}
-use Rattle.polygonize.specs.Written.{ArePlaces, HaveEdges, IsCanonical}
+use Rattle.polygonize.specs.Written.{ArePlaces, HasItsEdges, HaveEdges, IsCanonical}
 use Rattle.polygonize.proofs.Entries.{owner_of}
 use Rattle.polygonize.proofs.Writing.{unmapped}
 use Rattle.polygonize.proofs.Holes.{least_point}

@@ -1,10 +1,10 @@
 -- How the pieces of one ring are written, and under which shell.
-use Rattle.std.specs.Prelude.{◌≡◌, ◌⊎◌, ◌↔◌, ℕ, ◌<◌, ◌≤◌, Bool, false, List, [], All, Contains, Option, Some, None, length, map, slice_index_or, is_some, unwrap_or}
+use Rattle.std.specs.Prelude.{◌≡◌, ◌⊎◌, ◌↔◌, ℕ, ◌<◌, ◌≤◌, Bool, false, List, [], All, Contains, Option, Some, None, length, slice_index_or, is_some, unwrap_or}
 use Rattle.geom.specs.declared.directed.DirectedEdge.{DirectedEdge}
 use Rattle.geom.specs.declared.edge.Edge.{Edge}
 use Rattle.geom.specs.Canonical.{IsFirstPiece}
 use Rattle.geom.specs.Holes.{IsHole, IsNearestBelow, IsShell, LiesBelow, left_of}
-use Rattle.geom.specs.Rings.{ring_edges, Closes, IsCut}
+use Rattle.geom.specs.Rings.{Closes, IsCut}
 use Rattle.polygonize.specs.declared.written.Opening.{Opening}
 use Rattle.polygonize.specs.Next.{edge_at, ring_of}
 use Rattle.polygonize.specs.Number.{IsVertex}
@@ -68,7 +68,3 @@ pub record IsRingPlaced (ds : List DirectedEdge) (cycle : List ℕ) (shells_old 
   pub shell : Opening
   pub written : ArePiecesWritten ds (slice_index_or ring 0 0) pieces owner shell old new
   pub kept : KeepsShell cycle shell shells_old shells_new
-
--- the edges of the ring of a cycle are those at its places
-abbrev pub HasItsEdges : List DirectedEdge → List ℕ → Type 0
-HasItsEdges ds cycle = ring_edges (ring_of ds cycle) ≡ map (edge_at ds) cycle

@@ -10,10 +10,10 @@ ghost use Rattle.geom.specs.Rings.{AreRings, Closes};
 ghost use Rattle.polygonize.specs.Below.{AreStrips};
 ghost use Rattle.polygonize.specs.Number.{AreNumbers, IsVertex};
 ghost use Rattle.polygonize.specs.Next.{ring_of};
-ghost use Rattle.polygonize.specs.Owning.{ArePiecesWritten, HasItsEdges, IsOwnerFound, IsRingPlaced, KeepsShell};
+ghost use Rattle.polygonize.specs.Owning.{ArePiecesWritten, IsOwnerFound, IsRingPlaced, KeepsShell};
 ghost use Rattle.polygonize.specs.Placed.{AreWritten, opening_of, placed_ring};
 ghost use Rattle.polygonize.specs.Stack.{AreStacked};
-ghost use Rattle.polygonize.specs.Written.{AreAdded, ArePlaces, HaveEdges, IsCanonical, IsRingWritten, IsSound};
+ghost use Rattle.polygonize.specs.Written.{AreAdded, ArePlaces, HasItsEdges, HaveEdges, IsCanonical, IsRingWritten, IsSound};
 
 use crate::below::EdgeStrips;
 use crate::cut::cut;

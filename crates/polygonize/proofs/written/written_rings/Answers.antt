@@ -2,9 +2,8 @@ use Rattle.std.proofs.Common.{List, map}
 use Rattle.std.proofs.lemmas.Result.{IfOk-weaker}
 use Rattle.geom.specs.declared.point.Pt.{Pt}
 use Rattle.polygonize.specs.Next.{ring_of}
-use Rattle.polygonize.specs.Owning.{HasItsEdges}
 use Rattle.polygonize.specs.Placed.{AreWritten, placed_ring}
-use Rattle.polygonize.specs.Written.{ArePlaces}
+use Rattle.polygonize.specs.Written.{ArePlaces, HasItsEdges}
 use Rattle.polygonize.proofs.Writing.{unmapped}
 use Rattle.polygonize.proofs.written.written_rings.Goals as goal
 
