@@ -8,7 +8,7 @@ use Rattle.geom.specs.declared.point.Pt.{Pt}
 use Rattle.geom.specs.declared.directed.DirectedEdge.{DirectedEdge}
 use Rattle.geom.specs.Canonical.{IsFirstPiece}
 use Rattle.geom.specs.Directed.{AreDirected}
-use Rattle.geom.specs.Holes.{AreGrounded, IsLeastVertex, IsNearestBelow, IsOwner, left_of}
+use Rattle.geom.specs.Holes.{AreGrounded, IsHole, IsLeastVertex, IsNearestBelow, IsOwner, left_of}
 use Rattle.geom.specs.Holes.IsOwner.{itself, below}
 use Rattle.geom.specs.ListOrder.{IsListBefore, IsLeastRotation}
 use Rattle.geom.specs.NodedEdges.{AreNodedEdges}
@@ -21,13 +21,13 @@ use Rattle.geom.proofs.Orders.{before_trans}
 use Rattle.geom.proofs.RingEdges.{flat_in, in_permutation}
 use Rattle.polygonize.specs.declared.written.Opening.{Opening}
 use Rattle.polygonize.specs.Next.{nothing, edge_at, ring_of}
-use Rattle.polygonize.specs.Pieces.{HasItsEdges, IsOwnerFound, IsRingPlaced}
-use Rattle.polygonize.specs.Pieces.IsOwnerFound.{none, floating, kept}
+use Rattle.polygonize.specs.Owning.{IsOwnerFound, IsRingPlaced}
 use Rattle.polygonize.specs.Placed.{PlacedRing, opening_of, IsPlaced, IsShellWritten, IsWrittenAmong, AreWritten}
-use Rattle.polygonize.specs.Written.{ArePlaces, HaveEdges, IsCanonical}
+use Rattle.polygonize.specs.Written.{ArePlaces, HasItsEdges, HaveEdges, IsCanonical}
 use Rattle.polygonize.proofs.Entries.{owner_of}
 use Rattle.polygonize.proofs.Writing.{unmapped}
 use Rattle.polygonize.proofs.Holes.{least_point}
+use Rattle.polygonize.proofs.Keeping.{kept_or_as_before}
 use Rattle.polygonize.proofs.Lists.{split_at}
 use Rattle.polygonize.proofs.Owning.{Law, among, end_on, index_of, law_of_hole, law_of_shell, placed, ring_cut, shell_written, start_on}
 
@@ -138,21 +138,8 @@ module _ (ds : List DirectedEdge) (closes : Closes ds) (noded : AreNodedEdges ds
       pub opening : r.shell ≡ opening_of firsts
       pub law : Law ds closes noded (map (ring_of ds) cycles) are r.ring r.some r.vertices r.least_first on r.pieces r.cut r.sound (is_some r.owner) r.written.first firsts
 
-    owned : IsOwnerFound ds r.ring shells_old r.owner → IsOwned
-    owned (none s e) = record {
-      shell = ring_of ds r.ring;
-      firsts = get_or r.pieces r.written.first [];
-      owner = itself on s;
-      is_first = shell_written ds closes noded (map (ring_of ds) cycles) are r.ring r.some r.vertices r.least_first on r.pieces r.cut r.sound r.written.first r.written.inside first;
-      opening = r.written.shell_is ∙ ap (λ o. unwrap_or o (opening_of (get_or r.pieces r.written.first []))) e;
-      law = let P : Bool → Type 0 = λ b. Law ds closes noded (map (ring_of ds) cycles) are r.ring r.some r.vertices r.least_first on r.pieces r.cut r.sound b r.written.first (get_or r.pieces r.written.first []) in
-          subst P (sym (ap is_some e)) (law_of_shell ds closes noded (map (ring_of ds) cycles) are r.ring r.some r.vertices r.least_first on r.pieces r.cut r.sound r.written.first r.written.inside first);
-    }
-      where
-        first : IsFirstPiece (ring_of ds r.ring) (ring_of ds (get_or r.pieces r.written.first []))
-        first = r.written.is_first r.ring closes (ring_cut ds closes noded (map (ring_of ds) cycles) are r.ring r.some r.vertices r.least_first on r.pieces r.cut r.sound)
-    owned (floating h n) = absurd (let g = grounded (ring_of ds r.ring) on h (edge_at ds (get_or r.ring 0 0)).from least in n g.1.edge g.1.below)
-    owned (kept k l h d e) = record {
+    owned_below : (k : ℕ) → k < length ds → IsHole (ring_of ds r.ring) → IsNearestBelow ds (left_of (edge_at ds (get_or r.ring 0 0)).from) (edge_at ds k) → r.owner ≡ get_or shells_old k None → IsOwned
+    owned_below k l h d e = record {
       shell = s.0;
       firsts = s.1;
       owner = owner;
@@ -192,6 +179,22 @@ module _ (ds : List DirectedEdge) (closes : Closes ds) (noded : AreNodedEdges ds
         owner : IsOwner ds (map (ring_of ds) cycles) (ring_of ds r.ring) s.0
         owner = below v (edge_at ds k) (ring_of ds (get_or cycles c.j [])) on h least d (cycle_at c.j c.low) edge s.3
 
+    owned : IsOwnerFound ds r.ring shells_old r.owner → IsOwned
+    owned (inl (s, e)) = record {
+      shell = ring_of ds r.ring;
+      firsts = get_or r.pieces r.written.first [];
+      owner = itself on s;
+      is_first = shell_written ds closes noded (map (ring_of ds) cycles) are r.ring r.some r.vertices r.least_first on r.pieces r.cut r.sound r.written.first r.written.inside first;
+      opening = r.written.shell_is ∙ ap (λ o. unwrap_or o (opening_of (get_or r.pieces r.written.first []))) e;
+      law = let P : Bool → Type 0 = λ b. Law ds closes noded (map (ring_of ds) cycles) are r.ring r.some r.vertices r.least_first on r.pieces r.cut r.sound b r.written.first (get_or r.pieces r.written.first []) in
+          subst P (sym (ap is_some e)) (law_of_shell ds closes noded (map (ring_of ds) cycles) are r.ring r.some r.vertices r.least_first on r.pieces r.cut r.sound r.written.first r.written.inside first);
+    }
+      where
+        first : IsFirstPiece (ring_of ds r.ring) (ring_of ds (get_or r.pieces r.written.first []))
+        first = r.written.is_first r.ring closes (ring_cut ds closes noded (map (ring_of ds) cycles) are r.ring r.some r.vertices r.least_first on r.pieces r.cut r.sound)
+    owned (inr (inl (b, h, e))) = owned_below b h.inside h.is_hole h.nearest e
+    owned (inr (inr (h, _))) = absurd (let g = grounded (ring_of ds r.ring) on h.is_hole (edge_at ds (get_or r.ring 0 0)).from least in h.none g.1.edge g.1.below)
+
     pub filled : AreFilled ds cycles (i + 1) shells_new new
     filled = record {
       placed = λ w c. elim (r.written.all.only w c) [
@@ -204,7 +207,7 @@ module _ (ds : List DirectedEdge) (closes : Closes ds) (noded : AreNodedEdges ds
             (let P : List Pt → Type 0 = λ t. IsCut t qs in subst P (ap (λ t. ring_of ds (get_or cycles t [])) (this j h l) ∙ sym r.same) c) piece p
       ];
       shells = λ j h k c. elim (cases_lt j i) [
-        | inl l ↦ elim (r.kept.others k) [
+        | inl l ↦ elim (kept_or_as_before (get_or cycles i []) r.shell shells_old shells_new r.kept k) [
           | inl e ↦ let b = f.shells j l k c in (b.0, b.1, e ∙ b.2, b.3, b.4)
           | inr b ↦ (
             o.shell,
@@ -218,7 +221,7 @@ module _ (ds : List DirectedEdge) (closes : Closes ds) (noded : AreNodedEdges ds
         | inr l ↦ (
           o.shell,
           o.firsts,
-          r.kept.here k (let P : ℕ → Type 0 = λ t. Contains (get_or cycles t []) k in subst P (this j h l) c) ∙ ap Some o.opening,
+          r.kept.kept k (let P : ℕ → Type 0 = λ t. Contains (get_or cycles t []) k in subst P (this j h l) c) ∙ ap Some o.opening,
           (let P : List Pt → Type 0 = λ t. IsOwner ds (map (ring_of ds) cycles) t o.shell in subst P (r.same ∙ ap (λ t. ring_of ds (get_or cycles t [])) (sym (this j h l))) o.owner),
           o.is_first,
         )

@@ -1,7 +1,9 @@
 -- The shell of a polygon, kept at the places of a ring's edges.
-use Rattle.std.proofs.Common.{◌≡◌, ◌≢◌, ℕ, ◌+◌, ◌<◌, inl, inr, refl, sym, ◌∙◌, ap, Option, Some, None, List, length, get_or, set, arith}
+use Rattle.std.proofs.Common.{◌≡◌, ◌≢◌, ◌⊎◌, ℕ, ◌+◌, ◌<◌, inl, inr, refl, sym, ◌∙◌, ap, Option, Some, None, List, [], ◌∷◌, length, get_or, set, arith}
+use Rattle.std.specs.Prelude.{Contains}
 use Rattle.std.proofs.lemmas.Bool.{cases_eq, cases_lt}
 use Rattle.std.proofs.lemmas.List.{get_or_default, get_or-set_same, get_or-set_other}
+use Rattle.geom.proofs.Lists.{In, contains_in, in_contains}
 use Rattle.polygonize.specs.declared.written.Opening.{Opening}
 use Rattle.polygonize.specs.Owning.{KeepsShell}
 
@@ -30,3 +32,19 @@ kept_all cycle shell n old now e w = record {
   kept = λ k c. ap (λ t. get_or now t None) (sym c.2 ∙ get_or_default cycle c.0 k 0 c.1) ∙ w.kept c.0 (let h = c.1 in omega (arith, e));
   rest = λ k f. w.rest k (λ m l q. f (m, (omega (arith, l, e)), get_or_default cycle m k 0 (omega (arith, l, e)) ∙ q));
 }
+
+member : (xs : List ℕ) (k : ℕ) → In k xs ⊎ ¬ (In k xs)
+member [] k = inr (λ i. i)
+member (x ∷ xs) k = elim (cases_eq x k) [
+  | inl e ↦ inl (inl e)
+  | inr n ↦ elim (member xs k) [
+    | inl i ↦ inl (inr i)
+    | inr m ↦ inr (λ i. elim i [ inl e ↦ n e | inr j ↦ m j ])
+  ]
+]
+
+pub kept_or_as_before : (cycle : List ℕ) (shell : Opening) (old new : List (Option Opening)) → KeepsShell cycle shell old new → (k : ℕ) → (get_or new k None ≡ get_or old k None) ⊎ (Contains cycle k × (get_or new k None ≡ Some shell))
+kept_or_as_before cycle shell old new w k = elim (member cycle k) [
+  | inl i ↦ inr (in_contains cycle k i, w.kept k (in_contains cycle k i))
+  | inr n ↦ inl (w.rest k (λ c. n (contains_in cycle k c)))
+]

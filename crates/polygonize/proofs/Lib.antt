@@ -1,6 +1,5 @@
 pub mod Lists
 pub mod Pieces
-pub mod Texts
 pub mod Walking
 pub mod Cycles
 pub mod Stacks
@@ -14,7 +13,6 @@ pub mod Spokes
 pub mod Groups
 pub mod Ends
 pub mod Linking
-pub mod Choice
 pub mod Numbers
 pub mod Mapping
 pub mod Turning
@@ -40,4 +38,3 @@ pub mod Owning
 pub mod Filling
 pub mod Keeping
 pub mod Entering
-pub mod Bridging

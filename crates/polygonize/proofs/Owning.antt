@@ -20,7 +20,7 @@ use Rattle.polygonize.specs.declared.written.Opening.{Opening}
 use Rattle.polygonize.specs.Next.{edge_at, ring_of}
 use Rattle.polygonize.specs.Number.{IsVertex}
 use Rattle.polygonize.specs.Piece.{IsRingCut}
-use Rattle.polygonize.specs.Pieces.{IsPieceWritten, AreWrittenFrom}
+use Rattle.polygonize.specs.Owning.{IsPieceWritten, AreWrittenUnder}
 use Rattle.polygonize.specs.Placed.{PlacedRing, opening_of, IsPlaced, IsShellWritten, IsWrittenAmong}
 use Rattle.polygonize.specs.Written.{IsCanonical, IsSound, IsTurned}
 use Rattle.polygonize.proofs.Assembled.{are_one}
@@ -208,9 +208,9 @@ module _ (ds : List DirectedEdge) (closes : Closes ds) (noded : AreNodedEdges ds
       hole = (λ q. (law k h w.ring p.turned).0 (p.hole.0 q), λ q. p.hole.1 ((law k h w.ring p.turned).1 q));
     }
 
-    pub among : (o : Opening) (owned : Bool) (first : ℕ) (old new : List PlacedRing) → AreWrittenFrom 0 o owned first pieces old new → (qs : List (List Pt)) → IsCut (ring_of ds ring) qs → (piece : List Pt) → Contains qs piece → IsWrittenAmong ds new piece
+    pub among : (o : Opening) (owned : Bool) (first : ℕ) (old new : List PlacedRing) → AreWrittenUnder o owned first pieces old new → (qs : List (List Pt)) → IsCut (ring_of ds ring) qs → (piece : List Pt) → Contains qs piece → IsWrittenAmong ds new piece
     among o owned first old new w qs c piece i =
         let m = in_map (ring_of ds) pieces piece (contains_in (map (ring_of ds) pieces) piece (let P : List (List Pt) → Type 0 = λ t. Contains t piece in subst P (one.cut (ring_of ds ring) qs (map (ring_of ds) pieces) c point_cut) i)) in
         let n = index_of pieces m.0 [] m.1 in
-        let e = w.each n.0 (omega arith) n.1 in
+        let e = w.each n.0 n.1 in
         record { placed = e.0; inside = e.1; least = (let P : List Pt → Type 0 = λ t. IsLeastRotation t (ring_of ds e.0.ring) in subst P (ap (ring_of ds) n.2 ∙ m.2) (least_turned (get_or pieces n.0 []) e.0.ring (sound_at n.0 n.1) e.2.turned)) }

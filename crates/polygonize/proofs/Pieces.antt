@@ -1,11 +1,10 @@
 -- The pieces of a ring have its edges, each once, visit no vertex twice, and have three points or more.
 use Rattle.std.proofs.Common.{◌≡◌, ℕ, suc, ◌≤◌, List, [], ◌∷◌, ◌++◌, length, refl, sym, ap, inl, inr, arith}
-use Rattle.std.specs.Prelude.{flat_map, count_by, Bool}
-use Rattle.std.proofs.lemmas.List.Sorted.{IsPermutation-sym, IsPermutation-trans, sum_by-IsPermutation}
+use Rattle.std.proofs.lemmas.List.Sorted.{IsPermutation-sym, IsPermutation-trans}
 use Rattle.geom.specs.declared.point.Pt.{Pt}
 use Rattle.geom.specs.declared.directed.DirectedEdge.{DirectedEdge}
 use Rattle.geom.specs.Directed.{from_to}
-use Rattle.geom.specs.Rings.{ring_edges, IsCut, AreRings}
+use Rattle.geom.specs.Rings.{ring_edges, IsCut}
 use Rattle.geom.specs.Rings.IsCut.{whole, taken}
 use Rattle.polygonize.proofs.Lists.{same_order, around-cut, in_permutation, in_left, in_right}
 use Rattle.geom.proofs.Lists.{In}
@@ -42,8 +41,3 @@ cut_long (taken {ring = r} {pieces = ps} front v mid back e s c) n o = (
   where
     inside : (d : DirectedEdge) → In d (ring_edges (v ∷ mid) ++ ring_edges (front ++ v ∷ back)) → In d (ring_edges r)
     inside d i = in_permutation _ _ d (IsPermutation-trans _ _ _ (IsPermutation-sym _ _ (around-cut from_to front v mid back)) (same_order _ _ (sym (ap ring_edges e)))) i
-
--- ---- parity
--- a count over the edges of the rings is that over the edges
-pub count_rings : (ds : List DirectedEdge) (rings : List (List Pt)) (test : DirectedEdge → Bool) → AreRings ds rings → count_by test (flat_map ring_edges rings) ≡ count_by test ds
-count_rings ds rings test r = sum_by-IsPermutation _ ds (flat_map ring_edges rings) r.together

@@ -1,7 +1,7 @@
 -- The written rings have the edges of the cycles so far, each once.
-use Rattle.std.proofs.Common.{◌≡◌, ℕ, suc, ◌+◌, ◌<◌, ◌≤◌, List, [], ◌∷◌, ◌++◌, length, get_or, map, take, refl, sym, ◌∙◌, ap, subst, arith, add-one, Bool, cond, inl, inr}
+use Rattle.std.proofs.Common.{◌≡◌, ℕ, suc, ◌+◌, ◌<◌, ◌≤◌, List, [], ◌∷◌, ◌++◌, length, get_or, map, take, refl, sym, ◌∙◌, ap, subst, arith, add-one, Bool, cond, inl, inr, Option}
 use Rattle.std.specs.Prelude.{All, Contains, IsPermutation, flat_map, sum_by, count_by}
-use Rattle.std.proofs.lemmas.List.{map-append, append-nil, get_or-map, length-map, take_all}
+use Rattle.std.proofs.lemmas.List.{map-append, append-nil, get_or_default, get_or-map, length-map, take_all}
 use Rattle.std.proofs.lemmas.List.Elements.{All-nil, All-cons, All-head, All-tail, All-append, All-map, All-weaker, Contains-get_or}
 use Rattle.std.proofs.lemmas.List.Concat.{flat_map-append}
 use Rattle.std.proofs.lemmas.List.Sums.{sum_by-append, sum_by-cons}
@@ -14,9 +14,12 @@ use Rattle.geom.specs.Rings.{ring_edges, IsSimple, IsCut, AreRings}
 use Rattle.geom.specs.Rings.IsCut.{whole, taken}
 use Rattle.geom.specs.Canonical.{Shape, HaveEachEdge, written_rings}
 use Rattle.geom.proofs.Lists.{In, contains_in, in_contains, map_in}
+use Rattle.polygonize.specs.declared.written.Opening.{Opening}
 use Rattle.polygonize.specs.Cycle.{AreCycles, IsLeastFirst}
 use Rattle.polygonize.specs.Next.{AreNext, edge_at, ring_of}
 use Rattle.polygonize.specs.Number.{AreNumbers, IsVertex}
+use Rattle.polygonize.specs.Owning.{ArePiecesWritten, IsOwnerFound, IsRingPlaced, KeepsShell}
+use Rattle.polygonize.specs.Placed.{PlacedRing}
 use Rattle.polygonize.specs.Written.{IsTurned, AreAdded, IsSound, IsCanonical, ArePlaces, IsRingWritten, HaveEdges, backward}
 use Rattle.polygonize.proofs.Lists.{same_order, in_permutation, in_left, in_right}
 use Rattle.polygonize.proofs.Pieces.{cut_edges, cut_long, Each}
@@ -227,3 +230,25 @@ next_cycle f ds cycles i v cycle old new h e k r w = one_written ds (map f cycle
 
 pub all_cycles : {V : Type 0} (f : V → List ℕ) (ds : List DirectedEdge) (cycles : List V) (i : ℕ) (written : List (List ℕ)) → AreRings ds (map (ring_of ds) (map f cycles)) → length cycles ≤ i → Writing ds (map f cycles) i written → HaveEdges ds written
 all_cycles f ds cycles i written r h w = all_written ds (map f cycles) i written r (let P : ℕ → Type 0 = λ n. n ≤ i in subst P (sym (length-map cycles f)) h) w
+
+-- the ring is written, and its owner is known
+pub ring_placed : (ds : List DirectedEdge) (numbers cycle ring : List ℕ) (pieces : List (List ℕ)) (owner : Option Opening) (shell : Opening) (shells_old shells_new : List (Option Opening)) (old new : List PlacedRing) (least : ℕ) → AreDirected ds → AreNumbers ds numbers → ArePlaces ds cycle
+    → ring ≡ map (λ k. get_or numbers k 0) cycle → least ≡ get_or ring 0 least → IsCut ring pieces → IsOwnerFound ds ring shells_old owner → ArePiecesWritten ds least pieces owner shell old new → KeepsShell cycle shell shells_old shells_new → IsRingPlaced ds cycle shells_old shells_new old new
+ring_placed ds numbers cycle ring pieces owner shell shells_old shells_new old new least a n p e l c o w k = record {
+  ring = ring;
+  same = ap (ring_of ds) e ∙ numbered_ring ds numbers n cycle p.inside;
+  some = some;
+  vertices = ring_vertices ds numbers cycle ring n p e;
+  least_first = ring_least ds numbers cycle ring a n p e;
+  pieces = pieces;
+  cut = c;
+  sound = ring_sound ds numbers cycle ring pieces n p e c;
+  owner = owner;
+  found = o;
+  shell = shell;
+  written = let P : ℕ → Type 0 = λ t. ArePiecesWritten ds t pieces owner shell old new in subst P (l ∙ sym (get_or_default ring 0 0 least some)) w;
+  kept = k;
+}
+  where
+    some : 0 < length ring
+    some = ring_some numbers cycle ring p.some e

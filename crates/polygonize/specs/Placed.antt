@@ -8,6 +8,7 @@ use Rattle.geom.specs.ListOrder.{IsLeastRotation}
 use Rattle.geom.specs.Rings.{AreRings, IsCut}
 use Rattle.polygonize.specs.declared.written.Opening.{Opening}
 use Rattle.polygonize.specs.declared.written.Place.{Place}
+use Rattle.polygonize.specs.declared.written.Written.{Written}
 use Rattle.polygonize.specs.Next.{ring_of}
 use Rattle.polygonize.specs.Written.{HaveEdges, IsCanonical}
 
@@ -19,6 +20,10 @@ opening_of ring = record { first = slice_index ring 0; second = slice_index ring
 pub record PlacedRing : Type 0 where
   pub place : Place
   pub ring : List ℕ
+
+-- a ring of the program's, read as such
+abbrev pub placed_ring : {M : Type 0} → Written M → PlacedRing
+placed_ring w = record { place = w.place; ring = w.ring.items }
 
 -- `first` is the first piece of the shell, as it is written: from its least rotation
 pub record IsShellWritten (ds : List DirectedEdge) (shell : List Pt) (first : List ℕ) : Type 0 where

@@ -5,7 +5,7 @@ use Rattle.geom.specs.declared.point.Pt.{Pt}
 use Rattle.geom.specs.Directed.{from_to}
 use Rattle.geom.specs.Rings.{ring_edges, IsSimple, IsCut}
 use Rattle.polygonize.specs.Cycle.{IsLeastFirst}
-use Rattle.polygonize.specs.Next.{ring_of}
+use Rattle.polygonize.specs.Next.{edge_at, ring_of}
 use Rattle.polygonize.specs.Number.{IsVertex}
 
 -- the ring begun at its least number
@@ -53,6 +53,10 @@ pub record ArePlaces (ds : List DirectedEdge) (cycle : List ℕ) : Type 0 where
   pub least : IsLeastFirst cycle
   pub inside : All (λ k. k < length ds) cycle
   pub one_way : (u v : Pt) → Contains (ring_edges (ring_of ds cycle)) (from_to u v) → ¬ (Contains (ring_edges (ring_of ds cycle)) (from_to v u))
+
+-- the edges of the ring of a cycle are those at its places
+abbrev pub HasItsEdges : List DirectedEdge → List ℕ → Type 0
+HasItsEdges ds cycle = ring_edges (ring_of ds cycle) ≡ map (edge_at ds) cycle
 
 -- the ring of the places is cut, and its pieces are written
 pub record IsRingWritten (ds : List DirectedEdge) (cycle : List ℕ) (old new : List (List ℕ)) : Type 0 where

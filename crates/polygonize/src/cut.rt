@@ -1,6 +1,6 @@
 //! A ring of vertex numbers, cut at the vertices that it visits twice.
 
-ghost use Rattle.std.specs.Prelude.{◌≡◌, ◌<◌, ◌≤◌, ◌++◌, ◌∷◌, [], All, IfOk, OnOk, length, map, take, drop, vec_len};
+ghost use Rattle.std.specs.Prelude.{◌≡◌, ◌<◌, ◌≤◌, [], All, IfOk, OnOk, length, map, take, drop, vec_len};
 ghost use Rattle.geom.specs.Rings.{IsCut};
 ghost use Rattle.polygonize.specs.Stack.{AreStacked};
 

@@ -3,8 +3,7 @@
 ghost use Rattle.std.specs.Prelude.{All, IfOk, map};
 ghost use Rattle.geom.specs.Rings.{AreRings};
 ghost use Rattle.polygonize.specs.Next.{ring_of};
-ghost use Rattle.polygonize.specs.Pieces.{HasItsEdges};
-ghost use Rattle.polygonize.specs.Written.{ArePlaces};
+ghost use Rattle.polygonize.specs.Written.{ArePlaces, HasItsEdges};
 ghost use Rattle.geom.specs.Rings.{Closes};
 
 use crate::cycle::cycles;

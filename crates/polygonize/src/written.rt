@@ -10,11 +10,10 @@ ghost use Rattle.geom.specs.Rings.{AreRings, Closes};
 ghost use Rattle.polygonize.specs.Below.{AreStrips};
 ghost use Rattle.polygonize.specs.Number.{AreNumbers, IsVertex};
 ghost use Rattle.polygonize.specs.Next.{ring_of};
-ghost use Rattle.polygonize.specs.Owning.{AreEntries, IsOwnerFound, KeepsShell};
-ghost use Rattle.polygonize.specs.Pieces.{HasItsEdges, IsRingPlaced};
-ghost use Rattle.polygonize.specs.Placed.{AreWritten, opening_of};
+ghost use Rattle.polygonize.specs.Owning.{ArePiecesWritten, IsOwnerFound, IsRingPlaced, KeepsShell};
+ghost use Rattle.polygonize.specs.Placed.{AreWritten, opening_of, placed_ring};
 ghost use Rattle.polygonize.specs.Stack.{AreStacked};
-ghost use Rattle.polygonize.specs.Written.{AreAdded, ArePlaces, HaveEdges, IsCanonical, IsRingWritten, IsSound};
+ghost use Rattle.polygonize.specs.Written.{AreAdded, ArePlaces, HasItsEdges, HaveEdges, IsCanonical, IsRingWritten, IsSound};
 
 use crate::below::EdgeStrips;
 use crate::cut::cut;
@@ -89,7 +88,7 @@ fn write_pieces<A: Allocator + Copy>(
     requires some { 0 < length pieces.items }
     requires sound { All (λ p. IsSound edges.now p.items) pieces.items }
     ensures added { OnOk result (AreAdded (map (λ p. p.items) pieces.items) (map (λ w. w.ring.items) written.old.items) (map (λ w. w.ring.items) written.new.items)) }
-    ensures entries { IfOk result (λ shell. AreEntries edges.now least (map (λ p. p.items) pieces.items) owner shell (map (λ w. record { place = w.place; ring = w.ring.items }) written.old.items) (map (λ w. record { place = w.place; ring = w.ring.items }) written.new.items)) }
+    ensures pieces { IfOk result (λ shell. ArePiecesWritten edges.now least (map (λ p. p.items) pieces.items) owner shell (map placed_ring written.old.items) (map placed_ring written.new.items)) }
 {
     let first = first_piece(edges, least, &pieces);
     let shell = shell_of_pieces(owner, &pieces[first]);
@@ -162,7 +161,7 @@ fn write_ring<A: Allocator + Copy>(
     requires strips { AreStrips edges.now strips.old.strips strips.old.filled strips.old.numbers.items }
     ensures strips { OnOk result (AreStrips edges.now strips.new.strips strips.new.filled strips.new.numbers.items) }
     ensures written { OnOk result (IsRingWritten edges.now cycle.now (map (λ w. w.ring.items) written.old.items) (map (λ w. w.ring.items) written.new.items)) }
-    ensures placed { OnOk result (IsRingPlaced edges.now cycle.now shell_of.old shell_of.new (map (λ w. record { place = w.place; ring = w.ring.items }) written.old.items) (map (λ w. record { place = w.place; ring = w.ring.items }) written.new.items)) }
+    ensures placed { OnOk result (IsRingPlaced edges.now cycle.now shell_of.old shell_of.new (map placed_ring written.old.items) (map placed_ring written.new.items)) }
     ensures clear { OnOk result (AreStacked [] places.new) }
 {
     let ring = vertices_of(alloc, numbers, cycle)?;
@@ -193,7 +192,7 @@ fn write_cycles<A: Allocator + Copy>(
     requires clear { AreStacked [] places.old }
     requires strips { AreStrips edges.now strips.old.strips strips.old.filled strips.old.numbers.items }
     requires its_edges { All (λ c. HasItsEdges edges.now c.items) cycles.now }
-    ensures written { AreNodedEdges edges.now → AreGrounded edges.now (map (ring_of edges.now) (map (λ c. c.items) cycles.now)) → IfOk result (λ written. AreWritten edges.now (map (ring_of edges.now) (map (λ c. c.items) cycles.now)) (map (λ w. record { place = w.place; ring = w.ring.items }) written.items)) }
+    ensures written { AreNodedEdges edges.now → AreGrounded edges.now (map (ring_of edges.now) (map (λ c. c.items) cycles.now)) → IfOk result (λ written. AreWritten edges.now (map (ring_of edges.now) (map (λ c. c.items) cycles.now)) (map placed_ring written.items)) }
     ensures edges { IfOk result (λ written. HaveEdges edges.now (map (λ w. w.ring.items) written.items)) }
     ensures sound { IfOk result (λ written. All (IsCanonical edges.now) (map (λ w. w.ring.items) written.items)) }
 {
@@ -222,7 +221,7 @@ pub fn written_rings<A: Allocator + Copy>(
     requires edges_in { All (λ d. AreInLimit d.from d.to) edges.now }
     ensures edges { IfOk result (λ written. HaveEdges edges.now (map (λ w. w.ring.items) written.items)) }
     ensures sound { IfOk result (λ written. All (IsCanonical edges.now) (map (λ w. w.ring.items) written.items)) }
-    ensures written { AreNodedEdges edges.now → ((rings : List (List Pt)) → AreRings edges.now rings → AreGrounded edges.now rings) → IfOk result (λ written. (rings : List (List Pt)) × AreWritten edges.now rings (map (λ w. record { place = w.place; ring = w.ring.items }) written.items)) }
+    ensures written { AreNodedEdges edges.now → ((rings : List (List Pt)) → AreRings edges.now rings → AreGrounded edges.now rings) → IfOk result (λ written. (rings : List (List Pt)) × AreWritten edges.now rings (map placed_ring written.items)) }
 {
     let numbers = start_numbers(alloc, edges)?;
     let cycles = ring_places(alloc, edges)?;

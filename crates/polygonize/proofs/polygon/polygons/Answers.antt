@@ -8,6 +8,7 @@ use Rattle.geom.specs.ListOrder.{IsLeastRotation}
 use Rattle.polygonize.specs.Grouped.{AreGrouped}
 use Rattle.polygonize.specs.Next.{ring_of}
 use Rattle.polygonize.specs.Written.{AreSimple, IsCanonical, IsSound}
+use Rattle.polygonize.specs.Placed.{placed_ring}
 use Rattle.polygonize.proofs.Ordered.{grouped_polygons, shell_first}
 use Rattle.polygonize.proofs.PlacedRings.{sorted_by}
 use Rattle.polygonize.proofs.Places.{place_cmp}
@@ -31,9 +32,9 @@ returns-clause-polygons g c = λ noded grounded.
     IfOk-weaker c.grouped.result
     (λ found. AreGrouped (λ w. w.place.is_hole) (λ w. ring_of c.args.directed.now w.ring.items) c.sort_unstable_by_key.new.self.items (map (λ p. record { shell = p.shell; holes = p.holes.items }) found.items))
     (λ found. ArePolygons c.args.directed.now (map (λ p. record { shell = p.shell; holes = p.holes.items }) found.items))
-    (λ found h. grouped_polygons (λ w. record { place = w.place; ring = w.ring.items }) c.args.directed.now c.requires.closes.are_directed noded c.in_ok-written.written.items c.sort_unstable_by_key.new.self.items (map (λ p. record { shell = p.shell; holes = p.holes.items }) found.items)
+    (λ found h. grouped_polygons placed_ring c.args.directed.now c.requires.closes.are_directed noded c.in_ok-written.written.items c.sort_unstable_by_key.new.self.items (map (λ p. record { shell = p.shell; holes = p.holes.items }) found.items)
     (written noded grounded) c.sort_unstable_by_key.ensures.permutation sorted h)
-    (groups (shell_first (λ w. record { place = w.place; ring = w.ring.items }) c.args.directed.now c.requires.closes.are_directed noded c.in_ok-written.written.items c.sort_unstable_by_key.new.self.items (written noded grounded) c.sort_unstable_by_key.ensures.permutation sorted))
+    (groups (shell_first placed_ring c.args.directed.now c.requires.closes.are_directed noded c.in_ok-written.written.items c.sort_unstable_by_key.new.self.items (written noded grounded) c.sort_unstable_by_key.ensures.permutation sorted))
 
 pub returns-clause-each_edge : goal.returns-clause-each_edge
 returns-clause-each_edge g c = IfOk-weaker c.grouped.result

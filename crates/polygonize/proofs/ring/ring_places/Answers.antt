@@ -7,8 +7,7 @@ use Rattle.polygonize.proofs.Writing.{places_of}
 use Rattle.polygonize.specs.Cycle.{AreCycles, IsCycle}
 use Rattle.geom.specs.Rings.{AreRings}
 use Rattle.polygonize.specs.Next.{ring_of}
-use Rattle.polygonize.specs.Pieces.{HasItsEdges}
-use Rattle.polygonize.specs.Written.{ArePlaces}
+use Rattle.polygonize.specs.Written.{ArePlaces, HasItsEdges}
 use Rattle.polygonize.proofs.ring.ring_places.Goals as goal
 
 pub returns-clause-places : goal.returns-clause-places

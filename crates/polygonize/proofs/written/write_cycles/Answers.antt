@@ -1,4 +1,5 @@
 use Rattle.std.proofs.Common.{map, sym}
+use Rattle.polygonize.specs.Placed.{placed_ring}
 use Rattle.polygonize.proofs.Filling.{all_filled, next_filled, nothing_filled}
 use Rattle.polygonize.proofs.Writing.{all_cycles, next_cycle, nothing_written}
 use Rattle.polygonize.proofs.written.write_cycles.Goals as goal
@@ -19,5 +20,5 @@ pub returns-clause-edges : goal.returns-clause-edges
 returns-clause-edges g c = all_cycles (λ v. v.items) c.args.edges.now c.args.cycles.now c.loop-cycle.cycle-index _ c.requires.rings c.loop-cycle-test.false c.loop-cycle.invariant.1
 
 pub returns-clause-written : goal.returns-clause-written
-returns-clause-written g c = λ noded grounded. all_filled (λ v. v.items) (λ w. record { place = w.place; ring = w.ring.items }) c.args.edges.now c.args.cycles.now c.loop-cycle.cycle-index c.loop-cycle.shell_of c.loop-cycle.written.items c.requires.rings c.loop-cycle-test.false
+returns-clause-written g c = λ noded grounded. all_filled (λ v. v.items) placed_ring c.args.edges.now c.args.cycles.now c.loop-cycle.cycle-index c.loop-cycle.shell_of c.loop-cycle.written.items c.requires.rings c.loop-cycle-test.false
     (all_cycles (λ v. v.items) c.args.edges.now c.args.cycles.now c.loop-cycle.cycle-index _ c.requires.rings c.loop-cycle-test.false c.loop-cycle.invariant.1) c.loop-cycle.invariant.1.sound (c.loop-cycle.invariant.3 noded grounded)

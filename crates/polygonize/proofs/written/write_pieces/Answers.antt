@@ -1,9 +1,9 @@
 use Rattle.std.proofs.Common.{map, refl, ap, ◌∙◌, ◌||◌, ◌==◌, not, arith}
 use Rattle.std.specs.Prelude.{is_some}
-use Rattle.polygonize.specs.Placed.{opening_of}
+use Rattle.polygonize.specs.Placed.{opening_of, placed_ring}
 use Rattle.polygonize.specs.Written.{IsSound}
 use Rattle.polygonize.proofs.Turning.{none_added, step_added}
-use Rattle.polygonize.proofs.Entering.{all_entries, none_entered, step_entered}
+use Rattle.polygonize.proofs.Entering.{all_pieces, none_entered, shell_itself, step_entered}
 use Rattle.polygonize.proofs.Writing.{last_of, rest_of, some_points, two_points}
 use Rattle.polygonize.proofs.written.write_pieces.Goals as goal
 
@@ -20,16 +20,16 @@ pub loop-piece-preserved : goal.loop-piece-preserved
 loop-piece-preserved g c = (
   rest_of (λ p. IsSound c.args.edges.now p.items) c.loop-piece.pieces.items c.pop.new.self.items c.in-Some.piece c.in-Some.ensures.items c.loop-piece.invariant.0,
   step_added (λ p. p.items) (λ w. w.ring.items) (map (λ p. p.items) c.args.pieces.items) c.loop-piece.pieces.items c.pop.new.self.items c.in-Some.piece (map (λ w. w.ring.items) c.args.written.now.items) c.loop-piece.written.items c.push.new.self.items _ c.in-Some.ensures.items c.in_ok-push.ensures.items c.turned-ring.ensures c.loop-piece.invariant.1,
-  step_entered (λ p. p.items) (λ w. record { place = w.place; ring = w.ring.items }) c.shell_of_pieces-shell.result (is_some c.args.owner) c.first_piece-first.result (map (λ p. p.items) c.args.pieces.items) c.loop-piece.pieces.items c.pop.new.self.items
-      (map (λ w. record { place = w.place; ring = w.ring.items }) c.args.written.now.items) c.loop-piece.written.items c.push.new.self.items c.in-Some.piece _ c.in-Some.ensures.items c.in_ok-push.ensures.items
+  step_entered (λ p. p.items) placed_ring c.shell_of_pieces-shell.result (is_some c.args.owner) c.first_piece-first.result (map (λ p. p.items) c.args.pieces.items) c.loop-piece.pieces.items c.pop.new.self.items
+      (map placed_ring c.args.written.now.items) c.loop-piece.written.items c.push.new.self.items c.in-Some.piece _ c.in-Some.ensures.items c.in_ok-push.ensures.items
       (record {
         turned = c.turned-ring.ensures;
-        shell_is = refl;
-        opening_is = c.of.ensures ∙ ap opening_of c.deref-in-Some.ensures.value;
-        hole_is = c.is_written_as_hole.ensures ∙ ap (λ n. is_some c.args.owner || not (n == c.first_piece-first.result)) (omega (arith, c.len.ensures, c.pop.new.self.ok.0));
+        under = refl;
+        opening = c.of.ensures ∙ ap opening_of c.deref-in-Some.ensures.value;
+        hole = shell_itself (is_some c.args.owner) _ c.first_piece-first.result _ (c.is_written_as_hole.ensures ∙ ap (λ n. is_some c.args.owner || not (n == c.first_piece-first.result)) (omega (arith, c.len.ensures, c.pop.new.self.ok.0)));
       }) c.loop-piece.invariant.2,
 )
 
-pub returns-clause-entries : goal.returns-clause-entries
-returns-clause-entries g c = all_entries c.args.edges.now c.args.least (λ p. p.items) c.args.pieces.items c.deref.result.now c.loop-piece.pieces.items c.args.owner c.shell_of_pieces-shell.result c.first_piece-first.result _ _ c.index.result.now c.deref-2.result.now
+pub returns-clause-pieces : goal.returns-clause-pieces
+returns-clause-pieces g c = all_pieces c.args.edges.now c.args.least (λ p. p.items) c.args.pieces.items c.deref.result.now c.loop-piece.pieces.items c.args.owner c.shell_of_pieces-shell.result c.first_piece-first.result _ _ c.index.result.now c.deref-2.result.now
     c.deref.ensures.value c.first_piece-first.ensures.inside c.first_piece-first.ensures.first c.index.ensures c.deref-2.ensures.value c.shell_of_pieces-shell.ensures (omega (arith, c.in_default.ensures.cases.0, c.loop-piece.pieces.ok.0)) c.loop-piece.invariant.2

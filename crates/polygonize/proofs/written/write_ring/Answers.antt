@@ -1,6 +1,5 @@
 use Rattle.std.proofs.Common.{map}
-use Rattle.polygonize.proofs.Bridging.{ring_placed}
-use Rattle.polygonize.proofs.Writing.{cut_some, mapped_some, ring_least, ring_sound, ring_some, ring_vertices, ring_written, unmapped, vertices_inside}
+use Rattle.polygonize.proofs.Writing.{cut_some, mapped_some, ring_least, ring_placed, ring_sound, ring_some, ring_vertices, ring_written, unmapped, vertices_inside}
 use Rattle.polygonize.specs.Written.{IsSound}
 use Rattle.polygonize.proofs.written.write_ring.Goals as goal
 
@@ -28,4 +27,4 @@ returns-clause-written g c = ring_written c.args.edges.now c.args.numbers.now c.
 
 pub returns-clause-placed : goal.returns-clause-placed
 returns-clause-placed g c = ring_placed c.args.edges.now c.args.numbers.now c.args.cycle.now c.in_ok-ring.ring.items (map (λ p. p.items) c.in_ok-pieces.pieces.items) c.in_ok-owner.owner c.in_ok-shell.shell _ _ _ _ c.index.result.now c.requires.closes.are_directed c.requires.numbers c.requires.cycle
-    c.in_ok-ring.ensures c.index.ensures (rw c.deref-2.ensures.value at c.in_ok-pieces.ensures.pieces) (rw c.deref.ensures.value at c.in_ok-owner.ensures.owner) c.in_ok-shell.ensures.entries c.keep_shell.ensures
+    c.in_ok-ring.ensures c.index.ensures (rw c.deref-2.ensures.value at c.in_ok-pieces.ensures.pieces) (rw c.deref.ensures.value at c.in_ok-owner.ensures.owner) c.in_ok-shell.ensures.pieces c.keep_shell.ensures

@@ -2,9 +2,8 @@ use Rattle.std.proofs.Common.{List, map}
 use Rattle.std.proofs.lemmas.Result.{IfOk-weaker}
 use Rattle.geom.specs.declared.point.Pt.{Pt}
 use Rattle.polygonize.specs.Next.{ring_of}
-use Rattle.polygonize.specs.Pieces.{HasItsEdges}
-use Rattle.polygonize.specs.Placed.{AreWritten}
-use Rattle.polygonize.specs.Written.{ArePlaces}
+use Rattle.polygonize.specs.Placed.{AreWritten, placed_ring}
+use Rattle.polygonize.specs.Written.{ArePlaces, HasItsEdges}
 use Rattle.polygonize.proofs.Writing.{unmapped}
 use Rattle.polygonize.proofs.written.written_rings.Goals as goal
 
@@ -18,7 +17,7 @@ pub returns-clause-written : goal.returns-clause-written
 returns-clause-written g c = λ noded grounded.
     let written = rw c.deref-2.ensures.value at c.write_cycles.ensures.written in
     IfOk-weaker c.write_cycles.result
-    (λ found. AreWritten c.args.edges.now (map (ring_of c.args.edges.now) (map (λ v. v.items) c.in_ok-cycles.cycles.items)) (map (λ w. record { place = w.place; ring = w.ring.items }) found.items))
-    (λ found. (rings : List (List Pt)) × AreWritten c.args.edges.now rings (map (λ w. record { place = w.place; ring = w.ring.items }) found.items))
+    (λ found. AreWritten c.args.edges.now (map (ring_of c.args.edges.now) (map (λ v. v.items) c.in_ok-cycles.cycles.items)) (map placed_ring found.items))
+    (λ found. (rings : List (List Pt)) × AreWritten c.args.edges.now rings (map placed_ring found.items))
     (λ found h. (map (ring_of c.args.edges.now) (map (λ v. v.items) c.in_ok-cycles.cycles.items), h))
     (written noded (grounded (map (ring_of c.args.edges.now) (map (λ v. v.items) c.in_ok-cycles.cycles.items)) c.in_ok-cycles.ensures.rings))
