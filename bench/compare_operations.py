@@ -2,7 +2,7 @@
 """Compares the four operations of the built program with a reference, byte for byte, on the samples and on the layer pairs
 of compare.py.
 
-    python3 bench/compare_operations.py --reference PATH [--words "--rules NAME"] [--program PATH] [--pairs N] [--seed N] [--first N] [--report]
+    python3 bench/compare_operations.py --reference PATH [--words "--rules NAME"] [--program PATH] [--pairs N] [--seed N] [--first N] [--tile N] [--report]
 
 The reference is a program with the same command line (a Python file is run by this Python); the words are added to its
 command line, for one that knows several rules for rings. Every pair is run by each operation: status, standard output and
@@ -26,7 +26,7 @@ def outcome(command, operation, files, words):
 
 def differing(args, files):
     """The operations whose outcomes differ."""
-    report = ["--report"] * args.report
+    report = ["--report"] * args.report + ["--tile=%d" % args.tile] * bool(args.tile)
     ours, theirs = program_of(args.program), program_of(args.reference)
     return [op for op in OPERATIONS if outcome(ours, op, files, report) != outcome(theirs, op, files, report + args.words.split())]
 
@@ -48,6 +48,7 @@ def main():
     parser.add_argument("--pairs", type=int, default=100)
     parser.add_argument("--first", type=int, default=0)
     parser.add_argument("--seed", type=int, default=1)
+    parser.add_argument("--tile", type=int, default=0, help="the tile side, where it isn't the default one; over the whole range that has too many tiles")
     parser.add_argument("--report", action="store_true")
     args = parser.parse_args()
     folder = os.path.join(ROOT, "bench/out")

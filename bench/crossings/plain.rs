@@ -70,7 +70,7 @@ fn step(x: u64) -> u64 {
 }
 
 fn point(x: u64, range: u64) -> Pt {
-    Pt { x: ((x >> 40) % range) as i32, y: ((step(x) >> 40) % range) as i32 }
+    Pt { x: ((x >> 36) % range) as i32, y: ((step(x) >> 36) % range) as i32 }
 }
 
 fn samples(n: u32, range: u64) -> Vec<Seg> {
@@ -115,7 +115,7 @@ fn meet_all(all: &[Seg], rounds: usize) -> u64 {
 }
 
 fn main() {
-    for (name, range) in [("near", 64), ("far", 16_777_216)] {
+    for (name, range) in [("near", 64), ("far", 268_435_456)] {
         let all = samples(4096, range);
         let start = Instant::now();
         let sum = cross_all(&all, 1000);

@@ -49,7 +49,7 @@ fn beside(p: Pt, x: u64) -> Pt {
 }
 
 fn in_limit(p: Pt) -> bool {
-    p.0.abs() <= 16_777_216 && p.1.abs() <= 16_777_216
+    p.0.abs() <= 268_435_456 && p.1.abs() <= 268_435_456
 }
 
 fn fill(edges: &mut Columns, boxes: &mut Columns, short: bool) {

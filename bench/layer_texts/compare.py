@@ -14,7 +14,7 @@ import random
 import re
 import sys
 
-LIMIT = 16_777_216
+LIMIT = 268_435_456
 TOKEN = re.compile(rb"[A-Za-z]+|-?[0-9]+|[ \t\r\n]+|.", re.S)
 STRANGE = b" \t\r\n(),-+.0123456789eEpPmMyYlLzZ\x00\x0b\x0c\x7f\xc8\xef"
 

@@ -73,10 +73,10 @@ near_high t s m k n x e f p h i = rw (e, f) (plain (simp expand at (scale_le s (
 minus_plus : (a b : ℤ) → a -ℤ b ≡ a +ℤ neg_ℤ b
 minus_plus a b = omega (arith, linear)
 
-small_low : (y w : ℤ) → IsWithin coordinate_limit y → IsWithin coordinate_limit w → neg_ℤ (pos (2 ^ 27)) ≤ℤ neg_ℤ (pos 2 *ℤ (w -ℤ y))
+small_low : (y w : ℤ) → IsWithin coordinate_limit y → IsWithin coordinate_limit w → neg_ℤ (pos (2 ^ 31)) ≤ℤ neg_ℤ (pos 2 *ℤ (w -ℤ y))
 small_low y w h k = omega (arith, ints)
 
-small_high : (y w : ℤ) → IsWithin coordinate_limit y → IsWithin coordinate_limit w → neg_ℤ (pos 2 *ℤ (w -ℤ y)) <ℤ pos (2 ^ 27)
+small_high : (y w : ℤ) → IsWithin coordinate_limit y → IsWithin coordinate_limit w → neg_ℤ (pos 2 *ℤ (w -ℤ y)) <ℤ pos (2 ^ 31)
 small_high y w h k = omega (arith, ints)
 
 wider_low : (a b k : ℤ) → a ≤ℤ b → neg_ℤ a ≤ℤ k → neg_ℤ b ≤ℤ k
@@ -89,8 +89,8 @@ wider_high a b k h i = omega (arith, linear)
 near_side : (u v : Pt) (m : ℤ) → AreInLimit u v → (m +ℤ m) ≤ℤ (u.x +ℤ v.x) → (u.x +ℤ v.x) ≤ℤ ((m +ℤ m) +ℤ pos 1) → IsNear (left_side u v) m
 near_side u v m h low high =
     let k : ℤ = neg_ℤ (pos 2 *ℤ (v.y -ℤ u.y)) in record {
-      low = near_low (pos (2 ^ 64)) (u.x +ℤ v.x) m k (pos (2 ^ 65)) (left_side u v).x refl (minus_plus (pos (2 ^ 64) *ℤ (u.x +ℤ v.x)) (pos 2 *ℤ (v.y -ℤ u.y))) (le_z_yes tt) (wider_low (pos (2 ^ 27)) (pos (2 ^ 64)) k (le_z_yes tt) (small_low u.y v.y h.a_in.y_in h.b_in.y_in)) low;
-      high = near_high (pos (2 ^ 64)) (u.x +ℤ v.x) m k (pos (2 ^ 65)) (left_side u v).x refl (minus_plus (pos (2 ^ 64) *ℤ (u.x +ℤ v.x)) (pos 2 *ℤ (v.y -ℤ u.y))) (le_z_yes tt) (wider_high (pos (2 ^ 27)) (pos (2 ^ 64)) k (le_z_yes tt) (small_high u.y v.y h.a_in.y_in h.b_in.y_in)) high;
+      low = near_low (pos (2 ^ 64)) (u.x +ℤ v.x) m k (pos (2 ^ 65)) (left_side u v).x refl (minus_plus (pos (2 ^ 64) *ℤ (u.x +ℤ v.x)) (pos 2 *ℤ (v.y -ℤ u.y))) (le_z_yes tt) (wider_low (pos (2 ^ 31)) (pos (2 ^ 64)) k (le_z_yes tt) (small_low u.y v.y h.a_in.y_in h.b_in.y_in)) low;
+      high = near_high (pos (2 ^ 64)) (u.x +ℤ v.x) m k (pos (2 ^ 65)) (left_side u v).x refl (minus_plus (pos (2 ^ 64) *ℤ (u.x +ℤ v.x)) (pos 2 *ℤ (v.y -ℤ u.y))) (le_z_yes tt) (wider_high (pos (2 ^ 31)) (pos (2 ^ 64)) k (le_z_yes tt) (small_high u.y v.y h.a_in.y_in h.b_in.y_in)) high;
     }
 
 -- ---- the strip of a midpoint

@@ -102,6 +102,6 @@ wide_product_fits x y u v f g e h =
     let y' : FitsSigned w128 y = fits_128 (2 ^ 63) y (lit< tt) (fits_within y g) in
     rw (a, b) (simp to_z-of_z (fits_128 _ _ (lit< tt) (product_within (2 ^ 63) (2 ^ 63) x y (fits_within x f) (fits_within y g))))
 
--- margins have room for coordinates up to 2 ^ 28
+-- the coordinate limit is 2 ^ 28
 pub within_room : (z : ℤ) → IsWithin coordinate_limit z → IsWithin (2 ^ 28) z
 within_room z h = record { low = omega (arith, ints); high = omega (arith, ints) }

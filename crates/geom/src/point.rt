@@ -6,7 +6,7 @@ ghost use Rattle.geom.specs.Limit.{InLimit};
 use crate::vector::Vector;
 
 /// The greatest absolute value of a coordinate.
-pub const COORDINATE_LIMIT: i32 = 16_777_216;
+pub const COORDINATE_LIMIT: i32 = 268_435_456;
 
 #[derive(Clone, Copy, Debug, PartialEq, Eq, PartialOrd, Ord)]
 pub struct Pt {

@@ -4,7 +4,7 @@ ghost use Rattle.std.specs.Prelude.{◌≡◌, ◌^◌};
 ghost use Rattle.geom.specs.Limit.{IsWithin};
 ghost use Rattle.geom.specs.Determinant.{determinant};
 
-/// A difference of two points. It has room for coordinates up to 2^28.
+/// A difference of two points. It has room for coordinates up to the limit, 2^28.
 #[derive(Clone, Copy, Debug)]
 pub struct Vector {
     pub dx: i64,

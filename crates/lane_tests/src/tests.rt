@@ -171,7 +171,7 @@ fn sides_at_every_length(rt: HostRuntime) -> Result<(), Fail> {
     let limit = COORDINATE_LIMIT;
     let one = (pt(-limit, -limit), pt(limit, limit - 1));
     let other = (pt(limit, limit), pt(-limit, -limit));
-    let most = 33_554_433;
+    let most = 2 * limit + 1;
     for (x2, y2) in [(most, most), (-most, most), (0, 0), (0, -1)] {
         for length in LENGTHS {
             for place in 0..length.max(1) {

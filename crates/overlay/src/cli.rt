@@ -25,7 +25,7 @@ const AFTER: &str =
     "union, intersection, difference and symdifference print the result of that operation on the two
 layers as one MULTIPOLYGON text.
 edges prints a line `x1 y1 x2 y2 countA countB` for each edge of both layers after rounding.
-Coordinates are whole numbers from -16777216 to 16777216, in grid units.
+Coordinates are whole numbers from -268435456 to 268435456, in grid units.
 
 Exit status: 0 answered, 1 a file, the output or memory failed, 2 command line not accepted,
 3 input refused, 4 edges cross.

@@ -35,7 +35,7 @@ const TEXTS: [(&str, &str); 16] = [
     ("cut", "POLYGON ((0 0"),
     ("joined", "POLYGON EMPTYPOLYGON EMPTY"),
     ("bare", "POLYGON (0 0, 1 0, 0 1, 0 0)"),
-    ("outside", "POLYGON ((0 0, 16777217 0, 0 1, 0 0))"),
+    ("outside", "POLYGON ((0 0, 268435457 0, 0 1, 0 0))"),
     ("short", "POLYGON ((0 0, 1 0, 0 1))"),
     ("open", "POLYGON ((0 0, 1 0, 1 1, 0 1))"),
     (

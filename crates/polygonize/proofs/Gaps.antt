@@ -78,21 +78,21 @@ over_tests p q x p' q' x' e f g h = (
 )
 
 -- ---- lesser gaps
-wider : (z : ℤ) → IsWithin (2 ^ 26) z → IsWithin (2 ^ 59) z
+wider : (z : ℤ) → IsWithin (2 ^ 29) z → IsWithin (2 ^ 59) z
 wider z h = record { low = omega (arith, ints); high = omega (arith, ints) }
 
 -- a product of 128 bits is that of the numbers
-product_is : (r x y : ℤ) → IsWithin (2 ^ 59) x → IsWithin (2 ^ 26) y → r ≡ to_z w64 (of_z w64 x) *ℤ to_z w64 (of_z w64 y) → to_z w128 (of_z w128 r) ≡ x *ℤ y
+product_is : (r x y : ℤ) → IsWithin (2 ^ 59) x → IsWithin (2 ^ 29) y → r ≡ to_z w64 (of_z w64 x) *ℤ to_z w64 (of_z w64 y) → to_z w128 (of_z w128 r) ≡ x *ℤ y
 product_is r x y h k e =
     let f : FitsSigned w64 x = fits_64 (2 ^ 59) x (lit< tt) h in
-    let g : FitsSigned w64 y = fits_64 (2 ^ 26) y (lit< tt) k in
-    let p : FitsSigned w128 (x *ℤ y) = fits_128 _ _ (lit< tt) (product_within (2 ^ 59) (2 ^ 26) x y h k) in
+    let g : FitsSigned w64 y = fits_64 (2 ^ 29) y (lit< tt) k in
+    let p : FitsSigned w128 (x *ℤ y) = fits_128 _ _ (lit< tt) (product_within (2 ^ 59) (2 ^ 29) x y h k) in
     rw e (simp to_z-of_z)
 
 height_times : (kk s r u : ℤ) → ((kk *ℤ s) +ℤ r) *ℤ u ≡ (kk *ℤ (s *ℤ u)) +ℤ (r *ℤ u)
 height_times kk s r u = simp expand (omega (arith, linear))
 
-less_first : (x y a b c d : ℤ) → x ≡ (pos (2 ^ 64) *ℤ a) +ℤ c → y ≡ (pos (2 ^ 64) *ℤ b) +ℤ d → IsWithin (2 ^ 26 * 2 ^ 26) c → IsWithin (2 ^ 26 * 2 ^ 26) d → a <ℤ b → x <ℤ y
+less_first : (x y a b c d : ℤ) → x ≡ (pos (2 ^ 64) *ℤ a) +ℤ c → y ≡ (pos (2 ^ 64) *ℤ b) +ℤ d → IsWithin (2 ^ 29 * 2 ^ 29) c → IsWithin (2 ^ 29 * 2 ^ 29) d → a <ℤ b → x <ℤ y
 less_first x y a b c d e f h k l = omega (arith, ints)
 
 less_second : (x y a b c d : ℤ) → x ≡ (pos (2 ^ 64) *ℤ a) +ℤ c → y ≡ (pos (2 ^ 64) *ℤ b) +ℤ d → b ≤ℤ a → a ≤ℤ b → c <ℤ d → x <ℤ y
@@ -109,7 +109,7 @@ module _ (e f : Gap) (h : HasGapRoom e) (k : HasGapRoom f) where
   right_is = height_times (pos (2 ^ 64)) f.side f.rise e.run
 
   pub less_by_side : (r s : ℤ) → r ≡ to_z w64 (of_z w64 e.side) *ℤ to_z w64 (of_z w64 f.run) → s ≡ to_z w64 (of_z w64 f.side) *ℤ to_z w64 (of_z w64 e.run) → lt_z (to_z w128 (of_z w128 r)) (to_z w128 (of_z w128 s)) ≡ true → IsLessGap e f
-  less_by_side r s x y t = less_first _ _ (e.side *ℤ f.run) (f.side *ℤ e.run) (e.rise *ℤ f.run) (f.rise *ℤ e.run) left_is right_is (product_within (2 ^ 26) (2 ^ 26) e.rise f.run h.rise_in k.run_in) (product_within (2 ^ 26) (2 ^ 26) f.rise e.run k.rise_in h.run_in)
+  less_by_side r s x y t = less_first _ _ (e.side *ℤ f.run) (f.side *ℤ e.run) (e.rise *ℤ f.run) (f.rise *ℤ e.run) left_is right_is (product_within (2 ^ 29) (2 ^ 29) e.rise f.run h.rise_in k.run_in) (product_within (2 ^ 29) (2 ^ 29) f.rise e.run k.rise_in h.run_in)
       (let P : ℤ → Type 0 = λ t. t <ℤ (f.side *ℤ e.run) in subst P (product_is r e.side f.run h.side_in k.run_in x) (let Q : ℤ → Type 0 = λ t. to_z w128 (of_z w128 r) <ℤ t in subst Q (product_is s f.side e.run k.side_in h.run_in y) (less _ _ t)))
 
   -- the sides are equal
@@ -208,15 +208,15 @@ gap_made d v f g h l i w j k c b = record {
   room = record {
     some = let P : ℤ → Type 0 = λ t. pos 0 <ℤ t in subst P (sym k) (run_right d v f c);
     side_in = let P : ℤ → Type 0 = IsWithin (2 ^ 59) in subst P (sym i) w;
-    run_in = let P : ℤ → Type 0 = IsWithin (2 ^ 26) in subst P (sym k) (apart f.q.x f.p.x ends.b_in.x_in ends.a_in.x_in);
-    rise_in = let P : ℤ → Type 0 = IsWithin (2 ^ 26) in subst P (sym j) (apart f.q.y f.p.y ends.b_in.y_in ends.a_in.y_in);
+    run_in = let P : ℤ → Type 0 = IsWithin (2 ^ 29) in subst P (sym k) (apart f.q.x f.p.x ends.b_in.x_in ends.a_in.x_in);
+    rise_in = let P : ℤ → Type 0 = IsWithin (2 ^ 29) in subst P (sym j) (apart f.q.y f.p.y ends.b_in.y_in ends.a_in.y_in);
   };
 }
   where
     ends : AreInLimit f.p f.q
     ends = ends_in_limit d.from d.to f.p f.q h l
 
-    apart : (a b : ℤ) → IsWithin coordinate_limit a → IsWithin coordinate_limit b → IsWithin (2 ^ 26) (a -ℤ b)
+    apart : (a b : ℤ) → IsWithin coordinate_limit a → IsWithin coordinate_limit b → IsWithin (2 ^ 29) (a -ℤ b)
     apart a b h k = record { low = omega (arith, ints); high = omega (arith, ints) }
 
     high : height f (left_of v) ≡ gap_height g
@@ -226,7 +226,7 @@ gap_made d v f g h l i w j k c b = record {
 pub kept : (z n : ℤ) → z ≡ n → IsWithin (2 ^ 59) n → to_z w64 (of_z w64 z) ≡ n
 kept z n e h = let f : FitsSigned w64 n = fits_64 (2 ^ 59) n (lit< tt) h in rw e (simp to_z-of_z)
 
-pub small_distance : (a b : ℤ) → IsWithin coordinate_limit a → IsWithin coordinate_limit b → IsWithin (2 ^ 26) (a -ℤ b)
+pub small_distance : (a b : ℤ) → IsWithin coordinate_limit a → IsWithin coordinate_limit b → IsWithin (2 ^ 29) (a -ℤ b)
 small_distance a b h k = record { low = omega (arith, ints); high = omega (arith, ints) }
 
 pub same_within : (n : ℕ) (z m : ℤ) → z ≡ m → IsWithin n z → IsWithin n m
@@ -235,5 +235,5 @@ same_within n z m e h = let P : ℤ → Type 0 = IsWithin n in subst P e h
 pub kept_distance : (z a b : ℤ) → z ≡ a -ℤ b → IsWithin coordinate_limit a → IsWithin coordinate_limit b → to_z w64 (of_z w64 z) ≡ a -ℤ b
 kept_distance z a b e h k = kept z (a -ℤ b) e (wider (a -ℤ b) (small_distance a b h k))
 
-pub distance_in : (z a b : ℤ) → z ≡ a -ℤ b → IsWithin coordinate_limit a → IsWithin coordinate_limit b → IsWithin (2 ^ 26) (to_z w64 (of_z w64 z))
-distance_in z a b e h k = let P : ℤ → Type 0 = IsWithin (2 ^ 26) in subst P (sym (kept_distance z a b e h k)) (small_distance a b h k)
+pub distance_in : (z a b : ℤ) → z ≡ a -ℤ b → IsWithin coordinate_limit a → IsWithin coordinate_limit b → IsWithin (2 ^ 29) (to_z w64 (of_z w64 z))
+distance_in z a b e h k = let P : ℤ → Type 0 = IsWithin (2 ^ 29) in subst P (sym (kept_distance z a b e h k)) (small_distance a b h k)

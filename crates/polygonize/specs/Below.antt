@@ -29,8 +29,8 @@ gap_height g = (pos (2 ^ 64) *ℤ g.side) +ℤ g.rise
 pub record HasGapRoom (g : Gap) : Type 0 where
   pub some : pos 0 <ℤ g.run
   pub side_in : IsWithin (2 ^ 59) g.side
-  pub run_in : IsWithin (2 ^ 26) g.run
-  pub rise_in : IsWithin (2 ^ 26) g.rise
+  pub run_in : IsWithin (2 ^ 29) g.run
+  pub rise_in : IsWithin (2 ^ 29) g.rise
 
 -- g is the gap from an edge along which d runs up to the point just left of v
 pub record IsGap (d : DirectedEdge) (v : Pt) (g : Gap) : Type 0 where

@@ -36,7 +36,7 @@ fn is_over(edge: &Edge, v: Pt) -> bool
 
 /// Whether side + rise / 2^64 is above 0.
 fn is_above(side: i64, rise: i64) -> bool
-    requires { IsWithin (2 ^ 26) rise }
+    requires { IsWithin (2 ^ 29) rise }
     ensures { IsTrue result ↔ (pos 0 <ℤ ((pos (2 ^ 64) *ℤ side) +ℤ rise)) }
 {
     side > 0 || side == 0 && rise > 0

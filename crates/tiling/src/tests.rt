@@ -70,8 +70,8 @@ fn grids(rt: HostRuntime) {
         (None, 16, Ok(0)),
         (whole, 15, Err(Fault::BadTile)),
         (None, 33_554_433, Err(Fault::BadTile)),
-        (whole, 16, Err(Fault::TooManyTiles(4_398_050_705_409))),
-        (whole, 33_554_432, Ok(4)),
+        (whole, 16, Err(Fault::TooManyTiles(1_125_899_973_951_489))),
+        (whole, 33_554_432, Ok(289)),
     ];
     for (bounds, side, tiles) in table {
         assert!(rt; tiles_over(bounds, side) == tiles);
@@ -302,7 +302,7 @@ fn strips_against_the_plain_loop(rt: HostRuntime) -> Result<(), Fail> {
         (-17, 500, 7, many.as_slice(), 74u32),
         (3, 3, 1, many.as_slice(), 1),
         (-limit, limit, u32::MAX, ends.as_slice(), 1),
-        (-limit, limit, 131_073, ends.as_slice(), 256),
+        (-limit, limit, 2_097_153, ends.as_slice(), 256),
     ];
     for (low, high, width, list, strips) in table {
         assert!(rt; strips_agree(rt.alloc(), low, high, width, list)? == Some(strips));

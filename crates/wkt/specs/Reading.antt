@@ -1,5 +1,6 @@
 -- What the code's reader has of the machine's notes.
 use Rattle.std.specs.Prelude.{◌≡◌, ℕ, ◌+◌, ◌*◌, Bool, true, false, min, nat_lt, if◌then◌else◌, [], ◌∷◌, ◌++◌, ℤ, Option, Some, None, MatchOption}
+use Rattle.geom.specs.Limit.{coordinate_limit}
 use Rattle.wkt.specs.declared.places.Place.{Place}
 use Rattle.wkt.specs.declared.places.Place.TheVariants.{BeforeRing, BeforePoint, MinusX, DigitsX, BeforeY, MinusY, DigitsY, AfterPoint}
 use Rattle.wkt.specs.declared.places.Class.{Class}
@@ -16,7 +17,7 @@ u32_max = 4294967295
 
 -- the value, where it is within the limit
 abbrev pub value_of : Numeral → Option ℤ
-value_of x = if nat_lt 16777216 x.magnitude then None else Some (signed x.negative x.magnitude)
+value_of x = if nat_lt coordinate_limit x.magnitude then None else Some (signed x.negative x.magnitude)
 
 abbrev pub with_digit : Numeral → ℕ → Numeral
 with_digit x d = record x { magnitude = min (min (x.magnitude * 10) u32_max + d) u32_max }

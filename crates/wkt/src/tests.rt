@@ -29,6 +29,16 @@ fn accepted(rt: HostRuntime) {
         ("POLYGON((0 0,4 0,4 4,0 4,0 0))", 4, rect(0, 0, 4, 4)),
         ("POLYGON ((007 -0, 8 0, 8 1, 7 0))", 3, rect(7, 0, 8, 1)),
         ("POLYGON ((5 5, 5 5, 5 5, 5 5))", 0, None),
+        (
+            "POLYGON ((0 0, 16777217 0, 0 1, 0 0))",
+            3,
+            rect(0, 0, 16_777_217, 1),
+        ),
+        (
+            "POLYGON ((-268435456 0, 268435456 0, 0 268435456, -268435456 0))",
+            3,
+            rect(-268_435_456, 0, 268_435_456, 268_435_456),
+        ),
         ("POLYGON ((0 0, 4 0, 4 0, 0 4, 0 0))", 3, rect(0, 0, 4, 4)),
         (
             "MULTIPOLYGON (((0 0, 1 0, 0 1, 0 0)), ((2 2, 3 2, 2 3, 2 2)))",
@@ -64,6 +74,7 @@ fn no_layer(rt: HostRuntime) {
             ("POLYGON EMPTYPOLYGON EMPTY", Fault::Syntax(13)),
             ("POLYGON (0 0, 1 0, 0 1, 0 0)", Fault::Syntax(9)),
             ("POLYGON ((99999999 0, 1 0, 1 1)", Fault::Syntax(31)),
+            ("POLYGON ((999999999 0, 1 0, 1 1)", Fault::Syntax(32)),
         ],
     );
 }
@@ -102,13 +113,14 @@ fn faulty(rt: HostRuntime) {
         &rt,
         &[
             (
-                "POLYGON ((0 0, 1 0, 0 -16777217, 5 5))",
+                "POLYGON ((0 0, 1 0, 0 -268435457, 5 5))",
                 Fault::NumberRange(22),
             ),
             (
-                "POLYGON ((0 0, 16777217 0, 0 1, 0 0))",
+                "POLYGON ((0 0, 268435457 0, 0 1, 0 0))",
                 Fault::NumberRange(15),
             ),
+            ("POLYGON ((0 0, 1 0, 0 -16777217, 5 5))", Fault::RingOpen(9)),
             ("POLYGON ((0 0, 1 0, 5 5))", Fault::RingShort(9)),
             (
                 "POLYGON ((0 0, 1 0, 1 1, 0 1), (0 0, 1 0, 0 0))",

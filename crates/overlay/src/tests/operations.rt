@@ -1,6 +1,6 @@
 //! The four operations on small layers, whose results were worked out by hand from the rules.
 
-use super::plans::{APART, LARGE, LARGE_OTHER, WHOLE};
+use super::plans::{APART, BROAD, LARGE, LARGE_OTHER, VAST, VAST_OTHER, WHOLE};
 use super::{LINE, OTHER, SQUARE, is_overlaid, overlaid};
 use crate::{MemSink, Plan};
 use geom::{Fault, NoMemory, Op};
@@ -21,8 +21,14 @@ const LARGE_COMMON: &str = "MULTIPOLYGON (((200 200, 400 200, 400 400, 200 400, 
 
 const APART_UNION: &str = "MULTIPOLYGON (((0 0, 1 0, 0 1, 0 0)), ((15 15, 16 15, 16 16, 15 15)))\n";
 
-const WHOLE_UNION: &str =
+const BROAD_UNION: &str =
     "MULTIPOLYGON (((-16777216 -16777216, 16777216 -16777216, 16777216 16777216, -16777216 16777216, -16777216 -16777216)))\n";
+
+const WHOLE_UNION: &str =
+    "MULTIPOLYGON (((-268435456 -268435456, 268435456 -268435456, 268435456 268435456, -268435456 268435456, -268435456 -268435456)))\n";
+
+const VAST_COMMON: &str =
+    "MULTIPOLYGON (((-134217728 -134217728, 0 -134217728, 0 0, -134217728 0, -134217728 -134217728)))\n";
 
 const COMMON: Row = (SQUARE, OTHER, Op::Intersection, LINE);
 
@@ -32,7 +38,11 @@ const LARGE_ROW: Row = (LARGE, LARGE_OTHER, Op::Intersection, LARGE_COMMON);
 
 const APART_ROW: Row = (APART, "", Op::Union, APART_UNION);
 
+const BROAD_ROW: Row = (BROAD, "", Op::Union, BROAD_UNION);
+
 const WHOLE_ROW: Row = (WHOLE, "", Op::Union, WHOLE_UNION);
+
+const VAST_ROW: Row = (VAST, VAST_OTHER, Op::Intersection, VAST_COMMON);
 
 const ROWS: [Row; 17] = [
     (
@@ -135,7 +145,7 @@ type Reported = (Row, u32, u32, &'static str);
 const FINE_REPORT: &str =
     "segments 4 4\nhot 10\nrecords 20\nedges 12\ntiles 1444\nremade 0\ntile 0 1 2\n";
 
-const REPORTED: [Reported; 8] = [
+const REPORTED: [Reported; 10] = [
     (
         COMMON,
         16,
@@ -164,10 +174,22 @@ const REPORTED: [Reported; 8] = [
         "segments 7 0\nhot 7\nrecords 15\nedges 7\ntiles 4\nremade 0\ntile 0 4 8\ntile 1 1 2\ntile 2 1 2\ntile 3 1 3\n",
     ),
     (
-        WHOLE_ROW,
+        BROAD_ROW,
         33_554_432,
         2,
         "segments 4 0\nhot 4\nrecords 8\nedges 4\ntiles 4\nremade 0\ntile 0 1 2\ntile 1 1 2\ntile 2 1 2\ntile 3 1 2\n",
+    ),
+    (
+        WHOLE_ROW,
+        33_554_432,
+        2,
+        "segments 4 0\nhot 4\nrecords 8\nedges 4\ntiles 289\nremade 0\ntile 0 1 2\ntile 1 0 0\n",
+    ),
+    (
+        VAST_ROW,
+        33_554_432,
+        2,
+        "segments 4 4\nhot 10\nrecords 20\nedges 12\ntiles 169\nremade 0\ntile 0 1 2\ntile 1 0 0\n",
     ),
 ];
 
@@ -200,7 +222,7 @@ fn overlays_rows(rt: HostRuntime) -> Result<(), Fail> {
 /// and what the sink has then.
 type Refused = (Option<Op>, &'static str, u32, usize, Fault, &'static str);
 
-const REFUSED: [Refused; 6] = [
+const REFUSED: [Refused; 8] = [
     (Some(Op::Union), SQUARE, 16, 5, Fault::Write, "MULTI"),
     (None, SQUARE, 16, 5, Fault::Write, "0 0 0"),
     (Some(Op::Union), SQUARE, 15, 100, Fault::BadTile, ""),
@@ -214,7 +236,7 @@ const REFUSED: [Refused; 6] = [
     ),
     (
         Some(Op::Union),
-        WHOLE,
+        BROAD,
         16,
         100,
         Fault::TooManyTiles(4_398_050_705_409),
@@ -222,10 +244,26 @@ const REFUSED: [Refused; 6] = [
     ),
     (
         None,
-        WHOLE,
+        BROAD,
         16,
         100,
         Fault::TooManyTiles(4_398_050_705_409),
+        "",
+    ),
+    (
+        Some(Op::Union),
+        WHOLE,
+        16,
+        100,
+        Fault::TooManyTiles(1_125_899_973_951_489),
+        "",
+    ),
+    (
+        None,
+        WHOLE,
+        16,
+        100,
+        Fault::TooManyTiles(1_125_899_973_951_489),
         "",
     ),
 ];

@@ -5,7 +5,7 @@ use crate::{MemSink, Plan};
 use std::sync::atomic::{AtomicBool, Ordering};
 use std::test::Fail;
 use std::thread;
-use tile_book::{Gate, Phase};
+use tile_book::{Gate, OpenGate, Phase};
 
 /// Two layers, the side of a tile, their edges, and how the report begins.
 type Row = (&'static str, &'static str, u32, &'static str, &'static str);
@@ -25,14 +25,31 @@ pub(super) const LARGE_OTHER: &str = "POLYGON ((200 200, 600 200, 600 600, 200 6
 const LARGE_EDGES: &str =
     "0 0 0 400 1 0\n0 0 400 0 1 0\n0 400 200 400 1 0\n200 200 200 400 0 1\n200 200 400 200 0 1\n200 400 200 600 0 1\n200 400 400 400 1 0\n200 600 600 600 0 1\n400 0 400 200 1 0\n400 200 400 400 1 0\n400 200 600 200 0 1\n600 200 600 600 0 1\n";
 
-/// The whole range of coordinates.
-pub(super) const WHOLE: &str =
+/// A square that reaches just into the second column and row of tiles of the greatest side.
+pub(super) const BROAD: &str =
     "POLYGON ((-16777216 -16777216, 16777216 -16777216, 16777216 16777216, -16777216 16777216, -16777216 -16777216))\n";
 
-const WHOLE_EDGES: &str =
+const BROAD_EDGES: &str =
     "-16777216 -16777216 -16777216 16777216 1 0\n-16777216 -16777216 16777216 -16777216 1 0\n-16777216 16777216 16777216 16777216 1 0\n16777216 -16777216 16777216 16777216 1 0\n";
 
-const ROWS: [Row; 10] = [
+/// The whole range of coordinates.
+pub(super) const WHOLE: &str =
+    "POLYGON ((-268435456 -268435456, 268435456 -268435456, 268435456 268435456, -268435456 268435456, -268435456 -268435456))\n";
+
+const WHOLE_EDGES: &str =
+    "-268435456 -268435456 -268435456 268435456 1 0\n-268435456 -268435456 268435456 -268435456 1 0\n-268435456 268435456 268435456 268435456 1 0\n268435456 -268435456 268435456 268435456 1 0\n";
+
+/// The two squares that overlap, moved to the least corner of the whole range and 67,108,864 times their size.
+pub(super) const VAST: &str =
+    "POLYGON ((-268435456 -268435456, 0 -268435456, 0 0, -268435456 0, -268435456 -268435456))\n";
+
+pub(super) const VAST_OTHER: &str =
+    "POLYGON ((-134217728 -134217728, 134217728 -134217728, 134217728 134217728, -134217728 134217728, -134217728 -134217728))\n";
+
+const VAST_EDGES: &str =
+    "-268435456 -268435456 -268435456 0 1 0\n-268435456 -268435456 0 -268435456 1 0\n-268435456 0 -134217728 0 1 0\n-134217728 -134217728 -134217728 0 0 1\n-134217728 -134217728 0 -134217728 0 1\n-134217728 0 -134217728 134217728 0 1\n-134217728 0 0 0 1 0\n-134217728 134217728 134217728 134217728 0 1\n0 -268435456 0 -134217728 1 0\n0 -134217728 0 0 1 0\n0 -134217728 134217728 -134217728 0 1\n134217728 -134217728 134217728 134217728 0 1\n";
+
+const ROWS: [Row; 12] = [
     (
         SQUARE,
         OTHER,
@@ -97,11 +114,25 @@ const ROWS: [Row; 10] = [
         "segments 7 0\nhot 7\nrecords 15\nedges 7\ntiles 1\nremade 0\ntile 0 7 15\n",
     ),
     (
+        BROAD,
+        "",
+        33_554_432,
+        BROAD_EDGES,
+        "segments 4 0\nhot 4\nrecords 8\nedges 4\ntiles 4\nremade 0\ntile 0 1 2\ntile 1 1 2\ntile 2 1 2\ntile 3 1 2\n",
+    ),
+    (
         WHOLE,
         "",
         33_554_432,
         WHOLE_EDGES,
-        "segments 4 0\nhot 4\nrecords 8\nedges 4\ntiles 4\nremade 0\ntile 0 1 2\ntile 1 1 2\ntile 2 1 2\ntile 3 1 2\n",
+        "segments 4 0\nhot 4\nrecords 8\nedges 4\ntiles 289\nremade 0\ntile 0 1 2\ntile 1 0 0\n",
+    ),
+    (
+        VAST,
+        VAST_OTHER,
+        33_554_432,
+        VAST_EDGES,
+        "segments 4 4\nhot 10\nrecords 20\nedges 12\ntiles 169\nremade 0\ntile 0 1 2\ntile 1 0 0\n",
     ),
 ];
 
@@ -114,6 +145,41 @@ fn rounds_rows(rt: HostRuntime) -> Result<(), Fail> {
             let holds = is_overlaid(&rt, rt.alloc(), None, (a, b), plan, text, report)?;
             assert!(rt; holds, "{text}");
         }
+    }
+    Ok(())
+}
+
+/// Tiles of the greatest side over the whole range, each with its hot pixels and its records.
+const CORNERS: [(usize, (u32, u32)); 7] = [
+    (0, (1, 2)),
+    (1, (0, 0)),
+    (16, (1, 2)),
+    (17, (0, 0)),
+    (271, (0, 0)),
+    (272, (1, 2)),
+    (288, (1, 2)),
+];
+
+/// Over the whole range the four corners have all hot pixels and records.
+#[test]
+fn rounds_the_whole_range(rt: HostRuntime) -> Result<(), Fail> {
+    let plan = Plan {
+        side: 33_554_432,
+        workers: 2,
+    };
+    let mut sink = MemSink::new(rt.alloc(), 4000)?;
+    let report = overlaid(
+        &rt,
+        rt.alloc(),
+        None,
+        (WHOLE, ""),
+        plan,
+        &OpenGate,
+        &mut sink,
+    )?;
+    assert!(rt; report.tiles.len() == 289 && report.hot == 4 && report.records == 8);
+    for (number, tile) in CORNERS {
+        assert!(rt; report.tiles.get(number).copied() == Some(tile), "{number}");
     }
     Ok(())
 }
