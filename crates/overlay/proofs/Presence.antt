@@ -6,11 +6,13 @@ use Rattle.std.proofs.lemmas.Slice.Eq.{bytes_eq-Decides}
 use Rattle.clap.specs.Words.{IsParsedFrom, first_value, found_of, Text}
 use Rattle.clap.specs.Built.{FitsChain, HasDistinctIds}
 use Rattle.clap.specs.declared.builder.arg.Arg.{Arg}
+use Rattle.clap.specs.Facts.{WantsDefault}
+use Rattle.clap.specs.declared.parser.matches.Found.{Found}
 use Rattle.clap.specs.declared.builder.command.Command.{Command}
 use Rattle.clap.specs.declared.parser.matches.ArgMatches.{ArgMatches}
 use Rattle.clap.proofs.CallerLemmas.{required_in_chain}
-use Rattle.overlay.specs.Arguments.{HasNumber, HasWords, IsNumberArg, IsOwnArg, IsOverlayCommand}
-use Rattle.overlay.proofs.Defaults.{default_in_chain}
+use Rattle.overlay.specs.Arguments.{HasNumber, HasWords, IsNumberArg, IsOwnArg, IsOverlayCommand, MayHaveNumber}
+use Rattle.overlay.proofs.Defaults.{IsReadOr, number_in_chain}
 use Rattle.clap.specs.Words.{one_text, without_minus}
 use Rattle.clap.specs.declared.builder.value_parser.ValueParser.TheVariants.{Signed}
 use Rattle.std.specs.Prelude.{Some, pos}
@@ -59,12 +61,19 @@ fits c h (suc (suc (suc (suc zero)))) d lt = own_id _ _ h.is_workers.own (omega 
 fits c h (suc (suc (suc (suc (suc zero))))) d lt = own_id _ _ h.is_report (omega arith) (λ e. absurd (omega arith)) (λ e. absurd (omega arith))
 fits c h (suc (suc (suc (suc (suc (suc j)))))) d lt = absurd (omega arith)
 
-number_there : (c : Command) (h : IsOverlayCommand c) (m : ArgMatches) → IsParsedFrom c m → (k : ℕ) → k < 6 → (id : Text)
-    → IsNumberArg id (slice_index_or (list_of c h) k h.word) → HasNumber (found_of m) id
-number_there c h m p k lt id n =
-    let got = default_in_chain h.start c (list_of c h) k h.word m h.chain h.no_args h.no_groups h.no_globals h.no_negation (fits c h) (distinct c h) lt
-    n.has_default n.set n.no_delimiter n.one_value (Signed (pos 0) (pos 4294967295)) n.parser p in
-    (got.0, subst (λ (t : Text). one_text (found_of m) t ≡ Some (without_minus got.0)) n.own.id_is got.1, got.2.1)
+number_at : (c : Command) (h : IsOverlayCommand c) (m : ArgMatches) → IsParsedFrom c m → (k : ℕ) → k < 6 → (id : Text)
+    → IsNumberArg id (slice_index_or (list_of c h) k h.word)
+    → IsReadOr (found_of m) (slice_index_or (list_of c h) k h.word) id (Signed (pos 0) (pos 4294967295))
+number_at c h m p k lt id n =
+    subst (λ (t : Text). IsReadOr (found_of m) (slice_index_or (list_of c h) k h.word) t (Signed (pos 0) (pos 4294967295))) n.own.id_is
+    (number_in_chain h.start c (list_of c h) k h.word m h.chain h.no_args h.no_groups h.no_globals h.no_negation (fits c h) (distinct c h) lt
+    n.set n.no_delimiter n.one_value (Signed (pos 0) (pos 4294967295)) n.parser p)
+
+number_given : (f : Found) (id : Text) (a : Arg) → IsReadOr f a id (Signed (pos 0) (pos 4294967295)) → MayHaveNumber f id
+number_given f id a read = elim read [ inl none ↦ inl none.1 | inr got ↦ inr (got.0, got.1, got.2.1) ]
+
+number_there : (f : Found) (id : Text) (a : Arg) → WantsDefault a → IsReadOr f a id (Signed (pos 0) (pos 4294967295)) → HasNumber f id
+number_there f id a wants read = elim read [ inl none ↦ absurd (none.0 wants) | inr got ↦ (got.0, got.1, got.2.1) ]
 
 pub words_there : (c : Command) (h : IsOverlayCommand c) (m : ArgMatches) → IsParsedFrom c m → HasWords (found_of m)
 words_there c h m p =
@@ -73,6 +82,6 @@ words_there c h m p =
       word = subst (λ (t : Text). is_some (first_value (found_of m) t) ≡ true) h.is_word.own.id_is (has 0 (omega arith) h.is_word.takes_value p);
       a = subst (λ (t : Text). is_some (first_value (found_of m) t) ≡ true) h.is_a.own.id_is (has 1 (omega arith) h.is_a.takes_value p);
       b = subst (λ (t : Text). is_some (first_value (found_of m) t) ≡ true) h.is_b.own.id_is (has 2 (omega arith) h.is_b.takes_value p);
-      tile = number_there c h m p 3 (omega arith) (codes "tile") h.is_tile;
-      workers = number_there c h m p 4 (omega arith) (codes "workers") h.is_workers;
+      tile = number_given (found_of m) (codes "tile") h.tile (number_at c h m p 3 (omega arith) (codes "tile") h.is_tile);
+      workers = number_there (found_of m) (codes "workers") h.workers h.workers_default (number_at c h m p 4 (omega arith) (codes "workers") h.is_workers);
     }

@@ -1,5 +1,5 @@
 -- What the typed getters read.
-use Rattle.std.proofs.Common.{◌≡◌, ◌≢◌, codes, ◌∙◌, ℕ, Bool, true, false, List, Option, Some, None, Result, Ok, refl, sym, ap}
+use Rattle.std.proofs.Common.{◌≡◌, ◌≢◌, codes, ◌∙◌, ℕ, Bool, true, false, List, Option, Some, None, Result, Ok, refl, sym, ap, inl, inr, arith}
 use Rattle.std.specs.Prelude.{IfSome, unwrap_or}
 use Rattle.std.specs.Str.{bytes_eq}
 use Rattle.std.proofs.lemmas.Slice.Eq.{bytes_eq-Decides}
@@ -7,7 +7,10 @@ use Rattle.std.specs.Str.Parse.{ParsesUnsigned, ParsesBool}
 use Rattle.clap.specs.Words.{Text, one_of, one_text, rows_of, ReadsOne}
 use Rattle.clap.specs.declared.parser.matches.Found.{Found}
 use Rattle.clap.proofs.WalkLemmas.{one_text-rows}
-use Rattle.overlay.specs.CommandLine.{IsHeldNumber, is_set}
+use Rattle.clap.specs.Words.{without_minus}
+use Rattle.clap.proofs.CallerReads.{signed_reads}
+use Rattle.overlay.specs.Arguments.{MayHaveNumber}
+use Rattle.overlay.specs.CommandLine.{IsGivenNumber, IsHeldNumber, is_set}
 
 bytes_ne : (s t : Text) → s ≢ t → bytes_eq s t ≡ false
 bytes_ne s t ne = go (bytes_eq s t) refl
@@ -31,6 +34,19 @@ number_read {E} G f id (Some n) only none value = go (one_text f id) refl
     go (Some t) e =
         let p = only t (Ok n) (value t e) in
         (t, sym (one_text-rows f id) ∙ e, p.0.0, p.1)
+
+pub number_given_read : {E : Type 0} (G : List ℕ → Result ℕ E → Type 0) (f : Found) (id : Text) (r : Option ℕ)
+    → ((t : List ℕ) (x : Result ℕ E) → G t x → ParsesUnsigned 32 10 t x)
+    → (one_text f id ≡ None → r ≡ None) → ((t : List ℕ) → one_text f id ≡ Some t → ReadsOne G t r)
+    → MayHaveNumber f id → IsGivenNumber id (rows_of f) r
+number_given_read G f id r only none value (inl e) = rw (none e) (sym (one_text-rows f id) ∙ e)
+number_given_read {E} G f id r only none value (inr h) =
+    let got = signed_reads E G 32 0 4294967295 h.0 r (value (without_minus h.0) h.1) only (omega arith) h.2 in
+    held r got.0 got.1 (number_read G f id r only none value)
+  where
+    held : (o : Option ℕ) (n : ℕ) → o ≡ Some n → IfSome o (λ m. IsHeldNumber id (rows_of f) m) → IsGivenNumber id (rows_of f) o
+    held None n e h = let bad : None ≡ Some n = e in cc
+    held (Some m) n e h = h
 
 pub flag_read : (E : Type 0) (f : Found) (id : Text) (r : Option Bool)
     → (one_text f id ≡ None → r ≡ None) → ((t : List ℕ) → one_text f id ≡ Some t → ReadsOne {T = Bool} {E = E} ParsesBool t r)

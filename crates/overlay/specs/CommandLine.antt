@@ -1,5 +1,5 @@
 -- What the words of a command line ask for, by what `clap` matches them to.
-use Rattle.std.specs.Prelude.{◌≡◌, ◌≢◌, ℕ, Bool, true, false, List, [], ◌∷◌, Option, Some, None, codes, pos, if◌then◌else◌}
+use Rattle.std.specs.Prelude.{◌≡◌, ◌≢◌, ℕ, Bool, true, false, List, [], ◌∷◌, Option, Some, None, MatchOption, codes, pos, if◌then◌else◌}
 use Rattle.std.specs.Str.{bytes_eq}
 use Rattle.std.specs.Str.Parse.{IsNumeral, digits_value, without_leading_plus}
 use Rattle.clap.specs.Words.{App, IsAmong, Kinds, Row, Rule, Text, fault_of, first_of, one_of, matches_of, new_app, new_rule, with_rule}
@@ -19,13 +19,13 @@ word_rule = record (new_rule (codes "command")) { action = Some Set; required = 
 abbrev pub file_rule : Text → Rule
 file_rule id = record (new_rule id) { action = Some Set; required = true; value_names = 1 }
 
--- a whole number below 2^32, with a default
-abbrev pub number_rule : Text → Text → Rule
-number_rule id default = record (new_rule id) {
+-- a whole number below 2^32, with these defaults
+abbrev pub number_rule : Text → List Text → Rule
+number_rule id defaults = record (new_rule id) {
   long = Some id;
   action = Some Set;
   value_names = 1;
-  defaults = default ∷ [];
+  defaults = defaults;
   parser = Some (Signed (pos 0) (pos 4294967295));
 }
 
@@ -35,8 +35,8 @@ flag_rule id = record (new_rule id) { long = Some id; action = Some SetTrue }
 -- `overlay command a b [--tile N] [--workers N] [--report]`
 unfoldable pub overlay_app : App
 overlay_app = with_rule (with_rule (with_rule (with_rule (with_rule (with_rule (new_app (codes "overlay"))
-    word_rule) (file_rule (codes "a"))) (file_rule (codes "b"))) (number_rule (codes "tile") (codes "262144")))
-    (number_rule (codes "workers") (codes "4"))) (flag_rule (codes "report"))
+    word_rule) (file_rule (codes "a"))) (file_rule (codes "b"))) (number_rule (codes "tile") []))
+    (number_rule (codes "workers") (codes "4" ∷ []))) (flag_rule (codes "report"))
 
 -- the matches of the words, the first of which is the program's name
 unfoldable pub held : List Text → List Row
@@ -55,6 +55,10 @@ command_of word =
 abbrev pub IsHeldNumber : Text → List Row → ℕ → Type 0
 IsHeldNumber id rows n = (t : Text) × (one_of id rows ≡ Some t) × IsNumeral 10 (without_leading_plus t) × (n ≡ digits_value 10 (without_leading_plus t))
 
+-- the number that is held for the id, where the words have one
+abbrev pub IsGivenNumber : Text → List Row → Option ℕ → Type 0
+IsGivenNumber id rows given = MatchOption given (one_of id rows ≡ None) (IsHeldNumber id rows)
+
 -- the flag's text is `true`
 abbrev pub is_set : Option Text → Bool
 is_set None = false
@@ -66,7 +70,7 @@ pub record IsRequestOf (rows : List Row) (r : Request) : Type 0 where
   pub command : command_of word ≡ Some r.command
   pub a : first_of (codes "a") rows ≡ Some r.a.now
   pub b : first_of (codes "b") rows ≡ Some r.b.now
-  pub side : IsHeldNumber (codes "tile") rows r.side
+  pub side : IsGivenNumber (codes "tile") rows r.side
   pub workers : IsHeldNumber (codes "workers") rows r.workers
   pub report : r.report ≡ is_set (one_of (codes "report") rows)
 

@@ -21,8 +21,8 @@ pub struct Request<'a> {
     pub a: &'a str,
     /// The name of the second layer's file.
     pub b: &'a str,
-    /// The side of a tile, in grid units.
-    pub side: u32,
+    /// The side of a tile, in grid units, where one was given.
+    pub side: Option<u32>,
     /// The number of threads.
     pub workers: u32,
     /// Whether a report is wanted.

@@ -1,10 +1,11 @@
 //! The command line, read by `clap`.
 
-ghost use Rattle.std.specs.Prelude.{◌≡◌, IfOk, List, map, Some, true, is_some, false, [], MatchResult, codes, option_map};
+ghost use Rattle.std.specs.Prelude.{◌≡◌, IfOk, List, map, Some, true, is_some, false, [], ◌∷◌, MatchResult, codes, option_map};
+ghost use Rattle.clap.specs.Facts.{WantsDefault};
 ghost use Rattle.clap.specs.Words.{FailsBy, first_value, HasKind, Kinds, Row, app_of, args_of, first_of, found_of, groups_of, new_app, one_of, rows_of, rule_of};
 ghost use Rattle.clap.specs.declared.builder.command.Command.TheViews.{out-Command as fields_of};
-ghost use Rattle.overlay.specs.Arguments.{HasNumber, HasWords, IsFlagArg, IsNumberArg, IsOverlayCommand, IsWanted};
-ghost use Rattle.overlay.specs.CommandLine.{IsUnknown, IsHeldNumber, IsRefusalBy, is_set, IsRequestOf, command_of, faults, file_rule, flag_rule, held, number_rule, overlay_app, word_rule};
+ghost use Rattle.overlay.specs.Arguments.{MayHaveNumber, HasNumber, HasWords, IsFlagArg, IsNumberArg, IsOverlayCommand, IsWanted};
+ghost use Rattle.overlay.specs.CommandLine.{IsUnknown, IsGivenNumber, IsHeldNumber, IsRefusalBy, is_set, IsRequestOf, command_of, faults, file_rule, flag_rule, held, number_rule, overlay_app, word_rule};
 
 use crate::asked;
 use crate::asked::{CliFault, Request};
@@ -53,8 +54,8 @@ fn file_arg<'a>(alloc: Global, id: &'a str, name: &'a str, help: &'a str) -> Arg
         .help(help)
 }
 
-fn number_arg<'a>(alloc: Global, id: &'a str, default: &'a str, help: &'a str) -> Arg<'a>
-    ensures rule { rule_of result ≡ number_rule id.entry.now default.entry.now }
+fn number_arg<'a>(alloc: Global, id: &'a str, help: &'a str) -> Arg<'a>
+    ensures rule { rule_of result ≡ number_rule id.entry.now [] }
     ensures number { IsNumberArg id.entry.now result }
 {
     Arg::new(alloc, id)
@@ -62,8 +63,15 @@ fn number_arg<'a>(alloc: Global, id: &'a str, default: &'a str, help: &'a str) -
         .long(id)
         .value_name("N")
         .value_parser(value_parser!(u32))
-        .default_value(default)
         .help(help)
+}
+
+fn workers_arg<'a>(alloc: Global) -> Arg<'a>
+    ensures rule { rule_of result ≡ number_rule (codes "workers") (codes "4" ∷ []) }
+    ensures number { IsNumberArg (codes "workers") result }
+    ensures default { WantsDefault result }
+{
+    number_arg(alloc, "workers", WORKERS_HELP).default_value("4")
 }
 
 fn flag_arg<'a>(alloc: Global, id: &'a str, help: &'a str) -> Arg<'a>
@@ -101,8 +109,8 @@ fn parser<'a>(alloc: Global) -> Result<Command<'a>, AllocError>
         "The first layer's file: POLYGON and MULTIPOLYGON texts",
     );
     let b = file_arg(alloc, "b", "B", "The second layer's file");
-    let tile = number_arg(alloc, "tile", "262144", TILE_HELP);
-    let workers = number_arg(alloc, "workers", "4", WORKERS_HELP);
+    let tile = number_arg(alloc, "tile", TILE_HELP);
+    let workers = workers_arg(alloc);
     let report = flag_arg(
         alloc,
         "report",
@@ -174,6 +182,13 @@ fn number_held(matches: &ArgMatches<'_>, id: &str) -> u32
     }
 }
 
+fn number_given(matches: &ArgMatches<'_>, id: &str) -> Option<u32>
+    requires { MayHaveNumber (found_of matches.now) id.now }
+    ensures { IsGivenNumber id.now (rows_of (found_of matches.now)) result }
+{
+    matches.get_one::<u32>(id)
+}
+
 fn flag_held(matches: &ArgMatches<'_>, id: &str) -> bool
     ensures { result ≡ is_set (one_of id.now (rows_of (found_of matches.now))) }
 {
@@ -188,7 +203,7 @@ fn request_of<'a>(matches: &ArgMatches<'a>) -> Result<Request<'a>, CliFault>
     let a = word_held(matches, "a");
     let b = word_held(matches, "b");
     let report = flag_held(matches, "report");
-    let side = number_held(matches, "tile");
+    let side = number_given(matches, "tile");
     let workers = number_held(matches, "workers");
     let Some(command) = command_named(word) else {
         return Err(CliFault::Unknown);

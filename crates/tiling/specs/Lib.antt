@@ -2,3 +2,4 @@ pub mod Tiles
 pub mod Index
 pub mod Bins
 pub mod Strips
+pub mod Sides

@@ -3,14 +3,18 @@
 
 mod bins;
 mod count;
+
 mod grid;
 mod index;
 mod search;
+mod sides;
 mod strips;
 
 pub use bins::Bins;
 pub use count::Count;
+
 pub use grid::{GREATEST_SIDE, Grid, LEAST_SIDE, MOST_TILES};
+pub use sides::{DEFAULT_SIDE, default_side};
 pub use strips::Strips;
 
 #[cfg(test)]

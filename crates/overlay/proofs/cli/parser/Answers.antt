@@ -11,7 +11,7 @@ returns-clause-shape c =
     let two = c.in_ok-arg-2.ensures.shape c.file_arg-a.ensures.wanted.own.local ∙ ap₂ with_rule one c.file_arg-a.ensures.rule in
     let three = c.in_ok-arg-3.ensures.shape c.file_arg-b.ensures.wanted.own.local ∙ ap₂ with_rule two c.file_arg-b.ensures.rule in
     let four = c.in_ok-arg-4.ensures.shape c.number_arg-tile.ensures.number.own.local ∙ ap₂ with_rule three c.number_arg-tile.ensures.rule in
-    let five = c.in_ok-arg-5.ensures.shape c.number_arg-workers.ensures.number.own.local ∙ ap₂ with_rule four c.number_arg-workers.ensures.rule in
+    let five = c.in_ok-arg-5.ensures.shape c.workers_arg-workers.ensures.number.own.local ∙ ap₂ with_rule four c.workers_arg-workers.ensures.rule in
     IfOk-weaker c.arg-6.result _ _ (λ r h. h.shape c.flag_arg-report.ensures.flag.local ∙ ap₂ with_rule five c.flag_arg-report.ensures.rule) c.arg-6.ensures
 
 pub returns-clause-chain : goal.returns-clause-chain
@@ -22,7 +22,7 @@ returns-clause-chain c =
       a = c.file_arg-a.result;
       b = c.file_arg-b.result;
       tile = c.number_arg-tile.result;
-      workers = c.number_arg-workers.result;
+      workers = c.workers_arg-workers.result;
       report = c.flag_arg-report.result;
       chain = (_, c.in_ok-arg.ensures, (_, c.in_ok-arg-2.ensures, (_, c.in_ok-arg-3.ensures, (_, c.in_ok-arg-4.ensures, (_, c.in_ok-arg-5.ensures, (_, h, refl))))));
       no_args = c.described.ensures.empty.0;
@@ -33,6 +33,7 @@ returns-clause-chain c =
       is_a = c.file_arg-a.ensures.wanted;
       is_b = c.file_arg-b.ensures.wanted;
       is_tile = c.number_arg-tile.ensures.number;
-      is_workers = c.number_arg-workers.ensures.number;
+      is_workers = c.workers_arg-workers.ensures.number;
+      workers_default = c.workers_arg-workers.ensures.default;
       is_report = c.flag_arg-report.ensures.flag;
     }) c.arg-6.ensures
