@@ -43,32 +43,41 @@ no_box r h =
 counts_same : (c d : ℕ) (w : ℤ) → pos c ≡ w → pos d ≡ w → c ≡ d
 counts_same c d w e f = let g : pos c ≡ pos d = e ∙ sym f in cc
 
+-- two least boxes have the same corners: by the least x and y, then by the greatest
+same_corners : (r s : Rect) (taken : List (Pt × Pt)) → IsBox taken r → IsBox taken s → (r.lo.x ≡ s.lo.x) × (r.lo.y ≡ s.lo.y) × (r.hi.x ≡ s.hi.x) × (r.hi.y ≡ s.hi.y)
+same_corners r s taken h k = (
+  same_number r.lo.x s.lo.x (k.least r h.holds).0.left (h.least s k.holds).0.left,
+  same_number r.lo.y s.lo.y (k.least r h.holds).0.bottom (h.least s k.holds).0.bottom,
+  same_number r.hi.x s.hi.x (h.least s k.holds).1.right (k.least r h.holds).1.right,
+  same_number r.hi.y s.hi.y (h.least s k.holds).1.top (k.least r h.holds).1.top,
+)
+
 over_path : (r s : Rect) (side : ℕ) (g f : Tiling) (taken : List (Pt × Pt)) → IsBox taken r → IsBox taken s → IsOver r side g → IsOver s side f → g ≡ f
-over_path r s side g f taken h k o p = λ i. record { left = (o.left_is ∙ lo_x ∙ sym p.left_is) i; bottom = (o.bottom_is ∙ lo_y ∙ sym p.bottom_is) i; side = (o.side_is ∙ sym p.side_is) i; columns = columns i; rows = rows i }
+over_path r s side g f taken h k o p = λ i. record { left = (o.left_is ∙ e.0 ∙ sym p.left_is) i; bottom = (o.bottom_is ∙ e.1 ∙ sym p.bottom_is) i; side = (o.side_is ∙ sym p.side_is) i; columns = columns i; rows = rows i }
   where
-    lo_x : r.lo.x ≡ s.lo.x
-    lo_x = same_number r.lo.x s.lo.x (k.least r h.holds).0.left (h.least s k.holds).0.left
-
-    lo_y : r.lo.y ≡ s.lo.y
-    lo_y = same_number r.lo.y s.lo.y (k.least r h.holds).0.bottom (h.least s k.holds).0.bottom
-
-    hi_x : r.hi.x ≡ s.hi.x
-    hi_x = same_number r.hi.x s.hi.x (h.least s k.holds).1.right (k.least r h.holds).1.right
-
-    hi_y : r.hi.y ≡ s.hi.y
-    hi_y = same_number r.hi.y s.hi.y (h.least s k.holds).1.top (k.least r h.holds).1.top
+    e : (r.lo.x ≡ s.lo.x) × (r.lo.y ≡ s.lo.y) × (r.hi.x ≡ s.hi.x) × (r.hi.y ≡ s.hi.y)
+    e = same_corners r s taken h k
 
     columns : g.columns ≡ f.columns
-    columns = counts_same g.columns f.columns _ (o.columns_are ∙ ap₂ (λ (a b : ℤ). steps a side b +ℤ pos 1) lo_x hi_x) p.columns_are
+    columns = counts_same g.columns f.columns _ (o.columns_are ∙ ap₂ (λ (a b : ℤ). steps a side b +ℤ pos 1) e.0 e.2) p.columns_are
 
     rows : g.rows ≡ f.rows
-    rows = counts_same g.rows f.rows _ (o.rows_are ∙ ap₂ (λ (a b : ℤ). steps a side b +ℤ pos 1) lo_y hi_y) p.rows_are
+    rows = counts_same g.rows f.rows _ (o.rows_are ∙ ap₂ (λ (a b : ℤ). steps a side b +ℤ pos 1) e.1 e.3) p.rows_are
 
 pub grid_same : (bounds other : Option Rect) (side : ℕ) (g f : Tiling) (taken : List (Pt × Pt)) → AreBoundsOf taken bounds → AreBoundsOf taken other → IsGridOf bounds side g → IsGridOf other side f → tile_count g ≡ tile_count f
 grid_same None None side g f taken h k o p = ap₂ (λ (m n : ℕ). m * n) (o.2 ∙ sym p.2) (o.1 ∙ sym p.1)
 grid_same None (Some s) side g f taken h k o p = absurd (no_box s (subst (λ (zs : List (Pt × Pt)). IsBox zs s) h k))
 grid_same (Some r) None side g f taken h k o p = absurd (no_box r (subst (λ (zs : List (Pt × Pt)). IsBox zs r) k h))
 grid_same (Some r) (Some s) side g f taken h k o p = ap tile_count (over_path r s side g f taken h k o p)
+
+-- it is the grid of either
+pub grid_over_same : (bounds other : Option Rect) (side : ℕ) (g : Tiling) (taken : List (Pt × Pt)) → AreBoundsOf taken bounds → AreBoundsOf taken other → IsGridOf bounds side g → IsGridOf other side g
+grid_over_same None None side g taken h k o = o
+grid_over_same None (Some s) side g taken h k o = absurd (no_box s (subst (λ (zs : List (Pt × Pt)). IsBox zs s) h k))
+grid_over_same (Some r) None side g taken h k o = absurd (no_box r (subst (λ (zs : List (Pt × Pt)). IsBox zs r) k h))
+grid_over_same (Some r) (Some s) side g taken h k o =
+    let e = same_corners r s taken h k in
+    record { left_is = o.left_is ∙ e.0; bottom_is = o.bottom_is ∙ e.1; side_is = o.side_is; columns_are = o.columns_are ∙ ap₂ (λ (a b : ℤ). steps a side b +ℤ pos 1) e.0 e.2; rows_are = o.rows_are ∙ ap₂ (λ (a b : ℤ). steps a side b +ℤ pos 1) e.1 e.3 }
 
 -- and it has the same tiles
 pub owns_same : (bounds : Option Rect) (other : Option Rect) (side : ℕ) (g f : Tiling) (taken : List (Pt × Pt)) → AreBoundsOf taken bounds → AreBoundsOf taken other → IsGridOf bounds side g → IsGridOf other side f

@@ -6,3 +6,4 @@ pub mod Rounds
 pub mod Runs
 pub mod Results
 pub mod Determined
+pub mod Fitting

@@ -125,7 +125,7 @@ fn check_plan(plan: Plan) -> Result<(), RunFault>
     Ok(())
 }
 
-fn outline_of(text: &[u8], layer: Source) -> Result<Outline, RunFault>
+pub(crate) fn outline_of(text: &[u8], layer: Source) -> Result<Outline, RunFault>
     ensures answer { MatchResult result (λ o. HasOutline text.now o) (λ f. (f.at ≡ part_of layer) × IsRefused text.now f.fault) }
     ensures in_limit { IfOk result (λ o. AreBounds o.bounds) }
 {
@@ -177,7 +177,7 @@ fn grid_over(a: Option<Rect>, b: Option<Rect>, side: u32) -> Result<Grid, RunFau
 }
 
 /// The least box that has both.
-fn joint_bounds(a: Option<Rect>, b: Option<Rect>) -> Option<Rect>
+pub(crate) fn joint_bounds(a: Option<Rect>, b: Option<Rect>) -> Option<Rect>
     ensures joint { AreJointBounds a b result }
     ensures in_limit { AreBounds a → AreBounds b → AreBounds result }
 {

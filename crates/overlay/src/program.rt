@@ -1,16 +1,17 @@
 //! The program, over files and sinks.
 
-ghost use Rattle.std.specs.Prelude.{◌≡◌, ◌<◌, ◌⊎◌};
+ghost use Rattle.std.specs.Prelude.{ℕ, ◌≡◌, ◌<◌, ◌⊎◌, IfErr};
 ghost use Rattle.overlay.specs.Texts.{status_of};
 
 use crate::asked::{CliFault, Command, Request};
 use crate::cli::request;
 use crate::engine::{Plan, edges};
 use crate::files::{Files, LoadFault};
+use crate::fitting::fitting_side;
 use crate::operation::run;
 use crate::sink::{Sink, write_all};
 use crate::text::{Report, line, report_text, status};
-use geom::RunFault;
+use geom::{Fault, RunFault};
 use std::alloc::Global;
 use std::convert::AsStr;
 use std::env;
@@ -19,6 +20,7 @@ use std::rt::Env;
 use std::sync::Wait;
 use std::thread::Threads;
 use tile_book::OpenGate;
+use tiling::DEFAULT_SIDE;
 
 /// The exit status where all was answered, or help was asked for.
 const ANSWERED: u8 = 0;
@@ -97,7 +99,8 @@ fn answer<R: Threads + Wait + Sync, F: Files, O: Sink, E: Sink>(
     }
 }
 
-/// Does what the command asks for on two layer texts.
+/// Does what the command asks for on two layer texts, by the side of a tile that was given. Where none was, the side is the
+/// default one, or where that gives too many tiles the least that fits the layers: nothing is written before that is known.
 fn perform<R: Threads + Wait + Sync, O: Sink>(
     rt: &R,
     alloc: Global,
@@ -108,8 +111,33 @@ fn perform<R: Threads + Wait + Sync, O: Sink>(
 ) -> Result<Report<Global>, RunFault>
     requires { O.failed out.old < u64.MAX }
 {
+    let side = asked.side.unwrap_or(DEFAULT_SIDE);
+    match perform_by(rt, alloc, asked, side, a, b, out) {
+        Err(
+            RunFault {
+                fault: Fault::TooManyTiles(_),
+                ..
+            },
+        ) if asked.side.is_none() => { perform_by(rt, alloc, asked, fitting_side(a, b), a, b, out) }
+        answer => answer,
+    }
+}
+
+/// The same, by this side of a tile.
+fn perform_by<R: Threads + Wait + Sync, O: Sink>(
+    rt: &R,
+    alloc: Global,
+    asked: &Request<'_>,
+    side: u32,
+    a: &[u8],
+    b: &[u8],
+    out: &mut O,
+) -> Result<Report<Global>, RunFault>
+    requires { O.failed out.old < u64.MAX }
+    ensures unwritten { IfErr result (λ f. (count : ℕ) → f.fault ≡ Fault.TooManyTiles count → out.new ≡ out.old) }
+{
     let plan = Plan {
-        side: asked.side,
+        side,
         workers: asked.workers,
     };
     match asked.command {
