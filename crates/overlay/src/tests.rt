@@ -3,9 +3,8 @@
 ghost use Rattle.std.specs.Prelude.{◌<◌};
 
 use crate::files::READ_LIMIT;
-use crate::{
-    Files, LoadFault, MemSink, Plan, Report, Sink, drive, edges, line, report_text, run, status,
-};
+use crate::{Files, LoadFault, drive};
+use engine::{MemSink, Plan, Report, Sink, edges, line, report_text, run, status};
 use geom::{Fault, NoMemory, Op, Part, RunFault};
 use std::alloc::{AllocError, Allocator, Global};
 use std::sync::Wait;

@@ -1,7 +1,7 @@
 //! The rounded edges of two layers, by plans of all kinds.
 
 use super::{BENT, BOW, OTHER, SQUARE, SQUARES, TWICE, is_overlaid, overlaid};
-use crate::{MemSink, Plan};
+use engine::{MemSink, Plan};
 use std::sync::atomic::{AtomicBool, Ordering};
 use std::test::Fail;
 use std::thread;

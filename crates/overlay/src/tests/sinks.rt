@@ -3,7 +3,7 @@
 ghost use Rattle.std.specs.Prelude.{◌≡◌, ◌<◌, Some, Option, List, ℕ};
 
 use super::{LINE, OTHER, SQUARE, SQUARES, Told, driven, is_outcome, overlaid};
-use crate::{Plan, Sink, SinkFault};
+use engine::{Plan, Sink, SinkFault};
 use geom::{Fault, Op};
 use std::alloc::{Allocator, Global};
 use std::sync::Wait;

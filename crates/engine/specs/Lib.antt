@@ -1,0 +1,6 @@
+pub mod Sinks
+pub mod Texts
+pub mod Rounds
+pub mod Runs
+pub mod Results
+pub mod Determined
