@@ -18,7 +18,8 @@ use std::convert::AsStr;
 const ABOUT: &str =
     "Overlays two polygon layers on the integer grid, exactly and with proved rounding.";
 
-const TILE_HELP: &str = "The side of a tile, in grid units, 16 to 33554432";
+const TILE_HELP: &str =
+    "The side of a tile, in grid units, 16 to 33554432 [default: 262144, or what fits]";
 
 const WORKERS_HELP: &str = "The number of threads, 1 to 64";
 
@@ -26,10 +27,18 @@ const AFTER: &str =
     "union, intersection, difference and symdifference print the result of that operation on the two
 layers as one MULTIPOLYGON text.
 edges prints a line `x1 y1 x2 y2 countA countB` for each edge of both layers after rounding.
-Coordinates are whole numbers from -268435456 to 268435456, in grid units.
+
+A layer is a text of POLYGON and MULTIPOLYGON geometries, at most 268435456 bytes long, with whole
+coordinates from -268435456 to 268435456, in grid units. Both layers together have at most 1048576
+segments. A layer is read by parity: a point lies in it where an odd number of its rings have the
+point inside, so polygons of one layer that overlap cancel each other there.
+/dev/stdin reads a layer from standard input.
+
+The tiles and the number of threads have no influence on the text. Where no side of a tile is given
+it is 262144, or where that gives more than 65536 tiles the least power of two that doesn't.
 
 Exit status: 0 answered, 1 a file, the output or memory failed, 2 command line not accepted,
-3 input refused, 4 edges cross.
+3 input refused.
 
 Example: overlay intersection parcels.wkt zones.wkt > common.wkt";
 

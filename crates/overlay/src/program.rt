@@ -1,16 +1,12 @@
 //! The program, over files and sinks.
 
 ghost use Rattle.std.specs.Prelude.{ℕ, ◌≡◌, ◌<◌, ◌⊎◌, IfErr};
-ghost use Rattle.overlay.specs.Texts.{status_of};
+ghost use Rattle.engine.specs.Texts.{status_of};
 
 use crate::asked::{CliFault, Command, Request};
 use crate::cli::request;
-use crate::engine::{Plan, edges};
 use crate::files::{Files, LoadFault};
-use crate::fitting::fitting_side;
-use crate::operation::run;
-use crate::sink::{Sink, write_all};
-use crate::text::{Report, line, report_text, status};
+use engine::{Plan, Report, Sink, edges, fitting_side, line, report_text, run, status, write_all};
 use geom::{Fault, RunFault};
 use std::alloc::Global;
 use std::convert::AsStr;

@@ -3,9 +3,8 @@
 ghost use Rattle.std.specs.Prelude.{◌<◌};
 
 use crate::files::READ_LIMIT;
-use crate::{
-    Files, LoadFault, MemSink, Plan, Report, Sink, drive, edges, line, report_text, run, status,
-};
+use crate::{Files, LoadFault, drive};
+use engine::{MemSink, Plan, Report, Sink, edges, line, report_text, run, status};
 use geom::{Fault, NoMemory, Op, Part, RunFault};
 use std::alloc::{AllocError, Allocator, Global};
 use std::sync::Wait;
@@ -22,7 +21,7 @@ const SQUARE: &str = "POLYGON ((0 0, 4 0, 4 4, 0 4, 0 0))\n";
 const OTHER: &str = "POLYGON ((2 2, 6 2, 6 6, 2 6, 2 2))\n";
 
 /// Files in memory, by name.
-const TEXTS: [(&str, &str); 16] = [
+const TEXTS: [(&str, &str); 17] = [
     ("square", SQUARE),
     ("other", OTHER),
     ("windows", "POLYGON ((0 0, 4 0,\r\n4 4, 0 4, 0 0))\r\n"),
@@ -36,6 +35,7 @@ const TEXTS: [(&str, &str); 16] = [
     ("joined", "POLYGON EMPTYPOLYGON EMPTY"),
     ("bare", "POLYGON (0 0, 1 0, 0 1, 0 0)"),
     ("outside", "POLYGON ((0 0, 268435457 0, 0 1, 0 0))"),
+    ("whole", plans::WHOLE),
     ("short", "POLYGON ((0 0, 1 0, 0 1))"),
     ("open", "POLYGON ((0 0, 1 0, 1 1, 0 1))"),
     (
@@ -193,7 +193,7 @@ const PARSER: Told = Told::Begins("error: ");
 /// A command line behind the program's name, its exit status, and what it prints to standard output and standard error.
 type Case = (&'static [&'static str], u8, &'static str, Told);
 
-const CASES: [Case; 42] = [
+const CASES: [Case; 44] = [
     (
         &["intersection", "square", "other", "--tile=16", "--report"],
         0,
@@ -317,6 +317,19 @@ const CASES: [Case; 42] = [
         3,
         "",
         Told::Text("overlay: 6 bad tile side\n"),
+    ),
+    // A side that is given stays as it is; where none is, one that fits is taken.
+    (
+        &["edges", "whole", "empty", "--tile=262144"],
+        3,
+        "",
+        Told::Text("overlay: 8 too many tiles: 4198401\n"),
+    ),
+    (
+        &["edges", "whole", "empty"],
+        0,
+        plans::WHOLE_EDGES,
+        Told::Text(""),
     ),
     // Each refusal of a text, on either layer.
     (

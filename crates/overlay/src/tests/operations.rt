@@ -2,7 +2,7 @@
 
 use super::plans::{APART, BROAD, LARGE, LARGE_OTHER, VAST, VAST_OTHER, WHOLE};
 use super::{LINE, OTHER, SQUARE, is_overlaid, overlaid};
-use crate::{MemSink, Plan};
+use engine::{MemSink, Plan};
 use geom::{Fault, NoMemory, Op};
 use std::alloc::Global;
 use std::sync::Wait;

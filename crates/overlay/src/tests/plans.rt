@@ -1,7 +1,7 @@
 //! The rounded edges of two layers, by plans of all kinds.
 
 use super::{BENT, BOW, OTHER, SQUARE, SQUARES, TWICE, is_overlaid, overlaid};
-use crate::{MemSink, Plan};
+use engine::{MemSink, Plan, fitting_side};
 use std::sync::atomic::{AtomicBool, Ordering};
 use std::test::Fail;
 use std::thread;
@@ -36,7 +36,7 @@ const BROAD_EDGES: &str =
 pub(super) const WHOLE: &str =
     "POLYGON ((-268435456 -268435456, 268435456 -268435456, 268435456 268435456, -268435456 268435456, -268435456 -268435456))\n";
 
-const WHOLE_EDGES: &str =
+pub(super) const WHOLE_EDGES: &str =
     "-268435456 -268435456 -268435456 268435456 1 0\n-268435456 -268435456 268435456 -268435456 1 0\n-268435456 268435456 268435456 268435456 1 0\n268435456 -268435456 268435456 268435456 1 0\n";
 
 /// The two squares that overlap, moved to the least corner of the whole range and 67,108,864 times their size.
@@ -231,5 +231,39 @@ fn works_side_by_side(rt: HostRuntime) -> Result<(), Fail> {
             && !gate.gave_up.load(Ordering::SeqCst)
             && report.tiles.get(481).copied() == Some((1, 2))
     );
+    Ok(())
+}
+
+/// Two layers, and the side of a tile that fits them.
+const FITTING: [(&str, &str, u32); 7] = [
+    ("", "", 262_144),
+    (SQUARE, OTHER, 262_144),
+    // 256 columns and as many rows, and one more of either
+    (
+        "POLYGON ((0 0, 67108863 0, 67108863 67108863, 0 0))",
+        "",
+        262_144,
+    ),
+    (
+        "POLYGON ((0 0, 67108864 0, 0 0, 0 0))",
+        "POLYGON ((0 0, 0 67108864, 0 0, 0 0))",
+        524_288,
+    ),
+    // one row of 2,049 columns
+    (
+        "POLYGON ((-268435456 0, 268435456 0, 0 0, -268435456 0))",
+        "",
+        262_144,
+    ),
+    (WHOLE, "", 4_194_304),
+    // a layer that is refused
+    (WHOLE, "POLYGON", 262_144),
+];
+
+#[test]
+fn fits_the_side_to_the_layers(rt: HostRuntime) -> Result<(), Fail> {
+    for (a, b, side) in FITTING {
+        assert_eq!(rt; fitting_side(a.as_bytes(), b.as_bytes()), side, "{a:?}");
+    }
     Ok(())
 }

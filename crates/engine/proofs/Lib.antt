@@ -1,0 +1,15 @@
+pub mod Sending
+pub mod Lines
+pub mod JointBounds
+pub mod Binned
+pub mod Refusing
+pub mod RingSteps
+pub mod Rounding
+pub mod Running
+pub mod Results
+pub mod SumsOfTiles
+pub mod Determined
+pub mod OneResultText
+pub mod OneRefusal
+pub mod OneTiling
+pub mod Fits

@@ -1,0 +1,40 @@
+-- Two runs of one operation on the same two layers have one list of polygons, and so one text.
+use Rattle.std.proofs.Common.{◌≡◌, ℕ, List, sym, ap, subst, ◌∙◌}
+use Rattle.geom.specs.declared.op.Op.{Op}
+use Rattle.geom.specs.declared.directed.DirectedEdge.{DirectedEdge}
+use Rattle.geom.specs.declared.edge.Counted.{Counted}
+use Rattle.geom.specs.Canonical.{ArePolygons}
+use Rattle.geom.specs.Directed.{AreResultEdges}
+use Rattle.geom.proofs.SamePolygons.{same_polygons}
+use Rattle.points_law.proofs.OneResult.{one_directed}
+use Rattle.engine.specs.Determined.{HaveOneSize, ResultSizesAreOne, ResultTextIsOne}
+use Rattle.engine.specs.Results.{IsResultText, IsResultWritten, result_line}
+use Rattle.engine.specs.declared.engine.Plan.{Plan}
+use Rattle.engine.specs.declared.text.Report.{Report}
+use Rattle.engine.proofs.Determined.{one_counted, one_size, text_prop}
+
+-- of the same rounded edges
+text_of_one : (op : Op) (cs ds : List Counted) (s t : List ℕ) → IsResultText op cs s → IsResultText op ds t → cs ≡ ds → s ≡ t
+text_of_one op cs ds s t h k e = h.written ∙ ap result_line polygons ∙ sym k.written
+  where
+    directed : h.directed ≡ k.directed
+    directed = one_directed op ds h.directed k.directed (subst (λ (us : List Counted). AreResultEdges op us h.directed) e h.bound) k.bound
+
+    polygons : h.polygons ≡ k.polygons
+    polygons = same_polygons k.directed k.bound.ascending h.polygons k.polygons (subst (λ (us : List DirectedEdge). ArePolygons us h.polygons) directed h.are_polygons) k.are_polygons
+
+one_text : (M N : Type 0) (op : Op) (a b : List ℕ) (plan other : Plan) (text text' : List ℕ) (report : Report M) (report' : Report N)
+    → IsResultWritten op plan a b text report → IsResultWritten op other a b text' report' → text ≡ text'
+one_text M N op a b plan other text text' report report' h k =
+    one_counted a b h.reports.grid k.reports.grid h.counted k.counted h.reports.tiles k.reports.tiles h.reports.rounded k.reports.rounded (text_prop text text')
+    (text_of_one op h.counted k.counted text text' h.result k.result)
+
+pub result_text_is_one : (M N : Type 0) → ResultTextIsOne M N
+result_text_is_one M N = one_text M N
+
+one_result_size : (M N : Type 0) (op op' : Op) (a b : List ℕ) (plan other : Plan) (text text' : List ℕ) (report : Report M) (report' : Report N)
+    → IsResultWritten op plan a b text report → IsResultWritten op' other a b text' report' → HaveOneSize report report'
+one_result_size M N op op' a b plan other text text' report report' h k = one_size a b plan other h.counted k.counted report report' h.reports k.reports
+
+pub result_sizes_are_one : (M N : Type 0) → ResultSizesAreOne M N
+result_sizes_are_one M N = one_result_size M N

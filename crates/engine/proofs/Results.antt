@@ -1,0 +1,89 @@
+-- From the edges and the polygons of a result to its text.
+use Rattle.std.proofs.Common.{◌≡◌, ◌⊎◌, inl, inr, List, [], ◌∷◌, ◌++◌, map, refl, sym, ◌∙◌, ap, subst}
+use Rattle.std.specs.Prelude.{All, AllPairs, Contains}
+use Rattle.std.proofs.Math.Logic.{∥∥₁_elim}
+use Rattle.std.proofs.Props.{props}
+use Rattle.std.proofs.lemmas.List.Elements.{All-contains, All-contains_itself, All-weaker}
+use Rattle.geom.specs.declared.op.Op.{Op}
+use Rattle.geom.specs.declared.point.Pt.{Pt}
+use Rattle.geom.specs.declared.edge.Edge.{Edge}
+use Rattle.geom.specs.declared.edge.Counted.{Counted}
+use Rattle.geom.specs.declared.directed.DirectedEdge.{DirectedEdge}
+use Rattle.geom.specs.declared.ring.Polygon.{Polygon}
+use Rattle.geom.specs.Canonical.{Shape}
+use Rattle.geom.specs.Directed.{AreResultEdges, IsResultEdge, Runs}
+use Rattle.geom.specs.Limit.{AreInLimit}
+use Rattle.geom.specs.Noded.{IsNoded}
+use Rattle.geom.specs.NodedEdges.{AreNodedEdges}
+use Rattle.geom.specs.Order.{IsBefore}
+use Rattle.geom.specs.Rounded.{IsEdgeBefore, edges_of}
+use Rattle.geom.proofs.Edges.{before_strict, edge_path}
+use Rattle.points_law.specs.Law.{AreLayers}
+use Rattle.polygonize.proofs.Rounds.{less_apart}
+use Rattle.wkt.specs.Canonical.{more_of, multi_text, polygon_text}
+use Rattle.engine.specs.Results.{result_line, shape_text}
+
+abbrev pub shapes : {M : Type 0} → List (Polygon M) → List Shape
+shapes polygons = map (λ p. record { shell = p.shell; holes = p.holes.items }) polygons
+
+more_is : {M : Type 0} (ps : List (Polygon M)) → more_of polygon_text ps ≡ more_of shape_text (shapes ps)
+more_is [] = refl
+more_is (p ∷ ps) = ap (λ t. 44 ∷ 32 ∷ polygon_text p ++ t) (more_is ps)
+
+-- the line depends on the points of the polygons alone
+pub line_is : {M : Type 0} (ps : List (Polygon M)) → multi_text ps ≡ result_line (shapes ps)
+line_is [] = refl
+line_is (p ∷ ps) = rw more_is refl
+
+run_in : (d : DirectedEdge) (e : Edge) → Runs d e → AreInLimit e.p e.q → AreInLimit d.from d.to
+run_in d e (inl h) l = let P : DirectedEdge → Type 0 = λ t. AreInLimit t.from t.to in subst P (sym h) l
+run_in d e (inr h) l = let P : DirectedEdge → Type 0 = λ t. AreInLimit t.from t.to in subst P (sym h) (record { a_in = l.b_in; b_in = l.a_in })
+
+-- the edges of a result run along rounded edges
+pub directed_in : (op : Op) (counted : List Counted) (directed : List DirectedEdge) → All (λ e. AreInLimit e.p e.q) (edges_of counted) → AreResultEdges op counted directed
+    → All (λ d. AreInLimit d.from d.to) directed
+directed_in op counted directed l r = All-weaker (Contains directed) (λ d. AreInLimit d.from d.to)
+    (λ d h. let e : IsResultEdge op counted d = (r.exact d).0 h in run_in d e.edge e.runs (All-contains (λ e. AreInLimit e.p e.q) (edges_of counted) e.edge l e.rounded))
+    directed (All-contains_itself directed)
+
+one_run : (d : DirectedEdge) (e f : Edge) → Runs d e → Runs d f → e ≡ f
+one_run d e f (inl h) (inl k) = edge_path e f (ap (λ t. t.from) (sym h ∙ k)) (ap (λ t. t.to) (sym h ∙ k))
+one_run d e f (inr h) (inr k) = edge_path e f (ap (λ t. t.to) (sym h ∙ k)) (ap (λ t. t.from) (sym h ∙ k))
+one_run d e f (inl h) (inr k) = absurd (before_strict e.p e.q e.ordered (let P : Pt → Type 0 = λ t. IsBefore t e.p in subst P (sym (ap (λ t. t.to) (sym h ∙ k))) (let Q : Pt → Type 0 = IsBefore f.p in subst Q (sym (ap (λ t. t.from) (sym h ∙ k))) f.ordered)))
+one_run d e f (inr h) (inl k) = absurd (before_strict e.p e.q e.ordered (let P : Pt → Type 0 = λ t. IsBefore t e.p in subst P (sym (ap (λ t. t.from) (sym h ∙ k))) (let Q : Pt → Type 0 = IsBefore f.p in subst Q (sym (ap (λ t. t.to) (sym h ∙ k))) f.ordered)))
+
+-- and so they meet only at ends, as those do
+pub noded_edges : (op : Op) (counted : List Counted) (directed : List DirectedEdge) → IsNoded (edges_of counted) → AreResultEdges op counted directed → AreNodedEdges directed
+noded_edges op counted directed n r = λ c d e f i j x y a. n e f (rounded c e i x) (rounded d f j y) a
+  where
+    rounded : (c : DirectedEdge) (e : Edge) → Contains directed c → Runs c e → Contains (edges_of counted) e
+    rounded c e i x = let b : IsResultEdge op counted c = (r.exact c).0 i in let P : Edge → Type 0 = Contains (edges_of counted) in subst P (one_run c b.edge e b.runs x) b.rounded
+
+-- ---- a layer is one in at most one way
+
+either_prop : {A B : Type 0} → IsProp A → IsProp B → (A → B → ⊥) → IsProp (A ⊎ B)
+either_prop {A} {B} p q n (inl x) (inl y) = let f : A → A ⊎ B = λ a. inl a in ap f (p x y)
+either_prop p q n (inl x) (inr y) = absurd (n x y)
+either_prop p q n (inr x) (inl y) = absurd (n y x)
+either_prop {A} {B} p q n (inr x) (inr y) = let f : B → A ⊎ B = λ b. inr b in ap f (q x y)
+
+point_before_prop : (p q : Pt) → IsProp (IsBefore p q)
+point_before_prop p q = hlevel props
+
+tied_prop : (e f : Edge) → IsProp ((e.p ≡ f.p) × IsBefore e.q f.q)
+tied_prop e f = hlevel props
+
+edge_before_prop : (e f : Edge) → IsProp (IsEdgeBefore e f)
+edge_before_prop e f = either_prop (point_before_prop e.p f.p) (tied_prop e f) (λ b t. less_apart e.p f.p b t.0)
+
+pairs_prop : {X : Type 0} (R : X → X → Type 0) → ((x y : X) → IsProp (R x y)) → (xs : List X) → IsProp (AllPairs R xs)
+pairs_prop R h xs = hlevel h
+
+ascending_prop : (counted : List Counted) → IsProp (AllPairs (λ c d. IsEdgeBefore c.edge d.edge) counted)
+ascending_prop counted = pairs_prop (λ c d. IsEdgeBefore c.edge d.edge) (λ c d. edge_before_prop c.edge d.edge) counted
+
+layers_prop : (counted : List Counted) → IsProp (AreLayers counted)
+layers_prop counted = hlevel (props, ascending_prop counted)
+
+pub layers_known : (counted : List Counted) → ∥ AreLayers counted ∥₁ → AreLayers counted
+layers_known counted h = ∥∥₁_elim h (layers_prop counted) (λ l. l)

@@ -1,0 +1,104 @@
+-- From two texts that were checked to what the theorems say of their rounded edges.
+use Rattle.std.proofs.Common.{◌≡◌, ℕ, List, [], ◌∷◌, ◌++◌, length, map, get_or, ◌<◌, inl, inr, refl, sym, subst, ap, arith, ⊎_elim}
+use Rattle.std.proofs.Math.Logic.{∥∥₁_elim, ∥∥₁_map}
+use Rattle.std.proofs.Props.{props}
+use Rattle.std.specs.Prelude.{All, Contains, Err, IfOk, None, Ok, Option, Result, Some}
+use Rattle.std.proofs.lemmas.List.{get_or-map, length-map}
+use Rattle.geom.specs.Limit.{AreInLimit}
+use Rattle.geom.specs.Rounded.{AreRounded}
+use Rattle.geom.specs.Segments.{AreSegments, layer_steps, parts, tagged}
+use Rattle.geom.specs.declared.edge.Counted.{Counted}
+use Rattle.geom.specs.declared.edge.Edge.{Edge}
+use Rattle.geom.specs.declared.point.Pt.{Pt}
+use Rattle.geom.specs.declared.rect.Rect.{Rect}
+use Rattle.geom.specs.declared.segment.Seg.{Seg}
+use Rattle.geom.specs.declared.segment.Source.{Source}
+use Rattle.geom.specs.declared.segment.Source.TheVariants.{A, B}
+use Rattle.geom.proofs.Lists.{In, contains_in, in_append, in_contains, in_map, map_in}
+use Rattle.noding_law.proofs.Rounding.{rounded_noded}
+use Rattle.points_law.specs.Law.{AreLayers}
+use Rattle.points_law.proofs.ClosedSegments.{rings_closed}
+use Rattle.points_law.proofs.RoundedLayers.{rounded_layers}
+use Rattle.tiling.specs.Tiles.{Tiling}
+use Rattle.chain_gather.specs.Gathered.{BoundsHold, HaveTiles}
+use Rattle.chain_gather.proofs.Covering.{have_tiles}
+use Rattle.wkt.specs.LayerText.{Ring}
+use Rattle.wkt.specs.Refusals.{IsAccepted, StandsFor, plain}
+use Rattle.wkt.proofs.Exclusive.{same_reading}
+use Rattle.engine.specs.Rounds.{AllInLimit, AreBoundsOf, AreSegmentsOf}
+use Rattle.engine.specs.Runs.{IsChecked}
+use Rattle.engine.specs.declared.engine.Plan.{Plan}
+
+-- ---- the bounds hold the segments
+
+in_append_left : {X : Type 0} (xs ys : List X) (x : X) → In x xs → In x (xs ++ ys)
+in_append_left [] ys x i = absurd i
+in_append_left (y ∷ xs) ys x (inl e) = inl e
+in_append_left (y ∷ xs) ys x (inr i) = inr (in_append_left xs ys x i)
+
+in_append_right : {X : Type 0} (xs ys : List X) (x : X) → In x ys → In x (xs ++ ys)
+in_append_right [] ys x i = i
+in_append_right (y ∷ xs) ys x i = inr (in_append_right xs ys x i)
+
+-- a step that is tagged as a segment has its ends
+ends_of : (layer : Source) (steps : List (Pt × Pt)) (s : Seg) → In (parts s) (map (tagged layer) steps) → In (s.a, s.b) steps
+ends_of layer steps s i =
+    let m = in_map (tagged layer) steps (parts s) i in
+    let a : m.0.0 ≡ s.a = ap (λ (t : Pt × Pt × Source). t.0) m.2 in
+    let b : m.0.1 ≡ s.b = ap (λ (t : Pt × Pt × Source). t.1) m.2 in
+    let e : m.0 ≡ (s.a, s.b) = (λ j. (a j, b j)) in
+    subst (λ (t : Pt × Pt). In t steps) e m.1
+
+step_of : (a b : List (List Pt)) (segments : List Seg) → AreSegments a b segments → (s : Seg) → Contains segments s → In (s.a, s.b) (layer_steps a ++ layer_steps b)
+step_of a b segments are s h = ⊎_elim
+    (λ i. in_append_left (layer_steps a) (layer_steps b) (s.a, s.b) (ends_of A (layer_steps a) s i))
+    (λ i. in_append_right (layer_steps a) (layer_steps b) (s.a, s.b) (ends_of B (layer_steps b) s i))
+    (in_append (map (tagged A) (layer_steps a)) (map (tagged B) (layer_steps b)) (parts s)
+    (subst (λ (ts : List (Pt × Pt × Source)). In (parts s) ts) are (map_in parts segments s (contains_in segments s h))))
+
+bounds_hold : (a b : List (List Pt)) (segments : List Seg) → AreSegments a b segments → (bounds : Option Rect) → AreBoundsOf (layer_steps a ++ layer_steps b) bounds → BoundsHold bounds segments
+bounds_hold a b segments are None e = λ s h. subst (λ (ts : List (Pt × Pt)). In (s.a, s.b) ts) e (step_of a b segments are s h)
+bounds_hold a b segments are (Some r) box = λ s h. box.holds (s.a, s.b) (in_contains (layer_steps a ++ layer_steps b) (s.a, s.b) (step_of a b segments are s h))
+
+-- a text has one list of rings
+one_plain : (text : List ℕ) (rings other : List Ring) → IsAccepted text rings → IsAccepted text other → plain rings ≡ plain other
+one_plain text rings other h k = same_reading text (plain rings) (plain other) (rings, h, refl) (other, k, refl)
+
+pub covered : (plan : Plan) (a b : List ℕ) (m n : ℕ) (g : Tiling) (segments : List Seg) → IsChecked plan a b m n g → AreSegmentsOf a b segments → HaveTiles g segments
+covered plan a b m n g segments h s =
+    let x = one_plain a s.rings_a h.rings_a s.accepted_a h.ready.accepted_a in
+    let y = one_plain b s.rings_b h.rings_b s.accepted_b h.ready.accepted_b in
+    have_tiles h.bounds g segments h.covers (bounds_hold (plain h.rings_a) (plain h.rings_b) segments
+    (subst (λ (p : List (List Pt)). AreSegments p (plain h.rings_b) segments) x (subst (λ (p : List (List Pt)). AreSegments (plain s.rings_a) p segments) y s.are_segments))
+    h.bounds h.are_bounds)
+
+-- ---- the segments of two texts
+
+pub segments_read : (a b : List ℕ) (rings_a rings_b : List (List Pt)) (segments : List Seg) → StandsFor a rings_a → StandsFor b rings_b → AreSegments rings_a rings_b segments → AreSegmentsOf a b segments
+segments_read a b rings_a rings_b segments h k are = record {
+  rings_a = h.0;
+  rings_b = k.0;
+  accepted_a = h.1;
+  accepted_b = k.1;
+  are_segments = subst (λ (p : List (List Pt)). AreSegments p (plain k.0) segments) (sym h.2) (subst (λ (p : List (List Pt)). AreSegments rings_a p segments) (sym k.2) are);
+}
+
+-- ---- layers
+
+pub layers_of : (a b : List ℕ) (segments : List Seg) (counted : List Counted) → AreSegmentsOf a b segments → AllInLimit segments → ∥ AreRounded segments counted ∥₁ → ∥ AreLayers counted ∥₁
+layers_of a b segments counted s limits r =
+    ∥∥₁_map r (λ h. rounded_layers segments counted h limits (rings_closed (plain s.rings_a) (plain s.rings_b) segments s.are_segments A) (rings_closed (plain s.rings_a) (plain s.rings_b) segments s.are_segments B) (rounded_noded segments counted h))
+
+limit_prop : (p q : Pt) → IsProp (AreInLimit p q)
+limit_prop p q = hlevel props
+
+pub edges_in_limit : (counted : List Counted) → ∥ AreLayers counted ∥₁ → All (λ (c : Counted). AreInLimit c.edge.p c.edge.q) counted
+edges_in_limit counted h = λ k d l.
+    ∥∥₁_elim h (limit_prop _ _) (λ layers. edge_at k d l layers.in_limit)
+  where
+    edge_at : (k : ℕ) (d : Counted) → k < length counted → All (λ (e : Edge). AreInLimit e.p e.q) (map (λ (c : Counted). c.edge) counted) → AreInLimit (get_or counted k d).edge.p (get_or counted k d).edge.q
+    edge_at k d l all = subst (λ (e : Edge). AreInLimit e.p e.q) (get_or-map (λ (c : Counted). c.edge) counted k d d.edge l) (all k d.edge (let e = length-map counted (λ (c : Counted). c.edge) in omega arith))
+
+pub if_both : {T E : Type 0} (r : Result T E) (P Q S : T → Type 0) → ((x : T) → P x → Q x → S x) → IfOk r P → IfOk r Q → IfOk r S
+if_both (Ok x) P Q S f p q = f x p q
+if_both (Err e) P Q S f p q = tt

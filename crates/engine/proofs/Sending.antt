@@ -1,0 +1,18 @@
+-- One more `write` of a text.
+use Rattle.std.proofs.Common.{◌≡◌, ◌∙◌, ◌+◌, ◌-◌, ℕ, Option, Some, None, List, ◌++◌, length, take, drop, append_assoc, refl, ap, sym}
+use Rattle.std.proofs.Math.Seq.{take-add}
+use Rattle.std.proofs.lemmas.List.{take_rest}
+use Rattle.engine.specs.Sinks.{Told}
+
+told_twice : (t : Option (List ℕ)) (xs ys : List ℕ) → Told (Told t xs) ys ≡ Told t (xs ++ ys)
+told_twice None xs ys = refl
+told_twice (Some before) xs ys = ap (λ (zs : List ℕ). Some zs) (append_assoc before xs ys)
+
+-- the first n of the rest behind the first i
+pub told_more : (old between new : Option (List ℕ)) (text : List ℕ) (i n : ℕ) → between ≡ Told old (take i text)
+    → new ≡ Told between (take n (take (length text - i) (drop i text))) → new ≡ Told old (take (i + n) text)
+told_more old between new text i n e f =
+    f ∙ ap (λ (t : Option (List ℕ)). Told t (take n (take (length text - i) (drop i text)))) e
+    ∙ ap (λ (zs : List ℕ). Told (Told old (take i text)) (take n zs)) (take_rest text i)
+    ∙ told_twice old (take i text) (take n (drop i text))
+    ∙ ap (Told old) (sym (take-add i n text))

@@ -1,0 +1,9 @@
+-- Both laws are lemmas of their own.
+use Rattle.engine.proofs.Determined.{edges_sizes_are_one, edges_text_is_one}
+use Rattle.engine.proofs.laws.edges_text_is_one.Goals as goal
+
+pub returns-clause-text : goal.returns-clause-text
+returns-clause-text g c = edges_text_is_one _ _
+
+pub returns-clause-sizes : goal.returns-clause-sizes
+returns-clause-sizes g c = edges_sizes_are_one _ _

@@ -1,0 +1,51 @@
+-- What the two layers determine, whatever the plan of a run.
+use Rattle.std.specs.Prelude.{◌≡◌, ℕ, List}
+use Rattle.geom.specs.declared.fault.Fault.{Fault}
+use Rattle.geom.specs.declared.fault.Part.{Part}
+use Rattle.geom.specs.declared.edge.Counted.{Counted}
+use Rattle.geom.specs.declared.op.Op.{Op}
+use Rattle.engine.specs.declared.engine.Plan.{Plan}
+use Rattle.engine.specs.declared.text.Report.{Report}
+use Rattle.engine.specs.Results.{IsResultWritten}
+use Rattle.engine.specs.Runs.{AreEdgesWritten, IsRefusedAt, MayRun, Reports}
+
+-- the text of the edges is one: whatever the tile side and the number of workers, and whatever the threads did
+abbrev pub EdgesTextIsOne : Type 0 → Type 0 → Type 0
+EdgesTextIsOne M N = (a b : List ℕ) (plan other : Plan) (text text' : List ℕ) (report : Report M) (report' : Report N)
+    → AreEdgesWritten plan a b text report → AreEdgesWritten other a b text' report' → text ≡ text'
+
+-- the sums of two reports are the same: all their numbers but those of single tiles and of pieces that were made again
+pub record HaveOneSize {M N : Type 0} (report : Report M) (other : Report N) : Type 0 where
+  pub segments_a : report.segments_a ≡ other.segments_a
+  pub segments_b : report.segments_b ≡ other.segments_b
+  pub edges : report.edges ≡ other.edges
+  pub hot : report.hot ≡ other.hot
+  pub records : report.records ≡ other.records
+
+-- the sums in the report are one
+abbrev pub EdgesSizesAreOne : Type 0 → Type 0 → Type 0
+EdgesSizesAreOne M N = (a b : List ℕ) (plan other : Plan) (text text' : List ℕ) (report : Report M) (report' : Report N)
+    → AreEdgesWritten plan a b text report → AreEdgesWritten other a b text' report' → HaveOneSize report report'
+
+-- the text of a result is one: the operation and the two layers determine it
+abbrev pub ResultTextIsOne : Type 0 → Type 0 → Type 0
+ResultTextIsOne M N = (op : Op) (a b : List ℕ) (plan other : Plan) (text text' : List ℕ) (report : Report M) (report' : Report N)
+    → IsResultWritten op plan a b text report → IsResultWritten op other a b text' report' → text ≡ text'
+
+-- the sums in the report are one, also for two operations
+abbrev pub ResultSizesAreOne : Type 0 → Type 0 → Type 0
+ResultSizesAreOne M N = (op op' : Op) (a b : List ℕ) (plan other : Plan) (text text' : List ℕ) (report : Report M) (report' : Report N)
+    → IsResultWritten op plan a b text report → IsResultWritten op' other a b text' report' → HaveOneSize report report'
+
+-- a plan and two layers are refused for one reason, at one place
+abbrev pub RefusalIsOne : Type 0
+RefusalIsOne = (plan : Plan) (a b : List ℕ) (part other : Part) (f g : Fault) → IsRefusedAt plan a b part f → IsRefusedAt plan a b other g → (part ≡ other) × (f ≡ g)
+
+-- and then they are not answered
+abbrev pub RefusedMayNotRun : Type 0
+RefusedMayNotRun = (plan : Plan) (a b : List ℕ) (part : Part) (f : Fault) → IsRefusedAt plan a b part f → MayRun plan a b → ⊥
+
+-- in two reports on the same layers, of any calls, the numbers of each tile are one where the tile side is
+abbrev pub TilesAreOne : Type 0 → Type 0 → Type 0
+TilesAreOne M N = (a b : List ℕ) (plan other : Plan) (counted counted' : List Counted) (report : Report M) (report' : Report N)
+    → plan.side ≡ other.side → Reports plan a b counted report → Reports other a b counted' report' → report.tiles.items ≡ report'.tiles.items

@@ -1,0 +1,25 @@
+-- The side of a tile where none is given for two layers (own).
+use Rattle.std.specs.Prelude.{◌≡◌, ◌^◌, ◌<◌, ◌≤◌, ℕ, List}
+use Rattle.tiling.specs.Tiles.{IsSide, Tiling, most_tiles, tile_count}
+use Rattle.wkt.specs.LayerText.{Ring}
+use Rattle.wkt.specs.Refusals.{IsAccepted}
+use Rattle.engine.specs.Rounds.{IsGridOver}
+
+-- the layers are accepted, and this side gives more tiles over them than there may be
+pub record IsTooFineOver (a b : List ℕ) (side : ℕ) : Type 0 where
+  pub rings_a : List Ring
+  pub rings_b : List Ring
+  pub accepted_a : IsAccepted a rings_a
+  pub accepted_b : IsAccepted b rings_b
+  pub grid : Tiling
+  pub is_grid : IsGridOver rings_a rings_b side grid
+  pub many : most_tiles < tile_count grid
+
+-- the least power of two, from 2^18 = 262,144 on, that isn't too fine
+pub record IsFittingSide (a b : List ℕ) (side : ℕ) : Type 0 where
+  pub exponent : ℕ
+  pub from : 18 ≤ exponent
+  pub power : side ≡ 2 ^ exponent
+  pub is_side : IsSide side
+  pub few : ¬ IsTooFineOver a b side
+  pub least : (k : ℕ) → 18 ≤ k → k < exponent → IsTooFineOver a b (2 ^ k)

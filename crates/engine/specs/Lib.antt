@@ -1,0 +1,7 @@
+pub mod Sinks
+pub mod Texts
+pub mod Rounds
+pub mod Runs
+pub mod Results
+pub mod Determined
+pub mod Fitting

@@ -1,0 +1,45 @@
+-- The text of a set operation (OGC 06-103r4 for the text; the rest is own).
+use Rattle.std.specs.Prelude.{◌≡◌, ℕ, List, [], ◌∷◌, ◌++◌, All, codes}
+use Rattle.geom.specs.declared.op.Op.{Op}
+use Rattle.geom.specs.declared.edge.Counted.{Counted}
+use Rattle.geom.specs.declared.directed.DirectedEdge.{DirectedEdge}
+use Rattle.geom.specs.Canonical.{ArePolygons, HaveEachEdge, Shape, written_rings}
+use Rattle.geom.specs.Directed.{AreResultEdges}
+use Rattle.geom.specs.ListOrder.{IsLeastRotation}
+use Rattle.geom.specs.Pixel.{Point}
+use Rattle.geom.specs.ResultEdges.{holds_at}
+use Rattle.geom.specs.RingParity.{ring_parity}
+use Rattle.polygonize.specs.Written.{AreSimple}
+use Rattle.wkt.specs.Canonical.{listed, ring_text}
+use Rattle.engine.specs.declared.engine.Plan.{Plan}
+use Rattle.engine.specs.declared.text.Report.{Report}
+use Rattle.engine.specs.Runs.{Reports}
+
+-- `(`, the shell, the holes, `)`
+abbrev pub shape_text : Shape → List ℕ
+shape_text polygon = listed ring_text polygon.shell polygon.holes
+
+-- the canonical line of polygons
+abbrev pub result_line : List Shape → List ℕ
+result_line [] = codes "MULTIPOLYGON EMPTY" ++ 10 ∷ []
+result_line (p ∷ ps) = codes "MULTIPOLYGON " ++ (listed shape_text p ps ++ 10 ∷ [])
+
+-- The text is the canonical line of the polygons of the result's directed edges: each shell with its holes, in order. Their rings
+-- together have each of these edges once, none visits a point twice, and each is read from its least rotation. Any point lies in
+-- the polygons, by the even-odd rule over all their rings, exactly where the operation holds of its parities in the two rounded layers.
+pub record IsResultText (op : Op) (counted : List Counted) (text : List ℕ) : Type 0 where
+  pub directed : List DirectedEdge
+  pub bound : AreResultEdges op counted directed
+  pub polygons : List Shape
+  pub are_polygons : ArePolygons directed polygons
+  pub each_edge : HaveEachEdge directed polygons
+  pub simple : AreSimple (written_rings polygons)
+  pub least : All (λ ring. IsLeastRotation ring ring) (written_rings polygons)
+  pub points : (z : Point) → ring_parity (written_rings polygons) z ≡ holds_at op counted z
+  pub written : text ≡ result_line polygons
+
+-- the text of the result, and its report
+pub record IsResultWritten {M : Type 0} (op : Op) (plan : Plan) (a b : List ℕ) (text : List ℕ) (report : Report M) : Type 0 where
+  pub counted : List Counted
+  pub result : IsResultText op counted text
+  pub reports : Reports plan a b counted report

@@ -1,0 +1,133 @@
+-- What a run of the engine is refused for, and what it does to the sink (own).
+use Rattle.std.specs.Prelude.{◌≡◌, ◌≤◌, ◌<◌, ◌+◌, ◌++◌, ℕ, Bool, List, Option, Result, length, MatchResult}
+use Rattle.geom.specs.declared.edge.Counted.{Counted}
+use Rattle.geom.specs.declared.fault.Fault.{Fault}
+use Rattle.geom.specs.declared.fault.Fault.TheVariants.{TooManySegments, BadTile, BadWorkers, TooManyTiles, Memory, Write}
+use Rattle.geom.specs.declared.fault.Part.{Part}
+use Rattle.geom.specs.declared.fault.Part.TheVariants.{A, B, Run}
+use Rattle.geom.specs.declared.fault.RunFault.{RunFault}
+use Rattle.geom.specs.Segments.{layer_steps}
+use Rattle.geom.specs.declared.segment.Source.{Source}
+use Rattle.geom.specs.declared.segment.Source.TheVariants.{A as FromA, B as FromB}
+use Rattle.geom.specs.declared.rect.Rect.{Rect}
+use Rattle.tiling.specs.Tiles.{CoversBounds, IsSide, Tiling, most_tiles, tile_count}
+use Rattle.wkt.specs.LayerText.{Ring}
+use Rattle.wkt.specs.Outlines.{IsOutline}
+use Rattle.wkt.specs.declared.outline.Outline.{Outline}
+use Rattle.wkt.specs.Refusals.{IsAccepted, IsRefused, plain}
+use Rattle.engine.specs.declared.text.Report.{Report}
+use Rattle.engine.specs.Sinks.{SentAll, SentPart}
+use Rattle.engine.specs.Texts.{edges_text_of}
+use Rattle.chain_gather.specs.declared.rounded.TileNumbers.{TileNumbers}
+use Rattle.engine.specs.Rounds.{AreBoundsOf, AreRoundedOver, IsGridOver, TellsTiles}
+use Rattle.engine.specs.declared.engine.Plan.{Plan}
+
+-- the number of workers is within its limits
+pub record IsCrew (workers : ℕ) : Type 0 where
+  pub low : 1 ≤ workers
+  pub high : workers ≤ 64
+
+pub record IsPlan (plan : Plan) : Type 0 where
+  pub side : IsSide plan.side
+  pub workers : IsCrew plan.workers
+
+-- the greatest number of segments in both layers
+abbrev pub segment_limit : ℕ
+segment_limit = 1_048_576
+
+-- the number of segments of a layer with these rings
+abbrev pub segment_count : List Ring → ℕ
+segment_count rings = length (layer_steps (plain rings))
+
+-- the plan is within its limits, and so are the layers, which have these rings, and the grid over them
+pub record IsReady (plan : Plan) (a b : List ℕ) (rings_a rings_b : List Ring) (grid : Tiling) : Type 0 where
+  pub planned : IsPlan plan
+  pub accepted_a : IsAccepted a rings_a
+  pub accepted_b : IsAccepted b rings_b
+  pub few : segment_count rings_a + segment_count rings_b ≤ segment_limit
+  pub is_grid : IsGridOver rings_a rings_b plan.side grid
+  pub few_tiles : tile_count grid ≤ most_tiles
+
+-- what is refused before anything is made, and where: the first of these that is at fault
+pub data IsRefusedAt (plan : Plan) (a b : List ℕ) : Part → Fault → Type 0 where
+  bad_tile : ¬ IsSide plan.side → IsRefusedAt plan a b Run BadTile
+  bad_workers : IsSide plan.side → ¬ IsCrew plan.workers → IsRefusedAt plan a b Run BadWorkers
+  bad_a : {f : Fault} → IsPlan plan → IsRefused a f → IsRefusedAt plan a b A f
+  bad_b : {f : Fault} → IsPlan plan → (rings : List Ring) → IsAccepted a rings → IsRefused b f → IsRefusedAt plan a b B f
+  too_many : IsPlan plan → (rings_a rings_b : List Ring) → IsAccepted a rings_a → IsAccepted b rings_b
+      → segment_limit < segment_count rings_a + segment_count rings_b → IsRefusedAt plan a b Run (TooManySegments (segment_count rings_a + segment_count rings_b))
+  too_many_tiles : IsPlan plan → (rings_a rings_b : List Ring) → IsAccepted a rings_a → IsAccepted b rings_b → segment_count rings_a + segment_count rings_b ≤ segment_limit
+      → (grid : Tiling) → IsGridOver rings_a rings_b plan.side grid → most_tiles < tile_count grid → IsRefusedAt plan a b Run (TooManyTiles (tile_count grid))
+
+-- the plan is refused, whatever the layers are
+abbrev pub IsRefusedPlan : Plan → Part → Fault → Type 0
+IsRefusedPlan plan part fault = (a b : List ℕ) → IsRefusedAt plan a b part fault
+
+abbrev pub part_of : Source → Part
+part_of FromA = A
+part_of FromB = B
+
+-- the text of a layer is accepted, and has this outline
+abbrev pub HasOutline : List ℕ → Outline → Type 0
+HasOutline text outline = (rings : List Ring) × IsAccepted text rings × IsOutline (plain rings) outline
+
+-- the plan and the layers are within their limits; the layers have these numbers of segments, and the grid has a tile for each point of their box
+pub record IsChecked (plan : Plan) (a b : List ℕ) (segments_a segments_b : ℕ) (grid : Tiling) : Type 0 where
+  pub rings_a : List Ring
+  pub rings_b : List Ring
+  pub ready : IsReady plan a b rings_a rings_b grid
+  pub count_a : segments_a ≡ segment_count rings_a
+  pub count_b : segments_b ≡ segment_count rings_b
+  pub bounds : Option Rect
+  pub are_bounds : AreBoundsOf (layer_steps (plain rings_a) ++ layer_steps (plain rings_b)) bounds
+  pub covers : CoversBounds bounds grid
+
+-- the report of these edges: they are the rounded edges of the layers, and its numbers are those of the segments, the edges, the hot pixels and the records, of each tile and in all; no more pieces were made again than there are tiles
+pub record Reports {M : Type 0} (plan : Plan) (a b : List ℕ) (counted : List Counted) (report : Report M) : Type 0 where
+  pub rings_a : List Ring
+  pub rings_b : List Ring
+  pub grid : Tiling
+  pub ready : IsReady plan a b rings_a rings_b grid
+  pub segments_a : report.segments_a ≡ segment_count rings_a
+  pub segments_b : report.segments_b ≡ segment_count rings_b
+  pub edges : report.edges ≡ length counted
+  pub tiles : List TileNumbers
+  pub rounded : AreRoundedOver a b grid counted tiles
+  pub told : TellsTiles tiles report.hot report.records report.tiles.items
+  pub few : report.remade ≤ tile_count grid
+
+-- the text of the edges, and their report
+pub record AreEdgesWritten {M : Type 0} (plan : Plan) (a b : List ℕ) (text : List ℕ) (report : Report M) : Type 0 where
+  pub counted : List Counted
+  pub text_is : text ≡ edges_text_of counted
+  pub reports : Reports plan a b counted report
+
+-- the plan, the layers and the grid are within their limits
+abbrev pub MayRun : Plan → List ℕ → List ℕ → Type 0
+MayRun plan a b = (rings_a : List Ring) × (rings_b : List Ring) × (grid : Tiling) × IsReady plan a b rings_a rings_b grid
+
+-- an answer: the sink took the text that goes with the report, and is settled
+pub record Answers {S M : Type 0} (failed : S → ℕ) (settled : S → Bool) (taken : S → Option (List ℕ)) (old new : S) (plan : Plan) (a b : List ℕ) (IsAnswer : List ℕ → Report M → Type 0) (report : Report M) : Type 0 where
+  pub may : MayRun plan a b
+  pub text : List ℕ
+  pub is_answer : IsAnswer text report
+  pub sent : SentAll failed settled taken old new text
+
+-- the sink failed, and had taken a beginning of the text of an answer
+pub record FailedToSend {S M : Type 0} (failed : S → ℕ) (settled : S → Bool) (taken : S → Option (List ℕ)) (old new : S) (plan : Plan) (a b : List ℕ) (IsAnswer : List ℕ → Report M → Type 0) : Type 0 where
+  pub may : MayRun plan a b
+  pub text : List ℕ
+  pub report : Report M
+  pub is_answer : IsAnswer text report
+  pub sent : SentPart failed settled taken old new text
+
+-- a refusal: where the sink failed, it took a beginning; otherwise it is as before
+abbrev pub Stops : {S M : Type 0} → (S → ℕ) → (S → Bool) → (S → Option (List ℕ)) → S → S → Plan → List ℕ → List ℕ → (List ℕ → Report M → Type 0) → Part → Fault → Type 0
+Stops failed settled taken old new plan a b IsAnswer part Write = (part ≡ Run) × FailedToSend failed settled taken old new plan a b IsAnswer
+Stops failed settled taken old new plan a b IsAnswer part Memory = (part ≡ Run) × MayRun plan a b × (new ≡ old)
+Stops failed settled taken old new plan a b IsAnswer part fault = IsRefusedAt plan a b part fault × (new ≡ old)
+
+-- a run on two layers, whose answers are these
+abbrev pub Runs : {S M : Type 0} → (S → ℕ) → (S → Bool) → (S → Option (List ℕ)) → S → S → Plan → List ℕ → List ℕ → (List ℕ → Report M → Type 0) → Result (Report M) RunFault → Type 0
+Runs failed settled taken old new plan a b IsAnswer r =
+    MatchResult r (λ report. Answers failed settled taken old new plan a b IsAnswer report) (λ f. Stops failed settled taken old new plan a b IsAnswer f.at f.fault)

@@ -1,0 +1,18 @@
+//! The engine: two layer texts in, the text of their rounded edges, or of an operation's result, to a sink.
+#![tactic(auto)]
+
+mod engine;
+mod fitting;
+mod laws;
+mod operation;
+mod rounds;
+mod segments;
+mod sink;
+mod text;
+
+pub use engine::{Plan, edges};
+pub use fitting::fitting_side;
+pub use laws::{edges_text_is_one, one_refusal, result_text_is_one, tiles_are_one};
+pub use operation::{result_text, run};
+pub use sink::{MemSink, Sink, SinkFault, write_all};
+pub use text::{Report, line, report_text, status};

@@ -1,0 +1,216 @@
+//! The rounded edges of two layers, over the tiles of a grid and by many workers.
+
+ghost use Rattle.std.specs.Prelude.{◌≡◌, ◌<◌, ◌≤◌, All, IfOk, length, map, sum_by};
+ghost use Rattle.geom.specs.Limit.{AreInLimit};
+ghost use Rattle.geom.specs.Rounded.{AreRounded};
+ghost use Rattle.tiling.specs.Tiles.{tile_count};
+ghost use Rattle.chain_gather.specs.Gathered.{AreBinsOf, AreTileNumbers, HaveTiles};
+ghost use Rattle.points_law.specs.Law.{AreLayers};
+ghost use Rattle.engine.specs.Rounds.{AllInLimit, AreRoundedOver, AreSegmentsOf, TellsTiles};
+ghost use Rattle.engine.specs.Runs.{IsChecked};
+
+use crate::engine::{Inputs, Plan};
+use crate::segments::{boxes_of, segments_of};
+use crate::text::Report;
+use chain_gather::{TileNumbers, gather};
+use geom::{NoMemory, Seg};
+use noding_test::{Noded, settled};
+use routing::{Piece, piece};
+use std::alloc::Allocator;
+use std::marker::Brand;
+use std::sync::Wait;
+use std::sync::ledger::Blank;
+use std::thread::Threads;
+use tile_book::{Filled, Gate, Job, Limited, Phase, fill};
+use tiling::{Bins, Grid};
+use wkt::read_layer;
+
+/// Makes the piece of each tile from the segments in its bin.
+#[derive(Drop)]
+struct Pieces<'a, A: Allocator> {
+    grid: &'a Grid,
+    bins: &'a Bins<A>,
+    segments: &'a [Seg],
+    ghost in_limit: { AllInLimit segments.now },
+    ghost are_bins: { ∥ AreBinsOf grid.now segments.now bins.now ∥₁ },
+}
+
+impl<A: Allocator + Copy> Job<A> for Pieces<'_, A> {
+    type Piece = Piece<A>;
+
+    ghost count = { λ p. tile_count p.grid.now };
+
+    fn piece(&self, alloc: A, number: u32) -> Result<Piece<A>, NoMemory> {
+        let mut numbers = Vec::new(alloc);
+        self.bins.bin(number, &mut numbers)?;
+        piece(alloc, self.grid, number, self.segments, &numbers)
+    }
+}
+
+/// The rounded edges of two layer texts that were checked, with the numbers of the tiles. The workers call the gate.
+pub fn rounded_layers<A: Allocator + Copy + Send + Sync, G: Gate + Sync, R: Threads + Wait + Sync>(
+    rt: &R,
+    alloc: A,
+    a: &[u8],
+    b: &[u8],
+    plan: Plan,
+    inputs: &Inputs,
+    gate: &G,
+) -> Result<Noded<A>, NoMemory>
+    requires { IsChecked plan a.now b.now inputs.now.segments_a inputs.now.segments_b inputs.now.grid }
+    ensures rounded { IfOk result (λ n. AreRoundedOver a.now b.now inputs.now.grid n.edges.items n.tiles.items) }
+    ensures layers { IfOk result (λ n. ∥ AreLayers n.edges.items ∥₁) }
+    ensures few { IfOk result (λ n. n.remade ≤ tile_count inputs.now.grid) }
+    ensures in_limit { IfOk result (λ n. All (λ c. AreInLimit c.edge.p c.edge.q) n.edges.items) }
+{
+    let segments = read_segments(alloc, a, b, inputs)?;
+    gathered(rt, alloc, &inputs.grid, plan.workers, &segments, gate)
+}
+
+/// The segments of two layer texts.
+fn read_segments<A: Allocator + Copy>(
+    alloc: A,
+    a: &[u8],
+    b: &[u8],
+    inputs: &Inputs,
+) -> Result<Vec<Seg, A>, NoMemory>
+    ensures segments { IfOk result (λ v. AreSegmentsOf a.now b.now v.items) }
+    ensures in_limit { IfOk result (λ v. AllInLimit v.items) }
+{
+    let Ok(layer_a) = read_layer(alloc, a) else {
+        return Err(NoMemory);
+    };
+    let Ok(layer_b) = read_layer(alloc, b) else {
+        return Err(NoMemory);
+    };
+    let count = u64::from(inputs.segments_a) + u64::from(inputs.segments_b);
+    segments_of(alloc, &layer_a, &layer_b, count as usize)
+}
+
+/// The rounded edges of segments: the workers make the pieces of the tiles, which are gathered.
+fn gathered<A: Allocator + Copy + Send + Sync, G: Gate + Sync, R: Threads + Wait + Sync>(
+    rt: &R,
+    alloc: A,
+    grid: &Grid,
+    workers: u32,
+    segments: &[Seg],
+    gate: &G,
+) -> Result<Noded<A>, NoMemory>
+    requires workers { (0 < workers) × (workers ≤ 64) }
+    requires in_limit { AllInLimit segments.now }
+    requires covered { HaveTiles grid.now segments.now }
+    ensures rounded { IfOk result (λ n. ∥ AreRounded segments.now n.edges.items ∥₁) }
+    ensures tiles { IfOk result (λ n. AreTileNumbers grid.now segments.now (tile_count grid.now) n.tiles.items) }
+    ensures few { IfOk result (λ n. n.remade ≤ tile_count grid.now) }
+{
+    let blank = Blank::new(u64::from(workers));
+    by_tiles::<Brand, A, G, R>(rt, alloc, blank, grid, workers, segments, gate)
+}
+
+/// The same, where a ledger of its own counts the pieces that are posted.
+fn by_tiles<
+    L: Limited + Send + Sync,
+    A: Allocator + Copy + Send + Sync,
+    G: Gate + Sync,
+    R: Threads + Wait + Sync,
+>(
+    rt: &R,
+    alloc: A,
+    blank: Blank,
+    grid: &Grid,
+    workers: u32,
+    segments: &[Seg],
+    gate: &G,
+) -> Result<Noded<A>, NoMemory>
+    requires name { blank.name ≡ L.name }
+    requires parts { (blank.parts ≡ L.parts) × (blank.parts ≡ workers) }
+    requires limit { tile_count grid.now ≡ L.limit }
+    requires workers { (0 < workers) × (workers ≤ 64) }
+    requires in_limit { AllInLimit segments.now }
+    requires covered { HaveTiles grid.now segments.now }
+    ensures rounded { IfOk result (λ n. ∥ AreRounded segments.now n.edges.items ∥₁) }
+    ensures tiles { IfOk result (λ n. AreTileNumbers grid.now segments.now (tile_count grid.now) n.tiles.items) }
+    ensures few { IfOk result (λ n. n.remade ≤ tile_count grid.now) }
+{
+    let boxes = boxes_of(alloc, segments)?;
+    let bins = Bins::build(alloc, grid, &boxes)?;
+    drop(boxes);
+    let job = Pieces {
+        grid,
+        bins: &bins,
+        segments,
+    };
+    let filled: Filled<Piece<A>, L, A> = fill(
+        rt,
+        alloc,
+        blank,
+        grid.tiles(),
+        workers,
+        &job,
+        Phase::Route,
+        gate,
+    )?;
+    let Filled { book, .. } = filled;
+    let rounded = gather(alloc, book, grid, &bins, segments)?;
+    Ok(settled(rounded))
+}
+
+/// The numbers of a run.
+pub fn report_of<A: Allocator + Copy>(
+    alloc: A,
+    inputs: &Inputs,
+    noded: &Noded<A>,
+) -> Result<Report<A>, NoMemory>
+    requires { length noded.now.tiles.items ≤ 65536 }
+    ensures segments_a { IfOk result (λ r. r.segments_a ≡ inputs.now.segments_a) }
+    ensures segments_b { IfOk result (λ r. r.segments_b ≡ inputs.now.segments_b) }
+    ensures edges { IfOk result (λ r. r.edges ≡ length noded.now.edges.items) }
+    ensures tiles { IfOk result (λ r. TellsTiles noded.now.tiles.items r.hot r.records r.tiles.items) }
+    ensures remade { IfOk result (λ r. r.remade ≡ noded.now.remade) }
+{
+    let tiles = told_of(alloc, &noded.tiles)?;
+    Ok(Report {
+        segments_a: inputs.segments_a,
+        segments_b: inputs.segments_b,
+        hot: all_hot(&noded.tiles),
+        records: all_records(&noded.tiles),
+        edges: u32::try_from(noded.edges.len()).map_err(|_| NoMemory)?,
+        remade: noded.remade,
+        tiles,
+    })
+}
+
+/// The numbers of each tile.
+fn told_of<A: Allocator>(alloc: A, tiles: &[TileNumbers]) -> Result<Vec<(u32, u32), A>, NoMemory>
+    ensures { IfOk result (λ told. told.items ≡ map (λ t. (t.hot, t.records)) tiles.now) }
+{
+    let mut told = Vec::with_capacity(alloc, tiles.len())?;
+    for tile in tiles {
+        told.push((tile.hot, tile.records))?;
+    }
+    Ok(told)
+}
+
+/// The hot pixels of all tiles.
+fn all_hot(tiles: &[TileNumbers]) -> u64
+    requires { length tiles.now ≤ 65536 }
+    ensures { result ≡ sum_by (λ t. t.hot) tiles.now }
+{
+    let mut sum = 0;
+    for tile in tiles {
+        sum += u64::from(tile.hot);
+    }
+    sum
+}
+
+/// The records of all tiles.
+fn all_records(tiles: &[TileNumbers]) -> u64
+    requires { length tiles.now ≤ 65536 }
+    ensures { result ≡ sum_by (λ t. t.records) tiles.now }
+{
+    let mut sum = 0;
+    for tile in tiles {
+        sum += u64::from(tile.records);
+    }
+    sum
+}

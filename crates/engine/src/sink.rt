@@ -1,0 +1,138 @@
+//! Where a text is written.
+
+ghost use Rattle.std.specs.Prelude.{◌≡◌, ◌+◌, ◌-◌, ◌<◌, ◌≤◌, ℕ, Bool, true, false, List, [], Option, Some, Ok, length, take, min, OnOk, OnErr, IfOk, option_map, vec_capacity, vec_len};
+ghost use Rattle.engine.specs.Sinks.{mem_failed, mem_settled, mem_taken, Finished, Held, Sent, Told, Wrote};
+
+use geom::NoMemory;
+use std::alloc::Allocator;
+use std::marker::Model;
+use thiserror::Error;
+
+/// A sink failed.
+#[derive(Clone, Copy, Debug, PartialEq, Eq, Error)]
+#[error("write failed")]
+pub struct SinkFault;
+
+/// What takes a text, some bytes at a time.
+pub trait Sink {
+    // how many calls failed
+    ghost failed: { Self → ℕ };
+
+    // a `finish` succeeded, and no `write` came after it
+    ghost settled: { Self → Bool };
+
+    // the bytes taken, where the sink tells them
+    ghost taken: { Self → Option (List ℕ) };
+
+    /// Takes the first bytes, one at least, or fails and takes none.
+    fn write(&mut self, bytes: &[u8]) -> Result<usize, SinkFault>
+        requires some { 0 < length bytes.now }
+        requires countable { failed self.old < u64.MAX }
+        ensures { Wrote failed settled taken self.old self.new bytes.now result };
+
+    /// Settles what was taken.
+    fn finish(&mut self) -> Result<(), SinkFault>
+        requires { failed self.old < u64.MAX }
+        ensures { Finished failed settled taken self.old self.new result };
+
+    /// How many calls failed.
+    fn failures(&self) -> u64
+        ensures { result ≡ failed self.now };
+}
+
+/// Writes the whole text and settles it.
+pub fn write_all<S: Sink>(sink: &mut S, text: &[u8]) -> Result<(), SinkFault>
+    requires { S.failed sink.old < u64.MAX }
+    ensures { Sent S.failed S.settled S.taken sink.old sink.new text.now result }
+{
+    let mut at = 0;
+    while at < text.len() {
+        at += sink.write(&text[at..])?;
+    }
+    sink.finish()
+}
+
+/// A sink in memory, with room for so many bytes.
+#[derive(Drop)]
+pub struct MemSink<A: Allocator> {
+    bytes: Vec<u8, A>,
+    room: usize,
+    failures: u64,
+    settled: bool,
+}
+
+impl<A: Allocator> Model for MemSink<A> {
+    ghost Value = { Held };
+
+    ghost view = { λ s. record { bytes = s.bytes.items; room = s.room; failures = s.failures; settled = s.settled } };
+
+    ghost invariant = { λ s. (s.room ≤ vec_capacity s.bytes) × (vec_len s.bytes ≤ s.room) };
+}
+
+impl<A: Allocator> MemSink<A> {
+    /// An empty sink with room for so many bytes.
+    pub fn new(alloc: A, room: usize) -> Result<MemSink<A>, NoMemory>
+        ensures { IfOk result (λ s. s ≡ record { bytes = []; room = room; failures = 0; settled = false }) }
+    {
+        Ok(MemSink {
+            bytes: Vec::with_capacity(alloc, room)?,
+            room,
+            failures: 0,
+            settled: false,
+        })
+    }
+
+    /// The bytes taken.
+    pub fn bytes(&self) -> &[u8]
+        ensures { result.now ≡ self.now.bytes }
+    {
+        self.bytes.as_slice()
+    }
+
+    /// Whether a `finish` succeeded and no `write` came after it.
+    pub fn is_settled(&self) -> bool
+        ensures { result ≡ self.now.settled }
+    {
+        self.settled
+    }
+}
+
+impl<A: Allocator> Sink for MemSink<A> {
+    ghost failed = { mem_failed };
+
+    ghost settled = { mem_settled };
+
+    ghost taken = { mem_taken };
+
+    fn write(&mut self, bytes: &[u8]) -> Result<usize, SinkFault>
+        requires some { 0 < length bytes.now }
+        requires countable { self.old.failures < u64.MAX }
+        ensures wrote { Wrote mem_failed mem_settled mem_taken self.old self.new bytes.now result }
+        ensures room { self.new.room ≡ self.old.room }
+        ensures fits { length self.old.bytes < self.old.room → result ≡ Ok (min (length bytes.now) (self.old.room - length self.old.bytes)) }
+    {
+        self.settled = false;
+        let left = self.room - self.bytes.len();
+        if left == 0 {
+            self.failures += 1;
+            return Err(SinkFault);
+        }
+        let count = bytes.len().min(left);
+        self.bytes.extend_from_slice(&bytes[..count]).unwrap();
+        Ok(count)
+    }
+
+    fn finish(&mut self) -> Result<(), SinkFault>
+        requires { self.old.failures < u64.MAX }
+        ensures finished { Finished mem_failed mem_settled mem_taken self.old self.new result }
+        ensures succeeds { result ≡ Ok tt }
+        ensures room { self.new.room ≡ self.old.room }
+    {
+        self.settled = true;
+        Ok(())
+    }
+
+    fn failures(&self) -> u64 {
+        self.failures
+    }
+}

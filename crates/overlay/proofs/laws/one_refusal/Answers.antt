@@ -1,9 +1,0 @@
--- Both laws are lemmas of their own.
-use Rattle.overlay.proofs.OneRefusal.{refusal_is_one, refused_may_not_run}
-use Rattle.overlay.proofs.laws.one_refusal.Goals as goal
-
-pub returns-clause-reason : goal.returns-clause-reason
-returns-clause-reason c = refusal_is_one
-
-pub returns-clause-answered : goal.returns-clause-answered
-returns-clause-answered c = refused_may_not_run
