@@ -1,5 +1,5 @@
 -- A side that is the default over the box of two layers is the default over the layers.
-use Rattle.std.proofs.Common.{◌≡◌, ℕ, ◌++◌, ◌<◌, ◌≤◌, List, Option, Some, None, refl, sym, ap, ap₂, subst, ◌∙◌, arith}
+use Rattle.std.proofs.Common.{◌≡◌, ℕ, ◌++◌, List, Option, refl, ap₂, subst, arith}
 use Rattle.geom.specs.Segments.{layer_steps}
 use Rattle.geom.specs.declared.fault.Fault.{Fault}
 use Rattle.geom.specs.declared.fault.Fault.TheVariants.{TooManyTiles}
@@ -7,7 +7,6 @@ use Rattle.geom.specs.declared.fault.Part.TheVariants.{Run}
 use Rattle.geom.specs.declared.point.Pt.{Pt}
 use Rattle.geom.specs.declared.rect.Rect.{Rect}
 use Rattle.tiling.specs.Sides.{IsDefaultSide}
-use Rattle.tiling.specs.Tiles.{IsGridOf, Tiling}
 use Rattle.wkt.specs.LayerText.{Ring}
 use Rattle.wkt.specs.Refusals.{IsAccepted, IsRefused, plain}
 use Rattle.wkt.specs.declared.outline.Outline.{Outline}

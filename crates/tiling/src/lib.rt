@@ -3,7 +3,6 @@
 
 mod bins;
 mod count;
-
 mod grid;
 mod index;
 mod search;
@@ -12,7 +11,6 @@ mod strips;
 
 pub use bins::Bins;
 pub use count::Count;
-
 pub use grid::{GREATEST_SIDE, Grid, LEAST_SIDE, MOST_TILES};
 pub use sides::{DEFAULT_SIDE, default_side};
 pub use strips::Strips;

@@ -1,5 +1,5 @@
 use Rattle.std.proofs.Common.{arith, refl}
-use Rattle.tiling.proofs.TriedSides.{below_greatest, doubled, is_side}
+use Rattle.tiling.proofs.TriedSides.{doubled, is_side}
 use Rattle.tiling.proofs.sides.default_side.Goals as goal
 
 pub loop-bounds-init : goal.loop-bounds-init
