@@ -101,7 +101,7 @@ class Arrangement:
 
     def faces(self) -> list[Polygon]:
         """The bounded faces, by GEOS."""
-        shapes = polygonize(MultiLineString(list(self.counts)))
+        shapes = polygonize(list(MultiLineString(list(self.counts)).geoms))
         return [[[(int(x), int(y)) for x, y in ring.coords] for ring in (shape.exterior, *shape.interiors)] for shape in shapes]
 
 

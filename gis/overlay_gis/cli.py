@@ -48,6 +48,9 @@ def main(words: list[str] | None = None) -> int:
     except BrokenPipeError:
         sys.stderr.close()
         return FAILED
+    except OSError as error:
+        messages.say(f"{error.filename or 'a temporary file'}: {error.strerror}")
+        return FAILED
     except KeyboardInterrupt:
         messages.say("stopped")
         return FAILED

@@ -8,6 +8,7 @@ from __future__ import annotations
 
 import math
 import os
+import sys
 from dataclasses import dataclass, field
 from typing import Iterable, Iterator, Sequence
 
@@ -250,44 +251,80 @@ def check_output(path: str, overwrite: bool) -> None:
         raise Fault(path, "its folder isn't there")
 
 
-def write_layer(path: str, system: osr.SpatialReference | None, columns: Sequence[Column], rows: Iterable[Row], kind: int = ogr.wkbPolygon) -> int:
-    """Writes a file of one layer, and answers how many features it has. A file that couldn't be finished is removed."""
-    driver = driver_for(path)
-    try:
-        if os.path.exists(path):
-            driver.Delete(path)
-        dataset = driver.Create(path, 0, 0, 0, gdal.GDT_Unknown)
-        try:
-            layer = dataset.CreateLayer(os.path.splitext(os.path.basename(path))[0], system, kind)
-            for column in columns:
-                layer.CreateField(column.defined())
-            return fill(dataset, layer, rows)
-        finally:
-            layer = dataset = None
-    except RuntimeError as error:
-        if os.path.exists(path):
-            driver.Delete(path)
-        raise Fault(path, without_name(error, path)) from error
+class Output:
+    """A file of one layer that is being written."""
 
+    def __init__(self, path: str):
+        self.path = path
+        self.dataset: gdal.Dataset | None = None
+        self.layer: ogr.Layer | None = None
 
-def fill(dataset: gdal.Dataset, layer: ogr.Layer, rows: Iterable[Row]) -> int:
-    grouped = dataset.TestCapability(ogr.ODsCTransactions)
-    if grouped:
-        dataset.StartTransaction()
-    defined, count = layer.GetLayerDefn(), 0
-    for geometry, values in rows:
-        feature = ogr.Feature(defined)
+    def begin(self, system: osr.SpatialReference | None, columns: Sequence[Column], kind: int) -> None:
+        self.dataset = driver_for(self.path).Create(self.path, 0, 0, 0, gdal.GDT_Unknown)
+        self.layer = self.dataset.CreateLayer(os.path.splitext(os.path.basename(self.path))[0], system, kind)
+        for column in columns:
+            self.layer.CreateField(column.defined())
+
+    def fill(self, rows: Iterable[Row]) -> int:
+        """Writes all rows, and answers how many they were."""
+        grouped = self.dataset.TestCapability(ogr.ODsCTransactions)
+        if grouped:
+            self.dataset.StartTransaction()
+        count = 0
+        for geometry, values in rows:
+            self.add(geometry, values)
+            count += 1
+        if grouped:
+            self.dataset.CommitTransaction()
+        self.dataset.FlushCache()
+        return count
+
+    def add(self, geometry: ogr.Geometry, values: Sequence) -> None:
+        feature = ogr.Feature(self.layer.GetLayerDefn())
         feature.SetGeometryDirectly(geometry)
         for k, value in enumerate(values):
             if value is None:
                 feature.SetFieldNull(k)
             else:
                 feature.SetField(k, value)
-        layer.CreateFeature(feature)
-        count += 1
-    if grouped:
-        dataset.CommitTransaction()
-    return count
+        self.layer.CreateFeature(feature)
+
+    def close(self) -> None:
+        """Closes the file. GDAL's bindings can't raise here, and would print: what failed is told by the call before, or by a look at the file."""
+        told, sys.unraisablehook = sys.unraisablehook, lambda _: None
+        self.layer = self.dataset = None
+        sys.unraisablehook = told
+
+
+def write_layer(path: str, system: osr.SpatialReference | None, columns: Sequence[Column], rows: Iterable[Row], kind: int = ogr.wkbPolygon) -> int:
+    """Writes a file of one layer, and answers how many features it has. A file that couldn't be finished is removed."""
+    done = False
+    try:
+        remove(path)
+        output = Output(path)
+        try:
+            output.begin(system, columns, kind)
+            count = output.fill(rows)
+        finally:
+            output.close()
+        written = Source(path)  # a layer is there only as long as its source is
+        done = written.layer.GetFeatureCount() == count
+        if not done:
+            raise Fault(path, f"doesn't hold the {count} features that were written to it")
+        return count
+    except RuntimeError as error:
+        raise Fault(path, without_name(error, path)) from error
+    finally:
+        if not done:
+            remove(path)
+
+
+def remove(path: str) -> None:
+    if os.path.exists(path):
+        try:
+            driver_for(path).Delete(path)
+        except RuntimeError:  # what was begun is no file of this format yet
+            os.remove(path)
 
 
 def polygon_geometry(polygon: Polygon) -> ogr.Geometry:

@@ -8,6 +8,7 @@ from dataclasses import dataclass, field
 from html import escape
 from typing import Iterator
 
+from .arrangement import ends
 from .faults import Fault, Refusal
 from .layers import Polygon
 from .texts import EDGES, LAYERS, Edge, edges_in, kind_of, polygons_in
@@ -29,6 +30,7 @@ PIXEL_SHOWN, GRID_SHOWN = 4.0, 9.0
 def add_arguments(parser: ArgumentParser) -> None:
     parser.add_argument("files", metavar="FILE", nargs="+", help="a text on the grid, told apart by its form: a layer, what `overlay edges` or what an operation printed; - is standard input")
     parser.add_argument("-o", "--out", metavar="OUT.svg", help="the picture's file (default: standard output)")
+    parser.add_argument("--title", metavar="TEXT", default="", help="a line below the drawing")
 
 
 @dataclass
@@ -51,8 +53,16 @@ class Shown:
 
     def told(self) -> str:
         if self.kind == EDGES:
-            return f"{self.name}: {len(self.edges):,} rounded edges" if self.edges else f"{self.name}: {EMPTY}"
-        return f"{self.name}: {self.kind}, {len(self.polygons):,} polygons" if self.polygons else f"{self.name}: {self.kind}, {EMPTY}"
+            return f"{self.name}: {counted(len(self.edges), 'rounded edge')}"
+        return f"{self.name}: {self.kind}, {counted(len(self.polygons), 'polygon') if self.polygons else EMPTY}"
+
+    def outline(self) -> list[tuple]:
+        """The segments of all rings, each once, whichever way they run."""
+        return sorted({ends(a, b) for polygon in self.polygons for ring in polygon for a, b in zip(ring, ring[1:])})
+
+
+def counted(number: int, word: str) -> str:
+    return f"{number:,} {word}" + ("" if number == 1 else "s")
 
 
 def read(name: str, number: int) -> Shown:
@@ -123,12 +133,20 @@ def hot_pixels(view: View, files: list[Shown]) -> Iterator[str]:
         yield f'<path d="{squares}" fill="{HOT}" stroke="#d9b64a" stroke-width="0.7"/>'
 
 
-def polygons_drawn(view: View, file: Shown) -> Iterator[str]:
-    """A layer is dashed, a result solid; both are filled by parity, as they are read."""
-    outline = " ".join("M" + "L".join(view.at(point) for point in ring[:-1]) + "z" for polygon in file.polygons for ring in polygon)
-    style = 'stroke-width="1.3" stroke-dasharray="6 4" fill-opacity="0.14"' if file.kind == LAYERS else 'stroke-width="1.6" fill-opacity="0.4"'
-    if outline:
-        yield f'<path d="{outline}" fill="{file.colour}" fill-rule="evenodd" stroke="{file.colour}" {style}/>'
+def filled(view: View, file: Shown) -> Iterator[str]:
+    """The inside of a layer or of a result by parity, as it is read."""
+    rings = " ".join("M" + "L".join(view.at(point) for point in ring[:-1]) + "z" for polygon in file.polygons for ring in polygon)
+    opacity = 0.14 if file.kind == LAYERS else 0.4
+    if rings:
+        yield f'<path d="{rings}" fill="{file.colour}" fill-rule="evenodd" fill-opacity="{opacity}"/>'
+
+
+def outlined(view: View, file: Shown) -> Iterator[str]:
+    """The borders, dashed for a layer and solid for a result."""
+    lines = " ".join(f"M{view.at(a)}L{view.at(b)}" for a, b in file.outline())
+    dashes = ' stroke-dasharray="6 4"' if file.kind == LAYERS else ""
+    if lines:
+        yield f'<path d="{lines}" stroke="{file.colour}" stroke-width="1.4"{dashes} fill="none"/>'
 
 
 def edge_classes() -> list[tuple[str, str, bool, bool]]:
@@ -144,7 +162,7 @@ def edges_drawn(view: View, file: Shown) -> Iterator[str]:
             lines = " ".join(f"M{view.at(e.p)}L{view.at(e.q)}" for e in chosen)
             if chosen:
                 yield f'<path d="{lines}" stroke="{colour}" stroke-width="{width}" stroke-linecap="round" fill="none"/>'
-    if view.scale >= PIXEL_SHOWN:
+    if file.edges and view.scale >= PIXEL_SHOWN:
         dots = sorted({end for edge in file.edges for end in (edge.p, edge.q)})
         yield "".join(f'<circle cx="{view.x(x):.1f}" cy="{view.y(y):.1f}" r="2.2" fill="#333"/>' for x, y in dots)
 
@@ -169,9 +187,12 @@ def signs(view: View, files: list[Shown]) -> list[tuple[str, str]]:
     return told
 
 
-def legend(view: View, files: list[Shown]) -> tuple[list[str], float]:
-    """The legend below the drawing in two columns, and where it ends."""
+def legend(view: View, files: list[Shown], title: str) -> tuple[list[str], float]:
+    """The title and the legend below the drawing, the legend in two columns, and where they end."""
     told, lines, top = signs(view, files), [], view.height + LINE / 2
+    if title:
+        lines.append(f'<text x="{MARGIN}" y="{top:.1f}" font-weight="bold">{escape(title)}</text>')
+        top += LINE
     column = max(view.width, 640) / 2
     for number, (sign, words) in enumerate(told):
         x, y = MARGIN + (number % 2) * column, top + (number // 2) * LINE
@@ -193,13 +214,14 @@ def scale_bar(view: View, top: float) -> str:
     return f'<g transform="translate({MARGIN} {top:.1f})">{bar}<text x="{length + 8:.1f}" y="4">{words}</text></g>'
 
 
-def picture(files: list[Shown]) -> str:
+def picture(files: list[Shown], title: str) -> str:
     view = View.of([point for file in files for point in file.points()])
-    told, bottom = legend(view, files)
+    told, bottom = legend(view, files, title)
     width, height = max(view.width, 640 + 2 * MARGIN), bottom + LINE
-    drawn = [*grid_lines(view), *hot_pixels(view, files)]
+    drawn = [line for file in files for line in filled(view, file)]
+    drawn += [*grid_lines(view), *hot_pixels(view, files)]
     for file in files:
-        drawn += polygons_drawn(view, file) if file.kind != EDGES else edges_drawn(view, file)
+        drawn += [*outlined(view, file), *edges_drawn(view, file)]
     head = f'<svg xmlns="http://www.w3.org/2000/svg" viewBox="0 0 {width:.0f} {height:.0f}" width="{width:.0f}" height="{height:.0f}" font-family="sans-serif" font-size="13">'
     return "\n".join([head, '<rect width="100%" height="100%" fill="white"/>', *drawn, *told, scale_bar(view, bottom), "</svg>", ""])
 
@@ -210,7 +232,7 @@ def main(arguments: Namespace) -> int:
         file = read(name, numbers)
         numbers += file.kind == LAYERS
         files.append(file)
-    text = picture(files)
+    text = picture(files, arguments.title)
     if not arguments.out:
         sys.stdout.write(text)
         return 0
