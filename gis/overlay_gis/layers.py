@@ -305,6 +305,9 @@ def write_layer(path: str, system: osr.SpatialReference | None, columns: Sequenc
         try:
             output.begin(system, columns, kind)
             count = output.fill(rows)
+        except RuntimeError as error:
+            error.__traceback__ = None  # its frames would keep the file open
+            raise Fault(path, without_name(error, path)) from error
         finally:
             output.close()
         written = Source(path)  # a layer is there only as long as its source is
@@ -312,8 +315,6 @@ def write_layer(path: str, system: osr.SpatialReference | None, columns: Sequenc
         if not done:
             raise Fault(path, f"doesn't hold the {count} features that were written to it")
         return count
-    except RuntimeError as error:
-        raise Fault(path, without_name(error, path)) from error
     finally:
         if not done:
             remove(path)
