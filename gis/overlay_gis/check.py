@@ -9,7 +9,7 @@ from pathlib import Path
 from tempfile import TemporaryDirectory
 from typing import Iterator
 
-from osgeo import ogr
+from osgeo import ogr, osr
 from shapely import wkb
 from shapely.geometry.base import BaseGeometry
 from shapely.strtree import STRtree
@@ -20,7 +20,7 @@ from . import layers, options
 from .faults import FOUND, Refusal
 from .frame import Frame
 from .joined import Joined, gridded, side_for
-from .layers import Box, Column, Row, Source, area_name, is_polygonal, polygons_of
+from .layers import Box, Column, Row, Source, area_name, common_system, is_polygonal, polygons_of
 from .messages import followed
 from .texts import polygons_in, twice_area
 
@@ -147,12 +147,12 @@ def parity_area(source: Source, frame: Frame, box: Box | None) -> tuple[float, f
         return frame.area(layer.written.twice_area), frame.area(parity)
 
 
-def frame_of(source: Source, seen: Checked, arguments: Namespace) -> Frame | None:
+def frame_of(source: Source, seen: Checked, system: osr.SpatialReference | None, arguments: Namespace) -> Frame | None:
     """The frame that a run would choose for this layer alone; what is off its limits is found."""
     unit = frames.number(arguments.grid) if arguments.grid else None
     origin = frames.point(arguments.origin) if arguments.origin else None
     try:
-        return frames.chosen(source.name, seen.box, source.system(), unit, origin)
+        return frames.chosen(source.name, seen.box, system, unit, origin)
     except Refusal as refusal:
         seen.find(refusal.reason)
         return None
@@ -162,23 +162,24 @@ def main(arguments: Namespace) -> int:
     if arguments.out:
         layers.check_output(arguments.out, arguments.overwrite)
     source, seen = Source(arguments.a), Checked()
+    system = common_system([source], arguments.system)
     for feature in source.features("looking through"):
         seen.features += 1
         look_at(feature, seen)
     if not seen.features:
         seen.find("the layer has no features")
-    frame = frame_of(source, seen, arguments)
+    frame = frame_of(source, seen, system, arguments)
     unit = float(frame.unit) if frame else 0.0
     found = list(overlaps_in(seen, source.name))
     wide = [overlap for overlap in found if not is_thin(overlap.shape, unit)]
-    name = area_name(source.system())
+    name = area_name(system)
     for overlap in wide:
         seen.find(f"features {overlap.first} and {overlap.second}: overlap by {overlap.shape.area:,.6g} {name}")
     for words in seen.findings:
         print(f"{source.name}: {words}")
     summarize(source, seen, frame, len(found) - len(wide), name)
     if arguments.out:
-        layers.write_layer(arguments.out, source.system(), OVERLAP_COLUMNS, overlap_rows(found), ogr.wkbUnknown)
+        layers.write_layer(arguments.out, system, OVERLAP_COLUMNS, overlap_rows(found), ogr.wkbUnknown)
     return FOUND if seen.findings else 0
 
 
