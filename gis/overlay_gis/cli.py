@@ -1,0 +1,59 @@
+"""The command `overlay-gis` and its verbs."""
+
+from __future__ import annotations
+
+import sys
+from argparse import ArgumentParser, RawDescriptionHelpFormatter
+
+import shapely
+from osgeo import gdal
+
+from . import __version__, check, explain, faces, from_grid, messages, run, show, to_grid
+from .faults import FAILED, Fault
+
+try:
+    from shapely import geos_version
+except ImportError:  # Shapely 1.8
+    from shapely.geos import geos_version
+
+VERBS = {"run": run, "faces": faces, "check": check, "to-grid": to_grid, "from-grid": from_grid, "show": show, "explain": explain}
+
+STATUSES = """exit status: 0 answered, 1 a file, the program or an output failed, 2 the command line is not accepted,
+3 the input is refused, 4 check found something
+
+The program is what OVERLAY names, else `overlay` on the path, else what stands beside this tool."""
+
+
+def parser() -> ArgumentParser:
+    top = ArgumentParser(prog="overlay-gis", description="Brings map data to the integer grid of `overlay`, and its answers back.", epilog=STATUSES, formatter_class=RawDescriptionHelpFormatter)
+    versions = f"overlay-gis {__version__} (GDAL {gdal.__version__}, Shapely {shapely.__version__}, GEOS {'.'.join(map(str, geos_version))})"
+    top.add_argument("--version", action="version", version=versions)
+    verbs = top.add_subparsers(dest="verb", metavar="VERB", required=True)
+    for name, verb in VERBS.items():
+        told = verbs.add_parser(name, help=verb.HELP, description=f"{verb.HELP[0].upper()}{verb.HELP[1:]}.", epilog=f"example:\n  {verb.EXAMPLE}", formatter_class=RawDescriptionHelpFormatter)
+        verb.add_arguments(told)
+        told.set_defaults(main=verb.main)
+    return top
+
+
+def main(words: list[str] | None = None) -> int:
+    for stream in (sys.stdout, sys.stderr):
+        stream.reconfigure(errors="backslashreplace")
+    arguments = parser().parse_args(words)
+    try:
+        return arguments.main(arguments)
+    except Fault as fault:
+        messages.say(str(fault))
+        return fault.status
+    except BrokenPipeError:
+        sys.stderr.close()
+        return FAILED
+    except OSError as error:
+        messages.say(f"{error.filename or 'a temporary file'}: {error.strerror}")
+        return FAILED
+    except KeyboardInterrupt:
+        messages.say("stopped")
+        return FAILED
+    except MemoryError:
+        messages.say("out of memory")
+        return FAILED

@@ -1,0 +1,27 @@
+"""What ends a command: one line with the name of what was at fault, and the reason."""
+
+from __future__ import annotations
+
+FAILED = 1
+REFUSED = 3
+FOUND = 4
+
+
+class Fault(Exception):
+    """A file, a program or an output failed. Exit status 1."""
+
+    status = FAILED
+
+    def __init__(self, name: str, reason: object):
+        super().__init__(name, reason)
+        self.name = name
+        self.reason = " ".join(str(reason).split())
+
+    def __str__(self) -> str:
+        return f"{self.name}: {self.reason}"
+
+
+class Refusal(Fault):
+    """The input can be read, and can't be answered as it was asked. Exit status 3."""
+
+    status = REFUSED

@@ -1,0 +1,184 @@
+"""Which point of the integer grid stands for which point of a reference system.
+
+A frame is the grid's unit, the point that becomes (0, 0), and the system. A coordinate goes to the nearest grid point,
+halves upward and to the right, as the program's own pixels do. That is exact: no sum here is rounded but the last.
+"""
+
+from __future__ import annotations
+
+import json
+from dataclasses import dataclass
+from decimal import Decimal, InvalidOperation
+from fractions import Fraction
+from typing import Callable
+
+from osgeo import osr
+
+from .faults import Fault, Refusal
+from .layers import Box, Polygon, system_from, unit_name
+
+# The program's limit of coordinates, in absolute value.
+LIMIT = 1 << 28
+
+# How far a corner may move, in grid units: half the diagonal of a pixel, told upward.
+REACH = Decimal("0.71")
+
+# The unit where none is asked for: a millimetre or its like, and about a decimetre in degrees.
+FINEST = Decimal("0.001")
+FINEST_DEGREES = Decimal("0.000001")
+
+# An origin is a multiple of so many units where that leaves room, so that it is short to write.
+ROUND_ORIGIN = 1000
+
+
+def plain(number: Decimal) -> str:
+    """Without an exponent and without zeros at the end."""
+    text = f"{number:f}"
+    return text.rstrip("0").rstrip(".") if "." in text else text
+
+
+@dataclass(frozen=True)
+class Frame:
+    unit: Decimal
+    origin: tuple[Decimal, Decimal]
+    system: str | None
+
+    def rounded(self) -> Callable[[float, float], tuple[int, int]]:
+        """The call that gives the grid point of a point."""
+        scale = Fraction(self.unit)
+        p, q = scale.numerator, scale.denominator
+        (ex, fx), (ey, fy) = ((Fraction(at) / scale - Fraction(1, 2)).as_integer_ratio() for at in self.origin)
+
+        def place(x: float, y: float) -> tuple[int, int]:
+            a, b = float(x).as_integer_ratio()
+            c, d = float(y).as_integer_ratio()
+            return (a * q * fx - ex * b * p) // (b * p * fx), (c * q * fy - ey * d * p) // (d * p * fy)
+
+        return place
+
+    def placed(self) -> Callable[[int, int], tuple[float, float]]:
+        """The call that gives the point of a grid point: the floating-point numbers next to its exact coordinates."""
+        scale = Fraction(self.unit)
+        both = [Fraction(at) for at in self.origin]
+        q = scale.denominator * both[0].denominator * both[1].denominator
+        p = scale.numerator * (q // scale.denominator)
+        ex, ey = (at.numerator * (q // at.denominator) for at in both)
+        return lambda x, y: ((x * p + ex) / q, (y * p + ey) / q)
+
+    def area(self, twice: int) -> float:
+        """The area, in square units of the system, of twice so many square units of the grid."""
+        return float(Fraction(self.unit) ** 2 * twice / 2)
+
+    def polygon(self, polygon: Polygon) -> Polygon:
+        """A polygon of the grid in the system's coordinates."""
+        placed = self.placed()
+        return [[placed(x, y) for x, y in ring] for ring in polygon]
+
+    def told(self, system: osr.SpatialReference | None) -> str:
+        """The frame, and what rounding means in it, in one line."""
+        name, reach = unit_name(system), REACH * self.unit
+        at = ", ".join(map(plain, self.origin))
+        return (
+            f"grid {plain(self.unit)} {name}, origin {at}: a corner moves by at most {plain(reach)} {name} (0.71 grid units), "
+            f"a border between two corners by at most {plain(2 * reach)}"
+        )
+
+    def saved(self, path: str) -> None:
+        text = json.dumps({"grid": plain(self.unit), "origin": list(map(plain, self.origin)), "system": self.system}, indent=2)
+        try:
+            with open(path, "w", encoding="utf-8") as file:
+                file.write(text + "\n")
+        except OSError as error:
+            raise Fault(path, error.strerror) from error
+
+
+def loaded(path: str) -> Frame:
+    """The frame that a file holds."""
+    try:
+        with open(path, encoding="utf-8-sig") as file:
+            held = json.load(file)
+        x, y = (Decimal(str(at)) for at in held["origin"])
+        return Frame(number(str(held["grid"]), path), (x, y), held["system"])
+    except OSError as error:
+        raise Fault(path, error.strerror) from error
+    except (ValueError, KeyError, TypeError, InvalidOperation) as error:
+        raise Refusal(path, "holds no grid, origin and system") from error
+
+
+def number(text: str, name: str = "--grid") -> Decimal:
+    """A grid unit as it was asked for."""
+    try:
+        unit = Decimal(text)
+    except InvalidOperation as error:
+        raise Refusal(name, f"{text} is no decimal number") from error
+    if not unit.is_finite() or unit <= 0:
+        raise Refusal(name, f"a grid unit is above 0, not {text}")
+    return unit
+
+
+def point(text: str) -> tuple[Decimal, Decimal]:
+    """An origin as it was asked for, X,Y."""
+    try:
+        x, y = map(Decimal, text.split(","))
+    except (InvalidOperation, ValueError) as error:
+        raise Refusal("--origin", f"{text} is no X,Y") from error
+    return x, y
+
+
+def finest_for(box: Box) -> Decimal:
+    """The least of 1, 2 and 5 times a power of ten whose grid has room for the box."""
+    extent = max(Fraction(box.right) - Fraction(box.left), Fraction(box.high) - Fraction(box.low))
+    least = Decimal("1e-9")
+    while True:
+        for factor in (1, 2, 5):
+            if extent <= (2 * LIMIT - 2) * Fraction(factor * least):
+                return factor * least
+        least *= 10
+
+
+def origin_for(box: Box, unit: Decimal) -> tuple[Decimal, Decimal]:
+    """The lower left corner, or the middle where only that leaves room: a multiple of the unit, a round one if it may be."""
+    middle = (Fraction(box.right) - Fraction(box.left) > (LIMIT - ROUND_ORIGIN) * Fraction(unit)) or (
+        Fraction(box.high) - Fraction(box.low) > (LIMIT - ROUND_ORIGIN) * Fraction(unit)
+    )
+    if middle:
+        x, y = (Fraction(box.left) + Fraction(box.right)) / 2, (Fraction(box.low) + Fraction(box.high)) / 2
+    else:
+        x, y = Fraction(box.left), Fraction(box.low)
+    for step in (ROUND_ORIGIN * unit, unit):
+        origin = (x // Fraction(step) * step, y // Fraction(step) * step)
+        if fits(box, unit, origin):
+            return origin
+    return origin
+
+
+def fits(box: Box, unit: Decimal, origin: tuple[Decimal, Decimal]) -> bool:
+    place = Frame(unit, origin, None).rounded()
+    corners = place(box.left, box.low) + place(box.right, box.high)
+    return all(-LIMIT <= at <= LIMIT for at in corners)
+
+
+def chosen(name: str, box: Box | None, system: osr.SpatialReference | None, unit: Decimal | None, origin: tuple[Decimal, Decimal] | None) -> Frame:
+    """The frame for a box: the unit and the origin that were asked for, or fitting ones. Refuses a unit that doesn't fit."""
+    held = code_of(system)
+    default = FINEST_DEGREES if system is not None and system.IsGeographic() else FINEST
+    if box is None:
+        return Frame(unit or default, origin or (Decimal(0), Decimal(0)), held)
+    finest = finest_for(box)
+    asked = unit or max(default, finest)
+    at = origin or origin_for(box, asked)
+    if not fits(box, asked, at):
+        if origin and fits(box, asked, origin_for(box, asked)):
+            raise Refusal(name, f"points lie off the limits of the grid, 2^28 units from the origin: leave --origin away, and one that fits is chosen")
+        raise Refusal(name, f"the grid {plain(asked)} has no room for all layers, which is 2^29 units each way: the finest that fits is --grid {plain(finest)}")
+    return Frame(asked, at, held)
+
+
+def code_of(system: osr.SpatialReference | None) -> str | None:
+    """The system's number where that says all of it, else its text."""
+    if system is None:
+        return None
+    code = system.GetAuthorityCode(None)
+    if code and system.IsSame(system_from(f"{system.GetAuthorityName(None)}:{code}"), ["IGNORE_DATA_AXIS_TO_SRS_AXIS_MAPPING=YES"]):
+        return f"{system.GetAuthorityName(None)}:{code}"
+    return system.ExportToWkt(["FORMAT=WKT2_2019", "MULTILINE=NO"])

@@ -1,0 +1,42 @@
+"""run: one set operation on two layers, from files to a file."""
+
+from __future__ import annotations
+
+from argparse import ArgumentParser, Namespace
+
+from osgeo import ogr
+
+from . import layers, options, program
+from .joined import Joined, check_overlaps, joined
+from .layers import Column, polygon_geometry
+from .messages import say
+from .texts import polygons_in, twice_area
+
+HELP = "does one set operation on two layers"
+EXAMPLE = "overlay-gis run intersection parcels.gpkg zones.gpkg -o common.gpkg"
+
+
+def add_arguments(parser: ArgumentParser) -> None:
+    parser.add_argument("operation", metavar="OP", choices=program.OPERATIONS, help=", ".join(program.OPERATIONS))
+    options.add_layers(parser)
+    options.add_output(parser, "the file for the result; its ending names its format, as .gpkg, .shp, .geojson")
+    options.add_grid(parser)
+    options.add_dissolve(parser)
+
+
+def rows(answer: Joined, text: str):
+    for number, polygon in enumerate(polygons_in(text, "overlay"), 1):
+        yield polygon_geometry(answer.frame.polygon(polygon)), (number, answer.frame.area(twice_area(polygon)))
+
+
+def main(arguments: Namespace) -> int:
+    layers.check_output(arguments.out, arguments.overwrite)
+    names = [arguments.a, arguments.b]
+    with joined(names, arguments.grid, arguments.origin, arguments.system, arguments.dissolve) as both:
+        for layer in both.layers:
+            check_overlaps(both, layer)
+        text = both.run(arguments.operation)
+        columns = [Column("id", ogr.OFTInteger64), Column("area", ogr.OFTReal)]
+        count = layers.write_layer(arguments.out, both.system, columns, rows(both, text))
+    say(f"{arguments.out}: {count:,} polygons")
+    return 0

@@ -1,0 +1,244 @@
+"""show: layers, edges and results on the grid, drawn over one another as an SVG picture."""
+
+from __future__ import annotations
+
+import sys
+from argparse import ArgumentParser, Namespace
+from dataclasses import dataclass, field
+from html import escape
+from typing import Iterator
+
+from .arrangement import ends
+from .faults import Fault, Refusal
+from .layers import Polygon
+from .texts import EDGES, LAYERS, Edge, edges_in, kind_of, polygons_in
+
+HELP = "draws layers, edges texts and results of the grid over one another"
+EXAMPLE = "overlay edges a.wkt b.wkt | overlay-gis show a.wkt b.wkt - -o rounding.svg"
+
+COLOURS = ("#2f6db5", "#c8642a", "#7d4aa8", "#3c8d4e", "#8a6d1f")
+BOTH = "#7d3fa0"
+RESULT = "#3c8d4e"
+HOT = "#ffdf80"
+EMPTY = "nothing in it"
+
+# The picture's sides, in pixels of the screen, and from which size of a grid pixel it shows pixels and lines.
+WIDTH, HEIGHT, MARGIN, LINE = 860, 560, 16, 20
+PIXEL_SHOWN, GRID_SHOWN = 4.0, 9.0
+
+
+def add_arguments(parser: ArgumentParser) -> None:
+    parser.add_argument("files", metavar="FILE", nargs="+", help="a text on the grid, told apart by its form: a layer, what `overlay edges` or what an operation printed; - is standard input")
+    parser.add_argument("-o", "--out", metavar="OUT.svg", help="the picture's file (default: standard output)")
+    parser.add_argument("--title", metavar="TEXT", default="", help="a line below the drawing")
+
+
+@dataclass
+class Shown:
+    """A file's text as it is drawn: polygons of a layer or a result, or edges."""
+
+    name: str
+    kind: str
+    colour: str
+    polygons: list[Polygon] = field(default_factory=list)
+    edges: list[Edge] = field(default_factory=list)
+
+    def points(self) -> Iterator[tuple[int, int]]:
+        for polygon in self.polygons:
+            for ring in polygon:
+                yield from ring
+        for edge in self.edges:
+            yield edge.p
+            yield edge.q
+
+    def told(self) -> str:
+        if self.kind == EDGES:
+            return f"{self.name}: {counted(len(self.edges), 'rounded edge')}"
+        return f"{self.name}: {self.kind}, {counted(len(self.polygons), 'polygon') if self.polygons else EMPTY}"
+
+    def outline(self) -> list[tuple]:
+        """The segments of all rings, each once, whichever way they run."""
+        return sorted({ends(a, b) for polygon in self.polygons for ring in polygon for a, b in zip(ring, ring[1:])})
+
+
+def counted(number: int, word: str) -> str:
+    return f"{number:,} {word}" + ("" if number == 1 else "s")
+
+
+def read(name: str, number: int) -> Shown:
+    """A file to be drawn, the so many-th layer of the command."""
+    try:
+        if name == "-":
+            text = sys.stdin.read()
+        else:
+            with open(name, encoding="utf-8-sig") as file:
+                text = file.read()
+    except OSError as error:
+        raise Fault(name, error.strerror) from error
+    except UnicodeDecodeError as error:
+        raise Refusal(name, "is no text") from error
+    kind, told = kind_of(text), "standard input" if name == "-" else name
+    if kind == EDGES:
+        return Shown(told, kind, BOTH, edges=list(edges_in(text, told)))
+    colour = COLOURS[number % len(COLOURS)] if kind == LAYERS else RESULT
+    return Shown(told, kind, colour, polygons=polygons_in(text, told))
+
+
+@dataclass
+class View:
+    """Where a point of the grid stands in the picture."""
+
+    left: int
+    high: int
+    scale: float
+    width: float
+    height: float
+
+    @classmethod
+    def of(cls, points: list[tuple[int, int]]) -> View:
+        xs, ys = [x for x, _ in points] or [0], [y for _, y in points] or [0]
+        left, right, low, high = min(xs) - 1, max(xs) + 1, min(ys) - 1, max(ys) + 1
+        scale = min((WIDTH - 2 * MARGIN) / (right - left), (HEIGHT - 2 * MARGIN) / (high - low))
+        return cls(left, high, scale, (right - left) * scale + 2 * MARGIN, (high - low) * scale + 2 * MARGIN)
+
+    def x(self, x: float) -> float:
+        return MARGIN + (x - self.left) * self.scale
+
+    def y(self, y: float) -> float:
+        return MARGIN + (self.high - y) * self.scale
+
+    def at(self, point: tuple[int, int]) -> str:
+        return f"{self.x(point[0]):.1f} {self.y(point[1]):.1f}"
+
+
+def grid_lines(view: View) -> Iterator[str]:
+    """The borders of the pixels, where they are large enough to be seen."""
+    if view.scale < GRID_SHOWN:
+        return
+    right, low = MARGIN + view.width - 2 * MARGIN, MARGIN + view.height - 2 * MARGIN
+    columns = range(round((right - MARGIN) / view.scale))
+    upright = " ".join(f"M{MARGIN + (k + 0.5) * view.scale:.1f} {MARGIN}V{low:.1f}" for k in columns)
+    level = " ".join(f"M{MARGIN} {MARGIN + (k + 0.5) * view.scale:.1f}H{right:.1f}" for k in range(round((low - MARGIN) / view.scale)))
+    yield f'<path d="{upright} {level}" stroke="#e4e4e4" stroke-width="0.7" fill="none"/>'
+
+
+def hot_pixels(view: View, files: list[Shown]) -> Iterator[str]:
+    """The ends of rounded edges, which are the hot pixels."""
+    if view.scale < PIXEL_SHOWN:
+        return
+    centres = sorted({end for file in files for edge in file.edges for end in (edge.p, edge.q)})
+    side = view.scale
+    squares = " ".join(f"M{view.x(x - 0.5):.1f} {view.y(y + 0.5):.1f}h{side:.1f}v{side:.1f}h-{side:.1f}z" for x, y in centres)
+    if centres:
+        yield f'<path d="{squares}" fill="{HOT}" stroke="#d9b64a" stroke-width="0.7"/>'
+
+
+def filled(view: View, file: Shown) -> Iterator[str]:
+    """The inside of a layer or of a result by parity, as it is read."""
+    rings = " ".join("M" + "L".join(view.at(point) for point in ring[:-1]) + "z" for polygon in file.polygons for ring in polygon)
+    opacity = 0.14 if file.kind == LAYERS else 0.4
+    if rings:
+        yield f'<path d="{rings}" fill="{file.colour}" fill-rule="evenodd" fill-opacity="{opacity}"/>'
+
+
+def outlined(view: View, file: Shown) -> Iterator[str]:
+    """The borders, dashed for a layer and solid for a result."""
+    lines = " ".join(f"M{view.at(a)}L{view.at(b)}" for a, b in file.outline())
+    dashes = ' stroke-dasharray="6 4"' if file.kind == LAYERS else ""
+    if lines:
+        yield f'<path d="{lines}" stroke="{file.colour}" stroke-width="1.4"{dashes} fill="none"/>'
+
+
+def edge_classes() -> list[tuple[str, str, bool, bool]]:
+    """Colour and words of an edge by the layers that have it."""
+    return [(COLOURS[0], "edges of A", True, False), (COLOURS[1], "edges of B", False, True), (BOTH, "edges of both", True, True)]
+
+
+def edges_drawn(view: View, file: Shown) -> Iterator[str]:
+    """Rounded edges, thick where they are borders by parity, thin where an even number cancels."""
+    for colour, _, first, second in edge_classes():
+        for odd, width in ((True, 2.4), (False, 1.0)):
+            chosen = [e for e in file.edges if (e.counts[0] > 0) == first and (e.counts[1] > 0) == second and any(count % 2 for count in e.counts) == odd]
+            lines = " ".join(f"M{view.at(e.p)}L{view.at(e.q)}" for e in chosen)
+            if chosen:
+                yield f'<path d="{lines}" stroke="{colour}" stroke-width="{width}" stroke-linecap="round" fill="none"/>'
+    if file.edges and view.scale >= PIXEL_SHOWN:
+        dots = sorted({end for edge in file.edges for end in (edge.p, edge.q)})
+        yield "".join(f'<circle cx="{view.x(x):.1f}" cy="{view.y(y):.1f}" r="2.2" fill="#333"/>' for x, y in dots)
+
+
+def signs(view: View, files: list[Shown]) -> list[tuple[str, str]]:
+    """The legend: a sign, 24 wide, and what it means."""
+    told = []
+    for file in files:
+        if file.kind == EDGES:
+            told.append(('<path d="M0 0H24" stroke="#333" stroke-width="2.4"/>', file.told()))
+        else:
+            dashed = ' stroke-dasharray="6 4"' if file.kind == LAYERS else ""
+            told.append((f'<rect y="-6" width="24" height="12" fill="{file.colour}" fill-opacity="0.2" stroke="{file.colour}" stroke-width="1.4"{dashed}/>', file.told()))
+    edges = [edge for file in files for edge in file.edges]
+    for colour, words, first, second in edge_classes():
+        if any((edge.counts[0] > 0) == first and (edge.counts[1] > 0) == second for edge in edges):
+            told.append((f'<path d="M0 0H24" stroke="{colour}" stroke-width="2.4"/>', words))
+    if any(not any(count % 2 for count in edge.counts) for edge in edges):
+        told.append(('<path d="M0 0H24" stroke="#333" stroke-width="1"/>', "thin: occurs an even number of times, no border"))
+    if edges and view.scale >= PIXEL_SHOWN:
+        told.append((f'<rect x="6" y="-6" width="12" height="12" fill="{HOT}" stroke="#d9b64a"/>', "hot pixel"))
+    return told
+
+
+def legend(view: View, files: list[Shown], title: str) -> tuple[list[str], float]:
+    """The title and the legend below the drawing, the legend in two columns, and where they end."""
+    told, lines, top = signs(view, files), [], view.height + LINE / 2
+    if title:
+        lines.append(f'<text x="{MARGIN}" y="{top:.1f}" font-weight="bold">{escape(title)}</text>')
+        top += LINE
+    column = max(view.width, 640) / 2
+    for number, (sign, words) in enumerate(told):
+        x, y = MARGIN + (number % 2) * column, top + (number // 2) * LINE
+        lines.append(f'<g transform="translate({x:.1f} {y:.1f})">{sign}<text x="32" y="4">{escape(words)}</text></g>')
+    return lines, top + (len(told) + 1) // 2 * LINE
+
+
+def scale_bar(view: View, top: float) -> str:
+    """A bar of 1, 2 or 5 times a power of ten grid units."""
+    room, units = 160 / view.scale, 1
+    while not units <= room < 2 * units:
+        step = next((factor for factor in (5, 2) if units * factor <= room and units * 10 > room), 10 if units * 10 <= room else 0)
+        if not step:
+            break
+        units *= step
+    length = units * view.scale
+    words = f"{units:,} grid unit" + ("s" if units > 1 else "")
+    bar = f'<path d="M0 -4V4M0 0H{length:.1f}M{length:.1f} -4V4" stroke="#333" fill="none"/>'
+    return f'<g transform="translate({MARGIN} {top:.1f})">{bar}<text x="{length + 8:.1f}" y="4">{words}</text></g>'
+
+
+def picture(files: list[Shown], title: str) -> str:
+    view = View.of([point for file in files for point in file.points()])
+    told, bottom = legend(view, files, title)
+    width, height = max(view.width, 640 + 2 * MARGIN), bottom + LINE
+    drawn = [line for file in files for line in filled(view, file)]
+    drawn += [*grid_lines(view), *hot_pixels(view, files)]
+    for file in files:
+        drawn += [*outlined(view, file), *edges_drawn(view, file)]
+    head = f'<svg xmlns="http://www.w3.org/2000/svg" viewBox="0 0 {width:.0f} {height:.0f}" width="{width:.0f}" height="{height:.0f}" font-family="sans-serif" font-size="13">'
+    return "\n".join([head, '<rect width="100%" height="100%" fill="white"/>', *drawn, *told, scale_bar(view, bottom), "</svg>", ""])
+
+
+def main(arguments: Namespace) -> int:
+    numbers, files = 0, []
+    for name in arguments.files:
+        file = read(name, numbers)
+        numbers += file.kind == LAYERS
+        files.append(file)
+    text = picture(files, arguments.title)
+    if not arguments.out:
+        sys.stdout.write(text)
+        return 0
+    try:
+        with open(arguments.out, "w", encoding="utf-8") as out:
+            out.write(text)
+    except OSError as error:
+        raise Fault(arguments.out, error.strerror) from error
+    return 0

@@ -1,0 +1,83 @@
+"""The command itself: help, versions, statuses, and the pages and completions beside it."""
+
+import re
+import shlex
+import subprocess
+import sys
+from pathlib import Path
+
+import pytest
+from shapely.geometry import box
+
+from conftest import COMMAND, EAST, NORTH, write
+from overlay_gis import __version__, cli
+
+TOP = Path(__file__).resolve().parents[2]
+PAGE = (TOP / "docs" / "overlay.1").read_text().replace("\\-", "-")
+
+
+def options_of(verb):
+    told = cli.parser()._subparsers._group_actions[0].choices[verb]
+    return {word for action in told._actions for word in action.option_strings if word.startswith("--")}
+
+
+@pytest.mark.parametrize("verb", cli.VERBS)
+def test_help_has_an_example_that_is_accepted(gis, verb):
+    answer = gis(verb, "--help")
+    example = answer.out.partition("example:\n")[2].strip()
+    assert answer.status == 0 and f"overlay-gis {verb}" in example
+    words = shlex.split(example.rpartition("overlay-gis ")[2], comments=True)
+    assert cli.parser().parse_args(words).verb == verb
+
+
+def test_versions(gis):
+    answer = gis("--version")
+    assert answer.status == 0 and re.fullmatch(rf"overlay-gis {re.escape(__version__)} \(GDAL [\d.]+, Shapely [\d.]+, GEOS [\d.]+\)\n", answer.out)
+
+
+@pytest.mark.parametrize("words", [[], ["fly"], ["run", "xor", "a", "b", "-o", "c.gpkg"], ["run", "union", "a", "b"], ["explain", "a", "x"]])
+def test_command_lines_that_are_not_accepted(gis, words):
+    answer = gis(*words)
+    assert answer.status == 2 and answer.err.startswith("usage: ")
+
+
+def test_the_script_as_a_user_calls_it(tmp_path, program):
+    a, b = write(tmp_path / "a.gpkg", [box(EAST, NORTH, EAST + 2, NORTH + 2)]), write(tmp_path / "b.gpkg", [box(EAST + 1, NORTH, EAST + 3, NORTH + 2)])
+    done = subprocess.run([COMMAND, "run", "union", a, b, "-o", "out.gpkg"], cwd=tmp_path, stderr=subprocess.PIPE, check=False)
+    assert done.returncode == 0 and done.stderr.decode().splitlines()[-1] == "overlay-gis: out.gpkg: 1 polygons"
+
+
+def test_a_reader_that_goes_away(tmp_path):
+    (tmp_path / "a.wkt").write_text("\n".join(f"POLYGON (({k} 0, {k + 1} 0, {k} 1, {k} 0))" for k in range(50_000)))
+    done = subprocess.run(f"{sys.executable} {COMMAND} show a.wkt | head -c 10", shell=True, cwd=tmp_path, capture_output=True, check=False)
+    assert done.stderr == b"" and done.stdout == b'<svg xmlns'
+
+
+def test_the_manual_page_tells_what_the_program_knows(program):
+    told = subprocess.run([program, "--help"], stdout=subprocess.PIPE, check=True).stdout.decode()
+    for word in re.findall(r"--[a-z]+", told):
+        assert word in PAGE
+    for word in ("union", "intersection", "difference", "symdifference", "edges", "268435456", "/dev/stdin", "parity"):
+        assert word in PAGE
+
+
+def test_bash_completes_verbs_options_and_commands():
+    def completed(name, *words):
+        line = " ".join(map(shlex.quote, words))
+        script = f"compopt() {{ :; }}; source {TOP}/completions/{name}.bash; COMP_WORDS=({name} {line}); COMP_CWORD={len(words)}; _{name.replace('-', '_')}; echo ${{COMPREPLY[@]}}"
+        return set(subprocess.run(["bash", "-c", script], stdout=subprocess.PIPE, check=True).stdout.decode().split())
+
+    assert completed("overlay", "") == {"union", "intersection", "difference", "symdifference", "edges"}
+    assert completed("overlay", "--") == {"--tile", "--workers", "--report", "--help"}
+    assert completed("overlay-gis", "") == set(cli.VERBS)
+    for verb in cli.VERBS:
+        assert completed("overlay-gis", verb, "--") == options_of(verb)
+
+
+@pytest.mark.parametrize("verb", cli.VERBS)
+def test_zsh_completes_all_options(verb):
+    text = (TOP / "completions" / "_overlay-gis").read_text()
+    line = next(line for line in text.splitlines() if line.strip().startswith(f"{verb})"))
+    for name in ("help", "out", "grid"):
+        line = line.replace(f"${name}", next(whole for whole in text.splitlines() if whole.strip().startswith(f"{name}=")))
+    assert options_of(verb) == set(re.findall(r"--[a-z-]+", line))

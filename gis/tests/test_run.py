@@ -1,0 +1,240 @@
+"""run: Shapely judges the areas, and the bytes don't depend on the format."""
+
+import random
+import resource
+import subprocess
+import sys
+
+import pytest
+from osgeo import gdal, ogr
+from shapely.affinity import translate
+from shapely.geometry import Point, Polygon, box
+from shapely.ops import unary_union
+
+from conftest import COMMAND, EAST, NORTH, blobs, parcels, read, write
+
+JUDGE = {"union": "union", "intersection": "intersection", "difference": "difference", "symdifference": "symmetric_difference"}
+
+
+def perimeter(shapes):
+    return sum(shape.length for shape in shapes)
+
+
+def judged(gis, tmp_path, operation, first, second, unit, reach):
+    """Runs an operation, and has Shapely compare the area and the validity; `reach` is how far a border may move, in units."""
+    a, b, out = write(tmp_path / "a.gpkg", first), write(tmp_path / "b.gpkg", second), tmp_path / "out.gpkg"
+    answer = gis("run", operation, a, b, "-o", out, "--grid", unit)
+    assert answer.status == 0, answer.err
+    result = read(out)
+    wanted = getattr(unary_union(first), JUDGE[operation])(unary_union(second)).area
+    area = sum(shape.area for shape, _ in result)
+    assert abs(area - wanted) <= reach * float(unit) * (perimeter(first) + perimeter(second))
+    assert all(shape.is_valid for shape, _ in result)
+    assert sum(fields["area"] for _, fields in result) == pytest.approx(area, rel=1e-6)
+    return result, answer
+
+
+@pytest.mark.parametrize("operation", JUDGE)
+@pytest.mark.parametrize("digits, unit", [(2, "0.01"), (3, "0.001"), (2, "0.001")])
+def test_areas_on_the_grid(gis, tmp_path, operation, digits, unit):
+    _, answer = judged(gis, tmp_path, operation, parcels(11, digits), blobs(12, digits), unit, 0.71)
+    assert "warning" not in answer.err
+
+
+@pytest.mark.parametrize("operation", JUDGE)
+@pytest.mark.parametrize("unit", ["1", "0.25", "0.0001"])
+def test_areas_off_the_grid(gis, tmp_path, operation, unit):
+    judged(gis, tmp_path, operation, parcels(21, 7), blobs(22, 7), unit, 1.42)
+
+
+def test_what_rounding_means_is_told(gis, tmp_path):
+    shape = [box(EAST + 15, NORTH + 0.5, EAST + 99, NORTH + 70)]
+    _, answer = judged(gis, tmp_path, "union", shape, shape, "0.01", 0.71)
+    told = "grid 0.01 m, origin 412010, 5654000: a corner moves by at most 0.0071 m (0.71 grid units), a border between two corners by at most 0.0142"
+    assert told in answer.err
+
+
+def test_formats_give_the_same_bytes(gis, tmp_path):
+    first, second, seen = parcels(31, 3), blobs(32, 3), set()
+    for ending in ("gpkg", "shp", "geojson"):
+        a, b = write(tmp_path / f"a.{ending}", first), write(tmp_path / f"b.{ending}", second)
+        assert gis("run", "difference", a, b, "-o", "out.geojson", "--overwrite").status == 0
+        seen.add((tmp_path / "out.geojson").read_bytes())
+    assert len(seen) == 1
+
+
+@pytest.mark.parametrize("ending", ["gpkg", "shp", "geojson", "fgb"])
+def test_results_are_written_as_the_ending_says(gis, tmp_path, ending):
+    a, b = write(tmp_path / "a.gpkg", [box(EAST, NORTH, EAST + 4, NORTH + 4)]), write(tmp_path / "b.gpkg", [box(EAST + 2, NORTH + 2, EAST + 6, NORTH + 6)])
+    assert gis("run", "intersection", a, b, "-o", f"out.{ending}").status == 0
+    (shape, fields), = read(tmp_path / f"out.{ending}")
+    assert shape.equals(box(EAST + 2, NORTH + 2, EAST + 4, NORTH + 4))
+    assert (fields["id"], fields["area"]) == (1, 4.0)
+    assert gdal.OpenEx(f"out.{ending}").GetLayer(0).GetSpatialRef().GetName() == "ETRS89 / UTM zone 32N"
+
+
+def test_the_whole_range_of_the_grid(gis, tmp_path):
+    first, second = [box(-268435, -268435, 268435, 268435)], [box(0, 0, 268435.25, 1)]
+    judged(gis, tmp_path, "difference", first, second, "0.001", 0.71)
+
+
+def test_a_grid_that_is_too_fine_is_refused(gis, tmp_path):
+    a, b = write(tmp_path / "a.gpkg", [box(0, 0, 600000, 1)]), write(tmp_path / "b.gpkg", [box(0, 0, 1, 1)])
+    answer = gis("run", "union", a, b, "-o", "out.gpkg", "--grid", "0.001")
+    assert (answer.status, answer.err.count("\n")) == (3, 1)
+    assert "the finest that fits is --grid 0.002" in answer.err
+    assert gis("run", "union", a, b, "-o", "out.gpkg").status == 0
+
+
+def test_overlaps_are_told_and_united(gis, tmp_path):
+    first = [box(EAST, NORTH, EAST + 10, NORTH + 10), box(EAST + 5, NORTH, EAST + 15, NORTH + 10)]
+    a, b = write(tmp_path / "a.gpkg", first), write(tmp_path / "b.gpkg", [])
+    answer = gis("run", "union", a, b, "-o", "out.gpkg")
+    assert answer.status == 0
+    assert "a.gpkg: warning: its polygons have 200 m² in sum, and 100 by parity" in answer.err
+    assert sum(shape.area for shape, _ in read("out.gpkg")) == pytest.approx(100)
+    answer = gis("run", "union", a, b, "-o", "out.gpkg", "--dissolve", "--overwrite")
+    assert "by parity" not in answer.err
+    assert sum(shape.area for shape, _ in read("out.gpkg")) == pytest.approx(150)
+
+
+def test_a_small_overlap_among_many_parcels_is_told(gis, tmp_path):
+    first = [box(EAST + 30 * k, NORTH, EAST + 30 * k + 30, NORTH + 30) for k in range(200)] + [box(EAST + 10, NORTH + 10, EAST + 10.5, NORTH + 10.5)]
+    a, b = write(tmp_path / "a.gpkg", first), write(tmp_path / "b.gpkg", [box(EAST, NORTH, EAST + 1, NORTH + 1)])
+    assert "a.gpkg: warning: its polygons have" in gis("run", "union", a, b, "-o", "out.gpkg").err
+
+
+def test_empty_layers(gis, tmp_path):
+    a, b = write(tmp_path / "a.gpkg", []), write(tmp_path / "b.gpkg", [None, box(EAST, NORTH, EAST + 1, NORTH + 1)])
+    answer = gis("run", "intersection", a, b, "-o", "out.gpkg")
+    assert answer.status == 0
+    assert "a.gpkg: warning: the layer has no features" in answer.err
+    assert "b.gpkg: warning: no geometry, left out: feature 1" in answer.err
+    assert read("out.gpkg") == []
+
+
+def test_z_coordinates_are_left_out(gis, tmp_path):
+    solid = ogr.CreateGeometryFromWkt(f"POLYGON Z (({EAST} {NORTH} 7, {EAST + 4} {NORTH} 7.5, {EAST + 4} {NORTH + 4} 8, {EAST} {NORTH} 7))")
+    a, b = write(tmp_path / "a.gpkg", [solid], kind=ogr.wkbPolygon25D), write(tmp_path / "b.gpkg", [])
+    answer = gis("run", "union", a, b, "-o", "out.gpkg")
+    assert "has Z coordinates, which are left out" in answer.err
+    (shape, _), = read("out.gpkg")
+    assert shape.area == 8 and not shape.has_z
+
+
+def test_curves_become_lines(gis, tmp_path):
+    curve = ogr.CreateGeometryFromWkt(f"CURVEPOLYGON (CIRCULARSTRING ({EAST} {NORTH}, {EAST + 10} {NORTH}, {EAST} {NORTH}))")
+    a, b = write(tmp_path / "a.gpkg", [curve]), write(tmp_path / "b.gpkg", [])
+    assert gis("run", "union", a, b, "-o", "out.gpkg").status == 0
+    assert sum(shape.area for shape, _ in read("out.gpkg")) == pytest.approx(Point(0, 0).buffer(5, 90).area, rel=0.002)
+
+
+def test_a_byte_order_mark_is_no_fault(gis, tmp_path):
+    a, b = write(tmp_path / "a.geojson", [box(EAST, NORTH, EAST + 4, NORTH + 4)]), write(tmp_path / "b.gpkg", [])
+    (tmp_path / "a.geojson").write_bytes(b"\xef\xbb\xbf" + (tmp_path / "a.geojson").read_bytes())
+    assert gis("run", "union", a, b, "-o", "out.gpkg").status == 0
+    assert [shape.area for shape, _ in read("out.gpkg")] == [16]
+
+
+def test_systems_have_to_be_one(gis, tmp_path):
+    shape = [box(EAST, NORTH, EAST + 4, NORTH + 4)]
+    a, b, c = write(tmp_path / "a.gpkg", shape), write(tmp_path / "b.gpkg", shape, "EPSG:25833"), write(tmp_path / "c.shp", shape, None)
+    answer = gis("run", "union", a, b, "-o", "out.gpkg")
+    assert answer.status == 3 and "b.gpkg: has EPSG:25833, and" in answer.err and "has EPSG:25832" in answer.err
+    answer = gis("run", "union", a, c, "-o", "out.gpkg")
+    assert answer.status == 3 and "c.shp: has no reference system" in answer.err and "--system" in answer.err
+    assert gis("run", "union", a, c, "-o", "out.gpkg", "--system", "EPSG:25832").status == 0
+
+
+def test_layers_of_one_file(gis, tmp_path):
+    write(tmp_path / "a.gpkg", [box(EAST, NORTH, EAST + 4, NORTH + 4)])
+    gdal.VectorTranslate("a.gpkg", gdal.OpenEx(write(tmp_path / "b.gpkg", [box(EAST + 1, NORTH, EAST + 2, NORTH + 4)])), accessMode="append", layerName="b")
+    answer = gis("run", "union", "a.gpkg", "b.gpkg", "-o", "out.gpkg")
+    assert answer.status == 3 and "has 2 layers (a, b): name one, as a.gpkg|layername=a" in answer.err
+    assert gis("run", "difference", "a.gpkg|layername=a", "a.gpkg|layername=b", "-o", "out.gpkg").status == 0
+    assert sum(shape.area for shape, _ in read("out.gpkg")) == 12
+    assert "has no layer c, but a, b" in gis("run", "union", "a.gpkg|layername=c", "b.gpkg", "-o", "out2.gpkg").err
+
+
+@pytest.mark.parametrize("name, data", [("none.gpkg", None), ("empty.gpkg", b""), ("empty.geojson", b""), ("broken.geojson", b'{"type": "FeatureCollection", "features": [{')])
+def test_unreadable_files(gis, tmp_path, name, data):
+    if data is not None:
+        (tmp_path / name).write_bytes(data)
+    b = write(tmp_path / "b.gpkg", [])
+    answer = gis("run", "union", name, b, "-o", "out.gpkg")
+    assert answer.status == 1 and answer.err.startswith(f"overlay-gis: {name}: ") and answer.err.count("\n") == 1
+    assert not (tmp_path / "out.gpkg").exists()
+
+
+def test_truncated_files(gis, tmp_path):
+    shapes = parcels(41, 3)
+    write(tmp_path / "a.shp", shapes)
+    data = (tmp_path / "a.shp").read_bytes()
+    (tmp_path / "a.shp").write_bytes(data[: len(data) // 2])
+    answer = gis("run", "union", "a.shp", write(tmp_path / "b.gpkg", []), "-o", "out.gpkg")
+    assert answer.status == 1 and answer.err.startswith("overlay-gis: a.shp: ")
+
+
+def test_what_is_no_polygon_is_refused(gis, tmp_path):
+    a = write(tmp_path / "a.gpkg", [box(EAST, NORTH, EAST + 4, NORTH + 4), Point(EAST, NORTH)])
+    answer = gis("run", "union", a, a, "-o", "out.gpkg")
+    assert answer.status == 3 and "feature 2 is no polygon but POINT" in answer.err
+
+
+def test_outputs_that_cannot_be(gis, tmp_path):
+    a = write(tmp_path / "a.gpkg", [box(EAST, NORTH, EAST + 4, NORTH + 4)])
+    (tmp_path / "there.gpkg").write_text("mine")
+    for out, words, status in (("there.gpkg", "is there already", 3), ("out.xyz", "files that end in .xyz", 3), ("out", "has no ending", 3), ("no/out.gpkg", "its folder isn't there", 1)):
+        answer = gis("run", "union", a, a, "-o", out)
+        assert answer.status == status and answer.err.startswith(f"overlay-gis: {out}: ")
+        assert words in answer.err
+    assert (tmp_path / "there.gpkg").read_text() == "mine"
+
+
+def test_the_program_refuses(gis, tmp_path, pretend):
+    a = write(tmp_path / "a.gpkg", [box(EAST, NORTH, EAST + 4, NORTH + 4)])
+    pretend("echo 'overlay: 5 too many segments: 1048577' >&2; exit 3\n")
+    answer = gis("run", "union", a, a, "-o", "out.gpkg")
+    assert answer.status == 3 and "overlay: overlay says: 5 too many segments: 1048577 (the limit of both layers" in answer.err
+    pretend("echo 'overlay: A: 1 syntax at 3' >&2; exit 3\n")
+    assert f"overlay-gis: {a}: overlay says: 1 syntax at 3" in gis("run", "union", a, a, "-o", "out.gpkg").err
+    pretend("kill -9 $$\n")
+    answer = gis("run", "union", a, a, "-o", "out.gpkg")
+    assert answer.status == 1 and "status -9" in answer.err
+    assert not (tmp_path / "out.gpkg").exists()
+
+
+def test_no_program(gis, tmp_path, monkeypatch):
+    a = write(tmp_path / "a.gpkg", [box(EAST, NORTH, EAST + 4, NORTH + 4)])
+    monkeypatch.setenv("OVERLAY", "/nowhere/overlay")
+    answer = gis("run", "union", a, a, "-o", "out.gpkg")
+    assert answer.status == 1 and answer.err.splitlines()[-1] == "overlay-gis: /nowhere/overlay: No such file or directory"
+
+
+def test_borders_nearly_on_one_another(gis, tmp_path):
+    rng = random.Random(7)
+    first = parcels(51, 7)
+    second = [translate(shape, rng.uniform(-2e-3, 2e-3), rng.uniform(-2e-3, 2e-3)) for shape in first[:18]]
+    a, b = write(tmp_path / "a.gpkg", first), write(tmp_path / "b.gpkg", second)
+    assert gis("run", "intersection", a, b, "-o", "out.gpkg", "--grid", "0.01", "--dissolve").status == 0
+    wanted, result = unary_union(first).intersection(unary_union(second)), read("out.gpkg")
+    assert all(shape.is_valid for shape, _ in result)
+    assert abs(sum(shape.area for shape, _ in result) - wanted.area) <= 0.0142 * (perimeter(first) + perimeter(second))
+
+
+def test_a_star_of_thin_polygons(gis, tmp_path):
+    star = Polygon([(EAST, NORTH), (EAST + 90, NORTH + 31.7), (EAST + 3, NORTH + 55), (EAST + 60.2, NORTH), (EAST + 50.1, NORTH + 70), (EAST, NORTH)])
+    a, b = write(tmp_path / "a.gpkg", [star]), write(tmp_path / "b.gpkg", [])
+    answer = gis("run", "union", a, b, "-o", "out.gpkg")
+    assert answer.status == 0 and "overlap or cross themselves" in answer.err
+    assert all(shape.is_valid for shape, _ in read("out.gpkg"))
+
+
+@pytest.mark.parametrize("out, room", [("out.gpkg", 40_000), ("out.gpkg", 150_000), ("out.geojson", 150_000), ("out.shp", 75_000), ("out.gpkg", 10)])
+def test_an_output_that_has_no_room(tmp_path, out, room):
+    a, b = write(tmp_path / "a.gpkg", [Point(EAST + 3 * k, NORTH).buffer(1, 9) for k in range(220)]), write(tmp_path / "b.gpkg", [])
+    words = [sys.executable, COMMAND, "run", "union", a, b, "-o", out]
+    done = subprocess.run(words, stderr=subprocess.PIPE, cwd=tmp_path, preexec_fn=lambda: resource.setrlimit(resource.RLIMIT_FSIZE, (room, room)), check=False)
+    lines = done.stderr.decode().splitlines()
+    assert done.returncode == 1 and all(line.startswith("overlay-gis: ") for line in lines), lines
+    assert not (tmp_path / out).exists()
