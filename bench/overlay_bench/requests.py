@@ -1,7 +1,4 @@
-#!/usr/bin/env python3
-"""Counts the requests for memory of `gather` with an empty and with a full book, on the row of chain_gather's tests.
-
-    python3 bench/gather_requests.py
+"""counts the requests for memory of `gather` with an empty and with a full book, on the row of chain_gather's tests
 
 A copy of the crate gets four tests more: what goes before `gather`, and that with `gather`, for either book. Each is run by `rt try`
 with its N-th request refused; the least N with which it passes is one more than the number of its requests. Exit status 1 where a
@@ -14,7 +11,8 @@ import subprocess
 import sys
 import tempfile
 
-ROOT = os.path.dirname(os.path.dirname(os.path.abspath(__file__)))
+from .programs import ROOT
+
 CALL = "    gather(own, book, &grid, &bins, &segments)\n"
 TEST = """
 #[test]
@@ -85,7 +83,11 @@ def requests(crate):
     return counts
 
 
-def main():
+def add_arguments(parser):
+    pass
+
+
+def main(arguments):
     with tempfile.TemporaryDirectory() as folder:
         counts = requests(copied(folder))
     made = {book: counts["gathered_with_%s_book" % book] - counts["prepared_with_%s_book" % book] for book, _ in BOOKS}
@@ -93,6 +95,3 @@ def main():
         print("%s book: %d requests by gather, the %d-th refused changes nothing" % (book, count, count + 1))
     return 0 if 0 < made["full"] < made["empty"] else 1
 
-
-if __name__ == "__main__":
-    sys.exit(main())

@@ -144,13 +144,13 @@ fn measure(name: &str, short: bool) {
     for _ in 0..ROUNDS {
         let start = Instant::now();
         let odd = ask(&edges);
-        println!("plain odd_above {name} {} {odd}", start.elapsed().as_micros());
+        println!("odd_above_{name} {} {odd}", start.elapsed().as_micros());
         let start = Instant::now();
         let sum = meet(&boxes, &mut found, false);
-        println!("plain meet_boxes {name} {} {sum}", start.elapsed().as_micros());
+        println!("meet_boxes_{name} {} {sum}", start.elapsed().as_micros());
         let start = Instant::now();
         let sum = meet(&boxes, &mut found, true);
-        println!("plain meet_boxes half_of_{name} {} {sum}", start.elapsed().as_micros());
+        println!("meet_boxes_half_of_{name} {} {sum}", start.elapsed().as_micros());
     }
 }
 

@@ -1,21 +1,14 @@
-#!/usr/bin/env python3
-"""laws.py - the laws of noding_law and points_law, tried as they are written on small random cases.
+"""tries the laws of noding_law and points_law, as they are written, on small random cases
 
 The definitions are those of crates/geom/specs, in exact arithmetic and without any short cut. Every law is tried on random
-cases, and then with a premise dropped on a case where its conclusion fails. Exit status 0: all laws held, and every dropped
-premise made its law fail.
-
-    laws.py [--cases N] [--seed N] [--reference FILE]
-
-With --reference the rounded edges and the result edges are also compared with those of FILE, a Python module that has
-`hot_pixels`, `route`, `rounded_edges` and `result_edges`.
+cases, and then with a premise dropped on a case where its conclusion fails. The rounded edges and the result edges are also
+compared with those of the exact reference. Exit status 0: all laws held, and every dropped premise made its law fail.
 """
-import argparse
-import importlib.util
 import random
-import sys
 from fractions import Fraction
 from math import ceil, floor
+
+import reference
 
 HALF = Fraction(1, 2)
 K = 2**64
@@ -381,7 +374,7 @@ def points_to_try(rng, counted, size):
     return points
 
 
-def try_case(rng, size, reference):
+def try_case(rng, size):
     """The first law that a random case contradicts, with the case."""
     free = random_segments(rng, size)
     broken = rounded_edges_are_noded(free) or rounded_has_even_degrees(free)
@@ -399,7 +392,7 @@ def try_case(rng, size, reference):
         broken = broken or result_has_parity(op, counted, directed, points) or result_has_even_degrees(directed)
         broken = broken or result_edges_close(directed) or next_edge_is_one_to_one(directed) or holes_are_grounded(op, counted, directed)
         broken = broken or try_text(op, counted, directed, points)
-        broken = broken or (reference and compare(reference, segments, counted, name, directed))
+        broken = broken or compare(segments, counted, name, directed)
     return (broken, segments) if broken else None
 
 
@@ -410,12 +403,12 @@ def try_text(op, counted, directed, points):
     return text_has_parity(op, counted, rings, points) or text_has_parity(op, counted, pieces, points)
 
 
-def compare(reference, segments, counted, name, directed):
+def compare(segments, counted, name, directed):
     hot = reference.hot_pixels(segments)
     theirs = reference.rounded_edges(segments, [reference.route(s, hot) for s in segments])
     if {e: tuple(c) for e, c in theirs.items()} != {e: tuple(c) for e, c in counted.items()}:
         return "the reference has other rounded edges"
-    if sorted(reference.result_edges(theirs, name)) != directed:
+    if reference.result_edges(reference.side_parities(theirs), reference.OPERATIONS[name]) != directed:
         return f"the reference has another {name}"
     return None
 
@@ -479,29 +472,20 @@ def dropped_premises():
     yield "segments that don't close, even degrees", None if has_even_degrees(odd_edges(0, rounded_edges(TWO_SEGMENTS))) else "an odd degree"
 
 
-def main():
-    words = argparse.ArgumentParser(description=__doc__, formatter_class=argparse.RawDescriptionHelpFormatter)
-    words.add_argument("--cases", type=int, default=2000)
-    words.add_argument("--seed", type=int, default=1)
-    words.add_argument("--reference")
-    given = words.parse_args()
-    reference = None
-    if given.reference:
-        spec = importlib.util.spec_from_file_location("reference", given.reference)
-        reference = importlib.util.module_from_spec(spec)
-        spec.loader.exec_module(reference)
-    rng = random.Random(given.seed)
-    for case in range(given.cases):
-        broken = try_case(rng, rng.randint(2, 7), reference)
+def add_arguments(parser):
+    parser.add_argument("--cases", type=int, default=2000)
+    parser.add_argument("--seed", type=int, default=1)
+
+
+def main(arguments):
+    rng = random.Random(arguments.seed)
+    for case in range(arguments.cases):
+        broken = try_case(rng, rng.randint(2, 7))
         if broken:
             print(f"case {case}: {broken[0]}: {broken[1]}")
             return 1
-    print(f"{given.cases} cases: every law held")
+    print(f"{arguments.cases} cases, seed {arguments.seed}: every law held")
     kept = [premise for premise, broken in dropped_premises() if not broken]
     for premise, broken in dropped_premises():
         print(f"without the premise ({premise}): {broken or 'NOTHING FAILED'}")
     return 1 if kept else 0
-
-
-if __name__ == "__main__":
-    sys.exit(main())

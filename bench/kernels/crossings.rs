@@ -119,9 +119,9 @@ fn main() {
         let all = samples(4096, range);
         let start = Instant::now();
         let sum = cross_all(&all, 1000);
-        println!("{name} cross {} ms, sum {sum}", start.elapsed().as_millis());
+        println!("cross_{name} {} {sum}", start.elapsed().as_micros());
         let start = Instant::now();
         let sum = meet_all(&all, 1000);
-        println!("{name} meets {} ms, sum {sum}", start.elapsed().as_millis());
+        println!("meets_{name} {} {sum}", start.elapsed().as_micros());
     }
 }

@@ -1,0 +1,1 @@
+"""Measurements and comparisons of the built program; `bench/run` lists them."""

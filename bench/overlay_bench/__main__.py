@@ -1,0 +1,29 @@
+"""`bench/run NAME ..`: runs the module of that name; each has `add_arguments(parser)` and `main(arguments)`, and its first line says what it does."""
+import argparse
+import importlib
+import os
+import sys
+
+from . import programs
+
+NAMES = ("compare", "texts", "memory", "faults", "laws", "requests", "kernels")
+WITHOUT_PROGRAM = ("laws", "requests", "kernels")
+
+
+def main():
+    parser = argparse.ArgumentParser(prog="bench/run", description="Measurements and comparisons of the built program.")
+    commands = parser.add_subparsers(dest="name", metavar="NAME", required=True)
+    modules = {name: importlib.import_module("overlay_bench." + name) for name in NAMES}
+    for name, module in modules.items():
+        summary, _, more = module.__doc__.partition("\n")
+        command = commands.add_parser(name, help=summary, description=summary + more, formatter_class=argparse.RawDescriptionHelpFormatter)
+        if name not in WITHOUT_PROGRAM:
+            command.add_argument("--program", default=programs.BUILT, help="the program (default: the built one)")
+        module.add_arguments(command)
+    arguments = parser.parse_args()
+    if arguments.name not in WITHOUT_PROGRAM and arguments.program == programs.BUILT and not os.access(programs.BUILT, os.X_OK):
+        sys.exit("%s is not built: cd crates/overlay && rt run -- --help" % os.path.relpath(programs.BUILT))
+    return modules[arguments.name].main(arguments)
+
+
+sys.exit(main())

@@ -1,0 +1,113 @@
+"""refuses each request for memory in turn, and each thread
+
+The program runs behind a library that refuses its N-th request for memory, for N from 1 until refusing one more changes
+nothing. Each run has to give the right answer, or nothing with `overlay: 10 out of memory` and status 1; with a report also
+the whole answer with that line, since the report is made when the answer is written. Then each thread that it starts is
+refused in turn, which may change nothing. With more than one worker the requests come in any order, and each number refuses
+some of them. The exit status is 1 where a run gives anything else.
+"""
+import errno
+import os
+import random
+import tempfile
+import time
+
+from . import layers, programs
+from .programs import COMMANDS, Answer
+
+OUT_OF_MEMORY = b"overlay: 10 out of memory\n"
+SQUARE = "POLYGON ((0 0, 4 0, 4 4, 0 4, 0 0))"
+LARGE_SQUARE = "POLYGON ((0 0, 9 0, 9 9, 0 9, 0 0))"
+# What is worth an own way through the program: two layers for each.
+PAIRS = {
+    "corner": (SQUARE, "POLYGON ((2 2, 6 2, 6 6, 2 6, 2 2))"),
+    "hole": (LARGE_SQUARE, "POLYGON ((3 3, 6 3, 6 6, 3 6, 3 3))"),
+    "crossing": ("POLYGON ((0 0, 1 1, 0 1, 1 0, 0 0))", ""),
+    "past a corner": ("POLYGON ((0 0, 10 1, 0 8, 0 0))", "POLYGON ((5 0, 5 -4, 9 -4, 5 0))"),
+    "onto a side": ("POLYGON ((0 0, 10 1, 10 0, 0 0))", "POLYGON ((5 0, 5 -4, 9 -4, 5 0))"),
+    "rounded": ("POLYGON ((0 0, 6 0, 0 5, 0 0))", "POLYGON ((1 1, 7 1, 7 7, 1 7, 1 1))"),
+    "nothing": ("", "polygon empty"),
+    "the same": (SQUARE, SQUARE),
+    "twice": (SQUARE + "\n" + SQUARE, ""),
+    "a corner shared": (SQUARE, "POLYGON ((0 0, 3 1, 1 3, 0 0))"),
+    "nested": ("POLYGON ((0 0, 9 0, 9 9, 0 9, 0 0), (1 1, 8 1, 8 8, 1 8, 1 1), (2 2, 7 2, 7 7, 2 7, 2 2), (3 3, 6 3, 6 6, 3 6, 3 3))", ""),
+    "two holes": ("POLYGON ((0 0, 9 0, 9 9, 0 9, 0 0), (1 1, 4 1, 4 3, 1 3, 1 1), (3 5, 7 5, 7 7, 3 7, 3 5))", ""),
+    "holes that touch": ("POLYGON ((0 0, 9 0, 9 9, 0 9, 0 0), (2 2, 4 2, 4 4, 2 4, 2 2), (4 4, 6 4, 6 6, 4 6, 4 4))", ""),
+    "four tiles": ("POLYGON ((0 0, 1 0, 0 1, 0 0)) POLYGON ((15 15, 16 16, 15 16, 16 15, 15 15))", ""),
+    "ties": ("POLYGON ((0 0, 10 3, 1 9, 9 8, 0 0), (2 1, 5 2, 3 4, 2 1))", "POLYGON ((0 0, 7 2, 14 1, 3 5, 0 0))"),
+}
+# Those that a short run takes.
+FEW = ("corner", "nothing", "holes that touch", "ties")
+
+
+def add_arguments(parser):
+    parser.add_argument("--short", action="store_true", help="fewer layers, 1 and 4 workers")
+    parser.add_argument("--segments", type=int, default=200, help="the size of the last pair of layers, which a short run leaves out")
+
+
+def many_segments(count):
+    """Two layers of so many segments together, with holes and crossings."""
+    rng = random.Random(22)
+    return tuple(layers.text_of(layers.parcels(rng, count // 4) + layers.holes(rng, count // 4)) for _ in "ab")
+
+
+class Refusing:
+    """The program behind the library, and what it found."""
+
+    def __init__(self, program):
+        self.program, self.library, self.runs, self.wrong = program, programs.shim(), 0, []
+
+    def answer(self, words, **rules):
+        self.runs += 1
+        return programs.answer([self.program, *words], env=dict(os.environ, LD_PRELOAD=self.library, **rules))
+
+    def refuse_each(self, words):
+        """How many requests were refused until one more changes nothing."""
+        right, number, calm = self.answer(words), 0, 0
+        allowed = [right, Answer(1, b"", OUT_OF_MEMORY)] + [Answer(1, right.out, OUT_OF_MEMORY)] * ("--report" in words)
+        while calm < 8:
+            number += 1
+            got = self.answer(words, REFUSE_MALLOC="%d %d" % (number, errno.ENOMEM))
+            calm = calm + 1 if got == right else 0
+            if got not in allowed:
+                self.wrong.append((words, "request %d" % number, got))
+        return number - calm
+
+    def refuse_threads(self, words, workers):
+        right = self.answer(words)
+        for number in range(0, workers + 4):
+            got = self.answer(words, REFUSE_THREAD="%d %d" % (number, errno.EAGAIN))
+            if got != right:
+                self.wrong.append((words, "thread %d" % number if number else "each thread", got))
+
+
+def runs(folder, pairs, workers):
+    """The command lines: every pair by all commands, and some that fail before a run."""
+    for name, texts in pairs.items():
+        files = [os.path.join(folder, "%s %s.wkt" % (name, layer)) for layer in "ab"]
+        for file, text in zip(files, texts):
+            with open(file, "w") as written:
+                written.write(text)
+        for command in COMMANDS:
+            for number in workers:
+                yield number, [command, *files, "--tile=16", "--workers=%d" % number]
+        yield workers[-1], ["union", *files, "--tile=16", "--workers=%d" % workers[-1], "--report"]
+        yield workers[-1], ["difference", *files]
+    missing = os.path.join(folder, "none")
+    yield from ((1, words) for words in (["--help"], ["edges", programs.__file__, files[0]], ["xor", *files], ["edges", missing, missing], ["edges"]))
+
+
+def main(arguments):
+    pairs = {name: PAIRS[name] for name in FEW} if arguments.short else dict(PAIRS, many=many_segments(arguments.segments))
+    refusing, requests, lines, start = Refusing(arguments.program), 0, 0, time.monotonic()
+    with tempfile.TemporaryDirectory() as folder:
+        for workers, words in runs(folder, pairs, (1, 4) if arguments.short else (1, 2, 4)):
+            lines += 1
+            if words[0] in COMMANDS and not os.path.basename(words[-1]).startswith("none"):
+                refusing.refuse_threads(words, workers)
+            requests += refusing.refuse_each(words)
+    for words, what, got in refusing.wrong:
+        print("%s, %s refused: %s" % (" ".join(words), what, got))
+    print("%d command lines, %d requests for memory refused, %d runs in %.0f s: %d gave something else" % (
+        lines, requests, refusing.runs, time.monotonic() - start, len(refusing.wrong)))
+    return 1 if refusing.wrong else 0

@@ -1,0 +1,119 @@
+"""Running programs: what one answered, what it took, and the builds that comparisons need."""
+import os
+import shutil
+import signal
+import subprocess
+import sys
+import threading
+import time
+from dataclasses import dataclass
+
+BENCH = os.path.dirname(os.path.dirname(os.path.abspath(__file__)))
+ROOT = os.path.dirname(BENCH)
+BUILT = os.path.join(ROOT, "crates", "overlay", "out", "overlay")
+OUT = os.path.join(BENCH, "out")
+COMMANDS = ("edges", "union", "intersection", "difference", "symdifference")
+
+
+@dataclass(frozen=True)
+class Answer:
+    """What a run gave. A status below 0 is the signal that ended it; None is a run that was ended because it took too long."""
+
+    status: int | None
+    out: bytes
+    err: bytes
+
+    def __str__(self):
+        shown = [text if len(text) <= 200 else text[:200] + b".." for text in (self.out, self.err)]
+        return "status %s, standard output %r, standard error %r" % (self.status, *shown)
+
+
+def answer(words, seconds=60.0, **more):
+    """Runs a command line, at most for these seconds."""
+    process = subprocess.Popen(words, stdout=subprocess.PIPE, stderr=subprocess.PIPE, **more)
+    try:
+        out, err = process.communicate(timeout=seconds)
+        return Answer(process.returncode, out, err)
+    except subprocess.TimeoutExpired:
+        process.kill()
+        out, err = process.communicate()
+        return Answer(None, out, err)
+
+
+@dataclass(frozen=True)
+class Taken:
+    """A run's status (None where it was ended), seconds on the clock, processor seconds and greatest memory in megabytes."""
+
+    status: int | None
+    clock: float
+    processor: float
+    memory: float
+
+
+def taken(words, output, seconds):
+    """Measures a run whose standard output goes to a file."""
+    with open(output, "wb") as out:
+        start = time.monotonic()
+        process = subprocess.Popen(words, stdout=out, stderr=subprocess.DEVNULL)
+        over = threading.Event()
+
+        def end():
+            over.set()
+            os.kill(process.pid, signal.SIGKILL)
+
+        timer = threading.Timer(seconds, end)
+        timer.start()
+        _, status, used = os.wait4(process.pid, 0)
+        timer.cancel()
+        clock = time.monotonic() - start
+        process.returncode = os.waitstatus_to_exitcode(status)
+    ended = None if over.is_set() else process.returncode
+    return Taken(ended, clock, used.ru_utime + used.ru_stime, used.ru_maxrss / 1024)
+
+
+def compiler_of_c():
+    for name in ("cc", "clang", "gcc"):
+        if shutil.which(name):
+            return name
+    sys.exit("no compiler for C was found (cc, clang or gcc): this step needs one")
+
+
+def newer(built, sources):
+    return os.path.exists(built) and all(os.path.getmtime(built) > os.path.getmtime(source) for source in sources)
+
+
+def plain():
+    """The plain program of the same rules, compiled where its sources have changed."""
+    folder, built = os.path.join(BENCH, "plain"), os.path.join(OUT, "plain")
+    sources = [os.path.join(folder, name) for name in os.listdir(folder)]
+    if not newer(built, sources):
+        if not shutil.which("rustc"):
+            sys.exit("rustc was not found: the plain program of bench/plain is compiled by it")
+        os.makedirs(OUT, exist_ok=True)
+        command = ["rustc", "-O", "--edition", "2021", "-C", "target-cpu=x86-64-v2", "-o", built, os.path.join(folder, "main.rs")]
+        subprocess.run(command, check=True)
+    return built
+
+
+def shim(name="calls"):
+    """A library of bench/shims that stands before the C library, compiled where its source has changed."""
+    source, built = os.path.join(BENCH, "shims", name + ".c"), os.path.join(OUT, name + ".so")
+    if not newer(built, [source]):
+        os.makedirs(OUT, exist_ok=True)
+        subprocess.run([compiler_of_c(), "-shared", "-fPIC", "-O1", "-o", built, source, "-ldl"], check=True)
+    return built
+
+
+def apart(make):
+    """Runs a function in a process of its own: what it takes would else count as memory of programs started later."""
+    child = os.fork()
+    if child == 0:
+        status = 1
+        try:
+            make()
+            status = 0
+        finally:
+            os._exit(status)
+    _, status = os.waitpid(child, 0)
+    if status:
+        sys.exit("a process of its own failed: " + make.__name__)

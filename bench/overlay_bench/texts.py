@@ -1,0 +1,206 @@
+"""compares the answers to broken layer texts with the exact reference: the refusal, its number and its offset
+
+Texts are made valid, then cut off, with bytes exchanged, dropped or put in, and with tokens exchanged, and run by `edges` as
+either layer, the other one being empty or valid. A text that is accepted has to give the reference's edges. One that differs
+is kept in bench/out with its number and its seed, cut down to a small one that still differs, and the exit status is 1.
+"""
+import multiprocessing
+import os
+import random
+import re
+import tempfile
+import time
+from collections import Counter
+
+import reference
+
+from . import programs
+from .programs import Answer
+
+LIMIT = reference.COORDINATE_LIMIT
+TOKEN = re.compile(rb"[A-Za-z]+|-?[0-9]+|[ \t\r\n]+|.", re.S)
+STRANGE = b" \t\r\n(),-+.0123456789eEpPmMyYlLzZ\x00\x0b\x0c\x7f\xc8\xef\xff"
+SIDE = 2_097_153  # a side that the whole range can be answered by
+MOST = 20
+
+
+def add_arguments(parser):
+    parser.add_argument("--texts", type=int, default=2000)
+    parser.add_argument("--first", type=int, default=0, help="the number of the first text, to run one again")
+    parser.add_argument("--seed", type=int, default=1)
+    parser.add_argument("--minutes", type=float, default=0, help="ends after so many minutes, however many texts are left")
+    parser.add_argument("--jobs", type=int, default=1, help="processes side by side")
+
+
+class Maker:
+    """Texts by chance."""
+
+    def __init__(self, rng):
+        self.rng = rng
+
+    def cased(self, word):
+        return bytes(self.rng.choice([c, c + 32]) for c in word) if self.rng.random() < 0.3 else word
+
+    def space(self, least=0):
+        count = least if self.rng.random() < 0.6 else self.rng.randint(least, least + 2)
+        return bytes(self.rng.choice(b"  \t\r\n") for _ in range(count))
+
+    def number(self, value):
+        zeros = b"0" * self.rng.choice([1, 2, 9, 40]) if self.rng.random() < 0.05 else b""
+        minus = value < 0 or (value == 0 and self.rng.random() < 0.1)
+        return (b"-" if minus else b"") + zeros + b"%d" % abs(value)
+
+    def coordinate(self):
+        chance = self.rng.random()
+        if chance < 0.93:
+            return self.rng.randint(-9, 9)
+        if chance < 0.97:
+            return self.rng.choice([-LIMIT, LIMIT, LIMIT - 1])
+        if chance < 0.99:
+            return self.rng.choice([LIMIT + 1, -LIMIT - 1])
+        return self.rng.choice([2**31, 2**31 - 1, 2**32 + 3, 10**20, -(2**32), 2**64, -(2**63) - 1])
+
+    def listed(self, items):
+        text = b"(" + self.space()
+        for number, item in enumerate(items):
+            text += (self.space() + b"," + self.space() if number else b"") + item
+        return text + self.space() + b")"
+
+    def ring(self):
+        points = [(self.coordinate(), self.coordinate()) for _ in range(self.rng.choice([1, 2, 3, 3, 3, 4, 5]))]
+        if self.rng.random() < 0.2:
+            points.append(points[-1])
+        if self.rng.random() < 0.93:
+            points.append(points[0])
+        return self.listed([self.number(x) + self.space(1) + self.number(y) for x, y in points])
+
+    def body(self):
+        return self.listed([self.ring() for _ in range(self.rng.choice([1, 1, 2, 3]))])
+
+    def geometry(self):
+        chance = self.rng.random()
+        word = self.cased(b"POLYGON" if chance < 0.65 else b"MULTIPOLYGON")
+        if chance < 0.08 or chance > 0.94:
+            return word + self.space(1) + self.cased(b"EMPTY")
+        if chance < 0.65:
+            return word + self.space() + self.body()
+        return word + self.space() + self.listed([self.body() for _ in range(self.rng.choice([1, 2, 3]))])
+
+    def layer(self):
+        text = self.space()
+        for number in range(self.rng.choice([0, 1, 1, 1, 2, 3])):
+            text += (self.space(1) if number else b"") + self.geometry()
+        return text + self.space()
+
+    def broken(self, text):
+        kind, at, byte = self.rng.randrange(6), self.rng.randrange(len(text) + 1), bytes([self.rng.choice(STRANGE)])
+        if kind == 0:
+            return text[:at]
+        if kind == 1:
+            return text[:at] + byte + text[at + 1:]
+        if kind == 2:
+            return text[:at] + byte + text[at:]
+        if kind == 3:
+            return text[:at] + text[at + 1:]
+        tokens = TOKEN.findall(text)
+        if kind == 4 or not tokens:
+            return b"".join(tokens[k] for k in range(len(tokens)) if k != at % max(1, len(tokens)))
+        i, j = self.rng.randrange(len(tokens)), self.rng.randrange(len(tokens))
+        tokens[i], tokens[j] = tokens[j], tokens[i]
+        return b"".join(tokens)
+
+
+def made(number, seed):
+    """Both texts: one that is mostly broken, beside nothing or beside one that may be."""
+    rng = random.Random(seed * 1_000_003 + number)
+    maker = Maker(rng)
+    text = maker.layer()
+    for _ in range(rng.choice([0, 1, 1, 2])):
+        text = maker.broken(text)
+    other = rng.choice([b"", b"", b"POLYGON ((0 0, 5 1, 1 5, 0 0))", maker.layer()])
+    return (text, other) if rng.random() < 0.5 else (other, text)
+
+
+def expected(texts):
+    try:
+        return Answer(0, reference.Arranged(*texts, SIDE).text("edges").encode(), b"")
+    except reference.Fault as fault:
+        return Answer(3, b"", fault.line().encode())
+
+
+class Bench:
+    def __init__(self, program, folder, seed):
+        self.program, self.folder, self.seed = program, folder, seed
+
+    def answer(self, texts):
+        names = [os.path.join(self.folder, "%d%s" % (os.getpid(), layer)) for layer in "ab"]
+        for name, text in zip(names, texts):
+            with open(name, "wb") as file:
+                file.write(text)
+        return programs.answer([self.program, "edges", *names, "--tile=%d" % SIDE, "--workers=1"])
+
+    def differs(self, texts):
+        return self.answer(texts) != expected(texts)
+
+    def cut(self, texts):
+        """Smaller texts that still differ."""
+        for layer in (0, 1):
+            step = max(1, len(texts[layer]) // 2)
+            while step:
+                at = 0
+                while at < len(texts[layer]):
+                    fewer = list(texts)
+                    fewer[layer] = texts[layer][:at] + texts[layer][at + step:]
+                    if self.differs(fewer):
+                        texts = tuple(fewer)
+                    else:
+                        at += step
+                step //= 2
+        return texts
+
+    def keep(self, number, texts):
+        folder = os.path.join(programs.OUT, "text-%d-%d" % (self.seed, number))
+        os.makedirs(folder, exist_ok=True)
+        for name, both in (("", texts), ("small-", self.cut(texts))):
+            for layer, text in zip("ab", both):
+                with open(os.path.join(folder, name + layer), "wb") as file:
+                    file.write(text)
+        return os.path.relpath(folder)
+
+
+BENCH = None
+
+
+def one(number):
+    """The kind of answer of one pair of texts, and where it was kept if it differs."""
+    texts = made(number, BENCH.seed)
+    wanted, got = expected(texts), BENCH.answer(texts)
+    kind = re.sub(rb"overlay: ([AB]: )?(\d).*\n", rb"\2", wanted.err).decode() or "accepted"
+    return kind, None if got == wanted else BENCH.keep(number, texts)
+
+
+def results(arguments, folder):
+    global BENCH
+    BENCH = Bench(arguments.program, folder, arguments.seed)
+    numbers = range(arguments.first, arguments.first + arguments.texts)
+    if arguments.jobs == 1:
+        yield from map(one, numbers)
+        return
+    with multiprocessing.get_context("fork").Pool(arguments.jobs) as pool:
+        yield from pool.imap_unordered(one, numbers, chunksize=64)
+
+
+def main(arguments):
+    kinds, wrong, start = Counter(), 0, time.monotonic()
+    with tempfile.TemporaryDirectory() as folder:
+        for kind, kept in results(arguments, folder):
+            kinds[kind] += 1
+            if kept:
+                wrong += 1
+                print("differs: %s" % kept, flush=True)
+            if wrong == MOST or (arguments.minutes and time.monotonic() - start > 60 * arguments.minutes):
+                break
+    print("%d texts from number %d, seed %d, in %.0f s: %d accepted, %s; %d differ" % (
+        sum(kinds.values()), arguments.first, arguments.seed, time.monotonic() - start, kinds["accepted"],
+        ", ".join("%d refused by %s" % (kinds[kind], kind) for kind in sorted(kinds) if kind != "accepted"), wrong))
+    return 1 if wrong else 0

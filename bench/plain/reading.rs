@@ -1,0 +1,63 @@
+//! Reading both layers; the texts are taken as they should be.
+use crate::hands::Hands;
+use crate::point::Segment;
+
+/// The segments of both layers, in text order, the first layer's first.
+pub fn layers(files: &[String; 2], hands: Hands) -> Vec<Segment> {
+    let read = |layer: usize| segments(&std::fs::read(&files[layer]).unwrap(), layer as u32);
+    let mut both = if hands.0 > 1 { Hands(2).each(read) } else { vec![read(0), read(1)] };
+    let second = both.pop().unwrap();
+    let mut all = both.pop().unwrap();
+    all.extend(second);
+    all
+}
+
+struct Numbers<'a> {
+    text: &'a [u8],
+    at: usize,
+}
+
+impl Numbers<'_> {
+    #[inline(always)]
+    fn next(&mut self) -> i32 {
+        while self.text[self.at].is_ascii_whitespace() {
+            self.at += 1;
+        }
+        let negative = self.text[self.at] == b'-';
+        self.at += negative as usize;
+        let mut value = 0i32;
+        while self.at < self.text.len() && self.text[self.at].is_ascii_digit() {
+            value = value * 10 + (self.text[self.at] - b'0') as i32;
+            self.at += 1;
+        }
+        if negative {
+            -value
+        } else {
+            value
+        }
+    }
+}
+
+/// The segments of one text: those between neighbours of a ring that differ.
+fn segments(text: &[u8], layer: u32) -> Vec<Segment> {
+    let mut found = Vec::with_capacity(text.len() / 18);
+    let mut numbers = Numbers { text, at: 0 };
+    let mut last: Option<(i32, i32)> = None;
+    while numbers.at < text.len() {
+        match text[numbers.at] {
+            b'(' => last = None,
+            b'-' | b'0'..=b'9' => {
+                let point = (numbers.next(), numbers.next());
+                if let Some(last) = last.filter(|last| *last != point) {
+                    let (p, q) = if last < point { (last, point) } else { (point, last) };
+                    found.push(Segment { px: p.0, py: p.1, qx: q.0, qy: q.1, layer });
+                }
+                last = Some(point);
+                continue;
+            }
+            _ => {}
+        }
+        numbers.at += 1;
+    }
+    found
+}
