@@ -84,6 +84,7 @@ fn write_pieces<A: Allocator + Copy>(
     owner: Option<Opening>,
     written: &mut Vec<Written<A>, A>,
 ) -> Result<Opening, NoMemory>
+    requires edges_in { All (λ d. AreInLimit d.from d.to) edges.now }
     requires least { IsVertex edges.now least }
     requires some { 0 < length pieces.items }
     requires sound { All (λ p. IsSound edges.now p.items) pieces.items }
