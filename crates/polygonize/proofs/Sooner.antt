@@ -69,22 +69,7 @@ is_sooner v a b (inr (inr h, c)) = level_yes (half v a) (half v b) (side v a b) 
 pub sooner_not : (v a b : Pt) → IsSooner v a b → ¬ (IsSooner v b a)
 sooner_not v a b h k = false≢true (sym (one_way v a b (is_sooner v a b h)) ∙ is_sooner v b a k)
 
-pub met_not : (v u a b : Pt) → IsMetBefore v u a b → ¬ (IsMetBefore v u b a)
-met_not v u a b (inl h) (inl k) = sooner_not v a b h.1 k.1
-met_not v u a b (inl h) (inr (inl k)) = sooner_not v a b h.1 k.0
-met_not v u a b (inl h) (inr (inr k)) = sooner_not v u a h.0 k.0
-met_not v u a b (inr (inl h)) (inl k) = sooner_not v a b h.0 k.1
-met_not v u a b (inr (inl h)) (inr (inl k)) = sooner_not v a b h.0 k.0
-met_not v u a b (inr (inl h)) (inr (inr k)) = sooner_not v b u h.1 k.1
-met_not v u a b (inr (inr h)) (inl k) = sooner_not v b u h.0 k.0
-met_not v u a b (inr (inr h)) (inr (inl k)) = sooner_not v u a h.1 k.1
-met_not v u a b (inr (inr h)) (inr (inr k)) = sooner_not v u a h.1 k.0
-
--- ---- at most one edge is the next
-pub next_unique : (ds : List DirectedEdge) (u v w x : Pt) → IsNext ds u v w → IsNext ds u v x → w ≡ x
-next_unique ds u v w x n m = elim (same_or_not w x) [ inl e ↦ e | inr a ↦ absurd (met_not v u w x (n.first x m.near m.other (λ e. a (sym e))) (m.first w n.near n.other a)) ]
-
--- ---- and of at most one edge
+-- ---- of at most one edge it is the next
 turn_not : (v t u w : Pt) → IsMetBefore v t w u → ¬ (IsMetBefore v u w t)
 turn_not v t u w (inl h) (inl k) = sooner_not v w u h.1 k.0
 turn_not v t u w (inl h) (inr (inl k)) = sooner_not v t w h.0 k.0

@@ -1,4 +1,4 @@
-use Rattle.std.proofs.Common.{◌≡◌, ◌≢◌, ◌<◌, ◌∙◌, ap, get_or, length, sym, arith, rules}
+use Rattle.std.proofs.Common.{◌≡◌, ◌∙◌, ap, sym, arith, rules}
 use Rattle.std.proofs.lemmas.List.{get_or_default}
 use Rattle.polygonize.specs.declared.leaving.Leaving.{Leaving}
 use Rattle.polygonize.proofs.RoundVertex.{first_at, first_past}
