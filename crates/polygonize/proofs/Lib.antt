@@ -9,9 +9,9 @@ pub mod Multiply
 pub mod Products
 pub mod Turns
 pub mod Signed
-pub mod Spokes
-pub mod Groups
-pub mod Ends
+pub mod Sooner
+pub mod RoundVertex
+pub mod Permuted
 pub mod Linking
 pub mod Numbers
 pub mod Mapping

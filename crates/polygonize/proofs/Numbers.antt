@@ -14,7 +14,7 @@ use Rattle.polygonize.specs.Next.{nothing, edge_at, ring_of}
 use Rattle.polygonize.specs.Number.{IsNumber, AreNumbers, IsVertex, IsLastNumber}
 use Rattle.polygonize.proofs.Turns.{neither_less}
 use Rattle.polygonize.proofs.Rounds.{less_apart}
-use Rattle.polygonize.proofs.Spokes.{not_less}
+use Rattle.polygonize.proofs.Sooner.{not_less}
 
 -- the starts don't descend
 pub start_order : (ds : List DirectedEdge) → AreDirected ds → (m k : ℕ) → m < k → k < length ds → ¬ (IsBefore (edge_at ds k).from (edge_at ds m).from)

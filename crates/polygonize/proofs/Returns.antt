@@ -28,7 +28,7 @@ use Rattle.polygonize.proofs.Beginnings.{BeginsWith, holders_begin, one_begins, 
 use Rattle.polygonize.proofs.Holes.{least_point}
 use Rattle.polygonize.proofs.Mapping.{cut_all, cut_map, cut_simple}
 use Rattle.polygonize.proofs.Numbers.{same_vertex}
-use Rattle.polygonize.proofs.Spokes.{is_sooner, same_or_not}
+use Rattle.polygonize.proofs.Sooner.{is_sooner, same_or_not}
 use Rattle.polygonize.proofs.Turns.{chain, one_way}
 
 -- ---- angles right of v: a is met before b where it lies counter-clockwise of b

@@ -11,7 +11,7 @@ use Rattle.polygonize.specs.Next.{edge_at, ring_of}
 use Rattle.polygonize.specs.Number.{IsVertex}
 use Rattle.polygonize.specs.Written.{IsTurned, AreTurned, AreAdded, IsSound, IsCanonical, backward}
 use Rattle.polygonize.proofs.Lists.{same_order}
-use Rattle.polygonize.proofs.Ends.{all_pairs_permutation}
+use Rattle.polygonize.proofs.Permuted.{all_pairs_permutation}
 use Rattle.polygonize.proofs.Pieces.{rotated_edges}
 
 -- ---- one ring

@@ -8,7 +8,7 @@ use Rattle.geom.specs.declared.point.Pt.{Pt}
 use Rattle.geom.specs.Order.{IsBefore}
 use Rattle.geom.proofs.Edges.{before_cases, before_by_cases}
 use Rattle.geom.specs.Determinant.{side}
-use Rattle.polygonize.specs.Spoke.{less, half, sooner}
+use Rattle.polygonize.specs.Clockwise.{less, half, sooner}
 use Rattle.polygonize.proofs.Multiply.{expand, lin}
 use Rattle.polygonize.proofs.Products.{mul_pos, mul_nonneg, by_sign}
 

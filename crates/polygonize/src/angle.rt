@@ -1,9 +1,10 @@
 //! The order of directions round a vertex, by exact comparisons.
 
-ghost use Rattle.std.specs.Prelude.{◌≡◌, ◌≤◌, ◌^◌, ◌-ℤ◌, ◌*ℤ◌, unsigned_abs};
+ghost use Rattle.std.specs.Prelude.{◌≡◌};
 ghost use Rattle.std.specs.Ordering.{is_lt};
 ghost use Rattle.geom.specs.Determinant.{side};
-ghost use Rattle.polygonize.specs.Spoke.{less, sooner, half};
+ghost use Rattle.geom.specs.Limit.{InLimit};
+ghost use Rattle.polygonize.specs.Clockwise.{half, less, sooner};
 
 use geom::Pt;
 use std::cmp::Ordering;
@@ -15,39 +16,18 @@ pub fn is_less(p: Pt, q: Pt) -> bool
     p < q
 }
 
-/// How far a lies to the right of v.
-fn run(v: Pt, a: Pt) -> i64
-    ensures value { result ≡ a.x -ℤ v.x }
-    ensures small { unsigned_abs result ≤ 2 ^ 32 }
-{
-    i64::from(a.x) - i64::from(v.x)
-}
-
-/// How far a lies above v.
-fn rise(v: Pt, a: Pt) -> i64
-    ensures value { result ≡ a.y -ℤ v.y }
-    ensures small { unsigned_abs result ≤ 2 ^ 32 }
-{
-    i64::from(a.y) - i64::from(v.y)
-}
-
-fn product(a: i64, b: i64) -> i128
-    requires a_small { unsigned_abs a ≤ 2 ^ 32 }
-    requires b_small { unsigned_abs b ≤ 2 ^ 32 }
-    ensures value { result ≡ a *ℤ b }
-    ensures small { unsigned_abs result ≤ 2 ^ 64 }
-{
-    i128::from(a) * i128::from(b)
-}
-
 /// The determinant of a - v and b - v: above 0 where b lies counter-clockwise of a.
-pub fn side_of(v: Pt, a: Pt, b: Pt) -> i128
+pub fn side_of(v: Pt, a: Pt, b: Pt) -> i64
+    requires v_in { InLimit v }
+    requires a_in { InLimit a }
+    requires b_in { InLimit b }
     ensures { result ≡ side v a b }
 {
-    product(run(v, a), rise(v, b)) - product(rise(v, a), run(v, b))
+    v.vector_to(a).determinant(v.vector_to(b))
 }
 
-fn half_turn(v: Pt, a: Pt) -> u8
+/// Which half turn from straight up has a; the last for v itself.
+pub fn half_turn(v: Pt, a: Pt) -> u8
     ensures { result ≡ half v a }
 {
     if is_less(v, a) {
@@ -61,6 +41,9 @@ fn half_turn(v: Pt, a: Pt) -> u8
 
 /// The order round v, clockwise from straight up.
 pub fn clockwise(v: Pt, a: Pt, b: Pt) -> Ordering
+    requires v_in { InLimit v }
+    requires a_in { InLimit a }
+    requires b_in { InLimit b }
     ensures { is_lt result ≡ sooner v a b }
 {
     let first = half_turn(v, a);

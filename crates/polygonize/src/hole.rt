@@ -4,6 +4,7 @@ ghost use Rattle.std.specs.Prelude.{◌≡◌, ◌↔◌, ◌+◌, ◌<◌, ◌�
 ghost use Rattle.geom.specs.Determinant.{side};
 ghost use Rattle.geom.specs.Directed.{AreDirected};
 ghost use Rattle.geom.specs.Holes.{IsHole};
+ghost use Rattle.geom.specs.Limit.{AreInLimit};
 ghost use Rattle.polygonize.specs.Next.{edge_at, ring_of};
 ghost use Rattle.polygonize.specs.Number.{IsVertex};
 
@@ -21,6 +22,7 @@ fn following(n: usize, i: usize) -> usize
 
 /// Whether the ring turns to the right at its vertex at the place i: the next edge lies counter-clockwise of the way back.
 fn turns_right(edges: &[DirectedEdge], before: usize, at: usize, after: usize) -> bool
+    requires edges_in { All (λ d. AreInLimit d.from d.to) edges.now }
     requires before_in { before < length edges.now }
     requires at_in { at < length edges.now }
     requires after_in { after < length edges.now }
@@ -32,6 +34,7 @@ fn turns_right(edges: &[DirectedEdge], before: usize, at: usize, after: usize) -
 /// Whether a ring of vertices, begun at its least one, is a hole.
 pub fn is_hole(edges: &[DirectedEdge], ring: &[usize]) -> bool
     requires directed { AreDirected edges.now }
+    requires edges_in { All (λ d. AreInLimit d.from d.to) edges.now }
     requires vertices { All (IsVertex edges.now) ring.now }
     requires least { All (λ k. slice_index_or ring.now 0 0 ≤ k) ring.now }
     ensures { IsTrue result ↔ IsHole (ring_of edges.now ring.now) }

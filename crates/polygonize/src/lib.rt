@@ -6,6 +6,7 @@ mod below;
 mod cut;
 mod cycle;
 mod hole;
+mod leaving;
 mod number;
 mod piece;
 mod polygon;

@@ -2,6 +2,7 @@
 
 ghost use Rattle.std.specs.Prelude.{◌↔◌, ℕ, ◌<◌, ◌≤◌, List, [], All, IsTrue, length, map, slice_index, slice_index_or};
 ghost use Rattle.geom.specs.Canonical.{IsFirstPiece};
+ghost use Rattle.geom.specs.Limit.{AreInLimit};
 ghost use Rattle.geom.specs.Rings.{Closes};
 ghost use Rattle.polygonize.specs.Next.{ring_of};
 ghost use Rattle.polygonize.specs.Number.{IsVertex};
@@ -39,6 +40,7 @@ pub fn turned<A: Allocator>(mut ring: Vec<usize, A>) -> Vec<usize, A>
 
 /// Whether a piece comes back to the ring's least vertex, and with a greater angle than another one that does.
 fn comes_later(edges: &[DirectedEdge], least: usize, piece: &[usize], other: &[usize]) -> bool
+    requires edges_in { All (λ d. AreInLimit d.from d.to) edges.now }
     requires least { IsVertex edges.now least }
     requires sound { IsSound edges.now piece.now }
     requires other_sound { IsSound edges.now other.now }
@@ -58,6 +60,7 @@ pub fn first_piece<A: Allocator>(
     least: usize,
     pieces: &[Vec<usize, A>],
 ) -> usize
+    requires edges_in { All (λ d. AreInLimit d.from d.to) edges.now }
     requires least { IsVertex edges.now least }
     requires some { 0 < length pieces.now }
     requires sound { All (λ p. IsSound edges.now p.items) pieces.now }

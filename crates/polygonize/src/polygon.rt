@@ -74,8 +74,9 @@ fn grouped<A: Allocator + Copy>(
     Ok(polygons)
 }
 
-/// The polygons of a result, by its directed edges, in canonical order: a ring that visits a vertex twice is cut there, each
+/// The polygons of directed edges that close, in canonical order: a ring that visits a vertex twice is cut there, each
 /// ring begins at its least vertex, and a polygon's holes and the polygons stand in the order of their points.
+/// They are the polygons of the edges where these are noded and a nearest one, which begins further left, lies below each hole.
 pub fn polygons<A: Allocator + Copy>(
     alloc: A,
     directed: &Directed<A>,

@@ -1,10 +1,10 @@
 //! The rings of directed edges, as lists of the edges' places.
 
 ghost use Rattle.std.specs.Prelude.{All, IfOk, map};
-ghost use Rattle.geom.specs.Rings.{AreRings};
+ghost use Rattle.geom.specs.Limit.{AreInLimit};
+ghost use Rattle.geom.specs.Rings.{AreRings, Closes};
 ghost use Rattle.polygonize.specs.Next.{ring_of};
 ghost use Rattle.polygonize.specs.Written.{ArePlaces, HasItsEdges};
-ghost use Rattle.geom.specs.Rings.{Closes};
 
 use crate::cycle::cycles;
 use crate::successor::successors;
@@ -16,7 +16,8 @@ pub fn ring_places<A: Allocator + Copy>(
     alloc: A,
     edges: &[DirectedEdge],
 ) -> Result<Vec<Vec<usize, A>, A>, NoMemory>
-    requires { Closes edges.now }
+    requires closes { Closes edges.now }
+    requires edges_in { All (λ d. AreInLimit d.from d.to) edges.now }
     ensures places { IfOk result (λ found. All (ArePlaces edges.now) (map (λ v. v.items) found.items)) }
     ensures rings { IfOk result (λ found. AreRings edges.now (map (ring_of edges.now) (map (λ v. v.items) found.items))) }
     ensures edges { IfOk result (λ found. All (HasItsEdges edges.now) (map (λ v. v.items) found.items)) }

@@ -2,6 +2,7 @@
 
 mod closing;
 mod generated;
+mod wide;
 
 use crate::polygons;
 use closing::{are_in_limit, closes, each_once};

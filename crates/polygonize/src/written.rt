@@ -1,6 +1,6 @@
 //! The rings of the result as they are written, each with its place in the order of the text.
 
-ghost use Rattle.std.specs.Prelude.{◌≡◌, ◌<◌, ◌≤◌, ◌==◌, ◌||◌, [], List, All, IfOk, OnOk, is_some, length, map, not, slice_index_or, unwrap_or};
+ghost use Rattle.std.specs.Prelude.{◌≡◌, ◌<◌, ◌≤◌, ◌==◌, ◌||◌, ◌++◌, ◌∷◌, [], List, All, IfOk, OnOk, is_some, length, map, not, slice_index_or, unwrap_or};
 ghost use Rattle.geom.specs.Directed.{AreDirected};
 ghost use Rattle.geom.specs.declared.point.Pt.{Pt};
 ghost use Rattle.geom.specs.Holes.{AreGrounded};
@@ -76,6 +76,18 @@ fn is_written_as_hole(owner: Option<Opening>, first: usize, i: usize) -> bool
     owner.is_some() || i != first
 }
 
+/// Adds a ring to those that are written.
+fn add_ring<A: Allocator>(
+    written: &mut Vec<Written<A>, A>,
+    place: Place,
+    ring: Vec<usize, A>,
+) -> Result<(), NoMemory>
+    ensures { OnOk result (written.new.items ≡ written.old.items ++ (record { place = place; ring = ring }) ∷ []) }
+{
+    written.push(Written { place, ring })?;
+    Ok(())
+}
+
 /// Writes the pieces of a ring. A hole's go to the polygon of the shell that is given; a shell's first piece is a shell itself.
 fn write_pieces<A: Allocator + Copy>(
     edges: &[DirectedEdge],
@@ -84,6 +96,7 @@ fn write_pieces<A: Allocator + Copy>(
     owner: Option<Opening>,
     written: &mut Vec<Written<A>, A>,
 ) -> Result<Opening, NoMemory>
+    requires edges_in { All (λ d. AreInLimit d.from d.to) edges.now }
     requires least { IsVertex edges.now least }
     requires some { 0 < length pieces.items }
     requires sound { All (λ p. IsSound edges.now p.items) pieces.items }
@@ -99,7 +112,7 @@ fn write_pieces<A: Allocator + Copy>(
             is_hole: is_written_as_hole(owner, first, pieces.len()),
             opening: Opening::of(&ring),
         };
-        written.push(Written { place, ring })?;
+        add_ring(written, place, ring)?;
     }
     Ok(shell)
 }

@@ -4,11 +4,10 @@ ghost use Rattle.std.specs.Prelude.{◌≡◌, ◌≢◌, ◌↔◌, All, AllPai
 ghost use Rattle.geom.specs.Directed.{IsDirectedBefore};
 ghost use Rattle.geom.specs.Limit.{AreInLimit};
 ghost use Rattle.geom.specs.Rings.{Closes};
-ghost use Rattle.polygonize.specs.Spoke.{sooner};
-ghost use Rattle.polygonize.specs.Closing.{HasNext, IsFirst, are_apart, is_passed, met};
+ghost use Rattle.polygonize.specs.Clockwise.{sooner};
+ghost use Rattle.polygonize.specs.Closing.{HaveBothWays, HasNext, IsFirst, are_apart, is_passed, met};
 
-use crate::angle::clockwise;
-use crate::successor::{Spoke, sorted_spokes};
+use super::wide::is_sooner;
 use geom::{DirectedEdge, NoMemory, Pt};
 use std::alloc::Allocator;
 
@@ -55,29 +54,26 @@ fn are_one_way(edges: &[DirectedEdge]) -> bool
     edges.iter().all(|d| is_one_way(edges, *d))
 }
 
-fn is_sooner(v: Pt, a: Pt, b: Pt) -> bool
-    ensures { result ≡ sooner v a b }
-{
-    clockwise(v, a, b).is_lt()
-}
-
-/// Whether two ends of edges lie in two directions from a vertex, or aren't at one vertex.
-fn lie_apart(s: Spoke, t: Spoke) -> bool
+/// Whether two edges lead in two directions from a vertex, or from two vertices.
+fn lie_apart(s: DirectedEdge, t: DirectedEdge) -> bool
     ensures { result ≡ are_apart s t }
 {
-    s.at != t.at || s.end == t.end || is_sooner(s.at, s.end, t.end) || is_sooner(s.at, t.end, s.end)
+    s.from != t.from
+        || s.to == t.to
+        || is_sooner(s.from, s.to, t.to)
+        || is_sooner(s.from, t.to, s.to)
 }
 
-fn lies_apart(s: Spoke, spokes: &[Spoke]) -> bool
-    ensures { IsTrue result → All (λ t. are_apart s t ≡ true) spokes.now }
+fn lies_apart(s: DirectedEdge, both: &[DirectedEdge]) -> bool
+    ensures { IsTrue result → All (λ t. are_apart s t ≡ true) both.now }
 {
-    spokes.iter().all(|t| lie_apart(s, *t))
+    both.iter().all(|t| lie_apart(s, *t))
 }
 
-fn all_lie_apart(spokes: &[Spoke]) -> bool
-    ensures { IsTrue result → All (λ s. All (λ t. are_apart s t ≡ true) spokes.now) spokes.now }
+fn all_lie_apart(both: &[DirectedEdge]) -> bool
+    ensures { IsTrue result → All (λ s. All (λ t. are_apart s t ≡ true) both.now) both.now }
 {
-    spokes.iter().all(|s| lies_apart(*s, spokes))
+    both.iter().all(|s| lies_apart(*s, both))
 }
 
 /// Whether a is met before b, turning clockwise round v from u.
@@ -89,43 +85,61 @@ fn is_met_before(v: Pt, u: Pt, a: Pt, b: Pt) -> bool
         || is_sooner(v, b, u) && is_sooner(v, u, a)
 }
 
-fn passes(r: Spoke, u: Pt, v: Pt, w: Pt) -> bool
+fn passes(r: DirectedEdge, u: Pt, v: Pt, w: Pt) -> bool
     ensures { result ≡ is_passed u v w r }
 {
-    r.at != v || r.end == u || r.end == w || is_met_before(v, u, w, r.end)
+    r.from != v || r.to == u || r.to == w || is_met_before(v, u, w, r.to)
 }
 
 /// Whether w is the first neighbour of v, turning clockwise from u.
-fn is_first(spokes: &[Spoke], u: Pt, v: Pt, w: Pt) -> bool
-    ensures { IsTrue result → IsFirst spokes.now u v w }
+fn is_first(both: &[DirectedEdge], u: Pt, v: Pt, w: Pt) -> bool
+    ensures { IsTrue result → IsFirst both.now u v w }
 {
-    spokes.iter().all(|r| passes(*r, u, v, w))
+    both.iter().all(|r| passes(*r, u, v, w))
 }
 
 /// Whether e comes next after d.
-fn is_next(spokes: &[Spoke], d: DirectedEdge, e: DirectedEdge) -> bool
+fn is_next(both: &[DirectedEdge], d: DirectedEdge, e: DirectedEdge) -> bool
     ensures from { IsTrue result → e.from ≡ d.to }
     ensures other { IsTrue result → e.to ≢ d.from }
-    ensures first { IsTrue result → IsFirst spokes.now d.from d.to e.to }
+    ensures first { IsTrue result → IsFirst both.now d.from d.to e.to }
 {
-    e.from == d.to && e.to != d.from && is_first(spokes, d.from, d.to, e.to)
+    e.from == d.to && e.to != d.from && is_first(both, d.from, d.to, e.to)
 }
 
-fn has_next(edges: &[DirectedEdge], spokes: &[Spoke], d: DirectedEdge) -> bool
-    ensures { IsTrue result → HasNext edges.now spokes.now d }
+fn has_next(edges: &[DirectedEdge], both: &[DirectedEdge], d: DirectedEdge) -> bool
+    ensures { IsTrue result → HasNext edges.now both.now d }
 {
     for e in edges {
-        if is_next(spokes, d, *e) {
+        if is_next(both, d, *e) {
             return true;
         }
     }
     false
 }
 
-fn all_have_next(edges: &[DirectedEdge], spokes: &[Spoke]) -> bool
-    ensures { IsTrue result → All (HasNext edges.now spokes.now) edges.now }
+fn all_have_next(edges: &[DirectedEdge], both: &[DirectedEdge]) -> bool
+    ensures { IsTrue result → All (HasNext edges.now both.now) edges.now }
 {
-    edges.iter().all(|d| has_next(edges, spokes, *d))
+    edges.iter().all(|d| has_next(edges, both, *d))
+}
+
+/// Each edge, and the way back along it.
+fn both_ways<A: Allocator + Copy>(
+    alloc: A,
+    edges: &[DirectedEdge],
+) -> Result<Vec<DirectedEdge, A>, NoMemory>
+    ensures { IfOk result (λ both. HaveBothWays edges.now both.items) }
+{
+    let mut both = Vec::new(alloc);
+    for d in edges {
+        both.push(*d)?;
+        both.push(DirectedEdge {
+            from: d.to,
+            to: d.from,
+        })?;
+    }
+    Ok(both)
 }
 
 /// Whether directed edges that stand in order close into cycles.
@@ -136,9 +150,9 @@ pub fn closes<A: Allocator + Copy>(alloc: A, edges: &[DirectedEdge]) -> Result<b
     if !are_one_way(edges) {
         return Ok(false);
     }
-    let spokes = sorted_spokes(alloc, edges)?;
-    if !all_lie_apart(&spokes) {
+    let both = both_ways(alloc, edges)?;
+    if !all_lie_apart(&both) {
         return Ok(false);
     }
-    Ok(all_have_next(edges, &spokes))
+    Ok(all_have_next(edges, &both))
 }

@@ -12,11 +12,11 @@ use Rattle.polygonize.proofs.ring.ring_places.Goals as goal
 
 pub returns-clause-places : goal.returns-clause-places
 returns-clause-places g c = IfOk-weaker c.cycles.result (λ found. AreCycles c.in_ok-next.next.items (map (λ v. v.items) found.items)) (λ found. All (ArePlaces c.args.edges.now) (map (λ v. v.items) found.items))
-    (λ found h. places_of c.args.edges.now c.in_ok-next.next.items c.requires.are_directed c.in_ok-next.ensures.next (map (λ v. v.items) found.items) h (are_rings c.args.edges.now c.in_ok-next.next.items c.requires.are_directed c.in_ok-next.ensures.next (map (λ v. v.items) found.items) h)) (rw c.deref.ensures.value at c.cycles.ensures)
+    (λ found h. places_of c.args.edges.now c.in_ok-next.next.items c.requires.closes.are_directed c.in_ok-next.ensures.next (map (λ v. v.items) found.items) h (are_rings c.args.edges.now c.in_ok-next.next.items c.requires.closes.are_directed c.in_ok-next.ensures.next (map (λ v. v.items) found.items) h)) (rw c.deref.ensures.value at c.cycles.ensures)
 
 pub returns-clause-rings : goal.returns-clause-rings
 returns-clause-rings g c = IfOk-weaker c.cycles.result (λ found. AreCycles c.in_ok-next.next.items (map (λ v. v.items) found.items)) (λ found. AreRings c.args.edges.now (map (ring_of c.args.edges.now) (map (λ v. v.items) found.items)))
-    (λ found h. are_rings c.args.edges.now c.in_ok-next.next.items c.requires.are_directed c.in_ok-next.ensures.next (map (λ v. v.items) found.items) h) (rw c.deref.ensures.value at c.cycles.ensures)
+    (λ found h. are_rings c.args.edges.now c.in_ok-next.next.items c.requires.closes.are_directed c.in_ok-next.ensures.next (map (λ v. v.items) found.items) h) (rw c.deref.ensures.value at c.cycles.ensures)
 
 pub returns-clause-edges : goal.returns-clause-edges
 returns-clause-edges g c = IfOk-weaker c.cycles.result (λ found. AreCycles c.in_ok-next.next.items (map (λ v. v.items) found.items)) (λ found. All (HasItsEdges c.args.edges.now) (map (λ v. v.items) found.items))

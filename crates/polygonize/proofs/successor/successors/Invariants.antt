@@ -1,5 +1,5 @@
-use Rattle.polygonize.proofs.Linking.{Linking}
+use Rattle.polygonize.proofs.Linking.{Linked}
 use Rattle.polygonize.proofs.successor.successors.Given as goal
 
-abbrev pub invariant-loop-i : goal.invariant-loop-i
-invariant-loop-i g l = Linking l.edges l.spokes.items l.first l.i l.next.items
+abbrev pub invariant-loop-place : goal.invariant-loop-place
+invariant-loop-place g l = Linked l.edges l.place l.next.items

@@ -19,9 +19,9 @@ of-requires g c = rw c.deref-in-Some.ensures.value (two_points c.args.edges.now 
 pub loop-piece-preserved : goal.loop-piece-preserved
 loop-piece-preserved g c = (
   rest_of (λ p. IsSound c.args.edges.now p.items) c.loop-piece.pieces.items c.pop.new.self.items c.in-Some.piece c.in-Some.ensures.items c.loop-piece.invariant.0,
-  step_added (λ p. p.items) (λ w. w.ring.items) (map (λ p. p.items) c.args.pieces.items) c.loop-piece.pieces.items c.pop.new.self.items c.in-Some.piece (map (λ w. w.ring.items) c.args.written.now.items) c.loop-piece.written.items c.push.new.self.items _ c.in-Some.ensures.items c.in_ok-push.ensures.items c.turned-ring.ensures c.loop-piece.invariant.1,
+  step_added (λ p. p.items) (λ w. w.ring.items) (map (λ p. p.items) c.args.pieces.items) c.loop-piece.pieces.items c.pop.new.self.items c.in-Some.piece (map (λ w. w.ring.items) c.args.written.now.items) c.loop-piece.written.items c.add_ring.new.written.items _ c.in-Some.ensures.items c.in_ok-add_ring.ensures c.turned-ring.ensures c.loop-piece.invariant.1,
   step_entered (λ p. p.items) placed_ring c.shell_of_pieces-shell.result (is_some c.args.owner) c.first_piece-first.result (map (λ p. p.items) c.args.pieces.items) c.loop-piece.pieces.items c.pop.new.self.items
-      (map placed_ring c.args.written.now.items) c.loop-piece.written.items c.push.new.self.items c.in-Some.piece _ c.in-Some.ensures.items c.in_ok-push.ensures.items
+      (map placed_ring c.args.written.now.items) c.loop-piece.written.items c.add_ring.new.written.items c.in-Some.piece _ c.in-Some.ensures.items c.in_ok-add_ring.ensures
       (record {
         turned = c.turned-ring.ensures;
         under = refl;

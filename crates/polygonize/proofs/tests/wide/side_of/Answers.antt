@@ -1,7 +1,7 @@
 use Rattle.std.proofs.Common.{arith, ◌≡◌, ◌-ℤ◌, ◌*ℤ◌, ap, ◌∙◌, of_z, to_z, ℤ, w64}
 use Rattle.std.specs.Int.{w128}
 use Rattle.polygonize.proofs.Signed.{code}
-use Rattle.polygonize.proofs.angle.side_of.Goals as goal
+use Rattle.polygonize.proofs.tests.wide.side_of.Goals as goal
 
 pub overflow_sub-result : goal.overflow_sub-result
 overflow_sub-result c = omega (arith, code)
