@@ -1,22 +1,20 @@
 -- A line that meets a pixel of a rectangle passes the closed square round its pixels.
-use Rattle.std.proofs.Common.{◌≡◌, ◌⊎◌, inl, inr, arith, subst, sym}
-use Rattle.std.proofs.lemmas.Int.{ints}
-use Rattle.std.proofs.Math.IntN.{ℤ, pos, ◌+ℤ◌, ◌-ℤ◌, ◌*ℤ◌, neg_ℤ, nat_abs}
-use Rattle.std.specs.Prelude.{◌<ℤ◌, ◌≤ℤ◌}
+use Rattle.std.proofs.Common.{◌≡◌, inl, inr, arith}
+use Rattle.std.proofs.Math.IntN.{ℤ, pos, ◌+ℤ◌, ◌-ℤ◌, ◌*ℤ◌, neg_ℤ}
+use Rattle.std.specs.Prelude.{◌≤ℤ◌}
 use borrow.Author.Differences.{abs_is}
 use Rattle.geom.specs.declared.point.Pt.{Pt}
 use Rattle.geom.specs.declared.rect.Rect.{Rect}
 use Rattle.geom.specs.declared.edge.Edge.{Edge}
 use Rattle.geom.specs.Determinant.{determinant}
 use Rattle.geom.specs.Box.{IsInBox, LiesInBox, ShareAPoint, least_corner, greatest_corner}
-use Rattle.geom.specs.Pixel.{Point}
 use Rattle.geom.proofs.Boxes.{box_of_between}
 use Rattle.geom.specs.Route.{Meets}
 use Rattle.geom.proofs.Integers.{linear, expand, mul_nonneg}
-use Rattle.geom.proofs.Along.{Between, PassesTest, PassesCorners, meets_passes, meets_box, offset, size}
+use Rattle.geom.proofs.Along.{PassesCorners, meets_passes, meets_box, offset, size}
 use Rattle.geom.proofs.Pixels.{piece, piece_proper, meets_in}
 use Rattle.hot_pixel.specs.Rects.{IsIn}
-use Rattle.hot_pixel.specs.Halving.{IsMetOn, IsNear, centre_offset, reach}
+use Rattle.hot_pixel.specs.Halving.{IsMetOn, IsNear}
 use Rattle.hot_pixel.proofs.LineLaws.{segment_of, segment_line}
 
 pub ruleset sized = (linear, abs_is)

@@ -38,7 +38,11 @@ fn is_in(tile: &Rect, p: Pt) -> bool
 }
 
 /// Adds a pixel, if the tile has it.
-pub(crate) fn push_in<A: Allocator>(found: &mut Vec<Pt, A>, tile: &Rect, pixel: Pt) -> Result<(), NoMemory>
+pub(crate) fn push_in<A: Allocator>(
+    found: &mut Vec<Pt, A>,
+    tile: &Rect,
+    pixel: Pt,
+) -> Result<(), NoMemory>
     ensures { OnOk result (HasPushed tile.now pixel found.old.items found.new.items) }
 {
     if is_in(tile, pixel) {

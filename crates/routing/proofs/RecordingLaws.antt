@@ -1,7 +1,8 @@
 -- The records of a rectangle are those of its halves, and of the segments on its lines.
 use Rattle.std.proofs.Common.{◌≡◌, ◌⊎◌, inl, inr, ℕ, ◌+◌, ◌<◌, ◌≤◌, List, [], ◌∷◌, ◌++◌, refl, sym, ◌∙◌, ap, arith, subst, length, get_or, take, ◌↔◌, ⊎_elim}
-use Rattle.std.specs.Prelude.{All, Contains, Option, Some, None, slice_get}
+use Rattle.std.specs.Prelude.{All, Contains, Option, Some, slice_get}
 use Rattle.std.specs.List.Sorted.{IsPermutation}
+use Rattle.std.proofs.lemmas.List.Sorted.{Contains-permutation, IsPermutation-sym}
 use Rattle.std.proofs.lemmas.Bool.{cases_lt}
 use Rattle.std.proofs.lemmas.Option.{slice_get-get_or, get_or_from_slice_get, slice_get_within}
 use Rattle.std.proofs.lemmas.List.Elements.{All-contains, Contains-push, Contains-push_cases, Contains-get_or, Contains-append_left, Contains-append_right, Contains-append_cases}
@@ -9,7 +10,6 @@ use Rattle.geom.specs.declared.point.Pt.{Pt}
 use Rattle.geom.specs.declared.rect.Rect.{Rect}
 use Rattle.geom.specs.declared.edge.Edge.{Edge}
 use Rattle.geom.specs.declared.segment.Seg.{Seg}
-use Rattle.geom.specs.Route.{Meets}
 use Rattle.geom.specs.Limit.{InLimit, AreInLimit}
 use Rattle.hot_pixel.specs.Rects.{IsIn}
 use Rattle.hot_pixel.specs.declared.lines.Line.{Line}
@@ -17,7 +17,8 @@ use Rattle.hot_pixel.specs.Candidates.{chosen, AreOwnedHot}
 use Rattle.hot_pixel.specs.Lines.{IsLine, AreLines}
 use Rattle.hot_pixel.specs.Halving.{edges_of, IsMetOn, IsHotFor, HasHot, ArePassing, AreHalves, IsPartInLimit}
 use Rattle.hot_pixel.proofs.HotLaws.{met_limit}
-use Rattle.hot_pixel.proofs.CandidateLaws.{in_chosen}
+use Rattle.hot_pixel.proofs.CandidateLaws.{all_chosen, in_chosen}
+use Rattle.hot_pixel.proofs.SweepLaws.{lines_limit}
 use Rattle.hot_pixel.proofs.LineLaws.{segment_of, segment_line}
 use Rattle.hot_pixel.proofs.HalvingLaws.{hot_whole, hot_part, line_at, edge_in, met_on, end_met, first_met, hot_of_lines, lines_of_hot}
 use Rattle.hot_pixel.proofs.ListLaws.{none_in, in_push, in_take_more}
@@ -30,7 +31,8 @@ use Rattle.routing.specs.Steps.{steps_to}
 use Rattle.routing.specs.Recording.{IsTable, AreLinesOf, IsCopy, IsRecordAlong, IsRecordOnOne, AddsAt, AddsAlong, AddsRecordsAt, AddsRecords}
 use Rattle.routing.proofs.PieceLaws.{in_candidates}
 
-some_same : {X : Type 0} {x y : X} {o : Option X} → o ≡ Some x → o ≡ Some y → x ≡ y
+-- an option has one value
+pub some_same : {X : Type 0} {x y : X} {o : Option X} → o ≡ Some x → o ≡ Some y → x ≡ y
 some_same {X} {x} {y} {o} e f = cc
 
 -- ---- the segments on one line, at one pixel
@@ -59,14 +61,14 @@ at_more segments table first place pixel old list x s y l at is e f g h = record
     from r (inr (k, p)) = ⊎_elim
         (λ m. in_push list r y ((h.same r).1 (inr (record { place = k.place; from = k.from; to = m; x = k.x; entry = k.entry; s = k.s; is_at = k.is_at; numbered = k.numbered; steps_are = k.steps_are }, p))))
         (λ m.
-            let q : k.place ≡ place = (let a = k.to in omega arith) in
-            let u : x ≡ k.x = some_same at (ap (slice_get table) (sym q) ∙ k.entry) in
-            let v : s ≡ k.s = some_same is (ap (λ (z : OnLine). slice_get segments z.number) u ∙ k.is_at) in
-            let a : y.segment ≡ r.segment = e ∙ ap (λ (z : OnLine). z.number) u ∙ sym k.numbered in
-            let b : y.pixel ≡ r.pixel = g ∙ p in
-            let d : y.steps ≡ r.steps = f ∙ ap (steps_to s) p ∙ ap (λ (t : Seg). steps_to t r.pixel) v ∙ sym k.steps_are in
-            let whole : y ≡ r = λ j. record { segment = a j; steps = d j; pixel = b j } in
-            subst (λ (z : Record). Contains (list ++ y ∷ []) z) whole (Contains-push list y))
+        let q : k.place ≡ place = (let a = k.to in omega arith) in
+        let u : x ≡ k.x = some_same at (ap (slice_get table) (sym q) ∙ k.entry) in
+        let v : s ≡ k.s = some_same is (ap (λ (z : OnLine). slice_get segments z.number) u ∙ k.is_at) in
+        let a : y.segment ≡ r.segment = e ∙ ap (λ (z : OnLine). z.number) u ∙ sym k.numbered in
+        let b : y.pixel ≡ r.pixel = g ∙ p in
+        let d : y.steps ≡ r.steps = f ∙ ap (steps_to s) p ∙ ap (λ (t : Seg). steps_to t r.pixel) v ∙ sym k.steps_are in
+        let whole : y ≡ r = λ j. record { segment = a j; steps = d j; pixel = b j } in
+        subst (λ (z : Record). Contains (list ++ y ∷ []) z) whole (Contains-push list y))
         (cases_lt k.place place)
 
 -- no place is left
@@ -161,8 +163,8 @@ module _ (rect : Rect) (lines : List Line) (new pixels : List Pt) (hot : HasHot 
   pub records_all : (segments : List Seg) (table : List OnLine) (old list : List Record) → AddsRecordsAt segments table lines pixels old list → AddsRecords segments table rect lines old list
   records_all segments table old list h = record {
     same = λ r. (
-      (λ k. ⊎_elim (λ m. inl m) (λ m. inr (m.0, hot_at r.pixel m.1)) ((h.same r).0 k)),
-      (λ k. ⊎_elim (λ m. (h.same r).1 (inl m)) (λ m. (h.same r).1 (inr (m.0, (same r.pixel).1 ((hot.same r.pixel).1 (inr m.1))))) k),
+      (λ k. ⊎_elim (λ m. inl m) (λ m. let t = hot_at r.pixel m.1 in inr (m.0, t.0, t.1)) ((h.same r).0 k)),
+      (λ k. ⊎_elim (λ m. (h.same r).1 (inl m)) (λ m. (h.same r).1 (inr (m.0, (same r.pixel).1 ((hot.same r.pixel).1 (inr (m.1, m.2)))))) k),
     );
   }
 
@@ -217,8 +219,14 @@ table_more segments numbers i k s x list l is at on e h = record { only = only; 
         (λ o. (x, Contains-push list x, e ∙ o))
         ((more n).0 m)
 
-pub table_same : (segments : List Seg) (numbers : List ℕ) (xs ys : List OnLine) → ((x : OnLine) → Contains ys x ↔ Contains xs x) → IsTable segments numbers xs → IsTable segments numbers ys
-table_same segments numbers xs ys same h = record { only = λ x m. h.only x ((same x).0 m); all = λ k m. let r = h.all k m in (r.0, (same r.0).1 r.1, r.2) }
+pub table_same : (segments : List Seg) (numbers : List ℕ) (xs ys : List OnLine) → IsPermutation xs ys → IsTable segments numbers xs → IsTable segments numbers ys
+table_same segments numbers xs ys moved h = record {
+  only = λ x m. h.only x (Contains-permutation ys xs x (IsPermutation-sym xs ys moved) m);
+  all = λ k m. let r = h.all k m in (r.0, Contains-permutation xs ys r.0 moved r.1, r.2);
+}
+
+pub table_below : (segments : List Seg) (numbers : List ℕ) (table : List OnLine) → IsTable segments numbers table → All (λ x. x.number < length segments) table
+table_below segments numbers table h = λ k d l. let x = get_or table k d in let r = h.only x (Contains-get_or table k d l) in slice_get_within segments x.number r.1.0 r.1.1
 
 -- ---- the lines of the table
 -- the lines of the first places
@@ -293,6 +301,12 @@ module _ (segments : List Seg) (numbers : List ℕ) (table : List OnLine) (lines
           let (place, x, l, at, n, listed, a, b) = entry_of r.0 r.1 in
           (l.edge, edge_in lines l listed, on_its_line l place x s listed a b at (ap (slice_get segments) n ∙ r.2))
 
+  pub lines_in_limit : All (λ s. AreInLimit s.a s.b) segments → All (λ l. AreInLimit l.edge.p l.edge.q) lines
+  lines_in_limit limits = λ k d b.
+      let l = get_or lines k d in
+      let edges = lines_limit (chosen segments numbers) (edges_of lines) (all_chosen (λ s. AreInLimit s.a s.b) segments numbers (λ s h. All-contains (λ (t : Seg). AreInLimit t.a t.b) segments s limits h)) lines_are in
+      All-contains (λ (e : Edge). AreInLimit e.p e.q) (edges_of lines) l.edge edges (edge_in lines l (Contains-get_or lines k d b))
+
   pub tile_records : (tile part : Rect) (pixels : List Pt) (records : List Record) → IsPartInLimit tile part → AreOwnedHot (IsIn tile) (chosen segments numbers) pixels → ((c : Pt) → Contains pixels c → IsIn part c) → AddsRecords segments table part lines [] records → HasRecords (candidates_of segments numbers) pixels records
   tile_records tile part pixels records within hot inside h = record { same = λ r. (to r, from r) }
     where
@@ -304,9 +318,10 @@ module _ (segments : List Seg) (numbers : List ℕ) (table : List OnLine) (lines
           let number : Contains numbers r.segment = subst (λ (n : ℕ). Contains numbers n) (sym copy.numbered) entry.0 in
           let at : slice_get segments r.segment ≡ Some copy.s = ap (slice_get segments) copy.numbered ∙ copy.is_at in
           let c : Candidate = record { number = r.segment; segment = copy.s } in
-          let on = on_its_line k.0.line copy.place copy.x copy.s k.0.listed copy.from copy.to copy.entry copy.is_at in
-          ((c, (in_candidates segments numbers c).1 (number, at), record { numbered = refl; met = k.0.along.met.meets copy.s on; steps_are = copy.steps_are }),
-            (hot.exact r.pixel).1 (hot_of_lines (chosen segments numbers) (edges_of lines) r.pixel lines_are k.1, within.only r.pixel k.2))
+          let on = on_its_line k.0.line copy.place copy.x copy.s k.0.listed copy.from copy.to copy.entry copy.is_at in (
+            (c, (in_candidates segments numbers c).1 (number, at), record { numbered = refl; met = k.0.along.met.meets copy.s on; steps_are = copy.steps_are }),
+            (hot.exact r.pixel).1 (hot_of_lines (chosen segments numbers) (edges_of lines) r.pixel lines_are k.1, within.only r.pixel k.2),
+          )
 
       from : (r : Record) → ((c : Candidate) × Contains (candidates_of segments numbers) c × IsRecordOf c.number c.segment r) × Contains pixels r.pixel → Contains records r
       from r ((c, k, of), at) =

@@ -1,6 +1,6 @@
 //! Segments by their lines: those with the same ends stand together, whatever their direction and layer.
 
-ghost use Rattle.std.specs.Prelude.{◌≡◌, ◌+◌, ◌<◌, ◌≤◌, All, IfOk, Some, length, slice_get};
+ghost use Rattle.std.specs.Prelude.{ℕ, ◌≡◌, ◌+◌, ◌<◌, ◌≤◌, All, IfOk, Some, length, slice_get};
 ghost use Rattle.routing.specs.Recording.{IsTable, AreLinesOf};
 
 use geom::{Edge, NoMemory, Seg};
@@ -63,10 +63,7 @@ fn past_of(table: &[OnLine], first: usize) -> usize
 }
 
 /// The lines of segments that stand by their lines.
-pub(crate) fn lines_of<A: Allocator>(
-    alloc: A,
-    table: &[OnLine],
-) -> Result<Vec<Line, A>, NoMemory>
+pub(crate) fn lines_of<A: Allocator>(alloc: A, table: &[OnLine]) -> Result<Vec<Line, A>, NoMemory>
     ensures { IfOk result (λ v. AreLinesOf table.now v.items) }
 {
     let mut lines = Vec::new(alloc);

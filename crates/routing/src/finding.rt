@@ -1,14 +1,12 @@
-//! How a piece is found: the hot pixels of its tile, and among them those that each candidate meets.
+//! How a piece is made: the records of its tile, in order, with what they were found among.
 
-ghost use Rattle.std.specs.Prelude.{ℕ, ◌≡◌, ◌↔◌, ◌⊎◌, ◌<◌, ◌^◌, All, AllPairs, Contains, IfOk, OnOk, length};
+ghost use Rattle.std.specs.Prelude.{◌≡◌, ◌↔◌, ◌<◌, All, IfOk, length};
 ghost use Rattle.geom.specs.declared.point.Pt.{Pt};
-ghost use Rattle.geom.specs.Limit.{AreInLimit, InLimit};
-ghost use Rattle.geom.specs.Order.{IsBefore};
+ghost use Rattle.geom.specs.Limit.{AreInLimit};
 ghost use Rattle.hot_pixel.specs.Rects.{IsIn};
 ghost use Rattle.tiling.specs.Tiles.{tile_count, Owns};
 ghost use Rattle.hot_pixel.specs.Candidates.{AreCandidates};
 ghost use Rattle.routing.specs.Pieces.{candidates_of, IsPieceOf};
-ghost use Rattle.routing.specs.Found.{HasRecordsOf, HasRecords};
 
 use crate::halved::{Found, found_in};
 use crate::pieces::Piece;

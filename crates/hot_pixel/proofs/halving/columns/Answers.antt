@@ -1,4 +1,4 @@
-use Rattle.std.proofs.Common.{refl, rules, to_z-of_z, arith}
+use Rattle.std.proofs.Common.{refl, arith}
 use Rattle.std.proofs.lemmas.Int.{ints}
 use Rattle.hot_pixel.proofs.HalvingLaws.{halves_by_x}
 use Rattle.hot_pixel.proofs.halving.columns.Goals as goal

@@ -1,4 +1,4 @@
-use Rattle.std.proofs.Common.{List, subst, refl, true}
+use Rattle.std.proofs.Common.{List, subst}
 use Rattle.std.proofs.lemmas.List.{take_all}
 use Rattle.hot_pixel.specs.declared.lines.Line.{Line}
 use Rattle.hot_pixel.specs.Halving.{ArePassing}

@@ -1,9 +1,8 @@
 use Rattle.std.proofs.Common.{◌≡◌, arith}
-use Rattle.std.proofs.Math.IntN.{ℤ, pos, neg_ℤ}
-use Rattle.std.specs.Prelude.{◌<ℤ◌, ◌≤ℤ◌}
+use Rattle.std.proofs.Math.IntN.{pos, neg_ℤ}
 use Rattle.std.specs.Int.{int_min, int_max}
 use Rattle.std.proofs.lemmas.Int.{ints, clamps}
-use Rattle.geom.specs.Limit.{IsWithin, coordinate_limit}
+use Rattle.geom.specs.Limit.{coordinate_limit}
 use Rattle.hot_pixel.proofs.HalvingLaws.{part_by, clip_empty}
 use Rattle.hot_pixel.proofs.halving.within_limit.Goals as goal
 use Rattle.hot_pixel.proofs.halving.within_limit.Goals.{else-left-right-via-then-left-right+else-bottom-top, else-left-right-via-else-left-right}

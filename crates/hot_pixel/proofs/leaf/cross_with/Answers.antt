@@ -1,4 +1,4 @@
-use Rattle.std.proofs.Common.{◌≡◌, ◌∙◌, inl, refl, sym, ap, true, Some, List, subst}
+use Rattle.std.proofs.Common.{◌∙◌, inl, refl, sym, ap, Some, List, subst}
 use Rattle.std.proofs.lemmas.List.{take_all}
 use Rattle.geom.specs.declared.edge.Edge.{Edge}
 use Rattle.hot_pixel.specs.Lines.{IsLine, HasCrossed}
