@@ -5,3 +5,5 @@ pub mod LineLaws
 pub mod SweepLaws
 pub mod CandidateLaws
 pub mod RectLaws
+pub mod HalvingLaws
+pub mod NearLaws

@@ -81,7 +81,7 @@ module _ (tile : Rect) (e : Edge) (others : List Edge) (i : ℕ) (f : Edge) (old
   }
 
 -- ---- lines that lie apart, and a line with itself
-crossing_of : (e f : Edge) (c : Pt) → CrossAt e f c → CrossIn (segment_of e) (segment_of f) c
+pub crossing_of : (e f : Edge) (c : Pt) → CrossAt e f c → CrossIn (segment_of e) (segment_of f) c
 crossing_of e f c h = h.cross (segment_of e) (segment_of f) (segment_line e) (segment_line f)
 
 pub cross_turn : (e f : Edge) (c : Pt) → CrossAt e f c → CrossAt f e c
@@ -90,7 +90,7 @@ cross_turn e f c h = cross_at f e (segment_of f) (segment_of e) c (segment_line 
 level : (a b : Pt) → turn a b a b ≡ pos 0
 level a b = simp expand (omega (arith, linear))
 
-not_itself : (s : Seg) (c : Pt) → CrossIn s s c → ⊥
+pub not_itself : (s : Seg) (c : Pt) → CrossIn s s c → ⊥
 not_itself s c h = h.not_parallel (level s.a s.b)
 
 apart : (a b c d x : ℤ) → a ≤ℤ b → c ≤ℤ d → b <ℤ c → Between a b x → Between c d x → ⊥

@@ -1,3 +1,4 @@
 pub mod Candidates
 pub mod Rects
 pub mod Lines
+pub mod Halving

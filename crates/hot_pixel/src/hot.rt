@@ -43,6 +43,7 @@ pub fn sweep<L: Ledger, A: Allocator + Copy>(
     requires limits { All (λ s. AreInLimit s.a s.b) segments.now }
     requires candidates { AreCandidates (Owns grid.now tile) segments.now numbers.now }
     ensures hot { IfOk result (λ v. AreOwnedHot (Owns grid.now tile) segments.now v.items) }
+    ensures onward { count.old ≤ count.new }
     ensures cost { count.new ≤ count.old + meeting_pairs (chosen segments.now numbers.now) }
 {
     let rect = grid.rect(tile);

@@ -1,9 +1,15 @@
 //! The hot pixels that a tile owns.
 #![tactic(auto)]
 
+mod halving;
 mod hot;
+mod leaf;
 mod lines;
 mod pixels;
 mod tile_sweep;
 
+pub use halving::{cut, passing, within_limit};
 pub use hot::{hot_in, sweep};
+pub use leaf::add_hot;
+pub use lines::{Line, edge_of, on_line};
+pub use pixels::ascending;

@@ -9,8 +9,18 @@ ghost use Rattle.hot_pixel.specs.Lines.{line_pairs, AreEachLine, AreLines, IsLin
 use geom::{Edge, NoMemory, Seg, Source};
 use std::alloc::Allocator;
 
-/// The line of a segment.
-fn line(s: &Seg) -> Edge
+/// The line of some segments: the edge with their ends. In a list of segments by lines they stand from the first place on,
+/// up to the one past them.
+#[derive(Clone, Copy, Debug)]
+pub struct Line {
+    pub edge: Edge,
+    pub first: usize,
+    pub past: usize,
+    ghost ordered: { first ≤ past },
+}
+
+/// The edge with the ends of a segment.
+pub fn edge_of(s: &Seg) -> Edge
     ensures { IsLine result s.now }
 {
     if s.a < s.b {
@@ -21,7 +31,7 @@ fn line(s: &Seg) -> Edge
 }
 
 /// A segment on a line.
-pub(crate) fn on_line(e: &Edge) -> Seg
+pub fn on_line(e: &Edge) -> Seg
     ensures a { result.a ≡ e.now.p }
     ensures b { result.b ≡ e.now.q }
 {
@@ -43,7 +53,7 @@ fn each_line<A: Allocator>(
 {
     let mut list = Vec::new(alloc);
     for number in numbers {
-        list.push(line(&segments[*number as usize]))?;
+        list.push(edge_of(&segments[*number as usize]))?;
     }
     Ok(list)
 }

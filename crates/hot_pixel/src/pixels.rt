@@ -38,7 +38,11 @@ fn is_in(tile: &Rect, p: Pt) -> bool
 }
 
 /// Adds a pixel, if the tile has it.
-fn push_in<A: Allocator>(found: &mut Vec<Pt, A>, tile: &Rect, pixel: Pt) -> Result<(), NoMemory>
+pub(crate) fn push_in<A: Allocator>(
+    found: &mut Vec<Pt, A>,
+    tile: &Rect,
+    pixel: Pt,
+) -> Result<(), NoMemory>
     ensures { OnOk result (HasPushed tile.now pixel found.old.items found.new.items) }
 {
     if is_in(tile, pixel) {
@@ -64,7 +68,7 @@ pub(crate) fn ends_in<A: Allocator>(
 }
 
 /// The same pixels, ascending and each once.
-pub(crate) fn ascending<A: Allocator>(mut pixels: Vec<Pt, A>) -> Vec<Pt, A>
+pub fn ascending<A: Allocator>(mut pixels: Vec<Pt, A>) -> Vec<Pt, A>
     ensures order { AllPairs IsBefore result.items }
     ensures same { (c : Pt) → Contains result.items c ↔ Contains pixels.items c }
 {
@@ -84,6 +88,7 @@ pub(crate) fn cross_all<L: Ledger, A: Allocator>(
     requires line_in { AreInLimit line.now.p line.now.q }
     requires others_in { All (λ e. AreInLimit e.p e.q) others.now }
     ensures crossed { OnOk result (HasCrossed tile.now line.now others.now found.old.items found.new.items) }
+    ensures onward { count.old ≤ count.new }
     ensures cost { count.new ≤ count.old + count_by (lines_meet line.now) others.now }
 {
     let s = on_line(line);

@@ -41,6 +41,7 @@ fn cross_lines<L: Ledger, A: Allocator + Copy>(
     requires ordered { AllPairs IsEdgeBefore lines.now }
     requires limits { All (λ e. AreInLimit e.p e.q) lines.now }
     ensures crossed { OnOk result (HasAllCrossed tile.now lines.now found.old.items found.new.items) }
+    ensures onward { count.old ≤ count.new }
     ensures cost { count.new ≤ count.old + line_pairs lines.now }
 {
     let mut active = Vec::new(alloc);
@@ -63,6 +64,7 @@ pub(crate) fn sweep_tile<L: Ledger, A: Allocator + Copy>(
     requires limits { All (λ s. AreInLimit s.a s.b) segments.now }
     requires below { All (λ k. k < length segments.now) numbers.now }
     ensures hot { IfOk result (λ v. AreOwnedHot (IsIn tile.now) (chosen segments.now numbers.now) v.items) }
+    ensures onward { count.old ≤ count.new }
     ensures cost { count.new ≤ count.old + meeting_pairs (chosen segments.now numbers.now) }
 {
     let list = lines(alloc, segments, numbers)?;

@@ -1,8 +1,8 @@
 -- The records of a piece, as they are found.
 use Rattle.std.proofs.Common.{◌≡◌, ◌⊎◌, inl, inr, ℕ, ◌+◌, ◌<◌, List, [], ◌∷◌, ◌++◌, Less, refl, sym, ◌∙◌, ap, arith, subst, length, get_or, take, ◌↔◌, ⊎_elim}
-use Rattle.std.specs.Prelude.{All, Contains, Option, Some, None, slice_get}
+use Rattle.std.specs.Prelude.{Contains, Option, Some, None, slice_get}
 use Rattle.std.proofs.lemmas.List.{take_more}
-use Rattle.std.proofs.lemmas.List.Elements.{All-contains, Contains-push_cases, Contains-push, Contains-get_or, filter_map-append}
+use Rattle.std.proofs.lemmas.List.Elements.{Contains-get_or, filter_map-append}
 use Rattle.std.proofs.lemmas.Cmp.{tied_itself}
 use Rattle.geom.specs.declared.point.Pt.{Pt}
 use Rattle.geom.specs.declared.rect.Rect.{Rect}
@@ -11,76 +11,16 @@ use Rattle.geom.specs.Hot.{IsHot}
 use Rattle.geom.specs.Route.{Meets, IsEarlier}
 use Rattle.hot_pixel.specs.Rects.{IsIn}
 use Rattle.hot_pixel.specs.Candidates.{chosen, AreCandidates, AreOwnedHot}
-use Rattle.hot_pixel.proofs.ListLaws.{in_cons, from_cons, here, none_in, in_push, in_take_more}
+use Rattle.hot_pixel.proofs.ListLaws.{in_cons, from_cons, here, none_in}
 use Rattle.hot_pixel.proofs.Orders.{IsSortedOnce}
-use Rattle.hot_pixel.proofs.CandidateLaws.{owned_of_all, owned_of_chosen, owned_by, hot_of_candidates, hot_from_candidates, at_contains}
-use Rattle.hot_pixel.proofs.HotLaws.{hot_limit}
-use Rattle.geom.specs.Limit.{InLimit, AreInLimit}
+use Rattle.hot_pixel.proofs.CandidateLaws.{owned_of_all, owned_by, hot_of_candidates, hot_from_candidates}
 use Rattle.routing.specs.declared.record.Record.{Record}
 use Rattle.routing.specs.declared.record.Candidate.{Candidate}
 use Rattle.routing.specs.Steps.{steps_to}
-use Rattle.routing.specs.Found.{IsRecordOf, HasRecordsOf, HasRecords}
+use Rattle.routing.specs.Found.{HasRecords}
 use Rattle.routing.specs.Pieces.{candidate_at, candidates_of, segments_of, IsRecord, IsAlong, IsPieceOf, IsRecordIn, IsAlongIn, IsPiece}
 use Rattle.routing.proofs.StepLaws.{earlier_from_steps, same_from_steps}
 use Rattle.routing.proofs.RecordOrder.{record_cmp, record_total, record_less}
-
--- ---- one segment
-pub records_none : (number : ℕ) (s : Seg) (old : List Record) → HasRecordsOf number s [] old old
-records_none number s old = record { same = λ r. (λ h. inl h, λ h. ⊎_elim (λ k. k) (λ k. absurd (none_in r.pixel k.1)) h) }
-
-module _ (number : ℕ) (s : Seg) (old : List Record) (pixels : List Pt) (list : List Record) (i : ℕ) (pixel : Pt) (below : i < length pixels) (is : pixel ≡ get_or pixels i pixel) (h : HasRecordsOf number s (take i pixels) old list) where
-  more : (r : Record) → (Contains (take (i + 1) pixels) r.pixel) ↔ (Contains (take i pixels) r.pixel ⊎ (pixel ≡ r.pixel))
-  more r = in_take_more pixels i pixel below is r.pixel
-
-  pub records_skip : ¬ (Meets s pixel) → HasRecordsOf number s (take (i + 1) pixels) old list
-  records_skip misses = record {
-    same = λ r. (
-      (λ k. ⊎_elim (λ l. inl l) (λ l. inr (l.0, (more r).1 (inl l.1))) ((h.same r).0 k)),
-      (λ k. (h.same r).1 (⊎_elim (λ l. inl l) (λ l. ⊎_elim (λ m. inr (l.0, m)) (λ e. absurd (misses (subst (λ (c : Pt). Meets s c) (sym e) l.0.met))) ((more r).0 l.1)) k)),
-    );
-  }
-
-  pub records_push : Meets s pixel → (x : Record) → x.segment ≡ number → x.steps ≡ steps_to s pixel → x.pixel ≡ pixel → HasRecordsOf number s (take (i + 1) pixels) old (list ++ x ∷ [])
-  records_push meets x e f g = record { same = λ r. (to r, from r) }
-    where
-      is_of : IsRecordOf number s x
-      is_of = record { numbered = e; met = subst (λ (c : Pt). Meets s c) (sym g) meets; steps_are = f ∙ ap (steps_to s) (sym g) }
-
-      only : (r : Record) → IsRecordOf number s r → pixel ≡ r.pixel → x ≡ r
-      only r k p = let a : x.segment ≡ r.segment = e ∙ sym k.numbered in let b : x.pixel ≡ r.pixel = g ∙ p in let d : x.steps ≡ r.steps = f ∙ ap (steps_to s) p ∙ sym k.steps_are in λ j. record { segment = a j; steps = d j; pixel = b j }
-
-      to : (r : Record) → Contains (list ++ x ∷ []) r → Contains old r ⊎ (IsRecordOf number s r × Contains (take (i + 1) pixels) r.pixel)
-      to r k = ⊎_elim
-          (λ l. ⊎_elim (λ m. inl m) (λ m. inr (m.0, (more r).1 (inl m.1))) ((h.same r).0 l))
-          (λ p. inr (subst (λ (y : Record). IsRecordOf number s y) p is_of, (more r).1 (inr (sym g ∙ ap (λ (y : Record). y.pixel) p))))
-          (Contains-push_cases list x r k)
-
-      from : (r : Record) → Contains old r ⊎ (IsRecordOf number s r × Contains (take (i + 1) pixels) r.pixel) → Contains (list ++ x ∷ []) r
-      from r k = ⊎_elim
-          (λ l. in_push list r x ((h.same r).1 (inl l)))
-          (λ l. ⊎_elim (λ m. in_push list r x ((h.same r).1 (inr (l.0, m)))) (λ p. subst (λ (y : Record). Contains (list ++ x ∷ []) y) (only r l.0 p) (Contains-push list x)) ((more r).0 l.1))
-          k
-
--- ---- the candidates of a tile
-pub all_none : (pixels : List Pt) → HasRecords [] pixels []
-all_none pixels = record { same = λ r. (λ h. absurd (none_in r h), λ h. absurd (none_in h.0.0 h.0.1)) }
-
--- one more candidate, whose pixels may be any part that has those that it meets
-pub all_more : (candidates : List Candidate) (pixels part : List Pt) (i : ℕ) (x : Candidate) (list new : List Record) → i < length candidates → x ≡ get_or candidates i x
-    → ((c : Pt) → Contains part c → Contains pixels c) → ((c : Pt) → Contains pixels c → Meets x.segment c → Contains part c)
-    → HasRecords (take i candidates) pixels list → HasRecordsOf x.number x.segment part list new → HasRecords (take (i + 1) candidates) pixels new
-all_more candidates pixels part i x list new l is only all h g = record {
-  same = λ r. (
-    (λ k. ⊎_elim
-        (λ m. let n = (h.same r).0 m in ((n.0.0, (in_take_more candidates i x l is n.0.0).1 (inl n.0.1), n.0.2), n.1))
-        (λ m. ((x, (in_take_more candidates i x l is x).1 (inr refl), m.0), only r.pixel m.1))
-        ((g.same r).0 k)),
-    (λ ((c, k, m), at). ⊎_elim
-        (λ n. (g.same r).1 (inl ((h.same r).1 ((c, n, m), at))))
-        (λ n. let m' : IsRecordOf x.number x.segment r = subst (λ (y : Candidate). IsRecordOf y.number y.segment r) (sym n) m in (g.same r).1 (inr (m', all r.pixel at m'.met)))
-        ((in_take_more candidates i x l is c).0 k)),
-  );
-}
 
 -- ---- candidates by their numbers
 pub candidates_more : (segments : List Seg) (numbers : List ℕ) (i k : ℕ) (s : Seg) → i < length numbers → k ≡ get_or numbers i k → slice_get segments k ≡ Some s
@@ -215,24 +155,7 @@ piece_of_all Owned segments numbers tile candidates hot records same are is h = 
       steps_are = k.steps_are;
     })
 
--- ---- limits
-pub candidates_limit : (segments : List Seg) (numbers : List ℕ) → All (λ s. AreInLimit s.a s.b) segments → All (λ c. AreInLimit c.segment.a c.segment.b) (candidates_of segments numbers)
-candidates_limit segments numbers limits = λ k d l. let c = get_or (candidates_of segments numbers) k d in let r = (in_candidates segments numbers c).0 (Contains-get_or (candidates_of segments numbers) k d l) in All-contains (λ (s : Seg). AreInLimit s.a s.b) segments c.segment limits (at_contains segments c.number c.segment r.1)
-
-pub pixels_limit : (Owned : Pt → Type 0) (segments : List Seg) (pixels : List Pt) → All (λ s. AreInLimit s.a s.b) segments → AreOwnedHot Owned segments pixels → All InLimit pixels
-pixels_limit Owned segments pixels limits h = λ k d l. hot_limit segments (get_or pixels k d) limits ((h.exact (get_or pixels k d)).0 (Contains-get_or pixels k d l)).0
-
 -- ---- what `piece` makes
-pub piece_of_owned : (Owned : Pt → Type 0) (segments : List Seg) (numbers : List ℕ) (tile : Rect) (pixels : List Pt) (found records : List Record) → ((c : Pt) → IsIn tile c ↔ Owned c) → AreCandidates Owned segments numbers → AreOwnedHot Owned segments pixels
-    → HasRecords (candidates_of segments numbers) pixels found → IsSortedOnce record_cmp found records → IsPiece tile (candidates_of segments numbers) (length pixels) records
-piece_of_owned Owned segments numbers tile pixels found records same are hot all once =
-    piece_is segments numbers tile pixels found records
-    (owned_by Owned (IsIn tile) (chosen segments numbers) pixels (λ c. ((λ h. (same c).1 h), (λ h. (same c).0 h))) (owned_of_chosen Owned segments numbers pixels are hot))
-    all once (length pixels) refl
-
-pub piece_made : (Owned : Pt → Type 0) (segments : List Seg) (numbers : List ℕ) (tile : Rect) (pixels ps : List Pt) (cs ds : List Candidate) (found records : List Record) (n : ℕ) → ((c : Pt) → IsIn tile c ↔ Owned c) → AreCandidates Owned segments numbers → AreOwnedHot Owned segments pixels
-    → ps ≡ pixels → cs ≡ candidates_of segments numbers → ds ≡ cs → HasRecords ds ps found → IsSortedOnce record_cmp found records → n ≡ length pixels → IsPiece tile cs n records
-piece_made Owned segments numbers tile pixels ps cs ds found records n same are hot ep ec ed all once en =
-    let all' : HasRecords (candidates_of segments numbers) pixels found = subst (λ (xs : List Candidate). HasRecords xs pixels found) (ed ∙ ec) (subst (λ (xs : List Pt). HasRecords ds xs found) ep all) in
-    let made = piece_of_owned Owned segments numbers tile pixels found records same are hot all' once in
-    subst (λ (xs : List Candidate). IsPiece tile xs n records) (sym ec) (subst (λ (m : ℕ). IsPiece tile (candidates_of segments numbers) m records) (sym en) made)
+pub piece_found : (segments : List Seg) (numbers : List ℕ) (tile : Rect) (pixels : List Pt) (candidates : List Candidate) (found records : List Record) (n : ℕ) → AreOwnedHot (IsIn tile) (chosen segments numbers) pixels → candidates ≡ candidates_of segments numbers
+    → HasRecords (candidates_of segments numbers) pixels found → IsSortedOnce record_cmp found records → n ≡ length pixels → IsPiece tile candidates n records
+piece_found segments numbers tile pixels candidates found records n hot e all once is = subst (λ (cs : List Candidate). IsPiece tile cs n records) (sym e) (piece_is segments numbers tile pixels found records hot all once n is)

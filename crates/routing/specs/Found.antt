@@ -1,5 +1,5 @@
 -- Records that were found so far.
-use Rattle.std.specs.Prelude.{◌≡◌, ◌⊎◌, ◌↔◌, ℕ, Contains, List}
+use Rattle.std.specs.Prelude.{◌≡◌, ◌↔◌, ℕ, Contains, List}
 use Rattle.geom.specs.declared.point.Pt.{Pt}
 use Rattle.geom.specs.declared.segment.Seg.{Seg}
 use Rattle.geom.specs.Route.{Meets}
@@ -12,10 +12,6 @@ pub record IsRecordOf (number : ℕ) (s : Seg) (r : Record) : Type 0 where
   pub numbered : r.segment ≡ number
   pub met : Meets s r.pixel
   pub steps_are : r.steps ≡ steps_to s r.pixel
-
--- new has the records of old, and those of s at the pixels
-pub record HasRecordsOf (number : ℕ) (s : Seg) (pixels : List Pt) (old new : List Record) : Type 0 where
-  pub same : (r : Record) → Contains new r ↔ (Contains old r ⊎ (IsRecordOf number s r × Contains pixels r.pixel))
 
 -- the records of the candidates at the pixels
 pub record HasRecords (candidates : List Candidate) (pixels : List Pt) (records : List Record) : Type 0 where

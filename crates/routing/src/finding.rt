@@ -1,47 +1,19 @@
-//! How a piece is found: the hot pixels of its tile, and among them those that each candidate meets.
+//! How a piece is made: the records of its tile, in order, with what they were found among.
 
-ghost use Rattle.std.specs.Prelude.{ℕ, ◌≡◌, ◌↔◌, ◌⊎◌, ◌<◌, ◌^◌, All, AllPairs, Contains, IfOk, OnOk, length};
+ghost use Rattle.std.specs.Prelude.{◌≡◌, ◌↔◌, ◌<◌, All, IfOk, length};
 ghost use Rattle.geom.specs.declared.point.Pt.{Pt};
-ghost use Rattle.geom.specs.Limit.{AreInLimit, InLimit};
-ghost use Rattle.geom.specs.Order.{IsBefore};
+ghost use Rattle.geom.specs.Limit.{AreInLimit};
 ghost use Rattle.hot_pixel.specs.Rects.{IsIn};
 ghost use Rattle.tiling.specs.Tiles.{tile_count, Owns};
 ghost use Rattle.hot_pixel.specs.Candidates.{AreCandidates};
 ghost use Rattle.routing.specs.Pieces.{candidates_of, IsPieceOf};
-ghost use Rattle.routing.specs.Found.{HasRecordsOf, HasRecords};
 
-use crate::columns::columns_of;
-use crate::met::meets;
+use crate::halved::{Found, found_in};
 use crate::pieces::Piece;
-use crate::record::{Candidate, Record, steps_to};
-use geom::{NoMemory, Pt, Seg};
-use hot_pixel::hot_in;
+use crate::record::Candidate;
+use geom::{NoMemory, Seg};
 use std::alloc::Allocator;
 use tiling::Grid;
-
-/// Adds the records of a segment at these pixels.
-fn add_met<A: Allocator>(
-    records: &mut Vec<Record, A>,
-    number: u32,
-    s: &Seg,
-    pixels: &[Pt],
-) -> Result<(), NoMemory>
-    requires segment_in { AreInLimit s.now.a s.now.b }
-    requires pixels_in { All InLimit pixels.now }
-    ensures { OnOk result (HasRecordsOf number s.now pixels.now records.old.items records.new.items) }
-{
-    for pixel in pixels {
-        if meets(s, *pixel) {
-            let steps = steps_to(s, *pixel);
-            records.push(Record {
-                segment: number,
-                steps,
-                pixel: *pixel,
-            })?;
-        }
-    }
-    Ok(())
-}
 
 /// The segments of these numbers, with them.
 fn candidates_of<A: Allocator>(
@@ -62,25 +34,6 @@ fn candidates_of<A: Allocator>(
     Ok(candidates)
 }
 
-/// The records of the candidates at these pixels, in no order.
-fn records_of<A: Allocator>(
-    alloc: A,
-    candidates: &[Candidate],
-    pixels: &[Pt],
-) -> Result<Vec<Record, A>, NoMemory>
-    requires segments_in { All (λ c. AreInLimit c.segment.a c.segment.b) candidates.now }
-    requires pixels_in { All InLimit pixels.now }
-    requires ascending { AllPairs IsBefore pixels.now }
-    ensures { IfOk result (λ v. HasRecords candidates.now pixels.now v.items) }
-{
-    let mut records = Vec::new(alloc);
-    for candidate in candidates {
-        let s = &candidate.segment;
-        add_met(&mut records, candidate.number, s, columns_of(s, pixels))?;
-    }
-    Ok(records)
-}
-
 /// The piece of a tile, found among the segments of these numbers.
 pub fn piece<A: Allocator + Copy>(
     alloc: A,
@@ -98,9 +51,11 @@ pub fn piece<A: Allocator + Copy>(
     ensures exact { IfOk result (λ p. IsPieceOf (Owns grid.now number) segments.now p.hot p.records.items) }
 {
     let tile = grid.rect(number);
-    let pixels = hot_in(alloc, grid, number, segments, numbers)?;
+    let Found {
+        pixels,
+        mut records,
+    } = found_in(alloc, &tile, segments, numbers)?;
     let candidates = candidates_of(alloc, segments, numbers)?;
-    let mut records = records_of(alloc, &candidates, &pixels)?;
     records.sort_unstable();
     records.dedup();
     if pixels.len() > u32::MAX as usize || records.len() > u32::MAX as usize {

@@ -1,8 +1,9 @@
 //! Which pixels a segment meets, its route through the hot ones, and what the routes have in one tile.
 #![tactic(auto)]
 
-mod columns;
+mod by_line;
 mod finding;
+mod halved;
 mod met;
 mod pieces;
 mod record;

@@ -15,7 +15,7 @@ loop-number-preserved g c =
     let k = get_or numbers i 0 in
     let s = c.index-segments-number.result in
     let at : slice_get segments k ≡ Some s = slice_get_read segments (length segments) k s refl (c.requires i 0 c.loop-number-test.true) c.index-segments-number.is in
-    rw (c.in_ok-push.ensures.items, chosen_more segments numbers i k s c.loop-number-test.true (get_or_default numbers i 0 k c.loop-number-test.true) at) (each_push _ _ s c.line.result c.loop-number.invariant c.line.ensures)
+    rw (c.in_ok-push.ensures.items, chosen_more segments numbers i k s c.loop-number-test.true (get_or_default numbers i 0 k c.loop-number-test.true) at) (each_push _ _ s c.edge_of.result c.loop-number.invariant c.edge_of.ensures)
 
 pub returns : goal.returns
 returns g c = subst (λ (ns : List ℕ). AreEachLine (chosen c.args.segments.now ns) c.loop-number.list.items) (take_all c.loop-number.number-index c.args.numbers.now c.loop-number-test.false) c.loop-number.invariant

@@ -1,9 +1,12 @@
-use Rattle.std.proofs.Common.{◌≡◌, ◌∙◌, inl, refl, sym, true, Some}
+use Rattle.std.proofs.Common.{ℕ, ◌+◌, ◌≤◌, arith, ◌≡◌, ◌∙◌, inl, refl, sym, true, Some}
 use Rattle.hot_pixel.specs.Lines.{IsLine, lines_meet}
 use Rattle.hot_pixel.proofs.LineLaws.{meet_lines}
 use Rattle.hot_pixel.proofs.SweepLaws.{crossed_skip, crossed_push, pair_found, pair_none, pair_apart, cost_meets, cost_skips, cost_all}
 use Rattle.hot_pixel.proofs.pixels.cross_all.Goals as goal
 use Rattle.hot_pixel.proofs.pixels.cross_all.Goals.{then-may_meet+in-Some+in_ok-push_in, then-may_meet+in_default, else-may_meet}
+
+ticked : {k m n : ℕ} → k ≤ m → n ≡ m + 1 → k ≤ n
+ticked {k} {m} {n} a b = omega arith
 
 pub loop-other-preserved : goal.loop-other-preserved
 loop-other-preserved g c =
@@ -25,15 +28,18 @@ loop-other-preserved g c =
             crossed_push tile e others i f c.args.found.now.items c.loop-other.found.items l is inv.0 w.push_in.new.found.items w.in-Some.pixel p.0 p.1 w.in_ok-push_in.ensures),
         (let m : lines_meet e f ≡ true = meet_lines e f s t on_e on_f ∙ sym c.may_meet.ensures.value ∙ w.if-may_meet.true in
             cost_meets e f others i c.args.count.now c.loop-other.count w.tick.new.self l is m inv.1 w.tick.ensures),
+        ticked inv.2 w.tick.ensures,
       )
       | then-may_meet+in_default w ↦ rw (w.found-is, w.count-is) (
         crossed_skip tile e others i f c.args.found.now.items c.loop-other.found.items l is inv.0 (pair_none e f s t on_e on_f w.cross.result w.cross.ensures w.in_default.not-Some),
         (let m : lines_meet e f ≡ true = meet_lines e f s t on_e on_f ∙ sym c.may_meet.ensures.value ∙ w.if-may_meet.true in
             cost_meets e f others i c.args.count.now c.loop-other.count w.tick.new.self l is m inv.1 w.tick.ensures),
+        ticked inv.2 w.tick.ensures,
       )
       | else-may_meet w ↦ rw (w.found-is, w.count-is) (
         crossed_skip tile e others i f c.args.found.now.items c.loop-other.found.items l is inv.0 (pair_apart e f s t on_e on_f c.may_meet.result c.may_meet.ensures.crossing w.if-may_meet.false),
         cost_skips e f others i c.args.count.now c.loop-other.count l is inv.1,
+        inv.2,
       )
     ]
 

@@ -1,4 +1,4 @@
-use Rattle.std.proofs.Common.{◌+◌, ◌≤◌, List, subst, sym, arith}
+use Rattle.std.proofs.Common.{ℕ, ◌+◌, ◌≤◌, List, subst, sym, arith}
 use Rattle.std.specs.Prelude.{All, count_by}
 use Rattle.std.proofs.lemmas.List.{take_all}
 use Rattle.geom.specs.declared.edge.Edge.{Edge}
@@ -7,8 +7,11 @@ use Rattle.hot_pixel.specs.Lines.{HasCrossed, HasAllCrossed, line_pairs, lines_m
 use Rattle.hot_pixel.proofs.SweepLaws.{active_none, all_none, active_more, all_more, ticks_more, kept_all, pairs_take}
 use Rattle.hot_pixel.proofs.tile_sweep.cross_lines.Goals as goal
 
+onward : {k m n : ℕ} → k ≤ m → m ≤ n → k ≤ n
+onward {k} {m} {n} a b = omega arith
+
 pub loop-line-init : goal.loop-line-init
-loop-line-init g c = rw c.new-active.ensures.items (active_none c.args.lines.now, all_none c.args.tile.now c.args.found.now.items, omega arith)
+loop-line-init g c = rw c.new-active.ensures.items (active_none c.args.lines.now, all_none c.args.tile.now c.args.found.now.items, omega arith, omega arith)
 
 pub cross_all-requires-clause-others_in : goal.cross_all-requires-clause-others_in
 cross_all-requires-clause-others_in g c =
@@ -31,6 +34,7 @@ loop-line-preserved g c =
       active_more lines i e active kept c.requires.ordered c.loop-line-test.true c.line-item.is inv.0 cut,
       all_more lines i e active kept c.requires.ordered c.loop-line-test.true c.line-item.is inv.0 cut c.args.tile.now c.args.found.now.items c.loop-line.found.items c.cross_all.new.found.items inv.1 crossed,
       ticks_more lines i e active kept c.requires.ordered c.loop-line-test.true c.line-item.is inv.0 cut c.args.count.now c.loop-line.count c.cross_all.new.count inv.2 cost,
+      onward inv.3 c.cross_all.ensures.onward,
     )
 
 pub returns-in_err-cross_all-clause-cost : goal.returns-in_err-cross_all-clause-cost
@@ -60,3 +64,12 @@ returns-clause-crossed g c = subst (λ (es : List Edge). HasAllCrossed c.args.ti
 
 pub returns-clause-cost : goal.returns-clause-cost
 returns-clause-cost g c = subst (λ (es : List Edge). c.loop-line.count ≤ c.args.count.now + line_pairs es) (take_all c.loop-line.line-index c.args.lines.now c.loop-line-test.false) c.loop-line.invariant.2
+
+pub returns-in_err-cross_all-clause-onward : goal.returns-in_err-cross_all-clause-onward
+returns-in_err-cross_all-clause-onward g c = onward c.loop-line.invariant.3 c.cross_all.ensures.onward
+
+pub returns-in_err-push-clause-onward : goal.returns-in_err-push-clause-onward
+returns-in_err-push-clause-onward g c = onward c.loop-line.invariant.3 c.cross_all.ensures.onward
+
+pub returns-clause-onward : goal.returns-clause-onward
+returns-clause-onward g c = c.loop-line.invariant.3

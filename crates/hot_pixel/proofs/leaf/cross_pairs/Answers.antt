@@ -1,0 +1,23 @@
+use Rattle.std.proofs.Common.{◌<◌, ◌∙◌, List, subst, sym, ap, arith, length, take}
+use Rattle.std.specs.Prelude.{Contains}
+use Rattle.geom.specs.declared.point.Pt.{Pt}
+use Rattle.geom.specs.declared.edge.Edge.{Edge}
+use Rattle.hot_pixel.specs.Halving.{edges_of}
+use Rattle.hot_pixel.specs.Lines.{HasCrossed}
+use Rattle.hot_pixel.proofs.HalvingLaws.{pairs_more, one_found, taken_in, edge_at, edge_below, edges_taken}
+use Rattle.hot_pixel.proofs.leaf.cross_pairs.Goals as goal
+
+pub loop-place-preserved : goal.loop-place-preserved
+loop-place-preserved g c =
+    let lines = c.args.lines.now in
+    let i = c.loop-place.place in
+    let e = c.index-lines-place.result in
+    let now = subst (λ (es : List Edge). HasCrossed c.args.rect.now e.edge es c.loop-place.found.items c.cross_with.new.found.items) (ap edges_of c.earlier.ensures ∙ sym (edges_taken lines i)) c.in_ok-cross_with.ensures in
+    let l : i < length lines = omega arith in
+    pairs_more c.args.rect.now (edges_of lines) i e.edge c.args.found.now.items c.loop-place.found.items c.cross_with.new.found.items (edge_below lines i l) (edge_at lines i e c.index-lines-place.is) c.loop-place.invariant now
+
+pub returns-then-is_found : goal.returns-then-is_found
+returns-then-is_found g c =
+    let edges = edges_of c.args.lines.now in
+    let i = c.loop-place.place in
+    one_found c.args.rect.now (take i edges) c.args.found.now.items c.loop-place.found.items edges (λ p h. subst (λ (ps : List Pt). Contains ps p) c.deref.ensures.value (c.is_found.ensures p c.if-is_found.true h)) (λ e h. taken_in edges i e h) c.loop-place.invariant

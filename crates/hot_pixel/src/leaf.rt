@@ -1,0 +1,104 @@
+//! The hot pixels of a rectangle with few lines: by all ends and all pairs.
+
+ghost use Rattle.std.specs.Prelude.{◌≡◌, ◌≤◌, All, Contains, IsTrue, OnOk, length, take};
+ghost use Rattle.geom.specs.declared.point.Pt.{Pt};
+ghost use Rattle.geom.specs.Limit.{AreInLimit};
+ghost use Rattle.hot_pixel.specs.Halving.{edges_of, HasEndsToo, HasHot};
+ghost use Rattle.hot_pixel.specs.Lines.{HasAllCrossed, HasCrossed};
+ghost use Rattle.hot_pixel.specs.Rects.{IsIn};
+
+use crate::lines::{Line, on_line};
+use crate::pixels::push_in;
+use crossing::{cross, may_meet};
+use geom::{Edge, NoMemory, Pt, Rect};
+use std::alloc::Allocator;
+
+/// Adds the ends of the lines that lie in the rectangle.
+fn add_ends<A: Allocator>(
+    rect: &Rect,
+    lines: &[Line],
+    found: &mut Vec<Pt, A>,
+) -> Result<(), NoMemory>
+    ensures { OnOk result (HasEndsToo rect.now (edges_of lines.now) found.old.items found.new.items) }
+{
+    for line in lines {
+        push_in(found, rect, line.edge.p)?;
+        push_in(found, rect, line.edge.q)?;
+    }
+    Ok(())
+}
+
+/// Adds the crossings of a line with other lines that lie in the rectangle.
+fn cross_with<A: Allocator>(
+    rect: &Rect,
+    line: &Edge,
+    others: &[Line],
+    found: &mut Vec<Pt, A>,
+) -> Result<(), NoMemory>
+    requires line_in { AreInLimit line.now.p line.now.q }
+    requires others_in { All (λ l. AreInLimit l.edge.p l.edge.q) others.now }
+    ensures { OnOk result (HasCrossed rect.now line.now (edges_of others.now) found.old.items found.new.items) }
+{
+    let s = on_line(line);
+    for other in others {
+        let t = on_line(&other.edge);
+        if may_meet(&s, &t) {
+            if let Some(pixel) = cross(&s, &t) {
+                push_in(found, rect, pixel)?;
+            }
+        }
+    }
+    Ok(())
+}
+
+/// The lines before a place.
+fn earlier(lines: &[Line], place: usize) -> &[Line]
+    requires { place ≤ length lines.now }
+    ensures { result.now ≡ take place lines.now }
+{
+    lines.split_at(place).0
+}
+
+/// Whether a rectangle is one pixel, which was found last.
+fn is_found(rect: &Rect, found: &[Pt]) -> bool
+    ensures { (c : Pt) → IsTrue result → IsIn rect.now c → Contains found.now c }
+{
+    match found.last() {
+        None => false,
+        Some(pixel) => rect.lo == rect.hi && rect.lo == *pixel,
+    }
+}
+
+/// Adds the crossings of all pairs of lines that lie in the rectangle. Where that is one pixel, a crossing in it is the
+/// last one that is looked for.
+fn cross_pairs<A: Allocator>(
+    rect: &Rect,
+    lines: &[Line],
+    found: &mut Vec<Pt, A>,
+) -> Result<(), NoMemory>
+    requires { All (λ l. AreInLimit l.edge.p l.edge.q) lines.now }
+    ensures { OnOk result (HasAllCrossed rect.now (edges_of lines.now) found.old.items found.new.items) }
+{
+    for place in 0..lines.len() {
+        if is_found(rect, found) {
+            return Ok(());
+        }
+        let line = &lines[place];
+        cross_with(rect, &line.edge, earlier(lines, place), found)?;
+    }
+    Ok(())
+}
+
+/// Adds the pixels of a rectangle that are hot for its lines, by all ends and all pairs.
+pub fn add_hot<A: Allocator>(
+    rect: &Rect,
+    lines: &[Line],
+    found: &mut Vec<Pt, A>,
+) -> Result<(), NoMemory>
+    requires { All (λ l. AreInLimit l.edge.p l.edge.q) lines.now }
+    ensures { OnOk result (HasHot rect.now (edges_of lines.now) found.old.items found.new.items) }
+{
+    add_ends(rect, lines, found)?;
+    cross_pairs(rect, lines, found)?;
+    Ok(())
+}

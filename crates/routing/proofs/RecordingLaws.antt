@@ -1,0 +1,336 @@
+-- The records of a rectangle are those of its halves, and of the segments on its lines.
+use Rattle.std.proofs.Common.{◌≡◌, ◌⊎◌, inl, inr, ℕ, ◌+◌, ◌<◌, ◌≤◌, List, [], ◌∷◌, ◌++◌, refl, sym, ◌∙◌, ap, arith, subst, length, get_or, take, ◌↔◌, ⊎_elim}
+use Rattle.std.specs.Prelude.{All, Contains, Option, Some, slice_get}
+use Rattle.std.specs.List.Sorted.{IsPermutation}
+use Rattle.std.proofs.lemmas.List.Sorted.{Contains-permutation, IsPermutation-sym}
+use Rattle.std.proofs.lemmas.Bool.{cases_lt}
+use Rattle.std.proofs.lemmas.Option.{slice_get-get_or, get_or_from_slice_get, slice_get_within}
+use Rattle.std.proofs.lemmas.List.Elements.{All-contains, Contains-push, Contains-push_cases, Contains-get_or, Contains-append_left, Contains-append_right, Contains-append_cases}
+use Rattle.geom.specs.declared.point.Pt.{Pt}
+use Rattle.geom.specs.declared.rect.Rect.{Rect}
+use Rattle.geom.specs.declared.edge.Edge.{Edge}
+use Rattle.geom.specs.declared.segment.Seg.{Seg}
+use Rattle.geom.specs.Limit.{InLimit, AreInLimit}
+use Rattle.hot_pixel.specs.Rects.{IsIn}
+use Rattle.hot_pixel.specs.declared.lines.Line.{Line}
+use Rattle.hot_pixel.specs.Candidates.{chosen, AreOwnedHot}
+use Rattle.hot_pixel.specs.Lines.{IsLine, AreLines}
+use Rattle.hot_pixel.specs.Halving.{edges_of, IsMetOn, IsHotFor, HasHot, ArePassing, AreHalves, IsPartInLimit}
+use Rattle.hot_pixel.proofs.HotLaws.{met_limit}
+use Rattle.hot_pixel.proofs.CandidateLaws.{all_chosen, in_chosen}
+use Rattle.hot_pixel.proofs.SweepLaws.{lines_limit}
+use Rattle.hot_pixel.proofs.LineLaws.{segment_of, segment_line}
+use Rattle.hot_pixel.proofs.HalvingLaws.{hot_whole, hot_part, line_at, edge_in, met_on, end_met, first_met, hot_of_lines, lines_of_hot}
+use Rattle.hot_pixel.proofs.ListLaws.{none_in, in_push, in_take_more}
+use Rattle.routing.specs.declared.by_line.OnLine.{OnLine}
+use Rattle.routing.specs.declared.record.Record.{Record}
+use Rattle.routing.specs.declared.record.Candidate.{Candidate}
+use Rattle.routing.specs.Found.{IsRecordOf, HasRecords}
+use Rattle.routing.specs.Pieces.{candidates_of}
+use Rattle.routing.specs.Steps.{steps_to}
+use Rattle.routing.specs.Recording.{IsTable, AreLinesOf, IsCopy, IsRecordAlong, IsRecordOnOne, AddsAt, AddsAlong, AddsRecordsAt, AddsRecords}
+use Rattle.routing.proofs.PieceLaws.{in_candidates}
+
+-- an option has one value
+pub some_same : {X : Type 0} {x y : X} {o : Option X} → o ≡ Some x → o ≡ Some y → x ≡ y
+some_same {X} {x} {y} {o} e f = cc
+
+-- ---- the segments on one line, at one pixel
+pub at_none : (segments : List Seg) (table : List OnLine) (first : ℕ) (pixel : Pt) (old : List Record) → AddsAt segments table first first pixel old old
+at_none segments table first pixel old = record { same = λ r. (λ h. inl h, λ h. ⊎_elim (λ k. k) (λ k. absurd (let a = k.0.from in let b = k.0.to in omega arith)) h) }
+
+wider : (segments : List Seg) (table : List OnLine) (first past more : ℕ) (r : Record) → past ≤ more → IsCopy segments table first past r → IsCopy segments table first more r
+wider segments table first past more r l k = record { place = k.place; from = k.from; to = (let a = k.to in omega arith); x = k.x; entry = k.entry; s = k.s; is_at = k.is_at; numbered = k.numbered; steps_are = k.steps_are }
+
+-- one more place
+pub at_more : (segments : List Seg) (table : List OnLine) (first place : ℕ) (pixel : Pt) (old list : List Record) (x : OnLine) (s : Seg) (y : Record) → first ≤ place → slice_get table place ≡ Some x → slice_get segments x.number ≡ Some s
+    → y.segment ≡ x.number → y.steps ≡ steps_to s pixel → y.pixel ≡ pixel → AddsAt segments table first place pixel old list → AddsAt segments table first (place + 1) pixel old (list ++ y ∷ [])
+at_more segments table first place pixel old list x s y l at is e f g h = record { same = λ r. (to r, from r) }
+  where
+    own : IsCopy segments table first (place + 1) y
+    own = record { place = place; from = l; to = omega arith; x = x; entry = at; s = s; is_at = is; numbered = e; steps_are = f ∙ ap (steps_to s) (sym g) }
+
+    to : (r : Record) → Contains (list ++ y ∷ []) r → Contains old r ⊎ (IsCopy segments table first (place + 1) r × (pixel ≡ r.pixel))
+    to r k = ⊎_elim
+        (λ m. ⊎_elim (λ n. inl n) (λ n. inr (wider segments table first place (place + 1) r (omega arith) n.0, n.1)) ((h.same r).0 m))
+        (λ m. inr (subst (λ (z : Record). IsCopy segments table first (place + 1) z) m own, sym g ∙ ap (λ (z : Record). z.pixel) m))
+        (Contains-push_cases list y r k)
+
+    from : (r : Record) → Contains old r ⊎ (IsCopy segments table first (place + 1) r × (pixel ≡ r.pixel)) → Contains (list ++ y ∷ []) r
+    from r (inl k) = in_push list r y ((h.same r).1 (inl k))
+    from r (inr (k, p)) = ⊎_elim
+        (λ m. in_push list r y ((h.same r).1 (inr (record { place = k.place; from = k.from; to = m; x = k.x; entry = k.entry; s = k.s; is_at = k.is_at; numbered = k.numbered; steps_are = k.steps_are }, p))))
+        (λ m.
+        let q : k.place ≡ place = (let a = k.to in omega arith) in
+        let u : x ≡ k.x = some_same at (ap (slice_get table) (sym q) ∙ k.entry) in
+        let v : s ≡ k.s = some_same is (ap (λ (z : OnLine). slice_get segments z.number) u ∙ k.is_at) in
+        let a : y.segment ≡ r.segment = e ∙ ap (λ (z : OnLine). z.number) u ∙ sym k.numbered in
+        let b : y.pixel ≡ r.pixel = g ∙ p in
+        let d : y.steps ≡ r.steps = f ∙ ap (steps_to s) p ∙ ap (λ (t : Seg). steps_to t r.pixel) v ∙ sym k.steps_are in
+        let whole : y ≡ r = λ j. record { segment = a j; steps = d j; pixel = b j } in
+        subst (λ (z : Record). Contains (list ++ y ∷ []) z) whole (Contains-push list y))
+        (cases_lt k.place place)
+
+-- no place is left
+pub at_all : (segments : List Seg) (table : List OnLine) (first place past : ℕ) (pixel : Pt) (old new : List Record) → place ≡ past → AddsAt segments table first place pixel old new → AddsAt segments table first past pixel old new
+at_all segments table first place past pixel old new e h = subst (λ (k : ℕ). AddsAt segments table first k pixel old new) e h
+
+-- ---- one line, at pixels
+pub along_none : (segments : List Seg) (table : List OnLine) (line : Line) (old : List Record) → AddsAlong segments table line [] old old
+along_none segments table line old = record { same = λ r. (λ h. inl h, λ h. ⊎_elim (λ k. k) (λ k. absurd (none_in r.pixel k.1)) h) }
+
+module _ (segments : List Seg) (table : List OnLine) (line : Line) (old : List Record) (pixels : List Pt) (list : List Record) (i : ℕ) (pixel : Pt) (below : i < length pixels) (is : pixel ≡ get_or pixels i pixel) (h : AddsAlong segments table line (take i pixels) old list) where
+  more : (c : Pt) → Contains (take (i + 1) pixels) c ↔ (Contains (take i pixels) c ⊎ (pixel ≡ c))
+  more c = in_take_more pixels i pixel below is c
+
+  pub along_skip : ¬ (IsMetOn line.edge pixel) → AddsAlong segments table line (take (i + 1) pixels) old list
+  along_skip misses = record {
+    same = λ r. (
+      (λ k. ⊎_elim (λ m. inl m) (λ m. inr (m.0, (more r.pixel).1 (inl m.1))) ((h.same r).0 k)),
+      (λ k. ⊎_elim (λ m. (h.same r).1 (inl m)) (λ m. ⊎_elim (λ n. (h.same r).1 (inr (m.0, n))) (λ n. absurd (misses (subst (λ (c : Pt). IsMetOn line.edge c) (sym n) m.0.met))) ((more r.pixel).0 m.1)) k),
+    );
+  }
+
+  pub along_push : (new : List Record) → IsMetOn line.edge pixel → AddsAt segments table line.first line.past pixel list new → AddsAlong segments table line (take (i + 1) pixels) old new
+  along_push new met g = record { same = λ r. (to r, from r) }
+    where
+      to : (r : Record) → Contains new r → Contains old r ⊎ (IsRecordAlong segments table line r × Contains (take (i + 1) pixels) r.pixel)
+      to r k = ⊎_elim
+          (λ m. ⊎_elim (λ n. inl n) (λ n. inr (n.0, (more r.pixel).1 (inl n.1))) ((h.same r).0 m))
+          (λ m. inr (record { copy = m.0; met = subst (λ (c : Pt). IsMetOn line.edge c) m.1 met }, (more r.pixel).1 (inr m.1)))
+          ((g.same r).0 k)
+
+      from : (r : Record) → Contains old r ⊎ (IsRecordAlong segments table line r × Contains (take (i + 1) pixels) r.pixel) → Contains new r
+      from r (inl k) = (g.same r).1 (inl ((h.same r).1 (inl k)))
+      from r (inr k) = ⊎_elim (λ m. (g.same r).1 (inl ((h.same r).1 (inr (k.0, m))))) (λ m. (g.same r).1 (inr (k.0.copy, m))) ((more r.pixel).0 k.1)
+
+-- ---- lines, at pixels
+pub lines_none : (segments : List Seg) (table : List OnLine) (pixels : List Pt) (old : List Record) → AddsRecordsAt segments table [] pixels old old
+lines_none segments table pixels old = record { same = λ r. (λ h. inl h, λ h. ⊎_elim (λ k. k) (λ k. absurd (none_in k.0.line k.0.listed)) h) }
+
+pub lines_more : (segments : List Seg) (table : List OnLine) (lines : List Line) (pixels : List Pt) (i : ℕ) (l : Line) (old list new : List Record) → i < length lines → l ≡ get_or lines i l → AddsRecordsAt segments table (take i lines) pixels old list → AddsAlong segments table l pixels list new → AddsRecordsAt segments table (take (i + 1) lines) pixels old new
+lines_more segments table lines pixels i l old list new below is h g = record { same = λ r. (to r, from r) }
+  where
+    more : (x : Line) → Contains (take (i + 1) lines) x ↔ (Contains (take i lines) x ⊎ (l ≡ x))
+    more x = in_take_more lines i l below is x
+
+    to : (r : Record) → Contains new r → Contains old r ⊎ (IsRecordOnOne segments table (take (i + 1) lines) r × Contains pixels r.pixel)
+    to r k = ⊎_elim
+        (λ m. ⊎_elim (λ n. inl n) (λ n. inr (record { line = n.0.line; listed = (more n.0.line).1 (inl n.0.listed); along = n.0.along }, n.1)) ((h.same r).0 m))
+        (λ m. inr (record { line = l; listed = (more l).1 (inr refl); along = m.0 }, m.1))
+        ((g.same r).0 k)
+
+    from : (r : Record) → Contains old r ⊎ (IsRecordOnOne segments table (take (i + 1) lines) r × Contains pixels r.pixel) → Contains new r
+    from r (inl k) = (g.same r).1 (inl ((h.same r).1 (inl k)))
+    from r (inr (k, at)) = ⊎_elim
+        (λ m. (g.same r).1 (inl ((h.same r).1 (inr (record { line = k.line; listed = m; along = k.along }, at)))))
+        (λ m. (g.same r).1 (inr (subst (λ (x : Line). IsRecordAlong segments table x r) (sym m) k.along, at)))
+        ((more k.line).0 k.listed)
+
+-- ---- two halves unite
+pub records_unite : (segments : List Seg) (table : List OnLine) (rect first second : Rect) (lines part rest : List Line) (old mid new : List Record) → AreHalves rect first second → ArePassing first lines part → ArePassing second lines rest → AddsRecords segments table first part old mid → AddsRecords segments table second rest mid new → AddsRecords segments table rect lines old new
+records_unite segments table rect first second lines part rest old mid new halves in_first in_second h g = record { same = λ r. (to r, from r) }
+  where
+    IsHere : Rect → List Line → Record → Type 0
+    IsHere half some r = IsRecordOnOne segments table some r × IsHotFor (edges_of some) r.pixel × IsIn half r.pixel
+
+    widen : (half : Rect) (some : List Line) → ArePassing half lines some → ((c : Pt) → IsIn half c → IsIn rect c) → (r : Record) → IsHere half some r → IsHere rect lines r
+    widen half some are inside r k = (record { line = k.0.line; listed = are.among k.0.line k.0.listed; along = k.0.along }, hot_whole half lines some are r.pixel k.1, inside r.pixel k.2)
+
+    narrow : (half : Rect) (some : List Line) → ArePassing half lines some → (r : Record) → IsIn half r.pixel → IsHere rect lines r → IsHere half some r
+    narrow half some are r t k = (record { line = k.0.line; listed = are.complete k.0.line r.pixel k.0.listed t k.0.along.met; along = k.0.along }, hot_part half lines some are r.pixel t k.1, t)
+
+    to : (r : Record) → Contains new r → Contains old r ⊎ IsHere rect lines r
+    to r k = ⊎_elim
+        (λ m. ⊎_elim (λ n. inl n) (λ n. inr (widen first part in_first (λ c t. (halves.same c).1 (inl t)) r n)) ((h.same r).0 m))
+        (λ n. inr (widen second rest in_second (λ c t. (halves.same c).1 (inr t)) r n))
+        ((g.same r).0 k)
+
+    from : (r : Record) → Contains old r ⊎ IsHere rect lines r → Contains new r
+    from r k = ⊎_elim
+        (λ m. (g.same r).1 (inl ((h.same r).1 (inl m))))
+        (λ m. ⊎_elim
+        (λ t. (g.same r).1 (inl ((h.same r).1 (inr (narrow first part in_first r t m)))))
+        (λ t. (g.same r).1 (inr (narrow second rest in_second r t m)))
+        ((halves.same r.pixel).0 m.2))
+        k
+
+-- ---- by brute force
+module _ (rect : Rect) (lines : List Line) (new pixels : List Pt) (hot : HasHot rect (edges_of lines) [] new) (same : (c : Pt) → Contains pixels c ↔ Contains new c) where
+  hot_at : (c : Pt) → Contains pixels c → IsHotFor (edges_of lines) c × IsIn rect c
+  hot_at c k = ⊎_elim (λ m. absurd (none_in c m)) (λ m. m) ((hot.same c).0 ((same c).0 k))
+
+  pub records_all : (segments : List Seg) (table : List OnLine) (old list : List Record) → AddsRecordsAt segments table lines pixels old list → AddsRecords segments table rect lines old list
+  records_all segments table old list h = record {
+    same = λ r. (
+      (λ k. ⊎_elim (λ m. inl m) (λ m. let t = hot_at r.pixel m.1 in inr (m.0, t.0, t.1)) ((h.same r).0 k)),
+      (λ k. ⊎_elim (λ m. (h.same r).1 (inl m)) (λ m. (h.same r).1 (inr (m.0, (same r.pixel).1 ((hot.same r.pixel).1 (inr (m.1, m.2)))))) k),
+    );
+  }
+
+  pub hot_added : (old all : List Pt) → all ≡ old ++ pixels → HasHot rect (edges_of lines) old all
+  hot_added old all h = record {
+    same = λ c. (
+      (λ k. ⊎_elim (λ m. inl m) (λ m. inr (hot_at c m)) (Contains-append_cases old pixels c (subst (λ (xs : List Pt). Contains xs c) h k))),
+      (λ k. subst (λ (xs : List Pt). Contains xs c) (sym h) (⊎_elim (λ m. Contains-append_left old pixels c m) (λ m. Contains-append_right old pixels c ((same c).1 ((hot.same c).1 (inr m)))) k)),
+    );
+  }
+
+  line_limit : (e : Edge) (c : Pt) → AreInLimit e.p e.q → IsMetOn e c → InLimit c
+  unfolding segment_of
+  line_limit e c l m = met_limit (segment_of e) c l (m.meets (segment_of e) (segment_line e))
+
+  -- a pixel that is hot for lines is met by one of them
+  hot_met : (c : Pt) → IsHotFor (edges_of lines) c → (e : Edge) × Contains (edges_of lines) e × IsMetOn e c
+  hot_met c (inl k) = (k.e, k.listed, end_met k.e c k.is_end)
+  hot_met c (inr k) = (k.e, k.e_listed, first_met k.e k.f c k.crosses)
+
+  pub hot_within : All (λ l. AreInLimit l.edge.p l.edge.q) lines → All InLimit pixels
+  hot_within limits = λ k d l. at (get_or pixels k d) (Contains-get_or pixels k d l)
+    where
+      at : (c : Pt) → Contains pixels c → InLimit c
+      at c m =
+          let r = hot_met c (hot_at c m).0 in
+          let l = line_at lines r.0 r.1 in
+          line_limit r.0 c (subst (λ (e : Edge). AreInLimit e.p e.q) l.2 (All-contains (λ (x : Line). AreInLimit x.edge.p x.edge.q) lines l.0 limits l.1)) r.2
+
+-- ---- the table
+pub table_none : (segments : List Seg) → IsTable segments [] []
+table_none segments = record { only = λ x h. absurd (none_in x h); all = λ k h. absurd (none_in k h) }
+
+pub table_more : (segments : List Seg) (numbers : List ℕ) (i k : ℕ) (s : Seg) (x : OnLine) (list : List OnLine) → i < length numbers → k ≡ get_or numbers i k → slice_get segments k ≡ Some s → IsLine x.edge s → x.number ≡ k → IsTable segments (take i numbers) list → IsTable segments (take (i + 1) numbers) (list ++ x ∷ [])
+table_more segments numbers i k s x list l is at on e h = record { only = only; all = all }
+  where
+    more : (n : ℕ) → Contains (take (i + 1) numbers) n ↔ (Contains (take i numbers) n ⊎ (k ≡ n))
+    more n = in_take_more numbers i k l is n
+
+    Tells : OnLine → Type 0
+    Tells y = Contains (take (i + 1) numbers) y.number × ((t : Seg) × (slice_get segments y.number ≡ Some t) × IsLine y.edge t)
+
+    only : (y : OnLine) → Contains (list ++ x ∷ []) y → Tells y
+    only y m = ⊎_elim
+        (λ n. let r = h.only y n in ((more y.number).1 (inl r.0), r.1))
+        (λ n. subst (λ (z : OnLine). Tells z) n ((more x.number).1 (inr (sym e)), (s, ap (slice_get segments) e ∙ at, on)))
+        (Contains-push_cases list x y m)
+
+    all : (n : ℕ) → Contains (take (i + 1) numbers) n → (y : OnLine) × Contains (list ++ x ∷ []) y × (y.number ≡ n)
+    all n m = ⊎_elim
+        (λ o. let r = h.all n o in (r.0, in_push list r.0 x r.1, r.2))
+        (λ o. (x, Contains-push list x, e ∙ o))
+        ((more n).0 m)
+
+pub table_same : (segments : List Seg) (numbers : List ℕ) (xs ys : List OnLine) → IsPermutation xs ys → IsTable segments numbers xs → IsTable segments numbers ys
+table_same segments numbers xs ys moved h = record {
+  only = λ x m. h.only x (Contains-permutation ys xs x (IsPermutation-sym xs ys moved) m);
+  all = λ k m. let r = h.all k m in (r.0, Contains-permutation xs ys r.0 moved r.1, r.2);
+}
+
+pub table_below : (segments : List Seg) (numbers : List ℕ) (table : List OnLine) → IsTable segments numbers table → All (λ x. x.number < length segments) table
+table_below segments numbers table h = λ k d l. let x = get_or table k d in let r = h.only x (Contains-get_or table k d l) in slice_get_within segments x.number r.1.0 r.1.1
+
+-- ---- the lines of the table
+-- the lines of the first places
+pub record AreFirstLines (table : List OnLine) (place : ℕ) (lines : List Line) : Type 0 where
+  pub reached : place ≤ length table
+  pub within : (l : Line) → Contains lines l → l.past ≤ length table
+  pub only : (l : Line) (k : ℕ) (x : OnLine) → Contains lines l → l.first ≤ k → k < l.past → slice_get table k ≡ Some x → x.edge ≡ l.edge
+  pub some : (l : Line) → Contains lines l → (x : OnLine) × Contains table x × (x.edge ≡ l.edge)
+  pub all : (k : ℕ) → k < place → (l : Line) × Contains lines l × (l.first ≤ k) × (k < l.past)
+
+pub lines_first : (table : List OnLine) → AreFirstLines table 0 []
+lines_first table = record { reached = omega arith; within = λ l h. absurd (none_in l h); only = λ l k x h a b e. absurd (none_in l h); some = λ l h. absurd (none_in l h); all = λ k h. absurd (omega arith) }
+
+pub lines_next : (table : List OnLine) (first past : ℕ) (x : OnLine) (line : Line) (lines : List Line) → slice_get table first ≡ Some x → Contains table x → past ≤ length table → line.edge ≡ x.edge → line.first ≡ first → line.past ≡ past
+    → ((k : ℕ) (a b : OnLine) → slice_get table first ≡ Some a → first ≤ k → k < past → slice_get table k ≡ Some b → b.edge ≡ a.edge) → AreFirstLines table first lines → AreFirstLines table past (lines ++ line ∷ [])
+lines_next table first past x line lines at has l e f g alike h = record {
+  reached = l;
+  within = λ m k. ⊎_elim (λ o. h.within m o) (λ o. subst (λ (y : Line). y.past ≤ length table) o (subst (λ (n : ℕ). n ≤ length table) (sym g) l)) (Contains-push_cases lines line m k);
+  only = λ m k y c a b d. ⊎_elim (λ o. h.only m k y o a b d) (λ o. own m k y o a b d) (Contains-push_cases lines line m c);
+  some = λ m k. ⊎_elim (λ o. h.some m o) (λ o. (x, has, sym e ∙ ap (λ (y : Line). y.edge) o)) (Contains-push_cases lines line m k);
+  all = λ k a. ⊎_elim
+      (λ o. let r = h.all k o in (r.0, in_push lines r.0 line r.1, r.2, r.3))
+      (λ o. (line, Contains-push lines line, subst (λ (n : ℕ). n ≤ k) (sym f) (omega arith), subst (λ (n : ℕ). k < n) (sym g) a))
+      (cases_lt k first);
+}
+  where
+    own : (m : Line) (k : ℕ) (y : OnLine) → line ≡ m → m.first ≤ k → k < m.past → slice_get table k ≡ Some y → y.edge ≡ m.edge
+    own m k y o a b d =
+        let u : m.first ≡ first = sym (ap (λ (z : Line). z.first) o) ∙ f in
+        let v : m.past ≡ past = sym (ap (λ (z : Line). z.past) o) ∙ g in
+        alike k x y at (omega arith) (omega arith) d ∙ sym e ∙ ap (λ (z : Line). z.edge) o
+
+pub lines_whole : (table : List OnLine) (place : ℕ) (lines : List Line) → length table ≤ place → AreFirstLines table place lines → AreLinesOf table lines
+lines_whole table place lines l h = record {
+  within = λ k d b. h.within (get_or lines k d) (Contains-get_or lines k d b);
+  only = h.only;
+  some = h.some;
+  all = λ k b. h.all k (omega arith);
+}
+
+-- ---- a tile
+module _ (segments : List Seg) (numbers : List ℕ) (table : List OnLine) (lines : List Line) (is_table : IsTable segments numbers table) (are : AreLinesOf table lines) where
+  -- the segment of an entry among those of a line is on it
+  on_its_line : (l : Line) (k : ℕ) (x : OnLine) (s : Seg) → Contains lines l → l.first ≤ k → k < l.past → slice_get table k ≡ Some x → slice_get segments x.number ≡ Some s → IsLine l.edge s
+  on_its_line l k x s h a b at is =
+      let r = is_table.only x (k, slice_get_within table k x at, get_or_from_slice_get table k x x at) in
+      let same : r.1.0 ≡ s = some_same r.1.1 is in
+      let on : IsLine x.edge s = subst (λ (t : Seg). IsLine x.edge t) same r.1.2 in
+      subst (λ (e : Edge). IsLine e s) (are.only l k x h a b at) on
+
+  -- an entry is among those of a line
+  entry_of : (k : ℕ) → Contains numbers k → (place : ℕ) × (x : OnLine) × (l : Line) × (slice_get table place ≡ Some x) × (x.number ≡ k) × Contains lines l × (l.first ≤ place) × (place < l.past)
+  entry_of k h =
+      let r = is_table.all k h in
+      let place = r.1.0 in
+      let l = are.all place r.1.1 in
+      (place, r.0, l.0, slice_get-get_or table place r.0 r.1.1 ∙ ap Some r.1.2, r.2, l.1, l.2, l.3)
+
+  pub lines_are : AreLines (chosen segments numbers) (edges_of lines)
+  lines_are = record { only = only; all = all }
+    where
+      only : (e : Edge) → Contains (edges_of lines) e → (s : Seg) × Contains (chosen segments numbers) s × IsLine e s
+      only e h =
+          let l = line_at lines e h in
+          let x = are.some l.0 l.1 in
+          let r = is_table.only x.0 x.1 in
+          (r.1.0, (in_chosen segments numbers r.1.0).1 (x.0.number, r.0, r.1.1), subst (λ (f : Edge). IsLine f r.1.0) (x.2 ∙ l.2) r.1.2)
+
+      all : (s : Seg) → Contains (chosen segments numbers) s → (e : Edge) × Contains (edges_of lines) e × IsLine e s
+      all s h =
+          let r = (in_chosen segments numbers s).0 h in
+          let (place, x, l, at, n, listed, a, b) = entry_of r.0 r.1 in
+          (l.edge, edge_in lines l listed, on_its_line l place x s listed a b at (ap (slice_get segments) n ∙ r.2))
+
+  pub lines_in_limit : All (λ s. AreInLimit s.a s.b) segments → All (λ l. AreInLimit l.edge.p l.edge.q) lines
+  lines_in_limit limits = λ k d b.
+      let l = get_or lines k d in
+      let edges = lines_limit (chosen segments numbers) (edges_of lines) (all_chosen (λ s. AreInLimit s.a s.b) segments numbers (λ s h. All-contains (λ (t : Seg). AreInLimit t.a t.b) segments s limits h)) lines_are in
+      All-contains (λ (e : Edge). AreInLimit e.p e.q) (edges_of lines) l.edge edges (edge_in lines l (Contains-get_or lines k d b))
+
+  pub tile_records : (tile part : Rect) (pixels : List Pt) (records : List Record) → IsPartInLimit tile part → AreOwnedHot (IsIn tile) (chosen segments numbers) pixels → ((c : Pt) → Contains pixels c → IsIn part c) → AddsRecords segments table part lines [] records → HasRecords (candidates_of segments numbers) pixels records
+  tile_records tile part pixels records within hot inside h = record { same = λ r. (to r, from r) }
+    where
+      to : (r : Record) → Contains records r → ((c : Candidate) × Contains (candidates_of segments numbers) c × IsRecordOf c.number c.segment r) × Contains pixels r.pixel
+      to r m =
+          let k = ⊎_elim (λ n. absurd (none_in r n)) (λ n. n) ((h.same r).0 m) in
+          let copy = k.0.along.copy in
+          let entry = is_table.only copy.x (copy.place, slice_get_within table copy.place copy.x copy.entry, get_or_from_slice_get table copy.place copy.x copy.x copy.entry) in
+          let number : Contains numbers r.segment = subst (λ (n : ℕ). Contains numbers n) (sym copy.numbered) entry.0 in
+          let at : slice_get segments r.segment ≡ Some copy.s = ap (slice_get segments) copy.numbered ∙ copy.is_at in
+          let c : Candidate = record { number = r.segment; segment = copy.s } in
+          let on = on_its_line k.0.line copy.place copy.x copy.s k.0.listed copy.from copy.to copy.entry copy.is_at in (
+            (c, (in_candidates segments numbers c).1 (number, at), record { numbered = refl; met = k.0.along.met.meets copy.s on; steps_are = copy.steps_are }),
+            (hot.exact r.pixel).1 (hot_of_lines (chosen segments numbers) (edges_of lines) r.pixel lines_are k.1, within.only r.pixel k.2),
+          )
+
+      from : (r : Record) → ((c : Candidate) × Contains (candidates_of segments numbers) c × IsRecordOf c.number c.segment r) × Contains pixels r.pixel → Contains records r
+      from r ((c, k, of), at) =
+          let u = (in_candidates segments numbers c).0 k in
+          let (place, x, l, entry, n, listed, a, b) = entry_of c.number u.0 in
+          let is_at : slice_get segments x.number ≡ Some c.segment = ap (slice_get segments) n ∙ u.1 in
+          let copy : IsCopy segments table l.first l.past r = record { place = place; from = a; to = b; x = x; entry = entry; s = c.segment; is_at = is_at; numbered = of.numbered ∙ sym n; steps_are = of.steps_are } in
+          let met = met_on l.edge c.segment r.pixel (on_its_line l place x c.segment listed a b entry is_at) of.met in
+          (h.same r).1 (inr (record { line = l; listed = listed; along = record { copy = copy; met = met } }, lines_of_hot (chosen segments numbers) (edges_of lines) r.pixel lines_are ((hot.exact r.pixel).0 at).0, inside r.pixel at))
+
+pub no_records : (segments : List Seg) (numbers : List ℕ) → HasRecords (candidates_of segments numbers) [] []
+no_records segments numbers = record { same = λ r. (λ h. absurd (none_in r h), λ h. absurd (none_in r.pixel h.1)) }

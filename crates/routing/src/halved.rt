@@ -1,0 +1,204 @@
+//! The hot pixels of a tile with the records of the segments that meet them, found in ever smaller halves of it.
+//!
+//! 1. A rectangle with many lines is halved, and each half is left with the lines that may pass it.
+//! 2. Where few are left, or one pixel, all pairs are crossed.
+//! 3. Each line is tested against each hot pixel that was found there. Where it meets one, each segment on the line has a
+//!    record.
+
+ghost use Rattle.std.specs.Prelude.{◌≡◌, ◌++◌, ◌<◌, ◌≤◌, All, IfOk, OnOk, length};
+ghost use Rattle.geom.specs.Limit.{AreInLimit, InLimit};
+ghost use Rattle.hot_pixel.specs.Candidates.{chosen, AreOwnedHot};
+ghost use Rattle.hot_pixel.specs.Halving.{edges_of, HasHot};
+ghost use Rattle.hot_pixel.specs.Rects.{IsIn};
+ghost use Rattle.routing.specs.Found.{HasRecords};
+ghost use Rattle.routing.specs.Pieces.{candidates_of};
+ghost use Rattle.routing.specs.Recording.{AddsAt, AddsAlong, AddsRecordsAt, AddsRecords};
+
+use crate::by_line::{OnLine, by_line, lines_of};
+use crate::met::meets;
+use crate::record::{Record, steps_to};
+use geom::{NoMemory, Pt, Rect, Seg};
+use hot_pixel::{Line, add_hot, ascending, cut, on_line, passing, within_limit};
+use std::alloc::Allocator;
+
+/// How many lines of a rectangle are few.
+const FEW: usize = 32;
+
+/// How often a rectangle is halved at most. Within the coordinate limit a single pixel is left after 60.
+const DEPTH: u32 = 60;
+
+/// The hot pixels of a tile, and the records of its segments there.
+#[derive(Drop)]
+pub(crate) struct Found<A: Allocator> {
+    pub pixels: Vec<Pt, A>,
+    pub records: Vec<Record, A>,
+}
+
+/// Adds the record of each segment on a line at a pixel.
+fn add_at<A: Allocator>(
+    records: &mut Vec<Record, A>,
+    segments: &[Seg],
+    table: &[OnLine],
+    line: &Line,
+    pixel: Pt,
+) -> Result<(), NoMemory>
+    requires segments_in { All (λ s. AreInLimit s.a s.b) segments.now }
+    requires table_in { All (λ x. x.number < length segments.now) table.now }
+    requires line_in { line.now.past ≤ length table.now }
+    requires pixel_in { InLimit pixel }
+    ensures { OnOk result (AddsAt segments.now table.now line.now.first line.now.past pixel records.old.items records.new.items) }
+{
+    for place in line.first..line.past {
+        let number = table[place].number;
+        let steps = steps_to(&segments[number as usize], pixel);
+        records.push(Record {
+            segment: number,
+            steps,
+            pixel,
+        })?;
+    }
+    Ok(())
+}
+
+/// Adds the records of the segments on a line at those of the pixels that it meets.
+fn add_along<A: Allocator>(
+    records: &mut Vec<Record, A>,
+    segments: &[Seg],
+    table: &[OnLine],
+    line: &Line,
+    pixels: &[Pt],
+) -> Result<(), NoMemory>
+    requires segments_in { All (λ s. AreInLimit s.a s.b) segments.now }
+    requires table_in { All (λ x. x.number < length segments.now) table.now }
+    requires line_in { line.now.past ≤ length table.now }
+    requires edge_in { AreInLimit line.now.edge.p line.now.edge.q }
+    requires pixels_in { All InLimit pixels.now }
+    ensures { OnOk result (AddsAlong segments.now table.now line.now pixels.now records.old.items records.new.items) }
+{
+    let s = on_line(&line.edge);
+    for pixel in pixels {
+        if meets(&s, *pixel) {
+            add_at(records, segments, table, line, *pixel)?;
+        }
+    }
+    Ok(())
+}
+
+/// Adds the records of the segments on lines at those of the pixels that they meet.
+fn add_records<A: Allocator>(
+    records: &mut Vec<Record, A>,
+    segments: &[Seg],
+    table: &[OnLine],
+    lines: &[Line],
+    pixels: &[Pt],
+) -> Result<(), NoMemory>
+    requires segments_in { All (λ s. AreInLimit s.a s.b) segments.now }
+    requires table_in { All (λ x. x.number < length segments.now) table.now }
+    requires lines_past { All (λ l. l.past ≤ length table.now) lines.now }
+    requires lines_in { All (λ l. AreInLimit l.edge.p l.edge.q) lines.now }
+    requires pixels_in { All InLimit pixels.now }
+    ensures { OnOk result (AddsRecordsAt segments.now table.now lines.now pixels.now records.old.items records.new.items) }
+{
+    for line in lines {
+        add_along(records, segments, table, line, pixels)?;
+    }
+    Ok(())
+}
+
+/// Adds pixels to others.
+fn append<A: Allocator>(found: &mut Vec<Pt, A>, pixels: &[Pt]) -> Result<(), NoMemory>
+    ensures { OnOk result (found.new.items ≡ found.old.items ++ pixels.now) }
+{
+    for pixel in pixels {
+        found.push(*pixel)?;
+    }
+    Ok(())
+}
+
+/// Adds the pixels of a rectangle that are hot for its lines, by all ends and all pairs, and the records there.
+fn add_all<A: Allocator + Copy>(
+    alloc: A,
+    segments: &[Seg],
+    table: &[OnLine],
+    rect: &Rect,
+    lines: &[Line],
+    found: &mut Found<A>,
+) -> Result<(), NoMemory>
+    requires segments_in { All (λ s. AreInLimit s.a s.b) segments.now }
+    requires table_in { All (λ x. x.number < length segments.now) table.now }
+    requires lines_past { All (λ l. l.past ≤ length table.now) lines.now }
+    requires lines_in { All (λ l. AreInLimit l.edge.p l.edge.q) lines.now }
+    ensures pixels { OnOk result (HasHot rect.now (edges_of lines.now) found.old.pixels.items found.new.pixels.items) }
+    ensures records { OnOk result (AddsRecords segments.now table.now rect.now lines.now found.old.records.items found.new.records.items) }
+{
+    let mut here = Vec::new(alloc);
+    add_hot(rect, lines, &mut here)?;
+    let pixels = ascending(here);
+    add_records(&mut found.records, segments, table, lines, &pixels)?;
+    append(&mut found.pixels, &pixels)?;
+    Ok(())
+}
+
+/// Adds the pixels of a rectangle that are hot for its lines, and the records there. Where the lines aren't few it is
+/// halved, and each half is left with those that may pass it.
+fn halve<A: Allocator + Copy>(
+    alloc: A,
+    segments: &[Seg],
+    table: &[OnLine],
+    rect: &Rect,
+    lines: &[Line],
+    depth: u32,
+    found: &mut Found<A>,
+) -> Result<(), NoMemory>
+    requires segments_in { All (λ s. AreInLimit s.a s.b) segments.now }
+    requires table_in { All (λ x. x.number < length segments.now) table.now }
+    requires rect_in { AreInLimit rect.now.lo rect.now.hi }
+    requires lines_past { All (λ l. l.past ≤ length table.now) lines.now }
+    requires lines_in { All (λ l. AreInLimit l.edge.p l.edge.q) lines.now }
+    ensures pixels { OnOk result (HasHot rect.now (edges_of lines.now) found.old.pixels.items found.new.pixels.items) }
+    ensures records { OnOk result (AddsRecords segments.now table.now rect.now lines.now found.old.records.items found.new.records.items) }
+{
+    if depth == 0 || lines.len() <= FEW {
+        return add_all(alloc, segments, table, rect, lines, found);
+    }
+    match cut(rect, lines) {
+        None => add_all(alloc, segments, table, rect, lines, found),
+        Some((first, second)) => {
+            let part = passing(alloc, &first, lines)?;
+            halve(alloc, segments, table, &first, &part, depth - 1, found)?;
+            let rest = passing(alloc, &second, lines)?;
+            halve(alloc, segments, table, &second, &rest, depth - 1, found)?;
+            Ok(())
+        }
+    }
+}
+
+/// The hot pixels of a tile among the chosen segments, ascending and each once, and the records of these segments there.
+pub(crate) fn found_in<A: Allocator + Copy>(
+    alloc: A,
+    tile: &Rect,
+    segments: &[Seg],
+    numbers: &[u32],
+) -> Result<Found<A>, NoMemory>
+    requires limits { All (λ s. AreInLimit s.a s.b) segments.now }
+    requires below { All (λ k. k < length segments.now) numbers.now }
+    ensures pixels { IfOk result (λ f. AreOwnedHot (IsIn tile.now) (chosen segments.now numbers.now) f.pixels.items) }
+    ensures records { IfOk result (λ f. HasRecords (candidates_of segments.now numbers.now) f.pixels.items f.records.items) }
+{
+    let table = by_line(alloc, segments, numbers)?;
+    let lines = lines_of(alloc, &table)?;
+    let mut found = Found {
+        pixels: Vec::new(alloc),
+        records: Vec::new(alloc),
+    };
+    match within_limit(tile) {
+        None => Ok(found),
+        Some(part) => {
+            halve(alloc, segments, &table, &part, &lines, DEPTH, &mut found)?;
+            Ok(Found {
+                pixels: ascending(found.pixels),
+                records: found.records,
+            })
+        }
+    }
+}
