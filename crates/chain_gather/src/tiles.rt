@@ -3,7 +3,9 @@
 ghost use Rattle.std.specs.Prelude.{◌≡◌, ◌+◌, ◌<◌, ◌≤◌, ◌++◌, ◌∷◌, [], All, IfOk, OnOk, length};
 ghost use Rattle.geom.specs.Limit.{AreInLimit};
 ghost use Rattle.geom.specs.Noded.{IsNoded};
-ghost use Rattle.geom.specs.Rounded.{AreRounded, edges_of};
+ghost use Rattle.geom.specs.declared.segment.Source.{Source};
+ghost use Rattle.geom.specs.Rounded.{AreRounded, HasEvenDegrees, edges_of, odd_edges};
+ghost use Rattle.geom.specs.Segments.{AreClosed};
 ghost use Rattle.tiling.specs.Tiles.{tile_count, Owns};
 ghost use Rattle.hot_pixel.specs.Candidates.{AreCandidates};
 ghost use Rattle.routing.specs.Pieces.{candidates_of};
@@ -98,7 +100,8 @@ fn all_tiles<L: Limited, A: Allocator + Copy>(
     Ok(found)
 }
 
-/// The rounded edges of the segments, ascending with their counts, and each tile's numbers. A piece of the book counts where
+/// The rounded edges of the segments, ascending with their counts, and each tile's numbers. Where the segments of a layer
+/// close, every point is an end of an even number of the edges that its count has odd. A piece of the book counts where
 /// its own input is what its tile has now; a missing or strange one is made anew, and `remade` says how many were. More
 /// records than a `u32` counts are refused as want of memory.
 pub fn gather<L: Limited, A: Allocator + Copy>(
@@ -113,6 +116,7 @@ pub fn gather<L: Limited, A: Allocator + Copy>(
     requires bins { AreBinsOf grid.now segments.now bins.now }
     ensures rounded { IfOk result (λ r. ∥ AreRounded segments.now r.edges.items ∥₁) }
     ensures noded { IfOk result (λ r. IsNoded (edges_of r.edges.items)) }
+    ensures even { IfOk result (λ r. (layer : Source) → AreClosed layer segments.now → HasEvenDegrees (odd_edges layer r.edges.items)) }
     ensures tiles { IfOk result (λ r. AreTileNumbers grid.now segments.now (tile_count grid.now) r.tiles.items) }
     ensures few { IfOk result (λ r. r.remade ≤ tile_count grid.now) }
     ensures remade { IfOk result (λ r. IsCountBelow (tile_count grid.now) (λ k. ¬ (HoldsOwn grid.now segments.now book.held k)) r.remade) }

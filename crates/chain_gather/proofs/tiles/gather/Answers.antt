@@ -3,6 +3,7 @@ use Rattle.std.proofs.Props.{props}
 use Rattle.std.proofs.Common.{List, subst, sym}
 use Rattle.std.proofs.lemmas.List.Elements.{Contains-get_or}
 use Rattle.noding_law.proofs.Rounding.{rounded_noded}
+use Rattle.points_law.proofs.Degrees.{closed_even}
 use Rattle.routing.specs.declared.record.Record.{Record}
 use Rattle.routing.proofs.RecordOrder.{records_once}
 use Rattle.chain_gather.specs.Links.{AreRecords}
@@ -27,3 +28,7 @@ invariant_of-result g c = record {
 
 pub returns-clause-noded : goal.returns-clause-noded
 returns-clause-noded g c = ∥∥₁_elim c.in_ok-edges.ensures (hlevel props) (λ r. rounded_noded c.args.segments.now c.in_ok-edges.edges.items r)
+
+pub returns-clause-even : goal.returns-clause-even
+returns-clause-even g c =
+    λ layer closed. ∥∥₁_elim c.in_ok-edges.ensures (hlevel props) (λ r. closed_even c.args.segments.now c.in_ok-edges.edges.items r layer closed)
