@@ -88,22 +88,24 @@ gathered_none g segments held = record {
   few = omega arith;
 }
 
+-- the piece of the next tile
+pub tiles_more : (g : Tiling) (segments : List Seg) (k hot : ℕ) (records part : List Record) (tiles : List TileNumbers) → ∥ HasTilesBelow g segments k records ∥₁ → AreTileNumbers g segments k tiles → ∥ IsPieceOf (Owns g k) segments hot part ∥₁
+    → ∥ HasTilesBelow g segments (k + 1) (records ++ part) ∥₁ × AreTileNumbers g segments (k + 1) (tiles ++ (record { hot = hot; records = length part }) ∷ [])
+tiles_more g segments k hot records part tiles h t piece = (
+  ∥∥₁_elim h (hlevel props) (λ a. ∥∥₁_map piece (λ p. below_more g segments k hot records part a p)),
+  numbers_more g segments k tiles (record { hot = hot; records = length part }) t (∥∥₁_map piece (λ p. (part, p, refl))),
+)
+
 module _ {A : Type 0} (g : Tiling) (segments : List Seg) (held : List (Option (Piece A))) (k hot : ℕ) (records part : List Record) (tiles : List TileNumbers) (remade : ℕ)
     (h : AreGathered g segments held k records tiles remade) (piece : ∥ IsPieceOf (Owns g k) segments hot part ∥₁) where
-  n : TileNumbers
-  n = record { hot = hot; records = length part }
-
-  together : ∥ HasTilesBelow g segments (k + 1) (records ++ part) ∥₁
-  together = ∥∥₁_elim h.records_are (hlevel props) (λ a. ∥∥₁_map piece (λ p. below_more g segments k hot records part a p))
-
-  numbers : AreTileNumbers g segments (k + 1) (tiles ++ (record { hot = hot; records = length part }) ∷ [])
-  numbers = numbers_more g segments k tiles (record { hot = hot; records = length part }) h.tiles_are (∥∥₁_map piece (λ p. (part, p, refl)))
+  more : ∥ HasTilesBelow g segments (k + 1) (records ++ part) ∥₁ × AreTileNumbers g segments (k + 1) (tiles ++ (record { hot = hot; records = length part }) ∷ [])
+  more = tiles_more g segments k hot records part tiles h.records_are h.tiles_are piece
 
   -- the book's piece
   pub gathered_held : HoldsOwn g segments held k → AreGathered g segments held (k + 1) (records ++ part) (tiles ++ (record { hot = hot; records = length part }) ∷ []) remade
   gathered_held own = record {
-    records_are = together;
-    tiles_are = numbers;
+    records_are = more.0;
+    tiles_are = more.1;
     remade_is = count_skip (λ j. ¬ (HoldsOwn g segments held j)) k remade h.remade_is (λ f. f own);
     few = let f = h.few in omega arith;
   }
@@ -111,8 +113,8 @@ module _ {A : Type 0} (g : Tiling) (segments : List Seg) (held : List (Option (P
   -- a new one
   pub gathered_made : ¬ (HoldsOwn g segments held k) → AreGathered g segments held (k + 1) (records ++ part) (tiles ++ (record { hot = hot; records = length part }) ∷ []) (remade + 1)
   gathered_made fails = record {
-    records_are = together;
-    tiles_are = numbers;
+    records_are = more.0;
+    tiles_are = more.1;
     remade_is = count_push (λ j. ¬ (HoldsOwn g segments held j)) k remade h.remade_is fails;
     few = let f = h.few in omega arith;
   }

@@ -17,7 +17,7 @@ use Rattle.routing.specs.Steps.{steps_to}
 use Rattle.routing.specs.Pieces.{IsRecord, IsPieceOf}
 use Rattle.routing.proofs.StepLaws.{same_from_steps}
 use Rattle.routing.proofs.RecordOrder.{record_cmp, record_total, record_less}
-use Rattle.chain_gather.specs.Links.{IsRecordBefore, AreRecords}
+use Rattle.chain_gather.specs.Links.{IsRecordBefore, AreRecords, HasRecords}
 use Rattle.chain_gather.specs.Gathered.{HasTilesBelow}
 
 some_same : {s t : Seg} {o : Option Seg} → o ≡ Some s → o ≡ Some t → s ≡ t
@@ -68,15 +68,19 @@ ascending_records segments list less known = λ i j d a b. step (get_or list i d
 pub record AreCovered (g : Tiling) (segments : List Seg) : Type 0 where
   pub tile : (s : Seg) (c : Pt) → Contains segments s → Meets s c → HasTile g c
 
--- the records of all tiles, sorted and each once, are those of all routes
-pub gathered_are : (g : Tiling) (segments : List Seg) (found list : List Record) → AreCovered g segments → HasTilesBelow g segments (tile_count g) found → IsSortedOnce record_cmp found list → AreRecords segments list
-gathered_are g segments found list covered all once = record { ascending = ascending_records segments list once.ascending to; exact = λ r. (to r, from r) }
+-- the records of all tiles are those of all routes
+pub tiles_have : (g : Tiling) (segments : List Seg) (found : List Record) → AreCovered g segments → HasTilesBelow g segments (tile_count g) found → HasRecords segments found
+tiles_have g segments found covered all = record { exact = λ r. (λ h. ((all.same r).0 h).0, from r) }
   where
-    to : (r : Record) → Contains list r → IsRecord segments r
-    to r h = ((all.same r).0 ((once.same r).0 h)).0
-
-    from : (r : Record) → IsRecord segments r → Contains list r
+    from : (r : Record) → IsRecord segments r → Contains found r
     from r h =
         let m = hot_meets segments r.pixel h.hot in
         let t = covered.tile m.0 r.pixel m.1 m.2 in
-        (once.same r).1 ((all.same r).1 (h, (t.0, owner_below g t.0 r.pixel t.1, t.1)))
+        (all.same r).1 (h, (t.0, owner_below g t.0 r.pixel t.1, t.1))
+
+-- sorted and each once they are in order
+pub gathered_are : (segments : List Seg) (found list : List Record) → HasRecords segments found → IsSortedOnce record_cmp found list → AreRecords segments list
+gathered_are segments found list all once = record {
+  ascending = ascending_records segments list once.ascending (λ r h. (all.exact r).0 ((once.same r).0 h));
+  exact = λ r. (λ h. (all.exact r).0 ((once.same r).0 h), λ h. (once.same r).1 ((all.exact r).1 h));
+}

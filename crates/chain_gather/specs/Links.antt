@@ -15,6 +15,10 @@ use Rattle.chain_gather.specs.declared.link.Link.{Link}
 abbrev pub IsRecordBefore : Record → Record → Type 0
 IsRecordBefore r q = (r.segment < q.segment) ⊎ ((r.segment ≡ q.segment) × (r.steps < q.steps))
 
+-- the records of all routes
+pub record HasRecords (segments : List Seg) (records : List Record) : Type 0 where
+  pub exact : (r : Record) → Contains records r ↔ IsRecord segments r
+
 -- the records of all routes, in order
 pub record AreRecords (segments : List Seg) (records : List Record) : Type 0 where
   pub ascending : AllPairs IsRecordBefore records

@@ -5,10 +5,12 @@ mod edges;
 mod link;
 mod own;
 mod rounded;
+mod tile_piece;
 mod tiles;
 
 pub use rounded::{Rounded, TileNumbers};
-pub use tiles::gather;
+pub use tile_piece::{TilePiece, Tiled};
+pub use tiles::{gather, gather_made};
 
 #[cfg(test)]
 mod tests;

@@ -3,15 +3,20 @@
 ghost use Rattle.std.specs.Prelude.{◌≡◌, ◌+◌, ◌<◌, ◌≤◌, ◌++◌, ◌∷◌, [], All, IfOk, OnOk, length};
 ghost use Rattle.geom.specs.Limit.{AreInLimit};
 ghost use Rattle.geom.specs.Noded.{IsNoded};
-ghost use Rattle.geom.specs.Rounded.{AreRounded, edges_of};
+ghost use Rattle.geom.specs.declared.segment.Source.{Source};
+ghost use Rattle.geom.specs.Rounded.{AreRounded, HasEvenDegrees, edges_of, odd_edges};
+ghost use Rattle.geom.specs.Segments.{AreClosed};
 ghost use Rattle.tiling.specs.Tiles.{tile_count, Owns};
 ghost use Rattle.hot_pixel.specs.Candidates.{AreCandidates};
 ghost use Rattle.routing.specs.Pieces.{candidates_of};
-ghost use Rattle.chain_gather.specs.Gathered.{AreBinsOf, AreGathered, AreTileCandidates, AreTileNumbers, HaveTiles, HoldsOwn, IsCountBelow};
+ghost use Rattle.chain_gather.specs.Gathered.{AreBinsOf, AreGathered, AreTileCandidates, AreTileNumbers, HasTilesBelow, HaveTiles, HoldsOwn, IsCountBelow};
+ghost use Rattle.chain_gather.specs.Links.{HasRecords};
+ghost use Rattle.tile_book.specs.Books.{StandInOrder};
 
 use crate::edges::rounded_edges;
 use crate::own::own_piece;
 use crate::rounded::{Rounded, TileNumbers};
+use crate::tile_piece::{TilePiece, Tiled};
 use geom::{NoMemory, Seg};
 use routing::{Piece, Record, piece};
 use std::alloc::Allocator;
@@ -27,19 +32,19 @@ pub(crate) struct Found<A: Allocator> {
 }
 
 impl<A: Allocator> Found<A> {
-    /// Adds the records and the numbers of a tile's piece. More records than a `u32` counts are refused as want of memory.
-    fn add(&mut self, piece: &Piece<A>) -> Result<(), NoMemory>
-        ensures records { OnOk result (self.new.records.items ≡ self.old.records.items ++ piece.now.records.items) }
-        ensures tiles { OnOk result (self.new.tiles.items ≡ self.old.tiles.items ++ (record { hot = piece.now.hot; records = length piece.now.records.items }) ∷ []) }
+    /// Adds a tile's records and numbers. More records than a `u32` counts are refused as want of memory.
+    fn add(&mut self, pixels: u32, records: &[Record]) -> Result<(), NoMemory>
+        ensures records { OnOk result (self.new.records.items ≡ self.old.records.items ++ records.now) }
+        ensures tiles { OnOk result (self.new.tiles.items ≡ self.old.tiles.items ++ (record { hot = pixels; records = length records.now }) ∷ []) }
         ensures remade { self.new.remade ≡ self.old.remade }
     {
-        if piece.records.len() > u32::MAX as usize {
+        if records.len() > u32::MAX as usize {
             return Err(NoMemory);
         }
-        self.records.extend_from_slice(&piece.records)?;
+        self.records.extend_from_slice(records)?;
         self.tiles.push(TileNumbers {
-            hot: piece.hot,
-            records: piece.records.len() as u32,
+            hot: pixels,
+            records: records.len() as u32,
         })?;
         Ok(())
     }
@@ -65,10 +70,10 @@ fn add_tile<L: Limited, A: Allocator + Copy>(
     ensures { OnOk result (AreGathered grid.now segments.now book.now.held (tile + 1) found.new.records.items found.new.tiles.items found.new.remade) }
 {
     if let Some(held) = own_piece(book, grid, tile, segments, numbers) {
-        return found.add(held);
+        return found.add(held.hot, &held.records);
     }
     let made = piece(alloc, grid, tile, segments, numbers)?;
-    found.add(&made)?;
+    found.add(made.hot, &made.records)?;
     found.remade += 1;
     Ok(())
 }
@@ -98,7 +103,8 @@ fn all_tiles<L: Limited, A: Allocator + Copy>(
     Ok(found)
 }
 
-/// The rounded edges of the segments, ascending with their counts, and each tile's numbers. A piece of the book counts where
+/// The rounded edges of the segments, ascending with their counts, and each tile's numbers. Where the segments of a layer
+/// close, every point is an end of an even number of the edges that its count has odd. A piece of the book counts where
 /// its own input is what its tile has now; a missing or strange one is made anew, and `remade` says how many were. More
 /// records than a `u32` counts are refused as want of memory.
 pub fn gather<L: Limited, A: Allocator + Copy>(
@@ -113,16 +119,80 @@ pub fn gather<L: Limited, A: Allocator + Copy>(
     requires bins { AreBinsOf grid.now segments.now bins.now }
     ensures rounded { IfOk result (λ r. ∥ AreRounded segments.now r.edges.items ∥₁) }
     ensures noded { IfOk result (λ r. IsNoded (edges_of r.edges.items)) }
+    ensures even { IfOk result (λ r. (layer : Source) → AreClosed layer segments.now → HasEvenDegrees (odd_edges layer r.edges.items)) }
     ensures tiles { IfOk result (λ r. AreTileNumbers grid.now segments.now (tile_count grid.now) r.tiles.items) }
     ensures few { IfOk result (λ r. r.remade ≤ tile_count grid.now) }
     ensures remade { IfOk result (λ r. IsCountBelow (tile_count grid.now) (λ k. ¬ (HoldsOwn grid.now segments.now book.held k)) r.remade) }
+{
+    let found = all_tiles(alloc, &book, grid, bins, segments)?;
+    drop(book);
+    rounded_of(alloc, segments, found)
+}
+
+/// As `gather`, of the pieces of all tiles in their order, which are known to be those of the segments over the grid: nothing
+/// is binned, compared or made anew.
+pub fn gather_made<T: Tiled, A: Allocator + Copy>(
+    alloc: A,
+    pieces: Vec<TilePiece<T, A>, A>,
+    grid: &Grid,
+    segments: &[Seg],
+) -> Result<Rounded<A>, NoMemory>
+    requires grid { grid.now ≡ T.grid }
+    requires segments { segments.now ≡ T.segments }
+    requires limits { All (λ s. AreInLimit s.a s.b) segments.now }
+    requires covered { HaveTiles grid.now segments.now }
+    requires one_each { length pieces.items ≡ tile_count grid.now }
+    requires in_order { StandInOrder (λ p. p.number) pieces.items }
+    ensures rounded { IfOk result (λ r. ∥ AreRounded segments.now r.edges.items ∥₁) }
+    ensures noded { IfOk result (λ r. IsNoded (edges_of r.edges.items)) }
+    ensures even { IfOk result (λ r. (layer : Source) → AreClosed layer segments.now → HasEvenDegrees (odd_edges layer r.edges.items)) }
+    ensures tiles { IfOk result (λ r. AreTileNumbers grid.now segments.now (tile_count grid.now) r.tiles.items) }
+    ensures remade { IfOk result (λ r. r.remade ≡ 0) }
+{
+    let found = all_made(alloc, &pieces)?;
+    drop(pieces);
+    rounded_of(alloc, segments, found)
+}
+
+/// The records and the numbers of pieces that stand in the order of their tiles.
+fn all_made<T: Tiled, A: Allocator + Copy>(
+    alloc: A,
+    pieces: &[TilePiece<T, A>],
+) -> Result<Found<A>, NoMemory>
+    requires { StandInOrder (λ p. p.number) pieces.now }
+    ensures records { IfOk result (λ f. ∥ HasTilesBelow T.grid T.segments (length pieces.now) f.records.items ∥₁) }
+    ensures tiles { IfOk result (λ f. AreTileNumbers T.grid T.segments (length pieces.now) f.tiles.items) }
+    ensures remade { IfOk result (λ f. f.remade ≡ 0) }
+{
+    let mut found = Found {
+        records: Vec::new(alloc),
+        tiles: Vec::new(alloc),
+        remade: 0,
+    };
+    for piece in pieces {
+        found.add(piece.hot, &piece.records)?;
+    }
+    Ok(found)
+}
+
+/// The rounded edges, where the records of all segments were found.
+fn rounded_of<A: Allocator + Copy>(
+    alloc: A,
+    segments: &[Seg],
+    found: Found<A>,
+) -> Result<Rounded<A>, NoMemory>
+    requires { ∥ HasRecords segments.now found.records.items ∥₁ }
+    ensures rounded { IfOk result (λ r. ∥ AreRounded segments.now r.edges.items ∥₁) }
+    ensures noded { IfOk result (λ r. IsNoded (edges_of r.edges.items)) }
+    ensures even { IfOk result (λ r. (layer : Source) → AreClosed layer segments.now → HasEvenDegrees (odd_edges layer r.edges.items)) }
+    ensures tiles { IfOk result (λ r. r.tiles.items ≡ found.tiles.items) }
+    ensures remade { IfOk result (λ r. r.remade ≡ found.remade) }
 {
     let Found {
         mut records,
         tiles,
         remade,
-    } = all_tiles(alloc, &book, grid, bins, segments)?;
-    drop(book);
+    } = found;
     records.sort_unstable();
     records.dedup();
     if records.len() > u32::MAX as usize {

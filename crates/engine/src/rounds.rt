@@ -12,38 +12,41 @@ ghost use Rattle.engine.specs.Runs.{IsChecked};
 use crate::engine::{Inputs, Plan};
 use crate::segments::{boxes_of, segments_of};
 use crate::text::Report;
-use chain_gather::{TileNumbers, gather};
+use chain_gather::{TileNumbers, TilePiece, Tiled, gather_made};
 use geom::{NoMemory, Seg};
 use noding_test::{Noded, settled};
-use routing::{Piece, piece};
+use routing::piece;
 use std::alloc::Allocator;
-use std::marker::Brand;
+use std::marker::{Brand, PhantomData};
 use std::sync::Wait;
 use std::sync::ledger::Blank;
 use std::thread::Threads;
-use tile_book::{Filled, Gate, Job, Limited, Phase, fill};
+use tile_book::{Gate, Job, Limited, Phase, make_all};
 use tiling::{Bins, Grid};
 use wkt::read_layer;
 
 /// Makes the piece of each tile from the segments in its bin.
 #[derive(Drop)]
-struct Pieces<'a, A: Allocator> {
+struct Pieces<'a, T: Tiled, A: Allocator> {
     grid: &'a Grid,
     bins: &'a Bins<A>,
     segments: &'a [Seg],
+    of: PhantomData<T>,
     ghost in_limit: { AllInLimit segments.now },
     ghost are_bins: { ∥ AreBinsOf grid.now segments.now bins.now ∥₁ },
+    ghost are_tiled: { (grid.now ≡ T.grid) × (segments.now ≡ T.segments) },
 }
 
-impl<A: Allocator + Copy> Job<A> for Pieces<'_, A> {
-    type Piece = Piece<A>;
+impl<T: Tiled, A: Allocator + Copy> Job<A> for Pieces<'_, T, A> {
+    type Piece = TilePiece<T, A>;
 
     ghost count = { λ p. tile_count p.grid.now };
 
-    fn piece(&self, alloc: A, number: u32) -> Result<Piece<A>, NoMemory> {
+    fn piece(&self, alloc: A, number: u32) -> Result<TilePiece<T, A>, NoMemory> {
         let mut numbers = Vec::new(alloc);
         self.bins.bin(number, &mut numbers)?;
-        piece(alloc, self.grid, number, self.segments, &numbers)
+        let made = piece(alloc, self.grid, number, self.segments, &numbers)?;
+        Ok(TilePiece::of_piece(made))
     }
 }
 
@@ -60,7 +63,7 @@ pub fn rounded_layers<A: Allocator + Copy + Send + Sync, G: Gate + Sync, R: Thre
     requires { IsChecked plan a.now b.now inputs.now.segments_a inputs.now.segments_b inputs.now.grid }
     ensures rounded { IfOk result (λ n. AreRoundedOver a.now b.now inputs.now.grid n.edges.items n.tiles.items) }
     ensures layers { IfOk result (λ n. ∥ AreLayers n.edges.items ∥₁) }
-    ensures few { IfOk result (λ n. n.remade ≤ tile_count inputs.now.grid) }
+    ensures remade { IfOk result (λ n. n.remade ≡ 0) }
     ensures in_limit { IfOk result (λ n. All (λ c. AreInLimit c.edge.p c.edge.q) n.edges.items) }
 {
     let segments = read_segments(alloc, a, b, inputs)?;
@@ -101,15 +104,16 @@ fn gathered<A: Allocator + Copy + Send + Sync, G: Gate + Sync, R: Threads + Wait
     requires covered { HaveTiles grid.now segments.now }
     ensures rounded { IfOk result (λ n. ∥ AreRounded segments.now n.edges.items ∥₁) }
     ensures tiles { IfOk result (λ n. AreTileNumbers grid.now segments.now (tile_count grid.now) n.tiles.items) }
-    ensures few { IfOk result (λ n. n.remade ≤ tile_count grid.now) }
+    ensures remade { IfOk result (λ n. n.remade ≡ 0) }
 {
     let blank = Blank::new(u64::from(workers));
-    by_tiles::<Brand, A, G, R>(rt, alloc, blank, grid, workers, segments, gate)
+    by_tiles::<Brand, Brand, A, G, R>(rt, alloc, blank, grid, workers, segments, gate)
 }
 
-/// The same, where a ledger of its own counts the pieces that are posted.
+/// The same, where a ledger of its own counts the pieces that are posted, and their type knows the grid and the segments.
 fn by_tiles<
     L: Limited + Send + Sync,
+    T: Tiled + Send + Sync,
     A: Allocator + Copy + Send + Sync,
     G: Gate + Sync,
     R: Threads + Wait + Sync,
@@ -125,22 +129,24 @@ fn by_tiles<
     requires name { blank.name ≡ L.name }
     requires parts { (blank.parts ≡ L.parts) × (blank.parts ≡ workers) }
     requires limit { tile_count grid.now ≡ L.limit }
+    requires tiled { (grid.now ≡ T.grid) × (segments.now ≡ T.segments) }
     requires workers { (0 < workers) × (workers ≤ 64) }
     requires in_limit { AllInLimit segments.now }
     requires covered { HaveTiles grid.now segments.now }
     ensures rounded { IfOk result (λ n. ∥ AreRounded segments.now n.edges.items ∥₁) }
     ensures tiles { IfOk result (λ n. AreTileNumbers grid.now segments.now (tile_count grid.now) n.tiles.items) }
-    ensures few { IfOk result (λ n. n.remade ≤ tile_count grid.now) }
+    ensures remade { IfOk result (λ n. n.remade ≡ 0) }
 {
     let boxes = boxes_of(alloc, segments)?;
     let bins = Bins::build(alloc, grid, &boxes)?;
     drop(boxes);
-    let job = Pieces {
+    let job: Pieces<T, A> = Pieces {
         grid,
         bins: &bins,
         segments,
+        of: PhantomData,
     };
-    let filled: Filled<Piece<A>, L, A> = fill(
+    let pieces = make_all::<A, Pieces<T, A>, L, G, R>(
         rt,
         alloc,
         blank,
@@ -150,8 +156,7 @@ fn by_tiles<
         Phase::Route,
         gate,
     )?;
-    let Filled { book, .. } = filled;
-    let rounded = gather(alloc, book, grid, &bins, segments)?;
+    let rounded = gather_made(alloc, pieces, grid, segments)?;
     Ok(settled(rounded))
 }
 

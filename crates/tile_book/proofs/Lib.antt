@@ -8,3 +8,4 @@ pub mod Steps
 pub mod Totals
 pub mod Trues
 pub mod Whole
+pub mod Completed

@@ -96,6 +96,20 @@ impl<P: Numbered + Drop, L: Limited, A: Allocator> Book<P, L, A> {
         self.accepted.as_slice()
     }
 
+    /// The pieces held, by number.
+    pub fn into_held(self) -> Vec<Option<P>, A>
+        ensures held { result.items ≡ self.held }
+        ensures replay { IsReplay P.number_of self }
+    {
+        let Book {
+            limit: _,
+            held,
+            accepted: _,
+            tally: _,
+        } = self;
+        held
+    }
+
     // All shares together have posted what was accepted.
     pub(crate) fn audit(&mut self, mut all: ledger::Share<L>)
         requires { all.parts ≡ L.parts }

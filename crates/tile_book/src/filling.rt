@@ -1,6 +1,7 @@
 //! A whole pass over the numbers below a limit: draw, desk, workers, and the book at the end.
 
 ghost use Rattle.std.specs.Prelude.{◌≡◌, ◌+◌, ◌<◌, ◌≤◌, ℕ, true, All, IfOk, IsSome, None, flat_map, length, slice_index_or, sum, vec_len};
+ghost use Rattle.tile_book.specs.Books.{StandInOrder};
 ghost use Rattle.tile_book.specs.Growth.{HasGrown};
 
 use crate::book::{Book, Numbered};
@@ -59,6 +60,62 @@ where
     let (desk, shares) = Desk::new(alloc, blank, limit, workers)?;
     let ended = run_workers(rt, alloc, job, phase, &draw, hands, &desk, shares, gate)?;
     settle(alloc, draw, desk, ended)
+}
+
+/// The pieces of all numbers below a limit, in the order of their numbers: those that `fill` holds, and where one came back, a
+/// new one.
+pub fn make_all<
+    A: Allocator + Copy + Send + Sync,
+    J: Job<A> + Sync,
+    L: Limited + Send + Sync,
+    G: Gate + Sync,
+    R: Threads + Wait + Sync,
+>(
+    rt: &R,
+    alloc: A,
+    blank: Blank,
+    limit: u32,
+    workers: u32,
+    job: &J,
+    phase: Phase,
+    gate: &G,
+) -> Result<Vec<J::Piece, A>, NoMemory>
+where
+    J::Piece: Send,
+    requires name { blank.name ≡ L.name }
+    requires parts { (blank.parts ≡ L.parts) × (blank.parts ≡ workers) }
+    requires limit { (limit ≡ L.limit) × (limit ≤ 65536) }
+    requires workers { (0 < workers) × (workers ≤ 64) }
+    requires count { limit ≤ J.count job.now }
+    ensures one_each { IfOk result (λ v. length v.items ≡ limit) }
+    ensures in_order { IfOk result (λ v. StandInOrder J.Piece.Numbered.number_of v.items) }
+{
+    let filled: Filled<J::Piece, L, A> = fill(rt, alloc, blank, limit, workers, job, phase, gate)?;
+    let Filled { book, .. } = filled;
+    completed(alloc, job, book)
+}
+
+// The pieces of a book, and a new one of each number that it lacks.
+fn completed<A: Allocator + Copy, J: Job<A>, L: Limited>(
+    alloc: A,
+    job: &J,
+    book: Book<J::Piece, L, A>,
+) -> Result<Vec<J::Piece, A>, NoMemory>
+    requires few { book.limit ≤ 65536 }
+    requires count { book.limit ≤ J.count job.now }
+    ensures one_each { IfOk result (λ v. length v.items ≡ book.limit) }
+    ensures in_order { IfOk result (λ v. StandInOrder J.Piece.Numbered.number_of v.items) }
+{
+    let mut held = book.into_held();
+    let mut pieces = Vec::with_capacity(alloc, held.len())?;
+    for number in 0..held.len() {
+        let piece = match held[number].take() {
+            Some(piece) => piece,
+            None => job.piece(alloc, number as u32)?,
+        };
+        pieces.push_reserved(piece);
+    }
+    Ok(pieces)
 }
 
 /// Ends a pass of new hands and shares whose workers are all there: without a fault the draw is finished and the desk

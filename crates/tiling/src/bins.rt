@@ -47,6 +47,7 @@ impl<A: Allocator> Bins<A> {
         requires { number < tile_count self.now.grid }
         ensures from { result.0 ≡ first_reaching (tile_left self.now.grid number) self.now.items }
         ensures to { result.1 ≡ max result.0 (count_begun (tile_right self.now.grid number) self.now.items) }
+        ensures grows { count.old ≤ count.new }
         ensures cost { (d : ℕ) → length self.now.items < 2 ^ d → count.new ≤ count.old + 2 * d }
     {
         let rect = self.grid.rect(number);

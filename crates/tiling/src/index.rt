@@ -65,6 +65,7 @@ impl<A: Allocator> Index<A> {
     pub fn places<L: Ledger>(&self, low: i32, high: i32, count: &mut Count<L>) -> (u32, u32)
         ensures from { result.0 ≡ first_reaching low self.now }
         ensures to { result.1 ≡ max result.0 (count_begun high self.now) }
+        ensures grows { count.old ≤ count.new }
         ensures cost { (d : ℕ) → length self.now < 2 ^ d → count.new ≤ count.old + 2 * d }
     {
         let (from, to) = places_between(self.sorted.lefts(), &self.greatest, low, high, count);

@@ -12,6 +12,7 @@ fn first_at_least<L: Ledger>(xs: &[i32], x: i64, count: &mut Count<L>) -> usize
     ensures within { result ≤ length xs.now }
     ensures before { (k : ℕ) → k < result → get_or xs.now k (pos 0) <ℤ x }
     ensures after { (k : ℕ) → result ≤ k → k < length xs.now → x ≤ℤ get_or xs.now k (pos 0) }
+    ensures grows { count.old ≤ count.new }
     ensures cost { (d : ℕ) → length xs.now < 2 ^ d → count.new ≤ count.old + d }
 {
     let mut low = 0;
@@ -47,6 +48,7 @@ pub fn places_between<L: Ledger>(
     ensures first { (k : ℕ) → result.0 ≤ k → k < length greatest.now → low ≤ℤ get_or greatest.now k (pos 0) }
     ensures after { (k : ℕ) → result.1 ≤ k → k < length lefts.now → high <ℤ get_or lefts.now k (pos 0) }
     ensures last { (k : ℕ) → k < result.1 → get_or lefts.now k (pos 0) ≤ℤ high }
+    ensures grows { count.old ≤ count.new }
     ensures cost { (d : ℕ) → length lefts.now < 2 ^ d → count.new ≤ count.old + 2 * d }
 {
     let from = first_at_least(greatest, i64::from(low), count);

@@ -1,29 +1,11 @@
-use Rattle.std.proofs.Math.Logic.{∥∥₁_elim, ∥∥₁_map}
-use Rattle.std.proofs.Props.{props}
-use Rattle.std.proofs.Common.{List, subst, sym}
-use Rattle.std.proofs.lemmas.List.Elements.{Contains-get_or}
-use Rattle.noding_law.proofs.Rounding.{rounded_noded}
-use Rattle.routing.specs.declared.record.Record.{Record}
-use Rattle.routing.proofs.RecordOrder.{records_once}
-use Rattle.chain_gather.specs.Links.{AreRecords}
+use Rattle.std.proofs.Math.Logic.{∥∥₁_map}
 use Rattle.chain_gather.proofs.Covering.{are_covered}
-use Rattle.chain_gather.proofs.Gathering.{gathered_are}
+use Rattle.chain_gather.proofs.Gathering.{tiles_have}
 use Rattle.chain_gather.proofs.tiles.gather.Goals as goal
 
-pub rounded_edges-requires-clause-records : goal.rounded_edges-requires-clause-records
-rounded_edges-requires-clause-records g c =
+pub rounded_of-requires : goal.rounded_of-requires
+rounded_of-requires g c =
     let grid = c.args.grid.now in
     let segments = c.args.segments.now in
-    let found = c.in_ok-records.field-0 in
-    let list = c.dedup.new.self.items in
-    let once = records_once found.records.items c.sort_unstable.new.self.items list c.sort_unstable.ensures.permutation c.sort_unstable.ensures.sorted c.dedup.ensures.filtered in
-    subst (λ (rs : List Record). ∥ AreRecords segments rs ∥₁) (sym c.deref.ensures.value) (∥∥₁_map c.in_ok-records.ensures.records_are (λ all. gathered_are grid segments found.records.items list (are_covered grid segments c.requires.covered) all once))
-
-pub invariant_of-result : goal.invariant_of-result
-invariant_of-result g c = record {
-  ascending = ∥∥₁_map c.in_ok-edges.ensures (λ r. r.ascending);
-  counted = ∥∥₁_elim c.in_ok-edges.ensures (hlevel props) (λ r. λ k d l. ((r.exact _).0 (Contains-get_or c.in_ok-edges.edges.items k d l)).2);
-}
-
-pub returns-clause-noded : goal.returns-clause-noded
-returns-clause-noded g c = ∥∥₁_elim c.in_ok-edges.ensures (hlevel props) (λ r. rounded_noded c.args.segments.now c.in_ok-edges.edges.items r)
+    let found = c.in_ok-found.found in
+    ∥∥₁_map c.in_ok-found.ensures.records_are (λ all. tiles_have grid segments found.records.items (are_covered grid segments c.requires.covered) all)

@@ -23,6 +23,6 @@ returns g c =
         tiles = c.in_ok-noded.noded.tiles.items;
         rounded = c.in_ok-noded.ensures.rounded;
         told = told.tiles;
-        few = rw told.remade c.in_ok-noded.ensures.few;
+        remade = told.remade ∙ c.in_ok-noded.ensures.remade;
       };
     }

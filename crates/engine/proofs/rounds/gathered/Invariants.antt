@@ -6,3 +6,6 @@ ghosts-by_tiles-L-Ledger g a = record { name = a.blank.name; parts = a.blank.par
 
 abbrev pub ghosts-by_tiles-L-Limited : goal.ghosts-by_tiles-L-Limited
 ghosts-by_tiles-L-Limited g a = record { limit = tile_count a.grid.now }
+
+abbrev pub ghosts-by_tiles-T-Tiled : goal.ghosts-by_tiles-T-Tiled
+ghosts-by_tiles-T-Tiled g a = record { grid = a.grid.now; segments = a.segments.now }
