@@ -1,0 +1,10 @@
+pub mod Order
+pub mod West
+pub mod Step
+pub mod Around
+pub mod Words
+pub mod Tests
+pub mod Labelling
+pub mod Members
+pub mod Ends
+pub mod Turning
