@@ -8,3 +8,4 @@ pub mod Labelling
 pub mod Members
 pub mod Ends
 pub mod Turning
+pub mod Passing

@@ -54,7 +54,8 @@ impl<A: Allocator + Copy> SweepLine<A> {
         by_turn(&mut self.spokes, counted, from, next, v)?;
         label(&self.spokes, left, &mut self.labelled)?;
         stand(&self.spokes, left, &mut self.fresh)?;
-        replace(&mut self.standing, low, high, &self.fresh, &mut self.rest)
+        replace(&mut self.standing, low, high, &self.fresh, &mut self.rest)?;
+        Ok(())
     }
 }
 
