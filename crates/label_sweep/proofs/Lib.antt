@@ -9,3 +9,4 @@ pub mod Members
 pub mod Ends
 pub mod Turning
 pub mod Passing
+pub mod Sweeping
