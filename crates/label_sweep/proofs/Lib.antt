@@ -10,3 +10,4 @@ pub mod Ends
 pub mod Turning
 pub mod Passing
 pub mod Sweeping
+pub mod Directing

@@ -1,13 +1,17 @@
 -- The labels that a sweep gives (own).
-use Rattle.std.specs.Prelude.{false, ◌≡◌, ◌++◌, int_lt, Bool, List, [], ◌∷◌, All, AllPairs, Contains, if◌then◌else◌, map, not}
+use Rattle.std.specs.Prelude.{false, ◌≡◌, ◌&&◌, ◌++◌, int_lt, Bool, List, [], ◌∷◌, All, AllPairs, Contains, if◌then◌else◌, map, not}
 use Rattle.geom.specs.declared.edge.Edge.{Edge}
 use Rattle.geom.specs.declared.edge.Counted.{Counted}
 use Rattle.geom.specs.declared.point.Pt.{Pt}
 use Rattle.geom.specs.declared.segment.Source.TheVariants.{A, B}
+use Rattle.geom.specs.declared.op.Op.{Op}
+use Rattle.geom.specs.declared.directed.DirectedEdge.{DirectedEdge}
+use Rattle.geom.specs.Operations.{holds}
 use Rattle.geom.specs.Parity.{parity}
 use Rattle.geom.specs.Pixel.{Point}
 use Rattle.geom.specs.ResultEdges.{left_side, right_side}
 use Rattle.geom.specs.Rounded.{edges_of, odd_edges, is_odd}
+use Rattle.face_label.specs.Label.{ways}
 use Rattle.label_sweep.specs.declared.parities.Parities.{Parities}
 use Rattle.label_sweep.specs.declared.standing.Standing.{Standing}
 use Rattle.label_sweep.specs.declared.standing.Labelled.{Labelled}
@@ -65,6 +69,19 @@ BeginsWith counted at (k ∷ rest) = at ≡ parities_at counted (left_side k.p k
 abbrev pub TurnIsLabelled : Type 0
 TurnIsLabelled = (counted : List Counted) → AreLayers counted → (v : Pt) (spokes : List Spoke) → AreSpokes (edges_of counted) v (map (λ s. s.one.edge) spokes)
     → All (λ s. Contains counted s.one) spokes → (at : Parities) → BeginsWith counted at (map (λ s. s.one.edge) spokes) → All (IsLabelled counted) (labels_from at spokes)
+
+-- whether the operation holds of these parities
+abbrev pub holds_of : Op → Parities → Bool
+holds_of op at = holds op at.a at.b
+
+-- whether the edge bounds the result from p to q, and whether from q to p
+abbrev pub directions_of : Op → Labelled → Bool × Bool
+directions_of op l = (holds_of op l.left && not (holds_of op l.right), holds_of op l.right && not (holds_of op l.left))
+
+-- the directed edges along all of them
+abbrev pub directed_of : Op → List Labelled → List DirectedEdge
+directed_of op [] = []
+directed_of op (l ∷ ls) = ways l.edge (directions_of op l) ++ directed_of op ls
 
 -- the parities under the lowest of these, or none
 abbrev pub under_lowest : List Standing → Parities

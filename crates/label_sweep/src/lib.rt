@@ -1,6 +1,7 @@
 //! Labels of rounded edges by one sweep from left to right.
 #![tactic(auto)]
 
+mod directed;
 mod laws;
 mod parities;
 mod pass;
@@ -9,6 +10,7 @@ mod standing;
 mod turn;
 mod vertices;
 
+pub use directed::layer_labels;
 pub use laws::{
     ends_are_level, first_left, left_of_first, left_of_next, right_is_beyond, search_is_monotone,
     standing_reaches, standing_stays, turn_is_labelled,
