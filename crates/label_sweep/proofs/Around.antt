@@ -1,10 +1,10 @@
 -- The edges that begin at one vertex, the steepest first: each has on its left the parity on the right of the one before.
 use mathlib.Core.Path.{◌≡◌, refl, sym, ◌∙◌, ap, subst}
 use mathlib.Core.Bool.{Bool}
-use mathlib.Core.List.{List, [], ◌∷◌, ◌++◌}
-use mathlib.Core.Logic.{◌⊎◌, inl, inr, ⊎_elim}
+use mathlib.Core.List.{List, ◌∷◌, ◌++◌}
+use mathlib.Core.Logic.{inl, inr, ⊎_elim}
 use native.Mathlib.Omega.{arith}
-use lib.IntN.{ℤ, pos, ◌+ℤ◌, ◌-ℤ◌, ◌*ℤ◌, neg_ℤ}
+use lib.IntN.{ℤ, pos, ◌-ℤ◌, ◌*ℤ◌}
 use lib.Signed.{◌<ℤ◌, ◌≤ℤ◌}
 use borrow.Author.Differences.{ints}
 use Rattle.geom.specs.declared.point.Pt.{Pt}
@@ -17,7 +17,7 @@ use Rattle.points_law.proofs.Vertex.{west}
 use Rattle.label_sweep.specs.Status.{IsUnder}
 use Rattle.label_sweep.proofs.Order.{by_turn}
 use Rattle.label_sweep.proofs.West.{Next, first_turn, next_turn}
-use Rattle.label_sweep.proofs.Step.{Pairs, in_left, in_right, pairs_across, pairs_right}
+use Rattle.label_sweep.proofs.Step.{Pairs, in_right, pairs_across, pairs_right}
 
 -- f is steeper than g
 abbrev pub Steeper : Edge → Edge → Type 0

@@ -1,20 +1,17 @@
 -- The vertices, and the edges that begin at one.
-use Rattle.std.proofs.Common.{◌≡◌, ◌⊎◌, inl, inr, ⊎_elim, ℕ, zero, suc, ◌+◌, ◌-◌, ◌<◌, ◌≤◌, Bool, true, false, List, [], ◌∷◌, ◌++◌, map, length, get_or, take, drop, refl, sym, ap, ◌∙◌, subst, arith}
-use Rattle.std.specs.List.{All, AllWithin, AllPairs, Contains}
-use Rattle.std.specs.Prelude.{◌↔◌}
+use Rattle.std.proofs.Common.{◌≡◌, ◌⊎◌, inl, inr, ⊎_elim, ℕ, ◌<◌, ◌≤◌, List, [], ◌∷◌, length, get_or, refl, sym, ap, ◌∙◌, subst, arith}
+use Rattle.std.specs.List.{AllWithin, AllPairs}
 use Rattle.std.proofs.lemmas.Bool.{cases_eq}
 use Rattle.std.proofs.lemmas.List.{get_or_default}
-use Rattle.std.proofs.lemmas.List.Elements.{All-nil}
 use Rattle.geom.specs.declared.point.Pt.{Pt}
 use Rattle.geom.specs.declared.edge.Edge.{Edge}
 use Rattle.geom.specs.declared.edge.Counted.{Counted}
 use Rattle.geom.specs.EdgeOrder.{IsEdgeBefore}
 use Rattle.geom.specs.Order.{IsBefore, IsUpTo}
-use Rattle.geom.specs.Rounded.{edges_of}
-use Rattle.geom.proofs.Lists.{In, in_contains, contains_in, in_map, map_in}
-use Rattle.geom.proofs.Orders.{pt_cmp, before_itself, before_trans}
+use Rattle.geom.proofs.Lists.{In, in_contains, contains_in}
+use Rattle.geom.proofs.Orders.{pt_cmp, before_trans}
 use Rattle.face_label.proofs.Orders.{IsSortedOnce, pt_less}
-use Rattle.label_sweep.specs.Status.{AreVertices, IsVertexOf, both_ends}
+use Rattle.label_sweep.specs.Status.{AreVertices, both_ends}
 
 pub starts_upto : (e f : Edge) → IsEdgeBefore e f → IsUpTo e.p f.p
 starts_upto e f (inl b) = inr b

@@ -1,5 +1,5 @@
 -- The labels round one vertex.
-use Rattle.std.proofs.Common.{◌≡◌, ◌⊎◌, inl, inr, List, [], ◌∷◌, ◌++◌, map, sym, ap, ◌∙◌, subst, append_assoc}
+use Rattle.std.proofs.Common.{◌≡◌, inl, inr, List, [], ◌∷◌, ◌++◌, map, sym, ap, ◌∙◌, subst, append_assoc}
 use Rattle.std.specs.List.{Contains, All}
 use Rattle.std.proofs.lemmas.List.Elements.{All-contains, All-nil, All-cons}
 use Rattle.geom.specs.declared.point.Pt.{Pt}
@@ -12,7 +12,6 @@ use Rattle.geom.proofs.Lists.{In, in_contains, contains_in, map_in}
 use Rattle.points_law.specs.Law.{AreLayers}
 use Rattle.label_sweep.specs.declared.parities.Parities.{Parities}
 use Rattle.label_sweep.specs.declared.standing.Spoke.{Spoke}
-use Rattle.label_sweep.specs.declared.standing.Labelled.{Labelled}
 use Rattle.label_sweep.specs.Status.{AreSpokes}
 use Rattle.label_sweep.specs.Labels.{parities_at, beyond, IsLabelled, labels_from, BeginsWith, TurnIsLabelled}
 use Rattle.label_sweep.proofs.Words.{left_of_next, right_is_beyond}

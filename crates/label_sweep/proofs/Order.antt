@@ -1,12 +1,12 @@
 -- The order of noded edges does not depend on where it is asked.
-use mathlib.Core.Path.{◌≡◌, refl, sym, ◌∙◌, ap, subst}
+use mathlib.Core.Path.{◌≡◌, sym, ◌∙◌, ap, subst}
 use native.Mathlib.Omega.{arith}
 use lib.IntN.{ℤ, pos, ◌+ℤ◌, ◌-ℤ◌, ◌*ℤ◌, neg_ℤ}
 use lib.Signed.{◌<ℤ◌, ◌≤ℤ◌}
 use borrow.Author.Differences.{ints}
 use Rattle.geom.specs.declared.point.Pt.{Pt}
 use Rattle.geom.specs.declared.edge.Edge.{Edge}
-use Rattle.geom.proofs.Integers.{expand, linear, mul_pos, mul_nonneg, scale_le, scale_lt, by_sign}
+use Rattle.geom.proofs.Integers.{expand, linear, mul_pos, mul_nonneg, by_sign}
 use Rattle.points_law.proofs.Choices.{run, rise, MeetAtEnds}
 use Rattle.points_law.proofs.Meet.{off, slope, gap, no_meet}
 use Rattle.points_law.proofs.Vertex.{over_pt}

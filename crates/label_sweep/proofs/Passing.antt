@@ -1,8 +1,8 @@
 -- Past a vertex: what stands, and the labels of the edges that begin there.
-use Rattle.std.proofs.Common.{◌≡◌, ◌⊎◌, inl, inr, ⊎_elim, ℕ, ◌+◌, ◌-◌, ◌<◌, ◌≤◌, Bool, true, false, cond, int_lt, int_le, List, [], ◌∷◌, ◌++◌, map, length, get_or, take, drop, reverse, refl, sym, ap, ◌∙◌, subst, arith, append_assoc}
+use Rattle.std.proofs.Common.{◌≡◌, inl, inr, ⊎_elim, ℕ, ◌+◌, ◌-◌, ◌<◌, ◌≤◌, Bool, true, false, cond, int_lt, int_le, List, [], ◌∷◌, ◌++◌, map, length, take, drop, reverse, refl, sym, ap, ◌∙◌, subst, arith, append_assoc}
 use Rattle.std.specs.List.{All, AllWithin, AllPairs, Contains}
 use Rattle.std.specs.List.Sorted.{IsPartitionedBy}
-use Rattle.std.specs.Prelude.{◌↔◌, pos, ◌<ℤ◌, ◌≤ℤ◌, slice_range}
+use Rattle.std.specs.Prelude.{pos, ◌<ℤ◌, ◌≤ℤ◌, slice_range}
 use Rattle.std.proofs.Math.IntN.{ℤ}
 use Rattle.std.proofs.lemmas.Int.{ints}
 use Rattle.std.proofs.lemmas.List.{map-append, take-append-drop}
@@ -28,10 +28,10 @@ use Rattle.label_sweep.specs.Labels.{AreLabelsOf, BeginsWith, IsLabelled, IsSwep
 use Rattle.label_sweep.specs.Status.{AreFresh, AreSpokes, AreStanding, GoesOn, IsRangeAt, IsSteeper, IsUnder, IsVertexOf, Reaches}
 use Rattle.label_sweep.proofs.Around.{Steeper, under_turn}
 use Rattle.label_sweep.proofs.Labelling.{turn_is_labelled}
-use Rattle.label_sweep.proofs.Members.{all_of_in, in_of_all, in_left, in_right, in_take, in_drop, in_reverse, reverse_in, reverse_cons, map_reverse, within_take, within_drop, within_part, take_parts, pairs_of_map}
+use Rattle.label_sweep.proofs.Members.{all_of_in, in_of_all, in_left, in_right, in_drop, in_reverse, reverse_in, reverse_cons, map_reverse, within_take, within_drop, within_part, take_parts, pairs_of_map}
 use Rattle.label_sweep.proofs.Step.{Pairs, pairs_append}
 use Rattle.label_sweep.proofs.Turning.{edge_at}
-use Rattle.label_sweep.proofs.Words.{ends_are_level, first_left_none, left_of_first, pairs_from, pairs_map, pairs_to, search_is_monotone, standing_stays, steeper_of}
+use Rattle.label_sweep.proofs.Words.{first_left_none, left_of_first, pairs_from, pairs_map, pairs_to, search_is_monotone, standing_stays, steeper_of}
 
 abbrev pub edge_of : Standing → Edge
 edge_of s = s.spoke.one.edge

@@ -1,6 +1,6 @@
 -- One vertex: the edges that end there stand together, what is put in their place keeps the order, and the next edge above is the lowest.
 use mathlib.Core.Path.{◌≡◌, refl, sym, ◌∙◌, ap, subst}
-use mathlib.Core.Bool.{Bool, true, false, false≢true}
+use mathlib.Core.Bool.{true}
 use mathlib.Core.List.{List, [], ◌∷◌, ◌++◌}
 use mathlib.Core.Logic.{◌⊎◌, inl, inr, ⊎_elim}
 use native.Mathlib.Omega.{arith}
@@ -14,12 +14,12 @@ use Rattle.geom.proofs.Lists.{In, in_append}
 use Rattle.geom.proofs.Edges.{before_cases, before_by_cases, before_strict}
 use Rattle.geom.proofs.Orders.{before_itself, before_trans}
 use Rattle.geom.proofs.Integers.{expand, linear, mul_pos, by_sign}
-use Rattle.points_law.proofs.Choices.{◌∧∧◌, run, rise, MeetAtEnds, Noded}
+use Rattle.points_law.proofs.Choices.{◌∧∧◌, run, rise, Noded}
 use Rattle.points_law.proofs.ResultOfChoices.{Edges}
 use Rattle.points_law.proofs.Meet.{off, slope}
 use Rattle.points_law.proofs.Column.{cv, cv_low, cv_high}
 use Rattle.points_law.proofs.Vertex.{over_pt, EndsAt, Vertex}
-use Rattle.label_sweep.specs.Status.{IsUnder, rise_over}
+use Rattle.label_sweep.specs.Status.{IsUnder}
 use Rattle.label_sweep.proofs.Order.{Common, by_turn, under_new, over_new}
 use Rattle.label_sweep.proofs.West.{Lowest, ends_there}
 

@@ -1,7 +1,7 @@
 -- From vertex to vertex: the edges before a number begin before the coming vertex, and what stands reaches it.
-use Rattle.std.proofs.Common.{◌≡◌, ◌⊎◌, inl, inr, ⊎_elim, ℕ, zero, suc, ◌+◌, ◌-◌, ◌<◌, ◌≤◌, List, [], ◌∷◌, map, length, get_or, take, drop, refl, sym, ap, ◌∙◌, subst, arith}
-use Rattle.std.specs.List.{All, AllWithin, AllPairs, Contains}
-use Rattle.std.specs.Prelude.{◌↔◌, slice_range}
+use Rattle.std.proofs.Common.{◌≡◌, ◌⊎◌, inl, inr, ⊎_elim, ℕ, zero, suc, ◌+◌, ◌-◌, ◌<◌, ◌≤◌, List, [], ◌∷◌, map, length, get_or, take, refl, sym, ap, ◌∙◌, subst, arith}
+use Rattle.std.specs.List.{AllWithin, Contains}
+use Rattle.std.specs.Prelude.{slice_range}
 use Rattle.std.proofs.lemmas.Bool.{cases_eq}
 use Rattle.std.proofs.lemmas.List.{get_or_default, take_all}
 use Rattle.std.proofs.lemmas.List.Elements.{All-nil}
@@ -11,15 +11,14 @@ use Rattle.geom.specs.declared.edge.Counted.{Counted}
 use Rattle.geom.specs.Order.{IsBefore, IsUpTo}
 use Rattle.geom.specs.ResultEdges.{right_side}
 use Rattle.geom.specs.Rounded.{edges_of}
-use Rattle.geom.proofs.Lists.{In, in_contains, contains_in, in_map, map_in}
+use Rattle.geom.proofs.Lists.{In, in_contains, contains_in, map_in}
 use Rattle.geom.proofs.Orders.{before_itself, before_trans}
 use Rattle.label_sweep.specs.declared.standing.Standing.{Standing}
 use Rattle.label_sweep.specs.declared.standing.Labelled.{Labelled}
 use Rattle.label_sweep.specs.Labels.{AreLabelsOf, IsLabelled, IsSweptTo, IsSweptUpTo, parities_at}
-use Rattle.label_sweep.specs.Status.{AreStanding, AreVertices, GoesOn, IsRangeAt, IsUnder, IsVertexOf, Reaches}
+use Rattle.label_sweep.specs.Status.{AreVertices, IsRangeAt, IsUnder, IsVertexOf, Reaches}
 use Rattle.label_sweep.proofs.Ends.{after_upto}
-use Rattle.label_sweep.proofs.Members.{all_of_in, part_in, within_part}
-use Rattle.label_sweep.proofs.Step.{Pairs}
+use Rattle.label_sweep.proofs.Members.{part_in, within_part}
 use Rattle.label_sweep.proofs.Words.{pairs_to, standing_reaches}
 
 nat_cases : (i n : ℕ) → (i < n) ⊎ (n ≤ i)

@@ -1,5 +1,5 @@
 -- What a passed or failed test of a sign says.
-use Rattle.std.proofs.Common.{◌≡◌, Bool, true, false, int_lt, int_le, arith}
+use Rattle.std.proofs.Common.{◌≡◌, true, false, int_lt, int_le, arith}
 use Rattle.std.proofs.lemmas.Int.{ints}
 use Rattle.std.specs.Prelude.{pos, ◌<ℤ◌, ◌≤ℤ◌}
 use Rattle.std.proofs.Math.IntN.{ℤ}

@@ -2,8 +2,8 @@
 use Rattle.std.proofs.Common.{◌≡◌, ◌⊎◌, inl, inr, ⊎_elim, ℕ, ◌+◌, ◌-◌, ◌<◌, ◌≤◌, Bool, true, int_lt, List, [], ◌∷◌, ◌++◌, map, length, get_or, take, drop, refl, sym, ap, ◌∙◌, subst, arith}
 use Rattle.std.specs.List.{All, AllWithin, AllPairs, Contains}
 use Rattle.std.specs.List.Sorted.{IsPartitionedBy}
-use Rattle.std.specs.Prelude.{◌↔◌, pos, ◌<ℤ◌, ◌≤ℤ◌, slice_range}
-use Rattle.std.proofs.Math.IntN.{ℤ, ◌-ℤ◌, ◌*ℤ◌}
+use Rattle.std.specs.Prelude.{pos, ◌<ℤ◌, ◌≤ℤ◌, slice_range}
+use Rattle.std.proofs.Math.IntN.{ℤ}
 use Rattle.std.proofs.lemmas.Bool.{cases_eq}
 use Rattle.std.proofs.lemmas.Int.{ints}
 use Rattle.std.proofs.lemmas.List.Elements.{All-contains}
@@ -16,7 +16,6 @@ use Rattle.geom.specs.Determinant.{turn}
 use Rattle.geom.specs.EdgeOrder.{IsEdgeBefore}
 use Rattle.geom.specs.Limit.{AreInLimit}
 use Rattle.geom.specs.Rounded.{edges_of}
-use Rattle.geom.proofs.Integers.{expand, linear}
 use Rattle.geom.proofs.Lists.{In, in_contains, contains_in, in_map, map_in, in_append}
 use Rattle.geom.proofs.Orders.{edge_before_itself}
 use Rattle.points_law.specs.Law.{AreLayers}
@@ -25,7 +24,6 @@ use Rattle.points_law.proofs.Column.{lt_from}
 use Rattle.points_law.proofs.Layers.{edges_in}
 use Rattle.points_law.proofs.Meet.{slope}
 use Rattle.points_law.proofs.Next.{slope_trans}
-use Rattle.points_law.proofs.ResultOfChoices.{Edges}
 use Rattle.points_law.proofs.Turn.{steep_p}
 use Rattle.points_law.proofs.Vertex.{slopes}
 use Rattle.label_sweep.specs.declared.standing.Spoke.{Spoke}

@@ -1,7 +1,7 @@
 -- The same by `Contains` and `AllPairs`, and by sides.
-use Rattle.std.proofs.Common.{◌≡◌, ◌⊎◌, inl, inr, ⊎_elim, true, false, int_le, int_lt, length, get_or, ◌≤◌, ℕ, zero, suc, ◌<◌, List, [], ◌∷◌, ◌++◌, map, Bool, refl, sym, ap, ◌∙◌, arith, subst}
+use Rattle.std.proofs.Common.{◌≡◌, ◌⊎◌, inl, inr, ⊎_elim, true, false, int_le, int_lt, length, get_or, ◌≤◌, ℕ, zero, suc, ◌<◌, List, [], ◌∷◌, ◌++◌, Bool, refl, sym, ap, ◌∙◌, arith, subst}
 use Rattle.std.specs.List.{Contains, AllPairs, All}
-use Rattle.std.specs.Prelude.{pos, ◌<ℤ◌, ◌≤ℤ◌}
+use Rattle.std.specs.Prelude.{pos, ◌<ℤ◌}
 use Rattle.std.proofs.Math.IntN.{ℤ, ◌+ℤ◌, ◌-ℤ◌, ◌*ℤ◌, neg_ℤ}
 use Rattle.std.proofs.lemmas.Int.{ints}
 use Rattle.std.proofs.lemmas.List.Elements.{All-contains, All-nil, All-cons}
@@ -16,22 +16,17 @@ use Rattle.geom.specs.Pixel.{Point}
 use Rattle.geom.specs.Rounded.{edges_of, odd_edges, is_odd}
 use Rattle.geom.specs.Parity as geom
 use Rattle.geom.specs.ResultEdges.{left_side, right_side}
-use Rattle.geom.proofs.Integers.{expand, linear, by_sign}
-use Rattle.geom.specs.Order.{IsBefore}
+use Rattle.geom.proofs.Integers.{expand, linear}
 use Rattle.geom.proofs.Lists.{In, in_contains, contains_in, map_in}
 use Rattle.points_law.proofs.Choices.{◌⊕◌}
 use Rattle.points_law.proofs.Turn.{crossing}
-use Rattle.label_sweep.specs.declared.parities.Parities.{Parities}
-use Rattle.label_sweep.specs.Labels.{beyond, parities_at, xor}
+use Rattle.label_sweep.specs.Labels.{xor}
 use Rattle.points_law.specs.Law.{AreLayers}
-use Rattle.points_law.proofs.Choices.{run, rise, Even, parity, left, right, counted}
-use Rattle.points_law.proofs.ResultOfChoices.{Edges}
-use Rattle.points_law.proofs.Meet.{off, slope}
-use Rattle.points_law.proofs.Vertex.{over_pt, Vertex, EndsAt, west}
+use Rattle.points_law.proofs.Choices.{run, rise, Even, parity, counted}
+use Rattle.points_law.proofs.Vertex.{over_pt, Vertex}
 use Rattle.points_law.proofs.Layers.{chosen, parity_is, over_all, even_in, edges_in, chosen_at, distinct, tail_pairs, first_pairs}
-use Rattle.label_sweep.specs.Status.{IsUnder, Reaches, GoesOn, AreStanding, AreFresh, AreSpokes, IsSteeper, IsVertexOf}
+use Rattle.label_sweep.specs.Status.{IsUnder, Reaches, GoesOn, AreStanding, AreSpokes, IsSteeper, IsVertexOf}
 use Rattle.label_sweep.specs.Laws.{StandingStays, FirstLeft, LeftOfFirst, LeftOfNext, SearchIsMonotone, EndsAreLevel, StandingReaches, RightIsBeyond}
-use Rattle.std.specs.List.Sorted.{IsPartitionedBy}
 use Rattle.label_sweep.proofs.Order.{below_too, above_too}
 use Rattle.label_sweep.proofs.Step.{Pairs, Standing, Comes, Goes, step, lowest_above, none_above, comes_common, comes_run, comes_end, carried}
 use Rattle.label_sweep.proofs.West.{west_lowest, west_none}

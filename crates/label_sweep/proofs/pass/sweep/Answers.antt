@@ -3,7 +3,7 @@ use Rattle.std.specs.Prelude.{pos}
 use Rattle.std.proofs.lemmas.List.{get_or_default}
 use Rattle.geom.specs.declared.point.Pt.{Pt}
 use Rattle.geom.specs.Rounded.{edges_of}
-use Rattle.label_sweep.proofs.Sweeping.{IsSwept, start, range, next_one, all_of, vertex_at}
+use Rattle.label_sweep.proofs.Sweeping.{start, range, next_one, all_of, vertex_at}
 use Rattle.label_sweep.specs.Status.{AreVertices}
 use Rattle.label_sweep.proofs.pass.sweep.Goals as goal
 
@@ -37,12 +37,11 @@ loop-v-preserved g c =
     let none : Pt = record { x = pos 0; y = pos 0 } in
     let v = get_or c.deref-v-items.result.now c.loop-v.v-index none in
     let l = c.last_of-next.ensures in
-    let k = c.in_ok-pass.ensures in
-    (
+    let k = c.in_ok-pass.ensures in (
       c.loop-v.invariant.0,
       next_one c.args.counted.now c.deref-v-items.result.now c.loop-v.invariant.0 c.loop-v.v-index c.loop-v.next c.last_of-next.result c.loop-v.line.standing.items c.loop-v.line.labelled.items c.loop-v.invariant.1 v c.loop-v-test.true
-      (get_or_default c.deref-v-items.result.now c.loop-v.v-index none v c.loop-v-test.true) l.from l.within l.begun l.past
-      c.pass.new.self.standing.items c.pass.new.self.labelled.items k.swept k.labelled,
+          (get_or_default c.deref-v-items.result.now c.loop-v.v-index none v c.loop-v-test.true) l.from l.within l.begun l.past
+          c.pass.new.self.standing.items c.pass.new.self.labelled.items k.swept k.labelled,
     )
 
 pub returns : goal.returns

@@ -1,7 +1,7 @@
-use Rattle.std.proofs.Common.{arith, rules}
-use Rattle.std.specs.Prelude.{pos, int_lt, int_le}
+use Rattle.std.proofs.Common.{rules}
+use Rattle.std.specs.Prelude.{pos, int_lt}
 use Rattle.std.proofs.lemmas.List.Sorted.{IsPartitionPoint-from_clause}
-use Rattle.geom.specs.Determinant.{side, turn}
+use Rattle.geom.specs.Determinant.{turn}
 use Rattle.label_sweep.specs.declared.standing.Spoke.{Spoke}
 use Rattle.label_sweep.proofs.Tests.{is_above, not_above}
 use Rattle.label_sweep.proofs.place.first_flatter.Goals as goal

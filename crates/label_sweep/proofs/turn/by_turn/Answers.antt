@@ -1,9 +1,6 @@
-use Rattle.std.proofs.Common.{◌≡◌, ℕ, ◌<◌, ◌≤◌, length, arith, subst, List, map, sym}
-use Rattle.std.specs.List.{All, Contains}
-use Rattle.geom.specs.Rounded.{edges_of}
+use Rattle.std.proofs.Common.{◌≡◌, ℕ, ◌<◌, length, arith, subst}
 use Rattle.label_sweep.specs.declared.standing.Spoke.{Spoke}
-use Rattle.label_sweep.specs.Status.{AreSpokes}
-use Rattle.label_sweep.proofs.Turning.{AreTurned, is_parted, one_more, none_yet, are_spokes, spokes_inside, limit_at, reads, edge_at}
+use Rattle.label_sweep.proofs.Turning.{AreTurned, is_parted, one_more, none_yet, are_spokes, spokes_inside, limit_at, reads}
 use Rattle.label_sweep.proofs.turn.by_turn.Goals as goal
 
 pub invariant_of-spoke : goal.invariant_of-spoke
@@ -19,12 +16,11 @@ first_flatter-place-requires g c =
 pub loop-i-preserved : goal.loop-i-preserved
 loop-i-preserved g c =
     let h : c.loop-i.i < length c.args.counted.now = omega (arith, c.requires.begin.within) in
-    let k = c.first_flatter-place.ensures in
-    (
+    let k = c.first_flatter-place.ensures in (
       omega arith,
       rw c.in_ok-insert.ensures.items (one_more c.args.counted.now c.requires.layers c.args.v c.args.from c.args.next c.requires.begin c.loop-i.i c.loop-i.invariant.0 c.loop-i-test.true c.loop-i.spokes.items c.loop-i.invariant.1 _
-      (reads c.args.counted.now c.loop-i.i c.index-counted-i.result h c.index-counted-i.is)
-      c.first_flatter-place.result (rw c.deref.ensures.value at k.within) (rw c.deref.ensures.value at k.steeper) (rw c.deref.ensures.value at k.rest)),
+          (reads c.args.counted.now c.loop-i.i c.index-counted-i.result h c.index-counted-i.is)
+          c.first_flatter-place.result (rw c.deref.ensures.value at k.within) (rw c.deref.ensures.value at k.steeper) (rw c.deref.ensures.value at k.rest)),
     )
 
 pub loop-i-init : goal.loop-i-init

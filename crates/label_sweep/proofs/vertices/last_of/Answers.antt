@@ -1,4 +1,4 @@
-use Rattle.std.proofs.Common.{◌≡◌, arith, subst}
+use Rattle.std.proofs.Common.{arith, subst}
 use Rattle.std.proofs.lemmas.List.Elements.{AllWithin-more, at_read}
 use Rattle.geom.specs.declared.edge.Counted.{Counted}
 use Rattle.geom.specs.Order.{IsUpTo, IsBefore}
@@ -10,7 +10,7 @@ loop-next-preserved c = (
   omega arith,
   omega arith,
   AllWithin-more (λ (t : Counted). IsUpTo t.edge.p c.args.v) c.args.counted.now c.args.from c.loop-next.next c.loop-next.invariant.2
-  (at_read c.args.counted.now (λ (t : Counted). IsUpTo t.edge.p c.args.v) c.loop-next.next c.index-counted-next.result c.loop-next-test.true c.index-counted-next.is (c.begins_up_to.ensures.upto c.if-begins_up_to.true)),
+      (at_read c.args.counted.now (λ (t : Counted). IsUpTo t.edge.p c.args.v) c.loop-next.next c.index-counted-next.result c.loop-next-test.true c.index-counted-next.is (c.begins_up_to.ensures.upto c.if-begins_up_to.true)),
 )
 
 pub returns-else-begins_up_to-clause-past : goal.returns-else-begins_up_to-clause-past

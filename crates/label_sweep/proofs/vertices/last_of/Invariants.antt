@@ -1,4 +1,4 @@
-use Rattle.std.proofs.Common.{◌≡◌, ◌≤◌, ◌-◌, length}
+use Rattle.std.proofs.Common.{◌≤◌, ◌-◌, length}
 use Rattle.std.specs.List.{AllWithin}
 use Rattle.geom.specs.declared.edge.Counted.{Counted}
 use Rattle.geom.specs.Order.{IsUpTo}

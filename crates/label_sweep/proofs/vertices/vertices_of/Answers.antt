@@ -1,8 +1,5 @@
-use Rattle.std.proofs.Common.{subst, List}
-use Rattle.geom.specs.declared.point.Pt.{Pt}
 use Rattle.geom.specs.Rounded.{edges_of}
-use Rattle.geom.proofs.Orders.{pt_cmp}
-use Rattle.face_label.proofs.Orders.{IsSortedOnce, points_once}
+use Rattle.face_label.proofs.Orders.{points_once}
 use Rattle.label_sweep.proofs.Ends.{are_vertices}
 use Rattle.label_sweep.proofs.vertices.vertices_of.Goals as goal
 
