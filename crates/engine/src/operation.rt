@@ -9,8 +9,8 @@ use crate::engine::{Inputs, Made, Plan, checked, send};
 use crate::rounds::{report_of, rounded_layers};
 use crate::sink::Sink;
 use crate::text::Report;
-use face_label::labels;
 use geom::{Counted, Fault, NoMemory, Op, Part, RunFault};
+use label_sweep::layer_labels;
 use polygonize::polygons;
 use std::alloc::Allocator;
 use std::sync::Wait;
@@ -29,7 +29,7 @@ pub fn result_text<A: Allocator + Copy + Send + Sync, R: Threads + Sync>(
     requires { AreLayers counted.now }
     ensures { IfOk result (λ text. IsResultText op counted.now text.items) }
 {
-    let directed = labels(rt, alloc, counted, op)?;
+    let directed = layer_labels(alloc, counted, op)?;
     let polygons = polygons(alloc, &directed)?;
     write_multi(alloc, polygons.as_slice())
 }

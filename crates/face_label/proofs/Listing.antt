@@ -25,12 +25,12 @@ layers_of counted = record { a = odd_edges A counted; b = odd_edges B counted }
 abbrev pub labels_of : Op → List Counted → List Counted → List (Bool × Bool)
 labels_of op counted cs = map (λ c. both_ways op (layers_of counted) c.edge) cs
 
-in_left : {X : Type 0} (xs ys : List X) (x : X) → In x xs → In x (xs ++ ys)
+pub in_left : {X : Type 0} (xs ys : List X) (x : X) → In x xs → In x (xs ++ ys)
 in_left [] ys x i = absurd i
 in_left (y ∷ xs) ys x (inl e) = inl e
 in_left (y ∷ xs) ys x (inr i) = inr (in_left xs ys x i)
 
-in_right : {X : Type 0} (xs ys : List X) (x : X) → In x ys → In x (xs ++ ys)
+pub in_right : {X : Type 0} (xs ys : List X) (x : X) → In x ys → In x (xs ++ ys)
 in_right [] ys x i = i
 in_right (y ∷ xs) ys x i = inr (in_right xs ys x i)
 
@@ -44,13 +44,13 @@ if_in true d e t h = inl (sym h)
 if_in false d e t h = absurd (let k = t in cc)
 
 -- ---- one edge
-way_is : (op : Op) (counted : List Counted) (e : Edge) (d : DirectedEdge) → In e (edges_of counted) → In d (ways e (both_ways op (layers_of counted) e)) → IsResultEdge op counted d
+pub way_is : (op : Op) (counted : List Counted) (e : Edge) (d : DirectedEdge) → In e (edges_of counted) → In d (ways e (both_ways op (layers_of counted) e)) → IsResultEdge op counted d
 way_is op counted e d i j = elim (in_append (cond (bounds op (layers_of counted) e.p e.q) (from_to e.p e.q ∷ []) []) (cond (bounds op (layers_of counted) e.q e.p) (from_to e.q e.p ∷ []) []) d j) [
   | inl k ↦ (let h = in_if (bounds op (layers_of counted) e.p e.q) d (from_to e.p e.q) k in record { edge = e; rounded = in_contains (edges_of counted) e i; runs = inl h.1; bounds = (let P : DirectedEdge → Type 0 = λ t. is_result_edge op counted t.from t.to ≡ true in subst P (sym h.1) h.0) })
   | inr k ↦ (let h = in_if (bounds op (layers_of counted) e.q e.p) d (from_to e.q e.p) k in record { edge = e; rounded = in_contains (edges_of counted) e i; runs = inr h.1; bounds = (let P : DirectedEdge → Type 0 = λ t. is_result_edge op counted t.from t.to ≡ true in subst P (sym h.1) h.0) })
 ]
 
-is_way : (op : Op) (counted : List Counted) (e : Edge) (d : DirectedEdge) → (d ≡ from_to e.p e.q) ⊎ (d ≡ from_to e.q e.p) → is_result_edge op counted d.from d.to ≡ true → In d (ways e (both_ways op (layers_of counted) e))
+pub is_way : (op : Op) (counted : List Counted) (e : Edge) (d : DirectedEdge) → (d ≡ from_to e.p e.q) ⊎ (d ≡ from_to e.q e.p) → is_result_edge op counted d.from d.to ≡ true → In d (ways e (both_ways op (layers_of counted) e))
 is_way op counted e d (inl h) b = in_left (cond (bounds op (layers_of counted) e.p e.q) (from_to e.p e.q ∷ []) []) (cond (bounds op (layers_of counted) e.q e.p) (from_to e.q e.p ∷ []) []) d (if_in (bounds op (layers_of counted) e.p e.q) d (from_to e.p e.q) (let P : DirectedEdge → Type 0 = λ t. is_result_edge op counted t.from t.to ≡ true in subst P h b) h)
 is_way op counted e d (inr h) b = in_right (cond (bounds op (layers_of counted) e.p e.q) (from_to e.p e.q ∷ []) []) (cond (bounds op (layers_of counted) e.q e.p) (from_to e.q e.p ∷ []) []) d (if_in (bounds op (layers_of counted) e.q e.p) d (from_to e.q e.p) (let P : DirectedEdge → Type 0 = λ t. is_result_edge op counted t.from t.to ≡ true in subst P h b) h)
 

@@ -59,8 +59,8 @@ fn labelled<A: Allocator + Copy + Sync + Send, R: Threads + Sync>(
     }
 }
 
-/// Adds an edge in its directions.
-fn add<A: Allocator>(
+/// Adds an edge in its directions: from its first end to its second, and back.
+pub fn add_directions<A: Allocator>(
     edges: &mut Vec<DirectedEdge, A>,
     edge: Edge,
     way: (bool, bool),
@@ -93,7 +93,7 @@ fn directed_edges<A: Allocator + Copy>(
 {
     let mut edges = Vec::new(alloc);
     for i in 0..counted.len() {
-        add(&mut edges, counted[i].edge, labels[i])?;
+        add_directions(&mut edges, counted[i].edge, labels[i])?;
     }
     Ok(edges)
 }

@@ -9,6 +9,6 @@ mod strip;
 mod tests;
 
 pub use directed::Directed;
-pub use label::labels;
+pub use label::{add_directions, labels};
 pub use odd::directions;
 pub use strip::StripSet;

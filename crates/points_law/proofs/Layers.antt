@@ -72,7 +72,7 @@ counted_is e z = and_is (geom.covers e z) (geom.lies_above e z)
 pub odd_is : {X : Type 0} (p : X → Bool) (xs : List X) → is_odd (count_by p xs) ≡ par p xs
 odd_is p xs = sym (par_is_odd p xs)
 
-parity_is : (edges : List Edge) (z : Point) → geom.parity edges z ≡ par (λ e. counted e z) edges
+pub parity_is : (edges : List Edge) (z : Point) → geom.parity edges z ≡ par (λ e. counted e z) edges
 parity_is edges z = odd_is (λ e. geom.covers e z && geom.lies_above e z) edges ∙ par_same (λ e. geom.covers e z && geom.lies_above e z) (λ e. counted e z) edges (λ e. counted_is e z)
 
 end_test : (v : Pt) (e : Edge) → same_point e.p v || same_point e.q v ≡ is v e.p ⊕ is v e.q
@@ -87,11 +87,11 @@ pub par_map : {X Y : Type 0} (f : X → Y) (p : Y → Bool) (xs : List X) → pa
 par_map f p [] = refl
 par_map f p (x ∷ xs) = ap (λ (t : Bool). p (f x) ⊕ t) (par_map f p xs)
 
-abbrev edge_of : Counted → Edge
+abbrev pub edge_of : Counted → Edge
 edge_of c = c.edge
 
 -- whether the first of the counted edges that is e passes
-chosen : (Counted → Bool) → List Counted → Edge → Bool
+pub chosen : (Counted → Bool) → List Counted → Edge → Bool
 chosen t [] e = false
 chosen t (c ∷ cs) e = cond (same (edge_of c) e) (t c) (chosen t cs e)
 
@@ -101,7 +101,7 @@ choose_first s a b h = grind arith
 choose_rest : (s a b : Bool) → s ≡ false → cond s a b ≡ b
 choose_rest s a b h = grind arith
 
-chosen_at : (t : Counted → Bool) (cs : List Counted) → Distinct (map edge_of cs) → (c : Counted) → In c cs → chosen t cs (edge_of c) ≡ t c
+pub chosen_at : (t : Counted → Bool) (cs : List Counted) → Distinct (map edge_of cs) → (c : Counted) → In c cs → chosen t cs (edge_of c) ≡ t c
 unfolding chosen
 chosen_at t [] d c i = absurd i
 chosen_at t (b ∷ bs) d c (inl e) = choose_first (same (edge_of b) (edge_of c)) (t b) (chosen t bs (edge_of c)) (subst (λ (x : Counted). same (edge_of b) (edge_of x) ≡ true) e (same_refl (edge_of b))) ∙ ap t e
@@ -111,7 +111,7 @@ chosen_at t (b ∷ bs) d c (inr i) =
     ∙ chosen_at t bs d.1 c i
 
 -- a sum over the list of the chosen is one over all edges
-over_all : (t : Counted → Bool) (cs : List Counted) → Distinct (map edge_of cs) → (p : Edge → Bool) → par p (map edge_of (filter t cs)) ≡ par (λ e. chosen t cs e ∧∧ p e) (map edge_of cs)
+pub over_all : (t : Counted → Bool) (cs : List Counted) → Distinct (map edge_of cs) → (p : Edge → Bool) → par p (map edge_of (filter t cs)) ≡ par (λ e. chosen t cs e ∧∧ p e) (map edge_of cs)
 over_all t cs d p =
     par_map edge_of p (filter t cs)
     ∙ par_filter t (λ c. p (edge_of c)) cs
@@ -174,7 +174,7 @@ on_edge e z o = (o.m, o.n, record { ratio = record { positive = o.n_positive; fr
 noded_in : (edges : List Edge) → noded.IsNoded edges → Noded edges
 noded_in edges h e f i j d z o o' = let k = h e f (in_contains edges e i) (in_contains edges f j) d z (on_edge e z o) (on_edge f z o') in (which_end e z k.0, which_end f z k.1)
 
-edges_in : (cs : List Counted) → AreLayers cs → Edges (edges_of cs)
+pub edges_in : (cs : List Counted) → AreLayers cs → Edges (edges_of cs)
 edges_in cs h = record {
   distinct = distinct cs h.ascending;
   ordered = λ e i. before_cases e.p e.q e.ordered;
@@ -182,7 +182,7 @@ edges_in cs h = record {
   noded = noded_in (edges_of cs) h.noded;
 }
 
-even_in : (t : Counted → Bool) (cs : List Counted) → Distinct (map edge_of cs) → HasEvenDegrees (map edge_of (filter t cs)) → Even (chosen t cs) (map edge_of cs)
+pub even_in : (t : Counted → Bool) (cs : List Counted) → Distinct (map edge_of cs) → HasEvenDegrees (map edge_of (filter t cs)) → Even (chosen t cs) (map edge_of cs)
 even_in t cs d h v = sym (over_all t cs d (λ e. is v e.p ⊕ is v e.q)) ∙ sym (degree_is (map edge_of (filter t cs)) v) ∙ h v
 
 -- ---- the theorem

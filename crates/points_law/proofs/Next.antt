@@ -67,7 +67,7 @@ by_runs f e g of oe og h i (inr r) (inl w) (inl x) = absurd (nothing_steeper (ru
 is_lt : (x : ℤ) → pos 0 <ℤ x → lt_z (pos 0) x ≡ true
 is_lt x h = grind (arith, ints)
 
-slope_trans : (f e g : Edge) → Ordered f → Ordered e → Ordered g → lt_z (pos 0) (slope f e) ≡ true → lt_z (pos 0) (slope e g) ≡ true → lt_z (pos 0) (slope f g) ≡ true
+pub slope_trans : (f e g : Edge) → Ordered f → Ordered e → Ordered g → lt_z (pos 0) (slope f e) ≡ true → lt_z (pos 0) (slope e g) ≡ true → lt_z (pos 0) (slope f g) ≡ true
 slope_trans f e g of oe og h i = is_lt (slope f g) (by_runs f e g of oe og (lt_from (pos 0) (slope f e) h) (lt_from (pos 0) (slope e g) i)
     (some_run (run e) (run_low e oe)) (some_run (run f) (run_low f of)) (some_run (run g) (run_low g og)))
 

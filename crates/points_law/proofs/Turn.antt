@@ -25,13 +25,13 @@ use Rattle.points_law.proofs.Side.{at_left, at_right, left_column, right_column}
 use Rattle.points_law.proofs.Vertex.{east, west, slopes, starts, stops, goes_up, EndsAt, Vertex, Upright, vertex_end, on_upright, east_west, above_start, above_stop, up_left, up_right, down_right, cover_p, cover_q, slope_run, run_none, rise_some}
 
 -- ---- the left and the right side of one edge
-sloping_left : (es : List Edge) → Edges es → (a : Edge → Bool) → Even a es → (e : Edge) → In e es → (k : ℤ) → cv e k ≡ true → parity a es (left e) ≡ among a es e k
+pub sloping_left : (es : List Edge) → Edges es → (a : Edge → Bool) → Even a es → (e : Edge) → In e es → (k : ℤ) → cv e k ≡ true → parity a es (left e) ≡ among a es e k
 sloping_left es h a ev e i k c = at_left es h.noded h.small a e i (column (left e)).0 (column (left e)).1 lc ∙ anywhere es h.noded h.ordered a ev e i (column (left e)).0 k lc c
   where
     lc : cv e (column (left e)).0 ≡ true
     lc = left_column e (column (left e)).0 (h.small e i) (cv_run e k c) (column (left e)).1
 
-sloping_right : (es : List Edge) → Edges es → (a : Edge → Bool) → Even a es → (e : Edge) → In e es → (k : ℤ) → cv e k ≡ true → parity a es (right e) ≡ among a es e k ⊕ a e
+pub sloping_right : (es : List Edge) → Edges es → (a : Edge → Bool) → Even a es → (e : Edge) → In e es → (k : ℤ) → cv e k ≡ true → parity a es (right e) ≡ among a es e k ⊕ a e
 sloping_right es h a ev e i k c = at_right es h.noded h.small h.distinct a e i (column (right e)).0 (column (right e)).1 rc
     ∙ ap (λ (t : Bool). t ⊕ a e) (anywhere es h.noded h.ordered a ev e i (column (right e)).0 k rc c)
   where
@@ -138,7 +138,7 @@ product_low : (r s : ℤ) → pos 0 ≤ℤ r → pos 0 <ℤ s → pos 0 ≤ℤ (
 product_low r s h i = mul_nonneg r s h (weak (pos 0) s i)
 
 -- nothing is steeper than an upright edge
-not_steeper : (f g : Edge) → Ordered f → Upright g → lt_z (pos 0) (slope f g) ≡ false
+pub not_steeper : (f g : Edge) → Ordered f → Upright g → lt_z (pos 0) (slope f g) ≡ false
 not_steeper f g o u = ap (λ (t : ℤ). lt_z (pos 0) (t *ℤ rise f -ℤ run f *ℤ rise g)) (run_none g u) ∙ low (rise f) (run f *ℤ rise g) (product_low (run f) (rise g) (run_low f o) (rise_some g u))
   where
     low : (s w : ℤ) → pos 0 ≤ℤ w → lt_z (pos 0) (pos 0 *ℤ s -ℤ w) ≡ false
@@ -150,7 +150,7 @@ not_steeper f g o u = ap (λ (t : ℤ). lt_z (pos 0) (t *ℤ rise f -ℤ run f *
         no : (x w : ℤ) → x ≡ neg_ℤ w → pos 0 ≤ℤ w → pos 0 <ℤ x → ⊥
         no x w e h t = omega (arith, ints)
 
-steeper : (f g : Edge) → Upright f → pos 0 <ℤ run g → lt_z (pos 0) (slope f g) ≡ true
+pub steeper : (f g : Edge) → Upright f → pos 0 <ℤ run g → lt_z (pos 0) (slope f g) ≡ true
 steeper f g u r = ap (λ (t : ℤ). lt_z (pos 0) (run g *ℤ rise f -ℤ t *ℤ rise g)) (run_none f u) ∙ high (run g *ℤ rise f) (rise g) (mul_pos (run g) (rise f) r (rise_some f u))
   where
     high : (w s : ℤ) → pos 0 <ℤ w → lt_z (pos 0) (w -ℤ pos 0 *ℤ s) ≡ true
@@ -231,7 +231,7 @@ before_p pf qf pg qg s h i = grind arith
 before_q : (pf qf pg qg s : Bool) → pg ≡ false → qg ≡ true → (pf ∧∧ qg) ⊕ ((pf ∧∧ pg ⊕ qf ∧∧ qg) ∧∧ s) ≡ pf ⊕ qf ∧∧ s
 before_q pf qf pg qg s h i = grind arith
 
-at_p : (g f : Edge) → Ordered g → before g.p f g ≡ is g.p f.p ∧∧ lt_z (pos 0) (slope f g)
+pub at_p : (g f : Edge) → Ordered g → before g.p f g ≡ is g.p f.p ∧∧ lt_z (pos 0) (slope f g)
 at_p g f o = before_p (is g.p f.p) (is g.p f.q) (is g.p g.p) (is g.p g.q) (lt_z (pos 0) (slope f g)) (is_refl g.p) (p_not_q g o)
 
 at_q : (g f : Edge) → Ordered g → before g.q f g ≡ is g.q f.p ⊕ is g.q f.q ∧∧ lt_z (pos 0) (slope f g)
@@ -362,7 +362,7 @@ other_steeper : (t u : Bool) → t ≡ false → u ≡ true → t ⊕ u ≡ true
 other_steeper t u h i = grind arith
 
 -- of two edges with a common lesser, or a common greater, end one is steeper
-steep_p : (es : List Edge) → Edges es → (f g : Edge) → In f es → In g es → ¬ (f ≡ g) → f.p ≡ g.p → (s t : Bool) → slopes f ≡ s → slopes g ≡ t → lt_z (pos 0) (slope f g) ⊕ lt_z (pos 0) (slope g f) ≡ true
+pub steep_p : (es : List Edge) → Edges es → (f g : Edge) → In f es → In g es → ¬ (f ≡ g) → f.p ≡ g.p → (s t : Bool) → slopes f ≡ s → slopes g ≡ t → lt_z (pos 0) (slope f g) ⊕ lt_z (pos 0) (slope g f) ≡ true
 steep_p es h f g i j n e true true s t = sloping_pair es h f g i j n e s t
 steep_p es h f g i j n e true false s t = other_steeper (lt_z (pos 0) (slope f g)) (lt_z (pos 0) (slope g f)) (not_steeper f g (h.ordered f i) (upright_of g (h.ordered g j) t)) (steeper g f (upright_of g (h.ordered g j) t) (slope_run f s))
 steep_p es h f g i j n e false true s t = one_steeper (lt_z (pos 0) (slope f g)) (lt_z (pos 0) (slope g f)) (steeper f g (upright_of f (h.ordered f i) s) (slope_run g t)) (not_steeper g f (h.ordered g j) (upright_of f (h.ordered f i) s))

@@ -1,21 +1,11 @@
-use Rattle.std.proofs.Common.{◌≡◌, ◌∙◌, ap, rules}
-use Rattle.std.specs.Prelude.{All}
+use Rattle.std.proofs.Common.{◌≡◌, ◌∙◌, ap}
 use Rattle.std.proofs.lemmas.Result.{IfOk-weaker}
-use Rattle.geom.specs.declared.edge.Counted.{Counted}
-use Rattle.geom.specs.declared.edge.Edge.{Edge}
-use Rattle.geom.specs.Limit.{AreInLimit}
 use Rattle.points_law.proofs.RoundVertex.{closes, grounded}
 use Rattle.points_law.proofs.TextParity.{text_has_parity}
-use Rattle.polygonize.proofs.Writing.{unmapped}
 use Rattle.wkt.specs.Canonical.{multi_text}
 use Rattle.engine.specs.Results.{IsResultText}
 use Rattle.engine.proofs.Results.{directed_in, line_is, noded_edges, shapes}
 use Rattle.engine.proofs.operation.result_text.Goals as goal
-
-pub labels-requires : goal.labels-requires
-labels-requires g c =
-    let h : All (λ (r : Counted). AreInLimit r.edge.p r.edge.q) c.args.counted.now = unmapped (λ (e : Edge). AreInLimit e.p e.q) (λ (r : Counted). r.edge) c.args.counted.now c.requires.in_limit in
-    search (rules, h)
 
 pub polygons-requires : goal.polygons-requires
 polygons-requires g c = record {

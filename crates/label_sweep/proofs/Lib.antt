@@ -1,0 +1,13 @@
+pub mod Order
+pub mod West
+pub mod Step
+pub mod Around
+pub mod Words
+pub mod Tests
+pub mod Labelling
+pub mod Members
+pub mod Ends
+pub mod Turning
+pub mod Passing
+pub mod Sweeping
+pub mod Directing

@@ -1,0 +1,263 @@
+-- Past a vertex: what stands, and the labels of the edges that begin there.
+use Rattle.std.proofs.Common.{◌≡◌, inl, inr, ⊎_elim, ℕ, ◌+◌, ◌-◌, ◌<◌, ◌≤◌, Bool, true, false, cond, int_lt, int_le, List, [], ◌∷◌, ◌++◌, map, length, take, drop, reverse, refl, sym, ap, ◌∙◌, subst, arith, append_assoc}
+use Rattle.std.specs.List.{All, AllWithin, AllPairs, Contains}
+use Rattle.std.specs.List.Sorted.{IsPartitionedBy}
+use Rattle.std.specs.Prelude.{pos, ◌<ℤ◌, ◌≤ℤ◌, slice_range}
+use Rattle.std.proofs.Math.IntN.{ℤ}
+use Rattle.std.proofs.lemmas.Int.{ints}
+use Rattle.std.proofs.lemmas.List.{map-append, take-append-drop}
+use Rattle.std.proofs.lemmas.List.Elements.{All-map, All-append, All-contains, All-drop, All-take}
+use Rattle.std.proofs.lemmas.List.Folds.{drop_split}
+use Rattle.geom.specs.declared.point.Pt.{Pt}
+use Rattle.geom.specs.declared.segment.Source.{Source}
+use Rattle.geom.specs.declared.segment.Source.TheVariants.{A, B}
+use Rattle.geom.specs.declared.edge.Edge.{Edge}
+use Rattle.geom.specs.declared.edge.Counted.{Counted}
+use Rattle.geom.specs.Determinant.{side}
+use Rattle.geom.specs.Limit.{AreInLimit, InLimit}
+use Rattle.geom.specs.Parity.{parity}
+use Rattle.geom.specs.ResultEdges.{left_side, right_side}
+use Rattle.geom.specs.Rounded.{edges_of, odd_edges}
+use Rattle.geom.proofs.Lists.{In, in_contains, contains_in, in_map, map_in, in_append}
+use Rattle.points_law.specs.Law.{AreLayers}
+use Rattle.label_sweep.specs.declared.parities.Parities.{Parities}
+use Rattle.label_sweep.specs.declared.standing.Spoke.{Spoke}
+use Rattle.label_sweep.specs.declared.standing.Standing.{Standing}
+use Rattle.label_sweep.specs.declared.standing.Labelled.{Labelled}
+use Rattle.label_sweep.specs.Labels.{AreLabelsOf, BeginsWith, IsLabelled, IsSweptTo, IsSweptUpTo, beyond, labels_from, parities_at, standing_of, stands_from, under_lowest}
+use Rattle.label_sweep.specs.Status.{AreFresh, AreSpokes, AreStanding, GoesOn, IsRangeAt, IsSteeper, IsUnder, IsVertexOf, Reaches}
+use Rattle.label_sweep.proofs.Around.{Steeper, under_turn}
+use Rattle.label_sweep.proofs.Labelling.{turn_is_labelled}
+use Rattle.label_sweep.proofs.Members.{all_of_in, in_of_all, in_left, in_right, in_drop, in_reverse, reverse_in, reverse_cons, map_reverse, within_take, within_drop, within_part, take_parts, pairs_of_map}
+use Rattle.label_sweep.proofs.Step.{Pairs, pairs_append}
+use Rattle.label_sweep.proofs.Turning.{edge_at}
+use Rattle.label_sweep.proofs.Words.{first_left_none, left_of_first, pairs_from, pairs_map, pairs_to, search_is_monotone, standing_stays, steeper_of}
+
+abbrev pub edge_of : Standing → Edge
+edge_of s = s.spoke.one.edge
+
+abbrev IsBelow : Pt → Edge → Type 0
+IsBelow v e = pos 0 <ℤ side e.p e.q v
+
+abbrev IsAbove : Pt → Edge → Type 0
+IsAbove v e = side e.p e.q v <ℤ pos 0
+
+pub vertex_in_limit : (cs : List Counted) → AreLayers cs → (v : Pt) → IsVertexOf (edges_of cs) v → InLimit v
+vertex_in_limit cs h v x = let l = All-contains (λ e. AreInLimit e.p e.q) (edges_of cs) x.edge h.in_limit x.inside in
+    ⊎_elim (λ e. subst (λ (w : Pt). InLimit w) (sym e) l.a_in) (λ e. subst (λ (w : Pt). InLimit w) (sym e) l.b_in) x.ends
+
+-- ---- the searches
+module _ (cs : List Counted) (h : AreLayers cs) (v : Pt) (s : List Standing) (u : IsSweptUpTo cs v s) where
+  reaches : All (λ t. Reaches (edges_of cs) v (edge_of t)) s
+  reaches = all_of_in (λ t. Reaches (edges_of cs) v (edge_of t)) s (λ t i. (u.edges.exact (edge_of t)).0 (in_contains (map edge_of s) (edge_of t) (map_in edge_of s t i)))
+
+  pub parted : IsPartitionedBy (λ t. int_lt (pos 0) (side t.spoke.one.edge.p t.spoke.one.edge.q v)) s × IsPartitionedBy (λ t. int_le (pos 0) (side t.spoke.one.edge.p t.spoke.one.edge.q v)) s
+  parted = search_is_monotone (edges_of cs) v s (pairs_of_map IsUnder edge_of s u.edges.order) reaches
+
+not_both : (x : ℤ) → pos 0 <ℤ x → x <ℤ pos 0 → ⊥
+not_both x h k = omega (arith, ints)
+
+both_zero : (x : ℤ) → x ≤ℤ pos 0 → pos 0 ≤ℤ x → x ≡ pos 0
+both_zero x h k = omega (arith, ints)
+
+pub low_first : (v : Pt) (s : List Standing) (low high : ℕ) → low ≤ length s
+    → AllWithin (λ t. pos 0 <ℤ side t.spoke.one.edge.p t.spoke.one.edge.q v) s 0 low
+    → AllWithin (λ t. side t.spoke.one.edge.p t.spoke.one.edge.q v <ℤ pos 0) s high (length s) → low ≤ high
+low_first v [] low high l a b = omega arith
+low_first v (t ∷ s) low high l a b = not_more (λ m. not_both _ (a high t (omega arith) m) (b high t (omega arith) (omega (arith, l, m))))
+  where
+    not_more : (high < low → ⊥) → low ≤ high
+    not_more n = omega arith
+
+-- ---- those that begin at v
+module _ (cs : List Counted) (h : AreLayers cs) (v : Pt) (ss : List Spoke) (a : AreSpokes (edges_of cs) v (map edge_at ss)) (inside : All (λ s. Contains cs s.one) ss) (left : Parities) where
+  -- each of those that stand is one that begins, and not upright
+  stand_is : (at : Parities) (ks : List Spoke) (t : Standing) → In t (stands_from at ks) → In t.spoke ks × (int_lt t.spoke.one.edge.p.x t.spoke.one.edge.q.x ≡ true)
+  stand_is at [] t i = absurd i
+  stand_is at (k ∷ ks) t i = ⊎_elim (λ j. one (int_lt k.one.edge.p.x k.one.edge.q.x) refl j) (λ j. let r = stand_is (beyond at k.one) ks t j in (inr r.0, r.1))
+      (in_append (cond (int_lt k.one.edge.p.x k.one.edge.q.x) (standing_of k (beyond at k.one) ∷ []) []) (stands_from (beyond at k.one) ks) t i)
+    where
+      one : (b : Bool) → int_lt k.one.edge.p.x k.one.edge.q.x ≡ b → In t (cond b (standing_of k (beyond at k.one) ∷ []) []) → In t.spoke (k ∷ ks) × (int_lt t.spoke.one.edge.p.x t.spoke.one.edge.q.x ≡ true)
+      one true e (inl j) = let P : Standing → Type 0 = λ t. In t.spoke (k ∷ ks) × (int_lt t.spoke.one.edge.p.x t.spoke.one.edge.q.x ≡ true) in subst P j (inl refl, e)
+      one true e (inr j) = absurd j
+      one false e j = absurd j
+
+  is_stand : (at : Parities) (ks : List Spoke) (k : Spoke) → In k ks → int_lt k.one.edge.p.x k.one.edge.q.x ≡ true → In k.one.edge (map edge_of (stands_from at ks))
+  is_stand at [] k i l = absurd i
+  is_stand at (m ∷ ks) k (inl e) l = one (int_lt m.one.edge.p.x m.one.edge.q.x) (let P : Spoke → Type 0 = λ t. int_lt t.one.edge.p.x t.one.edge.q.x ≡ true in subst P (sym e) l)
+    where
+      one : (b : Bool) → b ≡ true → In k.one.edge (map edge_of (cond b (standing_of m (beyond at m.one) ∷ []) [] ++ stands_from (beyond at m.one) ks))
+      one true j = inl (ap edge_at e)
+      one false j = absurd (let t = j in cc)
+  is_stand at (m ∷ ks) k (inr i) l =
+      subst (λ (es : List Edge). In k.one.edge es) (sym (map-append edge_of (cond (int_lt m.one.edge.p.x m.one.edge.q.x) (standing_of m (beyond at m.one) ∷ []) []) (stands_from (beyond at m.one) ks)))
+      (in_right (map edge_of (cond (int_lt m.one.edge.p.x m.one.edge.q.x) (standing_of m (beyond at m.one) ∷ []) [])) (map edge_of (stands_from (beyond at m.one) ks)) k.one.edge (is_stand (beyond at m.one) ks k i l))
+
+  slopes_of : (x y : ℤ) → int_lt x y ≡ true → x <ℤ y
+  slopes_of x y e = omega (arith, ints)
+
+  of_slopes : (x y : ℤ) → x <ℤ y → int_lt x y ≡ true
+  of_slopes x y e = grind (arith, ints)
+
+  spoke_begins : (k : Spoke) → In k ss → Contains (edges_of cs) k.one.edge × (k.one.edge.p ≡ v)
+  spoke_begins k i = (a.exact k.one.edge).0 (in_contains (map edge_at ss) k.one.edge (map_in edge_at ss k i))
+
+  sound : (e : Edge) → In e (map edge_of (reverse (stands_from left ss))) → Contains (edges_of cs) e × (e.p.x <ℤ e.q.x) × (e.p ≡ v)
+  sound e i = let t = in_map edge_of (reverse (stands_from left ss)) e i in
+      let k = stand_is left ss t.0 (in_reverse (stands_from left ss) t.0 t.1) in
+      let b = spoke_begins t.0.spoke k.0 in
+      subst (λ (e : Edge). Contains (edges_of cs) e × (e.p.x <ℤ e.q.x) × (e.p ≡ v)) t.2 (b.0, slopes_of _ _ k.1, b.1)
+
+  complete : (e : Edge) → Contains (edges_of cs) e → e.p.x <ℤ e.q.x → e.p ≡ v → In e (map edge_of (reverse (stands_from left ss)))
+  complete e c l b = let k = in_map edge_at ss e (contains_in (map edge_at ss) e ((a.exact e).1 (c, b))) in
+      let P : Edge → Type 0 = λ f. int_lt f.p.x f.q.x ≡ true in
+      subst (λ (es : List Edge). In e es) (sym (map_reverse edge_of (stands_from left ss)))
+      (reverse_in (map edge_of (stands_from left ss)) e (subst (λ (f : Edge). In f (map edge_of (stands_from left ss))) k.2 (is_stand left ss k.0 k.1 (subst P (sym k.2) (of_slopes e.p.x e.q.x l)))))
+
+  -- ---- their order
+  over_pairs : (at : Parities) (ks : List Spoke) → ((k : Spoke) → In k ks → k.one.edge.p ≡ v) → Pairs Steeper (map edge_at ks) → Pairs (λ f g. IsUnder g f) (map edge_of (stands_from at ks))
+  over_pairs at [] b p = tt
+  over_pairs at (k ∷ ks) b p = one (over_pairs (beyond at k.one) ks (λ m i. b m (inr i)) p.1) (int_lt k.one.edge.p.x k.one.edge.q.x)
+    where
+      under : (e : Edge) → In e (map edge_of (stands_from (beyond at k.one) ks)) → IsUnder e k.one.edge
+      under e i = let t = in_map edge_of (stands_from (beyond at k.one) ks) e i in let m = stand_is (beyond at k.one) ks t.0 t.1 in
+          subst (λ (e : Edge). IsUnder e k.one.edge) t.2
+          (under_turn t.0.spoke.one.edge k.one.edge (b t.0.spoke (inr m.0) ∙ sym (b k (inl refl))) (p.0 t.0.spoke.one.edge (map_in edge_at ks t.0.spoke m.0)))
+
+      one : Pairs (λ f g. IsUnder g f) (map edge_of (stands_from (beyond at k.one) ks)) → (t : Bool) → Pairs (λ f g. IsUnder g f) (map edge_of (cond t (standing_of k (beyond at k.one) ∷ []) [] ++ stands_from (beyond at k.one) ks))
+      one r true = (under, r)
+      one r false = r
+
+  turned : (es : List Edge) → Pairs (λ f g. IsUnder g f) es → Pairs IsUnder (reverse es)
+  turned [] p = tt
+  turned (e ∷ es) p = let P : List Edge → Type 0 = λ fs. Pairs IsUnder fs in
+      subst P (sym (reverse_cons e es)) (pairs_append IsUnder (reverse es) (e ∷ []) (turned es p.1) ((λ f i. absurd i), tt)
+      (λ f g i j. ⊎_elim (λ q. subst (λ (w : Edge). IsUnder f w) q (p.0 f (in_reverse es f i))) (λ k. absurd k) j))
+
+  pub are_fresh : AreFresh (edges_of cs) v (map edge_of (reverse (stands_from left ss)))
+  are_fresh = record {
+    exact = λ e. ((λ c. sound e (contains_in (map edge_of (reverse (stands_from left ss))) e c)), (λ c. in_contains (map edge_of (reverse (stands_from left ss))) e (complete e c.0 c.1 c.2)));
+    order = let P : List Edge → Type 0 = λ es. AllPairs IsUnder es in
+        subst P (sym (map_reverse edge_of (stands_from left ss)))
+        (pairs_to IsUnder (reverse (map edge_of (stands_from left ss))) (turned (map edge_of (stands_from left ss))
+        (over_pairs left ss (λ k i. (spoke_begins k i).1) (pairs_map IsSteeper Steeper steeper_of (map edge_at ss) (pairs_from IsSteeper (map edge_at ss) a.order)))));
+  }
+
+  -- ---- their parities
+  module _ (b : BeginsWith cs left (map edge_at ss)) where
+    pub labels : All (IsLabelled cs) (labels_from left ss)
+    labels = turn_is_labelled cs h v ss a inside left b
+
+    under_label : (at : Parities) (ks : List Spoke) → ((l : Labelled) → In l (labels_from at ks) → IsLabelled cs l) → (t : Standing) → In t (stands_from at ks) → t.under ≡ parities_at cs (right_side (edge_of t).p (edge_of t).q)
+    under_label at [] g t i = absurd i
+    under_label at (k ∷ ks) g t i = ⊎_elim (λ j. one (int_lt k.one.edge.p.x k.one.edge.q.x) j) (λ j. under_label (beyond at k.one) ks (λ l m. g l (inr m)) t j)
+        (in_append (cond (int_lt k.one.edge.p.x k.one.edge.q.x) (standing_of k (beyond at k.one) ∷ []) []) (stands_from (beyond at k.one) ks) t i)
+      where
+        one : (b : Bool) → In t (cond b (standing_of k (beyond at k.one) ∷ []) []) → t.under ≡ parities_at cs (right_side (edge_of t).p (edge_of t).q)
+        one true (inl j) = let P : Standing → Type 0 = λ t. t.under ≡ parities_at cs (right_side (edge_of t).p (edge_of t).q) in
+            subst P j (g (record { edge = k.one.edge; left = at; right = beyond at k.one }) (inl refl)).right
+        one true (inr j) = absurd j
+        one false j = absurd j
+
+    pub fresh_under : All (λ t. t.under ≡ parities_at cs (right_side t.spoke.one.edge.p t.spoke.one.edge.q)) (reverse (stands_from left ss))
+    fresh_under = all_of_in (λ t. t.under ≡ parities_at cs (right_side t.spoke.one.edge.p t.spoke.one.edge.q)) (reverse (stands_from left ss))
+        (λ t i. under_label left ss (in_of_all (IsLabelled cs) (labels_from left ss) labels) t (in_reverse (stands_from left ss) t i))
+
+labels_edges : (at : Parities) (ks : List Spoke) → map (λ (l : Labelled). l.edge) (labels_from at ks) ≡ map edge_at ks
+labels_edges at [] = refl
+labels_edges at (k ∷ ks) = ap (λ t. k.one.edge ∷ t) (labels_edges (beyond at k.one) ks)
+
+-- ---- the whole step
+module _ (cs : List Counted) (h : AreLayers cs) (v : Pt) (x : IsVertexOf (edges_of cs) v) (s : List Standing) (u : IsSweptUpTo cs v s) (low high : ℕ) (order : low ≤ high)
+    (is_low : AllWithin (λ t. pos 0 <ℤ side t.spoke.one.edge.p t.spoke.one.edge.q v) s 0 low)
+    (not_low : AllWithin (λ t. side t.spoke.one.edge.p t.spoke.one.edge.q v ≤ℤ pos 0) s low (length s))
+    (not_high : AllWithin (λ t. pos 0 ≤ℤ side t.spoke.one.edge.p t.spoke.one.edge.q v) s 0 high)
+    (is_high : AllWithin (λ t. side t.spoke.one.edge.p t.spoke.one.edge.q v <ℤ pos 0) s high (length s))
+    (within : high ≤ length s) where
+  cut : map edge_of s ≡ map edge_of (take low s) ++ (map edge_of (slice_range s low high) ++ map edge_of (drop high s))
+  cut = ap (map edge_of) (sym (take-append-drop low s) ∙ ap (λ t. take low s ++ t) (drop_split s low high order))
+      ∙ map-append edge_of (take low s) (slice_range s low high ++ drop high s) ∙ ap (λ t. map edge_of (take low s) ++ t) (map-append edge_of (slice_range s low high) (drop high s))
+
+  standing_parts : AreStanding (Reaches (edges_of cs) v) (map edge_of (take low s) ++ (map edge_of (slice_range s low high) ++ map edge_of (drop high s)))
+  standing_parts = let P : List Edge → Type 0 = λ es. AreStanding (Reaches (edges_of cs) v) es in subst P cut u.edges
+
+  low_all : All (λ e. pos 0 <ℤ side e.p e.q v) (map edge_of (take low s))
+  low_all = All-map (λ (e : Edge). pos 0 <ℤ side e.p e.q v) edge_of (take low s) (all_of_in (λ t. IsBelow v (edge_of t)) (take low s) (λ t i. within_take (λ (t : Standing). IsBelow v (edge_of t)) s low is_low t i))
+
+  back : (k : ℕ) → k < low + (high - low) → k < high
+  back k l = omega arith
+
+  there : (k : ℕ) → k < high → k < length s
+  there k l = omega arith
+
+  mid_all : All (λ e. side e.p e.q v ≡ pos 0) (map edge_of (slice_range s low high))
+  mid_all = All-map (λ (e : Edge). side e.p e.q v ≡ pos 0) edge_of (slice_range s low high) (all_of_in (λ t. side t.spoke.one.edge.p t.spoke.one.edge.q v ≡ pos 0) (slice_range s low high)
+      (λ t i. within_part (λ (t : Standing). side t.spoke.one.edge.p t.spoke.one.edge.q v ≡ pos 0) s low (high - low) 0 (omega arith)
+      (λ k d f l. both_zero _ (not_low k d f (there k (back k l))) (not_high k d (omega arith) (back k l))) t i))
+
+  high_all : All (λ e. side e.p e.q v <ℤ pos 0) (map edge_of (drop high s))
+  high_all = All-map (λ (e : Edge). side e.p e.q v <ℤ pos 0) edge_of (drop high s) (all_of_in (λ t. IsAbove v (edge_of t)) (drop high s) (λ t i. within_drop (λ (t : Standing). IsAbove v (edge_of t)) s high is_high t i))
+
+  under_of : (t : Standing) → In t s → t.under ≡ parities_at cs (right_side (edge_of t).p (edge_of t).q)
+  under_of = in_of_all (λ t. t.under ≡ parities_at cs (right_side (edge_of t).p (edge_of t).q)) s u.under
+
+  begins : (hs : List Standing) → drop high s ≡ hs → (ks : List Edge) → AreSpokes (edges_of cs) v ks → BeginsWith cs (under_lowest hs) ks
+  begins hs e [] a = tt
+  begins [] e (k ∷ rest) a = λ i. record { a = sym (none A) i; b = sym (none B) i }
+    where
+      none : (l : Source) → parity (odd_edges l cs) (left_side k.p k.q) ≡ false
+      none l = let P : List Standing → Type 0 = λ hs. AreStanding (Reaches (edges_of cs) v) (map edge_of (take low s) ++ (map edge_of (slice_range s low high) ++ map edge_of hs)) in
+          first_left_none cs h v x (map edge_of (take low s)) (map edge_of (slice_range s low high)) (subst P e standing_parts) low_all mid_all k rest a l
+  begins (f ∷ hs) e (k ∷ rest) a = (let P : List Standing → Type 0 = λ hs. In f hs in under_of f (in_drop high s f (subst P (sym e) (inl refl)))) ∙ (λ i. record { a = sym (same A) i; b = sym (same B) i })
+    where
+      same : (l : Source) → parity (odd_edges l cs) (left_side k.p k.q) ≡ parity (odd_edges l cs) (right_side (edge_of f).p (edge_of f).q)
+      same l = let P : List Standing → Type 0 = λ hs. AreStanding (Reaches (edges_of cs) v) (map edge_of (take low s) ++ (map edge_of (slice_range s low high) ++ map edge_of hs)) in
+          let Q : List Standing → Type 0 = λ hs. All (λ (e : Edge). side e.p e.q v <ℤ pos 0) (map edge_of hs) in
+          left_of_first cs h v x (map edge_of (take low s)) (map edge_of (slice_range s low high)) (edge_of f) (map edge_of hs) (subst P e standing_parts) low_all mid_all (subst Q e high_all) k rest a l
+
+  module _ (ss : List Spoke) (a : AreSpokes (edges_of cs) v (map edge_at ss)) (inside : All (λ s. Contains cs s.one) ss) (left : Parities) (e : left ≡ under_lowest (drop high s)) where
+    left_begins : BeginsWith cs left (map edge_at ss)
+    left_begins = let P : Parities → Type 0 = λ at. BeginsWith cs at (map edge_at ss) in subst P (sym e) (begins (drop high s) refl (map edge_at ss) a)
+
+    stays : AreStanding (GoesOn (edges_of cs) v) (map edge_of (take low s) ++ (map edge_of (reverse (stands_from left ss)) ++ map edge_of (drop high s)))
+    stays = standing_stays cs h v x (map edge_of (take low s)) (map edge_of (slice_range s low high)) (map edge_of (drop high s)) (map edge_of (reverse (stands_from left ss)))
+        standing_parts low_all mid_all high_all (are_fresh cs h v ss a inside left)
+
+    joined : map edge_of (take low s ++ reverse (stands_from left ss) ++ drop high s) ≡ map edge_of (take low s) ++ (map edge_of (reverse (stands_from left ss)) ++ map edge_of (drop high s))
+    joined = map-append edge_of (take low s ++ reverse (stands_from left ss)) (drop high s) ∙ ap (λ t. t ++ map edge_of (drop high s)) (map-append edge_of (take low s) (reverse (stands_from left ss)))
+        ∙ append_assoc (map edge_of (take low s)) (map edge_of (reverse (stands_from left ss))) (map edge_of (drop high s))
+
+    pub swept : IsSweptTo cs v (take low s ++ reverse (stands_from left ss) ++ drop high s)
+    swept = record {
+      edges = let P : List Edge → Type 0 = λ es. AreStanding (GoesOn (edges_of cs) v) es in subst P (sym joined) stays;
+      under = All-append (λ t. t.under ≡ parities_at cs (right_side t.spoke.one.edge.p t.spoke.one.edge.q)) (take low s ++ reverse (stands_from left ss)) (drop high s)
+          (All-append (λ t. t.under ≡ parities_at cs (right_side t.spoke.one.edge.p t.spoke.one.edge.q)) (take low s) (reverse (stands_from left ss))
+          (All-take (λ t. t.under ≡ parities_at cs (right_side t.spoke.one.edge.p t.spoke.one.edge.q)) low s u.under)
+          (fresh_under cs h v ss a inside left left_begins))
+          (All-drop (λ t. t.under ≡ parities_at cs (right_side t.spoke.one.edge.p t.spoke.one.edge.q)) high s u.under);
+    }
+
+    module _ (from next : ℕ) (r : IsRangeAt cs v from next) (old : List Labelled) (g : AreLabelsOf cs (take from cs) old) where
+      label_in : (f : Edge) → In f (map edge_at ss) → In f (map (λ (l : Labelled). l.edge) (old ++ labels_from left ss))
+      label_in f i = let P : List Edge → Type 0 = λ es. In f es in
+          subst P (sym (map-append (λ (l : Labelled). l.edge) old (labels_from left ss))) (in_right (map (λ (l : Labelled). l.edge) old) (map (λ (l : Labelled). l.edge) (labels_from left ss)) f
+          (subst P (sym (labels_edges left ss)) i))
+
+      old_in : (f : Edge) → In f (map (λ (l : Labelled). l.edge) old) → In f (map (λ (l : Labelled). l.edge) (old ++ labels_from left ss))
+      old_in f i = let P : List Edge → Type 0 = λ es. In f es in
+          subst P (sym (map-append (λ (l : Labelled). l.edge) old (labels_from left ss))) (in_left (map (λ (l : Labelled). l.edge) old) (map (λ (l : Labelled). l.edge) (labels_from left ss)) f i)
+
+      of_counted : (c : Counted) → In c (take next cs) → In c.edge (map (λ (l : Labelled). l.edge) (old ++ labels_from left ss))
+      of_counted c i = ⊎_elim
+          (λ j. old_in c.edge (contains_in (map (λ (l : Labelled). l.edge) old) c.edge (g.all c.edge (in_contains (edges_of (take from cs)) c.edge (map_in (λ c. c.edge) (take from cs) c j)))))
+          (λ j. let b = (r.exact c).0 (in_contains (slice_range cs from next) c j) in
+          label_in c.edge (contains_in (map edge_at ss) c.edge ((a.exact c.edge).1 (in_contains (edges_of cs) c.edge (map_in (λ c. c.edge) cs c (contains_in cs c b.0)), b.1))))
+          (take_parts cs from next (next - from) (omega (arith, r.order)) c i)
+
+      pub labelled : AreLabelsOf cs (take next cs) (old ++ labels_from left ss)
+      labelled = record {
+        each = All-append (IsLabelled cs) old (labels_from left ss) g.each (labels cs h v ss a inside left left_begins);
+        all = λ f i. let c = in_map (λ c. c.edge) (take next cs) f (contains_in (edges_of (take next cs)) f i) in
+            let P : Edge → Type 0 = λ f. Contains (map (λ (l : Labelled). l.edge) (old ++ labels_from left ss)) f in
+            subst P c.2 (in_contains (map (λ (l : Labelled). l.edge) (old ++ labels_from left ss)) c.0.edge (of_counted c.0 c.1));
+      }

@@ -1,0 +1,17 @@
+-- What a passed or failed test of a sign says.
+use Rattle.std.proofs.Common.{◌≡◌, true, false, int_lt, int_le, arith}
+use Rattle.std.proofs.lemmas.Int.{ints}
+use Rattle.std.specs.Prelude.{pos, ◌<ℤ◌, ◌≤ℤ◌}
+use Rattle.std.proofs.Math.IntN.{ℤ}
+
+pub is_above : (x : ℤ) → int_lt (pos 0) x ≡ true → pos 0 <ℤ x
+is_above x h = omega (arith, ints)
+
+pub not_above : (x : ℤ) → int_lt (pos 0) x ≡ false → x ≤ℤ pos 0
+not_above x h = omega (arith, ints)
+
+pub is_from : (x : ℤ) → int_le (pos 0) x ≡ true → pos 0 ≤ℤ x
+is_from x h = omega (arith, ints)
+
+pub not_from : (x : ℤ) → int_le (pos 0) x ≡ false → x <ℤ pos 0
+not_from x h = omega (arith, ints)

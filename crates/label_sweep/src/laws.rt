@@ -1,0 +1,49 @@
+//! The laws of the sweep: each is the contract of a function with an empty body.
+
+ghost use Rattle.label_sweep.specs.Laws.{FirstLeft, LeftOfFirst, EndsAreLevel, LeftOfNext, RightIsBeyond, SearchIsMonotone, StandingReaches, StandingStays};
+ghost use Rattle.label_sweep.specs.Labels.{TurnIsLabelled};
+
+/// What begins at a vertex, put in the place of what ends there, keeps the order.
+pub fn standing_stays()
+    ensures { StandingStays }
+{}
+
+/// The first edge that begins at a vertex has the parity under the lowest edge above.
+pub fn left_of_first()
+    ensures { LeftOfFirst }
+{}
+
+/// Or none.
+pub fn first_left()
+    ensures { FirstLeft }
+{}
+
+/// Each further one has that beyond the one before.
+pub fn left_of_next()
+    ensures { LeftOfNext }
+{}
+
+/// A binary search among what stands finds the place of a vertex.
+pub fn search_is_monotone()
+    ensures { SearchIsMonotone }
+{}
+
+/// What stands at a vertex's height ends there.
+pub fn ends_are_level()
+    ensures { EndsAreLevel }
+{}
+
+/// From one vertex to the next nothing changes.
+pub fn standing_reaches()
+    ensures { StandingReaches }
+{}
+
+/// Across an edge the parities change in the layers in which it is odd.
+pub fn right_is_beyond()
+    ensures { RightIsBeyond }
+{}
+
+/// The labels of all edges that begin at a vertex, from that of the first.
+pub fn turn_is_labelled()
+    ensures { TurnIsLabelled }
+{}

@@ -1,0 +1,20 @@
+//! Labels of rounded edges by one sweep from left to right.
+#![tactic(auto)]
+
+mod directed;
+mod laws;
+mod parities;
+mod pass;
+mod place;
+mod standing;
+mod turn;
+mod vertices;
+
+pub use directed::layer_labels;
+pub use laws::{
+    ends_are_level, first_left, left_of_first, left_of_next, right_is_beyond, search_is_monotone,
+    standing_reaches, standing_stays, turn_is_labelled,
+};
+pub use parities::Parities;
+pub use pass::sweep;
+pub use standing::{Labelled, Spoke, Standing};

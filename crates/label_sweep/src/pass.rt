@@ -1,0 +1,79 @@
+//! The sweep: from vertex to vertex, the edges that end there make room for those that begin there.
+
+ghost use Rattle.std.specs.Prelude.{◌≡◌, [], IfOk, OnOk, take};
+ghost use Rattle.geom.specs.Rounded.{edges_of};
+ghost use Rattle.points_law.specs.Law.{AreLayers};
+ghost use Rattle.label_sweep.specs.Labels.{AreLabels, AreLabelsOf, IsSweptTo, IsSweptUpTo};
+ghost use Rattle.label_sweep.specs.Status.{IsRangeAt, IsVertexOf};
+
+use crate::place::{first_above, first_not_below, lowest_under, replace};
+use crate::standing::{Labelled, Spoke, Standing};
+use crate::turn::{by_turn, label, stand};
+use crate::vertices::{last_of, vertices_of};
+use geom::{Counted, NoMemory, Pt};
+use std::alloc::Allocator;
+
+/// The sweep at a vertex.
+#[derive(Drop)]
+struct SweepLine<A: Allocator> {
+    standing: Vec<Standing, A>,
+    labelled: Vec<Labelled, A>,
+    spokes: Vec<Spoke, A>,
+    fresh: Vec<Standing, A>,
+    rest: Vec<Standing, A>,
+}
+
+impl<A: Allocator + Copy> SweepLine<A> {
+    /// Before the first vertex.
+    fn new(alloc: A) -> SweepLine<A>
+        ensures standing { result.standing.items ≡ [] }
+        ensures labelled { result.labelled.items ≡ [] }
+    {
+        SweepLine {
+            standing: Vec::new(alloc),
+            labelled: Vec::new(alloc),
+            spokes: Vec::new(alloc),
+            fresh: Vec::new(alloc),
+            rest: Vec::new(alloc),
+        }
+    }
+
+    /// Past a vertex: labels the edges that begin there, which are those from one number to another.
+    fn pass(&mut self, counted: &[Counted], from: usize, next: usize, v: Pt) -> Result<(), NoMemory>
+        requires layers { AreLayers counted.now }
+        requires vertex { IsVertexOf (edges_of counted.now) v }
+        requires begin { IsRangeAt counted.now v from next }
+        requires swept { IsSweptUpTo counted.now v self.old.standing.items }
+        requires labelled { AreLabelsOf counted.now (take from counted.now) self.old.labelled.items }
+        ensures swept { OnOk result (IsSweptTo counted.now v self.new.standing.items) }
+        ensures labelled { OnOk result (AreLabelsOf counted.now (take next counted.now) self.new.labelled.items) }
+    {
+        let low = first_not_below(&self.standing, v);
+        let high = first_above(&self.standing, v);
+        let left = lowest_under(&self.standing, high);
+        by_turn(&mut self.spokes, counted, from, next, v)?;
+        label(&self.spokes, left, &mut self.labelled)?;
+        stand(&self.spokes, left, &mut self.fresh)?;
+        replace(&mut self.standing, low, high, &self.fresh, &mut self.rest)?;
+        Ok(())
+    }
+}
+
+/// The labels of all edges.
+pub fn sweep<A: Allocator + Copy>(
+    alloc: A,
+    counted: &[Counted],
+) -> Result<Vec<Labelled, A>, NoMemory>
+    requires { AreLayers counted.now }
+    ensures { IfOk result (λ labelled. AreLabels counted.now labelled.items) }
+{
+    let vertices = vertices_of(alloc, counted)?;
+    let mut line = SweepLine::new(alloc);
+    let mut next = 0usize;
+    for v in &vertices {
+        let from = next;
+        next = last_of(counted, from, *v);
+        line.pass(counted, from, next, *v)?;
+    }
+    Ok(line.labelled)
+}

@@ -1,0 +1,88 @@
+//! The edges that begin at one vertex, and their labels by turning from the steepest to the lowest.
+
+ghost use Rattle.std.specs.Prelude.{◌≡◌, ◌∷◌, [], if◌then◌else◌, int_lt, ◌++◌, All, Contains, OnOk, map, reverse};
+ghost use Rattle.geom.specs.Rounded.{edges_of};
+ghost use Rattle.points_law.specs.Law.{AreLayers};
+ghost use Rattle.label_sweep.specs.Labels.{labels_from, standing_of, stands_from};
+ghost use Rattle.label_sweep.specs.Status.{AreSpokes, IsRangeAt};
+
+use crate::parities::Parities;
+use crate::place::first_flatter;
+use crate::standing::{Labelled, Spoke, Standing};
+use geom::{Counted, NoMemory, Pt};
+use std::alloc::Allocator;
+
+/// The edges that begin at a vertex, those from one number to another, the steepest first.
+pub fn by_turn<A: Allocator>(
+    spokes: &mut Vec<Spoke, A>,
+    counted: &[Counted],
+    from: usize,
+    next: usize,
+    v: Pt,
+) -> Result<(), NoMemory>
+    requires layers { AreLayers counted.now }
+    requires begin { IsRangeAt counted.now v from next }
+    ensures spokes { OnOk result (AreSpokes (edges_of counted.now) v (map (λ s. s.one.edge) spokes.new.items)) }
+    ensures inside { OnOk result (All (λ s. Contains counted.now s.one) spokes.new.items) }
+{
+    spokes.clear();
+    for i in from..next {
+        let spoke = Spoke { one: counted[i] };
+        let place = first_flatter(spokes, spoke);
+        spokes.insert(place, spoke)?;
+    }
+    Ok(())
+}
+
+/// Labels the edges that begin at one vertex, the steepest first, from the parities on the left of the first.
+pub fn label<A: Allocator>(
+    spokes: &[Spoke],
+    left: Parities,
+    labelled: &mut Vec<Labelled, A>,
+) -> Result<(), NoMemory>
+    ensures { OnOk result (labelled.new.items ≡ labelled.old.items ++ labels_from left spokes.now) }
+{
+    let mut at = left;
+    for spoke in spokes {
+        let beyond = at.beyond(&spoke.one);
+        labelled.push(Labelled {
+            edge: spoke.one.edge,
+            left: at,
+            right: beyond,
+        })?;
+        at = beyond;
+    }
+    Ok(())
+}
+
+/// Adds an edge that is not upright.
+fn add_standing<A: Allocator>(
+    fresh: &mut Vec<Standing, A>,
+    spoke: Spoke,
+    under: Parities,
+) -> Result<(), NoMemory>
+    ensures { OnOk result (fresh.new.items ≡ fresh.old.items ++ (if int_lt spoke.one.edge.p.x spoke.one.edge.q.x then standing_of spoke under ∷ [] else [])) }
+{
+    if spoke.one.edge.p.x < spoke.one.edge.q.x {
+        fresh.push(Standing { spoke, under })?;
+    }
+    Ok(())
+}
+
+/// Those of the edges that begin at one vertex that are not upright, the lowest first.
+pub fn stand<A: Allocator>(
+    spokes: &[Spoke],
+    left: Parities,
+    fresh: &mut Vec<Standing, A>,
+) -> Result<(), NoMemory>
+    ensures { OnOk result (fresh.new.items ≡ reverse (stands_from left spokes.now)) }
+{
+    fresh.clear();
+    let mut at = left;
+    for spoke in spokes {
+        at = at.beyond(&spoke.one);
+        add_standing(fresh, *spoke, at)?;
+    }
+    fresh.reverse();
+    Ok(())
+}
