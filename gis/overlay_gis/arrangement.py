@@ -17,19 +17,18 @@ from shapely.geometry import MultiLineString
 from shapely.ops import polygonize
 
 from .faults import Fault
-from .layers import Polygon
+from .frame import GridPoint, GridPolygon
 from .messages import followed
 from .texts import Edge
 
-Pixel = tuple  # of a column and a row
-Ends = tuple  # of two pixels, the lesser one first
+Ends = tuple[GridPoint, GridPoint]  # the lesser one first
 
 
-def ends(a: Pixel, b: Pixel) -> Ends:
+def ends(a: GridPoint, b: GridPoint) -> Ends:
     return (a, b) if a < b else (b, a)
 
 
-def meets(p: Pixel, q: Pixel, h: Pixel) -> bool:
+def meets(p: GridPoint, q: GridPoint, h: GridPoint) -> bool:
     """Whether some point of the segment from p to q, p the lesser, has the pixel h, which lies in the segment's box.
 
     A pixel is closed on its left and lower sides, so one that only touches the line has to touch it there.
@@ -45,12 +44,12 @@ class Arrangement:
 
     def __init__(self, edges: Iterable[Edge]):
         self.counts = {(edge.p, edge.q): edge.counts for edge in edges}
-        self.neighbours: dict[Pixel, list[Pixel]] = defaultdict(list)
+        self.neighbours: dict[GridPoint, list[GridPoint]] = defaultdict(list)
         for p, q in self.counts:
             self.neighbours[p].append(q)
             self.neighbours[q].append(p)
 
-    def route(self, a: Pixel, b: Pixel) -> list[Ends]:
+    def route(self, a: GridPoint, b: GridPoint) -> list[Ends]:
         """The edges along the segment from a to b, in order from the lesser end."""
         (p, q), along = ends(a, b), []
         up = 1 if q[1] >= p[1] else -1
@@ -69,7 +68,7 @@ class Arrangement:
             at = (x, up * y)
         return along
 
-    def borders(self, layers: Sequence[Sequence[Polygon]], label: str) -> dict[Ends, list[tuple[int, int]]]:
+    def borders(self, layers: Sequence[Sequence[list[GridPolygon]]], label: str) -> dict[Ends, list[tuple[int, int]]]:
         """For each edge the features whose border it is, as numbers of a layer and of a feature in it."""
         found: dict[Ends, list[tuple[int, int]]] = defaultdict(list)
         for side, features in enumerate(layers):
@@ -83,7 +82,7 @@ class Arrangement:
             self.judge(side, total)
         return found
 
-    def along(self, polygons: Sequence[Polygon]) -> Counter[Ends]:
+    def along(self, polygons: Sequence[GridPolygon]) -> Counter[Ends]:
         """How often the routes of a feature's segments have each edge."""
         counted: Counter[Ends] = Counter()
         for polygon in polygons:
@@ -97,15 +96,21 @@ class Arrangement:
         for edge, counts in self.counts.items():
             if counts[side] != total[edge]:
                 (a, b), (c, d) = edge
-                raise Fault("overlay", f"has the edge {a} {b} {c} {d} {counts[side]} times, and its features {total[edge]} times")
+                raise Fault(
+                    "overlay",
+                    f"has the edge {a} {b} {c} {d} {counts[side]} times, and its features {total[edge]} times",
+                )
 
-    def faces(self) -> list[Polygon]:
+    def faces(self) -> list[GridPolygon]:
         """The bounded faces, by GEOS."""
         shapes = polygonize(list(MultiLineString(list(self.counts)).geoms))
-        return [[[(int(x), int(y)) for x, y in ring.coords] for ring in (shape.exterior, *shape.interiors)] for shape in shapes]
+        return [
+            [[(int(x), int(y)) for x, y in ring.coords] for ring in (shape.exterior, *shape.interiors)]
+            for shape in shapes
+        ]
 
 
-def covers(faces: Sequence[Polygon], borders: dict[Ends, list[tuple[int, int]]]) -> list[frozenset]:
+def covers(faces: Sequence[GridPolygon], borders: dict[Ends, list[tuple[int, int]]]) -> list[frozenset]:
     """For each face the features that cover it."""
     beside: dict[Ends, list[int]] = defaultdict(list)
     for number, face in enumerate(faces):

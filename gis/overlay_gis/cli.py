@@ -16,7 +16,15 @@ try:
 except ImportError:  # Shapely 1.8
     from shapely.geos import geos_version
 
-VERBS = {"run": run, "faces": faces, "check": check, "to-grid": to_grid, "from-grid": from_grid, "show": show, "explain": explain}
+VERBS = {
+    "run": run,
+    "faces": faces,
+    "check": check,
+    "to-grid": to_grid,
+    "from-grid": from_grid,
+    "show": show,
+    "explain": explain,
+}
 
 STATUSES = """exit status: 0 answered, 1 a file, the program or an output failed, 2 the command line is not accepted,
 3 the input is refused, 4 check found something
@@ -25,12 +33,24 @@ The program is what OVERLAY names, else `overlay` on the path, else what stands 
 
 
 def parser() -> ArgumentParser:
-    top = ArgumentParser(prog="overlay-gis", description="Brings map data to the integer grid of `overlay`, and its answers back.", epilog=STATUSES, formatter_class=RawDescriptionHelpFormatter)
-    versions = f"overlay-gis {__version__} (GDAL {gdal.__version__}, Shapely {shapely.__version__}, GEOS {'.'.join(map(str, geos_version))})"
+    top = ArgumentParser(
+        prog="overlay-gis",
+        description="Brings map data to the integer grid of `overlay`, and its answers back.",
+        epilog=STATUSES,
+        formatter_class=RawDescriptionHelpFormatter,
+    )
+    geos = ".".join(map(str, geos_version))
+    versions = f"overlay-gis {__version__} (GDAL {gdal.__version__}, Shapely {shapely.__version__}, GEOS {geos})"
     top.add_argument("--version", action="version", version=versions)
     verbs = top.add_subparsers(dest="verb", metavar="VERB", required=True)
     for name, verb in VERBS.items():
-        told = verbs.add_parser(name, help=verb.HELP, description=f"{verb.HELP[0].upper()}{verb.HELP[1:]}.", epilog=f"example:\n  {verb.EXAMPLE}", formatter_class=RawDescriptionHelpFormatter)
+        told = verbs.add_parser(
+            name,
+            help=verb.HELP,
+            description=f"{verb.HELP[0].upper()}{verb.HELP[1:]}.",
+            epilog=f"example:\n  {verb.EXAMPLE}",
+            formatter_class=RawDescriptionHelpFormatter,
+        )
         verb.add_arguments(told)
         told.set_defaults(main=verb.main)
     return top

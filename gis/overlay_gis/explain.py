@@ -18,7 +18,9 @@ BYTE_ORDER_MARKS = {b"\xef\xbb\xbf": "UTF-8", b"\xff\xfe": "UTF-16", b"\xfe\xff"
 
 def add_arguments(parser: ArgumentParser) -> None:
     parser.add_argument("text", metavar="TEXT", help="the file that overlay refused")
-    parser.add_argument("offset", metavar="OFFSET", type=int, help="the number behind `at` in the refusal, in bytes from 0")
+    parser.add_argument(
+        "offset", metavar="OFFSET", type=int, help="the number behind `at` in the refusal, in bytes from 0"
+    )
 
 
 def shown(line: bytes, start: int, end: int) -> str:

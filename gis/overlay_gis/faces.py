@@ -11,12 +11,15 @@ from osgeo import ogr
 from . import layers, options
 from .arrangement import Arrangement, covers
 from .faults import Refusal
+from .frame import GridPolygon
 from .joined import Joined, joined
-from .layers import Column, Polygon, Row, Source, polygon_geometry
-from .messages import say
+from .layers import Column, Row, Source, polygon_geometry
+from .messages import during, say
 from .texts import Written, edges_in, on_grid, twice_area
 
-HELP = "tells which features of A lie in which features of B: the faces of both layers' borders, each with what covers it"
+HELP = (
+    "tells which features of A lie in which features of B: the faces of both layers' borders, each with what covers it"
+)
 EXAMPLE = "overlay-gis faces parcels.gpkg zones.gpkg -o faces.gpkg --keep-a owner --keep-b name,rule"
 
 # Between the values of several features that cover one face.
@@ -25,9 +28,18 @@ JOINT = ","
 
 def add_arguments(parser: ArgumentParser) -> None:
     options.add_layers(parser)
-    options.add_output(parser, "the file for the faces, with the fields a and b (numbers of the features that cover a face) and area")
-    parser.add_argument("--keep-a", metavar="FIELD,..", default="", help="fields of A that a face takes over, as a_FIELD; values of several features are joined by commas")
-    parser.add_argument("--keep-b", metavar="FIELD,..", default="", help="fields of B that a face takes over, as b_FIELD")
+    options.add_output(
+        parser, "the file for the faces, with the fields a and b (numbers of the features that cover a face) and area"
+    )
+    parser.add_argument(
+        "--keep-a",
+        metavar="FIELD,..",
+        default="",
+        help="fields of A that a face takes over, as a_FIELD; values of several features are joined by commas",
+    )
+    parser.add_argument(
+        "--keep-b", metavar="FIELD,..", default="", help="fields of B that a face takes over, as b_FIELD"
+    )
     options.add_grid(parser)
 
 
@@ -39,7 +51,7 @@ class Kept:
     fields: list[ogr.FieldDefn]
     ids: list[int]
     values: list[tuple]
-    polygons: list[list[Polygon]]
+    polygons: list[list[GridPolygon]]
 
 
 def kept_fields(source: Source, asked: str) -> list[ogr.FieldDefn]:
@@ -69,7 +81,10 @@ def columns_of(held: Kept, several: bool) -> list[Column]:
     """The fields that are kept; they are texts where several features of the layer cover one face."""
     if several:
         return [Column(held.mark + field.GetName(), ogr.OFTString) for field in held.fields]
-    return [Column(held.mark + field.GetName(), field.GetType(), field.GetSubType(), field.GetWidth(), field.GetPrecision()) for field in held.fields]
+    return [
+        Column(held.mark + field.GetName(), field.GetType(), field.GetSubType(), field.GetWidth(), field.GetPrecision())
+        for field in held.fields
+    ]
 
 
 def values_of(held: Kept, covering: Sequence[int], several: bool) -> list:
@@ -77,10 +92,19 @@ def values_of(held: Kept, covering: Sequence[int], several: bool) -> list:
         return [None] * len(held.fields)
     if not several:
         return list(held.values[covering[0]])
-    return [JOINT.join("" if value is None else str(value) for value in column) for column in zip(*(held.values[k] for k in covering))]
+    return [
+        JOINT.join("" if value is None else str(value) for value in column)
+        for column in zip(*(held.values[k] for k in covering))
+    ]
 
 
-def rows(faces: Sequence[Polygon], covering: Sequence[tuple[list[int], list[int]]], held: Sequence[Kept], several: Sequence[bool], both: Joined) -> Iterator[Row]:
+def rows(
+    faces: Sequence[GridPolygon],
+    covering: Sequence[tuple[list[int], list[int]]],
+    held: Sequence[Kept],
+    several: Sequence[bool],
+    both: Joined,
+) -> Iterator[Row]:
     for face, sides in zip(faces, covering):
         ids = [JOINT.join(str(layer.ids[k]) for k in side) or None for layer, side in zip(held, sides)]
         values = [value for layer, side, many in zip(held, sides, several) for value in values_of(layer, side, many)]
@@ -100,7 +124,8 @@ def main(arguments: Namespace) -> int:
         held = [kept(layer.source, mark, words, both) for layer, (mark, words) in zip(both.layers, asked)]
         arrangement = Arrangement(edges_in(both.run("edges"), "overlay"))
         borders = arrangement.borders([layer.polygons for layer in held], "following the borders")
-        faces = arrangement.faces()
+        with during("making faces"):
+            faces = arrangement.faces()
         known = ((face, sides_of(covered)) for face, covered in zip(faces, covers(faces, borders)) if covered)
         answered = sorted(known, key=lambda pair: min(pair[0][0]))
         several = [any(len(sides[k]) > 1 for _, sides in answered) for k in (0, 1)]

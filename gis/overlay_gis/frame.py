@@ -10,12 +10,17 @@ import json
 from dataclasses import dataclass
 from decimal import Decimal, InvalidOperation
 from fractions import Fraction
+from functools import cached_property
 from typing import Callable
 
 from osgeo import osr
 
 from .faults import Fault, Refusal
-from .layers import Box, Polygon, system_from, unit_name
+from .layers import Box, Point, Polygon, system_from, unit_name
+
+GridPoint = tuple[int, int]
+GridRing = list[GridPoint]  # the first point again at its end
+GridPolygon = list[GridRing]  # the shell first
 
 # The program's limit of coordinates, in absolute value.
 LIMIT = 1 << 28
@@ -43,20 +48,22 @@ class Frame:
     origin: tuple[Decimal, Decimal]
     system: str | None
 
-    def rounded(self) -> Callable[[float, float], tuple[int, int]]:
+    @cached_property
+    def rounded(self) -> Callable[[float, float], GridPoint]:
         """The call that gives the grid point of a point."""
         scale = Fraction(self.unit)
         p, q = scale.numerator, scale.denominator
         (ex, fx), (ey, fy) = ((Fraction(at) / scale - Fraction(1, 2)).as_integer_ratio() for at in self.origin)
 
-        def place(x: float, y: float) -> tuple[int, int]:
+        def place(x: float, y: float) -> GridPoint:
             a, b = float(x).as_integer_ratio()
             c, d = float(y).as_integer_ratio()
             return (a * q * fx - ex * b * p) // (b * p * fx), (c * q * fy - ey * d * p) // (d * p * fy)
 
         return place
 
-    def placed(self) -> Callable[[int, int], tuple[float, float]]:
+    @cached_property
+    def placed(self) -> Callable[[int, int], Point]:
         """The call that gives the point of a grid point: the floating-point numbers next to its exact coordinates."""
         scale = Fraction(self.unit)
         both = [Fraction(at) for at in self.origin]
@@ -69,9 +76,9 @@ class Frame:
         """The area, in square units of the system, of twice so many square units of the grid."""
         return float(Fraction(self.unit) ** 2 * twice / 2)
 
-    def polygon(self, polygon: Polygon) -> Polygon:
+    def polygon(self, polygon: GridPolygon) -> Polygon:
         """A polygon of the grid in the system's coordinates."""
-        placed = self.placed()
+        placed = self.placed
         return [[placed(x, y) for x, y in ring] for ring in polygon]
 
     def told(self, system: osr.SpatialReference | None) -> str:
@@ -84,7 +91,9 @@ class Frame:
         )
 
     def saved(self, path: str) -> None:
-        text = json.dumps({"grid": plain(self.unit), "origin": list(map(plain, self.origin)), "system": self.system}, indent=2)
+        text = json.dumps(
+            {"grid": plain(self.unit), "origin": list(map(plain, self.origin)), "system": self.system}, indent=2
+        )
         try:
             with open(path, "w", encoding="utf-8") as file:
                 file.write(text + "\n")
@@ -153,12 +162,18 @@ def origin_for(box: Box, unit: Decimal) -> tuple[Decimal, Decimal]:
 
 
 def fits(box: Box, unit: Decimal, origin: tuple[Decimal, Decimal]) -> bool:
-    place = Frame(unit, origin, None).rounded()
+    place = Frame(unit, origin, None).rounded
     corners = place(box.left, box.low) + place(box.right, box.high)
     return all(-LIMIT <= at <= LIMIT for at in corners)
 
 
-def chosen(name: str, box: Box | None, system: osr.SpatialReference | None, unit: Decimal | None, origin: tuple[Decimal, Decimal] | None) -> Frame:
+def chosen(
+    name: str,
+    box: Box | None,
+    system: osr.SpatialReference | None,
+    unit: Decimal | None,
+    origin: tuple[Decimal, Decimal] | None,
+) -> Frame:
     """The frame for a box: the unit and the origin that were asked for, or fitting ones. Refuses a unit that doesn't fit."""
     held = code_of(system)
     default = FINEST_DEGREES if system is not None and system.IsGeographic() else FINEST
@@ -169,8 +184,15 @@ def chosen(name: str, box: Box | None, system: osr.SpatialReference | None, unit
     at = origin or origin_for(box, asked)
     if not fits(box, asked, at):
         if origin and fits(box, asked, origin_for(box, asked)):
-            raise Refusal(name, f"points lie off the limits of the grid, 2^28 units from the origin: leave --origin away, and one that fits is chosen")
-        raise Refusal(name, f"the grid {plain(asked)} has no room for all layers, which is 2^29 units each way: the finest that fits is --grid {plain(finest)}")
+            raise Refusal(
+                name,
+                "points lie off the limits of the grid, 2^28 units from the origin: without --origin, one that fits is chosen",
+            )
+        raise Refusal(
+            name,
+            f"the grid {plain(asked)} has no room for all layers, which is 2^29 units each way: "
+            f"the finest that fits is --grid {plain(finest)}",
+        )
     return Frame(asked, at, held)
 
 
@@ -179,6 +201,8 @@ def code_of(system: osr.SpatialReference | None) -> str | None:
     if system is None:
         return None
     code = system.GetAuthorityCode(None)
-    if code and system.IsSame(system_from(f"{system.GetAuthorityName(None)}:{code}"), ["IGNORE_DATA_AXIS_TO_SRS_AXIS_MAPPING=YES"]):
+    if code and system.IsSame(
+        system_from(f"{system.GetAuthorityName(None)}:{code}"), ["IGNORE_DATA_AXIS_TO_SRS_AXIS_MAPPING=YES"]
+    ):
         return f"{system.GetAuthorityName(None)}:{code}"
     return system.ExportToWkt(["FORMAT=WKT2_2019", "MULTILINE=NO"])

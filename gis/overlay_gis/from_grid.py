@@ -35,7 +35,7 @@ def polygon_rows(text: str, name: str, frame: Frame) -> Iterator[Row]:
 
 
 def edge_rows(text: str, name: str, frame: Frame) -> Iterator[Row]:
-    placed = frame.placed()
+    placed = frame.placed
     for edge in edges_in(text, name):
         line = ogr.Geometry(ogr.wkbLineString)
         for x, y in (edge.p, edge.q):
@@ -49,7 +49,9 @@ def main(arguments: Namespace) -> int:
     system = system_from(frame.system) if frame.system else None
     text = text_of(arguments.text)
     if kind_of(text) == EDGES:
-        count = layers.write_layer(arguments.out, system, EDGE_COLUMNS, edge_rows(text, arguments.text, frame), ogr.wkbLineString)
+        count = layers.write_layer(
+            arguments.out, system, EDGE_COLUMNS, edge_rows(text, arguments.text, frame), ogr.wkbLineString
+        )
     else:
         count = layers.write_layer(arguments.out, system, POLYGON_COLUMNS, polygon_rows(text, arguments.text, frame))
     say(f"{arguments.out}: {count:,} features")

@@ -18,7 +18,7 @@ from . import program
 from .faults import Refusal
 from .frame import Frame
 from .layers import Box, Polygon, Source, Survey, area_name, common_system
-from .messages import say, warn
+from .messages import during, say, warn
 from .texts import Written, polygons_in, text_of, twice_area, write_polygons
 
 # How many feature numbers a warning names.
@@ -70,7 +70,9 @@ def surveyed(source: Source) -> Survey:
     seen = source.survey()
     if seen.strange:
         ids = [number for number, _ in seen.strange]
-        raise Refusal(source.name, f"{numbers(ids)} is no polygon but {seen.strange[0][1]}; overlay-gis check lists all such")
+        raise Refusal(
+            source.name, f"{numbers(ids)} is no polygon but {seen.strange[0][1]}; overlay-gis check lists all such"
+        )
     if not seen.features:
         warn(source.name, "the layer has no features")
     elif seen.bare:
@@ -83,14 +85,17 @@ def surveyed(source: Source) -> Survey:
 def united(source: Source) -> list[tuple[int, list[Polygon]]]:
     """All polygons of a layer as one feature, united by GEOS."""
     shapes = []
-    for feature in source.features("uniting"):
+    for feature in source.features():
         geometry = feature.GetGeometryRef()
         if geometry is not None and not geometry.IsEmpty():
             shape = wkb.loads(bytes(geometry.GetLinearGeometry().ExportToWkb()))
             shapes.append(shape if shape.is_valid else make_valid(shape))
-    whole = unary_union(shapes)
+    with during(f"uniting {source.name}"):
+        whole = unary_union(shapes)
     parts = [part for part in getattr(whole, "geoms", [whole]) if part.geom_type == "Polygon" and not part.is_empty]
-    return [(0, [[[point[:2] for point in ring.coords] for ring in (part.exterior, *part.interiors)] for part in parts])]
+    return [
+        (0, [[[point[:2] for point in ring.coords] for ring in (part.exterior, *part.interiors)] for part in parts])
+    ]
 
 
 def gridded(source: Source, frame: Frame, path: Path, dissolve: bool = False) -> Gridded:
@@ -120,13 +125,15 @@ def check_overlaps(joined: Joined, layer: Gridded) -> None:
         area, name = joined.frame.area, area_name(joined.system)
         warn(
             layer.source.name,
-            f"its polygons have {area(layer.written.twice_area):,.10g} {name} in sum, and {area(parity):,.10g} by parity, which is how they are read: "
-            "polygons overlap or cross themselves (overlay-gis check finds them, --dissolve unites them)",
+            f"its polygons have {area(layer.written.twice_area):,.10g} {name} in sum, and {area(parity):,.10g} by parity, "
+            "which is how they are read: polygons overlap or cross themselves (overlay-gis check finds them, --dissolve unites them)",
         )
 
 
 @contextmanager
-def joined(names: Sequence[str], unit: str | None, origin: str | None, system: str | None, dissolve: bool = False) -> Iterator[Joined]:
+def joined(
+    names: Sequence[str], unit: str | None, origin: str | None, system: str | None, dissolve: bool = False
+) -> Iterator[Joined]:
     """The named layers as texts on one grid, whose frame is told."""
     sources = [Source(name) for name in names]
     common = common_system(sources, system)
@@ -146,6 +153,6 @@ def joined(names: Sequence[str], unit: str | None, origin: str | None, system: s
 def side_for(box: Box | None, frame: Frame) -> int:
     if box is None:
         return program.SIDE
-    place = frame.rounded()
+    place = frame.rounded
     (left, low), (right, high) = place(box.left, box.low), place(box.right, box.high)
     return program.fitting_side(right - left, high - low)

@@ -10,7 +10,7 @@ import math
 import os
 import sys
 from dataclasses import dataclass, field
-from typing import Iterable, Iterator, Sequence
+from typing import Any, Iterable, Iterator, Sequence
 
 from osgeo import gdal, ogr, osr
 
@@ -22,9 +22,9 @@ ogr.UseExceptions()
 osr.UseExceptions()
 gdal.PushErrorHandler("CPLQuietErrorHandler")
 
-Point = tuple  # of an x and a y
-Ring = list  # of points, the first one again at the end
-Polygon = list  # of rings, the shell first
+Point = tuple[float, float]
+Ring = list[Point]  # the first point again at its end
+Polygon = list[Ring]  # the shell first
 
 LAYER_MARK = "|layername="
 
@@ -41,7 +41,12 @@ class Box:
     def joined(self, other: Box | None) -> Box:
         if other is None:
             return self
-        return Box(min(self.left, other.left), min(self.low, other.low), max(self.right, other.right), max(self.high, other.high))
+        return Box(
+            min(self.left, other.left),
+            min(self.low, other.low),
+            max(self.right, other.right),
+            max(self.high, other.high),
+        )
 
 
 @dataclass
@@ -74,7 +79,11 @@ class Source:
                 raise Refusal(self.name, f"has no layer {wanted}, but {', '.join(names) or 'none at all'}")
             return self.dataset.GetLayerByName(wanted)
         if len(names) != 1:
-            told = f"{len(names)} layers ({', '.join(names[:8])}): name one, as {self.name}{LAYER_MARK}{names[0]}" if names else "no layer"
+            told = (
+                f"{len(names)} layers ({', '.join(names[:8])}): name one, as {self.name}{LAYER_MARK}{names[0]}"
+                if names
+                else "no layer"
+            )
             raise Refusal(self.name, f"has {told}")
         return self.dataset.GetLayer(0)
 
@@ -99,7 +108,8 @@ class Source:
             told = self.layer.GetFeatureCount()
             self.layer.ResetReading()
             read = 0
-            for feature in followed(iter(self.layer.GetNextFeature, None), f"{label} {self.name}", told):
+            unread: Iterator[ogr.Feature] = iter(self.layer.GetNextFeature, None)
+            for feature in followed(unread, f"{label} {self.name}", told):
                 read += 1
                 yield feature
         except RuntimeError as error:
@@ -136,7 +146,7 @@ def without_name(error: Exception, name: str) -> str:
     words = str(error).strip()
     for quoted in (f"`{name}' ", f"'{name}' ", f"{name}: "):
         if words.startswith(quoted):
-            return words[len(quoted):]
+            return words[len(quoted) :]
     return words
 
 
@@ -182,10 +192,18 @@ def common_system(sources: Sequence[Source], told: str | None = None) -> osr.Spa
     systems = [source.system() or given for source in sources]
     first = systems[0]
     for source, system in zip(sources[1:], systems[1:]):
-        same = system is first if None in (system, first) else first.IsSame(system, ["IGNORE_DATA_AXIS_TO_SRS_AXIS_MAPPING=YES"])
+        same = (
+            system is first
+            if None in (system, first)
+            else first.IsSame(system, ["IGNORE_DATA_AXIS_TO_SRS_AXIS_MAPPING=YES"])
+        )
         if not same:
-            hint = "say it by --system" if None in (system, first) else "bring one into the other's, as by ogr2ogr -t_srs"
-            raise Refusal(source.name, f"has {system_name(system)}, and {sources[0].name} has {system_name(first)}: {hint}")
+            hint = (
+                "say it by --system" if None in (system, first) else "bring one into the other's, as by ogr2ogr -t_srs"
+            )
+            raise Refusal(
+                source.name, f"has {system_name(system)}, and {sources[0].name} has {system_name(first)}: {hint}"
+            )
     return first
 
 
@@ -205,7 +223,11 @@ def polygons_of(geometry: ogr.Geometry) -> list[Polygon]:
         parts = [geometry]
     else:
         parts = [geometry.GetGeometryRef(k) for k in range(geometry.GetGeometryCount())]
-    return [[ring.GetPoints(2) or [] for ring in (part.GetGeometryRef(k) for k in range(part.GetGeometryCount()))] for part in parts if not part.IsEmpty()]
+    return [
+        [ring.GetPoints(2) or [] for ring in (part.GetGeometryRef(k) for k in range(part.GetGeometryCount()))]
+        for part in parts
+        if not part.IsEmpty()
+    ]
 
 
 def driver_for(path: str) -> gdal.Driver:
@@ -216,7 +238,12 @@ def driver_for(path: str) -> gdal.Driver:
         writes = driver.GetMetadataItem(gdal.DCAP_VECTOR) and driver.GetMetadataItem(gdal.DCAP_CREATE)
         if ending and writes and ending in (driver.GetMetadataItem(gdal.DMD_EXTENSIONS) or "").split():
             return driver
-    raise Refusal(path, f"no driver of this GDAL writes files that end in .{ending}" if ending else "has no ending that names a format, as .gpkg")
+    raise Refusal(
+        path,
+        f"no driver of this GDAL writes files that end in .{ending}"
+        if ending
+        else "has no ending that names a format, as .gpkg",
+    )
 
 
 @dataclass
@@ -238,7 +265,7 @@ class Column:
 
 
 # A geometry to be written, with the values of its columns.
-Row = tuple
+Row = tuple[ogr.Geometry, Sequence]
 
 
 def check_output(path: str, overwrite: bool) -> None:
@@ -256,8 +283,8 @@ class Output:
 
     def __init__(self, path: str):
         self.path = path
-        self.dataset: gdal.Dataset | None = None
-        self.layer: ogr.Layer | None = None
+        self.dataset: Any = None
+        self.layer: Any = None
 
     def begin(self, system: osr.SpatialReference | None, columns: Sequence[Column], kind: int) -> None:
         self.dataset = driver_for(self.path).Create(self.path, 0, 0, 0, gdal.GDT_Unknown)
@@ -271,7 +298,7 @@ class Output:
         if grouped:
             self.dataset.StartTransaction()
         count = 0
-        for geometry, values in rows:
+        for geometry, values in followed(rows, f"writing {self.path}"):
             self.add(geometry, values)
             count += 1
         if grouped:
@@ -290,13 +317,19 @@ class Output:
         self.layer.CreateFeature(feature)
 
     def close(self) -> None:
-        """Closes the file. GDAL's bindings can't raise here, and would print: what failed is told by the call before, or by a look at the file."""
+        """Closes the file. GDAL's bindings would print what fails here, and can't raise it: a look at the file tells."""
         told, sys.unraisablehook = sys.unraisablehook, lambda _: None
         self.layer = self.dataset = None
         sys.unraisablehook = told
 
 
-def write_layer(path: str, system: osr.SpatialReference | None, columns: Sequence[Column], rows: Iterable[Row], kind: int = ogr.wkbPolygon) -> int:
+def write_layer(
+    path: str,
+    system: osr.SpatialReference | None,
+    columns: Sequence[Column],
+    rows: Iterable[Row],
+    kind: int = ogr.wkbPolygon,
+) -> int:
     """Writes a file of one layer, and answers how many features it has. A file that couldn't be finished is removed."""
     done = False
     try:

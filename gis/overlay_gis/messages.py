@@ -4,6 +4,7 @@ from __future__ import annotations
 
 import sys
 import time
+from contextlib import contextmanager
 from typing import Iterable, Iterator, TypeVar
 
 T = TypeVar("T")
@@ -37,3 +38,16 @@ def followed(items: Iterable[T], label: str, total: int | None = None) -> Iterat
         yield item
     if shown:
         print("\r\x1b[K", end="", file=sys.stderr, flush=True)
+
+
+@contextmanager
+def during(label: str) -> Iterator[None]:
+    """Where standard error is a terminal, says what is done as long as it is done."""
+    shown = sys.stderr.isatty()
+    if shown:
+        print(f"\r{label}\x1b[K", end="", file=sys.stderr, flush=True)
+    try:
+        yield
+    finally:
+        if shown:
+            print("\r\x1b[K", end="", file=sys.stderr, flush=True)

@@ -9,6 +9,7 @@ from dataclasses import dataclass
 from pathlib import Path
 
 from .faults import Fault, Refusal
+from .messages import during
 
 OPERATIONS = ("union", "intersection", "difference", "symdifference")
 
@@ -58,7 +59,7 @@ def run(command: str, inputs: Inputs, out: Path, side: int = SIDE) -> dict[str, 
     if side != SIDE:
         words += ["--tile", str(side)]
     try:
-        with open(out, "wb") as file:
+        with open(out, "wb") as file, during(f"overlay {command}"):
             done = subprocess.run(words, stdout=file, stderr=subprocess.PIPE, check=False)
     except OSError as error:
         raise Fault(error.filename or words[0], error.strerror) from error

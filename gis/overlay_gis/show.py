@@ -6,11 +6,12 @@ import sys
 from argparse import ArgumentParser, Namespace
 from dataclasses import dataclass, field
 from html import escape
+from math import floor, log10
 from typing import Iterator
 
-from .arrangement import ends
+from .arrangement import Ends, ends
 from .faults import Fault, Refusal
-from .layers import Polygon
+from .frame import GridPoint, GridPolygon
 from .texts import EDGES, LAYERS, Edge, edges_in, kind_of, polygons_in
 
 HELP = "draws layers, edges texts and results of the grid over one another"
@@ -19,16 +20,26 @@ EXAMPLE = "overlay edges a.wkt b.wkt | overlay-gis show a.wkt b.wkt - -o roundin
 COLOURS = ("#2f6db5", "#c8642a", "#7d4aa8", "#3c8d4e", "#8a6d1f")
 BOTH = "#7d3fa0"
 RESULT = "#3c8d4e"
-HOT = "#ffdf80"
+HOT, HOT_SIDE = "#ffdf80", "#d9b64a"
+INK = "#333"
 EMPTY = "nothing in it"
 
 # The picture's sides, in pixels of the screen, and from which size of a grid pixel it shows pixels and lines.
 WIDTH, HEIGHT, MARGIN, LINE = 860, 560, 16, 20
 PIXEL_SHOWN, GRID_SHOWN = 4.0, 9.0
 
+# How thick an edge is drawn that is a border by parity, and one that isn't.
+THICK, THIN = 2.4, 1.0
+
 
 def add_arguments(parser: ArgumentParser) -> None:
-    parser.add_argument("files", metavar="FILE", nargs="+", help="a text on the grid, told apart by its form: a layer, what `overlay edges` or what an operation printed; - is standard input")
+    parser.add_argument(
+        "files",
+        metavar="FILE",
+        nargs="+",
+        help="a text on the grid, told apart by its form: a layer, what `overlay edges` or what an operation "
+        "printed; - is standard input",
+    )
     parser.add_argument("-o", "--out", metavar="OUT.svg", help="the picture's file (default: standard output)")
     parser.add_argument("--title", metavar="TEXT", default="", help="a line below the drawing")
 
@@ -40,10 +51,10 @@ class Shown:
     name: str
     kind: str
     colour: str
-    polygons: list[Polygon] = field(default_factory=list)
+    polygons: list[GridPolygon] = field(default_factory=list)
     edges: list[Edge] = field(default_factory=list)
 
-    def points(self) -> Iterator[tuple[int, int]]:
+    def points(self) -> Iterator[GridPoint]:
         for polygon in self.polygons:
             for ring in polygon:
                 yield from ring
@@ -56,7 +67,7 @@ class Shown:
             return f"{self.name}: {counted(len(self.edges), 'rounded edge')}"
         return f"{self.name}: {self.kind}, {counted(len(self.polygons), 'polygon') if self.polygons else EMPTY}"
 
-    def outline(self) -> list[tuple]:
+    def outline(self) -> list[Ends]:
         """The segments of all rings, each once, whichever way they run."""
         return sorted({ends(a, b) for polygon in self.polygons for ring in polygon for a, b in zip(ring, ring[1:])})
 
@@ -95,7 +106,7 @@ class View:
     height: float
 
     @classmethod
-    def of(cls, points: list[tuple[int, int]]) -> View:
+    def of(cls, points: list[GridPoint]) -> View:
         xs, ys = [x for x, _ in points] or [0], [y for _, y in points] or [0]
         left, right, low, high = min(xs) - 1, max(xs) + 1, min(ys) - 1, max(ys) + 1
         scale = min((WIDTH - 2 * MARGIN) / (right - left), (HEIGHT - 2 * MARGIN) / (high - low))
@@ -107,7 +118,7 @@ class View:
     def y(self, y: float) -> float:
         return MARGIN + (self.high - y) * self.scale
 
-    def at(self, point: tuple[int, int]) -> str:
+    def at(self, point: GridPoint) -> str:
         return f"{self.x(point[0]):.1f} {self.y(point[1]):.1f}"
 
 
@@ -118,7 +129,10 @@ def grid_lines(view: View) -> Iterator[str]:
     right, low = MARGIN + view.width - 2 * MARGIN, MARGIN + view.height - 2 * MARGIN
     columns = range(round((right - MARGIN) / view.scale))
     upright = " ".join(f"M{MARGIN + (k + 0.5) * view.scale:.1f} {MARGIN}V{low:.1f}" for k in columns)
-    level = " ".join(f"M{MARGIN} {MARGIN + (k + 0.5) * view.scale:.1f}H{right:.1f}" for k in range(round((low - MARGIN) / view.scale)))
+    level = " ".join(
+        f"M{MARGIN} {MARGIN + (k + 0.5) * view.scale:.1f}H{right:.1f}"
+        for k in range(round((low - MARGIN) / view.scale))
+    )
     yield f'<path d="{upright} {level}" stroke="#e4e4e4" stroke-width="0.7" fill="none"/>'
 
 
@@ -128,14 +142,18 @@ def hot_pixels(view: View, files: list[Shown]) -> Iterator[str]:
         return
     centres = sorted({end for file in files for edge in file.edges for end in (edge.p, edge.q)})
     side = view.scale
-    squares = " ".join(f"M{view.x(x - 0.5):.1f} {view.y(y + 0.5):.1f}h{side:.1f}v{side:.1f}h-{side:.1f}z" for x, y in centres)
+    squares = " ".join(
+        f"M{view.x(x - 0.5):.1f} {view.y(y + 0.5):.1f}h{side:.1f}v{side:.1f}h-{side:.1f}z" for x, y in centres
+    )
     if centres:
-        yield f'<path d="{squares}" fill="{HOT}" stroke="#d9b64a" stroke-width="0.7"/>'
+        yield f'<path d="{squares}" fill="{HOT}" stroke="{HOT_SIDE}" stroke-width="0.7"/>'
 
 
 def filled(view: View, file: Shown) -> Iterator[str]:
     """The inside of a layer or of a result by parity, as it is read."""
-    rings = " ".join("M" + "L".join(view.at(point) for point in ring[:-1]) + "z" for polygon in file.polygons for ring in polygon)
+    rings = " ".join(
+        "M" + "L".join(view.at(point) for point in ring[:-1]) + "z" for polygon in file.polygons for ring in polygon
+    )
     opacity = 0.14 if file.kind == LAYERS else 0.4
     if rings:
         yield f'<path d="{rings}" fill="{file.colour}" fill-rule="evenodd" fill-opacity="{opacity}"/>'
@@ -151,39 +169,53 @@ def outlined(view: View, file: Shown) -> Iterator[str]:
 
 def edge_classes() -> list[tuple[str, str, bool, bool]]:
     """Colour and words of an edge by the layers that have it."""
-    return [(COLOURS[0], "edges of A", True, False), (COLOURS[1], "edges of B", False, True), (BOTH, "edges of both", True, True)]
+    return [
+        (COLOURS[0], "edges of A", True, False),
+        (COLOURS[1], "edges of B", False, True),
+        (BOTH, "edges of both", True, True),
+    ]
 
 
 def edges_drawn(view: View, file: Shown) -> Iterator[str]:
     """Rounded edges, thick where they are borders by parity, thin where an even number cancels."""
     for colour, _, first, second in edge_classes():
-        for odd, width in ((True, 2.4), (False, 1.0)):
-            chosen = [e for e in file.edges if (e.counts[0] > 0) == first and (e.counts[1] > 0) == second and any(count % 2 for count in e.counts) == odd]
+        for odd, width in ((True, THICK), (False, THIN)):
+            chosen = [
+                e
+                for e in file.edges
+                if (e.counts[0] > 0) == first
+                and (e.counts[1] > 0) == second
+                and any(count % 2 for count in e.counts) == odd
+            ]
             lines = " ".join(f"M{view.at(e.p)}L{view.at(e.q)}" for e in chosen)
             if chosen:
                 yield f'<path d="{lines}" stroke="{colour}" stroke-width="{width}" stroke-linecap="round" fill="none"/>'
     if file.edges and view.scale >= PIXEL_SHOWN:
         dots = sorted({end for edge in file.edges for end in (edge.p, edge.q)})
-        yield "".join(f'<circle cx="{view.x(x):.1f}" cy="{view.y(y):.1f}" r="2.2" fill="#333"/>' for x, y in dots)
+        yield "".join(f'<circle cx="{view.x(x):.1f}" cy="{view.y(y):.1f}" r="2.2" fill="{INK}"/>' for x, y in dots)
+
+
+def line_sign(colour: str, width: float) -> str:
+    return f'<path d="M0 0H24" stroke="{colour}" stroke-width="{width}"/>'
+
+
+def box_sign(file: Shown) -> str:
+    dashes = ' stroke-dasharray="6 4"' if file.kind == LAYERS else ""
+    style = f'fill="{file.colour}" fill-opacity="0.2" stroke="{file.colour}" stroke-width="1.4"{dashes}'
+    return f'<rect y="-6" width="24" height="12" {style}/>'
 
 
 def signs(view: View, files: list[Shown]) -> list[tuple[str, str]]:
     """The legend: a sign, 24 wide, and what it means."""
-    told = []
-    for file in files:
-        if file.kind == EDGES:
-            told.append(('<path d="M0 0H24" stroke="#333" stroke-width="2.4"/>', file.told()))
-        else:
-            dashed = ' stroke-dasharray="6 4"' if file.kind == LAYERS else ""
-            told.append((f'<rect y="-6" width="24" height="12" fill="{file.colour}" fill-opacity="0.2" stroke="{file.colour}" stroke-width="1.4"{dashed}/>', file.told()))
+    told = [(line_sign(INK, THICK) if file.kind == EDGES else box_sign(file), file.told()) for file in files]
     edges = [edge for file in files for edge in file.edges]
     for colour, words, first, second in edge_classes():
         if any((edge.counts[0] > 0) == first and (edge.counts[1] > 0) == second for edge in edges):
-            told.append((f'<path d="M0 0H24" stroke="{colour}" stroke-width="2.4"/>', words))
+            told.append((line_sign(colour, THICK), words))
     if any(not any(count % 2 for count in edge.counts) for edge in edges):
-        told.append(('<path d="M0 0H24" stroke="#333" stroke-width="1"/>', "thin: occurs an even number of times, no border"))
+        told.append((line_sign(INK, THIN), "thin: occurs an even number of times, no border"))
     if edges and view.scale >= PIXEL_SHOWN:
-        told.append((f'<rect x="6" y="-6" width="12" height="12" fill="{HOT}" stroke="#d9b64a"/>', "hot pixel"))
+        told.append((f'<rect x="6" y="-6" width="12" height="12" fill="{HOT}" stroke="{HOT_SIDE}"/>', "hot pixel"))
     return told
 
 
@@ -200,18 +232,18 @@ def legend(view: View, files: list[Shown], title: str) -> tuple[list[str], float
     return lines, top + (len(told) + 1) // 2 * LINE
 
 
+def round_length(room: float) -> int:
+    """The greatest of 1, 2 and 5 times a power of ten that is no more than `room`, or else 1."""
+    power = 10 ** max(0, floor(log10(room)))
+    return next((factor * power for factor in (5, 2) if factor * power <= room), power)
+
+
 def scale_bar(view: View, top: float) -> str:
-    """A bar of 1, 2 or 5 times a power of ten grid units."""
-    room, units = 160 / view.scale, 1
-    while not units <= room < 2 * units:
-        step = next((factor for factor in (5, 2) if units * factor <= room and units * 10 > room), 10 if units * 10 <= room else 0)
-        if not step:
-            break
-        units *= step
+    units = round_length(160 / view.scale)
     length = units * view.scale
-    words = f"{units:,} grid unit" + ("s" if units > 1 else "")
-    bar = f'<path d="M0 -4V4M0 0H{length:.1f}M{length:.1f} -4V4" stroke="#333" fill="none"/>'
-    return f'<g transform="translate({MARGIN} {top:.1f})">{bar}<text x="{length + 8:.1f}" y="4">{words}</text></g>'
+    bar = f'<path d="M0 -4V4M0 0H{length:.1f}M{length:.1f} -4V4" stroke="{INK}" fill="none"/>'
+    words = f'<text x="{length + 8:.1f}" y="4">{counted(units, "grid unit")}</text>'
+    return f'<g transform="translate({MARGIN} {top:.1f})">{bar}{words}</g>'
 
 
 def picture(files: list[Shown], title: str) -> str:
@@ -223,7 +255,9 @@ def picture(files: list[Shown], title: str) -> str:
     for file in files:
         drawn += [*outlined(view, file), *edges_drawn(view, file)]
     head = f'<svg xmlns="http://www.w3.org/2000/svg" viewBox="0 0 {width:.0f} {height:.0f}" width="{width:.0f}" height="{height:.0f}" font-family="sans-serif" font-size="13">'
-    return "\n".join([head, '<rect width="100%" height="100%" fill="white"/>', *drawn, *told, scale_bar(view, bottom), "</svg>", ""])
+    return "\n".join(
+        [head, '<rect width="100%" height="100%" fill="white"/>', *drawn, *told, scale_bar(view, bottom), "</svg>", ""]
+    )
 
 
 def main(arguments: Namespace) -> int:

@@ -9,8 +9,8 @@ from math import hypot
 from typing import Iterable, Iterator, TextIO
 
 from .faults import Fault, Refusal
-from .frame import Frame
-from .layers import Polygon, Ring
+from .frame import Frame, GridPoint, GridPolygon, GridRing
+from .layers import Polygon
 
 # A polygon's rings in brackets, and what is left of a layer text with a @ for each of these.
 BODY = re.compile(r"\(\s*\([^()]*\)(?:\s*,\s*\([^()]*\))*\s*\)")
@@ -41,17 +41,20 @@ def kind_of(text: str) -> str:
     return LAYERS
 
 
-def polygons_in(text: str, name: str) -> list[Polygon]:
+def polygons_in(text: str, name: str) -> list[GridPolygon]:
     """The polygons of a layer text or of a result."""
     if not LAYER.fullmatch(BODY.sub("@", text)):
-        raise Refusal(name, "is no text of polygons on the grid; overlay tells where the fault is, and overlay-gis explain shows it")
+        raise Refusal(
+            name,
+            "is no text of polygons on the grid; overlay tells where the fault is, and overlay-gis explain shows it",
+        )
     try:
         return [[ring_in(ring) for ring in RING.findall(body.group())] for body in BODY.finditer(text)]
     except ValueError as error:
         raise Refusal(name, f"has a point that is not two whole numbers ({error})") from error
 
 
-def ring_in(text: str) -> Ring:
+def ring_in(text: str) -> GridRing:
     points = []
     for point in text.split(","):
         x, y = point.split()
@@ -63,8 +66,8 @@ def ring_in(text: str) -> Ring:
 class Edge:
     """A rounded edge, its lesser end first, and how often it occurs in either layer."""
 
-    p: tuple[int, int]
-    q: tuple[int, int]
+    p: GridPoint
+    q: GridPoint
     counts: tuple[int, int]
 
 
@@ -77,7 +80,7 @@ def edges_in(text: str, name: str) -> Iterator[Edge]:
         yield Edge((a, b), (c, d), (first, second))
 
 
-def twice_area(polygon: Polygon) -> int:
+def twice_area(polygon: GridPolygon) -> int:
     """Twice the area of a polygon of the grid: its shell's without its holes', whichever way they run."""
     shell, *holes = (abs(sum(a * d - c * b for (a, b), (c, d) in zip(ring, ring[1:]))) for ring in polygon)
     return shell - sum(holes)
@@ -99,9 +102,9 @@ class Written:
         return sum(nlargest(count, self.lengths))
 
 
-def on_grid(polygon: Polygon, number: int, frame: Frame, seen: Written) -> Polygon:
+def on_grid(polygon: Polygon, number: int, frame: Frame, seen: Written) -> GridPolygon:
     """A polygon in grid units. An open ring is closed; one of less than four points covers nothing and is left out."""
-    place, rings = frame.rounded(), []
+    place, rings = frame.rounded, []
     for points in polygon:
         if points and points[0] != points[-1]:
             seen.closed.append(number)
@@ -125,7 +128,7 @@ def write_polygons(out: TextIO, features: Iterable[tuple[int, list[Polygon]]], f
     return seen
 
 
-def count(polygon: Polygon, seen: Written) -> None:
+def count(polygon: GridPolygon, seen: Written) -> None:
     seen.polygons += 1
     seen.twice_area += twice_area(polygon)
     for ring in polygon:
@@ -134,11 +137,11 @@ def count(polygon: Polygon, seen: Written) -> None:
     seen.segments = len(seen.lengths)
 
 
-def body_of(polygon: Polygon) -> str:
+def body_of(polygon: GridPolygon) -> str:
     return "(" + ", ".join("(" + ", ".join(f"{x} {y}" for x, y in ring) + ")" for ring in polygon) + ")"
 
 
-def line_of(polygons: list[Polygon]) -> str:
+def line_of(polygons: list[GridPolygon]) -> str:
     if len(polygons) == 1:
         return f"POLYGON {body_of(polygons[0])}\n"
     return f"MULTIPOLYGON ({', '.join(map(body_of, polygons))})\n"

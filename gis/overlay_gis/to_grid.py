@@ -22,8 +22,18 @@ FRAME = "frame.json"
 
 def add_arguments(parser: ArgumentParser) -> None:
     parser.add_argument("layers", metavar="LAYER", nargs="+", help=options.LAYER)
-    parser.add_argument("-o", "--out", metavar="FOLDER", required=True, help="the folder for the texts and for frame.json, which holds grid, origin and system")
-    parser.add_argument("--frame", metavar="FILE", help="a frame that is there already, for layers that come later, instead of a grid and an origin")
+    parser.add_argument(
+        "-o",
+        "--out",
+        metavar="FOLDER",
+        required=True,
+        help="the folder for the texts and for frame.json, which holds grid, origin and system",
+    )
+    parser.add_argument(
+        "--frame",
+        metavar="FILE",
+        help="a frame that is there already, for layers that come later, instead of a grid and an origin",
+    )
     options.add_grid(parser)
     options.add_dissolve(parser)
 
@@ -43,7 +53,9 @@ def frame_for(arguments: Namespace, sources: list[Source]) -> Frame:
         frame = frames.loaded(arguments.frame)
         held = system_from(frame.system) if frame.system else None
         if frames.code_of(common) != frames.code_of(held):
-            raise Refusal(arguments.frame, f"is a frame of {system_name(held)}, and {sources[0].name} has {system_name(common)}")
+            raise Refusal(
+                arguments.frame, f"is a frame of {system_name(held)}, and {sources[0].name} has {system_name(common)}"
+            )
         if box and not frames.fits(box, frame.unit, frame.origin):
             raise Refusal(arguments.frame, "points of these layers lie off the limits of its grid")
     say(frame.told(common))

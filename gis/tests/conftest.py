@@ -37,7 +37,13 @@ def system(name: str) -> osr.SpatialReference:
     return found
 
 
-def write(path: Path, shapes: list[BaseGeometry | ogr.Geometry | None], srs: str | None = UTM, fields: dict[str, list] | None = None, kind: int = ogr.wkbUnknown) -> str:
+def write(
+    path: Path,
+    shapes: list[BaseGeometry | ogr.Geometry | None],
+    srs: str | None = UTM,
+    fields: dict[str, list] | None = None,
+    kind: int = ogr.wkbUnknown,
+) -> str:
     """A layer file of these shapes; `fields` has a value for each."""
     driver = {".gpkg": "GPKG", ".shp": "ESRI Shapefile", ".geojson": "GeoJSON"}[path.suffix]
     dataset = gdal.GetDriverByName(driver).Create(str(path), 0, 0, 0, gdal.GDT_Unknown)
@@ -48,7 +54,9 @@ def write(path: Path, shapes: list[BaseGeometry | ogr.Geometry | None], srs: str
     for number, shape in enumerate(shapes):
         feature = ogr.Feature(layer.GetLayerDefn())
         if shape is not None:
-            feature.SetGeometry(shape if isinstance(shape, ogr.Geometry) else ogr.CreateGeometryFromWkb(wkb.dumps(shape)))
+            feature.SetGeometry(
+                shape if isinstance(shape, ogr.Geometry) else ogr.CreateGeometryFromWkb(wkb.dumps(shape))
+            )
         for name, values in (fields or {}).items():
             feature[name] = values[number]
         layer.CreateFeature(feature)
@@ -58,7 +66,9 @@ def write(path: Path, shapes: list[BaseGeometry | ogr.Geometry | None], srs: str
 def read(path: str | Path) -> list[tuple[BaseGeometry, dict]]:
     """The shapes and the fields of a layer file's features."""
     dataset = gdal.OpenEx(str(path), gdal.OF_VECTOR)
-    return [(wkb.loads(bytes(feature.GetGeometryRef().ExportToWkb())), feature.items()) for feature in dataset.GetLayer(0)]
+    return [
+        (wkb.loads(bytes(feature.GetGeometryRef().ExportToWkb())), feature.items()) for feature in dataset.GetLayer(0)
+    ]
 
 
 def corner(rng: random.Random, x: float, y: float, by: float, digits: int) -> tuple[float, float]:
@@ -86,7 +96,14 @@ def blobs(seed: int, digits: int, count: int = 5) -> list[BaseGeometry]:
     for k in range(count):
         x, y = 40.0 * k, rng.uniform(0, 150)
         circle = Polygon([(EAST + x, NORTH + y + 1)] + [(EAST + x + 1, NORTH + y)] * 2).centroid.buffer(19, 12)
-        made.append(Polygon([(round(a + rng.uniform(-1, 1), digits), round(b + rng.uniform(-1, 1), digits)) for a, b in circle.exterior.coords[:-1]]))
+        made.append(
+            Polygon(
+                [
+                    (round(a + rng.uniform(-1, 1), digits), round(b + rng.uniform(-1, 1), digits))
+                    for a, b in circle.exterior.coords[:-1]
+                ]
+            )
+        )
     assert all(shape.is_valid for shape in made)
     return made
 

@@ -28,9 +28,14 @@ def test_overlaps_with_their_features(gis, tmp_path):
     status, lines = checked(gis, write(tmp_path / "a.gpkg", shapes), "-o", "overlaps.gpkg")
     assert status == 4
     assert [line.partition(": ")[2] for line in lines] == [
-        "features 1 and 3: overlap by 4 m²", "features 2 and 3: overlap by 4 m²", "3 features, 2 findings, areas 208 m² in sum, 192 by parity",
+        "features 1 and 3: overlap by 4 m²",
+        "features 2 and 3: overlap by 4 m²",
+        "3 features, 2 findings, areas 208 m² in sum, 192 by parity",
     ]
-    assert [(shape.area, fields["first"], fields["second"]) for shape, fields in read("overlaps.gpkg")] == [(4, 1, 3), (4, 2, 3)]
+    assert [(shape.area, fields["first"], fields["second"]) for shape, fields in read("overlaps.gpkg")] == [
+        (4, 1, 3),
+        (4, 2, 3),
+    ]
 
 
 def test_an_overlap_that_rounding_closes_is_only_counted(gis, tmp_path):
@@ -40,13 +45,19 @@ def test_an_overlap_that_rounding_closes_is_only_counted(gis, tmp_path):
     assert checked(gis, tmp_path / "a.gpkg", "--grid", "0.0001")[0] == 4
 
 
-@pytest.mark.parametrize("shape, words", [
-    (Polygon([(EAST, NORTH), (EAST + 4, NORTH + 4), (EAST + 4, NORTH), (EAST, NORTH + 4), (EAST, NORTH)]), "feature 1: Self-intersection[412002 5654002]"),
-    (LineString([(EAST, NORTH), (EAST + 4, NORTH)]), "feature 1: LINESTRING is no polygon"),
-    (ogr.CreateGeometryFromWkt("POLYGON ((0 0, 1 0, 0 0))"), "feature 1: a ring has less than four points"),
-    (ogr.CreateGeometryFromWkt("POLYGON ((0 0, 1 0, 1 1, 0 1))"), "feature 1: a ring is open at 0 1"),
-    (None, "feature 1: no geometry"),
-])
+@pytest.mark.parametrize(
+    "shape, words",
+    [
+        (
+            Polygon([(EAST, NORTH), (EAST + 4, NORTH + 4), (EAST + 4, NORTH), (EAST, NORTH + 4), (EAST, NORTH)]),
+            "feature 1: Self-intersection[412002 5654002]",
+        ),
+        (LineString([(EAST, NORTH), (EAST + 4, NORTH)]), "feature 1: LINESTRING is no polygon"),
+        (ogr.CreateGeometryFromWkt("POLYGON ((0 0, 1 0, 0 0))"), "feature 1: a ring has less than four points"),
+        (ogr.CreateGeometryFromWkt("POLYGON ((0 0, 1 0, 1 1, 0 1))"), "feature 1: a ring is open at 0 1"),
+        (None, "feature 1: no geometry"),
+    ],
+)
 def test_features_that_are_wrong(gis, tmp_path, shape, words):
     status, lines = checked(gis, write(tmp_path / "a.gpkg", [shape]))
     assert status == 4 and any(words in line for line in lines)

@@ -10,7 +10,7 @@ import pytest
 from shapely.geometry import box
 
 from conftest import COMMAND, EAST, NORTH, write
-from overlay_gis import __version__, cli
+from overlay_gis import __version__, cli, messages
 
 TOP = Path(__file__).resolve().parents[2]
 PAGE = (TOP / "docs" / "overlay.1").read_text().replace("\\-", "-")
@@ -32,25 +32,39 @@ def test_help_has_an_example_that_is_accepted(gis, verb):
 
 def test_versions(gis):
     answer = gis("--version")
-    assert answer.status == 0 and re.fullmatch(rf"overlay-gis {re.escape(__version__)} \(GDAL [\d.]+, Shapely [\d.]+, GEOS [\d.]+\)\n", answer.out)
+    assert answer.status == 0 and re.fullmatch(
+        rf"overlay-gis {re.escape(__version__)} \(GDAL [\d.]+, Shapely [\d.]+, GEOS [\d.]+\)\n", answer.out
+    )
 
 
-@pytest.mark.parametrize("words", [[], ["fly"], ["run", "xor", "a", "b", "-o", "c.gpkg"], ["run", "union", "a", "b"], ["explain", "a", "x"]])
+@pytest.mark.parametrize(
+    "words", [[], ["fly"], ["run", "xor", "a", "b", "-o", "c.gpkg"], ["run", "union", "a", "b"], ["explain", "a", "x"]]
+)
 def test_command_lines_that_are_not_accepted(gis, words):
     answer = gis(*words)
     assert answer.status == 2 and answer.err.startswith("usage: ")
 
 
 def test_the_script_as_a_user_calls_it(tmp_path, program):
-    a, b = write(tmp_path / "a.gpkg", [box(EAST, NORTH, EAST + 2, NORTH + 2)]), write(tmp_path / "b.gpkg", [box(EAST + 1, NORTH, EAST + 3, NORTH + 2)])
-    done = subprocess.run([COMMAND, "run", "union", a, b, "-o", "out.gpkg"], cwd=tmp_path, stderr=subprocess.PIPE, check=False)
+    a, b = write(tmp_path / "a.gpkg", [box(EAST, NORTH, EAST + 2, NORTH + 2)]), write(
+        tmp_path / "b.gpkg", [box(EAST + 1, NORTH, EAST + 3, NORTH + 2)]
+    )
+    done = subprocess.run(
+        [COMMAND, "run", "union", a, b, "-o", "out.gpkg"], cwd=tmp_path, stderr=subprocess.PIPE, check=False
+    )
     assert done.returncode == 0 and done.stderr.decode().splitlines()[-1] == "overlay-gis: out.gpkg: 1 polygons"
 
 
 def test_a_reader_that_goes_away(tmp_path):
     (tmp_path / "a.wkt").write_text("\n".join(f"POLYGON (({k} 0, {k + 1} 0, {k} 1, {k} 0))" for k in range(50_000)))
-    done = subprocess.run(f"{sys.executable} {COMMAND} show a.wkt | head -c 10", shell=True, cwd=tmp_path, capture_output=True, check=False)
-    assert done.stderr == b"" and done.stdout == b'<svg xmlns'
+    done = subprocess.run(
+        f"{sys.executable} {COMMAND} show a.wkt | head -c 10",
+        shell=True,
+        cwd=tmp_path,
+        capture_output=True,
+        check=False,
+    )
+    assert done.stderr == b"" and done.stdout == b"<svg xmlns"
 
 
 def test_the_manual_page_tells_what_the_program_knows(program):
@@ -79,5 +93,19 @@ def test_zsh_completes_all_options(verb):
     text = (TOP / "completions" / "_overlay-gis").read_text()
     line = next(line for line in text.splitlines() if line.strip().startswith(f"{verb})"))
     for name in ("help", "out", "grid"):
-        line = line.replace(f"${name}", next(whole for whole in text.splitlines() if whole.strip().startswith(f"{name}=")))
+        line = line.replace(
+            f"${name}", next(whole for whole in text.splitlines() if whole.strip().startswith(f"{name}="))
+        )
     assert options_of(verb) == set(re.findall(r"--[a-z-]+", line))
+
+
+@pytest.mark.parametrize("terminal", [True, False])
+def test_progress_is_said_on_a_terminal_alone(capsys, monkeypatch, terminal):
+    monkeypatch.setattr(messages, "PATIENCE", 0)
+    monkeypatch.setattr(messages, "PAUSE", 0)
+    monkeypatch.setattr(sys.stderr, "isatty", lambda: terminal)
+    assert list(messages.followed(range(4), "reading a.gpkg", 4)) == [0, 1, 2, 3]
+    with messages.during("overlay union"):
+        pass
+    told = capsys.readouterr().err
+    assert ("reading a.gpkg: 50%" in told and "overlay union" in told) if terminal else told == ""

@@ -21,10 +21,14 @@ def test_the_place_that_the_program_tells(gis, program):
 
 def test_the_end_of_a_text(gis):
     Path("a.wkt").write_bytes(b"POLYGON ((0 0")
-    assert gis("explain", "a.wkt", "13").out.startswith("a.wkt: line 1, column 14: the end of the text, before it was complete")
+    assert gis("explain", "a.wkt", "13").out.startswith(
+        "a.wkt: line 1, column 14: the end of the text, before it was complete"
+    )
 
 
-@pytest.mark.parametrize("head, words", [(b"\xef\xbb\xbf", "a byte order mark of UTF-8"), (b"\xff\xfe", "a byte order mark of UTF-16")])
+@pytest.mark.parametrize(
+    "head, words", [(b"\xef\xbb\xbf", "a byte order mark of UTF-8"), (b"\xff\xfe", "a byte order mark of UTF-16")]
+)
 def test_byte_order_marks(gis, head, words):
     Path("a.wkt").write_bytes(head + b"POLYGON EMPTY")
     assert words in gis("explain", "a.wkt", "0").out

@@ -72,11 +72,21 @@ def test_intersections_have_the_areas_that_shapely_finds(gis, tmp_path):
 def test_fields_are_kept(gis, tmp_path):
     first = [box(EAST, NORTH, EAST + 10, NORTH + 10), box(EAST + 10, NORTH, EAST + 20, NORTH + 10)]
     second = [box(EAST + 5, NORTH, EAST + 15, NORTH + 5)]
-    a = write(tmp_path / "a.gpkg", first, fields={"number": [7, 8], "owner": ["Ada", "Grace, née Øst"], "share": [0.25, 1.5]})
+    a = write(
+        tmp_path / "a.gpkg", first, fields={"number": [7, 8], "owner": ["Ada", "Grace, née Øst"], "share": [0.25, 1.5]}
+    )
     b = write(tmp_path / "b.shp", second, fields={"zone": ["park"]})
     assert gis("faces", a, b, "-o", "faces.gpkg", "--keep-a", "number,owner,share", "--keep-b", "zone").status == 0
-    found = sorted((fields["area"], fields["a_number"], fields["a_owner"], fields["a_share"], fields["b_zone"]) for _, fields in read("faces.gpkg"))
-    wanted = [(25.0, 7, "Ada", 0.25, "park"), (25.0, 8, "Grace, née Øst", 1.5, "park"), (75.0, 7, "Ada", 0.25, None), (75.0, 8, "Grace, née Øst", 1.5, None)]
+    found = sorted(
+        (fields["area"], fields["a_number"], fields["a_owner"], fields["a_share"], fields["b_zone"])
+        for _, fields in read("faces.gpkg")
+    )
+    wanted = [
+        (25.0, 7, "Ada", 0.25, "park"),
+        (25.0, 8, "Grace, née Øst", 1.5, "park"),
+        (75.0, 7, "Ada", 0.25, None),
+        (75.0, 8, "Grace, née Øst", 1.5, None),
+    ]
     assert sorted(found, key=str) == sorted(wanted, key=str)
 
 
@@ -85,8 +95,12 @@ def test_features_that_overlap_are_all_told(gis, tmp_path):
     a = write(tmp_path / "a.gpkg", first, fields={"number": [7, 8]})
     answer = gis("faces", a, write(tmp_path / "b.gpkg", []), "-o", "faces.gpkg", "--keep-a", "number")
     assert answer.status == 0
-    assert sorted((fields["a"], fields["b"], fields["area"], fields["a_number"]) for _, fields in read("faces.gpkg")) == [
-        ("1", None, 50.0, "7"), ("1,2", None, 50.0, "7,8"), ("2", None, 50.0, "8"),
+    assert sorted(
+        (fields["a"], fields["b"], fields["area"], fields["a_number"]) for _, fields in read("faces.gpkg")
+    ) == [
+        ("1", None, 50.0, "7"),
+        ("1,2", None, 50.0, "7,8"),
+        ("2", None, 50.0, "8"),
     ]
 
 
@@ -94,7 +108,10 @@ def test_a_hole_is_no_face_and_an_island_in_it_is(gis, tmp_path):
     ring = box(EAST, NORTH, EAST + 9, NORTH + 9).difference(box(EAST + 1, NORTH + 1, EAST + 8, NORTH + 8))
     island = box(EAST + 3, NORTH + 3, EAST + 4, NORTH + 4)
     faces = faces_of(gis, tmp_path, [ring], [island], "0.001")
-    assert sorted((fields["area"], fields["a"], fields["b"]) for _, fields in faces) == [(1.0, None, "1"), (32.0, "1", None)]
+    assert sorted((fields["area"], fields["a"], fields["b"]) for _, fields in faces) == [
+        (1.0, None, "1"),
+        (32.0, "1", None),
+    ]
 
 
 def test_layers_without_features(gis, tmp_path):
@@ -111,7 +128,12 @@ def test_counts_that_do_not_belong_to_the_features_are_not_believed(gis, tmp_pat
     a = write(tmp_path / "a.gpkg", [box(EAST, NORTH, EAST + 1, NORTH + 1)])
     b = write(tmp_path / "b.gpkg", [])
     square = ["0 0 0 1000 1 0", "0 0 1000 0 1 0", "0 1000 1000 1000 1 0", "1000 0 1000 1000 1 0"]
-    for lines, words in ((square, None), (square[:3], "lead"), (square[:3] + ["1000 0 1000 1000 2 0"], "2 times"), (square + ["0 0 7 7 1 0"], "0 times")):
+    for lines, words in (
+        (square, None),
+        (square[:3], "lead"),
+        (square[:3] + ["1000 0 1000 1000 2 0"], "2 times"),
+        (square + ["0 0 7 7 1 0"], "0 times"),
+    ):
         pretend("cat <<END\n" + "\n".join(lines) + "\nEND\n")
         answer = gis("faces", a, b, "-o", "faces.gpkg", "--overwrite")
         assert answer.status == (1 if words else 0), answer.err
@@ -135,4 +157,6 @@ def test_pixels_of_a_segment():
         p, q = sorted((rng.randint(-6, 6), rng.randint(-6, 6)) for _ in range(2))
         if p != q:
             low, high = sorted((p[1], q[1]))
-            assert {(x, y) for x in range(p[0], q[0] + 1) for y in range(low, high + 1) if meets(p, q, (x, y))} == pixels_of(p, q)
+            assert {
+                (x, y) for x in range(p[0], q[0] + 1) for y in range(low, high + 1) if meets(p, q, (x, y))
+            } == pixels_of(p, q)

@@ -16,21 +16,26 @@ def of(unit, x="0", y="0"):
     return frame.Frame(Decimal(unit), (Decimal(x), Decimal(y)), None)
 
 
-@pytest.mark.parametrize("x, wanted", [(0.5, 1), (1.5, 2), (-0.5, 0), (-1.5, -1), (0.25, 0), (-0.75, -1), (2.0, 2), (0.49999999999999994, 0)])
+@pytest.mark.parametrize(
+    "x, wanted", [(0.5, 1), (1.5, 2), (-0.5, 0), (-1.5, -1), (0.25, 0), (-0.75, -1), (2.0, 2), (0.49999999999999994, 0)]
+)
 def test_halves_go_upward(x, wanted):
-    assert of("1").rounded()(x, x) == (wanted, wanted)
+    assert of("1").rounded(x, x) == (wanted, wanted)
 
 
 def test_rounding_is_that_of_the_exact_number():
-    place, unit = of("0.001", "412000", "5654000.5").rounded(), Fraction(1, 1000)
+    place, unit = of("0.001", "412000", "5654000.5").rounded, Fraction(1, 1000)
     for k in range(2000):
         x, y = 412000 + k * 0.0005, 5654000 + k * 0.31415
-        assert place(x, y) == (floor((Fraction(x) - 412000) / unit + Fraction(1, 2)), floor((Fraction(y) - Fraction("5654000.5")) / unit + Fraction(1, 2)))
+        assert place(x, y) == (
+            floor((Fraction(x) - 412000) / unit + Fraction(1, 2)),
+            floor((Fraction(y) - Fraction("5654000.5")) / unit + Fraction(1, 2)),
+        )
 
 
 def test_decimals_of_the_grid_come_back_as_they_were():
     held = of("0.001", "411991", "5653990")
-    place, back = held.rounded(), held.placed()
+    place, back = held.rounded, held.placed
     for k in range(0, 1_000_000, 997):
         x, y = float(f"412{k:06d}e-3"), float(f"5654{k:06d}e-3")
         assert back(*place(x, y)) == (x, y)
@@ -38,7 +43,7 @@ def test_decimals_of_the_grid_come_back_as_they_were():
 
 def test_no_corner_moves_further_than_told():
     held = of("0.01", "400000", "5600000")
-    place, back = held.rounded(), held.placed()
+    place, back = held.rounded, held.placed
     for k in range(2000):
         x, y = 412000 + k * 0.0137, 5654000 - k * 0.00731
         a, b = back(*place(x, y))
@@ -60,7 +65,7 @@ def test_the_whole_range_is_used():
     extent = (2 * frame.LIMIT - 2) * 0.001
     box = Box(0.0, 0.0, extent, extent)
     held = frame.chosen("a", box, None, Decimal("0.001"), None)
-    place = held.rounded()
+    place = held.rounded
     assert max(map(abs, place(0.0, 0.0) + place(extent, extent))) <= 1 << 28
 
 
@@ -73,7 +78,9 @@ def test_the_finest_that_fits_is_offered_or_taken():
 
 def test_an_origin_that_is_too_far_away_is_refused():
     with pytest.raises(Refusal, match="off the limits"):
-        frame.chosen("a", Box(412000.0, 5654000.0, 412100.0, 5654100.0), None, Decimal("0.001"), (Decimal(0), Decimal(0)))
+        frame.chosen(
+            "a", Box(412000.0, 5654000.0, 412100.0, 5654100.0), None, Decimal("0.001"), (Decimal(0), Decimal(0))
+        )
 
 
 @pytest.mark.parametrize("text", ["0", "-1", "x", "nan", "inf"])

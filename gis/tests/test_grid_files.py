@@ -24,13 +24,20 @@ def test_both_halves_are_a_run(gis, tmp_path, program):
 
 
 def test_the_text_of_a_layer(gis, tmp_path):
-    shapes = [box(EAST, NORTH, EAST + 4.0004, NORTH + 2), box(EAST + 5, NORTH, EAST + 6, NORTH + 1).union(box(EAST + 8, NORTH, EAST + 9, NORTH + 1))]
+    shapes = [
+        box(EAST, NORTH, EAST + 4.0004, NORTH + 2),
+        box(EAST + 5, NORTH, EAST + 6, NORTH + 1).union(box(EAST + 8, NORTH, EAST + 9, NORTH + 1)),
+    ]
     answer = gis("to-grid", write(tmp_path / "a.gpkg", shapes), "-o", "grid", "--origin", f"{EAST},{NORTH}")
     assert answer.status == 0 and "3 polygons, 12 segments" in answer.err
     lines = Path("grid/a.wkt").read_text().splitlines()
     assert lines[0] == "POLYGON ((4000 0, 4000 2000, 0 2000, 0 0, 4000 0))"
     assert lines[1].startswith("MULTIPOLYGON (((") and lines[1].count("((") == 2
-    assert json.loads(Path("grid/frame.json").read_text()) == {"grid": "0.001", "origin": ["412000", "5654000"], "system": UTM}
+    assert json.loads(Path("grid/frame.json").read_text()) == {
+        "grid": "0.001",
+        "origin": ["412000", "5654000"],
+        "system": UTM,
+    }
 
 
 def test_a_layer_comes_back_as_it_was(gis, tmp_path):
@@ -42,7 +49,9 @@ def test_a_layer_comes_back_as_it_was(gis, tmp_path):
 
 
 def test_edges_come_back_as_lines(gis, tmp_path, program):
-    a, b = write(tmp_path / "a.gpkg", [box(EAST, NORTH, EAST + 4, NORTH + 4)]), write(tmp_path / "b.gpkg", [box(EAST + 2, NORTH + 2, EAST + 6, NORTH + 6)])
+    a, b = write(tmp_path / "a.gpkg", [box(EAST, NORTH, EAST + 4, NORTH + 4)]), write(
+        tmp_path / "b.gpkg", [box(EAST + 2, NORTH + 2, EAST + 6, NORTH + 6)]
+    )
     assert gis("to-grid", a, b, "-o", "grid", "--grid", "1").status == 0
     overlaid(program, "edges", "grid/a.wkt", "grid/b.wkt", "grid/edges.txt")
     assert gis("from-grid", "grid/edges.txt", "-o", "edges.gpkg").status == 0
@@ -52,12 +61,16 @@ def test_edges_come_back_as_lines(gis, tmp_path, program):
 
 
 def test_a_later_layer_takes_the_frame_that_is_there(gis, tmp_path):
-    a, b = write(tmp_path / "a.gpkg", [box(EAST, NORTH, EAST + 4, NORTH + 4)]), write(tmp_path / "b.gpkg", [box(EAST - 7, NORTH, EAST + 1, NORTH + 4)])
+    a, b = write(tmp_path / "a.gpkg", [box(EAST, NORTH, EAST + 4, NORTH + 4)]), write(
+        tmp_path / "b.gpkg", [box(EAST - 7, NORTH, EAST + 1, NORTH + 4)]
+    )
     assert gis("to-grid", a, "-o", "one").status == 0
     assert gis("to-grid", b, "-o", "two", "--frame", "one/frame.json").status == 0
     assert Path("two/frame.json").read_text() == Path("one/frame.json").read_text()
     assert "-7000 0" in Path("two/b.wkt").read_text()
-    far, other = write(tmp_path / "far.gpkg", [box(0, 0, 1, 1)]), write(tmp_path / "other.gpkg", [box(EAST, NORTH, EAST + 1, NORTH + 1)], "EPSG:3035")
+    far, other = write(tmp_path / "far.gpkg", [box(0, 0, 1, 1)]), write(
+        tmp_path / "other.gpkg", [box(EAST, NORTH, EAST + 1, NORTH + 1)], "EPSG:3035"
+    )
     assert "off the limits of its grid" in gis("to-grid", far, "-o", "two", "--frame", "one/frame.json").err
     assert "is a frame of EPSG:25832" in gis("to-grid", other, "-o", "two", "--frame", "one/frame.json").err
 
@@ -76,7 +89,17 @@ def test_dissolved_layers(gis, tmp_path):
     assert [shape.area for shape, _ in read("back.gpkg")] == [24]
 
 
-@pytest.mark.parametrize("text", ["POLYGON ((0 0, 1 0", "POLYGON ((0 0, 1.5 0, 0 1, 0 0))", "POINT (1 1)", "POLYGON ((0 0, 1 0, 0 1, 0 0)) x", "1 2 3\n", "0 0 1 1 1 x\n"])
+@pytest.mark.parametrize(
+    "text",
+    [
+        "POLYGON ((0 0, 1 0",
+        "POLYGON ((0 0, 1.5 0, 0 1, 0 0))",
+        "POINT (1 1)",
+        "POLYGON ((0 0, 1 0, 0 1, 0 0)) x",
+        "1 2 3\n",
+        "0 0 1 1 1 x\n",
+    ],
+)
 def test_texts_that_are_none(gis, tmp_path, text):
     Path("frame.json").write_text('{"grid": "1", "origin": ["0", "0"], "system": null}')
     Path("t.wkt").write_text(text)
@@ -85,7 +108,16 @@ def test_texts_that_are_none(gis, tmp_path, text):
     assert not Path("out.gpkg").exists()
 
 
-@pytest.mark.parametrize("held", [None, "", "[]", '{"grid": "0", "origin": ["0", "0"], "system": null}', '{"grid": "1", "origin": ["0"], "system": null}'])
+@pytest.mark.parametrize(
+    "held",
+    [
+        None,
+        "",
+        "[]",
+        '{"grid": "0", "origin": ["0", "0"], "system": null}',
+        '{"grid": "1", "origin": ["0"], "system": null}',
+    ],
+)
 def test_frames_that_are_none(gis, tmp_path, held):
     Path("t.wkt").write_text("POLYGON EMPTY")
     if held is not None:
@@ -94,7 +126,15 @@ def test_frames_that_are_none(gis, tmp_path, held):
     assert answer.status in (1, 3) and answer.err.count("\n") == 1
 
 
-@pytest.mark.parametrize("text, count", [("", 0), ("MULTIPOLYGON EMPTY\n", 0), ("\ufeffpolygon((0 0,1 0,0 1,0 0))\r\n", 1), ("MultiPolygon ( ((0 0,1 0,0 1,0 0)) , ((5 5 , 6 5,5 6,5 5)) )", 2)])
+@pytest.mark.parametrize(
+    "text, count",
+    [
+        ("", 0),
+        ("MULTIPOLYGON EMPTY\n", 0),
+        ("\ufeffpolygon((0 0,1 0,0 1,0 0))\r\n", 1),
+        ("MultiPolygon ( ((0 0,1 0,0 1,0 0)) , ((5 5 , 6 5,5 6,5 5)) )", 2),
+    ],
+)
 def test_texts_in_the_grammar(gis, tmp_path, text, count):
     Path("frame.json").write_text('{"grid": "1", "origin": ["0", "0"], "system": null}')
     Path("t.wkt").write_text(text, encoding="utf-8")

@@ -29,7 +29,13 @@ def clone(tmp_path, program):
     def make(log):
         (tmp_path / "gate.log").write_text(log)
         words = [tree / "release/make", "--log", tmp_path / "gate.log", tmp_path / "made"]
-        return subprocess.run(words, env={**os.environ, "PATH": f"{tools}:{os.environ['PATH']}"}, capture_output=True, text=True, check=False)
+        return subprocess.run(
+            words,
+            env={**os.environ, "PATH": f"{tools}:{os.environ['PATH']}"},
+            capture_output=True,
+            text=True,
+            check=False,
+        )
 
     make.tree = tree
     return make
@@ -42,15 +48,29 @@ def test_a_release(clone, tmp_path):
     subprocess.run(["sha256sum", "--check", "--quiet", "SHA256SUMS"], cwd=made, check=True)
     assert len((made / "SHA256SUMS").read_text().splitlines()) == sum(path.is_file() for path in made.rglob("*")) - 1
     gate = (made / "GATE").read_text().splitlines()
-    commit = subprocess.run(["git", "rev-parse", "HEAD"], cwd=TOP, stdout=subprocess.PIPE, text=True, check=True).stdout.strip()
+    commit = subprocess.run(
+        ["git", "rev-parse", "HEAD"], cwd=TOP, stdout=subprocess.PIPE, text=True, check=True
+    ).stdout.strip()
     assert gate == [f"commit {commit}", "kit of version", "the gate's last lines:", *PASSED.splitlines()]
     a = write(tmp_path / "a.gpkg", [box(EAST, NORTH, EAST + 2, NORTH + 2)])
     plain = {name: value for name, value in os.environ.items() if name != "OVERLAY"}
-    used = subprocess.run([made / "gis/overlay-gis", "run", "union", a, a, "-o", tmp_path / "out.gpkg"], env={**plain, "PATH": "/usr/bin:/bin"}, check=False)
+    used = subprocess.run(
+        [made / "gis/overlay-gis", "run", "union", a, a, "-o", tmp_path / "out.gpkg"],
+        env={**plain, "PATH": "/usr/bin:/bin"},
+        check=False,
+    )
     assert used.returncode == 0 and [shape.area for shape, _ in read(tmp_path / "out.gpkg")] == [4]
 
 
-@pytest.mark.parametrize("log, words", [("", "doesn't say that the gate passed"), ("344 passed, 1 failed\n", "doesn't say"), (PASSED + "1 failed, 145 passed in 5.60s\n", "failed"), (PASSED + "gis/tests: NOT RUN: ..\n", "didn't run")])
+@pytest.mark.parametrize(
+    "log, words",
+    [
+        ("", "doesn't say that the gate passed"),
+        ("344 passed, 1 failed\n", "doesn't say"),
+        (PASSED + "1 failed, 145 passed in 5.60s\n", "failed"),
+        (PASSED + "gis/tests: NOT RUN: ..\n", "didn't run"),
+    ],
+)
 def test_a_gate_that_did_not_pass(clone, tmp_path, log, words):
     done = clone(log)
     assert done.returncode == 1 and words in done.stderr and not (tmp_path / "made").exists()
@@ -74,10 +94,17 @@ def test_the_recipe_by_ogr2ogr(tmp_path, operation, judge):
     subprocess.run([TOP / "gis/by-ogr2ogr", operation, a, b, out], env={**os.environ, **place}, check=True)
     wanted, result = getattr(unary_union(first), judge)(unary_union(second)), read(out)
     assert all(shape.is_valid for shape, _ in result)
-    assert abs(sum(shape.area for shape, _ in result) - wanted.area) <= 0.00071 * sum(shape.length for shape in first + second)
+    assert abs(sum(shape.area for shape, _ in result) - wanted.area) <= 0.00071 * sum(
+        shape.length for shape in first + second
+    )
 
 
 def test_the_recipe_stops_where_a_file_cannot_be_read(tmp_path):
     b = write(tmp_path / "b.gpkg", [box(EAST, NORTH, EAST + 2, NORTH + 2)])
-    done = subprocess.run([TOP / "gis/by-ogr2ogr", "union", tmp_path / "none.gpkg", b, tmp_path / "out.gpkg"], env={**os.environ, "GRID": "1", "X": "0", "Y": "0"}, capture_output=True, check=False)
+    done = subprocess.run(
+        [TOP / "gis/by-ogr2ogr", "union", tmp_path / "none.gpkg", b, tmp_path / "out.gpkg"],
+        env={**os.environ, "GRID": "1", "X": "0", "Y": "0"},
+        capture_output=True,
+        check=False,
+    )
     assert done.returncode != 0 and not (tmp_path / "out.gpkg").exists()

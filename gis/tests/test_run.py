@@ -13,7 +13,12 @@ from shapely.ops import unary_union
 
 from conftest import COMMAND, EAST, NORTH, blobs, parcels, read, write
 
-JUDGE = {"union": "union", "intersection": "intersection", "difference": "difference", "symdifference": "symmetric_difference"}
+JUDGE = {
+    "union": "union",
+    "intersection": "intersection",
+    "difference": "difference",
+    "symdifference": "symmetric_difference",
+}
 
 
 def perimeter(shapes):
@@ -65,9 +70,11 @@ def test_formats_give_the_same_bytes(gis, tmp_path):
 
 @pytest.mark.parametrize("ending", ["gpkg", "shp", "geojson", "fgb"])
 def test_results_are_written_as_the_ending_says(gis, tmp_path, ending):
-    a, b = write(tmp_path / "a.gpkg", [box(EAST, NORTH, EAST + 4, NORTH + 4)]), write(tmp_path / "b.gpkg", [box(EAST + 2, NORTH + 2, EAST + 6, NORTH + 6)])
+    a, b = write(tmp_path / "a.gpkg", [box(EAST, NORTH, EAST + 4, NORTH + 4)]), write(
+        tmp_path / "b.gpkg", [box(EAST + 2, NORTH + 2, EAST + 6, NORTH + 6)]
+    )
     assert gis("run", "intersection", a, b, "-o", f"out.{ending}").status == 0
-    (shape, fields), = read(tmp_path / f"out.{ending}")
+    ((shape, fields),) = read(tmp_path / f"out.{ending}")
     assert shape.equals(box(EAST + 2, NORTH + 2, EAST + 4, NORTH + 4))
     assert (fields["id"], fields["area"]) == (1, 4.0)
     assert gdal.OpenEx(f"out.{ending}").GetLayer(0).GetSpatialRef().GetName() == "ETRS89 / UTM zone 32N"
@@ -99,7 +106,9 @@ def test_overlaps_are_told_and_united(gis, tmp_path):
 
 
 def test_a_small_overlap_among_many_parcels_is_told(gis, tmp_path):
-    first = [box(EAST + 30 * k, NORTH, EAST + 30 * k + 30, NORTH + 30) for k in range(200)] + [box(EAST + 10, NORTH + 10, EAST + 10.5, NORTH + 10.5)]
+    first = [box(EAST + 30 * k, NORTH, EAST + 30 * k + 30, NORTH + 30) for k in range(200)] + [
+        box(EAST + 10, NORTH + 10, EAST + 10.5, NORTH + 10.5)
+    ]
     a, b = write(tmp_path / "a.gpkg", first), write(tmp_path / "b.gpkg", [box(EAST, NORTH, EAST + 1, NORTH + 1)])
     assert "a.gpkg: warning: its polygons have" in gis("run", "union", a, b, "-o", "out.gpkg").err
 
@@ -114,16 +123,20 @@ def test_empty_layers(gis, tmp_path):
 
 
 def test_z_coordinates_are_left_out(gis, tmp_path):
-    solid = ogr.CreateGeometryFromWkt(f"POLYGON Z (({EAST} {NORTH} 7, {EAST + 4} {NORTH} 7.5, {EAST + 4} {NORTH + 4} 8, {EAST} {NORTH} 7))")
+    solid = ogr.CreateGeometryFromWkt(
+        f"POLYGON Z (({EAST} {NORTH} 7, {EAST + 4} {NORTH} 7.5, {EAST + 4} {NORTH + 4} 8, {EAST} {NORTH} 7))"
+    )
     a, b = write(tmp_path / "a.gpkg", [solid], kind=ogr.wkbPolygon25D), write(tmp_path / "b.gpkg", [])
     answer = gis("run", "union", a, b, "-o", "out.gpkg")
     assert "has Z coordinates, which are left out" in answer.err
-    (shape, _), = read("out.gpkg")
+    ((shape, _),) = read("out.gpkg")
     assert shape.area == 8 and not shape.has_z
 
 
 def test_curves_become_lines(gis, tmp_path):
-    curve = ogr.CreateGeometryFromWkt(f"CURVEPOLYGON (CIRCULARSTRING ({EAST} {NORTH}, {EAST + 10} {NORTH}, {EAST} {NORTH}))")
+    curve = ogr.CreateGeometryFromWkt(
+        f"CURVEPOLYGON (CIRCULARSTRING ({EAST} {NORTH}, {EAST + 10} {NORTH}, {EAST} {NORTH}))"
+    )
     a, b = write(tmp_path / "a.gpkg", [curve]), write(tmp_path / "b.gpkg", [])
     assert gis("run", "union", a, b, "-o", "out.gpkg").status == 0
     assert sum(shape.area for shape, _ in read("out.gpkg")) == pytest.approx(Point(0, 0).buffer(5, 90).area, rel=0.002)
@@ -138,7 +151,11 @@ def test_a_byte_order_mark_is_no_fault(gis, tmp_path):
 
 def test_systems_have_to_be_one(gis, tmp_path):
     shape = [box(EAST, NORTH, EAST + 4, NORTH + 4)]
-    a, b, c = write(tmp_path / "a.gpkg", shape), write(tmp_path / "b.gpkg", shape, "EPSG:25833"), write(tmp_path / "c.shp", shape, None)
+    a, b, c = (
+        write(tmp_path / "a.gpkg", shape),
+        write(tmp_path / "b.gpkg", shape, "EPSG:25833"),
+        write(tmp_path / "c.shp", shape, None),
+    )
     answer = gis("run", "union", a, b, "-o", "out.gpkg")
     assert answer.status == 3 and "b.gpkg: has EPSG:25833, and" in answer.err and "has EPSG:25832" in answer.err
     answer = gis("run", "union", a, c, "-o", "out.gpkg")
@@ -148,7 +165,12 @@ def test_systems_have_to_be_one(gis, tmp_path):
 
 def test_layers_of_one_file(gis, tmp_path):
     write(tmp_path / "a.gpkg", [box(EAST, NORTH, EAST + 4, NORTH + 4)])
-    gdal.VectorTranslate("a.gpkg", gdal.OpenEx(write(tmp_path / "b.gpkg", [box(EAST + 1, NORTH, EAST + 2, NORTH + 4)])), accessMode="append", layerName="b")
+    gdal.VectorTranslate(
+        "a.gpkg",
+        gdal.OpenEx(write(tmp_path / "b.gpkg", [box(EAST + 1, NORTH, EAST + 2, NORTH + 4)])),
+        accessMode="append",
+        layerName="b",
+    )
     answer = gis("run", "union", "a.gpkg", "b.gpkg", "-o", "out.gpkg")
     assert answer.status == 3 and "has 2 layers (a, b): name one, as a.gpkg|layername=a" in answer.err
     assert gis("run", "difference", "a.gpkg|layername=a", "a.gpkg|layername=b", "-o", "out.gpkg").status == 0
@@ -156,7 +178,15 @@ def test_layers_of_one_file(gis, tmp_path):
     assert "has no layer c, but a, b" in gis("run", "union", "a.gpkg|layername=c", "b.gpkg", "-o", "out2.gpkg").err
 
 
-@pytest.mark.parametrize("name, data", [("none.gpkg", None), ("empty.gpkg", b""), ("empty.geojson", b""), ("broken.geojson", b'{"type": "FeatureCollection", "features": [{')])
+@pytest.mark.parametrize(
+    "name, data",
+    [
+        ("none.gpkg", None),
+        ("empty.gpkg", b""),
+        ("empty.geojson", b""),
+        ("broken.geojson", b'{"type": "FeatureCollection", "features": [{'),
+    ],
+)
 def test_unreadable_files(gis, tmp_path, name, data):
     if data is not None:
         (tmp_path / name).write_bytes(data)
@@ -184,7 +214,12 @@ def test_what_is_no_polygon_is_refused(gis, tmp_path):
 def test_outputs_that_cannot_be(gis, tmp_path):
     a = write(tmp_path / "a.gpkg", [box(EAST, NORTH, EAST + 4, NORTH + 4)])
     (tmp_path / "there.gpkg").write_text("mine")
-    for out, words, status in (("there.gpkg", "is there already", 3), ("out.xyz", "files that end in .xyz", 3), ("out", "has no ending", 3), ("no/out.gpkg", "its folder isn't there", 1)):
+    for out, words, status in (
+        ("there.gpkg", "is there already", 3),
+        ("out.xyz", "files that end in .xyz", 3),
+        ("out", "has no ending", 3),
+        ("no/out.gpkg", "its folder isn't there", 1),
+    ):
         answer = gis("run", "union", a, a, "-o", out)
         assert answer.status == status and answer.err.startswith(f"overlay-gis: {out}: ")
         assert words in answer.err
@@ -195,7 +230,10 @@ def test_the_program_refuses(gis, tmp_path, pretend):
     a = write(tmp_path / "a.gpkg", [box(EAST, NORTH, EAST + 4, NORTH + 4)])
     pretend("echo 'overlay: 5 too many segments: 1048577' >&2; exit 3\n")
     answer = gis("run", "union", a, a, "-o", "out.gpkg")
-    assert answer.status == 3 and "overlay: overlay says: 5 too many segments: 1048577 (the limit of both layers" in answer.err
+    assert (
+        answer.status == 3
+        and "overlay: overlay says: 5 too many segments: 1048577 (the limit of both layers" in answer.err
+    )
     pretend("echo 'overlay: A: 1 syntax at 3' >&2; exit 3\n")
     assert f"overlay-gis: {a}: overlay says: 1 syntax at 3" in gis("run", "union", a, a, "-o", "out.gpkg").err
     pretend("kill -9 $$\n")
@@ -208,7 +246,9 @@ def test_no_program(gis, tmp_path, monkeypatch):
     a = write(tmp_path / "a.gpkg", [box(EAST, NORTH, EAST + 4, NORTH + 4)])
     monkeypatch.setenv("OVERLAY", "/nowhere/overlay")
     answer = gis("run", "union", a, a, "-o", "out.gpkg")
-    assert answer.status == 1 and answer.err.splitlines()[-1] == "overlay-gis: /nowhere/overlay: No such file or directory"
+    assert (
+        answer.status == 1 and answer.err.splitlines()[-1] == "overlay-gis: /nowhere/overlay: No such file or directory"
+    )
 
 
 def test_borders_nearly_on_one_another(gis, tmp_path):
@@ -223,18 +263,38 @@ def test_borders_nearly_on_one_another(gis, tmp_path):
 
 
 def test_a_star_of_thin_polygons(gis, tmp_path):
-    star = Polygon([(EAST, NORTH), (EAST + 90, NORTH + 31.7), (EAST + 3, NORTH + 55), (EAST + 60.2, NORTH), (EAST + 50.1, NORTH + 70), (EAST, NORTH)])
+    star = Polygon(
+        [
+            (EAST, NORTH),
+            (EAST + 90, NORTH + 31.7),
+            (EAST + 3, NORTH + 55),
+            (EAST + 60.2, NORTH),
+            (EAST + 50.1, NORTH + 70),
+            (EAST, NORTH),
+        ]
+    )
     a, b = write(tmp_path / "a.gpkg", [star]), write(tmp_path / "b.gpkg", [])
     answer = gis("run", "union", a, b, "-o", "out.gpkg")
     assert answer.status == 0 and "overlap or cross themselves" in answer.err
     assert all(shape.is_valid for shape, _ in read("out.gpkg"))
 
 
-@pytest.mark.parametrize("out, room", [("out.gpkg", 40_000), ("out.gpkg", 150_000), ("out.geojson", 150_000), ("out.shp", 75_000), ("out.gpkg", 10)])
+@pytest.mark.parametrize(
+    "out, room",
+    [("out.gpkg", 40_000), ("out.gpkg", 150_000), ("out.geojson", 150_000), ("out.shp", 75_000), ("out.gpkg", 10)],
+)
 def test_an_output_that_has_no_room(tmp_path, out, room):
-    a, b = write(tmp_path / "a.gpkg", [Point(EAST + 3 * k, NORTH).buffer(1, 9) for k in range(220)]), write(tmp_path / "b.gpkg", [])
+    a, b = write(tmp_path / "a.gpkg", [Point(EAST + 3 * k, NORTH).buffer(1, 9) for k in range(220)]), write(
+        tmp_path / "b.gpkg", []
+    )
     words = [sys.executable, COMMAND, "run", "union", a, b, "-o", out]
-    done = subprocess.run(words, stderr=subprocess.PIPE, cwd=tmp_path, preexec_fn=lambda: resource.setrlimit(resource.RLIMIT_FSIZE, (room, room)), check=False)
+    done = subprocess.run(
+        words,
+        stderr=subprocess.PIPE,
+        cwd=tmp_path,
+        preexec_fn=lambda: resource.setrlimit(resource.RLIMIT_FSIZE, (room, room)),
+        check=False,
+    )
     lines = done.stderr.decode().splitlines()
     assert done.returncode == 1 and all(line.startswith("overlay-gis: ") for line in lines), lines
     assert not (tmp_path / out).exists()

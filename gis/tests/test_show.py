@@ -35,7 +35,14 @@ def test_originals_are_dashed_and_edges_solid_over_hot_pixels(gis, program):
     assert sorted(path["d"].count("M") for path in solid) == [6, 6]
     hot = [path for path in paths if path.get("fill") == "#ffdf80"]
     assert [path["d"].count("M") for path in hot] == [10]
-    assert {"Two <squares>", "a.wkt: layer, 1 polygon", "edges.txt: 12 rounded edges", "hot pixel", "edges of A", "2 grid units"} <= set(words)
+    assert {
+        "Two <squares>",
+        "a.wkt: layer, 1 polygon",
+        "edges.txt: 12 rounded edges",
+        "hot pixel",
+        "edges of A",
+        "2 grid units",
+    } <= set(words)
 
 
 def test_results_are_solid(gis):
