@@ -57,8 +57,6 @@ def parser() -> ArgumentParser:
 
 
 def main(words: list[str] | None = None) -> int:
-    for stream in (sys.stdout, sys.stderr):
-        stream.reconfigure(errors="backslashreplace")
     arguments = parser().parse_args(words)
     try:
         return arguments.main(arguments)
