@@ -19,7 +19,7 @@ from . import frame as frames
 from . import layers, options
 from .faults import FOUND, Refusal
 from .frame import Frame
-from .joined import Joined, gridded, side_for
+from .joined import Joined, gridded
 from .layers import Box, Column, Row, Source, area_name, common_system, is_polygonal, polygons_of
 from .messages import followed
 from .texts import polygons_in, twice_area
@@ -137,12 +137,12 @@ def overlap_rows(overlaps: list[Overlap]) -> Iterator[Row]:
         yield ogr.CreateGeometryFromWkb(wkb.dumps(overlap.shape)), (overlap.first, overlap.second, overlap.shape.area)
 
 
-def parity_area(source: Source, frame: Frame, box: Box | None) -> tuple[float, float]:
+def parity_area(source: Source, frame: Frame) -> tuple[float, float]:
     """The sum of the areas of all polygons, and the area that is covered where they are read by parity."""
     with TemporaryDirectory(prefix="overlay-gis-") as folder:
         place = Path(folder)
         layer = gridded(source, frame, place / "layer.wkt")
-        alone = Joined(place, frame, None, side_for(box, frame), [layer])
+        alone = Joined(place, frame, None, [layer])
         parity = sum(map(twice_area, polygons_in(alone.run("union"), source.name)))
         return frame.area(layer.written.twice_area), frame.area(parity)
 
@@ -188,6 +188,6 @@ def summarize(source: Source, seen: Checked, frame: Frame | None, thin: int, nam
     if thin:
         told.append(f"{thin:,} overlaps narrower than a grid unit")
     if frame and seen.shapes and seen.readable:
-        total, parity = parity_area(source, frame, seen.box)
+        total, parity = parity_area(source, frame)
         told.append(f"areas {total:,.10g} {name} in sum, {parity:,.10g} by parity")
     print(f"{source.name}: {', '.join(told)}")

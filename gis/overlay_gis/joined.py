@@ -41,7 +41,6 @@ class Joined:
     folder: Path
     frame: Frame
     system: osr.SpatialReference | None
-    side: int
     layers: list[Gridded]
 
     def run(self, command: str) -> str:
@@ -55,7 +54,7 @@ class Joined:
         names = (first.source.name, second.source.name if second else "none")
         inputs = program.Inputs(first.text, second.text if second else none, *names)
         out = self.folder / f"{command}.txt"
-        report = program.run(command, inputs, out, self.side)
+        report = program.run(command, inputs, out)
         return text_of(str(out)), report
 
 
@@ -147,12 +146,4 @@ def joined(
     with TemporaryDirectory(prefix="overlay-gis-") as folder:
         place = Path(folder)
         layers = [gridded(source, frame, place / f"{k}.wkt", dissolve) for k, source in enumerate(sources)]
-        yield Joined(place, frame, common, side_for(box, frame), layers)
-
-
-def side_for(box: Box | None, frame: Frame) -> int:
-    if box is None:
-        return program.SIDE
-    place = frame.rounded
-    (left, low), (right, high) = place(box.left, box.low), place(box.right, box.high)
-    return program.fitting_side(right - left, high - low)
+        yield Joined(place, frame, common, layers)

@@ -13,9 +13,6 @@ from .messages import during
 
 OPERATIONS = ("union", "intersection", "difference", "symdifference")
 
-# The program's default tile side, its greatest one, and the most tiles that it takes.
-SIDE, GREATEST_SIDE, TILES = 262_144, 33_554_432, 65_536
-
 HINTS = {
     "0": "the layer is too large: clip it, and join the answers",
     "5": "the limit of both layers together is 1,048,576 segments: clip them, and join the answers",
@@ -45,19 +42,9 @@ class Inputs:
     name_b: str
 
 
-def fitting_side(width: int, height: int) -> int:
-    """The least power of two, from the default side on, whose tiles over so many grid units are not too many."""
-    side = SIDE
-    while side < GREATEST_SIDE and (width // side + 1) * (height // side + 1) > TILES:
-        side *= 2
-    return side
-
-
-def run(command: str, inputs: Inputs, out: Path, side: int = SIDE) -> dict[str, int]:
+def run(command: str, inputs: Inputs, out: Path) -> dict[str, int]:
     """Runs a command on two texts, writes its answer to a file, and answers the numbers of its report by their names."""
     words = [located(), command, str(inputs.a), str(inputs.b), "--report"]
-    if side != SIDE:
-        words += ["--tile", str(side)]
     try:
         with open(out, "wb") as file, during(f"overlay {command}"):
             done = subprocess.run(words, stdout=file, stderr=subprocess.PIPE, check=False)
