@@ -298,3 +298,10 @@ def test_an_output_that_has_no_room(tmp_path, out, room):
     lines = done.stderr.decode().splitlines()
     assert done.returncode == 1 and all(line.startswith("overlay-gis: ") for line in lines), lines
     assert not (tmp_path / out).exists()
+
+
+def test_a_source_that_is_no_file(gis, tmp_path):
+    held = '{"type": "Polygon", "coordinates": [[[8.5, 50], [8.75, 50], [8.75, 50.25], [8.5, 50.25], [8.5, 50]]]}'
+    answer = gis("run", "union", held, write(tmp_path / "b.gpkg", [], "EPSG:4326"), "-o", "out.gpkg")
+    assert answer.status == 0 and "grid 0.000001 degrees, origin 8.5, 50" in answer.err
+    assert [shape.bounds for shape, _ in read("out.gpkg")] == [(8.5, 50.0, 8.75, 50.25)]
