@@ -58,6 +58,10 @@ class Joined:
         return text_of(str(out)), report
 
 
+def together(sources: Sequence[Source]) -> str:
+    return " and ".join(source.name for source in sources)
+
+
 def numbers(ids: Sequence[int]) -> str:
     """feature 3, or features 3, 7, 8, .."""
     told = ", ".join(map(str, ids[:NAMED])) + (", .." if len(ids) > NAMED else "")
@@ -141,7 +145,7 @@ def joined(
         seen = surveyed(source)
         box = seen.box.joined(box) if seen.box else box
     asked = frames.number(unit) if unit else None
-    frame = frames.chosen(" and ".join(names), box, common, asked, frames.point(origin) if origin else None)
+    frame = frames.chosen(together(sources), box, common, asked, frames.point(origin) if origin else None)
     say(frame.told(common))
     with TemporaryDirectory(prefix="overlay-gis-") as folder:
         place = Path(folder)

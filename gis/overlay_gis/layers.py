@@ -8,6 +8,7 @@ from __future__ import annotations
 
 import math
 import os
+import re
 import sys
 from dataclasses import dataclass, field
 from typing import Any, Iterable, Iterator, Sequence
@@ -27,6 +28,9 @@ Ring = list[Point]  # the first point again at its end
 Polygon = list[Ring]  # the shell first
 
 LAYER_MARK = "|layername="
+
+# What a connection string has that no message may tell.
+PASSWORD = re.compile(r"\b(password\s*=\s*)('[^']*'|\S+)", re.IGNORECASE)
 
 
 @dataclass
@@ -63,21 +67,22 @@ class Source:
     """A layer that is open for reading."""
 
     def __init__(self, name: str):
-        self.name, _, wanted = name.partition(LAYER_MARK)
+        source, _, self.wanted = name.partition(LAYER_MARK)
+        self.name = PASSWORD.sub(r"\1..", source)
         try:
-            self.dataset = gdal.OpenEx(self.name, gdal.OF_VECTOR | gdal.OF_READONLY)
+            self.dataset = gdal.OpenEx(source, gdal.OF_VECTOR | gdal.OF_READONLY)
         except RuntimeError as error:
-            raise Fault(self.name, without_name(error, self.name)) from error
+            raise Fault(self.name, without_name(error, source)) from error
         if self.dataset is None:
             raise Fault(self.name, "GDAL can't read it as a vector layer")
-        self.layer = self.chosen(wanted)
+        self.layer = self.chosen()
 
-    def chosen(self, wanted: str) -> ogr.Layer:
+    def chosen(self) -> ogr.Layer:
         names = [self.dataset.GetLayer(k).GetName() for k in range(self.dataset.GetLayerCount())]
-        if wanted:
-            if wanted not in names:
-                raise Refusal(self.name, f"has no layer {wanted}, but {', '.join(names) or 'none at all'}")
-            return self.dataset.GetLayerByName(wanted)
+        if self.wanted:
+            if self.wanted not in names:
+                raise Refusal(self.name, f"has no layer {self.wanted}, but {', '.join(names) or 'none at all'}")
+            return self.dataset.GetLayerByName(self.wanted)
         if len(names) != 1:
             told = (
                 f"{len(names)} layers ({', '.join(names[:8])}): name one, as {self.name}{LAYER_MARK}{names[0]}"
@@ -89,8 +94,8 @@ class Source:
 
     @property
     def stem(self) -> str:
-        """A short name: that of the file without its ending, or that of the layer."""
-        if os.path.exists(self.name) and LAYER_MARK not in self.name:
+        """A short name: that of the file without its ending, or that of the layer where one was named."""
+        if os.path.exists(self.name) and not self.wanted:
             return os.path.splitext(os.path.basename(os.path.normpath(self.name)))[0]
         return self.layer.GetName()
 

@@ -10,7 +10,7 @@ from . import frame as frames
 from . import options
 from .faults import Fault, Refusal
 from .frame import Frame
-from .joined import gridded, surveyed
+from .joined import gridded, surveyed, together
 from .layers import Source, common_system, system_from, system_name
 from .messages import say
 
@@ -48,7 +48,7 @@ def frame_for(arguments: Namespace, sources: list[Source]) -> Frame:
     if not arguments.frame:
         unit = frames.number(arguments.grid) if arguments.grid else None
         origin = frames.point(arguments.origin) if arguments.origin else None
-        frame = frames.chosen(" and ".join(arguments.layers), box, common, unit, origin)
+        frame = frames.chosen(together(sources), box, common, unit, origin)
     else:
         frame = frames.loaded(arguments.frame)
         held = system_from(frame.system) if frame.system else None
@@ -66,7 +66,7 @@ def main(arguments: Namespace) -> int:
     sources = [Source(name) for name in arguments.layers]
     stems = [source.stem for source in sources]
     if len(set(stems)) < len(stems):
-        raise Refusal(" and ".join(arguments.layers), "would be written under one name")
+        raise Refusal(together(sources), "would be written under one name")
     frame = frame_for(arguments, sources)
     try:
         os.makedirs(arguments.out, exist_ok=True)

@@ -5,6 +5,7 @@ import subprocess
 from pathlib import Path
 
 import pytest
+from osgeo import gdal
 from shapely.geometry import box
 
 from conftest import EAST, NORTH, UTM, blobs, parcels, read, write
@@ -80,6 +81,14 @@ def test_layers_of_one_name_are_refused(gis, tmp_path):
     a, b = write(tmp_path / "a.gpkg", []), write(tmp_path / "x" / "a.gpkg", [])
     answer = gis("to-grid", a, b, "-o", "grid")
     assert answer.status == 3 and "would be written under one name" in answer.err
+
+
+def test_layers_of_one_file_have_their_own_names(gis, tmp_path):
+    write(tmp_path / "a.gpkg", [box(EAST, NORTH, EAST + 4, NORTH + 4)])
+    other = gdal.OpenEx(write(tmp_path / "b.gpkg", [box(EAST + 1, NORTH, EAST + 2, NORTH + 4)]))
+    gdal.VectorTranslate("a.gpkg", other, accessMode="append", layerName="b")
+    assert gis("to-grid", "a.gpkg|layername=a", "a.gpkg|layername=b", "-o", "grid").status == 0
+    assert sorted(path.name for path in Path("grid").iterdir()) == ["a.wkt", "b.wkt", "frame.json"]
 
 
 def test_dissolved_layers(gis, tmp_path):

@@ -305,3 +305,9 @@ def test_a_source_that_is_no_file(gis, tmp_path):
     answer = gis("run", "union", held, write(tmp_path / "b.gpkg", [], "EPSG:4326"), "-o", "out.gpkg")
     assert answer.status == 0 and "grid 0.000001 degrees, origin 8.5, 50" in answer.err
     assert [shape.bounds for shape, _ in read("out.gpkg")] == [(8.5, 50.0, 8.75, 50.25)]
+
+
+def test_passwords_are_not_told(gis, tmp_path):
+    answer = gis("check", "PG:host=127.0.0.1 port=1 dbname=town user=me password=secret")
+    assert answer.status == 1 and "secret" not in answer.err + answer.out
+    assert answer.err.startswith("overlay-gis: PG:host=127.0.0.1 port=1 dbname=town user=me password=..: ")
