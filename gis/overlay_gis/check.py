@@ -160,7 +160,7 @@ def frame_of(source: Source, seen: Checked, system: osr.SpatialReference | None,
 
 def main(arguments: Namespace) -> int:
     if arguments.out:
-        layers.check_output(arguments.out, arguments.overwrite)
+        layers.check_output(arguments.out, arguments.overwrite, [arguments.a])
     source, seen = Source(arguments.a), Checked()
     system = common_system([source], arguments.system)
     for feature in source.features("looking through"):

@@ -118,7 +118,7 @@ def sides_of(covered: frozenset) -> tuple[list[int], list[int]]:
 
 
 def main(arguments: Namespace) -> int:
-    layers.check_output(arguments.out, arguments.overwrite)
+    layers.check_output(arguments.out, arguments.overwrite, [arguments.a, arguments.b])
     with joined([arguments.a, arguments.b], arguments.grid, arguments.origin, arguments.system) as both:
         asked = (("a_", arguments.keep_a), ("b_", arguments.keep_b))
         held = [kept(layer.source, mark, words, both) for layer, (mark, words) in zip(both.layers, asked)]

@@ -44,7 +44,7 @@ def edge_rows(text: str, name: str, frame: Frame) -> Iterator[Row]:
 
 
 def main(arguments: Namespace) -> int:
-    layers.check_output(arguments.out, arguments.overwrite)
+    layers.check_output(arguments.out, arguments.overwrite, [arguments.text])
     frame = frames.loaded(arguments.frame or os.path.join(os.path.dirname(arguments.text), FRAME))
     system = system_from(frame.system) if frame.system else None
     text = text_of(arguments.text)

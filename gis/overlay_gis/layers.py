@@ -273,9 +273,12 @@ class Column:
 Row = tuple[ogr.Geometry, Sequence]
 
 
-def check_output(path: str, overwrite: bool) -> None:
+def check_output(path: str, overwrite: bool, inputs: Sequence[str]) -> None:
     """Refuses an output that can't be written, before any work is done."""
     driver_for(path)
+    for name in (name.partition(LAYER_MARK)[0] for name in inputs):
+        if os.path.exists(path) and os.path.exists(name) and os.path.samefile(path, name):
+            raise Refusal(path, "is an input")
     if os.path.exists(path) and not overwrite:
         raise Refusal(path, "is there already; --overwrite replaces it")
     folder = os.path.dirname(os.path.abspath(path))
@@ -294,6 +297,8 @@ class Output:
     def begin(self, system: osr.SpatialReference | None, columns: Sequence[Column], kind: int) -> None:
         self.dataset = driver_for(self.path).Create(self.path, 0, 0, 0, gdal.GDT_Unknown)
         self.layer = self.dataset.CreateLayer(os.path.splitext(os.path.basename(self.path))[0], system, kind)
+        if self.layer.GetLayerDefn().GetGeomFieldCount() == 0:
+            raise Refusal(self.path, "a file of this format keeps no shapes")
         for column in columns:
             self.layer.CreateField(column.defined())
 

@@ -30,7 +30,7 @@ def rows(answer: Joined, text: str):
 
 
 def main(arguments: Namespace) -> int:
-    layers.check_output(arguments.out, arguments.overwrite)
+    layers.check_output(arguments.out, arguments.overwrite, [arguments.a, arguments.b])
     names = [arguments.a, arguments.b]
     with joined(names, arguments.grid, arguments.origin, arguments.system, arguments.dissolve) as both:
         for layer in both.layers:

@@ -226,6 +226,24 @@ def test_outputs_that_cannot_be(gis, tmp_path):
     assert (tmp_path / "there.gpkg").read_text() == "mine"
 
 
+def test_an_output_that_is_an_input(gis, tmp_path):
+    a = write(tmp_path / "a.gpkg", [box(EAST, NORTH, EAST + 4, NORTH + 4)])
+    held = (tmp_path / "a.gpkg").read_bytes()
+    answer = gis("run", "union", a, f"{a}|layername=a", "-o", "./a.gpkg", "--overwrite")
+    assert (answer.status, answer.err) == (3, "overlay-gis: ./a.gpkg: is an input\n")
+    assert (tmp_path / "a.gpkg").read_bytes() == held
+
+
+def test_a_format_without_shapes(gis, tmp_path):
+    a = write(tmp_path / "a.gpkg", [box(EAST, NORTH, EAST + 4, NORTH + 4)])
+    answer = gis("run", "union", a, write(tmp_path / "b.gpkg", []), "-o", "out.csv")
+    assert (
+        answer.status == 3
+        and answer.err.splitlines()[-1] == "overlay-gis: out.csv: a file of this format keeps no shapes"
+    )
+    assert not (tmp_path / "out.csv").exists()
+
+
 def test_the_program_refuses(gis, tmp_path, pretend):
     a = write(tmp_path / "a.gpkg", [box(EAST, NORTH, EAST + 4, NORTH + 4)])
     pretend("echo 'overlay: 5 too many segments: 1048577' >&2; exit 3\n")
