@@ -16,12 +16,13 @@ from shapely.strtree import STRtree
 from shapely.validation import explain_validity, make_valid
 
 from . import frame as frames
-from . import layers, options
+from . import options
 from .faults import FOUND, Refusal
 from .frame import Frame
 from .joined import Joined, gridded
-from .layers import Box, Column, Row, Source, area_name, common_system, is_polygonal, polygons_of
+from .layers import Box, Source, area_name, common_system, is_polygonal, polygons_of, shape_of
 from .messages import followed
+from .output import Column, Row, check_output, write_layer
 from .texts import polygons_in, twice_area
 
 HELP = "tells what is wrong with a layer: failed reads, invalid rings, points off the limits, overlaps"
@@ -90,19 +91,13 @@ def look_at(feature: ogr.Feature, seen: Checked) -> None:
         seen.find(f"feature {number}: {words}")
     if faults:
         return None
-    shape = wkb.loads(bytes(flattened(geometry).ExportToWkb()))
+    shape = shape_of(geometry, f"feature {number}")
     if not shape.is_valid:
         seen.find(f"feature {number}: {explain_validity(shape)}")
         shape = make_valid(shape)
     seen.ids.append(number)
     seen.shapes.append(shape)
     return None
-
-
-def flattened(geometry: ogr.Geometry) -> ogr.Geometry:
-    flat = geometry.GetLinearGeometry()
-    flat.FlattenTo2D()
-    return flat
 
 
 def tree_of(shapes: list[BaseGeometry]) -> STRtree:
@@ -160,7 +155,7 @@ def frame_of(source: Source, seen: Checked, system: osr.SpatialReference | None,
 
 def main(arguments: Namespace) -> int:
     if arguments.out:
-        layers.check_output(arguments.out, arguments.overwrite, [arguments.a])
+        check_output(arguments.out, arguments.overwrite, [arguments.a])
     source, seen = Source(arguments.a), Checked()
     system = common_system([source], arguments.system)
     for feature in source.features("looking through"):
@@ -179,7 +174,7 @@ def main(arguments: Namespace) -> int:
         print(f"{source.name}: {words}")
     summarize(source, seen, frame, len(found) - len(wide), name)
     if arguments.out:
-        layers.write_layer(arguments.out, system, OVERLAP_COLUMNS, overlap_rows(found), ogr.wkbUnknown)
+        write_layer(arguments.out, system, OVERLAP_COLUMNS, overlap_rows(found), ogr.wkbUnknown)
     return FOUND if seen.findings else 0
 
 

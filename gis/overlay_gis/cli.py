@@ -66,6 +66,9 @@ def main(words: list[str] | None = None) -> int:
     except BrokenPipeError:
         sys.stderr.close()
         return FAILED
+    except RuntimeError as error:
+        messages.say(f"GDAL: {' '.join(str(error).split())}")
+        return FAILED
     except OSError as error:
         messages.say(f"{error.filename or 'a temporary file'}: {error.strerror}")
         return FAILED

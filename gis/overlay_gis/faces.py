@@ -8,13 +8,14 @@ from typing import Iterator, Sequence
 
 from osgeo import ogr
 
-from . import layers, options
+from . import options
 from .arrangement import Arrangement, covers
 from .faults import Refusal
 from .frame import GridPolygon
 from .joined import Joined, joined
-from .layers import Column, Row, Source, polygon_geometry
+from .layers import Source, polygons_of
 from .messages import during, say
+from .output import Column, Row, check_output, polygon_geometry, write_layer
 from .texts import Written, edges_in, on_grid, twice_area
 
 HELP = (
@@ -70,7 +71,7 @@ def kept(source: Source, mark: str, asked: str, both: Joined) -> Kept:
         if geometry is None or geometry.IsEmpty():
             continue
         number = feature.GetFID()
-        rounded = [on_grid(polygon, number, both.frame, Written()) for polygon in layers.polygons_of(geometry)]
+        rounded = [on_grid(polygon, number, both.frame, Written()) for polygon in polygons_of(geometry)]
         held.ids.append(number)
         held.values.append(tuple(feature.GetField(field.GetName()) for field in held.fields))
         held.polygons.append(rounded)
@@ -118,7 +119,7 @@ def sides_of(covered: frozenset) -> tuple[list[int], list[int]]:
 
 
 def main(arguments: Namespace) -> int:
-    layers.check_output(arguments.out, arguments.overwrite, [arguments.a, arguments.b])
+    check_output(arguments.out, arguments.overwrite, [arguments.a, arguments.b])
     with joined([arguments.a, arguments.b], arguments.grid, arguments.origin, arguments.system) as both:
         asked = (("a_", arguments.keep_a), ("b_", arguments.keep_b))
         held = [kept(layer.source, mark, words, both) for layer, (mark, words) in zip(both.layers, asked)]
@@ -133,6 +134,6 @@ def main(arguments: Namespace) -> int:
         for layer, many in zip(held, several):
             columns += columns_of(layer, many)
         written = rows([face for face, _ in answered], [sides for _, sides in answered], held, several, both)
-        count = layers.write_layer(arguments.out, both.system, columns, written)
+        count = write_layer(arguments.out, both.system, columns, written)
     say(f"{arguments.out}: {count:,} faces")
     return 0

@@ -9,10 +9,11 @@ from typing import Iterator
 from osgeo import ogr
 
 from . import frame as frames
-from . import layers, options
+from . import options
 from .frame import Frame
-from .layers import Column, Row, polygon_geometry, system_from
+from .layers import system_from
 from .messages import say
+from .output import Column, Row, check_output, polygon_geometry, write_layer
 from .texts import EDGES, edges_in, kind_of, polygons_in, text_of, twice_area
 from .to_grid import FRAME
 
@@ -44,15 +45,15 @@ def edge_rows(text: str, name: str, frame: Frame) -> Iterator[Row]:
 
 
 def main(arguments: Namespace) -> int:
-    layers.check_output(arguments.out, arguments.overwrite, [arguments.text])
+    check_output(arguments.out, arguments.overwrite, [arguments.text])
     frame = frames.loaded(arguments.frame or os.path.join(os.path.dirname(arguments.text), FRAME))
     system = system_from(frame.system) if frame.system else None
     text = text_of(arguments.text)
     if kind_of(text) == EDGES:
-        count = layers.write_layer(
+        count = write_layer(
             arguments.out, system, EDGE_COLUMNS, edge_rows(text, arguments.text, frame), ogr.wkbLineString
         )
     else:
-        count = layers.write_layer(arguments.out, system, POLYGON_COLUMNS, polygon_rows(text, arguments.text, frame))
+        count = write_layer(arguments.out, system, POLYGON_COLUMNS, polygon_rows(text, arguments.text, frame))
     say(f"{arguments.out}: {count:,} features")
     return 0

@@ -9,7 +9,6 @@ from tempfile import TemporaryDirectory
 from typing import Iterator, Sequence
 
 from osgeo import ogr, osr
-from shapely import wkb
 from shapely.ops import unary_union
 from shapely.validation import make_valid
 
@@ -17,7 +16,7 @@ from . import frame as frames
 from . import program
 from .faults import Refusal
 from .frame import Frame
-from .layers import Box, Polygon, Source, Survey, area_name, common_system
+from .layers import Box, Polygon, Source, Survey, area_name, common_system, shape_of
 from .messages import during, say, warn
 from .texts import Written, polygons_in, text_of, twice_area, write_polygons
 
@@ -91,7 +90,7 @@ def united(source: Source) -> list[tuple[int, list[Polygon]]]:
     for feature in source.features():
         geometry = feature.GetGeometryRef()
         if geometry is not None and not geometry.IsEmpty():
-            shape = wkb.loads(bytes(geometry.GetLinearGeometry().ExportToWkb()))
+            shape = shape_of(geometry, f"{source.name}: feature {feature.GetFID()}")
             shapes.append(shape if shape.is_valid else make_valid(shape))
     with during(f"uniting {source.name}"):
         whole = unary_union(shapes)

@@ -6,10 +6,10 @@ from argparse import ArgumentParser, Namespace
 
 from osgeo import ogr
 
-from . import layers, options, program
+from . import options, program
 from .joined import Joined, check_overlaps, joined
-from .layers import Column, polygon_geometry
 from .messages import say
+from .output import Column, check_output, polygon_geometry, write_layer
 from .texts import polygons_in, twice_area
 
 HELP = "does one set operation on two layers"
@@ -30,13 +30,13 @@ def rows(answer: Joined, text: str):
 
 
 def main(arguments: Namespace) -> int:
-    layers.check_output(arguments.out, arguments.overwrite, [arguments.a, arguments.b])
+    check_output(arguments.out, arguments.overwrite, [arguments.a, arguments.b])
     names = [arguments.a, arguments.b]
     with joined(names, arguments.grid, arguments.origin, arguments.system, arguments.dissolve) as both:
         for layer in both.layers:
             check_overlaps(both, layer)
         text = both.run(arguments.operation)
         columns = [Column("id", ogr.OFTInteger64), Column("area", ogr.OFTReal)]
-        count = layers.write_layer(arguments.out, both.system, columns, rows(both, text))
+        count = write_layer(arguments.out, both.system, columns, rows(both, text))
     say(f"{arguments.out}: {count:,} polygons")
     return 0

@@ -329,3 +329,16 @@ def test_passwords_are_not_told(gis, tmp_path):
     answer = gis("check", "PG:host=127.0.0.1 port=1 dbname=town user=me password=secret")
     assert answer.status == 1 and "secret" not in answer.err + answer.out
     assert answer.err.startswith("overlay-gis: PG:host=127.0.0.1 port=1 dbname=town user=me password=..: ")
+
+
+def test_open_rings_are_closed_and_short_ones_left_out(gis, tmp_path):
+    held = [f"POLYGON (({EAST} {NORTH}, {EAST + 4} {NORTH}, {EAST + 4} {NORTH + 4}, {EAST} {NORTH + 4}))"]
+    held.append(f"POLYGON (({EAST} {NORTH}, {EAST + 1} {NORTH}, {EAST} {NORTH}))")
+    a = write(tmp_path / "a.gpkg", [ogr.CreateGeometryFromWkt(text) for text in held])
+    b = write(tmp_path / "b.gpkg", [])
+    answer = gis("run", "union", a, b, "-o", "out.gpkg")
+    assert answer.status == 0 and [shape.area for shape, _ in read("out.gpkg")] == [16]
+    assert "a.gpkg: warning: rings were open, and closed: feature 1" in answer.err
+    assert "a.gpkg: warning: rings of less than four points were left out: feature 2" in answer.err
+    answer = gis("run", "union", a, b, "-o", "out.gpkg", "--dissolve", "--overwrite")
+    assert answer.status == 3 and "a.gpkg: feature 1: GEOS can't read it: " in answer.err.splitlines()[-1]
