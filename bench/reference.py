@@ -7,8 +7,6 @@ The command line, the texts, the faults and the report are the program's; the st
 nothing is the product's algorithm: all pairs are crossed, every hot pixel is tried on every segment, every edge is asked at
 every side point. What the theorems say is asserted on every run: edges are noded, degrees are even, rings close. With --points
 the parity of that many random rational points is compared too, over the edges of the result and over the rings of its text.
-
-Where no tile side is given, none is too small: the text doesn't depend on it, and the report is that of side 262144.
 """
 import random
 import re
@@ -20,7 +18,7 @@ from functools import cmp_to_key
 COORDINATE_LIMIT = 1 << 28
 TEXT_LIMIT = 268_435_456
 SEGMENT_LIMIT = 1_048_576
-LEAST_SIDE, GREATEST_SIDE, USUAL_SIDE = 16, 33_554_432, 262_144
+LEAST_SIDE, GREATEST_SIDE, LEAST_FITTING_SIDE = 16, 33_554_432, 262_144
 TILE_LIMIT = 65_536
 WORKER_LIMIT = 64
 SIDE_POINT_SCALE = 1 << 64
@@ -537,6 +535,14 @@ class Grid:
         return (p[1] - bottom) // self.side * self.columns + (p[0] - left) // self.side
 
 
+def fitting_side(bounds):
+    """The side where none is given: the least power of two, from 262,144 on, that doesn't give too many tiles."""
+    side = LEAST_FITTING_SIDE
+    while Grid(bounds, side).tiles > TILE_LIMIT:
+        side *= 2
+    return side
+
+
 def bounds_of(points):
     points = list(points)
     if not points:
@@ -607,7 +613,7 @@ class Arranged:
         return result_text(polygons(self.directed(command)))
 
     def report(self, side=None):
-        grid = Grid(self.bounds, side or USUAL_SIDE)
+        grid = Grid(self.bounds, side or fitting_side(self.bounds))
         hot, records = [0] * grid.tiles, [0] * grid.tiles
         for c in self.hot:
             hot[grid.tile_of(c)] += 1

@@ -13,7 +13,7 @@ import shutil
 import tempfile
 import time
 from collections import Counter
-from dataclasses import dataclass, replace
+from dataclasses import dataclass
 
 import reference
 
@@ -46,15 +46,14 @@ class Plan:
     report: bool
 
     def words(self):
-        if self.side is None:
-            return []
-        return ["--tile=%d" % self.side, "--workers=%d" % self.workers] + ["--report"] * self.report
+        plan = [] if self.side is None else ["--tile=%d" % self.side, "--workers=%d" % self.workers]
+        return plan + ["--report"] * self.report
 
 
 def plan(rng, command, bounds):
     """A plan: where there are too many tiles (seldom) it is refused."""
     if rng.random() < 0.1:
-        return Plan(command, None, 4, False)
+        return Plan(command, None, 4, rng.random() < 0.4)
     (left, bottom), (right, top) = bounds or ((0, 0), (16, 16))
     least = max(16, int(((right - left) * (top - bottom)) ** 0.5 / 255.5) + 1)
     while (right - left) // least * ((top - bottom) // least) > 30_000 or ((right - left) + (top - bottom)) // least > 30_000:
@@ -77,12 +76,11 @@ class Exact:
         try:
             if self.arranged is None:
                 self.arranged = reference.Arranged(*self.texts)
-            side = None if wanted.side is None else wanted.side
-            self.refuse(side, wanted.workers)
+            self.refuse(wanted.side, wanted.workers)
         except reference.Fault as fault:
             return Answer(3, b"", fault.line().encode())
         text = self.arranged.text(wanted.command)
-        return Answer(0, text.encode(), self.arranged.report(side).encode() if wanted.report else b"")
+        return Answer(0, text.encode(), self.arranged.report(wanted.side).encode() if wanted.report else b"")
 
     def refuse(self, side, workers):
         if side is not None and not reference.LEAST_SIDE <= side <= reference.GREATEST_SIDE:
@@ -136,7 +134,7 @@ class Plain:
             "hot": ["%d" % sum(int(words[2]) for words in tiles)],
             "records": ["%d" % sum(int(words[3]) for words in tiles)],
             "edges": ["%d" % self.answer("edges").out.count(b"\n")],
-            "tiles": ["%d" % reference.Grid(self.bounds, wanted.side).tiles],
+            "tiles": ["%d" % reference.Grid(self.bounds, wanted.side or reference.fitting_side(self.bounds)).tiles],
             "remade": ["0"],
         }
         return numbers == known and [words[:2] for words in tiles] == [["tile", "%d" % k] for k in range(int(known["tiles"][0]))]
@@ -198,7 +196,7 @@ class Bench:
             got = self.run(wanted, files)
             if got.status is None:
                 over.append(wanted)
-            elif not judge.agrees(wanted, got) and not (wanted.side is None and judge.agrees(replace(wanted, side=reference.USUAL_SIDE), got)):
+            elif not judge.agrees(wanted, got):
                 wrong.append(wanted)
         return wrong, over
 

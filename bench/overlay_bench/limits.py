@@ -1,0 +1,217 @@
+"""runs the program at its limits, one past them, and on layers that were hard once, at full size
+
+Limits: segments, tiles, workers, coordinates, lengths of texts; each is answered, and refused one past it. The hard layers
+are run by the default plan: seconds on the clock, memory and bytes stand beside what may be expected, which is ten times what
+friendly layers (parcels) take for as many records, and 1 GB. The exit status is 1 where a limit is answered otherwise, or
+where a layer takes more than that.
+"""
+import math
+import os
+import random
+import tempfile
+from dataclasses import dataclass
+
+from . import layers, maps, programs
+from .layers import rectangle
+from .programs import Answer, answer, taken
+
+MOST_SEGMENTS, MOST_BYTES, LIMIT = 1_048_576, 268_435_456, 268_435_456
+MOST_MEGABYTES, FRIENDLY_SEGMENTS = 1024, 100_000
+
+
+def add_arguments(parser):
+    parser.add_argument("--only", default="", help="those whose names have this word")
+    parser.add_argument("--seconds", type=float, default=120, help="after which a run is over")
+    parser.add_argument("--commands", nargs="+", default=("edges", "union"), choices=programs.COMMANDS)
+
+
+def around(radius, turned):
+    return [(round(radius * math.cos(angle)), round(radius * math.sin(angle))) for angle in turned]
+
+
+def fan(count):
+    """Triangles round one point, of which neighbours share a side."""
+    rim = around(2_000_000, [2 * math.pi * k / count for k in range(count)])
+    return [[[(0, 0), p, q]] for p, q in zip(rim, rim[1:] + rim[:1])]
+
+
+def flower(count):
+    """One ring of petals at one vertex."""
+    rim = around(2_000_000, [math.pi * k / count for k in range(2 * count)])
+    return [[[p for tip, back in zip(rim[::2], rim[1::2]) for p in ((0, 0), tip, back)]]]
+
+
+def wheel(count):
+    """A rim, and a thin triangle from the hub for each spoke."""
+    rim = around(1_000_000, [2 * math.pi * (k + 0.3) / count for k in range(count)])
+    return [[rim]] + [[[(0, 0), (x, y), (x + 1, y + 1)]] for x, y in rim]
+
+
+def star(count):
+    """One ring of chords, each of which crosses nearly all the others, in one tile."""
+    return [[around(130_000, [2 * math.pi * (k * (count // 2) % count) / count for k in range(count)])]]
+
+
+def grid_of_triangles(count):
+    """Long thin triangles, half of them lying, half standing."""
+    size = 40 * count
+    lying = [[[(0, 40 * k), (size, 40 * k + 3), (size, 40 * k + 5)]] for k in range(count // 2)]
+    return lying + [[[(y, x) for x, y in rings[0]]] for rings in lying]
+
+
+def long_segments(count):
+    """Thin triangles across the whole of a map of many tiles."""
+    rng, size = random.Random(3), 30_000_000
+    ends = [(rng.randint(-size, size), rng.randint(-size, size)) for _ in range(2 * (count // 3))]
+    return [[[p, q, (q[0] + 1, q[1] + 2)]] for p, q in zip(ends[::2], ends[1::2])]
+
+
+def nested_on_a_line(count):
+    """Rings in one another that all have an edge on one line."""
+    return [[rectangle(0, -k, 2 * k, 2 * k)] for k in range(1, count + 1)]
+
+
+def repeated_points(count):
+    """A ring whose points are each there many times."""
+    return [[[p for p in rectangle(0, 0, 9, 9) for _ in range(count // 4)]]]
+
+
+HARD = {
+    "fan of 100,000 triangles": lambda: fan(100_000),
+    "flower of 100,000 petals": lambda: flower(100_000),
+    "wheel of 5,000 spokes": lambda: wheel(5_000),
+    "star of 501 points": lambda: star(501),
+    "star of 2,001 points": lambda: star(2_001),
+    "grid of 2,000 long triangles": lambda: grid_of_triangles(2_000),
+    "3,000 long segments": lambda: long_segments(3_000),
+    "2,000 rings on one line": lambda: nested_on_a_line(2_000),
+    "1,000,000 repeated points": lambda: repeated_points(1_000_000),
+    "262,144 copies of a square of the whole width": lambda: [[rectangle(-30_000_000, -30_000_000, 60_000_000, 60_000_000)]] * 262_144,
+}
+
+
+@dataclass
+class Place:
+    program: str
+    folder: str
+
+    def write(self, name, begin, middle=b"", times=0, end=b""):
+        path = os.path.join(self.folder, name)
+        with open(path, "wb") as file:
+            file.write(begin)
+            for _ in range(times):
+                file.write(middle)
+            file.write(end)
+        return path
+
+    def run(self, *words):
+        return answer([self.program, *words], 300)
+
+
+def refused(words):
+    return Answer(3, b"", b"overlay: %s\n" % words)
+
+
+def limits(place):
+    """What was tried, what came, what should come."""
+    square = b"POLYGON ((0 0, 4 0, 4 4, 0 4, 0 0))\n"
+    nothing, one = place.write("nothing", b""), place.write("one", square)
+    full = place.write("full", square * (MOST_SEGMENTS // 4))
+    yield "segments", place.run("union", full, nothing), Answer(0, b"MULTIPOLYGON EMPTY\n", b"")
+    triangle = place.write("triangle", b"POLYGON ((0 0, 4 0, 0 4, 0 0))\n")
+    less = place.write("less", square * (MOST_SEGMENTS // 4 - 1))
+    yield "one segment less", place.run("union", less, triangle).status, 0
+    more = place.write("more", square * (MOST_SEGMENTS // 4 - 1) + b"POLYGON ((0 0, 4 0, 5 2, 4 4, 0 4, 0 0))\n")
+    yield "one segment more", place.run("edges", nothing, more), refused(b"5 too many segments: 1048577")
+    yield "both layers together", place.run("edges", one, full), refused(b"5 too many segments: 1048580")
+    wide = place.write("wide", b"POLYGON ((0 0, 1048575 0, 0 1, 0 0))")
+    yield "tiles", place.run("edges", wide, nothing, "--tile=16").status, 0
+    wider = place.write("wider", b"POLYGON ((0 0, 1048576 0, 0 1, 0 0))")
+    yield "one tile more", place.run("edges", wider, nothing, "--tile=16"), refused(b"8 too many tiles: 65537")
+    yield "64 workers", place.run("edges", wide, nothing, "--tile=16", "--workers=64"), place.run("edges", wide, nothing)
+    yield "65 workers", place.run("edges", wide, nothing, "--workers=65"), refused(b"7 bad number of workers")
+    whole = place.write("whole", b"POLYGON ((%d %d, %d %d, %d %d, %d %d))" % (-LIMIT, -LIMIT, LIMIT, -LIMIT, LIMIT, LIMIT, -LIMIT, -LIMIT))
+    line = b"MULTIPOLYGON (((%d %d, %d %d, %d %d, %d %d)))\n" % (-LIMIT, -LIMIT, LIMIT, -LIMIT, LIMIT, LIMIT, -LIMIT, -LIMIT)
+    yield "coordinates", place.run("union", whole, nothing, "--tile=2097153"), Answer(0, line, b"")
+    beyond = place.write("beyond", b"POLYGON ((0 0, 0 %d, 1 1, 0 0))" % (-LIMIT - 1))
+    yield "one past the coordinates", place.run("union", nothing, beyond), refused(b"B: 2 number out of range at 17")
+
+
+def long_texts(place):
+    nothing, found = place.write("nothing", b""), Answer(0, b"MULTIPOLYGON (((0 0, 4 0, 4 4, 0 4, 0 0)))\n", b"")
+    square = b"POLYGON ((0 0, 4 0, 4 4, 0 4, 0 0))"
+    text = place.write("long", square, b" " * 1000, (MOST_BYTES - len(square)) // 1000, b" " * ((MOST_BYTES - len(square)) % 1000))
+    yield "a text as long as may be", place.run("union", text, nothing), found
+    with open(text, "ab") as file:
+        file.write(b" ")
+    yield "one byte more", place.run("union", nothing, text), refused(b"B: 0 layer too long")
+    text = place.write("long", b"POLYGON ((", b"0 0, " * 1000, 50_000, b"4 0, 4 4, 0 4, 0 0))")
+    yield "50,000,000 repeated points", place.run("union", text, nothing), found
+
+
+class Friendly:
+    """What parcels take for each record."""
+
+    def __init__(self, program, folder, commands):
+        self.program, self.folder, self.rates = program, folder, {}
+        files = [os.path.join(folder, name) for name in ("a.wkt", "b.wkt")]
+        programs.apart(lambda: maps.write("parcels", FRIENDLY_SEGMENTS, files))
+        for command in commands:
+            times = [taken([program, command, *files], os.path.join(folder, "out"), 120).clock for _ in range(5)]
+            self.rates[command] = sorted(times)[2] / self.records(files)
+
+    def records(self, files):
+        told = answer([self.program, "edges", *files, "--report"], 600).err
+        return next(int(line.split()[1]) for line in told.splitlines() if line.startswith(b"records"))
+
+    def seconds(self, command, records):
+        """Ten times as long, and no less than a twentieth of a second, which a start takes on a busy machine."""
+        return max(0.05, 10 * self.rates[command] * records)
+
+
+def write(polygons, files):
+    for file, text in zip(files, (layers.text_of(polygons), "")):
+        with open(file, "w") as written:
+            written.write(text)
+
+
+def hard(arguments, folder):
+    """Prints a row for each hard layer; whether one takes more than may be expected."""
+    friendly, files, wrong = Friendly(arguments.program, folder, arguments.commands), [os.path.join(folder, name) for name in ("h.wkt", "nothing")], False
+    print("| layers | command | seconds | at most | MB | at most | bytes |\n|---|---|---|---|---|---|---|", flush=True)
+    for name, make in HARD.items():
+        if arguments.only not in name:
+            continue
+        programs.apart(lambda: write(make(), files))
+        records = None
+        for command in arguments.commands:
+            output = os.path.join(folder, "out")
+            run = taken([arguments.program, command, *files], output, arguments.seconds)
+            if run.status is None:
+                wrong = True
+                print("| %s | %s | over | | %.0f | %d | |" % (name, command, run.memory, MOST_MEGABYTES), flush=True)
+                continue
+            records = records or friendly.records(files)
+            most = friendly.seconds(command, records)
+            wrong |= run.status != 0 or run.clock > most or run.memory > MOST_MEGABYTES
+            print("| %s | %s | %.2f | %.2f | %.0f | %d | %d |%s" % (
+                name, command, run.clock, most, run.memory, MOST_MEGABYTES, os.path.getsize(output),
+                " status %d" % run.status if run.status else " more than expected" if run.clock > most or run.memory > MOST_MEGABYTES else ""), flush=True)
+    return wrong
+
+
+def main(arguments):
+    tried, wrong = 0, 0
+    with tempfile.TemporaryDirectory() as folder:
+        place = Place(arguments.program, folder)
+        for found in (limits, long_texts):
+            if arguments.only not in found.__name__:
+                continue
+            for name, got, expected in found(place):
+                tried += 1
+                if got != expected:
+                    wrong += 1
+                    print("%s:\n  expected %s\n  seen     %s" % (name, expected, got), flush=True)
+        if tried:
+            print("%d limits tried, %d answered otherwise" % (tried, wrong))
+        return int(hard(arguments, folder) or wrong > 0)

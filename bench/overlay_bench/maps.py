@@ -1,0 +1,215 @@
+"""Two layers of so many segments together, of the kinds that speed is measured on; always the same ones for a kind and a size."""
+import math
+import random
+
+from . import layers
+from .layers import rectangle
+
+
+def jittered(rng, x, y, by):
+    return x + rng.randint(-by, by), y + rng.randint(-by, by)
+
+
+def cells(rng, columns, side, steps, left, bottom):
+    """Polygons that share their borders: columns by columns cells, each border in that many steps."""
+    corner = {(i, j): jittered(rng, left + i * side, bottom + j * side, side // 5) for i in range(columns + 1) for j in range(columns + 1)}
+    borders = {}
+
+    def border(start, end):
+        low, high = min(start, end), max(start, end)
+        if (low, high) not in borders:
+            (px, py), (qx, qy) = corner[low], corner[high]
+            borders[low, high] = [jittered(rng, px + (qx - px) * k // steps, py + (qy - py) * k // steps, side // 20) for k in range(1, steps)]
+        inner = borders[low, high]
+        return [corner[start]] + (inner if start == low else inner[::-1])
+
+    def cell(i, j):
+        turns = [(i, j), (i + 1, j), (i + 1, j + 1), (i, j + 1)]
+        return [[p for start, end in zip(turns, turns[1:] + turns[:1]) for p in border(start, end)]]
+
+    return [cell(i, j) for i in range(columns) for j in range(columns)]
+
+
+def parcels(rng, segments):
+    """Parcels against zones, each layer with about half of the segments."""
+    columns, zones = int((segments / 8) ** 0.5), max(1, int((segments / 64) ** 0.5))
+    return cells(rng, columns, 1000, 1, 0, 0), cells(rng, zones, columns * 1000 // zones, 8, 300, 200)
+
+
+def coast(rng, segments):
+    """Islands whose shores are fractal lines, some 2,000 segments each."""
+
+    def shore(p, q, depth):
+        if depth == 0:
+            return [p]
+        reach = max(1, int(math.dist(p, q) / 4))
+        middle = jittered(rng, (p[0] + q[0]) // 2, (p[1] + q[1]) // 2, reach)
+        return shore(p, middle, depth - 1) + shore(middle, q, depth - 1)
+
+    def island(size):
+        x, y = rng.randint(0, size), rng.randint(0, size)
+        corners = rectangle(x, y, 400_000, 400_000)
+        return [[p for start, end in zip(corners, corners[1:] + corners[:1]) for p in shore(start, end, 9)]]
+
+    count = max(1, segments // 4096)
+    size = int(300_000 * count ** 0.5)
+    return tuple([island(size) for _ in range(count)] for _ in "ab")
+
+
+def blobs(rng, segments):
+    """Round shapes of 40 points that overlap."""
+
+    def blob(size):
+        x, y, radius = rng.randint(0, size), rng.randint(0, size), rng.randint(500, 2000)
+        turned = [2 * math.pi * k / 40 for k in range(40)]
+        radii = [radius * rng.uniform(0.7, 1.3) for _ in turned]
+        return [[(x + round(r * math.cos(a)), y + round(r * math.sin(a))) for r, a in zip(radii, turned)]]
+
+    count = max(1, segments // 80)
+    size = int(2500 * count ** 0.5)
+    return tuple([blob(size) for _ in range(count)] for _ in "ab")
+
+
+def tight(rng, segments):
+    """Quadrangles over one another inside 262,144 units, whatever their number."""
+    size, reach = 262_143, max(9, int(262_143 * (2.3 / segments) ** 0.5))
+
+    def quadrangle():
+        x, y = rng.randint(0, size - reach), rng.randint(0, size - reach)
+        return [[(x + rng.randint(0, reach), y + rng.randint(0, reach)) for _ in range(4)]]
+
+    return tuple([quadrangle() for _ in range(segments // 8)] for _ in "ab")
+
+
+def long_lines(rng, segments):
+    """Thin triangles whose long sides cross some ten others, whatever their number."""
+    size = 60_000_000
+    reach = int(size * (8 * math.pi / 2 / segments) ** 0.5)
+
+    def triangle():
+        x, y, turned = rng.randint(reach, size - reach), rng.randint(reach, size - reach), rng.uniform(0, math.pi)
+        dx, dy = int(reach / 2 * math.cos(turned)), int(reach / 2 * math.sin(turned))
+        return [[(x - dx, y - dy), (x + dx, y + dy), (x + dx + rng.randint(-9, 9), y + dy + rng.randint(1, 9))]]
+
+    return tuple([triangle() for _ in range(segments // 6)] for _ in "ab")
+
+
+def slivers(rng, segments):
+    """Thin triangles over one another across the whole width; the second layer's cross a few of the first one's."""
+    width, count = 50_000_000, segments // 6
+    first = [[[(0, 12 * k), (width, 12 * k + 1), (width, 12 * k + 3)]] for k in range(count)]
+    tilts = [rng.randint(-24, 24) for _ in range(count)]
+    return first, [[[(0, 12 * k + 5), (width, 12 * k + 5 + tilt), (width, 12 * k + 7 + tilt)]] for k, tilt in enumerate(tilts)]
+
+
+def stars(rng, segments):
+    """Stars of 4,000 thin quadrangles through nearly one point, half of them in either layer."""
+    radius, both = 1_000_000, ([], [])
+    for k in range(segments // 4):
+        x, y = 2_500_000 * (k // 4000 % 10), 2_500_000 * (k // 40_000)
+        turned = rng.uniform(0, math.pi)
+        dx, dy = round(radius * math.cos(turned)), round(radius * math.sin(turned))
+        both[k % 2].append([[(x + dx, y + dy), (x - dx, y - dy), (x - dx + 1, y - dy + 2), (x + dx + 2, y + dy + 1)]])
+    return both
+
+
+def combs(rng, segments):
+    """Two combs whose long teeth lie over one another, and between one another."""
+    width, teeth, first, second = 100_000, segments // 8, [], []
+    for k in range(teeth):
+        first += [(0, 4 * k), (width, 4 * k), (width, 4 * k + 2), (0, 4 * k + 2)]
+        second += [(width + 9, 4 * k + 1), (9, 4 * k + 1), (9, 4 * k + 3), (width + 9, 4 * k + 3)]
+    first += [(-9, 4 * teeth - 2), (-9, 0)]
+    second += [(width + 19, 4 * teeth - 1), (width + 19, 1)]
+    return [[first]], [[second]]
+
+
+def diagonals(rng, segments):
+    """Thin quadrangles side by side that never cross, though all boxes overlap."""
+    count = segments // 8
+    length = 6 * count
+
+    def layer(left):
+        return [[[(6 * k + left, 0), (6 * k + left + 1, 0), (6 * k + left + 1 + length, length), (6 * k + left + length, length)]] for k in range(count)]
+
+    return layer(0), layer(3)
+
+
+def nested(rng, segments):
+    """Squares in squares, those of the two layers in turn."""
+    count = segments // 8
+    return tuple([[rectangle(-4 * k - at, -4 * k - at, 8 * k + 2 * at, 8 * k + 2 * at)] for k in range(1, count + 1)] for at in (0, 2))
+
+
+def hole_column(rng, segments):
+    """Square holes over one another in one narrow column of a wide shell."""
+    count = segments // 8
+
+    def layer(x, y):
+        return [[rectangle(-500_000 + x, -9 + y, 1_000_000, 6 * count + 20)] + [rectangle(x, 6 * k + y, 3, 3) for k in range(count)]]
+
+    return layer(0, 0), layer(1, 1)
+
+
+def cluster(rng, segments):
+    """A dense cluster, and two outliers far away."""
+    size = max(100, int(8 * segments ** 0.5))
+    near = lambda: (rng.randint(-size, size), rng.randint(-size, size))
+    reach = max(4, int(2 * size * (3 / segments) ** 0.5))
+
+    def triangle():
+        x, y = near()
+        return [[(x, y), jittered(rng, x, y, reach), jittered(rng, x, y, reach)]]
+
+    outliers = [[rectangle(30_000_000, 29_999_000, 7, 7)], [rectangle(-30_000_000, -30_000_000, 9, 5)]]
+    return tuple([triangle() for _ in range(segments // 6)] + outliers for _ in "ab")
+
+
+def one_border(rng, segments):
+    """Square holes in rows under one border."""
+    columns = int((segments / 8) ** 0.5)
+
+    def layer(at):
+        squares = [rectangle(60 * i + at, 60 * j + at, 40, 40) for i in range(columns) for j in range(columns)]
+        return [[rectangle(-100 + at, -100 + at, 60 * columns + 200, 60 * columns + 200)] + squares]
+
+    return layer(0), layer(13)
+
+
+def one_ring(rng, segments):
+    """One long shore in either layer, round the same lake."""
+    count, radius = segments // 2, 30_000_000
+
+    def shore():
+        noise = max(1, int(3 * radius / count))
+        radii = [radius + rng.randint(-noise, noise) for _ in range(count)]
+        return [[[(round(r * math.cos(2 * math.pi * k / count)), round(r * math.sin(2 * math.pi * k / count))) for k, r in enumerate(radii)]]]
+
+    return shore(), shore()
+
+
+def copies(rng, segments):
+    """One square again and again, and nothing in the second layer."""
+    return [[rectangle(0, 0, 4, 4)]] * (segments // 4), []
+
+
+FRIENDLY = {
+    "parcels": parcels, "coast": coast, "blobs": blobs, "tight": tight, "one border": one_border, "one ring": one_ring, "copies": copies,
+}
+HARD = {
+    "long": long_lines, "slivers": slivers, "stars": stars, "combs": combs, "diagonals": diagonals, "nested": nested,
+    "hole column": hole_column, "cluster": cluster,
+}
+KINDS = {**FRIENDLY, **HARD}
+
+
+def count(polygons):
+    return sum(len(ring) for rings in polygons for ring in rings)
+
+
+def write(kind, segments, files):
+    """Writes both layers; answers nothing, since it runs in a process of its own."""
+    rng = random.Random("%s %d" % (kind, segments))
+    for name, polygons in zip(files, KINDS[kind](rng, segments)):
+        with open(name, "w") as file:
+            file.write(layers.text_of(polygons))

@@ -1,0 +1,121 @@
+"""measures the program against the plain program on generated maps of every kind
+
+For each kind, size and command: processor seconds by one worker, seconds on the clock by four, and the greatest memory, of
+both programs in turn, by the default plan, from files and to a file; medians of several rounds, and the ratios. Machines and
+their other work change; ratios of one run can be compared. A run that takes too long is shown as "over", and its kind and
+command are not tried at greater sizes. Where the bytes of both programs differ the row says so, and the exit status is 1.
+The last lines have the growth from each size to the next one: the power of the number of segments.
+"""
+import filecmp
+import math
+import os
+import statistics
+import sys
+import tempfile
+
+from . import maps, programs
+from .programs import COMMANDS
+
+SIZES = (10_000, 100_000, 1_000_000)
+
+
+def add_arguments(parser):
+    parser.add_argument("--kinds", nargs="+", default=list(maps.KINDS), choices=maps.KINDS, metavar="KIND", help="of: " + ", ".join(maps.KINDS))
+    parser.add_argument("--sizes", nargs="+", type=int, default=SIZES, metavar="SEGMENTS")
+    parser.add_argument("--commands", nargs="+", default=COMMANDS, choices=COMMANDS, metavar="COMMAND")
+    parser.add_argument("--rounds", type=int, default=5)
+    parser.add_argument("--seconds", type=float, default=120, help="after which a run is over")
+    parser.add_argument("--words", default="", help="more words for the program, such as --tile=N")
+
+
+class Series:
+    """The runs of one program by one number of workers."""
+
+    def __init__(self, words, output):
+        self.words, self.output, self.runs = words, output, []
+
+    def run(self, seconds):
+        if not self.is_over():
+            self.runs.append(programs.taken(self.words, self.output, seconds))
+
+    def is_over(self):
+        return any(run.status is None for run in self.runs)
+
+    def failed(self):
+        return any(run.status for run in self.runs)
+
+    def median(self, what):
+        return None if self.is_over() else statistics.median(getattr(run, what) for run in self.runs)
+
+
+def shown(value, digits):
+    return "over" if value is None else "%.*f" % (digits, value)
+
+
+def ratio(ours, theirs):
+    return "" if ours is None or not theirs else "%.1f" % (ours / theirs)
+
+
+class Row:
+    """Both programs on one pair of layers by one command."""
+
+    def __init__(self, arguments, folder, files, command):
+        ours, theirs = [os.path.join(folder, name) for name in ("ours", "theirs")]
+        call = lambda program, workers: [program, command, *files, "--workers=%d" % workers]
+        self.ours = [Series(call(arguments.program, workers) + arguments.words.split(), ours) for workers in (1, 4)]
+        self.theirs = [Series(call(programs.plain(), workers), theirs) for workers in (1, 4)]
+        for number in range(arguments.rounds):
+            for series in self.theirs + self.ours:
+                series.run(arguments.seconds)
+            if number == 0:
+                self.differs = not any(series.is_over() for series in self.ours + self.theirs) and not filecmp.cmp(ours, theirs, shallow=False)
+
+    def numbers(self):
+        """Processor seconds by one, the clock by four, the greatest memory: ours, the plain program's."""
+        for digits, find in ((2, lambda both: both[0].median("processor")), (2, lambda both: both[1].median("clock")), (0, self.memory)):
+            ours, theirs = find(self.ours), find(self.theirs)
+            yield from (shown(ours, digits), shown(theirs, digits), ratio(ours, theirs))
+
+    def memory(self, both):
+        found = [series.median("memory") for series in both]
+        return None if None in found else max(found)
+
+    def note(self):
+        failed = [series for series in self.ours + self.theirs if series.failed()]
+        return " status %s" % failed[0].runs[-1].status if failed else " bytes differ" if self.differs else ""
+
+
+def growth(times):
+    """The powers from each size to the next one."""
+    found = []
+    for (small, before), (large, after) in zip(times, times[1:]):
+        found.append("%.2f" % (math.log(after / before) / math.log(large / small)) if before and after else "over")
+    return " ".join(found)
+
+
+def main(arguments):
+    programs.plain()
+    wrong, grown = False, {}
+    print("| kind | segments | command | 1 worker: processor s | plain | ratio | 4 workers: clock s | plain | ratio | MB | plain | ratio |")
+    print("|---" * 12 + "|")
+    with tempfile.TemporaryDirectory() as folder:
+        files = [os.path.join(folder, name) for name in ("a.wkt", "b.wkt")]
+        for kind in arguments.kinds:
+            over = set()
+            for size in sorted(arguments.sizes):
+                if over >= set(arguments.commands):
+                    break
+                programs.apart(lambda: maps.write(kind, size, files))
+                for command in arguments.commands:
+                    if command in over:
+                        continue
+                    row = Row(arguments, folder, files, command)
+                    print("| %s | %s | %s | %s |%s" % (kind, "{:,}".format(size), command, " | ".join(row.numbers()), row.note()), flush=True)
+                    wrong |= bool(row.note())
+                    if any(series.is_over() for series in row.ours):
+                        over.add(command)
+                    grown.setdefault((kind, command), []).append((size, row.ours[0].median("processor")))
+    for (kind, command), times in grown.items():
+        if len(times) > 1:
+            print("growth of %s, %s: %s" % (kind, command, growth(times)))
+    return int(wrong)
