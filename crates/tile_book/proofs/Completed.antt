@@ -1,6 +1,6 @@
 -- The pieces that a book holds, taken out in the order of their numbers.
 use Rattle.std.proofs.Common.{◌≡◌, ◌⊎◌, inl, inr, ℕ, zero, suc, ◌+◌, ◌<◌, ◌≤◌, List, [], ◌∷◌, ◌++◌, length, length-append, refl, sym, ap, ◌∙◌, subst, arith, ⊎_elim, length-set, get_or-set_other}
-use Rattle.std.specs.Prelude.{Option, Some, None, MatchOption, slice_get, slice_index_or, slice_set}
+use Rattle.std.specs.Prelude.{Option, Some, None, slice_get, slice_index_or, slice_set}
 use Rattle.tile_book.specs.Books.{BookView, HoldsAt, IsReplay, StandInOrder}
 
 -- from number n on, each place holds a piece of its number, if any
