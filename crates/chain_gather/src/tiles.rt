@@ -149,7 +149,6 @@ pub fn gather_made<T: Tiled, A: Allocator + Copy>(
 ) -> Result<Rounded<A>, NoMemory>
     requires grid { grid.now ≡ T.grid }
     requires segments { segments.now ≡ T.segments }
-    requires limits { All (λ s. AreInLimit s.a s.b) segments.now }
     requires covered { HaveTiles grid.now segments.now }
     requires one_each { length pieces.items ≡ tile_count grid.now }
     requires in_order { StandInOrder (λ p. p.number) pieces.items }
