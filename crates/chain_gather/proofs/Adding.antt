@@ -124,6 +124,10 @@ pub on_ok_both : {T E : Type 0} (r : Result T E) (P Q R : Type 0) → OnOk r P �
 on_ok_both (Ok x) P Q R p q f = f p q
 on_ok_both (Err e) P Q R p q f = tt
 
+pub on_ok_all : {T E : Type 0} (r : Result T E) (P Q R S : Type 0) → OnOk r P → OnOk r Q → OnOk r R → (P → Q → R → S) → OnOk r S
+on_ok_all (Ok x) P Q R S p q s f = f p q s
+on_ok_all (Err e) P Q R S p q s f = tt
+
 -- as lists that were pushed to
 pub gathered_as : {A : Type 0} (g : Tiling) (segments : List Seg) (held : List (Option (Piece A))) (k : ℕ) (records records' : List Record) (tiles tiles' : List TileNumbers) (remade remade' : ℕ) → records' ≡ records → tiles' ≡ tiles → remade' ≡ remade
     → AreGathered g segments held k records tiles remade → AreGathered g segments held k records' tiles' remade'

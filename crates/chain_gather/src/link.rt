@@ -1,6 +1,6 @@
 //! Links between neighbours in a route, and how often each edge is one.
 
-ghost use Rattle.std.specs.Prelude.{ℕ, ◌≡◌, ◌≢◌, ◌+◌, ◌<◌, ◌^◌, ◌⊎◌, IfOk, All, length, if◌then◌else◌, count_by};
+ghost use Rattle.std.specs.Prelude.{ℕ, ◌≡◌, ◌≢◌, ◌+◌, ◌<◌, ◌^◌, ◌⊎◌, ◌++◌, ◌∷◌, [], IfOk, OnOk, All, length, if◌then◌else◌, count_by};
 ghost use Rattle.geom.specs.declared.edge.Edge.{Edge};
 ghost use Rattle.geom.specs.declared.segment.Source.{Source};
 ghost use Rattle.geom.specs.Segments.{same_source};
@@ -89,6 +89,14 @@ pub(crate) fn links<A: Allocator>(
     Ok(list)
 }
 
+/// Adds an edge whose links are all counted.
+fn add_counted<A: Allocator>(list: &mut Vec<Counted, A>, counted: Counted) -> Result<(), NoMemory>
+    ensures { OnOk result (list.new.items ≡ list.old.items ++ counted ∷ []) }
+{
+    list.push(counted)?;
+    Ok(())
+}
+
 /// Each edge among the links, ascending, with its counts.
 pub(crate) fn counts<A: Allocator + Copy>(
     alloc: A,
@@ -105,11 +113,11 @@ pub(crate) fn counts<A: Allocator + Copy>(
     let mut current = uncounted(first.edge);
     for link in &links {
         if current.edge != link.edge {
-            list.push(current)?;
+            add_counted(&mut list, current)?;
             current = uncounted(link.edge);
         }
         current = and_one(current, link.layer);
     }
-    list.push(current)?;
+    add_counted(&mut list, current)?;
     Ok(list)
 }

@@ -1,9 +1,11 @@
 //! Tests of gathering, with books that hold nothing, pieces of other segments, or the tiles' own pieces.
 
-ghost use Rattle.std.specs.Prelude.{◌≡◌, ◌≤◌, All, Contains, IfOk, IfSome};
+ghost use Rattle.std.specs.Prelude.{◌≡◌, ◌≤◌, All, Contains, IfOk, IfSome, length};
+ghost use Rattle.tiling.specs.Tiles.{tile_count};
+ghost use Rattle.tile_book.specs.Books.{StandInOrder};
 ghost use Rattle.geom.specs.Box.{IsInBox};
 ghost use Rattle.geom.specs.Limit.{AreInLimit};
-ghost use Rattle.chain_gather.specs.Gathered.{AreBinsOf, AreBoxesOf};
+ghost use Rattle.chain_gather.specs.Gathered.{AreBinsOf, AreBoxesOf, HaveTiles};
 
 use super::*;
 use bumpalo::Bump;
@@ -161,6 +163,62 @@ fn gathered<L: Limited, A: Allocator + Copy>(
     let strange = segments_in(alloc, &bounds, others)?;
     let book = book_of::<L, A>(rt, alloc, blank, &grid, posted, &strange)?;
     gather(own, book, &grid, &bins, &segments)
+}
+
+// The pieces of all tiles of a grid over segments.
+fn pieces_of<T: Tiled, A: Allocator + Copy>(
+    alloc: A,
+    grid: &Grid,
+    segments: &[Seg],
+) -> Result<Vec<TilePiece<T, A>, A>, NoMemory>
+    requires tiled { (grid.now ≡ T.grid) × (segments.now ≡ T.segments) }
+    requires in_limit { All (λ s. AreInLimit s.a s.b) segments.now }
+    ensures one_each { IfOk result (λ v. length v.items ≡ tile_count grid.now) }
+    ensures in_order { IfOk result (λ v. StandInOrder (λ p. p.number) v.items) }
+{
+    let bins = bins_of(alloc, grid, segments)?;
+    let mut pieces = Vec::new(alloc);
+    let mut numbers = Vec::new(alloc);
+    for tile in 0..grid.tiles() {
+        bins.bin(tile, &mut numbers)?;
+        let made = piece(alloc, grid, tile, segments, &numbers)?;
+        pieces.push(TilePiece::of_piece(made))?;
+    }
+    Ok(pieces)
+}
+
+// The rounded edges of segments whose boxes a grid covers, from the pieces of its tiles.
+fn gathered_made<T: Tiled>(
+    alloc: Global,
+    grid: &Grid,
+    segments: &[Seg],
+) -> Result<Rounded<Global>, NoMemory>
+    requires tiled { (grid.now ≡ T.grid) × (segments.now ≡ T.segments) }
+    requires in_limit { All (λ s. AreInLimit s.a s.b) segments.now }
+    requires covered { HaveTiles grid.now segments.now }
+{
+    let pieces: Vec<TilePiece<T, Global>> = pieces_of(alloc, grid, segments)?;
+    gather_made(alloc, pieces, grid, segments)
+}
+
+// The row over tiles of side 16.
+fn row_made(alloc: Global) -> Result<Rounded<Global>, NoMemory> {
+    let bounds = Rect::spanned_by(point((0, 0)), point((16, 16)));
+    if !bounds.lo.is_in_limit() || !bounds.hi.is_in_limit() {
+        return Err(NoMemory);
+    }
+    let Ok(grid) = Grid::new(Some(bounds), 16) else {
+        return Err(NoMemory);
+    };
+    let segments = segments_in(alloc, &bounds, &ROW)?;
+    gathered_made::<Brand>(alloc, &grid, &segments)
+}
+
+#[test]
+fn gathers_known_pieces(rt: HostRuntime) -> Result<(), Fail> {
+    let rounded = row_made(rt.alloc())?;
+    assert!(rt; is_row(&rounded) && rounded.remade == 0);
+    Ok(())
 }
 
 fn is_edge(counted: &Counted, expected: &(Ends, u32)) -> bool {

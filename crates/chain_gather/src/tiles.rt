@@ -48,6 +48,18 @@ impl<A: Allocator> Found<A> {
         })?;
         Ok(())
     }
+
+    /// Adds a tile whose piece was made anew.
+    fn add_anew(&mut self, made: &Piece<A>) -> Result<(), NoMemory>
+        requires { self.old.remade < 65536 }
+        ensures records { OnOk result (self.new.records.items ≡ self.old.records.items ++ made.now.records.items) }
+        ensures tiles { OnOk result (self.new.tiles.items ≡ self.old.tiles.items ++ (record { hot = made.now.hot; records = length made.now.records.items }) ∷ []) }
+        ensures remade { OnOk result (self.new.remade ≡ self.old.remade + 1) }
+    {
+        self.add(made.hot, &made.records)?;
+        self.remade += 1;
+        Ok(())
+    }
 }
 
 /// Adds a tile: by the book's piece, or where that is missing or was made from something else, by a new one. The numbers are
@@ -73,9 +85,7 @@ fn add_tile<L: Limited, A: Allocator + Copy>(
         return found.add(held.hot, &held.records);
     }
     let made = piece(alloc, grid, tile, segments, numbers)?;
-    found.add(made.hot, &made.records)?;
-    found.remade += 1;
-    Ok(())
+    found.add_anew(&made)
 }
 
 /// All tiles, in the order of their numbers.
@@ -139,7 +149,6 @@ pub fn gather_made<T: Tiled, A: Allocator + Copy>(
 ) -> Result<Rounded<A>, NoMemory>
     requires grid { grid.now ≡ T.grid }
     requires segments { segments.now ≡ T.segments }
-    requires limits { All (λ s. AreInLimit s.a s.b) segments.now }
     requires covered { HaveTiles grid.now segments.now }
     requires one_each { length pieces.items ≡ tile_count grid.now }
     requires in_order { StandInOrder (λ p. p.number) pieces.items }

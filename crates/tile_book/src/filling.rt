@@ -96,7 +96,7 @@ where
 }
 
 // The pieces of a book, and a new one of each number that it lacks.
-fn completed<A: Allocator + Copy, J: Job<A>, L: Limited>(
+pub(crate) fn completed<A: Allocator + Copy, J: Job<A>, L: Limited>(
     alloc: A,
     job: &J,
     book: Book<J::Piece, L, A>,

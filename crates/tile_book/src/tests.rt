@@ -3,6 +3,7 @@
 ghost use Rattle.std.specs.Prelude.{◌≡◌, ◌<◌, ◌≤◌, IfOk};
 
 use super::*;
+use crate::filling::completed;
 use bumpalo::Bump;
 use geom::{Fault, NoMemory};
 use std::alloc::{Allocator, Global};
@@ -422,6 +423,63 @@ fn two_workers<L: Limited + Send + Sync, G: Gate + Sync, R: Threads + Wait + Abo
     assert!(rt; filled.returned == 0);
     assert!(rt; filled.book.accepted().len() == 5);
     assert!(rt; filled.book.held().iter().all(|note| note.is_some()));
+    Ok(())
+}
+
+#[test]
+fn all_notes_of_five_numbers(rt: HostRuntime) -> Result<(), Fail> {
+    all_notes::<Brand, _>(&rt, rt.alloc(), Blank::new(2))
+}
+
+fn all_notes<L: Limited + Send + Sync, R: Threads + Wait + Abort + Sync>(
+    rt: &R,
+    alloc: Global,
+    blank: Blank,
+) -> Result<(), Fail>
+    requires name { blank.name ≡ L.name }
+    requires parts { (blank.parts ≡ L.parts) × (blank.parts ≡ 2) }
+    requires limit { L.limit ≡ 5 }
+{
+    let job = Notes { count: 5, room: 5 };
+    let notes = make_all::<Global, Notes, L, OpenGate, R>(
+        rt,
+        alloc,
+        blank,
+        5,
+        2,
+        &job,
+        Phase::Route,
+        &OpenGate,
+    )?;
+    let numbers: Vec<u32> = notes.iter().map(|note| note.number).collect(alloc)?;
+    assert!(rt; numbers.as_slice() == [0, 1, 2, 3, 4].as_slice());
+    Ok(())
+}
+
+// A book that lacks pieces: number 1 of three was posted, and the other two are made when all are asked for.
+#[test]
+fn notes_that_the_book_lacks(rt: HostRuntime) -> Result<(), Fail> {
+    lacking::<Brand, _>(&rt, rt.alloc(), Blank::new(1))
+}
+
+fn lacking<L: Limited, R: Wait + Abort>(rt: &R, alloc: Global, blank: Blank) -> Result<(), Fail>
+    requires name { blank.name ≡ L.name }
+    requires parts { (blank.parts ≡ L.parts) × (blank.parts ≡ 1) }
+    requires limit { L.limit ≡ 3 }
+{
+    let (desk, mut shares) = Desk::<Note, L, Global>::new(alloc, blank, 3, 1)?;
+    let Some(share) = shares.pop() else {
+        return Err(Fail::from("one share"));
+    };
+    let (share, _answer) = desk.post(rt, share, Note { number: 1 });
+    shares.push(share)?;
+    let Ok(book) = close(desk, shares) else {
+        return Err(Fail::from("all shares are there"));
+    };
+    let job = Notes { count: 3, room: 3 };
+    let notes = completed::<Global, Notes, L>(alloc, &job, book)?;
+    let numbers: Vec<u32> = notes.iter().map(|note| note.number).collect(alloc)?;
+    assert!(rt; numbers.as_slice() == [0, 1, 2].as_slice());
     Ok(())
 }
 

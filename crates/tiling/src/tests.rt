@@ -78,6 +78,35 @@ fn grids(rt: HostRuntime) {
     }
 }
 
+// How many columns and rows there are: tiles whose rectangle begins as far down, and as far left, as that of the first.
+fn columns_and_rows(bounds: Option<Rect>, side: u32) -> Result<(u32, u32), Fault> {
+    let grid = grid_over(bounds, side)?;
+    let (mut columns, mut rows) = (0u32, 0u32);
+    for number in 0..grid.tiles() {
+        let (first, lo) = (grid.rect(0).lo, grid.rect(number).lo);
+        if lo.y == first.y {
+            columns = columns.wrapping_add(1);
+        }
+        if lo.x == first.x {
+            rows = rows.wrapping_add(1);
+        }
+    }
+    Ok((columns, rows))
+}
+
+#[test]
+fn columns_and_rows_of_grids(rt: HostRuntime) {
+    let table = [
+        (Some(rect(0, 0, 600, 600)), (38u32, 38u32)),
+        (Some(rect(-17, 0, 15, 0)), (3, 1)),
+        (Some(rect(0, 0, 16, 16)), (2, 2)),
+        (None, (0, 0)),
+    ];
+    for (bounds, counts) in table {
+        assert!(rt; columns_and_rows(bounds, 16) == Ok(counts));
+    }
+}
+
 #[test]
 fn points_and_tiles(rt: HostRuntime) {
     let wide = rect(0, 0, 600, 600);

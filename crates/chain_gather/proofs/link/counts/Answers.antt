@@ -5,7 +5,7 @@ use Rattle.chain_gather.proofs.Tally.{IsAt}
 use Rattle.chain_gather.proofs.Tally.{IsTally, AreAscending, ascending_from, ne_apart, ne_same, IsTally-none, IsTally-next, IsTally-more, tally_small, counts_are}
 use Rattle.chain_gather.specs.contracts.link.LinkOrd.TheImpl.Laws.{total-law}
 use Rattle.chain_gather.proofs.link.counts.Goals as goal
-use Rattle.chain_gather.proofs.link.counts.Goals.{then-ne+in_ok-push, else-ne}
+use Rattle.chain_gather.proofs.link.counts.Goals.{then-ne+in_ok-add_counted, else-ne}
 
 pub and_one-current-requires : goal.and_one-current-requires
 and_one-current-requires g c =
@@ -16,7 +16,7 @@ and_one-current-requires g c =
     let short : length links < 2 ^ 32 = subst (λ (ls : List Link). length ls < 2 ^ 32) (sym c.deref-link-items.ensures.value) (let e = length_permutation _ _ c.sort_unstable.ensures.permutation in let r = c.requires in omega arith) in
     let below = c.loop-link-test.true in
     let small : (c.if-ne.current.in_a + 1 < 2 ^ 32) × (c.if-ne.current.in_b + 1 < 2 ^ 32) = elim c.if-ne.branch [
-      | then-ne+in_ok-push w ↦ rw w.current-is (let a = w.uncounted-current-then-ne.ensures.in_a in let b = w.uncounted-current-then-ne.ensures.in_b in (omega arith, omega arith))
+      | then-ne+in_ok-add_counted w ↦ rw w.current-is (let a = w.uncounted-current-then-ne.ensures.in_a in let b = w.uncounted-current-then-ne.ensures.in_b in (omega arith, omega arith))
       | else-ne w ↦ rw w.current-is (let t = tally_small links i c.loop-link.list.items c.loop-link.current c.loop-link.invariant.0 in (omega arith, omega arith))
     ] in
     record { room_a = small.0; room_b = small.1 }
@@ -38,7 +38,7 @@ loop-link-preserved g c =
     let up = subst AreAscending (sym c.deref-link-items.ensures.value) (ascending_from _ total-law (λ l m. (_, refl)) c.sort_unstable.new.self.items c.sort_unstable.ensures.sorted) in
     let at : IsAt links i x = record { below = c.loop-link-test.true; item = sym c.link-item.is } in
     let ready : IsTally links i c.if-ne.list.items c.if-ne.current × (c.if-ne.current.edge ≡ x.edge) = elim c.if-ne.branch [
-      | then-ne+in_ok-push w ↦ rw (w.list-is, w.current-is, w.in_ok-push.ensures.items) (
+      | then-ne+in_ok-add_counted w ↦ rw (w.list-is, w.current-is, w.in_ok-add_counted.ensures) (
         IsTally-next links i c.loop-link.list.items c.loop-link.current w.uncounted-current-then-ne.result x up at c.loop-link.invariant.0 c.loop-link.invariant.1
             (ne_apart c.loop-link.current.edge x.edge c.ne.result c.ne.ensures w.if-ne.true) w.uncounted-current-then-ne.ensures.edge w.uncounted-current-then-ne.ensures.in_a w.uncounted-current-then-ne.ensures.in_b,
         w.uncounted-current-then-ne.ensures.edge,
@@ -54,5 +54,5 @@ returns g c =
     let first = c.in-Some.ensures.item in
     let same : c.deref.result.now ≡ links = c.deref.ensures.value ∙ sym c.deref-link-items.ensures.value in
     let some : 0 < length links = subst (λ (ls : List Link). 0 < length ls) same first.3.0 in
-    rw c.in_ok-push-2.ensures.items
+    rw c.in_ok-add_counted-2.ensures
     (counts_are c.args.links.items links c.loop-link.link-index c.loop-link.list.items c.loop-link.current moved c.loop-link-test.false some c.loop-link.invariant.0 c.loop-link.invariant.1)

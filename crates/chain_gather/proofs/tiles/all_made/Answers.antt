@@ -1,9 +1,8 @@
-use Rattle.std.proofs.Common.{◌≡◌, ℕ, ◌+◌, List, refl, subst, length, Some, ◌∙◌}
+use Rattle.std.proofs.Common.{◌≡◌, ℕ, refl, subst, length, Some, ◌∙◌}
 use Rattle.std.specs.Prelude.{slice_get}
 use Rattle.std.proofs.lemmas.Option.{slice_get_read}
 use Rattle.tiling.specs.Tiles.{Owns}
 use Rattle.routing.specs.Pieces.{IsPieceOf}
-use Rattle.chain_gather.specs.Gathered.{AreTileNumbers, HasTilesBelow}
 use Rattle.chain_gather.proofs.Adding.{tiles_more}
 use Rattle.chain_gather.proofs.tiles.all_made.Goals as goal
 

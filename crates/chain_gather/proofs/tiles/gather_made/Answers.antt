@@ -1,9 +1,8 @@
 use Rattle.std.proofs.Common.{ℕ, List, ◌≡◌, ◌∙◌, ap, sym, subst, length}
 use Rattle.std.proofs.Math.Logic.{∥∥₁_map}
-use Rattle.std.proofs.lemmas.Result.{IfOk-weaker}
 use Rattle.geom.specs.declared.segment.Seg.{Seg}
 use Rattle.tiling.specs.Tiles.{Tiling, tile_count}
-use Rattle.chain_gather.specs.Gathered.{AreTileNumbers, HasTilesBelow}
+use Rattle.chain_gather.specs.Gathered.{HasTilesBelow}
 use Rattle.chain_gather.proofs.Covering.{are_covered}
 use Rattle.chain_gather.proofs.Gathering.{tiles_have}
 use Rattle.chain_gather.proofs.tiles.gather_made.Goals as goal
