@@ -40,9 +40,6 @@ enum {
     OVERLAY_SMALL = 4    /* there is a text, and it doesn't fit into the room */
 };
 
-/* The tile side that the program takes where none is given, in grid units. It has no influence on the text. */
-#define OVERLAY_SIDE 262144u
-
 /* Enough room for the words of every answer. */
 #define OVERLAY_WORDS 64
 
@@ -70,6 +67,10 @@ void overlay_size(uint32_t call, uint32_t side, const uint8_t *a, size_t a_lengt
 /* Puts the words of an answer without a text at the beginning of the room, as `A: 1 syntax at 16`, without a 0 or a line
  * feed, and answers their length: 0 where they don't fit, where memory ran out, or where there is nothing to say. */
 size_t overlay_words(const struct overlay_answer *answer, uint8_t *room, size_t room_length);
+
+/* The tile side that the program takes where none is given: 262144, or the least greater power of two that doesn't give too
+ * many tiles. The side has no influence on the text. Both layers are read once for that. */
+uint32_t overlay_side(const uint8_t *a, size_t a_length, const uint8_t *b, size_t b_length);
 
 /* The version of these calls: 1. */
 uint32_t overlay_version(void);

@@ -6,6 +6,8 @@
 #include <stdlib.h>
 #include <string.h>
 
+static const uint32_t SIDE = 262144;
+
 static long failures;
 
 static void check(int holds, const char *what) {
@@ -57,7 +59,7 @@ static void rooms(void) {
         for (size_t length = 0; length < wanted + 3; length++) {
             uint8_t *room = malloc(length ? length : 1);
             memset(room, 0xA5, length ? length : 1);
-            struct overlay_answer answer = filled(call, OVERLAY_SIDE, SQUARE, OTHER, room, length);
+            struct overlay_answer answer = filled(call, SIDE, SQUARE, OTHER, room, length);
             check(answer.length == wanted && !answer.detail && !answer.number && !answer.part, "fields of a text");
             check(answer.status == (length < wanted ? OVERLAY_SMALL : OVERLAY_ANSWERED), "status of a text");
             size_t from = length < wanted ? 0 : wanted;
@@ -104,6 +106,14 @@ static void refusals(void) {
     }
 }
 
+static void sides(void) {
+    static const char *const WHOLE =
+        "POLYGON ((-268435456 -268435456, 268435456 -268435456, 268435456 268435456, -268435456 268435456, -268435456 -268435456))";
+    check(overlay_side((const uint8_t *)SQUARE, strlen(SQUARE), (const uint8_t *)"", 0) == 262144, "side of a square");
+    check(overlay_side((const uint8_t *)SQUARE, strlen(SQUARE), (const uint8_t *)WHOLE, strlen(WHOLE)) == 4194304, "side of the whole range");
+    check(overlay_side((const uint8_t *)"POLYGON", 7, (const uint8_t *)WHOLE, strlen(WHOLE)) == 262144, "side of what is refused");
+}
+
 /* A layer of one segment more than is allowed, and one of a byte more. */
 static void large(void) {
     size_t one = strlen(SQUARE) + 1, count = 262145;
@@ -114,7 +124,7 @@ static void large(void) {
     }
     many[one * count] = 0;
     uint8_t room[1], words[OVERLAY_WORDS];
-    struct overlay_answer answer = filled(0, OVERLAY_SIDE, many, "", room, sizeof room);
+    struct overlay_answer answer = filled(0, SIDE, many, "", room, sizeof room);
     check(answer.status == OVERLAY_REFUSED && answer.number == 5 && answer.part == 2 && answer.detail == 1048580, "too many segments");
     check(overlay_words(&answer, words, sizeof words) == 28 && !memcmp(words, "5 too many segments: 1048580", 28), "words of a count");
     free(many);
@@ -122,7 +132,7 @@ static void large(void) {
     char *blank = malloc(limit + 2);
     memset(blank, ' ', limit + 1);
     blank[limit + 1] = 0;
-    answer = filled(0, OVERLAY_SIDE, "", blank, room, sizeof room);
+    answer = filled(0, SIDE, "", blank, room, sizeof room);
     check(answer.status == OVERLAY_REFUSED && answer.number == 0 && answer.part == 1 && !answer.detail, "layer too long");
     check(overlay_words(&answer, words, sizeof words) == 19 && !memcmp(words, "B: 0 layer too long", 19), "words of a long layer");
     free(blank);
@@ -169,10 +179,11 @@ static char *read_file(const char *name) {
 
 static int print(char **words) {
     char *a = read_file(words[2]), *b = read_file(words[3]);
+    uint32_t side = overlay_side((uint8_t *)a, strlen(a), (uint8_t *)b, strlen(b));
     struct overlay_answer answer;
-    overlay_size((uint32_t)atoi(words[1]), OVERLAY_SIDE, (uint8_t *)a, strlen(a), (uint8_t *)b, strlen(b), &answer);
+    overlay_size((uint32_t)atoi(words[1]), side, (uint8_t *)a, strlen(a), (uint8_t *)b, strlen(b), &answer);
     uint8_t *room = malloc(answer.length ? answer.length : 1);
-    overlay_fill((uint32_t)atoi(words[1]), OVERLAY_SIDE, (uint8_t *)a, strlen(a), (uint8_t *)b, strlen(b), room, answer.length, &answer);
+    overlay_fill((uint32_t)atoi(words[1]), side, (uint8_t *)a, strlen(a), (uint8_t *)b, strlen(b), room, answer.length, &answer);
     fwrite(room, 1, answer.length, stdout);
     free(room);
     free(a);
@@ -186,6 +197,7 @@ int main(int count, char **words) {
     check(overlay_version() == 1, "the version");
     rooms();
     refusals();
+    sides();
     large();
     broken();
     printf("%ld failed\n", failures);

@@ -1,16 +1,14 @@
 """Overlay of polygon layers on the integer grid, by the proved library.
 
 Layers are texts of POLYGON and MULTIPOLYGON geometries with whole coordinates, as str or bytes. The answer is of the first
-layer's type. A call runs on the calling thread, and the interpreter's lock is released meanwhile.
+layer's type. A call runs on the calling thread, and the interpreter's lock is released meanwhile. The side of a tile, in grid
+units, has no influence on the answer; where none is given, one is taken that fits the layers.
 """
 
 import ctypes
 import os
 
-__all__ = ["union", "intersection", "difference", "symdifference", "edges", "Refused", "OutOfMemory", "SIDE"]
-
-#: The side of a tile where none is given, in grid units. It has no influence on the answer.
-SIDE = 262144
+__all__ = ["union", "intersection", "difference", "symdifference", "edges", "Refused", "OutOfMemory"]
 
 _ANSWERED, _NO_MEMORY, _NO_CALL, _REFUSED, _SMALL = range(5)
 _SYNTAX, _OPEN_RING, _SEGMENTS, _TILES = 1, 4, 5, 8
@@ -57,6 +55,8 @@ def _opened():
     library.overlay_fill.restype = None
     library.overlay_words.argtypes = [ctypes.POINTER(_Answer), *text]
     library.overlay_words.restype = ctypes.c_size_t
+    library.overlay_side.argtypes = [*text, *text]
+    library.overlay_side.restype = ctypes.c_uint32
     library.overlay_version.argtypes = []
     library.overlay_version.restype = ctypes.c_uint32
     if library.overlay_version() != 1:
@@ -85,13 +85,16 @@ def _fault(answer):
     )
 
 
-def _call(call, a, b, side):
+def _number(side):
     if isinstance(side, bool) or not isinstance(side, int):
         raise TypeError("the side of a tile is an int")
-    if not 0 <= side < 2**32:
-        side = 0  # refused as every other bad side
+    return side if 0 <= side < 2**32 else 0  # 0 is refused as every other bad side
+
+
+def _call(call, a, b, side):
     is_text = isinstance(a, str)
     a, b = (layer.encode() if isinstance(layer, str) else bytes(memoryview(layer)) for layer in (a, b))
+    side = _library.overlay_side(a, len(a), b, len(b)) if side is None else _number(side)
     answer = _Answer()
     size = 256 + 2 * (len(a) + len(b))
     while True:
@@ -105,26 +108,26 @@ def _call(call, a, b, side):
         size = answer.length
 
 
-def union(a, b, side=SIDE):
+def union(a, b, side=None):
     """The points of either layer, as one MULTIPOLYGON line."""
     return _call(0, a, b, side)
 
 
-def intersection(a, b, side=SIDE):
+def intersection(a, b, side=None):
     """The points of both layers, as one MULTIPOLYGON line."""
     return _call(1, a, b, side)
 
 
-def difference(a, b, side=SIDE):
+def difference(a, b, side=None):
     """The points of the first layer and not of the second, as one MULTIPOLYGON line."""
     return _call(2, a, b, side)
 
 
-def symdifference(a, b, side=SIDE):
+def symdifference(a, b, side=None):
     """The points of just one of the layers, as one MULTIPOLYGON line."""
     return _call(3, a, b, side)
 
 
-def edges(a, b, side=SIDE):
+def edges(a, b, side=None):
     """A line `x1 y1 x2 y2 a b` for each edge of both layers after rounding, with its count in either layer."""
     return _call(4, a, b, side)

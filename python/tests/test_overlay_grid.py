@@ -80,6 +80,14 @@ def test_refused(word, layers, plan, want):
     assert (str(again), again.number, again.layer, again.offset, again.count) == want
 
 
+def test_side_that_fits():
+    whole = "POLYGON ((-268435456 -268435456, 268435456 -268435456, 268435456 268435456, -268435456 268435456, -268435456 -268435456))"
+    assert overlay_grid.union(whole, "").startswith("MULTIPOLYGON (((-268435456 -268435456, 268435456 -268435456, ")
+    with pytest.raises(overlay_grid.Refused) as fault:
+        overlay_grid.union(whole, "", side=262144)
+    assert (fault.value.number, fault.value.layer, fault.value.count) == (8, None, 4198401)
+
+
 def test_types():
     with pytest.raises(TypeError):
         overlay_grid.union(SQUARE, OTHER, side=16.0)

@@ -1,10 +1,12 @@
 //! The calls that C sees.
 
 ghost use Rattle.std.specs.Prelude.{◌≡◌, ◌≤◌, ◌<◌, ◌⊎◌, length};
+ghost use Rattle.engine.specs.Fitting.{IsFittingSide};
 ghost use Rattle.overlay_c.specs.Boundary.{Fills, Holds, Sizes, plain};
 
 use crate::answer::{ANSWERED, OverlayAnswer, SMALL, plain_answer};
 use crate::made::text_of;
+use engine::fitting_side;
 use std::alloc::Global;
 
 /// The version of these calls and of what they answer.
@@ -66,6 +68,14 @@ fn whole(text: &[u8]) -> OverlayAnswer
     ensures { result ≡ plain 0 (length text.now) }
 {
     plain_answer(ANSWERED, text.len())
+}
+
+/// The side of a tile that fits two layers: 262,144, or the least greater power of two that doesn't give too many tiles.
+#[unsafe(no_mangle)]
+pub extern "C" fn overlay_side(a: &[u8], b: &[u8]) -> u32
+    ensures { IsFittingSide a.now b.now result }
+{
+    fitting_side(a, b)
 }
 
 /// The version of these calls.
