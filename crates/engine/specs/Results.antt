@@ -1,5 +1,5 @@
 -- The text of a set operation (OGC 06-103r4 for the text; the rest is own).
-use Rattle.std.specs.Prelude.{◌≡◌, ℕ, List, [], ◌∷◌, ◌++◌, All, codes}
+use Rattle.std.specs.Prelude.{◌≡◌, ℕ, List, [], ◌∷◌, ◌++◌, All, codes, map}
 use Rattle.geom.specs.declared.op.Op.{Op}
 use Rattle.geom.specs.declared.edge.Counted.{Counted}
 use Rattle.geom.specs.declared.directed.DirectedEdge.{DirectedEdge}
@@ -10,7 +10,8 @@ use Rattle.geom.specs.Pixel.{Point}
 use Rattle.geom.specs.ResultEdges.{holds_at}
 use Rattle.geom.specs.RingParity.{ring_parity}
 use Rattle.polygonize.specs.Written.{AreSimple}
-use Rattle.wkt.specs.Canonical.{listed, ring_text}
+use Rattle.wkt.specs.Canonical.{closed, listed, ring_text}
+use Rattle.wkt.specs.Refusals.{IsLayerOf}
 use Rattle.engine.specs.declared.engine.Plan.{Plan}
 use Rattle.engine.specs.declared.text.Report.{Report}
 use Rattle.engine.specs.Runs.{Reports}
@@ -27,6 +28,7 @@ result_line (p ∷ ps) = codes "MULTIPOLYGON " ++ (listed shape_text p ps ++ 10 
 -- The text is the canonical line of the polygons of the result's directed edges: each shell with its holes, in order. Their rings
 -- together have each of these edges once, none visits a point twice, and each is read from its least rotation. Any point lies in
 -- the polygons, by the even-odd rule over all their rings, exactly where the operation holds of its parities in the two rounded layers.
+-- Without its line feed the text reads back, by the grammar of layer texts, as exactly these rings, each closed.
 pub record IsResultText (op : Op) (counted : List Counted) (text : List ℕ) : Type 0 where
   pub directed : List DirectedEdge
   pub bound : AreResultEdges op counted directed
@@ -37,6 +39,7 @@ pub record IsResultText (op : Op) (counted : List Counted) (text : List ℕ) : T
   pub least : All (λ ring. IsLeastRotation ring ring) (written_rings polygons)
   pub points : (z : Point) → ring_parity (written_rings polygons) z ≡ holds_at op counted z
   pub written : text ≡ result_line polygons
+  pub reads : (line : List ℕ) × (text ≡ line ++ 10 ∷ []) × IsLayerOf line (map closed (written_rings polygons))
 
 -- the text of the result, and its report
 pub record IsResultWritten {M : Type 0} (op : Op) (plan : Plan) (a b : List ℕ) (text : List ℕ) (report : Report M) : Type 0 where

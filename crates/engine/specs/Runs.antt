@@ -131,3 +131,12 @@ Stops failed settled taken old new plan a b IsAnswer part fault = IsRefusedAt pl
 abbrev pub Runs : {S M : Type 0} → (S → ℕ) → (S → Bool) → (S → Option (List ℕ)) → S → S → Plan → List ℕ → List ℕ → (List ℕ → Report M → Type 0) → Result (Report M) RunFault → Type 0
 Runs failed settled taken old new plan a b IsAnswer r =
     MatchResult r (λ report. Answers failed settled taken old new plan a b IsAnswer report) (λ f. Stops failed settled taken old new plan a b IsAnswer f.at f.fault)
+
+-- the plan of a caller without threads
+abbrev pub alone : ℕ → Plan
+alone side = record { side = side; workers = 1 }
+
+-- a refusal without a sink
+abbrev pub Declines : Plan → List ℕ → List ℕ → Part → Fault → Type 0
+Declines plan a b part Memory = (part ≡ Run) × MayRun plan a b
+Declines plan a b part fault = IsRefusedAt plan a b part fault

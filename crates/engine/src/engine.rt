@@ -42,9 +42,9 @@ pub(crate) struct Inputs {
     pub grid: Grid,
 }
 
-/// What is written, and the numbers of the run.
+/// A text, and the numbers of the run that made it.
 #[derive(Drop)]
-pub(crate) struct Made<A: Allocator> {
+pub struct Made<A: Allocator> {
     pub text: Vec<u8, A>,
     pub report: Report<A>,
 }

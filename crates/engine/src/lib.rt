@@ -1,6 +1,7 @@
 //! The engine: two layer texts in, the text of their rounded edges, or of an operation's result, to a sink.
 #![tactic(auto)]
 
+mod alone;
 mod engine;
 mod fitting;
 mod laws;
@@ -10,7 +11,8 @@ mod segments;
 mod sink;
 mod text;
 
-pub use engine::{Plan, edges};
+pub use alone::{edges_alone, run_alone};
+pub use engine::{Made, Plan, edges};
 pub use fitting::fitting_side;
 pub use laws::{edges_text_is_one, one_refusal, result_text_is_one, tiles_are_one};
 pub use operation::{result_text, run};

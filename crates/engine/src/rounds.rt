@@ -27,11 +27,11 @@ use wkt::read_layer;
 
 /// Makes the piece of each tile from the segments in its bin.
 #[derive(Drop)]
-struct Pieces<'a, T: Tiled, A: Allocator> {
-    grid: &'a Grid,
-    bins: &'a Bins<A>,
-    segments: &'a [Seg],
-    of: PhantomData<T>,
+pub(crate) struct Pieces<'a, T: Tiled, A: Allocator> {
+    pub grid: &'a Grid,
+    pub bins: &'a Bins<A>,
+    pub segments: &'a [Seg],
+    pub of: PhantomData<T>,
     ghost in_limit: { AllInLimit segments.now },
     ghost are_bins: { ∥ AreBinsOf grid.now segments.now bins.now ∥₁ },
     ghost are_tiled: { (grid.now ≡ T.grid) × (segments.now ≡ T.segments) },
@@ -71,7 +71,7 @@ pub fn rounded_layers<A: Allocator + Copy + Send + Sync, G: Gate + Sync, R: Thre
 }
 
 /// The segments of two layer texts.
-fn read_segments<A: Allocator + Copy>(
+pub(crate) fn read_segments<A: Allocator + Copy>(
     alloc: A,
     a: &[u8],
     b: &[u8],

@@ -15,6 +15,7 @@ use tile_book::{Gate, OpenGate};
 mod operations;
 mod plans;
 mod sinks;
+mod streams;
 
 const SQUARE: &str = "POLYGON ((0 0, 4 0, 4 4, 0 4, 0 0))\n";
 

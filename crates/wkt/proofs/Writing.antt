@@ -6,6 +6,7 @@ use Rattle.std.proofs.lemmas.Grind.{flat_map-append}
 use Rattle.geom.specs.declared.point.Pt.{Pt}
 use Rattle.geom.specs.declared.ring.Polygon.{Polygon}
 use Rattle.geom.specs.Words.{pt_words}
+use Rattle.wkt.specs.Readable.{IsReadable, IsShort}
 use Rattle.wkt.specs.Canonical.{more_of, ring_text, polygon_text, multi_text, rings_of}
 use Rattle.wkt.proofs.Inside.{all_of, of_all, both_all}
 
@@ -63,6 +64,10 @@ ring_pushed old (p ∷ ps) d h =
     ∙ append_assoc (old ++ 40 ∷ []) a (b ++ (c ++ 41 ∷ []))
     ∙ append_assoc old (40 ∷ []) (a ++ (b ++ (c ++ 41 ∷ [])))
     ∙ ap (λ (t : List ℕ). old ++ (40 ∷ (a ++ t))) (sym (append_assoc b c (41 ∷ [])) ∙ ap (λ (t : List ℕ). t ++ 41 ∷ []) (sym (flat_map-append (λ q. 44 ∷ 32 ∷ pt_words q) ps (p ∷ []))))
+
+pub ring_readable : (ps : List Pt) → 3 ≤ length ps → All IsShort (take 1 ps) → All IsShort (drop 1 ps) → IsReadable ps
+ring_readable [] l h k = absurd (omega (arith, l))
+ring_readable (p ∷ ps) l h k = record { enough = l; short = all_of IsShort (p ∷ ps) ((of_all IsShort (p ∷ []) h).0, of_all IsShort ps k) }
 
 -- ---- the line
 

@@ -1,6 +1,6 @@
 -- What is written of a number is read again.
 use Rattle.std.proofs.Common.{◌≡◌, ℕ, ◌+◌, ◌-◌, ◌*◌, ◌^◌, ◌<◌, ◌≤◌, Bool, true, false, cond, Option, Some, None, take, List, [], ◌∷◌, ◌++◌, length, refl, sym, ap, subst, ◌∙◌, append_assoc, arith, rules, ℤ, pos, negsuc, inl, inr, suc}
-use Rattle.std.specs.Prelude.{IsTrue, All, map, nat_lt}
+use Rattle.std.specs.Prelude.{IsTrue, All, codes, map, nat_lt}
 use Rattle.std.specs.List.{AllByRecursion}
 use Rattle.std.specs.Int.{IsInRange}
 use Rattle.std.specs.Fmt.{decimal, signed_decimal}
@@ -15,15 +15,17 @@ use Rattle.geom.specs.declared.fault.Fault.{Fault}
 use Rattle.geom.specs.declared.fault.Fault.TheVariants.{RingShort, RingOpen}
 use Rattle.geom.specs.declared.point.Pt.{Pt}
 use Rattle.geom.specs.declared.ring.Polygon.{Polygon}
-use Rattle.geom.specs.Limit.{coordinate_limit, IsWithin, InLimit}
+use Rattle.geom.specs.Limit.{IsWithin, InLimit}
 use Rattle.geom.specs.Segments.{same_point}
 use Rattle.geom.specs.Words.{pt_words}
+use Rattle.geom.proofs.Integers.{linear}
 use Rattle.geom.proofs.Points.{same_point_refl}
-use Rattle.wkt.specs.Refusals.{length_limit, place_of, is_closed, fault_at, or_else, numbers, all_numbers, first_outside, first_fault, plain, StandsFor}
-use Rattle.wkt.specs.Canonical.{more_of, listed, ring_text, polygon_text, multi_text, rings_of}
+use Rattle.wkt.specs.Refusals.{IsLayerOf, length_limit, place_of, is_closed, fault_at, or_else, numbers, all_numbers, first_outside, first_fault, plain, StandsFor}
+use Rattle.wkt.specs.Canonical.{closed, more_of, listed, ring_text, polygon_text, multi_text, rings_of}
+use Rattle.wkt.specs.Readable.{IsReadable, IsShort, number_limit}
 use Rattle.wkt.proofs.Surveys.{outside_then, last_of-push}
 use Rattle.wkt.proofs.Inside.{of_all, of_within}
-use Rattle.wkt.specs.LayerText.{Number, Point, Ring, is_digit, Digits, IsNumber, value_after, Gap, Word, IsPoint, More, Listed, IsRing, IsBody, joined, multipolygon_word, empty_word, IsLayer}
+use Rattle.wkt.specs.LayerText.{Number, Point, Ring, is_digit, Digits, IsNumber, value_after, Gap, Word, IsPoint, More, Listed, IsRing, IsBody, Spaces, joined, multipolygon_word, empty_word, IsLayer}
 
 own : IsNumeralModel (λ ds. all_ascii_digits ds ≡ true) (value_after 0)
 own = numerals_by_fold _ (search rules) value_after (search rules)
@@ -47,15 +49,12 @@ digits_written k rest h = split (decimal k) rest k (decimal_is_IsNumeral k h).0 
 
 -- ---- numbers and points
 
-below : (k : ℕ) → nat_lt coordinate_limit k ≡ false → k < 2 ^ 64
-below k e = grind (arith, nat_tests)
-
 -- some number of the text is this one
-number_written : (n : ℕ) (x : ℤ) (rest : List ℕ) → IsWithin coordinate_limit x → (v : Number) × IsNumber n (signed_decimal x ++ rest) v rest × (v.value ≡ x)
+number_written : (n : ℕ) (x : ℤ) (rest : List ℕ) → IsWithin number_limit x → (v : Number) × IsNumber n (signed_decimal x ++ rest) v rest × (v.value ≡ x)
 number_written n (pos k) rest h =
-    (record { at = n - length (signed_decimal (pos k) ++ rest); value = pos k }, (k, inl (digits_written k rest (below k (of_within (pos k) h)), refl)), refl)
+    (record { at = n - length (signed_decimal (pos k) ++ rest); value = pos k }, (k, inl (digits_written k rest (let l = h.high in omega (arith, linear, l)), refl)), refl)
 number_written n (negsuc k) rest h =
-    (record { at = n - length (signed_decimal (negsuc k) ++ rest); value = negsuc k }, (suc k, inr (decimal (suc k) ++ rest, refl, digits_written (suc k) rest (below (suc k) (of_within (negsuc k) h)), refl)), refl)
+    (record { at = n - length (signed_decimal (negsuc k) ++ rest); value = negsuc k }, (suc k, inr (decimal (suc k) ++ rest, refl, digits_written (suc k) rest (let l = h.low in omega (arith, linear, l)), refl)), refl)
 
 one_space : (u : List ℕ) → Gap (32 ∷ u) u
 one_space u = (32, u, refl, refl, ([], tt, refl))
@@ -63,7 +62,7 @@ one_space u = (32, u, refl, refl, ([], tt, refl))
 point_is : (p q : Pt) → p.x ≡ q.x → p.y ≡ q.y → p ≡ q
 point_is p q e f = ap (λ (z : ℤ). let r : Pt = record { x = z; y = p.y } in r) e ∙ ap (λ (z : ℤ). let r : Pt = record { x = q.x; y = z } in r) f
 
-point_written : (n : ℕ) (p : Pt) (rest : List ℕ) → InLimit p → (v : Point) × IsPoint n (pt_words p ++ rest) v rest × (place_of v ≡ p)
+point_written : (n : ℕ) (p : Pt) (rest : List ℕ) → IsShort p → (v : Point) × IsPoint n (pt_words p ++ rest) v rest × (place_of v ≡ p)
 point_written n p rest h =
     let a = number_written n p.x (32 ∷ (signed_decimal p.y ++ rest)) h.x_in in
     let b = number_written n p.y rest h.y_in in
@@ -107,14 +106,9 @@ listed_written Item f read value Good again x xs rest h =
 abbrev read_ring : Ring → List Pt
 read_ring r = map place_of r.points
 
--- the points as they are written
-abbrev closed : List Pt → List Pt
-closed [] = []
-closed (p ∷ ps) = p ∷ (ps ++ p ∷ [])
-
 pub record GoodRing (ps : List Pt) : Type 0 where
   pub enough : 3 ≤ length ps
-  pub inside : AllByRecursion InLimit ps
+  pub inside : AllByRecursion IsShort ps
 
 same_map : {A : Type 0} (xs : List A) → map (λ x. x) xs ≡ xs
 same_map [] = refl
@@ -128,7 +122,7 @@ ring_written : (n : ℕ) (ps : List Pt) (rest : List ℕ) → GoodRing ps → (r
 ring_written n [] rest h = absurd (let l = h.enough in omega (arith, l))
 ring_written n (p ∷ ps) rest h =
     let inside = h.inside in
-    let a = listed_written (IsPoint n) pt_words place_of (λ q. q) InLimit (point_written n) p (ps ++ p ∷ []) rest (inside.0, both InLimit ps p inside.1 inside.0) in
+    let a = listed_written (IsPoint n) pt_words place_of (λ q. q) IsShort (point_written n) p (ps ++ p ∷ []) rest (inside.0, both IsShort ps p inside.1 inside.0) in
     (record { at = n - length (ring_text (p ∷ ps) ++ rest); points = a.0 }, (a.1, refl), a.2 ∙ same_map (p ∷ (ps ++ p ∷ [])))
 
 abbrev value_of_polygon : {A : Type 0} → Polygon A → List (List Pt)
@@ -157,19 +151,33 @@ joined_values [] = refl
 joined_values (p ∷ ps) =
     ap (λ (x : List (List Pt)). map closed (p.shell ∷ p.holes.items) ++ x) (joined_values ps) ∙ sym (map_append closed (p.shell ∷ p.holes.items) (rings_of ps))
 
--- What is written is a layer of the polygons' rings.
-line_read : {A : Type 0} (polygons : List (Polygon A)) → AllByRecursion GoodPolygon polygons → (rings : List Ring) × IsLayer (multi_text polygons) rings × (map read_ring rings ≡ map closed (rings_of polygons))
+-- the line, and what stands in place of its line feed
+abbrev pub line_before : {A : Type 0} → List (Polygon A) → List ℕ → List ℕ
+line_before [] end = codes "MULTIPOLYGON EMPTY" ++ end
+line_before (p ∷ ps) end = codes "MULTIPOLYGON " ++ (listed polygon_text p ps ++ end)
+
+pub line_ended : {A : Type 0} (polygons : List (Polygon A)) → multi_text polygons ≡ line_before polygons (10 ∷ [])
+line_ended [] = refl
+line_ended (p ∷ ps) = refl
+
+pub line_split : {A : Type 0} (polygons : List (Polygon A)) → multi_text polygons ≡ line_before polygons [] ++ 10 ∷ []
+line_split [] = refl
+line_split (p ∷ ps) = ap (λ (t : List ℕ). codes "MULTIPOLYGON " ++ (t ++ 10 ∷ [])) (sym (append-nil (listed polygon_text p ps)))
+
+-- What is written is a layer of the polygons' rings, with and without its line feed.
+line_read : {A : Type 0} (polygons : List (Polygon A)) (end : List ℕ) → Spaces end [] → AllByRecursion GoodPolygon polygons
+    → (rings : List Ring) × IsLayer (line_before polygons end) rings × (map read_ring rings ≡ map closed (rings_of polygons))
 unfolding IsLayer
-line_read {A} [] h =
-    let text : List ℕ = multipolygon_word ++ 32 ∷ (empty_word ++ 10 ∷ []) in
-    ([], inr (text, 10 ∷ [], [], [], ([], tt, refl), (32 ∷ (empty_word ++ 10 ∷ []), inr (capital multipolygon_word (32 ∷ (empty_word ++ 10 ∷ [])), inr (empty_word ++ 10 ∷ [], one_space (empty_word ++ 10 ∷ []), capital empty_word (10 ∷ []), refl))), (10 ∷ [], (refl, tt), refl), refl), refl)
-line_read (p ∷ ps) h =
-    let inner = listed polygon_text p ps ++ 10 ∷ [] in
+line_read {A} [] end blank h =
+    let text : List ℕ = multipolygon_word ++ 32 ∷ (empty_word ++ end) in
+    ([], inr (text, end, [], [], ([], tt, refl), (32 ∷ (empty_word ++ end), inr (capital multipolygon_word (32 ∷ (empty_word ++ end)), inr (empty_word ++ end, one_space (empty_word ++ end), capital empty_word end, refl))), blank, refl), refl)
+line_read (p ∷ ps) end blank h =
+    let inner = listed polygon_text p ps ++ end in
     let text : List ℕ = multipolygon_word ++ 32 ∷ inner in
     let n = length text in
-    let a = listed_written (IsBody n) polygon_text (λ v. map read_ring v) value_of_polygon GoodPolygon (polygon_written n) p ps (10 ∷ []) h in (
+    let a = listed_written (IsBody n) polygon_text (λ v. map read_ring v) value_of_polygon GoodPolygon (polygon_written n) p ps end h in (
       joined a.0 ++ [],
-      inr (text, 10 ∷ [], joined a.0, [], ([], tt, refl), (32 ∷ inner, inr (capital multipolygon_word (32 ∷ inner), inl (inner, a.0, (32 ∷ [], (refl, tt), refl), a.1, refl))), (10 ∷ [], (refl, tt), refl), refl),
+      inr (text, end, joined a.0, [], ([], tt, refl), (32 ∷ inner, inr (capital multipolygon_word (32 ∷ inner), inl (inner, a.0, (32 ∷ [], (refl, tt), refl), a.1, refl))), blank, refl),
       ap (map read_ring) (append-nil (joined a.0)) ∙ joined_read a.0 ∙ ap (λ (x : List (List (List Pt))). flat_map (λ y. y) x) a.2 ∙ joined_values (p ∷ ps),
     )
 
@@ -205,9 +213,9 @@ closed_sound at (p ∷ ps) h =
     no_fault (nat_lt (length (closed (p ∷ ps))) 4) (is_closed (closed (p ∷ ps))) at (long (length (closed (p ∷ ps))) (closed_length p ps h.enough))
     (ap (same_point p) (last_of-push p ps p) ∙ same_point_refl p)
 
-closed_inside : (ps : List Pt) → GoodRing ps → AllByRecursion InLimit (closed ps)
+closed_inside : (ps : List Pt) → AllByRecursion InLimit ps → AllByRecursion InLimit (closed ps)
 closed_inside [] h = tt
-closed_inside (p ∷ ps) h = let inside = h.inside in (inside.0, both InLimit ps p inside.1 inside.0)
+closed_inside (p ∷ ps) h = (h.0, both InLimit ps p h.1 h.0)
 
 taken : (ps qs : List Pt) → take (length ps) (ps ++ qs) ≡ ps
 taken [] qs = refl
@@ -224,25 +232,25 @@ record Fine (rings : List Ring) (ls : List (List Pt)) : Type 0 where
   sound : first_fault rings ≡ None
   points : plain rings ≡ ls
 
-fine : (rings : List Ring) (ls : List (List Pt)) → AllByRecursion GoodRing ls → map read_ring rings ≡ map closed ls → Fine rings ls
-fine [] [] h e = record { inside = refl; sound = refl; points = refl }
-fine [] (l ∷ ls) h e = absurd cc
-fine (r ∷ rings) [] h e = absurd cc
-fine (r ∷ rings) (l ∷ ls) h e =
+fine : (rings : List Ring) (ls : List (List Pt)) → AllByRecursion GoodRing ls → AllByRecursion (λ ring. All InLimit ring) ls → map read_ring rings ≡ map closed ls → Fine rings ls
+fine [] [] h k e = record { inside = refl; sound = refl; points = refl }
+fine [] (l ∷ ls) h k e = absurd cc
+fine (r ∷ rings) [] h k e = absurd cc
+fine (r ∷ rings) (l ∷ ls) h k e =
     let a : read_ring r ≡ closed l = head_is e in
-    let more = fine rings ls h.1 (tail_is e) in
+    let more = fine rings ls h.1 k.1 (tail_is e) in
     let count : length r.points ≡ length (closed l) = sym (length-map r.points place_of) ∙ ap (λ (x : List Pt). length x) a in
     record {
-      inside = outside_then (numbers r.points) (all_numbers rings) (points_inside r.points (subst (AllByRecursion InLimit) (sym a) (closed_inside l h.0))) ∙ more.inside;
+      inside = outside_then (numbers r.points) (all_numbers rings) (points_inside r.points (subst (AllByRecursion InLimit) (sym a) (closed_inside l (of_all InLimit l k.0)))) ∙ more.inside;
       sound = ap (λ (o : Option Fault). or_else o (first_fault rings)) (ap (fault_at r.at) a ∙ closed_sound r.at l h.0) ∙ more.sound;
       points = cons_is (ap (λ (k : ℕ). take (k - 1) (read_ring r)) count ∙ ap (λ (x : List Pt). take (length (closed l) - 1) x) a ∙ closed_plain l) more.points;
     }
 
 -- ---- the whole
 
-good : (ls : List (List Pt)) → AllByRecursion (λ ring. 3 ≤ length ring) ls → AllByRecursion (λ ring. All InLimit ring) ls → AllByRecursion GoodRing ls
-good [] h k = tt
-good (l ∷ ls) h k = (record { enough = h.0; inside = of_all InLimit l k.0 }, good ls h.1 k.1)
+good : (ls : List (List Pt)) → AllByRecursion IsReadable ls → AllByRecursion GoodRing ls
+good [] h = tt
+good (l ∷ ls) h = (record { enough = h.0.enough; inside = of_all IsShort l h.0.short }, good ls h.1)
 
 front_all : {A : Type 0} (P : A → Type 0) (xs ys : List A) → AllByRecursion P (xs ++ ys) → AllByRecursion P xs × AllByRecursion P ys
 front_all P [] ys h = (tt, h)
@@ -252,10 +260,17 @@ polygons_good : {A : Type 0} (ps : List (Polygon A)) → AllByRecursion GoodRing
 polygons_good [] h = tt
 polygons_good (p ∷ ps) h = let k = front_all GoodRing (p.shell ∷ p.holes.items) (rings_of ps) h in (k.0, polygons_good ps k.1)
 
-pub reads_again : {A : Type 0} (polygons : List (Polygon A)) → All (λ ring. 3 ≤ length ring) (rings_of polygons) → length (multi_text polygons) ≤ length_limit → All (λ ring. All InLimit ring) (rings_of polygons)
+pub reads : {A : Type 0} (polygons : List (Polygon A)) → All IsReadable (rings_of polygons) → (line : List ℕ) × (multi_text polygons ≡ line ++ 10 ∷ []) × IsLayerOf line (map closed (rings_of polygons))
+reads polygons readable = (
+  line_before polygons [],
+  line_split polygons,
+  line_read polygons [] ([], tt, refl) (polygons_good polygons (good (rings_of polygons) (of_all IsReadable (rings_of polygons) readable))),
+)
+
+pub reads_again : {A : Type 0} (polygons : List (Polygon A)) → All IsReadable (rings_of polygons) → length (multi_text polygons) ≤ length_limit → All (λ ring. All InLimit ring) (rings_of polygons)
     → StandsFor (multi_text polygons) (rings_of polygons)
-reads_again polygons enough short inside =
-    let all = good (rings_of polygons) (of_all (λ ring. 3 ≤ length ring) (rings_of polygons) enough) (of_all (λ ring. All InLimit ring) (rings_of polygons) inside) in
-    let read = line_read polygons (polygons_good polygons all) in
-    let f = fine read.0 (rings_of polygons) all read.2 in
-    (read.0, record { read = record { short = short; layer = read.1 }; inside = f.inside; sound = f.sound }, f.points)
+reads_again polygons readable short inside =
+    let all = good (rings_of polygons) (of_all IsReadable (rings_of polygons) readable) in
+    let read = line_read polygons (10 ∷ []) (10 ∷ [], (refl, tt), refl) (polygons_good polygons all) in
+    let f = fine read.0 (rings_of polygons) all (of_all (λ ring. All InLimit ring) (rings_of polygons) inside) read.2 in
+    (read.0, record { read = record { short = short; layer = subst (λ (t : List ℕ). IsLayer t read.0) (sym (line_ended polygons)) read.1 }; inside = f.inside; sound = f.sound }, f.points)

@@ -19,6 +19,11 @@ abbrev pub ring_text : List Pt → List ℕ
 ring_text [] = []
 ring_text (p ∷ ps) = listed pt_words p (ps ++ p ∷ [])
 
+-- a ring's points as they are written, the first again at the end
+abbrev pub closed : List Pt → List Pt
+closed [] = []
+closed (p ∷ ps) = p ∷ (ps ++ p ∷ [])
+
 -- the shell, then the holes
 abbrev pub polygon_text : {A : Type 0} → Polygon A → List ℕ
 polygon_text p = listed ring_text p.shell p.holes.items

@@ -7,3 +7,4 @@ pub mod Reading
 pub mod Running
 pub mod Surveying
 pub mod Collecting
+pub mod Readable

@@ -55,6 +55,10 @@ first_fault (r ∷ rs) = or_else (fault_at r.at (map place_of r.points)) (first_
 
 -- ---- a text
 
+-- the text is a layer whose rings have these points, as they are written
+abbrev pub IsLayerOf : List ℕ → List (List Pt) → Type 0
+IsLayerOf text rings = (written : List Ring) × IsLayer text written × (map (λ r. map place_of r.points) written ≡ rings)
+
 -- the text is within the length limit, and is a layer with these rings as they are written
 pub record IsRead (text : List ℕ) (written : List Ring) : Type 0 where
   pub short : length text ≤ length_limit

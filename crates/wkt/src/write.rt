@@ -1,11 +1,12 @@
 //! Polygons, written as the canonical line.
 
-ghost use Rattle.std.specs.Prelude.{◌≡◌, ◌≤◌, ◌++◌, ◌∷◌, All, IfOk, OnOk, length};
-ghost use Rattle.geom.specs.Limit.{InLimit};
+ghost use Rattle.std.specs.Prelude.{◌≡◌, ◌≤◌, ◌++◌, ◌∷◌, [], ℕ, List, All, IfOk, OnOk, length, map};
+ghost use Rattle.geom.specs.Limit.{InLimit, IsWithin};
 ghost use Rattle.std.specs.Fmt.{signed_decimal};
 ghost use Rattle.geom.specs.Words.{pt_words};
-ghost use Rattle.wkt.specs.Canonical.{more_of, multi_text, polygon_text, ring_text, rings_of};
-ghost use Rattle.wkt.specs.Refusals.{StandsFor, length_limit};
+ghost use Rattle.wkt.specs.Canonical.{closed, more_of, multi_text, polygon_text, ring_text, rings_of};
+ghost use Rattle.wkt.specs.Readable.{IsReadable, IsShort, number_limit};
+ghost use Rattle.wkt.specs.Refusals.{IsLayerOf, StandsFor, length_limit};
 
 use geom::{NoMemory, Polygon, Pt, SimpleRing};
 use itoa::Buffer;
@@ -13,7 +14,8 @@ use std::alloc::{AllocError, Allocator};
 
 /// Adds a number in decimal digits.
 fn push_number<A: Allocator>(text: &mut Vec<u8, A>, number: i32) -> Result<(), AllocError>
-    ensures { OnOk result (text.new.items ≡ text.old.items ++ signed_decimal number) }
+    ensures text { OnOk result (text.new.items ≡ text.old.items ++ signed_decimal number) }
+    ensures short { IsWithin number_limit number }
 {
     let mut buffer = Buffer::new();
     text.extend_from_slice(buffer.format(number).as_bytes())
@@ -21,7 +23,8 @@ fn push_number<A: Allocator>(text: &mut Vec<u8, A>, number: i32) -> Result<(), A
 
 /// Adds a point: x, a space, y.
 fn push_point<A: Allocator>(text: &mut Vec<u8, A>, point: Pt) -> Result<(), AllocError>
-    ensures { OnOk result (text.new.items ≡ text.old.items ++ pt_words point) }
+    ensures text { OnOk result (text.new.items ≡ text.old.items ++ pt_words point) }
+    ensures short { OnOk result (IsShort point) }
 {
     push_number(text, point.x)?;
     text.push(b' ')?;
@@ -30,7 +33,8 @@ fn push_point<A: Allocator>(text: &mut Vec<u8, A>, point: Pt) -> Result<(), Allo
 
 /// Adds a comma, a space and a point for each point.
 fn push_more_points<A: Allocator>(text: &mut Vec<u8, A>, points: &[Pt]) -> Result<(), AllocError>
-    ensures { OnOk result (text.new.items ≡ text.old.items ++ more_of pt_words points.now) }
+    ensures text { OnOk result (text.new.items ≡ text.old.items ++ more_of pt_words points.now) }
+    ensures short { OnOk result (All IsShort points.now) }
 {
     for point in points {
         text.extend_from_slice(b", ")?;
@@ -45,7 +49,7 @@ fn push_ring<A: Allocator, B: Allocator>(
     ring: &SimpleRing<B>,
 ) -> Result<(), AllocError>
     ensures text { OnOk result (text.new.items ≡ text.old.items ++ ring_text ring.now) }
-    ensures enough { 3 ≤ length ring.now }
+    ensures readable { OnOk result (IsReadable ring.now) }
 {
     let points = ring.points();
     text.push(b'(')?;
@@ -62,7 +66,7 @@ fn push_more_rings<A: Allocator, B: Allocator>(
     rings: &[SimpleRing<B>],
 ) -> Result<(), AllocError>
     ensures text { OnOk result (text.new.items ≡ text.old.items ++ more_of ring_text rings.now) }
-    ensures enough { OnOk result (All (λ ring. 3 ≤ length ring) rings.now) }
+    ensures readable { OnOk result (All IsReadable rings.now) }
 {
     for ring in rings {
         text.extend_from_slice(b", ")?;
@@ -77,7 +81,7 @@ fn push_polygon<A: Allocator, B: Allocator>(
     polygon: &Polygon<B>,
 ) -> Result<(), AllocError>
     ensures text { OnOk result (text.new.items ≡ text.old.items ++ polygon_text polygon.now) }
-    ensures enough { OnOk result (All (λ ring. 3 ≤ length ring) (polygon.now.shell ∷ polygon.now.holes.items)) }
+    ensures readable { OnOk result (All IsReadable (polygon.now.shell ∷ polygon.now.holes.items)) }
 {
     text.push(b'(')?;
     push_ring(text, &polygon.shell)?;
@@ -92,7 +96,7 @@ fn push_more_polygons<A: Allocator, B: Allocator>(
     polygons: &[Polygon<B>],
 ) -> Result<(), AllocError>
     ensures text { OnOk result (text.new.items ≡ text.old.items ++ more_of polygon_text polygons.now) }
-    ensures enough { OnOk result (All (λ ring. 3 ≤ length ring) (rings_of polygons.now)) }
+    ensures readable { OnOk result (All IsReadable (rings_of polygons.now)) }
 {
     for polygon in polygons {
         text.extend_from_slice(b", ")?;
@@ -101,13 +105,14 @@ fn push_more_polygons<A: Allocator, B: Allocator>(
     Ok(())
 }
 
-/// The canonical line of a list of polygons, in bytes, with LF at its end. Within the limits it is a layer text, and
-/// stands for the rings of the polygons.
+/// The canonical line of a list of polygons, in bytes, with LF at its end. Without it the line is a layer text whose rings
+/// are those of the polygons, each closed; within the limits the line is accepted, and stands for them.
 pub fn write_multi<A: Allocator, B: Allocator>(
     alloc: A,
     polygons: &[Polygon<B>],
 ) -> Result<Vec<u8, A>, NoMemory>
     ensures text { IfOk result (λ text. text.items ≡ multi_text polygons.now) }
+    ensures reads { IfOk result (λ text. (line : List ℕ) × (text.items ≡ line ++ 10 ∷ []) × IsLayerOf line (map closed (rings_of polygons.now))) }
     ensures reads_again { IfOk result (λ text. length text.items ≤ length_limit → All (λ ring. All InLimit ring) (rings_of polygons.now) → StandsFor text.items (rings_of polygons.now)) }
 {
     let Some((first, rest)) = polygons.split_first() else {

@@ -1,5 +1,6 @@
-use Rattle.std.proofs.Common.{ap, ◌∙◌, arith}
+use Rattle.std.proofs.Common.{◌∙◌, ap, arith}
 use Rattle.engine.specs.Texts.{edges_text_of}
+use Rattle.engine.proofs.Reporting.{reported}
 use Rattle.engine.proofs.engine.make_edges.Goals as goal
 
 pub report_of-requires : goal.report_of-requires
@@ -7,22 +8,10 @@ report_of-requires g c = let e = c.in_ok-noded.ensures.rounded.tiles_are.one_eac
 
 pub returns : goal.returns
 returns g c =
-    let h = c.requires in
     let told = c.in_ok-report.ensures in
     record {
       counted = c.in_ok-noded.noded.edges.items;
       text_is = c.in_ok-text.ensures ∙ ap edges_text_of c.deref.ensures.value;
-      reports = record {
-        rings_a = h.rings_a;
-        rings_b = h.rings_b;
-        grid = c.args.inputs.now.grid;
-        ready = h.ready;
-        segments_a = told.segments_a ∙ h.count_a;
-        segments_b = told.segments_b ∙ h.count_b;
-        edges = told.edges;
-        tiles = c.in_ok-noded.noded.tiles.items;
-        rounded = c.in_ok-noded.ensures.rounded;
-        told = told.tiles;
-        remade = told.remade ∙ c.in_ok-noded.ensures.remade;
-      };
+      reports = reported c.args.plan c.args.a.now c.args.b.now c.args.inputs.now.segments_a c.args.inputs.now.segments_b c.args.inputs.now.grid c.in_ok-noded.noded.edges.items c.in_ok-noded.noded.tiles.items c.in_ok-report.report
+          c.requires c.in_ok-noded.ensures.rounded told.segments_a told.segments_b told.edges told.tiles (told.remade ∙ c.in_ok-noded.ensures.remade);
     }

@@ -1,5 +1,6 @@
 use Rattle.std.proofs.Common.{◌∙◌, arith}
 use Rattle.points_law.specs.Law.{AreLayers}
+use Rattle.engine.proofs.Reporting.{reported}
 use Rattle.engine.proofs.Results.{layers_known}
 use Rattle.engine.proofs.operation.make_result.Goals as goal
 
@@ -13,22 +14,10 @@ report_of-requires g c = let e = c.in_ok-noded.ensures.rounded.tiles_are.one_eac
 
 pub returns : goal.returns
 returns g c =
-    let h = c.requires in
     let told = c.in_ok-report.ensures in
     record {
       counted = c.in_ok-noded.noded.edges.items;
       result = rw c.deref.ensures.value at c.in_ok-text.ensures;
-      reports = record {
-        rings_a = h.rings_a;
-        rings_b = h.rings_b;
-        grid = c.args.inputs.now.grid;
-        ready = h.ready;
-        segments_a = told.segments_a ∙ h.count_a;
-        segments_b = told.segments_b ∙ h.count_b;
-        edges = told.edges;
-        tiles = c.in_ok-noded.noded.tiles.items;
-        rounded = c.in_ok-noded.ensures.rounded;
-        told = told.tiles;
-        remade = told.remade ∙ c.in_ok-noded.ensures.remade;
-      };
+      reports = reported c.args.plan c.args.a.now c.args.b.now c.args.inputs.now.segments_a c.args.inputs.now.segments_b c.args.inputs.now.grid c.in_ok-noded.noded.edges.items c.in_ok-noded.noded.tiles.items c.in_ok-report.report
+          c.requires c.in_ok-noded.ensures.rounded told.segments_a told.segments_b told.edges told.tiles (told.remade ∙ c.in_ok-noded.ensures.remade);
     }

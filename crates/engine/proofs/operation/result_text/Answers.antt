@@ -1,10 +1,9 @@
-use Rattle.std.proofs.Common.{◌≡◌, ◌∙◌, ap}
-use Rattle.std.proofs.lemmas.Result.{IfOk-weaker}
+use Rattle.std.proofs.Common.{◌∙◌, ap}
 use Rattle.points_law.proofs.RoundVertex.{closes, grounded}
 use Rattle.points_law.proofs.TextParity.{text_has_parity}
 use Rattle.wkt.specs.Canonical.{multi_text}
-use Rattle.engine.specs.Results.{IsResultText}
-use Rattle.engine.proofs.Results.{directed_in, line_is, noded_edges, shapes}
+use Rattle.engine.proofs.Results.{directed_in, line_is, noded_edges, read_back, shapes}
+use Rattle.engine.proofs.Rounding.{if_both}
 use Rattle.engine.proofs.operation.result_text.Goals as goal
 
 pub polygons-requires : goal.polygons-requires
@@ -14,8 +13,8 @@ polygons-requires g c = record {
 }
 
 pub returns : goal.returns
-returns g c = IfOk-weaker c.write_multi.result (λ text. text.items ≡ multi_text c.as_slice.result.now) (λ text. IsResultText c.args.op c.args.counted.now text.items)
-    (λ text h. record {
+returns g c = if_both c.write_multi.result _ _ _
+    (λ text h back. record {
       directed = c.in_ok-directed.directed;
       bound = c.in_ok-directed.ensures;
       polygons = shapes c.in_ok-polygons.polygons.items;
@@ -26,4 +25,6 @@ returns g c = IfOk-weaker c.write_multi.result (λ text. text.items ≡ multi_te
       least = c.in_ok-polygons.ensures.least;
       points = text_has_parity c.args.op c.args.counted.now c.requires c.in_ok-directed.directed c.in_ok-directed.ensures (shapes c.in_ok-polygons.polygons.items) c.in_ok-polygons.ensures.each_edge;
       written = h ∙ ap multi_text c.as_slice.ensures.value ∙ line_is c.in_ok-polygons.polygons.items;
-    }) c.write_multi.ensures.text
+      reads = read_back text.items c.as_slice.result.now c.in_ok-polygons.polygons.items c.as_slice.ensures.value back;
+    })
+    c.write_multi.ensures.text c.write_multi.ensures.reads

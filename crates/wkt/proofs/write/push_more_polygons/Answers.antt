@@ -1,11 +1,10 @@
-use Rattle.std.proofs.Common.{◌≤◌, List, length}
-use Rattle.geom.specs.declared.point.Pt.{Pt}
 use Rattle.wkt.specs.Canonical.{polygon_text}
+use Rattle.wkt.specs.Readable.{IsReadable}
 use Rattle.wkt.proofs.Writing.{text_more, rings_more}
 use Rattle.wkt.proofs.write.push_more_polygons.Goals as goal
 
 pub loop-polygon-preserved : goal.loop-polygon-preserved
 loop-polygon-preserved g c = (
   text_more polygon_text c.args.polygons.now c.loop-polygon.polygon-index c.polygon-item.result c.polygon-item.result c.args.text.now.items c.loop-polygon.text.items c.extend_from_slice.new.self.items c.push_polygon.new.text.items c.loop-polygon-test.true c.polygon-item.is c.loop-polygon.invariant.0 c.in_ok-extend_from_slice.ensures.items c.in_ok-push_polygon.ensures.text,
-  rings_more (λ (ring : List Pt). 3 ≤ length ring) c.args.polygons.now c.loop-polygon.polygon-index c.polygon-item.result c.polygon-item.result c.loop-polygon-test.true c.polygon-item.is c.loop-polygon.invariant.1 c.in_ok-push_polygon.ensures.enough,
+  rings_more IsReadable c.args.polygons.now c.loop-polygon.polygon-index c.polygon-item.result c.polygon-item.result c.loop-polygon-test.true c.polygon-item.is c.loop-polygon.invariant.1 c.in_ok-push_polygon.ensures.readable,
 )

@@ -1,0 +1,17 @@
+-- Pieces that are made one after another stand in the order of their numbers.
+use Rattle.std.proofs.Common.{◌≡◌, ◌⊎◌, inl, inr, ℕ, zero, suc, List, [], ◌∷◌, ◌++◌, length, refl, sym, ap, ◌∙◌, subst, ⊎_elim}
+use Rattle.std.specs.Prelude.{Some, slice_get}
+use Rattle.tile_book.specs.Books.{StandInOrder}
+
+pushed_at : {X : Type 0} (xs : List X) (y x : X) (j : ℕ) → slice_get (xs ++ y ∷ []) j ≡ Some x → (slice_get xs j ≡ Some x) ⊎ ((j ≡ length xs) × (y ≡ x))
+pushed_at [] y x zero e = inr (refl, cc)
+pushed_at [] y x (suc j) e = absurd (cc)
+pushed_at (z ∷ xs) y x zero e = inl e
+pushed_at (z ∷ xs) y x (suc j) e = ⊎_elim (λ p. inl p) (λ p. inr (ap suc p.0, p.1)) (pushed_at xs y x j e)
+
+pub in_order_none : {P : Type 0} (number : P → ℕ) → StandInOrder number []
+in_order_none number = λ k p e. absurd (cc)
+
+pub in_order_more : {P : Type 0} (number : P → ℕ) (n : ℕ) (xs ys : List P) (x : P) → length xs ≡ n → StandInOrder number xs → number x ≡ n → ys ≡ xs ++ x ∷ [] → StandInOrder number ys
+in_order_more {P} number n xs ys x l h is e = subst (λ (zs : List P). StandInOrder number zs) (sym e)
+    (λ k p got. ⊎_elim (λ q. h k p q) (λ q. ap number (sym q.1) ∙ is ∙ sym l ∙ sym q.0) (pushed_at xs x p k got))

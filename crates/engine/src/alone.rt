@@ -1,0 +1,199 @@
+//! The engine's calls on the calling thread alone, from memory to memory, for a caller that has no threads to lend.
+
+ghost use Rattle.std.specs.Prelude.{◌≡◌, ◌≤◌, All, IfOk, MatchResult, length};
+ghost use Rattle.tile_book.specs.Books.{StandInOrder};
+ghost use Rattle.geom.specs.Limit.{AreInLimit};
+ghost use Rattle.geom.specs.Rounded.{AreRounded};
+ghost use Rattle.tiling.specs.Tiles.{tile_count};
+ghost use Rattle.chain_gather.specs.Gathered.{AreTileNumbers, HaveTiles};
+ghost use Rattle.points_law.specs.Law.{AreLayers};
+ghost use Rattle.engine.specs.Rounds.{AllInLimit, AreRoundedOver};
+ghost use Rattle.engine.specs.Results.{IsResultText, IsResultWritten};
+ghost use Rattle.engine.specs.Runs.{AreEdgesWritten, Declines, IsChecked, alone};
+
+use crate::engine::{Inputs, Made, Plan, checked};
+use crate::rounds::{Pieces, read_segments, report_of};
+use crate::segments::boxes_of;
+use crate::text::edges_text;
+use chain_gather::{Tiled, gather_made};
+use geom::{Counted, Fault, NoMemory, Op, Part, RunFault, Seg};
+use label_sweep::layer_labels;
+use noding_test::{Noded, settled};
+use polygonize::polygons;
+use std::alloc::Allocator;
+use std::marker::{Brand, PhantomData};
+use tile_book::Job;
+use tiling::{Bins, Grid};
+use wkt::write_multi;
+
+/// The text of the rounded edges of two layers, over tiles of this side, and its report. It is refused as `edges` is,
+/// but for the number of workers and the sink.
+pub fn edges_alone<A: Allocator + Copy>(
+    alloc: A,
+    a: &[u8],
+    b: &[u8],
+    side: u32,
+) -> Result<Made<A>, RunFault>
+    ensures { MatchResult result (λ m. AreEdgesWritten (alone side) a.now b.now m.text.items m.report) (λ f. Declines (alone side) a.now b.now f.at f.fault) }
+{
+    let plan = Plan { side, workers: 1 };
+    let inputs = checked(a, b, plan)?;
+    match make_edges_alone(alloc, a, b, plan, &inputs) {
+        Ok(made) => Ok(made),
+        Err(_) => Err(RunFault {
+            at: Part::Run,
+            fault: Fault::Memory,
+        }),
+    }
+}
+
+/// The canonical line of the result of an operation on two layers, over tiles of this side, and its report. It is refused
+/// as `edges_alone` is.
+pub fn run_alone<A: Allocator + Copy>(
+    alloc: A,
+    op: Op,
+    a: &[u8],
+    b: &[u8],
+    side: u32,
+) -> Result<Made<A>, RunFault>
+    ensures { MatchResult result (λ m. IsResultWritten op (alone side) a.now b.now m.text.items m.report) (λ f. Declines (alone side) a.now b.now f.at f.fault) }
+{
+    let plan = Plan { side, workers: 1 };
+    let inputs = checked(a, b, plan)?;
+    match make_result_alone(alloc, op, a, b, plan, &inputs) {
+        Ok(made) => Ok(made),
+        Err(_) => Err(RunFault {
+            at: Part::Run,
+            fault: Fault::Memory,
+        }),
+    }
+}
+
+fn make_edges_alone<A: Allocator + Copy>(
+    alloc: A,
+    a: &[u8],
+    b: &[u8],
+    plan: Plan,
+    inputs: &Inputs,
+) -> Result<Made<A>, NoMemory>
+    requires { IsChecked plan a.now b.now inputs.now.segments_a inputs.now.segments_b inputs.now.grid }
+    ensures { IfOk result (λ m. AreEdgesWritten plan a.now b.now m.text.items m.report) }
+{
+    let noded = rounded_alone(alloc, a, b, plan, inputs)?;
+    let text = edges_text(alloc, &noded.edges)?;
+    let report = report_of(alloc, inputs, &noded)?;
+    Ok(Made { text, report })
+}
+
+fn make_result_alone<A: Allocator + Copy>(
+    alloc: A,
+    op: Op,
+    a: &[u8],
+    b: &[u8],
+    plan: Plan,
+    inputs: &Inputs,
+) -> Result<Made<A>, NoMemory>
+    requires { IsChecked plan a.now b.now inputs.now.segments_a inputs.now.segments_b inputs.now.grid }
+    ensures { IfOk result (λ m. IsResultWritten op plan a.now b.now m.text.items m.report) }
+{
+    let noded = rounded_alone(alloc, a, b, plan, inputs)?;
+    let text = result_text_alone(alloc, &noded.edges, op)?;
+    let report = report_of(alloc, inputs, &noded)?;
+    Ok(Made { text, report })
+}
+
+/// The canonical line of the result of an operation, by rounded edges.
+fn result_text_alone<A: Allocator + Copy>(
+    alloc: A,
+    counted: &[Counted],
+    op: Op,
+) -> Result<Vec<u8, A>, NoMemory>
+    requires { AreLayers counted.now }
+    ensures { IfOk result (λ text. IsResultText op counted.now text.items) }
+{
+    let directed = layer_labels(alloc, counted, op)?;
+    let polygons = polygons(alloc, &directed)?;
+    write_multi(alloc, polygons.as_slice())
+}
+
+/// The rounded edges of two layer texts that were checked, with the numbers of the tiles.
+fn rounded_alone<A: Allocator + Copy>(
+    alloc: A,
+    a: &[u8],
+    b: &[u8],
+    plan: Plan,
+    inputs: &Inputs,
+) -> Result<Noded<A>, NoMemory>
+    requires { IsChecked plan a.now b.now inputs.now.segments_a inputs.now.segments_b inputs.now.grid }
+    ensures rounded { IfOk result (λ n. AreRoundedOver a.now b.now inputs.now.grid n.edges.items n.tiles.items) }
+    ensures layers { IfOk result (λ n. ∥ AreLayers n.edges.items ∥₁) }
+    ensures remade { IfOk result (λ n. n.remade ≡ 0) }
+    ensures in_limit { IfOk result (λ n. All (λ c. AreInLimit c.edge.p c.edge.q) n.edges.items) }
+{
+    let segments = read_segments(alloc, a, b, inputs)?;
+    gathered_alone(alloc, &inputs.grid, &segments)
+}
+
+/// The rounded edges of segments.
+fn gathered_alone<A: Allocator + Copy>(
+    alloc: A,
+    grid: &Grid,
+    segments: &[Seg],
+) -> Result<Noded<A>, NoMemory>
+    requires few { tile_count grid.now ≤ 65536 }
+    requires in_limit { AllInLimit segments.now }
+    requires covered { HaveTiles grid.now segments.now }
+    ensures rounded { IfOk result (λ n. ∥ AreRounded segments.now n.edges.items ∥₁) }
+    ensures tiles { IfOk result (λ n. AreTileNumbers grid.now segments.now (tile_count grid.now) n.tiles.items) }
+    ensures remade { IfOk result (λ n. n.remade ≡ 0) }
+{
+    by_tiles_alone::<Brand, A>(alloc, grid, segments)
+}
+
+/// The same, where the type of the pieces knows the grid and the segments.
+fn by_tiles_alone<T: Tiled, A: Allocator + Copy>(
+    alloc: A,
+    grid: &Grid,
+    segments: &[Seg],
+) -> Result<Noded<A>, NoMemory>
+    requires few { tile_count grid.now ≤ 65536 }
+    requires tiled { (grid.now ≡ T.grid) × (segments.now ≡ T.segments) }
+    requires in_limit { AllInLimit segments.now }
+    requires covered { HaveTiles grid.now segments.now }
+    ensures rounded { IfOk result (λ n. ∥ AreRounded segments.now n.edges.items ∥₁) }
+    ensures tiles { IfOk result (λ n. AreTileNumbers grid.now segments.now (tile_count grid.now) n.tiles.items) }
+    ensures remade { IfOk result (λ n. n.remade ≡ 0) }
+{
+    let boxes = boxes_of(alloc, segments)?;
+    let bins = Bins::build(alloc, grid, &boxes)?;
+    drop(boxes);
+    let job: Pieces<T, A> = Pieces {
+        grid,
+        bins: &bins,
+        segments,
+        of: PhantomData,
+    };
+    let pieces = in_turn(alloc, &job, grid.tiles())?;
+    let rounded = gather_made(alloc, pieces, grid, segments)?;
+    Ok(settled(rounded))
+}
+
+/// The pieces of the numbers below a limit, made one after another.
+#[tactic(auto, using(crate::proofs::InTurn::in_order_none, crate::proofs::InTurn::in_order_more))]
+fn in_turn<A: Allocator + Copy, J: Job<A>>(
+    alloc: A,
+    job: &J,
+    limit: u32,
+) -> Result<Vec<J::Piece, A>, NoMemory>
+    requires few { limit ≤ 65536 }
+    requires count { limit ≤ J.count job.now }
+    ensures one_each { IfOk result (λ v. length v.items ≡ limit) }
+    ensures in_order { IfOk result (λ v. StandInOrder J.Piece.Numbered.number_of v.items) }
+{
+    let mut pieces = Vec::with_capacity(alloc, limit as usize)?;
+    for number in 0..limit {
+        let piece = job.piece(alloc, number)?;
+        pieces.push(piece)?;
+    }
+    Ok(pieces)
+}

@@ -1,0 +1,205 @@
+/* The calls for C, under the sanitizers. Without arguments: every status, broken texts, rooms of every size near the text's.
+ * With CALL A B: the text of that call on two files, to standard output. */
+#include "../overlay.h"
+
+#include <stdio.h>
+#include <stdlib.h>
+#include <string.h>
+
+static const uint32_t SIDE = 262144;
+
+static long failures;
+
+static void check(int holds, const char *what) {
+    if (!holds) {
+        printf("FAILED: %s\n", what);
+        failures++;
+    }
+}
+
+/* A copy that ends where its block does, so that a read past it is seen. */
+static uint8_t *copied(const char *text, size_t length) {
+    uint8_t *copy = malloc(length ? length : 1);
+    memcpy(copy, text, length);
+    return copy;
+}
+
+static struct overlay_answer filled(uint32_t call, uint32_t side, const char *a, const char *b, uint8_t *room, size_t length) {
+    struct overlay_answer answer = {9, 9, 9, 9, 9};
+    uint8_t *first = copied(a, strlen(a)), *second = copied(b, strlen(b));
+    overlay_fill(call, side, first, strlen(a), second, strlen(b), room, length, &answer);
+    struct overlay_answer size = {9, 9, 9, 9, 9};
+    overlay_size(call, side, first, strlen(a), second, strlen(b), &size);
+    if (answer.status == OVERLAY_SMALL)
+        check(size.status == OVERLAY_ANSWERED && size.length == answer.length, "size of a text that doesn't fit");
+    else
+        check(size.status == answer.status && size.length == answer.length && size.detail == answer.detail
+                  && size.number == answer.number && size.part == answer.part, "size and fill answer the same");
+    free(first);
+    free(second);
+    return answer;
+}
+
+static const char *const SQUARE = "POLYGON ((0 0, 4 0, 4 4, 0 4, 0 0))";
+static const char *const OTHER = "POLYGON ((2 2, 6 2, 6 6, 2 6, 2 2))";
+
+static const char *const TEXTS[5] = {
+    "MULTIPOLYGON (((0 0, 4 0, 4 2, 6 2, 6 6, 2 6, 2 4, 0 4, 0 0)))\n",
+    "MULTIPOLYGON (((2 2, 4 2, 4 4, 2 4, 2 2)))\n",
+    "MULTIPOLYGON (((0 0, 4 0, 4 2, 2 2, 2 4, 0 4, 0 0)))\n",
+    "MULTIPOLYGON (((0 0, 4 0, 4 2, 2 2, 2 4, 0 4, 0 0)), ((2 4, 4 4, 4 2, 6 2, 6 6, 2 6, 2 4)))\n",
+    "0 0 0 4 1 0\n0 0 4 0 1 0\n0 4 2 4 1 0\n2 2 2 4 0 1\n2 2 4 2 0 1\n2 4 2 6 0 1\n2 4 4 4 1 0\n2 6 6 6 0 1\n4 0 4 2 1 0\n"
+    "4 2 4 4 1 0\n4 2 6 2 0 1\n6 2 6 6 0 1\n",
+};
+
+/* A room one byte too small stays as it was; one that is wide enough changes in its first bytes alone. */
+static void rooms(void) {
+    for (uint32_t call = 0; call < 5; call++) {
+        size_t wanted = strlen(TEXTS[call]);
+        for (size_t length = 0; length < wanted + 3; length++) {
+            uint8_t *room = malloc(length ? length : 1);
+            memset(room, 0xA5, length ? length : 1);
+            struct overlay_answer answer = filled(call, SIDE, SQUARE, OTHER, room, length);
+            check(answer.length == wanted && !answer.detail && !answer.number && !answer.part, "fields of a text");
+            check(answer.status == (length < wanted ? OVERLAY_SMALL : OVERLAY_ANSWERED), "status of a text");
+            size_t from = length < wanted ? 0 : wanted;
+            check(!from || !memcmp(room, TEXTS[call], wanted), "the text");
+            for (size_t at = from; at < length; at++)
+                check(room[at] == 0xA5, "the room behind the text");
+            free(room);
+        }
+    }
+}
+
+struct refusal {
+    uint32_t call, side;
+    const char *a, *b;
+    struct overlay_answer answer;
+    const char *words;
+};
+
+static void refusals(void) {
+    static const struct refusal ROWS[] = {
+        {5, 16, "", "", {0, 0, 2, 0, 0}, "no such call"},
+        {4294967295u, 16, "POLYGON ((0 0", "", {0, 0, 2, 0, 0}, "no such call"},
+        {0, 16, "POLYGON ((0 0, 1.5 0, 0 1, 0 0))", "", {0, 16, 3, 1, 0}, "A: 1 syntax at 16"},
+        {1, 16, "", "POLYGON ((0 0", {0, 13, 3, 1, 1}, "B: 1 syntax at 13"},
+        {2, 16, "POLYGON ((0 0, 268435457 0, 0 1, 0 0))", "", {0, 15, 3, 2, 0}, "A: 2 number out of range at 15"},
+        {3, 16, "", "POLYGON ((0 0, 1 0, 0 1))", {0, 9, 3, 3, 1}, "B: 3 short ring at 9"},
+        {4, 16, "POLYGON ((0 0, 1 0, 1 1, 0 1))", "", {0, 9, 3, 4, 0}, "A: 4 open ring at 9"},
+        {0, 15, "", "", {0, 0, 3, 6, 2}, "6 bad tile side"},
+        {4, 33554433, "POLYGON ((0 0", "", {0, 0, 3, 6, 2}, "6 bad tile side"},
+        {0, 16, "POLYGON ((0 0, 4096 0, 4096 4095, 0 4095, 0 0))", "", {0, 65792, 3, 8, 2}, "8 too many tiles: 65792"},
+    };
+    for (size_t row = 0; row < sizeof ROWS / sizeof *ROWS; row++) {
+        const struct refusal *want = &ROWS[row];
+        uint8_t room[256], words[OVERLAY_WORDS];
+        memset(room, 0xA5, sizeof room);
+        struct overlay_answer got = filled(want->call, want->side, want->a, want->b, room, sizeof room);
+        check(got.length == want->answer.length && got.detail == want->answer.detail && got.status == want->answer.status
+                  && got.number == want->answer.number && got.part == want->answer.part, want->words);
+        for (size_t at = 0; at < sizeof room; at++)
+            check(room[at] == 0xA5, "the room of a refusal");
+        size_t length = strlen(want->words);
+        check(overlay_words(&got, words, sizeof words) == length && !memcmp(words, want->words, length), want->words);
+        check(overlay_words(&got, words, length - 1) == 0, "words that don't fit");
+    }
+}
+
+static void sides(void) {
+    static const char *const WHOLE =
+        "POLYGON ((-268435456 -268435456, 268435456 -268435456, 268435456 268435456, -268435456 268435456, -268435456 -268435456))";
+    check(overlay_side((const uint8_t *)SQUARE, strlen(SQUARE), (const uint8_t *)"", 0) == 262144, "side of a square");
+    check(overlay_side((const uint8_t *)SQUARE, strlen(SQUARE), (const uint8_t *)WHOLE, strlen(WHOLE)) == 4194304, "side of the whole range");
+    check(overlay_side((const uint8_t *)"POLYGON", 7, (const uint8_t *)WHOLE, strlen(WHOLE)) == 262144, "side of what is refused");
+}
+
+/* A layer of one segment more than is allowed, and one of a byte more. */
+static void large(void) {
+    size_t one = strlen(SQUARE) + 1, count = 262145;
+    char *many = malloc(one * count + 1);
+    for (size_t at = 0; at < count; at++) {
+        memcpy(many + at * one, SQUARE, one - 1);
+        many[at * one + one - 1] = '\n';
+    }
+    many[one * count] = 0;
+    uint8_t room[1], words[OVERLAY_WORDS];
+    struct overlay_answer answer = filled(0, SIDE, many, "", room, sizeof room);
+    check(answer.status == OVERLAY_REFUSED && answer.number == 5 && answer.part == 2 && answer.detail == 1048580, "too many segments");
+    check(overlay_words(&answer, words, sizeof words) == 28 && !memcmp(words, "5 too many segments: 1048580", 28), "words of a count");
+    free(many);
+    size_t limit = 268435456;
+    char *blank = malloc(limit + 2);
+    memset(blank, ' ', limit + 1);
+    blank[limit + 1] = 0;
+    answer = filled(0, SIDE, "", blank, room, sizeof room);
+    check(answer.status == OVERLAY_REFUSED && answer.number == 0 && answer.part == 1 && !answer.detail, "layer too long");
+    check(overlay_words(&answer, words, sizeof words) == 19 && !memcmp(words, "B: 0 layer too long", 19), "words of a long layer");
+    free(blank);
+}
+
+static void broken(void) {
+    static const char TEXT[] = "POLYGON ((0 0, 40 0, 40 40, 0 40, 0 0), (3 3, 9 4, 5 8, 3 3)) MULTIPOLYGON EMPTY";
+    static const char LETTERS[] = " (),0123456789-POLYGNEMTUI.\n";
+    long counts[5] = {0};
+    srand(7);
+    for (int round = 0; round < 30000; round++) {
+        size_t length = rand() % 5 ? sizeof TEXT - 1 : (size_t)rand() % sizeof TEXT;
+        uint8_t *a = copied(TEXT, length);
+        for (int edits = rand() % 4; edits && length; edits--)
+            a[(size_t)rand() % length] = (uint8_t)LETTERS[(size_t)rand() % (sizeof LETTERS - 1)];
+        size_t space = (size_t)rand() % 900;
+        uint8_t *room = malloc(space ? space : 1);
+        struct overlay_answer answer = {9, 9, 9, 9, 9};
+        overlay_fill((uint32_t)(rand() % 6), rand() % 4 ? 16 + (uint32_t)(rand() % 1000) : (uint32_t)(rand() % 20), a, length,
+                     (const uint8_t *)TEXT, sizeof TEXT - 1, room, space, &answer);
+        check(answer.status < 5, "a status");
+        check(answer.status != OVERLAY_ANSWERED || (answer.length <= space && room[answer.length - 1] == '\n'), "a line");
+        counts[answer.status < 5 ? answer.status : 0]++;
+        free(a);
+        free(room);
+    }
+    check(counts[0] && !counts[1] && counts[2] && counts[3] && counts[4], "broken texts of every kind");
+    printf("broken texts 30000: answered %ld, no such call %ld, refused %ld, too small %ld\n", counts[0], counts[2], counts[3], counts[4]);
+}
+
+static char *read_file(const char *name) {
+    FILE *file = fopen(name, "rb");
+    if (!file)
+        exit(2);
+    fseek(file, 0, SEEK_END);
+    size_t length = (size_t)ftell(file);
+    rewind(file);
+    char *text = calloc(length + 1, 1);
+    if (fread(text, 1, length, file) != length)
+        exit(2);
+    fclose(file);
+    return text;
+}
+
+static int print(char **words) {
+    char *a = read_file(words[2]), *b = read_file(words[3]);
+    uint32_t side = overlay_side((uint8_t *)a, strlen(a), (uint8_t *)b, strlen(b));
+    struct overlay_answer answer;
+    overlay_size((uint32_t)atoi(words[1]), side, (uint8_t *)a, strlen(a), (uint8_t *)b, strlen(b), &answer);
+    uint8_t *room = malloc(answer.length ? answer.length : 1);
+    overlay_fill((uint32_t)atoi(words[1]), side, (uint8_t *)a, strlen(a), (uint8_t *)b, strlen(b), room, answer.length, &answer);
+    fwrite(room, 1, answer.length, stdout);
+    free(room);
+    free(a);
+    free(b);
+    return (int)answer.status;
+}
+
+int main(int count, char **words) {
+    if (count == 4)
+        return print(words);
+    check(overlay_version() == 1, "the version");
+    rooms();
+    refusals();
+    sides();
+    large();
+    broken();
+    printf("%ld failed\n", failures);
+    return failures != 0;
+}
