@@ -6,6 +6,8 @@ exact reference (bench/reference.py); where it is large, those of the plain prog
 told as "over" and is no difference. A pair that differs is kept in bench/out with its number, its seed and its commands, cut
 down to a small one that still differs; the run ends after 20 of them, and the exit status is 1.
 """
+from __future__ import annotations
+
 import multiprocessing
 import os
 import random
