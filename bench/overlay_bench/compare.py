@@ -6,6 +6,8 @@ exact reference (bench/reference.py); where it is large, those of the plain prog
 told as "over" and is no difference. A pair that differs is kept in bench/out with its number, its seed and its commands, cut
 down to a small one that still differs; the run ends after 20 of them, and the exit status is 1.
 """
+from __future__ import annotations
+
 import multiprocessing
 import os
 import random
@@ -18,6 +20,7 @@ from dataclasses import dataclass
 import reference
 
 from . import layers, programs
+from .cutting import cut
 from .programs import COMMANDS, Answer
 
 SMALL, LARGE = (4, 60), (100, 3000)
@@ -201,49 +204,33 @@ class Bench:
         return wrong, over
 
 
-def cut(bench, found, wanted, seconds=120):
-    """A smaller pair on which one plan still differs: rings, then points are left out as long as it does."""
-    best, until = found.polygons, time.monotonic() + seconds
+def replaced(items, place, item):
+    return [*items[:place], item, *items[place + 1:]]
+
+
+def cut_down(bench, found, wanted, seconds=120):
+    """A smaller pair on which one plan still differs: polygons, then rings, then points are left out as long as it does."""
+    best, until = list(found.polygons), time.monotonic() + seconds
 
     def differs(polygons):
-        if time.monotonic() > until or any(len(ring) < 1 for layer in polygons for rings in layer for ring in rings):
-            return False
-        return bool(bench.wrong(found.texts(polygons), [wanted], found.large)[0])
-
-    def without(items, rebuilt):
-        """The items that have to stay, whole runs of them tried first."""
-        step = max(1, len(items) // 2)
-        while step:
-            at = 0
-            while at < len(items):
-                fewer = items[:at] + items[at + step:]
-                if differs(rebuilt(fewer)):
-                    items = fewer
-                else:
-                    at += step
-            step //= 2
-        return items
+        return time.monotonic() < until and bool(bench.wrong(found.texts(polygons), [wanted], found.large)[0])
 
     for side in (0, 1):
-        placed = lambda layer, side=side: tuple(layer if k == side else best[k] for k in (0, 1))
-        best = placed(without(best[side], placed))
-    for side in (0, 1):
-        for i, rings in enumerate(best[side]):
-            for j, ring in enumerate(rings):
-                def placed(points):
-                    layer = [[list(points) if (i, j) == (m, n) else r for n, r in enumerate(rs)] for m, rs in enumerate(best[side])]
-                    return tuple(layer if k == side else best[k] for k in (0, 1))
-                if len(ring) > 3:
-                    kept = without(ring, lambda points: placed(points) if len(points) >= 3 else placed([]))
-                    best = placed(kept)
-    return best
+        best[side] = cut(best[side], lambda layer: differs(replaced(best, side, layer)))
+        for i in range(len(best[side])):
+            rings = lambda changed: replaced(best, side, replaced(best[side], i, changed))
+            best[side][i:i + 1] = [cut(best[side][i], lambda changed: len(changed) > 0 and differs(rings(changed)))]
+            for j in range(len(best[side][i])):
+                points = lambda changed: rings(replaced(best[side][i], j, changed))
+                best = points(cut(best[side][i][j], lambda changed: len(changed) > 2 and differs(points(changed))))
+    return tuple(best)
 
 
 def keep(bench, found, wanted, seed):
     """Writes a difference to bench/out: the layers as they were and cut down, and how to run them again."""
     folder = os.path.join(programs.OUT, "difference-%d-%d" % (seed, found.number))
     os.makedirs(folder, exist_ok=True)
-    for name, polygons in (("", found.polygons), ("small-", cut(bench, found, wanted[0]))):
+    for name, polygons in (("", found.polygons), ("small-", cut_down(bench, found, wanted[0]))):
         for layer, text in zip("ab", found.texts(polygons)):
             with open(os.path.join(folder, name + layer + ".wkt"), "wb") as file:
                 file.write(text)

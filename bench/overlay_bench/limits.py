@@ -8,6 +8,7 @@ where a layer takes more than that.
 import math
 import os
 import random
+import subprocess
 import tempfile
 from dataclasses import dataclass
 
@@ -161,12 +162,12 @@ class Friendly:
             self.rates[command] = sorted(times)[2] / self.records(files)
 
     def records(self, files):
-        told = answer([self.program, "edges", *files, "--report"], 600).err
-        return next(int(line.split()[1]) for line in told.splitlines() if line.startswith(b"records"))
+        run = subprocess.run([self.program, "edges", *files, "--report"], stdout=subprocess.DEVNULL, stderr=subprocess.PIPE, check=True)
+        return next(int(line.split()[1]) for line in run.stderr.splitlines() if line.startswith(b"records"))
 
     def seconds(self, command, records):
-        """Ten times as long, and no less than a twentieth of a second, which a start takes on a busy machine."""
-        return max(0.05, 10 * self.rates[command] * records)
+        """Ten times as long, and no less than a tenth of a second, which a start may take on a busy machine."""
+        return max(0.1, 10 * self.rates[command] * records)
 
 
 def write(polygons, files):
@@ -177,12 +178,13 @@ def write(polygons, files):
 
 def hard(arguments, folder):
     """Prints a row for each hard layer; whether one takes more than may be expected."""
+    names = [name for name in HARD if arguments.only in name]
+    if not names:
+        return False
     friendly, files, wrong = Friendly(arguments.program, folder, arguments.commands), [os.path.join(folder, name) for name in ("h.wkt", "nothing")], False
     print("| layers | command | seconds | at most | MB | at most | bytes |\n|---|---|---|---|---|---|---|", flush=True)
-    for name, make in HARD.items():
-        if arguments.only not in name:
-            continue
-        programs.apart(lambda: write(make(), files))
+    for name in names:
+        programs.apart(lambda: write(HARD[name](), files))
         records = None
         for command in arguments.commands:
             output = os.path.join(folder, "out")

@@ -103,10 +103,10 @@ def slivers(rng, segments):
 
 
 def stars(rng, segments):
-    """Stars of 4,000 thin quadrangles through nearly one point, half of them in either layer."""
+    """Stars of 1,000 thin quadrangles through nearly one point, half of them in either layer."""
     radius, both = 1_000_000, ([], [])
     for k in range(segments // 4):
-        x, y = 2_500_000 * (k // 4000 % 10), 2_500_000 * (k // 40_000)
+        x, y = 2_500_000 * (k // 1000 % 20), 2_500_000 * (k // 20_000)
         turned = rng.uniform(0, math.pi)
         dx, dy = round(radius * math.cos(turned)), round(radius * math.sin(turned))
         both[k % 2].append([[(x + dx, y + dy), (x - dx, y - dy), (x - dx + 1, y - dy + 2), (x + dx + 2, y + dy + 1)]])

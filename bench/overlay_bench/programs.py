@@ -1,4 +1,6 @@
 """Running programs: what one answered, what it took, and the builds that comparisons need."""
+from __future__ import annotations
+
 import os
 import shutil
 import signal

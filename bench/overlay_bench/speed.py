@@ -1,8 +1,9 @@
 """measures the program against the plain program on generated maps of every kind
 
 For each kind, size and command: processor seconds by one worker, seconds on the clock by four, and the greatest memory, of
-both programs in turn, by the default plan, from files and to a file; medians of several rounds, and the ratios. Machines and
-their other work change; ratios of one run can be compared. A run that takes too long is shown as "over", and its kind and
+both programs in turn, by the default plan, from files and to a file; medians of several rounds, and the ratios. (Below some 20
+MB the memory is that of this program, from which they are started.) Machines and their other work change; ratios of one run
+can be compared. A run that takes too long is shown as "over", and its kind and
 command are not tried at greater sizes. Where the bytes of both programs differ the row says so, and the exit status is 1.
 The last lines have the growth from each size to the next one: the power of the number of segments.
 """

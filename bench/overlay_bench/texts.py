@@ -15,6 +15,7 @@ from collections import Counter
 import reference
 
 from . import programs
+from .cutting import cut
 from .programs import Answer
 
 LIMIT = reference.COORDINATE_LIMIT
@@ -142,26 +143,16 @@ class Bench:
     def differs(self, texts):
         return self.answer(texts) != expected(texts)
 
-    def cut(self, texts):
+    def cut_down(self, texts):
         """Smaller texts that still differ."""
-        for layer in (0, 1):
-            step = max(1, len(texts[layer]) // 2)
-            while step:
-                at = 0
-                while at < len(texts[layer]):
-                    fewer = list(texts)
-                    fewer[layer] = texts[layer][:at] + texts[layer][at + step:]
-                    if self.differs(fewer):
-                        texts = tuple(fewer)
-                    else:
-                        at += step
-                step //= 2
-        return texts
+        first, second = texts
+        first = cut(first, lambda fewer: self.differs((fewer, second)))
+        return first, cut(second, lambda fewer: self.differs((first, fewer)))
 
     def keep(self, number, texts):
         folder = os.path.join(programs.OUT, "text-%d-%d" % (self.seed, number))
         os.makedirs(folder, exist_ok=True)
-        for name, both in (("", texts), ("small-", self.cut(texts))):
+        for name, both in (("", texts), ("small-", self.cut_down(texts))):
             for layer, text in zip("ab", both):
                 with open(os.path.join(folder, name + layer), "wb") as file:
                     file.write(text)
