@@ -198,7 +198,7 @@ fn gathered_made<T: Tiled>(
     requires covered { HaveTiles grid.now segments.now }
 {
     let pieces: Vec<TilePiece<T, Global>> = pieces_of(alloc, grid, segments)?;
-    gather_made(alloc, pieces, grid, segments)
+    gather_made(alloc, pieces, 0, grid, segments)
 }
 
 // The row over tiles of side 16.

@@ -144,6 +144,7 @@ pub fn gather<L: Limited, A: Allocator + Copy>(
 pub fn gather_made<T: Tiled, A: Allocator + Copy>(
     alloc: A,
     pieces: Vec<TilePiece<T, A>, A>,
+    remade: u32,
     grid: &Grid,
     segments: &[Seg],
 ) -> Result<Rounded<A>, NoMemory>
@@ -156,9 +157,10 @@ pub fn gather_made<T: Tiled, A: Allocator + Copy>(
     ensures noded { IfOk result (λ r. IsNoded (edges_of r.edges.items)) }
     ensures even { IfOk result (λ r. (layer : Source) → AreClosed layer segments.now → HasEvenDegrees (odd_edges layer r.edges.items)) }
     ensures tiles { IfOk result (λ r. AreTileNumbers grid.now segments.now (tile_count grid.now) r.tiles.items) }
-    ensures remade { IfOk result (λ r. r.remade ≡ 0) }
+    ensures remade { IfOk result (λ r. r.remade ≡ remade) }
 {
-    let found = all_made(alloc, &pieces)?;
+    let mut found = all_made(alloc, &pieces)?;
+    found.remade = remade;
     drop(pieces);
     rounded_of(alloc, segments, found)
 }

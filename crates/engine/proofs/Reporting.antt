@@ -1,7 +1,7 @@
 -- The report of a run, from the numbers of its parts.
-use Rattle.std.proofs.Common.{◌≡◌, ◌∙◌, ℕ, List, length}
+use Rattle.std.proofs.Common.{◌≡◌, ◌∙◌, ◌≤◌, ℕ, List, length}
 use Rattle.geom.specs.declared.edge.Counted.{Counted}
-use Rattle.tiling.specs.Tiles.{Tiling}
+use Rattle.tiling.specs.Tiles.{Tiling, tile_count}
 use Rattle.chain_gather.specs.declared.rounded.TileNumbers.{TileNumbers}
 use Rattle.engine.specs.Rounds.{AreRoundedOver, TellsTiles}
 use Rattle.engine.specs.declared.engine.Plan.{Plan}
@@ -10,8 +10,8 @@ use Rattle.engine.specs.Runs.{IsChecked, Reports}
 
 pub reported : {M : Type 0} (plan : Plan) (a b : List ℕ) (m n : ℕ) (grid : Tiling) (counted : List Counted) (tiles : List TileNumbers) (report : Report M)
     → IsChecked plan a b m n grid → AreRoundedOver a b grid counted tiles → report.segments_a ≡ m → report.segments_b ≡ n → report.edges ≡ length counted
-    → TellsTiles tiles report.hot report.records report.tiles.items → report.remade ≡ 0 → Reports plan a b counted report
-reported plan a b m n grid counted tiles report h rounded e f edges told remade = record {
+    → TellsTiles tiles report.hot report.records report.tiles.items → report.remade ≤ tile_count grid → Reports plan a b counted report
+reported plan a b m n grid counted tiles report h rounded e f edges told few = record {
   rings_a = h.rings_a;
   rings_b = h.rings_b;
   grid = grid;
@@ -22,5 +22,5 @@ reported plan a b m n grid counted tiles report h rounded e f edges told remade 
   tiles = tiles;
   rounded = rounded;
   told = told;
-  remade = remade;
+  few = few;
 }

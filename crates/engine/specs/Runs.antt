@@ -82,7 +82,7 @@ pub record IsChecked (plan : Plan) (a b : List ℕ) (segments_a segments_b : ℕ
   pub are_bounds : AreBoundsOf (layer_steps (plain rings_a) ++ layer_steps (plain rings_b)) bounds
   pub covers : CoversBounds bounds grid
 
--- the report of these edges: they are the rounded edges of the layers, and its numbers are those of the segments, the edges, the hot pixels and the records, of each tile and in all; no piece was made again
+-- the report of these edges: they are the rounded edges of the layers, and its numbers are those of the segments, the edges, the hot pixels and the records, of each tile and in all; no more pieces were made again than there are tiles
 pub record Reports {M : Type 0} (plan : Plan) (a b : List ℕ) (counted : List Counted) (report : Report M) : Type 0 where
   pub rings_a : List Ring
   pub rings_b : List Ring
@@ -94,7 +94,7 @@ pub record Reports {M : Type 0} (plan : Plan) (a b : List ℕ) (counted : List C
   pub tiles : List TileNumbers
   pub rounded : AreRoundedOver a b grid counted tiles
   pub told : TellsTiles tiles report.hot report.records report.tiles.items
-  pub remade : report.remade ≡ 0
+  pub few : report.remade ≤ tile_count grid
 
 -- the text of the edges, and their report
 pub record AreEdgesWritten {M : Type 0} (plan : Plan) (a b : List ℕ) (text : List ℕ) (report : Report M) : Type 0 where

@@ -127,7 +127,7 @@ fn rounded_alone<A: Allocator + Copy>(
     requires { IsChecked plan a.now b.now inputs.now.segments_a inputs.now.segments_b inputs.now.grid }
     ensures rounded { IfOk result (λ n. AreRoundedOver a.now b.now inputs.now.grid n.edges.items n.tiles.items) }
     ensures layers { IfOk result (λ n. ∥ AreLayers n.edges.items ∥₁) }
-    ensures remade { IfOk result (λ n. n.remade ≡ 0) }
+    ensures remade { IfOk result (λ n. n.remade ≤ tile_count inputs.now.grid) }
     ensures in_limit { IfOk result (λ n. All (λ c. AreInLimit c.edge.p c.edge.q) n.edges.items) }
 {
     let segments = read_segments(alloc, a, b, inputs)?;
@@ -145,7 +145,7 @@ fn gathered_alone<A: Allocator + Copy>(
     requires covered { HaveTiles grid.now segments.now }
     ensures rounded { IfOk result (λ n. ∥ AreRounded segments.now n.edges.items ∥₁) }
     ensures tiles { IfOk result (λ n. AreTileNumbers grid.now segments.now (tile_count grid.now) n.tiles.items) }
-    ensures remade { IfOk result (λ n. n.remade ≡ 0) }
+    ensures remade { IfOk result (λ n. n.remade ≤ tile_count grid.now) }
 {
     by_tiles_alone::<Brand, A>(alloc, grid, segments)
 }
@@ -162,7 +162,7 @@ fn by_tiles_alone<T: Tiled, A: Allocator + Copy>(
     requires covered { HaveTiles grid.now segments.now }
     ensures rounded { IfOk result (λ n. ∥ AreRounded segments.now n.edges.items ∥₁) }
     ensures tiles { IfOk result (λ n. AreTileNumbers grid.now segments.now (tile_count grid.now) n.tiles.items) }
-    ensures remade { IfOk result (λ n. n.remade ≡ 0) }
+    ensures remade { IfOk result (λ n. n.remade ≤ tile_count grid.now) }
 {
     let boxes = boxes_of(alloc, segments)?;
     let bins = Bins::build(alloc, grid, &boxes)?;
@@ -174,7 +174,7 @@ fn by_tiles_alone<T: Tiled, A: Allocator + Copy>(
         of: PhantomData,
     };
     let pieces = in_turn(alloc, &job, grid.tiles())?;
-    let rounded = gather_made(alloc, pieces, grid, segments)?;
+    let rounded = gather_made(alloc, pieces, 0, grid, segments)?;
     Ok(settled(rounded))
 }
 

@@ -21,7 +21,7 @@ use std::marker::{Brand, PhantomData};
 use std::sync::Wait;
 use std::sync::ledger::Blank;
 use std::thread::Threads;
-use tile_book::{Gate, Job, Limited, Phase, make_all};
+use tile_book::{AllPieces, Gate, Job, Limited, Phase, make_all};
 use tiling::{Bins, Grid};
 use wkt::read_layer;
 
@@ -63,7 +63,7 @@ pub fn rounded_layers<A: Allocator + Copy + Send + Sync, G: Gate + Sync, R: Thre
     requires { IsChecked plan a.now b.now inputs.now.segments_a inputs.now.segments_b inputs.now.grid }
     ensures rounded { IfOk result (λ n. AreRoundedOver a.now b.now inputs.now.grid n.edges.items n.tiles.items) }
     ensures layers { IfOk result (λ n. ∥ AreLayers n.edges.items ∥₁) }
-    ensures remade { IfOk result (λ n. n.remade ≡ 0) }
+    ensures remade { IfOk result (λ n. n.remade ≤ tile_count inputs.now.grid) }
     ensures in_limit { IfOk result (λ n. All (λ c. AreInLimit c.edge.p c.edge.q) n.edges.items) }
 {
     let segments = read_segments(alloc, a, b, inputs)?;
@@ -104,7 +104,7 @@ fn gathered<A: Allocator + Copy + Send + Sync, G: Gate + Sync, R: Threads + Wait
     requires covered { HaveTiles grid.now segments.now }
     ensures rounded { IfOk result (λ n. ∥ AreRounded segments.now n.edges.items ∥₁) }
     ensures tiles { IfOk result (λ n. AreTileNumbers grid.now segments.now (tile_count grid.now) n.tiles.items) }
-    ensures remade { IfOk result (λ n. n.remade ≡ 0) }
+    ensures remade { IfOk result (λ n. n.remade ≤ tile_count grid.now) }
 {
     let blank = Blank::new(u64::from(workers));
     by_tiles::<Brand, Brand, A, G, R>(rt, alloc, blank, grid, workers, segments, gate)
@@ -135,7 +135,7 @@ fn by_tiles<
     requires covered { HaveTiles grid.now segments.now }
     ensures rounded { IfOk result (λ n. ∥ AreRounded segments.now n.edges.items ∥₁) }
     ensures tiles { IfOk result (λ n. AreTileNumbers grid.now segments.now (tile_count grid.now) n.tiles.items) }
-    ensures remade { IfOk result (λ n. n.remade ≡ 0) }
+    ensures remade { IfOk result (λ n. n.remade ≤ tile_count grid.now) }
 {
     let boxes = boxes_of(alloc, segments)?;
     let bins = Bins::build(alloc, grid, &boxes)?;
@@ -146,7 +146,7 @@ fn by_tiles<
         segments,
         of: PhantomData,
     };
-    let pieces = make_all::<A, Pieces<T, A>, L, G, R>(
+    let AllPieces { pieces, remade } = make_all::<A, Pieces<T, A>, L, G, R>(
         rt,
         alloc,
         blank,
@@ -156,7 +156,7 @@ fn by_tiles<
         Phase::Route,
         gate,
     )?;
-    let rounded = gather_made(alloc, pieces, grid, segments)?;
+    let rounded = gather_made(alloc, pieces, remade, grid, segments)?;
     Ok(settled(rounded))
 }
 

@@ -62,6 +62,15 @@ where
     settle(alloc, draw, desk, ended)
 }
 
+/// The pieces of all numbers below a limit.
+#[derive(Drop)]
+pub struct AllPieces<P, A: Allocator> {
+    /// In the order of their numbers.
+    pub pieces: Vec<P, A>,
+    /// How many of them came back from the book and were made anew.
+    pub remade: u32,
+}
+
 /// The pieces of all numbers below a limit, in the order of their numbers: those that `fill` holds, and where one came back, a
 /// new one.
 pub fn make_all<
@@ -79,7 +88,7 @@ pub fn make_all<
     job: &J,
     phase: Phase,
     gate: &G,
-) -> Result<Vec<J::Piece, A>, NoMemory>
+) -> Result<AllPieces<J::Piece, A>, NoMemory>
 where
     J::Piece: Send,
     requires name { blank.name ≡ L.name }
@@ -87,8 +96,9 @@ where
     requires limit { (limit ≡ L.limit) × (limit ≤ 65536) }
     requires workers { (0 < workers) × (workers ≤ 64) }
     requires count { limit ≤ J.count job.now }
-    ensures one_each { IfOk result (λ v. length v.items ≡ limit) }
-    ensures in_order { IfOk result (λ v. StandInOrder J.Piece.Numbered.number_of v.items) }
+    ensures one_each { IfOk result (λ all. length all.pieces.items ≡ limit) }
+    ensures in_order { IfOk result (λ all. StandInOrder J.Piece.Numbered.number_of all.pieces.items) }
+    ensures few { IfOk result (λ all. all.remade ≤ limit) }
 {
     let filled: Filled<J::Piece, L, A> = fill(rt, alloc, blank, limit, workers, job, phase, gate)?;
     let Filled { book, .. } = filled;
@@ -100,22 +110,27 @@ pub(crate) fn completed<A: Allocator + Copy, J: Job<A>, L: Limited>(
     alloc: A,
     job: &J,
     book: Book<J::Piece, L, A>,
-) -> Result<Vec<J::Piece, A>, NoMemory>
+) -> Result<AllPieces<J::Piece, A>, NoMemory>
     requires few { book.limit ≤ 65536 }
     requires count { book.limit ≤ J.count job.now }
-    ensures one_each { IfOk result (λ v. length v.items ≡ book.limit) }
-    ensures in_order { IfOk result (λ v. StandInOrder J.Piece.Numbered.number_of v.items) }
+    ensures one_each { IfOk result (λ all. length all.pieces.items ≡ book.limit) }
+    ensures in_order { IfOk result (λ all. StandInOrder J.Piece.Numbered.number_of all.pieces.items) }
+    ensures few { IfOk result (λ all. all.remade ≤ book.limit) }
 {
     let mut held = book.into_held();
     let mut pieces = Vec::with_capacity(alloc, held.len())?;
+    let mut remade = 0;
     for number in 0..held.len() {
         let piece = match held[number].take() {
             Some(piece) => piece,
-            None => job.piece(alloc, number as u32)?,
+            None => {
+                remade += 1;
+                job.piece(alloc, number as u32)?
+            }
         };
         pieces.push_reserved(piece);
     }
-    Ok(pieces)
+    Ok(AllPieces { pieces, remade })
 }
 
 /// Ends a pass of new hands and shares whose workers are all there: without a fault the draw is finished and the desk

@@ -441,7 +441,7 @@ fn all_notes<L: Limited + Send + Sync, R: Threads + Wait + Abort + Sync>(
     requires limit { L.limit ≡ 5 }
 {
     let job = Notes { count: 5, room: 5 };
-    let notes = make_all::<Global, Notes, L, OpenGate, R>(
+    let all = make_all::<Global, Notes, L, OpenGate, R>(
         rt,
         alloc,
         blank,
@@ -451,8 +451,9 @@ fn all_notes<L: Limited + Send + Sync, R: Threads + Wait + Abort + Sync>(
         Phase::Route,
         &OpenGate,
     )?;
-    let numbers: Vec<u32> = notes.iter().map(|note| note.number).collect(alloc)?;
+    let numbers: Vec<u32> = all.pieces.iter().map(|note| note.number).collect(alloc)?;
     assert!(rt; numbers.as_slice() == [0, 1, 2, 3, 4].as_slice());
+    assert_eq!(rt; all.remade, 0);
     Ok(())
 }
 
@@ -477,9 +478,10 @@ fn lacking<L: Limited, R: Wait + Abort>(rt: &R, alloc: Global, blank: Blank) -> 
         return Err(Fail::from("all shares are there"));
     };
     let job = Notes { count: 3, room: 3 };
-    let notes = completed::<Global, Notes, L>(alloc, &job, book)?;
-    let numbers: Vec<u32> = notes.iter().map(|note| note.number).collect(alloc)?;
+    let all = completed::<Global, Notes, L>(alloc, &job, book)?;
+    let numbers: Vec<u32> = all.pieces.iter().map(|note| note.number).collect(alloc)?;
     assert!(rt; numbers.as_slice() == [0, 1, 2].as_slice());
+    assert_eq!(rt; all.remade, 2);
     Ok(())
 }
 

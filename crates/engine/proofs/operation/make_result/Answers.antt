@@ -19,5 +19,5 @@ returns g c =
       counted = c.in_ok-noded.noded.edges.items;
       result = rw c.deref.ensures.value at c.in_ok-text.ensures;
       reports = reported c.args.plan c.args.a.now c.args.b.now c.args.inputs.now.segments_a c.args.inputs.now.segments_b c.args.inputs.now.grid c.in_ok-noded.noded.edges.items c.in_ok-noded.noded.tiles.items c.in_ok-report.report
-          c.requires c.in_ok-noded.ensures.rounded told.segments_a told.segments_b told.edges told.tiles (told.remade ∙ c.in_ok-noded.ensures.remade);
+          c.requires c.in_ok-noded.ensures.rounded told.segments_a told.segments_b told.edges told.tiles (rw told.remade c.in_ok-noded.ensures.remade);
     }
