@@ -12,3 +12,6 @@ pub use finding::piece;
 pub use met::meets;
 pub use pieces::Piece;
 pub use record::{Candidate, Record};
+
+#[cfg(test)]
+mod tests;
