@@ -110,7 +110,7 @@ def test_pairs(seed, tmp_path):
         with open(name, "w") as file:
             file.write(layer)
     word = CALLS[seed % len(CALLS)]
-    assert asked(word, *layers, side=(16, 300, 262144)[seed % 3]).encode() == printed(word, *names)
+    assert asked(word, *layers, side=(None, 300, 1000)[seed % 3]).encode() == printed(word, *names)
 
 
 def test_threads():
