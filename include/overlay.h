@@ -9,7 +9,8 @@
  *   - a room overlaps neither a layer nor the answer;
  *   - no call is made from a signal handler, or in the forked child of a process with several threads.
  *
- * Link with liboverlay_c.a, or make a shared object of it (python/build).
+ * Link with crates/overlay_c/out/liboverlay_c.a and the kit's c/liblibc_c.a, which calls malloc; or make a shared object of
+ * both (python/build).
  */
 #ifndef OVERLAY_H
 #define OVERLAY_H

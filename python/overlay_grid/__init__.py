@@ -69,7 +69,8 @@ _library = _opened()
 
 def _words(answer):
     room = ctypes.create_string_buffer(64)
-    return room.raw[: _library.overlay_words(answer, room, len(room))].decode("ascii")
+    length = _library.overlay_words(answer, room, len(room))
+    return room.raw[:length].decode("ascii")
 
 
 def _fault(answer):
