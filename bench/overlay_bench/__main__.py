@@ -6,7 +6,7 @@ import sys
 
 from . import programs
 
-NAMES = ("compare", "texts", "memory", "faults", "limits", "speed", "laws", "requests", "kernels")
+NAMES = ("compare", "texts", "memory", "faults", "limits", "speed", "library", "laws", "requests", "kernels")
 WITHOUT_PROGRAM = ("laws", "requests", "kernels")
 
 

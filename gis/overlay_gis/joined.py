@@ -116,13 +116,13 @@ def check_overlaps(joined: Joined, layer: Gridded) -> None:
     """Warns where more area than rounding can explain is lost, since a layer is read by parity.
 
     A run of the layer alone tells how many pixels its segments meet beyond their own ends, and so how many of them were
-    bent at most; bending changes an area by 0.71 times the length.
+    bent at most (without a report, all); bending changes an area by 0.71 times the length.
     """
     if not layer.written.polygons:
         return
     text, report = joined.answer("union", [layer])
     parity = sum(map(twice_area, polygons_in(text, layer.source.name)))
-    bent = report["records"] - 2 * layer.written.segments
+    bent = report["records"] - 2 * layer.written.segments if report else layer.written.segments
     if abs(layer.written.twice_area - parity) > 2 * 0.71 * layer.written.greatest(bent):
         area, name = joined.frame.area, area_name(joined.system)
         warn(

@@ -1,12 +1,15 @@
-"""Runs the proved program, and says its refusals in the words of the layers that it was given."""
+"""Asks the proved program, or the package for Python where it is there, and says refusals in the words of the layers."""
 
 from __future__ import annotations
 
+import importlib
 import os
 import shutil
 import subprocess
+import sys
 from dataclasses import dataclass
 from pathlib import Path
+from types import ModuleType
 
 from .faults import Fault, Refusal
 from .messages import during
@@ -20,13 +23,29 @@ HINTS = {
 }
 
 
+TOP = Path(__file__).resolve().parents[2]
+
+
+def library() -> ModuleType | None:
+    """The package `overlay_grid`: an installed one, or the one beside this package, if its library was built. OVERLAY goes before it."""
+    if os.environ.get("OVERLAY"):
+        return None
+    beside = str(TOP / "python")
+    sys.path.append(beside)
+    try:
+        return importlib.import_module("overlay_grid")
+    except (ImportError, OSError):
+        return None
+    finally:
+        sys.path.remove(beside)
+
+
 def located() -> str:
     """The program: what OVERLAY names, else what the path has, else what stands beside this package."""
     named = os.environ.get("OVERLAY") or shutil.which("overlay")
     if named:
         return named
-    top = Path(__file__).resolve().parents[2]
-    for place in (top / "crates/overlay/out/overlay", top / "bin/overlay"):
+    for place in (TOP / "crates/overlay/out/overlay", TOP / "bin/overlay"):
         if place.is_file():
             return str(place)
     raise Fault("overlay", "the program isn't on the path, and OVERLAY doesn't name it; README says how it is built")
@@ -43,7 +62,11 @@ class Inputs:
 
 
 def run(command: str, inputs: Inputs, out: Path) -> dict[str, int]:
-    """Runs a command on two texts, writes its answer to a file, and answers the numbers of its report by their names."""
+    """Runs a command on two texts, writes its answer to a file, and answers the numbers of its report by their names; the
+    library tells none."""
+    package = library()
+    if package is not None:
+        return by_library(package, command, inputs, out)
     words = [located(), command, str(inputs.a), str(inputs.b), "--report"]
     try:
         with open(out, "wb") as file, during(f"overlay {command}"):
@@ -55,6 +78,19 @@ def run(command: str, inputs: Inputs, out: Path) -> dict[str, int]:
         raise refusal(told[-1] if told else f"ended with status {done.returncode} and no word", done.returncode, inputs)
     lines = (line.split() for line in told if not line.startswith("tile "))
     return {line[0]: int(line[1]) for line in lines if len(line) > 1}
+
+
+def by_library(package: ModuleType, command: str, inputs: Inputs, out: Path) -> dict[str, int]:
+    try:
+        with during(f"overlay {command}"):
+            answer = getattr(package, command)(inputs.a.read_bytes(), inputs.b.read_bytes())
+    except package.Refused as fault:
+        mark = f"{fault.layer}: " if fault.layer and not str(fault).startswith(f"{fault.layer}: ") else ""
+        raise refusal(mark + str(fault), Refusal.status, inputs) from fault
+    except package.OutOfMemory as fault:
+        raise refusal(str(fault), Fault.status, inputs) from fault
+    out.write_bytes(answer)
+    return {}
 
 
 def refusal(line: str, status: int, inputs: Inputs) -> Fault:
