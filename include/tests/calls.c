@@ -163,6 +163,39 @@ static void broken(void) {
     printf("broken texts 30000: answered %ld, no such call %ld, refused %ld, too small %ld\n", counts[0], counts[2], counts[3], counts[4]);
 }
 
+/* How many requests for memory are granted before one is refused; below 0 all are. Linked with --wrap=malloc. */
+static long granted = -1;
+
+void *__real_malloc(size_t size);
+
+void *__wrap_malloc(size_t size) {
+    if (granted == 0)
+        return NULL;
+    if (granted > 0)
+        granted--;
+    return __real_malloc(size);
+}
+
+/* From some request on memory is refused: the room is as it was, or there is the text. */
+static void memory(void) {
+    uint8_t room[1000];
+    long refused = 0;
+    size_t m = strlen(SQUARE), n = strlen(OTHER);
+    for (long count = 0; count < 100000; count++) {
+        struct overlay_answer answer;
+        memset(room, 7, sizeof room);
+        granted = count;
+        overlay_fill(OVERLAY_INTERSECTION, SIDE, (const uint8_t *)SQUARE, m, (const uint8_t *)OTHER, n, room, sizeof room, &answer);
+        granted = -1;
+        if (answer.status == OVERLAY_ANSWERED)
+            break;
+        check(answer.status == OVERLAY_NO_MEMORY && answer.number == 10 && answer.part == 2, "no memory");
+        check(answer.length == 0 && answer.detail == 0 && room[0] == 7 && room[999] == 7, "a room that is as it was");
+        refused++;
+    }
+    check(refused > 0, "memory was refused");
+}
+
 static char *read_file(const char *name) {
     FILE *file = fopen(name, "rb");
     if (!file)
@@ -200,6 +233,7 @@ int main(int count, char **words) {
     sides();
     large();
     broken();
+    memory();
     printf("%ld failed\n", failures);
     return failures != 0;
 }
