@@ -11,6 +11,7 @@ import os
 __all__ = ["union", "intersection", "difference", "symdifference", "edges", "Refused", "OutOfMemory"]
 
 _ANSWERED, _NO_MEMORY, _NO_CALL, _REFUSED, _SMALL = range(5)
+_EDGES = 4
 _SYNTAX, _OPEN_RING, _SEGMENTS, _TILES = 1, 4, 5, 8
 
 
@@ -97,7 +98,7 @@ def _call(call, a, b, side):
     a, b = (layer.encode() if isinstance(layer, str) else bytes(memoryview(layer)) for layer in (a, b))
     side = _library.overlay_side(a, len(a), b, len(b)) if side is None else _number(side)
     answer = _Answer()
-    size = 256 + 2 * (len(a) + len(b))
+    size = 256 + (6 if call == _EDGES else 2) * (len(a) + len(b))  # a guess: where it is too small, all is made again
     while True:
         room = ctypes.create_string_buffer(size)
         _library.overlay_fill(call, side, a, len(a), b, len(b), room, size, answer)
@@ -131,4 +132,4 @@ def symdifference(a, b, side=None):
 
 def edges(a, b, side=None):
     """A line `x1 y1 x2 y2 a b` for each edge of both layers after rounding, with its count in either layer."""
-    return _call(4, a, b, side)
+    return _call(_EDGES, a, b, side)
