@@ -8,23 +8,21 @@ ghost use Rattle.tiling.specs.Tiles.{tile_count};
 ghost use Rattle.chain_gather.specs.Gathered.{AreTileNumbers, HaveTiles};
 ghost use Rattle.points_law.specs.Law.{AreLayers};
 ghost use Rattle.engine.specs.Rounds.{AllInLimit, AreRoundedOver};
-ghost use Rattle.engine.specs.Results.{IsResultText, IsResultWritten};
+ghost use Rattle.engine.specs.Results.{IsResultWritten};
 ghost use Rattle.engine.specs.Runs.{AreEdgesWritten, Declines, IsChecked, alone};
 
 use crate::engine::{Inputs, Made, Plan, checked};
+use crate::operation::result_text;
 use crate::rounds::{Pieces, read_segments, report_of};
 use crate::segments::boxes_of;
 use crate::text::edges_text;
 use chain_gather::{Tiled, gather_made};
-use geom::{Counted, Fault, NoMemory, Op, Part, RunFault, Seg};
-use label_sweep::layer_labels;
+use geom::{Fault, NoMemory, Op, Part, RunFault, Seg};
 use noding_test::{Noded, settled};
-use polygonize::polygons;
 use std::alloc::Allocator;
 use std::marker::{Brand, PhantomData};
 use tile_book::Job;
 use tiling::{Bins, Grid};
-use wkt::write_multi;
 
 /// The text of the rounded edges of two layers, over tiles of this side, and its report. It is refused as `edges` is,
 /// but for the number of workers and the sink.
@@ -97,23 +95,9 @@ fn make_result_alone<A: Allocator + Copy>(
     ensures { IfOk result (λ m. IsResultWritten op plan a.now b.now m.text.items m.report) }
 {
     let noded = rounded_alone(alloc, a, b, plan, inputs)?;
-    let text = result_text_alone(alloc, &noded.edges, op)?;
+    let text = result_text(alloc, &noded.edges, op)?;
     let report = report_of(alloc, inputs, &noded)?;
     Ok(Made { text, report })
-}
-
-/// The canonical line of the result of an operation, by rounded edges.
-fn result_text_alone<A: Allocator + Copy>(
-    alloc: A,
-    counted: &[Counted],
-    op: Op,
-) -> Result<Vec<u8, A>, NoMemory>
-    requires { AreLayers counted.now }
-    ensures { IfOk result (λ text. IsResultText op counted.now text.items) }
-{
-    let directed = layer_labels(alloc, counted, op)?;
-    let polygons = polygons(alloc, &directed)?;
-    write_multi(alloc, polygons.as_slice())
 }
 
 /// The rounded edges of two layer texts that were checked, with the numbers of the tiles.

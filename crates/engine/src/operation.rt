@@ -20,8 +20,7 @@ use wkt::write_multi;
 
 /// The canonical line of the result of an operation on two rounded layers, by their rounded edges: in bytes, with LF at
 /// its end. Answers want of memory only where a growth was refused.
-pub fn result_text<A: Allocator + Copy + Send + Sync, R: Threads + Sync>(
-    rt: &R,
+pub fn result_text<A: Allocator + Copy>(
     alloc: A,
     counted: &[Counted],
     op: Op,
@@ -75,7 +74,7 @@ fn make_result<A: Allocator + Copy + Send + Sync, G: Gate + Sync, R: Threads + W
     ensures { IfOk result (λ m. IsResultWritten op plan a.now b.now m.text.items m.report) }
 {
     let noded = rounded_layers(rt, alloc, a, b, plan, inputs, gate)?;
-    let text = result_text(rt, alloc, &noded.edges, op)?;
+    let text = result_text(alloc, &noded.edges, op)?;
     let report = report_of(alloc, inputs, &noded)?;
     Ok(Made { text, report })
 }

@@ -4,8 +4,8 @@ use Rattle.engine.proofs.Reporting.{reported}
 use Rattle.engine.proofs.Results.{layers_known}
 use Rattle.engine.proofs.alone.make_result_alone.Goals as goal
 
-pub result_text_alone-requires : goal.result_text_alone-requires
-result_text_alone-requires g c =
+pub result_text-requires : goal.result_text-requires
+result_text-requires g c =
     let h : AreLayers c.deref.result.now = rw c.deref.ensures.value (layers_known c.in_ok-noded.noded.edges.items c.in_ok-noded.ensures.layers) in h
 
 pub report_of-requires : goal.report_of-requires

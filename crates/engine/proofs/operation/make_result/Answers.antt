@@ -4,10 +4,9 @@ use Rattle.engine.proofs.Reporting.{reported}
 use Rattle.engine.proofs.Results.{layers_known}
 use Rattle.engine.proofs.operation.make_result.Goals as goal
 
-pub result_text-requires-after_bounds : goal.result_text-requires-after_bounds
-result_text-requires-after_bounds g c =
-    let h : AreLayers c.deref.result.now = rw c.deref.ensures.value (layers_known c.in_ok-noded.noded.edges.items c.in_ok-noded.ensures.layers) in
-    λ κs outlives. h
+pub result_text-requires : goal.result_text-requires
+result_text-requires g c =
+    let h : AreLayers c.deref.result.now = rw c.deref.ensures.value (layers_known c.in_ok-noded.noded.edges.items c.in_ok-noded.ensures.layers) in h
 
 pub report_of-requires : goal.report_of-requires
 report_of-requires g c = let e = c.in_ok-noded.ensures.rounded.tiles_are.one_each in let f = c.requires.ready.few_tiles in omega arith
