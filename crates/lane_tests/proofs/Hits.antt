@@ -1,5 +1,5 @@
 -- The numbers that pass a test, and the bits of the tests.
-use Rattle.std.proofs.Common.{◌≡◌, ℕ, zero, suc, ◌+◌, ◌-◌, ◌*◌, ◌/◌, ◌%◌, ◌<◌, ◌≤◌, Bool, true, false, cond, List, [], ◌∷◌, ◌++◌, map, length, take, refl, sym, ap, ◌∙◌, arith, append_assoc, inl, inr}
+use Rattle.std.proofs.Common.{◌≡◌, ℕ, zero, suc, ◌+◌, ◌-◌, ◌*◌, ◌/◌, ◌%◌, ◌<◌, ◌≤◌, Bool, true, false, cond, List, [], ◌∷◌, ◌++◌, map, length, take, refl, sym, ap, ◌∙◌, subst, arith, append_assoc, inl, inr}
 use Rattle.std.proofs.lemmas.List.Elements.{filter-append}
 use Rattle.std.proofs.lemmas.List.{append-nil, take-set, take_more_set}
 use Rattle.std.specs.List.{range_with_len}
@@ -55,6 +55,14 @@ found_none p from end old h = record { begun = omega arith; within = h; found = 
 
 pub found_part : (p : ℕ → Bool) (from at n end : ℕ) (old now next : List ℕ) → HasFound p from at end old now → at + n ≤ end → next ≡ now ++ passing p at n → HasFound p from (at + n) end old next
 found_part p from at n end old now next h k e = record { begun = omega arith; within = k; found = found_more p from at n old now next h.begun h.found e }
+
+pub found_until : (p : ℕ → Bool) (from at until end : ℕ) (old now next : List ℕ) → HasFound p from at end old now → at ≤ until → until ≤ end → next ≡ now ++ passing p at (until - at) → HasFound p from until end old next
+found_until p from at until end old now next h k l e =
+    let m : at + (until - at) ≡ until = omega arith in
+    subst (λ i. HasFound p from i end old next) m (found_part p from at (until - at) end old now next h (omega arith) e)
+
+pub found_nothing : (p : ℕ → Bool) (from at until end : ℕ) (old now : List ℕ) → HasFound p from at end old now → at ≤ until → until ≤ end → passing p at (until - at) ≡ [] → HasFound p from until end old now
+found_nothing p from at until end old now h k l e = found_until p from at until end old now now h k l (rw e (sym (append-nil now)))
 
 pub found_one : (p : ℕ → Bool) (from at end : ℕ) (old now next : List ℕ) → HasFound p from at end old now → at < end → p at ≡ true → next ≡ now ++ at ∷ [] → HasFound p from (at + 1) end old next
 found_one p from at end old now next h k t e = found_part p from at 1 end old now next h (omega arith) (rw (passing_yes p at t) e)

@@ -11,3 +11,4 @@ pub mod Ends
 pub mod Law
 pub mod SideLemmas
 pub mod Slices
+pub mod RunHulls

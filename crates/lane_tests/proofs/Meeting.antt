@@ -17,19 +17,19 @@ use Rattle.geom.proofs.Boxes.{share_in, share_out}
 use Rattle.lane_tests.specs.Meeting.{AreMeeting, MeetsAt}
 
 -- ---- a common point, by four comparisons
-le_yes : (a b : ℤ) → a ≤ℤ b → int_le a b ≡ true
+pub le_yes : (a b : ℤ) → a ≤ℤ b → int_le a b ≡ true
 le_yes a b h = let t : true ≡ int_le a b = omega (arith, ints) in sym t
 
-le_from : (a b : ℤ) → int_le a b ≡ true → a ≤ℤ b
+pub le_from : (a b : ℤ) → int_le a b ≡ true → a ≤ℤ b
 le_from a b h = omega (arith, ints)
 
-through : (a b c : ℤ) → a ≤ℤ b → b ≤ℤ c → a ≤ℤ c
+pub through : (a b c : ℤ) → a ≤ℤ b → b ≤ℤ c → a ≤ℤ c
 through a b c h k = omega (arith, ints)
 
-all_four : (p q r s : Bool) → p ≡ true → q ≡ true → r ≡ true → s ≡ true → p && q && r && s ≡ true
+pub all_four : (p q r s : Bool) → p ≡ true → q ≡ true → r ≡ true → s ≡ true → p && q && r && s ≡ true
 all_four p q r s e f g h = rw (e, f, g, h) refl
 
-four_of : (p q r s : Bool) → p && q && r && s ≡ true → (p ≡ true) × (q ≡ true) × (r ≡ true) × (s ≡ true)
+pub four_of : (p q r s : Bool) → p && q && r && s ≡ true → (p ≡ true) × (q ≡ true) × (r ≡ true) × (s ≡ true)
 four_of true true true true e = (refl, refl, refl, refl)
 four_of true true true false e = cc
 four_of true true false s e = cc
@@ -56,7 +56,7 @@ itself a = omega (arith, ints)
 overlap : (a b c d : ℤ) → a ≤ℤ b → c ≤ℤ d → a ≤ℤ d → c ≤ℤ b → Common a b c d
 overlap a b c d h k l m = by_lt_z a c (λ n. record { at = c; low = at_most a c n; high = m; from = itself c; to = k }) (λ n. record { at = a; low = itself a; high = h; from = n; to = l })
 
-share_from : (b r : Rect) → touches (corners b) (corners r) ≡ true → ShareAPoint b.lo b.hi r.lo r.hi
+pub share_from : (b r : Rect) → touches (corners b) (corners r) ≡ true → ShareAPoint b.lo b.hi r.lo r.hi
 share_from b r e = let t = four_of _ _ _ _ e in share_out b r (le_from _ _ t.0, le_from _ _ t.2) (le_from _ _ t.1, le_from _ _ t.3)
 
 -- boxes with whole corners that share a point share a point of the grid

@@ -33,3 +33,7 @@ on_err (Err e) f h = f h
 pub either_way : {T E : Type 0} (r : Result T E) {P Q R : Type 0} → (P → R) → (Q → R) → OnOk r P → OnErr r Q → R
 either_way (Ok x) f g h k = f h
 either_way (Err e) f g h k = g k
+
+pub on_err_all : {T E : Type 0} (r : Result T E) {P : Type 0} → P → OnErr r P
+on_err_all (Ok x) h = tt
+on_err_all (Err e) h = h

@@ -5,3 +5,4 @@ pub mod Above
 pub mod Probe
 pub mod Edges
 pub mod Sides
+pub mod Hulls

@@ -1,12 +1,14 @@
 //! Boxes, and which of them meet a rectangle.
 
 ghost use Rattle.std.specs.Prelude.{◌≡◌, ℕ, List, ◌+◌, ◌-◌, ◌*◌, ◌<◌, ◌≤◌, ◌≤ℤ◌, ◌^◌, ◌++◌, ◌∷◌, [], OnOk, OnErr, All, Some, length, map, slice_get, take};
-ghost use Rattle.lane_tests.specs.Columns.{AreColumns, IsColumn, corners, mask_of, pair_at, passing, touches};
+ghost use Rattle.lane_tests.specs.Columns.{AreColumns, IsColumn, corners, mask_of, pair_at, pairs_of, passing, touches};
 ghost use Rattle.lane_tests.specs.Boxes.{AreRects, AreSmall, rects_of};
+ghost use Rattle.lane_tests.specs.Hulls.{AreHulls};
 ghost use Rattle.lane_tests.specs.Meeting.{AreMeeting};
 ghost use Rattle.geom.specs.declared.rect.Rect.{Rect};
 
 use crate::columns::Columns;
+use crate::hulls::{RUN, hold};
 use geom::{NoMemory, Pt, Rect};
 use std::alloc::Allocator;
 use std::marker::Model;
@@ -19,7 +21,9 @@ const CHUNKS: usize = 32;
 #[derive(Drop)]
 pub struct Boxes<A: Allocator> {
     columns: Columns<A>,
+    hulls: Vec<Rect, A>,
     ghost are_rects: { AreRects columns },
+    ghost are_hulls: { AreHulls hulls.items columns },
 }
 
 impl<A: Allocator> Model for Boxes<A> {
@@ -35,6 +39,7 @@ impl<A: Allocator + Copy> Boxes<A> {
     {
         Boxes {
             columns: Columns::new(alloc),
+            hulls: Vec::new(alloc),
         }
     }
 }
@@ -71,6 +76,7 @@ impl<A: Allocator> Boxes<A> {
         ensures ok { OnOk result (self.new ≡ self.old ++ rect ∷ []) }
         ensures err { OnErr result (self.new ≡ self.old) }
     {
+        hold(&mut self.hulls, self.columns.len() / RUN, rect)?;
         self.columns.push(rect.lo, rect.hi)
     }
 }
@@ -103,7 +109,8 @@ pub fn meet_in<A: Allocator, B: Allocator>(
 {
     out.clear();
     let columns = &boxes.columns;
-    match push_touching(
+    match push_runs(
+        &boxes.hulls,
         &columns.px,
         &columns.py,
         &columns.qx,
@@ -139,6 +146,36 @@ fn box_at(left: &[i32], bottom: &[i32], right: &[i32], top: &[i32], at: usize) -
             y: top[at],
         },
     }
+}
+
+// Adds the numbers of the boxes from `from` on that touch the rectangle, run by run.
+fn push_runs<A: Allocator>(
+    hulls: &[Rect],
+    left: &[i32],
+    bottom: &[i32],
+    right: &[i32],
+    top: &[i32],
+    from: usize,
+    end: usize,
+    rect: Rect,
+    out: &mut Vec<u32, A>,
+) -> Result<(), NoMemory>
+    requires hulls { AreHulls hulls.now (pairs_of left.now bottom.now right.now top.now) }
+    requires columns { AreColumns left.now bottom.now right.now top.now }
+    requires in_order { from ≤ end }
+    requires in_range { end ≤ length left.now }
+    ensures { OnOk result (out.new.items ≡ out.old.items ++ passing (λ k. touches (pair_at left.now bottom.now right.now top.now k) (corners rect)) from (end - from)) }
+{
+    let mut at = from;
+    while at < end {
+        let run = at / RUN;
+        let next = end.min(RUN * (run + 1));
+        if hulls[run].shares_point(&rect) {
+            push_touching(left, bottom, right, top, at, next, rect, out)?;
+        }
+        at = next;
+    }
+    Ok(())
 }
 
 // Adds the numbers of the boxes from `from` on that touch the rectangle.

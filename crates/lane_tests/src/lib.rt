@@ -5,6 +5,7 @@
 mod boxes;
 mod columns;
 mod edges;
+mod hulls;
 mod points;
 mod segs;
 
