@@ -14,6 +14,7 @@ use Rattle.std.proofs.lemmas.Map.Keys.{IsDistinct-IsPermutation, IsDistinct-from
 use Rattle.geom.specs.declared.point.Pt.{Pt}
 use Rattle.geom.specs.declared.edge.Edge.{Edge}
 use Rattle.geom.specs.declared.segment.Seg.{Seg}
+use Rattle.geom.specs.declared.rect.Rect.{Rect}
 use Rattle.geom.specs.Determinant.{turn}
 use Rattle.geom.specs.Hot.{CrossIn}
 use Rattle.geom.specs.Order.{IsBefore}
@@ -30,7 +31,8 @@ use Rattle.hot_pixel.specs.declared.bundle.Course.TheVariants.{Columns, Rows}
 use Rattle.hot_pixel.specs.declared.bundle.Strand.{Strand}
 use Rattle.hot_pixel.specs.declared.lines.Line.{Line}
 use Rattle.hot_pixel.specs.Bundle.{exchanged, height, seen_point, AreStrands, AscendsTo, HasNoHot, IsFloor, IsSeen, IsStrand, IsStrandSeen, RunsThrough, RunsThroughSeen}
-use Rattle.hot_pixel.specs.Halving.{edges_of, IsHotFor, IsEndOf, IsCrossing}
+use Rattle.hot_pixel.specs.Halving.{edges_of, HasHot, IsHotFor}
+use Rattle.hot_pixel.specs.Rects.{IsIn}
 use Rattle.hot_pixel.specs.Lines.{CrossAt, IsLine}
 use Rattle.hot_pixel.proofs.HalvingLaws.{line_at}
 use Rattle.hot_pixel.proofs.HotLaws.{cross_back}
@@ -468,3 +470,7 @@ module _ (course : Course) (low high : ℤ) where
 
   pub bundle_has_no_hot : (lines : List Line) (ss sorted : List Strand) → AreStrands course low high lines ss → IsPermutation ss sorted → AllPairs AscendsTo sorted → HasNoHot course low high (edges_of lines)
   bundle_has_no_hot lines ss sorted h moved up c from to k = none_hot c from to lines ss h (distinct ss sorted moved up) k
+
+-- where no pixel is hot, nothing has to be added
+pub nothing_hot : (rect : Rect) (lines : List Line) (old : List Pt) → ((c : Pt) → IsIn rect c → IsHotFor (edges_of lines) c → ⊥) → HasHot rect (edges_of lines) old old
+nothing_hot rect lines old none = record { same = λ c. ((λ h. inl h), (λ h. ⊎_elim (λ k. k) (λ k. absurd (none c k.1 k.0)) h)) }
