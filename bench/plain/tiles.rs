@@ -7,8 +7,6 @@ use std::sync::atomic::{AtomicUsize, Ordering::Relaxed};
 
 /// Lines that aren't halved any further.
 const FEW: usize = 32;
-/// Lines from which on it is worth to look whether they run side by side.
-const BUNDLE: usize = 48;
 
 /// A segment meets a hot pixel: how many steps from its first end, in columns and rows together.
 #[derive(Clone, Copy)]
@@ -186,11 +184,11 @@ impl<'a> Desk<'a> {
     fn halve(&mut self, rect: Rect, from: usize, to: usize) {
         let count = to - from;
         let (is_column, is_row) = (rect.left == rect.right, rect.bottom == rect.top);
+        if count > FEW && (self.is_bundle(&rect, from, to, false) || self.is_bundle(&rect, from, to, true)) {
+            return;
+        }
         if count <= FEW || (is_column && is_row) {
             return self.leaf(rect, from, to);
-        }
-        if count > BUNDLE && (self.is_bundle(&rect, from, to, false) || self.is_bundle(&rect, from, to, true)) {
-            return;
         }
         let by_column = !is_column && (is_row || self.is_column_better(&rect, from, to));
         for half in if by_column { rect.halves_by_column() } else { rect.halves_by_row() } {
@@ -252,7 +250,7 @@ impl<'a> Desk<'a> {
         let (mut last_in, mut last_out) = (f64::NEG_INFINITY, f64::NEG_INFINITY);
         for &(height_in, line) in &self.heights {
             let height_out = doubled_height(&self.lines[line as usize], exit);
-            if height_in - last_in < 1e-3 || height_out - last_out < 1e-3 {
+            if height_in - last_in < 1e-6 || height_out - last_out < 1e-6 {
                 return false;
             }
             (last_in, last_out) = (height_in, height_out);

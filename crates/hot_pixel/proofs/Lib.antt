@@ -7,3 +7,4 @@ pub mod CandidateLaws
 pub mod RectLaws
 pub mod HalvingLaws
 pub mod NearLaws
+pub mod BundleLaws

@@ -2,3 +2,4 @@ pub mod Candidates
 pub mod Rects
 pub mod Lines
 pub mod Halving
+pub mod Bundle

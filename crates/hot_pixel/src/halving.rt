@@ -16,9 +16,9 @@ const SAMPLE: usize = 32;
 
 /// A vector with room for twice the differences of points.
 #[derive(Clone, Copy, Debug)]
-struct Wide {
-    dx: i64,
-    dy: i64,
+pub(crate) struct Wide {
+    pub dx: i64,
+    pub dy: i64,
     ghost dx_small: { IsWithin (2 ^ 30) dx },
     ghost dy_small: { IsWithin (2 ^ 30) dy },
 }
@@ -64,7 +64,7 @@ fn unsigned(v: Vector) -> Vector
 }
 
 /// The determinant of two vectors.
-fn determinant(run: Vector, other: Wide) -> i64
+pub(crate) fn determinant(run: Vector, other: Wide) -> i64
     ensures value { result ≡ determinant run.dx run.dy other.dx other.dy }
     ensures small { IsWithin (2 ^ 60) result }
 {

@@ -1,6 +1,7 @@
 //! The hot pixels that a tile owns.
 #![tactic(auto)]
 
+mod bundle;
 mod halving;
 mod hot;
 mod leaf;
@@ -8,6 +9,7 @@ mod lines;
 mod pixels;
 mod tile_sweep;
 
+pub use bundle::is_bundle;
 pub use halving::{cut, passing, within_limit};
 pub use hot::{hot_in, sweep};
 pub use leaf::add_hot;

@@ -334,3 +334,7 @@ module _ (segments : List Seg) (numbers : List ℕ) (table : List OnLine) (lines
 
 pub no_records : (segments : List Seg) (numbers : List ℕ) → HasRecords (candidates_of segments numbers) [] []
 no_records segments numbers = record { same = λ r. (λ h. absurd (none_in r h), λ h. absurd (none_in r.pixel h.1)) }
+
+-- where no pixel is hot, no record has to be added
+pub nothing_recorded : (segments : List Seg) (table : List OnLine) (rect : Rect) (lines : List Line) (old : List Record) → ((c : Pt) → IsIn rect c → IsHotFor (edges_of lines) c → ⊥) → AddsRecords segments table rect lines old old
+nothing_recorded segments table rect lines old none = record { same = λ r. ((λ h. inl h), (λ h. ⊎_elim (λ k. k) (λ k. absurd (none r.pixel k.2 k.1)) h)) }

@@ -1,8 +1,9 @@
 //! The hot pixels of a tile with the records of the segments that meet them, found in ever smaller halves of it.
 //!
-//! 1. A rectangle with many lines is halved, and each half is left with the lines that may pass it.
-//! 2. Where few are left, or one pixel, all pairs are crossed.
-//! 3. Each line is tested against each hot pixel that was found there. Where it meets one, each segment on the line has a
+//! 1. A rectangle with many lines that run side by side is left: it has no hot pixel.
+//! 2. Another one with many lines is halved, and each half is left with the lines that may pass it.
+//! 3. Where few are left, or one pixel, all pairs are crossed.
+//! 4. Each line is tested against each hot pixel that was found there. Where it meets one, each segment on the line has a
 //!    record.
 
 ghost use Rattle.std.specs.Prelude.{◌≡◌, ◌++◌, ◌<◌, ◌≤◌, All, IfOk, OnOk, length};
@@ -18,7 +19,7 @@ use crate::by_line::{OnLine, by_line, lines_of};
 use crate::met::meets;
 use crate::record::{Record, steps_to};
 use geom::{NoMemory, Pt, Rect, Seg};
-use hot_pixel::{Line, add_hot, ascending, cut, on_line, passing, within_limit};
+use hot_pixel::{Line, add_hot, ascending, cut, is_bundle, on_line, passing, within_limit};
 use std::alloc::Allocator;
 
 /// How many lines of a rectangle are few.
@@ -139,8 +140,8 @@ fn add_all<A: Allocator + Copy>(
     Ok(())
 }
 
-/// Adds the pixels of a rectangle that are hot for its lines, and the records there. Where the lines aren't few it is
-/// halved, and each half is left with those that may pass it.
+/// Adds the pixels of a rectangle that are hot for its lines, and the records there. Where the lines are many it has none if
+/// they run side by side, and else it is halved, and each half is left with those that may pass it.
 fn halve<A: Allocator + Copy>(
     alloc: A,
     segments: &[Seg],
@@ -160,6 +161,9 @@ fn halve<A: Allocator + Copy>(
 {
     if depth == 0 || lines.len() <= FEW {
         return add_all(alloc, segments, table, rect, lines, found);
+    }
+    if is_bundle(alloc, rect, lines)? {
+        return Ok(());
     }
     match cut(rect, lines) {
         None => add_all(alloc, segments, table, rect, lines, found),

@@ -4,8 +4,9 @@ use Rattle.geom.specs.Limit.{AreInLimit}
 use Rattle.hot_pixel.specs.declared.lines.Line.{Line}
 use Rattle.hot_pixel.specs.Halving.{edges_of, HasHot}
 use Rattle.hot_pixel.proofs.HalvingLaws.{halves_unite, part_all}
+use Rattle.hot_pixel.proofs.BundleLaws.{nothing_hot}
 use Rattle.routing.specs.Recording.{AddsRecords}
-use Rattle.routing.proofs.RecordingLaws.{records_unite}
+use Rattle.routing.proofs.RecordingLaws.{nothing_recorded, records_unite}
 use Rattle.routing.proofs.halved.+halve.Goals as goal
 
 pub halve-requires : goal.halve-requires
@@ -63,3 +64,9 @@ returns-in_ok-halve-in-Some-2-clause-records g t c =
     let h = subst (λ (ls : List Line). AddsRecords segments table c.in-Some.first ls c.args.found.now.records.items c.halve.new.found.records.items) c.deref.ensures.value c.in_ok-halve-in-Some.ensures.records in
     let k = subst (λ (ls : List Line). AddsRecords segments table c.in-Some.second ls c.halve.new.found.records.items c.halve-in-Some.new.found.records.items) c.deref-in-Some.ensures.value c.in_ok-halve-in-Some-2.ensures.records in
     records_unite segments table c.args.rect.now c.in-Some.first c.in-Some.second c.args.lines.now c.in_ok-part-in-Some.part.items c.in_ok-rest-in-Some.rest.items c.args.found.now.records.items c.halve.new.found.records.items c.halve-in-Some.new.found.records.items c.in-Some.ensures.0 c.in_ok-part-in-Some.ensures c.in_ok-rest-in-Some.ensures h k
+
+pub returns-then-branch-clause-pixels : goal.returns-then-branch-clause-pixels
+returns-then-branch-clause-pixels g t c = nothing_hot c.args.rect.now c.args.lines.now c.args.found.now.pixels.items (c.in_ok-is_bundle.ensures c.if-branch.true)
+
+pub returns-then-branch-clause-records : goal.returns-then-branch-clause-records
+returns-then-branch-clause-records g t c = nothing_recorded c.args.segments.now c.args.table.now c.args.rect.now c.args.lines.now c.args.found.now.records.items (c.in_ok-is_bundle.ensures c.if-branch.true)

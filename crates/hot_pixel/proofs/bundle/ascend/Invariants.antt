@@ -1,0 +1,7 @@
+use Rattle.std.proofs.Common.{◌≤◌}
+use Rattle.std.specs.List.{AllAdjacentBelow}
+use Rattle.hot_pixel.specs.Bundle.{AscendsTo}
+use Rattle.hot_pixel.proofs.bundle.ascend.Given as goal
+
+abbrev pub invariant-loop-k : goal.invariant-loop-k
+invariant-loop-k l = AllAdjacentBelow AscendsTo l.strands l.k

@@ -1,0 +1,243 @@
+//! Whether the lines of a rectangle are a bundle: they run side by side, so no pixel of it is hot for them.
+//!
+//! 1. Each line runs through the columns of the rectangle and has no end there.
+//! 2. A line's strand is its height at the left and at the right border of these columns.
+//! 3. The strands are sorted. Where they ascend at both borders, the lines stand in one order there, so no two of them have a
+//!    point in common between the borders.
+//! 4. The same is asked of the rows, with x and y exchanged.
+//!
+//! Heights are rounded down, so lines that stand nearer to each other than a part may be taken to meet.
+
+ghost use Rattle.std.specs.Prelude.{◌≡◌, ◌^◌, ◌<ℤ◌, ◌≤ℤ◌, ◌+ℤ◌, ◌-ℤ◌, All, AllPairs, IfOk, IfSome, IsTrue, pos};
+ghost use Rattle.geom.specs.declared.point.Pt.{Pt};
+ghost use Rattle.geom.specs.Limit.{AreInLimit, InLimit, IsQuotientWithin, IsWithin};
+ghost use Rattle.hot_pixel.specs.Bundle.{AreStrands, AscendsTo, HasNoHot, IsFloor, IsSeen, IsStrand, RunsThrough, RunsThroughSeen, height};
+ghost use Rattle.hot_pixel.specs.Halving.{IsHotFor, edges_of};
+ghost use Rattle.hot_pixel.specs.Rects.{IsIn};
+
+use crate::halving::{Wide, determinant};
+use crate::lines::Line;
+use geom::{Edge, NoMemory, Pt, Rect};
+use std::alloc::Allocator;
+
+/// How many parts half a unit has.
+const PARTS: i64 = 1_073_741_824;
+
+/// Which borders lines are looked at between.
+#[derive(Clone, Copy, Debug)]
+enum Course {
+    Columns,
+    Rows,
+}
+
+/// The heights of a line at two borders, in parts.
+#[derive(Clone, Copy, Debug, PartialEq, Eq, PartialOrd, Ord)]
+struct Strand {
+    left: i64,
+    right: i64,
+}
+
+impl Strand {
+    /// Whether it is less than another one at both borders.
+    fn ascends_to(&self, other: &Strand) -> bool
+        ensures { IsTrue result → AscendsTo self.now other.now }
+    {
+        self.left < other.left && self.right < other.right
+    }
+}
+
+/// A point with x and y exchanged.
+fn exchanged(p: Pt) -> Pt
+    ensures x { result.x ≡ p.y }
+    ensures y { result.y ≡ p.x }
+{
+    Pt { x: p.y, y: p.x }
+}
+
+/// A line as it is seen along its course: for rows with x and y exchanged.
+fn seen(course: Course, line: &Edge) -> Edge
+    ensures { IsSeen course line.now result }
+{
+    match course {
+        Course::Columns => *line,
+        Course::Rows => {
+            let a = exchanged(line.p);
+            let b = exchanged(line.q);
+            if a < b {
+                Edge { p: a, q: b }
+            } else {
+                Edge { p: b, q: a }
+            }
+        }
+    }
+}
+
+/// Whether a line runs through the columns from low to high and has no end there.
+fn runs_through(low: i32, high: i32, line: &Edge) -> bool
+    ensures { IsTrue result → RunsThrough low high line.now }
+{
+    line.p.x < low && high < line.q.x
+}
+
+/// Whether each line runs through.
+fn all_run_through(course: Course, low: i32, high: i32, lines: &[Line]) -> bool
+    ensures { IsTrue result → All (λ l. RunsThroughSeen course low high l.edge) lines.now }
+{
+    for line in lines {
+        let edge = seen(course, &line.edge);
+        if !runs_through(low, high, &edge) {
+            return false;
+        }
+    }
+    true
+}
+
+/// The number of parts in a quotient, rounded down.
+fn parts_of(height: i64, run: i64) -> i64
+    requires height_in { IsQuotientWithin (2 ^ 30) height run }
+    requires positive { pos 0 <ℤ run }
+    ensures value { IsFloor height run result }
+    ensures small { IsWithin (2 ^ 60) result }
+{
+    let parts = i128::from(height) * i128::from(PARTS);
+    parts.div_euclid(i128::from(run)) as i64
+}
+
+/// Twice the vector from half of a border on the axis to a point.
+fn from_border(p: Pt, border: i64) -> Wide
+    requires p_in { InLimit p }
+    requires from { (p.x +ℤ p.x) ≤ℤ border }
+    requires to { border ≤ℤ pos (2 ^ 29) }
+    ensures dx { result.dx ≡ (p.x +ℤ p.x) -ℤ border }
+    ensures dy { result.dy ≡ p.y +ℤ p.y }
+{
+    Wide {
+        dx: 2 * i64::from(p.x) - border,
+        dy: 2 * i64::from(p.y),
+    }
+}
+
+/// Twice the height of a line over half of a border, in parts, rounded down.
+fn height_at(line: &Edge, border: i64) -> i64
+    requires line_in { AreInLimit line.now.p line.now.q }
+    requires from { (line.now.p.x +ℤ line.now.p.x) ≤ℤ border }
+    requires to { border ≤ℤ (line.now.q.x +ℤ line.now.q.x) }
+    requires apart { line.now.p.x <ℤ line.now.q.x }
+    ensures value { IsFloor (height line.now border) (line.now.q.x -ℤ line.now.p.x) result }
+    ensures small { IsWithin (2 ^ 60) result }
+{
+    let run = line.p.vector_to(line.q);
+    let height = determinant(run, from_border(line.p, border));
+    parts_of(height, run.dx)
+}
+
+/// Twice the x of the left border of a column.
+fn left_of(low: i32) -> i64
+    ensures { result ≡ (low +ℤ low) -ℤ pos 1 }
+{
+    2 * i64::from(low) - 1
+}
+
+/// Twice the x of the right border of a column.
+fn right_of(high: i32) -> i64
+    ensures { result ≡ (high +ℤ high) +ℤ pos 1 }
+{
+    2 * i64::from(high) + 1
+}
+
+/// The strand of a line.
+fn strand_of(low: i32, high: i32, line: &Edge) -> Strand
+    requires line_in { AreInLimit line.now.p line.now.q }
+    requires through { RunsThrough low high line.now }
+    requires apart { low ≤ℤ high }
+    ensures { IsStrand low high line.now result }
+{
+    Strand {
+        left: height_at(line, left_of(low)),
+        right: height_at(line, right_of(high)),
+    }
+}
+
+/// Whether a strand changes places with the last one of a list.
+fn crosses_last(strands: &[Strand], strand: &Strand) -> bool {
+    match strands.last() {
+        None => false,
+        Some(last) => !last.ascends_to(strand) && !strand.ascends_to(last),
+    }
+}
+
+/// The strand of each line, unless two that follow each other change places.
+fn strands<A: Allocator>(
+    alloc: A,
+    course: Course,
+    low: i32,
+    high: i32,
+    lines: &[Line],
+) -> Result<Option<Vec<Strand, A>>, NoMemory>
+    requires lines_in { All (λ l. AreInLimit l.edge.p l.edge.q) lines.now }
+    requires through { All (λ l. RunsThroughSeen course low high l.edge) lines.now }
+    requires apart { low ≤ℤ high }
+    ensures { IfOk result (λ o. IfSome o (λ v. AreStrands course low high lines.now v.items)) }
+{
+    let mut list = Vec::new(alloc);
+    for line in lines {
+        let edge = seen(course, &line.edge);
+        let strand = strand_of(low, high, &edge);
+        if crosses_last(&list, &strand) {
+            return Ok(None);
+        }
+        list.push(strand)?;
+    }
+    Ok(Some(list))
+}
+
+/// Whether strands ascend at both borders.
+fn ascend(strands: &[Strand]) -> bool
+    ensures { IsTrue result → AllPairs AscendsTo strands.now }
+{
+    for k in 1..strands.len() {
+        if !strands[k - 1].ascends_to(&strands[k]) {
+            return false;
+        }
+    }
+    true
+}
+
+/// Whether lines run side by side between two borders.
+fn run_side_by_side<A: Allocator>(
+    alloc: A,
+    course: Course,
+    low: i32,
+    high: i32,
+    lines: &[Line],
+) -> Result<bool, NoMemory>
+    requires lines_in { All (λ l. AreInLimit l.edge.p l.edge.q) lines.now }
+    ensures { IfOk result (λ b. IsTrue b → HasNoHot course low high (edges_of lines.now)) }
+{
+    if high < low || !all_run_through(course, low, high, lines) {
+        return Ok(false);
+    }
+    match strands(alloc, course, low, high, lines)? {
+        None => Ok(false),
+        Some(mut list) => {
+            list.sort_unstable();
+            Ok(ascend(&list))
+        }
+    }
+}
+
+/// Whether lines run side by side through the columns or the rows of a rectangle: then no pixel of it is hot for them.
+pub fn is_bundle<A: Allocator + Copy>(
+    alloc: A,
+    rect: &Rect,
+    lines: &[Line],
+) -> Result<bool, NoMemory>
+    requires rect_in { AreInLimit rect.now.lo rect.now.hi }
+    requires lines_in { All (λ l. AreInLimit l.edge.p l.edge.q) lines.now }
+    ensures { IfOk result (λ b. IsTrue b → (c : Pt) → IsIn rect.now c → IsHotFor (edges_of lines.now) c → ⊥) }
+{
+    Ok(
+        run_side_by_side(alloc, Course::Columns, rect.lo.x, rect.hi.x, lines)?
+            || run_side_by_side(alloc, Course::Rows, rect.lo.y, rect.hi.y, lines)?,
+    )
+}
