@@ -11,3 +11,5 @@ pub mod Turning
 pub mod Passing
 pub mod Sweeping
 pub mod Directing
+pub mod Chunks
+pub mod Places

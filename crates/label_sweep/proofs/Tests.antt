@@ -15,3 +15,9 @@ is_from x h = omega (arith, ints)
 
 pub not_from : (x : ℤ) → int_le (pos 0) x ≡ false → x <ℤ pos 0
 not_from x h = omega (arith, ints)
+
+pub is_at_least : (b x : ℤ) → int_le b x ≡ true → b ≤ℤ x
+is_at_least b x h = omega (arith, ints)
+
+pub not_at_least : (b x : ℤ) → int_le b x ≡ false → x <ℤ b
+not_at_least b x h = omega (arith, ints)

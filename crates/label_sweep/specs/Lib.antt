@@ -1,3 +1,4 @@
 pub mod Status
+pub mod Chunks
 pub mod Laws
 pub mod Labels

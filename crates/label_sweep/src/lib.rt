@@ -7,6 +7,7 @@ mod parities;
 mod pass;
 mod place;
 mod standing;
+mod status;
 mod turn;
 mod vertices;
 

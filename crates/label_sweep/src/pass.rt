@@ -3,11 +3,12 @@
 ghost use Rattle.std.specs.Prelude.{◌≡◌, [], IfOk, OnOk, take};
 ghost use Rattle.geom.specs.Rounded.{edges_of};
 ghost use Rattle.points_law.specs.Law.{AreLayers};
+ghost use Rattle.label_sweep.specs.Chunks.{AreChunks, all_standing};
 ghost use Rattle.label_sweep.specs.Labels.{AreLabels, AreLabelsOf, IsSweptTo, IsSweptUpTo};
 ghost use Rattle.label_sweep.specs.Status.{IsRangeAt, IsVertexOf};
 
-use crate::place::{first_above, first_not_below, lowest_under, replace};
 use crate::standing::{Labelled, Spoke, Standing};
+use crate::status::Status;
 use crate::turn::{by_turn, label, stand};
 use crate::vertices::{last_of, vertices_of};
 use geom::{Counted, NoMemory, Pt};
@@ -16,26 +17,26 @@ use std::alloc::Allocator;
 /// The sweep at a vertex.
 #[derive(Drop)]
 struct SweepLine<A: Allocator> {
-    standing: Vec<Standing, A>,
+    standing: Status<A>,
     labelled: Vec<Labelled, A>,
     spokes: Vec<Spoke, A>,
     fresh: Vec<Standing, A>,
-    rest: Vec<Standing, A>,
 }
 
 impl<A: Allocator + Copy> SweepLine<A> {
     /// Before the first vertex.
-    fn new(alloc: A) -> SweepLine<A>
-        ensures standing { result.standing.items ≡ [] }
-        ensures labelled { result.labelled.items ≡ [] }
+    fn new(alloc: A) -> Result<SweepLine<A>, NoMemory>
+        ensures standing { IfOk result (λ line. all_standing line.standing ≡ []) }
+        ensures chunked { IfOk result (λ line. AreChunks line.standing.chunks.items) }
+        ensures labelled { IfOk result (λ line. line.labelled.items ≡ []) }
     {
-        SweepLine {
-            standing: Vec::new(alloc),
+        let standing = Status::new(alloc)?;
+        Ok(SweepLine {
+            standing,
             labelled: Vec::new(alloc),
             spokes: Vec::new(alloc),
             fresh: Vec::new(alloc),
-            rest: Vec::new(alloc),
-        }
+        })
     }
 
     /// Past a vertex: labels the edges that begin there, which are those from one number to another.
@@ -43,18 +44,20 @@ impl<A: Allocator + Copy> SweepLine<A> {
         requires layers { AreLayers counted.now }
         requires vertex { IsVertexOf (edges_of counted.now) v }
         requires begin { IsRangeAt counted.now v from next }
-        requires swept { IsSweptUpTo counted.now v self.old.standing.items }
+        requires chunked { AreChunks self.old.standing.chunks.items }
+        requires swept { IsSweptUpTo counted.now v (all_standing self.old.standing) }
         requires labelled { AreLabelsOf counted.now (take from counted.now) self.old.labelled.items }
-        ensures swept { OnOk result (IsSweptTo counted.now v self.new.standing.items) }
+        ensures chunked { OnOk result (AreChunks self.new.standing.chunks.items) }
+        ensures swept { OnOk result (IsSweptTo counted.now v (all_standing self.new.standing)) }
         ensures labelled { OnOk result (AreLabelsOf counted.now (take next counted.now) self.new.labelled.items) }
     {
-        let low = first_not_below(&self.standing, v);
-        let high = first_above(&self.standing, v);
-        let left = lowest_under(&self.standing, high);
+        let low = self.standing.first_not_below(v);
+        let high = self.standing.first_above(v);
+        let left = self.standing.lowest_under(high);
         by_turn(&mut self.spokes, counted, from, next, v)?;
         label(&self.spokes, left, &mut self.labelled)?;
         stand(&self.spokes, left, &mut self.fresh)?;
-        replace(&mut self.standing, low, high, &self.fresh, &mut self.rest)?;
+        self.standing.replace(low, high, &self.fresh)?;
         Ok(())
     }
 }
@@ -68,7 +71,7 @@ pub fn sweep<A: Allocator + Copy>(
     ensures { IfOk result (λ labelled. AreLabels counted.now labelled.items) }
 {
     let vertices = vertices_of(alloc, counted)?;
-    let mut line = SweepLine::new(alloc);
+    let mut line = SweepLine::new(alloc)?;
     let mut next = 0usize;
     for v in &vertices {
         let from = next;

@@ -1,0 +1,137 @@
+-- The places of a status: what a search among its chunks finds, what lies from a place on, and what a change of chunks leaves.
+use Rattle.std.proofs.Common.{◌≡◌, ⊎_elim, ℕ, zero, suc, ◌+◌, ◌<◌, ◌≤◌, Bool, true, false, List, [], ◌∷◌, ◌++◌, length, get_or, set, take, drop, refl, sym, ap, ◌∙◌, subst, arith}
+use Rattle.std.specs.List.{All, AllWithin, HoldsAt, flat_map, insert}
+use Rattle.std.specs.List.Sorted.{IsPartitionedBy}
+use Rattle.std.specs.declared.vec.Vec.{Vec}
+use Rattle.std.proofs.Math.Seq.{drop-cons}
+use Rattle.std.proofs.lemmas.List.{drop_all, length-append, length-drop, length-take-le, take-append-drop}
+use Rattle.std.proofs.lemmas.List.Elements.{at_read}
+use Rattle.label_sweep.specs.declared.standing.Standing.{Standing}
+use Rattle.label_sweep.specs.declared.status.Place.{Place}
+use Rattle.label_sweep.specs.Chunks.{AreChunks, IsPlace, joined, number_of, opens}
+use Rattle.label_sweep.specs.Labels.{under_lowest}
+use Rattle.label_sweep.proofs.Chunks.{all_after, all_before, before, before_more, before_order, behind, below_or_from, cut_filled, cut_joined, cut_some, drop_joined, exchanged, exchanged_filled, exchanged_some, filled_at, first_of, inside}
+
+-- what a search finds
+pub record IsFound {A : Type 0} (p : Standing → Bool) (chunks : List (Vec Standing A)) (at : Place) : Type 0 where
+  pub place : IsPlace chunks at
+  pub within : number_of chunks at ≤ length (joined chunks)
+  pub before : AllWithin (λ s. p s ≡ true) (joined chunks) 0 (number_of chunks at)
+  pub rest : AllWithin (λ s. p s ≡ false) (joined chunks) (number_of chunks at) (length (joined chunks))
+
+under_append : (xs ys : List Standing) → 0 < length xs → under_lowest (xs ++ ys) ≡ under_lowest xs
+under_append [] ys h = absurd (omega arith)
+under_append (x ∷ xs) ys h = refl
+
+module _ {A : Type 0} where
+  -- the chunks whose first edges pass are those up to number k, and of its edges the first w pass
+  pub found : (p : Standing → Bool) (chunks : List (Vec Standing A)) → IsPartitionedBy p (joined chunks) → AreChunks chunks → (k w : ℕ) (c : Vec Standing A) → k < length chunks → c ≡ get_or chunks k c
+      → AllWithin (λ c. opens p c.items ≡ true) (drop 1 chunks) 0 k → AllWithin (λ c. opens p c.items ≡ false) (drop 1 chunks) k (length (drop 1 chunks))
+      → w ≤ length c.items → AllWithin (λ s. p s ≡ true) c.items 0 w → AllWithin (λ s. p s ≡ false) c.items w (length c.items)
+      → IsFound p chunks (record { chunk = k; within = w })
+  found p chunks parted are k w c h is low high l steep flat = let r = inside (λ (c : Vec Standing A). c.items) p chunks parted are.filled k c h is in record {
+    place = record {
+      chunk = h;
+      within = at_read chunks (λ (c : Vec Standing A). w ≤ length c.items) k c h is l;
+      behind_first = behind (λ (c : Vec Standing A). c.items) p chunks parted are.filled k c h is low high w l steep flat;
+    };
+    within = omega (arith, r, l);
+    before = all_before (λ (c : Vec Standing A). c.items) p chunks parted are.filled k c h is low high w l steep flat;
+    rest = all_after (λ (c : Vec Standing A). c.items) p chunks parted are.filled k c h is low high w l steep flat;
+  }
+
+  pub chunk_inside : (chunks : List (Vec Standing A)) (k : ℕ) → 0 < length chunks → k ≤ length (drop 1 chunks) → k < length chunks
+  chunk_inside [] k h l = absurd (omega arith)
+  chunk_inside (c ∷ chunks) k h l = omega arith
+
+  -- ---- what lies from a place on
+  pub under_here : (chunks : List (Vec Standing A)) (k n : ℕ) (c : Vec Standing A) (x : Standing) → k < length chunks → c ≡ get_or chunks k c → n < length c.items → x ≡ get_or c.items n x
+      → x.under ≡ under_lowest (drop (length (joined (take k chunks)) + n) (joined chunks))
+  under_here chunks k n c x h is l e =
+      let rest : List Standing = joined (drop (suc k) chunks) in
+      let P : Vec Standing A → Type 0 = λ y. n ≤ length y.items in
+      let there : n ≤ length (get_or chunks k c).items = subst P is (omega (arith, l)) in
+      ap (λ (s : Standing). s.under) e
+      ∙ sym (ap under_lowest (drop_joined (λ (c : Vec Standing A). c.items) chunks k n c h there ∙ ap (λ (y : Vec Standing A). drop n y.items ++ rest) (sym is) ∙ ap (λ t. t ++ rest) (drop-cons c.items n x l)))
+
+  pub under_next : (chunks : List (Vec Standing A)) (k n : ℕ) (c b : Vec Standing A) → AreChunks chunks → suc k < length chunks → c ≡ get_or chunks k c → n ≤ length c.items → length c.items ≤ n
+      → b ≡ get_or chunks (k + 1) b → under_lowest b.items ≡ under_lowest (drop (length (joined (take k chunks)) + n) (joined chunks))
+  under_next chunks k n c b are h is l m at =
+      let one : k + 1 ≡ suc k = omega arith in
+      let e : b ≡ get_or chunks (suc k) b = at ∙ ap (λ i. get_or chunks i b) one in
+      let rest : List Standing = joined (drop (suc (suc k)) chunks) in
+      let P : Vec Standing A → Type 0 = λ y. n ≤ length y.items in
+      let Q : Vec Standing A → Type 0 = λ y. 0 < length y.items in
+      let there : n ≤ length (get_or chunks k c).items = subst P is l in
+      let some : 0 < length b.items = subst Q (sym e) (filled_at (λ (c : Vec Standing A). c.items) chunks are.filled k b h) in
+      sym (ap under_lowest (drop_joined (λ (c : Vec Standing A). c.items) chunks k n c (omega (arith, h)) there ∙ ap (λ (y : Vec Standing A). drop n y.items ++ joined (drop (suc k) chunks)) (sym is)
+      ∙ ap (λ t. t ++ joined (drop (suc k) chunks)) (drop_all n c.items m) ∙ ap joined (drop-cons chunks (suc k) b h) ∙ ap (λ (y : Vec Standing A). y.items ++ rest) (sym e))
+      ∙ under_append b.items rest some)
+
+  -- ---- places by their numbers
+  pub places_in_order : (chunks : List (Vec Standing A)) → AreChunks chunks → (low high : Place) → IsPlace chunks low → IsPlace chunks high → number_of chunks low ≤ number_of chunks high → low.chunk ≤ high.chunk
+  places_in_order chunks are low high l h o = ⊎_elim (λ m. absurd (clash m)) (λ m. m) (below_or_from high.chunk low.chunk)
+    where
+      clash : high.chunk < low.chunk → ⊥
+      clash m =
+          let d = first_of chunks are.some in
+          let a = l.behind_first (omega (arith, m)) in
+          let b = h.within d in
+          let e = before_more (λ (c : Vec Standing A). c.items) chunks high.chunk d h.chunk in
+          let f = before_order (λ (c : Vec Standing A). c.items) chunks (suc high.chunk) low.chunk (omega (arith, m)) in
+          omega (arith, a, b, e, f, o)
+
+  -- ---- changes
+  pub replaced : (chunks : List (Vec Standing A)) (low high : Place) (b c y : Vec Standing A) (fresh rest : List Standing) → low.chunk ≤ high.chunk → IsPlace chunks low → IsPlace chunks high
+      → b ≡ get_or chunks low.chunk b → c ≡ get_or chunks high.chunk c → y.items ≡ take low.within b.items ++ fresh ++ rest → rest ≡ drop high.within c.items
+      → joined (take (low.chunk + 1) (set chunks low.chunk y) ++ drop (high.chunk + 1) (set chunks low.chunk y)) ≡ take (number_of chunks low) (joined chunks) ++ fresh ++ drop (number_of chunks high) (joined chunks)
+  replaced chunks low high b c y fresh rest o l h e g made left =
+      let to : y.items ≡ take low.within (get_or chunks low.chunk b).items ++ fresh ++ drop high.within (get_or chunks high.chunk c).items =
+          made ∙ ap (λ t. take low.within b.items ++ fresh ++ t) left ∙ ap (λ (v : Vec Standing A). take low.within v.items ++ fresh ++ drop high.within c.items) e
+          ∙ ap (λ (v : Vec Standing A). take low.within (get_or chunks low.chunk b).items ++ fresh ++ drop high.within v.items) g in
+      let p : low.chunk + 1 ≡ suc low.chunk = omega arith in
+      let q : high.chunk + 1 ≡ suc high.chunk = omega arith in
+      ap (λ i. joined (take i (set chunks low.chunk y) ++ drop (high.chunk + 1) (set chunks low.chunk y))) p ∙ ap (λ i. joined (take (suc low.chunk) (set chunks low.chunk y) ++ drop i (set chunks low.chunk y))) q
+      ∙ exchanged (λ (c : Vec Standing A). c.items) chunks low.chunk high.chunk low.within high.within y b c fresh o h.chunk (l.within b) (h.within c) to
+
+  pub replaced_chunks : (chunks : List (Vec Standing A)) (low high : Place) (b y : Vec Standing A) (fresh rest : List Standing) → AreChunks chunks → low.chunk ≤ high.chunk → IsPlace chunks low
+      → b ≡ get_or chunks low.chunk b → y.items ≡ take low.within b.items ++ fresh ++ rest → AreChunks (take (low.chunk + 1) (set chunks low.chunk y) ++ drop (high.chunk + 1) (set chunks low.chunk y))
+  replaced_chunks chunks low high b y fresh rest are o l e made =
+      let p : suc low.chunk ≡ low.chunk + 1 = omega arith in
+      let q : suc high.chunk ≡ high.chunk + 1 = omega arith in
+      subst (λ i. AreChunks (take i (set chunks low.chunk y) ++ drop (high.chunk + 1) (set chunks low.chunk y))) p (subst (λ i. AreChunks (take (suc low.chunk) (set chunks low.chunk y) ++ drop i (set chunks low.chunk y))) q
+      (record {
+        some = exchanged_some (λ (c : Vec Standing A). c.items) chunks low.chunk high.chunk y are.some;
+        filled = exchanged_filled (λ (c : Vec Standing A). c.items) (λ (c : Vec Standing A). 0 < length c.items) chunks low.chunk high.chunk y o some are.filled;
+      }))
+    where
+      some : 0 < low.chunk → 0 < length y.items
+      some m =
+          let P : Vec Standing A → Type 0 = λ v. low.within ≤ length v.items in
+          let a = l.behind_first m in
+          let w : low.within ≤ length b.items = subst P (sym e) (l.within b) in
+          let long = length-append (take low.within b.items) fresh in
+          let longer = length-append (take low.within b.items ++ fresh) rest in
+          let taken = length-take-le low.within b.items w in
+          let all = ap length made in
+          omega (arith, a, w, long, longer, taken, all)
+
+  pub split_joined : (chunks : List (Vec Standing A)) (at keep : ℕ) (c y z : Vec Standing A) → at < length chunks → c ≡ get_or chunks at c → y.items ≡ take keep c.items → z.items ≡ drop keep c.items
+      → joined (insert (set chunks at y) (at + 1) z) ≡ joined chunks
+  split_joined chunks at keep c y z h is e g =
+      let p : at + 1 ≡ suc at = omega arith in
+      let whole : y.items ++ z.items ≡ (get_or chunks at c).items = ap (λ t. t ++ z.items) e ∙ ap (λ t. take keep c.items ++ t) g ∙ take-append-drop keep c.items ∙ ap (λ (v : Vec Standing A). v.items) is in
+      ap (λ i. joined (insert (set chunks at y) i z)) p ∙ cut_joined (λ (c : Vec Standing A). c.items) chunks at y z c h whole
+
+  pub split_chunks : (chunks : List (Vec Standing A)) (at keep : ℕ) (c y z : Vec Standing A) → AreChunks chunks → at < length chunks → c ≡ get_or chunks at c → 0 < keep → keep < length c.items
+      → y.items ≡ take keep c.items → z.items ≡ drop keep c.items → AreChunks (insert (set chunks at y) (at + 1) z)
+  split_chunks chunks at keep c y z are h is k l e g =
+      let p : suc at ≡ at + 1 = omega arith in
+      let taken = length-take-le keep c.items (omega (arith, l)) in
+      let left = length-drop keep c.items in
+      let a = ap length e in
+      let b = ap length g in
+      subst (λ i. AreChunks (insert (set chunks at y) i z)) p (record {
+        some = cut_some (λ (c : Vec Standing A). c.items) chunks at y z are.some;
+        filled = cut_filled (λ (c : Vec Standing A). c.items) (λ (c : Vec Standing A). 0 < length c.items) chunks at y z h (omega (arith, taken, a, k)) (omega (arith, left, b, l)) are.filled;
+      })

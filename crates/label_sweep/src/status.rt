@@ -1,0 +1,239 @@
+//! The edges that stand, from low to high, in chunks, so that a vertex moves no more than a few of them.
+
+ghost use Rattle.std.specs.Prelude.{◌≡◌, ◌<◌, ◌≤◌, ◌<ℤ◌, ◌≤ℤ◌, ◌++◌, [], pos, IfOk, OnOk, drop, int_le, int_lt, length, take, vec_len};
+ghost use Rattle.std.specs.List.{AllWithin, HoldsAt};
+ghost use Rattle.std.specs.List.Sorted.{IsPartitionedBy};
+ghost use Rattle.geom.specs.Limit.{InLimit};
+ghost use Rattle.geom.specs.Determinant.{side};
+ghost use Rattle.label_sweep.specs.Chunks.{AreChunks, IsPlace, all_standing, joined, number_of, opens};
+ghost use Rattle.label_sweep.specs.Labels.{under_lowest};
+
+use crate::parities::Parities;
+use crate::standing::Standing;
+use geom::{NoMemory, Pt};
+use std::alloc::Allocator;
+
+/// A place among the edges that stand: a chunk, and the number of edges before it in this chunk.
+#[derive(Clone, Copy, Debug)]
+pub struct Place {
+    pub chunk: usize,
+    pub within: usize,
+}
+
+/// The edges that stand. There is always a first chunk, and no other is empty.
+#[derive(Drop)]
+pub struct Status<A: Allocator> {
+    chunks: Vec<Vec<Standing, A>, A>,
+    rest: Vec<Standing, A>,
+}
+
+/// The edges of a chunk, at most, after a change.
+const LIMIT: usize = 256;
+
+/// The edges of a chunk that is split off.
+const HALF: usize = 128;
+
+/// Whether a vertex is at least so far on the left of an edge: with 1, whether the edge is below it, and with 0, whether it is not above.
+fn is_from(one: &Standing, v: Pt, bound: i64) -> bool
+    requires { InLimit v }
+    ensures { result ≡ int_le bound (side one.now.spoke.one.edge.p one.now.spoke.one.edge.q v) }
+{
+    one.spoke.one.edge.side(v) >= bound
+}
+
+/// Whether that holds of the first edge of a chunk.
+fn opens_from<A: Allocator>(chunk: &Vec<Standing, A>, v: Pt, bound: i64) -> bool
+    requires { InLimit v }
+    ensures { result ≡ opens (λ s. int_le bound (side s.spoke.one.edge.p s.spoke.one.edge.q v)) chunk.now.items }
+{
+    match chunk.first() {
+        Some(one) => is_from(one, v, bound),
+        None => false,
+    }
+}
+
+impl<A: Allocator + Copy> Status<A> {
+    /// Where nothing stands.
+    pub fn new(alloc: A) -> Result<Status<A>, NoMemory>
+        ensures empty { IfOk result (λ status. all_standing status ≡ []) }
+        ensures chunked { IfOk result (λ status. AreChunks status.chunks.items) }
+    {
+        let mut chunks = Vec::new(alloc);
+        chunks.push(Vec::new(alloc))?;
+        Ok(Status {
+            chunks,
+            rest: Vec::new(alloc),
+        })
+    }
+
+    /// The place behind the edges below a vertex.
+    pub fn first_not_below(&self, v: Pt) -> Place
+        requires v_in { InLimit v }
+        requires chunked { AreChunks self.now.chunks.items }
+        requires parted { IsPartitionedBy (λ s. int_lt (pos 0) (side s.spoke.one.edge.p s.spoke.one.edge.q v)) (all_standing self.now) }
+        ensures place { IsPlace self.now.chunks.items result }
+        ensures within { number_of self.now.chunks.items result ≤ length (all_standing self.now) }
+        ensures below { AllWithin (λ s. pos 0 <ℤ side s.spoke.one.edge.p s.spoke.one.edge.q v) (all_standing self.now) 0 (number_of self.now.chunks.items result) }
+        ensures rest { AllWithin (λ s. side s.spoke.one.edge.p s.spoke.one.edge.q v ≤ℤ pos 0) (all_standing self.now) (number_of self.now.chunks.items result) (length (all_standing self.now)) }
+    {
+        self.place(v, 1)
+    }
+
+    /// The place behind the edges that are not above a vertex.
+    pub fn first_above(&self, v: Pt) -> Place
+        requires v_in { InLimit v }
+        requires chunked { AreChunks self.now.chunks.items }
+        requires parted { IsPartitionedBy (λ s. int_le (pos 0) (side s.spoke.one.edge.p s.spoke.one.edge.q v)) (all_standing self.now) }
+        ensures place { IsPlace self.now.chunks.items result }
+        ensures within { number_of self.now.chunks.items result ≤ length (all_standing self.now) }
+        ensures rest { AllWithin (λ s. pos 0 ≤ℤ side s.spoke.one.edge.p s.spoke.one.edge.q v) (all_standing self.now) 0 (number_of self.now.chunks.items result) }
+        ensures above { AllWithin (λ s. side s.spoke.one.edge.p s.spoke.one.edge.q v <ℤ pos 0) (all_standing self.now) (number_of self.now.chunks.items result) (length (all_standing self.now)) }
+    {
+        self.place(v, 0)
+    }
+
+    /// The place behind the edges to which a vertex lies at least so far on the left.
+    fn place(&self, v: Pt, bound: i64) -> Place
+        requires v_in { InLimit v }
+        requires chunked { AreChunks self.now.chunks.items }
+        requires parted { IsPartitionedBy (λ s. int_le bound (side s.spoke.one.edge.p s.spoke.one.edge.q v)) (all_standing self.now) }
+        ensures place { IsPlace self.now.chunks.items result }
+        ensures within { number_of self.now.chunks.items result ≤ length (all_standing self.now) }
+        ensures before { AllWithin (λ s. bound ≤ℤ side s.spoke.one.edge.p s.spoke.one.edge.q v) (all_standing self.now) 0 (number_of self.now.chunks.items result) }
+        ensures rest { AllWithin (λ s. side s.spoke.one.edge.p s.spoke.one.edge.q v <ℤ bound) (all_standing self.now) (number_of self.now.chunks.items result) (length (all_standing self.now)) }
+    {
+        let chunk = self.chunks[1..].partition_point(
+            |chunk: &Vec<Standing, A>| -> bool
+                requires { InLimit v }
+                ensures { result ≡ opens (λ s. int_le bound (side s.spoke.one.edge.p s.spoke.one.edge.q v)) chunk.now.items }
+            { opens_from(chunk, v, bound) },
+        );
+        let within = self.chunks[chunk].partition_point(
+            |one: &Standing| -> bool
+                requires { InLimit v }
+                ensures { result ≡ int_le bound (side one.now.spoke.one.edge.p one.now.spoke.one.edge.q v) }
+            { is_from(one, v, bound) },
+        );
+        Place { chunk, within }
+    }
+
+    /// The parities under the lowest of the edges from a place on, or none.
+    pub fn lowest_under(&self, place: Place) -> Parities
+        requires chunked { AreChunks self.now.chunks.items }
+        requires place { IsPlace self.now.chunks.items place }
+        ensures { result ≡ under_lowest (drop (number_of self.now.chunks.items place) (all_standing self.now)) }
+    {
+        let chunk = &self.chunks[place.chunk];
+        if place.within < chunk.len() {
+            chunk[place.within].under
+        } else if place.chunk + 1 < self.chunks.len() {
+            first_under(&self.chunks[place.chunk + 1])
+        } else {
+            Parities { a: false, b: false }
+        }
+    }
+
+    /// Puts these edges in the place of those from one place to another.
+    pub fn replace(&mut self, low: Place, high: Place, fresh: &[Standing]) -> Result<(), NoMemory>
+        requires chunked { AreChunks self.old.chunks.items }
+        requires low { IsPlace self.old.chunks.items low }
+        requires high { IsPlace self.old.chunks.items high }
+        requires order { low.chunk ≤ high.chunk }
+        ensures all { OnOk result (all_standing self.new
+            ≡ take (number_of self.old.chunks.items low) (all_standing self.old) ++ fresh.now ++ drop (number_of self.old.chunks.items high) (all_standing self.old)) }
+        ensures chunked { OnOk result (AreChunks self.new.chunks.items) }
+    {
+        self.rest.clear();
+        self.rest
+            .extend_from_slice(&self.chunks[high.chunk][high.within..])?;
+        refill(
+            &mut self.chunks[low.chunk],
+            low.within,
+            fresh,
+            &self.rest,
+        )?;
+        drop_chunks(&mut self.chunks, low.chunk + 1, high.chunk + 1)?;
+        split(&mut self.chunks, low.chunk)?;
+        Ok(())
+    }
+}
+
+/// Puts these edges, and then those, in the place of a chunk's edges from a number on.
+fn refill<A: Allocator>(
+    chunk: &mut Vec<Standing, A>,
+    keep: usize,
+    fresh: &[Standing],
+    rest: &[Standing],
+) -> Result<(), NoMemory>
+    ensures { OnOk result (chunk.new.items ≡ take keep chunk.old.items ++ fresh.now ++ rest.now) }
+{
+    chunk.truncate(keep);
+    chunk.extend_from_slice(fresh)?;
+    chunk.extend_from_slice(rest)?;
+    Ok(())
+}
+
+/// Drops the chunks from one number to another.
+fn drop_chunks<A: Allocator + Copy>(
+    chunks: &mut Vec<Vec<Standing, A>, A>,
+    from: usize,
+    to: usize,
+) -> Result<(), NoMemory>
+    requires order { from ≤ to }
+    requires within { to ≤ vec_len chunks.old }
+    ensures { OnOk result (chunks.new.items ≡ take from chunks.old.items ++ drop to chunks.old.items) }
+{
+    if from < to {
+        let mut rest = chunks.split_off(to)?;
+        chunks.truncate(from);
+        chunks.append(&mut rest)?;
+    }
+    Ok(())
+}
+
+/// Splits a chunk until it is small.
+fn split<A: Allocator + Copy>(
+    chunks: &mut Vec<Vec<Standing, A>, A>,
+    at: usize,
+) -> Result<(), NoMemory>
+    requires inside { at < vec_len chunks.old }
+    requires chunked { AreChunks chunks.old.items }
+    ensures all { OnOk result (joined chunks.new.items ≡ joined chunks.old.items) }
+    ensures chunked { OnOk result (AreChunks chunks.new.items) }
+{
+    while chunks[at].len() > LIMIT {
+        let keep = chunks[at].len() - HALF;
+        split_once(chunks, at, keep)?;
+    }
+    Ok(())
+}
+
+/// Makes two chunks of one, the first with so many edges.
+fn split_once<A: Allocator + Copy>(
+    chunks: &mut Vec<Vec<Standing, A>, A>,
+    at: usize,
+    keep: usize,
+) -> Result<(), NoMemory>
+    requires inside { at < vec_len chunks.old }
+    requires chunked { AreChunks chunks.old.items }
+    requires some { 0 < keep }
+    requires others { HoldsAt (λ c. keep < length c.items) chunks.old.items at }
+    ensures all { OnOk result (joined chunks.new.items ≡ joined chunks.old.items) }
+    ensures chunked { OnOk result (AreChunks chunks.new.items) }
+    ensures inside { OnOk result (at < vec_len chunks.new) }
+    ensures kept { OnOk result (HoldsAt (λ c. length c.items ≡ keep) chunks.new.items at) }
+{
+    let tail = chunks[at].split_off(keep)?;
+    chunks.insert(at + 1, tail)?;
+    Ok(())
+}
+
+/// The parities under the first of these edges, or none.
+fn first_under(standing: &[Standing]) -> Parities
+    ensures { result ≡ under_lowest standing.now }
+{
+    match standing.first() {
+        Some(one) => one.under,
+        None => Parities { a: false, b: false },
+    }
+}
