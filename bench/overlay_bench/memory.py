@@ -5,6 +5,9 @@ nothing. Each run has to give the right answer, or nothing with `overlay: 10 out
 the whole answer with that line, since the report is made when the answer is written. Then each thread that it starts is
 refused in turn, which may change nothing. With more than one worker the requests come in any order, and each number refuses
 some of them. The exit status is 1 where a run gives anything else.
+
+With `--rows` four small pairs alone, whose answers stand below, by one and by two workers; each run that answers that memory is
+out is followed by the same one with ample memory, which has to give the answer.
 """
 import errno
 import os
@@ -36,11 +39,20 @@ PAIRS = {
     "four tiles": ("POLYGON ((0 0, 1 0, 0 1, 0 0)) POLYGON ((15 15, 16 16, 15 16, 16 15, 15 15))", ""),
     "ties": ("POLYGON ((0 0, 10 3, 1 9, 9 8, 0 0), (2 1, 5 2, 3 4, 2 1))", "POLYGON ((0 0, 7 2, 14 1, 3 5, 0 0))"),
 }
+# A command, two layers by their names above, and the answer, worked out by hand.
+ROWS = (
+    ("intersection", "corner", "MULTIPOLYGON (((2 2, 4 2, 4 4, 2 4, 2 2)))\n"),
+    ("edges", "crossing", "0 0 1 0 1 0\n0 0 1 1 1 0\n0 1 1 1 2 0\n1 0 1 1 1 0\n"),
+    ("intersection", "rounded", "MULTIPOLYGON (((1 1, 5 1, 1 4, 1 1)))\n"),
+    ("union", "rounded", "MULTIPOLYGON (((0 0, 6 0, 5 1, 7 1, 7 7, 1 7, 1 4, 0 5, 0 0)))\n"),
+    ("union", "four tiles", "MULTIPOLYGON (((0 0, 1 0, 0 1, 0 0)), ((15 15, 16 15, 16 16, 15 15)))\n"),
+)
 # Those that a short run takes.
 FEW = ("corner", "nothing", "holes that touch", "ties")
 
 
 def add_arguments(parser):
+    parser.add_argument("--rows", action="store_true", help="four pairs with known answers alone, 1 and 2 workers, and each refused run again")
     parser.add_argument("--short", action="store_true", help="fewer layers, 1 and 4 workers")
     parser.add_argument("--segments", type=int, default=200, help="the size of the last pair of layers, which a short run leaves out")
 
@@ -61,8 +73,8 @@ class Refusing:
         self.runs += 1
         return programs.answer([self.program, *words], env=dict(os.environ, LD_PRELOAD=self.library, **rules))
 
-    def refuse_each(self, words):
-        """How many requests were refused until one more changes nothing."""
+    def refuse_each(self, words, again=False):
+        """How many requests were refused until one more changes nothing; with `again` each refused run is followed by one with memory."""
         right, number, calm = self.answer(words), 0, 0
         allowed = [right, Answer(1, b"", OUT_OF_MEMORY)] + [Answer(1, right.out, OUT_OF_MEMORY)] * ("--report" in words)
         while calm < 8:
@@ -71,7 +83,17 @@ class Refusing:
             calm = calm + 1 if got == right else 0
             if got not in allowed:
                 self.wrong.append((words, "request %d" % number, got))
+            if again and got != right and self.answer(words) != right:
+                self.wrong.append((words, "request %d" % number, "something else with memory again"))
         return number - calm
+
+    def refuse_row(self, words, workers, text):
+        """Each thread and each request of a command line whose answer is known."""
+        got = self.answer(words)
+        if got != Answer(0, text.encode(), b""):
+            self.wrong.append((words, "nothing", got))
+        self.refuse_threads(words, workers)
+        return self.refuse_each(words, again=True)
 
     def refuse_threads(self, words, workers):
         right = self.answer(words)
@@ -81,13 +103,19 @@ class Refusing:
                 self.wrong.append((words, "thread %d" % number if number else "each thread", got))
 
 
+def written(folder, name, texts):
+    """The files of two layers."""
+    files = [os.path.join(folder, "%s %s.wkt" % (name, layer)) for layer in "ab"]
+    for file, text in zip(files, texts):
+        with open(file, "w") as layer:
+            layer.write(text)
+    return files
+
+
 def runs(folder, pairs, workers):
     """The command lines: every pair by all commands, and some that fail before a run."""
     for name, texts in pairs.items():
-        files = [os.path.join(folder, "%s %s.wkt" % (name, layer)) for layer in "ab"]
-        for file, text in zip(files, texts):
-            with open(file, "w") as written:
-                written.write(text)
+        files = written(folder, name, texts)
         for command in COMMANDS:
             for number in workers:
                 yield number, [command, *files, "--tile=16", "--workers=%d" % number]
@@ -97,15 +125,33 @@ def runs(folder, pairs, workers):
     yield from ((1, words) for words in (["--help"], ["edges", programs.__file__, files[0]], ["xor", *files], ["edges", missing, missing], ["edges"]))
 
 
-def main(arguments):
-    pairs = {name: PAIRS[name] for name in FEW} if arguments.short else dict(PAIRS, many=many_segments(arguments.segments))
-    refusing, requests, lines, start = Refusing(arguments.program), 0, 0, time.monotonic()
-    with tempfile.TemporaryDirectory() as folder:
-        for workers, words in runs(folder, pairs, (1, 4) if arguments.short else (1, 2, 4)):
+def refuse_rows(refusing, folder):
+    """The rows by one and by two workers: how many command lines, and how many requests."""
+    lines, requests = 0, 0
+    for command, name, text in ROWS:
+        files = written(folder, name, PAIRS[name])
+        for workers in (1, 2):
             lines += 1
-            if words[0] in COMMANDS and not os.path.basename(words[-1]).startswith("none"):
-                refusing.refuse_threads(words, workers)
-            requests += refusing.refuse_each(words)
+            requests += refusing.refuse_row([command, *files, "--tile=16", "--workers=%d" % workers], workers, text)
+    return lines, requests
+
+
+def refuse_runs(refusing, folder, arguments):
+    """All command lines: how many, and how many requests."""
+    pairs = {name: PAIRS[name] for name in FEW} if arguments.short else dict(PAIRS, many=many_segments(arguments.segments))
+    lines, requests = 0, 0
+    for workers, words in runs(folder, pairs, (1, 4) if arguments.short else (1, 2, 4)):
+        lines += 1
+        if words[0] in COMMANDS and not os.path.basename(words[-1]).startswith("none"):
+            refusing.refuse_threads(words, workers)
+        requests += refusing.refuse_each(words)
+    return lines, requests
+
+
+def main(arguments):
+    refusing, start = Refusing(arguments.program), time.monotonic()
+    with tempfile.TemporaryDirectory() as folder:
+        lines, requests = refuse_rows(refusing, folder) if arguments.rows else refuse_runs(refusing, folder, arguments)
     for words, what, got in refusing.wrong:
         print("%s, %s refused: %s" % (" ".join(words), what, got))
     print("%d command lines, %d requests for memory refused, %d runs in %.0f s: %d gave something else" % (

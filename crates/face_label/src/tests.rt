@@ -3,10 +3,13 @@
 ghost use Rattle.std.specs.Prelude.{◌≡◌, All, true};
 ghost use Rattle.geom.specs.Limit.{AreInLimit};
 
+use self::plain::plain_labels;
 use crate::labels;
 use geom::{Counted, DirectedEdge, Edge, NoMemory, Op, Pt};
 use std::alloc::Allocator;
 use std::thread::Threads;
+
+mod plain;
 
 type Row = (i32, i32, i32, i32, u32, u32);
 
@@ -139,7 +142,8 @@ fn add_square<A: Allocator>(
     Ok(())
 }
 
-/// Whether the labels of a thousand separate squares are their edges, each with its square on the left.
+/// Whether the labels of a thousand separate squares are their edges, each with its square on the left, and those of a plain
+/// loop over all edges.
 fn squares_agree<A: Allocator + Copy + Sync + Send, R: Threads + Sync>(
     rt: &R,
     alloc: A,
@@ -156,7 +160,8 @@ fn squares_agree<A: Allocator + Copy + Sync + Send, R: Threads + Sync>(
     }
     let directed = labels(rt, alloc, &counted, Op::Union)?;
     ways.sort_unstable();
-    Ok(directed.edges() == ways.as_slice())
+    let plain = plain_labels(alloc, &counted, Op::Union)?;
+    Ok(directed.edges() == ways.as_slice() && ways.as_slice() == plain.as_slice())
 }
 
 #[test]

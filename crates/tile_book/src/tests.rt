@@ -1,6 +1,6 @@
 //! Tests of the desk on vectors from outside, with threads, and with every request for memory refused in turn.
 
-ghost use Rattle.std.specs.Prelude.{◌≡◌, ◌<◌, ◌≤◌, IfOk};
+ghost use Rattle.std.specs.Prelude.{◌≡◌, ◌<◌, ◌≤◌, [], IfOk};
 
 use super::*;
 use crate::filling::completed;
@@ -74,31 +74,55 @@ const OF_NONE: [Step; 5] = [
     (Event::Stop(2), Reply::NoHand, 2),
 ];
 
-// Whether a core of two hands replies so, event by event and in one replay.
-fn replies_so<A: Allocator + Copy>(
-    alloc: A,
-    limit: u32,
-    steps: &[Step],
-    accepted: &[u32],
-) -> Result<bool, NoMemory>
-    requires { limit ≤ 65536 }
-{
-    let mut stepped = Core::new(alloc, limit, 2)?;
-    let mut replayed = Core::new(alloc, limit, 2)?;
-    let mut events = Vec::new(alloc);
-    let mut replies = Vec::new(alloc);
+// Leaves no room in a heap.
+fn use_up(heap: &Bump<Global>) -> Result<(), NoMemory> {
+    heap.set_allocation_limit(Some(0));
+    heap.try_alloc_slice_fill_clone(heap.chunk_capacity(), 0u8)?;
+    match heap.try_alloc(0u8) {
+        Ok(_) => Err(NoMemory),
+        Err(_) => Ok(()),
+    }
+}
+
+// Whether a core replies so, event by event.
+fn steps_so<A: Allocator>(core: &mut Core<A>, steps: &[Step]) -> bool {
     let mut same = true;
     for (event, reply, word) in steps {
-        same = same & (stepped.step(*event) == *reply) & (stepped.word() == *word);
+        same = same & (core.step(*event) == *reply) & (core.word() == *word);
+    }
+    same
+}
+
+// Whether a core of two hands gives these replies to these events in one replay, and where there is no memory for a replay
+// nothing has changed.
+fn replays_so(
+    alloc: Global,
+    core: &mut Core<&Bump<Global>>,
+    steps: &[Step],
+) -> Result<bool, NoMemory> {
+    let heap = Bump::new(alloc);
+    use_up(&heap)?;
+    let mut events = Vec::new(alloc);
+    let mut replies = Vec::new(alloc);
+    for (event, reply, _) in steps {
         events.push(*event)?;
         replies.push(*reply)?;
     }
-    let told = replayed.replay(alloc, &events)?;
-    Ok(
-        same && told.as_slice() == replies.as_slice()
-            && stepped.accepted() == accepted
-            && replayed.accepted() == accepted,
-    )
+    let refused = core.replay(&heap, &events).is_err();
+    let told = core.replay(alloc, &events)?;
+    Ok(refused && told.as_slice() == replies.as_slice())
+}
+
+// Whether a core of two hands, made in a heap that has no room left then, replies so, event by event and in one replay.
+fn replies_so(alloc: Global, limit: u32, steps: &[Step], accepted: &[u32]) -> Result<bool, NoMemory>
+    requires { limit ≤ 65536 }
+{
+    let heap = Bump::new(alloc);
+    let mut stepped = Core::new(&heap, limit, 2)?;
+    let mut replayed = Core::new(&heap, limit, 2)?;
+    use_up(&heap)?;
+    let same = steps_so(&mut stepped, steps) & replays_so(alloc, &mut replayed, steps)?;
+    Ok(same && stepped.accepted() == accepted && replayed.accepted() == accepted)
 }
 
 #[test]
@@ -138,11 +162,19 @@ const DRAWS: [(u16, Draws); 2] = [
     ),
 ];
 
-// Whether the hands get this, and the draw can be finished then.
-fn draws_so<A: Allocator + Copy>(alloc: A, limit: u32, draws: Draws) -> Result<bool, NoMemory>
-    requires { limit ≤ 65536 }
+// Whether the hands get this, and the draw can be finished then. The list is empty and has room for both hands.
+fn draws_so<A: Allocator>(
+    draw: Draw<A>,
+    mut one: Hand,
+    mut other: Hand,
+    mut hands: Vec<Hand, A>,
+    limit: u32,
+    draws: Draws,
+) -> Result<bool, NoMemory>
+    requires one { one.draw ≡ draw }
+    requires other { other.draw ≡ draw }
+    requires none { hands.items ≡ [] }
 {
-    let (draw, mut one, mut other) = two_hands(alloc, limit)?;
     let mut same = true;
     for (is_one, number) in draws {
         let drawn = if *is_one {
@@ -152,7 +184,6 @@ fn draws_so<A: Allocator + Copy>(alloc: A, limit: u32, draws: Draws) -> Result<b
         };
         same = same & (drawn == *number);
     }
-    let mut hands = Vec::new(alloc);
     hands.push(one)?;
     hands.push(other)?;
     let Ok(drawn) = finish(draw, hands) else {
@@ -161,10 +192,24 @@ fn draws_so<A: Allocator + Copy>(alloc: A, limit: u32, draws: Draws) -> Result<b
     Ok(same && drawn.limit() == limit)
 }
 
+// Whether they do in a heap that has no room left.
+fn draws_without_memory(alloc: Global, limit: u32, draws: Draws) -> Result<bool, NoMemory>
+    requires { limit ≤ 65536 }
+{
+    let heap = Bump::new(alloc);
+    let (draw, one, other) = two_hands(&heap, limit)?;
+    let hands = Vec::with_capacity(&heap, 2)?;
+    use_up(&heap)?;
+    draws_so(draw, one, other, hands, limit, draws)
+}
+
 #[test]
 fn draws_of_two_hands(rt: HostRuntime) -> Result<(), Fail> {
     for (limit, draws) in DRAWS {
-        assert!(rt; draws_so(rt.alloc(), u32::from(limit), draws)?, "{limit}");
+        assert!(rt;
+            draws_without_memory(rt.alloc(), u32::from(limit), draws)?,
+            "{limit}"
+        );
     }
     Ok(())
 }
@@ -273,6 +318,7 @@ fn at_the_desk<L: Limited + Send + Sync, R: Threads + Wait + Abort + Sync>(
     Ok(())
 }
 
+// Posts in a heap that has no room left.
 #[test]
 fn posts_in_the_book(rt: HostRuntime) -> Result<(), Fail> {
     in_the_book::<Brand, _>(&rt, rt.alloc(), Blank::new(1))
@@ -283,7 +329,9 @@ fn in_the_book<L: Limited, R: Abort>(rt: &R, alloc: Global, blank: Blank) -> Res
     requires parts { (blank.parts ≡ L.parts) × (blank.parts ≡ 1) }
     requires limit { L.limit ≡ 3 }
 {
-    let (desk, mut shares) = Desk::<Note, L, Global>::new(alloc, blank, 3, 1)?;
+    let heap = Bump::new(alloc);
+    let (desk, mut shares) = Desk::<Note, L, &Bump<Global>>::new(&heap, blank, 3, 1)?;
+    use_up(&heap)?;
     let Some(mut share) = shares.pop() else {
         return Err(Fail::from("one share"));
     };
@@ -299,6 +347,7 @@ fn in_the_book<L: Limited, R: Abort>(rt: &R, alloc: Global, blank: Blank) -> Res
     Ok(())
 }
 
+// In a heap that has no room left.
 #[test]
 fn book_of_no_numbers(rt: HostRuntime) -> Result<(), Fail> {
     no_numbers::<Brand, _>(&rt, rt.alloc(), Blank::new(1))
@@ -309,12 +358,22 @@ fn no_numbers<L: Limited, R: Wait + Abort>(rt: &R, alloc: Global, blank: Blank) 
     requires parts { (blank.parts ≡ L.parts) × (blank.parts ≡ 1) }
     requires limit { L.limit ≡ 0 }
 {
-    let (desk, mut shares) = Desk::<Note, L, Global>::new(alloc, blank, 0, 1)?;
+    let heap = Bump::new(alloc);
+    let (desk, mut shares) = Desk::<Note, L, &Bump<Global>>::new(&heap, blank, 0, 1)?;
+    use_up(&heap)?;
     let Some(share) = shares.pop() else {
         return Err(Fail::from("one share"));
     };
-    let (_share, answer) = desk.post(rt, share, Note { number: 0 });
+    let (share, answer) = desk.post(rt, share, Note { number: 0 });
     assert!(rt; told(answer, 0) == Some(Posted::Stranger));
+    let Err((desk, mut shares)) = close(desk, shares) else {
+        return Err(Fail::from("the share is missing"));
+    };
+    shares.push(share)?;
+    let Ok(book) = close(desk, shares) else {
+        return Err(Fail::from("all shares are there"));
+    };
+    assert!(rt; book.accepted().is_empty() && book.held().is_empty());
     Ok(())
 }
 

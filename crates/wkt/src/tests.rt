@@ -4,7 +4,7 @@ ghost use Rattle.std.specs.Prelude.{◌≤◌, ◌<ℤ◌, ◌^◌};
 
 use super::*;
 use geom::{Fault, NoMemory, Polygon, Pt, Rect, SimpleRing};
-use std::alloc::Allocator;
+use std::alloc::{Allocator, Global};
 use std::process::Abort;
 use std::test::Fail;
 
@@ -12,46 +12,64 @@ fn rect(x0: i32, y0: i32, x1: i32, y1: i32) -> Option<Rect> {
     Some(Rect::spanned_by(Pt { x: x0, y: y0 }, Pt { x: x1, y: y1 }))
 }
 
-fn refused(rt: &impl Abort, table: &[(&str, Fault)]) {
+/// Whether a text is a layer of so many rings, with this outline.
+fn is_read(alloc: Global, text: &str, rings: usize, outline: Outline) -> bool {
+    let read = read_layer(alloc, text.as_bytes());
+    let found = read.map(|layer| layer.rings.len());
+    found == Ok(rings) && check_layer(text.as_bytes()) == Ok(outline)
+}
+
+/// Whether a text is refused so, where it is checked and where it is read.
+fn is_refused(alloc: Global, text: &str, fault: Fault) -> bool {
+    let read = read_layer(alloc, text.as_bytes()).err();
+    read == Some(fault) && check_layer(text.as_bytes()) == Err(fault)
+}
+
+fn refused(rt: &impl Abort, alloc: Global, table: &[(&str, Fault)]) {
     for (text, fault) in table {
-        assert_eq!(rt; check_layer(text.as_bytes()), Err(*fault), "{text}");
+        assert!(rt; is_refused(alloc, text, *fault), "{text}");
     }
 }
 
 #[test]
 fn accepted(rt: HostRuntime) {
     let table = [
-        ("", 0, None),
-        (" \t\r\n", 0, None),
-        ("POLYGON EMPTY", 0, None),
-        ("MultiPolygon empty", 0, None),
-        ("POLYGON EMPTY\npolygon\tempty ", 0, None),
-        ("POLYGON((0 0,4 0,4 4,0 4,0 0))", 4, rect(0, 0, 4, 4)),
-        ("POLYGON ((007 -0, 8 0, 8 1, 7 0))", 3, rect(7, 0, 8, 1)),
-        ("POLYGON ((5 5, 5 5, 5 5, 5 5))", 0, None),
+        ("", 0, 0, None),
+        (" \t\r\n", 0, 0, None),
+        ("POLYGON EMPTY", 0, 0, None),
+        ("MultiPolygon empty", 0, 0, None),
+        ("POLYGON EMPTY\npolygon\tempty ", 0, 0, None),
+        ("POLYGON((0 0,4 0,4 4,0 4,0 0))", 1, 4, rect(0, 0, 4, 4)),
+        ("POLYGON ((007 -0, 8 0, 8 1, 7 0))", 1, 3, rect(7, 0, 8, 1)),
+        ("POLYGON ((5 5, 5 5, 5 5, 5 5))", 1, 0, None),
         (
             "POLYGON ((0 0, 16777217 0, 0 1, 0 0))",
+            1,
             3,
             rect(0, 0, 16_777_217, 1),
         ),
         (
             "POLYGON ((-268435456 0, 268435456 0, 0 268435456, -268435456 0))",
+            1,
             3,
             rect(-268_435_456, 0, 268_435_456, 268_435_456),
         ),
-        ("POLYGON ((0 0, 4 0, 4 0, 0 4, 0 0))", 3, rect(0, 0, 4, 4)),
+        (
+            "POLYGON ((0 0, 4 0, 4 0, 0 4, 0 0))",
+            1,
+            3,
+            rect(0, 0, 4, 4),
+        ),
         (
             "MULTIPOLYGON (((0 0, 1 0, 0 1, 0 0)), ((2 2, 3 2, 2 3, 2 2)))",
+            2,
             6,
             rect(0, 0, 3, 3),
         ),
     ];
-    for (text, segments, bounds) in table {
-        assert_eq!(rt;
-            check_layer(text.as_bytes()),
-            Ok(Outline { segments, bounds }),
-            "{text}"
-        );
+    for (text, rings, segments, bounds) in table {
+        let outline = Outline { segments, bounds };
+        assert!(rt; is_read(rt.alloc(), text, rings, outline), "{text}");
     }
 }
 
@@ -59,6 +77,7 @@ fn accepted(rt: HostRuntime) {
 fn no_layer(rt: HostRuntime) {
     refused(
         &rt,
+        rt.alloc(),
         &[
             ("POLYGOM EMPTY", Fault::Syntax(6)),
             ("POLYGONEMPTY", Fault::Syntax(7)),
@@ -84,6 +103,7 @@ fn no_layer(rt: HostRuntime) {
 fn ends_early(rt: HostRuntime) {
     refused(
         &rt,
+        rt.alloc(),
         &[
             ("POLYGON ((0 0", Fault::Syntax(13)),
             ("POLYGON EMPTY POLYGON", Fault::Syntax(21)),
@@ -111,6 +131,7 @@ fn strange_bytes(rt: HostRuntime) {
 fn faulty(rt: HostRuntime) {
     refused(
         &rt,
+        rt.alloc(),
         &[
             (
                 "POLYGON ((0 0, 1 0, 0 -268435457, 5 5))",
