@@ -114,7 +114,7 @@ def repeated_points(rng, count):
     """Rings with repeated neighbours, and rings of one point."""
     ring = []
     for _ in range(rng.randint(3, 6)):
-        ring += [point(rng, 8)] * rng.randint(1, 1 + count // 3)
+        ring += [point(rng, 8)] * rng.randint(1, 1 + (5 * count if count > 300 else count // 3))
     return [[ring], [[point(rng, 8)] * (3 + count // 10)]]
 
 

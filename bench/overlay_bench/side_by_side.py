@@ -3,6 +3,7 @@ from __future__ import annotations
 
 import multiprocessing
 import signal
+import sys
 import time
 from dataclasses import dataclass
 from multiprocessing.connection import wait
@@ -67,15 +68,20 @@ class Hand:
 
 
 def results(work, numbers, jobs, minutes=0):
-    """Each number with what `work` gives of it, or with how its process ended; after so many minutes no more."""
-    until = time.monotonic() + 60 * minutes if minutes else float("inf")
+    """Each number with what `work` gives of it, or with how its process ended; after so many minutes no more. Tells each minute how far it is."""
+    start, shown, count = time.monotonic(), 60, 0
     hands = [Hand(work, part) for part in (numbers[k::jobs] for k in range(jobs)) if part]
     try:
         while busy := {hand.told: hand for hand in hands if not hand.is_done()}:
             for told in wait(list(busy)):
                 yield busy[told].next()
-                if time.monotonic() > until:
-                    return
+                count += 1
+            passed = time.monotonic() - start
+            if passed >= shown:
+                print("%d of %d after %.0f s" % (count, len(numbers), passed), file=sys.stderr, flush=True)
+                shown += 60
+            if minutes and passed > 60 * minutes:
+                return
     finally:
         for hand in hands:
             hand.process.terminate()
