@@ -337,12 +337,12 @@ def share_more_than_an_end(e, f):
 
 
 def are_noded(edges):
-    edges = sorted(edges)
-    for i, e in enumerate(edges):
-        for f in edges[i + 1:]:
+    boxed = [(e, *sorted((e[0][1], e[1][1]))) for e in sorted(edges)]
+    for i, (e, bottom, top) in enumerate(boxed):
+        for f, low, high in boxed[i + 1:]:
             if f[0][0] > e[1][0]:
                 break
-            if share_more_than_an_end(e, f):
+            if low <= top and high >= bottom and share_more_than_an_end(e, f):
                 return False
     return True
 
@@ -353,7 +353,8 @@ def are_noded(edges):
 def parity(edges, z):
     """Whether the number of edges that cover the point's place on the x axis and run above it is odd."""
     x, y, n = z
-    covering = [e for e in edges if e[0][0] * n <= x < e[1][0] * n]
+    column = x // n  # c n <= x exactly where c <= column
+    covering = [e for e in edges if e[0][0] <= column < e[1][0]]
     return sum((qx - px) * (y - py * n) < (qy - py) * (x - px * n) for (px, py), (qx, qy) in covering) % 2 == 1
 
 

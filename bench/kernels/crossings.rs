@@ -88,30 +88,26 @@ fn samples(n: u32, range: u64) -> Vec<Seg> {
     all
 }
 
-#[inline(never)]
-fn cross_all(all: &[Seg], rounds: usize) -> u64 {
+/// The sum of a term over pairs of segments that are few places apart.
+#[inline(always)]
+fn sum_over_pairs(all: &[Seg], rounds: usize, term: impl Fn(&Seg, &Seg) -> u64) -> u64 {
     let mut sum = 0u64;
     for round in 1..rounds {
         for (s, t) in all.iter().zip(all.iter().skip(round)) {
-            if let Some(pixel) = cross(s, t) {
-                sum = sum.wrapping_add(u64::from(pixel.x.unsigned_abs()));
-            }
+            sum = sum.wrapping_add(term(s, t));
         }
     }
     sum
 }
 
 #[inline(never)]
+fn cross_all(all: &[Seg], rounds: usize) -> u64 {
+    sum_over_pairs(all, rounds, |s, t| cross(s, t).map_or(0, |pixel| u64::from(pixel.x.unsigned_abs())))
+}
+
+#[inline(never)]
 fn meet_all(all: &[Seg], rounds: usize) -> u64 {
-    let mut sum = 0u64;
-    for round in 1..rounds {
-        for (s, t) in all.iter().zip(all.iter().skip(round)) {
-            if meets(s, t.a) {
-                sum = sum.wrapping_add(1);
-            }
-        }
-    }
-    sum
+    sum_over_pairs(all, rounds, |s, t| u64::from(meets(s, t.a)))
 }
 
 fn main() {

@@ -6,8 +6,8 @@ import sys
 
 from . import programs
 
-NAMES = ("compare", "texts", "memory", "faults", "limits", "speed", "library", "laws", "requests", "kernels")
-WITHOUT_PROGRAM = ("laws", "requests", "kernels")
+NAMES = ("compare", "texts", "memory", "faults", "limits", "speed", "library", "laws", "requests", "kernels", "sizes", "documents")
+WITHOUT_PROGRAM = ("laws", "requests", "kernels", "sizes", "documents")
 
 
 def main():

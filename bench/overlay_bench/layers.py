@@ -114,7 +114,7 @@ def repeated_points(rng, count):
     """Rings with repeated neighbours, and rings of one point."""
     ring = []
     for _ in range(rng.randint(3, 6)):
-        ring += [point(rng, 8)] * rng.randint(1, 1 + count // 3)
+        ring += [point(rng, 8)] * rng.randint(1, 1 + (5 * count if count > 300 else count // 3))
     return [[ring], [[point(rng, 8)] * (3 + count // 10)]]
 
 
@@ -204,7 +204,7 @@ def through_one_point(rng, count):
 
 def star(rng, count):
     """One ring of chords: every edge crosses nearly every other one."""
-    points, size = 2 * (1 + count // 2) + 1, 20 + 5 * count
+    points, size = 2 * (1 + count // 3) + 1, 20 + 5 * count
     skip = points // 2
     turned = [2 * math.pi * (k * skip % points) / points for k in range(points)]
     return [[[(round(size * math.cos(a)), round(size * math.sin(a)) + rng.randint(-1, 1)) for a in turned]]]
@@ -286,7 +286,7 @@ KINDS = (
     at_the_limit, in_a_corner, far_apart, copies,
 )
 # The number of crossings of these grows as the square of the number of segments.
-CROWDED = (star, through_one_point, long_triangles, self_crossing, wheel, petals, at_the_limit)
+CROWDED = (star, through_one_point, long_triangles, self_crossing, wheel, petals, at_the_limit, on_tile_borders, far_apart, holes, in_a_corner)
 
 
 def moved(polygons, dx, dy):

@@ -6,11 +6,10 @@ the exit status is 1. The package has to be built: `python/build`.
 """
 import os
 import statistics
-import sys
 import tempfile
 import time
 
-from . import maps, programs
+from . import answering, maps, programs
 from .programs import COMMANDS
 
 KINDS = ("parcels", "coast", "blobs")
@@ -21,15 +20,6 @@ def add_arguments(parser):
     parser.add_argument("--sizes", nargs="+", type=int, default=(10_000, 100_000), metavar="SEGMENTS")
     parser.add_argument("--commands", nargs="+", default=("edges", "intersection"), choices=COMMANDS, metavar="COMMAND")
     parser.add_argument("--rounds", type=int, default=5)
-
-
-def package():
-    sys.path.insert(0, os.path.join(programs.ROOT, "python"))
-    try:
-        import overlay_grid
-    except (ImportError, OSError) as error:
-        sys.exit("overlay_grid isn't built (%s): python/build" % error)
-    return overlay_grid
 
 
 def called(call, texts):
@@ -56,7 +46,7 @@ def row(program, call, command, files, output, rounds):
 
 
 def main(arguments):
-    library, wrong = package(), False
+    library, wrong = answering.package(), False
     print("| kind | segments | command | library: processor s | program | ratio |")
     print("|---" * 6 + "|")
     with tempfile.TemporaryDirectory() as folder:

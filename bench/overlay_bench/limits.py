@@ -89,6 +89,7 @@ HARD = {
     "1,000,000 repeated points": lambda: repeated_points(1_000_000),
     "262,144 copies of a square of the whole width": lambda: [[rectangle(-30_000_000, -30_000_000, 60_000_000, 60_000_000)]] * 262_144,
 }
+MAPS = {"%s, 100,000 segments" % kind: kind for kind in maps.HARD}
 
 
 @dataclass
@@ -154,15 +155,24 @@ class Friendly:
     """What parcels take for each record."""
 
     def __init__(self, program, folder, commands):
-        self.program, self.folder, self.rates = program, folder, {}
+        self.program, self.folder, self.rates, self.known = program, folder, {}, {}
         files = [os.path.join(folder, name) for name in ("a.wkt", "b.wkt")]
         programs.apart(lambda: maps.write("parcels", FRIENDLY_SEGMENTS, files))
         for command in commands:
             times = [taken([program, command, *files], os.path.join(folder, "out"), 120).clock for _ in range(5)]
-            self.rates[command] = sorted(times)[2] / self.records(files)
+            self.rates[command] = sorted(times)[2] / self.records("parcels", files)
 
-    def records(self, files):
-        run = subprocess.run([self.program, "edges", *files, "--report"], stdout=subprocess.DEVNULL, stderr=subprocess.PIPE, check=True)
+    def records(self, name, files, seconds=120):
+        """The number of records of the layers of a name; None where the report takes too long."""
+        if name not in self.known:
+            self.known[name] = self.told(files, seconds)
+        return self.known[name]
+
+    def told(self, files, seconds):
+        try:
+            run = subprocess.run([self.program, "edges", *files, "--report"], stdout=subprocess.DEVNULL, stderr=subprocess.PIPE, check=True, timeout=seconds)
+        except subprocess.TimeoutExpired:
+            return None
         return next(int(line.split()[1]) for line in run.stderr.splitlines() if line.startswith(b"records"))
 
     def seconds(self, command, records):
@@ -170,35 +180,39 @@ class Friendly:
         return max(0.1, 10 * self.rates[command] * records)
 
 
-def write(polygons, files):
-    for file, text in zip(files, (layers.text_of(polygons), "")):
+def write(name, files):
+    """Writes the hard layers of a name; the second one is empty but for maps."""
+    if name in MAPS:
+        return maps.write(MAPS[name], FRIENDLY_SEGMENTS, files)
+    for file, text in zip(files, (layers.text_of(HARD[name]()), "")):
         with open(file, "w") as written:
             written.write(text)
 
 
+def hard_row(arguments, friendly, name, command, files, output):
+    """Prints the row of a command on hard layers; whether it takes more than may be expected."""
+    run = taken([arguments.program, command, *files], output, arguments.seconds)
+    records = None if run.status is None else friendly.records(name, files, arguments.seconds)
+    if records is None:
+        print("| %s | %s | over | | %.0f | %d | |" % (name, command, run.memory, MOST_MEGABYTES), flush=True)
+        return True
+    most = friendly.seconds(command, records)
+    note = " status %d" % run.status if run.status else " more than expected" if run.clock > most or run.memory > MOST_MEGABYTES else ""
+    print("| %s | %s | %.2f | %.2f | %.0f | %d | %d |%s" % (name, command, run.clock, most, run.memory, MOST_MEGABYTES, os.path.getsize(output), note), flush=True)
+    return bool(note)
+
+
 def hard(arguments, folder):
-    """Prints a row for each hard layer; whether one takes more than may be expected."""
-    names = [name for name in HARD if arguments.only in name]
+    """Prints a row for each command on hard layers; whether one takes more than may be expected."""
+    names = [name for name in (*HARD, *MAPS) if arguments.only in name]
     if not names:
         return False
-    friendly, files, wrong = Friendly(arguments.program, folder, arguments.commands), [os.path.join(folder, name) for name in ("h.wkt", "nothing")], False
+    friendly, files, wrong = Friendly(arguments.program, folder, arguments.commands), [os.path.join(folder, name) for name in ("h.wkt", "i.wkt")], False
     print("| layers | command | seconds | at most | MB | at most | bytes |\n|---|---|---|---|---|---|---|", flush=True)
     for name in names:
-        programs.apart(lambda: write(HARD[name](), files))
-        records = None
+        programs.apart(lambda: write(name, files))
         for command in arguments.commands:
-            output = os.path.join(folder, "out")
-            run = taken([arguments.program, command, *files], output, arguments.seconds)
-            if run.status is None:
-                wrong = True
-                print("| %s | %s | over | | %.0f | %d | |" % (name, command, run.memory, MOST_MEGABYTES), flush=True)
-                continue
-            records = records or friendly.records(files)
-            most = friendly.seconds(command, records)
-            wrong |= run.status != 0 or run.clock > most or run.memory > MOST_MEGABYTES
-            print("| %s | %s | %.2f | %.2f | %.0f | %d | %d |%s" % (
-                name, command, run.clock, most, run.memory, MOST_MEGABYTES, os.path.getsize(output),
-                " status %d" % run.status if run.status else " more than expected" if run.clock > most or run.memory > MOST_MEGABYTES else ""), flush=True)
+            wrong |= hard_row(arguments, friendly, name, command, files, os.path.join(folder, "out"))
     return wrong
 
 

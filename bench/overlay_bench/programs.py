@@ -106,6 +106,14 @@ def shim(name="calls"):
     return built
 
 
+def keep(folder, before, texts):
+    """Writes both texts of a difference into a folder of bench/out."""
+    os.makedirs(folder, exist_ok=True)
+    for layer, text in zip("ab", texts):
+        with open(os.path.join(folder, before + layer + ".wkt"), "wb") as file:
+            file.write(text)
+
+
 def apart(make):
     """Runs a function in a process of its own: what it takes would else count as memory of programs started later."""
     child = os.fork()

@@ -2,9 +2,9 @@
 
 Texts are made valid, then cut off, with bytes exchanged, dropped or put in, and with tokens exchanged, and run by `edges` as
 either layer, the other one being empty or valid. A text that is accepted has to give the reference's edges. One that differs
-is kept in bench/out with its number and its seed, cut down to a small one that still differs, and the exit status is 1.
+is kept in bench/out with its number and its seed, cut down to a small one that still differs, and the exit status is 1. A share of
+the texts (--programs) is run by the program, the others by the library for Python.
 """
-import multiprocessing
 import os
 import random
 import re
@@ -14,23 +14,21 @@ from collections import Counter
 
 import reference
 
-from . import programs
+from . import answering, programs, side_by_side
+from .answering import Plan
 from .cutting import cut
 from .programs import Answer
 
 LIMIT = reference.COORDINATE_LIMIT
 TOKEN = re.compile(rb"[A-Za-z]+|-?[0-9]+|[ \t\r\n]+|.", re.S)
 STRANGE = b" \t\r\n(),-+.0123456789eEpPmMyYlLzZ\x00\x0b\x0c\x7f\xc8\xef\xff"
-SIDE = 2_097_153  # a side that the whole range can be answered by
+PLAN = Plan("edges", 2_097_153, 1, False)  # a side that the whole range can be answered by
 MOST = 20
 
 
 def add_arguments(parser):
-    parser.add_argument("--texts", type=int, default=2000)
-    parser.add_argument("--first", type=int, default=0, help="the number of the first text, to run one again")
-    parser.add_argument("--seed", type=int, default=1)
-    parser.add_argument("--minutes", type=float, default=0, help="ends after so many minutes, however many texts are left")
-    parser.add_argument("--jobs", type=int, default=1, help="processes side by side")
+    side_by_side.add_arguments(parser, "texts", 2000)
+    answering.add_share(parser)
 
 
 class Maker:
@@ -112,85 +110,70 @@ class Maker:
 
 
 def made(number, seed):
-    """Both texts: one that is mostly broken, beside nothing or beside one that may be."""
+    """Both texts, one that is mostly broken beside nothing or one that may be; and chance for what else is drawn."""
     rng = random.Random(seed * 1_000_003 + number)
     maker = Maker(rng)
     text = maker.layer()
     for _ in range(rng.choice([0, 1, 1, 2])):
         text = maker.broken(text)
     other = rng.choice([b"", b"", b"POLYGON ((0 0, 5 1, 1 5, 0 0))", maker.layer()])
-    return (text, other) if rng.random() < 0.5 else (other, text)
+    return (text, other) if rng.random() < 0.5 else (other, text), rng
 
 
 def expected(texts):
     try:
-        return Answer(0, reference.Arranged(*texts, SIDE).text("edges").encode(), b"")
+        return Answer(0, reference.Arranged(*texts, PLAN.side).text("edges").encode(), b"")
     except reference.Fault as fault:
         return Answer(3, b"", fault.line().encode())
 
 
 class Bench:
-    def __init__(self, program, folder, seed):
-        self.program, self.folder, self.seed = program, folder, seed
+    def __init__(self, arguments, folder):
+        self.arguments, self.tested = arguments, answering.Tested(arguments, folder, 60)
 
-    def answer(self, texts):
-        names = [os.path.join(self.folder, "%d%s" % (os.getpid(), layer)) for layer in "ab"]
-        for name, text in zip(names, texts):
-            with open(name, "wb") as file:
-                file.write(text)
-        return programs.answer([self.program, "edges", *names, "--tile=%d" % SIDE, "--workers=1"])
+    def one(self, number):
+        """Who was asked for one pair of texts, the kind of answer, and where it was kept if it differs."""
+        texts, rng = made(number, self.arguments.seed)
+        asked, wanted = self.tested.drawn(rng, self.arguments.programs), expected(texts)
+        kept = None if asked.answer(texts, PLAN) == wanted else self.keep(number, texts, asked)
+        return asked.name, re.sub(rb"overlay: ([AB]: )?(\d).*\n", rb"\2", wanted.err).decode() or "accepted", kept
 
-    def differs(self, texts):
-        return self.answer(texts) != expected(texts)
-
-    def cut_down(self, texts):
+    def cut_down(self, texts, asked):
         """Smaller texts that still differ."""
+        differs = lambda *both: asked.answer(both, PLAN) != expected(both)
         first, second = texts
-        first = cut(first, lambda fewer: self.differs((fewer, second)))
-        return first, cut(second, lambda fewer: self.differs((first, fewer)))
+        first = cut(first, lambda fewer: differs(fewer, second))
+        return first, cut(second, lambda fewer: differs(first, fewer))
 
-    def keep(self, number, texts):
-        folder = os.path.join(programs.OUT, "text-%d-%d" % (self.seed, number))
-        os.makedirs(folder, exist_ok=True)
-        for name, both in (("", texts), ("small-", self.cut_down(texts))):
-            for layer, text in zip("ab", both):
-                with open(os.path.join(folder, name + layer), "wb") as file:
-                    file.write(text)
+    def keep(self, number, texts, asked=None):
+        folder = os.path.join(programs.OUT, "text-%d-%d" % (self.arguments.seed, number))
+        programs.keep(folder, "", texts)
+        if asked is not None:
+            programs.keep(folder, "small-", self.cut_down(texts, asked))
         return os.path.relpath(folder)
 
-
-BENCH = None
-
-
-def one(number):
-    """The kind of answer of one pair of texts, and where it was kept if it differs."""
-    texts = made(number, BENCH.seed)
-    wanted, got = expected(texts), BENCH.answer(texts)
-    kind = re.sub(rb"overlay: ([AB]: )?(\d).*\n", rb"\2", wanted.err).decode() or "accepted"
-    return kind, None if got == wanted else BENCH.keep(number, texts)
-
-
-def results(arguments, folder):
-    global BENCH
-    BENCH = Bench(arguments.program, folder, arguments.seed)
-    numbers = range(arguments.first, arguments.first + arguments.texts)
-    if arguments.jobs == 1:
-        yield from map(one, numbers)
-        return
-    with multiprocessing.get_context("fork").Pool(arguments.jobs) as pool:
-        yield from pool.imap_unordered(one, numbers, chunksize=64)
+    def ended(self, number):
+        """The same of a text whose process ended in the middle."""
+        texts, rng = made(number, self.arguments.seed)
+        return self.tested.drawn(rng, self.arguments.programs).name, "an ended process", self.keep(number, texts)
 
 
 def main(arguments):
-    kinds, wrong, start = Counter(), 0, time.monotonic()
+    kinds, asked, wrong, start = Counter(), Counter(), 0, time.monotonic()
+    numbers = range(arguments.first, arguments.first + arguments.texts)
     with tempfile.TemporaryDirectory() as folder:
-        for kind, kept in results(arguments, folder):
+        bench = Bench(arguments, folder)
+        for number, result in side_by_side.results(bench.one, numbers, arguments.jobs, arguments.minutes):
+            name, kind, kept = bench.ended(number) if isinstance(result, side_by_side.Ended) else result
+            asked[name] += 1
             kinds[kind] += 1
             if kept:
                 wrong += 1
-                print("differs: %s" % kept, flush=True)
-            if wrong == MOST or (arguments.minutes and time.monotonic() - start > 60 * arguments.minutes):
+                print("text %d differs: %s" % (number, kept), flush=True)
+            if wrong == MOST:
                 break
+        for line in bench.tested.lines(lambda name: "%d texts" % asked[name]):
+            print(line)
     print("%d texts from number %d, seed %d, in %.0f s: %d accepted, %s; %d differ" % (
         sum(kinds.values()), arguments.first, arguments.seed, time.monotonic() - start, kinds["accepted"],
         ", ".join("%d refused by %s" % (kinds[kind], kind) for kind in sorted(kinds) if kind != "accepted"), wrong))

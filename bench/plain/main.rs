@@ -2,6 +2,9 @@
 //! It is the yardstick for speed, and a second opinion on large layers.
 //!
 //!     plain COMMAND A B [--workers=N] [--tile=SIDE] [--times]
+//!     plain pipe
+//!
+//! The second way answers many pairs, see `pipe.rs`.
 //!
 //! The stages are those of the modules: read, bins, tiles (hot pixels and records), records by segment, links, counted edges,
 //! then their text; or labels, directed edges, next edges, rings and holes, polygons and their text.
@@ -9,6 +12,7 @@ mod bins;
 mod edges;
 mod hands;
 mod labels;
+mod pipe;
 mod point;
 mod polygons;
 mod reading;
@@ -68,41 +72,43 @@ impl Laps {
     }
 }
 
-fn write(texts: &[Vec<u8>]) {
-    let mut output = std::io::stdout().lock();
-    for text in texts {
-        output.write_all(text).unwrap();
-    }
+/// Both layers up to their counted edges.
+struct Rounded {
+    counted: Vec<Vec<edges::Counted>>,
+    strips: edges::Strips,
 }
 
-fn main() {
-    let request = Request::read();
-    let hands = Hands(request.workers);
-    let mut laps = Laps { shown: request.times, last: Instant::now() };
-    let segments = reading::layers(&request.files, hands);
-    laps.lap("read");
-    if segments.is_empty() {
-        return write(&[if request.command == "edges" { Vec::new() } else { text::EMPTY.to_vec() }]);
-    }
-    let grid = bins::Grid::over(&segments, request.side, hands);
-    let bins = bins::Bins::build(&grid, &segments, hands);
+/// The rounded edges of at least one segment.
+fn round(segments: &[point::Segment], side: Option<i64>, hands: Hands, laps: &mut Laps) -> Rounded {
+    let grid = bins::Grid::over(segments, side, hands);
+    let bins = bins::Bins::build(&grid, segments, hands);
     laps.lap("bins");
-    let found = tiles::records(&grid, bins, &segments, hands);
+    let found = tiles::records(&grid, bins, segments, hands);
     laps.lap("tiles");
     let routes = records::Routes::gather(found, segments.len(), hands);
     laps.lap("records");
-    let strips = edges::Strips::of(&segments, hands);
-    let links = edges::links(routes, &segments, &strips, hands);
+    let strips = edges::Strips::of(segments, hands);
+    let links = edges::links(routes, segments, &strips, hands);
     laps.lap("links");
     let counted = edges::count(links, &strips, hands);
     laps.lap("count");
-    if request.command == "edges" {
-        let texts = text::edges(&counted, hands);
+    Rounded { counted, strips }
+}
+
+/// The text of a command, in parts, and what it was made of: the program ends without letting go of that, which would take time.
+struct Made {
+    texts: Vec<Vec<u8>>,
+    _of: Option<(labels::Directed, rings::Rings, Vec<Vec<polygons::Piece>>)>,
+}
+
+fn made(rounded: Rounded, command: &str, hands: Hands, laps: &mut Laps) -> Made {
+    if command == "edges" {
+        let texts = text::edges(&rounded.counted, hands);
         laps.lap("format");
-        write(&texts);
-        return laps.lap("write");
+        return Made { texts, _of: None };
     }
-    let directed = labels::directed(counted, &request.command, &strips, hands);
+    let strips = rounded.strips;
+    let directed = labels::directed(rounded.counted, command, &strips, hands);
     laps.lap("labels");
     let next = rings::next_edges(&directed, &strips, hands);
     laps.lap("next");
@@ -114,7 +120,32 @@ fn main() {
     laps.lap("polygons");
     let texts = text::polygons(&pieces, &order, directed.edges.len(), hands);
     laps.lap("format");
-    write(&texts);
+    Made { texts, _of: Some((directed, rings, pieces)) }
+}
+
+/// The same where no layer has a segment.
+fn made_of_nothing(command: &str) -> Made {
+    Made { texts: vec![if command == "edges" { Vec::new() } else { text::EMPTY.to_vec() }], _of: None }
+}
+
+fn main() {
+    if std::env::args().nth(1).as_deref() == Some("pipe") {
+        return pipe::answer_all();
+    }
+    let request = Request::read();
+    let hands = Hands(request.workers);
+    let mut laps = Laps { shown: request.times, last: Instant::now() };
+    let segments = reading::layers(&request.files, hands);
+    laps.lap("read");
+    let found = if segments.is_empty() {
+        made_of_nothing(&request.command)
+    } else {
+        made(round(&segments, request.side, hands, &mut laps), &request.command, hands, &mut laps)
+    };
+    let mut output = std::io::stdout().lock();
+    for text in &found.texts {
+        output.write_all(text).unwrap();
+    }
     laps.lap("write");
-    std::mem::forget((segments, directed, rings, pieces));
+    std::mem::forget((segments, found));
 }

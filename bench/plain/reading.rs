@@ -5,7 +5,15 @@ use crate::point::Segment;
 /// The segments of both layers, in text order, the first layer's first.
 pub fn layers(files: &[String; 2], hands: Hands) -> Vec<Segment> {
     let read = |layer: usize| segments(&std::fs::read(&files[layer]).unwrap(), layer as u32);
-    let mut both = if hands.0 > 1 { Hands(2).each(read) } else { vec![read(0), read(1)] };
+    together(if hands.0 > 1 { Hands(2).each(read) } else { vec![read(0), read(1)] })
+}
+
+/// The same of texts.
+pub fn both(texts: &[Vec<u8>; 2]) -> Vec<Segment> {
+    together(vec![segments(&texts[0], 0), segments(&texts[1], 1)])
+}
+
+fn together(mut both: Vec<Vec<Segment>>) -> Vec<Segment> {
     let second = both.pop().unwrap();
     let mut all = both.pop().unwrap();
     all.extend(second);

@@ -98,40 +98,37 @@ def test_dissolved_layers(gis, tmp_path):
     assert [shape.area for shape, _ in read("back.gpkg")] == [24]
 
 
-@pytest.mark.parametrize(
-    "text",
-    [
-        "POLYGON ((0 0, 1 0",
-        "POLYGON ((0 0, 1.5 0, 0 1, 0 0))",
-        "POINT (1 1)",
-        "POLYGON ((0 0, 1 0, 0 1, 0 0)) x",
-        "1 2 3\n",
-        "0 0 1 1 1 x\n",
-    ],
+FRAME = '{"grid": "1", "origin": ["0", "0"], "system": null}'
+
+
+def from_grid(gis, text, output, frame=FRAME):
+    """What `from-grid` answers for a text, beside a frame file where there is one."""
+    Path("t.wkt").write_text(text, encoding="utf-8")
+    if frame is not None:
+        Path("frame.json").write_text(frame)
+    return gis("from-grid", "t.wkt", "-o", output)
+
+
+TEXTS_THAT_ARE_NONE = (
+    "POLYGON ((0 0, 1 0",
+    "POLYGON ((0 0, 1.5 0, 0 1, 0 0))",
+    "POINT (1 1)",
+    "POLYGON ((0 0, 1 0, 0 1, 0 0)) x",
+    "1 2 3\n",
+    "0 0 1 1 1 x\n",
 )
+
+
+@pytest.mark.parametrize("text", TEXTS_THAT_ARE_NONE)
 def test_texts_that_are_none(gis, tmp_path, text):
-    Path("frame.json").write_text('{"grid": "1", "origin": ["0", "0"], "system": null}')
-    Path("t.wkt").write_text(text)
-    answer = gis("from-grid", "t.wkt", "-o", "out.gpkg")
+    answer = from_grid(gis, text, "out.gpkg")
     assert answer.status == 3 and answer.err.startswith("overlay-gis: t.wkt: ") and answer.err.count("\n") == 1
     assert not Path("out.gpkg").exists()
 
 
-@pytest.mark.parametrize(
-    "held",
-    [
-        None,
-        "",
-        "[]",
-        '{"grid": "0", "origin": ["0", "0"], "system": null}',
-        '{"grid": "1", "origin": ["0"], "system": null}',
-    ],
-)
-def test_frames_that_are_none(gis, tmp_path, held):
-    Path("t.wkt").write_text("POLYGON EMPTY")
-    if held is not None:
-        Path("frame.json").write_text(held)
-    answer = gis("from-grid", "t.wkt", "-o", "out.gpkg")
+@pytest.mark.parametrize("frame", [None, "", "[]", FRAME.replace('"1"', '"0"'), FRAME.replace('["0", "0"]', '["0"]')])
+def test_frames_that_are_none(gis, tmp_path, frame):
+    answer = from_grid(gis, "POLYGON EMPTY", "out.gpkg", frame)
     assert answer.status in (1, 3) and answer.err.count("\n") == 1
 
 
@@ -145,7 +142,5 @@ def test_frames_that_are_none(gis, tmp_path, held):
     ],
 )
 def test_texts_in_the_grammar(gis, tmp_path, text, count):
-    Path("frame.json").write_text('{"grid": "1", "origin": ["0", "0"], "system": null}')
-    Path("t.wkt").write_text(text, encoding="utf-8")
-    assert gis("from-grid", "t.wkt", "-o", "out.geojson").status == 0
+    assert from_grid(gis, text, "out.geojson").status == 0
     assert len(read("out.geojson")) == count

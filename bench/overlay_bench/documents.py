@@ -1,0 +1,83 @@
+"""tells what the documents name and the repository doesn't have: paths, lemmas, calls and definitions, and lemma files of geom that CONTRACTS leaves out
+
+Whatever stands between backquotes in README and docs/ is looked at. A path stands below the root or below a crate, with or without its
+ending; `File.lemma` is a lemma of a file of that name; in CONTRACTS, MAP and PROOFS each longer word has to stand somewhere in crates/.
+The exit status is 1 where something is missing.
+"""
+import glob
+import os
+import re
+
+from . import programs
+
+QUOTED = re.compile(r"`([^`\n]+)`")
+PATH = re.compile(r"[\w.*-]*(/[\w.*-]+)+/?")
+LEMMA = re.compile(r"(?:proofs/)?([A-Z]\w*)\.(\w+)")
+# Documents in which each longer word is one of the code.
+OF_CODE = ("CONTRACTS.md", "MAP.md", "PROOFS.md")
+MADE = ("/out/", "out/", "File.", "common_ground", "a/b")
+
+
+def add_arguments(parser):
+    pass
+
+
+def text_of(path):
+    with open(path, encoding="utf-8") as file:
+        return file.read()
+
+
+class Sources:
+    """The files of the crates, their words, and their paths."""
+
+    def __init__(self):
+        found = glob.glob("crates/**/*", recursive=True) + glob.glob("*/**/*", recursive=True)
+        self.files = {path: text_of(path) for path in found if path.endswith((".rt", ".antt")) and "/out/" not in path}
+        self.words = {word for text in self.files.values() for word in re.findall(r"\w+", text)}
+        self.words |= {part for path in found for name in path.split("/") for part in re.findall(r"\w+", name)}
+
+    def has_path(self, path):
+        places = [before + path for before in ("", "crates/", "docs/", "crates/*/", "crates/*/specs/", "crates/*/proofs/", "gis/")]
+        return any(glob.glob(place + ending) for place in places for ending in ("", ".antt", ".rt"))
+
+    def has_lemma(self, file, lemma):
+        """`File.lemma`; also a call of a type, and the name of a file."""
+        of_file = [text for path, text in self.files.items() if os.path.basename(path) == file + ".antt"]
+        return lemma in ("antt", "rt") and of_file or any(re.search(r"\b%s\b" % lemma, text) for text in of_file or self.files.values())
+
+
+def missing(document, sources):
+    """What a document names and the sources don't have."""
+    of_code = os.path.basename(document) in OF_CODE
+    for quoted in QUOTED.findall(text_of(document)):
+        if any(made in quoted for made in MADE):
+            continue
+        if lemma := of_code and LEMMA.fullmatch(quoted):
+            if not sources.has_lemma(*lemma.groups()) and not sources.has_path(quoted):
+                yield quoted
+        elif PATH.fullmatch(quoted):
+            if not sources.has_path(quoted):
+                yield quoted
+        elif of_code:
+            yield from (word for word in re.findall(r"[A-Za-z_]\w{3,}", quoted) if word not in sources.words)
+
+
+def unlisted():
+    """The files of lemmas of geom that CONTRACTS doesn't list."""
+    listed = text_of("docs/CONTRACTS.md").partition("### Proofs that other crates use")[2].partition("\n## ")[0]
+    names = [os.path.basename(path)[:-5] for path in glob.glob("crates/geom/proofs/*.antt")]
+    return [name for name in sorted(names) if name != "Lib" and "`%s`" % name not in listed]
+
+
+def main(_):
+    os.chdir(programs.ROOT)
+    sources, wrong = Sources(), 0
+    for document in ["README.md", *sorted(glob.glob("docs/*.md"))]:
+        for name in missing(document, sources):
+            wrong += 1
+            print("%s: %s isn't there" % (document, name))
+    for name in unlisted():
+        wrong += 1
+        print("docs/CONTRACTS.md: %s of crates/geom/proofs isn't listed" % name)
+    print("%d documents read, %d names are missing" % (1 + len(glob.glob("docs/*.md")), wrong))
+    return int(wrong > 0)

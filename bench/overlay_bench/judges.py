@@ -1,0 +1,119 @@
+"""What answers beside the product: the exact reference for small pairs, the plain program for large ones."""
+from __future__ import annotations
+
+import subprocess
+import threading
+
+import reference
+
+from . import programs
+from .programs import COMMANDS, Answer
+
+MOST_SECONDS = 300
+
+
+class Exact:
+    """The exact reference on two texts."""
+
+    name = "bench/reference.py"
+
+    def __init__(self, texts):
+        self.texts, self.arranged = texts, None
+
+    def answer(self, wanted):
+        try:
+            if self.arranged is None:
+                self.arranged = reference.Arranged(*self.texts)
+            self.refuse(wanted.side, wanted.workers)
+        except reference.Fault as fault:
+            return Answer(3, b"", fault.line().encode())
+        text = self.arranged.text(wanted.command)
+        return Answer(0, text.encode(), self.arranged.report(wanted.side).encode() if wanted.report else b"")
+
+    def refuse(self, side, workers):
+        if side is not None and not reference.LEAST_SIDE <= side <= reference.GREATEST_SIDE:
+            raise reference.Fault(6)
+        if not 1 <= workers <= reference.WORKER_LIMIT:
+            raise reference.Fault(7)
+        self.arranged.refuse_tiles(side)
+
+    def agrees(self, wanted, got):
+        return got == self.answer(wanted)
+
+
+class Pipe:
+    """One process of the plain program that answers pair after pair: all five commands at once."""
+
+    def __init__(self):
+        self.process = None
+
+    def start(self):
+        self.process = subprocess.Popen([programs.plain(), "pipe"], stdin=subprocess.PIPE, stdout=subprocess.PIPE)
+
+    def answers(self, texts):
+        """The five texts by their commands; None where the process ended, or took too long."""
+        if self.process is None:
+            self.start()
+        timer = threading.Timer(MOST_SECONDS, self.process.kill)
+        timer.start()
+        try:
+            self.process.stdin.write(b"%d %d\n" % tuple(map(len, texts)) + b"".join(texts))
+            self.process.stdin.flush()
+            lengths = self.process.stdout.readline().split()
+            return {command: self.process.stdout.read(int(length)) for command, length in zip(COMMANDS, lengths, strict=True)}
+        except (OSError, ValueError):
+            self.process.kill()
+            self.process.wait()
+            self.process = None
+            return None
+        finally:
+            timer.cancel()
+
+
+class Plain:
+    """The plain program on two texts that are layers: it answers the texts; what a report has to say follows from them in part."""
+
+    name = "bench/plain"
+    pipe = Pipe()
+
+    def __init__(self, texts):
+        self.texts, self.found = texts, None
+        self.segments = [reference.segments_of([ring for _, ring in reference.read_tokens(text)[0]], layer) for layer, text in enumerate(texts)]
+        self.bounds = reference.bounds_of(p for layer in self.segments for s in layer for p in s[:2])
+
+    def answer(self, command):
+        if self.found is None:
+            self.found = self.pipe.answers(self.texts) or {}
+        return self.found.get(command)
+
+    def refusal(self, wanted):
+        if wanted.side is not None and not reference.LEAST_SIDE <= wanted.side <= reference.GREATEST_SIDE:
+            return reference.Fault(6)
+        if not 1 <= wanted.workers <= reference.WORKER_LIMIT:
+            return reference.Fault(7)
+        if wanted.side is not None and reference.Grid(self.bounds, wanted.side).tiles > reference.TILE_LIMIT:
+            return reference.Fault(8, reference.Grid(self.bounds, wanted.side).tiles)
+        return None
+
+    def agrees(self, wanted, got):
+        refused = self.refusal(wanted)
+        if refused:
+            return got == Answer(3, b"", refused.line().encode())
+        if (got.status, got.out) != (0, self.answer(wanted.command)):
+            return False
+        return self.is_report(got.err, wanted) if wanted.report else got.err == b""
+
+    def is_report(self, text, wanted):
+        """Whether a report has the numbers that are known, and those of its tiles add up."""
+        lines = [line.split() for line in text.decode().splitlines()]
+        head, tiles = lines[:6], lines[6:]
+        numbers = {words[0]: words[1:] for words in head}
+        known = {
+            "segments": ["%d" % len(layer) for layer in self.segments],
+            "hot": ["%d" % sum(int(words[2]) for words in tiles)],
+            "records": ["%d" % sum(int(words[3]) for words in tiles)],
+            "edges": ["%d" % self.answer("edges").count(b"\n")],
+            "tiles": ["%d" % reference.Grid(self.bounds, wanted.side or reference.fitting_side(self.bounds)).tiles],
+            "remade": ["0"],
+        }
+        return numbers == known and [words[:2] for words in tiles] == [["tile", "%d" % k] for k in range(int(known["tiles"][0]))]

@@ -1,0 +1,87 @@
+"""Numbered work, done by processes side by side. Where one of them ends in the middle, that is told, and another goes on."""
+from __future__ import annotations
+
+import multiprocessing
+import signal
+import sys
+import time
+from dataclasses import dataclass
+from multiprocessing.connection import wait
+
+FORK = multiprocessing.get_context("fork")
+
+
+def add_arguments(parser, things, count):
+    """The arguments of a run over numbered things, which are made from their number and the seed."""
+    thing = things[:-1]
+    parser.add_argument("--" + things, type=int, default=count)
+    parser.add_argument("--first", type=int, default=0, help="the number of the first %s, to run one again" % thing)
+    parser.add_argument("--seed", type=int, default=1)
+    parser.add_argument("--minutes", type=float, default=0, help="ends after so many minutes, however many %s are left" % things)
+    parser.add_argument("--jobs", type=int, default=1, help="processes side by side")
+
+
+@dataclass(frozen=True)
+class Ended:
+    """The process that was at a number ended, with a status, or by a signal (below 0)."""
+
+    status: int
+
+    def is_over(self):
+        """Whether a call took too long."""
+        return self.status == -signal.SIGALRM
+
+
+class Hand:
+    """A process that does some of the numbers, in order."""
+
+    def __init__(self, work, numbers):
+        self.work, self.numbers, self.done = work, numbers, 0
+        self.start()
+
+    def start(self):
+        self.told, telling = FORK.Pipe(duplex=False)
+        self.process = FORK.Process(target=self.run, args=(self.numbers[self.done:], telling), daemon=True)
+        self.process.start()
+        telling.close()
+
+    def run(self, numbers, telling):
+        signal.signal(signal.SIGINT, signal.SIG_IGN)
+        for number in numbers:
+            telling.send(self.work(number))
+
+    def next(self):
+        """The next number and what it gave."""
+        number = self.numbers[self.done]
+        try:
+            result = self.told.recv()
+        except EOFError:
+            self.process.join()
+            result = Ended(self.process.exitcode)
+        self.done += 1
+        if isinstance(result, Ended) and self.done < len(self.numbers):
+            self.start()
+        return number, result
+
+    def is_done(self):
+        return self.done == len(self.numbers)
+
+
+def results(work, numbers, jobs, minutes=0):
+    """Each number with what `work` gives of it, or with how its process ended; after so many minutes no more. Tells each minute how far it is."""
+    start, shown, count = time.monotonic(), 60, 0
+    hands = [Hand(work, part) for part in (numbers[k::jobs] for k in range(jobs)) if part]
+    try:
+        while busy := {hand.told: hand for hand in hands if not hand.is_done()}:
+            for told in wait(list(busy)):
+                yield busy[told].next()
+                count += 1
+            passed = time.monotonic() - start
+            if passed >= shown:
+                print("%d of %d after %.0f s" % (count, len(numbers), passed), file=sys.stderr, flush=True)
+                shown += 60
+            if minutes and passed > 60 * minutes:
+                return
+    finally:
+        for hand in hands:
+            hand.process.terminate()
