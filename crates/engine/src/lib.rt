@@ -2,6 +2,7 @@
 #![tactic(auto)]
 
 mod alone;
+mod cells;
 mod engine;
 mod fitting;
 mod laws;

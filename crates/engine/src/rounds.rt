@@ -3,12 +3,14 @@
 ghost use Rattle.std.specs.Prelude.{◌≡◌, ◌<◌, ◌≤◌, All, IfOk, length, map, sum_by};
 ghost use Rattle.geom.specs.Limit.{AreInLimit};
 ghost use Rattle.geom.specs.Rounded.{AreRounded};
+ghost use Rattle.tiling.specs.Cells.{LieIn};
 ghost use Rattle.tiling.specs.Tiles.{tile_count};
 ghost use Rattle.chain_gather.specs.Gathered.{AreBinsOf, AreTileNumbers, HaveTiles};
 ghost use Rattle.points_law.specs.Law.{AreLayers};
 ghost use Rattle.engine.specs.Rounds.{AllInLimit, AreRoundedOver, AreSegmentsOf, TellsTiles};
 ghost use Rattle.engine.specs.Runs.{IsChecked};
 
+use crate::cells::{cells_of, tile_numbers};
 use crate::engine::{Inputs, Plan};
 use crate::segments::{boxes_of, segments_of};
 use crate::text::Report;
@@ -106,12 +108,13 @@ fn gathered<A: Allocator + Copy + Send + Sync, G: Gate + Sync, R: Threads + Wait
     ensures tiles { IfOk result (λ n. AreTileNumbers grid.now segments.now (tile_count grid.now) n.tiles.items) }
     ensures remade { IfOk result (λ n. n.remade ≤ tile_count grid.now) }
 {
+    let cells = cells_of(grid, workers, segments);
     let blank = Blank::new(u64::from(workers));
-    by_tiles::<Brand, Brand, A, G, R>(rt, alloc, blank, grid, workers, segments, gate)
+    by_cells::<Brand, Brand, A, G, R>(rt, alloc, blank, grid, &cells, workers, segments, gate)
 }
 
-/// The same, where a ledger of its own counts the pieces that are posted, and their type knows the grid and the segments.
-fn by_tiles<
+/// The same, where a ledger of its own counts the pieces that are posted, and their type knows the cells and the segments.
+fn by_cells<
     L: Limited + Send + Sync,
     T: Tiled + Send + Sync,
     A: Allocator + Copy + Send + Sync,
@@ -122,26 +125,28 @@ fn by_tiles<
     alloc: A,
     blank: Blank,
     grid: &Grid,
+    cells: &Grid,
     workers: u32,
     segments: &[Seg],
     gate: &G,
 ) -> Result<Noded<A>, NoMemory>
     requires name { blank.name ≡ L.name }
     requires parts { (blank.parts ≡ L.parts) × (blank.parts ≡ workers) }
-    requires limit { tile_count grid.now ≡ L.limit }
-    requires tiled { (grid.now ≡ T.grid) × (segments.now ≡ T.segments) }
+    requires limit { tile_count cells.now ≡ L.limit }
+    requires tiled { (cells.now ≡ T.grid) × (segments.now ≡ T.segments) }
     requires workers { (0 < workers) × (workers ≤ 64) }
     requires in_limit { AllInLimit segments.now }
-    requires covered { HaveTiles grid.now segments.now }
+    requires lie { LieIn cells.now grid.now }
+    requires covered { HaveTiles cells.now segments.now }
     ensures rounded { IfOk result (λ n. ∥ AreRounded segments.now n.edges.items ∥₁) }
     ensures tiles { IfOk result (λ n. AreTileNumbers grid.now segments.now (tile_count grid.now) n.tiles.items) }
     ensures remade { IfOk result (λ n. n.remade ≤ tile_count grid.now) }
 {
     let boxes = boxes_of(alloc, segments)?;
-    let bins = Bins::build(alloc, grid, &boxes)?;
+    let bins = Bins::build(alloc, cells, &boxes)?;
     drop(boxes);
     let job: Pieces<T, A> = Pieces {
-        grid,
+        grid: cells,
         bins: &bins,
         segments,
         of: PhantomData,
@@ -150,13 +155,15 @@ fn by_tiles<
         rt,
         alloc,
         blank,
-        grid.tiles(),
+        cells.tiles(),
         workers,
         &job,
         Phase::Route,
         gate,
     )?;
-    let rounded = gather_made(alloc, pieces, remade, grid, segments)?;
+    let mut rounded = gather_made(alloc, pieces, remade, cells, segments)?;
+    rounded.tiles = tile_numbers::<T, A>(alloc, grid, cells, &rounded.tiles)?;
+    rounded.remade = rounded.remade.min(grid.tiles());
     Ok(settled(rounded))
 }
 

@@ -1,4 +1,5 @@
 pub mod Tiles
+pub mod Cells
 pub mod Index
 pub mod Bins
 pub mod Strips
