@@ -87,8 +87,8 @@ module _ {A : Type 0} where
       → joined (take (low.chunk + 1) (set chunks low.chunk y) ++ drop (high.chunk + 1) (set chunks low.chunk y)) ≡ take (number_of chunks low) (joined chunks) ++ fresh ++ drop (number_of chunks high) (joined chunks)
   replaced chunks low high b c y fresh rest o l h e g made left =
       let to : y.items ≡ take low.within (get_or chunks low.chunk b).items ++ fresh ++ drop high.within (get_or chunks high.chunk c).items =
-          made ∙ ap (λ t. take low.within b.items ++ fresh ++ t) left ∙ ap (λ (v : Vec Standing A). take low.within v.items ++ fresh ++ drop high.within c.items) e
-          ∙ ap (λ (v : Vec Standing A). take low.within (get_or chunks low.chunk b).items ++ fresh ++ drop high.within v.items) g in
+      made ∙ ap (λ t. take low.within b.items ++ fresh ++ t) left ∙ ap (λ (v : Vec Standing A). take low.within v.items ++ fresh ++ drop high.within c.items) e
+      ∙ ap (λ (v : Vec Standing A). take low.within (get_or chunks low.chunk b).items ++ fresh ++ drop high.within v.items) g in
       let p : low.chunk + 1 ≡ suc low.chunk = omega arith in
       let q : high.chunk + 1 ≡ suc high.chunk = omega arith in
       ap (λ i. joined (take i (set chunks low.chunk y) ++ drop (high.chunk + 1) (set chunks low.chunk y))) p ∙ ap (λ i. joined (take (suc low.chunk) (set chunks low.chunk y) ++ drop i (set chunks low.chunk y))) q

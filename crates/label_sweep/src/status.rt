@@ -146,12 +146,7 @@ impl<A: Allocator + Copy> Status<A> {
         self.rest.clear();
         self.rest
             .extend_from_slice(&self.chunks[high.chunk][high.within..])?;
-        refill(
-            &mut self.chunks[low.chunk],
-            low.within,
-            fresh,
-            &self.rest,
-        )?;
+        refill(&mut self.chunks[low.chunk], low.within, fresh, &self.rest)?;
         drop_chunks(&mut self.chunks, low.chunk + 1, high.chunk + 1)?;
         split(&mut self.chunks, low.chunk)?;
         Ok(())

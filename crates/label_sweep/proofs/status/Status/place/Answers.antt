@@ -23,13 +23,13 @@ returns g c =
     let Q : List (Vec Standing g.row.A.Denot) → Type 0 = λ t. IsPartitionPoint (λ y. q y ≡ true) (λ y. q y ≡ false) t k in
     let R : List (Vec Standing g.row.A.Denot) → Type 0 = λ t. k ≤ length t in
     let of_chunks = subst Q same (IsPartitionPoint-from_clause q row k c.partition_point-chunk.ensures.partitioned
-        (subst P (sym same) (chunks_parted (λ (d : Vec Standing g.row.A.Denot). d.items) p chunks c.requires.parted c.requires.chunked.filled)) (λ a r f k. search rules)) in
+    (subst P (sym same) (chunks_parted (λ (d : Vec Standing g.row.A.Denot). d.items) p chunks c.requires.parted c.requires.chunked.filled)) (λ a r f k. search rules)) in
     let h : k < length chunks = chunk_inside chunks k c.requires.chunked.some (subst R same c.partition_point-chunk.ensures.bound) in
     let here = c.index.result.now in
     let of_edges = IsPartitionPoint-from_clause p c.deref-2.result.now w c.partition_point-within.ensures.partitioned
-        (rw c.deref-2.ensures.value (within_parted (λ (d : Vec Standing g.row.A.Denot). d.items) p chunks c.requires.parted c.requires.chunked.filled k here h c.index.ensures)) (λ a r f k. search rules) in
+    (rw c.deref-2.ensures.value (within_parted (λ (d : Vec Standing g.row.A.Denot). d.items) p chunks c.requires.parted c.requires.chunked.filled k here h c.index.ensures)) (λ a r f k. search rules) in
     let all = found p chunks c.requires.parted c.requires.chunked k w here h c.index.ensures of_chunks.0 of_chunks.1
-        (rw c.deref-2.ensures.value at c.partition_point-within.ensures.bound) (rw c.deref-2.ensures.value at of_edges.0) (rw c.deref-2.ensures.value at of_edges.1) in
+    (rw c.deref-2.ensures.value at c.partition_point-within.ensures.bound) (rw c.deref-2.ensures.value at of_edges.0) (rw c.deref-2.ensures.value at of_edges.1) in
     record {
       place = all.place;
       within = all.within;

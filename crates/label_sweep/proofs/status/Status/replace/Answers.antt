@@ -14,8 +14,8 @@ pub returns-clause-all : goal.returns-clause-all
 returns-clause-all g c =
     let chunks = c.args.self.now.chunks.items in
     let rest : c.deref-2.result.now ≡ drop c.args.high.within c.index.result.now.items =
-        c.deref-2.ensures.value ∙ c.in_ok-extend_from_slice.ensures.items ∙ ap (λ t. t ++ take (length c.deref.result.now - c.args.high.within) (drop c.args.high.within c.deref.result.now)) c.clear.ensures.items
-        ∙ slice_from c.args.high.within c.deref.result.now ∙ ap (λ t. drop c.args.high.within t) c.deref.ensures.value in
+    c.deref-2.ensures.value ∙ c.in_ok-extend_from_slice.ensures.items ∙ ap (λ t. t ++ take (length c.deref.result.now - c.args.high.within) (drop c.args.high.within c.deref.result.now)) c.clear.ensures.items
+    ∙ slice_from c.args.high.within c.deref.result.now ∙ ap (λ t. drop c.args.high.within t) c.deref.ensures.value in
     c.in_ok-split.ensures.all ∙ ap joined c.in_ok-drop_chunks.ensures
     ∙ replaced chunks c.args.low c.args.high c.index_mut.result.now c.index.result.now c.refill.new.chunk c.args.fresh.now c.deref-2.result.now c.requires.order c.requires.low c.requires.high
     c.index_mut.ensures.value c.index.ensures c.in_ok-refill.ensures rest
