@@ -107,10 +107,16 @@ below_slanted d v f r e = let o = over_is f.p.x f.q.x v.x r.over in upright o r.
 
 -- one that spans the columns has an edge over each of their points
 pub edge_over : (d : DirectedEdge) (columns : Columns) (v : Pt) → Spans d columns → IsIn columns v → (e : Edge) × Runs d e × (covers e (left_of v) ≡ true)
-edge_over d columns v (inl s) i = (record { p = d.from; q = d.to; ordered = before_by_cases d.from d.to (inl (lt_le d.from.x columns.low d.to.x s.0 (le_through columns.low columns.high d.to.x (le_through columns.low v.x columns.high i.0 i.1) s.1))) },
-    inl refl, over_when d.from.x d.to.x v.x (lt_le d.from.x columns.low v.x s.0 i.0) (le_through v.x columns.high d.to.x i.1 s.1))
-edge_over d columns v (inr s) i = (record { p = d.to; q = d.from; ordered = before_by_cases d.to d.from (inl (lt_le d.to.x columns.low d.from.x s.0 (le_through columns.low columns.high d.from.x (le_through columns.low v.x columns.high i.0 i.1) s.1))) },
-    inr refl, over_when d.to.x d.from.x v.x (lt_le d.to.x columns.low v.x s.0 i.0) (le_through v.x columns.high d.from.x i.1 s.1))
+edge_over d columns v (inl s) i = (
+  record { p = d.from; q = d.to; ordered = before_by_cases d.from d.to (inl (lt_le d.from.x columns.low d.to.x s.0 (le_through columns.low columns.high d.to.x (le_through columns.low v.x columns.high i.0 i.1) s.1))) },
+  inl refl,
+  over_when d.from.x d.to.x v.x (lt_le d.from.x columns.low v.x s.0 i.0) (le_through v.x columns.high d.to.x i.1 s.1),
+)
+edge_over d columns v (inr s) i = (
+  record { p = d.to; q = d.from; ordered = before_by_cases d.to d.from (inl (lt_le d.to.x columns.low d.from.x s.0 (le_through columns.low columns.high d.from.x (le_through columns.low v.x columns.high i.0 i.1) s.1))) },
+  inr refl,
+  over_when d.to.x d.from.x v.x (lt_le d.to.x columns.low v.x s.0 i.0) (le_through v.x columns.high d.from.x i.1 s.1),
+)
 
 right_of : (a b : ℤ) → IsWithin coordinate_limit a → IsWithin coordinate_limit b → a <ℤ b → IsWithin coordinate_limit (b -ℤ pos 1)
 right_of a b h k l = record { low = omega (arith, ints); high = omega (arith, ints) }

@@ -148,9 +148,12 @@ lower_itself v d = λ f r. (f, r, same_value (height f (left_of v) *ℤ run_of f
 lower_through : (v : Pt) (a b c : DirectedEdge) → IsLower v a b → IsLower v b c → IsLower v a c
 lower_through v a b c h k = λ f r.
     let m = k f r in
-    let l = h m.0 m.1 in
-    (l.0, l.1, nearer (height f (left_of v)) (height m.0 (left_of v)) (height l.0 (left_of v)) (run_of f) (run_of m.0) (run_of l.0) (run_right b v m.0 m.1.over)
-        (weak (pos 0) (run_of f) (run_right c v f r.over)) (weak (pos 0) (run_of l.0) (run_right a v l.0 l.1.over)) m.2 l.2)
+    let l = h m.0 m.1 in (
+      l.0,
+      l.1,
+      nearer (height f (left_of v)) (height m.0 (left_of v)) (height l.0 (left_of v)) (run_of f) (run_of m.0) (run_of l.0) (run_right b v m.0 m.1.over)
+          (weak (pos 0) (run_of f) (run_right c v f r.over)) (weak (pos 0) (run_of l.0) (run_right a v l.0 l.1.over)) m.2 l.2,
+    )
 
 pub stand_in_order : (ds : List DirectedEdge) (columns : Columns) (v : Pt) (numbers : List ℕ) → IsLadder ds columns numbers → IsIn columns v → StandInOrder ds v numbers
 stand_in_order ds columns v numbers l i = λ m k h j. let e : m + (k - m) ≡ k = omega arith in

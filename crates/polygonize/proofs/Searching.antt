@@ -131,14 +131,17 @@ at_found ds v None h n = λ e b. n b.inside.0 b.inside.1 e (there e b)
   where
     there : (e : Edge) (b : LiesBelow ds (left_of v) e) → RunsBelow (edge_at ds b.inside.0) (left_of v) e
     there e b = record { runs = (let P : DirectedEdge → Type 0 = λ t. Runs t e in subst P (sym b.inside.2 ∙ get_or_default ds b.inside.0 b.edge nothing b.inside.1) b.runs); over = b.over; below = b.below }
-at_found ds v (Some g) h n = (h.inside, record {
-  inside = Contains-get_or ds g.number nothing h.inside;
-  edge = h.gap.edge;
-  runs = h.gap.below.runs;
-  below = record { edge = edge_at ds g.number; inside = Contains-get_or ds g.number nothing h.inside; runs = h.gap.below.runs; over = h.gap.below.over; below = h.gap.below.below };
-  nearest = λ e b. (let P : ℤ → Type 0 = λ t. (t *ℤ run_of e) ≤ℤ (height e (left_of v) *ℤ run_of h.gap.edge) in subst P (sym h.gap.height_is)
-      (let Q : ℤ → Type 0 = λ t. (gap_height g *ℤ run_of e) ≤ℤ (height e (left_of v) *ℤ t) in subst Q (sym h.gap.run_is) (n b.inside.0 b.inside.1 e (there e b))));
-})
+at_found ds v (Some g) h n = (
+  h.inside,
+  record {
+    inside = Contains-get_or ds g.number nothing h.inside;
+    edge = h.gap.edge;
+    runs = h.gap.below.runs;
+    below = record { edge = edge_at ds g.number; inside = Contains-get_or ds g.number nothing h.inside; runs = h.gap.below.runs; over = h.gap.below.over; below = h.gap.below.below };
+    nearest = λ e b. (let P : ℤ → Type 0 = λ t. (t *ℤ run_of e) ≤ℤ (height e (left_of v) *ℤ run_of h.gap.edge) in subst P (sym h.gap.height_is)
+        (let Q : ℤ → Type 0 = λ t. (gap_height g *ℤ run_of e) ≤ℤ (height e (left_of v) *ℤ t) in subst Q (sym h.gap.run_is) (n b.inside.0 b.inside.1 e (there e b))));
+  },
+)
   where
     there : (e : Edge) (b : LiesBelow ds (left_of v) e) → RunsBelow (edge_at ds b.inside.0) (left_of v) e
     there e b = record { runs = (let P : DirectedEdge → Type 0 = λ t. Runs t e in subst P (sym b.inside.2 ∙ get_or_default ds b.inside.0 b.edge nothing b.inside.1) b.runs); over = b.over; below = b.below }

@@ -95,8 +95,10 @@ fn rungs_of<A: Allocator>(
 fn numbers_of<A: Allocator + Copy>(alloc: A, rungs: &[Rung]) -> Result<Vec<usize, A>, NoMemory>
     ensures { IfOk result (λ numbers. numbers.items ≡ map (λ r. r.number) rungs.now) }
 {
-    let numbers: Result<Vec<usize, A>, AllocError> =
-        rungs.iter().map(|rung| rung.number).collect(alloc);
+    let numbers: Result<Vec<usize, A>, AllocError> = rungs
+        .iter()
+        .map(|rung| rung.number)
+        .collect(alloc);
     Ok(numbers?)
 }
 
