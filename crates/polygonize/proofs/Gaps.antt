@@ -37,7 +37,7 @@ second_of_both a b h = grind arith
 test_less : (a b : ℤ) → a <ℤ b → lt_z a b ≡ true
 test_less a b h = grind (arith, ints)
 
-test_at_most : (a b : ℤ) → a ≤ℤ b → le_z a b ≡ true
+pub test_at_most : (a b : ℤ) → a ≤ℤ b → le_z a b ≡ true
 test_at_most a b h = grind (arith, ints)
 
 less : (a b : ℤ) → lt_z a b ≡ true → a <ℤ b
@@ -46,14 +46,14 @@ less a b h = omega (arith, ints)
 not_less : (a b : ℤ) → lt_z a b ≡ false → b ≤ℤ a
 not_less a b h = omega (arith, ints)
 
-at_most : (a b : ℤ) → le_z a b ≡ true → a ≤ℤ b
+pub at_most : (a b : ℤ) → le_z a b ≡ true → a ≤ℤ b
 at_most a b h = omega (arith, ints)
 
 -- the tests of `covers` at a point just left of x, on an edge from p to q
 abbrev over : ℤ → ℤ → ℤ → Bool
 over p q x = le_z (pos (2 ^ 64) *ℤ p) ((pos (2 ^ 64) *ℤ x) -ℤ pos 1) && lt_z ((pos (2 ^ 64) *ℤ x) -ℤ pos 1) (pos (2 ^ 64) *ℤ q)
 
-over_when : (p q x : ℤ) → p <ℤ x → x ≤ℤ q → over p q x ≡ true
+pub over_when : (p q x : ℤ) → p <ℤ x → x ≤ℤ q → over p q x ≡ true
 over_when p q x h k = both _ _ (test_at_most _ _ (low p x h)) (test_less _ _ (high q x k))
   where
     low : (p x : ℤ) → p <ℤ x → (pos (2 ^ 64) *ℤ p) ≤ℤ ((pos (2 ^ 64) *ℤ x) -ℤ pos 1)
@@ -82,7 +82,7 @@ wider : (z : ℤ) → IsWithin (2 ^ 29) z → IsWithin (2 ^ 59) z
 wider z h = record { low = omega (arith, ints); high = omega (arith, ints) }
 
 -- a product of 128 bits is that of the numbers
-product_is : (r x y : ℤ) → IsWithin (2 ^ 59) x → IsWithin (2 ^ 29) y → r ≡ to_z w64 (of_z w64 x) *ℤ to_z w64 (of_z w64 y) → to_z w128 (of_z w128 r) ≡ x *ℤ y
+pub product_is : (r x y : ℤ) → IsWithin (2 ^ 59) x → IsWithin (2 ^ 29) y → r ≡ to_z w64 (of_z w64 x) *ℤ to_z w64 (of_z w64 y) → to_z w128 (of_z w128 r) ≡ x *ℤ y
 product_is r x y h k e =
     let f : FitsSigned w64 x = fits_64 (2 ^ 59) x (lit< tt) h in
     let g : FitsSigned w64 y = fits_64 (2 ^ 29) y (lit< tt) k in

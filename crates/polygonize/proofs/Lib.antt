@@ -21,7 +21,10 @@ pub mod Grouping
 pub mod Gaps
 pub mod Least
 pub mod Deciding
-pub mod Striping
+pub mod Columns
+pub mod Filtered
+pub mod Ladders
+pub mod Searching
 pub mod Sorted
 pub mod Places
 pub mod Openings

@@ -1,5 +1,5 @@
 -- The written rings have the edges of the cycles so far, each once.
-use Rattle.std.proofs.Common.{◌≡◌, ℕ, suc, ◌+◌, ◌<◌, ◌≤◌, List, [], ◌∷◌, ◌++◌, length, get_or, map, take, refl, sym, ◌∙◌, ap, subst, arith, add-one, Bool, cond, inl, inr, Option}
+use Rattle.std.proofs.Common.{◌≡◌, ℕ, suc, ◌+◌, ◌<◌, ◌≤◌, List, [], ◌∷◌, ◌++◌, length, get_or, map, take, refl, sym, ◌∙◌, ap, subst, arith, add-one, Bool, cond, inl, inr, Option, None}
 use Rattle.std.specs.Prelude.{All, Contains, IsPermutation, flat_map, sum_by, count_by}
 use Rattle.std.proofs.lemmas.List.{map-append, append-nil, get_or_default, get_or-map, length-map, take_all}
 use Rattle.std.proofs.lemmas.List.Elements.{All-nil, All-cons, All-head, All-tail, All-append, All-map, All-weaker, Contains-get_or}
@@ -10,11 +10,14 @@ use Rattle.std.proofs.Math.Seq.{take-suc}
 use Rattle.geom.specs.declared.point.Pt.{Pt}
 use Rattle.geom.specs.declared.directed.DirectedEdge.{DirectedEdge}
 use Rattle.geom.specs.Directed.{from_to, AreDirected}
+use Rattle.geom.specs.Holes.{IsHole}
 use Rattle.geom.specs.Rings.{ring_edges, IsSimple, IsCut, AreRings}
 use Rattle.geom.specs.Rings.IsCut.{whole, taken}
 use Rattle.geom.specs.Canonical.{Shape, HaveEachEdge, written_rings}
 use Rattle.geom.proofs.Lists.{In, contains_in, in_contains, map_in}
 use Rattle.polygonize.specs.declared.written.Opening.{Opening}
+use Rattle.polygonize.specs.declared.below.Gap.{Gap}
+use Rattle.polygonize.specs.Below.{AreFoundBelow, IsFoundBelow}
 use Rattle.polygonize.specs.Cycle.{AreCycles, IsLeastFirst}
 use Rattle.polygonize.specs.Next.{AreNext, edge_at, ring_of}
 use Rattle.polygonize.specs.Number.{AreNumbers, IsVertex}
@@ -252,3 +255,32 @@ ring_placed ds numbers cycle ring pieces owner shell shells_old shells_new old n
   where
     some : 0 < length ring
     some = ring_some numbers cycle ring p.some e
+
+-- ---- the ring of one of the cycles
+
+pub ring_same : (ds : List DirectedEdge) (numbers cycle ring : List ℕ) → AreNumbers ds numbers → ArePlaces ds cycle → ring ≡ map (λ k. get_or numbers k 0) cycle → ring_of ds ring ≡ ring_of ds cycle
+ring_same ds numbers cycle ring n p e = ap (ring_of ds) e ∙ numbered_ring ds numbers n cycle p.inside
+
+pub first_same : (ds : List DirectedEdge) (numbers cycle ring : List ℕ) → AreNumbers ds numbers → ArePlaces ds cycle → ring ≡ map (λ k. get_or numbers k 0) cycle → (edge_at ds (get_or ring 0 0)).from ≡ (edge_at ds (get_or cycle 0 0)).from
+first_same ds numbers cycle ring n p e = ap (λ t. (edge_at ds (get_or t 0 0)).from) e ∙ ap (λ t. (edge_at ds t).from) (get_or-map (λ k. get_or numbers k 0) cycle 0 0 0 p.some) ∙ (n.each (get_or cycle 0 0) (p.inside 0 0 p.some)).same
+
+pub cycle_at : {V : Type 0} (f : V → List ℕ) (cycles : List V) (i : ℕ) (v : V) (cycle : List ℕ) → i < length cycles → cycle ≡ f v → v ≡ get_or cycles i v → get_or (map f cycles) i [] ≡ cycle
+cycle_at f cycles i v cycle h e k = get_or-map f cycles i v [] h ∙ ap f (sym k) ∙ sym e
+
+pub of_cycle : {V : Type 0} (f : V → List ℕ) (P : List ℕ → Type 0) (cycles : List V) (i : ℕ) (v : V) (cycle : List ℕ) → i < length cycles → cycle ≡ f v → v ≡ get_or cycles i v → All (λ c. P (f c)) cycles → P cycle
+of_cycle f P cycles i v cycle h e k a = subst P (ap f (sym k) ∙ sym e) (a i v h)
+
+pub hole_at : {V : Type 0} (f : V → List ℕ) (ds : List DirectedEdge) (numbers : List ℕ) (cycles : List V) (i : ℕ) (v : V) (cycle ring : List ℕ) → AreNumbers ds numbers → ArePlaces ds cycle → ring ≡ map (λ k. get_or numbers k 0) cycle → i < length cycles → cycle ≡ f v → v ≡ get_or cycles i v
+    → IsHole (ring_of ds (get_or (map f cycles) i [])) → IsHole (ring_of ds ring)
+hole_at f ds numbers cycles i v cycle ring n p e h s k q = subst IsHole (ap (ring_of ds) (cycle_at f cycles i v cycle h s k) ∙ sym (ring_same ds numbers cycle ring n p e)) q
+
+pub below_ring : (ds : List DirectedEdge) (numbers cycle ring : List ℕ) (below : Option Gap) → AreNumbers ds numbers → ArePlaces ds cycle → ring ≡ map (λ k. get_or numbers k 0) cycle → (IsHole (ring_of ds cycle) → IsFoundBelow ds (edge_at ds (get_or cycle 0 0)).from below)
+    → IsHole (ring_of ds ring) → IsFoundBelow ds (edge_at ds (get_or ring 0 0)).from below
+below_ring ds numbers cycle ring below n p e f h = subst (λ (t : Pt). IsFoundBelow ds t below) (sym (first_same ds numbers cycle ring n p e)) (f (subst IsHole (ring_same ds numbers cycle ring n p e) h))
+
+pub below_cycle : {V : Type 0} (f : V → List ℕ) (ds : List DirectedEdge) (cycles : List V) (below : List (Option Gap)) (i : ℕ) (v : V) (cycle : List ℕ) → i < length cycles → cycle ≡ f v → v ≡ get_or cycles i v → AreFoundBelow ds (map f cycles) below
+    → IsHole (ring_of ds cycle) → IsFoundBelow ds (edge_at ds (get_or cycle 0 0)).from (get_or below i None)
+below_cycle f ds cycles below i v cycle h e k a = subst (λ (t : List ℕ). IsHole (ring_of ds t) → IsFoundBelow ds (edge_at ds (get_or t 0 0)).from (get_or below i None)) (cycle_at f cycles i v cycle h e k) (a.each i (subst (λ (n : ℕ). i < n) (sym (length-map cycles f)) h))
+
+pub mapped_more : {V X : Type 0} (f : V → X) (vs : List V) (i : ℕ) (v : V) (xs : List X) → i < length vs → v ≡ get_or vs i v → xs ≡ map f (take i vs) → xs ++ f v ∷ [] ≡ map f (take (i + 1) vs)
+mapped_more f vs i v xs h k e = let next : suc i ≡ i + 1 = omega arith in ap (λ t. t ++ f v ∷ []) e ∙ sym (map-append f (take i vs) (v ∷ [])) ∙ ap (map f) (ap (λ t. take i vs ++ t ∷ []) k ∙ sym (take-suc vs i v h) ∙ ap (λ n. take n vs) next)

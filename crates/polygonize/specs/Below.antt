@@ -1,19 +1,17 @@
--- The nearest edge below a point, and directed edges by vertical strips.
-use Rattle.std.specs.Prelude.{◌≡◌, ◌⊎◌, ◌^◌, ◌<◌, ◌+ℤ◌, ◌*ℤ◌, ◌≤ℤ◌, ◌<ℤ◌, ℕ, ℤ, pos, true, List, All, Contains, Option, Some, None, length, slice_get}
+-- The nearest edge below a point.
+use Rattle.std.specs.Prelude.{◌≡◌, ◌⊎◌, ◌^◌, ◌<◌, ◌+ℤ◌, ◌*ℤ◌, ◌≤ℤ◌, ◌<ℤ◌, ℕ, ℤ, pos, true, List, [], All, Contains, Option, Some, None, IfSome, MatchOption, length, slice_index_or}
 use Rattle.geom.specs.declared.directed.DirectedEdge.{DirectedEdge}
 use Rattle.geom.specs.declared.edge.Edge.{Edge}
 use Rattle.geom.specs.declared.point.Pt.{Pt}
-use Rattle.geom.specs.declared.rect.Rect.{Rect}
-use Rattle.geom.specs.Box.{greatest_corner, least_corner}
 use Rattle.geom.specs.Directed.{Runs}
-use Rattle.geom.specs.Holes.{height, left_of, run_of}
-use Rattle.geom.specs.Limit.{IsWithin, coordinate_limit}
+use Rattle.geom.specs.Holes.{IsHole, IsNearestBelow, LiesBelow, height, left_of, run_of}
+use Rattle.geom.specs.Limit.{IsWithin}
 use Rattle.geom.specs.Parity.{covers}
 use Rattle.geom.specs.Pixel.{Point}
 use Rattle.polygonize.specs.declared.below.Gap.{Gap}
-use Rattle.polygonize.specs.Next.{edge_at}
-use Rattle.tiling.specs.Index.{AreIndexed}
-use Rattle.tiling.specs.Strips.{IsFill, Striped}
+use Rattle.polygonize.specs.declared.column.Columns.{Columns}
+use Rattle.polygonize.specs.Column.{Spans}
+use Rattle.polygonize.specs.Next.{edge_at, ring_of}
 
 -- d runs along e, and e lies below z
 pub record RunsBelow (d : DirectedEdge) (z : Point) (e : Edge) : Type 0 where
@@ -50,38 +48,53 @@ IsLesserGap None found result = result ≡ found
 IsLesserGap (Some e) None result = result ≡ Some e
 IsLesserGap (Some e) (Some f) result = ((result ≡ Some f) × IsLessGap f e) ⊎ ((result ≡ Some e) × ¬ (IsLessGap f e))
 
--- the edge at i lies below the point just left of v, and none of those at the numbers that does is nearer
-pub record IsNearestAmong (ds : List DirectedEdge) (numbers : List ℕ) (v : Pt) (i : ℕ) : Type 0 where
-  pub inside : i < length ds
-  pub edge : Edge
-  pub below : RunsBelow (edge_at ds i) (left_of v) edge
-  pub nearest : (k : ℕ) → Contains numbers k → (f : Edge) → RunsBelow (edge_at ds k) (left_of v) f → (height edge (left_of v) *ℤ run_of f) ≤ℤ (height f (left_of v) *ℤ run_of edge)
+-- the best gap is at most that of d at the point just left of v, if d lies below it
+abbrev pub IsAsNear : DirectedEdge → Pt → Option Gap → Type 0
+IsAsNear d v None = (f : Edge) → ¬ (RunsBelow d (left_of v) f)
+IsAsNear d v (Some g) = (f : Edge) → RunsBelow d (left_of v) f → (gap_height g *ℤ run_of f) ≤ℤ (height f (left_of v) *ℤ g.run)
 
--- none of the edges at the numbers lies below the point just left of v
-abbrev pub NoneBelowAmong : List DirectedEdge → List ℕ → Pt → Type 0
-NoneBelowAmong ds numbers v = (k : ℕ) → Contains numbers k → (f : Edge) → ¬ (RunsBelow (edge_at ds k) (left_of v) f)
+-- g is the gap of the edge that it names
+pub record IsGapOf (ds : List DirectedEdge) (v : Pt) (g : Gap) : Type 0 where
+  pub inside : g.number < length ds
+  pub gap : IsGap (edge_at ds g.number) v g
 
--- every start lies between the columns low and high, and these are within the limit
-pub record AreColumns (ds : List DirectedEdge) (low high : ℤ) : Type 0 where
-  pub order : low ≤ℤ high
-  pub low_in : IsWithin coordinate_limit low
-  pub high_in : IsWithin coordinate_limit high
-  pub spans : All (λ d. (low ≤ℤ d.from.x) × (d.from.x ≤ℤ high)) ds
+-- the gap is that of a nearest edge below the point just left of v, or none lies there
+abbrev pub IsFoundBelow : List DirectedEdge → Pt → Option Gap → Type 0
+IsFoundBelow ds v best = MatchOption best ((e : Edge) → ¬ (LiesBelow ds (left_of v) e)) (λ g. (g.number < length ds) × IsNearestBelow ds (left_of v) (edge_at ds g.number))
 
--- b is the least box that has both ends of d
-pub record IsBoxOf (d : DirectedEdge) (b : Rect) : Type 0 where
-  pub lo_is : b.lo ≡ least_corner d.from d.to
-  pub hi_is : b.hi ≡ greatest_corner d.from d.to
+-- ---- many vertices, by their places
 
--- the first n edges have these boxes, in order
-pub record AreBoxes (ds : List DirectedEdge) (n : ℕ) (boxes : List Rect) : Type 0 where
-  pub same_length : length boxes ≡ n
-  pub each : (i : ℕ) → i < n → (b : Rect) × (slice_get boxes i ≡ Some b) × IsBoxOf (edge_at ds i) b
+abbrev pub vertex_at : List Pt → ℕ → Pt
+vertex_at vertices r = slice_index_or vertices r (record { x = pos 0; y = pos 0 })
 
--- the strips hold the boxes of the edges and reach over their starts; the numbers are those of the strip that is filled
-pub record AreStrips (ds : List DirectedEdge) (strips : Striped) (filled : Option ℕ) (numbers : List ℕ) : Type 0 where
-  pub boxes : List Rect
-  pub boxes_are : AreBoxes ds (length ds) boxes
-  pub indexed : AreIndexed boxes strips.items
-  pub spans : All (λ d. (strips.low ≤ℤ d.from.x) × (d.from.x ≤ℤ strips.high)) ds
-  pub filled_are : (strip : ℕ) → filled ≡ Some strip → IsFill strips strip boxes numbers
+abbrev pub best_at : List (Option Gap) → ℕ → Option Gap
+best_at best r = slice_index_or best r None
+
+-- each gap is that of an edge below its vertex
+abbrev pub AreKnown : List DirectedEdge → List Pt → List (Option Gap) → Type 0
+AreKnown ds vertices best = (r : ℕ) → IfSome (best_at best r) (λ g. IsGapOf ds (vertex_at vertices r) g)
+
+-- no gap grows, and those of the vertices that are asked for are now at most those of the edges for which P holds
+pub record AreNearerFor (ds : List DirectedEdge) (vertices : List Pt) (asked : List ℕ) (P : ℕ → Type 0) (old new : List (Option Gap)) : Type 0 where
+  pub same_length : length new ≡ length old
+  pub known : AreKnown ds vertices new
+  pub kept : (r : ℕ) (d : DirectedEdge) → IsAsNear d (vertex_at vertices r) (best_at old r) → IsAsNear d (vertex_at vertices r) (best_at new r)
+  pub near : (r : ℕ) → Contains asked r → (k : ℕ) → P k → IsAsNear (edge_at ds k) (vertex_at vertices r) (best_at new r)
+
+-- for the edges at the numbers
+abbrev pub AreNearer : List DirectedEdge → List Pt → List ℕ → List ℕ → List (Option Gap) → List (Option Gap) → Type 0
+AreNearer ds vertices asked numbers old new = AreNearerFor ds vertices asked (Contains numbers) old new
+
+-- for those of them that span the columns
+abbrev pub AreNearerSpanning : List DirectedEdge → List Pt → List ℕ → List ℕ → Columns → List (Option Gap) → List (Option Gap) → Type 0
+AreNearerSpanning ds vertices asked numbers columns old new = AreNearerFor ds vertices asked (λ k. Contains numbers k × Spans (edge_at ds k) columns) old new
+
+-- each gap of a vertex that is asked for is that of a nearest edge below it
+pub record AreGapsBelow (ds : List DirectedEdge) (vertices : List Pt) (asked : List ℕ) (best : List (Option Gap)) : Type 0 where
+  pub same_length : length best ≡ length vertices
+  pub each : All (λ r. IsFoundBelow ds (vertex_at vertices r) (best_at best r)) asked
+
+-- for each cycle whose ring is a hole the nearest edge below its first vertex is found
+pub record AreFoundBelow (ds : List DirectedEdge) (cycles : List (List ℕ)) (best : List (Option Gap)) : Type 0 where
+  pub same_length : length best ≡ length cycles
+  pub each : (r : ℕ) → r < length cycles → IsHole (ring_of ds (slice_index_or cycles r [])) → IsFoundBelow ds (edge_at ds (slice_index_or (slice_index_or cycles r []) 0 0)).from (best_at best r)

@@ -3,10 +3,13 @@
 
 mod angle;
 mod below;
+mod column;
 mod cut;
 mod cycle;
 mod hole;
+mod ladder;
 mod leaving;
+mod nearest;
 mod number;
 mod piece;
 mod polygon;

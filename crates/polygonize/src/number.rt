@@ -1,8 +1,8 @@
 //! Numbers of vertices: that of a vertex is the place of the first edge that leaves it, so numbers are ordered as points are.
 
-ghost use Rattle.std.specs.Prelude.{◌≡◌, ◌≢◌, ◌<◌, All, IfOk, false, length, map, slice_index, true};
+ghost use Rattle.std.specs.Prelude.{◌≡◌, ◌≢◌, ◌<◌, All, IfOk, false, length, map, slice_index, slice_index_or, true};
 ghost use Rattle.geom.specs.Directed.{AreDirected};
-ghost use Rattle.polygonize.specs.Next.{ring_of};
+ghost use Rattle.polygonize.specs.Next.{edge_at, ring_of};
 ghost use Rattle.polygonize.specs.Number.{AreNumbers, IsLastNumber, IsNumber};
 
 use geom::{DirectedEdge, NoMemory, Pt};
@@ -76,4 +76,21 @@ pub fn points_of<A: Allocator + Copy>(
         .map(|vertex| edges[*vertex].from)
         .collect(alloc);
     Ok(points?)
+}
+
+/// The vertex where each cycle of edges begins.
+pub fn first_vertices<A: Allocator + Copy>(
+    alloc: A,
+    edges: &[DirectedEdge],
+    cycles: &[Vec<usize, A>],
+) -> Result<Vec<Pt, A>, NoMemory>
+    requires some { All (λ c. 0 < length c.items) cycles.now }
+    requires inside { All (λ c. All (λ k. k < length edges.now) c.items) cycles.now }
+    ensures { IfOk result (λ vertices. vertices.items ≡ map (λ c. (edge_at edges.now (slice_index_or c.items 0 0)).from) cycles.now) }
+{
+    let mut vertices = Vec::new(alloc);
+    for cycle in cycles {
+        vertices.push(edges[cycle[0]].from)?;
+    }
+    Ok(vertices)
 }

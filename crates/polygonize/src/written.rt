@@ -1,24 +1,25 @@
 //! The rings of the result as they are written, each with its place in the order of the text.
 
-ghost use Rattle.std.specs.Prelude.{◌≡◌, ◌<◌, ◌≤◌, ◌==◌, ◌||◌, ◌++◌, ◌∷◌, [], List, All, IfOk, OnOk, is_some, length, map, not, slice_index_or, unwrap_or};
+ghost use Rattle.std.specs.Prelude.{◌≡◌, ℕ, ◌<◌, ◌≤◌, ◌==◌, ◌||◌, ◌++◌, ◌∷◌, [], List, All, Contains, IfOk, OnOk, is_some, length, map, not, slice_index_or, unwrap_or};
 ghost use Rattle.geom.specs.Directed.{AreDirected};
 ghost use Rattle.geom.specs.declared.point.Pt.{Pt};
-ghost use Rattle.geom.specs.Holes.{AreGrounded};
+ghost use Rattle.geom.specs.Holes.{AreGrounded, IsHole};
 ghost use Rattle.geom.specs.Limit.{AreInLimit};
 ghost use Rattle.geom.specs.NodedEdges.{AreNodedEdges};
 ghost use Rattle.geom.specs.Rings.{AreRings, Closes};
-ghost use Rattle.polygonize.specs.Below.{AreStrips};
+ghost use Rattle.polygonize.specs.Below.{AreFoundBelow, IsFoundBelow};
 ghost use Rattle.polygonize.specs.Number.{AreNumbers, IsVertex};
-ghost use Rattle.polygonize.specs.Next.{ring_of};
+ghost use Rattle.polygonize.specs.Next.{edge_at, ring_of};
 ghost use Rattle.polygonize.specs.Owning.{ArePiecesWritten, IsOwnerFound, IsRingPlaced, KeepsShell};
 ghost use Rattle.polygonize.specs.Placed.{AreWritten, opening_of, placed_ring};
 ghost use Rattle.polygonize.specs.Stack.{AreStacked};
 ghost use Rattle.polygonize.specs.Written.{AreAdded, ArePlaces, HasItsEdges, HaveEdges, IsCanonical, IsRingWritten, IsSound};
 
-use crate::below::EdgeStrips;
+use crate::below::Gap;
 use crate::cut::cut;
 use crate::hole::is_hole;
-use crate::number::{start_numbers, vertices_of};
+use crate::nearest::gaps_below;
+use crate::number::{first_vertices, start_numbers, vertices_of};
 use crate::piece::{first_piece, turned};
 use crate::ring::ring_places;
 use geom::{DirectedEdge, NoMemory};
@@ -118,29 +119,24 @@ fn write_pieces<A: Allocator + Copy>(
 }
 
 /// The shell of the ring's polygon, where the ring is a hole and the ring of the edge below it was written.
-fn owner_of<A: Allocator + Copy>(
+fn owner_of(
     edges: &[DirectedEdge],
-    strips: &mut EdgeStrips<A>,
     ring: &[usize],
+    below: Option<Gap>,
     shell_of: &[Option<Opening>],
-) -> Result<Option<Opening>, NoMemory>
+) -> Option<Opening>
     requires directed { AreDirected edges.now }
     requires edges_in { All (λ d. AreInLimit d.from d.to) edges.now }
-    requires some { 0 < length ring.now }
     requires vertices { All (IsVertex edges.now) ring.now }
     requires least { All (λ k. slice_index_or ring.now 0 0 ≤ k) ring.now }
     requires same_length { length shell_of.now ≡ length edges.now }
-    requires strips { AreStrips edges.now strips.old.strips strips.old.filled strips.old.numbers.items }
-    ensures strips { OnOk result (AreStrips edges.now strips.new.strips strips.new.filled strips.new.numbers.items) }
-    ensures owner { IfOk result (λ owner. IsOwnerFound edges.now ring.now shell_of.now owner) }
+    requires below { IsHole (ring_of edges.now ring.now) → IsFoundBelow edges.now (edge_at edges.now (slice_index_or ring.now 0 0)).from below }
+    ensures { IsOwnerFound edges.now ring.now shell_of.now result }
 {
     if !is_hole(edges, ring) {
-        return Ok(None);
+        return None;
     }
-    match strips.nearest_below(edges, edges[ring[0]].from)? {
-        Some(below) => Ok(shell_of[below]),
-        None => Ok(None),
-    }
+    shell_of[below?.number]
 }
 
 /// Keeps the shell of the polygon for each edge of a ring.
@@ -159,7 +155,7 @@ fn write_ring<A: Allocator + Copy>(
     edges: &[DirectedEdge],
     numbers: &[usize],
     cycle: &[usize],
-    strips: &mut EdgeStrips<A>,
+    below: Option<Gap>,
     places: &mut [Option<usize>],
     shell_of: &mut [Option<Opening>],
     written: &mut Vec<Written<A>, A>,
@@ -171,14 +167,13 @@ fn write_ring<A: Allocator + Copy>(
     requires places { length places.old ≡ length edges.now }
     requires shells { length shell_of.old ≡ length edges.now }
     requires clear { AreStacked [] places.old }
-    requires strips { AreStrips edges.now strips.old.strips strips.old.filled strips.old.numbers.items }
-    ensures strips { OnOk result (AreStrips edges.now strips.new.strips strips.new.filled strips.new.numbers.items) }
+    requires below { IsHole (ring_of edges.now cycle.now) → IsFoundBelow edges.now (edge_at edges.now (slice_index_or cycle.now 0 0)).from below }
     ensures written { OnOk result (IsRingWritten edges.now cycle.now (map (λ w. w.ring.items) written.old.items) (map (λ w. w.ring.items) written.new.items)) }
     ensures placed { OnOk result (IsRingPlaced edges.now cycle.now shell_of.old shell_of.new (map placed_ring written.old.items) (map placed_ring written.new.items)) }
     ensures clear { OnOk result (AreStacked [] places.new) }
 {
     let ring = vertices_of(alloc, numbers, cycle)?;
-    let owner = owner_of(edges, strips, &ring, shell_of)?;
+    let owner = owner_of(edges, &ring, below, shell_of);
     let pieces = cut(alloc, &ring, places)?;
     let shell = write_pieces(edges, ring[0], pieces, owner, written)?;
     keep_shell(shell_of, cycle, shell);
@@ -191,7 +186,7 @@ fn write_cycles<A: Allocator + Copy>(
     edges: &[DirectedEdge],
     numbers: &[usize],
     cycles: &[Vec<usize, A>],
-    strips: &mut EdgeStrips<A>,
+    below: &[Option<Gap>],
     places: &mut [Option<usize>],
     shell_of: &mut [Option<Opening>],
 ) -> Result<Vec<Written<A>, A>, NoMemory>
@@ -203,26 +198,68 @@ fn write_cycles<A: Allocator + Copy>(
     requires places { length places.old ≡ length edges.now }
     requires shells { length shell_of.old ≡ length edges.now }
     requires clear { AreStacked [] places.old }
-    requires strips { AreStrips edges.now strips.old.strips strips.old.filled strips.old.numbers.items }
+    requires found { AreFoundBelow edges.now (map (λ c. c.items) cycles.now) below.now }
     requires its_edges { All (λ c. HasItsEdges edges.now c.items) cycles.now }
     ensures written { AreNodedEdges edges.now → AreGrounded edges.now (map (ring_of edges.now) (map (λ c. c.items) cycles.now)) → IfOk result (λ written. AreWritten edges.now (map (ring_of edges.now) (map (λ c. c.items) cycles.now)) (map placed_ring written.items)) }
     ensures edges { IfOk result (λ written. HaveEdges edges.now (map (λ w. w.ring.items) written.items)) }
     ensures sound { IfOk result (λ written. All (IsCanonical edges.now) (map (λ w. w.ring.items) written.items)) }
 {
     let mut written = Vec::new(alloc);
-    for cycle in cycles {
+    for number in 0..cycles.len() {
         write_ring(
             alloc,
             edges,
             numbers,
-            cycle,
-            strips,
+            &cycles[number],
+            below[number],
             places,
             shell_of,
             &mut written,
         )?;
     }
     Ok(written)
+}
+
+/// The numbers of the cycles whose rings are holes.
+fn holes_of<A: Allocator + Copy>(
+    alloc: A,
+    edges: &[DirectedEdge],
+    numbers: &[usize],
+    cycles: &[Vec<usize, A>],
+) -> Result<Vec<usize, A>, NoMemory>
+    requires directed { AreDirected edges.now }
+    requires edges_in { All (λ d. AreInLimit d.from d.to) edges.now }
+    requires numbers { AreNumbers edges.now numbers.now }
+    requires cycles { All (λ c. ArePlaces edges.now c.items) cycles.now }
+    ensures inside { IfOk result (λ holes. All (λ r. r < length cycles.now) holes.items) }
+    ensures complete { IfOk result (λ holes. (r : ℕ) → r < length cycles.now → IsHole (ring_of edges.now (slice_index_or (map (λ c. c.items) cycles.now) r [])) → Contains holes.items r) }
+{
+    let mut holes = Vec::new(alloc);
+    for number in 0..cycles.len() {
+        let ring = vertices_of(alloc, numbers, &cycles[number])?;
+        if is_hole(edges, &ring) {
+            holes.push(number)?;
+        }
+    }
+    Ok(holes)
+}
+
+/// For each cycle whose ring is a hole the gap to the nearest edge below it.
+fn edges_below<A: Allocator + Copy>(
+    alloc: A,
+    edges: &[DirectedEdge],
+    numbers: &[usize],
+    cycles: &[Vec<usize, A>],
+) -> Result<Vec<Option<Gap>, A>, NoMemory>
+    requires directed { AreDirected edges.now }
+    requires edges_in { All (λ d. AreInLimit d.from d.to) edges.now }
+    requires numbers { AreNumbers edges.now numbers.now }
+    requires cycles { All (λ c. ArePlaces edges.now c.items) cycles.now }
+    ensures { IfOk result (λ below. AreFoundBelow edges.now (map (λ c. c.items) cycles.now) below.items) }
+{
+    let holes = holes_of(alloc, edges, numbers, cycles)?;
+    let vertices = first_vertices(alloc, edges, cycles)?;
+    gaps_below(alloc, edges, &vertices, &holes)
 }
 
 /// All rings as they are written, in no order yet.
@@ -238,7 +275,7 @@ pub fn written_rings<A: Allocator + Copy>(
 {
     let numbers = start_numbers(alloc, edges)?;
     let cycles = ring_places(alloc, edges)?;
-    let mut strips = EdgeStrips::build(alloc, edges)?;
+    let below = edges_below(alloc, edges, &numbers, &cycles)?;
     let mut places = vec![in alloc; None; edges.len()]?;
     let mut shell_of = vec![in alloc; None; edges.len()]?;
     write_cycles(
@@ -246,7 +283,7 @@ pub fn written_rings<A: Allocator + Copy>(
         edges,
         &numbers,
         &cycles,
-        &mut strips,
+        &below,
         &mut places,
         &mut shell_of,
     )

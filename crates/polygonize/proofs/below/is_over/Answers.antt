@@ -1,5 +1,5 @@
 use Rattle.polygonize.proofs.Gaps.{over_tests}
-use Rattle.polygonize.proofs.Striping.{back}
+use Rattle.polygonize.proofs.Columns.{back}
 use Rattle.polygonize.proofs.below.is_over.Goals as goal
 
 pub returns-then-edge-v : goal.returns-then-edge-v

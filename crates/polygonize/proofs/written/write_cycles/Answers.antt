@@ -1,24 +1,30 @@
 use Rattle.std.proofs.Common.{map, sym}
 use Rattle.polygonize.specs.Placed.{placed_ring}
+use Rattle.polygonize.specs.Written.{ArePlaces}
 use Rattle.polygonize.proofs.Filling.{all_filled, next_filled, nothing_filled}
-use Rattle.polygonize.proofs.Writing.{all_cycles, next_cycle, nothing_written}
+use Rattle.polygonize.proofs.Writing.{all_cycles, below_cycle, next_cycle, nothing_written, of_cycle}
 use Rattle.polygonize.proofs.written.write_cycles.Goals as goal
 
-pub loop-cycle-init : goal.loop-cycle-init
-loop-cycle-init g c = (c.requires.clear, rw c.new-written.ensures.items (nothing_written c.args.edges.now (map (λ v. v.items) c.args.cycles.now)), c.requires.strips, (λ noded grounded. rw c.new-written.ensures.items (nothing_filled c.args.edges.now (map (λ v. v.items) c.args.cycles.now) c.args.shell_of.now)))
+pub loop-number-init : goal.loop-number-init
+loop-number-init g c = (c.requires.clear, rw c.new-written.ensures.items (nothing_written c.args.edges.now (map (λ v. v.items) c.args.cycles.now)), (λ noded grounded. rw c.new-written.ensures.items (nothing_filled c.args.edges.now (map (λ v. v.items) c.args.cycles.now) c.args.shell_of.now)))
 
-pub loop-cycle-preserved : goal.loop-cycle-preserved
-loop-cycle-preserved g c = (
+pub loop-number-preserved : goal.loop-number-preserved
+loop-number-preserved g c = (
   c.in_ok-write_ring.ensures.clear,
-  next_cycle (λ v. v.items) c.args.edges.now c.args.cycles.now c.loop-cycle.cycle-index c.cycle-item.result c.deref.result.now _ _ c.loop-cycle-test.true c.deref.ensures.value (sym c.cycle-item.is) c.in_ok-write_ring.ensures.written c.loop-cycle.invariant.1,
-  c.in_ok-write_ring.ensures.strips,
-  (λ noded grounded. next_filled (λ v. v.items) c.args.edges.now c.requires.closes noded c.args.cycles.now c.requires.rings grounded c.requires.its_edges c.requires.cycles c.loop-cycle.cycle-index c.cycle-item.result c.deref.result.now _ _ _ _ c.loop-cycle-test.true c.deref.ensures.value (sym c.cycle-item.is)
-      c.in_ok-write_ring.ensures.placed (c.loop-cycle.invariant.3 noded grounded)),
+  next_cycle (λ v. v.items) c.args.edges.now c.args.cycles.now c.loop-number.number c.index-cycles-number.result c.deref.result.now _ _ c.loop-number-test.true c.deref.ensures.value (sym c.index-cycles-number.is) c.in_ok-write_ring.ensures.written c.loop-number.invariant.1,
+  (λ noded grounded. next_filled (λ v. v.items) c.args.edges.now c.requires.closes noded c.args.cycles.now c.requires.rings grounded c.requires.its_edges c.requires.cycles c.loop-number.number c.index-cycles-number.result c.deref.result.now _ _ _ _ c.loop-number-test.true c.deref.ensures.value (sym c.index-cycles-number.is)
+      c.in_ok-write_ring.ensures.placed (c.loop-number.invariant.2 noded grounded)),
 )
 
 pub returns-clause-edges : goal.returns-clause-edges
-returns-clause-edges g c = all_cycles (λ v. v.items) c.args.edges.now c.args.cycles.now c.loop-cycle.cycle-index _ c.requires.rings c.loop-cycle-test.false c.loop-cycle.invariant.1
+returns-clause-edges g c = all_cycles (λ v. v.items) c.args.edges.now c.args.cycles.now c.loop-number.number _ c.requires.rings c.loop-number-test.false c.loop-number.invariant.1
 
 pub returns-clause-written : goal.returns-clause-written
-returns-clause-written g c = λ noded grounded. all_filled (λ v. v.items) placed_ring c.args.edges.now c.args.cycles.now c.loop-cycle.cycle-index c.loop-cycle.shell_of c.loop-cycle.written.items c.requires.rings c.loop-cycle-test.false
-    (all_cycles (λ v. v.items) c.args.edges.now c.args.cycles.now c.loop-cycle.cycle-index _ c.requires.rings c.loop-cycle-test.false c.loop-cycle.invariant.1) c.loop-cycle.invariant.1.sound (c.loop-cycle.invariant.3 noded grounded)
+returns-clause-written g c = λ noded grounded. all_filled (λ v. v.items) placed_ring c.args.edges.now c.args.cycles.now c.loop-number.number c.loop-number.shell_of c.loop-number.written.items c.requires.rings c.loop-number-test.false
+    (all_cycles (λ v. v.items) c.args.edges.now c.args.cycles.now c.loop-number.number _ c.requires.rings c.loop-number-test.false c.loop-number.invariant.1) c.loop-number.invariant.1.sound (c.loop-number.invariant.2 noded grounded)
+
+pub write_ring-requires-clause-cycle : goal.write_ring-requires-clause-cycle
+write_ring-requires-clause-cycle g c = of_cycle (λ v. v.items) (ArePlaces c.args.edges.now) c.args.cycles.now c.loop-number.number c.index-cycles-number.result c.deref.result.now c.loop-number-test.true c.deref.ensures.value c.index-cycles-number.is c.requires.cycles
+
+pub write_ring-requires-clause-below : goal.write_ring-requires-clause-below
+write_ring-requires-clause-below g c = below_cycle (λ v. v.items) c.args.edges.now c.args.cycles.now c.args.below.now c.loop-number.number c.index-cycles-number.result c.deref.result.now c.loop-number-test.true c.deref.ensures.value c.index-cycles-number.is c.requires.found

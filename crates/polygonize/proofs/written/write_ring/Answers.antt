@@ -1,13 +1,13 @@
 use Rattle.std.proofs.Common.{map}
-use Rattle.polygonize.proofs.Writing.{cut_some, mapped_some, ring_least, ring_placed, ring_sound, ring_some, ring_vertices, ring_written, unmapped, vertices_inside}
+use Rattle.polygonize.proofs.Writing.{below_ring, cut_some, mapped_some, ring_least, ring_placed, ring_sound, ring_some, ring_vertices, ring_written, unmapped, vertices_inside}
 use Rattle.polygonize.specs.Written.{IsSound}
 use Rattle.polygonize.proofs.written.write_ring.Goals as goal
 
-pub owner_of-requires-clause-vertices : goal.owner_of-requires-clause-vertices
-owner_of-requires-clause-vertices g c = rw c.deref.ensures.value (ring_vertices c.args.edges.now c.args.numbers.now c.args.cycle.now c.in_ok-ring.ring.items c.requires.numbers c.requires.cycle c.in_ok-ring.ensures)
+pub owner_of-owner-requires-clause-vertices : goal.owner_of-owner-requires-clause-vertices
+owner_of-owner-requires-clause-vertices g c = rw c.deref.ensures.value (ring_vertices c.args.edges.now c.args.numbers.now c.args.cycle.now c.in_ok-ring.ring.items c.requires.numbers c.requires.cycle c.in_ok-ring.ensures)
 
-pub owner_of-requires-clause-least : goal.owner_of-requires-clause-least
-owner_of-requires-clause-least g c = rw c.deref.ensures.value (ring_least c.args.edges.now c.args.numbers.now c.args.cycle.now c.in_ok-ring.ring.items c.requires.closes.are_directed c.requires.numbers c.requires.cycle c.in_ok-ring.ensures)
+pub owner_of-owner-requires-clause-least : goal.owner_of-owner-requires-clause-least
+owner_of-owner-requires-clause-least g c = rw c.deref.ensures.value (ring_least c.args.edges.now c.args.numbers.now c.args.cycle.now c.in_ok-ring.ring.items c.requires.closes.are_directed c.requires.numbers c.requires.cycle c.in_ok-ring.ensures)
 
 pub cut-requires-clause-inside : goal.cut-requires-clause-inside
 cut-requires-clause-inside g c = rw c.deref-2.ensures.value (vertices_inside c.args.edges.now c.in_ok-ring.ring.items _ c.requires.places (ring_vertices c.args.edges.now c.args.numbers.now c.args.cycle.now c.in_ok-ring.ring.items c.requires.numbers c.requires.cycle c.in_ok-ring.ensures))
@@ -26,5 +26,8 @@ pub returns-clause-written : goal.returns-clause-written
 returns-clause-written g c = ring_written c.args.edges.now c.args.numbers.now c.args.cycle.now c.in_ok-ring.ring.items _ _ _ c.requires.numbers c.requires.cycle c.in_ok-ring.ensures (rw c.deref-2.ensures.value at c.in_ok-pieces.ensures.pieces) c.in_ok-shell.ensures.added
 
 pub returns-clause-placed : goal.returns-clause-placed
-returns-clause-placed g c = ring_placed c.args.edges.now c.args.numbers.now c.args.cycle.now c.in_ok-ring.ring.items (map (λ p. p.items) c.in_ok-pieces.pieces.items) c.in_ok-owner.owner c.in_ok-shell.shell _ _ _ _ c.index.result.now c.requires.closes.are_directed c.requires.numbers c.requires.cycle
-    c.in_ok-ring.ensures c.index.ensures (rw c.deref-2.ensures.value at c.in_ok-pieces.ensures.pieces) (rw c.deref.ensures.value at c.in_ok-owner.ensures.owner) c.in_ok-shell.ensures.pieces c.keep_shell.ensures
+returns-clause-placed g c = ring_placed c.args.edges.now c.args.numbers.now c.args.cycle.now c.in_ok-ring.ring.items (map (λ p. p.items) c.in_ok-pieces.pieces.items) c.owner_of-owner.result c.in_ok-shell.shell _ _ _ _ c.index.result.now c.requires.closes.are_directed c.requires.numbers c.requires.cycle
+    c.in_ok-ring.ensures c.index.ensures (rw c.deref-2.ensures.value at c.in_ok-pieces.ensures.pieces) (rw c.deref.ensures.value at c.owner_of-owner.ensures) c.in_ok-shell.ensures.pieces c.keep_shell.ensures
+
+pub owner_of-owner-requires-clause-below : goal.owner_of-owner-requires-clause-below
+owner_of-owner-requires-clause-below g c = rw c.deref.ensures.value (below_ring c.args.edges.now c.args.numbers.now c.args.cycle.now c.in_ok-ring.ring.items c.args.below c.requires.numbers c.requires.cycle c.in_ok-ring.ensures c.requires.below)

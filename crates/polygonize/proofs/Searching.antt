@@ -1,0 +1,185 @@
+-- The nearest edges below many vertices, by parts of the vertices and of the edges.
+use Rattle.std.proofs.Common.{◌≡◌, ◌≢◌, ℕ, zero, suc, [], ◌+◌, ◌<◌, ◌≤◌, inl, inr, refl, sym, ◌∙◌, ap, subst, Option, Some, None, List, ◌++◌, ◌∷◌, length, get_or, set, map, take, drop, replicate, arith}
+use Rattle.std.specs.Prelude.{All, Contains, IfSome, ℤ, ◌*ℤ◌, ◌≤ℤ◌}
+use Rattle.std.proofs.lemmas.Bool.{cases_eq, cases_lt}
+use Rattle.std.proofs.lemmas.List.{get_or-set_same, get_or-set_other, get_or_default, get_or_past, length-map, length-set, append-nil, drop_all, take_all}
+use Rattle.std.proofs.lemmas.List.Elements.{All-contains, Contains-append_cases, Contains-get_or}
+use Rattle.geom.specs.declared.point.Pt.{Pt}
+use Rattle.geom.specs.declared.edge.Edge.{Edge}
+use Rattle.geom.specs.declared.directed.DirectedEdge.{DirectedEdge}
+use Rattle.geom.specs.Directed.{Runs}
+use Rattle.geom.specs.Holes.{IsHole, LiesBelow, height, left_of, run_of}
+use Rattle.polygonize.specs.Below.{AreFoundBelow, AreGapsBelow, AreKnown, AreNearer, AreNearerFor, AreNearerSpanning, IsAsNear, IsFoundBelow, IsGapOf, IsLesserGap, RunsBelow, best_at, gap_height, vertex_at}
+use Rattle.polygonize.specs.Column.{AreColumnsOf, IsIn, Meets, Spans}
+use Rattle.polygonize.specs.Next.{edge_at, nothing, ring_of}
+use Rattle.polygonize.specs.declared.below.Gap.{Gap}
+use Rattle.polygonize.specs.declared.column.Columns.{Columns}
+use Rattle.polygonize.proofs.Columns.{below_meets, below_slanted, meets_or_not, spans_or_not}
+use Rattle.polygonize.proofs.Nearness.{by_number, known_lesser, near_first, near_second, nothing_below}
+
+-- ---- one vertex after another
+
+-- the first n of the vertices that are asked for have their gaps
+pub record NearerSoFar (ds : List DirectedEdge) (vertices : List Pt) (asked : List ℕ) (P : ℕ → Type 0) (n : ℕ) (old new : List (Option Gap)) : Type 0 where
+  pub same_length : length new ≡ length old
+  pub known : AreKnown ds vertices new
+  pub kept : (r : ℕ) (d : DirectedEdge) → IsAsNear d (vertex_at vertices r) (best_at old r) → IsAsNear d (vertex_at vertices r) (best_at new r)
+  pub near : (m : ℕ) → m < n → (k : ℕ) → P k → IsAsNear (edge_at ds k) (vertex_at vertices (get_or asked m 0)) (best_at new (get_or asked m 0))
+
+module _ (ds : List DirectedEdge) (vertices : List Pt) (asked : List ℕ) (P : ℕ → Type 0) where
+  pub nobody_asked : (old : List (Option Gap)) → AreKnown ds vertices old → NearerSoFar ds vertices asked P 0 old old
+  nobody_asked old k = record { same_length = refl; known = k; kept = λ r d h. h; near = λ m h. absurd (omega arith) }
+
+  pub all_asked : (n : ℕ) (old new : List (Option Gap)) → length asked ≤ n → NearerSoFar ds vertices asked P n old new → AreNearerFor ds vertices asked P old new
+  all_asked n old new l s = record {
+    same_length = s.same_length;
+    known = s.known;
+    kept = s.kept;
+    near = by_number (λ r. (k : ℕ) → P k → IsAsNear (edge_at ds k) (vertex_at vertices r) (best_at new r)) asked (λ m h. s.near m (omega arith));
+  }
+
+  module _ (n place : ℕ) (old best now : List (Option Gap)) (found least : Option Gap) (e : place ≡ get_or asked n 0) (within : place < length best) (is : now ≡ set best place least) (known : IfSome found (IsGapOf ds (vertex_at vertices place)))
+      (near : (k : ℕ) → P k → IsAsNear (edge_at ds k) (vertex_at vertices place) found) (lesser : IsLesserGap (best_at best place) found least) (s : NearerSoFar ds vertices asked P n old best) where
+    at_place : best_at now place ≡ least
+    at_place = ap (λ t. best_at t place) is ∙ get_or-set_same best place least None within
+
+    elsewhere : (r : ℕ) → r ≢ place → best_at now r ≡ best_at best r
+    elsewhere r d = ap (λ t. best_at t r) is ∙ get_or-set_other best place r least None d
+
+    -- what holds at the place, and of what was kept elsewhere
+    by_place : (Q : ℕ → Option Gap → Type 0) (r : ℕ) → (r ≡ place → Q place least) → (r ≢ place → Q r (best_at best r)) → Q r (best_at now r)
+    by_place Q r h k = elim (cases_eq r place) [
+      | inl same ↦ (let R : ℕ → Type 0 = λ t. Q t (best_at now t) in subst R (sym same) (let R : Option Gap → Type 0 = Q place in subst R (sym at_place) (h same)))
+      | inr other ↦ (let R : Option Gap → Type 0 = Q r in subst R (sym (elsewhere r other)) (k other))
+    ]
+
+    first : (d : DirectedEdge) → IsAsNear d (vertex_at vertices place) (best_at best place) → IsAsNear d (vertex_at vertices place) least
+    first = near_first ds (vertex_at vertices place) (best_at best place) found least (s.known place) known lesser
+
+    second : (d : DirectedEdge) → IsAsNear d (vertex_at vertices place) found → IsAsNear d (vertex_at vertices place) least
+    second = near_second ds (vertex_at vertices place) (best_at best place) found least (s.known place) known lesser
+
+    kept_here : (r : ℕ) (d : DirectedEdge) → IsAsNear d (vertex_at vertices r) (best_at best r) → IsAsNear d (vertex_at vertices r) (best_at now r)
+    kept_here r d h = by_place (λ t g. IsAsNear d (vertex_at vertices t) g) r (λ same. first d (let R : ℕ → Type 0 = λ t. IsAsNear d (vertex_at vertices t) (best_at best t) in subst R same h)) (λ other. h)
+
+    pub one_asked : NearerSoFar ds vertices asked P (n + 1) old now
+    one_asked = record {
+      same_length = ap length is ∙ length-set best place least ∙ s.same_length;
+      known = λ r. by_place (λ t g. IfSome g (IsGapOf ds (vertex_at vertices t))) r (λ same. known_lesser ds (vertex_at vertices place) (best_at best place) found least (s.known place) known lesser) (λ other. s.known r);
+      kept = λ r d h. kept_here r d (s.kept r d h);
+      near = λ m l k p. elim (cases_lt m n) [
+        | inl h ↦ kept_here (get_or asked m 0) (edge_at ds k) (s.near m h k p)
+        | inr h ↦ (let same : m ≡ n = omega arith in let R : ℕ → Type 0 = λ t. IsAsNear (edge_at ds k) (vertex_at vertices t) (best_at now t) in
+            subst R (e ∙ ap (λ t. get_or asked t 0) (sym same)) (let R : Option Gap → Type 0 = IsAsNear (edge_at ds k) (vertex_at vertices place) in subst R (sym at_place) (second (edge_at ds k) (near k p))))
+      ];
+    }
+
+-- ---- parts of the edges, and of the vertices
+
+pub for_fewer : (ds : List DirectedEdge) (vertices : List Pt) (asked : List ℕ) (P Q : ℕ → Type 0) (old new : List (Option Gap)) → ((k : ℕ) → Q k → P k) → AreNearerFor ds vertices asked P old new → AreNearerFor ds vertices asked Q old new
+for_fewer ds vertices asked P Q old new f n = record { same_length = n.same_length; known = n.known; kept = n.kept; near = λ r c k q. n.near r c k (f k q) }
+
+-- of a half of the vertices, those of the edges that don't span all columns
+half_near : (ds : List DirectedEdge) (vertices : List Pt) (half numbers part : List ℕ) (all columns : Columns) (old new : List (Option Gap)) → ((k : ℕ) → Contains numbers k → ¬ (Spans (edge_at ds k) all) → Meets (edge_at ds k) columns → Contains part k)
+    → AreColumnsOf vertices half columns → AreNearer ds vertices half part old new → (r : ℕ) → Contains half r → (k : ℕ) → Contains numbers k → ¬ (Spans (edge_at ds k) all) → IsAsNear (edge_at ds k) (vertex_at vertices r) (best_at new r)
+half_near ds vertices half numbers part all columns old new complete are n r c k m s = elim (meets_or_not (edge_at ds k) columns) [
+  | inl h ↦ n.near r c k (complete k m s h)
+  | inr h ↦ nothing_below (edge_at ds k) (vertex_at vertices r) (best_at new r) (λ f b. h (below_meets (edge_at ds k) columns (vertex_at vertices r) (All-contains (λ r. IsIn columns (vertex_at vertices r)) half r are.each c) f b))
+]
+
+module _ (ds : List DirectedEdge) (vertices : List Pt) (asked first second numbers part rest : List ℕ) (all left right : Columns) (old one two new : List (Option Gap)) where
+  pub halves_near : asked ≡ first ++ second → ((k : ℕ) → Contains numbers k → ¬ (Spans (edge_at ds k) all) → Meets (edge_at ds k) left → Contains part k) → ((k : ℕ) → Contains numbers k → ¬ (Spans (edge_at ds k) all) → Meets (edge_at ds k) right → Contains rest k)
+      → AreColumnsOf vertices first left → AreColumnsOf vertices second right → AreNearerSpanning ds vertices asked numbers all old one → AreNearer ds vertices first part one two → AreNearer ds vertices second rest two new → AreNearer ds vertices asked numbers old new
+  halves_near e p q l r a b c = record {
+    same_length = c.same_length ∙ b.same_length ∙ a.same_length;
+    known = c.known;
+    kept = λ r d h. c.kept r d (b.kept r d (a.kept r d h));
+    near = λ s m k n. elim (spans_or_not (edge_at ds k) all) [
+      | inl h ↦ c.kept s (edge_at ds k) (b.kept s (edge_at ds k) (a.near s m k (n, h)))
+      | inr h ↦ elim (Contains-append_cases first second s (let P : List ℕ → Type 0 = λ t. Contains t s in subst P e m)) [
+        | inl i ↦ c.kept s (edge_at ds k) (half_near ds vertices first numbers part all left one two p l b s i k n h)
+        | inr i ↦ half_near ds vertices second numbers rest all right two new q r c s i k n h
+      ]
+    ];
+  }
+
+take_and_drop : {X : Type 0} (n : ℕ) (xs : List X) → xs ≡ take n xs ++ drop n xs
+take_and_drop zero xs = refl
+take_and_drop (suc n) [] = refl
+take_and_drop (suc n) (x ∷ xs) = ap (λ t. x ∷ t) (take_and_drop n xs)
+
+pub two_parts : {X : Type 0} (xs : List X) (n : ℕ) (first second : List X) → first ≡ take n xs → second ≡ drop n xs → xs ≡ first ++ second
+two_parts xs n first second h k = take_and_drop n xs ∙ (λ i. sym h i ++ sym k i)
+
+-- ---- the beginning and the end
+
+-- only None is what no gap is
+pub none_of : (Q : Option Gap → Type 0) → ((g : Gap) → ¬ (Q (Some g))) → (best : Option Gap) → Q best → best ≡ None
+none_of Q n None q = refl
+none_of Q n (Some g) q = absurd (n g q)
+
+pub none_known : (ds : List DirectedEdge) (vertices : List Pt) (n : ℕ) → AreKnown ds vertices (replicate n None)
+none_known ds vertices n r = let P : Option Gap → Type 0 = λ t. IfSome t (IsGapOf ds (vertex_at vertices r)) in subst P (sym (always_none n r)) tt
+  where
+    always_none : (n r : ℕ) → best_at (replicate n None) r ≡ None
+    always_none zero r = get_or_past [] r None (omega arith)
+    always_none (suc n) zero = refl
+    always_none (suc n) (suc r) = always_none n r
+
+at_found : (ds : List DirectedEdge) (v : Pt) (best : Option Gap) → IfSome best (IsGapOf ds v) → ((k : ℕ) → k < length ds → IsAsNear (edge_at ds k) v best) → IsFoundBelow ds v best
+at_found ds v None h n = λ e b. n b.inside.0 b.inside.1 e (there e b)
+  where
+    there : (e : Edge) (b : LiesBelow ds (left_of v) e) → RunsBelow (edge_at ds b.inside.0) (left_of v) e
+    there e b = record { runs = (let P : DirectedEdge → Type 0 = λ t. Runs t e in subst P (sym b.inside.2 ∙ get_or_default ds b.inside.0 b.edge nothing b.inside.1) b.runs); over = b.over; below = b.below }
+at_found ds v (Some g) h n = (
+  h.inside,
+  record {
+    inside = Contains-get_or ds g.number nothing h.inside;
+    edge = h.gap.edge;
+    runs = h.gap.below.runs;
+    below = record { edge = edge_at ds g.number; inside = Contains-get_or ds g.number nothing h.inside; runs = h.gap.below.runs; over = h.gap.below.over; below = h.gap.below.below };
+    nearest = λ e b. (let P : ℤ → Type 0 = λ t. (t *ℤ run_of e) ≤ℤ (height e (left_of v) *ℤ run_of h.gap.edge) in subst P (sym h.gap.height_is)
+        (let Q : ℤ → Type 0 = λ t. (gap_height g *ℤ run_of e) ≤ℤ (height e (left_of v) *ℤ t) in subst Q (sym h.gap.run_is) (n b.inside.0 b.inside.1 e (there e b))));
+  },
+)
+  where
+    there : (e : Edge) (b : LiesBelow ds (left_of v) e) → RunsBelow (edge_at ds b.inside.0) (left_of v) e
+    there e b = record { runs = (let P : DirectedEdge → Type 0 = λ t. Runs t e in subst P (sym b.inside.2 ∙ get_or_default ds b.inside.0 b.edge nothing b.inside.1) b.runs); over = b.over; below = b.below }
+
+if_below : (d : DirectedEdge) (v : Pt) (best : Option Gap) → ((f : Edge) → RunsBelow d (left_of v) f → IsAsNear d v best) → IsAsNear d v best
+if_below d v None h = λ f r. h f r f r
+if_below d v (Some g) h = λ f r. h f r f r
+
+pub found_all : (ds : List DirectedEdge) (vertices : List Pt) (asked numbers : List ℕ) (old new : List (Option Gap)) → ((k : ℕ) → k < length ds → ¬ ((edge_at ds k).from.x ≡ (edge_at ds k).to.x) → Contains numbers k) → AreNearer ds vertices asked numbers old new
+    → All (λ r. IsFoundBelow ds (vertex_at vertices r) (best_at new r)) asked
+found_all ds vertices asked numbers old new slanted n j d h =
+    let r = get_or asked j d in
+    at_found ds (vertex_at vertices r) (best_at new r) (n.known r) (λ k i. as_near r (Contains-get_or asked j d h) k i)
+  where
+    as_near : (r : ℕ) → Contains asked r → (k : ℕ) → k < length ds → IsAsNear (edge_at ds k) (vertex_at vertices r) (best_at new r)
+    as_near r c k i = if_below (edge_at ds k) (vertex_at vertices r) (best_at new r) (λ f b. n.near r c k (slanted k i (below_slanted (edge_at ds k) (vertex_at vertices r) f b)))
+
+-- the room of a list is written back whole
+pub written_back : {X : Type 0} (n : ℕ) (old new : List X) → n ≡ length new → length new ≡ length old → take n (new ++ drop (length new) old) ≡ new
+written_back n old new e h = ap (λ t. take n (new ++ t)) (drop_all (length new) old (omega (arith, h))) ∙ ap (λ t. take n t) (append-nil new) ∙ take_all n new (omega (arith, e))
+
+-- ---- cycles
+
+mapped_both : {V : Type 0} (f : V → List ℕ) (start : List ℕ → Pt) (cycles : List V) (r : ℕ) → r < length cycles → vertex_at (map (λ v. start (f v)) cycles) r ≡ start (get_or (map f cycles) r [])
+mapped_both f start [] r h = absurd (omega arith)
+mapped_both f start (v ∷ cycles) zero h = refl
+mapped_both f start (v ∷ cycles) (suc r) h = mapped_both f start cycles r (omega arith)
+
+pub below_all : {V : Type 0} (f : V → List ℕ) (ds : List DirectedEdge) (cycles : List V) (vertices : List Pt) (holes : List ℕ) (best : List (Option Gap)) → vertices ≡ map (λ v. (edge_at ds (get_or (f v) 0 0)).from) cycles
+    → ((r : ℕ) → r < length cycles → IsHole (ring_of ds (get_or (map f cycles) r [])) → Contains holes r) → AreGapsBelow ds vertices holes best → AreFoundBelow ds (map f cycles) best
+below_all {V} f ds cycles vertices holes best e complete found = record {
+  same_length = found.same_length ∙ ap length e ∙ length-map cycles start ∙ sym (length-map cycles f);
+  each = λ r h q. (let inside : r < length cycles = (let P : ℕ → Type 0 = λ n. r < n in subst P (length-map cycles f) h) in
+      subst (λ (t : Pt). IsFoundBelow ds t (best_at best r)) (vertex_is r inside) (All-contains (λ r. IsFoundBelow ds (vertex_at vertices r) (best_at best r)) holes r found.each (complete r inside q)));
+}
+  where
+    start : V → Pt
+    start v = (edge_at ds (get_or (f v) 0 0)).from
+
+    vertex_is : (r : ℕ) → r < length cycles → vertex_at vertices r ≡ (edge_at ds (get_or (get_or (map f cycles) r []) 0 0)).from
+    vertex_is r h = ap (λ t. vertex_at t r) e ∙ mapped_both f (λ k. (edge_at ds (get_or k 0 0)).from) cycles r h

@@ -1,0 +1,145 @@
+//! The nearest edges below vertices, for all vertices that are asked for at once.
+//!
+//! 1. The edges that span the columns of these vertices are put into order from low to high. For each vertex a binary
+//!    search finds the nearest one below it.
+//! 2. The vertices are halved. Each half is left with those of the other edges that meet its columns.
+//! 3. Where one vertex is left, the edges that are left are looked at one by one.
+//!
+//! Where the vertices stand from left to right, an edge spans or ends in few of the parts at each depth, so that it is
+//! looked at some log n times. The answers are those for any order.
+
+ghost use Rattle.std.specs.Prelude.{◌≡◌, ℕ, ◌<◌, All, Contains, IfOk, IfSome, IsTrue, OnOk, length};
+ghost use Rattle.geom.specs.Limit.{AreInLimit, InLimit};
+ghost use Rattle.polygonize.specs.Below.{AreGapsBelow, AreKnown, AreNearer, AreNearerSpanning, IsAsNear, IsGapOf};
+ghost use Rattle.polygonize.specs.Column.{AreColumnsOf, IsIn, Spans};
+ghost use Rattle.polygonize.specs.Ladder.{IsLadder};
+ghost use Rattle.polygonize.specs.Next.{edge_at};
+
+use crate::below::{Gap, nearer, nearest_among};
+use crate::column::{Columns, columns_of, meeting, slanted};
+use crate::ladder::{highest_below, is_ladder, spanning};
+use geom::{DirectedEdge, NoMemory, Pt};
+use std::alloc::Allocator;
+
+/// The gap to the nearest of some edges below the point just left of v, by a binary search where they are a ladder.
+fn nearest_of(
+    edges: &[DirectedEdge],
+    numbers: &[usize],
+    columns: Columns,
+    is_ladder: bool,
+    v: Pt,
+) -> Option<Gap>
+    requires edges_in { All (λ d. AreInLimit d.from d.to) edges.now }
+    requires v_in { InLimit v }
+    requires inside { All (λ k. k < length edges.now) numbers.now }
+    requires ladder { IsTrue is_ladder → IsLadder edges.now columns numbers.now }
+    requires column { IsTrue is_ladder → IsIn columns v }
+    ensures known { IfSome result (λ g. IsGapOf edges.now v g) }
+    ensures near { (k : ℕ) → Contains numbers.now k → IsAsNear (edge_at edges.now k) v result }
+{
+    if is_ladder {
+        highest_below(edges, numbers, v)
+    } else {
+        nearest_among(edges, numbers, v)
+    }
+}
+
+/// Takes some edges into account, for each of the vertices that are asked for.
+fn add_edges(
+    edges: &[DirectedEdge],
+    vertices: &[Pt],
+    asked: &[usize],
+    numbers: &[usize],
+    columns: Columns,
+    is_ladder: bool,
+    best: &mut [Option<Gap>],
+)
+    requires edges_in { All (λ d. AreInLimit d.from d.to) edges.now }
+    requires vertices_in { All InLimit vertices.now }
+    requires asked_in { All (λ r. r < length vertices.now) asked.now }
+    requires numbers_in { All (λ k. k < length edges.now) numbers.now }
+    requires same_length { length best.old ≡ length vertices.now }
+    requires known { AreKnown edges.now vertices.now best.old }
+    requires ladder { IsTrue is_ladder → IsLadder edges.now columns numbers.now }
+    requires columns { IsTrue is_ladder → AreColumnsOf vertices.now asked.now columns }
+    ensures { AreNearer edges.now vertices.now asked.now numbers.now best.old best.new }
+{
+    for place in asked {
+        let found = nearest_of(edges, numbers, columns, is_ladder, vertices[*place]);
+        best[*place] = nearer(best[*place], found);
+    }
+}
+
+/// Takes the edges that span the columns into account, for each of the vertices that are asked for.
+fn add_spanning<A: Allocator + Copy>(
+    alloc: A,
+    edges: &[DirectedEdge],
+    vertices: &[Pt],
+    asked: &[usize],
+    numbers: &[usize],
+    columns: Columns,
+    best: &mut [Option<Gap>],
+) -> Result<(), NoMemory>
+    requires edges_in { All (λ d. AreInLimit d.from d.to) edges.now }
+    requires vertices_in { All InLimit vertices.now }
+    requires asked_in { All (λ r. r < length vertices.now) asked.now }
+    requires numbers_in { All (λ k. k < length edges.now) numbers.now }
+    requires same_length { length best.old ≡ length vertices.now }
+    requires known { AreKnown edges.now vertices.now best.old }
+    requires columns { AreColumnsOf vertices.now asked.now columns }
+    ensures { OnOk result (AreNearerSpanning edges.now vertices.now asked.now numbers.now columns best.old best.new) }
+{
+    let ladder = spanning(alloc, edges, numbers, columns)?;
+    let ordered = is_ladder(edges, &ladder, columns);
+    add_edges(edges, vertices, asked, &ladder, columns, ordered, best);
+    Ok(())
+}
+
+/// Takes edges into account, for each of the vertices that are asked for.
+fn add<A: Allocator + Copy>(
+    alloc: A,
+    edges: &[DirectedEdge],
+    vertices: &[Pt],
+    asked: &[usize],
+    numbers: &[usize],
+    best: &mut [Option<Gap>],
+) -> Result<(), NoMemory>
+    requires edges_in { All (λ d. AreInLimit d.from d.to) edges.now }
+    requires vertices_in { All InLimit vertices.now }
+    requires asked_in { All (λ r. r < length vertices.now) asked.now }
+    requires numbers_in { All (λ k. k < length edges.now) numbers.now }
+    requires same_length { length best.old ≡ length vertices.now }
+    requires known { AreKnown edges.now vertices.now best.old }
+    ensures { OnOk result (AreNearer edges.now vertices.now asked.now numbers.now best.old best.new) }
+{
+    let columns = columns_of(vertices, asked);
+    if asked.len() < 2 || numbers.is_empty() {
+        add_edges(edges, vertices, asked, numbers, columns, false, best);
+        return Ok(());
+    }
+    add_spanning(alloc, edges, vertices, asked, numbers, columns, best)?;
+    let (first, second) = asked.split_at(asked.len() / 2);
+    let part = meeting(alloc, edges, numbers, columns, columns_of(vertices, first))?;
+    add(alloc, edges, vertices, first, &part, best)?;
+    let rest = meeting(alloc, edges, numbers, columns, columns_of(vertices, second))?;
+    add(alloc, edges, vertices, second, &rest, best)?;
+    Ok(())
+}
+
+/// For each vertex that is asked for the gap to the nearest edge below the point just left of it.
+pub fn gaps_below<A: Allocator + Copy>(
+    alloc: A,
+    edges: &[DirectedEdge],
+    vertices: &[Pt],
+    asked: &[usize],
+) -> Result<Vec<Option<Gap>, A>, NoMemory>
+    requires edges_in { All (λ d. AreInLimit d.from d.to) edges.now }
+    requires vertices_in { All InLimit vertices.now }
+    requires asked_in { All (λ r. r < length vertices.now) asked.now }
+    ensures { IfOk result (λ best. AreGapsBelow edges.now vertices.now asked.now best.items) }
+{
+    let mut best = vec![in alloc; None; vertices.len()]?;
+    let numbers = slanted(alloc, edges)?;
+    add(alloc, edges, vertices, asked, &numbers, &mut best)?;
+    Ok(best)
+}
