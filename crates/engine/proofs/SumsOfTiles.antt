@@ -57,14 +57,14 @@ fits (x ∷ xs) ys d f =
     let s = r.shorter in
     omega (arith, h, s)
 
-same_length : {X : Type 0} (xs ys : List X) → Distinct xs → Distinct ys → ((z : X) → In z xs → In z ys) → ((z : X) → In z ys → In z xs) → length xs ≡ length ys
+pub same_length : {X : Type 0} (xs ys : List X) → Distinct xs → Distinct ys → ((z : X) → In z xs → In z ys) → ((z : X) → In z ys → In z xs) → length xs ≡ length ys
 same_length xs ys d e f g = omega (arith, fits xs ys d f, fits ys xs e g)
 
-distinct_append : {X : Type 0} (xs ys : List X) → Distinct xs → Distinct ys → ((z : X) → In z xs → In z ys → ⊥) → Distinct (xs ++ ys)
+pub distinct_append : {X : Type 0} (xs ys : List X) → Distinct xs → Distinct ys → ((z : X) → In z xs → In z ys → ⊥) → Distinct (xs ++ ys)
 distinct_append [] ys d e f = e
 distinct_append (x ∷ xs) ys d e f = (λ i. ⊎_elim d.0 (λ j. f x (inl refl) j) (in_append xs ys x i), distinct_append xs ys d.1 e (λ z i j. f z (inr i) j))
 
-distinct_from : {X : Type 0} (R : X → X → Type 0) (xs : List X) → AllPairs R xs → ((x : X) → In x xs → R x x → ⊥) → Distinct xs
+pub distinct_from : {X : Type 0} (R : X → X → Type 0) (xs : List X) → AllPairs R xs → ((x : X) → In x xs → R x x → ⊥) → Distinct xs
 distinct_from R [] h n = tt
 distinct_from R (x ∷ xs) h n = (λ i. n x (inl refl) (pairs_head R x xs h x i), distinct_from R xs (pairs_tail R x xs h) (λ z i. n z (inr i)))
 
@@ -143,11 +143,11 @@ same_sum : {X : Type 0} (Is One Other : X → Type 0) (m n : ℕ) → IsPart Is 
 same_sum Is One Other m n p q f g = p.number_is ∙ same_length p.those q.those p.distinct q.distinct (λ z i. let h = p.is z i in q.all z h (g z h)) (λ z i. let h = q.is z i in p.all z h (f z h)) ∙ sym q.number_is
 
 -- ---- hot pixels and records
-abbrev Has : Tiling → ℕ → Record → Type 0
+abbrev pub Has : Tiling → ℕ → Record → Type 0
 Has g k r = Owns g k r.pixel
 
 module _ (g : Tiling) (segments : List Seg) (k : ℕ) (hot : ℕ) (records : List Record) (p : IsPieceOf (Owns g k) segments hot records) where
-  hot_part : IsPart (IsHot segments) (Owns g k) hot
+  pub hot_part : IsPart (IsHot segments) (Owns g k) hot
   hot_part = record {
     those = p.pixels;
     distinct = distinct_from IsBefore p.pixels p.are_hot.ascending (λ x i h. before_itself x h);
@@ -163,7 +163,7 @@ module _ (g : Tiling) (segments : List Seg) (k : ℕ) (hot : ℕ) (records : Lis
       let is = ((p.exact r).0 (in_contains records r i)).0 in
       before_irrefl _ r.pixel (order_by_earlier is.s r.pixel r.pixel is.met is.met (h.1 is.s is.is_at))
 
-  record_part : (n : ℕ) → n ≡ length records → IsPart (IsRecord segments) (Has g k) n
+  pub record_part : (n : ℕ) → n ≡ length records → IsPart (IsRecord segments) (Has g k) n
   record_part n e = record {
     those = records;
     distinct = distinct_from (IsAlong segments) records p.ordered not_along;

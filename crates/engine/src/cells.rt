@@ -4,7 +4,7 @@
 //! 2. The pieces are made and gathered as those of the cells.
 //! 3. A tile has what its cells have together (`tile_numbers`).
 
-ghost use Rattle.std.specs.Prelude.{◌≡◌, ◌≤◌, ◌+◌, IfOk};
+ghost use Rattle.std.specs.Prelude.{◌≡◌, ◌<◌, ◌≤◌, ◌+◌, IfOk, Some, length, slice_get};
 ghost use Rattle.geom.specs.Limit.{InLimit};
 ghost use Rattle.tiling.specs.Cells.{AreCells, IsUpTo, LieIn};
 ghost use Rattle.tiling.specs.Tiles.{tile_count};
@@ -27,6 +27,7 @@ const SEGMENTS: usize = 4096;
 const HALVINGS: u32 = 21;
 
 /// The cells for workers over segments: the tiles of a grid, or where these are too few, their halves, and so on.
+#[tactic(auto, using(crate::proofs::Cutting::lie_itself))]
 pub(crate) fn cells_of(grid: &Grid, workers: u32, segments: &[Seg]) -> Grid
     requires workers { workers ≤ 64 }
     requires in_limit { AllInLimit segments.now }
@@ -34,26 +35,38 @@ pub(crate) fn cells_of(grid: &Grid, workers: u32, segments: &[Seg]) -> Grid
     ensures lie { LieIn result grid.now }
     ensures covered { HaveTiles result segments.now }
 {
-    let mut cells = *grid;
     if workers <= 1 || segments.len() < SEGMENTS {
-        return cells;
+        return *grid;
     }
+    cut(grid, CELLS * workers, segments)
+}
+
+/// The tiles of a grid, halved until there are so many over segments, or none may be halved.
+fn cut(grid: &Grid, wanted: u32, segments: &[Seg]) -> Grid
+    requires in_limit { AllInLimit segments.now }
+    requires covered { HaveTiles grid.now segments.now }
+    ensures lie { LieIn result grid.now }
+    ensures covered { HaveTiles result segments.now }
+{
     let corner = corner_of(segments);
-    for _ in 0..HALVINGS {
-        if cells.tiles() < CELLS * workers {
-            cells = halved(&cells, corner);
-        }
+    let mut cells = *grid;
+    for _halving in 0..HALVINGS {
+        cells = finer(&cells, wanted, corner);
     }
     cells
 }
 
-/// A grid halved, where that may be.
-fn halved(grid: &Grid, corner: Pt) -> Grid
+/// A grid, or where it has too few tiles and they may be halved, its halves.
+#[tactic(auto, using(crate::proofs::Cutting::cells_itself))]
+fn finer(grid: &Grid, wanted: u32, corner: Pt) -> Grid
     requires { InLimit corner }
     ensures { AreCells grid.now corner result }
 {
+    if grid.tiles() >= wanted {
+        return *grid;
+    }
     match grid.halved(corner) {
-        Some(finer) => finer,
+        Some(cells) => cells,
         None => *grid,
     }
 }
@@ -102,10 +115,20 @@ pub(crate) fn tile_numbers<T: Tiled, A: Allocator>(
     let none = TileNumbers { hot: 0, records: 0 };
     let mut tiles = vec![in alloc; none; grid.tiles() as usize]?;
     for cell in 0..cells.tiles() {
+        let part = numbers_at(numbers, cell as usize);
         let tile = grid.tile_of(cells.rect(cell).lo) as usize;
-        tiles[tile] = sum(tiles[tile], numbers[cell as usize])?;
+        let old = numbers_at(&tiles, tile);
+        tiles[tile] = sum(old, part)?;
     }
     Ok(tiles)
+}
+
+/// The numbers at a place.
+fn numbers_at(list: &[TileNumbers], place: usize) -> TileNumbers
+    requires { place < length list.now }
+    ensures { slice_get list.now place ≡ Some result }
+{
+    list[place]
 }
 
 /// The numbers of two parts together.
