@@ -10,6 +10,7 @@ use std::alloc::Allocator;
 use std::thread::Threads;
 
 mod plain;
+mod stripes;
 
 type Row = (i32, i32, i32, i32, u32, u32);
 

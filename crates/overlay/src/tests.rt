@@ -12,8 +12,11 @@ use std::test::Fail;
 use std::thread::Threads;
 use tile_book::{Gate, OpenGate};
 
+mod labelled;
 mod operations;
 mod plans;
+mod refusals;
+mod refusing;
 mod sinks;
 mod streams;
 
@@ -22,7 +25,7 @@ const SQUARE: &str = "POLYGON ((0 0, 4 0, 4 4, 0 4, 0 0))\n";
 const OTHER: &str = "POLYGON ((2 2, 6 2, 6 6, 2 6, 2 2))\n";
 
 /// Files in memory, by name.
-const TEXTS: [(&str, &str); 17] = [
+const TEXTS: [(&str, &str); 19] = [
     ("square", SQUARE),
     ("other", OTHER),
     ("windows", "POLYGON ((0 0, 4 0,\r\n4 4, 0 4, 0 0))\r\n"),
@@ -35,6 +38,9 @@ const TEXTS: [(&str, &str); 17] = [
     ("cut", "POLYGON ((0 0"),
     ("joined", "POLYGON EMPTYPOLYGON EMPTY"),
     ("bare", "POLYGON (0 0, 1 0, 0 1, 0 0)"),
+    // The whole text is looked at before any number, whether it is in range or not.
+    ("ends", "POLYGON ((99999999 0, 1 0, 1 1)"),
+    ("ends outside", "POLYGON ((999999999 0, 1 0, 1 1)"),
     ("outside", "POLYGON ((0 0, 268435457 0, 0 1, 0 0))"),
     ("whole", plans::WHOLE),
     ("short", "POLYGON ((0 0, 1 0, 0 1))"),
@@ -99,15 +105,15 @@ impl Files for MemFiles {
 }
 
 /// Writes the result of an operation on two layers, or their edges.
-fn overlaid<G: Gate + Sync, S: Sink, R: Threads + Wait + Sync>(
+fn overlaid<A: Allocator + Copy + Send + Sync, G: Gate + Sync, S: Sink, R: Threads + Wait + Sync>(
     rt: &R,
-    alloc: Global,
+    alloc: A,
     op: Option<Op>,
     layers: (&str, &str),
     plan: Plan,
     gate: &G,
     sink: &mut S,
-) -> Result<Report<Global>, RunFault>
+) -> Result<Report<A>, RunFault>
     requires { S.failed sink.old < u64.MAX }
 {
     let (a, b) = (layers.0.as_bytes(), layers.1.as_bytes());
@@ -194,7 +200,7 @@ const PARSER: Told = Told::Begins("error: ");
 /// A command line behind the program's name, its exit status, and what it prints to standard output and standard error.
 type Case = (&'static [&'static str], u8, &'static str, Told);
 
-const CASES: [Case; 44] = [
+const CASES: [Case; 48] = [
     (
         &["intersection", "square", "other", "--tile=16", "--report"],
         0,
@@ -380,6 +386,30 @@ const CASES: [Case; 44] = [
         3,
         "",
         Told::Text("overlay: B: 1 syntax at 9\n"),
+    ),
+    (
+        &["edges", "ends", "empty"],
+        3,
+        "",
+        Told::Text("overlay: A: 1 syntax at 31\n"),
+    ),
+    (
+        &["edges", "empty", "ends"],
+        3,
+        "",
+        Told::Text("overlay: B: 1 syntax at 31\n"),
+    ),
+    (
+        &["union", "ends outside", "empty"],
+        3,
+        "",
+        Told::Text("overlay: A: 1 syntax at 32\n"),
+    ),
+    (
+        &["union", "empty", "ends outside"],
+        3,
+        "",
+        Told::Text("overlay: B: 1 syntax at 32\n"),
     ),
     (
         &["edges", "outside", "empty"],

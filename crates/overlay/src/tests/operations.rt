@@ -1,14 +1,13 @@
 //! The four operations on small layers, whose results were worked out by hand from the rules.
 
 use super::plans::{APART, BROAD, LARGE, LARGE_OTHER, VAST, VAST_OTHER, WHOLE};
-use super::{LINE, OTHER, SQUARE, is_overlaid, overlaid};
-use engine::{MemSink, Plan};
-use geom::{Fault, NoMemory, Op};
+use super::{LINE, OTHER, SQUARE, is_overlaid};
+use engine::Plan;
+use geom::{NoMemory, Op};
 use std::alloc::Global;
 use std::sync::Wait;
 use std::test::Fail;
 use std::thread::Threads;
-use tile_book::OpenGate;
 
 /// Two layers, an operation, and its result.
 type Row = (&'static str, &'static str, Op, &'static str);
@@ -214,79 +213,6 @@ fn overlays_rows(rt: HostRuntime) -> Result<(), Fail> {
     }
     for reported in REPORTED {
         assert!(rt; is_given(&rt, rt.alloc(), reported)?, "{reported:?}");
-    }
-    Ok(())
-}
-
-/// An operation, or edges, of a layer and nothing, the side of a tile, the room of the sink, what the run is refused for,
-/// and what the sink has then.
-type Refused = (Option<Op>, &'static str, u32, usize, Fault, &'static str);
-
-const REFUSED: [Refused; 8] = [
-    (Some(Op::Union), SQUARE, 16, 5, Fault::Write, "MULTI"),
-    (None, SQUARE, 16, 5, Fault::Write, "0 0 0"),
-    (Some(Op::Union), SQUARE, 15, 100, Fault::BadTile, ""),
-    (
-        Some(Op::Union),
-        "POLYGON ((0 0, 1 0, 0 1))",
-        16,
-        100,
-        Fault::RingShort(9),
-        "",
-    ),
-    (
-        Some(Op::Union),
-        BROAD,
-        16,
-        100,
-        Fault::TooManyTiles(4_398_050_705_409),
-        "",
-    ),
-    (
-        None,
-        BROAD,
-        16,
-        100,
-        Fault::TooManyTiles(4_398_050_705_409),
-        "",
-    ),
-    (
-        Some(Op::Union),
-        WHOLE,
-        16,
-        100,
-        Fault::TooManyTiles(1_125_899_973_951_489),
-        "",
-    ),
-    (
-        None,
-        WHOLE,
-        16,
-        100,
-        Fault::TooManyTiles(1_125_899_973_951_489),
-        "",
-    ),
-];
-
-/// Whether a run with a second layer of no segments is refused for this, and has written so much.
-fn is_refused<R: Threads + Wait + Sync>(
-    rt: &R,
-    alloc: Global,
-    refused: Refused,
-) -> Result<bool, NoMemory> {
-    let (op, a, side, room, fault, written) = refused;
-    let plan = Plan { side, workers: 2 };
-    let mut sink = MemSink::new(alloc, room)?;
-    let answer = overlaid(rt, alloc, op, (a, ""), plan, &OpenGate, &mut sink);
-    let found = answer.err().map(|found| found.fault);
-    Ok(found == Some(fault) && sink.bytes() == written.as_bytes())
-}
-
-#[test]
-fn refuses_to_overlay(rt: HostRuntime) -> Result<(), Fail> {
-    for refused in REFUSED {
-        let (_, a, ..) = refused;
-        assert!(rt; is_refused(&rt, rt.alloc(), refused)?, "{a}");
     }
     Ok(())
 }

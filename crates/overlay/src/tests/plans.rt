@@ -1,10 +1,14 @@
 //! The rounded edges of two layers, by plans of all kinds.
 
 use super::{BENT, BOW, OTHER, SQUARE, SQUARES, TWICE, is_overlaid, overlaid};
-use engine::{MemSink, Plan, fitting_side};
+use engine::{MemSink, Plan, Report, fitting_side};
+use geom::{NoMemory, Op};
+use std::alloc::Global;
+use std::sync::Wait;
 use std::sync::atomic::{AtomicBool, Ordering};
 use std::test::Fail;
 use std::thread;
+use std::thread::Threads;
 use tile_book::{Gate, OpenGate, Phase};
 
 /// Two layers, the side of a tile, their edges, and how the report begins.
@@ -149,8 +153,11 @@ fn rounds_rows(rt: HostRuntime) -> Result<(), Fail> {
     Ok(())
 }
 
-/// Tiles of the greatest side over the whole range, each with its hot pixels and its records.
-const CORNERS: [(usize, (u32, u32)); 7] = [
+/// Some tiles, each with its hot pixels and its records.
+type Tiles = &'static [(usize, (u32, u32))];
+
+/// Of the greatest side over the whole range: the four corners have all.
+const CORNERS: Tiles = &[
     (0, (1, 2)),
     (1, (0, 0)),
     (16, (1, 2)),
@@ -160,26 +167,62 @@ const CORNERS: [(usize, (u32, u32)); 7] = [
     (288, (1, 2)),
 ];
 
-/// Over the whole range the four corners have all hot pixels and records.
+/// Of side 16 over the two large squares: the eight corners and the two crossings have all.
+const FINE: Tiles = &[
+    (0, (1, 2)),
+    (25, (1, 2)),
+    (468, (1, 2)),
+    (480, (0, 0)),
+    (481, (1, 2)),
+    (482, (0, 0)),
+    (493, (1, 2)),
+    (950, (1, 2)),
+    (962, (1, 2)),
+    (975, (1, 2)),
+    (1418, (1, 2)),
+    (1443, (1, 2)),
+];
+
+/// Two layers, the side of a tile, the numbers of tiles, hot pixels and records, and some of the tiles.
+type Tiled = ((&'static str, &'static str), u32, (usize, u64, u64), Tiles);
+
+const TILED: [Tiled; 2] = [
+    ((WHOLE, ""), 33_554_432, (289, 4, 8), CORNERS),
+    ((LARGE, LARGE_OTHER), 16, (1444, 10, 20), FINE),
+];
+
+/// Whether a report has these numbers, and these of some tiles.
+fn has_tiles(report: &Report<Global>, numbers: (usize, u64, u64), tiles: Tiles) -> bool {
+    (report.tiles.len(), report.hot, report.records) == numbers
+        && tiles.iter().all(|(number, tile)| report.tiles.get(*number).copied() == Some(*tile))
+}
+
+/// Whether the report of an operation, or of the edges, has the tiles' numbers.
+fn is_tiled<R: Threads + Wait + Sync>(
+    rt: &R,
+    alloc: Global,
+    op: Option<Op>,
+    tiled: Tiled,
+    workers: u32,
+) -> Result<bool, NoMemory> {
+    let (layers, side, numbers, tiles) = tiled;
+    let plan = Plan { side, workers };
+    let mut sink = MemSink::new(alloc, 4000)?;
+    let answer = overlaid(rt, alloc, op, layers, plan, &OpenGate, &mut sink);
+    Ok(answer.is_ok_and(|report| has_tiles(&report, numbers, tiles)))
+}
+
 #[test]
-fn rounds_the_whole_range(rt: HostRuntime) -> Result<(), Fail> {
-    let plan = Plan {
-        side: 33_554_432,
-        workers: 2,
-    };
-    let mut sink = MemSink::new(rt.alloc(), 4000)?;
-    let report = overlaid(
-        &rt,
-        rt.alloc(),
-        None,
-        (WHOLE, ""),
-        plan,
-        &OpenGate,
-        &mut sink,
-    )?;
-    assert!(rt; report.tiles.len() == 289 && report.hot == 4 && report.records == 8);
-    for (number, tile) in CORNERS {
-        assert!(rt; report.tiles.get(number).copied() == Some(tile), "{number}");
+fn reports_tiles(rt: HostRuntime) -> Result<(), Fail> {
+    for tiled in TILED {
+        for op in [None, Some(Op::Intersection)] {
+            for workers in [1, 3, 64] {
+                assert!(rt;
+                    is_tiled(&rt, rt.alloc(), op, tiled, workers)?,
+                    "{op:?} {workers}"
+                );
+            }
+        }
     }
     Ok(())
 }
@@ -212,9 +255,12 @@ impl Gate for Holding {
     }
 }
 
-/// Two workers are at work at the same time.
-#[test]
-fn works_side_by_side(rt: HostRuntime) -> Result<(), Fail> {
+/// Whether two workers are at work at the same time.
+fn is_shared<R: Threads + Wait + Sync>(
+    rt: &R,
+    alloc: Global,
+    op: Option<Op>,
+) -> Result<bool, NoMemory> {
     let gate = Holding {
         seen: AtomicBool::new(false),
         gave_up: AtomicBool::new(false),
@@ -223,14 +269,16 @@ fn works_side_by_side(rt: HostRuntime) -> Result<(), Fail> {
         side: 16,
         workers: 2,
     };
-    let mut sink = MemSink::new(rt.alloc(), 4000)?;
-    let layers = (LARGE, LARGE_OTHER);
-    let report = overlaid(&rt, rt.alloc(), None, layers, plan, &gate, &mut sink)?;
-    assert!(rt;
-        gate.seen.load(Ordering::SeqCst)
-            && !gate.gave_up.load(Ordering::SeqCst)
-            && report.tiles.get(481).copied() == Some((1, 2))
-    );
+    let mut sink = MemSink::new(alloc, 4000)?;
+    let answer = overlaid(rt, alloc, op, (LARGE, LARGE_OTHER), plan, &gate, &mut sink);
+    Ok(answer.is_ok() && gate.seen.load(Ordering::SeqCst) && !gate.gave_up.load(Ordering::SeqCst))
+}
+
+#[test]
+fn works_side_by_side(rt: HostRuntime) -> Result<(), Fail> {
+    for op in [None, Some(Op::Intersection)] {
+        assert!(rt; is_shared(&rt, rt.alloc(), op)?, "{op:?}");
+    }
     Ok(())
 }
 
