@@ -99,10 +99,13 @@ module _ (segments : List Seg) where
 
   along : (r q : Record) → IsRecord segments r → IsRecord segments q → IsRecordBefore r q → IsAlong segments r q
   along r q h k (inl l) = inl l
-  along r q h k (inr (e, l)) = inr (e, λ s at.
-      let a = step_is r r h s at in
-      let b = step_is q q k s (subst (λ (n : ℕ). slice_get segments n ≡ Some s) e at) in
-      earlier_from_steps s r.pixel q.pixel a.0 b.0 (below a.1 b.1 l))
+  along r q h k (inr (e, l)) = inr (
+    e,
+    λ s at.
+        let a = step_is r r h s at in
+        let b = step_is q q k s (subst (λ (n : ℕ). slice_get segments n ≡ Some s) e at) in
+        earlier_from_steps s r.pixel q.pixel a.0 b.0 (below a.1 b.1 l),
+  )
     where
       below : {a b c d : ℕ} → a ≡ c → b ≡ d → a < b → c < d
       below {a} {b} {c} {d} e f l = omega arith
@@ -316,8 +319,8 @@ module _ (g f : Tiling) (segments : List Seg) where
       whole : (j : ℕ) (n : TileNumbers) → Tells (tile_count f) j n → (records : List Record) × IsPieceOf (Owns g j) segments n.hot records × (n.records ≡ length records)
       whole j n t =
           let p = piece_of segments (Owns g j) n.hot n.records
-              (renamed (IsHot segments) (IsFrom (tile_count f) j) (Owns g j) n.hot t.hot (λ p o. o.in_tile) (λ p i o. owned j p i o))
-              (renamed (IsRecord segments) (λ r. IsFrom (tile_count f) j r.pixel) (Has g j) n.records t.records (λ r o. o.in_tile) (λ r i o. owned j r.pixel i.hot o)) in
+          (renamed (IsHot segments) (IsFrom (tile_count f) j) (Owns g j) n.hot t.hot (λ p o. o.in_tile) (λ p i o. owned j p i o))
+          (renamed (IsRecord segments) (λ r. IsFrom (tile_count f) j r.pixel) (Has g j) n.records t.records (λ r o. o.in_tile) (λ r i o. owned j r.pixel i.hot o)) in
           (p.records, p.is_piece, p.count_is)
 
 -- a rectangle has its own corner

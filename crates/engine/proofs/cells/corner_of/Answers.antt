@@ -10,7 +10,7 @@ loop-segment-preserved c =
     let mid = c.up_to.ensures in
     let new = c.up_to-corner.ensures in
     corner_next c.args.segments.now c.loop-segment.segment-index c.loop-segment.corner c.up_to.result c.up_to-corner.result c.segment-item.result c.segment-item.is c.loop-segment-test.true c.requires
-        mid.first mid.second mid.in_limit new.first new.second new.in_limit c.loop-segment.invariant
+    mid.first mid.second mid.in_limit new.first new.second new.in_limit c.loop-segment.invariant
 
 pub returns-clause-in_limit : goal.returns-clause-in_limit
 returns-clause-in_limit c = c.loop-segment.invariant.in_limit

@@ -18,8 +18,8 @@ pub loop-cell-preserved : goal.loop-cell-preserved
 loop-cell-preserved g c =
     let corner = c.rect.result.lo in
     added_more c.args.grid.now c.args.cells.now g.T.Tiled.segments c.requires.lie c.loop-cell.cell c.tile_of-tile.result corner ((c.rect.ensures.exact corner).0 (in_own_box c.rect.result)) c.tile_of-tile.ensures.owner
-        c.args.numbers.now c.loop-cell.tiles.items c.numbers_at-old.result c.numbers_at-part.result c.in_ok-tiles-2.field-0 c.requires.numbers c.loop-cell.invariant c.numbers_at-part.ensures (rw (← c.deref.ensures.value) c.numbers_at-old.ensures)
-        c.in_ok-tiles-2.ensures.hot c.in_ok-tiles-2.ensures.records
+    c.args.numbers.now c.loop-cell.tiles.items c.numbers_at-old.result c.numbers_at-part.result c.in_ok-tiles-2.field-0 c.requires.numbers c.loop-cell.invariant c.numbers_at-part.ensures (rw (← c.deref.ensures.value) c.numbers_at-old.ensures)
+    c.in_ok-tiles-2.ensures.hot c.in_ok-tiles-2.ensures.records
 
 pub returns : goal.returns
 returns g c =
@@ -29,4 +29,4 @@ returns g c =
     let count = c.tiles-cell-end.ensures.value in
     let all : c.loop-cell.cell ≡ tile_count cells = omega (arith, past, within, count) in
     added_all c.args.grid.now cells g.T.Tiled.segments c.loop-cell.tiles.items (are_covered cells g.T.Tiled.segments c.requires.covered)
-        (subst (λ (n : ℕ). AreAdded c.args.grid.now cells g.T.Tiled.segments n c.loop-cell.tiles.items) all c.loop-cell.invariant)
+    (subst (λ (n : ℕ). AreAdded c.args.grid.now cells g.T.Tiled.segments n c.loop-cell.tiles.items) all c.loop-cell.invariant)

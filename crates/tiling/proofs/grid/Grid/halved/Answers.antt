@@ -30,5 +30,5 @@ returns c =
     let h : FitsSigned w32 c.args.corner.x = search rules in
     let k : FitsSigned w32 c.args.corner.y = search rules in
     halves_of c.args.self.now _ _ c.args.corner c.self.view_is (to_z-of_z f) (to_z-of_z g) (even c.self.inside.side c.if-self-eq1.false)
-        (record { inside = c.cells_over-columns.ensures.inside; reaches = λ x n r is l. c.cells_over-columns.ensures.reaches x n (rw (to_z-of_z h) r) is l })
-        (record { inside = c.cells_over-rows.ensures.inside; reaches = λ x n r is l. c.cells_over-rows.ensures.reaches x n (rw (to_z-of_z k) r) is l })
+    (record { inside = c.cells_over-columns.ensures.inside; reaches = λ x n r is l. c.cells_over-columns.ensures.reaches x n (rw (to_z-of_z h) r) is l })
+    (record { inside = c.cells_over-rows.ensures.inside; reaches = λ x n r is l. c.cells_over-rows.ensures.reaches x n (rw (to_z-of_z k) r) is l })
