@@ -1,5 +1,5 @@
 -- It asks the allocator behind, and refuses the one request. Assumes `Logic`.
-use Rattle.std.proofs.Common.{◌≡◌, ℕ, ◌+◌, ◌^◌, ◌<◌, true, false, List, [], ◌∷◌, ◌++◌, ◌∙◌, Ok, Err, Some, None, Option, refl, sym, ap, subst, T, lit<, w64, Bor}
+use Rattle.std.proofs.Common.{◌≡◌, ℕ, ◌^◌, ◌<◌, true, false, List, [], ◌∷◌, ◌++◌, ◌∙◌, Ok, Err, Some, None, Option, refl, sym, ap, subst, T, lit<, w64, Bor}
 use Rattle.std.specs.Prelude.{IfSome}
 use seplogic.Ra.Ura.{Ura}
 use mir.Syntax.{Ty, Args, Fn, Callee, a_type, dnil, dcons, named, place}
