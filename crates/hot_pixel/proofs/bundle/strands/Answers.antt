@@ -16,7 +16,7 @@ loop-line-preserved g c =
     let low = to_z w32 (of_z w32 c.args.low) in
     let high = to_z w32 (of_z w32 c.args.high) in
     rw c.in_ok-push.ensures.items (strands_more c.args.course low high c.args.lines.now c.loop-line.line-index c.line-item.result c.loop-line.list.items c.strand_of-strand.result c.loop-line-test.true c.line-item.is c.loop-line.invariant
-        (c.seen-edge.result, c.seen-edge.ensures, c.strand_of-strand.ensures))
+    (c.seen-edge.result, c.seen-edge.ensures, c.strand_of-strand.ensures))
 
 pub returns : goal.returns
 returns g c =
