@@ -88,7 +88,7 @@ checked plan a b cs report h = record {
   covers = grid_covers h.ready.is_grid.bounds plan.side h.grid (some_side plan.side h.ready.planned.side.0) h.ready.is_grid.is_grid;
 }
 
-tiles_cover : {M : Type 0} (plan : Plan) (a b : List ℕ) (cs : List Counted) (report : Report M) (h : Reports plan a b cs report) → AreCovered h.grid h.rounded.segments
+pub tiles_cover : {M : Type 0} (plan : Plan) (a b : List ℕ) (cs : List Counted) (report : Report M) (h : Reports plan a b cs report) → AreCovered h.grid h.rounded.segments
 tiles_cover plan a b cs report h = are_covered h.grid h.rounded.segments (covered plan a b _ _ h.grid h.rounded.segments (checked plan a b cs report h) h.rounded.are_segments)
 
 -- ---- the numbers of reports

@@ -9,6 +9,8 @@ pub mod Running
 pub mod Results
 pub mod SumsOfTiles
 pub mod Determined
+pub mod Counting
+pub mod OneReport
 pub mod OneResultText
 pub mod OneRefusal
 pub mod OneTiling

@@ -1,8 +1,8 @@
 -- One more `write` of a text.
-use Rattle.std.proofs.Common.{◌≡◌, ◌∙◌, ◌+◌, ◌-◌, ℕ, Option, Some, None, List, ◌++◌, length, take, drop, append_assoc, refl, ap, sym}
+use Rattle.std.proofs.Common.{◌≡◌, ◌∙◌, ◌+◌, ◌-◌, ◌<◌, ℕ, Bool, false, Option, Some, None, List, [], ◌∷◌, ◌++◌, length, take, drop, append_assoc, refl, ap, sym, arith}
 use Rattle.std.proofs.Math.Seq.{take-add}
 use Rattle.std.proofs.lemmas.List.{take_rest}
-use Rattle.engine.specs.Sinks.{Told}
+use Rattle.engine.specs.Sinks.{Told, mark_after}
 
 told_twice : (t : Option (List ℕ)) (xs ys : List ℕ) → Told (Told t xs) ys ≡ Told t (xs ++ ys)
 told_twice None xs ys = refl
@@ -16,3 +16,8 @@ told_more old between new text i n e f =
     ∙ ap (λ (zs : List ℕ). Told (Told old (take i text)) (take n zs)) (take_rest text i)
     ∙ told_twice old (take i text) (take n (drop i text))
     ∙ ap (Told old) (sym (take-add i n text))
+
+-- whoever took something is unsettled
+pub marked_more : (before : Bool) (text : List ℕ) → 0 < length text → mark_after before text ≡ false
+marked_more before [] some = absurd (omega (arith, some))
+marked_more before (_ ∷ _) some = refl

@@ -70,20 +70,20 @@ distinct_from R (x ∷ xs) h n = (λ i. n x (inl refl) (pairs_head R x xs h x i)
 
 -- ---- the parts of a whole
 -- n is the number of those that are owned
-record IsPart {X : Type 0} (Is Owned : X → Type 0) (n : ℕ) : Type 0 where
-  those : List X
-  distinct : Distinct those
-  is : (x : X) → In x those → Is x
-  owned : (x : X) → In x those → Owned x
-  all : (x : X) → Is x → Owned x → In x those
-  number_is : n ≡ length those
+pub record IsPart {X : Type 0} (Is Owned : X → Type 0) (n : ℕ) : Type 0 where
+  pub those : List X
+  pub distinct : Distinct those
+  pub is : (x : X) → In x those → Is x
+  pub owned : (x : X) → In x those → Owned x
+  pub all : (x : X) → Is x → Owned x → In x those
+  pub number_is : n ≡ length those
 
 -- one of m tiles from k on owns x
-record IsOwnedFrom {X : Type 0} (Owned : ℕ → X → Type 0) (k m : ℕ) (x : X) : Type 0 where
-  tile : ℕ
-  from : k ≤ tile
-  below : tile < k + m
-  owned : Owned tile x
+pub record IsOwnedFrom {X : Type 0} (Owned : ℕ → X → Type 0) (k m : ℕ) (x : X) : Type 0 where
+  pub tile : ℕ
+  pub from : k ≤ tile
+  pub below : tile < k + m
+  pub owned : Owned tile x
 
 module _ {X : Type 0} (Is : X → Type 0) (Owned : ℕ → X → Type 0) (one_owner : (x : X) (j k : ℕ) → Owned j x → Owned k x → j ≡ k) where
   none : (k : ℕ) → IsPart Is (IsOwnedFrom Owned k 0) 0
@@ -177,24 +177,24 @@ from_zero : (j : ℕ) → j ≡ 0 + j
 from_zero j = omega arith
 
 module _ (g : Tiling) (segments : List Seg) (tiles : List TileNumbers) (h : AreTileNumbers g segments (tile_count g) tiles) (c : AreCovered g segments) where
-  all_hot : ∥ IsPart (IsHot segments) (IsOwnedFrom (Owns g) 0 (length tiles)) (sum_by (λ t. t.hot) tiles) ∥₁
+  pub all_hot : ∥ IsPart (IsHot segments) (IsOwnedFrom (Owns g) 0 (length tiles)) (sum_by (λ t. t.hot) tiles) ∥₁
   all_hot = assembled (IsHot segments) (Owns g) (λ x j k. owner_is g x j k) 0 tiles (λ (t : TileNumbers). t.hot)
       (λ j n e. subst (λ (i : ℕ). ∥ IsPart (IsHot segments) (Owns g i) n.hot ∥₁) (from_zero j) (∥∥₁_map (h.each j n e) (λ (records, p, count). hot_part g segments j n.hot records p)))
 
-  all_records : ∥ IsPart (IsRecord segments) (IsOwnedFrom (Has g) 0 (length tiles)) (sum_by (λ t. t.records) tiles) ∥₁
+  pub all_records : ∥ IsPart (IsRecord segments) (IsOwnedFrom (Has g) 0 (length tiles)) (sum_by (λ t. t.records) tiles) ∥₁
   all_records = assembled (IsRecord segments) (Has g) (λ x j k. owner_is g x.pixel j k) 0 tiles (λ (t : TileNumbers). t.records)
       (λ j n e. subst (λ (i : ℕ). ∥ IsPart (IsRecord segments) (Has g i) n.records ∥₁) (from_zero j) (∥∥₁_map (h.each j n e) (λ (records, p, count). record_part g segments j n.hot records p n.records count)))
 
   below : (k : ℕ) (p : Pt) → Owns g k p → k < 0 + length tiles
   below k p o = let l = owner_below g k p o in let e = h.one_each in omega (arith, l, e)
 
-  hot_owned : (p : Pt) → IsHot segments p → IsOwnedFrom (Owns g) 0 (length tiles) p
+  pub hot_owned : (p : Pt) → IsHot segments p → IsOwnedFrom (Owns g) 0 (length tiles) p
   hot_owned p i =
       let m = hot_meets segments p i in
       let t = c.tile m.0 p m.1 m.2 in
       record { tile = t.0; from = omega arith; below = below t.0 p t.1; owned = t.1 }
 
-  record_owned : (r : Record) → IsRecord segments r → IsOwnedFrom (Has g) 0 (length tiles) r
+  pub record_owned : (r : Record) → IsRecord segments r → IsOwnedFrom (Has g) 0 (length tiles) r
   record_owned r i = let o = hot_owned r.pixel i.hot in record { tile = o.tile; from = o.from; below = o.below; owned = o.owned }
 
 number_prop : (m n : ℕ) → IsProp (m ≡ n)

@@ -49,3 +49,13 @@ RefusedMayNotRun = (plan : Plan) (a b : List ℕ) (part : Part) (f : Fault) → 
 abbrev pub TilesAreOne : Type 0 → Type 0 → Type 0
 TilesAreOne M N = (a b : List ℕ) (plan other : Plan) (counted counted' : List Counted) (report : Report M) (report' : Report N)
     → plan.side ≡ other.side → Reports plan a b counted report → Reports other a b counted' report' → report.tiles.items ≡ report'.tiles.items
+
+-- two reports have the same numbers, all but that of the pieces that were made again
+pub record AreOneReport {M N : Type 0} (report : Report M) (other : Report N) : Type 0 where
+  pub sizes : HaveOneSize report other
+  pub tiles : report.tiles.items ≡ other.tiles.items
+
+-- the report of `run` is that of `edges` for the same plan and layers, whatever the operation
+abbrev pub RunReportsAsEdges : Type 0 → Type 0 → Type 0
+RunReportsAsEdges M N = (op : Op) (a b : List ℕ) (plan : Plan) (text text' : List ℕ) (report : Report M) (report' : Report N)
+    → AreEdgesWritten plan a b text report → IsResultWritten op plan a b text' report' → AreOneReport report report'

@@ -4,4 +4,5 @@ pub mod Rounds
 pub mod Runs
 pub mod Results
 pub mod Determined
+pub mod Counting
 pub mod Fitting

@@ -1,5 +1,5 @@
 -- What a call does to a sink.
-use Rattle.std.specs.Prelude.{◌≡◌, ◌+◌, ◌<◌, ◌≤◌, ℕ, Bool, true, false, List, ◌++◌, Option, Some, length, take, option_map, Result, MatchResult}
+use Rattle.std.specs.Prelude.{◌≡◌, ◌⊎◌, ◌+◌, ◌<◌, ◌≤◌, ℕ, Bool, true, false, List, [], ◌∷◌, ◌++◌, Option, Some, length, take, option_map, Result, MatchResult}
 use Rattle.engine.specs.declared.sink.SinkFault.{SinkFault}
 
 -- the known bytes, and then these
@@ -44,12 +44,27 @@ pub record SentAll {S : Type 0} (failed : S → ℕ) (settled : S → Bool) (tak
   pub now_settled : settled new ≡ true
   pub all_taken : taken new ≡ Told (taken old) text
 
--- the sink failed once, and had taken a beginning of the text
+-- a `write` failed: the sink has taken a proper beginning of the text, and isn't settled
+pub record SentBeginning {S : Type 0} (settled : S → Bool) (taken : S → Option (List ℕ)) (old new : S) (text : List ℕ) : Type 0 where
+  pub n : ℕ
+  pub proper : n < length text
+  pub unsettled : settled new ≡ false
+  pub beginning_taken : taken new ≡ Told (taken old) (take n text)
+
+-- whether a sink is settled once this text was taken: every `write` ends that, and an empty text has none
+abbrev pub mark_after : Bool → List ℕ → Bool
+mark_after before [] = before
+mark_after before (_ ∷ _) = false
+
+-- only `finish` failed: the sink has taken the whole text, and isn't settled by it
+pub record SentUnfinished {S : Type 0} (settled : S → Bool) (taken : S → Option (List ℕ)) (old new : S) (text : List ℕ) : Type 0 where
+  pub same_mark : settled new ≡ mark_after (settled old) text
+  pub all_taken : taken new ≡ Told (taken old) text
+
+-- the sink failed once, and was called no more: in a `write`, or in the `finish` behind all of them
 pub record SentPart {S : Type 0} (failed : S → ℕ) (settled : S → Bool) (taken : S → Option (List ℕ)) (old new : S) (text : List ℕ) : Type 0 where
   pub counted : failed new ≡ failed old + 1
-  pub n : ℕ
-  pub within : n ≤ length text
-  pub beginning_taken : taken new ≡ Told (taken old) (take n text)
+  pub where_failed : SentBeginning settled taken old new text ⊎ SentUnfinished settled taken old new text
 
 abbrev pub Sent : {S : Type 0} → (S → ℕ) → (S → Bool) → (S → Option (List ℕ)) → S → S → List ℕ → Result Unit SinkFault → Type 0
 Sent failed settled taken old new text r = MatchResult r (λ _. SentAll failed settled taken old new text) (λ _. SentPart failed settled taken old new text)

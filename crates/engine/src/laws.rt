@@ -1,6 +1,7 @@
 //! What the two layers determine: each law is the contract of a function with an empty body.
 
-ghost use Rattle.engine.specs.Determined.{EdgesSizesAreOne, EdgesTextIsOne, RefusalIsOne, RefusedMayNotRun, ResultSizesAreOne, ResultTextIsOne, TilesAreOne};
+ghost use Rattle.engine.specs.Determined.{EdgesSizesAreOne, EdgesTextIsOne, RefusalIsOne, RefusedMayNotRun, ResultSizesAreOne, ResultTextIsOne, RunReportsAsEdges, TilesAreOne};
+ghost use Rattle.engine.specs.Counting.{CountsAreExact};
 
 use std::alloc::Allocator;
 
@@ -26,4 +27,15 @@ pub fn one_refusal()
 /// The numbers of each tile in a report are determined by the two layers and the tile side.
 pub fn tiles_are_one<A: Allocator, B: Allocator>()
     ensures { TilesAreOne A B }
+{}
+
+/// A report tells the number of the hot pixels of both layers' segments, and that of the pairs of a segment and a hot pixel
+/// that it meets.
+pub fn counts_are_exact<A: Allocator>()
+    ensures { CountsAreExact A }
+{}
+
+/// The report of `run` is that of `edges` for the same plan and layers, but for the number of pieces that were made again.
+pub fn run_reports_as_edges<A: Allocator, B: Allocator>()
+    ensures { RunReportsAsEdges A B }
 {}

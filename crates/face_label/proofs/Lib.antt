@@ -4,3 +4,4 @@ pub mod Listing
 pub mod Chosen
 pub mod Sides
 pub mod Striping
+pub mod Sets

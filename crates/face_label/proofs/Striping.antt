@@ -1,12 +1,12 @@
 -- How the edges of the strips are found.
 use Rattle.std.proofs.Common.{◌≡◌, ◌⊎◌, ℕ, ◌+◌, ◌<◌, ◌≤◌, false, cond, List, [], ◌∷◌, ◌++◌, length, get_or, map, take, Option, Some, None, refl, sym, ◌∙◌, ap, subst, inl, inr, arith, length-append, ℤ, pos, ◌+ℤ◌, ◌*ℤ◌, w32, to_z, of_z, to_z-of_z, FitsSigned}
-use Rattle.std.specs.Prelude.{◌≤ℤ◌, All, slice_get, int_lt, filter}
+use Rattle.std.specs.Prelude.{◌≤ℤ◌, All, Contains, slice_get, int_lt, filter}
 use Rattle.std.specs.Option.{option_map}
 use Rattle.std.specs.Int.{int_min, int_max}
 use Rattle.std.proofs.lemmas.Int.{ints}
 use Rattle.std.proofs.lemmas.Bool.{cases_lt}
-use Rattle.std.proofs.lemmas.List.{get_or_default}
-use Rattle.std.proofs.lemmas.List.Elements.{All-more, All-weaker, All-filter, All-map}
+use Rattle.std.proofs.lemmas.List.{get_or_default, take_more}
+use Rattle.std.proofs.lemmas.List.Elements.{All-more, All-weaker, All-filter, All-map, Contains-append_left, Contains-push}
 use Rattle.std.proofs.lemmas.Option.{slice_get-map, slice_get_within}
 use Rattle.std.proofs.Math.ListN.{get_or-append}
 use Rattle.std.proofs.Math.Seq.{get_or-append_seam}
@@ -21,17 +21,18 @@ use Rattle.geom.proofs.Integers.{expand, linear}
 use Rattle.lane_tests.specs.Columns.{corners}
 use Rattle.tiling.specs.Index.{Item}
 use Rattle.tiling.specs.Strips.{IsFill, Striped}
-use Rattle.face_label.specs.Strip.{AreBoxesOf, AreColumnsOf, AreInStrip, AreStriped, IsIndexOf, IsSpanned, StripedLayer, edge_corners}
+use Rattle.face_label.specs.Strip.{AreBoxesOf, AreColumnsFrom, AreColumnsOf, AreInStrip, AreLayerStrips, AreStriped, IsIndexOf, IsLeastWidth, IsStriped, StripedLayer, edge_corners}
 
 -- ---- columns
 pub back : (x : ℤ) → IsWithin coordinate_limit x → to_z w32 (of_z w32 x) ≡ x
 back x h = let a : FitsSigned w32 x = omega (arith, ints) in simp to_z-of_z
 
-pub columns_are : (cs : List Counted) (low high l h : ℤ) → l ≡ low → h ≡ high → AreColumnsOf cs low high → AreColumnsOf cs l h
-columns_are cs low high l h e f o = let P : ℤ → Type 0 = λ t. AreColumnsOf cs t h in let Q : ℤ → Type 0 = λ t. AreColumnsOf cs low t in subst P (sym e) (subst Q (sym f) o)
+pub columns_are : (first : Edge) (cs : List Counted) (low high l h : ℤ) → l ≡ low → h ≡ high → AreColumnsFrom first cs low high → AreColumnsFrom first cs l h
+columns_are first cs low high l h e f o = let P : ℤ → Type 0 = λ t. AreColumnsFrom first cs t h in let Q : ℤ → Type 0 = λ t. AreColumnsFrom first cs low t in subst P (sym e) (subst Q (sym f) o)
 
-pub first_columns : (first : Edge) → AreInLimit first.p first.q → AreColumnsOf [] (to_z w32 (of_z w32 first.p.x)) (to_z w32 (of_z w32 first.q.x))
-first_columns first h = columns_are [] first.p.x first.q.x _ _ (back first.p.x h.a_in.x_in) (back first.q.x h.b_in.x_in) (record { order = first.ordered.column; low_in = h.a_in.x_in; high_in = h.b_in.x_in; spans = λ k d l. absurd (omega arith) })
+pub first_columns : (first : Edge) → AreInLimit first.p first.q → AreColumnsFrom first [] (to_z w32 (of_z w32 first.p.x)) (to_z w32 (of_z w32 first.q.x))
+first_columns first h = columns_are first [] first.p.x first.q.x _ _ (back first.p.x h.a_in.x_in) (back first.q.x h.b_in.x_in)
+    (record { order = first.ordered.column; low_in = h.a_in.x_in; high_in = h.b_in.x_in; spans = λ k d l. absurd (omega arith); starts = inl refl; ends = inl refl })
 
 one_within : (r a b : ℤ) → (r ≡ a) ⊎ (r ≡ b) → IsWithin coordinate_limit a → IsWithin coordinate_limit b → IsWithin coordinate_limit r
 one_within r a b (inl e) h k = let P : ℤ → Type 0 = IsWithin coordinate_limit in subst P (sym e) h
@@ -40,12 +41,32 @@ one_within r a b (inr e) h k = let P : ℤ → Type 0 = IsWithin coordinate_limi
 le_through : (a b c : ℤ) → a ≤ℤ b → b ≤ℤ c → a ≤ℤ c
 le_through a b c h k = omega (arith, linear)
 
-pub more_columns : (cs : List Counted) (i : ℕ) (c : Counted) (low high a b p q l h : ℤ) → a ≡ low → b ≡ high → p ≡ c.edge.p.x → q ≡ c.edge.q.x → i < length cs → get_or cs i c ≡ c → AreInLimit c.edge.p c.edge.q
-    → l ≤ℤ a → l ≤ℤ p → (l ≡ a) ⊎ (l ≡ p) → b ≤ℤ h → q ≤ℤ h → (h ≡ b) ⊎ (h ≡ q) → AreColumnsOf (take i cs) low high → AreColumnsOf (take (i + 1) cs) l h
-more_columns cs i c low high a b p q l h ea eb ep eq inside here limit l1' l2' l3' h1' h2' h3' o = record {
+-- an item of a list that is read in order
+module _ (cs : List Counted) (i : ℕ) (c : Counted) (inside : i < length cs) (here : get_or cs i c ≡ c) where
+  taken : take (i + 1) cs ≡ take i cs ++ c ∷ []
+  taken = take_more cs i c inside ∙ ap (λ (y : Counted). take i cs ++ y ∷ []) here
+
+  still_there : (d : Counted) → Contains (take i cs) d → Contains (take (i + 1) cs) d
+  still_there d h = subst (λ (xs : List Counted). Contains xs d) (sym taken) (Contains-append_left (take i cs) (c ∷ []) d h)
+
+  last_there : Contains (take (i + 1) cs) c
+  last_there = subst (λ (xs : List Counted). Contains xs c) (sym taken) (Contains-push (take i cs) c)
+
+  -- the least or the greatest x so far, at either end
+  reached : (at : Edge → ℤ) (first old new : ℤ) → (new ≡ old) ⊎ (new ≡ at c.edge) → (old ≡ first) ⊎ ((d : Counted) × Contains (take i cs) d × (old ≡ at d.edge))
+      → (new ≡ first) ⊎ ((d : Counted) × Contains (take (i + 1) cs) d × (new ≡ at d.edge))
+  reached at first old new (inr e) o = inr (c, last_there, e)
+  reached at first old new (inl e) (inl f) = inl (e ∙ f)
+  reached at first old new (inl e) (inr (d, k, f)) = inr (d, still_there d k, e ∙ f)
+
+pub more_columns : (first : Edge) (cs : List Counted) (i : ℕ) (c : Counted) (low high a b p q l h : ℤ) → a ≡ low → b ≡ high → p ≡ c.edge.p.x → q ≡ c.edge.q.x → i < length cs → get_or cs i c ≡ c → AreInLimit c.edge.p c.edge.q
+    → l ≤ℤ a → l ≤ℤ p → (l ≡ a) ⊎ (l ≡ p) → b ≤ℤ h → q ≤ℤ h → (h ≡ b) ⊎ (h ≡ q) → AreColumnsFrom first (take i cs) low high → AreColumnsFrom first (take (i + 1) cs) l h
+more_columns first cs i c low high a b p q l h ea eb ep eq inside here limit l1' l2' l3' h1' h2' h3' o = record {
   order = le_through l low h l1 (le_through low high h o.order h1);
   low_in = one_within l low c.edge.p.x l3 o.low_in limit.a_in.x_in;
   high_in = one_within h high c.edge.q.x h3 o.high_in limit.b_in.x_in;
+  starts = reached cs i c inside here (λ e. e.p.x) first.p.x low l l3 o.starts;
+  ends = reached cs i c inside here (λ e. e.q.x) first.q.x high h h3 o.ends;
   spans = All-more (λ c. (l ≤ℤ c.edge.p.x) × (c.edge.q.x ≤ℤ h)) cs i c inside
       (All-weaker (λ c. (low ≤ℤ c.edge.p.x) × (c.edge.q.x ≤ℤ high)) (λ c. (l ≤ℤ c.edge.p.x) × (c.edge.q.x ≤ℤ h)) (λ d s. (le_through l low d.edge.p.x l1 s.0, le_through d.edge.q.x high h s.1 h1)) (take i cs) o.spans)
       (let P : Counted → Type 0 = λ c. (l ≤ℤ c.edge.p.x) × (c.edge.q.x ≤ℤ h) in subst P (sym here) (l2, h2));
@@ -151,8 +172,26 @@ grown edges s found new strip chosen n e a t = (
   let P : List (List Edge) → Type 0 = AreStriped edges s in subst P (sym n) (more_striped edges s found strip chosen e a t),
 )
 
-pub spanned : (a b : StripedLayer) (low high from to : ℤ) (cs : List Counted) → low ≡ from → high ≡ to → a.strips.low ≡ low → a.strips.high ≡ high → b.strips.low ≡ low → b.strips.high ≡ high → All (λ c. (from ≤ℤ c.edge.p.x) × (c.edge.q.x ≤ℤ to)) cs → All (λ c. IsSpanned a c.edge × IsSpanned b c.edge) cs
-spanned a b low high from to cs e f al ah bl bh h = All-weaker (λ c. (from ≤ℤ c.edge.p.x) × (c.edge.q.x ≤ℤ to)) (λ c. IsSpanned a c.edge × IsSpanned b c.edge) (λ c s. (one a c s (al ∙ e) (ah ∙ f), one b c s (bl ∙ e) (bh ∙ f))) cs h
+-- ---- the strips of a layer
+-- the first edge is one of them, so the columns are those of some edges
+columns_of : (cs : List Counted) (first : Counted) (low high : ℤ) → Contains cs first → AreColumnsFrom first.edge cs low high → AreColumnsOf cs low high
+columns_of cs first low high i o = record { spans = o.spans; starts = start o.starts; ends = end o.ends }
   where
-    one : (l : StripedLayer) (c : Counted) → (from ≤ℤ c.edge.p.x) × (c.edge.q.x ≤ℤ to) → l.strips.low ≡ from → l.strips.high ≡ to → IsSpanned l c.edge
-    one l c s e f = record { left = (let P : ℤ → Type 0 = λ t. t ≤ℤ c.edge.p.x in subst P (sym e) s.0); right = (let P : ℤ → Type 0 = λ t. c.edge.q.x ≤ℤ t in subst P (sym f) s.1) }
+    start : (low ≡ first.edge.p.x) ⊎ ((c : Counted) × Contains cs c × (low ≡ c.edge.p.x)) → (c : Counted) × Contains cs c × (low ≡ c.edge.p.x)
+    start (inl e) = (first, i, e)
+    start (inr r) = r
+
+    end : (high ≡ first.edge.q.x) ⊎ ((c : Counted) × Contains cs c × (high ≡ c.edge.q.x)) → (c : Counted) × Contains cs c × (high ≡ c.edge.q.x)
+    end (inl e) = (first, i, e)
+    end (inr r) = r
+
+pub layer_strips : (cs : List Counted) (first : Counted) (odd : List Edge) (s : StripedLayer) (low high : ℤ) (w : ℕ) → Contains cs first → AreColumnsFrom first.edge cs low high → IsLeastWidth low high w
+    → s.strips.low ≡ low → s.strips.high ≡ high → s.strips.width ≡ w → IsStriped odd s → AreLayerStrips cs odd s
+layer_strips cs first odd s low high w i o width e f g striped = record {
+  columns = rw (e, f) (columns_of cs first low high i o);
+  width = rw (e, f, g) width;
+  striped = striped;
+}
+
+pub width_at : (low high l h : ℤ) (w : ℕ) → l ≡ low → h ≡ high → IsLeastWidth l h w → IsLeastWidth low high w
+width_at low high l h w e f i = let P : ℤ → Type 0 = λ t. IsLeastWidth t high w in let Q : ℤ → Type 0 = λ t. IsLeastWidth l t w in subst P e (subst Q f i)

@@ -11,7 +11,7 @@ use Rattle.geom.specs.Pixel.{Point}
 use Rattle.geom.specs.Operations.{holds}
 use Rattle.geom.specs.Parity.{parity}
 use Rattle.geom.specs.Rounded.{is_odd}
-use Rattle.geom.specs.ResultEdges.{left_side, right_side}
+use Rattle.geom.specs.ResultEdges.{is_result_edge, left_side, right_side}
 use Rattle.geom.specs.Directed.{from_to}
 
 -- the odd edges of both layers
@@ -35,6 +35,10 @@ bounds op odd u v = holds_in op odd (left_side u v) && not (holds_in op odd (rig
 -- whether p to q, and whether q to p
 abbrev pub both_ways : Op → OddLayers → Edge → Bool × Bool
 both_ways op odd e = (bounds op odd e.p e.q, bounds op odd e.q e.p)
+
+-- whether p to q, and whether q to p, is an edge of the result
+abbrev pub ways_by : Op → List Counted → Edge → Bool × Bool
+ways_by op counted e = (is_result_edge op counted e.p e.q, is_result_edge op counted e.q e.p)
 
 -- the directed edges along e, by whether p to q and whether q to p is one
 abbrev pub ways : Edge → Bool × Bool → List DirectedEdge

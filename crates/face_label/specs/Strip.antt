@@ -1,10 +1,12 @@
 -- The edges of a layer by vertical strips (own).
-use Rattle.std.specs.Prelude.{◌≡◌, ◌↔◌, ◌<◌, ◌≤ℤ◌, ◌+ℤ◌, ℕ, ℤ, pos, List, [], All, AllPairs, Contains, Some, get_or, length, map, nat_abs, slice_get}
+use Rattle.std.specs.Prelude.{◌≡◌, ◌⊎◌, ◌↔◌, ◌<◌, ◌≤◌, ◌+◌, ◌≤ℤ◌, ◌+ℤ◌, ℕ, ℤ, pos, List, [], All, AllPairs, Contains, Option, Some, None, get_or, length, map, nat_abs, slice_get}
 use Rattle.std.specs.Int.{int_div_euclid}
 use Rattle.geom.specs.declared.edge.Edge.{Edge}
 use Rattle.geom.specs.declared.edge.Counted.{Counted}
 use Rattle.geom.specs.declared.rect.Rect.{Rect}
-use Rattle.geom.specs.Limit.{IsWithin, coordinate_limit}
+use Rattle.geom.specs.declared.segment.Source.TheVariants.{A, B}
+use Rattle.geom.specs.Limit.{AreInLimit, IsWithin, coordinate_limit}
+use Rattle.geom.specs.Rounded.{odd_edges}
 use Rattle.geom.specs.Box.{greatest_corner, least_corner}
 use Rattle.lane_tests.specs.Columns.{Ends, corners}
 use Rattle.tiling.specs.Index.{AreIndexed, Item}
@@ -49,6 +51,52 @@ edges_at s e = get_or s.edges (strip_at s e) []
 abbrev pub layers_at : StripedLayer → StripedLayer → Edge → OddLayers
 layers_at a b e = record { a = edges_at a e; b = edges_at b e }
 
+-- ---- the strips of both layers
+-- low and high are the least and the greatest x of the edges
+pub record AreColumnsOf (counted : List Counted) (low high : ℤ) : Type 0 where
+  pub spans : All (λ c. (low ≤ℤ c.edge.p.x) × (c.edge.q.x ≤ℤ high)) counted
+  pub starts : (c : Counted) × Contains counted c × (low ≡ c.edge.p.x)
+  pub ends : (c : Counted) × Contains counted c × (high ≡ c.edge.q.x)
+
+-- how many strips of this width reach from low to high
+abbrev pub strips_between : ℤ → ℤ → ℕ → ℕ
+strips_between low high width = nat_abs (steps low width high) + 1
+
+-- the least width that gives at most 256 strips
+pub record IsLeastWidth (low high : ℤ) (width : ℕ) : Type 0 where
+  pub some : 0 < width
+  pub few : strips_between low high width ≤ 256
+  pub least : (w : ℕ) → 0 < w → w < width → 256 < strips_between low high w
+
+-- a layer's odd edges by strips of that width, from the least to the greatest x of the rounded edges
+pub record AreLayerStrips (counted : List Counted) (odd : List Edge) (s : StripedLayer) : Type 0 where
+  pub columns : AreColumnsOf counted s.strips.low s.strips.high
+  pub width : IsLeastWidth s.strips.low s.strips.high s.strips.width
+  pub striped : IsStriped odd s
+
+pub record StripedLayers : Type 0 where
+  pub a : StripedLayer
+  pub b : StripedLayer
+
+-- the odd edges of both layers of rounded edges by strips
+pub record AreStripsOf (counted : List Counted) (s : StripedLayers) : Type 0 where
+  pub in_limit : All (λ c. AreInLimit c.edge.p c.edge.q) counted
+  pub a : AreLayerStrips counted (odd_edges A counted) s.a
+  pub b : AreLayerStrips counted (odd_edges B counted) s.b
+
+-- the strips of rounded edges; where there are no edges there are none
+abbrev pub IsSetOf : List Counted → Option StripedLayers → Type 0
+IsSetOf counted None = counted ≡ []
+IsSetOf counted (Some s) = AreStripsOf counted s
+
+-- e is one of the rounded edges that the strips are of
+pub record IsAmong (set : Option StripedLayers) (e : Edge) : Type 0 where
+  pub counted : List Counted
+  pub are : IsSetOf counted set
+  pub one : Counted
+  pub listed : Contains counted one
+  pub is : one.edge ≡ e
+
 -- ---- what the code keeps
 -- the boxes of the edges
 abbrev pub edge_corners : Edge → Ends
@@ -63,9 +111,11 @@ pub record IsIndexOf (edges : List Edge) (items : List Item) : Type 0 where
   pub are_boxes : AreBoxesOf edges boxes
   pub indexed : AreIndexed boxes items
 
--- every edge lies between the columns low and high, and these are within the limit
-pub record AreColumnsOf (counted : List Counted) (low high : ℤ) : Type 0 where
+-- low and high are the least and the greatest x of the first edge and of the others, within the limit
+pub record AreColumnsFrom (first : Edge) (counted : List Counted) (low high : ℤ) : Type 0 where
   pub order : low ≤ℤ high
   pub low_in : IsWithin coordinate_limit low
   pub high_in : IsWithin coordinate_limit high
   pub spans : All (λ c. (low ≤ℤ c.edge.p.x) × (c.edge.q.x ≤ℤ high)) counted
+  pub starts : (low ≡ first.p.x) ⊎ ((c : Counted) × Contains counted c × (low ≡ c.edge.p.x))
+  pub ends : (high ≡ first.q.x) ⊎ ((c : Counted) × Contains counted c × (high ≡ c.edge.q.x))

@@ -3,13 +3,14 @@
 ghost use Rattle.std.specs.Prelude.{◌≡◌, ◌++◌, All, IfOk, OnOk, length, map};
 ghost use Rattle.geom.specs.Limit.{AreInLimit};
 ghost use Rattle.geom.specs.Directed.{AreResultEdges};
-ghost use Rattle.face_label.specs.Label.{both_ways, ways, ways_of};
-ghost use Rattle.face_label.specs.Strip.{IsSpanned, layers_at};
+ghost use Rattle.face_label.specs.Label.{both_ways, ways, ways_by, ways_of};
+ghost use Rattle.face_label.specs.Strip.{IsSetOf, IsSpanned, layers_at};
 
 use crate::directed::Directed;
-use crate::odd::directions;
-use crate::strip::StripSet;
+use crate::odd::directions_in;
+use crate::strip::{Layers, StripSet};
 use geom::{Counted, DirectedEdge, Edge, NoMemory, Op};
+use noding_test::Noded;
 use rayon::prelude::*;
 use std::alloc::{AllocError, Allocator};
 use std::thread::Threads;
@@ -17,21 +18,49 @@ use std::thread::Threads;
 /// The directions of all edges, one after another.
 fn in_turn<A: Allocator + Copy>(
     alloc: A,
-    strips: &StripSet<A>,
+    layers: &Layers<A>,
     counted: &[Counted],
     op: Op,
 ) -> Result<Vec<(bool, bool), A>, AllocError>
     requires in_limit { All (λ c. AreInLimit c.edge.p c.edge.q) counted.now }
-    requires spanned { All (λ c. IsSpanned strips.now.a c.edge × IsSpanned strips.now.b c.edge) counted.now }
-    ensures { IfOk result (λ all. all.items ≡ map (λ c. both_ways op (layers_at strips.now.a strips.now.b c.edge) c.edge) counted.now) }
+    requires spanned { All (λ c. IsSpanned layers.now.a c.edge × IsSpanned layers.now.b c.edge) counted.now }
+    ensures { IfOk result (λ all. all.items ≡ map (λ c. both_ways op (layers_at layers.now.a layers.now.b c.edge) c.edge) counted.now) }
 {
     counted
         .iter()
-        .map(|one| directions(strips, one.edge, op))
+        .map(|one| directions_in(layers, one.edge, op))
         .collect(alloc)
 }
 
 /// The directions of all edges, by many threads, or one after another where these find no memory.
+fn by_strips<A: Allocator + Copy + Sync + Send, R: Threads + Sync>(
+    rt: &R,
+    alloc: A,
+    layers: &Layers<A>,
+    counted: &[Counted],
+    op: Op,
+) -> Result<Vec<(bool, bool), A>, AllocError>
+    requires in_limit { All (λ c. AreInLimit c.edge.p c.edge.q) counted.now }
+    requires spanned { All (λ c. IsSpanned layers.now.a c.edge × IsSpanned layers.now.b c.edge) counted.now }
+    ensures { IfOk result (λ all. all.items ≡ map (λ c. both_ways op (layers_at layers.now.a layers.now.b c.edge) c.edge) counted.now) }
+{
+    let made: Result<Vec<(bool, bool), A>, AllocError> = counted
+        .par_iter()
+        .map(
+            |one: &Counted| -> (bool, bool)
+                requires in_limit { AreInLimit one.now.edge.p one.now.edge.q }
+                requires spanned { IsSpanned layers.now.a one.now.edge × IsSpanned layers.now.b one.now.edge }
+                ensures { result ≡ both_ways op (layers_at layers.entry.now.a layers.entry.now.b one.now.edge) one.now.edge }
+            { directions_in(layers, one.edge, op) },
+        )
+        .collect(rt, alloc);
+    match made {
+        Ok(all) => Ok(all),
+        Err(_) => in_turn(alloc, layers, counted, op),
+    }
+}
+
+/// The directions of all edges that the strips are of.
 fn labelled<A: Allocator + Copy + Sync + Send, R: Threads + Sync>(
     rt: &R,
     alloc: A,
@@ -39,23 +68,12 @@ fn labelled<A: Allocator + Copy + Sync + Send, R: Threads + Sync>(
     counted: &[Counted],
     op: Op,
 ) -> Result<Vec<(bool, bool), A>, AllocError>
-    requires in_limit { All (λ c. AreInLimit c.edge.p c.edge.q) counted.now }
-    requires spanned { All (λ c. IsSpanned strips.now.a c.edge × IsSpanned strips.now.b c.edge) counted.now }
-    ensures { IfOk result (λ all. all.items ≡ map (λ c. both_ways op (layers_at strips.now.a strips.now.b c.edge) c.edge) counted.now) }
+    requires { IsSetOf counted.now strips.now }
+    ensures { IfOk result (λ all. all.items ≡ map (λ c. ways_by op counted.now c.edge) counted.now) }
 {
-    let made: Result<Vec<(bool, bool), A>, AllocError> = counted
-        .par_iter()
-        .map(
-            |one: &Counted| -> (bool, bool)
-                requires in_limit { AreInLimit one.now.edge.p one.now.edge.q }
-                requires spanned { IsSpanned strips.now.a one.now.edge × IsSpanned strips.now.b one.now.edge }
-                ensures { result ≡ both_ways op (layers_at strips.entry.now.a strips.entry.now.b one.now.edge) one.now.edge }
-            { directions(strips, one.edge, op) },
-        )
-        .collect(rt, alloc);
-    match made {
-        Ok(all) => Ok(all),
-        Err(_) => in_turn(alloc, strips, counted, op),
+    match strips.layers() {
+        None => Ok(Vec::new(alloc)),
+        Some(layers) => by_strips(rt, alloc, layers, counted, op),
     }
 }
 
@@ -98,21 +116,35 @@ fn directed_edges<A: Allocator + Copy>(
     Ok(edges)
 }
 
-/// The directed edges of the result, ascending by start, then by end.
-pub fn labels<A: Allocator + Copy + Sync + Send, R: Threads + Sync>(
+/// The directed edges of the result of edges that the strips are of, ascending by start, then by end.
+fn directed_by<A: Allocator + Copy + Sync + Send, R: Threads + Sync>(
     rt: &R,
     alloc: A,
+    strips: &StripSet<A>,
     counted: &[Counted],
     op: Op,
 ) -> Result<Directed<A>, NoMemory>
-    requires { All (λ c. AreInLimit c.edge.p c.edge.q) counted.now }
+    requires { IsSetOf counted.now strips.now }
     ensures { IfOk result (λ directed. AreResultEdges op counted.now directed) }
 {
-    let strips = StripSet::build(alloc, counted)?;
-    let labels = labelled(rt, alloc, &strips, counted, op)?;
+    let labels = labelled(rt, alloc, strips, counted, op)?;
     let mut edges = directed_edges(alloc, counted, &labels)?;
     edges.sort_unstable();
-    // an edge is listed once, so this leaves the list as it is where the rounded edges differ
+    // an edge is listed once, so this leaves the list as it is
     edges.dedup();
     Ok(Directed::new(edges))
+}
+
+/// The directed edges of the result of noded edges, ascending by start, then by end.
+pub fn labels<A: Allocator + Copy + Sync + Send, B: Allocator, R: Threads + Sync>(
+    rt: &R,
+    alloc: A,
+    noded: &Noded<B>,
+    op: Op,
+) -> Result<Directed<A>, NoMemory>
+    requires { All (λ c. AreInLimit c.edge.p c.edge.q) noded.now.edges.items }
+    ensures { IfOk result (λ directed. AreResultEdges op noded.now.edges.items directed) }
+{
+    let strips = StripSet::build(alloc, noded)?;
+    directed_by(rt, alloc, &strips, noded.edges.as_slice(), op)
 }

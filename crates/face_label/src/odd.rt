@@ -1,15 +1,16 @@
 //! The edges of odd count of a layer, and the directions in which an edge bounds the result.
 
-ghost use Rattle.std.specs.Prelude.{◌≡◌, ◌&&◌, ◌++◌, ◌∷◌, [], IfOk, OnOk, if◌then◌else◌, not};
+ghost use Rattle.std.specs.Prelude.{◌≡◌, ◌&&◌, ◌++◌, ◌∷◌, [], Contains, IfOk, List, OnOk, if◌then◌else◌, not};
+ghost use Rattle.geom.specs.declared.edge.Counted.{Counted};
 ghost use Rattle.geom.specs.Limit.{AreInLimit};
 ghost use Rattle.geom.specs.ResultEdges.{left_side};
-ghost use Rattle.geom.specs.Rounded.{odd_edges};
+ghost use Rattle.geom.specs.Rounded.{edges_of, odd_edges};
 ghost use Rattle.lane_tests.specs.Probe.{IsProbe, point_of};
-ghost use Rattle.face_label.specs.Label.{both_ways, counts_odd, holds_in};
-ghost use Rattle.face_label.specs.Strip.{IsSpanned, layers_at};
+ghost use Rattle.face_label.specs.Label.{both_ways, counts_odd, holds_in, ways_by};
+ghost use Rattle.face_label.specs.Strip.{IsAmong, IsSetOf, IsSpanned, layers_at};
 ghost use Rattle.face_label.specs.Double.{IsDouble};
 
-use crate::strip::StripSet;
+use crate::strip::{Layers, StripSet};
 use geom::{Counted, Edge, NoMemory, Op, Pt, Source};
 use lane_tests::{Edges, Probe, odd_above};
 use std::alloc::Allocator;
@@ -82,16 +83,28 @@ fn only(first: bool, second: bool) -> bool
     first && !second
 }
 
-/// Whether an edge bounds the result as directed from p to q, and whether as directed from q to p: the result lies on its
-/// left and not on its right. Asked over the edges of odd count in the strip of the edge's midpoint.
-pub fn directions<A: Allocator>(strips: &StripSet<A>, edge: Edge, op: Op) -> (bool, bool)
+/// Whether an edge bounds the result as directed from p to q, and whether as directed from q to p, by the edges of odd count
+/// in the strip of its midpoint.
+pub(crate) fn directions_in<A: Allocator>(layers: &Layers<A>, edge: Edge, op: Op) -> (bool, bool)
     requires in_limit { AreInLimit edge.p edge.q }
-    requires spanned { IsSpanned strips.now.a edge × IsSpanned strips.now.b edge }
-    ensures { result ≡ both_ways op (layers_at strips.now.a strips.now.b edge) edge }
+    requires spanned { IsSpanned layers.now.a edge × IsSpanned layers.now.b edge }
+    ensures { result ≡ both_ways op (layers_at layers.now.a layers.now.b edge) edge }
 {
-    let a = strips.a.over(edge);
-    let b = strips.b.over(edge);
+    let a = layers.a.over(edge);
+    let b = layers.b.over(edge);
     let left = holds_at(a, b, left_probe(edge.p, edge.q), op);
     let right = holds_at(a, b, left_probe(edge.q, edge.p), op);
     (only(left, right), only(right, left))
+}
+
+/// Whether an edge that the strips are of is one of the result as directed from p to q, and whether as directed from q to p:
+/// the result lies on its left and not on its right. It takes no memory.
+pub fn directions<A: Allocator>(strips: &StripSet<A>, edge: Edge, op: Op) -> (bool, bool)
+    requires { IsAmong strips.now edge }
+    ensures { (counted : List Counted) → IsSetOf counted strips.now → Contains (edges_of counted) edge → result ≡ ways_by op counted edge }
+{
+    match strips.layers() {
+        None => (false, false),
+        Some(layers) => directions_in(layers, edge, op),
+    }
 }

@@ -1,15 +1,15 @@
 //! The edges of odd count of the two layers, by vertical strips.
 
-ghost use Rattle.std.specs.Prelude.{◌≡◌, ◌⊎◌, ◌<◌, ◌≤ℤ◌, All, IfOk, length, vec_len};
+ghost use Rattle.std.specs.Prelude.{◌≡◌, ◌⊎◌, ◌<◌, ◌≤ℤ◌, All, IfOk, List, Option, length, option_map, vec_len};
 ghost use Rattle.geom.specs.Limit.{AreInLimit, IsWithin, coordinate_limit};
-ghost use Rattle.geom.specs.Rounded.{odd_edges};
-ghost use Rattle.geom.specs.declared.segment.Source.TheVariants as source;
+ghost use Rattle.geom.specs.declared.edge.Counted.{Counted};
 ghost use Rattle.tiling.specs.Strips.{strip_count};
-ghost use Rattle.face_label.specs.Strip.{AreBoxesOf, AreColumnsOf, AreStriped, IsSpanned, IsStriped, IsIndexOf, StripedLayer, edges_at};
+ghost use Rattle.face_label.specs.Strip.{AreBoxesOf, AreColumnsFrom, AreStriped, AreStripsOf, IsIndexOf, IsLeastWidth, IsSetOf, IsStriped, StripedLayer, StripedLayers, edges_at};
 
 use crate::odd::odd_in;
 use geom::{Counted, Edge, NoMemory, Source};
 use lane_tests::{Boxes, Edges};
+use noding_test::Noded;
 use std::alloc::Allocator;
 use std::marker::Model;
 use tiling::Strips;
@@ -29,11 +29,26 @@ impl<A: Allocator> Model for LayerStrips<A> {
     ghost invariant = { λ s. length s.edges.items ≡ strip_count s.strips };
 }
 
-/// The edges of odd count of both layers, by at most 256 vertical strips.
+/// The edges of odd count of both layers, each by its strips.
 #[derive(Drop)]
-pub struct StripSet<A: Allocator> {
+pub(crate) struct Layers<A: Allocator> {
     pub a: LayerStrips<A>,
     pub b: LayerStrips<A>,
+}
+
+/// The edges of odd count of both layers of rounded edges, by at most 256 vertical strips. Where there are no edges, there
+/// are no strips.
+#[derive(Drop)]
+pub struct StripSet<A: Allocator> {
+    layers: Option<Layers<A>>,
+}
+
+impl<A: Allocator> Model for StripSet<A> {
+    ghost Value = { Option StripedLayers };
+
+    ghost view = { λ s. option_map (λ l. record { a = l.a; b = l.b }) s.layers };
+
+    ghost invariant = { λ s. ∥ ((counted : List Counted) × IsSetOf counted (option_map (λ l. record { a = l.a; b = l.b }) s.layers)) ∥₁ };
 }
 
 /// The box of each edge.
@@ -83,6 +98,7 @@ impl<A: Allocator + Copy> LayerStrips<A> {
         requires some { 0 < width }
         ensures low { IfOk result (λ s. s.strips.low ≡ low) }
         ensures high { IfOk result (λ s. s.strips.high ≡ high) }
+        ensures width { IfOk result (λ s. s.strips.width ≡ width) }
         ensures edges { IfOk result (λ s. IsStriped edges.now s) }
     {
         let strips = Strips::build(alloc, low, high, width, &boxes_of(alloc, edges)?)?;
@@ -120,11 +136,11 @@ fn greatest(a: i32, b: i32) -> i32
     if a < b { b } else { a }
 }
 
-/// The least and the greatest x of the edges, of which this is one.
+/// The least and the greatest x of the first edge and of the others.
 fn columns_from(first: Edge, counted: &[Counted]) -> (i32, i32)
     requires first_in { AreInLimit first.p first.q }
     requires in_limit { All (λ c. AreInLimit c.edge.p c.edge.q) counted.now }
-    ensures { AreColumnsOf counted.now result.0 result.1 }
+    ensures { AreColumnsFrom first counted.now result.0 result.1 }
 {
     let mut low = first.p.x;
     let mut high = first.q.x;
@@ -135,43 +151,54 @@ fn columns_from(first: Edge, counted: &[Counted]) -> (i32, i32)
     (low, high)
 }
 
-/// The least and the greatest x of the edges, both 0 where there are none.
-fn columns(counted: &[Counted]) -> (i32, i32)
-    requires { All (λ c. AreInLimit c.edge.p c.edge.q) counted.now }
-    ensures { AreColumnsOf counted.now result.0 result.1 }
-{
-    if counted.is_empty() {
-        (0, 0)
-    } else {
-        columns_from(counted[0].edge, counted)
-    }
-}
-
 /// The least width that gives at most 256 strips.
 fn strip_width(low: i32, high: i32) -> u32
     requires order { low ≤ℤ high }
     requires low_in { IsWithin coordinate_limit low }
     requires high_in { IsWithin coordinate_limit high }
-    ensures { 0 < result }
+    ensures { IsLeastWidth low high result }
 {
     (high - low) as u32 / 256 + 1
 }
 
+/// The strips of both layers of some edges.
+fn layers_of<A: Allocator + Copy>(alloc: A, counted: &[Counted]) -> Result<Layers<A>, NoMemory>
+    requires some { 0 < length counted.now }
+    requires in_limit { All (λ c. AreInLimit c.edge.p c.edge.q) counted.now }
+    ensures { IfOk result (λ l. AreStripsOf counted.now (record { a = l.a; b = l.b })) }
+{
+    let (low, high) = columns_from(counted[0].edge, counted);
+    let width = strip_width(low, high);
+    let a = odd_in(alloc, counted, Source::A)?;
+    let b = odd_in(alloc, counted, Source::B)?;
+    Ok(Layers {
+        a: LayerStrips::build(alloc, low, high, width, &a)?,
+        b: LayerStrips::build(alloc, low, high, width, &b)?,
+    })
+}
+
 impl<A: Allocator + Copy> StripSet<A> {
-    /// Those of rounded edges.
-    pub fn build(alloc: A, counted: &[Counted]) -> Result<StripSet<A>, NoMemory>
-        requires { All (λ c. AreInLimit c.edge.p c.edge.q) counted.now }
-        ensures a { IfOk result (λ s. IsStriped (odd_edges source.A counted.now) s.a) }
-        ensures b { IfOk result (λ s. IsStriped (odd_edges source.B counted.now) s.b) }
-        ensures spans { IfOk result (λ s. All (λ c. IsSpanned s.a c.edge × IsSpanned s.b c.edge) counted.now) }
+    /// Those of noded edges, from the least x to the greatest, of the least width that gives at most 256 strips.
+    pub fn build<B: Allocator>(alloc: A, noded: &Noded<B>) -> Result<StripSet<A>, NoMemory>
+        requires { All (λ c. AreInLimit c.edge.p c.edge.q) noded.now.edges.items }
+        ensures { IfOk result (λ s. IsSetOf noded.now.edges.items s) }
     {
-        let (low, high) = columns(counted);
-        let width = strip_width(low, high);
-        let a = odd_in(alloc, counted, Source::A)?;
-        let b = odd_in(alloc, counted, Source::B)?;
+        let counted = noded.edges.as_slice();
+        if counted.is_empty() {
+            return Ok(StripSet { layers: None });
+        }
+        let layers = layers_of(alloc, counted)?;
         Ok(StripSet {
-            a: LayerStrips::build(alloc, low, high, width, &a)?,
-            b: LayerStrips::build(alloc, low, high, width, &b)?,
+            layers: Some(layers),
         })
+    }
+}
+
+impl<A: Allocator> StripSet<A> {
+    /// The strips of both layers, or none where there are no edges.
+    pub(crate) fn layers(&self) -> Option<&Layers<A>>
+        ensures { option_map (λ l. record { a = l.now.a; b = l.now.b }) result ≡ self.now }
+    {
+        self.layers.as_ref()
     }
 }

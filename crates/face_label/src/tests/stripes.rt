@@ -1,17 +1,15 @@
 //! The strips of small lists of edges, and the directions of one edge after another.
 
-ghost use Rattle.geom.specs.Limit.{AreInLimit};
-ghost use Rattle.face_label.specs.Strip.{IsSpanned};
-
-use super::{Row, are_in_limit, counted_of};
+use super::{Row, noded_of};
 use crate::{StripSet, directions};
-use geom::{Edge, NoMemory, Op};
-use std::alloc::{Allocator, Global};
+use geom::{NoMemory, Op};
+use std::alloc::Global;
+use std::sync::Wait;
 use std::test::Fail;
+use std::thread::Threads;
 
-/// Whether an edge bounds the result from its first end to its second, and back; and how many edges of odd count each layer has
-/// in the strip of its middle.
-type Told = ((bool, bool), (usize, usize));
+/// Whether an edge bounds the result from its first end to its second, and back.
+type Told = (bool, bool);
 
 /// Edges, an operation, and what is told of each edge.
 type Case = (&'static [Row], Op, &'static [Told]);
@@ -36,65 +34,48 @@ const CASES: [Case; 5] = [
     (
         TIE,
         Op::Union,
-        &[
-            ((true, false), (2, 0)),
-            ((false, true), (2, 0)),
-            ((false, false), (2, 0)),
-            ((true, false), (3, 0)),
-        ],
+        &[(true, false), (false, true), (false, false), (true, false)],
     ),
     (
         TIE,
         Op::Intersection,
         &[
-            ((false, false), (2, 0)),
-            ((false, false), (2, 0)),
-            ((false, false), (2, 0)),
-            ((false, false), (3, 0)),
+            (false, false),
+            (false, false),
+            (false, false),
+            (false, false),
         ],
     ),
     (
         SQUARE,
         Op::Union,
-        &[
-            ((false, true), (3, 3)),
-            ((true, false), (2, 2)),
-            ((false, true), (2, 2)),
-            ((true, false), (3, 3)),
-        ],
+        &[(false, true), (true, false), (false, true), (true, false)],
     ),
     (
         SQUARE,
         Op::SymDifference,
         &[
-            ((false, false), (3, 3)),
-            ((false, false), (2, 2)),
-            ((false, false), (2, 2)),
-            ((false, false), (3, 3)),
+            (false, false),
+            (false, false),
+            (false, false),
+            (false, false),
         ],
     ),
     (&[], Op::Union, &[]),
 ];
 
-fn told<A: Allocator>(strips: &StripSet<A>, edge: Edge, op: Op) -> Told
-    requires in_limit { AreInLimit edge.p edge.q }
-    requires spanned { IsSpanned strips.now.a edge × IsSpanned strips.now.b edge }
-{
-    let a = strips.a.over(edge).len();
-    let b = strips.b.over(edge).len();
-    (directions(strips, edge, op), (a, b))
-}
-
 /// What is told of each edge.
-fn told_of_all(alloc: Global, rows: &[Row], op: Op) -> Result<Vec<Told>, NoMemory> {
-    let counted = counted_of(alloc, rows)?;
-    if !are_in_limit(&counted) {
-        return Err(NoMemory);
-    }
-    let strips = StripSet::build(alloc, &counted)?;
+fn told_of_all<R: Threads + Wait + Sync>(
+    rt: &R,
+    alloc: Global,
+    rows: &[Row],
+    op: Op,
+) -> Result<Vec<Told>, NoMemory> {
+    let noded = noded_of(rt, alloc, rows)?;
+    let strips = StripSet::build(alloc, &noded)?;
     let mut all = Vec::new(alloc);
-    for one in &counted {
-        all.push(told(&strips, one.edge, op))?;
+    for one in noded.edges.as_slice() {
+        all.push(directions(&strips, one.edge, op))?;
     }
     Ok(all)
 }
@@ -102,7 +83,7 @@ fn told_of_all(alloc: Global, rows: &[Row], op: Op) -> Result<Vec<Told>, NoMemor
 #[test]
 fn directions_of_edges(rt: HostRuntime) -> Result<(), Fail> {
     for (rows, op, expected) in CASES {
-        let all = told_of_all(rt.alloc(), rows, op)?;
+        let all = told_of_all(&rt, rt.alloc(), rows, op)?;
         assert!(rt; all.as_slice() == expected, "{op:?}");
     }
     Ok(())

@@ -1,4 +1,4 @@
-use Rattle.std.proofs.Common.{◌∙◌, arith}
+use Rattle.std.proofs.Common.{arith}
 use Rattle.points_law.specs.Law.{AreLayers}
 use Rattle.engine.proofs.Reporting.{reported}
 use Rattle.engine.proofs.Results.{layers_known}

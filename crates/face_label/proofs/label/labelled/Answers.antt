@@ -1,15 +1,13 @@
-use Rattle.std.proofs.Common.{map, ap, ◌∙◌}
-use Rattle.rayon.proofs.ToStd.{slice-map}
-use Rattle.face_label.specs.Label.{both_ways}
-use Rattle.face_label.specs.Strip.{layers_at}
+use Rattle.std.proofs.Common.{◌∙◌}
+use Rattle.std.proofs.lemmas.Result.{IfOk-weaker}
+use Rattle.face_label.specs.Strip.{StripedLayers}
+use Rattle.face_label.proofs.Sets.{all_set_ways, none_ways}
 use Rattle.face_label.proofs.label.labelled.Goals as goal
 
-pub returns-in-Ok : goal.returns-in-Ok
-returns-in-Ok g c =
-    let slice = ap (λ it. it.slice.now) c.map.ensures.base ∙ c.par_iter.ensures in
-    let h = c.in-Ok.ensures in
-    let chain = h.1 in
-    let f = c.map.result.f in
-    h.2
-    ∙ slice-map chain.0 c.args.counted.now (chain.1 ∙ slice) (λ e. both_ways f.1.now (layers_at f.0.now.a f.0.now.b e.edge) e.edge) h.0 chain.2
-    ∙ ap (λ t. map (λ e. both_ways t.1.now (layers_at t.0.now.a t.0.now.b e.edge) e.edge) c.args.counted.now) c.map.ensures.f
+pub returns-in-None : goal.returns-in-None
+returns-in-None g c = c.new.ensures.items ∙ none_ways c.args.op c.args.counted.now c.args.strips.now c.in-None.ensures c.requires
+
+pub returns-in-Some : goal.returns-in-Some
+returns-in-Some g c =
+    let s : StripedLayers = record { a = c.in-Some.layers.now.a; b = c.in-Some.layers.now.b } in
+    IfOk-weaker c.by_strips.result _ _ (λ all h. h ∙ all_set_ways c.args.op c.args.counted.now c.args.strips.now s c.in-Some.ensures c.requires) c.by_strips.ensures

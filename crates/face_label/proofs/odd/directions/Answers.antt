@@ -1,13 +1,6 @@
-use Rattle.std.proofs.Common.{◌∙◌, sym}
-use Rattle.lane_tests.specs.Probe.{point_of}
-use Rattle.face_label.specs.Label.{OddLayers, holds_in}
-use Rattle.face_label.specs.Strip.{layers_at}
-use Rattle.face_label.proofs.Doubling.{both, holds_double}
+use Rattle.std.proofs.Common.{◌∙◌}
+use Rattle.face_label.proofs.Sets.{set_ways}
 use Rattle.face_label.proofs.odd.directions.Goals as goal
 
-pub returns : goal.returns
-returns g c =
-    let odd : OddLayers = layers_at c.args.strips.now.a c.args.strips.now.b c.args.edge in
-    both c.args.op odd c.args.edge c.holds_at-left.result c.holds_at-right.result c.only.result c.only-2.result
-    (c.holds_at-left.ensures ∙ (λ i. holds_in c.args.op (record { a = c.over-a.ensures i; b = c.over-b.ensures i }) (point_of c.left_probe.result)) ∙ sym (holds_double c.args.op odd _ _ c.left_probe.ensures.value))
-    (c.holds_at-right.ensures ∙ (λ i. holds_in c.args.op (record { a = c.over-a.ensures i; b = c.over-b.ensures i }) (point_of c.left_probe-2.result)) ∙ sym (holds_double c.args.op odd _ _ c.left_probe-2.ensures.value)) c.only.ensures c.only-2.ensures
+pub returns-in-Some : goal.returns-in-Some
+returns-in-Some g c = λ counted h i. c.directions_in.ensures ∙ set_ways c.args.op c.args.strips.now (record { a = c.in-Some.layers.now.a; b = c.in-Some.layers.now.b }) counted c.args.edge c.in-Some.ensures h i

@@ -1,20 +1,19 @@
 use Rattle.std.proofs.Common.{◌≡◌, ◌∙◌, ap}
 use Rattle.face_label.specs.Label.{ways_of}
-use Rattle.face_label.proofs.Listing.{are_directed, labels_of, layers_of, result_edges}
-use Rattle.face_label.proofs.Sides.{all_ways}
+use Rattle.face_label.proofs.Listing.{are_directed, labels_of, result_edges}
 use Rattle.face_label.proofs.Orders.{directed_once}
-use Rattle.face_label.proofs.label.labels.Goals as goal
+use Rattle.face_label.proofs.label.directed_by.Goals as goal
 
 pub new-requires : goal.new-requires
 new-requires g c =
     let e : c.in_ok-edges.edges.items ≡ ways_of c.args.counted.now (labels_of c.args.op c.args.counted.now c.args.counted.now) =
-    c.in_ok-edges.ensures ∙ ap (ways_of c.args.counted.now) (c.deref.ensures.value ∙ c.in_ok-labels.ensures ∙ all_ways c.args.op (layers_of c.args.counted.now) _ _ c.args.counted.now c.in_ok-strips.ensures.a c.in_ok-strips.ensures.b c.in_ok-strips.ensures.spans c.requires) in
+    c.in_ok-edges.ensures ∙ ap (ways_of c.args.counted.now) (c.deref.ensures.value ∙ c.in_ok-labels.ensures) in
     are_directed c.args.op c.args.counted.now c.dedup.new.self.items (result_edges c.args.op c.args.counted.now c.dedup.new.self.items
     (rw e at (directed_once c.in_ok-edges.edges.items c.sort_unstable.new.self.items c.dedup.new.self.items c.sort_unstable.ensures.permutation c.sort_unstable.ensures.sorted c.dedup.ensures.filtered)))
 
 pub returns : goal.returns
 returns g c =
     let e : c.in_ok-edges.edges.items ≡ ways_of c.args.counted.now (labels_of c.args.op c.args.counted.now c.args.counted.now) =
-    c.in_ok-edges.ensures ∙ ap (ways_of c.args.counted.now) (c.deref.ensures.value ∙ c.in_ok-labels.ensures ∙ all_ways c.args.op (layers_of c.args.counted.now) _ _ c.args.counted.now c.in_ok-strips.ensures.a c.in_ok-strips.ensures.b c.in_ok-strips.ensures.spans c.requires) in
+    c.in_ok-edges.ensures ∙ ap (ways_of c.args.counted.now) (c.deref.ensures.value ∙ c.in_ok-labels.ensures) in
     rw c.new.ensures (result_edges c.args.op c.args.counted.now c.dedup.new.self.items
     (rw e at (directed_once c.in_ok-edges.edges.items c.sort_unstable.new.self.items c.dedup.new.self.items c.sort_unstable.ensures.permutation c.sort_unstable.ensures.sorted c.dedup.ensures.filtered)))
