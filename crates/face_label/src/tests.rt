@@ -230,7 +230,7 @@ fn squares_agree<A: Allocator + Copy + Sync + Send, R: Threads + Wait + Sync>(
     let noded = noded_of(rt, alloc, &rows)?;
     let directed = labels(rt, alloc, &noded, Op::Union)?;
     ways.sort_unstable();
-    let plain = plain_labels(alloc, &noded.edges, Op::Union)?;
+    let plain = plain_labels(alloc, noded.edges.as_slice(), Op::Union)?;
     Ok(directed.edges() == ways.as_slice() && ways.as_slice() == plain.as_slice())
 }
 

@@ -12,7 +12,6 @@ use std::test::Fail;
 use std::thread::Threads;
 use tile_book::{Gate, OpenGate};
 
-mod labelled;
 mod operations;
 mod plans;
 mod refusals;

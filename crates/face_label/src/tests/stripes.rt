@@ -1,9 +1,9 @@
-//! The directions of one edge after another, by the strips of small lists of edges.
+//! The strips of small lists of edges, and the directions of one edge after another.
 
 use super::{Row, noded_of};
 use crate::{StripSet, directions};
 use geom::{NoMemory, Op};
-use std::alloc::Allocator;
+use std::alloc::Global;
 use std::sync::Wait;
 use std::test::Fail;
 use std::thread::Threads;
@@ -14,7 +14,7 @@ type Told = (bool, bool);
 /// Edges, an operation, and what is told of each edge.
 type Case = (&'static [Row], Op, &'static [Told]);
 
-/// The bow tie with a doubled edge.
+/// The bow tie with a doubled edge: strips of the columns 0 and 1.
 const TIE: &[Row] = &[
     (0, 0, 1, 0, 1, 0),
     (0, 0, 1, 1, 1, 0),
@@ -22,7 +22,7 @@ const TIE: &[Row] = &[
     (1, 0, 1, 1, 1, 0),
 ];
 
-/// One square in both layers.
+/// One square in both layers: strips of the columns 0 to 4.
 const SQUARE: &[Row] = &[
     (0, 0, 0, 4, 1, 1),
     (0, 0, 4, 0, 1, 1),
@@ -34,12 +34,7 @@ const CASES: [Case; 5] = [
     (
         TIE,
         Op::Union,
-        &[
-            (true, false),
-            (false, true),
-            (false, false),
-            (true, false),
-        ],
+        &[(true, false), (false, true), (false, false), (true, false)],
     ),
     (
         TIE,
@@ -54,12 +49,7 @@ const CASES: [Case; 5] = [
     (
         SQUARE,
         Op::Union,
-        &[
-            (false, true),
-            (true, false),
-            (false, true),
-            (true, false),
-        ],
+        &[(false, true), (true, false), (false, true), (true, false)],
     ),
     (
         SQUARE,
@@ -75,17 +65,16 @@ const CASES: [Case; 5] = [
 ];
 
 /// What is told of each edge.
-fn told_of_all<A: Allocator + Copy + Send + Sync, R: Threads + Wait + Sync>(
+fn told_of_all<R: Threads + Wait + Sync>(
     rt: &R,
-    alloc: A,
+    alloc: Global,
     rows: &[Row],
     op: Op,
-) -> Result<Vec<Told, A>, NoMemory> {
+) -> Result<Vec<Told>, NoMemory> {
     let noded = noded_of(rt, alloc, rows)?;
     let strips = StripSet::build(alloc, &noded)?;
-    let counted = noded.edges.as_slice();
     let mut all = Vec::new(alloc);
-    for one in counted {
+    for one in noded.edges.as_slice() {
         all.push(directions(&strips, one.edge, op))?;
     }
     Ok(all)

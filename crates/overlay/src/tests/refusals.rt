@@ -140,11 +140,11 @@ const SLOPE: &str = "POLYGON ((0 0, 6 0, 0 5, 0 0))\n";
 const BESIDE: &str = "POLYGON ((1 1, 7 1, 7 7, 1 7, 1 1))\n";
 
 /// More requests for memory than any of the rows makes.
-pub(super) const REQUESTS: u64 = 400;
+const REQUESTS: u64 = 400;
 
 /// What a call ends with.
 #[derive(Clone, Copy, PartialEq, Eq, Debug)]
-pub(super) enum Ending {
+enum Ending {
     /// The right answer.
     Right,
     /// Want of memory, and nothing is written.
