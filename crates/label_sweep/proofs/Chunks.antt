@@ -1,6 +1,6 @@
 -- Lists joined from chunks: the place of an index, what a search by the first elements of the chunks finds, and edits.
 use Rattle.std.proofs.Common.{◌≡◌, ◌⊎◌, inl, inr, ⊎_elim, ℕ, zero, suc, ◌+◌, ◌-◌, ◌<◌, ◌≤◌, Bool, true, false, List, [], ◌∷◌, ◌++◌, length, get_or, set, take, drop, refl, sym, ap, ◌∙◌, subst, arith, append_assoc}
-use Rattle.std.specs.List.{All, AllWithin, flat_map, insert}
+use Rattle.std.specs.List.{All, AllWithin, flat_map}
 use Rattle.std.specs.List.Sorted.{IsPartitionedBy}
 use Rattle.label_sweep.specs.Chunks.{opens}
 use Rattle.std.proofs.Math.Seq.{take-append-add, drop-append-add, take-suc-set}

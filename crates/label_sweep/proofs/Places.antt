@@ -1,6 +1,6 @@
 -- The places of a status: what a search among its chunks finds, what lies from a place on, and what a change of chunks leaves.
-use Rattle.std.proofs.Common.{◌≡◌, ⊎_elim, ℕ, zero, suc, ◌+◌, ◌<◌, ◌≤◌, Bool, true, false, List, [], ◌∷◌, ◌++◌, length, get_or, set, take, drop, refl, sym, ap, ◌∙◌, subst, arith}
-use Rattle.std.specs.List.{All, AllWithin, HoldsAt, flat_map, insert}
+use Rattle.std.proofs.Common.{◌≡◌, ⊎_elim, ℕ, suc, ◌+◌, ◌<◌, ◌≤◌, Bool, true, false, List, [], ◌∷◌, ◌++◌, length, get_or, set, take, drop, refl, sym, ap, ◌∙◌, subst, arith}
+use Rattle.std.specs.List.{AllWithin, insert}
 use Rattle.std.specs.List.Sorted.{IsPartitionedBy}
 use Rattle.std.specs.declared.vec.Vec.{Vec}
 use Rattle.std.proofs.Math.Seq.{drop-cons}
@@ -10,7 +10,7 @@ use Rattle.label_sweep.specs.declared.standing.Standing.{Standing}
 use Rattle.label_sweep.specs.declared.status.Place.{Place}
 use Rattle.label_sweep.specs.Chunks.{AreChunks, IsPlace, joined, number_of, opens}
 use Rattle.label_sweep.specs.Labels.{under_lowest}
-use Rattle.label_sweep.proofs.Chunks.{all_after, all_before, before, before_more, before_order, behind, below_or_from, cut_filled, cut_joined, cut_some, drop_joined, exchanged, exchanged_filled, exchanged_some, filled_at, first_of, inside}
+use Rattle.label_sweep.proofs.Chunks.{all_after, all_before, before_more, before_order, behind, below_or_from, cut_filled, cut_joined, cut_some, drop_joined, exchanged, exchanged_filled, exchanged_some, filled_at, first_of, inside}
 
 -- what a search finds
 pub record IsFound {A : Type 0} (p : Standing → Bool) (chunks : List (Vec Standing A)) (at : Place) : Type 0 where

@@ -10,12 +10,6 @@ is_above x h = omega (arith, ints)
 pub not_above : (x : ℤ) → int_lt (pos 0) x ≡ false → x ≤ℤ pos 0
 not_above x h = omega (arith, ints)
 
-pub is_from : (x : ℤ) → int_le (pos 0) x ≡ true → pos 0 ≤ℤ x
-is_from x h = omega (arith, ints)
-
-pub not_from : (x : ℤ) → int_le (pos 0) x ≡ false → x <ℤ pos 0
-not_from x h = omega (arith, ints)
-
 pub is_at_least : (b x : ℤ) → int_le b x ≡ true → b ≤ℤ x
 is_at_least b x h = omega (arith, ints)
 

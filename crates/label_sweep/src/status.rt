@@ -1,4 +1,7 @@
-//! The edges that stand, from low to high, in chunks, so that a vertex moves no more than a few of them.
+//! The edges that stand, from low to high, in chunks, so that a vertex moves no more than a few of them:
+//! 1. A place is found by the first edges of the chunks, and then within one chunk (`place`).
+//! 2. The chunk of the lower place keeps what is below it, and takes what begins and what the chunk of the higher place has from there on (`refill`).
+//! 3. The chunks after it, up to that of the higher place, are dropped (`drop_chunks`), and a chunk that has grown is split (`split`).
 
 ghost use Rattle.std.specs.Prelude.{◌≡◌, ◌<◌, ◌≤◌, ◌<ℤ◌, ◌≤ℤ◌, ◌++◌, [], pos, IfOk, OnOk, drop, int_le, int_lt, length, take, vec_len};
 ghost use Rattle.std.specs.List.{AllWithin, HoldsAt};

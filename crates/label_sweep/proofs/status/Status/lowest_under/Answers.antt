@@ -1,4 +1,4 @@
-use Rattle.std.proofs.Common.{◌≡◌, ◌≤◌, length, sym, ap, ◌∙◌, arith, subst}
+use Rattle.std.proofs.Common.{◌≤◌, length, sym, ap, ◌∙◌, arith, subst}
 use Rattle.std.specs.declared.vec.Vec.{Vec}
 use Rattle.label_sweep.specs.Labels.{under_lowest}
 use Rattle.label_sweep.specs.declared.standing.Standing.{Standing}
