@@ -1,8 +1,10 @@
 //! The strips of small lists of edges, and the directions of one edge after another.
 
+ghost use Rattle.face_label.specs.Strip.{IsSetOf};
+
 use super::{Row, noded_of};
 use crate::{StripSet, directions};
-use geom::{NoMemory, Op};
+use geom::{Counted, NoMemory, Op};
 use std::alloc::Global;
 use std::sync::Wait;
 use std::test::Fail;
@@ -64,6 +66,22 @@ const CASES: [Case; 5] = [
     (&[], Op::Union, &[]),
 ];
 
+/// What is told of each of the edges that the strips are of.
+fn told_by(
+    alloc: Global,
+    strips: &StripSet<Global>,
+    counted: &[Counted],
+    op: Op,
+) -> Result<Vec<Told>, NoMemory>
+    requires { IsSetOf counted.now strips.now }
+{
+    let mut all = Vec::new(alloc);
+    for one in counted {
+        all.push(directions(strips, one.edge, op))?;
+    }
+    Ok(all)
+}
+
 /// What is told of each edge.
 fn told_of_all<R: Threads + Wait + Sync>(
     rt: &R,
@@ -73,11 +91,7 @@ fn told_of_all<R: Threads + Wait + Sync>(
 ) -> Result<Vec<Told>, NoMemory> {
     let noded = noded_of(rt, alloc, rows)?;
     let strips = StripSet::build(alloc, &noded)?;
-    let mut all = Vec::new(alloc);
-    for one in noded.edges.as_slice() {
-        all.push(directions(&strips, one.edge, op))?;
-    }
-    Ok(all)
+    told_by(alloc, &strips, noded.edges.as_slice(), op)
 }
 
 #[test]
