@@ -84,9 +84,9 @@ held_wider run rect hull wider old l e w = record {
     kept k m = elim (cases_lt k run) [
       | inl less ↦ beside k (λ f. omega arith)
       | inr more ↦ elim (cases_lt run k) [
-          | inl less ↦ beside k (λ f. omega arith)
-          | inr other ↦ (let f : run ≡ k = omega arith in subst (λ j. Covers (hull_at (slice_set old run wider) j) (hull_at old j)) f here)
-        ]
+        | inl less ↦ beside k (λ f. omega arith)
+        | inr other ↦ (let f : run ≡ k = omega arith in subst (λ j. Covers (hull_at (slice_set old run wider) j) (hull_at old j)) f here)
+      ]
     ]
 
 -- ---- the hulls of more boxes

@@ -18,10 +18,13 @@ pub invariant_of-self-inside-2 : goal.invariant_of-self-inside-2
 invariant_of-self-inside-2 g c =
     let h = c.self.inside.are_rects in
     let k = c.self.inside.are_hulls in
-    let held = c.in_ok-hold.ensures.ok in
-    (either_way c.push.result (λ e. rects_grown _ _ c.args.rect h e) (λ e. rects_kept _ _ h e) c.push.ensures.ok c.push.ensures.err,
-    (either_way c.push.result (λ e. hulls_grown _ _ _ c.args.rect _ _ k held (ap (λ n. n / 256) c.len.ensures.value) e) (λ e. hulls_kept _ _ _ c.args.rect _ _ k held e) c.push.ensures.ok c.push.ensures.err,
-    tt))
+    let held = c.in_ok-hold.ensures.ok in (
+      either_way c.push.result (λ e. rects_grown _ _ c.args.rect h e) (λ e. rects_kept _ _ h e) c.push.ensures.ok c.push.ensures.err,
+      (
+        either_way c.push.result (λ e. hulls_grown _ _ _ c.args.rect _ _ k held (ap (λ n. n / 256) c.len.ensures.value) e) (λ e. hulls_kept _ _ _ c.args.rect _ _ k held e) c.push.ensures.ok c.push.ensures.err,
+        tt,
+      ),
+    )
 
 pub returns-clause-ok : goal.returns-clause-ok
 returns-clause-ok g c = on_ok c.push.result (λ e. boxes_grown _ _ c.self.inside.are_rects _ _ c.args.rect c.self.view_is e) c.push.ensures.ok
