@@ -7,6 +7,7 @@ pub mod Tests
 pub mod Labelling
 pub mod Members
 pub mod Ends
+pub mod Steepness
 pub mod Turning
 pub mod Passing
 pub mod Sweeping

@@ -98,3 +98,15 @@ pairs_of_map {X} {Y} R f xs a i j d l m = subst (λ (t : Y). R t (f (get_or xs j
   where
     at : (k : ℕ) → k < length xs → get_or (map f xs) k (f d) ≡ f (get_or xs k d)
     at k l = get_or-map f xs k d (f d) l
+
+-- and the other way round
+pub map_pairs : {X Y : Type 0} (R : Y → Y → Type 0) (f : X → Y) (xs : List X) → AllPairs (λ x y. R (f x) (f y)) xs → AllPairs R (map f xs)
+map_pairs R f [] a i j d l m = absurd (omega arith)
+map_pairs {X} {Y} R f (x ∷ xs) a i j d l m = subst (λ (t : Y). R t (get_or (map f (x ∷ xs)) j d)) (sym (at i (omega (arith, in_list))))
+    (subst (λ (t : Y). R (f (get_or (x ∷ xs) i x)) t) (sym (at j in_list)) (a i j x l in_list))
+  where
+    in_list : j < length (x ∷ xs)
+    in_list = omega (arith, m, length-map (x ∷ xs) f)
+
+    at : (k : ℕ) → k < length (x ∷ xs) → get_or (map f (x ∷ xs)) k d ≡ f (get_or (x ∷ xs) k x)
+    at k l = get_or-map f (x ∷ xs) k x d l

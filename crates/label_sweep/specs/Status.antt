@@ -1,5 +1,5 @@
 -- The order of the edges that a sweep keeps (own).
-use Rattle.std.specs.Prelude.{ℕ, ◌≤◌, ◌∷◌, [], length, slice_range, pos, ◌<ℤ◌, ◌≤ℤ◌, ◌+ℤ◌, ◌-ℤ◌, ◌*ℤ◌, ◌↔◌, ◌≡◌, ◌⊎◌, ℤ, List, AllPairs, Contains}
+use Rattle.std.specs.Prelude.{ℕ, Bool, int_lt, ◌≤◌, ◌∷◌, [], length, slice_range, pos, ◌<ℤ◌, ◌≤ℤ◌, ◌+ℤ◌, ◌-ℤ◌, ◌*ℤ◌, ◌↔◌, ◌≡◌, ◌⊎◌, ℤ, List, AllPairs, Contains}
 use Rattle.geom.specs.declared.point.Pt.{Pt}
 use Rattle.geom.specs.Order.{IsBefore, IsUpTo}
 use Rattle.geom.specs.Determinant.{turn}
@@ -38,6 +38,10 @@ pub record AreStanding (P : Edge → Type 0) (standing : List Edge) : Type 0 whe
 -- f is steeper than g, upright edges being the steepest: for edges with a common first end
 abbrev pub IsSteeper : Edge → Edge → Type 0
 IsSteeper f g = pos 0 <ℤ turn g.p g.q f.p f.q
+
+-- the test of it
+abbrev pub is_steeper : Edge → Edge → Bool
+is_steeper f g = int_lt (pos 0) (turn g.p g.q f.p f.q)
 
 -- the edges that begin at v, the steepest first
 pub record AreSpokes (es : List Edge) (v : Pt) (spokes : List Edge) : Type 0 where

@@ -1,16 +1,18 @@
-//! The place of an edge among those that begin with it.
+//! The order of the edges that begin at one vertex.
 
-ghost use Rattle.std.specs.Prelude.{◌≡◌, ◌≤◌, ◌<ℤ◌, ◌≤ℤ◌, pos, int_lt, length};
-ghost use Rattle.std.specs.List.{AllWithin};
-ghost use Rattle.std.specs.List.Sorted.{IsPartitionedBy};
+ghost use Rattle.std.specs.Prelude.{◌≡◌, IsPermutation, IsSortedBy};
+ghost use Rattle.std.specs.Ordering.{is_lt};
 ghost use Rattle.geom.specs.Limit.{AreInLimit};
 ghost use Rattle.geom.specs.Determinant.{turn};
+ghost use Rattle.label_sweep.specs.Status.{is_steeper};
 
 use crate::standing::Spoke;
 use geom::Edge;
+use std::alloc::Allocator;
+use std::cmp::Ordering;
 
 /// Above 0 where the first of two edges is the steeper one.
-pub fn steeper(one: &Edge, other: &Edge) -> i64
+fn steeper(one: &Edge, other: &Edge) -> i64
     requires one_in { AreInLimit one.now.p one.now.q }
     requires other_in { AreInLimit other.now.p other.now.q }
     ensures { result ≡ turn other.now.p other.now.q one.now.p one.now.q }
@@ -21,19 +23,21 @@ pub fn steeper(one: &Edge, other: &Edge) -> i64
         .determinant(one.p.vector_to(one.q))
 }
 
-/// Whether the first of two edges is steeper.
-fn is_steeper(spoke: &Spoke, other: Spoke) -> bool
-    ensures { result ≡ int_lt (pos 0) (turn other.one.edge.p other.one.edge.q spoke.now.one.edge.p spoke.now.one.edge.q) }
+/// By steepness, the steepest first, upright edges before all others.
+fn by_steepness(one: &Spoke, other: &Spoke) -> Ordering
+    ensures { is_lt result ≡ is_steeper one.now.one.edge other.now.one.edge }
 {
-    steeper(&spoke.one.edge, &other.one.edge) > 0
+    if steeper(&one.one.edge, &other.one.edge) > 0 {
+        Ordering::Less
+    } else {
+        Ordering::Greater
+    }
 }
 
-/// The number of edges that are steeper than another one with the same first end.
-pub fn first_flatter(spokes: &[Spoke], other: Spoke) -> usize
-    requires { IsPartitionedBy (λ s. int_lt (pos 0) (turn other.one.edge.p other.one.edge.q s.one.edge.p s.one.edge.q)) spokes.now }
-    ensures within { result ≤ length spokes.now }
-    ensures steeper { AllWithin (λ s. pos 0 <ℤ turn other.one.edge.p other.one.edge.q s.one.edge.p s.one.edge.q) spokes.now 0 result }
-    ensures rest { AllWithin (λ s. turn other.one.edge.p other.one.edge.q s.one.edge.p s.one.edge.q ≤ℤ pos 0) spokes.now result (length spokes.now) }
+/// Puts edges in their order by steepness.
+pub fn sort_by_steepness<A: Allocator>(spokes: &mut Vec<Spoke, A>)
+    ensures permutation { IsPermutation spokes.old.items spokes.new.items }
+    ensures sorted { IsSortedBy (λ s t. is_steeper s.one.edge t.one.edge) spokes.new.items }
 {
-    spokes.partition_point(|spoke| is_steeper(spoke, other))
+    spokes.sort_unstable_by(|one, other| by_steepness(one, other));
 }

@@ -1,16 +1,40 @@
-//! The edges that begin at one vertex, and their labels by turning from the steepest to the lowest.
+//! The edges that begin at one vertex, by turning from the steepest to the lowest:
+//! 1. They are taken as they are listed (`list_spokes`) and sorted by steepness, by exact determinants (`by_turn`). Of two noded
+//!    edges that begin at one vertex one is steeper, so they have one order.
+//! 2. The first one has on its left the parities that the vertex has there, and each further one those beyond the one before (`label`).
+//! 3. Those that are not upright stand from there on, from the lowest to the steepest (`stand`).
 
-ghost use Rattle.std.specs.Prelude.{◌≡◌, ◌∷◌, [], if◌then◌else◌, int_lt, ◌++◌, All, Contains, OnOk, map, reverse};
+ghost use Rattle.std.specs.Prelude.{◌≡◌, ◌≤◌, ◌∷◌, [], if◌then◌else◌, int_lt, ◌++◌, All, Contains, OnOk, length, map, reverse, slice_range};
+ghost use Rattle.geom.specs.Limit.{AreInLimit};
 ghost use Rattle.geom.specs.Rounded.{edges_of};
 ghost use Rattle.points_law.specs.Law.{AreLayers};
 ghost use Rattle.label_sweep.specs.Labels.{labels_from, standing_of, stands_from};
 ghost use Rattle.label_sweep.specs.Status.{AreSpokes, IsRangeAt};
 
 use crate::parities::Parities;
-use crate::place::first_flatter;
+use crate::place::sort_by_steepness;
 use crate::standing::{Labelled, Spoke, Standing};
 use geom::{Counted, NoMemory, Pt};
 use std::alloc::Allocator;
+
+/// The edges from one number to another, as they are listed.
+fn list_spokes<A: Allocator>(
+    spokes: &mut Vec<Spoke, A>,
+    counted: &[Counted],
+    from: usize,
+    next: usize,
+) -> Result<(), NoMemory>
+    requires in_limit { All (λ e. AreInLimit e.p e.q) (edges_of counted.now) }
+    requires order { from ≤ next }
+    requires within { next ≤ length counted.now }
+    ensures { OnOk result (map (λ s. s.one) spokes.new.items ≡ slice_range counted.now from next) }
+{
+    spokes.clear();
+    for one in &counted[from..next] {
+        spokes.push(Spoke { one: *one })?;
+    }
+    Ok(())
+}
 
 /// The edges that begin at a vertex, those from one number to another, the steepest first.
 pub fn by_turn<A: Allocator>(
@@ -25,12 +49,8 @@ pub fn by_turn<A: Allocator>(
     ensures spokes { OnOk result (AreSpokes (edges_of counted.now) v (map (λ s. s.one.edge) spokes.new.items)) }
     ensures inside { OnOk result (All (λ s. Contains counted.now s.one) spokes.new.items) }
 {
-    spokes.clear();
-    for i in from..next {
-        let spoke = Spoke { one: counted[i] };
-        let place = first_flatter(spokes, spoke);
-        spokes.insert(place, spoke)?;
-    }
+    list_spokes(spokes, counted, from, next)?;
+    sort_by_steepness(spokes);
     Ok(())
 }
 
