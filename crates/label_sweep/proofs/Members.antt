@@ -39,9 +39,6 @@ module _ {X : Type 0} where
   pub in_drop : (n : ℕ) (xs : List X) (x : X) → In x (drop n xs) → In x xs
   in_drop n xs x i = let P : List X → Type 0 = λ t. In x t in subst P (take-append-drop n xs) (in_right (take n xs) (drop n xs) x i)
 
-  pub take_or_drop : (n : ℕ) (xs : List X) (x : X) → In x xs → In x (take n xs) ⊎ In x (drop n xs)
-  take_or_drop n xs x i = let P : List X → Type 0 = λ t. In x t in in_append (take n xs) (drop n xs) x (subst P (sym (take-append-drop n xs)) i)
-
   pub within_take : (P : X → Type 0) (xs : List X) (n : ℕ) → AllWithin P xs 0 n → (x : X) → In x (take n xs) → P x
   within_take P [] zero a x i = absurd i
   within_take P [] (suc n) a x i = absurd i

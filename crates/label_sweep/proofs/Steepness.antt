@@ -19,9 +19,6 @@ abbrev pub comes_first : Spoke → Spoke → Bool
 comes_first s t = is_steeper s.one.edge t.one.edge
 
 -- ---- the test and the relation
-passes : (x : ℤ) → pos 0 <ℤ x → int_lt (pos 0) x ≡ true
-passes x h = grind (arith, ints)
-
 pub passed : (x : ℤ) → int_lt (pos 0) x ≡ true → pos 0 <ℤ x
 passed x h = omega (arith, ints)
 
@@ -33,9 +30,6 @@ failed x h = omega (arith, ints)
 
 slope_of : (f g : Edge) → is_steeper f g ≡ true → pos 0 <ℤ slope f g
 slope_of f g h = subst (λ (t : ℤ). pos 0 <ℤ t) (turn_is (run f) (rise f) (run g) (rise g)) (passed _ h)
-
-of_slope : (f g : Edge) → pos 0 <ℤ slope f g → is_steeper f g ≡ true
-of_slope f g h = passes _ (subst (λ (t : ℤ). pos 0 <ℤ t) (sym (turn_is (run f) (rise f) (run g) (rise g))) h)
 
 no_slope_of : (f g : Edge) → is_steeper f g ≡ false → slope f g ≤ℤ pos 0
 no_slope_of f g h = subst (λ (t : ℤ). t ≤ℤ pos 0) (turn_is (run f) (rise f) (run g) (rise g)) (failed _ h)

@@ -4,12 +4,6 @@ use Rattle.std.proofs.lemmas.Int.{ints}
 use Rattle.std.specs.Prelude.{pos, ◌<ℤ◌, ◌≤ℤ◌}
 use Rattle.std.proofs.Math.IntN.{ℤ}
 
-pub is_above : (x : ℤ) → int_lt (pos 0) x ≡ true → pos 0 <ℤ x
-is_above x h = omega (arith, ints)
-
-pub not_above : (x : ℤ) → int_lt (pos 0) x ≡ false → x ≤ℤ pos 0
-not_above x h = omega (arith, ints)
-
 pub is_at_least : (b x : ℤ) → int_le b x ≡ true → b ≤ℤ x
 is_at_least b x h = omega (arith, ints)
 

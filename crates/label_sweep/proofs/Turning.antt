@@ -82,7 +82,7 @@ module _ (cs : List Counted) (h : AreLayers cs) (v : Pt) (from next : ℕ) (r : 
       let b = begins s (inside i d (omega arith)) in
       let c = begins t (inside j d m) in
       let x : lt_z (pos 0) (slope s.one.edge t.one.edge) ⊕ lt_z (pos 0) (slope t.one.edge s.one.edge) ≡ true
-          = steep_p (edges_of cs) (edges_in cs h) s.one.edge t.one.edge (edge_in s.one b.0) (edge_in t.one c.0) (differs i j d l m) (b.1 ∙ sym c.1) (slopes s.one.edge) (slopes t.one.edge) refl refl in
+      = steep_p (edges_of cs) (edges_in cs h) s.one.edge t.one.edge (edge_in s.one b.0) (edge_in t.one c.0) (differs i j d l m) (b.1 ∙ sym c.1) (slopes s.one.edge) (slopes t.one.edge) refl refl in
       no_tie (comes_first s t) (comes_first t s) (sym ((λ i. tests_as s.one.edge t.one.edge i ⊕ tests_as t.one.edge s.one.edge i)) ∙ x)
 
   -- ---- and sorted
