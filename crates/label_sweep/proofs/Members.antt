@@ -4,7 +4,7 @@ use Rattle.std.specs.List.{All, AllPairs, AllWithin}
 use Rattle.std.proofs.lemmas.List.{get_or-map, length-map, reverse-append, map-append, take-append-drop}
 use Rattle.std.proofs.lemmas.List.Elements.{All-nil, All-cons, All-contains}
 use Rattle.std.proofs.lemmas.List.Sorted.{Contains-permutation, IsPermutation-reverse, IsPermutation-sym}
-use Rattle.geom.proofs.Lists.{In, in_contains, contains_in, in_append}
+use Rattle.geom.proofs.Lists.{In, in_contains, contains_in}
 
 module _ {X : Type 0} where
   pub all_of_in : (P : X → Type 0) (xs : List X) → ((x : X) → In x xs → P x) → All P xs
