@@ -1,7 +1,8 @@
 //! The edges that begin at one vertex, by turning from the steepest to the lowest:
-//! 1. They are taken as they are listed (`list_spokes`) and sorted by steepness, by exact determinants (`by_turn`). Of two noded
-//!    edges that begin at one vertex one is steeper, so they have one order.
-//! 2. The first one has on its left the parities that the vertex has there, and each further one those beyond the one before (`label`).
+//! 1. They are taken as they are listed (`list_spokes`) and sorted by exact determinants (`sort_by_steepness`). Of two noded edges
+//!    that begin at one vertex one is steeper, so they have one order (`by_turn`).
+//! 2. The first one has on its left the parities under the lowest edge above the vertex, and each further one those beyond the one
+//!    before (`label`).
 //! 3. Those that are not upright stand from there on, from the lowest to the steepest (`stand`).
 
 ghost use Rattle.std.specs.Prelude.{◌≡◌, ◌≤◌, ◌∷◌, [], if◌then◌else◌, int_lt, ◌++◌, All, Contains, OnOk, length, map, reverse, slice_range};
