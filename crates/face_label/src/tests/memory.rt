@@ -68,9 +68,7 @@ fn refuses_each_request(rt: HostRuntime) -> Result<(), Fail> {
     for case in CASES {
         let count = refusals(&rt, rt.alloc(), case)?;
         assert!(rt;
-            count.is_some_and(
-                |count| (0 < count) != case.0.is_empty() && count < REQUESTS
-            ),
+            count.is_some_and(|count| (0 < count) != case.0.is_empty() && count < REQUESTS),
             "{case:?} {count:?}"
         );
     }

@@ -2,4 +2,4 @@ use Rattle.std.proofs.Common.{refl, sym}
 use Rattle.face_label.proofs.tests.stripes.are_told.Goals as goal
 
 pub directions-requires : goal.directions-requires
-directions-requires c = record { counted = c.args.counted.now; are = c.requires; one = c.index-counted-i.result; listed = (c.loop-i.i, c.loop-i-test.true, sym c.index-counted-i.is); is = refl }
+directions-requires g c = record { counted = c.args.counted.now; are = c.requires; one = c.index-counted-i.result; listed = (c.loop-i.i, c.loop-i-test.true, sym c.index-counted-i.is); is = refl }
