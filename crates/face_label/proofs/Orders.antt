@@ -1,10 +1,9 @@
 -- The order of directed edges, and lists that are sorted and rid of repeats.
-use Rattle.std.proofs.Common.{◌≡◌, inl, inr, List, [], Bool, true, Ordering, Less, Equal, Greater, sym, arith, rules, get_or, ◌↔◌}
-use Rattle.std.proofs.Math.IntN.{ℤ}
-use Rattle.std.specs.Prelude.{AllPairs, Contains, ◌<ℤ◌, ◌≤ℤ◌, ◌&&◌}
-use Rattle.std.specs.Cmp.{IsTotalOrder, IsEquivalence, int_ranks}
+use Rattle.std.proofs.Common.{◌≡◌, inl, inr, List, [], Bool, true, Ordering, Less, Equal, Greater, sym, rules, get_or, ◌↔◌}
+use Rattle.std.specs.Prelude.{AllPairs, Contains, ◌&&◌}
+use Rattle.std.specs.Cmp.{IsTotalOrder, IsEquivalence}
 use Rattle.std.specs.Cmp.Rules.{comparing}
-use Rattle.std.specs.Ordering.{eq_by_cmp, int_cmp, ordering_then, MatchOrdering}
+use Rattle.std.specs.Ordering.{eq_by_cmp, ordering_then, MatchOrdering}
 use Rattle.std.specs.List.{dedup}
 use Rattle.std.specs.List.Sorted.{IsPermutation, IsSorted}
 use Rattle.std.specs.List.Retain.{IsFiltered, DiffersFromLast}
@@ -12,15 +11,14 @@ use Rattle.std.proofs.lemmas.List.Sorted.{Contains-permutation, IsPermutation-sy
 use Rattle.std.proofs.lemmas.List.Kept.{IsStrictlySortedBy-dedup, Contains-dedup, Contains-from_dedup}
 use Rattle.std.proofs.lemmas.List.Filters.{dedup_is}
 use Rattle.std.proofs.lemmas.Map.Keys.{Less-from_sorted}
-use Rattle.std.proofs.lemmas.Cmp.{then_total, on_total, and_equiv, on_equiv, int_cmp_total, int_eq_equiv}
+use Rattle.std.proofs.lemmas.Cmp.{then_total, on_total, and_equiv, on_equiv}
 use Rattle.geom.specs.declared.point.Pt.{Pt}
 use Rattle.geom.specs.declared.directed.DirectedEdge.{DirectedEdge}
 use Rattle.geom.specs.Order.{IsBefore}
 use Rattle.geom.specs.Directed.{IsDirectedBefore}
 use Rattle.geom.specs.Segments.{same_point}
+use Rattle.geom.proofs.Orders.{before_less, pt_cmp, pt_equivalence, pt_ranks, pt_ties, pt_total}
 use Rattle.geom.proofs.Points.{and_both, same_point_true}
-use Rattle.geom.proofs.Edges.{before_strict}
-use Rattle.geom.proofs.Integers.{linear}
 
 -- ---- any total order
 -- zs has the items of xs, each once and ascending
@@ -42,66 +40,8 @@ sorted_once {R = R} {E = E} total equivalence ties exact xs ys zs moved sorted k
     is = dedup_is E ys zs kept
 
 -- ---- points
-pub before_trans : (p q r : Pt) → IsBefore p q → IsBefore q r → IsBefore p r
-before_trans p q r h k = record { column = columns h.column k.column; row = λ e. rows (h.row (level h.column k.column e)) (k.row (level_2 h.column k.column e)) }
-  where
-    columns : {x y z : ℤ} → x ≤ℤ y → y ≤ℤ z → x ≤ℤ z
-    columns {x} {y} {z} a b = omega (arith, linear)
-
-    level : {x y z : ℤ} → x ≤ℤ y → y ≤ℤ z → x ≡ z → x ≡ y
-    level {x} {y} {z} a b e = omega (arith, linear)
-
-    level_2 : {x y z : ℤ} → x ≤ℤ y → y ≤ℤ z → x ≡ z → y ≡ z
-    level_2 {x} {y} {z} a b e = omega (arith, linear)
-
-    rows : {x y z : ℤ} → x <ℤ y → y <ℤ z → x <ℤ z
-    rows {x} {y} {z} a b = omega (arith, linear)
-
-pub before_itself : (p : Pt) → IsBefore p p → ⊥
-before_itself p h = before_strict p p h h
-
-abbrev pub pt_cmp : Pt → Pt → Ordering
-pt_cmp p q = ordering_then (int_cmp p.x q.x) (int_cmp p.y q.y)
-
-weak : {x y : ℤ} → x <ℤ y → x ≤ℤ y
-weak {x} {y} h = omega (arith, linear)
-
-clash_same : {x y : ℤ} → x <ℤ y → x ≡ y → ⊥
-clash_same {x} {y} h e = omega (arith, linear)
-
-first_column : (p q : Pt) → p.x <ℤ q.x → IsBefore p q
-first_column p q h = record { column = weak h; row = λ e. absurd (clash_same h e) }
-
-same_le : {x y : ℤ} → x ≡ y → x ≤ℤ y
-same_le {x} {y} h = omega (arith, linear)
-
--- what the comparison of two points says
-pub pt_ranks : (p q : Pt) → MatchOrdering (pt_cmp p q) (IsBefore p q) (p ≡ q) (IsBefore q p)
-pt_ranks p q = columns (int_cmp p.x q.x) (int_cmp p.y q.y) (int_ranks p.x q.x) (int_ranks p.y q.y)
-  where
-    columns : (o u : Ordering) → MatchOrdering o (p.x <ℤ q.x) (p.x ≡ q.x) (q.x <ℤ p.x) → MatchOrdering u (p.y <ℤ q.y) (p.y ≡ q.y) (q.y <ℤ p.y) → MatchOrdering (ordering_then o u) (IsBefore p q) (p ≡ q) (IsBefore q p)
-    columns Less u h k = first_column p q h
-    columns Greater u h k = first_column q p h
-    columns Equal Less h k = record { column = same_le h; row = λ e. k }
-    columns Equal Equal h k = λ i. record { x = h i; y = k i }
-    columns Equal Greater h k = record { column = same_le (sym h); row = λ e. k }
-
-pub pt_total : IsTotalOrder pt_cmp
-pt_total = then_total (on_total (λ (p : Pt). p.x) int_cmp_total) (on_total (λ (p : Pt). p.y) int_cmp_total)
-
-pub pt_equivalence : IsEquivalence same_point
-pt_equivalence = and_equiv (on_equiv (λ (p : Pt). p.x) int_eq_equiv) (on_equiv (λ (p : Pt). p.y) int_eq_equiv)
-
-pub pt_ties : (p q : Pt) → same_point p q ≡ eq_by_cmp pt_cmp p q
-pt_ties = search (comparing, rules)
-
-told : (A B C : Type 0) (o : Ordering) → MatchOrdering o A B C → o ≡ Less → A
-told A B C Less h e = h
-told A B C Equal h e = absurd (cc)
-told A B C Greater h e = absurd (cc)
-
 pub pt_less : (p q : Pt) → pt_cmp p q ≡ Less → IsBefore p q
-pt_less p q e = told (IsBefore p q) (p ≡ q) (IsBefore q p) (pt_cmp p q) (pt_ranks p q) e
+pt_less = before_less
 
 -- points that are sorted and rid of repeats
 pub points_once : (xs ys zs : List Pt) → IsPermutation xs ys → IsSorted pt_cmp ys → IsFiltered (DiffersFromLast same_point) [] ys zs → IsSortedOnce pt_cmp xs zs
@@ -139,6 +79,11 @@ same_directed_true d e h = let a = and_both _ _ h in λ i. record { from = same_
 -- directed edges that are sorted and rid of repeats
 pub directed_once : (xs ys zs : List DirectedEdge) → IsPermutation xs ys → IsSorted directed_cmp ys → IsFiltered (DiffersFromLast same_directed) [] ys zs → IsSortedOnce directed_cmp xs zs
 directed_once = sorted_once directed_total directed_equivalence directed_ties same_directed_true
+
+told : (A B C : Type 0) (o : Ordering) → MatchOrdering o A B C → o ≡ Less → A
+told A B C Less h e = h
+told A B C Equal h e = absurd (cc)
+told A B C Greater h e = absurd (cc)
 
 pub directed_ascending : (ds : List DirectedEdge) → AllPairs (λ d e. directed_cmp d e ≡ Less) ds → AllPairs IsDirectedBefore ds
 directed_ascending ds h = λ i j d a b. told (IsDirectedBefore (get_or ds i d) (get_or ds j d)) (get_or ds i d ≡ get_or ds j d) (IsDirectedBefore (get_or ds j d) (get_or ds i d)) (directed_cmp (get_or ds i d) (get_or ds j d)) (directed_ranks (get_or ds i d) (get_or ds j d)) (h i j d a b)

@@ -1,9 +1,9 @@
 -- How the edges of the strips are found.
-use Rattle.std.proofs.Common.{◌≡◌, ◌⊎◌, ℕ, ◌+◌, ◌<◌, ◌≤◌, false, cond, List, [], ◌∷◌, ◌++◌, length, get_or, map, take, Option, Some, None, refl, sym, ◌∙◌, ap, subst, inl, inr, arith, length-append, ℤ, pos, ◌+ℤ◌, ◌*ℤ◌, w32, to_z, of_z, to_z-of_z, FitsSigned}
+use Rattle.std.proofs.Common.{◌≡◌, ◌⊎◌, ℕ, ◌+◌, ◌<◌, ◌≤◌, Bool, true, false, cond, List, [], ◌∷◌, ◌++◌, length, get_or, map, take, Option, Some, None, refl, sym, ◌∙◌, ap, subst, inl, inr, arith, length-append, ℤ, pos, ◌+ℤ◌, ◌*ℤ◌, w32, to_z, of_z, to_z-of_z, FitsSigned}
 use Rattle.std.specs.Prelude.{◌≤ℤ◌, All, Contains, slice_get, int_lt, filter}
 use Rattle.std.specs.Option.{option_map}
 use Rattle.std.specs.Int.{int_min, int_max}
-use Rattle.std.proofs.lemmas.Int.{ints}
+use Rattle.std.proofs.lemmas.Int.{ints, int_min_is, int_max_is}
 use Rattle.std.proofs.lemmas.Bool.{cases_lt}
 use Rattle.std.proofs.lemmas.List.{get_or_default, take_more}
 use Rattle.std.proofs.lemmas.List.Elements.{All-more, All-weaker, All-filter, All-map, Contains-append_left, Contains-push}
@@ -38,6 +38,33 @@ one_within : (r a b : ℤ) → (r ≡ a) ⊎ (r ≡ b) → IsWithin coordinate_l
 one_within r a b (inl e) h k = let P : ℤ → Type 0 = IsWithin coordinate_limit in subst P (sym e) h
 one_within r a b (inr e) h k = let P : ℤ → Type 0 = IsWithin coordinate_limit in subst P (sym e) k
 
+-- the lesser and the greater of two numbers
+min_left : (a b r : ℤ) → r ≡ int_min a b → r ≤ℤ a
+min_left a b r e = grind (arith, ints, int_min_is a b)
+
+min_right : (a b r : ℤ) → r ≡ int_min a b → r ≤ℤ b
+min_right a b r e = grind (arith, ints, int_min_is a b)
+
+min_one : (a b r : ℤ) → r ≡ int_min a b → (r ≡ a) ⊎ (r ≡ b)
+min_one a b r e = either (int_lt b a) refl
+  where
+    either : (t : Bool) → int_lt b a ≡ t → (r ≡ a) ⊎ (r ≡ b)
+    either true s = inr (e ∙ ap (λ t. cond t b a) s)
+    either false s = inl (e ∙ ap (λ t. cond t b a) s)
+
+max_left : (a b r : ℤ) → r ≡ int_max a b → a ≤ℤ r
+max_left a b r e = grind (arith, ints, int_max_is a b)
+
+max_right : (a b r : ℤ) → r ≡ int_max a b → b ≤ℤ r
+max_right a b r e = grind (arith, ints, int_max_is a b)
+
+max_one : (a b r : ℤ) → r ≡ int_max a b → (r ≡ a) ⊎ (r ≡ b)
+max_one a b r e = either (int_lt b a) refl
+  where
+    either : (t : Bool) → int_lt b a ≡ t → (r ≡ a) ⊎ (r ≡ b)
+    either true s = inl (e ∙ ap (λ t. cond t a b) s)
+    either false s = inr (e ∙ ap (λ t. cond t a b) s)
+
 le_through : (a b c : ℤ) → a ≤ℤ b → b ≤ℤ c → a ≤ℤ c
 le_through a b c h k = omega (arith, linear)
 
@@ -60,8 +87,8 @@ module _ (cs : List Counted) (i : ℕ) (c : Counted) (inside : i < length cs) (h
   reached at first old new (inl e) (inr (d, k, f)) = inr (d, still_there d k, e ∙ f)
 
 pub more_columns : (first : Edge) (cs : List Counted) (i : ℕ) (c : Counted) (low high a b p q l h : ℤ) → a ≡ low → b ≡ high → p ≡ c.edge.p.x → q ≡ c.edge.q.x → i < length cs → get_or cs i c ≡ c → AreInLimit c.edge.p c.edge.q
-    → l ≤ℤ a → l ≤ℤ p → (l ≡ a) ⊎ (l ≡ p) → b ≤ℤ h → q ≤ℤ h → (h ≡ b) ⊎ (h ≡ q) → AreColumnsFrom first (take i cs) low high → AreColumnsFrom first (take (i + 1) cs) l h
-more_columns first cs i c low high a b p q l h ea eb ep eq inside here limit l1' l2' l3' h1' h2' h3' o = record {
+    → l ≡ int_min a p → h ≡ int_max b q → AreColumnsFrom first (take i cs) low high → AreColumnsFrom first (take (i + 1) cs) l h
+more_columns first cs i c low high a b p q l h ea eb ep eq inside here limit least greatest o = record {
   order = le_through l low h l1 (le_through low high h o.order h1);
   low_in = one_within l low c.edge.p.x l3 o.low_in limit.a_in.x_in;
   high_in = one_within h high c.edge.q.x h3 o.high_in limit.b_in.x_in;
@@ -72,23 +99,29 @@ more_columns first cs i c low high a b p q l h ea eb ep eq inside here limit l1'
       (let P : Counted → Type 0 = λ c. (l ≤ℤ c.edge.p.x) × (c.edge.q.x ≤ℤ h) in subst P (sym here) (l2, h2));
 }
   where
+    least_is : l ≡ int_min low c.edge.p.x
+    least_is = least ∙ (λ j. int_min (ea j) (ep j))
+
+    greatest_is : h ≡ int_max high c.edge.q.x
+    greatest_is = greatest ∙ (λ j. int_max (eb j) (eq j))
+
     l1 : l ≤ℤ low
-    l1 = let P : ℤ → Type 0 = λ t. l ≤ℤ t in subst P ea l1'
+    l1 = min_left low c.edge.p.x l least_is
 
     h1 : high ≤ℤ h
-    h1 = let P : ℤ → Type 0 = λ t. t ≤ℤ h in subst P eb h1'
+    h1 = max_left high c.edge.q.x h greatest_is
 
     l2 : l ≤ℤ c.edge.p.x
-    l2 = let P : ℤ → Type 0 = λ t. l ≤ℤ t in subst P ep l2'
+    l2 = min_right low c.edge.p.x l least_is
 
     h2 : c.edge.q.x ≤ℤ h
-    h2 = let P : ℤ → Type 0 = λ t. t ≤ℤ h in subst P eq h2'
+    h2 = max_right high c.edge.q.x h greatest_is
 
     l3 : (l ≡ low) ⊎ (l ≡ c.edge.p.x)
-    l3 = let P : ℤ → Type 0 = λ t. (l ≡ t) ⊎ (l ≡ c.edge.p.x) in let Q : ℤ → Type 0 = λ t. (l ≡ a) ⊎ (l ≡ t) in subst P ea (subst Q ep l3')
+    l3 = min_one low c.edge.p.x l least_is
 
     h3 : (h ≡ high) ⊎ (h ≡ c.edge.q.x)
-    h3 = let P : ℤ → Type 0 = λ t. (h ≡ t) ⊎ (h ≡ c.edge.q.x) in let Q : ℤ → Type 0 = λ t. (h ≡ b) ⊎ (h ≡ t) in subst P eb (subst Q eq h3')
+    h3 = max_one high c.edge.q.x h greatest_is
 
 -- ---- boxes
 lt_off : (a b : ℤ) → b ≤ℤ a → int_lt a b ≡ false

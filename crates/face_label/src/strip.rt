@@ -1,6 +1,6 @@
 //! The edges of odd count of the two layers, by vertical strips.
 
-ghost use Rattle.std.specs.Prelude.{◌≡◌, ◌⊎◌, ◌<◌, ◌≤ℤ◌, All, IfOk, List, Option, length, option_map, vec_len};
+ghost use Rattle.std.specs.Prelude.{◌≡◌, ◌<◌, ◌≤ℤ◌, All, IfOk, List, Option, length, option_map, vec_len};
 ghost use Rattle.geom.specs.Limit.{AreInLimit, IsWithin, coordinate_limit};
 ghost use Rattle.geom.specs.declared.edge.Counted.{Counted};
 ghost use Rattle.tiling.specs.Strips.{strip_count};
@@ -120,22 +120,6 @@ impl<A: Allocator> LayerStrips<A> {
     }
 }
 
-fn least(a: i32, b: i32) -> i32
-    ensures first { result ≤ℤ a }
-    ensures second { result ≤ℤ b }
-    ensures one { (result ≡ a) ⊎ (result ≡ b) }
-{
-    if b < a { b } else { a }
-}
-
-fn greatest(a: i32, b: i32) -> i32
-    ensures first { a ≤ℤ result }
-    ensures second { b ≤ℤ result }
-    ensures one { (result ≡ a) ⊎ (result ≡ b) }
-{
-    if a < b { b } else { a }
-}
-
 /// The least and the greatest x of the first edge and of the others.
 fn columns_from(first: Edge, counted: &[Counted]) -> (i32, i32)
     requires first_in { AreInLimit first.p first.q }
@@ -145,8 +129,8 @@ fn columns_from(first: Edge, counted: &[Counted]) -> (i32, i32)
     let mut low = first.p.x;
     let mut high = first.q.x;
     for one in counted {
-        low = least(low, one.edge.p.x);
-        high = greatest(high, one.edge.q.x);
+        low = low.min(one.edge.p.x);
+        high = high.max(one.edge.q.x);
     }
     (low, high)
 }

@@ -10,18 +10,66 @@ use crate::labels;
 use chain_gather::Rounded;
 use geom::{Counted, DirectedEdge, Edge, NoMemory, Op, Pt, Rect};
 use noding_test::{Noded, noded};
-use std::alloc::Allocator;
+use std::alloc::{Allocator, Global};
 use std::sync::Wait;
+use std::test::Fail;
 use std::thread::Threads;
 use tile_book::OpenGate;
 use tiling::Grid;
 
+mod memory;
 mod plain;
 mod stripes;
 
+/// The ends of an edge, and its counts in both layers.
 type Row = (i32, i32, i32, i32, u32, u32);
 
+/// The start and the end of a directed edge.
 type Way = (i32, i32, i32, i32);
+
+/// Whether an edge bounds the result from its first end to its second, and back.
+type Told = (bool, bool);
+
+/// Edges, an operation, what is told of each edge, and the edges of the result.
+type Case = (&'static [Row], Op, &'static [Told], &'static [Way]);
+
+/// The bow tie with a doubled edge: strips of the columns 0 and 1.
+const TIE: &[Row] = &[
+    (0, 0, 1, 0, 1, 0),
+    (0, 0, 1, 1, 1, 0),
+    (0, 1, 1, 1, 2, 0),
+    (1, 0, 1, 1, 1, 0),
+];
+
+/// One square in both layers: strips of the columns 0 to 4.
+const SQUARE: &[Row] = &[
+    (0, 0, 0, 4, 1, 1),
+    (0, 0, 4, 0, 1, 1),
+    (0, 4, 4, 4, 1, 1),
+    (4, 0, 4, 4, 1, 1),
+];
+
+/// None of four edges bounds the result.
+const NEITHER: &[Told] = &[(false, false); 4];
+
+const CASES: [Case; 5] = [
+    (
+        TIE,
+        Op::Union,
+        &[(true, false), (false, true), (false, false), (true, false)],
+        &[(0, 0, 1, 0), (1, 0, 1, 1), (1, 1, 0, 0)],
+    ),
+    (TIE, Op::Intersection, NEITHER, &[]),
+    (
+        SQUARE,
+        Op::Union,
+        &[(false, true), (true, false), (false, true), (true, false)],
+        &[(0, 0, 4, 0), (0, 4, 0, 0), (4, 0, 4, 4), (4, 4, 0, 4)],
+    ),
+    (SQUARE, Op::SymDifference, NEITHER, &[]),
+    // no edges, so no strips
+    (&[], Op::Union, &[], &[]),
+];
 
 /// The corners of a box that has all edges.
 const CORNERS: (Pt, Pt) = (Pt { x: 0, y: 0 }, Pt { x: 200, y: 200 });
@@ -116,15 +164,16 @@ fn noded_of<A: Allocator + Copy + Send + Sync, R: Threads + Wait + Sync>(
 }
 
 /// Whether the labels are these directed edges.
-fn gives<A: Allocator + Copy + Sync + Send, R: Threads + Wait + Sync>(
+fn are_labels<A: Allocator + Copy + Sync + Send, B: Allocator, R: Threads + Wait + Sync>(
     rt: &R,
     alloc: A,
-    rows: &[Row],
+    noded: &Noded<B>,
     op: Op,
     ways: &[Way],
-) -> Result<bool, NoMemory> {
-    let noded = noded_of(rt, alloc, rows)?;
-    let directed = labels(rt, alloc, &noded, op)?;
+) -> Result<bool, NoMemory>
+    requires { All (λ c. AreInLimit c.edge.p c.edge.q) noded.now.edges.items }
+{
+    let directed = labels(rt, alloc, noded, op)?;
     let edges = directed.edges();
     Ok(
         edges.len() == ways.len()
@@ -139,50 +188,23 @@ fn is_way(edge: DirectedEdge, way: Way) -> bool {
     edge.from == Pt { x: way.0, y: way.1 } && edge.to == Pt { x: way.2, y: way.3 }
 }
 
+/// Whether the labels of a case are those that it names.
+fn is_labelled<R: Threads + Wait + Sync>(
+    rt: &R,
+    alloc: Global,
+    case: Case,
+) -> Result<bool, NoMemory> {
+    let (rows, op, _, ways) = case;
+    let noded = noded_of(rt, alloc, rows)?;
+    are_labels(rt, alloc, &noded, op, ways)
+}
+
 #[test]
-fn small_lists(rt: HostRuntime) {
-    let alloc = rt.alloc();
-    // the bow tie with a doubled edge
-    let tie: [Row; 4] = [
-        (0, 0, 1, 0, 1, 0),
-        (0, 0, 1, 1, 1, 0),
-        (0, 1, 1, 1, 2, 0),
-        (1, 0, 1, 1, 1, 0),
-    ];
-    assert_eq!(rt;
-        gives(
-            &rt,
-            alloc,
-            &tie,
-            Op::Union,
-            &[(0, 0, 1, 0), (1, 0, 1, 1), (1, 1, 0, 0)]
-        ),
-        Ok(true)
-    );
-    assert_eq!(rt; gives(&rt, alloc, &tie, Op::Intersection, &[]), Ok(true));
-    // no edges, so no strips
-    assert_eq!(rt; gives(&rt, alloc, &[], Op::Union, &[]), Ok(true));
-    // one square in both layers
-    let square: [Row; 4] = [
-        (0, 0, 0, 4, 1, 1),
-        (0, 0, 4, 0, 1, 1),
-        (0, 4, 4, 4, 1, 1),
-        (4, 0, 4, 4, 1, 1),
-    ];
-    assert_eq!(rt;
-        gives(
-            &rt,
-            alloc,
-            &square,
-            Op::Union,
-            &[(0, 0, 4, 0), (0, 4, 0, 0), (4, 0, 4, 4), (4, 4, 0, 4)]
-        ),
-        Ok(true)
-    );
-    assert_eq!(rt;
-        gives(&rt, alloc, &square, Op::SymDifference, &[]),
-        Ok(true)
-    );
+fn small_lists(rt: HostRuntime) -> Result<(), Fail> {
+    for case in CASES {
+        assert!(rt; is_labelled(&rt, rt.alloc(), case)?, "{case:?}");
+    }
+    Ok(())
 }
 
 /// Adds a square of side 3, and its edges directed counter-clockwise.

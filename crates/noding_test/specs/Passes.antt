@@ -4,13 +4,17 @@ use Rattle.geom.specs.declared.point.Pt.{Pt}
 use Rattle.geom.specs.declared.rect.Rect.{Rect}
 use Rattle.geom.specs.declared.edge.Edge.{Edge}
 use Rattle.geom.specs.declared.edge.Counted.{Counted}
+use Rattle.geom.specs.declared.fault.Fault.{Fault}
+use Rattle.geom.specs.declared.fault.Fault.TheVariants.{Memory, NotNoded}
 use Rattle.geom.specs.Box.{IsInBox, greatest_corner, least_corner}
-use Rattle.geom.specs.Noded.{IsPairBefore}
+use Rattle.geom.specs.Noded.{IsLeastBad, IsPairBefore}
 use Rattle.tiling.specs.Bins.{Binned}
 use Rattle.tiling.specs.Index.{AreIndexed}
 use Rattle.tiling.specs.Tiles.{Tiling, Owns, HasTile}
 use Rattle.hot_pixel.specs.Rects.{IsIn}
 use Rattle.chain_gather.specs.Gathered.{corners}
+use Rattle.chain_gather.specs.declared.rounded.Rounded.{Rounded}
+use Rattle.noding_test.specs.declared.noded_edges.Noded.{Noded}
 use Rattle.noding_test.specs.declared.verdicts.Verdict.{Verdict}
 use Rattle.noding_test.specs.Verdicts.{IsOwnBad, chosen_edges}
 
@@ -24,6 +28,16 @@ EdgesHaveTiles g edges = (e : Edge) (p : Pt) → Contains edges e → IsInBox (l
 abbrev pub BoundsHoldEdges : Option Rect → List Edge → Type 0
 BoundsHoldEdges None edges = (e : Edge) → ¬ (Contains edges e)
 BoundsHoldEdges (Some r) edges = (e : Edge) → Contains edges e → IsInBox r.lo r.hi e.p × IsInBox r.lo r.hi e.q
+
+-- ---- what is answered
+
+-- the same edges, counts and numbers
+abbrev pub IsAllOf : {A : Type 0} → Rounded A → Noded A → Type 0
+IsAllOf rounded noded = (noded.edges ≡ rounded.edges) × (noded.tiles ≡ rounded.tiles) × (noded.remade ≡ rounded.remade)
+
+-- want of memory, or the least bad pair
+abbrev pub IsTestFault : List Edge → Fault → Type 0
+IsTestFault edges fault = (fault ≡ Memory) ⊎ ((e f : Edge) × (fault ≡ NotNoded e f) × IsLeastBad edges e f)
 
 -- ---- the edges near a tile
 

@@ -1,14 +1,12 @@
 //! The noding test of edges from elsewhere, over the tiles of a grid and by many workers.
 
-ghost use Rattle.std.specs.Prelude.{◌≡◌, ◌⊎◌, ◌<◌, ◌≤◌, All, AllPairs, IfOk, MatchOption, MatchResult};
+ghost use Rattle.std.specs.Prelude.{◌≡◌, ◌<◌, ◌≤◌, All, AllPairs, IfOk, MatchOption, MatchResult};
 ghost use Rattle.geom.specs.Limit.{AreInLimit};
 ghost use Rattle.geom.specs.EdgeOrder.{IsEdgeBefore};
 ghost use Rattle.geom.specs.Noded.{IsLeastBad, IsNoded};
 ghost use Rattle.geom.specs.Rounded.{edges_of};
-ghost use Rattle.geom.specs.declared.edge.Edge.{Edge};
-ghost use Rattle.geom.specs.declared.fault.Fault.TheVariants.{Memory, NotNoded};
 ghost use Rattle.tiling.specs.Tiles.{tile_count};
-ghost use Rattle.noding_test.specs.Passes.{AreBinsOfEdges, AreBoxesOfEdges, EdgesHaveTiles};
+ghost use Rattle.noding_test.specs.Passes.{AreBinsOfEdges, AreBoxesOfEdges, EdgesHaveTiles, IsAllOf, IsTestFault};
 
 use crate::finding::verdict;
 use crate::noded_edges::{Noded, settled};
@@ -61,9 +59,7 @@ pub fn noded<A: Allocator + Copy + Send + Sync, G: Gate + Sync, R: Threads + Wai
     requires workers { (0 < workers) × (workers ≤ 64) }
     requires limits { All (λ c. AreInLimit c.edge.p c.edge.q) rounded.edges.items }
     requires covered { EdgesHaveTiles grid.now (edges_of rounded.edges.items) }
-    ensures { MatchResult result
-        (λ n. (n.edges ≡ rounded.edges) × (n.tiles ≡ rounded.tiles) × (n.remade ≡ rounded.remade))
-        (λ f. (f ≡ Memory) ⊎ ((e h : Edge) × (f ≡ NotNoded e h) × IsLeastBad (edges_of rounded.edges.items) e h)) }
+    ensures { MatchResult result (IsAllOf rounded) (IsTestFault (edges_of rounded.edges.items)) }
 {
     let blank = Blank::new(u64::from(workers));
     by_tiles::<Brand, A, G, R>(rt, alloc, blank, rounded, grid, workers, gate)
@@ -90,9 +86,7 @@ fn by_tiles<
     requires workers { (0 < workers) × (workers ≤ 64) }
     requires limits { All (λ c. AreInLimit c.edge.p c.edge.q) rounded.edges.items }
     requires covered { EdgesHaveTiles grid.now (edges_of rounded.edges.items) }
-    ensures { MatchResult result
-        (λ n. (n.edges ≡ rounded.edges) × (n.tiles ≡ rounded.tiles) × (n.remade ≡ rounded.remade))
-        (λ f. (f ≡ Memory) ⊎ ((e h : Edge) × (f ≡ NotNoded e h) × IsLeastBad (edges_of rounded.edges.items) e h)) }
+    ensures { MatchResult result (IsAllOf rounded) (IsTestFault (edges_of rounded.edges.items)) }
 {
     match least_bad_of::<L, A, G, R>(rt, alloc, blank, &rounded.edges, grid, workers, gate) {
         Ok(None) => Ok(settled(rounded)),

@@ -15,7 +15,6 @@ use tile_book::{Gate, OpenGate};
 mod operations;
 mod plans;
 mod refusals;
-mod refusing;
 mod sinks;
 mod streams;
 

@@ -1,10 +1,10 @@
 //! What is refused, whatever memory there is, and what is answered where a request for memory is refused.
 
 use super::plans::{APART, BROAD, WHOLE};
-use super::refusing::Refusing;
 use super::{BOW, LINE, OTHER, SQUARE, overlaid};
 use engine::{MemSink, Plan};
 use geom::{Fault, NoMemory, Op};
+use refusing::Refusing;
 use std::alloc::{Allocator, Global};
 use std::sync::Wait;
 use std::test::Fail;

@@ -11,7 +11,6 @@ pub loop-one-preserved : goal.loop-one-preserved
 loop-one-preserved c =
     let P : Counted → Type 0 = λ t. AreInLimit t.edge.p t.edge.q in
     let limit : AreInLimit c.one-item.result.edge.p c.one-item.result.edge.q = subst P (sym c.one-item.is) (c.requires.in_limit c.loop-one.one-index c.one-item.result c.loop-one-test.true) in
-    let m = more_columns c.args.first c.args.counted.now c.loop-one.one-index c.one-item.result _ _ _ _ _ _ c.least-low.result c.greatest-high.result refl refl
-    (back c.one-item.result.edge.p.x limit.a_in.x_in) (back c.one-item.result.edge.q.x limit.b_in.x_in) c.loop-one-test.true (sym c.one-item.is) limit
-    c.least-low.ensures.first c.least-low.ensures.second c.least-low.ensures.one c.greatest-high.ensures.first c.greatest-high.ensures.second c.greatest-high.ensures.one c.loop-one.invariant in
-    columns_are c.args.first _ c.least-low.result c.greatest-high.result _ _ (back c.least-low.result m.low_in) (back c.greatest-high.result m.high_in) m
+    let m = more_columns c.args.first c.args.counted.now c.loop-one.one-index c.one-item.result _ _ _ _ _ _ c.min-low.result c.max-high.result refl refl
+    (back c.one-item.result.edge.p.x limit.a_in.x_in) (back c.one-item.result.edge.q.x limit.b_in.x_in) c.loop-one-test.true (sym c.one-item.is) limit c.min-low.ensures.value c.max-high.ensures.value c.loop-one.invariant in
+    columns_are c.args.first _ c.min-low.result c.max-high.result _ _ (back c.min-low.result m.low_in) (back c.max-high.result m.high_in) m

@@ -40,14 +40,14 @@ use Rattle.std.specs.Allocator.{block_if_ok}
 use Rattle.std.specs.contracts.option.Option as O
 use Rattle.std.proofs.alloc.Calls.{Al, seen, token, Answer, answer_val, Answer-typed, Answer-Ok, Answer-err, takes_key, Takes, at_takes, Answered, Takes-goes, Takes-gives, answers}
 use Rattle.std.proofs.VecSteps.Shapes.{after, front, arm_body}
-use Rattle.overlay.specs.contracts.tests.refusing.Refusing as R
-use Rattle.overlay.specs.contracts.tests.refusing.Refusing.lent as L
-use Rattle.overlay.specs.contracts.tests.refusing.Refusing.lent.Key as lent_name
-use Rattle.overlay.specs.contracts.tests.refusing.RefusingAllocator.allocate as F
-use Rattle.overlay.specs.contracts.tests.refusing.RefusingAllocator.allocate.Key as key
-use Rattle.overlay.proofs.tests.refusing.Refusing.lent.Met as lent_met
-use Rattle.overlay.proofs.tests.refusing.RefusingAllocator.allocate.Statement as stated
-use Rattle.overlay.proofs.tests.refusing.RefusingAllocator.allocate.Code as code
+use Rattle.refusing.specs.contracts.allocator.Refusing as R
+use Rattle.refusing.specs.contracts.allocator.Refusing.lent as L
+use Rattle.refusing.specs.contracts.allocator.Refusing.lent.Key as lent_name
+use Rattle.refusing.specs.contracts.allocator.RefusingAllocator.allocate as F
+use Rattle.refusing.specs.contracts.allocator.RefusingAllocator.allocate.Key as key
+use Rattle.refusing.proofs.allocator.Refusing.lent.Met as lent_met
+use Rattle.refusing.proofs.allocator.RefusingAllocator.allocate.Statement as stated
+use Rattle.refusing.proofs.allocator.RefusingAllocator.allocate.Code as code
 
 abbrev shown_val : {X : Type 0} → Option (Bor X) → Val
 shown_val None = live 0 (of_list [])
@@ -200,4 +200,4 @@ allocate_spec 𝓤 𝓛 𝓜 𝓡 wired Y L g d d' met _ =
     entered 𝓤 𝓛.H (triple_of 𝓛 (F.signature Y) (F.spec Y g d d' 𝓛 𝓜.mem 𝓡.returns)) 𝓣.C 𝓣.Λ (key.name (args Z)) (here Z) (code.unfolded 𝓤 𝓛.H 𝓜 𝓡 wired (Y, tt) d d')
     (walk_Meets 𝓛 (ended Z) (stayed Z) (Goes-dropped 𝓛 2 (self Z) yes (λ κs x f. refl), (Goes-dropped 𝓛 2 (plain (λ _. usize)) yes (λ κs x f. refl), (Goes-dropped 𝓛 2 (plain (λ _. usize)) yes (λ κs x f. refl), tt))) c (WpFn 𝓤 𝓛.H 𝓣.C 𝓣.Λ (here Z)) (WpFn-mono 𝓤 𝓛.H 𝓛.laws 𝓣 (here Z))
     (walked 𝓛 (ended Z) (stayed Z) c (WpFn 𝓤 𝓛.H 𝓣.C 𝓣.Λ (here Z)) (λ κs. (shr_vals, (uint_vals w64, (uint_vals w64, tt)))) (λ κs. ((λ r vs s. s.0), (uint_Tells w64, (uint_Tells w64, tt))))
-    (λ κs qs bounds a τ are. walk Z 𝓛 𝓜.mem 𝓡.returns 𝓣 (met.allocate d') (lent_met.met 𝓤 𝓛 𝓜 𝓡 (code.calls-overlay::tests::refusing::Refusing::lent 𝓡.env wired) Y L) κs.0 κs.1.0 qs.0 qs.1.0 bounds.0 a.0 a.1.0 a.1.1.0 τ are.1.0.1 are.1.1.0.1)))
+    (λ κs qs bounds a τ are. walk Z 𝓛 𝓜.mem 𝓡.returns 𝓣 (met.allocate d') (lent_met.met 𝓤 𝓛 𝓜 𝓡 (code.calls-refusing::allocator::Refusing::lent 𝓡.env wired) Y L) κs.0 κs.1.0 qs.0 qs.1.0 bounds.0 a.0 a.1.0 a.1.1.0 τ are.1.0.1 are.1.1.0.1)))
