@@ -19,7 +19,7 @@ use Rattle.geom.specs.Order.{IsBefore}
 use Rattle.geom.specs.Rounded.{IsEdgeBefore, edges_of}
 use Rattle.geom.proofs.Edges.{before_strict, edge_path}
 use Rattle.points_law.specs.Law.{AreLayers}
-use Rattle.polygonize.proofs.Rounds.{less_apart}
+use Rattle.polygonize.proofs.CycleRings.{less_apart}
 use Rattle.wkt.specs.Canonical.{closed, more_of, multi_text, polygon_text, rings_of}
 use Rattle.wkt.specs.Refusals.{IsLayerOf}
 use Rattle.engine.specs.Results.{result_line, shape_text}

@@ -88,3 +88,11 @@ IsRefusalBy kinds rows Unknown = (kinds ≡ []) × IsUnknown rows
 IsRefusalBy kinds rows (Help text) = IsAmong DisplayHelp kinds
 IsRefusalBy kinds rows (Refused text) = kinds ≢ []
 IsRefusalBy kinds rows Memory = Unit {0}
+
+-- `clap` takes the words, and this is the request that they hold
+abbrev pub IsAskedBy : List Text → Request → Type 0
+IsAskedBy words request = (faults words ≡ []) × IsRequestOf (held words) request
+
+-- why these words are no request
+abbrev pub IsRefusalOf : List Text → CliFault → Type 0
+IsRefusalOf words fault = IsRefusalBy (faults words) (held words) fault

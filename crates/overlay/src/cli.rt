@@ -5,7 +5,7 @@ ghost use Rattle.clap.specs.Facts.{WantsDefault};
 ghost use Rattle.clap.specs.Words.{FailsBy, first_value, HasKind, Kinds, Row, app_of, args_of, first_of, found_of, groups_of, new_app, one_of, rows_of, rule_of};
 ghost use Rattle.clap.specs.declared.builder.command.Command.TheViews.{out-Command as fields_of};
 ghost use Rattle.overlay.specs.Arguments.{MayHaveNumber, HasNumber, HasWords, IsFlagArg, IsNumberArg, IsOverlayCommand, IsWanted};
-ghost use Rattle.overlay.specs.CommandLine.{IsUnknown, IsGivenNumber, IsHeldNumber, IsRefusalBy, is_set, IsRequestOf, command_of, faults, file_rule, flag_rule, held, number_rule, overlay_app, word_rule};
+ghost use Rattle.overlay.specs.CommandLine.{IsAskedBy, IsUnknown, IsGivenNumber, IsHeldNumber, IsRefusalBy, IsRefusalOf, is_set, IsRequestOf, command_of, faults, file_rule, flag_rule, held, number_rule, overlay_app, word_rule};
 
 use crate::asked;
 use crate::asked::{CliFault, Request};
@@ -229,9 +229,7 @@ fn request_of<'a>(matches: &ArgMatches<'a>) -> Result<Request<'a>, CliFault>
 
 /// What the words ask for. The first word is the program's name.
 pub fn request<'a, S: AsStr>(alloc: Global, words: &'a [S]) -> Result<Request<'a>, CliFault>
-    ensures { MatchResult result
-        (λ r. (faults (map S.text words.entry.now) ≡ []) × IsRequestOf (held (map S.text words.entry.now)) r)
-        (λ f. IsRefusalBy (faults (map S.text words.entry.now)) (held (map S.text words.entry.now)) f) }
+    ensures { MatchResult result (IsAskedBy (map S.text words.entry.now)) (IsRefusalOf (map S.text words.entry.now)) }
 {
     match parsed(alloc, words) {
         Ok(matches) => request_of(&matches),

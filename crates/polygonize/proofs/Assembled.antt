@@ -21,7 +21,7 @@ use Rattle.geom.proofs.Lists.{In, contains_in, in_contains, in_map, map_in}
 use Rattle.polygonize.specs.Grouped.{Group, members, shape_of, AreGrouped}
 use Rattle.polygonize.specs.Next.{ring_of}
 use Rattle.polygonize.specs.Placed.{PlacedRing, opening_of, IsPlaced, IsWrittenAmong}
-use Rattle.polygonize.proofs.Entries.{AreOne, AreEntries, IsEntry, entry, in_flat, one_shell, one_under, one_whole, owner_inside, owner_of, owner_shell, same_first, same_shell, written_edge}
+use Rattle.polygonize.proofs.TextOrder.{AreOne, AreEntries, IsEntry, entry, in_flat, one_shell, one_under, one_whole, owner_inside, owner_of, owner_shell, same_first, same_shell, written_edge}
 use Rattle.polygonize.proofs.Lists.{in_permutation}
 use Rattle.polygonize.proofs.Openings.{opening_before, same_numbers}
 use Rattle.polygonize.proofs.Places.{OpeningLess, PlaceLess, opening_itself, opening_one_way, place_one_way}

@@ -1,7 +1,8 @@
 -- Vertical columns, and the edges that lie across them.
 use Rattle.std.proofs.Common.{◌≡◌, ◌⊎◌, ℕ, ◌+◌, ◌<◌, List, [], length, get_or, take, refl, sym, ◌∙◌, ap, subst, inl, inr, Bool, false, arith, ℤ, w32, to_z, of_z, to_z-of_z, FitsSigned}
 use Rattle.std.specs.Prelude.{◌≤ℤ◌, ◌<ℤ◌, ◌-ℤ◌, pos, true, All, IsTrue}
-use Rattle.std.proofs.lemmas.Int.{ints, by_lt_z}
+use Rattle.std.specs.Int.{int_max, int_min}
+use Rattle.std.proofs.lemmas.Int.{ints, by_lt_z, int_max_is, int_min_is}
 use Rattle.std.proofs.lemmas.List.Elements.{All-more, All-weaker}
 use Rattle.geom.specs.declared.point.Pt.{Pt}
 use Rattle.geom.specs.declared.edge.Edge.{Edge}
@@ -15,7 +16,7 @@ use Rattle.geom.specs.Parity.{covers}
 use Rattle.polygonize.specs.Below.{RunsBelow, vertex_at}
 use Rattle.polygonize.specs.Column.{IsIn, Meets, Spans}
 use Rattle.polygonize.specs.declared.column.Columns.{Columns}
-use Rattle.polygonize.proofs.Gaps.{over_is, over_when}
+use Rattle.polygonize.proofs.GapsBelow.{over_is, over_when}
 
 le_itself : (a : ℤ) → a ≤ℤ a
 le_itself a = omega (arith, linear)
@@ -39,20 +40,27 @@ pub record SpreadSoFar (vertices : List Pt) (asked : List ℕ) (low high : ℤ) 
 pub spread_none : (vertices : List Pt) (low high : ℤ) → IsWithin coordinate_limit low → IsWithin coordinate_limit high → SpreadSoFar vertices [] low high
 spread_none vertices low high h k = record { low_in = h; high_in = k; each = λ k d l. absurd (omega arith) }
 
-one_within : (r a b : ℤ) → (r ≡ a) ⊎ (r ≡ b) → IsWithin coordinate_limit a → IsWithin coordinate_limit b → IsWithin coordinate_limit r
-one_within r a b (inl e) h k = let P : ℤ → Type 0 = IsWithin coordinate_limit in subst P (sym e) h
-one_within r a b (inr e) h k = let P : ℤ → Type 0 = IsWithin coordinate_limit in subst P (sym e) k
+least_is : (lo m a b : ℤ) → m ≡ int_min a b → lo ≤ℤ a → lo ≤ℤ b → (lo ≤ℤ m) × ((m ≤ℤ a) × (m ≤ℤ b))
+least_is lo m a b e h k = (omega (arith, linear, int_min_is a b), (omega (arith, linear, int_min_is a b), omega (arith, linear, int_min_is a b)))
+
+greatest_is : (hi m a b : ℤ) → m ≡ int_max a b → a ≤ℤ hi → b ≤ℤ hi → (m ≤ℤ hi) × ((a ≤ℤ m) × (b ≤ℤ m))
+greatest_is hi m a b e h k = (omega (arith, linear, int_max_is a b), (omega (arith, linear, int_max_is a b), omega (arith, linear, int_max_is a b)))
 
 pub spread_more : (vertices : List Pt) (asked : List ℕ) (i : ℕ) (low high l h x y : ℤ) → i < length asked → x ≡ (vertex_at vertices (get_or asked i 0)).x → y ≡ (vertex_at vertices (get_or asked i 0)).x → IsWithin coordinate_limit (vertex_at vertices (get_or asked i 0)).x
-    → l ≤ℤ low → l ≤ℤ x → (l ≡ low) ⊎ (l ≡ x) → high ≤ℤ h → y ≤ℤ h → (h ≡ high) ⊎ (h ≡ y) → SpreadSoFar vertices (take i asked) low high → SpreadSoFar vertices (take (i + 1) asked) l h
-spread_more vertices asked i low high l h x y inside e f limit l1 l2 l3 h1 h2 h3 s = record {
-  low_in = one_within l low x l3 s.low_in (let P : ℤ → Type 0 = IsWithin coordinate_limit in subst P (sym e) limit);
-  high_in = one_within h high y h3 s.high_in (let P : ℤ → Type 0 = IsWithin coordinate_limit in subst P (sym f) limit);
-  each = All-more (λ r. (l ≤ℤ (vertex_at vertices r).x) × ((vertex_at vertices r).x ≤ℤ h)) asked i 0 inside
-      (All-weaker (λ r. (low ≤ℤ (vertex_at vertices r).x) × ((vertex_at vertices r).x ≤ℤ high)) (λ r. (l ≤ℤ (vertex_at vertices r).x) × ((vertex_at vertices r).x ≤ℤ h))
-      (λ r t. (le_through l low (vertex_at vertices r).x l1 t.0, le_through (vertex_at vertices r).x high h t.1 h1)) (take i asked) s.each)
-      ((let P : ℤ → Type 0 = λ t. l ≤ℤ t in subst P e l2), (let P : ℤ → Type 0 = λ t. t ≤ℤ h in subst P f h2));
-}
+    → l ≡ int_min low x → h ≡ int_max high y → SpreadSoFar vertices (take i asked) low high → SpreadSoFar vertices (take (i + 1) asked) l h
+spread_more vertices asked i low high l h x y inside e f limit is_least is_greatest s =
+    let within_x : IsWithin coordinate_limit x = let P : ℤ → Type 0 = IsWithin coordinate_limit in subst P (sym e) limit in
+    let within_y : IsWithin coordinate_limit y = let P : ℤ → Type 0 = IsWithin coordinate_limit in subst P (sym f) limit in
+    let a = least_is _ l low x is_least s.low_in.low within_x.low in
+    let b = greatest_is _ h high y is_greatest s.high_in.high within_y.high in
+    record {
+      low_in = record { low = a.0; high = le_through l low _ a.1.0 s.low_in.high };
+      high_in = record { low = le_through _ high h s.high_in.low b.1.0; high = b.0 };
+      each = All-more (λ r. (l ≤ℤ (vertex_at vertices r).x) × ((vertex_at vertices r).x ≤ℤ h)) asked i 0 inside
+          (All-weaker (λ r. (low ≤ℤ (vertex_at vertices r).x) × ((vertex_at vertices r).x ≤ℤ high)) (λ r. (l ≤ℤ (vertex_at vertices r).x) × ((vertex_at vertices r).x ≤ℤ h))
+          (λ r t. (le_through l low (vertex_at vertices r).x a.1.0 t.0, le_through (vertex_at vertices r).x high h t.1 b.1.0)) (take i asked) s.each)
+          ((let P : ℤ → Type 0 = λ t. l ≤ℤ t in subst P e a.1.1), (let P : ℤ → Type 0 = λ t. t ≤ℤ h in subst P f b.1.1));
+    }
 
 pub spread_back : (vertices : List Pt) (asked : List ℕ) (low high : ℤ) → SpreadSoFar vertices asked low high → SpreadSoFar vertices asked (to_z w32 (of_z w32 low)) (to_z w32 (of_z w32 high))
 spread_back vertices asked low high s = let P : ℤ → Type 0 = λ t. SpreadSoFar vertices asked t (to_z w32 (of_z w32 high)) in let Q : ℤ → Type 0 = λ t. SpreadSoFar vertices asked low t in

@@ -21,7 +21,7 @@ use Rattle.polygonize.specs.Next.{edge_at}
 use Rattle.polygonize.specs.declared.below.Gap.{Gap}
 use Rattle.polygonize.specs.declared.column.Columns.{Columns}
 use Rattle.polygonize.proofs.Columns.{back, edge_over}
-use Rattle.polygonize.proofs.Gaps.{at_most, only_edge, product_is, run_right, same_edge, test_at_most}
+use Rattle.polygonize.proofs.GapsBelow.{at_most, only_edge, product_is, run_right, same_edge, test_at_most}
 use Rattle.polygonize.proofs.Filtered.{KeptSoFar}
 use Rattle.polygonize.proofs.Nearness.{by_number, known_itself, nearer, nothing_below, same_value, weak}
 

@@ -17,7 +17,7 @@ use Rattle.polygonize.specs.Clockwise.{less}
 use Rattle.geom.specs.Canonical.{Shape, written_rings}
 use Rattle.polygonize.specs.Written.{AreSimple, IsCanonical, IsSound}
 use Rattle.polygonize.proofs.Turns.{less_is, neither_less}
-use Rattle.polygonize.proofs.Rounds.{less_apart, list_irreflexive}
+use Rattle.polygonize.proofs.CycleRings.{less_apart, list_irreflexive}
 use Rattle.polygonize.proofs.Sooner.{by_test, not_less}
 use Rattle.polygonize.proofs.Numbers.{same_vertex, start_order}
 use Rattle.polygonize.proofs.Mapping.{simple_map}

@@ -4,7 +4,7 @@ pub mod Walking
 pub mod Cycles
 pub mod Stacks
 pub mod Cutting
-pub mod Rounds
+pub mod CycleRings
 pub mod Multiply
 pub mod Products
 pub mod Turns
@@ -18,7 +18,7 @@ pub mod Mapping
 pub mod Turning
 pub mod Writing
 pub mod Grouping
-pub mod Gaps
+pub mod GapsBelow
 pub mod Least
 pub mod Deciding
 pub mod Columns
@@ -28,7 +28,7 @@ pub mod Searching
 pub mod Sorted
 pub mod Places
 pub mod Openings
-pub mod Entries
+pub mod TextOrder
 pub mod Assembled
 pub mod Neighbours
 pub mod Holes
@@ -36,8 +36,8 @@ pub mod Nearness
 pub mod PlacedRings
 pub mod Ordered
 pub mod Beginnings
-pub mod Returns
+pub mod FirstPiece
 pub mod Owning
-pub mod Filling
+pub mod CyclesWritten
 pub mod Keeping
-pub mod Entering
+pub mod PiecesWritten

@@ -12,7 +12,7 @@ use Rattle.geom.proofs.Integers.{expand, linear, scale_le, unscale_le}
 use Rattle.polygonize.specs.Below.{HasGapRoom, IsAsNear, IsGap, IsGapOf, IsLesserGap, RunsBelow, gap_height}
 use Rattle.polygonize.specs.Next.{edge_at}
 use Rattle.polygonize.specs.declared.below.Gap.{Gap}
-use Rattle.polygonize.proofs.Gaps.{run_right, same_edge}
+use Rattle.polygonize.proofs.GapsBelow.{run_right, same_edge}
 
 -- ---- heights are compared by their products with runs
 pub nearer : (hy hm hf ry rm rf : ℤ) → pos 0 <ℤ rm → pos 0 ≤ℤ ry → pos 0 ≤ℤ rf → (hy *ℤ rm) ≤ℤ (hm *ℤ ry) → (hm *ℤ rf) ≤ℤ (hf *ℤ rm) → (hy *ℤ rf) ≤ℤ (hf *ℤ ry)

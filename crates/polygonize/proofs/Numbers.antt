@@ -13,7 +13,7 @@ use Rattle.geom.proofs.Edges.{before_strict}
 use Rattle.polygonize.specs.Next.{nothing, edge_at, ring_of}
 use Rattle.polygonize.specs.Number.{IsNumber, AreNumbers, IsVertex, IsLastNumber}
 use Rattle.polygonize.proofs.Turns.{neither_less}
-use Rattle.polygonize.proofs.Rounds.{less_apart}
+use Rattle.polygonize.proofs.CycleRings.{less_apart}
 use Rattle.polygonize.proofs.Sooner.{not_less}
 
 -- the starts don't descend

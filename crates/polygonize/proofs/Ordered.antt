@@ -12,7 +12,7 @@ use Rattle.polygonize.specs.Grouped.{BeginsWithShell, AreGrouped}
 use Rattle.polygonize.specs.Next.{ring_of}
 use Rattle.polygonize.specs.Placed.{PlacedRing, AreWritten}
 use Rattle.polygonize.proofs.Assembled.{are_one, assembled, points}
-use Rattle.polygonize.proofs.Entries.{AreEntries, begins, entries}
+use Rattle.polygonize.proofs.TextOrder.{AreEntries, begins, entries}
 use Rattle.polygonize.proofs.PlacedRings.{begins_map, grouped_map, sorted_map}
 use Rattle.polygonize.proofs.Places.{place_cmp}
 

@@ -25,7 +25,7 @@ use Rattle.polygonize.specs.Placed.{PlacedRing, opening_of, IsPlaced, IsShellWri
 use Rattle.polygonize.specs.Written.{IsCanonical, IsSound, IsTurned}
 use Rattle.polygonize.proofs.Assembled.{are_one}
 use Rattle.polygonize.proofs.Beginnings.{BeginsWith, holders_begin}
-use Rattle.polygonize.proofs.Entries.{AreOne, one_whole, owner_inside, owner_shell}
+use Rattle.polygonize.proofs.TextOrder.{AreOne, one_whole, owner_inside, owner_shell}
 use Rattle.polygonize.proofs.Holes.{least_point}
 use Rattle.polygonize.proofs.Least.{own_least}
 use Rattle.polygonize.proofs.Mapping.{cut_all}

@@ -19,7 +19,7 @@ use Rattle.polygonize.specs.Clockwise.{less, half, sooner}
 use Rattle.polygonize.specs.Leaving.{leaves_sooner}
 use Rattle.polygonize.specs.Next.{nothing, edge_at}
 use Rattle.polygonize.proofs.Turns.{less_is, is_less, neither_less, one_way, chain}
-use Rattle.polygonize.proofs.Rounds.{less_not, less_apart}
+use Rattle.polygonize.proofs.CycleRings.{less_not, less_apart}
 
 -- ---- tests and facts
 pub by_test : {P : Type 0} (t : Bool) → (t ≡ true → P) → (t ≡ false → P) → P

@@ -5,7 +5,7 @@ ghost use Rattle.geom.specs.Limit.{AreInLimit, InLimit, IsWithin, coordinate_lim
 ghost use Rattle.polygonize.specs.Column.{AreColumnsOf, Meets, Spans};
 ghost use Rattle.polygonize.specs.Next.{edge_at};
 
-use geom::{DirectedEdge, NoMemory, Pt};
+use geom::{COORDINATE_LIMIT, DirectedEdge, NoMemory, Pt};
 use std::alloc::Allocator;
 
 /// The whole x from a least to a greatest one.
@@ -15,36 +15,17 @@ pub struct Columns {
     pub high: i32,
 }
 
-/// The greatest absolute value of a coordinate.
-const LIMIT: i32 = 268_435_456;
-
-fn least(a: i32, b: i32) -> i32
-    ensures first { result ≤ℤ a }
-    ensures second { result ≤ℤ b }
-    ensures one { (result ≡ a) ⊎ (result ≡ b) }
-{
-    if b < a { b } else { a }
-}
-
-fn greatest(a: i32, b: i32) -> i32
-    ensures first { a ≤ℤ result }
-    ensures second { b ≤ℤ result }
-    ensures one { (result ≡ a) ⊎ (result ≡ b) }
-{
-    if a < b { b } else { a }
-}
-
 /// The columns of the vertices that are asked for.
 pub fn columns_of(vertices: &[Pt], asked: &[usize]) -> Columns
     requires vertices_in { All InLimit vertices.now }
     requires inside { All (λ r. r < length vertices.now) asked.now }
     ensures { AreColumnsOf vertices.now asked.now result }
 {
-    let mut low = LIMIT;
-    let mut high = -LIMIT;
+    let mut low = COORDINATE_LIMIT;
+    let mut high = -COORDINATE_LIMIT;
     for place in asked {
-        low = least(low, vertices[*place].x);
-        high = greatest(high, vertices[*place].x);
+        low = low.min(vertices[*place].x);
+        high = high.max(vertices[*place].x);
     }
     Columns { low, high }
 }

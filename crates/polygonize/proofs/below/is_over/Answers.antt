@@ -1,4 +1,4 @@
-use Rattle.polygonize.proofs.Gaps.{over_tests}
+use Rattle.polygonize.proofs.GapsBelow.{over_tests}
 use Rattle.polygonize.proofs.Columns.{back}
 use Rattle.polygonize.proofs.below.is_over.Goals as goal
 

@@ -8,6 +8,6 @@ loop-place-preserved c =
     let r = slice_index_or c.args.asked.now c.loop-place.place-index 0 in
     let v = vertex_at c.args.vertices.now r in
     let limit = c.requires.vertices_in r (record { x = pos 0; y = pos 0 }) (c.requires.inside c.loop-place.place-index 0 c.loop-place-test.true) in
-    spread_back _ _ c.least-low.result c.greatest-high.result
-    (spread_more c.args.vertices.now c.args.asked.now c.loop-place.place-index _ _ c.least-low.result c.greatest-high.result _ _ c.loop-place-test.true (back v.x limit.x_in) (back v.x limit.x_in) limit.x_in
-    c.least-low.ensures.first c.least-low.ensures.second c.least-low.ensures.one c.greatest-high.ensures.first c.greatest-high.ensures.second c.greatest-high.ensures.one c.loop-place.invariant)
+    spread_back _ _ c.min-low.result c.max-high.result
+    (spread_more c.args.vertices.now c.args.asked.now c.loop-place.place-index _ _ c.min-low.result c.max-high.result _ _ c.loop-place-test.true (back v.x limit.x_in) (back v.x limit.x_in) limit.x_in
+    c.min-low.ensures.value c.max-high.ensures.value c.loop-place.invariant)

@@ -2,7 +2,7 @@ use Rattle.std.proofs.Common.{◌≡◌, ◌⊎◌, Option, subst}
 use Rattle.std.specs.Prelude.{MatchOption}
 use Rattle.geom.specs.declared.edge.Edge.{Edge}
 use Rattle.polygonize.proofs.Columns.{back, left_border}
-use Rattle.polygonize.proofs.Gaps.{ends_in_limit}
+use Rattle.polygonize.proofs.GapsBelow.{ends_in_limit}
 use Rattle.polygonize.proofs.Ladders.{border_is, in_order}
 use Rattle.polygonize.proofs.ladder.are_in_order.Goals as goal
 

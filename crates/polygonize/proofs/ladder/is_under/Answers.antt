@@ -1,7 +1,7 @@
 use Rattle.std.proofs.Common.{◌^◌, ℤ, sym, subst}
 use Rattle.geom.specs.Limit.{IsWithin}
 use Rattle.polygonize.proofs.Columns.{back}
-use Rattle.polygonize.proofs.Gaps.{small_distance}
+use Rattle.polygonize.proofs.GapsBelow.{small_distance}
 use Rattle.polygonize.proofs.Ladders.{under_test}
 use Rattle.polygonize.proofs.ladder.is_under.Goals as goal
 

@@ -2,7 +2,7 @@ use Rattle.std.proofs.Common.{map}
 use Rattle.std.specs.Prelude.{All}
 use Rattle.std.proofs.lemmas.List.Elements.{All-weaker}
 use Rattle.std.proofs.lemmas.Result.{IfOk-weaker}
-use Rattle.polygonize.proofs.Rounds.{are_rings, edges_of_cycle}
+use Rattle.polygonize.proofs.CycleRings.{are_rings, edges_of_cycle}
 use Rattle.polygonize.proofs.Writing.{places_of}
 use Rattle.polygonize.specs.Cycle.{AreCycles, IsCycle}
 use Rattle.geom.specs.Rings.{AreRings}

@@ -1,7 +1,7 @@
 use Rattle.std.proofs.Common.{map, sym}
 use Rattle.polygonize.specs.Placed.{placed_ring}
 use Rattle.polygonize.specs.Written.{ArePlaces}
-use Rattle.polygonize.proofs.Filling.{all_filled, next_filled, nothing_filled}
+use Rattle.polygonize.proofs.CyclesWritten.{all_filled, next_filled, nothing_filled}
 use Rattle.polygonize.proofs.Writing.{all_cycles, below_cycle, next_cycle, nothing_written, of_cycle}
 use Rattle.polygonize.proofs.written.write_cycles.Goals as goal
 

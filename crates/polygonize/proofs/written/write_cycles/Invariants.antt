@@ -2,7 +2,7 @@ use Rattle.std.proofs.Common.{[], map}
 use Rattle.geom.specs.Holes.{AreGrounded}
 use Rattle.geom.specs.NodedEdges.{AreNodedEdges}
 use Rattle.polygonize.specs.Next.{ring_of}
-use Rattle.polygonize.proofs.Filling.{AreFilled}
+use Rattle.polygonize.proofs.CyclesWritten.{AreFilled}
 use Rattle.polygonize.specs.Placed.{placed_ring}
 use Rattle.polygonize.specs.Stack.{AreStacked}
 use Rattle.polygonize.proofs.Writing.{Writing}

@@ -3,7 +3,7 @@ use Rattle.std.specs.Prelude.{is_some}
 use Rattle.polygonize.specs.Placed.{opening_of, placed_ring}
 use Rattle.polygonize.specs.Written.{IsSound}
 use Rattle.polygonize.proofs.Turning.{none_added, step_added}
-use Rattle.polygonize.proofs.Entering.{all_pieces, none_entered, shell_itself, step_entered}
+use Rattle.polygonize.proofs.PiecesWritten.{all_pieces, none_entered, shell_itself, step_entered}
 use Rattle.polygonize.proofs.Writing.{last_of, rest_of, some_points, two_points}
 use Rattle.polygonize.proofs.written.write_pieces.Goals as goal
 

@@ -1,6 +1,6 @@
 use Rattle.std.proofs.Common.{map}
 use Rattle.std.specs.Prelude.{All, is_some, vec_len}
-use Rattle.polygonize.proofs.Entering.{Entering}
+use Rattle.polygonize.proofs.PiecesWritten.{Entering}
 use Rattle.polygonize.specs.Placed.{placed_ring}
 use Rattle.polygonize.specs.Written.{IsSound}
 use Rattle.polygonize.proofs.Turning.{Adding}

@@ -24,7 +24,7 @@ use Rattle.polygonize.specs.Next.{nothing, edge_at, ring_of}
 use Rattle.polygonize.specs.Owning.{IsOwnerFound, IsRingPlaced}
 use Rattle.polygonize.specs.Placed.{PlacedRing, opening_of, IsPlaced, IsShellWritten, IsWrittenAmong, AreWritten}
 use Rattle.polygonize.specs.Written.{ArePlaces, HasItsEdges, HaveEdges, IsCanonical}
-use Rattle.polygonize.proofs.Entries.{owner_of}
+use Rattle.polygonize.proofs.TextOrder.{owner_of}
 use Rattle.polygonize.proofs.Writing.{unmapped}
 use Rattle.polygonize.proofs.Holes.{least_point}
 use Rattle.polygonize.proofs.Keeping.{kept_or_as_before}
