@@ -15,14 +15,13 @@ use Rattle.geom.specs.declared.point.Pt.{Pt}
 use Rattle.geom.specs.declared.edge.Edge.{Edge}
 use Rattle.geom.specs.declared.segment.Seg.{Seg}
 use Rattle.geom.specs.declared.rect.Rect.{Rect}
-use Rattle.geom.specs.Determinant.{turn}
 use Rattle.geom.specs.Hot.{CrossIn}
 use Rattle.geom.specs.Order.{IsBefore}
 use Rattle.geom.specs.OnSegment.{IsOn}
 use Rattle.geom.specs.Pixel.{Point}
 use Rattle.geom.specs.Limit.{AreInLimit, InLimit, IsQuotientWithin, IsWithin, coordinate_limit}
 use Rattle.geom.proofs.Edges.{edge_path, before_strict}
-use Rattle.geom.proofs.Integers.{linear, expand, mul_comm, mul_nonneg, mul_pos, by_sign, mul_neg, scale_le, scale_lt, unscale_le, unscale_lt, unscale_eq}
+use Rattle.geom.proofs.Integers.{linear, mul_comm, mul_nonneg, mul_pos, by_sign, mul_neg, scale_le, scale_lt, unscale_le, unscale_lt, unscale_eq}
 use Rattle.geom.proofs.Identity.{var, num, ◌⊕◌, ◌⊖◌, ◌⊗◌, ring}
 use Rattle.geom.proofs.Pixels.{in_pixel}
 use Rattle.geom.proofs.Points.{and_both, both_and, or_either}
@@ -30,7 +29,7 @@ use Rattle.hot_pixel.specs.declared.bundle.Course.{Course}
 use Rattle.hot_pixel.specs.declared.bundle.Course.TheVariants.{Columns, Rows}
 use Rattle.hot_pixel.specs.declared.bundle.Strand.{Strand}
 use Rattle.hot_pixel.specs.declared.lines.Line.{Line}
-use Rattle.hot_pixel.specs.Bundle.{exchanged, height, seen_point, AreStrands, AscendsTo, HasNoHot, IsFloor, IsSeen, IsStrand, IsStrandSeen, RunsThrough, RunsThroughSeen}
+use Rattle.hot_pixel.specs.Bundle.{exchanged, height, seen_point, AreStrands, AscendsTo, HasNoHot, IsFloor, IsQuotient, IsSeen, IsStrand, IsStrandSeen, RunsThrough, RunsThroughSeen}
 use Rattle.hot_pixel.specs.Halving.{edges_of, HasHot, IsHotFor}
 use Rattle.hot_pixel.specs.Rects.{IsIn}
 use Rattle.hot_pixel.specs.Lines.{CrossAt, IsLine}
@@ -105,13 +104,13 @@ floors_order h r k h' r' k' p p' f f' less = unscale_lt (h *ℤ r') (h' *ℤ r) 
     chain : (a b c d e g u v : ℤ) → a <ℤ b → c ≤ℤ e → g ≤ℤ d → b ≡ c → e ≡ g → u ≡ a → v ≡ d → u <ℤ v
     chain a b c d e g u v x y z i j m n = omega (arith, linear)
 
--- ---- floors
+-- ---- quotients, rounded down
 quotient_parts : (a : ℤ) (k : ℕ) → 0 < k → (up (int_div_euclid a (pos k)) * k + down a ≤ down (int_div_euclid a (pos k)) * k + up a) × (down (int_div_euclid a (pos k)) * k + up a < up (int_div_euclid a (pos k)) * k + down a + k)
 quotient_parts (pos a) k h = omega arith
 quotient_parts (negsuc a) k h = omega arith
 
-floor_from_parts : (h q : ℤ) (k : ℕ) (a : ℤ) → a ≡ h *ℤ pos (2 ^ 30) → (up q * k + down a ≤ down q * k + up a) × (down q * k + up a < up q * k + down a + k) → IsFloor h (pos k) q
-floor_from_parts h q k a e u = record { from = subst (λ x. (pos k *ℤ q) ≤ℤ x) e (first q k a u.0); below = subst (λ x. x <ℤ (pos k *ℤ (q +ℤ pos 1))) e (subst (λ x. a <ℤ x) (sym (next (pos k) q)) (second q k a u.1)) }
+quotient_from_parts : (a q : ℤ) (k : ℕ) → (up q * k + down a ≤ down q * k + up a) × (down q * k + up a < up q * k + down a + k) → IsQuotient a (pos k) q
+quotient_from_parts a q k u = record { from = first q k a u.0; below = subst (λ x. a <ℤ x) (sym (next (pos k) q)) (second q k a u.1) }
   where
     next : (r q : ℤ) → r *ℤ (q +ℤ pos 1) ≡ (r *ℤ q) +ℤ r
     next r q = ring (r ∷ q ∷ []) (var 0 ⊗ (var 1 ⊕ num (pos 1))) ((var 0 ⊗ var 1) ⊕ var 0) refl
@@ -122,21 +121,82 @@ floor_from_parts h q k a e u = record { from = subst (λ x. (pos k *ℤ q) ≤�
     second : (q : ℤ) (k : ℕ) (a : ℤ) → down q * k + up a < up q * k + down a + k → a <ℤ ((pos k *ℤ q) +ℤ pos k)
     second q k a u = omega (arith, ints)
 
-pub floor_is : (h r : ℤ) → pos 0 <ℤ r → IsFloor h r (int_div_euclid (h *ℤ pos (2 ^ 30)) r)
-floor_is h (pos k) p = floor_from_parts h (int_div_euclid (h *ℤ pos (2 ^ 30)) (pos k)) k (h *ℤ pos (2 ^ 30)) refl (quotient_parts (h *ℤ pos (2 ^ 30)) k (omega (arith, ints)))
-floor_is h (negsuc k) p = absurd (omega (arith, ints))
+pub quotient_is : (a r : ℤ) → pos 0 <ℤ r → IsQuotient a r (int_div_euclid a r)
+quotient_is a (pos k) p = quotient_from_parts a (int_div_euclid a (pos k)) k (quotient_parts a k (omega (arith, ints)))
+quotient_is a (negsuc k) p = absurd (omega (arith, ints))
 
-pub floor_small : (h r q : ℤ) → pos 0 <ℤ r → IsQuotientWithin (2 ^ 30) h r → IsFloor h r q → IsWithin (2 ^ 60) q
-floor_small h r q p w f = record { low = least q (unscale_lt (neg_ℤ (pos (2 ^ 60))) (q +ℤ pos 1) r (low (r *ℤ (q +ℤ pos 1)) h r w.low f.below) (weak _ _ p)); high = unscale_le q (pos (2 ^ 60)) r (high (r *ℤ q) h r w.high f.from) p }
+-- the quotient of a number whose quotient is within n
+quotient_within : (n : ℕ) (a r q : ℤ) → pos 0 <ℤ r → (r *ℤ neg_ℤ (pos n)) ≤ℤ a → a ≤ℤ (r *ℤ pos n) → IsQuotient a r q → IsWithin n q
+quotient_within n a r q p l h f = record { low = least n q (unscale_lt (neg_ℤ (pos n)) (q +ℤ pos 1) r (on _ _ _ l f.below) (weak _ _ p)); high = unscale_le q (pos n) r (up_to _ _ _ f.from h) p }
   where
-    high : (x h r : ℤ) → h ≤ℤ (r *ℤ pos (2 ^ 30)) → x ≤ℤ (h *ℤ pos (2 ^ 30)) → x ≤ℤ (r *ℤ pos (2 ^ 60))
-    high x h r a b = omega (arith, ints)
+    on : (x y z : ℤ) → x ≤ℤ y → y <ℤ z → x <ℤ z
+    on x y z a b = omega (arith, linear)
 
-    low : (x h r : ℤ) → (r *ℤ neg_ℤ (pos (2 ^ 30))) ≤ℤ h → (h *ℤ pos (2 ^ 30)) <ℤ x → (r *ℤ neg_ℤ (pos (2 ^ 60))) <ℤ x
-    low x h r a b = omega (arith, ints)
+    up_to : (x y z : ℤ) → x ≤ℤ y → y ≤ℤ z → x ≤ℤ z
+    up_to x y z a b = omega (arith, linear)
 
-    least : (q : ℤ) → neg_ℤ (pos (2 ^ 60)) <ℤ (q +ℤ pos 1) → neg_ℤ (pos (2 ^ 60)) ≤ℤ q
-    least q a = omega (arith, ints)
+    least : (n : ℕ) (q : ℤ) → neg_ℤ (pos n) <ℤ (q +ℤ pos 1) → neg_ℤ (pos n) ≤ℤ q
+    least n q a = omega (arith, ints)
+
+floor_small : (h r q : ℤ) → pos 0 <ℤ r → IsQuotientWithin (2 ^ 30) h r → IsFloor h r q → IsWithin (2 ^ 60) q
+floor_small h r q p w f = quotient_within (2 ^ 60) (h *ℤ pos (2 ^ 30)) r q p (low h r w.low) (high h r w.high) f
+  where
+    low : (h r : ℤ) → (r *ℤ neg_ℤ (pos (2 ^ 30))) ≤ℤ h → (r *ℤ neg_ℤ (pos (2 ^ 60))) ≤ℤ (h *ℤ pos (2 ^ 30))
+    low h r a = omega (arith, ints)
+
+    high : (h r : ℤ) → h ≤ℤ (r *ℤ pos (2 ^ 30)) → (h *ℤ pos (2 ^ 30)) ≤ℤ (r *ℤ pos (2 ^ 60))
+    high h r a = omega (arith, ints)
+
+-- the whole part of a quotient and what is left, and the parts of both together
+module _ (h r w : ℤ) (positive : pos 0 <ℤ r) (run_in : r ≤ℤ pos (2 ^ 30)) (within : IsQuotientWithin (2 ^ 30) h r) (whole : IsQuotient h r w) where
+  turned : (r w : ℤ) → r *ℤ w ≡ w *ℤ r
+  turned r w = mul_comm r w
+
+  stepped : (r w : ℤ) → r *ℤ (w +ℤ pos 1) ≡ (w *ℤ r) +ℤ r
+  stepped r w = ring (r ∷ w ∷ []) (var 0 ⊗ (var 1 ⊕ num (pos 1))) ((var 1 ⊗ var 0) ⊕ var 0) refl
+
+  pub whole_small : IsWithin (2 ^ 30) w
+  whole_small = quotient_within (2 ^ 30) h r w positive within.low within.high whole
+
+  pub product_small : IsWithin (2 ^ 61) (w *ℤ r)
+  product_small = bounds h r (w *ℤ r) _ _ (turned r w) (stepped r w) whole.from whole.below positive run_in within.low within.high
+    where
+      bounds : (h r a x y : ℤ) → x ≡ a → y ≡ a +ℤ r → x ≤ℤ h → h <ℤ y → pos 0 <ℤ r → r ≤ℤ pos (2 ^ 30) → (r *ℤ neg_ℤ (pos (2 ^ 30))) ≤ℤ h → h ≤ℤ (r *ℤ pos (2 ^ 30)) → IsWithin (2 ^ 61) a
+      bounds h r a x y e f from below p k low high = record { low = omega (arith, ints); high = omega (arith, ints) }
+
+  pub rest_small : IsWithin (2 ^ 30) (h -ℤ (w *ℤ r))
+  rest_small = bounds h r (w *ℤ r) _ _ (turned r w) (stepped r w) whole.from whole.below run_in
+    where
+      bounds : (h r a x y : ℤ) → x ≡ a → y ≡ a +ℤ r → x ≤ℤ h → h <ℤ y → r ≤ℤ pos (2 ^ 30) → IsWithin (2 ^ 30) (h -ℤ a)
+      bounds h r a x y e f from below k = record { low = omega (arith, ints); high = omega (arith, ints) }
+
+  module _ (v : ℤ) (rest : IsQuotient ((h -ℤ (w *ℤ r)) *ℤ pos (2 ^ 30)) r v) where
+    pub part_small : IsWithin (2 ^ 30) v
+    part_small = quotient_within (2 ^ 30) ((h -ℤ (w *ℤ r)) *ℤ pos (2 ^ 30)) r v positive (low h r (w *ℤ r) _ (turned r w) whole.from positive) (high h r (w *ℤ r) _ (stepped r w) whole.below) rest
+      where
+        low : (h r a x : ℤ) → x ≡ a → x ≤ℤ h → pos 0 <ℤ r → (r *ℤ neg_ℤ (pos (2 ^ 30))) ≤ℤ ((h -ℤ a) *ℤ pos (2 ^ 30))
+        low h r a x e from p = omega (arith, ints)
+
+        high : (h r a y : ℤ) → y ≡ a +ℤ r → h <ℤ y → ((h -ℤ a) *ℤ pos (2 ^ 30)) ≤ℤ (r *ℤ pos (2 ^ 30))
+        high h r a y e below = omega (arith, ints)
+
+    pub floor_of_both : IsFloor h r ((w *ℤ pos (2 ^ 30)) +ℤ v)
+    floor_of_both = record { from = lower h (w *ℤ r) _ _ (joined r w v (pos (2 ^ 30))) rest.from; below = upper h (w *ℤ r) _ _ (next r w v (pos (2 ^ 30))) rest.below }
+      where
+        joined : (r w v s : ℤ) → r *ℤ ((w *ℤ s) +ℤ v) ≡ ((w *ℤ r) *ℤ s) +ℤ (r *ℤ v)
+        joined r w v s = ring (r ∷ w ∷ v ∷ s ∷ []) (var 0 ⊗ ((var 1 ⊗ var 3) ⊕ var 2)) (((var 1 ⊗ var 0) ⊗ var 3) ⊕ (var 0 ⊗ var 2)) refl
+
+        next : (r w v s : ℤ) → r *ℤ (((w *ℤ s) +ℤ v) +ℤ pos 1) ≡ ((w *ℤ r) *ℤ s) +ℤ (r *ℤ (v +ℤ pos 1))
+        next r w v s = ring (r ∷ w ∷ v ∷ s ∷ []) (var 0 ⊗ (((var 1 ⊗ var 3) ⊕ var 2) ⊕ num (pos 1))) (((var 1 ⊗ var 0) ⊗ var 3) ⊕ (var 0 ⊗ (var 2 ⊕ num (pos 1)))) refl
+
+        lower : (h a x b : ℤ) → x ≡ (a *ℤ pos (2 ^ 30)) +ℤ b → b ≤ℤ ((h -ℤ a) *ℤ pos (2 ^ 30)) → x ≤ℤ (h *ℤ pos (2 ^ 30))
+        lower h a x b e k = omega (arith, ints)
+
+        upper : (h a x b : ℤ) → x ≡ (a *ℤ pos (2 ^ 30)) +ℤ b → ((h -ℤ a) *ℤ pos (2 ^ 30)) <ℤ b → (h *ℤ pos (2 ^ 30)) <ℤ x
+        upper h a x b e k = omega (arith, ints)
+
+    pub both_small : IsWithin (2 ^ 60) ((w *ℤ pos (2 ^ 30)) +ℤ v)
+    both_small = floor_small h r ((w *ℤ pos (2 ^ 30)) +ℤ v) positive within floor_of_both
 
 -- ---- the height of a line between its ends
 pub height_within : (e : Edge) (b : ℤ) → AreInLimit e.p e.q → (e.p.x +ℤ e.p.x) ≤ℤ b → b ≤ℤ (e.q.x +ℤ e.q.x) → IsQuotientWithin (2 ^ 30) (height e b) (e.q.x -ℤ e.p.x)

@@ -36,10 +36,14 @@ RunsThroughSeen course low high e = (f : Edge) → IsSeen course e f → RunsThr
 abbrev pub height : Edge → ℤ → ℤ
 height e border = determinant (e.q.x -ℤ e.p.x) (e.q.y -ℤ e.p.y) ((e.p.x +ℤ e.p.x) -ℤ border) (e.p.y +ℤ e.p.y)
 
+-- q is number / divisor, rounded down
+pub record IsQuotient (number divisor q : ℤ) : Type 0 where
+  pub from : (divisor *ℤ q) ≤ℤ number
+  pub below : number <ℤ (divisor *ℤ (q +ℤ pos 1))
+
 -- k is the number of parts in height / run, rounded down
-pub record IsFloor (height run k : ℤ) : Type 0 where
-  pub from : (run *ℤ k) ≤ℤ (height *ℤ pos (2 ^ 30))
-  pub below : (height *ℤ pos (2 ^ 30)) <ℤ (run *ℤ (k +ℤ pos 1))
+abbrev pub IsFloor : ℤ → ℤ → ℤ → Type 0
+IsFloor height run k = IsQuotient (height *ℤ pos (2 ^ 30)) run k
 
 -- s has the heights of e where the columns from low to high begin and end
 pub record IsStrand (low high : ℤ) (e : Edge) (s : Strand) : Type 0 where

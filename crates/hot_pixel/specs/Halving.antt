@@ -54,6 +54,10 @@ pub record ArePassing (rect : Rect) (lines part : List Line) : Type 0 where
 pub record AreHalves (rect first second : Rect) : Type 0 where
   pub same : (c : Pt) → IsIn rect c ↔ (IsIn first c ⊎ IsIn second c)
 
+-- the rectangle has no two pixels
+abbrev pub IsOnePixel : Rect → Type 0
+IsOnePixel rect = (c d : Pt) → IsIn rect c → IsIn rect d → c ≡ d
+
 -- twice how far the centre of the rectangle is to the left of the line, in the determinant's unit
 abbrev pub centre_offset : Rect → Edge → ℤ
 centre_offset rect e = determinant (e.q.x -ℤ e.p.x) (e.q.y -ℤ e.p.y) ((rect.lo.x +ℤ rect.hi.x) -ℤ (e.p.x +ℤ e.p.x)) ((rect.lo.y +ℤ rect.hi.y) -ℤ (e.p.y +ℤ e.p.y))

@@ -11,7 +11,7 @@
 ghost use Rattle.std.specs.Prelude.{◌≡◌, ◌^◌, ◌<ℤ◌, ◌≤ℤ◌, ◌+ℤ◌, ◌-ℤ◌, All, AllPairs, IfOk, IfSome, IsTrue, pos};
 ghost use Rattle.geom.specs.declared.point.Pt.{Pt};
 ghost use Rattle.geom.specs.Limit.{AreInLimit, InLimit, IsQuotientWithin, IsWithin};
-ghost use Rattle.hot_pixel.specs.Bundle.{AreStrands, AscendsTo, HasNoHot, IsFloor, IsSeen, IsStrand, RunsThrough, RunsThroughSeen, height};
+ghost use Rattle.hot_pixel.specs.Bundle.{AreStrands, AscendsTo, HasNoHot, IsFloor, IsQuotient, IsSeen, IsStrand, RunsThrough, RunsThroughSeen, height};
 ghost use Rattle.hot_pixel.specs.Halving.{IsHotFor, edges_of};
 ghost use Rattle.hot_pixel.specs.Rects.{IsIn};
 
@@ -92,15 +92,25 @@ fn all_run_through(course: Course, low: i32, high: i32, lines: &[Line]) -> bool
     true
 }
 
-/// The number of parts in a quotient, rounded down.
+/// A quotient, rounded down.
+fn quotient_of(number: i64, divisor: i64) -> i64
+    requires { pos 0 <ℤ divisor }
+    ensures { IsQuotient number divisor result }
+{
+    number.div_euclid(divisor)
+}
+
+/// The number of parts in a quotient, rounded down: those of its whole part, and those of what is left.
 fn parts_of(height: i64, run: i64) -> i64
     requires height_in { IsQuotientWithin (2 ^ 30) height run }
     requires positive { pos 0 <ℤ run }
+    requires run_in { run ≤ℤ pos (2 ^ 30) }
     ensures value { IsFloor height run result }
     ensures small { IsWithin (2 ^ 60) result }
 {
-    let parts = i128::from(height) * i128::from(PARTS);
-    parts.div_euclid(i128::from(run)) as i64
+    let whole = quotient_of(height, run);
+    let rest = height - whole * run;
+    whole * PARTS + quotient_of(rest * PARTS, run)
 }
 
 /// Twice the vector from half of a border on the axis to a point.

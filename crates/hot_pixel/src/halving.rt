@@ -1,10 +1,10 @@
 //! The halving of a rectangle, and the lines that may pass it.
 
-ghost use Rattle.std.specs.Prelude.{◌≡◌, ◌↔◌, ◌⊎◌, ◌^◌, ◌<ℤ◌, ◌≤ℤ◌, ◌+ℤ◌, ◌-ℤ◌, All, IfOk, IfSome, IsTrue, MatchOption, length, nat_abs, neg_ℤ, pos};
+ghost use Rattle.std.specs.Prelude.{◌≡◌, ◌↔◌, ◌⊎◌, ◌^◌, ◌<ℤ◌, ◌≤ℤ◌, ◌+ℤ◌, ◌-ℤ◌, All, IfOk, IsTrue, MatchOption, length, nat_abs, neg_ℤ, pos};
 ghost use Rattle.geom.specs.declared.point.Pt.{Pt};
 ghost use Rattle.geom.specs.Limit.{AreInLimit, InLimit, IsWithin, coordinate_limit};
 ghost use Rattle.geom.specs.Determinant.{determinant};
-ghost use Rattle.hot_pixel.specs.Halving.{AreHalves, ArePassing, IsMetOn, IsNear, IsPartInLimit};
+ghost use Rattle.hot_pixel.specs.Halving.{AreHalves, ArePassing, IsMetOn, IsNear, IsOnePixel, IsPartInLimit};
 ghost use Rattle.hot_pixel.specs.Rects.{IsIn};
 
 use crate::lines::Line;
@@ -12,7 +12,7 @@ use geom::{COORDINATE_LIMIT, Edge, NoMemory, Pt, Rect, Vector};
 use std::alloc::Allocator;
 
 /// How many lines are asked before a rectangle is cut.
-const SAMPLE: usize = 32;
+const SAMPLE: usize = 16;
 
 /// A vector with room for twice the differences of points.
 #[derive(Clone, Copy, Debug)]
@@ -113,7 +113,7 @@ pub fn passing<A: Allocator>(
     requires lines_in { All (λ l. AreInLimit l.edge.p l.edge.q) lines.now }
     ensures { IfOk result (λ v. ArePassing rect.now lines.now v.items) }
 {
-    let mut part = Vec::new(alloc);
+    let mut part = Vec::with_capacity(alloc, lines.len())?;
     for line in lines {
         if passes(rect, &line.edge) {
             part.push(*line)?;
@@ -201,11 +201,11 @@ fn shared(first: &Rect, second: &Rect, lines: &[Line]) -> usize
     count
 }
 
-/// Two halves of a rectangle, those that have fewer of the lines in common; a single pixel has none.
+/// Two halves of a rectangle, those that have fewer of the lines in common. Only a single pixel has none.
 pub fn cut(rect: &Rect, lines: &[Line]) -> Option<(Rect, Rect)>
     requires rect_in { AreInLimit rect.now.lo rect.now.hi }
     requires lines_in { All (λ l. AreInLimit l.edge.p l.edge.q) lines.now }
-    ensures { IfSome result (λ h. AreHalves rect.now h.0 h.1 × AreInLimit h.0.lo h.0.hi × AreInLimit h.1.lo h.1.hi) }
+    ensures { MatchOption result (IsOnePixel rect.now) (λ h. AreHalves rect.now h.0 h.1 × AreInLimit h.0.lo h.0.hi × AreInLimit h.1.lo h.1.hi) }
 {
     if rect.lo.x < rect.hi.x {
         let (left, right) = columns(rect);

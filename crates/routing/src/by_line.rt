@@ -23,7 +23,7 @@ fn each_on_line<A: Allocator>(
     requires { All (λ k. k < length segments.now) numbers.now }
     ensures { IfOk result (λ v. IsTable segments.now numbers.now v.items) }
 {
-    let mut table = Vec::new(alloc);
+    let mut table = Vec::with_capacity(alloc, numbers.len())?;
     for number in numbers {
         table.push(OnLine {
             edge: edge_of(&segments[*number as usize]),

@@ -6,7 +6,7 @@
 //! 4. Each line is tested against each hot pixel that was found there. Where it meets one, each segment on the line has a
 //!    record.
 
-ghost use Rattle.std.specs.Prelude.{◌≡◌, ◌++◌, ◌<◌, ◌≤◌, All, IfOk, OnOk, length};
+ghost use Rattle.std.specs.Prelude.{◌≡◌, ◌<◌, ◌≤◌, All, IfOk, OnOk, length};
 ghost use Rattle.geom.specs.Limit.{AreInLimit, InLimit};
 ghost use Rattle.hot_pixel.specs.Candidates.{chosen, AreOwnedHot};
 ghost use Rattle.hot_pixel.specs.Halving.{edges_of, HasHot};
@@ -106,16 +106,6 @@ fn add_records<A: Allocator>(
     Ok(())
 }
 
-/// Adds pixels to others.
-fn append<A: Allocator>(found: &mut Vec<Pt, A>, pixels: &[Pt]) -> Result<(), NoMemory>
-    ensures { OnOk result (found.new.items ≡ found.old.items ++ pixels.now) }
-{
-    for pixel in pixels {
-        found.push(*pixel)?;
-    }
-    Ok(())
-}
-
 /// Adds the pixels of a rectangle that are hot for its lines, by all ends and all pairs, and the records there.
 fn add_all<A: Allocator + Copy>(
     alloc: A,
@@ -132,11 +122,11 @@ fn add_all<A: Allocator + Copy>(
     ensures pixels { OnOk result (HasHot rect.now (edges_of lines.now) found.old.pixels.items found.new.pixels.items) }
     ensures records { OnOk result (AddsRecords segments.now table.now rect.now lines.now found.old.records.items found.new.records.items) }
 {
-    let mut here = Vec::new(alloc);
+    let mut here = Vec::with_capacity(alloc, lines.len())?;
     add_hot(rect, lines, &mut here)?;
     let pixels = ascending(here);
     add_records(&mut found.records, segments, table, lines, &pixels)?;
-    append(&mut found.pixels, &pixels)?;
+    found.pixels.extend_from_slice(&pixels)?;
     Ok(())
 }
 

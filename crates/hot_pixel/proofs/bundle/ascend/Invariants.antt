@@ -1,4 +1,3 @@
-use Rattle.std.proofs.Common.{◌≤◌}
 use Rattle.std.specs.List.{AllAdjacentBelow}
 use Rattle.hot_pixel.specs.Bundle.{AscendsTo}
 use Rattle.hot_pixel.proofs.bundle.ascend.Given as goal

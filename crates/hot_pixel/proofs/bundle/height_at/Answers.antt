@@ -1,6 +1,6 @@
-use Rattle.std.proofs.Common.{◌≡◌, ◌^◌, w64, to_z, of_z, to_z-of_z, lit<, sym, ◌∙◌, ap, arith}
+use Rattle.std.proofs.Common.{◌≡◌, ◌^◌, w64, to_z, of_z, to_z-of_z, lit<, ◌∙◌, ap, arith}
 use Rattle.std.proofs.Math.IntN.{ℤ, pos, ◌+ℤ◌, ◌-ℤ◌}
-use Rattle.std.specs.Prelude.{◌<ℤ◌}
+use Rattle.std.specs.Prelude.{◌<ℤ◌, ◌≤ℤ◌}
 use Rattle.std.proofs.lemmas.Int.{ints}
 use Rattle.geom.specs.Limit.{IsQuotientWithin, IsWithin}
 use Rattle.geom.specs.Determinant.{determinant}
@@ -21,6 +21,9 @@ quotient_back n h r x e f k = rw (e, f) k
 positive_back : (r p q : ℤ) → to_z w64 (of_z w64 r) ≡ q -ℤ p → p <ℤ q → pos 0 <ℤ to_z w64 (of_z w64 r)
 positive_back r p q e l = omega (arith, ints)
 
+small_back : (r : ℤ) → IsWithin (2 ^ 29) r → to_z w64 (of_z w64 r) ≤ℤ pos (2 ^ 30)
+small_back r h = omega (arith, ints)
+
 floor_back : (n h r x k : ℤ) → to_z w64 (of_z w64 n) ≡ h → to_z w64 (of_z w64 r) ≡ x → IsWithin (2 ^ 60) k → IsFloor (to_z w64 (of_z w64 n)) (to_z w64 (of_z w64 r)) k → IsFloor h x (to_z w64 (of_z w64 k))
 floor_back n h r x k e f small u =
     let g : to_z w64 (of_z w64 k) ≡ k = back k k small (λ i. k) in
@@ -39,6 +42,9 @@ pub parts_of-requires-clause-positive : goal.parts_of-requires-clause-positive
 parts_of-requires-clause-positive c =
     let run = c.vector_to-run.result in
     positive_back run.dx c.args.line.now.p.x c.args.line.now.q.x (run_back run.dx _ run.dx_small c.vector_to-run.ensures.dx) c.requires.apart
+
+pub parts_of-requires-clause-run_in : goal.parts_of-requires-clause-run_in
+parts_of-requires-clause-run_in c = small_back c.vector_to-run.result.dx c.vector_to-run.result.dx_small
 
 pub returns-clause-value : goal.returns-clause-value
 returns-clause-value c =

@@ -1,4 +1,4 @@
-use Rattle.std.proofs.Common.{◌≡◌, ◌^◌, w32, w64, FitsSigned, to_z, of_z, to_z-of_z, lit<, ◌∙◌, arith}
+use Rattle.std.proofs.Common.{◌≡◌, ◌^◌, w32, w64, FitsSigned, to_z, of_z, to_z-of_z, lit<, arith}
 use Rattle.std.proofs.Math.IntN.{ℤ, pos, ◌+ℤ◌, ◌-ℤ◌}
 use Rattle.std.proofs.lemmas.Int.{ints}
 use Rattle.geom.specs.declared.edge.Edge.{Edge}

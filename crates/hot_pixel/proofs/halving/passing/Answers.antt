@@ -7,7 +7,7 @@ use Rattle.hot_pixel.proofs.halving.passing.Goals as goal
 use Rattle.hot_pixel.proofs.halving.passing.Goals.{then-passes+in_ok-push, else-passes}
 
 pub loop-line-init : goal.loop-line-init
-loop-line-init g c = rw c.new-part.ensures.items (part_none c.args.rect.now)
+loop-line-init g c = rw c.in_ok-part.ensures.items (part_none c.args.rect.now)
 
 pub loop-line-preserved : goal.loop-line-preserved
 loop-line-preserved g c =

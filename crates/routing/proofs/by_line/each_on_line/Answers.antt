@@ -7,7 +7,7 @@ use Rattle.routing.proofs.RecordingLaws.{table_none, table_more}
 use Rattle.routing.proofs.by_line.each_on_line.Goals as goal
 
 pub loop-number-init : goal.loop-number-init
-loop-number-init g c = rw c.new-table.ensures.items (table_none c.args.segments.now)
+loop-number-init g c = rw c.in_ok-table.ensures.items (table_none c.args.segments.now)
 
 pub loop-number-preserved : goal.loop-number-preserved
 loop-number-preserved g c =
