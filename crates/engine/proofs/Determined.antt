@@ -1,9 +1,8 @@
 -- Two runs on the same two layers have one list of segments and one of rounded edges, and so one text.
-use Rattle.std.proofs.Common.{◌≡◌, ℕ, ◌<◌, ◌≤◌, List, Option, Some, None, length, refl, sym, ap, subst, ◌∙◌, arith}
+use Rattle.std.proofs.Common.{◌≡◌, ℕ, List, length, sym, ap, subst, ◌∙◌}
 use Rattle.std.proofs.Math.Logic.{∥∥₁_elim}
 use Rattle.std.proofs.Props.{props}
 use Rattle.geom.specs.declared.point.Pt.{Pt}
-use Rattle.geom.specs.declared.rect.Rect.{Rect}
 use Rattle.geom.specs.declared.segment.Seg.{Seg}
 use Rattle.geom.specs.declared.edge.Counted.{Counted}
 use Rattle.geom.specs.Rounded.{AreRounded}
@@ -13,14 +12,13 @@ use Rattle.chain_gather.specs.declared.rounded.TileNumbers.{TileNumbers}
 use Rattle.chain_gather.proofs.Covering.{are_covered}
 use Rattle.chain_gather.proofs.Gathering.{AreCovered}
 use Rattle.points_law.proofs.OneResult.{one_rounded, one_segments}
-use Rattle.tiling.specs.Tiles.{CoversBounds, IsGridOf, Tiling, tile_count}
-use Rattle.tiling.proofs.Columns.{covers}
+use Rattle.tiling.specs.Tiles.{Tiling, tile_count}
 use Rattle.wkt.specs.LayerText.{Ring}
 use Rattle.wkt.specs.Refusals.{IsAccepted, plain}
 use Rattle.wkt.proofs.Complete.{at_most_one}
 use Rattle.engine.specs.Determined.{EdgesSizesAreOne, EdgesTextIsOne, HaveOneSize}
 use Rattle.engine.specs.Rounds.{AreRoundedOver, AreSegmentsOf}
-use Rattle.engine.specs.Runs.{AreEdgesWritten, IsChecked, Reports, segment_count}
+use Rattle.engine.specs.Runs.{AreEdgesWritten, Reports, segment_count}
 use Rattle.engine.specs.Texts.{edges_text_of}
 use Rattle.engine.specs.declared.engine.Plan.{Plan}
 use Rattle.engine.specs.declared.text.Report.{Report}
@@ -69,27 +67,8 @@ pub edges_text_is_one : (M N : Type 0) → EdgesTextIsOne M N
 edges_text_is_one M N = one_text M N
 
 -- ---- the tiles of a run have every hot pixel
-grid_covers : (bounds : Option Rect) (side : ℕ) (g : Tiling) → 0 < side → IsGridOf bounds side g → CoversBounds bounds g
-grid_covers None side g l h = tt
-grid_covers (Some r) side g l h = covers r side g l h
-
-some_side : (side : ℕ) → 16 ≤ side → 0 < side
-some_side side h = omega (arith, h)
-
-checked : {M : Type 0} (plan : Plan) (a b : List ℕ) (cs : List Counted) (report : Report M) (h : Reports plan a b cs report) → IsChecked plan a b (segment_count h.rings_a) (segment_count h.rings_b) h.grid
-checked plan a b cs report h = record {
-  rings_a = h.rings_a;
-  rings_b = h.rings_b;
-  ready = h.ready;
-  count_a = refl;
-  count_b = refl;
-  bounds = h.ready.is_grid.bounds;
-  are_bounds = h.ready.is_grid.are_bounds;
-  covers = grid_covers h.ready.is_grid.bounds plan.side h.grid (some_side plan.side h.ready.planned.side.0) h.ready.is_grid.is_grid;
-}
-
 pub tiles_cover : {M : Type 0} (plan : Plan) (a b : List ℕ) (cs : List Counted) (report : Report M) (h : Reports plan a b cs report) → AreCovered h.grid h.rounded.segments
-tiles_cover plan a b cs report h = are_covered h.grid h.rounded.segments (covered plan a b _ _ h.grid h.rounded.segments (checked plan a b cs report h) h.rounded.are_segments)
+tiles_cover plan a b cs report h = are_covered h.grid h.rounded.segments (covered plan a b h.rings_a h.rings_b h.grid h.rounded.segments h.ready h.rounded.are_segments)
 
 -- ---- the numbers of reports
 pub one_size : {M N : Type 0} (a b : List ℕ) (plan other : Plan) (cs ds : List Counted) (report : Report M) (report' : Report N)

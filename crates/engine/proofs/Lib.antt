@@ -17,5 +17,5 @@ pub mod OneResultText
 pub mod OneRefusal
 pub mod OneTiling
 pub mod Fits
-pub mod Reporting
+pub mod Known
 pub mod InTurn

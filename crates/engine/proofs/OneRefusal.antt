@@ -31,7 +31,7 @@ dot z = record { lo = record { x = z; y = z }; hi = record { x = z; y = z }; wid
 no_steps : (q : Rect) → HoldsSteps q []
 no_steps q s i = absurd (contains_in [] s i)
 
-no_box : (r : Rect) → IsBox [] r → ⊥
+pub no_box : (r : Rect) → IsBox [] r → ⊥
 no_box r h =
     let a = (h.least (dot (pos 0)) (no_steps (dot (pos 0)))).0.right in
     let b = (h.least (dot (pos 1)) (no_steps (dot (pos 1)))).0.left in
@@ -44,7 +44,7 @@ counts_same : (c d : ℕ) (w : ℤ) → pos c ≡ w → pos d ≡ w → c ≡ d
 counts_same c d w e f = let g : pos c ≡ pos d = e ∙ sym f in cc
 
 -- two least boxes have the same corners: by the least x and y, then by the greatest
-same_corners : (r s : Rect) (taken : List (Pt × Pt)) → IsBox taken r → IsBox taken s → (r.lo.x ≡ s.lo.x) × (r.lo.y ≡ s.lo.y) × (r.hi.x ≡ s.hi.x) × (r.hi.y ≡ s.hi.y)
+pub same_corners : (r s : Rect) (taken : List (Pt × Pt)) → IsBox taken r → IsBox taken s → (r.lo.x ≡ s.lo.x) × (r.lo.y ≡ s.lo.y) × (r.hi.x ≡ s.hi.x) × (r.hi.y ≡ s.hi.y)
 same_corners r s taken h k = (
   same_number r.lo.x s.lo.x (k.least r h.holds).0.left (h.least s k.holds).0.left,
   same_number r.lo.y s.lo.y (k.least r h.holds).0.bottom (h.least s k.holds).0.bottom,

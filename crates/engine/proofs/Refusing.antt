@@ -48,7 +48,4 @@ checked_all plan a b m n g p o q few h = record {
   ready = record { planned = p; accepted_a = o.1; accepted_b = q.1; few = few_enough _ _ _ _ segment_limit o.2.count q.2.count few; is_grid = grid_over a b m n o q plan.side g h.over; few_tiles = h.few };
   count_a = o.2.count;
   count_b = q.2.count;
-  bounds = h.over.bounds;
-  are_bounds = h.over.joint (layer_steps (plain o.0)) (layer_steps (plain q.0)) o.2.box q.2.box;
-  covers = h.covers;
 }

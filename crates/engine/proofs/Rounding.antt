@@ -1,14 +1,10 @@
 -- From two texts that were checked to what the theorems say of their rounded edges.
-use Rattle.std.proofs.Common.{◌≡◌, ℕ, List, [], ◌∷◌, ◌++◌, length, map, get_or, ◌<◌, inl, inr, refl, sym, subst, ap, arith, ⊎_elim}
-use Rattle.std.proofs.Math.Logic.{∥∥₁_elim, ∥∥₁_map}
-use Rattle.std.proofs.Props.{props}
-use Rattle.std.specs.Prelude.{All, Contains, Err, IfOk, None, Ok, Option, Result, Some}
-use Rattle.std.proofs.lemmas.List.{get_or-map, length-map}
-use Rattle.geom.specs.Limit.{AreInLimit}
+use Rattle.std.proofs.Common.{◌≡◌, ℕ, List, [], ◌∷◌, ◌++◌, map, ◌<◌, ◌≤◌, inl, inr, refl, sym, subst, ap, arith, ⊎_elim}
+use Rattle.std.proofs.Math.Logic.{∥∥₁_map}
+use Rattle.std.specs.Prelude.{Contains, Err, IfOk, None, Ok, Option, Result, Some}
 use Rattle.geom.specs.Rounded.{AreRounded}
 use Rattle.geom.specs.Segments.{AreSegments, layer_steps, parts, tagged}
 use Rattle.geom.specs.declared.edge.Counted.{Counted}
-use Rattle.geom.specs.declared.edge.Edge.{Edge}
 use Rattle.geom.specs.declared.point.Pt.{Pt}
 use Rattle.geom.specs.declared.rect.Rect.{Rect}
 use Rattle.geom.specs.declared.segment.Seg.{Seg}
@@ -19,14 +15,15 @@ use Rattle.noding_law.proofs.Rounding.{rounded_noded}
 use Rattle.points_law.specs.Law.{AreLayers}
 use Rattle.points_law.proofs.ClosedSegments.{rings_closed}
 use Rattle.points_law.proofs.RoundedLayers.{rounded_layers}
-use Rattle.tiling.specs.Tiles.{Tiling}
+use Rattle.tiling.specs.Tiles.{CoversBounds, IsGridOf, Tiling}
+use Rattle.tiling.proofs.Columns.{covers}
 use Rattle.chain_gather.specs.Gathered.{BoundsHold, HaveTiles}
 use Rattle.chain_gather.proofs.Covering.{have_tiles}
 use Rattle.wkt.specs.LayerText.{Ring}
 use Rattle.wkt.specs.Refusals.{IsAccepted, StandsFor, plain}
 use Rattle.wkt.proofs.Exclusive.{same_reading}
 use Rattle.engine.specs.Rounds.{AllInLimit, AreBoundsOf, AreSegmentsOf}
-use Rattle.engine.specs.Runs.{IsChecked}
+use Rattle.engine.specs.Runs.{IsReady}
 use Rattle.engine.specs.declared.engine.Plan.{Plan}
 
 -- ---- the bounds hold the segments
@@ -64,13 +61,21 @@ bounds_hold a b segments are (Some r) box = λ s h. box.holds (s.a, s.b) (in_con
 one_plain : (text : List ℕ) (rings other : List Ring) → IsAccepted text rings → IsAccepted text other → plain rings ≡ plain other
 one_plain text rings other h k = same_reading text (plain rings) (plain other) (rings, h, refl) (other, k, refl)
 
-pub covered : (plan : Plan) (a b : List ℕ) (m n : ℕ) (g : Tiling) (segments : List Seg) → IsChecked plan a b m n g → AreSegmentsOf a b segments → HaveTiles g segments
-covered plan a b m n g segments h s =
-    let x = one_plain a s.rings_a h.rings_a s.accepted_a h.ready.accepted_a in
-    let y = one_plain b s.rings_b h.rings_b s.accepted_b h.ready.accepted_b in
-    have_tiles h.bounds g segments h.covers (bounds_hold (plain h.rings_a) (plain h.rings_b) segments
-    (subst (λ (p : List (List Pt)). AreSegments p (plain h.rings_b) segments) x (subst (λ (p : List (List Pt)). AreSegments (plain s.rings_a) p segments) y s.are_segments))
-    h.bounds h.are_bounds)
+-- the tiles of a grid over bounds have every point of them
+grid_covers : (bounds : Option Rect) (side : ℕ) (g : Tiling) → 0 < side → IsGridOf bounds side g → CoversBounds bounds g
+grid_covers None side g l h = tt
+grid_covers (Some r) side g l h = covers r side g l h
+
+some_side : (side : ℕ) → 16 ≤ side → 0 < side
+some_side side h = omega (arith, h)
+
+pub covered : (plan : Plan) (a b : List ℕ) (rings_a rings_b : List Ring) (g : Tiling) (segments : List Seg) → IsReady plan a b rings_a rings_b g → AreSegmentsOf a b segments → HaveTiles g segments
+covered plan a b rings_a rings_b g segments h s =
+    let x = one_plain a s.rings_a rings_a s.accepted_a h.accepted_a in
+    let y = one_plain b s.rings_b rings_b s.accepted_b h.accepted_b in
+    have_tiles h.is_grid.bounds g segments (grid_covers h.is_grid.bounds plan.side g (some_side plan.side h.planned.side.0) h.is_grid.is_grid) (bounds_hold (plain rings_a) (plain rings_b) segments
+    (subst (λ (p : List (List Pt)). AreSegments p (plain rings_b) segments) x (subst (λ (p : List (List Pt)). AreSegments (plain s.rings_a) p segments) y s.are_segments))
+    h.is_grid.bounds h.is_grid.are_bounds)
 
 -- ---- the segments of two texts
 
@@ -88,16 +93,6 @@ segments_read a b rings_a rings_b segments h k are = record {
 pub layers_of : (a b : List ℕ) (segments : List Seg) (counted : List Counted) → AreSegmentsOf a b segments → AllInLimit segments → ∥ AreRounded segments counted ∥₁ → ∥ AreLayers counted ∥₁
 layers_of a b segments counted s limits r =
     ∥∥₁_map r (λ h. rounded_layers segments counted h limits (rings_closed (plain s.rings_a) (plain s.rings_b) segments s.are_segments A) (rings_closed (plain s.rings_a) (plain s.rings_b) segments s.are_segments B) (rounded_noded segments counted h))
-
-limit_prop : (p q : Pt) → IsProp (AreInLimit p q)
-limit_prop p q = hlevel props
-
-pub edges_in_limit : (counted : List Counted) → ∥ AreLayers counted ∥₁ → All (λ (c : Counted). AreInLimit c.edge.p c.edge.q) counted
-edges_in_limit counted h = λ k d l.
-    ∥∥₁_elim h (limit_prop _ _) (λ layers. edge_at k d l layers.in_limit)
-  where
-    edge_at : (k : ℕ) (d : Counted) → k < length counted → All (λ (e : Edge). AreInLimit e.p e.q) (map (λ (c : Counted). c.edge) counted) → AreInLimit (get_or counted k d).edge.p (get_or counted k d).edge.q
-    edge_at k d l all = subst (λ (e : Edge). AreInLimit e.p e.q) (get_or-map (λ (c : Counted). c.edge) counted k d d.edge l) (all k d.edge (let e = length-map counted (λ (c : Counted). c.edge) in omega arith))
 
 pub if_both : {T E : Type 0} (r : Result T E) (P Q S : T → Type 0) → ((x : T) → P x → Q x → S x) → IfOk r P → IfOk r Q → IfOk r S
 if_both (Ok x) P Q S f p q = f x p q

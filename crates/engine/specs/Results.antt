@@ -14,7 +14,10 @@ use Rattle.wkt.specs.Canonical.{closed, listed, ring_text}
 use Rattle.wkt.specs.Refusals.{IsLayerOf}
 use Rattle.engine.specs.declared.engine.Plan.{Plan}
 use Rattle.engine.specs.declared.text.Report.{Report}
-use Rattle.engine.specs.Runs.{Reports}
+use Rattle.engine.specs.declared.operation.Wanted.{Wanted}
+use Rattle.engine.specs.declared.operation.Wanted.TheVariants.{Apply, Edges}
+use Rattle.engine.specs.Runs.{AreEdgesWritten, Reports}
+use Rattle.engine.specs.Texts.{edges_text_of}
 
 -- `(`, the shell, the holes, `)`
 abbrev pub shape_text : Shape → List ℕ
@@ -46,3 +49,13 @@ pub record IsResultWritten {M : Type 0} (op : Op) (plan : Plan) (a b : List ℕ)
   pub counted : List Counted
   pub result : IsResultText op counted text
   pub reports : Reports plan a b counted report
+
+-- the text that is wanted of two rounded layers
+abbrev pub IsWantedText : Wanted → List Counted → List ℕ → Type 0
+IsWantedText Edges counted text = text ≡ edges_text_of counted
+IsWantedText (Apply op) counted text = IsResultText op counted text
+
+-- the text that is wanted, and its report
+abbrev pub IsWritten : {M : Type 0} → Wanted → Plan → List ℕ → List ℕ → List ℕ → Report M → Type 0
+IsWritten Edges plan a b text report = AreEdgesWritten plan a b text report
+IsWritten (Apply op) plan a b text report = IsResultWritten op plan a b text report

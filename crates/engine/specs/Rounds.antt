@@ -13,7 +13,7 @@ use Rattle.geom.specs.declared.fault.Fault.{Fault}
 use Rattle.geom.specs.declared.fault.Fault.TheVariants.{TooManyTiles}
 use Rattle.geom.specs.declared.fault.Part.{Part}
 use Rattle.geom.specs.declared.fault.Part.TheVariants.{Run}
-use Rattle.tiling.specs.Tiles.{CoversBounds, IsGridOf, Tiling, most_tiles, tile_count}
+use Rattle.tiling.specs.Tiles.{IsGridOf, Tiling, most_tiles, tile_count}
 use Rattle.chain_gather.specs.Gathered.{AreTileNumbers}
 use Rattle.chain_gather.specs.declared.rounded.TileNumbers.{TileNumbers}
 use Rattle.wkt.specs.LayerText.{Ring}
@@ -59,11 +59,10 @@ pub record IsJointGrid (a b : Option Rect) (side : ℕ) (g : Tiling) : Type 0 wh
   pub joint : AreJointBounds a b bounds
   pub is_grid : IsGridOf bounds side g
 
--- it has few tiles, and one for each point in the bounds
+-- it has few tiles
 pub record IsUsableGrid (a b : Option Rect) (side : ℕ) (g : Tiling) : Type 0 where
   pub over : IsJointGrid a b side g
   pub few : tile_count g ≤ most_tiles
-  pub covers : CoversBounds over.bounds g
 
 -- it is refused for the number of its tiles
 pub record IsTooFine (a b : Option Rect) (side : ℕ) (part : Part) (fault : Fault) : Type 0 where

@@ -1,5 +1,5 @@
 -- What a run of the engine is refused for, and what it does to the sink (own).
-use Rattle.std.specs.Prelude.{◌≡◌, ◌≤◌, ◌<◌, ◌+◌, ◌++◌, ℕ, Bool, List, Option, Result, length, MatchResult}
+use Rattle.std.specs.Prelude.{◌≡◌, ◌≤◌, ◌<◌, ◌+◌, ℕ, List, Result, length, MatchResult}
 use Rattle.geom.specs.declared.edge.Counted.{Counted}
 use Rattle.geom.specs.declared.fault.Fault.{Fault}
 use Rattle.geom.specs.declared.fault.Fault.TheVariants.{TooManySegments, BadTile, BadWorkers, TooManyTiles, Memory, Write}
@@ -9,23 +9,24 @@ use Rattle.geom.specs.declared.fault.RunFault.{RunFault}
 use Rattle.geom.specs.Segments.{layer_steps}
 use Rattle.geom.specs.declared.segment.Source.{Source}
 use Rattle.geom.specs.declared.segment.Source.TheVariants.{A as FromA, B as FromB}
-use Rattle.geom.specs.declared.rect.Rect.{Rect}
-use Rattle.tiling.specs.Tiles.{CoversBounds, IsSide, Tiling, most_tiles, tile_count}
+use Rattle.tiling.specs.Tiles.{IsSide, Tiling, most_tiles, tile_count}
 use Rattle.wkt.specs.LayerText.{Ring}
 use Rattle.wkt.specs.Outlines.{IsOutline}
 use Rattle.wkt.specs.declared.outline.Outline.{Outline}
 use Rattle.wkt.specs.Refusals.{IsAccepted, IsRefused, plain}
 use Rattle.engine.specs.declared.text.Report.{Report}
-use Rattle.engine.specs.Sinks.{SentAll, SentPart}
+use Rattle.engine.specs.Sinks.{SentAll, SentPart, SinkState}
 use Rattle.engine.specs.Texts.{edges_text_of}
 use Rattle.chain_gather.specs.declared.rounded.TileNumbers.{TileNumbers}
-use Rattle.engine.specs.Rounds.{AreBoundsOf, AreRoundedOver, IsGridOver, TellsTiles}
+use Rattle.engine.specs.Rounds.{AreRoundedOver, IsGridOver, TellsTiles}
+use Rattle.engine.specs.declared.checking.TheConstants.{GREATEST_CREW, SEGMENT_LIMIT}
+use Rattle.engine.specs.declared.engine.Made.{Made}
 use Rattle.engine.specs.declared.engine.Plan.{Plan}
 
 -- the number of workers is within its limits
 pub record IsCrew (workers : ℕ) : Type 0 where
   pub low : 1 ≤ workers
-  pub high : workers ≤ 64
+  pub high : workers ≤ GREATEST_CREW
 
 pub record IsPlan (plan : Plan) : Type 0 where
   pub side : IsSide plan.side
@@ -33,7 +34,7 @@ pub record IsPlan (plan : Plan) : Type 0 where
 
 -- the greatest number of segments in both layers
 abbrev pub segment_limit : ℕ
-segment_limit = 1_048_576
+segment_limit = SEGMENT_LIMIT
 
 -- the number of segments of a layer with these rings
 abbrev pub segment_count : List Ring → ℕ
@@ -71,16 +72,13 @@ part_of FromB = B
 abbrev pub HasOutline : List ℕ → Outline → Type 0
 HasOutline text outline = (rings : List Ring) × IsAccepted text rings × IsOutline (plain rings) outline
 
--- the plan and the layers are within their limits; the layers have these numbers of segments, and the grid has a tile for each point of their box
+-- the plan, the layers and this grid over them are within their limits; the layers have these numbers of segments
 pub record IsChecked (plan : Plan) (a b : List ℕ) (segments_a segments_b : ℕ) (grid : Tiling) : Type 0 where
   pub rings_a : List Ring
   pub rings_b : List Ring
   pub ready : IsReady plan a b rings_a rings_b grid
   pub count_a : segments_a ≡ segment_count rings_a
   pub count_b : segments_b ≡ segment_count rings_b
-  pub bounds : Option Rect
-  pub are_bounds : AreBoundsOf (layer_steps (plain rings_a) ++ layer_steps (plain rings_b)) bounds
-  pub covers : CoversBounds bounds grid
 
 -- the report of these edges: they are the rounded edges of the layers, and its numbers are those of the segments, the edges, the hot pixels and the records, of each tile and in all; no more pieces were made again than there are tiles
 pub record Reports {M : Type 0} (plan : Plan) (a b : List ℕ) (counted : List Counted) (report : Report M) : Type 0 where
@@ -106,31 +104,36 @@ pub record AreEdgesWritten {M : Type 0} (plan : Plan) (a b : List ℕ) (text : L
 abbrev pub MayRun : Plan → List ℕ → List ℕ → Type 0
 MayRun plan a b = (rings_a : List Ring) × (rings_b : List Ring) × (grid : Tiling) × IsReady plan a b rings_a rings_b grid
 
+-- the text that was made was sent, and its report is answered; or the sink failed, and had taken a beginning of the text
+abbrev pub Delivers : {M : Type 0} → SinkState → SinkState → Made M → Result (Report M) RunFault → Type 0
+Delivers old new made r =
+    MatchResult r (λ report. (report ≡ made.report) × SentAll old new made.text.items) (λ f. (f.at ≡ Run) × (f.fault ≡ Write) × SentPart old new made.text.items)
+
 -- an answer: the sink took the text that goes with the report, and is settled
-pub record Answers {S M : Type 0} (failed : S → ℕ) (settled : S → Bool) (taken : S → Option (List ℕ)) (old new : S) (plan : Plan) (a b : List ℕ) (IsAnswer : List ℕ → Report M → Type 0) (report : Report M) : Type 0 where
+pub record Answers {M : Type 0} (old new : SinkState) (plan : Plan) (a b : List ℕ) (IsAnswer : List ℕ → Report M → Type 0) (report : Report M) : Type 0 where
   pub may : MayRun plan a b
   pub text : List ℕ
   pub is_answer : IsAnswer text report
-  pub sent : SentAll failed settled taken old new text
+  pub sent : SentAll old new text
 
 -- the sink failed, and had taken a beginning of the text of an answer
-pub record FailedToSend {S M : Type 0} (failed : S → ℕ) (settled : S → Bool) (taken : S → Option (List ℕ)) (old new : S) (plan : Plan) (a b : List ℕ) (IsAnswer : List ℕ → Report M → Type 0) : Type 0 where
+pub record FailedToSend {M : Type 0} (old new : SinkState) (plan : Plan) (a b : List ℕ) (IsAnswer : List ℕ → Report M → Type 0) : Type 0 where
   pub may : MayRun plan a b
   pub text : List ℕ
   pub report : Report M
   pub is_answer : IsAnswer text report
-  pub sent : SentPart failed settled taken old new text
+  pub sent : SentPart old new text
 
 -- a refusal: where the sink failed, it took a beginning; otherwise it is as before
-abbrev pub Stops : {S M : Type 0} → (S → ℕ) → (S → Bool) → (S → Option (List ℕ)) → S → S → Plan → List ℕ → List ℕ → (List ℕ → Report M → Type 0) → Part → Fault → Type 0
-Stops failed settled taken old new plan a b IsAnswer part Write = (part ≡ Run) × FailedToSend failed settled taken old new plan a b IsAnswer
-Stops failed settled taken old new plan a b IsAnswer part Memory = (part ≡ Run) × MayRun plan a b × (new ≡ old)
-Stops failed settled taken old new plan a b IsAnswer part fault = IsRefusedAt plan a b part fault × (new ≡ old)
+abbrev pub Stops : {S M : Type 0} → (S → SinkState) → S → S → Plan → List ℕ → List ℕ → (List ℕ → Report M → Type 0) → Part → Fault → Type 0
+Stops state old new plan a b IsAnswer part Write = (part ≡ Run) × FailedToSend (state old) (state new) plan a b IsAnswer
+Stops state old new plan a b IsAnswer part Memory = (part ≡ Run) × MayRun plan a b × (new ≡ old)
+Stops state old new plan a b IsAnswer part fault = IsRefusedAt plan a b part fault × (new ≡ old)
 
 -- a run on two layers, whose answers are these
-abbrev pub Runs : {S M : Type 0} → (S → ℕ) → (S → Bool) → (S → Option (List ℕ)) → S → S → Plan → List ℕ → List ℕ → (List ℕ → Report M → Type 0) → Result (Report M) RunFault → Type 0
-Runs failed settled taken old new plan a b IsAnswer r =
-    MatchResult r (λ report. Answers failed settled taken old new plan a b IsAnswer report) (λ f. Stops failed settled taken old new plan a b IsAnswer f.at f.fault)
+abbrev pub Runs : {S M : Type 0} → (S → SinkState) → S → S → Plan → List ℕ → List ℕ → (List ℕ → Report M → Type 0) → Result (Report M) RunFault → Type 0
+Runs state old new plan a b IsAnswer r =
+    MatchResult r (λ report. Answers (state old) (state new) plan a b IsAnswer report) (λ f. Stops state old new plan a b IsAnswer f.at f.fault)
 
 -- the plan of a caller without threads
 abbrev pub alone : ℕ → Plan

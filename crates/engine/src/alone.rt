@@ -1,23 +1,22 @@
 //! The engine's calls on the calling thread alone, from memory to memory, for a caller that has no threads to lend.
 
-ghost use Rattle.std.specs.Prelude.{◌≡◌, ◌≤◌, All, IfOk, MatchResult, length};
+ghost use Rattle.std.specs.Prelude.{◌≡◌, ◌≤◌, IfOk, MatchResult, length};
 ghost use Rattle.tile_book.specs.Books.{StandInOrder};
-ghost use Rattle.geom.specs.Limit.{AreInLimit};
 ghost use Rattle.geom.specs.Rounded.{AreRounded};
 ghost use Rattle.tiling.specs.Tiles.{tile_count};
 ghost use Rattle.chain_gather.specs.Gathered.{AreTileNumbers, HaveTiles};
 ghost use Rattle.points_law.specs.Law.{AreLayers};
 ghost use Rattle.engine.specs.Rounds.{AllInLimit, AreRoundedOver};
-ghost use Rattle.engine.specs.Results.{IsResultWritten};
-ghost use Rattle.engine.specs.Runs.{AreEdgesWritten, Declines, IsChecked, alone};
+ghost use Rattle.engine.specs.Results.{IsResultWritten, IsWritten};
+ghost use Rattle.engine.specs.Runs.{AreEdgesWritten, Declines, alone};
 
-use crate::engine::{Inputs, Made, Plan, checked};
-use crate::operation::result_text;
-use crate::rounds::{Pieces, read_segments, report_of};
+use crate::checking::{Checked, check};
+use crate::engine::{Made, Plan, make, or_fault};
+use crate::operation::Wanted;
+use crate::rounds::{Pieces, read_segments};
 use crate::segments::boxes_of;
-use crate::text::edges_text;
 use chain_gather::{Tiled, gather_made};
-use geom::{Fault, NoMemory, Op, Part, RunFault, Seg};
+use geom::{NoMemory, Op, RunFault, Seg};
 use noding_test::{Noded, settled};
 use std::alloc::Allocator;
 use std::marker::{Brand, PhantomData};
@@ -34,15 +33,7 @@ pub fn edges_alone<A: Allocator + Copy>(
 ) -> Result<Made<A>, RunFault>
     ensures { MatchResult result (λ m. AreEdgesWritten (alone side) a.now b.now m.text.items m.report) (λ f. Declines (alone side) a.now b.now f.at f.fault) }
 {
-    let plan = Plan { side, workers: 1 };
-    let inputs = checked(a, b, plan)?;
-    match make_edges_alone(alloc, a, b, plan, &inputs) {
-        Ok(made) => Ok(made),
-        Err(_) => Err(RunFault {
-            at: Part::Run,
-            fault: Fault::Memory,
-        }),
-    }
+    made_alone(alloc, Wanted::Edges, a, b, side)
 }
 
 /// The canonical line of the result of an operation on two layers, over tiles of this side, and its report. It is refused
@@ -56,66 +47,48 @@ pub fn run_alone<A: Allocator + Copy>(
 ) -> Result<Made<A>, RunFault>
     ensures { MatchResult result (λ m. IsResultWritten op (alone side) a.now b.now m.text.items m.report) (λ f. Declines (alone side) a.now b.now f.at f.fault) }
 {
-    let plan = Plan { side, workers: 1 };
-    let inputs = checked(a, b, plan)?;
-    match make_result_alone(alloc, op, a, b, plan, &inputs) {
-        Ok(made) => Ok(made),
-        Err(_) => Err(RunFault {
-            at: Part::Run,
-            fault: Fault::Memory,
-        }),
+    made_alone(alloc, Wanted::Apply(op), a, b, side)
+}
+
+/// The text that is wanted of two layers, and the report, where nothing is refused.
+fn made_alone<A: Allocator + Copy>(
+    alloc: A,
+    wanted: Wanted,
+    a: &[u8],
+    b: &[u8],
+    side: u32,
+) -> Result<Made<A>, RunFault>
+    ensures { MatchResult result (λ m. IsWritten wanted (alone side) a.now b.now m.text.items m.report) (λ f. Declines (alone side) a.now b.now f.at f.fault) }
+{
+    match check(a, b, Plan { side, workers: 1 }) {
+        Ok(checked) => or_fault(by_one(alloc, wanted, &checked)),
+        Err(fault) => Err(fault),
     }
 }
 
-fn make_edges_alone<A: Allocator + Copy>(
+/// The same of two layers that were checked: the calling thread rounds them.
+fn by_one<A: Allocator + Copy>(
     alloc: A,
-    a: &[u8],
-    b: &[u8],
-    plan: Plan,
-    inputs: &Inputs,
+    wanted: Wanted,
+    checked: &Checked<'_, '_>,
 ) -> Result<Made<A>, NoMemory>
-    requires { IsChecked plan a.now b.now inputs.now.segments_a inputs.now.segments_b inputs.now.grid }
-    ensures { IfOk result (λ m. AreEdgesWritten plan a.now b.now m.text.items m.report) }
+    ensures { IfOk result (λ m. IsWritten wanted checked.now.plan checked.now.a.now checked.now.b.now m.text.items m.report) }
 {
-    let noded = rounded_alone(alloc, a, b, plan, inputs)?;
-    let text = edges_text(alloc, &noded.edges)?;
-    let report = report_of(alloc, inputs, &noded)?;
-    Ok(Made { text, report })
+    let noded = rounded_alone(alloc, checked)?;
+    make(alloc, wanted, checked, &noded)
 }
 
-fn make_result_alone<A: Allocator + Copy>(
-    alloc: A,
-    op: Op,
-    a: &[u8],
-    b: &[u8],
-    plan: Plan,
-    inputs: &Inputs,
-) -> Result<Made<A>, NoMemory>
-    requires { IsChecked plan a.now b.now inputs.now.segments_a inputs.now.segments_b inputs.now.grid }
-    ensures { IfOk result (λ m. IsResultWritten op plan a.now b.now m.text.items m.report) }
-{
-    let noded = rounded_alone(alloc, a, b, plan, inputs)?;
-    let text = result_text(alloc, &noded.edges, op)?;
-    let report = report_of(alloc, inputs, &noded)?;
-    Ok(Made { text, report })
-}
-
-/// The rounded edges of two layer texts that were checked, with the numbers of the tiles.
+/// The rounded edges of two layers, with the numbers of the tiles.
 fn rounded_alone<A: Allocator + Copy>(
     alloc: A,
-    a: &[u8],
-    b: &[u8],
-    plan: Plan,
-    inputs: &Inputs,
+    checked: &Checked<'_, '_>,
 ) -> Result<Noded<A>, NoMemory>
-    requires { IsChecked plan a.now b.now inputs.now.segments_a inputs.now.segments_b inputs.now.grid }
-    ensures rounded { IfOk result (λ n. AreRoundedOver a.now b.now inputs.now.grid n.edges.items n.tiles.items) }
+    ensures rounded { IfOk result (λ n. AreRoundedOver checked.now.a.now checked.now.b.now checked.now.grid n.edges.items n.tiles.items) }
     ensures layers { IfOk result (λ n. ∥ AreLayers n.edges.items ∥₁) }
-    ensures remade { IfOk result (λ n. n.remade ≤ tile_count inputs.now.grid) }
-    ensures in_limit { IfOk result (λ n. All (λ c. AreInLimit c.edge.p c.edge.q) n.edges.items) }
+    ensures remade { IfOk result (λ n. n.remade ≤ tile_count checked.now.grid) }
 {
-    let segments = read_segments(alloc, a, b, inputs)?;
-    gathered_alone(alloc, &inputs.grid, &segments)
+    let segments = read_segments(alloc, checked)?;
+    gathered_alone(alloc, &checked.grid, &segments)
 }
 
 /// The rounded edges of segments.

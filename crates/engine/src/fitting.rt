@@ -4,7 +4,8 @@ ghost use Rattle.std.specs.Prelude.{ℕ, ◌≡◌};
 ghost use Rattle.engine.specs.Fitting.{IsFittingSide};
 ghost use Rattle.engine.specs.Runs.{IsRefusedAt};
 
-use crate::engine::{Plan, joint_bounds, outline_of};
+use crate::checking::{joint_bounds, outline_of};
+use crate::engine::Plan;
 use geom::{Fault, Part, Source};
 use tiling::{DEFAULT_SIDE, default_side};
 

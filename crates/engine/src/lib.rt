@@ -3,6 +3,7 @@
 
 mod alone;
 mod cells;
+mod checking;
 mod engine;
 mod fitting;
 mod laws;
@@ -13,12 +14,12 @@ mod sink;
 mod text;
 
 pub use alone::{edges_alone, run_alone};
-pub use engine::{Made, Plan, edges};
+pub use engine::{Made, Plan, edges, run};
 pub use fitting::fitting_side;
 pub use laws::{
     counts_are_exact, edges_text_is_one, one_refusal, result_text_is_one, run_reports_as_edges,
     tiles_are_one,
 };
-pub use operation::{result_text, run};
+pub use operation::result_text;
 pub use sink::{MemSink, Sink, SinkFault, write_all};
 pub use text::{Report, line, report_text, status};

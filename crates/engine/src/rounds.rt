@@ -1,17 +1,15 @@
 //! The rounded edges of two layers, over the tiles of a grid and by many workers.
 
-ghost use Rattle.std.specs.Prelude.{◌≡◌, ◌<◌, ◌≤◌, All, IfOk, length, map, sum_by};
-ghost use Rattle.geom.specs.Limit.{AreInLimit};
+ghost use Rattle.std.specs.Prelude.{◌≡◌, ◌<◌, ◌≤◌, IfOk, length, map, sum_by};
 ghost use Rattle.geom.specs.Rounded.{AreRounded};
 ghost use Rattle.tiling.specs.Cells.{LieIn};
 ghost use Rattle.tiling.specs.Tiles.{tile_count};
 ghost use Rattle.chain_gather.specs.Gathered.{AreBinsOf, AreTileNumbers, HaveTiles};
 ghost use Rattle.points_law.specs.Law.{AreLayers};
 ghost use Rattle.engine.specs.Rounds.{AllInLimit, AreRoundedOver, AreSegmentsOf, TellsTiles};
-ghost use Rattle.engine.specs.Runs.{IsChecked};
 
 use crate::cells::{cells_of, tile_numbers};
-use crate::engine::{Inputs, Plan};
+use crate::checking::Checked;
 use crate::segments::{boxes_of, segments_of};
 use crate::text::Report;
 use chain_gather::{TileNumbers, TilePiece, Tiled, gather_made};
@@ -52,43 +50,42 @@ impl<T: Tiled, A: Allocator + Copy> Job<A> for Pieces<'_, T, A> {
     }
 }
 
-/// The rounded edges of two layer texts that were checked, with the numbers of the tiles. The workers call the gate.
-pub fn rounded_layers<A: Allocator + Copy + Send + Sync, G: Gate + Sync, R: Threads + Wait + Sync>(
-    rt: &R,
-    alloc: A,
-    a: &[u8],
-    b: &[u8],
-    plan: Plan,
-    inputs: &Inputs,
-    gate: &G,
-) -> Result<Noded<A>, NoMemory>
-    requires { IsChecked plan a.now b.now inputs.now.segments_a inputs.now.segments_b inputs.now.grid }
-    ensures rounded { IfOk result (λ n. AreRoundedOver a.now b.now inputs.now.grid n.edges.items n.tiles.items) }
+/// The rounded edges of two layers, with the numbers of the tiles. The workers call the gate.
+pub(crate) fn rounded_layers<
+    A: Allocator + Copy + Send + Sync,
+    G: Gate + Sync,
+    R: Threads + Wait + Sync,
+>(rt: &R, alloc: A, checked: &Checked<'_, '_>, gate: &G) -> Result<Noded<A>, NoMemory>
+    ensures rounded { IfOk result (λ n. AreRoundedOver checked.now.a.now checked.now.b.now checked.now.grid n.edges.items n.tiles.items) }
     ensures layers { IfOk result (λ n. ∥ AreLayers n.edges.items ∥₁) }
-    ensures remade { IfOk result (λ n. n.remade ≤ tile_count inputs.now.grid) }
-    ensures in_limit { IfOk result (λ n. All (λ c. AreInLimit c.edge.p c.edge.q) n.edges.items) }
+    ensures remade { IfOk result (λ n. n.remade ≤ tile_count checked.now.grid) }
 {
-    let segments = read_segments(alloc, a, b, inputs)?;
-    gathered(rt, alloc, &inputs.grid, plan.workers, &segments, gate)
+    let segments = read_segments(alloc, checked)?;
+    gathered(
+        rt,
+        alloc,
+        &checked.grid,
+        checked.plan.workers,
+        &segments,
+        gate,
+    )
 }
 
-/// The segments of two layer texts.
+/// The segments of two layers.
 pub(crate) fn read_segments<A: Allocator + Copy>(
     alloc: A,
-    a: &[u8],
-    b: &[u8],
-    inputs: &Inputs,
+    checked: &Checked<'_, '_>,
 ) -> Result<Vec<Seg, A>, NoMemory>
-    ensures segments { IfOk result (λ v. AreSegmentsOf a.now b.now v.items) }
+    ensures segments { IfOk result (λ v. AreSegmentsOf checked.now.a.now checked.now.b.now v.items) }
     ensures in_limit { IfOk result (λ v. AllInLimit v.items) }
 {
-    let Ok(layer_a) = read_layer(alloc, a) else {
+    let Ok(layer_a) = read_layer(alloc, checked.a) else {
         return Err(NoMemory);
     };
-    let Ok(layer_b) = read_layer(alloc, b) else {
+    let Ok(layer_b) = read_layer(alloc, checked.b) else {
         return Err(NoMemory);
     };
-    let count = u64::from(inputs.segments_a) + u64::from(inputs.segments_b);
+    let count = u64::from(checked.segments_a) + u64::from(checked.segments_b);
     segments_of(alloc, &layer_a, &layer_b, count as usize)
 }
 
@@ -168,22 +165,22 @@ fn by_cells<
 }
 
 /// The numbers of a run.
-pub fn report_of<A: Allocator + Copy>(
+pub(crate) fn report_of<A: Allocator + Copy>(
     alloc: A,
-    inputs: &Inputs,
+    checked: &Checked<'_, '_>,
     noded: &Noded<A>,
 ) -> Result<Report<A>, NoMemory>
     requires { length noded.now.tiles.items ≤ 65536 }
-    ensures segments_a { IfOk result (λ r. r.segments_a ≡ inputs.now.segments_a) }
-    ensures segments_b { IfOk result (λ r. r.segments_b ≡ inputs.now.segments_b) }
+    ensures segments_a { IfOk result (λ r. r.segments_a ≡ checked.now.segments_a) }
+    ensures segments_b { IfOk result (λ r. r.segments_b ≡ checked.now.segments_b) }
     ensures edges { IfOk result (λ r. r.edges ≡ length noded.now.edges.items) }
     ensures tiles { IfOk result (λ r. TellsTiles noded.now.tiles.items r.hot r.records r.tiles.items) }
     ensures remade { IfOk result (λ r. r.remade ≡ noded.now.remade) }
 {
     let tiles = told_of(alloc, &noded.tiles)?;
     Ok(Report {
-        segments_a: inputs.segments_a,
-        segments_b: inputs.segments_b,
+        segments_a: checked.segments_a,
+        segments_b: checked.segments_b,
         hot: all_hot(&noded.tiles),
         records: all_records(&noded.tiles),
         edges: u32::try_from(noded.edges.len()).map_err(|_| NoMemory)?,

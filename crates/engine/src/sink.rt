@@ -1,7 +1,7 @@
 //! Where a text is written.
 
-ghost use Rattle.std.specs.Prelude.{◌≡◌, ◌+◌, ◌-◌, ◌<◌, ◌≤◌, ℕ, Bool, true, false, List, [], Option, Some, Ok, length, take, min, OnOk, OnErr, IfOk, option_map, vec_capacity, vec_len};
-ghost use Rattle.engine.specs.Sinks.{mem_failed, mem_settled, mem_taken, Finished, Held, Sent, Told, Wrote};
+ghost use Rattle.std.specs.Prelude.{◌≡◌, ◌+◌, ◌-◌, ◌<◌, ◌≤◌, true, false, [], Ok, length, min, IfOk, vec_capacity, vec_len};
+ghost use Rattle.engine.specs.Sinks.{mem_state, Finished, Held, Sent, SinkState, Wrote};
 
 use geom::NoMemory;
 use std::alloc::Allocator;
@@ -15,35 +15,29 @@ pub struct SinkFault;
 
 /// What takes a text, some bytes at a time.
 pub trait Sink {
-    // how many calls failed
-    ghost failed: { Self → ℕ };
-
-    // a `finish` succeeded, and no `write` came after it
-    ghost settled: { Self → Bool };
-
-    // the bytes taken, where the sink tells them
-    ghost taken: { Self → Option (List ℕ) };
+    // the calls that failed, whether it is settled, and the bytes taken, where it tells them
+    ghost state: { Self → SinkState };
 
     /// Takes the first bytes, one at least, or fails and takes none.
     fn write(&mut self, bytes: &[u8]) -> Result<usize, SinkFault>
         requires some { 0 < length bytes.now }
-        requires countable { failed self.old < u64.MAX }
-        ensures { Wrote failed settled taken self.old self.new bytes.now result };
+        requires countable { (state self.old).failed < u64.MAX }
+        ensures { Wrote (state self.old) (state self.new) bytes.now result };
 
     /// Settles what was taken.
     fn finish(&mut self) -> Result<(), SinkFault>
-        requires { failed self.old < u64.MAX }
-        ensures { Finished failed settled taken self.old self.new result };
+        requires { (state self.old).failed < u64.MAX }
+        ensures { Finished (state self.old) (state self.new) result };
 
     /// How many calls failed.
     fn failures(&self) -> u64
-        ensures { result ≡ failed self.now };
+        ensures { result ≡ (state self.now).failed };
 }
 
 /// Writes the whole text and settles it.
 pub fn write_all<S: Sink>(sink: &mut S, text: &[u8]) -> Result<(), SinkFault>
-    requires { S.failed sink.old < u64.MAX }
-    ensures { Sent S.failed S.settled S.taken sink.old sink.new text.now result }
+    requires { (S.state sink.old).failed < u64.MAX }
+    ensures { Sent (S.state sink.old) (S.state sink.new) text.now result }
 {
     let mut at = 0;
     while at < text.len() {
@@ -98,16 +92,12 @@ impl<A: Allocator> MemSink<A> {
 }
 
 impl<A: Allocator> Sink for MemSink<A> {
-    ghost failed = { mem_failed };
-
-    ghost settled = { mem_settled };
-
-    ghost taken = { mem_taken };
+    ghost state = { mem_state };
 
     fn write(&mut self, bytes: &[u8]) -> Result<usize, SinkFault>
         requires some { 0 < length bytes.now }
         requires countable { self.old.failures < u64.MAX }
-        ensures wrote { Wrote mem_failed mem_settled mem_taken self.old self.new bytes.now result }
+        ensures wrote { Wrote (mem_state self.old) (mem_state self.new) bytes.now result }
         ensures room { self.new.room ≡ self.old.room }
         ensures fits { length self.old.bytes < self.old.room → result ≡ Ok (min (length bytes.now) (self.old.room - length self.old.bytes)) }
     {
@@ -124,7 +114,7 @@ impl<A: Allocator> Sink for MemSink<A> {
 
     fn finish(&mut self) -> Result<(), SinkFault>
         requires { self.old.failures < u64.MAX }
-        ensures finished { Finished mem_failed mem_settled mem_taken self.old self.new result }
+        ensures finished { Finished (mem_state self.old) (mem_state self.new) result }
         ensures succeeds { result ≡ Ok tt }
         ensures room { self.new.room ≡ self.old.room }
     {

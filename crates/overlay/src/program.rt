@@ -38,8 +38,8 @@ pub fn drive<R: Threads + Wait + Sync, S: AsStr, F: Files, O: Sink, E: Sink>(
     out: &mut O,
     err: &mut E,
 ) -> u8
-    requires out { O.failed out.old < u64.MAX }
-    requires err { E.failed err.old < u64.MAX }
+    requires out { (O.state out.old).failed < u64.MAX }
+    requires err { (E.state err.old).failed < u64.MAX }
 {
     match request(alloc, words) {
         Ok(asked) => answer(rt, alloc, &asked, files, out, err),
@@ -54,8 +54,8 @@ pub fn drive_process<R: Env + AllocGlobal + Threads + Wait + Sync, F: Files, O: 
     out: &mut O,
     err: &mut E,
 ) -> u8
-    requires out { O.failed out.old < u64.MAX }
-    requires err { E.failed err.old < u64.MAX }
+    requires out { (O.state out.old).failed < u64.MAX }
+    requires err { (E.state err.old).failed < u64.MAX }
 {
     let words = match env::args(rt) {
         Ok(words) => words.collect::<Vec<String>>(rt.alloc()),
@@ -77,8 +77,8 @@ fn answer<R: Threads + Wait + Sync, F: Files, O: Sink, E: Sink>(
     out: &mut O,
     err: &mut E,
 ) -> u8
-    requires out { O.failed out.old < u64.MAX }
-    requires err { E.failed err.old < u64.MAX }
+    requires out { (O.state out.old).failed < u64.MAX }
+    requires err { (E.state err.old).failed < u64.MAX }
 {
     let a = match files.load(alloc, asked.a) {
         Ok(bytes) => bytes,
@@ -105,7 +105,7 @@ fn perform<R: Threads + Wait + Sync, O: Sink>(
     b: &[u8],
     out: &mut O,
 ) -> Result<Report<Global>, RunFault>
-    requires { O.failed out.old < u64.MAX }
+    requires { (O.state out.old).failed < u64.MAX }
 {
     let side = asked.side.unwrap_or(DEFAULT_SIDE);
     match perform_by(rt, alloc, asked, side, a, b, out) {
@@ -129,7 +129,7 @@ fn perform_by<R: Threads + Wait + Sync, O: Sink>(
     b: &[u8],
     out: &mut O,
 ) -> Result<Report<Global>, RunFault>
-    requires { O.failed out.old < u64.MAX }
+    requires { (O.state out.old).failed < u64.MAX }
     ensures unwritten { IfErr result (λ f. (count : ℕ) → f.fault ≡ Fault.TooManyTiles count → out.new ≡ out.old) }
 {
     let plan = Plan {
@@ -144,8 +144,8 @@ fn perform_by<R: Threads + Wait + Sync, O: Sink>(
 
 /// Writes what is said of a command line, and answers the status.
 fn tell_command_line<O: Sink, E: Sink>(fault: &CliFault, out: &mut O, err: &mut E) -> u8
-    requires out { O.failed out.old < u64.MAX }
-    requires err { E.failed err.old < u64.MAX }
+    requires out { (O.state out.old).failed < u64.MAX }
+    requires err { (E.state err.old).failed < u64.MAX }
 {
     match fault {
         CliFault::Unknown => tell(err, b"overlay: unknown command\n", NOT_ACCEPTED),
@@ -156,7 +156,7 @@ fn tell_command_line<O: Sink, E: Sink>(fault: &CliFault, out: &mut O, err: &mut 
 }
 
 fn tell_file<E: Sink>(fault: LoadFault, text: &[u8], err: &mut E) -> u8
-    requires { E.failed err.old < u64.MAX }
+    requires { (E.state err.old).failed < u64.MAX }
     ensures { result ≡ FAILED }
 {
     match fault {
@@ -167,7 +167,7 @@ fn tell_file<E: Sink>(fault: LoadFault, text: &[u8], err: &mut E) -> u8
 
 /// Writes a fault's line, and answers its status, or that of want of memory where there is none for the line.
 fn tell_fault<E: Sink>(alloc: Global, fault: &RunFault, err: &mut E) -> u8
-    requires { E.failed err.old < u64.MAX }
+    requires { (E.state err.old).failed < u64.MAX }
     ensures { (result ≡ status_of fault.now) ⊎ (result ≡ FAILED) }
 {
     match line(alloc, fault) {
@@ -178,7 +178,7 @@ fn tell_fault<E: Sink>(alloc: Global, fault: &RunFault, err: &mut E) -> u8
 
 /// Writes the report, and answers 0, or 1 where it can't be written.
 fn show_report<E: Sink>(alloc: Global, report: &Report<Global>, err: &mut E) -> u8
-    requires { E.failed err.old < u64.MAX }
+    requires { (E.state err.old).failed < u64.MAX }
 {
     match report_text(alloc, report) {
         Ok(text) => show(err, text.as_slice()),
@@ -187,7 +187,7 @@ fn show_report<E: Sink>(alloc: Global, report: &Report<Global>, err: &mut E) -> 
 }
 
 fn tell_no_memory<E: Sink>(err: &mut E) -> u8
-    requires { E.failed err.old < u64.MAX }
+    requires { (E.state err.old).failed < u64.MAX }
     ensures { result ≡ FAILED }
 {
     tell(err, b"overlay: 10 out of memory\n", FAILED)
@@ -195,7 +195,7 @@ fn tell_no_memory<E: Sink>(err: &mut E) -> u8
 
 /// Writes a line, and answers the status. The status stays where the line can't be written.
 fn tell<E: Sink>(err: &mut E, text: &[u8], answer: u8) -> u8
-    requires { E.failed err.old < u64.MAX }
+    requires { (E.state err.old).failed < u64.MAX }
     ensures { result ≡ answer }
 {
     let _ = write_all(err, text);
@@ -204,7 +204,7 @@ fn tell<E: Sink>(err: &mut E, text: &[u8], answer: u8) -> u8
 
 /// Writes a text, and answers 0, or 1 where it can't be written.
 fn show<S: Sink>(sink: &mut S, text: &[u8]) -> u8
-    requires { S.failed sink.old < u64.MAX }
+    requires { (S.state sink.old).failed < u64.MAX }
 {
     match write_all(sink, text) {
         Ok(()) => ANSWERED,

@@ -112,7 +112,7 @@ fn overlaid<A: Allocator + Copy + Send + Sync, G: Gate + Sync, S: Sink, R: Threa
     gate: &G,
     sink: &mut S,
 ) -> Result<Report<A>, RunFault>
-    requires { S.failed sink.old < u64.MAX }
+    requires { (S.state sink.old).failed < u64.MAX }
 {
     let (a, b) = (layers.0.as_bytes(), layers.1.as_bytes());
     match op {

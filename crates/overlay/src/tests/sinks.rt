@@ -1,6 +1,7 @@
 //! Sinks that fail, at each of their calls.
 
-ghost use Rattle.std.specs.Prelude.{◌≡◌, ◌<◌, Some, Option, List, ℕ};
+ghost use Rattle.std.specs.Prelude.{◌≡◌, ◌<◌, Some};
+ghost use Rattle.engine.specs.Sinks.{SinkState};
 
 use super::{LINE, OTHER, SQUARE, SQUARES, Told, driven, is_outcome, overlaid};
 use engine::{Plan, Sink, SinkFault};
@@ -36,11 +37,7 @@ impl<A: Allocator> OneByOne<A> {
 }
 
 impl<A: Allocator> Sink for OneByOne<A> {
-    ghost failed = { λ s. s.failures };
-
-    ghost settled = { λ s. s.settled };
-
-    ghost taken = { λ s. Some s.taken.items };
+    ghost state = { λ s. record { failed = s.failures; settled = s.settled; taken = Some s.taken.items } };
 
     fn write(&mut self, bytes: &[u8]) -> Result<usize, SinkFault> {
         self.settled = false;

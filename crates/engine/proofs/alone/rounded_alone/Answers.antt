@@ -5,21 +5,27 @@ use Rattle.geom.specs.Rounded.{AreRounded}
 use Rattle.chain_gather.specs.Gathered.{AreTileNumbers, HaveTiles}
 use Rattle.tiling.specs.Tiles.{tile_count}
 use Rattle.engine.specs.Rounds.{AllInLimit}
-use Rattle.engine.proofs.Rounding.{covered, edges_in_limit, if_both, layers_of}
+use Rattle.engine.proofs.Rounding.{covered, if_both, layers_of}
+use Rattle.engine.proofs.Known.{ready_of}
 use Rattle.engine.proofs.alone.rounded_alone.Goals as goal
 
 pub gathered_alone-requires : goal.gathered_alone-requires
-gathered_alone-requires g c = record {
-  few = c.requires.ready.few_tiles;
-  in_limit = subst (λ (ss : List Seg). AllInLimit ss) (sym c.deref.ensures.value) c.in_ok-segments.ensures.in_limit;
-  covered = subst (λ (ss : List Seg). HaveTiles c.args.inputs.now.grid ss) (sym c.deref.ensures.value)
-      (covered c.args.plan c.args.a.now c.args.b.now c.args.inputs.now.segments_a c.args.inputs.now.segments_b c.args.inputs.now.grid c.in_ok-segments.segments.items c.requires c.in_ok-segments.ensures.segments);
-}
+gathered_alone-requires g c =
+    let now = c.args.checked.now in
+    let segments = c.in_ok-segments.segments.items in
+    let s = c.in_ok-segments.ensures.segments in
+    let ready = ready_of now.plan now.a.now now.b.now now.segments_a now.segments_b now.grid now.are_checked segments s in
+    record {
+      few = ready.few_tiles;
+      in_limit = subst (λ (ss : List Seg). AllInLimit ss) (sym c.deref.ensures.value) c.in_ok-segments.ensures.in_limit;
+      covered = subst (λ (ss : List Seg). HaveTiles c.args.checked.now.grid ss) (sym c.deref.ensures.value)
+          (covered now.plan now.a.now now.b.now s.rings_a s.rings_b now.grid segments ready s);
+    }
 
 pub returns-clause-rounded : goal.returns-clause-rounded
 returns-clause-rounded g c =
     let segments = c.in_ok-segments.segments.items in
-    let grid = c.args.inputs.now.grid in
+    let grid = c.args.checked.now.grid in
     if_both c.gathered_alone.result _ _ _
     (λ n r t. record {
       segments = segments;
@@ -33,14 +39,6 @@ pub returns-clause-layers : goal.returns-clause-layers
 returns-clause-layers g c =
     let segments = c.in_ok-segments.segments.items in
     IfOk-weaker c.gathered_alone.result _ _
-    (λ n r. layers_of c.args.a.now c.args.b.now segments n.edges.items c.in_ok-segments.ensures.segments c.in_ok-segments.ensures.in_limit
+    (λ n r. layers_of c.args.checked.now.a.now c.args.checked.now.b.now segments n.edges.items c.in_ok-segments.ensures.segments c.in_ok-segments.ensures.in_limit
     (subst (λ (ss : List Seg). ∥ AreRounded ss n.edges.items ∥₁) c.deref.ensures.value r))
-    c.gathered_alone.ensures.rounded
-
-pub returns-clause-in_limit : goal.returns-clause-in_limit
-returns-clause-in_limit g c =
-    let segments = c.in_ok-segments.segments.items in
-    IfOk-weaker c.gathered_alone.result _ _
-    (λ n r. edges_in_limit n.edges.items (layers_of c.args.a.now c.args.b.now segments n.edges.items c.in_ok-segments.ensures.segments c.in_ok-segments.ensures.in_limit
-    (subst (λ (ss : List Seg). ∥ AreRounded ss n.edges.items ∥₁) c.deref.ensures.value r)))
     c.gathered_alone.ensures.rounded

@@ -1,9 +1,17 @@
+use Rattle.std.proofs.lemmas.Result.{err_from_is_err_and}
 use Rattle.engine.specs.Runs.{AreEdgesWritten}
-use Rattle.engine.proofs.Running.{sent_runs}
+use Rattle.engine.specs.declared.operation.Wanted.TheVariants.{Edges}
+use Rattle.engine.proofs.Running.{may_run, sent_runs, stops}
 use Rattle.engine.proofs.engine.edges.Goals as goal
+
+pub returns-in_err-made : goal.returns-in_err-made
+returns-in_err-made g c =
+    let p = err_from_is_err_and c.from_residual.result c.from_residual.ensures.1 in
+    let f = c.in_err-made.field-0.0 in
+    rw (p.1, p.2) (stops g.S.Sink.state c.args.sink.now c.args.plan c.args.a.now c.args.b.now (AreEdgesWritten c.args.plan c.args.a.now c.args.b.now) f.at f.fault c.in_err-made.ensures)
 
 pub returns : goal.returns
 returns g c =
-    let h = c.in_ok-inputs.ensures in
-    sent_runs g.S.Sink.failed g.S.Sink.settled g.S.Sink.taken c.args.sink.now c.send.new.sink c.args.plan c.args.a.now c.args.b.now (AreEdgesWritten c.args.plan c.args.a.now c.args.b.now) c.in-Ok.made.text.items c.in-Ok.made.report
-    (h.rings_a, h.rings_b, c.in_ok-inputs.inputs.grid, h.ready) c.in-Ok.ensures c.send.result c.send.ensures
+    let made = c.in_ok-made.made in
+    sent_runs g.S.Sink.state c.args.sink.now c.send.new.sink c.args.plan c.args.a.now c.args.b.now (AreEdgesWritten c.args.plan c.args.a.now c.args.b.now) made
+    (may_run Edges c.args.plan c.args.a.now c.args.b.now made.text.items made.report c.in_ok-made.ensures) c.in_ok-made.ensures c.send.result c.send.ensures

@@ -7,6 +7,6 @@ pub loop-at-preserved : goal.loop-at-preserved
 loop-at-preserved g c = let h = c.in_ok-at.ensures in record {
   within = omega (arith, h.within, length-take {A = ℕ}, length-drop {A = ℕ});
   same_count = h.same_count ∙ c.loop-at.invariant.same_count;
-  marked = h.unsettled ∙ sym (marked_more (g.S.Sink.settled c.args.sink.now) (take (c.loop-at.at + c.in_ok-at.field-0) c.args.text.now) (omega (arith, h.some, h.within, length-take {A = ℕ}, length-drop {A = ℕ})));
+  marked = h.unsettled ∙ sym (marked_more (g.S.Sink.state c.args.sink.now).settled (take (c.loop-at.at + c.in_ok-at.field-0) c.args.text.now) (omega (arith, h.some, h.within, length-take {A = ℕ}, length-drop {A = ℕ})));
   beginning_taken = told_more _ _ _ c.args.text.now c.loop-at.at c.in_ok-at.field-0 c.loop-at.invariant.beginning_taken h.bytes_taken;
 }

@@ -5,9 +5,9 @@ use Rattle.engine.proofs.sink.write_all.Given as goal
 abbrev pub invariant-loop-at : goal.invariant-loop-at
 invariant-loop-at g l = record {
   within : l.at ≤ length l.text;
-  same_count : g.S.Sink.failed l.sink ≡ g.S.Sink.failed l.fn.sink;
-  marked : g.S.Sink.settled l.sink ≡ mark_after (g.S.Sink.settled l.fn.sink) (take l.at l.text);
-  beginning_taken : g.S.Sink.taken l.sink ≡ Told (g.S.Sink.taken l.fn.sink) (take l.at l.text);
+  same_count : (g.S.Sink.state l.sink).failed ≡ (g.S.Sink.state l.fn.sink).failed;
+  marked : (g.S.Sink.state l.sink).settled ≡ mark_after (g.S.Sink.state l.fn.sink).settled (take l.at l.text);
+  beginning_taken : (g.S.Sink.state l.sink).taken ≡ Told (g.S.Sink.state l.fn.sink).taken (take l.at l.text);
 }
 
 abbrev pub decreases-loop-at : goal.decreases-loop-at

@@ -1,7 +1,7 @@
 use Rattle.std.proofs.Common.{arith}
 use Rattle.engine.specs.Runs.{bad_tile, bad_workers}
-use Rattle.engine.proofs.engine.check_plan.Goals as goal
-use Rattle.engine.proofs.engine.check_plan.Goals.{then-plan-lt-LEAST_SIDE-via-then-plan-lt-LEAST_SIDE, then-plan-lt-LEAST_SIDE-via-else-plan-lt-LEAST_SIDE+then-plan-gt-GREATEST_SIDE, then-plan-eq0-via-then-plan-eq0, then-plan-eq0-via-else-plan-eq0+then-plan-gt-GREATEST_CREW}
+use Rattle.engine.proofs.checking.check_plan.Goals as goal
+use Rattle.engine.proofs.checking.check_plan.Goals.{then-plan-lt-LEAST_SIDE-via-then-plan-lt-LEAST_SIDE, then-plan-lt-LEAST_SIDE-via-else-plan-lt-LEAST_SIDE+then-plan-gt-GREATEST_SIDE, then-plan-eq0-via-then-plan-eq0, then-plan-eq0-via-else-plan-eq0+then-plan-gt-GREATEST_CREW}
 
 pub returns-then-plan-lt-LEAST_SIDE : goal.returns-then-plan-lt-LEAST_SIDE
 returns-then-plan-lt-LEAST_SIDE c = λ a b. bad_tile (λ h. elim c.then-plan-lt-LEAST_SIDE.branch [

@@ -2,7 +2,7 @@ use Rattle.std.proofs.Common.{ap, ◌∙◌}
 use Rattle.std.proofs.Math.IntN.{ℤ}
 use Rattle.std.specs.Int.{int_max, int_min}
 use Rattle.engine.proofs.JointBounds.{both_bounds, joined_in_limit}
-use Rattle.engine.proofs.engine.joint_bounds.Goals as goal
+use Rattle.engine.proofs.checking.joint_bounds.Goals as goal
 
 pub returns-in-Some-Some-clause-joint : goal.returns-in-Some-Some-clause-joint
 returns-in-Some-Some-clause-joint c =

@@ -1,8 +1,7 @@
-use Rattle.engine.proofs.engine.grid_over.Goals as goal
+use Rattle.engine.proofs.checking.grid_over.Goals as goal
 
 pub returns-in-Ok : goal.returns-in-Ok
 returns-in-Ok c = record {
   over = record { bounds = c.joint_bounds.result; joint = c.joint_bounds.ensures.joint; is_grid = c.in-Ok.ensures.exact.1 };
   few = c.in-Ok.ensures.exact.2;
-  covers = c.in-Ok.ensures.covers;
 }

@@ -1,0 +1,142 @@
+//! What is refused, and what is known where nothing is.
+//!
+//! 1. The plan is in its limits (`check_plan`).
+//! 2. Either text is a layer, of which the segments are counted and boxed (`outline_of`).
+//! 3. Both layers together have few segments (`check_total`).
+//! 4. The grid over both boxes has few tiles (`grid_over`).
+
+ghost use Rattle.std.specs.Prelude.{◌≡◌, ◌+◌, ◌<◌, ◌≤◌, IfOk, IsTrue, MatchResult, nat_lt};
+ghost use Rattle.tiling.specs.Tiles.{AreBounds, IsSide};
+ghost use Rattle.engine.specs.Rounds.{AreJointBounds, IsTooFine, IsUsableGrid};
+ghost use Rattle.geom.specs.Fault.{number_of};
+ghost use Rattle.wkt.specs.Refusals.{IsRefused};
+ghost use Rattle.engine.specs.Runs.{HasOutline, IsChecked, IsPlan, IsRefusedAt, IsRefusedPlan, MayRun, part_of, segment_limit};
+
+use crate::engine::Plan;
+use geom::{Fault, Part, Rect, RunFault, Source};
+use tiling::{GREATEST_SIDE, Grid, LEAST_SIDE};
+use wkt::{Outline, check_layer};
+
+/// The greatest number of workers.
+const GREATEST_CREW: u32 = 64;
+
+/// The greatest number of segments in both layers together.
+const SEGMENT_LIMIT: u64 = 1_048_576;
+
+/// Two layer texts and a plan that are not refused, with the layers' numbers of segments and the grid over them. From here on
+/// only memory and the sink may fail.
+#[derive(Clone, Copy)]
+pub(crate) struct Checked<'a, 'b> {
+    pub a: &'a [u8],
+    pub b: &'b [u8],
+    pub plan: Plan,
+    pub segments_a: u32,
+    pub segments_b: u32,
+    pub grid: Grid,
+    ghost are_checked: { ∥ IsChecked plan a.now b.now segments_a segments_b grid ∥₁ },
+}
+
+/// Two layers and a plan, where nothing is refused.
+pub(crate) fn check<'a, 'b>(
+    a: &'a [u8],
+    b: &'b [u8],
+    plan: Plan,
+) -> Result<Checked<'a, 'b>, RunFault>
+    ensures same { IfOk result (λ c. (c.plan ≡ plan) × (c.a.now ≡ a.now) × (c.b.now ≡ b.now)) }
+    ensures answer { MatchResult result (λ _. MayRun plan a.now b.now) (λ f. IsRefusedAt plan a.now b.now f.at f.fault) }
+{
+    check_plan(plan)?;
+    let outline_a = outline_of(a, Source::A)?;
+    let outline_b = outline_of(b, Source::B)?;
+    check_total(outline_a.segments, outline_b.segments)?;
+    let grid = grid_over(outline_a.bounds, outline_b.bounds, plan.side)?;
+    Ok(Checked {
+        a,
+        b,
+        plan,
+        segments_a: outline_a.segments,
+        segments_b: outline_b.segments,
+        grid,
+    })
+}
+
+fn check_plan(plan: Plan) -> Result<(), RunFault>
+    ensures { MatchResult result (λ _. IsPlan plan) (λ f. IsRefusedPlan plan f.at f.fault) }
+{
+    if plan.side < LEAST_SIDE || plan.side > GREATEST_SIDE {
+        return Err(RunFault {
+            at: Part::Run,
+            fault: Fault::BadTile,
+        });
+    }
+    if plan.workers == 0 || plan.workers > GREATEST_CREW {
+        return Err(RunFault {
+            at: Part::Run,
+            fault: Fault::BadWorkers,
+        });
+    }
+    Ok(())
+}
+
+pub(crate) fn outline_of(text: &[u8], layer: Source) -> Result<Outline, RunFault>
+    ensures answer { MatchResult result (λ o. HasOutline text.now o) (λ f. (f.at ≡ part_of layer) × IsRefused text.now f.fault) }
+    ensures in_limit { IfOk result (λ o. AreBounds o.bounds) }
+{
+    match check_layer(text) {
+        Ok(outline) => Ok(outline),
+        Err(fault) => Err(layer_fault(layer, fault)),
+    }
+}
+
+/// What is wrong with a layer, and with which.
+fn layer_fault(layer: Source, fault: Fault) -> RunFault
+    requires { IsTrue (nat_lt (number_of fault) 5) }
+    ensures at { result.at ≡ part_of layer }
+    ensures fault { result.fault ≡ fault }
+{
+    match layer {
+        Source::A => RunFault { at: Part::A, fault },
+        Source::B => RunFault { at: Part::B, fault },
+    }
+}
+
+fn check_total(a: u32, b: u32) -> Result<(), RunFault>
+    ensures { MatchResult result (λ _. a + b ≤ segment_limit) (λ f. (f.at ≡ Part.Run) × (f.fault ≡ Fault.TooManySegments (a + b)) × (segment_limit < a + b)) }
+{
+    let both = u64::from(a) + u64::from(b);
+    if both > SEGMENT_LIMIT {
+        return Err(RunFault {
+            at: Part::Run,
+            fault: Fault::TooManySegments(both),
+        });
+    }
+    Ok(())
+}
+
+/// The grid over the segments of two layers with these bounds.
+fn grid_over(a: Option<Rect>, b: Option<Rect>, side: u32) -> Result<Grid, RunFault>
+    requires a_in { AreBounds a }
+    requires b_in { AreBounds b }
+    requires side { IsSide side }
+    ensures { MatchResult result (λ g. IsUsableGrid a b side g) (λ f. IsTooFine a b side f.at f.fault) }
+{
+    match Grid::new(joint_bounds(a, b), side) {
+        Ok(grid) => Ok(grid),
+        Err(fault) => Err(RunFault {
+            at: Part::Run,
+            fault,
+        }),
+    }
+}
+
+/// The least box that has both.
+pub(crate) fn joint_bounds(a: Option<Rect>, b: Option<Rect>) -> Option<Rect>
+    ensures joint { AreJointBounds a b result }
+    ensures in_limit { AreBounds a → AreBounds b → AreBounds result }
+{
+    match (a, b) {
+        (Some(r), Some(s)) => Some(r.with(s.lo).with(s.hi)),
+        (Some(r), None) => Some(r),
+        (None, other) => other,
+    }
+}
