@@ -10,7 +10,6 @@ use Rattle.engine.proofs.alone.rounded_alone.Goals as goal
 
 pub gathered_alone-requires : goal.gathered_alone-requires
 gathered_alone-requires g c = record {
-  few = c.requires.ready.few_tiles;
   in_limit = subst (λ (ss : List Seg). AllInLimit ss) (sym c.deref.ensures.value) c.in_ok-segments.ensures.in_limit;
   covered = subst (λ (ss : List Seg). HaveTiles c.args.inputs.now.grid ss) (sym c.deref.ensures.value)
       (covered c.args.plan c.args.a.now c.args.b.now c.args.inputs.now.segments_a c.args.inputs.now.segments_b c.args.inputs.now.grid c.in_ok-segments.segments.items c.requires c.in_ok-segments.ensures.segments);
