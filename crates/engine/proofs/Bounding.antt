@@ -1,6 +1,6 @@
 -- The box of all segments.
-use Rattle.std.proofs.Common.{◌≡◌, inl, inr, ℕ, ℤ, ◌+◌, ◌<◌, List, length, get_or, refl, sym, subst, arith}
-use Rattle.std.specs.Prelude.{◌≤ℤ◌, Contains, Option, Some, slice_get}
+use Rattle.std.proofs.Common.{◌≡◌, inl, inr, ℕ, zero, suc, false, ℤ, ◌+◌, ◌<◌, List, length, get_or, refl, sym, subst, arith}
+use Rattle.std.specs.Prelude.{◌≤ℤ◌, ◌==◌, Contains, Option, Some, slice_get}
 use Rattle.std.specs.Int.{int_max, int_min}
 use Rattle.std.proofs.lemmas.Bool.{cases_lt}
 use Rattle.std.proofs.lemmas.Int.{ints, clamps}
@@ -74,6 +74,10 @@ module _ (r : Rect) (p : Pt) (q : Rect) (w : IsWith r p q) where
 pub record HoldsFirst (segments : List Seg) (count : ℕ) (r : Rect) : Type 0 where
   pub limited : AreInLimit r.lo r.hi
   pub holds : (k : ℕ) (d : Seg) → k < count → IsInBox r.lo r.hi (get_or segments k d).a × IsInBox r.lo r.hi (get_or segments k d).b
+
+pub some_are : (n : ℕ) → false ≡ (n == 0) → 0 < n
+some_are zero e = absurd (cc)
+some_are (suc n) e = omega arith
 
 pub holds_none : (segments : List Seg) (s : Seg) (r : Rect) → s ≡ get_or segments 0 s → 0 < length segments → AllInLimit segments → r.lo ≡ least_corner s.a s.b → r.hi ≡ greatest_corner s.a s.b → HoldsFirst segments 0 r
 holds_none segments s r is l all lo hi = record {

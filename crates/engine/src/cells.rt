@@ -1,8 +1,8 @@
 //! The cells that the workers draw: a grid of its own over the box of all segments, whatever the plan's tiles are.
 //!
 //! 1. The box of all segments (`bounds_of`), and how far they reach (`reach_of`).
-//! 2. From the greatest side on the cells are halved as long as that is worth it: where the workers have too few, or where
-//!    few segments come to lie in several (`side_over`).
+//! 2. From the greatest side on the cells are halved while that is worth it: where the workers have too few, or where few
+//!    segments come to lie in several (`side_over`).
 
 ghost use Rattle.tiling.specs.Tiles.{AreBounds};
 ghost use Rattle.chain_gather.specs.Gathered.{BoundsHold, HaveTiles};
@@ -11,7 +11,7 @@ ghost use Rattle.engine.specs.Rounds.{AllInLimit};
 use geom::{Rect, Seg};
 use tiling::{GREATEST_SIDE, Grid};
 
-/// How many cells a worker has at least, where there are several.
+/// How many cells a worker has at least, where that is cheap.
 const CELLS: u64 = 4;
 
 /// How many segments are worth a cell.
@@ -100,12 +100,16 @@ fn doubles_over(reach: &Reach, side: u32) -> u128 {
     (reach.lengths / side).saturating_add(reach.areas / side / side)
 }
 
-/// Whether cells of half this side are worth it.
+/// Whether cells of half this side are worth it: where there are fewer cells than workers; where these have few, and a segment
+/// lies in four cells on average at most; and where it lies in two at most, and the cells are few for the segments.
 fn is_worth(bounds: &Rect, reach: &Reach, workers: u32, side: u32) -> bool {
-    if workers > 1 && cells_over(bounds, side) < CELLS * u64::from(workers) {
+    let cells = cells_over(bounds, side);
+    if cells < u64::from(workers) {
         return true;
     }
-    let half = side / 2;
-    cells_over(bounds, half) <= reach.count / SEGMENTS
-        && doubles_over(reach, half) <= u128::from(reach.count)
+    let finer = cells_over(bounds, side / 2);
+    let doubles = doubles_over(reach, side / 2);
+    let count = u128::from(reach.count);
+    cells < CELLS * u64::from(workers) && doubles <= 3 * count
+        || finer <= reach.count / SEGMENTS && doubles <= count
 }
