@@ -7,3 +7,6 @@ pub mod Covering
 pub mod Chosen
 pub mod Adding
 pub mod OwnLaws
+pub mod Parts
+pub mod Ordering
+pub mod Counted

@@ -1,8 +1,9 @@
 -- What is gathered from the tiles of a grid (own).
-use Rattle.std.specs.Prelude.{◌≡◌, ◌↔◌, ℕ, ◌<◌, ◌≤◌, ◌==◌, ◌&&◌, Bool, List, AllPairs, Contains, Option, Some, None, length, map, slice_get}
+use Rattle.std.specs.Prelude.{◌≡◌, ◌≢◌, ◌↔◌, ℕ, ◌<◌, ◌≤◌, ◌==◌, ◌&&◌, Bool, List, AllPairs, Contains, Option, Some, None, length, map, slice_get}
 use Rattle.geom.specs.declared.point.Pt.{Pt}
 use Rattle.geom.specs.declared.rect.Rect.{Rect}
 use Rattle.geom.specs.declared.segment.Seg.{Seg}
+use Rattle.geom.specs.Hot.{IsHot}
 use Rattle.geom.specs.Segments.{same_point, same_source}
 use Rattle.geom.specs.Box.{IsInBox, greatest_corner, least_corner}
 use Rattle.tiling.specs.Tiles.{Tiling, Owns, HasTile}
@@ -92,6 +93,12 @@ pub record AreTileNumbers (g : Tiling) (segments : List Seg) (limit : ℕ) (tile
 -- the records of the tiles below k
 pub record HasTilesBelow (g : Tiling) (segments : List Seg) (k : ℕ) (list : List Record) : Type 0 where
   pub same : (r : Record) → Contains list r ↔ (IsRecord segments r × ((j : ℕ) × (j < k) × Owns g j r.pixel))
+
+-- the hot pixels of the tiles below k, each once, and their records
+pub record HasPartsBelow (g : Tiling) (segments : List Seg) (k : ℕ) (pixels : List Pt) (records : List Record) : Type 0 where
+  pub once : AllPairs (λ p q. p ≢ q) pixels
+  pub hot : (p : Pt) → Contains pixels p ↔ (IsHot segments p × ((j : ℕ) × (j < k) × Owns g j p))
+  pub has : HasTilesBelow g segments k records
 
 -- records and numbers of the tiles below k, and how many of them the book had no piece for
 pub record AreGathered {A : Type 0} (g : Tiling) (segments : List Seg) (held : List (Option (Piece A))) (k : ℕ) (records : List Record) (tiles : List TileNumbers) (remade : ℕ) : Type 0 where

@@ -3,6 +3,7 @@
 
 mod edges;
 mod link;
+mod numbers;
 mod own;
 mod rounded;
 mod tile_piece;

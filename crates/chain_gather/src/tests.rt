@@ -11,7 +11,7 @@ use super::*;
 use bumpalo::Bump;
 use geom::{Counted, Edge, NoMemory, Pt, Rect, Seg, Source};
 use lane_tests::Boxes;
-use routing::{Piece, piece};
+use routing::{Piece, part, piece};
 use std::alloc::{Allocator, Global};
 use std::marker::Brand;
 use std::sync::Wait;
@@ -181,28 +181,30 @@ fn pieces_of<T: Tiled, A: Allocator + Copy>(
     let mut numbers = Vec::new(alloc);
     for tile in 0..grid.tiles() {
         bins.bin(tile, &mut numbers)?;
-        let made = piece(alloc, grid, tile, segments, &numbers)?;
-        pieces.push(TilePiece::of_piece(made))?;
+        let found = part(alloc, grid, tile, segments, &numbers)?;
+        pieces.push(TilePiece::of_part(tile, found))?;
     }
     Ok(pieces)
 }
 
-// The rounded edges of segments whose boxes a grid covers, from the pieces of its tiles.
+// The rounded edges of segments whose boxes two grids cover, from the pieces of the cells of one, over the tiles of the other.
 fn gathered_made<T: Tiled>(
     alloc: Global,
+    cells: &Grid,
     grid: &Grid,
     segments: &[Seg],
 ) -> Result<Rounded<Global>, NoMemory>
-    requires tiled { (grid.now ≡ T.grid) × (segments.now ≡ T.segments) }
+    requires tiled { (cells.now ≡ T.grid) × (segments.now ≡ T.segments) }
     requires in_limit { All (λ s. AreInLimit s.a s.b) segments.now }
+    requires covered_by_cells { HaveTiles cells.now segments.now }
     requires covered { HaveTiles grid.now segments.now }
 {
-    let pieces: Vec<TilePiece<T, Global>> = pieces_of(alloc, grid, segments)?;
-    gather_made(alloc, pieces, 0, grid, segments)
+    let pieces: Vec<TilePiece<T, Global>> = pieces_of(alloc, cells, segments)?;
+    gather_made(alloc, pieces, 0, cells, grid, segments)
 }
 
-// The row over tiles of side 16.
-fn row_made(alloc: Global) -> Result<Rounded<Global>, NoMemory> {
+// The row over tiles of side 16, from the pieces of cells of this side.
+fn row_made(alloc: Global, side: u32) -> Result<Rounded<Global>, NoMemory> {
     let bounds = Rect::spanned_by(point((0, 0)), point((16, 16)));
     if !bounds.lo.is_in_limit() || !bounds.hi.is_in_limit() {
         return Err(NoMemory);
@@ -210,14 +212,19 @@ fn row_made(alloc: Global) -> Result<Rounded<Global>, NoMemory> {
     let Ok(grid) = Grid::new(Some(bounds), 16) else {
         return Err(NoMemory);
     };
+    let Ok(cells) = Grid::new(Some(bounds), side) else {
+        return Err(NoMemory);
+    };
     let segments = segments_in(alloc, &bounds, &ROW)?;
-    gathered_made::<Brand>(alloc, &grid, &segments)
+    gathered_made::<Brand>(alloc, &cells, &grid, &segments)
 }
 
 #[test]
 fn gathers_known_pieces(rt: HostRuntime) -> Result<(), Fail> {
-    let rounded = row_made(rt.alloc())?;
-    assert!(rt; is_row(&rounded) && rounded.remade == 0);
+    for side in [16, 17, 1_024] {
+        let rounded = row_made(rt.alloc(), side)?;
+        assert!(rt; is_row(&rounded) && rounded.remade == 0, "{side}");
+    }
     Ok(())
 }
 

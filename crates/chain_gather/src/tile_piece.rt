@@ -1,11 +1,12 @@
-//! Pieces of the tiles of one grid over one list of segments, which their type knows.
+//! Pieces of the cells of one grid over one list of segments, which their type knows.
 
 ghost use Rattle.std.specs.Prelude.{◌≡◌, [], List, pos};
 ghost use Rattle.geom.specs.declared.segment.Seg.{Seg};
 ghost use Rattle.tiling.specs.Tiles.{Owns, Tiling};
-ghost use Rattle.routing.specs.Pieces.{IsPieceOf};
+ghost use Rattle.routing.specs.Pieces.{IsPartOf};
 
-use routing::{Piece, Record};
+use geom::Pt;
+use routing::{Part, Record};
 use std::alloc::Allocator;
 use std::marker::{Brand, PhantomData};
 use tile_book::Numbered;
@@ -23,14 +24,14 @@ impl Tiled for Brand {
     ghost segments = { [] };
 }
 
-/// What the routes of all segments have in one tile: its number, how many of its pixels are hot, and their records.
+/// What the routes of all segments have in one cell: its number, its hot pixels, and the records of those that segments meet.
 #[derive(Drop)]
 pub struct TilePiece<T: Tiled, A: Allocator> {
     pub number: u32,
-    pub hot: u32,
+    pub pixels: Vec<Pt, A>,
     pub records: Vec<Record, A>,
     of: PhantomData<T>,
-    ghost exact: { ∥ IsPieceOf (Owns T.grid number) T.segments hot records.items ∥₁ },
+    ghost exact: { ∥ IsPartOf (Owns T.grid number) T.segments pixels.items records.items ∥₁ },
 }
 
 impl<T: Tiled, A: Allocator> Numbered for TilePiece<T, A> {
@@ -42,20 +43,15 @@ impl<T: Tiled, A: Allocator> Numbered for TilePiece<T, A> {
 }
 
 impl<T: Tiled, A: Allocator> TilePiece<T, A> {
-    /// What a piece has of its tile. Its candidates are let go.
-    pub fn of_piece(piece: Piece<A>) -> TilePiece<T, A>
-        requires { ∥ IsPieceOf (Owns T.grid piece.number) T.segments piece.hot piece.records.items ∥₁ }
-        ensures { result.number ≡ piece.number }
+    /// What was found in the cell of this number.
+    pub fn of_part(number: u32, part: Part<A>) -> TilePiece<T, A>
+        requires { ∥ IsPartOf (Owns T.grid number) T.segments part.pixels.items part.records.items ∥₁ }
+        ensures { result.number ≡ number }
     {
-        let Piece {
-            number,
-            hot,
-            records,
-            ..
-        } = piece;
+        let Part { pixels, records } = part;
         TilePiece {
             number,
-            hot,
+            pixels,
             records,
             of: PhantomData,
         }

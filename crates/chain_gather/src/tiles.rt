@@ -1,24 +1,26 @@
 //! Gathering the pieces of all tiles.
 
-ghost use Rattle.std.specs.Prelude.{◌≡◌, ◌+◌, ◌<◌, ◌≤◌, ◌++◌, ◌∷◌, [], All, IfOk, OnOk, length};
+ghost use Rattle.std.specs.Prelude.{◌≡◌, ◌+◌, ◌<◌, ◌≤◌, ◌++◌, ◌∷◌, [], All, IfOk, List, OnOk, length};
 ghost use Rattle.geom.specs.Limit.{AreInLimit};
 ghost use Rattle.geom.specs.Noded.{IsNoded};
+ghost use Rattle.geom.specs.declared.segment.Seg.{Seg};
 ghost use Rattle.geom.specs.declared.segment.Source.{Source};
 ghost use Rattle.geom.specs.Rounded.{AreRounded, HasEvenDegrees, edges_of, odd_edges};
 ghost use Rattle.geom.specs.Segments.{AreClosed};
 ghost use Rattle.tiling.specs.Tiles.{tile_count, Owns};
 ghost use Rattle.hot_pixel.specs.Candidates.{AreCandidates};
 ghost use Rattle.routing.specs.Pieces.{candidates_of};
-ghost use Rattle.chain_gather.specs.Gathered.{AreBinsOf, AreGathered, AreTileCandidates, AreTileNumbers, HasTilesBelow, HaveTiles, HoldsOwn, IsCountBelow};
-ghost use Rattle.chain_gather.specs.Links.{HasRecords};
+ghost use Rattle.chain_gather.specs.Gathered.{AreBinsOf, AreGathered, AreTileCandidates, AreTileNumbers, HasPartsBelow, HaveTiles, HoldsOwn, IsCountBelow};
+ghost use Rattle.chain_gather.specs.Links.{AreRecords, HasRecords};
 ghost use Rattle.tile_book.specs.Books.{StandInOrder};
 
 use crate::edges::rounded_edges;
+use crate::numbers::tile_numbers;
 use crate::own::own_piece;
 use crate::rounded::{Rounded, TileNumbers};
 use crate::tile_piece::{TilePiece, Tiled};
 use geom::{NoMemory, Seg};
-use routing::{Piece, Record, piece};
+use routing::{Part, Piece, Record, piece};
 use std::alloc::Allocator;
 use tile_book::{Book, Limited};
 use tiling::{Bins, Grid};
@@ -134,24 +136,32 @@ pub fn gather<L: Limited, A: Allocator + Copy>(
     ensures few { IfOk result (λ r. r.remade ≤ tile_count grid.now) }
     ensures remade { IfOk result (λ r. IsCountBelow (tile_count grid.now) (λ k. ¬ (HoldsOwn grid.now segments.now book.held k)) r.remade) }
 {
-    let found = all_tiles(alloc, &book, grid, bins, segments)?;
+    let Found {
+        records,
+        tiles,
+        remade,
+    } = all_tiles(alloc, &book, grid, bins, segments)?;
     drop(book);
-    rounded_of(alloc, segments, found)
+    let records = in_order(records);
+    rounded_of(alloc, segments, &records, tiles, remade)
 }
 
-/// As `gather`, of the pieces of all tiles in their order, which are known to be those of the segments over the grid: nothing
-/// is binned, compared or made anew.
+/// As `gather`, of the pieces of all cells in their order, which are known to be those of the segments over these cells:
+/// nothing is binned, compared or made anew. The cells needn't be the tiles of the grid, whose numbers are counted from what
+/// the pieces have.
 pub fn gather_made<T: Tiled, A: Allocator + Copy>(
     alloc: A,
     pieces: Vec<TilePiece<T, A>, A>,
     remade: u32,
+    cells: &Grid,
     grid: &Grid,
     segments: &[Seg],
 ) -> Result<Rounded<A>, NoMemory>
-    requires grid { grid.now ≡ T.grid }
+    requires cells { cells.now ≡ T.grid }
     requires segments { segments.now ≡ T.segments }
+    requires covered_by_cells { HaveTiles cells.now segments.now }
     requires covered { HaveTiles grid.now segments.now }
-    requires one_each { length pieces.items ≡ tile_count grid.now }
+    requires one_each { length pieces.items ≡ tile_count cells.now }
     requires in_order { StandInOrder (λ p. p.number) pieces.items }
     ensures rounded { IfOk result (λ r. ∥ AreRounded segments.now r.edges.items ∥₁) }
     ensures noded { IfOk result (λ r. IsNoded (edges_of r.edges.items)) }
@@ -159,57 +169,58 @@ pub fn gather_made<T: Tiled, A: Allocator + Copy>(
     ensures tiles { IfOk result (λ r. AreTileNumbers grid.now segments.now (tile_count grid.now) r.tiles.items) }
     ensures remade { IfOk result (λ r. r.remade ≡ remade) }
 {
-    let mut found = all_made(alloc, &pieces)?;
-    found.remade = remade;
+    let Part { pixels, records } = all_made(alloc, &pieces)?;
     drop(pieces);
-    rounded_of(alloc, segments, found)
+    let records = in_order(records);
+    let tiles = tile_numbers(alloc, grid, &pixels, &records)?;
+    rounded_of(alloc, segments, &records, tiles, remade)
 }
 
-/// The records and the numbers of pieces that stand in the order of their tiles.
+/// The hot pixels and the records of pieces that stand in the order of their cells.
 fn all_made<T: Tiled, A: Allocator + Copy>(
     alloc: A,
     pieces: &[TilePiece<T, A>],
-) -> Result<Found<A>, NoMemory>
+) -> Result<Part<A>, NoMemory>
     requires { StandInOrder (λ p. p.number) pieces.now }
-    ensures records { IfOk result (λ f. ∥ HasTilesBelow T.grid T.segments (length pieces.now) f.records.items ∥₁) }
-    ensures tiles { IfOk result (λ f. AreTileNumbers T.grid T.segments (length pieces.now) f.tiles.items) }
-    ensures remade { IfOk result (λ f. f.remade ≡ 0) }
+    ensures { IfOk result (λ f. ∥ HasPartsBelow T.grid T.segments (length pieces.now) f.pixels.items f.records.items ∥₁) }
 {
-    let mut found = Found {
-        records: Vec::new(alloc),
-        tiles: Vec::new(alloc),
-        remade: 0,
-    };
+    let mut pixels = Vec::new(alloc);
+    let mut records = Vec::new(alloc);
     for piece in pieces {
-        found.add(piece.hot, &piece.records)?;
+        pixels.extend_from_slice(&piece.pixels)?;
+        records.extend_from_slice(&piece.records)?;
     }
-    Ok(found)
+    Ok(Part { pixels, records })
 }
 
-/// The rounded edges, where the records of all segments were found.
+/// Records in order, each once.
+fn in_order<A: Allocator>(mut records: Vec<Record, A>) -> Vec<Record, A>
+    ensures { (segments : List Seg) → HasRecords segments records.items → AreRecords segments result.items }
+{
+    records.sort_unstable();
+    records.dedup();
+    records
+}
+
+/// The rounded edges, by the records of all segments.
 fn rounded_of<A: Allocator + Copy>(
     alloc: A,
     segments: &[Seg],
-    found: Found<A>,
+    records: &[Record],
+    tiles: Vec<TileNumbers, A>,
+    remade: u32,
 ) -> Result<Rounded<A>, NoMemory>
-    requires { ∥ HasRecords segments.now found.records.items ∥₁ }
+    requires { ∥ AreRecords segments.now records.now ∥₁ }
     ensures rounded { IfOk result (λ r. ∥ AreRounded segments.now r.edges.items ∥₁) }
     ensures noded { IfOk result (λ r. IsNoded (edges_of r.edges.items)) }
     ensures even { IfOk result (λ r. (layer : Source) → AreClosed layer segments.now → HasEvenDegrees (odd_edges layer r.edges.items)) }
-    ensures tiles { IfOk result (λ r. r.tiles.items ≡ found.tiles.items) }
-    ensures remade { IfOk result (λ r. r.remade ≡ found.remade) }
+    ensures tiles { IfOk result (λ r. r.tiles.items ≡ tiles.items) }
+    ensures remade { IfOk result (λ r. r.remade ≡ remade) }
 {
-    let Found {
-        mut records,
-        tiles,
-        remade,
-    } = found;
-    records.sort_unstable();
-    records.dedup();
     if records.len() > u32::MAX as usize {
         return Err(NoMemory);
     }
-    let edges = rounded_edges(alloc, segments, &records)?;
+    let edges = rounded_edges(alloc, segments, records)?;
     Ok(Rounded {
         edges,
         tiles,

@@ -9,6 +9,7 @@ use Rattle.geom.specs.declared.segment.Seg.{Seg}
 use Rattle.geom.specs.Hot.{IsHot}
 use Rattle.geom.proofs.Lists.{Distinct, In, contains_in, in_contains}
 use Rattle.chain_gather.proofs.Gathering.{AreCovered}
+use Rattle.chain_gather.proofs.Parts.{IsPart}
 use Rattle.hot_pixel.proofs.ListLaws.{in_map, pairs_cons, pairs_map}
 use Rattle.routing.specs.declared.record.Record.{Record}
 use Rattle.routing.specs.Pieces.{IsRecord}
@@ -18,7 +19,7 @@ use Rattle.engine.specs.Runs.{Reports}
 use Rattle.engine.specs.declared.engine.Plan.{Plan}
 use Rattle.engine.specs.declared.text.Report.{Report}
 use Rattle.engine.proofs.Determined.{tiles_cover}
-use Rattle.engine.proofs.SumsOfTiles.{IsPart, all_hot, all_records, hot_owned, record_owned}
+use Rattle.engine.proofs.SumsOfTiles.{all_hot, all_records, hot_owned, record_owned}
 
 apart_pairs : {X : Type 0} (xs : List X) → Distinct xs → AllPairs (λ x y. x ≢ y) xs
 apart_pairs [] d = λ i j x a b. absurd (omega arith)

@@ -8,8 +8,7 @@ pub mod Rounding
 pub mod Running
 pub mod Results
 pub mod SumsOfTiles
-pub mod CellSums
-pub mod Cutting
+pub mod Bounding
 pub mod Determined
 pub mod Counting
 pub mod OneReport

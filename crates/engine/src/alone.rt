@@ -10,6 +10,7 @@ ghost use Rattle.engine.specs.Rounds.{AllInLimit, AreRoundedOver};
 ghost use Rattle.engine.specs.Results.{IsResultWritten, IsWritten};
 ghost use Rattle.engine.specs.Runs.{AreEdgesWritten, Declines, alone};
 
+use crate::cells::cells_of;
 use crate::checking::{Checked, check};
 use crate::engine::{Made, Plan, make, or_fault};
 use crate::operation::Wanted;
@@ -97,41 +98,42 @@ fn gathered_alone<A: Allocator + Copy>(
     grid: &Grid,
     segments: &[Seg],
 ) -> Result<Noded<A>, NoMemory>
-    requires few { tile_count grid.now ≤ 65536 }
     requires in_limit { AllInLimit segments.now }
     requires covered { HaveTiles grid.now segments.now }
     ensures rounded { IfOk result (λ n. ∥ AreRounded segments.now n.edges.items ∥₁) }
     ensures tiles { IfOk result (λ n. AreTileNumbers grid.now segments.now (tile_count grid.now) n.tiles.items) }
     ensures remade { IfOk result (λ n. n.remade ≤ tile_count grid.now) }
 {
-    by_tiles_alone::<Brand, A>(alloc, grid, segments)
+    let cells = cells_of(grid, 1, segments);
+    by_cells_alone::<Brand, A>(alloc, grid, &cells, segments)
 }
 
-/// The same, where the type of the pieces knows the grid and the segments.
-fn by_tiles_alone<T: Tiled, A: Allocator + Copy>(
+/// The same, where the type of the pieces knows the cells and the segments.
+fn by_cells_alone<T: Tiled, A: Allocator + Copy>(
     alloc: A,
     grid: &Grid,
+    cells: &Grid,
     segments: &[Seg],
 ) -> Result<Noded<A>, NoMemory>
-    requires few { tile_count grid.now ≤ 65536 }
-    requires tiled { (grid.now ≡ T.grid) × (segments.now ≡ T.segments) }
+    requires tiled { (cells.now ≡ T.grid) × (segments.now ≡ T.segments) }
     requires in_limit { AllInLimit segments.now }
+    requires covered_by_cells { HaveTiles cells.now segments.now }
     requires covered { HaveTiles grid.now segments.now }
     ensures rounded { IfOk result (λ n. ∥ AreRounded segments.now n.edges.items ∥₁) }
     ensures tiles { IfOk result (λ n. AreTileNumbers grid.now segments.now (tile_count grid.now) n.tiles.items) }
     ensures remade { IfOk result (λ n. n.remade ≤ tile_count grid.now) }
 {
     let boxes = boxes_of(alloc, segments)?;
-    let bins = Bins::build(alloc, grid, &boxes)?;
+    let bins = Bins::build(alloc, cells, &boxes)?;
     drop(boxes);
     let job: Pieces<T, A> = Pieces {
-        grid,
+        grid: cells,
         bins: &bins,
         segments,
         of: PhantomData,
     };
-    let pieces = in_turn(alloc, &job, grid.tiles())?;
-    let rounded = gather_made(alloc, pieces, 0, grid, segments)?;
+    let pieces = in_turn(alloc, &job, cells.tiles())?;
+    let rounded = gather_made(alloc, pieces, 0, cells, grid, segments)?;
     Ok(settled(rounded))
 }
 

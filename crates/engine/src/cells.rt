@@ -1,143 +1,115 @@
-//! The cells that the workers draw: where the plan's tiles are too few for them, these are cut further, evenly.
+//! The cells that the workers draw: a grid of its own over the box of all segments, whatever the plan's tiles are.
 //!
-//! 1. The tiles are halved until there are enough for the workers (`cells_of`). Each cell lies in one tile.
-//! 2. The pieces are made and gathered as those of the cells.
-//! 3. A tile has what its cells have together (`tile_numbers`).
+//! 1. The box of all segments (`bounds_of`), and how far they reach (`reach_of`).
+//! 2. From the greatest side on the cells are halved while that is worth it: where the workers have too few, or where few
+//!    segments come to lie in several (`side_over`).
 
-ghost use Rattle.std.specs.Prelude.{◌≡◌, ◌<◌, ◌≤◌, ◌+◌, IfOk, Some, length, slice_get};
-ghost use Rattle.geom.specs.Limit.{InLimit};
-ghost use Rattle.tiling.specs.Cells.{AreCells, IsUpTo, LieIn};
-ghost use Rattle.tiling.specs.Tiles.{tile_count};
-ghost use Rattle.chain_gather.specs.Gathered.{AreTileNumbers, HaveTiles};
-ghost use Rattle.engine.specs.Cells.{IsPastAll};
+ghost use Rattle.tiling.specs.Tiles.{AreBounds};
+ghost use Rattle.chain_gather.specs.Gathered.{BoundsHold, HaveTiles};
 ghost use Rattle.engine.specs.Rounds.{AllInLimit};
 
-use chain_gather::{TileNumbers, Tiled};
-use geom::{COORDINATE_LIMIT, NoMemory, Pt, Seg};
-use std::alloc::Allocator;
-use tiling::Grid;
+use geom::{Rect, Seg};
+use tiling::{GREATEST_SIDE, Grid};
 
-/// How many cells a worker has at least, where they may be had.
-const CELLS: u32 = 16;
+/// How many cells a worker has at least, where that is cheap.
+const CELLS: u64 = 4;
 
-/// How many segments are worth cells.
-const SEGMENTS: usize = 4096;
+/// How many segments are worth a cell.
+const SEGMENTS: u64 = 64;
 
-/// How often a tile is halved at most.
+/// The powers of two that are a side: 2^25 is the greatest and 2^4 the least.
 const HALVINGS: u32 = 21;
 
-/// The cells for workers over segments: the tiles of a grid, or where these are too few, their halves, and so on.
-#[tactic(auto, using(crate::proofs::Cutting::lie_itself))]
+/// How far segments reach: the widths and heights of their boxes, and the areas of these, added up.
+#[derive(Clone, Copy)]
+struct Reach {
+    count: u64,
+    lengths: u128,
+    areas: u128,
+}
+
+/// The cells for workers over segments that a grid covers.
 pub(crate) fn cells_of(grid: &Grid, workers: u32, segments: &[Seg]) -> Grid
-    requires workers { workers ≤ 64 }
     requires in_limit { AllInLimit segments.now }
     requires covered { HaveTiles grid.now segments.now }
-    ensures lie { LieIn result grid.now }
-    ensures covered { HaveTiles result segments.now }
+    ensures { HaveTiles result segments.now }
 {
-    if workers <= 1 || segments.len() < SEGMENTS {
+    let Some(bounds) = bounds_of(segments) else {
         return *grid;
-    }
-    cut(grid, CELLS * workers, segments)
-}
-
-/// The tiles of a grid, halved until there are so many over segments, or none may be halved.
-fn cut(grid: &Grid, wanted: u32, segments: &[Seg]) -> Grid
-    requires in_limit { AllInLimit segments.now }
-    requires covered { HaveTiles grid.now segments.now }
-    ensures lie { LieIn result grid.now }
-    ensures covered { HaveTiles result segments.now }
-{
-    let corner = corner_of(segments);
-    let mut cells = *grid;
-    for _halving in 0..HALVINGS {
-        cells = finer(&cells, wanted, corner);
-    }
-    cells
-}
-
-/// A grid, or where it has too few tiles and they may be halved, its halves.
-#[tactic(auto, using(crate::proofs::Cutting::cells_itself))]
-fn finer(grid: &Grid, wanted: u32, corner: Pt) -> Grid
-    requires { InLimit corner }
-    ensures { AreCells grid.now corner result }
-{
-    if grid.tiles() >= wanted {
-        return *grid;
-    }
-    match grid.halved(corner) {
-        Some(cells) => cells,
-        None => *grid,
+    };
+    let side = side_over(&bounds, &reach_of(segments), workers);
+    match Grid::new(Some(bounds), side) {
+        Ok(cells) => cells,
+        Err(_) => *grid,
     }
 }
 
-/// The least point that no segment passes, rightward or upward.
-fn corner_of(segments: &[Seg]) -> Pt
+/// The least box of all segments, or none where there are none.
+fn bounds_of(segments: &[Seg]) -> Option<Rect>
     requires { AllInLimit segments.now }
-    ensures in_limit { InLimit result }
-    ensures past { IsPastAll segments.now result }
+    ensures in_limit { AreBounds result }
+    ensures holds { BoundsHold result segments.now }
 {
-    let mut corner = Pt {
-        x: -COORDINATE_LIMIT,
-        y: -COORDINATE_LIMIT,
+    if segments.is_empty() {
+        return None;
+    }
+    let mut bounds = segments[0].bounds();
+    for segment in segments {
+        bounds = bounds.with(segment.a).with(segment.b);
+    }
+    Some(bounds)
+}
+
+/// How far segments reach.
+fn reach_of(segments: &[Seg]) -> Reach {
+    let mut reach = Reach {
+        count: segments.len() as u64,
+        lengths: 0,
+        areas: 0,
     };
     for segment in segments {
-        corner = up_to(up_to(corner, segment.a), segment.b);
+        let width = u128::from(segment.a.x.abs_diff(segment.b.x));
+        let height = u128::from(segment.a.y.abs_diff(segment.b.y));
+        reach.lengths = reach.lengths.saturating_add(width + height);
+        reach.areas = reach.areas.saturating_add(width.saturating_mul(height));
     }
-    corner
+    reach
 }
 
-/// The least point that is past neither of two.
-fn up_to(p: Pt, q: Pt) -> Pt
-    ensures first { IsUpTo result p }
-    ensures second { IsUpTo result q }
-    ensures in_limit { InLimit p → InLimit q → InLimit result }
-{
-    Pt {
-        x: p.x.max(q.x),
-        y: p.y.max(q.y),
+/// The side of the cells over a box, a power of two: as fine as is worth it.
+fn side_over(bounds: &Rect, reach: &Reach, workers: u32) -> u32 {
+    let mut side = GREATEST_SIDE;
+    for _halving in 0..HALVINGS {
+        if is_worth(bounds, reach, workers, side) {
+            side /= 2;
+        }
     }
+    side
 }
 
-/// The numbers of the tiles of a grid: those of the cells in each, added up. More than a `u32` counts are refused as want of
-/// memory.
-pub(crate) fn tile_numbers<T: Tiled, A: Allocator>(
-    alloc: A,
-    grid: &Grid,
-    cells: &Grid,
-    numbers: &[TileNumbers],
-) -> Result<Vec<TileNumbers, A>, NoMemory>
-    requires lie { LieIn cells.now grid.now }
-    requires covered { HaveTiles cells.now T.segments }
-    requires numbers { AreTileNumbers cells.now T.segments (tile_count cells.now) numbers.now }
-    ensures { IfOk result (λ tiles. AreTileNumbers grid.now T.segments (tile_count grid.now) tiles.items) }
-{
-    let none = TileNumbers { hot: 0, records: 0 };
-    let mut tiles = vec![in alloc; none; grid.tiles() as usize]?;
-    for cell in 0..cells.tiles() {
-        let part = numbers_at(numbers, cell as usize);
-        let tile = grid.tile_of(cells.rect(cell).lo) as usize;
-        let old = numbers_at(&tiles, tile);
-        tiles[tile] = sum(old, part)?;
-    }
-    Ok(tiles)
+/// How many cells of this side there are over a box.
+fn cells_over(bounds: &Rect, side: u32) -> u64 {
+    let across = bounds.lo.x.abs_diff(bounds.hi.x) / side.max(1);
+    let up = bounds.lo.y.abs_diff(bounds.hi.y) / side.max(1);
+    (u64::from(across) + 1).saturating_mul(u64::from(up) + 1)
 }
 
-/// The numbers at a place.
-fn numbers_at(list: &[TileNumbers], place: usize) -> TileNumbers
-    requires { place < length list.now }
-    ensures { slice_get list.now place ≡ Some result }
-{
-    list[place]
+/// How many more times than once the segments lie in cells of this side, about.
+fn doubles_over(reach: &Reach, side: u32) -> u128 {
+    let side = u128::from(side.max(1));
+    (reach.lengths / side).saturating_add(reach.areas / side / side)
 }
 
-/// The numbers of two parts together.
-fn sum(a: TileNumbers, b: TileNumbers) -> Result<TileNumbers, NoMemory>
-    ensures hot { IfOk result (λ n. n.hot ≡ a.hot + b.hot) }
-    ensures records { IfOk result (λ n. n.records ≡ a.records + b.records) }
-{
-    match (a.hot.checked_add(b.hot), a.records.checked_add(b.records)) {
-        (Some(hot), Some(records)) => Ok(TileNumbers { hot, records }),
-        _ => Err(NoMemory),
+/// Whether cells of half this side are worth it: where there are fewer cells than workers; where these have few, and a segment
+/// lies in four cells on average at most; and where it lies in two at most, and the cells are few for the segments.
+fn is_worth(bounds: &Rect, reach: &Reach, workers: u32, side: u32) -> bool {
+    let cells = cells_over(bounds, side);
+    if cells < u64::from(workers) {
+        return true;
     }
+    let finer = cells_over(bounds, side / 2);
+    let doubles = doubles_over(reach, side / 2);
+    let count = u128::from(reach.count);
+    cells < CELLS * u64::from(workers) && doubles <= 3 * count
+        || finer <= reach.count / SEGMENTS && doubles <= count
 }

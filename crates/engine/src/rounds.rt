@@ -2,20 +2,19 @@
 
 ghost use Rattle.std.specs.Prelude.{◌≡◌, ◌<◌, ◌≤◌, IfOk, length, map, sum_by};
 ghost use Rattle.geom.specs.Rounded.{AreRounded};
-ghost use Rattle.tiling.specs.Cells.{LieIn};
 ghost use Rattle.tiling.specs.Tiles.{tile_count};
 ghost use Rattle.chain_gather.specs.Gathered.{AreBinsOf, AreTileNumbers, HaveTiles};
 ghost use Rattle.points_law.specs.Law.{AreLayers};
 ghost use Rattle.engine.specs.Rounds.{AllInLimit, AreRoundedOver, AreSegmentsOf, TellsTiles};
 
-use crate::cells::{cells_of, tile_numbers};
+use crate::cells::cells_of;
 use crate::checking::Checked;
 use crate::segments::{boxes_of, segments_of};
 use crate::text::Report;
 use chain_gather::{TileNumbers, TilePiece, Tiled, gather_made};
 use geom::{NoMemory, Seg};
 use noding_test::{Noded, settled};
-use routing::piece;
+use routing::part;
 use std::alloc::Allocator;
 use std::marker::{Brand, PhantomData};
 use std::sync::Wait;
@@ -25,7 +24,7 @@ use tile_book::{AllPieces, Gate, Job, Limited, Phase, make_all};
 use tiling::{Bins, Grid};
 use wkt::read_layer;
 
-/// Makes the piece of each tile from the segments in its bin.
+/// Makes the piece of each cell from the segments in its bin.
 #[derive(Drop)]
 pub(crate) struct Pieces<'a, T: Tiled, A: Allocator> {
     pub grid: &'a Grid,
@@ -45,8 +44,8 @@ impl<T: Tiled, A: Allocator + Copy> Job<A> for Pieces<'_, T, A> {
     fn piece(&self, alloc: A, number: u32) -> Result<TilePiece<T, A>, NoMemory> {
         let mut numbers = Vec::new(alloc);
         self.bins.bin(number, &mut numbers)?;
-        let made = piece(alloc, self.grid, number, self.segments, &numbers)?;
-        Ok(TilePiece::of_piece(made))
+        let found = part(alloc, self.grid, number, self.segments, &numbers)?;
+        Ok(TilePiece::of_part(number, found))
     }
 }
 
@@ -89,7 +88,7 @@ pub(crate) fn read_segments<A: Allocator + Copy>(
     segments_of(alloc, &layer_a, &layer_b, count as usize)
 }
 
-/// The rounded edges of segments: the workers make the pieces of the tiles, which are gathered.
+/// The rounded edges of segments: the workers make the pieces of the cells, which are gathered.
 fn gathered<A: Allocator + Copy + Send + Sync, G: Gate + Sync, R: Threads + Wait + Sync>(
     rt: &R,
     alloc: A,
@@ -133,8 +132,8 @@ fn by_cells<
     requires tiled { (cells.now ≡ T.grid) × (segments.now ≡ T.segments) }
     requires workers { (0 < workers) × (workers ≤ 64) }
     requires in_limit { AllInLimit segments.now }
-    requires lie { LieIn cells.now grid.now }
-    requires covered { HaveTiles cells.now segments.now }
+    requires covered_by_cells { HaveTiles cells.now segments.now }
+    requires covered { HaveTiles grid.now segments.now }
     ensures rounded { IfOk result (λ n. ∥ AreRounded segments.now n.edges.items ∥₁) }
     ensures tiles { IfOk result (λ n. AreTileNumbers grid.now segments.now (tile_count grid.now) n.tiles.items) }
     ensures remade { IfOk result (λ n. n.remade ≤ tile_count grid.now) }
@@ -158,9 +157,8 @@ fn by_cells<
         Phase::Route,
         gate,
     )?;
-    let mut rounded = gather_made(alloc, pieces, remade, cells, segments)?;
-    rounded.tiles = tile_numbers::<T, A>(alloc, grid, cells, &rounded.tiles)?;
-    rounded.remade = rounded.remade.min(grid.tiles());
+    let most = remade.min(grid.tiles());
+    let rounded = gather_made(alloc, pieces, most, cells, grid, segments)?;
     Ok(settled(rounded))
 }
 

@@ -18,7 +18,7 @@ use Rattle.routing.specs.declared.record.Record.{Record}
 use Rattle.routing.specs.declared.record.Candidate.{Candidate}
 use Rattle.routing.specs.Steps.{steps_to}
 use Rattle.routing.specs.Found.{HasRecords}
-use Rattle.routing.specs.Pieces.{candidate_at, candidates_of, segments_of, IsRecord, IsAlong, IsPieceOf, IsRecordIn, IsAlongIn, IsPiece}
+use Rattle.routing.specs.Pieces.{candidate_at, candidates_of, segments_of, IsRecord, IsAlong, IsPartOf, IsPieceOf, IsRecordIn, IsAlongIn, IsPiece}
 use Rattle.routing.proofs.StepLaws.{earlier_from_steps, same_from_steps}
 use Rattle.routing.proofs.RecordOrder.{record_cmp, record_total, record_less}
 
@@ -159,3 +159,27 @@ piece_of_all Owned segments numbers tile candidates hot records same are is h = 
 pub piece_found : (segments : List Seg) (numbers : List ℕ) (tile : Rect) (pixels : List Pt) (candidates : List Candidate) (found records : List Record) (n : ℕ) → AreOwnedHot (IsIn tile) (chosen segments numbers) pixels → candidates ≡ candidates_of segments numbers
     → HasRecords (candidates_of segments numbers) pixels found → IsSortedOnce record_cmp found records → n ≡ length pixels → IsPiece tile candidates n records
 piece_found segments numbers tile pixels candidates found records n hot e all once is = subst (λ (cs : List Candidate). IsPiece tile cs n records) (sym e) (piece_is segments numbers tile pixels found records hot all once n is)
+
+-- ---- what `part` finds
+pub part_found : (Owned : Pt → Type 0) (segments : List Seg) (numbers : List ℕ) (tile : Rect) (pixels : List Pt) (records : List Record) → ((c : Pt) → IsIn tile c ↔ Owned c) → AreCandidates Owned segments numbers
+    → AreOwnedHot (IsIn tile) (chosen segments numbers) pixels → HasRecords (candidates_of segments numbers) pixels records → IsPartOf Owned segments pixels records
+part_found Owned segments numbers tile pixels records same are hot all = record { are_hot = owned; exact = λ r. (to r, from r) }
+  where
+    owned : AreOwnedHot Owned segments pixels
+    owned = owned_of_all Owned segments numbers pixels are (owned_by (IsIn tile) Owned (chosen segments numbers) pixels same hot)
+
+    to : (r : Record) → Contains records r → IsRecord segments r × Owned r.pixel
+    to r k =
+        let ((c, m, of), at) = (all.same r).0 k in
+        let (h, o) = (owned.exact r.pixel).0 at in
+        (record { s = c.segment; is_at = subst (λ (n : ℕ). slice_get segments n ≡ Some c.segment) (sym of.numbered) ((in_candidates segments numbers c).0 m).1; hot = h; met = of.met; steps_are = of.steps_are }, o)
+
+    from : (r : Record) → IsRecord segments r × Owned r.pixel → Contains records r
+    from r (k, own) = (all.same r).1 (
+      (
+        record { number = r.segment; segment = k.s },
+        (in_candidates segments numbers (record { number = r.segment; segment = k.s })).1 (are.complete r.segment k.s r.pixel k.is_at k.met own, k.is_at),
+        record { numbered = refl; met = k.met; steps_are = k.steps_are },
+      ),
+      (owned.exact r.pixel).1 (k.hot, own),
+    )

@@ -35,6 +35,11 @@ pub record IsPieceOf (Owned : Pt → Type 0) (segments : List Seg) (hot : ℕ) (
   pub ordered : AllPairs (IsAlong segments) records
   pub exact : (r : Record) → Contains records r ↔ (IsRecord segments r × Owned r.pixel)
 
+-- the owned hot pixels, and the records of those that segments meet, in any order
+pub record IsPartOf (Owned : Pt → Type 0) (segments : List Seg) (pixels : List Pt) (records : List Record) : Type 0 where
+  pub are_hot : AreOwnedHot Owned segments pixels
+  pub exact : (r : Record) → Contains records r ↔ (IsRecord segments r × Owned r.pixel)
+
 -- ---- of the candidates that a piece carries
 
 -- the segment of this number, with it

@@ -1,4 +1,5 @@
-//! How a piece is made: the records of its tile, in order, with what they were found among.
+//! How a piece is made: the records of its tile, in order, with what they were found among; and a part, without these and in
+//! no order.
 
 ghost use Rattle.std.specs.Prelude.{◌≡◌, ◌↔◌, ◌<◌, All, IfOk, length};
 ghost use Rattle.geom.specs.declared.point.Pt.{Pt};
@@ -6,10 +7,10 @@ ghost use Rattle.geom.specs.Limit.{AreInLimit};
 ghost use Rattle.hot_pixel.specs.Rects.{IsIn};
 ghost use Rattle.tiling.specs.Tiles.{tile_count, Owns};
 ghost use Rattle.hot_pixel.specs.Candidates.{AreCandidates};
-ghost use Rattle.routing.specs.Pieces.{candidates_of, IsPieceOf};
+ghost use Rattle.routing.specs.Pieces.{candidates_of, IsPartOf, IsPieceOf};
 
 use crate::halved::{Found, found_in};
-use crate::pieces::Piece;
+use crate::pieces::{Part, Piece};
 use crate::record::Candidate;
 use geom::{NoMemory, Seg};
 use std::alloc::Allocator;
@@ -68,4 +69,22 @@ pub fn piece<A: Allocator + Copy>(
         hot: pixels.len() as u32,
         records,
     })
+}
+
+/// The hot pixels of a tile and the records there, found among the segments of these numbers.
+pub fn part<A: Allocator + Copy>(
+    alloc: A,
+    grid: &Grid,
+    number: u32,
+    segments: &[Seg],
+    numbers: &[u32],
+) -> Result<Part<A>, NoMemory>
+    requires number { number < tile_count grid.now }
+    requires limits { All (λ s. AreInLimit s.a s.b) segments.now }
+    requires candidates { AreCandidates (Owns grid.now number) segments.now numbers.now }
+    ensures { IfOk result (λ p. IsPartOf (Owns grid.now number) segments.now p.pixels.items p.records.items) }
+{
+    let tile = grid.rect(number);
+    let Found { pixels, records } = found_in(alloc, &tile, segments, numbers)?;
+    Ok(Part { pixels, records })
 }

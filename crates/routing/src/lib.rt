@@ -8,9 +8,9 @@ mod met;
 mod pieces;
 mod record;
 
-pub use finding::piece;
+pub use finding::{part, piece};
 pub use met::meets;
-pub use pieces::Piece;
+pub use pieces::{Part, Piece};
 pub use record::{Candidate, Record};
 
 #[cfg(test)]

@@ -3,7 +3,7 @@
 ghost use Rattle.routing.specs.Pieces.{IsPiece};
 
 use crate::record::{Candidate, Record};
-use geom::Rect;
+use geom::{Pt, Rect};
 use std::alloc::Allocator;
 use tile_book::Numbered;
 
@@ -25,4 +25,12 @@ impl<A: Allocator> Numbered for Piece<A> {
     fn number(&self) -> u32 {
         self.number
     }
+}
+
+/// What the routes have in one tile, as it is found: its hot pixels, ascending and each once, and the records of those that
+/// segments meet, in any order.
+#[derive(Drop)]
+pub struct Part<A: Allocator> {
+    pub pixels: Vec<Pt, A>,
+    pub records: Vec<Record, A>,
 }

@@ -7,6 +7,14 @@ use Rattle.chain_gather.specs.Gathered.{HaveTiles}
 use Rattle.chain_gather.proofs.Covering.{have_tiles}
 use Rattle.chain_gather.proofs.tests.row_made.Goals as goal
 
+pub gathered_made-requires-clause-covered_by_cells : goal.gathered_made-requires-clause-covered_by_cells
+gathered_made-requires-clause-covered_by_cells c =
+    let r = c.spanned_by-bounds.result in
+    let segments = c.in_ok-segments.segments.items in
+    subst (λ (ss : List Seg). HaveTiles c.in-Ok-2.cells ss) (sym c.deref.ensures.value) (have_tiles (Some r) c.in-Ok-2.cells segments c.in-Ok-2.ensures.covers (λ s h.
+    let p = All-contains (λ (t : Seg). AreInLimit t.a t.b × IsInBox r.lo r.hi t.a × IsInBox r.lo r.hi t.b) segments s c.in_ok-segments.ensures h in
+    (p.1, p.2)))
+
 pub gathered_made-requires-clause-covered : goal.gathered_made-requires-clause-covered
 gathered_made-requires-clause-covered c =
     let r = c.spanned_by-bounds.result in

@@ -16,7 +16,6 @@ gathered_alone-requires g c =
     let s = c.in_ok-segments.ensures.segments in
     let ready = ready_of now.plan now.a.now now.b.now now.segments_a now.segments_b now.grid now.are_checked segments s in
     record {
-      few = ready.few_tiles;
       in_limit = subst (λ (ss : List Seg). AllInLimit ss) (sym c.deref.ensures.value) c.in_ok-segments.ensures.in_limit;
       covered = subst (λ (ss : List Seg). HaveTiles c.args.checked.now.grid ss) (sym c.deref.ensures.value)
           (covered now.plan now.a.now now.b.now s.rings_a s.rings_b now.grid segments ready s);

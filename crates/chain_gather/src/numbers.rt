@@ -1,0 +1,98 @@
+//! How many hot pixels and how many records each tile of a grid has, wherever they were found.
+//!
+//! 1. The hot pixels are counted in the tiles that own them (`tile_counts`), and so are the records, by their pixels.
+//! 2. Both counts of a tile are its numbers (`tile_numbers`).
+
+ghost use Rattle.std.specs.Prelude.{◌≡◌, ◌≢◌, All, AllPairs, IfOk, length};
+ghost use Rattle.geom.specs.declared.point.Pt.{Pt};
+ghost use Rattle.tiling.specs.Tiles.{HasTile};
+ghost use Rattle.chain_gather.specs.Numbers.{AreTileCounts, AreNumbersOf, ArePaired};
+
+use crate::rounded::TileNumbers;
+use geom::{NoMemory, Pt};
+use routing::Record;
+use std::alloc::Allocator;
+use tiling::Grid;
+
+/// What has a pixel.
+trait AtPixel {
+    ghost pixel_of: { Self → Pt };
+
+    /// Its pixel.
+    fn pixel(&self) -> Pt
+        ensures { result ≡ pixel_of self.now };
+}
+
+impl AtPixel for Pt {
+    ghost pixel_of = { λ p. p };
+
+    fn pixel(&self) -> Pt {
+        *self
+    }
+}
+
+impl AtPixel for Record {
+    ghost pixel_of = { λ r. r.pixel };
+
+    fn pixel(&self) -> Pt {
+        self.pixel
+    }
+}
+
+/// How many of some items each tile has. More than a `u32` counts are refused as want of memory.
+fn tile_counts<X: AtPixel, A: Allocator>(
+    alloc: A,
+    grid: &Grid,
+    items: &[X],
+) -> Result<Vec<u32, A>, NoMemory>
+    requires tiles { All (λ x. HasTile grid.now (X.pixel_of x)) items.now }
+    requires once { AllPairs (λ x y. x ≢ y) items.now }
+    ensures { IfOk result (λ v. AreTileCounts grid.now X.pixel_of items.now v.items) }
+{
+    let mut counts = vec![in alloc; 0u32; grid.tiles() as usize]?;
+    for item in items {
+        let tile = grid.tile_of(item.pixel()) as usize;
+        let Some(count) = counts[tile].checked_add(1) else {
+            return Err(NoMemory);
+        };
+        counts[tile] = count;
+    }
+    Ok(counts)
+}
+
+/// Two counts of each tile.
+fn paired<A: Allocator>(
+    alloc: A,
+    hot: &[u32],
+    records: &[u32],
+) -> Result<Vec<TileNumbers, A>, NoMemory>
+    requires { length hot.now ≡ length records.now }
+    ensures { IfOk result (λ v. ArePaired hot.now records.now v.items) }
+{
+    let mut tiles = Vec::with_capacity(alloc, hot.len())?;
+    for tile in 0..hot.len() {
+        tiles.push(TileNumbers {
+            hot: hot[tile],
+            records: records[tile],
+        })?;
+    }
+    Ok(tiles)
+}
+
+/// The numbers of the tiles of a grid: how many of the hot pixels and how many of the records each has.
+pub(crate) fn tile_numbers<A: Allocator + Copy>(
+    alloc: A,
+    grid: &Grid,
+    pixels: &[Pt],
+    records: &[Record],
+) -> Result<Vec<TileNumbers, A>, NoMemory>
+    requires pixels_in { All (λ p. HasTile grid.now p) pixels.now }
+    requires pixels_once { AllPairs (λ p q. p ≢ q) pixels.now }
+    requires records_in { All (λ r. HasTile grid.now r.pixel) records.now }
+    requires records_once { AllPairs (λ r q. r ≢ q) records.now }
+    ensures { IfOk result (λ tiles. AreNumbersOf grid.now pixels.now records.now tiles.items) }
+{
+    let hot = tile_counts(alloc, grid, pixels)?;
+    let found = tile_counts(alloc, grid, records)?;
+    paired(alloc, &hot, &found)
+}
