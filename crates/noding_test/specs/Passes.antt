@@ -68,6 +68,10 @@ pub record HoldsOwnVerdict {A : Type 0} (g : Tiling) (k : ℕ) (counted : List C
   pub is_at : slice_get held k ≡ Some (Some verdict)
   pub own : IsOwnVerdict g k counted numbers verdict
 
+-- the verdict that place k holds, where it was made from what tile k has
+abbrev pub IsHeldVerdict : {A : Type 0} → List (Option (Verdict A)) → Tiling → ℕ → List Counted → List ℕ → Verdict A → Type 0
+IsHeldVerdict held g k counted numbers verdict = (slice_get held k ≡ Some (Some verdict)) × IsOwnVerdict g k counted numbers verdict
+
 -- ---- the least of all tiles
 
 -- a bad pair that belongs to one of the tiles below k

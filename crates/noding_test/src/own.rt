@@ -1,9 +1,9 @@
 //! Whether a verdict was made from what its tile has now.
 
-ghost use Rattle.std.specs.Prelude.{◌≡◌, ◌↔◌, ◌<◌, All, IsTrue, MatchBool, MatchOption, Some, length, slice_get};
+ghost use Rattle.std.specs.Prelude.{◌≡◌, ◌↔◌, ◌<◌, All, IsTrue, MatchBool, MatchOption, length};
 ghost use Rattle.tiling.specs.Tiles.{tile_count};
 ghost use Rattle.noding_test.specs.Verdicts.{chosen_edges};
-ghost use Rattle.noding_test.specs.Passes.{HoldsOwnVerdict, IsOwnVerdict};
+ghost use Rattle.noding_test.specs.Passes.{HoldsOwnVerdict, IsHeldVerdict, IsOwnVerdict};
 
 use crate::verdicts::Verdict;
 use geom::{Counted, Edge};
@@ -53,7 +53,7 @@ pub(crate) fn own_verdict<'a, L: Limited, A: Allocator>(
 ) -> Option<&'a Verdict<A>>
     requires tile { tile < tile_count grid.now }
     requires below { All (λ n. n < length counted.now) numbers.now }
-    ensures { MatchOption result (¬ (HoldsOwnVerdict grid.now tile counted.now numbers.now book.now.held)) (λ v. (slice_get book.now.held tile ≡ Some (Some v.now)) × IsOwnVerdict grid.now tile counted.now numbers.now v.now) }
+    ensures { MatchOption result (¬ (HoldsOwnVerdict grid.now tile counted.now numbers.now book.now.held)) (λ v. IsHeldVerdict book.now.held grid.now tile counted.now numbers.now v.now) }
 {
     let Some(Some(verdict)) = book.held().get(tile as usize) else {
         return None;

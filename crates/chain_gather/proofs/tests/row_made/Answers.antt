@@ -11,7 +11,7 @@ pub gathered_made-requires-clause-covered_by_cells : goal.gathered_made-requires
 gathered_made-requires-clause-covered_by_cells c =
     let r = c.spanned_by-bounds.result in
     let segments = c.in_ok-segments.segments.items in
-    subst (λ (ss : List Seg). HaveTiles c.in-Ok-2.cells ss) (sym c.deref.ensures.value) (have_tiles (Some r) c.in-Ok-2.cells segments c.in-Ok-2.ensures.covers (λ s h.
+    subst (λ (ss : List Seg). HaveTiles c.in-Ok-new.cells ss) (sym c.deref.ensures.value) (have_tiles (Some r) c.in-Ok-new.cells segments c.in-Ok-new.ensures.covers (λ s h.
     let p = All-contains (λ (t : Seg). AreInLimit t.a t.b × IsInBox r.lo r.hi t.a × IsInBox r.lo r.hi t.b) segments s c.in_ok-segments.ensures h in
     (p.1, p.2)))
 
