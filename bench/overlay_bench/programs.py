@@ -6,6 +6,7 @@ import shutil
 import signal
 import subprocess
 import sys
+import tempfile
 import threading
 import time
 from dataclasses import dataclass
@@ -91,9 +92,12 @@ def plain():
     if not newer(built, sources):
         if not shutil.which("rustc"):
             sys.exit("rustc was not found: the plain program of bench/plain is compiled by it")
+        # in a folder of its own and then moved, since several runs may begin at once
         os.makedirs(OUT, exist_ok=True)
-        command = ["rustc", "-O", "--edition", "2021", "-C", "target-cpu=x86-64-v2", "-o", built, os.path.join(folder, "main.rs")]
-        subprocess.run(command, check=True)
+        with tempfile.TemporaryDirectory(dir=OUT) as own:
+            made = os.path.join(own, "plain")
+            subprocess.run(["rustc", "-O", "--edition", "2021", "-C", "target-cpu=x86-64-v2", "-o", made, os.path.join(folder, "main.rs")], check=True)
+            os.replace(made, built)
     return built
 
 
