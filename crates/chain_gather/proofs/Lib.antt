@@ -10,3 +10,4 @@ pub mod OwnLaws
 pub mod Parts
 pub mod Ordering
 pub mod Counted
+pub mod WrittenBack

@@ -10,6 +10,7 @@ use Rattle.std.proofs.lemmas.List.Quantifiers.{all_pairs_push}
 use Rattle.std.proofs.lemmas.List.Sums.{sum_by-cons, sum_by_push, count_by-le-length}
 use Rattle.std.proofs.lemmas.List.{length-take}
 use Rattle.std.proofs.lemmas.List.Sorted.{sum_by-IsPermutation, sorted_far, ranks_by}
+use Rattle.std.proofs.lemmas.Cmp.{nat_cmp_total, on_total, then_total}
 use Rattle.geom.specs.declared.segment.Source.{Source}
 use Rattle.geom.specs.declared.segment.Source.TheVariants.{A, B}
 use Rattle.geom.specs.declared.edge.Edge.{Edge}
@@ -18,7 +19,8 @@ use Rattle.geom.specs.Segments.{same_source}
 use Rattle.geom.specs.Rounded.{IsEdgeBefore}
 use Rattle.geom.proofs.Points.{and_both, same_point_refl}
 use Rattle.hot_pixel.proofs.ListLaws.{in_cons, here, none_in, in_push, in_take_more, no_one, no_true}
-use Rattle.hot_pixel.proofs.Orders.{edge_cmp, edge_ranks, edge_before_itself, edge_before_trans, same_edge_true}
+use Rattle.chain_gather.specs.Orders.{layer_number, link_order}
+use Rattle.hot_pixel.proofs.Orders.{edge_cmp, edge_total, edge_ranks, edge_before_itself, edge_before_trans, same_edge_true}
 use Rattle.chain_gather.specs.declared.link.Link.{Link}
 use Rattle.chain_gather.specs.Links.{same_edge, is_of, count_links, AreCounts}
 
@@ -88,6 +90,10 @@ HasBegun links i current = ((i ≡ 0) × ((l : Link) → IsAt links 0 l → curr
 
 abbrev pub AreAscending : List Link → Type 0
 AreAscending links = (i j : ℕ) (l m : Link) → i ≤ j → IsAt links i l → IsAt links j m → IsUpTo l.edge m.edge
+
+-- the order of links is total
+pub link_total : IsTotalOrder link_order
+link_total = then_total (on_total (λ (l : Link). l.edge) edge_total) (on_total (λ (l : Link). layer_number l.layer) nat_cmp_total)
 
 pub ascending_from : (R : Link → Link → Ordering) (total : IsTotalOrder R) → ((l m : Link) → (o : Ordering) × (R l m ≡ ordering_then (edge_cmp l.edge m.edge) o)) → (links : List Link) → IsSorted R links → AreAscending links
 ascending_from R total by links up i j l m h at at' =

@@ -1,3 +1,4 @@
 pub mod Links
 pub mod Gathered
 pub mod Numbers
+pub mod Orders

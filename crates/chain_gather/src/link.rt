@@ -6,13 +6,14 @@ ghost use Rattle.geom.specs.declared.segment.Source.{Source};
 ghost use Rattle.geom.specs.Segments.{same_source};
 ghost use Rattle.chain_gather.specs.Links.{AreCounts, AreApart, count_links, layer_at, makes, record_pairs};
 
+use crate::sorter::Sorter;
 use geom::{Counted, Edge, NoMemory, Pt, Seg, Source};
 use routing::Record;
 use std::alloc::Allocator;
 
 /// Two neighbours in a route of a layer's segment.
 #[derive(Clone, Copy, Debug, PartialEq, Eq, PartialOrd, Ord)]
-pub(crate) struct Link {
+pub struct Link {
     pub edge: Edge,
     pub layer: Source,
 }
@@ -98,14 +99,16 @@ fn add_counted<A: Allocator>(list: &mut Vec<Counted, A>, counted: Counted) -> Re
 }
 
 /// Each edge among the links, ascending, with its counts.
-pub(crate) fn counts<A: Allocator + Copy>(
+pub(crate) fn counts<S: Sorter, A: Allocator + Copy>(
     alloc: A,
+    sorter: &S,
     mut links: Vec<Link, A>,
 ) -> Result<Vec<Counted, A>, NoMemory>
-    requires { length links.items < 2 ^ 32 }
+    requires ready { S.ready sorter.now }
+    requires short { length links.items < 2 ^ 32 }
     ensures { IfOk result (λ v. AreCounts links.items v.items) }
 {
-    links.sort_unstable();
+    sorter.sort_links(links.as_mut_slice());
     let mut list = Vec::new(alloc);
     let Some(first) = links.first() else {
         return Ok(list);

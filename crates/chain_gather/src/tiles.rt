@@ -18,6 +18,7 @@ use crate::edges::rounded_edges;
 use crate::numbers::tile_numbers;
 use crate::own::own_piece;
 use crate::rounded::{Rounded, TileNumbers};
+use crate::sorter::{OneThread, Sorter};
 use crate::tile_piece::{TilePiece, Tiled};
 use geom::{NoMemory, Seg};
 use routing::{Part, Piece, Record, piece};
@@ -142,21 +143,23 @@ pub fn gather<L: Limited, A: Allocator + Copy>(
         remade,
     } = all_tiles(alloc, &book, grid, bins, segments)?;
     drop(book);
-    let records = in_order(records);
-    rounded_of(alloc, segments, &records, tiles, remade)
+    let records = in_order(&OneThread, records);
+    rounded_of(alloc, &OneThread, segments, &records, tiles, remade)
 }
 
 /// As `gather`, of the pieces of all cells in their order, which are known to be those of the segments over these cells:
 /// nothing is binned, compared or made anew. The cells needn't be the tiles of the grid, whose numbers are counted from what
 /// the pieces have.
-pub fn gather_made<T: Tiled, A: Allocator + Copy>(
+pub fn gather_made<T: Tiled, S: Sorter, A: Allocator + Copy>(
     alloc: A,
+    sorter: &S,
     pieces: Vec<TilePiece<T, A>, A>,
     remade: u32,
     cells: &Grid,
     grid: &Grid,
     segments: &[Seg],
 ) -> Result<Rounded<A>, NoMemory>
+    requires ready { S.ready sorter.now }
     requires cells { cells.now ≡ T.grid }
     requires segments { segments.now ≡ T.segments }
     requires covered_by_cells { HaveTiles cells.now segments.now }
@@ -171,9 +174,9 @@ pub fn gather_made<T: Tiled, A: Allocator + Copy>(
 {
     let Part { pixels, records } = all_made(alloc, &pieces)?;
     drop(pieces);
-    let records = in_order(records);
+    let records = in_order(sorter, records);
     let tiles = tile_numbers(alloc, grid, &pixels, &records)?;
-    rounded_of(alloc, segments, &records, tiles, remade)
+    rounded_of(alloc, sorter, segments, &records, tiles, remade)
 }
 
 /// The hot pixels and the records of pieces that stand in the order of their cells.
@@ -194,23 +197,26 @@ fn all_made<T: Tiled, A: Allocator + Copy>(
 }
 
 /// Records in order, each once.
-fn in_order<A: Allocator>(mut records: Vec<Record, A>) -> Vec<Record, A>
+fn in_order<S: Sorter, A: Allocator>(sorter: &S, mut records: Vec<Record, A>) -> Vec<Record, A>
+    requires { S.ready sorter.now }
     ensures { (segments : List Seg) → HasRecords segments records.items → AreRecords segments result.items }
 {
-    records.sort_unstable();
+    sorter.sort_records(records.as_mut_slice());
     records.dedup();
     records
 }
 
 /// The rounded edges, by the records of all segments.
-fn rounded_of<A: Allocator + Copy>(
+fn rounded_of<S: Sorter, A: Allocator + Copy>(
     alloc: A,
+    sorter: &S,
     segments: &[Seg],
     records: &[Record],
     tiles: Vec<TileNumbers, A>,
     remade: u32,
 ) -> Result<Rounded<A>, NoMemory>
-    requires { ∥ AreRecords segments.now records.now ∥₁ }
+    requires ready { S.ready sorter.now }
+    requires records { ∥ AreRecords segments.now records.now ∥₁ }
     ensures rounded { IfOk result (λ r. ∥ AreRounded segments.now r.edges.items ∥₁) }
     ensures noded { IfOk result (λ r. IsNoded (edges_of r.edges.items)) }
     ensures even { IfOk result (λ r. (layer : Source) → AreClosed layer segments.now → HasEvenDegrees (odd_edges layer r.edges.items)) }
@@ -220,7 +226,7 @@ fn rounded_of<A: Allocator + Copy>(
     if records.len() > u32::MAX as usize {
         return Err(NoMemory);
     }
-    let edges = rounded_edges(alloc, segments, records)?;
+    let edges = rounded_edges(alloc, sorter, segments, records)?;
     Ok(Rounded {
         edges,
         tiles,

@@ -1,5 +1,5 @@
 -- What a run of the engine is refused for, and what it does to the sink (own).
-use Rattle.std.specs.Prelude.{◌≡◌, ◌≤◌, ◌<◌, ◌+◌, ℕ, List, Result, length, MatchResult}
+use Rattle.std.specs.Prelude.{◌≡◌, ◌≤◌, ◌<◌, ◌+◌, ℕ, IfSome, List, Result, length, MatchResult}
 use Rattle.geom.specs.declared.edge.Counted.{Counted}
 use Rattle.geom.specs.declared.fault.Fault.{Fault}
 use Rattle.geom.specs.declared.fault.Fault.TheVariants.{TooManySegments, BadTile, BadWorkers, TooManyTiles, Memory, Write}
@@ -9,16 +9,17 @@ use Rattle.geom.specs.declared.fault.RunFault.{RunFault}
 use Rattle.geom.specs.Segments.{layer_steps}
 use Rattle.geom.specs.declared.segment.Source.{Source}
 use Rattle.geom.specs.declared.segment.Source.TheVariants.{A as FromA, B as FromB}
-use Rattle.tiling.specs.Tiles.{IsSide, Tiling, most_tiles, tile_count}
+use Rattle.tiling.specs.Tiles.{AreBounds, IsSide, Tiling, most_tiles, tile_count}
 use Rattle.wkt.specs.LayerText.{Ring}
 use Rattle.wkt.specs.Outlines.{IsOutline}
 use Rattle.wkt.specs.declared.outline.Outline.{Outline}
-use Rattle.wkt.specs.Refusals.{IsAccepted, IsRefused, plain}
+use Rattle.wkt.specs.Refusals.{IsAccepted, IsRefused, StandsFor, plain}
+use Rattle.wkt.specs.declared.read.OutlinedLayer.{OutlinedLayer}
 use Rattle.engine.specs.declared.text.Report.{Report}
 use Rattle.engine.specs.Sinks.{SentAll, SentPart, SinkState}
 use Rattle.engine.specs.Texts.{edges_text_of}
 use Rattle.chain_gather.specs.declared.rounded.TileNumbers.{TileNumbers}
-use Rattle.engine.specs.Rounds.{AreRoundedOver, IsGridOver, TellsTiles}
+use Rattle.engine.specs.Rounds.{AreRingsInLimit, AreRoundedOver, IsGridOver, TellsTiles}
 use Rattle.engine.specs.declared.checking.TheConstants.{GREATEST_CREW, SEGMENT_LIMIT}
 use Rattle.engine.specs.declared.engine.Made.{Made}
 use Rattle.engine.specs.declared.engine.Plan.{Plan}
@@ -71,6 +72,12 @@ part_of FromB = B
 -- the text of a layer is accepted, and has this outline
 abbrev pub HasOutline : List ℕ → Outline → Type 0
 HasOutline text outline = (rings : List Ring) × IsAccepted text rings × IsOutline (plain rings) outline
+
+-- what was read of a layer text: its outline, with its rings where they were kept, or why it is refused
+abbrev pub IsReading : {M : Type 0} → List ℕ → Result (OutlinedLayer M) Fault → Type 0
+IsReading text reading = MatchResult reading
+    (λ read. HasOutline text read.outline × AreBounds read.outline.bounds × IfSome read.layer (λ layer. StandsFor text layer.rings.items × AreRingsInLimit layer.rings.items))
+    (λ fault. IsRefused text fault)
 
 -- the plan, the layers and this grid over them are within their limits; the layers have these numbers of segments
 pub record IsChecked (plan : Plan) (a b : List ℕ) (segments_a segments_b : ℕ) (grid : Tiling) : Type 0 where

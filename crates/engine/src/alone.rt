@@ -8,15 +8,16 @@ ghost use Rattle.chain_gather.specs.Gathered.{AreTileNumbers, HaveTiles};
 ghost use Rattle.points_law.specs.Law.{AreLayers};
 ghost use Rattle.engine.specs.Rounds.{AllInLimit, AreRoundedOver};
 ghost use Rattle.engine.specs.Results.{IsResultWritten, IsWritten};
-ghost use Rattle.engine.specs.Runs.{AreEdgesWritten, Declines, alone};
+ghost use Rattle.engine.specs.Runs.{AreEdgesWritten, Declines, IsReading, alone};
 
 use crate::cells::cells_of;
-use crate::checking::{Checked, check};
+use crate::checking::{Checked, Reading, check, check_plan};
 use crate::engine::{Made, Plan, make, or_fault};
 use crate::operation::Wanted;
-use crate::rounds::{Pieces, read_segments};
+use crate::reading::{read_segments, reading};
+use crate::rounds::Pieces;
 use crate::segments::boxes_of;
-use chain_gather::{Tiled, gather_made};
+use chain_gather::{OneThread, Tiled, gather_made};
 use geom::{NoMemory, Op, RunFault, Seg};
 use noding_test::{Noded, settled};
 use std::alloc::Allocator;
@@ -61,8 +62,12 @@ fn made_alone<A: Allocator + Copy>(
 ) -> Result<Made<A>, RunFault>
     ensures { MatchResult result (λ m. IsWritten wanted (alone side) a.now b.now m.text.items m.report) (λ f. Declines (alone side) a.now b.now f.at f.fault) }
 {
-    match check(a, b, Plan { side, workers: 1 }) {
-        Ok(checked) => or_fault(by_one(alloc, wanted, &checked)),
+    let plan = Plan { side, workers: 1 };
+    check_plan(plan)?;
+    let read_a = reading(alloc, a);
+    let read_b = reading(alloc, b);
+    match check(a, b, plan, &read_a, &read_b) {
+        Ok(checked) => or_fault(by_one(alloc, wanted, &checked, read_a, read_b)),
         Err(fault) => Err(fault),
     }
 }
@@ -72,10 +77,14 @@ fn by_one<A: Allocator + Copy>(
     alloc: A,
     wanted: Wanted,
     checked: &Checked<'_, '_>,
+    read_a: Reading<A>,
+    read_b: Reading<A>,
 ) -> Result<Made<A>, NoMemory>
+    requires read_a { IsReading checked.now.a.now read_a }
+    requires read_b { IsReading checked.now.b.now read_b }
     ensures { IfOk result (λ m. IsWritten wanted checked.now.plan checked.now.a.now checked.now.b.now m.text.items m.report) }
 {
-    let noded = rounded_alone(alloc, checked)?;
+    let noded = rounded_alone(alloc, checked, read_a, read_b)?;
     make(alloc, wanted, checked, &noded)
 }
 
@@ -83,12 +92,16 @@ fn by_one<A: Allocator + Copy>(
 fn rounded_alone<A: Allocator + Copy>(
     alloc: A,
     checked: &Checked<'_, '_>,
+    read_a: Reading<A>,
+    read_b: Reading<A>,
 ) -> Result<Noded<A>, NoMemory>
+    requires read_a { IsReading checked.now.a.now read_a }
+    requires read_b { IsReading checked.now.b.now read_b }
     ensures rounded { IfOk result (λ n. AreRoundedOver checked.now.a.now checked.now.b.now checked.now.grid n.edges.items n.tiles.items) }
     ensures layers { IfOk result (λ n. ∥ AreLayers n.edges.items ∥₁) }
     ensures remade { IfOk result (λ n. n.remade ≤ tile_count checked.now.grid) }
 {
-    let segments = read_segments(alloc, checked)?;
+    let segments = read_segments(alloc, checked, read_a, read_b)?;
     gathered_alone(alloc, &checked.grid, &segments)
 }
 
@@ -133,7 +146,7 @@ fn by_cells_alone<T: Tiled, A: Allocator + Copy>(
         of: PhantomData,
     };
     let pieces = in_turn(alloc, &job, cells.tiles())?;
-    let rounded = gather_made(alloc, pieces, 0, cells, grid, segments)?;
+    let rounded = gather_made(alloc, &OneThread, pieces, 0, cells, grid, segments)?;
     Ok(settled(rounded))
 }
 

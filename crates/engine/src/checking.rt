@@ -1,7 +1,7 @@
 //! What is refused, and what is known where nothing is.
 //!
 //! 1. The plan is in its limits (`check_plan`).
-//! 2. Either text is a layer, of which the segments are counted and boxed (`outline_of`).
+//! 2. Either text was read as a layer, of which the segments are counted and boxed (`outline_of`).
 //! 3. Both layers together have few segments (`check_total`).
 //! 4. The grid over both boxes has few tiles (`grid_over`).
 
@@ -10,18 +10,22 @@ ghost use Rattle.tiling.specs.Tiles.{AreBounds, IsSide};
 ghost use Rattle.engine.specs.Rounds.{AreJointBounds, IsTooFine, IsUsableGrid};
 ghost use Rattle.geom.specs.Fault.{number_of};
 ghost use Rattle.wkt.specs.Refusals.{IsRefused};
-ghost use Rattle.engine.specs.Runs.{HasOutline, IsChecked, IsPlan, IsRefusedAt, IsRefusedPlan, MayRun, part_of, segment_limit};
+ghost use Rattle.engine.specs.Runs.{HasOutline, IsChecked, IsPlan, IsReading, IsRefusedAt, IsRefusedPlan, MayRun, part_of, segment_limit};
 
 use crate::engine::Plan;
 use geom::{Fault, Part, Rect, RunFault, Source};
+use std::alloc::Allocator;
 use tiling::{GREATEST_SIDE, Grid, LEAST_SIDE};
-use wkt::{Outline, check_layer};
+use wkt::{Outline, OutlinedLayer};
 
 /// The greatest number of workers.
 const GREATEST_CREW: u32 = 64;
 
 /// The greatest number of segments in both layers together.
 const SEGMENT_LIMIT: u64 = 1_048_576;
+
+/// What was read of a layer text: its outline, with its rings where there was room for them, or why it is refused.
+pub(crate) type Reading<A> = Result<OutlinedLayer<A>, Fault>;
 
 /// Two layer texts and a plan that are not refused, with the layers' numbers of segments and the grid over them. From here on
 /// only memory and the sink may fail.
@@ -36,18 +40,22 @@ pub(crate) struct Checked<'a, 'b> {
     ghost are_checked: { ∥ IsChecked plan a.now b.now segments_a segments_b grid ∥₁ },
 }
 
-/// Two layers and a plan, where nothing is refused.
-pub(crate) fn check<'a, 'b>(
+/// Two layers and a plan, where nothing is refused, by what was read of the layers.
+pub(crate) fn check<'a, 'b, A: Allocator>(
     a: &'a [u8],
     b: &'b [u8],
     plan: Plan,
+    read_a: &Reading<A>,
+    read_b: &Reading<A>,
 ) -> Result<Checked<'a, 'b>, RunFault>
+    requires read_a { IsReading a.now read_a.now }
+    requires read_b { IsReading b.now read_b.now }
     ensures same { IfOk result (λ c. (c.plan ≡ plan) × (c.a.now ≡ a.now) × (c.b.now ≡ b.now)) }
     ensures answer { MatchResult result (λ _. MayRun plan a.now b.now) (λ f. IsRefusedAt plan a.now b.now f.at f.fault) }
 {
     check_plan(plan)?;
-    let outline_a = outline_of(a, Source::A)?;
-    let outline_b = outline_of(b, Source::B)?;
+    let outline_a = outline_of(a, read_a, Source::A)?;
+    let outline_b = outline_of(b, read_b, Source::B)?;
     check_total(outline_a.segments, outline_b.segments)?;
     let grid = grid_over(outline_a.bounds, outline_b.bounds, plan.side)?;
     Ok(Checked {
@@ -60,7 +68,7 @@ pub(crate) fn check<'a, 'b>(
     })
 }
 
-fn check_plan(plan: Plan) -> Result<(), RunFault>
+pub(crate) fn check_plan(plan: Plan) -> Result<(), RunFault>
     ensures { MatchResult result (λ _. IsPlan plan) (λ f. IsRefusedPlan plan f.at f.fault) }
 {
     if plan.side < LEAST_SIDE || plan.side > GREATEST_SIDE {
@@ -78,13 +86,19 @@ fn check_plan(plan: Plan) -> Result<(), RunFault>
     Ok(())
 }
 
-pub(crate) fn outline_of(text: &[u8], layer: Source) -> Result<Outline, RunFault>
+/// The outline of a layer text, by what was read of it.
+fn outline_of<A: Allocator>(
+    text: &[u8],
+    reading: &Reading<A>,
+    layer: Source,
+) -> Result<Outline, RunFault>
+    requires { IsReading text.now reading.now }
     ensures answer { MatchResult result (λ o. HasOutline text.now o) (λ f. (f.at ≡ part_of layer) × IsRefused text.now f.fault) }
     ensures in_limit { IfOk result (λ o. AreBounds o.bounds) }
 {
-    match check_layer(text) {
-        Ok(outline) => Ok(outline),
-        Err(fault) => Err(layer_fault(layer, fault)),
+    match reading {
+        Ok(read) => Ok(read.outline),
+        Err(fault) => Err(layer_fault(layer, *fault)),
     }
 }
 

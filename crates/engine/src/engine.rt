@@ -1,6 +1,7 @@
 //! The engine's calls: two layer texts in, a text to a sink.
 //!
-//! 1. The plan and the layers are checked (`check`): only here is an input refused.
+//! 1. The plan is checked and the layers are read (`read_both`), and what was read is checked (`check`): only here is an input
+//!    refused.
 //! 2. Workers round the layers (`rounded_layers`).
 //! 3. The rounded edges give the text that is wanted, and the report (`make`).
 //! 4. Only now is the sink called: it is sent the text whole (`send`).
@@ -10,10 +11,11 @@ ghost use Rattle.points_law.specs.Law.{AreLayers};
 ghost use Rattle.tiling.specs.Tiles.{tile_count};
 ghost use Rattle.engine.specs.Results.{IsResultWritten, IsWritten};
 ghost use Rattle.engine.specs.Rounds.{AreRoundedOver};
-ghost use Rattle.engine.specs.Runs.{AreEdgesWritten, Declines, Delivers, Runs};
+ghost use Rattle.engine.specs.Runs.{AreEdgesWritten, Declines, Delivers, IsReading, Runs};
 
-use crate::checking::{Checked, check};
+use crate::checking::{Checked, Reading, check, check_plan};
 use crate::operation::{Wanted, text_of};
+use crate::reading::read_both;
 use crate::rounds::{report_of, rounded_layers};
 use crate::sink::{Sink, write_all};
 use crate::text::Report;
@@ -91,8 +93,10 @@ fn made_by_workers<A: Allocator + Copy + Send + Sync, G: Gate + Sync, R: Threads
 ) -> Result<Made<A>, RunFault>
     ensures { MatchResult result (λ m. IsWritten wanted plan a.now b.now m.text.items m.report) (λ f. Declines plan a.now b.now f.at f.fault) }
 {
-    match check(a, b, plan) {
-        Ok(checked) => or_fault(by_workers(rt, alloc, wanted, &checked, gate)),
+    check_plan(plan)?;
+    let (read_a, read_b) = read_both(rt, alloc, plan.workers, a, b);
+    match check(a, b, plan, &read_a, &read_b) {
+        Ok(checked) => or_fault(by_workers(rt, alloc, wanted, &checked, read_a, read_b, gate)),
         Err(fault) => Err(fault),
     }
 }
@@ -103,11 +107,15 @@ fn by_workers<A: Allocator + Copy + Send + Sync, G: Gate + Sync, R: Threads + Wa
     alloc: A,
     wanted: Wanted,
     checked: &Checked<'_, '_>,
+    read_a: Reading<A>,
+    read_b: Reading<A>,
     gate: &G,
 ) -> Result<Made<A>, NoMemory>
+    requires read_a { IsReading checked.now.a.now read_a }
+    requires read_b { IsReading checked.now.b.now read_b }
     ensures { IfOk result (λ m. IsWritten wanted checked.now.plan checked.now.a.now checked.now.b.now m.text.items m.report) }
 {
-    let noded = rounded_layers(rt, alloc, checked, gate)?;
+    let noded = rounded_layers(rt, alloc, checked, read_a, read_b, gate)?;
     make(alloc, wanted, checked, &noded)
 }
 

@@ -1,13 +1,16 @@
 //! The side of a tile where none is given.
 
-ghost use Rattle.std.specs.Prelude.{ℕ, ◌≡◌};
+ghost use Rattle.std.specs.Prelude.{ℕ, ◌≡◌, IfOk, MatchResult};
+ghost use Rattle.tiling.specs.Tiles.{AreBounds};
+ghost use Rattle.wkt.specs.Refusals.{IsRefused};
 ghost use Rattle.engine.specs.Fitting.{IsFittingSide};
-ghost use Rattle.engine.specs.Runs.{IsRefusedAt};
+ghost use Rattle.engine.specs.Runs.{HasOutline, IsRefusedAt};
 
-use crate::checking::{joint_bounds, outline_of};
+use crate::checking::joint_bounds;
 use crate::engine::Plan;
-use geom::{Fault, Part, Source};
+use geom::{Fault, Part};
 use tiling::{DEFAULT_SIDE, default_side};
+use wkt::{Outline, check_layer};
 
 /// The side of a tile over two layers, in grid units, where none is given: 262,144, or where that gives too many tiles, the
 /// least power of two that doesn't. So no plan with this side is refused for its tiles.
@@ -15,8 +18,16 @@ pub fn fitting_side(a: &[u8], b: &[u8]) -> u32
     ensures side { IsFittingSide a.now b.now result }
     ensures fits { (plan : Plan) → plan.side ≡ result → (count : ℕ) → ¬ IsRefusedAt plan a.now b.now Part.Run (Fault.TooManyTiles count) }
 {
-    let (Ok(outline_a), Ok(outline_b)) = (outline_of(a, Source::A), outline_of(b, Source::B)) else {
+    let (Ok(outline_a), Ok(outline_b)) = (outline_of(a), outline_of(b)) else {
         return DEFAULT_SIDE;
     };
     default_side(joint_bounds(outline_a.bounds, outline_b.bounds))
+}
+
+/// The outline of a layer text, where it isn't refused.
+fn outline_of(text: &[u8]) -> Result<Outline, Fault>
+    ensures answer { MatchResult result (λ o. HasOutline text.now o) (λ f. IsRefused text.now f) }
+    ensures in_limit { IfOk result (λ o. AreBounds o.bounds) }
+{
+    check_layer(text)
 }

@@ -8,6 +8,7 @@ mod engine;
 mod fitting;
 mod laws;
 mod operation;
+mod reading;
 mod rounds;
 mod segments;
 mod sink;

@@ -5,13 +5,15 @@ ghost use Rattle.geom.specs.Rounded.{AreRounded};
 ghost use Rattle.tiling.specs.Tiles.{tile_count};
 ghost use Rattle.chain_gather.specs.Gathered.{AreBinsOf, AreTileNumbers, HaveTiles};
 ghost use Rattle.points_law.specs.Law.{AreLayers};
-ghost use Rattle.engine.specs.Rounds.{AllInLimit, AreRoundedOver, AreSegmentsOf, TellsTiles};
+ghost use Rattle.engine.specs.Rounds.{AllInLimit, AreRoundedOver, TellsTiles};
+ghost use Rattle.engine.specs.Runs.{IsReading};
 
 use crate::cells::cells_of;
-use crate::checking::Checked;
-use crate::segments::{boxes_of, segments_of};
+use crate::checking::{Checked, Reading};
+use crate::reading::read_segments;
+use crate::segments::boxes_of;
 use crate::text::Report;
-use chain_gather::{TileNumbers, TilePiece, Tiled, gather_made};
+use chain_gather::{TileNumbers, TilePiece, Tiled, Workers, gather_made};
 use geom::{NoMemory, Seg};
 use noding_test::{Noded, settled};
 use routing::part;
@@ -22,7 +24,6 @@ use std::sync::ledger::Blank;
 use std::thread::Threads;
 use tile_book::{AllPieces, Gate, Job, Limited, Phase, make_all};
 use tiling::{Bins, Grid};
-use wkt::read_layer;
 
 /// Makes the piece of each cell from the segments in its bin.
 #[derive(Drop)]
@@ -54,12 +55,21 @@ pub(crate) fn rounded_layers<
     A: Allocator + Copy + Send + Sync,
     G: Gate + Sync,
     R: Threads + Wait + Sync,
->(rt: &R, alloc: A, checked: &Checked<'_, '_>, gate: &G) -> Result<Noded<A>, NoMemory>
+>(
+    rt: &R,
+    alloc: A,
+    checked: &Checked<'_, '_>,
+    read_a: Reading<A>,
+    read_b: Reading<A>,
+    gate: &G,
+) -> Result<Noded<A>, NoMemory>
+    requires read_a { IsReading checked.now.a.now read_a }
+    requires read_b { IsReading checked.now.b.now read_b }
     ensures rounded { IfOk result (λ n. AreRoundedOver checked.now.a.now checked.now.b.now checked.now.grid n.edges.items n.tiles.items) }
     ensures layers { IfOk result (λ n. ∥ AreLayers n.edges.items ∥₁) }
     ensures remade { IfOk result (λ n. n.remade ≤ tile_count checked.now.grid) }
 {
-    let segments = read_segments(alloc, checked)?;
+    let segments = read_segments(alloc, checked, read_a, read_b)?;
     gathered(
         rt,
         alloc,
@@ -68,24 +78,6 @@ pub(crate) fn rounded_layers<
         &segments,
         gate,
     )
-}
-
-/// The segments of two layers.
-pub(crate) fn read_segments<A: Allocator + Copy>(
-    alloc: A,
-    checked: &Checked<'_, '_>,
-) -> Result<Vec<Seg, A>, NoMemory>
-    ensures segments { IfOk result (λ v. AreSegmentsOf checked.now.a.now checked.now.b.now v.items) }
-    ensures in_limit { IfOk result (λ v. AllInLimit v.items) }
-{
-    let Ok(layer_a) = read_layer(alloc, checked.a) else {
-        return Err(NoMemory);
-    };
-    let Ok(layer_b) = read_layer(alloc, checked.b) else {
-        return Err(NoMemory);
-    };
-    let count = u64::from(checked.segments_a) + u64::from(checked.segments_b);
-    segments_of(alloc, &layer_a, &layer_b, count as usize)
 }
 
 /// The rounded edges of segments: the workers make the pieces of the cells, which are gathered.
@@ -158,7 +150,8 @@ fn by_cells<
         gate,
     )?;
     let most = remade.min(grid.tiles());
-    let rounded = gather_made(alloc, pieces, most, cells, grid, segments)?;
+    let sorter = Workers { rt, count: workers };
+    let rounded = gather_made(alloc, &sorter, pieces, most, cells, grid, segments)?;
     Ok(settled(rounded))
 }
 

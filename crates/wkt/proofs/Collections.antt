@@ -13,6 +13,7 @@ use Rattle.wkt.specs.Machine.{class_of, Notes, noted, State, run, start, may_end
 use Rattle.wkt.specs.Reading.{ReaderIs, StandFor, value_of, Says, Went}
 use Rattle.geom.specs.declared.fault.Fault.{Fault}
 use Rattle.wkt.specs.declared.outline.Outline.{Outline}
+use Rattle.wkt.specs.Outlines.{IsOutline}
 use Rattle.geom.specs.Limit.{coordinate_limit}
 use Rattle.wkt.specs.Refusals.{all_numbers, first_outside, place_of, fault_at, or_else, first_fault, plain, IsAccepted, StandsFor}
 use Rattle.wkt.specs.Running.{HasPassed, Passes}
@@ -141,6 +142,8 @@ done text at r s g rings le l k =
     let h = holds_at k.notes.rings rings k.notes.points [] g rings-are none k.holds in
     ap (λ (x : Gathered). x.0) (h (ap first_outside (append-nil (all_numbers rings)) ∙ l.inside) l.sound)
 
--- where the text is accepted, it stands for the rings that were gathered
-pub collected_done : (text : List ℕ) (at : ℕ) (r : Reader) (s : Shown) (g : Gathered) (outline : Outline) → length text ≤ at → Collected text at r s g → Answers text (Ok outline) → StandsFor text g.0
-collected_done text at r s g outline le k (rings, (written, accepted, e), o) = (written, accepted, sym (done text at r s g written le accepted k))
+-- where the text is accepted, it stands for the rings that were gathered, and the outline is theirs
+pub collected_done : (text : List ℕ) (at : ℕ) (r : Reader) (s : Shown) (g : Gathered) (outline : Outline) → length text ≤ at → Collected text at r s g → Answers text (Ok outline) → StandsFor text g.0 × IsOutline g.0 outline
+collected_done text at r s g outline le k (rings, (written, accepted, e), o) =
+    let same : plain written ≡ g.0 = sym (done text at r s g written le accepted k) in
+    ((written, accepted, same), subst (λ (rs : List (List Pt)). IsOutline rs outline) (sym e ∙ same) o)

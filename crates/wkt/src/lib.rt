@@ -14,7 +14,7 @@ mod write;
 pub use check::{LENGTH_LIMIT, check_layer};
 pub use laws::{one_reading, one_refusal};
 pub use outline::Outline;
-pub use read::read_layer;
+pub use read::{OutlinedLayer, read_layer, read_outlined};
 pub use write::write_multi;
 
 #[cfg(test)]

@@ -1,17 +1,23 @@
 //! A layer text, read into rings.
 
-ghost use Rattle.std.specs.Prelude.{◌≡◌, ◌⊎◌, List, All, IfOk, [], MatchResult, OnOk};
-ghost use Rattle.geom.specs.Limit.{InLimit};
+ghost use Rattle.std.specs.Prelude.{◌≡◌, ◌⊎◌, List, All, IfOk, IfSome, [], MatchResult, OnOk};
+ghost use Rattle.geom.specs.Limit.{AreInLimit, InLimit};
 ghost use Rattle.geom.specs.declared.point.Pt.{Pt as PtOf};
 ghost use Rattle.wkt.specs.Refusals.{IsRefused, StandsFor};
 ghost use Rattle.wkt.specs.Collecting.{closed, gathered, point_value, view};
+ghost use Rattle.wkt.specs.Outlines.{IsOutline};
 
 use crate::check::{LENGTH_LIMIT, check_layer};
+use crate::outline::Outline;
 use crate::reader::{Event, Number, Reader};
 use crate::survey::Survey;
 use geom::{Fault, Layer, NoMemory, Pt, Ring};
 use std::alloc::Allocator;
 use std::mem;
+
+/// The greatest length of a text, in bytes, that is read in the pass that checks it: a longer one may have more points than
+/// there should be room for before it is known not to be refused.
+const ONE_PASS: usize = 67_108_864;
 
 /// The point that two numbers write, where both are in range.
 fn point_of(x: Number, y: Number) -> Pt
@@ -80,9 +86,9 @@ impl<A: Allocator + Copy> Collector<A> {
     }
 }
 
-/// The rings of a text, or why it is refused; `Memory` as soon as there is none, whatever the text.
-fn gather<A: Allocator + Copy>(alloc: A, text: &[u8]) -> Result<Vec<Ring<A>, A>, Fault>
-    ensures { MatchResult result (λ rings. StandsFor text.now rings.items) (λ fault. IsRefused text.now fault ⊎ (fault ≡ Fault.Memory)) }
+/// The outline and the rings of a text, or why it is refused; `Memory` as soon as there is none, whatever the text.
+fn gather<A: Allocator + Copy>(alloc: A, text: &[u8]) -> Result<(Outline, Vec<Ring<A>, A>), Fault>
+    ensures { MatchResult result (λ r. StandsFor text.now r.1.items × IsOutline r.1.items r.0) (λ fault. IsRefused text.now fault ⊎ (fault ≡ Fault.Memory)) }
 {
     if text.len() > LENGTH_LIMIT {
         return Err(Fault::LayerLong);
@@ -105,12 +111,46 @@ fn gather<A: Allocator + Copy>(alloc: A, text: &[u8]) -> Result<Vec<Ring<A>, A>,
         return Err(Fault::Syntax(text.len()));
     }
     match survey.verdict() {
-        Ok(_) => {
+        Ok(outline) => {
             let Collector { rings, .. } = collector;
-            Ok(rings)
+            Ok((outline, rings))
         }
         Err(fault) => Err(fault),
     }
+}
+
+/// A layer that is accepted: its outline, and its rings where they were read with it.
+#[derive(Drop)]
+pub struct OutlinedLayer<A: Allocator> {
+    pub outline: Outline,
+    pub layer: Option<Layer<A>>,
+}
+
+/// The outline of a layer text with its rings, or why it is refused, as `check_layer` says. Of a long text, and where memory
+/// runs out, it is the outline alone.
+pub fn read_outlined<A: Allocator + Copy>(alloc: A, text: &[u8]) -> Result<OutlinedLayer<A>, Fault>
+    ensures answer { MatchResult result (λ read. (rings : List (List PtOf)) × StandsFor text.now rings × IsOutline rings read.outline) (λ fault. IsRefused text.now fault) }
+    ensures rings { IfOk result (λ read. IfSome read.layer (λ layer. StandsFor text.now layer.rings.items)) }
+    ensures bounds_in_limit { IfOk result (λ read. IfSome read.outline.bounds (λ r. AreInLimit r.lo r.hi)) }
+    ensures in_limit { IfOk result (λ read. IfSome read.layer (λ layer. All (λ ring. All InLimit ring) layer.rings.items)) }
+{
+    if text.len() <= ONE_PASS {
+        match gather(alloc, text) {
+            Ok((outline, rings)) => {
+                return Ok(OutlinedLayer {
+                    outline,
+                    layer: Some(Layer { rings }),
+                });
+            }
+            // The text may be at fault behind the place where memory ran out.
+            Err(Fault::Memory) => {}
+            Err(fault) => return Err(fault),
+        }
+    }
+    Ok(OutlinedLayer {
+        outline: check_layer(text)?,
+        layer: None,
+    })
 }
 
 /// The rings of a layer text in their order, or why it is refused, as `check_layer` says; `Memory` only on a text that
@@ -120,7 +160,7 @@ pub fn read_layer<A: Allocator + Copy>(alloc: A, text: &[u8]) -> Result<Layer<A>
     ensures in_limit { IfOk result (λ layer. All (λ ring. All InLimit ring) layer.rings.items) }
 {
     match gather(alloc, text) {
-        Ok(rings) => Ok(Layer { rings }),
+        Ok((_, rings)) => Ok(Layer { rings }),
         // The text may be at fault behind the place where memory ran out.
         Err(Fault::Memory) => {
             check_layer(text)?;

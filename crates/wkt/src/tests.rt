@@ -16,13 +16,18 @@ fn rect(x0: i32, y0: i32, x1: i32, y1: i32) -> Option<Rect> {
 fn is_read(alloc: Global, text: &str, rings: usize, outline: Outline) -> bool {
     let read = read_layer(alloc, text.as_bytes());
     let found = read.map(|layer| layer.rings.len());
-    found == Ok(rings) && check_layer(text.as_bytes()) == Ok(outline)
+    let outlined = read_outlined(alloc, text.as_bytes());
+    let both = outlined.map(|read| (read.outline, read.layer.map(|layer| layer.rings.len())));
+    found == Ok(rings)
+        && both == Ok((outline, Some(rings)))
+        && check_layer(text.as_bytes()) == Ok(outline)
 }
 
 /// Whether a text is refused so, where it is checked and where it is read.
 fn is_refused(alloc: Global, text: &str, fault: Fault) -> bool {
     let read = read_layer(alloc, text.as_bytes()).err();
-    read == Some(fault) && check_layer(text.as_bytes()) == Err(fault)
+    let outlined = read_outlined(alloc, text.as_bytes()).err();
+    read == Some(fault) && outlined == Some(fault) && check_layer(text.as_bytes()) == Err(fault)
 }
 
 fn refused(rt: &impl Abort, alloc: Global, table: &[(&str, Fault)]) {

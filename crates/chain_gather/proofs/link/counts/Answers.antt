@@ -1,9 +1,11 @@
-use Rattle.std.proofs.Common.{◌≡◌, refl, sym, ◌∙◌, subst, arith, ◌+◌, ◌<◌, ◌^◌, length, List}
+use Rattle.std.proofs.Common.{◌≡◌, ap, refl, sym, ◌∙◌, subst, arith, ◌+◌, ◌<◌, ◌^◌, length, List}
 use Rattle.std.proofs.lemmas.List.Sorted.{length_permutation}
 use Rattle.chain_gather.specs.declared.link.Link.{Link}
 use Rattle.chain_gather.proofs.Tally.{IsAt}
-use Rattle.chain_gather.proofs.Tally.{IsTally, AreAscending, ascending_from, ne_apart, ne_same, IsTally-none, IsTally-next, IsTally-more, tally_small, counts_are}
-use Rattle.chain_gather.specs.contracts.link.LinkOrd.TheImpl.Laws.{total-law}
+use Rattle.chain_gather.proofs.Tally.{IsTally, AreAscending, link_total, ascending_from, ne_apart, ne_same, IsTally-none, IsTally-next, IsTally-more, tally_small, counts_are}
+use Rattle.chain_gather.specs.Orders.{link_order}
+use Rattle.chain_gather.proofs.WrittenBack.{written_back}
+use Rattle.std.specs.List.Sorted.{IsPermutation}
 use Rattle.chain_gather.proofs.link.counts.Goals as goal
 use Rattle.chain_gather.proofs.link.counts.Goals.{then-ne+in_ok-add_counted, else-ne}
 
@@ -11,9 +13,10 @@ pub and_one-current-requires : goal.and_one-current-requires
 and_one-current-requires g c =
     let links = c.deref-link-items.result.now in
     let i = c.loop-link.link-index in
-    let up = subst AreAscending (sym c.deref-link-items.ensures.value) (ascending_from _ total-law (λ l m. (_, refl)) c.sort_unstable.new.self.items c.sort_unstable.ensures.sorted) in
+    let back = sym (written_back c.args.links.len c.args.links.items c.sort_links.new.list (sym c.args.links.ok.0) (c.sort_links.ensures.len ∙ ap length c.as_mut_slice.ensures.value)) in
+    let up = subst AreAscending (back ∙ sym c.deref-link-items.ensures.value) (ascending_from link_order link_total (λ l m. (_, refl)) c.sort_links.new.list c.sort_links.ensures.sorted) in
     let at : IsAt links i c.link-item.result = record { below = c.loop-link-test.true; item = sym c.link-item.is } in
-    let short : length links < 2 ^ 32 = subst (λ (ls : List Link). length ls < 2 ^ 32) (sym c.deref-link-items.ensures.value) (let e = length_permutation _ _ c.sort_unstable.ensures.permutation in let r = c.requires in omega arith) in
+    let short : length links < 2 ^ 32 = subst (λ (ls : List Link). length ls < 2 ^ 32) (back ∙ sym c.deref-link-items.ensures.value) (let e = length_permutation _ _ (subst (λ (ls : List Link). IsPermutation ls c.sort_links.new.list) c.as_mut_slice.ensures.value c.sort_links.ensures.permutation) in let r = c.requires.short in omega arith) in
     let below = c.loop-link-test.true in
     let small : (c.if-ne.current.in_a + 1 < 2 ^ 32) × (c.if-ne.current.in_b + 1 < 2 ^ 32) = elim c.if-ne.branch [
       | then-ne+in_ok-add_counted w ↦ rw w.current-is (let a = w.uncounted-current-then-ne.ensures.in_a in let b = w.uncounted-current-then-ne.ensures.in_b in (omega arith, omega arith))
@@ -24,7 +27,8 @@ and_one-current-requires g c =
 pub loop-link-init : goal.loop-link-init
 loop-link-init g c =
     let links = c.deref-link-items.result.now in
-    let up = subst AreAscending (sym c.deref-link-items.ensures.value) (ascending_from _ total-law (λ l m. (_, refl)) c.sort_unstable.new.self.items c.sort_unstable.ensures.sorted) in
+    let back = sym (written_back c.args.links.len c.args.links.items c.sort_links.new.list (sym c.args.links.ok.0) (c.sort_links.ensures.len ∙ ap length c.as_mut_slice.ensures.value)) in
+    let up = subst AreAscending (back ∙ sym c.deref-link-items.ensures.value) (ascending_from link_order link_total (λ l m. (_, refl)) c.sort_links.new.list c.sort_links.ensures.sorted) in
     let first = c.in-Some.ensures.item in
     let same : c.deref.result.now ≡ links = c.deref.ensures.value ∙ sym c.deref-link-items.ensures.value in
     let at : IsAt links 0 c.in-Some.first.now = subst (λ (ls : List Link). IsAt ls 0 c.in-Some.first.now) same (record { below = first.3.0; item = sym first.1 }) in
@@ -35,7 +39,8 @@ loop-link-preserved g c =
     let links = c.deref-link-items.result.now in
     let i = c.loop-link.link-index in
     let x = c.link-item.result in
-    let up = subst AreAscending (sym c.deref-link-items.ensures.value) (ascending_from _ total-law (λ l m. (_, refl)) c.sort_unstable.new.self.items c.sort_unstable.ensures.sorted) in
+    let back = sym (written_back c.args.links.len c.args.links.items c.sort_links.new.list (sym c.args.links.ok.0) (c.sort_links.ensures.len ∙ ap length c.as_mut_slice.ensures.value)) in
+    let up = subst AreAscending (back ∙ sym c.deref-link-items.ensures.value) (ascending_from link_order link_total (λ l m. (_, refl)) c.sort_links.new.list c.sort_links.ensures.sorted) in
     let at : IsAt links i x = record { below = c.loop-link-test.true; item = sym c.link-item.is } in
     let ready : IsTally links i c.if-ne.list.items c.if-ne.current × (c.if-ne.current.edge ≡ x.edge) = elim c.if-ne.branch [
       | then-ne+in_ok-add_counted w ↦ rw (w.list-is, w.current-is, w.in_ok-add_counted.ensures) (
@@ -50,7 +55,8 @@ loop-link-preserved g c =
 pub returns : goal.returns
 returns g c =
     let links = c.deref-link-items.result.now in
-    let moved = rw (← c.deref-link-items.ensures.value) at c.sort_unstable.ensures.permutation in
+    let back = sym (written_back c.args.links.len c.args.links.items c.sort_links.new.list (sym c.args.links.ok.0) (c.sort_links.ensures.len ∙ ap length c.as_mut_slice.ensures.value)) in
+    let moved = subst (λ (ls : List Link). IsPermutation c.args.links.items ls) (back ∙ sym c.deref-link-items.ensures.value) (subst (λ (ls : List Link). IsPermutation ls c.sort_links.new.list) c.as_mut_slice.ensures.value c.sort_links.ensures.permutation) in
     let first = c.in-Some.ensures.item in
     let same : c.deref.result.now ≡ links = c.deref.ensures.value ∙ sym c.deref-link-items.ensures.value in
     let some : 0 < length links = subst (λ (ls : List Link). 0 < length ls) same first.3.0 in

@@ -6,8 +6,8 @@ use Rattle.chain_gather.proofs.Covering.{are_covered}
 use Rattle.chain_gather.proofs.Gathering.{tiles_have}
 use Rattle.chain_gather.proofs.tiles.gather.Goals as goal
 
-pub rounded_of-requires : goal.rounded_of-requires
-rounded_of-requires g c =
+pub rounded_of-requires-clause-records : goal.rounded_of-requires-clause-records
+rounded_of-requires-clause-records g c =
     let grid = c.args.grid.now in
     let segments = c.args.segments.now in
     subst (λ (rs : List Record). ∥ AreRecords segments rs ∥₁) (sym c.deref.ensures.value)

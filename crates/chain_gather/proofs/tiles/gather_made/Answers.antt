@@ -23,8 +23,8 @@ tile_numbers-requires g c =
     c.deref-2.result.now c.deref-3.result.now c.deref-2.ensures.value c.deref-3.ensures.value in
     record { pixels_in = may.pixels_in; pixels_once = may.pixels_once; records_in = may.records_in; records_once = may.records_once }
 
-pub rounded_of-requires : goal.rounded_of-requires
-rounded_of-requires g c =
+pub rounded_of-requires-clause-records : goal.rounded_of-requires-clause-records
+rounded_of-requires-clause-records g c =
     let cells = c.args.cells.now in
     let grid = c.args.grid.now in
     let segments = c.args.segments.now in

@@ -1,3 +1,4 @@
+use Rattle.std.proofs.lemmas.Result.{err_from_is_err_and}
 use Rattle.engine.proofs.Running.{ends, refused_declines}
 use Rattle.engine.proofs.engine.made_by_workers.Goals as goal
 
@@ -9,3 +10,9 @@ returns-in-Ok g c =
 
 pub returns-in-Err : goal.returns-in-Err
 returns-in-Err g c = refused_declines c.args.plan c.args.a.now c.args.b.now c.in-Err.fault.at c.in-Err.fault.fault c.in-Err.ensures.answer
+
+pub returns-in_err-check_plan : goal.returns-in_err-check_plan
+returns-in_err-check_plan g c =
+    let p = err_from_is_err_and c.from_residual.result c.from_residual.ensures.1 in
+    let f = c.in_err-check_plan.field-0.0 in
+    rw (p.1, p.2) (refused_declines c.args.plan c.args.a.now c.args.b.now f.at f.fault (c.in_err-check_plan.ensures c.args.a.now c.args.b.now))

@@ -2,7 +2,7 @@ use Rattle.engine.proofs.Fits.{fitting, fitting_refused_a, fitting_refused_b, ne
 use Rattle.engine.proofs.fitting.fitting_side.Goals as goal
 
 pub returns-in_default-clause-side : goal.returns-in_default-clause-side
-returns-in_default-clause-side c = fitting_refused_b c.args.a.now c.args.b.now _ c.in_default.ensures'.answer.1
+returns-in_default-clause-side c = fitting_refused_b c.args.a.now c.args.b.now _ c.in_default.ensures'.answer
 
 pub returns-in_default-clause-fits : goal.returns-in_default-clause-fits
 returns-in_default-clause-fits c = never_too_fine c.args.a.now c.args.b.now 262_144 (returns-in_default-clause-side c)
@@ -10,7 +10,7 @@ returns-in_default-clause-fits c = never_too_fine c.args.a.now c.args.b.now 262_
 pub returns-in_default-2-clause-side : goal.returns-in_default-2-clause-side
 returns-in_default-2-clause-side c =
     let refused = rw c.in_default.is-0 at c.outline_of.ensures.answer in
-    fitting_refused_a c.args.a.now c.args.b.now _ refused.1
+    fitting_refused_a c.args.a.now c.args.b.now _ refused
 
 pub returns-in_default-2-clause-fits : goal.returns-in_default-2-clause-fits
 returns-in_default-2-clause-fits c = never_too_fine c.args.a.now c.args.b.now 262_144 (returns-in_default-2-clause-side c)
