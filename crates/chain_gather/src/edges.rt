@@ -15,13 +15,14 @@ pub(crate) fn rounded_edges<S: Sorter, A: Allocator + Copy>(
     alloc: A,
     sorter: &S,
     segments: &[Seg],
-    records: &[Record],
+    records: Vec<Record, A>,
 ) -> Result<Vec<Counted, A>, NoMemory>
     requires ready { S.ready sorter.now }
-    requires records { ∥ AreRecords segments.now records.now ∥₁ }
-    requires short { length records.now < 2 ^ 32 }
+    requires records { ∥ AreRecords segments.now records.items ∥₁ }
+    requires short { length records.items < 2 ^ 32 }
     ensures { IfOk result (λ v. ∥ AreRounded segments.now v.items ∥₁) }
 {
-    let list = links(alloc, segments, records)?;
+    let list = links(alloc, segments, &records)?;
+    drop(records);
     counts(alloc, sorter, list)
 }

@@ -144,7 +144,7 @@ pub fn gather<L: Limited, A: Allocator + Copy>(
     } = all_tiles(alloc, &book, grid, bins, segments)?;
     drop(book);
     let records = in_order(&OneThread, records);
-    rounded_of(alloc, &OneThread, segments, &records, tiles, remade)
+    rounded_of(alloc, &OneThread, segments, records, tiles, remade)
 }
 
 /// As `gather`, of the pieces of all cells in their order, which are known to be those of the segments over these cells:
@@ -176,7 +176,7 @@ pub fn gather_made<T: Tiled, S: Sorter, A: Allocator + Copy>(
     drop(pieces);
     let records = in_order(sorter, records);
     let tiles = tile_numbers(alloc, grid, &pixels, &records)?;
-    rounded_of(alloc, sorter, segments, &records, tiles, remade)
+    rounded_of(alloc, sorter, segments, records, tiles, remade)
 }
 
 /// The hot pixels and the records of pieces that stand in the order of their cells.
@@ -211,12 +211,12 @@ fn rounded_of<S: Sorter, A: Allocator + Copy>(
     alloc: A,
     sorter: &S,
     segments: &[Seg],
-    records: &[Record],
+    records: Vec<Record, A>,
     tiles: Vec<TileNumbers, A>,
     remade: u32,
 ) -> Result<Rounded<A>, NoMemory>
     requires ready { S.ready sorter.now }
-    requires records { ∥ AreRecords segments.now records.now ∥₁ }
+    requires records { ∥ AreRecords segments.now records.items ∥₁ }
     ensures rounded { IfOk result (λ r. ∥ AreRounded segments.now r.edges.items ∥₁) }
     ensures noded { IfOk result (λ r. IsNoded (edges_of r.edges.items)) }
     ensures even { IfOk result (λ r. (layer : Source) → AreClosed layer segments.now → HasEvenDegrees (odd_edges layer r.edges.items)) }

@@ -146,6 +146,7 @@ fn by_cells_alone<T: Tiled, A: Allocator + Copy>(
         of: PhantomData,
     };
     let pieces = in_turn(alloc, &job, cells.tiles())?;
+    drop(bins);
     let rounded = gather_made(alloc, &OneThread, pieces, 0, cells, grid, segments)?;
     Ok(settled(rounded))
 }

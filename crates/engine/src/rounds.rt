@@ -149,6 +149,7 @@ fn by_cells<
         Phase::Route,
         gate,
     )?;
+    drop(bins);
     let most = remade.min(grid.tiles());
     let sorter = Workers { rt, count: workers };
     let rounded = gather_made(alloc, &sorter, pieces, most, cells, grid, segments)?;

@@ -10,5 +10,4 @@ pub rounded_of-requires-clause-records : goal.rounded_of-requires-clause-records
 rounded_of-requires-clause-records g c =
     let grid = c.args.grid.now in
     let segments = c.args.segments.now in
-    subst (λ (rs : List Record). ∥ AreRecords segments rs ∥₁) (sym c.deref.ensures.value)
-    (∥∥₁_map c.in_ok-records.ensures.records_are (λ all. c.in_order-records.ensures segments (tiles_have grid segments c.in_ok-records.field-0.records.items (are_covered grid segments c.requires.covered) all)))
+    ∥∥₁_map c.in_ok-records.ensures.records_are (λ all. c.in_order-records.ensures segments (tiles_have grid segments c.in_ok-records.field-0.records.items (are_covered grid segments c.requires.covered) all))

@@ -30,8 +30,7 @@ rounded_of-requires-clause-records g c =
     let segments = c.args.segments.now in
     let found = c.in_ok-pixels.field-0 in
     let all = known_parts cells _ segments _ _ found.pixels.items found.records.items c.requires.cells c.requires.segments (ap length c.deref.ensures.value ∙ c.requires.one_each) c.in_ok-pixels.ensures in
-    subst (λ (rs : List Record). ∥ AreRecords segments rs ∥₁) (sym c.deref-4.ensures.value)
-    (all_records cells grid segments found.pixels.items found.records.items c.in_order-records.result.items (are_covered cells segments c.requires.covered_by_cells) (are_covered grid segments c.requires.covered) all (c.in_order-records.ensures segments))
+    all_records cells grid segments found.pixels.items found.records.items c.in_order-records.result.items (are_covered cells segments c.requires.covered_by_cells) (are_covered grid segments c.requires.covered) all (c.in_order-records.ensures segments)
 
 pub returns-clause-tiles : goal.returns-clause-tiles
 returns-clause-tiles g c =
