@@ -198,6 +198,7 @@ fn split<A: Allocator + Copy>(
     requires chunked { AreChunks chunks.old.items }
     ensures all { OnOk result (joined chunks.new.items ≡ joined chunks.old.items) }
     ensures chunked { OnOk result (AreChunks chunks.new.items) }
+    ensures small { OnOk result (HoldsAt (λ c. length c.items ≤ 256) chunks.new.items at) }
 {
     while chunks[at].len() > LIMIT {
         let keep = chunks[at].len() - HALF;
