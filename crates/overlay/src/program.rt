@@ -1,7 +1,7 @@
 //! The program, over files and sinks.
 
-ghost use Rattle.std.specs.Prelude.{ℕ, ◌≡◌, ◌<◌, ◌⊎◌, IfErr};
-ghost use Rattle.engine.specs.Texts.{status_of};
+ghost use Rattle.std.specs.Prelude.{ℕ, ◌≡◌, ◌<◌, IfErr, map};
+ghost use Rattle.overlay.specs.Program.{Does, DoesLine, IsSent, Performs, RunsFor, Shows, ShowsReport, TellsFault, TellsFile, TellsLine, TellsMemory};
 
 use crate::asked::{CliFault, Command, Request};
 use crate::cli::request;
@@ -40,6 +40,7 @@ pub fn drive<R: Threads + Wait + Sync, S: AsStr, F: Files, O: Sink, E: Sink>(
 ) -> u8
     requires out { (O.state out.old).failed < u64.MAX }
     requires err { (E.state err.old).failed < u64.MAX }
+    ensures { DoesLine O.state E.state out.old out.new err.old err.new (map S.text words.entry.now) result }
 {
     match request(alloc, words) {
         Ok(asked) => answer(rt, alloc, &asked, files, out, err),
@@ -79,6 +80,7 @@ fn answer<R: Threads + Wait + Sync, F: Files, O: Sink, E: Sink>(
 ) -> u8
     requires out { (O.state out.old).failed < u64.MAX }
     requires err { (E.state err.old).failed < u64.MAX }
+    ensures { Does O.state E.state out.old out.new err.old err.new asked.now result }
 {
     let a = match files.load(alloc, asked.a) {
         Ok(bytes) => bytes,
@@ -106,6 +108,7 @@ fn perform<R: Threads + Wait + Sync, O: Sink>(
     out: &mut O,
 ) -> Result<Report<Global>, RunFault>
     requires { (O.state out.old).failed < u64.MAX }
+    ensures { Performs O.state out.old out.new asked.now a.now b.now result }
 {
     let side = asked.side.unwrap_or(DEFAULT_SIDE);
     match perform_by(rt, alloc, asked, side, a, b, out) {
@@ -130,6 +133,7 @@ fn perform_by<R: Threads + Wait + Sync, O: Sink>(
     out: &mut O,
 ) -> Result<Report<Global>, RunFault>
     requires { (O.state out.old).failed < u64.MAX }
+    ensures runs { RunsFor O.state out.old out.new asked.now side a.now b.now result }
     ensures unwritten { IfErr result (λ f. (count : ℕ) → f.fault ≡ Fault.TooManyTiles count → out.new ≡ out.old) }
 {
     let plan = Plan {
@@ -146,6 +150,7 @@ fn perform_by<R: Threads + Wait + Sync, O: Sink>(
 fn tell_command_line<O: Sink, E: Sink>(fault: &CliFault, out: &mut O, err: &mut E) -> u8
     requires out { (O.state out.old).failed < u64.MAX }
     requires err { (E.state err.old).failed < u64.MAX }
+    ensures { TellsLine O.state E.state out.old out.new err.old err.new fault.now result }
 {
     match fault {
         CliFault::Unknown => tell(err, b"overlay: unknown command\n", NOT_ACCEPTED),
@@ -157,7 +162,7 @@ fn tell_command_line<O: Sink, E: Sink>(fault: &CliFault, out: &mut O, err: &mut 
 
 fn tell_file<E: Sink>(fault: LoadFault, text: &[u8], err: &mut E) -> u8
     requires { (E.state err.old).failed < u64.MAX }
-    ensures { result ≡ FAILED }
+    ensures { TellsFile (E.state err.old) (E.state err.new) fault text.now result }
 {
     match fault {
         LoadFault::Unreadable => tell(err, text, FAILED),
@@ -168,7 +173,7 @@ fn tell_file<E: Sink>(fault: LoadFault, text: &[u8], err: &mut E) -> u8
 /// Writes a fault's line, and answers its status, or that of want of memory where there is none for the line.
 fn tell_fault<E: Sink>(alloc: Global, fault: &RunFault, err: &mut E) -> u8
     requires { (E.state err.old).failed < u64.MAX }
-    ensures { (result ≡ status_of fault.now) ⊎ (result ≡ FAILED) }
+    ensures { TellsFault (E.state err.old) (E.state err.new) fault.now result }
 {
     match line(alloc, fault) {
         Ok(text) => tell(err, text.as_slice(), status(fault)),
@@ -179,6 +184,7 @@ fn tell_fault<E: Sink>(alloc: Global, fault: &RunFault, err: &mut E) -> u8
 /// Writes the report, and answers 0, or 1 where it can't be written.
 fn show_report<E: Sink>(alloc: Global, report: &Report<Global>, err: &mut E) -> u8
     requires { (E.state err.old).failed < u64.MAX }
+    ensures { ShowsReport (E.state err.old) (E.state err.new) report.now result }
 {
     match report_text(alloc, report) {
         Ok(text) => show(err, text.as_slice()),
@@ -188,7 +194,7 @@ fn show_report<E: Sink>(alloc: Global, report: &Report<Global>, err: &mut E) -> 
 
 fn tell_no_memory<E: Sink>(err: &mut E) -> u8
     requires { (E.state err.old).failed < u64.MAX }
-    ensures { result ≡ FAILED }
+    ensures { TellsMemory (E.state err.old) (E.state err.new) result }
 {
     tell(err, b"overlay: 10 out of memory\n", FAILED)
 }
@@ -196,7 +202,8 @@ fn tell_no_memory<E: Sink>(err: &mut E) -> u8
 /// Writes a line, and answers the status. The status stays where the line can't be written.
 fn tell<E: Sink>(err: &mut E, text: &[u8], answer: u8) -> u8
     requires { (E.state err.old).failed < u64.MAX }
-    ensures { result ≡ answer }
+    ensures status { result ≡ answer }
+    ensures sent { IsSent (E.state err.old) (E.state err.new) text.now }
 {
     let _ = write_all(err, text);
     answer
@@ -205,6 +212,7 @@ fn tell<E: Sink>(err: &mut E, text: &[u8], answer: u8) -> u8
 /// Writes a text, and answers 0, or 1 where it can't be written.
 fn show<S: Sink>(sink: &mut S, text: &[u8]) -> u8
     requires { (S.state sink.old).failed < u64.MAX }
+    ensures { Shows (S.state sink.old) (S.state sink.new) text.now result }
 {
     match write_all(sink, text) {
         Ok(()) => ANSWERED,
