@@ -119,6 +119,7 @@ pub fn passing<A: Allocator>(
             part.push(*line)?;
         }
     }
+    part.shrink_to_fit();
     Ok(part)
 }
 

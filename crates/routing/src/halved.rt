@@ -160,6 +160,7 @@ fn halve<A: Allocator + Copy>(
         Some((first, second)) => {
             let part = passing(alloc, &first, lines)?;
             halve(alloc, segments, table, &first, &part, depth - 1, found)?;
+            drop(part);
             let rest = passing(alloc, &second, lines)?;
             halve(alloc, segments, table, &second, &rest, depth - 1, found)?;
             Ok(())

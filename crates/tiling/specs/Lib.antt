@@ -1,5 +1,4 @@
 pub mod Tiles
-pub mod Cells
 pub mod Index
 pub mod Bins
 pub mod Strips

@@ -1,10 +1,9 @@
 //! The grid of tiles.
 
-ghost use Rattle.std.specs.Prelude.{◌≡◌, ◌↔◌, ◌^◌, ℕ, ℤ, pos, ◌+◌, ◌-◌, ◌*◌, ◌<◌, ◌≤◌, ◌+ℤ◌, ◌≤ℤ◌, IfOk, IfSome, MatchResult, Some};
-ghost use Rattle.geom.specs.Limit.{InLimit, IsWithin};
+ghost use Rattle.std.specs.Prelude.{◌≡◌, ◌↔◌, ◌^◌, ℕ, ℤ, pos, ◌+◌, ◌-◌, ◌*◌, ◌<◌, ◌≤◌, ◌+ℤ◌, ◌≤ℤ◌, IfOk, MatchResult, Some};
+ghost use Rattle.geom.specs.Limit.{IsWithin};
 ghost use Rattle.geom.specs.declared.point.Pt.{Pt};
 ghost use Rattle.geom.specs.Box.{IsInBox};
-ghost use Rattle.tiling.specs.Cells.{AreCells};
 ghost use Rattle.tiling.specs.Tiles.{AreBounds, CoversBounds, HasRoom, HasTile, IsGridOf, IsRefusal, IsSide, Owns, Tiling, steps, tile_count, tile_left, tile_right};
 
 use geom::{Fault, Pt, Rect};
@@ -97,30 +96,6 @@ impl Grid {
             hi: Pt { x: right, y: top },
         }
     }
-
-    /// The cells of this grid: each of its tiles cut into four, by half its side, as many columns and rows of them as reach a
-    /// corner. None where the side is odd or a cell's were too small, and none where there were too many.
-    pub fn halved(&self, corner: Pt) -> Option<Grid>
-        requires { InLimit corner }
-        ensures { IfSome result (λ f. AreCells self.now corner f) }
-    {
-        let side = self.side / 2;
-        if self.side % 2 == 1 || side < LEAST_SIDE {
-            return None;
-        }
-        let columns = cells_over(self.left, corner.x, side, self.columns);
-        let rows = cells_over(self.bottom, corner.y, side, self.rows);
-        if rows * columns > u64::from(MOST_TILES) {
-            return None;
-        }
-        Some(Grid {
-            left: self.left,
-            bottom: self.bottom,
-            side,
-            columns: columns as u32,
-            rows: rows as u32,
-        })
-    }
 }
 
 // The grid over a box.
@@ -181,17 +156,6 @@ pub(crate) fn steps_over(low: i32, high: i32, side: u32) -> u64
 {
     let width = (i64::from(high) - i64::from(low)) as u64;
     width / u64::from(side) + 1
-}
-
-// How many columns of cells of this side reach from low to high; at most two in each column of tiles.
-fn cells_over(low: i32, high: i32, side: u32, columns: u32) -> u64
-    requires low { IsWithin (2 ^ 28) low }
-    requires high { IsWithin (2 ^ 28) high }
-    requires side { 0 < side }
-    ensures inside { result ≤ columns * 2 }
-    ensures reaches { (x : ℤ) (k : ℕ) → x ≤ℤ high → steps low side x ≡ pos k → k < columns * 2 → k < result }
-{
-    steps_over(low, high.max(low), side).min(u64::from(columns) * 2)
 }
 
 // The column of a coordinate.

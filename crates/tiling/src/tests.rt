@@ -107,32 +107,6 @@ fn columns_and_rows_of_grids(rt: HostRuntime) {
     }
 }
 
-// How many cells reach a corner, where the tiles may be halved.
-fn cells_to(bounds: Rect, side: u32, corner: Pt) -> Option<u32> {
-    let grid = grid_over(Some(bounds), side).ok()?;
-    if !corner.is_in_limit() {
-        return None;
-    }
-    Some(grid.halved(corner)?.tiles())
-}
-
-#[test]
-fn cells_of_grids(rt: HostRuntime) {
-    let square = rect(0, 0, 600, 600);
-    let table = [
-        (square, 32, 600, 600, Some(1444)),
-        (square, 32, 100, 600, Some(266)),
-        (square, 1_000, 600, 600, Some(4)),
-        (square, 1_000, 499, 499, Some(1)),
-        (square, 31, 600, 600, None),
-        (square, 30, 600, 600, None),
-        (rect(0, 0, 4_095, 4_096), 32, 4_095, 4_096, None),
-    ];
-    for (bounds, side, x, y, cells) in table {
-        assert!(rt; cells_to(bounds, side, Pt { x, y }) == cells);
-    }
-}
-
 #[test]
 fn points_and_tiles(rt: HostRuntime) {
     let wide = rect(0, 0, 600, 600);

@@ -21,4 +21,4 @@ loop-line-preserved g c =
     ]
 
 pub returns : goal.returns
-returns g c = subst (λ (es : List Line). ArePassing c.args.rect.now es c.loop-line.part.items) (take_all c.loop-line.line-index c.args.lines.now c.loop-line-test.false) c.loop-line.invariant
+returns g c = rw c.shrink_to_fit.ensures.items (subst (λ (es : List Line). ArePassing c.args.rect.now es c.loop-line.part.items) (take_all c.loop-line.line-index c.args.lines.now c.loop-line-test.false) c.loop-line.invariant)
