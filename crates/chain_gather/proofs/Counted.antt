@@ -1,9 +1,9 @@
 -- How many items lie in each tile, counted one after another, and what these counts are.
-use Rattle.std.proofs.Common.{◌≡◌, ◌≢◌, ◌⊎◌, inl, inr, ℕ, ◌+◌, ◌*◌, ◌<◌, ◌≤◌, List, [], ◌∷◌, ◌++◌, length, get_or, take, refl, sym, ap, subst, ◌∙◌, arith, ⊎_elim, ◌↔◌}
+use Rattle.std.proofs.Common.{◌≡◌, ◌≢◌, ◌⊎◌, inl, inr, ℕ, ◌+◌, ◌*◌, ◌<◌, List, [], ◌∷◌, ◌++◌, length, get_or, take, refl, sym, ap, subst, ◌∙◌, arith, ⊎_elim, ◌↔◌}
 use Rattle.std.proofs.Math.Logic.{∥∥₁_elim, ∥∥₁_map}
 use Rattle.std.proofs.Props.{props}
 use Rattle.std.proofs.lemmas.Bool.{cases_eq, cases_lt}
-use Rattle.std.proofs.lemmas.List.{get_or-replicate, get_or-set_other, get_or-set_same, get_or-take, length-replicate, length-set, length-take, length_push, take_all}
+use Rattle.std.proofs.lemmas.List.{get_or-replicate, get_or-set_other, get_or-set_same, get_or-take, length-replicate, length-set, length-take, length_push}
 use Rattle.std.proofs.lemmas.List.Elements.{Contains-append_cases, Contains-append_left, Contains-append_right, Contains-get_or, Contains-push, Contains-push_cases}
 use Rattle.std.proofs.lemmas.List.Quantifiers.{all_pairs_push}
 use Rattle.std.proofs.lemmas.Option.{get_or_from_slice_get, slice_get-get_or, slice_get_within}
@@ -12,7 +12,7 @@ use Rattle.geom.specs.declared.point.Pt.{Pt}
 use Rattle.geom.specs.declared.segment.Seg.{Seg}
 use Rattle.geom.specs.Hot.{IsHot}
 use Rattle.geom.specs.Order.{IsBefore}
-use Rattle.geom.proofs.Lists.{In, contains_in, in_contains}
+use Rattle.geom.proofs.Lists.{contains_in, in_contains}
 use Rattle.geom.proofs.Orders.{before_itself}
 use Rattle.tiling.specs.Tiles.{HasTile, Owns, Tiling, steps, tile_count}
 use Rattle.tiling.proofs.Columns.{owner_is, pos_same}
@@ -25,7 +25,7 @@ use Rattle.chain_gather.specs.Links.{AreRecords, HasRecords, IsRecordBefore}
 use Rattle.chain_gather.specs.Numbers.{AreNumbersOf, ArePaired, AreTileCounts, IsCountOf}
 use Rattle.chain_gather.specs.declared.rounded.TileNumbers.{TileNumbers}
 use Rattle.chain_gather.proofs.Gathering.{AreCovered, below_none, owner_below, tiles_have}
-use Rattle.chain_gather.proofs.Ordering.{Piece, never_before, piece_of}
+use Rattle.chain_gather.proofs.Ordering.{never_before, piece_of}
 use Rattle.chain_gather.proofs.Parts.{IsPart, distinct_from}
 
 -- ---- one item after another

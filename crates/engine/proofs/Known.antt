@@ -13,7 +13,7 @@ use Rattle.lane_tests.proofs.Rects.{corners_tell}
 use Rattle.tiling.specs.Tiles.{IsGridOf, Tiling, tile_count}
 use Rattle.chain_gather.specs.declared.rounded.TileNumbers.{TileNumbers}
 use Rattle.wkt.specs.LayerText.{Ring}
-use Rattle.wkt.specs.Refusals.{IsAccepted, plain}
+use Rattle.wkt.specs.Refusals.{plain}
 use Rattle.engine.specs.Rounds.{AreBoundsOf, AreRoundedOver, AreSegmentsOf, IsGridOver, TellsTiles}
 use Rattle.engine.specs.Runs.{IsChecked, IsPlan, IsReady, Reports, segment_count}
 use Rattle.engine.specs.declared.engine.Plan.{Plan}

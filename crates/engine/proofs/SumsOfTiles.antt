@@ -1,19 +1,18 @@
 -- Every hot pixel and every record belongs to one tile: so the sums over all tiles are the same for every grid.
-use Rattle.std.proofs.Common.{◌≡◌, inl, inr, ℕ, suc, ◌+◌, ◌<◌, ◌≤◌, List, [], ◌∷◌, ◌++◌, length, map, refl, sym, ap, ap₂, subst, ◌∙◌, arith, ⊎_elim, sum_by}
+use Rattle.std.proofs.Common.{◌≡◌, inl, inr, ℕ, suc, ◌+◌, ◌<◌, ◌≤◌, List, [], ◌∷◌, ◌++◌, length, map, refl, sym, ap₂, subst, ◌∙◌, arith, ⊎_elim, sum_by}
 use Rattle.std.proofs.Math.Logic.{∥∥₁_elim, ∥∥₁_map}
 use Rattle.std.proofs.Props.{props}
 use Rattle.std.proofs.lemmas.Bool.{cases_lt}
 use Rattle.std.proofs.lemmas.List.{length-append}
 use Rattle.std.proofs.lemmas.List.Elements.{Contains-append_left, Contains-append_right}
 use Rattle.std.proofs.lemmas.List.Sums.{sum_by-cons}
-use Rattle.std.specs.Prelude.{AllPairs, Some, slice_get}
+use Rattle.std.specs.Prelude.{Some, slice_get}
 use Rattle.geom.specs.declared.point.Pt.{Pt}
 use Rattle.geom.specs.declared.segment.Seg.{Seg}
 use Rattle.geom.specs.Hot.{IsHot}
 use Rattle.geom.specs.Order.{IsBefore}
 use Rattle.geom.proofs.Along.{before_irrefl}
-use Rattle.geom.proofs.ListOrder.{pairs_head, pairs_tail}
-use Rattle.geom.proofs.Lists.{Distinct, In, contains_in, in_append, in_contains}
+use Rattle.geom.proofs.Lists.{In, contains_in, in_append, in_contains}
 use Rattle.geom.proofs.Orders.{before_itself}
 use Rattle.geom.proofs.RouteLaws.{order_by_earlier}
 use Rattle.tiling.specs.Tiles.{Owns, Tiling, tile_count}

@@ -13,9 +13,8 @@ use Rattle.clap.specs.declared.parser.matches.ArgMatches.{ArgMatches}
 use Rattle.clap.proofs.CallerLemmas.{required_in_chain}
 use Rattle.overlay.specs.Arguments.{HasNumber, HasWords, IsNumberArg, IsOwnArg, IsOverlayCommand, MayHaveNumber}
 use Rattle.overlay.proofs.Defaults.{IsReadOr, number_in_chain}
-use Rattle.clap.specs.Words.{one_text, without_minus}
 use Rattle.clap.specs.declared.builder.value_parser.ValueParser.TheVariants.{Signed}
-use Rattle.std.specs.Prelude.{Some, pos}
+use Rattle.std.specs.Prelude.{pos}
 
 -- the place of an argument, by the first letter of its id
 abbrev place : ℕ → ℕ

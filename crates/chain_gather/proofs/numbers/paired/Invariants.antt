@@ -1,4 +1,4 @@
-use Rattle.std.proofs.Common.{◌≡◌, take, length}
+use Rattle.std.proofs.Common.{take}
 use Rattle.chain_gather.specs.Numbers.{ArePaired}
 use Rattle.chain_gather.proofs.numbers.paired.Given as goal
 

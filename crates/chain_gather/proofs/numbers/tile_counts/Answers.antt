@@ -1,4 +1,4 @@
-use Rattle.std.proofs.Common.{◌≡◌, ◌∙◌, ◌<◌, Some, arith, ap, length, sym, subst, List, take}
+use Rattle.std.proofs.Common.{◌≡◌, ◌∙◌, ◌<◌, Some, arith, ap, length, sym, subst, List}
 use Rattle.std.proofs.lemmas.List.{take_all}
 use Rattle.std.proofs.lemmas.Option.{slice_get-get_or}
 use Rattle.std.specs.Prelude.{slice_get}

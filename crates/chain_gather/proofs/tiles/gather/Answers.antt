@@ -1,7 +1,4 @@
-use Rattle.std.proofs.Common.{List, subst, sym}
 use Rattle.std.proofs.Math.Logic.{∥∥₁_map}
-use Rattle.routing.specs.declared.record.Record.{Record}
-use Rattle.chain_gather.specs.Links.{AreRecords}
 use Rattle.chain_gather.proofs.Covering.{are_covered}
 use Rattle.chain_gather.proofs.Gathering.{tiles_have}
 use Rattle.chain_gather.proofs.tiles.gather.Goals as goal

@@ -1,10 +1,8 @@
 use Rattle.std.proofs.Common.{List, ◌∙◌, ap, sym, subst, length}
 use Rattle.std.proofs.lemmas.Result.{IfOk-weaker}
-use Rattle.routing.specs.declared.record.Record.{Record}
 use Rattle.tiling.specs.Tiles.{tile_count}
 use Rattle.chain_gather.specs.declared.rounded.TileNumbers.{TileNumbers}
 use Rattle.chain_gather.specs.Gathered.{AreTileNumbers}
-use Rattle.chain_gather.specs.Links.{AreRecords}
 use Rattle.chain_gather.proofs.Counted.{all_numbers, all_records, known_parts, may_count_as}
 use Rattle.chain_gather.proofs.Covering.{are_covered}
 use Rattle.chain_gather.proofs.tiles.gather_made.Goals as goal

@@ -1,4 +1,4 @@
-use Rattle.std.proofs.Common.{◌≡◌, List, [], ap, length, subst, sym, ◌∙◌}
+use Rattle.std.proofs.Common.{List, [], ap, length, subst, sym, ◌∙◌}
 use Rattle.std.specs.List.Retain.{DiffersFromLast, IsFiltered}
 use Rattle.std.specs.List.Sorted.{IsPermutation}
 use Rattle.routing.proofs.RecordOrder.{record_eq, records_once}
