@@ -24,7 +24,7 @@ use geom::{NoMemory, Seg};
 use routing::{Part, Piece, Record, piece};
 use std::alloc::Allocator;
 use tile_book::{Book, Limited};
-use tiling::{Bins, Grid};
+use tiling::{Bins, Grid, MOST_TILES};
 
 /// What was gathered from some tiles: their records, their numbers, and how many of their pieces were made anew.
 #[derive(Drop)]
@@ -54,7 +54,7 @@ impl<A: Allocator> Found<A> {
 
     /// Adds a tile whose piece was made anew.
     fn add_anew(&mut self, made: &Piece<A>) -> Result<(), NoMemory>
-        requires { self.old.remade < 65536 }
+        requires { self.old.remade < MOST_TILES }
         ensures records { OnOk result (self.new.records.items ≡ self.old.records.items ++ made.now.records.items) }
         ensures tiles { OnOk result (self.new.tiles.items ≡ self.old.tiles.items ++ (record { hot = made.now.hot; records = length made.now.records.items }) ∷ []) }
         ensures remade { OnOk result (self.new.remade ≡ self.old.remade + 1) }
@@ -80,7 +80,7 @@ fn add_tile<L: Limited, A: Allocator + Copy>(
     requires limits { All (λ s. AreInLimit s.a s.b) segments.now }
     requires candidates { AreCandidates (Owns grid.now tile) segments.now numbers.now }
     requires near { AreTileCandidates grid.now segments.now tile (candidates_of segments.now numbers.now) }
-    requires few { tile < 65536 }
+    requires few { tile < MOST_TILES }
     requires before { AreGathered grid.now segments.now book.now.held tile found.old.records.items found.old.tiles.items found.old.remade }
     ensures { OnOk result (AreGathered grid.now segments.now book.now.held (tile + 1) found.new.records.items found.new.tiles.items found.new.remade) }
 {

@@ -20,14 +20,15 @@ use Rattle.engine.specs.Sinks.{SentAll, SentPart, SinkState}
 use Rattle.engine.specs.Texts.{edges_text_of}
 use Rattle.chain_gather.specs.declared.rounded.TileNumbers.{TileNumbers}
 use Rattle.engine.specs.Rounds.{AreRingsInLimit, AreRoundedOver, IsGridOver, TellsTiles}
-use Rattle.engine.specs.declared.checking.TheConstants.{GREATEST_CREW, SEGMENT_LIMIT}
+use Rattle.engine.specs.declared.checking.TheConstants.{SEGMENT_LIMIT}
+use Rattle.tile_book.specs.declared.draw.TheConstants.{MOST_HANDS}
 use Rattle.engine.specs.declared.engine.Made.{Made}
 use Rattle.engine.specs.declared.engine.Plan.{Plan}
 
 -- the number of workers is within its limits
 pub record IsCrew (workers : ℕ) : Type 0 where
   pub low : 1 ≤ workers
-  pub high : workers ≤ GREATEST_CREW
+  pub high : workers ≤ MOST_HANDS
 
 pub record IsPlan (plan : Plan) : Type 0 where
   pub side : IsSide plan.side

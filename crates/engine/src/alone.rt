@@ -22,7 +22,7 @@ use geom::{NoMemory, Op, RunFault, Seg};
 use noding_test::{Noded, settled};
 use std::alloc::Allocator;
 use std::marker::{Brand, PhantomData};
-use tile_book::Job;
+use tile_book::{Job, MOST_NUMBERS};
 use tiling::{Bins, Grid};
 
 /// The text of the rounded edges of two layers, over tiles of this side, and its report. It is refused as `edges` is,
@@ -158,7 +158,7 @@ fn in_turn<A: Allocator + Copy, J: Job<A>>(
     job: &J,
     limit: u32,
 ) -> Result<Vec<J::Piece, A>, NoMemory>
-    requires few { limit ≤ 65536 }
+    requires few { limit ≤ MOST_NUMBERS }
     requires count { limit ≤ J.count job.now }
     ensures one_each { IfOk result (λ v. length v.items ≡ limit) }
     ensures in_order { IfOk result (λ v. StandInOrder J.Piece.Numbered.number_of v.items) }

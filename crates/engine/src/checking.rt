@@ -15,11 +15,9 @@ ghost use Rattle.engine.specs.Runs.{HasOutline, IsChecked, IsPlan, IsReading, Is
 use crate::engine::Plan;
 use geom::{Fault, Part, Rect, RunFault, Source};
 use std::alloc::Allocator;
+use tile_book::MOST_HANDS;
 use tiling::{GREATEST_SIDE, Grid, LEAST_SIDE};
 use wkt::{Outline, OutlinedLayer};
-
-/// The greatest number of workers.
-const GREATEST_CREW: u32 = 64;
 
 /// The greatest number of segments in both layers together.
 const SEGMENT_LIMIT: u64 = 1_048_576;
@@ -77,7 +75,7 @@ pub(crate) fn check_plan(plan: Plan) -> Result<(), RunFault>
             fault: Fault::BadTile,
         });
     }
-    if plan.workers == 0 || plan.workers > GREATEST_CREW {
+    if plan.workers == 0 || plan.workers > MOST_HANDS {
         return Err(RunFault {
             at: Part::Run,
             fault: Fault::BadWorkers,

@@ -22,8 +22,8 @@ use std::marker::{Brand, PhantomData};
 use std::sync::Wait;
 use std::sync::ledger::Blank;
 use std::thread::Threads;
-use tile_book::{AllPieces, Gate, Job, Limited, Phase, make_all};
-use tiling::{Bins, Grid};
+use tile_book::{AllPieces, Gate, Job, Limited, MOST_HANDS, Phase, make_all};
+use tiling::{Bins, Grid, MOST_TILES};
 
 /// Makes the piece of each cell from the segments in its bin.
 #[derive(Drop)]
@@ -89,7 +89,7 @@ fn gathered<A: Allocator + Copy + Send + Sync, G: Gate + Sync, R: Threads + Wait
     segments: &[Seg],
     gate: &G,
 ) -> Result<Noded<A>, NoMemory>
-    requires workers { (0 < workers) × (workers ≤ 64) }
+    requires workers { (0 < workers) × (workers ≤ MOST_HANDS) }
     requires in_limit { AllInLimit segments.now }
     requires covered { HaveTiles grid.now segments.now }
     ensures rounded { IfOk result (λ n. ∥ AreRounded segments.now n.edges.items ∥₁) }
@@ -122,7 +122,7 @@ fn by_cells<
     requires parts { (blank.parts ≡ L.parts) × (blank.parts ≡ workers) }
     requires limit { tile_count cells.now ≡ L.limit }
     requires tiled { (cells.now ≡ T.grid) × (segments.now ≡ T.segments) }
-    requires workers { (0 < workers) × (workers ≤ 64) }
+    requires workers { (0 < workers) × (workers ≤ MOST_HANDS) }
     requires in_limit { AllInLimit segments.now }
     requires covered_by_cells { HaveTiles cells.now segments.now }
     requires covered { HaveTiles grid.now segments.now }
@@ -162,7 +162,7 @@ pub(crate) fn report_of<A: Allocator + Copy>(
     checked: &Checked<'_, '_>,
     noded: &Noded<A>,
 ) -> Result<Report<A>, NoMemory>
-    requires { length noded.now.tiles.items ≤ 65536 }
+    requires { length noded.now.tiles.items ≤ MOST_TILES }
     ensures segments_a { IfOk result (λ r. r.segments_a ≡ checked.now.segments_a) }
     ensures segments_b { IfOk result (λ r. r.segments_b ≡ checked.now.segments_b) }
     ensures edges { IfOk result (λ r. r.edges ≡ length noded.now.edges.items) }
@@ -194,7 +194,7 @@ fn told_of<A: Allocator>(alloc: A, tiles: &[TileNumbers]) -> Result<Vec<(u32, u3
 
 /// The hot pixels of all tiles.
 fn all_hot(tiles: &[TileNumbers]) -> u64
-    requires { length tiles.now ≤ 65536 }
+    requires { length tiles.now ≤ MOST_TILES }
     ensures { result ≡ sum_by (λ t. t.hot) tiles.now }
 {
     let mut sum = 0;
@@ -206,7 +206,7 @@ fn all_hot(tiles: &[TileNumbers]) -> u64
 
 /// The records of all tiles.
 fn all_records(tiles: &[TileNumbers]) -> u64
-    requires { length tiles.now ≤ 65536 }
+    requires { length tiles.now ≤ MOST_TILES }
     ensures { result ≡ sum_by (λ t. t.records) tiles.now }
 {
     let mut sum = 0;

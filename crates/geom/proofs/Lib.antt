@@ -12,8 +12,6 @@ pub mod Lists
 pub mod Points
 pub mod Same
 pub mod Orders
-pub mod Pairs
-pub mod PairLaws
 pub mod Hobby
 pub mod RouteLists
 pub mod Routes

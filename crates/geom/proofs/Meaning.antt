@@ -14,8 +14,22 @@ use Rattle.geom.proofs.Plane.{RoundsTo, HasPixel}
 use Rattle.geom.proofs.Along.{rounds_alike, meets_box}
 use Rattle.geom.proofs.Boxes.{box_of_between}
 use Rattle.geom.proofs.Pixels.{has_pixel, in_pixel, pixel_is, piece, meets_in}
-use Rattle.geom.proofs.Pairs.{on_turned}
 use Rattle.geom.proofs.RouteLaws.{earlier_by_order, order_by_earlier, one_route, route_starts, route_ends}
+
+-- a segment turned round
+turned_on : (n m z d a b : ℤ) → n *ℤ z ≡ d *ℤ (n *ℤ a +ℤ m *ℤ (b -ℤ a)) → n *ℤ z ≡ d *ℤ (n *ℤ b +ℤ (n -ℤ m) *ℤ (a -ℤ b))
+turned_on n m z d a b h = let u = simp expand at h in simp expand (omega (arith, linear))
+
+pub on_turned : (a b : Pt) (z : Point) → IsOn a b z → IsOn b a z
+on_turned a b z (m, n, t) = (
+  n -ℤ m,
+  n,
+  record {
+    ratio = record { positive = t.ratio.positive; from = (let h = t.ratio.to in omega (arith, linear)); to = (let h = t.ratio.from in omega (arith, linear)) };
+    x_is = turned_on n m z.x z.n a.x b.x t.x_is;
+    y_is = turned_on n m z.y z.n a.y b.y t.y_is;
+  },
+)
 
 square_of : (z : Point) (c : Pt) → HasPixel z c → IsInSquare z c
 square_of z c h = record { left = h.column.from; right = h.column.below; bottom = h.row.from; top = h.row.below }

@@ -7,7 +7,6 @@ mod edge;
 mod fault;
 pub mod laws;
 mod op;
-mod pair;
 mod pixel;
 mod point;
 mod rational;

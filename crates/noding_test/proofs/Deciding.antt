@@ -14,8 +14,8 @@ use Rattle.geom.specs.Noded.{IsBad, IsLeastBad}
 use Rattle.geom.proofs.Integers.{linear}
 use Rattle.geom.proofs.Lists.{In, contains_in, in_contains}
 use Rattle.geom.proofs.Orders.{pt_cmp, pt_ranks, edge_cmp, edge_ranks, edge_before_itself, edge_before_trans}
-use Rattle.geom.proofs.Pairs.{AreOnOneSide}
-use Rattle.geom.proofs.PairLaws.{Decides, at_ends, beside_first, beside_second, crossing_first, crossing_second, on_one_line, said_bad, said_clean}
+use Rattle.noding_test.proofs.CommonPoints.{AreOnOneSide}
+use Rattle.noding_test.proofs.MeetingLaws.{Decides, at_ends, beside_first, beside_second, crossing_first, crossing_second, on_one_line, said_bad, said_clean}
 use Rattle.noding_test.proofs.VerdictLaws.{clean_not_bad}
 
 -- P holds, or it doesn't

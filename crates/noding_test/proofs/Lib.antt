@@ -4,3 +4,5 @@ pub mod Deciding
 pub mod Least
 pub mod OwnVerdicts
 pub mod EdgeBins
+pub mod CommonPoints
+pub mod MeetingLaws

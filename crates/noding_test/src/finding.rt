@@ -11,6 +11,7 @@ ghost use Rattle.hot_pixel.specs.Rects.{IsIn};
 ghost use Rattle.noding_test.specs.Verdicts.{chosen_edges, common_corner, AreNear, IsLeastPair, IsOwnBad};
 ghost use Rattle.noding_test.specs.Search.{IsFirstPartner};
 
+use crate::meeting::meet_only_at_ends;
 use crate::verdicts::Verdict;
 use geom::{Counted, Edge, NoMemory, Pt, Rect};
 use std::alloc::Allocator;
@@ -29,7 +30,7 @@ fn is_own_bad(tile: &Rect, e: &Edge, f: &Edge) -> bool
     requires f_in { AreInLimit f.now.p f.now.q }
     ensures { MatchBool result (IsBad e.now f.now × IsIn tile.now (common_corner e.now f.now)) (¬ (IsBad e.now f.now × IsIn tile.now (common_corner e.now f.now))) }
 {
-    tile.holds(common_corner(e, f)) && !e.meets_only_at_ends(f)
+    tile.holds(common_corner(e, f)) && !meet_only_at_ends(e, f)
 }
 
 /// Whether an edge ends to the left of where another one begins.

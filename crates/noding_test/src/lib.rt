@@ -2,6 +2,7 @@
 #![tactic(auto)]
 
 mod finding;
+mod meeting;
 mod noded_edges;
 mod noding;
 mod own;

@@ -20,7 +20,7 @@ use std::marker::Brand;
 use std::sync::Wait;
 use std::sync::ledger::Blank;
 use std::thread::Threads;
-use tile_book::{Filled, Gate, Job, Limited, Phase, fill};
+use tile_book::{Filled, Gate, Job, Limited, MOST_HANDS, Phase, fill};
 use tiling::{Bins, Grid};
 
 /// Makes the verdict of each tile from the edges in its bin.
@@ -56,7 +56,7 @@ pub fn noded<A: Allocator + Copy + Send + Sync, G: Gate + Sync, R: Threads + Wai
     workers: u32,
     gate: &G,
 ) -> Result<Noded<A>, Fault>
-    requires workers { (0 < workers) × (workers ≤ 64) }
+    requires workers { (0 < workers) × (workers ≤ MOST_HANDS) }
     requires limits { All (λ c. AreInLimit c.edge.p c.edge.q) rounded.edges.items }
     requires covered { EdgesHaveTiles grid.now (edges_of rounded.edges.items) }
     ensures { MatchResult result (IsAllOf rounded) (IsTestFault (edges_of rounded.edges.items)) }
@@ -83,7 +83,7 @@ fn by_tiles<
     requires name { blank.name ≡ L.name }
     requires parts { (blank.parts ≡ L.parts) × (blank.parts ≡ workers) }
     requires limit { tile_count grid.now ≡ L.limit }
-    requires workers { (0 < workers) × (workers ≤ 64) }
+    requires workers { (0 < workers) × (workers ≤ MOST_HANDS) }
     requires limits { All (λ c. AreInLimit c.edge.p c.edge.q) rounded.edges.items }
     requires covered { EdgesHaveTiles grid.now (edges_of rounded.edges.items) }
     ensures { MatchResult result (IsAllOf rounded) (IsTestFault (edges_of rounded.edges.items)) }
@@ -113,7 +113,7 @@ fn least_bad_of<
     requires name { blank.name ≡ L.name }
     requires parts { (blank.parts ≡ L.parts) × (blank.parts ≡ workers) }
     requires limit { tile_count grid.now ≡ L.limit }
-    requires workers { (0 < workers) × (workers ≤ 64) }
+    requires workers { (0 < workers) × (workers ≤ MOST_HANDS) }
     requires limits { All (λ c. AreInLimit c.edge.p c.edge.q) counted.now }
     requires ascending { ∥ AllPairs (λ c d. IsEdgeBefore c.edge d.edge) counted.now ∥₁ }
     requires covered { EdgesHaveTiles grid.now (edges_of counted.now) }

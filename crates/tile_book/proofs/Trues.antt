@@ -7,6 +7,7 @@ use mathlib.Core.Logic.{dite}
 use native.Mathlib.Decide.{ℕ_discrete}
 use Rattle.tile_book.specs.History.{one_if, is_in}
 use Rattle.tile_book.specs.Machine.{CoreView, trues, IsSound, new_core}
+use Rattle.tile_book.specs.declared.draw.TheConstants.{MOST_HANDS, MOST_NUMBERS}
 
 pub trues_le : (bs : List Bool) → trues bs ≤ length bs
 trues_le [] = omega arith
@@ -65,7 +66,7 @@ false_at (suc n) zero = refl
 false_at (suc n) (suc k) = false_at n k
 
 -- a new core is sound
-pub starts : (n hands : ℕ) → n ≤ 65536 → hands ≤ 64 → IsSound (new_core n hands)
+pub starts : (n hands : ℕ) → n ≤ MOST_NUMBERS → hands ≤ MOST_HANDS → IsSound (new_core n hands)
 starts n hands small few = record {
   limit = small;
   hands = omega (arith, few, length-replicate hands false);

@@ -5,6 +5,7 @@ use Rattle.tile_book.specs.declared.desk_core.Event.TheVariants.{Draw, Post, Sto
 use Rattle.tile_book.specs.declared.desk_core.Reply.{Reply}
 use Rattle.tile_book.specs.declared.desk_core.Reply.TheVariants.{Number, None, Ok, Stranger, Double, NoHand}
 use Rattle.tile_book.specs.History.{has_ended, live_draws, accepted_in, is_in, one_if}
+use Rattle.tile_book.specs.declared.draw.TheConstants.{MOST_HANDS, MOST_NUMBERS}
 
 pub record CoreView : Type 0 where
   pub limit : ℕ
@@ -18,8 +19,8 @@ trues [] = 0
 trues (b ∷ bs) = one_if b + trues bs
 
 pub record IsSound (c : CoreView) : Type 0 where
-  pub limit : c.limit ≤ 65536
-  pub hands : length c.spent ≤ 64
+  pub limit : c.limit ≤ MOST_NUMBERS
+  pub hands : length c.spent ≤ MOST_HANDS
   pub word : c.word ≤ c.limit + trues c.spent
   pub places : length c.held ≡ c.limit
   pub held : (k : ℕ) → k < c.limit → slice_index_or c.held k false ≡ is_in k c.accepted

@@ -5,6 +5,7 @@ ghost use Rattle.tile_book.specs.Calls.{HasLegalPost, post_told};
 ghost use Rattle.tile_book.specs.Replies.{SentBack};
 
 use crate::book::{Book, Numbered, Returned};
+use crate::draw::{MOST_HANDS, MOST_NUMBERS};
 use crate::share::{Limited, Share};
 use geom::NoMemory;
 use std::alloc::Allocator;
@@ -41,8 +42,8 @@ impl<P: Numbered + Drop, L: Limited, A: Allocator + Copy> Desk<P, L, A> {
     ) -> Result<(Desk<P, L, A>, Vec<Share<L>, A>), NoMemory>
         requires name { blank.name ≡ L.name }
         requires parts { (blank.parts ≡ L.parts) × (blank.parts ≡ shares) }
-        requires limit { (limit ≡ L.limit) × (limit ≤ 65536) }
-        requires shares { (0 < shares) × (shares ≤ 64) }
+        requires limit { (limit ≡ L.limit) × (limit ≤ MOST_NUMBERS) }
+        requires shares { (0 < shares) × (shares ≤ MOST_HANDS) }
         ensures { IfOk result (λ d. (d.0.limit ≡ limit) × (d.0.shares ≡ shares) × (vec_len d.1 ≡ shares) × All (λ s. s ≡ 0) d.1.items) }
     {
         let mut made = Vec::with_capacity(alloc, shares as usize)?;

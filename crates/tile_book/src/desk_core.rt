@@ -6,6 +6,7 @@ ghost use Rattle.tile_book.specs.History.{IsLegal, followed_by};
 ghost use Rattle.tile_book.specs.declared.desk_core.Event.{Event};
 ghost use Rattle.tile_book.specs.declared.desk_core.Reply.{Reply};
 
+use crate::draw::{MOST_HANDS, MOST_NUMBERS};
 use geom::NoMemory;
 use std::alloc::Allocator;
 use std::marker::Model;
@@ -57,8 +58,8 @@ impl<A: Allocator> Core<A> {
     pub fn new(alloc: A, limit: u32, hands: u32) -> Result<Core<A>, NoMemory>
     where
         A: Copy,
-        requires limit { limit ≤ 65536 }
-        requires hands { hands ≤ 64 }
+        requires limit { limit ≤ MOST_NUMBERS }
+        requires hands { hands ≤ MOST_HANDS }
         ensures new { IfOk result (λ c. c ≡ new_core limit hands) }
         ensures no_history { IfOk result (λ c. Agrees c []) }
     {

@@ -12,6 +12,12 @@ use geom::NoMemory;
 use std::alloc::Allocator;
 use std::marker::Model;
 
+/// How many numbers a draw has at most.
+pub const MOST_NUMBERS: u32 = 65_536;
+
+/// How many hands a draw has at most.
+pub const MOST_HANDS: u32 = 64;
+
 /// The numbers below a limit, which many hands draw. Contracts see which draw it is, its limit, and how many hands it has.
 #[derive(Drop)]
 pub struct Draw<A: Allocator> {
@@ -30,7 +36,7 @@ impl<A: Allocator> Model for Draw<A> {
 
     ghost view = { λ d. record { table = d.table.shared.table_id; limit = d.limit; hands = d.hands } };
 
-    ghost invariant = { λ d. (d.table.shared.table_id.words ≡ 1) × (d.table.shared.key ≡ record { limit = d.limit; hands = d.hands }) × (d.limit ≤ 65536) × (0 < d.hands) × (d.hands ≤ 64) };
+    ghost invariant = { λ d. (d.table.shared.table_id.words ≡ 1) × (d.table.shared.key ≡ record { limit = d.limit; hands = d.hands }) × (d.limit ≤ MOST_NUMBERS) × (0 < d.hands) × (d.hands ≤ MOST_HANDS) };
 }
 
 /// The right to draw. Contracts see its draw, whether it is spent, and the numbers that it drew, in their order.
@@ -77,8 +83,8 @@ impl<A: Allocator> Draw<A> {
     pub fn new(alloc: A, limit: u32, hands: u32) -> Result<(Draw<A>, Vec<Hand, A>), NoMemory>
     where
         A: Copy,
-        requires limit { limit ≤ 65536 }
-        requires hands { (0 < hands) × (hands ≤ 64) }
+        requires limit { limit ≤ MOST_NUMBERS }
+        requires hands { (0 < hands) × (hands ≤ MOST_HANDS) }
         ensures draw { IfOk result (λ d. (d.0.limit ≡ limit) × (d.0.hands ≡ hands)) }
         ensures hands { IfOk result (λ d. (vec_len d.1 ≡ hands) × All (λ h. (h.draw ≡ d.0) × (h.spent ≡ false) × (h.drawn ≡ [])) d.1.items) }
     {
@@ -106,7 +112,7 @@ impl<A: Allocator> Draw<A> {
     pub fn draw(&self, hand: &mut Hand) -> Option<u32>
         requires own { hand.old.draw ≡ self.now }
         ensures own { hand.new.draw ≡ self.now }
-        ensures small { IfSome result (λ _. self.now.limit ≤ 65536) }
+        ensures small { IfSome result (λ _. self.now.limit ≤ MOST_NUMBERS) }
         ensures some { IfSome result (λ k. (k < self.now.limit) × (hand.old.spent ≡ false) × (hand.new.spent ≡ false) × (hand.new.drawn ≡ hand.old.drawn ++ k ∷ []) × All (λ x. x < k) hand.old.drawn) }
         ensures none { IfNone result ((hand.new.spent ≡ true) × (hand.new.drawn ≡ hand.old.drawn)) }
         ensures live { hand.old.spent ≡ false → (word : ℕ) × DrawsLegally self.now.limit word (word + 1) false hand.new.spent (draw_told result) }

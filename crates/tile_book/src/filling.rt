@@ -7,7 +7,7 @@ ghost use Rattle.tile_book.specs.Growth.{HasGrown};
 use crate::book::{Book, Numbered};
 use crate::crew::run_workers;
 use crate::desk::{Desk, close};
-use crate::draw::{Draw, Hand, finish};
+use crate::draw::{Draw, Hand, MOST_HANDS, MOST_NUMBERS, finish};
 use crate::gate::{Gate, Phase};
 use crate::job::Job;
 use crate::share::{Limited, Share};
@@ -49,8 +49,8 @@ where
     J::Piece: Send,
     requires name { blank.name ≡ L.name }
     requires parts { (blank.parts ≡ L.parts) × (blank.parts ≡ workers) }
-    requires limit { (limit ≡ L.limit) × (limit ≤ 65536) }
-    requires workers { (0 < workers) × (workers ≤ 64) }
+    requires limit { (limit ≡ L.limit) × (limit ≤ MOST_NUMBERS) }
+    requires workers { (0 < workers) × (workers ≤ MOST_HANDS) }
     requires count { limit ≤ J.count job.now }
     ensures limit { IfOk result (λ f. f.book.limit ≡ limit) }
     ensures counted { IfOk result (λ f. length f.book.accepted + f.returned ≡ limit) }
@@ -93,8 +93,8 @@ where
     J::Piece: Send,
     requires name { blank.name ≡ L.name }
     requires parts { (blank.parts ≡ L.parts) × (blank.parts ≡ workers) }
-    requires limit { (limit ≡ L.limit) × (limit ≤ 65536) }
-    requires workers { (0 < workers) × (workers ≤ 64) }
+    requires limit { (limit ≡ L.limit) × (limit ≤ MOST_NUMBERS) }
+    requires workers { (0 < workers) × (workers ≤ MOST_HANDS) }
     requires count { limit ≤ J.count job.now }
     ensures one_each { IfOk result (λ all. length all.pieces.items ≡ limit) }
     ensures in_order { IfOk result (λ all. StandInOrder J.Piece.Numbered.number_of all.pieces.items) }
@@ -111,7 +111,7 @@ pub(crate) fn completed<A: Allocator + Copy, J: Job<A>, L: Limited>(
     job: &J,
     book: Book<J::Piece, L, A>,
 ) -> Result<AllPieces<J::Piece, A>, NoMemory>
-    requires few { book.limit ≤ 65536 }
+    requires few { book.limit ≤ MOST_NUMBERS }
     requires count { book.limit ≤ J.count job.now }
     ensures one_each { IfOk result (λ all. length all.pieces.items ≡ book.limit) }
     ensures in_order { IfOk result (λ all. StandInOrder J.Piece.Numbered.number_of all.pieces.items) }
@@ -142,7 +142,7 @@ pub fn settle<P: Numbered + Drop, L: Limited, A: Allocator + Copy>(
     ended: Vec<Ended<L>, A>,
 ) -> Result<Filled<P, L, A>, NoMemory>
     requires own { All (λ e. (e.hand.draw ≡ draw) × HasGrown e) ended.items }
-    requires all { (vec_len ended ≡ draw.hands) × (draw.hands ≡ desk.shares) × (draw.hands ≤ 64) }
+    requires all { (vec_len ended ≡ draw.hands) × (draw.hands ≡ desk.shares) × (draw.hands ≤ MOST_HANDS) }
     requires limit { draw.limit ≡ desk.limit }
     ensures limit { IfOk result (λ f. f.book.limit ≡ desk.limit) }
     ensures counted { IfOk result (λ f. length f.book.accepted + f.returned ≡ desk.limit) }
@@ -165,7 +165,7 @@ fn parted<L: Limited, A: Allocator + Copy>(
     mut ended: Vec<Ended<L>, A>,
 ) -> Result<(Vec<Hand, A>, Vec<Share<L>, A>, u64), NoMemory>
     requires own { All (λ e. (e.hand.draw ≡ draw.now) × HasGrown e) ended.items }
-    requires few { vec_len ended ≤ 64 }
+    requires few { vec_len ended ≤ MOST_HANDS }
     ensures lens { IfOk result (λ r. (vec_len r.0 ≡ vec_len ended) × (vec_len r.1 ≡ vec_len ended)) }
     ensures spent { IfOk result (λ r. All (λ h. (h.draw ≡ draw.now) × (h.spent ≡ true)) r.0.items) }
     ensures counted { IfOk result (λ r. sum r.1.items + r.2 ≡ length (flat_map (λ h. h.drawn) r.0.items)) }

@@ -19,7 +19,7 @@ pub use book::{Book, Numbered, Returned};
 pub use crew::run_workers;
 pub use desk::{Desk, close};
 pub use desk_core::{Core, Event, Reply};
-pub use draw::{Draw, Drawn, Hand, finish};
+pub use draw::{Draw, Drawn, Hand, MOST_HANDS, MOST_NUMBERS, finish};
 pub use filling::{AllPieces, Filled, fill, make_all, settle};
 pub use gate::{Gate, OpenGate, Phase};
 pub use job::Job;

@@ -7,6 +7,7 @@ use Rattle.geom.specs.declared.fault.Fault.TheVariants.{LayerLong, Syntax, Numbe
 use Rattle.geom.specs.declared.point.Pt.{Pt}
 use Rattle.geom.specs.declared.rect.Rect.{Rect}
 use Rattle.geom.specs.Box.{IsInBox}
+use Rattle.tiling.specs.declared.grid.TheConstants.{GREATEST_SIDE, LEAST_SIDE, MOST_TILES}
 
 -- a grid: its least corner, the side of its tiles, and how many columns and rows it has
 pub record Tiling : Type 0 where
@@ -45,10 +46,10 @@ abbrev pub tile_count : Tiling → ℕ
 tile_count g = g.rows * g.columns
 
 abbrev pub IsSide : ℕ → Type 0
-IsSide side = (16 ≤ side) × (side ≤ 33_554_432)
+IsSide side = (LEAST_SIDE ≤ side) × (side ≤ GREATEST_SIDE)
 
 abbrev pub most_tiles : ℕ
-most_tiles = 65_536
+most_tiles = MOST_TILES
 
 -- the grid of this side that reaches from the least to the greatest corner of the box, or one without tiles
 pub record IsOver (r : Rect) (side : ℕ) (g : Tiling) : Type 0 where

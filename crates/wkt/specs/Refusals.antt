@@ -7,10 +7,11 @@ use Rattle.geom.specs.declared.fault.Fault.TheVariants.{LayerLong, Syntax, Numbe
 use Rattle.geom.specs.Limit.{coordinate_limit}
 use Rattle.geom.specs.Segments.{same_point}
 use Rattle.wkt.specs.LayerText.{Number, Point, Ring, IsLayer, IsBroken}
+use Rattle.wkt.specs.declared.check.TheConstants.{LENGTH_LIMIT}
 
 -- the greatest number of bytes of a layer text
 abbrev pub length_limit : ℕ
-length_limit = 268_435_456
+length_limit = LENGTH_LIMIT
 
 -- ---- numbers
 

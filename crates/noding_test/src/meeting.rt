@@ -6,32 +6,29 @@ ghost use Rattle.geom.specs.Limit.{AreInLimit};
 ghost use Rattle.geom.specs.Order.{IsBefore, IsUpTo};
 ghost use Rattle.geom.specs.Noded.{IsBad, MeetOnlyAtEnds};
 
-use crate::edge::Edge;
-use crate::point::Pt;
+use geom::{Edge, Pt};
 
-impl Edge {
-    /// Whether every common point of two edges is an end of both. An edge doesn't meet itself so.
-    pub fn meets_only_at_ends(&self, other: &Edge) -> bool
-        requires self_in { AreInLimit self.now.p self.now.q }
-        requires other_in { AreInLimit other.now.p other.now.q }
-        ensures exact { IsTrue result ↔ MeetOnlyAtEnds self.now other.now }
-        ensures bad { OnFalse result (IsBad self.now other.now) }
-    {
-        let to_p = self.side(other.p);
-        let to_q = self.side(other.q);
-        if are_zero(to_p, to_q) {
-            return follow_each_other(self, other);
-        }
-        if are_on_one_side(to_p, to_q) {
-            return true;
-        }
-        let from_p = other.side(self.p);
-        let from_q = other.side(self.q);
-        if are_on_one_side(from_p, from_q) {
-            return true;
-        }
-        has_zero(to_p, to_q) && has_zero(from_p, from_q)
+/// Whether every common point of two edges is an end of both. An edge doesn't meet itself so.
+pub(crate) fn meet_only_at_ends(e: &Edge, f: &Edge) -> bool
+    requires e_in { AreInLimit e.now.p e.now.q }
+    requires f_in { AreInLimit f.now.p f.now.q }
+    ensures exact { IsTrue result ↔ MeetOnlyAtEnds e.now f.now }
+    ensures bad { OnFalse result (IsBad e.now f.now) }
+{
+    let to_p = e.side(f.p);
+    let to_q = e.side(f.q);
+    if are_zero(to_p, to_q) {
+        return follow_each_other(e, f);
     }
+    if are_on_one_side(to_p, to_q) {
+        return true;
+    }
+    let from_p = f.side(e.p);
+    let from_q = f.side(e.q);
+    if are_on_one_side(from_p, from_q) {
+        return true;
+    }
+    has_zero(to_p, to_q) && has_zero(from_p, from_q)
 }
 
 /// Whether one of two edges ends before or where the other begins, in the order of points. On one line that is the
@@ -474,7 +471,7 @@ mod tests {
     fn is_clean(a: (i32, i32), b: (i32, i32), c: (i32, i32), d: (i32, i32)) -> Option<bool> {
         let e = edge(a, b)?;
         let f = edge(c, d)?;
-        Some(e.meets_only_at_ends(&f))
+        Some(meet_only_at_ends(&e, &f))
     }
 
     /// The first row whose answer is another one, for the edges in either order.

@@ -11,6 +11,7 @@ use Rattle.geom.specs.Determinant.{turn, side}
 use Rattle.geom.proofs.Integers.{linear, expand, scale_le, scale_lt, unscale_le, unscale_eq, mul_pos, mul_nonneg, by_sign}
 use Rattle.geom.proofs.Edges.{before_cases, before_strict, PtOrder, before, equal, after, pt_order}
 use Rattle.geom.proofs.Same.{whole_path}
+use Rattle.geom.proofs.Meaning.{on_turned}
 
 -- ---- a point of the edge from a to b, by weights at its ends
 
@@ -468,20 +469,6 @@ crossing_up a b c e h p q n =
     totals F G C E D u v = omega (arith, linear)
 
 -- an edge turned round
-turned_on : (n m z d a b : ℤ) → n *ℤ z ≡ d *ℤ (n *ℤ a +ℤ m *ℤ (b -ℤ a)) → n *ℤ z ≡ d *ℤ (n *ℤ b +ℤ (n -ℤ m) *ℤ (a -ℤ b))
-turned_on n m z d a b h = let u = simp expand at h in simp expand (omega (arith, linear))
-
-pub on_turned : (a b : Pt) (z : Point) → IsOn a b z → IsOn b a z
-on_turned a b z (m, n, t) = (
-  n -ℤ m,
-  n,
-  record {
-    ratio = record { positive = t.ratio.positive; from = (let h = t.ratio.to in omega (arith, linear)); to = (let h = t.ratio.from in omega (arith, linear)) };
-    x_is = turned_on n m z.x z.n a.x b.x t.x_is;
-    y_is = turned_on n m z.y z.n a.y b.y t.y_is;
-  },
-)
-
 second_turned : (a b c e : Pt) → ShareInner a b e c → ShareInner a b c e
 second_turned a b c e h = record { z = h.z; on_first = h.on_first; on_second = on_turned e c h.z h.on_second; inner = ⊎_elim (λ n. inl n) (λ n. inr (λ w. n (⊎_elim (λ r. inr r) (λ r. inl r) w))) h.inner }
 

@@ -8,7 +8,7 @@ use Rattle.geom.specs.declared.edge.Edge.{Edge}
 use Rattle.geom.specs.Order.{IsBefore, IsUpTo}
 use Rattle.geom.specs.Determinant.{side}
 use Rattle.geom.specs.Noded.{IsBad, MeetOnlyAtEnds}
-use Rattle.geom.proofs.Pairs.{AreOnOneSide, ShareInner, beside, lone_end, one_line, following, overlapping, crossing_inner, exchanged}
+use Rattle.noding_test.proofs.CommonPoints.{AreOnOneSide, ShareInner, beside, lone_end, one_line, following, overlapping, crossing_inner, exchanged}
 
 bad : (e f : Edge) → ShareInner e.p e.q f.p f.q → IsBad e f
 bad e f h = (
