@@ -3,6 +3,7 @@
 ghost use Rattle.std.specs.Prelude.{◌≡◌, ◌↔◌, ◌^◌, ◌⊎◌, IsTrue, IfSome, ℤ, pos, ◌+ℤ◌, ◌-ℤ◌, ◌*ℤ◌, ◌≤ℤ◌, ◌<ℤ◌, neg_ℤ};
 ghost use Rattle.geom.specs.Limit.{AreInLimit, IsQuotientWithin, IsWithin, coordinate_limit};
 ghost use Rattle.geom.specs.Hot.{CrossIn};
+ghost use Rattle.geom.specs.Pixel.{nearest};
 ghost use Rattle.geom.specs.declared.point.Pt.{Pt};
 ghost use Rattle.crossing.specs.Crossing.{CrossesAt};
 
@@ -34,7 +35,7 @@ fn crossing_at(s: &Seg, det: i64, e: i64, f: i64) -> Option<Pt>
     ensures { (p : Pt) → (result ≡ Some p) ↔ CrossesAt s.now.a s.now.b det e f p }
 {
     if is_ratio(e, det) && is_ratio(f, det) {
-        Some(point_at(s, det, e).pixel())
+        Some(pixel_at(s, det, e))
     } else {
         None
     }
@@ -45,6 +46,25 @@ fn is_ratio(m: i64, n: i64) -> bool
     ensures { IsTrue result ↔ ((pos 0 ≤ℤ m) × (m ≤ℤ n)) }
 {
     0 <= m && m <= n
+}
+
+/// The pixel of the point of s at e / det. An end is its own pixel, without a division.
+fn pixel_at(s: &Seg, det: i64, e: i64) -> Pt
+    requires s_in { AreInLimit s.now.a s.now.b }
+    requires det_small { IsWithin (2 ^ 59) det }
+    requires positive { pos 0 <ℤ det }
+    requires low { pos 0 ≤ℤ e }
+    requires high { e ≤ℤ det }
+    ensures x { result.x ≡ nearest ((det *ℤ s.now.a.x) +ℤ (e *ℤ (s.now.b.x -ℤ s.now.a.x))) det }
+    ensures y { result.y ≡ nearest ((det *ℤ s.now.a.y) +ℤ (e *ℤ (s.now.b.y -ℤ s.now.a.y))) det }
+{
+    if e == 0 {
+        s.a
+    } else if e == det {
+        s.b
+    } else {
+        point_at(s, det, e).pixel()
+    }
 }
 
 /// The point of s at e / det.
