@@ -8,14 +8,15 @@ use Rattle.geom.specs.Directed.{AreResultEdges}
 use Rattle.geom.proofs.SamePolygons.{same_polygons}
 use Rattle.points_law.proofs.OneResult.{one_directed}
 use Rattle.engine.specs.Determined.{HaveOneSize, ResultSizesAreOne, ResultTextIsOne}
-use Rattle.engine.specs.Results.{IsResultText, IsResultWritten, result_line}
+use Rattle.wkt.specs.Canonical.{multi_text}
+use Rattle.engine.specs.Results.{IsResultText, IsResultWritten}
 use Rattle.engine.specs.declared.engine.Plan.{Plan}
 use Rattle.engine.specs.declared.text.Report.{Report}
 use Rattle.engine.proofs.Determined.{one_counted, one_size, text_prop}
 
 -- of the same rounded edges
 text_of_one : (op : Op) (cs ds : List Counted) (s t : List ℕ) → IsResultText op cs s → IsResultText op ds t → cs ≡ ds → s ≡ t
-text_of_one op cs ds s t h k e = h.written ∙ ap result_line polygons ∙ sym k.written
+text_of_one op cs ds s t h k e = h.written ∙ ap multi_text polygons ∙ sym k.written
   where
     directed : h.directed ≡ k.directed
     directed = one_directed op ds h.directed k.directed (subst (λ (us : List Counted). AreResultEdges op us h.directed) e h.bound) k.bound

@@ -1,5 +1,5 @@
--- From the edges and the polygons of a result to its text.
-use Rattle.std.proofs.Common.{◌≡◌, ◌⊎◌, inl, inr, ℕ, List, [], ◌∷◌, ◌++◌, map, refl, sym, ◌∙◌, ap, subst}
+-- The edges of a result, by those of two rounded layers.
+use Rattle.std.proofs.Common.{◌≡◌, ◌⊎◌, inl, inr, List, sym, ◌∙◌, ap, subst}
 use Rattle.std.specs.Prelude.{All, AllPairs, Contains}
 use Rattle.std.proofs.Math.Logic.{∥∥₁_elim}
 use Rattle.std.proofs.Props.{props}
@@ -9,8 +9,6 @@ use Rattle.geom.specs.declared.point.Pt.{Pt}
 use Rattle.geom.specs.declared.edge.Edge.{Edge}
 use Rattle.geom.specs.declared.edge.Counted.{Counted}
 use Rattle.geom.specs.declared.directed.DirectedEdge.{DirectedEdge}
-use Rattle.geom.specs.declared.ring.Polygon.{Polygon}
-use Rattle.geom.specs.Canonical.{Shape, written_rings}
 use Rattle.geom.specs.Directed.{AreResultEdges, IsResultEdge, Runs}
 use Rattle.geom.specs.Limit.{AreInLimit}
 use Rattle.geom.specs.Noded.{IsNoded}
@@ -20,31 +18,6 @@ use Rattle.geom.specs.Rounded.{IsEdgeBefore, edges_of}
 use Rattle.geom.proofs.Edges.{before_strict, edge_path}
 use Rattle.points_law.specs.Law.{AreLayers}
 use Rattle.polygonize.proofs.CycleRings.{less_apart}
-use Rattle.wkt.specs.Canonical.{closed, more_of, multi_text, polygon_text, rings_of}
-use Rattle.wkt.specs.Refusals.{IsLayerOf}
-use Rattle.engine.specs.Results.{result_line, shape_text}
-
-abbrev pub shapes : {M : Type 0} → List (Polygon M) → List Shape
-shapes polygons = map (λ p. record { shell = p.shell; holes = p.holes.items }) polygons
-
-more_is : {M : Type 0} (ps : List (Polygon M)) → more_of polygon_text ps ≡ more_of shape_text (shapes ps)
-more_is [] = refl
-more_is (p ∷ ps) = ap (λ t. 44 ∷ 32 ∷ polygon_text p ++ t) (more_is ps)
-
--- the line depends on the points of the polygons alone
-pub line_is : {M : Type 0} (ps : List (Polygon M)) → multi_text ps ≡ result_line (shapes ps)
-line_is [] = refl
-line_is (p ∷ ps) = rw more_is refl
-
-rings_are : {M : Type 0} (ps : List (Polygon M)) → rings_of ps ≡ written_rings (shapes ps)
-rings_are [] = refl
-rings_are (p ∷ ps) = ap (λ (t : List (List Pt)). (p.shell ∷ p.holes.items) ++ t) (rings_are ps)
-
--- what was written reads back as the rings of the polygons
-pub read_back : {M : Type 0} (text : List ℕ) (shown ps : List (Polygon M)) → shown ≡ ps
-    → (line : List ℕ) × (text ≡ line ++ 10 ∷ []) × IsLayerOf line (map closed (rings_of shown))
-    → (line : List ℕ) × (text ≡ line ++ 10 ∷ []) × IsLayerOf line (map closed (written_rings (shapes ps)))
-read_back text shown ps e h = (h.0, h.1, subst (λ (rings : List (List Pt)). IsLayerOf h.0 (map closed rings)) (ap rings_of e ∙ rings_are ps) h.2)
 
 run_in : (d : DirectedEdge) (e : Edge) → Runs d e → AreInLimit e.p e.q → AreInLimit d.from d.to
 run_in d e (inl h) l = let P : DirectedEdge → Type 0 = λ t. AreInLimit t.from t.to in subst P (sym h) l

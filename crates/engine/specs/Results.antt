@@ -1,5 +1,5 @@
 -- The text of a set operation (OGC 06-103r4 for the text; the rest is own).
-use Rattle.std.specs.Prelude.{◌≡◌, ℕ, List, [], ◌∷◌, ◌++◌, All, codes, map}
+use Rattle.std.specs.Prelude.{◌≡◌, ℕ, List, [], ◌∷◌, ◌++◌, All, map}
 use Rattle.geom.specs.declared.op.Op.{Op}
 use Rattle.geom.specs.declared.edge.Counted.{Counted}
 use Rattle.geom.specs.declared.directed.DirectedEdge.{DirectedEdge}
@@ -10,7 +10,7 @@ use Rattle.geom.specs.Pixel.{Point}
 use Rattle.geom.specs.ResultEdges.{holds_at}
 use Rattle.geom.specs.RingParity.{ring_parity}
 use Rattle.polygonize.specs.Written.{AreSimple}
-use Rattle.wkt.specs.Canonical.{closed, listed, ring_text}
+use Rattle.wkt.specs.Canonical.{closed, multi_text}
 use Rattle.wkt.specs.Refusals.{IsLayerOf}
 use Rattle.engine.specs.declared.engine.Plan.{Plan}
 use Rattle.engine.specs.declared.text.Report.{Report}
@@ -18,15 +18,6 @@ use Rattle.engine.specs.declared.operation.Wanted.{Wanted}
 use Rattle.engine.specs.declared.operation.Wanted.TheVariants.{Apply, Edges}
 use Rattle.engine.specs.Runs.{AreEdgesWritten, Reports}
 use Rattle.engine.specs.Texts.{edges_text_of}
-
--- `(`, the shell, the holes, `)`
-abbrev pub shape_text : Shape → List ℕ
-shape_text polygon = listed ring_text polygon.shell polygon.holes
-
--- the canonical line of polygons
-abbrev pub result_line : List Shape → List ℕ
-result_line [] = codes "MULTIPOLYGON EMPTY" ++ 10 ∷ []
-result_line (p ∷ ps) = codes "MULTIPOLYGON " ++ (listed shape_text p ps ++ 10 ∷ [])
 
 -- The text is the canonical line of the polygons of the result's directed edges: each shell with its holes, in order. Their rings
 -- together have each of these edges once, none visits a point twice, and each is read from its least rotation. Any point lies in
@@ -41,7 +32,7 @@ pub record IsResultText (op : Op) (counted : List Counted) (text : List ℕ) : T
   pub simple : AreSimple (written_rings polygons)
   pub least : All (λ ring. IsLeastRotation ring ring) (written_rings polygons)
   pub points : (z : Point) → ring_parity (written_rings polygons) z ≡ holds_at op counted z
-  pub written : text ≡ result_line polygons
+  pub written : text ≡ multi_text polygons
   pub reads : (line : List ℕ) × (text ≡ line ++ 10 ∷ []) × IsLayerOf line (map closed (written_rings polygons))
 
 -- the text of the result, and its report

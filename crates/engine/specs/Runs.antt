@@ -77,7 +77,7 @@ HasOutline text outline = (rings : List Ring) × IsAccepted text rings × IsOutl
 -- what was read of a layer text: its outline, with its rings where they were kept, or why it is refused
 abbrev pub IsReading : {M : Type 0} → List ℕ → Result (OutlinedLayer M) Fault → Type 0
 IsReading text reading = MatchResult reading
-    (λ read. HasOutline text read.outline × AreBounds read.outline.bounds × IfSome read.layer (λ layer. StandsFor text layer.rings.items × AreRingsInLimit layer.rings.items))
+    (λ read. HasOutline text read.outline × AreBounds read.outline.bounds × IfSome read.layer (λ layer. StandsFor text layer × AreRingsInLimit layer))
     (λ fault. IsRefused text fault)
 
 -- the plan, the layers and this grid over them are within their limits; the layers have these numbers of segments

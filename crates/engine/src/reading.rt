@@ -48,8 +48,8 @@ fn rings_of<A: Allocator + Copy>(
     reading: Reading<A>,
 ) -> Result<Layer<A>, NoMemory>
     requires { IsReading text.now reading }
-    ensures answer { IfOk result (λ layer. StandsFor text.now layer.rings.items) }
-    ensures in_limit { IfOk result (λ layer. AreRingsInLimit layer.rings.items) }
+    ensures answer { IfOk result (λ layer. StandsFor text.now layer) }
+    ensures in_limit { IfOk result (λ layer. AreRingsInLimit layer) }
 {
     match reading {
         Ok(

@@ -18,14 +18,14 @@ pub fn segments_of<A: Allocator>(
     b: &Layer<A>,
     count: usize,
 ) -> Result<Vec<Seg, A>, NoMemory>
-    requires a_in { AreRingsInLimit a.now.rings.items }
-    requires b_in { AreRingsInLimit b.now.rings.items }
-    ensures segments { IfOk result (λ v. AreSegments a.now.rings.items b.now.rings.items v.items) }
+    requires a_in { AreRingsInLimit a.now }
+    requires b_in { AreRingsInLimit b.now }
+    ensures segments { IfOk result (λ v. AreSegments a.now b.now v.items) }
     ensures in_limit { IfOk result (λ v. AllInLimit v.items) }
 {
     let mut segments = Vec::with_capacity(alloc, count)?;
-    push_rings(&mut segments, a.rings.as_slice(), Source::A)?;
-    push_rings(&mut segments, b.rings.as_slice(), Source::B)?;
+    push_rings(&mut segments, a.rings(), Source::A)?;
+    push_rings(&mut segments, b.rings(), Source::B)?;
     Ok(segments)
 }
 

@@ -9,7 +9,7 @@ use Rattle.geom.specs.Order.{IsBefore}
 use Rattle.geom.specs.Determinant.{determinant, side}
 use Rattle.geom.specs.Parity.{covers}
 use Rattle.geom.specs.Directed.{Runs}
-use Rattle.geom.specs.Rings.{ring_edges, corners, Corner}
+use Rattle.geom.specs.Rings.{ring_edges, corners, Corner, AreRings}
 
 -- v is the ring's least vertex
 pub record IsLeastVertex (ring : List Pt) (v : Pt) : Type 0 where
@@ -71,3 +71,7 @@ pub data IsOwner (directed : List DirectedEdge) (rings : List (List Pt)) : List 
 abbrev pub AreGrounded : List DirectedEdge → List (List Pt) → Type 0
 AreGrounded directed rings = (hole : List Pt) → Contains rings hole → IsHole hole → (v : Pt) → IsLeastVertex hole v
     → (d : DirectedEdge) × IsNearestBelow directed (left_of v) d × (IsBefore d.from v ⊎ IsBefore d.to v)
+
+-- and so it is of all rings of the directed edges
+abbrev pub HasGroundedRings : List DirectedEdge → Type 0
+HasGroundedRings directed = (rings : List (List Pt)) → AreRings directed rings → AreGrounded directed rings

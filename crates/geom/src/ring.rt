@@ -2,6 +2,7 @@
 
 ghost use Rattle.std.specs.Prelude.{◌≢◌, ◌≡◌, ◌≤◌, List, AllPairs, length};
 ghost use Rattle.geom.specs.declared.point.Pt.{Pt};
+ghost use Rattle.geom.specs.Canonical.{Shape};
 
 use crate::point::Pt;
 use std::alloc::Allocator;
@@ -42,7 +43,29 @@ impl<A: Allocator> Ring<A> {
 /// The rings of a layer text, in text order. Their grouping into polygons has no meaning.
 #[derive(Debug, Drop)]
 pub struct Layer<A: Allocator> {
-    pub rings: Vec<Ring<A>, A>,
+    rings: Vec<Ring<A>, A>,
+}
+
+impl<A: Allocator> Model for Layer<A> {
+    ghost Value = { List (List Pt) };
+
+    ghost view = { λ l. l.rings.items };
+}
+
+impl<A: Allocator> Layer<A> {
+    /// The layer of these rings.
+    pub fn new(rings: Vec<Ring<A>, A>) -> Layer<A>
+        ensures { result ≡ rings.items }
+    {
+        Layer { rings }
+    }
+
+    /// The rings in their order.
+    pub fn rings(&self) -> &[Ring<A>]
+        ensures { result.now ≡ self.now }
+    {
+        &self.rings
+    }
 }
 
 /// A ring of a result: three points or more, and none twice.
@@ -82,6 +105,35 @@ impl<A: Allocator> SimpleRing<A> {
 /// A polygon of a result: its shell, and its holes in order.
 #[derive(Debug, Drop)]
 pub struct Polygon<A: Allocator> {
-    pub shell: SimpleRing<A>,
-    pub holes: Vec<SimpleRing<A>, A>,
+    shell: SimpleRing<A>,
+    holes: Vec<SimpleRing<A>, A>,
+}
+
+impl<A: Allocator> Model for Polygon<A> {
+    ghost Value = { Shape };
+
+    ghost view = { λ p. record { shell = p.shell; holes = p.holes.items } };
+}
+
+impl<A: Allocator> Polygon<A> {
+    /// The polygon of this shell and these holes.
+    pub fn new(shell: SimpleRing<A>, holes: Vec<SimpleRing<A>, A>) -> Polygon<A>
+        ensures { result ≡ record { shell = shell; holes = holes.items } }
+    {
+        Polygon { shell, holes }
+    }
+
+    /// The ring round it.
+    pub fn shell(&self) -> &SimpleRing<A>
+        ensures { result.now ≡ self.now.shell }
+    {
+        &self.shell
+    }
+
+    /// The holes in their order.
+    pub fn holes(&self) -> &[SimpleRing<A>]
+        ensures { result.now ≡ self.now.holes }
+    {
+        &self.holes
+    }
 }

@@ -19,9 +19,9 @@ take_more (x ∷ xs) (suc m) n k j d h e f = ap (λ t. x ∷ (take m xs ++ get_o
     shift : (m n : ℕ) → suc m + suc n ≡ suc (m + suc n)
     shift m n = omega arith
 
-pub one_polygon : {V X : Type 0} (s : V → Shape) (f : X → List Pt) (xs : List X) (at n m : ℕ) (vs more : List V) (v : V) (x : X) → at < length xs → get_or xs at x ≡ x → m ≡ n → more ≡ vs ++ v ∷ [] → (s v).shell ≡ f x → (s v).holes ≡ map f (take n (drop (at + 1) xs))
-    → written_rings (map s vs) ≡ map f (take at xs) → written_rings (map s more) ≡ map f (take (at + (1 + m)) xs)
-one_polygon s f xs at n m vs more v x h e k q p t w = ap (λ u. written_rings (map s u)) q ∙ ap written_rings (map-append s vs (v ∷ [])) ∙ flat_map-append (λ p. p.shell ∷ p.holes) (map s vs) (s v ∷ [])
+pub one_polygon : {X : Type 0} (f : X → List Pt) (xs : List X) (at n m : ℕ) (vs more : List Shape) (v : Shape) (x : X) → at < length xs → get_or xs at x ≡ x → m ≡ n → more ≡ vs ++ v ∷ [] → v.shell ≡ f x → v.holes ≡ map f (take n (drop (at + 1) xs))
+    → written_rings vs ≡ map f (take at xs) → written_rings more ≡ map f (take (at + (1 + m)) xs)
+one_polygon f xs at n m vs more v x h e k q p t w = ap written_rings q ∙ flat_map-append (λ p. p.shell ∷ p.holes) vs (v ∷ [])
     ∙ (λ i. w i ++ ((p i ∷ t i) ++ [])) ∙ ap (λ u. map f (take at xs) ++ u) (append-nil (f x ∷ map f (take n (drop (at + 1) xs))))
     ∙ sym (map-append f (take at xs) (x ∷ take n (drop (at + 1) xs))) ∙ ap (map f) (ap (λ u. take at xs ++ u ∷ take n (drop (at + 1) xs)) (sym e) ∙ take_more xs at n (at + 1) (at + (1 + n)) x h (next at) (sum at n)) ∙ ap (λ u. map f (take (at + (1 + u)) xs)) (sym k)
   where
@@ -48,22 +48,22 @@ begins_at hole [] at w h is b = absurd (omega arith)
 begins_at hole (v ∷ ws) zero w h is b = ap hole (sym is) ∙ b
 begins_at hole (v ∷ ws) (suc at) w h is b = begins_at hole ws at w (omega (arith, h)) is b
 
-pub one_group_more : {V W : Type 0} (s : V → Shape) (hole : W → Bool) (f : W → List Pt) (ws : List W) (at n m : ℕ) (vs more : List V) (v : V) (w : W) → at < length ws → get_or ws at w ≡ w → m ≡ n → more ≡ vs ++ v ∷ []
-    → (s v).shell ≡ f w → (s v).holes ≡ map f (take n (drop (at + 1) ws)) → All (λ v. hole v ≡ true) (take n (drop (at + 1) ws)) → BeginsWithShell hole (drop at ws)
-    → AreGrouped hole f (take at ws) (map s vs) → AreGrouped hole f (take (at + (1 + m)) ws) (map s more)
-one_group_more {V} {W} s hole f ws at n m vs more v w h is e k p t a b g = record {
+pub one_group_more : {W : Type 0} (hole : W → Bool) (f : W → List Pt) (ws : List W) (at n m : ℕ) (vs more : List Shape) (v : Shape) (w : W) → at < length ws → get_or ws at w ≡ w → m ≡ n → more ≡ vs ++ v ∷ []
+    → v.shell ≡ f w → v.holes ≡ map f (take n (drop (at + 1) ws)) → All (λ v. hole v ≡ true) (take n (drop (at + 1) ws)) → BeginsWithShell hole (drop at ws)
+    → AreGrouped hole f (take at ws) vs → AreGrouped hole f (take (at + (1 + m)) ws) more
+one_group_more {W} hole f ws at n m vs more v w h is e k p t a b g = record {
   groups = g.groups ++ last ∷ [];
   together = flat_map-append (λ q. q.shell ∷ q.holes) g.groups (last ∷ []) ∙ ap (λ u. members g.groups ++ u) (append-nil (w ∷ take n (drop (at + 1) ws))) ∙ ap (λ u. u ++ w ∷ take n (drop (at + 1) ws)) g.together
       ∙ ap (λ u. take at ws ++ u ∷ take n (drop (at + 1) ws)) (sym is) ∙ take_more ws at n (at + 1) (at + (1 + n)) w h (next at) (sum at n) ∙ ap (λ u. take (at + (1 + u)) ws) (sym e);
   shells = All-append (λ q. hole q.shell ≡ false) g.groups (last ∷ []) g.shells (All-cons (λ q. hole q.shell ≡ false) last [] (begins_at hole ws at w h is b) (All-nil (λ q. hole q.shell ≡ false)));
   holes = All-append (λ q. All (λ u. hole u ≡ true) q.holes) g.groups (last ∷ []) g.holes (All-cons (λ q. All (λ u. hole u ≡ true) q.holes) last [] a (All-nil (λ q. All (λ u. hole u ≡ true) q.holes)));
-  are_shapes = ap (map s) k ∙ map-append s vs (v ∷ []) ∙ ap (λ u. u ++ s v ∷ []) g.are_shapes ∙ ap (λ u. map (shape_of f) g.groups ++ u ∷ []) same ∙ sym (map-append (shape_of f) g.groups (last ∷ []));
+  are_shapes = k ∙ ap (λ u. u ++ v ∷ []) g.are_shapes ∙ ap (λ u. map (shape_of f) g.groups ++ u ∷ []) same ∙ sym (map-append (shape_of f) g.groups (last ∷ []));
 }
   where
     last : Group W
     last = record { shell = w; holes = take n (drop (at + 1) ws) }
 
-    same : s v ≡ shape_of f last
+    same : v ≡ shape_of f last
     same = λ i. record { shell = p i; holes = t i }
 
     next : (at : ℕ) → at + 1 ≡ suc at

@@ -1,13 +1,12 @@
 //! The polygons of a result.
 
-ghost use Rattle.std.specs.Prelude.{◌≡◌, ◌+◌, ◌<◌, ◌≤◌, true, List, All, IfOk, drop, length, map, take, vec_len};
-ghost use Rattle.geom.specs.declared.point.Pt.{Pt};
+ghost use Rattle.std.specs.Prelude.{◌≡◌, ◌+◌, ◌<◌, ◌≤◌, true, All, IfOk, drop, length, map, take, vec_len};
 ghost use Rattle.geom.specs.Canonical.{ArePolygons, HaveEachEdge, written_rings};
-ghost use Rattle.geom.specs.Holes.{AreGrounded};
+ghost use Rattle.geom.specs.Holes.{HasGroundedRings};
 ghost use Rattle.geom.specs.Limit.{AreInLimit};
 ghost use Rattle.geom.specs.ListOrder.{IsLeastRotation};
 ghost use Rattle.geom.specs.NodedEdges.{AreNodedEdges};
-ghost use Rattle.geom.specs.Rings.{AreRings, Closes};
+ghost use Rattle.geom.specs.Rings.{Closes};
 ghost use Rattle.polygonize.specs.Grouped.{AreGrouped, BeginsWithShell};
 ghost use Rattle.polygonize.specs.Next.{ring_of};
 ghost use Rattle.polygonize.specs.Written.{AreSimple, IsSound};
@@ -60,8 +59,8 @@ fn grouped<A: Allocator + Copy>(
     written: &[Written<A>],
 ) -> Result<Vec<Polygon<A>, A>, NoMemory>
     requires sound { All (λ w. IsSound edges.now w.ring.items) written.now }
-    ensures rings { IfOk result (λ found. written_rings (map (λ p. record { shell = p.shell; holes = p.holes.items }) found.items) ≡ map (λ w. ring_of edges.now w.ring.items) written.now) }
-    ensures groups { BeginsWithShell (λ w. w.place.is_hole) written.now → IfOk result (λ found. AreGrouped (λ w. w.place.is_hole) (λ w. ring_of edges.now w.ring.items) written.now (map (λ p. record { shell = p.shell; holes = p.holes.items }) found.items)) }
+    ensures rings { IfOk result (λ found. written_rings found.items ≡ map (λ w. ring_of edges.now w.ring.items) written.now) }
+    ensures groups { BeginsWithShell (λ w. w.place.is_hole) written.now → IfOk result (λ found. AreGrouped (λ w. w.place.is_hole) (λ w. ring_of edges.now w.ring.items) written.now found.items) }
 {
     let mut polygons = Vec::new(alloc);
     let mut at = 0;
@@ -69,7 +68,7 @@ fn grouped<A: Allocator + Copy>(
         let shell = simple_ring(alloc, edges, &written[at].ring)?;
         let holes = holes_from(alloc, edges, written, at + 1)?;
         at += 1 + holes.len();
-        polygons.push(Polygon { shell, holes })?;
+        polygons.push(Polygon::new(shell, holes))?;
     }
     Ok(polygons)
 }
@@ -83,10 +82,10 @@ pub fn polygons<A: Allocator + Copy>(
 ) -> Result<Vec<Polygon<A>, A>, NoMemory>
     requires closes { Closes directed.now }
     requires in_limit { All (λ d. AreInLimit d.from d.to) directed.now }
-    ensures polygons { AreNodedEdges directed.now → ((rings : List (List Pt)) → AreRings directed.now rings → AreGrounded directed.now rings) → IfOk result (λ found. ArePolygons directed.now (map (λ p. record { shell = p.shell; holes = p.holes.items }) found.items)) }
-    ensures each_edge { IfOk result (λ found. HaveEachEdge directed.now (map (λ p. record { shell = p.shell; holes = p.holes.items }) found.items)) }
-    ensures simple { IfOk result (λ found. AreSimple (written_rings (map (λ p. record { shell = p.shell; holes = p.holes.items }) found.items))) }
-    ensures least { IfOk result (λ found. All (λ ring. IsLeastRotation ring ring) (written_rings (map (λ p. record { shell = p.shell; holes = p.holes.items }) found.items))) }
+    ensures polygons { AreNodedEdges directed.now → HasGroundedRings directed.now → IfOk result (λ found. ArePolygons directed.now found.items) }
+    ensures each_edge { IfOk result (λ found. HaveEachEdge directed.now found.items) }
+    ensures simple { IfOk result (λ found. AreSimple (written_rings found.items)) }
+    ensures least { IfOk result (λ found. All (λ ring. IsLeastRotation ring ring) (written_rings found.items)) }
 {
     let edges = directed.edges();
     let mut written = written_rings(alloc, edges)?;

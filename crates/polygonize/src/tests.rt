@@ -69,8 +69,8 @@ fn text_of<A: Allocator + Copy>(alloc: A, polygons: &[Polygon<A>]) -> Result<Str
     let mut before = "((";
     for polygon in polygons {
         out.push_str(before)?;
-        write_ring(&mut out, alloc, &polygon.shell)?;
-        for hole in &polygon.holes {
+        write_ring(&mut out, alloc, polygon.shell())?;
+        for hole in polygon.holes() {
             out.push_str(", ")?;
             write_ring(&mut out, alloc, hole)?;
         }

@@ -3,7 +3,7 @@
 ghost use Rattle.std.specs.Prelude.{◌≡◌, ℕ, ◌<◌, ◌≤◌, ◌==◌, ◌||◌, ◌++◌, ◌∷◌, [], List, All, Contains, IfOk, OnOk, is_some, length, map, not, slice_index_or, unwrap_or};
 ghost use Rattle.geom.specs.Directed.{AreDirected};
 ghost use Rattle.geom.specs.declared.point.Pt.{Pt};
-ghost use Rattle.geom.specs.Holes.{AreGrounded, IsHole};
+ghost use Rattle.geom.specs.Holes.{AreGrounded, HasGroundedRings, IsHole};
 ghost use Rattle.geom.specs.Limit.{AreInLimit};
 ghost use Rattle.geom.specs.NodedEdges.{AreNodedEdges};
 ghost use Rattle.geom.specs.Rings.{AreRings, Closes};
@@ -271,7 +271,7 @@ pub fn written_rings<A: Allocator + Copy>(
     requires edges_in { All (λ d. AreInLimit d.from d.to) edges.now }
     ensures edges { IfOk result (λ written. HaveEdges edges.now (map (λ w. w.ring.items) written.items)) }
     ensures sound { IfOk result (λ written. All (IsCanonical edges.now) (map (λ w. w.ring.items) written.items)) }
-    ensures written { AreNodedEdges edges.now → ((rings : List (List Pt)) → AreRings edges.now rings → AreGrounded edges.now rings) → IfOk result (λ written. (rings : List (List Pt)) × AreWritten edges.now rings (map placed_ring written.items)) }
+    ensures written { AreNodedEdges edges.now → HasGroundedRings edges.now → IfOk result (λ written. (rings : List (List Pt)) × AreWritten edges.now rings (map placed_ring written.items)) }
 {
     let numbers = start_numbers(alloc, edges)?;
     let cycles = ring_places(alloc, edges)?;

@@ -4,10 +4,10 @@ use Rattle.std.specs.Prelude.{All, codes, slice_index_or}
 use Rattle.std.proofs.lemmas.List.{append-nil, take_more}
 use Rattle.std.proofs.lemmas.Grind.{flat_map-append}
 use Rattle.geom.specs.declared.point.Pt.{Pt}
-use Rattle.geom.specs.declared.ring.Polygon.{Polygon}
+use Rattle.geom.specs.Canonical.{Shape, written_rings}
 use Rattle.geom.specs.Words.{pt_words}
 use Rattle.wkt.specs.Readable.{IsReadable, IsShort}
-use Rattle.wkt.specs.Canonical.{more_of, ring_text, polygon_text, multi_text, rings_of}
+use Rattle.wkt.specs.Canonical.{more_of, ring_text, polygon_text, multi_text}
 use Rattle.wkt.proofs.Inside.{all_of, of_all, both_all}
 
 -- ---- a list
@@ -33,22 +33,22 @@ all_more P xs i d y lt is h k =
     subst (All P) (ap (λ (z : _). take i xs ++ z ∷ []) is ∙ sym (take_more xs i d lt))
     (all_of P (take i xs ++ y ∷ []) (both_all P (take i xs) (y ∷ []) (of_all P (take i xs) h) (k, tt)))
 
-pub rings_more : {A : Type 0} (P : List Pt → Type 0) (ps : List (Polygon A)) (i : ℕ) (d p : Polygon A) → i < length ps → p ≡ slice_index_or ps i d → All P (rings_of (take i ps)) → All P (p.shell ∷ p.holes.items) → All P (rings_of (take (i + 1) ps))
+pub rings_more : (P : List Pt → Type 0) (ps : List Shape) (i : ℕ) (d p : Shape) → i < length ps → p ≡ slice_index_or ps i d → All P (written_rings (take i ps)) → All P (p.shell ∷ p.holes) → All P (written_rings (take (i + 1) ps))
 rings_more P ps i d p lt is h k =
-    let rings : List (List Pt) = p.shell ∷ p.holes.items in
+    let rings : List (List Pt) = p.shell ∷ p.holes in
     subst (All P)
-    (ap (λ (x : List (List Pt)). rings_of (take i ps) ++ x) (sym (append-nil rings))
-    ∙ sym (flat_map-append (λ q. q.shell ∷ q.holes.items) (take i ps) (p ∷ []))
-    ∙ ap rings_of (ap (λ (z : _). take i ps ++ z ∷ []) is ∙ sym (take_more ps i d lt)))
-    (all_of P (rings_of (take i ps) ++ rings) (both_all P (rings_of (take i ps)) rings (of_all P (rings_of (take i ps)) h) (of_all P rings k)))
+    (ap (λ (x : List (List Pt)). written_rings (take i ps) ++ x) (sym (append-nil rings))
+    ∙ sym (flat_map-append (λ q. q.shell ∷ q.holes) (take i ps) (p ∷ []))
+    ∙ ap written_rings (ap (λ (z : _). take i ps ++ z ∷ []) is ∙ sym (take_more ps i d lt)))
+    (all_of P (written_rings (take i ps) ++ rings) (both_all P (written_rings (take i ps)) rings (of_all P (written_rings (take i ps)) h) (of_all P rings k)))
 
 pub all_first : {X : Type 0} (P : X → Type 0) (x : X) (xs : List X) → P x → All P xs → All P (x ∷ xs)
 all_first P x xs h k = all_of P (x ∷ xs) (h, of_all P xs k)
 
-pub rings_first : {A : Type 0} (P : List Pt → Type 0) (p : Polygon A) (ps : List (Polygon A)) → All P (p.shell ∷ p.holes.items) → All P (rings_of ps) → All P (rings_of (p ∷ ps))
+pub rings_first : (P : List Pt → Type 0) (p : Shape) (ps : List Shape) → All P (p.shell ∷ p.holes) → All P (written_rings ps) → All P (written_rings (p ∷ ps))
 rings_first P p ps h k =
-    let rings : List (List Pt) = p.shell ∷ p.holes.items in
-    all_of P (rings ++ rings_of ps) (both_all P rings (rings_of ps) (of_all P rings h) (of_all P (rings_of ps) k))
+    let rings : List (List Pt) = p.shell ∷ p.holes in
+    all_of P (rings ++ written_rings ps) (both_all P rings (written_rings ps) (of_all P rings h) (of_all P (written_rings ps) k))
 
 -- ---- a ring
 
@@ -71,7 +71,7 @@ ring_readable (p ∷ ps) l h k = record { enough = l; short = all_of IsShort (p 
 
 -- ---- the line
 
-pub line_pushed : {A : Type 0} (p : Polygon A) (ps : List (Polygon A)) (start first rest new : List ℕ) → start ≡ codes "MULTIPOLYGON (" → first ≡ start ++ polygon_text p → rest ≡ first ++ more_of polygon_text ps → new ≡ rest ++ codes ")\n"
+pub line_pushed : (p : Shape) (ps : List Shape) (start first rest new : List ℕ) → start ≡ codes "MULTIPOLYGON (" → first ≡ start ++ polygon_text p → rest ≡ first ++ more_of polygon_text ps → new ≡ rest ++ codes ")\n"
     → new ≡ multi_text (p ∷ ps)
 line_pushed p ps start first rest new s f r e =
     let a = polygon_text p in

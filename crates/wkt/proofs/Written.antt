@@ -14,14 +14,14 @@ use Rattle.std.proofs.lemmas.List.{append-nil, length-map, length_push}
 use Rattle.geom.specs.declared.fault.Fault.{Fault}
 use Rattle.geom.specs.declared.fault.Fault.TheVariants.{RingShort, RingOpen}
 use Rattle.geom.specs.declared.point.Pt.{Pt}
-use Rattle.geom.specs.declared.ring.Polygon.{Polygon}
 use Rattle.geom.specs.Limit.{IsWithin, InLimit}
 use Rattle.geom.specs.Segments.{same_point}
+use Rattle.geom.specs.Canonical.{Shape, written_rings}
 use Rattle.geom.specs.Words.{pt_words}
 use Rattle.geom.proofs.Integers.{linear}
 use Rattle.geom.proofs.Points.{same_point_refl}
 use Rattle.wkt.specs.Refusals.{IsLayerOf, length_limit, place_of, is_closed, fault_at, or_else, numbers, all_numbers, first_outside, first_fault, plain, StandsFor}
-use Rattle.wkt.specs.Canonical.{closed, more_of, listed, ring_text, polygon_text, multi_text, rings_of}
+use Rattle.wkt.specs.Canonical.{closed, more_of, listed, ring_text, polygon_text, multi_text}
 use Rattle.wkt.specs.Readable.{IsReadable, IsShort, number_limit}
 use Rattle.wkt.proofs.Surveys.{outside_then, last_of-push}
 use Rattle.wkt.proofs.Inside.{of_all, of_within}
@@ -125,14 +125,14 @@ ring_written n (p ∷ ps) rest h =
     let a = listed_written (IsPoint n) pt_words place_of (λ q. q) IsShort (point_written n) p (ps ++ p ∷ []) rest (inside.0, both IsShort ps p inside.1 inside.0) in
     (record { at = n - length (ring_text (p ∷ ps) ++ rest); points = a.0 }, (a.1, refl), a.2 ∙ same_map (p ∷ (ps ++ p ∷ [])))
 
-abbrev value_of_polygon : {A : Type 0} → Polygon A → List (List Pt)
-value_of_polygon p = map closed (p.shell ∷ p.holes.items)
+abbrev value_of_polygon : Shape → List (List Pt)
+value_of_polygon p = map closed (p.shell ∷ p.holes)
 
-abbrev GoodPolygon : {A : Type 0} → Polygon A → Type 0
-GoodPolygon p = AllByRecursion GoodRing (p.shell ∷ p.holes.items)
+abbrev GoodPolygon : Shape → Type 0
+GoodPolygon p = AllByRecursion GoodRing (p.shell ∷ p.holes)
 
-polygon_written : {A : Type 0} (n : ℕ) (p : Polygon A) (rest : List ℕ) → GoodPolygon p → (v : List Ring) × IsBody n (polygon_text p ++ rest) v rest × (map read_ring v ≡ value_of_polygon p)
-polygon_written n p rest h = listed_written (IsRing n) ring_text read_ring closed GoodRing (ring_written n) p.shell p.holes.items rest h
+polygon_written : (n : ℕ) (p : Shape) (rest : List ℕ) → GoodPolygon p → (v : List Ring) × IsBody n (polygon_text p ++ rest) v rest × (map read_ring v ≡ value_of_polygon p)
+polygon_written n p rest h = listed_written (IsRing n) ring_text read_ring closed GoodRing (ring_written n) p.shell p.holes rest h
 
 capital : (cs t : List ℕ) → Word cs (cs ++ t) t
 capital [] t = refl
@@ -146,29 +146,29 @@ joined_read : (vs : List (List Ring)) → map read_ring (joined vs) ≡ flat_map
 joined_read [] = refl
 joined_read (v ∷ vs) = map_append read_ring v (joined vs) ∙ ap (λ (x : List (List Pt)). map read_ring v ++ x) (joined_read vs)
 
-joined_values : {A : Type 0} (ps : List (Polygon A)) → flat_map (λ x. x) (map value_of_polygon ps) ≡ map closed (rings_of ps)
+joined_values : (ps : List Shape) → flat_map (λ x. x) (map value_of_polygon ps) ≡ map closed (written_rings ps)
 joined_values [] = refl
 joined_values (p ∷ ps) =
-    ap (λ (x : List (List Pt)). map closed (p.shell ∷ p.holes.items) ++ x) (joined_values ps) ∙ sym (map_append closed (p.shell ∷ p.holes.items) (rings_of ps))
+    ap (λ (x : List (List Pt)). map closed (p.shell ∷ p.holes) ++ x) (joined_values ps) ∙ sym (map_append closed (p.shell ∷ p.holes) (written_rings ps))
 
 -- the line, and what stands in place of its line feed
-abbrev pub line_before : {A : Type 0} → List (Polygon A) → List ℕ → List ℕ
+abbrev pub line_before : List Shape → List ℕ → List ℕ
 line_before [] end = codes "MULTIPOLYGON EMPTY" ++ end
 line_before (p ∷ ps) end = codes "MULTIPOLYGON " ++ (listed polygon_text p ps ++ end)
 
-pub line_ended : {A : Type 0} (polygons : List (Polygon A)) → multi_text polygons ≡ line_before polygons (10 ∷ [])
+pub line_ended : (polygons : List Shape) → multi_text polygons ≡ line_before polygons (10 ∷ [])
 line_ended [] = refl
 line_ended (p ∷ ps) = refl
 
-pub line_split : {A : Type 0} (polygons : List (Polygon A)) → multi_text polygons ≡ line_before polygons [] ++ 10 ∷ []
+pub line_split : (polygons : List Shape) → multi_text polygons ≡ line_before polygons [] ++ 10 ∷ []
 line_split [] = refl
 line_split (p ∷ ps) = ap (λ (t : List ℕ). codes "MULTIPOLYGON " ++ (t ++ 10 ∷ [])) (sym (append-nil (listed polygon_text p ps)))
 
 -- What is written is a layer of the polygons' rings, with and without its line feed.
-line_read : {A : Type 0} (polygons : List (Polygon A)) (end : List ℕ) → Spaces end [] → AllByRecursion GoodPolygon polygons
-    → (rings : List Ring) × IsLayer (line_before polygons end) rings × (map read_ring rings ≡ map closed (rings_of polygons))
+line_read : (polygons : List Shape) (end : List ℕ) → Spaces end [] → AllByRecursion GoodPolygon polygons
+    → (rings : List Ring) × IsLayer (line_before polygons end) rings × (map read_ring rings ≡ map closed (written_rings polygons))
 unfolding IsLayer
-line_read {A} [] end blank h =
+line_read [] end blank h =
     let text : List ℕ = multipolygon_word ++ 32 ∷ (empty_word ++ end) in
     ([], inr (text, end, [], [], ([], tt, refl), (32 ∷ (empty_word ++ end), inr (capital multipolygon_word (32 ∷ (empty_word ++ end)), inr (empty_word ++ end, one_space (empty_word ++ end), capital empty_word end, refl))), blank, refl), refl)
 line_read (p ∷ ps) end blank h =
@@ -256,21 +256,21 @@ front_all : {A : Type 0} (P : A → Type 0) (xs ys : List A) → AllByRecursion 
 front_all P [] ys h = (tt, h)
 front_all P (x ∷ xs) ys h = let k = front_all P xs ys h.1 in ((h.0, k.0), k.1)
 
-polygons_good : {A : Type 0} (ps : List (Polygon A)) → AllByRecursion GoodRing (rings_of ps) → AllByRecursion GoodPolygon ps
+polygons_good : (ps : List Shape) → AllByRecursion GoodRing (written_rings ps) → AllByRecursion GoodPolygon ps
 polygons_good [] h = tt
-polygons_good (p ∷ ps) h = let k = front_all GoodRing (p.shell ∷ p.holes.items) (rings_of ps) h in (k.0, polygons_good ps k.1)
+polygons_good (p ∷ ps) h = let k = front_all GoodRing (p.shell ∷ p.holes) (written_rings ps) h in (k.0, polygons_good ps k.1)
 
-pub reads : {A : Type 0} (polygons : List (Polygon A)) → All IsReadable (rings_of polygons) → (line : List ℕ) × (multi_text polygons ≡ line ++ 10 ∷ []) × IsLayerOf line (map closed (rings_of polygons))
+pub reads : (polygons : List Shape) → All IsReadable (written_rings polygons) → (line : List ℕ) × (multi_text polygons ≡ line ++ 10 ∷ []) × IsLayerOf line (map closed (written_rings polygons))
 reads polygons readable = (
   line_before polygons [],
   line_split polygons,
-  line_read polygons [] ([], tt, refl) (polygons_good polygons (good (rings_of polygons) (of_all IsReadable (rings_of polygons) readable))),
+  line_read polygons [] ([], tt, refl) (polygons_good polygons (good (written_rings polygons) (of_all IsReadable (written_rings polygons) readable))),
 )
 
-pub reads_again : {A : Type 0} (polygons : List (Polygon A)) → All IsReadable (rings_of polygons) → length (multi_text polygons) ≤ length_limit → All (λ ring. All InLimit ring) (rings_of polygons)
-    → StandsFor (multi_text polygons) (rings_of polygons)
+pub reads_again : (polygons : List Shape) → All IsReadable (written_rings polygons) → length (multi_text polygons) ≤ length_limit → All (λ ring. All InLimit ring) (written_rings polygons)
+    → StandsFor (multi_text polygons) (written_rings polygons)
 reads_again polygons readable short inside =
-    let all = good (rings_of polygons) (of_all IsReadable (rings_of polygons) readable) in
+    let all = good (written_rings polygons) (of_all IsReadable (written_rings polygons) readable) in
     let read = line_read polygons (10 ∷ []) (10 ∷ [], (refl, tt), refl) (polygons_good polygons all) in
-    let f = fine read.0 (rings_of polygons) all (of_all (λ ring. All InLimit ring) (rings_of polygons) inside) read.2 in
+    let f = fine read.0 (written_rings polygons) all (of_all (λ ring. All InLimit ring) (written_rings polygons) inside) read.2 in
     (read.0, record { read = record { short = short; layer = subst (λ (t : List ℕ). IsLayer t read.0) (sym (line_ended polygons)) read.1 }; inside = f.inside; sound = f.sound }, f.points)

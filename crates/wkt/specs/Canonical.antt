@@ -2,9 +2,9 @@
 -- between, the shell before the holes, each ring's first point again at its end, plain decimals, LF at the end.
 use Rattle.std.specs.Prelude.{ℕ, List, [], ◌∷◌, ◌++◌, codes}
 use Rattle.std.specs.List.{flat_map}
+use Rattle.geom.specs.Canonical.{Shape}
 use Rattle.geom.specs.Words.{pt_words}
 use Rattle.geom.specs.declared.point.Pt.{Pt}
-use Rattle.geom.specs.declared.ring.Polygon.{Polygon}
 
 -- `, ` before each item
 abbrev pub more_of : {X : Type 0} → (X → List ℕ) → List X → List ℕ
@@ -25,13 +25,10 @@ closed [] = []
 closed (p ∷ ps) = p ∷ (ps ++ p ∷ [])
 
 -- the shell, then the holes
-abbrev pub polygon_text : {A : Type 0} → Polygon A → List ℕ
-polygon_text p = listed ring_text p.shell p.holes.items
+abbrev pub polygon_text : Shape → List ℕ
+polygon_text p = listed ring_text p.shell p.holes
 
-abbrev pub multi_text : {A : Type 0} → List (Polygon A) → List ℕ
+-- the canonical line of polygons
+abbrev pub multi_text : List Shape → List ℕ
 multi_text [] = codes "MULTIPOLYGON EMPTY" ++ 10 ∷ []
 multi_text (p ∷ ps) = codes "MULTIPOLYGON " ++ (listed polygon_text p ps ++ 10 ∷ [])
-
--- the rings of polygons in the order of their text
-abbrev pub rings_of : {A : Type 0} → List (Polygon A) → List (List Pt)
-rings_of polygons = flat_map (λ p. p.shell ∷ p.holes.items) polygons

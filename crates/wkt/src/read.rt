@@ -130,16 +130,16 @@ pub struct OutlinedLayer<A: Allocator> {
 /// runs out, it is the outline alone.
 pub fn read_outlined<A: Allocator + Copy>(alloc: A, text: &[u8]) -> Result<OutlinedLayer<A>, Fault>
     ensures answer { MatchResult result (λ read. (rings : List (List PtOf)) × StandsFor text.now rings × IsOutline rings read.outline) (λ fault. IsRefused text.now fault) }
-    ensures rings { IfOk result (λ read. IfSome read.layer (λ layer. StandsFor text.now layer.rings.items)) }
+    ensures rings { IfOk result (λ read. IfSome read.layer (λ layer. StandsFor text.now layer)) }
     ensures bounds_in_limit { IfOk result (λ read. IfSome read.outline.bounds (λ r. AreInLimit r.lo r.hi)) }
-    ensures in_limit { IfOk result (λ read. IfSome read.layer (λ layer. All (λ ring. All InLimit ring) layer.rings.items)) }
+    ensures in_limit { IfOk result (λ read. IfSome read.layer (λ layer. All (λ ring. All InLimit ring) layer)) }
 {
     if text.len() <= ONE_PASS {
         match gather(alloc, text) {
             Ok((outline, rings)) => {
                 return Ok(OutlinedLayer {
                     outline,
-                    layer: Some(Layer { rings }),
+                    layer: Some(Layer::new(rings)),
                 });
             }
             // The text may be at fault behind the place where memory ran out.
@@ -156,11 +156,11 @@ pub fn read_outlined<A: Allocator + Copy>(alloc: A, text: &[u8]) -> Result<Outli
 /// The rings of a layer text in their order, or why it is refused, as `check_layer` says; `Memory` only on a text that
 /// `check_layer` accepts.
 pub fn read_layer<A: Allocator + Copy>(alloc: A, text: &[u8]) -> Result<Layer<A>, Fault>
-    ensures answer { MatchResult result (λ layer. StandsFor text.now layer.rings.items) (λ fault. IsRefused text.now fault ⊎ ((fault ≡ Fault.Memory) × (rings : List (List PtOf)) × StandsFor text.now rings)) }
-    ensures in_limit { IfOk result (λ layer. All (λ ring. All InLimit ring) layer.rings.items) }
+    ensures answer { MatchResult result (λ layer. StandsFor text.now layer) (λ fault. IsRefused text.now fault ⊎ ((fault ≡ Fault.Memory) × (rings : List (List PtOf)) × StandsFor text.now rings)) }
+    ensures in_limit { IfOk result (λ layer. All (λ ring. All InLimit ring) layer) }
 {
     match gather(alloc, text) {
-        Ok((_, rings)) => Ok(Layer { rings }),
+        Ok((_, rings)) => Ok(Layer::new(rings)),
         // The text may be at fault behind the place where memory ran out.
         Err(Fault::Memory) => {
             check_layer(text)?;

@@ -15,9 +15,9 @@ fn rect(x0: i32, y0: i32, x1: i32, y1: i32) -> Option<Rect> {
 /// Whether a text is a layer of so many rings, with this outline.
 fn is_read(alloc: Global, text: &str, rings: usize, outline: Outline) -> bool {
     let read = read_layer(alloc, text.as_bytes());
-    let found = read.map(|layer| layer.rings.len());
+    let found = read.map(|layer| layer.rings().len());
     let outlined = read_outlined(alloc, text.as_bytes());
-    let both = outlined.map(|read| (read.outline, read.layer.map(|layer| layer.rings.len())));
+    let both = outlined.map(|read| (read.outline, read.layer.map(|layer| layer.rings().len())));
     found == Ok(rings)
         && both == Ok((outline, Some(rings)))
         && check_layer(text.as_bytes()) == Ok(outline)
@@ -249,11 +249,11 @@ fn length_limit(rt: HostRuntime) -> Result<(), Fail> {
 fn rings(rt: HostRuntime) -> Result<(), Fail> {
     let text = b"POLYGON ((0 0, 4 -1, 4 4, 0 0),(5 5, 6 6, 7 5, 5 5))";
     let layer = read_layer(rt.alloc(), text).ok().ok_or("a layer")?;
-    assert_eq!(rt; layer.rings.len(), 2);
+    assert_eq!(rt; layer.rings().len(), 2);
     let first = [Pt { x: 0, y: 0 }, Pt { x: 4, y: -1 }, Pt { x: 4, y: 4 }];
-    assert_eq!(rt; layer.rings[0].points(), first.as_slice());
+    assert_eq!(rt; layer.rings()[0].points(), first.as_slice());
     let second = [Pt { x: 5, y: 5 }, Pt { x: 6, y: 6 }, Pt { x: 7, y: 5 }];
-    assert_eq!(rt; layer.rings[1].points(), second.as_slice());
+    assert_eq!(rt; layer.rings()[1].points(), second.as_slice());
     Ok(())
 }
 
@@ -284,10 +284,7 @@ fn square<A: Allocator>(alloc: A, lo: i32, hi: i32) -> Result<SimpleRing<A>, NoM
 fn with_hole<A: Allocator + Copy>(alloc: A) -> Result<Polygon<A>, NoMemory> {
     let mut holes = Vec::new(alloc);
     holes.push(square(alloc, 3, 6)?)?;
-    Ok(Polygon {
-        shell: square(alloc, 0, 9)?,
-        holes,
-    })
+    Ok(Polygon::new(square(alloc, 0, 9)?, holes))
 }
 
 #[test]
@@ -298,16 +295,13 @@ fn lines(rt: HostRuntime) -> Result<(), Fail> {
     assert!(rt; empty.as_slice() == b"MULTIPOLYGON EMPTY\n".as_slice());
     polygons.push(with_hole(alloc).ok().ok_or("memory")?)?;
     let shell = square(alloc, -2, 0).ok().ok_or("memory")?;
-    polygons.push(Polygon {
-        shell,
-        holes: Vec::new(alloc),
-    })?;
+    polygons.push(Polygon::new(shell, Vec::new(alloc)))?;
     let text = write_multi(alloc, &polygons).ok().ok_or("memory")?;
     let line =
         b"MULTIPOLYGON (((0 0, 9 0, 9 9, 0 9, 0 0), (3 3, 6 3, 6 6, 3 6, 3 3)), ((-2 -2, 0 -2, 0 0, -2 0, -2 -2)))\n";
     assert!(rt; text.as_slice() == line.as_slice());
     let layer = read_layer(alloc, &text).ok().ok_or("a layer")?;
-    assert_eq!(rt; layer.rings.len(), 3);
-    assert_eq!(rt; layer.rings[2].points(), polygons[1].shell.points());
+    assert_eq!(rt; layer.rings().len(), 3);
+    assert_eq!(rt; layer.rings()[2].points(), polygons[1].shell().points());
     Ok(())
 }

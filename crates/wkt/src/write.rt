@@ -3,8 +3,9 @@
 ghost use Rattle.std.specs.Prelude.{◌≡◌, ◌≤◌, ◌++◌, ◌∷◌, [], ℕ, List, All, IfOk, OnOk, length, map};
 ghost use Rattle.geom.specs.Limit.{InLimit, IsWithin};
 ghost use Rattle.std.specs.Fmt.{signed_decimal};
+ghost use Rattle.geom.specs.Canonical.{written_rings};
 ghost use Rattle.geom.specs.Words.{pt_words};
-ghost use Rattle.wkt.specs.Canonical.{closed, more_of, multi_text, polygon_text, ring_text, rings_of};
+ghost use Rattle.wkt.specs.Canonical.{closed, more_of, multi_text, polygon_text, ring_text};
 ghost use Rattle.wkt.specs.Readable.{IsReadable, IsShort, number_limit};
 ghost use Rattle.wkt.specs.Refusals.{IsLayerOf, StandsFor, length_limit};
 
@@ -81,11 +82,11 @@ fn push_polygon<A: Allocator, B: Allocator>(
     polygon: &Polygon<B>,
 ) -> Result<(), AllocError>
     ensures text { OnOk result (text.new.items ≡ text.old.items ++ polygon_text polygon.now) }
-    ensures readable { OnOk result (All IsReadable (polygon.now.shell ∷ polygon.now.holes.items)) }
+    ensures readable { OnOk result (All IsReadable (polygon.now.shell ∷ polygon.now.holes)) }
 {
     text.push(b'(')?;
-    push_ring(text, &polygon.shell)?;
-    push_more_rings(text, &polygon.holes)?;
+    push_ring(text, polygon.shell())?;
+    push_more_rings(text, polygon.holes())?;
     text.push(b')')?;
     Ok(())
 }
@@ -96,7 +97,7 @@ fn push_more_polygons<A: Allocator, B: Allocator>(
     polygons: &[Polygon<B>],
 ) -> Result<(), AllocError>
     ensures text { OnOk result (text.new.items ≡ text.old.items ++ more_of polygon_text polygons.now) }
-    ensures readable { OnOk result (All IsReadable (rings_of polygons.now)) }
+    ensures readable { OnOk result (All IsReadable (written_rings polygons.now)) }
 {
     for polygon in polygons {
         text.extend_from_slice(b", ")?;
@@ -112,8 +113,8 @@ pub fn write_multi<A: Allocator, B: Allocator>(
     polygons: &[Polygon<B>],
 ) -> Result<Vec<u8, A>, NoMemory>
     ensures text { IfOk result (λ text. text.items ≡ multi_text polygons.now) }
-    ensures reads { IfOk result (λ text. (line : List ℕ) × (text.items ≡ line ++ 10 ∷ []) × IsLayerOf line (map closed (rings_of polygons.now))) }
-    ensures reads_again { IfOk result (λ text. length text.items ≤ length_limit → All (λ ring. All InLimit ring) (rings_of polygons.now) → StandsFor text.items (rings_of polygons.now)) }
+    ensures reads { IfOk result (λ text. (line : List ℕ) × (text.items ≡ line ++ 10 ∷ []) × IsLayerOf line (map closed (written_rings polygons.now))) }
+    ensures reads_again { IfOk result (λ text. length text.items ≤ length_limit → All (λ ring. All InLimit ring) (written_rings polygons.now) → StandsFor text.items (written_rings polygons.now)) }
 {
     let Some((first, rest)) = polygons.split_first() else {
         return Ok(Vec::from_slice(alloc, b"MULTIPOLYGON EMPTY\n")?);

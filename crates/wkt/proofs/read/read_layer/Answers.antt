@@ -2,4 +2,4 @@ use Rattle.wkt.proofs.Inside.{stands_in}
 use Rattle.wkt.proofs.read.read_layer.Goals as goal
 
 pub returns-in-Ok-clause-in_limit : goal.returns-in-Ok-clause-in_limit
-returns-in-Ok-clause-in_limit g c = stands_in c.args.text.now c.in-Ok.rings.items c.in-Ok.ensures.0
+returns-in-Ok-clause-in_limit g c = rw c.new.ensures (stands_in c.args.text.now c.in-Ok.rings.items c.in-Ok.ensures.0)

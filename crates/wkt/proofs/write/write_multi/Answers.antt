@@ -1,7 +1,8 @@
 use Rattle.std.proofs.Common.{◌≡◌, ◌∙◌, ◌≤◌, ◌++◌, ◌∷◌, List, [], ℕ, ap, length, subst, sym}
 use Rattle.std.specs.Prelude.{All, map}
 use Rattle.geom.specs.declared.point.Pt.{Pt}
-use Rattle.wkt.specs.Canonical.{closed, multi_text, rings_of}
+use Rattle.geom.specs.Canonical.{written_rings}
+use Rattle.wkt.specs.Canonical.{closed, multi_text}
 use Rattle.wkt.specs.Readable.{IsReadable}
 use Rattle.wkt.specs.Refusals.{IsLayerOf, StandsFor, length_limit}
 use Rattle.wkt.proofs.Written.{reads, reads_again}
@@ -16,15 +17,15 @@ pub returns-in_default-clause-reads : goal.returns-in_default-clause-reads
 returns-in_default-clause-reads g c =
     let none = no_items c.args.polygons.now c.in_default.ensures.cases in
     let text = c.in_ok-from_slice.ensures.items ∙ ap multi_text (sym none) in
-    subst (λ (t : List ℕ). Reads t (rings_of c.args.polygons.now)) (sym text)
-    (reads c.args.polygons.now (subst (λ ps. All IsReadable (rings_of ps)) (sym none) (all_of IsReadable [] tt)))
+    subst (λ (t : List ℕ). Reads t (written_rings c.args.polygons.now)) (sym text)
+    (reads c.args.polygons.now (subst (λ ps. All IsReadable (written_rings ps)) (sym none) (all_of IsReadable [] tt)))
 
 pub returns-in_default-clause-reads_again : goal.returns-in_default-clause-reads_again
 returns-in_default-clause-reads_again g c = λ short inside.
     let none = no_items c.args.polygons.now c.in_default.ensures.cases in
     let text = c.in_ok-from_slice.ensures.items ∙ ap multi_text (sym none) in
-    subst (λ (t : List ℕ). StandsFor t (rings_of c.args.polygons.now)) (sym text)
-    (reads_again c.args.polygons.now (subst (λ ps. All IsReadable (rings_of ps)) (sym none) (all_of IsReadable [] tt))
+    subst (λ (t : List ℕ). StandsFor t (written_rings c.args.polygons.now)) (sym text)
+    (reads_again c.args.polygons.now (subst (λ ps. All IsReadable (written_rings ps)) (sym none) (all_of IsReadable [] tt))
     (subst (λ (t : List ℕ). length t ≤ length_limit) text short) inside)
 
 pub returns-clause-text : goal.returns-clause-text
@@ -34,12 +35,12 @@ returns-clause-text g c =
 
 pub returns-clause-reads : goal.returns-clause-reads
 returns-clause-reads g c =
-    let readable = subst (λ ps. All IsReadable (rings_of ps)) (sym c.in-Some.ensures.cases.0) (rings_first IsReadable c.in-Some.first.now c.in-Some.rest.now c.in_ok-push_polygon.ensures.readable c.in_ok-push_more_polygons.ensures.readable) in
-    subst (λ (t : List ℕ). Reads t (rings_of c.args.polygons.now)) (sym (returns-clause-text g c)) (reads c.args.polygons.now readable)
+    let readable = subst (λ ps. All IsReadable (written_rings ps)) (sym c.in-Some.ensures.cases.0) (rings_first IsReadable c.in-Some.first.now c.in-Some.rest.now c.in_ok-push_polygon.ensures.readable c.in_ok-push_more_polygons.ensures.readable) in
+    subst (λ (t : List ℕ). Reads t (written_rings c.args.polygons.now)) (sym (returns-clause-text g c)) (reads c.args.polygons.now readable)
 
 pub returns-clause-reads_again : goal.returns-clause-reads_again
 returns-clause-reads_again g c = λ short inside.
     let text = returns-clause-text g c in
-    let readable = subst (λ ps. All IsReadable (rings_of ps)) (sym c.in-Some.ensures.cases.0) (rings_first IsReadable c.in-Some.first.now c.in-Some.rest.now c.in_ok-push_polygon.ensures.readable c.in_ok-push_more_polygons.ensures.readable) in
-    subst (λ (t : List ℕ). StandsFor t (rings_of c.args.polygons.now)) (sym text)
+    let readable = subst (λ ps. All IsReadable (written_rings ps)) (sym c.in-Some.ensures.cases.0) (rings_first IsReadable c.in-Some.first.now c.in-Some.rest.now c.in_ok-push_polygon.ensures.readable c.in_ok-push_more_polygons.ensures.readable) in
+    subst (λ (t : List ℕ). StandsFor t (written_rings c.args.polygons.now)) (sym text)
     (reads_again c.args.polygons.now readable (subst (λ (t : List ℕ). length t ≤ length_limit) text short) inside)
