@@ -6,6 +6,7 @@ use Rattle.std.proofs.lemmas.List.Elements.{filter-append}
 use Rattle.std.proofs.lemmas.List.FromFn.{fill_by_all}
 use Rattle.std.specs.List.{filter, range_with_len}
 use Rattle.lane_tests.specs.Columns.{passing}
+use Rattle.lane_tests.proofs.Hits.{range-add}
 use Rattle.tiling.proofs.Ascending.{IsUp}
 
 pub renumbered : (f : ℕ → ℕ) (i : ℕ) (old now : List ℕ) (y : ℕ) → i < length old → now ≡ map f (take i old) ++ drop i old → y ≡ f (get_or now i 0) → set now i y ≡ map f (take (i + 1) old) ++ drop (i + 1) old
@@ -15,16 +16,6 @@ renumbered f i old now y h e k =
     let x : get_or now i 0 ≡ get_or old i 0 = ap (λ r. get_or r i 0) s ∙ get_or_at (map f (take i old)) (get_or old i 0) (drop (i + 1) old) 0 i l in
     (λ j. set (s j) i ((k ∙ ap f x) j)) ∙ set_at (map f (take i old)) (get_or old i 0) (drop (i + 1) old) (f (get_or old i 0)) i l
     ∙ sym (append_assoc (map f (take i old)) (f (get_or old i 0) ∷ []) (drop (i + 1) old)) ∙ ap (λ r. r ++ drop (i + 1) old) (sym (map_more f old i 0 h))
-
-range-add : (a m n : ℕ) → range_with_len a (m + n) ≡ range_with_len a m ++ range_with_len (a + m) n
-range-add a zero n =
-    let e : 0 + n ≡ n = omega arith in
-    let f : a + 0 ≡ a = omega arith in
-    rw (e, f) refl
-range-add a (suc m) n =
-    let e : suc m + n ≡ suc (m + n) = omega arith in
-    let f : a + suc m ≡ a + 1 + m = omega arith in
-    rw (e, f) (ap (λ xs. a ∷ xs) (range-add (a + 1) m n))
 
 -- tests that agree on the range
 pub filter_same : (p q : ℕ → Bool) (a n : ℕ) → ((k : ℕ) → a ≤ k → k < a + n → p k ≡ q k) → filter p (range_with_len a n) ≡ filter q (range_with_len a n)
