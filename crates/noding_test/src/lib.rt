@@ -12,6 +12,3 @@ pub use finding::verdict;
 pub use noded_edges::{Noded, settled};
 pub use noding::noded;
 pub use verdicts::Verdict;
-
-#[cfg(test)]
-mod tests;
