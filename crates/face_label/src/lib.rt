@@ -5,8 +5,6 @@ mod directed;
 mod label;
 mod odd;
 mod strip;
-#[cfg(test)]
-mod tests;
 
 pub use directed::Directed;
 pub use label::{add_directions, labels};

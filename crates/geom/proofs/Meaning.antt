@@ -2,7 +2,7 @@
 use Rattle.std.proofs.Common.{◌≡◌, ◌≢◌, sym, ap, subst, ◌∙◌, arith, ◌-◌, ◌<◌, List, length, get_or, Some}
 use Rattle.std.specs.Prelude.{slice_get}
 use Rattle.std.proofs.lemmas.Option.{slice_get-get_or}
-use lib.IntN.{ℤ, pos, ◌*ℤ◌, neg_ℤ}
+use lib.IntN.{ℤ, pos, ◌+ℤ◌, ◌-ℤ◌, ◌*ℤ◌, neg_ℤ}
 use lib.Signed.{◌<ℤ◌}
 use Rattle.geom.specs.declared.point.Pt.{Pt}
 use Rattle.geom.specs.Pixel.{Point, pixel}

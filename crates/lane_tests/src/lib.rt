@@ -13,6 +13,3 @@ pub use boxes::{Boxes, meet_boxes, meet_in};
 pub use edges::{Edges, odd_above};
 pub use points::{Half, Probe};
 pub use segs::{Segs, sides};
-
-#[cfg(test)]
-mod tests;

@@ -10,9 +10,7 @@ mod pairs;
 mod verdicts;
 
 pub use finding::verdict;
+pub use meeting::meet_only_at_ends;
 pub use noded_edges::{Noded, settled};
 pub use noding::noded;
 pub use verdicts::Verdict;
-
-#[cfg(test)]
-mod tests;

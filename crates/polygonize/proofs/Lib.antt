@@ -8,7 +8,6 @@ pub mod CycleRings
 pub mod Multiply
 pub mod Products
 pub mod Turns
-pub mod Signed
 pub mod Sooner
 pub mod RoundVertex
 pub mod Permuted
@@ -20,7 +19,6 @@ pub mod Writing
 pub mod Grouping
 pub mod GapsBelow
 pub mod Least
-pub mod Deciding
 pub mod Columns
 pub mod Filtered
 pub mod Ladders

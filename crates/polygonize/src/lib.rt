@@ -15,8 +15,6 @@ mod piece;
 mod polygon;
 mod ring;
 mod successor;
-#[cfg(test)]
-mod tests;
 mod written;
 
 pub use polygon::polygons;

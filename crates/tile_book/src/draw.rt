@@ -29,6 +29,7 @@ pub struct Draw<A: Allocator> {
 impl<A: Allocator> Model for Draw<A> {
     ghost use Rattle.std.specs.Prelude.{◌≡◌, ◌<◌, ◌≤◌};
     ghost use Rattle.tile_book.specs.Shown.{DrawView, draw_code};
+    ghost use Rattle.tile_book.specs.declared.draw.TheConstants.{MOST_HANDS, MOST_NUMBERS};
 
     ghost Value = { DrawView };
 

@@ -14,6 +14,3 @@ pub use count::Count;
 pub use grid::{GREATEST_SIDE, Grid, LEAST_SIDE, MOST_TILES};
 pub use sides::{DEFAULT_SIDE, default_side};
 pub use strips::Strips;
-
-#[cfg(test)]
-mod tests;

@@ -16,4 +16,3 @@ pub mod Exclusive
 pub mod Bounded
 pub mod Written
 pub mod Writing
-pub mod Squares

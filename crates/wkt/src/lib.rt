@@ -16,6 +16,3 @@ pub use laws::{one_reading, one_refusal};
 pub use outline::Outline;
 pub use read::{OutlinedLayer, read_layer, read_outlined};
 pub use write::write_multi;
-
-#[cfg(test)]
-mod tests;

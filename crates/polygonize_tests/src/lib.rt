@@ -1,0 +1,13 @@
+//! Tests of rings and polygons: the edges of a canonical text give the text again.
+#![tactic(auto)]
+
+#[cfg(test)]
+mod again;
+#[cfg(test)]
+mod closing;
+#[cfg(test)]
+mod generated;
+#[cfg(test)]
+mod wide;
+#[cfg(test)]
+mod worked;

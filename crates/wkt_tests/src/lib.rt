@@ -1,0 +1,7 @@
+//! Tests of layer texts that are read and written.
+#![tactic(auto)]
+
+#[cfg(test)]
+mod reading;
+#[cfg(test)]
+mod written;
