@@ -1,9 +1,10 @@
 -- Bins: which boxes meet a tile (own).
-use Rattle.std.specs.Prelude.{◌≡◌, ◌↔◌, ◌<◌, ℕ, List, AllPairs, Contains, Some, slice_get}
+use Rattle.std.specs.Prelude.{◌≡◌, ◌↔◌, ◌/◌, ◌%◌, ◌<◌, ◌≤◌, ◌++◌, ◌∷◌, [], ℕ, List, AllPairs, Contains, Some, get_or, length, map, slice_get}
+use Rattle.std.specs.declared.vec.Vec.{Vec}
 use Rattle.geom.specs.Box.{IsInBox}
 use Rattle.geom.specs.declared.point.Pt.{Pt}
 use Rattle.geom.specs.declared.rect.Rect.{Rect}
-use Rattle.tiling.specs.Tiles.{Owns, Tiling}
+use Rattle.tiling.specs.Tiles.{Owns, Tiling, tile_count}
 use Rattle.tiling.specs.Index.{Item}
 
 -- boxes over a grid, with their numbers in the order of their left sides
@@ -19,3 +20,31 @@ MeetsTile g k boxes number = (b : Rect) × (slice_get boxes number ≡ Some b) �
 pub record IsBin (g : Tiling) (k : ℕ) (boxes : List Rect) (bin : List ℕ) : Type 0 where
   pub ascending : AllPairs (λ i j. i < j) bin
   pub exact : (number : ℕ) → Contains bin number ↔ MeetsTile g k boxes number
+
+-- the bins of all tiles of a grid, and of how many boxes they are
+pub record TileBins : Type 0 where
+  pub grid : Tiling
+  pub count : ℕ
+  pub bins : List (List ℕ)
+
+-- these are the bins of these boxes, tile by tile
+pub record AreBins (boxes : List Rect) (kept : TileBins) : Type 0 where
+  pub count_is : kept.count ≡ length boxes
+  pub each : (k : ℕ) → k < tile_count kept.grid → IsBin kept.grid k boxes (get_or kept.bins k [])
+
+-- ---- what the code gives to tiles
+abbrev pub lists_of : {A : Type 0} → List (Vec ℕ A) → List (List ℕ)
+lists_of bins = map (λ v. v.items) bins
+
+-- tile k lies in the columns and rows from lo to hi, each a column and a row
+pub record IsAmong (columns : ℕ) (lo hi : ℕ × ℕ) (k : ℕ) : Type 0 where
+  pub left : lo.0 ≤ k % columns
+  pub right : k % columns ≤ hi.0
+  pub bottom : lo.1 ≤ k / columns
+  pub top : k / columns ≤ hi.1
+
+-- the lists of those tiles have a number more at their end, and the others are as they were
+pub record AreGiven (those : ℕ → Type 0) (number : ℕ) (old new : List (List ℕ)) : Type 0 where
+  pub same : length new ≡ length old
+  pub given : (k : ℕ) → k < length old → those k → get_or new k [] ≡ get_or old k [] ++ number ∷ []
+  pub kept : (k : ℕ) → k < length old → ¬ (those k) → get_or new k [] ≡ get_or old k []

@@ -30,6 +30,13 @@ pub record Owns (g : Tiling) (k : ℕ) (p : Pt) : Type 0 where
   pub in_rows : row < g.rows
   pub number_is : k ≡ row * g.columns + column
 
+-- p has this column and this row, and these are a column and a row of the grid
+pub record IsPlaced (g : Tiling) (p : Pt) (place : ℕ × ℕ) : Type 0 where
+  pub column_is : steps g.left g.side p.x ≡ pos place.0
+  pub row_is : steps g.bottom g.side p.y ≡ pos place.1
+  pub in_columns : place.0 < g.columns
+  pub in_rows : place.1 < g.rows
+
 -- some tile owns p
 abbrev pub HasTile : Tiling → Pt → Type 0
 HasTile g p = (k : ℕ) × Owns g k p

@@ -4,7 +4,7 @@ ghost use Rattle.std.specs.Prelude.{◌≡◌, ◌↔◌, ◌^◌, ℕ, ℤ, pos
 ghost use Rattle.geom.specs.Limit.{IsWithin};
 ghost use Rattle.geom.specs.declared.point.Pt.{Pt};
 ghost use Rattle.geom.specs.Box.{IsInBox};
-ghost use Rattle.tiling.specs.Tiles.{AreBounds, CoversBounds, HasRoom, HasTile, IsGridOf, IsRefusal, IsSide, Owns, Tiling, steps, tile_count, tile_left, tile_right};
+ghost use Rattle.tiling.specs.Tiles.{AreBounds, CoversBounds, HasRoom, HasTile, IsGridOf, IsPlaced, IsRefusal, IsSide, Owns, Tiling, steps, tile_count, tile_left, tile_right};
 
 use geom::{Fault, Pt, Rect};
 use std::marker::Model;
@@ -70,15 +70,37 @@ impl Grid {
         self.rows * self.columns
     }
 
+    /// The column and the row of a point.
+    pub fn place_of(&self, p: Pt) -> (u32, u32)
+        requires { HasTile self.now p }
+        ensures placed { IsPlaced self.now p result }
+        ensures few { (result.0 < MOST_TILES) × (result.1 < MOST_TILES) }
+        ensures some_side { 0 < self.now.side }
+    {
+        let column = steps_to(self.left, p.x, self.side);
+        let row = steps_to(self.bottom, p.y, self.side);
+        (column, row)
+    }
+
+    /// The tile in a column and a row.
+    pub fn tile_at(&self, column: u32, row: u32) -> u32
+        requires column { column < self.now.columns }
+        requires row { row < self.now.rows }
+        ensures value { result ≡ row * self.now.columns + column }
+        ensures below { result < tile_count self.now }
+        ensures few { result < MOST_TILES }
+    {
+        number_of(self.columns, self.rows, column, row)
+    }
+
     /// The one tile that owns a point.
     pub fn tile_of(&self, p: Pt) -> u32
         requires { HasTile self.now p }
         ensures owner { Owns self.now result p }
         ensures alone { (k : ℕ) → Owns self.now k p → k ≡ result }
     {
-        let column = steps_to(self.left, p.x, self.side);
-        let row = steps_to(self.bottom, p.y, self.side);
-        number_of(self.columns, self.rows, column, row)
+        let (column, row) = self.place_of(p);
+        self.tile_at(column, row)
     }
 
     /// The rectangle that has exactly the points that a tile owns.

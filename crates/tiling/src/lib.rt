@@ -5,6 +5,7 @@ mod bins;
 mod count;
 mod grid;
 mod index;
+mod kept_bins;
 mod search;
 mod sides;
 mod strips;
@@ -12,6 +13,7 @@ mod strips;
 pub use bins::Bins;
 pub use count::Count;
 pub use grid::{GREATEST_SIDE, Grid, LEAST_SIDE, MOST_TILES};
+pub use kept_bins::KeptBins;
 pub use sides::{DEFAULT_SIDE, default_side};
 pub use strips::Strips;
 
