@@ -131,10 +131,10 @@ close {x} {y} h k = omega (arith, linear)
 itself : (x : ℤ) → x ≤ℤ x
 itself x = omega (arith, linear)
 
-has_lo : (r : Rect) → IsInBox r.lo r.hi r.lo
+pub has_lo : (r : Rect) → IsInBox r.lo r.hi r.lo
 has_lo r = record { left = itself r.lo.x; right = r.wide; bottom = itself r.lo.y; top = r.high }
 
-has_hi : (r : Rect) → IsInBox r.lo r.hi r.hi
+pub has_hi : (r : Rect) → IsInBox r.lo r.hi r.hi
 has_hi r = record { left = r.wide; right = itself r.hi.x; bottom = r.high; top = itself r.hi.y }
 
 pub one_rect : (r q : Rect) → ((p : Pt) → IsInBox r.lo r.hi p ↔ IsInBox q.lo q.hi p) → (r.lo ≡ q.lo) × (r.hi ≡ q.hi)

@@ -14,7 +14,8 @@ use Rattle.geom.specs.declared.fault.Fault.TheVariants.{TooManyTiles}
 use Rattle.geom.specs.declared.fault.Part.{Part}
 use Rattle.geom.specs.declared.fault.Part.TheVariants.{Run}
 use Rattle.tiling.specs.Tiles.{IsGridOf, Tiling, most_tiles, tile_count}
-use Rattle.chain_gather.specs.Gathered.{AreTileNumbers}
+use Rattle.tiling.specs.Bins.{AreBins, TileBins}
+use Rattle.chain_gather.specs.Gathered.{AreBoxesOf, AreTileNumbers}
 use Rattle.chain_gather.specs.declared.rounded.TileNumbers.{TileNumbers}
 use Rattle.wkt.specs.LayerText.{Ring}
 use Rattle.wkt.specs.Refusals.{IsAccepted, plain}
@@ -77,6 +78,15 @@ pub record IsGridOver (rings_a rings_b : List Ring) (side : ℕ) (g : Tiling) : 
   pub bounds : Option Rect
   pub are_bounds : AreBoundsOf (layer_steps (plain rings_a) ++ layer_steps (plain rings_b)) bounds
   pub is_grid : IsGridOf bounds side g
+
+-- ---- the cells
+
+-- the bins of a grid's tiles are those of the segments' boxes
+pub record AreCellBins (g : Tiling) (segments : List Seg) (bins : TileBins) : Type 0 where
+  pub grid_is : bins.grid ≡ g
+  pub boxes : List Rect
+  pub are_boxes : AreBoxesOf segments boxes
+  pub are_bins : AreBins boxes bins
 
 -- ---- what is rounded
 

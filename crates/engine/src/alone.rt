@@ -10,20 +10,19 @@ ghost use Rattle.engine.specs.Rounds.{AllInLimit, AreRoundedOver};
 ghost use Rattle.engine.specs.Results.{IsResultWritten, IsWritten};
 ghost use Rattle.engine.specs.Runs.{AreEdgesWritten, Declines, IsReading, alone};
 
-use crate::cells::cells_of;
+use crate::cells::{bins_of, cells_of};
 use crate::checking::{Checked, Reading, check, check_plan};
 use crate::engine::{Made, Plan, make, or_fault};
 use crate::operation::Wanted;
 use crate::reading::{read_segments, reading};
 use crate::rounds::Pieces;
-use crate::segments::boxes_of;
 use chain_gather::{OneThread, Tiled, gather_made};
 use geom::{NoMemory, Op, RunFault, Seg};
 use noding_test::{Noded, settled};
 use std::alloc::Allocator;
 use std::marker::{Brand, PhantomData};
 use tile_book::{Job, MOST_NUMBERS};
-use tiling::{Bins, Grid};
+use tiling::Grid;
 
 /// The text of the rounded edges of two layers, over tiles of this side, and its report. It is refused as `edges` is,
 /// but for the number of workers and the sink.
@@ -136,9 +135,7 @@ fn by_cells_alone<T: Tiled, A: Allocator + Copy>(
     ensures tiles { IfOk result (λ n. AreTileNumbers grid.now segments.now (tile_count grid.now) n.tiles.items) }
     ensures remade { IfOk result (λ n. n.remade ≤ tile_count grid.now) }
 {
-    let boxes = boxes_of(alloc, segments)?;
-    let bins = Bins::build(alloc, cells, &boxes)?;
-    drop(boxes);
+    let bins = bins_of(alloc, cells, segments)?;
     let job: Pieces<T, A> = Pieces {
         grid: cells,
         bins: &bins,

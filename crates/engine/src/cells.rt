@@ -2,20 +2,28 @@
 //!
 //! 1. The box of all segments (`bounds_of`), and how far they reach (`reach_of`).
 //! 2. From the greatest side on the cells are halved while that is worth it: where the workers have too few, or where few
-//!    segments come to lie in several (`side_over`).
+//!    segments come to lie in several (`side_over`). Where they would lie in more than 17 on average, they aren't, for any number
+//!    of workers; and if that is so at the greatest side there is but one cell (`grid_of`). So the bins stay in proportion to
+//!    the segments, whatever these are.
+//! 3. Each segment goes to the cells that its box meets (`bins_of`).
 
-ghost use Rattle.tiling.specs.Tiles.{AreBounds};
+ghost use Rattle.std.specs.Prelude.{IfOk, Some};
+ghost use Rattle.tiling.specs.Tiles.{AreBounds, CoversBounds};
 ghost use Rattle.chain_gather.specs.Gathered.{BoundsHold, HaveTiles};
-ghost use Rattle.engine.specs.Rounds.{AllInLimit};
+ghost use Rattle.engine.specs.Rounds.{AllInLimit, AreCellBins};
 
-use geom::{Rect, Seg};
-use tiling::{GREATEST_SIDE, Grid};
+use geom::{NoMemory, Rect, Seg};
+use std::alloc::Allocator;
+use tiling::{GREATEST_SIDE, Grid, KeptBins};
 
 /// How many cells a worker has at least, where that is cheap.
 const CELLS: u64 = 4;
 
 /// How many segments are worth a cell.
 const SEGMENTS: u64 = 64;
+
+/// How many more times than once the segments may lie in cells on average.
+const DOUBLES: u128 = 16;
 
 /// The powers of two that are a side: 2^25 is the greatest and 2^4 the least.
 const HALVINGS: u32 = 21;
@@ -34,14 +42,40 @@ pub(crate) fn cells_of(grid: &Grid, workers: u32, segments: &[Seg]) -> Grid
     requires covered { HaveTiles grid.now segments.now }
     ensures { HaveTiles result segments.now }
 {
-    let Some(bounds) = bounds_of(segments) else {
-        return *grid;
-    };
-    let side = side_over(&bounds, &reach_of(segments), workers);
-    match Grid::new(Some(bounds), side) {
-        Ok(cells) => cells,
-        Err(_) => *grid,
+    match bounds_of(segments) {
+        Some(bounds) => grid_of(bounds, &reach_of(segments), workers),
+        None => *grid,
     }
+}
+
+/// The cells over a box for workers: one, where segments that reach so far lie in too many of any other side.
+fn grid_of(bounds: Rect, reach: &Reach, workers: u32) -> Grid
+    requires { AreBounds (Some bounds) }
+    ensures { CoversBounds (Some bounds) result }
+{
+    if lie_in_many(reach, GREATEST_SIDE) {
+        return Grid::one_tile(bounds);
+    }
+    match Grid::new(Some(bounds), side_over(&bounds, reach, workers)) {
+        Ok(cells) => cells,
+        Err(_) => Grid::one_tile(bounds),
+    }
+}
+
+/// The segments of each cell, by their boxes.
+pub(crate) fn bins_of<A: Allocator + Copy>(
+    alloc: A,
+    cells: &Grid,
+    segments: &[Seg],
+) -> Result<KeptBins<A>, NoMemory>
+    requires { HaveTiles cells.now segments.now }
+    ensures { IfOk result (λ bins. ∥ AreCellBins cells.now segments.now bins ∥₁) }
+{
+    let mut bins = KeptBins::new(alloc, cells)?;
+    for segment in segments {
+        bins.add(segment.bounds())?;
+    }
+    Ok(bins)
 }
 
 /// The least box of all segments, or none where there are none.
@@ -100,16 +134,21 @@ fn doubles_over(reach: &Reach, side: u32) -> u128 {
     (reach.lengths / side).saturating_add(reach.areas / side / side)
 }
 
-/// Whether cells of half this side are worth it: where there are fewer cells than workers; where these have few, and a segment
-/// lies in four cells on average at most; and where it lies in two at most, and the cells are few for the segments.
+/// Whether the segments lie in too many cells of this side for any number of workers.
+fn lie_in_many(reach: &Reach, side: u32) -> bool {
+    doubles_over(reach, side) > DOUBLES * u128::from(reach.count)
+}
+
+/// Whether cells of half this side are worth it: where there are fewer cells than workers, and a segment lies in 17 cells on
+/// average at most; where the workers have few, and it lies in four at most; and where it lies in two at most, and the cells are
+/// few for the segments.
 fn is_worth(bounds: &Rect, reach: &Reach, workers: u32, side: u32) -> bool {
+    let workers = u64::from(workers);
     let cells = cells_over(bounds, side);
-    if cells < u64::from(workers) {
-        return true;
-    }
     let finer = cells_over(bounds, side / 2);
     let doubles = doubles_over(reach, side / 2);
     let count = u128::from(reach.count);
-    cells < CELLS * u64::from(workers) && doubles <= 3 * count
+    cells < workers && !lie_in_many(reach, side / 2)
+        || cells < CELLS * workers && doubles <= 3 * count
         || finer <= reach.count / SEGMENTS && doubles <= count
 }

@@ -3,15 +3,14 @@
 ghost use Rattle.std.specs.Prelude.{◌≡◌, ◌<◌, ◌≤◌, IfOk, length, map, sum_by};
 ghost use Rattle.geom.specs.Rounded.{AreRounded};
 ghost use Rattle.tiling.specs.Tiles.{tile_count};
-ghost use Rattle.chain_gather.specs.Gathered.{AreBinsOf, AreTileNumbers, HaveTiles};
+ghost use Rattle.chain_gather.specs.Gathered.{AreTileNumbers, HaveTiles};
 ghost use Rattle.points_law.specs.Law.{AreLayers};
-ghost use Rattle.engine.specs.Rounds.{AllInLimit, AreRoundedOver, TellsTiles};
+ghost use Rattle.engine.specs.Rounds.{AllInLimit, AreCellBins, AreRoundedOver, TellsTiles};
 ghost use Rattle.engine.specs.Runs.{IsReading};
 
-use crate::cells::cells_of;
+use crate::cells::{bins_of, cells_of};
 use crate::checking::{Checked, Reading};
 use crate::reading::read_segments;
-use crate::segments::boxes_of;
 use crate::text::Report;
 use chain_gather::{TileNumbers, TilePiece, Tiled, Workers, gather_made};
 use geom::{NoMemory, Seg};
@@ -23,17 +22,17 @@ use std::sync::Wait;
 use std::sync::ledger::Blank;
 use std::thread::Threads;
 use tile_book::{AllPieces, Gate, Job, Limited, MOST_HANDS, Phase, make_all};
-use tiling::{Bins, Grid, MOST_TILES};
+use tiling::{Grid, KeptBins, MOST_TILES};
 
 /// Makes the piece of each cell from the segments in its bin.
 #[derive(Drop)]
 pub(crate) struct Pieces<'a, T: Tiled, A: Allocator> {
     pub grid: &'a Grid,
-    pub bins: &'a Bins<A>,
+    pub bins: &'a KeptBins<A>,
     pub segments: &'a [Seg],
     pub of: PhantomData<T>,
     ghost in_limit: { AllInLimit segments.now },
-    ghost are_bins: { ∥ AreBinsOf grid.now segments.now bins.now ∥₁ },
+    ghost are_bins: { ∥ AreCellBins grid.now segments.now bins.now ∥₁ },
     ghost are_tiled: { (grid.now ≡ T.grid) × (segments.now ≡ T.segments) },
 }
 
@@ -43,9 +42,8 @@ impl<T: Tiled, A: Allocator + Copy> Job<A> for Pieces<'_, T, A> {
     ghost count = { λ p. tile_count p.grid.now };
 
     fn piece(&self, alloc: A, number: u32) -> Result<TilePiece<T, A>, NoMemory> {
-        let mut numbers = Vec::new(alloc);
-        self.bins.bin(number, &mut numbers)?;
-        let found = part(alloc, self.grid, number, self.segments, &numbers)?;
+        let numbers = self.bins.bin(number);
+        let found = part(alloc, self.grid, number, self.segments, numbers)?;
         Ok(TilePiece::of_part(number, found))
     }
 }
@@ -130,9 +128,7 @@ fn by_cells<
     ensures tiles { IfOk result (λ n. AreTileNumbers grid.now segments.now (tile_count grid.now) n.tiles.items) }
     ensures remade { IfOk result (λ n. n.remade ≤ tile_count grid.now) }
 {
-    let boxes = boxes_of(alloc, segments)?;
-    let bins = Bins::build(alloc, cells, &boxes)?;
-    drop(boxes);
+    let bins = bins_of(alloc, cells, segments)?;
     let job: Pieces<T, A> = Pieces {
         grid: cells,
         bins: &bins,

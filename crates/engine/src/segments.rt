@@ -1,14 +1,12 @@
-//! The segments of two layers, and their boxes.
+//! The segments of two layers.
 
 ghost use Rattle.std.specs.Prelude.{◌≡◌, ◌++◌, ◌≤◌, ◌∷◌, [], All, IfOk, OnOk, length};
 ghost use Rattle.geom.specs.Limit.{InLimit};
 ghost use Rattle.geom.specs.Segments.{AreSegments, ring_steps};
 ghost use Rattle.std.specs.List.{flat_map};
-ghost use Rattle.chain_gather.specs.Gathered.{AreBoxesOf};
 ghost use Rattle.engine.specs.Rounds.{AllInLimit, AreRingsInLimit, HasSteps};
 
 use geom::{Layer, NoMemory, Pt, Ring, Seg, Source};
-use lane_tests::Boxes;
 use std::alloc::Allocator;
 
 /// The segments of both layers in text order, those of the first layer first. The count is a hint on their number.
@@ -81,15 +79,4 @@ fn push_step<A: Allocator>(
         segments.push(segment)?;
     }
     Ok(())
-}
-
-/// The least box of each segment, in their order.
-pub fn boxes_of<A: Allocator + Copy>(alloc: A, segments: &[Seg]) -> Result<Boxes<A>, NoMemory>
-    ensures { IfOk result (λ boxes. AreBoxesOf segments.now boxes) }
-{
-    let mut boxes = Boxes::new(alloc);
-    for segment in segments {
-        boxes.push(segment.bounds())?;
-    }
-    Ok(boxes)
 }

@@ -4,7 +4,7 @@ use Rattle.std.specs.Prelude.{◌↔◌, ◌≤ℤ◌, ◌<ℤ◌, nat_abs}
 use Rattle.std.specs.Int.{int_div_euclid}
 use Rattle.std.proofs.lemmas.Int.{ints}
 use Rattle.std.proofs.lemmas.Nat.{div-add-mod', mul-le}
-use Rattle.std.proofs.Math.Nat.{mod-lt}
+use Rattle.std.proofs.Math.Nat.{div-eq_of_lt, mod-lt}
 use Rattle.std.proofs.lemmas.Bool.{cases_lt}
 use Rattle.geom.specs.Limit.{IsWithin, coordinate_limit}
 use Rattle.geom.specs.declared.point.Pt.{Pt}
@@ -234,6 +234,19 @@ covers r side g s o p i =
         number_is = refl;
       },
     )
+
+-- a side that is greater than the interval
+pub one_column_over : (low high : ℤ) (side : ℕ) → IsWithin coordinate_limit low → IsWithin coordinate_limit high → low ≤ℤ high → 536870912 < side → pos 1 ≡ steps low side high +ℤ pos 1
+one_column_over low high side h k order l =
+    let w = between low high order in
+    let small : w.width < side = omega (arith, few low high w.width h k w.is, l) in
+    sym (ap (λ z. z +ℤ pos 1) (steps_are low high w.width side w.is ∙ ap pos (div-eq_of_lt small)))
+  where
+    few : (low high : ℤ) (w : ℕ) → IsWithin coordinate_limit low → IsWithin coordinate_limit high → pos w ≡ high -ℤ low → w ≤ 536870912
+    few low high w h k e =
+        let a = h.low in
+        let b = k.high in
+        omega (arith, ints, a, b)
 
 pub near_28 : (z : ℤ) → IsWithin coordinate_limit z → IsWithin (2 ^ 28) z
 near_28 z h = record { low = omega (arith, ints, h.low); high = omega (arith, ints, h.high) }

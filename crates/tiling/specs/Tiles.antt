@@ -100,7 +100,7 @@ pub record HasRoom (g : Tiling) : Type 0 where
   pub left_near : IsWithin (2 ^ 28) g.left
   pub bottom_near : IsWithin (2 ^ 28) g.bottom
   pub some_side : 0 < g.side
-  pub side_small : g.side ≤ 2 ^ 25
+  pub side_small : g.side ≤ 2 ^ 30
   pub few : tile_count g ≤ most_tiles
   pub across : g.columns * g.side ≤ 2 ^ 29 + 2 ^ 26
   pub up : g.rows * g.side ≤ 2 ^ 29 + 2 ^ 26

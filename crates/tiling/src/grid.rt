@@ -15,6 +15,9 @@ pub const LEAST_SIDE: u32 = 16;
 /// The greatest side of a tile, in grid units.
 pub const GREATEST_SIDE: u32 = 33_554_432;
 
+/// A side that no box within the coordinate limit reaches over.
+const WHOLE_SIDE: u32 = 536_870_913;
+
 /// The greatest number of tiles.
 pub const MOST_TILES: u32 = 65_536;
 
@@ -59,6 +62,21 @@ impl Grid {
                 rows: 0,
             }),
             Some(r) => grid_over(r, side),
+        }
+    }
+
+    /// The grid of one tile over a box.
+    pub fn one_tile(bounds: Rect) -> Grid
+        requires { AreBounds (Some bounds) }
+        ensures one { tile_count result ≡ 1 }
+        ensures covers { CoversBounds (Some bounds) result }
+    {
+        Grid {
+            left: bounds.lo.x,
+            bottom: bounds.lo.y,
+            side: WHOLE_SIDE,
+            columns: 1,
+            rows: 1,
         }
     }
 
@@ -157,7 +175,7 @@ fn number_of(columns: u32, rows: u32, column: u32, row: u32) -> u32
 fn ends(low: i32, index: u32, side: u32, columns: u32) -> (i32, i32)
     requires index { index < columns }
     requires low { IsWithin (2 ^ 28) low }
-    requires side { (0 < side) × (side ≤ 2 ^ 25) }
+    requires side { (0 < side) × (side ≤ 2 ^ 30) }
     requires small { columns * side ≤ 2 ^ 29 + 2 ^ 26 }
     ensures first { result.0 ≡ low +ℤ pos (index * side) }
     ensures last { result.1 ≡ low +ℤ pos (index * side + side - 1) }

@@ -30,7 +30,7 @@ invariant_of-result c =
       left_near = rw (to_z-of_z f) (near_28 r.lo.x b.a_in.x_in);
       bottom_near = rw (to_z-of_z g) (near_28 r.lo.y b.a_in.y_in);
       some_side = omega arith;
-      side_small = c.requires.side.1;
+      side_small = let s = c.requires.side.1 in omega (arith, s);
       few = omega arith;
       across = wide r.lo.x r.hi.x c.args.side _ b.a_in.x_in b.b_in.x_in r.wide c.requires.side.1 (simp to_z-of_z at c.steps_over-columns.ensures.value);
       up = wide r.lo.y r.hi.y c.args.side _ b.a_in.y_in b.b_in.y_in r.high c.requires.side.1 (simp to_z-of_z at c.steps_over-rows.ensures.value);
