@@ -1,7 +1,7 @@
 //! The four operations on small layers, whose results were worked out by hand from the rules.
 
-use super::plans::{APART, BROAD, LARGE, LARGE_OTHER, VAST, VAST_OTHER, WHOLE};
-use super::{LINE, OTHER, SQUARE, is_overlaid};
+use crate::overlaid::is_overlaid;
+use crate::texts::*;
 use engine::Plan;
 use geom::{NoMemory, Op};
 use std::alloc::Global;
@@ -12,24 +12,7 @@ use std::thread::Threads;
 /// Two layers, an operation, and its result.
 type Row = (&'static str, &'static str, Op, &'static str);
 
-const EMPTY: &str = "MULTIPOLYGON EMPTY\n";
-
-const BELOW: &str = "POLYGON ((5 0, 5 -4, 9 -4, 5 0))\n";
-
-const LARGE_COMMON: &str = "MULTIPOLYGON (((200 200, 400 200, 400 400, 200 400, 200 200)))\n";
-
-const APART_UNION: &str = "MULTIPOLYGON (((0 0, 1 0, 0 1, 0 0)), ((15 15, 16 15, 16 16, 15 15)))\n";
-
-const BROAD_UNION: &str =
-    "MULTIPOLYGON (((-16777216 -16777216, 16777216 -16777216, 16777216 16777216, -16777216 16777216, -16777216 -16777216)))\n";
-
-const WHOLE_UNION: &str =
-    "MULTIPOLYGON (((-268435456 -268435456, 268435456 -268435456, 268435456 268435456, -268435456 268435456, -268435456 -268435456)))\n";
-
-const VAST_COMMON: &str =
-    "MULTIPOLYGON (((-134217728 -134217728, 0 -134217728, 0 0, -134217728 0, -134217728 -134217728)))\n";
-
-const COMMON: Row = (SQUARE, OTHER, Op::Intersection, LINE);
+const COMMON: Row = (SQUARE, OTHER, Op::Intersection, SQUARES_COMMON);
 
 const NOTHING: Row = ("", "polygon empty", Op::Union, EMPTY);
 
@@ -59,14 +42,14 @@ const ROWS: [Row; 17] = [
     ),
     // a crossing at one half
     (
-        "POLYGON ((0 0, 1 1, 0 1, 1 0, 0 0))\n",
+        BOW_TIE,
         "",
         Op::Union,
         "MULTIPOLYGON (((0 0, 1 0, 1 1, 0 0)))\n",
     ),
     // a corner just above, and on, a side
     (
-        "POLYGON ((0 0, 10 1, 0 8, 0 0))\n",
+        WEDGE,
         BELOW,
         Op::Union,
         "MULTIPOLYGON (((0 0, 5 0, 10 1, 0 8, 0 0)), ((5 -4, 9 -4, 5 0, 5 -4)))\n",
@@ -78,18 +61,8 @@ const ROWS: [Row; 17] = [
         "MULTIPOLYGON (((5 -4, 9 -4, 5 0, 5 -4)), ((5 0, 10 0, 10 1, 5 0)))\n",
     ),
     // crossings between grid points
-    (
-        "POLYGON ((0 0, 6 0, 0 5, 0 0))\n",
-        "POLYGON ((1 1, 7 1, 7 7, 1 7, 1 1))\n",
-        Op::Intersection,
-        "MULTIPOLYGON (((1 1, 5 1, 1 4, 1 1)))\n",
-    ),
-    (
-        "POLYGON ((0 0, 6 0, 0 5, 0 0))\n",
-        "POLYGON ((1 1, 7 1, 7 7, 1 7, 1 1))\n",
-        Op::Union,
-        "MULTIPOLYGON (((0 0, 6 0, 5 1, 7 1, 7 7, 1 7, 1 4, 0 5, 0 0)))\n",
-    ),
+    (SLOPE, BESIDE, Op::Intersection, SLOPE_COMMON),
+    (SLOPE, BESIDE, Op::Union, SLOPE_UNION),
     ("", "polygon empty", Op::Intersection, EMPTY),
     ("", "polygon empty", Op::Difference, EMPTY),
     ("", "polygon empty", Op::SymDifference, EMPTY),
@@ -145,51 +118,16 @@ const FINE_REPORT: &str =
     "segments 4 4\nhot 10\nrecords 20\nedges 12\ntiles 1444\nremade 0\ntile 0 1 2\n";
 
 const REPORTED: [Reported; 10] = [
-    (
-        COMMON,
-        16,
-        2,
-        "segments 4 4\nhot 10\nrecords 20\nedges 12\ntiles 1\nremade 0\ntile 0 10 20\n",
-    ),
-    (
-        NOTHING,
-        16,
-        2,
-        "segments 0 0\nhot 0\nrecords 0\nedges 0\ntiles 0\nremade 0\n",
-    ),
+    (COMMON, 16, 2, SQUARES_REPORT),
+    (NOTHING, 16, 2, EMPTY_REPORT),
     (LARGE_ROW, 16, 1, FINE_REPORT),
     (LARGE_ROW, 16, 3, FINE_REPORT),
     (LARGE_ROW, 16, 64, FINE_REPORT),
-    (
-        LARGE_ROW,
-        33_554_432,
-        2,
-        "segments 4 4\nhot 10\nrecords 20\nedges 12\ntiles 1\nremade 0\ntile 0 10 20\n",
-    ),
-    (
-        APART_ROW,
-        16,
-        2,
-        "segments 7 0\nhot 7\nrecords 15\nedges 7\ntiles 4\nremade 0\ntile 0 4 8\ntile 1 1 2\ntile 2 1 2\ntile 3 1 3\n",
-    ),
-    (
-        BROAD_ROW,
-        33_554_432,
-        2,
-        "segments 4 0\nhot 4\nrecords 8\nedges 4\ntiles 4\nremade 0\ntile 0 1 2\ntile 1 1 2\ntile 2 1 2\ntile 3 1 2\n",
-    ),
-    (
-        WHOLE_ROW,
-        33_554_432,
-        2,
-        "segments 4 0\nhot 4\nrecords 8\nedges 4\ntiles 289\nremade 0\ntile 0 1 2\ntile 1 0 0\n",
-    ),
-    (
-        VAST_ROW,
-        33_554_432,
-        2,
-        "segments 4 4\nhot 10\nrecords 20\nedges 12\ntiles 169\nremade 0\ntile 0 1 2\ntile 1 0 0\n",
-    ),
+    (LARGE_ROW, 33_554_432, 2, SQUARES_REPORT),
+    (APART_ROW, 16, 2, APART_REPORT),
+    (BROAD_ROW, 33_554_432, 2, BROAD_REPORT),
+    (WHOLE_ROW, 33_554_432, 2, WHOLE_REPORT),
+    (VAST_ROW, 33_554_432, 2, VAST_REPORT),
 ];
 
 /// Whether a row by this plan gives its result, and a report that begins so.
