@@ -1,4 +1,4 @@
-use Rattle.tile_book.proofs.tests.all_notes_of_five_numbers.Given as goal
+use Rattle.tile_book_tests.proofs.workers.all_notes_of_five_numbers.Given as goal
 
 abbrev pub ghosts-all_notes-L-Ledger : goal.ghosts-all_notes-L-Ledger
 ghosts-all_notes-L-Ledger g a = record { name = a.blank.name; parts = a.blank.parts }

@@ -1,4 +1,4 @@
-use Rattle.tile_book.proofs.tests.one_worker_of_five_numbers.Given as goal
+use Rattle.tile_book_tests.proofs.workers.one_worker_of_five_numbers.Given as goal
 
 abbrev pub ghosts-one_worker-L-Ledger : goal.ghosts-one_worker-L-Ledger
 ghosts-one_worker-L-Ledger g a = record { name = a.blank.name; parts = a.blank.parts }

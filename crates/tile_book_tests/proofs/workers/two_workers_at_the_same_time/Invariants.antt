@@ -1,4 +1,4 @@
-use Rattle.tile_book.proofs.tests.two_workers_of_five_numbers.Given as goal
+use Rattle.tile_book_tests.proofs.workers.two_workers_at_the_same_time.Given as goal
 
 abbrev pub ghosts-two_workers-L-Ledger : goal.ghosts-two_workers-L-Ledger
 ghosts-two_workers-L-Ledger g a = record { name = a.blank.name; parts = a.blank.parts }

@@ -1,4 +1,4 @@
-use Rattle.tile_book.proofs.tests.refuses_where_memory_does.Given as goal
+use Rattle.tile_book_tests.proofs.memory.refuses_where_memory_does.Given as goal
 
 abbrev pub ghosts-desk_fits-L-Ledger : goal.ghosts-desk_fits-L-Ledger
 ghosts-desk_fits-L-Ledger g a = record { name = a.blank.name; parts = a.blank.parts }

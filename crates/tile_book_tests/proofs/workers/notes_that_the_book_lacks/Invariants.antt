@@ -1,4 +1,4 @@
-use Rattle.tile_book.proofs.tests.notes_that_the_book_lacks.Given as goal
+use Rattle.tile_book_tests.proofs.workers.notes_that_the_book_lacks.Given as goal
 
 abbrev pub ghosts-lacking-L-Ledger : goal.ghosts-lacking-L-Ledger
 ghosts-lacking-L-Ledger g a = record { name = a.blank.name; parts = a.blank.parts }
