@@ -1,37 +1,26 @@
-//! The engine's calls and the program, over files and sinks in memory.
-
-ghost use Rattle.std.specs.Prelude.{◌<◌};
+//! The program, over files and sinks in memory.
 
 use crate::files::READ_LIMIT;
 use crate::{Files, LoadFault, drive};
-use engine::{MemSink, Plan, Report, Sink, edges, line, report_text, run, status};
-use geom::{Fault, NoMemory, Op, Part, RunFault};
+use engine::MemSink;
+use engine_tests::texts::{
+    OTHER, SQUARE, SQUARES_COMMON, SQUARES_EDGES, SQUARES_REPORT, WHOLE, WHOLE_EDGES,
+};
+use geom::NoMemory;
 use std::alloc::{AllocError, Allocator, Global};
 use std::sync::Wait;
 use std::test::Fail;
 use std::thread::Threads;
-use tile_book::{Gate, OpenGate};
 
-mod operations;
-mod plans;
-mod refusals;
 mod sinks;
 mod streams;
 
-const SQUARE: &str = "POLYGON ((0 0, 4 0, 4 4, 0 4, 0 0))\n";
-
-const OTHER: &str = "POLYGON ((2 2, 6 2, 6 6, 2 6, 2 2))\n";
-
 /// Files in memory, by name.
-const TEXTS: [(&str, &str); 19] = [
+const TEXTS: [(&str, &str); 15] = [
     ("square", SQUARE),
     ("other", OTHER),
-    ("windows", "POLYGON ((0 0, 4 0,\r\n4 4, 0 4, 0 0))\r\n"),
-    ("bow", "POLYGON ((0 0, 1 1, 0 1, 1 0, 0 0))\n"),
     ("nothing", ""),
     ("empty", "polygon empty"),
-    ("wedge", "POLYGON ((0 0, 10 1, 0 8, 0 0))\n"),
-    ("below", "POLYGON ((5 0, 5 -4, 9 -4, 5 0))\n"),
     ("decimal", "POLYGON ((0 0, 1.5 0, 0 1, 0 0))"),
     ("cut", "POLYGON ((0 0"),
     ("joined", "POLYGON EMPTYPOLYGON EMPTY"),
@@ -40,7 +29,7 @@ const TEXTS: [(&str, &str); 19] = [
     ("ends", "POLYGON ((99999999 0, 1 0, 1 1)"),
     ("ends outside", "POLYGON ((999999999 0, 1 0, 1 1)"),
     ("outside", "POLYGON ((0 0, 268435457 0, 0 1, 0 0))"),
-    ("whole", plans::WHOLE),
+    ("whole", WHOLE),
     ("short", "POLYGON ((0 0, 1 0, 0 1))"),
     ("open", "POLYGON ((0 0, 1 0, 1 1, 0 1))"),
     (
@@ -48,18 +37,6 @@ const TEXTS: [(&str, &str); 19] = [
         "POLYGON ((0 0, 4 0, 4 4, 0 4, 0 0), (1 1, 2 2, 1 1))",
     ),
 ];
-
-const LINE: &str = "MULTIPOLYGON (((2 2, 4 2, 4 4, 2 4, 2 2)))\n";
-
-const SQUARES: &str =
-    "0 0 0 4 1 0\n0 0 4 0 1 0\n0 4 2 4 1 0\n2 2 2 4 0 1\n2 2 4 2 0 1\n2 4 2 6 0 1\n2 4 4 4 1 0\n2 6 6 6 0 1\n4 0 4 2 1 0\n4 2 4 4 1 0\n4 2 6 2 0 1\n6 2 6 6 0 1\n";
-
-const BOW: &str = "0 0 1 0 1 0\n0 0 1 1 1 0\n0 1 1 1 2 0\n1 0 1 1 1 0\n";
-
-const TWICE: &str = "0 0 0 4 1 1\n0 0 4 0 1 1\n0 4 4 4 1 1\n4 0 4 4 1 1\n";
-
-const BENT: &str =
-    "0 0 0 8 1 0\n0 0 5 0 1 0\n0 8 10 1 1 0\n5 -4 5 0 0 1\n5 -4 9 -4 0 1\n5 0 9 -4 0 1\n5 0 10 1 1 0\n";
 
 #[derive(Drop)]
 struct MemFiles;
@@ -100,43 +77,6 @@ impl Files for MemFiles {
             Err(_) => Err(LoadFault::Memory),
         }
     }
-}
-
-/// Writes the result of an operation on two layers, or their edges.
-fn overlaid<A: Allocator + Copy + Send + Sync, G: Gate + Sync, S: Sink, R: Threads + Wait + Sync>(
-    rt: &R,
-    alloc: A,
-    op: Option<Op>,
-    layers: (&str, &str),
-    plan: Plan,
-    gate: &G,
-    sink: &mut S,
-) -> Result<Report<A>, RunFault>
-    requires { (S.state sink.old).failed < u64.MAX }
-{
-    let (a, b) = (layers.0.as_bytes(), layers.1.as_bytes());
-    match op {
-        Some(op) => run(rt, alloc, op, a, b, plan, gate, sink),
-        None => edges(rt, alloc, a, b, plan, gate, sink),
-    }
-}
-
-/// Whether a run gives this text, settled, and a report that begins so.
-fn is_overlaid<R: Threads + Wait + Sync>(
-    rt: &R,
-    alloc: Global,
-    op: Option<Op>,
-    layers: (&str, &str),
-    plan: Plan,
-    text: &str,
-    report: &str,
-) -> Result<bool, NoMemory> {
-    let mut sink = MemSink::new(alloc, 4000)?;
-    let Ok(answer) = overlaid(rt, alloc, op, layers, plan, &OpenGate, &mut sink) else {
-        return Ok(false);
-    };
-    let told = report_text(alloc, &answer)?;
-    Ok(sink.bytes() == text.as_bytes() && sink.is_settled() && told.starts_with(report.as_bytes()))
 }
 
 /// What is printed.
@@ -198,12 +138,12 @@ const PARSER: Told = Told::Begins("error: ");
 /// A command line behind the program's name, its exit status, and what it prints to standard output and standard error.
 type Case = (&'static [&'static str], u8, &'static str, Told);
 
-const CASES: [Case; 48] = [
+const CASES: [Case; 28] = [
     (
         &["intersection", "square", "other", "--tile=16", "--report"],
         0,
-        "MULTIPOLYGON (((2 2, 4 2, 4 4, 2 4, 2 2)))\n",
-        Told::Text("segments 4 4\nhot 10\nrecords 20\nedges 12\ntiles 1\nremade 0\ntile 0 10 20\n"),
+        SQUARES_COMMON,
+        Told::Text(SQUARES_REPORT),
     ),
     (
         &["union", "none", "other"],
@@ -211,12 +151,17 @@ const CASES: [Case; 48] = [
         "",
         Told::Text("overlay: A: cannot read\n"),
     ),
-    (&["edges", "square", "other"], 0, SQUARES, Told::Text("")),
+    (
+        &["edges", "square", "other"],
+        0,
+        SQUARES_EDGES,
+        Told::Text(""),
+    ),
     (
         &["edges", "square", "other", "--tile=16", "--report"],
         0,
-        SQUARES,
-        Told::Text("segments 4 4\nhot 10\nrecords 20\nedges 12\ntiles 1\nremade 0\ntile 0 10 20\n"),
+        SQUARES_EDGES,
+        Told::Text(SQUARES_REPORT),
     ),
     (
         &["edges", "nothing", "empty", "--report"],
@@ -330,133 +275,7 @@ const CASES: [Case; 48] = [
         "",
         Told::Text("overlay: 8 too many tiles: 4198401\n"),
     ),
-    (
-        &["edges", "whole", "empty"],
-        0,
-        plans::WHOLE_EDGES,
-        Told::Text(""),
-    ),
-    // Each refusal of a text, on either layer.
-    (
-        &["edges", "decimal", "empty"],
-        3,
-        "",
-        Told::Text("overlay: A: 1 syntax at 16\n"),
-    ),
-    (
-        &["edges", "empty", "decimal"],
-        3,
-        "",
-        Told::Text("overlay: B: 1 syntax at 16\n"),
-    ),
-    (
-        &["edges", "cut", "empty"],
-        3,
-        "",
-        Told::Text("overlay: A: 1 syntax at 13\n"),
-    ),
-    (
-        &["edges", "empty", "cut"],
-        3,
-        "",
-        Told::Text("overlay: B: 1 syntax at 13\n"),
-    ),
-    (
-        &["edges", "joined", "empty"],
-        3,
-        "",
-        Told::Text("overlay: A: 1 syntax at 13\n"),
-    ),
-    (
-        &["edges", "empty", "joined"],
-        3,
-        "",
-        Told::Text("overlay: B: 1 syntax at 13\n"),
-    ),
-    (
-        &["edges", "bare", "empty"],
-        3,
-        "",
-        Told::Text("overlay: A: 1 syntax at 9\n"),
-    ),
-    (
-        &["edges", "empty", "bare"],
-        3,
-        "",
-        Told::Text("overlay: B: 1 syntax at 9\n"),
-    ),
-    (
-        &["edges", "ends", "empty"],
-        3,
-        "",
-        Told::Text("overlay: A: 1 syntax at 31\n"),
-    ),
-    (
-        &["edges", "empty", "ends"],
-        3,
-        "",
-        Told::Text("overlay: B: 1 syntax at 31\n"),
-    ),
-    (
-        &["union", "ends outside", "empty"],
-        3,
-        "",
-        Told::Text("overlay: A: 1 syntax at 32\n"),
-    ),
-    (
-        &["union", "empty", "ends outside"],
-        3,
-        "",
-        Told::Text("overlay: B: 1 syntax at 32\n"),
-    ),
-    (
-        &["edges", "outside", "empty"],
-        3,
-        "",
-        Told::Text("overlay: A: 2 number out of range at 15\n"),
-    ),
-    (
-        &["edges", "empty", "outside"],
-        3,
-        "",
-        Told::Text("overlay: B: 2 number out of range at 15\n"),
-    ),
-    (
-        &["edges", "short", "empty"],
-        3,
-        "",
-        Told::Text("overlay: A: 3 short ring at 9\n"),
-    ),
-    (
-        &["edges", "empty", "short"],
-        3,
-        "",
-        Told::Text("overlay: B: 3 short ring at 9\n"),
-    ),
-    (
-        &["edges", "inner", "empty"],
-        3,
-        "",
-        Told::Text("overlay: A: 3 short ring at 36\n"),
-    ),
-    (
-        &["edges", "empty", "inner"],
-        3,
-        "",
-        Told::Text("overlay: B: 3 short ring at 36\n"),
-    ),
-    (
-        &["edges", "open", "empty"],
-        3,
-        "",
-        Told::Text("overlay: A: 4 open ring at 9\n"),
-    ),
-    (
-        &["edges", "empty", "open"],
-        3,
-        "",
-        Told::Text("overlay: B: 4 open ring at 9\n"),
-    ),
+    (&["edges", "whole", "empty"], 0, WHOLE_EDGES, Told::Text("")),
 ];
 
 /// Whether a command line gives what its case says.
@@ -478,72 +297,107 @@ fn answers_command_lines(rt: HostRuntime) -> Result<(), Fail> {
     Ok(())
 }
 
-/// A segment count past the limit, and a text of one byte too many.
-const LARGE: [Case; 4] = [
+/// A command, a layer that is refused, and the lines where it is the first layer and where it is the second one.
+type Refused = (&'static str, &'static str, &'static str, &'static str);
+
+const REFUSED: [Refused; 12] = [
     (
-        &["edges", "many", "empty"],
-        3,
-        "",
-        Told::Text("overlay: 5 too many segments: 1048580\n"),
+        "edges",
+        "decimal",
+        "overlay: A: 1 syntax at 16\n",
+        "overlay: B: 1 syntax at 16\n",
     ),
     (
-        &["edges", "empty", "many"],
-        3,
-        "",
-        Told::Text("overlay: 5 too many segments: 1048580\n"),
+        "edges",
+        "cut",
+        "overlay: A: 1 syntax at 13\n",
+        "overlay: B: 1 syntax at 13\n",
     ),
     (
-        &["edges", "long", "empty"],
-        3,
-        "",
-        Told::Text("overlay: A: 0 layer too long\n"),
+        "edges",
+        "joined",
+        "overlay: A: 1 syntax at 13\n",
+        "overlay: B: 1 syntax at 13\n",
     ),
     (
-        &["edges", "empty", "long"],
-        3,
-        "",
-        Told::Text("overlay: B: 0 layer too long\n"),
+        "edges",
+        "bare",
+        "overlay: A: 1 syntax at 9\n",
+        "overlay: B: 1 syntax at 9\n",
+    ),
+    (
+        "edges",
+        "ends",
+        "overlay: A: 1 syntax at 31\n",
+        "overlay: B: 1 syntax at 31\n",
+    ),
+    (
+        "union",
+        "ends outside",
+        "overlay: A: 1 syntax at 32\n",
+        "overlay: B: 1 syntax at 32\n",
+    ),
+    (
+        "edges",
+        "outside",
+        "overlay: A: 2 number out of range at 15\n",
+        "overlay: B: 2 number out of range at 15\n",
+    ),
+    (
+        "edges",
+        "short",
+        "overlay: A: 3 short ring at 9\n",
+        "overlay: B: 3 short ring at 9\n",
+    ),
+    (
+        "edges",
+        "inner",
+        "overlay: A: 3 short ring at 36\n",
+        "overlay: B: 3 short ring at 36\n",
+    ),
+    (
+        "edges",
+        "open",
+        "overlay: A: 4 open ring at 9\n",
+        "overlay: B: 4 open ring at 9\n",
+    ),
+    // A segment count past the limit, and a text of one byte too many.
+    (
+        "edges",
+        "many",
+        "overlay: 5 too many segments: 1048580\n",
+        "overlay: 5 too many segments: 1048580\n",
+    ),
+    (
+        "edges",
+        "long",
+        "overlay: A: 0 layer too long\n",
+        "overlay: B: 0 layer too long\n",
     ),
 ];
 
+/// Whether a command over two files is refused with this line alone.
+fn is_refused<R: Threads + Wait + Sync>(
+    rt: &R,
+    alloc: Global,
+    command: &str,
+    files: (&str, &str),
+    line: &'static str,
+) -> Result<bool, NoMemory> {
+    let words = [command, files.0, files.1];
+    let outcome = driven(rt, alloc, words.as_slice(), (4000, 4000))?;
+    Ok(is_outcome(&outcome, 3, Told::Text(""), Told::Text(line)))
+}
+
 #[test]
-fn refuses_large_layers(rt: HostRuntime) -> Result<(), Fail> {
-    for (words, status, out, err) in LARGE {
-        let outcome = driven(&rt, rt.alloc(), words, (4000, 4000))?;
-        assert!(rt;
-            is_outcome(&outcome, status, Told::Text(out), err),
-            "{words:?}"
-        );
+fn refuses_either_layer(rt: HostRuntime) -> Result<(), Fail> {
+    for (command, name, of_first, of_second) in REFUSED {
+        for (files, line) in [((name, "empty"), of_first), (("empty", name), of_second)] {
+            assert!(rt;
+                is_refused(&rt, rt.alloc(), command, files, line)?,
+                "{command} {files:?}"
+            );
+        }
     }
-    Ok(())
-}
-
-#[test]
-fn says_why_a_run_is_refused(rt: HostRuntime) -> Result<(), Fail> {
-    let fault = RunFault {
-        at: Part::Run,
-        fault: Fault::TooManyTiles(65792),
-    };
-    assert_eq!(rt; status(&fault), 3);
-    assert!(rt;
-        line(rt.alloc(), &fault)?.as_slice() == b"overlay: 8 too many tiles: 65792\n".as_slice()
-    );
-    Ok(())
-}
-
-#[test]
-fn prints_a_report(rt: HostRuntime) -> Result<(), Fail> {
-    let report = Report {
-        segments_a: 7,
-        segments_b: 0,
-        hot: 7,
-        records: 15,
-        edges: 7,
-        remade: 0,
-        tiles: vec![in rt.alloc(); (4, 8), (1, 2), (1, 2), (1, 3)]?,
-    };
-    let want =
-        b"segments 7 0\nhot 7\nrecords 15\nedges 7\ntiles 4\nremade 0\ntile 0 4 8\ntile 1 1 2\ntile 2 1 2\ntile 3 1 3\n";
-    assert!(rt; report_text(rt.alloc(), &report)?.as_slice() == want.as_slice());
     Ok(())
 }

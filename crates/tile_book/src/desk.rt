@@ -73,17 +73,6 @@ impl<P: Numbered + Drop, L: Limited, A: Allocator + Copy> Desk<P, L, A> {
         ))
     }
 
-    // The book of a desk that is not shared any more.
-    #[cfg(test)]
-    pub(crate) fn into_book(self) -> Book<P, L, A> {
-        let Desk {
-            limit: _,
-            shares: _,
-            book,
-        } = self;
-        book.into_inner()
-    }
-
     /// Takes the lock and posts: accepted, and the share grows by one; or the piece comes back, as a stranger where its
     /// number is not below the limit, else because a piece of its number is held.
     pub fn post(

@@ -102,11 +102,11 @@ where
 {
     let filled: Filled<J::Piece, L, A> = fill(rt, alloc, blank, limit, workers, job, phase, gate)?;
     let Filled { book, .. } = filled;
-    completed(alloc, job, book)
+    complete(alloc, job, book)
 }
 
-// The pieces of a book, and a new one of each number that it lacks.
-pub(crate) fn completed<A: Allocator + Copy, J: Job<A>, L: Limited>(
+/// The pieces of a book, and a new one of each number that it lacks.
+pub fn complete<A: Allocator + Copy, J: Job<A>, L: Limited>(
     alloc: A,
     job: &J,
     book: Book<J::Piece, L, A>,

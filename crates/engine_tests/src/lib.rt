@@ -1,0 +1,21 @@
+//! Tests of the engine's calls on small layers, whose answers come from outside: the edges and all operations by plans of all
+//! kinds, what is refused, sinks that fail, and each request for memory refused in turn.
+#![tactic(auto)]
+
+#[cfg(test)]
+mod operations;
+#[cfg(test)]
+mod overlaid;
+#[cfg(test)]
+mod plans;
+#[cfg(test)]
+mod refusals;
+#[cfg(test)]
+mod reports;
+#[cfg(test)]
+mod requests;
+#[cfg(test)]
+mod sinks;
+pub mod texts;
+#[cfg(test)]
+mod workers;

@@ -1,0 +1,113 @@
+//! What is answered where a request for memory is refused.
+
+use crate::overlaid::overlaid;
+use crate::texts::{
+    APART, APART_UNION, BESIDE, BOW_TIE, BOW_TIE_EDGES, OTHER, SLOPE, SLOPE_COMMON, SLOPE_UNION,
+    SQUARE, SQUARES_COMMON,
+};
+use engine::{MemSink, Plan};
+use geom::{Fault, NoMemory, Op};
+use refusing::Refusing;
+use std::alloc::{Allocator, Global};
+use std::sync::Wait;
+use std::test::Fail;
+use std::thread::Threads;
+use tile_book::OpenGate;
+
+/// An operation, or the edges, of two layers, and its text.
+type Row = (Option<Op>, &'static str, &'static str, &'static str);
+
+const ROWS: [Row; 5] = [
+    (Some(Op::Intersection), SQUARE, OTHER, SQUARES_COMMON),
+    (None, BOW_TIE, "", BOW_TIE_EDGES),
+    (Some(Op::Intersection), SLOPE, BESIDE, SLOPE_COMMON),
+    (Some(Op::Union), SLOPE, BESIDE, SLOPE_UNION),
+    (Some(Op::Union), APART, "", APART_UNION),
+];
+
+/// More requests for memory than any of the rows makes.
+const REQUESTS: u64 = 400;
+
+/// What a call ends with.
+#[derive(Clone, Copy, PartialEq, Eq, Debug)]
+enum Ending {
+    /// The right answer.
+    Right,
+    /// Want of memory, and nothing is written.
+    OutOfMemory,
+    /// Anything else.
+    Strange,
+}
+
+/// What a row gives by so many workers, with memory from this allocator.
+fn given<A: Allocator + Copy + Send + Sync, R: Threads + Wait + Sync>(
+    rt: &R,
+    alloc: A,
+    room: Global,
+    row: Row,
+    workers: u32,
+) -> Result<Ending, NoMemory> {
+    let (op, a, b, text) = row;
+    let plan = Plan { side: 16, workers };
+    let mut sink = MemSink::new(room, 100)?;
+    let answer = overlaid(rt, alloc, op, (a, b), plan, &OpenGate, &mut sink);
+    let fault = answer.err().map(|found| found.fault);
+    Ok(told(fault, sink.bytes(), text))
+}
+
+fn told(fault: Option<Fault>, bytes: &[u8], text: &str) -> Ending {
+    if fault.is_none() && bytes == text.as_bytes() {
+        Ending::Right
+    } else if fault == Some(Fault::Memory) && bytes.is_empty() {
+        Ending::OutOfMemory
+    } else {
+        Ending::Strange
+    }
+}
+
+/// What a row gives where this request for memory is refused, and what the same call gives then with ample memory.
+fn given_twice<R: Threads + Wait + Sync>(
+    rt: &R,
+    alloc: Global,
+    row: Row,
+    workers: u32,
+    number: u64,
+) -> Result<(Ending, Ending), NoMemory> {
+    let heap = Refusing::new(alloc, number);
+    let first = given(rt, &heap, alloc, row, workers)?;
+    let second = given(rt, alloc, alloc, row, workers)?;
+    Ok((first, second))
+}
+
+/// How many numbers of requests are refused with want of memory, where each other one is answered with the text and so is each
+/// call after it.
+fn refusals<R: Threads + Wait + Sync>(
+    rt: &R,
+    alloc: Global,
+    row: Row,
+    workers: u32,
+) -> Result<Option<u64>, NoMemory> {
+    let mut count = 0u64;
+    for number in 0..REQUESTS {
+        let (first, second) = given_twice(rt, alloc, row, workers, number)?;
+        if first == Ending::Strange || second != Ending::Right {
+            return Ok(None);
+        }
+        count = count.wrapping_add(u64::from(first == Ending::OutOfMemory));
+    }
+    Ok(Some(count))
+}
+
+#[test]
+fn refuses_each_request(rt: HostRuntime) -> Result<(), Fail> {
+    for row in ROWS {
+        for workers in [1, 2] {
+            let count = refusals(&rt, rt.alloc(), row, workers)?;
+            assert!(rt;
+                count.is_some_and(|count| 20 < count && count < REQUESTS),
+                "{row:?} {workers} {count:?}"
+            );
+        }
+    }
+    Ok(())
+}
