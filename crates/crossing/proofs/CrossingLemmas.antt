@@ -13,7 +13,9 @@ use Rattle.crossing.specs.Crossing.{CrossesAt}
 use Rattle.geom.proofs.Integers.{linear, mul_nonneg, mul_pos, cancel_nonneg, cancel_pos, unscale_eq}
 use Rattle.geom.proofs.Fraction.{gap_is, strict_gap_is, from_gap, from_strict_gap, weak}
 use Rattle.geom.proofs.Nearest.{IsNearest, nearest-is, nearest-unique}
-use Rattle.geom.proofs.Identity.{var, num, ◌⊕◌, ◌⊖◌, ◌⊗◌, ring}
+use Rattle.geom.proofs.Pixels.{same_point}
+use Rattle.crossing.proofs.Ends.{point_along}
+use Rattle.geom.proofs.Identity.{Term, var, num, ◌⊕◌, ◌⊖◌, ◌⊗◌, ring}
 
 gap_factor : (n x y : ℤ) → n *ℤ (y -ℤ x) ≡ (n *ℤ y) -ℤ (n *ℤ x)
 gap_factor n x y = ring (n ∷ x ∷ y ∷ []) (var 0 ⊗ (var 2 ⊖ var 1)) ((var 0 ⊗ var 2) ⊖ (var 0 ⊗ var 1)) refl
@@ -99,29 +101,28 @@ over_det N z a u m n det e pn h g =
     let r : det *ℤ (n *ℤ z) ≡ n *ℤ (det *ℤ z) = ring (det ∷ n ∷ z ∷ []) (var 0 ⊗ (var 1 ⊗ var 2)) (var 1 ⊗ (var 0 ⊗ var 2)) refl in
     cancel_equal n _ _ pn (p ∙ ap (λ x. (N *ℤ (det *ℤ (n *ℤ a))) +ℤ (N *ℤ (x *ℤ u))) (sym g) ∙ q ∙ ap (λ x. det *ℤ x) (sym h) ∙ r)
 
--- Cramer's rule in one coordinate
+-- the determinants of the points (1, 2), (3, 4), (5, 6) and (7, 8), and Cramer's rule in one of their coordinates
+abbrev whole : Term
+whole = ((var 3 ⊖ var 1) ⊗ (var 8 ⊖ var 6)) ⊖ ((var 4 ⊖ var 2) ⊗ (var 7 ⊖ var 5))
+
+abbrev along_first : Term
+along_first = ((var 5 ⊖ var 1) ⊗ (var 8 ⊖ var 6)) ⊖ ((var 6 ⊖ var 2) ⊗ (var 7 ⊖ var 5))
+
+abbrev along_second : Term
+along_second = ((var 5 ⊖ var 1) ⊗ (var 4 ⊖ var 2)) ⊖ ((var 6 ⊖ var 2) ⊗ (var 3 ⊖ var 1))
+
+abbrev place : Term → Term → Term → Term
+place start end along = ((var 0 ⊗ whole) ⊗ start) ⊕ ((var 0 ⊗ along) ⊗ (end ⊖ start))
+
 same_place_x : (s ax ay bx by cx cy dx dy : ℤ) →
     ((s *ℤ determinant (bx -ℤ ax) (by -ℤ ay) (dx -ℤ cx) (dy -ℤ cy)) *ℤ ax) +ℤ ((s *ℤ determinant (cx -ℤ ax) (cy -ℤ ay) (dx -ℤ cx) (dy -ℤ cy)) *ℤ (bx -ℤ ax))
     ≡ ((s *ℤ determinant (bx -ℤ ax) (by -ℤ ay) (dx -ℤ cx) (dy -ℤ cy)) *ℤ cx) +ℤ ((s *ℤ determinant (cx -ℤ ax) (cy -ℤ ay) (bx -ℤ ax) (by -ℤ ay)) *ℤ (dx -ℤ cx))
-same_place_x s ax ay bx by cx cy dx dy =
-    let S = var 0 in let AX = var 1 in let AY = var 2 in let BX = var 3 in let BY = var 4 in let CX = var 5 in let CY = var 6 in let DX = var 7 in let DY = var 8 in
-    let D = ((BX ⊖ AX) ⊗ (DY ⊖ CY)) ⊖ ((BY ⊖ AY) ⊗ (DX ⊖ CX)) in
-    let E = ((CX ⊖ AX) ⊗ (DY ⊖ CY)) ⊖ ((CY ⊖ AY) ⊗ (DX ⊖ CX)) in
-    let F = ((CX ⊖ AX) ⊗ (BY ⊖ AY)) ⊖ ((CY ⊖ AY) ⊗ (BX ⊖ AX)) in
-    ring (s ∷ ax ∷ ay ∷ bx ∷ by ∷ cx ∷ cy ∷ dx ∷ dy ∷ []) (((S ⊗ D) ⊗ AX) ⊕ ((S ⊗ E) ⊗ (BX ⊖ AX))) (((S ⊗ D) ⊗ CX) ⊕ ((S ⊗ F) ⊗ (DX ⊖ CX))) refl
+same_place_x s ax ay bx by cx cy dx dy = ring (s ∷ ax ∷ ay ∷ bx ∷ by ∷ cx ∷ cy ∷ dx ∷ dy ∷ []) (place (var 1) (var 3) along_first) (place (var 5) (var 7) along_second) refl
 
 same_place_y : (s ax ay bx by cx cy dx dy : ℤ) →
     ((s *ℤ determinant (bx -ℤ ax) (by -ℤ ay) (dx -ℤ cx) (dy -ℤ cy)) *ℤ ay) +ℤ ((s *ℤ determinant (cx -ℤ ax) (cy -ℤ ay) (dx -ℤ cx) (dy -ℤ cy)) *ℤ (by -ℤ ay))
     ≡ ((s *ℤ determinant (bx -ℤ ax) (by -ℤ ay) (dx -ℤ cx) (dy -ℤ cy)) *ℤ cy) +ℤ ((s *ℤ determinant (cx -ℤ ax) (cy -ℤ ay) (bx -ℤ ax) (by -ℤ ay)) *ℤ (dy -ℤ cy))
-same_place_y s ax ay bx by cx cy dx dy =
-    let S = var 0 in let AX = var 1 in let AY = var 2 in let BX = var 3 in let BY = var 4 in let CX = var 5 in let CY = var 6 in let DX = var 7 in let DY = var 8 in
-    let D = ((BX ⊖ AX) ⊗ (DY ⊖ CY)) ⊖ ((BY ⊖ AY) ⊗ (DX ⊖ CX)) in
-    let E = ((CX ⊖ AX) ⊗ (DY ⊖ CY)) ⊖ ((CY ⊖ AY) ⊗ (DX ⊖ CX)) in
-    let F = ((CX ⊖ AX) ⊗ (BY ⊖ AY)) ⊖ ((CY ⊖ AY) ⊗ (BX ⊖ AX)) in
-    ring (s ∷ ax ∷ ay ∷ bx ∷ by ∷ cx ∷ cy ∷ dx ∷ dy ∷ []) (((S ⊗ D) ⊗ AY) ⊕ ((S ⊗ E) ⊗ (BY ⊖ AY))) (((S ⊗ D) ⊗ CY) ⊕ ((S ⊗ F) ⊗ (DY ⊖ CY))) refl
-
-same_point : (x y : ℤ) (c : Pt) → x ≡ c.x → y ≡ c.y → (let p : Pt = record { x = x; y = y } in p ≡ c)
-same_point x y c e f = λ i. record { x = e i; y = f i }
+same_place_y s ax ay bx by cx cy dx dy = ring (s ∷ ax ∷ ay ∷ bx ∷ by ∷ cx ∷ cy ∷ dx ∷ dy ∷ []) (place (var 2) (var 4) along_first) (place (var 6) (var 8) along_second) refl
 
 apart : (s d det : ℤ) → pos 0 <ℤ det → det ≡ s *ℤ d → d ≢ pos 0
 apart s d det p e z = none (s *ℤ d) (rw (← e) p) (ap (λ x. s *ℤ x) z ∙ ring (s ∷ []) (var 0 ⊗ num (pos 0)) (num (pos 0)) refl)
@@ -135,7 +136,7 @@ turned s m n d e det e' p q h = rw (p, q) (ring (m ∷ s ∷ d ∷ []) (var 0 �
 module _ (s t : Seg) (g det e f : ℤ) (pd : pos 0 <ℤ det) (det_is : det ≡ g *ℤ turn s.a s.b t.a t.b) (e_is : e ≡ g *ℤ turn s.a t.a t.a t.b) (f_is : f ≡ g *ℤ turn s.a t.a s.a s.b) (p : Pt) where
   pub crosses : CrossesAt s.a s.b det e f p → CrossIn s t p
   crosses h =
-      let z : Point = record { x = (det *ℤ s.a.x) +ℤ (e *ℤ (s.b.x -ℤ s.a.x)); y = (det *ℤ s.a.y) +ℤ (e *ℤ (s.b.y -ℤ s.a.y)); n = det; positive = pd } in
+      let z = point_along s.a s.b det e pd in
       record {
         not_parallel = apart g _ det pd det_is;
         z = z;
@@ -149,7 +150,7 @@ module _ (s t : Seg) (g det e f : ℤ) (pd : pos 0 <ℤ det) (det_is : det ≡ g
             y_is = ap (λ x. det *ℤ x) (rw (det_is, e_is, f_is) (same_place_y g s.a.x s.a.y s.b.x s.b.y t.a.x t.a.y t.b.x t.b.y));
           },
         );
-        in_pixel = same_point _ _ p h.x_is h.y_is;
+        in_pixel = same_point (pixel z) p h.x_is h.y_is;
       }
 
   pub crossing_at : CrossIn s t p → CrossesAt s.a s.b det e f p

@@ -6,3 +6,6 @@ mod common_point;
 
 pub use boxes::may_meet;
 pub use common_point::cross;
+
+#[cfg(test)]
+mod tests;
