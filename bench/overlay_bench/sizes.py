@@ -14,7 +14,7 @@ import tempfile
 from . import programs
 
 FOLDERS = (("src", "rt", "rs"), ("specs", "antt", "hs"), ("proofs", "antt", "hs"))
-CLAUSE = re.compile(r"\b(?:requires|ensures|invariant)\s*\{")
+CLAUSE = re.compile(r"\b(?:requires|ensures|invariant)\b(?:\s+\w+)?\s*(?:=\s*)?\{")
 
 
 def add_arguments(parser):

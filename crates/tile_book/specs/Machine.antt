@@ -4,7 +4,7 @@ use Rattle.tile_book.specs.declared.desk_core.Event.{Event}
 use Rattle.tile_book.specs.declared.desk_core.Event.TheVariants.{Draw, Post, Stop}
 use Rattle.tile_book.specs.declared.desk_core.Reply.{Reply}
 use Rattle.tile_book.specs.declared.desk_core.Reply.TheVariants.{Number, None, Ok, Stranger, Double, NoHand}
-use Rattle.tile_book.specs.History.{has_ended, live_draws, accepted_in, is_in, one_if}
+use Rattle.tile_book.specs.History.{IsLegal, has_ended, live_draws, accepted_in, is_in, one_if}
 use Rattle.tile_book.specs.declared.draw.TheConstants.{MOST_HANDS, MOST_NUMBERS}
 
 pub record CoreView : Type 0 where
@@ -89,3 +89,7 @@ pub record Agrees (c : CoreView) (before : List (Event × Reply)) : Type 0 where
   pub word : c.word ≡ live_draws (length c.spent) before
   pub spent : (h : ℕ) → h < length c.spent → is_spent c h ≡ has_ended h before
   pub accepted : c.accepted ≡ accepted_in before
+
+-- after a legal history that agrees with the core old, the longer one is legal, and agrees with the core new
+abbrev pub StaysLegal : CoreView → CoreView → (List (Event × Reply) → List (Event × Reply)) → Type 0
+StaysLegal old new longer = (before : List (Event × Reply)) → IsLegal old.limit (length old.spent) before → Agrees old before → IsLegal old.limit (length old.spent) (longer before) × Agrees new (longer before)

@@ -1,9 +1,9 @@
 //! The pieces that were posted, by number, beside the numbers that were accepted.
 
 ghost use Rattle.std.specs.Prelude.{◌≡◌, ◌+◌, ◌<◌, ◌≤◌, ℕ, None, MatchResult, length, slice_index_or};
-ghost use Rattle.tile_book.specs.Books.{IsReplay, with_piece};
+ghost use Rattle.tile_book.specs.Books.{IsReplay};
 ghost use Rattle.tile_book.specs.Calls.{HasHistory, PostsLegally, post_told};
-ghost use Rattle.tile_book.specs.Replies.{ComesBack};
+ghost use Rattle.tile_book.specs.Replies.{IsPosted};
 
 use crate::share::{Limited, Share};
 use std::alloc::Allocator;
@@ -39,13 +39,13 @@ pub struct Book<P: Numbered, L: Limited, A: Allocator> {
 
 impl<P: Numbered, L: Limited, A: Allocator> Model for Book<P, L, A> {
     ghost use Rattle.std.specs.Prelude.{◌≡◌, ◌≤◌, vec_capacity, length};
-    ghost use Rattle.tile_book.specs.Books.{BookView, IsReplay};
+    ghost use Rattle.tile_book.specs.Books.{BookView, IsReplay, book_of};
 
     ghost Value = { BookView P };
 
-    ghost view = { λ b. record { limit = b.limit; held = b.held.items; accepted = b.accepted.items } };
+    ghost view = { λ b. book_of b.limit b.held.items b.accepted.items };
 
-    ghost invariant = { λ b. IsReplay P.number_of record { limit = b.limit; held = b.held.items; accepted = b.accepted.items } × (b.tally.total ≡ length b.accepted.items) × (b.limit ≤ vec_capacity b.accepted) × (b.limit ≡ L.limit) };
+    ghost invariant = { λ b. IsReplay P.number_of (book_of b.limit b.held.items b.accepted.items) × (b.tally.total ≡ length b.accepted.items) × (b.limit ≤ vec_capacity b.accepted) × (b.limit ≡ L.limit) };
 }
 
 impl<P: Numbered + Drop, L: Limited, A: Allocator> Book<P, L, A> {
@@ -53,9 +53,7 @@ impl<P: Numbered + Drop, L: Limited, A: Allocator> Book<P, L, A> {
     /// comes back and nothing has changed. It takes no memory.
     pub fn post(&mut self, share: Share<L>, piece: P) -> (Share<L>, Result<(), Returned<P>>)
         ensures limit { self.old.limit ≡ L.limit }
-        ensures answer { MatchResult result.1
-            (λ _. (P.number_of piece < self.old.limit) × (slice_index_or self.old.held (P.number_of piece) None ≡ None) × (self.new ≡ with_piece self.old (P.number_of piece) piece) × (result.0 ≡ share + 1))
-            (λ r. ComesBack P.number_of self.old piece r × (self.new ≡ self.old) × (result.0 ≡ share)) }
+        ensures answer { IsPosted P.number_of self.old self.new piece share result.0 result.1 }
         ensures legal { PostsLegally self.old.limit self.old.accepted self.new.accepted (P.number_of piece) (post_told result.1) }
     {
         let number = piece.number();

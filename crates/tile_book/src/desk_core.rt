@@ -1,7 +1,7 @@
 //! The desk as a machine of one thread, event by event.
 
 ghost use Rattle.std.specs.Prelude.{◌≡◌, ◌<◌, ◌≤◌, List, [], ◌∷◌, IfOk, OnErr, length, replicate};
-ghost use Rattle.tile_book.specs.Machine.{reply_of, after, replies_of, after_all, posted_after, drawn_after, stopped_after, draw_reply, post_reply, stop_reply, new_core, Agrees};
+ghost use Rattle.tile_book.specs.Machine.{reply_of, after, replies_of, after_all, posted_after, drawn_after, stopped_after, draw_reply, post_reply, stop_reply, new_core, Agrees, StaysLegal};
 ghost use Rattle.tile_book.specs.History.{IsLegal, followed_by};
 ghost use Rattle.tile_book.specs.declared.desk_core.Event.{Event};
 ghost use Rattle.tile_book.specs.declared.desk_core.Reply.{Reply};
@@ -80,8 +80,7 @@ impl<A: Allocator> Core<A> {
     pub fn step(&mut self, event: Event) -> Reply
         ensures reply { result ≡ reply_of self.old event }
         ensures after { self.new ≡ after self.old event }
-        ensures legal { (before : List (Event × Reply)) → IsLegal self.old.limit (length self.old.spent) before → Agrees self.old before
-            → IsLegal self.old.limit (length self.old.spent) ((event, result) ∷ before) × Agrees self.new ((event, result) ∷ before) }
+        ensures legal { StaysLegal self.old self.new (λ before. (event, result) ∷ before) }
     {
         // Read, so that the proof has the core's invariant.
         let _limit = self.limit;
@@ -96,8 +95,7 @@ impl<A: Allocator> Core<A> {
         events: &[Event],
     ) -> Result<Vec<Reply, B>, NoMemory>
         ensures ok { IfOk result (λ rs. (rs.items ≡ replies_of self.old events.now) × (self.new ≡ after_all self.old events.now)) }
-        ensures legal { IfOk result (λ rs. (before : List (Event × Reply)) → IsLegal self.old.limit (length self.old.spent) before → Agrees self.old before
-            → IsLegal self.old.limit (length self.old.spent) (followed_by before events.now rs.items) × Agrees self.new (followed_by before events.now rs.items)) }
+        ensures legal { IfOk result (λ rs. StaysLegal self.old self.new (λ before. followed_by before events.now rs.items)) }
         ensures err { OnErr result (self.new ≡ self.old) }
     {
         // Read, so that the proof has the core's invariant.
