@@ -5,6 +5,8 @@ ghost use Rattle.geom.specs.Limit.{AreInLimit};
 ghost use Rattle.tiling.specs.Tiles.{Owns};
 ghost use Rattle.hot_pixel.specs.Candidates.{AreCandidates};
 
+mod met;
+
 use super::*;
 use geom::{Edge, NoMemory, Pt, Rect, Seg, Source};
 use hot_pixel::{Line, hot_in, is_bundle, sweep};
