@@ -10,7 +10,7 @@ use Rattle.geom.specs.declared.segment.Seg.{Seg}
 use Rattle.geom.specs.Route.{Meets}
 use Rattle.tiling.specs.Tiles.{Tiling, Owns, HasTile, tile_count}
 use Rattle.hot_pixel.proofs.ListLaws.{none_in}
-use Rattle.hot_pixel.proofs.Orders.{IsSortedOnce}
+use Rattle.geom.proofs.Orders.{IsSortedOnce}
 use Rattle.hot_pixel.proofs.HotLaws.{hot_meets}
 use Rattle.routing.specs.declared.record.Record.{Record}
 use Rattle.routing.specs.Steps.{steps_to}

@@ -20,7 +20,7 @@ use Rattle.geom.specs.Rounded.{IsEdgeBefore}
 use Rattle.geom.proofs.Points.{and_both, same_point_refl}
 use Rattle.hot_pixel.proofs.ListLaws.{in_cons, here, none_in, in_push, in_take_more, no_one, no_true}
 use Rattle.chain_gather.specs.Orders.{layer_number, link_order}
-use Rattle.hot_pixel.proofs.Orders.{edge_cmp, edge_total, edge_ranks, edge_before_itself, edge_before_trans, same_edge_true}
+use Rattle.geom.proofs.Orders.{edge_cmp, edge_total, edge_ranks, edge_before_itself, edge_before_trans, same_edge_true}
 use Rattle.chain_gather.specs.declared.link.Link.{Link}
 use Rattle.chain_gather.specs.Links.{same_edge, is_of, count_links, AreCounts}
 

@@ -1,5 +1,4 @@
 pub mod Doubling
-pub mod Orders
 pub mod Listing
 pub mod Chosen
 pub mod Sides

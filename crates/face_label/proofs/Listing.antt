@@ -14,25 +14,16 @@ use Rattle.geom.specs.declared.directed.DirectedEdge.{DirectedEdge}
 use Rattle.geom.specs.ResultEdges.{left_side, is_result_edge, holds_at}
 use Rattle.geom.specs.Rounded.{edges_of, odd_edges}
 use Rattle.geom.specs.Directed.{from_to, AreDirected, IsResultEdge, AreResultEdges}
-use Rattle.geom.proofs.Lists.{In, contains_in, in_contains, in_append}
+use Rattle.geom.proofs.Lists.{In, contains_in, in_contains, in_append, in_front, in_back}
 use Rattle.face_label.specs.Label.{OddLayers, both_ways, bounds, counts_odd, ways, ways_of}
 use Rattle.face_label.proofs.Doubling.{right_is_left}
-use Rattle.face_label.proofs.Orders.{IsSortedOnce, directed_cmp, directed_ascending}
+use Rattle.geom.proofs.Orders.{IsSortedOnce, directed_cmp, directed_ascending}
 
 abbrev pub layers_of : List Counted → OddLayers
 layers_of counted = record { a = odd_edges A counted; b = odd_edges B counted }
 
 abbrev pub labels_of : Op → List Counted → List Counted → List (Bool × Bool)
 labels_of op counted cs = map (λ c. both_ways op (layers_of counted) c.edge) cs
-
-pub in_left : {X : Type 0} (xs ys : List X) (x : X) → In x xs → In x (xs ++ ys)
-in_left [] ys x i = absurd i
-in_left (y ∷ xs) ys x (inl e) = inl e
-in_left (y ∷ xs) ys x (inr i) = inr (in_left xs ys x i)
-
-pub in_right : {X : Type 0} (xs ys : List X) (x : X) → In x ys → In x (xs ++ ys)
-in_right [] ys x i = i
-in_right (y ∷ xs) ys x i = inr (in_right xs ys x i)
 
 in_if : (t : Bool) (d e : DirectedEdge) → In d (cond t (e ∷ []) []) → (t ≡ true) × (d ≡ e)
 in_if true d e (inl h) = (refl, sym h)
@@ -51,8 +42,8 @@ way_is op counted e d i j = elim (in_append (cond (bounds op (layers_of counted)
 ]
 
 pub is_way : (op : Op) (counted : List Counted) (e : Edge) (d : DirectedEdge) → (d ≡ from_to e.p e.q) ⊎ (d ≡ from_to e.q e.p) → is_result_edge op counted d.from d.to ≡ true → In d (ways e (both_ways op (layers_of counted) e))
-is_way op counted e d (inl h) b = in_left (cond (bounds op (layers_of counted) e.p e.q) (from_to e.p e.q ∷ []) []) (cond (bounds op (layers_of counted) e.q e.p) (from_to e.q e.p ∷ []) []) d (if_in (bounds op (layers_of counted) e.p e.q) d (from_to e.p e.q) (let P : DirectedEdge → Type 0 = λ t. is_result_edge op counted t.from t.to ≡ true in subst P h b) h)
-is_way op counted e d (inr h) b = in_right (cond (bounds op (layers_of counted) e.p e.q) (from_to e.p e.q ∷ []) []) (cond (bounds op (layers_of counted) e.q e.p) (from_to e.q e.p ∷ []) []) d (if_in (bounds op (layers_of counted) e.q e.p) d (from_to e.q e.p) (let P : DirectedEdge → Type 0 = λ t. is_result_edge op counted t.from t.to ≡ true in subst P h b) h)
+is_way op counted e d (inl h) b = in_front (cond (bounds op (layers_of counted) e.p e.q) (from_to e.p e.q ∷ []) []) (cond (bounds op (layers_of counted) e.q e.p) (from_to e.q e.p ∷ []) []) d (if_in (bounds op (layers_of counted) e.p e.q) d (from_to e.p e.q) (let P : DirectedEdge → Type 0 = λ t. is_result_edge op counted t.from t.to ≡ true in subst P h b) h)
+is_way op counted e d (inr h) b = in_back (cond (bounds op (layers_of counted) e.p e.q) (from_to e.p e.q ∷ []) []) (cond (bounds op (layers_of counted) e.q e.p) (from_to e.q e.p ∷ []) []) d (if_in (bounds op (layers_of counted) e.q e.p) d (from_to e.q e.p) (let P : DirectedEdge → Type 0 = λ t. is_result_edge op counted t.from t.to ≡ true in subst P h b) h)
 
 -- ---- all edges
 listed_is : (op : Op) (counted cs : List Counted) → ((e : Edge) → In e (edges_of cs) → In e (edges_of counted)) → (d : DirectedEdge) → In d (ways_of cs (labels_of op counted cs)) → IsResultEdge op counted d
@@ -64,8 +55,8 @@ listed_is op counted (c ∷ cs) f d i = elim (in_append (ways c.edge (both_ways 
 
 is_listed : (op : Op) (counted cs : List Counted) (e : Edge) (d : DirectedEdge) → In e (edges_of cs) → (d ≡ from_to e.p e.q) ⊎ (d ≡ from_to e.q e.p) → is_result_edge op counted d.from d.to ≡ true → In d (ways_of cs (labels_of op counted cs))
 is_listed op counted [] e d i r b = absurd i
-is_listed op counted (c ∷ cs) e d (inl h) r b = in_left (ways c.edge (both_ways op (layers_of counted) c.edge)) (ways_of cs (labels_of op counted cs)) d (is_way op counted c.edge d (let P : Edge → Type 0 = λ t. (d ≡ from_to t.p t.q) ⊎ (d ≡ from_to t.q t.p) in subst P (sym h) r) b)
-is_listed op counted (c ∷ cs) e d (inr i) r b = in_right (ways c.edge (both_ways op (layers_of counted) c.edge)) (ways_of cs (labels_of op counted cs)) d (is_listed op counted cs e d i r b)
+is_listed op counted (c ∷ cs) e d (inl h) r b = in_front (ways c.edge (both_ways op (layers_of counted) c.edge)) (ways_of cs (labels_of op counted cs)) d (is_way op counted c.edge d (let P : Edge → Type 0 = λ t. (d ≡ from_to t.p t.q) ⊎ (d ≡ from_to t.q t.p) in subst P (sym h) r) b)
+is_listed op counted (c ∷ cs) e d (inr i) r b = in_back (ways c.edge (both_ways op (layers_of counted) c.edge)) (ways_of cs (labels_of op counted cs)) d (is_listed op counted cs e d i r b)
 
 pub result_edges : (op : Op) (counted : List Counted) (ds : List DirectedEdge) → IsSortedOnce directed_cmp (ways_of counted (labels_of op counted counted)) ds → AreResultEdges op counted ds
 result_edges op counted ds s = record {

@@ -1,5 +1,5 @@
 -- How the edges of the strips are found.
-use Rattle.std.proofs.Common.{◌≡◌, ◌⊎◌, ℕ, ◌+◌, ◌<◌, ◌≤◌, Bool, true, false, cond, List, [], ◌∷◌, ◌++◌, length, get_or, map, take, Option, Some, None, refl, sym, ◌∙◌, ap, subst, inl, inr, arith, length-append, ℤ, pos, ◌+ℤ◌, ◌*ℤ◌, w32, to_z, of_z, to_z-of_z, FitsSigned}
+use Rattle.std.proofs.Common.{◌≡◌, ◌⊎◌, ℕ, ◌+◌, ◌<◌, ◌≤◌, Bool, true, false, cond, List, [], ◌∷◌, ◌++◌, length, get_or, map, take, Option, Some, None, refl, sym, ◌∙◌, ap, subst, inl, inr, ⊎_elim, arith, length-append, ℤ, pos, ◌+ℤ◌, ◌*ℤ◌, w32, to_z, of_z, to_z-of_z, FitsSigned}
 use Rattle.std.specs.Prelude.{◌≤ℤ◌, All, Contains, slice_get, int_lt, filter}
 use Rattle.std.specs.Option.{option_map}
 use Rattle.std.specs.Int.{int_min, int_max}
@@ -18,9 +18,11 @@ use Rattle.geom.specs.declared.segment.Source.TheVariants.{A, B}
 use Rattle.geom.specs.Limit.{AreInLimit, IsWithin, coordinate_limit}
 use Rattle.geom.specs.Rounded.{is_odd, odd_edges}
 use Rattle.geom.proofs.Integers.{expand, linear}
+use Rattle.geom.proofs.Tests.{le_le, lt_no}
 use Rattle.lane_tests.specs.Columns.{corners}
 use Rattle.tiling.specs.Index.{Item}
 use Rattle.tiling.specs.Strips.{IsFill, Striped}
+use Rattle.face_label.proofs.Chosen.{some_is}
 use Rattle.face_label.specs.Strip.{AreBoxesOf, AreColumnsFrom, AreColumnsOf, AreInStrip, AreLayerStrips, AreStriped, IsIndexOf, IsLeastWidth, IsStriped, StripedLayer, edge_corners}
 
 -- ---- columns
@@ -45,28 +47,21 @@ min_left a b r e = grind (arith, ints, int_min_is a b)
 min_right : (a b r : ℤ) → r ≡ int_min a b → r ≤ℤ b
 min_right a b r e = grind (arith, ints, int_min_is a b)
 
-min_one : (a b r : ℤ) → r ≡ int_min a b → (r ≡ a) ⊎ (r ≡ b)
-min_one a b r e = either (int_lt b a) refl
-  where
-    either : (t : Bool) → int_lt b a ≡ t → (r ≡ a) ⊎ (r ≡ b)
-    either true s = inr (e ∙ ap (λ t. cond t b a) s)
-    either false s = inl (e ∙ ap (λ t. cond t b a) s)
-
 max_left : (a b r : ℤ) → r ≡ int_max a b → a ≤ℤ r
 max_left a b r e = grind (arith, ints, int_max_is a b)
 
 max_right : (a b r : ℤ) → r ≡ int_max a b → b ≤ℤ r
 max_right a b r e = grind (arith, ints, int_max_is a b)
 
-max_one : (a b r : ℤ) → r ≡ int_max a b → (r ≡ a) ⊎ (r ≡ b)
-max_one a b r e = either (int_lt b a) refl
-  where
-    either : (t : Bool) → int_lt b a ≡ t → (r ≡ a) ⊎ (r ≡ b)
-    either true s = inl (e ∙ ap (λ t. cond t a b) s)
-    either false s = inr (e ∙ ap (λ t. cond t a b) s)
+one_of : (t : Bool) (x y r : ℤ) → r ≡ cond t x y → (r ≡ x) ⊎ (r ≡ y)
+one_of true x y r e = inl e
+one_of false x y r e = inr e
 
-le_through : (a b c : ℤ) → a ≤ℤ b → b ≤ℤ c → a ≤ℤ c
-le_through a b c h k = omega (arith, linear)
+min_one : (a b r : ℤ) → r ≡ int_min a b → (r ≡ a) ⊎ (r ≡ b)
+min_one a b r e = ⊎_elim (λ h. inr h) (λ h. inl h) (one_of (int_lt b a) b a r e)
+
+max_one : (a b r : ℤ) → r ≡ int_max a b → (r ≡ a) ⊎ (r ≡ b)
+max_one a b r e = one_of (int_lt b a) a b r e
 
 -- an item of a list that is read in order
 module _ (cs : List Counted) (i : ℕ) (c : Counted) (inside : i < length cs) (here : get_or cs i c ≡ c) where
@@ -89,13 +84,13 @@ module _ (cs : List Counted) (i : ℕ) (c : Counted) (inside : i < length cs) (h
 pub more_columns : (first : Edge) (cs : List Counted) (i : ℕ) (c : Counted) (low high a b p q l h : ℤ) → a ≡ low → b ≡ high → p ≡ c.edge.p.x → q ≡ c.edge.q.x → i < length cs → get_or cs i c ≡ c → AreInLimit c.edge.p c.edge.q
     → l ≡ int_min a p → h ≡ int_max b q → AreColumnsFrom first (take i cs) low high → AreColumnsFrom first (take (i + 1) cs) l h
 more_columns first cs i c low high a b p q l h ea eb ep eq inside here limit least greatest o = record {
-  order = le_through l low h l1 (le_through low high h o.order h1);
+  order = le_le l low h l1 (le_le low high h o.order h1);
   low_in = one_within l low c.edge.p.x l3 o.low_in limit.a_in.x_in;
   high_in = one_within h high c.edge.q.x h3 o.high_in limit.b_in.x_in;
   starts = reached cs i c inside here (λ e. e.p.x) first.p.x low l l3 o.starts;
   ends = reached cs i c inside here (λ e. e.q.x) first.q.x high h h3 o.ends;
   spans = All-more (λ c. (l ≤ℤ c.edge.p.x) × (c.edge.q.x ≤ℤ h)) cs i c inside
-      (All-weaker (λ c. (low ≤ℤ c.edge.p.x) × (c.edge.q.x ≤ℤ high)) (λ c. (l ≤ℤ c.edge.p.x) × (c.edge.q.x ≤ℤ h)) (λ d s. (le_through l low d.edge.p.x l1 s.0, le_through d.edge.q.x high h s.1 h1)) (take i cs) o.spans)
+      (All-weaker (λ c. (low ≤ℤ c.edge.p.x) × (c.edge.q.x ≤ℤ high)) (λ c. (l ≤ℤ c.edge.p.x) × (c.edge.q.x ≤ℤ h)) (λ d s. (le_le l low d.edge.p.x l1 s.0, le_le d.edge.q.x high h s.1 h1)) (take i cs) o.spans)
       (let P : Counted → Type 0 = λ c. (l ≤ℤ c.edge.p.x) × (c.edge.q.x ≤ℤ h) in subst P (sym here) (l2, h2));
 }
   where
@@ -124,14 +119,11 @@ more_columns first cs i c low high a b p q l h ea eb ep eq inside here limit lea
     h3 = max_one high c.edge.q.x h greatest_is
 
 -- ---- boxes
-lt_off : (a b : ℤ) → b ≤ℤ a → int_lt a b ≡ false
-lt_off a b h = grind (arith, ints)
-
 min_first : (a b : ℤ) → a ≤ℤ b → int_min a b ≡ a
-min_first a b h = ap (λ t. cond t b a) (lt_off b a h)
+min_first a b h = ap (λ t. cond t b a) (lt_no b a h)
 
 max_second : (a b : ℤ) → a ≤ℤ b → int_max a b ≡ b
-max_second a b h = ap (λ t. cond t a b) (lt_off b a h)
+max_second a b h = ap (λ t. cond t a b) (lt_no b a h)
 
 -- the edge and the box of a number
 pub record Paired (edges : List Edge) (boxes : List Rect) (k : ℕ) (e : Edge) (b : Rect) : Type 0 where
@@ -143,22 +135,19 @@ pub record Paired (edges : List Edge) (boxes : List Rect) (k : ℕ) (e : Edge) (
 paired : (edges : List Edge) (boxes : List Rect) (k : ℕ) (e : Edge) (b : Rect) → slice_get edges k ≡ Some e → slice_get boxes k ≡ Some b → corners b ≡ edge_corners e → Paired edges boxes k e b
 paired edges boxes k e b f g h = record { edge = f; box = g; left = ap (λ c. c.0.x) h ∙ min_first e.p.x e.q.x e.ordered.column; right = ap (λ c. c.1.x) h ∙ max_second e.p.x e.q.x e.ordered.column }
 
-some_in : {X : Type 0} (x y : X) → Some x ≡ Some y → x ≡ y
-some_in x y e = cc
-
 from_box : (edges : List Edge) (boxes : List Rect) → AreBoxesOf edges boxes → (k : ℕ) (b : Rect) → slice_get boxes k ≡ Some b → (e : Edge) × Paired edges boxes k e b
 from_box edges boxes a k b h = told (slice_get edges k) refl (sym (slice_get-map corners boxes k ∙ ap (option_map corners) h) ∙ ap (λ t. slice_get t k) a ∙ slice_get-map edge_corners edges k)
   where
     told : (o : Option Edge) → slice_get edges k ≡ o → Some (corners b) ≡ option_map edge_corners (slice_get edges k) → (e : Edge) × Paired edges boxes k e b
     told None q r = absurd (let s : Some (corners b) ≡ None = r ∙ ap (option_map edge_corners) q in cc)
-    told (Some e) q r = (e, paired edges boxes k e b q h (some_in (corners b) (edge_corners e) (r ∙ ap (option_map edge_corners) q)))
+    told (Some e) q r = (e, paired edges boxes k e b q h (some_is (corners b) (edge_corners e) (r ∙ ap (option_map edge_corners) q)))
 
 from_edge : (edges : List Edge) (boxes : List Rect) → AreBoxesOf edges boxes → (k : ℕ) (e : Edge) → slice_get edges k ≡ Some e → (b : Rect) × Paired edges boxes k e b
 from_edge edges boxes a k e h = told (slice_get boxes k) refl (sym (slice_get-map corners boxes k) ∙ ap (λ t. slice_get t k) a ∙ slice_get-map edge_corners edges k ∙ ap (option_map edge_corners) h)
   where
     told : (o : Option Rect) → slice_get boxes k ≡ o → option_map corners (slice_get boxes k) ≡ Some (edge_corners e) → (b : Rect) × Paired edges boxes k e b
     told None q r = absurd (let s : None ≡ Some (edge_corners e) = sym (ap (option_map corners) q) ∙ r in cc)
-    told (Some b) q r = (b, paired edges boxes k e b h q (some_in (corners b) (edge_corners e) (sym (ap (option_map corners) q) ∙ r)))
+    told (Some b) q r = (b, paired edges boxes k e b h q (some_is (corners b) (edge_corners e) (sym (ap (option_map corners) q) ∙ r)))
 
 -- ---- strips
 pub fill_in_range : (edges : List Edge) (items : List Item) (x : IsIndexOf edges items) (s : Striped) (strip : ℕ) (numbers : List ℕ) → IsFill s strip x.boxes numbers → All (λ k. k < length edges) numbers

@@ -53,6 +53,17 @@ determinant_fits dx dy ex ey a b c d =
     let q = product_within (2 ^ 29) (2 ^ 29) dy ex b c in
     difference_within (2 ^ 58) (2 ^ 58) (dx *ℤ ey) (dy *ℤ ex) p q
 
+pub determinant_back : (P : ℤ → Type 0) (m n : ℕ) → m < 2 ^ 63 → n < 2 ^ 63 → m * n < 2 ^ 63 → (dx dy ex ey : ℤ) → IsWithin m dx → IsWithin m dy → IsWithin n ex → IsWithin n ey → P (determinant dx dy ex ey)
+    → P (to_z w64 (of_z w64 (to_z w64 (of_z w64 dx) *ℤ to_z w64 (of_z w64 ey))) -ℤ to_z w64 (of_z w64 (to_z w64 (of_z w64 dy) *ℤ to_z w64 (of_z w64 ex))))
+determinant_back P m n l k j dx dy ex ey a b c d t =
+    let fdx : FitsSigned w64 dx = fits_64 m dx l a in
+    let fdy : FitsSigned w64 dy = fits_64 m dy l b in
+    let fex : FitsSigned w64 ex = fits_64 n ex k c in
+    let fey : FitsSigned w64 ey = fits_64 n ey k d in
+    let p : FitsSigned w64 (dx *ℤ ey) = fits_64 (m * n) (dx *ℤ ey) j (product_within m n dx ey a d) in
+    let q : FitsSigned w64 (dy *ℤ ex) = fits_64 (m * n) (dy *ℤ ex) j (product_within m n dy ex b c) in
+    simp to_z-of_z t
+
 -- a product of two small numbers that the code made
 pub product_back : (r x y : ℤ) → IsWithin (2 ^ 29) x → IsWithin (2 ^ 29) y → r ≡ to_z w64 (of_z w64 x) *ℤ to_z w64 (of_z w64 y) → to_z w64 (of_z w64 r) ≡ x *ℤ y
 product_back r x y a b e =

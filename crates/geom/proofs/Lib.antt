@@ -1,4 +1,5 @@
 pub mod Integers
+pub mod Tests
 pub mod Identity
 pub mod Fraction
 pub mod Nearest

@@ -24,6 +24,7 @@ use Rattle.geom.proofs.Edges.PtOrder.{before, equal, after}
 use Rattle.geom.proofs.Integers.{expand, linear, mul_pos, unscale_lt, unscale_eq}
 use Rattle.geom.proofs.Orders.{before_itself}
 use Rattle.geom.proofs.Points.{and_both}
+use Rattle.geom.proofs.Tests.{le_told, lt_told}
 use Rattle.geom.proofs.OneRing.{one_least_vertex, one_ring}
 
 -- ---- an edge whose columns have z
@@ -31,12 +32,6 @@ record Spans (e : Edge) (z : Point) : Type 0 where
   from : (z.n *ℤ e.p.x) ≤ℤ z.x
   to : z.x <ℤ (z.n *ℤ e.q.x)
   right : pos 0 <ℤ run_of e
-
-tested_le : (a b : ℤ) → int_le a b ≡ true → a ≤ℤ b
-tested_le a b h = omega (arith, ints)
-
-tested_lt : (a b : ℤ) → int_lt a b ≡ true → a <ℤ b
-tested_lt a b h = omega (arith, ints)
 
 goes_right : (n p x q : ℤ) → pos 0 <ℤ n → (n *ℤ p) ≤ℤ x → x <ℤ (n *ℤ q) → pos 0 <ℤ (q -ℤ p)
 goes_right n p x q h k l = above (unscale_lt p q n (between (n *ℤ p) (n *ℤ q) k l) (weak n h))
@@ -53,8 +48,8 @@ goes_right n p x q h k l = above (unscale_lt p q n (between (n *ℤ p) (n *ℤ q
 spans : (e : Edge) (z : Point) → covers e z ≡ true → Spans e z
 spans e z c =
     let b = and_both (int_le (z.n *ℤ e.p.x) z.x) (int_lt z.x (z.n *ℤ e.q.x)) c in
-    let f = tested_le (z.n *ℤ e.p.x) z.x b.0 in
-    let t = tested_lt z.x (z.n *ℤ e.q.x) b.1 in
+    let f = le_told (z.n *ℤ e.p.x) z.x b.0 in
+    let t = lt_told z.x (z.n *ℤ e.q.x) b.1 in
     record { from = f; to = t; right = goes_right z.n e.p.x z.x e.q.x z.positive f t }
 
 -- ---- the point of an edge straight below z

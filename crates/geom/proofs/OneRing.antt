@@ -24,7 +24,7 @@ use Rattle.geom.proofs.Edges.{PtOrder, pt_order}
 use Rattle.geom.proofs.Edges.PtOrder.{before, equal, after}
 use Rattle.geom.proofs.Integers.{expand, linear}
 use Rattle.geom.proofs.Lists.{In, Distinct, contains_in, in_contains}
-use Rattle.geom.proofs.Orders.{before_itself}
+use Rattle.geom.proofs.Orders.{before_itself, directed_before_itself}
 use Rattle.geom.proofs.Points.{and_both, both_and, same_point_true, same_point_refl}
 use Rattle.geom.proofs.OneCut.{simple_distinct, one_cut}
 use Rattle.geom.proofs.RingEdges.{rotated_edges, cut_edges, in_permutation, in_flat, piece_edge}
@@ -54,10 +54,6 @@ same_edge_decides d e = (
 
 same_edge_flips : (d e : DirectedEdge) → same_edge d e ≡ same_edge e d
 same_edge_flips d e = one_answer (same_edge d e) (same_edge e d) (same_edge_decides d e) ((λ h. sym ((same_edge_decides e d).0 h)), (λ q. (same_edge_decides e d).1 (sym q)))
-
-pub directed_before_itself : (d : DirectedEdge) → IsDirectedBefore d d → ⊥
-directed_before_itself d (inl h) = before_itself d.from h
-directed_before_itself d (inr (e, h)) = before_itself d.to h
 
 ascending_simple : (directed : List DirectedEdge) → AllPairs IsDirectedBefore directed → IsSimple directed
 ascending_simple directed asc i j d l k e = directed_before_itself _ (subst (IsDirectedBefore _) (sym e) (asc i j d l k))

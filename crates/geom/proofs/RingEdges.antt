@@ -1,6 +1,7 @@
 -- A ring's rotations and its pieces have its edges, each once.
 use Rattle.std.proofs.Common.{◌≡◌, inl, inr, List, [], ◌∷◌, ◌++◌, refl, sym, ◌∙◌, ap, subst, ⊎_elim, append_assoc}
 use Rattle.std.specs.Prelude.{Contains, flat_map, IsPermutation}
+use Rattle.std.proofs.lemmas.List.{append-nil}
 use Rattle.std.proofs.lemmas.List.Sorted.{IsPermutation-refl, IsPermutation-sym, IsPermutation-trans, IsPermutation-append_comm, IsPermutation-append_left, IsPermutation-append_right, Contains-permutation}
 use Rattle.geom.specs.declared.point.Pt.{Pt}
 use Rattle.geom.specs.declared.directed.DirectedEdge.{DirectedEdge}
@@ -8,11 +9,7 @@ use Rattle.geom.specs.ListOrder.{IsRotation}
 use Rattle.geom.specs.Directed.{from_to}
 use Rattle.geom.specs.Rings.{along, around, ring_edges, IsCut}
 use Rattle.geom.specs.Rings.IsCut.{whole, taken}
-use Rattle.geom.proofs.Lists.{In, contains_in, in_contains, in_append}
-
-append-nil : {X : Type 0} (xs : List X) → xs ++ [] ≡ xs
-append-nil [] = refl
-append-nil (x ∷ xs) = ap (λ t. x ∷ t) (append-nil xs)
+use Rattle.geom.proofs.Lists.{In, contains_in, in_contains, in_append, in_front, in_back}
 
 -- ---- along and round
 pub along-append : {X Y : Type 0} (f : X → X → Y) (x : X) (ys : List X) (y : X) (zs : List X) (z : X) → along f x (ys ++ y ∷ zs) z ≡ along f x ys y ++ along f y zs z
@@ -62,15 +59,6 @@ cut_edges (taken {ring = r} {pieces = ps} front v mid back e s c) =
 -- ---- membership
 pub in_permutation : {X : Type 0} (xs ys : List X) (x : X) → IsPermutation xs ys → In x xs → In x ys
 in_permutation xs ys x p i = contains_in ys x (Contains-permutation xs ys x p (in_contains xs x i))
-
-pub in_front : {X : Type 0} (xs ys : List X) (x : X) → In x xs → In x (xs ++ ys)
-in_front [] ys x i = absurd i
-in_front (y ∷ xs) ys x (inl e) = inl e
-in_front (y ∷ xs) ys x (inr i) = inr (in_front xs ys x i)
-
-pub in_back : {X : Type 0} (xs ys : List X) (x : X) → In x ys → In x (xs ++ ys)
-in_back [] ys x i = i
-in_back (y ∷ xs) ys x i = inr (in_back xs ys x i)
 
 pub in_flat : {X Y : Type 0} (f : X → List Y) (xs : List X) (x : X) (y : Y) → In x xs → In y (f x) → In y (flat_map f xs)
 in_flat f [] x y i j = absurd i

@@ -38,7 +38,7 @@ not_sooner v a b (inr (inr (h, k), n)) (inl (l, m)) = before_strict b v k l
 not_sooner v a b (inr (s, n)) (inr (t, m)) = not_both (side v a b) (side v b a) (opposite v a b) n m
 
 -- no two points are each met before the other
-not_met : (v u a b : Pt) → IsMetBefore v u a b → IsMetBefore v u b a → ⊥
+pub not_met : (v u a b : Pt) → IsMetBefore v u a b → IsMetBefore v u b a → ⊥
 not_met v u a b (inl (ua, ab)) (inl (ub, ba)) = not_sooner v a b ab ba
 not_met v u a b (inl (ua, ab)) (inr (inl (ba, au))) = not_sooner v a b ab ba
 not_met v u a b (inl (ua, ab)) (inr (inr (au, ub))) = not_sooner v u a ua au
@@ -48,6 +48,12 @@ not_met v u a b (inr (inl (ab, bu))) (inr (inr (au, ub))) = not_sooner v b u bu 
 not_met v u a b (inr (inr (bu, ua))) (inl (ub, ba)) = not_sooner v b u bu ub
 not_met v u a b (inr (inr (bu, ua))) (inr (inl (ba, au))) = not_sooner v u a ua au
 not_met v u a b (inr (inr (bu, ua))) (inr (inr (au, ub))) = not_sooner v b u bu ub
+
+-- which of three points is called the first is no matter
+pub met_turned : (v u a b : Pt) → IsMetBefore v u a b → IsMetBefore v b u a
+met_turned v u a b (inl (ua, ab)) = inr (inl (ua, ab))
+met_turned v u a b (inr (inl (ab, bu))) = inr (inr (ab, bu))
+met_turned v u a b (inr (inr (bu, ua))) = inl (bu, ua)
 
 apart : (p q : Pt) → IsBefore p q → p ≢ q
 apart p q h e = before_itself p (subst (IsBefore p) (sym e) h)

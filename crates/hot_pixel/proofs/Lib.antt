@@ -1,5 +1,4 @@
 pub mod ListLaws
-pub mod Orders
 pub mod HotLaws
 pub mod LineLaws
 pub mod SweepLaws

@@ -20,7 +20,7 @@ use Rattle.crossing.specs.Boxes.{spans_meet, boxes_meet}
 use Rattle.hot_pixel.specs.Candidates.{chosen, meeting_pairs}
 use Rattle.hot_pixel.specs.Lines.{IsLine, AreEachLine, AreLines, CrossAt, lines_meet, line_pairs}
 use Rattle.hot_pixel.proofs.ListLaws.{in_cons, from_cons, here, none_in}
-use Rattle.hot_pixel.proofs.Orders.{before_itself}
+use Rattle.geom.proofs.Orders.{before_itself}
 use Rattle.hot_pixel.proofs.HotLaws.{HasEndsOf, cross_lines}
 use Rattle.geom.specs.Order.{IsBefore}
 

@@ -9,7 +9,7 @@ use lib.Signed.{◌<ℤ◌, ◌≤ℤ◌}
 use borrow.Author.Differences.{ints}
 use Rattle.geom.specs.declared.point.Pt.{Pt}
 use Rattle.geom.specs.declared.edge.Edge.{Edge}
-use Rattle.geom.proofs.Lists.{In, in_append}
+use Rattle.geom.proofs.Lists.{In, in_append, in_back}
 use Rattle.points_law.proofs.Choices.{run, rise, Even, parity, left, right}
 use Rattle.points_law.proofs.ResultOfChoices.{Edges}
 use Rattle.points_law.proofs.Meet.{slope}
@@ -17,7 +17,7 @@ use Rattle.points_law.proofs.Vertex.{west}
 use Rattle.label_sweep.specs.Status.{IsUnder}
 use Rattle.label_sweep.proofs.Order.{by_turn}
 use Rattle.label_sweep.proofs.West.{Next, first_turn, next_turn}
-use Rattle.label_sweep.proofs.Step.{Pairs, in_right, pairs_across, pairs_right}
+use Rattle.label_sweep.proofs.Step.{Pairs, pairs_across, pairs_right}
 
 -- f is steeper than g
 abbrev pub Steeper : Edge → Edge → Type 0
@@ -56,10 +56,10 @@ module _ (es : List Edge) (h : Edges es) (v : Pt) (before : List Edge) (g k : Ed
   there = pairs_right Steeper before (g ∷ (k ∷ rest)) s.order
 
   g_in : In g (before ++ (g ∷ (k ∷ rest)))
-  g_in = in_right before (g ∷ (k ∷ rest)) g (inl refl)
+  g_in = in_back before (g ∷ (k ∷ rest)) g (inl refl)
 
   k_in : In k (before ++ (g ∷ (k ∷ rest)))
-  k_in = in_right before (g ∷ (k ∷ rest)) k (inr (inl refl))
+  k_in = in_back before (g ∷ (k ∷ rest)) k (inr (inl refl))
 
   places : (f : Edge) → In f es → f.p ≡ k.p → {P : Type 0} → (In f before → P) → (f ≡ g → P) → (f ≡ k → P) → (In f rest → P) → P
   places f i b m n o q = ⊎_elim m (λ j. ⊎_elim (λ e. n (sym e)) (λ l. ⊎_elim (λ e. o (sym e)) q l) j)

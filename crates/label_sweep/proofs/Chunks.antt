@@ -4,23 +4,16 @@ use Rattle.std.specs.List.{All, AllWithin, flat_map}
 use Rattle.std.specs.List.Sorted.{IsPartitionedBy}
 use Rattle.label_sweep.specs.Chunks.{opens}
 use Rattle.std.proofs.Math.Seq.{take-append-add, drop-append-add, take-suc-set}
+use Rattle.std.proofs.lemmas.Bool.{cases_lt}
 use Rattle.std.proofs.lemmas.List.{append-nil, drop-append-le, drop-set-lt, length-append, length-drop, take-append-le, take_all}
 use Rattle.std.proofs.lemmas.List.Concat.{flat_map-append, get_or-flat_map}
 use Rattle.std.proofs.lemmas.List.Elements.{All-append, All-cons, All-drop, All-nil, All-set, All-take}
 use Rattle.std.proofs.lemmas.List.Folds.{length-flat_map-take}
-
-pub below_or_from : (i n : ℕ) → (i < n) ⊎ (n ≤ i)
-below_or_from i zero = inr (omega arith)
-below_or_from zero (suc n) = inl (omega arith)
-below_or_from (suc i) (suc n) = ⊎_elim (λ l. inl (omega arith)) (λ l. inr (omega arith)) (below_or_from i n)
+use Rattle.points_law.proofs.Even.{not_true}
 
 positive : (n : ℕ) → (n ≡ 0 → ⊥) → 0 < n
 positive zero h = absurd (h refl)
 positive (suc n) h = omega arith
-
-not_true : (b : Bool) → (b ≡ true → ⊥) → b ≡ false
-not_true true h = absurd (h refl)
-not_true false h = refl
 
 not_both : (b : Bool) → b ≡ true → b ≡ false → ⊥
 not_both true h k = absurd (let t = k in cc)
@@ -134,7 +127,7 @@ module _ {X Y : Type 0} (f : Y → List X) where
           behind l = positive w (λ z. opened (k - 1) (omega (arith, l)) z)
 
           some_before : (i : ℕ) → i < before cs k + w → 0 < w
-          some_before i l = ⊎_elim (λ m. behind m) (λ m. none k m l) (below_or_from 0 k)
+          some_before i l = ⊎_elim (λ m. behind m) (λ m. none k m l) (cases_lt 0 k)
             where
               none : (j : ℕ) → j ≤ 0 → i < before cs j + w → 0 < w
               none zero m l = omega (arith, l)
@@ -164,8 +157,8 @@ module _ {X Y : Type 0} (f : Y → List X) where
               (λ n. not_both (p (get_or (f c) w x)) (ap p (sym (at w x n)) ∙ parted (before cs k + w) i x l m e) (flat w x (omega arith) n))
               (λ z. ⊎_elim (λ n. next_opens i x z l m e n)
               (λ n. let all = before_all cs (suc k) n in let more = before_more cs k c h in let same = ap (λ y. length (f y)) is in absurd (omega (arith, all, more, same, z, w_in, l, m)))
-              (below_or_from (suc k) (length cs)))
-              (below_or_from w (length (f c)))
+              (cases_lt (suc k) (length cs)))
+              (cases_lt w (length (f c)))
 
           pub all_after : AllWithin (λ x. p x ≡ false) (flat_map f cs) (before cs k + w) (length (flat_map f cs))
           all_after i x l m = not_true (p (get_or (flat_map f cs) i x)) (λ e. later i x l m e)

@@ -8,11 +8,11 @@ use Rattle.geom.specs.declared.directed.DirectedEdge.{DirectedEdge}
 use Rattle.geom.specs.Directed.{AreResultEdges, IsResultEdge, from_to}
 use Rattle.geom.specs.ResultEdges.{is_result_edge}
 use Rattle.geom.specs.Rounded.{edges_of}
-use Rattle.geom.proofs.Lists.{In, in_contains, contains_in, in_append}
+use Rattle.geom.proofs.Lists.{In, in_contains, contains_in, in_append, in_front, in_back}
 use Rattle.face_label.specs.Label.{both_ways, holds_in, ways}
 use Rattle.face_label.proofs.Doubling.{both, right_is_left}
-use Rattle.face_label.proofs.Listing.{in_left, in_right, is_way, layers_of, way_is}
-use Rattle.face_label.proofs.Orders.{IsSortedOnce, directed_ascending, directed_cmp}
+use Rattle.face_label.proofs.Listing.{is_way, layers_of, way_is}
+use Rattle.geom.proofs.Orders.{IsSortedOnce, directed_ascending, directed_cmp}
 use Rattle.label_sweep.specs.declared.standing.Labelled.{Labelled}
 use Rattle.label_sweep.specs.Labels.{AreLabels, IsLabelled, directed_of, directions_of, holds_of}
 use Rattle.label_sweep.proofs.Members.{in_of_all}
@@ -32,10 +32,10 @@ module _ (op : Op) (cs : List Counted) where
   is_listed : (ls : List Labelled) → ((l : Labelled) → In l ls → IsLabelled cs l) → (e : Edge) (d : DirectedEdge) → In e (map (λ (l : Labelled). l.edge) ls)
       → (d ≡ from_to e.p e.q) ⊎ (d ≡ from_to e.q e.p) → is_result_edge op cs d.from d.to ≡ true → In d (directed_of op ls)
   is_listed [] h e d i r b = absurd i
-  is_listed (l ∷ ls) h e d (inl q) r b = in_left (ways l.edge (directions_of op l)) (directed_of op ls) d
+  is_listed (l ∷ ls) h e d (inl q) r b = in_front (ways l.edge (directions_of op l)) (directed_of op ls) d
       (let P : Bool × Bool → Type 0 = λ w. In d (ways l.edge w) in let Q : Edge → Type 0 = λ t. (d ≡ from_to t.p t.q) ⊎ (d ≡ from_to t.q t.p) in
       subst P (sym (way_of l (h l (inl refl)))) (is_way op cs l.edge d (subst Q (sym q) r) b))
-  is_listed (l ∷ ls) h e d (inr i) r b = in_right (ways l.edge (directions_of op l)) (directed_of op ls) d (is_listed ls (λ m k. h m (inr k)) e d i r b)
+  is_listed (l ∷ ls) h e d (inr i) r b = in_back (ways l.edge (directions_of op l)) (directed_of op ls) d (is_listed ls (λ m k. h m (inr k)) e d i r b)
 
   pub result_edges : (ls : List Labelled) → AreLabels cs ls → (ds : List DirectedEdge) → IsSortedOnce directed_cmp (directed_of op ls) ds → AreResultEdges op cs ds
   result_edges ls a ds s = record {

@@ -9,8 +9,7 @@ use Rattle.geom.specs.declared.edge.Counted.{Counted}
 use Rattle.geom.specs.EdgeOrder.{IsEdgeBefore}
 use Rattle.geom.specs.Order.{IsBefore, IsUpTo}
 use Rattle.geom.proofs.Lists.{In, in_contains, contains_in}
-use Rattle.geom.proofs.Orders.{pt_cmp, before_trans}
-use Rattle.face_label.proofs.Orders.{IsSortedOnce, pt_less}
+use Rattle.geom.proofs.Orders.{IsSortedOnce, before_trans, points_ascending, pt_cmp}
 use Rattle.label_sweep.specs.Status.{AreVertices, both_ends}
 
 pub starts_upto : (e f : Edge) → IsEdgeBefore e f → IsUpTo e.p f.p
@@ -21,7 +20,7 @@ pub after_upto : (v p q : Pt) → IsBefore v p → IsUpTo p q → IsBefore v q
 after_upto v p q b (inl e) = let P : Pt → Type 0 = λ t. IsBefore v t in subst P e b
 after_upto v p q b (inr c) = before_trans v p q b c
 
-le_cases : (i j : ℕ) → i ≤ j → (i < j) ⊎ (i ≡ j)
+pub le_cases : (i j : ℕ) → i ≤ j → (i < j) ⊎ (i ≡ j)
 le_cases i j h = elim (cases_eq i j) [ inl e ↦ inr e | inr n ↦ inl (omega arith) ]
 
 -- from the first that begins after v on all do
@@ -50,7 +49,7 @@ of_end (f ∷ es) v e (inr i) h = inr (inr (of_end es v e i h))
 
 pub are_vertices : (es : List Edge) (vs : List Pt) → IsSortedOnce pt_cmp (both_ends es) vs → AreVertices es vs
 are_vertices es vs s = record {
-  ascending = λ i j d a b. pt_less _ _ (s.ascending i j d a b);
+  ascending = points_ascending vs s.ascending;
   exact = λ v. (
     (λ c. let k = end_of es v (contains_in (both_ends es) v ((s.same v).0 c)) in record { edge = k.0; inside = in_contains es k.0 k.1; ends = k.2 }),
     (λ x. (s.same v).1 (in_contains (both_ends es) v (of_end es v x.edge (contains_in es x.edge x.inside) x.ends))),

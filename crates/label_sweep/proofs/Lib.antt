@@ -3,7 +3,6 @@ pub mod West
 pub mod Step
 pub mod Around
 pub mod Words
-pub mod Tests
 pub mod Labelling
 pub mod Members
 pub mod Ends

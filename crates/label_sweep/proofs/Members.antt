@@ -4,7 +4,7 @@ use Rattle.std.specs.List.{All, AllPairs, AllWithin}
 use Rattle.std.proofs.lemmas.List.{get_or-map, length-map, reverse-append, map-append, take-append-drop}
 use Rattle.std.proofs.lemmas.List.Elements.{All-nil, All-cons, All-contains}
 use Rattle.std.proofs.lemmas.List.Sorted.{Contains-permutation, IsPermutation-reverse, IsPermutation-sym}
-use Rattle.geom.proofs.Lists.{In, in_contains, contains_in}
+use Rattle.geom.proofs.Lists.{In, in_contains, contains_in, in_front, in_back}
 
 module _ {X : Type 0} where
   pub all_of_in : (P : X → Type 0) (xs : List X) → ((x : X) → In x xs → P x) → All P xs
@@ -13,15 +13,6 @@ module _ {X : Type 0} where
 
   pub in_of_all : (P : X → Type 0) (xs : List X) → All P xs → (x : X) → In x xs → P x
   in_of_all P xs h x i = All-contains P xs x h (in_contains xs x i)
-
-  pub in_left : (xs ys : List X) (x : X) → In x xs → In x (xs ++ ys)
-  in_left [] ys x i = absurd i
-  in_left (y ∷ xs) ys x (inl e) = inl e
-  in_left (y ∷ xs) ys x (inr i) = inr (in_left xs ys x i)
-
-  pub in_right : (xs ys : List X) (x : X) → In x ys → In x (xs ++ ys)
-  in_right [] ys x i = i
-  in_right (y ∷ xs) ys x i = inr (in_right xs ys x i)
 
   pub in_reverse : (xs : List X) (x : X) → In x (reverse xs) → In x xs
   in_reverse xs x i = contains_in xs x (Contains-permutation (reverse xs) xs x (IsPermutation-sym xs (reverse xs) (IsPermutation-reverse xs)) (in_contains (reverse xs) x i))
@@ -34,10 +25,10 @@ module _ {X : Type 0} where
 
   -- ---- parts
   pub in_take : (n : ℕ) (xs : List X) (x : X) → In x (take n xs) → In x xs
-  in_take n xs x i = let P : List X → Type 0 = λ t. In x t in subst P (take-append-drop n xs) (in_left (take n xs) (drop n xs) x i)
+  in_take n xs x i = let P : List X → Type 0 = λ t. In x t in subst P (take-append-drop n xs) (in_front (take n xs) (drop n xs) x i)
 
   pub in_drop : (n : ℕ) (xs : List X) (x : X) → In x (drop n xs) → In x xs
-  in_drop n xs x i = let P : List X → Type 0 = λ t. In x t in subst P (take-append-drop n xs) (in_right (take n xs) (drop n xs) x i)
+  in_drop n xs x i = let P : List X → Type 0 = λ t. In x t in subst P (take-append-drop n xs) (in_back (take n xs) (drop n xs) x i)
 
   pub within_take : (P : X → Type 0) (xs : List X) (n : ℕ) → AllWithin P xs 0 n → (x : X) → In x (take n xs) → P x
   within_take P [] zero a x i = absurd i

@@ -7,6 +7,7 @@ use borrow.Author.Differences.{ints}
 use Rattle.geom.specs.declared.point.Pt.{Pt}
 use Rattle.geom.specs.declared.edge.Edge.{Edge}
 use Rattle.geom.proofs.Integers.{expand, linear, mul_pos, mul_nonneg, by_sign}
+use Rattle.geom.proofs.Tests.{le_lt, lt_le}
 use Rattle.points_law.proofs.Choices.{run, rise, MeetAtEnds}
 use Rattle.points_law.proofs.Meet.{off, slope, gap, no_meet}
 use Rattle.points_law.proofs.Vertex.{over_pt}
@@ -57,12 +58,6 @@ between_high' u w c x l h i j k =
 
 weak : (a b : ℤ) → a <ℤ b → a ≤ℤ b
 weak a b h = omega (arith, ints)
-
-lt_le : (a b c : ℤ) → a <ℤ b → b ≤ℤ c → a <ℤ c
-lt_le a b c h k = omega (arith, ints)
-
-le_lt : (a b c : ℤ) → a ≤ℤ b → b <ℤ c → a <ℤ c
-le_lt a b c h k = omega (arith, ints)
 
 -- x is a whole x of both edges
 pub record Common (e f : Edge) (x : ℤ) : Type 0 where

@@ -18,7 +18,7 @@ use Rattle.geom.specs.Limit.{AreInLimit, InLimit}
 use Rattle.geom.specs.Parity.{parity}
 use Rattle.geom.specs.ResultEdges.{left_side, right_side}
 use Rattle.geom.specs.Rounded.{edges_of, odd_edges}
-use Rattle.geom.proofs.Lists.{In, in_contains, contains_in, in_map, map_in, in_append}
+use Rattle.geom.proofs.Lists.{In, in_contains, contains_in, in_map, map_in, in_append, in_front, in_back}
 use Rattle.points_law.specs.Law.{AreLayers}
 use Rattle.label_sweep.specs.declared.parities.Parities.{Parities}
 use Rattle.label_sweep.specs.declared.standing.Spoke.{Spoke}
@@ -28,8 +28,8 @@ use Rattle.label_sweep.specs.Labels.{AreLabelsOf, BeginsWith, IsLabelled, IsSwep
 use Rattle.label_sweep.specs.Status.{AreFresh, AreSpokes, AreStanding, GoesOn, IsRangeAt, IsSteeper, IsUnder, IsVertexOf, Reaches}
 use Rattle.label_sweep.proofs.Around.{Steeper, under_turn}
 use Rattle.label_sweep.proofs.Labelling.{turn_is_labelled}
-use Rattle.label_sweep.proofs.Members.{all_of_in, in_of_all, in_left, in_right, in_drop, in_reverse, reverse_in, reverse_cons, map_reverse, within_take, within_drop, within_part, take_parts, pairs_of_map}
-use Rattle.label_sweep.proofs.Step.{Pairs, pairs_append}
+use Rattle.label_sweep.proofs.Members.{all_of_in, in_of_all, in_drop, in_reverse, reverse_in, reverse_cons, map_reverse, within_take, within_drop, within_part, take_parts, pairs_of_map}
+use Rattle.label_sweep.proofs.Step.{Pairs, clash, pairs_append}
 use Rattle.label_sweep.proofs.Turning.{edge_at}
 use Rattle.label_sweep.proofs.Words.{first_left_none, left_of_first, pairs_from, pairs_map, pairs_to, search_is_monotone, standing_stays, steeper_of}
 
@@ -54,9 +54,6 @@ module _ (cs : List Counted) (h : AreLayers cs) (v : Pt) (s : List Standing) (u 
   pub parted : IsPartitionedBy (λ t. int_lt (pos 0) (side t.spoke.one.edge.p t.spoke.one.edge.q v)) s × IsPartitionedBy (λ t. int_le (pos 0) (side t.spoke.one.edge.p t.spoke.one.edge.q v)) s
   parted = search_is_monotone (edges_of cs) v s (pairs_of_map IsUnder edge_of s u.edges.order) reaches
 
-not_both : (x : ℤ) → pos 0 <ℤ x → x <ℤ pos 0 → ⊥
-not_both x h k = omega (arith, ints)
-
 both_zero : (x : ℤ) → x ≤ℤ pos 0 → pos 0 ≤ℤ x → x ≡ pos 0
 both_zero x h k = omega (arith, ints)
 
@@ -64,7 +61,7 @@ pub low_first : (v : Pt) (s : List Standing) (low high : ℕ) → low ≤ length
     → AllWithin (λ t. pos 0 <ℤ side t.spoke.one.edge.p t.spoke.one.edge.q v) s 0 low
     → AllWithin (λ t. side t.spoke.one.edge.p t.spoke.one.edge.q v <ℤ pos 0) s high (length s) → low ≤ high
 low_first v [] low high l a b = omega arith
-low_first v (t ∷ s) low high l a b = not_more (λ m. not_both _ (a high t (omega arith) m) (b high t (omega arith) (omega (arith, l, m))))
+low_first v (t ∷ s) low high l a b = not_more (λ m. clash _ (a high t (omega arith) m) (b high t (omega arith) (omega (arith, l, m))))
   where
     not_more : (high < low → ⊥) → low ≤ high
     not_more n = omega arith
@@ -91,7 +88,7 @@ module _ (cs : List Counted) (h : AreLayers cs) (v : Pt) (ss : List Spoke) (a : 
       one false j = absurd (let t = j in cc)
   is_stand at (m ∷ ks) k (inr i) l =
       subst (λ (es : List Edge). In k.one.edge es) (sym (map-append edge_of (cond (int_lt m.one.edge.p.x m.one.edge.q.x) (standing_of m (beyond at m.one) ∷ []) []) (stands_from (beyond at m.one) ks)))
-      (in_right (map edge_of (cond (int_lt m.one.edge.p.x m.one.edge.q.x) (standing_of m (beyond at m.one) ∷ []) [])) (map edge_of (stands_from (beyond at m.one) ks)) k.one.edge (is_stand (beyond at m.one) ks k i l))
+      (in_back (map edge_of (cond (int_lt m.one.edge.p.x m.one.edge.q.x) (standing_of m (beyond at m.one) ∷ []) [])) (map edge_of (stands_from (beyond at m.one) ks)) k.one.edge (is_stand (beyond at m.one) ks k i l))
 
   slopes_of : (x y : ℤ) → int_lt x y ≡ true → x <ℤ y
   slopes_of x y e = omega (arith, ints)
@@ -240,12 +237,12 @@ module _ (cs : List Counted) (h : AreLayers cs) (v : Pt) (x : IsVertexOf (edges_
     module _ (from next : ℕ) (r : IsRangeAt cs v from next) (old : List Labelled) (g : AreLabelsOf cs (take from cs) old) where
       label_in : (f : Edge) → In f (map edge_at ss) → In f (map (λ (l : Labelled). l.edge) (old ++ labels_from left ss))
       label_in f i = let P : List Edge → Type 0 = λ es. In f es in
-          subst P (sym (map-append (λ (l : Labelled). l.edge) old (labels_from left ss))) (in_right (map (λ (l : Labelled). l.edge) old) (map (λ (l : Labelled). l.edge) (labels_from left ss)) f
+          subst P (sym (map-append (λ (l : Labelled). l.edge) old (labels_from left ss))) (in_back (map (λ (l : Labelled). l.edge) old) (map (λ (l : Labelled). l.edge) (labels_from left ss)) f
           (subst P (sym (labels_edges left ss)) i))
 
       old_in : (f : Edge) → In f (map (λ (l : Labelled). l.edge) old) → In f (map (λ (l : Labelled). l.edge) (old ++ labels_from left ss))
       old_in f i = let P : List Edge → Type 0 = λ es. In f es in
-          subst P (sym (map-append (λ (l : Labelled). l.edge) old (labels_from left ss))) (in_left (map (λ (l : Labelled). l.edge) old) (map (λ (l : Labelled). l.edge) (labels_from left ss)) f i)
+          subst P (sym (map-append (λ (l : Labelled). l.edge) old (labels_from left ss))) (in_front (map (λ (l : Labelled). l.edge) old) (map (λ (l : Labelled). l.edge) (labels_from left ss)) f i)
 
       of_counted : (c : Counted) → In c (take next cs) → In c.edge (map (λ (l : Labelled). l.edge) (old ++ labels_from left ss))
       of_counted c i = ⊎_elim

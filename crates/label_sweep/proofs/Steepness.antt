@@ -10,6 +10,7 @@ use Rattle.geom.proofs.Integers.{expand, linear, none_left, mul_neg, mul_pos, mu
 use Rattle.points_law.proofs.Choices.{run, rise}
 use Rattle.points_law.proofs.Meet.{slope}
 use Rattle.points_law.proofs.Turn.{run_low}
+use Rattle.points_law.proofs.Next.{chain}
 use Rattle.label_sweep.specs.declared.standing.Spoke.{Spoke}
 use Rattle.label_sweep.specs.Status.{is_steeper}
 use Rattle.label_sweep.proofs.Words.{turn_is}
@@ -40,9 +41,6 @@ of_no_slope f g h = fails _ (subst (λ (t : ℤ). t ≤ℤ pos 0) (sym (turn_is 
 -- ---- an order in which any two edges compare, wherever they begin
 turns_back : (rf sf rg sg : ℤ) → pos 0 <ℤ (rg *ℤ sf -ℤ rf *ℤ sg) → (rf *ℤ sg -ℤ rg *ℤ sf) ≤ℤ pos 0
 turns_back rf sf rg sg h = omega (arith, ints)
-
-chain : (rf re rg sf se sg : ℤ) → re *ℤ (rg *ℤ sf -ℤ rf *ℤ sg) ≡ rf *ℤ (rg *ℤ se -ℤ re *ℤ sg) +ℤ rg *ℤ (re *ℤ sf -ℤ rf *ℤ se)
-chain rf re rg sf se sg = simp expand (omega (arith, linear))
 
 turned : (a : ℤ) → a ≤ℤ pos 0 → pos 0 ≤ℤ neg_ℤ a
 turned a h = omega (arith, ints)

@@ -10,10 +10,11 @@ use borrow.Author.Differences.{ints}
 use Rattle.geom.specs.declared.point.Pt.{Pt}
 use Rattle.geom.specs.declared.edge.Edge.{Edge}
 use Rattle.geom.specs.Order.{IsBefore, IsUpTo}
-use Rattle.geom.proofs.Lists.{In, in_append}
+use Rattle.geom.proofs.Lists.{In, in_append, in_front, in_back}
 use Rattle.geom.proofs.Edges.{before_cases, before_by_cases, before_strict}
 use Rattle.geom.proofs.Orders.{before_itself, before_trans}
 use Rattle.geom.proofs.Integers.{expand, linear, mul_pos, by_sign}
+use Rattle.geom.proofs.Fraction.{strict_gap_is}
 use Rattle.points_law.proofs.Choices.{◌∧∧◌, run, rise, Noded}
 use Rattle.points_law.proofs.ResultOfChoices.{Edges}
 use Rattle.points_law.proofs.Meet.{off, slope}
@@ -28,18 +29,9 @@ abbrev pub Pairs : (Edge → Edge → Type 0) → List Edge → Type 0
 Pairs R [] = Unit {0}
 Pairs R (x ∷ xs) = ((y : Edge) → In y xs → R x y) × Pairs R xs
 
-pub in_left : (xs ys : List Edge) (x : Edge) → In x xs → In x (xs ++ ys)
-in_left [] ys x i = absurd i
-in_left (y ∷ xs) ys x (inl e) = inl e
-in_left (y ∷ xs) ys x (inr i) = inr (in_left xs ys x i)
-
-pub in_right : (xs ys : List Edge) (x : Edge) → In x ys → In x (xs ++ ys)
-in_right [] ys x i = i
-in_right (y ∷ xs) ys x i = inr (in_right xs ys x i)
-
 pub pairs_left : (R : Edge → Edge → Type 0) (xs ys : List Edge) → Pairs R (xs ++ ys) → Pairs R xs
 pairs_left R [] ys p = tt
-pairs_left R (x ∷ xs) ys p = ((λ y i. p.0 y (in_left xs ys y i)), pairs_left R xs ys p.1)
+pairs_left R (x ∷ xs) ys p = ((λ y i. p.0 y (in_front xs ys y i)), pairs_left R xs ys p.1)
 
 pub pairs_right : (R : Edge → Edge → Type 0) (xs ys : List Edge) → Pairs R (xs ++ ys) → Pairs R ys
 pairs_right R [] ys p = p
@@ -47,7 +39,7 @@ pairs_right R (x ∷ xs) ys p = pairs_right R xs ys p.1
 
 pub pairs_across : (R : Edge → Edge → Type 0) (xs ys : List Edge) → Pairs R (xs ++ ys) → (x y : Edge) → In x xs → In y ys → R x y
 pairs_across R [] ys p x y i j = absurd i
-pairs_across R (z ∷ xs) ys p x y (inl e) j = subst (λ w. R w y) e (p.0 y (in_right xs ys y j))
+pairs_across R (z ∷ xs) ys p x y (inl e) j = subst (λ w. R w y) e (p.0 y (in_back xs ys y j))
 pairs_across R (z ∷ xs) ys p x y (inr i) j = pairs_across R xs ys p.1 x y i j
 
 pub pairs_append : (R : Edge → Edge → Type 0) (xs ys : List Edge) → Pairs R xs → Pairs R ys → ((x y : Edge) → In x xs → In y ys → R x y) → Pairs R (xs ++ ys)
@@ -55,9 +47,6 @@ pairs_append R [] ys p q c = q
 pairs_append R (x ∷ xs) ys p q c = ((λ y i. ⊎_elim (λ j. p.0 y j) (λ j. c x y (inl refl) j) (in_append xs ys y i)), pairs_append R xs ys p.1 q (λ z y i j. c z y (inr i) j))
 
 -- ---- numbers
-runs : (p q : ℤ) → p <ℤ q → pos 0 <ℤ (q -ℤ p)
-runs p q h = omega (arith, ints)
-
 at_p : (r s px py y : ℤ) → (s *ℤ px +ℤ (py *ℤ r -ℤ px *ℤ s)) -ℤ r *ℤ y ≡ neg_ℤ (r *ℤ (y -ℤ py))
 at_p r s px py y = simp expand (omega (arith, linear))
 
@@ -67,19 +56,16 @@ at_q px py qx qy y = simp expand (omega (arith, linear))
 under_zero : (r d x : ℤ) → pos 0 <ℤ r → pos 0 <ℤ d → x ≡ neg_ℤ (r *ℤ d) → x <ℤ pos 0
 under_zero r d x h i e = let k = mul_pos r d h i in omega (arith, linear)
 
-diff : (a b : ℤ) → a <ℤ b → pos 0 <ℤ (b -ℤ a)
-diff a b h = omega (arith, ints)
-
-clash : (x : ℤ) → pos 0 <ℤ x → x <ℤ pos 0 → ⊥
+pub clash : (x : ℤ) → pos 0 <ℤ x → x <ℤ pos 0 → ⊥
 clash x h i = omega (arith, ints)
 
 -- an edge with an end below v, in v's column, is below v
 pub below_p : (f : Edge) (v : Pt) → f.p.x <ℤ f.q.x → f.p.x ≡ v.x → f.p.y <ℤ v.y → over_pt f v <ℤ pos 0
-below_p f v s e h = under_zero (run f) (v.y -ℤ f.p.y) (over_pt f v) (runs f.p.x f.q.x s) (diff f.p.y v.y h)
+below_p f v s e h = under_zero (run f) (v.y -ℤ f.p.y) (over_pt f v) (strict_gap_is f.p.x f.q.x s) (strict_gap_is f.p.y v.y h)
     (ap (λ (t : ℤ). (rise f *ℤ t +ℤ off f) -ℤ run f *ℤ v.y) (sym e) ∙ at_p (run f) (rise f) f.p.x f.p.y v.y)
 
 pub below_q : (f : Edge) (v : Pt) → f.p.x <ℤ f.q.x → f.q.x ≡ v.x → f.q.y <ℤ v.y → over_pt f v <ℤ pos 0
-below_q f v s e h = under_zero (run f) (v.y -ℤ f.q.y) (over_pt f v) (runs f.p.x f.q.x s) (diff f.q.y v.y h)
+below_q f v s e h = under_zero (run f) (v.y -ℤ f.q.y) (over_pt f v) (strict_gap_is f.p.x f.q.x s) (strict_gap_is f.q.y v.y h)
     (ap (λ (t : ℤ). (rise f *ℤ t +ℤ off f) -ℤ run f *ℤ v.y) (sym e) ∙ at_q f.p.x f.p.y f.q.x f.q.y v.y)
 
 zero_there : (r y x : ℤ) → x ≡ neg_ℤ (r *ℤ (y -ℤ y)) → x ≡ pos 0
@@ -142,7 +128,7 @@ pub comes_common : (es : List Edge) (v : Pt) (e f : Edge) → Comes es v e → C
 comes_common es v e f a b = record { e_low = a.begun.column; e_high = le_of e.q v a.lasts; f_low = b.begun.column; f_high = le_of f.q v b.lasts }
 
 pub comes_run : (es : List Edge) (v : Pt) (e : Edge) → Comes es v e → pos 0 <ℤ run e
-comes_run es v e c = runs e.p.x e.q.x c.slopes
+comes_run es v e c = strict_gap_is e.p.x e.q.x c.slopes
 
 -- what reaches v at its own height ends there
 pub comes_end : (es : List Edge) → Noded es → (v : Pt) → Vertex es v → (e : Edge) → Comes es v e → over_pt e v ≡ pos 0 → e.q ≡ v
@@ -159,13 +145,13 @@ module _ (es : List Edge) (h : Edges es) (v : Pt) (x : Vertex es v) (low mid hig
     (is_mid : (e : Edge) → In e mid → over_pt e v ≡ pos 0)
     (is_high : (e : Edge) → In e high → pos 0 <ℤ over_pt e v) where
   pub from_low : (e : Edge) → In e low → Comes es v e
-  from_low e i = s.sound e (in_left low (mid ++ high) e i)
+  from_low e i = s.sound e (in_front low (mid ++ high) e i)
 
   pub from_mid : (e : Edge) → In e mid → Comes es v e
-  from_mid e i = s.sound e (in_right low (mid ++ high) e (in_left mid high e i))
+  from_mid e i = s.sound e (in_back low (mid ++ high) e (in_front mid high e i))
 
   pub from_high : (e : Edge) → In e high → Comes es v e
-  from_high e i = s.sound e (in_right low (mid ++ high) e (in_right mid high e i))
+  from_high e i = s.sound e (in_back low (mid ++ high) e (in_back mid high e i))
 
   parts : (e : Edge) → In e (low ++ (mid ++ high)) → {P : Type 0} → (In e low → P) → (In e mid → P) → (In e high → P) → P
   parts e i f g k = ⊎_elim f (λ j. ⊎_elim g k (in_append mid high e j)) (in_append low (mid ++ high) e i)
@@ -252,12 +238,12 @@ module _ (es : List Edge) (h : Edges es) (v : Pt) (x : Vertex es v) (low mid hig
 
     stays : (e : Edge) → Goes es v e → IsBefore e.p v → In e (low ++ (fresh ++ high))
     stays e g b = parts e (s.complete e (record { inside = g.inside; slopes = g.slopes; begun = b; lasts = λ k. before_strict v e.q g.lasts k }))
-        (λ j. in_left low (fresh ++ high) e j)
+        (λ j. in_front low (fresh ++ high) e j)
         (λ j. absurd (before_itself v (subst (λ (w : Pt). IsBefore v w) (comes_end es h.noded v x e (from_mid e j) (is_mid e j)) g.lasts)))
-        (λ j. in_right low (fresh ++ high) e (in_right fresh high e j))
+        (λ j. in_back low (fresh ++ high) e (in_back fresh high e j))
 
     complete_after : (e : Edge) → Goes es v e → In e (low ++ (fresh ++ high))
-    complete_after e g = ⊎_elim (λ k. in_right low (fresh ++ high) e (in_left fresh high e (all_fresh e g.inside g.slopes k))) (λ b. stays e g b) g.begun
+    complete_after e g = ⊎_elim (λ k. in_back low (fresh ++ high) e (in_front fresh high e (all_fresh e g.inside g.slopes k))) (λ b. stays e g b) g.begun
 
     at_fresh : (g e : Edge) → Comes es v g → In e fresh → Common g e e.p.x
     at_fresh g e c i = let k = are_fresh e i in record {
@@ -281,16 +267,16 @@ module _ (es : List Edge) (h : Edges es) (v : Pt) (x : Vertex es v) (low mid hig
 
     low_fresh : (g e : Edge) → In g low → In e fresh → IsUnder g e
     low_fresh g e i j = let k = are_fresh e j in under_new g e (h.noded g e (from_low g i).inside k.0 (apart g e j (λ z. zero_not_low (over_pt g v) z (is_low g i))))
-        (comes_run es v g (from_low g i)) (runs e.p.x e.q.x k.1) (at_fresh g e (from_low g i) j) (subst (λ (w : Pt). over_pt g w <ℤ pos 0) (sym k.2) (is_low g i))
+        (comes_run es v g (from_low g i)) (strict_gap_is e.p.x e.q.x k.1) (at_fresh g e (from_low g i) j) (subst (λ (w : Pt). over_pt g w <ℤ pos 0) (sym k.2) (is_low g i))
 
     fresh_high : (e g : Edge) → In e fresh → In g high → IsUnder e g
     fresh_high e g j i = let k = are_fresh e j in over_new g e (h.noded e g k.0 (from_high g i).inside (λ t. apart g e j (λ z. zero_not_high (over_pt g v) z (is_high g i)) (sym t)))
-        (comes_run es v g (from_high g i)) (runs e.p.x e.q.x k.1) (turned g e (at_fresh g e (from_high g i) j)) (subst (λ (w : Pt). pos 0 <ℤ over_pt g w) (sym k.2) (is_high g i))
+        (comes_run es v g (from_high g i)) (strict_gap_is e.p.x e.q.x k.1) (turned g e (at_fresh g e (from_high g i) j)) (subst (λ (w : Pt). pos 0 <ℤ over_pt g w) (sym k.2) (is_high g i))
 
     order_after : Pairs IsUnder (low ++ (fresh ++ high))
     order_after = pairs_append IsUnder low (fresh ++ high) (pairs_left IsUnder low (mid ++ high) s.order)
         (pairs_append IsUnder fresh high fresh_order pairs_high fresh_high)
-        (λ g e i j. ⊎_elim (λ k. low_fresh g e i k) (λ k. pairs_across IsUnder low (mid ++ high) s.order g e i (in_right mid high e k)) (in_append fresh high e j))
+        (λ g e i j. ⊎_elim (λ k. low_fresh g e i k) (λ k. pairs_across IsUnder low (mid ++ high) s.order g e i (in_back mid high e k)) (in_append fresh high e j))
 
     pub step : Standing (Goes es v) (low ++ (fresh ++ high))
     step = record { sound = sound_after; complete = complete_after; order = order_after }

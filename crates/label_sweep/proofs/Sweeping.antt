@@ -2,7 +2,7 @@
 use Rattle.std.proofs.Common.{◌≡◌, ◌⊎◌, inl, inr, ⊎_elim, ℕ, zero, suc, ◌+◌, ◌-◌, ◌<◌, ◌≤◌, List, [], ◌∷◌, map, length, get_or, take, refl, sym, ap, ◌∙◌, subst, arith}
 use Rattle.std.specs.List.{AllWithin, Contains}
 use Rattle.std.specs.Prelude.{slice_range}
-use Rattle.std.proofs.lemmas.Bool.{cases_eq}
+use Rattle.std.proofs.lemmas.Bool.{cases_eq, cases_lt}
 use Rattle.std.proofs.lemmas.List.{get_or_default, take_all}
 use Rattle.std.proofs.lemmas.List.Elements.{All-nil}
 use Rattle.geom.specs.declared.point.Pt.{Pt}
@@ -20,11 +20,6 @@ use Rattle.label_sweep.specs.Status.{AreVertices, IsRangeAt, IsUnder, IsVertexOf
 use Rattle.label_sweep.proofs.Ends.{after_upto}
 use Rattle.label_sweep.proofs.Members.{part_in, within_part}
 use Rattle.label_sweep.proofs.Words.{pairs_to, standing_reaches}
-
-nat_cases : (i n : ℕ) → (i < n) ⊎ (n ≤ i)
-nat_cases i zero = inr (omega arith)
-nat_cases zero (suc n) = inl (omega arith)
-nat_cases (suc i) (suc n) = ⊎_elim (λ l. inl (omega arith)) (λ l. inr (omega arith)) (nat_cases i n)
 
 -- before the vertex with this number
 pub record IsSwept (cs : List Counted) (vs : List Pt) (k next : ℕ) (standing : List Standing) (labelled : List Labelled) : Type 0 where
@@ -126,7 +121,7 @@ module _ (cs : List Counted) (vs : List Pt) (a : AreVertices (edges_of cs) vs) w
           subst P (get_or_default vs k u v here ∙ sym is) (a.ascending k j u (omega arith) m)
 
       upto_here : (i : ℕ) (d : Counted) → i < next → (w : Pt) → IsBefore v w → (i < from → IsBefore (get_or cs i d).edge.p w) → IsBefore (get_or cs i d).edge.p w
-      upto_here i d l w b early = ⊎_elim early (λ f. through (get_or cs i d).edge.p (begun i d f l)) (nat_cases i from)
+      upto_here i d l w b early = ⊎_elim early (λ f. through (get_or cs i d).edge.p (begun i d f l)) (cases_lt i from)
         where
           through : (p : Pt) → IsUpTo p v → IsBefore p w
           through p (inl e) = subst (λ (q : Pt). IsBefore q w) (sym e) b

@@ -15,11 +15,12 @@ use Rattle.points_law.proofs.Choices.{◌⊕◌, ◌∧∧◌, par, run, rise, M
 use Rattle.points_law.proofs.ResultOfChoices.{Edges}
 use Rattle.points_law.proofs.Meet.{off, slope, gap}
 use Rattle.points_law.proofs.Sums.{par_cong, par_xor, par_none}
-use Rattle.points_law.proofs.Even.{is_same, is_refl, same, same_is, same_refl, not_true, once}
+use Rattle.points_law.proofs.Even.{both_ways, is_same, is_refl, same, same_is, same_refl, not_true, once}
 use Rattle.points_law.proofs.Sign.{twice, not_zero, stays_up}
 use Rattle.points_law.proofs.Column.{cv, ab, cv_low, cv_high, cv_run, lt_from, differ, no_root, among, not_above_itself, weak}
-use Rattle.points_law.proofs.Vertex.{over_pt, higher, west, slopes, EndsAt, Vertex, vertex_end, on_sloping}
-use Rattle.points_law.proofs.Turn.{sloping_right, turned_p, at_p, crossing, before}
+use Rattle.points_law.proofs.Vertex.{over_pt, higher, west, slopes, EndsAt, Vertex, vertex_end, on_sloping, low_one, high_one, back_low, back_high}
+use Rattle.points_law.proofs.Turn.{sloping_right, turned_p, at_p, crossing, before, itself_flat}
+use Rattle.points_law.proofs.Heights.{is_positive}
 use Rattle.label_sweep.specs.Status.{rise_over, IsUnder}
 use Rattle.label_sweep.proofs.Order.{rise_is, pos_both}
 
@@ -28,45 +29,27 @@ pub ends_there : (es : List Edge) → Noded es → (v : Pt) → Vertex es v → 
 ends_there es n v h f i r a b z = vertex_end es n v h f i (on_sloping f v r a b z)
 
 -- ---- tests
-iff_bool : (s t : Bool) → (s ≡ true → t ≡ true) → (t ≡ true → s ≡ true) → s ≡ t
-iff_bool s t h i = grind arith
-
-is_lt : (x : ℤ) → pos 0 <ℤ x → lt_z (pos 0) x ≡ true
-is_lt x h = grind (arith, ints)
-
 back : (x : ℤ) → x -ℤ pos 1 +ℤ pos 1 ≡ x
 back x = omega (arith, ints)
-
-low_one : (p k : ℤ) → p ≤ℤ (k -ℤ pos 1) → p ≤ℤ k
-low_one p k h = omega (arith, ints)
-
-high_one : (k q : ℤ) → (k -ℤ pos 1) <ℤ q → k ≤ℤ q
-high_one k q h = omega (arith, ints)
 
 sum_pos : (a b : ℤ) → pos 0 ≤ℤ a → pos 0 ≤ℤ b → ¬ (a +ℤ b ≡ pos 0) → pos 0 <ℤ (a +ℤ b)
 sum_pos a b h i n = grind (arith, ints)
 
 -- g is above f in the column left of v where g is above v, if f is the lowest such edge
 ab_of : (f g : Edge) (v : Pt) → MeetAtEnds f g → cv f (v.x -ℤ pos 1) ≡ true → cv g (v.x -ℤ pos 1) ≡ true → IsUnder f g → ab g f (v.x -ℤ pos 1) ≡ true
-ab_of f g v m i j u = is_lt (twice (slope g f) (gap g f) (v.x -ℤ pos 1))
+ab_of f g v m i j u = is_positive (twice (slope g f) (gap g f) (v.x -ℤ pos 1))
     (sum_pos (slope g f *ℤ (v.x -ℤ pos 1) +ℤ gap g f) (slope g f *ℤ (v.x -ℤ pos 1 +ℤ pos 1) +ℤ gap g f)
     (subst (λ (t : ℤ). pos 0 ≤ℤ t) (rise_is g f (v.x -ℤ pos 1)) (u (v.x -ℤ pos 1) (cv_low f _ i) (weak _ _ (cv_high f _ i)) (cv_low g _ j) (weak _ _ (cv_high g _ j))))
     (subst (λ (t : ℤ). pos 0 ≤ℤ t) (rise_is g f (v.x -ℤ pos 1 +ℤ pos 1))
     (subst (λ (t : ℤ). pos 0 ≤ℤ rise_over g f t) (sym (back v.x)) (u v.x (low_one f.p.x v.x (cv_low f _ i)) (high_one v.x f.q.x (cv_high f _ i)) (low_one g.p.x v.x (cv_low g _ j)) (high_one v.x g.q.x (cv_high g _ j)))))
     (not_zero (slope g f) (gap g f) (v.x -ℤ pos 1) (no_root f g (v.x -ℤ pos 1) m i j)))
 
-one_low : (x : ℤ) → (pos 1 *ℤ (x -ℤ pos 1)) ≤ℤ x
-one_low x = omega (arith, ints)
-
-one_high : (x : ℤ) → x ≤ℤ (pos 1 *ℤ (x -ℤ pos 1 +ℤ pos 1))
-one_high x = omega (arith, ints)
-
 lifts : (re rf se sf oe of x y : ℤ) → re *ℤ ((sf *ℤ x +ℤ of) -ℤ rf *ℤ y) ≡ ((re *ℤ sf -ℤ rf *ℤ se) *ℤ x +ℤ (re *ℤ of -ℤ rf *ℤ oe) *ℤ pos 1) +ℤ rf *ℤ ((se *ℤ x +ℤ oe) -ℤ re *ℤ y)
 lifts re rf se sf oe of x y = simp expand (omega (arith, linear))
 
 higher_of : (f g : Edge) (v : Pt) → MeetAtEnds f g → cv f (v.x -ℤ pos 1) ≡ true → cv g (v.x -ℤ pos 1) ≡ true → pos 0 <ℤ over_pt f v → ab g f (v.x -ℤ pos 1) ≡ true → higher g v ≡ true
-higher_of f g v m i j h u = is_lt (over_pt g v) (pos_both (run f) (over_pt g v) (slope g f *ℤ v.x +ℤ gap g f *ℤ pos 1) (run g) (over_pt f v) (cv_run f _ i) (cv_run g _ j)
-    (stays_up (slope g f) (gap g f) (v.x -ℤ pos 1) v.x (pos 1) (no_root f g (v.x -ℤ pos 1) m i j) (lt_from (pos 0) _ u) (one_low v.x) (one_high v.x))
+higher_of f g v m i j h u = is_positive (over_pt g v) (pos_both (run f) (over_pt g v) (slope g f *ℤ v.x +ℤ gap g f *ℤ pos 1) (run g) (over_pt f v) (cv_run f _ i) (cv_run g _ j)
+    (stays_up (slope g f) (gap g f) (v.x -ℤ pos 1) v.x (pos 1) (no_root f g (v.x -ℤ pos 1) m i j) (lt_from (pos 0) _ u) (back_low v.x) (back_high v.x))
     (lifts (run f) (run g) (rise f) (rise g) (off f) (off g) v.x v.y) h)
 
 own_term : (a c u w s : Bool) → c ≡ true → u ≡ true → w ≡ false → s ≡ true → a ∧∧ (c ∧∧ u) ≡ (a ∧∧ (c ∧∧ w)) ⊕ (s ∧∧ a)
@@ -85,9 +68,9 @@ pub record Lowest (es : List Edge) (v : Pt) (f : Edge) : Type 0 where
 west_each : (es : List Edge) → Noded es → (a : Edge → Bool) (v : Pt) (f : Edge) → Lowest es v f → (g : Edge) → In g es → (t : Bool) → same f g ≡ t
     → a g ∧∧ (cv g (v.x -ℤ pos 1) ∧∧ higher g v) ≡ (a g ∧∧ (cv g (v.x -ℤ pos 1) ∧∧ ab g f (v.x -ℤ pos 1))) ⊕ (same g f ∧∧ a g)
 west_each es n a v f l g i true s = subst (λ z. a z ∧∧ (cv z (v.x -ℤ pos 1) ∧∧ higher z v) ≡ (a z ∧∧ (cv z (v.x -ℤ pos 1) ∧∧ ab z f (v.x -ℤ pos 1))) ⊕ (same z f ∧∧ a z)) (same_is f g s)
-    (own_term (a f) (cv f (v.x -ℤ pos 1)) (higher f v) (ab f f (v.x -ℤ pos 1)) (same f f) l.reaches (is_lt (over_pt f v) l.above) (not_above_itself f (v.x -ℤ pos 1)) (same_refl f))
+    (own_term (a f) (cv f (v.x -ℤ pos 1)) (higher f v) (ab f f (v.x -ℤ pos 1)) (same f f) l.reaches (is_positive (over_pt f v) l.above) (not_above_itself f (v.x -ℤ pos 1)) (same_refl f))
 west_each es n a v f l g i false s = other_term (a g) (cv g (v.x -ℤ pos 1)) (higher g v) (ab g f (v.x -ℤ pos 1)) (same g f)
-    (λ c. iff_bool (higher g v) (ab g f (v.x -ℤ pos 1))
+    (λ c. both_ways (higher g v) (ab g f (v.x -ℤ pos 1))
     (λ h. ab_of f g v (n f g l.inside i (differ f g s)) l.reaches c (l.least g i c (lt_from (pos 0) (over_pt g v) h)))
     (λ h. higher_of f g v (n f g l.inside i (differ f g s)) l.reaches c l.above h))
     (not_true (same g f) (λ h. differ f g s (sym (same_is g f h))))
@@ -110,9 +93,6 @@ west_none es a v n = par_cong (λ g. a g ∧∧ (cv g (v.x -ℤ pos 1) ∧∧ hi
     (λ g i. none_term (a g) (cv g (v.x -ℤ pos 1)) (higher g v) (λ c u. n g i c (lt_from (pos 0) (over_pt g v) u))) ∙ par_none es
 
 -- ---- turning from straight up, clockwise, over the edges that begin at v
-none_here : (a i s : Bool) → (i ≡ true → s ≡ true → ⊥) → a ∧∧ (i ∧∧ s) ≡ false
-none_here a i s h = grind arith
-
 stay : (x y : Bool) → y ≡ false → x ⊕ y ≡ x
 stay x y h = grind arith
 
@@ -122,7 +102,7 @@ pub first_turn : (es : List Edge) → Edges es → (a : Edge → Bool) → Even 
 first_turn es h a ev g i n = turned_p es h a ev g i (slopes g) refl
     ∙ stay (west a es g.p) (par (λ f. a f ∧∧ before g.p f g) es)
     (par_cong (λ f. a f ∧∧ before g.p f g) (λ f. false) es
-    (λ f j. ap (λ (t : Bool). a f ∧∧ t) (at_p g f (h.ordered g i)) ∙ none_here (a f) (is g.p f.p) (lt_z (pos 0) (slope f g)) (λ k s. n f j (sym (is_same g.p f.p k)) (lt_from (pos 0) (slope f g) s)))
+    (λ f j. ap (λ (t : Bool). a f ∧∧ t) (at_p g f (h.ordered g i)) ∙ none_term (a f) (is g.p f.p) (lt_z (pos 0) (slope f g)) (λ k s. n f j (sym (is_same g.p f.p k)) (lt_from (pos 0) (slope f g) s)))
     ∙ par_none es)
 
 -- g comes right before k, turning
@@ -132,27 +112,15 @@ pub record Next (es : List Edge) (g k : Edge) : Type 0 where
   pub up : (f : Edge) → In f es → f.p ≡ k.p → pos 0 <ℤ slope f g → pos 0 <ℤ slope f k
   pub down : (f : Edge) → In f es → f.p ≡ k.p → pos 0 <ℤ slope f k → (f ≡ g) ⊎ (pos 0 <ℤ slope f g)
 
-flat_itself : (e : Edge) → lt_z (pos 0) (slope e e) ≡ false
-flat_itself e = ap (lt_z (pos 0)) (none (run e) (rise e))
-  where
-    none : (r s : ℤ) → r *ℤ s -ℤ r *ℤ s ≡ pos 0
-    none r s = omega (arith, ints)
-
-turn_itself : (a i t u s : Bool) → i ≡ true → t ≡ true → u ≡ false → s ≡ true → a ∧∧ (i ∧∧ t) ≡ (a ∧∧ (i ∧∧ u)) ⊕ (s ∧∧ a)
-turn_itself a i t u s h j k l = grind arith
-
-turn_other : (a i t u s : Bool) → (i ≡ true → t ≡ u) → s ≡ false → a ∧∧ (i ∧∧ t) ≡ (a ∧∧ (i ∧∧ u)) ⊕ (s ∧∧ a)
-turn_other a i t u s h l = grind arith
-
 next_each : (es : List Edge) → Edges es → (a : Edge → Bool) (g k : Edge) → Next es g k → (f : Edge) → In f es → (t : Bool) → same g f ≡ t
     → a f ∧∧ (is k.p f.p ∧∧ lt_z (pos 0) (slope f k)) ≡ (a f ∧∧ (is k.p f.p ∧∧ lt_z (pos 0) (slope f g))) ⊕ (same f g ∧∧ a f)
 next_each es h a g k n f j true s = subst (λ z. a z ∧∧ (is k.p z.p ∧∧ lt_z (pos 0) (slope z k)) ≡ (a z ∧∧ (is k.p z.p ∧∧ lt_z (pos 0) (slope z g))) ⊕ (same z g ∧∧ a z)) (same_is g f s)
-    (turn_itself (a g) (is k.p g.p) (lt_z (pos 0) (slope g k)) (lt_z (pos 0) (slope g g)) (same g g)
-    (subst (λ w. is k.p w ≡ true) (sym n.begins) (is_refl k.p)) (is_lt (slope g k) n.before) (flat_itself g) (same_refl g))
-next_each es h a g k n f j false s = turn_other (a f) (is k.p f.p) (lt_z (pos 0) (slope f k)) (lt_z (pos 0) (slope f g)) (same f g)
-    (λ b. iff_bool (lt_z (pos 0) (slope f k)) (lt_z (pos 0) (slope f g))
-    (λ t. is_lt (slope f g) (other (n.down f j (sym (is_same k.p f.p b)) (lt_from (pos 0) (slope f k) t))))
-    (λ t. is_lt (slope f k) (n.up f j (sym (is_same k.p f.p b)) (lt_from (pos 0) (slope f g) t))))
+    (own_term (a g) (is k.p g.p) (lt_z (pos 0) (slope g k)) (lt_z (pos 0) (slope g g)) (same g g)
+    (subst (λ w. is k.p w ≡ true) (sym n.begins) (is_refl k.p)) (is_positive (slope g k) n.before) (itself_flat g) (same_refl g))
+next_each es h a g k n f j false s = other_term (a f) (is k.p f.p) (lt_z (pos 0) (slope f k)) (lt_z (pos 0) (slope f g)) (same f g)
+    (λ b. both_ways (lt_z (pos 0) (slope f k)) (lt_z (pos 0) (slope f g))
+    (λ t. is_positive (slope f g) (other (n.down f j (sym (is_same k.p f.p b)) (lt_from (pos 0) (slope f k) t))))
+    (λ t. is_positive (slope f k) (n.up f j (sym (is_same k.p f.p b)) (lt_from (pos 0) (slope f g) t))))
     (not_true (same f g) (λ e. differ g f s (sym (same_is f g e))))
   where
     other : (f ≡ g) ⊎ (pos 0 <ℤ slope f g) → pos 0 <ℤ slope f g

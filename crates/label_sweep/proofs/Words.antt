@@ -27,6 +27,7 @@ use Rattle.points_law.proofs.Vertex.{over_pt, Vertex}
 use Rattle.points_law.proofs.Layers.{chosen, parity_is, over_all, even_in, edges_in, chosen_at, distinct, tail_pairs, first_pairs}
 use Rattle.label_sweep.specs.Status.{IsUnder, Reaches, GoesOn, AreStanding, AreSpokes, IsSteeper, IsVertexOf}
 use Rattle.label_sweep.specs.Laws.{StandingStays, FirstLeft, LeftOfFirst, LeftOfNext, SearchIsMonotone, EndsAreLevel, StandingReaches, RightIsBeyond}
+use Rattle.label_sweep.proofs.Ends.{le_cases}
 use Rattle.label_sweep.proofs.Order.{below_too, above_too}
 use Rattle.label_sweep.proofs.Step.{Pairs, Standing, Comes, Goes, step, lowest_above, none_above, comes_common, comes_run, comes_end, carried}
 use Rattle.label_sweep.proofs.West.{west_lowest, west_none}
@@ -170,12 +171,6 @@ left_of_next cs h v before g k rest t src =
     ∙ sym (layer cs h src (right_side g.p g.q))
 
 -- ---- the search
-le_cases : (i j : ℕ) → i ≤ j → (i < j) ⊎ (i ≡ j)
-le_cases zero zero h = inr refl
-le_cases zero (suc j) h = inl (omega arith)
-le_cases (suc i) zero h = absurd (omega arith)
-le_cases (suc i) (suc j) h = ⊎_elim (λ k. inl (omega arith)) (λ e. inr (ap suc e)) (le_cases i j (omega arith))
-
 passes_lt : (x y : ℤ) → x ≡ neg_ℤ y → x <ℤ pos 0 → int_lt (pos 0) y ≡ true
 passes_lt x y e h = grind (arith, ints)
 

@@ -10,7 +10,7 @@ use Rattle.geom.specs.declared.edge.Edge.{Edge}
 use Rattle.geom.proofs.Edges.{edge_path}
 use Rattle.lane_tests.specs.Columns.{Ends}
 use Rattle.lane_tests.specs.Edges.{AreEdges, anywhere, edges_of, ends}
-use Rattle.lane_tests.proofs.Pairs.{grown, kept}
+use Rattle.lane_tests.proofs.Pairs.{each_push}
 
 pub ends_tell : (e f : Edge) → ends e ≡ ends f → e ≡ f
 ends_tell e f h = edge_path e f (ap (λ p. p.0) h) (ap (λ p. p.1) h)
@@ -20,29 +20,12 @@ pub ends-edges_of : (es : List Ends) (h : AreEdges es) → map ends (edges_of es
 ends-edges_of [] h = refl
 ends-edges_of (e ∷ es) h = ap (λ ps. e ∷ ps) (ends-edges_of es (record { ordered = λ k. h.ordered (suc k) }))
 
-first_or_later : (P : Ends → Type 0) (e : Ends) (es : List Ends) → P e → ((k : ℕ) → P (get_or es k anywhere)) → (k : ℕ) → P (get_or (e ∷ es) k anywhere)
-first_or_later P e es h r zero = h
-first_or_later P e es h r (suc k) = r k
-
-each_push : (P : Ends → Type 0) (es : List Ends) (e : Ends) → ((k : ℕ) → P (get_or es k anywhere)) → P e → (k : ℕ) → P (get_or (es ++ e ∷ []) k anywhere)
-each_push P [] e h x = first_or_later P e [] x h
-each_push P (f ∷ es) e h x = first_or_later P f (es ++ e ∷ []) (h 0) (each_push P es e (λ k. h (suc k)) x)
-
 pub edges_grown : (old now : List Ends) (e : Edge) → AreEdges old → now ≡ old ++ ends e ∷ [] → AreEdges now
-edges_grown old now e h f = rw f (record { ordered = each_push (λ e. IsBefore e.0 e.1) old (ends e) h.ordered e.ordered })
-
-pub edges_kept : (old now : List Ends) → AreEdges old → now ≡ old → AreEdges now
-edges_kept old now h e = rw e h
+edges_grown old now e h f = rw f (record { ordered = each_push anywhere (λ e. IsBefore e.0 e.1) old (ends e) h.ordered e.ordered })
 
 -- the columns of these edges
 pub columns_are : (es : List Ends) (h : AreEdges es) (edges : List Edge) → edges_of es h ≡ edges → map ends edges ≡ es
 columns_are es h edges e = sym (ap (map ends) e) ∙ ends-edges_of es h
-
-pub list_grown : (old now : List Ends) (h : AreEdges old) (k : AreEdges now) (edges : List Edge) (e : Edge) → edges_of old h ≡ edges → now ≡ old ++ ends e ∷ [] → edges_of now k ≡ edges ++ e ∷ []
-list_grown old now h k edges e f g = grown ends ends_tell edges (edges_of now k) old now e (columns_are old h edges f) (ends-edges_of now k) g
-
-pub list_kept : (old now : List Ends) (h : AreEdges old) (k : AreEdges now) (edges : List Edge) → edges_of old h ≡ edges → now ≡ old → edges_of now k ≡ edges
-list_kept old now h k edges e f = kept ends ends_tell edges (edges_of now k) old now (columns_are old h edges e) (ends-edges_of now k) f
 
 -- ---- chosen edges
 pub in_limit_at : (edges : List Edge) (i : ℕ) (e : Edge) → All (λ e. AreInLimit e.p e.q) edges → i < length edges → e ≡ get_or edges i e → AreInLimit e.p e.q

@@ -1,20 +1,27 @@
 -- Lanes of the ends of edges.
 use Rattle.lane_tests.proofs.PairLists.{get_or-pairs_of}
-use Rattle.lane_tests.proofs.Rects.{each_push}
-use Rattle.std.proofs.Common.{ℕ, ◌+◌, ◌^◌, ◌≤◌, List, [], ◌∷◌, ◌++◌, length, get_or, map, take, drop, arith, w32, w64, FitsSigned, of_z, ℤ, pos, ◌+ℤ◌, ◌-ℤ◌, ◌*ℤ◌, lit<, sym, ap, subst, ◌≡◌, ◌∙◌}
+use Rattle.lane_tests.proofs.Pairs.{each_push}
+use Rattle.std.proofs.Common.{ℕ, ◌+◌, ◌-◌, ◌%◌, ◌^◌, ◌≤◌, List, [], ◌∷◌, ◌++◌, length, get_or, map, take, drop, arith, w32, w64, FitsSigned, of_z, to_z, to_z-of_z, ℤ, pos, ◌+ℤ◌, ◌-ℤ◌, ◌*ℤ◌, lit<, sym, ap, subst, ◌≡◌, ◌∙◌}
 use Rattle.std.proofs.lemmas.Int.{ints, fits_signed_mul}
 use Rattle.std.specs.Prelude.{unsigned_abs}
+use Rattle.geom.proofs.Bounds.{within_room}
 use Rattle.geom.specs.Limit.{AreInLimit, IsWithin, coordinate_limit}
 use Rattle.lane_tests.specs.Columns.{AreColumns, Ends, nowhere, pair_at, pairs_of}
 use Rattle.lane_tests.specs.Edges.{AreNear}
 use Rattle.lane_tests.specs.Above.{AreEnds, run_at, offset_at}
-use Rattle.lane_tests.proofs.Values.{AreValues, from_column}
+use Rattle.lane_tests.proofs.Values.{AreValues, from_column, from_numbers, from_splat, minus, plus}
+use Rattle.std.specs.List.{range_with_len}
+use mir.Val.{bits}
+use lib.Lanes.{zip2}
 
 difference_fits : (a b : ℤ) → IsWithin (2 ^ 28) a → IsWithin (2 ^ 28) b → FitsSigned w32 (a -ℤ b)
 difference_fits a b h k = omega (arith, ints)
 
 double_fits : (a : ℤ) → IsWithin (2 ^ 28) a → FitsSigned w32 (a +ℤ a)
 double_fits a h = omega (arith, ints)
+
+half_fits : (x : ℤ) → IsWithin (2 ^ 29 + 1) x → FitsSigned w32 x
+half_fits x h = omega (arith, ints)
 
 offset_fits : (x a : ℤ) → IsWithin (2 ^ 29 + 1) x → IsWithin (2 ^ 28) a → FitsSigned w32 (x -ℤ (a +ℤ a))
 offset_fits x a h k = omega (arith, ints)
@@ -27,6 +34,13 @@ offset_abs x a h k = omega (arith, ints)
 
 pub direction_abs : (x : ℤ) → IsWithin (2 ^ 29) x → unsigned_abs x ≤ 2 ^ 29
 direction_abs x h = omega (arith, ints)
+
+-- the four numbers of an element, as the code reads them
+pub read_back : (ls bs rs ts : List ℤ) → AreEnds ls bs rs ts → (k : ℕ) → (to_z w32 (of_z w32 (get_or ls k (pos 0))) ≡ get_or ls k (pos 0)) × (to_z w32 (of_z w32 (get_or bs k (pos 0))) ≡ get_or bs k (pos 0)) × (to_z w32 (of_z w32 (get_or rs k (pos 0))) ≡ get_or rs k (pos 0)) × (to_z w32 (of_z w32 (get_or ts k (pos 0))) ≡ get_or ts k (pos 0))
+read_back ls bs rs ts h k = (to_z-of_z (h.columns.left.fits k), to_z-of_z (h.columns.bottom.fits k), to_z-of_z (h.columns.right.fits k), to_z-of_z (h.columns.top.fits k))
+
+abbrev eight : ℤ → List ℕ
+eight y = of_z w32 y ∷ of_z w32 y ∷ of_z w32 y ∷ of_z w32 y ∷ of_z w32 y ∷ of_z w32 y ∷ of_z w32 y ∷ of_z w32 y ∷ []
 
 module _ (ls bs rs ts : List ℤ) (at : ℕ) (h : AreEnds ls bs rs ts) (room : at + 8 ≤ length ls) where
   pub left : AreValues w32 at (λ k. get_or ls k (pos 0)) (map (of_z w32) (take 8 (drop at ls)))
@@ -59,6 +73,12 @@ module _ (ls bs rs ts : List ℤ) (at : ℕ) (h : AreEnds ls bs rs ts) (room : a
   pub bottom_double : (k : ℕ) → FitsSigned w32 (get_or bs k (pos 0) +ℤ get_or bs k (pos 0))
   bottom_double k = double_fits (get_or bs k (pos 0)) (h.near k).1
 
+  pub run : AreValues w32 at (run_at ls rs) (zip2 (λ a b. (a + (2 ^ bits w32 - b)) % 2 ^ bits w32) (map (of_z w32) (take 8 (drop at rs))) (map (of_z w32) (take 8 (drop at ls))))
+  run = minus w32 right left run_fits
+
+  pub rise : AreValues w32 at (run_at bs ts) (zip2 (λ a b. (a + (2 ^ bits w32 - b)) % 2 ^ bits w32) (map (of_z w32) (take 8 (drop at ts))) (map (of_z w32) (take 8 (drop at bs))))
+  rise = minus w32 top bottom rise_fits
+
   module _ (x2 y2 : ℤ) (near_x : IsWithin (2 ^ 29 + 1) x2) (near_y : IsWithin (2 ^ 29 + 1) y2) where
     pub along_fits : (k : ℕ) → FitsSigned w32 (offset_at ls x2 k)
     along_fits k = offset_fits x2 (get_or ls k (pos 0)) near_x (h.near k).0
@@ -66,11 +86,25 @@ module _ (ls bs rs ts : List ℤ) (at : ℕ) (h : AreEnds ls bs rs ts) (room : a
     pub up_fits : (k : ℕ) → FitsSigned w32 (offset_at bs y2 k)
     up_fits k = offset_fits y2 (get_or bs k (pos 0)) near_y (h.near k).1
 
+    pub along : AreValues w32 at (offset_at ls x2) (zip2 (λ a b. (a + (2 ^ bits w32 - b)) % 2 ^ bits w32) (eight x2) (zip2 (λ a b. (a + b) % 2 ^ bits w32) (map (of_z w32) (take 8 (drop at ls))) (map (of_z w32) (take 8 (drop at ls)))))
+    along = minus w32 (from_splat w32 at x2 (half_fits x2 near_x)) (plus w32 left left left_double) along_fits
+
+    pub up : AreValues w32 at (offset_at bs y2) (zip2 (λ a b. (a + (2 ^ bits w32 - b)) % 2 ^ bits w32) (eight y2) (zip2 (λ a b. (a + b) % 2 ^ bits w32) (map (of_z w32) (take 8 (drop at bs))) (map (of_z w32) (take 8 (drop at bs)))))
+    up = minus w32 (from_splat w32 at y2 (half_fits y2 near_y)) (plus w32 bottom bottom bottom_double) up_fits
+
     pub over_fits : (k : ℕ) → FitsSigned w64 (run_at ls rs k *ℤ offset_at bs y2 k)
     over_fits k = fits_signed_mul w64 (run_at ls rs k) (offset_at bs y2 k) (2 ^ 29) (2 ^ 30 + 1) (run_abs k) (offset_abs y2 (get_or bs k (pos 0)) near_y (h.near k).1) (lit< tt)
 
     pub under_fits : (k : ℕ) → FitsSigned w64 (run_at bs ts k *ℤ offset_at ls x2 k)
     under_fits k = fits_signed_mul w64 (run_at bs ts k) (offset_at ls x2 k) (2 ^ 29) (2 ^ 30 + 1) (rise_abs k) (offset_abs x2 (get_or ls k (pos 0)) near_x (h.near k).0) (lit< tt)
+
+    -- lanes with the two products, from what the code says of them
+    pub compared : (r : List ℤ × List ℤ) → r.0 ≡ map (λ k. run_at ls rs k *ℤ offset_at bs (to_z w32 (of_z w32 y2)) k) (range_with_len at 8) → r.1 ≡ map (λ k. run_at bs ts k *ℤ offset_at ls (to_z w32 (of_z w32 x2)) k) (range_with_len at 8)
+        → AreValues w64 at (λ k. run_at ls rs k *ℤ offset_at bs y2 k) (map (of_z w64) r.0) × AreValues w64 at (λ k. run_at bs ts k *ℤ offset_at ls x2 k) (map (of_z w64) r.1)
+    compared r e f =
+        let fx : FitsSigned w32 x2 = half_fits x2 near_x in
+        let fy : FitsSigned w32 y2 = half_fits y2 near_y in
+        (from_numbers w64 at (λ k. run_at ls rs k *ℤ offset_at bs y2 k) r.0 over_fits (simp to_z-of_z at e), from_numbers w64 at (λ k. run_at bs ts k *ℤ offset_at ls x2 k) r.1 under_fits (simp to_z-of_z at f))
 
   module _ (dx dy : ℤ) (near_x : IsWithin (2 ^ 29) dx) (near_y : IsWithin (2 ^ 29) dy) where
     pub run_dy_fits : (k : ℕ) → FitsSigned w64 (run_at ls rs k *ℤ dy)
@@ -80,9 +114,6 @@ module _ (ls bs rs ts : List ℤ) (at : ℕ) (h : AreEnds ls bs rs ts) (room : a
     rise_dx_fits k = fits_signed_mul w64 (run_at bs ts k) dx (2 ^ 29) (2 ^ 29) (rise_abs k) (direction_abs dx near_x) (lit< tt)
 
 -- ---- columns of points in the coordinate limit
-near_28 : (z : ℤ) → IsWithin coordinate_limit z → IsWithin (2 ^ 28) z
-near_28 z h = record { low = omega (arith, ints, h.low); high = omega (arith, ints, h.high) }
-
 pub ends_are : (ls bs rs ts : List ℤ) (pairs : List Ends) → AreColumns ls bs rs ts → pairs_of ls bs rs ts ≡ pairs → AreNear pairs → AreEnds ls bs rs ts
 ends_are ls bs rs ts pairs h e n = record { columns = h; near = λ k. near k (at k) }
   where
@@ -92,7 +123,7 @@ ends_are ls bs rs ts pairs h e n = record { columns = h; near = λ k. near k (at
     near : (k : ℕ) → get_or pairs k nowhere ≡ pair_at ls bs rs ts k → IsWithin (2 ^ 28) (get_or ls k (pos 0)) × IsWithin (2 ^ 28) (get_or bs k (pos 0)) × IsWithin (2 ^ 28) (get_or rs k (pos 0)) × IsWithin (2 ^ 28) (get_or ts k (pos 0))
     near k p =
         let m : AreInLimit (pair_at ls bs rs ts k).0 (pair_at ls bs rs ts k).1 = subst (λ (e : Ends). AreInLimit e.0 e.1) p (n.near k) in
-        (near_28 _ m.a_in.x_in, near_28 _ m.a_in.y_in, near_28 _ m.b_in.x_in, near_28 _ m.b_in.y_in)
+        (within_room _ m.a_in.x_in, within_room _ m.a_in.y_in, within_room _ m.b_in.x_in, within_room _ m.b_in.y_in)
 
 none_near : AreInLimit nowhere.0 nowhere.1
 none_near = let zero_near : IsWithin coordinate_limit (pos 0) = record { low = omega (arith, ints); high = omega (arith, ints) } in
@@ -102,7 +133,4 @@ pub no_points_near : AreNear []
 no_points_near = record { near = λ k. none_near }
 
 pub near_grown : (old now : List Ends) (e : Ends) → AreNear old → AreInLimit e.0 e.1 → now ≡ old ++ e ∷ [] → AreNear now
-near_grown old now e h n f = rw f (record { near = each_push (λ e. AreInLimit e.0 e.1) old e h.near n })
-
-pub near_kept : (old now : List Ends) → AreNear old → now ≡ old → AreNear now
-near_kept old now h e = rw e h
+near_grown old now e h n f = rw f (record { near = each_push nowhere (λ e. AreInLimit e.0 e.1) old e h.near n })

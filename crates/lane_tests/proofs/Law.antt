@@ -18,18 +18,7 @@ use Rattle.lane_tests.specs.Probe.{IsProbe, point_of}
 use Rattle.lane_tests.specs.Above.{AreEnds, HasRoom, IsFloor, counting, is_above, is_over, offset_at, run_at}
 use Rattle.lane_tests.specs.declared.points.Probe.{Probe}
 use Rattle.geom.proofs.Identity.{var, num, ◌⊕◌, ◌⊖◌, ◌⊗◌, ring}
-
-lt_yes : (a b : ℤ) → a <ℤ b → int_lt a b ≡ true
-lt_yes a b h = let t : true ≡ int_lt a b = omega (arith, ints) in sym t
-
-lt_no : (a b : ℤ) → b ≤ℤ a → int_lt a b ≡ false
-lt_no a b h = let t : false ≡ int_lt a b = omega (arith, ints) in sym t
-
-le_yes : (a b : ℤ) → a ≤ℤ b → int_le a b ≡ true
-le_yes a b h = let t : true ≡ int_le a b = omega (arith, ints) in sym t
-
-le_no : (a b : ℤ) → b <ℤ a → int_le a b ≡ false
-le_no a b h = let t : false ≡ int_le a b = omega (arith, ints) in sym t
+use Rattle.geom.proofs.Tests.{lt_yes, lt_no, le_yes, le_no}
 
 same_lt : (a b x y : ℤ) → (a <ℤ b → x <ℤ y) → (b ≤ℤ a → y ≤ℤ x) → int_lt a b ≡ int_lt x y
 same_lt a b x y f g = by_lt_z a b (λ h. lt_yes a b h ∙ sym (lt_yes x y (f h))) (λ h. lt_no a b h ∙ sym (lt_no x y (g h)))

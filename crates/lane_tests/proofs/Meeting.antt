@@ -14,18 +14,10 @@ use Rattle.geom.specs.declared.rect.Rect.{Rect}
 use Rattle.lane_tests.specs.Columns.{corners, nowhere, touches, passing, touching_numbers}
 use Rattle.geom.specs.Box.{IsInBox, ShareAPoint}
 use Rattle.geom.proofs.Boxes.{share_in, share_out}
+use Rattle.geom.proofs.Tests.{le_le, le_told, le_yes}
 use Rattle.lane_tests.specs.Meeting.{AreMeeting, MeetsAt}
 
 -- ---- a common point, by four comparisons
-pub le_yes : (a b : ℤ) → a ≤ℤ b → int_le a b ≡ true
-le_yes a b h = let t : true ≡ int_le a b = omega (arith, ints) in sym t
-
-pub le_from : (a b : ℤ) → int_le a b ≡ true → a ≤ℤ b
-le_from a b h = omega (arith, ints)
-
-pub through : (a b c : ℤ) → a ≤ℤ b → b ≤ℤ c → a ≤ℤ c
-through a b c h k = omega (arith, ints)
-
 pub all_four : (p q r s : Bool) → p ≡ true → q ≡ true → r ≡ true → s ≡ true → p && q && r && s ≡ true
 all_four p q r s e f g h = rw (e, f, g, h) refl
 
@@ -57,7 +49,7 @@ overlap : (a b c d : ℤ) → a ≤ℤ b → c ≤ℤ d → a ≤ℤ d → c ≤
 overlap a b c d h k l m = by_lt_z a c (λ n. record { at = c; low = at_most a c n; high = m; from = itself c; to = k }) (λ n. record { at = a; low = itself a; high = h; from = n; to = l })
 
 pub share_from : (b r : Rect) → touches (corners b) (corners r) ≡ true → ShareAPoint b.lo b.hi r.lo r.hi
-share_from b r e = let t = four_of _ _ _ _ e in share_out b r (le_from _ _ t.0, le_from _ _ t.2) (le_from _ _ t.1, le_from _ _ t.3)
+share_from b r e = let t = four_of _ _ _ _ e in share_out b r (le_told _ _ t.0, le_told _ _ t.2) (le_told _ _ t.1, le_told _ _ t.3)
 
 -- boxes with whole corners that share a point share a point of the grid
 pub shared_whole : (b r : Rect) → ShareAPoint b.lo b.hi r.lo r.hi → (p : Pt) × IsInBox b.lo b.hi p × IsInBox r.lo r.hi p
@@ -68,7 +60,7 @@ shared_whole b r h =
     (record { x = x.at; y = y.at }, record { left = x.low; right = x.high; bottom = y.low; top = y.high }, record { left = x.from; right = x.to; bottom = y.from; top = y.to })
 
 pub whole_shared : (b r : Rect) (p : Pt) → IsInBox b.lo b.hi p → IsInBox r.lo r.hi p → ShareAPoint b.lo b.hi r.lo r.hi
-whole_shared b r p i j = share_out b r (through _ _ _ i.left j.right, through _ _ _ j.left i.right) (through _ _ _ i.bottom j.top, through _ _ _ j.bottom i.top)
+whole_shared b r p i j = share_out b r (le_le _ _ _ i.left j.right, le_le _ _ _ j.left i.right) (le_le _ _ _ i.bottom j.top, le_le _ _ _ j.bottom i.top)
 
 -- ---- members of a filtered range
 in_range : (a n k : ℕ) → In k (range_with_len a n) → (a ≤ k) × (k < a + n)

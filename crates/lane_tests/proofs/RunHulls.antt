@@ -12,7 +12,8 @@ use Rattle.geom.specs.declared.rect.Rect.{Rect}
 use Rattle.lane_tests.specs.Columns.{AreColumns, Ends, corners, nowhere, pair_at, pairs_of, passing, touches}
 use Rattle.lane_tests.specs.Hulls.{AreHulls, Covers, HasHeld, hull_at}
 use Rattle.lane_tests.proofs.PairLists.{get_or-pairs_of, length-pairs_of}
-use Rattle.lane_tests.proofs.Meeting.{all_four, four_of, le_from, le_yes, share_from, through}
+use Rattle.geom.proofs.Tests.{le_le, le_told, le_yes}
+use Rattle.lane_tests.proofs.Meeting.{all_four, four_of, share_from}
 
 itself : (a : ℤ) → a ≤ℤ a
 itself a = omega (arith, ints)
@@ -25,16 +26,16 @@ same a b e = subst (λ z. a ≤ℤ z) e (itself a)
 
 -- ---- a hull that is widened by a box
 min_first : (a b c r : ℤ) → r ≡ int_min (int_min a b) c → r ≤ℤ a
-min_first a b c r e = let m : int_min a b ≤ℤ a = omega (arith, linear, int_min_is a b) in let n : int_min (int_min a b) c ≤ℤ int_min a b = omega (arith, linear, int_min_is (int_min a b) c) in through _ _ _ (through _ _ _ (same _ _ e) n) m
+min_first a b c r e = let m : int_min a b ≤ℤ a = omega (arith, linear, int_min_is a b) in let n : int_min (int_min a b) c ≤ℤ int_min a b = omega (arith, linear, int_min_is (int_min a b) c) in le_le _ _ _ (le_le _ _ _ (same _ _ e) n) m
 
 min_second : (a b c r : ℤ) → r ≡ int_min (int_min a b) c → r ≤ℤ b
-min_second a b c r e = let m : int_min a b ≤ℤ b = omega (arith, linear, int_min_is a b) in let n : int_min (int_min a b) c ≤ℤ int_min a b = omega (arith, linear, int_min_is (int_min a b) c) in through _ _ _ (through _ _ _ (same _ _ e) n) m
+min_second a b c r e = let m : int_min a b ≤ℤ b = omega (arith, linear, int_min_is a b) in let n : int_min (int_min a b) c ≤ℤ int_min a b = omega (arith, linear, int_min_is (int_min a b) c) in le_le _ _ _ (le_le _ _ _ (same _ _ e) n) m
 
 max_first : (a b c r : ℤ) → r ≡ int_max (int_max a b) c → a ≤ℤ r
-max_first a b c r e = let m : a ≤ℤ int_max a b = omega (arith, linear, int_max_is a b) in let n : int_max a b ≤ℤ int_max (int_max a b) c = omega (arith, linear, int_max_is (int_max a b) c) in through _ _ _ m (through _ _ _ n (same _ _ (sym e)))
+max_first a b c r e = let m : a ≤ℤ int_max a b = omega (arith, linear, int_max_is a b) in let n : int_max a b ≤ℤ int_max (int_max a b) c = omega (arith, linear, int_max_is (int_max a b) c) in le_le _ _ _ m (le_le _ _ _ n (same _ _ (sym e)))
 
 max_third : (a b c r : ℤ) → r ≡ int_max (int_max a b) c → c ≤ℤ r
-max_third a b c r e = let n : c ≤ℤ int_max (int_max a b) c = omega (arith, linear, int_max_is (int_max a b) c) in through _ _ _ n (same _ _ (sym e))
+max_third a b c r e = let n : c ≤ℤ int_max (int_max a b) c = omega (arith, linear, int_max_is (int_max a b) c) in le_le _ _ _ n (same _ _ (sym e))
 
 -- the least box that has a hull and both corners of a box
 pub record IsWidened (hull rect wider : Rect) : Type 0 where
@@ -104,7 +105,7 @@ hulls_kept old new run rect pairs pairs' h g e = rw e (record {
 })
   where
     covers_through : (a b c : Ends) → Covers a b → Covers b c → Covers a c
-    covers_through a b c f g = record { left = through _ _ _ f.left g.left; bottom = through _ _ _ f.bottom g.bottom; right = through _ _ _ g.right f.right; top = through _ _ _ g.top f.top }
+    covers_through a b c f g = record { left = le_le _ _ _ f.left g.left; bottom = le_le _ _ _ f.bottom g.bottom; right = le_le _ _ _ g.right f.right; top = le_le _ _ _ g.top f.top }
 
 pub hulls_grown : (old new : List Rect) (run : ℕ) (rect : Rect) (pairs pairs' : List Ends) → AreHulls old pairs → HasHeld run rect old new → run ≡ length pairs / 256 → pairs' ≡ pairs ++ corners rect ∷ [] → AreHulls new pairs'
 hulls_grown old new run rect pairs pairs' h g f e = rw e (record { inside = inside; covers = covers })
@@ -151,10 +152,10 @@ touches_hull : (hull : Rect) (pair : Ends) (rect : Rect) → Covers (corners hul
 touches_hull hull pair rect h t =
     let f = four_of _ _ _ _ t in
     all_four _ _ _ _
-    (le_yes _ _ (through _ _ _ h.left (le_from _ _ f.0)))
-    (le_yes _ _ (through _ _ _ h.bottom (le_from _ _ f.1)))
-    (le_yes _ _ (through _ _ _ (le_from _ _ f.2) h.right))
-    (le_yes _ _ (through _ _ _ (le_from _ _ f.3) h.top))
+    (le_yes _ _ (le_le _ _ _ h.left (le_told _ _ f.0)))
+    (le_yes _ _ (le_le _ _ _ h.bottom (le_told _ _ f.1)))
+    (le_yes _ _ (le_le _ _ _ (le_told _ _ f.2) h.right))
+    (le_yes _ _ (le_le _ _ _ (le_told _ _ f.3) h.top))
 
 pub misses : (hull : Rect) (pair : Ends) (rect : Rect) → Covers (corners hull) pair → ¬ (ShareAPoint hull.lo hull.hi rect.lo rect.hi) → touches pair (corners rect) ≡ false
 misses hull pair rect h n = elim (cases_Bool (touches pair (corners rect))) [

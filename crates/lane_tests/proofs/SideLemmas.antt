@@ -17,6 +17,8 @@ use Rattle.std.specs.Int.{int_signum}
 use Rattle.lane_tests.proofs.Hits.{range-add}
 use Rattle.lane_tests.proofs.Lanes.{by_number}
 use Rattle.lane_tests.proofs.PairLists.{length-pairs_of, get_or-pairs_of}
+use Rattle.geom.proofs.Integers.{twice_left}
+use Rattle.geom.proofs.Tests.{lt_yes, lt_no}
 
 sign_fits : (p q : Bool) → FitsSigned w8 (cond p (negsuc 0) (cond q (pos 1) (pos 0)))
 sign_fits true q = record { sfits = omega arith }
@@ -75,15 +77,6 @@ stored ls bs rs ts x2 y2 at r out e room =
     rw same (take_more_put_chunk at out (siding f at 8) (at + 8) (omega (arith, length-siding f at 8)) room)
 
 -- ---- the sign of the determinant
-doubled : (a : ℤ) → pos 2 *ℤ a ≡ a +ℤ a
-doubled a = omega (arith, ints)
-
-lt_yes : (a b : ℤ) → a <ℤ b → int_lt a b ≡ true
-lt_yes a b h = let t : true ≡ int_lt a b = omega (arith, ints) in sym t
-
-lt_no : (a b : ℤ) → b ≤ℤ a → int_lt a b ≡ false
-lt_no a b h = let t : false ≡ int_lt a b = omega (arith, ints) in sym t
-
 signum_below : (z : ℤ) → z <ℤ pos 0 → int_signum z ≡ negsuc 0
 signum_below (pos n) h = absurd (omega (arith, ints))
 signum_below (negsuc n) h = refl
@@ -104,7 +97,7 @@ sign_is u v = by_lt_z u v
 
 pair_sign : (s : Ends) (z : Half) → sign ((s.1.x -ℤ s.0.x) *ℤ (z.y2 -ℤ (s.0.y +ℤ s.0.y))) ((s.1.y -ℤ s.0.y) *ℤ (z.x2 -ℤ (s.0.x +ℤ s.0.x))) ≡ side_sign s z
 pair_sign s z = sign_is ((s.1.x -ℤ s.0.x) *ℤ (z.y2 -ℤ (s.0.y +ℤ s.0.y))) ((s.1.y -ℤ s.0.y) *ℤ (z.x2 -ℤ (s.0.x +ℤ s.0.x)))
-    ∙ (λ i. int_signum (((s.1.x -ℤ s.0.x) *ℤ (z.y2 -ℤ sym (doubled s.0.y) i)) -ℤ ((s.1.y -ℤ s.0.y) *ℤ (z.x2 -ℤ sym (doubled s.0.x) i))))
+    ∙ (λ i. int_signum (((s.1.x -ℤ s.0.x) *ℤ (z.y2 -ℤ sym (twice_left s.0.y) i)) -ℤ ((s.1.y -ℤ s.0.y) *ℤ (z.x2 -ℤ sym (twice_left s.0.x) i))))
 
 -- by segments
 pub by_segments : (pairs : List Ends) (ls bs rs ts ls' bs' rs' ts' : List ℤ) (z : Half) (out : List ℤ) → AreEnds ls bs rs ts → pairs_of ls bs rs ts ≡ pairs → ls' ≡ ls → bs' ≡ bs → rs' ≡ rs → ts' ≡ ts

@@ -13,6 +13,7 @@ use Rattle.std.proofs.Math.Nat.{mod-lt}
 use Rattle.std.proofs.lemmas.Nat.{pow_pos}
 use Rattle.lane_tests.specs.Columns.{mask_of, IsColumn}
 use Rattle.lane_tests.proofs.Lanes.{AreLanes, column, splat, both, each, mask_is, full32}
+use Rattle.geom.proofs.Tests.{lt_yes, lt_no}
 
 -- the bits of the value of each lane
 pub record AreValues (w : Width) (at : ℕ) (v : ℕ → ℤ) (z : List ℕ) : Type 0 where
@@ -24,6 +25,13 @@ from_column xs at room h = record { lanes = column xs at room; fits = h.fits }
 
 pub from_splat : (w : Width) (at : ℕ) (y : ℤ) → FitsSigned w y → AreValues w at (λ _. y) (of_z w y ∷ of_z w y ∷ of_z w y ∷ of_z w y ∷ of_z w y ∷ of_z w y ∷ of_z w y ∷ of_z w y ∷ [])
 from_splat w at y h = record { lanes = splat at (of_z w y); fits = λ _. h }
+
+-- the numbers of lanes, and lanes of numbers
+pub numbers : {w : Width} {at : ℕ} {v : ℕ → ℤ} {z : List ℕ} → AreValues w at v z → map (to_z w) z ≡ map v (range_with_len at 8)
+numbers {w} {at} {v} a = ap (map (to_z w)) a.lanes.is ∙ map-map (to_z w) (λ k. of_z w (v k)) (range_with_len at 8) ∙ (λ i. map (λ k. to_z-of_z (a.fits k) i) (range_with_len at 8))
+
+pub from_numbers : (w : Width) (at : ℕ) (v : ℕ → ℤ) (xs : List ℤ) → ((k : ℕ) → FitsSigned w (v k)) → xs ≡ map v (range_with_len at 8) → AreValues w at v (map (of_z w) xs)
+from_numbers w at v xs h e = record { lanes = record { is = ap (map (of_z w)) e ∙ map-map (of_z w) v (range_with_len at 8) }; fits = h }
 
 relane : {at : ℕ} {f g : ℕ → ℕ} {z : List ℕ} → ((k : ℕ) → f k ≡ g k) → AreLanes at f z → AreLanes at g z
 relane {at} h a = record { is = a.is ∙ (λ i. map (λ k. h k i) (range_with_len at 8)) }
@@ -62,6 +70,10 @@ plus w {at} {u} {v} a b h = record { lanes = relane (λ k. add_bits w (u k) (v k
 pub times : (w : Width) {at : ℕ} {u v : ℕ → ℤ} {z y : List ℕ} → AreValues w at u z → AreValues w at v y → ((k : ℕ) → FitsSigned w (u k *ℤ v k))
     → AreValues w at (λ k. u k *ℤ v k) (zip2 (λ a b. (a * b) % 2 ^ bits w) z y)
 times w {at} {u} {v} a b h = record { lanes = relane (λ k. mul_bits w (u k) (v k) (a.fits k) (b.fits k) (h k)) (both (λ a b. (a * b) % 2 ^ bits w) a.lanes b.lanes); fits = h }
+
+-- a product that the code made of two numbers
+pub prod : (r a b x y : ℤ) → FitsSigned w32 a → FitsSigned w32 b → a ≡ x → b ≡ y → r ≡ to_z w32 (of_z w32 a) *ℤ to_z w32 (of_z w32 b) → r ≡ x *ℤ y
+prod r a b x y f g d e h = let k : r ≡ a *ℤ b = simp to_z-of_z at h in k ∙ (λ i. d i *ℤ e i)
 
 wide_fits : (z : ℤ) → FitsSigned w32 z → FitsSigned w64 z
 wide_fits z h = omega (arith, ints)
@@ -155,12 +167,6 @@ less_values {at} {u} {v} a b = record {
 -- the sign of u - v
 abbrev pub sign_of : ℤ → ℤ → ℤ
 sign_of u v = minus_one (int_lt u v) -ℤ minus_one (int_lt v u)
-
-lt_yes : (a b : ℤ) → a <ℤ b → int_lt a b ≡ true
-lt_yes a b h = let t : true ≡ int_lt a b = omega (arith, ints) in sym t
-
-lt_no : (a b : ℤ) → b ≤ℤ a → int_lt a b ≡ false
-lt_no a b h = let t : false ≡ int_lt a b = omega (arith, ints) in sym t
 
 at_most_from : (a b : ℤ) → a <ℤ b → a ≤ℤ b
 at_most_from a b h = omega (arith, ints)

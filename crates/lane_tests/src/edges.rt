@@ -1,13 +1,14 @@
 //! Edges, and the parity of a point over them.
 
 ghost use Rattle.std.specs.Prelude.{◌≡◌, ℕ, ◌+◌, ◌<◌, ◌≤◌, ◌^◌, ◌++◌, ◌∷◌, [], OnOk, OnErr, IfOk, All, List, Some, length, map, slice_get, pos, ◌≤ℤ◌, ◌<ℤ◌, ◌+ℤ◌, ◌-ℤ◌, ◌*ℤ◌};
+ghost use Rattle.std.specs.List.{range_with_len};
 ghost use Rattle.geom.specs.Limit.{AreInLimit, IsWithin};
 ghost use Rattle.geom.specs.Parity.{parity};
 ghost use Rattle.geom.specs.declared.edge.Edge.{Edge};
 ghost use Rattle.lane_tests.specs.Columns.{mask_of};
 ghost use Rattle.lane_tests.specs.Edges.{AreEdges, AreNear, edges_of};
 ghost use Rattle.lane_tests.specs.Probe.{IsProbe, point_of};
-ghost use Rattle.lane_tests.specs.Above.{AreEnds, HasRoom, IsFloor, counting, is_above, is_at_most, is_covering, is_leaning, is_less, one_is_above};
+ghost use Rattle.lane_tests.specs.Above.{AreEnds, HasRoom, IsFloor, counting, is_above, is_at_most, is_covering, is_leaning, is_less, offset_at, one_is_above, run_at};
 
 use crate::columns::Columns;
 use crate::points::Probe;
@@ -230,18 +231,39 @@ fn rising(px: &[i32], py: &[i32], qx: &[i32], qy: &[i32], at: usize, x2: i32, y2
     ensures less { result.0 ≡ mask_of (is_less px.now py.now qx.now qy.now x2 y2) at }
     ensures at_most { result.1 ≡ mask_of (is_at_most px.now py.now qx.now qy.now x2 y2) at }
 {
+    let (over, under) = products(px, py, qx, qy, at, x2, y2);
+    (
+        over.simd_lt(under).to_bitmask(),
+        over.simd_le(under).to_bitmask(),
+    )
+}
+
+// Of the eight edges or segments from `at` on, the two products whose difference is twice the determinant of each and of
+// the way from its first end to (x2 / 2, y2 / 2).
+#[inline(always)]
+pub(crate) fn products(
+    px: &[i32],
+    py: &[i32],
+    qx: &[i32],
+    qy: &[i32],
+    at: usize,
+    x2: i32,
+    y2: i32,
+) -> (i64x8, i64x8)
+    requires ends { AreEnds px.now py.now qx.now qy.now }
+    requires in_range { at + 8 ≤ length px.now }
+    requires x2_near { IsWithin (2 ^ 29 + 1) x2 }
+    requires y2_near { IsWithin (2 ^ 29 + 1) y2 }
+    ensures over { result.0 ≡ map (λ k. run_at px.now qx.now k *ℤ offset_at py.now y2 k) (range_with_len at 8) }
+    ensures under { result.1 ≡ map (λ k. run_at py.now qy.now k *ℤ offset_at px.now x2 k) (range_with_len at 8) }
+{
     let left = i32x8::from_slice(&px[at..]);
     let bottom = i32x8::from_slice(&py[at..]);
     let run = (i32x8::from_slice(&qx[at..]) - left).cast::<i64>();
     let rise = (i32x8::from_slice(&qy[at..]) - bottom).cast::<i64>();
     let up = (i32x8::splat(y2) - (bottom + bottom)).cast::<i64>();
     let along = (i32x8::splat(x2) - (left + left)).cast::<i64>();
-    let over = run * up;
-    let under = rise * along;
-    (
-        over.simd_lt(under).to_bitmask(),
-        over.simd_le(under).to_bitmask(),
-    )
+    (run * up, rise * along)
 }
 
 // Which of the eight edges from `at` on rise above the direction (dx, dy).

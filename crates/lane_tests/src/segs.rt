@@ -8,7 +8,7 @@ ghost use Rattle.lane_tests.specs.Above.{AreEnds};
 ghost use Rattle.lane_tests.specs.Sides.{IsHalf, side_at, side_sign, siding, sign};
 
 use crate::columns::Columns;
-use crate::edges::{difference, offset, product};
+use crate::edges::{difference, offset, product, products};
 use crate::points::Half;
 use geom::{NoMemory, Seg};
 use std::alloc::Allocator;
@@ -137,14 +137,7 @@ fn eight_sides(ax: &[i32], ay: &[i32], bx: &[i32], by: &[i32], at: usize, x2: i3
     requires y2_near { IsWithin (2 ^ 29 + 1) y2 }
     ensures { result ≡ siding (side_at ax.now ay.now bx.now by.now x2 y2) at 8 }
 {
-    let left = i32x8::from_slice(&ax[at..]);
-    let bottom = i32x8::from_slice(&ay[at..]);
-    let run = (i32x8::from_slice(&bx[at..]) - left).cast::<i64>();
-    let rise = (i32x8::from_slice(&by[at..]) - bottom).cast::<i64>();
-    let up = (i32x8::splat(y2) - (bottom + bottom)).cast::<i64>();
-    let along = (i32x8::splat(x2) - (left + left)).cast::<i64>();
-    let over = run * up;
-    let under = rise * along;
+    let (over, under) = products(ax, ay, bx, by, at, x2, y2);
     (over.simd_lt(under).to_simd() - under.simd_lt(over).to_simd()).cast::<i8>()
 }
 

@@ -1,40 +1,38 @@
 -- From what the engine and the copy say to what a call for C says.
 use Rattle.std.proofs.Common.{◌≡◌, ◌∙◌, ◌<◌, ◌⊎◌, inl, inr, ℕ, List, length, subst, sym, ap, refl}
 use Rattle.std.specs.Prelude.{MatchResult, Option, Result, Ok, Err, None, Some}
+use Rattle.geom.specs.declared.edge.Counted.{Counted}
 use Rattle.geom.specs.declared.fault.RunFault.{RunFault}
 use Rattle.geom.specs.declared.op.Op.{Op}
 use Rattle.engine.specs.declared.engine.Made.{Made}
+use Rattle.engine.specs.declared.text.Report.{Report}
 use Rattle.engine.specs.Results.{IsResultWritten}
-use Rattle.engine.specs.Runs.{AreEdgesWritten, Declines, alone}
+use Rattle.engine.specs.Runs.{AreEdgesWritten, Declines, Reports, alone}
 use Rattle.overlay_c.specs.declared.answer.OverlayAnswer.{OverlayAnswer}
 use Rattle.overlay_c.specs.declared.made.Task.{Task}
 use Rattle.overlay_c.specs.declared.made.Task.TheVariants.{Apply, Edges}
-use Rattle.overlay_c.specs.Boundary.{Fills, filled, small, Holds, IsMade, IsTextOf, plain}
+use Rattle.overlay_c.specs.Boundary.{Fills, filled, small, Holds, IsAsked, IsMade, IsTextOf, plain}
+
+made : {M : Type 0} (task : Task) (side : ℕ) (a b text : List ℕ) (counted : List Counted) (report : Report M) → Reports (alone side) a b counted report → IsAsked task counted text → IsMade task side a b text
+made task side a b text counted report r asked = record {
+  may = (r.rings_a, r.rings_b, r.grid, r.ready);
+  segments = r.rounded.segments;
+  are_segments = r.rounded.are_segments;
+  counted = counted;
+  rounded = r.rounded.rounded;
+  asked = asked;
+}
 
 pub result_made : {M : Type 0} (op : Op) (side : ℕ) (a b : List ℕ) (r : Result (Made M) RunFault)
     → MatchResult r (λ m. IsResultWritten op (alone side) a b m.text.items m.report) (λ f. Declines (alone side) a b f.at f.fault)
     → MatchResult r (λ m. IsMade (Apply op) side a b m.text.items) (λ f. Declines (alone side) a b f.at f.fault)
-result_made op side a b (Ok m) h = let r = h.reports in record {
-  may = (r.rings_a, r.rings_b, r.grid, r.ready);
-  segments = r.rounded.segments;
-  are_segments = r.rounded.are_segments;
-  counted = h.counted;
-  rounded = r.rounded.rounded;
-  asked = h.result;
-}
+result_made op side a b (Ok m) h = made (Apply op) side a b m.text.items h.counted m.report h.reports h.result
 result_made op side a b (Err f) h = h
 
 pub edges_made : {M : Type 0} (side : ℕ) (a b : List ℕ) (r : Result (Made M) RunFault)
     → MatchResult r (λ m. AreEdgesWritten (alone side) a b m.text.items m.report) (λ f. Declines (alone side) a b f.at f.fault)
     → MatchResult r (λ m. IsMade Edges side a b m.text.items) (λ f. Declines (alone side) a b f.at f.fault)
-edges_made side a b (Ok m) h = let r = h.reports in record {
-  may = (r.rings_a, r.rings_b, r.grid, r.ready);
-  segments = r.rounded.segments;
-  are_segments = r.rounded.are_segments;
-  counted = h.counted;
-  rounded = r.rounded.rounded;
-  asked = h.text_is;
-}
+edges_made side a b (Ok m) h = made Edges side a b m.text.items h.counted m.report h.reports h.text_is
 edges_made side a b (Err f) h = h
 
 pub put_fills : (call side : ℕ) (a b text shown before after : List ℕ) (answer : OverlayAnswer) → shown ≡ text → IsTextOf call side a b text

@@ -12,6 +12,7 @@ use Rattle.geom.specs.declared.point.Pt.{Pt}
 use Rattle.geom.specs.declared.edge.Edge.{Edge}
 use Rattle.geom.proofs.Lists.{In}
 use Rattle.points_law.proofs.Choices.{◌⊕◌, ◌∧∧◌, par, run, rise, Ordered, MeetAtEnds, Noded, eq_z, Even}
+use Rattle.geom.proofs.Tests.{le_lt, lt_le}
 use Rattle.geom.proofs.Integers.{expand, linear, scale_le, scale_lt, mul_pos, by_sign}
 use Rattle.points_law.proofs.Sign.{NoRoot, twice, not_zero, sign}
 use Rattle.points_law.proofs.Meet.{off, slope, gap, no_meet, no_cross}
@@ -46,12 +47,6 @@ up_to k q h = omega (arith, ints)
 
 pub weak : (a b : ℤ) → a <ℤ b → a ≤ℤ b
 weak a b h = omega (arith, ints)
-
-pub le_lt : (a b c : ℤ) → a ≤ℤ b → b <ℤ c → a <ℤ c
-le_lt a b c h k = omega (arith, ints)
-
-pub lt_le : (a b c : ℤ) → a <ℤ b → b ≤ℤ c → a <ℤ c
-lt_le a b c h k = omega (arith, ints)
 
 pub no_root : (e f : Edge) (k : ℤ) → MeetAtEnds e f → cv e k ≡ true → cv f k ≡ true → NoRoot (slope f e) (gap f e) k
 no_root e f k m i j X N n l r =
@@ -165,7 +160,7 @@ one_same k = omega (arith, ints)
 one_here : (k : ℤ) → (pos 1 *ℤ k) ≤ℤ k
 one_here k = omega (arith, ints)
 
-one_next : (k : ℤ) → k ≤ℤ (pos 1 *ℤ (k +ℤ pos 1))
+pub one_next : (k : ℤ) → k ≤ℤ (pos 1 *ℤ (k +ℤ pos 1))
 one_next k = omega (arith, ints)
 
 sloping : (e f : Edge) (k : ℤ) → MeetAtEnds e f → cv e k ≡ true → cv e (k +ℤ pos 1) ≡ true → pos 0 <ℤ run f

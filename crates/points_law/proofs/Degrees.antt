@@ -15,15 +15,15 @@ use Rattle.geom.specs.Rounded.{AreRounded, joins, route_steps, count, is_odd, od
 use Rattle.geom.specs.Segments.{same_source}
 use Rattle.geom.specs.Segments.{AreClosed}
 use Rattle.geom.proofs.Edges.{edge_path, not_turned, joining}
-use Rattle.geom.proofs.Points.{same_point_refl}
+use Rattle.geom.proofs.Points.{same_point_refl, both_and}
 use Rattle.geom.proofs.Steps.{joined, step_of, step_apart}
 use Rattle.geom.proofs.Lists.{In, contains_in, in_contains, map_in, counts_some}
 use Rattle.geom.proofs.RouteLaws.{route_starts, route_ends}
 use Rattle.points_law.proofs.Choices.{◌⊕◌, ◌∧∧◌, par, is}
 use Rattle.points_law.proofs.Sums.{par_cong, par_same, par_xor, par_and, fubini, and_comm, and_dist, xor_self}
-use Rattle.points_law.proofs.Even.{same, same_is, same_refl, once}
+use Rattle.points_law.proofs.Even.{both_ways, same, same_is, same_refl, once}
 use Rattle.points_law.proofs.Counts.{par_filter}
-use Rattle.points_law.proofs.Layers.{odd_is, degree_is, par_map, distinct, both_ways, and_is, same_point_is}
+use Rattle.points_law.proofs.Layers.{odd_is, degree_is, par_map, distinct, and_is, same_point_is}
 
 -- the ends of a step that are v, modulo 2
 abbrev at_step : Pt → Pt × Pt → Bool
@@ -89,9 +89,6 @@ over_routes segments layer v known (next {s} {route} {ss} {routes} r rs) =
 abbrev at_edge : Pt → Edge → Bool
 at_edge v e = is v e.p ⊕ is v e.q
 
-both_true : (a b : Bool) → a ≡ true → b ≡ true → a && b ≡ true
-both_true a b h k = grind arith
-
 either_true : (a b : Bool) → (a ≡ true) ⊎ (b ≡ true) → a || b ≡ true
 either_true a b (inl h) = grind arith
 either_true a b (inr h) = grind arith
@@ -100,8 +97,8 @@ same_point_of : (u v : Pt) → u ≡ v → same_point u v ≡ true
 same_point_of u v h = subst (λ w. same_point u w ≡ true) h (same_point_refl u)
 
 joins_its : (e : Edge) (step : Pt × Pt) → ((e.p ≡ step.0) × (e.q ≡ step.1)) ⊎ ((e.p ≡ step.1) × (e.q ≡ step.0)) → joins e step ≡ true
-joins_its e step (inl (h, k)) = either_true _ _ (inl (both_true _ _ (same_point_of e.p step.0 h) (same_point_of e.q step.1 k)))
-joins_its e step (inr (h, k)) = either_true _ _ (inr (both_true _ _ (same_point_of e.p step.1 h) (same_point_of e.q step.0 k)))
+joins_its e step (inl (h, k)) = either_true _ _ (inl (both_and _ _ (same_point_of e.p step.0 h) (same_point_of e.q step.1 k)))
+joins_its e step (inr (h, k)) = either_true _ _ (inr (both_and _ _ (same_point_of e.p step.1 h) (same_point_of e.q step.0 k)))
 
 -- what joins a step is the edge of its ends
 one_joins : (e f : Edge) (step : Pt × Pt) → ((e.p ≡ step.0) × (e.q ≡ step.1)) ⊎ ((e.p ≡ step.1) × (e.q ≡ step.0)) → ((step.0 ≡ f.p) × (step.1 ≡ f.q)) ⊎ ((step.0 ≡ f.q) × (step.1 ≡ f.p)) → e ≡ f

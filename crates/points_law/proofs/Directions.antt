@@ -17,6 +17,7 @@ use Rattle.points_law.proofs.Turn.{before, ends_at, crossing}
 use Rattle.points_law.proofs.Next.{side_before, side_after, NoneBetween, across, leaves, pair}
 use Rattle.points_law.proofs.Spokes.{Joins, is_start, no_start, Spoke, spoke, joins_ends, one_edge, one_far, sooner_of, met_before}
 use Rattle.points_law.proofs.FirstMet.{FirstMet, first_met, none_between}
+use Rattle.points_law.proofs.Truth.{cond_no, cond_yes}
 
 -- d runs along one of the edges, and the parity over the chosen ones is odd on its left and even on its right
 pub record Bounds (es : List Edge) (r : Edge → Bool) (d : DirectedEdge) : Type 0 where
@@ -53,12 +54,6 @@ differs l r a h i j = grind arith
 
 differs' : (l r a : Bool) → r ≡ l ⊕ a → l ≡ false → r ≡ true → a ≡ true
 differs' l r a h i j = grind arith
-
-cond_yes : (t x y : Bool) → t ≡ true → cond t x y ≡ x
-cond_yes t x y h = grind arith
-
-cond_no : (t x y : Bool) → t ≡ false → cond t x y ≡ y
-cond_no t x y h = grind arith
 
 flipped : (x y a : Bool) → y ≡ x ⊕ a → a ≡ true → x ≡ false → y ≡ true
 flipped x y a h i j = grind arith

@@ -12,8 +12,8 @@ use Rattle.points_law.proofs.Choices.{◌∧∧◌, Even, run, rise, covers, abo
 use Rattle.points_law.proofs.ResultOfChoices.{Edges}
 use Rattle.points_law.proofs.Even.{by_test, clash}
 use Rattle.points_law.proofs.Meet.{off}
-use Rattle.points_law.proofs.Column.{cv_low, cv_run, weak}
-use Rattle.points_law.proofs.Heights.{covers_is, above_is}
+use Rattle.points_law.proofs.Column.{cv_low, cv_run, weak, lt_from}
+use Rattle.points_law.proofs.Heights.{covers_is, above_is, is_positive}
 use Rattle.points_law.proofs.Vertex.{over_pt, Vertex}
 use Rattle.points_law.proofs.HoleVertex.{NoneFromLeft, edge_below, left_in, lift_left, small_rise, level_there}
 
@@ -46,17 +46,11 @@ same_or_less a b h = omega (arith, ints)
 more_than : (a b : ℤ) → le_z a b ≡ false → b ≤ℤ a
 more_than a b h = omega (arith, ints)
 
-is_positive : (a : ℤ) → lt_z (pos 0) a ≡ true → pos 0 <ℤ a
-is_positive a h = omega (arith, ints)
-
 all_three : (a b c : Bool) → a ∧∧ (b ∧∧ c) ≡ true → (a ≡ true) × (b ≡ true) × (c ≡ true)
 all_three a b c h = (grind arith, grind arith, grind arith)
 
 these_three : (a b c : Bool) → a ≡ true → b ≡ true → c ≡ true → a ∧∧ (b ∧∧ c) ≡ true
 these_three a b c h i j = grind arith
-
-test_positive : (a : ℤ) → pos 0 <ℤ a → lt_z (pos 0) a ≡ true
-test_positive a h = grind (arith, ints)
 
 same_value : (a : ℤ) → a ≤ℤ a
 same_value a = omega (arith, ints)
@@ -106,11 +100,11 @@ module _ (es : List Edge) (h : Edges es) (r : Edge → Bool) (v : Pt) where
 
   next : (y : Edge) (ys : List Edge) → In y es → (t : Bool) → is_below y ≡ t → NearestOf es r v ys → NearestOf es r v (y ∷ ys)
   unfolding is_below
-  next y ys i false t m = keep y ys m (λ ry c b. clash (is_below y) t (these_three (r y) (covers y (left_of v)) (lt_z (pos 0) (height y (left_of v))) ry c (test_positive (height y (left_of v)) b)))
+  next y ys i false t m = keep y ys m (λ ry c b. clash (is_below y) t (these_three (r y) (covers y (left_of v)) (lt_z (pos 0) (height y (left_of v))) ry c (is_positive (height y (left_of v)) b)))
   next y ys i true t m = let p = all_three (r y) (covers y (left_of v)) (lt_z (pos 0) (height y (left_of v))) t in
       by_test (le_z (height m.edge (left_of v) *ℤ run_of y) (height y (left_of v) *ℤ run_of m.edge)) (NearestOf es r v (y ∷ ys))
       (λ s. keep y ys m (λ ry c b. same_or_less (height m.edge (left_of v) *ℤ run_of y) (height y (left_of v) *ℤ run_of m.edge) s))
-      (λ s. better y ys i p.0 p.1 (is_positive (height y (left_of v)) p.2) m (more_than (height m.edge (left_of v) *ℤ run_of y) (height y (left_of v) *ℤ run_of m.edge) s))
+      (λ s. better y ys i p.0 p.1 (lt_from (pos 0) (height y (left_of v)) p.2) m (more_than (height m.edge (left_of v) *ℤ run_of y) (height y (left_of v) *ℤ run_of m.edge) s))
 
   nearest_in : NearestOf es r v [] → (xs : List Edge) → ((f : Edge) → In f xs → In f es) → NearestOf es r v xs
   nearest_in c [] known = c

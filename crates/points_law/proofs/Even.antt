@@ -59,6 +59,11 @@ pub clash : {P : Type 0} (t : Bool) → t ≡ false → t ≡ true → P
 clash true h k = absurd (let e : true ≡ false = h in cc)
 clash false h k = absurd (let e : false ≡ true = k in cc)
 
+pub both_ways : (a b : Bool) → (a ≡ true → b ≡ true) → (b ≡ true → a ≡ true) → a ≡ b
+both_ways true b f g = sym (f refl)
+both_ways false true f g = g refl
+both_ways false false f g = refl
+
 pub not_true : (t : Bool) → ¬ (t ≡ true) → t ≡ false
 not_true true h = absurd (h refl)
 not_true false h = refl

@@ -9,10 +9,11 @@ use borrow.Author.Differences.{ints}
 use Rattle.geom.specs.declared.edge.Edge.{Edge}
 use Rattle.geom.specs.Pixel.{Point}
 use Rattle.points_law.proofs.Choices.{◌⊕◌, ◌∧∧◌, run, rise, MeetAtEnds, covers, above}
+use Rattle.geom.proofs.Tests.{le_le, lt_le}
 use Rattle.geom.proofs.Integers.{expand, linear, scale_le, mul_pos, cancel_pos, by_sign}
 use Rattle.points_law.proofs.Sign.{twice, stays_up}
 use Rattle.points_law.proofs.Meet.{off, slope, gap}
-use Rattle.points_law.proofs.Column.{cv, ab, weak, lt_le, up_to, no_root, cv_run, lt_from}
+use Rattle.points_law.proofs.Column.{cv, ab, weak, up_to, no_root, cv_run, lt_from}
 
 pub record InColumn (z : Point) (k : ℤ) : Type 0 where
   pub low : (z.n *ℤ k) ≤ℤ z.x
@@ -55,9 +56,6 @@ same_le a b c d h i = by_sign (b -ℤ a) (λ s. no a b c d (i (o1 a b s)) (o1 a 
 flip_test : (a b : ℤ) → lt_z a b ≡ true ⊕ le_z b a
 flip_test a b = grind (arith, ints)
 
-le_le : (a b c : ℤ) → a ≤ℤ b → b ≤ℤ c → a ≤ℤ c
-le_le a b c h k = omega (arith, ints)
-
 low_test : (z : Point) (k p : ℤ) → InColumn z k → le_z (z.n *ℤ p) z.x ≡ le_z p k
 low_test z k p c = same_le p k (z.n *ℤ p) z.x
     (λ h. le_le (z.n *ℤ p) (z.n *ℤ k) z.x (scale_le p k z.n h (weak (pos 0) z.n z.positive)) c.low)
@@ -87,12 +85,12 @@ lifts re rf se sf oe of X Y N = simp expand (omega (arith, linear))
 add_pos : (x y : ℤ) → pos 0 ≤ℤ x → pos 0 <ℤ y → pos 0 <ℤ (x +ℤ y)
 add_pos x y h k = omega (arith, ints)
 
-is_lt : (a b : ℤ) → a <ℤ b → lt_z a b ≡ true
-is_lt a b h = grind (arith, ints)
+pub is_positive : (x : ℤ) → pos 0 <ℤ x → lt_z (pos 0) x ≡ true
+is_positive x h = grind (arith, ints)
 
 -- what is above an edge that is above z is above z
 pub upward : (e f : Edge) (z : Point) (k : ℤ) → InColumn z k → MeetAtEnds e f → cv e k ≡ true → cv f k ≡ true → ab f e k ≡ true → above e z ≡ true → above f z ≡ true
-upward e f z k c m i j u v = above_is f z ∙ is_lt (pos 0) (lift f z) (cancel_pos (run e) (lift f z) (cv_run e k i)
+upward e f z k c m i j u v = above_is f z ∙ is_positive (lift f z) (cancel_pos (run e) (lift f z) (cv_run e k i)
     (subst (λ (t : ℤ). pos 0 <ℤ t) (sym (lifts (run e) (run f) (rise e) (rise f) (off e) (off f) z.x z.y z.n))
     (add_pos (slope f e *ℤ z.x +ℤ gap f e *ℤ z.n) (run f *ℤ lift e z)
     (stays_up (slope f e) (gap f e) k z.x z.n (no_root e f k m i j) (lt_from (pos 0) (twice (slope f e) (gap f e) k) u) c.low (weak z.x (z.n *ℤ (k +ℤ pos 1)) c.high))

@@ -23,6 +23,8 @@ use Rattle.points_law.proofs.Side.{near_test}
 use Rattle.points_law.proofs.Vertex.{over_pt, higher, west, EndsAt, Vertex, vertex_end, on_sloping}
 use Rattle.points_law.proofs.Turn.{before, ends_at, not_both, round_tour}
 use Rattle.points_law.proofs.Next.{majority, side_after, NoneBetween, turned, across, no_before}
+use Rattle.points_law.proofs.Truth.{not_first}
+use Rattle.std.proofs.lemmas.Bool.{not-true}
 
 -- ---- each column is covered by an even number of chosen edges
 cover_parts : (p q k : ℤ) → p ≤ℤ q → le_z p k ∧∧ lt_z k q ≡ le_z p k ⊕ le_z q k
@@ -94,13 +96,10 @@ middle : (pe qe pf qf pg qg s t u : Bool) → pe ≡ true → qe ≡ false → q
     → majority ((pe ∧∧ qf) ⊕ ((pe ∧∧ pf ⊕ qe ∧∧ qf) ∧∧ s)) ((pf ∧∧ qg) ⊕ ((pf ∧∧ pg ⊕ qf ∧∧ qg) ∧∧ t)) ((pg ∧∧ qe) ⊕ ((pg ∧∧ pe ⊕ qg ∧∧ qe) ∧∧ u)) ≡ true
 middle pe qe pf qf pg qg s t u h i j k l m n = grind arith
 
-not_p : (p q : Bool) → (p ≡ true → q ≡ false) → q ≡ true → p ≡ false
-not_p p q h i = grind arith
-
 pub hole_left : (es : List Edge) → Edges es → (r : Edge → Bool) → (v : Pt) (e g : Edge) → In e es → In g es → v ≡ e.p → v ≡ g.p → lt_z (pos 0) (slope g e) ≡ true → NoneBetween r es v e g → NoneFromLeft r es v
 hole_left es h r v e g i j x y s none f k rf z = false≢true (sym (none f k rf at_v)
     ∙ middle (is v e.p) (is v e.q) (is v f.p) (is v f.q) (is v g.p) (is v g.q) (lt_z (pos 0) (slope e f)) (lt_z (pos 0) (slope f g)) (lt_z (pos 0) (slope g e))
-    pe (not_both e (h.ordered e i) v pe) qf (not_p (is v f.p) (is v f.q) (not_both f (h.ordered f k) v) qf) pg (not_both g (h.ordered g j) v pg) s)
+    pe (not_both e (h.ordered e i) v pe) qf (not_first (is v f.p) (is v f.q) (not_both f (h.ordered f k) v) qf) pg (not_both g (h.ordered g j) v pg) s)
   where
     pe : is v e.p ≡ true
     pe = subst (λ w. is v w ≡ true) x (is_refl v)
@@ -192,16 +191,13 @@ rest a c u = grind arith
 odd_rest : (x y z : Bool) → x ⊕ y ≡ z → x ≡ true → y ≡ false → z ≡ true
 odd_rest x y z h i j = grind arith
 
-not_of : (t : Bool) → not t ≡ true → t ≡ false
-not_of t h = grind arith
-
 pub edge_below : (es : List Edge) → Edges es → (r : Edge → Bool) → Even r es → (v : Pt) → parity r es (left_of v) ≡ true → Below r es v
 edge_below es h r ev v odd = record {
   edge = it.0;
   inside = it.1;
   chosen = and_left (r it.0) (covers it.0 (left_of v) ∧∧ not (above it.0 (left_of v))) it.2;
   covers_it = cover;
-  not_above = not_of (above it.0 (left_of v)) (and_right (covers it.0 (left_of v)) (not (above it.0 (left_of v))) part);
+  not_above = not-true (above it.0 (left_of v)) (and_right (covers it.0 (left_of v)) (not (above it.0 (left_of v))) part);
   begins = further it.0.p.x v.x (cv_low it.0 (v.x -ℤ pos 1) (sym (covers_is (left_of v) (v.x -ℤ pos 1) (left_in v) it.0) ∙ cover));
 }
   where

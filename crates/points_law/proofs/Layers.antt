@@ -32,10 +32,11 @@ use Rattle.points_law.specs.Law.{AreLayers}
 use Rattle.points_law.proofs.Choices.{◌⊕◌, ◌∧∧◌, par, run, rise, Small, On, IsAt, IsEnd, Noded, Even, is, covers, counted, parity, left, right, holds_at, in_result}
 use Rattle.points_law.proofs.ResultOfChoices.{Edges}
 use Rattle.points_law.proofs.Sums.{par_cong, par_same}
-use Rattle.points_law.proofs.Even.{same, same_is, same_refl, is_same, is_refl, by_test, not_true, clash}
+use Rattle.points_law.proofs.Even.{both_ways, same, same_is, same_refl, is_same, is_refl, by_test, not_true, clash}
 use Rattle.points_law.proofs.Counts.{par_is_odd, par_filter, left_back, right_back, holds_is}
 use Rattle.points_law.proofs.Result.{result_parity}
 use Rattle.points_law.proofs.Turn.{result_even}
+use Rattle.points_law.proofs.Truth.{both_true, both_of, cond_no, cond_yes}
 
 -- ---- tests
 pub and_is : (a b : Bool) → a && b ≡ a ∧∧ b
@@ -46,11 +47,6 @@ pub either : (a b : Bool) → (a ≡ true → b ≡ true → ⊥) → a || b ≡
 either true true n = absurd (n refl refl)
 either true false n = refl
 either false b n = refl
-
-pub both_ways : (a b : Bool) → (a ≡ true → b ≡ true) → (b ≡ true → a ≡ true) → a ≡ b
-both_ways true b f g = sym (f refl)
-both_ways false true f g = g refl
-both_ways false false f g = refl
 
 pub same_point_is : (u v : Pt) → same_point u v ≡ is v u
 same_point_is u v = both_ways (same_point u v) (is v u)
@@ -95,18 +91,12 @@ pub chosen : (Counted → Bool) → List Counted → Edge → Bool
 chosen t [] e = false
 chosen t (c ∷ cs) e = cond (same (edge_of c) e) (t c) (chosen t cs e)
 
-choose_first : (s a b : Bool) → s ≡ true → cond s a b ≡ a
-choose_first s a b h = grind arith
-
-choose_rest : (s a b : Bool) → s ≡ false → cond s a b ≡ b
-choose_rest s a b h = grind arith
-
 pub chosen_at : (t : Counted → Bool) (cs : List Counted) → Distinct (map edge_of cs) → (c : Counted) → In c cs → chosen t cs (edge_of c) ≡ t c
 unfolding chosen
 chosen_at t [] d c i = absurd i
-chosen_at t (b ∷ bs) d c (inl e) = choose_first (same (edge_of b) (edge_of c)) (t b) (chosen t bs (edge_of c)) (subst (λ (x : Counted). same (edge_of b) (edge_of x) ≡ true) e (same_refl (edge_of b))) ∙ ap t e
+chosen_at t (b ∷ bs) d c (inl e) = cond_yes (same (edge_of b) (edge_of c)) (t b) (chosen t bs (edge_of c)) (subst (λ (x : Counted). same (edge_of b) (edge_of x) ≡ true) e (same_refl (edge_of b))) ∙ ap t e
 chosen_at t (b ∷ bs) d c (inr i) =
-    choose_rest (same (edge_of b) (edge_of c)) (t b) (chosen t bs (edge_of c))
+    cond_no (same (edge_of b) (edge_of c)) (t b) (chosen t bs (edge_of c))
     (not_true (same (edge_of b) (edge_of c)) (λ h. d.0 (subst (λ (x : Edge). In x (map edge_of bs)) (sym (same_is (edge_of b) (edge_of c) h)) (map_in edge_of bs c i))))
     ∙ chosen_at t bs d.1 c i
 
@@ -148,15 +138,9 @@ Coincides-prop v z = hlevel props
 at_test : Pt → Point → Bool
 at_test v z = int_eq z.x (z.n *ℤ v.x) ∧∧ int_eq z.y (z.n *ℤ v.y)
 
-both_of : (a b : Bool) → a ∧∧ b ≡ true → (a ≡ true) × (b ≡ true)
-both_of a b h = (grind arith, grind arith)
-
-and_true : (a b : Bool) → a ≡ true → b ≡ true → a ∧∧ b ≡ true
-and_true a b h k = grind arith
-
 test_of : (v : Pt) (z : Point) → Coincides v z → at_test v z ≡ true
 unfolding at_test
-test_of v z h = and_true (int_eq z.x (z.n *ℤ v.x)) (int_eq z.y (z.n *ℤ v.y))
+test_of v z h = both_true (int_eq z.x (z.n *ℤ v.x)) (int_eq z.y (z.n *ℤ v.y))
     (subst (λ (t : ℤ). int_eq z.x t ≡ true) h.x_is (int_eq_refl z.x)) (subst (λ (t : ℤ). int_eq z.y t ≡ true) h.y_is (int_eq_refl z.y))
 
 at_of : (v : Pt) (z : Point) → at_test v z ≡ true → IsAt v z

@@ -17,11 +17,12 @@ use Rattle.points_law.proofs.Meet.{slope}
 use Rattle.points_law.proofs.Sums.{par_cong, par_xor, par_and, par_none, and_false}
 use Rattle.points_law.proofs.Even.{is_same, same, same_is, same_refl, not_true, once}
 use Rattle.points_law.proofs.Column.{lt_from, weak}
+use Rattle.points_law.proofs.Heights.{is_positive}
 use Rattle.points_law.proofs.Vertex.{west, slopes}
 use Rattle.points_law.proofs.Turn.{before, ends_at, crossing, turned_p, turned_q, round_tour, itself_flat, not_both, run_low, second_end}
 
 -- ---- the order round v is transitive
-chain : (rf re rg sf se sg : ℤ) → re *ℤ (rg *ℤ sf -ℤ rf *ℤ sg) ≡ rf *ℤ (rg *ℤ se -ℤ re *ℤ sg) +ℤ rg *ℤ (re *ℤ sf -ℤ rf *ℤ se)
+pub chain : (rf re rg sf se sg : ℤ) → re *ℤ (rg *ℤ sf -ℤ rf *ℤ sg) ≡ rf *ℤ (rg *ℤ se -ℤ re *ℤ sg) +ℤ rg *ℤ (re *ℤ sf -ℤ rf *ℤ se)
 chain rf re rg sf se sg = simp expand (omega (arith, linear))
 
 some_run : (r : ℤ) → pos 0 ≤ℤ r → (r ≡ pos 0) ⊎ (pos 0 <ℤ r)
@@ -64,11 +65,8 @@ by_runs f e g of oe og h i (inr r) (inl w) (inr x) = cancel_pos (run e) (slope f
     (sum_second (run f *ℤ slope e g) (run g *ℤ slope f e) (mul_nonneg (run f) (slope e g) (run_low f of) (weak (pos 0) (slope e g) i)) (mul_pos (run g) (slope f e) x h)))
 by_runs f e g of oe og h i (inr r) (inl w) (inl x) = absurd (nothing_steeper (run e) (run g) (rise e) (rise g) x (run_low e oe) (upright_rise g og x) i)
 
-is_lt : (x : ℤ) → pos 0 <ℤ x → lt_z (pos 0) x ≡ true
-is_lt x h = grind (arith, ints)
-
 pub slope_trans : (f e g : Edge) → Ordered f → Ordered e → Ordered g → lt_z (pos 0) (slope f e) ≡ true → lt_z (pos 0) (slope e g) ≡ true → lt_z (pos 0) (slope f g) ≡ true
-slope_trans f e g of oe og h i = is_lt (slope f g) (by_runs f e g of oe og (lt_from (pos 0) (slope f e) h) (lt_from (pos 0) (slope e g) i)
+slope_trans f e g of oe og h i = is_positive (slope f g) (by_runs f e g of oe og (lt_from (pos 0) (slope f e) h) (lt_from (pos 0) (slope e g) i)
     (some_run (run e) (run_low e oe)) (some_run (run f) (run_low f of)) (some_run (run g) (run_low g og)))
 
 through : (pf qf pe qe pg qg s t u : Bool) → (pf ≡ true → qf ≡ false) → (pe ≡ true → qe ≡ false) → (pg ≡ true → qg ≡ false) → (s ≡ true → t ≡ true → u ≡ true)

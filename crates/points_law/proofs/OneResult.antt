@@ -19,8 +19,7 @@ use Rattle.geom.specs.Rounded.{count, AreRounded}
 use Rattle.geom.specs.Segments.{parts, AreSegments}
 use Rattle.geom.specs.Canonical.{Shape, ArePolygons}
 use Rattle.geom.proofs.ListOrder.{same_ascending}
-use Rattle.geom.proofs.OneRing.{directed_before_itself}
-use Rattle.geom.proofs.Orders.{before_trans, edge_before_itself, edge_before_trans}
+use Rattle.geom.proofs.Orders.{directed_before_itself, directed_before_trans, edge_before_itself, edge_before_trans}
 use Rattle.geom.proofs.RouteLaws.{one_route}
 use Rattle.geom.proofs.SamePolygons.{same_polygons}
 use Rattle.points_law.specs.Polygons.{AreResultPolygons}
@@ -77,12 +76,6 @@ one_rounded segments cs ds h k = same_ascending (λ (c d : Counted). IsEdgeBefor
     back c i = (h.exact c).1 (subst (IsCounted segments c) (sym routes) ((k.exact c).0 i))
 
 -- ---- result edges
-directed_before_trans : (c d e : DirectedEdge) → IsDirectedBefore c d → IsDirectedBefore d e → IsDirectedBefore c e
-directed_before_trans c d e (inl h) (inl k) = inl (before_trans c.from d.from e.from h k)
-directed_before_trans c d e (inl h) (inr (t, k)) = inl (subst (λ (p : Pt). IsBefore c.from p) t h)
-directed_before_trans c d e (inr (s, h)) (inl k) = inl (subst (λ (p : Pt). IsBefore p e.from) (sym s) k)
-directed_before_trans c d e (inr (s, h)) (inr (t, k)) = inr (s ∙ t, before_trans c.to d.to e.to h k)
-
 pub one_directed : (op : Op) (counted : List Counted) (ds es : List DirectedEdge) → AreResultEdges op counted ds → AreResultEdges op counted es → ds ≡ es
 one_directed op counted ds es h k = same_ascending IsDirectedBefore directed_before_itself directed_before_trans ds es h.ascending k.ascending
     (λ d i. (k.exact d).1 ((h.exact d).0 i)) (λ d i. (h.exact d).1 ((k.exact d).0 i))

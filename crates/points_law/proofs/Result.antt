@@ -14,6 +14,7 @@ use Rattle.points_law.proofs.Even.{and_left, and_right, same, same_is, same_refl
 use Rattle.points_law.proofs.Column.{cv, ab, cv_run, one_above, not_above_itself, among, anywhere, differ}
 use Rattle.points_law.proofs.Heights.{InColumn, column, covers_is, upward}
 use Rattle.points_law.proofs.Side.{at_left, at_right, left_column, right_column}
+use Rattle.points_law.proofs.Truth.{both_of, and_none, only_first}
 
 -- ---- an edge above z: its place in the column of z decides it
 jump_at : (es : List Edge) → Edges es → (op : Bool → Bool → Bool) (a b : Edge → Bool) → Even a es → Even b es → (e : Edge) → In e es → (k : ℤ) → cv e k ≡ true
@@ -54,9 +55,6 @@ above_z es n z k c a e l i v = par_cong (λ f. a f ∧∧ (cv f k ∧∧ ab f e 
 stay : (x : Bool) → x ⊕ false ≡ x
 stay x = grind arith
 
-pub mask : (a t : Bool) → t ≡ false → a ∧∧ t ≡ false
-mask a t h = grind arith
-
 pub keep : (a t : Bool) → t ≡ true → a ∧∧ t ≡ a
 keep a t h = grind arith
 
@@ -71,9 +69,6 @@ no_jump op x y a b h i =
 pub same_jump : (op : Bool → Bool → Bool) (x y a b x' y' a' b' : Bool) → x ≡ x' → y ≡ y' → a ≡ a' → b ≡ b' → jump op x y a b ≡ jump op x' y' a' b'
 same_jump op x y a b x' y' a' b' h i j k = ap (λ (t : Bool). jump op t y a b) h ∙ ap (λ (t : Bool). jump op x' t a b) i ∙ ap (λ (t : Bool). jump op x' y' t b) j ∙ ap (λ (t : Bool). jump op x' y' a' t) k
 
-covered : (c v : Bool) → c ∧∧ v ≡ true → (c ≡ true) × (v ≡ true)
-covered c v h = (and_left c v h, and_right c v h)
-
 each_jump : (es : List Edge) → Edges es → (op : Bool → Bool → Bool) (a b : Edge → Bool) → Even a es → Even b es → (z : Point) (k : ℤ) → InColumn z k → (e : Edge) → In e es → (t : Bool) → counted e z ≡ t
     → in_result op a b es e ∧∧ counted e z ≡ jump op (over (λ f g. ab f g k) (λ f. a f ∧∧ counted f z) es e) (over (λ f g. ab f g k) (λ f. b f ∧∧ counted f z) es e) (a e ∧∧ counted e z) (b e ∧∧ counted e z)
 each_jump es h op a b ea eb z k c e l true s =
@@ -84,14 +79,14 @@ each_jump es h op a b ea eb z k c e l true s =
     (above_z es h.noded z k c a e l i v) (above_z es h.noded z k c b e l i v) (sym (keep (a e) (counted e z) s)) (sym (keep (b e) (counted e z) s))
   where
     i : cv e k ≡ true
-    i = sym (covers_is z k c e) ∙ (covered (covers e z) (above e z) s).0
+    i = sym (covers_is z k c e) ∙ (both_of (covers e z) (above e z) s).0
 
     v : above e z ≡ true
-    v = (covered (covers e z) (above e z) s).1
+    v = (both_of (covers e z) (above e z) s).1
 each_jump es h op a b ea eb z k c e l false s =
-    mask (in_result op a b es e) (counted e z) s
+    and_none (in_result op a b es e) (counted e z) s
     ∙ sym (no_jump op (over (λ f g. ab f g k) (λ f. a f ∧∧ counted f z) es e) (over (λ f g. ab f g k) (λ f. b f ∧∧ counted f z) es e) (a e ∧∧ counted e z) (b e ∧∧ counted e z)
-    (mask (a e) (counted e z) s) (mask (b e) (counted e z) s))
+    (and_none (a e) (counted e z) s) (and_none (b e) (counted e z) s))
 
 -- of two counted edges one is above the other
 tour_same : (x y : Edge) (k : ℤ) → same y x ≡ true → (ab y x k ⊕ ab x y k) ⊕ same y x ≡ true
@@ -100,13 +95,10 @@ tour_same x y k s = subst (λ w. (ab w x k ⊕ ab x w k) ⊕ same w x ≡ true) 
     three : (t s : Bool) → s ≡ true → (t ⊕ t) ⊕ s ≡ true
     three t s h = grind arith
 
-tour_other : (u s : Bool) → u ≡ true → s ≡ false → u ⊕ s ≡ true
-tour_other u s h i = grind arith
-
 tour : (es : List Edge) → Noded es → (z : Point) (k : ℤ) → InColumn z k → (a b : Edge → Bool) (x y : Edge) → In x es → In y es → a y ∧∧ counted y z ≡ true → b x ∧∧ counted x z ≡ true → (t : Bool) → same y x ≡ t
     → (ab y x k ⊕ ab x y k) ⊕ same y x ≡ true
 tour es n z k c a b x y i j h g true s = tour_same x y k s
-tour es n z k c a b x y i j h g false s = tour_other (ab y x k ⊕ ab x y k) (same y x)
+tour es n z k c a b x y i j h g false s = only_first (ab y x k ⊕ ab x y k) (same y x)
     (one_above x y k (n x y i j (λ e. differ y x s (sym e)))
     (sym (covers_is z k c x) ∙ and_left (covers x z) (above x z) (and_right (b x) (counted x z) g))
     (sym (covers_is z k c y) ∙ and_left (covers y z) (above y z) (and_right (a y) (counted y z) h)))

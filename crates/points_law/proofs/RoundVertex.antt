@@ -25,7 +25,7 @@ use Rattle.geom.proofs.Edges.{before_strict}
 use Rattle.geom.proofs.Lists.{In, contains_in, in_contains}
 use Rattle.geom.proofs.RingEdges.{in_flat}
 use Rattle.geom.proofs.OneRing.{opposite}
-use Rattle.geom.proofs.SameRings.{not_sooner}
+use Rattle.geom.proofs.SameRings.{not_met, met_turned}
 use Rattle.points_law.specs.Law.{AreLayers}
 use Rattle.points_law.proofs.Choices.{Even, is, covers, parity}
 use Rattle.points_law.proofs.ResultOfChoices.{Edges}
@@ -42,16 +42,8 @@ use Rattle.points_law.proofs.RingLists.{Pair, in_around, before_other, neither_b
 
 -- ---- one to one
 -- if w is met before u from t, then w is not met before t from u
-not_met : (v t u w : Pt) → IsMetBefore v t w u → IsMetBefore v u w t → ⊥
-not_met v t u w (inl (tw, wu)) (inl (uw, wt)) = not_sooner v t w tw wt
-not_met v t u w (inl (tw, wu)) (inr (inl (wt, tu))) = not_sooner v t w tw wt
-not_met v t u w (inl (tw, wu)) (inr (inr (tu, uw))) = not_sooner v w u wu uw
-not_met v t u w (inr (inl (wu, ut))) (inl (uw, wt)) = not_sooner v w u wu uw
-not_met v t u w (inr (inl (wu, ut))) (inr (inl (wt, tu))) = not_sooner v u t ut tu
-not_met v t u w (inr (inl (wu, ut))) (inr (inr (tu, uw))) = not_sooner v w u wu uw
-not_met v t u w (inr (inr (ut, tw))) (inl (uw, wt)) = not_sooner v t w tw wt
-not_met v t u w (inr (inr (ut, tw))) (inr (inl (wt, tu))) = not_sooner v t w tw wt
-not_met v t u w (inr (inr (ut, tw))) (inr (inr (tu, uw))) = not_sooner v u t ut tu
+never_both : (v t u w : Pt) → IsMetBefore v t w u → IsMetBefore v u w t → ⊥
+never_both v t u w h k = not_met v t w u h (met_turned v u w t k)
 
 pub next_one_to_one : (directed : List DirectedEdge) (t u v w : Pt) → Contains directed (from_to t v) → Contains directed (from_to u v) → IsNext directed t v w → IsNext directed u v w → t ≡ u
 next_one_to_one directed t u v w c d m n = by_test (is t u) (t ≡ u) (λ s. is_same t u s) (λ s. absurd (other s))
@@ -60,7 +52,7 @@ next_one_to_one directed t u v w c d m n = by_test (is t u) (t ≡ u) (λ s. is_
     apart s e = clash (is u u) (subst (λ x. is x u ≡ false) e s) (is_refl u)
 
     other : is t u ≡ false → ⊥
-    other s = not_met v t u w (m.first u (inr d) (λ e. apart s (sym e)) (λ e. n.other (sym e))) (n.first t (inr c) (apart s) (λ e. m.other (sym e)))
+    other s = never_both v t u w (m.first u (inr d) (λ e. apart s (sym e)) (λ e. n.other (sym e))) (n.first t (inr c) (apart s) (λ e. m.other (sym e)))
 
 -- ---- the edges of a result as a choice of edges
 on_left : (l r : Bool) → l && not r ≡ true → l ≡ true

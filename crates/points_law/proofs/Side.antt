@@ -11,6 +11,7 @@ use Rattle.geom.specs.declared.edge.Edge.{Edge}
 use Rattle.geom.specs.Pixel.{Point}
 use Rattle.geom.proofs.Lists.{In, Distinct}
 use Rattle.points_law.proofs.Choices.{◌⊕◌, ◌∧∧◌, run, rise, Small, MeetAtEnds, Noded, above, counted, parity, K, left, right}
+use Rattle.geom.proofs.Fraction.{from_strict_gap}
 use Rattle.geom.proofs.Integers.{expand, linear, mul_nonneg, mul_pos, by_sign}
 use Rattle.points_law.proofs.Sign.{sign}
 use Rattle.points_law.proofs.Meet.{off, slope, gap, no_meet}
@@ -75,12 +76,9 @@ covers_own N X p q w h i j n x =
     plain : (p q w : ℤ) → p <ℤ q → negsuc 1073741823 ≤ℤ w → w ≤ℤ pos 1073741824 → le_z ((K *ℤ pos 2) *ℤ p) (K *ℤ (p +ℤ q) -ℤ w) ∧∧ lt_z (K *ℤ (p +ℤ q) -ℤ w) ((K *ℤ pos 2) *ℤ q) ≡ true
     plain p q w h i j = small ((K *ℤ pos 2) *ℤ p) (K *ℤ (p +ℤ q) -ℤ w) (K *ℤ (p +ℤ q) -ℤ w) ((K *ℤ pos 2) *ℤ q) (low p q w h j) (high p q w h i)
 
-ordered : (a b : ℤ) → pos 0 <ℤ (b -ℤ a) → a <ℤ b
-ordered a b h = omega (arith, ints)
-
 own_column : (e : Edge) (z : Point) (d k : ℤ) → SideOf e z d → Small e → pos 0 <ℤ run e → InColumn z k → cv e k ≡ true
 own_column e z d k s m r c = sym (covers_is z k c e)
-    ∙ covers_own z.n z.x e.p.x e.q.x (d *ℤ rise e) (ordered e.p.x e.q.x r) (twice_d d (rise e) s.which (rise_bound e m)).0 (twice_d d (rise e) s.which (rise_bound e m)).1 s.n_is s.x_is
+    ∙ covers_own z.n z.x e.p.x e.q.x (d *ℤ rise e) (from_strict_gap e.p.x e.q.x r) (twice_d d (rise e) s.which (rise_bound e m)).0 (twice_d d (rise e) s.which (rise_bound e m)).1 s.n_is s.x_is
 
 half_low : (N X k sx w : ℤ) → negsuc 1073741823 ≤ℤ w → w ≤ℤ pos 1073741824 → N ≡ K *ℤ pos 2 → X ≡ K *ℤ sx -ℤ w → (N *ℤ k) ≤ℤ X → (pos 2 *ℤ k) ≤ℤ sx
 half_low N X k sx w i j n x h = plain k sx w i j (subst (λ (t : ℤ). (t *ℤ k) ≤ℤ (K *ℤ sx -ℤ w)) n (subst (λ (t : ℤ). (N *ℤ k) ≤ℤ t) x h))
@@ -98,15 +96,12 @@ half_high N X k sx w i j n x h = plain k sx w i j (subst (λ (t : ℤ). (K *ℤ 
 abbrev pub over_mid : Edge → Edge → ℤ
 over_mid f e = (rise f *ℤ (e.p.x +ℤ e.q.x) +ℤ off f *ℤ pos 2) -ℤ run f *ℤ (e.p.y +ℤ e.q.y)
 
-pub two_times : (x : ℤ) → x *ℤ pos 2 ≡ x +ℤ x
-two_times x = omega (arith, ints)
-
 mid_of : (sf rf of px py qx qy : ℤ) → ((qx -ℤ px) *ℤ sf -ℤ rf *ℤ (qy -ℤ py)) *ℤ (px +ℤ qx) +ℤ ((qx -ℤ px) *ℤ of -ℤ rf *ℤ (py *ℤ (qx -ℤ px) -ℤ px *ℤ (qy -ℤ py))) *ℤ pos 2
     ≡ (qx -ℤ px) *ℤ ((sf *ℤ (px +ℤ qx) +ℤ of *ℤ pos 2) -ℤ rf *ℤ (py +ℤ qy))
-mid_of sf rf of px py qx qy = simp (two_times, expand) (omega (arith, linear))
+mid_of sf rf of px py qx qy = simp expand (omega (arith, linear))
 
 mid_itself : (px py qx qy : ℤ) → ((qy -ℤ py) *ℤ (px +ℤ qx) +ℤ (py *ℤ (qx -ℤ px) -ℤ px *ℤ (qy -ℤ py)) *ℤ pos 2) -ℤ (qx -ℤ px) *ℤ (py +ℤ qy) ≡ pos 0
-mid_itself px py qx qy = simp (two_times, expand) (omega (arith, linear))
+mid_itself px py qx qy = simp expand (omega (arith, linear))
 
 pub pos_test : (r x : ℤ) → pos 0 <ℤ r → lt_z (pos 0) (r *ℤ x) ≡ lt_z (pos 0) x
 pos_test r x h = by_sign x
@@ -147,7 +142,7 @@ mid_column e z d k s m c = record {
 
 mid_apart : (e f : Edge) (k : ℤ) → MeetAtEnds e f → cv e k ≡ true → cv f k ≡ true → MidIn e k → ¬ (slope f e *ℤ (e.p.x +ℤ e.q.x) +ℤ gap f e *ℤ pos 2 ≡ pos 0)
 mid_apart e f k m i j c = no_meet e f m (cv_run e k i) (cv_run f k j) (e.p.x +ℤ e.q.x) (pos 2) (record { lt = tt })
-    (m1 e.p.x e.q.x (ordered e.p.x e.q.x (cv_run e k i))) (m2 e.p.x e.q.x (ordered e.p.x e.q.x (cv_run e k i)))
+    (m1 e.p.x e.q.x (from_strict_gap e.p.x e.q.x (cv_run e k i))) (m2 e.p.x e.q.x (from_strict_gap e.p.x e.q.x (cv_run e k i)))
     (m3 f.p.x k (e.p.x +ℤ e.q.x) (cv_low f k j) c.low) (m4 f.q.x k (e.p.x +ℤ e.q.x) (cv_high f k j) c.high)
   where
     m1 : (p q : ℤ) → p <ℤ q → (pos 2 *ℤ p) <ℤ (p +ℤ q)
@@ -172,7 +167,7 @@ above_mid e f k m i j c = sign (slope f e) (gap f e) k (e.p.x +ℤ e.q.x) (pos 2
 -- ---- the side point is so near that no edge is passed
 lift_at : (kk d se re sx sy sf rf of : ℤ) → (sf *ℤ (kk *ℤ sx -ℤ d *ℤ se) +ℤ of *ℤ (kk *ℤ pos 2)) -ℤ rf *ℤ (kk *ℤ sy +ℤ d *ℤ re)
     ≡ kk *ℤ ((sf *ℤ sx +ℤ of *ℤ pos 2) -ℤ rf *ℤ sy) -ℤ d *ℤ (sf *ℤ se +ℤ rf *ℤ re)
-lift_at kk d se re sx sy sf rf of = simp (two_times, expand) (omega (arith, linear))
+lift_at kk d se re sx sy sf rf of = simp expand (omega (arith, linear))
 
 abbrev pub dot : Edge → Edge → ℤ
 dot f e = rise f *ℤ rise e +ℤ run f *ℤ run e

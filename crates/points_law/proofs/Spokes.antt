@@ -15,6 +15,7 @@ use Rattle.points_law.proofs.Even.{is_refl, is_same}
 use Rattle.points_law.proofs.Meet.{slope}
 use Rattle.points_law.proofs.Turn.{before, ends_at, not_both, second_end}
 use Rattle.points_law.proofs.Next.{between, majority}
+use Rattle.points_law.proofs.Truth.{only_first, only_second, not_first}
 
 -- e joins v and a
 abbrev pub Joins : Pt → Pt → Edge → Type 0
@@ -30,24 +31,15 @@ is_start v e h = subst (λ w. is v w ≡ true) (sym h) (is_refl v)
 pub is_stop : (v : Pt) (e : Edge) → e.q ≡ v → is v e.q ≡ true
 is_stop v e h = subst (λ w. is v w ≡ true) (sym h) (is_refl v)
 
-not_p : (p q : Bool) → (p ≡ true → q ≡ false) → q ≡ true → p ≡ false
-not_p p q h i = grind arith
-
 pub no_stop : (v : Pt) (e : Edge) → e.p ≡ v → is v e.q ≡ false
 no_stop v e h = not_both e (in_order e) v (is_start v e h)
 
 pub no_start : (v : Pt) (e : Edge) → e.q ≡ v → is v e.p ≡ false
-no_start v e h = not_p (is v e.p) (is v e.q) (not_both e (in_order e) v) (is_stop v e h)
-
-one_end : (p q : Bool) → p ≡ true → q ≡ false → p ⊕ q ≡ true
-one_end p q h k = grind arith
-
-other_end : (p q : Bool) → p ≡ false → q ≡ true → p ⊕ q ≡ true
-other_end p q h k = grind arith
+no_start v e h = not_first (is v e.p) (is v e.q) (not_both e (in_order e) v) (is_stop v e h)
 
 pub joins_ends : (v a : Pt) (e : Edge) → Joins v a e → ends_at v e ≡ true
-joins_ends v a e (inl (h, k)) = one_end (is v e.p) (is v e.q) (is_start v e h) (no_stop v e h)
-joins_ends v a e (inr (h, k)) = other_end (is v e.p) (is v e.q) (no_start v e h) (is_stop v e h)
+joins_ends v a e (inl (h, k)) = only_first (is v e.p) (is v e.q) (is_start v e h) (no_stop v e h)
+joins_ends v a e (inr (h, k)) = only_second (is v e.p) (is v e.q) (no_start v e h) (is_stop v e h)
 
 pub record Spoke (v : Pt) (e : Edge) : Type 0 where
   pub end : Pt

@@ -17,16 +17,18 @@ use Rattle.geom.specs.Pixel.{Point}
 use Rattle.geom.specs.ResultEdges.{holds_at, is_result_edge, result_edges}
 use Rattle.geom.specs.RingParity.{spans, side_above, ring_parity}
 use Rattle.geom.specs.Rounded.{edges_of, is_odd}
-use Rattle.geom.proofs.Edges.{before_strict, edge_path, not_turned}
+use Rattle.geom.proofs.Edges.{edge_path, not_turned}
 use Rattle.geom.proofs.Integers.{linear, expand, mul_nonneg}
 use Rattle.geom.proofs.Lists.{In, Distinct, contains_in, in_contains}
+use Rattle.geom.proofs.Orders.{directed_before_itself}
 use Rattle.points_law.specs.Law.{AreLayers}
 use Rattle.points_law.proofs.Choices.{◌⊕◌, ◌∧∧◌, par, is}
 use Rattle.points_law.proofs.Sums.{par_cong, par_same, par_xor, par_and, fubini, and_comm}
-use Rattle.points_law.proofs.Even.{same, same_is, same_refl, is_same, is_refl, and_left, and_right, by_test, not_true, clash, once}
+use Rattle.points_law.proofs.Even.{both_ways, same, same_is, same_refl, is_same, is_refl, and_left, and_right, by_test, not_true, clash, once}
 use Rattle.points_law.proofs.Counts.{par_filter}
-use Rattle.points_law.proofs.Layers.{both_ways, either, odd_is, tail_pairs, first_pairs, distinct, result_has_parity}
+use Rattle.points_law.proofs.Layers.{either, odd_is, tail_pairs, first_pairs, distinct, result_has_parity}
 use Rattle.points_law.proofs.RoundVertex.{closes}
+use Rattle.points_law.proofs.Truth.{only_first, only_second}
 
 -- ---- a side lies above a point exactly where the edge that it runs along does
 no_turn : (n p q x : ℤ) → pos 0 <ℤ n → p ≤ℤ q → int_le (n *ℤ q) x && int_lt x (n *ℤ p) ≡ false
@@ -73,12 +75,6 @@ one_of : (a b : Bool) → a ⊕ b ≡ true → (a ≡ true) ⊎ (b ≡ true)
 one_of true b h = inl refl
 one_of false b h = inr h
 
-only_first : (a b : Bool) → a ≡ true → b ≡ false → a ⊕ b ≡ true
-only_first a b h k = grind arith
-
-only_second : (a b : Bool) → a ≡ false → b ≡ true → a ⊕ b ≡ true
-only_second a b h k = grind arith
-
 turned_apart : (e f : Edge) → ¬ (from_to e.p e.q ≡ from_to f.q f.p)
 turned_apart e f h = not_turned e f (ap (λ (d : DirectedEdge). d.from) h) (ap (λ (d : DirectedEdge). d.to) h)
 
@@ -101,13 +97,9 @@ runs_same d e f h = both_ways (runs d e) (same e f)
     (λ k. runs_of d e (subst (λ (x : Edge). Runs d x) (sym (same_is e f k)) h))
 
 -- ---- a side is there once, where it is there
-before_itself : (d : DirectedEdge) → IsDirectedBefore d d → ⊥
-before_itself d (inl k) = before_strict d.from d.from k k
-before_itself d (inr k) = before_strict d.to d.to k.1 k.1
-
 each_once : (ds : List DirectedEdge) → AllPairs IsDirectedBefore ds → Distinct ds
 each_once [] p = tt
-each_once (d ∷ ds) p = (λ i. before_itself d (first_pairs IsDirectedBefore d d ds p (in_contains ds d i)), each_once ds (tail_pairs IsDirectedBefore d ds p))
+each_once (d ∷ ds) p = (λ i. directed_before_itself d (first_pairs IsDirectedBefore d d ds p (in_contains ds d i)), each_once ds (tail_pairs IsDirectedBefore d ds p))
 
 elsewhere : (a b c : Bool) → a ≡ false → b ≡ c → a ⊕ b ≡ c
 elsewhere a b c h k = grind arith

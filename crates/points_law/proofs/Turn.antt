@@ -4,6 +4,7 @@ use mathlib.Core.Bool.{Bool, true, false, not, false≢true}
 use mathlib.Core.List.{List}
 use mathlib.Core.Logic.{inl, inr}
 use native.Mathlib.Omega.{arith}
+use Rattle.std.proofs.lemmas.Int.{by_lt_z}
 use lib.IntN.{ℤ, pos, ◌-ℤ◌, ◌*ℤ◌, neg_ℤ}
 use lib.Signed.{◌<ℤ◌, ◌≤ℤ◌, lt_z, le_z}
 use borrow.Author.Differences.{ints}
@@ -13,16 +14,18 @@ use Rattle.geom.proofs.Lists.{In}
 use Rattle.geom.proofs.Edges.{edge_path}
 use Rattle.points_law.proofs.Choices.{◌⊕◌, ◌∧∧◌, par, run, rise, Ordered, Noded, Even, is, parity, left, right, in_result}
 use Rattle.points_law.proofs.ResultOfChoices.{Edges}
-use Rattle.geom.proofs.Integers.{expand, linear, mul_pos, mul_nonneg, by_sign}
+use Rattle.geom.proofs.Integers.{expand, linear, mul_pos, mul_nonneg}
 use Rattle.points_law.proofs.Meet.{off, slope}
-use Rattle.points_law.proofs.Sums.{par_cong, par_xor, par_none, over, jump, walk}
-use Rattle.points_law.proofs.Even.{and_left, and_right, is_same, is_refl, same, same_is, same_refl, not_true, once}
+use Rattle.points_law.proofs.Sums.{par_cong, par_xor, par_none, over, jump, walk, and_comm}
+use Rattle.points_law.proofs.Even.{both_ways, and_left, and_right, is_same, is_refl, same, same_is, same_refl, not_true, once}
 use Rattle.points_law.proofs.Sign.{twice}
 use Rattle.points_law.proofs.Column.{cv, ab, cv_run, among, anywhere, one_above, not_above_itself, differ, lt_from, weak}
-use Rattle.points_law.proofs.Heights.{column}
-use Rattle.points_law.proofs.Result.{no_jump, same_jump, keep, mask}
+use Rattle.points_law.proofs.Heights.{column, is_positive}
+use Rattle.points_law.proofs.Result.{no_jump, same_jump, keep}
 use Rattle.points_law.proofs.Side.{at_left, at_right, left_column, right_column}
 use Rattle.points_law.proofs.Vertex.{east, west, slopes, starts, stops, goes_up, EndsAt, Vertex, Upright, vertex_end, on_upright, east_west, above_start, above_stop, up_left, up_right, down_right, cover_p, cover_q, slope_run, run_none, rise_some}
+use Rattle.points_law.proofs.Truth.{both_true, only_first, only_second, and_none}
+use Rattle.std.proofs.lemmas.Bool.{not-true}
 
 -- ---- the left and the right side of one edge
 pub sloping_left : (es : List Edge) → Edges es → (a : Edge → Bool) → Even a es → (e : Edge) → In e es → (k : ℤ) → cv e k ≡ true → parity a es (left e) ≡ among a es e k
@@ -39,17 +42,8 @@ sloping_right es h a ev e i k c = at_right es h.noded h.small h.distinct a e i (
     rc = right_column e (column (right e)).0 (h.small e i) (cv_run e k c) (column (right e)).1
 
 -- two edges that go up from one point are one
-two_tops : (py fy gy : ℤ) → py <ℤ fy → py <ℤ gy → {P : Type 0} → (fy ≤ℤ gy → P) → (gy ≤ℤ fy → P) → P
-two_tops py fy gy h i f g = by_sign (gy -ℤ fy) (λ s. g (o1 fy gy s)) (λ s. f (o2 fy gy s)) (λ s. f (o3 fy gy s))
-  where
-    o1 : (a b : ℤ) → (b -ℤ a) <ℤ pos 0 → b ≤ℤ a
-    o1 a b s = omega (arith, ints)
-
-    o2 : (a b : ℤ) → b -ℤ a ≡ pos 0 → a ≤ℤ b
-    o2 a b s = omega (arith, ints)
-
-    o3 : (a b : ℤ) → pos 0 <ℤ (b -ℤ a) → a ≤ℤ b
-    o3 a b s = omega (arith, ints)
+either_way : {P : Type 0} (a b : ℤ) → (a ≤ℤ b → P) → (b ≤ℤ a → P) → P
+either_way a b f g = by_lt_z a b (λ l. f (weak a b l)) g
 
 never : (a b : ℤ) → a ≡ b → b <ℤ a → ⊥
 never a b h i = omega (arith, ints)
@@ -63,8 +57,7 @@ top_on es n f g i j u v e h = meet (vertex_end es n f.q (record { edge = f; insi
     meet (inr k) = edge_path f g e k
 
 pub one_up : (es : List Edge) → Noded es → (f g : Edge) → In f es → In g es → Upright f → Upright g → f.p ≡ g.p → f ≡ g
-one_up es n f g i j u v e = two_tops f.p.y f.q.y g.q.y u.tall (subst (λ (t : ℤ). t <ℤ g.q.y) (sym (ap (λ (w : Pt). w.y) e)) v.tall)
-    (top_on es n f g i j u v e) (λ h. sym (top_on es n g f j i v u (sym e) h))
+one_up es n f g i j u v e = either_way f.q.y g.q.y (top_on es n f g i j u v e) (λ h. sym (top_on es n g f j i v u (sym e) h))
 
 bottom_on : (es : List Edge) → Noded es → (f g : Edge) → In f es → In g es → Upright f → Upright g → f.q ≡ g.q → g.p.y ≤ℤ f.p.y → f ≡ g
 bottom_on es n f g i j u v e h = meet (vertex_end es n f.p (record { edge = f; inside = i; ends = inl refl }) g j
@@ -75,19 +68,7 @@ bottom_on es n f g i j u v e h = meet (vertex_end es n f.p (record { edge = f; i
     meet (inr k) = absurd (never f.q.y f.p.y (ap (λ (w : Pt). w.y) (e ∙ sym k)) u.tall)
 
 pub one_down : (es : List Edge) → Noded es → (f g : Edge) → In f es → In g es → Upright f → Upright g → f.q ≡ g.q → f ≡ g
-one_down es n f g i j u v e = two_tops' f.p.y g.p.y (λ h. sym (bottom_on es n g f j i v u (sym e) h)) (bottom_on es n f g i j u v e)
-  where
-    o1 : (a b : ℤ) → (b -ℤ a) <ℤ pos 0 → b ≤ℤ a
-    o1 a b s = omega (arith, ints)
-
-    o2 : (a b : ℤ) → b -ℤ a ≡ pos 0 → a ≤ℤ b
-    o2 a b s = omega (arith, ints)
-
-    o3 : (a b : ℤ) → pos 0 <ℤ (b -ℤ a) → a ≤ℤ b
-    o3 a b s = omega (arith, ints)
-
-    two_tops' : (a b : ℤ) → {P : Type 0} → (a ≤ℤ b → P) → (b ≤ℤ a → P) → P
-    two_tops' a b f g = by_sign (b -ℤ a) (λ s. g (o1 a b s)) (λ s. f (o2 a b s)) (λ s. f (o3 a b s))
+one_down es n f g i j u v e = either_way f.p.y g.p.y (λ h. sym (bottom_on es n g f j i v u (sym e) h)) (bottom_on es n f g i j u v e)
 
 -- ---- the kinds of edges at v
 pub upright_of : (e : Edge) → Ordered e → slopes e ≡ false → Upright e
@@ -103,9 +84,6 @@ before v f g = (is v f.p ∧∧ is v g.q) ⊕ ((is v f.p ∧∧ is v g.p ⊕ is 
 
 abbrev pub ends_at : Pt → Edge → Bool
 ends_at v f = is v f.p ⊕ is v f.q
-
-iff_bool : (s t : Bool) → (s ≡ true → t ≡ true) → (t ≡ true → s ≡ true) → s ≡ t
-iff_bool s t h i = grind arith
 
 lesser : (e : Edge) → Ordered e → ¬ (e.p ≡ e.q)
 lesser e (inl h) k = clash e.p.x e.q.x h (ap (λ (w : Pt). w.x) k)
@@ -154,11 +132,8 @@ pub steeper : (f g : Edge) → Upright f → pos 0 <ℤ run g → lt_z (pos 0) (
 steeper f g u r = ap (λ (t : ℤ). lt_z (pos 0) (run g *ℤ rise f -ℤ t *ℤ rise g)) (run_none f u) ∙ high (run g *ℤ rise f) (rise g) (mul_pos (run g) (rise f) r (rise_some f u))
   where
     high : (w s : ℤ) → pos 0 <ℤ w → lt_z (pos 0) (w -ℤ pos 0 *ℤ s) ≡ true
-    high w s h = iff_bool (lt_z (pos 0) (w -ℤ pos 0 *ℤ s)) true (λ t. refl) (λ t. is_lt (w -ℤ pos 0 *ℤ s) (more w s h))
+    high w s h = both_ways (lt_z (pos 0) (w -ℤ pos 0 *ℤ s)) true (λ t. refl) (λ t. is_positive (w -ℤ pos 0 *ℤ s) (more w s h))
       where
-        is_lt : (x : ℤ) → pos 0 <ℤ x → lt_z (pos 0) x ≡ true
-        is_lt x h = grind (arith, ints)
-
         more : (w s : ℤ) → pos 0 <ℤ w → pos 0 <ℤ (w -ℤ pos 0 *ℤ s)
         more w s h = omega (arith, ints)
 
@@ -191,24 +166,15 @@ vertex_q es e i = record { edge = e; inside = i; ends = inr refl }
 xor_move : (x y z : Bool) → x ⊕ y ≡ z → x ≡ y ⊕ z
 xor_move x y z h = grind arith
 
-both_true : (a b : Bool) → a ≡ true → b ≡ true → a ∧∧ b ≡ true
-both_true a b h i = grind arith
-
-not_of : (t : Bool) → not t ≡ true → t ≡ false
-not_of t h = grind arith
-
 to_not : (t : Bool) → t ≡ false → not t ≡ true
 to_not t h = grind arith
 
-swap_and : (a b : Bool) → a ∧∧ b ≡ b ∧∧ a
-swap_and a b = grind arith
-
 only_up : (es : List Edge) → Edges es → (a : Edge → Bool) → (g : Edge) → In g es → slopes g ≡ false → par (λ f. a f ∧∧ goes_up f g.p) es ≡ a g
 only_up es h a g i s = par_cong (λ f. a f ∧∧ goes_up f g.p) (λ f. same f g ∧∧ a f) es
-    (λ f j. ap (λ (t : Bool). a f ∧∧ t) (iff_bool (goes_up f g.p) (same f g)
-    (λ t. subst (λ w. same f w ≡ true) (one_up es h.noded f g j i (upright_of f (h.ordered f j) (not_of (slopes f) (and_right (is g.p f.p) (not (slopes f)) t))) (upright_of g (h.ordered g i) s) (sym (is_same g.p f.p (and_left (is g.p f.p) (not (slopes f)) t)))) (same_refl f))
+    (λ f j. ap (λ (t : Bool). a f ∧∧ t) (both_ways (goes_up f g.p) (same f g)
+    (λ t. subst (λ w. same f w ≡ true) (one_up es h.noded f g j i (upright_of f (h.ordered f j) (not-true (slopes f) (and_right (is g.p f.p) (not (slopes f)) t))) (upright_of g (h.ordered g i) s) (sym (is_same g.p f.p (and_left (is g.p f.p) (not (slopes f)) t)))) (same_refl f))
     (λ t. subst (λ w. goes_up w g.p ≡ true) (sym (same_is f g t)) (both_true (is g.p g.p) (not (slopes g)) (is_refl g.p) (to_not (slopes g) s))))
-    ∙ swap_and (a f) (same f g))
+    ∙ and_comm (a f) (same f g))
     ∙ once es h.distinct a g i
 
 cross_by : (es : List Edge) → Edges es → (a : Edge → Bool) → Even a es → (g : Edge) → In g es → (t : Bool) → slopes g ≡ t → parity a es (right g) ≡ parity a es (left g) ⊕ a g
@@ -240,8 +206,8 @@ at_q g f o = before_q (is g.q f.p) (is g.q f.q) (is g.q g.p) (is g.q g.q) (lt_z 
 no_more : (x : Bool) → x ≡ x ⊕ false
 no_more x = grind arith
 
-and_none : (a b c : Bool) → c ≡ false → a ∧∧ (b ∧∧ c) ≡ false
-and_none a b c h = grind arith
+third_none : (a b c : Bool) → c ≡ false → a ∧∧ (b ∧∧ c) ≡ false
+third_none a b c h = grind arith
 
 start_parts : (i s x t : Bool) → (i ≡ true → s ≡ true → x ≡ t) → (i ≡ true → s ≡ false → t ≡ true) → i ∧∧ t ≡ (i ∧∧ not s) ⊕ ((i ∧∧ s) ∧∧ x)
 start_parts i s x t h k = grind arith
@@ -270,7 +236,7 @@ turned_p es h a ev g i false s =
     up_left es h.noded h.small a g i u
     ∙ no_more (west a es g.p)
     ∙ ap (λ (t : Bool). west a es g.p ⊕ t) (sym (par_cong (λ f. a f ∧∧ before g.p f g) (λ f. false) es
-    (λ f j. ap (λ (t : Bool). a f ∧∧ t) (at_p g f (h.ordered g i)) ∙ and_none (a f) (is g.p f.p) (lt_z (pos 0) (slope f g)) (not_steeper f g (h.ordered f j) u)) ∙ par_none es))
+    (λ f j. ap (λ (t : Bool). a f ∧∧ t) (at_p g f (h.ordered g i)) ∙ third_none (a f) (is g.p f.p) (lt_z (pos 0) (slope f g)) (not_steeper f g (h.ordered f j) u)) ∙ par_none es))
   where
     u : Upright g
     u = upright_of g (h.ordered g i) s
@@ -327,7 +293,7 @@ turned_q es h a ev g i true s =
     (λ f j. ap (λ (t : Bool). a f ∧∧ t ⊕ a f ∧∧ (is g.q f.p ⊕ is g.q f.q)) (at_q g f (h.ordered g i))
     ∙ last_parts (a f) (is g.q f.p) (is g.q f.q) (lt_z (pos 0) (slope f g)) ((stops f g.q ∧∧ ab f g (g.q.x -ℤ pos 1)) ⊕ same f g) (stop_each es h g f i j s)
     ∙ dist3 (a f) (stops f g.q ∧∧ ab f g (g.q.x -ℤ pos 1)) (same f g)
-    ∙ ap (λ (t : Bool). a f ∧∧ (stops f g.q ∧∧ ab f g (g.q.x -ℤ pos 1)) ⊕ t) (swap_and (a f) (same f g)))
+    ∙ ap (λ (t : Bool). a f ∧∧ (stops f g.q ∧∧ ab f g (g.q.x -ℤ pos 1)) ⊕ t) (and_comm (a f) (same f g)))
     ∙ sym (par_xor (λ f. a f ∧∧ (stops f g.q ∧∧ ab f g (g.q.x -ℤ pos 1))) (λ f. same f g ∧∧ a f) es)
     ∙ ap (λ (t : Bool). par (λ f. a f ∧∧ (stops f g.q ∧∧ ab f g (g.q.x -ℤ pos 1))) es ⊕ t) (once es h.distinct a g i))
 turned_q es h a ev g i false s =
@@ -355,23 +321,17 @@ sloping_pair_q es h f g i j n e s t =
     ∙ ap (λ (x : Bool). ab g f (g.q.x -ℤ pos 1) ⊕ x) (sym (ab_stop f g e))
     ∙ one_above f g (g.q.x -ℤ pos 1) (h.noded f g i j n) (subst (λ (w : Pt). le_z f.p.x (w.x -ℤ pos 1) ∧∧ lt_z (w.x -ℤ pos 1) f.q.x ≡ true) e (cover_q f.p.x f.q.x s)) (cover_q g.p.x g.q.x t)
 
-one_steeper : (t u : Bool) → t ≡ true → u ≡ false → t ⊕ u ≡ true
-one_steeper t u h i = grind arith
-
-other_steeper : (t u : Bool) → t ≡ false → u ≡ true → t ⊕ u ≡ true
-other_steeper t u h i = grind arith
-
 -- of two edges with a common lesser, or a common greater, end one is steeper
 pub steep_p : (es : List Edge) → Edges es → (f g : Edge) → In f es → In g es → ¬ (f ≡ g) → f.p ≡ g.p → (s t : Bool) → slopes f ≡ s → slopes g ≡ t → lt_z (pos 0) (slope f g) ⊕ lt_z (pos 0) (slope g f) ≡ true
 steep_p es h f g i j n e true true s t = sloping_pair es h f g i j n e s t
-steep_p es h f g i j n e true false s t = other_steeper (lt_z (pos 0) (slope f g)) (lt_z (pos 0) (slope g f)) (not_steeper f g (h.ordered f i) (upright_of g (h.ordered g j) t)) (steeper g f (upright_of g (h.ordered g j) t) (slope_run f s))
-steep_p es h f g i j n e false true s t = one_steeper (lt_z (pos 0) (slope f g)) (lt_z (pos 0) (slope g f)) (steeper f g (upright_of f (h.ordered f i) s) (slope_run g t)) (not_steeper g f (h.ordered g j) (upright_of f (h.ordered f i) s))
+steep_p es h f g i j n e true false s t = only_second (lt_z (pos 0) (slope f g)) (lt_z (pos 0) (slope g f)) (not_steeper f g (h.ordered f i) (upright_of g (h.ordered g j) t)) (steeper g f (upright_of g (h.ordered g j) t) (slope_run f s))
+steep_p es h f g i j n e false true s t = only_first (lt_z (pos 0) (slope f g)) (lt_z (pos 0) (slope g f)) (steeper f g (upright_of f (h.ordered f i) s) (slope_run g t)) (not_steeper g f (h.ordered g j) (upright_of f (h.ordered f i) s))
 steep_p es h f g i j n e false false s t = absurd (n (one_up es h.noded f g i j (upright_of f (h.ordered f i) s) (upright_of g (h.ordered g j) t) e))
 
 steep_q : (es : List Edge) → Edges es → (f g : Edge) → In f es → In g es → ¬ (f ≡ g) → f.q ≡ g.q → (s t : Bool) → slopes f ≡ s → slopes g ≡ t → lt_z (pos 0) (slope f g) ⊕ lt_z (pos 0) (slope g f) ≡ true
 steep_q es h f g i j n e true true s t = sloping_pair_q es h f g i j n e s t
-steep_q es h f g i j n e true false s t = other_steeper (lt_z (pos 0) (slope f g)) (lt_z (pos 0) (slope g f)) (not_steeper f g (h.ordered f i) (upright_of g (h.ordered g j) t)) (steeper g f (upright_of g (h.ordered g j) t) (slope_run f s))
-steep_q es h f g i j n e false true s t = one_steeper (lt_z (pos 0) (slope f g)) (lt_z (pos 0) (slope g f)) (steeper f g (upright_of f (h.ordered f i) s) (slope_run g t)) (not_steeper g f (h.ordered g j) (upright_of f (h.ordered f i) s))
+steep_q es h f g i j n e true false s t = only_second (lt_z (pos 0) (slope f g)) (lt_z (pos 0) (slope g f)) (not_steeper f g (h.ordered f i) (upright_of g (h.ordered g j) t)) (steeper g f (upright_of g (h.ordered g j) t) (slope_run f s))
+steep_q es h f g i j n e false true s t = only_first (lt_z (pos 0) (slope f g)) (lt_z (pos 0) (slope g f)) (steeper f g (upright_of f (h.ordered f i) s) (slope_run g t)) (not_steeper g f (h.ordered g j) (upright_of f (h.ordered f i) s))
 steep_q es h f g i j n e false false s t = absurd (n (one_down es h.noded f g i j (upright_of f (h.ordered f i) s) (upright_of g (h.ordered g j) t) e))
 
 -- both at v, different: exactly one comes before the other
@@ -427,35 +387,25 @@ undo : (l r a : Bool) → r ≡ l ⊕ a → l ≡ r ⊕ a
 undo l r a h = grind arith
 
 -- at each vertex the result's sides are the operation's jumps, in clockwise order
+jump_at : (es : List Edge) (op : Bool → Bool → Bool) (a b : Edge → Bool) (v : Pt) (g : Edge) (fa fb sa sb : Bool) → fa ≡ west a es v ⊕ par (λ f. a f ∧∧ before v f g) es → fb ≡ west b es v ⊕ par (λ f. b f ∧∧ before v f g) es → sa ≡ fa ⊕ a g → sb ≡ fb ⊕ b g
+    → op fa fb ⊕ op sa sb ≡ jump (from_there op (west a es v) (west b es v)) (par (λ f. a f ∧∧ before v f g) es) (par (λ f. b f ∧∧ before v f g) es) (a g) (b g)
+jump_at es op a b v g fa fb sa sb ea eb ca cb =
+    by_sides op fa fb sa sb (west a es v ⊕ par (λ f. a f ∧∧ before v f g) es) (west b es v ⊕ par (λ f. b f ∧∧ before v f g) es) (a g) (b g)
+    ea eb (ca ∙ ap (λ (t : Bool). t ⊕ a g) ea) (cb ∙ ap (λ (t : Bool). t ⊕ b g) eb)
+    ∙ sym (jump_there op (west a es v) (west b es v) (par (λ f. a f ∧∧ before v f g) es) (par (λ f. b f ∧∧ before v f g) es) (a g) (b g))
+
 result_p : (es : List Edge) → Edges es → (op : Bool → Bool → Bool) (a b : Edge → Bool) → Even a es → Even b es → (g : Edge) → In g es
     → in_result op a b es g ≡ jump (from_there op (west a es g.p) (west b es g.p)) (par (λ f. a f ∧∧ before g.p f g) es) (par (λ f. b f ∧∧ before g.p f g) es) (a g) (b g)
-result_p es h op a b ea eb g i =
-    by_sides op (parity a es (left g)) (parity b es (left g)) (parity a es (right g)) (parity b es (right g))
-    (west a es g.p ⊕ par (λ f. a f ∧∧ before g.p f g) es) (west b es g.p ⊕ par (λ f. b f ∧∧ before g.p f g) es) (a g) (b g)
-    la lb (crossing es h a ea g i ∙ ap (λ (t : Bool). t ⊕ a g) la) (crossing es h b eb g i ∙ ap (λ (t : Bool). t ⊕ b g) lb)
-    ∙ sym (jump_there op (west a es g.p) (west b es g.p) (par (λ f. a f ∧∧ before g.p f g) es) (par (λ f. b f ∧∧ before g.p f g) es) (a g) (b g))
-  where
-    la : parity a es (left g) ≡ west a es g.p ⊕ par (λ f. a f ∧∧ before g.p f g) es
-    la = turned_p es h a ea g i (slopes g) refl
-
-    lb : parity b es (left g) ≡ west b es g.p ⊕ par (λ f. b f ∧∧ before g.p f g) es
-    lb = turned_p es h b eb g i (slopes g) refl
+result_p es h op a b ea eb g i = jump_at es op a b g.p g (parity a es (left g)) (parity b es (left g)) (parity a es (right g)) (parity b es (right g))
+    (turned_p es h a ea g i (slopes g) refl) (turned_p es h b eb g i (slopes g) refl) (crossing es h a ea g i) (crossing es h b eb g i)
 
 result_q : (es : List Edge) → Edges es → (op : Bool → Bool → Bool) (a b : Edge → Bool) → Even a es → Even b es → (g : Edge) → In g es
     → in_result op a b es g ≡ jump (from_there op (west a es g.q) (west b es g.q)) (par (λ f. a f ∧∧ before g.q f g) es) (par (λ f. b f ∧∧ before g.q f g) es) (a g) (b g)
 result_q es h op a b ea eb g i =
     xor_comm (op (parity a es (left g)) (parity b es (left g))) (op (parity a es (right g)) (parity b es (right g)))
-    ∙ by_sides op (parity a es (right g)) (parity b es (right g)) (parity a es (left g)) (parity b es (left g))
-    (west a es g.q ⊕ par (λ f. a f ∧∧ before g.q f g) es) (west b es g.q ⊕ par (λ f. b f ∧∧ before g.q f g) es) (a g) (b g)
-    ra rb (undo (parity a es (left g)) (parity a es (right g)) (a g) (crossing es h a ea g i) ∙ ap (λ (t : Bool). t ⊕ a g) ra)
-    (undo (parity b es (left g)) (parity b es (right g)) (b g) (crossing es h b eb g i) ∙ ap (λ (t : Bool). t ⊕ b g) rb)
-    ∙ sym (jump_there op (west a es g.q) (west b es g.q) (par (λ f. a f ∧∧ before g.q f g) es) (par (λ f. b f ∧∧ before g.q f g) es) (a g) (b g))
-  where
-    ra : parity a es (right g) ≡ west a es g.q ⊕ par (λ f. a f ∧∧ before g.q f g) es
-    ra = turned_q es h a ea g i (slopes g) refl
-
-    rb : parity b es (right g) ≡ west b es g.q ⊕ par (λ f. b f ∧∧ before g.q f g) es
-    rb = turned_q es h b eb g i (slopes g) refl
+    ∙ jump_at es op a b g.q g (parity a es (right g)) (parity b es (right g)) (parity a es (left g)) (parity b es (left g))
+    (turned_q es h a ea g i (slopes g) refl) (turned_q es h b eb g i (slopes g) refl)
+    (undo (parity a es (left g)) (parity a es (right g)) (a g) (crossing es h a ea g i)) (undo (parity b es (left g)) (parity b es (right g)) (b g) (crossing es h b eb g i))
 
 pub known : (pf qf pg qg s a : Bool) → (pf ≡ true → qf ≡ false) → a ∧∧ ((pf ∧∧ qg) ⊕ ((pf ∧∧ pg ⊕ qf ∧∧ qg) ∧∧ s)) ≡ ((pf ∧∧ qg) ⊕ ((pf ∧∧ pg ⊕ qf ∧∧ qg) ∧∧ s)) ∧∧ (a ∧∧ (pf ⊕ qf))
 known pf qf pg qg s a h = grind arith
@@ -485,9 +435,9 @@ round_each es h op a b ea eb v e i true s =
     (over (before v) (λ f. a f ∧∧ ends_at v f) es e) (over (before v) (λ f. b f ∧∧ ends_at v f) es e) (a e ∧∧ ends_at v e) (b e ∧∧ ends_at v e)
     (ahead es h v a e) (ahead es h v b e) (sym (keep (a e) (ends_at v e) s)) (sym (keep (b e) (ends_at v e) s))
 round_each es h op a b ea eb v e i false s =
-    mask (in_result op a b es e) (ends_at v e) s
+    and_none (in_result op a b es e) (ends_at v e) s
     ∙ sym (no_jump (from_there op (west a es v) (west b es v)) (over (before v) (λ f. a f ∧∧ ends_at v f) es e) (over (before v) (λ f. b f ∧∧ ends_at v f) es e) (a e ∧∧ ends_at v e) (b e ∧∧ ends_at v e)
-    (mask (a e) (ends_at v e) s) (mask (b e) (ends_at v e) s))
+    (and_none (a e) (ends_at v e) s) (and_none (b e) (ends_at v e) s))
 
 pub result_even : (es : List Edge) → Edges es → (op : Bool → Bool → Bool) → (a b : Edge → Bool) → Even a es → Even b es → Even (in_result op a b es) es
 result_even es h op a b ea eb v =

@@ -11,15 +11,17 @@ use Rattle.geom.specs.declared.point.Pt.{Pt}
 use Rattle.geom.specs.declared.edge.Edge.{Edge}
 use Rattle.geom.specs.Pixel.{Point}
 use Rattle.geom.proofs.Lists.{In}
+use Rattle.geom.proofs.Pixels.{same_point}
 use Rattle.points_law.proofs.Choices.{◌⊕◌, ◌∧∧◌, par, run, rise, Ordered, Small, On, IsAt, IsEnd, MeetAtEnds, Noded, Even, eq_z, is, parity, counted, above, left, right, K}
-use Rattle.geom.proofs.Integers.{expand, linear, mul_pos, by_sign}
+use Rattle.geom.proofs.Integers.{expand, linear, mul_pos, by_sign, twice_right}
 use Rattle.points_law.proofs.Meet.{off, slope, gap, at, on_itself, on_vertical}
 use Rattle.points_law.proofs.Sums.{par_cong, par_xor}
 use Rattle.points_law.proofs.Even.{and_left, and_right, eq_z_same, is_same, is_refl, same, same_is, even_sum}
 use Rattle.points_law.proofs.Sign.{sign}
 use Rattle.points_law.proofs.Heights.{InColumn, covers_is, above_is}
-use Rattle.points_law.proofs.Side.{pos_test, SideOf, left_side, right_side, over_mid, dot, lift_is, near_test, twice_big, dot_bound, two_times, AllSmall, if_covered}
-use Rattle.points_law.proofs.Column.{cv, ab, cv_low, cv_high, cv_run, weak, no_root, among, joined, scaled_test, vertical_cover, differ, lt_from, AllOrdered}
+use Rattle.points_law.proofs.Side.{pos_test, SideOf, left_side, right_side, over_mid, dot, lift_is, near_test, twice_big, dot_bound, AllSmall, if_covered}
+use Rattle.points_law.proofs.Column.{cv, ab, cv_low, cv_high, cv_run, weak, no_root, among, joined, scaled_test, vertical_cover, differ, lt_from, AllOrdered, one_next}
+use Rattle.points_law.proofs.Truth.{both_true, and_none}
 
 -- how far f is above v at v's x, times the run of f
 abbrev pub over_pt : Edge → Pt → ℤ
@@ -128,11 +130,8 @@ on_upright f v u x i j r = record {
     level : (p q : ℤ) → p ≡ q → q -ℤ p ≡ pos 0
     level p q i = omega (arith, ints)
 
-same_pt : (u v : Pt) → u.x ≡ v.x → u.y ≡ v.y → u ≡ v
-same_pt u v h k = λ i. record { x = h i; y = k i }
-
 whole_at : (v w : Pt) → IsAt w (whole v) → v ≡ w
-whole_at v w h = same_pt v w (h.0 ∙ unit w.x) (h.1 ∙ unit w.y)
+whole_at v w h = same_point v w (h.0 ∙ unit w.x) (h.1 ∙ unit w.y)
 
 ends_from : (f : Edge) (v : Pt) → IsEnd f (whole v) → EndsAt f v
 ends_from f v (inl h) = inl (whole_at v f.p h)
@@ -175,9 +174,6 @@ is_slope p q h = grind (arith, ints)
 
 plus_none : (x a b c : Bool) → x ≡ a ⊕ b → c ≡ false → x ≡ (a ⊕ b) ⊕ c
 plus_none x a b c h i = grind arith
-
-and_none : (a b : Bool) → b ≡ false → a ∧∧ b ≡ false
-and_none a b h = grind arith
 
 differ_sloping : (f : Edge) (v : Pt) → pos 0 <ℤ run f → (cv f v.x ∧∧ higher f v) ⊕ (cv f (v.x -ℤ pos 1) ∧∧ higher f v) ≡ (over_vertex v f.p ⊕ over_vertex v f.q) ⊕ goes_up f v
 unfolding over_vertex
@@ -275,9 +271,6 @@ cover_p p q h = grind (arith, ints)
 pub cover_q : (p q : ℤ) → lt_z p q ≡ true → le_z p (q -ℤ pos 1) ∧∧ lt_z (q -ℤ pos 1) q ≡ true
 cover_q p q h = grind (arith, ints)
 
-both_true : (a b : Bool) → a ≡ true → b ≡ true → a ∧∧ b ≡ true
-both_true a b h i = grind arith
-
 at_it : (c x h s : Bool) → c ≡ true → h ≡ false → s ≡ true → c ∧∧ x ≡ (c ∧∧ h) ⊕ (s ∧∧ x)
 at_it c x h s i j k = grind arith
 
@@ -287,28 +280,39 @@ off_it c x h s i k = grind arith
 pub at_same : (k : ℤ) → (pos 1 *ℤ k) ≤ℤ k
 at_same k = omega (arith, ints)
 
-below_next : (k : ℤ) → k ≤ℤ (pos 1 *ℤ (k +ℤ pos 1))
-below_next k = omega (arith, ints)
+sloped : (p q k : ℤ) → p ≤ℤ k → k <ℤ q → lt_z p q ≡ true
+sloped p q k h i = grind (arith, ints)
+
+pub low_one : (p k : ℤ) → p ≤ℤ (k -ℤ pos 1) → p ≤ℤ k
+low_one p k h = omega (arith, ints)
+
+pub high_one : (k q : ℤ) → (k -ℤ pos 1) <ℤ q → k ≤ℤ q
+high_one k q h = omega (arith, ints)
+
+-- an edge that covers the column right of v ends there only where it starts, and likewise on the left
+not_at_start : (f : Edge) (v : Pt) → cv f v.x ≡ true → starts f v ≡ false → EndsAt f v → ⊥
+not_at_start f v c t (inl h) = false≢true (sym t ∙ both_true (is v f.p) (slopes f) (subst (λ w. is v w ≡ true) h (is_refl v)) (sloped f.p.x f.q.x v.x (cv_low f v.x c) (cv_high f v.x c)))
+not_at_start f v c t (inr h) = never v.x f.q.x (ap (λ (w : Pt). w.x) h) (cv_high f v.x c)
+  where
+    never : (x q : ℤ) → x ≡ q → x <ℤ q → ⊥
+    never x q h i = omega (arith, ints)
+
+not_at_stop : (f : Edge) (v : Pt) → cv f (v.x -ℤ pos 1) ≡ true → stops f v ≡ false → EndsAt f v → ⊥
+not_at_stop f v c t (inl h) = never v.x f.p.x (ap (λ (w : Pt). w.x) h) (cv_low f (v.x -ℤ pos 1) c)
+  where
+    never : (x p : ℤ) → x ≡ p → p ≤ℤ (x -ℤ pos 1) → ⊥
+    never x p h i = omega (arith, ints)
+not_at_stop f v c t (inr h) = false≢true (sym t ∙ both_true (is v f.q) (slopes f) (subst (λ w. is v w ≡ true) h (is_refl v)) (sloped f.p.x f.q.x (v.x -ℤ pos 1) (cv_low f (v.x -ℤ pos 1) c) (cv_high f (v.x -ℤ pos 1) c)))
 
 start_near : (es : List Edge) → Noded es → (e f : Edge) → In e es → In f es → slopes e ≡ true → ¬ (e ≡ f) → cv f e.p.x ≡ true → starts f e.p ≡ false → ab f e e.p.x ≡ higher f e.p
 start_near es n e f i j s d c t =
-    sign (slope f e) (gap f e) e.p.x e.p.x (pos 1) (no_root e f e.p.x (n e f i j d) (cover_p e.p.x e.q.x s) c) (at_same e.p.x) (below_next e.p.x)
+    sign (slope f e) (gap f e) e.p.x e.p.x (pos 1) (no_root e f e.p.x (n e f i j d) (cover_p e.p.x e.q.x s) c) (at_same e.p.x) (one_next e.p.x)
     (not_zero_factor (run e) (over_pt f e.p) (slope f e *ℤ e.p.x +ℤ gap f e *ℤ pos 1) (cv_run e e.p.x (cover_p e.p.x e.q.x s)) is_it
-    (λ z. no_end (vertex_end es n e.p (record { edge = e; inside = i; ends = inl refl }) f j (on_sloping f e.p (cv_run f e.p.x c) (cv_low f e.p.x c) (weak e.p.x f.q.x (cv_high f e.p.x c)) z))))
+    (λ z. not_at_start f e.p c t (vertex_end es n e.p (record { edge = e; inside = i; ends = inl refl }) f j (on_sloping f e.p (cv_run f e.p.x c) (cv_low f e.p.x c) (weak e.p.x f.q.x (cv_high f e.p.x c)) z))))
     ∙ by_factor (run e) (over_pt f e.p) (slope f e *ℤ e.p.x +ℤ gap f e *ℤ pos 1) (cv_run e e.p.x (cover_p e.p.x e.q.x s)) is_it
   where
     is_it : slope f e *ℤ e.p.x +ℤ gap f e *ℤ pos 1 ≡ run e *ℤ over_pt f e.p
     is_it = at_start (run e) (run f) (rise e) (rise f) (off f) e.p.x e.p.y
-
-    sloped : (p q k : ℤ) → p ≤ℤ k → k <ℤ q → lt_z p q ≡ true
-    sloped p q k h i = grind (arith, ints)
-
-    never : (x q : ℤ) → x ≡ q → x <ℤ q → ⊥
-    never x q h i = omega (arith, ints)
-
-    no_end : EndsAt f e.p → ⊥
-    no_end (inl h) = false≢true (sym t ∙ both_true (is e.p f.p) (slopes f) (subst (λ w. is e.p w ≡ true) h (is_refl e.p)) (sloped f.p.x f.q.x e.p.x (cv_low f e.p.x c) (cv_high f e.p.x c)))
-    no_end (inr h) = never e.p.x f.q.x (ap (λ (w : Pt). w.x) h) (cv_high f e.p.x c)
 
 start_each : (es : List Edge) → Noded es → (e f : Edge) → In e es → In f es → slopes e ≡ true → (t : Bool) → starts f e.p ≡ t → (u : Bool) → same e f ≡ u
     → cv f e.p.x ∧∧ ab f e e.p.x ≡ (cv f e.p.x ∧∧ higher f e.p) ⊕ (starts f e.p ∧∧ ab f e e.p.x)
@@ -321,49 +325,33 @@ start_each es n e f i j s true t u d = at_it (cv f e.p.x) (ab f e e.p.x) (higher
 start_each es n e f i j s false t true d = absurd (false≢true (sym t ∙ both_true (is e.p f.p) (slopes f) (subst (λ g. is e.p g.p ≡ true) (same_is e f d) (is_refl e.p)) (subst (λ g. slopes g ≡ true) (same_is e f d) s)))
 start_each es n e f i j s false t false d = off_it (cv f e.p.x) (ab f e e.p.x) (higher f e.p) (starts f e.p) (λ c. start_near es n e f i j s (differ e f d) c t) t
 
-spread2 : (a x u w : Bool) → x ≡ u ⊕ w → a ∧∧ x ≡ (a ∧∧ u) ⊕ (a ∧∧ w)
-spread2 a x u w h = grind arith
+spread_sum : (a x u w : Bool) → x ≡ u ⊕ w → a ∧∧ x ≡ (a ∧∧ u) ⊕ (a ∧∧ w)
+spread_sum a x u w h = grind arith
 
 -- the chosen edges above e just right of v: those above v, and those from v that are above e
 pub above_start : (es : List Edge) → Noded es → (a : Edge → Bool) (e : Edge) → In e es → slopes e ≡ true
     → among a es e e.p.x ≡ east a es e.p ⊕ par (λ f. a f ∧∧ (starts f e.p ∧∧ ab f e e.p.x)) es
 above_start es n a e i s =
     par_cong (λ f. a f ∧∧ (cv f e.p.x ∧∧ ab f e e.p.x)) (λ f. a f ∧∧ (cv f e.p.x ∧∧ higher f e.p) ⊕ a f ∧∧ (starts f e.p ∧∧ ab f e e.p.x)) es
-    (λ f j. spread2 (a f) (cv f e.p.x ∧∧ ab f e e.p.x) (cv f e.p.x ∧∧ higher f e.p) (starts f e.p ∧∧ ab f e e.p.x) (start_each es n e f i j s (starts f e.p) refl (same e f) refl))
+    (λ f j. spread_sum (a f) (cv f e.p.x ∧∧ ab f e e.p.x) (cv f e.p.x ∧∧ higher f e.p) (starts f e.p ∧∧ ab f e e.p.x) (start_each es n e f i j s (starts f e.p) refl (same e f) refl))
     ∙ sym (par_xor (λ f. a f ∧∧ (cv f e.p.x ∧∧ higher f e.p)) (λ f. a f ∧∧ (starts f e.p ∧∧ ab f e e.p.x)) es)
 
 -- ---- an edge that comes to v from the left
-back_low : (k : ℤ) → (pos 1 *ℤ (k -ℤ pos 1)) ≤ℤ k
+pub back_low : (k : ℤ) → (pos 1 *ℤ (k -ℤ pos 1)) ≤ℤ k
 back_low k = omega (arith, ints)
 
-back_high : (k : ℤ) → k ≤ℤ (pos 1 *ℤ (k -ℤ pos 1 +ℤ pos 1))
+pub back_high : (k : ℤ) → k ≤ℤ (pos 1 *ℤ (k -ℤ pos 1 +ℤ pos 1))
 back_high k = omega (arith, ints)
 
 stop_near : (es : List Edge) → Noded es → (e f : Edge) → In e es → In f es → slopes e ≡ true → ¬ (e ≡ f) → cv f (e.q.x -ℤ pos 1) ≡ true → stops f e.q ≡ false → ab f e (e.q.x -ℤ pos 1) ≡ higher f e.q
 stop_near es n e f i j s d c t =
     sign (slope f e) (gap f e) (e.q.x -ℤ pos 1) e.q.x (pos 1) (no_root e f (e.q.x -ℤ pos 1) (n e f i j d) (cover_q e.p.x e.q.x s) c) (back_low e.q.x) (back_high e.q.x)
     (not_zero_factor (run e) (over_pt f e.q) (slope f e *ℤ e.q.x +ℤ gap f e *ℤ pos 1) (cv_run e (e.q.x -ℤ pos 1) (cover_q e.p.x e.q.x s)) is_it
-    (λ z. no_end (vertex_end es n e.q (record { edge = e; inside = i; ends = inr refl }) f j (on_sloping f e.q (cv_run f (e.q.x -ℤ pos 1) c) (low_one f.p.x e.q.x (cv_low f (e.q.x -ℤ pos 1) c)) (high_one e.q.x f.q.x (cv_high f (e.q.x -ℤ pos 1) c)) z))))
+    (λ z. not_at_stop f e.q c t (vertex_end es n e.q (record { edge = e; inside = i; ends = inr refl }) f j (on_sloping f e.q (cv_run f (e.q.x -ℤ pos 1) c) (low_one f.p.x e.q.x (cv_low f (e.q.x -ℤ pos 1) c)) (high_one e.q.x f.q.x (cv_high f (e.q.x -ℤ pos 1) c)) z))))
     ∙ by_factor (run e) (over_pt f e.q) (slope f e *ℤ e.q.x +ℤ gap f e *ℤ pos 1) (cv_run e (e.q.x -ℤ pos 1) (cover_q e.p.x e.q.x s)) is_it
   where
     is_it : slope f e *ℤ e.q.x +ℤ gap f e *ℤ pos 1 ≡ run e *ℤ over_pt f e.q
     is_it = at_stop (run f) (rise f) (off f) e.p.x e.p.y e.q.x e.q.y
-
-    low_one : (p k : ℤ) → p ≤ℤ (k -ℤ pos 1) → p ≤ℤ k
-    low_one p k h = omega (arith, ints)
-
-    high_one : (k q : ℤ) → (k -ℤ pos 1) <ℤ q → k ≤ℤ q
-    high_one k q h = omega (arith, ints)
-
-    sloped : (p q k : ℤ) → p ≤ℤ k → k <ℤ q → lt_z p q ≡ true
-    sloped p q k h i = grind (arith, ints)
-
-    never : (x p : ℤ) → x ≡ p → p ≤ℤ (x -ℤ pos 1) → ⊥
-    never x p h i = omega (arith, ints)
-
-    no_end : EndsAt f e.q → ⊥
-    no_end (inl h) = never e.q.x f.p.x (ap (λ (w : Pt). w.x) h) (cv_low f (e.q.x -ℤ pos 1) c)
-    no_end (inr h) = false≢true (sym t ∙ both_true (is e.q f.q) (slopes f) (subst (λ w. is e.q w ≡ true) h (is_refl e.q)) (sloped f.p.x f.q.x (e.q.x -ℤ pos 1) (cv_low f (e.q.x -ℤ pos 1) c) (cv_high f (e.q.x -ℤ pos 1) c)))
 
 stop_each : (es : List Edge) → Noded es → (e f : Edge) → In e es → In f es → slopes e ≡ true → (t : Bool) → stops f e.q ≡ t → (u : Bool) → same e f ≡ u
     → cv f (e.q.x -ℤ pos 1) ∧∧ ab f e (e.q.x -ℤ pos 1) ≡ (cv f (e.q.x -ℤ pos 1) ∧∧ higher f e.q) ⊕ (stops f e.q ∧∧ ab f e (e.q.x -ℤ pos 1))
@@ -380,7 +368,7 @@ pub above_stop : (es : List Edge) → Noded es → (a : Edge → Bool) (e : Edge
     → among a es e (e.q.x -ℤ pos 1) ≡ west a es e.q ⊕ par (λ f. a f ∧∧ (stops f e.q ∧∧ ab f e (e.q.x -ℤ pos 1))) es
 above_stop es n a e i s =
     par_cong (λ f. a f ∧∧ (cv f (e.q.x -ℤ pos 1) ∧∧ ab f e (e.q.x -ℤ pos 1))) (λ f. a f ∧∧ (cv f (e.q.x -ℤ pos 1) ∧∧ higher f e.q) ⊕ a f ∧∧ (stops f e.q ∧∧ ab f e (e.q.x -ℤ pos 1))) es
-    (λ f j. spread2 (a f) (cv f (e.q.x -ℤ pos 1) ∧∧ ab f e (e.q.x -ℤ pos 1)) (cv f (e.q.x -ℤ pos 1) ∧∧ higher f e.q) (stops f e.q ∧∧ ab f e (e.q.x -ℤ pos 1)) (stop_each es n e f i j s (stops f e.q) refl (same e f) refl))
+    (λ f j. spread_sum (a f) (cv f (e.q.x -ℤ pos 1) ∧∧ ab f e (e.q.x -ℤ pos 1)) (cv f (e.q.x -ℤ pos 1) ∧∧ higher f e.q) (stops f e.q ∧∧ ab f e (e.q.x -ℤ pos 1)) (stop_each es n e f i j s (stops f e.q) refl (same e f) refl))
     ∙ sym (par_xor (λ f. a f ∧∧ (cv f (e.q.x -ℤ pos 1) ∧∧ higher f e.q)) (λ f. a f ∧∧ (stops f e.q ∧∧ ab f e (e.q.x -ℤ pos 1))) es)
 
 -- ---- an upright edge
@@ -417,7 +405,7 @@ lower_end e f u r = less (over_pt f e.p) (over_pt f e.q) (run f *ℤ rise e) it 
     it = ap (λ (t : ℤ). (rise f *ℤ t +ℤ off f) -ℤ run f *ℤ e.q.y) (sym u.flat) ∙ drop_by (rise f) (off f) (run f) e.p.x e.p.y e.q.y
 
 mid_sum : (s o r px py qx qy : ℤ) → (s *ℤ (px +ℤ qx) +ℤ o *ℤ pos 2) -ℤ r *ℤ (py +ℤ qy) ≡ ((s *ℤ px +ℤ o) -ℤ r *ℤ py) +ℤ ((s *ℤ qx +ℤ o) -ℤ r *ℤ qy)
-mid_sum s o r px py qx qy = simp (two_times, expand) (omega (arith, linear))
+mid_sum s o r px py qx qy = simp expand (omega (arith, linear))
 
 end_height : (o c s r y : ℤ) → pos 1 *ℤ o +ℤ c *ℤ s ≡ (pos 1 *ℤ r) *ℤ y → (s *ℤ c +ℤ o) -ℤ r *ℤ y ≡ pos 0
 end_height o c s r y h = simp expand (omega (arith, linear, simp unit at h))
@@ -499,12 +487,6 @@ up_left es n o a e i u = par_cong (λ f. a f ∧∧ counted f (left e)) (λ f. a
     ∙ if_covered (a f) (cv f (e.p.x -ℤ pos 1)) (above f (left e)) (higher f e.p)
     (λ c. side_upright e f (left e) (pos 2) (left_side e) (o e i) (o f j) (n e f i j (not_upright e f u (cv_run f (e.p.x -ℤ pos 1) c))) u (cv_run f (e.p.x -ℤ pos 1) c)
     (low_one f.p.x e.p.x (cv_low f (e.p.x -ℤ pos 1) c)) (high_one e.p.x f.q.x (cv_high f (e.p.x -ℤ pos 1) c))))
-  where
-    low_one : (p k : ℤ) → p ≤ℤ (k -ℤ pos 1) → p ≤ℤ k
-    low_one p k h = omega (arith, ints)
-
-    high_one : (k q : ℤ) → (k -ℤ pos 1) <ℤ q → k ≤ℤ q
-    high_one k q h = omega (arith, ints)
 
 pub up_right : (es : List Edge) → Noded es → AllSmall es → (a : Edge → Bool) (e : Edge) → In e es → Upright e → parity a es (right e) ≡ east a es e.p
 up_right es n o a e i u = par_cong (λ f. a f ∧∧ counted f (right e)) (λ f. a f ∧∧ (cv f e.p.x ∧∧ higher f e.p)) es
@@ -555,18 +537,8 @@ down_east_each es n e f i j u true t = at_end (cv f e.q.x) (higher f e.p) (highe
 down_east_each es n e f i j u false t = off_end (cv f e.q.x) (higher f e.p) (higher f e.q) (starts f e.q)
     (λ c. over_same (over_pt f e.p) (over_pt f e.q) (lower_end e f u (cv_run f e.q.x c))
     (not_between e f (n e f i j (not_upright e f u (cv_run f e.q.x c))) u (cv_run f e.q.x c) (subst (λ (x : ℤ). f.p.x ≤ℤ x) (sym u.flat) (cv_low f e.q.x c)) (subst (λ (x : ℤ). x ≤ℤ f.q.x) (sym u.flat) (weak e.q.x f.q.x (cv_high f e.q.x c))))
-    (λ z. no_end c (vertex_end es n e.q (record { edge = e; inside = i; ends = inr refl }) f j (on_sloping f e.q (cv_run f e.q.x c) (cv_low f e.q.x c) (weak e.q.x f.q.x (cv_high f e.q.x c)) z))))
+    (λ z. not_at_start f e.q c t (vertex_end es n e.q (record { edge = e; inside = i; ends = inr refl }) f j (on_sloping f e.q (cv_run f e.q.x c) (cv_low f e.q.x c) (weak e.q.x f.q.x (cv_high f e.q.x c)) z))))
     t
-  where
-    sloped : (p q k : ℤ) → p ≤ℤ k → k <ℤ q → lt_z p q ≡ true
-    sloped p q k h i = grind (arith, ints)
-
-    never : (x q : ℤ) → x ≡ q → x <ℤ q → ⊥
-    never x q h i = omega (arith, ints)
-
-    no_end : cv f e.q.x ≡ true → EndsAt f e.q → ⊥
-    no_end c (inl h) = false≢true (sym t ∙ both_true (is e.q f.p) (slopes f) (subst (λ w. is e.q w ≡ true) h (is_refl e.q)) (sloped f.p.x f.q.x e.q.x (cv_low f e.q.x c) (cv_high f e.q.x c)))
-    no_end c (inr h) = never e.q.x f.q.x (ap (λ (w : Pt). w.x) h) (cv_high f e.q.x c)
 
 down_west_each : (es : List Edge) → Noded es → (e f : Edge) → In e es → In f es → Upright e → (t : Bool) → stops f e.q ≡ t → cv f (e.q.x -ℤ pos 1) ∧∧ higher f e.p ≡ (cv f (e.q.x -ℤ pos 1) ∧∧ higher f e.q) ⊕ stops f e.q
 down_west_each es n e f i j u true t = at_end (cv f (e.q.x -ℤ pos 1)) (higher f e.p) (higher f e.q) (stops f e.q)
@@ -580,38 +552,19 @@ down_west_each es n e f i j u false t = off_end (cv f (e.q.x -ℤ pos 1)) (highe
     (λ c. over_same (over_pt f e.p) (over_pt f e.q) (lower_end e f u (cv_run f (e.q.x -ℤ pos 1) c))
     (not_between e f (n e f i j (not_upright e f u (cv_run f (e.q.x -ℤ pos 1) c))) u (cv_run f (e.q.x -ℤ pos 1) c)
     (subst (λ (x : ℤ). f.p.x ≤ℤ x) (sym u.flat) (low_one f.p.x e.q.x (cv_low f (e.q.x -ℤ pos 1) c))) (subst (λ (x : ℤ). x ≤ℤ f.q.x) (sym u.flat) (high_one e.q.x f.q.x (cv_high f (e.q.x -ℤ pos 1) c))))
-    (λ z. no_end c (vertex_end es n e.q (record { edge = e; inside = i; ends = inr refl }) f j (on_sloping f e.q (cv_run f (e.q.x -ℤ pos 1) c) (low_one f.p.x e.q.x (cv_low f (e.q.x -ℤ pos 1) c)) (high_one e.q.x f.q.x (cv_high f (e.q.x -ℤ pos 1) c)) z))))
+    (λ z. not_at_stop f e.q c t (vertex_end es n e.q (record { edge = e; inside = i; ends = inr refl }) f j (on_sloping f e.q (cv_run f (e.q.x -ℤ pos 1) c) (low_one f.p.x e.q.x (cv_low f (e.q.x -ℤ pos 1) c)) (high_one e.q.x f.q.x (cv_high f (e.q.x -ℤ pos 1) c)) z))))
     t
-  where
-    low_one : (p k : ℤ) → p ≤ℤ (k -ℤ pos 1) → p ≤ℤ k
-    low_one p k h = omega (arith, ints)
-
-    high_one : (k q : ℤ) → (k -ℤ pos 1) <ℤ q → k ≤ℤ q
-    high_one k q h = omega (arith, ints)
-
-    sloped : (p q k : ℤ) → p ≤ℤ k → k <ℤ q → lt_z p q ≡ true
-    sloped p q k h i = grind (arith, ints)
-
-    never : (x p : ℤ) → x ≡ p → p ≤ℤ (x -ℤ pos 1) → ⊥
-    never x p h i = omega (arith, ints)
-
-    no_end : cv f (e.q.x -ℤ pos 1) ≡ true → EndsAt f e.q → ⊥
-    no_end c (inl h) = never e.q.x f.p.x (ap (λ (w : Pt). w.x) h) (cv_low f (e.q.x -ℤ pos 1) c)
-    no_end c (inr h) = false≢true (sym t ∙ both_true (is e.q f.q) (slopes f) (subst (λ w. is e.q w ≡ true) h (is_refl e.q)) (sloped f.p.x f.q.x (e.q.x -ℤ pos 1) (cv_low f (e.q.x -ℤ pos 1) c) (cv_high f (e.q.x -ℤ pos 1) c)))
-
-spread_end : (a x u w : Bool) → x ≡ u ⊕ w → a ∧∧ x ≡ (a ∧∧ u) ⊕ (a ∧∧ w)
-spread_end a x u w h = grind arith
 
 pub down_right : (es : List Edge) → Noded es → AllSmall es → (a : Edge → Bool) (e : Edge) → In e es → Upright e → parity a es (right e) ≡ east a es e.q ⊕ par (λ f. a f ∧∧ starts f e.q) es
 down_right es n o a e i u = up_right es n o a e i u
     ∙ ap (λ (x : ℤ). par (λ f. a f ∧∧ (cv f x ∧∧ higher f e.p)) es) u.flat
     ∙ par_cong (λ f. a f ∧∧ (cv f e.q.x ∧∧ higher f e.p)) (λ f. a f ∧∧ (cv f e.q.x ∧∧ higher f e.q) ⊕ a f ∧∧ starts f e.q) es
-    (λ f j. spread_end (a f) (cv f e.q.x ∧∧ higher f e.p) (cv f e.q.x ∧∧ higher f e.q) (starts f e.q) (down_east_each es n e f i j u (starts f e.q) refl))
+    (λ f j. spread_sum (a f) (cv f e.q.x ∧∧ higher f e.p) (cv f e.q.x ∧∧ higher f e.q) (starts f e.q) (down_east_each es n e f i j u (starts f e.q) refl))
     ∙ sym (par_xor (λ f. a f ∧∧ (cv f e.q.x ∧∧ higher f e.q)) (λ f. a f ∧∧ starts f e.q) es)
 
 pub down_left : (es : List Edge) → Noded es → AllSmall es → (a : Edge → Bool) (e : Edge) → In e es → Upright e → parity a es (left e) ≡ west a es e.q ⊕ par (λ f. a f ∧∧ stops f e.q) es
 down_left es n o a e i u = up_left es n o a e i u
     ∙ ap (λ (x : ℤ). par (λ f. a f ∧∧ (cv f (x -ℤ pos 1) ∧∧ higher f e.p)) es) u.flat
     ∙ par_cong (λ f. a f ∧∧ (cv f (e.q.x -ℤ pos 1) ∧∧ higher f e.p)) (λ f. a f ∧∧ (cv f (e.q.x -ℤ pos 1) ∧∧ higher f e.q) ⊕ a f ∧∧ stops f e.q) es
-    (λ f j. spread_end (a f) (cv f (e.q.x -ℤ pos 1) ∧∧ higher f e.p) (cv f (e.q.x -ℤ pos 1) ∧∧ higher f e.q) (stops f e.q) (down_west_each es n e f i j u (stops f e.q) refl))
+    (λ f j. spread_sum (a f) (cv f (e.q.x -ℤ pos 1) ∧∧ higher f e.p) (cv f (e.q.x -ℤ pos 1) ∧∧ higher f e.q) (stops f e.q) (down_west_each es n e f i j u (stops f e.q) refl))
     ∙ sym (par_xor (λ f. a f ∧∧ (cv f (e.q.x -ℤ pos 1) ∧∧ higher f e.q)) (λ f. a f ∧∧ stops f e.q) es)

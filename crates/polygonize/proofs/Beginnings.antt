@@ -4,9 +4,8 @@ use Rattle.geom.specs.declared.point.Pt.{Pt}
 use Rattle.geom.specs.Directed.{from_to}
 use Rattle.geom.specs.Rings.{along, IsCut}
 use Rattle.geom.specs.Rings.IsCut.{whole, taken}
-use Rattle.geom.proofs.Lists.{In}
+use Rattle.geom.proofs.Lists.{In, in_back}
 use Rattle.geom.proofs.OneCut.{simple_distinct}
-use Rattle.geom.proofs.RingEdges.{in_back}
 
 -- the list begins with v
 pub record BeginsWith {X : Type 0} (v : X) (xs : List X) : Type 0 where

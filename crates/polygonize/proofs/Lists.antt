@@ -4,7 +4,7 @@ use Rattle.std.specs.Prelude.{IsPermutation}
 use Rattle.std.proofs.lemmas.List.Sorted.{IsPermutation-refl, IsPermutation-sym, IsPermutation-trans, IsPermutation-cons, IsPermutation-middle}
 use Rattle.geom.proofs.Lists.{In, Distinct}
 pub use Rattle.geom.proofs.RingEdges.{along-append, same_order, to_front, around-rotation, around-cut, in_permutation}
-pub use Rattle.geom.proofs.RingEdges.{in_front as in_left, in_back as in_right}
+pub use Rattle.geom.proofs.Lists.{in_front as in_left, in_back as in_right}
 pub use Rattle.geom.proofs.Lists.{in_append as in_either}
 pub use Rattle.geom.proofs.SameRings.{Split, split_at}
 

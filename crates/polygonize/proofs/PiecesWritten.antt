@@ -5,8 +5,7 @@ use Rattle.std.proofs.lemmas.Bool.Decides.{nat_tests}
 use Rattle.geom.specs.declared.directed.DirectedEdge.{DirectedEdge}
 use Rattle.geom.specs.Canonical.{IsFirstPiece}
 use Rattle.geom.specs.Rings.{Closes}
-use Rattle.geom.proofs.Lists.{In, contains_in, in_append, in_contains}
-use Rattle.geom.proofs.RingEdges.{in_back, in_front}
+use Rattle.geom.proofs.Lists.{In, contains_in, in_append, in_contains, in_back, in_front}
 use Rattle.polygonize.specs.Next.{ring_of}
 use Rattle.std.proofs.lemmas.List.{append-nil, get_or-map, length-map, map-append}
 use Rattle.polygonize.specs.declared.written.Opening.{Opening}

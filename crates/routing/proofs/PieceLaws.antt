@@ -12,7 +12,7 @@ use Rattle.geom.specs.Route.{Meets, IsEarlier}
 use Rattle.hot_pixel.specs.Rects.{IsIn}
 use Rattle.hot_pixel.specs.Candidates.{chosen, AreCandidates, AreOwnedHot}
 use Rattle.hot_pixel.proofs.ListLaws.{in_cons, from_cons, here, none_in}
-use Rattle.hot_pixel.proofs.Orders.{IsSortedOnce}
+use Rattle.geom.proofs.Orders.{IsSortedOnce}
 use Rattle.hot_pixel.proofs.CandidateLaws.{owned_of_all, owned_by, hot_of_candidates, hot_from_candidates}
 use Rattle.routing.specs.declared.record.Record.{Record}
 use Rattle.routing.specs.declared.record.Candidate.{Candidate}

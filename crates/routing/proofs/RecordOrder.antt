@@ -10,7 +10,7 @@ use Rattle.std.proofs.lemmas.Cmp.{by_ranked, ranked, then_total, on_total, nat_c
 use Rattle.std.proofs.lemmas.Bool.{eqb-true}
 use Rattle.geom.specs.Segments.{same_point}
 use Rattle.geom.proofs.Points.{and_both, same_point_true}
-use Rattle.hot_pixel.proofs.Orders.{IsSortedOnce, sorted_once, pt_cmp, pt_total, pt_equivalence}
+use Rattle.geom.proofs.Orders.{IsSortedOnce, sorted_once, pt_cmp, pt_total, pt_equivalence}
 use Rattle.routing.specs.declared.record.Record.{Record}
 
 abbrev pub record_cmp : Record → Record → Ordering

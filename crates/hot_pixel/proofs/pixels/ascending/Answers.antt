@@ -1,4 +1,4 @@
-use Rattle.hot_pixel.proofs.Orders.{points_once, points_ascending}
+use Rattle.geom.proofs.Orders.{points_once, points_ascending}
 use Rattle.hot_pixel.proofs.pixels.ascending.Goals as goal
 
 pub returns : goal.returns

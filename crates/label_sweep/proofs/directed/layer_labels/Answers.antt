@@ -1,6 +1,6 @@
 use Rattle.std.proofs.Common.{◌≡◌, ◌∙◌, ap}
 use Rattle.face_label.proofs.Listing.{are_directed}
-use Rattle.face_label.proofs.Orders.{directed_once}
+use Rattle.geom.proofs.Orders.{directed_once}
 use Rattle.label_sweep.specs.Labels.{directed_of}
 use Rattle.label_sweep.proofs.Directing.{result_edges}
 use Rattle.label_sweep.proofs.directed.layer_labels.Goals as goal

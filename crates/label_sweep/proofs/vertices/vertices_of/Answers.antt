@@ -1,5 +1,5 @@
 use Rattle.geom.specs.Rounded.{edges_of}
-use Rattle.face_label.proofs.Orders.{points_once}
+use Rattle.geom.proofs.Orders.{points_once}
 use Rattle.label_sweep.proofs.Ends.{are_vertices}
 use Rattle.label_sweep.proofs.vertices.vertices_of.Goals as goal
 

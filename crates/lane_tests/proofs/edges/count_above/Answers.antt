@@ -1,4 +1,5 @@
 use Rattle.std.proofs.Common.{arith, ℕ, ◌+◌, ◌≤◌, ◌<◌, ◌^◌, sym, ◌∙◌, to_z-of_z, Fits, w64}
+use Rattle.lane_tests.proofs.Ends.{read_back}
 use Rattle.lane_tests.proofs.Masks.{counted_none, counted_eight, counted_yes, counted_no, counted_all, counted_small, ones_few}
 use Rattle.lane_tests.proofs.edges.count_above.Goals.{then-one_above, else-one_above}
 use Rattle.lane_tests.proofs.edges.count_above.Goals as goal
@@ -23,15 +24,11 @@ overflow_add-total-then-one_above c = few _ _ _ _ (counted_small _ _ _ _ c.loop-
 
 pub loop-at-2-preserved : goal.loop-at-2-preserved
 loop-at-2-preserved c =
-    let e = c.requires.ends.columns in
-    let f1 = e.left.fits c.loop-at-2.at in
-    let f2 = e.bottom.fits c.loop-at-2.at in
-    let f3 = e.right.fits c.loop-at-2.at in
-    let f4 = e.top.fits c.loop-at-2.at in
+    let r = read_back _ _ _ _ c.requires.ends c.loop-at-2.at in
     let f5 = c.ranges.column in
     elim c.if-one_above.branch [
-      | then-one_above w ↦ rw w.total-is (counted_yes _ _ _ _ c.loop-at-2.invariant (omega arith) (simp to_z-of_z (simp to_z-of_z at (sym c.one_above.ensures ∙ w.if-one_above.true))))
-      | else-one_above w ↦ rw w.total-is (counted_no _ _ _ _ c.loop-at-2.invariant (omega arith) (simp to_z-of_z (simp to_z-of_z at (sym c.one_above.ensures ∙ w.if-one_above.false))))
+      | then-one_above w ↦ rw w.total-is (counted_yes _ _ _ _ c.loop-at-2.invariant (omega arith) (simp to_z-of_z (simp (to_z-of_z, r.0, r.1, r.2, r.3) at (sym c.one_above.ensures ∙ w.if-one_above.true))))
+      | else-one_above w ↦ rw w.total-is (counted_no _ _ _ _ c.loop-at-2.invariant (omega arith) (simp to_z-of_z (simp (to_z-of_z, r.0, r.1, r.2, r.3) at (sym c.one_above.ensures ∙ w.if-one_above.false))))
     ]
 
 pub returns : goal.returns

@@ -2,6 +2,7 @@ use Rattle.std.proofs.Common.{◌≡◌, ◌^◌, ◌+◌, refl, ◌∙◌, rule
 use Rattle.std.specs.Prelude.{int_lt, int_le}
 use Rattle.std.proofs.lemmas.Int.{ints}
 use Rattle.geom.specs.Limit.{IsWithin}
+use Rattle.lane_tests.proofs.Values.{prod}
 use Rattle.lane_tests.proofs.edges.one_above.Goals as goal
 
 wider : (z : ℤ) → FitsSigned w32 z → IsWithin (2 ^ 29) z → IsWithin (2 ^ 29 + 1) (to_z w32 (of_z w32 z))
@@ -18,9 +19,6 @@ product-requires-clause-b c = widest c.args.probe.dy (search rules) c.requires.p
 
 pub product-requires-2-clause-b : goal.product-requires-2-clause-b
 product-requires-2-clause-b c = widest c.args.probe.dx (search rules) c.requires.probe.dx
-
-prod : (r a b x y : ℤ) → FitsSigned w32 a → FitsSigned w32 b → a ≡ x → b ≡ y → r ≡ to_z w32 (of_z w32 a) *ℤ to_z w32 (of_z w32 b) → r ≡ x *ℤ y
-prod r a b x y f g d e h = let k : r ≡ a *ℤ b = simp to_z-of_z at h in k ∙ (λ i. d i *ℤ e i)
 
 joined : (c c' : Bool) → c ≡ c' → (over under p q o u s t : ℤ) → FitsSigned w64 over → FitsSigned w64 under → FitsSigned w64 p → FitsSigned w64 q → over ≡ o → under ≡ u → p ≡ s → q ≡ t
     → c && (int_lt (to_z w64 (of_z w64 over)) (to_z w64 (of_z w64 under)) || (int_le (to_z w64 (of_z w64 over)) (to_z w64 (of_z w64 under)) && int_lt (to_z w64 (of_z w64 p)) (to_z w64 (of_z w64 q))))

@@ -1,9 +1,7 @@
 use Rattle.std.proofs.Common.{◌≡◌, ◌∙◌, rules, to_z-of_z, to_z, of_z, FitsSigned, w8, w32, w64, ℤ, ◌*ℤ◌, ◌-ℤ◌, ◌+ℤ◌}
 use Rattle.lane_tests.specs.Sides.{sign}
+use Rattle.lane_tests.proofs.Values.{prod}
 use Rattle.lane_tests.proofs.segs.one_side.Goals as goal
-
-prod : (r a b x y : ℤ) → FitsSigned w32 a → FitsSigned w32 b → a ≡ x → b ≡ y → r ≡ to_z w32 (of_z w32 a) *ℤ to_z w32 (of_z w32 b) → r ≡ x *ℤ y
-prod r a b x y f g d e h = let k : r ≡ a *ℤ b = simp to_z-of_z at h in k ∙ (λ i. d i *ℤ e i)
 
 signed : (r u v x y : ℤ) → FitsSigned w8 r → FitsSigned w64 u → FitsSigned w64 v → u ≡ x → v ≡ y → r ≡ sign (to_z w64 (of_z w64 u)) (to_z w64 (of_z w64 v)) → to_z w8 (of_z w8 r) ≡ sign x y
 signed r u v x y f g h d e k = to_z-of_z f ∙ k ∙ (λ i. sign ((to_z-of_z g ∙ d) i) ((to_z-of_z h ∙ e) i))

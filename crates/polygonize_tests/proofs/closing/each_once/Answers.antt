@@ -1,4 +1,4 @@
-use Rattle.face_label.proofs.Orders.{directed_ascending, directed_once}
+use Rattle.geom.proofs.Orders.{directed_ascending, directed_once}
 use Rattle.polygonize_tests.proofs.closing.each_once.Goals as goal
 
 pub returns : goal.returns

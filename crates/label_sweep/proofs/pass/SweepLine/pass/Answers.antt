@@ -41,16 +41,11 @@ returns-clause-swept g c =
 
 pub returns-clause-labelled : goal.returns-clause-labelled
 returns-clause-labelled g c =
-    let s = all_standing c.args.self.now.standing in
-    let chunks = c.args.self.now.standing.chunks.items in
-    let low = number_of chunks c.first_not_below-low.result in
-    let high = number_of chunks c.first_above-high.result in
     let left = c.lowest_under-left.result in
     let l = c.first_not_below-low.ensures in
     let k = c.first_above-high.ensures in
-    let order : low ≤ high = low_first c.args.v s low high l.within l.below k.above in
     let all : c.label.new.labelled.items ≡ c.args.self.now.labelled.items ++ labels_from left c.by_turn.new.spokes.items = c.in_ok-label.ensures ∙ ap (λ t. c.args.self.now.labelled.items ++ labels_from left t) c.deref.ensures.value in
-    rw all (labelled c.args.counted.now c.requires.layers c.args.v c.requires.vertex s c.requires.swept low high order
+    rw all (labelled c.args.counted.now c.requires.layers c.args.v c.requires.vertex _ c.requires.swept _ _ (low_first c.args.v _ _ _ l.within l.below k.above)
     l.below l.rest k.rest k.above k.within
     c.by_turn.new.spokes.items c.in_ok-by_turn.ensures.spokes c.in_ok-by_turn.ensures.inside left c.lowest_under-left.ensures
     c.args.from c.args.next c.requires.begin c.args.self.now.labelled.items c.requires.labelled)

@@ -3,11 +3,11 @@ use Rattle.std.specs.List.Sorted.{IsPartitionedBy, IsPartitionPoint}
 use Rattle.std.proofs.lemmas.List.Sorted.{IsPartitionPoint-from_clause}
 use Rattle.std.specs.declared.vec.Vec.{Vec}
 use Rattle.geom.specs.Determinant.{side}
+use Rattle.geom.proofs.Tests.{le_told, le_untold}
 use Rattle.label_sweep.specs.declared.standing.Standing.{Standing}
 use Rattle.label_sweep.specs.Chunks.{opens}
 use Rattle.label_sweep.proofs.Chunks.{chunks_parted, slice_from, within_parted}
 use Rattle.label_sweep.proofs.Places.{chunk_inside, found}
-use Rattle.label_sweep.proofs.Tests.{is_at_least, not_at_least}
 use Rattle.label_sweep.proofs.status.Status.place.Goals as goal
 
 pub returns : goal.returns
@@ -33,6 +33,6 @@ returns g c =
     record {
       place = all.place;
       within = all.within;
-      before = λ i d l m. is_at_least _ _ (all.before i d l m);
-      rest = λ i d l m. not_at_least _ _ (all.rest i d l m);
+      before = λ i d l m. le_told _ _ (all.before i d l m);
+      rest = λ i d l m. le_untold _ _ (all.rest i d l m);
     }

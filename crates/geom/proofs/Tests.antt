@@ -1,0 +1,37 @@
+-- Tests on whole numbers say what they test.
+use Rattle.std.proofs.Common.{◌≡◌, true, false, sym, arith}
+use Rattle.std.proofs.lemmas.Int.{ints}
+use Rattle.std.proofs.Math.IntN.{ℤ}
+use Rattle.std.specs.Prelude.{◌<ℤ◌, ◌≤ℤ◌, int_le, int_lt}
+use Rattle.geom.proofs.Integers.{linear}
+
+pub lt_yes : (a b : ℤ) → a <ℤ b → int_lt a b ≡ true
+lt_yes a b h = let t : true ≡ int_lt a b = omega (arith, ints) in sym t
+
+pub lt_no : (a b : ℤ) → b ≤ℤ a → int_lt a b ≡ false
+lt_no a b h = let t : false ≡ int_lt a b = omega (arith, ints) in sym t
+
+pub le_yes : (a b : ℤ) → a ≤ℤ b → int_le a b ≡ true
+le_yes a b h = let t : true ≡ int_le a b = omega (arith, ints) in sym t
+
+pub le_no : (a b : ℤ) → b <ℤ a → int_le a b ≡ false
+le_no a b h = let t : false ≡ int_le a b = omega (arith, ints) in sym t
+
+pub lt_told : (a b : ℤ) → int_lt a b ≡ true → a <ℤ b
+lt_told a b h = omega (arith, ints)
+
+pub le_told : (a b : ℤ) → int_le a b ≡ true → a ≤ℤ b
+le_told a b h = omega (arith, ints)
+
+pub le_untold : (a b : ℤ) → int_le a b ≡ false → b <ℤ a
+le_untold a b h = omega (arith, ints)
+
+-- the order through a number between
+pub le_le : (a b c : ℤ) → a ≤ℤ b → b ≤ℤ c → a ≤ℤ c
+le_le a b c h k = omega (arith, linear)
+
+pub le_lt : (a b c : ℤ) → a ≤ℤ b → b <ℤ c → a <ℤ c
+le_lt a b c h k = omega (arith, linear)
+
+pub lt_le : (a b c : ℤ) → a <ℤ b → b ≤ℤ c → a <ℤ c
+lt_le a b c h k = omega (arith, linear)
