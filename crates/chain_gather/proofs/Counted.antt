@@ -22,7 +22,7 @@ use Rattle.routing.specs.declared.record.Record.{Record}
 use Rattle.routing.specs.Pieces.{IsPartOf, IsPieceOf, IsRecord}
 use Rattle.chain_gather.specs.Gathered.{AreTileNumbers, HasPartsBelow, HasTilesBelow}
 use Rattle.chain_gather.specs.Links.{AreRecords, HasRecords, IsRecordBefore}
-use Rattle.chain_gather.specs.Numbers.{AreNumbersOf, ArePaired, AreTileCounts, IsCountOf}
+use Rattle.chain_gather.specs.Numbers.{AreNumbersOf, ArePaired, AreTileCounts, IsCountOf, MayCount}
 use Rattle.chain_gather.specs.declared.rounded.TileNumbers.{TileNumbers}
 use Rattle.chain_gather.proofs.Gathering.{AreCovered, below_none, owner_below, tiles_have}
 use Rattle.chain_gather.proofs.Ordering.{never_before, piece_of}
@@ -30,17 +30,17 @@ use Rattle.chain_gather.proofs.Parts.{IsPart, distinct_from}
 
 -- ---- one item after another
 module _ {X : Type 0} (g : Tiling) (pixel_of : X → Pt) (xs : List X) where
-  pub counted_none : (n : ℕ) (counts : List ℕ) → n ≡ tile_count g → counts ≡ replicate n 0 → AreTileCounts g pixel_of (take 0 xs) counts
-  counted_none n counts l e = record {
-    one_each = ap length e ∙ length-replicate n 0 ∙ l;
+  pub counted_none : (counts : List ℕ) → counts ≡ replicate (tile_count g) 0 → AreTileCounts g pixel_of (take 0 xs) counts
+  counted_none counts e = record {
+    one_each = ap length e ∙ length-replicate (tile_count g) 0;
     each = λ k m at. record { those = []; once = λ i j d a b. absurd (omega (arith, b)); exact = λ x. ((λ h. absurd (none_in x h)), (λ h. absurd (none_in x h.0))); number_is = zero_at k m at };
   }
     where
       zero_at : (k m : ℕ) → slice_get counts k ≡ Some m → m ≡ 0
       zero_at k m at =
           let w = slice_get_within counts k m at in
-          let s : length counts ≡ n = ap length e ∙ length-replicate n 0 in
-          sym (get_or_from_slice_get counts k m 0 at) ∙ ap (λ (ns : List ℕ). get_or ns k 0) e ∙ get_or-replicate n k 0 0 (omega (arith, w, s))
+          let s : length counts ≡ tile_count g = ap length e ∙ length-replicate (tile_count g) 0 in
+          sym (get_or_from_slice_get counts k m 0 at) ∙ ap (λ (ns : List ℕ). get_or ns k 0) e ∙ get_or-replicate (tile_count g) k 0 0 (omega (arith, w, s))
 
   module _ (i k : ℕ) (x : X) (within : i < length xs) (is : x ≡ get_or xs i x) (once : AllPairs (λ x y. x ≢ y) xs) (owner : Owns g k (pixel_of x)) where
     -- it isn't among the earlier ones
@@ -207,13 +207,6 @@ known_tile g p h = ⊎_elim (λ t. t) (λ no. absurd (∥∥₁_elim h (hlevel p
 -- of the cells and the segments by their other names
 pub known_parts : (g h : Tiling) (segments others : List Seg) (n : ℕ) (pixels : List Pt) (records : List Record) → g ≡ h → segments ≡ others → n ≡ tile_count g → ∥ HasPartsBelow h others n pixels records ∥₁ → ∥ HasPartsBelow g segments (tile_count g) pixels records ∥₁
 known_parts g h segments others n pixels records e f k all = subst (λ (x : Tiling × List Seg × ℕ). ∥ HasPartsBelow x.0 x.1 x.2 pixels records ∥₁) (λ i. (sym e i, sym f i, k i)) all
-
--- every item has a tile, and none stands twice
-pub record MayCount (g : Tiling) (pixels : List Pt) (records : List Record) : Type 0 where
-  pub pixels_in : All (λ p. HasTile g p) pixels
-  pub pixels_once : AllPairs (λ p q. p ≢ q) pixels
-  pub records_in : All (λ r. HasTile g r.pixel) records
-  pub records_once : AllPairs (λ r q. r ≢ q) records
 
 -- the pieces of all cells f, over a grid g
 module _ (f g : Tiling) (segments : List Seg) (pixels : List Pt) (found records : List Record) (cells : AreCovered f segments) (tiles : AreCovered g segments)

@@ -2,8 +2,10 @@ pub mod Flat
 pub mod Walk
 pub mod Tally
 pub mod Gathering
+pub mod Boxes
 pub mod Near
 pub mod Covering
+pub mod Picked
 pub mod Chosen
 pub mod Adding
 pub mod OwnLaws

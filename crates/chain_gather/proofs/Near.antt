@@ -18,64 +18,19 @@ use Rattle.hot_pixel.proofs.ListLaws.{in_cons, from_cons, here, none_in, head_pa
 use Rattle.routing.specs.declared.record.Candidate.{Candidate}
 use Rattle.routing.specs.Pieces.{candidates_of}
 use Rattle.routing.proofs.PieceLaws.{in_candidates}
-use Rattle.chain_gather.specs.Gathered.{AreBoxesOf, AreBinsOf, IsNear, IsNumberedBefore, AreTileCandidates}
+use Rattle.chain_gather.specs.Gathered.{AreBoxesOf, AreBinsOf, IsNear, IsNumberedBefore, AreTileCandidates, box_corners}
+use Rattle.chain_gather.proofs.Boxes.{below_bin, bin_over, into_bin, out_of_bin}
 
 some_same : {s t : Seg} {o : Option Seg} → o ≡ Some s → o ≡ Some t → s ≡ t
 some_same {s} {t} {o} e f = cc
 
--- ---- boxes
-
--- b is the least box of s
-pub record IsBoxOf (s : Seg) (b : Rect) : Type 0 where
-  pub lo : b.lo ≡ least_corner s.a s.b
-  pub hi : b.hi ≡ greatest_corner s.a s.b
-
-first_box : (s : Seg) (ss : List Seg) (b : Rect) (bs : List Rect) → AreBoxesOf (s ∷ ss) (b ∷ bs) → IsBoxOf s b
-first_box s ss b bs e =
-    let p : Pt × Pt = (b.lo, b.hi) in
-    let q : Pt × Pt = (least_corner s.a s.b, greatest_corner s.a s.b) in
-    let h : p ≡ q = cc in
-    record { lo = ap (λ (x : Pt × Pt). x.0) h; hi = ap (λ (x : Pt × Pt). x.1) h }
-
-other_boxes : (s : Seg) (ss : List Seg) (b : Rect) (bs : List Rect) → AreBoxesOf (s ∷ ss) (b ∷ bs) → AreBoxesOf ss bs
-other_boxes s ss b bs e = cc
-
-segment_at : (segments : List Seg) (boxes : List Rect) (k : ℕ) (b : Rect) → AreBoxesOf segments boxes → slice_get boxes k ≡ Some b → (s : Seg) × (slice_get segments k ≡ Some s) × IsBoxOf s b
-segment_at [] [] k b e at = absurd (cc)
-segment_at [] (c ∷ cs) k b e at = absurd (cc)
-segment_at (s ∷ ss) [] k b e at = absurd (cc)
-segment_at (s ∷ ss) (c ∷ cs) zero b e at = let g : c ≡ b = cc in (s, refl, subst (λ (r : Rect). IsBoxOf s r) g (first_box s ss c cs e))
-segment_at (s ∷ ss) (c ∷ cs) (suc k) b e at = segment_at ss cs k b (other_boxes s ss c cs e) at
-
-box_at : (segments : List Seg) (boxes : List Rect) (k : ℕ) (s : Seg) → AreBoxesOf segments boxes → slice_get segments k ≡ Some s → (b : Rect) × (slice_get boxes k ≡ Some b) × IsBoxOf s b
-box_at [] [] k s e at = absurd (cc)
-box_at [] (c ∷ cs) k s e at = absurd (cc)
-box_at (t ∷ ss) [] k s e at = absurd (cc)
-box_at (t ∷ ss) (c ∷ cs) zero s e at = let g : t ≡ s = cc in (c, refl, subst (λ (r : Seg). IsBoxOf r c) g (first_box t ss c cs e))
-box_at (t ∷ ss) (c ∷ cs) (suc k) s e at = box_at ss cs k s (other_boxes t ss c cs e) at
-
-pub in_same_box : (lo hi low high p : Pt) → lo ≡ low → hi ≡ high → IsInBox lo hi p → IsInBox low high p
-in_same_box lo hi low high p e f h = subst (λ (q : Pt). IsInBox low q p) f (subst (λ (q : Pt). IsInBox q hi p) e h)
-
 -- ---- a bin has the numbers of the segments near its tile
-module _ (g : Tiling) (segments : List Seg) (boxes : List Rect) (k : ℕ) (numbers : List ℕ) (are : AreBoxesOf segments boxes) (bin : IsBin g k boxes numbers) where
-  into_bin : (n : ℕ) (s : Seg) (p : Pt) → slice_get segments n ≡ Some s → IsInBox (least_corner s.a s.b) (greatest_corner s.a s.b) p → Owns g k p → Contains numbers n
-  into_bin n s p at inside owned =
-      let (b, is, box) = box_at segments boxes n s are at in
-      (bin.exact n).1 (b, is, (p, in_same_box _ _ b.lo b.hi p (sym box.lo) (sym box.hi) inside, owned))
-
-  out_of_bin : (n : ℕ) → Contains numbers n → (s : Seg) × (slice_get segments n ≡ Some s) × ((p : Pt) × IsInBox (least_corner s.a s.b) (greatest_corner s.a s.b) p × Owns g k p)
-  out_of_bin n h =
-      let (b, is, (p, inside, owned)) = (bin.exact n).0 h in
-      let (s, at, box) = segment_at segments boxes n b are is in
-      (s, at, (p, in_same_box b.lo b.hi _ _ p box.lo box.hi inside, owned))
-
-  pub bin_candidates : AreCandidates (Owns g k) segments numbers
-  bin_candidates = record {
-    ascending = λ i l. bin.ascending i (i + 1) 0 (omega arith) l;
-    below = λ i d l. let m = out_of_bin (get_or numbers i d) (Contains-get_or numbers i d l) in slice_get_within segments (get_or numbers i d) m.0 m.1;
-    complete = λ n s c at met owned. into_bin n s c at (met_pixels_are_in_bounds s c met) owned;
-  }
+bin_candidates : (g : Tiling) (segments : List Seg) (boxes : List Rect) (k : ℕ) (numbers : List ℕ) → AreBoxesOf segments boxes → IsBin g k boxes numbers → AreCandidates (Owns g k) segments numbers
+bin_candidates g segments boxes k numbers are bin = record {
+  ascending = λ i l. bin.ascending i (i + 1) 0 (omega arith) l;
+  below = λ i d l. below_bin box_corners g segments boxes k numbers are bin (get_or numbers i d) (Contains-get_or numbers i d l);
+  complete = λ n s c at met owned. into_bin box_corners g segments boxes k numbers are bin n s c at (met_pixels_are_in_bounds s c met) owned;
+}
 
 ascend_cons : (segments : List Seg) (n : ℕ) (ns : List ℕ) (o : Option Seg) → slice_get segments n ≡ o → AllPairs (λ i j. i < j) (n ∷ ns) → AllPairs IsNumberedBefore (candidates_of segments ns) → AllPairs IsNumberedBefore (candidates_of segments (n ∷ ns))
 ascend_cons segments n ns None e p rest = rw e rest
@@ -89,12 +44,12 @@ module _ (g : Tiling) (segments : List Seg) (boxes : List Rect) (k : ℕ) (numbe
   to : (c : Candidate) → Contains (candidates_of segments numbers) c → IsNear g segments k c
   to c h =
       let (n, at) = (in_candidates segments numbers c).0 h in
-      let (s, is, (p, inside, owned)) = out_of_bin g segments boxes k numbers are bin c.number n in
+      let (s, is, (p, inside, owned)) = out_of_bin box_corners g segments boxes k numbers are bin c.number n in
       let e : s ≡ c.segment = some_same is at in
       record { is_at = at; point = p; in_box = subst (λ (t : Seg). IsInBox (least_corner t.a t.b) (greatest_corner t.a t.b) p) e inside; owned = owned }
 
   from : (c : Candidate) → IsNear g segments k c → Contains (candidates_of segments numbers) c
-  from c h = (in_candidates segments numbers c).1 (into_bin g segments boxes k numbers are bin c.number c.segment h.point h.is_at h.in_box h.owned, h.is_at)
+  from c h = (in_candidates segments numbers c).1 (into_bin box_corners g segments boxes k numbers are bin c.number c.segment h.point h.is_at h.in_box h.owned, h.is_at)
 
   pub tile_candidates : AreTileCandidates g segments k (candidates_of segments numbers)
   tile_candidates = record { ascending = candidates_ascend segments numbers bin.ascending; exact = λ c. (to c, from c) }
@@ -153,5 +108,5 @@ one_rect r q h =
 pub near_by_bin : (g : Tiling) (segments : List Seg) (bins : Binned) (k : ℕ) (numbers list : List ℕ) → AreBinsOf g segments bins → ((boxes : List Rect) → AreIndexed boxes bins.items → IsBin bins.grid k boxes numbers) → list ≡ numbers
     → AreCandidates (Owns g k) segments list × AreTileCandidates g segments k (candidates_of segments list)
 near_by_bin g segments bins k numbers list are found e =
-    let bin : IsBin g k are.boxes numbers = subst (λ (h : Tiling). IsBin h k are.boxes numbers) are.grid_is (found are.boxes are.indexed) in
+    let bin = bin_over box_corners g segments bins k numbers are found in
     rw e (bin_candidates g segments are.boxes k numbers are.are_boxes bin, tile_candidates g segments are.boxes k numbers are.are_boxes bin)

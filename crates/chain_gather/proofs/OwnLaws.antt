@@ -15,7 +15,8 @@ use Rattle.routing.specs.declared.pieces.Piece.{Piece}
 use Rattle.routing.specs.Pieces.{candidates_of, IsPieceOf}
 use Rattle.routing.proofs.PieceLaws.{piece_of_all}
 use Rattle.chain_gather.specs.Gathered.{AreTileCandidates, IsOwn}
-use Rattle.chain_gather.proofs.Near.{in_same_box, one_candidates, one_rect}
+use Rattle.chain_gather.proofs.Boxes.{in_same_box}
+use Rattle.chain_gather.proofs.Near.{one_candidates, one_rect}
 
 abbrev pub same_rect : Rect → Rect → Bool
 same_rect r q = same_point r.lo q.lo && same_point r.hi q.hi

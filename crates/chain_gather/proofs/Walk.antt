@@ -1,5 +1,5 @@
 -- The walk from records to links, and from links to the rounded edges.
-use Rattle.std.proofs.Common.{◌≡◌, ◌⊎◌, inl, inr, ℕ, ◌+◌, ◌-◌, ◌<◌, ◌≤◌, List, [], ◌∷◌, ◌++◌, Bool, true, false, cond, refl, sym, ◌∙◌, ap, arith, subst, length, get_or, take, ⊎_elim}
+use Rattle.std.proofs.Common.{◌≡◌, ◌⊎◌, inl, inr, ℕ, ◌+◌, ◌-◌, ◌<◌, ◌≤◌, ◌^◌, List, [], ◌∷◌, ◌++◌, Bool, true, false, cond, refl, sym, ◌∙◌, ap, arith, subst, length, get_or, take, ⊎_elim}
 use Rattle.std.specs.Prelude.{All, Contains, Option, Some, count_by, slice_get, ◌&&◌, ◌||◌}
 use Rattle.std.proofs.lemmas.List.{take_more}
 use Rattle.std.proofs.lemmas.List.Elements.{Contains-get_or}
@@ -23,7 +23,7 @@ use Rattle.routing.specs.declared.record.Record.{Record}
 use Rattle.routing.specs.Steps.{steps_to}
 use Rattle.routing.specs.Pieces.{IsRecord}
 use Rattle.chain_gather.specs.declared.link.Link.{Link}
-use Rattle.chain_gather.specs.Links.{IsRecordBefore, AreRecords, AreApart, layer_at, record_pairs, makes, same_edge, is_of, count_links, AreCounts}
+use Rattle.chain_gather.specs.Links.{IsRecordBefore, AreRecords, AreApart, AreLinks, layer_at, record_pairs, makes, same_edge, is_of, count_links, AreCounts}
 use Rattle.chain_gather.proofs.Flat.{layer_at_is, routes_from, routes_of_records, count_is}
 
 some_same : {s t : Seg} {o : Option Seg} → o ≡ Some s → o ≡ Some t → s ≡ t
@@ -94,21 +94,24 @@ records_apart segments records h = λ i j d a b e f. step (get_or records i d) (
         let m : r.steps ≡ q.steps = u.steps_are ∙ t ∙ sym v.steps_are in
         omega arith
 
--- the counts of the links are those of the routes
-pub rounded_are : (segments : List Seg) (records : List Record) (links : List Link) (counted : List Counted) → AreRecords segments records
-    → ((e : Edge) (layer : Source) → count_links e layer links ≡ count_by (makes (layer_at segments) e layer) (record_pairs records)) → AreCounts links counted → AreRounded segments counted
-rounded_are segments records links counted h same counts = record {
+-- links that are counted as the neighbours among records are those of the routes
+pub links_are : (segments : List Seg) (records : List Record) (links : List Link) → AreRecords segments records → length links < 2 ^ 32
+    → ((e : Edge) (layer : Source) → count_links e layer links ≡ count_by (makes (layer_at segments) e layer) (record_pairs records)) → AreLinks segments links
+links_are segments records links h few same = record {
+  few = few;
   routes = routes_from 0 segments records;
   are_routes = routes_of_records segments records h;
-  ascending = counts.ascending;
-  exact = λ c. (to c, from c);
+  count_is = λ e layer. same e layer ∙ sym (count_is segments records h e layer);
 }
-  where
-    of_edge : (e : Edge) (layer : Source) → count layer e segments (routes_from 0 segments records) ≡ count_links e layer links
-    of_edge e layer = count_is segments records h e layer ∙ sym (same e layer)
 
-    to : (c : Counted) → Contains counted c → (count A c.edge segments (routes_from 0 segments records) ≡ c.in_a) × (count B c.edge segments (routes_from 0 segments records) ≡ c.in_b) × (0 < c.in_a + c.in_b)
-    to c k = let (a, b, p) = (counts.exact c).0 k in (of_edge c.edge A ∙ a, of_edge c.edge B ∙ b, p)
-
-    from : (c : Counted) → (count A c.edge segments (routes_from 0 segments records) ≡ c.in_a) × (count B c.edge segments (routes_from 0 segments records) ≡ c.in_b) × (0 < c.in_a + c.in_b) → Contains counted c
-    from c (a, b, p) = (counts.exact c).1 (sym (of_edge c.edge A) ∙ a, sym (of_edge c.edge B) ∙ b, p)
+-- the counts of the links are those of the edges
+pub rounded_are : (segments : List Seg) (links : List Link) (counted : List Counted) → AreLinks segments links → AreCounts links counted → AreRounded segments counted
+rounded_are segments links counted h counts = record {
+  routes = h.routes;
+  are_routes = h.are_routes;
+  ascending = counts.ascending;
+  exact = λ c. (
+    (λ k. let (a, b, p) = (counts.exact c).0 k in (sym (h.count_is c.edge A) ∙ a, sym (h.count_is c.edge B) ∙ b, p)),
+    (λ (a, b, p). (counts.exact c).1 (h.count_is c.edge A ∙ a, h.count_is c.edge B ∙ b, p)),
+  );
+}

@@ -24,16 +24,24 @@ corners b = (b.lo, b.hi)
 abbrev pub box_corners : Seg → Pt × Pt
 box_corners s = (least_corner s.a s.b, greatest_corner s.a s.b)
 
--- the least boxes of the segments, in their order
-abbrev pub AreBoxesOf : List Seg → List Rect → Type 0
-AreBoxesOf segments boxes = map corners boxes ≡ map box_corners segments
+-- the boxes are those of the items, in their order: box gives the two corners of an item's
+abbrev pub AreBoxesBy : {X : Type 0} → (X → Pt × Pt) → List X → List Rect → Type 0
+AreBoxesBy box items boxes = map corners boxes ≡ map box items
 
--- the bins are those of the segments' boxes over the grid
-pub record AreBinsOf (g : Tiling) (segments : List Seg) (bins : Binned) : Type 0 where
+-- the bins are those of the items' boxes over the grid
+pub record AreBinsBy {X : Type 0} (box : X → Pt × Pt) (g : Tiling) (items : List X) (bins : Binned) : Type 0 where
   pub grid_is : bins.grid ≡ g
   pub boxes : List Rect
-  pub are_boxes : AreBoxesOf segments boxes
+  pub are_boxes : AreBoxesBy box items boxes
   pub indexed : AreIndexed boxes bins.items
+
+-- the least boxes of the segments, in their order
+abbrev pub AreBoxesOf : List Seg → List Rect → Type 0
+AreBoxesOf segments boxes = AreBoxesBy box_corners segments boxes
+
+-- the bins are those of the segments' boxes over the grid
+abbrev pub AreBinsOf : Tiling → List Seg → Binned → Type 0
+AreBinsOf g segments bins = AreBinsBy box_corners g segments bins
 
 -- every point of each segment's box has a tile
 abbrev pub HaveTiles : Tiling → List Seg → Type 0

@@ -1,12 +1,14 @@
 -- Records of all segments in order, links between neighbours of one segment, and how often each edge is a link (own).
-use Rattle.std.specs.Prelude.{◌≡◌, ◌≢◌, ◌⊎◌, ◌↔◌, ℕ, ◌+◌, ◌<◌, ◌==◌, Bool, ◌&&◌, List, [], ◌∷◌, AllPairs, Contains, count_by, map, slice_index_or}
+use Rattle.std.specs.Prelude.{◌≡◌, ◌≢◌, ◌⊎◌, ◌↔◌, ℕ, ◌+◌, ◌<◌, ◌^◌, ◌==◌, Bool, ◌&&◌, List, [], ◌∷◌, AllPairs, Contains, count_by, length, map, slice_index_or}
+use Rattle.geom.specs.declared.point.Pt.{Pt}
 use Rattle.geom.specs.declared.segment.Source.{Source}
 use Rattle.geom.specs.declared.segment.Source.TheVariants.{A, B}
 use Rattle.geom.specs.declared.segment.Seg.{Seg}
 use Rattle.geom.specs.declared.edge.Edge.{Edge}
 use Rattle.geom.specs.declared.edge.Counted.{Counted}
 use Rattle.geom.specs.Segments.{same_point, same_source}
-use Rattle.geom.specs.Rounded.{IsEdgeBefore, joins}
+use Rattle.geom.specs.Rounded.{IsEdgeBefore, count, joins}
+use Rattle.geom.specs.Route.{AreRoutes}
 use Rattle.routing.specs.declared.record.Record.{Record}
 use Rattle.routing.specs.Pieces.{IsRecord}
 use Rattle.chain_gather.specs.declared.link.Link.{Link}
@@ -52,6 +54,13 @@ record_pairs (r ∷ q ∷ rs) = (r, q) ∷ record_pairs (q ∷ rs)
 -- the pair is a link of the edge and the layer
 abbrev pub makes : (ℕ → Source) → Edge → Source → Record × Record → Bool
 makes layers e layer pair = (pair.0.segment == pair.1.segment) && (joins e (pair.0.pixel, pair.1.pixel) && same_source (layers pair.0.segment) layer)
+
+-- each edge is a link of a layer as often as its ends are neighbours in the routes of the layer's segments
+pub record AreLinks (segments : List Seg) (links : List Link) : Type 0 where
+  pub few : length links < 2 ^ 32
+  pub routes : List (List Pt)
+  pub are_routes : AreRoutes segments segments routes
+  pub count_is : (e : Edge) (layer : Source) → count_links e layer links ≡ count layer e segments routes
 
 -- each edge among the links, once and ascending, with its counts
 pub record AreCounts (links : List Link) (counted : List Counted) : Type 0 where

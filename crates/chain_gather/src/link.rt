@@ -4,9 +4,9 @@ ghost use Rattle.std.specs.Prelude.{ℕ, ◌≡◌, ◌≢◌, ◌+◌, ◌<◌,
 ghost use Rattle.geom.specs.declared.edge.Edge.{Edge};
 ghost use Rattle.geom.specs.declared.segment.Source.{Source};
 ghost use Rattle.geom.specs.Segments.{same_source};
-ghost use Rattle.chain_gather.specs.Links.{AreCounts, AreApart, count_links, layer_at, makes, record_pairs};
+ghost use Rattle.chain_gather.specs.Links.{AreApart, AreCounts, AreLinks, AreRecords, count_links, layer_at, makes, record_pairs};
 
-use crate::sorter::Sorter;
+use crate::hands::Hands;
 use geom::{Counted, Edge, NoMemory, Pt, Seg, Source};
 use routing::Record;
 use std::alloc::Allocator;
@@ -65,8 +65,8 @@ fn edge_between(c: Pt, d: Pt) -> Edge
     }
 }
 
-/// The links of records in order.
-pub(crate) fn links<A: Allocator>(
+/// The links between neighbours among records.
+fn neighbour_links<A: Allocator>(
     alloc: A,
     segments: &[Seg],
     records: &[Record],
@@ -74,8 +74,7 @@ pub(crate) fn links<A: Allocator>(
     requires below { All (λ r. r.segment < length segments.now) records.now }
     requires apart { AreApart records.now }
     requires short { length records.now < 2 ^ 32 }
-    ensures short { IfOk result (λ v. length v.items < 2 ^ 32) }
-    ensures counts { IfOk result (λ v. (e : Edge) (layer : Source) → count_links e layer v.items ≡ count_by (makes (layer_at segments.now) e layer) (record_pairs records.now)) }
+    ensures { IfOk result (λ v. (length v.items < 2 ^ 32) × ((e : Edge) (layer : Source) → count_links e layer v.items ≡ count_by (makes (layer_at segments.now) e layer) (record_pairs records.now))) }
 {
     let mut list = Vec::new(alloc);
     for i in 1..records.len() {
@@ -90,6 +89,21 @@ pub(crate) fn links<A: Allocator>(
     Ok(list)
 }
 
+/// The links of the records of all routes. More than a `u32` counts are refused as want of memory.
+pub(crate) fn links<A: Allocator>(
+    alloc: A,
+    segments: &[Seg],
+    records: &[Record],
+) -> Result<Vec<Link, A>, NoMemory>
+    requires { ∥ AreRecords segments.now records.now ∥₁ }
+    ensures { IfOk result (λ v. ∥ AreLinks segments.now v.items ∥₁) }
+{
+    if records.len() > u32::MAX as usize {
+        return Err(NoMemory);
+    }
+    neighbour_links(alloc, segments, records)
+}
+
 /// Adds an edge whose links are all counted.
 fn add_counted<A: Allocator>(list: &mut Vec<Counted, A>, counted: Counted) -> Result<(), NoMemory>
     ensures { OnOk result (list.new.items ≡ list.old.items ++ counted ∷ []) }
@@ -99,16 +113,16 @@ fn add_counted<A: Allocator>(list: &mut Vec<Counted, A>, counted: Counted) -> Re
 }
 
 /// Each edge among the links, ascending, with its counts.
-pub(crate) fn counts<S: Sorter, A: Allocator + Copy>(
+pub(crate) fn counts<H: Hands, A: Allocator + Copy>(
     alloc: A,
-    sorter: &S,
+    hands: &H,
     mut links: Vec<Link, A>,
 ) -> Result<Vec<Counted, A>, NoMemory>
-    requires ready { S.ready sorter.now }
+    requires ready { H.ready hands.now }
     requires short { length links.items < 2 ^ 32 }
     ensures { IfOk result (λ v. AreCounts links.items v.items) }
 {
-    sorter.sort_links(links.as_mut_slice());
+    hands.sort_links(links.as_mut_slice());
     let mut list = Vec::new(alloc);
     let Some(first) = links.first() else {
         return Ok(list);

@@ -1,12 +1,12 @@
 //! How many hot pixels and how many records each tile of a grid has, wherever they were found.
 //!
-//! 1. The hot pixels are counted in the tiles that own them (`tile_counts`), and so are the records, by their pixels.
-//! 2. Both counts of a tile are its numbers (`tile_numbers`).
+//! 1. The hot pixels are counted in the tiles that own them, and so are the records, by their pixels (`count_both`).
+//! 2. Both counts of a tile are its numbers (`paired`).
 
-ghost use Rattle.std.specs.Prelude.{◌≡◌, ◌≢◌, All, AllPairs, IfOk, length};
+ghost use Rattle.std.specs.Prelude.{◌≡◌, ◌≢◌, All, AllPairs, IfOk, OnOk, length, replicate};
 ghost use Rattle.geom.specs.declared.point.Pt.{Pt};
-ghost use Rattle.tiling.specs.Tiles.{HasTile};
-ghost use Rattle.chain_gather.specs.Numbers.{AreTileCounts, AreNumbersOf, ArePaired};
+ghost use Rattle.tiling.specs.Tiles.{HasTile, tile_count};
+ghost use Rattle.chain_gather.specs.Numbers.{ArePaired, AreTileCounts, MayCount};
 
 use crate::rounded::TileNumbers;
 use geom::{NoMemory, Pt};
@@ -39,17 +39,13 @@ impl AtPixel for Record {
     }
 }
 
-/// How many of some items each tile has. More than a `u32` counts are refused as want of memory.
-fn tile_counts<X: AtPixel, A: Allocator>(
-    alloc: A,
-    grid: &Grid,
-    items: &[X],
-) -> Result<Vec<u32, A>, NoMemory>
+/// Counts in each tile how many of some items it has. More than a `u32` counts are refused as want of memory.
+fn count_by_tile<X: AtPixel>(grid: &Grid, items: &[X], counts: &mut [u32]) -> Result<(), NoMemory>
     requires tiles { All (λ x. HasTile grid.now (X.pixel_of x)) items.now }
     requires once { AllPairs (λ x y. x ≢ y) items.now }
-    ensures { IfOk result (λ v. AreTileCounts grid.now X.pixel_of items.now v.items) }
+    requires none { counts.old ≡ replicate (tile_count grid.now) 0 }
+    ensures { OnOk result (AreTileCounts grid.now X.pixel_of items.now counts.new) }
 {
-    let mut counts = vec![in alloc; 0u32; grid.tiles() as usize]?;
     for item in items {
         let tile = grid.tile_of(item.pixel()) as usize;
         let Some(count) = counts[tile].checked_add(1) else {
@@ -57,11 +53,11 @@ fn tile_counts<X: AtPixel, A: Allocator>(
         };
         counts[tile] = count;
     }
-    Ok(counts)
+    Ok(())
 }
 
 /// Two counts of each tile.
-fn paired<A: Allocator>(
+pub(crate) fn paired<A: Allocator>(
     alloc: A,
     hot: &[u32],
     records: &[u32],
@@ -79,20 +75,18 @@ fn paired<A: Allocator>(
     Ok(tiles)
 }
 
-/// The numbers of the tiles of a grid: how many of the hot pixels and how many of the records each has.
-pub(crate) fn tile_numbers<A: Allocator + Copy>(
-    alloc: A,
+/// Counts in each tile how many of the hot pixels and how many of the records it has.
+pub(crate) fn count_both(
     grid: &Grid,
     pixels: &[Pt],
     records: &[Record],
-) -> Result<Vec<TileNumbers, A>, NoMemory>
-    requires pixels_in { All (λ p. HasTile grid.now p) pixels.now }
-    requires pixels_once { AllPairs (λ p q. p ≢ q) pixels.now }
-    requires records_in { All (λ r. HasTile grid.now r.pixel) records.now }
-    requires records_once { AllPairs (λ r q. r ≢ q) records.now }
-    ensures { IfOk result (λ tiles. AreNumbersOf grid.now pixels.now records.now tiles.items) }
+    hot: &mut [u32],
+    found: &mut [u32],
+) -> Result<(), NoMemory>
+    requires may { MayCount grid.now pixels.now records.now }
+    requires none { (hot.old ≡ replicate (tile_count grid.now) 0) × (found.old ≡ replicate (tile_count grid.now) 0) }
+    ensures { OnOk result (AreTileCounts grid.now (λ p. p) pixels.now hot.new × AreTileCounts grid.now (λ r. r.pixel) records.now found.new) }
 {
-    let hot = tile_counts(alloc, grid, pixels)?;
-    let found = tile_counts(alloc, grid, records)?;
-    paired(alloc, &hot, &found)
+    count_by_tile(grid, pixels, hot)?;
+    count_by_tile(grid, records, found)
 }

@@ -11,16 +11,17 @@ ghost use Rattle.tiling.specs.Tiles.{tile_count, Owns};
 ghost use Rattle.hot_pixel.specs.Candidates.{AreCandidates};
 ghost use Rattle.routing.specs.Pieces.{candidates_of};
 ghost use Rattle.chain_gather.specs.Gathered.{AreBinsOf, AreGathered, AreTileCandidates, AreTileNumbers, HasPartsBelow, HaveTiles, HoldsOwn, IsCountBelow};
-ghost use Rattle.chain_gather.specs.Links.{AreRecords, HasRecords};
+ghost use Rattle.chain_gather.specs.Links.{AreLinks, AreRecords, HasRecords};
+ghost use Rattle.chain_gather.specs.Numbers.{AreNumbersOf, MayCount};
 ghost use Rattle.tile_book.specs.Books.{StandInOrder};
 
-use crate::edges::rounded_edges;
-use crate::numbers::tile_numbers;
+use crate::hands::{Hands, OneThread};
+use crate::link::{Link, counts, links};
+use crate::numbers::paired;
 use crate::own::own_piece;
 use crate::rounded::{Rounded, TileNumbers};
-use crate::sorter::{OneThread, Sorter};
 use crate::tile_piece::{TilePiece, Tiled};
-use geom::{NoMemory, Seg};
+use geom::{NoMemory, Pt, Seg};
 use routing::{Part, Piece, Record, piece};
 use std::alloc::Allocator;
 use tile_book::{Book, Limited};
@@ -144,22 +145,24 @@ pub fn gather<L: Limited, A: Allocator + Copy>(
     } = all_tiles(alloc, &book, grid, bins, segments)?;
     drop(book);
     let records = in_order(&OneThread, records);
-    rounded_of(alloc, &OneThread, segments, records, tiles, remade)
+    let list = links(alloc, segments, &records)?;
+    drop(records);
+    rounded_of(alloc, &OneThread, segments, list, tiles, remade)
 }
 
 /// As `gather`, of the pieces of all cells in their order, which are known to be those of the segments over these cells:
 /// nothing is binned, compared or made anew. The cells needn't be the tiles of the grid, whose numbers are counted from what
 /// the pieces have.
-pub fn gather_made<T: Tiled, S: Sorter, A: Allocator + Copy>(
+pub fn gather_made<T: Tiled, H: Hands, A: Allocator + Copy>(
     alloc: A,
-    sorter: &S,
+    hands: &H,
     pieces: Vec<TilePiece<T, A>, A>,
     remade: u32,
     cells: &Grid,
     grid: &Grid,
     segments: &[Seg],
 ) -> Result<Rounded<A>, NoMemory>
-    requires ready { S.ready sorter.now }
+    requires ready { H.ready hands.now }
     requires cells { cells.now ≡ T.grid }
     requires segments { segments.now ≡ T.segments }
     requires covered_by_cells { HaveTiles cells.now segments.now }
@@ -174,9 +177,11 @@ pub fn gather_made<T: Tiled, S: Sorter, A: Allocator + Copy>(
 {
     let Part { pixels, records } = all_made(alloc, &pieces)?;
     drop(pieces);
-    let records = in_order(sorter, records);
-    let tiles = tile_numbers(alloc, grid, &pixels, &records)?;
-    rounded_of(alloc, sorter, segments, records, tiles, remade)
+    let records = in_order(hands, records);
+    let (tiles, list) = counted_and_linked(alloc, hands, grid, segments, &pixels, &records)?;
+    drop(pixels);
+    drop(records);
+    rounded_of(alloc, hands, segments, list, tiles, remade)
 }
 
 /// The hot pixels and the records of pieces that stand in the order of their cells.
@@ -196,37 +201,65 @@ fn all_made<T: Tiled, A: Allocator + Copy>(
     Ok(Part { pixels, records })
 }
 
+/// The numbers of the tiles of a grid, and the links of the records of all routes.
+fn counted_and_linked<H: Hands, A: Allocator + Copy>(
+    alloc: A,
+    hands: &H,
+    grid: &Grid,
+    segments: &[Seg],
+    pixels: &[Pt],
+    records: &[Record],
+) -> Result<(Vec<TileNumbers, A>, Vec<Link, A>), NoMemory>
+    requires ready { H.ready hands.now }
+    requires may { MayCount grid.now pixels.now records.now }
+    requires records { ∥ AreRecords segments.now records.now ∥₁ }
+    ensures numbers { IfOk result (λ r. AreNumbersOf grid.now pixels.now records.now r.0.items) }
+    ensures links { IfOk result (λ r. ∥ AreLinks segments.now r.1.items ∥₁) }
+{
+    let mut hot = vec![in alloc; 0u32; grid.tiles() as usize]?;
+    let mut found = vec![in alloc; 0u32; grid.tiles() as usize]?;
+    let (counted, list) = hands.count_and_link(
+        alloc,
+        grid,
+        segments,
+        pixels,
+        records,
+        hot.as_mut_slice(),
+        found.as_mut_slice(),
+    );
+    counted?;
+    let tiles = paired(alloc, &hot, &found)?;
+    Ok((tiles, list?))
+}
+
 /// Records in order, each once.
-fn in_order<S: Sorter, A: Allocator>(sorter: &S, mut records: Vec<Record, A>) -> Vec<Record, A>
-    requires { S.ready sorter.now }
+fn in_order<H: Hands, A: Allocator>(hands: &H, mut records: Vec<Record, A>) -> Vec<Record, A>
+    requires { H.ready hands.now }
     ensures { (segments : List Seg) → HasRecords segments records.items → AreRecords segments result.items }
 {
-    sorter.sort_records(records.as_mut_slice());
+    hands.sort_records(records.as_mut_slice());
     records.dedup();
     records
 }
 
-/// The rounded edges, by the records of all segments.
-fn rounded_of<S: Sorter, A: Allocator + Copy>(
+/// The rounded edges, by the links of all segments.
+fn rounded_of<H: Hands, A: Allocator + Copy>(
     alloc: A,
-    sorter: &S,
+    hands: &H,
     segments: &[Seg],
-    records: Vec<Record, A>,
+    list: Vec<Link, A>,
     tiles: Vec<TileNumbers, A>,
     remade: u32,
 ) -> Result<Rounded<A>, NoMemory>
-    requires ready { S.ready sorter.now }
-    requires records { ∥ AreRecords segments.now records.items ∥₁ }
+    requires ready { H.ready hands.now }
+    requires links { ∥ AreLinks segments.now list.items ∥₁ }
     ensures rounded { IfOk result (λ r. ∥ AreRounded segments.now r.edges.items ∥₁) }
     ensures noded { IfOk result (λ r. IsNoded (edges_of r.edges.items)) }
     ensures even { IfOk result (λ r. (layer : Source) → AreClosed layer segments.now → HasEvenDegrees (odd_edges layer r.edges.items)) }
     ensures tiles { IfOk result (λ r. r.tiles.items ≡ tiles.items) }
     ensures remade { IfOk result (λ r. r.remade ≡ remade) }
 {
-    if records.len() > u32::MAX as usize {
-        return Err(NoMemory);
-    }
-    let edges = rounded_edges(alloc, sorter, segments, records)?;
+    let edges = counts(alloc, hands, list)?;
     Ok(Rounded {
         edges,
         tiles,

@@ -80,6 +80,14 @@ said_before x y b e =
     tell Equal Equal h k = λ p. ⊎_elim (λ l. edge_before_itself y.0 (subst (λ (e : Edge). IsEdgeBefore e y.0) h l)) (λ (s, l). edge_before_itself y.1 (subst (λ (e : Edge). IsEdgeBefore e y.1) k l)) p
     tell Equal Greater h k = λ p. ⊎_elim (λ l. edge_before_itself y.0 (subst (λ (e : Edge). IsEdgeBefore e y.0) h l)) (λ (s, l). not_after x.1 y.1 k l) p
 
+-- which of two pairs is the lesser one
+module _ (x y : Edge × Edge) (b : Bool) (is : b ≡ is_some_and is_lt (partial_ordering_then (partial_edge_cmp y.0 x.0) (partial_edge_cmp y.1 x.1))) where
+  pub lesser_second : b ≡ true → IsLesser (Some x) (Some y) (Some y)
+  lesser_second e = inr (refl, subst (λ (a : Bool). MatchBool a (IsPairBefore y.0 y.1 x.0 x.1) (¬ (IsPairBefore y.0 y.1 x.0 x.1))) e (said_before y x b is))
+
+  pub lesser_first : b ≡ false → IsLesser (Some x) (Some y) (Some x)
+  lesser_first e = inl (refl, subst (λ (a : Bool). MatchBool a (IsPairBefore y.0 y.1 x.0 x.1) (¬ (IsPairBefore y.0 y.1 x.0 x.1))) e (said_before y x b is))
+
 -- ---- the lesser of two least pairs
 module _ (P Q : Edge → Edge → Type 0) where
   Either : Edge → Edge → Type 0

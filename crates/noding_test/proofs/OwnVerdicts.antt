@@ -1,9 +1,9 @@
 -- Which verdicts were made from what their tiles have.
-use Rattle.std.proofs.Common.{◌≡◌, Bool, true, false, MatchBool, ℕ, zero, suc, ◌+◌, ◌<◌, List, [], ◌∷◌, ◌++◌, refl, sym, ◌∙◌, ap, arith, subst, length, get_or, take, ◌↔◌, ⊎_elim}
+use Rattle.std.proofs.Common.{◌≡◌, Bool, true, false, MatchBool, ℕ, ◌+◌, ◌<◌, List, refl, sym, ◌∙◌, ap, arith, subst, length, get_or, take, ◌↔◌, ⊎_elim}
 use Rattle.std.proofs.Math.Logic.{∥∥₁_map}
+use Rattle.std.specs.Option.{option_map}
 use Rattle.std.specs.Prelude.{All, IsTrue, Some, slice_get}
-use Rattle.std.proofs.lemmas.List.{take_more}
-use Rattle.std.proofs.lemmas.Option.{slice_get_cases, slice_get_read}
+use Rattle.std.proofs.lemmas.Option.{slice_get_cases}
 use Rattle.geom.specs.declared.point.Pt.{Pt}
 use Rattle.geom.specs.declared.rect.Rect.{Rect}
 use Rattle.geom.specs.declared.edge.Edge.{Edge}
@@ -13,53 +13,30 @@ use Rattle.geom.specs.Rounded.{edges_of}
 use Rattle.geom.proofs.Points.{both_and}
 use Rattle.tiling.specs.Tiles.{Tiling, Owns}
 use Rattle.hot_pixel.specs.Rects.{IsIn}
-use Rattle.chain_gather.proofs.Near.{in_same_box, one_rect}
+use Rattle.chain_gather.proofs.Boxes.{in_same_box}
+use Rattle.chain_gather.proofs.Near.{one_rect}
 use Rattle.chain_gather.proofs.OwnLaws.{same_rect, same_point_path}
+use Rattle.chain_gather.proofs.Picked.{AllPick, picked_differs, picked_more}
 use Rattle.noding_test.specs.declared.verdicts.Verdict.{Verdict}
-use Rattle.noding_test.specs.Verdicts.{chosen_edges, AreNear, IsLeastPair, IsOwnBad}
+use Rattle.noding_test.specs.Verdicts.{chosen_edges, edge_at, AreNear, IsLeastPair, IsOwnBad}
 use Rattle.noding_test.specs.Passes.{IsOwnVerdict}
-use Rattle.noding_test.proofs.NearEdges.{chosen_more, first_chosen, least_by, same_bad}
-use Rattle.noding_test.proofs.VerdictLaws.{some_same}
+use Rattle.noding_test.proofs.NearEdges.{least_by, same_bad}
 
 -- ---- the edges of some numbers
-abbrev AreBelow : List Counted → List ℕ → Type 0
-AreBelow counted numbers = All (λ n. n < length counted) numbers
+-- the edge of a number
+edge_is : (counted : List Counted) (n : ℕ) (c : Counted) → slice_get counted n ≡ Some c → edge_at counted n ≡ Some c.edge
+edge_is counted n c e = ap (option_map (λ (d : Counted). d.edge)) e
 
-below_rest : (counted : List Counted) (n : ℕ) (ns : List ℕ) → AreBelow counted (n ∷ ns) → AreBelow counted ns
-below_rest counted n ns h = λ k d l. h (suc k) d (omega arith)
-
-item_of : (counted : List Counted) (n : ℕ) → n < length counted → (c : Counted) × (slice_get counted n ≡ Some c)
-item_of counted n l = ⊎_elim (λ p. (p.0, p.2)) (λ p. absurd (let h = p.0 in omega arith)) (slice_get_cases counted n).1
-
--- as many edges as numbers
-pub length_chosen : (counted : List Counted) (numbers : List ℕ) → All (λ n. n < length counted) numbers → length (chosen_edges counted numbers) ≡ length numbers
-length_chosen counted [] h = refl
-length_chosen counted (n ∷ ns) h =
-    let (c, e) = item_of counted n (h 0 n (omega arith)) in
-    ap length (first_chosen counted n ns c e) ∙ ap suc (length_chosen counted ns (below_rest counted n ns h))
-
--- the edge of each number
-chosen_listed : (counted : List Counted) (numbers : List ℕ) → All (λ n. n < length counted) numbers → (i n : ℕ) (c : Counted) → i < length numbers → n ≡ get_or numbers i n → slice_get counted n ≡ Some c
-    → slice_get (chosen_edges counted numbers) i ≡ Some c.edge
-chosen_listed counted [] h i n c l e at = absurd (omega arith)
-chosen_listed counted (m ∷ ms) h zero n c l e at =
-    let f : slice_get counted m ≡ Some c = subst (λ (k : ℕ). slice_get counted k ≡ Some c) e at in
-    ap (λ (es : List Edge). slice_get es 0) (first_chosen counted m ms c f)
-chosen_listed counted (m ∷ ms) h (suc i) n c l e at =
-    let (d, f) = item_of counted m (h 0 m (omega arith)) in
-    ap (λ (es : List Edge). slice_get es (suc i)) (first_chosen counted m ms d f) ∙ chosen_listed counted ms (below_rest counted m ms h) i n c (omega arith) e at
+pub all_pick : (counted : List Counted) (numbers : List ℕ) → All (λ n. n < length counted) numbers → AllPick (edge_at counted) numbers
+all_pick counted numbers h = λ k d l. let n = get_or numbers k d in ⊎_elim (λ p. (p.0.edge, edge_is counted n p.0 p.2)) (λ p. absurd (let m = h k d l in let q = p.0 in omega arith)) (slice_get_cases counted n).1
 
 -- ---- one edge after another
 module _ (counted : List Counted) (numbers : List ℕ) (edges : List Edge) (i n : ℕ) (c : Counted) (x : Edge) (low : i < length numbers) (high : i < length edges) (number_is : n ≡ get_or numbers i n) (at : slice_get counted n ≡ Some c) (item_is : x ≡ get_or edges i x) where
   pub near_more : x ≡ c.edge → take i edges ≡ chosen_edges counted (take i numbers) → take (i + 1) edges ≡ chosen_edges counted (take (i + 1) numbers)
-  near_more e same =
-      take_more edges i x high ∙ ap (λ (y : Edge). take i edges ++ y ∷ []) (sym item_is ∙ e) ∙ ap (λ (es : List Edge). es ++ c.edge ∷ []) same ∙ sym (chosen_more counted numbers i n c low number_is at)
+  near_more = picked_more (edge_at counted) numbers edges i n c.edge x low high number_is (edge_is counted n c at) item_is
 
   pub near_differs : All (λ k. k < length counted) numbers → (x ≡ c.edge → ⊥) → edges ≡ chosen_edges counted numbers → ⊥
-  near_differs below fails same =
-      let a : slice_get edges i ≡ Some x = slice_get_read edges (length edges) i x refl high item_is in
-      let b : slice_get edges i ≡ Some c.edge = ap (λ (es : List Edge). slice_get es i) same ∙ chosen_listed counted numbers below i n c low number_is at in
-      fails (some_same a b)
+  near_differs below = picked_differs (edge_at counted) numbers edges i n c.edge x low high number_is (edge_is counted n c at) item_is (all_pick counted numbers below)
 
 -- ---- own verdicts
 module _ {A : Type 0} (g : Tiling) (k : ℕ) (counted : List Counted) (numbers : List ℕ) (verdict : Verdict A) (rect : Rect) (exact : (p : Pt) → IsInBox rect.lo rect.hi p ↔ Owns g k p) where

@@ -1,5 +1,5 @@
 -- The least bad pair over tiles (own).
-use Rattle.std.specs.Prelude.{◌≡◌, ◌↔◌, ◌⊎◌, ◌<◌, ℕ, List, Contains, Option, Some, None, map, slice_get}
+use Rattle.std.specs.Prelude.{◌≡◌, ◌↔◌, ◌⊎◌, ◌<◌, ℕ, List, Contains, Option, Some, None, slice_get}
 use Rattle.geom.specs.declared.point.Pt.{Pt}
 use Rattle.geom.specs.declared.rect.Rect.{Rect}
 use Rattle.geom.specs.declared.edge.Edge.{Edge}
@@ -9,10 +9,9 @@ use Rattle.geom.specs.declared.fault.Fault.TheVariants.{Memory, NotNoded}
 use Rattle.geom.specs.Box.{IsInBox, greatest_corner, least_corner}
 use Rattle.geom.specs.Noded.{IsLeastBad, IsPairBefore}
 use Rattle.tiling.specs.Bins.{Binned}
-use Rattle.tiling.specs.Index.{AreIndexed}
 use Rattle.tiling.specs.Tiles.{Tiling, Owns, HasTile}
 use Rattle.hot_pixel.specs.Rects.{IsIn}
-use Rattle.chain_gather.specs.Gathered.{corners}
+use Rattle.chain_gather.specs.Gathered.{AreBinsBy, AreBoxesBy}
 use Rattle.chain_gather.specs.declared.rounded.Rounded.{Rounded}
 use Rattle.noding_test.specs.declared.noded_edges.Noded.{Noded}
 use Rattle.noding_test.specs.declared.verdicts.Verdict.{Verdict}
@@ -46,14 +45,11 @@ edge_corners c = (least_corner c.edge.p c.edge.q, greatest_corner c.edge.p c.edg
 
 -- the least boxes of the edges, in their order
 abbrev pub AreBoxesOfEdges : List Counted → List Rect → Type 0
-AreBoxesOfEdges counted boxes = map corners boxes ≡ map edge_corners counted
+AreBoxesOfEdges counted boxes = AreBoxesBy edge_corners counted boxes
 
 -- the bins are those of the edges' boxes over the grid
-pub record AreBinsOfEdges (g : Tiling) (counted : List Counted) (bins : Binned) : Type 0 where
-  pub grid_is : bins.grid ≡ g
-  pub boxes : List Rect
-  pub are_boxes : AreBoxesOfEdges counted boxes
-  pub indexed : AreIndexed boxes bins.items
+abbrev pub AreBinsOfEdges : Tiling → List Counted → Binned → Type 0
+AreBinsOfEdges g counted bins = AreBinsBy edge_corners g counted bins
 
 -- ---- which verdicts of a book count
 

@@ -26,9 +26,13 @@ pub record IsOwnBad (Owned : Pt → Type 0) (edges : List Edge) (e f : Edge) : T
 abbrev pub IsLeastPair : (Edge → Edge → Type 0) → Option (Edge × Edge) → Type 0
 IsLeastPair P found = MatchOption found ((e f : Edge) → ¬ (P e f)) (λ pair. P pair.0 pair.1 × ((e f : Edge) → P e f → ¬ (IsPairBefore e f pair.0 pair.1)))
 
+-- the edge of this number
+abbrev pub edge_at : List Counted → ℕ → Option Edge
+edge_at counted k = option_map (λ c. c.edge) (slice_get counted k)
+
 -- the edges of these numbers
 abbrev pub chosen_edges : List Counted → List ℕ → List Edge
-chosen_edges counted numbers = filter_map (λ k. option_map (λ c. c.edge) (slice_get counted k)) numbers
+chosen_edges counted numbers = filter_map (edge_at counted) numbers
 
 -- numbers of edges, ascending, those of all edges whose box has a point that the tile owns among them
 pub record AreNear (g : Tiling) (k : ℕ) (counted : List Counted) (numbers : List ℕ) : Type 0 where

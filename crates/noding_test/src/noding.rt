@@ -62,40 +62,15 @@ pub fn noded<A: Allocator + Copy + Send + Sync, G: Gate + Sync, R: Threads + Wai
     ensures { MatchResult result (IsAllOf rounded) (IsTestFault (edges_of rounded.edges.items)) }
 {
     let blank = Blank::new(u64::from(workers));
-    by_tiles::<Brand, A, G, R>(rt, alloc, blank, rounded, grid, workers, gate)
-}
-
-/// The same, where a ledger of its own counts the verdicts that are posted.
-fn by_tiles<
-    L: Limited + Send + Sync,
-    A: Allocator + Copy + Send + Sync,
-    G: Gate + Sync,
-    R: Threads + Wait + Sync,
->(
-    rt: &R,
-    alloc: A,
-    blank: Blank,
-    rounded: Rounded<A>,
-    grid: &Grid,
-    workers: u32,
-    gate: &G,
-) -> Result<Noded<A>, Fault>
-    requires name { blank.name ≡ L.name }
-    requires parts { (blank.parts ≡ L.parts) × (blank.parts ≡ workers) }
-    requires limit { tile_count grid.now ≡ L.limit }
-    requires workers { (0 < workers) × (workers ≤ MOST_HANDS) }
-    requires limits { All (λ c. AreInLimit c.edge.p c.edge.q) rounded.edges.items }
-    requires covered { EdgesHaveTiles grid.now (edges_of rounded.edges.items) }
-    ensures { MatchResult result (IsAllOf rounded) (IsTestFault (edges_of rounded.edges.items)) }
-{
-    match least_bad_of::<L, A, G, R>(rt, alloc, blank, &rounded.edges, grid, workers, gate) {
+    match least_bad_of::<Brand, A, G, R>(rt, alloc, blank, &rounded.edges, grid, workers, gate) {
         Ok(None) => Ok(settled(rounded)),
         Ok(Some((e, f))) => Err(Fault::NotNoded(e, f)),
         Err(NoMemory) => Err(Fault::Memory),
     }
 }
 
-/// The least bad pair of ascending edges: the workers make the verdicts of the tiles.
+/// The least bad pair of ascending edges: the workers make the verdicts of the tiles, and a ledger of its own counts those that
+/// are posted.
 fn least_bad_of<
     L: Limited + Send + Sync,
     A: Allocator + Copy + Send + Sync,

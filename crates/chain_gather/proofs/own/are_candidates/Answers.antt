@@ -2,13 +2,15 @@ use Rattle.std.proofs.Common.{◌≡◌, ◌∙◌, ap, refl, sym, arith, get_or
 use Rattle.std.specs.Prelude.{slice_get}
 use Rattle.std.proofs.lemmas.List.{get_or_default}
 use Rattle.std.proofs.lemmas.Option.{slice_get_read}
-use Rattle.chain_gather.proofs.Chosen.{length_candidates, chosen_more, chosen_differs}
+use Rattle.routing.specs.Pieces.{candidate_at}
+use Rattle.chain_gather.proofs.Chosen.{all_pick, chosen_differs, chosen_more}
+use Rattle.chain_gather.proofs.Picked.{length_picked}
 use Rattle.chain_gather.proofs.own.are_candidates.Goals as goal
 
 pub returns-then-candidates-numbers : goal.returns-then-candidates-numbers
 returns-then-candidates-numbers c = (
   (λ h. absurd (cc)),
-  (λ e. absurd (c.if-candidates-numbers.true (ap length e ∙ length_candidates c.args.segments.now c.args.numbers.now c.requires))),
+  (λ e. absurd (c.if-candidates-numbers.true (ap length e ∙ length_picked (candidate_at c.args.segments.now) c.args.numbers.now (all_pick c.args.segments.now c.args.numbers.now c.requires)))),
 )
 
 pub returns-then-not-is_candidate : goal.returns-then-not-is_candidate

@@ -1,4 +1,4 @@
-use Rattle.std.proofs.Common.{◌≡◌, Some, arith, length, refl, subst, sym}
+use Rattle.std.proofs.Common.{◌≡◌, ◌<◌, ℕ, List, Some, arith, get_or, length, refl, subst, sym}
 use Rattle.std.specs.Prelude.{slice_get}
 use Rattle.std.proofs.lemmas.Option.{slice_get_read}
 use Rattle.geom.specs.declared.edge.Edge.{Edge}
@@ -9,14 +9,15 @@ use Rattle.noding_test.specs.Verdicts.{common_corner}
 use Rattle.noding_test.proofs.VerdictLaws.{none_beyond, none_more, some_same}
 use Rattle.noding_test.proofs.finding.partner.Goals as goal
 
+read : (edges : List Edge) (i : ℕ) (e : Edge) → i < length edges → e ≡ get_or edges i e → slice_get edges i ≡ Some e
+read edges i e = slice_get_read edges (length edges) i e refl
+
 pub returns-then-ends_before : goal.returns-then-ends_before
 returns-then-ends_before c =
     let edges = c.args.edges.now in
     let e = c.index-edges-place.result in
     let f = c.index-edges-other.result in
-    let at_e : slice_get edges c.args.place ≡ Some e = slice_get_read edges (length edges) c.args.place e refl c.requires.place c.index-edges-place.is in
-    let at_f : slice_get edges c.loop-other.other ≡ Some f = slice_get_read edges (length edges) c.loop-other.other f refl c.loop-other-test.true c.index-edges-other.is in
-    none_beyond edges c.requires.ascending (IsIn c.args.tile.now) c.args.place c.loop-other.other e f at_e at_f (c.ends_before.ensures.0 c.if-ends_before.true) c.loop-other.invariant
+    none_beyond edges c.requires.ascending (IsIn c.args.tile.now) c.args.place c.loop-other.other e f (read edges c.args.place e c.requires.place c.index-edges-place.is) (read edges c.loop-other.other f c.loop-other-test.true c.index-edges-other.is) (c.ends_before.ensures.0 c.if-ends_before.true) c.loop-other.invariant
 
 pub is_own_bad-requires-clause-e_in : goal.is_own_bad-requires-clause-e_in
 is_own_bad-requires-clause-e_in c =
@@ -33,13 +34,11 @@ returns-then-is_own_bad c =
     let edges = c.args.edges.now in
     let e = c.index-edges-place.result in
     let f = c.index-edges-other.result in
-    let at_e : slice_get edges c.args.place ≡ Some e = slice_get_read edges (length edges) c.args.place e refl c.requires.place c.index-edges-place.is in
-    let at_f : slice_get edges c.loop-other.other ≡ Some f = slice_get_read edges (length edges) c.loop-other.other f refl c.loop-other-test.true c.index-edges-other.is in
     record {
       place = c.loop-other.other;
       after = let h = c.loop-other.auto.other in omega arith;
-      is_at = at_f;
-      bad = λ g at_g. subst (λ (x : Edge). IsBad x f × IsIn c.args.tile.now (common_corner x f)) (some_same at_e at_g) c.if-is_own_bad.ensures;
+      is_at = read edges c.loop-other.other f c.loop-other-test.true c.index-edges-other.is;
+      bad = λ g at_g. subst (λ (x : Edge). IsBad x f × IsIn c.args.tile.now (common_corner x f)) (some_same (read edges c.args.place e c.requires.place c.index-edges-place.is) at_g) c.if-is_own_bad.ensures;
       first = c.loop-other.invariant;
     }
 
@@ -48,9 +47,7 @@ loop-other-preserved c =
     let edges = c.args.edges.now in
     let e = c.index-edges-place.result in
     let f = c.index-edges-other.result in
-    let at_e : slice_get edges c.args.place ≡ Some e = slice_get_read edges (length edges) c.args.place e refl c.requires.place c.index-edges-place.is in
-    let at_f : slice_get edges c.loop-other.other ≡ Some f = slice_get_read edges (length edges) c.loop-other.other f refl c.loop-other-test.true c.index-edges-other.is in
-    none_more edges c.requires.ascending (IsIn c.args.tile.now) c.args.place c.loop-other.other e f at_e at_f c.loop-other.invariant c.if-is_own_bad.ensures
+    none_more edges c.requires.ascending (IsIn c.args.tile.now) c.args.place c.loop-other.other e f (read edges c.args.place e c.requires.place c.index-edges-place.is) (read edges c.loop-other.other f c.loop-other-test.true c.index-edges-other.is) c.loop-other.invariant c.if-is_own_bad.ensures
 
 pub returns : goal.returns
 returns c = λ j e f l m a b. c.loop-other.invariant j e f l (let h = c.loop-other-test.false in omega arith) a b

@@ -1,8 +1,8 @@
 use Rattle.tiling.specs.Tiles.{tile_count}
 use Rattle.noding_test.proofs.noding.noded.Given as goal
 
-abbrev pub ghosts-by_tiles-L-Ledger : goal.ghosts-by_tiles-L-Ledger
-ghosts-by_tiles-L-Ledger g a = record { name = a.blank.name; parts = a.blank.parts }
+abbrev pub ghosts-least_bad_of-L-Ledger : goal.ghosts-least_bad_of-L-Ledger
+ghosts-least_bad_of-L-Ledger g a = record { name = a.blank.name; parts = a.blank.parts }
 
-abbrev pub ghosts-by_tiles-L-Limited : goal.ghosts-by_tiles-L-Limited
-ghosts-by_tiles-L-Limited g a = record { limit = tile_count a.grid.now }
+abbrev pub ghosts-least_bad_of-L-Limited : goal.ghosts-least_bad_of-L-Limited
+ghosts-least_bad_of-L-Limited g a = record { limit = tile_count a.grid.now }

@@ -4,13 +4,15 @@ use Rattle.std.proofs.lemmas.List.{get_or_default}
 use Rattle.std.proofs.lemmas.Option.{slice_get-get_or}
 use Rattle.geom.specs.declared.edge.Counted.{Counted}
 use Rattle.chain_gather.proofs.Tally.{ne_apart, ne_same}
-use Rattle.noding_test.proofs.OwnVerdicts.{length_chosen, near_more, near_differs}
+use Rattle.chain_gather.proofs.Picked.{length_picked}
+use Rattle.noding_test.specs.Verdicts.{edge_at}
+use Rattle.noding_test.proofs.OwnVerdicts.{all_pick, near_differs, near_more}
 use Rattle.noding_test.proofs.own.are_near.Goals as goal
 
 pub returns-then-edges-numbers : goal.returns-then-edges-numbers
 returns-then-edges-numbers c = (
   (λ h. absurd (cc)),
-  (λ e. absurd (c.if-edges-numbers.true (ap length e ∙ length_chosen c.args.counted.now c.args.numbers.now c.requires))),
+  (λ e. absurd (c.if-edges-numbers.true (ap length e ∙ length_picked (edge_at c.args.counted.now) c.args.numbers.now (all_pick c.args.counted.now c.args.numbers.now c.requires)))),
 )
 
 pub returns-then-ne : goal.returns-then-ne

@@ -4,7 +4,7 @@ use Rattle.geom.specs.declared.edge.Counted.{Counted}
 use Rattle.geom.specs.EdgeOrder.{IsEdgeBefore}
 use Rattle.geom.specs.Noded.{IsLeastBad, IsNoded}
 use Rattle.geom.specs.Rounded.{edges_of}
-use Rattle.noding_test.proofs.noding.by_tiles.Goals as goal
+use Rattle.noding_test.proofs.noding.noded.Goals as goal
 
 pub least_bad_of-requires-clause-ascending : goal.least_bad_of-requires-clause-ascending
 least_bad_of-requires-clause-ascending g c κs within = subst (λ (cs : List Counted). ∥ AllPairs (λ c d. IsEdgeBefore c.edge d.edge) cs ∥₁) (sym c.deref.ensures.value) c.args.rounded.ascending
