@@ -20,7 +20,7 @@ use Rattle.geom.proofs.OneRotation.{one_rotation}
 use Rattle.geom.proofs.Lists.{In, contains_in, in_contains, in_map, map_in}
 use Rattle.polygonize.specs.Grouped.{Group, members, shape_of, AreGrouped}
 use Rattle.polygonize.specs.Next.{ring_of}
-use Rattle.polygonize.specs.Placed.{PlacedRing, opening_of, IsPlaced, IsWrittenAmong}
+use Rattle.polygonize.specs.Placed.{PlacedRing, opening_of, IsPlaced, IsWrittenAmong, points}
 use Rattle.polygonize.proofs.TextOrder.{AreOne, AreEntries, IsEntry, entry, in_flat, one_shell, one_under, one_whole, owner_inside, owner_of, owner_shell, same_first, same_shell, written_edge}
 use Rattle.polygonize.proofs.Lists.{in_permutation}
 use Rattle.polygonize.proofs.Openings.{opening_before, same_numbers}
@@ -32,10 +32,6 @@ shells_meet : (t g h : PlacedRing) → PlaceLess t.place g.place → PlaceLess g
 shells_meet t g h (inr k) m e = sym e ∙ k.0
 shells_meet t g h (inl k) (inr m) e = sym m.0
 shells_meet t g h (inl k) (inl m) e = absurd (opening_one_way t.place.shell g.place.shell k (let P : _ → Type 0 = λ s. OpeningLess g.place.shell s in subst P (sym e) m))
-
--- the points of a written ring
-abbrev pub points : List DirectedEdge → PlacedRing → List Pt
-points ds w = ring_of ds w.ring
 
 no_rotation : (turned : List Pt) → IsLeastRotation [] turned → turned ≡ []
 no_rotation turned l = parts l.rotation.front l.rotation.back l.rotation.was l.rotation.is
@@ -80,7 +76,7 @@ module _ (ds : List DirectedEdge) (a : AreDirected ds) (rings : List (List Pt)) 
       p = written.placed h (hole_in g i h j)
 
       t : (s : PlacedRing) × IsEntry ds rings one (members gs) p.first s
-      t = entry ds rings one (members gs) written p.shell (owner_inside p.owner) (owner_shell p.owner) p.first p.is_first
+      t = entry ds rings one (members gs) written p.shell (owner_inside p.is_piece.owner) (owner_shell p.is_piece.owner) p.first p.is_first
 
       under : t.0.place.shell ≡ h.place.shell
       under = t.1.under ∙ sym p.under
@@ -120,7 +116,7 @@ module _ (ds : List DirectedEdge) (a : AreDirected ds) (rings : List (List Pt)) 
   -- ---- the polygon of a group
   piece_of : (g : Group PlacedRing) → In g gs → (p : IsPlaced ds rings g.shell) → (h : PlacedRing) → In h g.holes → IsPieceOf ds rings p.shell (points ds h) × (points ds h ≢ points ds g.shell)
   piece_of g i p h j = (
-    record { ring = q.ring; owner = (let P : List Pt → Type 0 = λ t. IsOwner ds rings q.ring t in subst P (same_shell ds rings one (members gs) written h g.shell (hole_in g i h j) (shell_in g i) q p (under_group g i h j)) q.owner); pieces = q.pieces; cut = q.cut; piece = q.piece; one = q.one; least = q.least },
+    (let P : List Pt → Type 0 = λ t. IsPieceOf ds rings t (points ds h) in subst P (same_shell ds rings one (members gs) written h g.shell (hole_in g i h j) (shell_in g i) q p (under_group g i h j)) q.is_piece),
     λ e. not_both h.place.is_hole (q.hole.1 (same_numbers ds h.ring g.shell.ring (written.canonical h (hole_in g i h j)).sound.vertices (written.canonical g.shell (shell_in g i)).sound.vertices e
         ∙ p.hole.0 (shells g i) ∙ sym (same_first ds rings one (members gs) written h g.shell (hole_in g i h j) (shell_in g i) q p (under_group g i h j)))) (holes g i h j),
   )
@@ -146,11 +142,11 @@ module _ (ds : List DirectedEdge) (a : AreDirected ds) (rings : List (List Pt)) 
       q : IsPlaced ds rings h
       q = written.placed h inside
 
-      ring_is : q.ring ≡ c.ring
-      ring_is = one_whole ds rings one q.ring c.ring (owner_of q.owner) (owner_of c.owner) q.pieces c.pieces q.cut c.cut q.piece c.piece q.one c.one h.ring (written.canonical h inside).sound.long q.least found.least
+      ring_is : q.is_piece.ring ≡ c.ring
+      ring_is = one_whole ds rings one q.is_piece.ring c.ring (owner_of q.is_piece.owner) (owner_of c.owner) q.is_piece.pieces c.pieces q.is_piece.cut c.cut q.is_piece.piece c.piece q.is_piece.one c.one h.ring (written.canonical h inside).sound.long q.is_piece.least found.least
 
       shell_is : q.shell ≡ p.shell
-      shell_is = one.owner c.ring q.shell p.shell (let P : List Pt → Type 0 = λ t. IsOwner ds rings t q.shell in subst P ring_is q.owner) c.owner
+      shell_is = one.owner c.ring q.shell p.shell (let P : List Pt → Type 0 = λ t. IsOwner ds rings t q.shell in subst P ring_is q.is_piece.owner) c.owner
 
       firsts : q.first ≡ p.first
       firsts = one_under ds rings one (members gs) written h g.shell q p shell_is
@@ -204,14 +200,14 @@ module _ (ds : List DirectedEdge) (a : AreDirected ds) (rings : List (List Pt)) 
       q : IsPlaced ds rings w.0
       q = written.placed w.0 w.1
 
-      ring_is : q.ring ≡ ring
-      ring_is = one.ring q.ring ring d.0 (owner_of q.owner) c (written_edge q.ring q.pieces q.piece (points ds w.0) q.cut q.one q.least d.0 w.2) d.1
+      ring_is : q.is_piece.ring ≡ ring
+      ring_is = one.ring q.is_piece.ring ring d.0 (owner_of q.is_piece.owner) c (written_edge q.is_piece.ring q.is_piece.pieces q.is_piece.piece (points ds w.0) q.is_piece.cut q.is_piece.one q.is_piece.least d.0 w.2) d.1
 
       shell_is : q.shell ≡ ring
-      shell_is = one.owner ring q.shell ring (let P : List Pt → Type 0 = λ t. IsOwner ds rings t q.shell in subst P ring_is q.owner) (itself c h)
+      shell_is = one.owner ring q.shell ring (let P : List Pt → Type 0 = λ t. IsOwner ds rings t q.shell in subst P ring_is q.is_piece.owner) (itself c h)
 
       s : (s : PlacedRing) × IsEntry ds rings one (members gs) q.first s
-      s = entry ds rings one (members gs) written q.shell (owner_inside q.owner) (owner_shell q.owner) q.first q.is_first
+      s = entry ds rings one (members gs) written q.shell (owner_inside q.is_piece.owner) (owner_shell q.is_piece.owner) q.first q.is_first
 
       m : (g : Group PlacedRing) × In g gs × In s.0 (g.shell ∷ g.holes)
       m = of_members gs s.0 s.1.inside
@@ -233,7 +229,7 @@ module _ (ds : List DirectedEdge) (a : AreDirected ds) (rings : List (List Pt)) 
   }
     where
       shells_polygon : (g : Group PlacedRing) → In g gs → IsShellsPolygon ds rings (shape_of (points ds) g)
-      shells_polygon g i = let p = written.placed g.shell (shell_in g i) in record { ring = p.shell; inside = owner_inside p.owner; is_shell = owner_shell p.owner; polygon_of = polygon g i p }
+      shells_polygon g i = let p = written.placed g.shell (shell_in g i) in record { ring = p.shell; inside = owner_inside p.is_piece.owner; is_shell = owner_shell p.is_piece.owner; polygon_of = polygon g i p }
 
 -- where the shapes are the groups of the sorted rings, they are the polygons
 pub assembled : (ds : List DirectedEdge) → AreDirected ds → (rings : List (List Pt)) → AreRings ds rings → AreOne ds rings → (ws : List PlacedRing) → AreEntries ds rings ws → (shapes : List Shape) → AreGrouped (λ w. w.place.is_hole) (points ds) ws shapes → ArePolygons ds shapes

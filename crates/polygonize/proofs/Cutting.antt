@@ -95,20 +95,17 @@ taken_off stack place new v k s at t = none (get_or new v None) (λ m e. gone m 
 pub cutting_all : (ring : List ℕ) (i : ℕ) (stack : List ℕ) (place : List (Option ℕ)) (pieces : List (List ℕ)) → length ring ≤ i → Cutting ring i stack place pieces → IsCut ring (pieces ++ stack ∷ [])
 cutting_all ring i stack place pieces h c = c.goes (stack ∷ []) (let P : List ℕ → Type 0 = λ t. IsCut t (stack ∷ []) in subst P (sym (ap (λ t. stack ++ t) (drop_of_length-le ring h) ∙ append-nil stack)) (whole (simple_stack stack place c.stacked)))
 
--- ---- the two ways through the loop's body, for a list of values that hold pieces
+-- ---- the two ways through the loop's body
 pub record Ready (ring : List ℕ) (i : ℕ) (stack : List ℕ) (place : List (Option ℕ)) (pieces : List (List ℕ)) (v : ℕ) : Type 0 where
   pub cutting : Cutting ring i stack place pieces
   pub free : get_or place v None ≡ None
 
-pub after_take : {V : Type 0} (f : V → List ℕ) (ring : List ℕ) (i : ℕ) (stack left : List ℕ) (place new : List (Option ℕ)) (vs more : List V) (p : V) (v k : ℕ) → i < length ring → v ≡ get_or ring i v → get_or place v None ≡ Some k
-    → left ≡ take k stack → f p ≡ drop k stack → more ≡ vs ++ p ∷ [] → AreStacked left new → Cutting ring i stack place (map f vs) → Ready ring i left new (map f more) v
-after_take f ring i stack left place new vs more p v k h is at l d m s c = record {
-  cutting = rw (l, m, map-append f vs (p ∷ []), d) (cutting_take ring i stack place new (map f vs) v k h is at below c);
+pub after_take : (ring : List ℕ) (i : ℕ) (stack left : List ℕ) (place new : List (Option ℕ)) (pieces more : List (List ℕ)) (p : List ℕ) (v k : ℕ) → i < length ring → v ≡ get_or ring i v → get_or place v None ≡ Some k
+    → left ≡ take k stack → p ≡ drop k stack → more ≡ pieces ++ p ∷ [] → AreStacked left new → Cutting ring i stack place pieces → Ready ring i left new more v
+after_take ring i stack left place new pieces more p v k h is at l d m s c = record {
+  cutting = rw (l, m, d) (cutting_take ring i stack place new pieces v k h is at below c);
   free = taken_off stack place new v k c.stacked at below;
 }
   where
     below : AreStacked (take k stack) new
     below = rw l at s
-
-pub at_end : {V : Type 0} (f : V → List ℕ) (ring : List ℕ) (i : ℕ) (p : V) (place : List (Option ℕ)) (vs : List V) → length ring ≤ i → Cutting ring i (f p) place (map f vs) → IsCut ring (map f (vs ++ p ∷ []))
-at_end f ring i p place vs h c = rw (map-append f vs (p ∷ [])) (cutting_all ring i (f p) place (map f vs) h c)

@@ -19,14 +19,14 @@ use Rattle.geom.specs.Directed.{IsDirectedBefore, AreDirected}
 use Rattle.polygonize.specs.Next.{nothing, edge_at, AreNext, ring_of}
 
 -- ---- the edges of a ring are those at its cycle's places
-one_dart : (ds : List DirectedEdge) (next : List ℕ) → AreNext ds next → (x z : ℕ) → x < length next → Leads next (x, z) → from_to (edge_at ds x).from (edge_at ds z).from ≡ edge_at ds x
-one_dart ds next n x z h e = ap (λ t. from_to (edge_at ds x).from t) (ap (λ k. (edge_at ds k).from) (sym e) ∙ n.joins x inside)
+edge_in : (ds : List DirectedEdge) (next : List ℕ) → AreNext ds next → (x : ℕ) → x < length next → x < length ds
+edge_in ds next n x h = omega (arith, h, len)
   where
     len : length next ≡ length ds
     len = n.same_length
 
-    inside : x < length ds
-    inside = omega (arith, h, len)
+one_dart : (ds : List DirectedEdge) (next : List ℕ) → AreNext ds next → (x z : ℕ) → x < length next → Leads next (x, z) → from_to (edge_at ds x).from (edge_at ds z).from ≡ edge_at ds x
+one_dart ds next n x z h e = ap (λ t. from_to (edge_at ds x).from t) (ap (λ k. (edge_at ds k).from) (sym e) ∙ n.joins x (edge_in ds next n x h))
 
 edges_along : (ds : List DirectedEdge) (next : List ℕ) → AreNext ds next → (x : ℕ) (ys : List ℕ) (z : ℕ) → All (λ i. i < length next) (x ∷ ys) → All (Leads next) (along pair x ys z)
     → along from_to (edge_at ds x).from (ring_of ds ys) (edge_at ds z).from ≡ map (edge_at ds) (x ∷ ys)
@@ -64,13 +64,7 @@ together ds next n cycles c = IsPermutation-trans _ _ _ (all_places ds)
 
 -- ---- they follow the rule
 one_corner : (ds : List DirectedEdge) (next : List ℕ) → AreNext ds next → (x z : ℕ) → x < length next → Leads next (x, z) → Follows ds (corner (edge_at ds x) (edge_at ds z))
-one_corner ds next n x z h e = let P : ℕ → Type 0 = λ k. Follows ds (corner (edge_at ds x) (edge_at ds k)) in subst P e (n.follows x inside)
-  where
-    len : length next ≡ length ds
-    len = n.same_length
-
-    inside : x < length ds
-    inside = omega (arith, h, len)
+one_corner ds next n x z h e = let P : ℕ → Type 0 = λ k. Follows ds (corner (edge_at ds x) (edge_at ds k)) in subst P e (n.follows x (edge_in ds next n x h))
 
 corners_along : (ds : List DirectedEdge) (next : List ℕ) → AreNext ds next → (x : ℕ) (ys : List ℕ) (z : ℕ) → All (λ i. i < length next) (x ∷ ys) → All (Leads next) (along pair x ys z)
     → All (Follows ds) (along corner (edge_at ds x) (map (edge_at ds) ys) (edge_at ds z))

@@ -173,9 +173,9 @@ all_found next seen start cycles h f = record {
     less : (i : ℕ) → i < length next → i < start
     less i k = omega arith
 
--- ---- the same for a list of values that hold cycles
-pub one_more_found : {V : Type 0} (f : V → List ℕ) (next : List ℕ) (old new : List Bool) (start : ℕ) (vs : List V) (v : V) → length new ≡ length old → Found next old start (map f vs) → Walked next old new start (f v) → Found next new (start + 1) (map f (vs ++ v ∷ []))
-one_more_found {V} f next old new start vs v len h w = rw (map-append f vs (v ∷ []), add-one) (one_more_cycle next old new start (map f vs) (f v) len h w)
+-- ---- the two ways through the loop's body
+pub one_more_found : (next : List ℕ) (old new : List Bool) (start : ℕ) (cycles : List (List ℕ)) (cycle : List ℕ) → length new ≡ length old → Found next old start cycles → Walked next old new start cycle → Found next new (start + 1) (cycles ++ cycle ∷ [])
+one_more_found next old new start cycles cycle len h w = rw add-one (one_more_cycle next old new start cycles cycle len h w)
 
 pub seen_read : (seen : List Bool) (start : ℕ) (b : Bool) → start < length seen → b ≡ get_or seen start b → b ≡ true → IsSeen seen start
 seen_read seen start b h e t = get_or_default seen start false b h ∙ sym e ∙ t

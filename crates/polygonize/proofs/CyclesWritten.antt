@@ -2,7 +2,7 @@
 use Rattle.std.proofs.Common.{◌≡◌, ◌⊎◌, ℕ, ◌+◌, ◌<◌, ◌≤◌, Bool, List, [], ◌∷◌, ◌++◌, length, map, get_or, refl, sym, ◌∙◌, ap, subst, inl, inr, arith, Option, Some, None}
 use Rattle.std.specs.Prelude.{All, Contains, flat_map, is_some, unwrap_or}
 use Rattle.std.proofs.lemmas.Bool.{cases_eq, cases_lt}
-use Rattle.std.proofs.lemmas.List.{get_or-map, length-map}
+use Rattle.std.proofs.lemmas.List.{get_or-map, get_or_default, length-map}
 use Rattle.std.proofs.lemmas.List.Elements.{All-contains, All-contains_itself, All-get_or, All-map, All-weaker, Contains-get_or}
 use Rattle.geom.specs.declared.point.Pt.{Pt}
 use Rattle.geom.specs.declared.directed.DirectedEdge.{DirectedEdge}
@@ -20,9 +20,9 @@ use Rattle.geom.proofs.OneRing.{directed_simple, one_ring}
 use Rattle.geom.proofs.Orders.{before_trans}
 use Rattle.geom.proofs.RingEdges.{flat_in, in_permutation}
 use Rattle.polygonize.specs.declared.written.Opening.{Opening}
-use Rattle.polygonize.specs.Next.{nothing, edge_at, ring_of}
+use Rattle.polygonize.specs.Next.{nothing, edge_at, ring_of, rings_of}
 use Rattle.polygonize.specs.Owning.{IsOwnerFound, IsRingPlaced}
-use Rattle.polygonize.specs.Placed.{PlacedRing, opening_of, IsPlaced, IsShellWritten, IsWrittenAmong, AreWritten}
+use Rattle.polygonize.specs.Placed.{PlacedRing, opening_of, IsPlaced, IsShellWritten, IsWrittenAmong, AreWritten, rings_in}
 use Rattle.polygonize.specs.Written.{ArePlaces, HasItsEdges, HaveEdges, IsCanonical}
 use Rattle.polygonize.proofs.TextOrder.{owner_of}
 use Rattle.polygonize.proofs.Writing.{unmapped}
@@ -238,25 +238,21 @@ module _ (ds : List DirectedEdge) (closes : Closes ds) (noded : AreNodedEdges ds
         under j l = omega (arith, low, l)
 
 -- ---- the loop over the cycles
-pub next_filled : {V : Type 0} (g : V → List ℕ) (ds : List DirectedEdge) → Closes ds → AreNodedEdges ds → (cycles : List V) → AreRings ds (map (ring_of ds) (map g cycles)) → AreGrounded ds (map (ring_of ds) (map g cycles)) → All (λ v. HasItsEdges ds (g v)) cycles → All (λ v. ArePlaces ds (g v)) cycles
-    → (i : ℕ) (v : V) (cycle : List ℕ) (shells_old shells_new : List (Option Opening)) (old new : List PlacedRing) → i < length cycles → cycle ≡ g v → get_or cycles i v ≡ v → IsRingPlaced ds cycle shells_old shells_new old new
-    → AreFilled ds (map g cycles) i shells_old old → AreFilled ds (map g cycles) (i + 1) shells_new new
-next_filled g ds c n cycles are grounded e p i v cycle so sn old new low k h r f = filled ds c n (map g cycles) are grounded (All-map (HasItsEdges ds) g cycles e) (All-map (λ c. All (λ k. k < length ds) c) g cycles (All-weaker (λ v. ArePlaces ds (g v)) (λ v. All (λ k. k < length ds) (g v)) (λ v q. q.inside) cycles p))
-    i (let m = length-map cycles g in omega (arith, m, low)) so sn old new f (let P : List ℕ → Type 0 = λ t. IsRingPlaced ds t so sn old new in subst P (k ∙ ap g (sym h) ∙ sym (get_or-map g cycles i v [] low)) r)
+pub next_filled : (ds : List DirectedEdge) → Closes ds → AreNodedEdges ds → (cycles : List (List ℕ)) → AreRings ds (rings_of ds cycles) → AreGrounded ds (rings_of ds cycles) → All (HasItsEdges ds) cycles → All (ArePlaces ds) cycles
+    → (i : ℕ) (v cycle : List ℕ) (shells_old shells_new : List (Option Opening)) (old new : List PlacedRing) → i < length cycles → cycle ≡ v → get_or cycles i v ≡ v → IsRingPlaced ds cycle shells_old shells_new old new
+    → AreFilled ds cycles i shells_old old → AreFilled ds cycles (i + 1) shells_new new
+next_filled ds c n cycles are grounded e p i v cycle so sn old new low k h r f = filled ds c n cycles are grounded e (All-weaker (ArePlaces ds) (λ c. All (λ k. k < length ds) c) (λ c q. q.inside) cycles p)
+    i low so sn old new f (let P : List ℕ → Type 0 = λ t. IsRingPlaced ds t so sn old new in subst P (k ∙ sym h ∙ get_or_default cycles i v [] low) r)
 
-two_maps : {X Y Z : Type 0} (f : X → Y) (h : Y → Z) (xs : List X) → map (λ x. h (f x)) xs ≡ map h (map f xs)
-two_maps f h [] = refl
-two_maps f h (x ∷ xs) = ap (λ t. h (f x) ∷ t) (two_maps f h xs)
-
-pub all_filled : {V W : Type 0} (g : V → List ℕ) (q : W → PlacedRing) (ds : List DirectedEdge) (cycles : List V) (i : ℕ) (shell_of : List (Option Opening)) (ws : List W) → AreRings ds (map (ring_of ds) (map g cycles)) → length cycles ≤ i → HaveEdges ds (map (λ w. (q w).ring) ws) → All (IsCanonical ds) (map (λ w. (q w).ring) ws)
-    → AreFilled ds (map g cycles) i shell_of (map q ws) → AreWritten ds (map (ring_of ds) (map g cycles)) (map q ws)
-all_filled g q ds cycles i shell_of ws are l e c f = record {
+pub all_filled : (ds : List DirectedEdge) (cycles : List (List ℕ)) (i : ℕ) (shell_of : List (Option Opening)) (ws : List PlacedRing) → AreRings ds (rings_of ds cycles) → length cycles ≤ i → HaveEdges ds (rings_in ws) → All (IsCanonical ds) (rings_in ws)
+    → AreFilled ds cycles i shell_of ws → AreWritten ds (rings_of ds cycles) ws
+all_filled ds cycles i shell_of ws are l e c f = record {
   are_rings = are;
-  placed = All-weaker (Contains (map q ws)) (IsPlaced ds (map (ring_of ds) (map g cycles))) (λ w h. f.placed w h) (map q ws) (All-contains_itself (map q ws));
+  placed = All-weaker (Contains ws) (IsPlaced ds (rings_of ds cycles)) (λ w h. f.placed w h) ws (All-contains_itself ws);
   each = λ ring shell o pieces k piece h.
-      let m = in_map (ring_of ds) (map g cycles) ring (contains_in (map (ring_of ds) (map g cycles)) ring (owner_of o)) in
-      let n = index_of (map g cycles) m.0 [] m.1 in
-      f.each n.0 (let t = length-map cycles g in let u = n.1 in omega (arith, t, u, l)) pieces (let P : List Pt → Type 0 = λ t. IsCut t pieces in subst P (sym (ap (ring_of ds) n.2 ∙ m.2)) k) piece h;
-  canonical = All-map (λ w. IsCanonical ds w.ring) q ws (unmapped (IsCanonical ds) (λ w. (q w).ring) ws c);
-  edges = let P : List (List ℕ) → Type 0 = HaveEdges ds in subst P (two_maps q (λ w. w.ring) ws) e;
+      let m = in_map (ring_of ds) cycles ring (contains_in (rings_of ds cycles) ring (owner_of o)) in
+      let n = index_of cycles m.0 [] m.1 in
+      f.each n.0 (let u = n.1 in omega (arith, u, l)) pieces (let P : List Pt → Type 0 = λ t. IsCut t pieces in subst P (sym (ap (ring_of ds) n.2 ∙ m.2)) k) piece h;
+  canonical = unmapped (IsCanonical ds) (λ w. w.ring) ws c;
+  edges = e;
 }

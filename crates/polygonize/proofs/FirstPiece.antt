@@ -22,7 +22,7 @@ use Rattle.geom.proofs.Owners.{starts_on, ends_on}
 use Rattle.geom.proofs.RingEdges.{cut_edges, flat_in, in_permutation, piece_edge}
 use Rattle.polygonize.specs.Next.{edge_at, ring_of}
 use Rattle.polygonize.specs.Number.{IsVertex}
-use Rattle.polygonize.specs.Piece.{last_point, ComesLater, IsRingCut}
+use Rattle.polygonize.specs.Piece.{last_point, ComesLater, IsFirstAmong, IsRingCut}
 use Rattle.polygonize.specs.Written.{IsSound}
 use Rattle.polygonize.proofs.Beginnings.{BeginsWith, holders_begin, one_begins, last_of, closes_last, arrives_last}
 use Rattle.polygonize.proofs.Holes.{least_point}
@@ -232,20 +232,16 @@ module _ (ds : List DirectedEdge) (closes : Closes ds) (v : ℕ) (ring : List �
           p.begins
           (let P : List Pt → Type 0 = λ t. In (from_to u (edge_at ds v).from) (ring_edges t) in subst P (sym p.is) (holder u i).2)
 
--- ---- values that hold pieces
-module _ {W : Type 0} (f : W → List ℕ) (ds : List DirectedEdge) (v : ℕ) (ws : List W) where
-  held : (i : ℕ) (x : W) (p : List ℕ) → i < length ws → x ≡ get_or ws i x → p ≡ f x → p ≡ get_or (map f ws) i []
-  held i x p h e q = q ∙ ap f e ∙ sym (get_or-map f ws i x [] h)
+-- ---- pieces that are looked at by their places
+module _ (ds : List DirectedEdge) (v : ℕ) (ps : List (List ℕ)) where
+  held : (i : ℕ) (x p : List ℕ) → i < length ps → x ≡ get_or ps i x → p ≡ x → p ≡ get_or ps i []
+  held i x p h e q = q ∙ e ∙ get_or_default ps i x [] h
 
-  below : (i : ℕ) → i < length ws → i < length (map f ws)
-  below i h = let e = length-map ws f in omega arith
+  pub later_held : (i best : ℕ) (x y p q : List ℕ) → i < length ps → best < length ps → x ≡ get_or ps i x → y ≡ get_or ps best y → p ≡ x → q ≡ y → ComesLater ds v p q → IsBest ds v ps i best → IsBest ds v ps (i + 1) i
+  later_held i best x y p q hi hb ex ey ep eq l = later_best ds v ps i best hi hb (rw (sym (held i x p hi ex ep), sym (held best y q hb ey eq)) l)
 
-  pub later_held : (i best : ℕ) (x y : W) (p q : List ℕ) → i < length ws → best < length ws → x ≡ get_or ws i x → y ≡ get_or ws best y → p ≡ f x → q ≡ f y → ComesLater ds v p q → IsBest ds v (map f ws) i best → IsBest ds v (map f ws) (i + 1) i
-  later_held i best x y p q hi hb ex ey ep eq l = later_best ds v (map f ws) i best (below i hi) (below best hb) (rw (sym (held i x p hi ex ep), sym (held best y q hb ey eq)) l)
+  pub still_held : (i best : ℕ) (x y p q : List ℕ) → i < length ps → best < length ps → x ≡ get_or ps i x → y ≡ get_or ps best y → p ≡ x → q ≡ y → ¬ (ComesLater ds v p q) → IsBest ds v ps i best → IsBest ds v ps (i + 1) best
+  still_held i best x y p q hi hb ex ey ep eq l = still_best ds v ps i best hi hb (rw (sym (held i x p hi ex ep), sym (held best y q hb ey eq)) l)
 
-  pub still_held : (i best : ℕ) (x y : W) (p q : List ℕ) → i < length ws → best < length ws → x ≡ get_or ws i x → y ≡ get_or ws best y → p ≡ f x → q ≡ f y → ¬ (ComesLater ds v p q) → IsBest ds v (map f ws) i best → IsBest ds v (map f ws) (i + 1) best
-  still_held i best x y p q hi hb ex ey ep eq l = still_best ds v (map f ws) i best (below i hi) (below best hb) (rw (sym (held i x p hi ex ep), sym (held best y q hb ey eq)) l)
-
-  pub first_held : (ring : List ℕ) (n best : ℕ) → Closes ds → IsRingCut ds v ring (map f ws) → All (λ w. IsSound ds (f w)) ws → best < length ws → length ws ≤ n → IsBest ds v (map f ws) n best → IsFirstPiece (ring_of ds ring) (ring_of ds (get_or (map f ws) best []))
-  first_held ring n best cl r s h k b = first_of ds cl v ring (map f ws) r (All-map (λ p. 0 < length p) f ws (All-weaker (λ w. IsSound ds (f w)) (λ w. 0 < length (f w)) (λ w t. (let l = t.long in omega arith)) ws s)) best (below best h)
-      (λ c d m i. b c d m (let e = length-map ws f in omega arith))
+  pub first_held : (n best : ℕ) → All (IsSound ds) ps → best < length ps → length ps ≤ n → IsBest ds v ps n best → IsFirstAmong ds v ps best
+  first_held n best s h k b = λ ring cl r. first_of ds cl v ring ps r (All-weaker (IsSound ds) (λ p. 0 < length p) (λ p t. (let l = t.long in omega arith)) ps s) best h (λ c d m i. b c d m (omega (arith, i, k)))

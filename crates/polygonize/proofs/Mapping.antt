@@ -32,11 +32,9 @@ simple_map {X} {Y} P f n (x ∷ xs) h s = λ i j d l k e. s i j x l (below j k) 
     first : (i j : ℕ) → i < j → j < length (map f (x ∷ xs)) → i < length (x ∷ xs)
     first i j l k = omega (arith, l, below j k)
 
-pub cut_map : {X Y : Type 0} (P : X → Type 0) (f : X → Y) → IsNaming P f → {ring : List X} {pieces : List (List X)} → IsCut ring pieces → All P ring → IsCut (map f ring) (map (map f) pieces)
-cut_map P f n (whole {ring = r} s) h = whole (simple_map P f n r h s)
-cut_map {X} {Y} P f n (taken {ring = r} {pieces = ps} front v mid back e s c) h = taken (map f front) (f v) (map f mid) (map f back) split
-    (let Q : List Y → Type 0 = IsSimple in subst Q (map-append f front (v ∷ mid)) (simple_map P f n (front ++ v ∷ mid) left s))
-    (let Q : List Y → Type 0 = λ t. IsCut t (map (map f) ps) in subst Q (map-append f front (v ∷ back)) (cut_map P f n c rest))
+-- where a piece is taken out of a ring, what holds of its vertices holds of those up to the piece's end, and of those that are left
+cut_parts : {X : Type 0} (P : X → Type 0) {ring : List X} (front : List X) (v : X) (mid back : List X) → ring ≡ (front ++ v ∷ mid) ++ v ∷ back → All P ring → All P (front ++ v ∷ mid) × All P (front ++ v ∷ back)
+cut_parts {X} P front v mid back e h = (left, All-append P front (v ∷ back) (all_left P front (v ∷ mid) left) (all_right P (front ++ v ∷ mid) (v ∷ back) parts))
   where
     parts : All P ((front ++ v ∷ mid) ++ v ∷ back)
     parts = let Q : List X → Type 0 = All P in subst Q e h
@@ -44,8 +42,14 @@ cut_map {X} {Y} P f n (taken {ring = r} {pieces = ps} front v mid back e s c) h 
     left : All P (front ++ v ∷ mid)
     left = all_left P (front ++ v ∷ mid) (v ∷ back) parts
 
-    rest : All P (front ++ v ∷ back)
-    rest = All-append P front (v ∷ back) (all_left P front (v ∷ mid) left) (all_right P (front ++ v ∷ mid) (v ∷ back) parts)
+pub cut_map : {X Y : Type 0} (P : X → Type 0) (f : X → Y) → IsNaming P f → {ring : List X} {pieces : List (List X)} → IsCut ring pieces → All P ring → IsCut (map f ring) (map (map f) pieces)
+cut_map P f n (whole {ring = r} s) h = whole (simple_map P f n r h s)
+cut_map {X} {Y} P f n (taken {ring = r} {pieces = ps} front v mid back e s c) h = taken (map f front) (f v) (map f mid) (map f back) split
+    (let Q : List Y → Type 0 = IsSimple in subst Q (map-append f front (v ∷ mid)) (simple_map P f n (front ++ v ∷ mid) parts.0 s))
+    (let Q : List Y → Type 0 = λ t. IsCut t (map (map f) ps) in subst Q (map-append f front (v ∷ back)) (cut_map P f n c parts.1))
+  where
+    parts : All P (front ++ v ∷ mid) × All P (front ++ v ∷ back)
+    parts = cut_parts P front v mid back e h
 
     split : map f r ≡ (map f front ++ f v ∷ map f mid) ++ f v ∷ map f back
     split = ap (map f) e ∙ map-append f (front ++ v ∷ mid) (v ∷ back) ∙ ap (λ t. t ++ f v ∷ map f back) (map-append f front (v ∷ mid))
@@ -53,16 +57,10 @@ cut_map {X} {Y} P f n (taken {ring = r} {pieces = ps} front v mid back e s c) h 
 -- what holds of the vertices of a ring holds of those of its pieces
 pub cut_all : {X : Type 0} (P : X → Type 0) {ring : List X} {pieces : List (List X)} → IsCut ring pieces → All P ring → All (All P) pieces
 cut_all P (whole {ring = r} s) h = All-cons (All P) r [] h (All-nil (All P))
-cut_all {X} P (taken {ring = r} {pieces = ps} front v mid back e s c) h = All-cons (All P) (v ∷ mid) ps (all_right P front (v ∷ mid) left) (cut_all P c rest)
+cut_all {X} P (taken {ring = r} {pieces = ps} front v mid back e s c) h = All-cons (All P) (v ∷ mid) ps (all_right P front (v ∷ mid) parts.0) (cut_all P c parts.1)
   where
-    parts : All P ((front ++ v ∷ mid) ++ v ∷ back)
-    parts = let Q : List X → Type 0 = All P in subst Q e h
-
-    left : All P (front ++ v ∷ mid)
-    left = all_left P (front ++ v ∷ mid) (v ∷ back) parts
-
-    rest : All P (front ++ v ∷ back)
-    rest = All-append P front (v ∷ back) (all_left P front (v ∷ mid) left) (all_right P (front ++ v ∷ mid) (v ∷ back) parts)
+    parts : All P (front ++ v ∷ mid) × All P (front ++ v ∷ back)
+    parts = cut_parts P front v mid back e h
 
 simple_part : {X : Type 0} (xs ys : List X) → IsSimple (xs ++ ys) → IsSimple ys
 simple_part [] ys s = s

@@ -193,14 +193,16 @@ module _ (ds : List DirectedEdge) (closes : Closes ds) (noded : AreNodedEdges ds
     pub placed : (shell : List Pt) (firsts : List ℕ) → IsOwner ds rings (ring_of ds ring) shell → IsShellWritten ds shell firsts → (o : Opening) → o ≡ opening_of firsts → (owned : Bool) (first : ℕ) → Law owned first firsts
         → (k : ℕ) → k < length pieces → (w : PlacedRing) → IsPieceWritten o owned first k (get_or pieces k []) w → IsPlaced ds rings w
     placed shell firsts own s o e owned first law k h w p = record {
-      ring = ring_of ds ring;
       shell = shell;
-      owner = own;
-      pieces = map (ring_of ds) pieces;
-      cut = point_cut;
-      piece = ring_of ds (get_or pieces k []);
-      one = piece_in k h;
-      least = least_turned (get_or pieces k []) w.ring (sound_at k h) p.turned;
+      is_piece = record {
+        ring = ring_of ds ring;
+        owner = own;
+        pieces = map (ring_of ds) pieces;
+        cut = point_cut;
+        piece = ring_of ds (get_or pieces k []);
+        one = piece_in k h;
+        least = least_turned (get_or pieces k []) w.ring (sound_at k h) p.turned;
+      };
       first = firsts;
       is_first = s;
       under = p.under ∙ e;

@@ -7,12 +7,12 @@ use Rattle.geom.specs.Canonical.{IsFirstPiece}
 use Rattle.geom.specs.Rings.{Closes}
 use Rattle.geom.proofs.Lists.{In, contains_in, in_append, in_contains, in_back, in_front}
 use Rattle.polygonize.specs.Next.{ring_of}
-use Rattle.std.proofs.lemmas.List.{append-nil, get_or-map, length-map, map-append}
+use Rattle.std.proofs.lemmas.List.{append-nil, get_or_default}
 use Rattle.polygonize.specs.declared.written.Opening.{Opening}
 use Rattle.polygonize.specs.Owning.{ArePiecesWritten, AreWrittenUnder, IsPieceWritten}
 use Rattle.polygonize.specs.Placed.{PlacedRing, opening_of}
 use Rattle.polygonize.specs.Written.{backward}
-use Rattle.polygonize.specs.Piece.{IsRingCut}
+use Rattle.polygonize.specs.Piece.{IsFirstAmong}
 
 -- the entries of pieces, which are numbered from i on
 abbrev pub AreEntered : Opening → Bool → ℕ → ℕ → List (List ℕ) → List PlacedRing → Type 0
@@ -50,10 +50,9 @@ one_entered shell owned first pieces left rest old new piece e q i a = record {
     longer : length left ≡ suc (length rest)
     longer = ap length q ∙ length-append rest (piece ∷ []) ∙ (omega arith)
 
-pub step_entered : {V W : Type 0} (f : V → List ℕ) (g : W → PlacedRing) (shell : Opening) (owned : Bool) (first : ℕ) (pieces : List (List ℕ)) (left rest : List V) (old : List PlacedRing) (new more : List W) (piece : V) (w : W) → left ≡ rest ++ piece ∷ [] → more ≡ new ++ w ∷ []
-    → IsPieceWritten shell owned first (length rest) (f piece) (g w) → Entering shell owned first pieces (map f left) old (map g new) → Entering shell owned first pieces (map f rest) old (map g more)
-step_entered f g shell owned first pieces left rest old new more piece w e q i a = let P : List PlacedRing → Type 0 = Entering shell owned first pieces (map f rest) old in subst P (sym (ap (map g) q ∙ map-append g new (w ∷ [])))
-    (one_entered shell owned first pieces (map f left) (map f rest) old (map g new) (f piece) (g w) (ap (map f) e ∙ map-append f rest (piece ∷ [])) (let Q : ℕ → Type 0 = λ n. IsPieceWritten shell owned first n (f piece) (g w) in subst Q (sym (length-map rest f)) i) a)
+pub step_entered : (shell : Opening) (owned : Bool) (first : ℕ) (pieces left rest : List (List ℕ)) (old new more : List PlacedRing) (piece : List ℕ) (w : PlacedRing) → left ≡ rest ++ piece ∷ [] → more ≡ new ++ w ∷ [] → IsPieceWritten shell owned first (length rest) piece w
+    → Entering shell owned first pieces left old new → Entering shell owned first pieces rest old more
+step_entered shell owned first pieces left rest old new more piece w e q i a = let P : List PlacedRing → Type 0 = Entering shell owned first pieces rest old in subst P (sym q) (one_entered shell owned first pieces left rest old new piece w e i a)
 
 -- none is left
 pub all_entered : (shell : Opening) (owned : Bool) (first : ℕ) (pieces : List (List ℕ)) (old new : List PlacedRing) (a : Entering shell owned first pieces [] old new) → AreEntered shell owned first 0 pieces a.entries
@@ -122,19 +121,18 @@ no_items : {X : Type 0} (xs : List X) → length xs ≡ 0 → xs ≡ []
 no_items [] h = refl
 no_items (x ∷ xs) h = absurd (omega arith)
 
-piece_is : {V : Type 0} (f : V → List ℕ) (vs : List V) (i : ℕ) (v : V) (p : List ℕ) → i < length vs → v ≡ get_or vs i v → p ≡ f v → get_or (map f vs) i [] ≡ p
-piece_is f vs i v p h k e = get_or-map f vs i v [] h ∙ ap f (sym k) ∙ sym e
-
-pub all_pieces : (ds : List DirectedEdge) (least : ℕ) {V : Type 0} (f : V → List ℕ) (vs now left : List V) (owner : Option Opening) (shell : Opening) (first : ℕ) (old new : List PlacedRing) (v : V) (p : List ℕ) → now ≡ vs → first < length now
-    → ((ring : List ℕ) → Closes ds → IsRingCut ds least ring (map f now) → IsFirstPiece (ring_of ds ring) (ring_of ds (get_or (map f now) first []))) → v ≡ get_or vs first v → p ≡ f v → shell ≡ unwrap_or owner (opening_of p)
-    → length left ≡ 0 → Entering shell (is_some owner) first (map f vs) (map f left) old new → ArePiecesWritten ds least (map f vs) owner shell old new
-all_pieces ds least f vs now left owner shell first old new v p e h i k q s z a = record {
+pub all_pieces : (ds : List DirectedEdge) (least : ℕ) (pieces now left : List (List ℕ)) (owner : Option Opening) (shell : Opening) (first : ℕ) (old new : List PlacedRing) (v p : List ℕ) → now ≡ pieces → first < length now → IsFirstAmong ds least now first
+    → v ≡ get_or pieces first v → p ≡ v → shell ≡ unwrap_or owner (opening_of p) → length left ≡ 0 → Entering shell (is_some owner) first pieces left old new → ArePiecesWritten ds least pieces owner shell old new
+all_pieces ds least pieces now left owner shell first old new v p e h i k q s z a = record {
   first = first;
-  inside = let P : ℕ → Type 0 = λ n. first < n in subst P (ap length e ∙ sym (length-map vs f)) h;
-  is_first = λ ring r c. (let P : List _ → Type 0 = λ t. IsFirstPiece (ring_of ds ring) (ring_of ds (get_or (map f t) first [])) in subst P e (i ring r (let Q : List _ → Type 0 = λ t. IsRingCut ds least ring (map f t) in subst Q (sym e) c)));
-  shell_is = s ∙ ap (λ t. unwrap_or owner (opening_of t)) (sym (piece_is f vs first v p (let P : List _ → Type 0 = λ t. first < length t in subst P e h) k q));
-  all = pieces_under shell (is_some owner) first (map f vs) b.entries old new (all_entered shell (is_some owner) first (map f vs) old new b) b.appended;
+  inside = inside;
+  is_first = let P : List (List ℕ) → Type 0 = λ t. IsFirstAmong ds least t first in subst P e i;
+  shell_is = s ∙ ap (λ t. unwrap_or owner (opening_of t)) (q ∙ k ∙ get_or_default pieces first v [] inside);
+  all = pieces_under shell (is_some owner) first pieces b.entries old new (all_entered shell (is_some owner) first pieces old new b) b.appended;
 }
   where
-    b : Entering shell (is_some owner) first (map f vs) [] old new
-    b = let P : List (List ℕ) → Type 0 = λ t. Entering shell (is_some owner) first (map f vs) t old new in subst P (ap (map f) (no_items left z)) a
+    inside : first < length pieces
+    inside = let P : List (List ℕ) → Type 0 = λ t. first < length t in subst P e h
+
+    b : Entering shell (is_some owner) first pieces [] old new
+    b = let P : List (List ℕ) → Type 0 = λ t. Entering shell (is_some owner) first pieces t old new in subst P (no_items left z) a

@@ -9,7 +9,7 @@ use Rattle.geom.specs.declared.edge.Edge.{Edge}
 use Rattle.geom.specs.declared.directed.DirectedEdge.{DirectedEdge}
 use Rattle.geom.specs.Directed.{Runs}
 use Rattle.geom.specs.Holes.{IsHole, LiesBelow, height, left_of, run_of}
-use Rattle.polygonize.specs.Below.{AreFoundBelow, AreGapsBelow, AreKnown, AreNearer, AreNearerFor, AreNearerSpanning, IsAsNear, IsFoundBelow, IsGapOf, IsLesserGap, RunsBelow, best_at, gap_height, vertex_at}
+use Rattle.polygonize.specs.Below.{AreFoundBelow, AreGapsBelow, AreKnown, AreNearer, AreNearerFor, AreNearerSpanning, HasHoles, IsAsNear, IsFoundBelow, IsGapOf, IsLesserGap, RunsBelow, best_at, gap_height, vertex_at}
 use Rattle.polygonize.specs.Column.{AreColumnsOf, IsIn, Meets, Spans}
 use Rattle.polygonize.specs.Next.{edge_at, nothing, ring_of}
 use Rattle.polygonize.specs.declared.below.Gap.{Gap}
@@ -165,21 +165,19 @@ written_back n old new e h = ap (λ t. take n (new ++ t)) (drop_all (length new)
 
 -- ---- cycles
 
-mapped_both : {V : Type 0} (f : V → List ℕ) (start : List ℕ → Pt) (cycles : List V) (r : ℕ) → r < length cycles → vertex_at (map (λ v. start (f v)) cycles) r ≡ start (get_or (map f cycles) r [])
-mapped_both f start [] r h = absurd (omega arith)
-mapped_both f start (v ∷ cycles) zero h = refl
-mapped_both f start (v ∷ cycles) (suc r) h = mapped_both f start cycles r (omega arith)
+mapped_at : (start : List ℕ → Pt) (cycles : List (List ℕ)) (r : ℕ) → r < length cycles → vertex_at (map start cycles) r ≡ start (get_or cycles r [])
+mapped_at start [] r h = absurd (omega arith)
+mapped_at start (v ∷ cycles) zero h = refl
+mapped_at start (v ∷ cycles) (suc r) h = mapped_at start cycles r (omega arith)
 
-pub below_all : {V : Type 0} (f : V → List ℕ) (ds : List DirectedEdge) (cycles : List V) (vertices : List Pt) (holes : List ℕ) (best : List (Option Gap)) → vertices ≡ map (λ v. (edge_at ds (get_or (f v) 0 0)).from) cycles
-    → ((r : ℕ) → r < length cycles → IsHole (ring_of ds (get_or (map f cycles) r [])) → Contains holes r) → AreGapsBelow ds vertices holes best → AreFoundBelow ds (map f cycles) best
-below_all {V} f ds cycles vertices holes best e complete found = record {
-  same_length = found.same_length ∙ ap length e ∙ length-map cycles start ∙ sym (length-map cycles f);
-  each = λ r h q. (let inside : r < length cycles = (let P : ℕ → Type 0 = λ n. r < n in subst P (length-map cycles f) h) in
-      subst (λ (t : Pt). IsFoundBelow ds t (best_at best r)) (vertex_is r inside) (All-contains (λ r. IsFoundBelow ds (vertex_at vertices r) (best_at best r)) holes r found.each (complete r inside q)));
+pub below_all : (ds : List DirectedEdge) (cycles : List (List ℕ)) (vertices : List Pt) (holes : List ℕ) (best : List (Option Gap)) → vertices ≡ map (λ c. (edge_at ds (get_or c 0 0)).from) cycles → HasHoles ds cycles holes → AreGapsBelow ds vertices holes best → AreFoundBelow ds cycles best
+below_all ds cycles vertices holes best e complete found = record {
+  same_length = found.same_length ∙ ap length e ∙ length-map cycles start;
+  each = λ r h q. subst (λ (t : Pt). IsFoundBelow ds t (best_at best r)) (vertex_is r h) (All-contains (λ r. IsFoundBelow ds (vertex_at vertices r) (best_at best r)) holes r found.each (complete r h q));
 }
   where
-    start : V → Pt
-    start v = (edge_at ds (get_or (f v) 0 0)).from
+    start : List ℕ → Pt
+    start c = (edge_at ds (get_or c 0 0)).from
 
-    vertex_is : (r : ℕ) → r < length cycles → vertex_at vertices r ≡ (edge_at ds (get_or (get_or (map f cycles) r []) 0 0)).from
-    vertex_is r h = ap (λ t. vertex_at t r) e ∙ mapped_both f (λ k. (edge_at ds (get_or k 0 0)).from) cycles r h
+    vertex_is : (r : ℕ) → r < length cycles → vertex_at vertices r ≡ start (get_or cycles r [])
+    vertex_is r h = ap (λ t. vertex_at t r) e ∙ mapped_at start cycles r h

@@ -135,11 +135,11 @@ module _ (ds : List DirectedEdge) (rings : List (List Pt)) (one : AreOne ds ring
         q : IsPlaced ds rings s
         q = written.placed s inside
 
-        ring_is : q.ring ≡ shell
-        ring_is = one_whole q.ring shell (owner_of q.owner) c q.pieces f.pieces q.cut f.cut q.piece f.piece q.one f.one s.ring (written.canonical s inside).sound.long q.least found.least
+        ring_is : q.is_piece.ring ≡ shell
+        ring_is = one_whole q.is_piece.ring shell (owner_of q.is_piece.owner) c q.is_piece.pieces f.pieces q.is_piece.cut f.cut q.is_piece.piece f.piece q.is_piece.one f.one s.ring (written.canonical s inside).sound.long q.is_piece.least found.least
 
         shell_is : q.shell ≡ shell
-        shell_is = one.owner shell q.shell shell (let P : List Pt → Type 0 = λ t. IsOwner ds rings t q.shell in subst P ring_is q.owner) (itself c h)
+        shell_is = one.owner shell q.shell shell (let P : List Pt → Type 0 = λ t. IsOwner ds rings t q.shell in subst P ring_is q.is_piece.owner) (itself c h)
 
         firsts : q.first ≡ first
         firsts = one_first shell c q.first first (let P : List Pt → Type 0 = λ t. IsShellWritten ds t q.first in subst P shell_is q.is_first) f
@@ -174,18 +174,18 @@ module _ (ds : List DirectedEdge) (rings : List (List Pt)) (one : AreOne ds ring
     same_first v w i j p q e = sym s.1.is ∙ ap (λ t. t.ring) (one_shell s.0 t.0 s.1.inside t.1.inside s.1.is_shell t.1.is_shell (s.1.under ∙ sym p.under ∙ e ∙ q.under ∙ sym t.1.under)) ∙ t.1.is
       where
         s : (s : PlacedRing) × IsEntry ws p.first s
-        s = entry p.shell (owner_inside p.owner) (owner_shell p.owner) p.first p.is_first
+        s = entry p.shell (owner_inside p.is_piece.owner) (owner_shell p.is_piece.owner) p.first p.is_first
 
         t : (s : PlacedRing) × IsEntry ws q.first s
-        t = entry q.shell (owner_inside q.owner) (owner_shell q.owner) q.first q.is_first
+        t = entry q.shell (owner_inside q.is_piece.owner) (owner_shell q.is_piece.owner) q.first q.is_first
 
     pub same_shell : (v w : PlacedRing) → In v ws → In w ws → (p : IsPlaced ds rings v) (q : IsPlaced ds rings w) → v.place.shell ≡ w.place.shell → p.shell ≡ q.shell
-    same_shell v w i j p q e = one_whole p.shell q.shell (owner_inside p.owner) (owner_inside q.owner) p.is_first.pieces q.is_first.pieces p.is_first.cut q.is_first.cut p.is_first.piece q.is_first.piece p.is_first.one q.is_first.one
+    same_shell v w i j p q e = one_whole p.shell q.shell (owner_inside p.is_piece.owner) (owner_inside q.is_piece.owner) p.is_first.pieces q.is_first.pieces p.is_first.cut q.is_first.cut p.is_first.piece q.is_first.piece p.is_first.one q.is_first.one
         q.first q.is_first.canonical.sound.long (let P : List ℕ → Type 0 = λ t. IsLeastRotation p.is_first.piece (ring_of ds t) in subst P (same_first v w i j p q e) p.is_first.least) q.is_first.least
 
     -- the other way round
     pub one_under : (v w : PlacedRing) (p : IsPlaced ds rings v) (q : IsPlaced ds rings w) → p.shell ≡ q.shell → p.first ≡ q.first
-    one_under v w p q e = one_first q.shell (owner_inside q.owner) p.first q.first (let P : List Pt → Type 0 = λ t. IsShellWritten ds t p.first in subst P e p.is_first) q.is_first
+    one_under v w p q e = one_first q.shell (owner_inside q.is_piece.owner) p.first q.first (let P : List Pt → Type 0 = λ t. IsShellWritten ds t p.first in subst P e p.is_first) q.is_first
 
   -- the text begins with a shell
   pub begins : (ws : List PlacedRing) → AreEntries ds rings ws → BeginsWithShell (λ w. w.place.is_hole) ws
@@ -196,7 +196,7 @@ module _ (ds : List DirectedEdge) (rings : List (List Pt)) (one : AreOne ds ring
       p = written.placed w (inl refl)
 
       s : (s : PlacedRing) × IsEntry (w ∷ ws) p.first s
-      s = entry (w ∷ ws) written p.shell (owner_inside p.owner) (owner_shell p.owner) p.first p.is_first
+      s = entry (w ∷ ws) written p.shell (owner_inside p.is_piece.owner) (owner_shell p.is_piece.owner) p.first p.is_first
 
       later : w.place.is_hole ≡ true → In s.0 (w ∷ ws) → ⊥
       later h (inl e) = let f : false ≡ true = sym s.1.is_shell ∙ ap (λ t. t.place.is_hole) (sym e) ∙ h in cc

@@ -9,6 +9,7 @@ use Rattle.geom.specs.declared.directed.DirectedEdge.{DirectedEdge}
 use Rattle.geom.specs.Rings.{ring_edges}
 use Rattle.polygonize.specs.Next.{edge_at, ring_of}
 use Rattle.polygonize.specs.Number.{IsVertex}
+use Rattle.polygonize.specs.Placed.{PlacedRing, rings_in}
 use Rattle.polygonize.specs.Written.{IsTurned, AreTurned, AreAdded, IsSound, IsCanonical, backward}
 use Rattle.polygonize.proofs.Lists.{same_order}
 use Rattle.polygonize.proofs.Permuted.{all_pairs_permutation}
@@ -88,7 +89,7 @@ one_added pieces left rest old new piece turned e t a = record {
 pub all_added : (pieces old new : List (List ℕ)) → Adding pieces [] old new → AreAdded pieces old new
 all_added pieces old new a = record { turned = a.turned; each = (let P : List (List ℕ) → Type 0 = λ t. AreTurned t a.turned in subst P (sym a.parts) a.each); appended = a.appended }
 
-pub step_added : {V W : Type 0} (f : V → List ℕ) (g : W → List ℕ) (pieces : List (List ℕ)) (left rest : List V) (piece : V) (old : List (List ℕ)) (new more : List W) (w : W) → left ≡ rest ++ piece ∷ [] → more ≡ new ++ w ∷ [] → IsTurned (f piece) (g w)
-    → Adding pieces (map f left) old (map g new) → Adding pieces (map f rest) old (map g more)
-step_added f g pieces left rest piece old new more w e q t a = let P : List (List ℕ) → Type 0 = Adding pieces (map f rest) old in subst P (sym (ap (map g) q ∙ map-append g new (w ∷ [])))
-    (one_added pieces (map f left) (map f rest) old (map g new) (f piece) (g w) (ap (map f) e ∙ map-append f rest (piece ∷ [])) t a)
+pub step_added : (pieces left rest : List (List ℕ)) (piece : List ℕ) (old : List (List ℕ)) (new more : List PlacedRing) (w : PlacedRing) → left ≡ rest ++ piece ∷ [] → more ≡ new ++ w ∷ [] → IsTurned piece w.ring
+    → Adding pieces left old (rings_in new) → Adding pieces rest old (rings_in more)
+step_added pieces left rest piece old new more w e q t a = let P : List (List ℕ) → Type 0 = Adding pieces rest old in subst P (sym (ap rings_in q ∙ map-append (λ x. x.ring) new (w ∷ [])))
+    (one_added pieces left rest old (rings_in new) piece w.ring e t a)

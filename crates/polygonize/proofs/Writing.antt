@@ -221,19 +221,6 @@ cut_some (taken {ring = r} {pieces = ps} front v mid back e s c) = more (length 
     more : (n : ℕ) → 0 < suc n
     more n = omega arith
 
-pub mapped_some : {X Y : Type 0} (f : X → Y) (xs : List X) → 0 < length (map f xs) → 0 < length xs
-mapped_some f [] h = h
-mapped_some f (x ∷ xs) h = more (length xs)
-  where
-    more : (n : ℕ) → 0 < suc n
-    more n = omega arith
-
-pub next_cycle : {V : Type 0} (f : V → List ℕ) (ds : List DirectedEdge) (cycles : List V) (i : ℕ) (v : V) (cycle : List ℕ) (old new : List (List ℕ)) → i < length cycles → cycle ≡ f v → get_or cycles i v ≡ v → IsRingWritten ds cycle old new → Writing ds (map f cycles) i old → Writing ds (map f cycles) (i + 1) new
-next_cycle f ds cycles i v cycle old new h e k r w = one_written ds (map f cycles) i cycle old new (let P : ℕ → Type 0 = λ n. i < n in subst P (sym (length-map cycles f)) h) (get_or-map f cycles i v [] h ∙ ap f k ∙ sym e) r w
-
-pub all_cycles : {V : Type 0} (f : V → List ℕ) (ds : List DirectedEdge) (cycles : List V) (i : ℕ) (written : List (List ℕ)) → AreRings ds (map (ring_of ds) (map f cycles)) → length cycles ≤ i → Writing ds (map f cycles) i written → HaveEdges ds written
-all_cycles f ds cycles i written r h w = all_written ds (map f cycles) i written r (let P : ℕ → Type 0 = λ n. n ≤ i in subst P (sym (length-map cycles f)) h) w
-
 -- the ring is written, and its owner is known
 pub ring_placed : (ds : List DirectedEdge) (numbers cycle ring : List ℕ) (pieces : List (List ℕ)) (owner : Option Opening) (shell : Opening) (shells_old shells_new : List (Option Opening)) (old new : List PlacedRing) (least : ℕ) → AreDirected ds → AreNumbers ds numbers → ArePlaces ds cycle
     → ring ≡ map (λ k. get_or numbers k 0) cycle → least ≡ get_or ring 0 least → IsCut ring pieces → IsOwnerFound ds ring shells_old owner → ArePiecesWritten ds least pieces owner shell old new → KeepsShell cycle shell shells_old shells_new → IsRingPlaced ds cycle shells_old shells_new old new
@@ -264,23 +251,23 @@ ring_same ds numbers cycle ring n p e = ap (ring_of ds) e ∙ numbered_ring ds n
 pub first_same : (ds : List DirectedEdge) (numbers cycle ring : List ℕ) → AreNumbers ds numbers → ArePlaces ds cycle → ring ≡ map (λ k. get_or numbers k 0) cycle → (edge_at ds (get_or ring 0 0)).from ≡ (edge_at ds (get_or cycle 0 0)).from
 first_same ds numbers cycle ring n p e = ap (λ t. (edge_at ds (get_or t 0 0)).from) e ∙ ap (λ t. (edge_at ds t).from) (get_or-map (λ k. get_or numbers k 0) cycle 0 0 0 p.some) ∙ (n.each (get_or cycle 0 0) (p.inside 0 0 p.some)).same
 
-pub cycle_at : {V : Type 0} (f : V → List ℕ) (cycles : List V) (i : ℕ) (v : V) (cycle : List ℕ) → i < length cycles → cycle ≡ f v → v ≡ get_or cycles i v → get_or (map f cycles) i [] ≡ cycle
-cycle_at f cycles i v cycle h e k = get_or-map f cycles i v [] h ∙ ap f (sym k) ∙ sym e
+pub cycle_at : (cycles : List (List ℕ)) (i : ℕ) (v cycle : List ℕ) → i < length cycles → cycle ≡ v → v ≡ get_or cycles i v → get_or cycles i [] ≡ cycle
+cycle_at cycles i v cycle h e k = get_or_default cycles i [] v h ∙ sym k ∙ sym e
 
-pub of_cycle : {V : Type 0} (f : V → List ℕ) (P : List ℕ → Type 0) (cycles : List V) (i : ℕ) (v : V) (cycle : List ℕ) → i < length cycles → cycle ≡ f v → v ≡ get_or cycles i v → All (λ c. P (f c)) cycles → P cycle
-of_cycle f P cycles i v cycle h e k a = subst P (ap f (sym k) ∙ sym e) (a i v h)
+pub of_cycle : (P : List ℕ → Type 0) (cycles : List (List ℕ)) (i : ℕ) (v cycle : List ℕ) → i < length cycles → cycle ≡ v → v ≡ get_or cycles i v → All P cycles → P cycle
+of_cycle P cycles i v cycle h e k a = subst P (sym k ∙ sym e) (a i v h)
 
-pub hole_at : {V : Type 0} (f : V → List ℕ) (ds : List DirectedEdge) (numbers : List ℕ) (cycles : List V) (i : ℕ) (v : V) (cycle ring : List ℕ) → AreNumbers ds numbers → ArePlaces ds cycle → ring ≡ map (λ k. get_or numbers k 0) cycle → i < length cycles → cycle ≡ f v → v ≡ get_or cycles i v
-    → IsHole (ring_of ds (get_or (map f cycles) i [])) → IsHole (ring_of ds ring)
-hole_at f ds numbers cycles i v cycle ring n p e h s k q = subst IsHole (ap (ring_of ds) (cycle_at f cycles i v cycle h s k) ∙ sym (ring_same ds numbers cycle ring n p e)) q
+pub hole_at : (ds : List DirectedEdge) (numbers : List ℕ) (cycles : List (List ℕ)) (i : ℕ) (v cycle ring : List ℕ) → AreNumbers ds numbers → ArePlaces ds cycle → ring ≡ map (λ k. get_or numbers k 0) cycle → i < length cycles → cycle ≡ v → v ≡ get_or cycles i v
+    → IsHole (ring_of ds (get_or cycles i [])) → IsHole (ring_of ds ring)
+hole_at ds numbers cycles i v cycle ring n p e h s k q = subst IsHole (ap (ring_of ds) (cycle_at cycles i v cycle h s k) ∙ sym (ring_same ds numbers cycle ring n p e)) q
 
 pub below_ring : (ds : List DirectedEdge) (numbers cycle ring : List ℕ) (below : Option Gap) → AreNumbers ds numbers → ArePlaces ds cycle → ring ≡ map (λ k. get_or numbers k 0) cycle → (IsHole (ring_of ds cycle) → IsFoundBelow ds (edge_at ds (get_or cycle 0 0)).from below)
     → IsHole (ring_of ds ring) → IsFoundBelow ds (edge_at ds (get_or ring 0 0)).from below
 below_ring ds numbers cycle ring below n p e f h = subst (λ (t : Pt). IsFoundBelow ds t below) (sym (first_same ds numbers cycle ring n p e)) (f (subst IsHole (ring_same ds numbers cycle ring n p e) h))
 
-pub below_cycle : {V : Type 0} (f : V → List ℕ) (ds : List DirectedEdge) (cycles : List V) (below : List (Option Gap)) (i : ℕ) (v : V) (cycle : List ℕ) → i < length cycles → cycle ≡ f v → v ≡ get_or cycles i v → AreFoundBelow ds (map f cycles) below
+pub below_cycle : (ds : List DirectedEdge) (cycles : List (List ℕ)) (below : List (Option Gap)) (i : ℕ) (v cycle : List ℕ) → i < length cycles → cycle ≡ v → v ≡ get_or cycles i v → AreFoundBelow ds cycles below
     → IsHole (ring_of ds cycle) → IsFoundBelow ds (edge_at ds (get_or cycle 0 0)).from (get_or below i None)
-below_cycle f ds cycles below i v cycle h e k a = subst (λ (t : List ℕ). IsHole (ring_of ds t) → IsFoundBelow ds (edge_at ds (get_or t 0 0)).from (get_or below i None)) (cycle_at f cycles i v cycle h e k) (a.each i (subst (λ (n : ℕ). i < n) (sym (length-map cycles f)) h))
+below_cycle ds cycles below i v cycle h e k a = subst (λ (t : List ℕ). IsHole (ring_of ds t) → IsFoundBelow ds (edge_at ds (get_or t 0 0)).from (get_or below i None)) (cycle_at cycles i v cycle h e k) (a.each i h)
 
 pub mapped_more : {V X : Type 0} (f : V → X) (vs : List V) (i : ℕ) (v : V) (xs : List X) → i < length vs → v ≡ get_or vs i v → xs ≡ map f (take i vs) → xs ++ f v ∷ [] ≡ map f (take (i + 1) vs)
 mapped_more f vs i v xs h k e = let next : suc i ≡ i + 1 = omega arith in ap (λ t. t ++ f v ∷ []) e ∙ sym (map-append f (take i vs) (v ∷ [])) ∙ ap (map f) (ap (λ t. take i vs ++ t ∷ []) k ∙ sym (take-suc vs i v h) ∙ ap (λ n. take n vs) next)

@@ -98,3 +98,7 @@ pub record AreGapsBelow (ds : List DirectedEdge) (vertices : List Pt) (asked : L
 pub record AreFoundBelow (ds : List DirectedEdge) (cycles : List (List ℕ)) (best : List (Option Gap)) : Type 0 where
   pub same_length : length best ≡ length cycles
   pub each : (r : ℕ) → r < length cycles → IsHole (ring_of ds (slice_index_or cycles r [])) → IsFoundBelow ds (edge_at ds (slice_index_or (slice_index_or cycles r []) 0 0)).from (best_at best r)
+
+-- the cycles whose rings are holes are among the found ones
+abbrev pub HasHoles : List DirectedEdge → List (List ℕ) → List ℕ → Type 0
+HasHoles ds cycles found = (r : ℕ) → r < length cycles → IsHole (ring_of ds (slice_index_or cycles r [])) → Contains found r

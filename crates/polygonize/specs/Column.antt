@@ -1,9 +1,10 @@
 -- Vertical columns, and the edges that lie across them.
-use Rattle.std.specs.Prelude.{◌⊎◌, ◌<ℤ◌, ◌≤ℤ◌, ℕ, pos, List, All, slice_index_or}
+use Rattle.std.specs.Prelude.{◌⊎◌, ◌<ℤ◌, ◌≤ℤ◌, ◌<◌, ◌≡◌, ℕ, pos, List, All, Contains, length, slice_index_or}
 use Rattle.geom.specs.declared.directed.DirectedEdge.{DirectedEdge}
 use Rattle.geom.specs.declared.point.Pt.{Pt}
 use Rattle.geom.specs.Limit.{IsWithin, coordinate_limit}
 use Rattle.polygonize.specs.declared.column.Columns.{Columns}
+use Rattle.polygonize.specs.Next.{edge_at}
 
 -- the vertex stands in one of the columns
 abbrev pub IsIn : Columns → Pt → Type 0
@@ -22,3 +23,11 @@ Spans d columns = ((d.from.x <ℤ columns.low) × (columns.high ≤ℤ d.to.x)) 
 -- the edge begins left of one of the columns, and ends there or right of it
 abbrev pub Meets : DirectedEdge → Columns → Type 0
 Meets d columns = ((d.from.x <ℤ columns.high) × (columns.low ≤ℤ d.to.x)) ⊎ ((d.to.x <ℤ columns.high) × (columns.low ≤ℤ d.from.x))
+
+-- those of the numbers whose edges don't span all columns, and meet some of a part of them, are among the found ones
+abbrev pub HasMeeting : List DirectedEdge → Columns → Columns → List ℕ → List ℕ → Type 0
+HasMeeting ds all part numbers found = (k : ℕ) → Contains numbers k → ¬ (Spans (edge_at ds k) all) → Meets (edge_at ds k) part → Contains found k
+
+-- the edges that aren't upright are among the found ones
+abbrev pub HasSlanted : List DirectedEdge → List ℕ → Type 0
+HasSlanted ds found = (k : ℕ) → k < length ds → ¬ ((edge_at ds k).from.x ≡ (edge_at ds k).to.x) → Contains found k

@@ -19,3 +19,6 @@ pub record AreNext (ds : List DirectedEdge) (next : List ℕ) : Type 0 where
 -- the rings of cycles of places
 abbrev pub ring_of : List DirectedEdge → List ℕ → List Pt
 ring_of ds cycle = map (λ i. (edge_at ds i).from) cycle
+
+abbrev pub rings_of : List DirectedEdge → List (List ℕ) → List (List Pt)
+rings_of ds cycles = map (ring_of ds) cycles

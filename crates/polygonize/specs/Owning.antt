@@ -2,13 +2,12 @@
 use Rattle.std.specs.Prelude.{◌≡◌, ◌⊎◌, ◌↔◌, ℕ, ◌<◌, ◌≤◌, Bool, false, List, [], All, Contains, Option, Some, None, length, slice_index_or, is_some, unwrap_or}
 use Rattle.geom.specs.declared.directed.DirectedEdge.{DirectedEdge}
 use Rattle.geom.specs.declared.edge.Edge.{Edge}
-use Rattle.geom.specs.Canonical.{IsFirstPiece}
 use Rattle.geom.specs.Holes.{IsHole, IsNearestBelow, IsShell, LiesBelow, left_of}
-use Rattle.geom.specs.Rings.{Closes, IsCut}
+use Rattle.geom.specs.Rings.{IsCut}
 use Rattle.polygonize.specs.declared.written.Opening.{Opening}
 use Rattle.polygonize.specs.Next.{edge_at, ring_of}
 use Rattle.polygonize.specs.Number.{IsVertex}
-use Rattle.polygonize.specs.Piece.{IsRingCut}
+use Rattle.polygonize.specs.Piece.{IsFirstAmong}
 use Rattle.polygonize.specs.Placed.{PlacedRing, opening_of}
 use Rattle.polygonize.specs.Written.{IsSound, IsTurned}
 
@@ -29,7 +28,7 @@ pub record AreWrittenUnder (shell : Opening) (owned : Bool) (first : ℕ) (piece
 pub record ArePiecesWritten (ds : List DirectedEdge) (least : ℕ) (pieces : List (List ℕ)) (owner : Option Opening) (shell : Opening) (old new : List PlacedRing) : Type 0 where
   pub first : ℕ
   pub inside : first < length pieces
-  pub is_first : (ring : List ℕ) → Closes ds → IsRingCut ds least ring pieces → IsFirstPiece (ring_of ds ring) (ring_of ds (slice_index_or pieces first []))
+  pub is_first : IsFirstAmong ds least pieces first
   pub shell_is : shell ≡ unwrap_or owner (opening_of (slice_index_or pieces first []))
   pub all : AreWrittenUnder shell (is_some owner) first pieces old new
 

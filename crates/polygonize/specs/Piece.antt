@@ -1,9 +1,10 @@
 -- The pieces of a ring that come back to its least vertex.
-use Rattle.std.specs.Prelude.{◌≡◌, ℕ, ◌-◌, ◌<◌, ◌≤◌, pos, ◌<ℤ◌, List, length, slice_index_or, All, Contains}
+use Rattle.std.specs.Prelude.{◌≡◌, ℕ, ◌-◌, ◌<◌, ◌≤◌, pos, ◌<ℤ◌, List, [], length, slice_index_or, All, Contains}
 use Rattle.geom.specs.declared.point.Pt.{Pt}
 use Rattle.geom.specs.declared.directed.DirectedEdge.{DirectedEdge}
+use Rattle.geom.specs.Canonical.{IsFirstPiece}
 use Rattle.geom.specs.Determinant.{side}
-use Rattle.geom.specs.Rings.{ring_edges, IsCut}
+use Rattle.geom.specs.Rings.{ring_edges, Closes, IsCut}
 use Rattle.polygonize.specs.Next.{edge_at, ring_of}
 use Rattle.polygonize.specs.Number.{IsVertex}
 
@@ -24,3 +25,7 @@ pub record IsRingCut (ds : List DirectedEdge) (least : ℕ) (ring : List ℕ) (p
   pub least_first : All (λ k. slice_index_or ring 0 0 ≤ k) ring
   pub among : (d : DirectedEdge) → Contains (ring_edges (ring_of ds ring)) d → Contains ds d
   pub cut : IsCut ring pieces
+
+-- the piece at the place is the first one of any ring that is cut into these
+abbrev pub IsFirstAmong : List DirectedEdge → ℕ → List (List ℕ) → ℕ → Type 0
+IsFirstAmong ds least pieces place = (ring : List ℕ) → Closes ds → IsRingCut ds least ring pieces → IsFirstPiece (ring_of ds ring) (ring_of ds (slice_index_or pieces place []))

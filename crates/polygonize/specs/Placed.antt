@@ -1,14 +1,13 @@
 -- The rings of the text with their places, in no order yet.
-use Rattle.std.specs.Prelude.{◌≡◌, ◌↔◌, ℕ, false, List, All, Contains, map, slice_index}
+use Rattle.std.specs.Prelude.{◌≡◌, ◌↔◌, ℕ, Bool, false, List, All, Contains, map, slice_index}
 use Rattle.geom.specs.declared.point.Pt.{Pt}
 use Rattle.geom.specs.declared.directed.DirectedEdge.{DirectedEdge}
-use Rattle.geom.specs.Canonical.{IsFirstPiece}
+use Rattle.geom.specs.Canonical.{IsFirstPiece, IsPieceOf}
 use Rattle.geom.specs.Holes.{IsOwner}
 use Rattle.geom.specs.ListOrder.{IsLeastRotation}
 use Rattle.geom.specs.Rings.{AreRings, IsCut}
 use Rattle.polygonize.specs.declared.written.Opening.{Opening}
 use Rattle.polygonize.specs.declared.written.Place.{Place}
-use Rattle.polygonize.specs.declared.written.Written.{Written}
 use Rattle.polygonize.specs.Next.{ring_of}
 use Rattle.polygonize.specs.Written.{HaveEdges, IsCanonical}
 
@@ -21,9 +20,17 @@ pub record PlacedRing : Type 0 where
   pub place : Place
   pub ring : List ℕ
 
--- a ring of the program's, read as such
-abbrev pub placed_ring : {M : Type 0} → Written M → PlacedRing
-placed_ring w = record { place = w.place; ring = w.ring.items }
+-- the rings without their places
+abbrev pub rings_in : List PlacedRing → List (List ℕ)
+rings_in written = map (λ w. w.ring) written
+
+-- it stands in the text as a hole
+abbrev pub stands_as_hole : PlacedRing → Bool
+stands_as_hole w = w.place.is_hole
+
+-- the points of a written ring
+abbrev pub points : List DirectedEdge → PlacedRing → List Pt
+points ds w = ring_of ds w.ring
 
 -- `first` is the first piece of the shell, as it is written: from its least rotation
 pub record IsShellWritten (ds : List DirectedEdge) (shell : List Pt) (first : List ℕ) : Type 0 where
@@ -37,14 +44,8 @@ pub record IsShellWritten (ds : List DirectedEdge) (shell : List Pt) (first : Li
 
 -- a written ring: a piece of one of the rings, under the first piece of the shell that owns that ring
 pub record IsPlaced (ds : List DirectedEdge) (rings : List (List Pt)) (written : PlacedRing) : Type 0 where
-  pub ring : List Pt
   pub shell : List Pt
-  pub owner : IsOwner ds rings ring shell
-  pub pieces : List (List Pt)
-  pub cut : IsCut ring pieces
-  pub piece : List Pt
-  pub one : Contains pieces piece
-  pub least : IsLeastRotation piece (ring_of ds written.ring)
+  pub is_piece : IsPieceOf ds rings shell (points ds written)
   pub first : List ℕ
   pub is_first : IsShellWritten ds shell first
   pub under : written.place.shell ≡ opening_of first
@@ -63,4 +64,8 @@ pub record AreWritten (ds : List DirectedEdge) (rings : List (List Pt)) (written
   pub placed : All (IsPlaced ds rings) written
   pub each : (ring shell : List Pt) → IsOwner ds rings ring shell → (pieces : List (List Pt)) → IsCut ring pieces → (piece : List Pt) → Contains pieces piece → IsWrittenAmong ds written piece
   pub canonical : All (λ w. IsCanonical ds w.ring) written
-  pub edges : HaveEdges ds (map (λ w. w.ring) written)
+  pub edges : HaveEdges ds (rings_in written)
+
+-- so it is for all rings that the edges have
+abbrev pub AreAllWritten : List DirectedEdge → List PlacedRing → Type 0
+AreAllWritten ds written = (rings : List (List Pt)) × AreWritten ds rings written

@@ -2,7 +2,7 @@
 
 ghost use Rattle.std.specs.Prelude.{◌≡◌, ◌⊎◌, ℕ, ◌↔◌, ◌<◌, ◌≤ℤ◌, ◌<ℤ◌, All, Contains, IfOk, IsTrue, length};
 ghost use Rattle.geom.specs.Limit.{AreInLimit, InLimit, IsWithin, coordinate_limit};
-ghost use Rattle.polygonize.specs.Column.{AreColumnsOf, Meets, Spans};
+ghost use Rattle.polygonize.specs.Column.{AreColumnsOf, HasMeeting, HasSlanted, Meets, Spans};
 ghost use Rattle.polygonize.specs.Next.{edge_at};
 
 use geom::{COORDINATE_LIMIT, DirectedEdge, NoMemory, Pt};
@@ -74,7 +74,7 @@ pub fn meeting<A: Allocator>(
     requires part_low_in { IsWithin coordinate_limit part.low }
     requires part_high_in { IsWithin coordinate_limit part.high }
     ensures inside { IfOk result (λ found. All (λ k. k < length edges.now) found.items) }
-    ensures complete { IfOk result (λ found. (k : ℕ) → Contains numbers.now k → ¬ (Spans (edge_at edges.now k) all) → Meets (edge_at edges.now k) part → Contains found.items k) }
+    ensures complete { IfOk result (λ found. HasMeeting edges.now all part numbers.now found.items) }
 {
     let mut found = Vec::new(alloc);
     for number in numbers {
@@ -89,7 +89,7 @@ pub fn meeting<A: Allocator>(
 /// The numbers of the edges that aren't upright.
 pub fn slanted<A: Allocator>(alloc: A, edges: &[DirectedEdge]) -> Result<Vec<usize, A>, NoMemory>
     ensures inside { IfOk result (λ found. All (λ k. k < length edges.now) found.items) }
-    ensures complete { IfOk result (λ found. (k : ℕ) → k < length edges.now → ¬ ((edge_at edges.now k).from.x ≡ (edge_at edges.now k).to.x) → Contains found.items k) }
+    ensures complete { IfOk result (λ found. HasSlanted edges.now found.items) }
 {
     let mut found = Vec::new(alloc);
     for number in 0..edges.len() {

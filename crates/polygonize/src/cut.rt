@@ -1,9 +1,10 @@
 //! A ring of vertex numbers, cut at the vertices that it visits twice.
 
-ghost use Rattle.std.specs.Prelude.{◌≡◌, ◌<◌, ◌≤◌, [], All, IfOk, OnOk, length, map, take, drop, vec_len};
+ghost use Rattle.std.specs.Prelude.{◌≡◌, ◌<◌, ◌≤◌, [], All, IfOk, OnOk, length, take, drop, vec_len};
 ghost use Rattle.geom.specs.Rings.{IsCut};
 ghost use Rattle.polygonize.specs.Stack.{AreStacked};
 
+use crate::cycle::Cycle;
 use geom::NoMemory;
 use std::alloc::Allocator;
 
@@ -42,22 +43,23 @@ pub fn cut<A: Allocator + Copy>(
     alloc: A,
     ring: &[usize],
     place: &mut [Option<usize>],
-) -> Result<Vec<Vec<usize, A>, A>, NoMemory>
+) -> Result<Vec<Cycle<A>, A>, NoMemory>
     requires inside { All (λ v. v < length place.old) ring.now }
     requires clear { AreStacked [] place.old }
-    ensures pieces { IfOk result (λ pieces. IsCut ring.now (map (λ p. p.items) pieces.items)) }
+    ensures pieces { IfOk result (λ pieces. IsCut ring.now pieces.items) }
     ensures clear { OnOk result (AreStacked [] place.new) }
 {
     let mut pieces = Vec::new(alloc);
     let mut stack: Vec<usize, A> = Vec::new(alloc);
     for v in ring {
         if let Some(at) = place[*v] {
-            pieces.push(take_piece(alloc, &mut stack, place, at)?)?;
+            let piece = take_piece(alloc, &mut stack, place, at)?;
+            pieces.push(Cycle::new(piece))?;
         }
         place[*v] = Some(stack.len());
         stack.push(*v)?;
     }
     forget(&stack, place, 0);
-    pieces.push(stack)?;
+    pieces.push(Cycle::new(stack))?;
     Ok(pieces)
 }

@@ -1,10 +1,47 @@
 //! The cycles of a one-to-one map on the numbers below a bound.
 
-ghost use Rattle.std.specs.Prelude.{◌≡◌, ◌<◌, All, IfOk, length, map};
+ghost use Rattle.std.specs.Prelude.{◌≡◌, ◌<◌, ℕ, List, All, IfOk, length};
 ghost use Rattle.polygonize.specs.Cycle.{IsOneToOne, IsClosed, IsUnseen, Walked, AreCycles};
 
 use geom::NoMemory;
 use std::alloc::Allocator;
+use std::marker::Model;
+
+/// A cycle by numbers: those of its edges, or of the first edges that leave its vertices.
+#[derive(Debug, Drop)]
+pub struct Cycle<A: Allocator> {
+    numbers: Vec<usize, A>,
+}
+
+impl<A: Allocator> Model for Cycle<A> {
+    ghost Value = { List ℕ };
+
+    ghost view = { λ c. c.numbers.items };
+}
+
+impl<A: Allocator> Cycle<A> {
+    /// The cycle of these numbers.
+    pub fn new(numbers: Vec<usize, A>) -> Cycle<A>
+        ensures { result ≡ numbers.items }
+    {
+        Cycle { numbers }
+    }
+
+    /// The numbers in their order.
+    pub fn numbers(&self) -> &[usize]
+        ensures { result.now ≡ self.now }
+    {
+        &self.numbers
+    }
+
+    /// The numbers in their order, to be changed.
+    pub fn into_numbers(self) -> Vec<usize, A>
+        ensures { result.items ≡ self }
+    {
+        let Cycle { numbers } = self;
+        numbers
+    }
+}
 
 /// The cycle of `start`, begun there. What it passes is marked as seen.
 fn walk<A: Allocator + Copy>(
@@ -34,19 +71,17 @@ fn walk<A: Allocator + Copy>(
 }
 
 /// The cycles, each begun at its least number, in the order of these.
-pub fn cycles<A: Allocator + Copy>(
-    alloc: A,
-    next: &[usize],
-) -> Result<Vec<Vec<usize, A>, A>, NoMemory>
+pub fn cycles<A: Allocator + Copy>(alloc: A, next: &[usize]) -> Result<Vec<Cycle<A>, A>, NoMemory>
     requires in_range { All (λ k. k < length next.now) next.now }
     requires one_to_one { IsOneToOne next.now }
-    ensures { IfOk result (λ found. AreCycles next.now (map (λ v. v.items) found.items)) }
+    ensures { IfOk result (λ found. AreCycles next.now found.items) }
 {
     let mut seen = vec![in alloc; false; next.len()]?;
     let mut cycles = Vec::new(alloc);
     for start in 0..next.len() {
         if !seen[start] {
-            cycles.push(walk(alloc, next, &mut seen, start)?)?;
+            let numbers = walk(alloc, next, &mut seen, start)?;
+            cycles.push(Cycle::new(numbers))?;
         }
     }
     Ok(cycles)

@@ -5,6 +5,7 @@ ghost use Rattle.geom.specs.Directed.{AreDirected};
 ghost use Rattle.polygonize.specs.Next.{edge_at, ring_of};
 ghost use Rattle.polygonize.specs.Number.{AreNumbers, IsLastNumber, IsNumber};
 
+use crate::cycle::Cycle;
 use geom::{DirectedEdge, NoMemory, Pt};
 use std::alloc::{AllocError, Allocator};
 
@@ -82,15 +83,15 @@ pub fn points_of<A: Allocator + Copy>(
 pub fn first_vertices<A: Allocator + Copy>(
     alloc: A,
     edges: &[DirectedEdge],
-    cycles: &[Vec<usize, A>],
+    cycles: &[Cycle<A>],
 ) -> Result<Vec<Pt, A>, NoMemory>
-    requires some { All (λ c. 0 < length c.items) cycles.now }
-    requires inside { All (λ c. All (λ k. k < length edges.now) c.items) cycles.now }
-    ensures { IfOk result (λ vertices. vertices.items ≡ map (λ c. (edge_at edges.now (slice_index_or c.items 0 0)).from) cycles.now) }
+    requires some { All (λ c. 0 < length c) cycles.now }
+    requires inside { All (λ c. All (λ k. k < length edges.now) c) cycles.now }
+    ensures { IfOk result (λ vertices. vertices.items ≡ map (λ c. (edge_at edges.now (slice_index_or c 0 0)).from) cycles.now) }
 {
     let mut vertices = Vec::new(alloc);
     for cycle in cycles {
-        vertices.push(edges[cycle[0]].from)?;
+        vertices.push(edges[cycle.numbers()[0]].from)?;
     }
     Ok(vertices)
 }

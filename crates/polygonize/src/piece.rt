@@ -1,15 +1,13 @@
 //! The pieces of a ring as they are written.
 
-ghost use Rattle.std.specs.Prelude.{◌↔◌, ℕ, ◌<◌, ◌≤◌, List, [], All, IsTrue, length, map, slice_index, slice_index_or};
-ghost use Rattle.geom.specs.Canonical.{IsFirstPiece};
+ghost use Rattle.std.specs.Prelude.{◌↔◌, ◌<◌, ◌≤◌, All, IsTrue, length, slice_index};
 ghost use Rattle.geom.specs.Limit.{AreInLimit};
-ghost use Rattle.geom.specs.Rings.{Closes};
-ghost use Rattle.polygonize.specs.Next.{ring_of};
 ghost use Rattle.polygonize.specs.Number.{IsVertex};
-ghost use Rattle.polygonize.specs.Piece.{ComesLater, IsRingCut};
+ghost use Rattle.polygonize.specs.Piece.{ComesLater, IsFirstAmong};
 ghost use Rattle.polygonize.specs.Written.{IsSound, IsTurned};
 
 use crate::angle::side_of;
+use crate::cycle::Cycle;
 use geom::DirectedEdge;
 use std::alloc::Allocator;
 
@@ -29,13 +27,14 @@ fn least_place(ring: &[usize]) -> usize
 }
 
 /// A ring without repeated vertices, begun at its least one: its least rotation.
-pub fn turned<A: Allocator>(mut ring: Vec<usize, A>) -> Vec<usize, A>
-    requires { 0 < length ring.items }
-    ensures { IsTurned ring.items result.items }
+pub fn turned<A: Allocator>(ring: Cycle<A>) -> Cycle<A>
+    requires { 0 < length ring }
+    ensures { IsTurned ring result }
 {
-    let place = least_place(&ring);
-    ring.rotate_left(place);
-    ring
+    let mut numbers = ring.into_numbers();
+    let place = least_place(&numbers);
+    numbers.rotate_left(place);
+    Cycle::new(numbers)
 }
 
 /// Whether a piece comes back to the ring's least vertex, and with a greater angle than another one that does.
@@ -55,21 +54,17 @@ fn comes_later(edges: &[DirectedEdge], least: usize, piece: &[usize], other: &[u
 }
 
 /// Of the pieces of a ring that begin at its least vertex, that which comes back to it with the greatest angle.
-pub fn first_piece<A: Allocator>(
-    edges: &[DirectedEdge],
-    least: usize,
-    pieces: &[Vec<usize, A>],
-) -> usize
+pub fn first_piece<A: Allocator>(edges: &[DirectedEdge], least: usize, pieces: &[Cycle<A>]) -> usize
     requires edges_in { All (λ d. AreInLimit d.from d.to) edges.now }
     requires least { IsVertex edges.now least }
     requires some { 0 < length pieces.now }
-    requires sound { All (λ p. IsSound edges.now p.items) pieces.now }
+    requires sound { All (IsSound edges.now) pieces.now }
     ensures inside { result < length pieces.now }
-    ensures first { (ring : List ℕ) → Closes edges.now → IsRingCut edges.now least ring (map (λ p. p.items) pieces.now) → IsFirstPiece (ring_of edges.now ring) (ring_of edges.now (slice_index_or (map (λ p. p.items) pieces.now) result [])) }
+    ensures first { IsFirstAmong edges.now least pieces.now result }
 {
     let mut best = 0;
     for i in 0..pieces.len() {
-        if comes_later(edges, least, &pieces[i], &pieces[best]) {
+        if comes_later(edges, least, pieces[i].numbers(), pieces[best].numbers()) {
             best = i;
         }
     }

@@ -9,6 +9,7 @@ ghost use Rattle.geom.specs.NodedEdges.{AreNodedEdges};
 ghost use Rattle.geom.specs.Rings.{Closes};
 ghost use Rattle.polygonize.specs.Grouped.{AreGrouped, BeginsWithShell};
 ghost use Rattle.polygonize.specs.Next.{ring_of};
+ghost use Rattle.polygonize.specs.Placed.{points, stands_as_hole};
 ghost use Rattle.polygonize.specs.Written.{AreSimple, IsSound};
 
 use crate::number::points_of;
@@ -37,16 +38,16 @@ fn holes_from<A: Allocator + Copy>(
     start: usize,
 ) -> Result<Vec<SimpleRing<A>, A>, NoMemory>
     requires inside { start ≤ length written.now }
-    requires sound { All (λ w. IsSound edges.now w.ring.items) written.now }
+    requires sound { All (λ w. IsSound edges.now w.ring) written.now }
     ensures inside { IfOk result (λ holes. start + vec_len holes ≤ length written.now) }
-    ensures rings { IfOk result (λ holes. holes.items ≡ map (λ w. ring_of edges.now w.ring.items) (take (vec_len holes) (drop start written.now))) }
-    ensures holes { IfOk result (λ holes. All (λ w. w.place.is_hole ≡ true) (take (vec_len holes) (drop start written.now))) }
-    ensures then_shell { IfOk result (λ holes. BeginsWithShell (λ w. w.place.is_hole) (drop (start + vec_len holes) written.now)) }
+    ensures rings { IfOk result (λ holes. holes.items ≡ map (points edges.now) (take (vec_len holes) (drop start written.now))) }
+    ensures holes { IfOk result (λ holes. All (λ w. stands_as_hole w ≡ true) (take (vec_len holes) (drop start written.now))) }
+    ensures then_shell { IfOk result (λ holes. BeginsWithShell stands_as_hole (drop (start + vec_len holes) written.now)) }
 {
     let mut holes = Vec::new(alloc);
     let mut end = start;
-    while end < written.len() && written[end].place.is_hole {
-        holes.push(simple_ring(alloc, edges, &written[end].ring)?)?;
+    while end < written.len() && written[end].place().is_hole {
+        holes.push(simple_ring(alloc, edges, written[end].ring().numbers())?)?;
         end += 1;
     }
     Ok(holes)
@@ -58,14 +59,14 @@ fn grouped<A: Allocator + Copy>(
     edges: &[DirectedEdge],
     written: &[Written<A>],
 ) -> Result<Vec<Polygon<A>, A>, NoMemory>
-    requires sound { All (λ w. IsSound edges.now w.ring.items) written.now }
-    ensures rings { IfOk result (λ found. written_rings found.items ≡ map (λ w. ring_of edges.now w.ring.items) written.now) }
-    ensures groups { BeginsWithShell (λ w. w.place.is_hole) written.now → IfOk result (λ found. AreGrouped (λ w. w.place.is_hole) (λ w. ring_of edges.now w.ring.items) written.now found.items) }
+    requires sound { All (λ w. IsSound edges.now w.ring) written.now }
+    ensures rings { IfOk result (λ found. written_rings found.items ≡ map (points edges.now) written.now) }
+    ensures groups { BeginsWithShell stands_as_hole written.now → IfOk result (λ found. AreGrouped stands_as_hole (points edges.now) written.now found.items) }
 {
     let mut polygons = Vec::new(alloc);
     let mut at = 0;
     while at < written.len() {
-        let shell = simple_ring(alloc, edges, &written[at].ring)?;
+        let shell = simple_ring(alloc, edges, written[at].ring().numbers())?;
         let holes = holes_from(alloc, edges, written, at + 1)?;
         at += 1 + holes.len();
         polygons.push(Polygon::new(shell, holes))?;
@@ -89,6 +90,6 @@ pub fn polygons<A: Allocator + Copy>(
 {
     let edges = directed.edges();
     let mut written = written_rings(alloc, edges)?;
-    written.sort_unstable_by_key(|ring| ring.place);
+    written.sort_unstable_by_key(|ring| ring.place());
     grouped(alloc, edges, &written)
 }

@@ -1,12 +1,12 @@
 //! The rings of directed edges, as lists of the edges' places.
 
-ghost use Rattle.std.specs.Prelude.{All, IfOk, map};
+ghost use Rattle.std.specs.Prelude.{All, IfOk};
 ghost use Rattle.geom.specs.Limit.{AreInLimit};
 ghost use Rattle.geom.specs.Rings.{AreRings, Closes};
-ghost use Rattle.polygonize.specs.Next.{ring_of};
+ghost use Rattle.polygonize.specs.Next.{rings_of};
 ghost use Rattle.polygonize.specs.Written.{ArePlaces, HasItsEdges};
 
-use crate::cycle::cycles;
+use crate::cycle::{Cycle, cycles};
 use crate::successor::successors;
 use geom::{DirectedEdge, NoMemory};
 use std::alloc::Allocator;
@@ -15,12 +15,12 @@ use std::alloc::Allocator;
 pub fn ring_places<A: Allocator + Copy>(
     alloc: A,
     edges: &[DirectedEdge],
-) -> Result<Vec<Vec<usize, A>, A>, NoMemory>
+) -> Result<Vec<Cycle<A>, A>, NoMemory>
     requires closes { Closes edges.now }
     requires edges_in { All (λ d. AreInLimit d.from d.to) edges.now }
-    ensures places { IfOk result (λ found. All (ArePlaces edges.now) (map (λ v. v.items) found.items)) }
-    ensures rings { IfOk result (λ found. AreRings edges.now (map (ring_of edges.now) (map (λ v. v.items) found.items))) }
-    ensures edges { IfOk result (λ found. All (HasItsEdges edges.now) (map (λ v. v.items) found.items)) }
+    ensures places { IfOk result (λ found. All (ArePlaces edges.now) found.items) }
+    ensures rings { IfOk result (λ found. AreRings edges.now (rings_of edges.now found.items)) }
+    ensures edges { IfOk result (λ found. All (HasItsEdges edges.now) found.items) }
 {
     let next = successors(alloc, edges)?;
     cycles(alloc, &next)

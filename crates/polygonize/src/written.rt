@@ -1,22 +1,22 @@
 //! The rings of the result as they are written, each with its place in the order of the text.
 
-ghost use Rattle.std.specs.Prelude.{◌≡◌, ℕ, ◌<◌, ◌≤◌, ◌==◌, ◌||◌, ◌++◌, ◌∷◌, [], List, All, Contains, IfOk, OnOk, is_some, length, map, not, slice_index_or, unwrap_or};
+ghost use Rattle.std.specs.Prelude.{◌≡◌, ◌<◌, ◌≤◌, ◌==◌, ◌||◌, ◌++◌, ◌∷◌, [], List, All, IfOk, OnOk, is_some, length, not, slice_index_or, unwrap_or};
 ghost use Rattle.geom.specs.Directed.{AreDirected};
-ghost use Rattle.geom.specs.declared.point.Pt.{Pt};
 ghost use Rattle.geom.specs.Holes.{AreGrounded, HasGroundedRings, IsHole};
 ghost use Rattle.geom.specs.Limit.{AreInLimit};
 ghost use Rattle.geom.specs.NodedEdges.{AreNodedEdges};
 ghost use Rattle.geom.specs.Rings.{AreRings, Closes};
-ghost use Rattle.polygonize.specs.Below.{AreFoundBelow, IsFoundBelow};
+ghost use Rattle.polygonize.specs.Below.{AreFoundBelow, HasHoles, IsFoundBelow};
 ghost use Rattle.polygonize.specs.Number.{AreNumbers, IsVertex};
-ghost use Rattle.polygonize.specs.Next.{edge_at, ring_of};
+ghost use Rattle.polygonize.specs.Next.{edge_at, ring_of, rings_of};
 ghost use Rattle.polygonize.specs.Owning.{ArePiecesWritten, IsOwnerFound, IsRingPlaced, KeepsShell};
-ghost use Rattle.polygonize.specs.Placed.{AreWritten, opening_of, placed_ring};
+ghost use Rattle.polygonize.specs.Placed.{AreAllWritten, AreWritten, opening_of, rings_in};
 ghost use Rattle.polygonize.specs.Stack.{AreStacked};
 ghost use Rattle.polygonize.specs.Written.{AreAdded, ArePlaces, HasItsEdges, HaveEdges, IsCanonical, IsRingWritten, IsSound};
 
 use crate::below::Gap;
 use crate::cut::cut;
+use crate::cycle::Cycle;
 use crate::hole::is_hole;
 use crate::nearest::gaps_below;
 use crate::number::{first_vertices, start_numbers, vertices_of};
@@ -24,6 +24,7 @@ use crate::piece::{first_piece, turned};
 use crate::ring::ring_places;
 use geom::{DirectedEdge, NoMemory};
 use std::alloc::Allocator;
+use std::marker::Model;
 
 /// The first two vertices of a ring, which tell it from all others: they are an edge's.
 #[derive(Clone, Copy, Debug, PartialEq, Eq, PartialOrd, Ord)]
@@ -55,8 +56,31 @@ pub struct Place {
 /// A ring of vertices as it is written.
 #[derive(Debug, Drop)]
 pub struct Written<A: Allocator> {
-    pub place: Place,
-    pub ring: Vec<usize, A>,
+    place: Place,
+    ring: Cycle<A>,
+}
+
+impl<A: Allocator> Model for Written<A> {
+    ghost use Rattle.polygonize.specs.Placed.{PlacedRing};
+
+    ghost Value = { PlacedRing };
+
+    ghost view = { λ w. record { place = w.place; ring = w.ring } };
+}
+
+impl<A: Allocator> Written<A> {
+    pub fn place(&self) -> Place
+        ensures { result ≡ self.now.place }
+    {
+        self.place
+    }
+
+    /// Its vertices by their numbers.
+    pub fn ring(&self) -> &Cycle<A>
+        ensures { result.now ≡ self.now.ring }
+    {
+        &self.ring
+    }
 }
 
 /// The shell that is given, or else the first piece.
@@ -81,7 +105,7 @@ fn is_written_as_hole(owner: Option<Opening>, first: usize, i: usize) -> bool
 fn add_ring<A: Allocator>(
     written: &mut Vec<Written<A>, A>,
     place: Place,
-    ring: Vec<usize, A>,
+    ring: Cycle<A>,
 ) -> Result<(), NoMemory>
     ensures { OnOk result (written.new.items ≡ written.old.items ++ (record { place = place; ring = ring }) ∷ []) }
 {
@@ -93,25 +117,25 @@ fn add_ring<A: Allocator>(
 fn write_pieces<A: Allocator + Copy>(
     edges: &[DirectedEdge],
     least: usize,
-    mut pieces: Vec<Vec<usize, A>, A>,
+    mut pieces: Vec<Cycle<A>, A>,
     owner: Option<Opening>,
     written: &mut Vec<Written<A>, A>,
 ) -> Result<Opening, NoMemory>
     requires edges_in { All (λ d. AreInLimit d.from d.to) edges.now }
     requires least { IsVertex edges.now least }
     requires some { 0 < length pieces.items }
-    requires sound { All (λ p. IsSound edges.now p.items) pieces.items }
-    ensures added { OnOk result (AreAdded (map (λ p. p.items) pieces.items) (map (λ w. w.ring.items) written.old.items) (map (λ w. w.ring.items) written.new.items)) }
-    ensures pieces { IfOk result (λ shell. ArePiecesWritten edges.now least (map (λ p. p.items) pieces.items) owner shell (map placed_ring written.old.items) (map placed_ring written.new.items)) }
+    requires sound { All (IsSound edges.now) pieces.items }
+    ensures added { OnOk result (AreAdded pieces.items (rings_in written.old.items) (rings_in written.new.items)) }
+    ensures pieces { IfOk result (λ shell. ArePiecesWritten edges.now least pieces.items owner shell written.old.items written.new.items) }
 {
     let first = first_piece(edges, least, &pieces);
-    let shell = shell_of_pieces(owner, &pieces[first]);
+    let shell = shell_of_pieces(owner, pieces[first].numbers());
     while let Some(piece) = pieces.pop() {
         let ring = turned(piece);
         let place = Place {
             shell,
             is_hole: is_written_as_hole(owner, first, pieces.len()),
-            opening: Opening::of(&ring),
+            opening: Opening::of(ring.numbers()),
         };
         add_ring(written, place, ring)?;
     }
@@ -168,8 +192,8 @@ fn write_ring<A: Allocator + Copy>(
     requires shells { length shell_of.old ≡ length edges.now }
     requires clear { AreStacked [] places.old }
     requires below { IsHole (ring_of edges.now cycle.now) → IsFoundBelow edges.now (edge_at edges.now (slice_index_or cycle.now 0 0)).from below }
-    ensures written { OnOk result (IsRingWritten edges.now cycle.now (map (λ w. w.ring.items) written.old.items) (map (λ w. w.ring.items) written.new.items)) }
-    ensures placed { OnOk result (IsRingPlaced edges.now cycle.now shell_of.old shell_of.new (map placed_ring written.old.items) (map placed_ring written.new.items)) }
+    ensures written { OnOk result (IsRingWritten edges.now cycle.now (rings_in written.old.items) (rings_in written.new.items)) }
+    ensures placed { OnOk result (IsRingPlaced edges.now cycle.now shell_of.old shell_of.new written.old.items written.new.items) }
     ensures clear { OnOk result (AreStacked [] places.new) }
 {
     let ring = vertices_of(alloc, numbers, cycle)?;
@@ -185,7 +209,7 @@ fn write_cycles<A: Allocator + Copy>(
     alloc: A,
     edges: &[DirectedEdge],
     numbers: &[usize],
-    cycles: &[Vec<usize, A>],
+    cycles: &[Cycle<A>],
     below: &[Option<Gap>],
     places: &mut [Option<usize>],
     shell_of: &mut [Option<Opening>],
@@ -193,16 +217,16 @@ fn write_cycles<A: Allocator + Copy>(
     requires closes { Closes edges.now }
     requires edges_in { All (λ d. AreInLimit d.from d.to) edges.now }
     requires numbers { AreNumbers edges.now numbers.now }
-    requires cycles { All (λ c. ArePlaces edges.now c.items) cycles.now }
-    requires rings { AreRings edges.now (map (ring_of edges.now) (map (λ c. c.items) cycles.now)) }
+    requires cycles { All (ArePlaces edges.now) cycles.now }
+    requires rings { AreRings edges.now (rings_of edges.now cycles.now) }
     requires places { length places.old ≡ length edges.now }
     requires shells { length shell_of.old ≡ length edges.now }
     requires clear { AreStacked [] places.old }
-    requires found { AreFoundBelow edges.now (map (λ c. c.items) cycles.now) below.now }
-    requires its_edges { All (λ c. HasItsEdges edges.now c.items) cycles.now }
-    ensures written { AreNodedEdges edges.now → AreGrounded edges.now (map (ring_of edges.now) (map (λ c. c.items) cycles.now)) → IfOk result (λ written. AreWritten edges.now (map (ring_of edges.now) (map (λ c. c.items) cycles.now)) (map placed_ring written.items)) }
-    ensures edges { IfOk result (λ written. HaveEdges edges.now (map (λ w. w.ring.items) written.items)) }
-    ensures sound { IfOk result (λ written. All (IsCanonical edges.now) (map (λ w. w.ring.items) written.items)) }
+    requires found { AreFoundBelow edges.now cycles.now below.now }
+    requires its_edges { All (HasItsEdges edges.now) cycles.now }
+    ensures written { let rings = rings_of edges.now cycles.now in AreNodedEdges edges.now → AreGrounded edges.now rings → IfOk result (λ written. AreWritten edges.now rings written.items) }
+    ensures edges { IfOk result (λ written. HaveEdges edges.now (rings_in written.items)) }
+    ensures sound { IfOk result (λ written. All (IsCanonical edges.now) (rings_in written.items)) }
 {
     let mut written = Vec::new(alloc);
     for number in 0..cycles.len() {
@@ -210,7 +234,7 @@ fn write_cycles<A: Allocator + Copy>(
             alloc,
             edges,
             numbers,
-            &cycles[number],
+            cycles[number].numbers(),
             below[number],
             places,
             shell_of,
@@ -225,18 +249,18 @@ fn holes_of<A: Allocator + Copy>(
     alloc: A,
     edges: &[DirectedEdge],
     numbers: &[usize],
-    cycles: &[Vec<usize, A>],
+    cycles: &[Cycle<A>],
 ) -> Result<Vec<usize, A>, NoMemory>
     requires directed { AreDirected edges.now }
     requires edges_in { All (λ d. AreInLimit d.from d.to) edges.now }
     requires numbers { AreNumbers edges.now numbers.now }
-    requires cycles { All (λ c. ArePlaces edges.now c.items) cycles.now }
+    requires cycles { All (ArePlaces edges.now) cycles.now }
     ensures inside { IfOk result (λ holes. All (λ r. r < length cycles.now) holes.items) }
-    ensures complete { IfOk result (λ holes. (r : ℕ) → r < length cycles.now → IsHole (ring_of edges.now (slice_index_or (map (λ c. c.items) cycles.now) r [])) → Contains holes.items r) }
+    ensures complete { IfOk result (λ holes. HasHoles edges.now cycles.now holes.items) }
 {
     let mut holes = Vec::new(alloc);
     for number in 0..cycles.len() {
-        let ring = vertices_of(alloc, numbers, &cycles[number])?;
+        let ring = vertices_of(alloc, numbers, cycles[number].numbers())?;
         if is_hole(edges, &ring) {
             holes.push(number)?;
         }
@@ -249,13 +273,13 @@ fn edges_below<A: Allocator + Copy>(
     alloc: A,
     edges: &[DirectedEdge],
     numbers: &[usize],
-    cycles: &[Vec<usize, A>],
+    cycles: &[Cycle<A>],
 ) -> Result<Vec<Option<Gap>, A>, NoMemory>
     requires directed { AreDirected edges.now }
     requires edges_in { All (λ d. AreInLimit d.from d.to) edges.now }
     requires numbers { AreNumbers edges.now numbers.now }
-    requires cycles { All (λ c. ArePlaces edges.now c.items) cycles.now }
-    ensures { IfOk result (λ below. AreFoundBelow edges.now (map (λ c. c.items) cycles.now) below.items) }
+    requires cycles { All (ArePlaces edges.now) cycles.now }
+    ensures { IfOk result (λ below. AreFoundBelow edges.now cycles.now below.items) }
 {
     let holes = holes_of(alloc, edges, numbers, cycles)?;
     let vertices = first_vertices(alloc, edges, cycles)?;
@@ -269,9 +293,9 @@ pub fn written_rings<A: Allocator + Copy>(
 ) -> Result<Vec<Written<A>, A>, NoMemory>
     requires closes { Closes edges.now }
     requires edges_in { All (λ d. AreInLimit d.from d.to) edges.now }
-    ensures edges { IfOk result (λ written. HaveEdges edges.now (map (λ w. w.ring.items) written.items)) }
-    ensures sound { IfOk result (λ written. All (IsCanonical edges.now) (map (λ w. w.ring.items) written.items)) }
-    ensures written { AreNodedEdges edges.now → HasGroundedRings edges.now → IfOk result (λ written. (rings : List (List Pt)) × AreWritten edges.now rings (map placed_ring written.items)) }
+    ensures edges { IfOk result (λ written. HaveEdges edges.now (rings_in written.items)) }
+    ensures sound { IfOk result (λ written. All (IsCanonical edges.now) (rings_in written.items)) }
+    ensures written { AreNodedEdges edges.now → HasGroundedRings edges.now → IfOk result (λ written. AreAllWritten edges.now written.items) }
 {
     let numbers = start_numbers(alloc, edges)?;
     let cycles = ring_places(alloc, edges)?;

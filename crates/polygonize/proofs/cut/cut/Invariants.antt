@@ -1,6 +1,5 @@
-use Rattle.std.proofs.Common.{map}
 use Rattle.polygonize.proofs.Cutting.{Cutting}
 use Rattle.polygonize.proofs.cut.cut.Given as goal
 
 abbrev pub invariant-loop-v : goal.invariant-loop-v
-invariant-loop-v g l = Cutting l.ring l.v-index l.stack.items l.place (map (λ p. p.items) l.pieces.items)
+invariant-loop-v g l = Cutting l.ring l.v-index l.stack.items l.place l.pieces.items

@@ -1,6 +1,5 @@
-use Rattle.std.proofs.Common.{map}
 use Rattle.polygonize.proofs.Cycles.{Found}
 use Rattle.polygonize.proofs.cycle.cycles.Given as goal
 
 abbrev pub invariant-loop-start : goal.invariant-loop-start
-invariant-loop-start g l = Found l.next l.seen.items l.start (map (λ v. v.items) l.cycles.items)
+invariant-loop-start g l = Found l.next l.seen.items l.start l.cycles.items

@@ -1,6 +1,6 @@
-use Rattle.std.proofs.Common.{◌<◌, length, map}
+use Rattle.std.proofs.Common.{◌<◌, length}
 use Rattle.polygonize.proofs.FirstPiece.{IsBest}
 use Rattle.polygonize.proofs.piece.first_piece.Given as goal
 
 abbrev pub invariant-loop-i : goal.invariant-loop-i
-invariant-loop-i g l = (l.best < length l.pieces) × IsBest l.edges l.least (map (λ p. p.items) l.pieces) l.i l.best
+invariant-loop-i g l = (l.best < length l.pieces) × IsBest l.edges l.least l.pieces l.i l.best

@@ -1,5 +1,6 @@
-use Rattle.std.proofs.Common.{arith}
+use Rattle.std.proofs.Common.{◌∙◌, ap, arith, sym}
 use Rattle.std.proofs.lemmas.Grind.{common_steps}
+use Rattle.polygonize.specs.Placed.{stands_as_hole}
 use Rattle.polygonize.proofs.Grouping.{one_hole}
 use Rattle.polygonize.proofs.polygon.holes_from.Goals as goal
 
@@ -8,5 +9,5 @@ loop-end-preserved g c = (
   grind (arith, common_steps),
   grind (arith, common_steps),
   grind (arith, common_steps),
-  one_hole (λ w. w.place.is_hole) c.args.written.now c.args.start _ _ c.loop-end.end c.index-written-end.result c.loop-end.invariant.0 c.loop-end-test.true c.if-written-end.true c.in_ok-push.ensures.len c.loop-end.invariant.3,
+  one_hole stands_as_hole c.args.written.now c.args.start _ _ c.loop-end.end c.index-written-end.result c.loop-end.invariant.0 c.loop-end-test.true (ap stands_as_hole (sym c.index-written-end.is) ∙ ap (λ p. p.is_hole) (sym c.place.ensures) ∙ c.if-place.true) c.in_ok-push.ensures.len c.loop-end.invariant.3,
 )

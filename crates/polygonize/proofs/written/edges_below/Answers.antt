@@ -11,8 +11,8 @@ use Rattle.polygonize.proofs.written.edges_below.Goals as goal
 
 pub gaps_below-requires-clause-vertices_in : goal.gaps_below-requires-clause-vertices_in
 gaps_below-requires-clause-vertices_in g c = subst (λ (vs : List Pt). All InLimit vs) (sym (c.deref.ensures.value ∙ c.in_ok-vertices.ensures))
-    (All-map InLimit (λ v. (edge_at c.args.edges.now (get_or v.items 0 0)).from) c.args.cycles.now (λ k d h. let p = c.requires.cycles k d h in (c.requires.edges_in _ nothing (p.inside 0 0 p.some)).a_in))
+    (All-map InLimit (λ v. (edge_at c.args.edges.now (get_or v 0 0)).from) c.args.cycles.now (λ k d h. let p = c.requires.cycles k d h in (c.requires.edges_in _ nothing (p.inside 0 0 p.some)).a_in))
 
 pub returns : goal.returns
-returns g c = IfOk-weaker c.gaps_below.result (λ best. AreGapsBelow c.args.edges.now c.deref.result.now c.deref-2.result.now best.items) (λ best. AreFoundBelow c.args.edges.now (map (λ v. v.items) c.args.cycles.now) best.items)
-    (λ best h. below_all (λ v. v.items) c.args.edges.now c.args.cycles.now c.in_ok-vertices.vertices.items c.in_ok-holes.holes.items best.items c.in_ok-vertices.ensures c.in_ok-holes.ensures.complete (rw (c.deref.ensures.value, c.deref-2.ensures.value) at h)) c.gaps_below.ensures
+returns g c = IfOk-weaker c.gaps_below.result (λ best. AreGapsBelow c.args.edges.now c.deref.result.now c.deref-2.result.now best.items) (λ best. AreFoundBelow c.args.edges.now c.args.cycles.now best.items)
+    (λ best h. below_all c.args.edges.now c.args.cycles.now c.in_ok-vertices.vertices.items c.in_ok-holes.holes.items best.items c.in_ok-vertices.ensures c.in_ok-holes.ensures.complete (rw (c.deref.ensures.value, c.deref-2.ensures.value) at h)) c.gaps_below.ensures

@@ -5,4 +5,4 @@ use Rattle.polygonize.proofs.Filtered.{KeptSoFar}
 use Rattle.polygonize.proofs.written.holes_of.Given as goal
 
 abbrev pub invariant-loop-number : goal.invariant-loop-number
-invariant-loop-number g l = KeptSoFar (λ m. m) (λ k. k < length l.cycles) (λ r. IsHole (ring_of l.edges (slice_index_or (map (λ c. c.items) l.cycles) r []))) l.number l.holes.items
+invariant-loop-number g l = KeptSoFar (λ m. m) (λ k. k < length l.cycles) (λ r. IsHole (ring_of l.edges (slice_index_or l.cycles r []))) l.number l.holes.items

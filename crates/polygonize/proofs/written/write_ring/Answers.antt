@@ -1,6 +1,4 @@
-use Rattle.std.proofs.Common.{map}
-use Rattle.polygonize.proofs.Writing.{below_ring, cut_some, mapped_some, ring_least, ring_placed, ring_sound, ring_some, ring_vertices, ring_written, unmapped, vertices_inside}
-use Rattle.polygonize.specs.Written.{IsSound}
+use Rattle.polygonize.proofs.Writing.{below_ring, cut_some, ring_least, ring_placed, ring_sound, ring_some, ring_vertices, ring_written, vertices_inside}
 use Rattle.polygonize.proofs.written.write_ring.Goals as goal
 
 pub owner_of-owner-requires-clause-vertices : goal.owner_of-owner-requires-clause-vertices
@@ -16,17 +14,16 @@ pub write_pieces-requires-clause-least : goal.write_pieces-requires-clause-least
 write_pieces-requires-clause-least g c = rw c.index.ensures (ring_vertices c.args.edges.now c.args.numbers.now c.args.cycle.now c.in_ok-ring.ring.items c.requires.numbers c.requires.cycle c.in_ok-ring.ensures 0 c.index.result.now (ring_some c.args.numbers.now c.args.cycle.now c.in_ok-ring.ring.items c.requires.cycle.some c.in_ok-ring.ensures))
 
 pub write_pieces-requires-clause-some : goal.write_pieces-requires-clause-some
-write_pieces-requires-clause-some g c = mapped_some (λ p. p.items) c.in_ok-pieces.pieces.items (cut_some c.in_ok-pieces.ensures.pieces)
+write_pieces-requires-clause-some g c = cut_some c.in_ok-pieces.ensures.pieces
 
 pub write_pieces-requires-clause-sound : goal.write_pieces-requires-clause-sound
-write_pieces-requires-clause-sound g c = unmapped (IsSound c.args.edges.now) (λ p. p.items) c.in_ok-pieces.pieces.items
-    (ring_sound c.args.edges.now c.args.numbers.now c.args.cycle.now c.in_ok-ring.ring.items _ c.requires.numbers c.requires.cycle c.in_ok-ring.ensures (rw c.deref-2.ensures.value at c.in_ok-pieces.ensures.pieces))
+write_pieces-requires-clause-sound g c = ring_sound c.args.edges.now c.args.numbers.now c.args.cycle.now c.in_ok-ring.ring.items _ c.requires.numbers c.requires.cycle c.in_ok-ring.ensures (rw c.deref-2.ensures.value at c.in_ok-pieces.ensures.pieces)
 
 pub returns-clause-written : goal.returns-clause-written
 returns-clause-written g c = ring_written c.args.edges.now c.args.numbers.now c.args.cycle.now c.in_ok-ring.ring.items _ _ _ c.requires.numbers c.requires.cycle c.in_ok-ring.ensures (rw c.deref-2.ensures.value at c.in_ok-pieces.ensures.pieces) c.in_ok-shell.ensures.added
 
 pub returns-clause-placed : goal.returns-clause-placed
-returns-clause-placed g c = ring_placed c.args.edges.now c.args.numbers.now c.args.cycle.now c.in_ok-ring.ring.items (map (λ p. p.items) c.in_ok-pieces.pieces.items) c.owner_of-owner.result c.in_ok-shell.shell _ _ _ _ c.index.result.now c.requires.closes.are_directed c.requires.numbers c.requires.cycle
+returns-clause-placed g c = ring_placed c.args.edges.now c.args.numbers.now c.args.cycle.now c.in_ok-ring.ring.items c.in_ok-pieces.pieces.items c.owner_of-owner.result c.in_ok-shell.shell _ _ _ _ c.index.result.now c.requires.closes.are_directed c.requires.numbers c.requires.cycle
     c.in_ok-ring.ensures c.index.ensures (rw c.deref-2.ensures.value at c.in_ok-pieces.ensures.pieces) (rw c.deref.ensures.value at c.owner_of-owner.ensures) c.in_ok-shell.ensures.pieces c.keep_shell.ensures
 
 pub owner_of-owner-requires-clause-below : goal.owner_of-owner-requires-clause-below
