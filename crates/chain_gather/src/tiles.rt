@@ -29,13 +29,13 @@ use tiling::{Bins, Grid, MOST_TILES};
 
 /// What was gathered from some tiles: their records, their numbers, and how many of their pieces were made anew.
 #[derive(Drop)]
-pub(crate) struct Found<A: Allocator> {
+pub(crate) struct Gathering<A: Allocator> {
     pub records: Vec<Record, A>,
     pub tiles: Vec<TileNumbers, A>,
     pub remade: u32,
 }
 
-impl<A: Allocator> Found<A> {
+impl<A: Allocator> Gathering<A> {
     /// Adds a tile's records and numbers. More records than a `u32` counts are refused as want of memory.
     fn add(&mut self, pixels: u32, records: &[Record]) -> Result<(), NoMemory>
         ensures records { OnOk result (self.new.records.items ≡ self.old.records.items ++ records.now) }
@@ -70,7 +70,7 @@ impl<A: Allocator> Found<A> {
 /// those of the segments near the tile.
 fn add_tile<L: Limited, A: Allocator + Copy>(
     alloc: A,
-    found: &mut Found<A>,
+    found: &mut Gathering<A>,
     book: &Book<Piece<A>, L, A>,
     grid: &Grid,
     tile: u32,
@@ -99,12 +99,12 @@ fn all_tiles<L: Limited, A: Allocator + Copy>(
     grid: &Grid,
     bins: &Bins<A>,
     segments: &[Seg],
-) -> Result<Found<A>, NoMemory>
+) -> Result<Gathering<A>, NoMemory>
     requires limits { All (λ s. AreInLimit s.a s.b) segments.now }
     requires bins { AreBinsOf grid.now segments.now bins.now }
     ensures { IfOk result (λ f. AreGathered grid.now segments.now book.now.held (tile_count grid.now) f.records.items f.tiles.items f.remade) }
 {
-    let mut found = Found {
+    let mut found = Gathering {
         records: Vec::new(alloc),
         tiles: Vec::new(alloc),
         remade: 0,
@@ -138,7 +138,7 @@ pub fn gather<L: Limited, A: Allocator + Copy>(
     ensures few { IfOk result (λ r. r.remade ≤ tile_count grid.now) }
     ensures remade { IfOk result (λ r. IsCountBelow (tile_count grid.now) (λ k. ¬ (HoldsOwn grid.now segments.now book.held k)) r.remade) }
 {
-    let Found {
+    let Gathering {
         records,
         tiles,
         remade,

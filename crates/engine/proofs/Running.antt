@@ -7,7 +7,7 @@ use Rattle.geom.specs.declared.fault.Part.{Part}
 use Rattle.geom.specs.declared.fault.Part.TheVariants.{Run}
 use Rattle.geom.specs.declared.fault.RunFault.{RunFault}
 use Rattle.geom.specs.declared.fault.NoMemory.{NoMemory}
-use Rattle.engine.specs.declared.engine.Made.{Made}
+use Rattle.engine.specs.declared.engine.Output.{Output}
 use Rattle.engine.specs.declared.engine.Plan.{Plan}
 use Rattle.engine.specs.declared.operation.Wanted.{Wanted}
 use Rattle.engine.specs.declared.operation.Wanted.TheVariants.{Apply, Edges}
@@ -25,10 +25,10 @@ written Edges plan a b counted text report h reports = record { counted = counte
 written (Apply op) plan a b counted text report h reports = record { counted = counted; result = h; reports = reports }
 
 -- of the layers and the plan that were checked
-abbrev IsMade : {M : Type 0} → Wanted → Plan → List ℕ → List ℕ → Made M → Type 0
+abbrev IsMade : {M : Type 0} → Wanted → Plan → List ℕ → List ℕ → Output M → Type 0
 IsMade wanted plan a b made = IsWritten wanted plan a b made.text.items made.report
 
-checked_made : {M : Type 0} (wanted : Wanted) (plan other : Plan) (a b a' b' : List ℕ) (made : Made M) → (other ≡ plan) × (a' ≡ a) × (b' ≡ b) → IsMade wanted other a' b' made → IsMade wanted plan a b made
+checked_made : {M : Type 0} (wanted : Wanted) (plan other : Plan) (a b a' b' : List ℕ) (made : Output M) → (other ≡ plan) × (a' ≡ a) × (b' ≡ b) → IsMade wanted other a' b' made → IsMade wanted plan a b made
 checked_made wanted plan other a b a' b' made e h =
     subst (λ (p : Plan). IsMade wanted p a b made) e.0 (subst (λ (t : List ℕ). IsMade wanted other t b made) e.1 (subst (λ (t : List ℕ). IsMade wanted other a' t made) e.2 h))
 
@@ -63,12 +63,12 @@ refused_declines plan a b part (TooManyTiles n) r = r
 refused_declines plan a b part (NotNoded e f) r = r
 refused_declines plan a b part Write r = r
 
-pub ends : {M : Type 0} (wanted : Wanted) (plan other : Plan) (a b a' b' : List ℕ) (r : Result (Made M) NoMemory) (answer : Result (Made M) RunFault)
+pub ends : {M : Type 0} (wanted : Wanted) (plan other : Plan) (a b a' b' : List ℕ) (r : Result (Output M) NoMemory) (answer : Result (Output M) RunFault)
     → (other ≡ plan) × (a' ≡ a) × (b' ≡ b) → MayRun plan a b → IfOk r (IsMade wanted other a' b')
     → MatchResult answer (λ m. r ≡ Ok m) (λ f. (f.at ≡ Run) × (f.fault ≡ Memory))
     → MatchResult answer (IsMade wanted plan a b) (λ f. Declines plan a b f.at f.fault)
 ends {M} wanted plan other a b a' b' r (Ok made) e may h is =
-    checked_made wanted plan other a b a' b' made e (subst (λ (t : Result (Made M) NoMemory). IfOk t (IsMade wanted other a' b')) is h)
+    checked_made wanted plan other a b a' b' made e (subst (λ (t : Result (Output M) NoMemory). IfOk t (IsMade wanted other a' b')) is h)
 ends wanted plan other a b a' b' r (Err f) e may h is = subst (λ (fault : Fault). Declines plan a b f.at fault) (sym is.1) (is.0, may)
 
 -- ---- how a call with a sink ends
@@ -91,7 +91,7 @@ pub may_run : {M : Type 0} (wanted : Wanted) (plan : Plan) (a b : List ℕ) (tex
 may_run Edges plan a b text report h = (h.reports.rings_a, h.reports.rings_b, h.reports.grid, h.reports.ready)
 may_run (Apply op) plan a b text report h = (h.reports.rings_a, h.reports.rings_b, h.reports.grid, h.reports.ready)
 
-pub sent_runs : {S M : Type 0} (state : S → SinkState) (old new : S) (plan : Plan) (a b : List ℕ) (IsAnswer : List ℕ → Report M → Type 0) (made : Made M)
+pub sent_runs : {S M : Type 0} (state : S → SinkState) (old new : S) (plan : Plan) (a b : List ℕ) (IsAnswer : List ℕ → Report M → Type 0) (made : Output M)
     → MayRun plan a b → IsAnswer made.text.items made.report → (r : Result (Report M) RunFault) → Delivers (state old) (state new) made r → Runs state old new plan a b IsAnswer r
 sent_runs state old new plan a b IsAnswer made may is (Ok told) h =
     record { may = may; text = made.text.items; is_answer = subst (λ (m : Report _). IsAnswer made.text.items m) (sym h.0) is; sent = h.1 }

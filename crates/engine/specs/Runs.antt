@@ -22,7 +22,7 @@ use Rattle.chain_gather.specs.declared.rounded.TileNumbers.{TileNumbers}
 use Rattle.engine.specs.Rounds.{AreRingsInLimit, AreRoundedOver, IsGridOver, TellsTiles}
 use Rattle.engine.specs.declared.checking.TheConstants.{SEGMENT_LIMIT}
 use Rattle.tile_book.specs.declared.draw.TheConstants.{MOST_HANDS}
-use Rattle.engine.specs.declared.engine.Made.{Made}
+use Rattle.engine.specs.declared.engine.Output.{Output}
 use Rattle.engine.specs.declared.engine.Plan.{Plan}
 
 -- the number of workers is within its limits
@@ -113,7 +113,7 @@ abbrev pub MayRun : Plan → List ℕ → List ℕ → Type 0
 MayRun plan a b = (rings_a : List Ring) × (rings_b : List Ring) × (grid : Tiling) × IsReady plan a b rings_a rings_b grid
 
 -- the text that was made was sent, and its report is answered; or the sink failed, and had taken a beginning of the text
-abbrev pub Delivers : {M : Type 0} → SinkState → SinkState → Made M → Result (Report M) RunFault → Type 0
+abbrev pub Delivers : {M : Type 0} → SinkState → SinkState → Output M → Result (Report M) RunFault → Type 0
 Delivers old new made r =
     MatchResult r (λ report. (report ≡ made.report) × SentAll old new made.text.items) (λ f. (f.at ≡ Run) × (f.fault ≡ Write) × SentPart old new made.text.items)
 

@@ -9,8 +9,8 @@ pub record SinkState : Type 0 where
   pub taken : Option (List ℕ)
 
 -- the known bytes, and then these
-abbrev pub Told : Option (List ℕ) → List ℕ → Option (List ℕ)
-Told known bytes = option_map (λ before. before ++ bytes) known
+abbrev pub bytes_after : Option (List ℕ) → List ℕ → Option (List ℕ)
+bytes_after known bytes = option_map (λ before. before ++ bytes) known
 
 -- a `write` that took the first n bytes
 pub record Took (old new : SinkState) (bytes : List ℕ) (n : ℕ) : Type 0 where
@@ -18,7 +18,7 @@ pub record Took (old new : SinkState) (bytes : List ℕ) (n : ℕ) : Type 0 wher
   pub within : n ≤ length bytes
   pub same_count : new.failed ≡ old.failed
   pub unsettled : new.settled ≡ false
-  pub bytes_taken : new.taken ≡ Told old.taken (take n bytes)
+  pub bytes_taken : new.taken ≡ bytes_after old.taken (take n bytes)
 
 -- a `write` that failed
 pub record TookNothing (old new : SinkState) : Type 0 where
@@ -48,14 +48,14 @@ Finished old new r = MatchResult r (λ _. Settled old new) (λ _. NotSettled old
 pub record SentAll (old new : SinkState) (text : List ℕ) : Type 0 where
   pub same_count : new.failed ≡ old.failed
   pub now_settled : new.settled ≡ true
-  pub all_taken : new.taken ≡ Told old.taken text
+  pub all_taken : new.taken ≡ bytes_after old.taken text
 
 -- a `write` failed: the sink has taken a proper beginning of the text, and isn't settled
 pub record SentBeginning (old new : SinkState) (text : List ℕ) : Type 0 where
   pub n : ℕ
   pub proper : n < length text
   pub unsettled : new.settled ≡ false
-  pub beginning_taken : new.taken ≡ Told old.taken (take n text)
+  pub beginning_taken : new.taken ≡ bytes_after old.taken (take n text)
 
 -- whether a sink is settled once this text was taken: every `write` ends that, and an empty text has none
 abbrev pub mark_after : Bool → List ℕ → Bool
@@ -65,7 +65,7 @@ mark_after before (_ ∷ _) = false
 -- only `finish` failed: the sink has taken the whole text, and isn't settled by it
 pub record SentUnfinished (old new : SinkState) (text : List ℕ) : Type 0 where
   pub same_mark : new.settled ≡ mark_after old.settled text
-  pub all_taken : new.taken ≡ Told old.taken text
+  pub all_taken : new.taken ≡ bytes_after old.taken text
 
 -- the sink failed once, and was called no more: in a `write`, or in the `finish` behind all of them
 pub record SentPart (old new : SinkState) (text : List ℕ) : Type 0 where
@@ -76,12 +76,12 @@ abbrev pub Sent : SinkState → SinkState → List ℕ → Result Unit SinkFault
 Sent old new text r = MatchResult r (λ _. SentAll old new text) (λ _. SentPart old new text)
 
 -- what a sink in memory holds
-pub record Held : Type 0 where
+pub record MemState : Type 0 where
   pub bytes : List ℕ
   pub room : ℕ
   pub failures : ℕ
   pub settled : Bool
 
 -- a sink in memory tells its bytes
-abbrev pub mem_state : Held → SinkState
+abbrev pub mem_state : MemState → SinkState
 mem_state s = record { failed = s.failures; settled = s.settled; taken = Some s.bytes }

@@ -12,7 +12,7 @@ ghost use Rattle.engine.specs.Runs.{AreEdgesWritten, Declines, IsReading, alone}
 
 use crate::cells::{bins_of, cells_of};
 use crate::checking::{Checked, Reading, check, check_plan};
-use crate::engine::{Made, Plan, make, or_fault};
+use crate::engine::{Output, Plan, make, or_fault};
 use crate::operation::Wanted;
 use crate::reading::{read_segments, reading};
 use crate::rounds::Pieces;
@@ -31,7 +31,7 @@ pub fn edges_alone<A: Allocator + Copy>(
     a: &[u8],
     b: &[u8],
     side: u32,
-) -> Result<Made<A>, RunFault>
+) -> Result<Output<A>, RunFault>
     ensures { MatchResult result (λ m. AreEdgesWritten (alone side) a.now b.now m.text.items m.report) (λ f. Declines (alone side) a.now b.now f.at f.fault) }
 {
     made_alone(alloc, Wanted::Edges, a, b, side)
@@ -45,7 +45,7 @@ pub fn run_alone<A: Allocator + Copy>(
     a: &[u8],
     b: &[u8],
     side: u32,
-) -> Result<Made<A>, RunFault>
+) -> Result<Output<A>, RunFault>
     ensures { MatchResult result (λ m. IsResultWritten op (alone side) a.now b.now m.text.items m.report) (λ f. Declines (alone side) a.now b.now f.at f.fault) }
 {
     made_alone(alloc, Wanted::Apply(op), a, b, side)
@@ -58,7 +58,7 @@ fn made_alone<A: Allocator + Copy>(
     a: &[u8],
     b: &[u8],
     side: u32,
-) -> Result<Made<A>, RunFault>
+) -> Result<Output<A>, RunFault>
     ensures { MatchResult result (λ m. IsWritten wanted (alone side) a.now b.now m.text.items m.report) (λ f. Declines (alone side) a.now b.now f.at f.fault) }
 {
     let plan = Plan { side, workers: 1 };
@@ -78,7 +78,7 @@ fn by_one<A: Allocator + Copy>(
     checked: &Checked<'_, '_>,
     read_a: Reading<A>,
     read_b: Reading<A>,
-) -> Result<Made<A>, NoMemory>
+) -> Result<Output<A>, NoMemory>
     requires read_a { IsReading checked.now.a.now read_a }
     requires read_b { IsReading checked.now.b.now read_b }
     ensures { IfOk result (λ m. IsWritten wanted checked.now.plan checked.now.a.now checked.now.b.now m.text.items m.report) }

@@ -37,7 +37,7 @@ pub struct Plan {
 
 /// A text, and the numbers of the run that made it.
 #[derive(Drop)]
-pub struct Made<A: Allocator> {
+pub struct Output<A: Allocator> {
     pub text: Vec<u8, A>,
     pub report: Report<A>,
 }
@@ -90,7 +90,7 @@ fn made_by_workers<A: Allocator + Copy + Send + Sync, G: Gate + Sync, R: Threads
     b: &[u8],
     plan: Plan,
     gate: &G,
-) -> Result<Made<A>, RunFault>
+) -> Result<Output<A>, RunFault>
     ensures { MatchResult result (λ m. IsWritten wanted plan a.now b.now m.text.items m.report) (λ f. Declines plan a.now b.now f.at f.fault) }
 {
     check_plan(plan)?;
@@ -110,7 +110,7 @@ fn by_workers<A: Allocator + Copy + Send + Sync, G: Gate + Sync, R: Threads + Wa
     read_a: Reading<A>,
     read_b: Reading<A>,
     gate: &G,
-) -> Result<Made<A>, NoMemory>
+) -> Result<Output<A>, NoMemory>
     requires read_a { IsReading checked.now.a.now read_a }
     requires read_b { IsReading checked.now.b.now read_b }
     ensures { IfOk result (λ m. IsWritten wanted checked.now.plan checked.now.a.now checked.now.b.now m.text.items m.report) }
@@ -125,7 +125,7 @@ pub(crate) fn make<A: Allocator + Copy>(
     wanted: Wanted,
     checked: &Checked<'_, '_>,
     noded: &Noded<A>,
-) -> Result<Made<A>, NoMemory>
+) -> Result<Output<A>, NoMemory>
     requires rounded { AreRoundedOver checked.now.a.now checked.now.b.now checked.now.grid noded.now.edges.items noded.now.tiles.items }
     requires layers { ∥ AreLayers noded.now.edges.items ∥₁ }
     requires remade { noded.now.remade ≤ tile_count checked.now.grid }
@@ -133,11 +133,13 @@ pub(crate) fn make<A: Allocator + Copy>(
 {
     let text = text_of(alloc, wanted, &noded.edges)?;
     let report = report_of(alloc, checked, noded)?;
-    Ok(Made { text, report })
+    Ok(Output { text, report })
 }
 
 /// What was made, or that the run wants memory.
-pub(crate) fn or_fault<A: Allocator>(made: Result<Made<A>, NoMemory>) -> Result<Made<A>, RunFault>
+pub(crate) fn or_fault<A: Allocator>(
+    made: Result<Output<A>, NoMemory>,
+) -> Result<Output<A>, RunFault>
     ensures { MatchResult result (λ m. made ≡ Ok m) (λ f. (f.at ≡ Part.Run) × (f.fault ≡ Fault.Memory)) }
 {
     match made {
@@ -150,7 +152,7 @@ pub(crate) fn or_fault<A: Allocator>(made: Result<Made<A>, NoMemory>) -> Result<
 }
 
 /// Sends a text whole, and answers its report.
-fn send<A: Allocator, S: Sink>(made: Made<A>, sink: &mut S) -> Result<Report<A>, RunFault>
+fn send<A: Allocator, S: Sink>(made: Output<A>, sink: &mut S) -> Result<Report<A>, RunFault>
     requires { (S.state sink.old).failed < u64.MAX }
     ensures { Delivers (S.state sink.old) (S.state sink.new) made result }
 {

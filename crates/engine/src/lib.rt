@@ -15,7 +15,7 @@ mod sink;
 mod text;
 
 pub use alone::{edges_alone, run_alone};
-pub use engine::{Made, Plan, edges, run};
+pub use engine::{Output, Plan, edges, run};
 pub use fitting::fitting_side;
 pub use laws::{
     counts_are_exact, edges_text_is_one, one_refusal, result_text_is_one, run_reports_as_edges,

@@ -147,8 +147,8 @@ fn by_cells<
     )?;
     drop(bins);
     let most = remade.min(grid.tiles());
-    let sorter = Workers { rt, count: workers };
-    let rounded = gather_made(alloc, &sorter, pieces, most, cells, grid, segments)?;
+    let hands = Workers { rt, count: workers };
+    let rounded = gather_made(alloc, &hands, pieces, most, cells, grid, segments)?;
     Ok(settled(rounded))
 }
 

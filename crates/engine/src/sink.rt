@@ -1,7 +1,7 @@
 //! Where a text is written.
 
 ghost use Rattle.std.specs.Prelude.{◌≡◌, ◌+◌, ◌-◌, ◌<◌, ◌≤◌, true, false, [], Ok, length, min, IfOk, vec_capacity, vec_len};
-ghost use Rattle.engine.specs.Sinks.{mem_state, Finished, Held, Sent, SinkState, Wrote};
+ghost use Rattle.engine.specs.Sinks.{mem_state, Finished, MemState, Sent, SinkState, Wrote};
 
 use geom::NoMemory;
 use std::alloc::Allocator;
@@ -56,7 +56,7 @@ pub struct MemSink<A: Allocator> {
 }
 
 impl<A: Allocator> Model for MemSink<A> {
-    ghost Value = { Held };
+    ghost Value = { MemState };
 
     ghost view = { λ s. record { bytes = s.bytes.items; room = s.room; failures = s.failures; settled = s.settled } };
 

@@ -19,19 +19,19 @@ use Rattle.noding_test.proofs.MeetingLaws.{Decides, at_ends, beside_first, besid
 use Rattle.noding_test.proofs.VerdictLaws.{clean_not_bad}
 
 -- P holds, or it doesn't
-abbrev pub Told : Type 0 → Type 0
-Told P = P ⊎ ¬ P
+abbrev pub Decidable : Type 0 → Type 0
+Decidable P = P ⊎ ¬ P
 
-pub shown : {P : Type 0} → Told P → ∥ P ∥₁ → P
+pub shown : {P : Type 0} → Decidable P → ∥ P ∥₁ → P
 shown (inl p) h = p
 shown (inr n) h = absurd (∥∥₁_elim h (hlevel props) (λ p. n p))
 
-both : {P Q : Type 0} → Told P → Told Q → Told (P × Q)
+both : {P Q : Type 0} → Decidable P → Decidable Q → Decidable (P × Q)
 both (inl p) (inl q) = inl (p, q)
 both (inl p) (inr n) = inr (λ h. n h.1)
 both (inr n) t = inr (λ h. n h.0)
 
-either : {P Q : Type 0} → Told P → Told Q → Told (P ⊎ Q)
+either : {P Q : Type 0} → Decidable P → Decidable Q → Decidable (P ⊎ Q)
 either (inl p) t = inl (inl p)
 either (inr n) (inl q) = inl (inr q)
 either (inr n) (inr m) = inr (λ h. ⊎_elim (λ p. n p) (λ q. m q) h)
@@ -46,47 +46,47 @@ clash_same {x} {y} h e = omega (arith, linear)
 clash_past : {x y : ℤ} → y <ℤ x → x ≡ y → ⊥
 clash_past {x} {y} h e = omega (arith, linear)
 
-less : (x y : ℤ) → Told (x <ℤ y)
+less : (x y : ℤ) → Decidable (x <ℤ y)
 less x y = tell (int_cmp x y) (int_ranks x y)
   where
-    tell : (o : Ordering) → MatchOrdering o (x <ℤ y) (x ≡ y) (y <ℤ x) → Told (x <ℤ y)
+    tell : (o : Ordering) → MatchOrdering o (x <ℤ y) (x ≡ y) (y <ℤ x) → Decidable (x <ℤ y)
     tell Less h = inl h
     tell Equal h = inr (λ l. clash_same l h)
     tell Greater h = inr (λ l. clash l h)
 
-zero : (x : ℤ) → Told (x ≡ pos 0)
+zero : (x : ℤ) → Decidable (x ≡ pos 0)
 zero x = tell (int_cmp x (pos 0)) (int_ranks x (pos 0))
   where
-    tell : (o : Ordering) → MatchOrdering o (x <ℤ pos 0) (x ≡ pos 0) (pos 0 <ℤ x) → Told (x ≡ pos 0)
+    tell : (o : Ordering) → MatchOrdering o (x <ℤ pos 0) (x ≡ pos 0) (pos 0 <ℤ x) → Decidable (x ≡ pos 0)
     tell Less h = inr (λ e. clash_same h e)
     tell Equal h = inl h
     tell Greater h = inr (λ e. clash_past h e)
 
-one_side : (x y : ℤ) → Told (AreOnOneSide x y)
+one_side : (x y : ℤ) → Decidable (AreOnOneSide x y)
 one_side x y = either (both (less (pos 0) x) (less (pos 0) y)) (both (less x (pos 0)) (less y (pos 0)))
 
 -- ---- edges
-pub edge_before : (e f : Edge) → Told (IsEdgeBefore e f)
+pub edge_before : (e f : Edge) → Decidable (IsEdgeBefore e f)
 edge_before e f = tell (edge_cmp e f) (edge_ranks e f)
   where
-    tell : (o : Ordering) → MatchOrdering o (IsEdgeBefore e f) (e ≡ f) (IsEdgeBefore f e) → Told (IsEdgeBefore e f)
+    tell : (o : Ordering) → MatchOrdering o (IsEdgeBefore e f) (e ≡ f) (IsEdgeBefore f e) → Decidable (IsEdgeBefore e f)
     tell Less h = inl h
     tell Equal h = inr (λ l. edge_before_itself f (subst (λ (x : Edge). IsEdgeBefore x f) h l))
     tell Greater h = inr (λ l. edge_before_itself e (edge_before_trans e f e l h))
 
-same_edge : (e f : Edge) → Told (e ≡ f)
+same_edge : (e f : Edge) → Decidable (e ≡ f)
 same_edge e f = tell (edge_cmp e f) (edge_ranks e f)
   where
-    tell : (o : Ordering) → MatchOrdering o (IsEdgeBefore e f) (e ≡ f) (IsEdgeBefore f e) → Told (e ≡ f)
+    tell : (o : Ordering) → MatchOrdering o (IsEdgeBefore e f) (e ≡ f) (IsEdgeBefore f e) → Decidable (e ≡ f)
     tell Less h = inr (λ s. edge_before_itself f (subst (λ (x : Edge). IsEdgeBefore x f) s h))
     tell Equal h = inl h
     tell Greater h = inr (λ s. edge_before_itself f (subst (λ (x : Edge). IsEdgeBefore f x) s h))
 
-member : (edges : List Edge) (e : Edge) → Told (In e edges)
+member : (edges : List Edge) (e : Edge) → Decidable (In e edges)
 member [] e = inr (λ i. i)
 member (f ∷ fs) e = either (same_edge f e) (member fs e)
 
-contains : (edges : List Edge) (e : Edge) → Told (Contains edges e)
+contains : (edges : List Edge) (e : Edge) → Decidable (Contains edges e)
 contains edges e = ⊎_elim (λ i. inl (in_contains edges e i)) (λ n. inr (λ h. n (contains_in edges e h))) (member edges e)
 
 -- ---- bad pairs
@@ -117,10 +117,10 @@ decided e f =
     (one_side a b))
     (both (zero a) (zero b))
 
-pub bad : (e f : Edge) → Told (IsBad e f)
+pub bad : (e f : Edge) → Decidable (IsBad e f)
 bad e f = let (answer, d) = decided e f in tell answer d
   where
-    tell : (answer : Bool) → Decides e f answer → Told (IsBad e f)
+    tell : (answer : Bool) → Decides e f answer → Decidable (IsBad e f)
     tell true d = inr (λ h. clean_not_bad e f (d.clean refl) h)
     tell false d = inl (d.bad refl)
 

@@ -20,7 +20,7 @@ use std::marker::Brand;
 use std::sync::Wait;
 use std::sync::ledger::Blank;
 use std::thread::Threads;
-use tile_book::{Filled, Gate, Job, Limited, MOST_HANDS, Phase, fill};
+use tile_book::{FilledBook, Gate, Job, Limited, MOST_HANDS, Phase, fill};
 use tiling::{Bins, Grid};
 
 /// Makes the verdict of each tile from the edges in its bin.
@@ -102,7 +102,7 @@ fn least_bad_of<
         bins: &bins,
         counted,
     };
-    let filled: Filled<Verdict<A>, L, A> = fill(
+    let filled: FilledBook<Verdict<A>, L, A> = fill(
         rt,
         alloc,
         blank,

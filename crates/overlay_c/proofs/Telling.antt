@@ -4,7 +4,7 @@ use Rattle.std.specs.Prelude.{MatchResult, Option, Result, Ok, Err, None, Some}
 use Rattle.geom.specs.declared.edge.Counted.{Counted}
 use Rattle.geom.specs.declared.fault.RunFault.{RunFault}
 use Rattle.geom.specs.declared.op.Op.{Op}
-use Rattle.engine.specs.declared.engine.Made.{Made}
+use Rattle.engine.specs.declared.engine.Output.{Output}
 use Rattle.engine.specs.declared.text.Report.{Report}
 use Rattle.engine.specs.Results.{IsResultWritten}
 use Rattle.engine.specs.Runs.{AreEdgesWritten, Declines, Reports, alone}
@@ -23,13 +23,13 @@ made task side a b text counted report r asked = record {
   asked = asked;
 }
 
-pub result_made : {M : Type 0} (op : Op) (side : ℕ) (a b : List ℕ) (r : Result (Made M) RunFault)
+pub result_made : {M : Type 0} (op : Op) (side : ℕ) (a b : List ℕ) (r : Result (Output M) RunFault)
     → MatchResult r (λ m. IsResultWritten op (alone side) a b m.text.items m.report) (λ f. Declines (alone side) a b f.at f.fault)
     → MatchResult r (λ m. IsMade (Apply op) side a b m.text.items) (λ f. Declines (alone side) a b f.at f.fault)
 result_made op side a b (Ok m) h = made (Apply op) side a b m.text.items h.counted m.report h.reports h.result
 result_made op side a b (Err f) h = h
 
-pub edges_made : {M : Type 0} (side : ℕ) (a b : List ℕ) (r : Result (Made M) RunFault)
+pub edges_made : {M : Type 0} (side : ℕ) (a b : List ℕ) (r : Result (Output M) RunFault)
     → MatchResult r (λ m. AreEdgesWritten (alone side) a b m.text.items m.report) (λ f. Declines (alone side) a b f.at f.fault)
     → MatchResult r (λ m. IsMade Edges side a b m.text.items) (λ f. Declines (alone side) a b f.at f.fault)
 edges_made side a b (Ok m) h = made Edges side a b m.text.items h.counted m.report h.reports h.text_is

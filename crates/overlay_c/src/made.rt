@@ -5,7 +5,7 @@ ghost use Rattle.engine.specs.Runs.{Declines, alone};
 ghost use Rattle.overlay_c.specs.Boundary.{Fails, IsMade, IsTextOf, task_from};
 
 use crate::answer::{NO_CALL, OverlayAnswer, answer_of, plain_answer};
-use engine::{Made, edges_alone, run_alone};
+use engine::{Output, edges_alone, run_alone};
 use geom::{Op, RunFault};
 use std::alloc::Global;
 
@@ -36,7 +36,7 @@ fn made_for(
     side: u32,
     a: &[u8],
     b: &[u8],
-) -> Result<Made<Global>, RunFault>
+) -> Result<Output<Global>, RunFault>
     ensures { MatchResult result (λ made. IsMade task side a.now b.now made.text.items) (λ fault. Declines (alone side) a.now b.now fault.at fault.fault) }
 {
     match task {
@@ -59,7 +59,7 @@ pub fn text_of(
         return Err(plain_answer(NO_CALL, 0));
     };
     match made_for(alloc, task, side, a, b) {
-        Ok(Made { text, .. }) => Ok(text),
+        Ok(Output { text, .. }) => Ok(text),
         Err(fault) => Err(answer_of(&fault)),
     }
 }

@@ -13,7 +13,7 @@ ghost use Rattle.polygonize.specs.Placed.{points, stands_as_hole};
 ghost use Rattle.polygonize.specs.Written.{AreSimple, IsSound};
 
 use crate::number::points_of;
-use crate::written::{Written, written_rings};
+use crate::written::{WrittenRing, written_rings};
 use face_label::Directed;
 use geom::{DirectedEdge, NoMemory, Polygon, SimpleRing};
 use std::alloc::Allocator;
@@ -34,7 +34,7 @@ fn simple_ring<A: Allocator + Copy>(
 fn holes_from<A: Allocator + Copy>(
     alloc: A,
     edges: &[DirectedEdge],
-    written: &[Written<A>],
+    written: &[WrittenRing<A>],
     start: usize,
 ) -> Result<Vec<SimpleRing<A>, A>, NoMemory>
     requires inside { start ≤ length written.now }
@@ -57,7 +57,7 @@ fn holes_from<A: Allocator + Copy>(
 fn grouped<A: Allocator + Copy>(
     alloc: A,
     edges: &[DirectedEdge],
-    written: &[Written<A>],
+    written: &[WrittenRing<A>],
 ) -> Result<Vec<Polygon<A>, A>, NoMemory>
     requires sound { All (λ w. IsSound edges.now w.ring) written.now }
     ensures rings { IfOk result (λ found. written_rings found.items ≡ map (points edges.now) written.now) }

@@ -55,12 +55,12 @@ pub struct Place {
 
 /// A ring of vertices as it is written.
 #[derive(Debug, Drop)]
-pub struct Written<A: Allocator> {
+pub struct WrittenRing<A: Allocator> {
     place: Place,
     ring: Cycle<A>,
 }
 
-impl<A: Allocator> Model for Written<A> {
+impl<A: Allocator> Model for WrittenRing<A> {
     ghost use Rattle.polygonize.specs.Placed.{PlacedRing};
 
     ghost Value = { PlacedRing };
@@ -68,7 +68,7 @@ impl<A: Allocator> Model for Written<A> {
     ghost view = { λ w. record { place = w.place; ring = w.ring } };
 }
 
-impl<A: Allocator> Written<A> {
+impl<A: Allocator> WrittenRing<A> {
     pub fn place(&self) -> Place
         ensures { result ≡ self.now.place }
     {
@@ -103,13 +103,13 @@ fn is_written_as_hole(owner: Option<Opening>, first: usize, i: usize) -> bool
 
 /// Adds a ring to those that are written.
 fn add_ring<A: Allocator>(
-    written: &mut Vec<Written<A>, A>,
+    written: &mut Vec<WrittenRing<A>, A>,
     place: Place,
     ring: Cycle<A>,
 ) -> Result<(), NoMemory>
     ensures { OnOk result (written.new.items ≡ written.old.items ++ (record { place = place; ring = ring }) ∷ []) }
 {
-    written.push(Written { place, ring })?;
+    written.push(WrittenRing { place, ring })?;
     Ok(())
 }
 
@@ -119,7 +119,7 @@ fn write_pieces<A: Allocator + Copy>(
     least: usize,
     mut pieces: Vec<Cycle<A>, A>,
     owner: Option<Opening>,
-    written: &mut Vec<Written<A>, A>,
+    written: &mut Vec<WrittenRing<A>, A>,
 ) -> Result<Opening, NoMemory>
     requires edges_in { All (λ d. AreInLimit d.from d.to) edges.now }
     requires least { IsVertex edges.now least }
@@ -182,7 +182,7 @@ fn write_ring<A: Allocator + Copy>(
     below: Option<Gap>,
     places: &mut [Option<usize>],
     shell_of: &mut [Option<Opening>],
-    written: &mut Vec<Written<A>, A>,
+    written: &mut Vec<WrittenRing<A>, A>,
 ) -> Result<(), NoMemory>
     requires closes { Closes edges.now }
     requires edges_in { All (λ d. AreInLimit d.from d.to) edges.now }
@@ -213,7 +213,7 @@ fn write_cycles<A: Allocator + Copy>(
     below: &[Option<Gap>],
     places: &mut [Option<usize>],
     shell_of: &mut [Option<Opening>],
-) -> Result<Vec<Written<A>, A>, NoMemory>
+) -> Result<Vec<WrittenRing<A>, A>, NoMemory>
     requires closes { Closes edges.now }
     requires edges_in { All (λ d. AreInLimit d.from d.to) edges.now }
     requires numbers { AreNumbers edges.now numbers.now }
@@ -290,7 +290,7 @@ fn edges_below<A: Allocator + Copy>(
 pub fn written_rings<A: Allocator + Copy>(
     alloc: A,
     edges: &[DirectedEdge],
-) -> Result<Vec<Written<A>, A>, NoMemory>
+) -> Result<Vec<WrittenRing<A>, A>, NoMemory>
     requires closes { Closes edges.now }
     requires edges_in { All (λ d. AreInLimit d.from d.to) edges.now }
     ensures edges { IfOk result (λ written. HaveEdges edges.now (rings_in written.items)) }

@@ -9,7 +9,7 @@ ghost use Rattle.tiling.specs.Tiles.{tile_count, Owns};
 ghost use Rattle.hot_pixel.specs.Candidates.{AreCandidates};
 ghost use Rattle.routing.specs.Pieces.{candidates_of, IsPartOf, IsPieceOf};
 
-use crate::halved::{Found, found_in};
+use crate::halved::{InTile, found_in};
 use crate::pieces::{Part, Piece};
 use crate::record::Candidate;
 use geom::{NoMemory, Seg};
@@ -52,7 +52,7 @@ pub fn piece<A: Allocator + Copy>(
     ensures exact { IfOk result (λ p. IsPieceOf (Owns grid.now number) segments.now p.hot p.records.items) }
 {
     let tile = grid.rect(number);
-    let Found {
+    let InTile {
         pixels,
         mut records,
     } = found_in(alloc, &tile, segments, numbers)?;
@@ -85,6 +85,6 @@ pub fn part<A: Allocator + Copy>(
     ensures { IfOk result (λ p. IsPartOf (Owns grid.now number) segments.now p.pixels.items p.records.items) }
 {
     let tile = grid.rect(number);
-    let Found { pixels, records } = found_in(alloc, &tile, segments, numbers)?;
+    let InTile { pixels, records } = found_in(alloc, &tile, segments, numbers)?;
     Ok(Part { pixels, records })
 }

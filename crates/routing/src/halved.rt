@@ -30,7 +30,7 @@ const DEPTH: u32 = 60;
 
 /// The hot pixels of a tile, and the records of its segments there.
 #[derive(Drop)]
-pub(crate) struct Found<A: Allocator> {
+pub(crate) struct InTile<A: Allocator> {
     pub pixels: Vec<Pt, A>,
     pub records: Vec<Record, A>,
 }
@@ -113,7 +113,7 @@ fn add_all<A: Allocator + Copy>(
     table: &[OnLine],
     rect: &Rect,
     lines: &[Line],
-    found: &mut Found<A>,
+    found: &mut InTile<A>,
 ) -> Result<(), NoMemory>
     requires segments_in { All (λ s. AreInLimit s.a s.b) segments.now }
     requires table_in { All (λ x. x.number < length segments.now) table.now }
@@ -139,7 +139,7 @@ fn halve<A: Allocator + Copy>(
     rect: &Rect,
     lines: &[Line],
     depth: u32,
-    found: &mut Found<A>,
+    found: &mut InTile<A>,
 ) -> Result<(), NoMemory>
     requires segments_in { All (λ s. AreInLimit s.a s.b) segments.now }
     requires table_in { All (λ x. x.number < length segments.now) table.now }
@@ -174,7 +174,7 @@ pub(crate) fn found_in<A: Allocator + Copy>(
     tile: &Rect,
     segments: &[Seg],
     numbers: &[u32],
-) -> Result<Found<A>, NoMemory>
+) -> Result<InTile<A>, NoMemory>
     requires limits { All (λ s. AreInLimit s.a s.b) segments.now }
     requires below { All (λ k. k < length segments.now) numbers.now }
     ensures pixels { IfOk result (λ f. AreOwnedHot (IsIn tile.now) (chosen segments.now numbers.now) f.pixels.items) }
@@ -182,7 +182,7 @@ pub(crate) fn found_in<A: Allocator + Copy>(
 {
     let table = by_line(alloc, segments, numbers)?;
     let lines = lines_of(alloc, &table)?;
-    let mut found = Found {
+    let mut found = InTile {
         pixels: Vec::new(alloc),
         records: Vec::new(alloc),
     };
@@ -190,7 +190,7 @@ pub(crate) fn found_in<A: Allocator + Copy>(
         None => Ok(found),
         Some(part) => {
             halve(alloc, segments, &table, &part, &lines, DEPTH, &mut found)?;
-            Ok(Found {
+            Ok(InTile {
                 pixels: ascending(found.pixels),
                 records: found.records,
             })

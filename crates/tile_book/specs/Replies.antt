@@ -1,5 +1,5 @@
 -- What a piece that comes back says.
-use Rattle.std.specs.Prelude.{◌≡◌, ℕ, ◌+◌, ◌<◌, ◌≤◌, None, IsSome, MatchResult, Result, Unit, slice_index_or}
+use Rattle.std.specs.Prelude.{◌≡◌, ℕ, ◌+◌, ◌<◌, ◌≤◌, None, IsSome, MatchResult, Result, slice_index_or}
 use Rattle.tile_book.specs.declared.book.Returned.{Returned}
 use Rattle.tile_book.specs.declared.book.Returned.TheVariants.{Stranger, Double}
 use Rattle.tile_book.specs.Books.{BookView, with_piece}

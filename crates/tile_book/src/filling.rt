@@ -20,7 +20,7 @@ use std::thread::Threads;
 
 /// What a whole pass gives.
 #[derive(Drop)]
-pub struct Filled<P: Numbered, L: Limited, A: Allocator> {
+pub struct FilledBook<P: Numbered, L: Limited, A: Allocator> {
     /// The pieces that were posted.
     pub book: Book<P, L, A>,
     /// How many pieces came back from the book. Where none did, it is full.
@@ -44,7 +44,7 @@ pub fn fill<
     job: &J,
     phase: Phase,
     gate: &G,
-) -> Result<Filled<J::Piece, L, A>, NoMemory>
+) -> Result<FilledBook<J::Piece, L, A>, NoMemory>
 where
     J::Piece: Send,
     requires name { blank.name ≡ L.name }
@@ -100,8 +100,10 @@ where
     ensures in_order { IfOk result (λ all. StandInOrder J.Piece.Numbered.number_of all.pieces.items) }
     ensures few { IfOk result (λ all. all.remade ≤ limit) }
 {
-    let filled: Filled<J::Piece, L, A> = fill(rt, alloc, blank, limit, workers, job, phase, gate)?;
-    let Filled { book, .. } = filled;
+    let filled: FilledBook<J::Piece, L, A> = fill(
+        rt, alloc, blank, limit, workers, job, phase, gate,
+    )?;
+    let FilledBook { book, .. } = filled;
     complete(alloc, job, book)
 }
 
@@ -140,7 +142,7 @@ pub fn settle<P: Numbered + Drop, L: Limited, A: Allocator + Copy>(
     draw: Draw<A>,
     desk: Desk<P, L, A>,
     ended: Vec<Ended<L>, A>,
-) -> Result<Filled<P, L, A>, NoMemory>
+) -> Result<FilledBook<P, L, A>, NoMemory>
     requires own { All (λ e. (e.hand.draw ≡ draw) × HasGrown e) ended.items }
     requires all { (vec_len ended ≡ draw.hands) × (draw.hands ≡ desk.shares) × (draw.hands ≤ MOST_HANDS) }
     requires limit { draw.limit ≡ desk.limit }
@@ -155,7 +157,7 @@ pub fn settle<P: Numbered + Drop, L: Limited, A: Allocator + Copy>(
     let Ok(book) = close(desk, shares) else {
         unreachable!()
     };
-    Ok(Filled { book, returned })
+    Ok(FilledBook { book, returned })
 }
 
 // The hands and the shares, and how many pieces came back, where no worker has a fault.

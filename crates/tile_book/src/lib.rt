@@ -20,7 +20,7 @@ pub use crew::run_workers;
 pub use desk::{Desk, close};
 pub use desk_core::{Core, Event, Reply};
 pub use draw::{Draw, Drawn, Hand, MOST_HANDS, MOST_NUMBERS, finish};
-pub use filling::{AllPieces, Filled, complete, fill, make_all, settle};
+pub use filling::{AllPieces, FilledBook, complete, fill, make_all, settle};
 pub use gate::{Gate, OpenGate, Phase};
 pub use job::Job;
 pub use laws::{accepted_at_most_once, all_posted_all_held, word_is_new, word_stays_near};

@@ -13,7 +13,7 @@ use std::sync::ledger::Blank;
 use std::test::Fail;
 use std::thread::Threads;
 use tile_book::{
-    Desk, Draw, Ended, Filled, Gate, Limited, OpenGate, Phase, close, complete, fill, finish,
+    Desk, Draw, Ended, FilledBook, Gate, Limited, OpenGate, Phase, close, complete, fill, finish,
     make_all, work,
 };
 
@@ -118,7 +118,16 @@ fn two_workers<L: Limited + Send + Sync, G: Gate + Sync, R: Threads + Wait + Abo
     requires limit { L.limit ≡ 5 }
 {
     let job = Notes { count: 5, room: 5 };
-    let filled: Filled<Note, L, Global> = fill(rt, alloc, blank, 5, 2, &job, Phase::Route, gate)?;
+    let filled: FilledBook<Note, L, Global> = fill(
+        rt,
+        alloc,
+        blank,
+        5,
+        2,
+        &job,
+        Phase::Route,
+        gate,
+    )?;
     assert!(rt; filled.returned == 0);
     assert!(rt; filled.book.accepted().len() == 5);
     assert!(rt; filled.book.held().iter().all(|note| note.is_some()));
