@@ -7,10 +7,11 @@ use Rattle.std.proofs.Math.Seq.{drop-cons}
 use Rattle.std.proofs.lemmas.List.{drop_all, length-append, length-drop, length-take-le, take-append-drop}
 use Rattle.std.proofs.lemmas.List.Elements.{at_read}
 use Rattle.label_sweep.specs.declared.standing.Standing.{Standing}
+use Rattle.std.proofs.lemmas.Bool.{cases_lt}
 use Rattle.label_sweep.specs.declared.status.Place.{Place}
 use Rattle.label_sweep.specs.Chunks.{AreChunks, IsPlace, joined, number_of, opens}
 use Rattle.label_sweep.specs.Labels.{under_lowest}
-use Rattle.label_sweep.proofs.Chunks.{all_after, all_before, before_more, before_order, behind, below_or_from, cut_filled, cut_joined, cut_some, drop_joined, exchanged, exchanged_filled, exchanged_some, filled_at, first_of, inside}
+use Rattle.label_sweep.proofs.Chunks.{all_after, all_before, before_more, before_order, behind, cut_filled, cut_joined, cut_some, drop_joined, exchanged, exchanged_filled, exchanged_some, filled_at, first_of, inside}
 
 -- what a search finds
 pub record IsFound {A : Type 0} (p : Standing → Bool) (chunks : List (Vec Standing A)) (at : Place) : Type 0 where
@@ -70,7 +71,7 @@ module _ {A : Type 0} where
 
   -- ---- places by their numbers
   pub places_in_order : (chunks : List (Vec Standing A)) → AreChunks chunks → (low high : Place) → IsPlace chunks low → IsPlace chunks high → number_of chunks low ≤ number_of chunks high → low.chunk ≤ high.chunk
-  places_in_order chunks are low high l h o = ⊎_elim (λ m. absurd (clash m)) (λ m. m) (below_or_from high.chunk low.chunk)
+  places_in_order chunks are low high l h o = ⊎_elim (λ m. absurd (clash m)) (λ m. m) (cases_lt high.chunk low.chunk)
     where
       clash : high.chunk < low.chunk → ⊥
       clash m =
