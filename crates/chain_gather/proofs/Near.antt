@@ -25,7 +25,7 @@ some_same : {s t : Seg} {o : Option Seg} → o ≡ Some s → o ≡ Some t → s
 some_same {s} {t} {o} e f = cc
 
 -- ---- a bin has the numbers of the segments near its tile
-bin_candidates : (g : Tiling) (segments : List Seg) (boxes : List Rect) (k : ℕ) (numbers : List ℕ) → AreBoxesOf segments boxes → IsBin g k boxes numbers → AreCandidates (Owns g k) segments numbers
+pub bin_candidates : (g : Tiling) (segments : List Seg) (boxes : List Rect) (k : ℕ) (numbers : List ℕ) → AreBoxesOf segments boxes → IsBin g k boxes numbers → AreCandidates (Owns g k) segments numbers
 bin_candidates g segments boxes k numbers are bin = record {
   ascending = λ i l. bin.ascending i (i + 1) 0 (omega arith) l;
   below = λ i d l. below_bin box_corners g segments boxes k numbers are bin (get_or numbers i d) (Contains-get_or numbers i d l);

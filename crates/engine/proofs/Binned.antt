@@ -14,7 +14,8 @@ use Rattle.tiling.specs.Bins.{AreBins, IsBin, TileBins}
 use Rattle.tiling.specs.Tiles.{HasTile, Owns, Tiling, tile_count}
 use Rattle.hot_pixel.specs.Candidates.{AreCandidates}
 use Rattle.chain_gather.specs.Gathered.{HaveTiles, box_corners, corners}
-use Rattle.chain_gather.proofs.Near.{bin_candidates, has_hi, has_lo, in_same_box}
+use Rattle.chain_gather.proofs.Boxes.{in_same_box}
+use Rattle.chain_gather.proofs.Near.{bin_candidates, has_hi, has_lo}
 use Rattle.engine.specs.Rounds.{AreCellBins}
 
 -- ---- segment by segment
