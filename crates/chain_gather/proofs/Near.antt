@@ -10,6 +10,7 @@ use Rattle.geom.specs.declared.segment.Seg.{Seg}
 use Rattle.geom.specs.Box.{IsInBox, greatest_corner, least_corner}
 use Rattle.geom.proofs.Integers.{linear}
 use Rattle.geom.proofs.Meaning.{met_pixels_are_in_bounds}
+use Rattle.geom.proofs.Numbers.{itself}
 use Rattle.tiling.specs.Tiles.{Tiling, Owns}
 use Rattle.tiling.specs.Index.{AreIndexed}
 use Rattle.tiling.specs.Bins.{Binned, IsBin}
@@ -82,9 +83,6 @@ one_candidates g segments k xs ys a b = one_list xs ys a.ascending b.ascending (
 -- ---- rectangles are told by their points
 close : {x y : ℤ} → x ≤ℤ y → y ≤ℤ x → x ≡ y
 close {x} {y} h k = omega (arith, linear)
-
-itself : (x : ℤ) → x ≤ℤ x
-itself x = omega (arith, linear)
 
 pub has_lo : (r : Rect) → IsInBox r.lo r.hi r.lo
 has_lo r = record { left = itself r.lo.x; right = r.wide; bottom = itself r.lo.y; top = r.high }

@@ -11,11 +11,11 @@ use Rattle.geom.specs.Determinant.{determinant, turn}
 use Rattle.geom.specs.Hot.{CrossIn}
 use Rattle.crossing.specs.Crossing.{CrossesAt}
 use Rattle.geom.proofs.Integers.{linear, mul_nonneg, mul_pos, cancel_nonneg, cancel_pos, unscale_eq}
-use Rattle.geom.proofs.Fraction.{gap_is, strict_gap_is, from_gap, from_strict_gap, weak}
 use Rattle.geom.proofs.Nearest.{IsNearest, nearest-is, nearest-unique}
 use Rattle.geom.proofs.Pixels.{same_point}
 use Rattle.crossing.proofs.Ends.{point_along}
 use Rattle.geom.proofs.Identity.{Term, var, num, ◌⊕◌, ◌⊖◌, ◌⊗◌, ring}
+use Rattle.geom.proofs.Numbers.{positive_is_not_zero, gap_is, strict_gap_is, from_gap, from_strict_gap, weak}
 
 gap_factor : (n x y : ℤ) → n *ℤ (y -ℤ x) ≡ (n *ℤ y) -ℤ (n *ℤ x)
 gap_factor n x y = ring (n ∷ x ∷ y ∷ []) (var 0 ⊗ (var 2 ⊖ var 1)) ((var 0 ⊗ var 2) ⊖ (var 0 ⊗ var 1)) refl
@@ -125,10 +125,7 @@ same_place_y : (s ax ay bx by cx cy dx dy : ℤ) →
 same_place_y s ax ay bx by cx cy dx dy = ring (s ∷ ax ∷ ay ∷ bx ∷ by ∷ cx ∷ cy ∷ dx ∷ dy ∷ []) (place (var 2) (var 4) along_first) (place (var 6) (var 8) along_second) refl
 
 apart : (s d det : ℤ) → pos 0 <ℤ det → det ≡ s *ℤ d → d ≢ pos 0
-apart s d det p e z = none (s *ℤ d) (rw (← e) p) (ap (λ x. s *ℤ x) z ∙ ring (s ∷ []) (var 0 ⊗ num (pos 0)) (num (pos 0)) refl)
-  where
-    none : (x : ℤ) → pos 0 <ℤ x → x ≡ pos 0 → ⊥
-    none x p e = omega (arith, ints)
+apart s d det p e z = positive_is_not_zero (s *ℤ d) (rw (← e) p) (ap (λ x. s *ℤ x) z ∙ ring (s ∷ []) (var 0 ⊗ num (pos 0)) (num (pos 0)) refl)
 
 turned : (s m n d e det e' : ℤ) → det ≡ s *ℤ d → e' ≡ s *ℤ e → m *ℤ d ≡ n *ℤ e → m *ℤ det ≡ n *ℤ e'
 turned s m n d e det e' p q h = rw (p, q) (ring (m ∷ s ∷ d ∷ []) (var 0 ⊗ (var 1 ⊗ var 2)) (var 1 ⊗ (var 0 ⊗ var 2)) refl ∙ ap (λ x. s *ℤ x) h ∙ ring (s ∷ n ∷ e ∷ []) (var 0 ⊗ (var 1 ⊗ var 2)) (var 1 ⊗ (var 0 ⊗ var 2)) refl)

@@ -11,13 +11,9 @@ use Rattle.geom.specs.Hot.{CrossIn}
 use Rattle.geom.proofs.Integers.{linear, expand, unscale_le}
 use Rattle.geom.proofs.Points.{and_both, both_and}
 use Rattle.geom.proofs.Meaning.{met_pixels_are_in_bounds}
+use Rattle.geom.proofs.Tests.{le_yes, le_told}
+use Rattle.geom.proofs.Numbers.{weak, itself, once_from, once_to}
 use Rattle.crossing.specs.Boxes.{spans_meet, boxes_meet}
-
-le_true : (x y : ℤ) → x ≤ℤ y → int_le x y ≡ true
-le_true x y h = sym (omega (arith, ints))
-
-true_le : (x y : ℤ) → int_le x y ≡ true → x ≤ℤ y
-true_le x y h = omega (arith, ints)
 
 over : (n z a b : ℤ) → pos 0 <ℤ n → (n *ℤ a) ≤ℤ z → z ≤ℤ (n *ℤ b) → a ≤ℤ b
 over n z a b p h k = unscale_le a b n (omega (arith, linear)) p
@@ -25,7 +21,7 @@ over n z a b p h k = unscale_le a b n (omega (arith, linear)) p
 -- z / n is in both spans
 spans_common : (a b c d n z : ℤ) → pos 0 <ℤ n → (n *ℤ int_min a b) ≤ℤ z → z ≤ℤ (n *ℤ int_max a b) → (n *ℤ int_min c d) ≤ℤ z → z ≤ℤ (n *ℤ int_max c d) → spans_meet a b c d ≡ true
 unfolding spans_meet
-spans_common a b c d n z p h k l m = both_and _ _ (le_true _ _ (over n z _ _ p h m)) (le_true _ _ (over n z _ _ p l k))
+spans_common a b c d n z p h k l m = both_and _ _ (le_yes _ _ (over n z _ _ p h m)) (le_yes _ _ (over n z _ _ p l k))
 
 record Common (a b c d : ℤ) : Type 0 where
   at : ℤ
@@ -37,33 +33,21 @@ record Common (a b c d : ℤ) : Type 0 where
 min_le_max : (a b : ℤ) → int_min a b ≤ℤ int_max a b
 min_le_max a b = omega (arith, ints, clamps)
 
-weak : (x y : ℤ) → x <ℤ y → x ≤ℤ y
-weak x y h = omega (arith, ints)
-
-same : (x : ℤ) → x ≤ℤ x
-same x = omega (arith, ints)
-
 -- the greater one of the two least numbers is in both
 common_of : (a b c d : ℤ) → spans_meet a b c d ≡ true → Common a b c d
 unfolding spans_meet
 common_of a b c d h =
     let l = and_both _ _ h in
-    let p = true_le _ _ l.0 in
-    let q = true_le _ _ l.1 in
+    let p = le_told _ _ l.0 in
+    let q = le_told _ _ l.1 in
     by_lt_z (int_min a b) (int_min c d)
-    (λ k. record { at = int_min c d; first_from = weak _ _ k; first_to = q; second_from = same _; second_to = min_le_max c d })
-    (λ k. record { at = int_min a b; first_from = same _; first_to = min_le_max a b; second_from = k; second_to = p })
+    (λ k. record { at = int_min c d; first_from = weak _ _ k; first_to = q; second_from = itself _; second_to = min_le_max c d })
+    (λ k. record { at = int_min a b; first_from = itself _; first_to = min_le_max a b; second_from = k; second_to = p })
 
 pub boxes_common : (s t : Seg) → ShareAPoint (least_corner s.a s.b) (greatest_corner s.a s.b) (least_corner t.a t.b) (greatest_corner t.a t.b) → boxes_meet s t ≡ true
 boxes_common s t (z, h, k) = both_and _ _
     (spans_common s.a.x s.b.x t.a.x t.b.x z.n z.x z.positive h.left h.right k.left k.right)
     (spans_common s.a.y s.b.y t.a.y t.b.y z.n z.y z.positive h.bottom h.top k.bottom k.top)
-
-once_from : (a x : ℤ) → a ≤ℤ x → (pos 1 *ℤ a) ≤ℤ x
-once_from a x h = simp expand (omega (arith, linear))
-
-once_to : (a x : ℤ) → x ≤ℤ a → x ≤ℤ (pos 1 *ℤ a)
-once_to a x h = simp expand (omega (arith, linear))
 
 pub common_point : (s t : Seg) → boxes_meet s t ≡ true → ShareAPoint (least_corner s.a s.b) (greatest_corner s.a s.b) (least_corner t.a t.b) (greatest_corner t.a t.b)
 common_point s t h =

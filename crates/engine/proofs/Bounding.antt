@@ -10,6 +10,7 @@ use Rattle.geom.specs.Limit.{AreInLimit, InLimit, IsWithin, coordinate_limit}
 use Rattle.geom.specs.declared.point.Pt.{Pt}
 use Rattle.geom.specs.declared.rect.Rect.{Rect}
 use Rattle.geom.specs.declared.segment.Seg.{Seg}
+use Rattle.geom.proofs.Numbers.{itself}
 use Rattle.chain_gather.specs.Gathered.{BoundsHold}
 use Rattle.engine.specs.Rounds.{AllInLimit}
 
@@ -43,9 +44,6 @@ least_in q a b e h k = record { low = not_below q a b _ e h.low k.low; high = lo
 
 greatest_in : (q a b : ℤ) → q ≡ int_max a b → IsWithin coordinate_limit a → IsWithin coordinate_limit b → IsWithin coordinate_limit q
 greatest_in q a b e h k = record { low = higher q a b _ e h.low; high = not_above q a b _ e h.high k.high }
-
-itself : (z : ℤ) → z ≤ℤ z
-itself z = omega (arith, ints)
 
 module _ (r : Rect) (p : Pt) (q : Rect) (w : IsWith r p q) where
   still_in : (c : Pt) → IsInBox r.lo r.hi c → IsInBox q.lo q.hi c

@@ -10,6 +10,7 @@ use Rattle.geom.specs.Bounds.{HoldsSteps, IsBox}
 use Rattle.geom.specs.Segments.{layer_steps}
 use Rattle.geom.proofs.Integers.{linear}
 use Rattle.geom.proofs.Lists.{contains_in}
+use Rattle.geom.proofs.Numbers.{both_ways}
 use Rattle.tiling.specs.Tiles.{IsGridOf, IsOver, Owns, Tiling, most_tiles, steps, tile_count}
 use Rattle.wkt.specs.LayerText.{Ring}
 use Rattle.wkt.specs.Refusals.{IsAccepted, IsRefused, plain}
@@ -21,8 +22,6 @@ use Rattle.engine.specs.declared.engine.Plan.{Plan}
 use Rattle.engine.proofs.Determined.{one_layer}
 
 -- ---- one number of tiles
-same_number : (x y : ℤ) → x ≤ℤ y → y ≤ℤ x → x ≡ y
-same_number x y h k = omega (arith, linear, h, k)
 
 -- no box is the least of no steps
 abbrev dot : ℤ → Rect
@@ -46,10 +45,10 @@ counts_same c d w e f = let g : pos c ≡ pos d = e ∙ sym f in cc
 -- two least boxes have the same corners: by the least x and y, then by the greatest
 pub same_corners : (r s : Rect) (taken : List (Pt × Pt)) → IsBox taken r → IsBox taken s → (r.lo.x ≡ s.lo.x) × (r.lo.y ≡ s.lo.y) × (r.hi.x ≡ s.hi.x) × (r.hi.y ≡ s.hi.y)
 same_corners r s taken h k = (
-  same_number r.lo.x s.lo.x (k.least r h.holds).0.left (h.least s k.holds).0.left,
-  same_number r.lo.y s.lo.y (k.least r h.holds).0.bottom (h.least s k.holds).0.bottom,
-  same_number r.hi.x s.hi.x (h.least s k.holds).1.right (k.least r h.holds).1.right,
-  same_number r.hi.y s.hi.y (h.least s k.holds).1.top (k.least r h.holds).1.top,
+  both_ways r.lo.x s.lo.x (k.least r h.holds).0.left (h.least s k.holds).0.left,
+  both_ways r.lo.y s.lo.y (k.least r h.holds).0.bottom (h.least s k.holds).0.bottom,
+  both_ways r.hi.x s.hi.x (h.least s k.holds).1.right (k.least r h.holds).1.right,
+  both_ways r.hi.y s.hi.y (h.least s k.holds).1.top (k.least r h.holds).1.top,
 )
 
 over_path : (r s : Rect) (side : ℕ) (g f : Tiling) (taken : List (Pt × Pt)) → IsBox taken r → IsBox taken s → IsOver r side g → IsOver s side f → g ≡ f

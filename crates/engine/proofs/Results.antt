@@ -9,7 +9,7 @@ use Rattle.geom.specs.declared.point.Pt.{Pt}
 use Rattle.geom.specs.declared.edge.Edge.{Edge}
 use Rattle.geom.specs.declared.edge.Counted.{Counted}
 use Rattle.geom.specs.declared.directed.DirectedEdge.{DirectedEdge}
-use Rattle.geom.specs.Directed.{AreResultEdges, IsResultEdge, Runs}
+use Rattle.geom.specs.Directed.{AreResultEdges, IsResultEdge, RunsAlong}
 use Rattle.geom.specs.Limit.{AreInLimit}
 use Rattle.geom.specs.Noded.{IsNoded}
 use Rattle.geom.specs.NodedEdges.{AreNodedEdges}
@@ -19,7 +19,7 @@ use Rattle.geom.proofs.Edges.{before_strict, edge_path}
 use Rattle.points_law.specs.Law.{AreLayers}
 use Rattle.polygonize.proofs.CycleRings.{less_apart}
 
-run_in : (d : DirectedEdge) (e : Edge) → Runs d e → AreInLimit e.p e.q → AreInLimit d.from d.to
+run_in : (d : DirectedEdge) (e : Edge) → RunsAlong d e → AreInLimit e.p e.q → AreInLimit d.from d.to
 run_in d e (inl h) l = let P : DirectedEdge → Type 0 = λ t. AreInLimit t.from t.to in subst P (sym h) l
 run_in d e (inr h) l = let P : DirectedEdge → Type 0 = λ t. AreInLimit t.from t.to in subst P (sym h) (record { a_in = l.b_in; b_in = l.a_in })
 
@@ -30,7 +30,7 @@ directed_in op counted directed l r = All-weaker (Contains directed) (λ d. AreI
     (λ d h. let e : IsResultEdge op counted d = (r.exact d).0 h in run_in d e.edge e.runs (All-contains (λ e. AreInLimit e.p e.q) (edges_of counted) e.edge l e.rounded))
     directed (All-contains_itself directed)
 
-one_run : (d : DirectedEdge) (e f : Edge) → Runs d e → Runs d f → e ≡ f
+one_run : (d : DirectedEdge) (e f : Edge) → RunsAlong d e → RunsAlong d f → e ≡ f
 one_run d e f (inl h) (inl k) = edge_path e f (ap (λ t. t.from) (sym h ∙ k)) (ap (λ t. t.to) (sym h ∙ k))
 one_run d e f (inr h) (inr k) = edge_path e f (ap (λ t. t.to) (sym h ∙ k)) (ap (λ t. t.from) (sym h ∙ k))
 one_run d e f (inl h) (inr k) = absurd (before_strict e.p e.q e.ordered (let P : Pt → Type 0 = λ t. IsBefore t e.p in subst P (sym (ap (λ t. t.to) (sym h ∙ k))) (let Q : Pt → Type 0 = IsBefore f.p in subst Q (sym (ap (λ t. t.from) (sym h ∙ k))) f.ordered)))
@@ -40,7 +40,7 @@ one_run d e f (inr h) (inl k) = absurd (before_strict e.p e.q e.ordered (let P :
 pub noded_edges : (op : Op) (counted : List Counted) (directed : List DirectedEdge) → IsNoded (edges_of counted) → AreResultEdges op counted directed → AreNodedEdges directed
 noded_edges op counted directed n r = λ c d e f i j x y a. n e f (rounded c e i x) (rounded d f j y) a
   where
-    rounded : (c : DirectedEdge) (e : Edge) → Contains directed c → Runs c e → Contains (edges_of counted) e
+    rounded : (c : DirectedEdge) (e : Edge) → Contains directed c → RunsAlong c e → Contains (edges_of counted) e
     rounded c e i x = let b : IsResultEdge op counted c = (r.exact c).0 i in let P : Edge → Type 0 = Contains (edges_of counted) in subst P (one_run c b.edge e b.runs x) b.rounded
 
 -- ---- a layer is one in at most one way

@@ -10,7 +10,7 @@ use Rattle.geom.specs.declared.rect.Rect.{Rect}
 use Rattle.geom.specs.declared.segment.Seg.{Seg}
 use Rattle.geom.specs.declared.segment.Source.{Source}
 use Rattle.geom.specs.declared.segment.Source.TheVariants.{A, B}
-use Rattle.geom.proofs.Lists.{In, contains_in, in_append, in_contains, in_map, map_in}
+use Rattle.geom.proofs.Lists.{In, contains_in, in_append, in_contains, in_map, map_in, in_front, in_back}
 use Rattle.noding_law.proofs.Rounding.{rounded_noded}
 use Rattle.points_law.specs.Law.{AreLayers}
 use Rattle.points_law.proofs.ClosedSegments.{rings_closed}
@@ -28,15 +28,6 @@ use Rattle.engine.specs.declared.engine.Plan.{Plan}
 
 -- ---- the bounds hold the segments
 
-in_append_left : {X : Type 0} (xs ys : List X) (x : X) → In x xs → In x (xs ++ ys)
-in_append_left [] ys x i = absurd i
-in_append_left (y ∷ xs) ys x (inl e) = inl e
-in_append_left (y ∷ xs) ys x (inr i) = inr (in_append_left xs ys x i)
-
-in_append_right : {X : Type 0} (xs ys : List X) (x : X) → In x ys → In x (xs ++ ys)
-in_append_right [] ys x i = i
-in_append_right (y ∷ xs) ys x i = inr (in_append_right xs ys x i)
-
 -- a step that is tagged as a segment has its ends
 ends_of : (layer : Source) (steps : List (Pt × Pt)) (s : Seg) → In (parts s) (map (tagged layer) steps) → In (s.a, s.b) steps
 ends_of layer steps s i =
@@ -48,8 +39,8 @@ ends_of layer steps s i =
 
 step_of : (a b : List (List Pt)) (segments : List Seg) → AreSegments a b segments → (s : Seg) → Contains segments s → In (s.a, s.b) (layer_steps a ++ layer_steps b)
 step_of a b segments are s h = ⊎_elim
-    (λ i. in_append_left (layer_steps a) (layer_steps b) (s.a, s.b) (ends_of A (layer_steps a) s i))
-    (λ i. in_append_right (layer_steps a) (layer_steps b) (s.a, s.b) (ends_of B (layer_steps b) s i))
+    (λ i. in_front (layer_steps a) (layer_steps b) (s.a, s.b) (ends_of A (layer_steps a) s i))
+    (λ i. in_back (layer_steps a) (layer_steps b) (s.a, s.b) (ends_of B (layer_steps b) s i))
     (in_append (map (tagged A) (layer_steps a)) (map (tagged B) (layer_steps b)) (parts s)
     (subst (λ (ts : List (Pt × Pt × Source)). In (parts s) ts) are (map_in parts segments s (contains_in segments s h))))
 

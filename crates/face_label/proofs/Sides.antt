@@ -20,7 +20,8 @@ use Rattle.geom.specs.Rounded.{is_odd}
 use Rattle.geom.proofs.Integers.{expand, linear, scale_le, unscale_lt}
 use Rattle.geom.proofs.Lists.{In, contains_in}
 use Rattle.geom.proofs.Points.{and_both}
-use Rattle.geom.proofs.Tests.{le_lt, le_told, lt_told}
+use Rattle.geom.proofs.Tests.{le_told, lt_told}
+use Rattle.geom.proofs.Numbers.{nonneg, past_predecessor, le_lt}
 use Rattle.tiling.specs.Strips.{IsInStrip}
 use Rattle.tiling.specs.Tiles.{steps}
 use Rattle.face_label.specs.Label.{OddLayers, bounds, both_ways, holds_in}
@@ -34,20 +35,14 @@ pub record IsNear (z : Point) (m : ℤ) : Type 0 where
   pub low : (z.n *ℤ (m -ℤ pos 1)) ≤ℤ z.x
   pub high : z.x <ℤ (z.n *ℤ (m +ℤ pos 1))
 
-weak : (a : ℤ) → pos 0 <ℤ a → pos 0 ≤ℤ a
-weak a h = omega (arith, linear)
-
 up_to : (a m : ℤ) → a <ℤ (m +ℤ pos 1) → a ≤ℤ m
 up_to a m h = omega (arith, linear)
-
-past : (m b : ℤ) → (m -ℤ pos 1) <ℤ b → m ≤ℤ b
-past m b h = omega (arith, linear)
 
 -- what covers z has the column
 covers_near : (e : Edge) (z : Point) (m : ℤ) → IsNear z m → covers e z ≡ true → (e.p.x ≤ℤ m) × (m ≤ℤ e.q.x)
 covers_near e z m near h = let t = and_both (int_le (z.n *ℤ e.p.x) z.x) (int_lt z.x (z.n *ℤ e.q.x)) h in (
-  up_to e.p.x m (unscale_lt e.p.x (m +ℤ pos 1) z.n (le_lt _ _ _ (le_told (z.n *ℤ e.p.x) z.x t.0) near.high) (weak z.n z.positive)),
-  past m e.q.x (unscale_lt (m -ℤ pos 1) e.q.x z.n (le_lt _ _ _ near.low (lt_told z.x (z.n *ℤ e.q.x) t.1)) (weak z.n z.positive)),
+  up_to e.p.x m (unscale_lt e.p.x (m +ℤ pos 1) z.n (le_lt _ _ _ (le_told (z.n *ℤ e.p.x) z.x t.0) near.high) (nonneg z.n z.positive)),
+  past_predecessor m e.q.x (unscale_lt (m -ℤ pos 1) e.q.x z.n (le_lt _ _ _ near.low (lt_told z.x (z.n *ℤ e.q.x) t.1)) (nonneg z.n z.positive)),
 )
 
 near_low : (t s m k n x : ℤ) → n ≡ t +ℤ t → x ≡ (t *ℤ s) +ℤ k → pos 0 ≤ℤ t → neg_ℤ t ≤ℤ k → (m +ℤ m) ≤ℤ s → (n *ℤ (m -ℤ pos 1)) ≤ℤ x

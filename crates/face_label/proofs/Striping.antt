@@ -18,7 +18,8 @@ use Rattle.geom.specs.declared.segment.Source.TheVariants.{A, B}
 use Rattle.geom.specs.Limit.{AreInLimit, IsWithin, coordinate_limit}
 use Rattle.geom.specs.Rounded.{is_odd, odd_edges}
 use Rattle.geom.proofs.Integers.{expand, linear}
-use Rattle.geom.proofs.Tests.{le_le, lt_no}
+use Rattle.geom.proofs.Tests.{lt_no}
+use Rattle.geom.proofs.Numbers.{le_le}
 use Rattle.lane_tests.specs.Columns.{corners}
 use Rattle.tiling.specs.Index.{Item}
 use Rattle.tiling.specs.Strips.{IsFill, Striped}

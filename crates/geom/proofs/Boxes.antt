@@ -9,6 +9,7 @@ use Rattle.geom.specs.declared.rect.Rect.{Rect}
 use Rattle.geom.specs.Box.{IsInBox, ShareAPoint, greatest_corner, least_corner}
 use Rattle.geom.proofs.Integers.{linear, expand, unscale_le}
 use Rattle.geom.proofs.Along.{Between}
+use Rattle.geom.proofs.Numbers.{once_from, once_to}
 
 -- two closed intervals have a number in common, the greater of their least ones
 pub record Common (a b c d : ℤ) : Type 0 where
@@ -22,12 +23,6 @@ common : (a b c d : ℤ) → a ≤ℤ b → c ≤ℤ d → a ≤ℤ d → c ≤�
 common a b c d p q r s = by_lt_z a c
     (λ h. record { at = c; a_from = omega (arith, linear); b_to = s; c_from = omega (arith, linear); d_to = q })
     (λ h. record { at = a; a_from = omega (arith, linear); b_to = p; c_from = h; d_to = r })
-
-once_from : (a x : ℤ) → a ≤ℤ x → (pos 1 *ℤ a) ≤ℤ x
-once_from a x h = simp expand (omega (arith, linear))
-
-once_to : (a x : ℤ) → x ≤ℤ a → x ≤ℤ (pos 1 *ℤ a)
-once_to a x h = simp expand (omega (arith, linear))
 
 pub share_out : (r s : Rect) → (r.lo.x ≤ℤ s.hi.x) × (s.lo.x ≤ℤ r.hi.x) → (r.lo.y ≤ℤ s.hi.y) × (s.lo.y ≤ℤ r.hi.y) → ShareAPoint r.lo r.hi s.lo s.hi
 share_out r s p q =

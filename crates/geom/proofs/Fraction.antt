@@ -4,18 +4,7 @@ use Rattle.std.proofs.Math.IntN.{ℤ, pos, ◌+ℤ◌, ◌-ℤ◌, ◌*ℤ◌}
 use Rattle.std.specs.Prelude.{◌<ℤ◌, ◌≤ℤ◌}
 use Rattle.geom.proofs.Integers.{linear, mul_nonneg, mul_pos, cancel_nonneg, cancel_pos}
 use Rattle.geom.proofs.Identity.{var, ◌⊕◌, ◌⊖◌, ◌⊗◌, ring}
-
-pub gap_is : (x y : ℤ) → x ≤ℤ y → pos 0 ≤ℤ (y -ℤ x)
-gap_is x y h = omega (arith, linear)
-
-pub strict_gap_is : (x y : ℤ) → x <ℤ y → pos 0 <ℤ (y -ℤ x)
-strict_gap_is x y h = omega (arith, linear)
-
-pub from_gap : (x y : ℤ) → pos 0 ≤ℤ (y -ℤ x) → x ≤ℤ y
-from_gap x y h = omega (arith, linear)
-
-pub from_strict_gap : (x y : ℤ) → pos 0 <ℤ (y -ℤ x) → x <ℤ y
-from_strict_gap x y h = omega (arith, linear)
+use Rattle.geom.proofs.Numbers.{gap_is, strict_gap_is, from_gap, from_strict_gap, weak}
 
 -- d (e b - a f) = b (e d - c f) + f (c b - a d)
 middle : (a b c d e f : ℤ) → d *ℤ ((e *ℤ b) -ℤ (a *ℤ f)) ≡ (b *ℤ ((e *ℤ d) -ℤ (c *ℤ f))) +ℤ (f *ℤ ((c *ℤ b) -ℤ (a *ℤ d)))
@@ -31,9 +20,6 @@ sum_pos_left x y z e h k = omega (arith, linear)
 
 sum_pos_right : (x y z : ℤ) → z ≡ x +ℤ y → pos 0 ≤ℤ x → pos 0 <ℤ y → pos 0 <ℤ z
 sum_pos_right x y z e h k = omega (arith, linear)
-
-pub weak : (x y : ℤ) → x <ℤ y → x ≤ℤ y
-weak x y h = omega (arith, linear)
 
 module _ (a b c d e f : ℤ) (pb : pos 0 <ℤ b) (pd : pos 0 <ℤ d) (pf : pos 0 <ℤ f) where
   -- a / b ≤ c / d ≤ e / f

@@ -1,5 +1,6 @@
 pub mod Integers
 pub mod Tests
+pub mod Numbers
 pub mod Identity
 pub mod Fraction
 pub mod Nearest

@@ -14,7 +14,7 @@ use Rattle.geom.specs.Pixel.{Point, Coincides}
 use Rattle.geom.specs.OnSegment.{IsOn}
 use Rattle.geom.specs.Noded.{IsEnd}
 use Rattle.geom.specs.Parity.{covers}
-use Rattle.geom.specs.Directed.{Runs, AreDirected}
+use Rattle.geom.specs.Directed.{RunsAlong, AreDirected}
 use Rattle.geom.specs.NodedEdges.{AreNodedEdges}
 use Rattle.geom.specs.Rings.{ring_edges, AreRings}
 use Rattle.geom.specs.Holes.{left_of, height, run_of, IsLeastVertex, IsNearestBelow, IsShell, IsOwner}
@@ -26,6 +26,7 @@ use Rattle.geom.proofs.Orders.{before_itself}
 use Rattle.geom.proofs.Points.{and_both}
 use Rattle.geom.proofs.Tests.{le_told, lt_told}
 use Rattle.geom.proofs.OneRing.{one_least_vertex, one_ring}
+use Rattle.geom.proofs.Numbers.{nonneg, gap_is, both_ways}
 
 -- ---- an edge whose columns have z
 record Spans (e : Edge) (z : Point) : Type 0 where
@@ -34,13 +35,10 @@ record Spans (e : Edge) (z : Point) : Type 0 where
   right : pos 0 <ℤ run_of e
 
 goes_right : (n p x q : ℤ) → pos 0 <ℤ n → (n *ℤ p) ≤ℤ x → x <ℤ (n *ℤ q) → pos 0 <ℤ (q -ℤ p)
-goes_right n p x q h k l = above (unscale_lt p q n (between (n *ℤ p) (n *ℤ q) k l) (weak n h))
+goes_right n p x q h k l = above (unscale_lt p q n (between (n *ℤ p) (n *ℤ q) k l) (nonneg n h))
   where
     between : (a b : ℤ) → a ≤ℤ x → x <ℤ b → a <ℤ b
     between a b h k = omega (arith, linear)
-
-    weak : (n : ℤ) → pos 0 <ℤ n → pos 0 ≤ℤ n
-    weak n h = omega (arith, linear)
 
     above : p <ℤ q → pos 0 <ℤ (q -ℤ p)
     above h = omega (arith, linear)
@@ -64,9 +62,6 @@ on_y : (n r s x y px py g t : ℤ) → t *ℤ r ≡ ((r *ℤ (y -ℤ (n *ℤ py)
     → (n *ℤ r) *ℤ ((y *ℤ g) -ℤ t) ≡ (n *ℤ g) *ℤ (((n *ℤ r) *ℤ py) +ℤ ((x -ℤ (n *ℤ px)) *ℤ s))
 on_y n r s x y px py g t h = let k = simp expand at (ap (λ (w : ℤ). n *ℤ w) h) in simp expand (omega (arith, linear))
 
-ratio_from : (a b : ℤ) → a ≤ℤ b → pos 0 ≤ℤ (b -ℤ a)
-ratio_from a b h = omega (arith, linear)
-
 ratio_to : (n p q x : ℤ) → x <ℤ (n *ℤ q) → (x -ℤ (n *ℤ p)) ≤ℤ (n *ℤ (q -ℤ p))
 ratio_to n p q x h = simp expand (omega (arith, linear))
 
@@ -78,7 +73,7 @@ on_edge e z g t h s k = (
   record {
     ratio = record {
       positive = mul_pos z.n (run_of e) z.positive s.right;
-      from = ratio_from (z.n *ℤ e.p.x) z.x s.from;
+      from = gap_is (z.n *ℤ e.p.x) z.x s.from;
       to = ratio_to z.n e.p.x e.q.x z.x s.to;
     };
     x_is = on_x z.n (run_of e) z.x e.p.x g;
@@ -113,17 +108,14 @@ edge_or_other e f = ends (pt_order e.p f.p) (pt_order e.q f.q)
     ends (equal h) (after k) = inr (λ l. apart f.q e.q k (ap (λ (x : Edge). x.q) (sym l)))
     ends (equal h) (equal k) = inl (edge_path e f h k)
 
-one_way_along : (directed : List DirectedEdge) → AreDirected directed → (d c : DirectedEdge) (e : Edge) → Contains directed d → Contains directed c → Runs d e → Runs c e → d ≡ c
+one_way_along : (directed : List DirectedEdge) → AreDirected directed → (d c : DirectedEdge) (e : Edge) → Contains directed d → Contains directed c → RunsAlong d e → RunsAlong c e → d ≡ c
 one_way_along directed a d c e i j (inl h) (inl k) = h ∙ sym k
 one_way_along directed a d c e i j (inr h) (inr k) = h ∙ sym k
 one_way_along directed a d c e i j (inl h) (inr k) = absurd (a.one_way e.p e.q (subst (Contains directed) h i) (subst (Contains directed) k j))
 one_way_along directed a d c e i j (inr h) (inl k) = absurd (a.one_way e.p e.q (subst (Contains directed) k j) (subst (Contains directed) h i))
 
-level : (a b : ℤ) → a ≤ℤ b → b ≤ℤ a → a ≡ b
-level a b h k = omega (arith, linear)
-
 pub one_nearest : (directed : List DirectedEdge) → AreDirected directed → AreNodedEdges directed → (v : Pt) (d e : DirectedEdge) → IsNearestBelow directed (left_of v) d → IsNearestBelow directed (left_of v) e → d ≡ e
-one_nearest directed a noded v d e m n = one_way_along directed a d e m.edge m.inside n.inside m.runs (subst (Runs e) (sym one_edge) n.runs)
+one_nearest directed a noded v d e m n = one_way_along directed a d e m.edge m.inside n.inside m.runs (subst (RunsAlong e) (sym one_edge) n.runs)
   where
     first : Spans m.edge (left_of v)
     first = spans m.edge (left_of v) m.below.over
@@ -132,7 +124,7 @@ one_nearest directed a noded v d e m n = one_way_along directed a d e m.edge m.i
     second = spans n.edge (left_of v) n.below.over
 
     same_height : height m.edge (left_of v) *ℤ run_of n.edge ≡ height n.edge (left_of v) *ℤ run_of m.edge
-    same_height = level (height m.edge (left_of v) *ℤ run_of n.edge) (height n.edge (left_of v) *ℤ run_of m.edge) (m.nearest n.edge n.below) (n.nearest m.edge m.below)
+    same_height = both_ways (height m.edge (left_of v) *ℤ run_of n.edge) (height n.edge (left_of v) *ℤ run_of m.edge) (m.nearest n.edge n.below) (n.nearest m.edge m.below)
 
     meet : m.edge ≢ n.edge → IsEnd m.edge (down (left_of v) (run_of m.edge) (height m.edge (left_of v)) first.right)
     meet other = (noded d e m.edge n.edge m.inside n.inside m.runs n.runs other (down (left_of v) (run_of m.edge) (height m.edge (left_of v)) first.right)

@@ -11,7 +11,7 @@ use Rattle.geom.specs.Order.{IsBefore}
 use Rattle.geom.specs.Determinant.{side}
 use Rattle.geom.specs.Directed.{from_to}
 use Rattle.geom.specs.ListOrder.{IsListBefore, IsLeastRotation}
-use Rattle.geom.specs.Rings.{along, ring_edges, Corner, corners, AreRings}
+use Rattle.geom.specs.Rings.{along, ring_edges, Corner, ring_corners, AreRings}
 use Rattle.geom.specs.Holes.{left_of, IsHole, IsShell, IsLeastVertex, IsNearestBelow, IsOwner, AreGrounded}
 use Rattle.geom.specs.Holes.IsOwner.{itself, below}
 use Rattle.geom.proofs.Edges.{PtOrder, pt_order}
@@ -74,9 +74,9 @@ least_or_not ring v = by_cases (some_or_none (λ (p : Pt). p ≡ v) (λ p. one_o
 
 pub hole_or_shell : (ring : List Pt) → IsHole ring ⊎ IsShell ring
 hole_or_shell ring = ⊎_elim
-    (λ f. inl (record { at = f.0; on = in_contains (corners ring) f.0 f.1; least = f.2.0; turns = f.2.1 }))
-    (λ n. inr (λ h. n h.at (contains_in (corners ring) h.at h.on) (h.least, h.turns)))
-    (some_or_none TurnsRight turns_right (corners ring))
+    (λ f. inl (record { at = f.0; on = in_contains (ring_corners ring) f.0 f.1; least = f.2.0; turns = f.2.1 }))
+    (λ n. inr (λ h. n h.at (contains_in (ring_corners ring) h.at h.on) (h.least, h.turns)))
+    (some_or_none TurnsRight turns_right (ring_corners ring))
   where
     TurnsRight : Corner → Type 0
     TurnsRight c = IsLeastVertex ring c.comes.to × (pos 0 <ℤ side c.comes.to c.comes.from c.goes.to)

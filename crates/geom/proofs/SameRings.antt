@@ -13,7 +13,7 @@ use Rattle.geom.specs.Order.{IsBefore}
 use Rattle.geom.specs.Determinant.{side}
 use Rattle.geom.specs.Directed.{from_to, IsDirectedBefore}
 use Rattle.geom.specs.ListOrder.{IsListBefore, IsRotation, IsLeastRotation}
-use Rattle.geom.specs.Rings.{IsSooner, IsMetBefore, IsNext, along, around, ring_edges, Corner, corner, corners, Follows, AreRings}
+use Rattle.geom.specs.Rings.{IsSooner, IsMetBefore, IsNext, along, around, ring_edges, Corner, corner, ring_corners, Follows, AreRings}
 use Rattle.geom.proofs.Edges.{PtOrder, pt_order, before_strict}
 use Rattle.geom.proofs.Edges.PtOrder.{before, equal, after}
 use Rattle.geom.proofs.Lists.{In, Distinct, contains_in, in_contains}
@@ -77,7 +77,7 @@ meet_along : (x y : Pt) (ys : List Pt) (z w : Pt) → All Meets (along corner (f
 meet_along x y [] z w = All-cons Meets (corner (from_to x y) (from_to y z)) (corner (from_to y z) (from_to z w) ∷ []) refl (All-cons Meets (corner (from_to y z) (from_to z w)) [] refl (All-nil Meets))
 meet_along x y (t ∷ ys) z w = All-cons Meets (corner (from_to x y) (from_to y t)) (along corner (from_to y t) (along from_to t ys z) (from_to z w)) refl (meet_along y t ys z w)
 
-corners_meet : (ring : List Pt) → All Meets (corners ring)
+corners_meet : (ring : List Pt) → All Meets (ring_corners ring)
 corners_meet [] = All-nil Meets
 corners_meet (x ∷ []) = All-cons Meets (corner (from_to x x) (from_to x x)) [] refl (All-nil Meets)
 corners_meet (x ∷ y ∷ ys) = meet_along x y ys x y
@@ -156,11 +156,11 @@ record Begun (directed : List DirectedEdge) (ring : List Pt) (d : DirectedEdge) 
   fresh : ¬ (In d rest)
   rotation : IsRotation ring (map (λ (e : DirectedEdge). e.from) (d ∷ rest))
 
-begun : (directed : List DirectedEdge) (ring : List Pt) (d : DirectedEdge) → All (Follows directed) (corners ring) → Distinct (ring_edges ring) → In d (ring_edges ring) → (rest : List DirectedEdge) × Begun directed ring d rest
+begun : (directed : List DirectedEdge) (ring : List Pt) (d : DirectedEdge) → All (Follows directed) (ring_corners ring) → Distinct (ring_edges ring) → In d (ring_edges ring) → (rest : List DirectedEdge) × Begun directed ring d rest
 begun directed ring d f u i = (
   s.back ++ s.front,
   record {
-    steps = All-permutation (Steps directed) (corners ring) (around corner ((d ∷ s.back) ++ s.front)) turned (both directed (corners ring) (corners_meet ring) f);
+    steps = All-permutation (Steps directed) (ring_corners ring) (around corner ((d ∷ s.back) ++ s.front)) turned (both directed (ring_corners ring) (corners_meet ring) f);
     fresh = once s.front d s.back (subst Distinct s.is u);
     rotation = record {
       front = map (λ (e : DirectedEdge). e.from) s.front;
@@ -174,7 +174,7 @@ begun directed ring d f u i = (
     s : Split d (ring_edges ring)
     s = split_at d (ring_edges ring) i
 
-    turned : IsPermutation (corners ring) (around corner ((d ∷ s.back) ++ s.front))
+    turned : IsPermutation (ring_corners ring) (around corner ((d ∷ s.back) ++ s.front))
     turned = subst (λ (es : List DirectedEdge). IsPermutation (around corner es) (around corner ((d ∷ s.back) ++ s.front))) (sym s.is) (around-rotation corner s.front (d ∷ s.back))
 
 same_begun : (directed : List DirectedEdge) (r s : List Pt) (d : DirectedEdge) (ds es : List DirectedEdge) → Begun directed r d ds → Begun directed s d es → IsRotation r s
@@ -186,8 +186,8 @@ same_begun directed r s d ds es b c = rotation_trans r (map (λ (e : DirectedEdg
 module _ (directed : List DirectedEdge) (asc : AllPairs IsDirectedBefore directed) where
   same_ring : (rs ts : List (List Pt)) → AreRings directed rs → AreRings directed ts → (r s : List Pt) (d : DirectedEdge) → Contains rs r → Contains ts s → In d (ring_edges r) → In d (ring_edges s) → r ≡ s
   same_ring rs ts ar at r s d i j k l =
-      let b = begun directed r d (All-contains (λ ring. All (Follows directed) (corners ring)) rs r ar.follow i) (simple_distinct (ring_edges r) (ring_simple directed rs asc ar r i)) k in
-      let c = begun directed s d (All-contains (λ ring. All (Follows directed) (corners ring)) ts s at.follow j) (simple_distinct (ring_edges s) (ring_simple directed ts asc at s j)) l in
+      let b = begun directed r d (All-contains (λ ring. All (Follows directed) (ring_corners ring)) rs r ar.follow i) (simple_distinct (ring_edges r) (ring_simple directed rs asc ar r i)) k in
+      let c = begun directed s d (All-contains (λ ring. All (Follows directed) (ring_corners ring)) ts s at.follow j) (simple_distinct (ring_edges s) (ring_simple directed ts asc at s j)) l in
       let turned : IsRotation r s = same_begun directed r s d b.0 c.0 b.1 c.1 in
       neither_list_before r s (λ h. (All-contains (λ ring. IsLeastRotation ring ring) ts s at.least j).none_less r (rotation_back r s turned) h)
       (λ h. (All-contains (λ ring. IsLeastRotation ring ring) rs r ar.least i).none_less s turned h)

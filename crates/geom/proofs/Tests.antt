@@ -4,6 +4,7 @@ use Rattle.std.proofs.lemmas.Int.{ints}
 use Rattle.std.proofs.Math.IntN.{ℤ}
 use Rattle.std.specs.Prelude.{◌<ℤ◌, ◌≤ℤ◌, int_le, int_lt}
 use Rattle.geom.proofs.Integers.{linear}
+use Rattle.geom.proofs.Numbers.{le_le, le_lt, lt_le}
 
 pub lt_yes : (a b : ℤ) → a <ℤ b → int_lt a b ≡ true
 lt_yes a b h = let t : true ≡ int_lt a b = omega (arith, ints) in sym t
@@ -25,13 +26,3 @@ le_told a b h = omega (arith, ints)
 
 pub le_untold : (a b : ℤ) → int_le a b ≡ false → b <ℤ a
 le_untold a b h = omega (arith, ints)
-
--- the order through a number between
-pub le_le : (a b c : ℤ) → a ≤ℤ b → b ≤ℤ c → a ≤ℤ c
-le_le a b c h k = omega (arith, linear)
-
-pub le_lt : (a b c : ℤ) → a ≤ℤ b → b <ℤ c → a <ℤ c
-le_lt a b c h k = omega (arith, linear)
-
-pub lt_le : (a b c : ℤ) → a <ℤ b → b ≤ℤ c → a <ℤ c
-lt_le a b c h k = omega (arith, linear)

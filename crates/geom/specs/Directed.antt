@@ -22,14 +22,14 @@ pub record AreDirected (directed : List DirectedEdge) : Type 0 where
   pub one_way : (u v : Pt) → Contains directed (from_to u v) → ¬ (Contains directed (from_to v u))
 
 -- d joins the ends of e, in one direction or the other
-abbrev pub Runs : DirectedEdge → Edge → Type 0
-Runs d e = (d ≡ from_to e.p e.q) ⊎ (d ≡ from_to e.q e.p)
+abbrev pub RunsAlong : DirectedEdge → Edge → Type 0
+RunsAlong d e = (d ≡ from_to e.p e.q) ⊎ (d ≡ from_to e.q e.p)
 
 -- d runs along a rounded edge and is an edge of the result
 pub record IsResultEdge (op : Op) (counted : List Counted) (d : DirectedEdge) : Type 0 where
   pub edge : Edge
   pub rounded : Contains (edges_of counted) edge
-  pub runs : Runs d edge
+  pub runs : RunsAlong d edge
   pub bounds : is_result_edge op counted d.from d.to ≡ true
 
 -- the directed edges of the result, ascending, and no others

@@ -8,8 +8,8 @@ use Rattle.geom.specs.Pixel.{Point}
 use Rattle.geom.specs.Order.{IsBefore}
 use Rattle.geom.specs.Determinant.{determinant, side}
 use Rattle.geom.specs.Parity.{covers}
-use Rattle.geom.specs.Directed.{Runs}
-use Rattle.geom.specs.Rings.{ring_edges, corners, Corner, AreRings}
+use Rattle.geom.specs.Directed.{RunsAlong}
+use Rattle.geom.specs.Rings.{ring_edges, ring_corners, Corner, AreRings}
 
 -- v is the ring's least vertex
 pub record IsLeastVertex (ring : List Pt) (v : Pt) : Type 0 where
@@ -19,7 +19,7 @@ pub record IsLeastVertex (ring : List Pt) (v : Pt) : Type 0 where
 -- a corner u, v, w at the least vertex v turns to the right: w - v lies counter-clockwise of u - v
 pub record IsHole (ring : List Pt) : Type 0 where
   pub at : Corner
-  pub on : Contains (corners ring) at
+  pub on : Contains (ring_corners ring) at
   pub least : IsLeastVertex ring at.comes.to
   pub turns : pos 0 <ℤ side at.comes.to at.comes.from at.goes.to
 
@@ -48,7 +48,7 @@ run_of e = e.q.x -ℤ e.p.x
 pub record LiesBelow (directed : List DirectedEdge) (z : Point) (e : Edge) : Type 0 where
   pub edge : DirectedEdge
   pub inside : Contains directed edge
-  pub runs : Runs edge e
+  pub runs : RunsAlong edge e
   pub over : covers e z ≡ true
   pub below : pos 0 <ℤ height e z
 
@@ -56,7 +56,7 @@ pub record LiesBelow (directed : List DirectedEdge) (z : Point) (e : Edge) : Typ
 pub record IsNearestBelow (directed : List DirectedEdge) (z : Point) (d : DirectedEdge) : Type 0 where
   pub inside : Contains directed d
   pub edge : Edge
-  pub runs : Runs d edge
+  pub runs : RunsAlong d edge
   pub below : LiesBelow directed z edge
   pub nearest : (f : Edge) → LiesBelow directed z f → (height edge z *ℤ run_of f) ≤ℤ (height f z *ℤ run_of edge)
 

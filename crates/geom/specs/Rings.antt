@@ -59,8 +59,8 @@ pub record Corner : Type 0 where
 abbrev pub corner : DirectedEdge → DirectedEdge → Corner
 corner d e = record { comes = d; goes = e }
 
-abbrev pub corners : List Pt → List Corner
-corners ring = around corner (ring_edges ring)
+abbrev pub ring_corners : List Pt → List Corner
+ring_corners ring = around corner (ring_edges ring)
 
 abbrev pub Follows : List DirectedEdge → Corner → Type 0
 Follows directed c = IsNext directed c.comes.from c.comes.to c.goes.to
@@ -68,7 +68,7 @@ Follows directed c = IsNext directed c.comes.from c.comes.to c.goes.to
 -- The rings are the cycles of the rule: each follows it at every corner, and together they have each edge once. Each is
 -- read from its least rotation, and they stand in ascending order.
 pub record AreRings (directed : List DirectedEdge) (rings : List (List Pt)) : Type 0 where
-  pub follow : All (λ ring. All (Follows directed) (corners ring)) rings
+  pub follow : All (λ ring. All (Follows directed) (ring_corners ring)) rings
   pub together : IsPermutation directed (flat_map ring_edges rings)
   pub least : All (λ ring. IsLeastRotation ring ring) rings
   pub ascending : AllPairs IsListBefore rings

@@ -25,6 +25,8 @@ use Rattle.geom.proofs.Integers.{linear, mul_comm, mul_nonneg, mul_pos, by_sign,
 use Rattle.geom.proofs.Identity.{var, num, ◌⊕◌, ◌⊖◌, ◌⊗◌, ring}
 use Rattle.geom.proofs.Pixels.{in_pixel}
 use Rattle.geom.proofs.Points.{and_both, both_and, or_either}
+use Rattle.geom.proofs.Numbers.{gap_is, weak, zero_is_nonneg, le_lt, le_le, strict_gap_is, positive_is_not_zero, lt_lt}
+use Rattle.geom.proofs.Tests.{lt_told, lt_yes}
 use Rattle.hot_pixel.specs.declared.bundle.Course.{Course}
 use Rattle.hot_pixel.specs.declared.bundle.Course.TheVariants.{Columns, Rows}
 use Rattle.hot_pixel.specs.declared.bundle.Strand.{Strand}
@@ -42,12 +44,6 @@ use Rattle.hot_pixel.proofs.ListLaws.{from_cons, here, in_cons, none_in}
 sum_pos : (z x y : ℤ) → z ≡ x +ℤ y → pos 0 <ℤ x → pos 0 ≤ℤ y → pos 0 <ℤ z
 sum_pos z x y e h k = omega (arith, linear)
 
-gap : (x y : ℤ) → x ≤ℤ y → pos 0 ≤ℤ (y -ℤ x)
-gap x y h = omega (arith, linear)
-
-weak : (x y : ℤ) → x <ℤ y → x ≤ℤ y
-weak x y h = omega (arith, linear)
-
 upward : (a b h x n : ℤ) → (n *ℤ a) +ℤ (x *ℤ b) ≡ (n *ℤ (a +ℤ (h *ℤ b))) +ℤ ((x -ℤ (n *ℤ h)) *ℤ b)
 upward a b h x n = ring (a ∷ b ∷ h ∷ x ∷ n ∷ []) ((var 4 ⊗ var 0) ⊕ (var 3 ⊗ var 1)) ((var 4 ⊗ (var 0 ⊕ (var 2 ⊗ var 1))) ⊕ ((var 3 ⊖ (var 4 ⊗ var 2)) ⊗ var 1)) refl
 
@@ -57,12 +53,9 @@ downward a b k x n = ring (a ∷ b ∷ k ∷ x ∷ n ∷ []) ((var 4 ⊗ var 0) 
 -- what is linear, and positive at h and at k, is positive at x / n between them
 pub between : (a b h k x n : ℤ) → pos 0 <ℤ n → (n *ℤ h) ≤ℤ x → x ≤ℤ (n *ℤ k) → pos 0 <ℤ (a +ℤ (h *ℤ b)) → pos 0 <ℤ (a +ℤ (k *ℤ b)) → pos 0 <ℤ ((n *ℤ a) +ℤ (x *ℤ b))
 between a b h k x n p l r at_h at_k = by_sign b
-    (λ s. sum_pos _ _ _ (downward a b k x n) (mul_pos n _ p at_k) (mul_nonneg _ _ (gap _ _ r) (gap b (pos 0) (weak b (pos 0) s))))
-    (λ s. sum_pos _ _ _ (upward a b h x n) (mul_pos n _ p at_h) (mul_nonneg _ _ (gap _ _ l) (level b s)))
-    (λ s. sum_pos _ _ _ (upward a b h x n) (mul_pos n _ p at_h) (mul_nonneg _ _ (gap _ _ l) (weak (pos 0) b s)))
-  where
-    level : (b : ℤ) → b ≡ pos 0 → pos 0 ≤ℤ b
-    level b s = omega (arith, linear)
+    (λ s. sum_pos _ _ _ (downward a b k x n) (mul_pos n _ p at_k) (mul_nonneg _ _ (gap_is _ _ r) (gap_is b (pos 0) (weak b (pos 0) s))))
+    (λ s. sum_pos _ _ _ (upward a b h x n) (mul_pos n _ p at_h) (mul_nonneg _ _ (gap_is _ _ l) (zero_is_nonneg b s)))
+    (λ s. sum_pos _ _ _ (upward a b h x n) (mul_pos n _ p at_h) (mul_nonneg _ _ (gap_is _ _ l) (weak (pos 0) b s)))
 
 -- of two quotients with different floors the one with the lesser floor is less
 pub floors_order : (h r k h' r' k' : ℤ) → pos 0 <ℤ r → pos 0 <ℤ r' → IsFloor h r k → IsFloor h' r' k' → k <ℤ k' → (h *ℤ r') <ℤ (h' *ℤ r)
@@ -127,13 +120,7 @@ quotient_is a (negsuc k) p = absurd (omega (arith, ints))
 
 -- the quotient of a number whose quotient is within n
 quotient_within : (n : ℕ) (a r q : ℤ) → pos 0 <ℤ r → (r *ℤ neg_ℤ (pos n)) ≤ℤ a → a ≤ℤ (r *ℤ pos n) → IsQuotient a r q → IsWithin n q
-quotient_within n a r q p l h f = record { low = least n q (unscale_lt (neg_ℤ (pos n)) (q +ℤ pos 1) r (on _ _ _ l f.below) (weak _ _ p)); high = unscale_le q (pos n) r (up_to _ _ _ f.from h) p }
-  where
-    on : (x y z : ℤ) → x ≤ℤ y → y <ℤ z → x <ℤ z
-    on x y z a b = omega (arith, linear)
-
-    up_to : (x y z : ℤ) → x ≤ℤ y → y ≤ℤ z → x ≤ℤ z
-    up_to x y z a b = omega (arith, linear)
+quotient_within n a r q p l h f = record { low = least n q (unscale_lt (neg_ℤ (pos n)) (q +ℤ pos 1) r (le_lt _ _ _ l f.below) (weak _ _ p)); high = unscale_le q (pos n) r (le_le _ _ _ f.from h) p }
 
     least : (n : ℕ) (q : ℤ) → neg_ℤ (pos n) <ℤ (q +ℤ pos 1) → neg_ℤ (pos n) ≤ℤ q
     least n q a = omega (arith, ints)
@@ -149,8 +136,6 @@ floor_small h r q p w f = quotient_within (2 ^ 60) (h *ℤ pos (2 ^ 30)) r q p (
 
 -- the whole part of a quotient and what is left, and the parts of both together
 module _ (h r w : ℤ) (positive : pos 0 <ℤ r) (run_in : r ≤ℤ pos (2 ^ 30)) (within : IsQuotientWithin (2 ^ 30) h r) (whole : IsQuotient h r w) where
-  turned : (r w : ℤ) → r *ℤ w ≡ w *ℤ r
-  turned r w = mul_comm r w
 
   stepped : (r w : ℤ) → r *ℤ (w +ℤ pos 1) ≡ (w *ℤ r) +ℤ r
   stepped r w = ring (r ∷ w ∷ []) (var 0 ⊗ (var 1 ⊕ num (pos 1))) ((var 1 ⊗ var 0) ⊕ var 0) refl
@@ -159,20 +144,20 @@ module _ (h r w : ℤ) (positive : pos 0 <ℤ r) (run_in : r ≤ℤ pos (2 ^ 30)
   whole_small = quotient_within (2 ^ 30) h r w positive within.low within.high whole
 
   pub product_small : IsWithin (2 ^ 61) (w *ℤ r)
-  product_small = bounds h r (w *ℤ r) _ _ (turned r w) (stepped r w) whole.from whole.below positive run_in within.low within.high
+  product_small = bounds h r (w *ℤ r) _ _ (mul_comm r w) (stepped r w) whole.from whole.below positive run_in within.low within.high
     where
       bounds : (h r a x y : ℤ) → x ≡ a → y ≡ a +ℤ r → x ≤ℤ h → h <ℤ y → pos 0 <ℤ r → r ≤ℤ pos (2 ^ 30) → (r *ℤ neg_ℤ (pos (2 ^ 30))) ≤ℤ h → h ≤ℤ (r *ℤ pos (2 ^ 30)) → IsWithin (2 ^ 61) a
       bounds h r a x y e f from below p k low high = record { low = omega (arith, ints); high = omega (arith, ints) }
 
   pub rest_small : IsWithin (2 ^ 30) (h -ℤ (w *ℤ r))
-  rest_small = bounds h r (w *ℤ r) _ _ (turned r w) (stepped r w) whole.from whole.below run_in
+  rest_small = bounds h r (w *ℤ r) _ _ (mul_comm r w) (stepped r w) whole.from whole.below run_in
     where
       bounds : (h r a x y : ℤ) → x ≡ a → y ≡ a +ℤ r → x ≤ℤ h → h <ℤ y → r ≤ℤ pos (2 ^ 30) → IsWithin (2 ^ 30) (h -ℤ a)
       bounds h r a x y e f from below k = record { low = omega (arith, ints); high = omega (arith, ints) }
 
   module _ (v : ℤ) (rest : IsQuotient ((h -ℤ (w *ℤ r)) *ℤ pos (2 ^ 30)) r v) where
     pub part_small : IsWithin (2 ^ 30) v
-    part_small = quotient_within (2 ^ 30) ((h -ℤ (w *ℤ r)) *ℤ pos (2 ^ 30)) r v positive (low h r (w *ℤ r) _ (turned r w) whole.from positive) (high h r (w *ℤ r) _ (stepped r w) whole.below) rest
+    part_small = quotient_within (2 ^ 30) ((h -ℤ (w *ℤ r)) *ℤ pos (2 ^ 30)) r v positive (low h r (w *ℤ r) _ (mul_comm r w) whole.from positive) (high h r (w *ℤ r) _ (stepped r w) whole.below) rest
       where
         low : (h r a x : ℤ) → x ≡ a → x ≤ℤ h → pos 0 <ℤ r → (r *ℤ neg_ℤ (pos (2 ^ 30))) ≤ℤ ((h -ℤ a) *ℤ pos (2 ^ 30))
         low h r a x e from p = omega (arith, ints)
@@ -201,8 +186,8 @@ module _ (h r w : ℤ) (positive : pos 0 <ℤ r) (run_in : r ≤ℤ pos (2 ^ 30)
 -- ---- the height of a line between its ends
 pub height_within : (e : Edge) (b : ℤ) → AreInLimit e.p e.q → (e.p.x +ℤ e.p.x) ≤ℤ b → b ≤ℤ (e.q.x +ℤ e.q.x) → IsQuotientWithin (2 ^ 30) (height e b) (e.q.x -ℤ e.p.x)
 height_within e b h l r = record {
-  low = subst (λ z. z ≤ℤ height e b) (sym (mul_neg (e.q.x -ℤ e.p.x) (pos (2 ^ 30)))) (above _ _ _ _ (sum_low e.p.x e.p.y e.q.x e.q.y b (pos (2 ^ 29))) (mul_nonneg _ _ (gap _ _ r) (over h.a_in.y_in)) (mul_nonneg _ _ (gap _ _ l) (over h.b_in.y_in)));
-  high = below _ _ _ _ (sum_high e.p.x e.p.y e.q.x e.q.y b (pos (2 ^ 29))) (mul_nonneg _ _ (gap _ _ r) (under h.a_in.y_in)) (mul_nonneg _ _ (gap _ _ l) (under h.b_in.y_in));
+  low = subst (λ z. z ≤ℤ height e b) (sym (mul_neg (e.q.x -ℤ e.p.x) (pos (2 ^ 30)))) (above _ _ _ _ (sum_low e.p.x e.p.y e.q.x e.q.y b (pos (2 ^ 29))) (mul_nonneg _ _ (gap_is _ _ r) (over h.a_in.y_in)) (mul_nonneg _ _ (gap_is _ _ l) (over h.b_in.y_in)));
+  high = below _ _ _ _ (sum_high e.p.x e.p.y e.q.x e.q.y b (pos (2 ^ 29))) (mul_nonneg _ _ (gap_is _ _ r) (under h.a_in.y_in)) (mul_nonneg _ _ (gap_is _ _ l) (under h.b_in.y_in));
 }
   where
     sum_low : (px py qx qy b k : ℤ) → (((qx +ℤ qx) -ℤ b) *ℤ (py +ℤ k)) +ℤ ((b -ℤ (px +ℤ px)) *ℤ (qy +ℤ k)) ≡ (((qx -ℤ px) *ℤ (py +ℤ py)) -ℤ ((qy -ℤ py) *ℤ ((px +ℤ px) -ℤ b))) +ℤ ((qx -ℤ px) *ℤ (k +ℤ k))
@@ -294,10 +279,7 @@ right_of n high x z p l h = join _ _ z (scale_le ((pos 2 *ℤ x) +ℤ pos 1) ((h
 module _ (low high : ℤ) (e f : Edge) (s t : Strand) (c : Pt) (l : low ≤ℤ c.x) (r : c.x ≤ℤ high) (es : IsStrand low high e s) (ft : IsStrand low high f t) where
   below_at : (b k k' : ℤ) → IsFloor (height e b) (e.q.x -ℤ e.p.x) k → IsFloor (height f b) (f.q.x -ℤ f.p.x) k' → k <ℤ k'
       → pos 0 <ℤ (((base f *ℤ (e.q.x -ℤ e.p.x)) -ℤ (base e *ℤ (f.q.x -ℤ f.p.x))) +ℤ (b *ℤ (((f.q.y -ℤ f.p.y) *ℤ (e.q.x -ℤ e.p.x)) -ℤ ((e.q.y -ℤ e.p.y) *ℤ (f.q.x -ℤ f.p.x)))))
-  below_at b k k' u v less = subst (λ w. pos 0 <ℤ w) (sym (height_is e f b)) (strict _ _ (floors_order _ _ _ _ _ _ (run_positive low high c.x e.p.x e.q.x es.through.from es.through.to l r) (run_positive low high c.x f.p.x f.q.x ft.through.from ft.through.to l r) u v less))
-    where
-      strict : (x y : ℤ) → x <ℤ y → pos 0 <ℤ (y -ℤ x)
-      strict x y h = omega (arith, linear)
+  below_at b k k' u v less = subst (λ w. pos 0 <ℤ w) (sym (height_is e f b)) (strict_gap_is _ _ (floors_order _ _ _ _ _ _ (run_positive low high c.x e.p.x e.q.x es.through.from es.through.to l r) (run_positive low high c.x f.p.x f.q.x ft.through.from ft.through.to l r) u v less))
 
   never_cross : (u v : Seg) → u.a ≡ e.p → u.b ≡ e.q → v.a ≡ f.p → v.b ≡ f.q → AscendsTo s t → CrossIn u v c → ⊥
   never_cross u v ua ub va vb up h =
@@ -308,10 +290,7 @@ module _ (low high : ℤ) (e f : Edge) (s t : Strand) (c : Pt) (l : low ≤ℤ c
       let at_e = doubled (e.q.x -ℤ e.p.x) (e.q.y -ℤ e.p.y) e.p.x e.p.y z.x z.y z.n (on_line e.p e.q z on_e) in
       let at_f = doubled (f.q.x -ℤ f.p.x) (f.q.y -ℤ f.p.y) f.p.x f.p.y z.x z.y z.n (on_line f.p f.q z on_f) in
       let nought = on_both (base e) (e.q.x -ℤ e.p.x) (e.q.y -ℤ e.p.y) (base f) (f.q.x -ℤ f.p.x) (f.q.y -ℤ f.p.y) (z.x +ℤ z.x) (z.y +ℤ z.y) z.n at_e at_f in
-      never _ (between _ _ ((low +ℤ low) -ℤ pos 1) ((high +ℤ high) +ℤ pos 1) (z.x +ℤ z.x) z.n z.positive (left_of z.n low c.x z.x z.positive l column.from) (right_of z.n high c.x z.x z.positive r column.below) (below_at _ _ _ es.left ft.left up.left) (below_at _ _ _ es.right ft.right up.right)) nought
-    where
-      never : (x : ℤ) → pos 0 <ℤ x → x ≡ pos 0 → ⊥
-      never x p q = omega (arith, linear)
+      positive_is_not_zero _ (between _ _ ((low +ℤ low) -ℤ pos 1) ((high +ℤ high) +ℤ pos 1) (z.x +ℤ z.x) z.n z.positive (left_of z.n low c.x z.x z.positive l column.from) (right_of z.n high c.x z.x z.positive r column.below) (below_at _ _ _ es.left ft.left up.left) (below_at _ _ _ es.right ft.right up.right)) nought
 
   pub no_crossing : AscendsTo s t → CrossAt e f c → ⊥
   unfolding segment_of
@@ -404,16 +383,10 @@ clash : Strand → Strand → Bool
 clash s t = not (ascends s t || ascends t s)
 
 ascends_is : (s t : Strand) → ascends s t ≡ true → AscendsTo s t
-ascends_is s t h = let b = and_both (int_lt s.left t.left) (int_lt s.right t.right) h in record { left = less _ _ b.0; right = less _ _ b.1 }
-  where
-    less : (x y : ℤ) → int_lt x y ≡ true → x <ℤ y
-    less x y h = omega (arith, ints)
+ascends_is s t h = let b = and_both (int_lt s.left t.left) (int_lt s.right t.right) h in record { left = lt_told _ _ b.0; right = lt_told _ _ b.1 }
 
 is_ascends : (s t : Strand) → AscendsTo s t → ascends s t ≡ true
-is_ascends s t h = both_and (int_lt s.left t.left) (int_lt s.right t.right) (test _ _ h.left) (test _ _ h.right)
-  where
-    test : (x y : ℤ) → x <ℤ y → int_lt x y ≡ true
-    test x y h = sym (omega (arith, ints))
+is_ascends s t h = both_and (int_lt s.left t.left) (int_lt s.right t.right) (lt_yes _ _ h.left) (lt_yes _ _ h.right)
 
 clash_flips : (s t : Strand) → clash s t ≡ clash t s
 unfolding clash
@@ -441,10 +414,7 @@ distinct : (ss sorted : List Strand) → IsPermutation ss sorted → AllPairs As
 distinct ss sorted moved up = IsDistinct-IsPermutation clash clash_flips sorted ss (IsPermutation-sym ss sorted moved) (IsDistinct-from_apart clash sorted (λ i j d a b. no_clash _ _ (up i j d a b)))
 
 ascends_on : (s t u : Strand) → AscendsTo s t → AscendsTo t u → AscendsTo s u
-ascends_on s t u h k = record { left = on _ _ _ h.left k.left; right = on _ _ _ h.right k.right }
-  where
-    on : (x y z : ℤ) → x <ℤ y → y <ℤ z → x <ℤ z
-    on x y z a b = omega (arith, linear)
+ascends_on s t u h k = record { left = lt_lt _ _ _ h.left k.left; right = lt_lt _ _ _ h.right k.right }
 
 far : (ss : List Strand) → AllAdjacentBelow AscendsTo ss (length ss) → (i m : ℕ) (d : Strand) → i + (m + 1) < length ss → AscendsTo (get_or ss i d) (get_or ss (i + (m + 1)) d)
 far ss h i zero d l = h i d l

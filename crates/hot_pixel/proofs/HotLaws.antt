@@ -16,6 +16,7 @@ use Rattle.geom.proofs.Integers.{linear, expand}
 use Rattle.geom.proofs.Along.{Between, meets_box}
 use Rattle.geom.proofs.Pixels.{piece, meets_in, meets_out}
 use Rattle.geom.proofs.Routes as routes
+use Rattle.geom.proofs.Meaning.{on_turned}
 
 -- ---- a segment meets the pixels of its ends, and those of its crossings
 pub meets_start : (s : Seg) (c : Pt) → s.a ≡ c → Meets s c
@@ -55,20 +56,9 @@ hot_limit segments c l h = let m = hot_meets segments c h in met_limit m.0 c (Al
 abbrev pub HasEndsOf : Seg → Seg → Type 0
 HasEndsOf s t = ((s.a ≡ t.a) × (s.b ≡ t.b)) ⊎ ((s.a ≡ t.b) × (s.b ≡ t.a))
 
-turned : (a b : Pt) (z : Point) → IsOn a b z → IsOn b a z
-turned a b z (m, n, h) = (
-  n -ℤ m,
-  n,
-  record {
-    ratio = record { positive = h.ratio.positive; from = (let k = h.ratio.to in omega (arith, linear)); to = (let k = h.ratio.from in omega (arith, linear)) };
-    x_is = (let e = simp expand at h.x_is in simp expand (omega (arith, linear)));
-    y_is = (let e = simp expand at h.y_is in simp expand (omega (arith, linear)));
-  },
-)
-
 pub on_line : (s t : Seg) (z : Point) → HasEndsOf s t → IsOn s.a s.b z → IsOn t.a t.b z
 on_line s t z (inl (e, f)) h = subst (λ (p : Pt). IsOn p t.b z) e (subst (λ (p : Pt). IsOn s.a p z) f h)
-on_line s t z (inr (e, f)) h = turned t.b t.a z (subst (λ (p : Pt). IsOn p t.a z) e (subst (λ (p : Pt). IsOn s.a p z) f h))
+on_line s t z (inr (e, f)) h = on_turned t.b t.a z (subst (λ (p : Pt). IsOn p t.a z) e (subst (λ (p : Pt). IsOn s.a p z) f h))
 
 pub met_line : (s t : Seg) (c : Pt) → HasEndsOf s t → Meets s c → Meets t c
 met_line s t c e (z, on, p) = (z, on_line s t z e on, p)

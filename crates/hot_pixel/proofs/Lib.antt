@@ -3,7 +3,6 @@ pub mod HotLaws
 pub mod LineLaws
 pub mod SweepLaws
 pub mod CandidateLaws
-pub mod RectLaws
 pub mod HalvingLaws
 pub mod NearLaws
 pub mod BundleLaws

@@ -13,6 +13,7 @@ use Rattle.geom.specs.Route.{Meets}
 use Rattle.geom.proofs.Integers.{linear, expand, mul_nonneg}
 use Rattle.geom.proofs.Along.{PassesCorners, meets_passes, meets_box, offset, size}
 use Rattle.geom.proofs.Pixels.{piece, piece_proper, meets_in}
+use Rattle.geom.proofs.Numbers.{once_from, once_to}
 use Rattle.hot_pixel.specs.Rects.{IsIn}
 use Rattle.hot_pixel.specs.Halving.{IsMetOn, IsNear}
 use Rattle.hot_pixel.proofs.LineLaws.{segment_of, segment_line}
@@ -94,13 +95,7 @@ met_near rect e c h m =
 
 -- ---- and its box shares a point with the rectangle
 lies : (lo hi c : Pt) → IsInBox lo hi c → LiesInBox lo hi (record { x = c.x; y = c.y; n = pos 1; positive = omega (arith, linear) })
-lies lo hi c h = record { left = from lo.x c.x h.left; right = to hi.x c.x h.right; bottom = from lo.y c.y h.bottom; top = to hi.y c.y h.top }
-  where
-    from : (a x : ℤ) → a ≤ℤ x → (pos 1 *ℤ a) ≤ℤ x
-    from a x h = simp expand (omega (arith, linear))
-
-    to : (a x : ℤ) → x ≤ℤ a → x ≤ℤ (pos 1 *ℤ a)
-    to a x h = simp expand (omega (arith, linear))
+lies lo hi c h = record { left = once_from lo.x c.x h.left; right = once_to hi.x c.x h.right; bottom = once_from lo.y c.y h.bottom; top = once_to hi.y c.y h.top }
 
 in_bounds : (e : Edge) (c : Pt) → IsMetOn e c → IsInBox (least_corner e.p e.q) (greatest_corner e.p e.q) c
 unfolding segment_of

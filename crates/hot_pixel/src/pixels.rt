@@ -5,8 +5,6 @@ ghost use Rattle.geom.specs.declared.point.Pt.{Pt};
 ghost use Rattle.geom.specs.Limit.{AreInLimit};
 ghost use Rattle.geom.specs.Order.{IsBefore};
 ghost use Rattle.hot_pixel.specs.Lines.{lines_meet, CrossAt, HasCrossed, HasEnds, HasPushed};
-ghost use Rattle.hot_pixel.specs.Rects.{holds, is_between};
-ghost use Rattle.hot_pixel.specs.Rects.{IsIn};
 
 use crate::lines::on_line;
 use crossing::{cross, may_meet};
@@ -14,28 +12,6 @@ use geom::{Edge, NoMemory, Pt, Rect};
 use std::alloc::Allocator;
 use std::sync::ledger::Ledger;
 use tiling::Count;
-
-#[tactic(auto, unfolding(crate::specs::Rects::is_between))]
-// Whether x is from low to high.
-fn is_between(low: i32, x: i32, high: i32) -> bool
-    ensures { result ≡ is_between low x high }
-{
-    low <= x && x <= high
-}
-
-/// Whether a point's column and row are the rectangle's.
-fn holds(tile: &Rect, p: Pt) -> bool
-    ensures { result ≡ holds tile.now p }
-{
-    is_between(tile.lo.x, p.x, tile.hi.x) && is_between(tile.lo.y, p.y, tile.hi.y)
-}
-
-/// Whether a rectangle has a point.
-fn is_in(tile: &Rect, p: Pt) -> bool
-    ensures { IsTrue result ↔ IsIn tile.now p }
-{
-    holds(tile, p)
-}
 
 /// Adds a pixel, if the tile has it.
 pub(crate) fn push_in<A: Allocator>(
@@ -45,7 +21,7 @@ pub(crate) fn push_in<A: Allocator>(
 ) -> Result<(), NoMemory>
     ensures { OnOk result (HasPushed tile.now pixel found.old.items found.new.items) }
 {
-    if is_in(tile, pixel) {
+    if tile.holds(pixel) {
         found.push(pixel)?;
     }
     Ok(())

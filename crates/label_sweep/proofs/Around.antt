@@ -10,6 +10,7 @@ use borrow.Author.Differences.{ints}
 use Rattle.geom.specs.declared.point.Pt.{Pt}
 use Rattle.geom.specs.declared.edge.Edge.{Edge}
 use Rattle.geom.proofs.Lists.{In, in_append, in_back}
+use Rattle.geom.proofs.Numbers.{nonneg}
 use Rattle.points_law.proofs.Choices.{run, rise, Even, parity, left, right}
 use Rattle.points_law.proofs.ResultOfChoices.{Edges}
 use Rattle.points_law.proofs.Meet.{slope}
@@ -80,7 +81,4 @@ module _ (es : List Edge) (h : Edges es) (v : Pt) (before : List Edge) (g k : Ed
 
 -- from the lowest to the steepest they are in the order of what stands
 pub under_turn : (e f : Edge) → e.p ≡ f.p → Steeper f e → IsUnder e f
-under_turn e f h t = by_turn e f h (weak (slope f e) t)
-  where
-    weak : (a : ℤ) → pos 0 <ℤ a → pos 0 ≤ℤ a
-    weak a h = omega (arith, ints)
+under_turn e f h t = by_turn e f h (nonneg (slope f e) t)

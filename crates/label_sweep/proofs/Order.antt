@@ -6,8 +6,8 @@ use lib.Signed.{◌<ℤ◌, ◌≤ℤ◌}
 use borrow.Author.Differences.{ints}
 use Rattle.geom.specs.declared.point.Pt.{Pt}
 use Rattle.geom.specs.declared.edge.Edge.{Edge}
-use Rattle.geom.proofs.Integers.{expand, linear, mul_pos, mul_nonneg, by_sign}
-use Rattle.geom.proofs.Tests.{le_lt, lt_le}
+use Rattle.geom.proofs.Integers.{expand, linear, mul_pos, mul_nonneg, by_sign, none_right}
+use Rattle.geom.proofs.Numbers.{negated, weak, gap_is, le_lt, lt_le}
 use Rattle.points_law.proofs.Choices.{run, rise, MeetAtEnds}
 use Rattle.points_law.proofs.Meet.{off, slope, gap, no_meet}
 use Rattle.points_law.proofs.Vertex.{over_pt}
@@ -28,36 +28,30 @@ root_value A B c x = simp expand (omega (arith, linear))
 drop_pos : (u w : ℤ) → pos 0 <ℤ u → w <ℤ pos 0 → pos 0 <ℤ (u -ℤ w)
 drop_pos u w h i = omega (arith, ints)
 
-turned_neg : (w : ℤ) → w <ℤ pos 0 → pos 0 <ℤ neg_ℤ w
-turned_neg w h = omega (arith, ints)
-
 -- the place (x u - c w) / (u - w), with u > 0 > w, is strictly between c and x
 between_low : (u w c x l : ℤ) → pos 0 <ℤ u → w <ℤ pos 0 → l ≤ℤ c → l <ℤ x → ((u -ℤ w) *ℤ l) <ℤ (x *ℤ u -ℤ c *ℤ w)
 between_low u w c x l h i j k =
     let s = simp expand at (mul_pos u (x -ℤ l) h (omega (arith, linear))) in
-    let t = simp expand at (mul_nonneg (neg_ℤ w) (c -ℤ l) (omega (arith, ints, turned_neg w i)) (omega (arith, linear))) in
+    let t = simp expand at (mul_nonneg (neg_ℤ w) (c -ℤ l) (omega (arith, ints, negated w i)) (omega (arith, linear))) in
     simp expand (omega (arith, linear))
 
 between_low' : (u w c x l : ℤ) → pos 0 <ℤ u → w <ℤ pos 0 → l <ℤ c → l ≤ℤ x → ((u -ℤ w) *ℤ l) <ℤ (x *ℤ u -ℤ c *ℤ w)
 between_low' u w c x l h i j k =
     let s = simp expand at (mul_nonneg u (x -ℤ l) (omega (arith, linear)) (omega (arith, linear))) in
-    let t = simp expand at (mul_pos (neg_ℤ w) (c -ℤ l) (turned_neg w i) (omega (arith, linear))) in
+    let t = simp expand at (mul_pos (neg_ℤ w) (c -ℤ l) (negated w i) (omega (arith, linear))) in
     simp expand (omega (arith, linear))
 
 between_high : (u w c x l : ℤ) → pos 0 <ℤ u → w <ℤ pos 0 → c ≤ℤ l → x <ℤ l → (x *ℤ u -ℤ c *ℤ w) <ℤ ((u -ℤ w) *ℤ l)
 between_high u w c x l h i j k =
     let s = simp expand at (mul_pos u (l -ℤ x) h (omega (arith, linear))) in
-    let t = simp expand at (mul_nonneg (neg_ℤ w) (l -ℤ c) (omega (arith, ints, turned_neg w i)) (omega (arith, linear))) in
+    let t = simp expand at (mul_nonneg (neg_ℤ w) (l -ℤ c) (omega (arith, ints, negated w i)) (omega (arith, linear))) in
     simp expand (omega (arith, linear))
 
 between_high' : (u w c x l : ℤ) → pos 0 <ℤ u → w <ℤ pos 0 → c <ℤ l → x ≤ℤ l → (x *ℤ u -ℤ c *ℤ w) <ℤ ((u -ℤ w) *ℤ l)
 between_high' u w c x l h i j k =
     let s = simp expand at (mul_nonneg u (l -ℤ x) (omega (arith, linear)) (omega (arith, linear))) in
-    let t = simp expand at (mul_pos (neg_ℤ w) (l -ℤ c) (turned_neg w i) (omega (arith, linear))) in
+    let t = simp expand at (mul_pos (neg_ℤ w) (l -ℤ c) (negated w i) (omega (arith, linear))) in
     simp expand (omega (arith, linear))
-
-weak : (a b : ℤ) → a <ℤ b → a ≤ℤ b
-weak a b h = omega (arith, ints)
 
 -- x is a whole x of both edges
 pub record Common (e f : Edge) (x : ℤ) : Type 0 where
@@ -140,13 +134,10 @@ neg_both r a d s b h i j e k = by_sign b (λ t. t) (λ t. absurd (none t)) (λ t
     below = simp expand (omega (arith, linear))
 
     left : (r *ℤ a) <ℤ pos 0
-    left = let t = mul_pos r (neg_ℤ a) h (turned_neg a k) in omega (arith, linear, below)
+    left = let t = mul_pos r (neg_ℤ a) h (negated a k) in omega (arith, linear, below)
 
     none : b ≡ pos 0 → ⊥
-    none t = let z : s *ℤ b ≡ pos 0 = ap (λ (t : ℤ). s *ℤ t) t ∙ zero s in omega (arith, linear, left, e)
-      where
-        zero : (s : ℤ) → s *ℤ pos 0 ≡ pos 0
-        zero s = omega (arith, ints)
+    none t = let z : s *ℤ b ≡ pos 0 = ap (λ (t : ℤ). s *ℤ t) t ∙ none_right s in omega (arith, linear, left, e)
 
     some : pos 0 <ℤ b → ⊥
     some t = let z = mul_pos s b i t in omega (arith, linear, left, e)
@@ -158,10 +149,7 @@ pos_both r a d s b h i j e k = by_sign a (λ t. absurd (less (neg_both r a d s b
     less h i = omega (arith, ints)
 
     none : a ≡ pos 0 → ⊥
-    none t = let z : r *ℤ a ≡ pos 0 = ap (λ (t : ℤ). r *ℤ t) t ∙ zero r in let y = mul_pos s b i k in omega (arith, linear, e)
-      where
-        zero : (s : ℤ) → s *ℤ pos 0 ≡ pos 0
-        zero s = omega (arith, ints)
+    none t = let z : r *ℤ a ≡ pos 0 = ap (λ (t : ℤ). r *ℤ t) t ∙ none_right r in let y = mul_pos s b i k in omega (arith, linear, e)
 
 -- what is under an edge that is below v is below v; what is over an edge that is above v is above v
 pub below_too : (e f : Edge) (v : Pt) → pos 0 <ℤ run e → pos 0 <ℤ run f → Common e f v.x → IsUnder e f → over_pt f v <ℤ pos 0 → over_pt e v <ℤ pos 0
@@ -179,7 +167,7 @@ at_start' re rf se sf of px py = simp expand (omega (arith, linear))
 
 pub under_new : (g e : Edge) → MeetAtEnds g e → pos 0 <ℤ run g → pos 0 <ℤ run e → Common g e e.p.x → over_pt g e.p <ℤ pos 0 → IsUnder g e
 under_new g e m rg re p h = stays_under g e m rg re e.p.x p
-    (subst (λ (t : ℤ). pos 0 <ℤ t) (sym (at_start' (run e) (run g) (rise e) (rise g) (off g) e.p.x e.p.y)) (mul_pos (run e) (neg_ℤ (over_pt g e.p)) re (turned_neg (over_pt g e.p) h)))
+    (subst (λ (t : ℤ). pos 0 <ℤ t) (sym (at_start' (run e) (run g) (rise e) (rise g) (off g) e.p.x e.p.y)) (mul_pos (run e) (neg_ℤ (over_pt g e.p)) re (negated (over_pt g e.p) h)))
 
 pub over_new : (g e : Edge) → MeetAtEnds e g → pos 0 <ℤ run g → pos 0 <ℤ run e → Common e g e.p.x → pos 0 <ℤ over_pt g e.p → IsUnder e g
 over_new g e m rg re p h = stays_under e g m re rg e.p.x p
@@ -191,7 +179,4 @@ from_start re rf se sf px py x = simp expand (omega (arith, linear))
 
 pub by_turn : (e f : Edge) → e.p ≡ f.p → pos 0 ≤ℤ slope f e → IsUnder e f
 by_turn e f h s = λ x a b k l. subst (λ (v : Pt). pos 0 ≤ℤ ((run e *ℤ (v.y *ℤ run f +ℤ (x -ℤ v.x) *ℤ rise f)) -ℤ (run f *ℤ (e.p.y *ℤ run e +ℤ (x -ℤ e.p.x) *ℤ rise e)))) h
-    (subst (λ (t : ℤ). pos 0 ≤ℤ t) (sym (from_start (run e) (run f) (rise e) (rise f) e.p.x e.p.y x)) (mul_nonneg (x -ℤ e.p.x) (slope f e) (ahead e.p.x x a) s))
-  where
-    ahead : (p x : ℤ) → p ≤ℤ x → pos 0 ≤ℤ (x -ℤ p)
-    ahead p x h = omega (arith, ints)
+    (subst (λ (t : ℤ). pos 0 ≤ℤ t) (sym (from_start (run e) (run f) (rise e) (rise f) e.p.x e.p.y x)) (mul_nonneg (x -ℤ e.p.x) (slope f e) (gap_is e.p.x x a) s))

@@ -19,6 +19,7 @@ use Rattle.geom.specs.Parity.{parity}
 use Rattle.geom.specs.ResultEdges.{left_side, right_side}
 use Rattle.geom.specs.Rounded.{edges_of, odd_edges}
 use Rattle.geom.proofs.Lists.{In, in_contains, contains_in, in_map, map_in, in_append, in_front, in_back}
+use Rattle.geom.proofs.Tests.{lt_told, lt_yes}
 use Rattle.points_law.specs.Law.{AreLayers}
 use Rattle.label_sweep.specs.declared.parities.Parities.{Parities}
 use Rattle.label_sweep.specs.declared.standing.Spoke.{Spoke}
@@ -90,12 +91,6 @@ module _ (cs : List Counted) (h : AreLayers cs) (v : Pt) (ss : List Spoke) (a : 
       subst (λ (es : List Edge). In k.one.edge es) (sym (map-append edge_of (cond (int_lt m.one.edge.p.x m.one.edge.q.x) (standing_of m (beyond at m.one) ∷ []) []) (stands_from (beyond at m.one) ks)))
       (in_back (map edge_of (cond (int_lt m.one.edge.p.x m.one.edge.q.x) (standing_of m (beyond at m.one) ∷ []) [])) (map edge_of (stands_from (beyond at m.one) ks)) k.one.edge (is_stand (beyond at m.one) ks k i l))
 
-  slopes_of : (x y : ℤ) → int_lt x y ≡ true → x <ℤ y
-  slopes_of x y e = omega (arith, ints)
-
-  of_slopes : (x y : ℤ) → x <ℤ y → int_lt x y ≡ true
-  of_slopes x y e = grind (arith, ints)
-
   spoke_begins : (k : Spoke) → In k ss → Contains (edges_of cs) k.one.edge × (k.one.edge.p ≡ v)
   spoke_begins k i = (a.exact k.one.edge).0 (in_contains (map edge_at ss) k.one.edge (map_in edge_at ss k i))
 
@@ -103,13 +98,13 @@ module _ (cs : List Counted) (h : AreLayers cs) (v : Pt) (ss : List Spoke) (a : 
   sound e i = let t = in_map edge_of (reverse (stands_from left ss)) e i in
       let k = stand_is left ss t.0 (in_reverse (stands_from left ss) t.0 t.1) in
       let b = spoke_begins t.0.spoke k.0 in
-      subst (λ (e : Edge). Contains (edges_of cs) e × (e.p.x <ℤ e.q.x) × (e.p ≡ v)) t.2 (b.0, slopes_of _ _ k.1, b.1)
+      subst (λ (e : Edge). Contains (edges_of cs) e × (e.p.x <ℤ e.q.x) × (e.p ≡ v)) t.2 (b.0, lt_told _ _ k.1, b.1)
 
   complete : (e : Edge) → Contains (edges_of cs) e → e.p.x <ℤ e.q.x → e.p ≡ v → In e (map edge_of (reverse (stands_from left ss)))
   complete e c l b = let k = in_map edge_at ss e (contains_in (map edge_at ss) e ((a.exact e).1 (c, b))) in
       let P : Edge → Type 0 = λ f. int_lt f.p.x f.q.x ≡ true in
       subst (λ (es : List Edge). In e es) (sym (map_reverse edge_of (stands_from left ss)))
-      (reverse_in (map edge_of (stands_from left ss)) e (subst (λ (f : Edge). In f (map edge_of (stands_from left ss))) k.2 (is_stand left ss k.0 k.1 (subst P (sym k.2) (of_slopes e.p.x e.q.x l)))))
+      (reverse_in (map edge_of (stands_from left ss)) e (subst (λ (f : Edge). In f (map edge_of (stands_from left ss))) k.2 (is_stand left ss k.0 k.1 (subst P (sym k.2) (lt_yes e.p.x e.q.x l)))))
 
   -- ---- their order
   over_pairs : (at : Parities) (ks : List Spoke) → ((k : Spoke) → In k ks → k.one.edge.p ≡ v) → Pairs Steeper (map edge_at ks) → Pairs (λ f g. IsUnder g f) (map edge_of (stands_from at ks))

@@ -7,6 +7,7 @@ use Rattle.std.proofs.lemmas.Int.{ints}
 use Rattle.geom.specs.declared.edge.Edge.{Edge}
 use Rattle.geom.proofs.Edges.{before_cases}
 use Rattle.geom.proofs.Integers.{expand, linear, none_left, mul_neg, mul_pos, mul_nonneg, by_sign}
+use Rattle.geom.proofs.Numbers.{negated_is_nonneg, never_negative, nonneg, strict_gap_is}
 use Rattle.points_law.proofs.Choices.{run, rise}
 use Rattle.points_law.proofs.Meet.{slope}
 use Rattle.points_law.proofs.Turn.{run_low}
@@ -42,11 +43,8 @@ of_no_slope f g h = fails _ (subst (λ (t : ℤ). t ≤ℤ pos 0) (sym (turn_is 
 turns_back : (rf sf rg sg : ℤ) → pos 0 <ℤ (rg *ℤ sf -ℤ rf *ℤ sg) → (rf *ℤ sg -ℤ rg *ℤ sf) ≤ℤ pos 0
 turns_back rf sf rg sg h = omega (arith, ints)
 
-turned : (a : ℤ) → a ≤ℤ pos 0 → pos 0 ≤ℤ neg_ℤ a
-turned a h = omega (arith, ints)
-
 under : (r a : ℤ) → pos 0 ≤ℤ r → a ≤ℤ pos 0 → (r *ℤ a) ≤ℤ pos 0
-under r a h i = back (r *ℤ a) (subst (λ (t : ℤ). pos 0 ≤ℤ t) (mul_neg r a) (mul_nonneg r (neg_ℤ a) h (turned a i)))
+under r a h i = back (r *ℤ a) (subst (λ (t : ℤ). pos 0 ≤ℤ t) (mul_neg r a) (mul_nonneg r (neg_ℤ a) h (negated_is_nonneg a i)))
   where
     back : (a : ℤ) → pos 0 ≤ℤ neg_ℤ a → a ≤ℤ pos 0
     back a h = omega (arith, ints)
@@ -64,15 +62,9 @@ sloping_between re c x y h e i j = by_sign c (λ s. weak c s) (λ s. none c s) (
     clash p x y e i j k = omega (arith, ints)
 
 upright_between : (rf re rg sf se sg : ℤ) → re ≡ pos 0 → pos 0 <ℤ se → pos 0 ≤ℤ rf → pos 0 ≤ℤ rg → (rg ≡ pos 0 → pos 0 <ℤ sg) → (rg *ℤ se -ℤ re *ℤ sg) ≤ℤ pos 0 → (rg *ℤ sf -ℤ rf *ℤ sg) ≤ℤ pos 0
-upright_between rf re rg sf se sg e h i j k l = by_sign rg (λ s. absurd (below rg j s))
-    (λ s. level (rg *ℤ sf) (rf *ℤ sg) (ap (λ (t : ℤ). t *ℤ sf) s ∙ none_left sf) (mul_nonneg rf sg i (weak sg (k s))))
+upright_between rf re rg sf se sg e h i j k l = by_sign rg (λ s. absurd (never_negative rg j s))
+    (λ s. level (rg *ℤ sf) (rf *ℤ sg) (ap (λ (t : ℤ). t *ℤ sf) s ∙ none_left sf) (mul_nonneg rf sg i (nonneg sg (k s))))
     (λ s. absurd (clash (rg *ℤ se) (re *ℤ sg) (mul_pos rg se s h) (ap (λ (t : ℤ). t *ℤ sg) e ∙ none_left sg) l))
-  where
-    below : (r : ℤ) → pos 0 ≤ℤ r → r <ℤ pos 0 → ⊥
-    below r h s = omega (arith, ints)
-
-    weak : (s : ℤ) → pos 0 <ℤ s → pos 0 ≤ℤ s
-    weak s h = omega (arith, ints)
 
     level : (a b : ℤ) → a ≡ pos 0 → pos 0 ≤ℤ b → (a -ℤ b) ≤ℤ pos 0
     level a b e h = omega (arith, ints)
@@ -84,21 +76,15 @@ runs : (e : Edge) → pos 0 ≤ℤ run e
 runs e = run_low e (before_cases e.p e.q e.ordered)
 
 rises : (e : Edge) → run e ≡ pos 0 → pos 0 <ℤ rise e
-rises e z = ⊎_elim (λ l. absurd (clash e.p.x e.q.x l z)) (λ l. up e.p.y e.q.y l.1) (before_cases e.p e.q e.ordered)
+rises e z = ⊎_elim (λ l. absurd (clash e.p.x e.q.x l z)) (λ l. strict_gap_is e.p.y e.q.y l.1) (before_cases e.p e.q e.ordered)
   where
     clash : (p q : ℤ) → p <ℤ q → q -ℤ p ≡ pos 0 → ⊥
     clash p q h z = omega (arith, ints)
 
-    up : (p q : ℤ) → p <ℤ q → pos 0 <ℤ (q -ℤ p)
-    up p q i = omega (arith, ints)
-
 not_steeper_through : (f e g : Edge) → slope f e ≤ℤ pos 0 → slope e g ≤ℤ pos 0 → slope f g ≤ℤ pos 0
-not_steeper_through f e g h i = by_sign (run e) (λ s. absurd (below (run e) (runs e) s))
+not_steeper_through f e g h i = by_sign (run e) (λ s. absurd (never_negative (run e) (runs e) s))
     (λ s. upright_between (run f) (run e) (run g) (rise f) (rise e) (rise g) s (rises e s) (runs f) (runs g) (rises g) i)
     (λ s. sloping_between (run e) (slope f g) (run f *ℤ slope e g) (run g *ℤ slope f e) s (chain (run f) (run e) (run g) (rise f) (rise e) (rise g)) (under (run f) (slope e g) (runs f) i) (under (run g) (slope f e) (runs g) h))
-  where
-    below : (r : ℤ) → pos 0 ≤ℤ r → r <ℤ pos 0 → ⊥
-    below r h s = omega (arith, ints)
 
 pub steepness : IsStrictWeakOrder comes_first
 steepness = record {

@@ -14,7 +14,7 @@ use Rattle.geom.proofs.Lists.{In, in_append, in_front, in_back}
 use Rattle.geom.proofs.Edges.{before_cases, before_by_cases, before_strict}
 use Rattle.geom.proofs.Orders.{before_itself, before_trans}
 use Rattle.geom.proofs.Integers.{expand, linear, mul_pos, by_sign}
-use Rattle.geom.proofs.Fraction.{strict_gap_is}
+use Rattle.geom.proofs.Numbers.{times_no_gap, from_no_gap, from_strict_gap, from_same, zero_is_not_positive, itself, weak, strict_gap_is}
 use Rattle.points_law.proofs.Choices.{◌∧∧◌, run, rise, Noded}
 use Rattle.points_law.proofs.ResultOfChoices.{Edges}
 use Rattle.points_law.proofs.Meet.{off, slope}
@@ -69,10 +69,7 @@ below_q f v s e h = under_zero (run f) (v.y -ℤ f.q.y) (over_pt f v) (strict_ga
     (ap (λ (t : ℤ). (rise f *ℤ t +ℤ off f) -ℤ run f *ℤ v.y) (sym e) ∙ at_q f.p.x f.p.y f.q.x f.q.y v.y)
 
 zero_there : (r y x : ℤ) → x ≡ neg_ℤ (r *ℤ (y -ℤ y)) → x ≡ pos 0
-zero_there r y x e = let k = none r y in omega (arith, linear)
-  where
-    none : (r y : ℤ) → r *ℤ (y -ℤ y) ≡ pos 0
-    none r y = simp expand (omega (arith, linear))
+zero_there r y x e = let k = times_no_gap r y in omega (arith, linear)
 
 pub level_p : (f : Edge) (v : Pt) → f.p ≡ v → over_pt f v ≡ pos 0
 level_p f v e = subst (λ (w : Pt). over_pt f w ≡ pos 0) e (zero_there (run f) f.p.y (over_pt f f.p) (at_p (run f) (rise f) f.p.x f.p.y f.p.y))
@@ -103,25 +100,16 @@ points : (u v : Pt) → {P : Type 0} → (IsBefore u v → P) → (u ≡ v → P
 points u v f g k = by_sign (v.x -ℤ u.x)
     (λ s. k (before_by_cases v u (inl (less u.x v.x s))))
     (λ s. by_sign (v.y -ℤ u.y)
-    (λ t. k (before_by_cases v u (inr (sym (same u.x v.x s), less u.y v.y t))))
-    (λ t. g (λ i. record { x = same u.x v.x s i; y = same u.y v.y t i }))
-    (λ t. f (before_by_cases u v (inr (same u.x v.x s, more u.y v.y t)))))
-    (λ s. f (before_by_cases u v (inl (more u.x v.x s))))
+    (λ t. k (before_by_cases v u (inr (sym (from_no_gap u.x v.x s), less u.y v.y t))))
+    (λ t. g (λ i. record { x = from_no_gap u.x v.x s i; y = from_no_gap u.y v.y t i }))
+    (λ t. f (before_by_cases u v (inr (from_no_gap u.x v.x s, from_strict_gap u.y v.y t)))))
+    (λ s. f (before_by_cases u v (inl (from_strict_gap u.x v.x s))))
   where
     less : (a b : ℤ) → (b -ℤ a) <ℤ pos 0 → b <ℤ a
     less a b h = omega (arith, ints)
 
-    same : (a b : ℤ) → b -ℤ a ≡ pos 0 → a ≡ b
-    same a b h = omega (arith, ints)
-
-    more : (a b : ℤ) → pos 0 <ℤ (b -ℤ a) → a <ℤ b
-    more a b h = omega (arith, ints)
-
 le_of : (u v : Pt) → ¬ (IsBefore u v) → v.x ≤ℤ u.x
-le_of u v n = points u v (λ h. absurd (n h)) (λ e. same v.x u.x (ap (λ (w : Pt). w.x) (sym e))) (λ h. h.column)
-  where
-    same : (a b : ℤ) → a ≡ b → a ≤ℤ b
-    same a b h = omega (arith, ints)
+le_of u v n = points u v (λ h. absurd (n h)) (λ e. from_same v.x u.x (ap (λ (w : Pt). w.x) (sym e))) (λ h. h.column)
 
 -- v lies in the range of what reaches it
 pub comes_common : (es : List Edge) (v : Pt) (e f : Edge) → Comes es v e → Comes es v f → Common e f v.x
@@ -156,9 +144,6 @@ module _ (es : List Edge) (h : Edges es) (v : Pt) (x : Vertex es v) (low mid hig
   parts : (e : Edge) → In e (low ++ (mid ++ high)) → {P : Type 0} → (In e low → P) → (In e mid → P) → (In e high → P) → P
   parts e i f g k = ⊎_elim f (λ j. ⊎_elim g k (in_append mid high e j)) (in_append low (mid ++ high) e i)
 
-  zero_not_high : (y : ℤ) → y ≡ pos 0 → pos 0 <ℤ y → ⊥
-  zero_not_high y e t = omega (arith, ints)
-
   zero_not_low : (y : ℤ) → y ≡ pos 0 → y <ℤ pos 0 → ⊥
   zero_not_low y e t = omega (arith, ints)
 
@@ -192,7 +177,7 @@ module _ (es : List Edge) (h : Edges es) (v : Pt) (x : Vertex es v) (low mid hig
 
   in_high : (g : Edge) → In g es → cv g (v.x -ℤ pos 1) ≡ true → pos 0 <ℤ over_pt g v → In g high
   in_high g i c o = parts g (s.complete g (arrives g i c o))
-      (λ j. absurd (clash (over_pt g v) o (is_low g j))) (λ j. absurd (zero_not_high (over_pt g v) (is_mid g j) o)) (λ j. j)
+      (λ j. absurd (clash (over_pt g v) o (is_low g j))) (λ j. absurd (zero_is_not_positive (over_pt g v) (is_mid g j) o)) (λ j. j)
 
   pub none_above : high ≡ [] → (g : Edge) → In g es → cv g (v.x -ℤ pos 1) ≡ true → pos 0 <ℤ over_pt g v → ⊥
   none_above e g i c o = subst (λ t. In g t) e (in_high g i c o)
@@ -233,7 +218,7 @@ module _ (es : List Edge) (h : Edges es) (v : Pt) (x : Vertex es v) (low mid hig
 
     sound_after : (e : Edge) → In e (low ++ (fresh ++ high)) → Goes es v e
     sound_after e i = ⊎_elim (λ j. goes_from e (from_low e j) (λ z. zero_not_low (over_pt e v) z (is_low e j)))
-        (λ j. ⊎_elim (λ k. goes_fresh e k) (λ k. goes_from e (from_high e k) (λ z. zero_not_high (over_pt e v) z (is_high e k))) (in_append fresh high e j))
+        (λ j. ⊎_elim (λ k. goes_fresh e k) (λ k. goes_from e (from_high e k) (λ z. zero_is_not_positive (over_pt e v) z (is_high e k))) (in_append fresh high e j))
         (in_append low (fresh ++ high) e i)
 
     stays : (e : Edge) → Goes es v e → IsBefore e.p v → In e (low ++ (fresh ++ high))
@@ -252,12 +237,6 @@ module _ (es : List Edge) (h : Edges es) (v : Pt) (x : Vertex es v) (low mid hig
       f_low = self e.p.x;
       f_high = weak e.p.x e.q.x k.1;
     }
-      where
-        self : (a : ℤ) → a ≤ℤ a
-        self a = omega (arith, ints)
-
-        weak : (a b : ℤ) → a <ℤ b → a ≤ℤ b
-        weak a b h = omega (arith, ints)
 
     turned : (g e : Edge) → Common g e e.p.x → Common e g e.p.x
     turned g e c = record { e_low = c.f_low; e_high = c.f_high; f_low = c.e_low; f_high = c.e_high }
@@ -270,7 +249,7 @@ module _ (es : List Edge) (h : Edges es) (v : Pt) (x : Vertex es v) (low mid hig
         (comes_run es v g (from_low g i)) (strict_gap_is e.p.x e.q.x k.1) (at_fresh g e (from_low g i) j) (subst (λ (w : Pt). over_pt g w <ℤ pos 0) (sym k.2) (is_low g i))
 
     fresh_high : (e g : Edge) → In e fresh → In g high → IsUnder e g
-    fresh_high e g j i = let k = are_fresh e j in over_new g e (h.noded e g k.0 (from_high g i).inside (λ t. apart g e j (λ z. zero_not_high (over_pt g v) z (is_high g i)) (sym t)))
+    fresh_high e g j i = let k = are_fresh e j in over_new g e (h.noded e g k.0 (from_high g i).inside (λ t. apart g e j (λ z. zero_is_not_positive (over_pt g v) z (is_high g i)) (sym t)))
         (comes_run es v g (from_high g i)) (strict_gap_is e.p.x e.q.x k.1) (turned g e (at_fresh g e (from_high g i) j)) (subst (λ (w : Pt). pos 0 <ℤ over_pt g w) (sym k.2) (is_high g i))
 
     order_after : Pairs IsUnder (low ++ (fresh ++ high))

@@ -11,14 +11,15 @@ use Rattle.geom.specs.declared.point.Pt.{Pt}
 use Rattle.geom.specs.declared.edge.Edge.{Edge}
 use Rattle.geom.proofs.Lists.{In}
 use Rattle.geom.proofs.Integers.{expand, linear}
+use Rattle.geom.proofs.Numbers.{weak, below_successor, past_predecessor}
 use Rattle.points_law.proofs.Choices.{◌⊕◌, ◌∧∧◌, par, run, rise, MeetAtEnds, Noded, Even, is, parity, left, right}
 use Rattle.points_law.proofs.ResultOfChoices.{Edges}
 use Rattle.points_law.proofs.Meet.{off, slope, gap}
 use Rattle.points_law.proofs.Sums.{par_cong, par_xor, par_none}
 use Rattle.points_law.proofs.Even.{both_ways, is_same, is_refl, same, same_is, same_refl, not_true, once}
 use Rattle.points_law.proofs.Sign.{twice, not_zero, stays_up}
-use Rattle.points_law.proofs.Column.{cv, ab, cv_low, cv_high, cv_run, lt_from, differ, no_root, among, not_above_itself, weak}
-use Rattle.points_law.proofs.Vertex.{over_pt, higher, west, slopes, EndsAt, Vertex, vertex_end, on_sloping, low_one, high_one, back_low, back_high}
+use Rattle.points_law.proofs.Column.{cv, ab, cv_low, cv_high, cv_run, lt_from, differ, no_root, among, not_above_itself}
+use Rattle.points_law.proofs.Vertex.{over_pt, higher, west, slopes, EndsAt, Vertex, vertex_end, on_sloping, back_low, back_high}
 use Rattle.points_law.proofs.Turn.{sloping_right, turned_p, at_p, crossing, before, itself_flat}
 use Rattle.points_law.proofs.Heights.{is_positive}
 use Rattle.label_sweep.specs.Status.{rise_over, IsUnder}
@@ -41,7 +42,7 @@ ab_of f g v m i j u = is_positive (twice (slope g f) (gap g f) (v.x -ℤ pos 1))
     (sum_pos (slope g f *ℤ (v.x -ℤ pos 1) +ℤ gap g f) (slope g f *ℤ (v.x -ℤ pos 1 +ℤ pos 1) +ℤ gap g f)
     (subst (λ (t : ℤ). pos 0 ≤ℤ t) (rise_is g f (v.x -ℤ pos 1)) (u (v.x -ℤ pos 1) (cv_low f _ i) (weak _ _ (cv_high f _ i)) (cv_low g _ j) (weak _ _ (cv_high g _ j))))
     (subst (λ (t : ℤ). pos 0 ≤ℤ t) (rise_is g f (v.x -ℤ pos 1 +ℤ pos 1))
-    (subst (λ (t : ℤ). pos 0 ≤ℤ rise_over g f t) (sym (back v.x)) (u v.x (low_one f.p.x v.x (cv_low f _ i)) (high_one v.x f.q.x (cv_high f _ i)) (low_one g.p.x v.x (cv_low g _ j)) (high_one v.x g.q.x (cv_high g _ j)))))
+    (subst (λ (t : ℤ). pos 0 ≤ℤ rise_over g f t) (sym (back v.x)) (u v.x (below_successor f.p.x v.x (cv_low f _ i)) (past_predecessor v.x f.q.x (cv_high f _ i)) (below_successor g.p.x v.x (cv_low g _ j)) (past_predecessor v.x g.q.x (cv_high g _ j)))))
     (not_zero (slope g f) (gap g f) (v.x -ℤ pos 1) (no_root f g (v.x -ℤ pos 1) m i j)))
 
 lifts : (re rf se sf oe of x y : ℤ) → re *ℤ ((sf *ℤ x +ℤ of) -ℤ rf *ℤ y) ≡ ((re *ℤ sf -ℤ rf *ℤ se) *ℤ x +ℤ (re *ℤ of -ℤ rf *ℤ oe) *ℤ pos 1) +ℤ rf *ℤ ((se *ℤ x +ℤ oe) -ℤ re *ℤ y)

@@ -18,13 +18,14 @@ use Rattle.geom.specs.Parity as geom
 use Rattle.geom.specs.ResultEdges.{left_side, right_side}
 use Rattle.geom.proofs.Integers.{expand, linear}
 use Rattle.geom.proofs.Lists.{In, in_contains, contains_in, map_in}
+use Rattle.geom.proofs.ListOrder.{pairs_tail}
 use Rattle.points_law.proofs.Choices.{◌⊕◌}
 use Rattle.points_law.proofs.Turn.{crossing}
 use Rattle.label_sweep.specs.Labels.{xor}
 use Rattle.points_law.specs.Law.{AreLayers}
 use Rattle.points_law.proofs.Choices.{run, rise, Even, parity, counted}
 use Rattle.points_law.proofs.Vertex.{over_pt, Vertex}
-use Rattle.points_law.proofs.Layers.{chosen, parity_is, over_all, even_in, edges_in, chosen_at, distinct, tail_pairs, first_pairs}
+use Rattle.points_law.proofs.Layers.{chosen, parity_is, over_all, even_in, edges_in, chosen_at, distinct, first_pairs}
 use Rattle.label_sweep.specs.Status.{IsUnder, Reaches, GoesOn, AreStanding, AreSpokes, IsSteeper, IsVertexOf}
 use Rattle.label_sweep.specs.Laws.{StandingStays, FirstLeft, LeftOfFirst, LeftOfNext, SearchIsMonotone, EndsAreLevel, StandingReaches, RightIsBeyond}
 use Rattle.label_sweep.proofs.Ends.{le_cases}
@@ -36,7 +37,7 @@ use Rattle.label_sweep.proofs.Around.{Spokes, Steeper, first_left, next_left}
 -- ---- pairs
 pub pairs_from : (R : Edge → Edge → Type 0) (xs : List Edge) → AllPairs R xs → Pairs R xs
 pairs_from R [] p = tt
-pairs_from R (x ∷ xs) p = ((λ y i. first_pairs R x y xs p (in_contains xs y i)), pairs_from R xs (tail_pairs R x xs p))
+pairs_from R (x ∷ xs) p = ((λ y i. first_pairs R x y xs p (in_contains xs y i)), pairs_from R xs (pairs_tail R x xs p))
 
 all_in : (P : Edge → Type 0) (xs : List Edge) → ((x : Edge) → In x xs → P x) → All P xs
 all_in P [] h = All-nil P

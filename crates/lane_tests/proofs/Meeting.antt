@@ -14,7 +14,8 @@ use Rattle.geom.specs.declared.rect.Rect.{Rect}
 use Rattle.lane_tests.specs.Columns.{corners, nowhere, touches, passing, touching_numbers}
 use Rattle.geom.specs.Box.{IsInBox, ShareAPoint}
 use Rattle.geom.proofs.Boxes.{share_in, share_out}
-use Rattle.geom.proofs.Tests.{le_le, le_told, le_yes}
+use Rattle.geom.proofs.Tests.{le_told, le_yes}
+use Rattle.geom.proofs.Numbers.{weak, itself, le_le}
 use Rattle.lane_tests.specs.Meeting.{AreMeeting, MeetsAt}
 
 -- ---- a common point, by four comparisons
@@ -38,15 +39,9 @@ record Common (a b c d : ℤ) : Type 0 where
   from : c ≤ℤ at
   to : at ≤ℤ d
 
-at_most : (a b : ℤ) → a <ℤ b → a ≤ℤ b
-at_most a b h = omega (arith, ints)
-
-itself : (a : ℤ) → a ≤ℤ a
-itself a = omega (arith, ints)
-
 -- two intervals of which each begins before the other ends have a common number
 overlap : (a b c d : ℤ) → a ≤ℤ b → c ≤ℤ d → a ≤ℤ d → c ≤ℤ b → Common a b c d
-overlap a b c d h k l m = by_lt_z a c (λ n. record { at = c; low = at_most a c n; high = m; from = itself c; to = k }) (λ n. record { at = a; low = itself a; high = h; from = n; to = l })
+overlap a b c d h k l m = by_lt_z a c (λ n. record { at = c; low = weak a c n; high = m; from = itself c; to = k }) (λ n. record { at = a; low = itself a; high = h; from = n; to = l })
 
 pub share_from : (b r : Rect) → touches (corners b) (corners r) ≡ true → ShareAPoint b.lo b.hi r.lo r.hi
 share_from b r e = let t = four_of _ _ _ _ e in share_out b r (le_told _ _ t.0, le_told _ _ t.2) (le_told _ _ t.1, le_told _ _ t.3)

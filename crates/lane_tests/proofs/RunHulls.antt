@@ -12,30 +12,25 @@ use Rattle.geom.specs.declared.rect.Rect.{Rect}
 use Rattle.lane_tests.specs.Columns.{AreColumns, Ends, corners, nowhere, pair_at, pairs_of, passing, touches}
 use Rattle.lane_tests.specs.Hulls.{AreHulls, Covers, HasHeld, hull_at}
 use Rattle.lane_tests.proofs.PairLists.{get_or-pairs_of, length-pairs_of}
-use Rattle.geom.proofs.Tests.{le_le, le_told, le_yes}
+use Rattle.geom.proofs.Tests.{le_told, le_yes}
+use Rattle.geom.proofs.Numbers.{itself, from_same, le_le}
 use Rattle.lane_tests.proofs.Meeting.{all_four, four_of, share_from}
-
-itself : (a : ℤ) → a ≤ℤ a
-itself a = omega (arith, ints)
 
 covers_itself : (a : Ends) → Covers a a
 covers_itself a = record { left = itself a.0.x; bottom = itself a.0.y; right = itself a.1.x; top = itself a.1.y }
 
-same : (a b : ℤ) → a ≡ b → a ≤ℤ b
-same a b e = subst (λ z. a ≤ℤ z) e (itself a)
-
 -- ---- a hull that is widened by a box
 min_first : (a b c r : ℤ) → r ≡ int_min (int_min a b) c → r ≤ℤ a
-min_first a b c r e = let m : int_min a b ≤ℤ a = omega (arith, linear, int_min_is a b) in let n : int_min (int_min a b) c ≤ℤ int_min a b = omega (arith, linear, int_min_is (int_min a b) c) in le_le _ _ _ (le_le _ _ _ (same _ _ e) n) m
+min_first a b c r e = let m : int_min a b ≤ℤ a = omega (arith, linear, int_min_is a b) in let n : int_min (int_min a b) c ≤ℤ int_min a b = omega (arith, linear, int_min_is (int_min a b) c) in le_le _ _ _ (le_le _ _ _ (from_same _ _ e) n) m
 
 min_second : (a b c r : ℤ) → r ≡ int_min (int_min a b) c → r ≤ℤ b
-min_second a b c r e = let m : int_min a b ≤ℤ b = omega (arith, linear, int_min_is a b) in let n : int_min (int_min a b) c ≤ℤ int_min a b = omega (arith, linear, int_min_is (int_min a b) c) in le_le _ _ _ (le_le _ _ _ (same _ _ e) n) m
+min_second a b c r e = let m : int_min a b ≤ℤ b = omega (arith, linear, int_min_is a b) in let n : int_min (int_min a b) c ≤ℤ int_min a b = omega (arith, linear, int_min_is (int_min a b) c) in le_le _ _ _ (le_le _ _ _ (from_same _ _ e) n) m
 
 max_first : (a b c r : ℤ) → r ≡ int_max (int_max a b) c → a ≤ℤ r
-max_first a b c r e = let m : a ≤ℤ int_max a b = omega (arith, linear, int_max_is a b) in let n : int_max a b ≤ℤ int_max (int_max a b) c = omega (arith, linear, int_max_is (int_max a b) c) in le_le _ _ _ m (le_le _ _ _ n (same _ _ (sym e)))
+max_first a b c r e = let m : a ≤ℤ int_max a b = omega (arith, linear, int_max_is a b) in let n : int_max a b ≤ℤ int_max (int_max a b) c = omega (arith, linear, int_max_is (int_max a b) c) in le_le _ _ _ m (le_le _ _ _ n (from_same _ _ (sym e)))
 
 max_third : (a b c r : ℤ) → r ≡ int_max (int_max a b) c → c ≤ℤ r
-max_third a b c r e = let n : c ≤ℤ int_max (int_max a b) c = omega (arith, linear, int_max_is (int_max a b) c) in le_le _ _ _ n (same _ _ (sym e))
+max_third a b c r e = let n : c ≤ℤ int_max (int_max a b) c = omega (arith, linear, int_max_is (int_max a b) c) in le_le _ _ _ n (from_same _ _ (sym e))
 
 -- the least box that has a hull and both corners of a box
 pub record IsWidened (hull rect wider : Rect) : Type 0 where

@@ -14,6 +14,7 @@ use Rattle.std.proofs.lemmas.Nat.{pow_pos}
 use Rattle.lane_tests.specs.Columns.{mask_of, IsColumn}
 use Rattle.lane_tests.proofs.Lanes.{AreLanes, column, splat, both, each, mask_is, full32}
 use Rattle.geom.proofs.Tests.{lt_yes, lt_no}
+use Rattle.geom.proofs.Numbers.{weak}
 
 -- the bits of the value of each lane
 pub record AreValues (w : Width) (at : ℕ) (v : ℕ → ℤ) (z : List ℕ) : Type 0 where
@@ -168,12 +169,9 @@ less_values {at} {u} {v} a b = record {
 abbrev pub sign_of : ℤ → ℤ → ℤ
 sign_of u v = minus_one (int_lt u v) -ℤ minus_one (int_lt v u)
 
-at_most_from : (a b : ℤ) → a <ℤ b → a ≤ℤ b
-at_most_from a b h = omega (arith, ints)
-
 sign_is : (u v : ℤ) → sign_of u v ≡ sign u v
 sign_is u v = by_lt_z u v
-    (λ h. rw (lt_yes u v h, lt_no v u (at_most_from u v h)) refl)
+    (λ h. rw (lt_yes u v h, lt_no v u (weak u v h)) refl)
     (λ h. rw (lt_no u v h) (by_lt_z v u (λ k. rw (lt_yes v u k) refl) (λ k. rw (lt_no v u k) refl)))
 
 small8 : (p q : Bool) → FitsSigned w8 (minus_one p -ℤ minus_one q)

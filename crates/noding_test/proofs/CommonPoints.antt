@@ -8,10 +8,12 @@ use Rattle.geom.specs.Pixel.{Point, Coincides}
 use Rattle.geom.specs.OnSegment.{IsAt, IsOn}
 use Rattle.geom.specs.Order.{IsBefore, IsUpTo}
 use Rattle.geom.specs.Determinant.{turn, side}
-use Rattle.geom.proofs.Integers.{linear, expand, scale_le, scale_lt, unscale_le, unscale_eq, mul_pos, mul_nonneg, by_sign}
+use Rattle.geom.proofs.Integers.{linear, expand, scale_le, scale_lt, unscale_le, unscale_eq, mul_pos, mul_nonneg, by_sign, once_left}
 use Rattle.geom.proofs.Edges.{before_cases, before_strict, PtOrder, before, equal, after, pt_order}
 use Rattle.geom.proofs.Same.{whole_path}
 use Rattle.geom.proofs.Meaning.{on_turned}
+use Rattle.geom.proofs.Numbers.{from_same, both_ways, weak, strict_gap_is, negated_is_nonneg, negated}
+use Rattle.geom.proofs.Orders.{before_itself}
 
 -- ---- a point of the edge from a to b, by weights at its ends
 
@@ -177,14 +179,11 @@ record IsFromPoint (z : Point) (a : Pt) : Type 0 where
   column : (z.n *ℤ a.x) ≤ℤ z.x
   row : z.x ≡ z.n *ℤ a.x → (z.n *ℤ a.y) ≤ℤ z.y
 
-equal_le : (x y : ℤ) → x ≡ y → x ≤ℤ y
-equal_le x y e = omega (arith, linear)
-
 up_to_end : (a b : Pt) (z : Point) (i j : ℤ) → IsBefore a b → IsWeighted a b z i j → IsUpToPoint z b
 up_to_end a b z i j h w = record {
   column = below i j z.x z.n a.x b.x w.i_from w.total z.positive h.column w.x_is;
   row = λ e. ⊎_elim
-      (λ l. equal_le z.y (z.n *ℤ b.y) (second_end a b z i j w (far i j z.x z.n a.x b.x w.i_from z.positive l w.x_is e)).y_is)
+      (λ l. from_same z.y (z.n *ℤ b.y) (second_end a b z i j w (far i j z.x z.n a.x b.x w.i_from z.positive l w.x_is e)).y_is)
       (λ r. below i j z.y z.n a.y b.y w.i_from w.total z.positive (let o = r.1 in omega (arith, linear)) w.y_is)
       (before_cases a b h);
 }
@@ -193,7 +192,7 @@ from_start : (a b : Pt) (z : Point) (i j : ℤ) → IsBefore a b → IsWeighted 
 from_start a b z i j h w = record {
   column = above i j z.x z.n a.x b.x w.j_from w.total z.positive h.column w.x_is;
   row = λ e. ⊎_elim
-      (λ l. equal_le (z.n *ℤ a.y) z.y (sym (first_end a b z i j w (near i j z.x z.n a.x b.x w.j_from z.positive l w.x_is e)).y_is))
+      (λ l. from_same (z.n *ℤ a.y) z.y (sym (first_end a b z i j w (near i j z.x z.n a.x b.x w.j_from z.positive l w.x_is e)).y_is))
       (λ r. above i j z.y z.n a.y b.y w.j_from w.total z.positive (let o = r.1 in omega (arith, linear)) w.y_is)
       (before_cases a b h);
 }
@@ -214,11 +213,8 @@ apart_before z b c u v h =
 
 same_place : (z : Point) (b : Pt) → IsUpToPoint z b → IsFromPoint z b → Coincides b z
 same_place z b u v =
-    let e : z.x ≡ z.n *ℤ b.x = both z.x (z.n *ℤ b.x) u.column v.column in
-    record { x_is = e; y_is = both z.y (z.n *ℤ b.y) (u.row e) (v.row e) }
-  where
-    both : (x y : ℤ) → x ≤ℤ y → y ≤ℤ x → x ≡ y
-    both x y h k = omega (arith, linear)
+    let e : z.x ≡ z.n *ℤ b.x = both_ways z.x (z.n *ℤ b.x) u.column v.column in
+    record { x_is = e; y_is = both_ways z.y (z.n *ℤ b.y) (u.row e) (v.row e) }
 
 -- an edge that ends before another begins, or there, shares no other point with it
 pub following : (a b c e : Pt) (z : Point) → IsBefore a b → IsBefore c e → IsUpTo b c → IsOn a b z → IsOn c e z → Coincides b z × Coincides c z
@@ -264,17 +260,11 @@ end_on c e = (pos 1, pos 1, record { ratio = record { positive = omega (arith, l
 
 same_whole : (h o : Pt) → Coincides o (at_whole h) → h ≡ o
 unfolding at_whole
-same_whole h o w = whole_path (w.x_is ∙ once o.x, w.y_is ∙ once o.y)
-  where
-    once : (t : ℤ) → pos 1 *ℤ t ≡ t
-    once t = simp expand (omega (arith, linear))
-
-never_before : (p : Pt) → IsBefore p p → ⊥
-never_before p h = before_strict p p h h
+same_whole h o w = whole_path (w.x_is ∙ once_left o.x, w.y_is ∙ once_left o.y)
 
 neither_whole : (a b h : Pt) → IsBefore a h → IsBefore h b → IsNeither a b (at_whole h)
-neither_whole a b h p q (inl w) = never_before h (subst (λ (o : Pt). IsBefore o h) (sym (same_whole h a w)) p)
-neither_whole a b h p q (inr w) = never_before h (subst (λ (o : Pt). IsBefore h o) (sym (same_whole h b w)) q)
+neither_whole a b h p q (inl w) = before_itself h (subst (λ (o : Pt). IsBefore o h) (sym (same_whole h a w)) p)
+neither_whole a b h p q (inr w) = before_itself h (subst (λ (o : Pt). IsBefore h o) (sym (same_whole h b w)) q)
 
 own_up : (c e h : ℤ) → (e -ℤ c) *ℤ h ≡ pos 1 *ℤ ((e -ℤ c) *ℤ c +ℤ (h -ℤ c) *ℤ (e -ℤ c))
 own_up c e h = simp expand (omega (arith, linear))
@@ -292,9 +282,6 @@ on_by_columns c e h o l p q = (h.x -ℤ c.x, e.x -ℤ c.x, record { ratio = reco
 on_by_rows : (c e h : Pt) → side c e h ≡ pos 0 → c.y <ℤ e.y → c.y ≤ℤ h.y → h.y ≤ℤ e.y → IsOn c e (at_whole h)
 unfolding at_whole
 on_by_rows c e h o l p q = (h.y -ℤ c.y, e.y -ℤ c.y, record { ratio = record { positive = omega (arith, linear); from = omega (arith, linear); to = omega (arith, linear) }; x_is = other_up c.y e.y h.y c.x e.x h.x (turned_side c.x e.x h.x c.y e.y h.y o); y_is = own_up c.y e.y h.y })
-
-weak : (x y : ℤ) → x <ℤ y → x ≤ℤ y
-weak x y h = omega (arith, linear)
 
 one_column : (x y z : ℤ) → x ≤ℤ y → y ≤ℤ z → z ≤ℤ x → (x ≡ y) × (y ≡ z)
 one_column x y z h k l = (omega (arith, linear), omega (arith, linear))
@@ -323,13 +310,10 @@ cross_back' u v p q r s f g =
     let g' = simp expand at (ap (λ (t : ℤ). q *ℤ t) g) in
     simp expand (omega (arith, linear))
 
-run_right : (a b : ℤ) → a <ℤ b → pos 0 <ℤ (b -ℤ a)
-run_right a b h = omega (arith, linear)
-
 no_area : (a b c e : Pt) → IsBefore a b → side a b c ≡ pos 0 → side a b e ≡ pos 0 → turn a c a e ≡ pos 0
 no_area a b c e h f g = ⊎_elim
-    (λ l. unscale_eq (turn a c a e) (pos 0) (b.x -ℤ a.x) (cross_back (b.x -ℤ a.x) (b.y -ℤ a.y) (c.x -ℤ a.x) (c.y -ℤ a.y) (e.x -ℤ a.x) (e.y -ℤ a.y) f g) (run_right a.x b.x l))
-    (λ r. unscale_eq (turn a c a e) (pos 0) (b.y -ℤ a.y) (cross_back' (b.x -ℤ a.x) (b.y -ℤ a.y) (c.x -ℤ a.x) (c.y -ℤ a.y) (e.x -ℤ a.x) (e.y -ℤ a.y) f g) (run_right a.y b.y r.1))
+    (λ l. unscale_eq (turn a c a e) (pos 0) (b.x -ℤ a.x) (cross_back (b.x -ℤ a.x) (b.y -ℤ a.y) (c.x -ℤ a.x) (c.y -ℤ a.y) (e.x -ℤ a.x) (e.y -ℤ a.y) f g) (strict_gap_is a.x b.x l))
+    (λ r. unscale_eq (turn a c a e) (pos 0) (b.y -ℤ a.y) (cross_back' (b.x -ℤ a.x) (b.y -ℤ a.y) (c.x -ℤ a.x) (c.y -ℤ a.y) (e.x -ℤ a.x) (e.y -ℤ a.y) f g) (strict_gap_is a.y b.y r.1))
     (before_cases a b h)
 
 side_of_area : (a c e : Pt) → side c e a ≡ turn a c a e
@@ -355,11 +339,11 @@ middle_on a b = (pos 1, pos 2, record { ratio = record { positive = omega (arith
 
 not_middle : (a b : Pt) → IsBefore a b → IsNeither a b (middle a b)
 unfolding middle
-not_middle a b h (inl w) = never_before a (subst (λ (o : Pt). IsBefore a o) (sym (whole_path (lower_half a.x b.x w.x_is, lower_half a.y b.y w.y_is))) h)
+not_middle a b h (inl w) = before_itself a (subst (λ (o : Pt). IsBefore a o) (sym (whole_path (lower_half a.x b.x w.x_is, lower_half a.y b.y w.y_is))) h)
   where
     lower_half : (a b : ℤ) → a +ℤ b ≡ pos 2 *ℤ a → a ≡ b
     lower_half a b h = let k = simp expand at h in omega (arith, linear)
-not_middle a b h (inr w) = never_before a (subst (λ (o : Pt). IsBefore a o) (sym (whole_path (upper_half a.x b.x w.x_is, upper_half a.y b.y w.y_is))) h)
+not_middle a b h (inr w) = before_itself a (subst (λ (o : Pt). IsBefore a o) (sym (whole_path (upper_half a.x b.x w.x_is, upper_half a.y b.y w.y_is))) h)
   where
     upper_half : (a b : ℤ) → a +ℤ b ≡ pos 2 *ℤ b → a ≡ b
     upper_half a b h = let k = simp expand at h in omega (arith, linear)
@@ -420,8 +404,8 @@ by_weights : (n x t k l c e : ℤ) → n ≡ k +ℤ l → x ≡ k *ℤ c +ℤ l 
 by_weights n x t k l c e s h g = sym h ∙ g ∙ ap (λ (u : ℤ). u *ℤ t) s
 
 neither_by : (c e : Pt) (z : Point) (k l : ℤ) → IsBefore c e → z.n ≡ k +ℤ l → z.x ≡ k *ℤ c.x +ℤ l *ℤ e.x → z.y ≡ k *ℤ c.y +ℤ l *ℤ e.y → pos 0 <ℤ k → pos 0 <ℤ l → IsNeither c e z
-neither_by c e z k l h s hx hy p q (inl w) = never_before c (subst (λ (o : Pt). IsBefore c o) (sym (whole_path (not_first k l c.x e.x q (by_weights z.n z.x c.x k l c.x e.x s hx w.x_is), not_first k l c.y e.y q (by_weights z.n z.y c.y k l c.y e.y s hy w.y_is)))) h)
-neither_by c e z k l h s hx hy p q (inr w) = never_before c (subst (λ (o : Pt). IsBefore c o) (sym (whole_path (not_second k l c.x e.x p (by_weights z.n z.x e.x k l c.x e.x s hx w.x_is), not_second k l c.y e.y p (by_weights z.n z.y e.y k l c.y e.y s hy w.y_is)))) h)
+neither_by c e z k l h s hx hy p q (inl w) = before_itself c (subst (λ (o : Pt). IsBefore c o) (sym (whole_path (not_first k l c.x e.x q (by_weights z.n z.x c.x k l c.x e.x s hx w.x_is), not_first k l c.y e.y q (by_weights z.n z.y c.y k l c.y e.y s hy w.y_is)))) h)
+neither_by c e z k l h s hx hy p q (inr w) = before_itself c (subst (λ (o : Pt). IsBefore c o) (sym (whole_path (not_second k l c.x e.x p (by_weights z.n z.x e.x k l c.x e.x s hx w.x_is), not_second k l c.y e.y p (by_weights z.n z.y e.y k l c.y e.y s hy w.y_is)))) h)
 
 -- a point with weights i and j on the one edge, and positive ones, k and l, of the same total on the other
 common_inner : (a b c e : Pt) (i j k l : ℤ) → IsBefore c e ⊎ IsBefore e c → pos 0 ≤ℤ i → pos 0 ≤ℤ j → pos 0 <ℤ k → pos 0 <ℤ l → i +ℤ j ≡ k +ℤ l → i *ℤ a.x +ℤ j *ℤ b.x ≡ k *ℤ c.x +ℤ l *ℤ e.x → i *ℤ a.y +ℤ j *ℤ b.y ≡ k *ℤ c.y +ℤ l *ℤ e.y → ShareInner a b c e
@@ -448,7 +432,7 @@ crossing_up a b c e h p q n =
     let c_from : pos 0 ≤ℤ side c e a = by_lt_z (side c e a) (pos 0) (λ l. absurd (n (inr (l, below_both (side a b c) (side a b e) (side c e a) (side c e b) (turn a b c e) u v p q l)))) (λ l. l) in
     let e_to : side c e b ≤ℤ pos 0 = by_lt_z (pos 0) (side c e b) (λ l. absurd (n (inl (above_both (side a b c) (side a b e) (side c e a) (side c e b) (turn a b c e) u v p q l, l)))) (λ l. l) in
     common_inner a b c e (neg_ℤ (side c e b)) (side c e a) (side a b e) (neg_ℤ (side a b c)) h
-    (negated_from (side c e b) e_to) c_from q (negated_pos (side a b c) p)
+    (negated_is_nonneg (side c e b) e_to) c_from q (negated (side a b c) p)
     (totals (side a b c) (side a b e) (side c e a) (side c e b) (turn a b c e) u v)
     (cross_sum (side c e b) (side c e a) (side a b e) (side a b c) a.x b.x c.x e.x (crossing_x a b c e))
     (cross_sum (side c e b) (side c e a) (side a b e) (side a b c) a.y b.y c.y e.y (crossing_y a b c e))
@@ -458,12 +442,6 @@ crossing_up a b c e h p q n =
 
     above_both : (F G C E D : ℤ) → G -ℤ F ≡ D → E -ℤ C ≡ neg_ℤ D → F <ℤ pos 0 → pos 0 <ℤ G → pos 0 <ℤ E → pos 0 <ℤ C
     above_both F G C E D u v p q l = omega (arith, linear)
-
-    negated_from : (x : ℤ) → x ≤ℤ pos 0 → pos 0 ≤ℤ neg_ℤ x
-    negated_from x h = omega (arith, linear)
-
-    negated_pos : (x : ℤ) → x <ℤ pos 0 → pos 0 <ℤ neg_ℤ x
-    negated_pos x h = omega (arith, linear)
 
     totals : (F G C E D : ℤ) → G -ℤ F ≡ D → E -ℤ C ≡ neg_ℤ D → neg_ℤ E +ℤ C ≡ G +ℤ neg_ℤ F
     totals F G C E D u v = omega (arith, linear)

@@ -18,6 +18,7 @@ use Rattle.geom.specs.Pixel.{pixel}
 use Rattle.geom.proofs.Integers.{linear}
 use Rattle.geom.proofs.Meaning.{met_pixels_are_in_bounds}
 use Rattle.geom.proofs.Orders.{before_itself, edge_before_itself, edge_before_trans}
+use Rattle.geom.proofs.Numbers.{itself}
 use Rattle.noding_test.specs.Verdicts.{common_corner, IsOwnBad, IsLeastPair}
 use Rattle.noding_test.specs.Search.{NoneBadTo, IsPartner}
 
@@ -110,9 +111,6 @@ module _ (edges : List Edge) (up : AllPairs IsEdgeBefore edges) where
             (λ o. begins f h (before_at j k f h o b at_h))
             (λ o. let e : j ≡ k = omega arith in subst (λ (x : Edge). f.p.x ≤ℤ x.p.x) (same_at j k f h e b at_h) (itself f.p.x))
             (cases_lt j k)
-          where
-            itself : (x : ℤ) → x ≤ℤ x
-            itself x = omega (arith, linear)
 
             level : {x y : ℤ} → x ≡ y → x ≤ℤ y
             level {x} {y} e = omega (arith, linear)

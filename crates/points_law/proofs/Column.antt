@@ -12,8 +12,8 @@ use Rattle.geom.specs.declared.point.Pt.{Pt}
 use Rattle.geom.specs.declared.edge.Edge.{Edge}
 use Rattle.geom.proofs.Lists.{In}
 use Rattle.points_law.proofs.Choices.{◌⊕◌, ◌∧∧◌, par, run, rise, Ordered, MeetAtEnds, Noded, eq_z, Even}
-use Rattle.geom.proofs.Tests.{le_lt, lt_le}
-use Rattle.geom.proofs.Integers.{expand, linear, scale_le, scale_lt, mul_pos, by_sign}
+use Rattle.geom.proofs.Integers.{expand, linear, scale_le, scale_lt, mul_pos, by_sign, none_right}
+use Rattle.geom.proofs.Numbers.{weak, once_from, from_strict_gap, no_gap_is, strict_gap_is, from_no_gap, le_lt, lt_le}
 use Rattle.points_law.proofs.Sign.{NoRoot, twice, not_zero, sign}
 use Rattle.points_law.proofs.Meet.{off, slope, gap, no_meet, no_cross}
 use Rattle.points_law.proofs.Sums.{par_cong, par_xor}
@@ -44,9 +44,6 @@ cv_run e k h = omega (arith, ints, cv_low e k h, cv_high e k h)
 
 pub up_to : (k q : ℤ) → k <ℤ q → (k +ℤ pos 1) ≤ℤ q
 up_to k q h = omega (arith, ints)
-
-pub weak : (a b : ℤ) → a <ℤ b → a ≤ℤ b
-weak a b h = omega (arith, ints)
 
 pub no_root : (e f : Edge) (k : ℤ) → MeetAtEnds e f → cv e k ≡ true → cv f k ≡ true → NoRoot (slope f e) (gap f e) k
 no_root e f k m i j X N n l r =
@@ -89,7 +86,7 @@ joined u1 u2 u3 u4 x1 x2 x3 x4 g h1 h2 h3 h4 e = grind arith
 pub scaled_test : (r a b : ℤ) → pos 0 <ℤ r → lt_z a b ≡ lt_z (pos 0) (r *ℤ (b -ℤ a))
 scaled_test r a b h = by_sign (b -ℤ a)
     (λ k. less a b (r *ℤ (b -ℤ a)) k (flip (r *ℤ (b -ℤ a)) (r *ℤ (a -ℤ b)) (opposite r a b) (mul_pos r (a -ℤ b) h (other a b k))))
-    (λ k. same_case a b (r *ℤ (b -ℤ a)) k (ap (λ (t : ℤ). r *ℤ t) k ∙ none r))
+    (λ k. same_case a b (r *ℤ (b -ℤ a)) k (ap (λ (t : ℤ). r *ℤ t) k ∙ none_right r))
     (λ k. more a b (r *ℤ (b -ℤ a)) k (mul_pos r (b -ℤ a) h k))
   where
     opposite : (r a b : ℤ) → r *ℤ (b -ℤ a) ≡ neg_ℤ (r *ℤ (a -ℤ b))
@@ -100,9 +97,6 @@ scaled_test r a b h = by_sign (b -ℤ a)
 
     other : (a b : ℤ) → (b -ℤ a) <ℤ pos 0 → pos 0 <ℤ (a -ℤ b)
     other a b h = omega (arith, ints)
-
-    none : (r : ℤ) → r *ℤ pos 0 ≡ pos 0
-    none r = omega (arith, ints)
 
     less : (a b x : ℤ) → (b -ℤ a) <ℤ pos 0 → x <ℤ pos 0 → lt_z a b ≡ lt_z (pos 0) x
     less a b x h k = grind (arith, ints)
@@ -137,16 +131,13 @@ stop_test f e c r h = scaled_test (run f) (off e +ℤ c *ℤ rise e) (run e *ℤ
 -- ---- one step
 -- f is neither e nor vertical, and its columns reach c = k + 1, strictly inside e's
 not_level : (e f : Edge) (c : ℤ) → MeetAtEnds e f → pos 0 <ℤ run e → pos 0 <ℤ run f → e.p.x <ℤ c → c <ℤ e.q.x → f.p.x ≤ℤ c → c ≤ℤ f.q.x → ¬ (slope f e *ℤ c +ℤ gap f e *ℤ pos 1 ≡ pos 0)
-not_level e f c m re rf i j k l = no_meet e f m re rf c (pos 1) (record { lt = tt }) (o1 e.p.x c i) (o2 c e.q.x j) (o3 f.p.x c k) (o4 c f.q.x l)
+not_level e f c m re rf i j k l = no_meet e f m re rf c (pos 1) (record { lt = tt }) (o1 e.p.x c i) (o2 c e.q.x j) (once_from f.p.x c k) (o4 c f.q.x l)
   where
     o1 : (a b : ℤ) → a <ℤ b → (pos 1 *ℤ a) <ℤ b
     o1 a b h = omega (arith, ints)
 
     o2 : (a b : ℤ) → a <ℤ b → a <ℤ (pos 1 *ℤ b)
     o2 a b h = omega (arith, ints)
-
-    o3 : (a b : ℤ) → a ≤ℤ b → (pos 1 *ℤ a) ≤ℤ b
-    o3 a b h = omega (arith, ints)
 
     o4 : (a b : ℤ) → a ≤ℤ b → a ≤ℤ (pos 1 *ℤ b)
     o4 a b h = omega (arith, ints)
@@ -174,13 +165,10 @@ sloping e f k m i j rf =
     (level (cv_low f (k +ℤ pos 1) h) (weak (k +ℤ pos 1) f.q.x (cv_high f (k +ℤ pos 1) h))))
     (λ h. start_test f e (k +ℤ pos 1) rf (eq_z_same f.p.x (k +ℤ pos 1) h))
     (λ h. stop_test f e (k +ℤ pos 1) rf (eq_z_same f.q.x (k +ℤ pos 1) h))
-    (parts f.p.x f.q.x k (apart f.p.x f.q.x rf))
+    (parts f.p.x f.q.x k (from_strict_gap f.p.x f.q.x rf))
   where
     low_next : (a k : ℤ) → a ≤ℤ k → a <ℤ (k +ℤ pos 1)
     low_next a k h = omega (arith, ints)
-
-    apart : (a b : ℤ) → pos 0 <ℤ (b -ℤ a) → a <ℤ b
-    apart a b h = omega (arith, ints)
 
     level : f.p.x ≤ℤ (k +ℤ pos 1) → (k +ℤ pos 1) ≤ℤ f.q.x → ¬ (slope f e *ℤ (k +ℤ pos 1) +ℤ gap f e *ℤ pos 1 ≡ pos 0)
     level a b = not_level e f (k +ℤ pos 1) m (cv_run e k i) rf (low_next e.p.x k (cv_low e k i)) (cv_high e (k +ℤ pos 1) j) a b
@@ -205,16 +193,10 @@ upright e f k m i j x y =
     (same_top (eq_z f.p.x (k +ℤ pos 1)) (eq_z f.q.x (k +ℤ pos 1)) (lt_z (off e +ℤ (k +ℤ pos 1) *ℤ rise e) (run e *ℤ f.p.y)) (lt_z (off e +ℤ (k +ℤ pos 1) *ℤ rise e) (run e *ℤ f.q.y))
     (ap (λ (t : ℤ). eq_z t (k +ℤ pos 1)) x)
     (λ h. both_sides (run e *ℤ f.p.y) (run e *ℤ f.q.y) (off e +ℤ (k +ℤ pos 1) *ℤ rise e) (scale_lt f.p.y f.q.y (run e) y (cv_run e k i))
-    (no_cross e f m (cv_run e k i) (k +ℤ pos 1) (low_next e.p.x k (cv_low e k i)) (cv_high e (k +ℤ pos 1) j) (x ∙ eq_z_same f.q.x (k +ℤ pos 1) h) (flat f.p.x f.q.x x) (rises f.p.y f.q.y y))))
+    (no_cross e f m (cv_run e k i) (k +ℤ pos 1) (low_next e.p.x k (cv_low e k i)) (cv_high e (k +ℤ pos 1) j) (x ∙ eq_z_same f.q.x (k +ℤ pos 1) h) (no_gap_is f.p.x f.q.x x) (strict_gap_is f.p.y f.q.y y))))
   where
     low_next : (a k : ℤ) → a ≤ℤ k → a <ℤ (k +ℤ pos 1)
     low_next a k h = omega (arith, ints)
-
-    flat : (a b : ℤ) → a ≡ b → b -ℤ a ≡ pos 0
-    flat a b h = omega (arith, ints)
-
-    rises : (a b : ℤ) → a <ℤ b → pos 0 <ℤ (b -ℤ a)
-    rises a b h = omega (arith, ints)
 
 off_column : (t x u y : Bool) → t ≡ false → u ≡ false → t ∧∧ x ≡ u ∧∧ y
 off_column t x u y h i = grind arith
@@ -241,10 +223,7 @@ differ e f s h = false≢true (sym s ∙ subst (λ z. same e z ≡ true) h (same
 each : (e f : Edge) (k : ℤ) → (¬ (e ≡ f) → MeetAtEnds e f) → Ordered f → cv e k ≡ true → cv e (k +ℤ pos 1) ≡ true → (t : Bool) → same e f ≡ t
     → (cv f k ∧∧ ab f e k) ⊕ (cv f (k +ℤ pos 1) ∧∧ ab f e (k +ℤ pos 1)) ≡ top e (k +ℤ pos 1) f.p ⊕ top e (k +ℤ pos 1) f.q
 each e f k m o i j true s = subst (λ z. (cv z k ∧∧ ab z e k) ⊕ (cv z (k +ℤ pos 1) ∧∧ ab z e (k +ℤ pos 1)) ≡ top e (k +ℤ pos 1) z.p ⊕ top e (k +ℤ pos 1) z.q) (same_is e f s) (itself e k i j)
-each e f k m (inl x) i j false s = sloping e f k (m (λ h. differ e f s h)) i j (rises f.p.x f.q.x x)
-  where
-    rises : (a b : ℤ) → a <ℤ b → pos 0 <ℤ (b -ℤ a)
-    rises a b h = omega (arith, ints)
+each e f k m (inl x) i j false s = sloping e f k (m (λ h. differ e f s h)) i j (strict_gap_is f.p.x f.q.x x)
 each e f k m (inr x) i j false s = upright e f k (m (λ h. differ e f s h)) i j x.0 x.1
 
 -- ---- the number of chosen edges above e, modulo 2, is the same in each of e's columns
@@ -300,13 +279,10 @@ apart_by k l h = omega (arith, ints)
 
 pub anywhere : (es : List Edge) → Noded es → AllOrdered es → (a : Edge → Bool) → Even a es → (e : Edge) → In e es → (k l : ℤ) → cv e k ≡ true → cv e l ≡ true
     → among a es e k ≡ among a es e l
-anywhere es n o a ev e m k l i j = by_sign (l -ℤ k) (λ h. sym (right l k j i (less k l h))) (λ h. ap (among a es e) (none k l h)) (λ h. right k l i j (more k l h))
+anywhere es n o a ev e m k l i j = by_sign (l -ℤ k) (λ h. sym (right l k j i (less k l h))) (λ h. ap (among a es e) (from_no_gap k l h)) (λ h. right k l i j (more k l h))
   where
     less : (k l : ℤ) → (l -ℤ k) <ℤ pos 0 → l ≤ℤ k
     less k l h = omega (arith, ints)
-
-    none : (k l : ℤ) → l -ℤ k ≡ pos 0 → k ≡ l
-    none k l h = omega (arith, ints)
 
     more : (k l : ℤ) → pos 0 <ℤ (l -ℤ k) → k ≤ℤ l
     more k l h = omega (arith, ints)

@@ -5,7 +5,7 @@ use Rattle.std.specs.Prelude.{◌≢◌, ◌↔◌}
 use Rattle.geom.specs.declared.point.Pt.{Pt}
 use Rattle.geom.specs.declared.edge.Edge.{Edge}
 use Rattle.geom.specs.declared.directed.DirectedEdge.{DirectedEdge}
-use Rattle.geom.specs.Directed.{from_to, Runs}
+use Rattle.geom.specs.Directed.{from_to, RunsAlong}
 use Rattle.geom.specs.ResultEdges.{left_side, right_side}
 use Rattle.geom.specs.Rings.{IsSooner, IsMetBefore, IsNeighbour, IsNext}
 use Rattle.geom.proofs.Lists.{In}
@@ -23,7 +23,7 @@ use Rattle.points_law.proofs.Truth.{cond_no, cond_yes}
 pub record Bounds (es : List Edge) (r : Edge → Bool) (d : DirectedEdge) : Type 0 where
   pub edge : Edge
   pub rounded : In edge es
-  pub runs : Runs d edge
+  pub runs : RunsAlong d edge
   pub inside : parity r es (left_side d.from d.to) ≡ true
   pub outside : parity r es (right_side d.from d.to) ≡ false
 

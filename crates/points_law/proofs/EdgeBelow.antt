@@ -8,11 +8,12 @@ use Rattle.geom.specs.declared.edge.Edge.{Edge}
 use Rattle.geom.specs.Holes.{left_of, height, run_of}
 use Rattle.geom.proofs.Integers.{expand, linear, scale_le, unscale_le, by_sign}
 use Rattle.geom.proofs.Lists.{In}
+use Rattle.geom.proofs.Numbers.{itself, weak}
 use Rattle.points_law.proofs.Choices.{◌∧∧◌, Even, run, rise, covers, above, parity, K}
 use Rattle.points_law.proofs.ResultOfChoices.{Edges}
 use Rattle.points_law.proofs.Even.{by_test, clash}
 use Rattle.points_law.proofs.Meet.{off}
-use Rattle.points_law.proofs.Column.{cv_low, cv_run, weak, lt_from}
+use Rattle.points_law.proofs.Column.{cv_low, cv_run, lt_from}
 use Rattle.points_law.proofs.Heights.{covers_is, above_is, is_positive}
 use Rattle.points_law.proofs.Vertex.{over_pt, Vertex}
 use Rattle.points_law.proofs.HoleVertex.{NoneFromLeft, edge_below, left_in, lift_left, small_rise, level_there}
@@ -51,9 +52,6 @@ all_three a b c h = (grind arith, grind arith, grind arith)
 
 these_three : (a b c : Bool) → a ≡ true → b ≡ true → c ≡ true → a ∧∧ (b ∧∧ c) ≡ true
 these_three a b c h i j = grind arith
-
-same_value : (a : ℤ) → a ≤ℤ a
-same_value a = omega (arith, ints)
 
 -- a chosen edge below the point just left of v, none of those among xs being nearer
 pub record NearestOf (es : List Edge) (r : Edge → Bool) (v : Pt) (xs : List Edge) : Type 0 where
@@ -94,7 +92,7 @@ module _ (es : List Edge) (h : Edges es) (r : Edge → Bool) (v : Pt) where
   better y ys i ry c b m l = record { edge = y; inside = i; chosen = ry; over = c; below = b; nearest = now }
     where
       now : (f : Edge) → In f (y ∷ ys) → r f ≡ true → covers f (left_of v) ≡ true → pos 0 <ℤ height f (left_of v) → (height y (left_of v) *ℤ run_of f) ≤ℤ (height f (left_of v) *ℤ run_of y)
-      now f (inl q) rf d u = subst (λ (f : Edge). (height y (left_of v) *ℤ run_of f) ≤ℤ (height f (left_of v) *ℤ run_of y)) q (same_value (height y (left_of v) *ℤ run_of y))
+      now f (inl q) rf d u = subst (λ (f : Edge). (height y (left_of v) *ℤ run_of f) ≤ℤ (height f (left_of v) *ℤ run_of y)) q (itself (height y (left_of v) *ℤ run_of y))
       now f (inr k) rf d u = nearer (height y (left_of v)) (height m.edge (left_of v)) (height f (left_of v)) (run_of y) (run_of m.edge) (run_of f)
           (runs_right m.edge m.over) (weak (pos 0) (run y) (runs_right y c)) (weak (pos 0) (run f) (runs_right f d)) l (m.nearest f k rf d u)
 

@@ -9,11 +9,11 @@ use borrow.Author.Differences.{ints}
 use Rattle.geom.specs.declared.edge.Edge.{Edge}
 use Rattle.geom.specs.Pixel.{Point}
 use Rattle.points_law.proofs.Choices.{◌⊕◌, ◌∧∧◌, run, rise, MeetAtEnds, covers, above}
-use Rattle.geom.proofs.Tests.{le_le, lt_le}
 use Rattle.geom.proofs.Integers.{expand, linear, scale_le, mul_pos, cancel_pos, by_sign}
+use Rattle.geom.proofs.Numbers.{le_le, lt_le, weak}
 use Rattle.points_law.proofs.Sign.{twice, stays_up}
 use Rattle.points_law.proofs.Meet.{off, slope, gap}
-use Rattle.points_law.proofs.Column.{cv, ab, weak, up_to, no_root, cv_run, lt_from}
+use Rattle.points_law.proofs.Column.{cv, ab, up_to, no_root, cv_run, lt_from}
 
 pub record InColumn (z : Point) (k : ℤ) : Type 0 where
   pub low : (z.n *ℤ k) ≤ℤ z.x

@@ -14,10 +14,11 @@ use Rattle.geom.proofs.Lists.{In}
 use Rattle.points_law.proofs.Choices.{◌⊕◌, ◌∧∧◌, par, run, rise, Ordered, Small, Even, is, parity, counted, covers, above, K}
 use Rattle.points_law.proofs.ResultOfChoices.{Edges}
 use Rattle.geom.proofs.Integers.{expand, linear}
+use Rattle.geom.proofs.Numbers.{from_same, below_successor, past_predecessor, weak}
 use Rattle.points_law.proofs.Meet.{off, slope}
 use Rattle.points_law.proofs.Sums.{par_cong, par_xor}
 use Rattle.points_law.proofs.Even.{and_left, and_right, is_refl, same, same_is, not_true, once, even_sum}
-use Rattle.points_law.proofs.Column.{cv, cv_low, cv_high, cv_run, weak}
+use Rattle.points_law.proofs.Column.{cv, cv_low, cv_high, cv_run}
 use Rattle.points_law.proofs.Heights.{InColumn, covers_is, above_is}
 use Rattle.points_law.proofs.Side.{near_test}
 use Rattle.points_law.proofs.Vertex.{over_pt, higher, west, EndsAt, Vertex, vertex_end, on_sloping}
@@ -32,10 +33,7 @@ cover_parts p q k h = grind (arith, ints)
 
 ordered_x : (e : Edge) → Ordered e → e.p.x ≤ℤ e.q.x
 ordered_x e (inl h) = weak e.p.x e.q.x h
-ordered_x e (inr h) = same e.p.x e.q.x h.0
-  where
-    same : (p q : ℤ) → p ≡ q → p ≤ℤ q
-    same p q h = omega (arith, ints)
+ordered_x e (inr h) = from_same e.p.x e.q.x h.0
 
 pub even_cover : (es : List Edge) → Edges es → (r : Edge → Bool) → Even r es → (k : ℤ) → par (λ f. r f ∧∧ cv f k) es ≡ false
 even_cover es h r ev k = par_cong (λ f. r f ∧∧ cv f k) (λ f. r f ∧∧ (le_z f.p.x k ⊕ le_z f.q.x k)) es
@@ -70,13 +68,7 @@ abbrev pub NoneFromLeft : (Edge → Bool) → List Edge → Pt → Type 0
 NoneFromLeft r es v = (f : Edge) → In f es → r f ≡ true → ¬ (v ≡ f.q)
 
 pub level_there : (es : List Edge) → Edges es → (v : Pt) → Vertex es v → (f : Edge) → In f es → cv f (v.x -ℤ pos 1) ≡ true → ¬ (v ≡ f.q) → ¬ (over_pt f v ≡ pos 0)
-level_there es h v w f i c n z = no_end (vertex_end es h.noded v w f i (on_sloping f v (cv_run f (v.x -ℤ pos 1) c) (low_one f.p.x v.x (cv_low f (v.x -ℤ pos 1) c)) (high_one v.x f.q.x (cv_high f (v.x -ℤ pos 1) c)) z))
-  where
-    low_one : (p k : ℤ) → p ≤ℤ (k -ℤ pos 1) → p ≤ℤ k
-    low_one p k h = omega (arith, ints)
-
-    high_one : (k q : ℤ) → (k -ℤ pos 1) <ℤ q → k ≤ℤ q
-    high_one k q h = omega (arith, ints)
+level_there es h v w f i c n z = no_end (vertex_end es h.noded v w f i (on_sloping f v (cv_run f (v.x -ℤ pos 1) c) (below_successor f.p.x v.x (cv_low f (v.x -ℤ pos 1) c)) (past_predecessor v.x f.q.x (cv_high f (v.x -ℤ pos 1) c)) z))
 
     never : (x p : ℤ) → x ≡ p → p ≤ℤ (x -ℤ pos 1) → ⊥
     never x p h i = omega (arith, ints)

@@ -28,6 +28,7 @@ use Rattle.geom.specs.ResultEdges as result
 use Rattle.geom.proofs.Edges.{before_cases, before_strict}
 use Rattle.geom.proofs.Lists.{In, Distinct, in_contains, in_map, map_in}
 use Rattle.geom.proofs.Points.{int_eq_true, int_eq_refl, same_point_true, same_point_refl}
+use Rattle.geom.proofs.ListOrder.{pairs_tail}
 use Rattle.points_law.specs.Law.{AreLayers}
 use Rattle.points_law.proofs.Choices.{◌⊕◌, ◌∧∧◌, par, run, rise, Small, On, IsAt, IsEnd, Noded, Even, is, covers, counted, parity, left, right, holds_at, in_result}
 use Rattle.points_law.proofs.ResultOfChoices.{Edges}
@@ -109,8 +110,6 @@ over_all t cs d p =
     ∙ sym (par_map edge_of (λ e. chosen t cs e ∧∧ p e) cs)
 
 -- ---- what is asked of the edges
-pub tail_pairs : {X : Type 0} (R : X → X → Type 0) (x : X) (xs : List X) → AllPairs R (x ∷ xs) → AllPairs R xs
-tail_pairs R x xs p = λ i j d a b. p (suc i) (suc j) d (omega arith) (omega arith)
 
 pub first_pairs : {X : Type 0} (R : X → X → Type 0) (x y : X) (xs : List X) → AllPairs R (x ∷ xs) → Contains xs y → R x y
 first_pairs R x y xs p (k, l, e) = subst (λ z. R x z) e (p 0 (suc k) y (omega arith) (omega arith))
@@ -126,7 +125,7 @@ pub distinct : (cs : List Counted) → AllPairs (λ c d. IsEdgeBefore (edge_of c
 distinct [] p = tt
 distinct (c ∷ cs) p = (
   (λ i. let m = in_map edge_of cs (edge_of c) i in before_itself (edge_of c) (edge_of m.0) (sym m.2) (first_pairs (λ c d. IsEdgeBefore (edge_of c) (edge_of d)) c m.0 cs p (in_contains cs m.0 m.1))),
-  distinct cs (tail_pairs (λ c d. IsEdgeBefore (edge_of c) (edge_of d)) c cs p),
+  distinct cs (pairs_tail (λ c d. IsEdgeBefore (edge_of c) (edge_of d)) c cs p),
 )
 
 small : (e : Edge) → AreInLimit e.p e.q → Small e

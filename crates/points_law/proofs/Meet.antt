@@ -8,7 +8,8 @@ use borrow.Author.Differences.{ints}
 use Rattle.geom.specs.declared.edge.Edge.{Edge}
 use Rattle.geom.specs.Pixel.{Point}
 use Rattle.points_law.proofs.Choices.{run, rise, On, IsEnd, MeetAtEnds}
-use Rattle.geom.proofs.Integers.{expand, linear, mul_pos, scale_lt}
+use Rattle.geom.proofs.Integers.{expand, linear, mul_pos, scale_lt, none_right, once_left}
+use Rattle.geom.proofs.Numbers.{weak}
 
 -- the line of e is y = (rise e * x + off e) / run e
 abbrev pub off : Edge → ℤ
@@ -51,10 +52,7 @@ swapped N re rf X = simp expand (omega (arith, linear))
 
 level : (N re rf se sf oe of X : ℤ) → (re *ℤ sf -ℤ rf *ℤ se) *ℤ X +ℤ (re *ℤ of -ℤ rf *ℤ oe) *ℤ N ≡ pos 0
     → (N *ℤ rf) *ℤ (N *ℤ oe +ℤ X *ℤ se) ≡ (N *ℤ re) *ℤ (N *ℤ of +ℤ X *ℤ sf)
-level N re rf se sf oe of X h = simp expand (omega (arith, linear, simp expand at (ap (λ (t : ℤ). N *ℤ t) h), none N))
-  where
-    none : (N : ℤ) → N *ℤ pos 0 ≡ pos 0
-    none N = omega (arith, ints)
+level N re rf se sf oe of X h = simp expand (omega (arith, linear, simp expand at (ap (λ (t : ℤ). N *ℤ t) h), none_right N))
 
 on_other : (e f : Edge) (re : pos 0 <ℤ run e) (X N : ℤ) (h : pos 0 <ℤ N) → pos 0 <ℤ run f → (N *ℤ f.p.x) ≤ℤ X → X ≤ℤ (N *ℤ f.q.x)
     → slope f e *ℤ X +ℤ gap f e *ℤ N ≡ pos 0 → On f (at e re X N h)
@@ -79,9 +77,6 @@ no_end : (e : Edge) (r : pos 0 <ℤ run e) (X N : ℤ) (h : pos 0 <ℤ N) → (N
 no_end e r X N h i j (inl k) = left_of N (run e) e.p.x X r i k.0
 no_end e r X N h i j (inr k) = right_of N (run e) e.q.x X r j k.0
 
-weak : (a b : ℤ) → a <ℤ b → a ≤ℤ b
-weak a b h = omega (arith, ints)
-
 pub no_meet : (e f : Edge) → MeetAtEnds e f → pos 0 <ℤ run e → pos 0 <ℤ run f → (X N : ℤ) → pos 0 <ℤ N
     → (N *ℤ e.p.x) <ℤ X → X <ℤ (N *ℤ e.q.x) → (N *ℤ f.p.x) ≤ℤ X → X ≤ℤ (N *ℤ f.q.x)
     → ¬ (slope f e *ℤ X +ℤ gap f e *ℤ N ≡ pos 0)
@@ -91,18 +86,12 @@ no_meet e f m re rf X N h i j k l z =
 -- a vertical edge at a column strictly inside e's: both ends are on one side of e
 upright : (r s o c py fr fs : ℤ) → fr ≡ pos 0 → (r *ℤ fs) *ℤ (c *ℤ r) ≡ r *ℤ ((r *ℤ fs) *ℤ c +ℤ ((o +ℤ c *ℤ s) -ℤ r *ℤ py) *ℤ fr)
 upright r s o c py fr fs e = subst (λ (t : ℤ). (r *ℤ fs) *ℤ (c *ℤ r) ≡ r *ℤ ((r *ℤ fs) *ℤ c +ℤ ((o +ℤ c *ℤ s) -ℤ r *ℤ py) *ℤ t)) (sym e) (plain r s o c py fs)
-  where
-    none : (x : ℤ) → x *ℤ pos 0 ≡ pos 0
-    none x = omega (arith, ints)
 
     plain : (r s o c py fs : ℤ) → (r *ℤ fs) *ℤ (c *ℤ r) ≡ r *ℤ ((r *ℤ fs) *ℤ c +ℤ ((o +ℤ c *ℤ s) -ℤ r *ℤ py) *ℤ pos 0)
-    plain r s o c py fs = simp (none, expand) (omega (arith, linear))
+    plain r s o c py fs = simp (none_right, expand) (omega (arith, linear))
 
 upright_y : (r s o c py fs : ℤ) → (r *ℤ fs) *ℤ (o +ℤ c *ℤ s) ≡ r *ℤ ((r *ℤ fs) *ℤ py +ℤ ((o +ℤ c *ℤ s) -ℤ r *ℤ py) *ℤ fs)
 upright_y r s o c py fs = simp expand (omega (arith, linear))
-
-pub times_one : (x : ℤ) → pos 1 *ℤ x ≡ x
-times_one x = omega (arith, ints)
 
 pub on_vertical : (e f : Edge) (re : pos 0 <ℤ run e) (c : ℤ) → f.p.x ≡ c → run f ≡ pos 0 → pos 0 <ℤ rise f
     → (run e *ℤ f.p.y) ≤ℤ (off e +ℤ c *ℤ rise e) → (off e +ℤ c *ℤ rise e) ≤ℤ (run e *ℤ f.q.y)
@@ -115,10 +104,10 @@ on_vertical e f re c x v u i j = record {
   n_positive = mul_pos (run e) (rise f) re u;
   at_x = upright (run e) (rise e) (off e) c f.p.y (run f) (rise f) v
       ∙ ap (λ (t : ℤ). run e *ℤ ((run e *ℤ rise f) *ℤ t +ℤ ((off e +ℤ c *ℤ rise e) -ℤ run e *ℤ f.p.y) *ℤ run f)) (sym x)
-      ∙ ap (λ (t : ℤ). t *ℤ ((run e *ℤ rise f) *ℤ f.p.x +ℤ ((off e +ℤ c *ℤ rise e) -ℤ run e *ℤ f.p.y) *ℤ run f)) (sym (times_one (run e)));
-  at_y = ap (λ (t : ℤ). (run e *ℤ rise f) *ℤ (t +ℤ c *ℤ rise e)) (times_one (off e))
+      ∙ ap (λ (t : ℤ). t *ℤ ((run e *ℤ rise f) *ℤ f.p.x +ℤ ((off e +ℤ c *ℤ rise e) -ℤ run e *ℤ f.p.y) *ℤ run f)) (sym (once_left (run e)));
+  at_y = ap (λ (t : ℤ). (run e *ℤ rise f) *ℤ (t +ℤ c *ℤ rise e)) (once_left (off e))
       ∙ upright_y (run e) (rise e) (off e) c f.p.y (rise f)
-      ∙ ap (λ (t : ℤ). t *ℤ ((run e *ℤ rise f) *ℤ f.p.y +ℤ ((off e +ℤ c *ℤ rise e) -ℤ run e *ℤ f.p.y) *ℤ rise f)) (sym (times_one (run e)));
+      ∙ ap (λ (t : ℤ). t *ℤ ((run e *ℤ rise f) *ℤ f.p.y +ℤ ((off e +ℤ c *ℤ rise e) -ℤ run e *ℤ f.p.y) *ℤ rise f)) (sym (once_left (run e)));
 }
 
 one_below : (p c : ℤ) → p <ℤ c → (pos 1 *ℤ p) <ℤ c

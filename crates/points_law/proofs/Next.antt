@@ -12,11 +12,12 @@ use Rattle.geom.specs.declared.edge.Edge.{Edge}
 use Rattle.geom.proofs.Lists.{In}
 use Rattle.points_law.proofs.Choices.{◌⊕◌, ◌∧∧◌, par, run, rise, Ordered, Even, is, parity, left, right}
 use Rattle.points_law.proofs.ResultOfChoices.{Edges}
-use Rattle.geom.proofs.Integers.{expand, linear, mul_pos, mul_nonneg, cancel_pos, by_sign}
+use Rattle.geom.proofs.Integers.{expand, linear, mul_pos, mul_nonneg, cancel_pos, by_sign, none_left}
+use Rattle.geom.proofs.Numbers.{never_negative, strict_gap_is, weak}
 use Rattle.points_law.proofs.Meet.{slope}
 use Rattle.points_law.proofs.Sums.{par_cong, par_xor, par_and, par_none, and_false}
 use Rattle.points_law.proofs.Even.{is_same, same, same_is, same_refl, not_true, once}
-use Rattle.points_law.proofs.Column.{lt_from, weak}
+use Rattle.points_law.proofs.Column.{lt_from}
 use Rattle.points_law.proofs.Heights.{is_positive}
 use Rattle.points_law.proofs.Vertex.{west, slopes}
 use Rattle.points_law.proofs.Turn.{before, ends_at, crossing, turned_p, turned_q, round_tour, itself_flat, not_both, run_low, second_end}
@@ -26,10 +27,7 @@ pub chain : (rf re rg sf se sg : ℤ) → re *ℤ (rg *ℤ sf -ℤ rf *ℤ sg) �
 chain rf re rg sf se sg = simp expand (omega (arith, linear))
 
 some_run : (r : ℤ) → pos 0 ≤ℤ r → (r ≡ pos 0) ⊎ (pos 0 <ℤ r)
-some_run r h = by_sign r (λ s. absurd (clash r h s)) (λ s. inl s) (λ s. inr s)
-  where
-    clash : (r : ℤ) → pos 0 ≤ℤ r → r <ℤ pos 0 → ⊥
-    clash r h s = omega (arith, ints)
+some_run r h = by_sign r (λ s. absurd (never_negative r h s)) (λ s. inl s) (λ s. inr s)
 
 -- of an edge with run 0 the rise is positive
 upright_rise : (e : Edge) → Ordered e → run e ≡ pos 0 → pos 0 <ℤ rise e
@@ -37,16 +35,10 @@ upright_rise e (inl h) z = absurd (clash e.p.x e.q.x h z)
   where
     clash : (p q : ℤ) → p <ℤ q → q -ℤ p ≡ pos 0 → ⊥
     clash p q h z = omega (arith, ints)
-upright_rise e (inr h) z = rises e.p.y e.q.y h.1
-  where
-    rises : (p q : ℤ) → p <ℤ q → pos 0 <ℤ (q -ℤ p)
-    rises p q i = omega (arith, ints)
+upright_rise e (inr h) z = strict_gap_is e.p.y e.q.y h.1
 
 nothing_steeper : (rf re sf se : ℤ) → re ≡ pos 0 → pos 0 ≤ℤ rf → pos 0 <ℤ se → pos 0 <ℤ (re *ℤ sf -ℤ rf *ℤ se) → ⊥
-nothing_steeper rf re sf se z h i k = clash (re *ℤ sf) (rf *ℤ se) (ap (λ (t : ℤ). t *ℤ sf) z ∙ none sf) (mul_nonneg rf se h (weak (pos 0) se i)) k
-  where
-    none : (s : ℤ) → pos 0 *ℤ s ≡ pos 0
-    none s = omega (arith, ints)
+nothing_steeper rf re sf se z h i k = clash (re *ℤ sf) (rf *ℤ se) (ap (λ (t : ℤ). t *ℤ sf) z ∙ none_left sf) (mul_nonneg rf se h (weak (pos 0) se i)) k
 
     clash : (a b : ℤ) → a ≡ pos 0 → pos 0 ≤ℤ b → pos 0 <ℤ (a -ℤ b) → ⊥
     clash a b h i k = omega (arith, ints)

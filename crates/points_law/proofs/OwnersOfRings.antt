@@ -6,7 +6,7 @@ use Rattle.geom.specs.declared.point.Pt.{Pt}
 use Rattle.geom.specs.declared.edge.Edge.{Edge}
 use Rattle.geom.specs.declared.edge.Counted.{Counted}
 use Rattle.geom.specs.declared.directed.DirectedEdge.{DirectedEdge}
-use Rattle.geom.specs.Directed.{Runs, AreDirected, AreResultEdges}
+use Rattle.geom.specs.Directed.{RunsAlong, AreDirected, AreResultEdges}
 use Rattle.geom.specs.NodedEdges.{AreNodedEdges}
 use Rattle.geom.specs.Rings.{AreRings}
 use Rattle.geom.specs.Rounded.{edges_of}
@@ -24,11 +24,11 @@ has_one_owner directed rings a noded are grounded ring i =
     record { shell = o.0; inside = s.0; is_shell = s.1; owner = o.1; one = λ other p. one_owner directed rings a noded are ring other o.0 p o.1 }
 
 -- a directed edge runs along one edge
-joins_along : (d : DirectedEdge) (e : Edge) → Runs d e → Joins d.to d.from e
+joins_along : (d : DirectedEdge) (e : Edge) → RunsAlong d e → Joins d.to d.from e
 joins_along d e (inl k) = inr (sym (ap (λ (x : DirectedEdge). x.to) k), sym (ap (λ (x : DirectedEdge). x.from) k))
 joins_along d e (inr k) = inl (sym (ap (λ (x : DirectedEdge). x.to) k), sym (ap (λ (x : DirectedEdge). x.from) k))
 
-rounded_along : (op : Op) (counted : List Counted) (directed : List DirectedEdge) → AreResultEdges op counted directed → (d : DirectedEdge) (e : Edge) → Contains directed d → Runs d e → Contains (edges_of counted) e
+rounded_along : (op : Op) (counted : List Counted) (directed : List DirectedEdge) → AreResultEdges op counted directed → (d : DirectedEdge) (e : Edge) → Contains directed d → RunsAlong d e → Contains (edges_of counted) e
 rounded_along op counted directed r d e i k = let b = (r.exact d).0 i in
     subst (Contains (edges_of counted)) (one_edge d.to d.from b.edge e (joins_along d b.edge b.runs) (joins_along d e k)) b.rounded
 

@@ -13,19 +13,20 @@ use Rattle.geom.specs.declared.edge.Edge.{Edge}
 use Rattle.geom.specs.declared.edge.Counted.{Counted}
 use Rattle.geom.specs.declared.directed.DirectedEdge.{DirectedEdge}
 use Rattle.geom.specs.Determinant.{side}
-use Rattle.geom.specs.Directed.{from_to, Runs, IsResultEdge, AreResultEdges}
+use Rattle.geom.specs.Directed.{from_to, RunsAlong, IsResultEdge, AreResultEdges}
 use Rattle.geom.specs.Holes.{IsHole, IsLeastVertex, LiesBelow, IsNearestBelow, AreGrounded, left_of}
 use Rattle.geom.specs.Order.{IsBefore}
 use Rattle.geom.specs.Parity as geom
 use Rattle.geom.specs.Pixel.{Point}
 use Rattle.geom.specs.ResultEdges.{holds_at, left_side, right_side}
-use Rattle.geom.specs.Rings.{IsMetBefore, IsNext, Closes, Corner, corner, corners, ring_edges, Follows, AreRings}
+use Rattle.geom.specs.Rings.{IsMetBefore, IsNext, Closes, Corner, corner, ring_corners, ring_edges, Follows, AreRings}
 use Rattle.geom.specs.Rounded.{edges_of}
 use Rattle.geom.proofs.Edges.{before_strict}
 use Rattle.geom.proofs.Lists.{In, contains_in, in_contains}
 use Rattle.geom.proofs.RingEdges.{in_flat}
 use Rattle.geom.proofs.OneRing.{opposite}
 use Rattle.geom.proofs.SameRings.{not_met, met_turned}
+use Rattle.geom.proofs.Numbers.{below_successor}
 use Rattle.points_law.specs.Law.{AreLayers}
 use Rattle.points_law.proofs.Choices.{Even, is, covers, parity}
 use Rattle.points_law.proofs.ResultOfChoices.{Edges}
@@ -166,7 +167,7 @@ module _ (op : Op) (cs : List Counted) (h : AreLayers cs) (directed : List Direc
         (hole_left es all_edges r v arrived.edge linked.edge arrived.rounded linked.rounded (sym first_edge.0) (sym next_edge.0) steep none) odd_there
 
   -- what lies below a point is one of the chosen edges
-  joins_run : (d : DirectedEdge) (e : Edge) → Runs d e → Joins d.to d.from e
+  joins_run : (d : DirectedEdge) (e : Edge) → RunsAlong d e → Joins d.to d.from e
   joins_run d e (inl k) = inr (sym (ap (λ (x : DirectedEdge). x.to) k), sym (ap (λ (x : DirectedEdge). x.from) k))
   joins_run d e (inr k) = inl (sym (ap (λ (x : DirectedEdge). x.to) k), sym (ap (λ (x : DirectedEdge). x.from) k))
 
@@ -176,7 +177,7 @@ module _ (op : Op) (cs : List Counted) (h : AreLayers cs) (directed : List Direc
       let q : a.edge ≡ e = one_edge b.edge.to b.edge.from a.edge e a.joins (joins_run b.edge e b.runs) in
       (subst (λ (x : Edge). In x es) q a.rounded, subst (λ (x : Edge). r x ≡ true) q a.chosen)
 
-  below : (v : Pt) (m : NearestOf es r v es) (d : DirectedEdge) → Contains directed d → Runs d m.edge → IsNearestBelow directed (left_of v) d
+  below : (v : Pt) (m : NearestOf es r v es) (d : DirectedEdge) → Contains directed d → RunsAlong d m.edge → IsNearestBelow directed (left_of v) d
   below v m d c k = record {
     inside = c;
     edge = m.edge;
@@ -186,10 +187,7 @@ module _ (op : Op) (cs : List Counted) (h : AreLayers cs) (directed : List Direc
   }
 
   further : (v p : Pt) → p.x ≤ℤ (v.x -ℤ pos 1) → IsBefore p v
-  further v p h = record { column = column p.x v.x h; row = λ e. absurd (never p.x v.x h e) }
-    where
-      column : (a b : ℤ) → a ≤ℤ (b -ℤ pos 1) → a ≤ℤ b
-      column a b h = omega (arith, ints)
+  further v p h = record { below_successor = below_successor p.x v.x h; row = λ e. absurd (never p.x v.x h e) }
 
       never : (a b : ℤ) → a ≤ℤ (b -ℤ pos 1) → a ≡ b → ⊥
       never a b h e = omega (arith, ints)
@@ -224,7 +222,7 @@ module _ (op : Op) (cs : List Counted) (h : AreLayers cs) (directed : List Direc
         at = hole.at.comes.to
 
         p : Pair corner (ring_edges ring) hole.at
-        p = in_around corner (ring_edges ring) hole.at (contains_in (corners ring) hole.at hole.on)
+        p = in_around corner (ring_edges ring) hole.at (contains_in (ring_corners ring) hole.at hole.on)
 
         comes_is : p.first ≡ hole.at.comes
         comes_is = ap (λ (x : Corner). x.comes) p.is
@@ -256,7 +254,7 @@ module _ (op : Op) (cs : List Counted) (h : AreLayers cs) (directed : List Direc
         there = ring_edge ring c hole.at.comes (subst (λ x. In x (ring_edges ring)) comes_is p.first_in)
 
         follows : IsNext directed hole.at.comes.from hole.at.comes.to hole.at.goes.to
-        follows = All-contains (Follows directed) (corners ring) hole.at (All-contains (λ (x : List Pt). All (Follows directed) (corners x)) rings ring are.follow c) hole.on
+        follows = All-contains (Follows directed) (ring_corners ring) hole.at (All-contains (λ (x : List Pt). All (Follows directed) (ring_corners x)) rings ring are.follow c) hole.on
 
         not_from : ¬ (hole.at.comes.from ≡ hole.at.comes.to)
         not_from = let a = arrives es all_edges r even directed exact hole.at.comes.from hole.at.comes.to there in not_loop hole.at.comes.to hole.at.comes.from a.edge a.joins

@@ -11,8 +11,8 @@ use Rattle.geom.specs.declared.edge.Edge.{Edge}
 use Rattle.geom.specs.Pixel.{Point}
 use Rattle.geom.proofs.Lists.{In, Distinct}
 use Rattle.points_law.proofs.Choices.{◌⊕◌, ◌∧∧◌, run, rise, Small, MeetAtEnds, Noded, above, counted, parity, K, left, right}
-use Rattle.geom.proofs.Fraction.{from_strict_gap}
-use Rattle.geom.proofs.Integers.{expand, linear, mul_nonneg, mul_pos, by_sign}
+use Rattle.geom.proofs.Integers.{expand, linear, mul_nonneg, mul_pos, by_sign, none_right}
+use Rattle.geom.proofs.Numbers.{negated, from_strict_gap}
 use Rattle.points_law.proofs.Sign.{sign}
 use Rattle.points_law.proofs.Meet.{off, slope, gap, no_meet}
 use Rattle.points_law.proofs.Sums.{par_cong, par_xor}
@@ -105,18 +105,12 @@ mid_itself px py qx qy = simp expand (omega (arith, linear))
 
 pub pos_test : (r x : ℤ) → pos 0 <ℤ r → lt_z (pos 0) (r *ℤ x) ≡ lt_z (pos 0) x
 pos_test r x h = by_sign x
-    (λ s. low (r *ℤ x) x (below r x (mul_pos r (neg_ℤ x) h (turned x s))) s)
-    (λ s. ap (λ (t : ℤ). lt_z (pos 0) (r *ℤ t)) s ∙ ap (lt_z (pos 0)) (none r) ∙ ap (lt_z (pos 0)) (sym s))
+    (λ s. low (r *ℤ x) x (below r x (mul_pos r (neg_ℤ x) h (negated x s))) s)
+    (λ s. ap (λ (t : ℤ). lt_z (pos 0) (r *ℤ t)) s ∙ ap (lt_z (pos 0)) (none_right r) ∙ ap (lt_z (pos 0)) (sym s))
     (λ s. high (r *ℤ x) x (mul_pos r x h s) s)
-  where
-    turned : (x : ℤ) → x <ℤ pos 0 → pos 0 <ℤ neg_ℤ x
-    turned x s = omega (arith, ints)
 
     below : (r x : ℤ) → pos 0 <ℤ (r *ℤ neg_ℤ x) → (r *ℤ x) <ℤ pos 0
     below r x h = omega (arith, linear, simp expand at h)
-
-    none : (r : ℤ) → r *ℤ pos 0 ≡ pos 0
-    none r = omega (arith, ints)
 
     low : (a b : ℤ) → a <ℤ pos 0 → b <ℤ pos 0 → lt_z (pos 0) a ≡ lt_z (pos 0) b
     low a b h i = grind (arith, ints)
@@ -125,10 +119,7 @@ pos_test r x h = by_sign x
     high a b h i = grind (arith, ints)
 
 factor_zero : (r x : ℤ) → x ≡ pos 0 → r *ℤ x ≡ pos 0
-factor_zero r x h = ap (λ (t : ℤ). r *ℤ t) h ∙ none r
-  where
-    none : (r : ℤ) → r *ℤ pos 0 ≡ pos 0
-    none r = omega (arith, ints)
+factor_zero r x h = ap (λ (t : ℤ). r *ℤ t) h ∙ none_right r
 
 record MidIn (e : Edge) (k : ℤ) : Type 0 where
   low : (pos 2 *ℤ k) ≤ℤ (e.p.x +ℤ e.q.x)

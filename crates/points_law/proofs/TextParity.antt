@@ -11,7 +11,7 @@ use Rattle.geom.specs.declared.edge.Edge.{Edge}
 use Rattle.geom.specs.declared.edge.Counted.{Counted}
 use Rattle.geom.specs.declared.directed.DirectedEdge.{DirectedEdge}
 use Rattle.geom.specs.Canonical.{HaveEachEdge, Shape, written_rings}
-use Rattle.geom.specs.Directed.{from_to, IsDirectedBefore, Runs, AreResultEdges}
+use Rattle.geom.specs.Directed.{from_to, IsDirectedBefore, RunsAlong, AreResultEdges}
 use Rattle.geom.specs.Parity.{covers, lies_above, parity}
 use Rattle.geom.specs.Pixel.{Point}
 use Rattle.geom.specs.ResultEdges.{holds_at, is_result_edge, result_edges}
@@ -21,12 +21,13 @@ use Rattle.geom.proofs.Edges.{edge_path, not_turned}
 use Rattle.geom.proofs.Integers.{linear, expand, mul_nonneg}
 use Rattle.geom.proofs.Lists.{In, Distinct, contains_in, in_contains}
 use Rattle.geom.proofs.Orders.{directed_before_itself}
+use Rattle.geom.proofs.ListOrder.{pairs_tail}
 use Rattle.points_law.specs.Law.{AreLayers}
 use Rattle.points_law.proofs.Choices.{◌⊕◌, ◌∧∧◌, par, is}
 use Rattle.points_law.proofs.Sums.{par_cong, par_same, par_xor, par_and, fubini, and_comm}
 use Rattle.points_law.proofs.Even.{both_ways, same, same_is, same_refl, is_same, is_refl, and_left, and_right, by_test, not_true, clash, once}
 use Rattle.points_law.proofs.Counts.{par_filter}
-use Rattle.points_law.proofs.Layers.{either, odd_is, tail_pairs, first_pairs, distinct, result_has_parity}
+use Rattle.points_law.proofs.Layers.{either, odd_is, first_pairs, distinct, result_has_parity}
 use Rattle.points_law.proofs.RoundVertex.{closes}
 use Rattle.points_law.proofs.Truth.{only_first, only_second}
 
@@ -50,7 +51,7 @@ second_way a b c h = grind arith
 abbrev over : Point → Edge → Bool
 over z e = covers e z && lies_above e z
 
-side_over : (z : Point) (d : DirectedEdge) (e : Edge) → Runs d e → side_above d z ≡ over z e
+side_over : (z : Point) (d : DirectedEdge) (e : Edge) → RunsAlong d e → side_above d z ≡ over z e
 side_over z d e (inl h) = ap (λ (x : DirectedEdge). side_above x z) h ∙ first_way (over z e) (spans e.q e.p z) _ (no_turn z.n e.p.x e.q.x z.x z.positive e.ordered.column)
 side_over z d e (inr h) = ap (λ (x : DirectedEdge). side_above x z) h ∙ second_way (over z e) (spans e.q e.p z) _ (no_turn z.n e.p.x e.q.x z.x z.positive e.ordered.column)
 
@@ -78,28 +79,28 @@ one_of false b h = inr h
 turned_apart : (e f : Edge) → ¬ (from_to e.p e.q ≡ from_to f.q f.p)
 turned_apart e f h = not_turned e f (ap (λ (d : DirectedEdge). d.from) h) (ap (λ (d : DirectedEdge). d.to) h)
 
-runs_of : (d : DirectedEdge) (e : Edge) → Runs d e → runs d e ≡ true
+runs_of : (d : DirectedEdge) (e : Edge) → RunsAlong d e → runs d e ≡ true
 runs_of d e (inl h) = only_first (goes e.p e.q d) (goes e.q e.p d) (goes_of e.p e.q d h) (not_true (goes e.q e.p d) (λ k. turned_apart e e (sym h ∙ goes_is e.q e.p d k)))
 runs_of d e (inr h) = only_second (goes e.p e.q d) (goes e.q e.p d) (not_true (goes e.p e.q d) (λ k. turned_apart e e (sym (goes_is e.p e.q d k) ∙ h))) (goes_of e.q e.p d h)
 
-runs_is : (d : DirectedEdge) (e : Edge) → runs d e ≡ true → Runs d e
+runs_is : (d : DirectedEdge) (e : Edge) → runs d e ≡ true → RunsAlong d e
 runs_is d e h = ⊎_elim (λ k. inl (goes_is e.p e.q d k)) (λ k. inr (goes_is e.q e.p d k)) (one_of (goes e.p e.q d) (goes e.q e.p d) h)
 
-one_run : (d : DirectedEdge) (e f : Edge) → Runs d e → Runs d f → e ≡ f
+one_run : (d : DirectedEdge) (e f : Edge) → RunsAlong d e → RunsAlong d f → e ≡ f
 one_run d e f (inl h) (inl k) = let l = sym h ∙ k in edge_path e f (ap (λ (x : DirectedEdge). x.from) l) (ap (λ (x : DirectedEdge). x.to) l)
 one_run d e f (inl h) (inr k) = absurd (turned_apart e f (sym h ∙ k))
 one_run d e f (inr h) (inl k) = absurd (turned_apart f e (sym k ∙ h))
 one_run d e f (inr h) (inr k) = let l = sym h ∙ k in edge_path e f (ap (λ (x : DirectedEdge). x.to) l) (ap (λ (x : DirectedEdge). x.from) l)
 
-runs_same : (d : DirectedEdge) (e f : Edge) → Runs d f → runs d e ≡ same e f
+runs_same : (d : DirectedEdge) (e f : Edge) → RunsAlong d f → runs d e ≡ same e f
 runs_same d e f h = both_ways (runs d e) (same e f)
     (λ k. subst (λ (x : Edge). same x f ≡ true) (sym (one_run d e f (runs_is d e k) h)) (same_refl f))
-    (λ k. runs_of d e (subst (λ (x : Edge). Runs d x) (sym (same_is e f k)) h))
+    (λ k. runs_of d e (subst (λ (x : Edge). RunsAlong d x) (sym (same_is e f k)) h))
 
 -- ---- a side is there once, where it is there
 each_once : (ds : List DirectedEdge) → AllPairs IsDirectedBefore ds → Distinct ds
 each_once [] p = tt
-each_once (d ∷ ds) p = (λ i. directed_before_itself d (first_pairs IsDirectedBefore d d ds p (in_contains ds d i)), each_once ds (tail_pairs IsDirectedBefore d ds p))
+each_once (d ∷ ds) p = (λ i. directed_before_itself d (first_pairs IsDirectedBefore d d ds p (in_contains ds d i)), each_once ds (pairs_tail IsDirectedBefore d ds p))
 
 elsewhere : (a b c : Bool) → a ≡ false → b ≡ c → a ⊕ b ≡ c
 elsewhere a b c h k = grind arith
@@ -115,10 +116,10 @@ one_goes u v (x ∷ ds) d (inr i) = only_second (goes u v x) (par (goes u v) ds)
 
 module _ (op : Op) (cs : List Counted) (h : AreLayers cs) (directed : List DirectedEdge) (R : AreResultEdges op cs directed) where
   -- ---- of the sides an odd number, one, runs along an edge of the result, and none along any other edge
-  there : (u v : Pt) (e : Edge) → Contains (edges_of cs) e → Runs (from_to u v) e → is_result_edge op cs u v ≡ true → Contains directed (from_to u v)
+  there : (u v : Pt) (e : Edge) → Contains (edges_of cs) e → RunsAlong (from_to u v) e → is_result_edge op cs u v ≡ true → Contains directed (from_to u v)
   there u v e i k t = (R.exact (from_to u v)).1 (record { edge = e; rounded = i; runs = k; bounds = t })
 
-  goes_there : (u v : Pt) (e : Edge) → Contains (edges_of cs) e → Runs (from_to u v) e → par (goes u v) directed ≡ is_result_edge op cs u v
+  goes_there : (u v : Pt) (e : Edge) → Contains (edges_of cs) e → RunsAlong (from_to u v) e → par (goes u v) directed ≡ is_result_edge op cs u v
   goes_there u v e i k = by_test (is_result_edge op cs u v) (par (goes u v) directed ≡ is_result_edge op cs u v)
       (λ t. one_goes u v directed (each_once directed R.ascending) (contains_in directed (from_to u v) (there u v e i k t)) ∙ sym t)
       (λ f. none_goes u v directed (λ j. clash (is_result_edge op cs u v) f ((R.exact (from_to u v)).0 (in_contains directed (from_to u v) j)).bounds) ∙ sym f)

@@ -15,11 +15,12 @@ use Rattle.geom.proofs.Edges.{edge_path}
 use Rattle.points_law.proofs.Choices.{◌⊕◌, ◌∧∧◌, par, run, rise, Ordered, Noded, Even, is, parity, left, right, in_result}
 use Rattle.points_law.proofs.ResultOfChoices.{Edges}
 use Rattle.geom.proofs.Integers.{expand, linear, mul_pos, mul_nonneg}
+use Rattle.geom.proofs.Numbers.{weak}
 use Rattle.points_law.proofs.Meet.{off, slope}
 use Rattle.points_law.proofs.Sums.{par_cong, par_xor, par_none, over, jump, walk, and_comm}
 use Rattle.points_law.proofs.Even.{both_ways, and_left, and_right, is_same, is_refl, same, same_is, same_refl, not_true, once}
 use Rattle.points_law.proofs.Sign.{twice}
-use Rattle.points_law.proofs.Column.{cv, ab, cv_run, among, anywhere, one_above, not_above_itself, differ, lt_from, weak}
+use Rattle.points_law.proofs.Column.{cv, ab, cv_run, among, anywhere, one_above, not_above_itself, differ, lt_from}
 use Rattle.points_law.proofs.Heights.{column, is_positive}
 use Rattle.points_law.proofs.Result.{no_jump, same_jump, keep}
 use Rattle.points_law.proofs.Side.{at_left, at_right, left_column, right_column}

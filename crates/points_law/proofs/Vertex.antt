@@ -13,14 +13,15 @@ use Rattle.geom.specs.Pixel.{Point}
 use Rattle.geom.proofs.Lists.{In}
 use Rattle.geom.proofs.Pixels.{same_point}
 use Rattle.points_law.proofs.Choices.{◌⊕◌, ◌∧∧◌, par, run, rise, Ordered, Small, On, IsAt, IsEnd, MeetAtEnds, Noded, Even, eq_z, is, parity, counted, above, left, right, K}
-use Rattle.geom.proofs.Integers.{expand, linear, mul_pos, by_sign, twice_right}
+use Rattle.geom.proofs.Integers.{expand, linear, mul_pos, by_sign, twice_right, once_left, none_right, mul_neg}
+use Rattle.geom.proofs.Numbers.{gap_is, strict_gap_is, no_gap_is, from_strict_gap, negated, positive_is_not_zero, times_no_gap, below_successor, past_predecessor, zero_is_not_positive, once_from, weak}
 use Rattle.points_law.proofs.Meet.{off, slope, gap, at, on_itself, on_vertical}
 use Rattle.points_law.proofs.Sums.{par_cong, par_xor}
 use Rattle.points_law.proofs.Even.{and_left, and_right, eq_z_same, is_same, is_refl, same, same_is, even_sum}
 use Rattle.points_law.proofs.Sign.{sign}
 use Rattle.points_law.proofs.Heights.{InColumn, covers_is, above_is}
 use Rattle.points_law.proofs.Side.{pos_test, SideOf, left_side, right_side, over_mid, dot, lift_is, near_test, twice_big, dot_bound, AllSmall, if_covered}
-use Rattle.points_law.proofs.Column.{cv, ab, cv_low, cv_high, cv_run, weak, no_root, among, joined, scaled_test, vertical_cover, differ, lt_from, AllOrdered, one_next}
+use Rattle.points_law.proofs.Column.{cv, ab, cv_low, cv_high, cv_run, no_root, among, joined, scaled_test, vertical_cover, differ, lt_from, AllOrdered, one_next}
 use Rattle.points_law.proofs.Truth.{both_true, and_none}
 
 -- how far f is above v at v's x, times the run of f
@@ -72,14 +73,11 @@ on_end : (e : Edge) (v : Pt) → EndsAt e v → On e (whole v)
 on_end e v (inl h) = subst (λ w. On e (whole w)) (sym h) (start_of e)
 on_end e v (inr h) = subst (λ w. On e (whole w)) (sym h) (stop_of e)
 
-unit : (x : ℤ) → pos 1 *ℤ x ≡ x
-unit x = omega (arith, ints)
-
 flat_x : (r x p : ℤ) → r *ℤ x ≡ pos 1 *ℤ (r *ℤ p +ℤ (x -ℤ p) *ℤ r)
-flat_x r x p = simp (unit, expand) (omega (arith, linear))
+flat_x r x p = simp (once_left, expand) (omega (arith, linear))
 
 flat_y : (r s x y p t : ℤ) → (s *ℤ x +ℤ (t *ℤ r -ℤ p *ℤ s)) -ℤ r *ℤ y ≡ pos 0 → r *ℤ y ≡ pos 1 *ℤ (r *ℤ t +ℤ (x -ℤ p) *ℤ s)
-flat_y r s x y p t h = simp (unit, expand) (omega (arith, linear, simp expand at h))
+flat_y r s x y p t h = simp (once_left, expand) (omega (arith, linear, simp expand at h))
 
 pub on_sloping : (f : Edge) (v : Pt) → pos 0 <ℤ run f → f.p.x ≤ℤ v.x → v.x ≤ℤ f.q.x → over_pt f v ≡ pos 0 → On f (whole v)
 on_sloping f v r i j h = record {
@@ -91,21 +89,15 @@ on_sloping f v r i j h = record {
   at_x = flat_x (run f) v.x f.p.x;
   at_y = flat_y (run f) (rise f) v.x v.y f.p.x f.p.y h;
 }
-  where
-    low : (p x : ℤ) → p ≤ℤ x → pos 0 ≤ℤ (x -ℤ p)
-    low p x i = omega (arith, ints)
 
     high : (p x q : ℤ) → x ≤ℤ q → (x -ℤ p) ≤ℤ (q -ℤ p)
     high p x q i = omega (arith, ints)
 
 upright_x : (s x p m r : ℤ) → x ≡ p → r ≡ pos 0 → s *ℤ x ≡ pos 1 *ℤ (s *ℤ p +ℤ m *ℤ r)
 upright_x s x p m r h i = ap (λ (t : ℤ). s *ℤ t) h ∙ plain s p m ∙ ap (λ (t : ℤ). pos 1 *ℤ (s *ℤ p +ℤ m *ℤ t)) (sym i)
-  where
-    none : (x : ℤ) → x *ℤ pos 0 ≡ pos 0
-    none x = omega (arith, ints)
 
     plain : (s p m : ℤ) → s *ℤ p ≡ pos 1 *ℤ (s *ℤ p +ℤ m *ℤ pos 0)
-    plain s p m = simp (none, unit) (omega (arith, linear))
+    plain s p m = simp (none_right, once_left) (omega (arith, linear))
 
 pub on_upright : (f : Edge) (v : Pt) → f.p.x ≡ f.q.x → v.x ≡ f.p.x → f.p.y ≤ℤ v.y → v.y ≤ℤ f.q.y → f.p.y <ℤ f.q.y → On f (whole v)
 on_upright f v u x i j r = record {
@@ -117,21 +109,12 @@ on_upright f v u x i j r = record {
   at_x = upright_x (rise f) v.x f.p.x (v.y -ℤ f.p.y) (run f) x (level f.p.x f.q.x u);
   at_y = flat_x (rise f) v.y f.p.y;
 }
-  where
-    low : (p x : ℤ) → p ≤ℤ x → pos 0 ≤ℤ (x -ℤ p)
-    low p x i = omega (arith, ints)
 
     high : (p x q : ℤ) → x ≤ℤ q → (x -ℤ p) ≤ℤ (q -ℤ p)
     high p x q i = omega (arith, ints)
 
-    rises : (p q : ℤ) → p <ℤ q → pos 0 <ℤ (q -ℤ p)
-    rises p q i = omega (arith, ints)
-
-    level : (p q : ℤ) → p ≡ q → q -ℤ p ≡ pos 0
-    level p q i = omega (arith, ints)
-
 whole_at : (v w : Pt) → IsAt w (whole v) → v ≡ w
-whole_at v w h = same_point v w (h.0 ∙ unit w.x) (h.1 ∙ unit w.y)
+whole_at v w h = same_point v w (h.0 ∙ once_left w.x) (h.1 ∙ once_left w.y)
 
 ends_from : (f : Edge) (v : Pt) → IsEnd f (whole v) → EndsAt f v
 ends_from f v (inl h) = inl (whole_at v f.p h)
@@ -180,11 +163,8 @@ unfolding over_vertex
 differ_sloping f v r = plus_none ((cv f v.x ∧∧ higher f v) ⊕ (cv f (v.x -ℤ pos 1) ∧∧ higher f v)) (over_vertex v f.p) (over_vertex v f.q) (goes_up f v)
     (joined (cv f v.x) (cv f (v.x -ℤ pos 1)) (eq_z f.p.x v.x) (eq_z f.q.x v.x) (higher f v) (higher f v) (lt_z v.y f.p.y) (lt_z v.y f.q.y) (higher f v)
     (λ h. refl) (λ h. refl) (λ h. higher_p f v r (eq_z_same f.p.x v.x h)) (λ h. higher_q f v r (eq_z_same f.q.x v.x h))
-    (parts_at f.p.x f.q.x v.x (apart f.p.x f.q.x r)))
-    (and_none (is v f.p) (not (slopes f)) (is_slope f.p.x f.q.x (apart f.p.x f.q.x r)))
-  where
-    apart : (a b : ℤ) → pos 0 <ℤ (b -ℤ a) → a <ℤ b
-    apart a b h = omega (arith, ints)
+    (parts_at f.p.x f.q.x v.x (from_strict_gap f.p.x f.q.x r)))
+    (and_none (is v f.p) (not (slopes f)) (is_slope f.p.x f.q.x (from_strict_gap f.p.x f.q.x r)))
 
 no_cover : (c d h a b u : Bool) → c ≡ false → d ≡ false → a ⊕ b ≡ u → (c ∧∧ h) ⊕ (d ∧∧ h) ≡ (a ⊕ b) ⊕ u
 no_cover c d h a b u i j k = grind arith
@@ -207,10 +187,7 @@ differ_upright es n v h f i x y = no_cover (cv f v.x) (cv f (v.x -ℤ pos 1)) (h
 
 differ_each : (es : List Edge) → Noded es → (v : Pt) → Vertex es v → (f : Edge) → In f es → Ordered f
     → (cv f v.x ∧∧ higher f v) ⊕ (cv f (v.x -ℤ pos 1) ∧∧ higher f v) ≡ (over_vertex v f.p ⊕ over_vertex v f.q) ⊕ goes_up f v
-differ_each es n v h f i (inl o) = differ_sloping f v (rises f.p.x f.q.x o)
-  where
-    rises : (p q : ℤ) → p <ℤ q → pos 0 <ℤ (q -ℤ p)
-    rises p q i = omega (arith, ints)
+differ_each es n v h f i (inl o) = differ_sloping f v (strict_gap_is f.p.x f.q.x o)
 differ_each es n v h f i (inr o) = differ_upright es n v h f i o.0 o.1
 
 spread3 : (a x y u w : Bool) → x ⊕ y ≡ u ⊕ w → (a ∧∧ x) ⊕ (a ∧∧ y) ≡ (a ∧∧ u) ⊕ (a ∧∧ w)
@@ -237,33 +214,18 @@ by_factor r x y h e = ap (lt_z (pos 0)) e ∙ pos_test r x h
 
 not_zero_factor : (r x y : ℤ) → pos 0 <ℤ r → y ≡ r *ℤ x → ¬ (x ≡ pos 0) → ¬ (y ≡ pos 0)
 not_zero_factor r x y h e n z = by_sign x
-    (λ s. absurd (less (r *ℤ neg_ℤ x) (r *ℤ x) (opposite r x) (mul_pos r (neg_ℤ x) h (turned x s)) (sym e ∙ z)))
+    (λ s. absurd (less (r *ℤ neg_ℤ x) (r *ℤ x) (mul_neg r x) (mul_pos r (neg_ℤ x) h (negated x s)) (sym e ∙ z)))
     (λ s. n s)
-    (λ s. absurd (more (r *ℤ x) (mul_pos r x h s) (sym e ∙ z)))
-  where
-    turned : (x : ℤ) → x <ℤ pos 0 → pos 0 <ℤ neg_ℤ x
-    turned x s = omega (arith, ints)
-
-    opposite : (r x : ℤ) → r *ℤ neg_ℤ x ≡ neg_ℤ (r *ℤ x)
-    opposite r x = simp expand (omega (arith, linear))
+    (λ s. absurd (positive_is_not_zero (r *ℤ x) (mul_pos r x h s) (sym e ∙ z)))
 
     less : (a b : ℤ) → a ≡ neg_ℤ b → pos 0 <ℤ a → b ≡ pos 0 → ⊥
     less a b h i j = omega (arith, ints)
 
-    more : (a : ℤ) → pos 0 <ℤ a → a ≡ pos 0 → ⊥
-    more a h i = omega (arith, ints)
-
 no_height : (f : Edge) (v : Pt) → v ≡ f.p → higher f v ≡ false
-no_height f v h = ap (λ (w : Pt). higher f w) h ∙ ap (lt_z (pos 0)) (at_p (run f) (rise f) f.p.x f.p.y f.p.y ∙ none (run f) f.p.y)
-  where
-    none : (r y : ℤ) → r *ℤ (y -ℤ y) ≡ pos 0
-    none r y = simp expand (omega (arith, linear))
+no_height f v h = ap (λ (w : Pt). higher f w) h ∙ ap (lt_z (pos 0)) (at_p (run f) (rise f) f.p.x f.p.y f.p.y ∙ times_no_gap (run f) f.p.y)
 
 no_height_q : (f : Edge) (v : Pt) → v ≡ f.q → higher f v ≡ false
-no_height_q f v h = ap (λ (w : Pt). higher f w) h ∙ ap (lt_z (pos 0)) (at_q f.p.x f.p.y f.q.x f.q.y f.q.y ∙ none (run f) f.q.y)
-  where
-    none : (r y : ℤ) → r *ℤ (y -ℤ y) ≡ pos 0
-    none r y = simp expand (omega (arith, linear))
+no_height_q f v h = ap (λ (w : Pt). higher f w) h ∙ ap (lt_z (pos 0)) (at_q f.p.x f.p.y f.q.x f.q.y f.q.y ∙ times_no_gap (run f) f.q.y)
 
 pub cover_p : (p q : ℤ) → lt_z p q ≡ true → le_z p p ∧∧ lt_z p q ≡ true
 cover_p p q h = grind (arith, ints)
@@ -282,12 +244,6 @@ at_same k = omega (arith, ints)
 
 sloped : (p q k : ℤ) → p ≤ℤ k → k <ℤ q → lt_z p q ≡ true
 sloped p q k h i = grind (arith, ints)
-
-pub low_one : (p k : ℤ) → p ≤ℤ (k -ℤ pos 1) → p ≤ℤ k
-low_one p k h = omega (arith, ints)
-
-pub high_one : (k q : ℤ) → (k -ℤ pos 1) <ℤ q → k ≤ℤ q
-high_one k q h = omega (arith, ints)
 
 -- an edge that covers the column right of v ends there only where it starts, and likewise on the left
 not_at_start : (f : Edge) (v : Pt) → cv f v.x ≡ true → starts f v ≡ false → EndsAt f v → ⊥
@@ -347,7 +303,7 @@ stop_near : (es : List Edge) → Noded es → (e f : Edge) → In e es → In f 
 stop_near es n e f i j s d c t =
     sign (slope f e) (gap f e) (e.q.x -ℤ pos 1) e.q.x (pos 1) (no_root e f (e.q.x -ℤ pos 1) (n e f i j d) (cover_q e.p.x e.q.x s) c) (back_low e.q.x) (back_high e.q.x)
     (not_zero_factor (run e) (over_pt f e.q) (slope f e *ℤ e.q.x +ℤ gap f e *ℤ pos 1) (cv_run e (e.q.x -ℤ pos 1) (cover_q e.p.x e.q.x s)) is_it
-    (λ z. not_at_stop f e.q c t (vertex_end es n e.q (record { edge = e; inside = i; ends = inr refl }) f j (on_sloping f e.q (cv_run f (e.q.x -ℤ pos 1) c) (low_one f.p.x e.q.x (cv_low f (e.q.x -ℤ pos 1) c)) (high_one e.q.x f.q.x (cv_high f (e.q.x -ℤ pos 1) c)) z))))
+    (λ z. not_at_stop f e.q c t (vertex_end es n e.q (record { edge = e; inside = i; ends = inr refl }) f j (on_sloping f e.q (cv_run f (e.q.x -ℤ pos 1) c) (below_successor f.p.x e.q.x (cv_low f (e.q.x -ℤ pos 1) c)) (past_predecessor e.q.x f.q.x (cv_high f (e.q.x -ℤ pos 1) c)) z))))
     ∙ by_factor (run e) (over_pt f e.q) (slope f e *ℤ e.q.x +ℤ gap f e *ℤ pos 1) (cv_run e (e.q.x -ℤ pos 1) (cover_q e.p.x e.q.x s)) is_it
   where
     is_it : slope f e *ℤ e.q.x +ℤ gap f e *ℤ pos 1 ≡ run e *ℤ over_pt f e.q
@@ -380,16 +336,10 @@ pub record Upright (e : Edge) : Type 0 where
   pub tall : e.p.y <ℤ e.q.y
 
 pub run_none : (e : Edge) → Upright e → run e ≡ pos 0
-run_none e u = level e.p.x e.q.x u.flat
-  where
-    level : (p q : ℤ) → p ≡ q → q -ℤ p ≡ pos 0
-    level p q i = omega (arith, ints)
+run_none e u = no_gap_is e.p.x e.q.x u.flat
 
 pub rise_some : (e : Edge) → Upright e → pos 0 <ℤ rise e
-rise_some e u = rises e.p.y e.q.y u.tall
-  where
-    rises : (p q : ℤ) → p <ℤ q → pos 0 <ℤ (q -ℤ p)
-    rises p q i = omega (arith, ints)
+rise_some e u = strict_gap_is e.p.y e.q.y u.tall
 
 -- f's height at e's two ends
 drop_by : (s o r x py qy : ℤ) → (s *ℤ x +ℤ o) -ℤ r *ℤ qy ≡ ((s *ℤ x +ℤ o) -ℤ r *ℤ py) -ℤ r *ℤ (qy -ℤ py)
@@ -408,13 +358,10 @@ mid_sum : (s o r px py qx qy : ℤ) → (s *ℤ (px +ℤ qx) +ℤ o *ℤ pos 2) 
 mid_sum s o r px py qx qy = simp expand (omega (arith, linear))
 
 end_height : (o c s r y : ℤ) → pos 1 *ℤ o +ℤ c *ℤ s ≡ (pos 1 *ℤ r) *ℤ y → (s *ℤ c +ℤ o) -ℤ r *ℤ y ≡ pos 0
-end_height o c s r y h = simp expand (omega (arith, linear, simp unit at h))
+end_height o c s r y h = simp expand (omega (arith, linear, simp once_left at h))
 
 no_ends : (e f : Edge) → Upright e → (r : pos 0 <ℤ run f) → over_pt f e.q <ℤ pos 0 → pos 0 <ℤ over_pt f e.p → IsEnd e (at f r e.p.x (pos 1) one) → ⊥
-no_ends e f u r h i (inl k) = never (over_pt f e.p) (end_height (off f) e.p.x (rise f) (run f) e.p.y k.1) i
-  where
-    never : (a : ℤ) → a ≡ pos 0 → pos 0 <ℤ a → ⊥
-    never a h i = omega (arith, ints)
+no_ends e f u r h i (inl k) = zero_is_not_positive (over_pt f e.p) (end_height (off f) e.p.x (rise f) (run f) e.p.y k.1) i
 no_ends e f u r h i (inr k) = never (over_pt f e.q) (ap (λ (t : ℤ). (rise f *ℤ t +ℤ off f) -ℤ run f *ℤ e.q.y) (sym u.flat) ∙ end_height (off f) e.p.x (rise f) (run f) e.q.y k.1) h
   where
     never : (a : ℤ) → a ≡ pos 0 → a <ℤ pos 0 → ⊥
@@ -424,10 +371,7 @@ not_between : (e f : Edge) → MeetAtEnds e f → Upright e → pos 0 <ℤ run f
 not_between e f m u r i j h k = no_ends e f u r h k
     (m (at f r e.p.x (pos 1) one)
     (on_vertical f e r e.p.x refl (run_none e u) (rise_some e u) (above_p (rise f) (off f) (run f) e.p.x e.p.y k) (below_q (rise f) (off f) (run f) e.p.x e.q.y (subst (λ (t : ℤ). ((rise f *ℤ t +ℤ off f) -ℤ run f *ℤ e.q.y) <ℤ pos 0) (sym u.flat) h)))
-    (on_itself f r e.p.x (pos 1) one (first f.p.x e.p.x i) (last e.p.x f.q.x j))).0
-  where
-    first : (a b : ℤ) → a ≤ℤ b → (pos 1 *ℤ a) ≤ℤ b
-    first a b h = omega (arith, ints)
+    (on_itself f r e.p.x (pos 1) one (once_from f.p.x e.p.x i) (last e.p.x f.q.x j))).0
 
     last : (a b : ℤ) → a ≤ℤ b → a ≤ℤ (pos 1 *ℤ b)
     last a b h = omega (arith, ints)
@@ -457,10 +401,7 @@ side_upright e f z d s a b m u r i j =
     it = mid_sum (rise f) (off f) (run f) e.p.x e.p.y e.q.x e.q.y
 
 not_upright : (e f : Edge) → Upright e → pos 0 <ℤ run f → ¬ (e ≡ f)
-not_upright e f u r h = never (run e) (run_none e u) (subst (λ g. pos 0 <ℤ run g) (sym h) r)
-  where
-    never : (a : ℤ) → a ≡ pos 0 → pos 0 <ℤ a → ⊥
-    never a h i = omega (arith, ints)
+not_upright e f u r h = zero_is_not_positive (run e) (run_none e u) (subst (λ g. pos 0 <ℤ run g) (sym h) r)
 
 left_low : (p q s : ℤ) → p ≡ q → pos 0 <ℤ s → s ≤ℤ pos 536870912 → (pos 36893488147419103232 *ℤ (p -ℤ pos 1)) ≤ℤ (K *ℤ (p +ℤ q) -ℤ pos 2 *ℤ s)
 left_low p q s h i j = omega (arith, ints)
@@ -486,7 +427,7 @@ up_left es n o a e i u = par_cong (λ f. a f ∧∧ counted f (left e)) (λ f. a
     (λ f j. ap (λ (t : Bool). a f ∧∧ (t ∧∧ above f (left e))) (covers_is (left e) (e.p.x -ℤ pos 1) (left_in e u (o e i)) f)
     ∙ if_covered (a f) (cv f (e.p.x -ℤ pos 1)) (above f (left e)) (higher f e.p)
     (λ c. side_upright e f (left e) (pos 2) (left_side e) (o e i) (o f j) (n e f i j (not_upright e f u (cv_run f (e.p.x -ℤ pos 1) c))) u (cv_run f (e.p.x -ℤ pos 1) c)
-    (low_one f.p.x e.p.x (cv_low f (e.p.x -ℤ pos 1) c)) (high_one e.p.x f.q.x (cv_high f (e.p.x -ℤ pos 1) c))))
+    (below_successor f.p.x e.p.x (cv_low f (e.p.x -ℤ pos 1) c)) (past_predecessor e.p.x f.q.x (cv_high f (e.p.x -ℤ pos 1) c))))
 
 pub up_right : (es : List Edge) → Noded es → AllSmall es → (a : Edge → Bool) (e : Edge) → In e es → Upright e → parity a es (right e) ≡ east a es e.p
 up_right es n o a e i u = par_cong (λ f. a f ∧∧ counted f (right e)) (λ f. a f ∧∧ (cv f e.p.x ∧∧ higher f e.p)) es
@@ -509,22 +450,13 @@ off_end : (c x h s : Bool) → (c ≡ true → x ≡ h) → s ≡ false → c �
 off_end c x h s i k = grind arith
 
 level_q : (f : Edge) (v : Pt) → v ≡ f.p → over_pt f v ≡ pos 0
-level_q f v h = ap (λ (w : Pt). over_pt f w) h ∙ at_p (run f) (rise f) f.p.x f.p.y f.p.y ∙ none (run f) f.p.y
-  where
-    none : (r y : ℤ) → r *ℤ (y -ℤ y) ≡ pos 0
-    none r y = simp expand (omega (arith, linear))
+level_q f v h = ap (λ (w : Pt). over_pt f w) h ∙ at_p (run f) (rise f) f.p.x f.p.y f.p.y ∙ times_no_gap (run f) f.p.y
 
 level_s : (f : Edge) (v : Pt) → v ≡ f.q → over_pt f v ≡ pos 0
-level_s f v h = ap (λ (w : Pt). over_pt f w) h ∙ at_q f.p.x f.p.y f.q.x f.q.y f.q.y ∙ none (run f) f.q.y
-  where
-    none : (r y : ℤ) → r *ℤ (y -ℤ y) ≡ pos 0
-    none r y = simp expand (omega (arith, linear))
+level_s f v h = ap (λ (w : Pt). over_pt f w) h ∙ at_q f.p.x f.p.y f.q.x f.q.y f.q.y ∙ times_no_gap (run f) f.q.y
 
 pub slope_run : (f : Edge) → slopes f ≡ true → pos 0 <ℤ run f
-slope_run f h = rises f.p.x f.q.x (lt_from f.p.x f.q.x h)
-  where
-    rises : (p q : ℤ) → p <ℤ q → pos 0 <ℤ (q -ℤ p)
-    rises p q i = omega (arith, ints)
+slope_run f h = strict_gap_is f.p.x f.q.x (lt_from f.p.x f.q.x h)
 
 down_east_each : (es : List Edge) → Noded es → (e f : Edge) → In e es → In f es → Upright e → (t : Bool) → starts f e.q ≡ t → cv f e.q.x ∧∧ higher f e.p ≡ (cv f e.q.x ∧∧ higher f e.q) ⊕ starts f e.q
 down_east_each es n e f i j u true t = at_end (cv f e.q.x) (higher f e.p) (higher f e.q) (starts f e.q)
@@ -551,8 +483,8 @@ down_west_each es n e f i j u true t = at_end (cv f (e.q.x -ℤ pos 1)) (higher 
 down_west_each es n e f i j u false t = off_end (cv f (e.q.x -ℤ pos 1)) (higher f e.p) (higher f e.q) (stops f e.q)
     (λ c. over_same (over_pt f e.p) (over_pt f e.q) (lower_end e f u (cv_run f (e.q.x -ℤ pos 1) c))
     (not_between e f (n e f i j (not_upright e f u (cv_run f (e.q.x -ℤ pos 1) c))) u (cv_run f (e.q.x -ℤ pos 1) c)
-    (subst (λ (x : ℤ). f.p.x ≤ℤ x) (sym u.flat) (low_one f.p.x e.q.x (cv_low f (e.q.x -ℤ pos 1) c))) (subst (λ (x : ℤ). x ≤ℤ f.q.x) (sym u.flat) (high_one e.q.x f.q.x (cv_high f (e.q.x -ℤ pos 1) c))))
-    (λ z. not_at_stop f e.q c t (vertex_end es n e.q (record { edge = e; inside = i; ends = inr refl }) f j (on_sloping f e.q (cv_run f (e.q.x -ℤ pos 1) c) (low_one f.p.x e.q.x (cv_low f (e.q.x -ℤ pos 1) c)) (high_one e.q.x f.q.x (cv_high f (e.q.x -ℤ pos 1) c)) z))))
+    (subst (λ (x : ℤ). f.p.x ≤ℤ x) (sym u.flat) (below_successor f.p.x e.q.x (cv_low f (e.q.x -ℤ pos 1) c))) (subst (λ (x : ℤ). x ≤ℤ f.q.x) (sym u.flat) (past_predecessor e.q.x f.q.x (cv_high f (e.q.x -ℤ pos 1) c))))
+    (λ z. not_at_stop f e.q c t (vertex_end es n e.q (record { edge = e; inside = i; ends = inr refl }) f j (on_sloping f e.q (cv_run f (e.q.x -ℤ pos 1) c) (below_successor f.p.x e.q.x (cv_low f (e.q.x -ℤ pos 1) c)) (past_predecessor e.q.x f.q.x (cv_high f (e.q.x -ℤ pos 1) c)) z))))
     t
 
 pub down_right : (es : List Edge) → Noded es → AllSmall es → (a : Edge → Bool) (e : Edge) → In e es → Upright e → parity a es (right e) ≡ east a es e.q ⊕ par (λ f. a f ∧∧ starts f e.q) es

@@ -10,10 +10,10 @@ use Rattle.geom.specs.declared.point.Pt.{Pt}
 use Rattle.geom.specs.declared.directed.DirectedEdge.{DirectedEdge}
 use Rattle.geom.specs.Order.{IsBefore}
 use Rattle.geom.proofs.Edges.{before_strict}
+use Rattle.geom.proofs.RingEdges.{same_order, around-rotation}
 use Rattle.geom.specs.ListOrder.{IsListBefore, IsLeastRotation}
-use Rattle.geom.specs.Rings.{along, around, ring_edges, corner, corners, Follows, AreRings}
+use Rattle.geom.specs.Rings.{along, around, ring_edges, corner, ring_corners, Follows, AreRings}
 use Rattle.geom.specs.Directed.{from_to}
-use Rattle.polygonize.proofs.Lists.{same_order, around-rotation}
 use Rattle.polygonize.specs.Cycle.{pair, Leads, IsCycle, Member, NoTwice, IsLeastFirst, Begins, members, below, AreCycles}
 use Rattle.geom.specs.Directed.{IsDirectedBefore, AreDirected}
 use Rattle.polygonize.specs.Next.{nothing, edge_at, AreNext, ring_of}
@@ -73,7 +73,7 @@ corners_along ds next n x (y ∷ ys) z h l = All-cons (Follows ds) (corner (edge
     (one_corner ds next n x y (All-head (λ i. i < length next) x (y ∷ ys) h) (All-head (Leads next) (x, y) (along pair y ys z) l))
     (corners_along ds next n y ys z (All-tail (λ i. i < length next) x (y ∷ ys) h) (All-tail (Leads next) (x, y) (along pair y ys z) l))
 
-pub follow : (ds : List DirectedEdge) (next : List ℕ) → AreNext ds next → (cycle : List ℕ) → IsCycle next cycle → All (Follows ds) (corners (ring_of ds cycle))
+pub follow : (ds : List DirectedEdge) (next : List ℕ) → AreNext ds next → (cycle : List ℕ) → IsCycle next cycle → All (Follows ds) (ring_corners (ring_of ds cycle))
 follow ds next n cycle c = let P : List DirectedEdge → Type 0 = λ t. All (Follows ds) (around corner t) in subst P (sym (edges_of_cycle ds next n cycle c)) (round cycle c)
   where
     round : (cycle : List ℕ) → IsCycle next cycle → All (Follows ds) (around corner (map (edge_at ds) cycle))
@@ -235,7 +235,7 @@ ascending ds next a n cycles c i j d h k = two (get_or-map (ring_of ds) cycles i
 
 pub are_rings : (ds : List DirectedEdge) (next : List ℕ) → AreDirected ds → AreNext ds next → (cycles : List (List ℕ)) → AreCycles next cycles → AreRings ds (map (ring_of ds) cycles)
 are_rings ds next a n cycles c = record {
-  follow = All-map (λ ring. All (Follows ds) (corners ring)) (ring_of ds) cycles (λ k d h. follow ds next n (get_or cycles k d) (c.are_cycles k d h));
+  follow = All-map (λ ring. All (Follows ds) (ring_corners ring)) (ring_of ds) cycles (λ k d h. follow ds next n (get_or cycles k d) (c.are_cycles k d h));
   together = together ds next n cycles c;
   least = All-map (λ ring. IsLeastRotation ring ring) (ring_of ds) cycles (λ k d h. least ds next a n (get_or cycles k d) (c.are_cycles k d h) (c.no_twice k d h) (c.least_first k d h));
   ascending = ascending ds next a n cycles c;

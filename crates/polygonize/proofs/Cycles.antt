@@ -6,8 +6,8 @@ use Rattle.std.proofs.lemmas.List.{get_or_past, length-replicate, map-append, ge
 use Rattle.std.proofs.lemmas.List.Elements.{All-nil, All-push, All-cons, All-weaker}
 use Rattle.std.proofs.lemmas.List.Concat.{flat_map-append}
 use Rattle.std.proofs.lemmas.List.Quantifiers.{all_pairs_push}
-use Rattle.polygonize.proofs.Lists.{same_elements, in_left, in_right, in_either}
-use Rattle.geom.proofs.Lists.{In, Distinct}
+use Rattle.polygonize.proofs.Lists.{same_elements}
+use Rattle.geom.proofs.Lists.{In, Distinct, in_front, in_back, in_append}
 use Rattle.polygonize.specs.Cycle.{IsSeen, IsClosed, IsCycle, Member, NoTwice, Walked, IsLeastFirst, Begins, members, below, AreCycles}
 use Rattle.polygonize.proofs.Walking.{both}
 
@@ -30,7 +30,7 @@ distinct_append [] ys d e f = e
 distinct_append {X} (x ∷ xs) ys d e f = (no, distinct_append xs ys d.1 e (λ y i. f y (inr i)))
   where
     no : ¬ (In x (xs ++ ys))
-    no i = elim (in_either xs ys x i) [ inl j ↦ d.0 j | inr j ↦ f x (inl refl) j ]
+    no i = elim (in_append xs ys x i) [ inl j ↦ d.0 j | inr j ↦ f x (inl refl) j ]
 
 -- ---- the numbers below a bound
 in_below : (n i : ℕ) → i < n → In i (below n)
@@ -107,9 +107,9 @@ one_more_cycle next old new start cycles cycle len f w = record {
   are_cycles = All-push (IsCycle next) cycles cycle f.are_cycles w.is_cycle;
   distinct = let P : List ℕ → Type 0 = Distinct in subst P (sym (members-push cycles cycle)) (distinct_append (members cycles) cycle f.distinct (no_twice_distinct cycle w.no_twice)
       (λ i m k. both (get_or old i false) (f.only i m) (w.fresh i (in_member cycle i k))));
-  only = λ i m. elim (in_either (members cycles) cycle i (let P : List ℕ → Type 0 = In i in subst P (members-push cycles cycle) m)) [ inl j ↦ w.keeps i (f.only i j) | inr j ↦ w.marked i (in_member cycle i j) ];
+  only = λ i m. elim (in_append (members cycles) cycle i (let P : List ℕ → Type 0 = In i in subst P (members-push cycles cycle) m)) [ inl j ↦ w.keeps i (f.only i j) | inr j ↦ w.marked i (in_member cycle i j) ];
   all = λ i s. let P : List ℕ → Type 0 = In i in subst P (sym (members-push cycles cycle))
-      (elim (w.marks i s) [ inl o ↦ in_left (members cycles) cycle i (f.all i o) | inr m ↦ in_right (members cycles) cycle i (member_in cycle i m) ]);
+      (elim (w.marks i s) [ inl o ↦ in_front (members cycles) cycle i (f.all i o) | inr m ↦ in_back (members cycles) cycle i (member_in cycle i m) ]);
   passed = λ i h. elim (cases_eq i start) [ inl e ↦ (let P : ℕ → Type 0 = IsSeen new in subst P (sym e) start_seen) | inr n ↦ w.keeps i (f.passed i (before i h n)) ];
   no_twice = All-push NoTwice cycles cycle f.no_twice w.no_twice;
   least_first = All-push IsLeastFirst cycles cycle f.least_first (let P : List ℕ → Type 0 = IsLeastFirst in subst P (sym w.begins) (all_member (λ j. start ≤ j) w.rest (λ j m. not_before j (in_rest j m))));

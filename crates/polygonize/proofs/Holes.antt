@@ -10,14 +10,14 @@ use Rattle.geom.specs.declared.directed.DirectedEdge.{DirectedEdge}
 use Rattle.geom.specs.Order.{IsBefore}
 use Rattle.geom.specs.Determinant.{side}
 use Rattle.geom.specs.Directed.{AreDirected, from_to}
-use Rattle.geom.specs.Rings.{Corner, corner, corners}
+use Rattle.geom.specs.Rings.{Corner, corner, ring_corners}
 use Rattle.geom.specs.Holes.{IsHole, IsLeastVertex}
 use Rattle.geom.proofs.Edges.{before_strict}
 use Rattle.geom.proofs.Orders.{before_itself}
 use Rattle.polygonize.specs.Next.{edge_at, nothing, ring_of}
 use Rattle.polygonize.specs.Number.{IsVertex}
 use Rattle.polygonize.proofs.Least.{vertex_order}
-use Rattle.polygonize.proofs.Neighbours.{place_after, after_inside, vertex_at, point_at, length-ring, length-around, corner_round}
+use Rattle.polygonize.proofs.RingPieces.Neighbours.{place_after, after_inside, vertex_at, point_at, length-ring, length-around, corner_round}
 
 -- ---- the least vertex
 none_less : (ds : List DirectedEdge) → AreDirected ds → (j k : ℕ) → IsVertex ds k → j ≤ k → ¬ (IsBefore (edge_at ds k).from (edge_at ds j).from)
@@ -49,13 +49,13 @@ pub record TurnsRight (ds : List DirectedEdge) (ring : List ℕ) (i : ℕ) : Typ
   pub first : get_or ring (place_after (length ring) i) 0 ≡ get_or ring 0 0
   pub right : pos 0 <ℤ side (vertex_at ds ring (place_after (length ring) i)) (vertex_at ds ring i) (vertex_at ds ring (place_after (length ring) (place_after (length ring) i)))
 
-count : (ds : List DirectedEdge) (ring : List ℕ) → length (corners (ring_of ds ring)) ≡ length ring
+count : (ds : List DirectedEdge) (ring : List ℕ) → length (ring_corners (ring_of ds ring)) ≡ length ring
 count ds ring = length-around corner _ ∙ length-around from_to (ring_of ds ring) ∙ length-ring ds ring
 
 pub hole_here : (ds : List DirectedEdge) → AreDirected ds → (ring : List ℕ) → All (IsVertex ds) ring → All (λ k. get_or ring 0 0 ≤ k) ring → (i : ℕ) → i < length ring → TurnsRight ds ring i → IsHole (ring_of ds ring)
 hole_here ds a ring v l i h t = record {
   at = there;
-  on = let P : Corner → Type 0 = Contains (corners (ring_of ds ring)) in subst P (corner_round ds ring i there h) (Contains-get_or (corners (ring_of ds ring)) i there (let e = count ds ring in omega arith));
+  on = let P : Corner → Type 0 = Contains (ring_corners (ring_of ds ring)) in subst P (corner_round ds ring i there h) (Contains-get_or (ring_corners (ring_of ds ring)) i there (let e = count ds ring in omega arith));
   least = let P : ℕ → Type 0 = λ k. IsLeastVertex (ring_of ds ring) (edge_at ds k).from in subst P (sym t.first) (least_point ds a ring v l (omega arith));
   turns = t.right;
 }

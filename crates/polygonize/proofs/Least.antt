@@ -16,11 +16,11 @@ use Rattle.polygonize.specs.Number.{IsVertex}
 use Rattle.polygonize.specs.Clockwise.{less}
 use Rattle.geom.specs.Canonical.{Shape, written_rings}
 use Rattle.polygonize.specs.Written.{AreSimple, IsCanonical, IsSound}
-use Rattle.polygonize.proofs.Turns.{less_is, neither_less}
+use Rattle.polygonize.proofs.NextEdge.Turns.{less_is, neither_less}
 use Rattle.polygonize.proofs.CycleRings.{less_apart, list_irreflexive}
-use Rattle.polygonize.proofs.Sooner.{by_test, not_less}
+use Rattle.polygonize.proofs.NextEdge.Sooner.{by_test, not_less}
 use Rattle.polygonize.proofs.Numbers.{same_vertex, start_order}
-use Rattle.polygonize.proofs.Mapping.{simple_map}
+use Rattle.polygonize.proofs.RingPieces.Mapping.{simple_map}
 
 -- numbers are ordered as points are
 pub vertex_order : (ds : List DirectedEdge) → AreDirected ds → (j k : ℕ) → IsVertex ds k → j < k → IsBefore (edge_at ds j).from (edge_at ds k).from

@@ -12,9 +12,9 @@ use Rattle.geom.specs.Directed.{IsDirectedBefore, AreDirected}
 use Rattle.geom.proofs.Edges.{before_strict}
 use Rattle.polygonize.specs.Next.{nothing, edge_at, ring_of}
 use Rattle.polygonize.specs.Number.{IsNumber, AreNumbers, IsVertex, IsLastNumber}
-use Rattle.polygonize.proofs.Turns.{neither_less}
+use Rattle.polygonize.proofs.NextEdge.Turns.{neither_less}
 use Rattle.polygonize.proofs.CycleRings.{less_apart}
-use Rattle.polygonize.proofs.Sooner.{not_less}
+use Rattle.polygonize.proofs.NextEdge.Sooner.{not_less}
 
 -- the starts don't descend
 pub start_order : (ds : List DirectedEdge) → AreDirected ds → (m k : ℕ) → m < k → k < length ds → ¬ (IsBefore (edge_at ds k).from (edge_at ds m).from)

@@ -2,8 +2,7 @@
 use Rattle.std.proofs.Common.{◌≡◌, ◌⊎◌, zero, suc, List, [], ◌∷◌, ◌++◌, map, get_or, refl, sym, ◌∙◌, ap, subst, inl, inr, arith}
 use Rattle.std.specs.Prelude.{AllPairs}
 use Rattle.std.proofs.lemmas.List.Elements.{Contains-get_or}
-use Rattle.geom.proofs.Lists.{In, contains_in, in_append, in_map}
-use Rattle.polygonize.proofs.Lists.{in_left, in_right}
+use Rattle.geom.proofs.Lists.{In, contains_in, in_append, in_map, in_front, in_back}
 use Rattle.polygonize.specs.Grouped.{Group, members}
 
 -- each element stands in the relation to every later one
@@ -28,7 +27,7 @@ ascend_map {X} {Y} R S f (x ∷ xs) h a = (
 
 pub ascend_left : {X : Type 0} (R : X → X → Type 0) (xs ys : List X) → Ascend R (xs ++ ys) → Ascend R xs
 ascend_left R [] ys a = tt
-ascend_left R (x ∷ xs) ys a = ((λ y i. a.0 y (in_left xs ys y i)), ascend_left R xs ys a.1)
+ascend_left R (x ∷ xs) ys a = ((λ y i. a.0 y (in_front xs ys y i)), ascend_left R xs ys a.1)
 
 pub ascend_right : {X : Type 0} (R : X → X → Type 0) (xs ys : List X) → Ascend R (xs ++ ys) → Ascend R ys
 ascend_right R [] ys a = a
@@ -37,7 +36,7 @@ ascend_right R (x ∷ xs) ys a = ascend_right R xs ys a.1
 -- what stands in the front comes before what stands in the back
 pub ascend_across : {X : Type 0} (R : X → X → Type 0) (xs ys : List X) → Ascend R (xs ++ ys) → (x y : X) → In x xs → In y ys → R x y
 ascend_across R [] ys a x y i j = absurd i
-ascend_across {X} R (z ∷ xs) ys a x y (inl e) j = let P : X → Type 0 = λ t. R t y in subst P e (a.0 y (in_right xs ys y j))
+ascend_across {X} R (z ∷ xs) ys a x y (inl e) j = let P : X → Type 0 = λ t. R t y in subst P e (a.0 y (in_back xs ys y j))
 ascend_across R (z ∷ xs) ys a x y (inr i) j = ascend_across R xs ys a.1 x y i j
 
 -- two elements are one, or one comes before the other
@@ -55,8 +54,8 @@ IsOneWay {X} R = (x y : X) → R x y → R y x → ⊥
 
 pub in_members : {W : Type 0} (gs : List (Group W)) (g : Group W) (w : W) → In g gs → In w (g.shell ∷ g.holes) → In w (members gs)
 in_members [] g w i j = absurd i
-in_members {W} (k ∷ gs) g w (inl e) j = in_left (k.shell ∷ k.holes) (members gs) w (let P : Group W → Type 0 = λ t. In w (t.shell ∷ t.holes) in subst P (sym e) j)
-in_members (k ∷ gs) g w (inr i) j = in_right (k.shell ∷ k.holes) (members gs) w (in_members gs g w i j)
+in_members {W} (k ∷ gs) g w (inl e) j = in_front (k.shell ∷ k.holes) (members gs) w (let P : Group W → Type 0 = λ t. In w (t.shell ∷ t.holes) in subst P (sym e) j)
+in_members (k ∷ gs) g w (inr i) j = in_back (k.shell ∷ k.holes) (members gs) w (in_members gs g w i j)
 
 pub of_members : {W : Type 0} (gs : List (Group W)) (w : W) → In w (members gs) → (g : Group W) × In g gs × In w (g.shell ∷ g.holes)
 of_members [] w i = absurd i

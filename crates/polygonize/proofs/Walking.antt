@@ -6,7 +6,7 @@ use Rattle.std.proofs.lemmas.List.{get_or-set_same, get_or-set_other, length-set
 use Rattle.std.proofs.lemmas.List.Elements.{All-append, All-cons, All-nil, All-push, All-get_or}
 use Rattle.std.proofs.lemmas.List.Sums.{sum_by-set}
 use Rattle.geom.specs.Rings.{along, around}
-use Rattle.polygonize.proofs.Lists.{along-append}
+use Rattle.geom.proofs.RingEdges.{along-append}
 use Rattle.polygonize.specs.Cycle.{IsOneToOne, IsSeen, IsUnseen, ComesAfterSeen, IsClosed, pair, Leads, Member, NoTwice, Walked}
 
 pub record Walking (next : List ℕ) (old seen : List Bool) (start at : ℕ) (cycle : List ℕ) : Type 0 where

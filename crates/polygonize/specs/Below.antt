@@ -3,7 +3,7 @@ use Rattle.std.specs.Prelude.{◌≡◌, ◌⊎◌, ◌^◌, ◌<◌, ◌+ℤ◌
 use Rattle.geom.specs.declared.directed.DirectedEdge.{DirectedEdge}
 use Rattle.geom.specs.declared.edge.Edge.{Edge}
 use Rattle.geom.specs.declared.point.Pt.{Pt}
-use Rattle.geom.specs.Directed.{Runs}
+use Rattle.geom.specs.Directed.{RunsAlong}
 use Rattle.geom.specs.Holes.{IsHole, IsNearestBelow, LiesBelow, height, left_of, run_of}
 use Rattle.geom.specs.Limit.{IsWithin}
 use Rattle.geom.specs.Parity.{covers}
@@ -15,7 +15,7 @@ use Rattle.polygonize.specs.Next.{edge_at, ring_of}
 
 -- d runs along e, and e lies below z
 pub record RunsBelow (d : DirectedEdge) (z : Point) (e : Edge) : Type 0 where
-  pub runs : Runs d e
+  pub runs : RunsAlong d e
   pub over : covers e z ≡ true
   pub below : pos 0 <ℤ height e z
 

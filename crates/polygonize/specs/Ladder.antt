@@ -4,7 +4,7 @@ use Rattle.geom.specs.declared.directed.DirectedEdge.{DirectedEdge}
 use Rattle.geom.specs.declared.edge.Edge.{Edge}
 use Rattle.geom.specs.declared.point.Pt.{Pt}
 use Rattle.geom.specs.Determinant.{side}
-use Rattle.geom.specs.Directed.{Runs}
+use Rattle.geom.specs.Directed.{RunsAlong}
 use Rattle.geom.specs.Holes.{height, left_of, run_of}
 use Rattle.polygonize.specs.declared.column.Columns.{Columns}
 use Rattle.polygonize.specs.Below.{RunsBelow}
@@ -21,7 +21,7 @@ IsUnder e f column = (over_column f column *ℤ run_of e) ≤ℤ (over_column e 
 
 -- the lower edge lies at or under the other one over the border left of the columns, and over the last column
 abbrev pub AreInOrder : DirectedEdge → DirectedEdge → Columns → Type 0
-AreInOrder lower upper columns = (e f : Edge) → Runs lower e → Runs upper f → IsUnder e f (columns.low -ℤ pos 1) × IsUnder e f columns.high
+AreInOrder lower upper columns = (e f : Edge) → RunsAlong lower e → RunsAlong upper f → IsUnder e f (columns.low -ℤ pos 1) × IsUnder e f columns.high
 
 -- the found ones are those of the numbers whose edges span the columns
 pub record AreSpanning (ds : List DirectedEdge) (columns : Columns) (numbers found : List ℕ) : Type 0 where

@@ -14,8 +14,8 @@ use Rattle.geom.proofs.Points.{and_both, or_either, same_point_true, same_point_
 use Rattle.polygonize.specs.Clockwise.{half, sooner}
 use Rattle.polygonize.specs.Next.{nothing, edge_at}
 use Rattle.polygonize_tests.specs.Closing.{HaveBothWays, HasNext, are_apart, is_passed, met}
-use Rattle.polygonize.proofs.Turns.{Half, half_of, sooner_true}
-use Rattle.polygonize.proofs.Turns.Half.{right, left, itself}
+use Rattle.polygonize.proofs.NextEdge.Turns.{Half, half_of, sooner_true}
+use Rattle.polygonize.proofs.NextEdge.Turns.Half.{right, left, itself}
 
 less_alike : (m n k : ℕ) → m ≡ k → n ≡ k → m < n → ⊥
 less_alike m n k e f h = omega arith

@@ -7,6 +7,8 @@ use Rattle.std.specs.List.{filter, range_with_len}
 use Rattle.std.specs.List.Sorted.{IsPermutation, IsSortedByKey}
 use Rattle.std.proofs.Common.{nat_cmp}
 use Rattle.geom.specs.declared.rect.Rect.{Rect}
+use Rattle.geom.proofs.Tests.{le_no}
+use Rattle.geom.proofs.Numbers.{le_lt}
 use Rattle.lane_tests.specs.Columns.{Ends, corners, nowhere, touches, touching_numbers}
 use Rattle.tiling.proofs.Ascending.{IsUp, found_in_order}
 use Rattle.tiling.proofs.Finding.{filter_same, within_places, found_between, found_up, whole_order, passing_is}
@@ -20,14 +22,8 @@ pub record IsIndex (boxes sorted : List Ends) (order : List ℕ) (lefts greatest
   pub lefts_are : (k : ℕ) → k < length boxes → get_or lefts k (pos 0) ≡ (get_or sorted k nowhere).0.x
   pub greatest_is : (k : ℕ) → k < length boxes → (get_or sorted k nowhere).1.x ≤ℤ get_or greatest k (pos 0)
 
-le_no : (a b : ℤ) → b <ℤ a → int_le a b ≡ false
-le_no a b h = let t : false ≡ int_le a b = omega (arith, ints) in sym t
-
 past_right : (a l b : ℤ) → l ≡ a → b <ℤ l → b <ℤ a
 past_right a l b e h = omega (arith, ints)
-
-short_of : (a g b : ℤ) → a ≤ℤ g → g <ℤ b → a <ℤ b
-short_of a g b h k = omega (arith, ints)
 
 first_no : (a b c d : Bool) → a ≡ false → a && b && c && d ≡ false
 first_no a b c d e = rw e refl
@@ -49,7 +45,7 @@ module _ (boxes sorted : List Ends) (order : List ℕ) (lefts greatest : List �
   not_before k l =
       let b = get_or sorted k nowhere in
       third_no (int_le b.0.x r.hi.x) (int_le b.0.y r.hi.y) (int_le r.lo.x b.1.x) (int_le r.lo.y b.1.y)
-      (le_no r.lo.x b.1.x (short_of b.1.x (get_or greatest k (pos 0)) r.lo.x (h.greatest_is k (omega (arith, h.lefts_len))) (before k l)))
+      (le_no r.lo.x b.1.x (le_lt b.1.x (get_or greatest k (pos 0)) r.lo.x (h.greatest_is k (omega (arith, h.lefts_len))) (before k l)))
 
   not_after : (k : ℕ) → to ≤ k → k < length boxes → touches (get_or sorted k nowhere) (corners r) ≡ false
   not_after k l m =

@@ -10,6 +10,8 @@ use Rattle.geom.specs.Limit.{IsWithin, coordinate_limit}
 use Rattle.geom.specs.declared.point.Pt.{Pt}
 use Rattle.geom.specs.declared.rect.Rect.{Rect}
 use Rattle.geom.specs.Box.{IsInBox}
+use Rattle.geom.proofs.Numbers.{le_le}
+use Rattle.geom.proofs.Bounds.{within_room}
 use Rattle.tiling.specs.Tiles.{HasTile, IsOver, Owns, Tiling, steps, tile_count}
 
 -- the k-th column from low has x
@@ -208,13 +210,10 @@ pub record Step (low : ℤ) (side : ℕ) (x : ℤ) (columns : ℕ) : Type 0 wher
 pub inside : (low high x : ℤ) (side columns : ℕ) → 0 < side → low ≤ℤ x → x ≤ℤ high → pos columns ≡ steps low side high +ℤ pos 1 → Step low side x columns
 inside low high x side columns s h l c =
     let v = between low x h in
-    let w = between low high (through low x high h l) in
+    let w = between low high (le_le low x high h l) in
     let e = columns_from low high side columns w.width w.is c in
     let f = fewer_steps v.width w.width side s (widths low x high v.width w.width v.is w.is l) in
     record { number = v.width / side; is = steps_are low x v.width side v.is; within = omega arith }
-  where
-    through : (a b c : ℤ) → a ≤ℤ b → b ≤ℤ c → a ≤ℤ c
-    through a b c h l = omega (arith, ints)
 
     widths : (low x high : ℤ) (v w : ℕ) → pos v ≡ x -ℤ low → pos w ≡ high -ℤ low → x ≤ℤ high → v ≤ w
     widths low x high v w e f l = omega (arith, ints)
@@ -248,15 +247,12 @@ one_column_over low high side h k order l =
         let b = k.high in
         omega (arith, ints, a, b)
 
-pub near_28 : (z : ℤ) → IsWithin coordinate_limit z → IsWithin (2 ^ 28) z
-near_28 z h = record { low = omega (arith, ints, h.low); high = omega (arith, ints, h.high) }
-
 pub wide : (low high : ℤ) (side columns : ℕ) → IsWithin coordinate_limit low → IsWithin coordinate_limit high → low ≤ℤ high → side ≤ 33554432 → pos columns ≡ steps low side high +ℤ pos 1 → columns * side ≤ 2 ^ 29 + 2 ^ 26
 wide low high side columns h k order small c =
     let w = between low high order in
     let e = columns_from low high side columns w.width w.is c in
     let d : (w.width / side + 1) * side ≡ w.width / side * side + side = omega arith in
-    rw (e, d) (room low high w.width (w.width / side * side) side (near_28 low h) (near_28 high k) w.is (omega (arith, div-add-mod' w.width side)) small)
+    rw (e, d) (room low high w.width (w.width / side * side) side (within_room low h) (within_room high k) w.is (omega (arith, div-add-mod' w.width side)) small)
   where
     room : (low high : ℤ) (w a side : ℕ) → IsWithin (2 ^ 28) low → IsWithin (2 ^ 28) high → pos w ≡ high -ℤ low → a ≤ w → side ≤ 33554432 → a + side ≤ 2 ^ 29 + 2 ^ 26
     room low high w a side h k e l s = omega (arith, ints)

@@ -14,6 +14,7 @@ use Rattle.std.proofs.lemmas.Option.{slice_get-get_or, slice_get_within}
 use Rattle.geom.specs.Box.{IsInBox}
 use Rattle.geom.specs.declared.point.Pt.{Pt}
 use Rattle.geom.specs.declared.rect.Rect.{Rect}
+use Rattle.geom.proofs.Numbers.{max_left, max_right}
 use Rattle.tiling.specs.Bins.{AreBins, AreGiven, IsAmong, IsBin, MeetsTile, TileBins, lists_of}
 use Rattle.tiling.specs.Tiles.{IsPlaced, Owns, Tiling, tile_count}
 use Rattle.tiling.proofs.Columns.{IsColumnOf, column_from_steps, steps_from_column}
@@ -138,16 +139,10 @@ reached low a b side i j k s h g o l m =
     let down : k * side ≤ j * side = mul-le k side j side m (omega arith) in
     record {
       at = int_max a (low +ℤ pos (k * side));
-      from = first a (low +ℤ pos (k * side));
+      from = max_left a (low +ℤ pos (k * side));
       to = both low a b (k * side) (j * side) o down g.from;
-      column = record { from = second a (low +ℤ pos (k * side)); to = below low a (i * side) (k * side) side s up h.to };
+      column = record { from = max_right a (low +ℤ pos (k * side)); to = below low a (i * side) (k * side) side s up h.to };
     }
-  where
-    first : (a c : ℤ) → a ≤ℤ int_max a c
-    first a c = omega (arith, ints, clamps)
-
-    second : (a c : ℤ) → c ≤ℤ int_max a c
-    second a c = omega (arith, ints, clamps)
 
     both : (low a b : ℤ) (m n : ℕ) → a ≤ℤ b → m ≤ n → (low +ℤ pos n) ≤ℤ b → int_max a (low +ℤ pos m) ≤ℤ b
     both low a b m n o l g = omega (arith, ints, clamps)

@@ -20,6 +20,8 @@ use Rattle.geom.specs.declared.rect.Rect.{Rect}
 use Rattle.lane_tests.specs.Columns.{corners, nowhere}
 use Rattle.geom.specs.Box.{IsInBox}
 use Rattle.geom.specs.declared.point.Pt.{Pt}
+use Rattle.geom.proofs.Tests.{lt_yes, lt_no, le_yes, le_no}
+use Rattle.geom.proofs.Numbers.{both_ways}
 use Rattle.lane_tests.specs.Boxes.{AreSmall}
 use Rattle.lane_tests.specs.Meeting.{AreMeeting, MeetsAt}
 use Rattle.lane_tests.proofs.Meeting.{filter_meets, meeting_is, shared_whole, whole_shared}
@@ -77,11 +79,6 @@ all_items boxes keys p =
     subst (λ (xs : List Item). IsPermutation xs (map (item_of boxes) keys)) e (IsPermutation-map (item_of boxes) (map (key_at boxes) (range_with_len 0 (length boxes))) keys p)
 
 -- ---- order
-lt_yes : (a b : ℤ) → a <ℤ b → int_lt a b ≡ true
-lt_yes a b h = let t : true ≡ int_lt a b = omega (arith, ints) in sym t
-
-lt_no : (a b : ℤ) → b ≤ℤ a → int_lt a b ≡ false
-lt_no a b h = let t : false ≡ int_lt a b = omega (arith, ints) in sym t
 
 nat_yes : (m n : ℕ) → m < n → nat_lt m n ≡ true
 nat_yes m n h = grind arith
@@ -92,14 +89,11 @@ not_less m n h = elim (cases_lt m n) [
   | inr more ↦ more
 ]
 
-equal_from : (a b : ℤ) → a ≤ℤ b → b ≤ℤ a → a ≡ b
-equal_from a b h k = omega (arith, ints)
-
 -- of two keys that are not the other way round, the first is before the second
 before_from : (a b : Key) → is_lt (ordering_then (int_cmp b.0 a.0) (nat_cmp b.1 a.1)) ≡ false → (a.0 <ℤ b.0) ⊎ ((a.0 ≡ b.0) × (a.1 ≤ b.1))
 before_from a b h = by_lt_z a.0 b.0 (λ l. inl l) (λ l. by_lt_z b.0 a.0
     (λ m. let t = rw (lt_yes b.0 a.0 m) at h in cc)
-    (λ m. let t = rw (lt_no b.0 a.0 m, lt_no a.0 b.0 l) at h in inr (equal_from a.0 b.0 m l, not_less b.1 a.1 t)))
+    (λ m. let t = rw (lt_no b.0 a.0 m, lt_no a.0 b.0 l) at h in inr (both_ways a.0 b.0 m l, not_less b.1 a.1 t)))
 
 weak : IsStrictWeakOrder (λ (x y : Key). is_lt (ordering_then (int_cmp x.0 y.0) (nat_cmp x.1 y.1)))
 weak = ranks_by (then_total (on_total (λ (k : Key). k.0) int_cmp_total) (on_total (λ (k : Key). k.1) nat_cmp_total)) (λ (k : Key). k)
@@ -273,11 +267,6 @@ pub key_within : (boxes : List Rect) (keys items : List Key) → items ≡ keys 
 key_within boxes keys items e p k l = (are_keys boxes items (lent_keys boxes keys items e p) k (pos 0, 0) l).within
 
 -- ---- places
-le_yes : (a b : ℤ) → a ≤ℤ b → int_le a b ≡ true
-le_yes a b h = let t : true ≡ int_le a b = omega (arith, ints) in sym t
-
-le_no : (a b : ℤ) → b <ℤ a → int_le a b ≡ false
-le_no a b h = let t : false ≡ int_le a b = omega (arith, ints) in sym t
 
 rights_of_items : (numbers : List ℕ) (sorted : List Rect) → length sorted ≡ length numbers → map (λ i. i.1.hi.x) (zip numbers sorted) ≡ rights_of sorted
 rights_of_items numbers sorted e = sym (map-map (λ r. r.hi.x) (λ i. i.1) (zip numbers sorted)) ∙ ap rights_of (seconds-zip numbers sorted e)

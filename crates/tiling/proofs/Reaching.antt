@@ -11,6 +11,8 @@ use Rattle.std.proofs.lemmas.Option.{get_or_from_slice_get, slice_get_within}
 use Rattle.std.proofs.lemmas.Slice.Zip.{get_or-zip, seconds-zip}
 use Rattle.geom.specs.declared.rect.Rect.{Rect}
 use Rattle.geom.proofs.Boxes.{share_in, share_out}
+use Rattle.geom.proofs.Tests.{lt_yes, lt_no}
+use Rattle.geom.proofs.Numbers.{itself}
 use Rattle.lane_tests.specs.Boxes.{AreSmall}
 use Rattle.lane_tests.specs.Meeting.{AreMeeting, MeetsAt}
 use Rattle.tiling.specs.Index.{AreIndexed, AreReaching, IsKept, Item, least}
@@ -37,12 +39,6 @@ above_least z h = omega (arith, ints)
 below_greatest : (z : ℤ) → FitsSigned w32 z → z ≤ℤ pos 2147483647
 below_greatest z h = omega (arith, ints)
 
-lt_yes : (a b : ℤ) → a <ℤ b → int_lt a b ≡ true
-lt_yes a b h = let t : true ≡ int_lt a b = omega (arith, ints) in sym t
-
-lt_no : (a b : ℤ) → b ≤ℤ a → int_lt a b ≡ false
-lt_no a b h = let t : false ≡ int_lt a b = omega (arith, ints) in sym t
-
 to_least : (z a b : ℤ) → z ≤ℤ a → z ≤ℤ b → z ≤ℤ int_min a b
 to_least z a b h k = by_lt_z b a (λ l. rw (lt_yes b a l) k) (λ l. rw (lt_no b a l) h)
 
@@ -54,9 +50,6 @@ from_least z a b h = by_lt_z b a (λ l. through z b a (rw (lt_yes b a l) at h) l
 
 min_second : (a b : ℤ) → int_min a b ≤ℤ b
 min_second a b = by_lt_z b a (λ l. rw (lt_yes b a l) (itself b)) (λ l. rw (lt_no b a l) l)
-  where
-    itself : (b : ℤ) → b ≤ℤ b
-    itself b = omega (arith, ints)
 
 -- what the code computes
 pub right_is : (high m f : ℤ) → FitsSigned w64 high → f ≡ pos 2147483647 → m ≡ int_min (to_z w64 (of_z w64 high)) (to_z w64 (of_z w64 f)) → m ≡ int_min high (pos 2147483647)

@@ -4,6 +4,8 @@ use Rattle.std.specs.Prelude.{◌≤ℤ◌, ◌<ℤ◌, int_le, int_lt}
 use Rattle.std.specs.Int.{int_max}
 use Rattle.std.specs.List.{position_or_len}
 use Rattle.std.proofs.lemmas.Int.{ints, by_lt_z}
+use Rattle.geom.proofs.Tests.{lt_yes, lt_no, le_yes, le_no}
+use Rattle.geom.proofs.Numbers.{itself, weak, le_le, max_left, max_right}
 use Rattle.tiling.specs.Index.{AreAscending, greatest_of, running}
 
 pub running-push : (m : ℤ) (xs : List ℤ) (x : ℤ) → running m (xs ++ x ∷ []) ≡ running m xs ++ int_max (greatest_of m xs) x ∷ []
@@ -18,37 +20,16 @@ pub length-running : (m : ℤ) (xs : List ℤ) → length (running m xs) ≡ len
 length-running m [] = refl
 length-running m (x ∷ xs) = ap suc (length-running (int_max m x) xs)
 
-lt_yes : (a b : ℤ) → a <ℤ b → int_lt a b ≡ true
-lt_yes a b h = let t : true ≡ int_lt a b = omega (arith, ints) in sym t
-
-lt_no : (a b : ℤ) → b ≤ℤ a → int_lt a b ≡ false
-lt_no a b h = let t : false ≡ int_lt a b = omega (arith, ints) in sym t
-
-itself : (a : ℤ) → a ≤ℤ a
-itself a = omega (arith, ints)
-
-at_most : (a b : ℤ) → a <ℤ b → a ≤ℤ b
-at_most a b h = omega (arith, ints)
-
-through : (a b c : ℤ) → a ≤ℤ b → b ≤ℤ c → a ≤ℤ c
-through a b c h k = omega (arith, ints)
-
-pub max_left : (m x : ℤ) → m ≤ℤ int_max m x
-max_left m x = by_lt_z x m (λ h. rw (lt_yes x m h) (itself m)) (λ h. rw (lt_no x m h) h)
-
-pub max_right : (m x : ℤ) → x ≤ℤ int_max m x
-max_right m x = by_lt_z x m (λ h. rw (lt_yes x m h) (at_most x m h)) (λ h. rw (lt_no x m h) (itself x))
-
 max_below : (m x b : ℤ) → m <ℤ b → x <ℤ b → int_max m x <ℤ b
 max_below m x b h k = by_lt_z x m (λ l. rw (lt_yes x m l) h) (λ l. rw (lt_no x m l) k)
 
 max_reaches : (m x b : ℤ) → m <ℤ b → b ≤ℤ x → b ≤ℤ int_max m x
-max_reaches m x b h k = through b x (int_max m x) k (max_right m x)
+max_reaches m x b h k = le_le b x (int_max m x) k (max_right m x)
 
 at_least : (m : ℤ) (xs : List ℤ) (k : ℕ) → k < length xs → m ≤ℤ get_or (running m xs) k (pos 0)
 at_least m [] k h = absurd (omega arith)
 at_least m (x ∷ xs) zero h = max_left m x
-at_least m (x ∷ xs) (suc k) h = through m (int_max m x) _ (max_left m x) (at_least (int_max m x) xs k (omega arith))
+at_least m (x ∷ xs) (suc k) h = le_le m (int_max m x) _ (max_left m x) (at_least (int_max m x) xs k (omega arith))
 
 ascends : (m : ℤ) (xs : List ℤ) (i j : ℕ) → i ≤ j → j < length xs → get_or (running m xs) i (pos 0) ≤ℤ get_or (running m xs) j (pos 0)
 ascends m [] i j h l = absurd (omega arith)
@@ -66,12 +47,6 @@ running_covers m [] k h = absurd (omega arith)
 running_covers m (x ∷ xs) zero h = max_right m x
 running_covers m (x ∷ xs) (suc k) h = running_covers (int_max m x) xs k (omega arith)
 
-le_yes : (a b : ℤ) → a ≤ℤ b → int_le a b ≡ true
-le_yes a b h = let t : true ≡ int_le a b = omega (arith, ints) in sym t
-
-le_no : (a b : ℤ) → b <ℤ a → int_le a b ≡ false
-le_no a b h = let t : false ≡ int_le a b = omega (arith, ints) in sym t
-
 reached_later : (b m : ℤ) (xs : List ℤ) → m <ℤ b → position_or_len (int_le b) (running m xs) ≡ position_or_len (int_le b) xs
 reached_later b m [] h = refl
 reached_later b m (x ∷ xs) h = by_lt_z x b
@@ -80,7 +55,7 @@ reached_later b m (x ∷ xs) h = by_lt_z x b
 
 reached_at_once : (b m : ℤ) (xs : List ℤ) → b ≤ℤ m → ((k : ℕ) → k < length xs → m ≤ℤ get_or xs k (pos 0)) → position_or_len (int_le b) (running m xs) ≡ position_or_len (int_le b) xs
 reached_at_once b m [] h all = refl
-reached_at_once b m (x ∷ xs) h all = rw (le_yes b x (through b m x h (all 0 (omega arith))), le_yes b (int_max m x) (through b m (int_max m x) h (max_left m x))) refl
+reached_at_once b m (x ∷ xs) h all = rw (le_yes b x (le_le b m x h (all 0 (omega arith))), le_yes b (int_max m x) (le_le b m (int_max m x) h (max_left m x))) refl
 
 -- the greatest so far first reaches b where a number first does
 pub first_running : (b m : ℤ) (xs : List ℤ) → ((k : ℕ) → k < length xs → m ≤ℤ get_or xs k (pos 0)) → position_or_len (int_le b) (running m xs) ≡ position_or_len (int_le b) xs

@@ -6,6 +6,7 @@ use Rattle.std.proofs.lemmas.Bool.{cases_lt}
 use Rattle.std.proofs.Math.Pow.{pow_mono}
 use Rattle.std.proofs.lemmas.Nat.{mul-le}
 use Rattle.std.proofs.Math.Nat.{pow-suc}
+use Rattle.geom.proofs.Numbers.{le_lt, le_le}
 use Rattle.tiling.specs.Index.{AreAscending}
 
 -- the place is from low to high, and t ticks were taken
@@ -62,18 +63,12 @@ search_step xs x low high old now low' high' h some order within half before aft
 pub goes_right : (xs : List ℤ) (x : ℤ) (low high middle old now : ℕ) → AreAscending xs → IsSearch xs x low high old now → low < high → middle ≡ low + (high - low) / 2 → get_or xs middle (pos 0) <ℤ x → IsSearch xs x (middle + 1) high old (now + 1)
 goes_right xs x low high middle old now a h some m t =
     search_step xs x low high old now (middle + 1) high h some (omega arith) (omega arith) (omega arith)
-    (λ k l. below (get_or xs k (pos 0)) (get_or xs middle (pos 0)) x (a.ascend k middle (omega arith) (omega (arith, h.within))) t) h.after
-  where
-    below : (a b x : ℤ) → a ≤ℤ b → b <ℤ x → a <ℤ x
-    below a b x h k = omega (arith, ints)
+    (λ k l. le_lt (get_or xs k (pos 0)) (get_or xs middle (pos 0)) x (a.ascend k middle (omega arith) (omega (arith, h.within))) t) h.after
 
 pub goes_left : (xs : List ℤ) (x : ℤ) (low high middle old now : ℕ) → AreAscending xs → IsSearch xs x low high old now → low < high → middle ≡ low + (high - low) / 2 → x ≤ℤ get_or xs middle (pos 0) → IsSearch xs x low middle old (now + 1)
 goes_left xs x low high middle old now a h some m t =
     search_step xs x low high old now low middle h some (omega arith) (omega arith) (omega arith) h.before
-    (λ k l n. above x (get_or xs middle (pos 0)) (get_or xs k (pos 0)) t (a.ascend middle k l n))
-  where
-    above : (x a b : ℤ) → x ≤ℤ a → a ≤ℤ b → x ≤ℤ b
-    above x a b h k = omega (arith, ints)
+    (λ k l n. le_le x (get_or xs middle (pos 0)) (get_or xs k (pos 0)) t (a.ascend middle k l n))
 
 -- what the code's test says
 wide_fits : (z : ℤ) → FitsSigned w32 z → FitsSigned w64 z

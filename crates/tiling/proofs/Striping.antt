@@ -6,6 +6,7 @@ use Rattle.std.proofs.lemmas.Int.{ints, by_lt_z}
 use Rattle.std.proofs.lemmas.Nat.{div-add-mod', mul-le}
 use Rattle.geom.specs.Limit.{IsWithin}
 use Rattle.geom.specs.declared.rect.Rect.{Rect}
+use Rattle.geom.proofs.Numbers.{le_le, itself, weak}
 use Rattle.tiling.specs.Index.{AreIndexed, AreReaching}
 use Rattle.tiling.specs.Strips.{HasStripRoom, IsFill, IsInStrip, MeetsStrip, Striped, strip_count}
 use Rattle.tiling.specs.Tiles.{steps}
@@ -29,12 +30,9 @@ count_back low high width order =
 -- the strip of a number from low to high is one of them
 pub strip_within : (low high x : ℤ) (width strip : ℕ) → 0 < width → low ≤ℤ x → x ≤ℤ high → steps low width x ≡ pos strip → strip < nat_abs (steps low width high) + 1
 strip_within low high x width strip some a b e =
-    let i = inside low high x width (nat_abs (steps low width high) + 1) some a b (count_back low high width (through low x high a b)) in
+    let i = inside low high x width (nat_abs (steps low width high) + 1) some a b (count_back low high width (le_le low x high a b)) in
     let n : i.number ≡ strip = pos_same _ _ (sym i.is ∙ e) in
     omega (arith, i.within)
-  where
-    through : (a b c : ℤ) → a ≤ℤ b → b ≤ℤ c → a ≤ℤ c
-    through a b c h k = omega (arith, ints)
 
 -- a strip begins at or before high
 pub strip_room : (low high : ℤ) (width strip : ℕ) → HasStripRoom low high width → strip < nat_abs (steps low width high) + 1 → strip * width ≤ 2 ^ 29
@@ -79,16 +77,10 @@ record Shared (a b c d : ℤ) : Type 0 where
   c_to : c ≤ℤ at
   to_d : at ≤ℤ d
 
-itself : (a : ℤ) → a ≤ℤ a
-itself a = omega (arith, ints)
-
-at_most : (a b : ℤ) → a <ℤ b → a ≤ℤ b
-at_most a b h = omega (arith, ints)
-
 -- two intervals of which neither is past the other have a common number
 shared : (a b c d : ℤ) → a ≤ℤ b → c ≤ℤ d → a ≤ℤ d → c ≤ℤ b → Shared a b c d
 shared a b c d h k l m = by_lt_z a c
-    (λ n. record { at = c; a_to = at_most a c n; to_b = m; c_to = itself c; to_d = k })
+    (λ n. record { at = c; a_to = weak a c n; to_b = m; c_to = itself c; to_d = k })
     (λ n. record { at = a; a_to = itself a; to_b = h; c_to = n; to_d = l })
 
 in_strip : (low x : ℤ) (width strip : ℕ) → 0 < width → (low +ℤ pos (strip * width)) ≤ℤ x → x ≤ℤ (low +ℤ pos (strip * width + width - 1)) → steps low width x ≡ pos strip
@@ -119,13 +111,10 @@ module _ (s : Striped) (strip : ℕ) (some : 0 < s.width) where
   reaches : (boxes : List Rect) (number : ℕ) → MeetsStrip s strip boxes number → (b : Rect) × (slice_get boxes number ≡ Some b) × (b.lo.x ≤ℤ last_in s strip) × (first_in s strip ≤ℤ b.hi.x)
   reaches boxes number (b, e, (x, i, j, k)) =
       let c = column_from_steps s.low x s.width strip some k in
-      (b, e, before s.low x (strip * s.width) s.width b.lo.x i c.to, after (first_in s strip) x b.hi.x c.from j)
+      (b, e, before s.low x (strip * s.width) s.width b.lo.x i c.to, le_le (first_in s strip) x b.hi.x c.from j)
     where
       before : (low x : ℤ) (a w : ℕ) (l : ℤ) → l ≤ℤ x → x <ℤ (low +ℤ pos (a + w)) → l ≤ℤ (low +ℤ pos (a + w - 1))
       before low x a w l i h = omega (arith, ints)
-
-      after : (f x r : ℤ) → f ≤ℤ x → x ≤ℤ r → f ≤ℤ r
-      after f x r h j = omega (arith, ints)
 
   found_is : (boxes : List Rect) (out : List ℕ) → AreReaching boxes (first_in s strip) (last_in s strip) out → IsFill s strip boxes out
   found_is boxes out r = record { ascending = r.ascending; exact = λ number. (λ c. meets boxes number ((r.exact number).0 c), λ m. (r.exact number).1 (reaches boxes number m)) }

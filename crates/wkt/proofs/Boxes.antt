@@ -11,6 +11,7 @@ use Rattle.geom.specs.Box.{IsInBox}
 use Rattle.geom.specs.Bounds.{HoldsSteps, IsBox}
 use Rattle.geom.proofs.Integers.{linear}
 use Rattle.geom.proofs.Lists.{In, contains_in, in_contains}
+use Rattle.geom.proofs.Numbers.{max_left, max_right, itself}
 use Rattle.wkt.specs.Surveying.{Corners, corners, grown, grown_by}
 
 min_left : (x y : ℤ) → int_min x y ≤ℤ x
@@ -22,20 +23,11 @@ min_right x y = omega (arith, linear, int_min_is x y)
 le_min : (q x y : ℤ) → q ≤ℤ x → q ≤ℤ y → q ≤ℤ int_min x y
 le_min q x y h k = omega (arith, linear, int_min_is x y, h, k)
 
-max_left : (x y : ℤ) → x ≤ℤ int_max x y
-max_left x y = omega (arith, linear, int_max_is x y)
-
-max_right : (x y : ℤ) → y ≤ℤ int_max x y
-max_right x y = omega (arith, linear, int_max_is x y)
-
 max_le : (q x y : ℤ) → x ≤ℤ q → y ≤ℤ q → int_max x y ≤ℤ q
 max_le q x y h k = omega (arith, linear, int_max_is x y, h, k)
 
 le_trans : {x y z : ℤ} → x ≤ℤ y → y ≤ℤ z → x ≤ℤ z
 le_trans h k = omega (arith, linear)
-
-le_refl : (x : ℤ) → x ≤ℤ x
-le_refl x = omega (arith, linear)
 
 -- p lies between the corners
 record Spans (c : Corners) (p : Pt) : Type 0 where
@@ -97,7 +89,7 @@ abbrev one : Pt → Corners
 one p = record { lo = p; hi = p }
 
 spans_one : (p : Pt) → Spans (one p) p
-spans_one p = record { left = le_refl p.x; right = le_refl p.x; bottom = le_refl p.y; top = le_refl p.y }
+spans_one p = record { left = itself p.x; right = itself p.x; bottom = itself p.y; top = itself p.y }
 
 hull_more : (done : List (Pt × Pt)) (o : Option Corners) (s : Pt × Pt) → Hull done o → Hull (done ++ s ∷ []) (grown_by o s)
 hull_more done None s e = record {

@@ -13,7 +13,7 @@ use Rattle.wkt.specs.declared.reader.Reader.{Reader}
 use Rattle.wkt.specs.declared.reader.Event.TheVariants.{Point as EventPoint}
 use Rattle.wkt.specs.LayerText.{multipolygon_word, empty_word}
 use Rattle.wkt.specs.Machine.{class_of, turn, opened, closed, Notes, signed, number, noted, is_multi_after}
-use Rattle.wkt.specs.Reading.{u32_max, number_next, x_next, event_of, IsNumeralOf, StandsFor, Idle, ReaderIs, Says, Went}
+use Rattle.wkt.specs.Reading.{u32_max, number_next, x_next, event_of, IsNumeralOf, IsNumeralFor, Idle, ReaderIs, Says, Went}
 use Rattle.wkt.proofs.Bytes.{IsKind, kinds}
 use Rattle.wkt.proofs.Fronts.{noted_multi}
 
@@ -57,10 +57,10 @@ numbers at AfterPoint Close c m s h = h
 numbers at p k c m s h = h
 
 -- the number at hand
-at_hand : (c : Numeral) (m : Notes) → IsNumberOf c m → StandsFor c (number m)
+at_hand : (c : Numeral) (m : Notes) → IsNumberOf c m → IsNumeralFor c (number m)
 at_hand c m h = (m.magnitude, sym h.0, ap (λ (b : Bool). signed b m.magnitude) (sym h.1), h.2)
 
-firsts : (at : ℕ) (p : Place) (k : Class) (x c : Numeral) (m : Notes) → StandsFor x m.x → IsNumberOf c m → StandsFor (x_next p k x c) (noted at p k m).x
+firsts : (at : ℕ) (p : Place) (k : Class) (x c : Numeral) (m : Notes) → IsNumeralFor x m.x → IsNumberOf c m → IsNumeralFor (x_next p k x c) (noted at p k m).x
 firsts at DigitsX Space x c m h n = at_hand c m n
 firsts at BeforePoint Minus x c m h n = h
 firsts at BeforeY Minus x c m h n = h
@@ -78,7 +78,7 @@ firsts at DigitsY Close x c m h n = h
 firsts at AfterPoint Close x c m h n = h
 firsts at p k x c m h n = h
 
-says : (at : ℕ) (p : Place) (k : Class) (x c : Numeral) (m : Notes) → StandsFor x m.x → IsNumberOf c m → Idle p m → Says (event_of p k x c) at m (noted at p k m)
+says : (at : ℕ) (p : Place) (k : Class) (x c : Numeral) (m : Notes) → IsNumeralFor x m.x → IsNumberOf c m → Idle p m → Says (event_of p k x c) at m (noted at p k m)
 says at BeforeRing Open x c m h n i = (refl, refl, refl, i)
 says at DigitsY Space x c m h n i = (record { x = m.x; y = number m }, (h, at_hand c m n), refl, refl, refl)
 says at DigitsY Comma x c m h n i = (record { x = m.x; y = number m }, (h, at_hand c m n), refl, refl, refl)

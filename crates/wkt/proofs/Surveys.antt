@@ -13,7 +13,7 @@ use Rattle.geom.specs.declared.fault.Fault.{Fault}
 use Rattle.geom.specs.declared.fault.Fault.TheVariants.{RingShort, RingOpen}
 use Rattle.wkt.specs.LayerText.{Number, Point, Ring}
 use Rattle.wkt.specs.Machine.{Notes, signed}
-use Rattle.wkt.specs.Reading.{u32_max, value_of, StandsFor, StandFor, Says}
+use Rattle.wkt.specs.Reading.{u32_max, value_of, IsNumeralFor, StandFor, Says}
 use Rattle.geom.specs.Limit.{coordinate_limit}
 use Rattle.geom.specs.Segments.{same_point}
 use Rattle.wkt.specs.Refusals.{numbers, all_numbers, first_outside, place_of, last_of, fault_at, or_else, first_fault}
@@ -164,7 +164,7 @@ either false = inr refl
 abbrev pub Valued : Numeral → Number → Type 0
 Valued c x = ((value_of c ≡ None) × (nat_lt coordinate_limit (unsigned_abs x.value) ≡ true)) ⊎ ((value_of c ≡ Some x.value) × (nat_lt coordinate_limit (unsigned_abs x.value) ≡ false))
 
-pub value_cases : (c : Numeral) (x : Number) → StandsFor c x → Valued c x
+pub value_cases : (c : Numeral) (x : Number) → IsNumeralFor c x → Valued c x
 value_cases c x (k, at, v, mag) =
     let abs : unsigned_abs x.value ≡ k = ap unsigned_abs v ∙ abs_signed c.negative k in
     let test : nat_lt coordinate_limit c.magnitude ≡ nat_lt coordinate_limit k = ap (nat_lt coordinate_limit) mag ∙ lt_same k in

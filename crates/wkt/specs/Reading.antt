@@ -50,8 +50,8 @@ abbrev pub IsNumeralOf : Numeral → ℕ → Bool → ℕ → Type 0
 IsNumeralOf c at negative k = (c.at ≡ at) × (c.negative ≡ negative) × (c.magnitude ≡ min k u32_max)
 
 -- the numeral stands for the number
-abbrev pub StandsFor : Numeral → Number → Type 0
-StandsFor c x = (k : ℕ) × (x.at ≡ c.at) × (x.value ≡ signed c.negative k) × (c.magnitude ≡ min k u32_max)
+abbrev pub IsNumeralFor : Numeral → Number → Type 0
+IsNumeralFor c x = (k : ℕ) × (x.at ≡ c.at) × (x.value ≡ signed c.negative k) × (c.magnitude ≡ min k u32_max)
 
 -- outside a ring no points are at hand
 abbrev pub Idle : Place → Notes → Type 0
@@ -65,11 +65,11 @@ Idle AfterPoint m = Unit {0}
 Idle p m = m.points ≡ []
 
 abbrev pub ReaderIs : Reader → Notes → Type 0
-ReaderIs r m = (r.multi ≡ m.multi) × StandsFor r.x m.x × IsNumeralOf r.number m.number_at m.negative m.magnitude × Idle r.place m
+ReaderIs r m = (r.multi ≡ m.multi) × IsNumeralFor r.x m.x × IsNumeralOf r.number m.number_at m.negative m.magnitude × Idle r.place m
 
 -- the numerals stand for a point
 abbrev pub StandFor : Numeral → Numeral → Point → Type 0
-StandFor x y p = StandsFor x p.x × StandsFor y p.y
+StandFor x y p = IsNumeralFor x p.x × IsNumeralFor y p.y
 
 -- what an event says of the notes before it and behind it
 abbrev pub Says : Event → ℕ → Notes → Notes → Type 0

@@ -5,9 +5,9 @@ use Rattle.std.specs.Int.{w128}
 use Rattle.std.proofs.lemmas.Int.{ints}
 use Rattle.geom.specs.Limit.{IsQuotientWithin, IsWithin, coordinate_limit}
 use Rattle.geom.proofs.Integers.{linear, mul_nonneg}
-use Rattle.geom.proofs.Fraction.{gap_is, from_gap}
 use Rattle.geom.proofs.Bounds.{within_room, product_within, difference_within, fits_64, fits_128}
 use Rattle.geom.proofs.Identity.{var, ◌⊕◌, ◌⊖◌, ◌⊗◌, ring}
+use Rattle.geom.proofs.Numbers.{gap_is, from_gap}
 use Rattle.crossing.proofs.common_point.numerator_at.Goals as goal
 
 first_is : (det start s r : ℤ) → IsWithin (2 ^ 59) det → IsWithin (2 ^ 28) start → s ≡ to_z w32 (of_z w32 start) → r ≡ to_z w64 (of_z w64 det) *ℤ to_z w64 (of_z w64 s) → r ≡ det *ℤ start

@@ -1,5 +1,5 @@
 use Rattle.std.proofs.Common.{◌^◌, refl}
-use Rattle.polygonize.proofs.GapsBelow.{distance_in, ends_in_limit, gap_made, kept, kept_distance, not_below, not_over, same_within}
+use Rattle.polygonize.proofs.EdgesBelow.GapsBelow.{distance_in, ends_in_limit, gap_made, kept, kept_distance, not_below, not_over, same_within}
 use Rattle.polygonize.proofs.below.gap_below.Goals as goal
 
 pub is_over-requires-clause-edge_in : goal.is_over-requires-clause-edge_in

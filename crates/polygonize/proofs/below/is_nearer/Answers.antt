@@ -1,4 +1,4 @@
-use Rattle.polygonize.proofs.GapsBelow.{by_rise, less_by_side, not_both}
+use Rattle.polygonize.proofs.EdgesBelow.GapsBelow.{by_rise, less_by_side, not_both}
 use Rattle.polygonize.proofs.below.is_nearer.Goals as goal
 
 pub returns-then-first-second : goal.returns-then-first-second

@@ -1,5 +1,5 @@
-use Rattle.polygonize.proofs.GapsBelow.{over_tests}
-use Rattle.polygonize.proofs.Columns.{back}
+use Rattle.polygonize.proofs.EdgesBelow.GapsBelow.{over_tests}
+use Rattle.polygonize.proofs.EdgesBelow.Columns.{back}
 use Rattle.polygonize.proofs.below.is_over.Goals as goal
 
 pub returns-then-edge-v : goal.returns-then-edge-v

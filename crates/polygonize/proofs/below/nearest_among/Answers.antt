@@ -1,7 +1,7 @@
 use Rattle.std.proofs.Common.{arith}
 use Rattle.polygonize.specs.Below.{IsAsNear}
 use Rattle.polygonize.specs.Next.{edge_at}
-use Rattle.polygonize.proofs.Nearness.{by_number, none_yet, one_more}
+use Rattle.polygonize.proofs.EdgesBelow.Nearness.{by_number, none_yet, one_more}
 use Rattle.polygonize.proofs.below.nearest_among.Goals as goal
 
 pub loop-number-init : goal.loop-number-init

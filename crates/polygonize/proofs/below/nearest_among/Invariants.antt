@@ -1,4 +1,4 @@
-use Rattle.polygonize.proofs.Nearness.{NearestSoFar}
+use Rattle.polygonize.proofs.EdgesBelow.Nearness.{NearestSoFar}
 use Rattle.polygonize.proofs.below.nearest_among.Given as goal
 
 abbrev pub invariant-loop-number : goal.invariant-loop-number

@@ -1,5 +1,5 @@
 use Rattle.std.proofs.Common.{take}
-use Rattle.polygonize.proofs.Columns.{SpreadSoFar}
+use Rattle.polygonize.proofs.EdgesBelow.Columns.{SpreadSoFar}
 use Rattle.polygonize.proofs.column.columns_of.Given as goal
 
 abbrev pub invariant-loop-place : goal.invariant-loop-place

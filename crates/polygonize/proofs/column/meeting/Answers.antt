@@ -3,7 +3,7 @@ use Rattle.std.specs.Prelude.{Contains}
 use Rattle.polygonize.specs.Column.{Meets, Spans}
 use Rattle.polygonize.specs.Next.{edge_at}
 use Rattle.polygonize.proofs.Filtered.{one_kept, one_left}
-use Rattle.polygonize.proofs.Nearness.{by_number}
+use Rattle.polygonize.proofs.EdgesBelow.Nearness.{by_number}
 use Rattle.polygonize.proofs.column.meeting.Goals as goal
 use Rattle.polygonize.proofs.column.meeting.Goals.{then-not-spans+then-meets+in_ok-push, else-not-spans, else-not-spans-via-then-not-spans+else-meets, else-not-spans-via-else-not-spans}
 

@@ -1,4 +1,4 @@
-use Rattle.polygonize.proofs.Columns.{back, first_way, two_ways}
+use Rattle.polygonize.proofs.EdgesBelow.Columns.{back, first_way, two_ways}
 use Rattle.polygonize.proofs.column.meets.Goals as goal
 
 pub returns-else-reaches : goal.returns-else-reaches

@@ -1,6 +1,6 @@
 use Rattle.std.proofs.Common.{◌≡◌, ◌<◌, length, vec_len, slice_index_or, ◌∙◌, arith}
 use Rattle.std.proofs.lemmas.List.{get_or_default}
-use Rattle.polygonize.proofs.Cutting.{Ready, cutting_push, after_take, cutting_all}
+use Rattle.polygonize.proofs.RingPieces.Cutting.{Ready, cutting_push, after_take, cutting_all}
 use Rattle.polygonize.proofs.cut.cut.Goals as goal
 use Rattle.polygonize.proofs.cut.cut.Goals.{in-Some+in_ok-piece+in_ok-push, in_default}
 

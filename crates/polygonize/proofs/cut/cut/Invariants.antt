@@ -1,4 +1,4 @@
-use Rattle.polygonize.proofs.Cutting.{Cutting}
+use Rattle.polygonize.proofs.RingPieces.Cutting.{Cutting}
 use Rattle.polygonize.proofs.cut.cut.Given as goal
 
 abbrev pub invariant-loop-v : goal.invariant-loop-v

@@ -1,4 +1,4 @@
-use Rattle.polygonize.proofs.GapsBelow.{ends_in_limit}
+use Rattle.polygonize.proofs.EdgesBelow.GapsBelow.{ends_in_limit}
 use Rattle.polygonize.proofs.ladder.heights_of.Goals as goal
 
 pub height_over-requires-clause-edge_in : goal.height_over-requires-clause-edge_in

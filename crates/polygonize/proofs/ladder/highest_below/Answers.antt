@@ -1,8 +1,8 @@
 use Rattle.std.proofs.Common.{refl, sym, ◌∙◌, arith}
 use Rattle.polygonize.specs.Below.{IsAsNear}
 use Rattle.polygonize.specs.Next.{edge_at}
-use Rattle.polygonize.proofs.Ladders.{goes_down, goes_up, search_begins, search_ends}
-use Rattle.polygonize.proofs.Nearness.{by_number}
+use Rattle.polygonize.proofs.EdgesBelow.Ladders.{goes_down, goes_up, search_begins, search_ends}
+use Rattle.polygonize.proofs.EdgesBelow.Nearness.{by_number}
 use Rattle.polygonize.proofs.ladder.highest_below.Goals as goal
 
 pub loop-low-init : goal.loop-low-init

@@ -1,5 +1,5 @@
 use Rattle.std.proofs.Common.{◌-◌}
-use Rattle.polygonize.proofs.Ladders.{IsSearched}
+use Rattle.polygonize.proofs.EdgesBelow.Ladders.{IsSearched}
 use Rattle.polygonize.proofs.ladder.highest_below.Given as goal
 
 abbrev pub invariant-loop-low : goal.invariant-loop-low

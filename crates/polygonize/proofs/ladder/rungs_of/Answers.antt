@@ -4,7 +4,7 @@ use Rattle.polygonize.specs.Column.{Spans}
 use Rattle.polygonize.specs.Next.{edge_at}
 use Rattle.polygonize.specs.declared.ladder.Rung.{Rung}
 use Rattle.polygonize.proofs.Filtered.{one_kept, one_left}
-use Rattle.polygonize.proofs.Ladders.{are_spanning}
+use Rattle.polygonize.proofs.EdgesBelow.Ladders.{are_spanning}
 use Rattle.polygonize.proofs.ladder.rungs_of.Goals as goal
 use Rattle.polygonize.proofs.ladder.rungs_of.Goals.{then-spans+in_ok-push, else-spans}
 

@@ -3,7 +3,7 @@ use Rattle.std.proofs.lemmas.List.Sorted.{IsPermutation-map}
 use Rattle.std.proofs.lemmas.Result.{IfOk-weaker}
 use Rattle.polygonize.specs.Ladder.{AreSpanning}
 use Rattle.polygonize.specs.declared.ladder.Rung.{Rung}
-use Rattle.polygonize.proofs.Ladders.{spanning_sorted}
+use Rattle.polygonize.proofs.EdgesBelow.Ladders.{spanning_sorted}
 use Rattle.polygonize.proofs.ladder.spanning.Goals as goal
 
 pub returns : goal.returns

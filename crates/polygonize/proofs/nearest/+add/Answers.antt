@@ -2,7 +2,7 @@ use Rattle.std.proofs.Common.{◌<◌, ℕ, List, sym, ◌∙◌, subst, arith, 
 use Rattle.std.specs.Prelude.{All}
 use Rattle.std.proofs.lemmas.List.Elements.{All-drop, All-take}
 use Rattle.polygonize.specs.Below.{AreNearer}
-use Rattle.polygonize.proofs.Searching.{halves_near, two_parts}
+use Rattle.polygonize.proofs.EdgesBelow.Searching.{halves_near, two_parts}
 use Rattle.polygonize.proofs.nearest.+add.Goals as goal
 
 pub add-requires : goal.add-requires

@@ -1,8 +1,8 @@
 use Rattle.std.proofs.Common.{slice_index_or, refl, arith}
 use Rattle.std.specs.Prelude.{Contains}
 use Rattle.polygonize.specs.Below.{best_at, vertex_at}
-use Rattle.polygonize.proofs.Nearness.{room_of}
-use Rattle.polygonize.proofs.Searching.{all_asked, nobody_asked, one_asked}
+use Rattle.polygonize.proofs.EdgesBelow.Nearness.{room_of}
+use Rattle.polygonize.proofs.EdgesBelow.Searching.{all_asked, nobody_asked, one_asked}
 use Rattle.polygonize.proofs.nearest.add_edges.Goals as goal
 
 pub loop-place-init : goal.loop-place-init

@@ -1,5 +1,5 @@
 use Rattle.std.specs.Prelude.{Contains}
-use Rattle.polygonize.proofs.Searching.{NearerSoFar}
+use Rattle.polygonize.proofs.EdgesBelow.Searching.{NearerSoFar}
 use Rattle.polygonize.proofs.nearest.add_edges.Given as goal
 
 abbrev pub invariant-loop-place : goal.invariant-loop-place

@@ -2,7 +2,7 @@ use Rattle.std.proofs.Common.{ℕ, List, sym, subst}
 use Rattle.std.specs.Prelude.{Contains}
 use Rattle.polygonize.specs.Column.{Spans}
 use Rattle.polygonize.specs.Next.{edge_at}
-use Rattle.polygonize.proofs.Searching.{for_fewer}
+use Rattle.polygonize.proofs.EdgesBelow.Searching.{for_fewer}
 use Rattle.polygonize.proofs.nearest.add_spanning.Goals as goal
 
 pub returns : goal.returns

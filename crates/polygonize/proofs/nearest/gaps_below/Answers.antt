@@ -1,7 +1,7 @@
 use Rattle.std.proofs.Common.{◌≡◌, ℕ, List, Option, sym, ◌∙◌, ap, subst, length, arith}
 use Rattle.polygonize.specs.Below.{AreGapsBelow, AreKnown, AreNearer}
 use Rattle.polygonize.specs.declared.below.Gap.{Gap}
-use Rattle.polygonize.proofs.Searching.{found_all, none_known, none_of, written_back}
+use Rattle.polygonize.proofs.EdgesBelow.Searching.{found_all, none_known, none_of, written_back}
 use Rattle.polygonize.proofs.nearest.gaps_below.Goals as goal
 
 pub add-requires-clause-known : goal.add-requires-clause-known

@@ -1,4 +1,4 @@
-use Rattle.polygonize.proofs.Ladders.{stand_in_order}
+use Rattle.polygonize.proofs.EdgesBelow.Ladders.{stand_in_order}
 use Rattle.polygonize.proofs.nearest.nearest_of.Goals as goal
 
 pub highest_below-requires-clause-order : goal.highest_below-requires-clause-order

@@ -1,6 +1,6 @@
 use Rattle.std.proofs.Common.{◌++◌, ◌∷◌, [], get_or, ◌∙◌, ap}
 use Rattle.polygonize.specs.Next.{edge_at}
-use Rattle.polygonize.proofs.Writing.{mapped_more}
+use Rattle.polygonize.proofs.WrittenRings.Writing.{mapped_more}
 use Rattle.polygonize.proofs.number.first_vertices.Goals as goal
 
 pub loop-cycle-preserved : goal.loop-cycle-preserved

@@ -1,4 +1,4 @@
-use Rattle.polygonize.proofs.FirstPiece.{later_held, still_held, first_held}
+use Rattle.polygonize.proofs.RingPieces.FirstPiece.{later_held, still_held, first_held}
 use Rattle.polygonize.proofs.piece.first_piece.Goals as goal
 use Rattle.polygonize.proofs.piece.first_piece.Goals.{then-comes_later, else-comes_later}
 

@@ -1,5 +1,5 @@
 use Rattle.std.proofs.Common.{◌<◌, length}
-use Rattle.polygonize.proofs.FirstPiece.{IsBest}
+use Rattle.polygonize.proofs.RingPieces.FirstPiece.{IsBest}
 use Rattle.polygonize.proofs.piece.first_piece.Given as goal
 
 abbrev pub invariant-loop-i : goal.invariant-loop-i

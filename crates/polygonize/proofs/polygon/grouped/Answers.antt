@@ -1,7 +1,7 @@
 use Rattle.std.proofs.Common.{◌∙◌, ap, length, sym}
 use Rattle.polygonize.specs.Next.{ring_of}
 use Rattle.polygonize.specs.Placed.{points, stands_as_hole}
-use Rattle.polygonize.proofs.Grouping.{in_range, one_group_more, one_polygon, shell_next}
+use Rattle.polygonize.proofs.TextOrder.Grouping.{in_range, one_group_more, one_polygon, shell_next}
 use Rattle.polygonize.proofs.polygon.grouped.Goals as goal
 
 pub loop-at-preserved : goal.loop-at-preserved

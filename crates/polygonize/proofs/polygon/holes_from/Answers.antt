@@ -1,7 +1,7 @@
 use Rattle.std.proofs.Common.{◌∙◌, ap, arith, sym}
 use Rattle.std.proofs.lemmas.Grind.{common_steps}
 use Rattle.polygonize.specs.Placed.{stands_as_hole}
-use Rattle.polygonize.proofs.Grouping.{one_hole}
+use Rattle.polygonize.proofs.TextOrder.Grouping.{one_hole}
 use Rattle.polygonize.proofs.polygon.holes_from.Goals as goal
 
 pub loop-end-preserved : goal.loop-end-preserved

@@ -9,11 +9,11 @@ use Rattle.polygonize.specs.Grouped.{AreGrouped}
 use Rattle.polygonize.specs.Next.{ring_of}
 use Rattle.polygonize.specs.Written.{AreSimple, IsCanonical, IsSound}
 use Rattle.polygonize.specs.Placed.{points, stands_as_hole}
-use Rattle.polygonize.proofs.Ordered.{grouped_polygons, shell_first}
-use Rattle.polygonize.proofs.PlacedRings.{sorted_by}
-use Rattle.polygonize.proofs.Places.{place_cmp}
+use Rattle.polygonize.proofs.TextOrder.Ordered.{grouped_polygons, shell_first}
+use Rattle.polygonize.proofs.TextOrder.PlacedRings.{sorted_by}
+use Rattle.polygonize.proofs.TextOrder.Places.{place_cmp}
 use Rattle.polygonize.proofs.Least.{least_rings, simple_rings}
-use Rattle.polygonize.proofs.Writing.{text_has_each, unmapped}
+use Rattle.polygonize.proofs.WrittenRings.Writing.{text_has_each, unmapped}
 use Rattle.polygonize.proofs.polygon.polygons.Goals as goal
 
 pub grouped-requires : goal.grouped-requires

@@ -1,6 +1,6 @@
 use Rattle.polygonize.specs.Number.{IsVertex}
 use Rattle.polygonize.specs.Next.{edge_at}
-use Rattle.polygonize.proofs.Mapping.{simple_map}
+use Rattle.polygonize.proofs.RingPieces.Mapping.{simple_map}
 use Rattle.polygonize.proofs.Numbers.{same_vertex}
 use Rattle.polygonize.proofs.polygon.simple_ring.Goals as goal
 

@@ -2,7 +2,7 @@ use Rattle.std.specs.Prelude.{All}
 use Rattle.std.proofs.lemmas.List.Elements.{All-weaker}
 use Rattle.std.proofs.lemmas.Result.{IfOk-weaker}
 use Rattle.polygonize.proofs.CycleRings.{are_rings, edges_of_cycle}
-use Rattle.polygonize.proofs.Writing.{places_of}
+use Rattle.polygonize.proofs.WrittenRings.Writing.{places_of}
 use Rattle.polygonize.specs.Cycle.{AreCycles, IsCycle}
 use Rattle.geom.specs.Rings.{AreRings}
 use Rattle.polygonize.specs.Next.{rings_of}

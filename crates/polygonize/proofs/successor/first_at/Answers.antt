@@ -2,7 +2,7 @@ use Rattle.std.proofs.Common.{arith, rules}
 use Rattle.std.proofs.lemmas.List.Sorted.{IsPartitionPoint-from_clause}
 use Rattle.polygonize.specs.declared.leaving.Leaving.{Leaving}
 use Rattle.polygonize.specs.Clockwise.{less}
-use Rattle.polygonize.proofs.RoundVertex.{parted_at}
+use Rattle.polygonize.proofs.NextEdge.RoundVertex.{parted_at}
 use Rattle.polygonize.proofs.successor.first_at.Goals as goal
 
 pub returns : goal.returns

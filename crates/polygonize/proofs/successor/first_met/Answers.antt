@@ -1,7 +1,7 @@
 use Rattle.std.proofs.Common.{◌≡◌, ◌∙◌, ap, sym, arith, rules}
 use Rattle.std.proofs.lemmas.List.{get_or_default}
 use Rattle.polygonize.specs.declared.leaving.Leaving.{Leaving}
-use Rattle.polygonize.proofs.RoundVertex.{first_at, first_past}
+use Rattle.polygonize.proofs.NextEdge.RoundVertex.{first_at, first_past}
 use Rattle.polygonize.proofs.successor.first_met.Goals as goal
 use Rattle.polygonize.proofs.successor.first_met.Goals.{else-past-leaving-via-then-past-leaving+else-is_at, else-past-leaving-via-else-past-leaving}
 

@@ -1,7 +1,7 @@
 use Rattle.std.proofs.Common.{arith, rules}
 use Rattle.std.proofs.lemmas.List.Sorted.{IsPartitionPoint-from_clause}
 use Rattle.polygonize.specs.Leaving.{leaves_sooner}
-use Rattle.polygonize.proofs.RoundVertex.{parted_by}
+use Rattle.polygonize.proofs.NextEdge.RoundVertex.{parted_by}
 use Rattle.polygonize.proofs.successor.first_past.Goals as goal
 
 pub returns : goal.returns

@@ -1,6 +1,6 @@
 use Rattle.std.proofs.lemmas.List.Elements.{Contains-get_or}
 use Rattle.polygonize.specs.Next.{nothing, edge_at}
-use Rattle.polygonize.proofs.RoundVertex.{next_place, some_leaves}
+use Rattle.polygonize.proofs.NextEdge.RoundVertex.{next_place, some_leaves}
 use Rattle.polygonize.proofs.successor.next_place.Goals as goal
 
 pub first_met-requires-clause-some : goal.first_met-requires-clause-some

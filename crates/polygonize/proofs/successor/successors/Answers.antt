@@ -1,5 +1,5 @@
 use Rattle.std.proofs.Common.{◌≡◌, ◌∙◌, length, arith}
-use Rattle.polygonize.proofs.Linking.{are_next, more_linked, one_to_one}
+use Rattle.polygonize.proofs.NextEdge.Linking.{are_next, more_linked, one_to_one}
 use Rattle.polygonize.proofs.successor.successors.Goals as goal
 
 pub loop-place-preserved : goal.loop-place-preserved

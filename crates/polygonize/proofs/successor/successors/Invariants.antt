@@ -1,4 +1,4 @@
-use Rattle.polygonize.proofs.Linking.{Linked}
+use Rattle.polygonize.proofs.NextEdge.Linking.{Linked}
 use Rattle.polygonize.proofs.successor.successors.Given as goal
 
 abbrev pub invariant-loop-place : goal.invariant-loop-place

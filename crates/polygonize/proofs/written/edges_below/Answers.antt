@@ -6,7 +6,7 @@ use Rattle.geom.specs.declared.point.Pt.{Pt}
 use Rattle.geom.specs.Limit.{InLimit}
 use Rattle.polygonize.specs.Below.{AreFoundBelow, AreGapsBelow}
 use Rattle.polygonize.specs.Next.{edge_at, nothing}
-use Rattle.polygonize.proofs.Searching.{below_all}
+use Rattle.polygonize.proofs.EdgesBelow.Searching.{below_all}
 use Rattle.polygonize.proofs.written.edges_below.Goals as goal
 
 pub gaps_below-requires-clause-vertices_in : goal.gaps_below-requires-clause-vertices_in

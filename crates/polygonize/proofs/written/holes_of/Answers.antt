@@ -3,7 +3,7 @@ use Rattle.geom.specs.Holes.{IsHole}
 use Rattle.polygonize.specs.Next.{ring_of}
 use Rattle.polygonize.specs.Written.{ArePlaces}
 use Rattle.polygonize.proofs.Filtered.{one_kept, one_left}
-use Rattle.polygonize.proofs.Writing.{hole_at, of_cycle, ring_least, ring_vertices}
+use Rattle.polygonize.proofs.WrittenRings.Writing.{hole_at, of_cycle, ring_least, ring_vertices}
 use Rattle.polygonize.proofs.written.holes_of.Goals as goal
 use Rattle.polygonize.proofs.written.holes_of.Goals.{then-is_hole+in_ok-push, else-is_hole}
 

@@ -1,5 +1,5 @@
 use Rattle.std.proofs.Common.{arith}
-use Rattle.polygonize.proofs.Keeping.{kept_all, kept_none}
+use Rattle.polygonize.proofs.WrittenRings.Keeping.{kept_all, kept_none}
 use Rattle.polygonize.proofs.written.keep_shell.Goals as goal
 
 pub loop-place-init : goal.loop-place-init

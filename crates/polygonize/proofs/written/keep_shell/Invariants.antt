@@ -1,4 +1,4 @@
-use Rattle.polygonize.proofs.Keeping.{KeepsSoFar}
+use Rattle.polygonize.proofs.WrittenRings.Keeping.{KeepsSoFar}
 use Rattle.polygonize.proofs.written.keep_shell.Given as goal
 
 abbrev pub invariant-loop-place : goal.invariant-loop-place

@@ -1,7 +1,7 @@
 use Rattle.std.proofs.Common.{sym}
 use Rattle.polygonize.specs.Written.{ArePlaces}
-use Rattle.polygonize.proofs.CyclesWritten.{all_filled, next_filled, nothing_filled}
-use Rattle.polygonize.proofs.Writing.{all_written, below_cycle, cycle_at, nothing_written, of_cycle, one_written}
+use Rattle.polygonize.proofs.WrittenRings.CyclesWritten.{all_filled, next_filled, nothing_filled}
+use Rattle.polygonize.proofs.WrittenRings.Writing.{all_written, below_cycle, cycle_at, nothing_written, of_cycle, one_written}
 use Rattle.polygonize.proofs.written.write_cycles.Goals as goal
 
 pub loop-number-init : goal.loop-number-init

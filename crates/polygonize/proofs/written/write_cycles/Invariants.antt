@@ -2,10 +2,10 @@ use Rattle.std.proofs.Common.{[], map}
 use Rattle.geom.specs.Holes.{AreGrounded}
 use Rattle.geom.specs.NodedEdges.{AreNodedEdges}
 use Rattle.polygonize.specs.Next.{rings_of}
-use Rattle.polygonize.proofs.CyclesWritten.{AreFilled}
+use Rattle.polygonize.proofs.WrittenRings.CyclesWritten.{AreFilled}
 use Rattle.polygonize.specs.Placed.{rings_in}
 use Rattle.polygonize.specs.Stack.{AreStacked}
-use Rattle.polygonize.proofs.Writing.{Writing}
+use Rattle.polygonize.proofs.WrittenRings.Writing.{Writing}
 use Rattle.polygonize.proofs.written.write_cycles.Given as goal
 
 abbrev pub invariant-loop-number : goal.invariant-loop-number

@@ -2,9 +2,9 @@ use Rattle.std.proofs.Common.{refl, ap, ◌∙◌, ◌||◌, ◌==◌, not, arit
 use Rattle.std.specs.Prelude.{is_some}
 use Rattle.polygonize.specs.Placed.{opening_of, rings_in}
 use Rattle.polygonize.specs.Written.{IsSound}
-use Rattle.polygonize.proofs.Turning.{none_added, step_added}
-use Rattle.polygonize.proofs.PiecesWritten.{all_pieces, none_entered, shell_itself, step_entered}
-use Rattle.polygonize.proofs.Writing.{last_of, rest_of, some_points, two_points}
+use Rattle.polygonize.proofs.WrittenRings.Turning.{none_added, step_added}
+use Rattle.polygonize.proofs.WrittenRings.PiecesWritten.{all_pieces, none_entered, shell_itself, step_entered}
+use Rattle.polygonize.proofs.WrittenRings.Writing.{last_of, rest_of, some_points, two_points}
 use Rattle.polygonize.proofs.written.write_pieces.Goals as goal
 
 pub loop-piece-init : goal.loop-piece-init

@@ -1,8 +1,8 @@
 use Rattle.std.specs.Prelude.{All, is_some, vec_len}
-use Rattle.polygonize.proofs.PiecesWritten.{Entering}
+use Rattle.polygonize.proofs.WrittenRings.PiecesWritten.{Entering}
 use Rattle.polygonize.specs.Placed.{rings_in}
 use Rattle.polygonize.specs.Written.{IsSound}
-use Rattle.polygonize.proofs.Turning.{Adding}
+use Rattle.polygonize.proofs.WrittenRings.Turning.{Adding}
 use Rattle.polygonize.proofs.written.write_pieces.Given as goal
 
 abbrev pub invariant-loop-piece : goal.invariant-loop-piece

@@ -1,4 +1,4 @@
-use Rattle.polygonize.proofs.Writing.{below_ring, cut_some, ring_least, ring_placed, ring_sound, ring_some, ring_vertices, ring_written, vertices_inside}
+use Rattle.polygonize.proofs.WrittenRings.Writing.{below_ring, cut_some, ring_least, ring_placed, ring_sound, ring_some, ring_vertices, ring_written, vertices_inside}
 use Rattle.polygonize.proofs.written.write_ring.Goals as goal
 
 pub owner_of-owner-requires-clause-vertices : goal.owner_of-owner-requires-clause-vertices

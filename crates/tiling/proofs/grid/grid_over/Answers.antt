@@ -1,5 +1,6 @@
 use Rattle.std.proofs.Common.{rules, arith, refl, to_z-of_z, FitsSigned, w32}
-use Rattle.tiling.proofs.Columns.{covers, near_28, wide}
+use Rattle.geom.proofs.Bounds.{within_room}
+use Rattle.tiling.proofs.Columns.{covers, wide}
 use Rattle.tiling.proofs.grid.grid_over.Goals as goal
 
 pub returns-then-tiles-from-clause-exact : goal.returns-then-tiles-from-clause-exact
@@ -27,8 +28,8 @@ invariant_of-result c =
     let g' : FitsSigned w32 r.hi.y = search rules in
     let b = c.requires.bounds in
     record {
-      left_near = rw (to_z-of_z f) (near_28 r.lo.x b.a_in.x_in);
-      bottom_near = rw (to_z-of_z g) (near_28 r.lo.y b.a_in.y_in);
+      left_near = rw (to_z-of_z f) (within_room r.lo.x b.a_in.x_in);
+      bottom_near = rw (to_z-of_z g) (within_room r.lo.y b.a_in.y_in);
       some_side = omega arith;
       side_small = let s = c.requires.side.1 in omega (arith, s);
       few = omega arith;

@@ -1,5 +1,6 @@
 use Rattle.std.proofs.Common.{rules, arith, refl, to_z-of_z, FitsSigned, w32}
-use Rattle.tiling.proofs.Columns.{covers, near_28, one_column_over}
+use Rattle.geom.proofs.Bounds.{within_room}
+use Rattle.tiling.proofs.Columns.{covers, one_column_over}
 use Rattle.tiling.proofs.grid.Grid.one_tile.Goals as goal
 
 pub invariant_of-result : goal.invariant_of-result
@@ -9,8 +10,8 @@ invariant_of-result c =
     let g : FitsSigned w32 r.lo.y = search rules in
     let b = c.requires in
     record {
-      left_near = rw (to_z-of_z f) (near_28 r.lo.x b.a_in.x_in);
-      bottom_near = rw (to_z-of_z g) (near_28 r.lo.y b.a_in.y_in);
+      left_near = rw (to_z-of_z f) (within_room r.lo.x b.a_in.x_in);
+      bottom_near = rw (to_z-of_z g) (within_room r.lo.y b.a_in.y_in);
       some_side = omega arith;
       side_small = omega arith;
       few = omega arith;

@@ -24,12 +24,12 @@ use Rattle.polygonize.specs.Next.{edge_at, ring_of}
 use Rattle.polygonize.specs.Number.{IsVertex}
 use Rattle.polygonize.specs.Piece.{last_point, ComesLater, IsFirstAmong, IsRingCut}
 use Rattle.polygonize.specs.Written.{IsSound}
-use Rattle.polygonize.proofs.Beginnings.{BeginsWith, holders_begin, one_begins, last_of, closes_last, arrives_last}
+use Rattle.polygonize.proofs.RingPieces.Beginnings.{BeginsWith, holders_begin, one_begins, last_of, closes_last, arrives_last}
 use Rattle.polygonize.proofs.Holes.{least_point}
-use Rattle.polygonize.proofs.Mapping.{cut_all, cut_map, cut_simple}
+use Rattle.polygonize.proofs.RingPieces.Mapping.{cut_all, cut_map, cut_simple}
 use Rattle.polygonize.proofs.Numbers.{same_vertex}
-use Rattle.polygonize.proofs.Sooner.{is_sooner, same_or_not}
-use Rattle.polygonize.proofs.Turns.{chain, one_way}
+use Rattle.polygonize.proofs.NextEdge.Sooner.{is_sooner, same_or_not}
+use Rattle.polygonize.proofs.NextEdge.Turns.{chain, one_way}
 
 -- ---- angles right of v: a is met before b where it lies counter-clockwise of b
 turned_sign : (a b : ℤ) → a ≡ neg_ℤ b → b <ℤ pos 0 → pos 0 <ℤ a

@@ -8,9 +8,9 @@ use Rattle.geom.specs.Directed.{AreDirected}
 use Rattle.geom.specs.NodedEdges.{AreNodedEdges}
 use Rattle.polygonize.specs.Grouped.{BeginsWithShell, AreGrouped}
 use Rattle.polygonize.specs.Placed.{PlacedRing, AreAllWritten, points, stands_as_hole}
-use Rattle.polygonize.proofs.Assembled.{are_one, assembled}
-use Rattle.polygonize.proofs.TextOrder.{begins, entries}
-use Rattle.polygonize.proofs.Places.{place_cmp}
+use Rattle.polygonize.proofs.TextOrder.Assembled.{are_one, assembled}
+use Rattle.polygonize.proofs.TextOrder.Entries.{begins, entries}
+use Rattle.polygonize.proofs.TextOrder.Places.{place_cmp}
 
 module _ (ds : List DirectedEdge) (a : AreDirected ds) (n : AreNodedEdges ds) (ws vs : List PlacedRing) where
   pub shell_first : AreAllWritten ds ws → IsPermutation ws vs → IsSortedByKey (λ w. w.place) place_cmp vs → BeginsWithShell stands_as_hole vs

@@ -11,6 +11,7 @@ use Rattle.geom.specs.declared.point.Pt.{Pt}
 use Rattle.geom.specs.declared.directed.DirectedEdge.{DirectedEdge}
 use Rattle.geom.specs.Order.{IsBefore}
 use Rattle.geom.proofs.Edges.{before_cases, before_by_cases}
+use Rattle.geom.proofs.Orders.{before_trans}
 use Rattle.geom.specs.Determinant.{side}
 use Rattle.geom.specs.Directed.{from_to, IsDirectedBefore, AreDirected}
 use Rattle.geom.specs.Rings.{IsSooner, IsMetBefore, IsNext}
@@ -18,7 +19,7 @@ use Rattle.polygonize.specs.declared.leaving.Leaving.{Leaving}
 use Rattle.polygonize.specs.Clockwise.{less, half, sooner}
 use Rattle.polygonize.specs.Leaving.{leaves_sooner}
 use Rattle.polygonize.specs.Next.{nothing, edge_at}
-use Rattle.polygonize.proofs.Turns.{less_is, is_less, neither_less, one_way, chain}
+use Rattle.polygonize.proofs.NextEdge.Turns.{less_is, is_less, neither_less, one_way, chain}
 use Rattle.polygonize.proofs.CycleRings.{less_not, less_apart}
 
 -- ---- tests and facts
@@ -85,11 +86,6 @@ pub one_before : (ds : List DirectedEdge) (t u v w : Pt) → Contains ds (from_t
 one_before ds t u v w c d n m = elim (same_or_not t u) [ inl e ↦ e | inr a ↦ absurd (turn_not v t u w (n.first u (inr d) (λ e. a (sym e)) (λ e. m.other (sym e))) (m.first t (inr c) a (λ e. n.other (sym e)))) ]
 
 -- ---- the order of the edges that leave
-less_trans : (p q r : Pt) → IsBefore p q → IsBefore q r → IsBefore p r
-less_trans p q r h k = before_by_cases p r (by_kind (before_cases p q h) (before_cases q r k))
-  where
-    both : (a b c : ℤ) → a <ℤ b → b <ℤ c → a <ℤ c
-    both a b c h k = omega (arith, ints)
 
     then : (a b c : ℤ) → a <ℤ b → b ≡ c → a <ℤ c
     then a b c h k = omega (arith, ints)
@@ -111,7 +107,7 @@ no_less : (p q : Pt) → less p q ≡ false → ¬ (IsBefore p q)
 no_less p q h k = false≢true (sym h ∙ is_less p q k)
 
 pub not_through : (p q r : Pt) → less p q ≡ false → less q r ≡ false → less p r ≡ false
-not_through p q r h k = not_less p r (λ m. elim (or_less p q h) [ inl n ↦ no_less q r k (less_trans q p r n m) | inr e ↦ no_less q r k (let P : Pt → Type 0 = λ t. IsBefore t r in subst P e m) ])
+not_through p q r h k = not_less p r (λ m. elim (or_less p q h) [ inl n ↦ no_less q r k (before_trans q p r n m) | inr e ↦ no_less q r k (let P : Pt → Type 0 = λ t. IsBefore t r in subst P e m) ])
 
 pub parts : (a b c : Bool) → a || (not b && c) ≡ false → (a ≡ false) × (b ≡ false → c ≡ false)
 parts true b c h = absurd (no h)

@@ -14,7 +14,8 @@ use Rattle.geom.specs.Holes.{IsHole}
 use Rattle.geom.specs.Rings.{ring_edges, IsSimple, IsCut, AreRings}
 use Rattle.geom.specs.Rings.IsCut.{whole, taken}
 use Rattle.geom.specs.Canonical.{Shape, HaveEachEdge, written_rings}
-use Rattle.geom.proofs.Lists.{In, contains_in, in_contains, map_in}
+use Rattle.geom.proofs.Lists.{In, contains_in, in_contains, map_in, in_front, in_back}
+use Rattle.geom.proofs.RingEdges.{in_flat, same_order, in_permutation, cut_edges}
 use Rattle.polygonize.specs.declared.written.Opening.{Opening}
 use Rattle.polygonize.specs.declared.below.Gap.{Gap}
 use Rattle.polygonize.specs.Below.{AreFoundBelow, IsFoundBelow}
@@ -24,18 +25,12 @@ use Rattle.polygonize.specs.Number.{AreNumbers, IsVertex}
 use Rattle.polygonize.specs.Owning.{ArePiecesWritten, IsOwnerFound, IsRingPlaced, KeepsShell}
 use Rattle.polygonize.specs.Placed.{PlacedRing}
 use Rattle.polygonize.specs.Written.{IsTurned, AreAdded, IsSound, IsCanonical, ArePlaces, IsRingWritten, HaveEdges, backward}
-use Rattle.polygonize.proofs.Lists.{same_order, in_permutation, in_left, in_right}
-use Rattle.polygonize.proofs.Pieces.{cut_edges, cut_long, Each}
-use Rattle.polygonize.proofs.Mapping.{cut_map, cut_all, cut_simple, all_left, all_right}
+use Rattle.polygonize.proofs.RingPieces.Pieces.{cut_long, Each}
+use Rattle.polygonize.proofs.RingPieces.Mapping.{cut_map, cut_all, cut_simple, all_left, all_right}
 use Rattle.polygonize.proofs.Numbers.{same_vertex, number_order, numbered_vertices, numbered_ring}
-use Rattle.polygonize.proofs.Turning.{edges_in, turned_all_edges, turned_all_sound, turned_sound}
+use Rattle.polygonize.proofs.WrittenRings.Turning.{edges_in, turned_all_edges, turned_all_sound, turned_sound}
 
 -- ---- the ring of a cycle and its pieces
-in_flat : {X Y : Type 0} (f : X → List Y) (xs : List X) (x : X) (y : Y) → In x xs → In y (f x) → In y (flat_map f xs)
-in_flat f [] x y i j = absurd i
-in_flat {X} {Y} f (z ∷ xs) x y i j = elim i [
-  | inl e ↦ in_left (f z) (flat_map f xs) y (let P : X → Type 0 = λ t. In y (f t) in subst P (sym e) j)
-  | inr k ↦ in_right (f z) (flat_map f xs) y (in_flat f xs x y k j)
 ]
 
 pub ring_one_way : (ds : List DirectedEdge) (rings : List (List Pt)) → AreDirected ds → AreRings ds rings → (ring : List Pt) → Contains rings ring → (u v : Pt) → Contains (ring_edges ring) (from_to u v) → ¬ (Contains (ring_edges ring) (from_to v u))

@@ -6,7 +6,7 @@ use Rattle.std.proofs.Math.ListN.{drop_of_length-le}
 use Rattle.geom.specs.Rings.{IsSimple, IsCut}
 use Rattle.geom.specs.Rings.IsCut.{whole, taken}
 use Rattle.polygonize.specs.Stack.{AreStacked}
-use Rattle.polygonize.proofs.Stacks.{stack_push}
+use Rattle.polygonize.proofs.RingPieces.Stacks.{stack_push}
 
 some_same : (i j : ℕ) → Some i ≡ Some j → i ≡ j
 some_same i j e = cc

@@ -18,13 +18,13 @@ use Rattle.geom.proofs.OneOwner.{one_owner}
 use Rattle.geom.proofs.OneRing.{one_ring, one_first as one_first_piece}
 use Rattle.geom.proofs.OneRotation.{one_rotation}
 use Rattle.geom.proofs.Lists.{In, contains_in, in_contains, in_map, map_in}
+use Rattle.geom.proofs.RingEdges.{in_flat, in_permutation}
 use Rattle.polygonize.specs.Grouped.{Group, members, shape_of, AreGrouped}
 use Rattle.polygonize.specs.Next.{ring_of}
 use Rattle.polygonize.specs.Placed.{PlacedRing, opening_of, IsPlaced, IsWrittenAmong, points}
-use Rattle.polygonize.proofs.TextOrder.{AreOne, AreEntries, IsEntry, entry, in_flat, one_shell, one_under, one_whole, owner_inside, owner_of, owner_shell, same_first, same_shell, written_edge}
-use Rattle.polygonize.proofs.Lists.{in_permutation}
-use Rattle.polygonize.proofs.Openings.{opening_before, same_numbers}
-use Rattle.polygonize.proofs.Places.{OpeningLess, PlaceLess, opening_itself, opening_one_way, place_one_way}
+use Rattle.polygonize.proofs.TextOrder.Entries.{AreOne, AreEntries, IsEntry, entry, one_shell, one_under, one_whole, owner_inside, owner_of, owner_shell, same_first, same_shell, written_edge}
+use Rattle.polygonize.proofs.TextOrder.Openings.{opening_before, same_numbers}
+use Rattle.polygonize.proofs.TextOrder.Places.{OpeningLess, PlaceLess, opening_itself, opening_one_way, place_one_way}
 use Rattle.polygonize.proofs.Sorted.{ascend_map, ascend_pairs, between, compare, group_ascends, in_members, of_members, one_group, shells_ascend}
 
 -- places by the opening of the shell alone

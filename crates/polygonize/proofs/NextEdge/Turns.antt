@@ -7,79 +7,48 @@ use Rattle.std.proofs.lemmas.Bool.Decides.{nat_tests}
 use Rattle.geom.specs.declared.point.Pt.{Pt}
 use Rattle.geom.specs.Order.{IsBefore}
 use Rattle.geom.proofs.Edges.{before_cases, before_by_cases}
+use Rattle.geom.proofs.Numbers.{nonneg, zero_is_nonneg, never_negative, strict_gap_is, no_gap_is}
+use Rattle.geom.proofs.Integers.{expand, linear, cancel_nonneg, none_left, none_right, mul_pos, mul_nonneg, by_sign}
+use Rattle.geom.proofs.Points.{or_either}
 use Rattle.geom.specs.Determinant.{side}
 use Rattle.polygonize.specs.Clockwise.{less, half, sooner}
-use Rattle.polygonize.proofs.Multiply.{expand, lin}
-use Rattle.polygonize.proofs.Products.{mul_pos, mul_nonneg, by_sign}
+
 
 -- ---- vectors of the first half turn
 abbrev pub Right : ℤ → ℤ → Type 0
 Right x y = (pos 0 <ℤ x) ⊎ ((x ≡ pos 0) × (pos 0 <ℤ y))
 
 right_x : (x y : ℤ) → Right x y → pos 0 ≤ℤ x
-right_x x y (inl h) = weak x h
-  where
-    weak : (x : ℤ) → pos 0 <ℤ x → pos 0 ≤ℤ x
-    weak x h = omega (arith, ints)
-right_x x y (inr h) = same x h.0
-  where
-    same : (x : ℤ) → x ≡ pos 0 → pos 0 ≤ℤ x
-    same x h = omega (arith, ints)
-
-factor_nonneg : (a b : ℤ) → pos 0 <ℤ a → pos 0 ≤ℤ (a *ℤ b) → pos 0 ≤ℤ b
-factor_nonneg a b h k = by_sign b (λ n. absurd (clash (a *ℤ b) k (neg_product a b h n))) (λ e. zero_case b e) (λ p. weak b p)
-  where
-    neg_product : (a b : ℤ) → pos 0 <ℤ a → b <ℤ pos 0 → (a *ℤ b) <ℤ pos 0
-    neg_product a b h n = omega (arith, lin, simp expand at (mul_pos a (neg_ℤ b) h (omega (arith, ints))))
-
-    clash : (t : ℤ) → pos 0 ≤ℤ t → t <ℤ pos 0 → ⊥
-    clash t h k = omega (arith, ints)
-
-    zero_case : (b : ℤ) → b ≡ pos 0 → pos 0 ≤ℤ b
-    zero_case b e = omega (arith, ints)
-
-    weak : (b : ℤ) → pos 0 <ℤ b → pos 0 ≤ℤ b
-    weak b e = omega (arith, ints)
+right_x x y (inl h) = nonneg x h
+right_x x y (inr h) = zero_is_nonneg x h.0
 
 chain_is : (ax ay bx b' cx cy : ℤ) → bx *ℤ (ax *ℤ cy -ℤ ay *ℤ cx) ≡ ax *ℤ (bx *ℤ cy -ℤ b' *ℤ cx) +ℤ cx *ℤ (ax *ℤ b' -ℤ ay *ℤ bx)
-chain_is ax ay bx b' cx cy = simp expand (omega (arith, lin))
+chain_is ax ay bx b' cx cy = simp expand (omega (arith, linear))
 
 sum_nonneg : (a b : ℤ) → pos 0 ≤ℤ a → pos 0 ≤ℤ b → pos 0 ≤ℤ (a +ℤ b)
 sum_nonneg a b h k = omega (arith, ints)
 
 pub chain_right : (ax ay bx b' cx cy : ℤ) → Right ax ay → Right bx b' → Right cx cy → pos 0 ≤ℤ (ax *ℤ b' -ℤ ay *ℤ bx) → pos 0 ≤ℤ (bx *ℤ cy -ℤ b' *ℤ cx) → pos 0 ≤ℤ (ax *ℤ cy -ℤ ay *ℤ cx)
-chain_right ax ay bx b' cx cy ra (inl h) rc m n = factor_nonneg bx (ax *ℤ cy -ℤ ay *ℤ cx) h
+chain_right ax ay bx b' cx cy ra (inl h) rc m n = cancel_nonneg bx (ax *ℤ cy -ℤ ay *ℤ cx) h
     (let P : ℤ → Type 0 = λ t. pos 0 ≤ℤ t in subst P (sym (chain_is ax ay bx b' cx cy)) (sum_nonneg (ax *ℤ (bx *ℤ cy -ℤ b' *ℤ cx)) (cx *ℤ (ax *ℤ b' -ℤ ay *ℤ bx))
     (mul_nonneg ax (bx *ℤ cy -ℤ b' *ℤ cx) (right_x ax ay ra) n) (mul_nonneg cx (ax *ℤ b' -ℤ ay *ℤ bx) (right_x cx cy rc) m)))
-chain_right ax ay bx b' cx cy ra (inr h) (inl k) m n = absurd (clash (bx *ℤ cy) (b' *ℤ cx) (ap (λ t. t *ℤ cy) h.0 ∙ none cy) (mul_pos b' cx h.1 k) n)
-  where
-    none : (s : ℤ) → pos 0 *ℤ s ≡ pos 0
-    none s = omega (arith, ints)
+chain_right ax ay bx b' cx cy ra (inr h) (inl k) m n = absurd (clash (bx *ℤ cy) (b' *ℤ cx) (ap (λ t. t *ℤ cy) h.0 ∙ none_left cy) (mul_pos b' cx h.1 k) n)
 
     clash : (s t : ℤ) → s ≡ pos 0 → pos 0 <ℤ t → pos 0 ≤ℤ (s -ℤ t) → ⊥
     clash s t e h k = omega (arith, ints)
-chain_right ax ay bx b' cx cy ra (inr h) (inr k) m n = plain (ax *ℤ cy) (ay *ℤ cx) (mul_nonneg ax cy (right_x ax ay ra) (weak cy k.1)) (ap (λ t. ay *ℤ t) k.0 ∙ none ay)
-  where
-    none : (s : ℤ) → s *ℤ pos 0 ≡ pos 0
-    none s = omega (arith, ints)
-
-    weak : (b : ℤ) → pos 0 <ℤ b → pos 0 ≤ℤ b
-    weak b e = omega (arith, ints)
+chain_right ax ay bx b' cx cy ra (inr h) (inr k) m n = plain (ax *ℤ cy) (ay *ℤ cx) (mul_nonneg ax cy (right_x ax ay ra) (nonneg cy k.1)) (ap (λ t. ay *ℤ t) k.0 ∙ none_right ay)
 
     plain : (s t : ℤ) → pos 0 ≤ℤ s → t ≡ pos 0 → pos 0 ≤ℤ (s -ℤ t)
     plain s t h e = omega (arith, ints)
 
 neg_cross : (ax ay bx b' : ℤ) → neg_ℤ ax *ℤ neg_ℤ b' -ℤ neg_ℤ ay *ℤ neg_ℤ bx ≡ ax *ℤ b' -ℤ ay *ℤ bx
-neg_cross ax ay bx b' = simp expand (omega (arith, lin))
+neg_cross ax ay bx b' = simp expand (omega (arith, linear))
 
 pub chain_left : (ax ay bx b' cx cy : ℤ) → Right (neg_ℤ ax) (neg_ℤ ay) → Right (neg_ℤ bx) (neg_ℤ b') → Right (neg_ℤ cx) (neg_ℤ cy) → pos 0 ≤ℤ (ax *ℤ b' -ℤ ay *ℤ bx) → pos 0 ≤ℤ (bx *ℤ cy -ℤ b' *ℤ cx) → pos 0 ≤ℤ (ax *ℤ cy -ℤ ay *ℤ cx)
 chain_left ax ay bx b' cx cy ra rb rc m n = let P : ℤ → Type 0 = λ t. pos 0 ≤ℤ t in subst P (neg_cross ax ay cx cy)
     (chain_right (neg_ℤ ax) (neg_ℤ ay) (neg_ℤ bx) (neg_ℤ b') (neg_ℤ cx) (neg_ℤ cy) ra rb rc (subst P (sym (neg_cross ax ay bx b')) m) (subst P (sym (neg_cross bx b' cx cy)) n))
 
 -- ---- tests
-or_cases : (a b : Bool) → a || b ≡ true → (a ≡ true) ⊎ (b ≡ true)
-or_cases true b h = inl refl
-or_cases false b h = inr h
 
 and_left : (a b : Bool) → a && b ≡ true → a ≡ true
 and_left true b h = refl
@@ -115,7 +84,7 @@ both_le : (a c : ℤ) → le_z a c ≡ true → le_z c a ≡ true → a ≡ c
 both_le a c h k = omega (arith, ints)
 
 pub less_is : (p q : Pt) → less p q ≡ true → IsBefore p q
-less_is p q h = before_by_cases p q (elim (or_cases (lt_z p.x q.x) ((le_z p.x q.x && le_z q.x p.x) && lt_z p.y q.y) h) [
+less_is p q h = before_by_cases p q (elim (or_either (lt_z p.x q.x) ((le_z p.x q.x && le_z q.x p.x) && lt_z p.y q.y) h) [
   | inl k ↦ inl (lt_true p.x q.x k)
   | inr k ↦ inr (
     both_le p.x q.x (and_left (le_z p.x q.x) (le_z q.x p.x) (and_left (le_z p.x q.x && le_z q.x p.x) (lt_z p.y q.y) k)) (and_right (le_z p.x q.x) (le_z q.x p.x) (and_left (le_z p.x q.x && le_z q.x p.x) (lt_z p.y q.y) k)),
@@ -177,16 +146,10 @@ half_of v a = elim (three (less v a) (less a v)) [
 
 from_right : (v a : Pt) → IsBefore v a → Right (a.x -ℤ v.x) (a.y -ℤ v.y)
 from_right v a h = by_kind (before_cases v a h)
-  where
-    more : (p q : ℤ) → p <ℤ q → pos 0 <ℤ (q -ℤ p)
-    more p q h = omega (arith, ints)
-
-    none : (p q : ℤ) → p ≡ q → q -ℤ p ≡ pos 0
-    none p q h = omega (arith, ints)
 
     by_kind : (v.x <ℤ a.x) ⊎ ((v.x ≡ a.x) × (v.y <ℤ a.y)) → Right (a.x -ℤ v.x) (a.y -ℤ v.y)
-    by_kind (inl h) = inl (more v.x a.x h)
-    by_kind (inr h) = inr (none v.x a.x h.0, more v.y a.y h.1)
+    by_kind (inl h) = inl (strict_gap_is v.x a.x h)
+    by_kind (inr h) = inr (no_gap_is v.x a.x h.0, strict_gap_is v.y a.y h.1)
 
 from_left : (v a : Pt) → IsBefore a v → Right (neg_ℤ (a.x -ℤ v.x)) (neg_ℤ (a.y -ℤ v.y))
 from_left v a h = by_kind (before_cases a v h)
@@ -227,7 +190,7 @@ false_sooner m n x h f = neither (nat_lt m n) (m == n) (lt_z x (pos 0)) (order m
     neither a b c h f = grind arith
 
 pub sooner_true : (m n : ℕ) (x : ℤ) → nat_lt m n || ((m == n) && lt_z x (pos 0)) ≡ true → (m < n) ⊎ ((m ≡ n) × (x <ℤ pos 0))
-sooner_true m n x h = elim (or_cases (nat_lt m n) ((m == n) && lt_z x (pos 0)) h) [
+sooner_true m n x h = elim (or_either (nat_lt m n) ((m == n) && lt_z x (pos 0)) h) [
   | inl k ↦ inl (order m n k)
   | inr k ↦ inr (equal m n (and_left (m == n) (lt_z x (pos 0)) k), lt_true x (pos 0) (and_right (m == n) (lt_z x (pos 0)) k))
 ]
@@ -243,7 +206,7 @@ turned : (v a b : Pt) → side v b a ≡ neg_ℤ (side v a b)
 turned v a b = plain (a.x -ℤ v.x) (a.y -ℤ v.y) (b.x -ℤ v.x) (b.y -ℤ v.y)
   where
     plain : (a b c d : ℤ) → c *ℤ b -ℤ d *ℤ a ≡ neg_ℤ (a *ℤ d -ℤ b *ℤ c)
-    plain a b c d = simp expand (omega (arith, lin))
+    plain a b c d = simp expand (omega (arith, linear))
 
 pub one_way : (v a b : Pt) → sooner v a b ≡ true → sooner v b a ≡ false
 one_way v a b h = elim (sooner_true (half v a) (half v b) (side v a b) h) [

@@ -6,9 +6,8 @@ use Rattle.geom.specs.declared.directed.DirectedEdge.{DirectedEdge}
 use Rattle.geom.specs.Directed.{from_to}
 use Rattle.geom.specs.Rings.{ring_edges, IsCut}
 use Rattle.geom.specs.Rings.IsCut.{whole, taken}
-use Rattle.polygonize.proofs.Lists.{same_order, around-cut, in_permutation, in_left, in_right}
-use Rattle.geom.proofs.Lists.{In}
-pub use Rattle.geom.proofs.RingEdges.{rotated_edges, cut_edges}
+use Rattle.geom.proofs.Lists.{In, in_front, in_back}
+use Rattle.geom.proofs.RingEdges.{same_order, around-cut, in_permutation, rotated_edges, cut_edges}
 
 -- ---- each piece has three points or more
 abbrev pub OneWay : List DirectedEdge → Type 0
@@ -35,8 +34,8 @@ Each P (x ∷ xs) = P x × Each P xs
 pub cut_long : {ring : List Pt} {pieces : List (List Pt)} → IsCut ring pieces → ¬ (ring ≡ []) → OneWay (ring_edges ring) → Each (λ p. 3 ≤ length p) pieces
 cut_long (whole {ring = r} s) n o = (three r n o, tt)
 cut_long (taken {ring = r} {pieces = ps} front v mid back e s c) n o = (
-  three (v ∷ mid) (λ q. cc) (λ a b i j. o a b (inside _ (in_left (ring_edges (v ∷ mid)) (ring_edges (front ++ v ∷ back)) _ i)) (inside _ (in_left (ring_edges (v ∷ mid)) (ring_edges (front ++ v ∷ back)) _ j))),
-  cut_long c (not_nil front v back) (λ a b i j. o a b (inside _ (in_right (ring_edges (v ∷ mid)) (ring_edges (front ++ v ∷ back)) _ i)) (inside _ (in_right (ring_edges (v ∷ mid)) (ring_edges (front ++ v ∷ back)) _ j))),
+  three (v ∷ mid) (λ q. cc) (λ a b i j. o a b (inside _ (in_front (ring_edges (v ∷ mid)) (ring_edges (front ++ v ∷ back)) _ i)) (inside _ (in_front (ring_edges (v ∷ mid)) (ring_edges (front ++ v ∷ back)) _ j))),
+  cut_long c (not_nil front v back) (λ a b i j. o a b (inside _ (in_back (ring_edges (v ∷ mid)) (ring_edges (front ++ v ∷ back)) _ i)) (inside _ (in_back (ring_edges (v ∷ mid)) (ring_edges (front ++ v ∷ back)) _ j))),
 )
   where
     inside : (d : DirectedEdge) → In d (ring_edges (v ∷ mid) ++ ring_edges (front ++ v ∷ back)) → In d (ring_edges r)

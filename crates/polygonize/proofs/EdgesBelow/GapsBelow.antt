@@ -11,12 +11,13 @@ use Rattle.geom.specs.Holes.{height, left_of, run_of}
 use Rattle.geom.specs.Limit.{AreInLimit, InLimit, IsWithin, coordinate_limit}
 use Rattle.geom.specs.Order.{IsBefore}
 use Rattle.geom.specs.declared.directed.DirectedEdge.{DirectedEdge}
-use Rattle.geom.specs.Directed.{Runs, from_to}
+use Rattle.geom.specs.Directed.{RunsAlong, from_to}
 use Rattle.geom.proofs.Edges.{edge_path, not_turned}
 use Rattle.geom.proofs.Orders.{before_itself}
 use Rattle.geom.specs.Parity.{covers}
 use Rattle.geom.proofs.Bounds.{fits_64, fits_128, product_within}
 use Rattle.geom.proofs.Integers.{expand, linear}
+use Rattle.geom.proofs.Points.{both_and}
 use Rattle.polygonize.specs.Below.{HasGapRoom, IsGap, IsLessGap, RunsBelow, gap_height}
 use Rattle.polygonize.specs.declared.below.Gap.{Gap}
 
@@ -25,8 +26,6 @@ ends_in_limit u v p q (inl e) h = record { a_in = (let P : Pt → Type 0 = InLim
 ends_in_limit u v p q (inr e) h = record { a_in = (let P : Pt → Type 0 = InLimit in subst P (sym e.0) h.b_in); b_in = (let P : Pt → Type 0 = InLimit in subst P (sym e.1) h.a_in) }
 
 -- ---- an edge over a point
-both : (a b : Bool) → a ≡ true → b ≡ true → a && b ≡ true
-both a b h k = grind arith
 
 first_of_both : (a b : Bool) → a && b ≡ true → a ≡ true
 first_of_both a b h = grind arith
@@ -54,7 +53,7 @@ abbrev over : ℤ → ℤ → ℤ → Bool
 over p q x = le_z (pos (2 ^ 64) *ℤ p) ((pos (2 ^ 64) *ℤ x) -ℤ pos 1) && lt_z ((pos (2 ^ 64) *ℤ x) -ℤ pos 1) (pos (2 ^ 64) *ℤ q)
 
 pub over_when : (p q x : ℤ) → p <ℤ x → x ≤ℤ q → over p q x ≡ true
-over_when p q x h k = both _ _ (test_at_most _ _ (low p x h)) (test_less _ _ (high q x k))
+over_when p q x h k = both_and _ _ (test_at_most _ _ (low p x h)) (test_less _ _ (high q x k))
   where
     low : (p x : ℤ) → p <ℤ x → (pos (2 ^ 64) *ℤ p) ≤ℤ ((pos (2 ^ 64) *ℤ x) -ℤ pos 1)
     low p x h = omega (arith, ints)
@@ -140,7 +139,7 @@ by_rise e f h k r s u v x y t w i j = (
     second = product_is v f.rise e.run (wider f.rise k.rise_in) h.run_in j
 
 -- ---- the edge of a directed edge
-same_ends : (d : DirectedEdge) (e : Edge) (p q : Pt) → ((p ≡ d.from) × (q ≡ d.to)) ⊎ ((p ≡ d.to) × (q ≡ d.from)) → Runs d e → ((e.p ≡ p) × (e.q ≡ q)) ⊎ ((e.p ≡ q) × (e.q ≡ p))
+same_ends : (d : DirectedEdge) (e : Edge) (p q : Pt) → ((p ≡ d.from) × (q ≡ d.to)) ⊎ ((p ≡ d.to) × (q ≡ d.from)) → RunsAlong d e → ((e.p ≡ p) × (e.q ≡ q)) ⊎ ((e.p ≡ q) × (e.q ≡ p))
 same_ends d e p q (inl h) (inl r) = inl (ap (λ t. t.from) (sym r) ∙ sym h.0, ap (λ t. t.to) (sym r) ∙ sym h.1)
 same_ends d e p q (inl h) (inr r) = inr (ap (λ t. t.to) (sym r) ∙ sym h.1, ap (λ t. t.from) (sym r) ∙ sym h.0)
 same_ends d e p q (inr h) (inl r) = inr (ap (λ t. t.from) (sym r) ∙ sym h.1, ap (λ t. t.to) (sym r) ∙ sym h.0)
@@ -151,18 +150,18 @@ one_edge e f (inl h) = edge_path e f h.0 h.1
 one_edge e f (inr h) = absurd (not_turned e f h.0 h.1)
 
 -- the edge that joins the ends is the only one that d runs along
-pub only_edge : (d : DirectedEdge) (f : Edge) → ((f.p ≡ d.from) × (f.q ≡ d.to)) ⊎ ((f.p ≡ d.to) × (f.q ≡ d.from)) → (e : Edge) → Runs d e → e ≡ f
+pub only_edge : (d : DirectedEdge) (f : Edge) → ((f.p ≡ d.from) × (f.q ≡ d.to)) ⊎ ((f.p ≡ d.to) × (f.q ≡ d.from)) → (e : Edge) → RunsAlong d e → e ≡ f
 only_edge d f h e r = one_edge e f (same_ends d e f.p f.q h r)
 
-runs_of : (d : DirectedEdge) (f : Edge) → ((f.p ≡ d.from) × (f.q ≡ d.to)) ⊎ ((f.p ≡ d.to) × (f.q ≡ d.from)) → Runs d f
+runs_of : (d : DirectedEdge) (f : Edge) → ((f.p ≡ d.from) × (f.q ≡ d.to)) ⊎ ((f.p ≡ d.to) × (f.q ≡ d.from)) → RunsAlong d f
 runs_of d f (inl h) = inl (λ i. from_to (sym h.0 i) (sym h.1 i))
 runs_of d f (inr h) = inr (λ i. from_to (sym h.1 i) (sym h.0 i))
 
-ends_of : (d : DirectedEdge) (f : Edge) → Runs d f → ((f.p ≡ d.from) × (f.q ≡ d.to)) ⊎ ((f.p ≡ d.to) × (f.q ≡ d.from))
+ends_of : (d : DirectedEdge) (f : Edge) → RunsAlong d f → ((f.p ≡ d.from) × (f.q ≡ d.to)) ⊎ ((f.p ≡ d.to) × (f.q ≡ d.from))
 ends_of d f (inl r) = inl (ap (λ t. t.from) (sym r), ap (λ t. t.to) (sym r))
 ends_of d f (inr r) = inr (ap (λ t. t.to) (sym r), ap (λ t. t.from) (sym r))
 
-pub same_edge : (d : DirectedEdge) (e f : Edge) → Runs d e → Runs d f → e ≡ f
+pub same_edge : (d : DirectedEdge) (e f : Edge) → RunsAlong d e → RunsAlong d f → e ≡ f
 same_edge d e f r s = only_edge d f (ends_of d f s) e r
 
 -- ---- which edges lie below

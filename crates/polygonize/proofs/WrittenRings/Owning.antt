@@ -16,6 +16,7 @@ use Rattle.geom.proofs.Lists.{In, contains_in, in_contains, in_map, map_in}
 use Rattle.geom.proofs.OneRing.{one_least_vertex, ring_simple, simple_permutation}
 use Rattle.geom.proofs.OneRotation.{rotation_back, rotation_trans}
 use Rattle.geom.proofs.RingEdges.{cut_edges, in_flat, in_permutation}
+use Rattle.geom.proofs.Owners.{ends_on, starts_on}
 use Rattle.polygonize.specs.declared.written.Opening.{Opening}
 use Rattle.polygonize.specs.Next.{edge_at, ring_of}
 use Rattle.polygonize.specs.Number.{IsVertex}
@@ -23,18 +24,18 @@ use Rattle.polygonize.specs.Piece.{IsRingCut}
 use Rattle.polygonize.specs.Owning.{IsPieceWritten, AreWrittenUnder}
 use Rattle.polygonize.specs.Placed.{PlacedRing, opening_of, IsPlaced, IsShellWritten, IsWrittenAmong}
 use Rattle.polygonize.specs.Written.{IsCanonical, IsSound, IsTurned}
-use Rattle.polygonize.proofs.Assembled.{are_one}
-use Rattle.polygonize.proofs.Beginnings.{BeginsWith, holders_begin}
-use Rattle.polygonize.proofs.TextOrder.{AreOne, one_whole, owner_inside, owner_shell}
+use Rattle.polygonize.proofs.TextOrder.Assembled.{are_one}
+use Rattle.polygonize.proofs.RingPieces.Beginnings.{BeginsWith, holders_begin}
+use Rattle.polygonize.proofs.TextOrder.Entries.{AreOne, one_whole, owner_inside, owner_shell}
 use Rattle.polygonize.proofs.Holes.{least_point}
 use Rattle.polygonize.proofs.Least.{own_least}
-use Rattle.polygonize.proofs.Mapping.{cut_all}
+use Rattle.polygonize.proofs.RingPieces.Mapping.{cut_all}
 use Rattle.polygonize.proofs.Numbers.{same_vertex}
-use Rattle.polygonize.proofs.Openings.{first_edge, first_inside, same_numbers}
-use Rattle.polygonize.proofs.Places.{pairs_ascend}
+use Rattle.polygonize.proofs.TextOrder.Openings.{first_edge, first_inside, same_numbers}
+use Rattle.polygonize.proofs.TextOrder.Places.{pairs_ascend}
 use Rattle.polygonize.proofs.Sorted.{Ascend, ascend_across, ascend_right}
-use Rattle.polygonize.proofs.Turning.{turned_edges, turned_sound}
-use Rattle.polygonize.proofs.Writing.{pieces_of_points}
+use Rattle.polygonize.proofs.WrittenRings.Turning.{turned_edges, turned_sound}
+use Rattle.polygonize.proofs.WrittenRings.Writing.{pieces_of_points}
 
 -- ---- lists
 pub index_of : {X : Type 0} (xs : List X) (x d : X) → In x xs → (k : ℕ) × (k < length xs) × (get_or xs k d ≡ x)
@@ -60,19 +61,11 @@ ends_along x [] z d (inr i) = absurd i
 ends_along x (y ∷ ys) z d (inl e) = inl (inl (ap (λ t. t.to) e))
 ends_along x (y ∷ ys) z d (inr i) = elim (ends_along y ys z d i) [ inl j ↦ inl (inr j) | inr e ↦ inr e ]
 
-pub end_on : (ring : List Pt) (d : DirectedEdge) → In d (ring_edges ring) → In d.to ring
-end_on [] d i = absurd i
-end_on (x ∷ ys) d i = elim (ends_along x ys x d i) [ inl j ↦ inr j | inr e ↦ inl e ]
-
 starts_along : (x : Pt) (ys : List Pt) (z : Pt) (d : DirectedEdge) → In d (along from_to x ys z) → In d.from (x ∷ ys)
 starts_along x [] z d (inl e) = inl (ap (λ t. t.from) e)
 starts_along x [] z d (inr i) = absurd i
 starts_along x (y ∷ ys) z d (inl e) = inl (ap (λ t. t.from) e)
 starts_along x (y ∷ ys) z d (inr i) = inr (starts_along y ys z d i)
-
-pub start_on : (ring : List Pt) (d : DirectedEdge) → In d (ring_edges ring) → In d.from ring
-start_on [] d i = absurd i
-start_on (x ∷ ys) d i = starts_along x ys x d i
 
 module _ (ds : List DirectedEdge) (closes : Closes ds) (noded : AreNodedEdges ds) (rings : List (List Pt)) (are : AreRings ds rings) where
   a : AreDirected ds
@@ -142,7 +135,7 @@ module _ (ds : List DirectedEdge) (closes : Closes ds) (noded : AreNodedEdges ds
         at_is = one_least_vertex (ring_of ds ring) f.at (edge_at ds (get_or ring 0 0)).from f.least (least_point ds a ring vertices lowest some)
 
         held : (n : ℕ) × In n (get_or pieces first []) × ((edge_at ds n).from ≡ f.at)
-        held = in_map (λ n. (edge_at ds n).from) (get_or pieces first []) f.at (end_on (ring_of ds (get_or pieces first [])) (from_to f.from f.at) (contains_in (ring_edges (ring_of ds (get_or pieces first []))) (from_to f.from f.at) f.arrives))
+        held = in_map (λ n. (edge_at ds n).from) (get_or pieces first []) f.at (ends_on (ring_of ds (get_or pieces first [])) (from_to f.from f.at) (contains_in (ring_edges (ring_of ds (get_or pieces first []))) (from_to f.from f.at) f.arrives))
 
         vertex_of : (xs : List ℕ) → All (IsVertex ds) xs → (n : ℕ) → In n xs → IsVertex ds n
         vertex_of xs v n i = All-contains (IsVertex ds) xs n v (in_contains xs n i)

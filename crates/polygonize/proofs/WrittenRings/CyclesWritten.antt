@@ -19,17 +19,18 @@ use Rattle.geom.proofs.OneOwner.{one_nearest}
 use Rattle.geom.proofs.OneRing.{directed_simple, one_ring}
 use Rattle.geom.proofs.Orders.{before_trans}
 use Rattle.geom.proofs.RingEdges.{flat_in, in_permutation}
+use Rattle.geom.proofs.Owners.{ends_on, starts_on}
+use Rattle.geom.proofs.SameRings.{split_at}
 use Rattle.polygonize.specs.declared.written.Opening.{Opening}
 use Rattle.polygonize.specs.Next.{nothing, edge_at, ring_of, rings_of}
 use Rattle.polygonize.specs.Owning.{IsOwnerFound, IsRingPlaced}
 use Rattle.polygonize.specs.Placed.{PlacedRing, opening_of, IsPlaced, IsShellWritten, IsWrittenAmong, AreWritten, rings_in}
 use Rattle.polygonize.specs.Written.{ArePlaces, HasItsEdges, HaveEdges, IsCanonical}
-use Rattle.polygonize.proofs.TextOrder.{owner_of}
-use Rattle.polygonize.proofs.Writing.{unmapped}
+use Rattle.polygonize.proofs.TextOrder.Entries.{owner_of}
+use Rattle.polygonize.proofs.WrittenRings.Writing.{unmapped}
 use Rattle.polygonize.proofs.Holes.{least_point}
-use Rattle.polygonize.proofs.Keeping.{kept_or_as_before}
-use Rattle.polygonize.proofs.Lists.{split_at}
-use Rattle.polygonize.proofs.Owning.{Law, among, end_on, index_of, law_of_hole, law_of_shell, placed, ring_cut, shell_written, start_on}
+use Rattle.polygonize.proofs.WrittenRings.Keeping.{kept_or_as_before}
+use Rattle.polygonize.proofs.WrittenRings.Owning.{Law, among, index_of, law_of_hole, law_of_shell, placed, ring_cut, shell_written}
 
 -- ---- orders
 head_least : (r : List Pt) → IsLeastRotation r r → (p d : Pt) → In p r → ¬ (IsBefore p (get_or r 0 d))
@@ -166,8 +167,8 @@ module _ (ds : List DirectedEdge) (closes : Closes ds) (noded : AreNodedEdges ds
 
         before : c.j < i
         before = elim left [
-          | inl b ↦ earlier c.j c.low (edge_at ds k).from (start_on (ring_of ds (get_or cycles c.j [])) (edge_at ds k) (contains_in (ring_edges (ring_of ds (get_or cycles c.j []))) (edge_at ds k) edge)) b
-          | inr b ↦ earlier c.j c.low (edge_at ds k).to (end_on (ring_of ds (get_or cycles c.j [])) (edge_at ds k) (contains_in (ring_edges (ring_of ds (get_or cycles c.j []))) (edge_at ds k) edge)) b
+          | inl b ↦ earlier c.j c.low (edge_at ds k).from (starts_on (ring_of ds (get_or cycles c.j [])) (edge_at ds k) (contains_in (ring_edges (ring_of ds (get_or cycles c.j []))) (edge_at ds k) edge)) b
+          | inr b ↦ earlier c.j c.low (edge_at ds k).to (ends_on (ring_of ds (get_or cycles c.j [])) (edge_at ds k) (contains_in (ring_edges (ring_of ds (get_or cycles c.j []))) (edge_at ds k) edge)) b
         ]
 
         s : (shell : List Pt) × (first : List ℕ) × (get_or shells_old k None ≡ Some (opening_of first)) × IsOwner ds (map (ring_of ds) cycles) (ring_of ds (get_or cycles c.j [])) shell × IsShellWritten ds shell first

@@ -7,25 +7,17 @@ use Rattle.std.proofs.lemmas.List.Elements.{All-more, All-weaker}
 use Rattle.geom.specs.declared.point.Pt.{Pt}
 use Rattle.geom.specs.declared.edge.Edge.{Edge}
 use Rattle.geom.specs.declared.directed.DirectedEdge.{DirectedEdge}
-use Rattle.geom.specs.Directed.{Runs}
+use Rattle.geom.specs.Directed.{RunsAlong}
 use Rattle.geom.specs.Holes.{left_of}
 use Rattle.geom.specs.Limit.{AreInLimit, IsWithin, coordinate_limit}
 use Rattle.geom.proofs.Edges.{before_by_cases}
 use Rattle.geom.proofs.Integers.{linear}
+use Rattle.geom.proofs.Numbers.{itself, le_le, lt_le}
 use Rattle.geom.specs.Parity.{covers}
 use Rattle.polygonize.specs.Below.{RunsBelow, vertex_at}
 use Rattle.polygonize.specs.Column.{IsIn, Meets, Spans}
 use Rattle.polygonize.specs.declared.column.Columns.{Columns}
-use Rattle.polygonize.proofs.GapsBelow.{over_is, over_when}
-
-le_itself : (a : ℤ) → a ≤ℤ a
-le_itself a = omega (arith, linear)
-
-le_through : (a b c : ℤ) → a ≤ℤ b → b ≤ℤ c → a ≤ℤ c
-le_through a b c h k = omega (arith, linear)
-
-lt_le : (a b c : ℤ) → a <ℤ b → b ≤ℤ c → a <ℤ c
-lt_le a b c h k = omega (arith, linear)
+use Rattle.polygonize.proofs.EdgesBelow.GapsBelow.{over_is, over_when}
 
 pub back : (x : ℤ) → IsWithin coordinate_limit x → to_z w32 (of_z w32 x) ≡ x
 back x h = let a : FitsSigned w32 x = omega (arith, ints) in simp to_z-of_z
@@ -54,11 +46,11 @@ spread_more vertices asked i low high l h x y inside e f limit is_least is_great
     let a = least_is _ l low x is_least s.low_in.low within_x.low in
     let b = greatest_is _ h high y is_greatest s.high_in.high within_y.high in
     record {
-      low_in = record { low = a.0; high = le_through l low _ a.1.0 s.low_in.high };
-      high_in = record { low = le_through _ high h s.high_in.low b.1.0; high = b.0 };
+      low_in = record { low = a.0; high = le_le l low _ a.1.0 s.low_in.high };
+      high_in = record { low = le_le _ high h s.high_in.low b.1.0; high = b.0 };
       each = All-more (λ r. (l ≤ℤ (vertex_at vertices r).x) × ((vertex_at vertices r).x ≤ℤ h)) asked i 0 inside
           (All-weaker (λ r. (low ≤ℤ (vertex_at vertices r).x) × ((vertex_at vertices r).x ≤ℤ high)) (λ r. (l ≤ℤ (vertex_at vertices r).x) × ((vertex_at vertices r).x ≤ℤ h))
-          (λ r t. (le_through l low (vertex_at vertices r).x a.1.0 t.0, le_through (vertex_at vertices r).x high h t.1 b.1.0)) (take i asked) s.each)
+          (λ r t. (le_le l low (vertex_at vertices r).x a.1.0 t.0, le_le (vertex_at vertices r).x high h t.1 b.1.0)) (take i asked) s.each)
           ((let P : ℤ → Type 0 = λ t. l ≤ℤ t in subst P e a.1.1), (let P : ℤ → Type 0 = λ t. t ≤ℤ h in subst P f b.1.1));
     }
 
@@ -98,9 +90,9 @@ meets_or_not d columns = one_of (pair d.from.x columns.high columns.low d.to.x) 
 pub below_meets : (d : DirectedEdge) (columns : Columns) (v : Pt) → IsIn columns v → (f : Edge) → RunsBelow d (left_of v) f → Meets d columns
 below_meets d columns v i f r = let o = over_is f.p.x f.q.x v.x r.over in by_end o r.runs
   where
-    by_end : (f.p.x <ℤ v.x) × (v.x ≤ℤ f.q.x) → Runs d f → Meets d columns
-    by_end o (inl e) = inl ((let P : ℤ → Type 0 = λ t. t <ℤ columns.high in subst P (sym (ap (λ t. t.from.x) e)) (lt_le f.p.x v.x columns.high o.0 i.1)), (let P : ℤ → Type 0 = λ t. columns.low ≤ℤ t in subst P (sym (ap (λ t. t.to.x) e)) (le_through columns.low v.x f.q.x i.0 o.1)))
-    by_end o (inr e) = inr ((let P : ℤ → Type 0 = λ t. t <ℤ columns.high in subst P (sym (ap (λ t. t.to.x) e)) (lt_le f.p.x v.x columns.high o.0 i.1)), (let P : ℤ → Type 0 = λ t. columns.low ≤ℤ t in subst P (sym (ap (λ t. t.from.x) e)) (le_through columns.low v.x f.q.x i.0 o.1)))
+    by_end : (f.p.x <ℤ v.x) × (v.x ≤ℤ f.q.x) → RunsAlong d f → Meets d columns
+    by_end o (inl e) = inl ((let P : ℤ → Type 0 = λ t. t <ℤ columns.high in subst P (sym (ap (λ t. t.from.x) e)) (lt_le f.p.x v.x columns.high o.0 i.1)), (let P : ℤ → Type 0 = λ t. columns.low ≤ℤ t in subst P (sym (ap (λ t. t.to.x) e)) (le_le columns.low v.x f.q.x i.0 o.1)))
+    by_end o (inr e) = inr ((let P : ℤ → Type 0 = λ t. t <ℤ columns.high in subst P (sym (ap (λ t. t.to.x) e)) (lt_le f.p.x v.x columns.high o.0 i.1)), (let P : ℤ → Type 0 = λ t. columns.low ≤ℤ t in subst P (sym (ap (λ t. t.from.x) e)) (le_le columns.low v.x f.q.x i.0 o.1)))
 
 -- and isn't upright
 pub below_slanted : (d : DirectedEdge) (v : Pt) (f : Edge) → RunsBelow d (left_of v) f → ¬ (d.from.x ≡ d.to.x)
@@ -109,21 +101,21 @@ below_slanted d v f r e = let o = over_is f.p.x f.q.x v.x r.over in upright o r.
     apart : (p x q : ℤ) → p <ℤ x → x ≤ℤ q → p ≡ q → ⊥
     apart p x q h k e = omega (arith, linear)
 
-    upright : (f.p.x <ℤ v.x) × (v.x ≤ℤ f.q.x) → Runs d f → ⊥
+    upright : (f.p.x <ℤ v.x) × (v.x ≤ℤ f.q.x) → RunsAlong d f → ⊥
     upright o (inl k) = apart f.p.x v.x f.q.x o.0 o.1 (sym (ap (λ t. t.from.x) k) ∙ e ∙ ap (λ t. t.to.x) k)
     upright o (inr k) = apart f.p.x v.x f.q.x o.0 o.1 (sym (ap (λ t. t.to.x) k) ∙ sym e ∙ ap (λ t. t.from.x) k)
 
 -- one that spans the columns has an edge over each of their points
-pub edge_over : (d : DirectedEdge) (columns : Columns) (v : Pt) → Spans d columns → IsIn columns v → (e : Edge) × Runs d e × (covers e (left_of v) ≡ true)
+pub edge_over : (d : DirectedEdge) (columns : Columns) (v : Pt) → Spans d columns → IsIn columns v → (e : Edge) × RunsAlong d e × (covers e (left_of v) ≡ true)
 edge_over d columns v (inl s) i = (
-  record { p = d.from; q = d.to; ordered = before_by_cases d.from d.to (inl (lt_le d.from.x columns.low d.to.x s.0 (le_through columns.low columns.high d.to.x (le_through columns.low v.x columns.high i.0 i.1) s.1))) },
+  record { p = d.from; q = d.to; ordered = before_by_cases d.from d.to (inl (lt_le d.from.x columns.low d.to.x s.0 (le_le columns.low columns.high d.to.x (le_le columns.low v.x columns.high i.0 i.1) s.1))) },
   inl refl,
-  over_when d.from.x d.to.x v.x (lt_le d.from.x columns.low v.x s.0 i.0) (le_through v.x columns.high d.to.x i.1 s.1),
+  over_when d.from.x d.to.x v.x (lt_le d.from.x columns.low v.x s.0 i.0) (le_le v.x columns.high d.to.x i.1 s.1),
 )
 edge_over d columns v (inr s) i = (
-  record { p = d.to; q = d.from; ordered = before_by_cases d.to d.from (inl (lt_le d.to.x columns.low d.from.x s.0 (le_through columns.low columns.high d.from.x (le_through columns.low v.x columns.high i.0 i.1) s.1))) },
+  record { p = d.to; q = d.from; ordered = before_by_cases d.to d.from (inl (lt_le d.to.x columns.low d.from.x s.0 (le_le columns.low columns.high d.from.x (le_le columns.low v.x columns.high i.0 i.1) s.1))) },
   inr refl,
-  over_when d.to.x d.from.x v.x (lt_le d.to.x columns.low v.x s.0 i.0) (le_through v.x columns.high d.from.x i.1 s.1),
+  over_when d.to.x d.from.x v.x (lt_le d.to.x columns.low v.x s.0 i.0) (le_le v.x columns.high d.from.x i.1 s.1),
 )
 
 right_of : (a b : ℤ) → IsWithin coordinate_limit a → IsWithin coordinate_limit b → a <ℤ b → IsWithin coordinate_limit (b -ℤ pos 1)

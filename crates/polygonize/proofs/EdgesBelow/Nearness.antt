@@ -9,10 +9,11 @@ use Rattle.geom.specs.declared.edge.Edge.{Edge}
 use Rattle.geom.specs.declared.directed.DirectedEdge.{DirectedEdge}
 use Rattle.geom.specs.Holes.{height, left_of, run_of}
 use Rattle.geom.proofs.Integers.{expand, linear, scale_le, unscale_le}
+use Rattle.geom.proofs.Numbers.{weak, itself}
 use Rattle.polygonize.specs.Below.{HasGapRoom, IsAsNear, IsGap, IsGapOf, IsLesserGap, RunsBelow, gap_height}
 use Rattle.polygonize.specs.Next.{edge_at}
 use Rattle.polygonize.specs.declared.below.Gap.{Gap}
-use Rattle.polygonize.proofs.GapsBelow.{run_right, same_edge}
+use Rattle.polygonize.proofs.EdgesBelow.GapsBelow.{run_right, same_edge}
 
 -- ---- heights are compared by their products with runs
 pub nearer : (hy hm hf ry rm rf : ℤ) → pos 0 <ℤ rm → pos 0 ≤ℤ ry → pos 0 ≤ℤ rf → (hy *ℤ rm) ≤ℤ (hm *ℤ ry) → (hm *ℤ rf) ≤ℤ (hf *ℤ rm) → (hy *ℤ rf) ≤ℤ (hf *ℤ ry)
@@ -21,14 +22,8 @@ nearer hy hm hf ry rm rf m y f h k =
     let b : (ry *ℤ (hm *ℤ rf)) ≤ℤ (ry *ℤ (hf *ℤ rm)) = scale_le (hm *ℤ rf) (hf *ℤ rm) ry k y in
     unscale_le (hy *ℤ rf) (hf *ℤ ry) rm (simp expand (omega (arith, linear, simp expand at a, simp expand at b))) m
 
-pub weak : (a b : ℤ) → a <ℤ b → a ≤ℤ b
-weak a b h = omega (arith, ints)
-
 pub not_less : (a b : ℤ) → ¬ (a <ℤ b) → b ≤ℤ a
 not_less a b n = by_lt_z a b (λ h. absurd (n h)) (λ h. h)
-
-pub same_value : (a : ℤ) → a ≤ℤ a
-same_value a = omega (arith, ints)
 
 -- ---- gaps of edges
 pub room_of : (ds : List DirectedEdge) (v : Pt) (best : Option Gap) → IfSome best (IsGapOf ds v) → IfSome best HasGapRoom
@@ -52,7 +47,7 @@ pub near_itself : (d : DirectedEdge) (v : Pt) (found : Option Gap) → MatchOpti
 near_itself d v None h = h
 near_itself d v (Some g) h = λ f r. let s = gap_edge d v g h f r in
     let P : ℤ → Type 0 = λ t. (gap_height g *ℤ t) ≤ℤ (height f (left_of v) *ℤ g.run) in subst P (sym s.1)
-    (let Q : ℤ → Type 0 = λ t. (gap_height g *ℤ g.run) ≤ℤ (t *ℤ g.run) in subst Q (sym s.0) (same_value (gap_height g *ℤ g.run)))
+    (let Q : ℤ → Type 0 = λ t. (gap_height g *ℤ g.run) ≤ℤ (t *ℤ g.run) in subst Q (sym s.0) (itself (gap_height g *ℤ g.run)))
 
 pub known_itself : (ds : List DirectedEdge) (v : Pt) (k : ℕ) (found : Option Gap) → k < length ds → IfSome found (λ g. g.number ≡ k) → MatchOption found ((e : Edge) → ¬ (RunsBelow (edge_at ds k) (left_of v) e)) (λ g. IsGap (edge_at ds k) v g) → IfSome found (IsGapOf ds v)
 known_itself ds v k None i e h = tt

@@ -13,26 +13,24 @@ use Rattle.geom.specs.Determinant.{determinant}
 use Rattle.geom.specs.Holes.{height, left_of, run_of}
 use Rattle.geom.specs.Limit.{IsWithin, coordinate_limit}
 use Rattle.geom.proofs.Identity.{ring, var, num, ◌⊕◌, ◌⊖◌, ◌⊗◌}
-use Rattle.geom.proofs.Integers.{cancel_pos, linear, mul_comm, mul_pos, scale_le, unscale_le}
+use Rattle.geom.proofs.Integers.{cancel_pos, linear, mul_comm, mul_pos, scale_le, unscale_le, none_right}
+use Rattle.geom.proofs.Numbers.{gap_is, strict_gap_is, lt_le, weak, itself}
 use Rattle.polygonize.specs.Below.{IsAsNear, IsGap, IsGapOf, RunsBelow, gap_height}
 use Rattle.polygonize.specs.Column.{IsIn, Spans}
 use Rattle.polygonize.specs.Ladder.{AreInOrder, AreSpanning, IsLadder, IsLower, IsUnder, StandInOrder, over_column}
 use Rattle.polygonize.specs.Next.{edge_at}
 use Rattle.polygonize.specs.declared.below.Gap.{Gap}
 use Rattle.polygonize.specs.declared.column.Columns.{Columns}
-use Rattle.polygonize.proofs.Columns.{back, edge_over}
-use Rattle.polygonize.proofs.GapsBelow.{at_most, only_edge, product_is, run_right, same_edge, test_at_most}
+use Rattle.polygonize.proofs.EdgesBelow.Columns.{back, edge_over}
+use Rattle.polygonize.proofs.EdgesBelow.GapsBelow.{at_most, only_edge, product_is, run_right, same_edge, test_at_most}
 use Rattle.polygonize.proofs.Filtered.{KeptSoFar}
-use Rattle.polygonize.proofs.Nearness.{by_number, known_itself, nearer, nothing_below, same_value, weak}
+use Rattle.polygonize.proofs.EdgesBelow.Nearness.{by_number, known_itself, nearer, nothing_below}
 
 -- ---- a linear function that is 0 or less at two borders is so between them
 
 between_is : (a b x n c d : ℤ) → (d -ℤ c) *ℤ ((a *ℤ x) +ℤ (b *ℤ n)) ≡ (((n *ℤ d) -ℤ x) *ℤ ((a *ℤ c) +ℤ b)) +ℤ ((x -ℤ (n *ℤ c)) *ℤ ((a *ℤ d) +ℤ b))
 between_is a b x n c d = ring (a ∷ b ∷ x ∷ n ∷ c ∷ d ∷ []) ((var 5 ⊖ var 4) ⊗ ((var 0 ⊗ var 2) ⊕ (var 1 ⊗ var 3)))
     ((((var 3 ⊗ var 5) ⊖ var 2) ⊗ ((var 0 ⊗ var 4) ⊕ var 1)) ⊕ ((var 2 ⊖ (var 3 ⊗ var 4)) ⊗ ((var 0 ⊗ var 5) ⊕ var 1))) refl
-
-none_right : (a : ℤ) → a *ℤ pos 0 ≡ pos 0
-none_right a = omega (arith, ints)
 
 sum_low : (r s t : ℤ) → t ≡ r +ℤ s → r ≤ℤ pos 0 → s ≤ℤ pos 0 → t ≤ℤ pos 0
 sum_low r s t e h k = omega (arith, linear)
@@ -43,13 +41,7 @@ scaled_low u z h k = let P : ℤ → Type 0 = λ t. (u *ℤ z) ≤ℤ t in subst
 between : (a b x n c d : ℤ) → c <ℤ d → (n *ℤ c) ≤ℤ x → x ≤ℤ (n *ℤ d) → ((a *ℤ c) +ℤ b) ≤ℤ pos 0 → ((a *ℤ d) +ℤ b) ≤ℤ pos 0 → ((a *ℤ x) +ℤ (b *ℤ n)) ≤ℤ pos 0
 between a b x n c d l low high h k = unscale_le ((a *ℤ x) +ℤ (b *ℤ n)) (pos 0) (d -ℤ c)
     (let P : ℤ → Type 0 = λ t. ((d -ℤ c) *ℤ ((a *ℤ x) +ℤ (b *ℤ n))) ≤ℤ t in subst P (sym (none_right (d -ℤ c)))
-    (sum_low _ _ _ (between_is a b x n c d) (scaled_low ((n *ℤ d) -ℤ x) ((a *ℤ c) +ℤ b) (apart x (n *ℤ d) high) h) (scaled_low (x -ℤ (n *ℤ c)) ((a *ℤ d) +ℤ b) (apart (n *ℤ c) x low) k))) (more c d l)
-  where
-    apart : (p q : ℤ) → p ≤ℤ q → pos 0 ≤ℤ (q -ℤ p)
-    apart p q h = omega (arith, linear)
-
-    more : (p q : ℤ) → p <ℤ q → pos 0 <ℤ (q -ℤ p)
-    more p q h = omega (arith, linear)
+    (sum_low _ _ _ (between_is a b x n c d) (scaled_low ((n *ℤ d) -ℤ x) ((a *ℤ c) +ℤ b) (gap_is x (n *ℤ d) high) h) (scaled_low (x -ℤ (n *ℤ c)) ((a *ℤ d) +ℤ b) (gap_is (n *ℤ c) x low) k))) (strict_gap_is c d l)
 
 -- ---- the difference of two heights is linear
 
@@ -129,10 +121,7 @@ under_between e f columns v i h k = of_low _ _ _ (over_is re se ex ey rf sf fx f
 
 -- what is above 0 times a run is so above 0
 above_none : (hf he re rf : ℤ) → pos 0 <ℤ hf → pos 0 <ℤ re → pos 0 <ℤ rf → (hf *ℤ re) ≤ℤ (he *ℤ rf) → pos 0 <ℤ he
-above_none hf he re rf h k m l = cancel_pos rf he m (let P : ℤ → Type 0 = λ t. pos 0 <ℤ t in subst P (mul_comm he rf) (more (pos 0) (hf *ℤ re) (he *ℤ rf) (mul_pos hf re h k) l))
-  where
-    more : (a b c : ℤ) → a <ℤ b → b ≤ℤ c → a <ℤ c
-    more a b c h k = omega (arith, linear)
+above_none hf he re rf h k m l = cancel_pos rf he m (let P : ℤ → Type 0 = λ t. pos 0 <ℤ t in subst P (mul_comm he rf) (lt_le (pos 0) (hf *ℤ re) (he *ℤ rf) (mul_pos hf re h k) l))
 
 lower_next : (d c : DirectedEdge) (columns : Columns) (v : Pt) → Spans d columns → IsIn columns v → AreInOrder d c columns → IsLower v d c
 lower_next d c columns v s i o = λ f r.
@@ -143,7 +132,7 @@ lower_next d c columns v s i o = λ f r.
     (e, record { runs = over.1; over = over.2; below = above_none (height f (left_of v)) (height e (left_of v)) (run_of e) (run_of f) r.below (run_right d v e over.2) (run_right c v f r.over) l }, l)
 
 lower_itself : (v : Pt) (d : DirectedEdge) → IsLower v d d
-lower_itself v d = λ f r. (f, r, same_value (height f (left_of v) *ℤ run_of f))
+lower_itself v d = λ f r. (f, r, itself (height f (left_of v) *ℤ run_of f))
 
 lower_through : (v : Pt) (a b c : DirectedEdge) → IsLower v a b → IsLower v b c → IsLower v a c
 lower_through v a b c h k = λ f r.

@@ -20,7 +20,7 @@ use Rattle.polygonize.specs.Placed.{PlacedRing, opening_of}
 use Rattle.polygonize.specs.Written.{HaveEdges, IsCanonical, IsSound}
 use Rattle.polygonize.proofs.Least.{vertex_order}
 use Rattle.polygonize.proofs.Numbers.{same_vertex}
-use Rattle.polygonize.proofs.Places.{OpeningLess, PlaceLess, pairs_ascend, place_cmp, sorted_places}
+use Rattle.polygonize.proofs.TextOrder.Places.{OpeningLess, PlaceLess, pairs_ascend, place_cmp, sorted_places}
 use Rattle.polygonize.proofs.CycleRings.{less_not}
 use Rattle.polygonize.proofs.Sorted.{Ascend}
 

@@ -7,15 +7,15 @@ use Rattle.std.proofs.lemmas.List.Elements.{All-contains, Contains-append_cases,
 use Rattle.geom.specs.declared.point.Pt.{Pt}
 use Rattle.geom.specs.declared.edge.Edge.{Edge}
 use Rattle.geom.specs.declared.directed.DirectedEdge.{DirectedEdge}
-use Rattle.geom.specs.Directed.{Runs}
+use Rattle.geom.specs.Directed.{RunsAlong}
 use Rattle.geom.specs.Holes.{IsHole, LiesBelow, height, left_of, run_of}
 use Rattle.polygonize.specs.Below.{AreFoundBelow, AreGapsBelow, AreKnown, AreNearer, AreNearerFor, AreNearerSpanning, HasHoles, IsAsNear, IsFoundBelow, IsGapOf, IsLesserGap, RunsBelow, best_at, gap_height, vertex_at}
 use Rattle.polygonize.specs.Column.{AreColumnsOf, IsIn, Meets, Spans}
 use Rattle.polygonize.specs.Next.{edge_at, nothing, ring_of}
 use Rattle.polygonize.specs.declared.below.Gap.{Gap}
 use Rattle.polygonize.specs.declared.column.Columns.{Columns}
-use Rattle.polygonize.proofs.Columns.{below_meets, below_slanted, meets_or_not, spans_or_not}
-use Rattle.polygonize.proofs.Nearness.{by_number, known_lesser, near_first, near_second, nothing_below}
+use Rattle.polygonize.proofs.EdgesBelow.Columns.{below_meets, below_slanted, meets_or_not, spans_or_not}
+use Rattle.polygonize.proofs.EdgesBelow.Nearness.{by_number, known_lesser, near_first, near_second, nothing_below}
 
 -- ---- one vertex after another
 
@@ -130,7 +130,7 @@ at_found : (ds : List DirectedEdge) (v : Pt) (best : Option Gap) → IfSome best
 at_found ds v None h n = λ e b. n b.inside.0 b.inside.1 e (there e b)
   where
     there : (e : Edge) (b : LiesBelow ds (left_of v) e) → RunsBelow (edge_at ds b.inside.0) (left_of v) e
-    there e b = record { runs = (let P : DirectedEdge → Type 0 = λ t. Runs t e in subst P (sym b.inside.2 ∙ get_or_default ds b.inside.0 b.edge nothing b.inside.1) b.runs); over = b.over; below = b.below }
+    there e b = record { runs = (let P : DirectedEdge → Type 0 = λ t. RunsAlong t e in subst P (sym b.inside.2 ∙ get_or_default ds b.inside.0 b.edge nothing b.inside.1) b.runs); over = b.over; below = b.below }
 at_found ds v (Some g) h n = (
   h.inside,
   record {
@@ -144,7 +144,7 @@ at_found ds v (Some g) h n = (
 )
   where
     there : (e : Edge) (b : LiesBelow ds (left_of v) e) → RunsBelow (edge_at ds b.inside.0) (left_of v) e
-    there e b = record { runs = (let P : DirectedEdge → Type 0 = λ t. Runs t e in subst P (sym b.inside.2 ∙ get_or_default ds b.inside.0 b.edge nothing b.inside.1) b.runs); over = b.over; below = b.below }
+    there e b = record { runs = (let P : DirectedEdge → Type 0 = λ t. RunsAlong t e in subst P (sym b.inside.2 ∙ get_or_default ds b.inside.0 b.edge nothing b.inside.1) b.runs); over = b.over; below = b.below }
 
 if_below : (d : DirectedEdge) (v : Pt) (best : Option Gap) → ((f : Edge) → RunsBelow d (left_of v) f → IsAsNear d v best) → IsAsNear d v best
 if_below d v None h = λ f r. h f r f r

@@ -7,13 +7,12 @@ use Rattle.std.proofs.lemmas.List.Sorted.{IsPermutation-refl, IsPermutation-tran
 use Rattle.std.proofs.Math.Seq.{drop-cons}
 use Rattle.geom.specs.declared.directed.DirectedEdge.{DirectedEdge}
 use Rattle.geom.specs.Rings.{ring_edges}
+use Rattle.geom.proofs.RingEdges.{same_order, rotated_edges}
 use Rattle.polygonize.specs.Next.{edge_at, ring_of}
 use Rattle.polygonize.specs.Number.{IsVertex}
 use Rattle.polygonize.specs.Placed.{PlacedRing, rings_in}
 use Rattle.polygonize.specs.Written.{IsTurned, AreTurned, AreAdded, IsSound, IsCanonical, backward}
-use Rattle.polygonize.proofs.Lists.{same_order}
 use Rattle.polygonize.proofs.Permuted.{all_pairs_permutation}
-use Rattle.polygonize.proofs.Pieces.{rotated_edges}
 
 -- ---- one ring
 pub turned_at : (ring : List ℕ) (k : ℕ) → k < length ring → All (λ j. get_or ring k 0 ≤ j) ring → IsTurned ring (drop k ring ++ take k ring)

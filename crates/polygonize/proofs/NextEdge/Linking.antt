@@ -11,7 +11,7 @@ use Rattle.geom.specs.Rings.{IsNext}
 use Rattle.polygonize.specs.Cycle.{IsOneToOne}
 use Rattle.polygonize.specs.Next.{nothing, edge_at, AreNext}
 use Rattle.polygonize.specs.Leaving.{IsNextPlace}
-use Rattle.polygonize.proofs.Sooner.{one_before, place_same}
+use Rattle.polygonize.proofs.NextEdge.Sooner.{one_before, place_same}
 
 -- the first n edges are linked
 pub record Linked (ds : List DirectedEdge) (n : ℕ) (next : List ℕ) : Type 0 where

@@ -8,7 +8,7 @@ use Rattle.std.proofs.Math.ListN.{get_or-append}
 use Rattle.geom.specs.declared.point.Pt.{Pt}
 use Rattle.geom.specs.declared.directed.DirectedEdge.{DirectedEdge}
 use Rattle.geom.specs.Directed.{from_to}
-use Rattle.geom.specs.Rings.{along, around, ring_edges, Corner, corner, corners}
+use Rattle.geom.specs.Rings.{along, around, ring_edges, Corner, corner, ring_corners}
 use Rattle.polygonize.specs.Next.{nothing, edge_at, ring_of}
 
 -- the place after i among n places in a circle
@@ -69,7 +69,7 @@ edge_round ds ring i d h = around_at from_to (ring_of ds ring) i d nothing.from 
     ∙ ap (from_to (vertex_at ds ring i)) (point_at ds ring (place_after (length ring) i) nothing.from (after_inside (length ring) i h))
 
 pub corner_round : (ds : List DirectedEdge) (ring : List ℕ) (i : ℕ) (d : Corner) → i < length ring
-    → get_or (corners (ring_of ds ring)) i d ≡ corner (from_to (vertex_at ds ring i) (vertex_at ds ring (place_after (length ring) i))) (from_to (vertex_at ds ring (place_after (length ring) i)) (vertex_at ds ring (place_after (length ring) (place_after (length ring) i))))
+    → get_or (ring_corners (ring_of ds ring)) i d ≡ corner (from_to (vertex_at ds ring i) (vertex_at ds ring (place_after (length ring) i))) (from_to (vertex_at ds ring (place_after (length ring) i)) (vertex_at ds ring (place_after (length ring) (place_after (length ring) i))))
 corner_round ds ring i d h = around_at corner (ring_edges (ring_of ds ring)) i d nothing (let e = count in omega arith)
     ∙ ap (λ t. corner t (get_or (ring_edges (ring_of ds ring)) (place_after (length (ring_edges (ring_of ds ring))) i) nothing)) (edge_round ds ring i nothing h)
     ∙ ap (λ n. corner (from_to (vertex_at ds ring i) (vertex_at ds ring (place_after (length ring) i))) (get_or (ring_edges (ring_of ds ring)) (place_after n i) nothing)) count

@@ -1,0 +1,6 @@
+-- The nearest edges below vertices.
+pub mod GapsBelow
+pub mod Nearness
+pub mod Columns
+pub mod Ladders
+pub mod Searching

@@ -1,0 +1,5 @@
+-- The next edge round a vertex.
+pub mod Turns
+pub mod Sooner
+pub mod RoundVertex
+pub mod Linking
