@@ -5,7 +5,7 @@ use Rattle.std.proofs.Props.{props}
 use Rattle.std.specs.Prelude.{Contains, Some, slice_get}
 use Rattle.std.proofs.lemmas.Bool.{cases_eq}
 use Rattle.std.proofs.lemmas.List.{map-append, take_more}
-use Rattle.std.proofs.lemmas.Option.{slice_get_within}
+use Rattle.std.proofs.lemmas.Option.{slice_get_within, same_Some}
 use Rattle.geom.specs.declared.point.Pt.{Pt}
 use Rattle.geom.specs.declared.rect.Rect.{Rect}
 use Rattle.geom.specs.Box.{IsInBox}
@@ -25,13 +25,10 @@ heads u v us vs h = cc
 tails : {Z : Type 0} (u v : Z) (us vs : List Z) → (u ∷ us) ≡ (v ∷ vs) → us ≡ vs
 tails u v us vs h = cc
 
-same_item : {X : Type 0} (x y : X) → Some x ≡ Some y → x ≡ y
-same_item x y h = cc
-
 mapped_at : {X Y Z : Type 0} (f : X → Z) (g : Y → Z) (xs : List X) (ys : List Y) (k : ℕ) (x : X) → map f xs ≡ map g ys → slice_get xs k ≡ Some x → (y : Y) × (slice_get ys k ≡ Some y) × (f x ≡ g y)
 mapped_at f g [] ys k x e at = absurd (cc)
 mapped_at f g (u ∷ us) [] k x e at = absurd (cc)
-mapped_at f g (u ∷ us) (v ∷ vs) zero x e at = (v, refl, ap f (sym (same_item u x at)) ∙ heads (f u) (g v) (map f us) (map g vs) e)
+mapped_at f g (u ∷ us) (v ∷ vs) zero x e at = (v, refl, ap f (sym (same_Some u x at)) ∙ heads (f u) (g v) (map f us) (map g vs) e)
 mapped_at f g (u ∷ us) (v ∷ vs) (suc k) x e at = mapped_at f g us vs k x (tails (f u) (g v) (map f us) (map g vs) e) at
 
 -- one box more
@@ -63,7 +60,7 @@ pub bin_over : {X : Type 0} (box : X → Pt × Pt) (g : Tiling) (items : List X)
 bin_over box g items bins k numbers are found = subst (λ (h : Tiling). IsBin h k are.boxes numbers) are.grid_is (found are.boxes are.indexed)
 
 -- ---- a number that is known to be in a list
-member : (x : ℕ) (xs : List ℕ) → In x xs ⊎ (In x xs → ⊥)
+pub member : (x : ℕ) (xs : List ℕ) → In x xs ⊎ (In x xs → ⊥)
 member x [] = inr (λ i. i)
 member x (y ∷ ys) = ⊎_elim (λ e. inl (inl e)) (λ ne. ⊎_elim (λ i. inl (inr i)) (λ no. inr (λ i. ⊎_elim ne no i)) (member x ys)) (cases_eq y x)
 

@@ -12,17 +12,11 @@ use Rattle.geom.specs.declared.segment.Source.{Source}
 use Rattle.geom.specs.declared.segment.Source.TheVariants.{A, B}
 use Rattle.geom.specs.Segments.{same_source}
 use Rattle.geom.proofs.Points.{and_both, both_and, same_point_true, same_point_refl}
+use Rattle.points_law.proofs.OneResult.{apart_prop, segment_path}
 use Rattle.routing.specs.declared.record.Candidate.{Candidate}
 use Rattle.routing.specs.Pieces.{candidate_at, candidates_of}
 use Rattle.chain_gather.specs.Gathered.{is_candidate}
 use Rattle.chain_gather.proofs.Picked.{AllPick, picked_differs, picked_more}
-
-apart_prop : (a b : Pt) → IsProp (a ≢ b)
-apart_prop a b = hlevel props
-
--- a segment is told by its ends and its layer
-seg_path : (s t : Seg) → s.a ≡ t.a → s.b ≡ t.b → s.layer ≡ t.layer → s ≡ t
-seg_path s t a b l = λ i. record { a = a i; b = b i; layer = l i; proper = is_prop→PathP (λ j. a j ≢ b j) (λ j. apart_prop (a j) (b j)) s.proper t.proper i }
 
 same_source_true : (l m : Source) → same_source l m ≡ true → l ≡ m
 same_source_true A A h = refl
@@ -40,7 +34,7 @@ candidate_true c n s h =
     let v = and_both _ _ u.0 in
     let w = and_both _ _ v.0 in
     let e = eqb-true c.number n w.0 in
-    let f = seg_path c.segment s (same_point_true c.segment.a s.a w.1) (same_point_true c.segment.b s.b v.1) (same_source_true c.segment.layer s.layer u.1) in
+    let f = segment_path c.segment s (same_point_true c.segment.a s.a w.1) (same_point_true c.segment.b s.b v.1) (same_source_true c.segment.layer s.layer u.1) in
     λ i. record { number = e i; segment = f i }
 
 pub candidate_refl : (n : ℕ) (s : Seg) → is_candidate (record { number = n; segment = s }) n s ≡ true

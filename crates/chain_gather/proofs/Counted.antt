@@ -12,7 +12,7 @@ use Rattle.geom.specs.declared.point.Pt.{Pt}
 use Rattle.geom.specs.declared.segment.Seg.{Seg}
 use Rattle.geom.specs.Hot.{IsHot}
 use Rattle.geom.specs.Order.{IsBefore}
-use Rattle.geom.proofs.Lists.{contains_in, in_contains}
+use Rattle.geom.proofs.Lists.{contains_in, in_contains, some_same}
 use Rattle.geom.proofs.Orders.{before_itself}
 use Rattle.tiling.specs.Tiles.{HasTile, Owns, Tiling, steps, tile_count}
 use Rattle.tiling.proofs.Columns.{owner_is, pos_same}
@@ -53,9 +53,6 @@ module _ {X : Type 0} (g : Tiling) (pixel_of : X → Pt) (xs : List X) where
       where
         same_default : get_or xs i x ≡ get_or xs i y
         same_default = some_same (slice_get-get_or xs i x within) (slice_get-get_or xs i y within)
-          where
-            some_same : {s t : X} {o : Option X} → o ≡ Some s → o ≡ Some t → s ≡ t
-            some_same {s} {t} {o} e f = cc
 
     here : (old : ℕ) → IsCountOf (take i xs) (λ y. Owns g k (pixel_of y)) old → IsCountOf (take (i + 1) xs) (λ y. Owns g k (pixel_of y)) (old + 1)
     here old h = record {

@@ -19,15 +19,13 @@ use Rattle.geom.specs.Hot.{IsHot}
 use Rattle.geom.specs.Route.{Meets, IsEarlier, IsRoute, AreRoutes}
 use Rattle.geom.specs.Route.AreRoutes.{none, next}
 use Rattle.geom.specs.Rounded.{joins, route_steps, count}
+use Rattle.geom.proofs.Lists.{some_same}
 use Rattle.hot_pixel.proofs.ListLaws.{in_cons, here, in_filter, in_map, head_pair, tail_pairs, pairs_map, filter_none, no_one}
 use Rattle.routing.specs.declared.record.Record.{Record}
 use Rattle.routing.specs.Steps.{steps_to}
 use Rattle.routing.specs.Pieces.{IsRecord}
 use Rattle.routing.proofs.StepLaws.{earlier_from_steps}
 use Rattle.chain_gather.specs.Links.{IsRecordBefore, AreRecords, layer_at, record_pairs, makes}
-
-some_same : {s t : Seg} {o : Option Seg} → o ≡ Some s → o ≡ Some t → s ≡ t
-some_same {s} {t} {o} e f = cc
 
 -- ---- the records of one segment, and of the later ones
 abbrev pub is_own : ℕ → Record → Bool

@@ -11,6 +11,7 @@ use Rattle.geom.specs.Route.{Meets}
 use Rattle.tiling.specs.Tiles.{Tiling, Owns, HasTile, tile_count}
 use Rattle.hot_pixel.proofs.ListLaws.{none_in}
 use Rattle.geom.proofs.Orders.{IsSortedOnce}
+use Rattle.geom.proofs.Lists.{some_same}
 use Rattle.hot_pixel.proofs.HotLaws.{hot_meets}
 use Rattle.routing.specs.declared.record.Record.{Record}
 use Rattle.routing.specs.Steps.{steps_to}
@@ -19,9 +20,6 @@ use Rattle.routing.proofs.StepLaws.{same_from_steps}
 use Rattle.routing.proofs.RecordOrder.{record_cmp, record_total, record_less}
 use Rattle.chain_gather.specs.Links.{IsRecordBefore, AreRecords, HasRecords}
 use Rattle.chain_gather.specs.Gathered.{HasTilesBelow}
-
-some_same : {s t : Seg} {o : Option Seg} → o ≡ Some s → o ≡ Some t → s ≡ t
-some_same {s} {t} {o} e f = cc
 
 pub below_none : (g : Tiling) (segments : List Seg) → HasTilesBelow g segments 0 []
 below_none g segments = record { same = λ r. (λ h. absurd (none_in r h), λ h. absurd (let l = h.1.1 in omega arith)) }

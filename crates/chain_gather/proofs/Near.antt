@@ -11,6 +11,7 @@ use Rattle.geom.specs.Box.{IsInBox, greatest_corner, least_corner}
 use Rattle.geom.proofs.Integers.{linear}
 use Rattle.geom.proofs.Meaning.{met_pixels_are_in_bounds}
 use Rattle.geom.proofs.Numbers.{itself}
+use Rattle.geom.proofs.Lists.{some_same}
 use Rattle.tiling.specs.Tiles.{Tiling, Owns}
 use Rattle.tiling.specs.Index.{AreIndexed}
 use Rattle.tiling.specs.Bins.{Binned, IsBin}
@@ -21,9 +22,6 @@ use Rattle.routing.specs.Pieces.{candidates_of}
 use Rattle.routing.proofs.PieceLaws.{in_candidates}
 use Rattle.chain_gather.specs.Gathered.{AreBoxesOf, AreBinsOf, IsNear, IsNumberedBefore, AreTileCandidates, box_corners}
 use Rattle.chain_gather.proofs.Boxes.{below_bin, bin_over, into_bin, out_of_bin}
-
-some_same : {s t : Seg} {o : Option Seg} → o ≡ Some s → o ≡ Some t → s ≡ t
-some_same {s} {t} {o} e f = cc
 
 -- ---- a bin has the numbers of the segments near its tile
 pub bin_candidates : (g : Tiling) (segments : List Seg) (boxes : List Rect) (k : ℕ) (numbers : List ℕ) → AreBoxesOf segments boxes → IsBin g k boxes numbers → AreCandidates (Owns g k) segments numbers

@@ -11,7 +11,7 @@ use Rattle.geom.specs.Route.{Meets}
 use Rattle.geom.proofs.Edges.{PtOrder, pt_order}
 use Rattle.geom.proofs.Edges.PtOrder.{before, equal, after}
 use Rattle.geom.proofs.ListOrder.{pairs_head, pairs_tail}
-use Rattle.geom.proofs.Lists.{In, contains_in, in_contains}
+use Rattle.geom.proofs.Lists.{In, contains_in, in_contains, some_same}
 use Rattle.geom.proofs.Orders.{before_itself, before_trans}
 use Rattle.hot_pixel.proofs.ListLaws.{none_in, pairs_cons}
 use Rattle.routing.specs.declared.record.Record.{Record}
@@ -76,8 +76,6 @@ module _ {X : Type 0} (R : X → X → Type 0) (Is : X → Type 0) (trans : (x y
 
 -- ---- a part of all hot pixels, and of all records, is what a tile's piece has
 module _ (segments : List Seg) where
-  some_same : {s t : Seg} {o : Option Seg} → o ≡ Some s → o ≡ Some t → s ≡ t
-  some_same {s} {t} {o} e f = cc
 
   -- the steps of two records of one segment, along it
   step_is : (r q : Record) (h : IsRecord segments r) (s : Seg) → slice_get segments r.segment ≡ Some s → (Meets s r.pixel) × (r.steps ≡ steps_to s r.pixel)

@@ -8,6 +8,7 @@ use Rattle.geom.specs.declared.segment.Seg.{Seg}
 use Rattle.geom.specs.Box.{IsInBox}
 use Rattle.geom.specs.Segments.{same_point}
 use Rattle.geom.proofs.Points.{both_and, same_point_refl}
+use Rattle.points_law.proofs.Degrees.{same_point_of}
 use Rattle.tiling.specs.Tiles.{Tiling, Owns}
 use Rattle.hot_pixel.specs.Candidates.{AreCandidates}
 use Rattle.routing.specs.declared.record.Candidate.{Candidate}
@@ -20,9 +21,6 @@ use Rattle.chain_gather.proofs.Near.{one_candidates, one_rect}
 
 abbrev pub same_rect : Rect → Rect → Bool
 same_rect r q = same_point r.lo q.lo && same_point r.hi q.hi
-
-pub same_point_path : (u v : Pt) → u ≡ v → same_point u v ≡ true
-same_point_path u v e = subst (λ (w : Pt). same_point u w ≡ true) e (same_point_refl u)
 
 module _ {A : Type 0} (g : Tiling) (segments : List Seg) (k : ℕ) (piece : Piece A) (rect : Rect) (exact : (p : Pt) → IsInBox rect.lo rect.hi p ↔ Owns g k p) where
   -- the rectangle is the tile's
@@ -41,7 +39,7 @@ module _ {A : Type 0} (g : Tiling) (segments : List Seg) (k : ℕ) (piece : Piec
   pub own_by_rect : (b : Bool) → b ≡ same_rect piece.tile rect → b ≡ false → MatchBool b (IsOwn g segments k piece) (¬ (IsOwn g segments k piece))
   own_by_rect b e f = subst (λ (v : Bool). MatchBool v (IsOwn g segments k piece) (¬ (IsOwn g segments k piece))) (sym f) (λ own.
       let r = one_rect piece.tile rect (λ p. (λ l. (exact p).1 ((own.tile p).0 l), λ l. (own.tile p).1 ((exact p).0 l))) in
-      let t : same_rect piece.tile rect ≡ true = both_and _ _ (same_point_path piece.tile.lo rect.lo r.0) (same_point_path piece.tile.hi rect.hi r.1) in
+      let t : same_rect piece.tile rect ≡ true = both_and _ _ (same_point_of piece.tile.lo rect.lo r.0) (same_point_of piece.tile.hi rect.hi r.1) in
       absurd (cc))
 
 -- an own piece has the hot pixels and the records of its tile

@@ -18,6 +18,7 @@ use Rattle.geom.specs.Segments.{same_point}
 use Rattle.geom.specs.Rounded.{AreRounded, joins, count}
 use Rattle.geom.proofs.Points.{and_both, same_point_true}
 use Rattle.geom.proofs.Edges.{before_strict}
+use Rattle.geom.proofs.Lists.{some_same}
 use Rattle.hot_pixel.proofs.ListLaws.{no_one, no_true}
 use Rattle.routing.specs.declared.record.Record.{Record}
 use Rattle.routing.specs.Steps.{steps_to}
@@ -25,9 +26,6 @@ use Rattle.routing.specs.Pieces.{IsRecord}
 use Rattle.chain_gather.specs.declared.link.Link.{Link}
 use Rattle.chain_gather.specs.Links.{IsRecordBefore, AreRecords, AreApart, AreLinks, layer_at, record_pairs, makes, same_edge, is_of, count_links, AreCounts}
 use Rattle.chain_gather.proofs.Flat.{layer_at_is, routes_from, routes_of_records, count_is}
-
-some_same : {s t : Seg} {o : Option Seg} → o ≡ Some s → o ≡ Some t → s ≡ t
-some_same {s} {t} {o} e f = cc
 
 -- ---- an edge joins the two points that it is between
 abbrev pub IsBetweenPoints : Edge → Pt → Pt → Type 0

@@ -14,7 +14,7 @@ use Rattle.tiling.specs.Bins.{AreBins, IsBin, TileBins}
 use Rattle.tiling.specs.Tiles.{HasTile, Owns, Tiling, tile_count}
 use Rattle.hot_pixel.specs.Candidates.{AreCandidates}
 use Rattle.chain_gather.specs.Gathered.{HaveTiles, box_corners, corners}
-use Rattle.chain_gather.proofs.Boxes.{in_same_box}
+use Rattle.chain_gather.proofs.Boxes.{in_same_box, member}
 use Rattle.chain_gather.proofs.Near.{bin_candidates, has_hi, has_lo}
 use Rattle.engine.specs.Rounds.{AreCellBins}
 
@@ -46,10 +46,6 @@ module _ (g : Tiling) (segments : List Seg) (i : ℕ) (s : Seg) (box : Rect) (l 
   greatest_has_tile have = subst (λ (t : Tiling). HasTile t box.hi) (sym h.grid_is) (have s box.hi segment_in (in_same_box box.lo box.hi _ _ box.hi lo hi (has_hi box)))
 
 -- ---- as candidates
-
-member : (x : ℕ) (xs : List ℕ) → In x xs ⊎ (In x xs → ⊥)
-member x [] = inr (λ i. i)
-member x (y ∷ ys) = ⊎_elim (λ e. inl (inl e)) (λ ne. ⊎_elim (λ i. inl (inr i)) (λ no. inr (λ i. ⊎_elim ne no i)) (member x ys)) (cases_eq y x)
 
 pub cell_candidates : (g : Tiling) (segments : List Seg) (bins : TileBins) (k : ℕ) (list : List ℕ) → ∥ AreCellBins g segments bins ∥₁ → k < tile_count g → list ≡ get_or bins.bins k [] → AreCandidates (Owns g k) segments list
 cell_candidates g segments bins k list are within e = record {

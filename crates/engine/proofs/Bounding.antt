@@ -11,6 +11,7 @@ use Rattle.geom.specs.declared.point.Pt.{Pt}
 use Rattle.geom.specs.declared.rect.Rect.{Rect}
 use Rattle.geom.specs.declared.segment.Seg.{Seg}
 use Rattle.geom.proofs.Numbers.{itself}
+use Rattle.geom.proofs.Lists.{some_same}
 use Rattle.chain_gather.specs.Gathered.{BoundsHold}
 use Rattle.engine.specs.Rounds.{AllInLimit}
 
@@ -100,9 +101,6 @@ holds_more segments i old mid new s is l all first second h = record {
   where
     both : (c : Pt) → IsInBox old.lo old.hi c → IsInBox new.lo new.hi c
     both c b = still_in mid s.b new second c (still_in old s.a mid first c b)
-
-    some_same : {s t : Seg} {o : Option Seg} → o ≡ Some s → o ≡ Some t → s ≡ t
-    some_same {s} {t} {o} e f = cc
 
     last : (d : Seg) → IsInBox new.lo new.hi (get_or segments i d).a × IsInBox new.lo new.hi (get_or segments i d).b
     last d =

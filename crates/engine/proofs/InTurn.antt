@@ -1,13 +1,8 @@
 -- Pieces that are made one after another stand in the order of their numbers.
 use Rattle.std.proofs.Common.{◌≡◌, ◌⊎◌, inl, inr, ℕ, zero, suc, List, [], ◌∷◌, ◌++◌, length, refl, sym, ap, ◌∙◌, subst, ⊎_elim}
 use Rattle.std.specs.Prelude.{Some, slice_get}
+use Rattle.tile_book.proofs.Completed.{pushed_at}
 use Rattle.tile_book.specs.Books.{StandInOrder}
-
-pushed_at : {X : Type 0} (xs : List X) (y x : X) (j : ℕ) → slice_get (xs ++ y ∷ []) j ≡ Some x → (slice_get xs j ≡ Some x) ⊎ ((j ≡ length xs) × (y ≡ x))
-pushed_at [] y x zero e = inr (refl, cc)
-pushed_at [] y x (suc j) e = absurd (cc)
-pushed_at (z ∷ xs) y x zero e = inl e
-pushed_at (z ∷ xs) y x (suc j) e = ⊎_elim (λ p. inl p) (λ p. inr (ap suc p.0, p.1)) (pushed_at xs y x j e)
 
 pub in_order_none : {P : Type 0} (number : P → ℕ) → StandInOrder number []
 in_order_none number = λ k p e. absurd (cc)

@@ -15,7 +15,7 @@ use Rattle.geom.specs.Noded.{IsNoded}
 use Rattle.geom.specs.NodedEdges.{AreNodedEdges}
 use Rattle.geom.specs.Order.{IsBefore}
 use Rattle.geom.specs.Rounded.{IsEdgeBefore, edges_of}
-use Rattle.geom.proofs.Edges.{before_strict, edge_path}
+use Rattle.geom.proofs.Edges.{before_strict, edge_path, IsBefore-prop, one_run}
 use Rattle.points_law.specs.Law.{AreLayers}
 use Rattle.polygonize.proofs.CycleRings.{less_apart}
 
@@ -29,12 +29,6 @@ pub directed_in : (op : Op) (counted : List Counted) (directed : List DirectedEd
 directed_in op counted directed l r = All-weaker (Contains directed) (λ d. AreInLimit d.from d.to)
     (λ d h. let e : IsResultEdge op counted d = (r.exact d).0 h in run_in d e.edge e.runs (All-contains (λ e. AreInLimit e.p e.q) (edges_of counted) e.edge l e.rounded))
     directed (All-contains_itself directed)
-
-one_run : (d : DirectedEdge) (e f : Edge) → RunsAlong d e → RunsAlong d f → e ≡ f
-one_run d e f (inl h) (inl k) = edge_path e f (ap (λ t. t.from) (sym h ∙ k)) (ap (λ t. t.to) (sym h ∙ k))
-one_run d e f (inr h) (inr k) = edge_path e f (ap (λ t. t.to) (sym h ∙ k)) (ap (λ t. t.from) (sym h ∙ k))
-one_run d e f (inl h) (inr k) = absurd (before_strict e.p e.q e.ordered (let P : Pt → Type 0 = λ t. IsBefore t e.p in subst P (sym (ap (λ t. t.to) (sym h ∙ k))) (let Q : Pt → Type 0 = IsBefore f.p in subst Q (sym (ap (λ t. t.from) (sym h ∙ k))) f.ordered)))
-one_run d e f (inr h) (inl k) = absurd (before_strict e.p e.q e.ordered (let P : Pt → Type 0 = λ t. IsBefore t e.p in subst P (sym (ap (λ t. t.from) (sym h ∙ k))) (let Q : Pt → Type 0 = IsBefore f.p in subst Q (sym (ap (λ t. t.to) (sym h ∙ k))) f.ordered)))
 
 -- and so they meet only at ends, as those do
 pub noded_edges : (op : Op) (counted : List Counted) (directed : List DirectedEdge) → IsNoded (edges_of counted) → AreResultEdges op counted directed → AreNodedEdges directed
@@ -51,14 +45,11 @@ either_prop p q n (inl x) (inr y) = absurd (n x y)
 either_prop p q n (inr x) (inl y) = absurd (n y x)
 either_prop {A} {B} p q n (inr x) (inr y) = let f : B → A ⊎ B = λ b. inr b in ap f (q x y)
 
-point_before_prop : (p q : Pt) → IsProp (IsBefore p q)
-point_before_prop p q = hlevel props
-
 tied_prop : (e f : Edge) → IsProp ((e.p ≡ f.p) × IsBefore e.q f.q)
 tied_prop e f = hlevel props
 
 edge_before_prop : (e f : Edge) → IsProp (IsEdgeBefore e f)
-edge_before_prop e f = either_prop (point_before_prop e.p f.p) (tied_prop e f) (λ b t. less_apart e.p f.p b t.0)
+edge_before_prop e f = either_prop (IsBefore-prop e.p f.p) (tied_prop e f) (λ b t. less_apart e.p f.p b t.0)
 
 pairs_prop : {X : Type 0} (R : X → X → Type 0) → ((x y : X) → IsProp (R x y)) → (xs : List X) → IsProp (AllPairs R xs)
 pairs_prop R h xs = hlevel h

@@ -2,7 +2,7 @@
 use Rattle.std.proofs.Common.{◌≡◌, ◌∙◌, ℕ, zero, suc, ◌+◌, ◌-◌, ◌<◌, ◌≤◌, List, [], ◌∷◌, ◌++◌, append_assoc, map, length, take, get_or, refl, sym, ap, arith}
 use Rattle.std.specs.List.{filter, flat_map}
 use Rattle.std.specs.Prelude.{not}
-use Rattle.std.proofs.lemmas.List.{append-nil, take_more}
+use Rattle.std.proofs.lemmas.List.{append-nil, take_more, map-append}
 use Rattle.std.proofs.lemmas.List.Elements.{filter-append}
 use Rattle.std.proofs.lemmas.Grind.{flat_map-append}
 use Rattle.geom.specs.declared.point.Pt.{Pt}
@@ -11,10 +11,6 @@ use Rattle.geom.specs.declared.segment.Source.{Source}
 use Rattle.geom.specs.declared.segment.Source.TheVariants.{A, B}
 use Rattle.geom.specs.Segments.{AreSegments, neighbours, parts, ring_steps, same_point, tagged}
 use Rattle.engine.specs.Rounds.{HasSteps, proper}
-
-map-append : {X Y : Type 0} (f : X → Y) (xs ys : List X) → map f (xs ++ ys) ≡ map f xs ++ map f ys
-map-append f [] ys = refl
-map-append f (x ∷ xs) ys = ap (λ t. f x ∷ t) (map-append f xs ys)
 
 proper-append : (layer : Source) (xs ys : List (Pt × Pt)) → proper layer (xs ++ ys) ≡ proper layer xs ++ proper layer ys
 proper-append layer xs ys =

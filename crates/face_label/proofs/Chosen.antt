@@ -3,6 +3,7 @@ use Rattle.std.proofs.Common.{◌≡◌, ℕ, zero, suc, ◌+◌, ◌-◌, ◌<�
 use Rattle.std.specs.Prelude.{AllPairs, count_by, slice_get}
 use Rattle.std.proofs.lemmas.Bool.{cases_eq}
 use Rattle.geom.proofs.Lists.{In, count-cons}
+use Rattle.std.proofs.lemmas.Option.{same_Some}
 
 -- ascending, from i on
 abbrev From : ℕ → List ℕ → Type 0
@@ -45,9 +46,6 @@ past_end i k = omega arith
 start : (i : ℕ) → i + zero ≡ i
 start i = omega arith
 
-pub some_is : {X : Type 0} (x y : X) → Some x ≡ Some y → x ≡ y
-some_is x y e = cc
-
 heads : {X : Type 0} (x y : X) (xs ys : List X) → x ∷ xs ≡ y ∷ ys → (x ≡ y) × (xs ≡ ys)
 heads x y xs ys e = (cc, cc)
 
@@ -81,7 +79,7 @@ count_chosen f look i (x ∷ xs) [] [] a l e h = not_counted f x xs (count_by f 
 count_chosen f look i (x ∷ xs) [] (c ∷ cs) a l e h = absurd (cc)
 count_chosen f look i (x ∷ xs) (n ∷ ns) [] a l e h = absurd (cc)
 count_chosen {X} f look i (x ∷ xs) (n ∷ ns) (c ∷ cs) a l e h = elim (cases_eq n i) [
-  | inl q ↦ counted_too f c x cs xs (some_is c x (parts.0 ∙ ap look (q ∙ sym (start i)) ∙ l 0)) (count_chosen f look (suc i) xs ns cs (after q) further parts.1 (rest q))
+  | inl q ↦ counted_too f c x cs xs (same_Some c x (parts.0 ∙ ap look (q ∙ sym (start i)) ∙ l 0)) (count_chosen f look (suc i) xs ns cs (after q) further parts.1 (rest q))
   | inr m ↦ not_counted f x xs (count_by f (c ∷ cs)) (λ t. absurd (before (from_in (suc i) (n ∷ ns) (above m) (i + 0) (h 0 x refl t))))
       (count_chosen f look (suc i) xs (n ∷ ns) (c ∷ cs) (above m) further e (λ k y s t. let P : ℕ → Type 0 = λ t. In t (n ∷ ns) in subst P (past_end i k) (h (suc k) y s t)))
 ]

@@ -7,7 +7,7 @@ use Rattle.std.proofs.lemmas.Int.{ints, int_min_is, int_max_is}
 use Rattle.std.proofs.lemmas.Bool.{cases_lt}
 use Rattle.std.proofs.lemmas.List.{get_or_default, take_more}
 use Rattle.std.proofs.lemmas.List.Elements.{All-more, All-weaker, All-filter, All-map, Contains-append_left, Contains-push}
-use Rattle.std.proofs.lemmas.Option.{slice_get-map, slice_get_within}
+use Rattle.std.proofs.lemmas.Option.{slice_get-map, slice_get_within, same_Some}
 use Rattle.std.proofs.Math.ListN.{get_or-append}
 use Rattle.std.proofs.Math.Seq.{get_or-append_seam}
 use Rattle.geom.specs.declared.edge.Edge.{Edge}
@@ -23,7 +23,6 @@ use Rattle.geom.proofs.Numbers.{le_le}
 use Rattle.lane_tests.specs.Columns.{corners}
 use Rattle.tiling.specs.Index.{Item}
 use Rattle.tiling.specs.Strips.{IsFill, Striped}
-use Rattle.face_label.proofs.Chosen.{some_is}
 use Rattle.face_label.specs.Strip.{AreBoxesOf, AreColumnsFrom, AreColumnsOf, AreInStrip, AreLayerStrips, AreStriped, IsIndexOf, IsLeastWidth, IsStriped, StripedLayer, edge_corners}
 
 -- ---- columns
@@ -141,14 +140,14 @@ from_box edges boxes a k b h = told (slice_get edges k) refl (sym (slice_get-map
   where
     told : (o : Option Edge) → slice_get edges k ≡ o → Some (corners b) ≡ option_map edge_corners (slice_get edges k) → (e : Edge) × Paired edges boxes k e b
     told None q r = absurd (let s : Some (corners b) ≡ None = r ∙ ap (option_map edge_corners) q in cc)
-    told (Some e) q r = (e, paired edges boxes k e b q h (some_is (corners b) (edge_corners e) (r ∙ ap (option_map edge_corners) q)))
+    told (Some e) q r = (e, paired edges boxes k e b q h (same_Some (corners b) (edge_corners e) (r ∙ ap (option_map edge_corners) q)))
 
 from_edge : (edges : List Edge) (boxes : List Rect) → AreBoxesOf edges boxes → (k : ℕ) (e : Edge) → slice_get edges k ≡ Some e → (b : Rect) × Paired edges boxes k e b
 from_edge edges boxes a k e h = told (slice_get boxes k) refl (sym (slice_get-map corners boxes k) ∙ ap (λ t. slice_get t k) a ∙ slice_get-map edge_corners edges k ∙ ap (option_map edge_corners) h)
   where
     told : (o : Option Rect) → slice_get boxes k ≡ o → option_map corners (slice_get boxes k) ≡ Some (edge_corners e) → (b : Rect) × Paired edges boxes k e b
     told None q r = absurd (let s : None ≡ Some (edge_corners e) = sym (ap (option_map corners) q) ∙ r in cc)
-    told (Some b) q r = (b, paired edges boxes k e b h q (some_is (corners b) (edge_corners e) (sym (ap (option_map corners) q) ∙ r)))
+    told (Some b) q r = (b, paired edges boxes k e b h q (same_Some (corners b) (edge_corners e) (sym (ap (option_map corners) q) ∙ r)))
 
 -- ---- strips
 pub fill_in_range : (edges : List Edge) (items : List Item) (x : IsIndexOf edges items) (s : Striped) (strip : ℕ) (numbers : List ℕ) → IsFill s strip x.boxes numbers → All (λ k. k < length edges) numbers

@@ -1,15 +1,17 @@
 -- Edges are equal where their ends are, and the order of points is strict.
-use Rattle.std.proofs.Common.{◌≡◌, ◌⊎◌, inl, inr, sym, arith, refl}
+use Rattle.std.proofs.Common.{◌≡◌, ◌⊎◌, inl, inr, sym, ap, subst, ◌∙◌, arith, refl}
 use Rattle.std.proofs.Math.Path.{path_j}
 use Rattle.std.proofs.Props.{props}
 use Rattle.std.specs.Prelude.{◌<ℤ◌}
 use Rattle.std.proofs.lemmas.Int.{by_lt_z}
 use Rattle.geom.specs.declared.point.Pt.{Pt}
 use Rattle.geom.specs.declared.edge.Edge.{Edge}
+use Rattle.geom.specs.declared.directed.DirectedEdge.{DirectedEdge}
+use Rattle.geom.specs.Directed.{RunsAlong}
 use Rattle.geom.specs.Order.{IsBefore}
 use Rattle.geom.proofs.Integers.{linear}
 
-IsBefore-prop : (p q : Pt) → IsProp (IsBefore p q)
+pub IsBefore-prop : (p q : Pt) → IsProp (IsBefore p q)
 IsBefore-prop p q = hlevel props
 
 abbrev edge : (p q : Pt) → IsBefore p q → Edge
@@ -40,6 +42,13 @@ not_turned e f h k = turned_by h k e.ordered
   where
     turned_by : {p q : Pt} → p ≡ f.q → q ≡ f.p → IsBefore p q → ⊥
     turned_by {p} {q} h k o = path_j (λ (q : Pt) _. IsBefore p q → ⊥) (λ o. path_j (λ (p : Pt) _. IsBefore p f.p → ⊥) (λ o. before_strict f.p f.q f.ordered o) (sym h) o) (sym k) o
+
+-- a directed edge runs along one edge
+pub one_run : (d : DirectedEdge) (e f : Edge) → RunsAlong d e → RunsAlong d f → e ≡ f
+one_run d e f (inl h) (inl k) = edge_path e f (ap (λ t. t.from) (sym h ∙ k)) (ap (λ t. t.to) (sym h ∙ k))
+one_run d e f (inr h) (inr k) = edge_path e f (ap (λ t. t.to) (sym h ∙ k)) (ap (λ t. t.from) (sym h ∙ k))
+one_run d e f (inl h) (inr k) = absurd (not_turned e f (ap (λ t. t.from) (sym h ∙ k)) (ap (λ t. t.to) (sym h ∙ k)))
+one_run d e f (inr h) (inl k) = absurd (not_turned e f (ap (λ t. t.to) (sym h ∙ k)) (ap (λ t. t.from) (sym h ∙ k)))
 
 pub record Joining (c e : Pt) : Type 0 where
   pub edge : Edge

@@ -15,7 +15,7 @@ pub record IsNearest (z n q : ℤ) : Type 0 where
   pub high : (pos 2 *ℤ z) <ℤ (n *ℤ ((pos 2 *ℤ q) +ℤ pos 1))
 
 -- the quotient q that rounds down has k * q ≤ a < k * q + k
-quotient-parts : (a : ℤ) (k : ℕ) → 0 < k → (up (int_div_euclid a (pos k)) * k + down a ≤ down (int_div_euclid a (pos k)) * k + up a) × (down (int_div_euclid a (pos k)) * k + up a < up (int_div_euclid a (pos k)) * k + down a + k)
+pub quotient-parts : (a : ℤ) (k : ℕ) → 0 < k → (up (int_div_euclid a (pos k)) * k + down a ≤ down (int_div_euclid a (pos k)) * k + up a) × (down (int_div_euclid a (pos k)) * k + up a < up (int_div_euclid a (pos k)) * k + down a + k)
 quotient-parts (pos a) k h = omega arith
 quotient-parts (negsuc a) k h = omega arith
 

@@ -71,7 +71,7 @@ pt_ties = search (comparing, rules)
 weak : {x y : ℤ} → x <ℤ y → x ≤ℤ y
 weak {x} {y} h = omega (arith, linear)
 
-clash_same : {x y : ℤ} → x <ℤ y → x ≡ y → ⊥
+pub clash_same : {x y : ℤ} → x <ℤ y → x ≡ y → ⊥
 clash_same {x} {y} h e = omega (arith, linear)
 
 same_le : {x y : ℤ} → x ≡ y → x ≤ℤ y

@@ -61,7 +61,7 @@ positive_or_not a = by_lt_z (pos 0) a (λ h. inl h) (λ h. inr (λ k. never a h 
     never : (a : ℤ) → a ≤ℤ pos 0 → pos 0 <ℤ a → ⊥
     never a h k = omega (arith, linear)
 
-all_in : {X : Type 0} (P : X → Type 0) (xs : List X) → ((x : X) → In x xs → P x) → All P xs
+pub all_in : {X : Type 0} (P : X → Type 0) (xs : List X) → ((x : X) → In x xs → P x) → All P xs
 all_in P xs f k d l = f _ (contains_in xs _ (Contains-get_or xs k d l))
 
 least_or_not : (ring : List Pt) (v : Pt) → IsLeastVertex ring v ⊎ (¬ (IsLeastVertex ring v))

@@ -3,7 +3,7 @@ use Rattle.std.proofs.Common.{◌≡◌, true, false, sym, arith}
 use Rattle.std.proofs.lemmas.Int.{ints}
 use Rattle.std.proofs.Math.IntN.{ℤ}
 use Rattle.std.specs.Prelude.{◌<ℤ◌, ◌≤ℤ◌, int_le, int_lt}
-use Rattle.geom.proofs.Integers.{linear}
+use lib.Signed.{le_z, lt_z}
 use Rattle.geom.proofs.Numbers.{le_le, le_lt, lt_le}
 
 pub lt_yes : (a b : ℤ) → a <ℤ b → int_lt a b ≡ true
@@ -26,3 +26,10 @@ le_told a b h = omega (arith, ints)
 
 pub le_untold : (a b : ℤ) → int_le a b ≡ false → b <ℤ a
 le_untold a b h = omega (arith, ints)
+
+-- the same of the kit's other tests
+pub le_z_told : (a b : ℤ) → le_z a b ≡ true → a ≤ℤ b
+le_z_told a b h = omega (arith, ints)
+
+pub lt_z_told : (a b : ℤ) → lt_z a b ≡ true → a <ℤ b
+lt_z_told a b h = omega (arith, ints)

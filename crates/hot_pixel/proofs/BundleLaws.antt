@@ -27,6 +27,8 @@ use Rattle.geom.proofs.Pixels.{in_pixel}
 use Rattle.geom.proofs.Points.{and_both, both_and, or_either}
 use Rattle.geom.proofs.Numbers.{gap_is, weak, zero_is_nonneg, le_lt, le_le, strict_gap_is, positive_is_not_zero, lt_lt}
 use Rattle.geom.proofs.Tests.{lt_told, lt_yes}
+use Rattle.geom.proofs.Nearest.{quotient-parts}
+use Rattle.hot_pixel.proofs.SweepLaws.{cross_turn}
 use Rattle.hot_pixel.specs.declared.bundle.Course.{Course}
 use Rattle.hot_pixel.specs.declared.bundle.Course.TheVariants.{Columns, Rows}
 use Rattle.hot_pixel.specs.declared.bundle.Strand.{Strand}
@@ -98,9 +100,6 @@ floors_order h r k h' r' k' p p' f f' less = unscale_lt (h *ℤ r') (h' *ℤ r) 
     chain a b c d e g u v x y z i j m n = omega (arith, linear)
 
 -- ---- quotients, rounded down
-quotient_parts : (a : ℤ) (k : ℕ) → 0 < k → (up (int_div_euclid a (pos k)) * k + down a ≤ down (int_div_euclid a (pos k)) * k + up a) × (down (int_div_euclid a (pos k)) * k + up a < up (int_div_euclid a (pos k)) * k + down a + k)
-quotient_parts (pos a) k h = omega arith
-quotient_parts (negsuc a) k h = omega arith
 
 quotient_from_parts : (a q : ℤ) (k : ℕ) → (up q * k + down a ≤ down q * k + up a) × (down q * k + up a < up q * k + down a + k) → IsQuotient a (pos k) q
 quotient_from_parts a q k u = record { from = first q k a u.0; below = subst (λ x. a <ℤ x) (sym (next (pos k) q)) (second q k a u.1) }
@@ -115,7 +114,7 @@ quotient_from_parts a q k u = record { from = first q k a u.0; below = subst (λ
     second q k a u = omega (arith, ints)
 
 pub quotient_is : (a r : ℤ) → pos 0 <ℤ r → IsQuotient a r (int_div_euclid a r)
-quotient_is a (pos k) p = quotient_from_parts a (int_div_euclid a (pos k)) k (quotient_parts a k (omega (arith, ints)))
+quotient_is a (pos k) p = quotient_from_parts a (int_div_euclid a (pos k)) k (quotient-parts a k (omega (arith, ints)))
 quotient_is a (negsuc k) p = absurd (omega (arith, ints))
 
 -- the quotient of a number whose quotient is within n
@@ -295,9 +294,6 @@ module _ (low high : ℤ) (e f : Edge) (s t : Strand) (c : Pt) (l : low ≤ℤ c
   pub no_crossing : AscendsTo s t → CrossAt e f c → ⊥
   unfolding segment_of
   no_crossing up x = never_cross (segment_of e) (segment_of f) refl refl refl refl up (x.cross (segment_of e) (segment_of f) (segment_line e) (segment_line f))
-
-pub cross_turned : (e f : Edge) (c : Pt) → CrossAt e f c → CrossAt f e c
-cross_turned e f c x = record { cross = λ s t h k. cross_back t s c (x.cross t s k h) }
 
 -- ---- lines as they are seen
 pub seen_one : (course : Course) (e f g : Edge) → IsSeen course e f → IsSeen course e g → f ≡ g
@@ -483,7 +479,7 @@ module _ (course : Course) (low high : ℤ) where
     apart_no_crossing e f h x =
         let y = cross_seen course e f h.first.0 h.second.0 c h.first.1 h.second.1 x in ⊎_elim
         (λ up. no_crossing low high h.first.0 h.second.0 h.s h.t (seen_point course c) from to h.first.2 h.second.2 up y)
-        (λ up. no_crossing low high h.second.0 h.first.0 h.t h.s (seen_point course c) from to h.second.2 h.first.2 up (cross_turned h.first.0 h.second.0 (seen_point course c) y))
+        (λ up. no_crossing low high h.second.0 h.first.0 h.t h.s (seen_point course c) from to h.second.2 h.first.2 up (cross_turn h.first.0 h.second.0 (seen_point course c) y))
         h.order
 
     none_hot : (lines : List Line) (ss : List Strand) → AreStrands course low high lines ss → IsDistinct clash ss → IsHotFor (edges_of lines) c → ⊥

@@ -25,7 +25,7 @@ use Rattle.hot_pixel.specs.Halving.{IsMetOn, IsEndOf, IsCrossing, IsHotFor, HasE
 use Rattle.hot_pixel.proofs.ListLaws.{none_in, in_push, in_take_more, in_map}
 use Rattle.hot_pixel.proofs.HotLaws.{meets_start, meets_end, first_meets, second_meets, met_line, hot_limit}
 use Rattle.hot_pixel.proofs.LineLaws.{same_line, segment_of, segment_line, cross_at}
-use Rattle.hot_pixel.proofs.SweepLaws.{cross_turn, not_itself, crossing_of}
+use Rattle.hot_pixel.proofs.SweepLaws.{cross_turn, not_itself, crossing_of, start_or_end, start_in}
 
 -- ---- lines meet the pixels of their ends and of their crossings
 pub met_on : (e : Edge) (s : Seg) (c : Pt) → IsLine e s → Meets s c → IsMetOn e c
@@ -126,15 +126,6 @@ found_all rect lines old mid new h g = record { same = λ c. (to c, from c) }
     from c (inr (inr k, t)) = g.all k.e k.f c k.e_listed k.f_listed k.crosses t
 
 -- ---- segments of lines
-start_or_end : (L : List Seg) (e : Edge) (s : Seg) (c : Pt) → Contains L s → IsLine e s → (e.p ≡ c) ⊎ (e.q ≡ c) → IsHot L c
-start_or_end L e s c h (inl (p, q)) (inl k) = start s h (sym p ∙ k)
-start_or_end L e s c h (inl (p, q)) (inr k) = end s h (sym q ∙ k)
-start_or_end L e s c h (inr (p, q)) (inl k) = end s h (sym p ∙ k)
-start_or_end L e s c h (inr (p, q)) (inr k) = start s h (sym q ∙ k)
-
-start_in : (e : Edge) (s : Seg) (c : Pt) → IsLine e s → s.a ≡ c → (e.p ≡ c) ⊎ (e.q ≡ c)
-start_in e s c (inl (p, q)) k = inl (p ∙ k)
-start_in e s c (inr (p, q)) k = inr (q ∙ k)
 
 final_in : (e : Edge) (s : Seg) (c : Pt) → IsLine e s → s.b ≡ c → (e.p ≡ c) ⊎ (e.q ≡ c)
 final_in e s c (inl (p, q)) k = inr (q ∙ k)

@@ -245,17 +245,17 @@ pub all_none : (tile : Rect) (old : List Pt) → HasAllCrossed tile [] old old
 all_none tile old = record { kept = λ c h. h; only = λ c h. inl h; all = λ e f c h k a t. absurd (none_in e h) }
 
 -- ---- all that was found
-start_or_end : (L : List Seg) (e : Edge) (s : Seg) (c : Pt) → Contains L s → IsLine e s → (e.p ≡ c) ⊎ (e.q ≡ c) → IsHot L c
+pub start_or_end : (L : List Seg) (e : Edge) (s : Seg) (c : Pt) → Contains L s → IsLine e s → (e.p ≡ c) ⊎ (e.q ≡ c) → IsHot L c
 start_or_end L e s c h (inl (p, q)) (inl k) = start s h (sym p ∙ k)
 start_or_end L e s c h (inl (p, q)) (inr k) = end s h (sym q ∙ k)
 start_or_end L e s c h (inr (p, q)) (inl k) = end s h (sym p ∙ k)
 start_or_end L e s c h (inr (p, q)) (inr k) = start s h (sym q ∙ k)
 
-start_in : (e : Edge) (s : Seg) (c : Pt) → IsLine e s → s.a ≡ c → (e.p ≡ c) ⊎ (e.q ≡ c)
+pub start_in : (e : Edge) (s : Seg) (c : Pt) → IsLine e s → s.a ≡ c → (e.p ≡ c) ⊎ (e.q ≡ c)
 start_in e s c (inl (p, q)) k = inl (p ∙ k)
 start_in e s c (inr (p, q)) k = inr (q ∙ k)
 
-end_in : (e : Edge) (s : Seg) (c : Pt) → IsLine e s → s.b ≡ c → (e.p ≡ c) ⊎ (e.q ≡ c)
+pub end_in : (e : Edge) (s : Seg) (c : Pt) → IsLine e s → s.b ≡ c → (e.p ≡ c) ⊎ (e.q ≡ c)
 end_in e s c (inl (p, q)) k = inr (q ∙ k)
 end_in e s c (inr (p, q)) k = inl (p ∙ k)
 

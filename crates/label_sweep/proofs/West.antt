@@ -12,13 +12,14 @@ use Rattle.geom.specs.declared.edge.Edge.{Edge}
 use Rattle.geom.proofs.Lists.{In}
 use Rattle.geom.proofs.Integers.{expand, linear}
 use Rattle.geom.proofs.Numbers.{weak, below_successor, past_predecessor}
+use Rattle.geom.proofs.Tests.{lt_z_told}
 use Rattle.points_law.proofs.Choices.{◌⊕◌, ◌∧∧◌, par, run, rise, MeetAtEnds, Noded, Even, is, parity, left, right}
 use Rattle.points_law.proofs.ResultOfChoices.{Edges}
 use Rattle.points_law.proofs.Meet.{off, slope, gap}
 use Rattle.points_law.proofs.Sums.{par_cong, par_xor, par_none}
 use Rattle.points_law.proofs.Even.{both_ways, is_same, is_refl, same, same_is, same_refl, not_true, once}
 use Rattle.points_law.proofs.Sign.{twice, not_zero, stays_up}
-use Rattle.points_law.proofs.Column.{cv, ab, cv_low, cv_high, cv_run, lt_from, differ, no_root, among, not_above_itself}
+use Rattle.points_law.proofs.Column.{cv, ab, cv_low, cv_high, cv_run, differ, no_root, among, not_above_itself}
 use Rattle.points_law.proofs.Vertex.{over_pt, higher, west, slopes, EndsAt, Vertex, vertex_end, on_sloping, back_low, back_high}
 use Rattle.points_law.proofs.Turn.{sloping_right, turned_p, at_p, crossing, before, itself_flat}
 use Rattle.points_law.proofs.Heights.{is_positive}
@@ -50,7 +51,7 @@ lifts re rf se sf oe of x y = simp expand (omega (arith, linear))
 
 higher_of : (f g : Edge) (v : Pt) → MeetAtEnds f g → cv f (v.x -ℤ pos 1) ≡ true → cv g (v.x -ℤ pos 1) ≡ true → pos 0 <ℤ over_pt f v → ab g f (v.x -ℤ pos 1) ≡ true → higher g v ≡ true
 higher_of f g v m i j h u = is_positive (over_pt g v) (pos_both (run f) (over_pt g v) (slope g f *ℤ v.x +ℤ gap g f *ℤ pos 1) (run g) (over_pt f v) (cv_run f _ i) (cv_run g _ j)
-    (stays_up (slope g f) (gap g f) (v.x -ℤ pos 1) v.x (pos 1) (no_root f g (v.x -ℤ pos 1) m i j) (lt_from (pos 0) _ u) (back_low v.x) (back_high v.x))
+    (stays_up (slope g f) (gap g f) (v.x -ℤ pos 1) v.x (pos 1) (no_root f g (v.x -ℤ pos 1) m i j) (lt_z_told (pos 0) _ u) (back_low v.x) (back_high v.x))
     (lifts (run f) (run g) (rise f) (rise g) (off f) (off g) v.x v.y) h)
 
 own_term : (a c u w s : Bool) → c ≡ true → u ≡ true → w ≡ false → s ≡ true → a ∧∧ (c ∧∧ u) ≡ (a ∧∧ (c ∧∧ w)) ⊕ (s ∧∧ a)
@@ -72,7 +73,7 @@ west_each es n a v f l g i true s = subst (λ z. a z ∧∧ (cv z (v.x -ℤ pos 
     (own_term (a f) (cv f (v.x -ℤ pos 1)) (higher f v) (ab f f (v.x -ℤ pos 1)) (same f f) l.reaches (is_positive (over_pt f v) l.above) (not_above_itself f (v.x -ℤ pos 1)) (same_refl f))
 west_each es n a v f l g i false s = other_term (a g) (cv g (v.x -ℤ pos 1)) (higher g v) (ab g f (v.x -ℤ pos 1)) (same g f)
     (λ c. both_ways (higher g v) (ab g f (v.x -ℤ pos 1))
-    (λ h. ab_of f g v (n f g l.inside i (differ f g s)) l.reaches c (l.least g i c (lt_from (pos 0) (over_pt g v) h)))
+    (λ h. ab_of f g v (n f g l.inside i (differ f g s)) l.reaches c (l.least g i c (lt_z_told (pos 0) (over_pt g v) h)))
     (λ h. higher_of f g v (n f g l.inside i (differ f g s)) l.reaches c l.above h))
     (not_true (same g f) (λ h. differ f g s (sym (same_is g f h))))
 
@@ -91,7 +92,7 @@ none_term a c u h = grind arith
 -- and even where there is none
 pub west_none : (es : List Edge) → (a : Edge → Bool) → (v : Pt) → ((g : Edge) → In g es → cv g (v.x -ℤ pos 1) ≡ true → pos 0 <ℤ over_pt g v → ⊥) → west a es v ≡ false
 west_none es a v n = par_cong (λ g. a g ∧∧ (cv g (v.x -ℤ pos 1) ∧∧ higher g v)) (λ g. false) es
-    (λ g i. none_term (a g) (cv g (v.x -ℤ pos 1)) (higher g v) (λ c u. n g i c (lt_from (pos 0) (over_pt g v) u))) ∙ par_none es
+    (λ g i. none_term (a g) (cv g (v.x -ℤ pos 1)) (higher g v) (λ c u. n g i c (lt_z_told (pos 0) (over_pt g v) u))) ∙ par_none es
 
 -- ---- turning from straight up, clockwise, over the edges that begin at v
 stay : (x y : Bool) → y ≡ false → x ⊕ y ≡ x
@@ -103,7 +104,7 @@ pub first_turn : (es : List Edge) → Edges es → (a : Edge → Bool) → Even 
 first_turn es h a ev g i n = turned_p es h a ev g i (slopes g) refl
     ∙ stay (west a es g.p) (par (λ f. a f ∧∧ before g.p f g) es)
     (par_cong (λ f. a f ∧∧ before g.p f g) (λ f. false) es
-    (λ f j. ap (λ (t : Bool). a f ∧∧ t) (at_p g f (h.ordered g i)) ∙ none_term (a f) (is g.p f.p) (lt_z (pos 0) (slope f g)) (λ k s. n f j (sym (is_same g.p f.p k)) (lt_from (pos 0) (slope f g) s)))
+    (λ f j. ap (λ (t : Bool). a f ∧∧ t) (at_p g f (h.ordered g i)) ∙ none_term (a f) (is g.p f.p) (lt_z (pos 0) (slope f g)) (λ k s. n f j (sym (is_same g.p f.p k)) (lt_z_told (pos 0) (slope f g) s)))
     ∙ par_none es)
 
 -- g comes right before k, turning
@@ -120,8 +121,8 @@ next_each es h a g k n f j true s = subst (λ z. a z ∧∧ (is k.p z.p ∧∧ l
     (subst (λ w. is k.p w ≡ true) (sym n.begins) (is_refl k.p)) (is_positive (slope g k) n.before) (itself_flat g) (same_refl g))
 next_each es h a g k n f j false s = other_term (a f) (is k.p f.p) (lt_z (pos 0) (slope f k)) (lt_z (pos 0) (slope f g)) (same f g)
     (λ b. both_ways (lt_z (pos 0) (slope f k)) (lt_z (pos 0) (slope f g))
-    (λ t. is_positive (slope f g) (other (n.down f j (sym (is_same k.p f.p b)) (lt_from (pos 0) (slope f k) t))))
-    (λ t. is_positive (slope f k) (n.up f j (sym (is_same k.p f.p b)) (lt_from (pos 0) (slope f g) t))))
+    (λ t. is_positive (slope f g) (other (n.down f j (sym (is_same k.p f.p b)) (lt_z_told (pos 0) (slope f k) t))))
+    (λ t. is_positive (slope f k) (n.up f j (sym (is_same k.p f.p b)) (lt_z_told (pos 0) (slope f g) t))))
     (not_true (same f g) (λ e. differ g f s (sym (same_is f g e))))
   where
     other : (f ≡ g) ⊎ (pos 0 <ℤ slope f g) → pos 0 <ℤ slope f g

@@ -76,7 +76,7 @@ times w {at} {u} {v} a b h = record { lanes = relane (λ k. mul_bits w (u k) (v 
 pub prod : (r a b x y : ℤ) → FitsSigned w32 a → FitsSigned w32 b → a ≡ x → b ≡ y → r ≡ to_z w32 (of_z w32 a) *ℤ to_z w32 (of_z w32 b) → r ≡ x *ℤ y
 prod r a b x y f g d e h = let k : r ≡ a *ℤ b = simp to_z-of_z at h in k ∙ (λ i. d i *ℤ e i)
 
-wide_fits : (z : ℤ) → FitsSigned w32 z → FitsSigned w64 z
+pub wide_fits : (z : ℤ) → FitsSigned w32 z → FitsSigned w64 z
 wide_fits z h = omega (arith, ints)
 
 pub widened : {at : ℕ} {v : ℕ → ℤ} {z : List ℕ} → AreValues w32 at v z → AreValues w64 at v (map (λ n. of_z w64 (to_z w32 n)) z)

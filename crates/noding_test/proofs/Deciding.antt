@@ -13,7 +13,7 @@ use Rattle.geom.specs.Order.{IsBefore}
 use Rattle.geom.specs.Noded.{IsBad, IsLeastBad}
 use Rattle.geom.proofs.Integers.{linear}
 use Rattle.geom.proofs.Lists.{In, contains_in, in_contains}
-use Rattle.geom.proofs.Orders.{pt_cmp, pt_ranks, edge_cmp, edge_ranks, edge_before_itself, edge_before_trans}
+use Rattle.geom.proofs.Orders.{pt_cmp, pt_ranks, edge_cmp, edge_ranks, edge_before_itself, edge_before_trans, clash_same}
 use Rattle.noding_test.proofs.CommonPoints.{AreOnOneSide}
 use Rattle.noding_test.proofs.MeetingLaws.{Decides, at_ends, beside_first, beside_second, crossing_first, crossing_second, on_one_line, said_bad, said_clean}
 use Rattle.noding_test.proofs.VerdictLaws.{clean_not_bad}
@@ -39,9 +39,6 @@ either (inr n) (inr m) = inr (λ h. ⊎_elim (λ p. n p) (λ q. m q) h)
 -- ---- numbers
 clash : {x y : ℤ} → x <ℤ y → y <ℤ x → ⊥
 clash {x} {y} h k = omega (arith, linear)
-
-clash_same : {x y : ℤ} → x <ℤ y → x ≡ y → ⊥
-clash_same {x} {y} h e = omega (arith, linear)
 
 clash_past : {x y : ℤ} → y <ℤ x → x ≡ y → ⊥
 clash_past {x} {y} h e = omega (arith, linear)

@@ -11,11 +11,12 @@ use Rattle.geom.specs.declared.edge.Counted.{Counted}
 use Rattle.geom.specs.Box.{IsInBox}
 use Rattle.geom.specs.Rounded.{edges_of}
 use Rattle.geom.proofs.Points.{both_and}
+use Rattle.points_law.proofs.Degrees.{same_point_of}
 use Rattle.tiling.specs.Tiles.{Tiling, Owns}
 use Rattle.hot_pixel.specs.Rects.{IsIn}
 use Rattle.chain_gather.proofs.Boxes.{in_same_box}
 use Rattle.chain_gather.proofs.Near.{one_rect}
-use Rattle.chain_gather.proofs.OwnLaws.{same_rect, same_point_path}
+use Rattle.chain_gather.proofs.OwnLaws.{same_rect}
 use Rattle.chain_gather.proofs.Picked.{AllPick, picked_differs, picked_more}
 use Rattle.noding_test.specs.declared.verdicts.Verdict.{Verdict}
 use Rattle.noding_test.specs.Verdicts.{chosen_edges, edge_at, AreNear, IsLeastPair, IsOwnBad}
@@ -56,7 +57,7 @@ module _ {A : Type 0} (g : Tiling) (k : ℕ) (counted : List Counted) (numbers :
   pub own_by_rect : (b : Bool) → b ≡ same_rect verdict.tile rect → b ≡ false → MatchBool b (IsOwnVerdict g k counted numbers verdict) (¬ (IsOwnVerdict g k counted numbers verdict))
   own_by_rect b e f = subst (λ (v : Bool). MatchBool v (IsOwnVerdict g k counted numbers verdict) (¬ (IsOwnVerdict g k counted numbers verdict))) (sym f) (λ own.
       let r = one_rect verdict.tile rect (λ p. (λ l. (exact p).1 ((own.tile p).0 l), λ l. (own.tile p).1 ((exact p).0 l))) in
-      let t : same_rect verdict.tile rect ≡ true = both_and _ _ (same_point_path verdict.tile.lo rect.lo r.0) (same_point_path verdict.tile.hi rect.hi r.1) in
+      let t : same_rect verdict.tile rect ≡ true = both_and _ _ (same_point_of verdict.tile.lo rect.lo r.0) (same_point_of verdict.tile.hi rect.hi r.1) in
       absurd (cc))
 
 -- an own verdict has the least bad pair of its tile

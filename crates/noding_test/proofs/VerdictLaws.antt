@@ -19,11 +19,9 @@ use Rattle.geom.proofs.Integers.{linear}
 use Rattle.geom.proofs.Meaning.{met_pixels_are_in_bounds}
 use Rattle.geom.proofs.Orders.{before_itself, edge_before_itself, edge_before_trans}
 use Rattle.geom.proofs.Numbers.{itself}
+use Rattle.geom.proofs.Lists.{some_same}
 use Rattle.noding_test.specs.Verdicts.{common_corner, IsOwnBad, IsLeastPair}
 use Rattle.noding_test.specs.Search.{NoneBadTo, IsPartner}
-
-pub some_same : {e f : Edge} {o : Option Edge} → o ≡ Some e → o ≡ Some f → e ≡ f
-some_same {e} {f} {o} a b = cc
 
 -- ---- a bad pair has a point of the grid in both boxes
 seg_of : Edge → Seg

@@ -14,6 +14,7 @@ use Rattle.geom.proofs.Lists.{In}
 use Rattle.points_law.proofs.Choices.{◌⊕◌, ◌∧∧◌, par, run, rise, Ordered, MeetAtEnds, Noded, eq_z, Even}
 use Rattle.geom.proofs.Integers.{expand, linear, scale_le, scale_lt, mul_pos, by_sign, none_right}
 use Rattle.geom.proofs.Numbers.{weak, once_from, from_strict_gap, no_gap_is, strict_gap_is, from_no_gap, le_lt, lt_le}
+use Rattle.geom.proofs.Tests.{le_z_told, lt_z_told}
 use Rattle.points_law.proofs.Sign.{NoRoot, twice, not_zero, sign}
 use Rattle.points_law.proofs.Meet.{off, slope, gap, no_meet, no_cross}
 use Rattle.points_law.proofs.Sums.{par_cong, par_xor}
@@ -27,17 +28,11 @@ cv e k = le_z e.p.x k ∧∧ lt_z k e.q.x
 abbrev pub ab : Edge → Edge → ℤ → Bool
 ab f e k = lt_z (pos 0) (twice (slope f e) (gap f e) k)
 
-pub le_from : (a b : ℤ) → le_z a b ≡ true → a ≤ℤ b
-le_from a b h = omega (arith, ints)
-
-pub lt_from : (a b : ℤ) → lt_z a b ≡ true → a <ℤ b
-lt_from a b h = omega (arith, ints)
-
 pub cv_low : (e : Edge) (k : ℤ) → cv e k ≡ true → e.p.x ≤ℤ k
-cv_low e k h = le_from e.p.x k (and_left (le_z e.p.x k) (lt_z k e.q.x) h)
+cv_low e k h = le_z_told e.p.x k (and_left (le_z e.p.x k) (lt_z k e.q.x) h)
 
 pub cv_high : (e : Edge) (k : ℤ) → cv e k ≡ true → k <ℤ e.q.x
-cv_high e k h = lt_from k e.q.x (and_right (le_z e.p.x k) (lt_z k e.q.x) h)
+cv_high e k h = lt_z_told k e.q.x (and_right (le_z e.p.x k) (lt_z k e.q.x) h)
 
 pub cv_run : (e : Edge) (k : ℤ) → cv e k ≡ true → pos 0 <ℤ run e
 cv_run e k h = omega (arith, ints, cv_low e k h, cv_high e k h)

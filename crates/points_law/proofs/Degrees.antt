@@ -93,7 +93,7 @@ either_true : (a b : Bool) → (a ≡ true) ⊎ (b ≡ true) → a || b ≡ true
 either_true a b (inl h) = grind arith
 either_true a b (inr h) = grind arith
 
-same_point_of : (u v : Pt) → u ≡ v → same_point u v ≡ true
+pub same_point_of : (u v : Pt) → u ≡ v → same_point u v ≡ true
 same_point_of u v h = subst (λ w. same_point u w ≡ true) h (same_point_refl u)
 
 joins_its : (e : Edge) (step : Pt × Pt) → ((e.p ≡ step.0) × (e.q ≡ step.1)) ⊎ ((e.p ≡ step.1) × (e.q ≡ step.0)) → joins e step ≡ true

@@ -9,11 +9,12 @@ use Rattle.geom.specs.Holes.{left_of, height, run_of}
 use Rattle.geom.proofs.Integers.{expand, linear, scale_le, unscale_le, by_sign}
 use Rattle.geom.proofs.Lists.{In}
 use Rattle.geom.proofs.Numbers.{itself, weak}
+use Rattle.geom.proofs.Tests.{le_z_told, lt_z_told}
 use Rattle.points_law.proofs.Choices.{◌∧∧◌, Even, run, rise, covers, above, parity, K}
 use Rattle.points_law.proofs.ResultOfChoices.{Edges}
 use Rattle.points_law.proofs.Even.{by_test, clash}
 use Rattle.points_law.proofs.Meet.{off}
-use Rattle.points_law.proofs.Column.{cv_low, cv_run, lt_from}
+use Rattle.points_law.proofs.Column.{cv_low, cv_run}
 use Rattle.points_law.proofs.Heights.{covers_is, above_is, is_positive}
 use Rattle.points_law.proofs.Vertex.{over_pt, Vertex}
 use Rattle.points_law.proofs.HoleVertex.{NoneFromLeft, edge_below, left_in, lift_left, small_rise, level_there}
@@ -40,9 +41,6 @@ nearer hy hm hf ry rm rf m y f h k =
     let a : (rf *ℤ (hy *ℤ rm)) ≤ℤ (rf *ℤ (hm *ℤ ry)) = scale_le (hy *ℤ rm) (hm *ℤ ry) rf h f in
     let b : (ry *ℤ (hm *ℤ rf)) ≤ℤ (ry *ℤ (hf *ℤ rm)) = scale_le (hm *ℤ rf) (hf *ℤ rm) ry k y in
     unscale_le (hy *ℤ rf) (hf *ℤ ry) rm (simp expand (omega (arith, linear, simp expand at a, simp expand at b))) m
-
-same_or_less : (a b : ℤ) → le_z a b ≡ true → a ≤ℤ b
-same_or_less a b h = omega (arith, ints)
 
 more_than : (a b : ℤ) → le_z a b ≡ false → b ≤ℤ a
 more_than a b h = omega (arith, ints)
@@ -101,8 +99,8 @@ module _ (es : List Edge) (h : Edges es) (r : Edge → Bool) (v : Pt) where
   next y ys i false t m = keep y ys m (λ ry c b. clash (is_below y) t (these_three (r y) (covers y (left_of v)) (lt_z (pos 0) (height y (left_of v))) ry c (is_positive (height y (left_of v)) b)))
   next y ys i true t m = let p = all_three (r y) (covers y (left_of v)) (lt_z (pos 0) (height y (left_of v))) t in
       by_test (le_z (height m.edge (left_of v) *ℤ run_of y) (height y (left_of v) *ℤ run_of m.edge)) (NearestOf es r v (y ∷ ys))
-      (λ s. keep y ys m (λ ry c b. same_or_less (height m.edge (left_of v) *ℤ run_of y) (height y (left_of v) *ℤ run_of m.edge) s))
-      (λ s. better y ys i p.0 p.1 (lt_from (pos 0) (height y (left_of v)) p.2) m (more_than (height m.edge (left_of v) *ℤ run_of y) (height y (left_of v) *ℤ run_of m.edge) s))
+      (λ s. keep y ys m (λ ry c b. le_z_told (height m.edge (left_of v) *ℤ run_of y) (height y (left_of v) *ℤ run_of m.edge) s))
+      (λ s. better y ys i p.0 p.1 (lt_z_told (pos 0) (height y (left_of v)) p.2) m (more_than (height m.edge (left_of v) *ℤ run_of y) (height y (left_of v) *ℤ run_of m.edge) s))
 
   nearest_in : NearestOf es r v [] → (xs : List Edge) → ((f : Edge) → In f xs → In f es) → NearestOf es r v xs
   nearest_in c [] known = c

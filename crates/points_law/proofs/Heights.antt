@@ -11,9 +11,10 @@ use Rattle.geom.specs.Pixel.{Point}
 use Rattle.points_law.proofs.Choices.{◌⊕◌, ◌∧∧◌, run, rise, MeetAtEnds, covers, above}
 use Rattle.geom.proofs.Integers.{expand, linear, scale_le, mul_pos, cancel_pos, by_sign}
 use Rattle.geom.proofs.Numbers.{le_le, lt_le, weak}
+use Rattle.geom.proofs.Tests.{lt_z_told}
 use Rattle.points_law.proofs.Sign.{twice, stays_up}
 use Rattle.points_law.proofs.Meet.{off, slope, gap}
-use Rattle.points_law.proofs.Column.{cv, ab, up_to, no_root, cv_run, lt_from}
+use Rattle.points_law.proofs.Column.{cv, ab, up_to, no_root, cv_run}
 
 pub record InColumn (z : Point) (k : ℤ) : Type 0 where
   pub low : (z.n *ℤ k) ≤ℤ z.x
@@ -93,5 +94,5 @@ pub upward : (e f : Edge) (z : Point) (k : ℤ) → InColumn z k → MeetAtEnds 
 upward e f z k c m i j u v = above_is f z ∙ is_positive (lift f z) (cancel_pos (run e) (lift f z) (cv_run e k i)
     (subst (λ (t : ℤ). pos 0 <ℤ t) (sym (lifts (run e) (run f) (rise e) (rise f) (off e) (off f) z.x z.y z.n))
     (add_pos (slope f e *ℤ z.x +ℤ gap f e *ℤ z.n) (run f *ℤ lift e z)
-    (stays_up (slope f e) (gap f e) k z.x z.n (no_root e f k m i j) (lt_from (pos 0) (twice (slope f e) (gap f e) k) u) c.low (weak z.x (z.n *ℤ (k +ℤ pos 1)) c.high))
-    (mul_pos (run f) (lift e z) (cv_run f k j) (lt_from (pos 0) (lift e z) (sym (above_is e z) ∙ v))))))
+    (stays_up (slope f e) (gap f e) k z.x z.n (no_root e f k m i j) (lt_z_told (pos 0) (twice (slope f e) (gap f e) k) u) c.low (weak z.x (z.n *ℤ (k +ℤ pos 1)) c.high))
+    (mul_pos (run f) (lift e z) (cv_run f k j) (lt_z_told (pos 0) (lift e z) (sym (above_is e z) ∙ v))))))

@@ -14,10 +14,10 @@ use Rattle.points_law.proofs.Choices.{◌⊕◌, ◌∧∧◌, par, run, rise, O
 use Rattle.points_law.proofs.ResultOfChoices.{Edges}
 use Rattle.geom.proofs.Integers.{expand, linear, mul_pos, mul_nonneg, cancel_pos, by_sign, none_left}
 use Rattle.geom.proofs.Numbers.{never_negative, strict_gap_is, weak}
+use Rattle.geom.proofs.Tests.{lt_z_told}
 use Rattle.points_law.proofs.Meet.{slope}
 use Rattle.points_law.proofs.Sums.{par_cong, par_xor, par_and, par_none, and_false}
 use Rattle.points_law.proofs.Even.{is_same, same, same_is, same_refl, not_true, once}
-use Rattle.points_law.proofs.Column.{lt_from}
 use Rattle.points_law.proofs.Heights.{is_positive}
 use Rattle.points_law.proofs.Vertex.{west, slopes}
 use Rattle.points_law.proofs.Turn.{before, ends_at, crossing, turned_p, turned_q, round_tour, itself_flat, not_both, run_low, second_end}
@@ -58,7 +58,7 @@ by_runs f e g of oe og h i (inr r) (inl w) (inr x) = cancel_pos (run e) (slope f
 by_runs f e g of oe og h i (inr r) (inl w) (inl x) = absurd (nothing_steeper (run e) (run g) (rise e) (rise g) x (run_low e oe) (upright_rise g og x) i)
 
 pub slope_trans : (f e g : Edge) → Ordered f → Ordered e → Ordered g → lt_z (pos 0) (slope f e) ≡ true → lt_z (pos 0) (slope e g) ≡ true → lt_z (pos 0) (slope f g) ≡ true
-slope_trans f e g of oe og h i = is_positive (slope f g) (by_runs f e g of oe og (lt_from (pos 0) (slope f e) h) (lt_from (pos 0) (slope e g) i)
+slope_trans f e g of oe og h i = is_positive (slope f g) (by_runs f e g of oe og (lt_z_told (pos 0) (slope f e) h) (lt_z_told (pos 0) (slope e g) i)
     (some_run (run e) (run_low e oe)) (some_run (run f) (run_low f of)) (some_run (run g) (run_low g og)))
 
 through : (pf qf pe qe pg qg s t u : Bool) → (pf ≡ true → qf ≡ false) → (pe ≡ true → qe ≡ false) → (pg ≡ true → qg ≡ false) → (s ≡ true → t ≡ true → u ≡ true)

@@ -25,11 +25,11 @@ use Rattle.geom.proofs.SamePolygons.{same_polygons}
 use Rattle.points_law.specs.Polygons.{AreResultPolygons}
 
 -- ---- segments
-apart_prop : (a b : Pt) → IsProp (a ≢ b)
+pub apart_prop : (a b : Pt) → IsProp (a ≢ b)
 apart_prop a b = hlevel props
 
 -- a segment is told by its ends and its layer
-segment_path : (s t : Seg) → s.a ≡ t.a → s.b ≡ t.b → s.layer ≡ t.layer → s ≡ t
+pub segment_path : (s t : Seg) → s.a ≡ t.a → s.b ≡ t.b → s.layer ≡ t.layer → s ≡ t
 segment_path s t a b l = λ i. record { a = a i; b = b i; layer = l i; proper = is_prop→PathP (λ j. a j ≢ b j) (λ j. apart_prop (a j) (b j)) s.proper t.proper i }
 
 same_segments : (ss ts : List Seg) → map parts ss ≡ map parts ts → ss ≡ ts

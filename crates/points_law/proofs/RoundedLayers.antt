@@ -19,12 +19,9 @@ use Rattle.geom.proofs.Lists.{In, in_contains, in_map}
 use Rattle.geom.proofs.Pixels.{piece, meets_in}
 use Rattle.geom.proofs.RouteLists.{AreNext}
 use Rattle.geom.proofs.Steps.{FromRoute, from_count}
+use Rattle.geom.proofs.Owners.{all_in}
 use Rattle.points_law.specs.Law.{AreLayers}
 use Rattle.points_law.proofs.Degrees.{closed_even}
-
-all_in : {X : Type 0} (P : X → Type 0) (xs : List X) → ((x : X) → In x xs → P x) → All P xs
-all_in P [] h = All-nil P
-all_in P (x ∷ xs) h = All-cons P x xs (h x (inl refl)) (all_in P xs (λ y i. h y (inr i)))
 
 -- what is from one end to the other is within the limit, as they are
 between_within : (n : ℕ) (a b c : ℤ) → IsWithin n a → IsWithin n b → Between a b c → IsWithin n c

@@ -11,7 +11,7 @@ use Rattle.geom.specs.Rings.{IsSooner, IsMetBefore}
 use Rattle.geom.proofs.Edges.{before_cases, before_strict, edge_path, not_turned}
 use Rattle.geom.proofs.Integers.{expand, linear}
 use Rattle.points_law.proofs.Choices.{◌⊕◌, ◌∧∧◌, Ordered, is}
-use Rattle.points_law.proofs.Even.{is_refl, is_same}
+use Rattle.points_law.proofs.Even.{is_refl, is_same, clash}
 use Rattle.points_law.proofs.Meet.{slope}
 use Rattle.points_law.proofs.Turn.{before, ends_at, not_both, second_end}
 use Rattle.points_law.proofs.Next.{between, majority}
@@ -129,13 +129,10 @@ module _ (v a b : Pt) (f g : Edge) where
   first_in : f.q ≡ v → g.p ≡ v → before v f g ≡ false
   first_in h k = in_out (is v f.p) (is v f.q) (is v g.p) (is v g.q) (lt_z (pos 0) (slope f g)) (no_start v f h) (is_stop v f h) (is_start v g k) (no_stop v g k)
 
-  never : {P : Type 0} (t : Bool) → t ≡ false → t ≡ true → P
-  never t h k = absurd (let e : false ≡ true = sym h ∙ k in cc)
-
   pub sooner_of : Joins v a f → Joins v b g → before v f g ≡ true → IsSooner v a b
   sooner_of (inl (h, i)) (inl (j, k)) t = inr (inl (goes_out v a f h i, goes_out v b g j k), below_zero (slope f g) (side v a b) (slope_out v a b f g h i j k) (sym (both_out h j) ∙ t))
   sooner_of (inl (h, i)) (inr (j, k)) t = inl (goes_out v a f h i, comes_in v b g j k)
-  sooner_of (inr (h, i)) (inl (j, k)) t = never (before v f g) (first_in h j) t
+  sooner_of (inr (h, i)) (inl (j, k)) t = clash (before v f g) (first_in h j) t
   sooner_of (inr (h, i)) (inr (j, k)) t = inr (inr (comes_in v a f h i, comes_in v b g j k), below_zero (slope f g) (side v a b) (slope_in v a b f g h i j k) (sym (both_in h j) ∙ t))
 
   pub before_of : Joins v a f → Joins v b g → IsSooner v a b → before v f g ≡ true

@@ -17,7 +17,7 @@ use Rattle.geom.specs.Pixel.{Point}
 use Rattle.geom.specs.ResultEdges.{holds_at, is_result_edge, result_edges}
 use Rattle.geom.specs.RingParity.{spans, side_above, ring_parity}
 use Rattle.geom.specs.Rounded.{edges_of, is_odd}
-use Rattle.geom.proofs.Edges.{edge_path, not_turned}
+use Rattle.geom.proofs.Edges.{edge_path, not_turned, one_run}
 use Rattle.geom.proofs.Integers.{linear, expand, mul_nonneg}
 use Rattle.geom.proofs.Lists.{In, Distinct, contains_in, in_contains}
 use Rattle.geom.proofs.Orders.{directed_before_itself}
@@ -85,12 +85,6 @@ runs_of d e (inr h) = only_second (goes e.p e.q d) (goes e.q e.p d) (not_true (g
 
 runs_is : (d : DirectedEdge) (e : Edge) → runs d e ≡ true → RunsAlong d e
 runs_is d e h = ⊎_elim (λ k. inl (goes_is e.p e.q d k)) (λ k. inr (goes_is e.q e.p d k)) (one_of (goes e.p e.q d) (goes e.q e.p d) h)
-
-one_run : (d : DirectedEdge) (e f : Edge) → RunsAlong d e → RunsAlong d f → e ≡ f
-one_run d e f (inl h) (inl k) = let l = sym h ∙ k in edge_path e f (ap (λ (x : DirectedEdge). x.from) l) (ap (λ (x : DirectedEdge). x.to) l)
-one_run d e f (inl h) (inr k) = absurd (turned_apart e f (sym h ∙ k))
-one_run d e f (inr h) (inl k) = absurd (turned_apart f e (sym k ∙ h))
-one_run d e f (inr h) (inr k) = let l = sym h ∙ k in edge_path e f (ap (λ (x : DirectedEdge). x.to) l) (ap (λ (x : DirectedEdge). x.from) l)
 
 runs_same : (d : DirectedEdge) (e f : Edge) → RunsAlong d f → runs d e ≡ same e f
 runs_same d e f h = both_ways (runs d e) (same e f)

@@ -16,11 +16,12 @@ use Rattle.points_law.proofs.Choices.{◌⊕◌, ◌∧∧◌, par, run, rise, O
 use Rattle.points_law.proofs.ResultOfChoices.{Edges}
 use Rattle.geom.proofs.Integers.{expand, linear, mul_pos, mul_nonneg}
 use Rattle.geom.proofs.Numbers.{weak}
+use Rattle.geom.proofs.Tests.{lt_z_told}
 use Rattle.points_law.proofs.Meet.{off, slope}
 use Rattle.points_law.proofs.Sums.{par_cong, par_xor, par_none, over, jump, walk, and_comm}
 use Rattle.points_law.proofs.Even.{both_ways, and_left, and_right, is_same, is_refl, same, same_is, same_refl, not_true, once}
 use Rattle.points_law.proofs.Sign.{twice}
-use Rattle.points_law.proofs.Column.{cv, ab, cv_run, among, anywhere, one_above, not_above_itself, differ, lt_from}
+use Rattle.points_law.proofs.Column.{cv, ab, cv_run, among, anywhere, one_above, not_above_itself, differ}
 use Rattle.points_law.proofs.Heights.{column, is_positive}
 use Rattle.points_law.proofs.Result.{no_jump, same_jump, keep}
 use Rattle.points_law.proofs.Side.{at_left, at_right, left_column, right_column}
@@ -121,7 +122,7 @@ pub not_steeper : (f g : Edge) → Ordered f → Upright g → lt_z (pos 0) (slo
 not_steeper f g o u = ap (λ (t : ℤ). lt_z (pos 0) (t *ℤ rise f -ℤ run f *ℤ rise g)) (run_none g u) ∙ low (rise f) (run f *ℤ rise g) (product_low (run f) (rise g) (run_low f o) (rise_some g u))
   where
     low : (s w : ℤ) → pos 0 ≤ℤ w → lt_z (pos 0) (pos 0 *ℤ s -ℤ w) ≡ false
-    low s w h = not_true (lt_z (pos 0) (pos 0 *ℤ s -ℤ w)) (λ t. no (pos 0 *ℤ s -ℤ w) w (zero s w) h (lt_from (pos 0) (pos 0 *ℤ s -ℤ w) t))
+    low s w h = not_true (lt_z (pos 0) (pos 0 *ℤ s -ℤ w)) (λ t. no (pos 0 *ℤ s -ℤ w) w (zero s w) h (lt_z_told (pos 0) (pos 0 *ℤ s -ℤ w) t))
       where
         zero : (s w : ℤ) → pos 0 *ℤ s -ℤ w ≡ neg_ℤ w
         zero s w = omega (arith, ints)

@@ -15,13 +15,14 @@ use Rattle.geom.proofs.Pixels.{same_point}
 use Rattle.points_law.proofs.Choices.{◌⊕◌, ◌∧∧◌, par, run, rise, Ordered, Small, On, IsAt, IsEnd, MeetAtEnds, Noded, Even, eq_z, is, parity, counted, above, left, right, K}
 use Rattle.geom.proofs.Integers.{expand, linear, mul_pos, by_sign, twice_right, once_left, none_right, mul_neg}
 use Rattle.geom.proofs.Numbers.{gap_is, strict_gap_is, no_gap_is, from_strict_gap, negated, positive_is_not_zero, times_no_gap, below_successor, past_predecessor, zero_is_not_positive, once_from, weak}
+use Rattle.geom.proofs.Tests.{lt_z_told}
 use Rattle.points_law.proofs.Meet.{off, slope, gap, at, on_itself, on_vertical}
 use Rattle.points_law.proofs.Sums.{par_cong, par_xor}
 use Rattle.points_law.proofs.Even.{and_left, and_right, eq_z_same, is_same, is_refl, same, same_is, even_sum}
 use Rattle.points_law.proofs.Sign.{sign}
 use Rattle.points_law.proofs.Heights.{InColumn, covers_is, above_is}
 use Rattle.points_law.proofs.Side.{pos_test, SideOf, left_side, right_side, over_mid, dot, lift_is, near_test, twice_big, dot_bound, AllSmall, if_covered}
-use Rattle.points_law.proofs.Column.{cv, ab, cv_low, cv_high, cv_run, no_root, among, joined, scaled_test, vertical_cover, differ, lt_from, AllOrdered, one_next}
+use Rattle.points_law.proofs.Column.{cv, ab, cv_low, cv_high, cv_run, no_root, among, joined, scaled_test, vertical_cover, differ, AllOrdered, one_next}
 use Rattle.points_law.proofs.Truth.{both_true, and_none}
 
 -- how far f is above v at v's x, times the run of f
@@ -456,7 +457,7 @@ level_s : (f : Edge) (v : Pt) → v ≡ f.q → over_pt f v ≡ pos 0
 level_s f v h = ap (λ (w : Pt). over_pt f w) h ∙ at_q f.p.x f.p.y f.q.x f.q.y f.q.y ∙ times_no_gap (run f) f.q.y
 
 pub slope_run : (f : Edge) → slopes f ≡ true → pos 0 <ℤ run f
-slope_run f h = strict_gap_is f.p.x f.q.x (lt_from f.p.x f.q.x h)
+slope_run f h = strict_gap_is f.p.x f.q.x (lt_z_told f.p.x f.q.x h)
 
 down_east_each : (es : List Edge) → Noded es → (e f : Edge) → In e es → In f es → Upright e → (t : Bool) → starts f e.q ≡ t → cv f e.q.x ∧∧ higher f e.p ≡ (cv f e.q.x ∧∧ higher f e.q) ⊕ starts f e.q
 down_east_each es n e f i j u true t = at_end (cv f e.q.x) (higher f e.p) (higher f e.q) (starts f e.q)

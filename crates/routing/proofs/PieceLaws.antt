@@ -13,6 +13,7 @@ use Rattle.hot_pixel.specs.Rects.{IsIn}
 use Rattle.hot_pixel.specs.Candidates.{chosen, AreCandidates, AreOwnedHot}
 use Rattle.hot_pixel.proofs.ListLaws.{in_cons, from_cons, here, none_in}
 use Rattle.geom.proofs.Orders.{IsSortedOnce}
+use Rattle.geom.proofs.Lists.{some_same}
 use Rattle.hot_pixel.proofs.CandidateLaws.{owned_of_all, owned_by, hot_of_candidates, hot_from_candidates}
 use Rattle.routing.specs.declared.record.Record.{Record}
 use Rattle.routing.specs.declared.record.Candidate.{Candidate}
@@ -57,9 +58,6 @@ in_candidates segments (n ∷ ns) c = (
       ((candidates_cons segments n ns (slice_get segments n) refl c).0 h)),
   (λ h. (candidates_cons segments n ns (slice_get segments n) refl c).1 (⊎_elim (λ e. inl (e, ap (slice_get segments) e ∙ h.1)) (λ e. inr ((in_candidates segments ns c).1 (e, h.1))) (from_cons n ns c.number h.0))),
 )
-
-some_same : {s t : Seg} {o : Option Seg} → o ≡ Some s → o ≡ Some t → s ≡ t
-some_same {s} {t} {o} e f = cc
 
 -- ---- the piece that was made
 module _ (segments : List Seg) (numbers : List ℕ) (tile : Rect) (pixels : List Pt) (found records : List Record) (hot : AreOwnedHot (IsIn tile) (chosen segments numbers) pixels) (all : HasRecords (candidates_of segments numbers) pixels found) (once : IsSortedOnce record_cmp found records) where

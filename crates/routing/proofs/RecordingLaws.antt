@@ -11,6 +11,7 @@ use Rattle.geom.specs.declared.rect.Rect.{Rect}
 use Rattle.geom.specs.declared.edge.Edge.{Edge}
 use Rattle.geom.specs.declared.segment.Seg.{Seg}
 use Rattle.geom.specs.Limit.{InLimit, AreInLimit}
+use Rattle.geom.proofs.Lists.{some_same}
 use Rattle.hot_pixel.specs.Rects.{IsIn}
 use Rattle.hot_pixel.specs.declared.lines.Line.{Line}
 use Rattle.hot_pixel.specs.Candidates.{chosen, AreOwnedHot}
@@ -30,10 +31,6 @@ use Rattle.routing.specs.Pieces.{candidates_of}
 use Rattle.routing.specs.Steps.{steps_to}
 use Rattle.routing.specs.Recording.{IsTable, AreLinesOf, IsCopy, IsRecordAlong, IsRecordOnOne, AddsAt, AddsAlong, AddsRecordsAt, AddsRecords}
 use Rattle.routing.proofs.PieceLaws.{in_candidates}
-
--- an option has one value
-pub some_same : {X : Type 0} {x y : X} {o : Option X} → o ≡ Some x → o ≡ Some y → x ≡ y
-some_same {X} {x} {y} {o} e f = cc
 
 -- ---- the segments on one line, at one pixel
 pub at_none : (segments : List Seg) (table : List OnLine) (first : ℕ) (pixel : Pt) (old : List Record) → AddsAt segments table first first pixel old old

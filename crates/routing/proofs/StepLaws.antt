@@ -13,6 +13,7 @@ use Rattle.geom.proofs.Same.{decide_same, whole_path}
 use Rattle.geom.proofs.Along.{ordered, sized}
 use Rattle.geom.proofs.Routes as routes
 use Rattle.geom.proofs.RouteLaws.{earlier_by_steps}
+use Rattle.geom.proofs.Orders.{clash_same}
 use Rattle.routing.specs.Steps.{steps_to}
 
 -- the number of steps, as a natural and as a whole number
@@ -31,16 +32,13 @@ earlier_from_steps s c e h k l = earlier_by_steps s c e h k (below (steps_to s c
 pub same_from_steps : (s : Seg) (c e : Pt) → Meets s c → Meets s e → steps_to s c ≡ steps_to s e → c ≡ e
 same_from_steps s c e h k l = ⊎_elim whole_path
     (λ n. absurd (⊎_elim
-    (λ b. clash (routes.steps_grow (piece s) c e (meets_in s c h) (meets_in s e k) b) level)
-    (λ b. clash (routes.steps_grow (piece s) e c (meets_in s e k) (meets_in s c h) b) (sym level))
+    (λ b. clash_same (routes.steps_grow (piece s) c e (meets_in s c h) (meets_in s e k) b) level)
+    (λ b. clash_same (routes.steps_grow (piece s) e c (meets_in s e k) (meets_in s c h) b) (sym level))
     (ordered (piece s) c e n (meets_in s c h) (meets_in s e k))))
     (decide_same c e)
   where
     level : routes.steps (piece s) c ≡ routes.steps (piece s) e
     level = sym (same_steps s c) ∙ ap pos l ∙ same_steps s e
-
-    clash : {x y : ℤ} → x <ℤ y → x ≡ y → ⊥
-    clash {x} {y} a b = omega (arith, linear)
 
 small : (a c : ℤ) → IsWithin coordinate_limit a → IsWithin coordinate_limit c → unsigned_abs (c -ℤ a) < 2 ^ 30
 small a c h k = omega (arith, sized)

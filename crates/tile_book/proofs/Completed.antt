@@ -20,7 +20,7 @@ held_from {P} number b h k p low l is = (subst (λ (o : Option P). HoldsAt numbe
 pub part_way_none : {P : Type 0} (number : P → ℕ) (b : BookView P) → IsReplay number b → IsPartWay number b.limit 0 b.held []
 part_way_none number b h = record { places = h.places; made = refl; left = held_from number b h; in_order = λ k p e. absurd (cc) }
 
-pushed_at : {X : Type 0} (xs : List X) (y x : X) (j : ℕ) → slice_get (xs ++ y ∷ []) j ≡ Some x → (slice_get xs j ≡ Some x) ⊎ ((j ≡ length xs) × (y ≡ x))
+pub pushed_at : {X : Type 0} (xs : List X) (y x : X) (j : ℕ) → slice_get (xs ++ y ∷ []) j ≡ Some x → (slice_get xs j ≡ Some x) ⊎ ((j ≡ length xs) × (y ≡ x))
 pushed_at [] y x zero e = inr (refl, cc)
 pushed_at [] y x (suc j) e = absurd (cc)
 pushed_at (z ∷ xs) y x zero e = inl e

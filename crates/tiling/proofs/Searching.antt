@@ -7,6 +7,7 @@ use Rattle.std.proofs.Math.Pow.{pow_mono}
 use Rattle.std.proofs.lemmas.Nat.{mul-le}
 use Rattle.std.proofs.Math.Nat.{pow-suc}
 use Rattle.geom.proofs.Numbers.{le_lt, le_le}
+use Rattle.lane_tests.proofs.Values.{wide_fits}
 use Rattle.tiling.specs.Index.{AreAscending}
 
 -- the place is from low to high, and t ticks were taken
@@ -69,10 +70,6 @@ pub goes_left : (xs : List ℤ) (x : ℤ) (low high middle old now : ℕ) → Ar
 goes_left xs x low high middle old now a h some m t =
     search_step xs x low high old now low middle h some (omega arith) (omega arith) (omega arith) h.before
     (λ k l n. le_le x (get_or xs middle (pos 0)) (get_or xs k (pos 0)) t (a.ascend middle k l n))
-
--- what the code's test says
-wide_fits : (z : ℤ) → FitsSigned w32 z → FitsSigned w64 z
-wide_fits z h = omega (arith, ints)
 
 widened : (a r x : ℤ) → FitsSigned w32 a → FitsSigned w64 x → r ≡ to_z w32 (of_z w32 a) → int_lt (to_z w64 (of_z w64 r)) (to_z w64 (of_z w64 x)) ≡ int_lt a x
 widened a r x f g e = let d : r ≡ a = e ∙ to_z-of_z f in (λ i. int_lt (to_z w64 (of_z w64 (d i))) (to_z-of_z g i)) ∙ ap (λ z. int_lt z x) (to_z-of_z (wide_fits a f))

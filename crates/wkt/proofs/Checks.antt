@@ -15,11 +15,12 @@ use Rattle.wkt.specs.LayerText.{Point, Ring, IsBroken}
 use Rattle.wkt.specs.Machine.{class_of, turn, Notes, noted, run, start, may_end}
 use Rattle.wkt.specs.Reading.{u32_max, Idle, ReaderIs, Says, Went}
 use Rattle.geom.specs.Segments.{layer_steps}
+use Rattle.std.proofs.lemmas.Option.{same_Some}
 use Rattle.wkt.specs.Running.{HasRead, HasPassed, Passes}
 use Rattle.wkt.specs.Refusals.{length_limit, all_numbers, first_outside, place_of, is_closed, fault_at, or_else, first_fault, plain, IsRead, HasFault, StandsFor, IsRefused}
 use Rattle.wkt.specs.Outlines.{IsOutline}
 use Rattle.wkt.specs.Surveying.{Sketch, sketch, Shown, fresh, took, judged}
-use Rattle.wkt.proofs.Sound.{accepted, some_is}
+use Rattle.wkt.proofs.Sound.{accepted}
 use Rattle.wkt.proofs.Fronts.{stops, is_broken}
 use Rattle.wkt.proofs.Passing.{read_first, read_more}
 use Rattle.wkt.proofs.Boxes.{box_is}
@@ -117,9 +118,9 @@ abbrev OfRing : Fault → Type 0
 OfRing f = (at : ℕ) × ((f ≡ RingShort at) ⊎ (f ≡ RingOpen at))
 
 of_tests : (b c : Bool) (at : ℕ) (f : Fault) → (if b then Some (RingShort at) else (if c then None else Some (RingOpen at))) ≡ Some f → OfRing f
-of_tests true c at f e = (at, inl (sym (some_is (RingShort at) f e)))
+of_tests true c at f e = (at, inl (sym (same_Some (RingShort at) f e)))
 of_tests false true at f e = absurd cc
-of_tests false false at f e = (at, inr (sym (some_is (RingOpen at) f e)))
+of_tests false false at f e = (at, inr (sym (same_Some (RingOpen at) f e)))
 
 of_first : (o r : Option Fault) (f : Fault) → (o ≡ Some f → OfRing f) → (r ≡ Some f → OfRing f) → or_else o r ≡ Some f → OfRing f
 of_first None r f g h e = h e

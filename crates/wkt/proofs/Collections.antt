@@ -15,11 +15,11 @@ use Rattle.geom.specs.declared.fault.Fault.{Fault}
 use Rattle.wkt.specs.declared.outline.Outline.{Outline}
 use Rattle.wkt.specs.Outlines.{IsOutline}
 use Rattle.geom.specs.Limit.{coordinate_limit}
+use Rattle.std.proofs.lemmas.Option.{same_Some}
 use Rattle.wkt.specs.Refusals.{all_numbers, first_outside, place_of, fault_at, or_else, first_fault, plain, IsAccepted, StandsFor}
 use Rattle.wkt.specs.Running.{HasPassed, Passes}
 use Rattle.wkt.specs.Surveying.{Shown, fresh, took}
 use Rattle.wkt.specs.Collecting.{point_value, Gathered, but_last, closed, gathered}
-use Rattle.wkt.proofs.Sound.{some_is}
 use Rattle.wkt.proofs.Complete.{taken}
 use Rattle.wkt.proofs.Closing.{enough, none_first}
 use Rattle.wkt.proofs.Surveys.{read_numbers, Valued, value_cases, more_numbers, closed_numbers}
@@ -135,7 +135,7 @@ done : (text : List ℕ) (at : ℕ) (r : Reader) (s : Shown) (g : Gathered) (rin
 done text at r s g rings le l k =
     let t = taken text rings l.read.layer in
     let last : State = record { place = r.place; notes = k.notes } in
-    let same : t.0 ≡ last = some_is t.0 last (sym t.1 ∙ k.known.read.on ∙ ap (run (length text) last) (drop_all at text le)) in
+    let same : t.0 ≡ last = same_Some t.0 last (sym t.1 ∙ k.known.read.on ∙ ap (run (length text) last) (drop_all at text le)) in
     let end : may_end r.place ≡ true = ap (λ (x : State). may_end x.place) (sym same) ∙ t.2 in
     let rings-are : k.notes.rings ≡ rings = ap (λ (x : State). x.notes.rings) (sym same) ∙ t.3 in
     let none : k.notes.points ≡ [] = idle_end r.place k.notes end k.known.read.is.3 in

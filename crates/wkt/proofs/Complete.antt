@@ -3,6 +3,7 @@ use Rattle.std.proofs.Common.{◌≡◌, ℕ, ◌+◌, ◌-◌, ◌*◌, Bool, t
 use Rattle.std.specs.Prelude.{IsTrue, ◌&&◌, ◌==◌, slice_index, nat_le, nat_lt, option_and_then, option_map}
 use Rattle.std.specs.List.{AllByRecursion}
 use Rattle.std.proofs.lemmas.List.{append-nil}
+use Rattle.std.proofs.lemmas.Option.{same_Some}
 use Rattle.wkt.specs.declared.places.Place.{Place}
 use Rattle.wkt.specs.declared.places.Place.TheVariants.{Between, Keyword, KeywordGap, Empty, Ended, BeforeBody, BeforeRing, BeforePoint, MinusX, DigitsX, BeforeY, MinusY, DigitsY, AfterPoint, AfterRing, AfterBody}
 use Rattle.wkt.specs.declared.places.Class.{Class}
@@ -10,7 +11,6 @@ use Rattle.wkt.specs.declared.places.Class.TheVariants.{Space, Digit, Minus, Ope
 use Rattle.wkt.specs.LayerText.{Number, Point, Ring, is_space, is_digit, Spaces, Gap, Word, value_after, Digits, IsNumber, IsPoint, More, Listed, IsRing, IsBody, joined, polygon_word, multipolygon_word, empty_word, IsEmpty, IsSingle, IsMulti, IsGeometry, Geometries, IsLayer, IsLayerAt}
 use Rattle.wkt.specs.Machine.{class_of, opened, closed, Notes, number, with_point, with_ring, State, step, run, start, may_end}
 use Rattle.wkt.proofs.Rests.{AllDigits}
-use Rattle.wkt.proofs.Sound.{some_is}
 use Rattle.wkt.proofs.Bytes.{class_space, class_digit, class_letter}
 
 abbrev st : Place → Notes → State
@@ -310,5 +310,5 @@ pub at_most_one : (text : List ℕ) (a b : List Ring) → IsLayer text a → IsL
 at_most_one text a b h g =
     let p = taken text a h in
     let q = taken text b g in
-    let e : p.0 ≡ q.0 = some_is p.0 q.0 (sym p.1 ∙ q.1) in
+    let e : p.0 ≡ q.0 = same_Some p.0 q.0 (sym p.1 ∙ q.1) in
     sym p.3 ∙ ap (λ (s : State). s.notes.rings) e ∙ q.3

@@ -5,10 +5,10 @@ use Rattle.std.proofs.lemmas.Bool.{cases_lt}
 use Rattle.geom.specs.declared.point.Pt.{Pt}
 use Rattle.geom.specs.declared.fault.Fault.{Fault}
 use Rattle.geom.specs.declared.fault.Fault.TheVariants.{LayerLong, Syntax, NumberRange, RingShort, RingOpen, TooManySegments, BadTile, BadWorkers, TooManyTiles, NotNoded, Memory, Write}
+use Rattle.std.proofs.lemmas.Option.{same_Some}
 use Rattle.wkt.specs.LayerText.{Ring, IsBroken}
 use Rattle.wkt.specs.Refusals.{length_limit, all_numbers, first_outside, or_else, first_fault, plain, IsRead, IsAccepted, StandsFor, IsRefused}
 use Rattle.wkt.proofs.Complete.{at_most_one}
-use Rattle.wkt.proofs.Sound.{some_is}
 
 -- the fault of rings as they are written
 abbrev fault_of : List Ring → Option Fault
@@ -67,7 +67,7 @@ same_reason text f g (inr (inl (o, short, h, e))) (inr (inl (p, s, k, d))) = e �
 same_reason text f g (inr (inl (o, short, h, e))) (inr (inr (written, read, d))) = absurd (h.not_layer written read.layer)
 same_reason text f g (inr (inr (written, read, e))) (inl (k, d)) = absurd (long_short text k read.short)
 same_reason text f g (inr (inr (written, read, e))) (inr (inl (p, short, k, d))) = absurd (k.not_layer written read.layer)
-same_reason text f g (inr (inr (a, r, e))) (inr (inr (b, q, d))) = some_is f g (sym e ∙ ap fault_of (at_most_one text a b r.layer q.layer) ∙ d)
+same_reason text f g (inr (inr (a, r, e))) (inr (inr (b, q, d))) = same_Some f g (sym e ∙ ap fault_of (at_most_one text a b r.layer q.layer) ∙ d)
 
 pub same_refusal : (text : List ℕ) (f g : Fault) → IsRefused text f → IsRefused text g → f ≡ g
 same_refusal text f g h k = same_reason text f g (reason text f h) (reason text g k)

@@ -2,6 +2,7 @@
 use Rattle.std.proofs.Common.{◌≡◌, ℕ, zero, suc, ◌+◌, ◌-◌, ◌<◌, ◌≤◌, Bool, true, false, List, [], ◌∷◌, ◌++◌, length, get_or, take, drop, Option, Some, None, refl, sym, ap, subst, ◌∙◌, append_assoc, arith}
 use Rattle.std.specs.Prelude.{option_and_then, option_map}
 use Rattle.std.proofs.lemmas.List.{take-append-drop, take-take, take_all, take_more}
+use Rattle.std.proofs.lemmas.Option.{same_Some}
 use Rattle.wkt.specs.declared.places.Place.{Place}
 use Rattle.wkt.specs.declared.places.Place.TheVariants.{Between, Keyword, KeywordGap, Empty, Ended, BeforeBody, BeforeRing, BeforePoint, MinusX, DigitsX, BeforeY, MinusY, DigitsY, AfterPoint, AfterRing, AfterBody}
 use Rattle.wkt.specs.declared.places.Class.{Class}
@@ -9,7 +10,7 @@ use Rattle.wkt.specs.declared.places.Class.TheVariants.{Space, Digit, Minus, Com
 use Rattle.wkt.specs.LayerText.{Ring, IsLayer, Begins, IsBroken}
 use Rattle.wkt.specs.Machine.{class_of, turn, Notes, noted, State, run, start, may_end, Control, is_multi_after, moved, walk, completion}
 use Rattle.wkt.proofs.Back.{Keeps, Bounded}
-use Rattle.wkt.proofs.Sound.{keeps, then_some, some_is, at_some, KeepsAt, accepted}
+use Rattle.wkt.proofs.Sound.{keeps, then_some, at_some, KeepsAt, accepted}
 use Rattle.wkt.proofs.Complete.{taken}
 
 -- from each place the machine gets to an end
@@ -110,7 +111,7 @@ walk-append c [] u = refl
 walk-append c (b ∷ t) u = onward (moved c (class_of b)) t u (λ d. walk-append d t u)
 
 run_keeps : (n : ℕ) (t : List ℕ) (s s' : State) → KeepsAt s → run n s t ≡ Some s' → KeepsAt s'
-run_keeps n [] s s' g e = subst KeepsAt (some_is s s' e) g
+run_keeps n [] s s' g e = subst KeepsAt (same_Some s s' e) g
 run_keeps n (b ∷ t) s s' g e =
     let at = n - length (b ∷ t) in
     let q = then_some (turn s.place (class_of b) s.notes.multi) (λ p. record { place = p; notes = noted at s.place (class_of b) s.notes }) (λ x. run n x t) s' e in
@@ -118,7 +119,7 @@ run_keeps n (b ∷ t) s s' g e =
     run_keeps n t (record { place = q.0; notes = noted at s.place (class_of b) s.notes }) s' g' q.2
 
 mapped : {A B : Type 0} (f : A → B) (o : Option A) (b : B) → option_map f o ≡ Some b → (a : A) × (o ≡ Some a) × (f a ≡ b)
-mapped f (Some a) b e = (a, refl, some_is (f a) b e)
+mapped f (Some a) b e = (a, refl, same_Some (f a) b e)
 mapped f None b e = absurd cc
 
 -- ---- fronts
@@ -173,7 +174,7 @@ stopped text o c lt e f = record {
 -- the machine stands, where the text ends, at no end
 pub unfinished : (text : List ℕ) (c : Control) → walk begin text ≡ Some c → may_end c.0 ≡ false → IsBroken text (length text)
 unfinished text c e f = record {
-  not_layer = λ rings h. let q = walks text rings h in let same : q.0 ≡ c = some_is q.0 c (sym q.1 ∙ e) in let g : may_end c.0 ≡ true = sym (ap (λ (x : Control). may_end x.0) same) ∙ q.2 in absurd cc;
+  not_layer = λ rings h. let q = walks text rings h in let same : q.0 ≡ c = same_Some q.0 c (sym q.1 ∙ e) in let g : may_end c.0 ≡ true = sym (ap (λ (x : Control). may_end x.0) same) ∙ q.2 in absurd cc;
   front = record {
     within = omega arith;
     begins = begins (take (length text) text) c (ap (walk begin) (take_all (length text) text (omega arith)) ∙ e);

@@ -4,6 +4,7 @@ use Rattle.std.specs.Prelude.{IfSome, ◌&&◌, slice_index, option_and_then, op
 use borrow.Author.Tests.{ltb-true}
 use Rattle.std.proofs.lemmas.List.{append-nil}
 use Rattle.std.proofs.lemmas.Bool.Decides.{nat_tests}
+use Rattle.std.proofs.lemmas.Option.{same_Some}
 use Rattle.wkt.specs.declared.places.Place.{Place}
 use Rattle.wkt.specs.declared.places.Place.TheVariants.{Between, Keyword, KeywordGap, Empty, Ended, BeforeBody, BeforeRing, BeforePoint, MinusX, DigitsX, BeforeY, MinusY, DigitsY, AfterPoint, AfterRing, AfterBody}
 use Rattle.wkt.specs.declared.places.Class.{Class}
@@ -76,9 +77,6 @@ pub then_some : {A B C : Type 0} (o : Option A) (g : A → B) (f : B → Option 
 then_some (Some a) g f c e = (a, refl, e)
 then_some None g f c e = absurd cc
 
-pub some_is : {A : Type 0} (a c : A) → Some a ≡ Some c → a ≡ c
-some_is a c e = cc
-
 pub at_some : {A : Type 0} (o : Option A) (a : A) (P : A → Type 0) → o ≡ Some a → IfSome o P → P a
 at_some o a P e h = rw e at h
 
@@ -89,7 +87,7 @@ abbrev pub KeepsAt : State → Type 0
 KeepsAt s = Keeps s.place s.notes
 
 pub sound : (n : ℕ) (t : List ℕ) (s s' : State) (v : List Ring) → KeepsAt s → run n s t ≡ Some s' → RestAt n s' [] v → RestAt n s t v × KeepsAt s'
-sound n [] s s' v g e r = (subst (λ (x : State). RestAt n x [] v) (sym (some_is s s' e)) r, subst KeepsAt (some_is s s' e) g)
+sound n [] s s' v g e r = (subst (λ (x : State). RestAt n x [] v) (sym (same_Some s s' e)) r, subst KeepsAt (same_Some s s' e) g)
 sound n (b ∷ t) s s' v g e r =
     let at = n - length (b ∷ t) in
     let q = then_some (turn s.place (class_of b) s.notes.multi) (λ p. record { place = p; notes = noted at s.place (class_of b) s.notes }) (λ x. run n x t) s' e in

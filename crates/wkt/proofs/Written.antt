@@ -10,7 +10,7 @@ use Rattle.std.proofs.lemmas.Fmt.{digits_value-decimal, decimal_is_IsNumeral}
 use Rattle.std.proofs.lemmas.Str.Parse.{IsNumeralModel, numerals_by_fold, digit_from_value}
 use Rattle.std.proofs.lemmas.Bool.Decides.{nat_tests}
 use Rattle.std.specs.List.{flat_map}
-use Rattle.std.proofs.lemmas.List.{append-nil, length-map, length_push}
+use Rattle.std.proofs.lemmas.List.{append-nil, length-map, length_push, map-append}
 use Rattle.geom.specs.declared.fault.Fault.{Fault}
 use Rattle.geom.specs.declared.fault.Fault.TheVariants.{RingShort, RingOpen}
 use Rattle.geom.specs.declared.point.Pt.{Pt}
@@ -138,18 +138,14 @@ capital : (cs t : List ℕ) → Word cs (cs ++ t) t
 capital [] t = refl
 capital (c ∷ cs) t = (c, cs ++ t, refl, inl refl, capital cs t)
 
-map_append : {A B : Type 0} (f : A → B) (xs ys : List A) → map f (xs ++ ys) ≡ map f xs ++ map f ys
-map_append f [] ys = refl
-map_append f (x ∷ xs) ys = ap (λ (zs : List _). f x ∷ zs) (map_append f xs ys)
-
 joined_read : (vs : List (List Ring)) → map read_ring (joined vs) ≡ flat_map (λ x. x) (map (λ v. map read_ring v) vs)
 joined_read [] = refl
-joined_read (v ∷ vs) = map_append read_ring v (joined vs) ∙ ap (λ (x : List (List Pt)). map read_ring v ++ x) (joined_read vs)
+joined_read (v ∷ vs) = map-append read_ring v (joined vs) ∙ ap (λ (x : List (List Pt)). map read_ring v ++ x) (joined_read vs)
 
 joined_values : (ps : List Shape) → flat_map (λ x. x) (map value_of_polygon ps) ≡ map closed (written_rings ps)
 joined_values [] = refl
 joined_values (p ∷ ps) =
-    ap (λ (x : List (List Pt)). map closed (p.shell ∷ p.holes) ++ x) (joined_values ps) ∙ sym (map_append closed (p.shell ∷ p.holes) (written_rings ps))
+    ap (λ (x : List (List Pt)). map closed (p.shell ∷ p.holes) ++ x) (joined_values ps) ∙ sym (map-append closed (p.shell ∷ p.holes) (written_rings ps))
 
 -- the line, and what stands in place of its line feed
 abbrev pub line_before : List Shape → List ℕ → List ℕ

@@ -13,14 +13,12 @@ use Rattle.geom.specs.Limit.{AreInLimit, IsWithin, coordinate_limit}
 use Rattle.geom.proofs.Edges.{before_by_cases}
 use Rattle.geom.proofs.Integers.{linear}
 use Rattle.geom.proofs.Numbers.{itself, le_le, lt_le}
+use Rattle.face_label.proofs.Striping.{back}
 use Rattle.geom.specs.Parity.{covers}
 use Rattle.polygonize.specs.Below.{RunsBelow, vertex_at}
 use Rattle.polygonize.specs.Column.{IsIn, Meets, Spans}
 use Rattle.polygonize.specs.declared.column.Columns.{Columns}
 use Rattle.polygonize.proofs.EdgesBelow.GapsBelow.{over_is, over_when}
-
-pub back : (x : ℤ) → IsWithin coordinate_limit x → to_z w32 (of_z w32 x) ≡ x
-back x h = let a : FitsSigned w32 x = omega (arith, ints) in simp to_z-of_z
 
 -- ---- the columns of vertices
 

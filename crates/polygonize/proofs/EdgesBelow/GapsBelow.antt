@@ -12,12 +12,13 @@ use Rattle.geom.specs.Limit.{AreInLimit, InLimit, IsWithin, coordinate_limit}
 use Rattle.geom.specs.Order.{IsBefore}
 use Rattle.geom.specs.declared.directed.DirectedEdge.{DirectedEdge}
 use Rattle.geom.specs.Directed.{RunsAlong, from_to}
-use Rattle.geom.proofs.Edges.{edge_path, not_turned}
+use Rattle.geom.proofs.Edges.{edge_path, not_turned, one_run}
 use Rattle.geom.proofs.Orders.{before_itself}
 use Rattle.geom.specs.Parity.{covers}
 use Rattle.geom.proofs.Bounds.{fits_64, fits_128, product_within}
 use Rattle.geom.proofs.Integers.{expand, linear}
 use Rattle.geom.proofs.Points.{both_and}
+use Rattle.geom.proofs.Tests.{le_z_told, lt_z_told}
 use Rattle.polygonize.specs.Below.{HasGapRoom, IsGap, IsLessGap, RunsBelow, gap_height}
 use Rattle.polygonize.specs.declared.below.Gap.{Gap}
 
@@ -39,14 +40,8 @@ test_less a b h = grind (arith, ints)
 pub test_at_most : (a b : ℤ) → a ≤ℤ b → le_z a b ≡ true
 test_at_most a b h = grind (arith, ints)
 
-less : (a b : ℤ) → lt_z a b ≡ true → a <ℤ b
-less a b h = omega (arith, ints)
-
 not_less : (a b : ℤ) → lt_z a b ≡ false → b ≤ℤ a
 not_less a b h = omega (arith, ints)
-
-pub at_most : (a b : ℤ) → le_z a b ≡ true → a ≤ℤ b
-at_most a b h = omega (arith, ints)
 
 -- the tests of `covers` at a point just left of x, on an edge from p to q
 abbrev over : ℤ → ℤ → ℤ → Bool
@@ -62,7 +57,7 @@ over_when p q x h k = both_and _ _ (test_at_most _ _ (low p x h)) (test_less _ _
     high q x k = omega (arith, ints)
 
 pub over_is : (p q x : ℤ) → over p q x ≡ true → (p <ℤ x) × (x ≤ℤ q)
-over_is p q x h = (low p x (at_most _ _ (first_of_both _ _ h)), high q x (less _ _ (second_of_both _ _ h)))
+over_is p q x h = (low p x (le_z_told _ _ (first_of_both _ _ h)), high q x (lt_z_told _ _ (second_of_both _ _ h)))
   where
     low : (p x : ℤ) → (pos (2 ^ 64) *ℤ p) ≤ℤ ((pos (2 ^ 64) *ℤ x) -ℤ pos 1) → p <ℤ x
     low p x h = omega (arith, ints)
@@ -72,7 +67,7 @@ over_is p q x h = (low p x (at_most _ _ (first_of_both _ _ h)), high q x (less _
 
 pub over_tests : (p q x p' q' x' : ℤ) → p' ≡ p → q' ≡ q → x' ≡ x → lt_z p' x' ≡ true → (IsTrue (le_z x' q') → over p q x ≡ true) × (over p q x ≡ true → IsTrue (le_z x' q'))
 over_tests p q x p' q' x' e f g h = (
-  λ t. over_when p q x (let P : ℤ → Type 0 = λ t. t <ℤ x in subst P e (let Q : ℤ → Type 0 = λ t. p' <ℤ t in subst Q g (less p' x' h))) (let P : ℤ → Type 0 = λ t. t ≤ℤ q in subst P g (let Q : ℤ → Type 0 = λ t. x' ≤ℤ t in subst Q f (at_most x' q' t))),
+  λ t. over_when p q x (let P : ℤ → Type 0 = λ t. t <ℤ x in subst P e (let Q : ℤ → Type 0 = λ t. p' <ℤ t in subst Q g (lt_z_told p' x' h))) (let P : ℤ → Type 0 = λ t. t ≤ℤ q in subst P g (let Q : ℤ → Type 0 = λ t. x' ≤ℤ t in subst Q f (le_z_told x' q' t))),
   λ t. test_at_most x' q' (let P : ℤ → Type 0 = λ t. t ≤ℤ q' in subst P (sym g) (let Q : ℤ → Type 0 = λ t. x ≤ℤ t in subst Q (sym f) (over_is p q x t).1)),
 )
 
@@ -109,7 +104,7 @@ module _ (e f : Gap) (h : HasGapRoom e) (k : HasGapRoom f) where
 
   pub less_by_side : (r s : ℤ) → r ≡ to_z w64 (of_z w64 e.side) *ℤ to_z w64 (of_z w64 f.run) → s ≡ to_z w64 (of_z w64 f.side) *ℤ to_z w64 (of_z w64 e.run) → lt_z (to_z w128 (of_z w128 r)) (to_z w128 (of_z w128 s)) ≡ true → IsLessGap e f
   less_by_side r s x y t = less_first _ _ (e.side *ℤ f.run) (f.side *ℤ e.run) (e.rise *ℤ f.run) (f.rise *ℤ e.run) left_is right_is (product_within (2 ^ 29) (2 ^ 29) e.rise f.run h.rise_in k.run_in) (product_within (2 ^ 29) (2 ^ 29) f.rise e.run k.rise_in h.run_in)
-      (let P : ℤ → Type 0 = λ t. t <ℤ (f.side *ℤ e.run) in subst P (product_is r e.side f.run h.side_in k.run_in x) (let Q : ℤ → Type 0 = λ t. to_z w128 (of_z w128 r) <ℤ t in subst Q (product_is s f.side e.run k.side_in h.run_in y) (less _ _ t)))
+      (let P : ℤ → Type 0 = λ t. t <ℤ (f.side *ℤ e.run) in subst P (product_is r e.side f.run h.side_in k.run_in x) (let Q : ℤ → Type 0 = λ t. to_z w128 (of_z w128 r) <ℤ t in subst Q (product_is s f.side e.run k.side_in h.run_in y) (lt_z_told _ _ t)))
 
   -- the sides are equal
   same_sides : (r s : ℤ) → r ≡ to_z w64 (of_z w64 e.side) *ℤ to_z w64 (of_z w64 f.run) → s ≡ to_z w64 (of_z w64 f.side) *ℤ to_z w64 (of_z w64 e.run) → lt_z (to_z w128 (of_z w128 r)) (to_z w128 (of_z w128 s)) ≡ false → (f.side *ℤ e.run) ≤ℤ (e.side *ℤ f.run)
@@ -127,7 +122,7 @@ pub by_rise : (e f : Gap) → HasGapRoom e → HasGapRoom f → (r s u v : ℤ) 
     → (IsTrue (lt_z (to_z w128 (of_z w128 u)) (to_z w128 (of_z w128 v))) → IsLessGap e f) × (IsLessGap e f → IsTrue (lt_z (to_z w128 (of_z w128 u)) (to_z w128 (of_z w128 v))))
 by_rise e f h k r s u v x y t w i j = (
   λ z. less_second _ _ (e.side *ℤ f.run) (f.side *ℤ e.run) (e.rise *ℤ f.run) (f.rise *ℤ e.run) (left_is e f h k) (right_is e f h k) (same_sides e f h k r s x y t) (same_sides f e k h s r y x w)
-      (let P : ℤ → Type 0 = λ t. t <ℤ (f.rise *ℤ e.run) in subst P first (let Q : ℤ → Type 0 = λ t. to_z w128 (of_z w128 u) <ℤ t in subst Q second (less _ _ z))),
+      (let P : ℤ → Type 0 = λ t. t <ℤ (f.rise *ℤ e.run) in subst P first (let Q : ℤ → Type 0 = λ t. to_z w128 (of_z w128 u) <ℤ t in subst Q second (lt_z_told _ _ z))),
   λ z. test_less _ _ (let P : ℤ → Type 0 = λ t. t <ℤ to_z w128 (of_z w128 v) in subst P (sym first) (let Q : ℤ → Type 0 = λ t. (e.rise *ℤ f.run) <ℤ t in subst Q (sym second)
       (second_less _ _ (e.side *ℤ f.run) (f.side *ℤ e.run) (e.rise *ℤ f.run) (f.rise *ℤ e.run) (left_is e f h k) (right_is e f h k) (same_sides e f h k r s x y t) (same_sides f e k h s r y x w) z))),
 )
@@ -160,9 +155,6 @@ runs_of d f (inr h) = inr (λ i. from_to (sym h.1 i) (sym h.0 i))
 ends_of : (d : DirectedEdge) (f : Edge) → RunsAlong d f → ((f.p ≡ d.from) × (f.q ≡ d.to)) ⊎ ((f.p ≡ d.to) × (f.q ≡ d.from))
 ends_of d f (inl r) = inl (ap (λ t. t.from) (sym r), ap (λ t. t.to) (sym r))
 ends_of d f (inr r) = inr (ap (λ t. t.to) (sym r), ap (λ t. t.from) (sym r))
-
-pub same_edge : (d : DirectedEdge) (e f : Edge) → RunsAlong d e → RunsAlong d f → e ≡ f
-same_edge d e f r s = only_edge d f (ends_of d f s) e r
 
 -- ---- which edges lie below
 height_parts : (kk r s px py x y : ℤ) → (r *ℤ ((kk *ℤ y) -ℤ (kk *ℤ py))) -ℤ (s *ℤ (((kk *ℤ x) -ℤ pos 1) -ℤ (kk *ℤ px))) ≡ (kk *ℤ ((r *ℤ (y -ℤ py)) -ℤ (s *ℤ (x -ℤ px)))) +ℤ s

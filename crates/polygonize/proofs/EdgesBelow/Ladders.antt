@@ -15,14 +15,17 @@ use Rattle.geom.specs.Limit.{IsWithin, coordinate_limit}
 use Rattle.geom.proofs.Identity.{ring, var, num, ◌⊕◌, ◌⊖◌, ◌⊗◌}
 use Rattle.geom.proofs.Integers.{cancel_pos, linear, mul_comm, mul_pos, scale_le, unscale_le, none_right}
 use Rattle.geom.proofs.Numbers.{gap_is, strict_gap_is, lt_le, weak, itself}
+use Rattle.geom.proofs.Tests.{le_z_told}
+use Rattle.geom.proofs.Edges.{one_run}
+use Rattle.face_label.proofs.Striping.{back}
 use Rattle.polygonize.specs.Below.{IsAsNear, IsGap, IsGapOf, RunsBelow, gap_height}
 use Rattle.polygonize.specs.Column.{IsIn, Spans}
 use Rattle.polygonize.specs.Ladder.{AreInOrder, AreSpanning, IsLadder, IsLower, IsUnder, StandInOrder, over_column}
 use Rattle.polygonize.specs.Next.{edge_at}
 use Rattle.polygonize.specs.declared.below.Gap.{Gap}
 use Rattle.polygonize.specs.declared.column.Columns.{Columns}
-use Rattle.polygonize.proofs.EdgesBelow.Columns.{back, edge_over}
-use Rattle.polygonize.proofs.EdgesBelow.GapsBelow.{at_most, only_edge, product_is, run_right, same_edge, test_at_most}
+use Rattle.polygonize.proofs.EdgesBelow.Columns.{edge_over}
+use Rattle.polygonize.proofs.EdgesBelow.GapsBelow.{only_edge, product_is, run_right, test_at_most}
 use Rattle.polygonize.proofs.Filtered.{KeptSoFar}
 use Rattle.polygonize.proofs.EdgesBelow.Nearness.{by_number, known_itself, nearer, nothing_below}
 
@@ -175,7 +178,7 @@ search_begins ds v ladder n e = record { order = omega arith; within = omega (ar
 -- a lower edge is at least as far as the one that is below
 as_near : (v : Pt) (d c : DirectedEdge) (g : Gap) → IsLower v d c → IsGap c v g → IsAsNear d v (Some g)
 as_near v d c g l h = λ e r. let m = l h.edge h.below in
-    let same : e ≡ m.0 = same_edge d e m.0 r.runs m.1.runs in
+    let same : e ≡ m.0 = one_run d e m.0 r.runs m.1.runs in
     let P : Edge → Type 0 = λ t. (gap_height g *ℤ run_of t) ≤ℤ (height t (left_of v) *ℤ g.run) in subst P (sym same)
     (let Q : ℤ → Type 0 = λ t. (t *ℤ run_of m.0) ≤ℤ (height m.0 (left_of v) *ℤ g.run) in subst Q h.height_is
     (let R : ℤ → Type 0 = λ t. (height h.edge (left_of v) *ℤ run_of m.0) ≤ℤ (height m.0 (left_of v) *ℤ t) in subst R h.run_is m.2))
@@ -231,7 +234,7 @@ pub under_test : (e f : Edge) (column col r s over_f over_e run_e run_f : ℤ) �
     → r ≡ to_z w64 (of_z w64 over_f) *ℤ to_z w64 (of_z w64 run_e) → s ≡ to_z w64 (of_z w64 over_e) *ℤ to_z w64 (of_z w64 run_f)
     → (IsTrue (le_z (to_z w128 (of_z w128 r)) (to_z w128 (of_z w128 s))) → IsUnder e f column) × (IsUnder e f column → IsTrue (le_z (to_z w128 (of_z w128 r)) (to_z w128 (of_z w128 s))))
 under_test e f column col r s over_f over_e run_e run_f c i j k l a b g h x y = (
-  λ t. subst (λ (z : ℤ). z ≤ℤ (over_column e column *ℤ run_of f)) first (subst (λ (z : ℤ). to_z w128 (of_z w128 r) ≤ℤ z) second (at_most _ _ t)),
+  λ t. subst (λ (z : ℤ). z ≤ℤ (over_column e column *ℤ run_of f)) first (subst (λ (z : ℤ). to_z w128 (of_z w128 r) ≤ℤ z) second (le_z_told _ _ t)),
   λ t. test_at_most _ _ (subst (λ (z : ℤ). z ≤ℤ to_z w128 (of_z w128 s)) (sym first) (subst (λ (z : ℤ). (over_column f column *ℤ run_of e) ≤ℤ z) (sym second) t)),
 )
   where

@@ -10,10 +10,11 @@ use Rattle.geom.specs.declared.directed.DirectedEdge.{DirectedEdge}
 use Rattle.geom.specs.Holes.{height, left_of, run_of}
 use Rattle.geom.proofs.Integers.{expand, linear, scale_le, unscale_le}
 use Rattle.geom.proofs.Numbers.{weak, itself}
+use Rattle.geom.proofs.Edges.{one_run}
 use Rattle.polygonize.specs.Below.{HasGapRoom, IsAsNear, IsGap, IsGapOf, IsLesserGap, RunsBelow, gap_height}
 use Rattle.polygonize.specs.Next.{edge_at}
 use Rattle.polygonize.specs.declared.below.Gap.{Gap}
-use Rattle.polygonize.proofs.EdgesBelow.GapsBelow.{run_right, same_edge}
+use Rattle.polygonize.proofs.EdgesBelow.GapsBelow.{run_right}
 
 -- ---- heights are compared by their products with runs
 pub nearer : (hy hm hf ry rm rf : ℤ) → pos 0 <ℤ rm → pos 0 ≤ℤ ry → pos 0 ≤ℤ rf → (hy *ℤ rm) ≤ℤ (hm *ℤ ry) → (hm *ℤ rf) ≤ℤ (hf *ℤ rm) → (hy *ℤ rf) ≤ℤ (hf *ℤ ry)
@@ -35,7 +36,7 @@ pub gap_edge : (d : DirectedEdge) (v : Pt) (g : Gap) → IsGap d v g → (f : Ed
 gap_edge d v g h f b = (ap (λ e. height e (left_of v)) same ∙ h.height_is, ap run_of same ∙ h.run_is)
   where
     same : f ≡ h.edge
-    same = same_edge d f h.edge b.runs h.below.runs
+    same = one_run d f h.edge b.runs h.below.runs
 
 -- where d isn't below, every gap is as near
 pub nothing_below : (d : DirectedEdge) (v : Pt) (best : Option Gap) → ((f : Edge) → ¬ (RunsBelow d (left_of v) f)) → IsAsNear d v best

@@ -10,6 +10,7 @@ use Rattle.geom.proofs.Edges.{before_cases, before_by_cases}
 use Rattle.geom.proofs.Numbers.{nonneg, zero_is_nonneg, never_negative, strict_gap_is, no_gap_is}
 use Rattle.geom.proofs.Integers.{expand, linear, cancel_nonneg, none_left, none_right, mul_pos, mul_nonneg, by_sign}
 use Rattle.geom.proofs.Points.{or_either}
+use Rattle.geom.proofs.Tests.{lt_z_told}
 use Rattle.geom.specs.Determinant.{side}
 use Rattle.polygonize.specs.Clockwise.{less, half, sooner}
 
@@ -68,9 +69,6 @@ or_false true b h = absurd (no h)
     no e = cc
 or_false false b h = (refl, h)
 
-lt_true : (a c : ℤ) → lt_z a c ≡ true → a <ℤ c
-lt_true a c h = omega (arith, ints)
-
 lt_false : (a c : ℤ) → lt_z a c ≡ false → c ≤ℤ a
 lt_false a c h = omega (arith, ints)
 
@@ -85,10 +83,10 @@ both_le a c h k = omega (arith, ints)
 
 pub less_is : (p q : Pt) → less p q ≡ true → IsBefore p q
 less_is p q h = before_by_cases p q (elim (or_either (lt_z p.x q.x) ((le_z p.x q.x && le_z q.x p.x) && lt_z p.y q.y) h) [
-  | inl k ↦ inl (lt_true p.x q.x k)
+  | inl k ↦ inl (lt_z_told p.x q.x k)
   | inr k ↦ inr (
     both_le p.x q.x (and_left (le_z p.x q.x) (le_z q.x p.x) (and_left (le_z p.x q.x && le_z q.x p.x) (lt_z p.y q.y) k)) (and_right (le_z p.x q.x) (le_z q.x p.x) (and_left (le_z p.x q.x && le_z q.x p.x) (lt_z p.y q.y) k)),
-    lt_true p.y q.y (and_right (le_z p.x q.x && le_z q.x p.x) (lt_z p.y q.y) k),
+    lt_z_told p.y q.y (and_right (le_z p.x q.x && le_z q.x p.x) (lt_z p.y q.y) k),
   )
 ])
 
@@ -192,7 +190,7 @@ false_sooner m n x h f = neither (nat_lt m n) (m == n) (lt_z x (pos 0)) (order m
 pub sooner_true : (m n : ℕ) (x : ℤ) → nat_lt m n || ((m == n) && lt_z x (pos 0)) ≡ true → (m < n) ⊎ ((m ≡ n) × (x <ℤ pos 0))
 sooner_true m n x h = elim (or_either (nat_lt m n) ((m == n) && lt_z x (pos 0)) h) [
   | inl k ↦ inl (order m n k)
-  | inr k ↦ inr (equal m n (and_left (m == n) (lt_z x (pos 0)) k), lt_true x (pos 0) (and_right (m == n) (lt_z x (pos 0)) k))
+  | inr k ↦ inr (equal m n (and_left (m == n) (lt_z x (pos 0)) k), lt_z_told x (pos 0) (and_right (m == n) (lt_z x (pos 0)) k))
 ]
   where
     order : (m n : ℕ) → nat_lt m n ≡ true → m < n

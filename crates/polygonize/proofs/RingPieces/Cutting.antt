@@ -5,14 +5,12 @@ use Rattle.std.proofs.Math.Seq.{drop-cons}
 use Rattle.std.proofs.Math.ListN.{drop_of_length-le}
 use Rattle.geom.specs.Rings.{IsSimple, IsCut}
 use Rattle.geom.specs.Rings.IsCut.{whole, taken}
+use Rattle.std.proofs.lemmas.Option.{same_Some}
 use Rattle.polygonize.specs.Stack.{AreStacked}
 use Rattle.polygonize.proofs.RingPieces.Stacks.{stack_push}
 
-some_same : (i j : ℕ) → Some i ≡ Some j → i ≡ j
-some_same i j e = cc
-
 pub simple_stack : (stack : List ℕ) (place : List (Option ℕ)) → AreStacked stack place → IsSimple stack
-simple_stack stack place s i j d h k e = below (some_same i j (sym (s.found i first) ∙ ap (λ t. get_or place t None) (get_or_default stack i 0 d first ∙ e ∙ get_or_default stack j d 0 k) ∙ s.found j k))
+simple_stack stack place s i j d h k e = below (same_Some i j (sym (s.found i first) ∙ ap (λ t. get_or place t None) (get_or_default stack i 0 d first ∙ e ∙ get_or_default stack j d 0 k) ∙ s.found j k))
   where
     first : i < length stack
     first = omega arith
@@ -89,7 +87,7 @@ taken_off stack place new v k s at t = none (get_or new v None) (λ m e. gone m 
 
     gone : (m : ℕ) → (m < length (take k stack)) × (get_or (take k stack) m 0 ≡ v) → ⊥
     gone m p = let l : m < k = omega (arith, len, p.0) in let b : m < length stack = omega (arith, l, in_stack) in
-        apart m l (some_same m k (sym (s.found m b) ∙ ap (λ w. get_or place w None) (sym (get_or-take k stack m 0 l) ∙ p.1) ∙ at))
+        apart m l (same_Some m k (sym (s.found m b) ∙ ap (λ w. get_or place w None) (sym (get_or-take k stack m 0 l) ∙ p.1) ∙ at))
 
 -- the end
 pub cutting_all : (ring : List ℕ) (i : ℕ) (stack : List ℕ) (place : List (Option ℕ)) (pieces : List (List ℕ)) → length ring ≤ i → Cutting ring i stack place pieces → IsCut ring (pieces ++ stack ∷ [])

@@ -4,9 +4,10 @@ use Rattle.std.proofs.lemmas.Option.{slice_get_read}
 use Rattle.geom.specs.declared.edge.Edge.{Edge}
 use Rattle.geom.specs.Limit.{AreInLimit}
 use Rattle.geom.specs.Noded.{IsBad}
+use Rattle.geom.proofs.Lists.{some_same}
 use Rattle.hot_pixel.specs.Rects.{IsIn}
 use Rattle.noding_test.specs.Verdicts.{common_corner}
-use Rattle.noding_test.proofs.VerdictLaws.{none_beyond, none_more, some_same}
+use Rattle.noding_test.proofs.VerdictLaws.{none_beyond, none_more}
 use Rattle.noding_test.proofs.finding.partner.Goals as goal
 
 read : (edges : List Edge) (i : ℕ) (e : Edge) → i < length edges → e ≡ get_or edges i e → slice_get edges i ≡ Some e

@@ -1,6 +1,7 @@
 use Rattle.std.proofs.Common.{slice_index_or, pos}
+use Rattle.face_label.proofs.Striping.{back}
 use Rattle.polygonize.specs.Below.{vertex_at}
-use Rattle.polygonize.proofs.EdgesBelow.Columns.{back, spread_back, spread_more}
+use Rattle.polygonize.proofs.EdgesBelow.Columns.{spread_back, spread_more}
 use Rattle.polygonize.proofs.column.columns_of.Goals as goal
 
 pub loop-place-preserved : goal.loop-place-preserved

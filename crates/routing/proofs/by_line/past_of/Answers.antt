@@ -3,8 +3,8 @@ use Rattle.std.specs.Prelude.{slice_get}
 use Rattle.std.proofs.lemmas.Bool.{cases_lt}
 use Rattle.std.proofs.lemmas.Option.{slice_get-get_or}
 use Rattle.routing.specs.declared.by_line.OnLine.{OnLine}
-use Rattle.routing.proofs.RecordingLaws.{some_same}
 use Rattle.geom.proofs.Orders.{same_edge_true}
+use Rattle.geom.proofs.Lists.{some_same}
 use Rattle.routing.proofs.by_line.past_of.Goals as goal
 
 pub loop-past-preserved : goal.loop-past-preserved
