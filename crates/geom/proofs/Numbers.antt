@@ -1,5 +1,5 @@
 -- The order of whole numbers, and the gaps between them.
-use Rattle.std.proofs.Common.{◌≡◌, ⊥, sym, arith}
+use Rattle.std.proofs.Common.{◌≡◌, sym, arith}
 use Rattle.std.proofs.lemmas.Int.{ints, by_lt_z}
 use Rattle.std.proofs.Math.IntN.{ℤ, pos, ◌-ℤ◌, ◌*ℤ◌, neg_ℤ}
 use Rattle.std.specs.Int.{int_max}

@@ -4,7 +4,6 @@ use Rattle.std.proofs.lemmas.Int.{ints}
 use Rattle.std.proofs.Math.IntN.{ℤ}
 use Rattle.std.specs.Prelude.{◌<ℤ◌, ◌≤ℤ◌, int_le, int_lt}
 use lib.Signed.{le_z, lt_z}
-use Rattle.geom.proofs.Numbers.{le_le, le_lt, lt_le}
 
 pub lt_yes : (a b : ℤ) → a <ℤ b → int_lt a b ≡ true
 lt_yes a b h = let t : true ≡ int_lt a b = omega (arith, ints) in sym t

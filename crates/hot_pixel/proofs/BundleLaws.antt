@@ -120,7 +120,7 @@ quotient_is a (negsuc k) p = absurd (omega (arith, ints))
 -- the quotient of a number whose quotient is within n
 quotient_within : (n : ℕ) (a r q : ℤ) → pos 0 <ℤ r → (r *ℤ neg_ℤ (pos n)) ≤ℤ a → a ≤ℤ (r *ℤ pos n) → IsQuotient a r q → IsWithin n q
 quotient_within n a r q p l h f = record { low = least n q (unscale_lt (neg_ℤ (pos n)) (q +ℤ pos 1) r (le_lt _ _ _ l f.below) (weak _ _ p)); high = unscale_le q (pos n) r (le_le _ _ _ f.from h) p }
-
+  where
     least : (n : ℕ) (q : ℤ) → neg_ℤ (pos n) <ℤ (q +ℤ pos 1) → neg_ℤ (pos n) ≤ℤ q
     least n q a = omega (arith, ints)
 

@@ -65,7 +65,7 @@ upright_between : (rf re rg sf se sg : ℤ) → re ≡ pos 0 → pos 0 <ℤ se �
 upright_between rf re rg sf se sg e h i j k l = by_sign rg (λ s. absurd (never_negative rg j s))
     (λ s. level (rg *ℤ sf) (rf *ℤ sg) (ap (λ (t : ℤ). t *ℤ sf) s ∙ none_left sf) (mul_nonneg rf sg i (nonneg sg (k s))))
     (λ s. absurd (clash (rg *ℤ se) (re *ℤ sg) (mul_pos rg se s h) (ap (λ (t : ℤ). t *ℤ sg) e ∙ none_left sg) l))
-
+  where
     level : (a b : ℤ) → a ≡ pos 0 → pos 0 ≤ℤ b → (a -ℤ b) ≤ℤ pos 0
     level a b e h = omega (arith, ints)
 

@@ -234,7 +234,7 @@ module _ (es : List Edge) (h : Edges es) (v : Pt) (x : Vertex es v) (low mid hig
     at_fresh g e c i = let k = are_fresh e i in record {
       e_low = subst (λ (w : Pt). g.p.x ≤ℤ w.x) (sym k.2) c.begun.column;
       e_high = subst (λ (w : Pt). w.x ≤ℤ g.q.x) (sym k.2) (le_of g.q v c.lasts);
-      f_low = self e.p.x;
+      f_low = itself e.p.x;
       f_high = weak e.p.x e.q.x k.1;
     }
 

@@ -40,7 +40,7 @@ covers_high : (a c x2 dx : ℤ) → IsWithin (2 ^ 29) dx → IsFloor c x2 dx →
 covers_high a c x2 dx w f = same_lt _ _ _ _ (covers_low_out a c x2 dx w f) (covers_low_in a c x2 dx w f)
 
 -- ---- above
-pub gap : (px py rx ry x2 y2 dx dy : ℤ) →
+gap : (px py rx ry x2 y2 dx dy : ℤ) →
     (ry *ℤ (((pos (2 ^ 63) *ℤ x2) +ℤ dx) -ℤ (pos (2 ^ 64) *ℤ px))) -ℤ (rx *ℤ (((pos (2 ^ 63) *ℤ y2) +ℤ dy) -ℤ (pos (2 ^ 64) *ℤ py)))
     ≡ (pos (2 ^ 63) *ℤ ((ry *ℤ (x2 -ℤ (px +ℤ px))) -ℤ (rx *ℤ (y2 -ℤ (py +ℤ py))))) +ℤ ((ry *ℤ dx) -ℤ (rx *ℤ dy))
 gap px py rx ry x2 y2 dx dy =

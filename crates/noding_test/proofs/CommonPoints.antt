@@ -14,7 +14,6 @@ use Rattle.geom.proofs.Same.{whole_path}
 use Rattle.geom.proofs.Meaning.{on_turned}
 use Rattle.geom.proofs.Numbers.{from_same, both_ways, weak, strict_gap_is, negated_is_nonneg, negated}
 use Rattle.geom.proofs.Orders.{before_itself}
-use Rattle.lane_tests.proofs.Law.{gap}
 
 -- ---- a point of the edge from a to b, by weights at its ends
 
@@ -373,11 +372,16 @@ overlapping a b c e h k f p q = overlapping_by a b c e h k f (line_back a b c e 
 
 -- ---- edges whose ends are on two sides of each other's line, by the weights at which they cross
 
+crossing_is : (cx cy ex ey fx fy gx gy : ℤ) →
+    ((gx -ℤ fx) *ℤ (ey -ℤ fy) -ℤ (gy -ℤ fy) *ℤ (ex -ℤ fx)) *ℤ cx +ℤ neg_ℤ ((gx -ℤ fx) *ℤ (cy -ℤ fy) -ℤ (gy -ℤ fy) *ℤ (cx -ℤ fx)) *ℤ ex
+    ≡ neg_ℤ ((ex -ℤ cx) *ℤ (gy -ℤ cy) -ℤ (ey -ℤ cy) *ℤ (gx -ℤ cx)) *ℤ fx +ℤ ((ex -ℤ cx) *ℤ (fy -ℤ cy) -ℤ (ey -ℤ cy) *ℤ (fx -ℤ cx)) *ℤ gx
+crossing_is cx cy ex ey fx fy gx gy = simp expand (omega (arith, linear))
+
 cross_sum : (p q u v x y z w : ℤ) → p *ℤ x +ℤ neg_ℤ q *ℤ y ≡ neg_ℤ u *ℤ z +ℤ v *ℤ w → neg_ℤ p *ℤ x +ℤ q *ℤ y ≡ u *ℤ z +ℤ neg_ℤ v *ℤ w
 cross_sum p q u v x y z w h = let h' = simp expand at h in simp expand (omega (arith, linear))
 
 crossing_x : (c e f g : Pt) → side f g e *ℤ c.x +ℤ neg_ℤ (side f g c) *ℤ e.x ≡ neg_ℤ (side c e g) *ℤ f.x +ℤ side c e f *ℤ g.x
-crossing_x c e f g = gap c.x c.y e.x e.y f.x f.y g.x g.y
+crossing_x c e f g = crossing_is c.x c.y e.x e.y f.x f.y g.x g.y
 
 crossing_y : (c e f g : Pt) → side f g e *ℤ c.y +ℤ neg_ℤ (side f g c) *ℤ e.y ≡ neg_ℤ (side c e g) *ℤ f.y +ℤ side c e f *ℤ g.y
 crossing_y c e f g = simp expand (omega (arith, linear))

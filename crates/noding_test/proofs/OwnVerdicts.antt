@@ -10,8 +10,7 @@ use Rattle.geom.specs.declared.edge.Edge.{Edge}
 use Rattle.geom.specs.declared.edge.Counted.{Counted}
 use Rattle.geom.specs.Box.{IsInBox}
 use Rattle.geom.specs.Rounded.{edges_of}
-use Rattle.geom.proofs.Points.{both_and}
-use Rattle.points_law.proofs.Degrees.{same_point_of}
+use Rattle.geom.proofs.Points.{both_and, same_point_of}
 use Rattle.tiling.specs.Tiles.{Tiling, Owns}
 use Rattle.hot_pixel.specs.Rects.{IsIn}
 use Rattle.chain_gather.proofs.Boxes.{in_same_box}

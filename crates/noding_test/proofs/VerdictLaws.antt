@@ -109,7 +109,7 @@ module _ (edges : List Edge) (up : AllPairs IsEdgeBefore edges) where
             (λ o. begins f h (before_at j k f h o b at_h))
             (λ o. let e : j ≡ k = omega arith in subst (λ (x : Edge). f.p.x ≤ℤ x.p.x) (same_at j k f h e b at_h) (itself f.p.x))
             (cases_lt j k)
-
+          where
             level : {x y : ℤ} → x ≡ y → x ≤ℤ y
             level {x} {y} e = omega (arith, linear)
 

@@ -15,7 +15,7 @@ use Rattle.geom.specs.Rounded.{AreRounded, joins, route_steps, count, is_odd, od
 use Rattle.geom.specs.Segments.{same_source}
 use Rattle.geom.specs.Segments.{AreClosed}
 use Rattle.geom.proofs.Edges.{edge_path, not_turned, joining}
-use Rattle.geom.proofs.Points.{same_point_refl, both_and}
+use Rattle.geom.proofs.Points.{both_and, same_point_of}
 use Rattle.geom.proofs.Steps.{joined, step_of, step_apart}
 use Rattle.geom.proofs.Lists.{In, contains_in, in_contains, map_in, counts_some}
 use Rattle.geom.proofs.RouteLaws.{route_starts, route_ends}
@@ -92,9 +92,6 @@ at_edge v e = is v e.p ⊕ is v e.q
 either_true : (a b : Bool) → (a ≡ true) ⊎ (b ≡ true) → a || b ≡ true
 either_true a b (inl h) = grind arith
 either_true a b (inr h) = grind arith
-
-pub same_point_of : (u v : Pt) → u ≡ v → same_point u v ≡ true
-same_point_of u v h = subst (λ w. same_point u w ≡ true) h (same_point_refl u)
 
 joins_its : (e : Edge) (step : Pt × Pt) → ((e.p ≡ step.0) × (e.q ≡ step.1)) ⊎ ((e.p ≡ step.1) × (e.q ≡ step.0)) → joins e step ≡ true
 joins_its e step (inl (h, k)) = either_true _ _ (inl (both_and _ _ (same_point_of e.p step.0 h) (same_point_of e.q step.1 k)))

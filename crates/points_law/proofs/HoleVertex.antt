@@ -69,7 +69,7 @@ NoneFromLeft r es v = (f : Edge) → In f es → r f ≡ true → ¬ (v ≡ f.q)
 
 pub level_there : (es : List Edge) → Edges es → (v : Pt) → Vertex es v → (f : Edge) → In f es → cv f (v.x -ℤ pos 1) ≡ true → ¬ (v ≡ f.q) → ¬ (over_pt f v ≡ pos 0)
 level_there es h v w f i c n z = no_end (vertex_end es h.noded v w f i (on_sloping f v (cv_run f (v.x -ℤ pos 1) c) (below_successor f.p.x v.x (cv_low f (v.x -ℤ pos 1) c)) (past_predecessor v.x f.q.x (cv_high f (v.x -ℤ pos 1) c)) z))
-
+  where
     never : (x p : ℤ) → x ≡ p → p ≤ℤ (x -ℤ pos 1) → ⊥
     never x p h i = omega (arith, ints)
 

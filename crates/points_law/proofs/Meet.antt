@@ -86,7 +86,7 @@ no_meet e f m re rf X N h i j k l z =
 -- a vertical edge at a column strictly inside e's: both ends are on one side of e
 upright : (r s o c py fr fs : ℤ) → fr ≡ pos 0 → (r *ℤ fs) *ℤ (c *ℤ r) ≡ r *ℤ ((r *ℤ fs) *ℤ c +ℤ ((o +ℤ c *ℤ s) -ℤ r *ℤ py) *ℤ fr)
 upright r s o c py fr fs e = subst (λ (t : ℤ). (r *ℤ fs) *ℤ (c *ℤ r) ≡ r *ℤ ((r *ℤ fs) *ℤ c +ℤ ((o +ℤ c *ℤ s) -ℤ r *ℤ py) *ℤ t)) (sym e) (plain r s o c py fs)
-
+  where
     plain : (r s o c py fs : ℤ) → (r *ℤ fs) *ℤ (c *ℤ r) ≡ r *ℤ ((r *ℤ fs) *ℤ c +ℤ ((o +ℤ c *ℤ s) -ℤ r *ℤ py) *ℤ pos 0)
     plain r s o c py fs = simp (none_right, expand) (omega (arith, linear))
 

@@ -39,7 +39,7 @@ upright_rise e (inr h) z = strict_gap_is e.p.y e.q.y h.1
 
 nothing_steeper : (rf re sf se : ℤ) → re ≡ pos 0 → pos 0 ≤ℤ rf → pos 0 <ℤ se → pos 0 <ℤ (re *ℤ sf -ℤ rf *ℤ se) → ⊥
 nothing_steeper rf re sf se z h i k = clash (re *ℤ sf) (rf *ℤ se) (ap (λ (t : ℤ). t *ℤ sf) z ∙ none_left sf) (mul_nonneg rf se h (weak (pos 0) se i)) k
-
+  where
     clash : (a b : ℤ) → a ≡ pos 0 → pos 0 ≤ℤ b → pos 0 <ℤ (a -ℤ b) → ⊥
     clash a b h i k = omega (arith, ints)
 

@@ -187,8 +187,8 @@ module _ (op : Op) (cs : List Counted) (h : AreLayers cs) (directed : List Direc
   }
 
   further : (v p : Pt) → p.x ≤ℤ (v.x -ℤ pos 1) → IsBefore p v
-  further v p h = record { below_successor = below_successor p.x v.x h; row = λ e. absurd (never p.x v.x h e) }
-
+  further v p h = record { column = below_successor p.x v.x h; row = λ e. absurd (never p.x v.x h e) }
+    where
       never : (a b : ℤ) → a ≤ℤ (b -ℤ pos 1) → a ≡ b → ⊥
       never a b h e = omega (arith, ints)
 

@@ -108,7 +108,7 @@ pos_test r x h = by_sign x
     (λ s. low (r *ℤ x) x (below r x (mul_pos r (neg_ℤ x) h (negated x s))) s)
     (λ s. ap (λ (t : ℤ). lt_z (pos 0) (r *ℤ t)) s ∙ ap (lt_z (pos 0)) (none_right r) ∙ ap (lt_z (pos 0)) (sym s))
     (λ s. high (r *ℤ x) x (mul_pos r x h s) s)
-
+  where
     below : (r x : ℤ) → pos 0 <ℤ (r *ℤ neg_ℤ x) → (r *ℤ x) <ℤ pos 0
     below r x h = omega (arith, linear, simp expand at h)
 

@@ -84,19 +84,19 @@ pub on_sloping : (f : Edge) (v : Pt) → pos 0 <ℤ run f → f.p.x ≤ℤ v.x �
 on_sloping f v r i j h = record {
   m = v.x -ℤ f.p.x;
   n = run f;
-  m_low = low f.p.x v.x i;
+  m_low = gap_is f.p.x v.x i;
   m_high = high f.p.x v.x f.q.x j;
   n_positive = r;
   at_x = flat_x (run f) v.x f.p.x;
   at_y = flat_y (run f) (rise f) v.x v.y f.p.x f.p.y h;
 }
-
+  where
     high : (p x q : ℤ) → x ≤ℤ q → (x -ℤ p) ≤ℤ (q -ℤ p)
     high p x q i = omega (arith, ints)
 
 upright_x : (s x p m r : ℤ) → x ≡ p → r ≡ pos 0 → s *ℤ x ≡ pos 1 *ℤ (s *ℤ p +ℤ m *ℤ r)
 upright_x s x p m r h i = ap (λ (t : ℤ). s *ℤ t) h ∙ plain s p m ∙ ap (λ (t : ℤ). pos 1 *ℤ (s *ℤ p +ℤ m *ℤ t)) (sym i)
-
+  where
     plain : (s p m : ℤ) → s *ℤ p ≡ pos 1 *ℤ (s *ℤ p +ℤ m *ℤ pos 0)
     plain s p m = simp (none_right, once_left) (omega (arith, linear))
 
@@ -104,13 +104,13 @@ pub on_upright : (f : Edge) (v : Pt) → f.p.x ≡ f.q.x → v.x ≡ f.p.x → f
 on_upright f v u x i j r = record {
   m = v.y -ℤ f.p.y;
   n = rise f;
-  m_low = low f.p.y v.y i;
+  m_low = gap_is f.p.y v.y i;
   m_high = high f.p.y v.y f.q.y j;
-  n_positive = rises f.p.y f.q.y r;
-  at_x = upright_x (rise f) v.x f.p.x (v.y -ℤ f.p.y) (run f) x (level f.p.x f.q.x u);
+  n_positive = strict_gap_is f.p.y f.q.y r;
+  at_x = upright_x (rise f) v.x f.p.x (v.y -ℤ f.p.y) (run f) x (no_gap_is f.p.x f.q.x u);
   at_y = flat_x (rise f) v.y f.p.y;
 }
-
+  where
     high : (p x q : ℤ) → x ≤ℤ q → (x -ℤ p) ≤ℤ (q -ℤ p)
     high p x q i = omega (arith, ints)
 
@@ -218,7 +218,7 @@ not_zero_factor r x y h e n z = by_sign x
     (λ s. absurd (less (r *ℤ neg_ℤ x) (r *ℤ x) (mul_neg r x) (mul_pos r (neg_ℤ x) h (negated x s)) (sym e ∙ z)))
     (λ s. n s)
     (λ s. absurd (positive_is_not_zero (r *ℤ x) (mul_pos r x h s) (sym e ∙ z)))
-
+  where
     less : (a b : ℤ) → a ≡ neg_ℤ b → pos 0 <ℤ a → b ≡ pos 0 → ⊥
     less a b h i j = omega (arith, ints)
 
@@ -373,7 +373,7 @@ not_between e f m u r i j h k = no_ends e f u r h k
     (m (at f r e.p.x (pos 1) one)
     (on_vertical f e r e.p.x refl (run_none e u) (rise_some e u) (above_p (rise f) (off f) (run f) e.p.x e.p.y k) (below_q (rise f) (off f) (run f) e.p.x e.q.y (subst (λ (t : ℤ). ((rise f *ℤ t +ℤ off f) -ℤ run f *ℤ e.q.y) <ℤ pos 0) (sym u.flat) h)))
     (on_itself f r e.p.x (pos 1) one (once_from f.p.x e.p.x i) (last e.p.x f.q.x j))).0
-
+  where
     last : (a b : ℤ) → a ≤ℤ b → a ≤ℤ (pos 1 *ℤ b)
     last a b h = omega (arith, ints)
 

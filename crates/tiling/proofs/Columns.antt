@@ -214,7 +214,7 @@ inside low high x side columns s h l c =
     let e = columns_from low high side columns w.width w.is c in
     let f = fewer_steps v.width w.width side s (widths low x high v.width w.width v.is w.is l) in
     record { number = v.width / side; is = steps_are low x v.width side v.is; within = omega arith }
-
+  where
     widths : (low x high : ℤ) (v w : ℕ) → pos v ≡ x -ℤ low → pos w ≡ high -ℤ low → x ≤ℤ high → v ≤ w
     widths low x high v w e f l = omega (arith, ints)
 

@@ -143,7 +143,7 @@ reached low a b side i j k s h g o l m =
       to = both low a b (k * side) (j * side) o down g.from;
       column = record { from = max_right a (low +ℤ pos (k * side)); to = below low a (i * side) (k * side) side s up h.to };
     }
-
+  where
     both : (low a b : ℤ) (m n : ℕ) → a ≤ℤ b → m ≤ n → (low +ℤ pos n) ≤ℤ b → int_max a (low +ℤ pos m) ≤ℤ b
     both low a b m n o l g = omega (arith, ints, clamps)
 

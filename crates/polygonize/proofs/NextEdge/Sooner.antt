@@ -86,19 +86,6 @@ pub one_before : (ds : List DirectedEdge) (t u v w : Pt) → Contains ds (from_t
 one_before ds t u v w c d n m = elim (same_or_not t u) [ inl e ↦ e | inr a ↦ absurd (turn_not v t u w (n.first u (inr d) (λ e. a (sym e)) (λ e. m.other (sym e))) (m.first t (inr c) a (λ e. n.other (sym e)))) ]
 
 -- ---- the order of the edges that leave
-
-    then : (a b c : ℤ) → a <ℤ b → b ≡ c → a <ℤ c
-    then a b c h k = omega (arith, ints)
-
-    same : (a b c : ℤ) → a ≡ b → b <ℤ c → a <ℤ c
-    same a b c h k = omega (arith, ints)
-
-    by_kind : (p.x <ℤ q.x) ⊎ ((p.x ≡ q.x) × (p.y <ℤ q.y)) → (q.x <ℤ r.x) ⊎ ((q.x ≡ r.x) × (q.y <ℤ r.y)) → (p.x <ℤ r.x) ⊎ ((p.x ≡ r.x) × (p.y <ℤ r.y))
-    by_kind (inl h) (inl k) = inl (both p.x q.x r.x h k)
-    by_kind (inl h) (inr k) = inl (then p.x q.x r.x h k.0)
-    by_kind (inr h) (inl k) = inl (same p.x q.x r.x h.0 k)
-    by_kind (inr h) (inr k) = inr (h.0 ∙ k.0, both p.y q.y r.y h.1 k.1)
-
 -- where p isn't less than q, q is less or they are one
 or_less : (p q : Pt) → less p q ≡ false → IsBefore q p ⊎ (p ≡ q)
 or_less p q h = by_test (less q p) (λ k. inl (less_is q p k)) (λ k. inr (neither_less p q h k))

@@ -34,11 +34,11 @@ chain_right ax ay bx b' cx cy ra (inl h) rc m n = cancel_nonneg bx (ax *ℤ cy -
     (let P : ℤ → Type 0 = λ t. pos 0 ≤ℤ t in subst P (sym (chain_is ax ay bx b' cx cy)) (sum_nonneg (ax *ℤ (bx *ℤ cy -ℤ b' *ℤ cx)) (cx *ℤ (ax *ℤ b' -ℤ ay *ℤ bx))
     (mul_nonneg ax (bx *ℤ cy -ℤ b' *ℤ cx) (right_x ax ay ra) n) (mul_nonneg cx (ax *ℤ b' -ℤ ay *ℤ bx) (right_x cx cy rc) m)))
 chain_right ax ay bx b' cx cy ra (inr h) (inl k) m n = absurd (clash (bx *ℤ cy) (b' *ℤ cx) (ap (λ t. t *ℤ cy) h.0 ∙ none_left cy) (mul_pos b' cx h.1 k) n)
-
+  where
     clash : (s t : ℤ) → s ≡ pos 0 → pos 0 <ℤ t → pos 0 ≤ℤ (s -ℤ t) → ⊥
     clash s t e h k = omega (arith, ints)
 chain_right ax ay bx b' cx cy ra (inr h) (inr k) m n = plain (ax *ℤ cy) (ay *ℤ cx) (mul_nonneg ax cy (right_x ax ay ra) (nonneg cy k.1)) (ap (λ t. ay *ℤ t) k.0 ∙ none_right ay)
-
+  where
     plain : (s t : ℤ) → pos 0 ≤ℤ s → t ≡ pos 0 → pos 0 ≤ℤ (s -ℤ t)
     plain s t h e = omega (arith, ints)
 
@@ -144,7 +144,7 @@ half_of v a = elim (three (less v a) (less a v)) [
 
 from_right : (v a : Pt) → IsBefore v a → Right (a.x -ℤ v.x) (a.y -ℤ v.y)
 from_right v a h = by_kind (before_cases v a h)
-
+  where
     by_kind : (v.x <ℤ a.x) ⊎ ((v.x ≡ a.x) × (v.y <ℤ a.y)) → Right (a.x -ℤ v.x) (a.y -ℤ v.y)
     by_kind (inl h) = inl (strict_gap_is v.x a.x h)
     by_kind (inr h) = inr (no_gap_is v.x a.x h.0, strict_gap_is v.y a.y h.1)

@@ -31,8 +31,6 @@ use Rattle.polygonize.proofs.Numbers.{same_vertex, number_order, numbered_vertic
 use Rattle.polygonize.proofs.WrittenRings.Turning.{edges_in, turned_all_edges, turned_all_sound, turned_sound}
 
 -- ---- the ring of a cycle and its pieces
-]
-
 pub ring_one_way : (ds : List DirectedEdge) (rings : List (List Pt)) → AreDirected ds → AreRings ds rings → (ring : List Pt) → Contains rings ring → (u v : Pt) → Contains (ring_edges ring) (from_to u v) → ¬ (Contains (ring_edges ring) (from_to v u))
 ring_one_way ds rings a r ring i u v j k = a.one_way u v (there (from_to u v) j) (there (from_to v u) k)
   where
