@@ -1,18 +1,15 @@
 -- Candidates against the segments of some numbers.
 use Rattle.std.proofs.Common.{◌≡◌, true, false, ℕ, ◌+◌, ◌<◌, List, refl, sym, ap, arith, subst, length, get_or, take, ⊎_elim}
-use Rattle.std.proofs.Props.{props}
 use Rattle.std.specs.Option.{option_map}
-use Rattle.std.specs.Prelude.{All, Some, slice_get, ◌≢◌}
+use Rattle.std.specs.Prelude.{All, Some, slice_get}
 use Rattle.std.proofs.lemmas.Bool.{eqb-true, eq-eqb}
 use Rattle.std.proofs.lemmas.Option.{slice_get_cases}
-use mathlib.Core.HLevel.{is_prop→PathP}
-use Rattle.geom.specs.declared.point.Pt.{Pt}
 use Rattle.geom.specs.declared.segment.Seg.{Seg}
 use Rattle.geom.specs.declared.segment.Source.{Source}
 use Rattle.geom.specs.declared.segment.Source.TheVariants.{A, B}
 use Rattle.geom.specs.Segments.{same_source}
 use Rattle.geom.proofs.Points.{and_both, both_and, same_point_true, same_point_refl}
-use Rattle.points_law.proofs.OneResult.{apart_prop, segment_path}
+use Rattle.points_law.proofs.OneResult.{segment_path}
 use Rattle.routing.specs.declared.record.Candidate.{Candidate}
 use Rattle.routing.specs.Pieces.{candidate_at, candidates_of}
 use Rattle.chain_gather.specs.Gathered.{is_candidate}

@@ -1,6 +1,6 @@
 -- The neighbours in a list of records, and those in the segments' routes.
 use Rattle.std.proofs.Common.{◌≡◌, inl, inr, ℕ, suc, ◌+◌, ◌<◌, ◌≤◌, List, [], ◌∷◌, ◌++◌, Bool, true, false, cond, refl, sym, ◌∙◌, ap, arith, subst, length, ◌↔◌, ⊎_elim, map, eqb}
-use Rattle.std.specs.Prelude.{AllPairs, Contains, Option, Some, filter, count_by, slice_get, ◌&&◌, ◌≢◌, not, if◌then◌else◌}
+use Rattle.std.specs.Prelude.{AllPairs, Contains, Some, filter, count_by, slice_get, ◌&&◌, ◌≢◌, not, if◌then◌else◌}
 use Rattle.std.proofs.lemmas.List.{get_or_default}
 use Rattle.std.proofs.lemmas.List.Kept.{AllPairs-filter}
 use Rattle.std.proofs.lemmas.List.Sums.{sum_by-append, sum_by-cons}

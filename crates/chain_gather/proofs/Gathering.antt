@@ -1,7 +1,7 @@
 -- The records of all tiles together.
 use Rattle.std.proofs.Common.{◌≡◌, inl, inr, ℕ, ◌+◌, ◌<◌, ◌≤◌, List, [], ◌++◌, Less, sym, ◌∙◌, ap, arith, subst, get_or, ⊎_elim}
 use Rattle.std.proofs.Math.Nat.{mul-le-mul_left}
-use Rattle.std.specs.Prelude.{AllPairs, Contains, Option, Some, slice_get}
+use Rattle.std.specs.Prelude.{AllPairs, Contains, Some, slice_get}
 use Rattle.std.proofs.lemmas.Bool.{cases_lt}
 use Rattle.std.proofs.lemmas.Cmp.{tied_itself}
 use Rattle.std.proofs.lemmas.List.Elements.{Contains-get_or, Contains-append_left, Contains-append_right, Contains-append_cases}

@@ -1,6 +1,6 @@
 -- The walk from records to links, and from links to the rounded edges.
 use Rattle.std.proofs.Common.{◌≡◌, ◌⊎◌, inl, inr, ℕ, ◌+◌, ◌-◌, ◌<◌, ◌≤◌, ◌^◌, List, [], ◌∷◌, ◌++◌, Bool, true, false, cond, refl, sym, ◌∙◌, ap, arith, subst, length, get_or, take, ⊎_elim}
-use Rattle.std.specs.Prelude.{All, Contains, Option, Some, count_by, slice_get, ◌&&◌, ◌||◌}
+use Rattle.std.specs.Prelude.{All, Some, count_by, slice_get, ◌&&◌, ◌||◌}
 use Rattle.std.proofs.lemmas.List.{take_more}
 use Rattle.std.proofs.lemmas.List.Elements.{Contains-get_or}
 use Rattle.std.proofs.lemmas.List.Sums.{sum_by_push}
@@ -15,7 +15,7 @@ use Rattle.geom.specs.declared.edge.Edge.{Edge}
 use Rattle.geom.specs.declared.edge.Counted.{Counted}
 use Rattle.geom.specs.Order.{IsBefore}
 use Rattle.geom.specs.Segments.{same_point}
-use Rattle.geom.specs.Rounded.{AreRounded, joins, count}
+use Rattle.geom.specs.Rounded.{AreRounded, joins}
 use Rattle.geom.proofs.Points.{and_both, same_point_true}
 use Rattle.geom.proofs.Edges.{before_strict}
 use Rattle.geom.proofs.Lists.{some_same}

@@ -1,14 +1,14 @@
 -- Spans of numbers and boxes of segments that have something in common.
-use Rattle.std.proofs.Common.{◌≡◌, true, sym, arith}
+use Rattle.std.proofs.Common.{◌≡◌, true, arith}
 use Rattle.std.proofs.Math.IntN.{ℤ, pos, ◌*ℤ◌}
-use Rattle.std.specs.Prelude.{◌≤ℤ◌, ◌<ℤ◌, int_le}
+use Rattle.std.specs.Prelude.{◌≤ℤ◌, ◌<ℤ◌}
 use Rattle.std.specs.Int.{int_min, int_max}
 use Rattle.std.proofs.lemmas.Int.{ints, clamps, by_lt_z}
 use Rattle.geom.specs.declared.point.Pt.{Pt}
 use Rattle.geom.specs.declared.segment.Seg.{Seg}
 use Rattle.geom.specs.Box.{IsInBox, ShareAPoint, greatest_corner, least_corner}
 use Rattle.geom.specs.Hot.{CrossIn}
-use Rattle.geom.proofs.Integers.{linear, expand, unscale_le}
+use Rattle.geom.proofs.Integers.{linear, unscale_le}
 use Rattle.geom.proofs.Points.{and_both, both_and}
 use Rattle.geom.proofs.Meaning.{met_pixels_are_in_bounds}
 use Rattle.geom.proofs.Tests.{le_yes, le_told}

@@ -1,15 +1,14 @@
 -- The bins of cells: segment by segment, and as candidates.
-use Rattle.std.proofs.Common.{◌≡◌, ◌⊎◌, ◌+◌, ◌<◌, ◌∙◌, inl, inr, ℕ, List, [], ◌∷◌, ◌++◌, get_or, length, map, take, refl, sym, ap, subst, ⊎_elim}
+use Rattle.std.proofs.Common.{◌≡◌, ◌⊎◌, ◌+◌, ◌<◌, ◌∙◌, ℕ, List, [], ◌∷◌, ◌++◌, get_or, length, map, take, refl, sym, ap, subst, ⊎_elim}
 use Rattle.std.proofs.Math.Logic.{∥∥₁_elim}
 use Rattle.std.proofs.Props.{props}
-use Rattle.std.proofs.lemmas.Bool.{cases_eq}
 use Rattle.std.proofs.lemmas.List.{map-append, map_more}
 use Rattle.std.proofs.lemmas.List.Elements.{Contains-get_or}
 use Rattle.std.specs.Prelude.{Contains}
 use Rattle.geom.specs.Box.{greatest_corner, least_corner}
 use Rattle.geom.specs.declared.rect.Rect.{Rect}
 use Rattle.geom.specs.declared.segment.Seg.{Seg}
-use Rattle.geom.proofs.Lists.{In, contains_in, in_contains}
+use Rattle.geom.proofs.Lists.{contains_in, in_contains}
 use Rattle.tiling.specs.Bins.{AreBins, IsBin, TileBins}
 use Rattle.tiling.specs.Tiles.{HasTile, Owns, Tiling, tile_count}
 use Rattle.hot_pixel.specs.Candidates.{AreCandidates}

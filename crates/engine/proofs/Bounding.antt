@@ -1,6 +1,6 @@
 -- The box of all segments.
 use Rattle.std.proofs.Common.{◌≡◌, inl, inr, ℕ, zero, suc, false, ℤ, ◌+◌, ◌<◌, List, length, get_or, refl, sym, subst, arith}
-use Rattle.std.specs.Prelude.{◌≤ℤ◌, ◌==◌, Option, Some}
+use Rattle.std.specs.Prelude.{◌≤ℤ◌, ◌==◌, Some}
 use Rattle.std.specs.Int.{int_max, int_min}
 use Rattle.std.proofs.lemmas.Bool.{cases_lt}
 use Rattle.std.proofs.lemmas.Int.{ints, clamps}

@@ -1,11 +1,10 @@
 -- The edges of a result, by those of two rounded layers.
-use Rattle.std.proofs.Common.{◌≡◌, ◌⊎◌, inl, inr, List, sym, ◌∙◌, ap, subst}
+use Rattle.std.proofs.Common.{◌≡◌, ◌⊎◌, inl, inr, List, sym, ap, subst}
 use Rattle.std.specs.Prelude.{All, AllPairs, Contains}
 use Rattle.std.proofs.Math.Logic.{∥∥₁_elim}
 use Rattle.std.proofs.Props.{props}
 use Rattle.std.proofs.lemmas.List.Elements.{All-contains, All-contains_itself, All-weaker}
 use Rattle.geom.specs.declared.op.Op.{Op}
-use Rattle.geom.specs.declared.point.Pt.{Pt}
 use Rattle.geom.specs.declared.edge.Edge.{Edge}
 use Rattle.geom.specs.declared.edge.Counted.{Counted}
 use Rattle.geom.specs.declared.directed.DirectedEdge.{DirectedEdge}
@@ -15,7 +14,7 @@ use Rattle.geom.specs.Noded.{IsNoded}
 use Rattle.geom.specs.NodedEdges.{AreNodedEdges}
 use Rattle.geom.specs.Order.{IsBefore}
 use Rattle.geom.specs.Rounded.{IsEdgeBefore, edges_of}
-use Rattle.geom.proofs.Edges.{before_strict, edge_path, IsBefore-prop, one_run}
+use Rattle.geom.proofs.Edges.{IsBefore-prop, one_run}
 use Rattle.points_law.specs.Law.{AreLayers}
 use Rattle.polygonize.proofs.CycleRings.{less_apart}
 

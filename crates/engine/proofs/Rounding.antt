@@ -1,5 +1,5 @@
 -- From two texts that were checked to what the theorems say of their rounded edges.
-use Rattle.std.proofs.Common.{◌≡◌, ℕ, List, [], ◌∷◌, ◌++◌, map, ◌<◌, ◌≤◌, inl, inr, refl, sym, subst, ap, arith, ⊎_elim}
+use Rattle.std.proofs.Common.{◌≡◌, ℕ, List, ◌++◌, map, ◌<◌, ◌≤◌, refl, sym, subst, ap, arith, ⊎_elim}
 use Rattle.std.proofs.Math.Logic.{∥∥₁_map}
 use Rattle.std.specs.Prelude.{Contains, Err, IfOk, None, Ok, Option, Result, Some}
 use Rattle.geom.specs.Rounded.{AreRounded}

@@ -10,13 +10,6 @@ abbrev From : ℕ → List ℕ → Type 0
 From i [] = Unit {0}
 From i (n ∷ ns) = (i ≤ n) × From (suc n) ns
 
-from_lower : (i j : ℕ) (ns : List ℕ) → i ≤ j → From j ns → From i ns
-from_lower i j [] h f = tt
-from_lower i j (n ∷ ns) h f = (lower f.0, f.1)
-  where
-    lower : j ≤ n → i ≤ n
-    lower l = omega arith
-
 from_in : (i : ℕ) (ns : List ℕ) → From i ns → (k : ℕ) → In k ns → i ≤ k
 from_in i [] f k j = absurd j
 from_in i (n ∷ ns) f k (inl e) = same f.0 e

@@ -7,7 +7,7 @@ use lib.Signed.{◌<ℤ◌, ◌≤ℤ◌}
 use Rattle.geom.specs.declared.point.Pt.{Pt}
 use Rattle.geom.specs.declared.rect.Rect.{Rect}
 use Rattle.geom.specs.Box.{IsInBox, ShareAPoint, greatest_corner, least_corner}
-use Rattle.geom.proofs.Integers.{linear, expand, unscale_le}
+use Rattle.geom.proofs.Integers.{linear, unscale_le}
 use Rattle.geom.proofs.Along.{Between}
 use Rattle.geom.proofs.Numbers.{once_from, once_to}
 

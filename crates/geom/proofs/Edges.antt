@@ -1,5 +1,5 @@
 -- Edges are equal where their ends are, and the order of points is strict.
-use Rattle.std.proofs.Common.{◌≡◌, ◌⊎◌, inl, inr, sym, ap, subst, ◌∙◌, arith, refl}
+use Rattle.std.proofs.Common.{◌≡◌, ◌⊎◌, inl, inr, sym, ap, ◌∙◌, arith, refl}
 use Rattle.std.proofs.Math.Path.{path_j}
 use Rattle.std.proofs.Props.{props}
 use Rattle.std.specs.Prelude.{◌<ℤ◌}

@@ -38,7 +38,6 @@ use Rattle.hot_pixel.specs.Halving.{edges_of, HasHot, IsHotFor}
 use Rattle.hot_pixel.specs.Rects.{IsIn}
 use Rattle.hot_pixel.specs.Lines.{CrossAt, IsLine}
 use Rattle.hot_pixel.proofs.HalvingLaws.{line_at}
-use Rattle.hot_pixel.proofs.HotLaws.{cross_back}
 use Rattle.hot_pixel.proofs.LineLaws.{segment_of, segment_line, cross_at}
 use Rattle.hot_pixel.proofs.ListLaws.{from_cons, here, in_cons, none_in}
 

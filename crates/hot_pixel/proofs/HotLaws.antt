@@ -1,6 +1,6 @@
 -- Hot pixels: where they lie, and that they depend on the segments' ends alone.
 use Rattle.std.proofs.Common.{◌≡◌, ◌⊎◌, inl, inr, List, subst, arith}
-use Rattle.std.proofs.Math.IntN.{ℤ, pos, ◌-ℤ◌, neg_ℤ}
+use Rattle.std.proofs.Math.IntN.{ℤ, pos, neg_ℤ}
 use Rattle.std.specs.Prelude.{All, Contains, ◌≢◌}
 use Rattle.std.proofs.lemmas.List.Elements.{All-contains}
 use Rattle.geom.specs.declared.point.Pt.{Pt}

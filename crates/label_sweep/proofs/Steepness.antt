@@ -6,7 +6,7 @@ use Rattle.std.proofs.Math.IntN.{ℤ, ◌-ℤ◌, ◌+ℤ◌, ◌*ℤ◌, neg_�
 use Rattle.std.proofs.lemmas.Int.{ints}
 use Rattle.geom.specs.declared.edge.Edge.{Edge}
 use Rattle.geom.proofs.Edges.{before_cases}
-use Rattle.geom.proofs.Integers.{expand, linear, none_left, mul_neg, mul_pos, mul_nonneg, by_sign}
+use Rattle.geom.proofs.Integers.{none_left, mul_neg, mul_pos, mul_nonneg, by_sign}
 use Rattle.geom.proofs.Numbers.{negated_is_nonneg, never_negative, nonneg, strict_gap_is}
 use Rattle.points_law.proofs.Choices.{run, rise}
 use Rattle.points_law.proofs.Meet.{slope}

@@ -1,7 +1,6 @@
 -- Lanes that hold signed numbers, computed from the numbers of the elements.
 use Rattle.std.proofs.Common.{◌≡◌, ℕ, ◌+◌, ◌-◌, ◌*◌, ◌%◌, ◌^◌, ◌<◌, ◌≤◌, Bool, true, false, cond, ◌&&◌, List, [], ◌∷◌, map, length, get_or, take, drop, refl, sym, ap, ◌∙◌, arith, w8, w32, w64, FitsSigned, to_z, of_z, ℤ, pos, negsuc, ◌+ℤ◌, ◌-ℤ◌, ◌*ℤ◌, to_z-of_z}
 use Rattle.lane_tests.specs.Sides.{sign}
-use Rattle.std.specs.Prelude.{◌<ℤ◌, ◌≤ℤ◌}
 use Rattle.std.proofs.lemmas.Int.{ints, by_lt_z, of_z-to_z, int_wrap_fits, wrapping_add_is, wrapping_sub_is, wrapping_mul_is}
 use mir.Syntax.{Width}
 use mir.Val.{bits}
@@ -87,10 +86,6 @@ widened {at} {v} a = record {
 
 abbrev pub full64 : Bool → ℕ
 full64 p = cond p 18446744073709551615 0
-
-top_full32 : (p : Bool) → top 31 (full32 p) ≡ p
-top_full32 true = refl
-top_full32 false = refl
 
 top_full64 : (p : Bool) → top 63 (full64 p) ≡ p
 top_full64 true = refl

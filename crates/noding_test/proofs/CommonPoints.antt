@@ -9,7 +9,7 @@ use Rattle.geom.specs.OnSegment.{IsAt, IsOn}
 use Rattle.geom.specs.Order.{IsBefore, IsUpTo}
 use Rattle.geom.specs.Determinant.{turn, side}
 use Rattle.geom.proofs.Integers.{linear, expand, scale_le, scale_lt, unscale_le, unscale_eq, mul_pos, mul_nonneg, by_sign, once_left}
-use Rattle.geom.proofs.Edges.{before_cases, before_strict, PtOrder, before, equal, after, pt_order}
+use Rattle.geom.proofs.Edges.{before_cases, PtOrder, before, equal, after, pt_order}
 use Rattle.geom.proofs.Same.{whole_path}
 use Rattle.geom.proofs.Meaning.{on_turned}
 use Rattle.geom.proofs.Numbers.{from_same, both_ways, weak, strict_gap_is, negated_is_nonneg, negated}

@@ -43,10 +43,6 @@ pair_trans x y z (inl a) (inr b) = inl (subst (λ (e : Edge). IsEdgeBefore x.0 e
 pair_trans x y z (inr a) (inl b) = inl (subst (λ (e : Edge). IsEdgeBefore e z.0) (sym a.0) b)
 pair_trans x y z (inr a) (inr b) = inr (a.0 ∙ b.0, edge_before_trans x.1 y.1 z.1 a.1 b.1)
 
--- a pair that isn't before y is after all that is before y
-after_all : (x y z : Edge × Edge) → ¬ (IsBeforePair x y) → IsBeforePair z y → IsBeforePair x z → ⊥
-after_all x y z h a b = h (pair_trans x z y b a)
-
 pair_order : (x y : Edge × Edge) → IsBeforePair x y ⊎ (((x.0 ≡ y.0) × (x.1 ≡ y.1)) ⊎ IsBeforePair y x)
 pair_order x y = ⊎_elim (λ l. inl (inl l)) (λ m. ⊎_elim (λ e. ⊎_elim (λ l. inl (inr (e, l))) (λ n. ⊎_elim (λ f. inr (inl (e, f))) (λ g. inr (inr (inr (sym e, g)))) n) (edge_order x.1 y.1)) (λ g. inr (inr (inl g))) m) (edge_order x.0 y.0)
 

@@ -19,9 +19,6 @@ use Rattle.hot_pixel.proofs.ListLaws.{in_cons, from_cons, here, none_in, head_pa
 use Rattle.noding_test.specs.Verdicts.{common_corner, chosen_edges, AreNear, IsOwnBad, IsLeastPair}
 use Rattle.noding_test.proofs.VerdictLaws.{corner_is_common}
 
-some_counted : {c d : Counted} {o : Option Counted} → o ≡ Some c → o ≡ Some d → c ≡ d
-some_counted {c} {d} {o} a b = cc
-
 -- ---- the edges of some numbers
 pub first_chosen : (counted : List Counted) (n : ℕ) (ns : List ℕ) (c : Counted) → slice_get counted n ≡ Some c → chosen_edges counted (n ∷ ns) ≡ c.edge ∷ chosen_edges counted ns
 first_chosen counted n ns c e = rw e refl

@@ -1,5 +1,5 @@
 -- Edges directed with the result on their left: each arrives at a vertex, turns to the first edge met clockwise and leaves along it.
-use Rattle.std.proofs.Common.{◌≡◌, ◌⊎◌, inl, inr, Bool, true, false, cond, List, sym, ap, ◌∙◌, arith, subst}
+use Rattle.std.proofs.Common.{◌≡◌, ◌⊎◌, inl, inr, Bool, true, false, List, sym, ap, ◌∙◌, arith, subst}
 use Rattle.std.specs.List.{Contains}
 use Rattle.std.specs.Prelude.{◌≢◌, ◌↔◌}
 use Rattle.geom.specs.declared.point.Pt.{Pt}

@@ -1,5 +1,5 @@
 -- The segments, the rounded edges and the result edges of two layers are one list each.
-use Rattle.std.proofs.Common.{◌≡◌, inl, inr, ◌+◌, ◌<◌, List, [], ◌∷◌, map, refl, sym, ◌∙◌, ap, subst}
+use Rattle.std.proofs.Common.{◌≡◌, ◌+◌, ◌<◌, List, [], ◌∷◌, map, refl, sym, ◌∙◌, ap, subst}
 use Rattle.std.proofs.Props.{props}
 use Rattle.std.specs.Prelude.{◌≢◌, Contains}
 use mathlib.Core.HLevel.{is_prop→PathP}
@@ -10,7 +10,6 @@ use Rattle.geom.specs.declared.segment.Source.{Source}
 use Rattle.geom.specs.declared.segment.Source.TheVariants.{A, B}
 use Rattle.geom.specs.declared.edge.Counted.{Counted}
 use Rattle.geom.specs.declared.directed.DirectedEdge.{DirectedEdge}
-use Rattle.geom.specs.Order.{IsBefore}
 use Rattle.geom.specs.Directed.{IsDirectedBefore, AreResultEdges}
 use Rattle.geom.specs.EdgeOrder.{IsEdgeBefore}
 use Rattle.geom.specs.Route.{IsRoute, AreRoutes}

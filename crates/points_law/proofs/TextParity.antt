@@ -17,7 +17,7 @@ use Rattle.geom.specs.Pixel.{Point}
 use Rattle.geom.specs.ResultEdges.{holds_at, is_result_edge, result_edges}
 use Rattle.geom.specs.RingParity.{spans, side_above, ring_parity}
 use Rattle.geom.specs.Rounded.{edges_of, is_odd}
-use Rattle.geom.proofs.Edges.{edge_path, not_turned, one_run}
+use Rattle.geom.proofs.Edges.{not_turned, one_run}
 use Rattle.geom.proofs.Integers.{linear, expand, mul_nonneg}
 use Rattle.geom.proofs.Lists.{In, Distinct, contains_in, in_contains}
 use Rattle.geom.proofs.Orders.{directed_before_itself}

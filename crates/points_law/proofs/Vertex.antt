@@ -13,7 +13,7 @@ use Rattle.geom.specs.Pixel.{Point}
 use Rattle.geom.proofs.Lists.{In}
 use Rattle.geom.proofs.Pixels.{same_point}
 use Rattle.points_law.proofs.Choices.{◌⊕◌, ◌∧∧◌, par, run, rise, Ordered, Small, On, IsAt, IsEnd, MeetAtEnds, Noded, Even, eq_z, is, parity, counted, above, left, right, K}
-use Rattle.geom.proofs.Integers.{expand, linear, mul_pos, by_sign, twice_right, once_left, none_right, mul_neg}
+use Rattle.geom.proofs.Integers.{expand, linear, mul_pos, by_sign, once_left, none_right, mul_neg}
 use Rattle.geom.proofs.Numbers.{gap_is, strict_gap_is, no_gap_is, from_strict_gap, negated, positive_is_not_zero, times_no_gap, below_successor, past_predecessor, zero_is_not_positive, once_from, weak}
 use Rattle.geom.proofs.Tests.{lt_z_told}
 use Rattle.points_law.proofs.Meet.{off, slope, gap, at, on_itself, on_vertical}

@@ -1,8 +1,8 @@
 -- All cycles, one walk after another.
-use Rattle.std.proofs.Common.{◌≡◌, ◌≢◌, ℕ, zero, suc, ◌+◌, ◌<◌, ◌≤◌, Bool, true, false, List, [], ◌∷◌, ◌++◌, length, get_or, replicate, map, refl, sym, ◌∙◌, ap, subst, inl, inr, arith, add-one}
+use Rattle.std.proofs.Common.{◌≡◌, ◌≢◌, ℕ, zero, suc, ◌+◌, ◌<◌, ◌≤◌, Bool, true, false, List, [], ◌∷◌, ◌++◌, length, get_or, replicate, refl, sym, ◌∙◌, ap, subst, inl, inr, arith, add-one}
 use Rattle.std.specs.Prelude.{All, AllPairs}
 use Rattle.std.proofs.lemmas.Bool.{false≢true, cases_eq, cases_lt}
-use Rattle.std.proofs.lemmas.List.{get_or_past, length-replicate, map-append, get_or_default}
+use Rattle.std.proofs.lemmas.List.{get_or_past, length-replicate, get_or_default}
 use Rattle.std.proofs.lemmas.List.Elements.{All-nil, All-push, All-cons, All-weaker}
 use Rattle.std.proofs.lemmas.List.Concat.{flat_map-append}
 use Rattle.std.proofs.lemmas.List.Quantifiers.{all_pairs_push}

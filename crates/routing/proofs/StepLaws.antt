@@ -7,7 +7,6 @@ use Rattle.geom.specs.declared.point.Pt.{Pt}
 use Rattle.geom.specs.declared.segment.Seg.{Seg}
 use Rattle.geom.specs.Route.{Meets, IsEarlier}
 use Rattle.geom.specs.Limit.{InLimit, AreInLimit, IsWithin, coordinate_limit}
-use Rattle.geom.proofs.Integers.{linear}
 use Rattle.geom.proofs.Pixels.{piece, meets_in}
 use Rattle.geom.proofs.Same.{decide_same, whole_path}
 use Rattle.geom.proofs.Along.{ordered, sized}

@@ -1,6 +1,6 @@
 -- The index of boxes: how it is built, and what it finds.
 use Rattle.std.proofs.Common.{◌≡◌, ◌⊎◌, ℕ, ◌+◌, ◌<◌, ◌≤◌, ◌^◌, true, false, List, [], ◌∷◌, ◌++◌, length, get_or, map, take, refl, sym, ap, ◌∙◌, subst, arith, inl, inr, zero-add, ℤ, pos}
-use Rattle.std.specs.Prelude.{◌↔◌, ◌≤ℤ◌, ◌<ℤ◌, FitsSigned, int_le, int_lt, nat_lt, All, AllPairs, Some, slice_get, count_by}
+use Rattle.std.specs.Prelude.{◌↔◌, ◌≤ℤ◌, ◌<ℤ◌, FitsSigned, int_le, nat_lt, All, AllPairs, Some, slice_get, count_by}
 use Rattle.std.specs.Int.{int_max, w32}
 use Rattle.std.specs.List.{enumerate_from, position_or_len, range_with_len, zip}
 use Rattle.std.specs.List.Sorted.{IsPermutation, IsSorted, IsSortedByKey}

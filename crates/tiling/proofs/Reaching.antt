@@ -1,6 +1,6 @@
 -- Boxes that have an x between two numbers.
-use Rattle.std.proofs.Common.{◌≡◌, ℕ, ◌<◌, ◌≤◌, true, false, List, length, sym, ap, ◌∙◌, subst, arith, ℤ, pos, w32, w64, FitsSigned, to_z, of_z, to_z-of_z}
-use Rattle.std.specs.Prelude.{◌≤ℤ◌, ◌<ℤ◌, All, Some, int_lt, slice_get}
+use Rattle.std.proofs.Common.{◌≡◌, ℕ, ◌<◌, ◌≤◌, List, length, sym, ap, ◌∙◌, subst, arith, ℤ, pos, w32, w64, FitsSigned, to_z, of_z, to_z-of_z}
+use Rattle.std.specs.Prelude.{◌≤ℤ◌, ◌<ℤ◌, All, Some, slice_get}
 use Rattle.std.specs.Int.{int_min}
 use Rattle.std.specs.List.{enumerate_from, zip}
 use Rattle.std.proofs.lemmas.Int.{ints, by_lt_z}

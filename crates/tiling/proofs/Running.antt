@@ -1,11 +1,11 @@
 -- The greatest number so far.
-use Rattle.std.proofs.Common.{◌≡◌, ℕ, zero, suc, ◌+◌, ◌<◌, ◌≤◌, true, false, List, [], ◌∷◌, ◌++◌, length, get_or, refl, sym, ap, arith, ℤ, pos}
-use Rattle.std.specs.Prelude.{◌≤ℤ◌, ◌<ℤ◌, int_le, int_lt}
+use Rattle.std.proofs.Common.{◌≡◌, ℕ, zero, suc, ◌+◌, ◌<◌, ◌≤◌, List, [], ◌∷◌, ◌++◌, length, get_or, refl, ap, arith, ℤ, pos}
+use Rattle.std.specs.Prelude.{◌≤ℤ◌, ◌<ℤ◌, int_le}
 use Rattle.std.specs.Int.{int_max}
 use Rattle.std.specs.List.{position_or_len}
-use Rattle.std.proofs.lemmas.Int.{ints, by_lt_z}
+use Rattle.std.proofs.lemmas.Int.{by_lt_z}
 use Rattle.geom.proofs.Tests.{lt_yes, lt_no, le_yes, le_no}
-use Rattle.geom.proofs.Numbers.{itself, weak, le_le, max_left, max_right}
+use Rattle.geom.proofs.Numbers.{itself, le_le, max_left, max_right}
 use Rattle.tiling.specs.Index.{AreAscending, greatest_of, running}
 
 pub running-push : (m : ℤ) (xs : List ℤ) (x : ℤ) → running m (xs ++ x ∷ []) ≡ running m xs ++ int_max (greatest_of m xs) x ∷ []

@@ -1,5 +1,5 @@
 -- Vertical columns, and the edges that lie across them.
-use Rattle.std.proofs.Common.{◌≡◌, ◌⊎◌, ℕ, ◌+◌, ◌<◌, List, [], length, get_or, take, refl, sym, ◌∙◌, ap, subst, inl, inr, Bool, false, arith, ℤ, w32, to_z, of_z, to_z-of_z, FitsSigned}
+use Rattle.std.proofs.Common.{◌≡◌, ◌⊎◌, ℕ, ◌+◌, ◌<◌, List, [], length, get_or, take, refl, sym, ◌∙◌, ap, subst, inl, inr, Bool, false, arith, ℤ, w32, to_z, of_z}
 use Rattle.std.specs.Prelude.{◌≤ℤ◌, ◌<ℤ◌, ◌-ℤ◌, pos, true, All, IsTrue}
 use Rattle.std.specs.Int.{int_max, int_min}
 use Rattle.std.proofs.lemmas.Int.{ints, by_lt_z, int_max_is, int_min_is}
@@ -12,7 +12,7 @@ use Rattle.geom.specs.Holes.{left_of}
 use Rattle.geom.specs.Limit.{AreInLimit, IsWithin, coordinate_limit}
 use Rattle.geom.proofs.Edges.{before_by_cases}
 use Rattle.geom.proofs.Integers.{linear}
-use Rattle.geom.proofs.Numbers.{itself, le_le, lt_le}
+use Rattle.geom.proofs.Numbers.{le_le, lt_le}
 use Rattle.face_label.proofs.Striping.{back}
 use Rattle.geom.specs.Parity.{covers}
 use Rattle.polygonize.specs.Below.{RunsBelow, vertex_at}

@@ -12,7 +12,7 @@ use Rattle.geom.specs.Limit.{AreInLimit, InLimit, IsWithin, coordinate_limit}
 use Rattle.geom.specs.Order.{IsBefore}
 use Rattle.geom.specs.declared.directed.DirectedEdge.{DirectedEdge}
 use Rattle.geom.specs.Directed.{RunsAlong, from_to}
-use Rattle.geom.proofs.Edges.{edge_path, not_turned, one_run}
+use Rattle.geom.proofs.Edges.{edge_path, not_turned}
 use Rattle.geom.proofs.Orders.{before_itself}
 use Rattle.geom.specs.Parity.{covers}
 use Rattle.geom.proofs.Bounds.{fits_64, fits_128, product_within}

@@ -1,7 +1,7 @@
 -- Gaps that are at most others, and the nearest edge among those at some numbers.
 use Rattle.std.proofs.Common.{◌≡◌, ℕ, ◌+◌, ◌<◌, inl, inr, sym, ◌∙◌, ap, subst, Option, Some, None, List, length, get_or, arith}
 use Rattle.std.specs.Prelude.{Contains, IfSome, MatchOption, ℤ, pos, ◌*ℤ◌, ◌<ℤ◌, ◌≤ℤ◌}
-use Rattle.std.proofs.lemmas.Int.{ints, by_lt_z}
+use Rattle.std.proofs.lemmas.Int.{by_lt_z}
 use Rattle.std.proofs.lemmas.Bool.{cases_lt}
 use Rattle.std.proofs.lemmas.List.{get_or_default}
 use Rattle.geom.specs.declared.point.Pt.{Pt}

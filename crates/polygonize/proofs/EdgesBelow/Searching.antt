@@ -8,10 +8,10 @@ use Rattle.geom.specs.declared.point.Pt.{Pt}
 use Rattle.geom.specs.declared.edge.Edge.{Edge}
 use Rattle.geom.specs.declared.directed.DirectedEdge.{DirectedEdge}
 use Rattle.geom.specs.Directed.{RunsAlong}
-use Rattle.geom.specs.Holes.{IsHole, LiesBelow, height, left_of, run_of}
+use Rattle.geom.specs.Holes.{LiesBelow, height, left_of, run_of}
 use Rattle.polygonize.specs.Below.{AreFoundBelow, AreGapsBelow, AreKnown, AreNearer, AreNearerFor, AreNearerSpanning, HasHoles, IsAsNear, IsFoundBelow, IsGapOf, IsLesserGap, RunsBelow, best_at, gap_height, vertex_at}
 use Rattle.polygonize.specs.Column.{AreColumnsOf, IsIn, Meets, Spans}
-use Rattle.polygonize.specs.Next.{edge_at, nothing, ring_of}
+use Rattle.polygonize.specs.Next.{edge_at, nothing}
 use Rattle.polygonize.specs.declared.below.Gap.{Gap}
 use Rattle.polygonize.specs.declared.column.Columns.{Columns}
 use Rattle.polygonize.proofs.EdgesBelow.Columns.{below_meets, below_slanted, meets_or_not, spans_or_not}

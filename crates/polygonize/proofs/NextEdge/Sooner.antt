@@ -10,7 +10,6 @@ use Rattle.std.proofs.lemmas.Bool.{cases_eq, cases_lt, false≢true}
 use Rattle.geom.specs.declared.point.Pt.{Pt}
 use Rattle.geom.specs.declared.directed.DirectedEdge.{DirectedEdge}
 use Rattle.geom.specs.Order.{IsBefore}
-use Rattle.geom.proofs.Edges.{before_cases, before_by_cases}
 use Rattle.geom.proofs.Orders.{before_trans}
 use Rattle.geom.specs.Determinant.{side}
 use Rattle.geom.specs.Directed.{from_to, IsDirectedBefore, AreDirected}

@@ -7,8 +7,8 @@ use Rattle.std.proofs.lemmas.Bool.Decides.{nat_tests}
 use Rattle.geom.specs.declared.point.Pt.{Pt}
 use Rattle.geom.specs.Order.{IsBefore}
 use Rattle.geom.proofs.Edges.{before_cases, before_by_cases}
-use Rattle.geom.proofs.Numbers.{nonneg, zero_is_nonneg, never_negative, strict_gap_is, no_gap_is}
-use Rattle.geom.proofs.Integers.{expand, linear, cancel_nonneg, none_left, none_right, mul_pos, mul_nonneg, by_sign}
+use Rattle.geom.proofs.Numbers.{nonneg, zero_is_nonneg, strict_gap_is, no_gap_is}
+use Rattle.geom.proofs.Integers.{expand, linear, cancel_nonneg, none_left, none_right, mul_pos, mul_nonneg}
 use Rattle.geom.proofs.Points.{or_either}
 use Rattle.geom.proofs.Tests.{lt_z_told}
 use Rattle.geom.specs.Determinant.{side}
@@ -223,9 +223,6 @@ one_way v a b h = elim (sooner_true (half v a) (half v b) (side v a b) h) [
 
     other : (x y : ℤ) → x <ℤ pos 0 → y ≡ neg_ℤ x → pos 0 ≤ℤ y
     other x y h e = omega (arith, ints)
-
-not_same : (m k l : ℕ) → m ≡ k → m ≡ l → ¬ (k ≡ l) → ⊥
-not_same m k l e f n = n (sym e ∙ f)
 
 zero_one : (k l : ℕ) → k ≡ l → k ≡ 0 → l ≡ 1 → ⊥
 zero_one k l e f g = omega arith

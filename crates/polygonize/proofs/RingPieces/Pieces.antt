@@ -7,7 +7,7 @@ use Rattle.geom.specs.Directed.{from_to}
 use Rattle.geom.specs.Rings.{ring_edges, IsCut}
 use Rattle.geom.specs.Rings.IsCut.{whole, taken}
 use Rattle.geom.proofs.Lists.{In, in_front, in_back}
-use Rattle.geom.proofs.RingEdges.{same_order, around-cut, in_permutation, rotated_edges, cut_edges}
+use Rattle.geom.proofs.RingEdges.{same_order, around-cut, in_permutation}
 
 -- ---- each piece has three points or more
 abbrev pub OneWay : List DirectedEdge → Type 0

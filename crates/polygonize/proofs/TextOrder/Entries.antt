@@ -12,7 +12,7 @@ use Rattle.geom.specs.Holes.{IsOwner, IsShell}
 use Rattle.geom.specs.Holes.IsOwner.{itself, below}
 use Rattle.geom.specs.ListOrder.{IsLeastRotation}
 use Rattle.geom.specs.Rings.{ring_edges, IsCut}
-use Rattle.geom.proofs.Lists.{In, contains_in, in_append, in_contains, in_map, in_front, in_back}
+use Rattle.geom.proofs.Lists.{In, contains_in, in_contains, in_map}
 use Rattle.geom.proofs.RingEdges.{in_flat, flat_in, in_permutation, cut_edges, rotated_edges}
 use Rattle.polygonize.specs.Grouped.{BeginsWithShell}
 use Rattle.polygonize.specs.Next.{ring_of}

@@ -1,5 +1,5 @@
 -- What the pieces of one ring add to the written rings: each is placed under the shell that owns the ring.
-use Rattle.std.proofs.Common.{◌≡◌, ◌≢◌, ◌⊎◌, ℕ, zero, suc, ◌<◌, ◌≤◌, Bool, true, false, List, [], ◌∷◌, length, map, get_or, refl, sym, ◌∙◌, ap, subst, inl, inr, arith}
+use Rattle.std.proofs.Common.{◌≡◌, ◌≢◌, ℕ, zero, suc, ◌<◌, ◌≤◌, Bool, true, false, List, [], ◌∷◌, length, map, get_or, refl, sym, ◌∙◌, ap, subst, inl, inr, arith}
 use Rattle.std.specs.Prelude.{All, Contains, flat_map, ◌↔◌}
 use Rattle.std.proofs.lemmas.List.{map-append}
 use Rattle.std.proofs.lemmas.List.Elements.{All-get_or, All-contains, Contains-get_or}
@@ -11,12 +11,12 @@ use Rattle.geom.specs.Directed.{from_to, AreDirected}
 use Rattle.geom.specs.Holes.{IsHole, IsOwner}
 use Rattle.geom.specs.ListOrder.{IsLeastRotation, IsRotation}
 use Rattle.geom.specs.NodedEdges.{AreNodedEdges}
-use Rattle.geom.specs.Rings.{along, ring_edges, AreRings, Closes, IsCut}
+use Rattle.geom.specs.Rings.{ring_edges, AreRings, Closes, IsCut}
 use Rattle.geom.proofs.Lists.{In, contains_in, in_contains, in_map, map_in}
 use Rattle.geom.proofs.OneRing.{one_least_vertex, ring_simple, simple_permutation}
 use Rattle.geom.proofs.OneRotation.{rotation_back, rotation_trans}
 use Rattle.geom.proofs.RingEdges.{cut_edges, in_flat, in_permutation}
-use Rattle.geom.proofs.Owners.{ends_on, starts_on}
+use Rattle.geom.proofs.Owners.{ends_on}
 use Rattle.polygonize.specs.declared.written.Opening.{Opening}
 use Rattle.polygonize.specs.Next.{edge_at, ring_of}
 use Rattle.polygonize.specs.Number.{IsVertex}
@@ -53,19 +53,6 @@ two_places f g (x ∷ xs) a zero zero d h l z i j = refl
 two_places f g (x ∷ xs) a zero (suc m) d h l z i j = absurd (ascend_across (λ y z. y ≢ z) (f (g x)) (flat_map f (map g xs)) a z z i (in_flat f (map g xs) (g (get_or xs m d)) z (map_in g xs (get_or xs m d) (at_in xs m d (omega (arith, l)))) j) refl)
 two_places f g (x ∷ xs) a (suc k) zero d h l z i j = absurd (ascend_across (λ y z. y ≢ z) (f (g x)) (flat_map f (map g xs)) a z z j (in_flat f (map g xs) (g (get_or xs k d)) z (map_in g xs (get_or xs k d) (at_in xs k d (omega (arith, h)))) i) refl)
 two_places f g (x ∷ xs) a (suc k) (suc m) d h l z i j = ap suc (two_places f g xs (ascend_right (λ y z. y ≢ z) (f (g x)) (flat_map f (map g xs)) a) k m d (omega (arith, h)) (omega (arith, l)) z i j)
-
--- an edge ends on its ring, and begins there
-ends_along : (x : Pt) (ys : List Pt) (z : Pt) (d : DirectedEdge) → In d (along from_to x ys z) → In d.to ys ⊎ (z ≡ d.to)
-ends_along x [] z d (inl e) = inr (ap (λ t. t.to) e)
-ends_along x [] z d (inr i) = absurd i
-ends_along x (y ∷ ys) z d (inl e) = inl (inl (ap (λ t. t.to) e))
-ends_along x (y ∷ ys) z d (inr i) = elim (ends_along y ys z d i) [ inl j ↦ inl (inr j) | inr e ↦ inr e ]
-
-starts_along : (x : Pt) (ys : List Pt) (z : Pt) (d : DirectedEdge) → In d (along from_to x ys z) → In d.from (x ∷ ys)
-starts_along x [] z d (inl e) = inl (ap (λ t. t.from) e)
-starts_along x [] z d (inr i) = absurd i
-starts_along x (y ∷ ys) z d (inl e) = inl (ap (λ t. t.from) e)
-starts_along x (y ∷ ys) z d (inr i) = inr (starts_along y ys z d i)
 
 module _ (ds : List DirectedEdge) (closes : Closes ds) (noded : AreNodedEdges ds) (rings : List (List Pt)) (are : AreRings ds rings) where
   a : AreDirected ds

@@ -1,12 +1,9 @@
 -- The pieces of a ring, taken from the end, and their entries, written at the end.
-use Rattle.std.proofs.Common.{◌≡◌, ℕ, zero, suc, ◌+◌, ◌<◌, List, [], ◌∷◌, ◌++◌, length, map, refl, sym, ◌∙◌, ap, subst, inl, inr, Bool, true, false, Option, get_or, append_assoc, length-append, arith}
+use Rattle.std.proofs.Common.{◌≡◌, ℕ, zero, suc, ◌+◌, ◌<◌, List, [], ◌∷◌, ◌++◌, length, refl, sym, ◌∙◌, ap, subst, inl, inr, Bool, true, false, Option, get_or, append_assoc, length-append, arith}
 use Rattle.std.specs.Prelude.{◌||◌, ◌==◌, ◌↔◌, is_some, not, unwrap_or}
 use Rattle.std.proofs.lemmas.Bool.Decides.{nat_tests}
 use Rattle.geom.specs.declared.directed.DirectedEdge.{DirectedEdge}
-use Rattle.geom.specs.Canonical.{IsFirstPiece}
-use Rattle.geom.specs.Rings.{Closes}
 use Rattle.geom.proofs.Lists.{In, contains_in, in_append, in_contains, in_back, in_front}
-use Rattle.polygonize.specs.Next.{ring_of}
 use Rattle.std.proofs.lemmas.List.{append-nil, get_or_default}
 use Rattle.polygonize.specs.declared.written.Opening.{Opening}
 use Rattle.polygonize.specs.Owning.{ArePiecesWritten, AreWrittenUnder, IsPieceWritten}

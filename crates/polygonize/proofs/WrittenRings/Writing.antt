@@ -1,5 +1,5 @@
 -- The written rings have the edges of the cycles so far, each once.
-use Rattle.std.proofs.Common.{◌≡◌, ℕ, suc, ◌+◌, ◌<◌, ◌≤◌, List, [], ◌∷◌, ◌++◌, length, get_or, map, take, refl, sym, ◌∙◌, ap, subst, arith, add-one, Bool, cond, inl, inr, Option, None}
+use Rattle.std.proofs.Common.{◌≡◌, ℕ, suc, ◌+◌, ◌<◌, ◌≤◌, List, [], ◌∷◌, ◌++◌, length, get_or, map, take, refl, sym, ◌∙◌, ap, subst, arith, add-one, Bool, cond, Option, None}
 use Rattle.std.specs.Prelude.{All, Contains, IsPermutation, flat_map, sum_by, count_by}
 use Rattle.std.proofs.lemmas.List.{map-append, append-nil, get_or_default, get_or-map, length-map, take_all}
 use Rattle.std.proofs.lemmas.List.Elements.{All-nil, All-cons, All-head, All-tail, All-append, All-map, All-weaker, Contains-get_or}
@@ -14,7 +14,7 @@ use Rattle.geom.specs.Holes.{IsHole}
 use Rattle.geom.specs.Rings.{ring_edges, IsSimple, IsCut, AreRings}
 use Rattle.geom.specs.Rings.IsCut.{whole, taken}
 use Rattle.geom.specs.Canonical.{Shape, HaveEachEdge, written_rings}
-use Rattle.geom.proofs.Lists.{In, contains_in, in_contains, map_in, in_front, in_back}
+use Rattle.geom.proofs.Lists.{contains_in, in_contains, map_in}
 use Rattle.geom.proofs.RingEdges.{in_flat, same_order, in_permutation, cut_edges}
 use Rattle.polygonize.specs.declared.written.Opening.{Opening}
 use Rattle.polygonize.specs.declared.below.Gap.{Gap}

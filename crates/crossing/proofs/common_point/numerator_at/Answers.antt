@@ -51,9 +51,6 @@ sum_fits det x y u v h k e b =
     let s : FitsSigned w128 (x +ℤ y) = omega (arith, ints) in
     (rw (e.0, e.1) (simp to_z-of_z s), rw (e.0, e.1) (simp to_z-of_z))
 
-e_within : (det e : ℤ) → IsWithin (2 ^ 59) det → pos 0 ≤ℤ e → e ≤ℤ det → IsWithin (2 ^ 59) e
-e_within det e h lo hi = record { low = omega (arith, ints); high = omega (arith, ints) }
-
 all : (det e start end s d r q : ℤ) → IsWithin (2 ^ 59) det → pos 0 ≤ℤ e → e ≤ℤ det → IsWithin coordinate_limit start → IsWithin coordinate_limit end
     → s ≡ to_z w32 (of_z w32 start) → d ≡ to_z w32 (of_z w32 end) -ℤ to_z w32 (of_z w32 start)
     → r ≡ to_z w64 (of_z w64 det) *ℤ to_z w64 (of_z w64 s) → q ≡ to_z w64 (of_z w64 e) *ℤ to_z w64 (of_z w64 d)

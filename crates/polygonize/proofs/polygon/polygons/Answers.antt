@@ -6,7 +6,6 @@ use Rattle.std.proofs.lemmas.Result.{IfOk-weaker}
 use Rattle.geom.specs.Canonical.{ArePolygons, HaveEachEdge, written_rings}
 use Rattle.geom.specs.ListOrder.{IsLeastRotation}
 use Rattle.polygonize.specs.Grouped.{AreGrouped}
-use Rattle.polygonize.specs.Next.{ring_of}
 use Rattle.polygonize.specs.Written.{AreSimple, IsCanonical, IsSound}
 use Rattle.polygonize.specs.Placed.{points, stands_as_hole}
 use Rattle.polygonize.proofs.TextOrder.Ordered.{grouped_polygons, shell_first}

@@ -1,4 +1,4 @@
-use Rattle.std.proofs.Common.{List, get_or, map, sym, ◌∙◌, subst}
+use Rattle.std.proofs.Common.{List, get_or, sym, ◌∙◌, subst}
 use Rattle.std.specs.Prelude.{All}
 use Rattle.std.proofs.lemmas.List.Elements.{All-map}
 use Rattle.std.proofs.lemmas.Result.{IfOk-weaker}

@@ -1,4 +1,4 @@
-use Rattle.std.proofs.Common.{ℕ, ◌<◌, ◌++◌, ◌∷◌, [], length, get_or, map, refl, arith}
+use Rattle.std.proofs.Common.{ℕ, ◌<◌, ◌++◌, ◌∷◌, [], length, get_or, refl, arith}
 use Rattle.geom.specs.Holes.{IsHole}
 use Rattle.polygonize.specs.Next.{ring_of}
 use Rattle.polygonize.specs.Written.{ArePlaces}

@@ -1,4 +1,4 @@
-use Rattle.std.proofs.Common.{[], map}
+use Rattle.std.proofs.Common.{[]}
 use Rattle.geom.specs.Holes.{AreGrounded}
 use Rattle.geom.specs.NodedEdges.{AreNodedEdges}
 use Rattle.polygonize.specs.Next.{rings_of}
