@@ -12,8 +12,8 @@ ghost use Rattle.engine.specs.Runs.{AreEdgesWritten, Declines, IsReading, alone}
 
 use crate::cells::{bins_of, cells_of};
 use crate::checking::{Checked, Reading, check, check_plan};
-use crate::engine::{Output, Plan, make, or_fault};
-use crate::operation::Wanted;
+use crate::engine::{Output, Plan, or_fault, with_report};
+use crate::operation::{Wanted, text_of};
 use crate::reading::{read_segments, reading};
 use crate::rounds::Pieces;
 use chain_gather::{OneThread, Tiled, gather_made};
@@ -84,7 +84,8 @@ fn by_one<A: Allocator + Copy>(
     ensures { IfOk result (λ m. IsWritten wanted checked.now.plan checked.now.a.now checked.now.b.now m.text.items m.report) }
 {
     let noded = rounded_alone(alloc, checked, read_a, read_b)?;
-    make(alloc, wanted, checked, &noded)
+    let text = text_of(alloc, wanted, &noded.edges)?;
+    with_report(alloc, wanted, checked, &noded, text)
 }
 
 /// The rounded edges of two layers, with the numbers of the tiles.

@@ -3,18 +3,17 @@
 //! 1. The plan is checked and the layers are read (`read_both`), and what was read is checked (`check`): only here is an input
 //!    refused.
 //! 2. Workers round the layers (`rounded_layers`).
-//! 3. The rounded edges give the text that is wanted, and the report (`make`).
+//! 3. The rounded edges give the text that is wanted (`text_by_workers`), and the report (`with_report`).
 //! 4. Only now is the sink called: it is sent the text whole (`send`).
 
 ghost use Rattle.std.specs.Prelude.{◌≡◌, ◌<◌, ◌≤◌, IfOk, MatchResult};
-ghost use Rattle.points_law.specs.Law.{AreLayers};
 ghost use Rattle.tiling.specs.Tiles.{tile_count};
-ghost use Rattle.engine.specs.Results.{IsResultWritten, IsWritten};
+ghost use Rattle.engine.specs.Results.{IsResultWritten, IsWantedText, IsWritten};
 ghost use Rattle.engine.specs.Rounds.{AreRoundedOver};
 ghost use Rattle.engine.specs.Runs.{AreEdgesWritten, Declines, Delivers, IsReading, Runs};
 
 use crate::checking::{Checked, Reading, check, check_plan};
-use crate::operation::{Wanted, text_of};
+use crate::operation::{Wanted, text_by_workers};
 use crate::reading::read_both;
 use crate::rounds::{report_of, rounded_layers};
 use crate::sink::{Sink, write_all};
@@ -116,22 +115,23 @@ fn by_workers<A: Allocator + Copy + Send + Sync, G: Gate + Sync, R: Threads + Wa
     ensures { IfOk result (λ m. IsWritten wanted checked.now.plan checked.now.a.now checked.now.b.now m.text.items m.report) }
 {
     let noded = rounded_layers(rt, alloc, checked, read_a, read_b, gate)?;
-    make(alloc, wanted, checked, &noded)
+    let text = text_by_workers(rt, alloc, checked.plan.workers, wanted, &noded.edges)?;
+    with_report(alloc, wanted, checked, &noded, text)
 }
 
-/// The text that is wanted of two layers, and the report, by their rounded edges.
-pub(crate) fn make<A: Allocator + Copy>(
+/// The text that is wanted of two layers, with the report, by their rounded edges.
+pub(crate) fn with_report<A: Allocator + Copy>(
     alloc: A,
     wanted: Wanted,
-    checked: &Checked<'_, '_>,
+    checked: &CheckedInput<'_, '_>,
     noded: &Noded<A>,
+    text: Vec<u8, A>,
 ) -> Result<Output<A>, NoMemory>
     requires rounded { AreRoundedOver checked.now.a.now checked.now.b.now checked.now.grid noded.now.edges.items noded.now.tiles.items }
-    requires layers { ∥ AreLayers noded.now.edges.items ∥₁ }
+    requires text { IsWantedText wanted noded.now.edges.items text.items }
     requires remade { noded.now.remade ≤ tile_count checked.now.grid }
     ensures { IfOk result (λ m. IsWritten wanted checked.now.plan checked.now.a.now checked.now.b.now m.text.items m.report) }
 {
-    let text = text_of(alloc, wanted, &noded.edges)?;
     let report = report_of(alloc, checked, noded)?;
     Ok(Output { text, report })
 }

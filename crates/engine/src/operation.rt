@@ -4,11 +4,12 @@ ghost use Rattle.std.specs.Prelude.{IfOk};
 ghost use Rattle.points_law.specs.Law.{AreLayers};
 ghost use Rattle.engine.specs.Results.{IsResultText, IsWantedText};
 
-use crate::text::edges_text;
+use crate::text::{edges_text, edges_text_at_once};
 use geom::{Counted, NoMemory, Op};
 use label_sweep::layer_labels;
 use polygonize::polygons;
 use std::alloc::Allocator;
+use std::thread::Threads;
 use wkt::write_multi;
 
 /// What is wanted of two layers.
@@ -31,6 +32,23 @@ pub(crate) fn text_of<A: Allocator + Copy>(
 {
     match wanted {
         Wanted::Edges => edges_text(alloc, counted),
+        Wanted::Apply(op) => result_text(alloc, counted, op),
+    }
+}
+
+/// The same text, where workers make the lines of the edges.
+pub(crate) fn text_by_workers<A: Allocator + Copy + Send + Sync, R: Threads + Sync>(
+    rt: &R,
+    alloc: A,
+    workers: u32,
+    wanted: Wanted,
+    counted: &[Counted],
+) -> Result<Vec<u8, A>, NoMemory>
+    requires { AreLayers counted.now }
+    ensures { IfOk result (λ text. IsWantedText wanted counted.now text.items) }
+{
+    match wanted {
+        Wanted::Edges => edges_text_at_once(rt, alloc, workers, counted),
         Wanted::Apply(op) => result_text(alloc, counted, op),
     }
 }

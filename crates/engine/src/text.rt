@@ -7,6 +7,7 @@ ghost use Rattle.engine.specs.Texts.{edge_line, edges_text_of, counts_of, line_o
 use geom::{Counted, Fault, NoMemory, Part, Pt, RunFault};
 use itoa::{Buffer, Integer};
 use std::alloc::{AllocError, Allocator};
+use std::thread::{Threads, join};
 
 /// The program's exit status at a fault: 1 where memory or the sink failed, otherwise 3.
 pub fn status(fault: &RunFault) -> u8
@@ -87,6 +88,51 @@ pub fn edges_text<A: Allocator>(alloc: A, edges: &[Counted]) -> Result<Vec<u8, A
     for counted in edges {
         push_edge(&mut text, *counted)?;
     }
+    Ok(text)
+}
+
+/// The same text, whose parts are made at once by several workers: two by two or three, four by more.
+pub(crate) fn edges_text_at_once<A: Allocator + Copy + Send + Sync, R: Threads + Sync>(
+    rt: &R,
+    alloc: A,
+    workers: u32,
+    edges: &[Counted],
+) -> Result<Vec<u8, A>, NoMemory>
+    ensures { IfOk result (λ text. text.items ≡ edges_text_of edges.now) }
+{
+    if workers < 2 {
+        return edges_text(alloc, edges);
+    }
+    if workers < 4 {
+        return halved_text(rt, alloc, edges);
+    }
+    let (front, back) = edges.split_at(edges.len() / 2);
+    let (text, rest) = join(
+        rt,
+        || halved_text(rt, alloc, front),
+        || halved_text(rt, alloc, back),
+    );
+    joined(text?, rest?)
+}
+
+/// The same text, whose halves are made at once.
+fn halved_text<A: Allocator + Copy + Send + Sync, R: Threads + Sync>(
+    rt: &R,
+    alloc: A,
+    edges: &[Counted],
+) -> Result<Vec<u8, A>, NoMemory>
+    ensures { IfOk result (λ text. text.items ≡ edges_text_of edges.now) }
+{
+    let (front, back) = edges.split_at(edges.len() / 2);
+    let (text, rest) = join(rt, || edges_text(alloc, front), || edges_text(alloc, back));
+    joined(text?, rest?)
+}
+
+/// A text with another behind it.
+fn joined<A: Allocator>(mut text: Vec<u8, A>, rest: Vec<u8, A>) -> Result<Vec<u8, A>, NoMemory>
+    ensures { IfOk result (λ all. all.items ≡ text.items ++ rest.items) }
+{
+    text.extend_from_slice(&rest)?;
     Ok(text)
 }
 

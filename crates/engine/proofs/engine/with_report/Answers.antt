@@ -1,13 +1,7 @@
 use Rattle.std.proofs.Common.{arith}
-use Rattle.points_law.specs.Law.{AreLayers}
 use Rattle.engine.proofs.Known.{ready_of, reported}
-use Rattle.engine.proofs.Results.{layers_known}
 use Rattle.engine.proofs.Running.{written}
-use Rattle.engine.proofs.engine.make.Goals as goal
-
-pub text_of-requires : goal.text_of-requires
-text_of-requires g c =
-    let h : AreLayers c.deref.result.now = rw c.deref.ensures.value (layers_known c.args.noded.now.edges.items c.requires.layers) in h
+use Rattle.engine.proofs.engine.with_report.Goals as goal
 
 pub report_of-requires : goal.report_of-requires
 report_of-requires g c =
@@ -22,7 +16,6 @@ returns g c =
     let now = c.args.checked.now in
     let edges = c.args.noded.now.edges.items in
     let told = c.in_ok-report.ensures in
-    written c.args.wanted now.plan now.a.now now.b.now edges c.in_ok-text.text.items c.in_ok-report.report
-    (rw c.deref.ensures.value at c.in_ok-text.ensures)
+    written c.args.wanted now.plan now.a.now now.b.now edges c.args.text.items c.in_ok-report.report c.requires.text
     (reported now.plan now.a.now now.b.now now.segments_a now.segments_b now.grid edges c.args.noded.now.tiles.items c.in_ok-report.report
     now.are_checked c.requires.rounded told.segments_a told.segments_b told.edges told.tiles (rw told.remade c.requires.remade))
