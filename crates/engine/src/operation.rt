@@ -49,7 +49,7 @@ pub(crate) fn text_by_workers<A: Allocator + Copy + Send + Sync, R: Threads + Sy
 {
     match wanted {
         Wanted::Edges => edges_text_at_once(rt, alloc, workers, counted),
-        Wanted::Apply(op) => result_text(alloc, counted, op),
+        Wanted::Apply(_) => text_of(alloc, wanted, counted),
     }
 }
 
