@@ -13,7 +13,7 @@ ghost use Rattle.engine.specs.Results.{IsResultWritten, IsWritten};
 ghost use Rattle.engine.specs.Rounds.{AreRoundedOver};
 ghost use Rattle.engine.specs.Runs.{AreEdgesWritten, Declines, Delivers, IsReading, Runs};
 
-use crate::checking::{Checked, Reading, check, check_plan};
+use crate::checking::{CheckedInput, Reading, check, check_plan};
 use crate::operation::{Wanted, text_of};
 use crate::reading::read_both;
 use crate::rounds::{report_of, rounded_layers};
@@ -106,7 +106,7 @@ fn by_workers<A: Allocator + Copy + Send + Sync, G: Gate + Sync, R: Threads + Wa
     rt: &R,
     alloc: A,
     wanted: Wanted,
-    checked: &Checked<'_, '_>,
+    checked: &CheckedInput<'_, '_>,
     read_a: Reading<A>,
     read_b: Reading<A>,
     gate: &G,
@@ -123,7 +123,7 @@ fn by_workers<A: Allocator + Copy + Send + Sync, G: Gate + Sync, R: Threads + Wa
 pub(crate) fn make<A: Allocator + Copy>(
     alloc: A,
     wanted: Wanted,
-    checked: &Checked<'_, '_>,
+    checked: &CheckedInput<'_, '_>,
     noded: &Noded<A>,
 ) -> Result<Output<A>, NoMemory>
     requires rounded { AreRoundedOver checked.now.a.now checked.now.b.now checked.now.grid noded.now.edges.items noded.now.tiles.items }
