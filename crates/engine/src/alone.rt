@@ -11,7 +11,7 @@ ghost use Rattle.engine.specs.Results.{IsResultWritten, IsWritten};
 ghost use Rattle.engine.specs.Runs.{AreEdgesWritten, Declines, IsReading, alone};
 
 use crate::cells::{bins_of, cells_of};
-use crate::checking::{Checked, Reading, check, check_plan};
+use crate::checking::{CheckedInput, Reading, check, check_plan};
 use crate::engine::{Output, Plan, or_fault, with_report};
 use crate::operation::{Wanted, text_of};
 use crate::reading::{read_segments, reading};
@@ -75,7 +75,7 @@ fn made_alone<A: Allocator + Copy>(
 fn by_one<A: Allocator + Copy>(
     alloc: A,
     wanted: Wanted,
-    checked: &Checked<'_, '_>,
+    checked: &CheckedInput<'_, '_>,
     read_a: Reading<A>,
     read_b: Reading<A>,
 ) -> Result<Output<A>, NoMemory>
@@ -91,7 +91,7 @@ fn by_one<A: Allocator + Copy>(
 /// The rounded edges of two layers, with the numbers of the tiles.
 fn rounded_alone<A: Allocator + Copy>(
     alloc: A,
-    checked: &Checked<'_, '_>,
+    checked: &CheckedInput<'_, '_>,
     read_a: Reading<A>,
     read_b: Reading<A>,
 ) -> Result<Noded<A>, NoMemory>

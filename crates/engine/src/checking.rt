@@ -28,7 +28,7 @@ pub(crate) type Reading<A> = Result<OutlinedLayer<A>, Fault>;
 /// Two layer texts and a plan that are not refused, with the layers' numbers of segments and the grid over them. From here on
 /// only memory and the sink may fail.
 #[derive(Clone, Copy)]
-pub(crate) struct Checked<'a, 'b> {
+pub(crate) struct CheckedInput<'a, 'b> {
     pub a: &'a [u8],
     pub b: &'b [u8],
     pub plan: Plan,
@@ -45,7 +45,7 @@ pub(crate) fn check<'a, 'b, A: Allocator>(
     plan: Plan,
     read_a: &Reading<A>,
     read_b: &Reading<A>,
-) -> Result<Checked<'a, 'b>, RunFault>
+) -> Result<CheckedInput<'a, 'b>, RunFault>
     requires read_a { IsReading a.now read_a.now }
     requires read_b { IsReading b.now read_b.now }
     ensures same { IfOk result (λ c. (c.plan ≡ plan) × (c.a.now ≡ a.now) × (c.b.now ≡ b.now)) }
@@ -56,7 +56,7 @@ pub(crate) fn check<'a, 'b, A: Allocator>(
     let outline_b = outline_of(b, read_b, Source::B)?;
     check_total(outline_a.segments, outline_b.segments)?;
     let grid = grid_over(outline_a.bounds, outline_b.bounds, plan.side)?;
-    Ok(Checked {
+    Ok(CheckedInput {
         a,
         b,
         plan,

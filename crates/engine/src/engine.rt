@@ -12,7 +12,7 @@ ghost use Rattle.engine.specs.Results.{IsResultWritten, IsWantedText, IsWritten}
 ghost use Rattle.engine.specs.Rounds.{AreRoundedOver};
 ghost use Rattle.engine.specs.Runs.{AreEdgesWritten, Declines, Delivers, IsReading, Runs};
 
-use crate::checking::{Checked, Reading, check, check_plan};
+use crate::checking::{CheckedInput, Reading, check, check_plan};
 use crate::operation::{Wanted, text_by_workers};
 use crate::reading::read_both;
 use crate::rounds::{report_of, rounded_layers};
@@ -105,7 +105,7 @@ fn by_workers<A: Allocator + Copy + Send + Sync, G: Gate + Sync, R: Threads + Wa
     rt: &R,
     alloc: A,
     wanted: Wanted,
-    checked: &Checked<'_, '_>,
+    checked: &CheckedInput<'_, '_>,
     read_a: Reading<A>,
     read_b: Reading<A>,
     gate: &G,

@@ -9,7 +9,7 @@ ghost use Rattle.engine.specs.Rounds.{AllInLimit, AreRingsInLimit, AreSegmentsOf
 ghost use Rattle.engine.specs.Runs.{IsReading};
 ghost use Rattle.wkt.specs.Refusals.{StandsFor};
 
-use crate::checking::{Checked, Reading};
+use crate::checking::{CheckedInput, Reading};
 use crate::segments::segments_of;
 use geom::{Layer, NoMemory, Seg};
 use std::alloc::Allocator;
@@ -68,7 +68,7 @@ fn rings_of<A: Allocator + Copy>(
 /// The segments of two layers, by what was read of them.
 pub(crate) fn read_segments<A: Allocator + Copy>(
     alloc: A,
-    checked: &Checked<'_, '_>,
+    checked: &CheckedInput<'_, '_>,
     read_a: Reading<A>,
     read_b: Reading<A>,
 ) -> Result<Vec<Seg, A>, NoMemory>

@@ -9,7 +9,7 @@ ghost use Rattle.engine.specs.Rounds.{AllInLimit, AreCellBins, AreRoundedOver, T
 ghost use Rattle.engine.specs.Runs.{IsReading};
 
 use crate::cells::{bins_of, cells_of};
-use crate::checking::{Checked, Reading};
+use crate::checking::{CheckedInput, Reading};
 use crate::reading::read_segments;
 use crate::text::Report;
 use chain_gather::{TileNumbers, TilePiece, Tiled, Workers, gather_made};
@@ -56,7 +56,7 @@ pub(crate) fn rounded_layers<
 >(
     rt: &R,
     alloc: A,
-    checked: &Checked<'_, '_>,
+    checked: &CheckedInput<'_, '_>,
     read_a: Reading<A>,
     read_b: Reading<A>,
     gate: &G,
@@ -155,7 +155,7 @@ fn by_cells<
 /// The numbers of a run.
 pub(crate) fn report_of<A: Allocator + Copy>(
     alloc: A,
-    checked: &Checked<'_, '_>,
+    checked: &CheckedInput<'_, '_>,
     noded: &Noded<A>,
 ) -> Result<Report<A>, NoMemory>
     requires { length noded.now.tiles.items ≤ MOST_TILES }

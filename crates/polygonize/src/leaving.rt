@@ -6,7 +6,7 @@ use geom::Pt;
 
 /// A directed edge by the vertex that it leaves, its end, and its place among the edges.
 #[derive(Clone, Copy, Debug)]
-pub struct Leaving {
+pub struct LeavingEdge {
     pub at: Pt,
     pub end: Pt,
     pub place: usize,

@@ -9,7 +9,7 @@ use crate::gate::{Gate, Phase};
 use crate::job::Job;
 use crate::promise::OfDraw;
 use crate::share::{Limited, Share};
-use crate::worker::{Ended, work};
+use crate::worker::{WorkOutcome, work};
 use geom::NoMemory;
 use std::alloc::Allocator;
 use std::sync::Wait;
@@ -33,7 +33,7 @@ pub fn run_workers<
     desk: &Desk<J::Piece, L, A>,
     shares: Vec<Share<L>, A>,
     gate: &G,
-) -> Result<Vec<Ended<L>, A>, NoMemory>
+) -> Result<Vec<WorkOutcome<L>, A>, NoMemory>
 where
     J::Piece: Send,
     requires own { All (λ h. (h.draw ≡ draw.now) × (h.drawn ≡ [])) hands.items }
@@ -46,7 +46,7 @@ where
     thread::scope(
         thread::scope_env(),
         rt,
-        |scope| -> Result<Vec<Ended<L>, A>, NoMemory>
+        |scope| -> Result<Vec<WorkOutcome<L>, A>, NoMemory>
             requires { All (λ h. (h.draw ≡ draw.now) × (h.drawn ≡ [])) hands.items × All (λ s. s ≡ 0) shares.items × (vec_len shares ≡ vec_len hands) × (draw.now.limit ≤ J.count job.now) }
             ensures { IfOk result (λ v. (vec_len v ≡ vec_len hands) × All (λ e. (e.hand.draw ≡ draw.entry.now) × HasGrown e) v.items) }
         {
@@ -76,7 +76,7 @@ fn start_all<
     desk: &'s Desk<J::Piece, L, A>,
     mut shares: Vec<Share<L>, A>,
     gate: &'s G,
-) -> Result<Vec<Ended<L>, A>, NoMemory>
+) -> Result<Vec<WorkOutcome<L>, A>, NoMemory>
 where
     J::Piece: Send,
     requires own { All (λ h. (h.draw ≡ draw.now) × (h.drawn ≡ [])) hands.items }
@@ -128,7 +128,7 @@ fn start<
     desk: &'s Desk<J::Piece, L, A>,
     share: Share<L>,
     gate: &'s G,
-) -> Result<PromisedHandle<Ended<L>, OfDraw<'s, A>>, Ended<L>>
+) -> Result<PromisedHandle<WorkOutcome<L>, OfDraw<'s, A>>, WorkOutcome<L>>
 where
     J::Piece: Send,
     requires own { (hand.draw ≡ draw.now) × (hand.drawn ≡ []) × (share ≡ 0) }
@@ -138,7 +138,7 @@ where
 {
     let started = scope.spawn_with(
         OfDraw(draw),
-        move || -> Ended<L>
+        move || -> WorkOutcome<L>
             requires { (hand.draw ≡ draw.now) × (hand.drawn ≡ []) × (share ≡ 0) × (draw.now.limit ≤ J.count job.now) }
             ensures { (result.hand.draw ≡ draw.entry.now) × HasGrown result }
         { work(rt, alloc, job, phase, draw, hand, desk, share, gate) },

@@ -11,7 +11,7 @@ use crate::draw::{Draw, Hand, MOST_HANDS, MOST_NUMBERS, finish};
 use crate::gate::{Gate, Phase};
 use crate::job::Job;
 use crate::share::{Limited, Share};
-use crate::worker::Ended;
+use crate::worker::WorkOutcome;
 use geom::NoMemory;
 use std::alloc::Allocator;
 use std::sync::Wait;
@@ -141,7 +141,7 @@ pub fn settle<P: Numbered + Drop, L: Limited, A: Allocator + Copy>(
     alloc: A,
     draw: Draw<A>,
     desk: Desk<P, L, A>,
-    ended: Vec<Ended<L>, A>,
+    ended: Vec<WorkOutcome<L>, A>,
 ) -> Result<FilledBook<P, L, A>, NoMemory>
     requires own { All (λ e. (e.hand.draw ≡ draw) × HasGrown e) ended.items }
     requires all { (vec_len ended ≡ draw.hands) × (draw.hands ≡ desk.shares) × (draw.hands ≤ MOST_HANDS) }
@@ -164,7 +164,7 @@ pub fn settle<P: Numbered + Drop, L: Limited, A: Allocator + Copy>(
 fn parted<L: Limited, A: Allocator + Copy>(
     alloc: A,
     draw: &Draw<A>,
-    mut ended: Vec<Ended<L>, A>,
+    mut ended: Vec<WorkOutcome<L>, A>,
 ) -> Result<(Vec<Hand, A>, Vec<Share<L>, A>, u64), NoMemory>
     requires own { All (λ e. (e.hand.draw ≡ draw.now) × HasGrown e) ended.items }
     requires few { vec_len ended ≤ MOST_HANDS }
@@ -176,7 +176,7 @@ fn parted<L: Limited, A: Allocator + Copy>(
     let mut shares = Vec::with_capacity(alloc, ended.len())?;
     let mut all_returned = 0;
     while let Some(
-        Ended {
+        WorkOutcome {
             hand,
             share,
             returned,

@@ -25,4 +25,4 @@ pub use gate::{Gate, OpenGate, Phase};
 pub use job::Job;
 pub use laws::{accepted_at_most_once, all_posted_all_held, word_is_new, word_stays_near};
 pub use share::{Limited, Share};
-pub use worker::{Ended, work};
+pub use worker::{WorkOutcome, work};

@@ -5,7 +5,7 @@ ghost use Rattle.tile_book.specs.Growth.{HasGrown};
 
 use crate::draw::Draw;
 use crate::share::Limited;
-use crate::worker::Ended;
+use crate::worker::WorkOutcome;
 use std::alloc::Allocator;
 use std::thread::Promise;
 
@@ -13,6 +13,6 @@ use std::thread::Promise;
 #[derive(Clone, Copy)]
 pub(crate) struct OfDraw<'a, A: Allocator>(pub(crate) &'a Draw<A>);
 
-impl<'a, L: Limited, A: Allocator> Promise<Ended<L>> for OfDraw<'a, A> {
+impl<'a, L: Limited, A: Allocator> Promise<WorkOutcome<L>> for OfDraw<'a, A> {
     ghost kept_by = { λ p r. (r.hand.draw ≡ p.0.now) × HasGrown r };
 }

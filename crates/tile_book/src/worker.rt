@@ -17,7 +17,7 @@ use std::sync::Wait;
 
 /// What a worker hands back.
 #[derive(Drop)]
-pub struct Ended<L: Limited> {
+pub struct WorkOutcome<L: Limited> {
     /// The hand that it drew with.
     pub hand: Hand,
     /// The share that it posted with.
@@ -40,7 +40,7 @@ pub fn work<A: Allocator + Copy, J: Job<A>, L: Limited, G: Gate, R: Wait>(
     desk: &Desk<J::Piece, L, A>,
     mut share: Share<L>,
     gate: &G,
-) -> Ended<L>
+) -> WorkOutcome<L>
     requires own { hand.draw ≡ draw.now }
     requires count { draw.now.limit ≤ J.count job.now }
     ensures own { result.hand.draw ≡ draw.now }
@@ -53,7 +53,7 @@ pub fn work<A: Allocator + Copy, J: Job<A>, L: Limited, G: Gate, R: Wait>(
     while let Some(number) = draw.draw(&mut hand) {
         gate.drawn(phase, number);
         let Ok(piece) = job.piece(alloc, number) else {
-            return Ended {
+            return WorkOutcome {
                 hand,
                 share,
                 returned,
@@ -65,7 +65,7 @@ pub fn work<A: Allocator + Copy, J: Job<A>, L: Limited, G: Gate, R: Wait>(
         returned += back;
         gate.posted(phase, number);
     }
-    Ended {
+    WorkOutcome {
         hand,
         share,
         returned,

@@ -13,7 +13,7 @@ use std::sync::ledger::Blank;
 use std::test::Fail;
 use std::thread::Threads;
 use tile_book::{
-    Desk, Draw, Ended, FilledBook, Gate, Limited, OpenGate, Phase, close, complete, fill, finish,
+    Desk, Draw, WorkOutcome, FilledBook, Gate, Limited, OpenGate, Phase, close, complete, fill, finish,
     make_all, work,
 };
 
@@ -70,7 +70,7 @@ fn one_worker<L: Limited, R: Wait>(
     let (Some(hand), Some(share)) = (hands.pop(), shares.pop()) else {
         return Err(Fail::from("one hand and one share"));
     };
-    let Ended {
+    let WorkOutcome {
         hand,
         share,
         returned,

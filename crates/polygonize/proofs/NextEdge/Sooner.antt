@@ -14,7 +14,7 @@ use Rattle.geom.proofs.Orders.{before_trans}
 use Rattle.geom.specs.Determinant.{side}
 use Rattle.geom.specs.Directed.{from_to, IsDirectedBefore, AreDirected}
 use Rattle.geom.specs.Rings.{IsSooner, IsMetBefore, IsNext}
-use Rattle.polygonize.specs.declared.leaving.Leaving.{Leaving}
+use Rattle.polygonize.specs.declared.leaving.LeavingEdge.{LeavingEdge}
 use Rattle.polygonize.specs.Clockwise.{less, half, sooner}
 use Rattle.polygonize.specs.Leaving.{leaves_sooner}
 use Rattle.polygonize.specs.Next.{nothing, edge_at}
@@ -124,14 +124,14 @@ true_parts false false c h = inr (refl, h)
 pub leaving_order : IsStrictWeakOrder leaves_sooner
 leaving_order = record { one_way = reverse; chain = through }
   where
-    reverse : (s t : Leaving) → leaves_sooner s t ≡ true → leaves_sooner t s ≡ false
+    reverse : (s t : LeavingEdge) → leaves_sooner s t ≡ true → leaves_sooner t s ≡ false
     reverse s t h = elim (true_parts (less s.at t.at) (less t.at s.at) (sooner s.at s.end t.end) h) [
       | inl k ↦ whole_false (less t.at s.at) (less s.at t.at) (sooner t.at t.end s.end) (not_less t.at s.at (less_not s.at t.at (less_is s.at t.at k))) (λ e. absurd (false≢true (sym e ∙ k)))
       | inr k ↦ whole_false (less t.at s.at) (less s.at t.at) (sooner t.at t.end s.end) k.0
           (λ e. (let P : Pt → Type 0 = λ v. sooner v t.end s.end ≡ false in subst P (neither_less s.at t.at e k.0) (one_way s.at s.end t.end k.1)))
     ]
 
-    through : (s t u : Leaving) → leaves_sooner s t ≡ false → leaves_sooner t u ≡ false → leaves_sooner s u ≡ false
+    through : (s t u : LeavingEdge) → leaves_sooner s t ≡ false → leaves_sooner t u ≡ false → leaves_sooner s u ≡ false
     through s t u h k = whole_false (less s.at u.at) (less u.at s.at) (sooner s.at s.end u.end) su
         (λ e. let at = neither_less s.at u.at su e in let st = same_at at in
         chain s.at s.end t.end u.end (p.1 (not_less t.at s.at (λ n. less_apart t.at s.at n (sym st))))
