@@ -44,7 +44,7 @@ pub(crate) fn text_by_workers<A: Allocator + Copy + Send + Sync, R: Threads + Sy
     wanted: Wanted,
     counted: &[Counted],
 ) -> Result<Vec<u8, A>, NoMemory>
-    requires { AreLayers counted.now }
+    requires layers { AreLayers counted.now }
     ensures { IfOk result (λ text. IsWantedText wanted counted.now text.items) }
 {
     match wanted {
