@@ -8,10 +8,11 @@ ghost use Rattle.chain_gather.specs.Links.{AreLinks, AreRecords};
 ghost use Rattle.chain_gather.specs.Numbers.{AreTileCounts, MayCount};
 ghost use Rattle.chain_gather.specs.Orders.{link_order, record_order};
 
+use crate::by_segment::{DIGITS, place_by_segment};
+use crate::even_parts::{BySegment, Comparing, sort_by_hands};
 use crate::link::{Link, links};
 use crate::numbers::count_both;
 use geom::{NoMemory, Pt, Seg};
-use rayon::prelude::par_sort_unstable;
 use routing::Record;
 use std::alloc::Allocator;
 use std::thread::{Threads, join_mut};
@@ -62,6 +63,7 @@ pub struct OneThread;
 
 impl Hands for OneThread {
     fn sort_records(&self, list: &mut [Record]) {
+        place_by_segment(list, DIGITS);
         list.sort_unstable();
     }
 
@@ -84,7 +86,7 @@ impl Hands for OneThread {
     }
 }
 
-/// Workers: where they are more than one, a thread for each processor sorts a part of a list, and two count and link.
+/// Workers: each sorts a part of a list, and where they are more than one, two count and link.
 #[derive(Clone, Copy)]
 pub struct Workers<'a, R> {
     /// What may start threads.
@@ -97,19 +99,11 @@ impl<R: Threads + Sync> Hands for Workers<'_, R> {
     ghost ready = { λ _. IsSync R.row };
 
     fn sort_records(&self, list: &mut [Record]) {
-        if self.count > 1 {
-            par_sort_unstable(self.rt, list);
-        } else {
-            list.sort_unstable();
-        }
+        sort_by_hands(self.rt, BySegment, self.count, list);
     }
 
     fn sort_links(&self, list: &mut [Link]) {
-        if self.count > 1 {
-            par_sort_unstable(self.rt, list);
-        } else {
-            list.sort_unstable();
-        }
+        sort_by_hands(self.rt, Comparing, self.count, list);
     }
 
     fn count_and_link<A: Allocator + Copy>(

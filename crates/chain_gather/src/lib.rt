@@ -1,6 +1,8 @@
 //! The rounded edges of two layers, gathered from the pieces of tiles.
 #![tactic(auto)]
 
+mod by_segment;
+mod even_parts;
 mod hands;
 mod link;
 mod numbers;

@@ -7,6 +7,8 @@ ghost use Rattle.geom.specs.Box.{IsInBox};
 ghost use Rattle.geom.specs.Limit.{AreInLimit};
 ghost use Rattle.chain_gather.specs.Gathered.{AreBinsOf, AreBoxesOf, HaveTiles};
 
+mod sorting;
+
 use super::*;
 use bumpalo::Bump;
 use geom::{Counted, Edge, NoMemory, Pt, Rect, Seg, Source};
