@@ -30,7 +30,7 @@ use tile_book::Gate;
 pub struct Plan {
     /// The side of a tile, in grid units, 16 to 33,554,432.
     pub side: u32,
-    /// The number of threads, 1 to 64. Above 1, sorts take one for each processor.
+    /// The number of threads, 1 to 64.
     pub workers: u32,
 }
 
