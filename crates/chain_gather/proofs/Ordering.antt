@@ -76,7 +76,6 @@ module _ {X : Type 0} (R : X → X → Type 0) (Is : X → Type 0) (trans : (x y
 
 -- ---- a part of all hot pixels, and of all records, is what a tile's piece has
 module _ (segments : List Seg) where
-
   -- the steps of two records of one segment, along it
   step_is : (r q : Record) (h : IsRecord segments r) (s : Seg) → slice_get segments r.segment ≡ Some s → (Meets s r.pixel) × (r.steps ≡ steps_to s r.pixel)
   step_is r q h s e = let f = some_same h.is_at e in (subst (λ (u : Seg). Meets u r.pixel) f h.met, h.steps_are ∙ ap (λ (u : Seg). steps_to u r.pixel) f)

@@ -134,7 +134,6 @@ floor_small h r q p w f = quotient_within (2 ^ 60) (h *ℤ pos (2 ^ 30)) r q p (
 
 -- the whole part of a quotient and what is left, and the parts of both together
 module _ (h r w : ℤ) (positive : pos 0 <ℤ r) (run_in : r ≤ℤ pos (2 ^ 30)) (within : IsQuotientWithin (2 ^ 30) h r) (whole : IsQuotient h r w) where
-
   stepped : (r w : ℤ) → r *ℤ (w +ℤ pos 1) ≡ (w *ℤ r) +ℤ r
   stepped r w = ring (r ∷ w ∷ []) (var 0 ⊗ (var 1 ⊕ num (pos 1))) ((var 1 ⊗ var 0) ⊕ var 0) refl
 

@@ -13,8 +13,8 @@ use std::sync::ledger::Blank;
 use std::test::Fail;
 use std::thread::Threads;
 use tile_book::{
-    Desk, Draw, WorkOutcome, FilledBook, Gate, Limited, OpenGate, Phase, close, complete, fill, finish,
-    make_all, work,
+    Desk, Draw, FilledBook, Gate, Limited, OpenGate, Phase, WorkOutcome, close, complete, fill,
+    finish, make_all, work,
 };
 
 /// How many pieces can be made, the limit of the book, and what one worker of five numbers leaves: whether its draw is

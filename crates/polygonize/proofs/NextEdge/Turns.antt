@@ -14,7 +14,6 @@ use Rattle.geom.proofs.Tests.{lt_z_told}
 use Rattle.geom.specs.Determinant.{side}
 use Rattle.polygonize.specs.Clockwise.{less, half, sooner}
 
-
 -- ---- vectors of the first half turn
 abbrev pub Right : ℤ → ℤ → Type 0
 Right x y = (pos 0 <ℤ x) ⊎ ((x ≡ pos 0) × (pos 0 <ℤ y))
