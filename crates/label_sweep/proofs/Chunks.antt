@@ -1,6 +1,6 @@
 -- Lists joined from chunks: the place of an index, what a search by the first elements of the chunks finds, and edits.
-use Rattle.std.proofs.Common.{◌≡◌, ◌⊎◌, inl, inr, ⊎_elim, ℕ, zero, suc, ◌+◌, ◌-◌, ◌<◌, ◌≤◌, Bool, true, false, List, [], ◌∷◌, ◌++◌, length, get_or, set, take, drop, refl, sym, ap, ◌∙◌, subst, arith, append_assoc}
-use Rattle.std.specs.List.{All, AllWithin, flat_map}
+use Rattle.std.proofs.Common.{◌≡◌, ⊎_elim, ℕ, zero, suc, ◌+◌, ◌-◌, ◌<◌, ◌≤◌, Bool, true, false, List, [], ◌∷◌, ◌++◌, length, get_or, set, take, drop, refl, sym, ap, ◌∙◌, subst, arith, append_assoc}
+use Rattle.std.specs.List.{All, AllWithin, HoldsAt, flat_map}
 use Rattle.std.specs.List.Sorted.{IsPartitionedBy}
 use Rattle.label_sweep.specs.Chunks.{opens}
 use Rattle.std.proofs.Math.Seq.{take-append-add, drop-append-add, take-suc-set}
@@ -110,6 +110,21 @@ module _ {X Y : Type 0} (f : Y → List X) where
         pub within_parted : IsPartitionedBy p (f c)
         within_parted i j x l m e = let r = inside in
             ap p (sym (at i x (omega (arith, l, m)))) ∙ parted (before cs k + i) (before cs k + j) x (omega (arith, l)) (omega (arith, m, r)) (ap p (at j x m) ∙ e)
+
+        -- what passes before a number of the chunk, and in the chunk up to another
+        pub passed_before : (m w : ℕ) → AllWithin (λ x. p x ≡ true) (flat_map f cs) 0 (before cs k + m) → w ≤ length (f c) → AllWithin (λ x. p x ≡ true) (f c) m w → AllWithin (λ x. p x ≡ true) (flat_map f cs) 0 (before cs k + w)
+        passed_before m w low w_in here i x l h = ⊎_elim (λ a. low i x l a) (λ b. there b) (cases_lt i (before cs k + m))
+          where
+            there : before cs k + m ≤ i → p (get_or (flat_map f cs) i x) ≡ true
+            there b =
+                let j = i - before cs k in
+                let e : before cs k + j ≡ i = omega (arith, b) in
+                let P : ℕ → Type 0 = λ t. p (get_or (flat_map f cs) t x) ≡ true in
+                subst P e (ap p (at j x (omega (arith, b, h, w_in))) ∙ here j x (omega (arith, b)) (omega (arith, b, h)))
+
+        -- from the first that doesn't pass none does
+        pub none_after : (w : ℕ) → w < length (f c) → HoldsAt (λ x. p x ≡ false) (f c) w → AllWithin (λ x. p x ≡ false) (flat_map f cs) (before cs k + w) (length (flat_map f cs))
+        none_after w n past i x l m = not_true (p (get_or (flat_map f cs) i x)) (λ t. not_both (p (get_or (f c) w x)) (ap p (sym (at w x n)) ∙ parted (before cs k + w) i x l m t) (past x))
 
         module _ (low : AllWithin (λ c. opens p (f c) ≡ true) (drop 1 cs) 0 k) (high : AllWithin (λ c. opens p (f c) ≡ false) (drop 1 cs) k (length (drop 1 cs)))
             (w : ℕ) (w_in : w ≤ length (f c)) (steep : AllWithin (λ x. p x ≡ true) (f c) 0 w) (flat : AllWithin (λ x. p x ≡ false) (f c) w (length (f c))) where

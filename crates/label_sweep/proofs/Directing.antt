@@ -13,23 +13,23 @@ use Rattle.face_label.specs.Label.{both_ways, holds_in, ways}
 use Rattle.face_label.proofs.Doubling.{both, right_is_left}
 use Rattle.face_label.proofs.Listing.{is_way, layers_of, way_is}
 use Rattle.geom.proofs.Orders.{IsSortedOnce, directed_ascending, directed_cmp}
-use Rattle.label_sweep.specs.declared.standing.Labelled.{Labelled}
+use Rattle.label_sweep.specs.declared.standing.LabelledEdge.{LabelledEdge}
 use Rattle.label_sweep.specs.Labels.{AreLabels, IsLabelled, directed_of, directions_of, holds_of}
 use Rattle.label_sweep.proofs.Members.{in_of_all}
 
 module _ (op : Op) (cs : List Counted) where
-  way_of : (l : Labelled) → IsLabelled cs l → directions_of op l ≡ both_ways op (layers_of cs) l.edge
+  way_of : (l : LabelledEdge) → IsLabelled cs l → directions_of op l ≡ both_ways op (layers_of cs) l.edge
   way_of l h = both op (layers_of cs) l.edge (holds_of op l.left) (holds_of op l.right) (holds_of op l.left && not (holds_of op l.right)) (holds_of op l.right && not (holds_of op l.left))
       (ap (holds_of op) h.left) (ap (holds_of op) h.right ∙ ap (holds_in op (layers_of cs)) (right_is_left l.edge.p l.edge.q)) refl refl
 
-  listed_is : (ls : List Labelled) → ((l : Labelled) → In l ls → IsLabelled cs l) → (d : DirectedEdge) → In d (directed_of op ls) → IsResultEdge op cs d
+  listed_is : (ls : List LabelledEdge) → ((l : LabelledEdge) → In l ls → IsLabelled cs l) → (d : DirectedEdge) → In d (directed_of op ls) → IsResultEdge op cs d
   listed_is [] h d i = absurd i
   listed_is (l ∷ ls) h d i = ⊎_elim
       (λ j. let P : Bool × Bool → Type 0 = λ w. In d (ways l.edge w) in way_is op cs l.edge d (contains_in (edges_of cs) l.edge (h l (inl refl)).inside) (subst P (way_of l (h l (inl refl))) j))
       (λ j. listed_is ls (λ m k. h m (inr k)) d j)
       (in_append (ways l.edge (directions_of op l)) (directed_of op ls) d i)
 
-  is_listed : (ls : List Labelled) → ((l : Labelled) → In l ls → IsLabelled cs l) → (e : Edge) (d : DirectedEdge) → In e (map (λ (l : Labelled). l.edge) ls)
+  is_listed : (ls : List LabelledEdge) → ((l : LabelledEdge) → In l ls → IsLabelled cs l) → (e : Edge) (d : DirectedEdge) → In e (map (λ (l : LabelledEdge). l.edge) ls)
       → (d ≡ from_to e.p e.q) ⊎ (d ≡ from_to e.q e.p) → is_result_edge op cs d.from d.to ≡ true → In d (directed_of op ls)
   is_listed [] h e d i r b = absurd i
   is_listed (l ∷ ls) h e d (inl q) r b = in_front (ways l.edge (directions_of op l)) (directed_of op ls) d
@@ -37,11 +37,11 @@ module _ (op : Op) (cs : List Counted) where
       subst P (sym (way_of l (h l (inl refl)))) (is_way op cs l.edge d (subst Q (sym q) r) b))
   is_listed (l ∷ ls) h e d (inr i) r b = in_back (ways l.edge (directions_of op l)) (directed_of op ls) d (is_listed ls (λ m k. h m (inr k)) e d i r b)
 
-  pub result_edges : (ls : List Labelled) → AreLabels cs ls → (ds : List DirectedEdge) → IsSortedOnce directed_cmp (directed_of op ls) ds → AreResultEdges op cs ds
+  pub result_edges : (ls : List LabelledEdge) → AreLabels cs ls → (ds : List DirectedEdge) → IsSortedOnce directed_cmp (directed_of op ls) ds → AreResultEdges op cs ds
   result_edges ls a ds s = record {
     ascending = directed_ascending ds s.ascending;
     exact = λ d. (
       (λ h. listed_is ls (in_of_all (IsLabelled cs) ls a.each) d (contains_in (directed_of op ls) d ((s.same d).0 h))),
-      (λ r. (s.same d).1 (in_contains (directed_of op ls) d (is_listed ls (in_of_all (IsLabelled cs) ls a.each) r.edge d (contains_in (map (λ (l : Labelled). l.edge) ls) r.edge (a.all r.edge r.rounded)) r.runs r.bounds))),
+      (λ r. (s.same d).1 (in_contains (directed_of op ls) d (is_listed ls (in_of_all (IsLabelled cs) ls a.each) r.edge d (contains_in (map (λ (l : LabelledEdge). l.edge) ls) r.edge (a.all r.edge r.rounded)) r.runs r.bounds))),
     );
   }

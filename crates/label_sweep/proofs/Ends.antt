@@ -1,16 +1,18 @@
 -- The vertices, and the edges that begin at one.
-use Rattle.std.proofs.Common.{◌≡◌, ◌⊎◌, inl, inr, ⊎_elim, ℕ, ◌<◌, ◌≤◌, List, [], ◌∷◌, length, get_or, refl, sym, ap, ◌∙◌, subst, arith}
-use Rattle.std.specs.List.{AllWithin, AllPairs}
+use Rattle.std.proofs.Common.{◌≡◌, ◌⊎◌, inl, inr, ⊎_elim, ℕ, zero, suc, false, ◌==◌, ◌+◌, ◌<◌, ◌≤◌, List, length, get_or, refl, sym, ap, ◌∙◌, subst, arith}
+use Rattle.std.specs.List.{All, AllWithin, AllPairs, Contains}
 use Rattle.std.proofs.lemmas.Bool.{cases_eq}
 use Rattle.std.proofs.lemmas.List.{get_or_default}
+use Rattle.std.proofs.lemmas.List.Elements.{All-contains, All-contains_itself}
 use Rattle.geom.specs.declared.point.Pt.{Pt}
 use Rattle.geom.specs.declared.edge.Edge.{Edge}
 use Rattle.geom.specs.declared.edge.Counted.{Counted}
 use Rattle.geom.specs.EdgeOrder.{IsEdgeBefore}
 use Rattle.geom.specs.Order.{IsBefore, IsUpTo}
-use Rattle.geom.proofs.Lists.{In, in_contains, contains_in}
+use Rattle.geom.specs.Rounded.{edges_of}
+use Rattle.geom.proofs.Lists.{contains_in, in_contains, in_map, map_in}
 use Rattle.geom.proofs.Orders.{IsSortedOnce, before_trans, points_ascending, pt_cmp}
-use Rattle.label_sweep.specs.Status.{AreVertices, both_ends}
+use Rattle.label_sweep.specs.Status.{AreEnds, AreVertices, IsVertexOf}
 
 pub starts_upto : (e f : Edge) → IsEdgeBefore e f → IsUpTo e.p f.p
 starts_upto e f (inl b) = inr b
@@ -35,23 +37,68 @@ all_past cs a v n r h b k d l m = ⊎_elim
     here d = let P : Counted → Type 0 = λ t. IsBefore v t.edge.p in subst P (get_or_default cs n r d h) b
 
 -- ---- the vertices
-end_of : (es : List Edge) (v : Pt) → In v (both_ends es) → (e : Edge) × In e es × ((v ≡ e.p) ⊎ (v ≡ e.q))
-end_of [] v i = absurd i
-end_of (e ∷ es) v (inl h) = (e, inl refl, inl (sym h))
-end_of (e ∷ es) v (inr (inl h)) = (e, inl refl, inr (sym h))
-end_of (e ∷ es) v (inr (inr i)) = let k = end_of es v i in (k.0, inr k.1, k.2)
-
-of_end : (es : List Edge) (v : Pt) (e : Edge) → In e es → (v ≡ e.p) ⊎ (v ≡ e.q) → In v (both_ends es)
-of_end [] v e i h = absurd i
-of_end (f ∷ es) v e (inl g) (inl h) = inl (ap (λ (t : Edge). t.p) g ∙ sym h)
-of_end (f ∷ es) v e (inl g) (inr h) = inr (inl (ap (λ (t : Edge). t.q) g ∙ sym h))
-of_end (f ∷ es) v e (inr i) h = inr (inr (of_end es v e i h))
-
-pub are_vertices : (es : List Edge) (vs : List Pt) → IsSortedOnce pt_cmp (both_ends es) vs → AreVertices es vs
-are_vertices es vs s = record {
+pub are_vertices : (es : List Edge) (ends vs : List Pt) → AreEnds es ends → IsSortedOnce pt_cmp ends vs → AreVertices es vs
+are_vertices es ends vs are s = record {
   ascending = points_ascending vs s.ascending;
-  exact = λ v. (
-    (λ c. let k = end_of es v (contains_in (both_ends es) v ((s.same v).0 c)) in record { edge = k.0; inside = in_contains es k.0 k.1; ends = k.2 }),
-    (λ x. (s.same v).1 (in_contains (both_ends es) v (of_end es v x.edge (contains_in es x.edge x.inside) x.ends))),
-  );
+  exact = λ v. ((λ c. (are v).0 ((s.same v).0 c)), (λ x. (s.same v).1 ((are v).1 x)));
 }
+
+edge_among : (cs : List Counted) (c : Counted) → Contains cs c → Contains (edges_of cs) c.edge
+edge_among cs c h = in_contains (edges_of cs) c.edge (map_in (λ (t : Counted). t.edge) cs c (contains_in cs c h))
+
+first_is_vertex : (cs : List Counted) (c : Counted) → Contains cs c → IsVertexOf (edges_of cs) c.edge.p
+first_is_vertex cs c h = record { edge = c.edge; inside = edge_among cs c h; ends = inl refl }
+
+second_is_vertex : (cs : List Counted) (c : Counted) → Contains cs c → IsVertexOf (edges_of cs) c.edge.q
+second_is_vertex cs c h = record { edge = c.edge; inside = edge_among cs c h; ends = inr refl }
+
+-- a list of vertices with one more vertex, perhaps
+pub vertices_more : (cs : List Counted) (ends more : List Pt) (v : Pt) → IsVertexOf (edges_of cs) v → All (IsVertexOf (edges_of cs)) ends → ((w : Pt) → Contains more w → Contains ends w ⊎ (w ≡ v)) → All (IsVertexOf (edges_of cs)) more
+vertices_more cs ends more v is all only k d l = ⊎_elim
+    (λ h. All-contains (IsVertexOf (edges_of cs)) ends (get_or more k d) all h)
+    (λ e. let P : Pt → Type 0 = IsVertexOf (edges_of cs) in subst P (sym e) is)
+    (only (get_or more k d) (All-contains_itself more k d l))
+
+pub firsts_more : (cs : List Counted) (ends more : List Pt) (n : ℕ) (c : Counted) → n < length cs → c ≡ get_or cs n c → All (IsVertexOf (edges_of cs)) ends → ((w : Pt) → Contains more w → Contains ends w ⊎ (w ≡ c.edge.p)) → All (IsVertexOf (edges_of cs)) more
+firsts_more cs ends more n c h is = vertices_more cs ends more c.edge.p (first_is_vertex cs c (n, h, sym is))
+
+pub seconds_more : (cs : List Counted) (ends more : List Pt) (n : ℕ) (c : Counted) → n < length cs → c ≡ get_or cs n c → All (IsVertexOf (edges_of cs)) ends → ((w : Pt) → Contains more w → Contains ends w ⊎ (w ≡ c.edge.q)) → All (IsVertexOf (edges_of cs)) more
+seconds_more cs ends more n c h is = vertices_more cs ends more c.edge.q (second_is_vertex cs c (n, h, sym is))
+
+-- a list that has all first ends, all second ends and nothing but vertices has the ends
+pub are_ends : (cs : List Counted) (ends : List Pt) → All (λ c. Contains ends c.edge.p) cs → All (λ c. Contains ends c.edge.q) cs → All (IsVertexOf (edges_of cs)) ends → AreEnds (edges_of cs) ends
+are_ends cs ends firsts seconds only v = (
+  (λ h. All-contains (IsVertexOf (edges_of cs)) ends v only h),
+  (λ x. there x),
+)
+  where
+    there : IsVertexOf (edges_of cs) v → Contains ends v
+    there x =
+        let k = in_map (λ (t : Counted). t.edge) cs x.edge (contains_in (edges_of cs) x.edge x.inside) in
+        let c : Contains cs k.0 = in_contains cs k.0 k.1 in
+        let P : Pt → Type 0 = Contains ends in
+        ⊎_elim
+        (λ e. subst P (ap (λ (t : Edge). t.p) k.2 ∙ sym e) (All-contains (λ (t : Counted). Contains ends t.edge.p) cs k.0 firsts c))
+        (λ e. subst P (ap (λ (t : Edge). t.q) k.2 ∙ sym e) (All-contains (λ (t : Counted). Contains ends t.edge.q) cs k.0 seconds c))
+        x.ends
+
+pub none_ends : (cs : List Counted) (ends : List Pt) → length cs ≡ 0 → All (IsVertexOf (edges_of cs)) ends → AreEnds (edges_of cs) ends
+none_ends cs ends e only = are_ends cs ends (λ k d l. absurd (omega (arith, e, l))) (λ k d l. absurd (omega (arith, e, l))) only
+
+-- the table still holds listed ends
+pub held_more : (ends more held next : List Pt) (v : Pt) → ((w : Pt) → Contains ends w → Contains more w) → All (Contains ends) held → Contains ends v → ((w : Pt) → Contains next w → Contains held w ⊎ (w ≡ v)) → All (Contains more) next
+held_more ends more held next v kept all is only k d l = ⊎_elim
+    (λ h. kept (get_or next k d) (All-contains (Contains ends) held (get_or next k d) all h))
+    (λ e. let P : Pt → Type 0 = Contains more in subst P (sym e) (kept v is))
+    (only (get_or next k d) (All-contains_itself next k d l))
+
+-- and one before
+pub from_before : {X : Type 0} (P : X → Type 0) (xs : List X) (n m : ℕ) (x : X) → n + 1 ≡ m → n < length xs → x ≡ get_or xs n x → P x → AllWithin P xs m (length xs) → AllWithin P xs n (length xs)
+from_before P xs n m x e h is p later k d l u = ⊎_elim
+    (λ s. later k d (omega (arith, e, s)) u)
+    (λ s. let Q : ℕ → Type 0 = λ t. P (get_or xs t d) in subst Q s (subst P (is ∙ get_or_default xs n x d h) p))
+    (le_cases n k l)
+
+pub some_are : (n : ℕ) → false ≡ (n == 0) → 0 < n
+some_are zero e = absurd (cc)
+some_are (suc n) e = omega arith

@@ -23,8 +23,8 @@ use Rattle.geom.proofs.Tests.{lt_told, lt_yes}
 use Rattle.points_law.specs.Law.{AreLayers}
 use Rattle.label_sweep.specs.declared.parities.Parities.{Parities}
 use Rattle.label_sweep.specs.declared.standing.Spoke.{Spoke}
-use Rattle.label_sweep.specs.declared.standing.Standing.{Standing}
-use Rattle.label_sweep.specs.declared.standing.Labelled.{Labelled}
+use Rattle.label_sweep.specs.declared.standing.StandingEdge.{StandingEdge}
+use Rattle.label_sweep.specs.declared.standing.LabelledEdge.{LabelledEdge}
 use Rattle.label_sweep.specs.Labels.{AreLabelsOf, BeginsWith, IsLabelled, IsSweptTo, IsSweptUpTo, beyond, labels_from, parities_at, standing_of, stands_from, under_lowest}
 use Rattle.label_sweep.specs.Status.{AreFresh, AreSpokes, AreStanding, GoesOn, IsRangeAt, IsSteeper, IsUnder, IsVertexOf, Reaches}
 use Rattle.label_sweep.proofs.Around.{Steeper, under_turn}
@@ -34,7 +34,7 @@ use Rattle.label_sweep.proofs.Step.{Pairs, clash, pairs_append}
 use Rattle.label_sweep.proofs.Turning.{edge_at}
 use Rattle.label_sweep.proofs.Words.{first_left_none, left_of_first, pairs_from, pairs_map, pairs_to, search_is_monotone, standing_stays, steeper_of}
 
-abbrev pub edge_of : Standing → Edge
+abbrev pub edge_of : StandingEdge → Edge
 edge_of s = s.spoke.one.edge
 
 abbrev IsBelow : Pt → Edge → Type 0
@@ -48,7 +48,7 @@ vertex_in_limit cs h v x = let l = All-contains (λ e. AreInLimit e.p e.q) (edge
     ⊎_elim (λ e. subst (λ (w : Pt). InLimit w) (sym e) l.a_in) (λ e. subst (λ (w : Pt). InLimit w) (sym e) l.b_in) x.ends
 
 -- ---- the searches
-module _ (cs : List Counted) (h : AreLayers cs) (v : Pt) (s : List Standing) (u : IsSweptUpTo cs v s) where
+module _ (cs : List Counted) (h : AreLayers cs) (v : Pt) (s : List StandingEdge) (u : IsSweptUpTo cs v s) where
   reaches : All (λ t. Reaches (edges_of cs) v (edge_of t)) s
   reaches = all_of_in (λ t. Reaches (edges_of cs) v (edge_of t)) s (λ t i. (u.edges.exact (edge_of t)).0 (in_contains (map edge_of s) (edge_of t) (map_in edge_of s t i)))
 
@@ -58,7 +58,7 @@ module _ (cs : List Counted) (h : AreLayers cs) (v : Pt) (s : List Standing) (u 
 both_zero : (x : ℤ) → x ≤ℤ pos 0 → pos 0 ≤ℤ x → x ≡ pos 0
 both_zero x h k = omega (arith, ints)
 
-pub low_first : (v : Pt) (s : List Standing) (low high : ℕ) → low ≤ length s
+pub low_first : (v : Pt) (s : List StandingEdge) (low high : ℕ) → low ≤ length s
     → AllWithin (λ t. pos 0 <ℤ side t.spoke.one.edge.p t.spoke.one.edge.q v) s 0 low
     → AllWithin (λ t. side t.spoke.one.edge.p t.spoke.one.edge.q v <ℤ pos 0) s high (length s) → low ≤ high
 low_first v [] low high l a b = omega arith
@@ -70,13 +70,13 @@ low_first v (t ∷ s) low high l a b = not_more (λ m. clash _ (a high t (omega 
 -- ---- those that begin at v
 module _ (cs : List Counted) (h : AreLayers cs) (v : Pt) (ss : List Spoke) (a : AreSpokes (edges_of cs) v (map edge_at ss)) (inside : All (λ s. Contains cs s.one) ss) (left : Parities) where
   -- each of those that stand is one that begins, and not upright
-  stand_is : (at : Parities) (ks : List Spoke) (t : Standing) → In t (stands_from at ks) → In t.spoke ks × (int_lt t.spoke.one.edge.p.x t.spoke.one.edge.q.x ≡ true)
+  stand_is : (at : Parities) (ks : List Spoke) (t : StandingEdge) → In t (stands_from at ks) → In t.spoke ks × (int_lt t.spoke.one.edge.p.x t.spoke.one.edge.q.x ≡ true)
   stand_is at [] t i = absurd i
   stand_is at (k ∷ ks) t i = ⊎_elim (λ j. one (int_lt k.one.edge.p.x k.one.edge.q.x) refl j) (λ j. let r = stand_is (beyond at k.one) ks t j in (inr r.0, r.1))
       (in_append (cond (int_lt k.one.edge.p.x k.one.edge.q.x) (standing_of k (beyond at k.one) ∷ []) []) (stands_from (beyond at k.one) ks) t i)
     where
       one : (b : Bool) → int_lt k.one.edge.p.x k.one.edge.q.x ≡ b → In t (cond b (standing_of k (beyond at k.one) ∷ []) []) → In t.spoke (k ∷ ks) × (int_lt t.spoke.one.edge.p.x t.spoke.one.edge.q.x ≡ true)
-      one true e (inl j) = let P : Standing → Type 0 = λ t. In t.spoke (k ∷ ks) × (int_lt t.spoke.one.edge.p.x t.spoke.one.edge.q.x ≡ true) in subst P j (inl refl, e)
+      one true e (inl j) = let P : StandingEdge → Type 0 = λ t. In t.spoke (k ∷ ks) × (int_lt t.spoke.one.edge.p.x t.spoke.one.edge.q.x ≡ true) in subst P j (inl refl, e)
       one true e (inr j) = absurd j
       one false e j = absurd j
 
@@ -140,13 +140,13 @@ module _ (cs : List Counted) (h : AreLayers cs) (v : Pt) (ss : List Spoke) (a : 
     pub labels : All (IsLabelled cs) (labels_from left ss)
     labels = turn_is_labelled cs h v ss a inside left b
 
-    under_label : (at : Parities) (ks : List Spoke) → ((l : Labelled) → In l (labels_from at ks) → IsLabelled cs l) → (t : Standing) → In t (stands_from at ks) → t.under ≡ parities_at cs (right_side (edge_of t).p (edge_of t).q)
+    under_label : (at : Parities) (ks : List Spoke) → ((l : LabelledEdge) → In l (labels_from at ks) → IsLabelled cs l) → (t : StandingEdge) → In t (stands_from at ks) → t.under ≡ parities_at cs (right_side (edge_of t).p (edge_of t).q)
     under_label at [] g t i = absurd i
     under_label at (k ∷ ks) g t i = ⊎_elim (λ j. one (int_lt k.one.edge.p.x k.one.edge.q.x) j) (λ j. under_label (beyond at k.one) ks (λ l m. g l (inr m)) t j)
         (in_append (cond (int_lt k.one.edge.p.x k.one.edge.q.x) (standing_of k (beyond at k.one) ∷ []) []) (stands_from (beyond at k.one) ks) t i)
       where
         one : (b : Bool) → In t (cond b (standing_of k (beyond at k.one) ∷ []) []) → t.under ≡ parities_at cs (right_side (edge_of t).p (edge_of t).q)
-        one true (inl j) = let P : Standing → Type 0 = λ t. t.under ≡ parities_at cs (right_side (edge_of t).p (edge_of t).q) in
+        one true (inl j) = let P : StandingEdge → Type 0 = λ t. t.under ≡ parities_at cs (right_side (edge_of t).p (edge_of t).q) in
             subst P j (g (record { edge = k.one.edge; left = at; right = beyond at k.one }) (inl refl)).right
         one true (inr j) = absurd j
         one false j = absurd j
@@ -155,12 +155,12 @@ module _ (cs : List Counted) (h : AreLayers cs) (v : Pt) (ss : List Spoke) (a : 
     fresh_under = all_of_in (λ t. t.under ≡ parities_at cs (right_side t.spoke.one.edge.p t.spoke.one.edge.q)) (reverse (stands_from left ss))
         (λ t i. under_label left ss (in_of_all (IsLabelled cs) (labels_from left ss) labels) t (in_reverse (stands_from left ss) t i))
 
-labels_edges : (at : Parities) (ks : List Spoke) → map (λ (l : Labelled). l.edge) (labels_from at ks) ≡ map edge_at ks
+labels_edges : (at : Parities) (ks : List Spoke) → map (λ (l : LabelledEdge). l.edge) (labels_from at ks) ≡ map edge_at ks
 labels_edges at [] = refl
 labels_edges at (k ∷ ks) = ap (λ t. k.one.edge ∷ t) (labels_edges (beyond at k.one) ks)
 
 -- ---- the whole step
-module _ (cs : List Counted) (h : AreLayers cs) (v : Pt) (x : IsVertexOf (edges_of cs) v) (s : List Standing) (u : IsSweptUpTo cs v s) (low high : ℕ) (order : low ≤ high)
+module _ (cs : List Counted) (h : AreLayers cs) (v : Pt) (x : IsVertexOf (edges_of cs) v) (s : List StandingEdge) (u : IsSweptUpTo cs v s) (low high : ℕ) (order : low ≤ high)
     (is_low : AllWithin (λ t. pos 0 <ℤ side t.spoke.one.edge.p t.spoke.one.edge.q v) s 0 low)
     (not_low : AllWithin (λ t. side t.spoke.one.edge.p t.spoke.one.edge.q v ≤ℤ pos 0) s low (length s))
     (not_high : AllWithin (λ t. pos 0 ≤ℤ side t.spoke.one.edge.p t.spoke.one.edge.q v) s 0 high)
@@ -174,7 +174,7 @@ module _ (cs : List Counted) (h : AreLayers cs) (v : Pt) (x : IsVertexOf (edges_
   standing_parts = let P : List Edge → Type 0 = λ es. AreStanding (Reaches (edges_of cs) v) es in subst P cut u.edges
 
   low_all : All (λ e. pos 0 <ℤ side e.p e.q v) (map edge_of (take low s))
-  low_all = All-map (λ (e : Edge). pos 0 <ℤ side e.p e.q v) edge_of (take low s) (all_of_in (λ t. IsBelow v (edge_of t)) (take low s) (λ t i. within_take (λ (t : Standing). IsBelow v (edge_of t)) s low is_low t i))
+  low_all = All-map (λ (e : Edge). pos 0 <ℤ side e.p e.q v) edge_of (take low s) (all_of_in (λ t. IsBelow v (edge_of t)) (take low s) (λ t i. within_take (λ (t : StandingEdge). IsBelow v (edge_of t)) s low is_low t i))
 
   back : (k : ℕ) → k < low + (high - low) → k < high
   back k l = omega arith
@@ -184,27 +184,27 @@ module _ (cs : List Counted) (h : AreLayers cs) (v : Pt) (x : IsVertexOf (edges_
 
   mid_all : All (λ e. side e.p e.q v ≡ pos 0) (map edge_of (slice_range s low high))
   mid_all = All-map (λ (e : Edge). side e.p e.q v ≡ pos 0) edge_of (slice_range s low high) (all_of_in (λ t. side t.spoke.one.edge.p t.spoke.one.edge.q v ≡ pos 0) (slice_range s low high)
-      (λ t i. within_part (λ (t : Standing). side t.spoke.one.edge.p t.spoke.one.edge.q v ≡ pos 0) s low (high - low) 0 (omega arith)
+      (λ t i. within_part (λ (t : StandingEdge). side t.spoke.one.edge.p t.spoke.one.edge.q v ≡ pos 0) s low (high - low) 0 (omega arith)
       (λ k d f l. both_zero _ (not_low k d f (there k (back k l))) (not_high k d (omega arith) (back k l))) t i))
 
   high_all : All (λ e. side e.p e.q v <ℤ pos 0) (map edge_of (drop high s))
-  high_all = All-map (λ (e : Edge). side e.p e.q v <ℤ pos 0) edge_of (drop high s) (all_of_in (λ t. IsAbove v (edge_of t)) (drop high s) (λ t i. within_drop (λ (t : Standing). IsAbove v (edge_of t)) s high is_high t i))
+  high_all = All-map (λ (e : Edge). side e.p e.q v <ℤ pos 0) edge_of (drop high s) (all_of_in (λ t. IsAbove v (edge_of t)) (drop high s) (λ t i. within_drop (λ (t : StandingEdge). IsAbove v (edge_of t)) s high is_high t i))
 
-  under_of : (t : Standing) → In t s → t.under ≡ parities_at cs (right_side (edge_of t).p (edge_of t).q)
+  under_of : (t : StandingEdge) → In t s → t.under ≡ parities_at cs (right_side (edge_of t).p (edge_of t).q)
   under_of = in_of_all (λ t. t.under ≡ parities_at cs (right_side (edge_of t).p (edge_of t).q)) s u.under
 
-  begins : (hs : List Standing) → drop high s ≡ hs → (ks : List Edge) → AreSpokes (edges_of cs) v ks → BeginsWith cs (under_lowest hs) ks
+  begins : (hs : List StandingEdge) → drop high s ≡ hs → (ks : List Edge) → AreSpokes (edges_of cs) v ks → BeginsWith cs (under_lowest hs) ks
   begins hs e [] a = tt
   begins [] e (k ∷ rest) a = λ i. record { a = sym (none A) i; b = sym (none B) i }
     where
       none : (l : Source) → parity (odd_edges l cs) (left_side k.p k.q) ≡ false
-      none l = let P : List Standing → Type 0 = λ hs. AreStanding (Reaches (edges_of cs) v) (map edge_of (take low s) ++ (map edge_of (slice_range s low high) ++ map edge_of hs)) in
+      none l = let P : List StandingEdge → Type 0 = λ hs. AreStanding (Reaches (edges_of cs) v) (map edge_of (take low s) ++ (map edge_of (slice_range s low high) ++ map edge_of hs)) in
           first_left_none cs h v x (map edge_of (take low s)) (map edge_of (slice_range s low high)) (subst P e standing_parts) low_all mid_all k rest a l
-  begins (f ∷ hs) e (k ∷ rest) a = (let P : List Standing → Type 0 = λ hs. In f hs in under_of f (in_drop high s f (subst P (sym e) (inl refl)))) ∙ (λ i. record { a = sym (same A) i; b = sym (same B) i })
+  begins (f ∷ hs) e (k ∷ rest) a = (let P : List StandingEdge → Type 0 = λ hs. In f hs in under_of f (in_drop high s f (subst P (sym e) (inl refl)))) ∙ (λ i. record { a = sym (same A) i; b = sym (same B) i })
     where
       same : (l : Source) → parity (odd_edges l cs) (left_side k.p k.q) ≡ parity (odd_edges l cs) (right_side (edge_of f).p (edge_of f).q)
-      same l = let P : List Standing → Type 0 = λ hs. AreStanding (Reaches (edges_of cs) v) (map edge_of (take low s) ++ (map edge_of (slice_range s low high) ++ map edge_of hs)) in
-          let Q : List Standing → Type 0 = λ hs. All (λ (e : Edge). side e.p e.q v <ℤ pos 0) (map edge_of hs) in
+      same l = let P : List StandingEdge → Type 0 = λ hs. AreStanding (Reaches (edges_of cs) v) (map edge_of (take low s) ++ (map edge_of (slice_range s low high) ++ map edge_of hs)) in
+          let Q : List StandingEdge → Type 0 = λ hs. All (λ (e : Edge). side e.p e.q v <ℤ pos 0) (map edge_of hs) in
           left_of_first cs h v x (map edge_of (take low s)) (map edge_of (slice_range s low high)) (edge_of f) (map edge_of hs) (subst P e standing_parts) low_all mid_all (subst Q e high_all) k rest a l
 
   module _ (ss : List Spoke) (a : AreSpokes (edges_of cs) v (map edge_at ss)) (inside : All (λ s. Contains cs s.one) ss) (left : Parities) (e : left ≡ under_lowest (drop high s)) where
@@ -229,19 +229,19 @@ module _ (cs : List Counted) (h : AreLayers cs) (v : Pt) (x : IsVertexOf (edges_
           (All-drop (λ t. t.under ≡ parities_at cs (right_side t.spoke.one.edge.p t.spoke.one.edge.q)) high s u.under);
     }
 
-    module _ (from next : ℕ) (r : IsRangeAt cs v from next) (old : List Labelled) (g : AreLabelsOf cs (take from cs) old) where
-      label_in : (f : Edge) → In f (map edge_at ss) → In f (map (λ (l : Labelled). l.edge) (old ++ labels_from left ss))
+    module _ (from next : ℕ) (r : IsRangeAt cs v from next) (old : List LabelledEdge) (g : AreLabelsOf cs (take from cs) old) where
+      label_in : (f : Edge) → In f (map edge_at ss) → In f (map (λ (l : LabelledEdge). l.edge) (old ++ labels_from left ss))
       label_in f i = let P : List Edge → Type 0 = λ es. In f es in
-          subst P (sym (map-append (λ (l : Labelled). l.edge) old (labels_from left ss))) (in_back (map (λ (l : Labelled). l.edge) old) (map (λ (l : Labelled). l.edge) (labels_from left ss)) f
+          subst P (sym (map-append (λ (l : LabelledEdge). l.edge) old (labels_from left ss))) (in_back (map (λ (l : LabelledEdge). l.edge) old) (map (λ (l : LabelledEdge). l.edge) (labels_from left ss)) f
           (subst P (sym (labels_edges left ss)) i))
 
-      old_in : (f : Edge) → In f (map (λ (l : Labelled). l.edge) old) → In f (map (λ (l : Labelled). l.edge) (old ++ labels_from left ss))
+      old_in : (f : Edge) → In f (map (λ (l : LabelledEdge). l.edge) old) → In f (map (λ (l : LabelledEdge). l.edge) (old ++ labels_from left ss))
       old_in f i = let P : List Edge → Type 0 = λ es. In f es in
-          subst P (sym (map-append (λ (l : Labelled). l.edge) old (labels_from left ss))) (in_front (map (λ (l : Labelled). l.edge) old) (map (λ (l : Labelled). l.edge) (labels_from left ss)) f i)
+          subst P (sym (map-append (λ (l : LabelledEdge). l.edge) old (labels_from left ss))) (in_front (map (λ (l : LabelledEdge). l.edge) old) (map (λ (l : LabelledEdge). l.edge) (labels_from left ss)) f i)
 
-      of_counted : (c : Counted) → In c (take next cs) → In c.edge (map (λ (l : Labelled). l.edge) (old ++ labels_from left ss))
+      of_counted : (c : Counted) → In c (take next cs) → In c.edge (map (λ (l : LabelledEdge). l.edge) (old ++ labels_from left ss))
       of_counted c i = ⊎_elim
-          (λ j. old_in c.edge (contains_in (map (λ (l : Labelled). l.edge) old) c.edge (g.all c.edge (in_contains (edges_of (take from cs)) c.edge (map_in (λ c. c.edge) (take from cs) c j)))))
+          (λ j. old_in c.edge (contains_in (map (λ (l : LabelledEdge). l.edge) old) c.edge (g.all c.edge (in_contains (edges_of (take from cs)) c.edge (map_in (λ c. c.edge) (take from cs) c j)))))
           (λ j. let b = (r.exact c).0 (in_contains (slice_range cs from next) c j) in
           label_in c.edge (contains_in (map edge_at ss) c.edge ((a.exact c.edge).1 (in_contains (edges_of cs) c.edge (map_in (λ c. c.edge) cs c (contains_in cs c b.0)), b.1))))
           (take_parts cs from next (next - from) (omega (arith, r.order)) c i)
@@ -250,6 +250,6 @@ module _ (cs : List Counted) (h : AreLayers cs) (v : Pt) (x : IsVertexOf (edges_
       labelled = record {
         each = All-append (IsLabelled cs) old (labels_from left ss) g.each (labels cs h v ss a inside left left_begins);
         all = λ f i. let c = in_map (λ c. c.edge) (take next cs) f (contains_in (edges_of (take next cs)) f i) in
-            let P : Edge → Type 0 = λ f. Contains (map (λ (l : Labelled). l.edge) (old ++ labels_from left ss)) f in
-            subst P c.2 (in_contains (map (λ (l : Labelled). l.edge) (old ++ labels_from left ss)) c.0.edge (of_counted c.0 c.1));
+            let P : Edge → Type 0 = λ f. Contains (map (λ (l : LabelledEdge). l.edge) (old ++ labels_from left ss)) f in
+            subst P c.2 (in_contains (map (λ (l : LabelledEdge). l.edge) (old ++ labels_from left ss)) c.0.edge (of_counted c.0 c.1));
       }

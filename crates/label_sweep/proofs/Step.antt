@@ -90,7 +90,7 @@ pub record Goes (es : List Edge) (v : Pt) (e : Edge) : Type 0 where
   pub begun : IsUpTo e.p v
   pub lasts : IsBefore v e.q
 
-pub record Standing (P : Edge → Type 0) (s : List Edge) : Type 0 where
+pub record StandingEdge (P : Edge → Type 0) (s : List Edge) : Type 0 where
   pub sound : (e : Edge) → In e s → P e
   pub complete : (e : Edge) → P e → In e s
   pub order : Pairs IsUnder s
@@ -128,7 +128,7 @@ comes_end es n v x e c z = which (ends_there es n v x e c.inside (comes_run es v
 
 -- ---- the vertex
 module _ (es : List Edge) (h : Edges es) (v : Pt) (x : Vertex es v) (low mid high fresh : List Edge)
-    (s : Standing (Comes es v) (low ++ (mid ++ high)))
+    (s : StandingEdge (Comes es v) (low ++ (mid ++ high)))
     (is_low : (e : Edge) → In e low → over_pt e v <ℤ pos 0)
     (is_mid : (e : Edge) → In e mid → over_pt e v ≡ pos 0)
     (is_high : (e : Edge) → In e high → pos 0 <ℤ over_pt e v) where
@@ -257,13 +257,13 @@ module _ (es : List Edge) (h : Edges es) (v : Pt) (x : Vertex es v) (low mid hig
         (pairs_append IsUnder fresh high fresh_order pairs_high fresh_high)
         (λ g e i j. ⊎_elim (λ k. low_fresh g e i k) (λ k. pairs_across IsUnder low (mid ++ high) s.order g e i (in_back mid high e k)) (in_append fresh high e j))
 
-    pub step : Standing (Goes es v) (low ++ (fresh ++ high))
+    pub step : StandingEdge (Goes es v) (low ++ (fresh ++ high))
     step = record { sound = sound_after; complete = complete_after; order = order_after }
 
 -- ---- from one vertex to the next: nothing begins or ends between them
 pub carried : (es : List Edge) (v w : Pt) (s : List Edge) → IsBefore v w
     → ((e : Edge) → In e es → (u : Pt) → (u ≡ e.p) ⊎ (u ≡ e.q) → IsBefore v u → IsBefore u w → ⊥)
-    → Standing (Goes es v) s → Standing (Comes es w) s
+    → StandingEdge (Goes es v) s → StandingEdge (Comes es w) s
 carried es v w s b n t = record { sound = sound; complete = complete; order = t.order }
   where
     later : (p : Pt) → IsUpTo p v → IsBefore p w

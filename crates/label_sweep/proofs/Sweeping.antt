@@ -1,5 +1,5 @@
 -- From vertex to vertex: the edges before a number begin before the coming vertex, and what stands reaches it.
-use Rattle.std.proofs.Common.{◌≡◌, ◌⊎◌, inl, inr, ⊎_elim, ℕ, zero, suc, ◌+◌, ◌-◌, ◌<◌, ◌≤◌, List, [], ◌∷◌, map, length, get_or, take, refl, sym, ap, ◌∙◌, subst, arith}
+use Rattle.std.proofs.Common.{◌≡◌, inl, inr, ⊎_elim, ℕ, ◌+◌, ◌-◌, ◌<◌, ◌≤◌, List, [], ◌∷◌, map, length, get_or, take, refl, sym, ap, ◌∙◌, subst, arith}
 use Rattle.std.specs.List.{AllWithin, Contains}
 use Rattle.std.specs.Prelude.{slice_range}
 use Rattle.std.proofs.lemmas.Bool.{cases_eq, cases_lt}
@@ -13,8 +13,8 @@ use Rattle.geom.specs.ResultEdges.{right_side}
 use Rattle.geom.specs.Rounded.{edges_of}
 use Rattle.geom.proofs.Lists.{In, in_contains, contains_in, map_in}
 use Rattle.geom.proofs.Orders.{before_itself, before_trans}
-use Rattle.label_sweep.specs.declared.standing.Standing.{Standing}
-use Rattle.label_sweep.specs.declared.standing.Labelled.{Labelled}
+use Rattle.label_sweep.specs.declared.standing.StandingEdge.{StandingEdge}
+use Rattle.label_sweep.specs.declared.standing.LabelledEdge.{LabelledEdge}
 use Rattle.label_sweep.specs.Labels.{AreLabelsOf, IsLabelled, IsSweptTo, IsSweptUpTo, parities_at}
 use Rattle.label_sweep.specs.Status.{AreVertices, IsRangeAt, IsUnder, IsVertexOf, Reaches}
 use Rattle.label_sweep.proofs.Ends.{after_upto}
@@ -22,7 +22,7 @@ use Rattle.label_sweep.proofs.Members.{part_in, within_part}
 use Rattle.label_sweep.proofs.Words.{pairs_to, standing_reaches}
 
 -- before the vertex with this number
-pub record IsSwept (cs : List Counted) (vs : List Pt) (k next : ℕ) (standing : List Standing) (labelled : List Labelled) : Type 0 where
+pub record IsSwept (cs : List Counted) (vs : List Pt) (k next : ℕ) (standing : List StandingEdge) (labelled : List LabelledEdge) : Type 0 where
   pub within : next ≤ length cs
   pub begun : (i : ℕ) (d : Counted) → i < next → (j : ℕ) (u : Pt) → k ≤ j → j < length vs → IsBefore (get_or cs i d).edge.p (get_or vs j u)
   pub past : (i : ℕ) (d : Counted) → next ≤ i → i < length cs → (j : ℕ) (u : Pt) → j < k → IsBefore (get_or vs j u) (get_or cs i d).edge.p
@@ -76,7 +76,7 @@ module _ (cs : List Counted) (vs : List Pt) (a : AreVertices (edges_of cs) vs) w
   }
 
   -- ---- the edges that begin at a vertex
-  module _ (k from next : ℕ) (standing : List Standing) (old : List Labelled) (s : IsSwept cs vs k from standing old) (v : Pt) (here : k < length vs) (is : v ≡ get_or vs k v)
+  module _ (k from next : ℕ) (standing : List StandingEdge) (old : List LabelledEdge) (s : IsSwept cs vs k from standing old) (v : Pt) (here : k < length vs) (is : v ≡ get_or vs k v)
       (order : from ≤ next) (within : next ≤ length cs) (begun : AllWithin (λ c. IsUpTo c.edge.p v) cs from next) (past : AllWithin (λ c. IsBefore v c.edge.p) cs next (length cs)) where
     at_or_after : (c : Counted) (i : ℕ) → from ≤ i → i < length cs → get_or cs i c ≡ c → IsUpTo v c.edge.p
     at_or_after c i f l e = subst (λ (w : Pt). IsUpTo w c.edge.p) (sym is) (number_upto k v here c.edge.p (begins_at c (i, l, e))
@@ -115,7 +115,7 @@ module _ (cs : List Counted) (vs : List Pt) (a : AreVertices (edges_of cs) vs) w
     }
 
     -- ---- to the next vertex
-    module _ (fresh : List Standing) (new : List Labelled) (g : IsSweptTo cs v fresh) (t : AreLabelsOf cs (take next cs) new) where
+    module _ (fresh : List StandingEdge) (new : List LabelledEdge) (g : IsSweptTo cs v fresh) (t : AreLabelsOf cs (take next cs) new) where
       after_here : (j : ℕ) (u : Pt) → k + 1 ≤ j → j < length vs → IsBefore v (get_or vs j u)
       after_here j u l m = let P : Pt → Type 0 = λ w. IsBefore w (get_or vs j u) in
           subst P (get_or_default vs k u v here ∙ sym is) (a.ascending k j u (omega arith) m)
@@ -149,7 +149,7 @@ module _ (cs : List Counted) (vs : List Pt) (a : AreVertices (edges_of cs) vs) w
       }
 
   -- ---- after the last
-  module _ (k next : ℕ) (end : length vs ≤ k) (standing : List Standing) (labelled : List Labelled) (s : IsSwept cs vs k next standing labelled) where
+  module _ (k next : ℕ) (end : length vs ≤ k) (standing : List StandingEdge) (labelled : List LabelledEdge) (s : IsSwept cs vs k next standing labelled) where
     none_left : (c : Counted) → Contains cs c → (next < length cs → ⊥)
     none_left c i l = let d = get_or cs next c in
         let m = numbered d.edge.p (begins_at d (next, l, get_or_default cs next d c l)) in

@@ -1,5 +1,5 @@
 -- The same by `Contains` and `AllPairs`, and by sides.
-use Rattle.std.proofs.Common.{◌≡◌, ◌⊎◌, inl, inr, ⊎_elim, true, false, int_le, int_lt, length, get_or, ◌≤◌, ℕ, ◌<◌, List, [], ◌∷◌, ◌++◌, Bool, refl, sym, ap, ◌∙◌, arith, subst}
+use Rattle.std.proofs.Common.{◌≡◌, inl, inr, ⊎_elim, true, false, int_le, int_lt, length, get_or, ◌≤◌, ℕ, ◌<◌, List, [], ◌∷◌, ◌++◌, Bool, refl, sym, ap, ◌∙◌, arith, subst}
 use Rattle.std.specs.List.{Contains, AllPairs, All}
 use Rattle.std.specs.Prelude.{pos, ◌<ℤ◌}
 use Rattle.std.proofs.Math.IntN.{ℤ, ◌+ℤ◌, ◌-ℤ◌, ◌*ℤ◌, neg_ℤ}
@@ -30,7 +30,7 @@ use Rattle.label_sweep.specs.Status.{IsUnder, Reaches, GoesOn, AreStanding, AreS
 use Rattle.label_sweep.specs.Laws.{StandingStays, FirstLeft, LeftOfFirst, LeftOfNext, SearchIsMonotone, EndsAreLevel, StandingReaches, RightIsBeyond}
 use Rattle.label_sweep.proofs.Ends.{le_cases}
 use Rattle.label_sweep.proofs.Order.{below_too, above_too}
-use Rattle.label_sweep.proofs.Step.{Pairs, Standing, Comes, Goes, step, lowest_above, none_above, comes_common, comes_run, comes_end, carried}
+use Rattle.label_sweep.proofs.Step.{Pairs, StandingEdge, Comes, Goes, step, lowest_above, none_above, comes_common, comes_run, comes_end, carried}
 use Rattle.label_sweep.proofs.West.{west_lowest, west_none}
 use Rattle.label_sweep.proofs.Around.{Spokes, Steeper, first_left, next_left}
 
@@ -76,14 +76,14 @@ goes_on es v e r = record { inside = in_contains es e r.inside; slopes = r.slope
 goes_of : (es : List Edge) (v : Pt) (e : Edge) → GoesOn es v e → Goes es v e
 goes_of es v e r = record { inside = contains_in es e r.inside; slopes = r.slopes; begun = r.begun; lasts = r.lasts }
 
-standing_of : (es : List Edge) (v : Pt) (s : List Edge) → AreStanding (Reaches es v) s → Standing (Comes es v) s
+standing_of : (es : List Edge) (v : Pt) (s : List Edge) → AreStanding (Reaches es v) s → StandingEdge (Comes es v) s
 standing_of es v s h = record {
   sound = λ e i. comes_of es v e ((h.exact e).0 (in_contains s e i));
   complete = λ e c. contains_in s e ((h.exact e).1 (reaches_of es v e c));
   order = pairs_from IsUnder s h.order;
 }
 
-standing_to : (es : List Edge) (v : Pt) (s : List Edge) → Standing (Goes es v) s → AreStanding (GoesOn es v) s
+standing_to : (es : List Edge) (v : Pt) (s : List Edge) → StandingEdge (Goes es v) s → AreStanding (GoesOn es v) s
 standing_to es v s h = record {
   exact = λ e. ((λ c. goes_on es v e (h.sound e (contains_in s e c))), (λ g. in_contains s e (h.complete e (goes_of es v e g))));
   order = pairs_to IsUnder s h.order;

@@ -2,31 +2,31 @@
 use Rattle.std.specs.Prelude.{ℕ, ◌+◌, ◌<◌, ◌≤◌, Bool, false, List, [], ◌∷◌, All, drop, length, take, flat_map}
 use Rattle.std.specs.List.{HoldsAt}
 use Rattle.std.specs.declared.vec.Vec.{Vec}
-use Rattle.label_sweep.specs.declared.standing.Standing.{Standing}
+use Rattle.label_sweep.specs.declared.standing.StandingEdge.{StandingEdge}
 use Rattle.label_sweep.specs.declared.status.Place.{Place}
 use Rattle.label_sweep.specs.declared.status.Status.{Status}
 
 -- the edges of all chunks
-abbrev pub joined : {A : Type 0} → List (Vec Standing A) → List Standing
+abbrev pub joined : {A : Type 0} → List (Vec StandingEdge A) → List StandingEdge
 joined chunks = flat_map (λ c. c.items) chunks
 
 -- there is a first chunk, and no other is empty
-pub record AreChunks {A : Type 0} (chunks : List (Vec Standing A)) : Type 0 where
+pub record AreChunks {A : Type 0} (chunks : List (Vec StandingEdge A)) : Type 0 where
   pub some : 0 < length chunks
   pub filled : All (λ c. 0 < length c.items) (drop 1 chunks)
 
 -- a place lies within its chunk or at its end, and behind the first edge of any but the first chunk
-pub record IsPlace {A : Type 0} (chunks : List (Vec Standing A)) (place : Place) : Type 0 where
+pub record IsPlace {A : Type 0} (chunks : List (Vec StandingEdge A)) (place : Place) : Type 0 where
   pub chunk : place.chunk < length chunks
   pub within : HoldsAt (λ c. place.within ≤ length c.items) chunks place.chunk
   pub behind_first : 0 < place.chunk → 0 < place.within
 
 -- the number of edges before a place
-abbrev pub number_of : {A : Type 0} → List (Vec Standing A) → Place → ℕ
+abbrev pub number_of : {A : Type 0} → List (Vec StandingEdge A) → Place → ℕ
 number_of chunks place = length (joined (take place.chunk chunks)) + place.within
 
 -- the edges that stand
-abbrev pub all_standing : {A : Type 0} → Status A → List Standing
+abbrev pub all_standing : {A : Type 0} → Status A → List StandingEdge
 all_standing status = joined status.chunks.items
 
 -- whether there is a first element, and it passes

@@ -13,8 +13,8 @@ use Rattle.geom.specs.ResultEdges.{left_side, right_side}
 use Rattle.geom.specs.Rounded.{edges_of, odd_edges, is_odd}
 use Rattle.face_label.specs.Label.{ways}
 use Rattle.label_sweep.specs.declared.parities.Parities.{Parities}
-use Rattle.label_sweep.specs.declared.standing.Standing.{Standing}
-use Rattle.label_sweep.specs.declared.standing.Labelled.{Labelled}
+use Rattle.label_sweep.specs.declared.standing.StandingEdge.{StandingEdge}
+use Rattle.label_sweep.specs.declared.standing.LabelledEdge.{LabelledEdge}
 use Rattle.label_sweep.specs.Status.{AreStanding, AreSpokes, GoesOn, Reaches}
 use Rattle.points_law.specs.Law.{AreLayers}
 use Rattle.label_sweep.specs.declared.standing.Spoke.{Spoke}
@@ -31,32 +31,32 @@ abbrev pub beyond : Parities → Counted → Parities
 beyond at one = record { a = xor at.a (is_odd one.in_a); b = xor at.b (is_odd one.in_b) }
 
 -- an edge of the list, with the parities at its side points
-pub record IsLabelled (counted : List Counted) (l : Labelled) : Type 0 where
+pub record IsLabelled (counted : List Counted) (l : LabelledEdge) : Type 0 where
   pub inside : Contains (edges_of counted) l.edge
   pub left : l.left ≡ parities_at counted (left_side l.edge.p l.edge.q)
   pub right : l.right ≡ parities_at counted (right_side l.edge.p l.edge.q)
 
 -- edges of the list with the parities at their side points, these ones among them
-pub record AreLabelsOf (counted some : List Counted) (labelled : List Labelled) : Type 0 where
+pub record AreLabelsOf (counted some : List Counted) (labelled : List LabelledEdge) : Type 0 where
   pub each : All (IsLabelled counted) labelled
   pub all : (e : Edge) → Contains (edges_of some) e → Contains (map (λ l. l.edge) labelled) e
 
 -- all edges of the list, with the parities at their side points
-abbrev pub AreLabels : List Counted → List Labelled → Type 0
+abbrev pub AreLabels : List Counted → List LabelledEdge → Type 0
 AreLabels counted labelled = AreLabelsOf counted counted labelled
 
 -- before the vertex v: what stands reaches v, in its order, each with the parities below it
-pub record IsSweptUpTo (counted : List Counted) (v : Pt) (standing : List Standing) : Type 0 where
+pub record IsSweptUpTo (counted : List Counted) (v : Pt) (standing : List StandingEdge) : Type 0 where
   pub edges : AreStanding (Reaches (edges_of counted) v) (map (λ s. s.spoke.one.edge) standing)
   pub under : All (λ s. s.under ≡ parities_at counted (right_side s.spoke.one.edge.p s.spoke.one.edge.q)) standing
 
 -- after the vertex v: what stands goes on from v, in its order, each with the parities below it
-pub record IsSweptTo (counted : List Counted) (v : Pt) (standing : List Standing) : Type 0 where
+pub record IsSweptTo (counted : List Counted) (v : Pt) (standing : List StandingEdge) : Type 0 where
   pub edges : AreStanding (GoesOn (edges_of counted) v) (map (λ s. s.spoke.one.edge) standing)
   pub under : All (λ s. s.under ≡ parities_at counted (right_side s.spoke.one.edge.p s.spoke.one.edge.q)) standing
 
 -- the labels of the edges that begin at one vertex, one after another, where these are the parities on the left of the first
-abbrev pub labels_from : Parities → List Spoke → List Labelled
+abbrev pub labels_from : Parities → List Spoke → List LabelledEdge
 labels_from at [] = []
 labels_from at (s ∷ ss) = record { edge = s.one.edge; left = at; right = beyond at s.one } ∷ labels_from (beyond at s.one) ss
 
@@ -75,23 +75,23 @@ abbrev pub holds_of : Op → Parities → Bool
 holds_of op at = holds op at.a at.b
 
 -- whether the edge bounds the result from p to q, and whether from q to p
-abbrev pub directions_of : Op → Labelled → Bool × Bool
+abbrev pub directions_of : Op → LabelledEdge → Bool × Bool
 directions_of op l = (holds_of op l.left && not (holds_of op l.right), holds_of op l.right && not (holds_of op l.left))
 
 -- the directed edges along all of them
-abbrev pub directed_of : Op → List Labelled → List DirectedEdge
+abbrev pub directed_of : Op → List LabelledEdge → List DirectedEdge
 directed_of op [] = []
 directed_of op (l ∷ ls) = ways l.edge (directions_of op l) ++ directed_of op ls
 
 -- the parities under the lowest of these, or none
-abbrev pub under_lowest : List Standing → Parities
+abbrev pub under_lowest : List StandingEdge → Parities
 under_lowest [] = record { a = false; b = false }
 under_lowest (s ∷ ss) = s.under
 
-abbrev pub standing_of : Spoke → Parities → Standing
+abbrev pub standing_of : Spoke → Parities → StandingEdge
 standing_of s under = record { spoke = s; under = under }
 
 -- what stands of them, from the steepest to the lowest
-abbrev pub stands_from : Parities → List Spoke → List Standing
+abbrev pub stands_from : Parities → List Spoke → List StandingEdge
 stands_from at [] = []
 stands_from at (s ∷ ss) = (if int_lt s.one.edge.p.x s.one.edge.q.x then standing_of s (beyond at s.one) ∷ [] else []) ++ stands_from (beyond at s.one) ss

@@ -1,7 +1,7 @@
 -- The laws of the sweep: for layers and one vertex v, where low, mid and high are the edges that reach v from below, at and above it.
 use Rattle.std.specs.Prelude.{◌≡◌, ◌<ℤ◌, pos, false, int_le, int_lt, Contains, List, [], ◌∷◌, ◌++◌, All, AllPairs}
 use Rattle.std.specs.List.Sorted.{IsPartitionedBy}
-use Rattle.label_sweep.specs.declared.standing.Standing.{Standing}
+use Rattle.label_sweep.specs.declared.standing.StandingEdge.{StandingEdge}
 use Rattle.geom.specs.declared.point.Pt.{Pt}
 use Rattle.geom.specs.declared.edge.Edge.{Edge}
 use Rattle.geom.specs.declared.edge.Counted.{Counted}
@@ -45,7 +45,7 @@ LeftOfNext = (counted : List Counted) → AreLayers counted → (v : Pt) → (be
 
 -- the edges that stand, where they reach v: those below v come first, then those that end there, then those above
 abbrev pub SearchIsMonotone : Type 0
-SearchIsMonotone = (edges : List Edge) (v : Pt) (standing : List Standing) → AllPairs (λ s t. IsUnder s.spoke.one.edge t.spoke.one.edge) standing → All (λ s. Reaches edges v s.spoke.one.edge) standing
+SearchIsMonotone = (edges : List Edge) (v : Pt) (standing : List StandingEdge) → AllPairs (λ s t. IsUnder s.spoke.one.edge t.spoke.one.edge) standing → All (λ s. Reaches edges v s.spoke.one.edge) standing
     → IsPartitionedBy (λ s. int_lt (pos 0) (side s.spoke.one.edge.p s.spoke.one.edge.q v)) standing × IsPartitionedBy (λ s. int_le (pos 0) (side s.spoke.one.edge.p s.spoke.one.edge.q v)) standing
 
 -- of the edges that reach v just those that are neither below nor above it end there

@@ -1,5 +1,5 @@
 -- The order of the edges that a sweep keeps (own).
-use Rattle.std.specs.Prelude.{ℕ, Bool, int_lt, ◌≤◌, ◌∷◌, [], length, slice_range, pos, ◌<ℤ◌, ◌≤ℤ◌, ◌+ℤ◌, ◌-ℤ◌, ◌*ℤ◌, ◌↔◌, ◌≡◌, ◌⊎◌, ℤ, List, AllPairs, Contains}
+use Rattle.std.specs.Prelude.{ℕ, Bool, int_lt, ◌≤◌, length, slice_range, pos, ◌<ℤ◌, ◌≤ℤ◌, ◌+ℤ◌, ◌-ℤ◌, ◌*ℤ◌, ◌↔◌, ◌≡◌, ◌⊎◌, ℤ, List, AllPairs, Contains}
 use Rattle.geom.specs.declared.point.Pt.{Pt}
 use Rattle.geom.specs.Order.{IsBefore, IsUpTo}
 use Rattle.geom.specs.Determinant.{turn}
@@ -64,9 +64,9 @@ pub record AreVertices (es : List Edge) (vertices : List Pt) : Type 0 where
   pub ascending : AllPairs IsBefore vertices
   pub exact : (v : Pt) → Contains vertices v ↔ IsVertexOf es v
 
-abbrev pub both_ends : List Edge → List Pt
-both_ends [] = []
-both_ends (e ∷ es) = e.p ∷ (e.q ∷ both_ends es)
+-- all ends of the edges, in any order and any number of times
+abbrev pub AreEnds : List Edge → List Pt → Type 0
+AreEnds es ends = (v : Pt) → Contains ends v ↔ IsVertexOf es v
 
 -- those from one number to another are the edges that begin at v
 pub record IsRangeAt (counted : List Counted) (v : Pt) (from to : ℕ) : Type 0 where

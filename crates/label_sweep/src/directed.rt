@@ -6,12 +6,12 @@ ghost use Rattle.points_law.specs.Law.{AreLayers};
 ghost use Rattle.label_sweep.specs.Labels.{directed_of, directions_of};
 
 use crate::pass::sweep;
-use crate::standing::Labelled;
+use crate::standing::LabelledEdge;
 use face_label::{Directed, add_directions};
 use geom::{Counted, DirectedEdge, NoMemory, Op};
 use std::alloc::Allocator;
 
-impl Labelled {
+impl LabelledEdge {
     /// Whether the edge bounds the result as directed from its first end to its second, and whether as directed back: the
     /// operation holds on its left and not on its right.
     fn directions(&self, op: Op) -> (bool, bool)
@@ -26,7 +26,7 @@ impl Labelled {
 /// All edges in their directions.
 fn directed_edges<A: Allocator + Copy>(
     alloc: A,
-    labelled: &[Labelled],
+    labelled: &[LabelledEdge],
     op: Op,
 ) -> Result<Vec<DirectedEdge, A>, NoMemory>
     ensures { IfOk result (λ edges. edges.items ≡ directed_of op labelled.now) }

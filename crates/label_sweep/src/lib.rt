@@ -18,4 +18,4 @@ pub use laws::{
 };
 pub use parities::Parities;
 pub use pass::sweep;
-pub use standing::{Labelled, Spoke, Standing};
+pub use standing::{LabelledEdge, Spoke, StandingEdge};

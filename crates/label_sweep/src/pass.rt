@@ -7,7 +7,7 @@ ghost use Rattle.label_sweep.specs.Chunks.{AreChunks, all_standing};
 ghost use Rattle.label_sweep.specs.Labels.{AreLabels, AreLabelsOf, IsSweptTo, IsSweptUpTo};
 ghost use Rattle.label_sweep.specs.Status.{IsRangeAt, IsVertexOf};
 
-use crate::standing::{Labelled, Spoke, Standing};
+use crate::standing::{LabelledEdge, Spoke, StandingEdge};
 use crate::status::Status;
 use crate::turn::{by_turn, label, stand};
 use crate::vertices::{last_of, vertices_of};
@@ -18,14 +18,14 @@ use std::alloc::Allocator;
 #[derive(Drop)]
 struct SweepLine<A: Allocator> {
     standing: Status<A>,
-    labelled: Vec<Labelled, A>,
+    labelled: Vec<LabelledEdge, A>,
     spokes: Vec<Spoke, A>,
-    fresh: Vec<Standing, A>,
+    fresh: Vec<StandingEdge, A>,
 }
 
 impl<A: Allocator + Copy> SweepLine<A> {
-    /// Before the first vertex.
-    fn new(alloc: A) -> Result<SweepLine<A>, NoMemory>
+    /// Before the first vertex, with room for so many labels.
+    fn new(alloc: A, edges: usize) -> Result<SweepLine<A>, NoMemory>
         ensures standing { IfOk result (λ line. all_standing line.standing ≡ []) }
         ensures chunked { IfOk result (λ line. AreChunks line.standing.chunks.items) }
         ensures labelled { IfOk result (λ line. line.labelled.items ≡ []) }
@@ -33,7 +33,7 @@ impl<A: Allocator + Copy> SweepLine<A> {
         let standing = Status::new(alloc)?;
         Ok(SweepLine {
             standing,
-            labelled: Vec::new(alloc),
+            labelled: Vec::with_capacity(alloc, edges)?,
             spokes: Vec::new(alloc),
             fresh: Vec::new(alloc),
         })
@@ -52,7 +52,7 @@ impl<A: Allocator + Copy> SweepLine<A> {
         ensures labelled { OnOk result (AreLabelsOf counted.now (take next counted.now) self.new.labelled.items) }
     {
         let low = self.standing.first_not_below(v);
-        let high = self.standing.first_above(v);
+        let high = self.standing.first_above(v, low);
         let left = self.standing.lowest_under(high);
         by_turn(&mut self.spokes, counted, from, next, v)?;
         label(&self.spokes, left, &mut self.labelled)?;
@@ -66,12 +66,12 @@ impl<A: Allocator + Copy> SweepLine<A> {
 pub fn sweep<A: Allocator + Copy>(
     alloc: A,
     counted: &[Counted],
-) -> Result<Vec<Labelled, A>, NoMemory>
+) -> Result<Vec<LabelledEdge, A>, NoMemory>
     requires { AreLayers counted.now }
     ensures { IfOk result (λ labelled. AreLabels counted.now labelled.items) }
 {
     let vertices = vertices_of(alloc, counted)?;
-    let mut line = SweepLine::new(alloc)?;
+    let mut line = SweepLine::new(alloc, counted.len())?;
     let mut next = 0usize;
     for v in &vertices {
         let from = next;

@@ -14,14 +14,14 @@ pub struct Spoke {
 
 /// An edge that reaches the place of the sweep, and the parities just below it.
 #[derive(Clone, Copy, Debug)]
-pub struct Standing {
+pub struct StandingEdge {
     pub spoke: Spoke,
     pub under: Parities,
 }
 
 /// An edge, and the parities at its side points.
 #[derive(Clone, Copy, Debug)]
-pub struct Labelled {
+pub struct LabelledEdge {
     pub edge: Edge,
     pub left: Parities,
     pub right: Parities,

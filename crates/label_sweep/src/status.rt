@@ -1,9 +1,10 @@
 //! The edges that stand, from low to high, in chunks, so that a vertex moves no more than a few of them:
 //! 1. A place is found by the first edges of the chunks, and then within one chunk (`place`).
-//! 2. The chunk of the lower place keeps what is below it, and takes what begins and what the chunk of the higher place has from there on (`refill`).
+//! 2. Where as many edges begin as end, in one chunk, they stand in the same places (`overwrite`).
+//!    Else the chunk of the lower place keeps what is below it, and takes what begins and what the chunk of the higher place has from there on (`refill`).
 //! 3. The chunks after it, up to that of the higher place, are dropped (`drop_chunks`), and a chunk that has grown is split (`split`).
 
-ghost use Rattle.std.specs.Prelude.{◌≡◌, ◌<◌, ◌≤◌, ◌<ℤ◌, ◌≤ℤ◌, ◌++◌, [], pos, IfOk, OnOk, drop, int_le, int_lt, length, take, vec_len};
+ghost use Rattle.std.specs.Prelude.{◌≡◌, ◌+◌, ◌<◌, ◌≤◌, ◌<ℤ◌, ◌≤ℤ◌, ◌++◌, [], pos, IfOk, OnOk, drop, false, int_le, int_lt, length, take, true, vec_len};
 ghost use Rattle.std.specs.List.{AllWithin, HoldsAt};
 ghost use Rattle.std.specs.List.Sorted.{IsPartitionedBy};
 ghost use Rattle.geom.specs.Limit.{InLimit};
@@ -12,7 +13,7 @@ ghost use Rattle.label_sweep.specs.Chunks.{AreChunks, IsPlace, all_standing, joi
 ghost use Rattle.label_sweep.specs.Labels.{under_lowest};
 
 use crate::parities::Parities;
-use crate::standing::Standing;
+use crate::standing::StandingEdge;
 use geom::{NoMemory, Pt};
 use std::alloc::Allocator;
 
@@ -26,8 +27,8 @@ pub struct Place {
 /// The edges that stand. There is always a first chunk, and no other is empty.
 #[derive(Drop)]
 pub struct Status<A: Allocator> {
-    chunks: Vec<Vec<Standing, A>, A>,
-    rest: Vec<Standing, A>,
+    chunks: Vec<Vec<StandingEdge, A>, A>,
+    rest: Vec<StandingEdge, A>,
 }
 
 /// The edges of a chunk, at most, after a change.
@@ -37,7 +38,7 @@ const LIMIT: usize = 256;
 const HALF: usize = 128;
 
 /// Whether a vertex is at least so far on the left of an edge: with 1, whether the edge is below it, and with 0, whether it is not above.
-fn is_from(one: &Standing, v: Pt, bound: i64) -> bool
+fn is_from(one: &StandingEdge, v: Pt, bound: i64) -> bool
     requires { InLimit v }
     ensures { result ≡ int_le bound (side one.now.spoke.one.edge.p one.now.spoke.one.edge.q v) }
 {
@@ -45,7 +46,7 @@ fn is_from(one: &Standing, v: Pt, bound: i64) -> bool
 }
 
 /// Whether that holds of the first edge of a chunk.
-fn opens_from<A: Allocator>(chunk: &Vec<Standing, A>, v: Pt, bound: i64) -> bool
+fn opens_from<A: Allocator>(chunk: &Vec<StandingEdge, A>, v: Pt, bound: i64) -> bool
     requires { InLimit v }
     ensures { result ≡ opens (λ s. int_le bound (side s.spoke.one.edge.p s.spoke.one.edge.q v)) chunk.now.items }
 {
@@ -53,6 +54,22 @@ fn opens_from<A: Allocator>(chunk: &Vec<Standing, A>, v: Pt, bound: i64) -> bool
         Some(one) => is_from(one, v, bound),
         None => false,
     }
+}
+
+/// The number of a chunk's edges before the first one, from a number on, that is above a vertex.
+fn level_end(chunk: &[StandingEdge], from: usize, v: Pt) -> usize
+    requires v_in { InLimit v }
+    requires within { from ≤ length chunk.now }
+    ensures from { from ≤ result }
+    ensures within { result ≤ length chunk.now }
+    ensures level { AllWithin (λ s. int_le (pos 0) (side s.spoke.one.edge.p s.spoke.one.edge.q v) ≡ true) chunk.now from result }
+    ensures above { result < length chunk.now → HoldsAt (λ s. int_le (pos 0) (side s.spoke.one.edge.p s.spoke.one.edge.q v) ≡ false) chunk.now result }
+{
+    let mut end = from;
+    while end < chunk.len() && is_from(&chunk[end], v, 0) {
+        end += 1;
+    }
+    end
 }
 
 impl<A: Allocator + Copy> Status<A> {
@@ -82,17 +99,28 @@ impl<A: Allocator + Copy> Status<A> {
         self.place(v, 1)
     }
 
-    /// The place behind the edges that are not above a vertex.
-    pub fn first_above(&self, v: Pt) -> Place
+    /// The place behind the edges that are not above a vertex, from that behind those below it. Few edges end at most vertices.
+    pub fn first_above(&self, v: Pt, low: Place) -> Place
         requires v_in { InLimit v }
         requires chunked { AreChunks self.now.chunks.items }
         requires parted { IsPartitionedBy (λ s. int_le (pos 0) (side s.spoke.one.edge.p s.spoke.one.edge.q v)) (all_standing self.now) }
+        requires low { IsPlace self.now.chunks.items low }
+        requires below { AllWithin (λ s. pos 0 <ℤ side s.spoke.one.edge.p s.spoke.one.edge.q v) (all_standing self.now) 0 (number_of self.now.chunks.items low) }
         ensures place { IsPlace self.now.chunks.items result }
         ensures within { number_of self.now.chunks.items result ≤ length (all_standing self.now) }
         ensures rest { AllWithin (λ s. pos 0 ≤ℤ side s.spoke.one.edge.p s.spoke.one.edge.q v) (all_standing self.now) 0 (number_of self.now.chunks.items result) }
         ensures above { AllWithin (λ s. side s.spoke.one.edge.p s.spoke.one.edge.q v <ℤ pos 0) (all_standing self.now) (number_of self.now.chunks.items result) (length (all_standing self.now)) }
     {
-        self.place(v, 0)
+        let chunk = &self.chunks[low.chunk];
+        let within = level_end(chunk, low.within, v);
+        if within < chunk.len() {
+            Place {
+                chunk: low.chunk,
+                within,
+            }
+        } else {
+            self.place(v, 0)
+        }
     }
 
     /// The place behind the edges to which a vertex lies at least so far on the left.
@@ -106,13 +134,13 @@ impl<A: Allocator + Copy> Status<A> {
         ensures rest { AllWithin (λ s. side s.spoke.one.edge.p s.spoke.one.edge.q v <ℤ bound) (all_standing self.now) (number_of self.now.chunks.items result) (length (all_standing self.now)) }
     {
         let chunk = self.chunks[1..].partition_point(
-            |chunk: &Vec<Standing, A>| -> bool
+            |chunk: &Vec<StandingEdge, A>| -> bool
                 requires { InLimit v }
                 ensures { result ≡ opens (λ s. int_le bound (side s.spoke.one.edge.p s.spoke.one.edge.q v)) chunk.now.items }
             { opens_from(chunk, v, bound) },
         );
         let within = self.chunks[chunk].partition_point(
-            |one: &Standing| -> bool
+            |one: &StandingEdge| -> bool
                 requires { InLimit v }
                 ensures { result ≡ int_le bound (side one.now.spoke.one.edge.p one.now.spoke.one.edge.q v) }
             { is_from(one, v, bound) },
@@ -137,7 +165,12 @@ impl<A: Allocator + Copy> Status<A> {
     }
 
     /// Puts these edges in the place of those from one place to another.
-    pub fn replace(&mut self, low: Place, high: Place, fresh: &[Standing]) -> Result<(), NoMemory>
+    pub fn replace(
+        &mut self,
+        low: Place,
+        high: Place,
+        fresh: &[StandingEdge],
+    ) -> Result<(), NoMemory>
         requires chunked { AreChunks self.old.chunks.items }
         requires low { IsPlace self.old.chunks.items low }
         requires high { IsPlace self.old.chunks.items high }
@@ -146,6 +179,10 @@ impl<A: Allocator + Copy> Status<A> {
             ≡ take (number_of self.old.chunks.items low) (all_standing self.old) ++ fresh.now ++ drop (number_of self.old.chunks.items high) (all_standing self.old)) }
         ensures chunked { OnOk result (AreChunks self.new.chunks.items) }
     {
+        if low.chunk == high.chunk && is_so_far(low.within, high.within, fresh.len()) {
+            overwrite(&mut self.chunks[low.chunk], low.within, high.within, fresh);
+            return Ok(());
+        }
         self.rest.clear();
         self.rest
             .extend_from_slice(&self.chunks[high.chunk][high.within..])?;
@@ -156,12 +193,33 @@ impl<A: Allocator + Copy> Status<A> {
     }
 }
 
+/// Whether one number is so far before another.
+fn is_so_far(from: usize, to: usize, far: usize) -> bool
+    ensures { result ≡ true → from + far ≡ to }
+{
+    from <= to && to - from == far
+}
+
+/// Puts these edges in the place of as many of a chunk's edges.
+fn overwrite<A: Allocator>(
+    chunk: &mut Vec<StandingEdge, A>,
+    from: usize,
+    to: usize,
+    fresh: &[StandingEdge],
+)
+    requires many { from + length fresh.now ≡ to }
+    requires within { to ≤ vec_len chunk.old }
+    ensures { chunk.new.items ≡ take from chunk.old.items ++ fresh.now ++ drop to chunk.old.items }
+{
+    chunk[from..to].copy_from_slice(fresh);
+}
+
 /// Puts these edges, and then those, in the place of a chunk's edges from a number on.
 fn refill<A: Allocator>(
-    chunk: &mut Vec<Standing, A>,
+    chunk: &mut Vec<StandingEdge, A>,
     keep: usize,
-    fresh: &[Standing],
-    rest: &[Standing],
+    fresh: &[StandingEdge],
+    rest: &[StandingEdge],
 ) -> Result<(), NoMemory>
     ensures { OnOk result (chunk.new.items ≡ take keep chunk.old.items ++ fresh.now ++ rest.now) }
 {
@@ -173,7 +231,7 @@ fn refill<A: Allocator>(
 
 /// Drops the chunks from one number to another.
 fn drop_chunks<A: Allocator + Copy>(
-    chunks: &mut Vec<Vec<Standing, A>, A>,
+    chunks: &mut Vec<Vec<StandingEdge, A>, A>,
     from: usize,
     to: usize,
 ) -> Result<(), NoMemory>
@@ -191,7 +249,7 @@ fn drop_chunks<A: Allocator + Copy>(
 
 /// Splits a chunk until it is small.
 fn split<A: Allocator + Copy>(
-    chunks: &mut Vec<Vec<Standing, A>, A>,
+    chunks: &mut Vec<Vec<StandingEdge, A>, A>,
     at: usize,
 ) -> Result<(), NoMemory>
     requires inside { at < vec_len chunks.old }
@@ -209,7 +267,7 @@ fn split<A: Allocator + Copy>(
 
 /// Makes two chunks of one, the first with so many edges.
 fn split_once<A: Allocator + Copy>(
-    chunks: &mut Vec<Vec<Standing, A>, A>,
+    chunks: &mut Vec<Vec<StandingEdge, A>, A>,
     at: usize,
     keep: usize,
 ) -> Result<(), NoMemory>
@@ -228,7 +286,7 @@ fn split_once<A: Allocator + Copy>(
 }
 
 /// The parities under the first of these edges, or none.
-fn first_under(standing: &[Standing]) -> Parities
+fn first_under(standing: &[StandingEdge]) -> Parities
     ensures { result ≡ under_lowest standing.now }
 {
     match standing.first() {

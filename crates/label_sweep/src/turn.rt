@@ -14,7 +14,7 @@ ghost use Rattle.label_sweep.specs.Status.{AreSpokes, IsRangeAt};
 
 use crate::parities::Parities;
 use crate::place::sort_by_steepness;
-use crate::standing::{Labelled, Spoke, Standing};
+use crate::standing::{LabelledEdge, Spoke, StandingEdge};
 use geom::{Counted, NoMemory, Pt};
 use std::alloc::Allocator;
 
@@ -59,14 +59,14 @@ pub fn by_turn<A: Allocator>(
 pub fn label<A: Allocator>(
     spokes: &[Spoke],
     left: Parities,
-    labelled: &mut Vec<Labelled, A>,
+    labelled: &mut Vec<LabelledEdge, A>,
 ) -> Result<(), NoMemory>
     ensures { OnOk result (labelled.new.items ≡ labelled.old.items ++ labels_from left spokes.now) }
 {
     let mut at = left;
     for spoke in spokes {
         let beyond = at.beyond(&spoke.one);
-        labelled.push(Labelled {
+        labelled.push(LabelledEdge {
             edge: spoke.one.edge,
             left: at,
             right: beyond,
@@ -78,14 +78,14 @@ pub fn label<A: Allocator>(
 
 /// Adds an edge that is not upright.
 fn add_standing<A: Allocator>(
-    fresh: &mut Vec<Standing, A>,
+    fresh: &mut Vec<StandingEdge, A>,
     spoke: Spoke,
     under: Parities,
 ) -> Result<(), NoMemory>
     ensures { OnOk result (fresh.new.items ≡ fresh.old.items ++ (if int_lt spoke.one.edge.p.x spoke.one.edge.q.x then standing_of spoke under ∷ [] else [])) }
 {
     if spoke.one.edge.p.x < spoke.one.edge.q.x {
-        fresh.push(Standing { spoke, under })?;
+        fresh.push(StandingEdge { spoke, under })?;
     }
     Ok(())
 }
@@ -94,7 +94,7 @@ fn add_standing<A: Allocator>(
 pub fn stand<A: Allocator>(
     spokes: &[Spoke],
     left: Parities,
-    fresh: &mut Vec<Standing, A>,
+    fresh: &mut Vec<StandingEdge, A>,
 ) -> Result<(), NoMemory>
     ensures { OnOk result (fresh.new.items ≡ reverse (stands_from left spokes.now)) }
 {

@@ -1,14 +1,21 @@
-//! The vertices of rounded edges, and the edges that begin at one.
+//! The vertices of rounded edges, and the edges that begin at one. The vertices are found so:
+//! 1. The first ends are listed, in their order (`first_ends`).
+//! 2. From the last edge to the first, a second end is added unless a small table has it, which holds first ends of later edges: on a map
+//!    few are (`add_second_ends`).
+//! 3. The list is sorted, by a sort that keeps the run of the first ends, and rid of repeats (`vertices_of`).
 
-ghost use Rattle.std.specs.Prelude.{◌≡◌, ◌≤◌, AllPairs, IfOk, false, length, true};
+ghost use Rattle.std.specs.Prelude.{◌≡◌, ◌<◌, ◌≤◌, ◌⊎◌, All, AllPairs, Contains, IfOk, OnOk, false, length, true};
 ghost use Rattle.std.specs.List.{AllWithin};
 ghost use Rattle.geom.specs.EdgeOrder.{IsEdgeBefore};
 ghost use Rattle.geom.specs.Order.{IsBefore, IsUpTo};
 ghost use Rattle.geom.specs.Rounded.{edges_of};
-ghost use Rattle.label_sweep.specs.Status.{AreVertices, both_ends};
+ghost use Rattle.label_sweep.specs.Status.{AreEnds, AreVertices, IsVertexOf};
 
 use geom::{Counted, NoMemory, Pt};
 use std::alloc::Allocator;
+
+/// The places of the table of first ends.
+const PLACES: usize = 16_384;
 
 /// The ends of the edges, each once, ascending.
 pub fn vertices_of<A: Allocator + Copy>(
@@ -18,21 +25,112 @@ pub fn vertices_of<A: Allocator + Copy>(
     ensures { IfOk result (λ vertices. AreVertices (edges_of counted.now) vertices.items) }
 {
     let mut vertices = ends_of(alloc, counted)?;
-    vertices.sort_unstable();
+    vertices.sort()?;
     vertices.dedup();
     Ok(vertices)
 }
 
-/// Both ends of each edge.
+/// Both ends of each edge, of those that are listed one after another only the first.
 fn ends_of<A: Allocator + Copy>(alloc: A, counted: &[Counted]) -> Result<Vec<Pt, A>, NoMemory>
-    ensures { IfOk result (λ ends. ends.items ≡ both_ends (edges_of counted.now)) }
+    ensures { IfOk result (λ ends. AreEnds (edges_of counted.now) ends.items) }
 {
-    let mut ends = Vec::new(alloc);
-    for one in counted {
+    let mut ends = first_ends(alloc, counted)?;
+    if counted.is_empty() {
+        return Ok(ends);
+    }
+    let mut held = vec![in alloc; counted[0].edge.p; PLACES]?;
+    add_second_ends(&mut ends, &mut held, counted)?;
+    Ok(ends)
+}
+
+/// Adds a first end, if it isn't the last that is listed.
+fn add_first_end<A: Allocator>(ends: &mut Vec<Pt, A>, one: &Counted) -> Result<(), NoMemory>
+    ensures added { OnOk result (Contains ends.new.items one.now.edge.p) }
+    ensures kept { OnOk result ((v : Pt) → Contains ends.old.items v → Contains ends.new.items v) }
+    ensures only { OnOk result ((v : Pt) → Contains ends.new.items v → Contains ends.old.items v ⊎ (v ≡ one.now.edge.p)) }
+{
+    if ends.last() != Some(&one.edge.p) {
         ends.push(one.edge.p)?;
-        ends.push(one.edge.q)?;
+    }
+    Ok(())
+}
+
+/// The first ends of the edges.
+fn first_ends<A: Allocator + Copy>(alloc: A, counted: &[Counted]) -> Result<Vec<Pt, A>, NoMemory>
+    ensures all { IfOk result (λ ends. All (λ c. Contains ends.items c.edge.p) counted.now) }
+    ensures only { IfOk result (λ ends. All (IsVertexOf (edges_of counted.now)) ends.items) }
+{
+    let mut ends = Vec::with_capacity(alloc, counted.len())?;
+    for one in counted {
+        add_first_end(&mut ends, one)?;
     }
     Ok(ends)
+}
+
+/// A point's place in the table: neighbours have different ones.
+fn place_of(v: Pt) -> usize
+    ensures { result < PLACES }
+{
+    let by_column = v.x.cast_unsigned().wrapping_mul(0x9E37_79B1);
+    let by_row = v.y.cast_unsigned().wrapping_mul(0x85EB_CA77);
+    (by_column.wrapping_add(by_row) >> 18) as usize % PLACES
+}
+
+/// Whether the table has a point in its place.
+fn is_held(held: &[Pt], v: Pt) -> bool
+    requires places { length held.now ≡ PLACES }
+    ensures { result ≡ true → Contains held.now v }
+{
+    let other = held[place_of(v)];
+    other == v
+}
+
+/// Adds a second end, if it isn't among the ends that the table holds.
+fn add_second_end<A: Allocator>(
+    ends: &mut Vec<Pt, A>,
+    held: &[Pt],
+    one: &Counted,
+) -> Result<(), NoMemory>
+    requires places { length held.now ≡ PLACES }
+    requires held { All (Contains ends.old.items) held.now }
+    ensures added { OnOk result (Contains ends.new.items one.now.edge.q) }
+    ensures kept { OnOk result ((v : Pt) → Contains ends.old.items v → Contains ends.new.items v) }
+    ensures only { OnOk result ((v : Pt) → Contains ends.new.items v → Contains ends.old.items v ⊎ (v ≡ one.now.edge.q)) }
+{
+    if !is_held(held, one.edge.q) {
+        ends.push(one.edge.q)?;
+    }
+    Ok(())
+}
+
+/// Puts a point in its place in the table.
+fn hold(held: &mut [Pt], v: Pt)
+    requires places { length held.old ≡ PLACES }
+    ensures places { length held.new ≡ PLACES }
+    ensures held { (w : Pt) → Contains held.new w → Contains held.old w ⊎ (w ≡ v) }
+{
+    held[place_of(v)] = v;
+}
+
+/// Adds the second ends, where the first ends are listed and the table holds some of them.
+fn add_second_ends<A: Allocator>(
+    ends: &mut Vec<Pt, A>,
+    held: &mut [Pt],
+    counted: &[Counted],
+) -> Result<(), NoMemory>
+    requires places { length held.old ≡ PLACES }
+    requires held { All (Contains ends.old.items) held.old }
+    requires all { All (λ c. Contains ends.old.items c.edge.p) counted.now }
+    requires only { All (IsVertexOf (edges_of counted.now)) ends.old.items }
+    ensures { OnOk result (AreEnds (edges_of counted.now) ends.new.items) }
+{
+    let mut number = counted.len();
+    while number > 0 {
+        number -= 1;
+        add_second_end(ends, held, &counted[number])?;
+        hold(held, counted[number].edge.p);
+    }
+    Ok(())
 }
 
 /// Whether an edge begins at a vertex or before.

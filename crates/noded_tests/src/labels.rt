@@ -20,10 +20,10 @@ use tile_book::OpenGate;
 type Way = (i32, i32, i32, i32);
 
 /// Whether an edge bounds the result from its first end to its second, and back.
-type Told = (bool, bool);
+type Directions = (bool, bool);
 
 /// Edges, an operation, what is told of each edge, and the edges of the result.
-pub type Case = (&'static [Row], Op, &'static [Told], &'static [Way]);
+pub type Case = (&'static [Row], Op, &'static [Directions], &'static [Way]);
 
 /// The bow tie with a doubled edge: strips of the columns 0 and 1.
 const TIE: &[Row] = &[
@@ -42,7 +42,7 @@ const SQUARE: &[Row] = &[
 ];
 
 /// None of four edges bounds the result.
-const NEITHER: &[Told] = &[(false, false); 4];
+const NEITHER: &[Directions] = &[(false, false); 4];
 
 pub const CASES: [Case; 5] = [
     (
@@ -106,7 +106,12 @@ fn is_way(edge: DirectedEdge, way: Way) -> bool {
 }
 
 /// Whether this is told of each of the edges that the strips are of.
-fn are_told<A: Allocator>(strips: &StripSet<A>, counted: &[Counted], op: Op, told: &[Told]) -> bool
+fn are_told<A: Allocator>(
+    strips: &StripSet<A>,
+    counted: &[Counted],
+    op: Op,
+    told: &[Directions],
+) -> bool
     requires { IsSetOf counted.now strips.now }
 {
     if counted.len() != told.len() {
@@ -125,7 +130,7 @@ fn are_striped<A: Allocator + Copy, B: Allocator>(
     alloc: A,
     noded: &Noded<B>,
     op: Op,
-    told: &[Told],
+    told: &[Directions],
 ) -> Result<bool, NoMemory>
     requires { All (λ c. AreInLimit c.edge.p c.edge.q) noded.now.edges.items }
 {

@@ -81,17 +81,17 @@ impl Files for MemFiles {
 
 /// What is printed.
 #[derive(Clone, Copy)]
-enum Told {
+enum Words {
     /// These bytes.
     Text(&'static str),
     /// A text that begins so.
     Begins(&'static str),
 }
 
-fn is_told(bytes: &[u8], told: Told) -> bool {
+fn is_told(bytes: &[u8], told: Words) -> bool {
     match told {
-        Told::Text(text) => bytes == text.as_bytes(),
-        Told::Begins(text) => bytes.starts_with(text.as_bytes()),
+        Words::Text(text) => bytes == text.as_bytes(),
+        Words::Begins(text) => bytes.starts_with(text.as_bytes()),
     }
 }
 
@@ -126,85 +126,85 @@ fn driven<R: Threads + Wait + Sync>(
     Ok(Outcome { status, out, err })
 }
 
-fn is_outcome(outcome: &Outcome, status: u8, out: Told, err: Told) -> bool {
+fn is_outcome(outcome: &Outcome, status: u8, out: Words, err: Words) -> bool {
     outcome.status == status
         && is_told(outcome.out.bytes(), out)
         && is_told(outcome.err.bytes(), err)
 }
 
 /// How the parser begins what it says of a line.
-const PARSER: Told = Told::Begins("error: ");
+const PARSER: Words = Words::Begins("error: ");
 
 /// A command line behind the program's name, its exit status, and what it prints to standard output and standard error.
-type Case = (&'static [&'static str], u8, &'static str, Told);
+type Case = (&'static [&'static str], u8, &'static str, Words);
 
 const CASES: [Case; 28] = [
     (
         &["intersection", "square", "other", "--tile=16", "--report"],
         0,
         SQUARES_COMMON,
-        Told::Text(SQUARES_REPORT),
+        Words::Text(SQUARES_REPORT),
     ),
     (
         &["union", "none", "other"],
         1,
         "",
-        Told::Text("overlay: A: cannot read\n"),
+        Words::Text("overlay: A: cannot read\n"),
     ),
     (
         &["edges", "square", "other"],
         0,
         SQUARES_EDGES,
-        Told::Text(""),
+        Words::Text(""),
     ),
     (
         &["edges", "square", "other", "--tile=16", "--report"],
         0,
         SQUARES_EDGES,
-        Told::Text(SQUARES_REPORT),
+        Words::Text(SQUARES_REPORT),
     ),
     (
         &["edges", "nothing", "empty", "--report"],
         0,
         "",
-        Told::Text("segments 0 0\nhot 0\nrecords 0\nedges 0\ntiles 0\nremade 0\n"),
+        Words::Text("segments 0 0\nhot 0\nrecords 0\nedges 0\ntiles 0\nremade 0\n"),
     ),
     (
         &["edges", "none", "other"],
         1,
         "",
-        Told::Text("overlay: A: cannot read\n"),
+        Words::Text("overlay: A: cannot read\n"),
     ),
     // Both files are read before a layer or the plan is looked at.
     (
         &["edges", "decimal", "none", "--tile", "15"],
         1,
         "",
-        Told::Text("overlay: B: cannot read\n"),
+        Words::Text("overlay: B: cannot read\n"),
     ),
     (
         &["foo", "square", "other"],
         2,
         "",
-        Told::Text("overlay: unknown command\n"),
+        Words::Text("overlay: unknown command\n"),
     ),
     (
         &["Edges", "none", "other"],
         2,
         "",
-        Told::Text("overlay: unknown command\n"),
+        Words::Text("overlay: unknown command\n"),
     ),
     (
         &["", "square", "other"],
         2,
         "",
-        Told::Text("overlay: unknown command\n"),
+        Words::Text("overlay: unknown command\n"),
     ),
     (
         &["symDifference", "square", "other"],
         2,
         "",
-        Told::Text("overlay: unknown command\n"),
+        Words::Text("overlay: unknown command\n"),
     ),
     // The command line goes before the command word.
     (&["foo", "square", "other", "--tile", "x"], 2, "", PARSER),
@@ -246,7 +246,7 @@ const CASES: [Case; 28] = [
         ],
         3,
         "",
-        Told::Text("overlay: 6 bad tile side\n"),
+        Words::Text("overlay: 6 bad tile side\n"),
     ),
     (
         &[
@@ -260,22 +260,27 @@ const CASES: [Case; 28] = [
         ],
         3,
         "",
-        Told::Text("overlay: 7 bad number of workers\n"),
+        Words::Text("overlay: 7 bad number of workers\n"),
     ),
     (
         &["edges", "square", "other", "--tile=33554433"],
         3,
         "",
-        Told::Text("overlay: 6 bad tile side\n"),
+        Words::Text("overlay: 6 bad tile side\n"),
     ),
     // A side that is given stays as it is; where none is, one that fits is taken.
     (
         &["edges", "whole", "empty", "--tile=262144"],
         3,
         "",
-        Told::Text("overlay: 8 too many tiles: 4198401\n"),
+        Words::Text("overlay: 8 too many tiles: 4198401\n"),
     ),
-    (&["edges", "whole", "empty"], 0, WHOLE_EDGES, Told::Text("")),
+    (
+        &["edges", "whole", "empty"],
+        0,
+        WHOLE_EDGES,
+        Words::Text(""),
+    ),
 ];
 
 /// Whether a command line gives what its case says.
@@ -286,7 +291,7 @@ fn is_answered<R: Threads + Wait + Sync>(
 ) -> Result<bool, NoMemory> {
     let (words, status, out, err) = case;
     let outcome = driven(rt, alloc, words, (4000, 4000))?;
-    Ok(is_outcome(&outcome, status, Told::Text(out), err))
+    Ok(is_outcome(&outcome, status, Words::Text(out), err))
 }
 
 #[test]
@@ -386,7 +391,7 @@ fn is_refused<R: Threads + Wait + Sync>(
 ) -> Result<bool, NoMemory> {
     let words = [command, files.0, files.1];
     let outcome = driven(rt, alloc, words.as_slice(), (4000, 4000))?;
-    Ok(is_outcome(&outcome, 3, Told::Text(""), Told::Text(line)))
+    Ok(is_outcome(&outcome, 3, Words::Text(""), Words::Text(line)))
 }
 
 #[test]

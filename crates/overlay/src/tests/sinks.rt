@@ -1,11 +1,11 @@
 //! What is printed to sinks of all sizes.
 
-use super::{Told, driven, is_outcome};
+use super::{Words, driven, is_outcome};
 use engine_tests::texts::{SQUARES_COMMON, SQUARES_EDGES};
 use std::test::Fail;
 
 /// A command line behind the program's name, the room of both sinks, the exit status, and what they have then.
-type Small = (&'static [&'static str], (usize, usize), u8, Told, Told);
+type Small = (&'static [&'static str], (usize, usize), u8, Words, Words);
 
 /// What help prints.
 const HELP: &str =
@@ -43,17 +43,17 @@ Exit status: 0 answered, 1 a file, the output or memory failed, 2 command line n
 Example: overlay intersection parcels.wkt zones.wkt > common.wkt
 ";
 
-const FAILED: Told = Told::Text("overlay: 11 write failed\n");
+const FAILED: Words = Words::Text("overlay: 11 write failed\n");
 
-const NOTHING: Told = Told::Text("");
+const NOTHING: Words = Words::Text("");
 
 const SMALL: [Small; 8] = [
-    (&["--help"], (4000, 4000), 0, Told::Text(HELP), NOTHING),
+    (&["--help"], (4000, 4000), 0, Words::Text(HELP), NOTHING),
     (
         &["--help"],
         (10, 4000),
         1,
-        Told::Text("Overlays t"),
+        Words::Text("Overlays t"),
         NOTHING,
     ),
     (&["edges", "square", "other"], (0, 4000), 1, NOTHING, FAILED),
@@ -75,14 +75,14 @@ const SMALL: [Small; 8] = [
         &["edges", "square", "other", "--report"],
         (4000, 0),
         1,
-        Told::Text(SQUARES_EDGES),
+        Words::Text(SQUARES_EDGES),
         NOTHING,
     ),
     (
         &["intersection", "square", "other", "--report"],
         (4000, 0),
         1,
-        Told::Text(SQUARES_COMMON),
+        Words::Text(SQUARES_COMMON),
         NOTHING,
     ),
     (

@@ -4,7 +4,7 @@ use Rattle.std.proofs.lemmas.List.Sorted.{IsPartitionPoint-from_clause}
 use Rattle.std.specs.declared.vec.Vec.{Vec}
 use Rattle.geom.specs.Determinant.{side}
 use Rattle.geom.proofs.Tests.{le_told, le_untold}
-use Rattle.label_sweep.specs.declared.standing.Standing.{Standing}
+use Rattle.label_sweep.specs.declared.standing.StandingEdge.{StandingEdge}
 use Rattle.label_sweep.specs.Chunks.{opens}
 use Rattle.label_sweep.proofs.Chunks.{chunks_parted, slice_from, within_parted}
 use Rattle.label_sweep.proofs.Places.{chunk_inside, found}
@@ -12,22 +12,22 @@ use Rattle.label_sweep.proofs.status.Status.place.Goals as goal
 
 pub returns : goal.returns
 returns g c =
-    let p : Standing → Bool = λ s. int_le c.args.bound (side s.spoke.one.edge.p s.spoke.one.edge.q c.args.v) in
+    let p : StandingEdge → Bool = λ s. int_le c.args.bound (side s.spoke.one.edge.p s.spoke.one.edge.q c.args.v) in
     let chunks = c.args.self.now.chunks.items in
     let k = c.partition_point-chunk.result in
     let w = c.partition_point-within.result in
-    let q : Vec Standing g.row.A.Denot → Bool = λ d. opens p d.items in
+    let q : Vec StandingEdge g.row.A.Denot → Bool = λ d. opens p d.items in
     let row = take (length c.deref.result.now - 1) (drop 1 c.deref.result.now) in
     let same : row ≡ drop 1 chunks = slice_from 1 c.deref.result.now ∙ ap (λ t. drop 1 t) c.deref.ensures.value in
-    let P : List (Vec Standing g.row.A.Denot) → Type 0 = λ t. IsPartitionedBy q t in
-    let Q : List (Vec Standing g.row.A.Denot) → Type 0 = λ t. IsPartitionPoint (λ y. q y ≡ true) (λ y. q y ≡ false) t k in
-    let R : List (Vec Standing g.row.A.Denot) → Type 0 = λ t. k ≤ length t in
+    let P : List (Vec StandingEdge g.row.A.Denot) → Type 0 = λ t. IsPartitionedBy q t in
+    let Q : List (Vec StandingEdge g.row.A.Denot) → Type 0 = λ t. IsPartitionPoint (λ y. q y ≡ true) (λ y. q y ≡ false) t k in
+    let R : List (Vec StandingEdge g.row.A.Denot) → Type 0 = λ t. k ≤ length t in
     let of_chunks = subst Q same (IsPartitionPoint-from_clause q row k c.partition_point-chunk.ensures.partitioned
-    (subst P (sym same) (chunks_parted (λ (d : Vec Standing g.row.A.Denot). d.items) p chunks c.requires.parted c.requires.chunked.filled)) (λ a r f k. search rules)) in
+    (subst P (sym same) (chunks_parted (λ (d : Vec StandingEdge g.row.A.Denot). d.items) p chunks c.requires.parted c.requires.chunked.filled)) (λ a r f k. search rules)) in
     let h : k < length chunks = chunk_inside chunks k c.requires.chunked.some (subst R same c.partition_point-chunk.ensures.bound) in
     let here = c.index.result.now in
     let of_edges = IsPartitionPoint-from_clause p c.deref-2.result.now w c.partition_point-within.ensures.partitioned
-    (rw c.deref-2.ensures.value (within_parted (λ (d : Vec Standing g.row.A.Denot). d.items) p chunks c.requires.parted c.requires.chunked.filled k here h c.index.ensures)) (λ a r f k. search rules) in
+    (rw c.deref-2.ensures.value (within_parted (λ (d : Vec StandingEdge g.row.A.Denot). d.items) p chunks c.requires.parted c.requires.chunked.filled k here h c.index.ensures)) (λ a r f k. search rules) in
     let all = found p chunks c.requires.parted c.requires.chunked k w here h c.index.ensures of_chunks.0 of_chunks.1
     (rw c.deref-2.ensures.value at c.partition_point-within.ensures.bound) (rw c.deref-2.ensures.value at of_edges.0) (rw c.deref-2.ensures.value at of_edges.1) in
     record {
