@@ -1,0 +1,21 @@
+-- The edges that cross a column (own).
+use Rattle.std.specs.Prelude.{◌<ℤ◌, ◌≤ℤ◌, ◌↔◌, ℤ, List, AllPairs, Contains}
+use Rattle.geom.specs.declared.point.Pt.{Pt}
+use Rattle.geom.specs.declared.edge.Edge.{Edge}
+use Rattle.geom.specs.Order.{IsBefore}
+use Rattle.label_sweep.specs.Status.{IsUnder, IsVertexOf}
+
+-- e crosses the column on the left of x: it begins on the left of x, and doesn't end there
+pub record Crosses (es : List Edge) (x : ℤ) (e : Edge) : Type 0 where
+  pub inside : Contains es e
+  pub begun : e.p.x <ℤ x
+  pub lasts : x ≤ℤ e.q.x
+
+-- just the edges that cross it, from high to low
+pub record AreCrossing (es : List Edge) (x : ℤ) (crossing : List Edge) : Type 0 where
+  pub exact : (e : Edge) → Contains crossing e ↔ Crosses es x e
+  pub order : AllPairs (λ e f. IsUnder f e) crossing
+
+-- all vertices before v lie on the left of it
+abbrev pub BeginsColumn : List Edge → Pt → Type 0
+BeginsColumn es v = (u : Pt) → IsVertexOf es u → IsBefore u v → u.x <ℤ v.x
