@@ -1,4 +1,5 @@
 pub mod Status
+pub mod Column
 pub mod Chunks
 pub mod Laws
 pub mod Labels
