@@ -37,11 +37,14 @@ module _ (op : Op) (cs : List Counted) where
       subst P (sym (way_of l (h l (inl refl)))) (is_way op cs l.edge d (subst Q (sym q) r) b))
   is_listed (l ∷ ls) h e d (inr i) r b = in_back (ways l.edge (directions_of op l)) (directed_of op ls) d (is_listed ls (λ m k. h m (inr k)) e d i r b)
 
-  pub result_edges : (ls : List LabelledEdge) → AreLabels cs ls → (ds : List DirectedEdge) → IsSortedOnce directed_cmp (directed_of op ls) ds → AreResultEdges op cs ds
-  result_edges ls a ds s = record {
-    ascending = directed_ascending ds s.ascending;
-    exact = λ d. (
-      (λ h. listed_is ls (in_of_all (IsLabelled cs) ls a.each) d (contains_in (directed_of op ls) d ((s.same d).0 h))),
-      (λ r. (s.same d).1 (in_contains (directed_of op ls) d (is_listed ls (in_of_all (IsLabelled cs) ls a.each) r.edge d (contains_in (map (λ (l : LabelledEdge). l.edge) ls) r.edge (a.all r.edge r.rounded)) r.runs r.bounds))),
-    );
-  }
+  pub result_edges : (points : List Pt) → ((e : Edge) → Contains (edges_of cs) e → Contains points e.p) → (es : List DirectedEdge) → AreDirectedFrom op cs points es
+      → (ds : List DirectedEdge) → AllPairs IsDirectedBefore ds → ((d : DirectedEdge) → Contains ds d ↔ Contains es d) → AreResultEdges op cs ds
+  result_edges points all es a ds ascending same = let ls = a.labelled in
+      let each = in_of_all (IsLabelled cs) ls a.labels.each in record {
+        ascending = ascending;
+        exact = λ d. (
+          (λ h. listed_is ls each d (let P : List DirectedEdge → Type 0 = λ t. In d t in subst P a.along (contains_in es d ((same d).0 h)))),
+          (λ r. (same d).1 (in_contains es d (let P : List DirectedEdge → Type 0 = λ t. In d t in
+          subst P (sym a.along) (is_listed ls each r.edge d (contains_in (map (λ (l : LabelledEdge). l.edge) ls) r.edge (a.labels.all r.edge r.rounded (all r.edge r.rounded))) r.runs r.bounds)))),
+        );
+      }

@@ -25,11 +25,11 @@ use Rattle.label_sweep.specs.declared.parities.Parities.{Parities}
 use Rattle.label_sweep.specs.declared.standing.Spoke.{Spoke}
 use Rattle.label_sweep.specs.declared.standing.StandingEdge.{StandingEdge}
 use Rattle.label_sweep.specs.declared.standing.LabelledEdge.{LabelledEdge}
-use Rattle.label_sweep.specs.Labels.{AreLabelsOf, BeginsWith, IsLabelled, IsSweptTo, IsSweptUpTo, beyond, labels_from, parities_at, standing_of, stands_from, under_lowest}
+use Rattle.label_sweep.specs.Labels.{AreLabelsWithin, BeginsWith, IsLabelled, IsSweptTo, IsSweptUpTo, beyond, labels_from, parities_at, standing_of, stands_from, under_lowest}
 use Rattle.label_sweep.specs.Status.{AreFresh, AreSpokes, AreStanding, GoesOn, IsRangeAt, IsSteeper, IsUnder, IsVertexOf, Reaches}
 use Rattle.label_sweep.proofs.Around.{Steeper, under_turn}
 use Rattle.label_sweep.proofs.Labelling.{turn_is_labelled}
-use Rattle.label_sweep.proofs.Members.{all_of_in, in_of_all, in_drop, in_reverse, reverse_in, reverse_cons, map_reverse, within_take, within_drop, within_part, take_parts, pairs_of_map}
+use Rattle.label_sweep.proofs.Members.{all_of_in, in_of_all, in_drop, in_reverse, reverse_in, reverse_cons, map_reverse, within_take, within_drop, within_part, part_in, pairs_of_map}
 use Rattle.label_sweep.proofs.Step.{Pairs, clash, pairs_append}
 use Rattle.label_sweep.proofs.Turning.{edge_at}
 use Rattle.label_sweep.proofs.Words.{first_left_none, left_of_first, pairs_from, pairs_map, pairs_to, search_is_monotone, standing_stays, steeper_of}
@@ -229,7 +229,7 @@ module _ (cs : List Counted) (h : AreLayers cs) (v : Pt) (x : IsVertexOf (edges_
           (All-drop (λ t. t.under ≡ parities_at cs (right_side t.spoke.one.edge.p t.spoke.one.edge.q)) high s u.under);
     }
 
-    module _ (from next : ℕ) (r : IsRangeAt cs v from next) (old : List LabelledEdge) (g : AreLabelsOf cs (take from cs) old) where
+    module _ (first from next : ℕ) (r : IsRangeAt cs v from next) (old : List LabelledEdge) (g : AreLabelsWithin cs first from old) where
       label_in : (f : Edge) → In f (map edge_at ss) → In f (map (λ (l : LabelledEdge). l.edge) (old ++ labels_from left ss))
       label_in f i = let P : List Edge → Type 0 = λ es. In f es in
           subst P (sym (map-append (λ (l : LabelledEdge). l.edge) old (labels_from left ss))) (in_back (map (λ (l : LabelledEdge). l.edge) old) (map (λ (l : LabelledEdge). l.edge) (labels_from left ss)) f
@@ -239,17 +239,15 @@ module _ (cs : List Counted) (h : AreLayers cs) (v : Pt) (x : IsVertexOf (edges_
       old_in f i = let P : List Edge → Type 0 = λ es. In f es in
           subst P (sym (map-append (λ (l : LabelledEdge). l.edge) old (labels_from left ss))) (in_front (map (λ (l : LabelledEdge). l.edge) old) (map (λ (l : LabelledEdge). l.edge) (labels_from left ss)) f i)
 
-      of_counted : (c : Counted) → In c (take next cs) → In c.edge (map (λ (l : LabelledEdge). l.edge) (old ++ labels_from left ss))
-      of_counted c i = ⊎_elim
-          (λ j. old_in c.edge (contains_in (map (λ (l : LabelledEdge). l.edge) old) c.edge (g.all c.edge (in_contains (edges_of (take from cs)) c.edge (map_in (λ c. c.edge) (take from cs) c j)))))
-          (λ j. let b = (r.exact c).0 (in_contains (slice_range cs from next) c j) in
+      of_counted : (i : ℕ) (d : Counted) → first ≤ i → i < next → In (get_or cs i d).edge (map (λ (l : LabelledEdge). l.edge) (old ++ labels_from left ss))
+      of_counted i d f l = let c = get_or cs i d in ⊎_elim
+          (λ m. old_in c.edge (contains_in (map (λ (l : LabelledEdge). l.edge) old) c.edge (g.all i d f m)))
+          (λ m. let b = (r.exact c).0 (in_contains (slice_range cs from next) c (part_in cs from (next - from) i d m (omega (arith, m, l)) (omega (arith, l, r.within)))) in
           label_in c.edge (contains_in (map edge_at ss) c.edge ((a.exact c.edge).1 (in_contains (edges_of cs) c.edge (map_in (λ c. c.edge) cs c (contains_in cs c b.0)), b.1))))
-          (take_parts cs from next (next - from) (omega (arith, r.order)) c i)
+          (cases_lt i from)
 
-      pub labelled : AreLabelsOf cs (take next cs) (old ++ labels_from left ss)
+      pub labelled : AreLabelsWithin cs first next (old ++ labels_from left ss)
       labelled = record {
         each = All-append (IsLabelled cs) old (labels_from left ss) g.each (labels cs h v ss a inside left left_begins);
-        all = λ f i. let c = in_map (λ c. c.edge) (take next cs) f (contains_in (edges_of (take next cs)) f i) in
-            let P : Edge → Type 0 = λ f. Contains (map (λ (l : LabelledEdge). l.edge) (old ++ labels_from left ss)) f in
-            subst P c.2 (in_contains (map (λ (l : LabelledEdge). l.edge) (old ++ labels_from left ss)) c.0.edge (of_counted c.0 c.1));
+        all = λ i d f l. in_contains (map (λ (l : LabelledEdge). l.edge) (old ++ labels_from left ss)) (get_or cs i d).edge (of_counted i d f l);
       }

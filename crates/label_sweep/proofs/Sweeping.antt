@@ -14,20 +14,18 @@ use Rattle.geom.specs.Rounded.{edges_of}
 use Rattle.geom.proofs.Lists.{In, in_contains, contains_in, map_in}
 use Rattle.geom.proofs.Orders.{before_itself, before_trans}
 use Rattle.label_sweep.specs.declared.standing.StandingEdge.{StandingEdge}
-use Rattle.label_sweep.specs.declared.standing.LabelledEdge.{LabelledEdge}
-use Rattle.label_sweep.specs.Labels.{AreLabelsOf, IsLabelled, IsSweptTo, IsSweptUpTo, parities_at}
+use Rattle.label_sweep.specs.Labels.{IsSweptTo, IsSweptUpTo}
 use Rattle.label_sweep.specs.Status.{AreVertices, IsRangeAt, IsUnder, IsVertexOf, Reaches}
 use Rattle.label_sweep.proofs.Ends.{after_upto}
 use Rattle.label_sweep.proofs.Members.{part_in, within_part}
 use Rattle.label_sweep.proofs.Words.{pairs_to, standing_reaches}
 
 -- before the vertex with this number
-pub record IsSwept (cs : List Counted) (vs : List Pt) (k next : ℕ) (standing : List StandingEdge) (labelled : List LabelledEdge) : Type 0 where
+pub record IsSwept (cs : List Counted) (vs : List Pt) (k next : ℕ) (standing : List StandingEdge) : Type 0 where
   pub within : next ≤ length cs
   pub begun : (i : ℕ) (d : Counted) → i < next → (j : ℕ) (u : Pt) → k ≤ j → j < length vs → IsBefore (get_or cs i d).edge.p (get_or vs j u)
   pub past : (i : ℕ) (d : Counted) → next ≤ i → i < length cs → (j : ℕ) (u : Pt) → j < k → IsBefore (get_or vs j u) (get_or cs i d).edge.p
   pub swept : (u : Pt) → k < length vs → IsSweptUpTo cs (get_or vs k u) standing
-  pub labels : AreLabelsOf cs (take next cs) labelled
 
 module _ (cs : List Counted) (vs : List Pt) (a : AreVertices (edges_of cs) vs) where
   -- a vertex has a number
@@ -54,29 +52,8 @@ module _ (cs : List Counted) (vs : List Pt) (a : AreVertices (edges_of cs) vs) w
           not_less : (j < k → ⊥) → k < j
           not_less n = omega (arith, q)
 
-  -- ---- before the first
-  module _ (u : Pt) (l : 0 < length vs) where
-    none_reaches : (e : Edge) → Reaches (edges_of cs) (get_or vs 0 u) e → ⊥
-    none_reaches e r = let b = after_upto e.p (get_or vs 0 u) e.p r.begun
-        (number_upto 0 u l e.p (record { edge = e; inside = r.inside; ends = inl refl }) (λ j m k. absurd (omega arith))) in before_itself e.p b
-
-    first : IsSweptUpTo cs (get_or vs 0 u) []
-    first = record {
-      edges = record { exact = λ e. ((λ c. absurd (contains_in [] e c)), (λ r. absurd (none_reaches e r))); order = pairs_to IsUnder [] tt };
-      under = All-nil (λ s. s.under ≡ parities_at cs (right_side s.spoke.one.edge.p s.spoke.one.edge.q));
-    }
-
-  pub start : IsSwept cs vs 0 0 [] []
-  start = record {
-    within = omega arith;
-    begun = λ i d l j u m n. absurd (omega arith);
-    past = λ i d l m j u n. absurd (omega arith);
-    swept = λ u l. first u l;
-    labels = record { each = All-nil (IsLabelled cs); all = λ e i. absurd (contains_in [] e i) };
-  }
-
   -- ---- the edges that begin at a vertex
-  module _ (k from next : ℕ) (standing : List StandingEdge) (old : List LabelledEdge) (s : IsSwept cs vs k from standing old) (v : Pt) (here : k < length vs) (is : v ≡ get_or vs k v)
+  module _ (k from next : ℕ) (standing : List StandingEdge) (s : IsSwept cs vs k from standing) (v : Pt) (here : k < length vs) (is : v ≡ get_or vs k v)
       (order : from ≤ next) (within : next ≤ length cs) (begun : AllWithin (λ c. IsUpTo c.edge.p v) cs from next) (past : AllWithin (λ c. IsBefore v c.edge.p) cs next (length cs)) where
     at_or_after : (c : Counted) (i : ℕ) → from ≤ i → i < length cs → get_or cs i c ≡ c → IsUpTo v c.edge.p
     at_or_after c i f l e = subst (λ (w : Pt). IsUpTo w c.edge.p) (sym is) (number_upto k v here c.edge.p (begins_at c (i, l, e))
@@ -115,7 +92,7 @@ module _ (cs : List Counted) (vs : List Pt) (a : AreVertices (edges_of cs) vs) w
     }
 
     -- ---- to the next vertex
-    module _ (fresh : List StandingEdge) (new : List LabelledEdge) (g : IsSweptTo cs v fresh) (t : AreLabelsOf cs (take next cs) new) where
+    module _ (fresh : List StandingEdge) (g : IsSweptTo cs v fresh) where
       after_here : (j : ℕ) (u : Pt) → k + 1 ≤ j → j < length vs → IsBefore v (get_or vs j u)
       after_here j u l m = let P : Pt → Type 0 = λ w. IsBefore w (get_or vs j u) in
           subst P (get_or_default vs k u v here ∙ sym is) (a.ascending k j u (omega arith) m)
@@ -136,7 +113,7 @@ module _ (cs : List Counted) (vs : List Pt) (a : AreVertices (edges_of cs) vs) w
             | inr q ↦ before_itself v (before_trans v w v b (subst (λ (p : Pt). IsBefore p v) e (subst (λ (p : Pt). IsBefore (get_or vs j w) p) (get_or_default vs k w v here ∙ sym is) (a.ascending j k w (omega arith) here))))
           ]
 
-      pub next_one : IsSwept cs vs (k + 1) next fresh new
+      pub next_one : IsSwept cs vs (k + 1) next fresh
       next_one = record {
         within = within;
         begun = λ i d l j u m n. upto_here i d l (get_or vs j u) (after_here j u m n) (λ f. s.begun i d f j u (omega arith) n);
@@ -145,22 +122,4 @@ module _ (cs : List Counted) (vs : List Pt) (a : AreVertices (edges_of cs) vs) w
           | inr q ↦ s.past i d (omega arith) m j u (omega arith)
         ];
         swept = λ u l. record { edges = standing_reaches (edges_of cs) v (get_or vs (k + 1) u) (after_here (k + 1) u (omega arith) l) (λ w x b c. no_other u l w x b c) (map (λ s. s.spoke.one.edge) fresh) g.edges; under = g.under };
-        labels = t;
       }
-
-  -- ---- after the last
-  module _ (k next : ℕ) (end : length vs ≤ k) (standing : List StandingEdge) (labelled : List LabelledEdge) (s : IsSwept cs vs k next standing labelled) where
-    none_left : (c : Counted) → Contains cs c → (next < length cs → ⊥)
-    none_left c i l = let d = get_or cs next c in
-        let m = numbered d.edge.p (begins_at d (next, l, get_or_default cs next d c l)) in
-        before_itself d.edge.p (subst (λ (w : Pt). IsBefore w d.edge.p) m.2 (s.past next c (omega arith) l m.0 d.edge.p (omega (arith, m.1))))
-
-    pub all_of : AreLabelsOf cs cs labelled
-    all_of = let P : List Counted → Type 0 = λ t. AreLabelsOf cs t labelled in subst P (take_all next cs (whole cs none_left)) s.labels
-      where
-        whole : (ds : List Counted) → ((c : Counted) → Contains ds c → next < length ds → ⊥) → length ds ≤ next
-        whole [] n = omega arith
-        whole (d ∷ ds) n = not_less (n d (0, omega arith, refl))
-          where
-            not_less : (next < length (d ∷ ds) → ⊥) → length (d ∷ ds) ≤ next
-            not_less n = omega arith

@@ -1,5 +1,6 @@
 -- The labels that a sweep gives (own).
-use Rattle.std.specs.Prelude.{false, ◌≡◌, ◌&&◌, ◌++◌, int_lt, Bool, List, [], ◌∷◌, All, Contains, if◌then◌else◌, map, not}
+use Rattle.std.specs.Prelude.{false, ◌≡◌, ◌&&◌, ◌++◌, int_lt, ℕ, Bool, List, [], ◌∷◌, All, Contains, if◌then◌else◌, map, not}
+use Rattle.std.specs.List.{AllWithin}
 use Rattle.geom.specs.declared.edge.Edge.{Edge}
 use Rattle.geom.specs.declared.edge.Counted.{Counted}
 use Rattle.geom.specs.declared.point.Pt.{Pt}
@@ -36,14 +37,15 @@ pub record IsLabelled (counted : List Counted) (l : LabelledEdge) : Type 0 where
   pub left : l.left ≡ parities_at counted (left_side l.edge.p l.edge.q)
   pub right : l.right ≡ parities_at counted (right_side l.edge.p l.edge.q)
 
--- edges of the list with the parities at their side points, these ones among them
-pub record AreLabelsOf (counted some : List Counted) (labelled : List LabelledEdge) : Type 0 where
+-- edges of the list with the parities at their side points, those from one number to another among them
+pub record AreLabelsWithin (counted : List Counted) (from to : ℕ) (labelled : List LabelledEdge) : Type 0 where
   pub each : All (IsLabelled counted) labelled
-  pub all : (e : Edge) → Contains (edges_of some) e → Contains (map (λ l. l.edge) labelled) e
+  pub all : AllWithin (λ c. Contains (map (λ l. l.edge) labelled) c.edge) counted from to
 
--- all edges of the list, with the parities at their side points
-abbrev pub AreLabels : List Counted → List LabelledEdge → Type 0
-AreLabels counted labelled = AreLabelsOf counted counted labelled
+-- edges of the list with the parities at their side points, those that begin at one of these points among them
+pub record AreLabelsFrom (counted : List Counted) (points : List Pt) (labelled : List LabelledEdge) : Type 0 where
+  pub each : All (IsLabelled counted) labelled
+  pub all : (e : Edge) → Contains (edges_of counted) e → Contains points e.p → Contains (map (λ l. l.edge) labelled) e
 
 -- before the vertex v: what stands reaches v, in its order, each with the parities below it
 pub record IsSweptUpTo (counted : List Counted) (v : Pt) (standing : List StandingEdge) : Type 0 where
@@ -82,6 +84,12 @@ directions_of op l = (holds_of op l.left && not (holds_of op l.right), holds_of 
 abbrev pub directed_of : Op → List LabelledEdge → List DirectedEdge
 directed_of op [] = []
 directed_of op (l ∷ ls) = ways l.edge (directions_of op l) ++ directed_of op ls
+
+-- along such labelled edges, the directed edges of the result
+pub record AreDirectedFrom (op : Op) (counted : List Counted) (points : List Pt) (directed : List DirectedEdge) : Type 0 where
+  pub labelled : List LabelledEdge
+  pub labels : AreLabelsFrom counted points labelled
+  pub along : directed ≡ directed_of op labelled
 
 -- the parities under the lowest of these, or none
 abbrev pub under_lowest : List StandingEdge → Parities

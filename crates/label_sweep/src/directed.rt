@@ -1,15 +1,18 @@
 //! The directed edges of a result, by the labels of the sweep.
 
-ghost use Rattle.std.specs.Prelude.{◌≡◌, IfOk};
-ghost use Rattle.geom.specs.Directed.{AreResultEdges};
+ghost use Rattle.std.specs.Prelude.{◌≡◌, ◌↔◌, AllPairs, Contains, IfOk};
+ghost use Rattle.geom.specs.Directed.{AreResultEdges, IsDirectedBefore};
+ghost use Rattle.geom.specs.declared.directed.DirectedEdge.{DirectedEdge};
 ghost use Rattle.points_law.specs.Law.{AreLayers};
 ghost use Rattle.label_sweep.specs.Labels.{directed_of, directions_of};
 
-use crate::pass::sweep;
 use crate::standing::LabelledEdge;
+use crate::strips::{Strip, strip_edges, strip_edges_by_hands};
+use crate::vertices::vertices_of;
 use face_label::{Directed, add_directions};
 use geom::{Counted, DirectedEdge, NoMemory, Op};
 use std::alloc::Allocator;
+use std::thread::Threads;
 
 impl LabelledEdge {
     /// Whether the edge bounds the result as directed from its first end to its second, and whether as directed back: the
@@ -24,7 +27,7 @@ impl LabelledEdge {
 }
 
 /// All edges in their directions.
-fn directed_edges<A: Allocator + Copy>(
+pub fn directed_edges<A: Allocator + Copy>(
     alloc: A,
     labelled: &[LabelledEdge],
     op: Op,
@@ -38,6 +41,16 @@ fn directed_edges<A: Allocator + Copy>(
     Ok(edges)
 }
 
+/// Directed edges in their order, each once.
+fn in_order<A: Allocator>(mut edges: Vec<DirectedEdge, A>) -> Vec<DirectedEdge, A>
+    ensures ascending { AllPairs IsDirectedBefore result.items }
+    ensures same { (d : DirectedEdge) → Contains result.items d ↔ Contains edges.items d }
+{
+    edges.sort_unstable();
+    edges.dedup();
+    edges
+}
+
 /// The directed edges of the result of an operation on two layers, ascending by start, then by end: those that `labels`
 /// gives, in n log n steps, for noded edges of even degrees alone.
 pub fn layer_labels<A: Allocator + Copy>(
@@ -48,10 +61,31 @@ pub fn layer_labels<A: Allocator + Copy>(
     requires { AreLayers counted.now }
     ensures { IfOk result (λ directed. AreResultEdges op counted.now directed) }
 {
-    let labelled = sweep(alloc, counted)?;
-    let mut edges = directed_edges(alloc, &labelled, op)?;
-    edges.sort_unstable();
-    // an edge is listed once, so this leaves the list as it is
-    edges.dedup();
-    Ok(Directed::new(edges))
+    let vertices = vertices_of(alloc, counted)?;
+    let all = Strip {
+        from: 0,
+        to: vertices.len(),
+    };
+    let edges = strip_edges(alloc, counted, &vertices, all, op)?;
+    Ok(Directed::new(in_order(edges)))
+}
+
+/// The same, swept in a strip by each of so many hands.
+pub fn layer_labels_by_hands<R: Threads + Sync, A: Allocator + Copy + Send + Sync>(
+    rt: &R,
+    hands: u32,
+    alloc: A,
+    counted: &[Counted],
+    op: Op,
+) -> Result<Directed<A>, NoMemory>
+    requires { AreLayers counted.now }
+    ensures { IfOk result (λ directed. AreResultEdges op counted.now directed) }
+{
+    let vertices = vertices_of(alloc, counted)?;
+    let all = Strip {
+        from: 0,
+        to: vertices.len(),
+    };
+    let edges = strip_edges_by_hands(rt, hands as usize, alloc, counted, &vertices, all, op)?;
+    Ok(Directed::new(in_order(edges)))
 }

@@ -1,6 +1,7 @@
 //! Labels of rounded edges by one sweep from left to right.
 #![tactic(auto)]
 
+mod column;
 mod directed;
 mod laws;
 mod parities;
@@ -8,10 +9,11 @@ mod pass;
 mod place;
 mod standing;
 mod status;
+mod strips;
 mod turn;
 mod vertices;
 
-pub use directed::layer_labels;
+pub use directed::{layer_labels, layer_labels_by_hands};
 pub use laws::{
     ends_are_level, first_left, left_of_first, left_of_next, right_is_beyond, search_is_monotone,
     standing_reaches, standing_stays, turn_is_labelled,
@@ -19,3 +21,4 @@ pub use laws::{
 pub use parities::Parities;
 pub use pass::sweep;
 pub use standing::{LabelledEdge, Spoke, StandingEdge};
+pub use strips::Strip;

@@ -1,16 +1,21 @@
-//! The sweep: from vertex to vertex, the edges that end there make room for those that begin there.
+//! The sweep of a strip: from the edges that cross the column before its first vertex (`SweepLine::before`), from vertex to vertex. The
+//! edges that end at one make room for those that begin there (`SweepLine::pass`).
 
-ghost use Rattle.std.specs.Prelude.{◌≡◌, [], IfOk, OnOk, take};
+ghost use Rattle.std.specs.Prelude.{ℕ, ◌≡◌, [], IfOk, OnOk, slice_range};
 ghost use Rattle.geom.specs.Rounded.{edges_of};
 ghost use Rattle.points_law.specs.Law.{AreLayers};
 ghost use Rattle.label_sweep.specs.Chunks.{AreChunks, all_standing};
-ghost use Rattle.label_sweep.specs.Labels.{AreLabels, AreLabelsOf, IsSweptTo, IsSweptUpTo};
-ghost use Rattle.label_sweep.specs.Status.{IsRangeAt, IsVertexOf};
+ghost use Rattle.label_sweep.specs.Column.{BeginsColumn, IsStrip};
+ghost use Rattle.label_sweep.specs.Labels.{AreLabelsFrom, AreLabelsWithin, IsSweptTo, IsSweptUpTo};
+ghost use Rattle.label_sweep.specs.Status.{AreVertices, IsRangeAt, IsVertexOf};
 
+use crate::column::crossing;
+use crate::parities::Parities;
 use crate::standing::{LabelledEdge, Spoke, StandingEdge};
-use crate::status::Status;
+use crate::status::{Place, Status};
+use crate::strips::Strip;
 use crate::turn::{by_turn, label, stand};
-use crate::vertices::{last_of, vertices_of};
+use crate::vertices::{first_of, last_of};
 use geom::{Counted, NoMemory, Pt};
 use std::alloc::Allocator;
 
@@ -39,6 +44,26 @@ impl<A: Allocator + Copy> SweepLine<A> {
         })
     }
 
+    /// Before a vertex that begins a column: with the edges that cross the column on its left.
+    fn before(alloc: A, counted: &[Counted], v: Pt, edges: usize) -> Result<SweepLine<A>, NoMemory>
+        requires layers { AreLayers counted.now }
+        requires vertex { IsVertexOf (edges_of counted.now) v }
+        requires column { BeginsColumn (edges_of counted.now) v }
+        ensures swept { IfOk result (λ line. IsSweptUpTo counted.now v (all_standing line.standing)) }
+        ensures chunked { IfOk result (λ line. AreChunks line.standing.chunks.items) }
+        ensures labelled { IfOk result (λ line. line.labelled.items ≡ []) }
+    {
+        let mut line = SweepLine::new(alloc, edges)?;
+        let spokes = crossing(alloc, counted, v.x)?;
+        stand(&spokes, Parities { a: false, b: false }, &mut line.fresh)?;
+        let start = Place {
+            chunk: 0,
+            within: 0,
+        };
+        line.standing.replace(start, start, &line.fresh)?;
+        Ok(line)
+    }
+
     /// Past a vertex: labels the edges that begin there, which are those from one number to another.
     fn pass(&mut self, counted: &[Counted], from: usize, next: usize, v: Pt) -> Result<(), NoMemory>
         requires layers { AreLayers counted.now }
@@ -46,10 +71,9 @@ impl<A: Allocator + Copy> SweepLine<A> {
         requires begin { IsRangeAt counted.now v from next }
         requires chunked { AreChunks self.old.standing.chunks.items }
         requires swept { IsSweptUpTo counted.now v (all_standing self.old.standing) }
-        requires labelled { AreLabelsOf counted.now (take from counted.now) self.old.labelled.items }
         ensures chunked { OnOk result (AreChunks self.new.standing.chunks.items) }
         ensures swept { OnOk result (IsSweptTo counted.now v (all_standing self.new.standing)) }
-        ensures labelled { OnOk result (AreLabelsOf counted.now (take next counted.now) self.new.labelled.items) }
+        ensures labelled { OnOk result ((first : ℕ) → AreLabelsWithin counted.now first from self.old.labelled.items → AreLabelsWithin counted.now first next self.new.labelled.items) }
     {
         let low = self.standing.first_not_below(v);
         let high = self.standing.first_above(v, low);
@@ -62,21 +86,28 @@ impl<A: Allocator + Copy> SweepLine<A> {
     }
 }
 
-/// The labels of all edges.
+/// The labels of the edges that begin in a strip.
 pub fn sweep<A: Allocator + Copy>(
     alloc: A,
     counted: &[Counted],
+    vertices: &[Pt],
+    strip: Strip,
 ) -> Result<Vec<LabelledEdge, A>, NoMemory>
-    requires { AreLayers counted.now }
-    ensures { IfOk result (λ labelled. AreLabels counted.now labelled.items) }
+    requires layers { AreLayers counted.now }
+    requires vertices { AreVertices (edges_of counted.now) vertices.now }
+    requires strip { IsStrip (edges_of counted.now) vertices.now strip }
+    ensures { IfOk result (λ labelled. AreLabelsFrom counted.now (slice_range vertices.now strip.from strip.to) labelled.items) }
 {
-    let vertices = vertices_of(alloc, counted)?;
-    let mut line = SweepLine::new(alloc, counted.len())?;
-    let mut next = 0usize;
-    for v in &vertices {
+    if strip.from == strip.to {
+        return Ok(Vec::new(alloc));
+    }
+    let first = vertices[strip.from];
+    let mut next = first_of(counted, first);
+    let mut line = SweepLine::before(alloc, counted, first, counted.len() - next)?;
+    for number in strip.from..strip.to {
         let from = next;
-        next = last_of(counted, from, *v);
-        line.pass(counted, from, next, *v)?;
+        next = last_of(counted, from, vertices[number]);
+        line.pass(counted, from, next, vertices[number])?;
     }
     Ok(line.labelled)
 }

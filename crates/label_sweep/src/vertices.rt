@@ -133,6 +133,21 @@ fn add_second_ends<A: Allocator>(
     Ok(())
 }
 
+/// The number of edges that begin before a vertex.
+pub fn first_of(counted: &[Counted], v: Pt) -> usize
+    requires { AllPairs (λ c d. IsEdgeBefore c.edge d.edge) counted.now }
+    ensures within { result ≤ length counted.now }
+    ensures before { AllWithin (λ c. IsBefore c.edge.p v) counted.now 0 result }
+    ensures past { AllWithin (λ c. ¬ (IsBefore c.edge.p v)) counted.now result (length counted.now) }
+{
+    counted.partition_point(
+        |one: &Counted| -> bool
+            requires { ⊤ }
+            ensures { MatchBool result (IsBefore one.now.edge.p v) (¬ (IsBefore one.now.edge.p v)) }
+        { one.edge.p < v },
+    )
+}
+
 /// Whether an edge begins at a vertex or before.
 fn begins_up_to(one: &Counted, v: Pt) -> bool
     ensures upto { result ≡ true → IsUpTo one.now.edge.p v }
