@@ -16,11 +16,11 @@ use Rattle.label_sweep.specs.Status.{AreSpokes}
 use Rattle.label_sweep.specs.Labels.{parities_at, beyond, IsLabelled, labels_from, BeginsWith, TurnIsLabelled}
 use Rattle.label_sweep.proofs.Words.{left_of_next, right_is_beyond}
 
-abbrev Follows : List Counted → Edge → List Edge → Type 0
+abbrev pub Follows : List Counted → Edge → List Edge → Type 0
 Follows cs g [] = Unit {0}
 Follows cs g (k ∷ rest) = parities_at cs (right_side g.p g.q) ≡ parities_at cs (left_side k.p k.q)
 
-abbrev Chained : List Counted → List Edge → Type 0
+abbrev pub Chained : List Counted → List Edge → Type 0
 Chained cs [] = Unit {0}
 Chained cs (g ∷ rest) = Follows cs g rest × Chained cs rest
 
@@ -44,7 +44,7 @@ label_is cs h s i at e = record {
   right = ap (λ (t : Parities). beyond t s.one) e ∙ sym (right_is_beyond cs h s.one i);
 }
 
-labelled : (cs : List Counted) → AreLayers cs → (ss : List Spoke) → ((s : Spoke) → In s ss → Contains cs s.one) → Chained cs (map (λ s. s.one.edge) ss)
+pub labelled : (cs : List Counted) → AreLayers cs → (ss : List Spoke) → ((s : Spoke) → In s ss → Contains cs s.one) → Chained cs (map (λ s. s.one.edge) ss)
     → (at : Parities) → BeginsWith cs at (map (λ s. s.one.edge) ss) → All (IsLabelled cs) (labels_from at ss)
 labelled cs h [] i c at b = All-nil (IsLabelled cs)
 labelled cs h (s ∷ []) i c at b = All-cons (IsLabelled cs) (record { edge = s.one.edge; left = at; right = beyond at s.one }) [] (label_is cs h s (i s (inl (λ j. s))) at b) (All-nil (IsLabelled cs))

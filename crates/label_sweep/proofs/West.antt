@@ -38,7 +38,7 @@ sum_pos : (a b : ℤ) → pos 0 ≤ℤ a → pos 0 ≤ℤ b → ¬ (a +ℤ b ≡
 sum_pos a b h i n = grind (arith, ints)
 
 -- g is above f in the column left of v where g is above v, if f is the lowest such edge
-ab_of : (f g : Edge) (v : Pt) → MeetAtEnds f g → cv f (v.x -ℤ pos 1) ≡ true → cv g (v.x -ℤ pos 1) ≡ true → IsUnder f g → ab g f (v.x -ℤ pos 1) ≡ true
+pub ab_of : (f g : Edge) (v : Pt) → MeetAtEnds f g → cv f (v.x -ℤ pos 1) ≡ true → cv g (v.x -ℤ pos 1) ≡ true → IsUnder f g → ab g f (v.x -ℤ pos 1) ≡ true
 ab_of f g v m i j u = is_positive (twice (slope g f) (gap g f) (v.x -ℤ pos 1))
     (sum_pos (slope g f *ℤ (v.x -ℤ pos 1) +ℤ gap g f) (slope g f *ℤ (v.x -ℤ pos 1 +ℤ pos 1) +ℤ gap g f)
     (subst (λ (t : ℤ). pos 0 ≤ℤ t) (rise_is g f (v.x -ℤ pos 1)) (u (v.x -ℤ pos 1) (cv_low f _ i) (weak _ _ (cv_high f _ i)) (cv_low g _ j) (weak _ _ (cv_high g _ j))))
@@ -54,10 +54,10 @@ higher_of f g v m i j h u = is_positive (over_pt g v) (pos_both (run f) (over_pt
     (stays_up (slope g f) (gap g f) (v.x -ℤ pos 1) v.x (pos 1) (no_root f g (v.x -ℤ pos 1) m i j) (lt_z_told (pos 0) _ u) (back_low v.x) (back_high v.x))
     (lifts (run f) (run g) (rise f) (rise g) (off f) (off g) v.x v.y) h)
 
-own_term : (a c u w s : Bool) → c ≡ true → u ≡ true → w ≡ false → s ≡ true → a ∧∧ (c ∧∧ u) ≡ (a ∧∧ (c ∧∧ w)) ⊕ (s ∧∧ a)
+pub own_term : (a c u w s : Bool) → c ≡ true → u ≡ true → w ≡ false → s ≡ true → a ∧∧ (c ∧∧ u) ≡ (a ∧∧ (c ∧∧ w)) ⊕ (s ∧∧ a)
 own_term a c u w s h i j k = grind arith
 
-other_term : (a c u w s : Bool) → (c ≡ true → u ≡ w) → s ≡ false → a ∧∧ (c ∧∧ u) ≡ (a ∧∧ (c ∧∧ w)) ⊕ (s ∧∧ a)
+pub other_term : (a c u w s : Bool) → (c ≡ true → u ≡ w) → s ≡ false → a ∧∧ (c ∧∧ u) ≡ (a ∧∧ (c ∧∧ w)) ⊕ (s ∧∧ a)
 other_term a c u w s h k = grind arith
 
 -- f is the lowest edge above v of those that reach v's column from the left
@@ -86,7 +86,7 @@ west_lowest es h a ev v f l =
     ∙ ap (λ (t : Bool). among a es f (v.x -ℤ pos 1) ⊕ t) (once es h.distinct a f l.inside)
     ∙ sym (sloping_right es h a ev f l.inside (v.x -ℤ pos 1) l.reaches)
 
-none_term : (a c u : Bool) → (c ≡ true → u ≡ true → ⊥) → a ∧∧ (c ∧∧ u) ≡ false
+pub none_term : (a c u : Bool) → (c ≡ true → u ≡ true → ⊥) → a ∧∧ (c ∧∧ u) ≡ false
 none_term a c u h = grind arith
 
 -- and even where there is none
