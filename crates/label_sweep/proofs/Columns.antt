@@ -259,11 +259,11 @@ module _ (cs : List Counted) (h : AreLayers cs) (v : Pt) (b : BeginsColumn (edge
       (λ t i. under_right cs none ss (in_of_all (IsLabelled cs) (labels_from none ss) l) t
       (let P : List StandingEdge → Type 0 = λ ts. In t ts in subst P (all_stand none ss slopes) (in_reverse (stands_from none ss) t i)))
 
-pub distinct_column_is_swept : (cs : List Counted) → AreLayers cs → (v : Pt) → IsVertexOf (edges_of cs) v → BeginsColumn (edges_of cs) v → (ss : List Spoke)
-    → AreCrossing (edges_of cs) v.x (map (λ s. s.one.edge) ss) → AllPairs (λ e f. ¬ (e ≡ f)) (map (λ s. s.one.edge) ss) → All (λ s. Contains cs s.one) ss
+pub column_is_swept : (cs : List Counted) → AreLayers cs → (v : Pt) → BeginsColumn (edges_of cs) v → (ss : List Spoke)
+    → AreCrossing (edges_of cs) v.x (map (λ s. s.one.edge) ss) → All (λ s. Contains cs s.one) ss
     → IsSweptUpTo cs v (reverse (stands_from (record { a = false; b = false }) ss))
-distinct_column_is_swept cs h v x b ss a d inside = record {
+column_is_swept cs h v b ss a inside = record {
   edges = let P : List Edge → Type 0 = λ es. AreStanding (Reaches (edges_of cs) v) es in
       subst P (sym (edges_reversed cs h v b ss a)) (standing (edges_of cs) v b (map edge_at ss) a);
-  under = under_all cs h v b ss a (labels cs h v b ss a d inside);
+  under = under_all cs h v b ss a (labels cs h v b ss a a.distinct inside);
 }

@@ -1,20 +1,21 @@
 -- The directed edges by labels are those of the result.
 use Rattle.std.proofs.Common.{◌≡◌, ◌⊎◌, inl, inr, ⊎_elim, Bool, true, List, [], ◌∷◌, map, refl, sym, ap, ◌∙◌, subst}
-use Rattle.std.specs.Prelude.{◌&&◌, not}
+use Rattle.std.specs.List.{AllPairs, Contains}
+use Rattle.std.specs.Prelude.{◌&&◌, ◌↔◌, not}
 use Rattle.geom.specs.declared.op.Op.{Op}
+use Rattle.geom.specs.declared.point.Pt.{Pt}
 use Rattle.geom.specs.declared.edge.Edge.{Edge}
 use Rattle.geom.specs.declared.edge.Counted.{Counted}
 use Rattle.geom.specs.declared.directed.DirectedEdge.{DirectedEdge}
-use Rattle.geom.specs.Directed.{AreResultEdges, IsResultEdge, from_to}
+use Rattle.geom.specs.Directed.{AreResultEdges, IsDirectedBefore, IsResultEdge, from_to}
 use Rattle.geom.specs.ResultEdges.{is_result_edge}
 use Rattle.geom.specs.Rounded.{edges_of}
 use Rattle.geom.proofs.Lists.{In, in_contains, contains_in, in_append, in_front, in_back}
 use Rattle.face_label.specs.Label.{both_ways, holds_in, ways}
 use Rattle.face_label.proofs.Doubling.{both, right_is_left}
 use Rattle.face_label.proofs.Listing.{is_way, layers_of, way_is}
-use Rattle.geom.proofs.Orders.{IsSortedOnce, directed_ascending, directed_cmp}
 use Rattle.label_sweep.specs.declared.standing.LabelledEdge.{LabelledEdge}
-use Rattle.label_sweep.specs.Labels.{AreLabels, IsLabelled, directed_of, directions_of, holds_of}
+use Rattle.label_sweep.specs.Labels.{AreDirectedFrom, IsLabelled, directed_of, directions_of, holds_of}
 use Rattle.label_sweep.proofs.Members.{in_of_all}
 
 module _ (op : Op) (cs : List Counted) where

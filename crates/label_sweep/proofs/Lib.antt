@@ -14,3 +14,4 @@ pub mod Sweeping
 pub mod Directing
 pub mod Chunks
 pub mod Places
+pub mod Borders

@@ -62,10 +62,7 @@ pub fn layer_labels<A: Allocator + Copy>(
     ensures { IfOk result (λ directed. AreResultEdges op counted.now directed) }
 {
     let vertices = vertices_of(alloc, counted)?;
-    let all = Strip {
-        from: 0,
-        to: vertices.len(),
-    };
+    let all = Strip::of_all(&vertices);
     let edges = strip_edges(alloc, counted, &vertices, all, op)?;
     Ok(Directed::new(in_order(edges)))
 }
@@ -82,10 +79,7 @@ pub fn layer_labels_by_hands<R: Threads + Sync, A: Allocator + Copy + Send + Syn
     ensures { IfOk result (λ directed. AreResultEdges op counted.now directed) }
 {
     let vertices = vertices_of(alloc, counted)?;
-    let all = Strip {
-        from: 0,
-        to: vertices.len(),
-    };
+    let all = Strip::of_all(&vertices);
     let edges = strip_edges_by_hands(rt, hands as usize, alloc, counted, &vertices, all, op)?;
     Ok(Directed::new(in_order(edges)))
 }

@@ -1,12 +1,12 @@
 //! The sweep of a strip: from the edges that cross the column before its first vertex (`SweepLine::before`), from vertex to vertex. The
 //! edges that end at one make room for those that begin there (`SweepLine::pass`).
 
-ghost use Rattle.std.specs.Prelude.{ℕ, ◌≡◌, [], IfOk, OnOk, slice_range};
+ghost use Rattle.std.specs.Prelude.{ℕ, ◌≡◌, [], IfOk, OnOk, false, reverse, slice_range};
 ghost use Rattle.geom.specs.Rounded.{edges_of};
 ghost use Rattle.points_law.specs.Law.{AreLayers};
 ghost use Rattle.label_sweep.specs.Chunks.{AreChunks, all_standing};
 ghost use Rattle.label_sweep.specs.Column.{BeginsColumn, IsStrip};
-ghost use Rattle.label_sweep.specs.Labels.{AreLabelsFrom, AreLabelsWithin, IsSweptTo, IsSweptUpTo};
+ghost use Rattle.label_sweep.specs.Labels.{AreLabelsFrom, AreLabelsWithin, IsSweptTo, IsSweptUpTo, stands_from};
 ghost use Rattle.label_sweep.specs.Status.{AreVertices, IsRangeAt, IsVertexOf};
 
 use crate::column::crossing;
@@ -55,13 +55,26 @@ impl<A: Allocator + Copy> SweepLine<A> {
     {
         let mut line = SweepLine::new(alloc, edges)?;
         let spokes = crossing(alloc, counted, v.x)?;
-        stand(&spokes, Parities { a: false, b: false }, &mut line.fresh)?;
+        line.fill(&spokes)?;
+        Ok(line)
+    }
+
+    /// Lets edges stand where nothing does, from the highest to the lowest, with no parity above them.
+    fn fill(&mut self, spokes: &[Spoke]) -> Result<(), NoMemory>
+        requires empty { all_standing self.old.standing ≡ [] }
+        requires chunked { AreChunks self.old.standing.chunks.items }
+        ensures standing { OnOk result (all_standing self.new.standing ≡ reverse (stands_from (record { a = false; b = false }) spokes.now)) }
+        ensures chunked { OnOk result (AreChunks self.new.standing.chunks.items) }
+        ensures labelled { OnOk result (self.new.labelled.items ≡ self.old.labelled.items) }
+    {
+        let none = Parities { a: false, b: false };
+        stand(spokes, none, &mut self.fresh)?;
         let start = Place {
             chunk: 0,
             within: 0,
         };
-        line.standing.replace(start, start, &line.fresh)?;
-        Ok(line)
+        self.standing.replace(start, start, &self.fresh)?;
+        Ok(())
     }
 
     /// Past a vertex: labels the edges that begin there, which are those from one number to another.
@@ -102,8 +115,9 @@ pub fn sweep<A: Allocator + Copy>(
         return Ok(Vec::new(alloc));
     }
     let first = vertices[strip.from];
-    let mut next = first_of(counted, first);
-    let mut line = SweepLine::before(alloc, counted, first, counted.len() - next)?;
+    let start = first_of(counted, first);
+    let mut line = SweepLine::before(alloc, counted, first, counted.len() - start)?;
+    let mut next = start;
     for number in strip.from..strip.to {
         let from = next;
         next = last_of(counted, from, vertices[number]);

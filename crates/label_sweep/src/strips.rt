@@ -3,7 +3,7 @@
 //! 2. A strip is swept from the edges that cross the column before it (`sweep`), for the directed edges along those that begin in it.
 //! 3. Their lists are joined (`joined`).
 
-ghost use Rattle.std.specs.Prelude.{◌≡◌, ◌<◌, ◌≤◌, ◌<ℤ◌, ◌++◌, AllPairs, IfOk, get_or, int_lt, length, slice_range};
+ghost use Rattle.std.specs.Prelude.{◌≡◌, ◌<◌, ◌≤◌, ◌<ℤ◌, ◌++◌, AllPairs, IfOk, get_or, length, slice_range};
 ghost use Rattle.std.specs.List.{AllWithin};
 ghost use Rattle.std.specs.Thread.{IsSend, IsSync};
 ghost use Rattle.geom.specs.Order.{IsBefore};
@@ -16,6 +16,7 @@ ghost use Rattle.label_sweep.specs.Status.{AreVertices};
 
 use crate::directed::directed_edges;
 use crate::pass::sweep;
+use crate::vertices::is_left;
 use geom::{Counted, DirectedEdge, NoMemory, Op, Pt};
 use std::alloc::Allocator;
 use std::thread::{Threads, join};
@@ -25,6 +26,19 @@ use std::thread::{Threads, join};
 pub struct Strip {
     pub from: usize,
     pub to: usize,
+}
+
+impl Strip {
+    /// All vertices.
+    pub fn of_all(vertices: &[Pt]) -> Strip
+        ensures from { result.from ≡ 0 }
+        ensures to { result.to ≡ length vertices.now }
+    {
+        Strip {
+            from: 0,
+            to: vertices.len(),
+        }
+    }
 }
 
 /// The vertices of a strip that is worth a hand of its own.
@@ -40,13 +54,13 @@ fn middle_of(vertices: &[Pt], strip: Strip) -> usize
     ensures column { (u : Pt) → AllWithin (λ v. v.x <ℤ (get_or vertices.now result u).x) vertices.now strip.from result }
 {
     let middle = strip.from + (strip.to - strip.from) / 2;
-    let border = vertices[middle].x;
-    let left = vertices[strip.from..middle].partition_point(
-        |v: &Pt| -> bool
-            ensures { result ≡ int_lt v.now.x border }
-        { v.x < border },
-    );
-    strip.from + left
+    let end = vertices[middle];
+    let start = vertices.partition_point(|v| is_left(*v, end));
+    if start < strip.from {
+        strip.from
+    } else {
+        start
+    }
 }
 
 /// The directed edges of the result of an operation along the edges that begin in a strip.

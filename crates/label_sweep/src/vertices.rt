@@ -4,7 +4,7 @@
 //!    few are (`add_second_ends`).
 //! 3. The list is sorted, by a sort that keeps the run of the first ends, and rid of repeats (`vertices_of`).
 
-ghost use Rattle.std.specs.Prelude.{◌≡◌, ◌<◌, ◌≤◌, ◌⊎◌, All, AllPairs, Contains, IfOk, OnOk, false, length, true};
+ghost use Rattle.std.specs.Prelude.{◌≡◌, ◌<◌, ◌≤◌, ◌<ℤ◌, ◌≤ℤ◌, ◌⊎◌, All, AllPairs, Contains, IfOk, OnOk, false, int_lt, length, true};
 ghost use Rattle.std.specs.List.{AllWithin};
 ghost use Rattle.geom.specs.EdgeOrder.{IsEdgeBefore};
 ghost use Rattle.geom.specs.Order.{IsBefore, IsUpTo};
@@ -133,19 +133,21 @@ fn add_second_ends<A: Allocator>(
     Ok(())
 }
 
-/// The number of edges that begin before a vertex.
+/// Whether a point lies on the left of a vertex.
+pub fn is_left(p: Pt, v: Pt) -> bool
+    ensures { result ≡ int_lt p.x v.x }
+{
+    p.x < v.x
+}
+
+/// The number of edges that begin on the left of a vertex.
 pub fn first_of(counted: &[Counted], v: Pt) -> usize
     requires { AllPairs (λ c d. IsEdgeBefore c.edge d.edge) counted.now }
     ensures within { result ≤ length counted.now }
-    ensures before { AllWithin (λ c. IsBefore c.edge.p v) counted.now 0 result }
-    ensures past { AllWithin (λ c. ¬ (IsBefore c.edge.p v)) counted.now result (length counted.now) }
+    ensures left { AllWithin (λ c. c.edge.p.x <ℤ v.x) counted.now 0 result }
+    ensures right { AllWithin (λ c. v.x ≤ℤ c.edge.p.x) counted.now result (length counted.now) }
 {
-    counted.partition_point(
-        |one: &Counted| -> bool
-            requires { ⊤ }
-            ensures { MatchBool result (IsBefore one.now.edge.p v) (¬ (IsBefore one.now.edge.p v)) }
-        { one.edge.p < v },
-    )
+    counted.partition_point(|one| is_left(one.edge.p, v))
 }
 
 /// Whether an edge begins at a vertex or before.

@@ -1,20 +1,15 @@
-use Rattle.std.proofs.Common.{◌≡◌, ◌∙◌, ap}
+use Rattle.std.proofs.Common.{◌∙◌, ap, length, sym}
 use Rattle.face_label.proofs.Listing.{are_directed}
-use Rattle.geom.proofs.Orders.{directed_once}
-use Rattle.label_sweep.specs.Labels.{directed_of}
-use Rattle.label_sweep.proofs.Directing.{result_edges}
+use Rattle.label_sweep.proofs.Borders.{whole, whole_edges}
 use Rattle.label_sweep.proofs.directed.layer_labels.Goals as goal
 
+pub strip_edges-requires-clause-strip : goal.strip_edges-requires-clause-strip
+strip_edges-requires-clause-strip g c = whole c.args.counted.now c.deref-2.result.now (rw c.deref-2.ensures.value c.in_ok-vertices.ensures) c.of_all-all.result c.of_all-all.ensures.from (c.of_all-all.ensures.to ∙ ap length (c.deref.ensures.value ∙ sym c.deref-2.ensures.value))
+
 pub new-requires : goal.new-requires
-new-requires g c =
-    let e : c.in_ok-edges.edges.items ≡ directed_of c.args.op c.in_ok-labelled.labelled.items = c.in_ok-edges.ensures ∙ ap (directed_of c.args.op) c.deref.ensures.value in
-    are_directed c.args.op c.args.counted.now c.dedup.new.self.items
-    (result_edges c.args.op c.args.counted.now c.in_ok-labelled.labelled.items c.in_ok-labelled.ensures c.dedup.new.self.items
-    (rw e at (directed_once c.in_ok-edges.edges.items c.sort_unstable.new.self.items c.dedup.new.self.items c.sort_unstable.ensures.permutation c.sort_unstable.ensures.sorted c.dedup.ensures.filtered)))
+new-requires g c = are_directed c.args.op c.args.counted.now c.in_order.result.items
+    (whole_edges c.args.op c.args.counted.now c.deref-2.result.now (rw c.deref-2.ensures.value c.in_ok-vertices.ensures) c.of_all-all.result c.of_all-all.ensures.from (c.of_all-all.ensures.to ∙ ap length (c.deref.ensures.value ∙ sym c.deref-2.ensures.value)) c.in_ok-edges.edges.items c.in_ok-edges.ensures c.in_order.result.items c.in_order.ensures.ascending c.in_order.ensures.same)
 
 pub returns : goal.returns
-returns g c =
-    let e : c.in_ok-edges.edges.items ≡ directed_of c.args.op c.in_ok-labelled.labelled.items = c.in_ok-edges.ensures ∙ ap (directed_of c.args.op) c.deref.ensures.value in
-    rw c.new.ensures
-    (result_edges c.args.op c.args.counted.now c.in_ok-labelled.labelled.items c.in_ok-labelled.ensures c.dedup.new.self.items
-    (rw e at (directed_once c.in_ok-edges.edges.items c.sort_unstable.new.self.items c.dedup.new.self.items c.sort_unstable.ensures.permutation c.sort_unstable.ensures.sorted c.dedup.ensures.filtered)))
+returns g c = rw c.new.ensures
+    (whole_edges c.args.op c.args.counted.now c.deref-2.result.now (rw c.deref-2.ensures.value c.in_ok-vertices.ensures) c.of_all-all.result c.of_all-all.ensures.from (c.of_all-all.ensures.to ∙ ap length (c.deref.ensures.value ∙ sym c.deref-2.ensures.value)) c.in_ok-edges.edges.items c.in_ok-edges.ensures c.in_order.result.items c.in_order.ensures.ascending c.in_order.ensures.same)

@@ -45,7 +45,7 @@ returns-clause-labelled g c =
     let l = c.first_not_below-low.ensures in
     let k = c.first_above-high.ensures in
     let all : c.label.new.labelled.items ≡ c.args.self.now.labelled.items ++ labels_from left c.by_turn.new.spokes.items = c.in_ok-label.ensures ∙ ap (λ t. c.args.self.now.labelled.items ++ labels_from left t) c.deref.ensures.value in
-    rw all (labelled c.args.counted.now c.requires.layers c.args.v c.requires.vertex _ c.requires.swept _ _ (low_first c.args.v _ _ _ l.within l.below k.above)
+    λ first g. rw all (labelled c.args.counted.now c.requires.layers c.args.v c.requires.vertex _ c.requires.swept _ _ (low_first c.args.v _ _ _ l.within l.below k.above)
     l.below l.rest k.rest k.above k.within
     c.by_turn.new.spokes.items c.in_ok-by_turn.ensures.spokes c.in_ok-by_turn.ensures.inside left c.lowest_under-left.ensures
-    c.args.from c.args.next c.requires.begin c.args.self.now.labelled.items c.requires.labelled)
+    first c.args.from c.args.next c.requires.begin c.args.self.now.labelled.items g)
