@@ -11,5 +11,6 @@ pub mod Turning
 pub mod Passing
 pub mod Sweeping
 pub mod Directing
+pub mod Heights
 pub mod Chunks
 pub mod Places

@@ -1,5 +1,5 @@
 -- The edges that cross a column (own).
-use Rattle.std.specs.Prelude.{◌<ℤ◌, ◌≤ℤ◌, ◌↔◌, ℤ, List, AllPairs, Contains}
+use Rattle.std.specs.Prelude.{◌≡◌, ◌<ℤ◌, ◌≤ℤ◌, ◌↔◌, ℤ, List, AllPairs, Contains}
 use Rattle.geom.specs.declared.point.Pt.{Pt}
 use Rattle.geom.specs.declared.edge.Edge.{Edge}
 use Rattle.geom.specs.Order.{IsBefore}
@@ -11,10 +11,11 @@ pub record Crosses (es : List Edge) (x : ℤ) (e : Edge) : Type 0 where
   pub begun : e.p.x <ℤ x
   pub lasts : x ≤ℤ e.q.x
 
--- just the edges that cross it, from high to low
+-- just the edges that cross it, each once, from high to low
 pub record AreCrossing (es : List Edge) (x : ℤ) (crossing : List Edge) : Type 0 where
   pub exact : (e : Edge) → Contains crossing e ↔ Crosses es x e
   pub order : AllPairs (λ e f. IsUnder f e) crossing
+  pub distinct : AllPairs (λ e f. ¬ (e ≡ f)) crossing
 
 -- all vertices before v lie on the left of it
 abbrev pub BeginsColumn : List Edge → Pt → Type 0

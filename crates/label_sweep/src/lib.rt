@@ -1,6 +1,7 @@
 //! Labels of rounded edges by one sweep from left to right.
 #![tactic(auto)]
 
+mod column;
 mod directed;
 mod laws;
 mod parities;
