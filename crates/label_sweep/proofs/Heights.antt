@@ -1,5 +1,6 @@
 -- Height in a column is an order in which any two edges compare; of two noded edges one is higher, and it is nowhere under the other.
 use Rattle.std.proofs.Common.{◌≡◌, ⊎_elim, ◌⊎◌, inl, inr, Bool, true, false, int_lt, int_le, refl, sym, ap, ◌∙◌, subst, arith}
+use mathlib.Core.Bool.{false≢true}
 use Rattle.std.specs.Cmp.{IsStrictWeakOrder}
 use Rattle.std.specs.Prelude.{pos, ◌<ℤ◌, ◌≤ℤ◌, ◌&&◌}
 use Rattle.std.proofs.Math.IntN.{ℤ, ◌-ℤ◌, ◌+ℤ◌, ◌*ℤ◌, neg_ℤ}
@@ -9,7 +10,7 @@ use Rattle.geom.specs.declared.edge.Edge.{Edge}
 use Rattle.geom.proofs.Integers.{expand, linear}
 use Rattle.geom.proofs.Numbers.{nonneg, past_predecessor, below_successor, weak}
 use Rattle.points_law.proofs.Choices.{◌⊕◌, ◌∧∧◌, run, rise, MeetAtEnds}
-use Rattle.points_law.proofs.Column.{ab, cv, cv_low, cv_high, cv_run, one_above}
+use Rattle.points_law.proofs.Column.{ab, cv, cv_low, cv_high, cv_run, not_above_itself, one_above}
 use Rattle.points_law.proofs.Meet.{slope, gap}
 use Rattle.points_law.proofs.Next.{chain}
 use Rattle.points_law.proofs.Sign.{twice}
@@ -83,6 +84,11 @@ module _ (x : ℤ) where
   -- of two that meet only at ends one is higher
   pub one_higher : (e f : CrossingEdge) → AtHeight x e → AtHeight x f → MeetAtEnds (edge_of e) (edge_of f) → is_higher f e ⊕ is_higher e f ≡ true
   one_higher e f m n d = sym (λ i. above_is_higher f e n m i ⊕ above_is_higher e f m n i) ∙ one_above (edge_of e) (edge_of f) (x -ℤ pos 1) d (covers e m) (covers f n)
+
+  -- and not of one edge
+  pub higher_differs : (e f : CrossingEdge) → AtHeight x e → AtHeight x f → is_higher f e ≡ true → ¬ (edge_of e ≡ edge_of f)
+  higher_differs e f m n h s = false≢true (sym (not_above_itself (edge_of e) (x -ℤ pos 1))
+      ∙ subst (λ (t : Edge). ab t (edge_of e) (x -ℤ pos 1) ≡ true) (sym s) (above_is_higher f e n m ∙ h))
 
   -- ---- and what is lower is nowhere above
   either : (a b : ℤ) → pos 0 <ℤ (a +ℤ b) → (pos 0 <ℤ a) ⊎ (pos 0 <ℤ b)

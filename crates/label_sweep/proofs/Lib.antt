@@ -12,5 +12,6 @@ pub mod Passing
 pub mod Sweeping
 pub mod Directing
 pub mod Heights
+pub mod Crossing
 pub mod Chunks
 pub mod Places
