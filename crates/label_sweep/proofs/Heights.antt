@@ -1,14 +1,14 @@
 -- Height in a column is an order in which any two edges compare; of two noded edges one is higher, and it is nowhere under the other.
-use Rattle.std.proofs.Common.{◌≡◌, ⊎_elim, ◌⊎◌, inl, inr, Bool, true, false, int_lt, int_le, refl, sym, ap, ◌∙◌, subst, arith}
+use Rattle.std.proofs.Common.{◌≡◌, ⊎_elim, ◌⊎◌, Bool, true, false, int_lt, sym, ap, ◌∙◌, subst, arith}
 use mathlib.Core.Bool.{false≢true}
 use Rattle.std.specs.Cmp.{IsStrictWeakOrder}
-use Rattle.std.specs.Prelude.{pos, ◌<ℤ◌, ◌≤ℤ◌, ◌&&◌}
-use Rattle.std.proofs.Math.IntN.{ℤ, ◌-ℤ◌, ◌+ℤ◌, ◌*ℤ◌, neg_ℤ}
+use Rattle.std.specs.Prelude.{pos, ◌<ℤ◌, ◌≤ℤ◌}
+use Rattle.std.proofs.Math.IntN.{ℤ, ◌-ℤ◌, ◌+ℤ◌, ◌*ℤ◌}
 use Rattle.std.proofs.lemmas.Int.{ints}
 use lib.Signed.{lt_z, le_z}
 use Rattle.geom.specs.declared.edge.Edge.{Edge}
 use Rattle.geom.proofs.Integers.{expand, linear}
-use Rattle.geom.proofs.Numbers.{nonneg, past_predecessor, below_successor, weak}
+use Rattle.geom.proofs.Numbers.{nonneg, weak}
 use Rattle.points_law.proofs.Choices.{◌⊕◌, ◌∧∧◌, run, rise, MeetAtEnds}
 use Rattle.points_law.proofs.Column.{ab, cv, cv_low, cv_high, cv_run, not_above_itself, one_above}
 use Rattle.points_law.proofs.Meet.{slope, gap}

@@ -3,9 +3,8 @@
 //!    height in the middle of the column (`CrossingEdge::at`).
 //! 2. They are sorted by exact fractions, the highest first (`crossing`). Noded edges cross a column at different heights.
 
-ghost use Rattle.std.specs.Prelude.{◌≡◌, ◌<ℤ◌, ◌≤ℤ◌, ◌-ℤ◌, ◌*ℤ◌, ◌++◌, [], ◌∷◌, if◌then◌else◌, All, Contains, IfOk, OnOk, filter, map, pos};
+ghost use Rattle.std.specs.Prelude.{◌≡◌, ◌<ℤ◌, ◌≤ℤ◌, ◌*ℤ◌, ◌++◌, [], ◌∷◌, if◌then◌else◌, All, Contains, IfOk, IsPermutation, IsSortedBy, OnOk, filter, map, pos};
 ghost use Rattle.std.specs.Ordering.{is_lt};
-ghost use Rattle.std.specs.Prelude.{IsPermutation, IsSortedBy};
 ghost use Rattle.geom.specs.Limit.{AreInLimit};
 ghost use Rattle.geom.specs.Rounded.{edges_of};
 ghost use Rattle.points_law.specs.Law.{AreLayers};
@@ -17,7 +16,7 @@ use geom::{Counted, NoMemory, Pt};
 use std::alloc::Allocator;
 use std::cmp::Ordering;
 
-/// An edge that crosses a column: its run, and its height in the middle of the column, twice it, times the run.
+/// An edge that crosses a column, its run, and its height in the middle of the column: twice it, times the run.
 #[derive(Clone, Copy, Debug)]
 struct CrossingEdge {
     spoke: Spoke,

@@ -1,4 +1,4 @@
-use Rattle.std.proofs.Common.{◌≡◌, w32, FitsSigned, to_z, of_z, to_z-of_z, ◌++◌, [], ◌∷◌, cond, List, take, length, sym, ap, ◌∙◌, subst, arith}
+use Rattle.std.proofs.Common.{w32, to_z, of_z, to_z-of_z, ◌++◌, [], ◌∷◌, cond, List, take, sym, ap, ◌∙◌}
 use Rattle.std.specs.List.{filter}
 use Rattle.std.proofs.Math.IntN.{ℤ}
 use Rattle.std.proofs.lemmas.List.{take_all}
