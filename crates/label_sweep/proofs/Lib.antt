@@ -12,6 +12,8 @@ pub mod Passing
 pub mod Columns
 pub mod Sweeping
 pub mod Directing
+pub mod Heights
+pub mod Crossing
 pub mod Chunks
 pub mod Places
 pub mod Borders

@@ -43,13 +43,13 @@ of_no_slope f g h = fails _ (subst (λ (t : ℤ). t ≤ℤ pos 0) (sym (turn_is 
 turns_back : (rf sf rg sg : ℤ) → pos 0 <ℤ (rg *ℤ sf -ℤ rf *ℤ sg) → (rf *ℤ sg -ℤ rg *ℤ sf) ≤ℤ pos 0
 turns_back rf sf rg sg h = omega (arith, ints)
 
-under : (r a : ℤ) → pos 0 ≤ℤ r → a ≤ℤ pos 0 → (r *ℤ a) ≤ℤ pos 0
+pub under : (r a : ℤ) → pos 0 ≤ℤ r → a ≤ℤ pos 0 → (r *ℤ a) ≤ℤ pos 0
 under r a h i = back (r *ℤ a) (subst (λ (t : ℤ). pos 0 ≤ℤ t) (mul_neg r a) (mul_nonneg r (neg_ℤ a) h (negated_is_nonneg a i)))
   where
     back : (a : ℤ) → pos 0 ≤ℤ neg_ℤ a → a ≤ℤ pos 0
     back a h = omega (arith, ints)
 
-sloping_between : (re c x y : ℤ) → pos 0 <ℤ re → re *ℤ c ≡ x +ℤ y → x ≤ℤ pos 0 → y ≤ℤ pos 0 → c ≤ℤ pos 0
+pub sloping_between : (re c x y : ℤ) → pos 0 <ℤ re → re *ℤ c ≡ x +ℤ y → x ≤ℤ pos 0 → y ≤ℤ pos 0 → c ≤ℤ pos 0
 sloping_between re c x y h e i j = by_sign c (λ s. weak c s) (λ s. none c s) (λ s. absurd (clash (re *ℤ c) x y e i j (mul_pos re c h s)))
   where
     weak : (c : ℤ) → c <ℤ pos 0 → c ≤ℤ pos 0

@@ -33,13 +33,13 @@ abbrev pub edge_at : Spoke → Edge
 edge_at s = s.one.edge
 
 -- ---- of two that begin at one vertex one is steeper
-no_tie : (x y : Bool) → x ⊕ y ≡ true → not x && not y ≡ false
+pub no_tie : (x y : Bool) → x ⊕ y ≡ true → not x && not y ≡ false
 no_tie x y h = grind arith
 
-flipped : (x y : Bool) → x && y ≡ y && x
+pub flipped : (x y : Bool) → x && y ≡ y && x
 flipped x y = grind arith
 
-second : (x y : Bool) → y ≡ false → not x && not y ≡ false → x ≡ true
+pub second : (x y : Bool) → y ≡ false → not x && not y ≡ false → x ≡ true
 second x y h i = grind arith
 
 ties_flip : (s t : Spoke) → ties comes_first s t ≡ ties comes_first t s

@@ -1,5 +1,6 @@
 pub mod Status
 pub mod Column
+pub mod Heights
 pub mod Chunks
 pub mod Laws
 pub mod Labels
