@@ -2,12 +2,13 @@
 use Rattle.std.proofs.Common.{◌≡◌, ◌⊎◌, inl, inr, ⊎_elim, Bool, true, false, int_lt, ℕ, ◌+◌, ◌-◌, ◌/◌, ◌<◌, ◌≤◌, List, [], ◌∷◌, ◌++◌, map, length, get_or, take, drop, refl, sym, ap, ◌∙◌, subst, arith, append_assoc, FitsSigned, w32}
 use Rattle.std.specs.List.{AllPairs, AllWithin, Contains}
 use Rattle.std.specs.List.Sorted.{IsPartitionedBy}
-use Rattle.std.specs.Prelude.{slice_range, ◌<ℤ◌, ◌≤ℤ◌, ◌↔◌}
+use Rattle.std.specs.Prelude.{slice_range, IfOk, Result, Ok, Err, ◌<ℤ◌, ◌≤ℤ◌, ◌↔◌}
 use Rattle.std.proofs.Math.IntN.{ℤ}
 use Rattle.std.proofs.lemmas.Bool.{cases_lt}
 use Rattle.std.proofs.lemmas.Int.{ints}
 use Rattle.std.proofs.lemmas.List.{get_or_default, map-append}
 use Rattle.std.proofs.lemmas.List.Elements.{All-append, All-nil}
+use Rattle.std.specs.declared.vec.Vec.{Vec}
 use Rattle.geom.specs.declared.point.Pt.{Pt}
 use Rattle.geom.specs.declared.edge.Edge.{Edge}
 use Rattle.geom.specs.declared.edge.Counted.{Counted}
@@ -229,6 +230,10 @@ joined_edges op cs vs from m to l h w es fs d e = record {
         (λ k. in_front (map edge_of d.labelled) (map edge_of e.labelled) f (contains_in (map edge_of d.labelled) f (d.labels.all f c (in_contains (slice_range vs from m) f.p (in_range vs from m (omega (arith, h, w)) f.p n.0 n.1 k n.3)))))
         (λ k. in_back (map edge_of d.labelled) (map edge_of e.labelled) f (contains_in (map edge_of e.labelled) f (e.labels.all f c (in_contains (slice_range vs m to) f.p (in_range vs m to w f.p n.0 k n.2 n.3)))))
         (cases_lt n.0 m)
+
+pub if_joined : {A E : Type 0} (P : List DirectedEdge → Type 0) (es : List DirectedEdge) → P es → (r : Result (Vec DirectedEdge A) E) → IfOk r (λ v. v.items ≡ es) → IfOk r (λ v. P v.items)
+if_joined P es p (Ok v) e = subst P (sym e) p
+if_joined P es p (Err f) e = tt
 
 -- ---- all of them
 pub whole_edges : (op : Op) (cs : List Counted) (vs : List Pt) → AreVertices (edges_of cs) vs → (strip : Strip) → strip.from ≡ 0 → strip.to ≡ length vs

@@ -1,6 +1,7 @@
-use Rattle.std.proofs.Common.{◌++◌, arith, subst, sym}
-use Rattle.std.specs.Prelude.{IfOk}
-use Rattle.label_sweep.proofs.Borders.{back, joined_edges}
+use Rattle.std.proofs.Common.{◌++◌, subst}
+use Rattle.std.specs.Prelude.{IfOk, slice_range}
+use Rattle.label_sweep.specs.Labels.{AreDirectedFrom}
+use Rattle.label_sweep.proofs.Borders.{back, if_joined, joined_edges}
 use Rattle.label_sweep.proofs.strips.+strips.Goals as goal
 
 pub strip_edges_by_hands-halves_edges-requires-clause-back : goal.strip_edges_by_hands-halves_edges-requires-clause-back
@@ -8,8 +9,12 @@ strip_edges_by_hands-halves_edges-requires-clause-back g t c = λ κs l. back c.
 
 pub halves_edges-returns : goal.halves_edges-returns
 halves_edges-returns g t c =
-    let first : ⊥ = c.join-edges.ensures.first in
-    let was : ⊥ = c.in_ok-edges.was in
-    let is : ⊥ = c.in_ok-edges.is in
-    let e : ⊥ = c.joined.ensures in
-    _
+    let cs = c.args.counted.now in
+    let vs = c.args.vertices.now in
+    let from = c.args.front.from in
+    let to = c.args.back.to in
+    let edges = subst (λ r. IfOk r (λ v. AreDirectedFrom c.args.op cs (slice_range vs from c.args.front.to) v.items)) c.in_ok-edges.was c.join-edges.ensures.first in
+    let rest = subst (λ r. IfOk r (λ v. AreDirectedFrom c.args.op cs (slice_range vs c.args.back.from to) v.items)) c.in_ok-rest.was c.join-edges.ensures.second in
+    let middle = c.requires.next in
+    if_joined (AreDirectedFrom c.args.op cs (slice_range vs from to)) (c.in_ok-edges.field-0.items ++ c.in_ok-rest.field-0.items)
+    (joined_edges c.args.op cs vs from c.args.front.to to c.requires.front.order (rw middle c.requires.back.order) c.requires.back.within _ _ edges (rw middle rest)) c.joined.result c.joined.ensures
