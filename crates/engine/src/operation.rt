@@ -1,12 +1,18 @@
 //! The text that is wanted of two rounded layers: their edges, or the canonical line of an operation's result.
 
-ghost use Rattle.std.specs.Prelude.{IfOk};
+ghost use Rattle.std.specs.Prelude.{All, IfOk, List};
+ghost use Rattle.geom.specs.Directed.{AreResultEdges};
+ghost use Rattle.geom.specs.Limit.{AreInLimit};
+ghost use Rattle.geom.specs.Rings.{Closes};
+ghost use Rattle.geom.specs.declared.edge.Counted.{Counted};
+ghost use Rattle.geom.specs.declared.op.Op.{Op};
 ghost use Rattle.points_law.specs.Law.{AreLayers};
 ghost use Rattle.engine.specs.Results.{IsResultText, IsWantedText};
 
 use crate::text::{edges_text, edges_text_at_once};
+use face_label::Directed;
 use geom::{Counted, NoMemory, Op};
-use label_sweep::layer_labels;
+use label_sweep::{layer_labels, layer_labels_by_hands};
 use polygonize::polygons;
 use std::alloc::Allocator;
 use std::thread::Threads;
@@ -36,7 +42,7 @@ pub(crate) fn text_of<A: Allocator + Copy>(
     }
 }
 
-/// The same text, where workers make the lines of the edges.
+/// The same text, made by several workers at once.
 pub(crate) fn text_by_workers<A: Allocator + Copy + Send + Sync, R: Threads + Sync>(
     rt: &R,
     alloc: A,
@@ -49,7 +55,7 @@ pub(crate) fn text_by_workers<A: Allocator + Copy + Send + Sync, R: Threads + Sy
 {
     match wanted {
         Wanted::Edges => edges_text_at_once(rt, alloc, workers, counted),
-        Wanted::Apply(_) => text_of(alloc, wanted, counted),
+        Wanted::Apply(op) => result_text_by_workers(rt, alloc, workers, counted, op),
     }
 }
 
@@ -64,6 +70,30 @@ pub fn result_text<A: Allocator + Copy>(
     ensures { IfOk result (λ text. IsResultText op counted.now text.items) }
 {
     let directed = layer_labels(alloc, counted, op)?;
-    let polygons = polygons(alloc, &directed)?;
+    line_along(alloc, &directed)
+}
+
+/// The same line, where workers sweep.
+fn result_text_by_workers<A: Allocator + Copy + Send + Sync, R: Threads + Sync>(
+    rt: &R,
+    alloc: A,
+    workers: u32,
+    counted: &[Counted],
+    op: Op,
+) -> Result<Vec<u8, A>, NoMemory>
+    requires { AreLayers counted.now }
+    ensures { IfOk result (λ text. IsResultText op counted.now text.items) }
+{
+    let directed = layer_labels_by_hands(rt, workers, alloc, counted, op)?;
+    line_along(alloc, &directed)
+}
+
+/// The canonical line of the result that these directed edges bound.
+fn line_along<A: Allocator + Copy>(alloc: A, directed: &Directed<A>) -> Result<Vec<u8, A>, NoMemory>
+    requires closes { Closes directed.now }
+    requires in_limit { All (λ d. AreInLimit d.from d.to) directed.now }
+    ensures { IfOk result (λ text. (op : Op) (counted : List Counted) → AreLayers counted → AreResultEdges op counted directed.now → IsResultText op counted text.items) }
+{
+    let polygons = polygons(alloc, directed)?;
     write_multi(alloc, polygons.as_slice())
 }

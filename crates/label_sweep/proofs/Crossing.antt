@@ -80,7 +80,7 @@ module _ (cs : List Counted) (h : AreLayers cs) (x : ℤ) (found : List Crossing
       let b = inside j d k in
       let P : Edge → Type 0 = λ g. IsEdgeBefore (edge_of s) g in
       no_tie (is_higher s t) (is_higher t s) (one_higher x t s (measured t b) (measured s a)
-          ((edges_in cs h).noded (edge_of t) (edge_of s) (edge_in t b) (edge_in s a) (λ q. edge_before_itself (edge_of s) (subst P q (ascending i j d l k)))))
+      ((edges_in cs h).noded (edge_of t) (edge_of s) (edge_in t b) (edge_in s a) (λ q. edge_before_itself (edge_of s) (subst P q (ascending i j d l k)))))
 
   -- ---- and sorted
   module _ (sorted : List CrossingEdge) (p : IsPermutation found sorted) (o : IsSortedBy is_higher sorted) where

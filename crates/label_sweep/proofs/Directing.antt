@@ -46,6 +46,6 @@ module _ (op : Op) (cs : List Counted) where
         exact = λ d. (
           (λ h. listed_is ls each d (let P : List DirectedEdge → Type 0 = λ t. In d t in subst P a.along (contains_in es d ((same d).0 h)))),
           (λ r. (same d).1 (in_contains es d (let P : List DirectedEdge → Type 0 = λ t. In d t in
-          subst P (sym a.along) (is_listed ls each r.edge d (contains_in (map (λ (l : LabelledEdge). l.edge) ls) r.edge (a.labels.all r.edge r.rounded (all r.edge r.rounded))) r.runs r.bounds)))),
+              subst P (sym a.along) (is_listed ls each r.edge d (contains_in (map (λ (l : LabelledEdge). l.edge) ls) r.edge (a.labels.all r.edge r.rounded (all r.edge r.rounded))) r.runs r.bounds)))),
         );
       }

@@ -12,12 +12,12 @@ returns-clause-crossing g c =
     let found = c.in_ok-crossings in
     let sorted = c.sort_by_height in
     IfOk-weaker c.spokes_of.result _ _ (λ v e. subst (λ (t : ℤ). AreCrossing (edges_of cs) t (map (λ s. s.one.edge) v.items)) (to_z-of_z c.ranges.border)
-        (spokes_cross cs c.requires _ found.crossings.items found.ensures.listed found.ensures.measured sorted.new.crossings.items sorted.ensures.permutation sorted.ensures.sorted
-        v.items (e ∙ ap (map spoke_of) c.deref.ensures.value))) c.spokes_of.ensures
+    (spokes_cross cs c.requires _ found.crossings.items found.ensures.listed found.ensures.measured sorted.new.crossings.items sorted.ensures.permutation sorted.ensures.sorted
+    v.items (e ∙ ap (map spoke_of) c.deref.ensures.value))) c.spokes_of.ensures
 
 pub returns-clause-inside : goal.returns-clause-inside
 returns-clause-inside g c =
     let found = c.in_ok-crossings in
     let sorted = c.sort_by_height in
     IfOk-weaker c.spokes_of.result _ _ (λ v e. spokes_inside c.args.counted.now c.requires _ found.crossings.items found.ensures.listed found.ensures.measured
-        sorted.new.crossings.items sorted.ensures.permutation sorted.ensures.sorted v.items (e ∙ ap (map spoke_of) c.deref.ensures.value)) c.spokes_of.ensures
+    sorted.new.crossings.items sorted.ensures.permutation sorted.ensures.sorted v.items (e ∙ ap (map spoke_of) c.deref.ensures.value)) c.spokes_of.ensures

@@ -14,8 +14,10 @@ pub add_crossing-requires : goal.add_crossing-requires
 add_crossing-requires g c =
     let cs = c.args.counted.now in
     let one = c.one-item.result in
-    record { in_limit = All-contains (λ f. AreInLimit f.p f.q) (edges_of cs) one.edge c.requires
-        (in_contains (edges_of cs) one.edge (map_in (λ c. c.edge) cs one (contains_in cs one (c.loop-one.one-index, c.loop-one-test.true, sym c.one-item.is)))) }
+    record {
+      in_limit = All-contains (λ f. AreInLimit f.p f.q) (edges_of cs) one.edge c.requires
+          (in_contains (edges_of cs) one.edge (map_in (λ c. c.edge) cs one (contains_in cs one (c.loop-one.one-index, c.loop-one-test.true, sym c.one-item.is))));
+    }
 
 pub loop-one-preserved : goal.loop-one-preserved
 loop-one-preserved g c =

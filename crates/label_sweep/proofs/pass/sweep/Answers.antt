@@ -44,8 +44,8 @@ loop-number-preserved g c =
     let l = c.last_of-next.ensures in
     let k = c.in_ok-pass.ensures in (
       next_one c.args.counted.now c.args.vertices.now c.requires.vertices c.loop-number.number c.loop-number.next c.last_of-next.result (all_standing c.loop-number.line.standing) c.loop-number.invariant.0
-      (get_or c.args.vertices.now c.loop-number.number origin) (omega (arith, c.loop-number-test.true, c.requires.strip.within)) (get_or_default c.args.vertices.now c.loop-number.number origin _ (omega (arith, c.loop-number-test.true, c.requires.strip.within))) l.from l.within l.begun l.past
-      (all_standing c.pass.new.self.standing) k.swept,
+          (get_or c.args.vertices.now c.loop-number.number origin) (omega (arith, c.loop-number-test.true, c.requires.strip.within)) (get_or_default c.args.vertices.now c.loop-number.number origin _ (omega (arith, c.loop-number-test.true, c.requires.strip.within))) l.from l.within l.begun l.past
+          (all_standing c.pass.new.self.standing) k.swept,
       k.labelled c.first_of-start.result c.loop-number.invariant.1,
       k.chunked,
     )
