@@ -112,12 +112,12 @@ const ROWS: [Row; 17] = [
 ];
 
 /// A row, the side of a tile, the number of workers, and how the report begins.
-type Reported = (Row, u32, u32, &'static str);
+type ReportRow = (Row, u32, u32, &'static str);
 
 const FINE_REPORT: &str =
     "segments 4 4\nhot 10\nrecords 20\nedges 12\ntiles 1444\nremade 0\ntile 0 1 2\n";
 
-const REPORTED: [Reported; 10] = [
+const REPORTED: [ReportRow; 10] = [
     (COMMON, 16, 2, SQUARES_REPORT),
     (NOTHING, 16, 2, EMPTY_REPORT),
     (LARGE_ROW, 16, 1, FINE_REPORT),
@@ -134,7 +134,7 @@ const REPORTED: [Reported; 10] = [
 fn is_given<R: Threads + Wait + Sync>(
     rt: &R,
     alloc: Global,
-    reported: Reported,
+    reported: ReportRow,
 ) -> Result<bool, NoMemory> {
     let ((a, b, op, text), side, workers, report) = reported;
     let plan = Plan { side, workers };

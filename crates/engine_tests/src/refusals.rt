@@ -12,9 +12,9 @@ use std::thread::Threads;
 use tile_book::OpenGate;
 
 /// Two layers, the side of a tile, the number of workers, and what each command is refused for.
-type Refused = (&'static str, &'static str, u32, u32, Fault);
+type RefusalRow = (&'static str, &'static str, u32, u32, Fault);
 
-const REFUSED: [Refused; 13] = [
+const REFUSED: [RefusalRow; 13] = [
     (
         "POLYGON ((0 0, 268435457 0, 0 1, 0 0))",
         "",
@@ -66,7 +66,7 @@ fn is_refused<A: Allocator + Copy + Send + Sync, R: Threads + Wait + Sync>(
     alloc: A,
     room: Global,
     op: Option<Op>,
-    refused: Refused,
+    refused: RefusalRow,
 ) -> Result<bool, NoMemory> {
     let (a, b, side, workers, fault) = refused;
     let plan = Plan { side, workers };
@@ -81,7 +81,7 @@ fn is_always_refused<R: Threads + Wait + Sync>(
     rt: &R,
     alloc: Global,
     op: Option<Op>,
-    refused: Refused,
+    refused: RefusalRow,
 ) -> Result<bool, NoMemory> {
     let heap = Refusing::new(alloc, 0);
     let with_little = is_refused(rt, &heap, alloc, op, refused)?;

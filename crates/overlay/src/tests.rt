@@ -303,9 +303,9 @@ fn answers_command_lines(rt: HostRuntime) -> Result<(), Fail> {
 }
 
 /// A command, a layer that is refused, and the lines where it is the first layer and where it is the second one.
-type Refused = (&'static str, &'static str, &'static str, &'static str);
+type RefusalRow = (&'static str, &'static str, &'static str, &'static str);
 
-const REFUSED: [Refused; 12] = [
+const REFUSED: [RefusalRow; 12] = [
     (
         "edges",
         "decimal",

@@ -15,27 +15,27 @@ use std::thread;
 use std::thread::Threads;
 use tile_book::{Desk, Limited, Returned, Share, close};
 
-const POSTED: [(u32, Posted); 5] = [
-    (2, Posted::Accepted),
-    (0, Posted::Accepted),
-    (2, Posted::Double),
-    (5, Posted::Stranger),
-    (1, Posted::Accepted),
+const POSTED: [(u32, PostAnswer); 5] = [
+    (2, PostAnswer::Accepted),
+    (0, PostAnswer::Accepted),
+    (2, PostAnswer::Double),
+    (5, PostAnswer::Stranger),
+    (1, PostAnswer::Accepted),
 ];
 
 #[derive(Clone, Copy, PartialEq, Eq, Debug)]
-enum Posted {
+enum PostAnswer {
     Accepted,
     Stranger,
     Double,
 }
 
 /// What was answered, where a piece that came back has its number.
-fn told(answer: Result<(), Returned<Note>>, number: u32) -> Option<Posted> {
+fn told(answer: Result<(), Returned<Note>>, number: u32) -> Option<PostAnswer> {
     match answer {
-        Ok(()) => Some(Posted::Accepted),
-        Err(Returned::Stranger(note)) if note.number == number => Some(Posted::Stranger),
-        Err(Returned::Double(note)) if note.number == number => Some(Posted::Double),
+        Ok(()) => Some(PostAnswer::Accepted),
+        Err(Returned::Stranger(note)) if note.number == number => Some(PostAnswer::Stranger),
+        Err(Returned::Double(note)) if note.number == number => Some(PostAnswer::Double),
         Err(_) => None,
     }
 }
@@ -148,7 +148,7 @@ fn no_numbers<L: Limited, R: Wait + Abort>(rt: &R, alloc: Global, blank: Blank) 
         return Err(Fail::from("one share"));
     };
     let (share, answer) = desk.post(rt, share, Note { number: 0 });
-    assert!(rt; told(answer, 0) == Some(Posted::Stranger));
+    assert!(rt; told(answer, 0) == Some(PostAnswer::Stranger));
     let Err((desk, mut shares)) = close(desk, shares) else {
         return Err(Fail::from("the share is missing"));
     };

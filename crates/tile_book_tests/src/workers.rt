@@ -19,10 +19,10 @@ use tile_book::{
 
 /// How many pieces can be made, the limit of the book, and what one worker of five numbers leaves: whether its draw is
 /// finished, how many pieces came back, its fault, and the numbers that the book accepted.
-type Worked = (u32, u16, (bool, u32, Option<Fault>), &'static [u32]);
+type WorkRow = (u32, u16, (bool, u32, Option<Fault>), &'static [u32]);
 
 /// In the second the draw goes on past the limit of the book, which sends those pieces back.
-const WORKED: [Worked; 3] = [
+const WORKED: [WorkRow; 3] = [
     (5, 5, (true, 0, None), &[0, 1, 2, 3, 4]),
     (5, 3, (true, 2, None), &[0, 1, 2]),
     (3, 5, (false, 0, Some(Fault::Memory)), &[0, 1, 2]),

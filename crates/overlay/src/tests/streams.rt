@@ -10,7 +10,7 @@ use std::test::Fail;
 
 /// Takes two bytes at a call, and fails so many times before each of these.
 #[derive(Drop)]
-struct Interrupted {
+struct InterruptedPrinter {
     kind: ErrorKind,
     times: u32,
     left: Cell<u32>,
@@ -18,7 +18,7 @@ struct Interrupted {
     taken: Cell<u64>,
 }
 
-impl Print for Interrupted {
+impl Print for InterruptedPrinter {
     fn print<D: Display + Drop>(&self, _value: D) -> io::Result<()> {
         Ok(())
     }
@@ -61,7 +61,7 @@ const CASES: [Case; 5] = [
 #[test]
 fn writes_again_where_interrupted(rt: HostRuntime) -> Result<(), Fail> {
     for (kind, times, taken, all) in CASES {
-        let printer = Interrupted {
+        let printer = InterruptedPrinter {
             kind,
             times,
             left: Cell::new(times),
