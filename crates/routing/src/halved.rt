@@ -6,10 +6,11 @@
 //! 4. Each line is tested against each hot pixel that was found there. Where it meets one, each segment on the line has a
 //!    record.
 
-ghost use Rattle.std.specs.Prelude.{◌≡◌, ◌<◌, ◌≤◌, All, IfOk, OnOk, length};
+ghost use Rattle.std.specs.Prelude.{◌≡◌, ◌<◌, ◌≤◌, All, IfOk, IfSome, OnOk, length};
+ghost use Rattle.geom.specs.declared.rect.Rect.{Rect};
 ghost use Rattle.geom.specs.Limit.{AreInLimit, InLimit};
 ghost use Rattle.hot_pixel.specs.Candidates.{chosen, AreOwnedHot};
-ghost use Rattle.hot_pixel.specs.Halving.{edges_of, HasHot};
+ghost use Rattle.hot_pixel.specs.Halving.{edges_of, ArePassing, HasHot};
 ghost use Rattle.hot_pixel.specs.Rects.{IsIn};
 ghost use Rattle.routing.specs.Found.{HasRecords};
 ghost use Rattle.routing.specs.Pieces.{candidates_of};
@@ -130,6 +131,33 @@ fn add_all<A: Allocator + Copy>(
     Ok(())
 }
 
+/// The lines that may pass a half of a rectangle. None stands for all of them, which so never stand in memory twice.
+fn fewer<A: Allocator>(
+    alloc: A,
+    half: &Rect,
+    lines: &[Line],
+) -> Result<Option<Vec<Line, A>>, NoMemory>
+    requires half_in { AreInLimit half.now.lo half.now.hi }
+    requires lines_in { All (λ l. AreInLimit l.edge.p l.edge.q) lines.now }
+    ensures { IfOk result (λ f. IfSome f (λ part. ArePassing half.now lines.now part.items)) }
+{
+    let part = passing(alloc, half, lines)?;
+    if part.len() == lines.len() {
+        return Ok(None);
+    }
+    Ok(Some(part))
+}
+
+/// The lines that a half is left with: the fewer ones, or all.
+fn left_of<'a, A: Allocator>(lines: &'a [Line], fewer: &'a Option<Vec<Line, A>>) -> &'a [Line]
+    ensures { (half : Rect) → IfSome fewer.now (λ part. ArePassing half lines.now part.items) → ArePassing half lines.now result.now }
+{
+    match fewer {
+        Some(part) => part,
+        None => lines,
+    }
+}
+
 /// Adds the pixels of a rectangle that are hot for its lines, and the records there. Where the lines are many it has none if
 /// they run side by side, and else it is halved, and each half is left with those that may pass it.
 fn halve<A: Allocator + Copy>(
@@ -158,11 +186,13 @@ fn halve<A: Allocator + Copy>(
     match cut(rect, lines) {
         None => add_all(alloc, segments, table, rect, lines, found),
         Some((first, second)) => {
-            let part = passing(alloc, &first, lines)?;
-            halve(alloc, segments, table, &first, &part, depth - 1, found)?;
+            let part = fewer(alloc, &first, lines)?;
+            let left = left_of(lines, &part);
+            halve(alloc, segments, table, &first, left, depth - 1, found)?;
             drop(part);
-            let rest = passing(alloc, &second, lines)?;
-            halve(alloc, segments, table, &second, &rest, depth - 1, found)?;
+            let rest = fewer(alloc, &second, lines)?;
+            let left = left_of(lines, &rest);
+            halve(alloc, segments, table, &second, left, depth - 1, found)?;
             Ok(())
         }
     }
