@@ -1,5 +1,5 @@
 -- Strips of vertices: where one is parted, and which edges begin in it.
-use Rattle.std.proofs.Common.{◌≡◌, ◌⊎◌, inl, inr, ⊎_elim, Bool, true, false, int_lt, ℕ, ◌+◌, ◌-◌, ◌/◌, ◌<◌, ◌≤◌, List, [], ◌∷◌, ◌++◌, map, length, get_or, take, drop, refl, sym, ap, ◌∙◌, subst, arith, append_assoc, FitsSigned, w32}
+use Rattle.std.proofs.Common.{◌≡◌, ◌⊎◌, inl, inr, ⊎_elim, true, false, int_lt, ℕ, ◌+◌, ◌-◌, ◌/◌, ◌<◌, ◌≤◌, List, [], ◌∷◌, ◌++◌, map, length, get_or, take, drop, refl, sym, ap, ◌∙◌, subst, arith, append_assoc, FitsSigned, w32}
 use Rattle.std.specs.List.{AllPairs, AllWithin, Contains}
 use Rattle.std.specs.List.Sorted.{IsPartitionedBy}
 use Rattle.std.specs.Prelude.{slice_range, IfOk, Result, Ok, Err, ◌<ℤ◌, ◌≤ℤ◌, ◌↔◌}
@@ -29,7 +29,7 @@ use Rattle.label_sweep.specs.declared.standing.LabelledEdge.{LabelledEdge}
 use Rattle.label_sweep.specs.declared.strips.Strip.{Strip}
 use Rattle.label_sweep.specs.Column.{BeginsColumn, IsStrip}
 use Rattle.label_sweep.specs.Labels.{AreDirectedFrom, AreLabelsFrom, AreLabelsWithin, IsLabelled, IsSweptUpTo, directed_of, directions_of}
-use Rattle.label_sweep.specs.Status.{AreVertices, IsVertexOf}
+use Rattle.label_sweep.specs.Status.{AreVertices}
 use Rattle.label_sweep.proofs.Directing.{result_edges}
 use Rattle.label_sweep.proofs.Members.{part_in, within_part}
 use Rattle.label_sweep.proofs.Sweeping.{IsSwept, vertex_at}

@@ -31,7 +31,7 @@ use Rattle.label_sweep.specs.declared.standing.StandingEdge.{StandingEdge}
 use Rattle.label_sweep.specs.declared.standing.LabelledEdge.{LabelledEdge}
 use Rattle.label_sweep.specs.Column.{AreCrossing, BeginsColumn, Crosses}
 use Rattle.label_sweep.specs.Labels.{BeginsWith, IsLabelled, IsSweptUpTo, beyond, labels_from, parities_at, standing_of, stands_from}
-use Rattle.label_sweep.specs.Status.{AreStanding, IsUnder, IsVertexOf, Reaches}
+use Rattle.label_sweep.specs.Status.{AreStanding, IsUnder, Reaches}
 use Rattle.label_sweep.proofs.Labelling.{Chained, labelled}
 use Rattle.label_sweep.proofs.Members.{all_of_in, in_of_all, in_reverse, reverse_in, reverse_cons, map_reverse}
 use Rattle.label_sweep.proofs.Passing.{edge_of}

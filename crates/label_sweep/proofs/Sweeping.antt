@@ -1,24 +1,21 @@
 -- From vertex to vertex: the edges before a number begin before the coming vertex, and what stands reaches it.
-use Rattle.std.proofs.Common.{◌≡◌, inl, inr, ⊎_elim, ℕ, ◌+◌, ◌-◌, ◌<◌, ◌≤◌, List, [], ◌∷◌, map, length, get_or, take, refl, sym, ap, ◌∙◌, subst, arith}
+use Rattle.std.proofs.Common.{◌≡◌, inl, inr, ⊎_elim, ℕ, ◌+◌, ◌-◌, ◌<◌, ◌≤◌, List, map, length, get_or, refl, sym, ap, ◌∙◌, subst, arith}
 use Rattle.std.specs.List.{AllWithin, Contains}
 use Rattle.std.specs.Prelude.{slice_range}
 use Rattle.std.proofs.lemmas.Bool.{cases_eq, cases_lt}
-use Rattle.std.proofs.lemmas.List.{get_or_default, take_all}
-use Rattle.std.proofs.lemmas.List.Elements.{All-nil}
+use Rattle.std.proofs.lemmas.List.{get_or_default}
 use Rattle.geom.specs.declared.point.Pt.{Pt}
-use Rattle.geom.specs.declared.edge.Edge.{Edge}
 use Rattle.geom.specs.declared.edge.Counted.{Counted}
 use Rattle.geom.specs.Order.{IsBefore, IsUpTo}
-use Rattle.geom.specs.ResultEdges.{right_side}
 use Rattle.geom.specs.Rounded.{edges_of}
 use Rattle.geom.proofs.Lists.{In, in_contains, contains_in, map_in}
 use Rattle.geom.proofs.Orders.{before_itself, before_trans}
 use Rattle.label_sweep.specs.declared.standing.StandingEdge.{StandingEdge}
 use Rattle.label_sweep.specs.Labels.{IsSweptTo, IsSweptUpTo}
-use Rattle.label_sweep.specs.Status.{AreVertices, IsRangeAt, IsUnder, IsVertexOf, Reaches}
+use Rattle.label_sweep.specs.Status.{AreVertices, IsRangeAt, IsVertexOf}
 use Rattle.label_sweep.proofs.Ends.{after_upto}
 use Rattle.label_sweep.proofs.Members.{part_in, within_part}
-use Rattle.label_sweep.proofs.Words.{pairs_to, standing_reaches}
+use Rattle.label_sweep.proofs.Words.{standing_reaches}
 
 -- before the vertex with this number
 pub record IsSwept (cs : List Counted) (vs : List Pt) (k next : ℕ) (standing : List StandingEdge) : Type 0 where

@@ -1,5 +1,5 @@
 -- The edges that cross a column (own).
-use Rattle.std.specs.Prelude.{◌≡◌, ◌<ℤ◌, ◌≤ℤ◌, ◌<◌, ◌≤◌, ◌↔◌, ℕ, ℤ, List, AllPairs, Contains, get_or, length}
+use Rattle.std.specs.Prelude.{◌≡◌, ◌<ℤ◌, ◌≤ℤ◌, ◌<◌, ◌≤◌, ◌↔◌, ℤ, List, AllPairs, Contains, get_or, length}
 use Rattle.geom.specs.declared.point.Pt.{Pt}
 use Rattle.geom.specs.declared.edge.Edge.{Edge}
 use Rattle.geom.specs.Order.{IsBefore}

@@ -1,7 +1,4 @@
-use Rattle.std.proofs.Common.{◌≡◌, ◌∙◌, sym, ap, subst, reverse, List, to_z-of_z}
-use Rattle.label_sweep.specs.declared.standing.Spoke.{Spoke}
-use Rattle.label_sweep.specs.Chunks.{all_standing}
-use Rattle.label_sweep.specs.Labels.{stands_from}
+use Rattle.std.proofs.Common.{to_z-of_z}
 use Rattle.label_sweep.proofs.Borders.{fits}
 use Rattle.label_sweep.proofs.Passing.{vertex_in_limit}
 use Rattle.label_sweep.proofs.Columns.{column_is_swept}
