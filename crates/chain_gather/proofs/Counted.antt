@@ -107,7 +107,7 @@ paired_are g pixels records hot found tiles h k p = record {
 }
 
 -- ---- the pieces of all cells
-pairs_append : {X : Type 0} (R : X → X → Type 0) (xs ys : List X) → AllPairs R xs → AllPairs R ys → ((x y : X) → Contains xs x → Contains ys y → R x y) → AllPairs R (xs ++ ys)
+pub pairs_append : {X : Type 0} (R : X → X → Type 0) (xs ys : List X) → AllPairs R xs → AllPairs R ys → ((x y : X) → Contains xs x → Contains ys y → R x y) → AllPairs R (xs ++ ys)
 pairs_append R [] ys h k apart = k
 pairs_append R (x ∷ xs) ys h k apart = pairs_cons R x (xs ++ ys)
     (λ c m. ⊎_elim (λ a. head_pair R x xs c h a) (λ b. apart x c (first x xs) b) (Contains-append_cases xs ys c m))

@@ -1,6 +1,8 @@
 pub mod Flat
 pub mod Walk
 pub mod Tally
+pub mod LinkParts
+pub mod RecordParts
 pub mod Gathering
 pub mod Boxes
 pub mod Near

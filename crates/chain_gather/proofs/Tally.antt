@@ -4,6 +4,7 @@ use Rattle.std.specs.Prelude.{AllPairs, Contains, count_by, ◌&&◌, not}
 use Rattle.std.specs.Cmp.{IsTotalOrder}
 use Rattle.std.specs.List.Sorted.{IsPermutation, IsSorted}
 use Rattle.std.specs.Ordering.{ordering_then, MatchOrdering, is_lt}
+use Rattle.std.proofs.lemmas.Bool.{cases_lt}
 use Rattle.std.proofs.lemmas.List.{get_or_default, take_all, take_more}
 use Rattle.std.proofs.lemmas.List.Elements.{Contains-get_or, Contains-push, Contains-push_cases}
 use Rattle.std.proofs.lemmas.List.Quantifiers.{all_pairs_push}
@@ -22,7 +23,7 @@ use Rattle.hot_pixel.proofs.ListLaws.{in_cons, here, none_in, in_push, in_take_m
 use Rattle.chain_gather.specs.Orders.{layer_number, link_order}
 use Rattle.geom.proofs.Orders.{edge_cmp, edge_total, edge_ranks, edge_before_itself, edge_before_trans, same_edge_true}
 use Rattle.chain_gather.specs.declared.link.Link.{Link}
-use Rattle.chain_gather.specs.Links.{same_edge, is_of, count_links, AreCounts}
+use Rattle.chain_gather.specs.Links.{same_edge, is_of, count_links, AreCounts, AreInOrder}
 
 -- the k-th link
 pub record IsAt {X : Type 0} (xs : List X) (k : ℕ) (x : X) : Type 0 where
@@ -70,6 +71,17 @@ count_has {X = X} p (x ∷ xs) h = by_test (count_has p xs) (p x) refl
     by_test rest true e = (x, here x xs, e)
     by_test rest false e = let c = sum_by-cons (λ y. cond {A = ℕ} (p y) 1 0) x xs in let d = no_one (p x) e in let (y, k, f) = rest (omega arith) in (y, in_cons x xs y k, f)
 
+-- an edge with a count has a link
+pub linked : (links : List Link) (e : Edge) → 0 < count_links e A links + count_links e B links → (m : Link) × Contains links m × (e ≡ m.edge)
+linked links e p = by_count (count_links e A links) refl
+  where
+    found : (layer : Source) → 0 < count_links e layer links → (m : Link) × Contains links m × (e ≡ m.edge)
+    found layer q = let (m, k, is) = count_has (is_of e layer) links q in (m, k, same_edge_true e m.edge (and_both _ _ is).0)
+
+    by_count : (n : ℕ) → count_links e A links ≡ n → (m : Link) × Contains links m × (e ≡ m.edge)
+    by_count zero is = found B (omega arith)
+    by_count (suc n) is = found A (omega arith)
+
 -- ---- the loop
 abbrev pub IsExact : List Link → Counted → Type 0
 IsExact links c = (count_links c.edge A links ≡ c.in_a) × (count_links c.edge B links ≡ c.in_b) × (0 < c.in_a + c.in_b)
@@ -95,10 +107,15 @@ AreAscending links = (i j : ℕ) (l m : Link) → i ≤ j → IsAt links i l →
 pub link_total : IsTotalOrder link_order
 link_total = then_total (on_total (λ (l : Link). l.edge) edge_total) (on_total (λ (l : Link). layer_number l.layer) nat_cmp_total)
 
-pub ascending_from : (R : Link → Link → Ordering) (total : IsTotalOrder R) → ((l m : Link) → (o : Ordering) × (R l m ≡ ordering_then (edge_cmp l.edge m.edge) o)) → (links : List Link) → IsSorted R links → AreAscending links
-ascending_from R total by links up i j l m h at at' =
-    let a : get_or links j l ≡ m = get_or_default links j l m at'.below ∙ at'.item in
-    subst (λ (n : Link). IsUpTo l.edge n.edge) a (subst (λ (n : Link). IsUpTo n.edge (get_or links j l).edge) at.item (sorted_edges R total by links up i j l h at'.below))
+pub ascending_in_order : (links : List Link) → AreInOrder links → AreAscending links
+ascending_in_order links up i j l m h at at' = elim (cases_lt i j) [
+  | inl below ↦
+      let a : get_or links j l ≡ m = get_or_default links j l m at'.below ∙ at'.item in
+      subst (λ (p : Link × Link). IsUpTo p.0.edge p.1.edge) (λ t. (at.item t, a t)) (up i j l below at'.below)
+  | inr same ↦
+      let e : i ≡ j = omega arith in
+      inl (ap (λ (n : Link). n.edge) (sym at.item ∙ get_or_default links i l m at.below ∙ ap (λ (n : ℕ). get_or links n m) e ∙ at'.item))
+]
 
 -- what `!=` says of two edges
 pub ne_apart : (e f : Edge) (b : Bool) → b ≡ not (same_edge e f) → b ≡ true → e ≡ f → ⊥
@@ -199,8 +216,8 @@ tally_small links i list current h = (small A current.in_a h.in_a, small B curre
     small layer n e = let a = count_by-le-length (is_of current.edge layer) (take i links) in let b = length-take i links in omega arith
 
 -- all are counted
-pub counts_are : (links sorted : List Link) (i : ℕ) (list : List Counted) (current : Counted) → IsPermutation links sorted → length sorted ≤ i → 0 < length sorted → IsTally sorted i list current → HasBegun sorted i current → AreCounts links (list ++ current ∷ [])
-counts_are links sorted i list current moved l n h begun = record {
+pub counts_are : (sorted : List Link) (i : ℕ) (list : List Counted) (current : Counted) → length sorted ≤ i → 0 < length sorted → IsTally sorted i list current → HasBegun sorted i current → AreCounts sorted (list ++ current ∷ [])
+counts_are sorted i list current l n h begun = record {
   ascending = all_pairs_push (λ c d. IsEdgeBefore c.edge d.edge) list current h.ascending (λ k d a. h.below (get_or list k d) (Contains-get_or list k d a));
   exact = λ c. (to c, from c);
 }
@@ -208,14 +225,14 @@ counts_are links sorted i list current moved l n h begun = record {
     whole : take i sorted ≡ sorted
     whole = take_all i sorted l
 
-    moved_count : (e : Edge) (layer : Source) → count_links e layer links ≡ count_links e layer (take i sorted)
-    moved_count e layer = sym (sum_by-IsPermutation (λ m. cond (is_of e layer m) 1 0) links sorted moved) ∙ ap (λ (ls : List Link). count_links e layer ls) (sym whole)
+    whole_count : (e : Edge) (layer : Source) → count_links e layer sorted ≡ count_links e layer (take i sorted)
+    whole_count e layer = ap (λ (ls : List Link). count_links e layer ls) (sym whole)
 
     each : (c : Counted) → Contains (list ++ current ∷ []) c → IsExact (take i sorted) c
     each c k = ⊎_elim (λ m. h.counted c m) (λ e. subst (λ (d : Counted). IsExact (take i sorted) d) e (h.in_a, h.in_b, ⊎_elim (λ p. absurd (let q = p.0 in omega arith)) (λ p. p) begun)) (Contains-push_cases list current c k)
 
-    to : (c : Counted) → Contains (list ++ current ∷ []) c → IsExact links c
-    to c k = let (a, b, p) = each c k in (moved_count c.edge A ∙ a, moved_count c.edge B ∙ b, p)
+    to : (c : Counted) → Contains (list ++ current ∷ []) c → IsExact sorted c
+    to c k = let (a, b, p) = each c k in (whole_count c.edge A ∙ a, whole_count c.edge B ∙ b, p)
 
     -- the list has an entry for the edge of each link
     entry : (m : Link) → Contains (take i sorted) m → (d : Counted) × Contains (list ++ current ∷ []) d × (d.edge ≡ m.edge)
@@ -227,20 +244,10 @@ counts_are links sorted i list current moved l n h begun = record {
         let g : d.in_b ≡ c.in_b = sym b' ∙ ap (λ (g : Edge). count_links g B (take i sorted)) e ∙ b in
         λ j. record { edge = e j; in_a = f j; in_b = g j }
 
-    some_link : (c : Counted) → IsExact (take i sorted) c → (m : Link) × Contains (take i sorted) m × (c.edge ≡ m.edge)
-    some_link c (a, b, p) = by_count (count_links c.edge A (take i sorted)) refl
-      where
-        found : (layer : Source) → 0 < count_links c.edge layer (take i sorted) → (m : Link) × Contains (take i sorted) m × (c.edge ≡ m.edge)
-        found layer q = let (m, k, e) = count_has (is_of c.edge layer) (take i sorted) q in (m, k, same_edge_true c.edge m.edge (and_both _ _ e).0)
-
-        by_count : (n : ℕ) → count_links c.edge A (take i sorted) ≡ n → (m : Link) × Contains (take i sorted) m × (c.edge ≡ m.edge)
-        by_count zero e = found B (omega arith)
-        by_count (suc n) e = found A (omega arith)
-
-    from : (c : Counted) → IsExact links c → Contains (list ++ current ∷ []) c
+    from : (c : Counted) → IsExact sorted c → Contains (list ++ current ∷ []) c
     from c (a, b, p) =
-        let exact : IsExact (take i sorted) c = (sym (moved_count c.edge A) ∙ a, sym (moved_count c.edge B) ∙ b, p) in
-        let (m, k, e) = some_link c exact in
+        let exact : IsExact (take i sorted) c = (sym (whole_count c.edge A) ∙ a, sym (whole_count c.edge B) ∙ b, p) in
+        let (m, k, e) = linked (take i sorted) c.edge (let a = exact.0 in let b = exact.1 in omega arith) in
         let (d, g, f) = entry m k in
         subst (λ (u : Counted). Contains (list ++ current ∷ []) u) (same_entry c d exact (each d g) (f ∙ sym e)) g
 

@@ -1,5 +1,5 @@
 -- Records of all segments in order, links between neighbours of one segment, and how often each edge is a link (own).
-use Rattle.std.specs.Prelude.{◌≡◌, ◌≢◌, ◌⊎◌, ◌↔◌, ℕ, ◌+◌, ◌<◌, ◌^◌, ◌==◌, Bool, ◌&&◌, List, [], ◌∷◌, AllPairs, Contains, count_by, length, map, slice_index_or}
+use Rattle.std.specs.Prelude.{◌≡◌, ◌≢◌, ◌⊎◌, ◌↔◌, ℕ, ◌+◌, ◌-◌, ◌<◌, ◌≤◌, ◌^◌, ◌==◌, Bool, ◌&&◌, List, [], ◌∷◌, AllPairs, Contains, count_by, get_or, length, map, slice_index_or}
 use Rattle.geom.specs.declared.point.Pt.{Pt}
 use Rattle.geom.specs.declared.segment.Source.{Source}
 use Rattle.geom.specs.declared.segment.Source.TheVariants.{A, B}
@@ -54,6 +54,23 @@ record_pairs (r ∷ q ∷ rs) = (r, q) ∷ record_pairs (q ∷ rs)
 -- the pair is a link of the edge and the layer
 abbrev pub makes : (ℕ → Source) → Edge → Source → Record × Record → Bool
 makes layers e layer pair = (pair.0.segment == pair.1.segment) && (joins e (pair.0.pixel, pair.1.pixel) && same_source (layers pair.0.segment) layer)
+
+-- the links are those of neighbours among the records
+pub record AreNeighbourLinks (segments : List Seg) (records : List Record) (links : List Link) : Type 0 where
+  pub few : length links ≤ length records
+  pub count_is : (e : Edge) (layer : Source) → count_links e layer links ≡ count_by (makes (layer_at segments) e layer) (record_pairs records)
+
+-- the record at the place, if there is one, is of another segment than the one before
+abbrev pub ChangesSegment : List Record → ℕ → Type 0
+ChangesSegment records place = (d : Record) → place < length records → (get_or records (place - 1) d).segment ≢ (get_or records place d).segment
+
+-- the links are sorted by their edges
+abbrev pub AreInOrder : List Link → Type 0
+AreInOrder links = AllPairs (λ l m. (l.edge ≡ m.edge) ⊎ IsEdgeBefore l.edge m.edge) links
+
+-- the edges of the links go before those of the others
+abbrev pub GoBefore : List Link → List Link → Type 0
+GoBefore front back = (l m : Link) → Contains front l → Contains back m → IsEdgeBefore l.edge m.edge
 
 -- each edge is a link of a layer as often as its ends are neighbours in the routes of the layer's segments
 pub record AreLinks (segments : List Seg) (links : List Link) : Type 0 where

@@ -1,12 +1,12 @@
 //! How many hot pixels and how many records each tile of a grid has, wherever they were found.
 //!
-//! 1. The hot pixels are counted in the tiles that own them, and so are the records, by their pixels (`count_both`).
+//! 1. The hot pixels are counted in the tiles that own them, and so are the records, by their pixels (`count_by_tile`).
 //! 2. Both counts of a tile are its numbers (`paired`).
 
-ghost use Rattle.std.specs.Prelude.{◌≡◌, ◌≢◌, All, AllPairs, IfOk, OnOk, length, replicate};
+ghost use Rattle.std.specs.Prelude.{◌≡◌, ◌≢◌, All, AllPairs, IfOk, length};
 ghost use Rattle.geom.specs.declared.point.Pt.{Pt};
 ghost use Rattle.tiling.specs.Tiles.{HasTile, tile_count};
-ghost use Rattle.chain_gather.specs.Numbers.{ArePaired, AreTileCounts, MayCount};
+ghost use Rattle.chain_gather.specs.Numbers.{AreNumbersOf, ArePaired, AreTileCounts, MayCount};
 
 use crate::rounded::TileNumbers;
 use geom::{NoMemory, Pt};
@@ -39,13 +39,17 @@ impl AtPixel for Record {
     }
 }
 
-/// Counts in each tile how many of some items it has. More than a `u32` counts are refused as want of memory.
-fn count_by_tile<X: AtPixel>(grid: &Grid, items: &[X], counts: &mut [u32]) -> Result<(), NoMemory>
+/// How many of some items each tile has. More than a `u32` counts are refused as want of memory.
+fn count_by_tile<X: AtPixel, A: Allocator>(
+    alloc: A,
+    grid: &Grid,
+    items: &[X],
+) -> Result<Vec<u32, A>, NoMemory>
     requires tiles { All (λ x. HasTile grid.now (X.pixel_of x)) items.now }
     requires once { AllPairs (λ x y. x ≢ y) items.now }
-    requires none { counts.old ≡ replicate (tile_count grid.now) 0 }
-    ensures { OnOk result (AreTileCounts grid.now X.pixel_of items.now counts.new) }
+    ensures { IfOk result (λ v. AreTileCounts grid.now X.pixel_of items.now v.items) }
 {
+    let mut counts = vec![in alloc; 0u32; grid.tiles() as usize]?;
     for item in items {
         let tile = grid.tile_of(item.pixel()) as usize;
         let Some(count) = counts[tile].checked_add(1) else {
@@ -53,11 +57,11 @@ fn count_by_tile<X: AtPixel>(grid: &Grid, items: &[X], counts: &mut [u32]) -> Re
         };
         counts[tile] = count;
     }
-    Ok(())
+    Ok(counts)
 }
 
 /// Two counts of each tile.
-pub(crate) fn paired<A: Allocator>(
+fn paired<A: Allocator>(
     alloc: A,
     hot: &[u32],
     records: &[u32],
@@ -75,18 +79,18 @@ pub(crate) fn paired<A: Allocator>(
     Ok(tiles)
 }
 
-/// Counts in each tile how many of the hot pixels and how many of the records it has.
-pub(crate) fn count_both(
+/// How many of the hot pixels and how many of the records each tile has. More than a `u32` counts are refused as want of
+/// memory.
+pub(crate) fn numbers_of<A: Allocator + Copy>(
+    alloc: A,
     grid: &Grid,
     pixels: &[Pt],
     records: &[Record],
-    hot: &mut [u32],
-    found: &mut [u32],
-) -> Result<(), NoMemory>
-    requires may { MayCount grid.now pixels.now records.now }
-    requires none { (hot.old ≡ replicate (tile_count grid.now) 0) × (found.old ≡ replicate (tile_count grid.now) 0) }
-    ensures { OnOk result (AreTileCounts grid.now (λ p. p) pixels.now hot.new × AreTileCounts grid.now (λ r. r.pixel) records.now found.new) }
+) -> Result<Vec<TileNumbers, A>, NoMemory>
+    requires { MayCount grid.now pixels.now records.now }
+    ensures { IfOk result (λ v. AreNumbersOf grid.now pixels.now records.now v.items) }
 {
-    count_by_tile(grid, pixels, hot)?;
-    count_by_tile(grid, records, found)
+    let hot = count_by_tile(alloc, grid, pixels)?;
+    let found = count_by_tile(alloc, grid, records)?;
+    paired(alloc, &hot, &found)
 }

@@ -202,7 +202,7 @@ fn gathered_made<T: Tiled>(
     requires covered { HaveTiles grid.now segments.now }
 {
     let pieces: Vec<TilePiece<T, Global>> = pieces_of(alloc, cells, segments)?;
-    gather_made(alloc, &OneThread, pieces, 0, cells, grid, segments)
+    gather_made(alloc, pieces, 0, cells, grid, segments)
 }
 
 // The row over tiles of side 16, from the pieces of cells of this side.

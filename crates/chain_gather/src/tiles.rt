@@ -1,6 +1,7 @@
 //! Gathering the pieces of all tiles.
 
 ghost use Rattle.std.specs.Prelude.{◌≡◌, ◌+◌, ◌<◌, ◌≤◌, ◌++◌, ◌∷◌, [], All, IfOk, List, OnOk, length};
+ghost use Rattle.std.specs.Thread.{IsSend, IsSync};
 ghost use Rattle.geom.specs.Limit.{AreInLimit};
 ghost use Rattle.geom.specs.Noded.{IsNoded};
 ghost use Rattle.geom.specs.declared.segment.Seg.{Seg};
@@ -15,15 +16,18 @@ ghost use Rattle.chain_gather.specs.Links.{AreLinks, AreRecords, HasRecords};
 ghost use Rattle.chain_gather.specs.Numbers.{AreNumbersOf, MayCount};
 ghost use Rattle.tile_book.specs.Books.{StandInOrder};
 
-use crate::hands::{Hands, OneThread};
-use crate::link::{Link, counts, links};
-use crate::numbers::paired;
+use crate::counting::{counts, counts_by_hands};
+use crate::even_parts::{sorted, sorted_by_hands};
+use crate::link::Link;
+use crate::linking::{links, links_by_hands};
+use crate::numbers::numbers_of;
 use crate::own::own_piece;
 use crate::rounded::{Rounded, TileNumbers};
 use crate::tile_piece::{TilePiece, Tiled};
-use geom::{NoMemory, Pt, Seg};
+use geom::{Counted, NoMemory, Pt, Seg};
 use routing::{Part, Piece, Record, piece};
 use std::alloc::Allocator;
+use std::thread::{Threads, join};
 use tile_book::{Book, Limited};
 use tiling::{Bins, Grid, MOST_TILES};
 
@@ -144,25 +148,24 @@ pub fn gather<L: Limited, A: Allocator + Copy>(
         remade,
     } = all_tiles(alloc, &book, grid, bins, segments)?;
     drop(book);
-    let records = in_order(&OneThread, records);
+    let records = in_order(records);
     let list = links(alloc, segments, &records)?;
     drop(records);
-    rounded_of(alloc, &OneThread, segments, list, tiles, remade)
+    let edges = counts(alloc, list)?;
+    Ok(rounded_of(segments, edges, tiles, remade))
 }
 
 /// As `gather`, of the pieces of all cells in their order, which are known to be those of the segments over these cells:
 /// nothing is binned, compared or made anew. The cells needn't be the tiles of the grid, whose numbers are counted from what
 /// the pieces have.
-pub fn gather_made<T: Tiled, H: Hands, A: Allocator + Copy>(
+pub fn gather_made<T: Tiled, A: Allocator + Copy>(
     alloc: A,
-    hands: &H,
     pieces: Vec<TilePiece<T, A>, A>,
     remade: u32,
     cells: &Grid,
     grid: &Grid,
     segments: &[Seg],
 ) -> Result<Rounded<A>, NoMemory>
-    requires ready { H.ready hands.now }
     requires cells { cells.now ≡ T.grid }
     requires segments { segments.now ≡ T.segments }
     requires covered_by_cells { HaveTiles cells.now segments.now }
@@ -177,11 +180,57 @@ pub fn gather_made<T: Tiled, H: Hands, A: Allocator + Copy>(
 {
     let Part { pixels, records } = all_made(alloc, &pieces)?;
     drop(pieces);
-    let records = in_order(hands, records);
-    let (tiles, list) = counted_and_linked(alloc, hands, grid, segments, &pixels, &records)?;
+    let records = in_order(records);
+    let tiles = numbers_of(alloc, grid, &pixels, &records)?;
+    let list = links(alloc, segments, &records)?;
     drop(pixels);
     drop(records);
-    rounded_of(alloc, hands, segments, list, tiles, remade)
+    let edges = counts(alloc, list)?;
+    Ok(rounded_of(segments, edges, tiles, remade))
+}
+
+/// As `gather_made`, by so many hands, each in a thread of its own.
+pub fn gather_made_by_hands<T: Tiled, A: Allocator + Copy + Send + Sync, R: Threads + Sync>(
+    rt: &R,
+    alloc: A,
+    hands: usize,
+    pieces: Vec<TilePiece<T, A>, A>,
+    remade: u32,
+    cells: &Grid,
+    grid: &Grid,
+    segments: &[Seg],
+) -> Result<Rounded<A>, NoMemory>
+    requires cells { cells.now ≡ T.grid }
+    requires segments { segments.now ≡ T.segments }
+    requires covered_by_cells { HaveTiles cells.now segments.now }
+    requires covered { HaveTiles grid.now segments.now }
+    requires one_each { length pieces.items ≡ tile_count cells.now }
+    requires in_order { StandInOrder (λ p. p.number) pieces.items }
+    ensures rounded { IfOk result (λ r. ∥ AreRounded segments.now r.edges.items ∥₁) }
+    ensures noded { IfOk result (λ r. IsNoded (edges_of r.edges.items)) }
+    ensures even { IfOk result (λ r. (layer : Source) → AreClosed layer segments.now → HasEvenDegrees (odd_edges layer r.edges.items)) }
+    ensures tiles { IfOk result (λ r. AreTileNumbers grid.now segments.now (tile_count grid.now) r.tiles.items) }
+    ensures remade { IfOk result (λ r. r.remade ≡ remade) }
+{
+    let Part { pixels, records } = all_made(alloc, &pieces)?;
+    drop(pieces);
+    let records = in_order_by_hands(rt, hands, records);
+    let (tiles, list) = numbers_and_links(rt, alloc, hands, grid, segments, &pixels, &records);
+    drop(pixels);
+    drop(records);
+    let tiles = tiles?;
+    let edges = counts_by_hands(rt, alloc, hands, list?)?;
+    Ok(rounded_of(segments, edges, tiles, remade))
+}
+
+/// How many hot pixels and how many records pieces have together.
+fn room_for<T: Tiled, A: Allocator>(pieces: &[TilePiece<T, A>]) -> (usize, usize) {
+    let (mut hot, mut found) = (0usize, 0usize);
+    for piece in pieces {
+        hot = hot.saturating_add(piece.pixels.len());
+        found = found.saturating_add(piece.records.len());
+    }
+    (hot, found)
 }
 
 /// The hot pixels and the records of pieces that stand in the order of their cells.
@@ -192,8 +241,9 @@ fn all_made<T: Tiled, A: Allocator + Copy>(
     requires { StandInOrder (λ p. p.number) pieces.now }
     ensures { IfOk result (λ f. ∥ HasPartsBelow T.grid T.segments (length pieces.now) f.pixels.items f.records.items ∥₁) }
 {
-    let mut pixels = Vec::new(alloc);
-    let mut records = Vec::new(alloc);
+    let (hot, found) = room_for(pieces);
+    let mut pixels = Vec::with_capacity(alloc, hot)?;
+    let mut records = Vec::with_capacity(alloc, found)?;
     for piece in pieces {
         pixels.extend_from_slice(&piece.pixels)?;
         records.extend_from_slice(&piece.records)?;
@@ -201,68 +251,81 @@ fn all_made<T: Tiled, A: Allocator + Copy>(
     Ok(Part { pixels, records })
 }
 
-/// The numbers of the tiles of a grid, and the links of the records of all routes.
-fn counted_and_linked<H: Hands, A: Allocator + Copy>(
+/// The numbers of the tiles of a grid, and the links of the records of all routes: where there are several hands, one counts
+/// and the others link.
+fn numbers_and_links<R: Threads + Sync, A: Allocator + Copy + Send + Sync>(
+    rt: &R,
     alloc: A,
-    hands: &H,
+    hands: usize,
     grid: &Grid,
     segments: &[Seg],
     pixels: &[Pt],
     records: &[Record],
-) -> Result<(Vec<TileNumbers, A>, Vec<Link, A>), NoMemory>
-    requires ready { H.ready hands.now }
+) -> (
+    Result<Vec<TileNumbers, A>, NoMemory>,
+    Result<Vec<Link, A>, NoMemory>,
+)
     requires may { MayCount grid.now pixels.now records.now }
     requires records { ∥ AreRecords segments.now records.now ∥₁ }
-    ensures numbers { IfOk result (λ r. AreNumbersOf grid.now pixels.now records.now r.0.items) }
-    ensures links { IfOk result (λ r. ∥ AreLinks segments.now r.1.items ∥₁) }
+    ensures numbers { IfOk result.0 (λ v. AreNumbersOf grid.now pixels.now records.now v.items) }
+    ensures links { IfOk result.1 (λ v. ∥ AreLinks segments.now v.items ∥₁) }
 {
-    let mut hot = vec![in alloc; 0u32; grid.tiles() as usize]?;
-    let mut found = vec![in alloc; 0u32; grid.tiles() as usize]?;
-    let (counted, list) = hands.count_and_link(
-        alloc,
-        grid,
-        segments,
-        pixels,
-        records,
-        hot.as_mut_slice(),
-        found.as_mut_slice(),
-    );
-    counted?;
-    let tiles = paired(alloc, &hot, &found)?;
-    Ok((tiles, list?))
+    if hands < 2 {
+        let tiles = numbers_of(alloc, grid, pixels, records);
+        return (tiles, links(alloc, segments, records));
+    }
+    join(
+        rt,
+        || -> Result<Vec<TileNumbers, A>, NoMemory>
+            requires { MayCount grid.now pixels.now records.now }
+            ensures { IfOk result (λ v. AreNumbersOf grid.entry.now pixels.entry.now records.entry.now v.items) }
+        { numbers_of(alloc, grid, pixels, records) },
+        || -> Result<Vec<Link, A>, NoMemory>
+            requires { IsSync R.row × IsSend A.row × IsSync A.row × (2 ≤ hands) × ∥ AreRecords segments.now records.now ∥₁ }
+            ensures { IfOk result (λ v. ∥ AreLinks segments.entry.now v.items ∥₁) }
+        { links_by_hands(rt, alloc, hands - 1, segments, records) },
+    )
 }
 
 /// Records in order, each once.
-fn in_order<H: Hands, A: Allocator>(hands: &H, mut records: Vec<Record, A>) -> Vec<Record, A>
-    requires { H.ready hands.now }
+fn in_order<A: Allocator>(records: Vec<Record, A>) -> Vec<Record, A>
     ensures { (segments : List Seg) → HasRecords segments records.items → AreRecords segments result.items }
 {
-    hands.sort_records(records.as_mut_slice());
+    let mut records = sorted(records);
     records.dedup();
     records
 }
 
-/// The rounded edges, by the links of all segments.
-fn rounded_of<H: Hands, A: Allocator + Copy>(
-    alloc: A,
-    hands: &H,
+/// The same, by so many hands.
+fn in_order_by_hands<R: Threads + Sync, A: Allocator>(
+    rt: &R,
+    hands: usize,
+    records: Vec<Record, A>,
+) -> Vec<Record, A>
+    ensures { (segments : List Seg) → HasRecords segments records.items → AreRecords segments result.items }
+{
+    let mut records = sorted_by_hands(rt, hands, records);
+    records.dedup();
+    records
+}
+
+/// What was gathered, by the rounded edges of segments.
+fn rounded_of<A: Allocator>(
     segments: &[Seg],
-    list: Vec<Link, A>,
+    edges: Vec<Counted, A>,
     tiles: Vec<TileNumbers, A>,
     remade: u32,
-) -> Result<Rounded<A>, NoMemory>
-    requires ready { H.ready hands.now }
-    requires links { ∥ AreLinks segments.now list.items ∥₁ }
-    ensures rounded { IfOk result (λ r. ∥ AreRounded segments.now r.edges.items ∥₁) }
-    ensures noded { IfOk result (λ r. IsNoded (edges_of r.edges.items)) }
-    ensures even { IfOk result (λ r. (layer : Source) → AreClosed layer segments.now → HasEvenDegrees (odd_edges layer r.edges.items)) }
-    ensures tiles { IfOk result (λ r. r.tiles.items ≡ tiles.items) }
-    ensures remade { IfOk result (λ r. r.remade ≡ remade) }
+) -> Rounded<A>
+    requires { ∥ AreRounded segments.now edges.items ∥₁ }
+    ensures rounded { ∥ AreRounded segments.now result.edges.items ∥₁ }
+    ensures noded { IsNoded (edges_of result.edges.items) }
+    ensures even { (layer : Source) → AreClosed layer segments.now → HasEvenDegrees (odd_edges layer result.edges.items) }
+    ensures tiles { result.tiles.items ≡ tiles.items }
+    ensures remade { result.remade ≡ remade }
 {
-    let edges = counts(alloc, hands, list)?;
-    Ok(Rounded {
+    Rounded {
         edges,
         tiles,
         remade,
-    })
+    }
 }

@@ -16,7 +16,7 @@ use crate::engine::{Output, Plan, or_fault, with_report};
 use crate::operation::{Wanted, text_of};
 use crate::reading::{read_segments, reading};
 use crate::rounds::Pieces;
-use chain_gather::{OneThread, Tiled, gather_made};
+use chain_gather::{Tiled, gather_made};
 use geom::{NoMemory, Op, RunFault, Seg};
 use noding_test::{Noded, settled};
 use std::alloc::Allocator;
@@ -145,7 +145,7 @@ fn by_cells_alone<T: Tiled, A: Allocator + Copy>(
     };
     let pieces = in_turn(alloc, &job, cells.tiles())?;
     drop(bins);
-    let rounded = gather_made(alloc, &OneThread, pieces, 0, cells, grid, segments)?;
+    let rounded = gather_made(alloc, pieces, 0, cells, grid, segments)?;
     Ok(settled(rounded))
 }
 

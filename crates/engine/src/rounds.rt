@@ -12,7 +12,7 @@ use crate::cells::{bins_of, cells_of};
 use crate::checking::{CheckedInput, Reading};
 use crate::reading::read_segments;
 use crate::text::Report;
-use chain_gather::{TileNumbers, TilePiece, Tiled, Workers, gather_made};
+use chain_gather::{TileNumbers, TilePiece, Tiled, gather_made_by_hands};
 use geom::{NoMemory, Seg};
 use noding_test::{Noded, settled};
 use routing::part;
@@ -147,8 +147,8 @@ fn by_cells<
     )?;
     drop(bins);
     let most = remade.min(grid.tiles());
-    let hands = Workers { rt, count: workers };
-    let rounded = gather_made(alloc, &hands, pieces, most, cells, grid, segments)?;
+    let hands = workers as usize;
+    let rounded = gather_made_by_hands(rt, alloc, hands, pieces, most, cells, grid, segments)?;
     Ok(settled(rounded))
 }
 

@@ -9,6 +9,9 @@ use itoa::{Buffer, Integer};
 use std::alloc::{AllocError, Allocator};
 use std::thread::{Threads, join};
 
+// How many bytes the line of an edge has at most, where its ends are of up to six digits and its counts of one.
+const LINE: usize = 32;
+
 /// The program's exit status at a fault: 1 where memory or the sink failed, otherwise 3.
 pub fn status(fault: &RunFault) -> u8
     ensures { result ≡ status_of fault.now }
@@ -80,18 +83,35 @@ fn push_edge<A: Allocator>(text: &mut Vec<u8, A>, counted: Counted) -> Result<()
     Ok(())
 }
 
+/// Room for the lines of so many edges, in bytes, as long as they are in most maps.
+fn room_for(edges: usize) -> usize {
+    edges.saturating_mul(LINE)
+}
+
 /// A line for each rounded edge.
 pub fn edges_text<A: Allocator>(alloc: A, edges: &[Counted]) -> Result<Vec<u8, A>, NoMemory>
     ensures { IfOk result (λ text. text.items ≡ edges_text_of edges.now) }
 {
-    let mut text = Vec::new(alloc);
+    text_with_room(alloc, edges, room_for(edges.len()))
+}
+
+/// The same, with room for so many bytes at first.
+fn text_with_room<A: Allocator>(
+    alloc: A,
+    edges: &[Counted],
+    room: usize,
+) -> Result<Vec<u8, A>, NoMemory>
+    ensures { IfOk result (λ text. text.items ≡ edges_text_of edges.now) }
+{
+    let mut text = Vec::with_capacity(alloc, room)?;
     for counted in edges {
         push_edge(&mut text, *counted)?;
     }
     Ok(text)
 }
 
-/// The same text, whose parts are made at once by several workers: two by two or three, four by more.
+/// The same text, whose parts are made at once by several workers: two by two or three, four by more. The first part has room
+/// for all, so that the others are put behind it where it stands.
 pub(crate) fn edges_text_at_once<A: Allocator + Copy + Send + Sync, R: Threads + Sync>(
     rt: &R,
     alloc: A,
@@ -100,31 +120,37 @@ pub(crate) fn edges_text_at_once<A: Allocator + Copy + Send + Sync, R: Threads +
 ) -> Result<Vec<u8, A>, NoMemory>
     ensures { IfOk result (λ text. text.items ≡ edges_text_of edges.now) }
 {
+    let room = room_for(edges.len());
     if workers < 2 {
         return edges_text(alloc, edges);
     }
     if workers < 4 {
-        return halved_text(rt, alloc, edges);
+        return halved_text(rt, alloc, edges, room);
     }
     let (front, back) = edges.split_at(edges.len() / 2);
     let (text, rest) = join(
         rt,
-        || halved_text(rt, alloc, front),
-        || halved_text(rt, alloc, back),
+        || halved_text(rt, alloc, front, room),
+        || halved_text(rt, alloc, back, room / 2),
     );
     joined(text?, rest?)
 }
 
-/// The same text, whose halves are made at once.
+/// The same text, whose halves are made at once, the first with room for so many bytes.
 fn halved_text<A: Allocator + Copy + Send + Sync, R: Threads + Sync>(
     rt: &R,
     alloc: A,
     edges: &[Counted],
+    room: usize,
 ) -> Result<Vec<u8, A>, NoMemory>
     ensures { IfOk result (λ text. text.items ≡ edges_text_of edges.now) }
 {
     let (front, back) = edges.split_at(edges.len() / 2);
-    let (text, rest) = join(rt, || edges_text(alloc, front), || edges_text(alloc, back));
+    let (text, rest) = join(
+        rt,
+        || text_with_room(alloc, front, room),
+        || edges_text(alloc, back),
+    );
     joined(text?, rest?)
 }
 

@@ -3,8 +3,11 @@
 ghost use Rattle.std.specs.Prelude.{List};
 
 use super::*;
+use crate::by_range::Keyed;
+use crate::even_parts::{sorted, sorted_by_hands};
 use crate::link::Link;
 use routing::Record;
+use std::thread::Threads;
 
 // Pairs of a segment and its steps, and the same in order.
 const FEW: [(&[(u32, u32)], &[(u32, u32)]); 6] = [
@@ -25,8 +28,8 @@ const FEW: [(&[(u32, u32)], &[(u32, u32)]); 6] = [
 // A prime number of segments, so that the multiples of a number below it reach each place.
 const LONG: u32 = 10_007;
 
-// By how many places the next segment stands further, and how far apart the segments' numbers are: in order, falling, and mixed, with numbers of one
-// digit, two and more.
+// By how many places the next segment stands further, and how far apart the segments' numbers are: in order, falling, and mixed,
+// in a range that is cut into values once, and in wider ones.
 const SPREADS: [(u32, u32); 5] = [
     (1, 1),
     (1, 100),
@@ -51,32 +54,47 @@ fn are_records(list: &[Record], expected: &[(u32, u32)]) -> bool {
             .all(|(record, pair)| (record.segment, record.steps) == *pair)
 }
 
-fn sorts_few<H: Hands>(alloc: Global, hands: &H) -> Result<bool, NoMemory>
-    requires { H.ready hands.now }
-{
+// A list in order: by the calling thread alone where there are no hands.
+fn in_order<R: Threads + Sync, T: Ord + Keyed + Copy + Send>(
+    rt: &R,
+    hands: usize,
+    list: Vec<T, Global>,
+) -> Vec<T, Global> {
+    if hands == 0 {
+        sorted(list)
+    } else {
+        sorted_by_hands(rt, hands, list)
+    }
+}
+
+fn sorts_few<R: Threads + Sync>(rt: &R, alloc: Global, hands: usize) -> Result<bool, NoMemory> {
     let mut all = true;
     for (pairs, expected) in FEW {
         let mut list = Vec::new(alloc);
         for (segment, steps) in pairs {
             list.push(record(*segment, *steps))?;
         }
-        hands.sort_records(list.as_mut_slice());
+        let list = in_order(rt, hands, list);
         all = all && are_records(&list, expected);
     }
     Ok(all)
 }
 
 // Two records of each segment.
-fn sorts_spread<H: Hands>(alloc: Global, hands: &H, step: u32, gap: u32) -> Result<bool, NoMemory>
-    requires { H.ready hands.now }
-{
+fn sorts_spread<R: Threads + Sync>(
+    rt: &R,
+    alloc: Global,
+    hands: usize,
+    step: u32,
+    gap: u32,
+) -> Result<bool, NoMemory> {
     let mut list = Vec::new(alloc);
     for at in 0..LONG {
         let segment = (at.wrapping_mul(step) % LONG).wrapping_mul(gap);
         list.push(record(segment, 1))?;
         list.push(record(segment, 0))?;
     }
-    hands.sort_records(list.as_mut_slice());
+    let list = in_order(rt, hands, list);
     Ok(
         list.len() == 2 * LONG as usize
             && list.iter().enumerate().all(|(at, found)| {
@@ -86,9 +104,12 @@ fn sorts_spread<H: Hands>(alloc: Global, hands: &H, step: u32, gap: u32) -> Resu
 }
 
 // A link of each layer over each of many edges, from (0, 0) to (0, 1) and so on.
-fn sorts_links<H: Hands>(alloc: Global, hands: &H, step: u32) -> Result<bool, NoMemory>
-    requires { H.ready hands.now }
-{
+fn sorts_links<R: Threads + Sync>(
+    rt: &R,
+    alloc: Global,
+    hands: usize,
+    step: u32,
+) -> Result<bool, NoMemory> {
     let mut list = Vec::new(alloc);
     for at in 0..LONG {
         let x = (at.wrapping_mul(step) % LONG) as i32;
@@ -99,7 +120,7 @@ fn sorts_links<H: Hands>(alloc: Global, hands: &H, step: u32) -> Result<bool, No
             list.push(Link { edge, layer })?;
         }
     }
-    hands.sort_links(list.as_mut_slice());
+    let list = in_order(rt, hands, list);
     Ok(
         list.len() == 2 * LONG as usize
             && list.iter().enumerate().all(|(at, link)| {
@@ -109,27 +130,20 @@ fn sorts_links<H: Hands>(alloc: Global, hands: &H, step: u32) -> Result<bool, No
     )
 }
 
-fn sorts_all<H: Hands>(alloc: Global, hands: &H) -> Result<bool, NoMemory>
-    requires { H.ready hands.now }
-{
-    let mut all = sorts_few(alloc, hands)?;
+fn sorts_all<R: Threads + Sync>(rt: &R, alloc: Global, hands: usize) -> Result<bool, NoMemory> {
+    let mut all = sorts_few(rt, alloc, hands)?;
     for (step, gap) in SPREADS {
-        all = all && sorts_spread(alloc, hands, step, gap)? && sorts_links(alloc, hands, step)?;
+        all = all
+            && sorts_spread(rt, alloc, hands, step, gap)?
+            && sorts_links(rt, alloc, hands, step)?;
     }
     Ok(all)
 }
 
 #[test]
-fn one_thread_sorts(rt: HostRuntime) -> Result<(), Fail> {
-    assert!(rt; sorts_all(rt.alloc(), &OneThread)?);
-    Ok(())
-}
-
-#[test]
-fn workers_sort(rt: HostRuntime) -> Result<(), Fail> {
-    for count in [1, 2, 3, 4, 7] {
-        let hands = Workers { rt: &rt, count };
-        assert!(rt; sorts_all(rt.alloc(), &hands)?, "{count}");
+fn all_sort(rt: HostRuntime) -> Result<(), Fail> {
+    for hands in [0, 1, 2, 3, 4, 7] {
+        assert!(rt; sorts_all(&rt, rt.alloc(), hands)?, "{hands}");
     }
     Ok(())
 }

@@ -1,6 +1,6 @@
-use Rattle.std.proofs.Common.{◌∙◌, ◌<◌, ap, arith, get_or, length, subst, sym, List}
+use Rattle.std.proofs.Common.{ℕ, ◌∙◌, ◌<◌, ap, arith, length, refl, replicate, subst, sym, List}
 use Rattle.std.proofs.lemmas.List.{take_all}
-use Rattle.std.proofs.lemmas.Option.{slice_get-get_or}
+use Rattle.std.proofs.lemmas.Option.{slice_get_read}
 use Rattle.geom.specs.declared.point.Pt.{Pt}
 use Rattle.tiling.specs.Tiles.{HasTile, Owns}
 use Rattle.chain_gather.specs.Numbers.{AreTileCounts}
@@ -9,7 +9,7 @@ use Rattle.chain_gather.proofs.Gathering.{owner_below}
 use Rattle.chain_gather.proofs.numbers.count_by_tile.Goals as goal
 
 pub loop-item-init : goal.loop-item-init
-loop-item-init g c = counted_none c.args.grid.now g.X.AtPixel.pixel_of c.args.items.now _ c.requires.none
+loop-item-init g c = counted_none c.args.grid.now g.X.AtPixel.pixel_of c.args.items.now _ (c.in_ok-counts.ensures.items_if_clones_equal (λ y h. h) ∙ ap (λ (n : ℕ). replicate n 0) c.tiles.ensures.value)
 
 pub tile_of-tile-requires : goal.tile_of-tile-requires
 tile_of-tile-requires g c =
@@ -21,14 +21,13 @@ pub loop-item-preserved : goal.loop-item-preserved
 loop-item-preserved g c =
     let grid = c.args.grid.now in
     let tile = c.tile_of-tile.result in
-    let counts = c.loop-item.counts in
+    let counts = c.loop-item.counts.items in
     let owner = c.tile_of-tile.ensures.owner in
     let below = owner_below grid tile c.pixel.result owner in
     let size = c.loop-item.invariant.one_each in
     let within : tile < length counts = omega (arith, below, size) in
-    let at = slice_get-get_or counts tile 0 within in
     counted_more grid g.X.AtPixel.pixel_of c.args.items.now c.loop-item.item-index tile c.item-item.result c.loop-item-test.true c.item-item.is c.requires.once
-    (subst (λ (p : Pt). Owns grid tile p) c.pixel.ensures owner) counts (get_or counts tile 0) c.in-Some.count c.loop-item.invariant at c.in-Some.ensures.1
+    (subst (λ (p : Pt). Owns grid tile p) c.pixel.ensures owner) counts c.index.result.now c.in-Some.count c.loop-item.invariant (slice_get_read counts (length counts) tile c.index.result.now refl within c.index.ensures) c.in-Some.ensures.1
 
 pub returns : goal.returns
-returns g c = subst (λ (xs : List g.row.X.Denot). AreTileCounts c.args.grid.now g.X.AtPixel.pixel_of xs c.loop-item.counts) (take_all c.loop-item.item-index c.args.items.now c.loop-item-test.false) c.loop-item.invariant
+returns g c = subst (λ (xs : List g.row.X.Denot). AreTileCounts c.args.grid.now g.X.AtPixel.pixel_of xs c.loop-item.counts.items) (take_all c.loop-item.item-index c.args.items.now c.loop-item-test.false) c.loop-item.invariant

@@ -9,7 +9,7 @@ use Rattle.chain_gather.proofs.Counted.{parts_more, parts_none}
 use Rattle.chain_gather.proofs.tiles.all_made.Goals as goal
 
 pub loop-piece-init : goal.loop-piece-init
-loop-piece-init g c = rw (c.new-pixels.ensures.items, c.new-records.ensures.items) (∣ parts_none g.T.Tiled.grid g.T.Tiled.segments ∣₁)
+loop-piece-init g c = rw (c.in_ok-pixels.ensures.items, c.in_ok-records.ensures.items) (∣ parts_none g.T.Tiled.grid g.T.Tiled.segments ∣₁)
 
 pub loop-piece-preserved : goal.loop-piece-preserved
 loop-piece-preserved g c =

@@ -1,9 +1,11 @@
 use Rattle.std.proofs.Common.{List, subst, sym}
-use Rattle.std.proofs.Math.Logic.{∥∥₁_map}
+use Rattle.std.proofs.Math.Logic.{∥∥₁_elim, ∥∥₁_map}
+use Rattle.std.proofs.Props.{props}
 use Rattle.routing.specs.declared.record.Record.{Record}
 use Rattle.chain_gather.specs.Links.{AreRecords}
 use Rattle.chain_gather.proofs.Covering.{are_covered}
 use Rattle.chain_gather.proofs.Gathering.{tiles_have}
+use Rattle.chain_gather.proofs.Walk.{rounded_are}
 use Rattle.chain_gather.proofs.tiles.gather.Goals as goal
 
 pub links-requires : goal.links-requires
@@ -12,3 +14,9 @@ links-requires g c =
     let segments = c.args.segments.now in
     subst (λ (rs : List Record). ∥ AreRecords segments rs ∥₁) (sym c.deref.ensures.value)
     (∥∥₁_map c.in_ok-records.ensures.records_are (λ all. c.in_order-records.ensures segments (tiles_have grid segments c.in_ok-records.field-0.records.items (are_covered grid segments c.requires.covered) all)))
+
+pub counts-requires : goal.counts-requires
+counts-requires g c = record { short = ∥∥₁_elim c.in_ok-list.ensures (hlevel props) (λ l. l.few) }
+
+pub rounded_of-requires : goal.rounded_of-requires
+rounded_of-requires g c = ∥∥₁_map c.in_ok-list.ensures (λ l. rounded_are c.args.segments.now c.in_ok-list.list.items c.in_ok-edges.edges.items l c.in_ok-edges.ensures)
