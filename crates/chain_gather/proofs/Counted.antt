@@ -7,7 +7,7 @@ use Rattle.std.proofs.lemmas.List.{get_or-replicate, get_or-set_other, get_or-se
 use Rattle.std.proofs.lemmas.List.Elements.{Contains-append_cases, Contains-append_left, Contains-append_right, Contains-get_or, Contains-push, Contains-push_cases}
 use Rattle.std.proofs.lemmas.List.Quantifiers.{all_pairs_push}
 use Rattle.std.proofs.lemmas.Option.{get_or_from_slice_get, slice_get-get_or, slice_get_within}
-use Rattle.std.specs.Prelude.{ℤ, pos, negsuc, AllPairs, Contains, Some, replicate, slice_get, slice_set}
+use Rattle.std.specs.Prelude.{ℤ, pos, negsuc, All, AllPairs, Contains, Some, replicate, slice_get, slice_set}
 use Rattle.geom.specs.declared.point.Pt.{Pt}
 use Rattle.geom.specs.declared.segment.Seg.{Seg}
 use Rattle.geom.specs.Hot.{IsHot}
@@ -198,7 +198,7 @@ has_tile g p = ⊎_elim (λ (a, e). ⊎_elim (λ (b, f). known a b e f) (λ no. 
       | inr beyond ↦ inr (λ (k, o). let s = pos_same _ _ (sym o.column_is ∙ e) in let l = o.in_columns in absurd (omega (arith, s, l, beyond)))
     ]
 
-known_tile : (g : Tiling) (p : Pt) → ∥ HasTile g p ∥₁ → HasTile g p
+pub known_tile : (g : Tiling) (p : Pt) → ∥ HasTile g p ∥₁ → HasTile g p
 known_tile g p h = ⊎_elim (λ t. t) (λ no. absurd (∥∥₁_elim h (hlevel props) no)) (has_tile g p)
 
 -- of the cells and the segments by their other names
@@ -206,33 +206,42 @@ pub known_parts : (g h : Tiling) (segments others : List Seg) (n : ℕ) (pixels 
 known_parts g h segments others n pixels records e f k all = subst (λ (x : Tiling × List Seg × ℕ). ∥ HasPartsBelow x.0 x.1 x.2 pixels records ∥₁) (λ i. (sym e i, sym f i, k i)) all
 
 -- the pieces of all cells f, over a grid g
-module _ (f g : Tiling) (segments : List Seg) (pixels : List Pt) (found records : List Record) (cells : AreCovered f segments) (tiles : AreCovered g segments)
-    (all : ∥ HasPartsBelow f segments (tile_count f) pixels found ∥₁) (order : HasRecords segments found → AreRecords segments records) where
+module _ (f g : Tiling) (segments : List Seg) (pixels : List Pt) (found : List Record) (cells : AreCovered f segments) (tiles : AreCovered g segments) (all : ∥ HasPartsBelow f segments (tile_count f) pixels found ∥₁) where
   hot_are : HasPartsBelow f segments (tile_count f) pixels found → (p : Pt) → Contains pixels p ↔ IsHot segments p
   hot_are h p = (λ m. ((h.hot p).0 m).0, λ i. let m = hot_meets segments p i in let t = cells.tile m.0 p m.1 m.2 in (h.hot p).1 (i, (t.0, owner_below f t.0 p t.1, t.1)))
-
-  records_are : HasPartsBelow f segments (tile_count f) pixels found → AreRecords segments records
-  records_are h = order (tiles_have f segments found cells h.has)
 
   tile_of : (p : Pt) → IsHot segments p → HasTile g p
   tile_of p i = let m = hot_meets segments p i in tiles.tile m.0 p m.1 m.2
 
-  pub all_records : ∥ AreRecords segments records ∥₁
-  all_records = ∥∥₁_map all records_are
+  pub pixels_in : All (λ p. HasTile g p) pixels
+  pixels_in k d l = known_tile g (get_or pixels k d) (∥∥₁_map all (λ h. tile_of _ ((hot_are h _).0 (Contains-get_or pixels k d l))))
 
-  may_count : MayCount g pixels records
-  may_count = record {
-    pixels_in = λ k d l. known_tile g (get_or pixels k d) (∥∥₁_map all (λ h. tile_of _ ((hot_are h _).0 (Contains-get_or pixels k d l))));
-    pixels_once = ∥∥₁_elim all (hlevel props) (λ h. h.once);
-    records_in = λ k d l. known_tile g (get_or records k d).pixel (∥∥₁_map all_records (λ h. tile_of _ ((h.exact _).0 (Contains-get_or records k d l)).hot));
-    records_once = ∥∥₁_elim all_records (hlevel props) (λ h i j d a b e. never_before segments (get_or records i d) (subst (λ (q : Record). IsRecordBefore (get_or records i d) q) (sym e) (h.ascending i j d a b)));
-  }
+  pub pixels_once : AllPairs (λ p q. p ≢ q) pixels
+  pixels_once = ∥∥₁_elim all (hlevel props) (λ h. h.once)
 
-  pub may_count_as : (ps : List Pt) (rs : List Record) → ps ≡ pixels → rs ≡ records → MayCount g ps rs
-  may_count_as ps rs d e = subst (λ (x : List Pt × List Record). MayCount g x.0 x.1) (λ i. (sym d i, sym e i)) may_count
+  pub known_records : (r : Record) → Contains found r → ∥ IsRecord segments r ∥₁
+  known_records r m = ∥∥₁_map all (λ h. ((h.has.same r).0 m).0)
 
-  pub all_numbers : (ps : List Pt) (rs : List Record) (told : List TileNumbers) → ps ≡ pixels → rs ≡ records → AreNumbersOf g ps rs told → AreTileNumbers g segments (tile_count g) told
-  all_numbers ps rs told d e h = let n = subst (λ (x : List Pt × List Record). AreNumbersOf g x.0 x.1 told) (λ i. (d i, e i)) h in record {
-    one_each = n.one_each;
-    each = λ k m at. ∥∥₁_elim all (hlevel props) (λ a. (numbers_are g segments pixels records (hot_are a) (records_are a) told n).each k m at);
-  }
+  module _ (records : List Record) (order : HasRecords segments found → AreRecords segments records) where
+    records_are : HasPartsBelow f segments (tile_count f) pixels found → AreRecords segments records
+    records_are h = order (tiles_have f segments found cells h.has)
+
+    pub all_records : ∥ AreRecords segments records ∥₁
+    all_records = ∥∥₁_map all records_are
+
+    may_count : MayCount g pixels records
+    may_count = record {
+      pixels_in = pixels_in;
+      pixels_once = pixels_once;
+      records_in = λ k d l. known_tile g (get_or records k d).pixel (∥∥₁_map all_records (λ h. tile_of _ ((h.exact _).0 (Contains-get_or records k d l)).hot));
+      records_once = ∥∥₁_elim all_records (hlevel props) (λ h i j d a b e. never_before segments (get_or records i d) (subst (λ (q : Record). IsRecordBefore (get_or records i d) q) (sym e) (h.ascending i j d a b)));
+    }
+
+    pub may_count_as : (ps : List Pt) (rs : List Record) → ps ≡ pixels → rs ≡ records → MayCount g ps rs
+    may_count_as ps rs d e = subst (λ (x : List Pt × List Record). MayCount g x.0 x.1) (λ i. (sym d i, sym e i)) may_count
+
+    pub all_numbers : (ps : List Pt) (rs : List Record) (told : List TileNumbers) → ps ≡ pixels → rs ≡ records → AreNumbersOf g ps rs told → AreTileNumbers g segments (tile_count g) told
+    all_numbers ps rs told d e h = let n = subst (λ (x : List Pt × List Record). AreNumbersOf g x.0 x.1 told) (λ i. (d i, e i)) h in record {
+      one_each = n.one_each;
+      each = λ k m at. ∥∥₁_elim all (hlevel props) (λ a. (numbers_are g segments pixels records (hot_are a) (records_are a) told n).each k m at);
+    }

@@ -10,7 +10,6 @@ use Rattle.geom.specs.declared.segment.Seg.{Seg}
 use Rattle.geom.specs.Route.{Meets}
 use Rattle.tiling.specs.Tiles.{Tiling, Owns, HasTile, tile_count}
 use Rattle.hot_pixel.proofs.ListLaws.{none_in}
-use Rattle.geom.proofs.Orders.{IsSortedOnce}
 use Rattle.geom.proofs.Lists.{some_same}
 use Rattle.hot_pixel.proofs.HotLaws.{hot_meets}
 use Rattle.routing.specs.declared.record.Record.{Record}
@@ -20,6 +19,7 @@ use Rattle.routing.proofs.StepLaws.{same_from_steps}
 use Rattle.routing.proofs.RecordOrder.{record_cmp, record_total, record_less}
 use Rattle.chain_gather.specs.Links.{IsRecordBefore, AreRecords, HasRecords}
 use Rattle.chain_gather.specs.Gathered.{HasTilesBelow}
+use Rattle.chain_gather.specs.Orders.{AreSortedOnce}
 
 pub below_none : (g : Tiling) (segments : List Seg) → HasTilesBelow g segments 0 []
 below_none g segments = record { same = λ r. (λ h. absurd (none_in r h), λ h. absurd (let l = h.1.1 in omega arith)) }
@@ -45,22 +45,23 @@ below_more g segments k hot list part h p = record {
 pub owner_below : (g : Tiling) (k : ℕ) (p : Pt) → Owns g k p → k < tile_count g
 owner_below g k p o = let m = mul-le-mul_left g.columns (let l = o.in_rows in let e : o.row + 1 ≤ g.rows = omega arith in e) in let a = o.number_is in let b = o.in_columns in omega (arith, m)
 
-ascending_records : (segments : List Seg) (list : List Record) → AllPairs (λ r q. record_cmp r q ≡ Less) list → ((r : Record) → Contains list r → IsRecord segments r) → AllPairs IsRecordBefore list
-ascending_records segments list less known = λ i j d a b. step (get_or list i d) (get_or list j d) (known _ (Contains-get_or list i d (omega arith))) (known _ (Contains-get_or list j d b)) (less i j d a b)
+-- a record goes before another of segments
+pub record_before : (segments : List Seg) (r q : Record) → IsRecord segments r → IsRecord segments q → record_cmp r q ≡ Less → IsRecordBefore r q
+record_before segments r q h k l = ⊎_elim (λ p. inl p) (λ p. ⊎_elim (λ m. inr (p.0, m)) (λ m. absurd (same p.0 m)) p.1) (record_less r q l)
   where
-    step : (r q : Record) → IsRecord segments r → IsRecord segments q → record_cmp r q ≡ Less → IsRecordBefore r q
-    step r q h k l = ⊎_elim (λ p. inl p) (λ p. ⊎_elim (λ m. inr (p.0, m)) (λ m. absurd (same p.0 m)) p.1) (record_less r q l)
-      where
-        same : r.segment ≡ q.segment → r.steps ≡ q.steps → ⊥
-        same e f =
-            let s : h.s ≡ k.s = some_same (subst (λ (n : ℕ). slice_get segments n ≡ Some h.s) e h.is_at) k.is_at in
-            let met : Meets h.s q.pixel = subst (λ (u : Seg). Meets u q.pixel) (sym s) k.met in
-            let g : steps_to h.s r.pixel ≡ steps_to h.s q.pixel = sym h.steps_are ∙ f ∙ k.steps_are ∙ ap (λ (u : Seg). steps_to u q.pixel) (sym s) in
-            let p : r.pixel ≡ q.pixel = same_from_steps h.s r.pixel q.pixel h.met met g in
-            let whole : r ≡ q = λ i. record { segment = e i; steps = f i; pixel = p i } in
-            let o = tied_itself record_total q in
-            let n : record_cmp q q ≡ Less = subst (λ (x : Record). record_cmp x q ≡ Less) whole l in
-            cc
+    same : r.segment ≡ q.segment → r.steps ≡ q.steps → ⊥
+    same e f =
+        let s : h.s ≡ k.s = some_same (subst (λ (n : ℕ). slice_get segments n ≡ Some h.s) e h.is_at) k.is_at in
+        let met : Meets h.s q.pixel = subst (λ (u : Seg). Meets u q.pixel) (sym s) k.met in
+        let g : steps_to h.s r.pixel ≡ steps_to h.s q.pixel = sym h.steps_are ∙ f ∙ k.steps_are ∙ ap (λ (u : Seg). steps_to u q.pixel) (sym s) in
+        let p : r.pixel ≡ q.pixel = same_from_steps h.s r.pixel q.pixel h.met met g in
+        let whole : r ≡ q = λ i. record { segment = e i; steps = f i; pixel = p i } in
+        let o = tied_itself record_total q in
+        let n : record_cmp q q ≡ Less = subst (λ (x : Record). record_cmp x q ≡ Less) whole l in
+        cc
+
+ascending_records : (segments : List Seg) (list : List Record) → AllPairs (λ r q. record_cmp r q ≡ Less) list → ((r : Record) → Contains list r → IsRecord segments r) → AllPairs IsRecordBefore list
+ascending_records segments list less known = λ i j d a b. record_before segments (get_or list i d) (get_or list j d) (known _ (Contains-get_or list i d (omega arith))) (known _ (Contains-get_or list j d b)) (less i j d a b)
 
 -- every pixel that a segment meets has a tile
 pub record AreCovered (g : Tiling) (segments : List Seg) : Type 0 where
@@ -77,7 +78,7 @@ tiles_have g segments found covered all = record { exact = λ r. (λ h. ((all.sa
         (all.same r).1 (h, (t.0, owner_below g t.0 r.pixel t.1, t.1))
 
 -- sorted and each once they are in order
-pub gathered_are : (segments : List Seg) (found list : List Record) → HasRecords segments found → IsSortedOnce record_cmp found list → AreRecords segments list
+pub gathered_are : (segments : List Seg) (found list : List Record) → HasRecords segments found → AreSortedOnce found list → AreRecords segments list
 gathered_are segments found list all once = record {
   ascending = ascending_records segments list once.ascending (λ r h. (all.exact r).0 ((once.same r).0 h));
   exact = λ r. (λ h. (all.exact r).0 ((once.same r).0 h), λ h. (once.same r).1 ((all.exact r).1 h));

@@ -2,6 +2,7 @@ pub mod Flat
 pub mod Walk
 pub mod Tally
 pub mod LinkParts
+pub mod LinkedLaws
 pub mod RecordParts
 pub mod Gathering
 pub mod Boxes
@@ -15,3 +16,5 @@ pub mod Parts
 pub mod Ordering
 pub mod Counted
 pub mod WrittenBack
+pub mod SpanLaws
+pub mod ShareLaws

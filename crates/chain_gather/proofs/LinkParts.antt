@@ -1,9 +1,9 @@
 -- Links that are sorted: their parts, and the counts of these behind one another.
-use Rattle.std.proofs.Common.{◌≡◌, ◌≢◌, ◌⊎◌, inl, inr, ℕ, zero, suc, ◌+◌, ◌-◌, ◌<◌, ◌≤◌, List, ◌++◌, cond, refl, sym, ◌∙◌, ap, arith, subst, length, get_or, take, drop, ⊎_elim}
-use Rattle.std.specs.Prelude.{AllPairs, Contains}
+use Rattle.std.proofs.Common.{◌≡◌, inl, inr, ℕ, zero, suc, ◌+◌, ◌<◌, List, ◌++◌, cond, refl, sym, ◌∙◌, arith, subst, ⊎_elim}
+use Rattle.std.proofs.lemmas.Int.{ints}
+use Rattle.std.specs.Prelude.{◌<ℤ◌, Contains}
 use Rattle.std.specs.List.Sorted.{IsPermutation, IsSorted}
 use Rattle.std.proofs.lemmas.Bool.{cases_lt}
-use Rattle.std.proofs.lemmas.List.{get_or-append-add, get_or_append_left, get_or_default, length-append, length-drop, length-take-le, take-append-drop}
 use Rattle.std.proofs.lemmas.List.Elements.{Contains-append_cases, Contains-append_left, Contains-append_right}
 use Rattle.std.proofs.lemmas.List.Sorted.{sum_by-IsPermutation}
 use Rattle.std.proofs.lemmas.List.Sums.{sum_by-append}
@@ -12,63 +12,24 @@ use Rattle.geom.specs.declared.segment.Source.TheVariants.{A, B}
 use Rattle.geom.specs.declared.edge.Edge.{Edge}
 use Rattle.geom.specs.declared.edge.Counted.{Counted}
 use Rattle.geom.specs.Rounded.{IsEdgeBefore}
-use Rattle.geom.proofs.Orders.{edge_before_itself, edge_before_trans}
+use Rattle.geom.proofs.Orders.{edge_before_itself}
 use Rattle.chain_gather.specs.declared.link.Link.{Link}
 use Rattle.chain_gather.specs.Links.{AreCounts, AreInOrder, GoBefore, count_links, is_of}
 use Rattle.chain_gather.specs.Orders.{link_order}
+use Rattle.chain_gather.specs.Shares.{AreKeysBelow, column_of}
 use Rattle.chain_gather.proofs.Counted.{pairs_append}
-use Rattle.chain_gather.proofs.Tally.{IsAt, IsExact, IsUpTo, ascending_in_order, link_total, linked, sorted_edges}
+use Rattle.chain_gather.proofs.Tally.{IsExact, link_total, linked, sorted_edges}
 
 pub sorted_in_order : (links : List Link) → IsSorted link_order links → AreInOrder links
 sorted_in_order links up i j d l k = sorted_edges link_order link_total (λ l m. (_, refl)) links up i j d (omega arith) k
 
 -- ---- parts
-pub in_order_front : (front back : List Link) → AreInOrder (front ++ back) → AreInOrder front
-in_order_front front back up i j d l k =
-    let n = length-append front back in
-    let a = get_or_append_left front back d i (omega arith) in
-    let b = get_or_append_left front back d j k in
-    subst (λ (p : Link × Link). IsUpTo p.0.edge p.1.edge) (λ t. (a t, b t)) (up i j d l (omega arith))
-
-pub in_order_back : (front back : List Link) → AreInOrder (front ++ back) → AreInOrder back
-in_order_back front back up i j d l k =
-    let n = length-append front back in
-    let a = get_or-append-add front back i d in
-    let b = get_or-append-add front back j d in
-    subst (λ (p : Link × Link). IsUpTo p.0.edge p.1.edge) (λ t. (a t, b t)) (up (length front + i) (length front + j) d (omega arith) (omega arith))
-
-from_up_to : (e f g : Edge) → IsUpTo e f → IsEdgeBefore f g → IsEdgeBefore e g
-from_up_to e f g h k = ⊎_elim (λ is. subst (λ (x : Edge). IsEdgeBefore x g) (sym is) k) (λ b. edge_before_trans e f g b k) h
-
-then_up_to : (e f g : Edge) → IsEdgeBefore e f → IsUpTo f g → IsEdgeBefore e g
-then_up_to e f g h k = ⊎_elim (λ is. subst (λ (x : Edge). IsEdgeBefore e x) is h) (λ b. edge_before_trans e f g h b) k
-
--- the edge changes between two parts
-changed : (front back : List Link) (d : Link) → AreInOrder (front ++ back) → 0 < length front → (get_or (front ++ back) (length front - 1) d).edge ≢ (get_or (front ++ back) (length front) d).edge → GoBefore front back
-changed front back d up some apart l m (i, p, e) (j, q, f) =
-    let whole = front ++ back in
-    let k = length front in
-    let n = length-append front back in
-    let x = get_or whole (k - 1) d in
-    let y = get_or whole k d in
-    let ascending = ascending_in_order whole up in
-    let at_x : IsAt whole (k - 1) x = record { below = omega arith; item = get_or_default whole (k - 1) x d (omega arith) } in
-    let at_y : IsAt whole k y = record { below = omega arith; item = get_or_default whole k y d (omega arith) } in
-    let at_l : IsAt whole i l = record { below = omega arith; item = get_or_append_left front back l i p ∙ e } in
-    let at_m : IsAt whole (k + j) m = record { below = omega arith; item = get_or-append-add front back j m ∙ f } in
-    let before : IsEdgeBefore x.edge y.edge = ⊎_elim (λ is. absurd (apart is)) (λ b. b) (ascending (k - 1) k x y (omega arith) at_x at_y) in
-    then_up_to l.edge y.edge m.edge (from_up_to l.edge x.edge y.edge (ascending i (k - 1) l x (omega arith) at_l at_x) before) (ascending k (k + j) y m (omega arith) at_y at_m)
-
-pub changed_at : (links : List Link) (place : ℕ) (d : Link) → AreInOrder links → 0 < place → place < length links → (get_or links (place - 1) d).edge ≢ (get_or links place d).edge → GoBefore (take place links) (drop place links)
-changed_at links place d up some below apart =
-    let whole = take-append-drop place links in
-    let n = length-take-le place links (omega arith) in
-    changed (take place links) (drop place links) d (subst AreInOrder (sym whole) up) (omega arith)
-    (subst (λ (p : List Link × ℕ). (get_or p.0 (p.1 - 1) d).edge ≢ (get_or p.0 p.1 d).edge) (λ t. (sym whole t, sym n t)) apart)
-
--- no link is behind all
-pub none_behind : (links : List Link) → GoBefore (take (length links) links) (drop (length links) links)
-none_behind links l m p (j, q, f) = absurd (let n = length-drop (length links) links in omega arith)
+-- the first ends of the links of one part lie left of those of the other
+pub parted_columns : (front back : List Link) → AreKeysBelow column_of front back → GoBefore front back
+parted_columns front back apart l k a b = left_of l.edge k.edge (apart l k a b)
+  where
+    left_of : (e f : Edge) → e.p.x <ℤ f.p.x → IsEdgeBefore e f
+    left_of e f h = inl (record { column = omega (arith, ints); row = λ is. absurd (let a = h in let b = is in omega (arith, ints)) })
 
 -- ---- counts
 module _ (front back : List Link) (cs ds : List Counted) (parted : GoBefore front back) (f : AreCounts front cs) (b : AreCounts back ds) where

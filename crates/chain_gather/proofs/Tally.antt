@@ -2,7 +2,7 @@
 use Rattle.std.proofs.Common.{◌≡◌, ◌⊎◌, inl, inr, ℕ, zero, suc, ◌+◌, ◌<◌, ◌≤◌, List, [], ◌∷◌, ◌++◌, Bool, true, false, cond, Ordering, Less, Equal, Greater, refl, sym, ◌∙◌, ap, arith, subst, length, get_or, take, ⊎_elim}
 use Rattle.std.specs.Prelude.{AllPairs, Contains, count_by, ◌&&◌, not}
 use Rattle.std.specs.Cmp.{IsTotalOrder}
-use Rattle.std.specs.List.Sorted.{IsPermutation, IsSorted}
+use Rattle.std.specs.List.Sorted.{IsSorted}
 use Rattle.std.specs.Ordering.{ordering_then, MatchOrdering, is_lt}
 use Rattle.std.proofs.lemmas.Bool.{cases_lt}
 use Rattle.std.proofs.lemmas.List.{get_or_default, take_all, take_more}
@@ -10,7 +10,7 @@ use Rattle.std.proofs.lemmas.List.Elements.{Contains-get_or, Contains-push, Cont
 use Rattle.std.proofs.lemmas.List.Quantifiers.{all_pairs_push}
 use Rattle.std.proofs.lemmas.List.Sums.{sum_by-cons, sum_by_push, count_by-le-length}
 use Rattle.std.proofs.lemmas.List.{length-take}
-use Rattle.std.proofs.lemmas.List.Sorted.{sum_by-IsPermutation, sorted_far, ranks_by}
+use Rattle.std.proofs.lemmas.List.Sorted.{sorted_far, ranks_by}
 use Rattle.std.proofs.lemmas.Cmp.{nat_cmp_total, on_total, then_total}
 use Rattle.geom.specs.declared.segment.Source.{Source}
 use Rattle.geom.specs.declared.segment.Source.TheVariants.{A, B}

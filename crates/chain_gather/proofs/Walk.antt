@@ -81,16 +81,17 @@ module _ (segments : List Seg) (records : List Record) (list : List Link) (i : �
 pub records_below : (segments : List Seg) (records : List Record) → AreRecords segments records → All (λ r. r.segment < length segments) records
 records_below segments records h = λ k d l. let m = (h.exact (get_or records k d)).0 (Contains-get_or records k d l) in slice_get_within segments (get_or records k d).segment m.s m.is_at
 
+-- two records of one segment, of which one goes before the other, have different pixels
+pub pixels_differ : (segments : List Seg) (r q : Record) → IsRecord segments r → IsRecord segments q → IsRecordBefore r q → r.segment ≡ q.segment → r.pixel ≡ q.pixel → ⊥
+pixels_differ segments r q u v (inl l) e f = omega arith
+pixels_differ segments r q u v (inr (g, l)) e f =
+    let s : u.s ≡ v.s = some_same (subst (λ (n : ℕ). slice_get segments n ≡ Some u.s) e u.is_at) v.is_at in
+    let t : steps_to u.s r.pixel ≡ steps_to v.s q.pixel = ap (λ (p : Pt). steps_to u.s p) f ∙ ap (λ (w : Seg). steps_to w q.pixel) s in
+    let m : r.steps ≡ q.steps = u.steps_are ∙ t ∙ sym v.steps_are in
+    omega arith
+
 pub records_apart : (segments : List Seg) (records : List Record) → AreRecords segments records → AreApart records
-records_apart segments records h = λ i j d a b e f. step (get_or records i d) (get_or records j d) ((h.exact _).0 (Contains-get_or records i d (omega arith))) ((h.exact _).0 (Contains-get_or records j d b)) (h.ascending i j d a b) e f
-  where
-    step : (r q : Record) → IsRecord segments r → IsRecord segments q → IsRecordBefore r q → r.segment ≡ q.segment → r.pixel ≡ q.pixel → ⊥
-    step r q u v (inl l) e f = omega arith
-    step r q u v (inr (g, l)) e f =
-        let s : u.s ≡ v.s = some_same (subst (λ (n : ℕ). slice_get segments n ≡ Some u.s) e u.is_at) v.is_at in
-        let t : steps_to u.s r.pixel ≡ steps_to v.s q.pixel = ap (λ (p : Pt). steps_to u.s p) f ∙ ap (λ (w : Seg). steps_to w q.pixel) s in
-        let m : r.steps ≡ q.steps = u.steps_are ∙ t ∙ sym v.steps_are in
-        omega arith
+records_apart segments records h = λ i j d a b e f. pixels_differ segments (get_or records i d) (get_or records j d) ((h.exact _).0 (Contains-get_or records i d (omega arith))) ((h.exact _).0 (Contains-get_or records j d b)) (h.ascending i j d a b) e f
 
 -- links that are counted as the neighbours among records are those of the routes
 pub links_are : (segments : List Seg) (records : List Record) (links : List Link) → AreRecords segments records → length links < 2 ^ 32

@@ -1,27 +1,29 @@
 //! How often each edge is a link, counted by one hand or by several.
 //!
-//! 1. The sorted links are split where the edge changes, at the end of a share or behind it (`change_from`).
-//! 2. Each half of the hands counts a part, in a thread of its own (`count_parts`).
-//! 3. The counts of one part are put behind those of the other (`joined`).
+//! 1. Several hands share the links by the columns of their first ends (`shares_by_hands`).
+//! 2. Each hand sorts the links of its share and counts them, in a thread of its own (`counts`).
+//! 3. The counts of one share are put behind those of the other (`count_both`).
 
-ghost use Rattle.std.specs.Prelude.{◌≡◌, ◌+◌, ◌<◌, ◌≤◌, ◌^◌, ◌++◌, ◌∷◌, [], IfOk, OnOk, drop, length, take, if◌then◌else◌};
+ghost use Rattle.std.specs.Prelude.{◌≡◌, ◌+◌, ◌<◌, ◌≤◌, ◌^◌, ◌++◌, ◌∷◌, [], AllPairs, IfOk, IsTrue, OnOk, flat_map, length, if◌then◌else◌};
 ghost use Rattle.std.specs.List.Sorted.{IsPermutation, IsSorted};
 ghost use Rattle.std.specs.Thread.{IsSend, IsSync};
 ghost use Rattle.geom.specs.declared.segment.Source.{Source};
 ghost use Rattle.geom.specs.Segments.{same_source};
-ghost use Rattle.chain_gather.specs.Links.{AreCounts, AreInOrder, GoBefore};
+ghost use Rattle.chain_gather.specs.Links.{AreCounts, AreInOrder};
 ghost use Rattle.chain_gather.specs.Orders.{link_order};
+ghost use Rattle.chain_gather.specs.Shares.{AreKeysBelow, column_of};
 
-use crate::even_parts::{LEAST, share_of, sorted, sorted_by_hands};
+use crate::by_range::sorted;
 use crate::link::Link;
 use crate::linking::joined;
+use crate::shares::{item_count, only_of, shares_by_hands};
 use geom::{Counted, Edge, NoMemory, Source};
 use std::alloc::Allocator;
 use std::thread::{Threads, join};
 
-/// Room for the edges of links: two segments share an edge in a map.
-fn room_for(links: &[Link]) -> usize {
-    links.len() / 2
+/// Room for the edges of so many links: two segments share an edge in a map.
+pub(crate) fn room_for(links: usize) -> usize {
+    links / 2
 }
 
 /// An edge that isn't counted yet.
@@ -93,71 +95,6 @@ fn count_alone<A: Allocator>(
     Ok(list)
 }
 
-/// Where the edge of sorted links first changes, from a place on.
-fn change_from(links: &[Link], from: usize) -> usize
-    requires in_order { AreInOrder links.now }
-    requires from { 0 < from }
-    ensures within { result ≤ length links.now }
-    ensures parted { GoBefore (take result links.now) (drop result links.now) }
-{
-    for place in from..links.len() {
-        if links[place - 1].edge != links[place].edge {
-            return place;
-        }
-    }
-    links.len()
-}
-
-/// As `count_alone`, by so many hands. The first part has room for all, so that the others are put behind it where it stands.
-#[cycle(parts)]
-fn count_parts<R: Threads + Sync, A: Allocator + Copy + Send + Sync>(
-    rt: &R,
-    alloc: A,
-    hands: usize,
-    room: usize,
-    links: &[Link],
-) -> Result<Vec<Counted, A>, NoMemory>
-    requires in_order { AreInOrder links.now }
-    requires short { length links.now < 2 ^ 32 }
-    ensures { IfOk result (λ v. AreCounts links.now v.items) }
-{
-    if hands < 2 || links.len() < LEAST {
-        return count_alone(alloc, room, links);
-    }
-    let (front, back) = links.split_at(change_from(links, share_of(links.len(), hands)));
-    count_both(rt, alloc, hands, room, front, back)
-}
-
-/// Counts two parts at once, each by a half of the hands.
-#[cycle(parts)]
-fn count_both<R: Threads + Sync, A: Allocator + Copy + Send + Sync>(
-    rt: &R,
-    alloc: A,
-    hands: usize,
-    room: usize,
-    front: &[Link],
-    back: &[Link],
-) -> Result<Vec<Counted, A>, NoMemory>
-    requires hands { 2 ≤ hands }
-    requires in_order { AreInOrder front.now × AreInOrder back.now }
-    requires short { length front.now + length back.now < 2 ^ 32 }
-    requires parted { GoBefore front.now back.now }
-    ensures { IfOk result (λ v. AreCounts (front.now ++ back.now) v.items) }
-{
-    let (counted, rest) = join(
-        rt,
-        || -> Result<Vec<Counted, A>, NoMemory>
-            requires { IsSync R.row × IsSend A.row × IsSync A.row × (2 ≤ hands) × AreInOrder front.now × (length front.now < 2 ^ 32) }
-            ensures { IfOk result (λ v. AreCounts front.entry.now v.items) }
-        { count_parts(rt, alloc, hands / 2, room, front) },
-        || -> Result<Vec<Counted, A>, NoMemory>
-            requires { IsSync R.row × IsSend A.row × IsSync A.row × (2 ≤ hands) × AreInOrder back.now × (length back.now < 2 ^ 32) }
-            ensures { IfOk result (λ v. AreCounts back.entry.now v.items) }
-        { count_parts(rt, alloc, hands - hands / 2, room_for(back), back) },
-    );
-    joined(counted?, rest?)
-}
-
 /// Links in order.
 fn links_in_order<A: Allocator>(links: Vec<Link, A>) -> Vec<Link, A>
     ensures permutation { IsPermutation links.items result.items }
@@ -166,40 +103,99 @@ fn links_in_order<A: Allocator>(links: Vec<Link, A>) -> Vec<Link, A>
     sorted(links)
 }
 
-/// The same, by so many hands.
-fn links_in_order_by_hands<R: Threads + Sync, A: Allocator>(
-    rt: &R,
-    hands: usize,
-    links: Vec<Link, A>,
-) -> Vec<Link, A>
-    ensures permutation { IsPermutation links.items result.items }
-    ensures sorted { IsSorted link_order result.items }
-{
-    sorted_by_hands(rt, hands, links)
-}
-
-/// Each edge among the links, ascending, with its counts.
+/// Each edge among the links, ascending, with its counts, with room for so many at first.
 pub(crate) fn counts<A: Allocator>(
     alloc: A,
+    room: usize,
     links: Vec<Link, A>,
 ) -> Result<Vec<Counted, A>, NoMemory>
     requires short { length links.items < 2 ^ 32 }
     ensures { IfOk result (λ v. AreCounts links.items v.items) }
 {
     let links = links_in_order(links);
-    count_alone(alloc, room_for(&links), &links)
+    count_alone(alloc, room, &links)
 }
 
-/// As `counts`, by so many hands.
+/// As `counts`, of the links of shares, each by a hand of its own. The first share has room for all, so that the others are put
+/// behind it where it stands.
+#[cycle(parts)]
+fn count_parts<R: Threads + Sync, A: Allocator + Copy + Send + Sync>(
+    rt: &R,
+    alloc: A,
+    room: usize,
+    mut shares: Vec<Vec<Link, A>, A>,
+) -> Result<Vec<Counted, A>, NoMemory>
+    requires short { length (flat_map (λ s. s.items) shares.items) < 2 ^ 32 }
+    requires ascending { AllPairs (λ s t. AreKeysBelow column_of s.items t.items) shares.items }
+    ensures { IfOk result (λ v. AreCounts (flat_map (λ s. s.items) shares.items) v.items) }
+{
+    if shares.len() < 2 {
+        return counts(alloc, room, only_of(alloc, shares));
+    }
+    let rest = shares.split_off(shares.len() / 2)?;
+    count_both(rt, alloc, room, shares, rest)
+}
+
+/// Counts in two parts of the shares at once.
+#[cycle(parts)]
+fn count_both<R: Threads + Sync, A: Allocator + Copy + Send + Sync>(
+    rt: &R,
+    alloc: A,
+    room: usize,
+    shares: Vec<Vec<Link, A>, A>,
+    rest: Vec<Vec<Link, A>, A>,
+) -> Result<Vec<Counted, A>, NoMemory>
+    requires some { (0 < length shares.items) × (0 < length rest.items) }
+    requires short { (length (flat_map (λ s. s.items) shares.items) < 2 ^ 32) × (length (flat_map (λ s. s.items) rest.items) < 2 ^ 32) }
+    requires ascending { AllPairs (λ s t. AreKeysBelow column_of s.items t.items) shares.items × AllPairs (λ s t. AreKeysBelow column_of s.items t.items) rest.items }
+    requires apart { AreKeysBelow column_of (flat_map (λ s. s.items) shares.items) (flat_map (λ s. s.items) rest.items) }
+    ensures { IfOk result (λ v. AreCounts (flat_map (λ s. s.items) shares.items ++ flat_map (λ s. s.items) rest.items) v.items) }
+{
+    let behind = room_for(item_count(&rest));
+    let (counted, others) = join(
+        rt,
+        move || -> Result<Vec<Counted, A>, NoMemory>
+            requires { IsSync R.row × IsSend A.row × IsSync A.row × (length (flat_map (λ s. s.items) shares.items) < 2 ^ 32) × AllPairs (λ s t. AreKeysBelow column_of s.items t.items) shares.items }
+            ensures { IfOk result (λ v. AreCounts (flat_map (λ s. s.items) shares.items) v.items) }
+        { count_parts(rt, alloc, room, shares) },
+        move || -> Result<Vec<Counted, A>, NoMemory>
+            requires { IsSync R.row × IsSend A.row × IsSync A.row × (length (flat_map (λ s. s.items) rest.items) < 2 ^ 32) × AllPairs (λ s t. AreKeysBelow column_of s.items t.items) rest.items }
+            ensures { IfOk result (λ v. AreCounts (flat_map (λ s. s.items) rest.items) v.items) }
+        { count_parts(rt, alloc, behind, rest) },
+    );
+    joined(counted?, others?)
+}
+
+/// Whether a `u32` counts the links of all lists.
+fn are_few<A: Allocator>(lists: &[Vec<Link, A>]) -> bool
+    ensures { IsTrue result → length (flat_map (λ l. l.items) lists.now) < 2 ^ 32 }
+{
+    let mut left = u32::MAX as usize;
+    for list in lists {
+        if list.len() > left {
+            return false;
+        }
+        left -= list.len();
+    }
+    true
+}
+
+/// Each edge among the links of lists, ascending, with its counts, by so many hands. More links than a `u32` counts are refused
+/// as want of memory.
 pub(crate) fn counts_by_hands<R: Threads + Sync, A: Allocator + Copy + Send + Sync>(
     rt: &R,
     alloc: A,
     hands: usize,
-    links: Vec<Link, A>,
+    lists: Vec<Vec<Link, A>, A>,
 ) -> Result<Vec<Counted, A>, NoMemory>
-    requires short { length links.items < 2 ^ 32 }
-    ensures { IfOk result (λ v. AreCounts links.items v.items) }
+    ensures short { IfOk result (λ v. length (flat_map (λ l. l.items) lists.items) < 2 ^ 32) }
+    ensures counts { IfOk result (λ v. AreCounts (flat_map (λ l. l.items) lists.items) v.items) }
 {
-    let links = links_in_order_by_hands(rt, hands, links);
-    count_parts(rt, alloc, hands, room_for(&links), &links)
+    if !are_few(&lists) {
+        return Err(NoMemory);
+    }
+    let shares = shares_by_hands(rt, alloc, hands, &lists)?;
+    drop(lists);
+    let room = room_for(item_count(&shares));
+    count_parts(rt, alloc, room, shares)
 }

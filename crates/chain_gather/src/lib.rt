@@ -3,12 +3,14 @@
 
 mod by_range;
 mod counting;
-mod even_parts;
 mod link;
+mod linked;
 mod linking;
 mod numbers;
 mod own;
 mod rounded;
+mod shares;
+mod span;
 mod tile_piece;
 mod tiles;
 

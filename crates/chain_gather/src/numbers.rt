@@ -7,6 +7,7 @@ ghost use Rattle.std.specs.Prelude.{◌≡◌, ◌≢◌, All, AllPairs, IfOk, l
 ghost use Rattle.geom.specs.declared.point.Pt.{Pt};
 ghost use Rattle.tiling.specs.Tiles.{HasTile, tile_count};
 ghost use Rattle.chain_gather.specs.Numbers.{AreNumbersOf, ArePaired, AreTileCounts, MayCount};
+ghost use Rattle.chain_gather.specs.Shares.{AreSums};
 
 use crate::rounded::TileNumbers;
 use geom::{NoMemory, Pt};
@@ -15,7 +16,7 @@ use std::alloc::Allocator;
 use tiling::Grid;
 
 /// What has a pixel.
-trait AtPixel {
+pub(crate) trait AtPixel {
     ghost pixel_of: { Self → Pt };
 
     /// Its pixel.
@@ -40,7 +41,7 @@ impl AtPixel for Record {
 }
 
 /// How many of some items each tile has. More than a `u32` counts are refused as want of memory.
-fn count_by_tile<X: AtPixel, A: Allocator>(
+pub(crate) fn count_by_tile<X: AtPixel, A: Allocator>(
     alloc: A,
     grid: &Grid,
     items: &[X],
@@ -60,8 +61,27 @@ fn count_by_tile<X: AtPixel, A: Allocator>(
     Ok(counts)
 }
 
+/// The sum of two counts of each tile. More than a `u32` counts are refused as want of memory.
+pub(crate) fn summed<A: Allocator>(
+    alloc: A,
+    counts: &[u32],
+    more: &[u32],
+) -> Result<Vec<u32, A>, NoMemory>
+    requires { length counts.now ≡ length more.now }
+    ensures { IfOk result (λ v. AreSums counts.now more.now v.items) }
+{
+    let mut sums = Vec::with_capacity(alloc, counts.len())?;
+    for tile in 0..counts.len() {
+        let Some(sum) = counts[tile].checked_add(more[tile]) else {
+            return Err(NoMemory);
+        };
+        sums.push(sum)?;
+    }
+    Ok(sums)
+}
+
 /// Two counts of each tile.
-fn paired<A: Allocator>(
+pub(crate) fn paired<A: Allocator>(
     alloc: A,
     hot: &[u32],
     records: &[u32],

@@ -1,7 +1,6 @@
 //! Gathering the pieces of all tiles.
 
-ghost use Rattle.std.specs.Prelude.{◌≡◌, ◌+◌, ◌<◌, ◌≤◌, ◌++◌, ◌∷◌, [], All, IfOk, List, OnOk, length};
-ghost use Rattle.std.specs.Thread.{IsSend, IsSync};
+ghost use Rattle.std.specs.Prelude.{◌≡◌, ◌+◌, ◌<◌, ◌≤◌, ◌++◌, ◌∷◌, [], All, IfOk, List, OnOk, flat_map, length};
 ghost use Rattle.geom.specs.Limit.{AreInLimit};
 ghost use Rattle.geom.specs.Noded.{IsNoded};
 ghost use Rattle.geom.specs.declared.segment.Seg.{Seg};
@@ -11,23 +10,21 @@ ghost use Rattle.geom.specs.Segments.{AreClosed};
 ghost use Rattle.tiling.specs.Tiles.{tile_count, Owns};
 ghost use Rattle.hot_pixel.specs.Candidates.{AreCandidates};
 ghost use Rattle.routing.specs.Pieces.{candidates_of};
-ghost use Rattle.chain_gather.specs.Gathered.{AreBinsOf, AreGathered, AreTileCandidates, AreTileNumbers, HasPartsBelow, HaveTiles, HoldsOwn, IsCountBelow};
-ghost use Rattle.chain_gather.specs.Links.{AreLinks, AreRecords, HasRecords};
-ghost use Rattle.chain_gather.specs.Numbers.{AreNumbersOf, MayCount};
+ghost use Rattle.chain_gather.specs.Gathered.{AreBinsOf, AreGathered, AreTileCandidates, AreTileNumbers, HaveTiles, HoldsOwn, IsCountBelow};
 ghost use Rattle.tile_book.specs.Books.{StandInOrder};
 
-use crate::counting::{counts, counts_by_hands};
-use crate::even_parts::{sorted, sorted_by_hands};
-use crate::link::Link;
-use crate::linking::{links, links_by_hands};
-use crate::numbers::numbers_of;
+use crate::counting::{counts, counts_by_hands, room_for};
+use crate::linked::{Linked, in_order, link_parts};
+use crate::linking::links;
+use crate::numbers::{numbers_of, paired};
 use crate::own::own_piece;
 use crate::rounded::{Rounded, TileNumbers};
+use crate::shares::{item_count, shares_by_hands};
 use crate::tile_piece::{TilePiece, Tiled};
 use geom::{Counted, NoMemory, Pt, Seg};
-use routing::{Part, Piece, Record, piece};
+use routing::{Piece, Record, piece};
 use std::alloc::Allocator;
-use std::thread::{Threads, join};
+use std::thread::Threads;
 use tile_book::{Book, Limited};
 use tiling::{Bins, Grid, MOST_TILES};
 
@@ -151,7 +148,7 @@ pub fn gather<L: Limited, A: Allocator + Copy>(
     let records = in_order(records);
     let list = links(alloc, segments, &records)?;
     drop(records);
-    let edges = counts(alloc, list)?;
+    let edges = counts(alloc, room_for(list.len()), list)?;
     Ok(rounded_of(segments, edges, tiles, remade))
 }
 
@@ -178,19 +175,20 @@ pub fn gather_made<T: Tiled, A: Allocator + Copy>(
     ensures tiles { IfOk result (λ r. AreTileNumbers grid.now segments.now (tile_count grid.now) r.tiles.items) }
     ensures remade { IfOk result (λ r. r.remade ≡ remade) }
 {
-    let Part { pixels, records } = all_made(alloc, &pieces)?;
+    let found = records_of(alloc, &pieces)?;
+    let pixels = pixels_of(alloc, &pieces)?;
     drop(pieces);
-    let records = in_order(records);
+    let records = in_order(found);
     let tiles = numbers_of(alloc, grid, &pixels, &records)?;
     let list = links(alloc, segments, &records)?;
     drop(pixels);
     drop(records);
-    let edges = counts(alloc, list)?;
+    let edges = counts(alloc, room_for(list.len()), list)?;
     Ok(rounded_of(segments, edges, tiles, remade))
 }
 
 /// As `gather_made`, by so many hands, each in a thread of its own.
-pub fn gather_made_by_hands<T: Tiled, A: Allocator + Copy + Send + Sync, R: Threads + Sync>(
+pub fn gather_made_by_hands<T: Tiled + Sync, A: Allocator + Copy + Send + Sync, R: Threads + Sync>(
     rt: &R,
     alloc: A,
     hands: usize,
@@ -212,101 +210,45 @@ pub fn gather_made_by_hands<T: Tiled, A: Allocator + Copy + Send + Sync, R: Thre
     ensures tiles { IfOk result (λ r. AreTileNumbers grid.now segments.now (tile_count grid.now) r.tiles.items) }
     ensures remade { IfOk result (λ r. r.remade ≡ remade) }
 {
-    let Part { pixels, records } = all_made(alloc, &pieces)?;
+    if hands < 2 {
+        return gather_made(alloc, pieces, remade, cells, grid, segments);
+    }
+    let shares = shares_by_hands(rt, alloc, hands, &pieces)?;
+    let pixels = pixels_of(alloc, &pieces)?;
     drop(pieces);
-    let records = in_order_by_hands(rt, hands, records);
-    let (tiles, list) = numbers_and_links(rt, alloc, hands, grid, segments, &pixels, &records);
+    let found = link_parts(rt, alloc, grid, segments, &pixels, shares)?;
     drop(pixels);
-    drop(records);
-    let tiles = tiles?;
-    let edges = counts_by_hands(rt, alloc, hands, list?)?;
+    let tiles = paired(alloc, &found.hot, &found.records)?;
+    let edges = counts_by_hands(rt, alloc, hands, found.links)?;
     Ok(rounded_of(segments, edges, tiles, remade))
 }
 
-/// How many hot pixels and how many records pieces have together.
-fn room_for<T: Tiled, A: Allocator>(pieces: &[TilePiece<T, A>]) -> (usize, usize) {
-    let (mut hot, mut found) = (0usize, 0usize);
-    for piece in pieces {
-        hot = hot.saturating_add(piece.pixels.len());
-        found = found.saturating_add(piece.records.len());
-    }
-    (hot, found)
-}
-
-/// The hot pixels and the records of pieces that stand in the order of their cells.
-fn all_made<T: Tiled, A: Allocator + Copy>(
+/// The hot pixels of pieces, in their order.
+fn pixels_of<T: Tiled, A: Allocator>(
     alloc: A,
     pieces: &[TilePiece<T, A>],
-) -> Result<Part<A>, NoMemory>
-    requires { StandInOrder (λ p. p.number) pieces.now }
-    ensures { IfOk result (λ f. ∥ HasPartsBelow T.grid T.segments (length pieces.now) f.pixels.items f.records.items ∥₁) }
+) -> Result<Vec<Pt, A>, NoMemory>
+    ensures { IfOk result (λ v. v.items ≡ flat_map (λ p. p.pixels.items) pieces.now) }
 {
-    let (hot, found) = room_for(pieces);
-    let mut pixels = Vec::with_capacity(alloc, hot)?;
-    let mut records = Vec::with_capacity(alloc, found)?;
+    let mut pixels = Vec::new(alloc);
     for piece in pieces {
         pixels.extend_from_slice(&piece.pixels)?;
+    }
+    Ok(pixels)
+}
+
+/// The records of pieces, in their order.
+fn records_of<T: Tiled, A: Allocator>(
+    alloc: A,
+    pieces: &[TilePiece<T, A>],
+) -> Result<Vec<Record, A>, NoMemory>
+    ensures { IfOk result (λ v. v.items ≡ flat_map (λ p. p.records.items) pieces.now) }
+{
+    let mut records = Vec::with_capacity(alloc, item_count(pieces))?;
+    for piece in pieces {
         records.extend_from_slice(&piece.records)?;
     }
-    Ok(Part { pixels, records })
-}
-
-/// The numbers of the tiles of a grid, and the links of the records of all routes: where there are several hands, one counts
-/// and the others link.
-fn numbers_and_links<R: Threads + Sync, A: Allocator + Copy + Send + Sync>(
-    rt: &R,
-    alloc: A,
-    hands: usize,
-    grid: &Grid,
-    segments: &[Seg],
-    pixels: &[Pt],
-    records: &[Record],
-) -> (
-    Result<Vec<TileNumbers, A>, NoMemory>,
-    Result<Vec<Link, A>, NoMemory>,
-)
-    requires may { MayCount grid.now pixels.now records.now }
-    requires records { ∥ AreRecords segments.now records.now ∥₁ }
-    ensures numbers { IfOk result.0 (λ v. AreNumbersOf grid.now pixels.now records.now v.items) }
-    ensures links { IfOk result.1 (λ v. ∥ AreLinks segments.now v.items ∥₁) }
-{
-    if hands < 2 {
-        let tiles = numbers_of(alloc, grid, pixels, records);
-        return (tiles, links(alloc, segments, records));
-    }
-    join(
-        rt,
-        || -> Result<Vec<TileNumbers, A>, NoMemory>
-            requires { MayCount grid.now pixels.now records.now }
-            ensures { IfOk result (λ v. AreNumbersOf grid.entry.now pixels.entry.now records.entry.now v.items) }
-        { numbers_of(alloc, grid, pixels, records) },
-        || -> Result<Vec<Link, A>, NoMemory>
-            requires { IsSync R.row × IsSend A.row × IsSync A.row × (2 ≤ hands) × ∥ AreRecords segments.now records.now ∥₁ }
-            ensures { IfOk result (λ v. ∥ AreLinks segments.entry.now v.items ∥₁) }
-        { links_by_hands(rt, alloc, hands - 1, segments, records) },
-    )
-}
-
-/// Records in order, each once.
-fn in_order<A: Allocator>(records: Vec<Record, A>) -> Vec<Record, A>
-    ensures { (segments : List Seg) → HasRecords segments records.items → AreRecords segments result.items }
-{
-    let mut records = sorted(records);
-    records.dedup();
-    records
-}
-
-/// The same, by so many hands.
-fn in_order_by_hands<R: Threads + Sync, A: Allocator>(
-    rt: &R,
-    hands: usize,
-    records: Vec<Record, A>,
-) -> Vec<Record, A>
-    ensures { (segments : List Seg) → HasRecords segments records.items → AreRecords segments result.items }
-{
-    let mut records = sorted_by_hands(rt, hands, records);
-    records.dedup();
-    records
+    Ok(records)
 }
 
 /// What was gathered, by the rounded edges of segments.

@@ -11,7 +11,10 @@ use Rattle.geom.specs.Limit.{AreInLimit, IsWithin, coordinate_limit}
 use Rattle.geom.specs.declared.point.Pt.{Pt}
 use Rattle.geom.specs.declared.rect.Rect.{Rect}
 use Rattle.geom.proofs.Lists.{In, contains_in, in_contains, in_append}
+use Rattle.geom.specs.declared.segment.Seg.{Seg}
+use Rattle.std.proofs.lemmas.List.Elements.{Contains-append_cases}
 use Rattle.tiling.specs.Tiles.{AreBounds}
+use Rattle.chain_gather.specs.Gathered.{BoundsHold}
 use Rattle.engine.specs.Rounds.{AreBoundsOf, AreJointBounds}
 
 append_in : {X : Type 0} (xs ys : List X) (x : X) → In x xs ⊎ In x ys → In x (xs ++ ys)
@@ -53,7 +56,7 @@ max_above : (q a b c z : ℤ) → q ≡ int_max (int_max a b) c → z ≤ℤ a �
 max_above q a b c z e h = omega (arith, ints, clamps)
 
 module _ (r s q : Rect) (j : IsJoined r s q) where
-  from_first : (p : Pt) → IsInBox r.lo r.hi p → IsInBox q.lo q.hi p
+  pub from_first : (p : Pt) → IsInBox r.lo r.hi p → IsInBox q.lo q.hi p
   from_first p h = record {
     left = min_first _ _ _ _ _ j.left h.left;
     right = max_first _ _ _ _ _ j.right h.right;
@@ -61,7 +64,7 @@ module _ (r s q : Rect) (j : IsJoined r s q) where
     top = max_first _ _ _ _ _ j.top h.top;
   }
 
-  from_second : (p : Pt) → IsInBox s.lo s.hi p → IsInBox q.lo q.hi p
+  pub from_second : (p : Pt) → IsInBox s.lo s.hi p → IsInBox q.lo q.hi p
   from_second p h = record {
     left = min_second _ _ _ _ _ j.left h.left;
     right = max_third q.hi.x r.hi.x s.lo.x s.hi.x p.x j.right h.right;
@@ -129,3 +132,17 @@ joined_in_limit r s q j h k = record {
 pub bounds_from_some : (o : Option Rect) → IfSome o (λ r. AreInLimit r.lo r.hi) → AreBounds o
 bounds_from_some None h = tt
 bounds_from_some (Some r) h = h
+
+-- ---- segments that boxes hold
+pub joined_holds : (r s q : Rect) → IsJoined r s q → (front back : List Seg) → BoundsHold (Some r) front → BoundsHold (Some s) back → BoundsHold (Some q) (front ++ back)
+joined_holds r s q j front back h k = λ t c. ⊎_elim
+    (λ i. let ends = h t i in (from_first r s q j t.a ends.0, from_first r s q j t.b ends.1))
+    (λ i. let ends = k t i in (from_second r s q j t.a ends.0, from_second r s q j t.b ends.1))
+    (Contains-append_cases front back t c)
+
+pub first_holds : (r : Rect) (front back : List Seg) → BoundsHold (Some r) front → BoundsHold None back → BoundsHold (Some r) (front ++ back)
+first_holds r front back h k = λ t c. ⊎_elim (λ i. h t i) (λ i. absurd (k t i)) (Contains-append_cases front back t c)
+
+pub second_holds : (o : Option Rect) (front back : List Seg) → BoundsHold None front → BoundsHold o back → BoundsHold o (front ++ back)
+second_holds None front back h k = λ t c. ⊎_elim (λ i. h t i) (λ i. k t i) (Contains-append_cases front back t c)
+second_holds (Some s) front back h k = λ t c. ⊎_elim (λ i. absurd (h t i)) (λ i. k t i) (Contains-append_cases front back t c)

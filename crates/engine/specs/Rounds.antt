@@ -14,7 +14,7 @@ use Rattle.geom.specs.declared.fault.Fault.TheVariants.{TooManyTiles}
 use Rattle.geom.specs.declared.fault.Part.{Part}
 use Rattle.geom.specs.declared.fault.Part.TheVariants.{Run}
 use Rattle.tiling.specs.Tiles.{IsGridOf, Tiling, most_tiles, tile_count}
-use Rattle.tiling.specs.Bins.{AreBins, TileBins}
+use Rattle.tiling.specs.Bins.{AreBins, AreRowBins, TileBins, TileRows}
 use Rattle.chain_gather.specs.Gathered.{AreBoxesOf, AreTileNumbers}
 use Rattle.chain_gather.specs.declared.rounded.TileNumbers.{TileNumbers}
 use Rattle.wkt.specs.LayerText.{Ring}
@@ -43,6 +43,12 @@ pub record AreSegmentsOf (a b : List ℕ) (segments : List Seg) : Type 0 where
   pub accepted_a : IsAccepted a rings_a
   pub accepted_b : IsAccepted b rings_b
   pub are_segments : AreSegments (plain rings_a) (plain rings_b) segments
+
+-- the segments of the layer that a text stands for
+pub record AreLayerSegments (layer : Source) (text : List ℕ) (segments : List Seg) : Type 0 where
+  pub rings : List Ring
+  pub accepted : IsAccepted text rings
+  pub are_segments : map parts segments ≡ map (tagged layer) (layer_steps (plain rings))
 
 -- ---- the grid
 
@@ -87,6 +93,15 @@ pub record AreCellBins (g : Tiling) (segments : List Seg) (bins : TileBins) : Ty
   pub boxes : List Rect
   pub are_boxes : AreBoxesOf segments boxes
   pub are_bins : AreBins boxes bins
+
+-- the bins of the tiles in a grid's rows from one to below another are those of the segments' boxes
+pub record AreCellRows (g : Tiling) (from past : ℕ) (segments : List Seg) (bins : TileRows) : Type 0 where
+  pub grid_is : bins.grid ≡ g
+  pub from_is : bins.from ≡ from
+  pub past_is : bins.past ≡ past
+  pub boxes : List Rect
+  pub are_boxes : AreBoxesOf segments boxes
+  pub are_bins : AreRowBins boxes bins
 
 -- ---- what is rounded
 

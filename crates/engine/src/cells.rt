@@ -7,7 +7,8 @@
 //!    the segments, whatever these are.
 //! 3. Each segment goes to the cells that its box meets (`bins_of`).
 
-ghost use Rattle.std.specs.Prelude.{IfOk, Some};
+ghost use Rattle.std.specs.Prelude.{IfOk, List, Some};
+ghost use Rattle.geom.specs.declared.segment.Seg.{Seg};
 ghost use Rattle.tiling.specs.Tiles.{AreBounds, CoversBounds};
 ghost use Rattle.chain_gather.specs.Gathered.{BoundsHold, HaveTiles};
 ghost use Rattle.engine.specs.Rounds.{AllInLimit, AreCellBins};
@@ -30,10 +31,28 @@ const HALVINGS: u32 = 21;
 
 /// How far segments reach: the widths and heights of their boxes, and the areas of these, added up.
 #[derive(Clone, Copy)]
-struct Reach {
+pub(crate) struct Reach {
     count: u64,
     lengths: u128,
     areas: u128,
+}
+
+impl Reach {
+    /// How far these segments and others reach.
+    pub(crate) fn and(self, others: Reach) -> Reach {
+        Reach {
+            count: self.count.saturating_add(others.count),
+            lengths: self.lengths.saturating_add(others.lengths),
+            areas: self.areas.saturating_add(others.areas),
+        }
+    }
+}
+
+/// The box of segments, or none where there are none, and how far they reach.
+#[derive(Clone, Copy)]
+pub(crate) struct Extent {
+    pub bounds: Option<Rect>,
+    pub reach: Reach,
 }
 
 /// The cells for workers over segments that a grid covers.
@@ -42,9 +61,29 @@ pub(crate) fn cells_of(grid: &Grid, workers: u32, segments: &[Seg]) -> Grid
     requires covered { HaveTiles grid.now segments.now }
     ensures { HaveTiles result segments.now }
 {
-    match bounds_of(segments) {
-        Some(bounds) => grid_of(bounds, &reach_of(segments), workers),
+    cells_within(grid, &extent_of(segments), workers)
+}
+
+/// The same, over the extent of segments.
+pub(crate) fn cells_within(grid: &Grid, extent: &Extent, workers: u32) -> Grid
+    requires { AreBounds extent.now.bounds }
+    ensures { (segments : List Seg) → BoundsHold extent.now.bounds segments → HaveTiles grid.now segments → HaveTiles result segments }
+{
+    match extent.bounds {
+        Some(bounds) => grid_of(bounds, &extent.reach, workers),
         None => *grid,
+    }
+}
+
+/// The box of segments and how far they reach.
+pub(crate) fn extent_of(segments: &[Seg]) -> Extent
+    requires { AllInLimit segments.now }
+    ensures in_limit { AreBounds result.bounds }
+    ensures holds { BoundsHold result.bounds segments.now }
+{
+    Extent {
+        bounds: bounds_of(segments),
+        reach: reach_of(segments),
     }
 }
 
@@ -102,10 +141,12 @@ fn reach_of(segments: &[Seg]) -> Reach {
         areas: 0,
     };
     for segment in segments {
-        let width = u128::from(segment.a.x.abs_diff(segment.b.x));
-        let height = u128::from(segment.a.y.abs_diff(segment.b.y));
-        reach.lengths = reach.lengths.saturating_add(width + height);
-        reach.areas = reach.areas.saturating_add(width.saturating_mul(height));
+        let width = u64::from(segment.a.x.abs_diff(segment.b.x));
+        let height = u64::from(segment.a.y.abs_diff(segment.b.y));
+        reach.lengths = reach.lengths.saturating_add(u128::from(width + height));
+        reach.areas = reach
+            .areas
+            .saturating_add(u128::from(width.saturating_mul(height)));
     }
     reach
 }

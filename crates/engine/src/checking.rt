@@ -5,7 +5,9 @@
 //! 3. Both layers together have few segments (`check_total`).
 //! 4. The grid over both boxes has few tiles (`grid_over`).
 
-ghost use Rattle.std.specs.Prelude.{◌≡◌, ◌+◌, ◌<◌, ◌≤◌, IfOk, IsTrue, MatchResult, nat_lt};
+ghost use Rattle.std.specs.Prelude.{◌≡◌, ◌+◌, ◌<◌, ◌≤◌, ◌++◌, IfOk, IsTrue, List, MatchResult, nat_lt};
+ghost use Rattle.geom.specs.declared.segment.Seg.{Seg};
+ghost use Rattle.chain_gather.specs.Gathered.{BoundsHold};
 ghost use Rattle.tiling.specs.Tiles.{AreBounds, IsSide};
 ghost use Rattle.engine.specs.Rounds.{AreJointBounds, IsTooFine, IsUsableGrid};
 ghost use Rattle.geom.specs.Fault.{number_of};
@@ -145,6 +147,7 @@ fn grid_over(a: Option<Rect>, b: Option<Rect>, side: u32) -> Result<Grid, RunFau
 pub(crate) fn joint_bounds(a: Option<Rect>, b: Option<Rect>) -> Option<Rect>
     ensures joint { AreJointBounds a b result }
     ensures in_limit { AreBounds a → AreBounds b → AreBounds result }
+    ensures holds { (front back : List Seg) → BoundsHold a front → BoundsHold b back → BoundsHold result (front ++ back) }
 {
     match (a, b) {
         (Some(r), Some(s)) => Some(r.with(s.lo).with(s.hi)),

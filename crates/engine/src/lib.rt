@@ -2,6 +2,7 @@
 #![tactic(auto)]
 
 mod alone;
+mod cell_parts;
 mod cells;
 mod checking;
 mod engine;

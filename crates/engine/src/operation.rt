@@ -13,7 +13,7 @@ use crate::text::{edges_text, edges_text_at_once};
 use face_label::Directed;
 use geom::{Counted, NoMemory, Op};
 use label_sweep::{layer_labels, layer_labels_by_hands};
-use polygonize::polygons;
+use polygonize::{polygons, polygons_by_hands};
 use std::alloc::Allocator;
 use std::thread::Threads;
 use wkt::write_multi;
@@ -73,7 +73,7 @@ pub fn result_text<A: Allocator + Copy>(
     line_along(alloc, &directed)
 }
 
-/// The same line, where workers sweep.
+/// The same line, where workers sweep and look for the next edges.
 fn result_text_by_workers<A: Allocator + Copy + Send + Sync, R: Threads + Sync>(
     rt: &R,
     alloc: A,
@@ -85,7 +85,7 @@ fn result_text_by_workers<A: Allocator + Copy + Send + Sync, R: Threads + Sync>(
     ensures { IfOk result (λ text. IsResultText op counted.now text.items) }
 {
     let directed = layer_labels_by_hands(rt, workers, alloc, counted, op)?;
-    line_along(alloc, &directed)
+    line_by_workers(rt, alloc, workers, &directed)
 }
 
 /// The canonical line of the result that these directed edges bound.
@@ -96,4 +96,19 @@ fn line_along<A: Allocator + Copy>(alloc: A, directed: &Directed<A>) -> Result<V
 {
     let polygons = polygons(alloc, directed)?;
     write_multi(alloc, polygons.as_slice())
+}
+
+/// The same line, where workers look for the next edges.
+fn line_by_workers<A: Allocator + Copy + Send + Sync, R: Threads + Sync>(
+    rt: &R,
+    alloc: A,
+    workers: u32,
+    directed: &Directed<A>,
+) -> Result<Vec<u8, A>, NoMemory>
+    requires closes { Closes directed.now }
+    requires in_limit { All (λ d. AreInLimit d.from d.to) directed.now }
+    ensures { IfOk result (λ text. (op : Op) (counted : List Counted) → AreLayers counted → AreResultEdges op counted directed.now → IsResultText op counted text.items) }
+{
+    let found = polygons_by_hands(rt, workers, alloc, directed)?;
+    write_multi(alloc, found.as_slice())
 }

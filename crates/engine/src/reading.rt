@@ -2,16 +2,16 @@
 //!
 //! 1. Either text is checked and read in one pass (`reading`), both at once where there are workers for both (`read_both`).
 //! 2. The rings that were read, or are read now, since there was no room for them before (`rings_of`), are cut into segments
-//!    (`read_segments`).
+//!    (`read_segments`), those of both layers at once where there are workers for both (`read_segments_by_workers`).
 
 ghost use Rattle.std.specs.Prelude.{IfOk};
-ghost use Rattle.engine.specs.Rounds.{AllInLimit, AreRingsInLimit, AreSegmentsOf};
+ghost use Rattle.engine.specs.Rounds.{AllInLimit, AreLayerSegments, AreRingsInLimit, AreSegmentsOf};
 ghost use Rattle.engine.specs.Runs.{IsReading};
 ghost use Rattle.wkt.specs.Refusals.{StandsFor};
 
 use crate::checking::{CheckedInput, Reading};
-use crate::segments::segments_of;
-use geom::{Layer, NoMemory, Seg};
+use crate::segments::{layer_segments, segments_of};
+use geom::{Layer, NoMemory, Seg, Source};
 use std::alloc::Allocator;
 use std::thread::{Threads, join};
 use wkt::{OutlinedLayer, read_layer, read_outlined};
@@ -81,4 +81,50 @@ pub(crate) fn read_segments<A: Allocator + Copy>(
     let layer_b = rings_of(alloc, checked.b, read_b)?;
     let count = u64::from(checked.segments_a) + u64::from(checked.segments_b);
     segments_of(alloc, &layer_a, &layer_b, count as usize)
+}
+
+/// The same, of both layers at once by more than one worker: either hand lets the rings go that it cuts.
+pub(crate) fn read_segments_by_workers<A: Allocator + Copy + Send + Sync, R: Threads + Sync>(
+    rt: &R,
+    alloc: A,
+    checked: &CheckedInput<'_, '_>,
+    read_a: Reading<A>,
+    read_b: Reading<A>,
+) -> Result<Vec<Seg, A>, NoMemory>
+    requires read_a { IsReading checked.now.a.now read_a }
+    requires read_b { IsReading checked.now.b.now read_b }
+    ensures segments { IfOk result (λ v. AreSegmentsOf checked.now.a.now checked.now.b.now v.items) }
+    ensures in_limit { IfOk result (λ v. AllInLimit v.items) }
+{
+    if checked.plan.workers < 2 {
+        return read_segments(alloc, checked, read_a, read_b);
+    }
+    let (a, b) = (checked.a, checked.b);
+    let own = checked.segments_b as usize;
+    // The first list has room for both.
+    let room = checked.segments_a as usize + own;
+    let (first, second) = join(
+        rt,
+        move || segments_in(alloc, a, read_a, Source::A, room),
+        move || segments_in(alloc, b, read_b, Source::B, own),
+    );
+    let mut segments = first?;
+    segments.extend_from_slice(second?.as_slice())?;
+    Ok(segments)
+}
+
+/// The segments of one layer, by what was read of its text, with room for so many.
+fn segments_in<A: Allocator + Copy>(
+    alloc: A,
+    text: &[u8],
+    reading: Reading<A>,
+    layer: Source,
+    room: usize,
+) -> Result<Vec<Seg, A>, NoMemory>
+    requires { IsReading text.now reading }
+    ensures segments { IfOk result (λ v. AreLayerSegments layer text.now v.items) }
+    ensures in_limit { IfOk result (λ v. AllInLimit v.items) }
+{
+    let rings = rings_of(alloc, text, reading)?;
+    layer_segments(alloc, &rings, layer, room)
 }

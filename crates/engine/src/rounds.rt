@@ -8,9 +8,9 @@ ghost use Rattle.points_law.specs.Law.{AreLayers};
 ghost use Rattle.engine.specs.Rounds.{AllInLimit, AreCellBins, AreRoundedOver, TellsTiles};
 ghost use Rattle.engine.specs.Runs.{IsReading};
 
-use crate::cells::{bins_of, cells_of};
+use crate::cell_parts::{bins_by_hands, cells_by_hands};
 use crate::checking::{CheckedInput, Reading};
-use crate::reading::read_segments;
+use crate::reading::read_segments_by_workers;
 use crate::text::Report;
 use chain_gather::{TileNumbers, TilePiece, Tiled, gather_made_by_hands};
 use geom::{NoMemory, Seg};
@@ -67,7 +67,7 @@ pub(crate) fn rounded_layers<
     ensures layers { IfOk result (λ n. ∥ AreLayers n.edges.items ∥₁) }
     ensures remade { IfOk result (λ n. n.remade ≤ tile_count checked.now.grid) }
 {
-    let segments = read_segments(alloc, checked, read_a, read_b)?;
+    let segments = read_segments_by_workers(rt, alloc, checked, read_a, read_b)?;
     gathered(
         rt,
         alloc,
@@ -94,7 +94,7 @@ fn gathered<A: Allocator + Copy + Send + Sync, G: Gate + Sync, R: Threads + Wait
     ensures tiles { IfOk result (λ n. AreTileNumbers grid.now segments.now (tile_count grid.now) n.tiles.items) }
     ensures remade { IfOk result (λ n. n.remade ≤ tile_count grid.now) }
 {
-    let cells = cells_of(grid, workers, segments);
+    let cells = cells_by_hands(rt, grid, workers, segments);
     let blank = Blank::new(u64::from(workers));
     by_cells::<Brand, Brand, A, G, R>(rt, alloc, blank, grid, &cells, workers, segments, gate)
 }
@@ -128,7 +128,7 @@ fn by_cells<
     ensures tiles { IfOk result (λ n. AreTileNumbers grid.now segments.now (tile_count grid.now) n.tiles.items) }
     ensures remade { IfOk result (λ n. n.remade ≤ tile_count grid.now) }
 {
-    let bins = bins_of(alloc, cells, segments)?;
+    let bins = bins_by_hands(rt, alloc, workers as usize, cells, segments)?;
     let job: Pieces<T, A> = Pieces {
         grid: cells,
         bins: &bins,

@@ -27,6 +27,22 @@ pub fn segments_of<A: Allocator>(
     Ok(segments)
 }
 
+/// The segments of one layer in text order, with room for so many.
+pub(crate) fn layer_segments<A: Allocator>(
+    alloc: A,
+    rings: &Layer<A>,
+    layer: Source,
+    room: usize,
+) -> Result<Vec<Seg, A>, NoMemory>
+    requires { AreRingsInLimit rings.now }
+    ensures segments { IfOk result (λ v. HasSteps layer (flat_map ring_steps rings.now) [] v.items) }
+    ensures in_limit { IfOk result (λ v. AllInLimit v.items) }
+{
+    let mut segments = Vec::with_capacity(alloc, room)?;
+    push_rings(&mut segments, rings.rings(), layer)?;
+    Ok(segments)
+}
+
 /// Adds the segments of a layer's rings.
 fn push_rings<A: Allocator>(
     segments: &mut Vec<Seg, A>,

@@ -6,3 +6,4 @@ pub mod CandidateLaws
 pub mod HalvingLaws
 pub mod NearLaws
 pub mod BundleLaws
+pub mod EndLaws

@@ -63,12 +63,16 @@ module _ (tile : Rect) (e : Edge) (others : List Edge) (i : ℕ) (f : Edge) (old
   more : (x : Edge) → Contains (take (i + 1) others) x ↔ (Contains (take i others) x ⊎ (f ≡ x))
   more x = in_take_more others i f l is x
 
-  pub crossed_skip : ((c : Pt) → CrossAt f e c → ⊥) → HasCrossed tile e (take (i + 1) others) old found
-  crossed_skip none = record {
+  -- what they cross in is found
+  pub crossed_known : ((c : Pt) → CrossAt f e c → IsIn tile c → Contains old c) → HasCrossed tile e (take (i + 1) others) old found
+  crossed_known known = record {
     kept = h.kept;
     only = λ c k. ⊎_elim (λ m. inl m) (λ m. inr ((m.0.0, (more m.0.0).1 (inl m.0.1), m.0.2), m.1)) (h.only c k);
-    all = λ x c k a t. ⊎_elim (λ m. h.all x c m a t) (λ m. absurd (none c (subst (λ (y : Edge). CrossAt y e c) (sym m) a))) ((more x).0 k);
+    all = λ x c k a t. ⊎_elim (λ m. h.all x c m a t) (λ m. h.kept c (known c (subst (λ (y : Edge). CrossAt y e c) (sym m) a) t)) ((more x).0 k);
   }
+
+  pub crossed_skip : ((c : Pt) → CrossAt f e c → ⊥) → HasCrossed tile e (take (i + 1) others) old found
+  crossed_skip none = crossed_known (λ c a t. absurd (none c a))
 
   pub crossed_push : (new : List Pt) (p : Pt) → CrossAt f e p → ((c : Pt) → CrossAt f e c → p ≡ c) → HasPushed tile p found new → HasCrossed tile e (take (i + 1) others) old new
   crossed_push new p at only_p g = record {

@@ -1,10 +1,10 @@
 //! The hot pixels of a rectangle with few lines: by all ends and all pairs.
 
-ghost use Rattle.std.specs.Prelude.{◌≡◌, ◌≤◌, All, Contains, IsTrue, OnOk, length, take};
+ghost use Rattle.std.specs.Prelude.{◌≡◌, ◌⊎◌, ◌≤◌, All, Contains, IsTrue, OnOk, false, length, take, true};
 ghost use Rattle.geom.specs.declared.point.Pt.{Pt};
 ghost use Rattle.geom.specs.Limit.{AreInLimit};
-ghost use Rattle.hot_pixel.specs.Halving.{edges_of, HasEndsToo, HasHot};
-ghost use Rattle.hot_pixel.specs.Lines.{HasAllCrossed, HasCrossed};
+ghost use Rattle.hot_pixel.specs.Halving.{edges_of, HasEndsToo, HasHot, IsEndOf};
+ghost use Rattle.hot_pixel.specs.Lines.{CrossAt, HasAllCrossed, HasCrossed};
 ghost use Rattle.hot_pixel.specs.Rects.{IsIn};
 
 use crate::lines::{Line, on_line};
@@ -28,7 +28,28 @@ fn add_ends<A: Allocator>(
     Ok(())
 }
 
-/// Adds the crossings of a line with other lines that lie in the rectangle.
+/// Whether a point is an end of a line.
+fn is_end_of(point: Pt, line: &Edge) -> bool
+    ensures { result ≡ true → (point ≡ line.now.p) ⊎ (point ≡ line.now.q) }
+{
+    point == line.p || point == line.q
+}
+
+/// Whether two lines have a common end. Where they do and cross, they cross there.
+fn have_common_end(e: &Edge, f: &Edge) -> bool
+    ensures { (c : Pt) → result ≡ true → CrossAt f.now e.now c → (e.now.p ≡ c) ⊎ (e.now.q ≡ c) }
+{
+    is_end_of(e.p, f) || is_end_of(e.q, f)
+}
+
+/// Whether two lines may cross elsewhere than in an end of the first.
+fn may_cross(e: &Edge, f: &Edge) -> bool
+    ensures { (c : Pt) → result ≡ false → CrossAt f.now e.now c → (e.now.p ≡ c) ⊎ (e.now.q ≡ c) }
+{
+    may_meet(&on_line(e), &on_line(f)) && !have_common_end(e, f)
+}
+
+/// Adds the crossings of a line with other lines that lie in the rectangle, where its ends there are found.
 fn cross_with<A: Allocator>(
     rect: &Rect,
     line: &Edge,
@@ -37,12 +58,13 @@ fn cross_with<A: Allocator>(
 ) -> Result<(), NoMemory>
     requires line_in { AreInLimit line.now.p line.now.q }
     requires others_in { All (λ l. AreInLimit l.edge.p l.edge.q) others.now }
+    requires ends { (c : Pt) → (line.now.p ≡ c) ⊎ (line.now.q ≡ c) → IsIn rect.now c → Contains found.old.items c }
     ensures { OnOk result (HasCrossed rect.now line.now (edges_of others.now) found.old.items found.new.items) }
 {
     let s = on_line(line);
     for other in others {
-        let t = on_line(&other.edge);
-        if may_meet(&s, &t) {
+        if may_cross(line, &other.edge) {
+            let t = on_line(&other.edge);
             if let Some(pixel) = cross(&s, &t) {
                 push_in(found, rect, pixel)?;
             }
@@ -69,14 +91,15 @@ fn is_found(rect: &Rect, found: &[Pt]) -> bool
     }
 }
 
-/// Adds the crossings of all pairs of lines that lie in the rectangle. Where that is one pixel, a crossing in it is the
-/// last one that is looked for.
+/// Adds the crossings of all pairs of lines that lie in the rectangle, where all ends there are found. Where it is one pixel, a
+/// crossing in it is the last one that is looked for.
 fn cross_pairs<A: Allocator>(
     rect: &Rect,
     lines: &[Line],
     found: &mut Vec<Pt, A>,
 ) -> Result<(), NoMemory>
-    requires { All (λ l. AreInLimit l.edge.p l.edge.q) lines.now }
+    requires lines_in { All (λ l. AreInLimit l.edge.p l.edge.q) lines.now }
+    requires ends { (c : Pt) → IsEndOf (edges_of lines.now) c → IsIn rect.now c → Contains found.old.items c }
     ensures { OnOk result (HasAllCrossed rect.now (edges_of lines.now) found.old.items found.new.items) }
 {
     for place in 0..lines.len() {

@@ -2,13 +2,12 @@
 use Rattle.std.proofs.Common.{◌≡◌, ◌⊎◌, inl, inr, ⊎_elim, true, false, int_lt, ℕ, ◌+◌, ◌-◌, ◌/◌, ◌<◌, ◌≤◌, List, [], ◌∷◌, ◌++◌, map, length, get_or, take, drop, refl, sym, ap, ◌∙◌, subst, arith, append_assoc, FitsSigned, w32}
 use Rattle.std.specs.List.{AllPairs, AllWithin, Contains}
 use Rattle.std.specs.List.Sorted.{IsPartitionedBy}
-use Rattle.std.specs.Prelude.{slice_range, IfOk, Result, Ok, Err, ◌<ℤ◌, ◌≤ℤ◌, ◌↔◌}
+use Rattle.std.specs.Prelude.{slice_range, ◌<ℤ◌, ◌≤ℤ◌, ◌↔◌}
 use Rattle.std.proofs.Math.IntN.{ℤ}
 use Rattle.std.proofs.lemmas.Bool.{cases_lt}
 use Rattle.std.proofs.lemmas.Int.{ints}
 use Rattle.std.proofs.lemmas.List.{get_or_default, map-append}
-use Rattle.std.proofs.lemmas.List.Elements.{All-append, All-nil}
-use Rattle.std.specs.declared.vec.Vec.{Vec}
+use Rattle.std.proofs.lemmas.List.Elements.{All-append, All-nil, Contains-append_cases, Contains-append_left, Contains-append_right}
 use Rattle.geom.specs.declared.point.Pt.{Pt}
 use Rattle.geom.specs.declared.edge.Edge.{Edge}
 use Rattle.geom.specs.declared.edge.Counted.{Counted}
@@ -212,14 +211,25 @@ directed_append op [] ms = refl
 directed_append op (l ∷ ls) ms = ap (λ t. ways l.edge (directions_of op l) ++ t) (directed_append op ls ms) ∙ sym (append_assoc (ways l.edge (directions_of op l)) (directed_of op ls) (directed_of op ms))
 
 pub joined_edges : (op : Op) (cs : List Counted) (vs : List Pt) (from m to : ℕ) → from ≤ m → m ≤ to → to ≤ length vs → (es fs : List DirectedEdge)
-    → AreDirectedFrom op cs (slice_range vs from m) es → AreDirectedFrom op cs (slice_range vs m to) fs → AreDirectedFrom op cs (slice_range vs from to) (es ++ fs)
-joined_edges op cs vs from m to l h w es fs d e = record {
+    → AreDirectedFrom op cs (slice_range vs from m) es → AreDirectedFrom op cs (slice_range vs m to) fs
+    → (all : List DirectedEdge) → AllPairs IsDirectedBefore all → ((d : DirectedEdge) → Contains all d ↔ Contains (es ++ fs) d) → AreDirectedFrom op cs (slice_range vs from to) all
+joined_edges op cs vs from m to l h w es fs d e all ascending same = record {
   labelled = d.labelled ++ e.labelled;
   labels = record {
     each = All-append (IsLabelled cs) d.labelled e.labelled d.labels.each e.labels.each;
     all = λ f i j. subst (λ (t : List Edge). Contains t f) (sym (map-append edge_of d.labelled e.labelled)) (in_contains (map edge_of d.labelled ++ map edge_of e.labelled) f (found f i (ranged vs from to (omega (arith, l, h)) w f.p (contains_in (slice_range vs from to) f.p j))));
   };
-  along = (λ i. d.along i ++ e.along i) ∙ sym (directed_append op d.labelled e.labelled);
+  ascending = ascending;
+  along = λ b. (
+    (λ i. subst (λ (t : List DirectedEdge). Contains t b) (sym (directed_append op d.labelled e.labelled)) (⊎_elim
+        (λ j. Contains-append_left (directed_of op d.labelled) (directed_of op e.labelled) b ((d.along b).0 j))
+        (λ j. Contains-append_right (directed_of op d.labelled) (directed_of op e.labelled) b ((e.along b).0 j))
+        (Contains-append_cases es fs b ((same b).0 i)))),
+    (λ i. (same b).1 (⊎_elim
+        (λ j. Contains-append_left es fs b ((d.along b).1 j))
+        (λ j. Contains-append_right es fs b ((e.along b).1 j))
+        (Contains-append_cases (directed_of op d.labelled) (directed_of op e.labelled) b (subst (λ (t : List DirectedEdge). Contains t b) (directed_append op d.labelled e.labelled) i)))),
+  );
 }
   where
     edge_of : LabelledEdge → Edge
@@ -231,14 +241,9 @@ joined_edges op cs vs from m to l h w es fs d e = record {
         (λ k. in_back (map edge_of d.labelled) (map edge_of e.labelled) f (contains_in (map edge_of e.labelled) f (e.labels.all f c (in_contains (slice_range vs m to) f.p (in_range vs m to w f.p n.0 k n.2 n.3)))))
         (cases_lt n.0 m)
 
-pub if_joined : {A E : Type 0} (P : List DirectedEdge → Type 0) (es : List DirectedEdge) → P es → (r : Result (Vec DirectedEdge A) E) → IfOk r (λ v. v.items ≡ es) → IfOk r (λ v. P v.items)
-if_joined P es p (Ok v) e = subst P (sym e) p
-if_joined P es p (Err f) e = tt
-
 -- ---- all of them
 pub whole_edges : (op : Op) (cs : List Counted) (vs : List Pt) → AreVertices (edges_of cs) vs → (strip : Strip) → strip.from ≡ 0 → strip.to ≡ length vs
-    → (es : List DirectedEdge) → AreDirectedFrom op cs (slice_range vs strip.from strip.to) es
-    → (ds : List DirectedEdge) → AllPairs IsDirectedBefore ds → ((d : DirectedEdge) → Contains ds d ↔ Contains es d) → AreResultEdges op cs ds
-whole_edges op cs vs a strip f h es d = result_edges op cs (slice_range vs strip.from strip.to)
+    → (es : List DirectedEdge) → AreDirectedFrom op cs (slice_range vs strip.from strip.to) es → AreResultEdges op cs es
+whole_edges op cs vs a strip f h = result_edges op cs (slice_range vs strip.from strip.to)
     (λ e i. let v = (a.exact e.p).1 (record { edge = e; inside = i; ends = inl refl }) in
-    in_contains (slice_range vs strip.from strip.to) e.p (in_range vs strip.from strip.to (omega (arith, h)) e.p v.0 (omega (arith, f)) (omega (arith, h, v.1)) v.2)) es d
+    in_contains (slice_range vs strip.from strip.to) e.p (in_range vs strip.from strip.to (omega (arith, h)) e.p v.0 (omega (arith, f)) (omega (arith, h, v.1)) v.2))

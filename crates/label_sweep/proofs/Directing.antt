@@ -1,13 +1,13 @@
 -- The directed edges by labels are those of the result.
 use Rattle.std.proofs.Common.{◌≡◌, ◌⊎◌, inl, inr, ⊎_elim, Bool, true, List, [], ◌∷◌, map, refl, sym, ap, ◌∙◌, subst}
-use Rattle.std.specs.List.{AllPairs, Contains}
-use Rattle.std.specs.Prelude.{◌&&◌, ◌↔◌, not}
+use Rattle.std.specs.List.{Contains}
+use Rattle.std.specs.Prelude.{◌&&◌, not}
 use Rattle.geom.specs.declared.op.Op.{Op}
 use Rattle.geom.specs.declared.point.Pt.{Pt}
 use Rattle.geom.specs.declared.edge.Edge.{Edge}
 use Rattle.geom.specs.declared.edge.Counted.{Counted}
 use Rattle.geom.specs.declared.directed.DirectedEdge.{DirectedEdge}
-use Rattle.geom.specs.Directed.{AreResultEdges, IsDirectedBefore, IsResultEdge, from_to}
+use Rattle.geom.specs.Directed.{AreResultEdges, IsResultEdge, from_to}
 use Rattle.geom.specs.ResultEdges.{is_result_edge}
 use Rattle.geom.specs.Rounded.{edges_of}
 use Rattle.geom.proofs.Lists.{In, in_contains, contains_in, in_append, in_front, in_back}
@@ -38,14 +38,13 @@ module _ (op : Op) (cs : List Counted) where
       subst P (sym (way_of l (h l (inl refl)))) (is_way op cs l.edge d (subst Q (sym q) r) b))
   is_listed (l ∷ ls) h e d (inr i) r b = in_back (ways l.edge (directions_of op l)) (directed_of op ls) d (is_listed ls (λ m k. h m (inr k)) e d i r b)
 
-  pub result_edges : (points : List Pt) → ((e : Edge) → Contains (edges_of cs) e → Contains points e.p) → (es : List DirectedEdge) → AreDirectedFrom op cs points es
-      → (ds : List DirectedEdge) → AllPairs IsDirectedBefore ds → ((d : DirectedEdge) → Contains ds d ↔ Contains es d) → AreResultEdges op cs ds
-  result_edges points all es a ds ascending same = let ls = a.labelled in
+  pub result_edges : (points : List Pt) → ((e : Edge) → Contains (edges_of cs) e → Contains points e.p) → (es : List DirectedEdge) → AreDirectedFrom op cs points es → AreResultEdges op cs es
+  result_edges points all es a = let ls = a.labelled in
       let each = in_of_all (IsLabelled cs) ls a.labels.each in record {
-        ascending = ascending;
+        ascending = a.ascending;
         exact = λ d. (
-          (λ h. listed_is ls each d (let P : List DirectedEdge → Type 0 = λ t. In d t in subst P a.along (contains_in es d ((same d).0 h)))),
-          (λ r. (same d).1 (in_contains es d (let P : List DirectedEdge → Type 0 = λ t. In d t in
-              subst P (sym a.along) (is_listed ls each r.edge d (contains_in (map (λ (l : LabelledEdge). l.edge) ls) r.edge (a.labels.all r.edge r.rounded (all r.edge r.rounded))) r.runs r.bounds)))),
+          (λ h. listed_is ls each d (contains_in (directed_of op ls) d ((a.along d).0 h))),
+          (λ r. (a.along d).1 (in_contains (directed_of op ls) d (is_listed ls each r.edge d
+              (contains_in (map (λ (l : LabelledEdge). l.edge) ls) r.edge (a.labels.all r.edge r.rounded (all r.edge r.rounded))) r.runs r.bounds))),
         );
       }

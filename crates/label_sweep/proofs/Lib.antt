@@ -17,3 +17,5 @@ pub mod Crossing
 pub mod Chunks
 pub mod Places
 pub mod Borders
+pub mod ChangingEdges
+pub mod Halves

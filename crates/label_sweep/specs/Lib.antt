@@ -4,3 +4,4 @@ pub mod Heights
 pub mod Chunks
 pub mod Laws
 pub mod Labels
+pub mod Changing

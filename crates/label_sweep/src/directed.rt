@@ -6,6 +6,8 @@ ghost use Rattle.geom.specs.declared.directed.DirectedEdge.{DirectedEdge};
 ghost use Rattle.points_law.specs.Law.{AreLayers};
 ghost use Rattle.label_sweep.specs.Labels.{directed_of, directions_of};
 
+use crate::changing::{changing_edges, most_change};
+use crate::shared_vertices::vertices_by_hands;
 use crate::standing::LabelledEdge;
 use crate::strips::{Strip, strip_edges, strip_edges_by_hands};
 use crate::vertices::vertices_of;
@@ -42,7 +44,7 @@ pub fn directed_edges<A: Allocator + Copy>(
 }
 
 /// Directed edges in their order, each once.
-fn in_order<A: Allocator>(mut edges: Vec<DirectedEdge, A>) -> Vec<DirectedEdge, A>
+pub fn in_order<A: Allocator>(mut edges: Vec<DirectedEdge, A>) -> Vec<DirectedEdge, A>
     ensures ascending { AllPairs IsDirectedBefore result.items }
     ensures same { (d : DirectedEdge) → Contains result.items d ↔ Contains edges.items d }
 {
@@ -51,9 +53,8 @@ fn in_order<A: Allocator>(mut edges: Vec<DirectedEdge, A>) -> Vec<DirectedEdge, 
     edges
 }
 
-/// The directed edges of the result of an operation on two layers, ascending by start, then by end: those that `labels`
-/// gives, in n log n steps, for noded edges of even degrees alone.
-pub fn layer_labels<A: Allocator + Copy>(
+/// The directed edges of the result of an operation, by a sweep over all edges.
+fn swept<A: Allocator + Copy>(
     alloc: A,
     counted: &[Counted],
     op: Op,
@@ -64,7 +65,41 @@ pub fn layer_labels<A: Allocator + Copy>(
     let vertices = vertices_of(alloc, counted)?;
     let all = Strip::of_all(&vertices);
     let edges = strip_edges(alloc, counted, &vertices, all, op)?;
-    Ok(Directed::new(in_order(edges)))
+    Ok(Directed::new(edges))
+}
+
+/// The same, in a strip by each of so many hands.
+fn swept_by_hands<R: Threads + Sync, A: Allocator + Copy + Send + Sync>(
+    rt: &R,
+    hands: u32,
+    alloc: A,
+    counted: &[Counted],
+    op: Op,
+) -> Result<Directed<A>, NoMemory>
+    requires { AreLayers counted.now }
+    ensures { IfOk result (λ directed. AreResultEdges op counted.now directed) }
+{
+    let vertices = vertices_by_hands(rt, hands as usize, alloc, counted)?;
+    let all = Strip::of_all(&vertices);
+    let edges = strip_edges_by_hands(rt, hands as usize, alloc, counted, &vertices, all, op)?;
+    Ok(Directed::new(edges))
+}
+
+/// The directed edges of the result of an operation on two layers, ascending by start, then by end: those that `labels`
+/// gives, in n log n steps, for noded edges of even degrees alone. Edges that change no parity are left out first.
+pub fn layer_labels<A: Allocator + Copy>(
+    alloc: A,
+    counted: &[Counted],
+    op: Op,
+) -> Result<Directed<A>, NoMemory>
+    requires { AreLayers counted.now }
+    ensures { IfOk result (λ directed. AreResultEdges op counted.now directed) }
+{
+    if most_change(counted) {
+        return swept(alloc, counted, op);
+    }
+    let edges = changing_edges(alloc, counted)?;
+    swept(alloc, &edges, op)
 }
 
 /// The same, swept in a strip by each of so many hands.
@@ -78,8 +113,9 @@ pub fn layer_labels_by_hands<R: Threads + Sync, A: Allocator + Copy + Send + Syn
     requires { AreLayers counted.now }
     ensures { IfOk result (λ directed. AreResultEdges op counted.now directed) }
 {
-    let vertices = vertices_of(alloc, counted)?;
-    let all = Strip::of_all(&vertices);
-    let edges = strip_edges_by_hands(rt, hands as usize, alloc, counted, &vertices, all, op)?;
-    Ok(Directed::new(in_order(edges)))
+    if most_change(counted) {
+        return swept_by_hands(rt, hands, alloc, counted, op);
+    }
+    let edges = changing_edges(alloc, counted)?;
+    swept_by_hands(rt, hands, alloc, &edges, op)
 }

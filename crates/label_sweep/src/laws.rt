@@ -1,5 +1,6 @@
 //! The laws of the sweep: each is the contract of a function with an empty body.
 
+ghost use Rattle.label_sweep.specs.Changing.{ChangingAreLayers, ChangingBound};
 ghost use Rattle.label_sweep.specs.Laws.{FirstLeft, LeftOfFirst, EndsAreLevel, LeftOfNext, RightIsBeyond, SearchIsMonotone, StandingReaches, StandingStays};
 ghost use Rattle.label_sweep.specs.Labels.{TurnIsLabelled};
 
@@ -46,4 +47,14 @@ pub fn right_is_beyond()
 /// The labels of all edges that begin at a vertex, from that of the first.
 pub fn turn_is_labelled()
     ensures { TurnIsLabelled }
+{}
+
+/// The edges that change a parity are layers.
+pub fn changing_are_layers()
+    ensures { ChangingAreLayers }
+{}
+
+/// They bound the result of all edges.
+pub fn changing_bound()
+    ensures { ChangingBound }
 {}

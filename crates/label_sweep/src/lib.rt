@@ -1,12 +1,14 @@
 //! Labels of rounded edges by one sweep from left to right.
 #![tactic(auto)]
 
+mod changing;
 mod column;
 mod directed;
 mod laws;
 mod parities;
 mod pass;
 mod place;
+mod shared_vertices;
 mod standing;
 mod status;
 mod strips;
@@ -15,8 +17,8 @@ mod vertices;
 
 pub use directed::{layer_labels, layer_labels_by_hands};
 pub use laws::{
-    ends_are_level, first_left, left_of_first, left_of_next, right_is_beyond, search_is_monotone,
-    standing_reaches, standing_stays, turn_is_labelled,
+    changing_are_layers, changing_bound, ends_are_level, first_left, left_of_first, left_of_next,
+    right_is_beyond, search_is_monotone, standing_reaches, standing_stays, turn_is_labelled,
 };
 pub use parities::Parities;
 pub use pass::sweep;

@@ -1,20 +1,23 @@
 //! The sweep in strips, each by a hand of its own:
 //! 1. The vertices are halved where a column begins, and each half again, until there is a strip for each hand (`middle_of`).
-//! 2. A strip is swept from the edges that cross the column before it (`sweep`), for the directed edges along those that begin in it.
-//! 3. Their lists are joined (`joined`).
+//! 2. A strip is swept from the edges that cross the column before it (`sweep`), for the directed edges along those that begin in it,
+//!    which are sorted (`in_order`).
+//! 3. Two lists become one, by a sort that keeps both runs (`joined`).
 
-ghost use Rattle.std.specs.Prelude.{◌≡◌, ◌<◌, ◌≤◌, ◌<ℤ◌, ◌++◌, AllPairs, IfOk, get_or, length, slice_range};
+ghost use Rattle.std.specs.Prelude.{◌≡◌, ◌<◌, ◌≤◌, ◌<ℤ◌, ◌++◌, ◌↔◌, AllPairs, Contains, IfOk, get_or, length, slice_range};
 ghost use Rattle.std.specs.List.{AllWithin};
 ghost use Rattle.std.specs.Thread.{IsSend, IsSync};
+ghost use Rattle.geom.specs.Directed.{IsDirectedBefore};
 ghost use Rattle.geom.specs.Order.{IsBefore};
 ghost use Rattle.geom.specs.Rounded.{edges_of};
+ghost use Rattle.geom.specs.declared.directed.DirectedEdge.{DirectedEdge};
 ghost use Rattle.geom.specs.declared.point.Pt.{Pt};
 ghost use Rattle.points_law.specs.Law.{AreLayers};
 ghost use Rattle.label_sweep.specs.Column.{IsStrip};
 ghost use Rattle.label_sweep.specs.Labels.{AreDirectedFrom};
 ghost use Rattle.label_sweep.specs.Status.{AreVertices};
 
-use crate::directed::directed_edges;
+use crate::directed::{directed_edges, in_order};
 use crate::pass::sweep;
 use crate::vertices::is_left;
 use geom::{Counted, DirectedEdge, NoMemory, Op, Pt};
@@ -77,7 +80,8 @@ pub fn strip_edges<A: Allocator + Copy>(
     ensures { IfOk result (λ edges. AreDirectedFrom op counted.now (slice_range vertices.now strip.from strip.to) edges.items) }
 {
     let labelled = sweep(alloc, counted, vertices, strip)?;
-    directed_edges(alloc, &labelled, op)
+    let edges = directed_edges(alloc, &labelled, op)?;
+    Ok(in_order(edges))
 }
 
 /// The same by so many hands.
@@ -145,13 +149,16 @@ fn halves_edges<R: Threads + Sync, A: Allocator + Copy + Send + Sync>(
     joined(edges?, rest?)
 }
 
-/// A list with another behind it.
+/// The directed edges of two lists in order, each once.
 fn joined<A: Allocator>(
     mut edges: Vec<DirectedEdge, A>,
     rest: Vec<DirectedEdge, A>,
 ) -> Result<Vec<DirectedEdge, A>, NoMemory>
-    ensures { IfOk result (λ all. all.items ≡ edges.items ++ rest.items) }
+    ensures ascending { IfOk result (λ all. AllPairs IsDirectedBefore all.items) }
+    ensures same { IfOk result (λ all. (d : DirectedEdge) → Contains all.items d ↔ Contains (edges.items ++ rest.items) d) }
 {
     edges.extend_from_slice(&rest)?;
+    edges.sort()?;
+    edges.dedup();
     Ok(edges)
 }

@@ -50,7 +50,7 @@ pub fn cut<A: Allocator + Copy>(
     ensures clear { OnOk result (AreStacked [] place.new) }
 {
     let mut pieces = Vec::new(alloc);
-    let mut stack: Vec<usize, A> = Vec::new(alloc);
+    let mut stack = Vec::with_capacity(alloc, ring.len())?;
     for v in ring {
         if let Some(at) = place[*v] {
             let piece = take_piece(alloc, &mut stack, place, at)?;

@@ -1,6 +1,6 @@
 //! The cycles of a one-to-one map on the numbers below a bound.
 
-ghost use Rattle.std.specs.Prelude.{◌≡◌, ◌<◌, ℕ, List, All, IfOk, length};
+ghost use Rattle.std.specs.Prelude.{◌≡◌, ◌<◌, ℕ, List, All, IfOk, OnOk, length};
 ghost use Rattle.polygonize.specs.Cycle.{IsOneToOne, IsClosed, IsUnseen, Walked, AreCycles};
 
 use geom::NoMemory;
@@ -43,22 +43,22 @@ impl<A: Allocator> Cycle<A> {
     }
 }
 
-/// The cycle of `start`, begun there. What it passes is marked as seen.
-fn walk<A: Allocator + Copy>(
-    alloc: A,
+/// Walks the cycle of `start`, begun there, in place of what the list had. What it passes is marked as seen.
+fn walk<A: Allocator>(
     next: &[usize],
     seen: &mut [bool],
     start: usize,
-) -> Result<Vec<usize, A>, NoMemory>
+    cycle: &mut Vec<usize, A>,
+) -> Result<(), NoMemory>
     requires same_length { length seen.old ≡ length next.now }
     requires in_range { All (λ k. k < length next.now) next.now }
     requires one_to_one { IsOneToOne next.now }
     requires closed { IsClosed next.now seen.old }
     requires inside { start < length next.now }
     requires unseen { IsUnseen seen.old start }
-    ensures { IfOk result (λ cycle. Walked next.now seen.old seen.new start cycle.items) }
+    ensures { OnOk result (Walked next.now seen.old seen.new start cycle.new.items) }
 {
-    let mut cycle = Vec::new(alloc);
+    cycle.clear();
     seen[start] = true;
     cycle.push(start)?;
     let mut at = next[start];
@@ -67,7 +67,7 @@ fn walk<A: Allocator + Copy>(
         cycle.push(at)?;
         at = next[at];
     }
-    Ok(cycle)
+    Ok(())
 }
 
 /// The cycles, each begun at its least number, in the order of these.
@@ -78,10 +78,11 @@ pub fn cycles<A: Allocator + Copy>(alloc: A, next: &[usize]) -> Result<Vec<Cycle
 {
     let mut seen = vec![in alloc; false; next.len()]?;
     let mut cycles = Vec::new(alloc);
+    let mut cycle = Vec::new(alloc);
     for start in 0..next.len() {
         if !seen[start] {
-            let numbers = walk(alloc, next, &mut seen, start)?;
-            cycles.push(Cycle::new(numbers))?;
+            walk(next, &mut seen, start, &mut cycle)?;
+            cycles.push(Cycle::new(Vec::from_slice(alloc, &cycle)?))?;
         }
     }
     Ok(cycles)

@@ -9,12 +9,14 @@ mod cycle;
 mod hole;
 mod ladder;
 mod leaving;
+mod listing;
 mod nearest;
 mod number;
 mod piece;
 mod polygon;
 mod ring;
+mod stripes;
 mod successor;
 mod written;
 
-pub use polygon::polygons;
+pub use polygon::{polygons, polygons_by_hands};

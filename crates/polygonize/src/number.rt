@@ -38,7 +38,7 @@ pub fn start_numbers<A: Allocator + Copy>(
     requires { AreDirected edges.now }
     ensures { IfOk result (λ numbers. AreNumbers edges.now numbers.items) }
 {
-    let mut numbers = Vec::new(alloc);
+    let mut numbers = Vec::with_capacity(alloc, edges.len())?;
     let mut last = 0;
     for i in 0..edges.len() {
         last = number_at(edges, last, i);
@@ -89,7 +89,7 @@ pub fn first_vertices<A: Allocator + Copy>(
     requires inside { All (λ c. All (λ k. k < length edges.now) c) cycles.now }
     ensures { IfOk result (λ vertices. vertices.items ≡ map (λ c. (edge_at edges.now (slice_index_or c 0 0)).from) cycles.now) }
 {
-    let mut vertices = Vec::new(alloc);
+    let mut vertices = Vec::with_capacity(alloc, cycles.len())?;
     for cycle in cycles {
         vertices.push(edges[cycle.numbers()[0]].from)?;
     }

@@ -8,15 +8,32 @@ ghost use Rattle.geom.specs.ListOrder.{IsLeastRotation};
 ghost use Rattle.geom.specs.NodedEdges.{AreNodedEdges};
 ghost use Rattle.geom.specs.Rings.{Closes};
 ghost use Rattle.polygonize.specs.Grouped.{AreGrouped, BeginsWithShell};
-ghost use Rattle.polygonize.specs.Next.{ring_of};
+ghost use Rattle.polygonize.specs.Cycle.{IsOneToOne};
+ghost use Rattle.polygonize.specs.Next.{AreNext, ring_of};
 ghost use Rattle.polygonize.specs.Placed.{points, stands_as_hole};
 ghost use Rattle.polygonize.specs.Written.{AreSimple, IsSound};
 
 use crate::number::points_of;
+use crate::successor::{successors, successors_by_hands};
 use crate::written::{WrittenRing, written_rings};
 use face_label::Directed;
 use geom::{DirectedEdge, NoMemory, Polygon, SimpleRing};
 use std::alloc::Allocator;
+use std::thread::Threads;
+
+/// Fewer edges are not worth a thread.
+const LEAST: usize = 8_192;
+
+/// How many hands link so many edges: one at least.
+fn hands_for(edges: usize, hands: u32) -> usize
+    ensures { 0 < result }
+{
+    if edges < LEAST {
+        1
+    } else {
+        (hands as usize).max(1)
+    }
+}
 
 /// A ring of vertices by its points.
 fn simple_ring<A: Allocator + Copy>(
@@ -63,7 +80,7 @@ fn grouped<A: Allocator + Copy>(
     ensures rings { IfOk result (λ found. written_rings found.items ≡ map (points edges.now) written.now) }
     ensures groups { BeginsWithShell stands_as_hole written.now → IfOk result (λ found. AreGrouped stands_as_hole (points edges.now) written.now found.items) }
 {
-    let mut polygons = Vec::new(alloc);
+    let mut polygons = Vec::with_capacity(alloc, written.len())?;
     let mut at = 0;
     while at < written.len() {
         let shell = simple_ring(alloc, edges, written[at].ring().numbers())?;
@@ -72,6 +89,26 @@ fn grouped<A: Allocator + Copy>(
         polygons.push(Polygon::new(shell, holes))?;
     }
     Ok(polygons)
+}
+
+/// The polygons of directed edges by the next edges, in canonical order.
+fn polygons_along<A: Allocator + Copy>(
+    alloc: A,
+    edges: &[DirectedEdge],
+    next: &[usize],
+) -> Result<Vec<Polygon<A>, A>, NoMemory>
+    requires closes { Closes edges.now }
+    requires edges_in { All (λ d. AreInLimit d.from d.to) edges.now }
+    requires next { AreNext edges.now next.now }
+    requires one_to_one { IsOneToOne next.now }
+    ensures polygons { AreNodedEdges edges.now → HasGroundedRings edges.now → IfOk result (λ found. ArePolygons edges.now found.items) }
+    ensures each_edge { IfOk result (λ found. HaveEachEdge edges.now found.items) }
+    ensures simple { IfOk result (λ found. AreSimple (written_rings found.items)) }
+    ensures least { IfOk result (λ found. All (λ ring. IsLeastRotation ring ring) (written_rings found.items)) }
+{
+    let mut written = written_rings(alloc, edges, next)?;
+    written.sort_unstable_by_key(|ring| ring.place());
+    grouped(alloc, edges, &written)
 }
 
 /// The polygons of directed edges that close, in canonical order: a ring that visits a vertex twice is cut there, each
@@ -89,7 +126,25 @@ pub fn polygons<A: Allocator + Copy>(
     ensures least { IfOk result (λ found. All (λ ring. IsLeastRotation ring ring) (written_rings found.items)) }
 {
     let edges = directed.edges();
-    let mut written = written_rings(alloc, edges)?;
-    written.sort_unstable_by_key(|ring| ring.place());
-    grouped(alloc, edges, &written)
+    let next = successors(alloc, edges)?;
+    polygons_along(alloc, edges, &next)
+}
+
+/// The same, whose next edges are found by so many hands.
+pub fn polygons_by_hands<R: Threads + Sync, A: Allocator + Copy + Send + Sync>(
+    rt: &R,
+    hands: u32,
+    alloc: A,
+    directed: &Directed<A>,
+) -> Result<Vec<Polygon<A>, A>, NoMemory>
+    requires closes { Closes directed.now }
+    requires in_limit { All (λ d. AreInLimit d.from d.to) directed.now }
+    ensures polygons { AreNodedEdges directed.now → HasGroundedRings directed.now → IfOk result (λ found. ArePolygons directed.now found.items) }
+    ensures each_edge { IfOk result (λ found. HaveEachEdge directed.now found.items) }
+    ensures simple { IfOk result (λ found. AreSimple (written_rings found.items)) }
+    ensures least { IfOk result (λ found. All (λ ring. IsLeastRotation ring ring) (written_rings found.items)) }
+{
+    let edges = directed.edges();
+    let next = successors_by_hands(rt, hands_for(edges.len(), hands), alloc, edges)?;
+    polygons_along(alloc, edges, &next)
 }

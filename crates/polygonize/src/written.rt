@@ -8,7 +8,8 @@ ghost use Rattle.geom.specs.NodedEdges.{AreNodedEdges};
 ghost use Rattle.geom.specs.Rings.{AreRings, Closes};
 ghost use Rattle.polygonize.specs.Below.{AreFoundBelow, HasHoles, IsFoundBelow};
 ghost use Rattle.polygonize.specs.Number.{AreNumbers, IsVertex};
-ghost use Rattle.polygonize.specs.Next.{edge_at, ring_of, rings_of};
+ghost use Rattle.polygonize.specs.Cycle.{IsOneToOne};
+ghost use Rattle.polygonize.specs.Next.{AreNext, edge_at, ring_of, rings_of};
 ghost use Rattle.polygonize.specs.Owning.{ArePiecesWritten, IsOwnerFound, IsRingPlaced, KeepsShell};
 ghost use Rattle.polygonize.specs.Placed.{AreAllWritten, AreWritten, opening_of, rings_in};
 ghost use Rattle.polygonize.specs.Stack.{AreStacked};
@@ -228,7 +229,7 @@ fn write_cycles<A: Allocator + Copy>(
     ensures edges { IfOk result (λ written. HaveEdges edges.now (rings_in written.items)) }
     ensures sound { IfOk result (λ written. All (IsCanonical edges.now) (rings_in written.items)) }
 {
-    let mut written = Vec::new(alloc);
+    let mut written = Vec::with_capacity(alloc, cycles.len())?;
     for number in 0..cycles.len() {
         write_ring(
             alloc,
@@ -286,19 +287,22 @@ fn edges_below<A: Allocator + Copy>(
     gaps_below(alloc, edges, &vertices, &holes)
 }
 
-/// All rings as they are written, in no order yet.
+/// All rings as they are written, in no order yet, by the next edges.
 pub fn written_rings<A: Allocator + Copy>(
     alloc: A,
     edges: &[DirectedEdge],
+    next: &[usize],
 ) -> Result<Vec<WrittenRing<A>, A>, NoMemory>
     requires closes { Closes edges.now }
     requires edges_in { All (λ d. AreInLimit d.from d.to) edges.now }
+    requires next { AreNext edges.now next.now }
+    requires one_to_one { IsOneToOne next.now }
     ensures edges { IfOk result (λ written. HaveEdges edges.now (rings_in written.items)) }
     ensures sound { IfOk result (λ written. All (IsCanonical edges.now) (rings_in written.items)) }
     ensures written { AreNodedEdges edges.now → HasGroundedRings edges.now → IfOk result (λ written. AreAllWritten edges.now written.items) }
 {
     let numbers = start_numbers(alloc, edges)?;
-    let cycles = ring_places(alloc, edges)?;
+    let cycles = ring_places(alloc, edges, next)?;
     let below = edges_below(alloc, edges, &numbers, &cycles)?;
     let mut places = vec![in alloc; None; edges.len()]?;
     let mut shell_of = vec![in alloc; None; edges.len()]?;

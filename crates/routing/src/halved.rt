@@ -37,6 +37,7 @@ pub(crate) struct InTile<A: Allocator> {
 }
 
 /// Adds the record of each segment on a line at a pixel.
+#[inline(never)]
 fn add_at<A: Allocator>(
     records: &mut Vec<Record, A>,
     segments: &[Seg],

@@ -19,6 +19,7 @@ pub fn meets(s: &Seg, pixel: Pt) -> bool
 
 /// Whether a segment passes between the corners of a pixel, by its direction and the vector from its start to the
 /// pixel's centre.
+#[inline(never)]
 fn passes_corners(run: Vector, to: Vector) -> bool
     ensures { IsTrue result ↔ PassesCorners run.dx run.dy to.dx to.dy }
 {

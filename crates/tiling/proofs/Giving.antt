@@ -1,12 +1,11 @@
 -- Bins that are kept tile by tile: what one number more changes, and which tiles a box meets.
-use Rattle.std.proofs.Common.{◌≡◌, ◌⊎◌, inl, inr, ℕ, zero, suc, ◌+◌, ◌-◌, ◌*◌, ◌/◌, ◌%◌, ◌<◌, ◌≤◌, ◌++◌, ◌∷◌, [], List, length, set, get_or, refl, sym, ap, ◌∙◌, subst, arith, ⊎_elim, ℤ, pos, ◌+ℤ◌}
+use Rattle.std.proofs.Common.{◌≡◌, ◌⊎◌, inl, inr, ℕ, suc, ◌+◌, ◌-◌, ◌*◌, ◌/◌, ◌%◌, ◌<◌, ◌≤◌, ◌++◌, ◌∷◌, [], List, length, set, get_or, refl, sym, ap, ◌∙◌, subst, arith, ⊎_elim, ℤ, pos, ◌+ℤ◌}
 use Rattle.std.specs.Prelude.{◌↔◌, ◌≤ℤ◌, ◌<ℤ◌, Contains, Some, slice_get}
 use Rattle.std.specs.Int.{int_max}
 use Rattle.std.specs.declared.vec.Vec.{Vec}
-use Rattle.std.specs.Vec.{with_items}
 use Rattle.std.proofs.lemmas.Bool.{cases_lt}
 use Rattle.std.proofs.lemmas.Int.{ints, clamps}
-use Rattle.std.proofs.lemmas.List.{get_or-map, get_or-set_other, get_or-set_same, get_or_append_left, get_or_push, length-map, length-set, length_push, map-set, with_items_is}
+use Rattle.std.proofs.lemmas.List.{get_or-map, get_or-set_other, get_or-set_same, get_or_append_left, get_or_push, length-map, length-set, length_push, map-set}
 use Rattle.std.proofs.lemmas.List.Elements.{Contains-append_left, Contains-get_or, Contains-push, Contains-push_cases}
 use Rattle.std.proofs.lemmas.List.Quantifiers.{all_pairs_push}
 use Rattle.std.proofs.lemmas.Nat.{div-add-mod', div-mul-add, mod-mul-add, mul-le}
@@ -15,8 +14,8 @@ use Rattle.geom.specs.Box.{IsInBox}
 use Rattle.geom.specs.declared.point.Pt.{Pt}
 use Rattle.geom.specs.declared.rect.Rect.{Rect}
 use Rattle.geom.proofs.Numbers.{max_left, max_right}
-use Rattle.tiling.specs.Bins.{AreBins, AreGiven, IsAmong, IsBin, MeetsTile, TileBins, lists_of}
-use Rattle.tiling.specs.Tiles.{IsPlaced, Owns, Tiling, tile_count}
+use Rattle.tiling.specs.Bins.{AreGiven, HasPointOf, IsAmong, IsBin, MeetsTile, lists_of}
+use Rattle.tiling.specs.Tiles.{IsPlaced, Owns, Tiling}
 use Rattle.tiling.proofs.Columns.{IsColumnOf, column_from_steps, steps_from_column}
 
 -- ---- one number more
@@ -68,32 +67,32 @@ tile_more from tile number old mid new within a b = given_more (λ k. (from ≤ 
 
 -- the rows of a block below a row
 abbrev pub IsBelow : ℕ → ℕ × ℕ → ℕ × ℕ → ℕ → ℕ → Type 0
-IsBelow columns lo hi row k = IsAmong columns lo hi k × (k / columns < row)
+IsBelow width columns rows row k = IsAmong width columns rows k × (k / width < row)
 
-module _ (columns : ℕ) (lo hi : ℕ × ℕ) (row first last : ℕ) (past : hi.0 < columns) (first_is : first ≡ row * columns + lo.0) (last_is : last ≡ row * columns + hi.0) (from : lo.1 ≤ row) (to : row ≤ hi.1) where
+module _ (width : ℕ) (columns rows : ℕ × ℕ) (row first last : ℕ) (past : columns.1 < width) (first_is : first ≡ row * width + columns.0) (last_is : last ≡ row * width + columns.1) (from : rows.0 ≤ row) (to : row < rows.1) where
   abbrev pub InRow : ℕ → Type 0
   InRow k = (first ≤ k) × (k < last + 1)
 
   -- a tile of the row has this row and a column
-  placed : (k : ℕ) → InRow k → (k / columns ≡ row) × (lo.0 ≤ k % columns) × (k % columns ≤ hi.0)
+  placed : (k : ℕ) → InRow k → (k / width ≡ row) × (columns.0 ≤ k % width) × (k % width ≤ columns.1)
   placed k (l, m) =
-      let c = k - row * columns in
-      let e : row * columns + c ≡ k = omega (arith, l, first_is) in
-      let within : c < columns = omega (arith, m, past, l, first_is, last_is) in
-      let d : k % columns ≡ c = ap (λ n. n % columns) (sym e) ∙ mod-mul-add row columns c within in
-      (ap (λ n. n / columns) (sym e) ∙ div-mul-add row columns c within, omega (arith, d, l, first_is), omega (arith, d, l, m, first_is, last_is))
+      let c = k - row * width in
+      let e : row * width + c ≡ k = omega (arith, l, first_is) in
+      let within : c < width = omega (arith, m, past, l, first_is, last_is) in
+      let d : k % width ≡ c = ap (λ n. n % width) (sym e) ∙ mod-mul-add row width c within in
+      (ap (λ n. n / width) (sym e) ∙ div-mul-add row width c within, omega (arith, d, l, first_is), omega (arith, d, l, m, first_is, last_is))
 
-  in_row : (k : ℕ) → IsAmong columns lo hi k → k / columns ≡ row → InRow k
+  in_row : (k : ℕ) → IsAmong width columns rows k → k / width ≡ row → InRow k
   in_row k h e =
-      let d = div-add-mod' k columns in
-      let f : k / columns * columns ≡ row * columns = ap (λ n. n * columns) e in
+      let d = div-add-mod' k width in
+      let f : k / width * width ≡ row * width = ap (λ n. n * width) e in
       let a = h.left in
       let b = h.right in
       (omega (arith, d, f, a, first_is), omega (arith, d, f, b, last_is))
 
-  pub row_more : (number : ℕ) (old mid new : List (List ℕ)) → AreGiven (IsBelow columns lo hi row) number old mid → AreGiven InRow number mid new → AreGiven (IsBelow columns lo hi (row + 1)) number old new
-  row_more number old mid new a b = given_more (IsBelow columns lo hi row) InRow (IsBelow columns lo hi (row + 1)) number old mid new a b
-      (λ k (h, l). elim (cases_lt (k / columns) row) [
+  pub row_more : (number : ℕ) (old mid new : List (List ℕ)) → AreGiven (IsBelow width columns rows row) number old mid → AreGiven InRow number mid new → AreGiven (IsBelow width columns rows (row + 1)) number old new
+  row_more number old mid new a b = given_more (IsBelow width columns rows row) InRow (IsBelow width columns rows (row + 1)) number old mid new a b
+      (λ k (h, l). elim (cases_lt (k / width) row) [
         | inl less ↦ inl (h, less)
         | inr more ↦ inr (in_row k h (omega (arith, l, more)))
       ])
@@ -101,15 +100,15 @@ module _ (columns : ℕ) (lo hi : ℕ × ℕ) (row first last : ℕ) (past : hi.
       (λ k q. let (e, l, m) = placed k q in (record { left = l; right = m; bottom = omega (arith, e, from); top = omega (arith, e, to) }, omega (arith, e)))
       (λ k (h, l) q. let (e, m, n) = placed k q in absurd (omega (arith, e, l)))
 
-pub row_none : (columns : ℕ) (lo hi : ℕ × ℕ) (number : ℕ) (lists : List (List ℕ)) → AreGiven (IsBelow columns lo hi lo.1) number lists lists
-row_none columns lo hi number lists = given_none (IsBelow columns lo hi lo.1) number lists (λ k (h, l). let b = h.bottom in absurd (omega (arith, b, l)))
+pub row_none : (width : ℕ) (columns rows : ℕ × ℕ) (number : ℕ) (lists : List (List ℕ)) → AreGiven (IsBelow width columns rows rows.0) number lists lists
+row_none width columns rows number lists = given_none (IsBelow width columns rows rows.0) number lists (λ k (h, l). let b = h.bottom in absurd (omega (arith, b, l)))
 
 pub given_same : (P Q : ℕ → Type 0) (number : ℕ) (old new : List (List ℕ)) → ((k : ℕ) → P k ↔ Q k) → AreGiven P number old new → AreGiven Q number old new
 given_same P Q number old new same h = record { same = h.same; given = λ k l q. h.given k l ((same k).1 q); kept = λ k l none. h.kept k l (λ p. none ((same k).0 p)) }
 
-pub rows_all : (columns : ℕ) (lo hi : ℕ × ℕ) (row number : ℕ) (old new : List (List ℕ)) → hi.1 < row → AreGiven (IsBelow columns lo hi row) number old new → AreGiven (IsAmong columns lo hi) number old new
-rows_all columns lo hi row number old new past =
-    given_same (IsBelow columns lo hi row) (IsAmong columns lo hi) number old new (λ k. (λ (h, l). h, λ h. (h, let t = h.top in omega (arith, t, past))))
+pub rows_all : (width : ℕ) (columns rows : ℕ × ℕ) (row number : ℕ) (old new : List (List ℕ)) → rows.1 ≤ row → AreGiven (IsBelow width columns rows row) number old new → AreGiven (IsAmong width columns rows) number old new
+rows_all width columns rows row number old new past =
+    given_same (IsBelow width columns rows row) (IsAmong width columns rows) number old new (λ k. (λ (h, l). h, λ h. (h, let t = h.top in omega (arith, t, past))))
 
 -- ---- the tiles that a box meets
 
@@ -166,16 +165,14 @@ module _ (g : Tiling) (rect : Rect) (lo hi : ℕ × ℕ) (some : 0 < g.side) (lo
   pub columns_up : lo.0 ≤ hi.0
   columns_up = column_up g.left rect.lo.x rect.hi.x g.side lo.0 hi.0 left right rect.wide
 
-  pub rows_up : lo.1 ≤ hi.1
-  rows_up = column_up g.bottom rect.lo.y rect.hi.y g.side lo.1 hi.1 bottom top rect.high
+  -- the block of the tiles that the box meets
+  abbrev pub InBlock : ℕ → Type 0
+  InBlock k = IsAmong g.columns (lo.0, hi.0) (lo.1, hi.1 + 1) k
 
-  abbrev pub Meets : ℕ → Type 0
-  Meets k = (p : Pt) × IsInBox rect.lo rect.hi p × Owns g k p
-
-  meets : (k : ℕ) → IsAmong g.columns lo hi k → Meets k
+  pub meets : (k : ℕ) → InBlock k → HasPointOf g k rect
   meets k h =
       let x = reached g.left rect.lo.x rect.hi.x g.side lo.0 hi.0 (k % g.columns) some left right rect.wide h.left h.right in
-      let y = reached g.bottom rect.lo.y rect.hi.y g.side lo.1 hi.1 (k / g.columns) some bottom top rect.high h.bottom h.top in (
+      let y = reached g.bottom rect.lo.y rect.hi.y g.side lo.1 hi.1 (k / g.columns) some bottom top rect.high h.bottom (let t = h.top in omega (arith, t)) in (
         record { x = x.at; y = y.at },
         record { left = x.from; right = x.to; bottom = y.from; top = y.to },
         record {
@@ -189,7 +186,7 @@ module _ (g : Tiling) (rect : Rect) (lo hi : ℕ × ℕ) (some : 0 < g.side) (lo
         },
       )
 
-  among : (k : ℕ) → Meets k → IsAmong g.columns lo hi k
+  pub among : (k : ℕ) → HasPointOf g k rect → InBlock k
   among k (p, inside, owned) =
       let c : k % g.columns ≡ owned.column = ap (λ n. n % g.columns) owned.number_is ∙ mod-mul-add owned.row g.columns owned.column owned.in_columns in
       let r : k / g.columns ≡ owned.row = ap (λ n. n / g.columns) owned.number_is ∙ div-mul-add owned.row g.columns owned.column owned.in_columns in
@@ -201,20 +198,20 @@ module _ (g : Tiling) (rect : Rect) (lo hi : ℕ × ℕ) (some : 0 < g.side) (lo
       let e = column_up g.bottom p.y rect.hi.y g.side owned.row hi.1 y top inside.top in
       record { left = omega (arith, a, c); right = omega (arith, b, c); bottom = omega (arith, d, r); top = omega (arith, e, r) }
 
-  decided : (k : ℕ) → IsAmong g.columns lo hi k ⊎ (IsAmong g.columns lo hi k → ⊥)
-  decided k = elim (cases_lt (k % g.columns) lo.0) [
-    | inl a ↦ inr (λ h. let l = h.left in absurd (omega (arith, a, l)))
-    | inr a ↦ elim (cases_lt hi.0 (k % g.columns)) [
-      | inl b ↦ inr (λ h. let l = h.right in absurd (omega (arith, b, l)))
-      | inr b ↦ elim (cases_lt (k / g.columns) lo.1) [
-        | inl c ↦ inr (λ h. let l = h.bottom in absurd (omega (arith, c, l)))
-        | inr c ↦ elim (cases_lt hi.1 (k / g.columns)) [
-          | inl d ↦ inr (λ h. let l = h.top in absurd (omega (arith, d, l)))
-          | inr d ↦ inl (record { left = omega (arith, a); right = omega (arith, b); bottom = omega (arith, c); top = omega (arith, d) })
-        ]
+pub decided : (width : ℕ) (columns rows : ℕ × ℕ) (k : ℕ) → IsAmong width columns rows k ⊎ (IsAmong width columns rows k → ⊥)
+decided width columns rows k = elim (cases_lt (k % width) columns.0) [
+  | inl a ↦ inr (λ h. let l = h.left in absurd (omega (arith, a, l)))
+  | inr a ↦ elim (cases_lt columns.1 (k % width)) [
+    | inl b ↦ inr (λ h. let l = h.right in absurd (omega (arith, b, l)))
+    | inr b ↦ elim (cases_lt (k / width) rows.0) [
+      | inl c ↦ inr (λ h. let l = h.bottom in absurd (omega (arith, c, l)))
+      | inr c ↦ elim (cases_lt (k / width) rows.1) [
+        | inl d ↦ inl (record { left = omega (arith, a); right = omega (arith, b); bottom = omega (arith, c); top = d })
+        | inr d ↦ inr (λ h. let l = h.top in absurd (omega (arith, d, l)))
       ]
     ]
   ]
+]
 
 -- ---- one box more
 
@@ -243,7 +240,7 @@ module _ (g : Tiling) (k : ℕ) (boxes : List Rect) (rect : Rect) (bin : List �
         inr (e, subst (λ (c : Rect). (p : Pt) × IsInBox c.lo c.hi p × Owns g k p) f met)
   ]
 
-  pub bin_given : ((p : Pt) × IsInBox rect.lo rect.hi p × Owns g k p) → IsBin g k (boxes ++ rect ∷ []) (bin ++ length boxes ∷ [])
+  pub bin_given : HasPointOf g k rect → IsBin g k (boxes ++ rect ∷ []) (bin ++ length boxes ∷ [])
   bin_given met = record {
     ascending = all_pairs_push (λ i j. i < j) bin (length boxes) h.ascending (λ n d l. let (b, is, m) = (h.exact (get_or bin n d)).0 (Contains-get_or bin n d l) in slice_get_within boxes (get_or bin n d) b is);
     exact = λ number. (
@@ -252,46 +249,8 @@ module _ (g : Tiling) (k : ℕ) (boxes : List Rect) (rect : Rect) (bin : List �
     );
   }
 
-  pub bin_kept : ¬ ((p : Pt) × IsInBox rect.lo rect.hi p × Owns g k p) → IsBin g k (boxes ++ rect ∷ []) bin
+  pub bin_kept : ¬ (HasPointOf g k rect) → IsBin g k (boxes ++ rect ∷ []) bin
   bin_kept none = record {
     ascending = h.ascending;
     exact = λ number. (λ c. still number ((h.exact number).0 c), λ m. ⊎_elim (λ i. (h.exact number).1 i) (λ (e, i). absurd (none i)) (was number m));
   }
-
--- what the code makes of the bins when it adds a box
-pub box_more : (g : Tiling) (count : ℕ) (old new : List (List ℕ)) (rect : Rect) (lo hi : ℕ × ℕ) → 0 < g.side → IsPlaced g rect.lo lo → IsPlaced g rect.hi hi → length old ≡ tile_count g → AreGiven (IsAmong g.columns lo hi) count old new
-    → (boxes : List Rect) → AreBins boxes (record { grid = g; count = count; bins = old }) → AreBins (boxes ++ rect ∷ []) (record { grid = g; count = count + 1; bins = new })
-box_more g count old new rect lo hi some low high tiles given boxes are = record {
-  count_is = let c = are.count_is in omega (arith, c, length_push boxes rect);
-  each = λ k l.
-      let m : k < length old = omega (arith, l, tiles) in
-      ⊎_elim
-      (λ (h : IsAmong g.columns lo hi k). rw (given.given k m h, are.count_is) (bin_given g k boxes rect (get_or old k []) (are.each k l) (meets g rect lo hi some low high k h)))
-      (λ (none : IsAmong g.columns lo hi k → ⊥). rw (given.kept k m none) (bin_kept g k boxes rect (get_or old k []) (are.each k l) (λ i. none (among g rect lo hi some low high k i))))
-      (decided g rect lo hi some low high k);
-}
-
--- the same, where the bins are lent as a slice and are given back
-pub kept_more : {A : Type 0} (g : Tiling) (count : ℕ) (bins : Vec (Vec ℕ A) A) (lent new : List (Vec ℕ A)) (rect : Rect) (lo hi : ℕ × ℕ) (kept : TileBins) → record { grid = g; count = count; bins = lists_of bins.items } ≡ kept → length bins.items ≡ tile_count g
-    → lent ≡ bins.items → length new ≡ bins.len → 0 < g.side → IsPlaced g rect.lo lo → IsPlaced g rect.hi hi → AreGiven (IsAmong g.columns lo hi) count (lists_of lent) (lists_of new)
-    → (boxes : List Rect) → AreBins boxes kept → AreBins (boxes ++ rect ∷ []) (record { grid = g; count = count + 1; bins = lists_of (with_items bins new).items })
-kept_more {A} g count bins lent new rect lo hi kept view tiles e len some low high given boxes are =
-    rw (with_items_is bins new len) (box_more g count (lists_of bins.items) (lists_of new) rect lo hi some low high (length-map bins.items (λ (u : Vec ℕ A). u.items) ∙ tiles)
-    (subst (λ (ls : List (Vec ℕ A)). AreGiven (IsAmong g.columns lo hi) count (lists_of ls) (lists_of new)) e given)
-    boxes (subst (λ (t : TileBins). AreBins boxes t) (sym view) are))
-
--- no boxes
-pub empty_more : {A : Type 0} (bins : List (Vec ℕ A)) (v : Vec ℕ A) → v.items ≡ [] → ((k : ℕ) → get_or (lists_of bins) k [] ≡ []) → (k : ℕ) → get_or (lists_of (bins ++ v ∷ [])) k [] ≡ []
-empty_more [] v e h zero = e
-empty_more [] v e h (suc k) = refl
-empty_more (b ∷ bins) v e h zero = h 0
-empty_more (b ∷ bins) v e h (suc k) = empty_more bins v e (λ j. h (suc j)) k
-
-pub no_boxes : (g : Tiling) (bins : List (List ℕ)) → ((k : ℕ) → k < tile_count g → get_or bins k [] ≡ []) → AreBins [] (record { grid = g; count = 0; bins = bins })
-no_boxes g bins none = record {
-  count_is = refl;
-  each = λ k l. rw (none k l) (record {
-    ascending = λ i j d a b. absurd (omega (arith, a, b));
-    exact = λ number. (λ (i, m, e). absurd (omega (arith, m)), λ (b, is, met). absurd (cc));
-  });
-}

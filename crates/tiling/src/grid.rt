@@ -1,6 +1,6 @@
 //! The grid of tiles.
 
-ghost use Rattle.std.specs.Prelude.{◌≡◌, ◌↔◌, ◌^◌, ℕ, ℤ, pos, ◌+◌, ◌-◌, ◌*◌, ◌<◌, ◌≤◌, ◌+ℤ◌, ◌≤ℤ◌, IfOk, MatchResult, Some};
+ghost use Rattle.std.specs.Prelude.{◌≡◌, ◌↔◌, ◌^◌, ℕ, ℤ, pos, ◌+◌, ◌-◌, ◌*◌, ◌<◌, ◌≤◌, ◌+ℤ◌, ◌≤ℤ◌, ◌<ℤ◌, IfOk, IsTrue, MatchResult, Some};
 ghost use Rattle.geom.specs.Limit.{IsWithin};
 ghost use Rattle.geom.specs.declared.point.Pt.{Pt};
 ghost use Rattle.geom.specs.Box.{IsInBox};
@@ -86,6 +86,31 @@ impl Grid {
         ensures few { result ≤ MOST_TILES }
     {
         self.rows * self.columns
+    }
+
+    /// How many rows there are.
+    pub fn rows(&self) -> u32
+        ensures { result ≡ self.now.rows }
+    {
+        self.rows
+    }
+
+    /// How many tiles so many rows have.
+    pub(crate) fn tiles_in(&self, rows: u32) -> u32
+        requires { rows ≤ self.now.rows }
+        ensures value { result ≡ rows * self.now.columns }
+        ensures few { result ≤ MOST_TILES }
+    {
+        rows * self.columns
+    }
+
+    /// Whether a coordinate is less than those of a row, or of the one past the last.
+    pub(crate) fn is_below(&self, y: i32, row: u32) -> bool
+        ensures value { IsTrue result ↔ (y <ℤ (self.now.bottom +ℤ pos (row * self.now.side))) }
+        ensures some_side { 0 < self.now.side }
+    {
+        let up = (u64::from(row) * u64::from(self.side)) as i64;
+        i64::from(y) - i64::from(self.bottom) < up
     }
 
     /// The column and the row of a point.

@@ -1,19 +1,19 @@
 -- What the reader passes from byte to byte, and in one go.
-use Rattle.std.proofs.Common.{◌≡◌, ℕ, suc, ◌+◌, ◌-◌, ◌<◌, ◌≤◌, Bool, true, false, List, ◌∷◌, length, get_or, drop, Option, Some, refl, sym, ap, subst, ◌∙◌, arith, length-drop}
+use Rattle.std.proofs.Common.{lit<, [], ◌≡◌, ℕ, suc, ◌+◌, ◌-◌, ◌<◌, ◌≤◌, Bool, true, false, List, ◌∷◌, length, get_or, drop, Option, Some, refl, sym, ap, subst, ◌∙◌, arith, length-drop}
 use Rattle.std.specs.Prelude.{option_and_then, option_map}
 use Rattle.std.proofs.Math.Seq.{drop-cons}
 use Rattle.std.proofs.Math.Numerals.{add-one}
 use Rattle.wkt.specs.declared.places.Place.{Place}
-use Rattle.wkt.specs.declared.places.Place.TheVariants.{BeforePoint, MinusX, DigitsX, BeforeY, MinusY, DigitsY}
+use Rattle.wkt.specs.declared.places.Place.TheVariants.{Between, Keyword, KeywordGap, Ended, BeforeRing, BeforePoint, MinusX, DigitsX, BeforeY, MinusY, DigitsY, AfterRing}
 use Rattle.wkt.specs.declared.places.Class.{Class}
-use Rattle.wkt.specs.declared.places.Class.TheVariants.{Space, Digit, Minus}
+use Rattle.wkt.specs.declared.places.Class.TheVariants.{Space, Digit, Minus, Open, Close, Letter}
 use Rattle.wkt.specs.declared.reader.Number.{Number as Numeral}
 use Rattle.wkt.specs.declared.reader.Reader.{Reader}
 use Rattle.wkt.specs.declared.reader.Event.{Event}
 use Rattle.wkt.specs.declared.reader.Event.TheVariants.{Nothing}
 use Rattle.wkt.specs.Machine.{class_of, turn, Notes, noted, step, run, start, is_multi_after}
 use Rattle.wkt.specs.Reading.{with_digit, number_next, x_next, event_of, ReaderIs, Says, Went}
-use Rattle.wkt.specs.Running.{HasRead, HasPassed, Passes, before, behind_minus, behind_digit, reader_at, PassesSpaces, PassesDigits, PassesNumber}
+use Rattle.wkt.specs.Running.{HasRead, HasPassed, Passes, before, behind_minus, behind_digit, reader_at, PassesSpaces, PassesDigits, PassesNumber, Stands}
 use Rattle.wkt.proofs.Fronts.{goes_on, noted_multi}
 use Rattle.wkt.proofs.Steps.{went}
 
@@ -162,3 +162,45 @@ pub second_number : (text : List ℕ) (at from end : ℕ) (r : Reader) (read : N
     → Passes text at end r (reader_at DigitsY r.multi r.number read)
 second_number text at from end r read e lt is f g =
     passes_then text at from end r (reader_at BeforeY r.multi r.number r.number) (reader_at DigitsY r.multi r.number read) (before_second text at from r e lt is f) (g true r.multi r.number r.number)
+
+-- ---- from a polygon's last ring to the next polygon's first
+
+-- one byte more of what completes nothing and leaves the numbers
+then_byte : (text : List ℕ) (at i : ℕ) (k : Class) (r : Reader) (p q : Place) (x n : Numeral) → at + i < length text → class_of (get_or text (at + i) 0) ≡ k → turn p k false ≡ Some q → event_of p k x n ≡ Nothing
+    → is_multi_after p k false ≡ false → x_next p k x n ≡ x → number_next p k (at + i) n ≡ n → Passes text at (at + i) r (reader_at p false x n) → Passes text at (at + (i + 1)) r (reader_at q false x n)
+then_byte text at i k r p q x n lt is t e f g h before =
+    let old : Reader = reader_at p false x n in
+    let here : Passes text (at + i) (at + i + 1) old (reader_at q (is_multi_after p k false) (x_next p k x n) (number_next p k (at + i) n)) = passes_byte text (at + i) k old q lt is t e in
+    let same : Passes text (at + i) (at + i + 1) old (reader_at q false x n) =
+    subst (λ (m : Numeral). Passes text (at + i) (at + i + 1) old (reader_at q false x m)) h
+    (subst (λ (y : Numeral). Passes text (at + i) (at + i + 1) old (reader_at q false y (number_next p k (at + i) n))) g
+    (subst (λ (b : Bool). Passes text (at + i) (at + i + 1) old (reader_at q b (x_next p k x n) (number_next p k (at + i) n))) f here)) in
+    let ends : at + i + 1 ≡ at + (i + 1) = omega arith in
+    subst (λ (j : ℕ). Passes text at j r (reader_at q false x n)) ends (passes_then text at (at + i) (at + i + 1) r old (reader_at q false x n) before same)
+
+abbrev next_word : List ℕ
+next_word = 41 ∷ 10 ∷ 80 ∷ 79 ∷ 76 ∷ 89 ∷ 71 ∷ 79 ∷ 78 ∷ 32 ∷ 40 ∷ []
+
+next_polygon_at : (text : List ℕ) (at : ℕ) (x n : Numeral) → Stands text at next_word → Passes text at (at + 11) (reader_at AfterRing false x n) (reader_at BeforeRing false x n)
+next_polygon_at text at x n s =
+    let r : Reader = reader_at AfterRing false x n in
+    let inside : (i : ℕ) → i < 11 → at + i < length text = λ i lt. omega (arith, lt, s.within) in
+    let class_at : (i : ℕ) → i < 11 → class_of (get_or text (at + i) 0) ≡ class_of (get_or next_word i 0) = λ i lt. ap class_of (s.bytes i lt) in
+    let none : at + 0 ≡ at = omega arith in
+    let start : Passes text at (at + 0) r r = subst (λ (j : ℕ). Passes text at j r r) (sym none) (passes_none text at r (omega (arith, s.within))) in
+    then_byte text at 10 Open r KeywordGap BeforeRing x n (inside 10 (lit< tt)) (class_at 10 (lit< tt)) refl refl refl refl refl
+    (then_byte text at 9 Space r (Keyword 12) KeywordGap x n (inside 9 (lit< tt)) (class_at 9 (lit< tt)) refl refl refl refl refl
+    (then_byte text at 8 (Letter 78) r (Keyword 11) (Keyword 12) x n (inside 8 (lit< tt)) (class_at 8 (lit< tt)) refl refl refl refl refl
+    (then_byte text at 7 (Letter 79) r (Keyword 10) (Keyword 11) x n (inside 7 (lit< tt)) (class_at 7 (lit< tt)) refl refl refl refl refl
+    (then_byte text at 6 (Letter 71) r (Keyword 9) (Keyword 10) x n (inside 6 (lit< tt)) (class_at 6 (lit< tt)) refl refl refl refl refl
+    (then_byte text at 5 (Letter 89) r (Keyword 8) (Keyword 9) x n (inside 5 (lit< tt)) (class_at 5 (lit< tt)) refl refl refl refl refl
+    (then_byte text at 4 (Letter 76) r (Keyword 7) (Keyword 8) x n (inside 4 (lit< tt)) (class_at 4 (lit< tt)) refl refl refl refl refl
+    (then_byte text at 3 (Letter 79) r (Keyword 6) (Keyword 7) x n (inside 3 (lit< tt)) (class_at 3 (lit< tt)) refl refl refl refl refl
+    (then_byte text at 2 (Letter 80) r Between (Keyword 6) x n (inside 2 (lit< tt)) (class_at 2 (lit< tt)) refl refl refl refl refl
+    (then_byte text at 1 Space r Ended Between x n (inside 1 (lit< tt)) (class_at 1 (lit< tt)) refl refl refl refl refl
+    (then_byte text at 0 Close r AfterRing Ended x n (inside 0 (lit< tt)) (class_at 0 (lit< tt)) refl refl refl refl refl start))))))))))
+
+pub next_polygon : (text : List ℕ) (at : ℕ) (r : Reader) → r.place ≡ AfterRing → r.multi ≡ false → Stands text at next_word → Passes text at (at + 11) r (reader_at BeforeRing r.multi r.x r.number)
+next_polygon text at r e f s =
+    subst (λ (p : Place). Passes text at (at + 11) (reader_at p r.multi r.x r.number) (reader_at BeforeRing r.multi r.x r.number)) (sym e)
+    (subst (λ (b : Bool). Passes text at (at + 11) (reader_at AfterRing b r.x r.number) (reader_at BeforeRing b r.x r.number)) (sym f) (next_polygon_at text at r.x r.number s))

@@ -10,7 +10,7 @@ use Rattle.wkt.specs.declared.places.Class.{Class}
 use Rattle.wkt.specs.declared.places.Class.TheVariants.{Space, Digit, Minus, Comma, Open, Close, Letter}
 use Rattle.wkt.specs.declared.reader.Number.{Number as Numeral}
 use Rattle.wkt.specs.declared.reader.Reader.{Reader}
-use Rattle.wkt.specs.declared.reader.Event.TheVariants.{Point as EventPoint}
+use Rattle.wkt.specs.declared.reader.Event.TheVariants.{Point as EventPoint, Last}
 use Rattle.wkt.specs.LayerText.{multipolygon_word, empty_word}
 use Rattle.wkt.specs.Machine.{class_of, turn, opened, closed, Notes, signed, number, noted, is_multi_after}
 use Rattle.wkt.specs.Reading.{u32_max, number_next, x_next, event_of, IsNumeralOf, IsNumeralFor, Idle, ReaderIs, Says, Went}
@@ -168,3 +168,9 @@ pub went_comma : (at byte : ℕ) (old : Reader) (m : Notes) → old.place ≡ Di
 went_comma at byte old m e f r =
     subst (λ (p : Place). Went at byte old m (event_of p Comma old.x old.number) (record { place = BeforePoint; multi = is_multi_after p Comma old.multi; x = x_next p Comma old.x old.number; number = number_next p Comma at old.number })) e
     (went at byte Comma old m BeforePoint (sym (ap class_of f)) (sym (ap (λ (p : Place). turn p Comma old.multi) e)) r)
+
+-- a point before the end of its ring
+pub went_close : (at byte : ℕ) (old : Reader) (m : Notes) → old.place ≡ DigitsY → byte ≡ 41 → ReaderIs old m → Went at byte old m (Last old.x old.number) (record { place = AfterRing; multi = old.multi; x = old.x; number = old.number })
+went_close at byte old m e f r =
+    subst (λ (p : Place). Went at byte old m (event_of p Close old.x old.number) (record { place = AfterRing; multi = is_multi_after p Close old.multi; x = x_next p Close old.x old.number; number = number_next p Close at old.number })) e
+    (went at byte Close old m AfterRing (sym (ap class_of f)) (sym (ap (λ (p : Place). turn p Close old.multi) e)) r)

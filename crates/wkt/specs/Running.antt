@@ -1,5 +1,5 @@
 -- How far the code's reader has come in a text, and what it passes over in one go.
-use Rattle.std.specs.Prelude.{◌≡◌, ℕ, ◌≤◌, Bool, true, false, List, length, take, drop, Some}
+use Rattle.std.specs.Prelude.{◌≡◌, ℕ, ◌+◌, ◌<◌, ◌≤◌, Bool, true, false, List, length, take, drop, Some, slice_index}
 use Rattle.wkt.specs.declared.places.Place.{Place}
 use Rattle.wkt.specs.declared.places.Place.TheVariants.{Between, BeforePoint, MinusX, DigitsX, BeforeY, MinusY, DigitsY}
 use Rattle.wkt.specs.declared.reader.Number.{Number as Numeral}
@@ -27,6 +27,11 @@ pub record Passes (text : List ℕ) (at end : ℕ) (old new : Reader) : Type 0 w
   pub onward : at ≤ end
   pub within : end ≤ length text
   pub passed : (m : Notes) → HasRead text at old m → HasPassed text end new m
+
+-- this word stands at this offset of the text
+pub record Stands (text : List ℕ) (at : ℕ) (word : List ℕ) : Type 0 where
+  pub within : at + length word ≤ length text
+  pub bytes : (k : ℕ) → k < length word → slice_index text (at + k) ≡ slice_index word k
 
 -- before, behind the sign of, and behind a digit of a point's first number, and its second
 abbrev pub before : Bool → Place

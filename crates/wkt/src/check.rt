@@ -31,7 +31,7 @@ pub fn check_layer(text: &[u8]) -> Result<Outline, Fault>
             return Err(Fault::Syntax(at));
         };
         survey.note(at, event);
-        at = reader.pass_point(text, at + 1);
+        at = reader.pass(text, at + 1);
     }
     if !reader.may_end() {
         return Err(Fault::Syntax(text.len()));

@@ -13,7 +13,6 @@ use crate::reader::{Event, Number, Reader};
 use crate::survey::Survey;
 use geom::{Fault, Layer, NoMemory, Pt, Ring};
 use std::alloc::Allocator;
-use std::mem;
 
 /// The greatest length of a text, in bytes, that is read in the pass that checks it: a longer one may have more points than
 /// there should be room for before it is known not to be refused.
@@ -52,12 +51,13 @@ impl<A: Allocator + Copy> Collector<A> {
     fn close(&mut self, alloc: A) -> Result<(), NoMemory>
         ensures { OnOk result (view self.new ≡ closed (view self.old)) }
     {
-        let mut points = mem::replace(&mut self.points, Vec::new(alloc));
-        if points.len() < 4 {
-            return Ok(());
+        let many = self.points.len();
+        if many >= 4 {
+            let mut kept = Vec::with_capacity(alloc, many - 1)?;
+            kept.extend_from_slice(&self.points[..many - 1])?;
+            self.rings.push(Ring::new(kept))?;
         }
-        points.truncate(points.len() - 1);
-        self.rings.push(Ring::new(points))?;
+        self.points.clear();
         Ok(())
     }
 
@@ -105,7 +105,7 @@ fn gather<A: Allocator + Copy>(alloc: A, text: &[u8]) -> Result<(Outline, Vec<Ri
         let Ok(()) = collector.note(alloc, event) else {
             return Err(Fault::Memory);
         };
-        at = reader.pass_point(text, at + 1);
+        at = reader.pass(text, at + 1);
     }
     if !reader.may_end() {
         return Err(Fault::Syntax(text.len()));

@@ -1,12 +1,12 @@
 //! A reader of layer texts, byte by byte.
 
-ghost use Rattle.std.specs.Prelude.{◌≡◌, ◌≤◌, ℕ, length, min};
+ghost use Rattle.std.specs.Prelude.{◌≡◌, ◌+◌, ◌*◌, ◌≤◌, ℕ, length, min};
 ghost use Rattle.wkt.specs.Machine.{Notes, start, may_end};
-ghost use Rattle.wkt.specs.Reading.{ReaderIs, Stepped, number_next, x_next, event_of, value_of, with_digit};
+ghost use Rattle.wkt.specs.Reading.{ReaderIs, Stepped, number_next, x_next, event_of, u32_max, value_of, with_digit};
 ghost use Rattle.wkt.specs.Running.{Passes};
 
 use crate::places::{Class, Place};
-use crate::runs::{behind_spaces, number};
+use crate::runs::{behind_spaces, number, stands};
 use geom::COORDINATE_LIMIT;
 
 /// A number as it is written, and the offset of its first byte.
@@ -36,17 +36,30 @@ impl Number {
     pub fn with_digit(self, digit: u8) -> Number
         ensures { result ≡ with_digit self digit }
     {
-        // No saturation where none can be: it takes longer.
-        let magnitude = if self.magnitude < 400_000_000 {
-            self.magnitude * 10 + u32::from(digit)
-        } else {
-            self.magnitude
-                .saturating_mul(10)
-                .saturating_add(u32::from(digit))
-        };
-        Number { magnitude, ..self }
+        Number {
+            magnitude: longer(self.magnitude, digit),
+            ..self
+        }
     }
 }
+
+/// The magnitude with one digit more.
+#[inline(always)]
+pub fn longer(magnitude: u32, digit: u8) -> u32
+    ensures { result ≡ min (min (magnitude * 10) u32_max + digit) u32_max }
+{
+    // No saturation where none can be: it takes longer.
+    if magnitude < 400_000_000 {
+        magnitude * 10 + u32::from(digit)
+    } else {
+        magnitude
+            .saturating_mul(10)
+            .saturating_add(u32::from(digit))
+    }
+}
+
+/// What stands between the rings of most polygons.
+const NEXT_POLYGON: [u8; 11] = *b")\nPOLYGON (";
 
 /// What a byte completes.
 #[derive(Clone, Copy, Debug, PartialEq, Eq)]
@@ -101,10 +114,16 @@ impl Reader {
     pub fn step(&mut self, at: usize, byte: u8) -> Option<Event>
         ensures { (m : Notes) → ReaderIs self.old m → Stepped at byte self.old m result self.new }
     {
-        // Most points stand before a comma.
-        if let (Place::DigitsY, b',') = (self.place, byte) {
-            self.place = Place::BeforePoint;
-            return Some(Event::Point(self.x, self.number));
+        // Most points stand before a comma, and most of the others before the end of a ring.
+        if let Place::DigitsY = self.place {
+            if byte == b',' {
+                self.place = Place::BeforePoint;
+                return Some(Event::Point(self.x, self.number));
+            }
+            if byte == b')' {
+                self.place = Place::AfterRing;
+                return Some(Event::Last(self.x, self.number));
+            }
         }
         let class = Class::of(byte);
         let place = self.place;
@@ -117,10 +136,39 @@ impl Reader {
         Some(event)
     }
 
+    /// Passes what completes nothing and is quickly told: before a point, the point without its end; behind the last ring of
+    /// a polygon, the way to the next polygon's first. The offset behind it.
+    #[inline(always)]
+    pub fn pass(&mut self, text: &[u8], at: usize) -> usize
+        requires { at ≤ length text.now }
+        ensures { Passes text.now at result self.old self.new }
+    {
+        match self.place {
+            Place::BeforePoint => self.pass_point(text, at),
+            Place::AfterRing => self.pass_to_polygon(text, at),
+            _ => at,
+        }
+    }
+
+    /// Behind a ring, passes the end of its polygon and the next one as far as its first ring, if they stand there as in
+    /// most texts; else nothing. The offset behind them.
+    #[inline(always)]
+    fn pass_to_polygon(&mut self, text: &[u8], at: usize) -> usize
+        requires within { at ≤ length text.now }
+        requires place { self.old.place ≡ Place.AfterRing }
+        ensures { Passes text.now at result self.old self.new }
+    {
+        if self.multi || !stands(text, at, &NEXT_POLYGON) {
+            return at;
+        }
+        self.place = Place::BeforeRing;
+        at + NEXT_POLYGON.len()
+    }
+
     /// Before a point, passes the point without its end, as far as it stands there; elsewhere nothing. The offset behind
     /// it.
     #[inline(always)]
-    pub fn pass_point(&mut self, text: &[u8], at: usize) -> usize
+    fn pass_point(&mut self, text: &[u8], at: usize) -> usize
         requires { at ≤ length text.now }
         ensures { Passes text.now at result self.old self.new }
     {

@@ -1,11 +1,11 @@
 //! Runs of white space and of digits, which a reader passes in one go.
 
-ghost use Rattle.std.specs.Prelude.{◌≡◌, ◌≤◌, ◌<◌, IfSome, length, slice_index};
+ghost use Rattle.std.specs.Prelude.{IsTrue, ◌≡◌, ◌≤◌, ◌<◌, IfSome, length, slice_index};
 ghost use Rattle.wkt.specs.Machine.{class_of};
-ghost use Rattle.wkt.specs.Running.{Passes, PassesSpaces, PassesDigits, PassesNumber};
+ghost use Rattle.wkt.specs.Running.{Passes, PassesSpaces, PassesDigits, PassesNumber, Stands};
 
 use crate::places::Class;
-use crate::reader::Number;
+use crate::reader::{Number, longer};
 
 /// The offset behind the white space from this offset on.
 #[inline(always)]
@@ -23,22 +23,56 @@ pub fn behind_spaces(text: &[u8], at: usize) -> usize
     end
 }
 
+/// Whether this word stands at this offset.
+#[inline(always)]
+pub fn stands(text: &[u8], at: usize, word: &[u8]) -> bool
+    requires { at ≤ length text.now }
+    ensures { IsTrue result → Stands text.now at word.now }
+{
+    if text.len() - at < word.len() {
+        return false;
+    }
+    for index in 0..word.len() {
+        if text[at + index] != word[index] {
+            return false;
+        }
+    }
+    true
+}
+
+/// The value of a digit; `None` of any other byte.
+#[inline(always)]
+fn digit_value(byte: u8) -> Option<u8>
+    ensures { IfSome result (λ value. class_of byte ≡ Class.Digit value) }
+{
+    if byte < b'0' || byte > b'9' {
+        return None;
+    }
+    Some(byte - b'0')
+}
+
 /// The number with the digits from this offset on, and the offset behind them.
 #[inline(always)]
 fn with_digits(text: &[u8], at: usize, number: Number) -> (Number, usize)
     requires { at ≤ length text.now }
     ensures { PassesDigits text.now at result.1 number result.0 }
 {
-    let mut longer = number;
+    let mut magnitude = number.magnitude;
     let mut end = at;
     while end < text.len() {
-        let Class::Digit(digit) = Class::of(text[end]) else {
-            return (longer, end);
+        let Some(digit) = digit_value(text[end]) else {
+            break;
         };
-        longer = longer.with_digit(digit);
+        magnitude = longer(magnitude, digit);
         end += 1;
     }
-    (longer, end)
+    (
+        Number {
+            magnitude,
+            ..number
+        },
+        end,
+    )
 }
 
 /// The digit at this offset, if one stands there.
@@ -49,10 +83,7 @@ fn digit(text: &[u8], at: usize) -> Option<u32>
     if at >= text.len() {
         return None;
     }
-    let Class::Digit(digit) = Class::of(text[at]) else {
-        return None;
-    };
-    Some(u32::from(digit))
+    digit_value(text[at]).map(u32::from)
 }
 
 /// The number at this offset, if one stands there, and the offset behind it.

@@ -58,7 +58,7 @@ impl Survey {
     }
 
     /// A ring opens at this offset.
-    #[inline(always)]
+    #[inline(never)]
     fn open(&mut self, at: usize)
         ensures { shown self.new ≡ opened_at (shown self.old) at }
     {
@@ -118,7 +118,7 @@ impl Survey {
     }
 
     /// The ring closes.
-    #[inline(always)]
+    #[inline(never)]
     fn close(&mut self)
         ensures { shown self.new ≡ closed_ring (shown self.old) }
     {

@@ -13,6 +13,9 @@ use geom::{NoMemory, Polygon, Pt, SimpleRing};
 use itoa::Buffer;
 use std::alloc::{AllocError, Allocator};
 
+// How many bytes a point has at most, where its coordinates have up to eight digits and a sign.
+const POINT: usize = 21;
+
 /// Adds a number in decimal digits.
 fn push_number<A: Allocator>(text: &mut Vec<u8, A>, number: i32) -> Result<(), AllocError>
     ensures text { OnOk result (text.new.items ≡ text.old.items ++ signed_decimal number) }
@@ -106,6 +109,24 @@ fn push_more_polygons<A: Allocator, B: Allocator>(
     Ok(())
 }
 
+/// How many points a polygon's text has, of which each ring's first one comes twice.
+fn points_in<A: Allocator>(polygon: &Polygon<A>) -> usize {
+    let mut points = polygon.shell().points().len().saturating_add(1);
+    for hole in polygon.holes() {
+        points = points.saturating_add(hole.points().len()).saturating_add(1);
+    }
+    points
+}
+
+/// Room for the text of polygons, in bytes, as long as it is in most maps.
+fn room_for<A: Allocator>(polygons: &[Polygon<A>]) -> usize {
+    let mut points = 0usize;
+    for polygon in polygons {
+        points = points.saturating_add(points_in(polygon));
+    }
+    points.saturating_mul(POINT)
+}
+
 /// The canonical line of a list of polygons, in bytes, with LF at its end. Without it the line is a layer text whose rings
 /// are those of the polygons, each closed; within the limits the line is accepted, and stands for them.
 pub fn write_multi<A: Allocator, B: Allocator>(
@@ -119,7 +140,8 @@ pub fn write_multi<A: Allocator, B: Allocator>(
     let Some((first, rest)) = polygons.split_first() else {
         return Ok(Vec::from_slice(alloc, b"MULTIPOLYGON EMPTY\n")?);
     };
-    let mut text = Vec::from_slice(alloc, b"MULTIPOLYGON (")?;
+    let mut text = Vec::with_capacity(alloc, room_for(polygons))?;
+    text.extend_from_slice(b"MULTIPOLYGON (")?;
     push_polygon(&mut text, first)?;
     push_more_polygons(&mut text, rest)?;
     text.extend_from_slice(b")\n")?;

@@ -1,10 +1,10 @@
-//! Tests of the sorts of records and links, by one hand and by several.
+//! Tests of the sort of records, and of counting links by one hand and by several.
 
 ghost use Rattle.std.specs.Prelude.{List};
 
 use super::*;
-use crate::by_range::Keyed;
-use crate::even_parts::{sorted, sorted_by_hands};
+use crate::by_range::sorted;
+use crate::counting::counts_by_hands;
 use crate::link::Link;
 use routing::Record;
 use std::thread::Threads;
@@ -54,47 +54,28 @@ fn are_records(list: &[Record], expected: &[(u32, u32)]) -> bool {
             .all(|(record, pair)| (record.segment, record.steps) == *pair)
 }
 
-// A list in order: by the calling thread alone where there are no hands.
-fn in_order<R: Threads + Sync, T: Ord + Keyed + Copy + Send>(
-    rt: &R,
-    hands: usize,
-    list: Vec<T, Global>,
-) -> Vec<T, Global> {
-    if hands == 0 {
-        sorted(list)
-    } else {
-        sorted_by_hands(rt, hands, list)
-    }
-}
-
-fn sorts_few<R: Threads + Sync>(rt: &R, alloc: Global, hands: usize) -> Result<bool, NoMemory> {
+fn sorts_few(alloc: Global) -> Result<bool, NoMemory> {
     let mut all = true;
     for (pairs, expected) in FEW {
         let mut list = Vec::new(alloc);
         for (segment, steps) in pairs {
             list.push(record(*segment, *steps))?;
         }
-        let list = in_order(rt, hands, list);
+        let list = sorted(list);
         all = all && are_records(&list, expected);
     }
     Ok(all)
 }
 
 // Two records of each segment.
-fn sorts_spread<R: Threads + Sync>(
-    rt: &R,
-    alloc: Global,
-    hands: usize,
-    step: u32,
-    gap: u32,
-) -> Result<bool, NoMemory> {
+fn sorts_spread(alloc: Global, step: u32, gap: u32) -> Result<bool, NoMemory> {
     let mut list = Vec::new(alloc);
     for at in 0..LONG {
         let segment = (at.wrapping_mul(step) % LONG).wrapping_mul(gap);
         list.push(record(segment, 1))?;
         list.push(record(segment, 0))?;
     }
-    let list = in_order(rt, hands, list);
+    let list = sorted(list);
     Ok(
         list.len() == 2 * LONG as usize
             && list.iter().enumerate().all(|(at, found)| {
@@ -103,47 +84,52 @@ fn sorts_spread<R: Threads + Sync>(
     )
 }
 
-// A link of each layer over each of many edges, from (0, 0) to (0, 1) and so on.
-fn sorts_links<R: Threads + Sync>(
+// Each of many edges, from (0, 0) to (0, 1) and so on, is a link of each layer, whose links are a list.
+fn counts_links<R: Threads + Sync>(
     rt: &R,
     alloc: Global,
     hands: usize,
     step: u32,
 ) -> Result<bool, NoMemory> {
-    let mut list = Vec::new(alloc);
-    for at in 0..LONG {
-        let x = (at.wrapping_mul(step) % LONG) as i32;
-        let Some(edge) = Edge::between(point((x, 0)), point((x, 1))) else {
-            return Ok(false);
-        };
-        for layer in [Source::B, Source::A] {
+    let mut lists = Vec::new(alloc);
+    for layer in [Source::B, Source::A] {
+        let mut list = Vec::new(alloc);
+        for at in 0..LONG {
+            let x = (at.wrapping_mul(step) % LONG) as i32;
+            let Some(edge) = Edge::between(point((x, 0)), point((x, 1))) else {
+                return Ok(false);
+            };
             list.push(Link { edge, layer })?;
         }
+        lists.push(list)?;
     }
-    let list = in_order(rt, hands, list);
+    let counted = counts_by_hands(rt, alloc, hands, lists)?;
     Ok(
-        list.len() == 2 * LONG as usize
-            && list.iter().enumerate().all(|(at, link)| {
-                link.edge.p.x.unsigned_abs() as usize == at / 2
-                    && (link.layer == Source::A) == (at % 2 == 0)
+        counted.len() == LONG as usize
+            && counted.iter().enumerate().all(|(at, found)| {
+                found.edge.p.x.unsigned_abs() as usize == at && (found.in_a, found.in_b) == (1, 1)
             }),
     )
 }
 
-fn sorts_all<R: Threads + Sync>(rt: &R, alloc: Global, hands: usize) -> Result<bool, NoMemory> {
-    let mut all = sorts_few(rt, alloc, hands)?;
+#[test]
+fn records_are_sorted(rt: HostRuntime) -> Result<(), Fail> {
+    assert!(rt; sorts_few(rt.alloc())?);
     for (step, gap) in SPREADS {
-        all = all
-            && sorts_spread(rt, alloc, hands, step, gap)?
-            && sorts_links(rt, alloc, hands, step)?;
+        assert!(rt; sorts_spread(rt.alloc(), step, gap)?, "{step} {gap}");
     }
-    Ok(all)
+    Ok(())
 }
 
 #[test]
-fn all_sort(rt: HostRuntime) -> Result<(), Fail> {
-    for hands in [0, 1, 2, 3, 4, 7] {
-        assert!(rt; sorts_all(&rt, rt.alloc(), hands)?, "{hands}");
+fn links_are_counted(rt: HostRuntime) -> Result<(), Fail> {
+    for hands in [1, 2, 3, 4, 7] {
+        for (step, _gap) in SPREADS {
+            assert!(rt;
+                counts_links(&rt, rt.alloc(), hands, step)?,
+                "{hands} {step}"
+            );
+        }
     }
     Ok(())
 }

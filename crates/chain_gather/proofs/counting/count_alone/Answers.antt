@@ -1,5 +1,5 @@
-use Rattle.std.proofs.Common.{ap, sym, arith, ◌+◌, ◌<◌, ◌^◌, ◌≡◌}
-use Rattle.chain_gather.proofs.Tally.{IsAt, IsTally, ascending_in_order, ne_apart, ne_same, IsTally-none, IsTally-next, IsTally-more, tally_small, counts_are, no_counts}
+use Rattle.std.proofs.Common.{sym, arith, ◌+◌, ◌<◌, ◌^◌, ◌≡◌}
+use Rattle.chain_gather.proofs.Tally.{IsAt, IsTally, ascending_in_order, ne_apart, ne_same, IsTally-none, IsTally-next, IsTally-more, tally_small, counts_are}
 use Rattle.chain_gather.proofs.counting.count_alone.Goals as goal
 use Rattle.chain_gather.proofs.counting.count_alone.Goals.{then-ne+in_ok-add_counted, else-ne}
 

@@ -1,21 +1,26 @@
 use Rattle.std.proofs.Common.{◌<◌, ◌^◌, List, ap, arith, length, subst, sym}
 use Rattle.std.proofs.lemmas.List.Sorted.{length_permutation}
 use Rattle.std.proofs.lemmas.Result.{IfOk-weaker}
-use Rattle.std.specs.List.Sorted.{IsPermutation, IsSorted}
+use Rattle.std.specs.Prelude.{◌≡◌, flat_map}
+use Rattle.std.specs.List.Sorted.{IsPermutation}
 use Rattle.chain_gather.specs.declared.link.Link.{Link}
-use Rattle.chain_gather.specs.Orders.{link_order}
-use Rattle.chain_gather.proofs.LinkParts.{counts_moved, sorted_in_order}
+use Rattle.chain_gather.proofs.LinkParts.{counts_moved}
 use Rattle.chain_gather.proofs.counting.counts_by_hands.Goals as goal
 
-pub count_parts-requires-clause-in_order : goal.count_parts-requires-clause-in_order
-count_parts-requires-clause-in_order g c = λ κs l.
-    let up : IsSorted link_order c.links_in_order_by_hands-links.result.items = c.links_in_order_by_hands-links.ensures.sorted in
-    sorted_in_order c.deref-2.result.now (rw c.deref-2.ensures.value up)
+as_few : (found shares lists : List Link) → found ≡ lists → IsPermutation found shares → length lists < 2 ^ 32 → length shares < 2 ^ 32
+as_few found shares lists same moved few = let e = ap (λ (ls : List Link). length ls) same in let n = length_permutation found shares moved in omega arith
 
 pub count_parts-requires-clause-short : goal.count_parts-requires-clause-short
-count_parts-requires-clause-short g c = λ κs l. let e = length_permutation _ _ c.links_in_order_by_hands-links.ensures.permutation in let d = ap (λ (ls : List Link). length ls) c.deref-2.ensures.value in let r = c.requires.short in omega arith
+count_parts-requires-clause-short g c = λ κs l. as_few _ _ _ (ap (flat_map (λ s. s.items)) c.deref-2.ensures.value) c.in_ok-shares.ensures.same
+    (rw (sym c.deref.ensures.value) (c.are_few.ensures c.if-not-are_few.false))
 
 pub returns : goal.returns
 returns g c =
-    let moved = subst (λ (ls : List Link). IsPermutation c.args.links.items ls) (sym c.deref-2.ensures.value) c.links_in_order_by_hands-links.ensures.permutation in
-    IfOk-weaker c.count_parts.result _ _ (λ v h. counts_moved c.args.links.items c.deref-2.result.now v.items moved h) c.count_parts.ensures
+    let lists = flat_map (λ l. l.items) c.args.lists.items in
+    let same = ap (flat_map (λ l. l.items)) c.deref-2.ensures.value in
+    let few : length lists < 2 ^ 32 = rw (sym c.deref.ensures.value) (c.are_few.ensures c.if-not-are_few.false) in
+    let moved = subst (λ (ls : List Link). IsPermutation ls (flat_map (λ s. s.items) c.in_ok-shares.shares.items)) same c.in_ok-shares.ensures.same in
+    record {
+      short = IfOk-weaker c.count_parts.result _ _ (λ v h. few) c.count_parts.ensures;
+      counts = IfOk-weaker c.count_parts.result _ _ (λ v h. counts_moved lists _ v.items moved h) c.count_parts.ensures;
+    }

@@ -1,53 +1,107 @@
-use Rattle.std.proofs.Common.{List, ◌∙◌, ap, length, subst, sym}
-use Rattle.std.proofs.Math.Logic.{∥∥₁_elim, ∥∥₁_map}
-use Rattle.std.proofs.Props.{props}
-use Rattle.std.proofs.lemmas.Result.{IfOk-at_ok}
+use Rattle.std.proofs.Common.{◌≡◌, ℕ, List, ◌∙◌, ap, refl, subst, sym}
+use Rattle.std.proofs.Math.Logic.{∥∥₁_map}
+use Rattle.std.specs.Prelude.{All, AllPairs, flat_map}
+use Rattle.geom.specs.declared.point.Pt.{Pt}
+use Rattle.tiling.specs.Tiles.{HasTile, Owns}
 use Rattle.routing.specs.declared.record.Record.{Record}
-use Rattle.chain_gather.specs.Links.{AreLinks, AreRecords}
-use Rattle.chain_gather.specs.Numbers.{AreNumbersOf}
-use Rattle.chain_gather.proofs.Counted.{all_numbers, all_records, known_parts, may_count_as}
+use Rattle.routing.specs.Pieces.{IsPartOf}
+use Rattle.chain_gather.specs.Links.{AreRecords, HasRecords}
+use Rattle.chain_gather.specs.Numbers.{ArePaired}
+use Rattle.chain_gather.specs.Shares.{AreShares, segment_of}
+use Rattle.chain_gather.proofs.Counted.{all_numbers, all_records, known_parts, known_records, paired_are, pixels_in, pixels_once}
 use Rattle.chain_gather.proofs.Covering.{are_covered}
-use Rattle.chain_gather.proofs.Walk.{rounded_are}
+use Rattle.chain_gather.proofs.Gathering.{gathered_are}
+use Rattle.chain_gather.proofs.LinkedLaws.{known_shares, sorted_moved}
+use Rattle.chain_gather.proofs.ShareLaws.{parts_of_all}
+use Rattle.chain_gather.proofs.Walk.{links_are, rounded_are}
 use Rattle.chain_gather.proofs.tiles.gather_made_by_hands.Goals as goal
 
-pub all_made-requires : goal.all_made-requires
-all_made-requires g c = rw c.deref.ensures.value c.requires.in_order
-
-pub numbers_and_links-tiles-requires-clause-may : goal.numbers_and_links-tiles-requires-clause-may
-numbers_and_links-tiles-requires-clause-may g c = λ κs l.
+pub link_parts-requires-clause-known : goal.link_parts-requires-clause-known
+link_parts-requires-clause-known g c = λ κs l.
     let cells = c.args.cells.now in
     let grid = c.args.grid.now in
     let segments = c.args.segments.now in
-    let found = c.in_ok-pixels.field-0 in
-    let all = known_parts cells _ segments _ _ found.pixels.items found.records.items c.requires.cells c.requires.segments (ap length c.deref.ensures.value ∙ c.requires.one_each) c.in_ok-pixels.ensures in
-    may_count_as cells grid segments found.pixels.items found.records.items c.in_order_by_hands-records.result.items (are_covered cells segments c.requires.covered_by_cells) (are_covered grid segments c.requires.covered) all (c.in_order_by_hands-records.ensures segments)
-    c.deref-2.result.now c.deref-3.result.now c.deref-2.ensures.value c.deref-3.ensures.value
+    let pieces = c.args.pieces.items in
+    let all = known_parts cells _ segments _ _ _ _ c.requires.cells c.requires.segments c.requires.one_each (parts_of_all (λ p. p.pixels.items) (λ p. p.records.items) g.T.Tiled.grid g.T.Tiled.segments pieces
+    (λ k p at. subst (λ (n : ℕ). ∥ IsPartOf (Owns g.T.Tiled.grid n) g.T.Tiled.segments p.pixels.items p.records.items ∥₁) (c.requires.in_order k p at) p.exact)) in
+    let found = flat_map (λ p. p.records.items) pieces in
+    let hot = flat_map (λ p. p.pixels.items) pieces in
+    let in_cells = are_covered cells segments c.requires.covered_by_cells in
+    let in_tiles = are_covered grid segments c.requires.covered in
+    let same : c.deref-3.result.now ≡ hot = c.deref-3.ensures.value ∙ c.in_ok-pixels.ensures ∙ ap (flat_map (λ p. p.pixels.items)) c.deref-2.ensures.value in
+    let sharing = subst (λ (rs : List Record). AreShares (λ s. s.items) segment_of rs c.in_ok-shares.shares.items) (ap (flat_map (λ p. p.records.items)) c.deref.ensures.value) c.in_ok-shares.ensures in
+    known_shares (λ s. s.items) segments found c.in_ok-shares.shares.items (known_records cells grid segments hot found in_cells in_tiles all) sharing
 
-pub numbers_and_links-tiles-requires-clause-records : goal.numbers_and_links-tiles-requires-clause-records
-numbers_and_links-tiles-requires-clause-records g c = λ κs l.
+pub link_parts-requires-clause-pixels_in : goal.link_parts-requires-clause-pixels_in
+link_parts-requires-clause-pixels_in g c = λ κs l.
     let cells = c.args.cells.now in
     let grid = c.args.grid.now in
     let segments = c.args.segments.now in
-    let found = c.in_ok-pixels.field-0 in
-    let all = known_parts cells _ segments _ _ found.pixels.items found.records.items c.requires.cells c.requires.segments (ap length c.deref.ensures.value ∙ c.requires.one_each) c.in_ok-pixels.ensures in
-    subst (λ (rs : List Record). ∥ AreRecords segments rs ∥₁) (sym c.deref-3.ensures.value)
-    (all_records cells grid segments found.pixels.items found.records.items c.in_order_by_hands-records.result.items (are_covered cells segments c.requires.covered_by_cells) (are_covered grid segments c.requires.covered) all (c.in_order_by_hands-records.ensures segments))
+    let pieces = c.args.pieces.items in
+    let all = known_parts cells _ segments _ _ _ _ c.requires.cells c.requires.segments c.requires.one_each (parts_of_all (λ p. p.pixels.items) (λ p. p.records.items) g.T.Tiled.grid g.T.Tiled.segments pieces
+    (λ k p at. subst (λ (n : ℕ). ∥ IsPartOf (Owns g.T.Tiled.grid n) g.T.Tiled.segments p.pixels.items p.records.items ∥₁) (c.requires.in_order k p at) p.exact)) in
+    let found = flat_map (λ p. p.records.items) pieces in
+    let hot = flat_map (λ p. p.pixels.items) pieces in
+    let in_cells = are_covered cells segments c.requires.covered_by_cells in
+    let in_tiles = are_covered grid segments c.requires.covered in
+    let same : c.deref-3.result.now ≡ hot = c.deref-3.ensures.value ∙ c.in_ok-pixels.ensures ∙ ap (flat_map (λ p. p.pixels.items)) c.deref-2.ensures.value in
+    subst (λ (ps : List Pt). All (λ p. HasTile grid p) ps) (sym same) (pixels_in cells grid segments hot found in_cells in_tiles all)
 
-pub counts_by_hands-requires-clause-short : goal.counts_by_hands-requires-clause-short
-counts_by_hands-requires-clause-short g c = λ κs l. ∥∥₁_elim (IfOk-at_ok (λ v. ∥ AreLinks c.args.segments.now v.items ∥₁) c.in_ok-list.was c.numbers_and_links-tiles.ensures.links) (hlevel props) (λ l. l.few)
+pub link_parts-requires-clause-pixels_once : goal.link_parts-requires-clause-pixels_once
+link_parts-requires-clause-pixels_once g c = λ κs l.
+    let cells = c.args.cells.now in
+    let grid = c.args.grid.now in
+    let segments = c.args.segments.now in
+    let pieces = c.args.pieces.items in
+    let all = known_parts cells _ segments _ _ _ _ c.requires.cells c.requires.segments c.requires.one_each (parts_of_all (λ p. p.pixels.items) (λ p. p.records.items) g.T.Tiled.grid g.T.Tiled.segments pieces
+    (λ k p at. subst (λ (n : ℕ). ∥ IsPartOf (Owns g.T.Tiled.grid n) g.T.Tiled.segments p.pixels.items p.records.items ∥₁) (c.requires.in_order k p at) p.exact)) in
+    let found = flat_map (λ p. p.records.items) pieces in
+    let hot = flat_map (λ p. p.pixels.items) pieces in
+    let in_cells = are_covered cells segments c.requires.covered_by_cells in
+    let in_tiles = are_covered grid segments c.requires.covered in
+    let same : c.deref-3.result.now ≡ hot = c.deref-3.ensures.value ∙ c.in_ok-pixels.ensures ∙ ap (flat_map (λ p. p.pixels.items)) c.deref-2.ensures.value in
+    subst (λ (ps : List Pt). AllPairs (λ p q. p ≡ q → ⊥) ps) (sym same) (pixels_once cells grid segments hot found in_cells in_tiles all)
+
+pub paired-requires : goal.paired-requires
+paired-requires g c = rw (c.deref-4.ensures.value, c.deref-5.ensures.value) (c.in_ok-found.ensures.hot_are.one_each ∙ sym c.in_ok-found.ensures.records_are.one_each)
 
 pub rounded_of-requires : goal.rounded_of-requires
 rounded_of-requires g c =
-    let links = IfOk-at_ok (λ v. ∥ AreLinks c.args.segments.now v.items ∥₁) c.in_ok-list.was c.numbers_and_links-tiles.ensures.links in
-    ∥∥₁_map links (λ l. rounded_are c.args.segments.now c.in_ok-list.field-0.items c.in_ok-edges.edges.items l c.in_ok-edges.ensures)
+    let cells = c.args.cells.now in
+    let grid = c.args.grid.now in
+    let segments = c.args.segments.now in
+    let pieces = c.args.pieces.items in
+    let all = known_parts cells _ segments _ _ _ _ c.requires.cells c.requires.segments c.requires.one_each (parts_of_all (λ p. p.pixels.items) (λ p. p.records.items) g.T.Tiled.grid g.T.Tiled.segments pieces
+    (λ k p at. subst (λ (n : ℕ). ∥ IsPartOf (Owns g.T.Tiled.grid n) g.T.Tiled.segments p.pixels.items p.records.items ∥₁) (c.requires.in_order k p at) p.exact)) in
+    let found = flat_map (λ p. p.records.items) pieces in
+    let hot = flat_map (λ p. p.pixels.items) pieces in
+    let in_cells = are_covered cells segments c.requires.covered_by_cells in
+    let in_tiles = are_covered grid segments c.requires.covered in
+    let same : c.deref-3.result.now ≡ hot = c.deref-3.ensures.value ∙ c.in_ok-pixels.ensures ∙ ap (flat_map (λ p. p.pixels.items)) c.deref-2.ensures.value in
+    let shares = flat_map (λ s. s.items) c.in_ok-shares.shares.items in
+    let sharing = subst (λ (rs : List Record). AreShares (λ s. s.items) segment_of rs c.in_ok-shares.shares.items) (ap (flat_map (λ p. p.records.items)) c.deref.ensures.value) c.in_ok-shares.ensures in
+    let linked = c.in_ok-found.ensures in
+    let order : HasRecords segments found → AreRecords segments linked.those = λ has. gathered_are segments found linked.those has (sorted_moved found shares linked.those sharing.same linked.sorted) in
+    ∥∥₁_map (all_records cells grid segments hot found in_cells in_tiles all linked.those order) (λ r. rounded_are segments (flat_map (λ l. l.items) c.in_ok-found.found.links.items) c.in_ok-edges.edges.items
+    (links_are segments linked.those (flat_map (λ l. l.items) c.in_ok-found.found.links.items) r c.in_ok-edges.ensures.short linked.links_are.count_is) c.in_ok-edges.ensures.counts)
 
 pub returns-clause-tiles : goal.returns-clause-tiles
 returns-clause-tiles g c =
     let cells = c.args.cells.now in
     let grid = c.args.grid.now in
     let segments = c.args.segments.now in
-    let found = c.in_ok-pixels.field-0 in
-    let all = known_parts cells _ segments _ _ found.pixels.items found.records.items c.requires.cells c.requires.segments (ap length c.deref.ensures.value ∙ c.requires.one_each) c.in_ok-pixels.ensures in
-    rw c.rounded_of.ensures.tiles (all_numbers cells grid segments found.pixels.items found.records.items c.in_order_by_hands-records.result.items (are_covered cells segments c.requires.covered_by_cells) (are_covered grid segments c.requires.covered) all (c.in_order_by_hands-records.ensures segments)
-    c.deref-2.result.now c.deref-3.result.now c.in_ok-tiles.tiles.items c.deref-2.ensures.value c.deref-3.ensures.value
-    (IfOk-at_ok (λ v. AreNumbersOf grid c.deref-2.result.now c.deref-3.result.now v.items) c.in_ok-tiles.was c.numbers_and_links-tiles.ensures.numbers))
+    let pieces = c.args.pieces.items in
+    let all = known_parts cells _ segments _ _ _ _ c.requires.cells c.requires.segments c.requires.one_each (parts_of_all (λ p. p.pixels.items) (λ p. p.records.items) g.T.Tiled.grid g.T.Tiled.segments pieces
+    (λ k p at. subst (λ (n : ℕ). ∥ IsPartOf (Owns g.T.Tiled.grid n) g.T.Tiled.segments p.pixels.items p.records.items ∥₁) (c.requires.in_order k p at) p.exact)) in
+    let found = flat_map (λ p. p.records.items) pieces in
+    let hot = flat_map (λ p. p.pixels.items) pieces in
+    let in_cells = are_covered cells segments c.requires.covered_by_cells in
+    let in_tiles = are_covered grid segments c.requires.covered in
+    let same : c.deref-3.result.now ≡ hot = c.deref-3.ensures.value ∙ c.in_ok-pixels.ensures ∙ ap (flat_map (λ p. p.pixels.items)) c.deref-2.ensures.value in
+    let shares = flat_map (λ s. s.items) c.in_ok-shares.shares.items in
+    let sharing = subst (λ (rs : List Record). AreShares (λ s. s.items) segment_of rs c.in_ok-shares.shares.items) (ap (flat_map (λ p. p.records.items)) c.deref.ensures.value) c.in_ok-shares.ensures in
+    let linked = c.in_ok-found.ensures in
+    let order : HasRecords segments found → AreRecords segments linked.those = λ has. gathered_are segments found linked.those has (sorted_moved found shares linked.those sharing.same linked.sorted) in
+    let paired : ArePaired c.in_ok-found.found.hot.items c.in_ok-found.found.records.items c.in_ok-tiles.tiles.items = subst (λ (x : List ℕ × List ℕ). ArePaired x.0 x.1 c.in_ok-tiles.tiles.items) (λ i. (c.deref-4.ensures.value i, c.deref-5.ensures.value i)) c.in_ok-tiles.ensures in
+    rw c.rounded_of.ensures.tiles (all_numbers cells grid segments hot found in_cells in_tiles all linked.those order c.deref-3.result.now linked.those c.in_ok-tiles.tiles.items same refl
+    (paired_are grid c.deref-3.result.now linked.those c.in_ok-found.found.hot.items c.in_ok-found.found.records.items c.in_ok-tiles.tiles.items linked.hot_are linked.records_are paired))

@@ -11,12 +11,12 @@ loop-segment-init g c = bins_of_none c.args.cells.now c.args.segments.now c.in_o
 pub add-requires-clause-lo : goal.add-requires-clause-lo
 add-requires-clause-lo g c =
     let box = c.bounds.ensures in
-    least_has_tile c.args.cells.now c.args.segments.now c.loop-segment.segment-index c.segment-item.result c.bounds.result c.loop-segment-test.true c.segment-item.is box.lo box.hi c.loop-segment.bins c.loop-segment.invariant c.requires
+    least_has_tile c.args.cells.now c.args.segments.now c.loop-segment.segment-index c.segment-item.result c.bounds.result c.loop-segment-test.true c.segment-item.is box.lo box.hi c.loop-segment.bins.grid c.loop-segment.invariant.grid_is c.requires
 
 pub add-requires-clause-hi : goal.add-requires-clause-hi
 add-requires-clause-hi g c =
     let box = c.bounds.ensures in
-    greatest_has_tile c.args.cells.now c.args.segments.now c.loop-segment.segment-index c.segment-item.result c.bounds.result c.loop-segment-test.true c.segment-item.is box.lo box.hi c.loop-segment.bins c.loop-segment.invariant c.requires
+    greatest_has_tile c.args.cells.now c.args.segments.now c.loop-segment.segment-index c.segment-item.result c.bounds.result c.loop-segment-test.true c.segment-item.is box.lo box.hi c.loop-segment.bins.grid c.loop-segment.invariant.grid_is c.requires
 
 pub loop-segment-preserved : goal.loop-segment-preserved
 loop-segment-preserved g c =

@@ -4,7 +4,8 @@ use Rattle.geom.specs.declared.point.Pt.{Pt}
 use Rattle.geom.specs.declared.edge.Edge.{Edge}
 use Rattle.hot_pixel.specs.Halving.{edges_of}
 use Rattle.hot_pixel.specs.Lines.{HasCrossed}
-use Rattle.hot_pixel.proofs.HalvingLaws.{pairs_more, one_found, taken_in, edge_at, edge_below, edges_taken}
+use Rattle.std.proofs.lemmas.List.Elements.{Contains-get_or}
+use Rattle.hot_pixel.proofs.HalvingLaws.{edge_in, pairs_more, one_found, taken_in, edge_at, edge_below, edges_taken}
 use Rattle.hot_pixel.proofs.leaf.cross_pairs.Goals as goal
 
 pub loop-place-preserved : goal.loop-place-preserved
@@ -21,3 +22,12 @@ returns-then-is_found g c =
     let edges = edges_of c.args.lines.now in
     let i = c.loop-place.place in
     one_found c.args.rect.now (take i edges) c.args.found.now.items c.loop-place.found.items edges (λ p h. subst (λ (ps : List Pt). Contains ps p) c.deref.ensures.value (c.is_found.ensures p c.if-is_found.true h)) (λ e h. taken_in edges i e h) c.loop-place.invariant
+
+pub cross_with-requires-clause-ends : goal.cross_with-requires-clause-ends
+cross_with-requires-clause-ends g c = λ p k t.
+    let lines = c.args.lines.now in
+    let line = c.index-lines-place.result in
+    let i = c.loop-place.place in
+    let l : i < length lines = omega arith in
+    let listed = edge_in lines line (rw c.index-lines-place.is (Contains-get_or lines i line l)) in
+    c.loop-place.invariant.kept p (c.requires.ends p (record { e = line.edge; listed = listed; is_end = k }) t)

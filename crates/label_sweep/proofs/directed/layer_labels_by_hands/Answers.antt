@@ -1,15 +1,20 @@
-use Rattle.std.proofs.Common.{◌∙◌, ap, length, sym}
-use Rattle.face_label.proofs.Listing.{are_directed}
-use Rattle.label_sweep.proofs.Borders.{whole, whole_edges}
+use Rattle.std.proofs.Common.{List, filter, sym, ◌∙◌, subst}
+use Rattle.std.specs.Prelude.{IfOk}
+use Rattle.std.proofs.lemmas.Result.{IfOk-weaker}
+use Rattle.geom.specs.declared.edge.Counted.{Counted}
+use Rattle.geom.specs.Directed.{AreResultEdges}
+use Rattle.points_law.specs.Law.{AreLayers}
+use Rattle.label_sweep.specs.Changing.{changes}
+use Rattle.label_sweep.proofs.ChangingEdges.{changing_are_layers, changing_bound}
 use Rattle.label_sweep.proofs.directed.layer_labels_by_hands.Goals as goal
 
-pub strip_edges_by_hands-requires-clause-strip : goal.strip_edges_by_hands-requires-clause-strip
-strip_edges_by_hands-requires-clause-strip g c = λ κs l. whole c.args.counted.now c.deref-2.result.now (rw c.deref-2.ensures.value c.in_ok-vertices.ensures) c.of_all-all.result c.of_all-all.ensures.from (c.of_all-all.ensures.to ∙ ap length (c.deref.ensures.value ∙ sym c.deref-2.ensures.value))
-
-pub new-requires : goal.new-requires
-new-requires g c = are_directed c.args.op c.args.counted.now c.in_order.result.items
-    (whole_edges c.args.op c.args.counted.now c.deref-2.result.now (rw c.deref-2.ensures.value c.in_ok-vertices.ensures) c.of_all-all.result c.of_all-all.ensures.from (c.of_all-all.ensures.to ∙ ap length (c.deref.ensures.value ∙ sym c.deref-2.ensures.value)) c.in_ok-edges.edges.items c.in_ok-edges.ensures c.in_order.result.items c.in_order.ensures.ascending c.in_order.ensures.same)
+pub swept_by_hands-requires-2-after_bounds : goal.swept_by_hands-requires-2-after_bounds
+swept_by_hands-requires-2-after_bounds g c κs within = subst AreLayers (sym (c.deref.ensures.value ∙ c.in_ok-edges.ensures)) (changing_are_layers c.args.counted.now c.requires)
 
 pub returns : goal.returns
-returns g c = rw c.new.ensures
-    (whole_edges c.args.op c.args.counted.now c.deref-2.result.now (rw c.deref-2.ensures.value c.in_ok-vertices.ensures) c.of_all-all.result c.of_all-all.ensures.from (c.of_all-all.ensures.to ∙ ap length (c.deref.ensures.value ∙ sym c.deref-2.ensures.value)) c.in_ok-edges.edges.items c.in_ok-edges.ensures c.in_order.result.items c.in_order.ensures.ascending c.in_order.ensures.same)
+returns g c =
+    let op = c.args.op in
+    let cs = c.args.counted.now in
+    let result = c.swept_by_hands-2.result in
+    IfOk-weaker result (AreResultEdges op (filter changes cs)) (AreResultEdges op cs) (changing_bound op cs c.requires)
+    (subst (λ (es : List Counted). IfOk result (AreResultEdges op es)) (c.deref.ensures.value ∙ c.in_ok-edges.ensures) c.swept_by_hands-2.ensures)

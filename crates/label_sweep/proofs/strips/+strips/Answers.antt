@@ -1,7 +1,11 @@
 use Rattle.std.proofs.Common.{◌++◌, subst}
-use Rattle.std.specs.Prelude.{IfOk, slice_range}
+use Rattle.std.specs.List.{AllPairs, Contains}
+use Rattle.std.specs.Prelude.{IfOk, slice_range, ◌↔◌}
+use Rattle.geom.specs.declared.directed.DirectedEdge.{DirectedEdge}
+use Rattle.geom.specs.Directed.{IsDirectedBefore}
 use Rattle.label_sweep.specs.Labels.{AreDirectedFrom}
-use Rattle.label_sweep.proofs.Borders.{back, if_joined, joined_edges}
+use Rattle.label_sweep.proofs.Borders.{back, joined_edges}
+use Rattle.label_sweep.proofs.Halves.{if_both}
 use Rattle.label_sweep.proofs.strips.+strips.Goals as goal
 
 pub strip_edges_by_hands-halves_edges-requires-clause-back : goal.strip_edges_by_hands-halves_edges-requires-clause-back
@@ -16,5 +20,8 @@ halves_edges-returns g t c =
     let edges = subst (λ r. IfOk r (λ v. AreDirectedFrom c.args.op cs (slice_range vs from c.args.front.to) v.items)) c.in_ok-edges.was c.join-edges.ensures.first in
     let rest = subst (λ r. IfOk r (λ v. AreDirectedFrom c.args.op cs (slice_range vs c.args.back.from to) v.items)) c.in_ok-rest.was c.join-edges.ensures.second in
     let middle = c.requires.next in
-    if_joined (AreDirectedFrom c.args.op cs (slice_range vs from to)) (c.in_ok-edges.field-0.items ++ c.in_ok-rest.field-0.items)
-    (joined_edges c.args.op cs vs from c.args.front.to to c.requires.front.order (rw middle c.requires.back.order) c.requires.back.within _ _ edges (rw middle rest)) c.joined.result c.joined.ensures
+    let es = c.in_ok-edges.field-0.items in
+    let fs = c.in_ok-rest.field-0.items in
+    if_both (λ all. AllPairs IsDirectedBefore all.items) (λ all. (d : DirectedEdge) → Contains all.items d ↔ Contains (es ++ fs) d) (λ all. AreDirectedFrom c.args.op cs (slice_range vs from to) all.items)
+    (λ all. joined_edges c.args.op cs vs from c.args.front.to to c.requires.front.order (rw middle c.requires.back.order) c.requires.back.within es fs edges (rw middle rest) all.items)
+    c.joined.result c.joined.ensures.ascending c.joined.ensures.same

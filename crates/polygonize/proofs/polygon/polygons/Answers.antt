@@ -1,62 +1,7 @@
-use Rattle.std.proofs.Common.{◌≡◌, map, rules}
-use Rattle.std.specs.Prelude.{All}
-use Rattle.std.proofs.lemmas.List.Elements.{All-weaker}
-use Rattle.std.proofs.lemmas.List.Sorted.{All-permutation}
-use Rattle.std.proofs.lemmas.Result.{IfOk-weaker}
-use Rattle.geom.specs.Canonical.{ArePolygons, HaveEachEdge, written_rings}
-use Rattle.geom.specs.ListOrder.{IsLeastRotation}
-use Rattle.polygonize.specs.Grouped.{AreGrouped}
-use Rattle.polygonize.specs.Written.{AreSimple, IsCanonical, IsSound}
-use Rattle.polygonize.specs.Placed.{points, stands_as_hole}
-use Rattle.polygonize.proofs.TextOrder.Ordered.{grouped_polygons, shell_first}
-use Rattle.polygonize.proofs.TextOrder.PlacedRings.{sorted_by}
-use Rattle.polygonize.proofs.TextOrder.Places.{place_cmp}
-use Rattle.polygonize.proofs.Least.{least_rings, simple_rings}
-use Rattle.polygonize.proofs.WrittenRings.Writing.{text_has_each, unmapped}
 use Rattle.polygonize.proofs.polygon.polygons.Goals as goal
 
-pub grouped-requires : goal.grouped-requires
-grouped-requires g c = record {
-  sound = rw c.deref.ensures.value
-      (All-permutation (λ w. IsSound c.edges-edges.result.now w.ring) c.in_ok-written.written.items c.sort_unstable_by_key.new.self.items c.sort_unstable_by_key.ensures.permutation
-      (All-weaker (λ w. IsCanonical c.edges-edges.result.now w.ring) (λ w. IsSound c.edges-edges.result.now w.ring) (λ w k. k.sound) c.in_ok-written.written.items
-      (unmapped (IsCanonical c.edges-edges.result.now) (λ w. w.ring) c.in_ok-written.written.items c.in_ok-written.ensures.sound)));
-}
-
 pub returns-clause-polygons : goal.returns-clause-polygons
-returns-clause-polygons g c = λ noded grounded.
-    let written = rw c.edges-edges.ensures.value at c.in_ok-written.ensures.written in
-    let sorted = sorted_by (λ w. w.place) place_cmp c.sort_unstable_by_key.new.self.items c.sort_unstable_by_key.ensures.sorted (λ a r q k. search rules) in
-    let groups = rw (c.deref.ensures.value, c.edges-edges.ensures.value) at c.grouped.ensures.groups in
-    IfOk-weaker c.grouped.result
-    (λ found. AreGrouped stands_as_hole (points c.args.directed.now) c.sort_unstable_by_key.new.self.items found.items)
-    (λ found. ArePolygons c.args.directed.now found.items)
-    (λ found h. grouped_polygons c.args.directed.now c.requires.closes.are_directed noded c.in_ok-written.written.items c.sort_unstable_by_key.new.self.items found.items
-    (written noded grounded) c.sort_unstable_by_key.ensures.permutation sorted h)
-    (groups (shell_first c.args.directed.now c.requires.closes.are_directed noded c.in_ok-written.written.items c.sort_unstable_by_key.new.self.items (written noded grounded) c.sort_unstable_by_key.ensures.permutation sorted))
+returns-clause-polygons g c = rw c.edges-edges.ensures.value at c.polygons_along.ensures.polygons
 
 pub returns-clause-each_edge : goal.returns-clause-each_edge
-returns-clause-each_edge g c = IfOk-weaker c.grouped.result
-    (λ found. written_rings found.items ≡ map (points c.args.directed.now) c.sort_unstable_by_key.new.self.items)
-    (λ found. HaveEachEdge c.args.directed.now found.items)
-    (λ found h. text_has_each (λ w. w.ring) c.args.directed.now c.in_ok-written.written.items c.sort_unstable_by_key.new.self.items found.items (rw c.edges-edges.ensures.value at c.in_ok-written.ensures.edges) c.sort_unstable_by_key.ensures.permutation h)
-    (rw (c.deref.ensures.value, c.edges-edges.ensures.value) at c.grouped.ensures.rings)
-
-pub returns-clause-least : goal.returns-clause-least
-returns-clause-least g c = IfOk-weaker c.grouped.result
-    (λ found. written_rings found.items ≡ map (points c.args.directed.now) c.sort_unstable_by_key.new.self.items)
-    (λ found. All (λ ring. IsLeastRotation ring ring) (written_rings found.items))
-    (λ found h. least_rings (λ w. w.ring) c.args.directed.now c.requires.closes.are_directed c.sort_unstable_by_key.new.self.items found.items
-    (All-permutation (λ w. IsCanonical c.args.directed.now w.ring) c.in_ok-written.written.items c.sort_unstable_by_key.new.self.items c.sort_unstable_by_key.ensures.permutation
-    (unmapped (IsCanonical c.args.directed.now) (λ w. w.ring) c.in_ok-written.written.items (rw c.edges-edges.ensures.value at c.in_ok-written.ensures.sound))) h)
-    (rw (c.deref.ensures.value, c.edges-edges.ensures.value) at c.grouped.ensures.rings)
-
-pub returns-clause-simple : goal.returns-clause-simple
-returns-clause-simple g c = IfOk-weaker c.grouped.result
-    (λ found. written_rings found.items ≡ map (points c.args.directed.now) c.sort_unstable_by_key.new.self.items)
-    (λ found. AreSimple (written_rings found.items))
-    (λ found h. simple_rings (λ w. w.ring) c.args.directed.now c.sort_unstable_by_key.new.self.items found.items
-    (All-permutation (λ w. IsSound c.args.directed.now w.ring) c.in_ok-written.written.items c.sort_unstable_by_key.new.self.items c.sort_unstable_by_key.ensures.permutation
-    (All-weaker (λ w. IsCanonical c.args.directed.now w.ring) (λ w. IsSound c.args.directed.now w.ring) (λ w k. k.sound) c.in_ok-written.written.items
-    (unmapped (IsCanonical c.args.directed.now) (λ w. w.ring) c.in_ok-written.written.items (rw c.edges-edges.ensures.value at c.in_ok-written.ensures.sound)))) h)
-    (rw (c.deref.ensures.value, c.edges-edges.ensures.value) at c.grouped.ensures.rings)
+returns-clause-each_edge g c = rw c.edges-edges.ensures.value at c.polygons_along.ensures.each_edge

@@ -10,13 +10,13 @@ use Rattle.polygonize.specs.Written.{ArePlaces, HasItsEdges}
 use Rattle.polygonize.proofs.ring.ring_places.Goals as goal
 
 pub returns-clause-places : goal.returns-clause-places
-returns-clause-places g c = IfOk-weaker c.cycles.result (λ found. AreCycles c.in_ok-next.next.items found.items) (λ found. All (ArePlaces c.args.edges.now) found.items)
-    (λ found h. places_of c.args.edges.now c.in_ok-next.next.items c.requires.closes.are_directed c.in_ok-next.ensures.next found.items h (are_rings c.args.edges.now c.in_ok-next.next.items c.requires.closes.are_directed c.in_ok-next.ensures.next found.items h)) (rw c.deref.ensures.value at c.cycles.ensures)
+returns-clause-places g c = IfOk-weaker c.cycles.result (λ found. AreCycles c.args.next.now found.items) (λ found. All (ArePlaces c.args.edges.now) found.items)
+    (λ found h. places_of c.args.edges.now c.args.next.now c.requires.closes.are_directed c.requires.next found.items h (are_rings c.args.edges.now c.args.next.now c.requires.closes.are_directed c.requires.next found.items h)) c.cycles.ensures
 
 pub returns-clause-rings : goal.returns-clause-rings
-returns-clause-rings g c = IfOk-weaker c.cycles.result (λ found. AreCycles c.in_ok-next.next.items found.items) (λ found. AreRings c.args.edges.now (rings_of c.args.edges.now found.items))
-    (λ found h. are_rings c.args.edges.now c.in_ok-next.next.items c.requires.closes.are_directed c.in_ok-next.ensures.next found.items h) (rw c.deref.ensures.value at c.cycles.ensures)
+returns-clause-rings g c = IfOk-weaker c.cycles.result (λ found. AreCycles c.args.next.now found.items) (λ found. AreRings c.args.edges.now (rings_of c.args.edges.now found.items))
+    (λ found h. are_rings c.args.edges.now c.args.next.now c.requires.closes.are_directed c.requires.next found.items h) c.cycles.ensures
 
 pub returns-clause-edges : goal.returns-clause-edges
-returns-clause-edges g c = IfOk-weaker c.cycles.result (λ found. AreCycles c.in_ok-next.next.items found.items) (λ found. All (HasItsEdges c.args.edges.now) found.items)
-    (λ found h. All-weaker (IsCycle c.in_ok-next.next.items) (HasItsEdges c.args.edges.now) (λ cycle k. edges_of_cycle c.args.edges.now c.in_ok-next.next.items c.in_ok-next.ensures.next cycle k) found.items h.are_cycles) (rw c.deref.ensures.value at c.cycles.ensures)
+returns-clause-edges g c = IfOk-weaker c.cycles.result (λ found. AreCycles c.args.next.now found.items) (λ found. All (HasItsEdges c.args.edges.now) found.items)
+    (λ found h. All-weaker (IsCycle c.args.next.now) (HasItsEdges c.args.edges.now) (λ cycle k. edges_of_cycle c.args.edges.now c.args.next.now c.requires.next cycle k) found.items h.are_cycles) c.cycles.ensures

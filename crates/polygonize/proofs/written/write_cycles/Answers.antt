@@ -5,7 +5,7 @@ use Rattle.polygonize.proofs.WrittenRings.Writing.{all_written, below_cycle, cyc
 use Rattle.polygonize.proofs.written.write_cycles.Goals as goal
 
 pub loop-number-init : goal.loop-number-init
-loop-number-init g c = (c.requires.clear, rw c.new-written.ensures.items (nothing_written c.args.edges.now c.args.cycles.now), (λ noded grounded. rw c.new-written.ensures.items (nothing_filled c.args.edges.now c.args.cycles.now c.args.shell_of.now)))
+loop-number-init g c = (c.requires.clear, rw c.in_ok-written.ensures.items (nothing_written c.args.edges.now c.args.cycles.now), (λ noded grounded. rw c.in_ok-written.ensures.items (nothing_filled c.args.edges.now c.args.cycles.now c.args.shell_of.now)))
 
 pub loop-number-preserved : goal.loop-number-preserved
 loop-number-preserved g c = (

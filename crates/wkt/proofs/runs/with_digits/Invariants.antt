@@ -6,4 +6,4 @@ abbrev pub decreases-loop-end : goal.decreases-loop-end
 decreases-loop-end l = length l.text - l.end
 
 abbrev pub invariant-loop-end : goal.invariant-loop-end
-invariant-loop-end l = (l.end ≤ length l.text) × PassesDigits l.text l.at l.end l.fn.number l.longer
+invariant-loop-end l = (l.end ≤ length l.text) × PassesDigits l.text l.at l.end l.number (record l.number { magnitude = l.magnitude })

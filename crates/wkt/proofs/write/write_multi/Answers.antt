@@ -1,5 +1,5 @@
 use Rattle.std.proofs.Common.{◌≡◌, ◌∙◌, ◌≤◌, ◌++◌, ◌∷◌, List, [], ℕ, ap, length, subst, sym}
-use Rattle.std.specs.Prelude.{All, map}
+use Rattle.std.specs.Prelude.{All, codes, map}
 use Rattle.geom.specs.declared.point.Pt.{Pt}
 use Rattle.geom.specs.Canonical.{written_rings}
 use Rattle.wkt.specs.Canonical.{closed, multi_text}
@@ -30,7 +30,8 @@ returns-in_default-clause-reads_again g c = λ short inside.
 
 pub returns-clause-text : goal.returns-clause-text
 returns-clause-text g c =
-    line_pushed c.in-Some.first.now c.in-Some.rest.now c.in_ok-text.text.items c.push_polygon.new.text.items c.push_more_polygons.new.text.items c.extend_from_slice.new.self.items c.in_ok-text.ensures.items c.in_ok-push_polygon.ensures.text c.in_ok-push_more_polygons.ensures.text c.in_ok-extend_from_slice.ensures.items
+    line_pushed c.in-Some.first.now c.in-Some.rest.now c.extend_from_slice.new.self.items c.push_polygon.new.text.items c.push_more_polygons.new.text.items c.extend_from_slice-2.new.self.items
+    (c.in_ok-extend_from_slice.ensures.items ∙ ap (λ (t : List ℕ). t ++ codes "MULTIPOLYGON (") c.in_ok-text.ensures.items) c.in_ok-push_polygon.ensures.text c.in_ok-push_more_polygons.ensures.text c.in_ok-extend_from_slice-2.ensures.items
     ∙ ap multi_text (sym c.in-Some.ensures.cases.0)
 
 pub returns-clause-reads : goal.returns-clause-reads

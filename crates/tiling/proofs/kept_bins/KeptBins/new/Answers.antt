@@ -1,6 +1,9 @@
-use Rattle.tiling.specs.Bins.{lists_of}
-use Rattle.tiling.proofs.Giving.{no_boxes}
+use Rattle.std.proofs.Common.{[], ◌∙◌, ap, sym}
+use Rattle.tiling.specs.Tiles.{Tiling}
+use Rattle.tiling.proofs.Rows.{all_rows}
 use Rattle.tiling.proofs.kept_bins.KeptBins.new.Goals as goal
 
 pub returns-clause-bins : goal.returns-clause-bins
-returns-clause-bins g c = no_boxes c.args.grid.now (lists_of c.loop-tile.bins.items) (λ k l. c.loop-tile.invariant.empty k)
+returns-clause-bins g c =
+    let all = c.in_ok-all.ensures in
+    all_rows c.in_ok-all.all all.from (all.past ∙ c.rows.ensures ∙ ap (λ (g : Tiling). g.rows) (sym all.grid)) [] all.bins
