@@ -22,7 +22,7 @@ use Rattle.chain_gather.specs.declared.rounded.TileNumbers.{TileNumbers}
 use Rattle.engine.specs.Rounds.{AreRingsInLimit, AreRoundedOver, IsGridOver, TellsTiles}
 use Rattle.engine.specs.declared.checking.TheConstants.{SEGMENT_LIMIT}
 use Rattle.tile_book.specs.declared.draw.TheConstants.{MOST_HANDS}
-use Rattle.engine.specs.declared.engine.Output.{Output}
+use Rattle.engine.specs.declared.engine.MadeInParts.{MadeInParts}
 use Rattle.engine.specs.declared.engine.Plan.{Plan}
 
 -- the number of workers is within its limits
@@ -113,9 +113,9 @@ abbrev pub MayRun : Plan → List ℕ → List ℕ → Type 0
 MayRun plan a b = (rings_a : List Ring) × (rings_b : List Ring) × (grid : Tiling) × IsReady plan a b rings_a rings_b grid
 
 -- the text that was made was sent, and its report is answered; or the sink failed, and had taken a beginning of the text
-abbrev pub Delivers : {M : Type 0} → SinkState → SinkState → Output M → Result (Report M) RunFault → Type 0
+abbrev pub Delivers : {M : Type 0} → SinkState → SinkState → MadeInParts M → Result (Report M) RunFault → Type 0
 Delivers old new made r =
-    MatchResult r (λ report. (report ≡ made.report) × SentAll old new made.text.items) (λ f. (f.at ≡ Run) × (f.fault ≡ Write) × SentPart old new made.text.items)
+    MatchResult r (λ report. (report ≡ made.report) × SentAll old new made.text) (λ f. (f.at ≡ Run) × (f.fault ≡ Write) × SentPart old new made.text)
 
 -- an answer: the sink took the text that goes with the report, and is settled
 pub record Answers {M : Type 0} (old new : SinkState) (plan : Plan) (a b : List ℕ) (IsAnswer : List ℕ → Report M → Type 0) (report : Report M) : Type 0 where

@@ -62,7 +62,7 @@ abbrev pub mark_after : Bool → List ℕ → Bool
 mark_after before [] = before
 mark_after before (_ ∷ _) = false
 
--- only `finish` failed: the sink has taken the whole text, and isn't settled by it
+-- the sink has taken the whole text, and isn't settled by it: only `finish` is missing, or failed
 pub record SentUnfinished (old new : SinkState) (text : List ℕ) : Type 0 where
   pub same_mark : new.settled ≡ mark_after old.settled text
   pub all_taken : new.taken ≡ bytes_after old.taken text
@@ -71,6 +71,10 @@ pub record SentUnfinished (old new : SinkState) (text : List ℕ) : Type 0 where
 pub record SentPart (old new : SinkState) (text : List ℕ) : Type 0 where
   pub counted : new.failed ≡ old.failed + 1
   pub where_failed : SentBeginning old new text ⊎ SentUnfinished old new text
+
+-- the whole text was taken, and nothing is settled since; or a `write` failed
+abbrev pub SentUnsettled : SinkState → SinkState → List ℕ → Result Unit SinkFault → Type 0
+SentUnsettled old new text r = MatchResult r (λ _. (new.failed ≡ old.failed) × SentUnfinished old new text) (λ _. (new.failed ≡ old.failed + 1) × SentBeginning old new text)
 
 abbrev pub Sent : SinkState → SinkState → List ℕ → Result Unit SinkFault → Type 0
 Sent old new text r = MatchResult r (λ _. SentAll old new text) (λ _. SentPart old new text)

@@ -12,7 +12,7 @@ ghost use Rattle.engine.specs.Runs.{AreEdgesWritten, Declines, IsReading, alone}
 
 use crate::cells::{bins_of, cells_of};
 use crate::checking::{CheckedInput, Reading, check, check_plan};
-use crate::engine::{Output, Plan, or_fault, with_report};
+use crate::engine::{Output, Plan, or_fault, report_for};
 use crate::operation::{Wanted, text_of};
 use crate::reading::{read_segments, reading};
 use crate::rounds::Pieces;
@@ -85,7 +85,8 @@ fn by_one<A: Allocator + Copy>(
 {
     let noded = rounded_alone(alloc, checked, read_a, read_b)?;
     let text = text_of(alloc, wanted, &noded.edges)?;
-    with_report(alloc, wanted, checked, &noded, text)
+    let report = report_for(alloc, wanted, checked, &noded)?;
+    Ok(Output { text, report })
 }
 
 /// The rounded edges of two layers, with the numbers of the tiles.

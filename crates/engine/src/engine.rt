@@ -3,10 +3,10 @@
 //! 1. The plan is checked and the layers are read (`read_both`), and what was read is checked (`check`): only here is an input
 //!    refused.
 //! 2. Workers round the layers (`rounded_layers`).
-//! 3. The rounded edges give the text that is wanted (`text_by_workers`), and the report (`with_report`).
+//! 3. The rounded edges give the text that is wanted (`text_by_workers`), and the report (`report_for`).
 //! 4. Only now is the sink called: it is sent the text whole (`send`).
 
-ghost use Rattle.std.specs.Prelude.{◌≡◌, ◌<◌, ◌≤◌, IfOk, MatchResult};
+ghost use Rattle.std.specs.Prelude.{◌≡◌, ◌<◌, ◌≤◌, ℕ, IfOk, List, MatchResult};
 ghost use Rattle.tiling.specs.Tiles.{tile_count};
 ghost use Rattle.engine.specs.Results.{IsResultWritten, IsWantedText, IsWritten};
 ghost use Rattle.engine.specs.Rounds.{AreRoundedOver};
@@ -16,8 +16,9 @@ use crate::checking::{CheckedInput, Reading, check, check_plan};
 use crate::operation::{Wanted, text_by_workers};
 use crate::reading::read_both;
 use crate::rounds::{report_of, rounded_layers};
-use crate::sink::{Sink, write_all};
+use crate::sink::{Sink, write_parts};
 use crate::text::Report;
+use crate::text_parts::TextParts;
 use geom::{Fault, NoMemory, Op, Part, RunFault};
 use noding_test::Noded;
 use std::alloc::Allocator;
@@ -38,6 +39,13 @@ pub struct Plan {
 #[derive(Drop)]
 pub struct Output<A: Allocator> {
     pub text: Vec<u8, A>,
+    pub report: Report<A>,
+}
+
+/// The same, where several workers made the text in parts.
+#[derive(Drop)]
+pub(crate) struct MadeInParts<A: Allocator> {
+    pub text: TextParts<A>,
     pub report: Report<A>,
 }
 
@@ -89,8 +97,8 @@ fn made_by_workers<A: Allocator + Copy + Send + Sync, G: Gate + Sync, R: Threads
     b: &[u8],
     plan: Plan,
     gate: &G,
-) -> Result<Output<A>, RunFault>
-    ensures { MatchResult result (λ m. IsWritten wanted plan a.now b.now m.text.items m.report) (λ f. Declines plan a.now b.now f.at f.fault) }
+) -> Result<MadeInParts<A>, RunFault>
+    ensures { MatchResult result (λ m. IsWritten wanted plan a.now b.now m.text m.report) (λ f. Declines plan a.now b.now f.at f.fault) }
 {
     check_plan(plan)?;
     let (read_a, read_b) = read_both(rt, alloc, plan.workers, a, b);
@@ -109,37 +117,33 @@ fn by_workers<A: Allocator + Copy + Send + Sync, G: Gate + Sync, R: Threads + Wa
     read_a: Reading<A>,
     read_b: Reading<A>,
     gate: &G,
-) -> Result<Output<A>, NoMemory>
+) -> Result<MadeInParts<A>, NoMemory>
     requires read_a { IsReading checked.now.a.now read_a }
     requires read_b { IsReading checked.now.b.now read_b }
-    ensures { IfOk result (λ m. IsWritten wanted checked.now.plan checked.now.a.now checked.now.b.now m.text.items m.report) }
+    ensures { IfOk result (λ m. IsWritten wanted checked.now.plan checked.now.a.now checked.now.b.now m.text m.report) }
 {
     let noded = rounded_layers(rt, alloc, checked, read_a, read_b, gate)?;
     let text = text_by_workers(rt, alloc, checked.plan.workers, wanted, &noded.edges)?;
-    with_report(alloc, wanted, checked, &noded, text)
+    let report = report_for(alloc, wanted, checked, &noded)?;
+    Ok(MadeInParts { text, report })
 }
 
-/// The text that is wanted of two layers, with the report, by their rounded edges.
-pub(crate) fn with_report<A: Allocator + Copy>(
+/// The report that goes with the text that is wanted of two layers, by their rounded edges.
+pub(crate) fn report_for<A: Allocator + Copy>(
     alloc: A,
     wanted: Wanted,
     checked: &CheckedInput<'_, '_>,
     noded: &Noded<A>,
-    text: Vec<u8, A>,
-) -> Result<Output<A>, NoMemory>
+) -> Result<Report<A>, NoMemory>
     requires rounded { AreRoundedOver checked.now.a.now checked.now.b.now checked.now.grid noded.now.edges.items noded.now.tiles.items }
-    requires text { IsWantedText wanted noded.now.edges.items text.items }
     requires remade { noded.now.remade ≤ tile_count checked.now.grid }
-    ensures { IfOk result (λ m. IsWritten wanted checked.now.plan checked.now.a.now checked.now.b.now m.text.items m.report) }
+    ensures { IfOk result (λ r. (text : List ℕ) → IsWantedText wanted noded.now.edges.items text → IsWritten wanted checked.now.plan checked.now.a.now checked.now.b.now text r) }
 {
-    let report = report_of(alloc, checked, noded)?;
-    Ok(Output { text, report })
+    report_of(alloc, checked, noded)
 }
 
 /// What was made, or that the run wants memory.
-pub(crate) fn or_fault<A: Allocator>(
-    made: Result<Output<A>, NoMemory>,
-) -> Result<Output<A>, RunFault>
+pub(crate) fn or_fault<M>(made: Result<M, NoMemory>) -> Result<M, RunFault>
     ensures { MatchResult result (λ m. made ≡ Ok m) (λ f. (f.at ≡ Part.Run) × (f.fault ≡ Fault.Memory)) }
 {
     match made {
@@ -152,11 +156,11 @@ pub(crate) fn or_fault<A: Allocator>(
 }
 
 /// Sends a text whole, and answers its report.
-fn send<A: Allocator, S: Sink>(made: Output<A>, sink: &mut S) -> Result<Report<A>, RunFault>
+fn send<A: Allocator, S: Sink>(made: MadeInParts<A>, sink: &mut S) -> Result<Report<A>, RunFault>
     requires { (S.state sink.old).failed < u64.MAX }
     ensures { Delivers (S.state sink.old) (S.state sink.new) made result }
 {
-    if write_all(sink, made.text.as_slice()).is_err() {
+    if write_parts(sink, made.text.parts()).is_err() {
         return Err(RunFault {
             at: Part::Run,
             fault: Fault::Write,

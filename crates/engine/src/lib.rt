@@ -14,6 +14,7 @@ mod rounds;
 mod segments;
 mod sink;
 mod text;
+mod text_parts;
 
 pub use alone::{edges_alone, run_alone};
 pub use engine::{Output, Plan, edges, run};

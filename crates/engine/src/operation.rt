@@ -9,7 +9,8 @@ ghost use Rattle.geom.specs.declared.op.Op.{Op};
 ghost use Rattle.points_law.specs.Law.{AreLayers};
 ghost use Rattle.engine.specs.Results.{IsResultText, IsWantedText};
 
-use crate::text::{edges_text, edges_text_at_once};
+use crate::text::edges_text;
+use crate::text_parts::{TextParts, edges_text_at_once};
 use face_label::Directed;
 use geom::{Counted, NoMemory, Op};
 use label_sweep::{layer_labels, layer_labels_by_hands};
@@ -49,13 +50,16 @@ pub(crate) fn text_by_workers<A: Allocator + Copy + Send + Sync, R: Threads + Sy
     workers: u32,
     wanted: Wanted,
     counted: &[Counted],
-) -> Result<Vec<u8, A>, NoMemory>
+) -> Result<TextParts<A>, NoMemory>
     requires layers { AreLayers counted.now }
-    ensures { IfOk result (λ text. IsWantedText wanted counted.now text.items) }
+    ensures { IfOk result (λ text. IsWantedText wanted counted.now text) }
 {
     match wanted {
         Wanted::Edges => edges_text_at_once(rt, alloc, workers, counted),
-        Wanted::Apply(op) => result_text_by_workers(rt, alloc, workers, counted, op),
+        Wanted::Apply(op) => {
+            let line = result_text_by_workers(rt, alloc, workers, counted, op)?;
+            TextParts::one(alloc, line)
+        }
     }
 }
 

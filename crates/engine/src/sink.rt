@@ -1,7 +1,7 @@
 //! Where a text is written.
 
-ghost use Rattle.std.specs.Prelude.{◌≡◌, ◌+◌, ◌-◌, ◌<◌, ◌≤◌, true, false, [], Ok, length, min, IfOk, vec_capacity, vec_len};
-ghost use Rattle.engine.specs.Sinks.{mem_state, Finished, MemState, Sent, SinkState, Wrote};
+ghost use Rattle.std.specs.Prelude.{◌≡◌, ◌+◌, ◌-◌, ◌<◌, ◌≤◌, true, false, [], Ok, length, min, IfOk, flat_map, vec_capacity, vec_len};
+ghost use Rattle.engine.specs.Sinks.{mem_state, Finished, MemState, Sent, SentUnsettled, SinkState, Wrote};
 
 use geom::NoMemory;
 use std::alloc::Allocator;
@@ -34,14 +34,37 @@ pub trait Sink {
         ensures { result ≡ (state self.now).failed };
 }
 
+/// Writes the whole text, and doesn't settle it.
+fn write_unsettled<S: Sink>(sink: &mut S, text: &[u8]) -> Result<(), SinkFault>
+    requires { (S.state sink.old).failed < u64.MAX }
+    ensures { SentUnsettled (S.state sink.old) (S.state sink.new) text.now result }
+{
+    let mut at = 0;
+    while at < text.len() {
+        at += sink.write(&text[at..])?;
+    }
+    Ok(())
+}
+
 /// Writes the whole text and settles it.
 pub fn write_all<S: Sink>(sink: &mut S, text: &[u8]) -> Result<(), SinkFault>
     requires { (S.state sink.old).failed < u64.MAX }
     ensures { Sent (S.state sink.old) (S.state sink.new) text.now result }
 {
-    let mut at = 0;
-    while at < text.len() {
-        at += sink.write(&text[at..])?;
+    write_unsettled(sink, text)?;
+    sink.finish()
+}
+
+/// Writes the whole text that these parts are, one behind another, and settles it.
+pub(crate) fn write_parts<S: Sink, A: Allocator>(
+    sink: &mut S,
+    parts: &[Vec<u8, A>],
+) -> Result<(), SinkFault>
+    requires { (S.state sink.old).failed < u64.MAX }
+    ensures { Sent (S.state sink.old) (S.state sink.new) (flat_map (λ p. p.items) parts.now) result }
+{
+    for part in parts {
+        write_unsettled(sink, part)?;
     }
     sink.finish()
 }

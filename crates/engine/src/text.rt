@@ -7,7 +7,6 @@ ghost use Rattle.engine.specs.Texts.{edge_line, edges_text_of, counts_of, line_o
 use geom::{Counted, Fault, NoMemory, Part, Pt, RunFault};
 use itoa::{Buffer, Integer};
 use std::alloc::{AllocError, Allocator};
-use std::thread::{Threads, join};
 
 // How many bytes the line of an edge has at most, where its ends are of up to six digits and its counts of one.
 const LINE: usize = 32;
@@ -92,73 +91,10 @@ fn room_for(edges: usize) -> usize {
 pub fn edges_text<A: Allocator>(alloc: A, edges: &[Counted]) -> Result<Vec<u8, A>, NoMemory>
     ensures { IfOk result (λ text. text.items ≡ edges_text_of edges.now) }
 {
-    text_with_room(alloc, edges, room_for(edges.len()))
-}
-
-/// The same, with room for so many bytes at first.
-fn text_with_room<A: Allocator>(
-    alloc: A,
-    edges: &[Counted],
-    room: usize,
-) -> Result<Vec<u8, A>, NoMemory>
-    ensures { IfOk result (λ text. text.items ≡ edges_text_of edges.now) }
-{
-    let mut text = Vec::with_capacity(alloc, room)?;
+    let mut text = Vec::with_capacity(alloc, room_for(edges.len()))?;
     for counted in edges {
         push_edge(&mut text, *counted)?;
     }
-    Ok(text)
-}
-
-/// The same text, whose parts are made at once by several workers: two by two or three, four by more. The first part has room
-/// for all, so that the others are put behind it where it stands.
-pub(crate) fn edges_text_at_once<A: Allocator + Copy + Send + Sync, R: Threads + Sync>(
-    rt: &R,
-    alloc: A,
-    workers: u32,
-    edges: &[Counted],
-) -> Result<Vec<u8, A>, NoMemory>
-    ensures { IfOk result (λ text. text.items ≡ edges_text_of edges.now) }
-{
-    let room = room_for(edges.len());
-    if workers < 2 {
-        return edges_text(alloc, edges);
-    }
-    if workers < 4 {
-        return halved_text(rt, alloc, edges, room);
-    }
-    let (front, back) = edges.split_at(edges.len() / 2);
-    let (text, rest) = join(
-        rt,
-        || halved_text(rt, alloc, front, room),
-        || halved_text(rt, alloc, back, room / 2),
-    );
-    joined(text?, rest?)
-}
-
-/// The same text, whose halves are made at once, the first with room for so many bytes.
-fn halved_text<A: Allocator + Copy + Send + Sync, R: Threads + Sync>(
-    rt: &R,
-    alloc: A,
-    edges: &[Counted],
-    room: usize,
-) -> Result<Vec<u8, A>, NoMemory>
-    ensures { IfOk result (λ text. text.items ≡ edges_text_of edges.now) }
-{
-    let (front, back) = edges.split_at(edges.len() / 2);
-    let (text, rest) = join(
-        rt,
-        || text_with_room(alloc, front, room),
-        || edges_text(alloc, back),
-    );
-    joined(text?, rest?)
-}
-
-/// A text with another behind it.
-fn joined<A: Allocator>(mut text: Vec<u8, A>, rest: Vec<u8, A>) -> Result<Vec<u8, A>, NoMemory>
-    ensures { IfOk result (λ all. all.items ≡ text.items ++ rest.items) }
-{
-    text.extend_from_slice(&rest)?;
     Ok(text)
 }
 

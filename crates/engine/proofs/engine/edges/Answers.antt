@@ -14,4 +14,4 @@ pub returns : goal.returns
 returns g c =
     let made = c.in_ok-made.made in
     sent_runs g.S.Sink.state c.args.sink.now c.send.new.sink c.args.plan c.args.a.now c.args.b.now (AreEdgesWritten c.args.plan c.args.a.now c.args.b.now) made
-    (may_run Edges c.args.plan c.args.a.now c.args.b.now made.text.items made.report c.in_ok-made.ensures) c.in_ok-made.ensures c.send.result c.send.ensures
+    (may_run Edges c.args.plan c.args.a.now c.args.b.now made.text made.report c.in_ok-made.ensures) c.in_ok-made.ensures c.send.result c.send.ensures

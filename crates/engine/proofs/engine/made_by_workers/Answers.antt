@@ -6,7 +6,7 @@ pub returns-in-Ok : goal.returns-in-Ok
 returns-in-Ok g c =
     let h = c.in-Ok.ensures in
     let now = c.in-Ok.checked in
-    ends c.args.wanted c.args.plan now.plan c.args.a.now c.args.b.now now.a.now now.b.now c.by_workers.result c.or_fault.result h.same h.answer c.by_workers.ensures c.or_fault.ensures
+    ends (λ m. m.text) (λ m. m.report) c.args.wanted c.args.plan now.plan c.args.a.now c.args.b.now now.a.now now.b.now c.by_workers.result c.or_fault.result h.same h.answer c.by_workers.ensures c.or_fault.ensures
 
 pub returns-in-Err : goal.returns-in-Err
 returns-in-Err g c = refused_declines c.args.plan c.args.a.now c.args.b.now c.in-Err.fault.at c.in-Err.fault.fault c.in-Err.ensures.answer

@@ -1,7 +1,7 @@
 use Rattle.std.proofs.Common.{◌∙◌, ◌+◌, arith, sym, take, ℕ}
 use Rattle.std.proofs.lemmas.List.{length-take, length-drop}
 use Rattle.engine.proofs.Sending.{marked_more, told_more}
-use Rattle.engine.proofs.sink.write_all.Goals as goal
+use Rattle.engine.proofs.sink.write_unsettled.Goals as goal
 
 pub loop-at-preserved : goal.loop-at-preserved
 loop-at-preserved g c = let h = c.in_ok-at.ensures in record {

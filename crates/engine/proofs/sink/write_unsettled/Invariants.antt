@@ -1,6 +1,6 @@
 use Rattle.std.proofs.Common.{length, take, ◌-◌, ◌≡◌, ◌≤◌}
 use Rattle.engine.specs.Sinks.{bytes_after, mark_after}
-use Rattle.engine.proofs.sink.write_all.Given as goal
+use Rattle.engine.proofs.sink.write_unsettled.Given as goal
 
 abbrev pub invariant-loop-at : goal.invariant-loop-at
 invariant-loop-at g l = record {
