@@ -18,8 +18,9 @@ use crate::link::Link;
 use crate::linking::joined;
 use crate::shares::{item_count, only_of, shares_by_hands};
 use geom::{Counted, Edge, NoMemory, Source};
+use hands::join;
 use std::alloc::Allocator;
-use std::thread::{Threads, join};
+use std::thread::Threads;
 
 /// Room for the edges of so many links: two segments share an edge in a map.
 pub(crate) fn room_for(links: usize) -> usize {
@@ -152,8 +153,10 @@ fn count_both<R: Threads + Sync, A: Allocator + Copy + Send + Sync>(
     ensures { IfOk result (λ v. AreCounts (flat_map (λ s. s.items) shares.items ++ flat_map (λ s. s.items) rest.items) v.items) }
 {
     let behind = room_for(item_count(&rest));
+    let hands = shares.len().saturating_add(rest.len());
     let (counted, others) = join(
         rt,
+        hands,
         move || -> Result<Vec<Counted, A>, NoMemory>
             requires { IsSync R.row × IsSend A.row × IsSync A.row × (length (flat_map (λ s. s.items) shares.items) < 2 ^ 32) × AllPairs (λ s t. AreKeysBelow column_of s.items t.items) shares.items }
             ensures { IfOk result (λ v. AreCounts (flat_map (λ s. s.items) shares.items) v.items) }

@@ -21,9 +21,10 @@ use crate::linking::neighbour_links;
 use crate::numbers::{count_by_tile, summed};
 use crate::shares::{followed, only_of};
 use geom::{NoMemory, Pt, Seg};
+use hands::join;
 use routing::Record;
 use std::alloc::Allocator;
-use std::thread::{Threads, join};
+use std::thread::Threads;
 use tiling::Grid;
 
 /// The links of shares of the records, in a list for each share, and how many of some hot pixels and how many of the records each
@@ -141,8 +142,10 @@ fn link_both<R: Threads + Sync, A: Allocator + Copy + Send + Sync>(
     requires pixels_apart { (p q : Pt) → Contains front.now p → Contains back.now q → p ≢ q }
     ensures { IfOk result (λ f. AreLinked grid.now segments.now (front.now ++ back.now) (flat_map (λ s. s.items) shares.items ++ flat_map (λ s. s.items) rest.items) (flat_map (λ l. l.items) f.links.items) f.hot.items f.records.items) }
 {
+    let hands = shares.len().saturating_add(rest.len());
     let (linked, others) = join(
         rt,
+        hands,
         move || -> Result<Linked<A>, NoMemory>
             requires { IsSync R.row × IsSend A.row × IsSync A.row × HaveTiles grid.now segments.now × AreKnownShares (λ s. s.items) segments.now shares.items × All (λ p. HasTile grid.now p) front.now × AllPairs (λ p q. p ≢ q) front.now }
             ensures { IfOk result (λ f. AreLinked grid.entry.now segments.entry.now front.entry.now (flat_map (λ s. s.items) shares.items) (flat_map (λ l. l.items) f.links.items) f.hot.items f.records.items) }

@@ -223,6 +223,15 @@ pub fn gather_made_by_hands<T: Tiled + Sync, A: Allocator + Copy + Send + Sync, 
     Ok(rounded_of(segments, edges, tiles, remade))
 }
 
+/// How many hot pixels pieces have together.
+fn pixel_count<T: Tiled, A: Allocator>(pieces: &[TilePiece<T, A>]) -> usize {
+    let mut count = 0usize;
+    for piece in pieces {
+        count = count.saturating_add(piece.pixels.len());
+    }
+    count
+}
+
 /// The hot pixels of pieces, in their order.
 fn pixels_of<T: Tiled, A: Allocator>(
     alloc: A,
@@ -230,7 +239,7 @@ fn pixels_of<T: Tiled, A: Allocator>(
 ) -> Result<Vec<Pt, A>, NoMemory>
     ensures { IfOk result (λ v. v.items ≡ flat_map (λ p. p.pixels.items) pieces.now) }
 {
-    let mut pixels = Vec::new(alloc);
+    let mut pixels = Vec::with_capacity(alloc, pixel_count(pieces))?;
     for piece in pieces {
         pixels.extend_from_slice(&piece.pixels)?;
     }

@@ -14,8 +14,9 @@ ghost use Rattle.engine.specs.Rounds.{AllInLimit, AreCellBins, AreCellRows};
 use crate::cells::{Extent, bins_of, cells_within, extent_of};
 use crate::checking::joint_bounds;
 use geom::{NoMemory, Seg};
+use hands::join;
 use std::alloc::Allocator;
-use std::thread::{Threads, join};
+use std::thread::Threads;
 use tiling::{Grid, KeptBins, RowBins};
 
 /// Fewer segments are not worth a thread.
@@ -67,6 +68,7 @@ fn extent_both<R: Threads + Sync>(rt: &R, hands: usize, front: &[Seg], back: &[S
 {
     let (first, second) = join(
         rt,
+        hands,
         || -> Extent
             requires { IsSync R.row × (2 ≤ hands) × AllInLimit front.now }
             ensures { AreBounds result.bounds × BoundsHold result.bounds front.entry.now }
@@ -163,6 +165,7 @@ fn bin_both<R: Threads + Sync, A: Allocator + Copy + Send + Sync>(
     let (from, middle, past) = rows;
     let (front, back) = join(
         rt,
+        hands,
         || -> Result<RowBins<A>, NoMemory>
             requires { IsSync R.row × IsSend A.row × IsSync A.row × (2 ≤ hands) × HaveTiles cells.now segments.now × (from ≤ middle) × (middle ≤ cells.now.rows) }
             ensures { IfOk result (λ bins. AreCellRows cells.entry.now from middle segments.entry.now bins) }

@@ -31,7 +31,7 @@ use tile_book::Gate;
 pub struct Plan {
     /// The side of a tile, in grid units, 16 to 33,554,432.
     pub side: u32,
-    /// The number of threads, 1 to 64.
+    /// The number of threads at work, 1 to 64.
     pub workers: u32,
 }
 

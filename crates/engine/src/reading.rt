@@ -12,9 +12,13 @@ ghost use Rattle.wkt.specs.Refusals.{StandsFor};
 use crate::checking::{CheckedInput, Reading};
 use crate::segments::{layer_segments, segments_of};
 use geom::{Layer, NoMemory, Seg, Source};
+use hands::join;
 use std::alloc::Allocator;
-use std::thread::{Threads, join};
+use std::thread::Threads;
 use wkt::{OutlinedLayer, read_layer, read_outlined};
+
+/// A hand for either text.
+const BOTH: usize = 2;
 
 /// What is read of a layer text.
 pub(crate) fn reading<A: Allocator + Copy>(alloc: A, text: &[u8]) -> Reading<A>
@@ -35,7 +39,7 @@ pub(crate) fn read_both<A: Allocator + Copy + Send + Sync, R: Threads + Sync>(
     ensures b { IsReading b.now result.1 }
 {
     if workers > 1 {
-        join(rt, || reading(alloc, a), || reading(alloc, b))
+        join(rt, BOTH, || reading(alloc, a), || reading(alloc, b))
     } else {
         (reading(alloc, a), reading(alloc, b))
     }
@@ -105,6 +109,7 @@ pub(crate) fn read_segments_by_workers<A: Allocator + Copy + Send + Sync, R: Thr
     let room = checked.segments_a as usize + own;
     let (first, second) = join(
         rt,
+        BOTH,
         move || segments_in(alloc, a, read_a, Source::A, room),
         move || segments_in(alloc, b, read_b, Source::B, own),
     );

@@ -5,12 +5,18 @@ ghost use Rattle.engine.specs.Texts.{edges_text_of};
 
 use crate::text::edges_text;
 use geom::{Counted, NoMemory};
+use hands::join;
 use std::alloc::Allocator;
 use std::marker::Model;
-use std::thread::{Threads, join};
+use std::thread::Threads;
 
 /// Fewer edges are not worth a thread.
 const LEAST: usize = 16_384;
+
+/// A hand for each part.
+const HALVES: usize = 2;
+
+const QUARTERS: usize = 4;
 
 /// A text in parts, one behind another, so that none has to be copied behind another.
 #[derive(Drop)]
@@ -56,10 +62,7 @@ fn joined<A: Allocator>(
 }
 
 /// The text of edges in one part.
-fn one_part<A: Allocator + Copy>(
-    alloc: A,
-    edges: &[Counted],
-) -> Result<TextParts<A>, NoMemory>
+fn one_part<A: Allocator + Copy>(alloc: A, edges: &[Counted]) -> Result<TextParts<A>, NoMemory>
     ensures { IfOk result (λ text. text ≡ edges_text_of edges.now) }
 {
     let text = edges_text(alloc, edges)?;
@@ -77,6 +80,7 @@ fn halved_text<A: Allocator + Copy + Send + Sync, R: Threads + Sync>(
     let (front, back) = edges.split_at(edges.len() / 2);
     let (text, rest) = join(
         rt,
+        HALVES,
         || one_part(alloc, front),
         || one_part(alloc, back),
     );
@@ -101,6 +105,7 @@ pub(crate) fn edges_text_at_once<A: Allocator + Copy + Send + Sync, R: Threads +
     let (front, back) = edges.split_at(edges.len() / 2);
     let (text, rest) = join(
         rt,
+        QUARTERS,
         || halved_text(rt, alloc, front),
         || halved_text(rt, alloc, back),
     );

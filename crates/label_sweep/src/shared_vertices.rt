@@ -11,8 +11,9 @@ ghost use Rattle.label_sweep.specs.Status.{AreVertices};
 
 use crate::vertices::vertices_of;
 use geom::{Counted, NoMemory, Pt};
+use hands::join;
 use std::alloc::Allocator;
-use std::thread::{Threads, join};
+use std::thread::Threads;
 
 /// The edges that are worth a hand of their own.
 const LEAST: usize = 16_384;
@@ -48,6 +49,7 @@ fn vertices_of_both<R: Threads + Sync, A: Allocator + Copy + Send + Sync>(
 {
     let (vertices, more) = join(
         rt,
+        hands,
         || -> Result<Vec<Pt, A>, NoMemory>
             requires { IsSync R.row × (2 ≤ hands) }
             ensures { IfOk result (λ vertices. AreVertices (edges_of front.entry.now) vertices.items) }

@@ -21,8 +21,9 @@ use crate::directed::{directed_edges, in_order};
 use crate::pass::sweep;
 use crate::vertices::is_left;
 use geom::{Counted, DirectedEdge, NoMemory, Op, Pt};
+use hands::join;
 use std::alloc::Allocator;
-use std::thread::{Threads, join};
+use std::thread::Threads;
 
 /// The vertices from one number to another.
 #[derive(Clone, Copy, Debug)]
@@ -137,6 +138,7 @@ fn halves_edges<R: Threads + Sync, A: Allocator + Copy + Send + Sync>(
 {
     let (edges, rest) = join(
         rt,
+        hands,
         || -> Result<Vec<DirectedEdge, A>, NoMemory>
             requires { IsSync R.row × (2 ≤ hands) × AreLayers counted.now × AreVertices (edges_of counted.now) vertices.now × IsStrip (edges_of counted.now) vertices.now front }
             ensures { IfOk result (λ edges. AreDirectedFrom op counted.entry.now (slice_range vertices.entry.now front.from front.to) edges.items) }

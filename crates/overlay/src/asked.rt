@@ -23,7 +23,7 @@ pub struct Request<'a> {
     pub b: &'a str,
     /// The side of a tile, in grid units, where one was given.
     pub side: Option<u32>,
-    /// The number of threads.
+    /// The number of threads at work.
     pub workers: u32,
     /// Whether a report is wanted.
     pub report: bool,

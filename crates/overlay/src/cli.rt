@@ -21,7 +21,7 @@ const ABOUT: &str =
 const TILE_HELP: &str =
     "The side of a tile, in grid units, 16 to 33554432 [default: 262144, or what fits]";
 
-const WORKERS_HELP: &str = "The number of threads, 1 to 64";
+const WORKERS_HELP: &str = "The number of threads at work, 1 to 64";
 
 const AFTER: &str =
     "union, intersection, difference and symdifference print the result of that operation on the two

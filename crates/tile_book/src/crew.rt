@@ -1,4 +1,4 @@
-//! Workers in threads, the calling thread being the first.
+//! Workers in threads; one alone works in the calling thread.
 
 ghost use Rattle.std.specs.Prelude.{◌≡◌, ◌+◌, ◌≤◌, true, [], All, IfOk, IfErr, length, vec_len};
 ghost use Rattle.tile_book.specs.Growth.{HasGrown};
@@ -16,7 +16,8 @@ use std::sync::Wait;
 use std::thread;
 use std::thread::{PromisedHandle, Scope, Threads};
 
-/// A worker for each hand. The calling thread is the first of them, and then runs each that could not be started.
+/// A worker for each hand: the calling thread where there is but one, or each in a thread of its own. The calling thread runs each that
+/// could not be started.
 pub fn run_workers<
     A: Allocator + Copy + Send + Sync,
     J: Job<A> + Sync,
@@ -101,11 +102,52 @@ where
             Err(done) => ended.push_reserved(done),
         }
     }
-    ended.push_reserved(work(rt, alloc, job, phase, draw, hand, desk, share, gate));
+    let alone = running.is_empty();
+    ended.push_reserved(first(rt, alone, alloc, job, phase, draw, hand, desk, share, gate));
     while let Some(handle) = running.pop() {
         ended.push_reserved(handle.join(rt));
     }
     Ok(ended)
+}
+
+// The first worker: the calling thread where it is the only one, or else another thread, for which the calling one waits with the
+// others, so that each finds a processor of its own (`hands`).
+fn first<
+    A: Allocator + Copy + Send + Sync,
+    J: Job<A> + Sync,
+    L: Limited + Send + Sync,
+    G: Gate + Sync,
+    R: Threads + Wait + Sync,
+>(
+    rt: &R,
+    alone: bool,
+    alloc: A,
+    job: &J,
+    phase: Phase,
+    draw: &Draw<A>,
+    hand: Hand,
+    desk: &Desk<J::Piece, L, A>,
+    share: Share<L>,
+    gate: &G,
+) -> WorkOutcome<L>
+where
+    J::Piece: Send,
+    requires own { (hand.draw ≡ draw.now) × (hand.drawn ≡ []) × (share ≡ 0) }
+    requires count { draw.now.limit ≤ J.count job.now }
+    ensures { (result.hand.draw ≡ draw.now) × HasGrown result }
+{
+    if alone {
+        return work(rt, alloc, job, phase, draw, hand, desk, share, gate);
+    }
+    let (outcome, ()) = thread::join(
+        rt,
+        move || -> WorkOutcome<L>
+            requires { (hand.draw ≡ draw.now) × (hand.drawn ≡ []) × (share ≡ 0) × (draw.now.limit ≤ J.count job.now) }
+            ensures { (result.hand.draw ≡ draw.entry.now) × HasGrown result }
+        { work(rt, alloc, job, phase, draw, hand, desk, share, gate) },
+        || (),
+    );
+    outcome
 }
 
 // Starts a worker, or is it.

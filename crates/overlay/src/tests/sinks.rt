@@ -20,7 +20,7 @@ Arguments:
 
 Options:
       --tile <N>     The side of a tile, in grid units, 16 to 33554432 [default: 262144, or what fits]
-      --workers <N>  The number of threads, 1 to 64 [default: 4]
+      --workers <N>  The number of threads at work, 1 to 64 [default: 4]
       --report       Prints the numbers of the run to standard error
   -h, --help         Print help
 

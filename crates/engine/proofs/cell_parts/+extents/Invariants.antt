@@ -7,8 +7,8 @@ decreases-extent_parts g l = 4 * l.hands + 3
 abbrev pub decreases-extent_both : goal.decreases-extent_both
 decreases-extent_both g l = 4 * l.hands + 2
 
-abbrev pub decreases-extent_both-join+arg2 : goal.decreases-extent_both-join+arg2
-decreases-extent_both-join+arg2 g l = 4 * l.hands + 1
-
 abbrev pub decreases-extent_both-join+arg3 : goal.decreases-extent_both-join+arg3
 decreases-extent_both-join+arg3 g l = 4 * l.hands + 1
+
+abbrev pub decreases-extent_both-join+arg4 : goal.decreases-extent_both-join+arg4
+decreases-extent_both-join+arg4 g l = 4 * l.hands + 1

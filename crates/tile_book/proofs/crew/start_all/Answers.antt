@@ -20,7 +20,7 @@ loop-other-preserved g c =
 pub loop-handle-init : goal.loop-handle-init
 loop-handle-init g c =
     let i = c.loop-other.invariant in
-    (search rules, search rules, pushed (λ e. (e.hand.draw ≡ c.args.draw.now) × HasGrown e) _ _ _ c.push_reserved-2.ensures.items i.5 (c.work.ensures.own, (omega (arith, c.work.ensures.grown, ap length i.8, i.10), c.work.ensures.spent)), i.6)
+    (search rules, search rules, pushed (λ e. (e.hand.draw ≡ c.args.draw.now) × HasGrown e) _ _ _ c.push_reserved-2.ensures.items i.5 c.first.ensures, i.6)
 
 pub loop-handle-preserved : goal.loop-handle-preserved
 loop-handle-preserved g c =
