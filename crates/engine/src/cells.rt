@@ -26,6 +26,9 @@ const SEGMENTS: u64 = 64;
 /// How many more times than once the segments may lie in cells on average.
 const DOUBLES: u128 = 16;
 
+/// The same, where it is worth it only that the workers have several cells each: one may hold nearly all that is to be found.
+const DOUBLES_FOR_SHARES: u128 = 6;
+
 /// The powers of two that are a side: 2^25 is the greatest and 2^4 the least.
 const HALVINGS: u32 = 21;
 
@@ -181,7 +184,7 @@ fn lie_in_many(reach: &Reach, side: u32) -> bool {
 }
 
 /// Whether cells of half this side are worth it: where there are fewer cells than workers, and a segment lies in 17 cells on
-/// average at most; where the workers have few, and it lies in four at most; and where it lies in two at most, and the cells are
+/// average at most; where the workers have few, and it lies in seven at most; and where it lies in two at most, and the cells are
 /// few for the segments.
 fn is_worth(bounds: &Rect, reach: &Reach, workers: u32, side: u32) -> bool {
     let workers = u64::from(workers);
@@ -190,6 +193,6 @@ fn is_worth(bounds: &Rect, reach: &Reach, workers: u32, side: u32) -> bool {
     let doubles = doubles_over(reach, side / 2);
     let count = u128::from(reach.count);
     cells < workers && !lie_in_many(reach, side / 2)
-        || cells < CELLS * workers && doubles <= 3 * count
+        || cells < CELLS * workers && doubles <= DOUBLES_FOR_SHARES * count
         || finer <= reach.count / SEGMENTS && doubles <= count
 }

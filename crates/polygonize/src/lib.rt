@@ -15,6 +15,7 @@ mod number;
 mod piece;
 mod polygon;
 mod ring;
+mod shared_gaps;
 mod stripes;
 mod successor;
 mod written;

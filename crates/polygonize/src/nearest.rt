@@ -3,7 +3,7 @@
 //! 1. The edges that span the columns of these vertices are put into order from low to high. For each vertex a binary
 //!    search finds the nearest one below it.
 //! 2. The vertices are halved. Each half is left with those of the other edges that meet its columns.
-//! 3. Where one vertex is left, the edges that are left are looked at one by one.
+//! 3. Where few vertices are left, or no edge, the edges that are left are looked at one by one.
 //!
 //! Where the vertices stand from left to right, an edge spans or ends in few of the parts at each depth, so that it is
 //! looked at some log n times. The answers are those for any order.
@@ -20,6 +20,9 @@ use crate::column::{Columns, columns_of, meeting, slanted};
 use crate::ladder::{highest_below, is_ladder, spanning};
 use geom::{DirectedEdge, NoMemory, Pt};
 use std::alloc::Allocator;
+
+/// So few vertices are not halved.
+const FEW: usize = 4;
 
 /// The gap to the nearest of some edges below the point just left of v, by a binary search where they are a ladder.
 fn nearest_of(
@@ -113,7 +116,7 @@ fn add<A: Allocator + Copy>(
     ensures { OnOk result (AreNearer edges.now vertices.now asked.now numbers.now best.old best.new) }
 {
     let columns = columns_of(vertices, asked);
-    if asked.len() < 2 || numbers.is_empty() {
+    if asked.len() <= FEW || numbers.is_empty() {
         add_edges(edges, vertices, asked, numbers, columns, false, best);
         return Ok(());
     }

@@ -8,14 +8,13 @@ ghost use Rattle.geom.specs.ListOrder.{IsLeastRotation};
 ghost use Rattle.geom.specs.NodedEdges.{AreNodedEdges};
 ghost use Rattle.geom.specs.Rings.{Closes};
 ghost use Rattle.polygonize.specs.Grouped.{AreGrouped, BeginsWithShell};
-ghost use Rattle.polygonize.specs.Cycle.{IsOneToOne};
-ghost use Rattle.polygonize.specs.Next.{AreNext, ring_of};
-ghost use Rattle.polygonize.specs.Placed.{points, stands_as_hole};
-ghost use Rattle.polygonize.specs.Written.{AreSimple, IsSound};
+ghost use Rattle.polygonize.specs.Next.{ring_of};
+ghost use Rattle.polygonize.specs.Placed.{AreAllWritten, points, rings_in, stands_as_hole};
+ghost use Rattle.polygonize.specs.Written.{AreSimple, HaveEdges, IsCanonical, IsSound};
 
 use crate::number::points_of;
 use crate::successor::{successors, successors_by_hands};
-use crate::written::{WrittenRing, written_rings};
+use crate::written::{WrittenRing, written_rings, written_rings_by_hands};
 use face_label::Directed;
 use geom::{DirectedEdge, NoMemory, Polygon, SimpleRing};
 use std::alloc::Allocator;
@@ -91,22 +90,21 @@ fn grouped<A: Allocator + Copy>(
     Ok(polygons)
 }
 
-/// The polygons of directed edges by the next edges, in canonical order.
-fn polygons_along<A: Allocator + Copy>(
+/// The polygons of directed edges by the rings as they are written, in canonical order.
+fn polygons_of<A: Allocator + Copy>(
     alloc: A,
     edges: &[DirectedEdge],
-    next: &[usize],
+    mut written: Vec<WrittenRing<A>, A>,
 ) -> Result<Vec<Polygon<A>, A>, NoMemory>
     requires closes { Closes edges.now }
-    requires edges_in { All (λ d. AreInLimit d.from d.to) edges.now }
-    requires next { AreNext edges.now next.now }
-    requires one_to_one { IsOneToOne next.now }
+    requires edges { HaveEdges edges.now (rings_in written.items) }
+    requires sound { All (IsCanonical edges.now) (rings_in written.items) }
+    requires written { AreNodedEdges edges.now → HasGroundedRings edges.now → AreAllWritten edges.now written.items }
     ensures polygons { AreNodedEdges edges.now → HasGroundedRings edges.now → IfOk result (λ found. ArePolygons edges.now found.items) }
     ensures each_edge { IfOk result (λ found. HaveEachEdge edges.now found.items) }
     ensures simple { IfOk result (λ found. AreSimple (written_rings found.items)) }
     ensures least { IfOk result (λ found. All (λ ring. IsLeastRotation ring ring) (written_rings found.items)) }
 {
-    let mut written = written_rings(alloc, edges, next)?;
     written.sort_unstable_by_key(|ring| ring.place());
     grouped(alloc, edges, &written)
 }
@@ -127,10 +125,11 @@ pub fn polygons<A: Allocator + Copy>(
 {
     let edges = directed.edges();
     let next = successors(alloc, edges)?;
-    polygons_along(alloc, edges, &next)
+    let written = written_rings(alloc, edges, &next)?;
+    polygons_of(alloc, edges, written)
 }
 
-/// The same, whose next edges are found by so many hands.
+/// The same, where so many hands look for the next edges, and for the edges below holes.
 pub fn polygons_by_hands<R: Threads + Sync, A: Allocator + Copy + Send + Sync>(
     rt: &R,
     hands: u32,
@@ -145,6 +144,8 @@ pub fn polygons_by_hands<R: Threads + Sync, A: Allocator + Copy + Send + Sync>(
     ensures least { IfOk result (λ found. All (λ ring. IsLeastRotation ring ring) (written_rings found.items)) }
 {
     let edges = directed.edges();
-    let next = successors_by_hands(rt, hands_for(edges.len(), hands), alloc, edges)?;
-    polygons_along(alloc, edges, &next)
+    let hands = hands_for(edges.len(), hands);
+    let next = successors_by_hands(rt, hands, alloc, edges)?;
+    let written = written_rings_by_hands(rt, hands, alloc, edges, &next)?;
+    polygons_of(alloc, edges, written)
 }

@@ -23,9 +23,11 @@ use crate::nearest::gaps_below;
 use crate::number::{first_vertices, start_numbers, vertices_of};
 use crate::piece::{first_piece, turned};
 use crate::ring::ring_places;
+use crate::shared_gaps::gaps_below_by_hands;
 use geom::{DirectedEdge, NoMemory};
 use std::alloc::Allocator;
 use std::marker::Model;
+use std::thread::Threads;
 
 /// The first two vertices of a ring, which tell it from all others: they are an edge's.
 #[derive(Clone, Copy, Debug, PartialEq, Eq, PartialOrd, Ord)]
@@ -287,6 +289,58 @@ fn edges_below<A: Allocator + Copy>(
     gaps_below(alloc, edges, &vertices, &holes)
 }
 
+/// The same by so many hands.
+fn edges_below_by_hands<R: Threads + Sync, A: Allocator + Copy + Send + Sync>(
+    rt: &R,
+    hands: usize,
+    alloc: A,
+    edges: &[DirectedEdge],
+    numbers: &[usize],
+    cycles: &[Cycle<A>],
+) -> Result<Vec<Option<Gap>, A>, NoMemory>
+    requires directed { AreDirected edges.now }
+    requires edges_in { All (λ d. AreInLimit d.from d.to) edges.now }
+    requires numbers { AreNumbers edges.now numbers.now }
+    requires cycles { All (ArePlaces edges.now) cycles.now }
+    ensures { IfOk result (λ below. AreFoundBelow edges.now cycles.now below.items) }
+{
+    let holes = holes_of(alloc, edges, numbers, cycles)?;
+    let vertices = first_vertices(alloc, edges, cycles)?;
+    gaps_below_by_hands(rt, hands, alloc, edges, &vertices, &holes)
+}
+
+/// Writes the rings of all cycles, whose edges below are found.
+fn written_above<A: Allocator + Copy>(
+    alloc: A,
+    edges: &[DirectedEdge],
+    numbers: &[usize],
+    cycles: &[Cycle<A>],
+    below: &[Option<Gap>],
+) -> Result<Vec<WrittenRing<A>, A>, NoMemory>
+    requires closes { Closes edges.now }
+    requires edges_in { All (λ d. AreInLimit d.from d.to) edges.now }
+    requires numbers { AreNumbers edges.now numbers.now }
+    requires cycles { All (ArePlaces edges.now) cycles.now }
+    requires rings { AreRings edges.now (rings_of edges.now cycles.now) }
+    requires found { AreFoundBelow edges.now cycles.now below.now }
+    requires its_edges { All (HasItsEdges edges.now) cycles.now }
+    ensures edges { IfOk result (λ written. HaveEdges edges.now (rings_in written.items)) }
+    ensures sound { IfOk result (λ written. All (IsCanonical edges.now) (rings_in written.items)) }
+    ensures written { AreNodedEdges edges.now → HasGroundedRings edges.now → IfOk result (λ written. AreAllWritten edges.now written.items) }
+{
+    let mut places = vec![in alloc; None; edges.len()]?;
+    let mut shell_of = vec![in alloc; None; edges.len()]?;
+    write_cycles(
+        alloc,
+        edges,
+        numbers,
+        cycles,
+        below,
+        &mut places,
+        &mut shell_of,
+    )
+}
+
 /// All rings as they are written, in no order yet, by the next edges.
 pub fn written_rings<A: Allocator + Copy>(
     alloc: A,
@@ -304,15 +358,27 @@ pub fn written_rings<A: Allocator + Copy>(
     let numbers = start_numbers(alloc, edges)?;
     let cycles = ring_places(alloc, edges, next)?;
     let below = edges_below(alloc, edges, &numbers, &cycles)?;
-    let mut places = vec![in alloc; None; edges.len()]?;
-    let mut shell_of = vec![in alloc; None; edges.len()]?;
-    write_cycles(
-        alloc,
-        edges,
-        &numbers,
-        &cycles,
-        &below,
-        &mut places,
-        &mut shell_of,
-    )
+    written_above(alloc, edges, &numbers, &cycles, &below)
+}
+
+/// The same, where so many hands look for the edges below holes.
+pub fn written_rings_by_hands<R: Threads + Sync, A: Allocator + Copy + Send + Sync>(
+    rt: &R,
+    hands: usize,
+    alloc: A,
+    edges: &[DirectedEdge],
+    next: &[usize],
+) -> Result<Vec<WrittenRing<A>, A>, NoMemory>
+    requires closes { Closes edges.now }
+    requires edges_in { All (λ d. AreInLimit d.from d.to) edges.now }
+    requires next { AreNext edges.now next.now }
+    requires one_to_one { IsOneToOne next.now }
+    ensures edges { IfOk result (λ written. HaveEdges edges.now (rings_in written.items)) }
+    ensures sound { IfOk result (λ written. All (IsCanonical edges.now) (rings_in written.items)) }
+    ensures written { AreNodedEdges edges.now → HasGroundedRings edges.now → IfOk result (λ written. AreAllWritten edges.now written.items) }
+{
+    let numbers = start_numbers(alloc, edges)?;
+    let cycles = ring_places(alloc, edges, next)?;
+    let below = edges_below_by_hands(rt, hands, alloc, edges, &numbers, &cycles)?;
+    written_above(alloc, edges, &numbers, &cycles, &below)
 }

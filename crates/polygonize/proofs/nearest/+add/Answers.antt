@@ -8,7 +8,7 @@ use Rattle.polygonize.proofs.nearest.+add.Goals as goal
 pub add-requires : goal.add-requires
 add-requires g t c =
     let a = c.split_at.ensures.front_len in
-    let b = c.if-asked-lt2.false in
+    let b = c.if-asked-le-FEW.false in
     λ κs h. (
       omega arith,
       (
@@ -29,7 +29,7 @@ add-requires g t c =
 pub add-requires-2 : goal.add-requires-2
 add-requires-2 g t c =
     let a = c.split_at.ensures.back_len in
-    let b = c.if-asked-lt2.false in
+    let b = c.if-asked-le-FEW.false in
     λ κs h. (
       omega arith,
       (
