@@ -11,7 +11,7 @@ ghost use Rattle.polygonize.specs.Number.{AreNumbers, IsVertex};
 ghost use Rattle.polygonize.specs.Cycle.{IsOneToOne};
 ghost use Rattle.polygonize.specs.Next.{AreNext, edge_at, ring_of, rings_of};
 ghost use Rattle.polygonize.specs.Owning.{ArePiecesWritten, IsOwnerFound, IsRingPlaced, KeepsShell};
-ghost use Rattle.polygonize.specs.Placed.{AreAllWritten, AreWritten, opening_of, rings_in};
+ghost use Rattle.polygonize.specs.Placed.{AreAllWritten, AreTables, AreWritten, opening_of, rings_in};
 ghost use Rattle.polygonize.specs.Stack.{AreStacked};
 ghost use Rattle.polygonize.specs.Written.{AreAdded, ArePlaces, HasItsEdges, HaveEdges, IsCanonical, IsRingWritten, IsSound};
 
@@ -84,6 +84,33 @@ impl<A: Allocator> WrittenRing<A> {
     {
         &self.ring
     }
+}
+
+/// What rings are written by: for each edge the number of the vertex where it starts, and empty places for what is kept of the
+/// vertices of a ring, and of the edges of all rings.
+#[derive(Drop)]
+pub struct Tables<A: Allocator> {
+    numbers: Vec<usize, A>,
+    places: Vec<Option<usize>, A>,
+    shell_of: Vec<Option<Opening>, A>,
+}
+
+/// The tables for the rings of directed edges.
+pub fn tables_of<A: Allocator + Copy>(
+    alloc: A,
+    edges: &[DirectedEdge],
+) -> Result<Tables<A>, NoMemory>
+    requires { AreDirected edges.now }
+    ensures { IfOk result (λ t. AreTables edges.now t) }
+{
+    let numbers = start_numbers(alloc, edges)?;
+    let places = vec![in alloc; None; edges.len()]?;
+    let shell_of = vec![in alloc; None; edges.len()]?;
+    Ok(Tables {
+        numbers,
+        places,
+        shell_of,
+    })
 }
 
 /// The shell that is given, or else the first piece.
@@ -313,13 +340,13 @@ fn edges_below_by_hands<R: Threads + Sync, A: Allocator + Copy + Send + Sync>(
 fn written_above<A: Allocator + Copy>(
     alloc: A,
     edges: &[DirectedEdge],
-    numbers: &[usize],
+    tables: Tables<A>,
     cycles: &[Cycle<A>],
     below: &[Option<Gap>],
 ) -> Result<Vec<WrittenRing<A>, A>, NoMemory>
     requires closes { Closes edges.now }
     requires edges_in { All (λ d. AreInLimit d.from d.to) edges.now }
-    requires numbers { AreNumbers edges.now numbers.now }
+    requires tables { AreTables edges.now tables }
     requires cycles { All (ArePlaces edges.now) cycles.now }
     requires rings { AreRings edges.now (rings_of edges.now cycles.now) }
     requires found { AreFoundBelow edges.now cycles.now below.now }
@@ -328,12 +355,15 @@ fn written_above<A: Allocator + Copy>(
     ensures sound { IfOk result (λ written. All (IsCanonical edges.now) (rings_in written.items)) }
     ensures written { AreNodedEdges edges.now → HasGroundedRings edges.now → IfOk result (λ written. AreAllWritten edges.now written.items) }
 {
-    let mut places = vec![in alloc; None; edges.len()]?;
-    let mut shell_of = vec![in alloc; None; edges.len()]?;
+    let Tables {
+        numbers,
+        mut places,
+        mut shell_of,
+    } = tables;
     write_cycles(
         alloc,
         edges,
-        numbers,
+        &numbers,
         cycles,
         below,
         &mut places,
@@ -355,30 +385,31 @@ pub fn written_rings<A: Allocator + Copy>(
     ensures sound { IfOk result (λ written. All (IsCanonical edges.now) (rings_in written.items)) }
     ensures written { AreNodedEdges edges.now → HasGroundedRings edges.now → IfOk result (λ written. AreAllWritten edges.now written.items) }
 {
-    let numbers = start_numbers(alloc, edges)?;
+    let tables = tables_of(alloc, edges)?;
     let cycles = ring_places(alloc, edges, next)?;
-    let below = edges_below(alloc, edges, &numbers, &cycles)?;
-    written_above(alloc, edges, &numbers, &cycles, &below)
+    let below = edges_below(alloc, edges, &tables.numbers, &cycles)?;
+    written_above(alloc, edges, tables, &cycles, &below)
 }
 
-/// The same, where so many hands look for the edges below holes.
+/// The same by tables that are there already, where so many hands look for the edges below holes.
 pub fn written_rings_by_hands<R: Threads + Sync, A: Allocator + Copy + Send + Sync>(
     rt: &R,
     hands: usize,
     alloc: A,
     edges: &[DirectedEdge],
     next: &[usize],
+    tables: Tables<A>,
 ) -> Result<Vec<WrittenRing<A>, A>, NoMemory>
     requires closes { Closes edges.now }
     requires edges_in { All (λ d. AreInLimit d.from d.to) edges.now }
     requires next { AreNext edges.now next.now }
     requires one_to_one { IsOneToOne next.now }
+    requires tables { AreTables edges.now tables }
     ensures edges { IfOk result (λ written. HaveEdges edges.now (rings_in written.items)) }
     ensures sound { IfOk result (λ written. All (IsCanonical edges.now) (rings_in written.items)) }
     ensures written { AreNodedEdges edges.now → HasGroundedRings edges.now → IfOk result (λ written. AreAllWritten edges.now written.items) }
 {
-    let numbers = start_numbers(alloc, edges)?;
     let cycles = ring_places(alloc, edges, next)?;
-    let below = edges_below_by_hands(rt, hands, alloc, edges, &numbers, &cycles)?;
-    written_above(alloc, edges, &numbers, &cycles, &below)
+    let below = edges_below_by_hands(rt, hands, alloc, edges, &tables.numbers, &cycles)?;
+    written_above(alloc, edges, tables, &cycles, &below)
 }

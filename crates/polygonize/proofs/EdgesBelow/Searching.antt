@@ -113,8 +113,8 @@ two_parts xs n first second h k = take_and_drop n xs ∙ (λ i. sym h i ++ sym k
 
 -- ---- the beginning and the end
 
--- only None is what nothing is
-pub none_of : {X : Type 0} (Q : Option X → Type 0) → ((g : X) → ¬ (Q (Some g))) → (best : Option X) → Q best → best ≡ None
+-- only None is what no gap is
+pub none_of : (Q : Option Gap → Type 0) → ((g : Gap) → ¬ (Q (Some g))) → (best : Option Gap) → Q best → best ≡ None
 none_of Q n None q = refl
 none_of Q n (Some g) q = absurd (n g q)
 
