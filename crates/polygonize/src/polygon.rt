@@ -103,7 +103,6 @@ fn next_and_tables<R: Threads + Sync, A: Allocator + Copy + Send + Sync>(
     alloc: A,
     edges: &[DirectedEdge],
 ) -> (Result<Vec<usize, A>, NoMemory>, Result<Tables<A>, NoMemory>)
-    requires hands { 0 < hands }
     requires closes { Closes edges.now }
     requires edges_in { All (λ d. AreInLimit d.from d.to) edges.now }
     ensures next { IfOk result.0 (λ next. AreNext edges.now next.items) }
@@ -114,7 +113,7 @@ fn next_and_tables<R: Threads + Sync, A: Allocator + Copy + Send + Sync>(
         rt,
         BOTH,
         || -> Result<Vec<usize, A>, NoMemory>
-            requires { IsSync R.row × IsSend A.row × IsSync A.row × (0 < hands) × Closes edges.now × All (λ d. AreInLimit d.from d.to) edges.now }
+            requires { IsSync R.row × IsSend A.row × IsSync A.row × Closes edges.now × All (λ d. AreInLimit d.from d.to) edges.now }
             ensures { IfOk result (λ next. AreNext edges.entry.now next.items × IsOneToOne next.items) }
         { successors_by_hands(rt, hands, alloc, edges) },
         || -> Result<Tables<A>, NoMemory>

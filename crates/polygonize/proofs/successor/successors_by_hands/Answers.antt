@@ -1,14 +1,15 @@
-use Rattle.std.proofs.Common.{◌∙◌, ap, length, sym}
-use Rattle.std.proofs.lemmas.List.{with_items_is}
+use Rattle.std.proofs.Common.{length}
+use Rattle.std.proofs.lemmas.Result.{IfOk-weaker}
+use Rattle.polygonize.specs.Cycle.{IsOneToOne}
+use Rattle.polygonize.specs.Leaving.{AreNextPlaces}
+use Rattle.polygonize.specs.Next.{AreNext}
 use Rattle.polygonize.proofs.NextEdge.Linking.{are_next, one_to_one}
 use Rattle.polygonize.proofs.successor.successors_by_hands.Goals as goal
 
 pub returns-clause-next : goal.returns-clause-next
-returns-clause-next g c =
-    let back = with_items_is c.in_ok-next.next c.link_all.new.next (c.link_all.auto.next ∙ ap length c.as_mut_slice.ensures.value ∙ sym c.in_ok-next.next.ok.0) in
-    rw back (are_next c.args.edges.now c.link_all.new.next c.link_all.ensures.same_length c.link_all.ensures.linked)
+returns-clause-next g c = IfOk-weaker c.next_places_by_hands.result (λ next. AreNextPlaces c.args.edges.now 0 (length c.args.edges.now) next.items) (λ next. AreNext c.args.edges.now next.items)
+    (λ next h. are_next c.args.edges.now next.items h) c.next_places_by_hands.ensures
 
 pub returns-clause-one_to_one : goal.returns-clause-one_to_one
-returns-clause-one_to_one g c =
-    let back = with_items_is c.in_ok-next.next c.link_all.new.next (c.link_all.auto.next ∙ ap length c.as_mut_slice.ensures.value ∙ sym c.in_ok-next.next.ok.0) in
-    rw back (one_to_one c.args.edges.now c.link_all.new.next c.requires.closes.are_directed c.link_all.ensures.same_length c.link_all.ensures.linked)
+returns-clause-one_to_one g c = IfOk-weaker c.next_places_by_hands.result (λ next. AreNextPlaces c.args.edges.now 0 (length c.args.edges.now) next.items) (λ next. IsOneToOne next.items)
+    (λ next h. one_to_one c.args.edges.now next.items h c.requires.closes.are_directed) c.next_places_by_hands.ensures
