@@ -1,5 +1,5 @@
 -- Pieces that are made one after another stand in the order of their numbers.
-use Rattle.std.proofs.Common.{◌≡◌, ◌⊎◌, ℕ, List, [], ◌∷◌, ◌++◌, length, sym, ap, ◌∙◌, subst, ⊎_elim}
+use Rattle.std.proofs.Common.{◌≡◌, ℕ, List, [], ◌∷◌, ◌++◌, length, sym, ap, ◌∙◌, subst, ⊎_elim}
 use Rattle.tile_book.proofs.Completed.{pushed_at}
 use Rattle.tile_book.specs.Books.{StandInOrder}
 

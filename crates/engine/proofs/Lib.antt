@@ -18,3 +18,4 @@ pub mod OneTiling
 pub mod Fits
 pub mod Known
 pub mod InTurn
+pub mod LineParts

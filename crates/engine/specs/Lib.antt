@@ -6,3 +6,4 @@ pub mod Results
 pub mod Determined
 pub mod Counting
 pub mod Fitting
+pub mod LineParts

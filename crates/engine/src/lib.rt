@@ -8,6 +8,7 @@ mod checking;
 mod engine;
 mod fitting;
 mod laws;
+mod line_parts;
 mod operation;
 mod reading;
 mod rounds;

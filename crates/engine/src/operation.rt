@@ -9,15 +9,19 @@ ghost use Rattle.geom.specs.declared.op.Op.{Op};
 ghost use Rattle.points_law.specs.Law.{AreLayers};
 ghost use Rattle.engine.specs.Results.{IsResultText, IsWantedText};
 
+use crate::line_parts::line_at_once;
 use crate::text::edges_text;
 use crate::text_parts::{TextParts, edges_text_at_once};
 use face_label::Directed;
 use geom::{Counted, NoMemory, Op};
 use label_sweep::{layer_labels, layer_labels_by_hands};
-use polygonize::{polygons, polygons_by_hands};
+use polygonize::{polygons, rings_by_hands};
 use std::alloc::Allocator;
 use std::thread::Threads;
 use wkt::write_multi;
+
+/// Fewer directed edges are not worth a thread.
+const LEAST: usize = 8_192;
 
 /// What is wanted of two layers.
 #[derive(Clone, Copy, Debug)]
@@ -56,10 +60,7 @@ pub(crate) fn text_by_workers<A: Allocator + Copy + Send + Sync, R: Threads + Sy
 {
     match wanted {
         Wanted::Edges => edges_text_at_once(rt, alloc, workers, counted),
-        Wanted::Apply(op) => {
-            let line = result_text_by_workers(rt, alloc, workers, counted, op)?;
-            TextParts::one(alloc, line)
-        }
+        Wanted::Apply(op) => result_text_by_workers(rt, alloc, workers, counted, op),
     }
 }
 
@@ -77,19 +78,19 @@ pub fn result_text<A: Allocator + Copy>(
     line_along(alloc, &directed)
 }
 
-/// The same line, where workers sweep and look for the next edges.
+/// The same line, made by several workers at once.
 fn result_text_by_workers<A: Allocator + Copy + Send + Sync, R: Threads + Sync>(
     rt: &R,
     alloc: A,
     workers: u32,
     counted: &[Counted],
     op: Op,
-) -> Result<Vec<u8, A>, NoMemory>
+) -> Result<TextParts<A>, NoMemory>
     requires { AreLayers counted.now }
-    ensures { IfOk result (λ text. IsResultText op counted.now text.items) }
+    ensures { IfOk result (λ text. IsResultText op counted.now text) }
 {
     let directed = layer_labels_by_hands(rt, workers, alloc, counted, op)?;
-    line_by_workers(rt, alloc, workers, &directed)
+    line_by_workers(rt, alloc, workers, directed)
 }
 
 /// The canonical line of the result that these directed edges bound.
@@ -102,17 +103,31 @@ fn line_along<A: Allocator + Copy>(alloc: A, directed: &Directed<A>) -> Result<V
     write_multi(alloc, polygons.as_slice())
 }
 
-/// The same line, where workers look for the next edges.
+/// The same line in one part.
+fn one_line<A: Allocator + Copy>(alloc: A, directed: &Directed<A>) -> Result<TextParts<A>, NoMemory>
+    requires closes { Closes directed.now }
+    requires in_limit { All (λ d. AreInLimit d.from d.to) directed.now }
+    ensures { IfOk result (λ text. (op : Op) (counted : List Counted) → AreLayers counted → AreResultEdges op counted directed.now → IsResultText op counted text) }
+{
+    let line = line_along(alloc, directed)?;
+    TextParts::one(alloc, line)
+}
+
+/// The same line, made by several workers at once where that is worth it.
 fn line_by_workers<A: Allocator + Copy + Send + Sync, R: Threads + Sync>(
     rt: &R,
     alloc: A,
     workers: u32,
-    directed: &Directed<A>,
-) -> Result<Vec<u8, A>, NoMemory>
-    requires closes { Closes directed.now }
-    requires in_limit { All (λ d. AreInLimit d.from d.to) directed.now }
-    ensures { IfOk result (λ text. (op : Op) (counted : List Counted) → AreLayers counted → AreResultEdges op counted directed.now → IsResultText op counted text.items) }
+    directed: Directed<A>,
+) -> Result<TextParts<A>, NoMemory>
+    requires closes { Closes directed }
+    requires in_limit { All (λ d. AreInLimit d.from d.to) directed }
+    ensures { IfOk result (λ text. (op : Op) (counted : List Counted) → AreLayers counted → AreResultEdges op counted directed → IsResultText op counted text) }
 {
-    let found = polygons_by_hands(rt, workers, alloc, directed)?;
-    write_multi(alloc, found.as_slice())
+    let hands = workers as usize;
+    if hands < 2 || directed.edges().len() < LEAST {
+        return one_line(alloc, &directed);
+    }
+    let rings = rings_by_hands(rt, hands, alloc, directed)?;
+    line_at_once(rt, hands, alloc, &rings)
 }

@@ -51,7 +51,7 @@ impl<A: Allocator> TextParts<A> {
 }
 
 /// A text with another behind it.
-fn joined<A: Allocator>(
+pub(crate) fn joined<A: Allocator>(
     mut text: TextParts<A>,
     mut rest: TextParts<A>,
 ) -> Result<TextParts<A>, NoMemory>

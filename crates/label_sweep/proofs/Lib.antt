@@ -19,3 +19,4 @@ pub mod Places
 pub mod Borders
 pub mod ChangingEdges
 pub mod Halves
+pub mod Ascending

@@ -1,7 +1,8 @@
 //! The directed edges of a result, by the labels of the sweep.
 
-ghost use Rattle.std.specs.Prelude.{◌≡◌, ◌↔◌, AllPairs, Contains, IfOk};
+ghost use Rattle.std.specs.Prelude.{◌≡◌, ◌↔◌, true, AllPairs, Contains, IfOk, IsTrue};
 ghost use Rattle.geom.specs.Directed.{AreResultEdges, IsDirectedBefore};
+ghost use Rattle.geom.specs.Order.{IsBefore};
 ghost use Rattle.geom.specs.declared.directed.DirectedEdge.{DirectedEdge};
 ghost use Rattle.points_law.specs.Law.{AreLayers};
 ghost use Rattle.label_sweep.specs.Labels.{directed_of, directions_of};
@@ -12,7 +13,7 @@ use crate::standing::LabelledEdge;
 use crate::strips::{Strip, strip_edges, strip_edges_by_hands};
 use crate::vertices::vertices_of;
 use face_label::{Directed, add_directions};
-use geom::{Counted, DirectedEdge, NoMemory, Op};
+use geom::{Counted, DirectedEdge, NoMemory, Op, Pt};
 use std::alloc::Allocator;
 use std::thread::Threads;
 
@@ -41,6 +42,30 @@ pub fn directed_edges<A: Allocator + Copy>(
         add_directions(&mut edges, one.edge, one.directions(op))?;
     }
     Ok(edges)
+}
+
+fn is_before(p: Pt, q: Pt) -> bool
+    ensures { result ≡ true → IsBefore p q }
+{
+    p < q
+}
+
+fn comes_before(d: DirectedEdge, e: DirectedEdge) -> bool
+    ensures { result ≡ true → IsDirectedBefore d e }
+{
+    is_before(d.from, e.from) || d.from == e.from && is_before(d.to, e.to)
+}
+
+/// Whether directed edges ascend, none of them twice.
+pub fn ascend(edges: &[DirectedEdge]) -> bool
+    ensures { IsTrue result → AllPairs IsDirectedBefore edges.now }
+{
+    for i in 1..edges.len() {
+        if !comes_before(edges[i - 1], edges[i]) {
+            return false;
+        }
+    }
+    true
 }
 
 /// Directed edges in their order, each once.

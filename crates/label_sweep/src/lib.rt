@@ -5,6 +5,7 @@ mod changing;
 mod column;
 mod directed;
 mod laws;
+mod overlap;
 mod parities;
 mod pass;
 mod place;

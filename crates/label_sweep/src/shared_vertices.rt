@@ -1,6 +1,6 @@
 //! The vertices by several hands:
 //! 1. The edges are halved, and each half again, until there is a part for each hand, which lists the ends of its edges (`vertices_of`).
-//! 2. Two lists become one, by a sort that keeps both runs (`joined`).
+//! 2. Two lists become one (`joined`).
 
 ghost use Rattle.std.specs.Prelude.{◌≤◌, ◌++◌, ◌↔◌, AllPairs, Contains, IfOk};
 ghost use Rattle.std.specs.Thread.{IsSend, IsSync};
@@ -9,6 +9,7 @@ ghost use Rattle.geom.specs.Rounded.{edges_of};
 ghost use Rattle.geom.specs.declared.point.Pt.{Pt};
 ghost use Rattle.label_sweep.specs.Status.{AreVertices};
 
+use crate::overlap::merged;
 use crate::vertices::vertices_of;
 use geom::{Counted, NoMemory, Pt};
 use hands::join;
@@ -59,16 +60,20 @@ fn vertices_of_both<R: Threads + Sync, A: Allocator + Copy + Send + Sync>(
             ensures { IfOk result (λ vertices. AreVertices (edges_of back.entry.now) vertices.items) }
         { vertices_by_hands(rt, hands - hands / 2, alloc, back) },
     );
-    joined(vertices?, more?)
+    joined(alloc, vertices?, more?)
 }
 
 /// The points of two lists in order, each once.
-fn joined<A: Allocator>(mut vertices: Vec<Pt, A>, more: Vec<Pt, A>) -> Result<Vec<Pt, A>, NoMemory>
+fn joined<A: Allocator + Copy>(
+    alloc: A,
+    vertices: Vec<Pt, A>,
+    more: Vec<Pt, A>,
+) -> Result<Vec<Pt, A>, NoMemory>
     ensures ascending { IfOk result (λ all. AllPairs IsBefore all.items) }
     ensures same { IfOk result (λ all. (v : Pt) → Contains all.items v ↔ Contains (vertices.items ++ more.items) v) }
 {
-    vertices.extend_from_slice(&more)?;
-    vertices.sort()?;
-    vertices.dedup();
-    Ok(vertices)
+    let mut all = merged(alloc, vertices, more)?;
+    all.sort()?;
+    all.dedup();
+    Ok(all)
 }

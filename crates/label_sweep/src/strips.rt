@@ -17,7 +17,8 @@ ghost use Rattle.label_sweep.specs.Column.{IsStrip};
 ghost use Rattle.label_sweep.specs.Labels.{AreDirectedFrom};
 ghost use Rattle.label_sweep.specs.Status.{AreVertices};
 
-use crate::directed::{directed_edges, in_order};
+use crate::directed::{ascend, directed_edges, in_order};
+use crate::overlap::merged;
 use crate::pass::sweep;
 use crate::vertices::is_left;
 use geom::{Counted, DirectedEdge, NoMemory, Op, Pt};
@@ -148,19 +149,21 @@ fn halves_edges<R: Threads + Sync, A: Allocator + Copy + Send + Sync>(
             ensures { IfOk result (λ edges. AreDirectedFrom op counted.entry.now (slice_range vertices.entry.now back.from back.to) edges.items) }
         { strip_edges_by_hands(rt, hands - hands / 2, alloc, counted, vertices, back, op) },
     );
-    joined(edges?, rest?)
+    joined(alloc, edges?, rest?)
 }
 
 /// The directed edges of two lists in order, each once.
-fn joined<A: Allocator>(
-    mut edges: Vec<DirectedEdge, A>,
+fn joined<A: Allocator + Copy>(
+    alloc: A,
+    edges: Vec<DirectedEdge, A>,
     rest: Vec<DirectedEdge, A>,
 ) -> Result<Vec<DirectedEdge, A>, NoMemory>
     ensures ascending { IfOk result (λ all. AllPairs IsDirectedBefore all.items) }
     ensures same { IfOk result (λ all. (d : DirectedEdge) → Contains all.items d ↔ Contains (edges.items ++ rest.items) d) }
 {
-    edges.extend_from_slice(&rest)?;
-    edges.sort()?;
-    edges.dedup();
-    Ok(edges)
+    let all = merged(alloc, edges, rest)?;
+    if ascend(&all) {
+        return Ok(all);
+    }
+    Ok(in_order(all))
 }

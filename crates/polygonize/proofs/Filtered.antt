@@ -10,8 +10,8 @@ pub record KeptSoFar (at : ℕ → ℕ) (Fit Wanted : ℕ → Type 0) (n : ℕ) 
   pub wanted : (m : ℕ) → m < n → Wanted (at m) → Contains found (at m)
 
 module _ (at : ℕ → ℕ) (Fit Wanted : ℕ → Type 0) where
-  pub none_kept : KeptSoFar at Fit Wanted 0 []
-  none_kept = record { fit = λ k d h. absurd (omega arith); wanted = λ m h. absurd (omega arith) }
+  pub none_wanted : (n : ℕ) → ((m : ℕ) → m < n → ¬ (Wanted (at m))) → KeptSoFar at Fit Wanted n []
+  none_wanted n f = record { fit = λ k d h. absurd (omega arith); wanted = λ m h w. absurd (f m h w) }
 
   pub one_kept : (n x : ℕ) (found now : List ℕ) → x ≡ at n → Fit x → now ≡ found ++ x ∷ [] → KeptSoFar at Fit Wanted n found → KeptSoFar at Fit Wanted (n + 1) now
   one_kept n x found now e f is s = let P : List ℕ → Type 0 = KeptSoFar at Fit Wanted (n + 1) in subst P (sym is) (record {

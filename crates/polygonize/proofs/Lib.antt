@@ -13,3 +13,4 @@ pub mod Least
 pub mod Filtered
 pub mod Sorted
 pub mod Holes
+pub mod Told

@@ -4,5 +4,6 @@ pub mod PlacedRings
 pub mod Openings
 pub mod Entries
 pub mod Grouping
+pub mod Telling
 pub mod Assembled
 pub mod Ordered

@@ -1,5 +1,5 @@
 -- The nearest edge below a point.
-use Rattle.std.specs.Prelude.{◌≡◌, ◌⊎◌, ◌^◌, ◌<◌, ◌+ℤ◌, ◌*ℤ◌, ◌≤ℤ◌, ◌<ℤ◌, ℕ, ℤ, pos, true, List, [], All, Contains, Option, Some, None, IfSome, MatchOption, length, slice_index_or}
+use Rattle.std.specs.Prelude.{◌≡◌, ◌⊎◌, ◌^◌, ◌<◌, ◌≤◌, ◌+ℤ◌, ◌*ℤ◌, ◌≤ℤ◌, ◌<ℤ◌, ℕ, ℤ, pos, true, List, [], All, Contains, Option, Some, None, IfSome, MatchOption, length, slice_index_or}
 use Rattle.geom.specs.declared.directed.DirectedEdge.{DirectedEdge}
 use Rattle.geom.specs.declared.edge.Edge.{Edge}
 use Rattle.geom.specs.declared.point.Pt.{Pt}
@@ -99,6 +99,6 @@ pub record AreFoundBelow (ds : List DirectedEdge) (cycles : List (List ℕ)) (be
   pub same_length : length best ≡ length cycles
   pub each : (r : ℕ) → r < length cycles → IsHole (ring_of ds (slice_index_or cycles r [])) → IsFoundBelow ds (edge_at ds (slice_index_or (slice_index_or cycles r []) 0 0)).from (best_at best r)
 
--- the cycles whose rings are holes are among the found ones
-abbrev pub HasHoles : List DirectedEdge → List (List ℕ) → List ℕ → Type 0
-HasHoles ds cycles found = (r : ℕ) → r < length cycles → IsHole (ring_of ds (slice_index_or cycles r [])) → Contains found r
+-- of the cycles from one number to before another one, those whose rings are holes are among the found ones
+abbrev pub HasHoles : List DirectedEdge → List (List ℕ) → ℕ → ℕ → List ℕ → Type 0
+HasHoles ds cycles from past found = (r : ℕ) → from ≤ r → r < past → IsHole (ring_of ds (slice_index_or cycles r [])) → Contains found r

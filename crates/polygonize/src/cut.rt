@@ -1,6 +1,10 @@
 //! A ring of vertex numbers, cut at the vertices that it visits twice.
+//!
+//! 1. The vertices are put on a stack, and it is kept where each stands on it. Nothing is cleared: a vertex stands where its place says
+//!    if it is found there (`place_on`).
+//! 2. Where one comes that stands on the stack, it and all above it are a piece.
 
-ghost use Rattle.std.specs.Prelude.{◌≡◌, ◌<◌, ◌≤◌, [], All, IfOk, OnOk, length, take, drop, vec_len};
+ghost use Rattle.std.specs.Prelude.{◌≡◌, ◌≢◌, ◌<◌, ℕ, None, All, IfOk, IfSome, length, slice_index};
 ghost use Rattle.geom.specs.Rings.{IsCut};
 ghost use Rattle.polygonize.specs.Stack.{AreStacked};
 
@@ -8,58 +12,41 @@ use crate::cycle::Cycle;
 use geom::NoMemory;
 use std::alloc::Allocator;
 
-/// Forgets the places of what stands at `at` and above.
-fn forget(stack: &[usize], place: &mut [Option<usize>], at: usize)
-    requires stacked { AreStacked stack.now place.old }
-    requires inside { at ≤ length stack.now }
-    ensures { AreStacked (take at stack.now) place.new }
+/// Where a vertex stands on the stack, if it does.
+fn place_on(stack: &[usize], place: &[usize], vertex: usize) -> Option<usize>
+    requires stacked { AreStacked stack.now place.now }
+    requires inside { vertex < length place.now }
+    ensures some { IfSome result (λ at. (at < length stack.now) × (slice_index stack.now at ≡ vertex)) }
+    ensures none { result ≡ None → (k : ℕ) → k < length stack.now → slice_index stack.now k ≢ vertex }
 {
-    for k in at..stack.len() {
-        place[stack[k]] = None;
+    let at = place[vertex];
+    if at < stack.len() && stack[at] == vertex {
+        Some(at)
+    } else {
+        None
     }
 }
 
-/// Takes what stands at `at` and above off the stack.
-fn take_piece<A: Allocator + Copy>(
-    alloc: A,
-    stack: &mut Vec<usize, A>,
-    place: &mut [Option<usize>],
-    at: usize,
-) -> Result<Vec<usize, A>, NoMemory>
-    requires stacked { AreStacked stack.old.items place.old }
-    requires inside { at ≤ vec_len stack.old }
-    ensures piece { IfOk result (λ piece. piece.items ≡ drop at stack.old.items) }
-    ensures left { OnOk result (stack.new.items ≡ take at stack.old.items) }
-    ensures stacked { OnOk result (AreStacked stack.new.items place.new) }
-{
-    let piece = Vec::from_slice(alloc, &stack[at..])?;
-    forget(stack, place, at);
-    stack.truncate(at);
-    Ok(piece)
-}
-
-/// The pieces. `place` has a place for each number, all of them empty, and is left so.
+/// The pieces. `place` has a place for each number.
 pub fn cut<A: Allocator + Copy>(
     alloc: A,
     ring: &[usize],
-    place: &mut [Option<usize>],
+    place: &mut [usize],
 ) -> Result<Vec<Cycle<A>, A>, NoMemory>
-    requires inside { All (λ v. v < length place.old) ring.now }
-    requires clear { AreStacked [] place.old }
-    ensures pieces { IfOk result (λ pieces. IsCut ring.now pieces.items) }
-    ensures clear { OnOk result (AreStacked [] place.new) }
+    requires { All (λ v. v < length place.old) ring.now }
+    ensures { IfOk result (λ pieces. IsCut ring.now pieces.items) }
 {
     let mut pieces = Vec::new(alloc);
     let mut stack = Vec::with_capacity(alloc, ring.len())?;
     for v in ring {
-        if let Some(at) = place[*v] {
-            let piece = take_piece(alloc, &mut stack, place, at)?;
+        if let Some(at) = place_on(&stack, place, *v) {
+            let piece = Vec::from_slice(alloc, &stack[at..])?;
+            stack.truncate(at);
             pieces.push(Cycle::new(piece))?;
         }
-        place[*v] = Some(stack.len());
+        place[*v] = stack.len();
         stack.push(*v)?;
     }
-    forget(&stack, place, 0);
     pieces.push(Cycle::new(stack))?;
     Ok(pieces)
 }

@@ -14,10 +14,13 @@ mod nearest;
 mod number;
 mod piece;
 mod polygon;
+mod result_rings;
 mod ring;
 mod shared_gaps;
+mod shared_holes;
 mod stripes;
 mod successor;
 mod written;
 
-pub use polygon::{polygons, polygons_by_hands};
+pub use polygon::polygons;
+pub use result_rings::{ResultRings, rings_by_hands};

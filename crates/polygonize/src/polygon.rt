@@ -1,7 +1,6 @@
 //! The polygons of a result.
 
 ghost use Rattle.std.specs.Prelude.{◌≡◌, ◌+◌, ◌<◌, ◌≤◌, true, All, IfOk, drop, length, map, take, vec_len};
-ghost use Rattle.std.specs.Thread.{IsSend, IsSync};
 ghost use Rattle.geom.specs.Canonical.{ArePolygons, HaveEachEdge, written_rings};
 ghost use Rattle.geom.specs.Holes.{HasGroundedRings};
 ghost use Rattle.geom.specs.Limit.{AreInLimit};
@@ -9,39 +8,19 @@ ghost use Rattle.geom.specs.ListOrder.{IsLeastRotation};
 ghost use Rattle.geom.specs.NodedEdges.{AreNodedEdges};
 ghost use Rattle.geom.specs.Rings.{Closes};
 ghost use Rattle.polygonize.specs.Grouped.{AreGrouped, BeginsWithShell};
-ghost use Rattle.polygonize.specs.Cycle.{IsOneToOne};
-ghost use Rattle.polygonize.specs.Next.{AreNext, ring_of};
-ghost use Rattle.polygonize.specs.Placed.{AreAllWritten, AreTables, points, rings_in, stands_as_hole};
+ghost use Rattle.polygonize.specs.Next.{ring_of};
+ghost use Rattle.polygonize.specs.Placed.{AreAllWritten, points, rings_in, stands_as_hole};
 ghost use Rattle.polygonize.specs.Written.{AreSimple, HaveEdges, IsCanonical, IsSound};
 
 use crate::number::points_of;
-use crate::successor::{successors, successors_by_hands};
-use crate::written::{Tables, WrittenRing, tables_of, written_rings, written_rings_by_hands};
+use crate::successor::successors;
+use crate::written::{WrittenRing, written_rings};
 use face_label::Directed;
 use geom::{DirectedEdge, NoMemory, Polygon, SimpleRing};
-use hands::join;
 use std::alloc::Allocator;
-use std::thread::Threads;
-
-/// Fewer edges are not worth a thread.
-const LEAST: usize = 8_192;
-
-/// A hand for either of two calls.
-const BOTH: usize = 2;
-
-/// How many hands link so many edges: one at least.
-fn hands_for(edges: usize, hands: u32) -> usize
-    ensures { 0 < result }
-{
-    if edges < LEAST {
-        1
-    } else {
-        (hands as usize).max(1)
-    }
-}
 
 /// A ring of vertices by its points.
-fn simple_ring<A: Allocator + Copy>(
+pub fn simple_ring<A: Allocator + Copy>(
     alloc: A,
     edges: &[DirectedEdge],
     ring: &[usize],
@@ -96,33 +75,6 @@ fn grouped<A: Allocator + Copy>(
     Ok(polygons)
 }
 
-/// The next edges, by so many hands, and beside them the tables that the rings are written by.
-fn next_and_tables<R: Threads + Sync, A: Allocator + Copy + Send + Sync>(
-    rt: &R,
-    hands: usize,
-    alloc: A,
-    edges: &[DirectedEdge],
-) -> (Result<Vec<usize, A>, NoMemory>, Result<Tables<A>, NoMemory>)
-    requires closes { Closes edges.now }
-    requires edges_in { All (λ d. AreInLimit d.from d.to) edges.now }
-    ensures next { IfOk result.0 (λ next. AreNext edges.now next.items) }
-    ensures one_to_one { IfOk result.0 (λ next. IsOneToOne next.items) }
-    ensures tables { IfOk result.1 (λ t. AreTables edges.now t) }
-{
-    join(
-        rt,
-        BOTH,
-        || -> Result<Vec<usize, A>, NoMemory>
-            requires { IsSync R.row × IsSend A.row × IsSync A.row × Closes edges.now × All (λ d. AreInLimit d.from d.to) edges.now }
-            ensures { IfOk result (λ next. AreNext edges.entry.now next.items × IsOneToOne next.items) }
-        { successors_by_hands(rt, hands, alloc, edges) },
-        || -> Result<Tables<A>, NoMemory>
-            requires { IsSync A.row × Closes edges.now }
-            ensures { IfOk result (λ t. AreTables edges.entry.now t) }
-        { tables_of(alloc, edges) },
-    )
-}
-
 /// The polygons of directed edges by the rings as they are written, in canonical order.
 fn polygons_of<A: Allocator + Copy>(
     alloc: A,
@@ -159,29 +111,5 @@ pub fn polygons<A: Allocator + Copy>(
     let edges = directed.edges();
     let next = successors(alloc, edges)?;
     let written = written_rings(alloc, edges, &next)?;
-    polygons_of(alloc, edges, written)
-}
-
-/// The same, where so many hands look for the next edges, and for the edges below holes.
-pub fn polygons_by_hands<R: Threads + Sync, A: Allocator + Copy + Send + Sync>(
-    rt: &R,
-    hands: u32,
-    alloc: A,
-    directed: &Directed<A>,
-) -> Result<Vec<Polygon<A>, A>, NoMemory>
-    requires closes { Closes directed.now }
-    requires in_limit { All (λ d. AreInLimit d.from d.to) directed.now }
-    ensures polygons { AreNodedEdges directed.now → HasGroundedRings directed.now → IfOk result (λ found. ArePolygons directed.now found.items) }
-    ensures each_edge { IfOk result (λ found. HaveEachEdge directed.now found.items) }
-    ensures simple { IfOk result (λ found. AreSimple (written_rings found.items)) }
-    ensures least { IfOk result (λ found. All (λ ring. IsLeastRotation ring ring) (written_rings found.items)) }
-{
-    let edges = directed.edges();
-    let hands = hands_for(edges.len(), hands);
-    if hands < 2 {
-        return polygons(alloc, directed);
-    }
-    let (next, tables) = next_and_tables(rt, hands, alloc, edges);
-    let written = written_rings_by_hands(rt, hands, alloc, edges, &next?, tables?)?;
     polygons_of(alloc, edges, written)
 }

@@ -14,8 +14,8 @@ use hands::join;
 use std::alloc::Allocator;
 use std::thread::Threads;
 
-/// The vertices that are worth a hand of their own.
-const LEAST: usize = 1_024;
+/// The vertices that are worth a hand of their own: each hand looks at all edges, and then at those of ever smaller parts.
+const LEAST: usize = 8;
 
 /// As `gaps_below`, by so many hands.
 #[cycle(halves)]

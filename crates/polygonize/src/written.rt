@@ -12,7 +12,6 @@ ghost use Rattle.polygonize.specs.Cycle.{IsOneToOne};
 ghost use Rattle.polygonize.specs.Next.{AreNext, edge_at, ring_of, rings_of};
 ghost use Rattle.polygonize.specs.Owning.{ArePiecesWritten, IsOwnerFound, IsRingPlaced, KeepsShell};
 ghost use Rattle.polygonize.specs.Placed.{AreAllWritten, AreTables, AreWritten, opening_of, rings_in};
-ghost use Rattle.polygonize.specs.Stack.{AreStacked};
 ghost use Rattle.polygonize.specs.Written.{AreAdded, ArePlaces, HasItsEdges, HaveEdges, IsCanonical, IsRingWritten, IsSound};
 
 use crate::below::Gap;
@@ -24,6 +23,7 @@ use crate::number::{first_vertices, start_numbers, vertices_of};
 use crate::piece::{first_piece, turned};
 use crate::ring::ring_places;
 use crate::shared_gaps::gaps_below_by_hands;
+use crate::shared_holes::holes_by_hands;
 use geom::{DirectedEdge, NoMemory};
 use std::alloc::Allocator;
 use std::marker::Model;
@@ -86,12 +86,12 @@ impl<A: Allocator> WrittenRing<A> {
     }
 }
 
-/// What rings are written by: for each edge the number of the vertex where it starts, and empty places for what is kept of the
-/// vertices of a ring, and of the edges of all rings.
+/// What rings are written by: for each edge the number of the vertex where it starts, and places for what is kept of the vertices of
+/// a ring, and of the edges of all rings.
 #[derive(Drop)]
 pub struct Tables<A: Allocator> {
     numbers: Vec<usize, A>,
-    places: Vec<Option<usize>, A>,
+    places: Vec<usize, A>,
     shell_of: Vec<Option<Opening>, A>,
 }
 
@@ -104,7 +104,7 @@ pub fn tables_of<A: Allocator + Copy>(
     ensures { IfOk result (λ t. AreTables edges.now t) }
 {
     let numbers = start_numbers(alloc, edges)?;
-    let places = vec![in alloc; None; edges.len()]?;
+    let places = vec![in alloc; 0; edges.len()]?;
     let shell_of = vec![in alloc; None; edges.len()]?;
     Ok(Tables {
         numbers,
@@ -203,14 +203,14 @@ fn keep_shell(shell_of: &mut [Option<Opening>], cycle: &[usize], shell: Opening)
     }
 }
 
-/// Writes the pieces of the ring of these edges. `places` is empty, and is left so.
+/// Writes the pieces of the ring of these edges.
 fn write_ring<A: Allocator + Copy>(
     alloc: A,
     edges: &[DirectedEdge],
     numbers: &[usize],
     cycle: &[usize],
     below: Option<Gap>,
-    places: &mut [Option<usize>],
+    places: &mut [usize],
     shell_of: &mut [Option<Opening>],
     written: &mut Vec<WrittenRing<A>, A>,
 ) -> Result<(), NoMemory>
@@ -220,11 +220,9 @@ fn write_ring<A: Allocator + Copy>(
     requires cycle { ArePlaces edges.now cycle.now }
     requires places { length places.old ≡ length edges.now }
     requires shells { length shell_of.old ≡ length edges.now }
-    requires clear { AreStacked [] places.old }
     requires below { IsHole (ring_of edges.now cycle.now) → IsFoundBelow edges.now (edge_at edges.now (slice_index_or cycle.now 0 0)).from below }
     ensures written { OnOk result (IsRingWritten edges.now cycle.now (rings_in written.old.items) (rings_in written.new.items)) }
     ensures placed { OnOk result (IsRingPlaced edges.now cycle.now shell_of.old shell_of.new written.old.items written.new.items) }
-    ensures clear { OnOk result (AreStacked [] places.new) }
 {
     let ring = vertices_of(alloc, numbers, cycle)?;
     let owner = owner_of(edges, &ring, below, shell_of);
@@ -241,7 +239,7 @@ fn write_cycles<A: Allocator + Copy>(
     numbers: &[usize],
     cycles: &[Cycle<A>],
     below: &[Option<Gap>],
-    places: &mut [Option<usize>],
+    places: &mut [usize],
     shell_of: &mut [Option<Opening>],
 ) -> Result<Vec<WrittenRing<A>, A>, NoMemory>
     requires closes { Closes edges.now }
@@ -251,7 +249,6 @@ fn write_cycles<A: Allocator + Copy>(
     requires rings { AreRings edges.now (rings_of edges.now cycles.now) }
     requires places { length places.old ≡ length edges.now }
     requires shells { length shell_of.old ≡ length edges.now }
-    requires clear { AreStacked [] places.old }
     requires found { AreFoundBelow edges.now cycles.now below.now }
     requires its_edges { All (HasItsEdges edges.now) cycles.now }
     ensures written { let rings = rings_of edges.now cycles.now in AreNodedEdges edges.now → AreGrounded edges.now rings → IfOk result (λ written. AreWritten edges.now rings written.items) }
@@ -274,22 +271,26 @@ fn write_cycles<A: Allocator + Copy>(
     Ok(written)
 }
 
-/// The numbers of the cycles whose rings are holes.
-fn holes_of<A: Allocator + Copy>(
+/// The numbers of those cycles from one number to before another one whose rings are holes.
+pub fn holes_of<A: Allocator + Copy>(
     alloc: A,
     edges: &[DirectedEdge],
     numbers: &[usize],
     cycles: &[Cycle<A>],
+    from: usize,
+    past: usize,
 ) -> Result<Vec<usize, A>, NoMemory>
     requires directed { AreDirected edges.now }
     requires edges_in { All (λ d. AreInLimit d.from d.to) edges.now }
     requires numbers { AreNumbers edges.now numbers.now }
     requires cycles { All (ArePlaces edges.now) cycles.now }
+    requires order { from ≤ past }
+    requires inside { past ≤ length cycles.now }
     ensures inside { IfOk result (λ holes. All (λ r. r < length cycles.now) holes.items) }
-    ensures complete { IfOk result (λ holes. HasHoles edges.now cycles.now holes.items) }
+    ensures complete { IfOk result (λ holes. HasHoles edges.now cycles.now from past holes.items) }
 {
     let mut holes = Vec::new(alloc);
-    for number in 0..cycles.len() {
+    for number in from..past {
         let ring = vertices_of(alloc, numbers, cycles[number].numbers())?;
         if is_hole(edges, &ring) {
             holes.push(number)?;
@@ -311,7 +312,7 @@ fn edges_below<A: Allocator + Copy>(
     requires cycles { All (ArePlaces edges.now) cycles.now }
     ensures { IfOk result (λ below. AreFoundBelow edges.now cycles.now below.items) }
 {
-    let holes = holes_of(alloc, edges, numbers, cycles)?;
+    let holes = holes_of(alloc, edges, numbers, cycles, 0, cycles.len())?;
     let vertices = first_vertices(alloc, edges, cycles)?;
     gaps_below(alloc, edges, &vertices, &holes)
 }
@@ -331,7 +332,7 @@ fn edges_below_by_hands<R: Threads + Sync, A: Allocator + Copy + Send + Sync>(
     requires cycles { All (ArePlaces edges.now) cycles.now }
     ensures { IfOk result (λ below. AreFoundBelow edges.now cycles.now below.items) }
 {
-    let holes = holes_of(alloc, edges, numbers, cycles)?;
+    let holes = holes_by_hands(rt, hands, alloc, edges, numbers, cycles, 0, cycles.len())?;
     let vertices = first_vertices(alloc, edges, cycles)?;
     gaps_below_by_hands(rt, hands, alloc, edges, &vertices, &holes)
 }

@@ -1,6 +1,6 @@
 -- The canonical text of polygons (OGC 06-103r4; the spelling is own): upper case, one space behind the keyword, `, `
 -- between, the shell before the holes, each ring's first point again at its end, plain decimals, LF at the end.
-use Rattle.std.specs.Prelude.{ℕ, List, [], ◌∷◌, ◌++◌, codes}
+use Rattle.std.specs.Prelude.{ℕ, Bool, true, false, List, [], ◌∷◌, ◌++◌, codes}
 use Rattle.std.specs.List.{flat_map}
 use Rattle.geom.specs.Canonical.{Shape}
 use Rattle.geom.specs.Words.{pt_words}
@@ -32,3 +32,20 @@ polygon_text p = listed ring_text p.shell p.holes
 abbrev pub multi_text : List Shape → List ℕ
 multi_text [] = codes "MULTIPOLYGON EMPTY" ++ 10 ∷ []
 multi_text (p ∷ ps) = codes "MULTIPOLYGON " ++ (listed polygon_text p ps ++ 10 ∷ [])
+
+-- the first ring of a line, and what stands before it
+abbrev pub first_ring : List Pt → List ℕ
+first_ring ring = codes "MULTIPOLYGON ((" ++ ring_text ring
+
+-- what stands between a ring and the next one: a hole is of the same polygon, a shell begins another one
+abbrev pub between : Bool → List ℕ
+between true = codes ", "
+between false = codes "), ("
+
+-- a ring that comes behind another one, and what stands between them
+abbrev pub next_ring : Bool → List Pt → List ℕ
+next_ring is_hole ring = between is_hole ++ ring_text ring
+
+-- what ends the line behind its last ring
+abbrev pub line_end : List ℕ
+line_end = codes "))" ++ 10 ∷ []

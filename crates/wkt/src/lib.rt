@@ -15,4 +15,4 @@ pub use check::{LENGTH_LIMIT, check_layer};
 pub use laws::{one_reading, one_refusal};
 pub use outline::Outline;
 pub use read::{OutlinedLayer, read_layer, read_outlined};
-pub use write::write_multi;
+pub use write::{push_first_ring, push_line_end, push_next_ring, write_multi};

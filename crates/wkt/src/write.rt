@@ -5,7 +5,7 @@ ghost use Rattle.geom.specs.Limit.{InLimit, IsWithin};
 ghost use Rattle.std.specs.Fmt.{signed_decimal};
 ghost use Rattle.geom.specs.Canonical.{written_rings};
 ghost use Rattle.geom.specs.Words.{pt_words};
-ghost use Rattle.wkt.specs.Canonical.{closed, more_of, multi_text, polygon_text, ring_text};
+ghost use Rattle.wkt.specs.Canonical.{closed, first_ring, line_end, more_of, multi_text, next_ring, polygon_text, ring_text};
 ghost use Rattle.wkt.specs.Readable.{IsReadable, IsShort, number_limit};
 ghost use Rattle.wkt.specs.Refusals.{IsLayerOf, StandsFor, length_limit};
 
@@ -106,6 +106,42 @@ fn push_more_polygons<A: Allocator, B: Allocator>(
         text.extend_from_slice(b", ")?;
         push_polygon(text, polygon)?;
     }
+    Ok(())
+}
+
+/// Adds the first ring of a line, with the words before it.
+pub fn push_first_ring<A: Allocator, B: Allocator>(
+    text: &mut Vec<u8, A>,
+    ring: &SimpleRing<B>,
+) -> Result<(), NoMemory>
+    ensures text { OnOk result (text.new.items ≡ text.old.items ++ first_ring ring.now) }
+    ensures readable { OnOk result (IsReadable ring.now) }
+{
+    text.extend_from_slice(b"MULTIPOLYGON ((")?;
+    push_ring(text, ring)?;
+    Ok(())
+}
+
+/// Adds a ring that comes behind another one of the line: a hole of the same polygon, or the next one's shell.
+pub fn push_next_ring<A: Allocator, B: Allocator>(
+    text: &mut Vec<u8, A>,
+    is_hole: bool,
+    ring: &SimpleRing<B>,
+) -> Result<(), NoMemory>
+    ensures text { OnOk result (text.new.items ≡ text.old.items ++ next_ring is_hole ring.now) }
+    ensures readable { OnOk result (IsReadable ring.now) }
+{
+    let between: &[u8] = if is_hole { b", " } else { b"), (" };
+    text.extend_from_slice(between)?;
+    push_ring(text, ring)?;
+    Ok(())
+}
+
+/// Ends a line behind its last ring.
+pub fn push_line_end<A: Allocator>(text: &mut Vec<u8, A>) -> Result<(), NoMemory>
+    ensures { OnOk result (text.new.items ≡ text.old.items ++ line_end) }
+{
+    text.extend_from_slice(b"))\n")?;
     Ok(())
 }
 

@@ -170,10 +170,10 @@ mapped_at start [] r h = absurd (omega arith)
 mapped_at start (v ∷ cycles) zero h = refl
 mapped_at start (v ∷ cycles) (suc r) h = mapped_at start cycles r (omega arith)
 
-pub below_all : (ds : List DirectedEdge) (cycles : List (List ℕ)) (vertices : List Pt) (holes : List ℕ) (best : List (Option Gap)) → vertices ≡ map (λ c. (edge_at ds (get_or c 0 0)).from) cycles → HasHoles ds cycles holes → AreGapsBelow ds vertices holes best → AreFoundBelow ds cycles best
+pub below_all : (ds : List DirectedEdge) (cycles : List (List ℕ)) (vertices : List Pt) (holes : List ℕ) (best : List (Option Gap)) → vertices ≡ map (λ c. (edge_at ds (get_or c 0 0)).from) cycles → HasHoles ds cycles 0 (length cycles) holes → AreGapsBelow ds vertices holes best → AreFoundBelow ds cycles best
 below_all ds cycles vertices holes best e complete found = record {
   same_length = found.same_length ∙ ap length e ∙ length-map cycles start;
-  each = λ r h q. subst (λ (t : Pt). IsFoundBelow ds t (best_at best r)) (vertex_is r h) (All-contains (λ r. IsFoundBelow ds (vertex_at vertices r) (best_at best r)) holes r found.each (complete r h q));
+  each = λ r h q. subst (λ (t : Pt). IsFoundBelow ds t (best_at best r)) (vertex_is r h) (All-contains (λ r. IsFoundBelow ds (vertex_at vertices r) (best_at best r)) holes r found.each (complete r (omega arith) h q));
 }
   where
     start : List ℕ → Pt

@@ -1,16 +1,15 @@
 -- What the loop of the cut keeps: the stack and the rest of the ring are cut as the ring is, after the pieces so far.
-use Rattle.std.proofs.Common.{◌≡◌, ℕ, suc, ◌+◌, ◌<◌, ◌≤◌, List, [], ◌∷◌, ◌++◌, length, get_or, take, drop, set, Option, Some, None, refl, sym, ◌∙◌, ap, subst, arith, append_assoc, add-one}
-use Rattle.std.proofs.lemmas.List.{get_or_default, length-take-le, get_or-take, take-append-drop, append-nil}
+use Rattle.std.proofs.Common.{◌≡◌, ℕ, suc, ◌+◌, ◌<◌, ◌≤◌, List, [], ◌∷◌, ◌++◌, length, get_or, take, drop, set, sym, ◌∙◌, ap, subst, arith, append_assoc, add-one}
+use Rattle.std.proofs.lemmas.List.{get_or_default, take-append-drop, append-nil}
 use Rattle.std.proofs.Math.Seq.{drop-cons}
 use Rattle.std.proofs.Math.ListN.{drop_of_length-le}
 use Rattle.geom.specs.Rings.{IsSimple, IsCut}
 use Rattle.geom.specs.Rings.IsCut.{whole, taken}
-use Rattle.std.proofs.lemmas.Option.{same_Some}
 use Rattle.polygonize.specs.Stack.{AreStacked}
-use Rattle.polygonize.proofs.RingPieces.Stacks.{stack_push}
+use Rattle.polygonize.proofs.RingPieces.Stacks.{IsFree, none_stacked, stack_push, stack_take, taken_off}
 
-pub simple_stack : (stack : List ℕ) (place : List (Option ℕ)) → AreStacked stack place → IsSimple stack
-simple_stack stack place s i j d h k e = below (same_Some i j (sym (s.found i first) ∙ ap (λ t. get_or place t None) (get_or_default stack i 0 d first ∙ e ∙ get_or_default stack j d 0 k) ∙ s.found j k))
+pub simple_stack : (stack place : List ℕ) → AreStacked stack place → IsSimple stack
+simple_stack stack place s i j d h k e = below (sym (s.found i first) ∙ ap (λ t. get_or place t 0) (get_or_default stack i 0 d first ∙ e ∙ get_or_default stack j d 0 k) ∙ s.found j k)
   where
     first : i < length stack
     first = omega arith
@@ -18,16 +17,16 @@ simple_stack stack place s i j d h k e = below (same_Some i j (sym (s.found i fi
     below : i ≡ j → ⊥
     below q = omega arith
 
-pub record Cutting (ring : List ℕ) (i : ℕ) (stack : List ℕ) (place : List (Option ℕ)) (pieces : List (List ℕ)) : Type 0 where
+pub record Cutting (ring : List ℕ) (i : ℕ) (stack place : List ℕ) (pieces : List (List ℕ)) : Type 0 where
   pub stacked : AreStacked stack place
   pub goes : (qs : List (List ℕ)) → IsCut (stack ++ drop i ring) qs → IsCut ring (pieces ++ qs)
 
-pub cutting_none : (ring : List ℕ) (place : List (Option ℕ)) → AreStacked [] place → Cutting ring 0 [] place []
-cutting_none ring place s = record { stacked = s; goes = λ qs c. c }
+pub cutting_none : (ring place : List ℕ) → Cutting ring 0 [] place []
+cutting_none ring place = record { stacked = none_stacked place; goes = λ qs c. c }
 
 -- a vertex that isn't on the stack
-pub cutting_push : (ring : List ℕ) (i : ℕ) (stack : List ℕ) (place : List (Option ℕ)) (pieces : List (List ℕ)) (v : ℕ) → i < length ring → v ≡ get_or ring i v → v < length place → get_or place v None ≡ None
-    → Cutting ring i stack place pieces → Cutting ring (i + 1) (stack ++ v ∷ []) (set place v (Some (length stack))) pieces
+pub cutting_push : (ring : List ℕ) (i : ℕ) (stack place : List ℕ) (pieces : List (List ℕ)) (v : ℕ) → i < length ring → v ≡ get_or ring i v → v < length place → IsFree stack v
+    → Cutting ring i stack place pieces → Cutting ring (i + 1) (stack ++ v ∷ []) (set place v (length stack)) pieces
 cutting_push ring i stack place pieces v h is inside free c = record {
   stacked = stack_push stack place v inside free c.stacked;
   goes = λ qs d. c.goes qs (let P : List ℕ → Type 0 = λ t. IsCut t qs in subst P same d);
@@ -40,16 +39,13 @@ cutting_push ring i stack place pieces v h is inside free c = record {
     same = rw add-one (append_assoc stack (v ∷ []) (drop (suc i) ring) ∙ ap (λ t. stack ++ t) (sym here))
 
 -- a vertex that stands on the stack at k
-pub cutting_take : (ring : List ℕ) (i : ℕ) (stack : List ℕ) (place new : List (Option ℕ)) (pieces : List (List ℕ)) (v k : ℕ) → i < length ring → v ≡ get_or ring i v → get_or place v None ≡ Some k → AreStacked (take k stack) new
-    → Cutting ring i stack place pieces → Cutting ring i (take k stack) new (pieces ++ drop k stack ∷ [])
-cutting_take ring i stack place new pieces v k h is at s c = record {
-  stacked = s;
+pub cutting_take : (ring : List ℕ) (i : ℕ) (stack place : List ℕ) (pieces : List (List ℕ)) (v k : ℕ) → i < length ring → v ≡ get_or ring i v → (k < length stack) × (get_or stack k 0 ≡ v)
+    → Cutting ring i stack place pieces → Cutting ring i (take k stack) place (pieces ++ drop k stack ∷ [])
+cutting_take ring i stack place pieces v k h is there c = record {
+  stacked = stack_take stack place k (let l : k < length stack = there.0 in omega (arith, l)) c.stacked;
   goes = λ qs d. let P : List (List ℕ) → Type 0 = IsCut ring in subst P (sym (append_assoc pieces (drop k stack ∷ []) qs)) (c.goes (drop k stack ∷ qs) (cut_here qs d));
 }
   where
-    there : (k < length stack) × (get_or stack k 0 ≡ v)
-    there = c.stacked.only v k at
-
     here : drop i ring ≡ v ∷ drop (suc i) ring
     here = drop-cons ring i v h ∙ ap (λ t. t ∷ drop (suc i) ring) (sym is)
 
@@ -65,45 +61,18 @@ cutting_take ring i stack place new pieces v k h is at s c = record {
         (let Q : List ℕ → Type 0 = IsSimple in subst Q parts (simple_stack stack place c.stacked))
         (let R : List ℕ → Type 0 = λ t. IsCut (take k stack ++ t) qs in subst R here d))
 
--- it is then on the stack no more
-pub taken_off : (stack : List ℕ) (place new : List (Option ℕ)) (v k : ℕ) → AreStacked stack place → get_or place v None ≡ Some k → AreStacked (take k stack) new → get_or new v None ≡ None
-taken_off stack place new v k s at t = none (get_or new v None) (λ m e. gone m (t.only v m e))
-  where
-    none : (o : Option ℕ) → ((m : ℕ) → o ≡ Some m → ⊥) → o ≡ None
-    none None f = refl
-    none (Some m) f = absurd (f m refl)
-
-    there : (k < length stack) × (get_or stack k 0 ≡ v)
-    there = s.only v k at
-
-    in_stack : k < length stack
-    in_stack = there.0
-
-    len : length (take k stack) ≡ k
-    len = length-take-le k stack (omega (arith, in_stack))
-
-    apart : (m : ℕ) → m < k → m ≡ k → ⊥
-    apart m h e = omega arith
-
-    gone : (m : ℕ) → (m < length (take k stack)) × (get_or (take k stack) m 0 ≡ v) → ⊥
-    gone m p = let l : m < k = omega (arith, len, p.0) in let b : m < length stack = omega (arith, l, in_stack) in
-        apart m l (same_Some m k (sym (s.found m b) ∙ ap (λ w. get_or place w None) (sym (get_or-take k stack m 0 l) ∙ p.1) ∙ at))
-
 -- the end
-pub cutting_all : (ring : List ℕ) (i : ℕ) (stack : List ℕ) (place : List (Option ℕ)) (pieces : List (List ℕ)) → length ring ≤ i → Cutting ring i stack place pieces → IsCut ring (pieces ++ stack ∷ [])
+pub cutting_all : (ring : List ℕ) (i : ℕ) (stack place : List ℕ) (pieces : List (List ℕ)) → length ring ≤ i → Cutting ring i stack place pieces → IsCut ring (pieces ++ stack ∷ [])
 cutting_all ring i stack place pieces h c = c.goes (stack ∷ []) (let P : List ℕ → Type 0 = λ t. IsCut t (stack ∷ []) in subst P (sym (ap (λ t. stack ++ t) (drop_of_length-le ring h) ∙ append-nil stack)) (whole (simple_stack stack place c.stacked)))
 
 -- ---- the two ways through the loop's body
-pub record Ready (ring : List ℕ) (i : ℕ) (stack : List ℕ) (place : List (Option ℕ)) (pieces : List (List ℕ)) (v : ℕ) : Type 0 where
+pub record Ready (ring : List ℕ) (i : ℕ) (stack place : List ℕ) (pieces : List (List ℕ)) (v : ℕ) : Type 0 where
   pub cutting : Cutting ring i stack place pieces
-  pub free : get_or place v None ≡ None
+  pub free : IsFree stack v
 
-pub after_take : (ring : List ℕ) (i : ℕ) (stack left : List ℕ) (place new : List (Option ℕ)) (pieces more : List (List ℕ)) (p : List ℕ) (v k : ℕ) → i < length ring → v ≡ get_or ring i v → get_or place v None ≡ Some k
-    → left ≡ take k stack → p ≡ drop k stack → more ≡ pieces ++ p ∷ [] → AreStacked left new → Cutting ring i stack place pieces → Ready ring i left new more v
-after_take ring i stack left place new pieces more p v k h is at l d m s c = record {
-  cutting = rw (l, m, d) (cutting_take ring i stack place new pieces v k h is at below c);
-  free = taken_off stack place new v k c.stacked at below;
+pub after_take : (ring : List ℕ) (i : ℕ) (stack left place : List ℕ) (pieces more : List (List ℕ)) (p : List ℕ) (v k : ℕ) → i < length ring → v ≡ get_or ring i v → (k < length stack) × (get_or stack k 0 ≡ v)
+    → left ≡ take k stack → p ≡ drop k stack → more ≡ pieces ++ p ∷ [] → Cutting ring i stack place pieces → Ready ring i left place more v
+after_take ring i stack left place pieces more p v k h is there l d m c = record {
+  cutting = rw (l, m, d) (cutting_take ring i stack place pieces v k h is there c);
+  free = rw l (taken_off stack place v k c.stacked there.0 there.1);
 }
-  where
-    below : AreStacked (take k stack) new
-    below = rw l at s

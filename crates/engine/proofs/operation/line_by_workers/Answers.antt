@@ -1,26 +1,37 @@
-use Rattle.std.proofs.Common.{◌∙◌, List, ap, map, subst}
-use Rattle.geom.specs.Canonical.{Shape, written_rings}
+use Rattle.std.proofs.Common.{◌∙◌, List}
+use Rattle.geom.specs.Directed.{AreResultEdges}
+use Rattle.geom.specs.declared.edge.Counted.{Counted}
+use Rattle.geom.specs.declared.op.Op.{Op}
+use Rattle.std.proofs.lemmas.Result.{IfOk-weaker}
+use Rattle.points_law.specs.Law.{AreLayers}
 use Rattle.points_law.proofs.RoundVertex.{grounded}
 use Rattle.points_law.proofs.TextParity.{text_has_parity}
-use Rattle.wkt.specs.Canonical.{closed, multi_text}
-use Rattle.wkt.specs.Refusals.{IsLayerOf}
+use Rattle.wkt.proofs.Written.{reads}
+use Rattle.engine.specs.LineParts.{IsLine}
+use Rattle.engine.specs.Results.{IsResultText}
+use Rattle.engine.proofs.LineParts.{is_line}
 use Rattle.engine.proofs.Results.{noded_edges}
-use Rattle.engine.proofs.Rounding.{if_both}
 use Rattle.engine.proofs.operation.line_by_workers.Goals as goal
 
 pub returns : goal.returns
-returns g c = if_both c.write_multi.result _ _ _
-    (λ text h back op counted layers are. record {
-      directed = c.args.directed.now;
+returns g c =
+    let directed = c.args.directed in
+    let rings = c.in_ok-rings.rings in
+    IfOk-weaker c.line_at_once.result (λ text. IsLine rings text) (λ text. (op : Op) (counted : List Counted) → AreLayers counted → AreResultEdges op counted directed → IsResultText op counted text)
+    (λ text l op counted layers are.
+    let told = c.in_ok-rings.ensures (noded_edges op counted directed layers.noded are) (λ cycles r. grounded op counted layers directed are cycles r) in
+    let line = is_line told.polygons rings text told.are_told l in
+    let back = reads told.polygons line.1 in
+    record {
+      directed = directed;
       bound = are;
-      polygons = c.in_ok-found.found.items;
-      are_polygons = c.in_ok-found.ensures.polygons (noded_edges op counted c.args.directed.now layers.noded are)
-          (λ rings r. grounded op counted layers c.args.directed.now are rings r);
-      each_edge = c.in_ok-found.ensures.each_edge;
-      simple = c.in_ok-found.ensures.simple;
-      least = c.in_ok-found.ensures.least;
-      points = text_has_parity op counted layers c.args.directed.now are c.in_ok-found.found.items c.in_ok-found.ensures.each_edge;
-      written = h ∙ ap multi_text c.as_slice.ensures.value;
-      reads = (back.0, back.1, subst (λ (ps : List Shape). IsLayerOf back.0 (map closed (written_rings ps))) c.as_slice.ensures.value back.2);
+      polygons = told.polygons;
+      are_polygons = told.are_polygons;
+      each_edge = told.each_edge;
+      simple = told.simple;
+      least = told.least;
+      points = text_has_parity op counted layers directed are told.polygons told.each_edge;
+      written = line.0;
+      reads = (back.0, line.0 ∙ back.1, back.2);
     })
-    c.write_multi.ensures.text c.write_multi.ensures.reads
+    c.line_at_once.ensures

@@ -1,6 +1,5 @@
-use Rattle.std.proofs.Common.{rules, ◌≡◌, ◌++◌, ◌∙◌, ℕ, List, ap, flat_map, sym, subst, take, drop, length}
+use Rattle.std.proofs.Common.{rules, ◌≡◌, ◌++◌, ◌∙◌, ap, flat_map, sym, take, length}
 use Rattle.std.proofs.lemmas.Grind.{flat_map-append}
-use Rattle.std.proofs.lemmas.List.{take-append-drop}
 use Rattle.engine.specs.Texts.{edge_line, edges_text_of}
 use Rattle.engine.proofs.text_parts.halved_text.Goals as goal
 

@@ -1,17 +1,18 @@
-use Rattle.std.proofs.Common.{◌++◌, List, ap, ◌∙◌, subst}
-use Rattle.std.specs.List.{Contains}
-use Rattle.std.specs.Prelude.{◌↔◌}
-use Rattle.geom.specs.declared.directed.DirectedEdge.{DirectedEdge}
-use Rattle.geom.proofs.Orders.{directed_ascending, directed_once}
+use Rattle.std.proofs.Common.{◌++◌}
+use Rattle.std.proofs.lemmas.List.Sorted.{Contains-permutation, IsPermutation-sym}
 use Rattle.label_sweep.proofs.strips.joined.Goals as goal
 
 pub returns-clause-ascending : goal.returns-clause-ascending
-returns-clause-ascending g c = directed_ascending c.dedup.new.self.items
-    (directed_once c.extend_from_slice.new.self.items c.sort.new.self.items c.dedup.new.self.items c.sort.ensures.permutation c.in_ok-sort.ensures.sorted c.dedup.ensures.filtered).ascending
+returns-clause-ascending g c = c.in_order.ensures.ascending
 
 pub returns-clause-same : goal.returns-clause-same
 returns-clause-same g c =
-    let es = c.args.edges.items in
-    let all = c.dedup.new.self.items in
-    subst (λ (ds : List DirectedEdge). (d : DirectedEdge) → Contains all d ↔ Contains ds d) (c.in_ok-extend_from_slice.ensures.items ∙ ap (λ (ds : List DirectedEdge). es ++ ds) c.deref.ensures.value)
-    (directed_once c.extend_from_slice.new.self.items c.sort.new.self.items all c.sort.ensures.permutation c.in_ok-sort.ensures.sorted c.dedup.ensures.filtered).same
+    let both = c.args.edges.items ++ c.args.rest.items in
+    let all = c.in_ok-all.all.items in
+    λ d. ((λ h. Contains-permutation all both d (IsPermutation-sym both all c.in_ok-all.ensures) ((c.in_order.ensures.same d).0 h)), (λ h. (c.in_order.ensures.same d).1 (Contains-permutation both all d c.in_ok-all.ensures h)))
+
+pub returns-then-ascend-clause-same : goal.returns-then-ascend-clause-same
+returns-then-ascend-clause-same g c =
+    let both = c.args.edges.items ++ c.args.rest.items in
+    let all = c.in_ok-all.all.items in
+    λ d. (Contains-permutation all both d (IsPermutation-sym both all c.in_ok-all.ensures), Contains-permutation both all d c.in_ok-all.ensures)

@@ -1,5 +1,4 @@
-use Rattle.std.proofs.Common.{arith, true, ◌+◌, ◌-◌, ◌≡◌, ◌∙◌, ℕ, subst, sym}
-use Rattle.polygonize.specs.Leaving.{IsNoneBefore}
+use Rattle.std.proofs.Common.{arith, true, ◌-◌, ◌≡◌, ◌∙◌, sym}
 use Rattle.polygonize.proofs.NextEdge.RoundVertex.{none_before}
 use Rattle.polygonize.proofs.stripes.is_none_before.Goals as goal
 

@@ -1,4 +1,4 @@
-use Rattle.std.proofs.Common.{arith, get_or, length, inl, inr, ◌<◌, ◌∙◌, sym}
+use Rattle.std.proofs.Common.{arith, get_or, ◌∙◌, sym}
 use Rattle.polygonize.proofs.NextEdge.RoundVertex.{lesser_sooner, past_at, past_more}
 use Rattle.polygonize.proofs.successor.first_past.Goals as goal
 

@@ -1,4 +1,3 @@
-use Rattle.std.proofs.Common.{◌≤◌}
 use Rattle.polygonize.specs.Leaving.{AreNextPlaces}
 use Rattle.polygonize.proofs.successor.next_places.Given as goal
 

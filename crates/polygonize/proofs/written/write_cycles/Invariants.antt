@@ -1,12 +1,10 @@
-use Rattle.std.proofs.Common.{[]}
 use Rattle.geom.specs.Holes.{AreGrounded}
 use Rattle.geom.specs.NodedEdges.{AreNodedEdges}
 use Rattle.polygonize.specs.Next.{rings_of}
 use Rattle.polygonize.proofs.WrittenRings.CyclesWritten.{AreFilled}
 use Rattle.polygonize.specs.Placed.{rings_in}
-use Rattle.polygonize.specs.Stack.{AreStacked}
 use Rattle.polygonize.proofs.WrittenRings.Writing.{Writing}
 use Rattle.polygonize.proofs.written.write_cycles.Given as goal
 
 abbrev pub invariant-loop-number : goal.invariant-loop-number
-invariant-loop-number g l = AreStacked [] l.places × Writing l.edges l.cycles l.number (rings_in l.written.items) × (AreNodedEdges l.edges → AreGrounded l.edges (rings_of l.edges l.cycles) → AreFilled l.edges l.cycles l.number l.shell_of l.written.items)
+invariant-loop-number g l = Writing l.edges l.cycles l.number (rings_in l.written.items) × (AreNodedEdges l.edges → AreGrounded l.edges (rings_of l.edges l.cycles) → AreFilled l.edges l.cycles l.number l.shell_of l.written.items)

@@ -1,0 +1,52 @@
+//! Two lists in order, put behind one another where they hardly overlap, as those of two parts of a map do.
+
+ghost use Rattle.std.specs.Prelude.{◌≡◌, ◌≤◌, ◌++◌, IfOk, length};
+ghost use Rattle.std.specs.List.Sorted.{IsPermutation};
+
+use geom::NoMemory;
+use std::alloc::Allocator;
+
+/// Where two lists in order overlap when the second stands behind the first: from where the second one's first item belongs in the
+/// first, and up to where the first one's last item belongs in the second.
+fn overlap_of<T: Ord>(list: &[T], more: &[T]) -> (usize, usize)
+    ensures from { result.0 ≤ length list.now }
+    ensures past { result.1 ≤ length more.now }
+{
+    let (Some(last), Some(first)) = (list.last(), more.first()) else {
+        return (0, 0);
+    };
+    let from = list.partition_point(|item| item < first);
+    let past = more.partition_point(|item| item <= last);
+    (from, past)
+}
+
+/// Sorts the items between two places.
+fn sort_between<T: Ord, A: Allocator>(
+    alloc: A,
+    list: &mut [T],
+    from: usize,
+    past: usize,
+) -> Result<(), NoMemory>
+    requires order { from ≤ past }
+    requires inside { past ≤ length list.old }
+    ensures permutation { IsPermutation list.old list.new }
+    ensures len { length list.new ≡ length list.old }
+{
+    list[from..past].sort(alloc)?;
+    Ok(())
+}
+
+/// The items of two lists in order, the second one's behind the first one's, but for those where they overlap, which are sorted.
+pub fn merged<T: Copy + Ord, A: Allocator + Copy>(
+    alloc: A,
+    mut list: Vec<T, A>,
+    more: Vec<T, A>,
+) -> Result<Vec<T, A>, NoMemory>
+    ensures { IfOk result (λ all. IsPermutation (list.items ++ more.items) all.items) }
+{
+    let (from, past) = overlap_of(&list, &more);
+    list.extend_from_slice(&more)?;
+    let end = list.len() - (more.len() - past);
+    sort_between(alloc, list.as_mut_slice(), from.min(end), end)?;
+    Ok(list)
+}

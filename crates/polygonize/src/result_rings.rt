@@ -1,0 +1,136 @@
+//! The rings of a result in the order of its text, by several hands, for a caller who doesn't need them together.
+//!
+//! 1. The edges are listed at the vertices that they leave, and beside them tables are made (`leaving_and_tables`).
+//! 2. All hands look for the next edges, and for the edges below holes (`rings_by_hands`).
+//! 3. The points of a ring are made when they are asked for (`ResultRings::ring`).
+
+ghost use Rattle.std.specs.Prelude.{◌≡◌, ◌<◌, ◌≤◌, Bool, List, All, IfOk, length, map};
+ghost use Rattle.std.specs.Thread.{IsSend, IsSync};
+ghost use Rattle.geom.specs.Holes.{HasGroundedRings};
+ghost use Rattle.geom.specs.Limit.{AreInLimit};
+ghost use Rattle.geom.specs.NodedEdges.{AreNodedEdges};
+ghost use Rattle.geom.specs.Rings.{Closes};
+ghost use Rattle.geom.specs.declared.point.Pt.{Pt};
+ghost use Rattle.polygonize.specs.Cycle.{IsOneToOne};
+ghost use Rattle.polygonize.specs.Leaving.{AreLeaving};
+ghost use Rattle.polygonize.specs.Next.{AreNext};
+ghost use Rattle.polygonize.specs.Placed.{AreTables};
+ghost use Rattle.polygonize.specs.Told.{AreToldRings, ring_told, told_at};
+ghost use Rattle.polygonize.specs.Written.{IsSound};
+
+use crate::polygon::simple_ring;
+use crate::successor::{LeavingEdges, leaving_edges, successors_by_hands};
+use crate::written::{Tables, WrittenRing, tables_of, written_rings_by_hands};
+use face_label::Directed;
+use geom::{DirectedEdge, NoMemory, SimpleRing};
+use hands::join;
+use std::alloc::Allocator;
+use std::marker::Model;
+use std::thread::Threads;
+
+/// A hand for either of two calls.
+const BOTH: usize = 2;
+
+/// The rings of a result in the order of its text: each polygon's shell, and then its holes.
+#[derive(Drop)]
+pub struct ResultRings<A: Allocator> {
+    directed: Directed<A>,
+    written: Vec<WrittenRing<A>, A>,
+}
+
+impl<A: Allocator> Model for ResultRings<A> {
+    ghost Value = { List (Bool × List Pt) };
+
+    ghost view = { λ r. map (ring_told r.directed) r.written.items };
+
+    ghost invariant = { λ r. All (λ w. IsSound r.directed w.ring) r.written.items };
+}
+
+impl<A: Allocator> ResultRings<A> {
+    /// How many rings there are.
+    pub fn count(&self) -> usize
+        ensures { result ≡ length self.now }
+    {
+        self.written.len()
+    }
+
+    /// How many points a ring has.
+    pub fn points(&self, number: usize) -> usize
+        requires { number < length self.now }
+        ensures { result ≡ length (told_at self.now number).1 }
+    {
+        self.written[number].ring().numbers().len()
+    }
+
+    /// Whether a ring is a hole, which belongs to the last shell before it.
+    pub fn is_hole(&self, number: usize) -> bool
+        requires { number < length self.now }
+        ensures { result ≡ (told_at self.now number).0 }
+    {
+        self.written[number].place().is_hole
+    }
+
+    /// A ring.
+    pub fn ring<B: Allocator + Copy>(
+        &self,
+        alloc: B,
+        number: usize,
+    ) -> Result<SimpleRing<B>, NoMemory>
+        requires { number < length self.now }
+        ensures { IfOk result (λ ring. ring ≡ (told_at self.now number).1) }
+    {
+        simple_ring(
+            alloc,
+            self.directed.edges(),
+            self.written[number].ring().numbers(),
+        )
+    }
+}
+
+/// The edges at the vertices that they leave, and beside them the tables that the rings are written by.
+fn leaving_and_tables<R: Threads + Sync, A: Allocator + Copy + Send + Sync>(
+    rt: &R,
+    alloc: A,
+    edges: &[DirectedEdge],
+) -> (
+    Result<LeavingEdges<A>, NoMemory>,
+    Result<Tables<A>, NoMemory>,
+)
+    requires closes { Closes edges.now }
+    requires edges_in { All (λ d. AreInLimit d.from d.to) edges.now }
+    ensures leaving { IfOk result.0 (λ found. AreLeaving edges.now found.leaving.items) }
+    ensures tables { IfOk result.1 (λ t. AreTables edges.now t) }
+{
+    join(
+        rt,
+        BOTH,
+        || -> Result<LeavingEdges<A>, NoMemory>
+            requires { IsSync A.row × All (λ d. AreInLimit d.from d.to) edges.now }
+            ensures { IfOk result (λ found. AreLeaving edges.entry.now found.leaving.items) }
+        { leaving_edges(alloc, edges) },
+        || -> Result<Tables<A>, NoMemory>
+            requires { IsSync A.row × Closes edges.now }
+            ensures { IfOk result (λ t. AreTables edges.entry.now t) }
+        { tables_of(alloc, edges) },
+    )
+}
+
+/// The rings of the polygons of directed edges that close, by two hands or more, as `polygons` has them.
+pub fn rings_by_hands<R: Threads + Sync, A: Allocator + Copy + Send + Sync>(
+    rt: &R,
+    hands: usize,
+    alloc: A,
+    directed: Directed<A>,
+) -> Result<ResultRings<A>, NoMemory>
+    requires hands { 2 ≤ hands }
+    requires closes { Closes directed }
+    requires in_limit { All (λ d. AreInLimit d.from d.to) directed }
+    ensures { AreNodedEdges directed → HasGroundedRings directed → IfOk result (λ rings. AreToldRings directed rings) }
+{
+    let edges = directed.edges();
+    let (leaving, tables) = leaving_and_tables(rt, alloc, edges);
+    let next = successors_by_hands(rt, hands, alloc, edges, leaving?)?;
+    let mut written = written_rings_by_hands(rt, hands, alloc, edges, &next, tables?)?;
+    written.sort_unstable_by_key(|ring| ring.place());
+    Ok(ResultRings { directed, written })
+}
