@@ -32,7 +32,9 @@ fn middle_of<A: Allocator>(rings: &ResultRings<A>, from: usize, past: usize) -> 
     let half = points_between(rings, from, past) / 2;
     let mut points = 0usize;
     for number in from..past {
-        points = points.saturating_add(rings.points(number));
+        points = points
+            .saturating_add(rings.points(number))
+            .saturating_add(1);
         if points > half {
             return number.max(from + 1);
         }
@@ -40,7 +42,7 @@ fn middle_of<A: Allocator>(rings: &ResultRings<A>, from: usize, past: usize) -> 
     past
 }
 
-/// How many points the rings between two numbers have.
+/// How many points the rings between two numbers have in their text, where each ends with its first one.
 fn points_between<A: Allocator>(rings: &ResultRings<A>, from: usize, past: usize) -> usize
     requires inside { past ≤ length rings.now }
 {

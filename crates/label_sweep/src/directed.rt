@@ -1,6 +1,6 @@
 //! The directed edges of a result, by the labels of the sweep.
 
-ghost use Rattle.std.specs.Prelude.{◌≡◌, ◌↔◌, true, AllPairs, Contains, IfOk, IsTrue};
+ghost use Rattle.std.specs.Prelude.{◌≡◌, ◌↔◌, AllPairs, Contains, IfOk, IsTrue};
 ghost use Rattle.geom.specs.Directed.{AreResultEdges, IsDirectedBefore};
 ghost use Rattle.geom.specs.Order.{IsBefore};
 ghost use Rattle.geom.specs.declared.directed.DirectedEdge.{DirectedEdge};
@@ -45,20 +45,20 @@ pub fn directed_edges<A: Allocator + Copy>(
 }
 
 fn is_before(p: Pt, q: Pt) -> bool
-    ensures { result ≡ true → IsBefore p q }
+    ensures { IsTrue result ↔ IsBefore p q }
 {
     p < q
 }
 
 fn comes_before(d: DirectedEdge, e: DirectedEdge) -> bool
-    ensures { result ≡ true → IsDirectedBefore d e }
+    ensures { IsTrue result ↔ IsDirectedBefore d e }
 {
     is_before(d.from, e.from) || d.from == e.from && is_before(d.to, e.to)
 }
 
 /// Whether directed edges ascend, none of them twice.
 pub fn ascend(edges: &[DirectedEdge]) -> bool
-    ensures { IsTrue result → AllPairs IsDirectedBefore edges.now }
+    ensures { IsTrue result ↔ AllPairs IsDirectedBefore edges.now }
 {
     for i in 1..edges.len() {
         if !comes_before(edges[i - 1], edges[i]) {

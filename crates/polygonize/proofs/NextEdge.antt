@@ -2,4 +2,5 @@
 pub mod Turns
 pub mod Sooner
 pub mod RoundVertex
+pub mod Looking
 pub mod Linking

@@ -2,6 +2,7 @@
 pub mod Turning
 pub mod Writing
 pub mod Owning
+pub mod Cuts
 pub mod Keeping
 pub mod PiecesWritten
 pub mod CyclesWritten

@@ -14,3 +14,7 @@ half v a = cond (less v a) 0 (cond (less a v) 1 2)
 -- turning clockwise round v from straight up, a is met before b
 abbrev pub sooner : Pt → Pt → Pt → Bool
 sooner v a b = nat_lt (half v a) (half v b) || ((half v a == half v b) && lt_z (side v a b) (pos 0))
+
+-- turning clockwise round v from u, a is met before b
+abbrev pub met_before : Pt → Pt → Pt → Pt → Bool
+met_before v u a b = (sooner v u a && sooner v a b) || ((sooner v a b && sooner v b u) || (sooner v b u && sooner v u a))

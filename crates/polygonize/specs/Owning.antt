@@ -4,6 +4,7 @@ use Rattle.geom.specs.declared.directed.DirectedEdge.{DirectedEdge}
 use Rattle.geom.specs.declared.edge.Edge.{Edge}
 use Rattle.geom.specs.Holes.{IsHole, IsNearestBelow, IsShell, LiesBelow, left_of}
 use Rattle.geom.specs.Rings.{IsCut}
+use Rattle.polygonize.specs.declared.below.Gap.{Gap}
 use Rattle.polygonize.specs.declared.written.Opening.{Opening}
 use Rattle.polygonize.specs.Next.{edge_at, ring_of}
 use Rattle.polygonize.specs.Number.{IsVertex}
@@ -24,13 +25,15 @@ pub record AreWrittenUnder (shell : Opening) (owned : Bool) (first : ℕ) (piece
   pub only : (w : PlacedRing) → Contains new w → Contains old w ⊎ ((k : ℕ) × (k < length pieces) × IsPieceWritten shell owned first k (slice_index_or pieces k []) w)
   pub each : (k : ℕ) → k < length pieces → (w : PlacedRing) × Contains new w × IsPieceWritten shell owned first k (slice_index_or pieces k []) w
 
--- the pieces of a ring that begins at the vertex `least` are written, under its owner's shell or else under its first piece
-pub record ArePiecesWritten (ds : List DirectedEdge) (least : ℕ) (pieces : List (List ℕ)) (owner : Option Opening) (shell : Opening) (old new : List PlacedRing) : Type 0 where
-  pub first : ℕ
-  pub inside : first < length pieces
-  pub is_first : IsFirstAmong ds least pieces first
+-- the pieces of a ring are written, under its owner's shell or else under its first piece
+pub record ArePiecesWritten (first : ℕ) (pieces : List (List ℕ)) (owner : Option Opening) (shell : Opening) (old new : List PlacedRing) : Type 0 where
   pub shell_is : shell ≡ unwrap_or owner (opening_of (slice_index_or pieces first []))
   pub all : AreWrittenUnder shell (is_some owner) first pieces old new
+
+-- what is kept for the edge of a gap
+abbrev pub kept_for : Option Gap → List (Option Opening) → Option Opening
+kept_for None shell_of = None
+kept_for (Some g) shell_of = slice_index_or shell_of g.number None
 
 -- the ring is a hole, and the edge at b is the nearest one below the point just left of its first vertex
 pub record IsHoleOver (ds : List DirectedEdge) (ring : List ℕ) (b : ℕ) : Type 0 where
@@ -62,8 +65,11 @@ pub record IsRingPlaced (ds : List DirectedEdge) (cycle : List ℕ) (shells_old 
   pub pieces : List (List ℕ)
   pub cut : IsCut ring pieces
   pub sound : All (IsSound ds) pieces
+  pub first : ℕ
+  pub inside : first < length pieces
+  pub is_first : IsFirstAmong ds (slice_index_or ring 0 0) pieces first
   pub owner : Option Opening
   pub found : IsOwnerFound ds ring shells_old owner
   pub shell : Opening
-  pub written : ArePiecesWritten ds (slice_index_or ring 0 0) pieces owner shell old new
+  pub written : ArePiecesWritten first pieces owner shell old new
   pub kept : KeepsShell cycle shell shells_old shells_new

@@ -17,10 +17,9 @@ use Rattle.polygonize.specs.Written.{HaveEdges, IsCanonical}
 abbrev pub opening_of : List ℕ → Opening
 opening_of ring = record { first = slice_index ring 0; second = slice_index ring 1 }
 
--- the numbers of the vertices where the edges start, and as many places
+-- the numbers of the vertices where the edges start, and room for as many shells
 pub record AreTables {M : Type 0} (ds : List DirectedEdge) (tables : Tables M) : Type 0 where
   pub numbers : AreNumbers ds tables.numbers.items
-  pub places : length tables.places.items ≡ length ds
   pub shells : length tables.shell_of.items ≡ length ds
 
 -- a ring of vertex numbers and its place in the text

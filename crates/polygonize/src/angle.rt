@@ -1,10 +1,10 @@
 //! The order of directions round a vertex, by exact comparisons.
 
-ghost use Rattle.std.specs.Prelude.{◌≡◌};
+ghost use Rattle.std.specs.Prelude.{◌≡◌, ◌≢◌, false, true};
 ghost use Rattle.std.specs.Ordering.{is_lt};
 ghost use Rattle.geom.specs.Determinant.{side};
 ghost use Rattle.geom.specs.Limit.{InLimit};
-ghost use Rattle.polygonize.specs.Clockwise.{half, less, sooner};
+ghost use Rattle.polygonize.specs.Clockwise.{half, less, met_before, sooner};
 
 use geom::Pt;
 use std::cmp::Ordering;
@@ -14,6 +14,13 @@ pub fn is_less(p: Pt, q: Pt) -> bool
     ensures { result ≡ less p q }
 {
     p < q
+}
+
+pub fn are_same(p: Pt, q: Pt) -> bool
+    ensures yes { result ≡ true → p ≡ q }
+    ensures no { result ≡ false → p ≢ q }
+{
+    p == q
 }
 
 /// The determinant of a - v and b - v: above 0 where b lies counter-clockwise of a.
@@ -59,4 +66,27 @@ pub fn clockwise(v: Pt, a: Pt, b: Pt) -> Ordering
     } else {
         Ordering::Greater
     }
+}
+
+fn is_sooner(v: Pt, a: Pt, b: Pt) -> bool
+    requires v_in { InLimit v }
+    requires a_in { InLimit a }
+    requires b_in { InLimit b }
+    ensures { result ≡ sooner v a b }
+{
+    clockwise(v, a, b).is_lt()
+}
+
+/// Whether a is met before b, turning clockwise round v from u.
+pub fn is_met_before(v: Pt, u: Pt, a: Pt, b: Pt) -> bool
+    requires v_in { InLimit v }
+    requires u_in { InLimit u }
+    requires a_in { InLimit a }
+    requires b_in { InLimit b }
+    ensures { result ≡ met_before v u a b }
+{
+    let from_u = is_sooner(v, u, a);
+    let to_b = is_sooner(v, a, b);
+    let to_u = is_sooner(v, b, u);
+    from_u && to_b || to_b && to_u || to_u && from_u
 }

@@ -1,20 +1,14 @@
 //! Numbers of vertices: that of a vertex is the place of the first edge that leaves it, so numbers are ordered as points are.
 
-ghost use Rattle.std.specs.Prelude.{◌≡◌, ◌≢◌, ◌<◌, All, IfOk, false, length, map, slice_index, slice_index_or, true};
+ghost use Rattle.std.specs.Prelude.{◌≡◌, ◌<◌, All, IfOk, length, map, slice_index, slice_index_or};
 ghost use Rattle.geom.specs.Directed.{AreDirected};
 ghost use Rattle.polygonize.specs.Next.{edge_at, ring_of};
 ghost use Rattle.polygonize.specs.Number.{AreNumbers, IsLastNumber, IsNumber};
 
+use crate::angle::are_same;
 use crate::cycle::Cycle;
 use geom::{DirectedEdge, NoMemory, Pt};
 use std::alloc::{AllocError, Allocator};
-
-fn are_same(p: Pt, q: Pt) -> bool
-    ensures yes { result ≡ true → p ≡ q }
-    ensures no { result ≡ false → p ≢ q }
-{
-    p == q
-}
 
 /// The number of the vertex where the edge at i starts, from that of the edge before it.
 fn number_at(edges: &[DirectedEdge], last: usize, i: usize) -> usize

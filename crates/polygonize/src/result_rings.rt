@@ -1,7 +1,7 @@
 //! The rings of a result in the order of its text, by several hands, for a caller who doesn't need them together.
 //!
-//! 1. The edges are listed at the vertices that they leave, and beside them tables are made (`leaving_and_tables`).
-//! 2. All hands look for the next edges, and for the edges below holes (`rings_by_hands`).
+//! 1. All hands but one look for the next edges; that one makes tables (`next_and_tables`).
+//! 2. All hands cut the rings, and look for the edges below holes (`written_rings_by_hands`).
 //! 3. The points of a ring are made when they are asked for (`ResultRings::ring`).
 
 ghost use Rattle.std.specs.Prelude.{◌≡◌, ◌<◌, ◌≤◌, Bool, List, All, IfOk, length, map};
@@ -12,14 +12,13 @@ ghost use Rattle.geom.specs.NodedEdges.{AreNodedEdges};
 ghost use Rattle.geom.specs.Rings.{Closes};
 ghost use Rattle.geom.specs.declared.point.Pt.{Pt};
 ghost use Rattle.polygonize.specs.Cycle.{IsOneToOne};
-ghost use Rattle.polygonize.specs.Leaving.{AreLeaving};
 ghost use Rattle.polygonize.specs.Next.{AreNext};
 ghost use Rattle.polygonize.specs.Placed.{AreTables};
 ghost use Rattle.polygonize.specs.Told.{AreToldRings, ring_told, told_at};
 ghost use Rattle.polygonize.specs.Written.{IsSound};
 
 use crate::polygon::simple_ring;
-use crate::successor::{LeavingEdges, leaving_edges, successors_by_hands};
+use crate::successor::successors_by_hands;
 use crate::written::{Tables, WrittenRing, tables_of, written_rings_by_hands};
 use face_label::Directed;
 use geom::{DirectedEdge, NoMemory, SimpleRing};
@@ -27,9 +26,6 @@ use hands::join;
 use std::alloc::Allocator;
 use std::marker::Model;
 use std::thread::Threads;
-
-/// A hand for either of two calls.
-const BOTH: usize = 2;
 
 /// The rings of a result in the order of its text: each polygon's shell, and then its holes.
 #[derive(Drop)]
@@ -87,27 +83,30 @@ impl<A: Allocator> ResultRings<A> {
     }
 }
 
-/// The edges at the vertices that they leave, and beside them the tables that the rings are written by.
-fn leaving_and_tables<R: Threads + Sync, A: Allocator + Copy + Send + Sync>(
+/// The next edges by all hands but one, and beside them by that one the tables that the rings are written by.
+fn next_and_tables<R: Threads + Sync, A: Allocator + Copy + Send + Sync>(
     rt: &R,
+    hands: usize,
     alloc: A,
     edges: &[DirectedEdge],
 ) -> (
-    Result<LeavingEdges<A>, NoMemory>,
+    Result<Vec<usize, A>, NoMemory>,
     Result<Tables<A>, NoMemory>,
 )
+    requires hands { 2 ≤ hands }
     requires closes { Closes edges.now }
     requires edges_in { All (λ d. AreInLimit d.from d.to) edges.now }
-    ensures leaving { IfOk result.0 (λ found. AreLeaving edges.now found.leaving.items) }
+    ensures next { IfOk result.0 (λ next. AreNext edges.now next.items) }
+    ensures one_to_one { IfOk result.0 (λ next. IsOneToOne next.items) }
     ensures tables { IfOk result.1 (λ t. AreTables edges.now t) }
 {
     join(
         rt,
-        BOTH,
-        || -> Result<LeavingEdges<A>, NoMemory>
-            requires { IsSync A.row × All (λ d. AreInLimit d.from d.to) edges.now }
-            ensures { IfOk result (λ found. AreLeaving edges.entry.now found.leaving.items) }
-        { leaving_edges(alloc, edges) },
+        hands,
+        || -> Result<Vec<usize, A>, NoMemory>
+            requires { IsSync R.row × IsSend A.row × IsSync A.row × (2 ≤ hands) × Closes edges.now × All (λ d. AreInLimit d.from d.to) edges.now }
+            ensures { IfOk result (λ next. AreNext edges.entry.now next.items × IsOneToOne next.items) }
+        { successors_by_hands(rt, hands - 1, alloc, edges) },
         || -> Result<Tables<A>, NoMemory>
             requires { IsSync A.row × Closes edges.now }
             ensures { IfOk result (λ t. AreTables edges.entry.now t) }
@@ -128,9 +127,8 @@ pub fn rings_by_hands<R: Threads + Sync, A: Allocator + Copy + Send + Sync>(
     ensures { AreNodedEdges directed → HasGroundedRings directed → IfOk result (λ rings. AreToldRings directed rings) }
 {
     let edges = directed.edges();
-    let (leaving, tables) = leaving_and_tables(rt, alloc, edges);
-    let next = successors_by_hands(rt, hands, alloc, edges, leaving?)?;
-    let mut written = written_rings_by_hands(rt, hands, alloc, edges, &next, tables?)?;
+    let (next, tables) = next_and_tables(rt, hands, alloc, edges);
+    let mut written = written_rings_by_hands(rt, hands, alloc, edges, &next?, tables?)?;
     written.sort_unstable_by_key(|ring| ring.place());
     Ok(ResultRings { directed, written })
 }

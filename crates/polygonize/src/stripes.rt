@@ -1,4 +1,4 @@
-//! Where the edges that leave a vertex begin, among those that leave any.
+//! Where the edges that leave a vertex begin among all, which stand by the vertices that they leave.
 //!
 //! 1. The abscissas are cut into stripes, about one for each two edges, and for each stripe it is noted where its edges begin
 //!    (`Stripes::of`).
@@ -6,14 +6,13 @@
 //!
 //! The stripes say where to look, and no more: what they say is checked, and where it is wrong all edges are looked at.
 
-ghost use Rattle.std.specs.Prelude.{◌≡◌, ℕ, ◌^◌, ◌<◌, ◌≤◌, IsSortedBy, IsTrue, false, length, slice_index_or, true};
-ghost use Rattle.polygonize.specs.declared.leaving.LeavingEdge.{LeavingEdge};
+ghost use Rattle.std.specs.Prelude.{◌≡◌, ◌^◌, ◌<◌, ◌≤◌, IsTrue, length};
+ghost use Rattle.geom.specs.Directed.{AreDirected};
 ghost use Rattle.polygonize.specs.Clockwise.{less};
-ghost use Rattle.polygonize.specs.Leaving.{IsFirstAt, IsNoneAfter, IsNoneBefore, leaves_sooner};
+ghost use Rattle.polygonize.specs.Leaving.{IsFirstAt, IsNoneAfter, IsNoneBefore};
 
 use crate::angle::is_less;
-use crate::leaving::LeavingEdge;
-use geom::{NoMemory, Pt};
+use geom::{DirectedEdge, NoMemory, Pt};
 use std::alloc::Allocator;
 
 /// Stripes of abscissas from the least one on, each of a power of two; and where the edges begin in each, or right of it.
@@ -35,23 +34,23 @@ fn bits_below(span: u32, edges: usize) -> u32
 
 impl<A: Allocator + Copy> Stripes<A> {
     /// The stripes of the vertices of edges in their order.
-    pub fn of(alloc: A, leaving: &[LeavingEdge]) -> Result<Stripes<A>, NoMemory> {
-        let mut stripes = Stripes::over(alloc, leaving);
-        for place in 0..leaving.len() {
-            stripes.note(leaving[place].at, place)?;
+    pub fn of(alloc: A, edges: &[DirectedEdge]) -> Result<Stripes<A>, NoMemory> {
+        let mut stripes = Stripes::over(alloc, edges);
+        for place in 0..edges.len() {
+            stripes.note(edges[place].from, place)?;
         }
         Ok(stripes)
     }
 
     /// Stripes as wide as they have to be, without their beginnings.
-    fn over(alloc: A, leaving: &[LeavingEdge]) -> Stripes<A> {
+    fn over(alloc: A, edges: &[DirectedEdge]) -> Stripes<A> {
         let begins = Vec::new(alloc);
-        match (leaving.first(), leaving.last()) {
+        match (edges.first(), edges.last()) {
             (Some(first), Some(last)) => {
-                let span = last.at.x.abs_diff(first.at.x);
-                let bits = bits_below(span, leaving.len());
+                let span = last.from.x.abs_diff(first.from.x);
+                let bits = bits_below(span, edges.len());
                 Stripes {
-                    least: first.at.x,
+                    least: first.from.x,
                     bits,
                     begins,
                 }
@@ -90,44 +89,44 @@ impl<A: Allocator + Copy> Stripes<A> {
     }
 }
 
-fn is_at_lesser(s: &LeavingEdge, v: Pt) -> bool
-    ensures { result ≡ less s.now.at v }
+fn is_at_lesser(d: &DirectedEdge, v: Pt) -> bool
+    ensures { result ≡ less d.now.from v }
 {
-    is_less(s.at, v)
+    is_less(d.from, v)
 }
 
 /// Whether all edges before a place leave lesser vertices.
-fn is_none_before(leaving: &[LeavingEdge], v: Pt, place: usize) -> bool
-    requires sorted { IsSortedBy leaves_sooner leaving.now }
-    requires inside { place ≤ length leaving.now }
-    ensures { IsTrue result → IsNoneBefore leaving.now v place }
+fn is_none_before(edges: &[DirectedEdge], v: Pt, place: usize) -> bool
+    requires directed { AreDirected edges.now }
+    requires inside { place ≤ length edges.now }
+    ensures { IsTrue result → IsNoneBefore edges.now v place }
 {
-    place == 0 || is_at_lesser(&leaving[place - 1], v)
+    place == 0 || is_at_lesser(&edges[place - 1], v)
 }
 
 /// Whether no edge from a place on leaves a lesser vertex.
-fn is_none_after(leaving: &[LeavingEdge], v: Pt, place: usize) -> bool
-    requires sorted { IsSortedBy leaves_sooner leaving.now }
-    requires inside { place ≤ length leaving.now }
-    ensures { IsTrue result → IsNoneAfter leaving.now v place }
+fn is_none_after(edges: &[DirectedEdge], v: Pt, place: usize) -> bool
+    requires directed { AreDirected edges.now }
+    requires inside { place ≤ length edges.now }
+    ensures { IsTrue result → IsNoneAfter edges.now v place }
 {
-    place == leaving.len() || !is_at_lesser(&leaving[place], v)
+    place == edges.len() || !is_at_lesser(&edges[place], v)
 }
 
 /// The place of the first edge that leaves no lesser vertex, between two places.
-fn first_between(leaving: &[LeavingEdge], v: Pt, from: usize, to: usize) -> usize
-    requires sorted { IsSortedBy leaves_sooner leaving.now }
+fn first_between(edges: &[DirectedEdge], v: Pt, from: usize, to: usize) -> usize
+    requires directed { AreDirected edges.now }
     requires order { from ≤ to }
-    requires inside { to ≤ length leaving.now }
-    requires before { IsNoneBefore leaving.now v from }
-    requires after { IsNoneAfter leaving.now v to }
-    ensures { IsFirstAt leaving.now v result }
+    requires inside { to ≤ length edges.now }
+    requires before { IsNoneBefore edges.now v from }
+    requires after { IsNoneAfter edges.now v to }
+    ensures { IsFirstAt (λ d. d.from) edges.now v result }
 {
     let mut low = from;
     let mut high = to;
     while low < high {
         let middle = low + (high - low) / 2;
-        if is_at_lesser(&leaving[middle], v) {
+        if is_at_lesser(&edges[middle], v) {
             low = middle + 1;
         } else {
             high = middle;
@@ -137,20 +136,20 @@ fn first_between(leaving: &[LeavingEdge], v: Pt, from: usize, to: usize) -> usiz
 }
 
 /// The place of the first edge that leaves no lesser vertex.
-pub fn first_at<A: Allocator + Copy>(leaving: &[LeavingEdge], stripes: &Stripes<A>, v: Pt) -> usize
-    requires { IsSortedBy leaves_sooner leaving.now }
-    ensures { IsFirstAt leaving.now v result }
+pub fn first_at<A: Allocator + Copy>(edges: &[DirectedEdge], stripes: &Stripes<A>, v: Pt) -> usize
+    requires { AreDirected edges.now }
+    ensures { IsFirstAt (λ d. d.from) edges.now v result }
 {
     let stripe = stripes.stripe_of(v);
-    let from = stripes.begin_of(stripe, leaving.len());
-    let to = stripes.begin_of(stripe + 1, leaving.len());
+    let from = stripes.begin_of(stripe, edges.len());
+    let to = stripes.begin_of(stripe + 1, edges.len());
     if from <= to
-        && to <= leaving.len()
-        && is_none_before(leaving, v, from)
-        && is_none_after(leaving, v, to)
+        && to <= edges.len()
+        && is_none_before(edges, v, from)
+        && is_none_after(edges, v, to)
     {
-        first_between(leaving, v, from, to)
+        first_between(edges, v, from, to)
     } else {
-        first_between(leaving, v, 0, leaving.len())
+        first_between(edges, v, 0, edges.len())
     }
 }

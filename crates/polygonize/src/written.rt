@@ -1,29 +1,28 @@
 //! The rings of the result as they are written, each with its place in the order of the text.
 
-ghost use Rattle.std.specs.Prelude.{◌≡◌, ◌<◌, ◌≤◌, ◌==◌, ◌||◌, ◌++◌, ◌∷◌, [], List, All, IfOk, OnOk, is_some, length, not, slice_index_or, unwrap_or};
+ghost use Rattle.std.specs.Prelude.{◌≡◌, ◌<◌, ◌≤◌, ◌==◌, ◌||◌, ◌++◌, ◌∷◌, [], List, None, All, IfOk, IfSome, OnOk, false, is_some, length, not, slice_index_or, true, unwrap_or};
 ghost use Rattle.geom.specs.Directed.{AreDirected};
 ghost use Rattle.geom.specs.Holes.{AreGrounded, HasGroundedRings, IsHole};
 ghost use Rattle.geom.specs.Limit.{AreInLimit};
 ghost use Rattle.geom.specs.NodedEdges.{AreNodedEdges};
 ghost use Rattle.geom.specs.Rings.{AreRings, Closes};
-ghost use Rattle.polygonize.specs.Below.{AreFoundBelow, HasHoles, IsFoundBelow};
-ghost use Rattle.polygonize.specs.Number.{AreNumbers, IsVertex};
+ghost use Rattle.polygonize.specs.Below.{AreFoundBelow, IsFoundBelow};
+ghost use Rattle.polygonize.specs.CutRing.{AreCyclesCut, IsCycleCut};
 ghost use Rattle.polygonize.specs.Cycle.{IsOneToOne};
 ghost use Rattle.polygonize.specs.Next.{AreNext, edge_at, ring_of, rings_of};
-ghost use Rattle.polygonize.specs.Owning.{ArePiecesWritten, IsOwnerFound, IsRingPlaced, KeepsShell};
+ghost use Rattle.polygonize.specs.Owning.{ArePiecesWritten, IsRingPlaced, KeepsShell, kept_for};
 ghost use Rattle.polygonize.specs.Placed.{AreAllWritten, AreTables, AreWritten, opening_of, rings_in};
-ghost use Rattle.polygonize.specs.Written.{AreAdded, ArePlaces, HasItsEdges, HaveEdges, IsCanonical, IsRingWritten, IsSound};
+ghost use Rattle.polygonize.specs.Written.{AreAdded, ArePlaces, HasItsEdges, HaveEdges, IsCanonical, IsRingWritten};
 
 use crate::below::Gap;
-use crate::cut::cut;
+use crate::cut_ring::{CutRing, cut_rings, holes_among};
 use crate::cycle::Cycle;
-use crate::hole::is_hole;
 use crate::nearest::gaps_below;
-use crate::number::{first_vertices, start_numbers, vertices_of};
-use crate::piece::{first_piece, turned};
+use crate::number::{first_vertices, start_numbers};
+use crate::piece::turned;
 use crate::ring::ring_places;
+use crate::shared_cuts::cuts_by_hands;
 use crate::shared_gaps::gaps_below_by_hands;
-use crate::shared_holes::holes_by_hands;
 use geom::{DirectedEdge, NoMemory};
 use std::alloc::Allocator;
 use std::marker::Model;
@@ -86,12 +85,10 @@ impl<A: Allocator> WrittenRing<A> {
     }
 }
 
-/// What rings are written by: for each edge the number of the vertex where it starts, and places for what is kept of the vertices of
-/// a ring, and of the edges of all rings.
+/// What rings are written by: for each edge the number of the vertex where it starts, and room for the shell of its polygon.
 #[derive(Drop)]
 pub struct Tables<A: Allocator> {
     numbers: Vec<usize, A>,
-    places: Vec<usize, A>,
     shell_of: Vec<Option<Opening>, A>,
 }
 
@@ -104,13 +101,8 @@ pub fn tables_of<A: Allocator + Copy>(
     ensures { IfOk result (λ t. AreTables edges.now t) }
 {
     let numbers = start_numbers(alloc, edges)?;
-    let places = vec![in alloc; 0; edges.len()]?;
     let shell_of = vec![in alloc; None; edges.len()]?;
-    Ok(Tables {
-        numbers,
-        places,
-        shell_of,
-    })
+    Ok(Tables { numbers, shell_of })
 }
 
 /// The shell that is given, or else the first piece.
@@ -144,21 +136,19 @@ fn add_ring<A: Allocator>(
 }
 
 /// Writes the pieces of a ring. A hole's go to the polygon of the shell that is given; a shell's first piece is a shell itself.
-fn write_pieces<A: Allocator + Copy>(
-    edges: &[DirectedEdge],
-    least: usize,
-    mut pieces: Vec<Cycle<A>, A>,
+fn write_pieces<A: Allocator>(
+    ring: CutRing<A>,
     owner: Option<Opening>,
     written: &mut Vec<WrittenRing<A>, A>,
 ) -> Result<Opening, NoMemory>
-    requires edges_in { All (λ d. AreInLimit d.from d.to) edges.now }
-    requires least { IsVertex edges.now least }
-    requires some { 0 < length pieces.items }
-    requires sound { All (IsSound edges.now) pieces.items }
-    ensures added { OnOk result (AreAdded pieces.items (rings_in written.old.items) (rings_in written.new.items)) }
-    ensures pieces { IfOk result (λ shell. ArePiecesWritten edges.now least pieces.items owner shell written.old.items written.new.items) }
+    requires inside { ring.first < length ring.pieces.items }
+    requires long { All (λ piece. 3 ≤ length piece) ring.pieces.items }
+    ensures added { OnOk result (AreAdded ring.pieces.items (rings_in written.old.items) (rings_in written.new.items)) }
+    ensures pieces { IfOk result (λ shell. ArePiecesWritten ring.first ring.pieces.items owner shell written.old.items written.new.items) }
 {
-    let first = first_piece(edges, least, &pieces);
+    let CutRing {
+        first, mut pieces, ..
+    } = ring;
     let shell = shell_of_pieces(owner, pieces[first].numbers());
     while let Some(piece) = pieces.pop() {
         let ring = turned(piece);
@@ -173,21 +163,12 @@ fn write_pieces<A: Allocator + Copy>(
 }
 
 /// The shell of the ring's polygon, where the ring is a hole and the ring of the edge below it was written.
-fn owner_of(
-    edges: &[DirectedEdge],
-    ring: &[usize],
-    below: Option<Gap>,
-    shell_of: &[Option<Opening>],
-) -> Option<Opening>
-    requires directed { AreDirected edges.now }
-    requires edges_in { All (λ d. AreInLimit d.from d.to) edges.now }
-    requires vertices { All (IsVertex edges.now) ring.now }
-    requires least { All (λ k. slice_index_or ring.now 0 0 ≤ k) ring.now }
-    requires same_length { length shell_of.now ≡ length edges.now }
-    requires below { IsHole (ring_of edges.now ring.now) → IsFoundBelow edges.now (edge_at edges.now (slice_index_or ring.now 0 0)).from below }
-    ensures { IsOwnerFound edges.now ring.now shell_of.now result }
+fn owner_of(is_hole: bool, below: Option<Gap>, shell_of: &[Option<Opening>]) -> Option<Opening>
+    requires { is_hole ≡ true → IfSome below (λ g. g.number < length shell_of.now) }
+    ensures shell { is_hole ≡ false → result ≡ None }
+    ensures hole { is_hole ≡ true → result ≡ kept_for below shell_of.now }
 {
-    if !is_hole(edges, ring) {
+    if !is_hole {
         return None;
     }
     shell_of[below?.number]
@@ -204,50 +185,41 @@ fn keep_shell(shell_of: &mut [Option<Opening>], cycle: &[usize], shell: Opening)
 }
 
 /// Writes the pieces of the ring of these edges.
-fn write_ring<A: Allocator + Copy>(
-    alloc: A,
+fn write_ring<A: Allocator>(
     edges: &[DirectedEdge],
-    numbers: &[usize],
     cycle: &[usize],
+    ring: CutRing<A>,
     below: Option<Gap>,
-    places: &mut [usize],
     shell_of: &mut [Option<Opening>],
     written: &mut Vec<WrittenRing<A>, A>,
 ) -> Result<(), NoMemory>
-    requires closes { Closes edges.now }
-    requires edges_in { All (λ d. AreInLimit d.from d.to) edges.now }
-    requires numbers { AreNumbers edges.now numbers.now }
     requires cycle { ArePlaces edges.now cycle.now }
-    requires places { length places.old ≡ length edges.now }
+    requires ring { IsCycleCut edges.now cycle.now ring }
     requires shells { length shell_of.old ≡ length edges.now }
     requires below { IsHole (ring_of edges.now cycle.now) → IsFoundBelow edges.now (edge_at edges.now (slice_index_or cycle.now 0 0)).from below }
     ensures written { OnOk result (IsRingWritten edges.now cycle.now (rings_in written.old.items) (rings_in written.new.items)) }
     ensures placed { OnOk result (IsRingPlaced edges.now cycle.now shell_of.old shell_of.new written.old.items written.new.items) }
 {
-    let ring = vertices_of(alloc, numbers, cycle)?;
-    let owner = owner_of(edges, &ring, below, shell_of);
-    let pieces = cut(alloc, &ring, places)?;
-    let shell = write_pieces(edges, ring[0], pieces, owner, written)?;
+    let owner = owner_of(ring.is_hole, below, shell_of);
+    let shell = write_pieces(ring, owner, written)?;
     keep_shell(shell_of, cycle, shell);
     Ok(())
 }
 
-/// Writes the rings of all cycles. They ascend by their least vertices, so that of an edge below a hole comes before the hole.
+/// Writes the rings of all cycles, which are cut. They ascend by their least vertices, so that of an edge below a hole comes before the
+/// hole.
 fn write_cycles<A: Allocator + Copy>(
     alloc: A,
     edges: &[DirectedEdge],
-    numbers: &[usize],
     cycles: &[Cycle<A>],
+    rings: Vec<CutRing<A>, A>,
     below: &[Option<Gap>],
-    places: &mut [usize],
     shell_of: &mut [Option<Opening>],
 ) -> Result<Vec<WrittenRing<A>, A>, NoMemory>
     requires closes { Closes edges.now }
-    requires edges_in { All (λ d. AreInLimit d.from d.to) edges.now }
-    requires numbers { AreNumbers edges.now numbers.now }
     requires cycles { All (ArePlaces edges.now) cycles.now }
     requires rings { AreRings edges.now (rings_of edges.now cycles.now) }
-    requires places { length places.old ≡ length edges.now }
+    requires cut { AreCyclesCut edges.now cycles.now 0 (length cycles.now) rings.items }
     requires shells { length shell_of.old ≡ length edges.now }
     requires found { AreFoundBelow edges.now cycles.now below.now }
     requires its_edges { All (HasItsEdges edges.now) cycles.now }
@@ -256,63 +228,35 @@ fn write_cycles<A: Allocator + Copy>(
     ensures sound { IfOk result (λ written. All (IsCanonical edges.now) (rings_in written.items)) }
 {
     let mut written = Vec::with_capacity(alloc, cycles.len())?;
-    for number in 0..cycles.len() {
+    let mut number = 0;
+    for ring in rings {
         write_ring(
-            alloc,
             edges,
-            numbers,
             cycles[number].numbers(),
+            ring,
             below[number],
-            places,
             shell_of,
             &mut written,
         )?;
+        number += 1;
     }
     Ok(written)
-}
-
-/// The numbers of those cycles from one number to before another one whose rings are holes.
-pub fn holes_of<A: Allocator + Copy>(
-    alloc: A,
-    edges: &[DirectedEdge],
-    numbers: &[usize],
-    cycles: &[Cycle<A>],
-    from: usize,
-    past: usize,
-) -> Result<Vec<usize, A>, NoMemory>
-    requires directed { AreDirected edges.now }
-    requires edges_in { All (λ d. AreInLimit d.from d.to) edges.now }
-    requires numbers { AreNumbers edges.now numbers.now }
-    requires cycles { All (ArePlaces edges.now) cycles.now }
-    requires order { from ≤ past }
-    requires inside { past ≤ length cycles.now }
-    ensures inside { IfOk result (λ holes. All (λ r. r < length cycles.now) holes.items) }
-    ensures complete { IfOk result (λ holes. HasHoles edges.now cycles.now from past holes.items) }
-{
-    let mut holes = Vec::new(alloc);
-    for number in from..past {
-        let ring = vertices_of(alloc, numbers, cycles[number].numbers())?;
-        if is_hole(edges, &ring) {
-            holes.push(number)?;
-        }
-    }
-    Ok(holes)
 }
 
 /// For each cycle whose ring is a hole the gap to the nearest edge below it.
 fn edges_below<A: Allocator + Copy>(
     alloc: A,
     edges: &[DirectedEdge],
-    numbers: &[usize],
     cycles: &[Cycle<A>],
+    rings: &[CutRing<A>],
 ) -> Result<Vec<Option<Gap>, A>, NoMemory>
     requires directed { AreDirected edges.now }
     requires edges_in { All (λ d. AreInLimit d.from d.to) edges.now }
-    requires numbers { AreNumbers edges.now numbers.now }
     requires cycles { All (ArePlaces edges.now) cycles.now }
+    requires cut { AreCyclesCut edges.now cycles.now 0 (length cycles.now) rings.now }
     ensures { IfOk result (λ below. AreFoundBelow edges.now cycles.now below.items) }
 {
-    let holes = holes_of(alloc, edges, numbers, cycles, 0, cycles.len())?;
+    let holes = holes_among(alloc, rings)?;
     let vertices = first_vertices(alloc, edges, cycles)?;
     gaps_below(alloc, edges, &vertices, &holes)
 }
@@ -323,53 +267,18 @@ fn edges_below_by_hands<R: Threads + Sync, A: Allocator + Copy + Send + Sync>(
     hands: usize,
     alloc: A,
     edges: &[DirectedEdge],
-    numbers: &[usize],
     cycles: &[Cycle<A>],
+    rings: &[CutRing<A>],
 ) -> Result<Vec<Option<Gap>, A>, NoMemory>
     requires directed { AreDirected edges.now }
     requires edges_in { All (λ d. AreInLimit d.from d.to) edges.now }
-    requires numbers { AreNumbers edges.now numbers.now }
     requires cycles { All (ArePlaces edges.now) cycles.now }
+    requires cut { AreCyclesCut edges.now cycles.now 0 (length cycles.now) rings.now }
     ensures { IfOk result (λ below. AreFoundBelow edges.now cycles.now below.items) }
 {
-    let holes = holes_by_hands(rt, hands, alloc, edges, numbers, cycles, 0, cycles.len())?;
+    let holes = holes_among(alloc, rings)?;
     let vertices = first_vertices(alloc, edges, cycles)?;
     gaps_below_by_hands(rt, hands, alloc, edges, &vertices, &holes)
-}
-
-/// Writes the rings of all cycles, whose edges below are found.
-fn written_above<A: Allocator + Copy>(
-    alloc: A,
-    edges: &[DirectedEdge],
-    tables: Tables<A>,
-    cycles: &[Cycle<A>],
-    below: &[Option<Gap>],
-) -> Result<Vec<WrittenRing<A>, A>, NoMemory>
-    requires closes { Closes edges.now }
-    requires edges_in { All (λ d. AreInLimit d.from d.to) edges.now }
-    requires tables { AreTables edges.now tables }
-    requires cycles { All (ArePlaces edges.now) cycles.now }
-    requires rings { AreRings edges.now (rings_of edges.now cycles.now) }
-    requires found { AreFoundBelow edges.now cycles.now below.now }
-    requires its_edges { All (HasItsEdges edges.now) cycles.now }
-    ensures edges { IfOk result (λ written. HaveEdges edges.now (rings_in written.items)) }
-    ensures sound { IfOk result (λ written. All (IsCanonical edges.now) (rings_in written.items)) }
-    ensures written { AreNodedEdges edges.now → HasGroundedRings edges.now → IfOk result (λ written. AreAllWritten edges.now written.items) }
-{
-    let Tables {
-        numbers,
-        mut places,
-        mut shell_of,
-    } = tables;
-    write_cycles(
-        alloc,
-        edges,
-        &numbers,
-        cycles,
-        below,
-        &mut places,
-        &mut shell_of,
-    )
 }
 
 /// All rings as they are written, in no order yet, by the next edges.
@@ -386,13 +295,17 @@ pub fn written_rings<A: Allocator + Copy>(
     ensures sound { IfOk result (λ written. All (IsCanonical edges.now) (rings_in written.items)) }
     ensures written { AreNodedEdges edges.now → HasGroundedRings edges.now → IfOk result (λ written. AreAllWritten edges.now written.items) }
 {
-    let tables = tables_of(alloc, edges)?;
+    let Tables {
+        numbers,
+        mut shell_of,
+    } = tables_of(alloc, edges)?;
     let cycles = ring_places(alloc, edges, next)?;
-    let below = edges_below(alloc, edges, &tables.numbers, &cycles)?;
-    written_above(alloc, edges, tables, &cycles, &below)
+    let rings = cut_rings(alloc, edges, &numbers, &cycles, 0, cycles.len())?;
+    let below = edges_below(alloc, edges, &cycles, &rings)?;
+    write_cycles(alloc, edges, &cycles, rings, &below, &mut shell_of)
 }
 
-/// The same by tables that are there already, where so many hands look for the edges below holes.
+/// The same by tables that are there already, where so many hands cut the rings and look for the edges below holes.
 pub fn written_rings_by_hands<R: Threads + Sync, A: Allocator + Copy + Send + Sync>(
     rt: &R,
     hands: usize,
@@ -410,7 +323,12 @@ pub fn written_rings_by_hands<R: Threads + Sync, A: Allocator + Copy + Send + Sy
     ensures sound { IfOk result (λ written. All (IsCanonical edges.now) (rings_in written.items)) }
     ensures written { AreNodedEdges edges.now → HasGroundedRings edges.now → IfOk result (λ written. AreAllWritten edges.now written.items) }
 {
+    let Tables {
+        numbers,
+        mut shell_of,
+    } = tables;
     let cycles = ring_places(alloc, edges, next)?;
-    let below = edges_below_by_hands(rt, hands, alloc, edges, &tables.numbers, &cycles)?;
-    written_above(alloc, edges, tables, &cycles, &below)
+    let rings = cuts_by_hands(rt, hands, alloc, edges, &numbers, &cycles, 0, cycles.len())?;
+    let below = edges_below_by_hands(rt, hands, alloc, edges, &cycles, &rings)?;
+    write_cycles(alloc, edges, &cycles, rings, &below, &mut shell_of)
 }

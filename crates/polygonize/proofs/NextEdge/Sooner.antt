@@ -15,7 +15,7 @@ use Rattle.geom.specs.Determinant.{side}
 use Rattle.geom.specs.Directed.{from_to, IsDirectedBefore, AreDirected}
 use Rattle.geom.specs.Rings.{IsSooner, IsMetBefore, IsNext}
 use Rattle.polygonize.specs.declared.leaving.LeavingEdge.{LeavingEdge}
-use Rattle.polygonize.specs.Clockwise.{less, half, sooner}
+use Rattle.polygonize.specs.Clockwise.{less, half, met_before, sooner}
 use Rattle.polygonize.specs.Leaving.{leaves_sooner}
 use Rattle.polygonize.specs.Next.{nothing, edge_at}
 use Rattle.polygonize.proofs.NextEdge.Turns.{less_is, is_less, neither_less, one_way, chain}
@@ -69,6 +69,35 @@ is_sooner v a b (inr (inr h, c)) = level_yes (half v a) (half v b) (side v a b) 
 pub sooner_not : (v a b : Pt) → IsSooner v a b → ¬ (IsSooner v b a)
 sooner_not v a b h k = false≢true (sym (one_way v a b (is_sooner v a b h)) ∙ is_sooner v b a k)
 
+pub is_met : (v u a b : Pt) → IsMetBefore v u a b → met_before v u a b ≡ true
+is_met v u a b m = by_two (sooner v u a) (sooner v a b) (sooner v b u) (told m)
+  where
+    told : IsMetBefore v u a b → ((sooner v u a ≡ true) × (sooner v a b ≡ true)) ⊎ ((sooner v a b ≡ true) × (sooner v b u ≡ true)) ⊎ ((sooner v b u ≡ true) × (sooner v u a ≡ true))
+    told (inl h) = inl (is_sooner v u a h.0, is_sooner v a b h.1)
+    told (inr (inl h)) = inr (inl (is_sooner v a b h.0, is_sooner v b u h.1))
+    told (inr (inr h)) = inr (inr (is_sooner v b u h.0, is_sooner v u a h.1))
+
+    by_two : (x y z : Bool) → ((x ≡ true) × (y ≡ true)) ⊎ ((y ≡ true) × (z ≡ true)) ⊎ ((z ≡ true) × (x ≡ true)) → (x && y) || ((y && z) || (z && x)) ≡ true
+    by_two x y z (inl h) = (let p = h.0 in let q = h.1 in grind arith)
+    by_two x y z (inr (inl h)) = (let p = h.0 in let q = h.1 in grind arith)
+    by_two x y z (inr (inr h)) = (let p = h.0 in let q = h.1 in grind arith)
+
+pub is_not_met : (v u a b : Pt) → IsMetBefore v u b a → met_before v u a b ≡ false
+is_not_met v u a b m = by_two (sooner v u a) (sooner v a b) (sooner v b u) (told m)
+  where
+    not : (p q : Pt) → IsSooner v p q → sooner v q p ≡ false
+    not p q h = one_way v p q (is_sooner v p q h)
+
+    told : IsMetBefore v u b a → ((sooner v u a ≡ false) × (sooner v a b ≡ false)) ⊎ ((sooner v a b ≡ false) × (sooner v b u ≡ false)) ⊎ ((sooner v b u ≡ false) × (sooner v u a ≡ false))
+    told (inl h) = inr (inl (not b a h.1, not u b h.0))
+    told (inr (inl h)) = inl (not a u h.1, not b a h.0)
+    told (inr (inr h)) = inr (inr (not u b h.1, not a u h.0))
+
+    by_two : (x y z : Bool) → ((x ≡ false) × (y ≡ false)) ⊎ ((y ≡ false) × (z ≡ false)) ⊎ ((z ≡ false) × (x ≡ false)) → (x && y) || ((y && z) || (z && x)) ≡ false
+    by_two x y z (inl h) = (let p = h.0 in let q = h.1 in grind arith)
+    by_two x y z (inr (inl h)) = (let p = h.0 in let q = h.1 in grind arith)
+    by_two x y z (inr (inr h)) = (let p = h.0 in let q = h.1 in grind arith)
+
 -- ---- of at most one edge it is the next
 turn_not : (v t u w : Pt) → IsMetBefore v t w u → ¬ (IsMetBefore v u w t)
 turn_not v t u w (inl h) (inl k) = sooner_not v w u h.1 k.0
@@ -94,6 +123,9 @@ no_less p q h k = false≢true (sym h ∙ is_less p q k)
 
 pub not_through : (p q r : Pt) → less p q ≡ false → less q r ≡ false → less p r ≡ false
 not_through p q r h k = not_less p r (λ m. elim (or_less p q h) [ inl n ↦ no_less q r k (before_trans q p r n m) | inr e ↦ no_less q r k (let P : Pt → Type 0 = λ t. IsBefore t r in subst P e m) ])
+
+pub less_through : (p q r : Pt) → less q p ≡ false → less q r ≡ true → less p r ≡ true
+less_through p q r h k = by_test (less p r) (λ t. t) (λ f. absurd (false≢true (sym (not_through q p r h f) ∙ k)))
 
 pub parts : (a b c : Bool) → a || (not b && c) ≡ false → (a ≡ false) × (b ≡ false → c ≡ false)
 parts true b c h = absurd (no h)

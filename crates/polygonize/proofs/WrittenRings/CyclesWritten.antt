@@ -137,7 +137,7 @@ module _ (ds : List DirectedEdge) (closes : Closes ds) (noded : AreNodedEdges ds
       pub owner : IsOwner ds (map (ring_of ds) cycles) (ring_of ds r.ring) shell
       pub is_first : IsShellWritten ds shell firsts
       pub opening : r.shell ≡ opening_of firsts
-      pub law : Law ds closes noded (map (ring_of ds) cycles) are r.ring r.some r.vertices r.least_first on r.pieces r.cut r.sound (is_some r.owner) r.written.first firsts
+      pub law : Law ds closes noded (map (ring_of ds) cycles) are r.ring r.some r.vertices r.least_first on r.pieces r.cut r.sound (is_some r.owner) r.first firsts
 
     owned_below : (k : ℕ) → k < length ds → IsHole (ring_of ds r.ring) → IsNearestBelow ds (left_of (edge_at ds (get_or r.ring 0 0)).from) (edge_at ds k) → r.owner ≡ get_or shells_old k None → IsOwned
     owned_below k l h d e = record {
@@ -145,9 +145,9 @@ module _ (ds : List DirectedEdge) (closes : Closes ds) (noded : AreNodedEdges ds
       firsts = s.1;
       owner = owner;
       is_first = s.4;
-      opening = r.written.shell_is ∙ ap (λ o. unwrap_or o (opening_of (get_or r.pieces r.written.first []))) some;
-      law = let P : Bool → Type 0 = λ b. Law ds closes noded (map (ring_of ds) cycles) are r.ring r.some r.vertices r.least_first on r.pieces r.cut r.sound b r.written.first s.1 in
-          subst P (sym (ap is_some some)) (law_of_hole ds closes noded (map (ring_of ds) cycles) are r.ring r.some r.vertices r.least_first on r.pieces r.cut r.sound r.written.first s.0 s.1 h owner s.4);
+      opening = r.written.shell_is ∙ ap (λ o. unwrap_or o (opening_of (get_or r.pieces r.first []))) some;
+      law = let P : Bool → Type 0 = λ b. Law ds closes noded (map (ring_of ds) cycles) are r.ring r.some r.vertices r.least_first on r.pieces r.cut r.sound b r.first s.1 in
+          subst P (sym (ap is_some some)) (law_of_hole ds closes noded (map (ring_of ds) cycles) are r.ring r.some r.vertices r.least_first on r.pieces r.cut r.sound r.first s.0 s.1 h owner s.4);
     }
       where
         v : Pt
@@ -183,16 +183,16 @@ module _ (ds : List DirectedEdge) (closes : Closes ds) (noded : AreNodedEdges ds
     owned : IsOwnerFound ds r.ring shells_old r.owner → IsOwned
     owned (inl (s, e)) = record {
       shell = ring_of ds r.ring;
-      firsts = get_or r.pieces r.written.first [];
+      firsts = get_or r.pieces r.first [];
       owner = itself on s;
-      is_first = shell_written ds closes noded (map (ring_of ds) cycles) are r.ring r.some r.vertices r.least_first on r.pieces r.cut r.sound r.written.first r.written.inside first;
-      opening = r.written.shell_is ∙ ap (λ o. unwrap_or o (opening_of (get_or r.pieces r.written.first []))) e;
-      law = let P : Bool → Type 0 = λ b. Law ds closes noded (map (ring_of ds) cycles) are r.ring r.some r.vertices r.least_first on r.pieces r.cut r.sound b r.written.first (get_or r.pieces r.written.first []) in
-          subst P (sym (ap is_some e)) (law_of_shell ds closes noded (map (ring_of ds) cycles) are r.ring r.some r.vertices r.least_first on r.pieces r.cut r.sound r.written.first r.written.inside first);
+      is_first = shell_written ds closes noded (map (ring_of ds) cycles) are r.ring r.some r.vertices r.least_first on r.pieces r.cut r.sound r.first r.inside first;
+      opening = r.written.shell_is ∙ ap (λ o. unwrap_or o (opening_of (get_or r.pieces r.first []))) e;
+      law = let P : Bool → Type 0 = λ b. Law ds closes noded (map (ring_of ds) cycles) are r.ring r.some r.vertices r.least_first on r.pieces r.cut r.sound b r.first (get_or r.pieces r.first []) in
+          subst P (sym (ap is_some e)) (law_of_shell ds closes noded (map (ring_of ds) cycles) are r.ring r.some r.vertices r.least_first on r.pieces r.cut r.sound r.first r.inside first);
     }
       where
-        first : IsFirstPiece (ring_of ds r.ring) (ring_of ds (get_or r.pieces r.written.first []))
-        first = r.written.is_first r.ring closes (ring_cut ds closes noded (map (ring_of ds) cycles) are r.ring r.some r.vertices r.least_first on r.pieces r.cut r.sound)
+        first : IsFirstPiece (ring_of ds r.ring) (ring_of ds (get_or r.pieces r.first []))
+        first = r.is_first r.ring closes (ring_cut ds closes noded (map (ring_of ds) cycles) are r.ring r.some r.vertices r.least_first on r.pieces r.cut r.sound)
     owned (inr (inl (b, h, e))) = owned_below b h.inside h.is_hole h.nearest e
     owned (inr (inr (h, _))) = absurd (let g = grounded (ring_of ds r.ring) on h.is_hole (edge_at ds (get_or r.ring 0 0)).from least in h.none g.1.edge g.1.below)
 
@@ -200,11 +200,11 @@ module _ (ds : List DirectedEdge) (closes : Closes ds) (noded : AreNodedEdges ds
     filled = record {
       placed = λ w c. elim (r.written.all.only w c) [
         | inl b ↦ f.placed w b
-        | inr b ↦ placed ds closes noded (map (ring_of ds) cycles) are r.ring r.some r.vertices r.least_first on r.pieces r.cut r.sound o.shell o.firsts o.owner o.is_first r.shell o.opening (is_some r.owner) r.written.first o.law b.0 b.1 w b.2
+        | inr b ↦ placed ds closes noded (map (ring_of ds) cycles) are r.ring r.some r.vertices r.least_first on r.pieces r.cut r.sound o.shell o.firsts o.owner o.is_first r.shell o.opening (is_some r.owner) r.first o.law b.0 b.1 w b.2
       ];
       each = λ j h qs c piece p. elim (cases_lt j i) [
         | inl l ↦ let b = f.each j l qs c piece p in record { placed = b.placed; inside = r.written.all.kept b.placed b.inside; least = b.least }
-        | inr l ↦ among ds closes noded (map (ring_of ds) cycles) are r.ring r.some r.vertices r.least_first on r.pieces r.cut r.sound r.shell (is_some r.owner) r.written.first old new r.written.all qs
+        | inr l ↦ among ds closes noded (map (ring_of ds) cycles) are r.ring r.some r.vertices r.least_first on r.pieces r.cut r.sound r.shell (is_some r.owner) r.first old new r.written.all qs
             (let P : List Pt → Type 0 = λ t. IsCut t qs in subst P (ap (λ t. ring_of ds (get_or cycles t [])) (this j h l) ∙ sym r.same) c) piece p
       ];
       shells = λ j h k c. elim (cases_lt j i) [

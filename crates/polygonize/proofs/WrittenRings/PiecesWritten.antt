@@ -2,14 +2,12 @@
 use Rattle.std.proofs.Common.{◌≡◌, ℕ, zero, suc, ◌+◌, ◌<◌, List, [], ◌∷◌, ◌++◌, length, refl, sym, ◌∙◌, ap, subst, inl, inr, Bool, true, false, Option, get_or, append_assoc, length-append, arith}
 use Rattle.std.specs.Prelude.{◌||◌, ◌==◌, ◌↔◌, is_some, not, unwrap_or}
 use Rattle.std.proofs.lemmas.Bool.Decides.{nat_tests}
-use Rattle.geom.specs.declared.directed.DirectedEdge.{DirectedEdge}
 use Rattle.geom.proofs.Lists.{In, contains_in, in_append, in_contains, in_back, in_front}
 use Rattle.std.proofs.lemmas.List.{append-nil, get_or_default}
 use Rattle.polygonize.specs.declared.written.Opening.{Opening}
 use Rattle.polygonize.specs.Owning.{ArePiecesWritten, AreWrittenUnder, IsPieceWritten}
 use Rattle.polygonize.specs.Placed.{PlacedRing, opening_of}
 use Rattle.polygonize.specs.Written.{backward}
-use Rattle.polygonize.specs.Piece.{IsFirstAmong}
 
 -- the entries of pieces, which are numbered from i on
 abbrev pub AreEntered : Opening → Bool → ℕ → ℕ → List (List ℕ) → List PlacedRing → Type 0
@@ -118,18 +116,12 @@ no_items : {X : Type 0} (xs : List X) → length xs ≡ 0 → xs ≡ []
 no_items [] h = refl
 no_items (x ∷ xs) h = absurd (omega arith)
 
-pub all_pieces : (ds : List DirectedEdge) (least : ℕ) (pieces now left : List (List ℕ)) (owner : Option Opening) (shell : Opening) (first : ℕ) (old new : List PlacedRing) (v p : List ℕ) → now ≡ pieces → first < length now → IsFirstAmong ds least now first
-    → v ≡ get_or pieces first v → p ≡ v → shell ≡ unwrap_or owner (opening_of p) → length left ≡ 0 → Entering shell (is_some owner) first pieces left old new → ArePiecesWritten ds least pieces owner shell old new
-all_pieces ds least pieces now left owner shell first old new v p e h i k q s z a = record {
-  first = first;
-  inside = inside;
-  is_first = let P : List (List ℕ) → Type 0 = λ t. IsFirstAmong ds least t first in subst P e i;
-  shell_is = s ∙ ap (λ t. unwrap_or owner (opening_of t)) (q ∙ k ∙ get_or_default pieces first v [] inside);
+pub all_pieces : (pieces left : List (List ℕ)) (owner : Option Opening) (shell : Opening) (first : ℕ) (old new : List PlacedRing) (v p : List ℕ) → first < length pieces → v ≡ get_or pieces first v → p ≡ v → shell ≡ unwrap_or owner (opening_of p) → length left ≡ 0
+    → Entering shell (is_some owner) first pieces left old new → ArePiecesWritten first pieces owner shell old new
+all_pieces pieces left owner shell first old new v p h k q s z a = record {
+  shell_is = s ∙ ap (λ t. unwrap_or owner (opening_of t)) (q ∙ k ∙ get_or_default pieces first v [] h);
   all = pieces_under shell (is_some owner) first pieces b.entries old new (all_entered shell (is_some owner) first pieces old new b) b.appended;
 }
   where
-    inside : first < length pieces
-    inside = let P : List (List ℕ) → Type 0 = λ t. first < length t in subst P e h
-
     b : Entering shell (is_some owner) first pieces [] old new
     b = let P : List (List ℕ) → Type 0 = λ t. Entering shell (is_some owner) first pieces t old new in subst P (no_items left z) a

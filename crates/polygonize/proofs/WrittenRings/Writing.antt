@@ -1,6 +1,6 @@
 -- The written rings have the edges of the cycles so far, each once.
-use Rattle.std.proofs.Common.{◌≡◌, ℕ, suc, ◌+◌, ◌<◌, ◌≤◌, List, [], ◌∷◌, ◌++◌, length, get_or, map, take, refl, sym, ◌∙◌, ap, subst, arith, add-one, Bool, cond, Option, None}
-use Rattle.std.specs.Prelude.{All, Contains, IsPermutation, flat_map, sum_by, count_by}
+use Rattle.std.proofs.Common.{◌≡◌, ℕ, suc, ◌+◌, ◌<◌, ◌≤◌, List, [], ◌∷◌, ◌++◌, length, get_or, map, take, refl, sym, ◌∙◌, ap, subst, arith, add-one, inl, inr, Bool, true, false, cond, Option, None, Some}
+use Rattle.std.specs.Prelude.{◌↔◌, All, Contains, IfSome, IsPermutation, IsTrue, flat_map, sum_by, count_by}
 use Rattle.std.proofs.lemmas.List.{map-append, append-nil, get_or_default, get_or-map, length-map, take_all}
 use Rattle.std.proofs.lemmas.List.Elements.{All-nil, All-cons, All-head, All-tail, All-append, All-map, All-weaker, Contains-get_or}
 use Rattle.std.proofs.lemmas.List.Concat.{flat_map-append}
@@ -16,19 +16,23 @@ use Rattle.geom.specs.Rings.IsCut.{whole, taken}
 use Rattle.geom.specs.Canonical.{Shape, HaveEachEdge, written_rings}
 use Rattle.geom.proofs.Lists.{contains_in, in_contains, map_in}
 use Rattle.geom.proofs.RingEdges.{in_flat, same_order, in_permutation, cut_edges}
+use Rattle.polygonize.specs.declared.cut_ring.CutRing.{CutRing}
 use Rattle.polygonize.specs.declared.written.Opening.{Opening}
 use Rattle.polygonize.specs.declared.below.Gap.{Gap}
 use Rattle.polygonize.specs.Below.{AreFoundBelow, IsFoundBelow}
+use Rattle.polygonize.specs.CutRing.{IsCycleCut}
 use Rattle.polygonize.specs.Cycle.{AreCycles, IsLeastFirst}
 use Rattle.polygonize.specs.Next.{AreNext, edge_at, ring_of}
 use Rattle.polygonize.specs.Number.{AreNumbers, IsVertex}
-use Rattle.polygonize.specs.Owning.{ArePiecesWritten, IsOwnerFound, IsRingPlaced, KeepsShell}
+use Rattle.polygonize.specs.Owning.{ArePiecesWritten, IsOwnerFound, IsRingPlaced, KeepsShell, kept_for}
+use Rattle.polygonize.specs.Piece.{IsFirstAmong}
 use Rattle.polygonize.specs.Placed.{PlacedRing}
 use Rattle.polygonize.specs.Written.{IsTurned, AreAdded, IsSound, IsCanonical, ArePlaces, IsRingWritten, HaveEdges, backward}
 use Rattle.polygonize.proofs.RingPieces.Pieces.{cut_long, Each}
 use Rattle.polygonize.proofs.RingPieces.Mapping.{cut_map, cut_all, cut_simple, all_left, all_right}
 use Rattle.polygonize.proofs.Numbers.{same_vertex, number_order, numbered_vertices, numbered_ring}
-use Rattle.polygonize.proofs.WrittenRings.Turning.{edges_in, turned_all_edges, turned_all_sound, turned_sound}
+use Rattle.polygonize.proofs.WrittenRings.Turning.{edges_in, turned_all_edges, turned_all_sound, turned_length}
+use Rattle.polygonize.proofs.WrittenRings.Cuts.{first_point}
 
 -- ---- the ring of a cycle and its pieces
 pub ring_one_way : (ds : List DirectedEdge) (rings : List (List Pt)) → AreDirected ds → AreRings ds rings → (ring : List Pt) → Contains rings ring → (u v : Pt) → Contains (ring_edges ring) (from_to u v) → ¬ (Contains (ring_edges ring) (from_to v u))
@@ -163,14 +167,8 @@ ring_sound ds numbers cycle ring pieces n p e c = pieces_sound ds ring pieces (r
     same : ring_of ds ring ≡ ring_of ds cycle
     same = ap (ring_of ds) e ∙ numbered_ring ds numbers n cycle p.inside
 
-pub ring_written : (ds : List DirectedEdge) (numbers cycle ring : List ℕ) (pieces old new : List (List ℕ)) → AreNumbers ds numbers → ArePlaces ds cycle → ring ≡ map (λ k. get_or numbers k 0) cycle → IsCut ring pieces → AreAdded pieces old new → IsRingWritten ds cycle old new
-ring_written ds numbers cycle ring pieces old new n p e c a = record { ring = ring; same = same; vertices = vertices; pieces = pieces; cut = c; sound = ring_sound ds numbers cycle ring pieces n p e c; added = a }
-  where
-    same : ring_of ds ring ≡ ring_of ds cycle
-    same = ap (ring_of ds) e ∙ numbered_ring ds numbers n cycle p.inside
-
-    vertices : All (IsVertex ds) ring
-    vertices = let P : List ℕ → Type 0 = All (IsVertex ds) in subst P (sym e) (numbered_vertices ds numbers n cycle p.inside)
+pub ring_written : {M : Type 0} (ds : List DirectedEdge) (cycle : List ℕ) (ring : CutRing M) (old new : List (List ℕ)) → IsCycleCut ds cycle ring → AreAdded ring.pieces.items old new → IsRingWritten ds cycle old new
+ring_written ds cycle ring old new r a = record { ring = r.ring; same = r.same; vertices = r.vertices; pieces = ring.pieces.items; cut = r.cut; sound = r.sound; added = a }
 
 -- ---- what stands at the end of a list
 pub last_of : {V : Type 0} (P : V → Type 0) (xs rest : List V) (x : V) → xs ≡ rest ++ x ∷ [] → All P xs → P x
@@ -179,17 +177,8 @@ last_of P xs rest x e h = All-head P x [] (all_right P rest (x ∷ []) (let Q : 
 pub rest_of : {V : Type 0} (P : V → Type 0) (xs rest : List V) (x : V) → xs ≡ rest ++ x ∷ [] → All P xs → All P rest
 rest_of P xs rest x e h = all_left P rest (x ∷ []) (let Q : List _ → Type 0 = All P in subst Q e h)
 
-pub two_points : (ds : List DirectedEdge) (ring turned : List ℕ) → IsSound ds ring → IsTurned ring turned → 2 ≤ length turned
-two_points ds ring turned s t = long (turned_sound ds ring turned t s).long
-  where
-    long : {n : ℕ} → 3 ≤ n → 2 ≤ n
-    long h = omega arith
-
-pub some_points : (ds : List DirectedEdge) (ring : List ℕ) → IsSound ds ring → 0 < length ring
-some_points ds ring s = long s.long
-  where
-    long : {n : ℕ} → 3 ≤ n → 0 < n
-    long h = omega arith
+pub two_points : (ring turned : List ℕ) → 3 ≤ length ring → IsTurned ring turned → 2 ≤ length turned
+two_points ring turned h t = let e = turned_length ring turned t in omega (arith, h, e)
 
 -- ---- what the calls for one ring ask
 pub in_numbers : (ds : List DirectedEdge) (numbers cycle : List ℕ) → AreNumbers ds numbers → ArePlaces ds cycle → All (λ k. k < length numbers) cycle
@@ -214,49 +203,69 @@ cut_some (taken {ring = r} {pieces = ps} front v mid back e s c) = more (length 
     more : (n : ℕ) → 0 < suc n
     more n = omega arith
 
+-- a shell has no owner; that of a hole is kept for the edge below it
+owner_found : (ds : List DirectedEdge) (ring : List ℕ) (shell_of : List (Option Opening)) (is_hole : Bool) (below : Option Gap) (owner : Option Opening) → IsTrue is_hole ↔ IsHole (ring_of ds ring) → (IsHole (ring_of ds ring) → IsFoundBelow ds (edge_at ds (get_or ring 0 0)).from below)
+    → (is_hole ≡ false → owner ≡ None) → (is_hole ≡ true → owner ≡ kept_for below shell_of) → IsOwnerFound ds ring shell_of owner
+owner_found ds ring shell_of false below owner h f n s = inl ((λ q. (let z : false ≡ true = h.1 q in absurd (cc))), n refl)
+owner_found ds ring shell_of true None owner h f n s = inr (inr (record { is_hole = h.0 refl; none = f (h.0 refl) }, s refl))
+owner_found ds ring shell_of true (Some g) owner h f n s = inr (inl (g.number, record { is_hole = h.0 refl; inside = (f (h.0 refl)).0; nearest = (f (h.0 refl)).1 }, s refl))
+
+below_ring : {M : Type 0} (ds : List DirectedEdge) (cycle : List ℕ) (ring : CutRing M) (below : Option Gap) → ArePlaces ds cycle → (r : IsCycleCut ds cycle ring) → (IsHole (ring_of ds cycle) → IsFoundBelow ds (edge_at ds (get_or cycle 0 0)).from below)
+    → IsHole (ring_of ds r.ring) → IsFoundBelow ds (edge_at ds (get_or r.ring 0 0)).from below
+below_ring ds cycle ring below p r f h = subst (λ (t : Pt). IsFoundBelow ds t below) (sym (first_point ds r.ring cycle r.same r.some p.some)) (f (subst IsHole r.same h))
+
+-- the edge below a hole has room for its shell
+pub below_inside : {M : Type 0} (ds : List DirectedEdge) (cycle : List ℕ) (ring : CutRing M) (below : Option Gap) (n : ℕ) → n ≡ length ds → ArePlaces ds cycle → (r : IsCycleCut ds cycle ring) → (IsHole (ring_of ds cycle) → IsFoundBelow ds (edge_at ds (get_or cycle 0 0)).from below)
+    → ring.is_hole ≡ true → IfSome below (λ g. g.number < n)
+below_inside ds cycle ring None n e p r f h = tt
+below_inside ds cycle ring (Some g) n e p r f h = let b = (below_ring ds cycle ring (Some g) p r f (r.hole.0 h)).0 in omega (arith, b, e)
+
 -- the ring is written, and its owner is known
-pub ring_placed : (ds : List DirectedEdge) (numbers cycle ring : List ℕ) (pieces : List (List ℕ)) (owner : Option Opening) (shell : Opening) (shells_old shells_new : List (Option Opening)) (old new : List PlacedRing) (least : ℕ) → AreDirected ds → AreNumbers ds numbers → ArePlaces ds cycle
-    → ring ≡ map (λ k. get_or numbers k 0) cycle → least ≡ get_or ring 0 least → IsCut ring pieces → IsOwnerFound ds ring shells_old owner → ArePiecesWritten ds least pieces owner shell old new → KeepsShell cycle shell shells_old shells_new → IsRingPlaced ds cycle shells_old shells_new old new
-ring_placed ds numbers cycle ring pieces owner shell shells_old shells_new old new least a n p e l c o w k = record {
-  ring = ring;
-  same = ap (ring_of ds) e ∙ numbered_ring ds numbers n cycle p.inside;
-  some = some;
-  vertices = ring_vertices ds numbers cycle ring n p e;
-  least_first = ring_least ds numbers cycle ring a n p e;
-  pieces = pieces;
-  cut = c;
-  sound = ring_sound ds numbers cycle ring pieces n p e c;
+pub ring_placed : {M : Type 0} (ds : List DirectedEdge) (cycle : List ℕ) (ring : CutRing M) (below : Option Gap) (owner : Option Opening) (shell : Opening) (shells_old shells_new : List (Option Opening)) (old new : List PlacedRing) → ArePlaces ds cycle → IsCycleCut ds cycle ring
+    → (IsHole (ring_of ds cycle) → IsFoundBelow ds (edge_at ds (get_or cycle 0 0)).from below) → (ring.is_hole ≡ false → owner ≡ None) → (ring.is_hole ≡ true → owner ≡ kept_for below shells_old)
+    → ArePiecesWritten ring.first ring.pieces.items owner shell old new → KeepsShell cycle shell shells_old shells_new → IsRingPlaced ds cycle shells_old shells_new old new
+ring_placed ds cycle ring below owner shell shells_old shells_new old new p r f n s w k = record {
+  ring = r.ring;
+  same = r.same;
+  some = r.some;
+  vertices = r.vertices;
+  least_first = r.least_first;
+  pieces = ring.pieces.items;
+  cut = r.cut;
+  sound = r.sound;
+  first = ring.first;
+  inside = r.inside;
+  is_first = r.is_first;
   owner = owner;
-  found = o;
+  found = owner_found ds r.ring shells_old ring.is_hole below owner r.hole (below_ring ds cycle ring below p r f) n s;
   shell = shell;
-  written = let P : ℕ → Type 0 = λ t. ArePiecesWritten ds t pieces owner shell old new in subst P (l ∙ sym (get_or_default ring 0 0 least some)) w;
+  written = w;
   kept = k;
 }
-  where
-    some : 0 < length ring
-    some = ring_some numbers cycle ring p.some e
 
 -- ---- the ring of one of the cycles
 
-pub ring_same : (ds : List DirectedEdge) (numbers cycle ring : List ℕ) → AreNumbers ds numbers → ArePlaces ds cycle → ring ≡ map (λ k. get_or numbers k 0) cycle → ring_of ds ring ≡ ring_of ds cycle
-ring_same ds numbers cycle ring n p e = ap (ring_of ds) e ∙ numbered_ring ds numbers n cycle p.inside
-
-pub first_same : (ds : List DirectedEdge) (numbers cycle ring : List ℕ) → AreNumbers ds numbers → ArePlaces ds cycle → ring ≡ map (λ k. get_or numbers k 0) cycle → (edge_at ds (get_or ring 0 0)).from ≡ (edge_at ds (get_or cycle 0 0)).from
-first_same ds numbers cycle ring n p e = ap (λ t. (edge_at ds (get_or t 0 0)).from) e ∙ ap (λ t. (edge_at ds t).from) (get_or-map (λ k. get_or numbers k 0) cycle 0 0 0 p.some) ∙ (n.each (get_or cycle 0 0) (p.inside 0 0 p.some)).same
+-- the ring of a cycle by its numbers, and its pieces
+pub cycle_cut : {M : Type 0} (ds : List DirectedEdge) (numbers cycle ring : List ℕ) (cut_ring : CutRing M) → AreDirected ds → AreNumbers ds numbers → ArePlaces ds cycle → ring ≡ map (λ k. get_or numbers k 0) cycle → IsCut ring cut_ring.pieces.items → IsTrue cut_ring.is_hole ↔ IsHole (ring_of ds ring)
+    → cut_ring.first < length cut_ring.pieces.items → IsFirstAmong ds (get_or ring 0 0) cut_ring.pieces.items cut_ring.first → IsCycleCut ds cycle cut_ring
+cycle_cut ds numbers cycle ring cut_ring a n p e c h i f = record {
+  ring = ring;
+  same = ap (ring_of ds) e ∙ numbered_ring ds numbers n cycle p.inside;
+  some = ring_some numbers cycle ring p.some e;
+  vertices = ring_vertices ds numbers cycle ring n p e;
+  least_first = ring_least ds numbers cycle ring a n p e;
+  cut = c;
+  sound = ring_sound ds numbers cycle ring cut_ring.pieces.items n p e c;
+  hole = h;
+  inside = i;
+  is_first = f;
+}
 
 pub cycle_at : (cycles : List (List ℕ)) (i : ℕ) (v cycle : List ℕ) → i < length cycles → cycle ≡ v → v ≡ get_or cycles i v → get_or cycles i [] ≡ cycle
 cycle_at cycles i v cycle h e k = get_or_default cycles i [] v h ∙ sym k ∙ sym e
 
 pub of_cycle : (P : List ℕ → Type 0) (cycles : List (List ℕ)) (i : ℕ) (v cycle : List ℕ) → i < length cycles → cycle ≡ v → v ≡ get_or cycles i v → All P cycles → P cycle
 of_cycle P cycles i v cycle h e k a = subst P (sym k ∙ sym e) (a i v h)
-
-pub hole_at : (ds : List DirectedEdge) (numbers : List ℕ) (cycles : List (List ℕ)) (i : ℕ) (v cycle ring : List ℕ) → AreNumbers ds numbers → ArePlaces ds cycle → ring ≡ map (λ k. get_or numbers k 0) cycle → i < length cycles → cycle ≡ v → v ≡ get_or cycles i v
-    → IsHole (ring_of ds (get_or cycles i [])) → IsHole (ring_of ds ring)
-hole_at ds numbers cycles i v cycle ring n p e h s k q = subst IsHole (ap (ring_of ds) (cycle_at cycles i v cycle h s k) ∙ sym (ring_same ds numbers cycle ring n p e)) q
-
-pub below_ring : (ds : List DirectedEdge) (numbers cycle ring : List ℕ) (below : Option Gap) → AreNumbers ds numbers → ArePlaces ds cycle → ring ≡ map (λ k. get_or numbers k 0) cycle → (IsHole (ring_of ds cycle) → IsFoundBelow ds (edge_at ds (get_or cycle 0 0)).from below)
-    → IsHole (ring_of ds ring) → IsFoundBelow ds (edge_at ds (get_or ring 0 0)).from below
-below_ring ds numbers cycle ring below n p e f h = subst (λ (t : Pt). IsFoundBelow ds t below) (sym (first_same ds numbers cycle ring n p e)) (f (subst IsHole (ring_same ds numbers cycle ring n p e) h))
 
 pub below_cycle : (ds : List DirectedEdge) (cycles : List (List ℕ)) (below : List (Option Gap)) (i : ℕ) (v cycle : List ℕ) → i < length cycles → cycle ≡ v → v ≡ get_or cycles i v → AreFoundBelow ds cycles below
     → IsHole (ring_of ds cycle) → IsFoundBelow ds (edge_at ds (get_or cycle 0 0)).from (get_or below i None)

@@ -1,9 +1,10 @@
 use Rattle.std.proofs.Common.{List, map, rules, subst, sym}
-use Rattle.std.specs.Prelude.{All}
+use Rattle.std.specs.Prelude.{All, IfOk}
 use Rattle.geom.specs.declared.directed.DirectedEdge.{DirectedEdge}
 use Rattle.geom.specs.Directed.{AreDirected}
 use Rattle.geom.specs.Holes.{HasGroundedRings}
 use Rattle.geom.specs.NodedEdges.{AreNodedEdges}
+use Rattle.polygonize.specs.Cycle.{IsOneToOne}
 use Rattle.polygonize.specs.Written.{IsSound}
 use Rattle.polygonize.specs.Told.{AreToldRings, ring_told}
 use Rattle.polygonize.proofs.Told.{are_told, sound}
@@ -28,3 +29,7 @@ returns g c = λ noded grounded.
     let sorted = sorted_by (λ w. w.place) place_cmp vs c.sort_unstable_by_key.ensures.sorted (λ a r q k. search rules) in
     subst (λ (ds : List DirectedEdge). AreToldRings ds (map (ring_told ds) vs)) same
     (are_told edges ws vs c.in_ok-written.ensures.sound c.sort_unstable_by_key.ensures.permutation (subst AreDirected (sym same) c.edges-edges.ensures.directed) noded_edges (c.in_ok-written.ensures.written noded_edges grounded_edges) c.in_ok-written.ensures.edges sorted)
+
+pub written_rings_by_hands-requires-clause-one_to_one : goal.written_rings_by_hands-requires-clause-one_to_one
+written_rings_by_hands-requires-clause-one_to_one g c = λ κs l.
+    subst IsOneToOne (sym c.deref.ensures.value) (subst (λ r. IfOk r (λ next. IsOneToOne next.items)) c.in_ok-next.was c.next_and_tables-next.ensures.one_to_one)

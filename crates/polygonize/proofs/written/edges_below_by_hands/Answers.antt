@@ -7,6 +7,7 @@ use Rattle.geom.specs.Limit.{InLimit}
 use Rattle.polygonize.specs.Below.{AreFoundBelow, AreGapsBelow}
 use Rattle.polygonize.specs.Next.{edge_at, nothing}
 use Rattle.polygonize.proofs.EdgesBelow.Searching.{below_all}
+use Rattle.polygonize.proofs.WrittenRings.Cuts.{holes_known}
 use Rattle.polygonize.proofs.written.edges_below_by_hands.Goals as goal
 
 pub gaps_below_by_hands-requires-clause-vertices_in : goal.gaps_below_by_hands-requires-clause-vertices_in
@@ -15,4 +16,4 @@ gaps_below_by_hands-requires-clause-vertices_in g c = λ κs l. subst (λ (vs : 
 
 pub returns : goal.returns
 returns g c = IfOk-weaker c.gaps_below_by_hands.result (λ best. AreGapsBelow c.args.edges.now c.deref.result.now c.deref-2.result.now best.items) (λ best. AreFoundBelow c.args.edges.now c.args.cycles.now best.items)
-    (λ best h. below_all c.args.edges.now c.args.cycles.now c.in_ok-vertices.vertices.items c.in_ok-holes.holes.items best.items c.in_ok-vertices.ensures c.in_ok-holes.ensures.complete (rw (c.deref.ensures.value, c.deref-2.ensures.value) at h)) c.gaps_below_by_hands.ensures
+    (λ best h. below_all c.args.edges.now c.args.cycles.now c.in_ok-vertices.vertices.items c.in_ok-holes.holes.items best.items c.in_ok-vertices.ensures (holes_known c.args.edges.now c.args.cycles.now c.args.rings.now c.in_ok-holes.holes.items c.requires.cut c.in_ok-holes.ensures.complete) (rw (c.deref.ensures.value, c.deref-2.ensures.value) at h)) c.gaps_below_by_hands.ensures

@@ -1,3 +1,4 @@
+use Rattle.std.proofs.Common.{◌≡◌, drop}
 use Rattle.geom.specs.Holes.{AreGrounded}
 use Rattle.geom.specs.NodedEdges.{AreNodedEdges}
 use Rattle.polygonize.specs.Next.{rings_of}
@@ -6,5 +7,5 @@ use Rattle.polygonize.specs.Placed.{rings_in}
 use Rattle.polygonize.proofs.WrittenRings.Writing.{Writing}
 use Rattle.polygonize.proofs.written.write_cycles.Given as goal
 
-abbrev pub invariant-loop-number : goal.invariant-loop-number
-invariant-loop-number g l = Writing l.edges l.cycles l.number (rings_in l.written.items) × (AreNodedEdges l.edges → AreGrounded l.edges (rings_of l.edges l.cycles) → AreFilled l.edges l.cycles l.number l.shell_of l.written.items)
+abbrev pub invariant-loop-ring : goal.invariant-loop-ring
+invariant-loop-ring g l = (drop l.number l.fn.rings.items ≡ l.ring-iterator.rest.items) × Writing l.edges l.cycles l.number (rings_in l.written.items) × (AreNodedEdges l.edges → AreGrounded l.edges (rings_of l.edges l.cycles) → AreFilled l.edges l.cycles l.number l.shell_of l.written.items)

@@ -1,0 +1,20 @@
+use Rattle.std.proofs.Common.{◌∙◌, ◌<◌, arith, length, subst, sym, List, ℕ}
+use Rattle.polygonize.specs.CutRing.{IsCycleCut}
+use Rattle.polygonize.specs.Written.{ArePlaces}
+use Rattle.polygonize.proofs.WrittenRings.Cuts.{none_cut, one_cut}
+use Rattle.polygonize.proofs.WrittenRings.Writing.{cycle_at, of_cycle}
+use Rattle.polygonize.proofs.cut_ring.cut_rings.Goals as goal
+
+pub loop-number-init : goal.loop-number-init
+loop-number-init g c = rw c.in_ok-rings.ensures.items (none_cut c.args.edges.now c.args.cycles.now c.args.from)
+
+pub cut_ring-requires-clause-cycle : goal.cut_ring-requires-clause-cycle
+cut_ring-requires-clause-cycle g c =
+    let inside : c.loop-number.number < length c.args.cycles.now = omega (arith, c.loop-number-test.true, c.requires.inside) in
+    of_cycle (ArePlaces c.args.edges.now) c.args.cycles.now c.loop-number.number c.index-cycles-number.result c.numbers-cycle.result.now inside c.numbers-cycle.ensures c.index-cycles-number.is c.requires.cycles.each
+
+pub loop-number-preserved : goal.loop-number-preserved
+loop-number-preserved g c =
+    let inside : c.loop-number.number < length c.args.cycles.now = omega (arith, c.loop-number-test.true, c.requires.inside) in
+    rw c.in_ok-push.ensures.items (one_cut c.args.edges.now c.args.cycles.now c.args.from c.loop-number.number c.loop-number.rings.items c.in_ok-cut_ring.field-0
+    (subst (λ (cycle : List ℕ). IsCycleCut c.args.edges.now cycle c.in_ok-cut_ring.field-0) (sym (cycle_at c.args.cycles.now c.loop-number.number c.index-cycles-number.result c.numbers-cycle.result.now inside c.numbers-cycle.ensures c.index-cycles-number.is)) c.in_ok-cut_ring.ensures) c.loop-number.invariant)

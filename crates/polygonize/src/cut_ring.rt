@@ -1,0 +1,90 @@
+//! The rings of cycles, cut at the vertices that they visit twice.
+
+ghost use Rattle.std.specs.Prelude.{◌≡◌, ◌<◌, ◌≤◌, All, IfOk, length};
+ghost use Rattle.geom.specs.Directed.{AreDirected};
+ghost use Rattle.geom.specs.Limit.{AreInLimit};
+ghost use Rattle.polygonize.specs.CutRing.{AreCyclesCut, AreCyclesOf, HasHoleNumbers, IsCycleCut};
+ghost use Rattle.polygonize.specs.Number.{AreNumbers};
+ghost use Rattle.polygonize.specs.Written.{ArePlaces};
+
+use crate::cut::cut;
+use crate::cycle::Cycle;
+use crate::hole::is_hole;
+use crate::number::vertices_of;
+use crate::piece::first_piece;
+use geom::{DirectedEdge, NoMemory};
+use std::alloc::Allocator;
+
+/// A ring that is cut: whether it is a hole, its pieces, and which of them is the first.
+#[derive(Drop)]
+pub struct CutRing<A: Allocator> {
+    pub is_hole: bool,
+    pub first: usize,
+    pub pieces: Vec<Cycle<A>, A>,
+}
+
+/// The ring of a cycle, cut. `places` has a place for each number.
+fn cut_ring<A: Allocator + Copy>(
+    alloc: A,
+    edges: &[DirectedEdge],
+    numbers: &[usize],
+    cycle: &[usize],
+    places: &mut [usize],
+) -> Result<CutRing<A>, NoMemory>
+    requires directed { AreDirected edges.now }
+    requires edges_in { All (λ d. AreInLimit d.from d.to) edges.now }
+    requires numbers { AreNumbers edges.now numbers.now }
+    requires cycle { ArePlaces edges.now cycle.now }
+    requires places { length places.old ≡ length edges.now }
+    ensures { IfOk result (λ ring. IsCycleCut edges.now cycle.now ring) }
+{
+    let ring = vertices_of(alloc, numbers, cycle)?;
+    let is_hole = is_hole(edges, &ring);
+    let pieces = cut(alloc, &ring, places)?;
+    let first = first_piece(edges, ring[0], &pieces);
+    Ok(CutRing {
+        is_hole,
+        first,
+        pieces,
+    })
+}
+
+/// The rings of the cycles from one number to before another one, cut.
+pub fn cut_rings<A: Allocator + Copy>(
+    alloc: A,
+    edges: &[DirectedEdge],
+    numbers: &[usize],
+    cycles: &[Cycle<A>],
+    from: usize,
+    past: usize,
+) -> Result<Vec<CutRing<A>, A>, NoMemory>
+    requires cycles { AreCyclesOf edges.now numbers.now cycles.now }
+    requires order { from ≤ past }
+    requires inside { past ≤ length cycles.now }
+    ensures { IfOk result (λ rings. AreCyclesCut edges.now cycles.now from past rings.items) }
+{
+    let mut places = vec![in alloc; 0; edges.len()]?;
+    let mut rings = Vec::with_capacity(alloc, past - from)?;
+    for number in from..past {
+        let cycle = cycles[number].numbers();
+        rings.push(cut_ring(alloc, edges, numbers, cycle, &mut places)?)?;
+    }
+    Ok(rings)
+}
+
+/// The numbers of those rings that are holes.
+pub fn holes_among<A: Allocator + Copy>(
+    alloc: A,
+    rings: &[CutRing<A>],
+) -> Result<Vec<usize, A>, NoMemory>
+    ensures inside { IfOk result (λ holes. All (λ r. r < length rings.now) holes.items) }
+    ensures complete { IfOk result (λ holes. HasHoleNumbers rings.now holes.items) }
+{
+    let mut holes = Vec::new(alloc);
+    for number in 0..rings.len() {
+        if rings[number].is_hole {
+            holes.push(number)?;
+        }
+    }
+    Ok(holes)
+}
