@@ -1,6 +1,7 @@
 //! Two layer texts, read.
 //!
-//! 1. Either text is checked and read in one pass (`reading`), both at once where there are workers for both (`read_both`).
+//! 1. Either text is checked and read in one pass (`reading`), both at once where there are workers for both, and each by a half of the
+//!    hands where it can be parted (`read_both`).
 //! 2. The rings that were read, or are read now, since there was no room for them before (`rings_of`), are cut into segments
 //!    (`read_segments`), those of both layers at once where there are workers for both (`read_segments_by_workers`).
 
@@ -15,7 +16,7 @@ use geom::{Layer, NoMemory, Seg, Source};
 use hands::join;
 use std::alloc::Allocator;
 use std::thread::Threads;
-use wkt::{OutlinedLayer, read_layer, read_outlined};
+use wkt::{OutlinedLayer, read_layer, read_outlined, read_outlined_by_hands};
 
 /// A hand for either text.
 const BOTH: usize = 2;
@@ -27,7 +28,19 @@ pub(crate) fn reading<A: Allocator + Copy>(alloc: A, text: &[u8]) -> Reading<A>
     read_outlined(alloc, text)
 }
 
-/// What is read of two layer texts, of both at once by more than one worker.
+/// The same by so many hands.
+fn reading_by_hands<A: Allocator + Copy + Send + Sync, R: Threads + Sync>(
+    rt: &R,
+    hands: usize,
+    alloc: A,
+    text: &[u8],
+) -> Reading<A>
+    ensures { IsReading text.now result }
+{
+    read_outlined_by_hands(rt, hands, alloc, text)
+}
+
+/// What is read of two layer texts, of both at once by more than one worker, each by a half of the hands.
 pub(crate) fn read_both<A: Allocator + Copy + Send + Sync, R: Threads + Sync>(
     rt: &R,
     alloc: A,
@@ -38,11 +51,16 @@ pub(crate) fn read_both<A: Allocator + Copy + Send + Sync, R: Threads + Sync>(
     ensures a { IsReading a.now result.0 }
     ensures b { IsReading b.now result.1 }
 {
-    if workers > 1 {
-        join(rt, BOTH, || reading(alloc, a), || reading(alloc, b))
-    } else {
-        (reading(alloc, a), reading(alloc, b))
+    if workers < 2 {
+        return (reading(alloc, a), reading(alloc, b));
     }
+    let hands = workers as usize;
+    join(
+        rt,
+        BOTH,
+        || reading_by_hands(rt, hands / 2, alloc, a),
+        || reading_by_hands(rt, hands - hands / 2, alloc, b),
+    )
 }
 
 /// The rings of a layer text that isn't refused: those that were read, or they are read now.

@@ -11,7 +11,7 @@ use std::marker::Model;
 use std::thread::Threads;
 
 /// Fewer edges are not worth a thread.
-const LEAST: usize = 16_384;
+const LEAST: usize = 4_096;
 
 /// A hand for each part.
 const HALVES: usize = 2;

@@ -1,10 +1,10 @@
 -- A ring begun at its least vertex is a hole where it turns to the right at a visit of that vertex.
-use Rattle.std.proofs.Common.{◌≡◌, ℕ, ◌<◌, ◌≤◌, ◌++◌, List, length, get_or, sym, ◌∙◌, ap, subst, inl, inr, arith, true, false}
+use Rattle.std.proofs.Common.{◌≡◌, ℕ, ◌<◌, ◌≤◌, List, length, get_or, sym, ◌∙◌, ap, subst, inl, inr, arith, true, false}
 use Rattle.std.proofs.lemmas.Int.{ints}
 use lib.Signed.{lt_z}
 use Rattle.std.specs.Prelude.{All, Contains, ℤ, pos, ◌<ℤ◌}
 use Rattle.std.proofs.lemmas.Bool.{cases_lt}
-use Rattle.std.proofs.lemmas.List.Elements.{All-map, Contains-append_left, Contains-append_right, Contains-get_or}
+use Rattle.std.proofs.lemmas.List.Elements.{All-map, Contains-get_or}
 use Rattle.geom.specs.declared.point.Pt.{Pt}
 use Rattle.geom.specs.declared.directed.DirectedEdge.{DirectedEdge}
 use Rattle.geom.specs.Order.{IsBefore}
@@ -14,7 +14,6 @@ use Rattle.geom.specs.Rings.{Corner, corner, ring_corners}
 use Rattle.geom.specs.Holes.{IsHole, IsLeastVertex}
 use Rattle.geom.proofs.Edges.{before_strict}
 use Rattle.geom.proofs.Orders.{before_itself}
-use Rattle.polygonize.specs.Below.{HasHoles}
 use Rattle.polygonize.specs.Next.{edge_at, nothing, ring_of}
 use Rattle.polygonize.specs.Number.{IsVertex}
 use Rattle.polygonize.proofs.Least.{vertex_order}
@@ -105,10 +104,3 @@ turned_there ds ring i at after m e f q t = (
   where
     now : TurnsRight ds ring i
     now = let P : ℕ → Type 0 = TurnsRight ds ring in subst P q t
-
--- ---- the holes of two parts
-pub holes_in_parts : (ds : List DirectedEdge) (cycles : List (List ℕ)) (from middle past : ℕ) (holes more : List ℕ) → HasHoles ds cycles from middle holes → HasHoles ds cycles middle past more → HasHoles ds cycles from past (holes ++ more)
-holes_in_parts ds cycles from middle past holes more f g = λ r l h q. elim (cases_lt r middle) [
-  | inl a ↦ Contains-append_left holes more r (f r l a q)
-  | inr a ↦ Contains-append_right holes more r (g r (omega (arith, a)) h q)
-]

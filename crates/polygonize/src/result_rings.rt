@@ -27,6 +27,9 @@ use std::alloc::Allocator;
 use std::marker::Model;
 use std::thread::Threads;
 
+/// A hand for either of two calls.
+const BOTH: usize = 2;
+
 /// The rings of a result in the order of its text: each polygon's shell, and then its holes.
 #[derive(Drop)]
 pub struct ResultRings<A: Allocator> {
@@ -89,10 +92,7 @@ fn next_and_tables<R: Threads + Sync, A: Allocator + Copy + Send + Sync>(
     hands: usize,
     alloc: A,
     edges: &[DirectedEdge],
-) -> (
-    Result<Vec<usize, A>, NoMemory>,
-    Result<Tables<A>, NoMemory>,
-)
+) -> (Result<Vec<usize, A>, NoMemory>, Result<Tables<A>, NoMemory>)
     requires hands { 2 ≤ hands }
     requires closes { Closes edges.now }
     requires edges_in { All (λ d. AreInLimit d.from d.to) edges.now }
@@ -102,7 +102,7 @@ fn next_and_tables<R: Threads + Sync, A: Allocator + Copy + Send + Sync>(
 {
     join(
         rt,
-        hands,
+        BOTH,
         || -> Result<Vec<usize, A>, NoMemory>
             requires { IsSync R.row × IsSend A.row × IsSync A.row × (2 ≤ hands) × Closes edges.now × All (λ d. AreInLimit d.from d.to) edges.now }
             ensures { IfOk result (λ next. AreNext edges.entry.now next.items × IsOneToOne next.items) }

@@ -147,7 +147,9 @@ fn write_pieces<A: Allocator>(
     ensures pieces { IfOk result (λ shell. ArePiecesWritten ring.first ring.pieces.items owner shell written.old.items written.new.items) }
 {
     let CutRing {
-        first, mut pieces, ..
+        first,
+        mut pieces,
+        ..
     } = ring;
     let shell = shell_of_pieces(owner, pieces[first].numbers());
     while let Some(piece) = pieces.pop() {

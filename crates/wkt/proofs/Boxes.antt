@@ -125,3 +125,33 @@ box_at steps (Some r) h = record {
 -- a rectangle with the surveyed corners is the box
 pub box_is : (steps : List (Pt × Pt)) (b : Option Rect) → option_map corners b ≡ fold grown_by None steps → MatchOption b (steps ≡ []) (IsBox steps)
 box_is steps b e = box_at steps b (subst (Hull steps) (sym e) (hull_rest [] steps None refl))
+
+-- ---- the box of two lists of steps
+
+hull_of : (steps : List (Pt × Pt)) (r : Rect) → IsBox steps r → IsHull steps (corners r)
+hull_of steps r b = record {
+  spans = λ s i. let k = b.holds s i in (record { left = k.0.left; right = k.0.right; bottom = k.0.bottom; top = k.0.top }, record { left = k.1.left; right = k.1.right; bottom = k.1.bottom; top = k.1.top });
+  least = b.least;
+}
+
+spans_wider : (c d : Corners) (p : Pt) → Spans d p → Spans (grown (grown c d.lo) d.hi) p
+spans_wider c d p s = record {
+  left = le_trans (spans_old (grown c d.lo) d.hi d.lo (spans_new c d.lo)).left s.left;
+  right = le_trans s.right (spans_new (grown c d.lo) d.hi).right;
+  bottom = le_trans (spans_old (grown c d.lo) d.hi d.lo (spans_new c d.lo)).bottom s.bottom;
+  top = le_trans s.top (spans_new (grown c d.lo) d.hi).top;
+}
+
+hull_joined : (steps more : List (Pt × Pt)) (c d : Corners) → IsHull steps c → IsHull more d → IsHull (steps ++ more) (grown (grown c d.lo) d.hi)
+hull_joined steps more c d h k = record {
+  spans = λ t i. elim (Contains-append_cases steps more t i) [
+    | inl j ↦ let s = h.spans t j in (spans_old (grown c d.lo) d.hi t.0 (spans_old c d.lo t.0 s.0), spans_old (grown c d.lo) d.hi t.1 (spans_old c d.lo t.1 s.1))
+    | inr j ↦ let s = k.spans t j in (spans_wider c d t.0 s.0, spans_wider c d t.1 s.1)
+  ];
+  least = λ q i. let w = k.least q (λ t j. i t (Contains-append_right steps more t j)) in
+      within_grown q (grown c d.lo) d.hi (within_grown q c d.lo (h.least q (λ t j. i t (Contains-append_left steps more t j))) w.0) w.1;
+}
+
+-- a rectangle with the corners of both boxes, joined, is the box of both
+pub box_joined : (steps more : List (Pt × Pt)) (q r s : Rect) → IsBox steps q → IsBox more r → corners s ≡ grown (grown (corners q) r.lo) r.hi → IsBox (steps ++ more) s
+box_joined steps more q r s h k e = box_at (steps ++ more) (Some s) (subst (λ (c : Corners). IsHull (steps ++ more) c) (sym e) (hull_joined steps more (corners q) (corners r) (hull_of steps q h) (hull_of more r k)))

@@ -3,6 +3,7 @@ use Rattle.std.proofs.Common.{◌≡◌, ℕ, ◌-◌, ◌≤◌, Bool, true, fa
 use Rattle.std.specs.Prelude.{map, filter, not, nat_lt}
 use Rattle.std.specs.List.{flat_map}
 use Rattle.std.proofs.lemmas.List.{length-map}
+use Rattle.std.proofs.lemmas.List.Elements.{filter-append}
 use Rattle.std.proofs.lemmas.Bool.Decides.{nat_tests}
 use Rattle.geom.specs.declared.point.Pt.{Pt}
 use Rattle.geom.specs.declared.fault.Fault.{Fault}
@@ -69,14 +70,6 @@ ring_steps-are at (p ∷ q ∷ qs) e =
 pub none_first : (a b : Option Fault) → or_else a b ≡ None → (a ≡ None) × (b ≡ None)
 none_first None b e = (refl, e)
 none_first (Some f) b e = absurd cc
-
-filter-append : (f : Pt × Pt → Bool) (xs ys : List (Pt × Pt)) → filter f (xs ++ ys) ≡ filter f xs ++ filter f ys
-filter-append f [] ys = refl
-filter-append f (x ∷ xs) ys = kept_on (f x) x (filter f (xs ++ ys)) (filter f xs) (filter f ys) (filter-append f xs ys)
-  where
-    kept_on : (b : Bool) (x : Pt × Pt) (us vs ws : List (Pt × Pt)) → us ≡ vs ++ ws → cond b (x ∷ us) us ≡ cond b (x ∷ vs) vs ++ ws
-    kept_on true x us vs ws e = ap (λ (zs : List (Pt × Pt)). x ∷ zs) e
-    kept_on false x us vs ws e = e
 
 -- the segments of rings without fault
 pub layer_steps-are : (rings : List Ring) → first_fault rings ≡ None → layer_steps (plain rings) ≡ all_segments rings

@@ -53,7 +53,7 @@ pub of_within : (z : ℤ) → IsWithin coordinate_limit z → nat_lt coordinate_
 of_within (pos k) h = let l = h.high in not_lt k (omega (arith, linear, l))
 of_within (negsuc k) h = let l = h.low in not_lt (suc k) (omega (arith, linear, l))
 
-points_in : (ps : List Point) → first_outside (numbers ps) ≡ None → AllByRecursion InLimit (map place_of ps)
+pub points_in : (ps : List Point) → first_outside (numbers ps) ≡ None → AllByRecursion InLimit (map place_of ps)
 points_in [] e = tt
 points_in (p ∷ ps) e =
     let a = inside_head (nat_lt coordinate_limit (unsigned_abs p.x.value)) p.x.at (first_outside (p.y ∷ numbers ps)) e in

@@ -12,6 +12,8 @@ pub mod Passing
 pub mod Checks
 pub mod Collections
 pub mod Inside
+pub mod Parted
+pub mod Outlines
 pub mod Exclusive
 pub mod Bounded
 pub mod Written

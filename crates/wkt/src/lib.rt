@@ -2,6 +2,7 @@
 #![tactic(auto)]
 
 mod check;
+mod halves;
 mod laws;
 mod outline;
 mod places;
@@ -14,5 +15,5 @@ mod write;
 pub use check::{LENGTH_LIMIT, check_layer};
 pub use laws::{one_reading, one_refusal};
 pub use outline::Outline;
-pub use read::{OutlinedLayer, read_layer, read_outlined};
+pub use read::{OutlinedLayer, read_layer, read_outlined, read_outlined_by_hands};
 pub use write::{push_first_ring, push_line_end, push_next_ring, write_multi};

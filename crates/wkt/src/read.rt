@@ -8,11 +8,13 @@ ghost use Rattle.wkt.specs.Collecting.{closed, gathered, point_value, view};
 ghost use Rattle.wkt.specs.Outlines.{IsOutline};
 
 use crate::check::{LENGTH_LIMIT, check_layer};
+use crate::halves::gathered_by_hands;
 use crate::outline::Outline;
 use crate::reader::{Event, Number, Reader};
 use crate::survey::Survey;
 use geom::{Fault, Layer, NoMemory, Pt, Ring};
 use std::alloc::Allocator;
+use std::thread::Threads;
 
 /// The greatest length of a text, in bytes, that is read in the pass that checks it: a longer one may have more points than
 /// there should be room for before it is known not to be refused.
@@ -87,7 +89,10 @@ impl<A: Allocator + Copy> Collector<A> {
 }
 
 /// The outline and the rings of a text, or why it is refused; `Memory` as soon as there is none, whatever the text.
-fn gather<A: Allocator + Copy>(alloc: A, text: &[u8]) -> Result<(Outline, Vec<Ring<A>, A>), Fault>
+pub fn gather<A: Allocator + Copy>(
+    alloc: A,
+    text: &[u8],
+) -> Result<(Outline, Vec<Ring<A>, A>), Fault>
     ensures { MatchResult result (λ r. StandsFor text.now r.1.items × IsOutline r.1.items r.0) (λ fault. IsRefused text.now fault ⊎ (fault ≡ Fault.Memory)) }
 {
     if text.len() > LENGTH_LIMIT {
@@ -167,5 +172,30 @@ pub fn read_layer<A: Allocator + Copy>(alloc: A, text: &[u8]) -> Result<Layer<A>
             Err(Fault::Memory)
         }
         Err(fault) => Err(fault),
+    }
+}
+
+/// As `read_outlined`, by so many hands: a long text is parted, where geometries stand on lines of their own, and read by all of them.
+/// Where a part is no layer by itself, the whole is read once more, by one.
+pub fn read_outlined_by_hands<A: Allocator + Copy + Send + Sync, R: Threads + Sync>(
+    rt: &R,
+    hands: usize,
+    alloc: A,
+    text: &[u8],
+) -> Result<OutlinedLayer<A>, Fault>
+    ensures answer { MatchResult result (λ read. (rings : List (List PtOf)) × StandsFor text.now rings × IsOutline rings read.outline) (λ fault. IsRefused text.now fault) }
+    ensures rings { IfOk result (λ read. IfSome read.layer (λ layer. StandsFor text.now layer)) }
+    ensures bounds_in_limit { IfOk result (λ read. IfSome read.outline.bounds (λ r. AreInLimit r.lo r.hi)) }
+    ensures in_limit { IfOk result (λ read. IfSome read.layer (λ layer. All (λ ring. All InLimit ring) layer)) }
+{
+    if hands < 2 || text.len() > ONE_PASS {
+        return read_outlined(alloc, text);
+    }
+    match gathered_by_hands(rt, hands, alloc, text) {
+        Some((outline, rings)) => Ok(OutlinedLayer {
+            outline,
+            layer: Some(Layer::new(rings)),
+        }),
+        None => read_outlined(alloc, text),
     }
 }

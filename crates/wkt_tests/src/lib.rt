@@ -2,6 +2,8 @@
 #![tactic(auto)]
 
 #[cfg(test)]
+mod halves;
+#[cfg(test)]
 mod reading;
 #[cfg(test)]
 mod written;

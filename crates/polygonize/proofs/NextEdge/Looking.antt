@@ -48,7 +48,10 @@ pub record Looked (ds : List DirectedEdge) (first past : ℕ) (u : Pt) (best : �
 
 pub first_looked : (ds : List DirectedEdge) (first : ℕ) (u : Pt) → first < length ds → Looked ds first (first + 1) u first
 first_looked ds first u h = record {
-  some = omega arith; reach = omega (arith, h); low = omega arith; high = omega arith;
+  some = omega arith;
+  reach = omega (arith, h);
+  low = omega arith;
+  high = omega arith;
   together = λ j l m. (let at : j ≡ first = omega (arith, l, m) in ap (λ i. (edge_at ds i).from) at);
   best_is = λ k m. (let a = m.behind in let b = m.inside in omega (arith, a, b));
 }
@@ -143,7 +146,9 @@ module _ (ds : List DirectedEdge) (c : Closes ds) (k first : ℕ) (h : k < lengt
 
   met_first : IsMetFirst ds first (length ds) (edge_at ds first).from u p
   met_first = record {
-    behind = behind; inside = inside; leaves = ap (λ d. d.from) is ∙ sym starts;
+    behind = behind;
+    inside = inside;
+    leaves = ap (λ d. d.from) is ∙ sym starts;
     first = λ j l m at n. (let P : Pt → Type 0 = λ q. IsMetBefore q u (edge_at ds p).to (edge_at ds j).to in subst P (sym starts)
         (let Q : Pt → Type 0 = λ q. IsMetBefore v u q (edge_at ds j).to in subst Q (sym (ap (λ d. d.to) is)) (before_others j m at n)));
   }

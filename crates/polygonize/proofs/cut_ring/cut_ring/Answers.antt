@@ -1,4 +1,4 @@
-use Rattle.std.proofs.Common.{◌∙◌, List, ap, get_or, subst, sym, ℕ}
+use Rattle.std.proofs.Common.{◌∙◌, subst, sym, ℕ}
 use Rattle.std.proofs.lemmas.List.{get_or_default}
 use Rattle.polygonize.specs.Piece.{IsFirstAmong}
 use Rattle.polygonize.proofs.WrittenRings.Writing.{cut_some, cycle_cut, ring_least, ring_some, ring_sound, ring_vertices, vertices_inside}

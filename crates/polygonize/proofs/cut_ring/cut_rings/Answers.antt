@@ -1,4 +1,4 @@
-use Rattle.std.proofs.Common.{◌∙◌, ◌<◌, arith, length, subst, sym, List, ℕ}
+use Rattle.std.proofs.Common.{◌<◌, arith, length, subst, sym, List, ℕ}
 use Rattle.polygonize.specs.CutRing.{IsCycleCut}
 use Rattle.polygonize.specs.Written.{ArePlaces}
 use Rattle.polygonize.proofs.WrittenRings.Cuts.{none_cut, one_cut}

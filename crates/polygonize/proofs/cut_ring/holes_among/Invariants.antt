@@ -1,4 +1,4 @@
-use Rattle.std.proofs.Common.{◌<◌, ◌≡◌, length, slice_index_or}
+use Rattle.std.proofs.Common.{◌<◌, length, slice_index_or}
 use Rattle.std.specs.Prelude.{IsTrue}
 use Rattle.polygonize.proofs.Filtered.{KeptSoFar}
 use Rattle.polygonize.proofs.cut_ring.holes_among.Given as goal

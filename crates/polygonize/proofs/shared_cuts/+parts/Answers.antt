@@ -1,4 +1,4 @@
-use Rattle.std.proofs.Common.{◌++◌, ◌∙◌, List, ap, subst, sym}
+use Rattle.std.proofs.Common.{subst, sym}
 use Rattle.std.specs.Prelude.{IfOk}
 use Rattle.polygonize.specs.CutRing.{AreCyclesCut}
 use Rattle.polygonize.proofs.WrittenRings.Cuts.{both_cut}

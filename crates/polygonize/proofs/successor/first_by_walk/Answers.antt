@@ -1,4 +1,4 @@
-use Rattle.std.proofs.Common.{◌≡◌, ◌∙◌, false, true, arith, sym}
+use Rattle.std.proofs.Common.{◌∙◌, arith, sym}
 use Rattle.std.proofs.lemmas.Bool.{false≢true}
 use Rattle.polygonize.specs.Next.{edge_at}
 use Rattle.polygonize.proofs.NextEdge.Looking.{all_looked, first_looked, is_better, is_no_better}

@@ -1,4 +1,4 @@
-use Rattle.std.proofs.Common.{◌≡◌, ◌<◌, Contains, List, Option, length, subst, sym}
+use Rattle.std.proofs.Common.{◌≡◌, Contains, List, subst, sym}
 use Rattle.std.specs.Prelude.{IfSome}
 use Rattle.std.proofs.lemmas.List.Elements.{Contains-get_or}
 use Rattle.polygonize.specs.declared.leaving.LeavingEdge.{LeavingEdge}

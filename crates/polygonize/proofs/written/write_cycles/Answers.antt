@@ -32,8 +32,7 @@ write_ring-requires-clause-below g c =
 pub loop-ring-preserved : goal.loop-ring-preserved
 loop-ring-preserved g c =
     let taken = c.loop-ring.invariant.0 ∙ c.in-Some.ensures.steps.0 in
-    let inside = cycle_inside c.args.edges.now c.args.cycles.now c.args.rings.items c.loop-ring.number c.in-Some.ring c.next.new.self.rest.items c.requires.cut taken in
-    (
+    let inside = cycle_inside c.args.edges.now c.args.cycles.now c.args.rings.items c.loop-ring.number c.in-Some.ring c.next.new.self.rest.items c.requires.cut taken in (
       (taken_next c.args.rings.items c.loop-ring.number c.in-Some.ring c.next.new.self.rest.items taken).2,
       one_written c.args.edges.now c.args.cycles.now c.loop-ring.number c.numbers.result.now _ _ inside (cycle_at c.args.cycles.now c.loop-ring.number c.index-cycles-number.result c.numbers.result.now inside c.numbers.ensures c.index-cycles-number.is) c.in_ok-write_ring.ensures.written c.loop-ring.invariant.1,
       (λ noded grounded. next_filled c.args.edges.now c.requires.closes noded c.args.cycles.now c.requires.rings grounded c.requires.its_edges c.requires.cycles c.loop-ring.number c.index-cycles-number.result c.numbers.result.now _ _ _ _ inside c.numbers.ensures (sym c.index-cycles-number.is)

@@ -1,4 +1,4 @@
-use Rattle.std.proofs.Common.{◌∙◌, ◌||◌, ◌==◌, ◌<◌, ◌≤◌, List, ap, arith, get_or, length, not, refl, ℕ}
+use Rattle.std.proofs.Common.{◌∙◌, ◌||◌, ◌==◌, ◌≤◌, List, ap, arith, length, not, refl, ℕ}
 use Rattle.std.specs.Prelude.{is_some}
 use Rattle.polygonize.specs.Placed.{opening_of, rings_in}
 use Rattle.polygonize.proofs.WrittenRings.Turning.{none_added, step_added}

@@ -1,7 +1,7 @@
-use Rattle.std.proofs.Common.{◌≤◌, length, arith, ℕ, List}
+use Rattle.std.proofs.Common.{◌≤◌, length, ℕ, List}
 use Rattle.std.proofs.lemmas.List.Elements.{All-weaker}
 use Rattle.polygonize.specs.Written.{IsSound}
-use Rattle.polygonize.proofs.WrittenRings.Writing.{below_inside, places_inside, ring_placed, ring_written}
+use Rattle.polygonize.proofs.WrittenRings.Writing.{below_inside, ring_placed, ring_written}
 use Rattle.polygonize.proofs.written.write_ring.Goals as goal
 
 pub owner_of-owner-requires : goal.owner_of-owner-requires
