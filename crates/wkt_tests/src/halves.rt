@@ -39,12 +39,7 @@ fn is_read<R: Threads + Sync>(
 }
 
 /// Whether the text is refused so.
-fn is_refused<R: Threads + Sync>(
-    rt: &R,
-    alloc: Global,
-    hands: usize,
-    row: (&str, Fault),
-) -> bool {
+fn is_refused<R: Threads + Sync>(rt: &R, alloc: Global, hands: usize, row: (&str, Fault)) -> bool {
     let (behind, fault) = row;
     let Ok(text) = text_with(alloc, behind) else {
         return false;
