@@ -10,9 +10,10 @@ use Rattle.geom.specs.declared.point.Pt.{Pt}
 use Rattle.geom.specs.declared.rect.Rect.{Rect}
 use Rattle.geom.specs.Box.{IsInBox}
 use Rattle.geom.proofs.Lists.{In, contains_in, in_contains}
-use Rattle.tiling.specs.Tiles.{Tiling, Owns}
+use Rattle.grid.specs.Tiles.{Tiling, Owns}
 use Rattle.tiling.specs.Index.{AreIndexed}
-use Rattle.tiling.specs.Bins.{Binned, IsBin}
+use Rattle.grid.specs.Bins.{IsBin}
+use Rattle.tiling.specs.Bins.{Binned}
 use Rattle.chain_gather.specs.Gathered.{AreBinsBy, AreBoxesBy, corners}
 
 pub in_same_box : (lo hi low high p : Pt) → lo ≡ low → hi ≡ high → IsInBox lo hi p → IsInBox low high p

@@ -14,8 +14,8 @@ use Rattle.geom.specs.Hot.{IsHot}
 use Rattle.geom.specs.Order.{IsBefore}
 use Rattle.geom.proofs.Lists.{contains_in, in_contains, some_same}
 use Rattle.geom.proofs.Orders.{before_itself}
-use Rattle.tiling.specs.Tiles.{HasTile, Owns, Tiling, steps, tile_count}
-use Rattle.tiling.proofs.Columns.{owner_is, pos_same}
+use Rattle.grid.specs.Tiles.{HasTile, Owns, Tiling, steps, tile_count}
+use Rattle.grid.proofs.Columns.{owner_is, pos_same}
 use Rattle.hot_pixel.proofs.HotLaws.{hot_meets}
 use Rattle.hot_pixel.proofs.ListLaws.{head_pair, here as first, in_cons, in_push, in_take_more, none_in, pairs_cons, tail_pairs}
 use Rattle.routing.specs.declared.record.Record.{Record}

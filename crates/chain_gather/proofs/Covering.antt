@@ -10,7 +10,7 @@ use Rattle.geom.specs.declared.segment.Seg.{Seg}
 use Rattle.geom.specs.Box.{IsInBox, greatest_corner, least_corner}
 use Rattle.geom.proofs.Integers.{linear}
 use Rattle.geom.proofs.Meaning.{met_pixels_are_in_bounds}
-use Rattle.tiling.specs.Tiles.{Tiling, CoversBounds}
+use Rattle.grid.specs.Tiles.{Tiling, CoversBounds}
 use Rattle.chain_gather.specs.Gathered.{HaveTiles, BoundsHold}
 use Rattle.chain_gather.proofs.Gathering.{AreCovered}
 

@@ -8,7 +8,7 @@ use Rattle.std.proofs.lemmas.List.Elements.{Contains-get_or, Contains-append_lef
 use Rattle.geom.specs.declared.point.Pt.{Pt}
 use Rattle.geom.specs.declared.segment.Seg.{Seg}
 use Rattle.geom.specs.Route.{Meets}
-use Rattle.tiling.specs.Tiles.{Tiling, Owns, HasTile, tile_count}
+use Rattle.grid.specs.Tiles.{Tiling, Owns, HasTile, tile_count}
 use Rattle.hot_pixel.proofs.ListLaws.{none_in}
 use Rattle.geom.proofs.Lists.{some_same}
 use Rattle.hot_pixel.proofs.HotLaws.{hot_meets}

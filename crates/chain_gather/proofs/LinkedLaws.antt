@@ -13,7 +13,7 @@ use Rattle.std.specs.Prelude.{◌<ℤ◌, All, AllPairs, Contains, flat_map, pos
 use Rattle.std.specs.List.Sorted.{IsPermutation}
 use Rattle.geom.specs.declared.point.Pt.{Pt}
 use Rattle.geom.specs.declared.segment.Seg.{Seg}
-use Rattle.tiling.specs.Tiles.{HasTile, Owns, Tiling}
+use Rattle.grid.specs.Tiles.{HasTile, Owns, Tiling}
 use Rattle.hot_pixel.proofs.HotLaws.{hot_meets}
 use Rattle.routing.specs.declared.record.Record.{Record}
 use Rattle.routing.specs.Pieces.{IsRecord}

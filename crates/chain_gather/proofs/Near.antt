@@ -11,9 +11,10 @@ use Rattle.geom.proofs.Integers.{linear}
 use Rattle.geom.proofs.Meaning.{met_pixels_are_in_bounds}
 use Rattle.geom.proofs.Numbers.{itself}
 use Rattle.geom.proofs.Lists.{some_same}
-use Rattle.tiling.specs.Tiles.{Tiling, Owns}
+use Rattle.grid.specs.Tiles.{Tiling, Owns}
 use Rattle.tiling.specs.Index.{AreIndexed}
-use Rattle.tiling.specs.Bins.{Binned, IsBin}
+use Rattle.grid.specs.Bins.{IsBin}
+use Rattle.tiling.specs.Bins.{Binned}
 use Rattle.hot_pixel.specs.Candidates.{AreCandidates}
 use Rattle.hot_pixel.proofs.ListLaws.{in_cons, from_cons, here, none_in, head_pair, tail_pairs, pairs_cons}
 use Rattle.routing.specs.declared.record.Candidate.{Candidate}

@@ -8,7 +8,7 @@ use Rattle.geom.specs.declared.segment.Seg.{Seg}
 use Rattle.geom.specs.Box.{IsInBox}
 use Rattle.geom.specs.Segments.{same_point}
 use Rattle.geom.proofs.Points.{both_and, same_point_of}
-use Rattle.tiling.specs.Tiles.{Tiling, Owns}
+use Rattle.grid.specs.Tiles.{Tiling, Owns}
 use Rattle.hot_pixel.specs.Candidates.{AreCandidates}
 use Rattle.routing.specs.declared.record.Candidate.{Candidate}
 use Rattle.routing.specs.declared.pieces.Piece.{Piece}

@@ -6,7 +6,7 @@ use Rattle.geom.specs.declared.segment.Seg.{Seg}
 use Rattle.geom.specs.Hot.{IsHot}
 use Rattle.geom.specs.Segments.{same_point, same_source}
 use Rattle.geom.specs.Box.{IsInBox, greatest_corner, least_corner}
-use Rattle.tiling.specs.Tiles.{Tiling, Owns, HasTile}
+use Rattle.grid.specs.Tiles.{Tiling, Owns, HasTile}
 use Rattle.tiling.specs.Index.{AreIndexed}
 use Rattle.tiling.specs.Bins.{Binned}
 use Rattle.hot_pixel.specs.Rects.{IsIn}

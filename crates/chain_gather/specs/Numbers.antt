@@ -1,7 +1,7 @@
 -- How many hot pixels and how many records lie in each tile of a grid (own).
 use Rattle.std.specs.Prelude.{◌≡◌, ◌≢◌, ◌↔◌, ℕ, All, AllPairs, Contains, List, Some, length, slice_get}
 use Rattle.geom.specs.declared.point.Pt.{Pt}
-use Rattle.tiling.specs.Tiles.{HasTile, Owns, Tiling, tile_count}
+use Rattle.grid.specs.Tiles.{HasTile, Owns, Tiling, tile_count}
 use Rattle.routing.specs.declared.record.Record.{Record}
 use Rattle.chain_gather.specs.declared.rounded.TileNumbers.{TileNumbers}
 

@@ -6,6 +6,7 @@ mod counting;
 mod link;
 mod linked;
 mod linking;
+mod noded;
 mod numbers;
 mod own;
 mod rounded;
@@ -15,6 +16,7 @@ mod tile_piece;
 mod tiles;
 
 pub use link::Link;
+pub use noded::{Noded, settled};
 pub use rounded::{Rounded, TileNumbers};
 pub use tile_piece::{TilePiece, Tiled};
 pub use tiles::{gather, gather_made, gather_made_by_hands};

@@ -8,7 +8,7 @@
 ghost use Rattle.std.specs.Prelude.{◌≡◌, ◌≢◌, ◌<◌, ◌≤◌, ◌++◌, All, AllPairs, Contains, IfOk, flat_map, length};
 ghost use Rattle.std.specs.Thread.{IsSend, IsSync};
 ghost use Rattle.geom.specs.declared.point.Pt.{Pt};
-ghost use Rattle.tiling.specs.Tiles.{HasTile};
+ghost use Rattle.grid.specs.Tiles.{HasTile};
 ghost use Rattle.routing.specs.Pieces.{IsRecord};
 ghost use Rattle.routing.specs.declared.record.Record.{Record};
 ghost use Rattle.chain_gather.specs.Gathered.{HaveTiles};

@@ -5,7 +5,7 @@
 
 ghost use Rattle.std.specs.Prelude.{◌≡◌, ◌≢◌, All, AllPairs, IfOk, length};
 ghost use Rattle.geom.specs.declared.point.Pt.{Pt};
-ghost use Rattle.tiling.specs.Tiles.{HasTile, tile_count};
+ghost use Rattle.grid.specs.Tiles.{HasTile, tile_count};
 ghost use Rattle.chain_gather.specs.Numbers.{AreNumbersOf, ArePaired, AreTileCounts, MayCount};
 ghost use Rattle.chain_gather.specs.Shares.{AreSums};
 

@@ -2,7 +2,7 @@
 
 ghost use Rattle.std.specs.Prelude.{◌≡◌, ◌↔◌, ◌<◌, All, IsTrue, MatchBool, MatchOption, Some, length, slice_get};
 ghost use Rattle.geom.specs.Segments.{same_source};
-ghost use Rattle.tiling.specs.Tiles.{tile_count};
+ghost use Rattle.grid.specs.Tiles.{tile_count};
 ghost use Rattle.routing.specs.Pieces.{candidates_of};
 ghost use Rattle.chain_gather.specs.Gathered.{is_candidate, AreTileCandidates, HoldsOwn, IsOwn};
 

@@ -1,7 +1,7 @@
 //! Tests of gathering, with books that hold nothing, pieces of other segments, or the tiles' own pieces.
 
 ghost use Rattle.std.specs.Prelude.{◌≡◌, ◌≤◌, All, Contains, IfOk, IfSome, length};
-ghost use Rattle.tiling.specs.Tiles.{tile_count};
+ghost use Rattle.grid.specs.Tiles.{tile_count};
 ghost use Rattle.tile_book.specs.Books.{StandInOrder};
 ghost use Rattle.geom.specs.Box.{IsInBox};
 ghost use Rattle.geom.specs.Limit.{AreInLimit};

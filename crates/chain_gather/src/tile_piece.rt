@@ -2,7 +2,7 @@
 
 ghost use Rattle.std.specs.Prelude.{◌≡◌, [], List, pos};
 ghost use Rattle.geom.specs.declared.segment.Seg.{Seg};
-ghost use Rattle.tiling.specs.Tiles.{Owns, Tiling};
+ghost use Rattle.grid.specs.Tiles.{Owns, Tiling};
 ghost use Rattle.routing.specs.Pieces.{IsPartOf};
 
 use geom::Pt;

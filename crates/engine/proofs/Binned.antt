@@ -9,8 +9,8 @@ use Rattle.geom.specs.Box.{greatest_corner, least_corner}
 use Rattle.geom.specs.declared.rect.Rect.{Rect}
 use Rattle.geom.specs.declared.segment.Seg.{Seg}
 use Rattle.geom.proofs.Lists.{contains_in, in_contains}
-use Rattle.tiling.specs.Bins.{AreBins, AreRowBins, IsBin, TileBins, TileRows}
-use Rattle.tiling.specs.Tiles.{HasTile, Owns, Tiling, tile_count}
+use Rattle.grid.specs.Bins.{AreBins, AreRowBins, IsBin, TileBins, TileRows}
+use Rattle.grid.specs.Tiles.{HasTile, Owns, Tiling, tile_count}
 use Rattle.hot_pixel.specs.Candidates.{AreCandidates}
 use Rattle.chain_gather.specs.Gathered.{AreBoxesOf, HaveTiles, box_corners, corners}
 use Rattle.chain_gather.proofs.Boxes.{in_same_box, into_bin, member, out_of_bin}

@@ -12,7 +12,7 @@ use Rattle.chain_gather.specs.declared.rounded.TileNumbers.{TileNumbers}
 use Rattle.chain_gather.proofs.Covering.{are_covered}
 use Rattle.chain_gather.proofs.Gathering.{AreCovered}
 use Rattle.points_law.proofs.OneResult.{one_rounded, one_segments}
-use Rattle.tiling.specs.Tiles.{Tiling, tile_count}
+use Rattle.grid.specs.Tiles.{Tiling, tile_count}
 use Rattle.wkt.specs.LayerText.{Ring}
 use Rattle.wkt.specs.Refusals.{IsAccepted, plain}
 use Rattle.wkt.proofs.Complete.{at_most_one}

@@ -6,7 +6,7 @@ use Rattle.geom.specs.declared.fault.Fault.TheVariants.{TooManyTiles}
 use Rattle.geom.specs.declared.fault.Part.TheVariants.{Run}
 use Rattle.geom.specs.declared.point.Pt.{Pt}
 use Rattle.geom.specs.declared.rect.Rect.{Rect}
-use Rattle.tiling.specs.Sides.{IsDefaultSide}
+use Rattle.grid.specs.Sides.{IsDefaultSide}
 use Rattle.wkt.specs.LayerText.{Ring}
 use Rattle.wkt.specs.Refusals.{IsAccepted, IsRefused, plain}
 use Rattle.wkt.specs.declared.outline.Outline.{Outline}

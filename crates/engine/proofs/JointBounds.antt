@@ -13,7 +13,7 @@ use Rattle.geom.specs.declared.rect.Rect.{Rect}
 use Rattle.geom.proofs.Lists.{In, contains_in, in_contains, in_append}
 use Rattle.geom.specs.declared.segment.Seg.{Seg}
 use Rattle.std.proofs.lemmas.List.Elements.{Contains-append_cases}
-use Rattle.tiling.specs.Tiles.{AreBounds}
+use Rattle.grid.specs.Tiles.{AreBounds}
 use Rattle.chain_gather.specs.Gathered.{BoundsHold}
 use Rattle.engine.specs.Rounds.{AreBoundsOf, AreJointBounds}
 

@@ -9,8 +9,8 @@ use Rattle.geom.specs.declared.rect.Rect.{Rect}
 use Rattle.geom.specs.declared.segment.Seg.{Seg}
 use Rattle.geom.specs.Bounds.{IsBox}
 use Rattle.geom.specs.Segments.{layer_steps}
-use Rattle.lane_tests.proofs.Rects.{corners_tell}
-use Rattle.tiling.specs.Tiles.{IsGridOf, Tiling, tile_count}
+use Rattle.geom.proofs.Rects.{same_rect}
+use Rattle.grid.specs.Tiles.{IsGridOf, Tiling, tile_count}
 use Rattle.chain_gather.specs.declared.rounded.TileNumbers.{TileNumbers}
 use Rattle.wkt.specs.LayerText.{Ring}
 use Rattle.wkt.specs.Refusals.{plain}
@@ -29,7 +29,7 @@ one_bounds taken None (Some s) h k = absurd (no_box s (subst (λ (zs : List (Pt 
 one_bounds taken (Some r) None h k = absurd (no_box r (subst (λ (zs : List (Pt × Pt)). IsBox zs r) k h))
 one_bounds taken (Some r) (Some s) h k =
     let e = same_corners r s taken h k in
-    ap (λ (t : Rect). Some t) (corners_tell r s (λ i. (record { x = e.0 i; y = e.1 i }, record { x = e.2 i; y = e.3 i })))
+    ap (λ (t : Rect). Some t) (same_rect r s (λ i. record { x = e.0 i; y = e.1 i }) (λ i. record { x = e.2 i; y = e.3 i }))
 
 -- bounds that are the box of these steps, with the grid over them
 abbrev Over : List (Pt × Pt) → ℕ → Tiling → Option Rect → Type 0

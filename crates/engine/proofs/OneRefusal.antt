@@ -11,7 +11,7 @@ use Rattle.geom.specs.Segments.{layer_steps}
 use Rattle.geom.proofs.Integers.{linear}
 use Rattle.geom.proofs.Lists.{contains_in}
 use Rattle.geom.proofs.Numbers.{both_ways}
-use Rattle.tiling.specs.Tiles.{IsGridOf, IsOver, Owns, Tiling, most_tiles, steps, tile_count}
+use Rattle.grid.specs.Tiles.{IsGridOf, IsOver, Owns, Tiling, most_tiles, steps, tile_count}
 use Rattle.wkt.specs.LayerText.{Ring}
 use Rattle.wkt.specs.Refusals.{IsAccepted, IsRefused, plain}
 use Rattle.wkt.proofs.Exclusive.{not_both, same_refusal}

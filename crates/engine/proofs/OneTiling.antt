@@ -4,7 +4,7 @@ use Rattle.geom.specs.declared.edge.Counted.{Counted}
 use Rattle.geom.specs.declared.point.Pt.{Pt}
 use Rattle.geom.specs.declared.segment.Seg.{Seg}
 use Rattle.geom.specs.Segments.{layer_steps}
-use Rattle.tiling.specs.Tiles.{IsGridOf, tile_count}
+use Rattle.grid.specs.Tiles.{IsGridOf, tile_count}
 use Rattle.chain_gather.specs.Gathered.{AreTileNumbers}
 use Rattle.wkt.specs.LayerText.{Ring}
 use Rattle.wkt.specs.Refusals.{plain}

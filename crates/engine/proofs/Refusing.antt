@@ -6,7 +6,7 @@ use Rattle.geom.specs.declared.fault.Part.{Part}
 use Rattle.geom.specs.declared.fault.Part.TheVariants.{A, B, Run}
 use Rattle.geom.specs.Segments.{layer_steps}
 use Rattle.std.specs.Prelude.{◌≤◌}
-use Rattle.tiling.specs.Tiles.{Tiling}
+use Rattle.grid.specs.Tiles.{Tiling}
 use Rattle.wkt.specs.declared.outline.Outline.{Outline}
 use Rattle.wkt.specs.Refusals.{IsRefused, plain}
 use Rattle.engine.specs.Rounds.{IsGridOver, IsJointGrid, IsTooFine, IsUsableGrid}

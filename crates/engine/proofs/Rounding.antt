@@ -15,8 +15,8 @@ use Rattle.noding_law.proofs.Rounding.{rounded_noded}
 use Rattle.points_law.specs.Law.{AreLayers}
 use Rattle.points_law.proofs.ClosedSegments.{rings_closed}
 use Rattle.points_law.proofs.RoundedLayers.{rounded_layers}
-use Rattle.tiling.specs.Tiles.{CoversBounds, IsGridOf, Tiling}
-use Rattle.tiling.proofs.Columns.{covers}
+use Rattle.grid.specs.Tiles.{CoversBounds, IsGridOf, Tiling}
+use Rattle.grid.proofs.Columns.{covers}
 use Rattle.chain_gather.specs.Gathered.{BoundsHold, HaveTiles}
 use Rattle.chain_gather.proofs.Covering.{have_tiles}
 use Rattle.wkt.specs.LayerText.{Ring}

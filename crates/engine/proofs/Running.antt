@@ -14,7 +14,7 @@ use Rattle.engine.specs.declared.operation.Wanted.TheVariants.{Apply, Edges}
 use Rattle.geom.specs.declared.edge.Counted.{Counted}
 use Rattle.engine.specs.declared.text.Report.{Report}
 use Rattle.engine.specs.Sinks.{SinkState}
-use Rattle.tiling.specs.Tiles.{Tiling, tile_count}
+use Rattle.grid.specs.Tiles.{Tiling, tile_count}
 use Rattle.chain_gather.specs.declared.rounded.TileNumbers.{TileNumbers}
 use Rattle.engine.specs.Rounds.{AreRoundedOver, TellsTiles}
 use Rattle.engine.proofs.Known.{reported}

@@ -15,8 +15,8 @@ use Rattle.geom.proofs.Along.{before_irrefl}
 use Rattle.geom.proofs.Lists.{In, contains_in, in_append, in_contains}
 use Rattle.geom.proofs.Orders.{before_itself}
 use Rattle.geom.proofs.RouteLaws.{order_by_earlier}
-use Rattle.tiling.specs.Tiles.{Owns, Tiling, tile_count}
-use Rattle.tiling.proofs.Columns.{owner_is}
+use Rattle.grid.specs.Tiles.{Owns, Tiling, tile_count}
+use Rattle.grid.proofs.Columns.{owner_is}
 use Rattle.hot_pixel.proofs.HotLaws.{hot_meets}
 use Rattle.routing.specs.declared.record.Record.{Record}
 use Rattle.routing.specs.Pieces.{IsAlong, IsPieceOf, IsRecord}

@@ -1,6 +1,6 @@
 -- The side of a tile where none is given for two layers (own).
 use Rattle.std.specs.Prelude.{◌≡◌, ◌^◌, ◌<◌, ◌≤◌, ℕ, List}
-use Rattle.tiling.specs.Tiles.{IsSide, Tiling, most_tiles, tile_count}
+use Rattle.grid.specs.Tiles.{IsSide, Tiling, most_tiles, tile_count}
 use Rattle.wkt.specs.LayerText.{Ring}
 use Rattle.wkt.specs.Refusals.{IsAccepted}
 use Rattle.engine.specs.Rounds.{IsGridOver}

@@ -9,7 +9,7 @@ use Rattle.geom.specs.declared.fault.RunFault.{RunFault}
 use Rattle.geom.specs.Segments.{layer_steps}
 use Rattle.geom.specs.declared.segment.Source.{Source}
 use Rattle.geom.specs.declared.segment.Source.TheVariants.{A as FromA, B as FromB}
-use Rattle.tiling.specs.Tiles.{AreBounds, IsSide, Tiling, most_tiles, tile_count}
+use Rattle.grid.specs.Tiles.{AreBounds, IsSide, Tiling, most_tiles, tile_count}
 use Rattle.wkt.specs.LayerText.{Ring}
 use Rattle.wkt.specs.Outlines.{IsOutline}
 use Rattle.wkt.specs.declared.outline.Outline.{Outline}

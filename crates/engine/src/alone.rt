@@ -3,7 +3,7 @@
 ghost use Rattle.std.specs.Prelude.{◌≡◌, ◌≤◌, IfOk, MatchResult, length};
 ghost use Rattle.tile_book.specs.Books.{StandInOrder};
 ghost use Rattle.geom.specs.Rounded.{AreRounded};
-ghost use Rattle.tiling.specs.Tiles.{tile_count};
+ghost use Rattle.grid.specs.Tiles.{tile_count};
 ghost use Rattle.chain_gather.specs.Gathered.{AreTileNumbers, HaveTiles};
 ghost use Rattle.points_law.specs.Law.{AreLayers};
 ghost use Rattle.engine.specs.Rounds.{AllInLimit, AreRoundedOver};
@@ -16,13 +16,12 @@ use crate::engine::{Output, Plan, or_fault, report_for};
 use crate::operation::{Wanted, text_of};
 use crate::reading::{read_segments, reading};
 use crate::rounds::Pieces;
-use chain_gather::{Tiled, gather_made};
+use chain_gather::{Noded, Tiled, gather_made, settled};
 use geom::{NoMemory, Op, RunFault, Seg};
-use noding_test::{Noded, settled};
+use grid::Grid;
 use std::alloc::Allocator;
 use std::marker::{Brand, PhantomData};
 use tile_book::{Job, MOST_NUMBERS};
-use tiling::Grid;
 
 /// The text of the rounded edges of two layers, over tiles of this side, and its report. It is refused as `edges` is,
 /// but for the number of workers and the sink.

@@ -7,17 +7,17 @@
 
 ghost use Rattle.std.specs.Prelude.{◌≤◌, ◌++◌, IfOk};
 ghost use Rattle.std.specs.Thread.{IsSend, IsSync};
-ghost use Rattle.tiling.specs.Tiles.{AreBounds};
+ghost use Rattle.grid.specs.Tiles.{AreBounds};
 ghost use Rattle.chain_gather.specs.Gathered.{BoundsHold, HaveTiles};
 ghost use Rattle.engine.specs.Rounds.{AllInLimit, AreCellBins, AreCellRows};
 
 use crate::cells::{Extent, bins_of, cells_within, extent_of};
 use crate::checking::joint_bounds;
 use geom::{NoMemory, Seg};
+use grid::{Grid, KeptBins, RowBins};
 use hands::join;
 use std::alloc::Allocator;
 use std::thread::Threads;
-use tiling::{Grid, KeptBins, RowBins};
 
 /// Fewer segments are not worth a thread.
 const LEAST: usize = 16_384;

@@ -9,13 +9,13 @@
 
 ghost use Rattle.std.specs.Prelude.{IfOk, List, Some};
 ghost use Rattle.geom.specs.declared.segment.Seg.{Seg};
-ghost use Rattle.tiling.specs.Tiles.{AreBounds, CoversBounds};
+ghost use Rattle.grid.specs.Tiles.{AreBounds, CoversBounds};
 ghost use Rattle.chain_gather.specs.Gathered.{BoundsHold, HaveTiles};
 ghost use Rattle.engine.specs.Rounds.{AllInLimit, AreCellBins};
 
 use geom::{NoMemory, Rect, Seg};
+use grid::{GREATEST_SIDE, Grid, KeptBins};
 use std::alloc::Allocator;
-use tiling::{GREATEST_SIDE, Grid, KeptBins};
 
 /// How many cells a worker has at least, where that is cheap.
 const CELLS: u64 = 4;

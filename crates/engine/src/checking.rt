@@ -8,7 +8,7 @@
 ghost use Rattle.std.specs.Prelude.{◌≡◌, ◌+◌, ◌<◌, ◌≤◌, ◌++◌, IfOk, IsTrue, List, MatchResult, nat_lt};
 ghost use Rattle.geom.specs.declared.segment.Seg.{Seg};
 ghost use Rattle.chain_gather.specs.Gathered.{BoundsHold};
-ghost use Rattle.tiling.specs.Tiles.{AreBounds, IsSide};
+ghost use Rattle.grid.specs.Tiles.{AreBounds, IsSide};
 ghost use Rattle.engine.specs.Rounds.{AreJointBounds, IsTooFine, IsUsableGrid};
 ghost use Rattle.geom.specs.Fault.{number_of};
 ghost use Rattle.wkt.specs.Refusals.{IsRefused};
@@ -16,9 +16,9 @@ ghost use Rattle.engine.specs.Runs.{HasOutline, IsChecked, IsPlan, IsReading, Is
 
 use crate::engine::Plan;
 use geom::{Fault, Part, Rect, RunFault, Source};
+use grid::{GREATEST_SIDE, Grid, LEAST_SIDE};
 use std::alloc::Allocator;
 use tile_book::MOST_HANDS;
-use tiling::{GREATEST_SIDE, Grid, LEAST_SIDE};
 use wkt::{Outline, OutlinedLayer};
 
 /// The greatest number of segments in both layers together.

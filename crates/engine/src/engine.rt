@@ -7,7 +7,7 @@
 //! 4. Only now is the sink called: it is sent the text whole (`send`).
 
 ghost use Rattle.std.specs.Prelude.{◌≡◌, ◌<◌, ◌≤◌, ℕ, IfOk, List, MatchResult};
-ghost use Rattle.tiling.specs.Tiles.{tile_count};
+ghost use Rattle.grid.specs.Tiles.{tile_count};
 ghost use Rattle.engine.specs.Results.{IsResultWritten, IsWantedText, IsWritten};
 ghost use Rattle.engine.specs.Rounds.{AreRoundedOver};
 ghost use Rattle.engine.specs.Runs.{AreEdgesWritten, Declines, Delivers, IsReading, Runs};
@@ -19,8 +19,8 @@ use crate::rounds::{report_of, rounded_layers};
 use crate::sink::{Sink, write_parts};
 use crate::text::Report;
 use crate::text_parts::TextParts;
+use chain_gather::Noded;
 use geom::{Fault, NoMemory, Op, Part, RunFault};
-use noding_test::Noded;
 use std::alloc::Allocator;
 use std::sync::Wait;
 use std::thread::Threads;

@@ -1,7 +1,7 @@
 //! The side of a tile where none is given.
 
 ghost use Rattle.std.specs.Prelude.{ℕ, ◌≡◌, IfOk, MatchResult};
-ghost use Rattle.tiling.specs.Tiles.{AreBounds};
+ghost use Rattle.grid.specs.Tiles.{AreBounds};
 ghost use Rattle.wkt.specs.Refusals.{IsRefused};
 ghost use Rattle.engine.specs.Fitting.{IsFittingSide};
 ghost use Rattle.engine.specs.Runs.{HasOutline, IsRefusedAt};
@@ -9,7 +9,7 @@ ghost use Rattle.engine.specs.Runs.{HasOutline, IsRefusedAt};
 use crate::checking::joint_bounds;
 use crate::engine::Plan;
 use geom::{Fault, Part};
-use tiling::{DEFAULT_SIDE, default_side};
+use grid::{DEFAULT_SIDE, default_side};
 use wkt::{Outline, check_layer};
 
 /// The side of a tile over two layers, in grid units, where none is given: 262,144, or where that gives too many tiles, the

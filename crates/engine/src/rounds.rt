@@ -2,7 +2,7 @@
 
 ghost use Rattle.std.specs.Prelude.{◌≡◌, ◌<◌, ◌≤◌, IfOk, length, map, sum_by};
 ghost use Rattle.geom.specs.Rounded.{AreRounded};
-ghost use Rattle.tiling.specs.Tiles.{tile_count};
+ghost use Rattle.grid.specs.Tiles.{tile_count};
 ghost use Rattle.chain_gather.specs.Gathered.{AreTileNumbers, HaveTiles};
 ghost use Rattle.points_law.specs.Law.{AreLayers};
 ghost use Rattle.engine.specs.Rounds.{AllInLimit, AreCellBins, AreRoundedOver, TellsTiles};
@@ -12,9 +12,9 @@ use crate::cell_parts::{bins_by_hands, cells_by_hands};
 use crate::checking::{CheckedInput, Reading};
 use crate::reading::read_segments_by_workers;
 use crate::text::Report;
-use chain_gather::{TileNumbers, TilePiece, Tiled, gather_made_by_hands};
+use chain_gather::{Noded, TileNumbers, TilePiece, Tiled, gather_made_by_hands, settled};
 use geom::{NoMemory, Seg};
-use noding_test::{Noded, settled};
+use grid::{Grid, KeptBins, MOST_TILES};
 use routing::part;
 use std::alloc::Allocator;
 use std::marker::{Brand, PhantomData};
@@ -22,7 +22,6 @@ use std::sync::Wait;
 use std::sync::ledger::Blank;
 use std::thread::Threads;
 use tile_book::{AllPieces, Gate, Job, Limited, MOST_HANDS, Phase, make_all};
-use tiling::{Grid, KeptBins, MOST_TILES};
 
 /// Makes the piece of each cell from the segments in its bin.
 #[derive(Drop)]

@@ -1,5 +1,3 @@
-pub mod Doubling
-pub mod Listing
 pub mod Chosen
 pub mod Sides
 pub mod Striping

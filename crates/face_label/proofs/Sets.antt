@@ -8,9 +8,9 @@ use Rattle.geom.specs.declared.op.Op.{Op}
 use Rattle.geom.specs.Limit.{AreInLimit}
 use Rattle.geom.specs.Rounded.{edges_of}
 use Rattle.geom.proofs.Lists.{In, contains_in, in_contains, in_map}
-use Rattle.face_label.specs.Label.{both_ways, ways_by}
+use Rattle.geom.specs.Label.{both_ways, ways_by}
 use Rattle.face_label.specs.Strip.{AreLayerStrips, AreStripsOf, IsSetOf, IsSpanned, StripedLayer, StripedLayers, layers_at}
-use Rattle.face_label.proofs.Listing.{layers_of}
+use Rattle.geom.proofs.Listing.{layers_of}
 use Rattle.face_label.proofs.Sides.{all_ways, ways_in_strips}
 
 set_is : (counted : List Counted) (set : Option StripedLayers) (s : StripedLayers) → Some s ≡ set → IsSetOf counted set → AreStripsOf counted s

@@ -23,11 +23,11 @@ use Rattle.geom.proofs.Points.{and_both}
 use Rattle.geom.proofs.Tests.{le_told, lt_told}
 use Rattle.geom.proofs.Numbers.{nonneg, past_predecessor, le_lt}
 use Rattle.tiling.specs.Strips.{IsInStrip}
-use Rattle.tiling.specs.Tiles.{steps}
-use Rattle.face_label.specs.Label.{OddLayers, bounds, both_ways, holds_in}
+use Rattle.grid.specs.Tiles.{steps}
+use Rattle.geom.specs.Label.{OddLayers, bounds, both_ways, holds_in}
 use Rattle.face_label.specs.Strip.{AreInStrip, IsSpanned, IsStriped, StripedLayer, edges_at, layers_at, strip_at}
 use Rattle.face_label.proofs.Chosen.{count_chosen, from_ascending}
-use Rattle.face_label.proofs.Doubling.{right_is_left}
+use Rattle.geom.proofs.Doubling.{right_is_left}
 
 -- ---- near a column
 -- z is less than 1 from the column m, on either side

@@ -26,9 +26,6 @@ use Rattle.tiling.specs.Strips.{IsFill, Striped}
 use Rattle.face_label.specs.Strip.{AreBoxesOf, AreColumnsFrom, AreColumnsOf, AreInStrip, AreLayerStrips, AreStriped, IsIndexOf, IsLeastWidth, IsStriped, StripedLayer, edge_corners}
 
 -- ---- columns
-pub back : (x : ℤ) → IsWithin coordinate_limit x → to_z w32 (of_z w32 x) ≡ x
-back x h = let a : FitsSigned w32 x = omega (arith, ints) in simp to_z-of_z
-
 pub columns_are : (first : Edge) (cs : List Counted) (low high l h : ℤ) → l ≡ low → h ≡ high → AreColumnsFrom first cs low high → AreColumnsFrom first cs l h
 columns_are first cs low high l h e f o = let P : ℤ → Type 0 = λ t. AreColumnsFrom first cs t h in let Q : ℤ → Type 0 = λ t. AreColumnsFrom first cs low t in subst P (sym e) (subst Q (sym f) o)
 

@@ -1,3 +1,1 @@
-pub mod Double
-pub mod Label
 pub mod Strip

@@ -11,8 +11,8 @@ use Rattle.geom.specs.Box.{greatest_corner, least_corner}
 use Rattle.lane_tests.specs.Columns.{Ends, corners}
 use Rattle.tiling.specs.Index.{AreIndexed, Item}
 use Rattle.tiling.specs.Strips.{IsInStrip, Striped, strip_count}
-use Rattle.tiling.specs.Tiles.{steps}
-use Rattle.face_label.specs.Label.{OddLayers}
+use Rattle.grid.specs.Tiles.{steps}
+use Rattle.geom.specs.Label.{OddLayers}
 
 -- chosen are, in their order, the edges that have a whole x in the strip
 pub record AreInStrip (s : Striped) (strip : ℕ) (all chosen : List Edge) : Type 0 where

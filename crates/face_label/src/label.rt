@@ -3,14 +3,13 @@
 ghost use Rattle.std.specs.Prelude.{◌≡◌, ◌++◌, All, IfOk, OnOk, length, map};
 ghost use Rattle.geom.specs.Limit.{AreInLimit};
 ghost use Rattle.geom.specs.Directed.{AreResultEdges};
-ghost use Rattle.face_label.specs.Label.{both_ways, ways, ways_by, ways_of};
+ghost use Rattle.geom.specs.Label.{both_ways, ways_by, ways_of};
 ghost use Rattle.face_label.specs.Strip.{IsSetOf, IsSpanned, layers_at};
 
-use crate::directed::Directed;
 use crate::odd::directions_in;
 use crate::strip::{Layers, StripSet};
-use geom::{Counted, DirectedEdge, Edge, NoMemory, Op};
-use noding_test::Noded;
+use chain_gather::Noded;
+use geom::{Counted, Directed, DirectedEdge, NoMemory, Op, add_directions};
 use rayon::prelude::*;
 use std::alloc::{AllocError, Allocator};
 use std::thread::Threads;
@@ -75,29 +74,6 @@ fn labelled<A: Allocator + Copy + Sync + Send, R: Threads + Sync>(
         None => Ok(Vec::new(alloc)),
         Some(layers) => by_strips(rt, alloc, layers, counted, op),
     }
-}
-
-/// Adds an edge in its directions: from its first end to its second, and back.
-pub fn add_directions<A: Allocator>(
-    edges: &mut Vec<DirectedEdge, A>,
-    edge: Edge,
-    way: (bool, bool),
-) -> Result<(), NoMemory>
-    ensures { OnOk result (edges.new.items ≡ edges.old.items ++ ways edge way) }
-{
-    if way.0 {
-        edges.push(DirectedEdge {
-            from: edge.p,
-            to: edge.q,
-        })?;
-    }
-    if way.1 {
-        edges.push(DirectedEdge {
-            from: edge.q,
-            to: edge.p,
-        })?;
-    }
-    Ok(())
 }
 
 /// All edges in their directions.

@@ -1,12 +1,11 @@
 //! The edges of a result: which rounded edges bound it, and in which direction.
 #![tactic(auto)]
 
-mod directed;
 mod label;
 mod odd;
 mod strip;
 
-pub use directed::Directed;
-pub use label::{add_directions, labels};
+pub use geom::{Directed, add_directions};
+pub use label::labels;
 pub use odd::directions;
 pub use strip::StripSet;

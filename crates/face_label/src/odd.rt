@@ -6,9 +6,9 @@ ghost use Rattle.geom.specs.Limit.{AreInLimit};
 ghost use Rattle.geom.specs.ResultEdges.{left_side};
 ghost use Rattle.geom.specs.Rounded.{edges_of, odd_edges};
 ghost use Rattle.lane_tests.specs.Probe.{IsProbe, point_of};
-ghost use Rattle.face_label.specs.Label.{both_ways, counts_odd, holds_in, ways_by};
+ghost use Rattle.geom.specs.Label.{both_ways, counts_odd, holds_in, ways_by};
 ghost use Rattle.face_label.specs.Strip.{IsAmong, IsSetOf, IsSpanned, layers_at};
-ghost use Rattle.face_label.specs.Double.{IsDouble};
+ghost use Rattle.geom.specs.Double.{IsDouble};
 
 use crate::strip::{Layers, StripSet};
 use geom::{Counted, Edge, NoMemory, Op, Pt, Source};

@@ -31,3 +31,6 @@ pub mod OneOwner
 pub mod SameRings
 pub mod SamePolygons
 pub mod Owners
+pub mod Doubling
+pub mod Listing
+pub mod Rects

@@ -24,3 +24,5 @@ pub mod Rings
 pub mod Holes
 pub mod Canonical
 pub mod RingParity
+pub mod Label
+pub mod Double

@@ -14,9 +14,10 @@ mod rect;
 mod ring;
 mod segment;
 mod vector;
+mod ways;
 mod words;
 
-pub use directed::DirectedEdge;
+pub use directed::{Directed, DirectedEdge};
 pub use edge::{Counted, Edge};
 pub use fault::{Fault, NoMemory, Part, RunFault};
 pub use op::Op;
@@ -26,3 +27,4 @@ pub use rect::Rect;
 pub use ring::{Layer, Polygon, Ring, SimpleRing};
 pub use segment::{Seg, Source};
 pub use vector::Vector;
+pub use ways::add_directions;

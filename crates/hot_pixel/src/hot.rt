@@ -2,15 +2,15 @@
 
 ghost use Rattle.std.specs.Prelude.{◌≡◌, ◌+◌, ◌<◌, ◌≤◌, All, IfOk};
 ghost use Rattle.geom.specs.Limit.{AreInLimit};
-ghost use Rattle.tiling.specs.Tiles.{tile_count, Owns};
+ghost use Rattle.grid.specs.Tiles.{tile_count, Owns};
 ghost use Rattle.hot_pixel.specs.Candidates.{chosen, meeting_pairs, AreCandidates, AreOwnedHot};
 
 use crate::tile_sweep::sweep_tile;
 use geom::{NoMemory, Pt, Seg};
+use grid::{Count, Grid};
 use std::alloc::Allocator;
 use std::marker::Brand;
 use std::sync::ledger::{Blank, Ledger};
-use tiling::{Count, Grid};
 
 /// The hot pixels that a tile owns, ascending and each once. The numbers are those of the candidates: every segment that
 /// meets a pixel of the tile is among them.

@@ -9,9 +9,9 @@ ghost use Rattle.hot_pixel.specs.Lines.{lines_meet, CrossAt, HasCrossed, HasEnds
 use crate::lines::on_line;
 use crossing::{cross, may_meet};
 use geom::{Edge, NoMemory, Pt, Rect};
+use grid::Count;
 use std::alloc::Allocator;
 use std::sync::ledger::Ledger;
-use tiling::Count;
 
 /// Adds a pixel, if the tile has it.
 pub(crate) fn push_in<A: Allocator>(

@@ -10,9 +10,9 @@ ghost use Rattle.hot_pixel.specs.Lines.{line_pairs, HasAllCrossed};
 use crate::lines::lines;
 use crate::pixels::{ascending, cross_all, ends_in};
 use geom::{Edge, NoMemory, Pt, Rect, Seg};
+use grid::Count;
 use std::alloc::Allocator;
 use std::sync::ledger::Ledger;
-use tiling::Count;
 
 /// Whether a line reaches the column where another one begins, or goes past it.
 fn reaches(line: &Edge, next: &Edge) -> bool

@@ -22,7 +22,7 @@ use Rattle.geom.proofs.Lists.{In, in_contains, contains_in, in_map, in_front, in
 use Rattle.geom.proofs.Orders.{before_itself, before_trans}
 use Rattle.geom.proofs.Edges.{before_by_cases}
 use Rattle.geom.proofs.Tests.{lt_told, lt_yes}
-use Rattle.face_label.specs.Label.{ways}
+use Rattle.geom.specs.Label.{ways}
 use Rattle.label_sweep.specs.declared.standing.StandingEdge.{StandingEdge}
 use Rattle.label_sweep.specs.declared.standing.LabelledEdge.{LabelledEdge}
 use Rattle.label_sweep.specs.declared.strips.Strip.{Strip}

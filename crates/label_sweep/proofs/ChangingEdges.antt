@@ -21,7 +21,7 @@ use Rattle.geom.specs.Rounded.{HasEvenDegrees, IsEdgeBefore, edges_of, is_odd, o
 use Rattle.geom.proofs.Lists.{In, contains_in, in_contains, in_map, map_in}
 use Rattle.geom.proofs.Owners.{all_in}
 use Rattle.points_law.specs.Law.{AreLayers}
-use Rattle.face_label.proofs.Doubling.{right_is_left}
+use Rattle.geom.proofs.Doubling.{right_is_left}
 use Rattle.label_sweep.specs.declared.parities.Parities.{Parities}
 use Rattle.label_sweep.specs.Changing.{ChangingAreLayers, ChangingBound, changes}
 use Rattle.label_sweep.specs.Labels.{beyond, holds_of, parities_at, xor}

@@ -11,9 +11,9 @@ use Rattle.geom.specs.Directed.{AreResultEdges, IsResultEdge, from_to}
 use Rattle.geom.specs.ResultEdges.{is_result_edge}
 use Rattle.geom.specs.Rounded.{edges_of}
 use Rattle.geom.proofs.Lists.{In, in_contains, contains_in, in_append, in_front, in_back}
-use Rattle.face_label.specs.Label.{both_ways, holds_in, ways}
-use Rattle.face_label.proofs.Doubling.{both, right_is_left}
-use Rattle.face_label.proofs.Listing.{is_way, layers_of, way_is}
+use Rattle.geom.specs.Label.{both_ways, holds_in, ways}
+use Rattle.geom.proofs.Doubling.{both, right_is_left}
+use Rattle.geom.proofs.Listing.{is_way, layers_of, way_is}
 use Rattle.label_sweep.specs.declared.standing.LabelledEdge.{LabelledEdge}
 use Rattle.label_sweep.specs.Labels.{AreDirectedFrom, IsLabelled, directed_of, directions_of, holds_of}
 use Rattle.label_sweep.proofs.Members.{in_of_all}

@@ -13,7 +13,7 @@ use Rattle.geom.specs.Parity.{parity}
 use Rattle.geom.specs.Pixel.{Point}
 use Rattle.geom.specs.ResultEdges.{left_side, right_side}
 use Rattle.geom.specs.Rounded.{edges_of, odd_edges, is_odd}
-use Rattle.face_label.specs.Label.{ways}
+use Rattle.geom.specs.Label.{ways}
 use Rattle.label_sweep.specs.declared.parities.Parities.{Parities}
 use Rattle.label_sweep.specs.declared.standing.StandingEdge.{StandingEdge}
 use Rattle.label_sweep.specs.declared.standing.LabelledEdge.{LabelledEdge}

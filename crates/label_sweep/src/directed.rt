@@ -12,8 +12,7 @@ use crate::shared_vertices::vertices_by_hands;
 use crate::standing::LabelledEdge;
 use crate::strips::{Strip, strip_edges, strip_edges_by_hands};
 use crate::vertices::vertices_of;
-use face_label::{Directed, add_directions};
-use geom::{Counted, DirectedEdge, NoMemory, Op, Pt};
+use geom::{Counted, Directed, DirectedEdge, NoMemory, Op, Pt, add_directions};
 use std::alloc::Allocator;
 use std::thread::Threads;
 

@@ -7,9 +7,10 @@ use Rattle.std.proofs.lemmas.List.Elements.{Contains-get_or}
 use Rattle.geom.specs.declared.rect.Rect.{Rect}
 use Rattle.geom.specs.declared.edge.Edge.{Edge}
 use Rattle.geom.specs.declared.edge.Counted.{Counted}
-use Rattle.tiling.specs.Tiles.{Tiling, CoversBounds}
+use Rattle.grid.specs.Tiles.{Tiling, CoversBounds}
 use Rattle.tiling.specs.Index.{AreIndexed}
-use Rattle.tiling.specs.Bins.{Binned, IsBin}
+use Rattle.grid.specs.Bins.{IsBin}
+use Rattle.tiling.specs.Bins.{Binned}
 use Rattle.chain_gather.proofs.Boxes.{below_bin, bin_over, into_bin, known_member}
 use Rattle.chain_gather.proofs.Covering.{inside}
 use Rattle.noding_test.specs.Verdicts.{AreNear}

@@ -13,7 +13,7 @@ use Rattle.geom.specs.EdgeOrder.{IsEdgeBefore}
 use Rattle.geom.specs.Noded.{IsBad, IsEnd, IsNoded, IsPairBefore, IsLeastBad, MeetOnlyAtEnds}
 use Rattle.geom.specs.Pixel.{Point, Coincides}
 use Rattle.geom.proofs.Orders.{pt_cmp, edge_cmp, edge_ranks, edge_before_itself, edge_before_trans}
-use Rattle.tiling.specs.Tiles.{Tiling, Owns, tile_count}
+use Rattle.grid.specs.Tiles.{Tiling, Owns, tile_count}
 use Rattle.chain_gather.proofs.Gathering.{owner_below}
 use Rattle.noding_test.specs.Verdicts.{common_corner, IsOwnBad, IsLeastPair}
 use Rattle.noding_test.specs.Passes.{IsBadBelow, IsLesser, EdgesHaveTiles}

@@ -13,7 +13,7 @@ use Rattle.geom.specs.Box.{IsInBox, greatest_corner, least_corner}
 use Rattle.geom.specs.Limit.{AreInLimit}
 use Rattle.geom.specs.EdgeOrder.{IsEdgeBefore}
 use Rattle.geom.specs.Rounded.{edges_of}
-use Rattle.tiling.specs.Tiles.{Tiling, Owns}
+use Rattle.grid.specs.Tiles.{Tiling, Owns}
 use Rattle.hot_pixel.specs.Rects.{IsIn}
 use Rattle.hot_pixel.proofs.ListLaws.{in_cons, from_cons, here, none_in, head_pair, tail_pairs, pairs_cons, in_map}
 use Rattle.noding_test.specs.Verdicts.{common_corner, chosen_edges, AreNear, IsOwnBad, IsLeastPair}

@@ -11,7 +11,7 @@ use Rattle.geom.specs.declared.edge.Counted.{Counted}
 use Rattle.geom.specs.Box.{IsInBox}
 use Rattle.geom.specs.Rounded.{edges_of}
 use Rattle.geom.proofs.Points.{both_and, same_point_of}
-use Rattle.tiling.specs.Tiles.{Tiling, Owns}
+use Rattle.grid.specs.Tiles.{Tiling, Owns}
 use Rattle.hot_pixel.specs.Rects.{IsIn}
 use Rattle.chain_gather.proofs.Boxes.{in_same_box}
 use Rattle.chain_gather.proofs.Near.{one_rect}

@@ -9,11 +9,11 @@ use Rattle.geom.specs.declared.fault.Fault.TheVariants.{Memory, NotNoded}
 use Rattle.geom.specs.Box.{IsInBox, greatest_corner, least_corner}
 use Rattle.geom.specs.Noded.{IsLeastBad, IsPairBefore}
 use Rattle.tiling.specs.Bins.{Binned}
-use Rattle.tiling.specs.Tiles.{Tiling, Owns, HasTile}
+use Rattle.grid.specs.Tiles.{Tiling, Owns, HasTile}
 use Rattle.hot_pixel.specs.Rects.{IsIn}
 use Rattle.chain_gather.specs.Gathered.{AreBinsBy, AreBoxesBy}
 use Rattle.chain_gather.specs.declared.rounded.Rounded.{Rounded}
-use Rattle.noding_test.specs.declared.noded_edges.Noded.{Noded}
+use Rattle.chain_gather.specs.declared.noded.Noded.{Noded}
 use Rattle.noding_test.specs.declared.verdicts.Verdict.{Verdict}
 use Rattle.noding_test.specs.Verdicts.{IsOwnBad, chosen_edges}
 

@@ -8,7 +8,7 @@ use Rattle.geom.specs.declared.edge.Counted.{Counted}
 use Rattle.geom.specs.Box.{IsInBox, greatest_corner, least_corner}
 use Rattle.geom.specs.EdgeOrder.{IsEdgeBefore}
 use Rattle.geom.specs.Noded.{IsBad, IsPairBefore}
-use Rattle.tiling.specs.Tiles.{Tiling, Owns}
+use Rattle.grid.specs.Tiles.{Tiling, Owns}
 
 -- the least corner of the rectangle that the boxes of two edges have in common, where they have one
 abbrev pub common_corner : Edge → Edge → Pt

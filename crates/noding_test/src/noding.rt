@@ -5,14 +5,13 @@ ghost use Rattle.geom.specs.Limit.{AreInLimit};
 ghost use Rattle.geom.specs.EdgeOrder.{IsEdgeBefore};
 ghost use Rattle.geom.specs.Noded.{IsLeastBad, IsNoded};
 ghost use Rattle.geom.specs.Rounded.{edges_of};
-ghost use Rattle.tiling.specs.Tiles.{tile_count};
+ghost use Rattle.grid.specs.Tiles.{tile_count};
 ghost use Rattle.noding_test.specs.Passes.{AreBinsOfEdges, AreBoxesOfEdges, EdgesHaveTiles, IsAllOf, IsTestFault};
 
 use crate::finding::verdict;
-use crate::noded_edges::{Noded, settled};
 use crate::pairs::bad_of_all;
 use crate::verdicts::Verdict;
-use chain_gather::Rounded;
+use chain_gather::{Noded, Rounded, settled};
 use geom::{Counted, Edge, Fault, NoMemory};
 use lane_tests::Boxes;
 use std::alloc::Allocator;

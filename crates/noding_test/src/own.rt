@@ -1,7 +1,7 @@
 //! Whether a verdict was made from what its tile has now.
 
 ghost use Rattle.std.specs.Prelude.{◌≡◌, ◌↔◌, ◌<◌, All, IsTrue, MatchBool, MatchOption, length};
-ghost use Rattle.tiling.specs.Tiles.{tile_count};
+ghost use Rattle.grid.specs.Tiles.{tile_count};
 ghost use Rattle.noding_test.specs.Verdicts.{chosen_edges};
 ghost use Rattle.noding_test.specs.Passes.{HoldsOwnVerdict, IsHeldVerdict, IsOwnVerdict};
 

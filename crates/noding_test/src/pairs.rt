@@ -4,7 +4,7 @@ ghost use Rattle.std.specs.Prelude.{◌≡◌, ◌<◌, All, AllPairs, IfOk};
 ghost use Rattle.geom.specs.Limit.{AreInLimit};
 ghost use Rattle.geom.specs.EdgeOrder.{IsEdgeBefore};
 ghost use Rattle.geom.specs.Rounded.{edges_of};
-ghost use Rattle.tiling.specs.Tiles.{tile_count, Owns};
+ghost use Rattle.grid.specs.Tiles.{tile_count, Owns};
 ghost use Rattle.noding_test.specs.Verdicts.{AreNear, IsLeastPair, IsOwnBad};
 ghost use Rattle.noding_test.specs.Passes.{AreBinsOfEdges, IsBadBelow, IsLesser};
 

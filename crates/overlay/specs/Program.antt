@@ -2,7 +2,7 @@
 use Rattle.std.specs.Prelude.{◌≡◌, ◌⊎◌, ℕ, Bool, true, false, List, [], ◌∷◌, ◌++◌, Option, Result, MatchOption, MatchResult, codes, string_bytes}
 use Rattle.std.specs.declared.alloc.Global.{Global}
 use Rattle.clap.specs.Words.{Text}
-use Rattle.tiling.specs.declared.sides.TheConstants.{DEFAULT_SIDE}
+use Rattle.grid.specs.declared.sides.TheConstants.{DEFAULT_SIDE}
 use Rattle.engine.specs.Fitting.{IsFittingSide}
 use Rattle.geom.specs.declared.fault.RunFault.{RunFault}
 use Rattle.engine.specs.Runs.{AreEdgesWritten, Runs}

@@ -8,6 +8,7 @@ use crate::cli::request;
 use crate::files::{Files, LoadFault};
 use engine::{Plan, Report, Sink, edges, fitting_side, line, report_text, run, status, write_all};
 use geom::{Fault, RunFault};
+use grid::DEFAULT_SIDE;
 use std::alloc::Global;
 use std::convert::AsStr;
 use std::env;
@@ -16,7 +17,6 @@ use std::rt::Env;
 use std::sync::Wait;
 use std::thread::Threads;
 use tile_book::OpenGate;
-use tiling::DEFAULT_SIDE;
 
 /// The exit status where all was answered, or help was asked for.
 const ANSWERED: u8 = 0;

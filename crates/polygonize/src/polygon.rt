@@ -15,8 +15,7 @@ ghost use Rattle.polygonize.specs.Written.{AreSimple, HaveEdges, IsCanonical, Is
 use crate::number::points_of;
 use crate::successor::successors;
 use crate::written::{WrittenRing, written_rings};
-use face_label::Directed;
-use geom::{DirectedEdge, NoMemory, Polygon, SimpleRing};
+use geom::{Directed, DirectedEdge, NoMemory, Polygon, SimpleRing};
 use std::alloc::Allocator;
 
 /// A ring of vertices by its points.

@@ -5,7 +5,7 @@ ghost use Rattle.std.specs.Prelude.{◌≡◌, ◌↔◌, ◌<◌, All, IfOk, le
 ghost use Rattle.geom.specs.declared.point.Pt.{Pt};
 ghost use Rattle.geom.specs.Limit.{AreInLimit};
 ghost use Rattle.hot_pixel.specs.Rects.{IsIn};
-ghost use Rattle.tiling.specs.Tiles.{tile_count, Owns};
+ghost use Rattle.grid.specs.Tiles.{tile_count, Owns};
 ghost use Rattle.hot_pixel.specs.Candidates.{AreCandidates};
 ghost use Rattle.routing.specs.Pieces.{candidates_of, IsPartOf, IsPieceOf};
 
@@ -13,8 +13,8 @@ use crate::halved::{InTile, found_in};
 use crate::pieces::{Part, Piece};
 use crate::record::Candidate;
 use geom::{NoMemory, Seg};
+use grid::Grid;
 use std::alloc::Allocator;
-use tiling::Grid;
 
 /// The segments of these numbers, with them.
 fn candidates_of<A: Allocator>(

@@ -2,19 +2,19 @@
 
 ghost use Rattle.std.specs.Prelude.{◌≡◌, All, IfOk, IfSome};
 ghost use Rattle.geom.specs.Limit.{AreInLimit};
-ghost use Rattle.tiling.specs.Tiles.{Owns};
+ghost use Rattle.grid.specs.Tiles.{Owns};
 ghost use Rattle.hot_pixel.specs.Candidates.{AreCandidates};
 
 mod met;
 
 use super::*;
 use geom::{Edge, NoMemory, Pt, Rect, Seg, Source};
+use grid::{Count, Grid};
 use hot_pixel::{Line, hot_in, is_bundle, sweep};
 use std::alloc::Allocator;
 use std::marker::Brand;
 use std::sync::ledger::{Blank, Ledger};
 use std::test::*;
-use tiling::{Count, Grid};
 
 type Point = (i32, i32);
 

@@ -10,7 +10,6 @@ mod filling;
 mod gate;
 mod job;
 mod laws;
-mod promise;
 mod share;
 mod ticket;
 mod worker;

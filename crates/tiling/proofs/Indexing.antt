@@ -26,8 +26,9 @@ use Rattle.lane_tests.specs.Boxes.{AreSmall}
 use Rattle.lane_tests.specs.Meeting.{AreMeeting, MeetsAt}
 use Rattle.lane_tests.proofs.Meeting.{filter_meets, meeting_is, shared_whole, whole_shared}
 use Rattle.tiling.specs.Index.{AreAscending, AreIndexed, IsKept, IsLeftBefore, Item, count_begun, first_reaching, greatest_of, least, lefts_of, rights_of, running}
-use Rattle.tiling.specs.Tiles.{Owns, Tiling}
-use Rattle.tiling.specs.Bins.{Binned, IsBin, MeetsTile}
+use Rattle.grid.specs.Tiles.{Owns, Tiling}
+use Rattle.grid.specs.Bins.{IsBin, MeetsTile}
+use Rattle.tiling.specs.Bins.{Binned}
 use Rattle.tiling.proofs.Placing.{count-map, count_is, position-map, position_is}
 use Rattle.tiling.proofs.Binning.{IsIndex, bin_is}
 use Rattle.tiling.proofs.Running.{first_running, greatest_of-push, length-running, running-push, running_covers, running_up}

@@ -9,8 +9,8 @@ use Rattle.geom.specs.declared.rect.Rect.{Rect}
 use Rattle.geom.proofs.Numbers.{le_le, itself, weak}
 use Rattle.tiling.specs.Index.{AreIndexed, AreReaching}
 use Rattle.tiling.specs.Strips.{HasStripRoom, IsFill, IsInStrip, MeetsStrip, Striped, strip_count}
-use Rattle.tiling.specs.Tiles.{steps}
-use Rattle.tiling.proofs.Columns.{between, column_from_steps, columns_from, inside, pos_same, steps_are, steps_from_column}
+use Rattle.grid.specs.Tiles.{steps}
+use Rattle.grid.proofs.Columns.{between, column_from_steps, columns_from, inside, pos_same, steps_are, steps_from_column}
 
 -- ---- how many strips
 pub count_is : (low high : ℤ) (width r : ℕ) → low ≤ℤ high → pos r ≡ steps low width high +ℤ pos 1 → r ≡ nat_abs (steps low width high) + 1

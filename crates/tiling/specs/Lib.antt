@@ -1,5 +1,3 @@
-pub mod Tiles
 pub mod Index
 pub mod Bins
 pub mod Strips
-pub mod Sides

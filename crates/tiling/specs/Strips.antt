@@ -2,7 +2,7 @@
 use Rattle.std.specs.Prelude.{◌≡◌, ◌↔◌, ◌<◌, ◌+◌, ◌^◌, ◌≤ℤ◌, ℕ, ℤ, pos, List, AllPairs, Contains, Some, nat_abs, slice_get}
 use Rattle.geom.specs.Limit.{IsWithin}
 use Rattle.geom.specs.declared.rect.Rect.{Rect}
-use Rattle.tiling.specs.Tiles.{steps}
+use Rattle.grid.specs.Tiles.{steps}
 use Rattle.tiling.specs.Index.{Item}
 
 -- strips of one width from low on, as many as reach high, and boxes with their numbers in the order of their left sides

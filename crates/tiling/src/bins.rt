@@ -2,14 +2,14 @@
 
 ghost use Rattle.std.specs.Prelude.{◌≡◌, ◌<◌, ◌≤◌, ◌+◌, ◌*◌, ◌^◌, ℕ, [], IfOk, List, OnErr, OnOk, length, max};
 ghost use Rattle.geom.specs.declared.rect.Rect.{Rect};
-ghost use Rattle.tiling.specs.Tiles.{tile_count, tile_left, tile_right};
+ghost use Rattle.grid.specs.Tiles.{tile_count, tile_left, tile_right};
 ghost use Rattle.tiling.specs.Index.{AreIndexed, count_begun, first_reaching};
-ghost use Rattle.tiling.specs.Bins.{Binned, IsBin};
+ghost use Rattle.grid.specs.Bins.{IsBin};
+ghost use Rattle.tiling.specs.Bins.{Binned};
 
-use crate::count::Count;
-use crate::grid::Grid;
 use crate::index::Index;
 use geom::NoMemory;
+use grid::{Count, Grid};
 use lane_tests::Boxes;
 use std::alloc::Allocator;
 use std::marker::Model;

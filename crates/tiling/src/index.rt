@@ -9,9 +9,9 @@ ghost use Rattle.lane_tests.specs.Boxes.{AreSmall};
 ghost use Rattle.lane_tests.specs.Meeting.{AreMeeting};
 ghost use Rattle.tiling.specs.Index.{AreIndexed, AreReaching, IsKept, Item, count_begun, first_reaching, lefts_of};
 
-use crate::count::Count;
 use crate::search::places_between;
 use geom::{NoMemory, Pt, Rect};
+use grid::Count;
 use lane_tests::{Boxes, meet_in};
 use std::alloc::Allocator;
 use std::marker::{Brand, Model};

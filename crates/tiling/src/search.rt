@@ -3,7 +3,7 @@
 ghost use Rattle.std.specs.Prelude.{◌≡◌, ℕ, ◌+◌, ◌*◌, ◌^◌, ◌<◌, ◌≤◌, pos, ◌≤ℤ◌, ◌<ℤ◌, length, get_or};
 ghost use Rattle.tiling.specs.Index.{AreAscending};
 
-use crate::count::Count;
+use grid::Count;
 use std::sync::ledger::Ledger;
 
 // The first place whose number is at least x. It ticks at each read, at most as often as the length has binary digits.

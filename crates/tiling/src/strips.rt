@@ -4,13 +4,13 @@ ghost use Rattle.std.specs.Prelude.{◌≡◌, ◌<◌, ◌≤ℤ◌, ◌*ℤ◌
 ghost use Rattle.std.specs.Int.{int_div_euclid};
 ghost use Rattle.geom.specs.Limit.{IsWithin, coordinate_limit};
 ghost use Rattle.geom.specs.declared.rect.Rect.{Rect};
-ghost use Rattle.tiling.specs.Tiles.{steps};
+ghost use Rattle.grid.specs.Tiles.{steps};
 ghost use Rattle.tiling.specs.Index.{AreIndexed};
 ghost use Rattle.tiling.specs.Strips.{HasStripRoom, IsFill, IsInStrip, Striped, strip_count};
 
-use crate::grid::{steps_over, steps_to};
 use crate::index::Index;
 use geom::NoMemory;
+use grid::{steps_over, steps_to};
 use lane_tests::Boxes;
 use std::alloc::Allocator;
 use std::marker::Model;

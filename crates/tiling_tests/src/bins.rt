@@ -1,7 +1,7 @@
 //! The bins of tiles on small examples, and against a plain loop over all boxes.
 
 ghost use Rattle.std.specs.Prelude.{◌≡◌, ◌<◌};
-ghost use Rattle.tiling.specs.Tiles.{tile_count};
+ghost use Rattle.grid.specs.Tiles.{tile_count};
 
 use crate::rects::{boxes_of, grid_over, rect, scattered};
 use geom::{COORDINATE_LIMIT, NoMemory, Rect};

@@ -13,7 +13,7 @@ use Rattle.geom.specs.Limit.{AreInLimit, IsWithin, coordinate_limit}
 use Rattle.geom.proofs.Edges.{before_by_cases}
 use Rattle.geom.proofs.Integers.{linear}
 use Rattle.geom.proofs.Numbers.{le_le, lt_le}
-use Rattle.face_label.proofs.Striping.{back}
+use Rattle.geom.proofs.Doubling.{back}
 use Rattle.geom.specs.Parity.{covers}
 use Rattle.polygonize.specs.Below.{RunsBelow, vertex_at}
 use Rattle.polygonize.specs.Column.{IsIn, Meets, Spans}

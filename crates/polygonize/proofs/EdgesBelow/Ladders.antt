@@ -17,7 +17,7 @@ use Rattle.geom.proofs.Integers.{cancel_pos, linear, mul_comm, mul_pos, scale_le
 use Rattle.geom.proofs.Numbers.{gap_is, strict_gap_is, lt_le, weak, itself}
 use Rattle.geom.proofs.Tests.{le_z_told}
 use Rattle.geom.proofs.Edges.{one_run}
-use Rattle.face_label.proofs.Striping.{back}
+use Rattle.geom.proofs.Doubling.{back}
 use Rattle.polygonize.specs.Below.{IsAsNear, IsGap, IsGapOf, RunsBelow, gap_height}
 use Rattle.polygonize.specs.Column.{IsIn, Spans}
 use Rattle.polygonize.specs.Ladder.{AreInOrder, AreSpanning, IsLadder, IsLower, IsUnder, StandInOrder, over_column}

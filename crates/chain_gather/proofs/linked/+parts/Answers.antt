@@ -3,7 +3,7 @@ use Rattle.std.proofs.lemmas.Grind.{flat_map-append}
 use Rattle.std.proofs.lemmas.Result.{IfOk-at_ok, IfOk-weaker}
 use Rattle.std.specs.Prelude.{Result, IfOk, All, AllPairs, flat_map}
 use Rattle.geom.specs.declared.point.Pt.{Pt}
-use Rattle.tiling.specs.Tiles.{HasTile}
+use Rattle.grid.specs.Tiles.{HasTile}
 use Rattle.routing.specs.declared.record.Record.{Record}
 use Rattle.chain_gather.specs.declared.link.Link.{Link}
 use Rattle.chain_gather.specs.Shares.{AreLinked, segment_of}

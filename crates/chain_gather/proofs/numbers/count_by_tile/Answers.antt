@@ -2,7 +2,7 @@ use Rattle.std.proofs.Common.{ℕ, ◌∙◌, ◌<◌, ap, arith, length, refl, 
 use Rattle.std.proofs.lemmas.List.{take_all}
 use Rattle.std.proofs.lemmas.Option.{slice_get_read}
 use Rattle.geom.specs.declared.point.Pt.{Pt}
-use Rattle.tiling.specs.Tiles.{HasTile, Owns}
+use Rattle.grid.specs.Tiles.{HasTile, Owns}
 use Rattle.chain_gather.specs.Numbers.{AreTileCounts}
 use Rattle.chain_gather.proofs.Counted.{counted_more, counted_none}
 use Rattle.chain_gather.proofs.Gathering.{owner_below}

@@ -2,7 +2,7 @@ use Rattle.std.proofs.Common.{◌≡◌, ℕ, List, ◌∙◌, ap, subst, sym}
 use Rattle.std.proofs.Math.Logic.{∥∥₁_elim, ∥∥₁_map}
 use Rattle.std.proofs.Props.{props}
 use Rattle.std.specs.Prelude.{flat_map}
-use Rattle.tiling.specs.Tiles.{Owns}
+use Rattle.grid.specs.Tiles.{Owns}
 use Rattle.routing.specs.declared.record.Record.{Record}
 use Rattle.routing.specs.Pieces.{IsPartOf}
 use Rattle.chain_gather.specs.Links.{AreRecords, HasRecords}

@@ -2,7 +2,7 @@ use Rattle.std.proofs.Common.{◌≡◌, ℕ, List, ◌∙◌, ap, refl, subst, 
 use Rattle.std.proofs.Math.Logic.{∥∥₁_map}
 use Rattle.std.specs.Prelude.{All, AllPairs, flat_map}
 use Rattle.geom.specs.declared.point.Pt.{Pt}
-use Rattle.tiling.specs.Tiles.{HasTile, Owns}
+use Rattle.grid.specs.Tiles.{HasTile, Owns}
 use Rattle.routing.specs.declared.record.Record.{Record}
 use Rattle.routing.specs.Pieces.{IsPartOf}
 use Rattle.chain_gather.specs.Links.{AreRecords, HasRecords}

@@ -1,4 +1,4 @@
-use Rattle.tiling.specs.Tiles.{tile_count}
+use Rattle.grid.specs.Tiles.{tile_count}
 use Rattle.engine.proofs.rounds.gathered.Given as goal
 
 abbrev pub ghosts-by_cells-L-Ledger : goal.ghosts-by_cells-L-Ledger

@@ -1,6 +1,6 @@
 use Rattle.std.proofs.Common.{map, ap, ◌∙◌}
 use Rattle.rayon.proofs.ToStd.{slice-map}
-use Rattle.face_label.specs.Label.{both_ways}
+use Rattle.geom.specs.Label.{both_ways}
 use Rattle.face_label.specs.Strip.{layers_at}
 use Rattle.face_label.proofs.label.by_strips.Goals as goal
 

@@ -1,6 +1,6 @@
 use Rattle.std.proofs.Common.{◌≡◌, ◌∙◌, ap}
-use Rattle.face_label.specs.Label.{ways_of}
-use Rattle.face_label.proofs.Listing.{are_directed, labels_of, result_edges}
+use Rattle.geom.specs.Label.{ways_of}
+use Rattle.geom.proofs.Listing.{are_directed, labels_of, result_edges}
 use Rattle.geom.proofs.Orders.{directed_once}
 use Rattle.face_label.proofs.label.directed_by.Goals as goal
 

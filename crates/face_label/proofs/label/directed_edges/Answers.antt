@@ -1,7 +1,7 @@
 use Rattle.std.proofs.Common.{◌<◌, ◌++◌, ◌∙◌, ap, arith, false, length, slice_index_or}
 use Rattle.std.proofs.lemmas.List.{get_or_default}
-use Rattle.face_label.specs.Label.{ways}
-use Rattle.face_label.proofs.Listing.{one_more}
+use Rattle.geom.specs.Label.{ways}
+use Rattle.geom.proofs.Listing.{one_more}
 use Rattle.face_label.proofs.label.directed_edges.Goals as goal
 
 pub loop-i-preserved : goal.loop-i-preserved

@@ -1,5 +1,5 @@
 use Rattle.std.proofs.Common.{◌≡◌, take}
-use Rattle.face_label.specs.Label.{ways_of}
+use Rattle.geom.specs.Label.{ways_of}
 use Rattle.face_label.proofs.label.directed_edges.Given as goal
 
 abbrev pub invariant-loop-i : goal.invariant-loop-i

@@ -1,8 +1,8 @@
 use Rattle.std.proofs.Common.{◌∙◌, sym}
 use Rattle.lane_tests.specs.Probe.{point_of}
-use Rattle.face_label.specs.Label.{OddLayers, holds_in}
+use Rattle.geom.specs.Label.{OddLayers, holds_in}
 use Rattle.face_label.specs.Strip.{layers_at}
-use Rattle.face_label.proofs.Doubling.{both, holds_double}
+use Rattle.geom.proofs.Doubling.{both, holds_double}
 use Rattle.face_label.proofs.odd.directions_in.Goals as goal
 
 pub returns : goal.returns

@@ -1,5 +1,5 @@
 use Rattle.std.proofs.Common.{refl}
-use Rattle.face_label.proofs.Doubling.{difference_back, left_is_double, sum_back}
+use Rattle.geom.proofs.Doubling.{difference_back, left_is_double, sum_back}
 use Rattle.face_label.proofs.odd.left_probe.Goals as goal
 
 pub returns-clause-value : goal.returns-clause-value

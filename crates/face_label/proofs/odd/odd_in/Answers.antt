@@ -1,5 +1,5 @@
 use Rattle.std.proofs.Common.{sym}
-use Rattle.face_label.proofs.Listing.{odd_more}
+use Rattle.geom.proofs.Listing.{odd_more}
 use Rattle.face_label.proofs.odd.odd_in.Goals as goal
 
 pub loop-one-preserved : goal.loop-one-preserved

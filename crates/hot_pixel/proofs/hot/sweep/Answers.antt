@@ -1,6 +1,6 @@
 use Rattle.std.proofs.lemmas.Result.{IfOk-weaker}
 use Rattle.hot_pixel.specs.Rects.{IsIn}
-use Rattle.tiling.specs.Tiles.{Owns}
+use Rattle.grid.specs.Tiles.{Owns}
 use Rattle.hot_pixel.specs.Candidates.{chosen}
 use Rattle.hot_pixel.proofs.CandidateLaws.{owned_by, owned_of_all}
 use Rattle.hot_pixel.proofs.hot.sweep.Goals as goal

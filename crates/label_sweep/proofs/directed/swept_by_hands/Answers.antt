@@ -1,5 +1,5 @@
 use Rattle.std.proofs.Common.{◌∙◌, ap, length, sym}
-use Rattle.face_label.proofs.Listing.{are_directed}
+use Rattle.geom.proofs.Listing.{are_directed}
 use Rattle.label_sweep.proofs.Borders.{whole, whole_edges}
 use Rattle.label_sweep.proofs.directed.swept_by_hands.Goals as goal
 

@@ -1,4 +1,4 @@
-use Rattle.tiling.specs.Tiles.{tile_count}
+use Rattle.grid.specs.Tiles.{tile_count}
 use Rattle.noding_test.proofs.noding.noded.Given as goal
 
 abbrev pub ghosts-least_bad_of-L-Ledger : goal.ghosts-least_bad_of-L-Ledger

@@ -2,7 +2,7 @@ use Rattle.std.proofs.Common.{◌≡◌, ℕ, arith, subst}
 use Rattle.std.proofs.Math.Logic.{∥∥₁_elim, ∥∥₁_map}
 use Rattle.std.proofs.Props.{props}
 use Rattle.geom.specs.Rounded.{edges_of}
-use Rattle.tiling.specs.Tiles.{tile_count}
+use Rattle.grid.specs.Tiles.{tile_count}
 use Rattle.noding_test.specs.Verdicts.{IsLeastPair}
 use Rattle.noding_test.specs.Passes.{IsBadBelow}
 use Rattle.noding_test.proofs.EdgeBins.{near_by_bin}

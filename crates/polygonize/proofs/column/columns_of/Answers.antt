@@ -1,5 +1,5 @@
 use Rattle.std.proofs.Common.{slice_index_or, pos}
-use Rattle.face_label.proofs.Striping.{back}
+use Rattle.geom.proofs.Doubling.{back}
 use Rattle.polygonize.specs.Below.{vertex_at}
 use Rattle.polygonize.proofs.EdgesBelow.Columns.{spread_back, spread_more}
 use Rattle.polygonize.proofs.column.columns_of.Goals as goal

@@ -1,7 +1,7 @@
 use Rattle.std.proofs.Common.{◌≡◌, ◌⊎◌, Option, subst}
 use Rattle.std.specs.Prelude.{MatchOption}
 use Rattle.geom.specs.declared.edge.Edge.{Edge}
-use Rattle.face_label.proofs.Striping.{back}
+use Rattle.geom.proofs.Doubling.{back}
 use Rattle.polygonize.proofs.EdgesBelow.Columns.{left_border}
 use Rattle.polygonize.proofs.EdgesBelow.GapsBelow.{ends_in_limit}
 use Rattle.polygonize.proofs.EdgesBelow.Ladders.{border_is, in_order}

@@ -1,6 +1,6 @@
 use Rattle.std.proofs.Common.{◌^◌, ℤ, sym, subst}
 use Rattle.geom.specs.Limit.{IsWithin}
-use Rattle.face_label.proofs.Striping.{back}
+use Rattle.geom.proofs.Doubling.{back}
 use Rattle.polygonize.proofs.EdgesBelow.GapsBelow.{small_distance}
 use Rattle.polygonize.proofs.EdgesBelow.Ladders.{under_test}
 use Rattle.polygonize.proofs.ladder.is_under.Goals as goal

@@ -1,5 +1,5 @@
 use Rattle.routing.proofs.PieceLaws.{part_found}
-use Rattle.tiling.specs.Tiles.{Owns}
+use Rattle.grid.specs.Tiles.{Owns}
 use Rattle.routing.proofs.finding.part.Goals as goal
 
 pub found_in-requires : goal.found_in-requires

@@ -1,5 +1,5 @@
 use Rattle.std.proofs.Common.{arith}
-use Rattle.tiling.specs.Tiles.{Owns}
+use Rattle.grid.specs.Tiles.{Owns}
 use Rattle.routing.proofs.RecordOrder.{records_once}
 use Rattle.routing.proofs.PieceLaws.{piece_found, piece_of_all}
 use Rattle.routing.proofs.finding.piece.Goals as goal

@@ -5,7 +5,7 @@ use Rattle.std.proofs.lemmas.List.{get_or_push, length_push}
 use Rattle.std.proofs.lemmas.Option.{slice_get_within}
 use Rattle.geom.specs.declared.point.Pt.{Pt}
 use Rattle.geom.specs.declared.segment.Seg.{Seg}
-use Rattle.tiling.specs.Tiles.{Owns}
+use Rattle.grid.specs.Tiles.{Owns}
 use Rattle.hot_pixel.specs.Candidates.{AreCandidates}
 use Rattle.routing.proofs.tests.all_numbers.Goals as goal
 

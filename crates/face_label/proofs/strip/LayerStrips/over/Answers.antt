@@ -2,9 +2,9 @@ use Rattle.std.proofs.Common.{ℕ, ◌<◌, ℤ, get_or, [], ap, sym, subst, ◌
 use Rattle.std.specs.Prelude.{◌≤ℤ◌, pos, ◌*ℤ◌, nat_abs}
 use Rattle.std.specs.Int.{int_div_euclid}
 use Rattle.std.proofs.lemmas.List.{get_or_default}
-use Rattle.tiling.specs.Tiles.{steps}
+use Rattle.grid.specs.Tiles.{steps}
 use Rattle.face_label.specs.Strip.{edges_at}
-use Rattle.face_label.proofs.Doubling.{sum_back}
+use Rattle.geom.proofs.Doubling.{sum_back}
 use Rattle.face_label.proofs.Striping.{sum_high, sum_low}
 use Rattle.face_label.proofs.strip.LayerStrips.over.Goals as goal
 

@@ -2,7 +2,7 @@ use Rattle.std.proofs.Common.{◌∙◌, ap, rules, to_z-of_z, FitsSigned, w32}
 use Rattle.std.specs.Prelude.{max}
 use Rattle.tiling.specs.Bins.{Binned}
 use Rattle.tiling.specs.Index.{count_begun, first_reaching}
-use Rattle.tiling.specs.Tiles.{tile_left, tile_right}
+use Rattle.grid.specs.Tiles.{tile_left, tile_right}
 use Rattle.tiling.proofs.bins.Bins.places.Goals as goal
 
 pub returns-clause-from : goal.returns-clause-from

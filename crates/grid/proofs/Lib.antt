@@ -1,0 +1,4 @@
+pub mod Columns
+pub mod Giving
+pub mod Rows
+pub mod TriedSides
