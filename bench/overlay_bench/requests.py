@@ -1,6 +1,6 @@
-"""counts the requests for memory of `gather` with an empty and with a full book, on the row of chain_gather's tests
+"""counts the requests for memory of `gather` with an empty and with a full book, on the row of chain_gather_tests
 
-A copy of the crate gets four tests more: what goes before `gather`, and that with `gather`, for either book. Each is run by `rt try`
+A copy of that crate gets four tests more: what goes before `gather`, and that with `gather`, for either book. Each is run by `rt try`
 with its N-th request refused; the least N with which it passes is one more than the number of its requests. Exit status 1 where a
 full book doesn't save requests. Needs the kit's `rt`.
 """
@@ -40,11 +40,11 @@ def with_tests(text):
 
 
 def copied(folder):
-    """A copy of the repository's crates, the tests of chain_gather exchanged; the folder of that crate."""
+    """A copy of the repository's crates, the tests of gathering exchanged; the folder of chain_gather_tests."""
     shutil.copy(os.path.join(ROOT, "crates.txt"), folder)
     shutil.copytree(os.path.join(ROOT, "crates"), os.path.join(folder, "crates"), ignore=shutil.ignore_patterns("out", "must-fail"))
-    crate = os.path.join(folder, "crates", "chain_gather")
-    path = os.path.join(crate, "src", "tests.rt")
+    crate = os.path.join(folder, "crates", "chain_gather_tests")
+    path = os.path.join(crate, "src", "gathering.rt")
     with open(path) as file:
         text = with_tests(file.read())
     with open(path, "w") as file:
@@ -55,7 +55,7 @@ def copied(folder):
 def passing(crate, refused):
     """The tests that pass where this request is refused."""
     run = subprocess.run(["rt", "try", "--test", "--fail-alloc", str(refused)], cwd=crate, stdout=subprocess.PIPE, stderr=subprocess.STDOUT, text=True)
-    told = dict(re.findall(r"^test tests::(\w+) \.\.\. (\w+)$", run.stdout, re.M))
+    told = dict(re.findall(r"^test gathering::(\w+) \.\.\. (\w+)$", run.stdout, re.M))
     if len(told) != 4:
         sys.exit("the tests did not run:\n" + run.stdout)
     return {name for name, outcome in told.items() if outcome == "ok"}

@@ -13,9 +13,10 @@ use Rattle.hot_pixel.proofs.ListLaws.{none_in, in_push}
 use Rattle.routing.specs.declared.record.Record.{Record}
 use Rattle.routing.specs.declared.pieces.Piece.{Piece}
 use Rattle.routing.specs.Pieces.{IsPieceOf}
-use Rattle.chain_gather.specs.declared.rounded.TileNumbers.{TileNumbers}
-use Rattle.chain_gather.specs.Gathered.{HoldsOwn, IsCountBelow, AreTileNumbers, HasTilesBelow, AreGathered}
-use Rattle.chain_gather.proofs.Gathering.{below_none, below_more}
+use Rattle.linking.specs.declared.rounded.TileNumbers.{TileNumbers}
+use Rattle.linking.specs.Gathered.{AreTileNumbers, HasTilesBelow}
+use Rattle.linking.proofs.Gathering.{below_none, below_more}
+use Rattle.chain_gather.specs.Gathered.{HoldsOwn, IsCountBelow, AreGathered}
 
 same_place : (j k : ℕ) → k ≤ j → j < k + 1 → j ≡ k
 same_place j k h l = omega arith

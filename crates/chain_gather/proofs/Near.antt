@@ -1,15 +1,12 @@
--- The segments near a tile, from the bins, and as candidates.
-use Rattle.std.proofs.Common.{◌≡◌, ℕ, ◌+◌, ◌<◌, List, [], ◌∷◌, refl, sym, ◌∙◌, ap, arith, subst, get_or, ◌↔◌, ⊎_elim}
+-- The segments near a tile, from the bins, as candidates.
+use Rattle.std.proofs.Common.{◌≡◌, ℕ, ◌+◌, ◌<◌, List, [], ◌∷◌, refl, sym, ◌∙◌, ap, arith, subst, ◌↔◌, ⊎_elim}
 use Rattle.std.specs.Prelude.{AllPairs, Contains, Option, Some, None, slice_get, ◌≤ℤ◌}
 use Rattle.std.proofs.Math.IntN.{ℤ}
-use Rattle.std.proofs.lemmas.List.Elements.{Contains-get_or}
 use Rattle.geom.specs.declared.point.Pt.{Pt}
 use Rattle.geom.specs.declared.rect.Rect.{Rect}
 use Rattle.geom.specs.declared.segment.Seg.{Seg}
 use Rattle.geom.specs.Box.{IsInBox, greatest_corner, least_corner}
 use Rattle.geom.proofs.Integers.{linear}
-use Rattle.geom.proofs.Meaning.{met_pixels_are_in_bounds}
-use Rattle.geom.proofs.Numbers.{itself}
 use Rattle.geom.proofs.Lists.{some_same}
 use Rattle.grid.specs.Tiles.{Tiling, Owns}
 use Rattle.tiling.specs.Index.{AreIndexed}
@@ -20,17 +17,13 @@ use Rattle.hot_pixel.proofs.ListLaws.{in_cons, from_cons, here, none_in, head_pa
 use Rattle.routing.specs.declared.record.Candidate.{Candidate}
 use Rattle.routing.specs.Pieces.{candidates_of}
 use Rattle.routing.proofs.PieceLaws.{in_candidates}
-use Rattle.chain_gather.specs.Gathered.{AreBoxesOf, AreBinsOf, IsNear, IsNumberedBefore, AreTileCandidates, box_corners}
-use Rattle.chain_gather.proofs.Boxes.{below_bin, bin_over, into_bin, out_of_bin}
+use Rattle.linking.specs.Gathered.{AreBoxesOf, box_corners}
+use Rattle.linking.proofs.Boxes.{into_bin, out_of_bin}
+use Rattle.linking.proofs.Near.{bin_candidates, has_hi, has_lo}
+use Rattle.chain_gather.specs.Gathered.{AreBinsOf, AreTileCandidates, IsNear, IsNumberedBefore}
+use Rattle.chain_gather.proofs.Boxes.{bin_over}
 
--- ---- a bin has the numbers of the segments near its tile
-pub bin_candidates : (g : Tiling) (segments : List Seg) (boxes : List Rect) (k : ℕ) (numbers : List ℕ) → AreBoxesOf segments boxes → IsBin g k boxes numbers → AreCandidates (Owns g k) segments numbers
-bin_candidates g segments boxes k numbers are bin = record {
-  ascending = λ i l. bin.ascending i (i + 1) 0 (omega arith) l;
-  below = λ i d l. below_bin box_corners g segments boxes k numbers are bin (get_or numbers i d) (Contains-get_or numbers i d l);
-  complete = λ n s c at met owned. into_bin box_corners g segments boxes k numbers are bin n s c at (met_pixels_are_in_bounds s c met) owned;
-}
-
+-- ---- candidates ascend by their numbers
 ascend_cons : (segments : List Seg) (n : ℕ) (ns : List ℕ) (o : Option Seg) → slice_get segments n ≡ o → AllPairs (λ i j. i < j) (n ∷ ns) → AllPairs IsNumberedBefore (candidates_of segments ns) → AllPairs IsNumberedBefore (candidates_of segments (n ∷ ns))
 ascend_cons segments n ns None e p rest = rw e rest
 ascend_cons segments n ns (Some s) e p rest = rw e (pairs_cons IsNumberedBefore (record { number = n; segment = s }) (candidates_of segments ns) (λ c h. head_pair (λ i j. i < j) n ns c.number p ((in_candidates segments ns c).0 h).0) rest)
@@ -81,12 +74,6 @@ one_candidates g segments k xs ys a b = one_list xs ys a.ascending b.ascending (
 -- ---- rectangles are told by their points
 close : {x y : ℤ} → x ≤ℤ y → y ≤ℤ x → x ≡ y
 close {x} {y} h k = omega (arith, linear)
-
-pub has_lo : (r : Rect) → IsInBox r.lo r.hi r.lo
-has_lo r = record { left = itself r.lo.x; right = r.wide; bottom = itself r.lo.y; top = r.high }
-
-pub has_hi : (r : Rect) → IsInBox r.lo r.hi r.hi
-has_hi r = record { left = r.wide; right = itself r.hi.x; bottom = r.high; top = itself r.hi.y }
 
 pub one_rect : (r q : Rect) → ((p : Pt) → IsInBox r.lo r.hi p ↔ IsInBox q.lo q.hi p) → (r.lo ≡ q.lo) × (r.hi ≡ q.hi)
 one_rect r q h =

@@ -14,8 +14,8 @@ use Rattle.routing.specs.declared.record.Candidate.{Candidate}
 use Rattle.routing.specs.declared.pieces.Piece.{Piece}
 use Rattle.routing.specs.Pieces.{candidates_of, IsPieceOf}
 use Rattle.routing.proofs.PieceLaws.{piece_of_all}
+use Rattle.linking.proofs.Boxes.{in_same_box}
 use Rattle.chain_gather.specs.Gathered.{AreTileCandidates, IsOwn}
-use Rattle.chain_gather.proofs.Boxes.{in_same_box}
 use Rattle.chain_gather.proofs.Near.{one_candidates, one_rect}
 
 abbrev pub same_rect : Rect → Rect → Bool

@@ -7,10 +7,10 @@ ghost use Rattle.routing.specs.Pieces.{candidates_of};
 ghost use Rattle.chain_gather.specs.Gathered.{is_candidate, AreTileCandidates, HoldsOwn, IsOwn};
 
 use geom::{Seg, Source};
+use grid::Grid;
 use routing::{Candidate, Piece};
 use std::alloc::Allocator;
 use tile_book::{Book, Limited};
-use tiling::Grid;
 
 /// Whether both are the same layer.
 fn same_layer(layer: Source, other: Source) -> bool

@@ -1,32 +1,25 @@
 //! Gathering the pieces of all tiles.
 
-ghost use Rattle.std.specs.Prelude.{◌≡◌, ◌+◌, ◌<◌, ◌≤◌, ◌++◌, ◌∷◌, [], All, IfOk, List, OnOk, flat_map, length};
+ghost use Rattle.std.specs.Prelude.{◌≡◌, ◌+◌, ◌<◌, ◌≤◌, ◌++◌, ◌∷◌, [], All, IfOk, OnOk, length};
 ghost use Rattle.geom.specs.Limit.{AreInLimit};
 ghost use Rattle.geom.specs.Noded.{IsNoded};
-ghost use Rattle.geom.specs.declared.segment.Seg.{Seg};
 ghost use Rattle.geom.specs.declared.segment.Source.{Source};
 ghost use Rattle.geom.specs.Rounded.{AreRounded, HasEvenDegrees, edges_of, odd_edges};
 ghost use Rattle.geom.specs.Segments.{AreClosed};
 ghost use Rattle.grid.specs.Tiles.{tile_count, Owns};
 ghost use Rattle.hot_pixel.specs.Candidates.{AreCandidates};
 ghost use Rattle.routing.specs.Pieces.{candidates_of};
-ghost use Rattle.chain_gather.specs.Gathered.{AreBinsOf, AreGathered, AreTileCandidates, AreTileNumbers, HaveTiles, HoldsOwn, IsCountBelow};
-ghost use Rattle.tile_book.specs.Books.{StandInOrder};
+ghost use Rattle.linking.specs.Gathered.{AreTileNumbers, HaveTiles};
+ghost use Rattle.chain_gather.specs.Gathered.{AreBinsOf, AreGathered, AreTileCandidates, HoldsOwn, IsCountBelow};
 
-use crate::counting::{counts, counts_by_hands, room_for};
-use crate::linked::{Linked, in_order, link_parts};
-use crate::linking::links;
-use crate::numbers::{numbers_of, paired};
 use crate::own::own_piece;
-use crate::rounded::{Rounded, TileNumbers};
-use crate::shares::{item_count, shares_by_hands};
-use crate::tile_piece::{TilePiece, Tiled};
-use geom::{Counted, NoMemory, Pt, Seg};
+use geom::{NoMemory, Seg};
+use grid::{Grid, MOST_TILES};
+use linking::{Rounded, TileNumbers, rounded_by_records};
 use routing::{Piece, Record, piece};
 use std::alloc::Allocator;
-use std::thread::Threads;
 use tile_book::{Book, Limited};
-use tiling::{Bins, Grid, MOST_TILES};
+use tiling::Bins;
 
 /// What was gathered from some tiles: their records, their numbers, and how many of their pieces were made anew.
 #[derive(Drop)]
@@ -145,138 +138,5 @@ pub fn gather<L: Limited, A: Allocator + Copy>(
         remade,
     } = all_tiles(alloc, &book, grid, bins, segments)?;
     drop(book);
-    let records = in_order(records);
-    let list = links(alloc, segments, &records)?;
-    drop(records);
-    let edges = counts(alloc, room_for(list.len()), list)?;
-    Ok(rounded_of(segments, edges, tiles, remade))
-}
-
-/// As `gather`, of the pieces of all cells in their order, which are known to be those of the segments over these cells:
-/// nothing is binned, compared or made anew. The cells needn't be the tiles of the grid, whose numbers are counted from what
-/// the pieces have.
-pub fn gather_made<T: Tiled, A: Allocator + Copy>(
-    alloc: A,
-    pieces: Vec<TilePiece<T, A>, A>,
-    remade: u32,
-    cells: &Grid,
-    grid: &Grid,
-    segments: &[Seg],
-) -> Result<Rounded<A>, NoMemory>
-    requires cells { cells.now ≡ T.grid }
-    requires segments { segments.now ≡ T.segments }
-    requires covered_by_cells { HaveTiles cells.now segments.now }
-    requires covered { HaveTiles grid.now segments.now }
-    requires one_each { length pieces.items ≡ tile_count cells.now }
-    requires in_order { StandInOrder (λ p. p.number) pieces.items }
-    ensures rounded { IfOk result (λ r. ∥ AreRounded segments.now r.edges.items ∥₁) }
-    ensures noded { IfOk result (λ r. IsNoded (edges_of r.edges.items)) }
-    ensures even { IfOk result (λ r. (layer : Source) → AreClosed layer segments.now → HasEvenDegrees (odd_edges layer r.edges.items)) }
-    ensures tiles { IfOk result (λ r. AreTileNumbers grid.now segments.now (tile_count grid.now) r.tiles.items) }
-    ensures remade { IfOk result (λ r. r.remade ≡ remade) }
-{
-    let found = records_of(alloc, &pieces)?;
-    let pixels = pixels_of(alloc, &pieces)?;
-    drop(pieces);
-    let records = in_order(found);
-    let tiles = numbers_of(alloc, grid, &pixels, &records)?;
-    let list = links(alloc, segments, &records)?;
-    drop(pixels);
-    drop(records);
-    let edges = counts(alloc, room_for(list.len()), list)?;
-    Ok(rounded_of(segments, edges, tiles, remade))
-}
-
-/// As `gather_made`, by so many hands, each in a thread of its own.
-pub fn gather_made_by_hands<T: Tiled + Sync, A: Allocator + Copy + Send + Sync, R: Threads + Sync>(
-    rt: &R,
-    alloc: A,
-    hands: usize,
-    pieces: Vec<TilePiece<T, A>, A>,
-    remade: u32,
-    cells: &Grid,
-    grid: &Grid,
-    segments: &[Seg],
-) -> Result<Rounded<A>, NoMemory>
-    requires cells { cells.now ≡ T.grid }
-    requires segments { segments.now ≡ T.segments }
-    requires covered_by_cells { HaveTiles cells.now segments.now }
-    requires covered { HaveTiles grid.now segments.now }
-    requires one_each { length pieces.items ≡ tile_count cells.now }
-    requires in_order { StandInOrder (λ p. p.number) pieces.items }
-    ensures rounded { IfOk result (λ r. ∥ AreRounded segments.now r.edges.items ∥₁) }
-    ensures noded { IfOk result (λ r. IsNoded (edges_of r.edges.items)) }
-    ensures even { IfOk result (λ r. (layer : Source) → AreClosed layer segments.now → HasEvenDegrees (odd_edges layer r.edges.items)) }
-    ensures tiles { IfOk result (λ r. AreTileNumbers grid.now segments.now (tile_count grid.now) r.tiles.items) }
-    ensures remade { IfOk result (λ r. r.remade ≡ remade) }
-{
-    if hands < 2 {
-        return gather_made(alloc, pieces, remade, cells, grid, segments);
-    }
-    let shares = shares_by_hands(rt, alloc, hands, &pieces)?;
-    let pixels = pixels_of(alloc, &pieces)?;
-    drop(pieces);
-    let found = link_parts(rt, alloc, grid, segments, &pixels, shares)?;
-    drop(pixels);
-    let tiles = paired(alloc, &found.hot, &found.records)?;
-    let edges = counts_by_hands(rt, alloc, hands, found.links)?;
-    Ok(rounded_of(segments, edges, tiles, remade))
-}
-
-/// How many hot pixels pieces have together.
-fn pixel_count<T: Tiled, A: Allocator>(pieces: &[TilePiece<T, A>]) -> usize {
-    let mut count = 0usize;
-    for piece in pieces {
-        count = count.saturating_add(piece.pixels.len());
-    }
-    count
-}
-
-/// The hot pixels of pieces, in their order.
-fn pixels_of<T: Tiled, A: Allocator>(
-    alloc: A,
-    pieces: &[TilePiece<T, A>],
-) -> Result<Vec<Pt, A>, NoMemory>
-    ensures { IfOk result (λ v. v.items ≡ flat_map (λ p. p.pixels.items) pieces.now) }
-{
-    let mut pixels = Vec::with_capacity(alloc, pixel_count(pieces))?;
-    for piece in pieces {
-        pixels.extend_from_slice(&piece.pixels)?;
-    }
-    Ok(pixels)
-}
-
-/// The records of pieces, in their order.
-fn records_of<T: Tiled, A: Allocator>(
-    alloc: A,
-    pieces: &[TilePiece<T, A>],
-) -> Result<Vec<Record, A>, NoMemory>
-    ensures { IfOk result (λ v. v.items ≡ flat_map (λ p. p.records.items) pieces.now) }
-{
-    let mut records = Vec::with_capacity(alloc, item_count(pieces))?;
-    for piece in pieces {
-        records.extend_from_slice(&piece.records)?;
-    }
-    Ok(records)
-}
-
-/// What was gathered, by the rounded edges of segments.
-fn rounded_of<A: Allocator>(
-    segments: &[Seg],
-    edges: Vec<Counted, A>,
-    tiles: Vec<TileNumbers, A>,
-    remade: u32,
-) -> Rounded<A>
-    requires { ∥ AreRounded segments.now edges.items ∥₁ }
-    ensures rounded { ∥ AreRounded segments.now result.edges.items ∥₁ }
-    ensures noded { IsNoded (edges_of result.edges.items) }
-    ensures even { (layer : Source) → AreClosed layer segments.now → HasEvenDegrees (odd_edges layer result.edges.items) }
-    ensures tiles { result.tiles.items ≡ tiles.items }
-    ensures remade { result.remade ≡ remade }
-{
-    Rounded {
-        edges,
-        tiles,
-        remade,
-    }
+    rounded_by_records(alloc, segments, records, tiles, remade)
 }

@@ -12,9 +12,9 @@ use Rattle.geom.proofs.Lists.{contains_in, in_contains}
 use Rattle.grid.specs.Bins.{AreBins, AreRowBins, IsBin, TileBins, TileRows}
 use Rattle.grid.specs.Tiles.{HasTile, Owns, Tiling, tile_count}
 use Rattle.hot_pixel.specs.Candidates.{AreCandidates}
-use Rattle.chain_gather.specs.Gathered.{AreBoxesOf, HaveTiles, box_corners, corners}
-use Rattle.chain_gather.proofs.Boxes.{in_same_box, into_bin, member, out_of_bin}
-use Rattle.chain_gather.proofs.Near.{bin_candidates, has_hi, has_lo}
+use Rattle.linking.specs.Gathered.{AreBoxesOf, HaveTiles, box_corners, corners}
+use Rattle.linking.proofs.Boxes.{in_same_box, into_bin, member, out_of_bin}
+use Rattle.linking.proofs.Near.{bin_candidates, has_hi, has_lo}
 use Rattle.engine.specs.Rounds.{AreCellBins, AreCellRows}
 
 -- ---- segment by segment

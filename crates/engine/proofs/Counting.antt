@@ -8,8 +8,8 @@ use Rattle.geom.specs.declared.point.Pt.{Pt}
 use Rattle.geom.specs.declared.segment.Seg.{Seg}
 use Rattle.geom.specs.Hot.{IsHot}
 use Rattle.geom.proofs.Lists.{Distinct, In, contains_in, in_contains}
-use Rattle.chain_gather.proofs.Gathering.{AreCovered}
-use Rattle.chain_gather.proofs.Parts.{IsPart}
+use Rattle.linking.proofs.Gathering.{AreCovered}
+use Rattle.linking.proofs.Parts.{IsPart}
 use Rattle.hot_pixel.proofs.ListLaws.{in_map, pairs_cons, pairs_map}
 use Rattle.routing.specs.declared.record.Record.{Record}
 use Rattle.routing.specs.Pieces.{IsRecord}

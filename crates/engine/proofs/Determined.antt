@@ -7,10 +7,10 @@ use Rattle.geom.specs.declared.segment.Seg.{Seg}
 use Rattle.geom.specs.declared.edge.Counted.{Counted}
 use Rattle.geom.specs.Rounded.{AreRounded}
 use Rattle.geom.specs.Segments.{AreSegments}
-use Rattle.chain_gather.specs.Gathered.{AreTileNumbers}
-use Rattle.chain_gather.specs.declared.rounded.TileNumbers.{TileNumbers}
-use Rattle.chain_gather.proofs.Covering.{are_covered}
-use Rattle.chain_gather.proofs.Gathering.{AreCovered}
+use Rattle.linking.specs.Gathered.{AreTileNumbers}
+use Rattle.linking.specs.declared.rounded.TileNumbers.{TileNumbers}
+use Rattle.linking.proofs.Covering.{are_covered}
+use Rattle.linking.proofs.Gathering.{AreCovered}
 use Rattle.points_law.proofs.OneResult.{one_rounded, one_segments}
 use Rattle.grid.specs.Tiles.{Tiling, tile_count}
 use Rattle.wkt.specs.LayerText.{Ring}

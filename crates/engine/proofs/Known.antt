@@ -11,7 +11,7 @@ use Rattle.geom.specs.Bounds.{IsBox}
 use Rattle.geom.specs.Segments.{layer_steps}
 use Rattle.geom.proofs.Rects.{same_rect}
 use Rattle.grid.specs.Tiles.{IsGridOf, Tiling, tile_count}
-use Rattle.chain_gather.specs.declared.rounded.TileNumbers.{TileNumbers}
+use Rattle.linking.specs.declared.rounded.TileNumbers.{TileNumbers}
 use Rattle.wkt.specs.LayerText.{Ring}
 use Rattle.wkt.specs.Refusals.{plain}
 use Rattle.engine.specs.Rounds.{AreBoundsOf, AreRoundedOver, AreSegmentsOf, IsGridOver, TellsTiles}

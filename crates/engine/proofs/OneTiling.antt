@@ -5,7 +5,7 @@ use Rattle.geom.specs.declared.point.Pt.{Pt}
 use Rattle.geom.specs.declared.segment.Seg.{Seg}
 use Rattle.geom.specs.Segments.{layer_steps}
 use Rattle.grid.specs.Tiles.{IsGridOf, tile_count}
-use Rattle.chain_gather.specs.Gathered.{AreTileNumbers}
+use Rattle.linking.specs.Gathered.{AreTileNumbers}
 use Rattle.wkt.specs.LayerText.{Ring}
 use Rattle.wkt.specs.Refusals.{plain}
 use Rattle.engine.specs.Determined.{TilesAreOne}

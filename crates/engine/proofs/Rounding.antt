@@ -17,8 +17,8 @@ use Rattle.points_law.proofs.ClosedSegments.{rings_closed}
 use Rattle.points_law.proofs.RoundedLayers.{rounded_layers}
 use Rattle.grid.specs.Tiles.{CoversBounds, IsGridOf, Tiling}
 use Rattle.grid.proofs.Columns.{covers}
-use Rattle.chain_gather.specs.Gathered.{BoundsHold, HaveTiles}
-use Rattle.chain_gather.proofs.Covering.{have_tiles}
+use Rattle.linking.specs.Gathered.{BoundsHold, HaveTiles}
+use Rattle.linking.proofs.Covering.{have_tiles}
 use Rattle.wkt.specs.LayerText.{Ring}
 use Rattle.wkt.specs.Refusals.{IsAccepted, StandsFor, plain}
 use Rattle.wkt.proofs.Exclusive.{same_reading}

@@ -15,7 +15,7 @@ use Rattle.geom.specs.declared.edge.Counted.{Counted}
 use Rattle.engine.specs.declared.text.Report.{Report}
 use Rattle.engine.specs.Sinks.{SinkState}
 use Rattle.grid.specs.Tiles.{Tiling, tile_count}
-use Rattle.chain_gather.specs.declared.rounded.TileNumbers.{TileNumbers}
+use Rattle.linking.specs.declared.rounded.TileNumbers.{TileNumbers}
 use Rattle.engine.specs.Rounds.{AreRoundedOver, TellsTiles}
 use Rattle.engine.proofs.Known.{reported}
 use Rattle.engine.specs.Runs.{IsChecked, Declines, Delivers, IsRefusedAt, MayRun, Reports, Runs, Stops, bad_a, bad_b, bad_tile, bad_workers, too_many, too_many_tiles}

@@ -20,10 +20,10 @@ use Rattle.grid.proofs.Columns.{owner_is}
 use Rattle.hot_pixel.proofs.HotLaws.{hot_meets}
 use Rattle.routing.specs.declared.record.Record.{Record}
 use Rattle.routing.specs.Pieces.{IsAlong, IsPieceOf, IsRecord}
-use Rattle.chain_gather.specs.Gathered.{AreTileNumbers}
-use Rattle.chain_gather.specs.declared.rounded.TileNumbers.{TileNumbers}
-use Rattle.chain_gather.proofs.Gathering.{AreCovered, owner_below}
-use Rattle.chain_gather.proofs.Parts.{IsPart, distinct_append, distinct_from, same_length}
+use Rattle.linking.specs.Gathered.{AreTileNumbers}
+use Rattle.linking.specs.declared.rounded.TileNumbers.{TileNumbers}
+use Rattle.linking.proofs.Gathering.{AreCovered, owner_below}
+use Rattle.linking.proofs.Parts.{IsPart, distinct_append, distinct_from, same_length}
 
 -- one of m tiles from k on owns x
 pub record IsOwnedFrom {X : Type 0} (Owned : ℕ → X → Type 0) (k m : ℕ) (x : X) : Type 0 where

@@ -15,8 +15,8 @@ use Rattle.geom.specs.declared.fault.Part.{Part}
 use Rattle.geom.specs.declared.fault.Part.TheVariants.{Run}
 use Rattle.grid.specs.Tiles.{IsGridOf, Tiling, most_tiles, tile_count}
 use Rattle.grid.specs.Bins.{AreBins, AreRowBins, TileBins, TileRows}
-use Rattle.chain_gather.specs.Gathered.{AreBoxesOf, AreTileNumbers}
-use Rattle.chain_gather.specs.declared.rounded.TileNumbers.{TileNumbers}
+use Rattle.linking.specs.Gathered.{AreBoxesOf, AreTileNumbers}
+use Rattle.linking.specs.declared.rounded.TileNumbers.{TileNumbers}
 use Rattle.wkt.specs.LayerText.{Ring}
 use Rattle.wkt.specs.Refusals.{IsAccepted, plain}
 

@@ -18,7 +18,7 @@ use Rattle.wkt.specs.declared.read.OutlinedLayer.{OutlinedLayer}
 use Rattle.engine.specs.declared.text.Report.{Report}
 use Rattle.engine.specs.Sinks.{SentAll, SentPart, SinkState}
 use Rattle.engine.specs.Texts.{edges_text_of}
-use Rattle.chain_gather.specs.declared.rounded.TileNumbers.{TileNumbers}
+use Rattle.linking.specs.declared.rounded.TileNumbers.{TileNumbers}
 use Rattle.engine.specs.Rounds.{AreRingsInLimit, AreRoundedOver, IsGridOver, TellsTiles}
 use Rattle.engine.specs.declared.checking.TheConstants.{SEGMENT_LIMIT}
 use Rattle.tile_book.specs.declared.draw.TheConstants.{MOST_HANDS}

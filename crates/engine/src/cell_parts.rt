@@ -8,7 +8,7 @@
 ghost use Rattle.std.specs.Prelude.{◌≤◌, ◌++◌, IfOk};
 ghost use Rattle.std.specs.Thread.{IsSend, IsSync};
 ghost use Rattle.grid.specs.Tiles.{AreBounds};
-ghost use Rattle.chain_gather.specs.Gathered.{BoundsHold, HaveTiles};
+ghost use Rattle.linking.specs.Gathered.{BoundsHold, HaveTiles};
 ghost use Rattle.engine.specs.Rounds.{AllInLimit, AreCellBins, AreCellRows};
 
 use crate::cells::{Extent, bins_of, cells_within, extent_of};

@@ -10,7 +10,7 @@
 ghost use Rattle.std.specs.Prelude.{IfOk, List, Some};
 ghost use Rattle.geom.specs.declared.segment.Seg.{Seg};
 ghost use Rattle.grid.specs.Tiles.{AreBounds, CoversBounds};
-ghost use Rattle.chain_gather.specs.Gathered.{BoundsHold, HaveTiles};
+ghost use Rattle.linking.specs.Gathered.{BoundsHold, HaveTiles};
 ghost use Rattle.engine.specs.Rounds.{AllInLimit, AreCellBins};
 
 use geom::{NoMemory, Rect, Seg};

@@ -8,8 +8,8 @@ ghost use Rattle.face_label.specs.Strip.{IsSetOf, IsSpanned, layers_at};
 
 use crate::odd::directions_in;
 use crate::strip::{Layers, StripSet};
-use chain_gather::Noded;
 use geom::{Counted, Directed, DirectedEdge, NoMemory, Op, add_directions};
+use linking::Noded;
 use rayon::prelude::*;
 use std::alloc::{AllocError, Allocator};
 use std::thread::Threads;

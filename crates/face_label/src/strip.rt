@@ -7,9 +7,9 @@ ghost use Rattle.tiling.specs.Strips.{strip_count};
 ghost use Rattle.face_label.specs.Strip.{AreBoxesOf, AreColumnsFrom, AreStriped, AreStripsOf, IsIndexOf, IsLeastWidth, IsSetOf, IsStriped, StripedLayer, StripedLayers, edges_at};
 
 use crate::odd::odd_in;
-use chain_gather::Noded;
 use geom::{Counted, Edge, NoMemory, Source};
 use lane_tests::{Boxes, Edges};
+use linking::Noded;
 use std::alloc::Allocator;
 use std::marker::Model;
 use tiling::Strips;

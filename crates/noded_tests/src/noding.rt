@@ -1,9 +1,9 @@
 //! The noding test over tiles, by two workers.
 
 use crate::rows::{Row, tested};
-use chain_gather::Rounded;
 use geom::{Edge, Fault, NoMemory, Pt};
 use holding::Holding;
+use linking::Rounded;
 use noding_test::noded;
 use std::alloc::Global;
 use std::sync::Wait;

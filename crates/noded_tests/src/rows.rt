@@ -5,8 +5,8 @@ ghost use Rattle.geom.specs.Box.{IsInBox};
 ghost use Rattle.geom.specs.EdgeOrder.{IsEdgeBefore};
 ghost use Rattle.geom.specs.Limit.{AreInLimit};
 
-use chain_gather::Rounded;
 use geom::{Counted, Edge, Fault, NoMemory, Pt, Rect};
+use linking::Rounded;
 use noding_test::{Noded, noded};
 use std::alloc::Allocator;
 use std::sync::Wait;

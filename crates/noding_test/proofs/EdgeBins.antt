@@ -11,8 +11,9 @@ use Rattle.grid.specs.Tiles.{Tiling, CoversBounds}
 use Rattle.tiling.specs.Index.{AreIndexed}
 use Rattle.grid.specs.Bins.{IsBin}
 use Rattle.tiling.specs.Bins.{Binned}
-use Rattle.chain_gather.proofs.Boxes.{below_bin, bin_over, into_bin, known_member}
-use Rattle.chain_gather.proofs.Covering.{inside}
+use Rattle.linking.proofs.Boxes.{below_bin, into_bin}
+use Rattle.chain_gather.proofs.Boxes.{bin_over, known_member}
+use Rattle.linking.proofs.Covering.{inside}
 use Rattle.noding_test.specs.Verdicts.{AreNear}
 use Rattle.noding_test.specs.Passes.{AreBinsOfEdges, BoundsHoldEdges, EdgesHaveTiles, edge_corners}
 

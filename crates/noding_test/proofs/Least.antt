@@ -14,7 +14,7 @@ use Rattle.geom.specs.Noded.{IsBad, IsEnd, IsNoded, IsPairBefore, IsLeastBad, Me
 use Rattle.geom.specs.Pixel.{Point, Coincides}
 use Rattle.geom.proofs.Orders.{pt_cmp, edge_cmp, edge_ranks, edge_before_itself, edge_before_trans}
 use Rattle.grid.specs.Tiles.{Tiling, Owns, tile_count}
-use Rattle.chain_gather.proofs.Gathering.{owner_below}
+use Rattle.linking.proofs.Gathering.{owner_below}
 use Rattle.noding_test.specs.Verdicts.{common_corner, IsOwnBad, IsLeastPair}
 use Rattle.noding_test.specs.Passes.{IsBadBelow, IsLesser, EdgesHaveTiles}
 use Rattle.noding_test.proofs.Deciding.{edge_before, least_shown, shown}

@@ -13,7 +13,7 @@ use Rattle.geom.specs.Rounded.{edges_of}
 use Rattle.geom.proofs.Points.{both_and, same_point_of}
 use Rattle.grid.specs.Tiles.{Tiling, Owns}
 use Rattle.hot_pixel.specs.Rects.{IsIn}
-use Rattle.chain_gather.proofs.Boxes.{in_same_box}
+use Rattle.linking.proofs.Boxes.{in_same_box}
 use Rattle.chain_gather.proofs.Near.{one_rect}
 use Rattle.chain_gather.proofs.OwnLaws.{same_rect}
 use Rattle.chain_gather.proofs.Picked.{AllPick, picked_differs, picked_more}

@@ -11,9 +11,10 @@ use Rattle.geom.specs.Noded.{IsLeastBad, IsPairBefore}
 use Rattle.tiling.specs.Bins.{Binned}
 use Rattle.grid.specs.Tiles.{Tiling, Owns, HasTile}
 use Rattle.hot_pixel.specs.Rects.{IsIn}
-use Rattle.chain_gather.specs.Gathered.{AreBinsBy, AreBoxesBy}
-use Rattle.chain_gather.specs.declared.rounded.Rounded.{Rounded}
-use Rattle.chain_gather.specs.declared.noded.Noded.{Noded}
+use Rattle.linking.specs.Gathered.{AreBoxesBy}
+use Rattle.chain_gather.specs.Gathered.{AreBinsBy}
+use Rattle.linking.specs.declared.rounded.Rounded.{Rounded}
+use Rattle.linking.specs.declared.noded.Noded.{Noded}
 use Rattle.noding_test.specs.declared.verdicts.Verdict.{Verdict}
 use Rattle.noding_test.specs.Verdicts.{IsOwnBad, chosen_edges}
 

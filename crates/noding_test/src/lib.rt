@@ -8,8 +8,8 @@ mod own;
 mod pairs;
 mod verdicts;
 
-pub use chain_gather::{Noded, settled};
 pub use finding::verdict;
+pub use linking::{Noded, settled};
 pub use meeting::meet_only_at_ends;
 pub use noding::noded;
 pub use verdicts::Verdict;

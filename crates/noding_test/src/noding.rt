@@ -11,9 +11,9 @@ ghost use Rattle.noding_test.specs.Passes.{AreBinsOfEdges, AreBoxesOfEdges, Edge
 use crate::finding::verdict;
 use crate::pairs::bad_of_all;
 use crate::verdicts::Verdict;
-use chain_gather::{Noded, Rounded, settled};
 use geom::{Counted, Edge, Fault, NoMemory};
 use lane_tests::Boxes;
+use linking::{Noded, Rounded, settled};
 use std::alloc::Allocator;
 use std::marker::Brand;
 use std::sync::Wait;

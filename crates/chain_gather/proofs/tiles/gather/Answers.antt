@@ -1,22 +1,10 @@
-use Rattle.std.proofs.Common.{List, subst, sym}
-use Rattle.std.proofs.Math.Logic.{∥∥₁_elim, ∥∥₁_map}
-use Rattle.std.proofs.Props.{props}
-use Rattle.routing.specs.declared.record.Record.{Record}
-use Rattle.chain_gather.specs.Links.{AreRecords}
-use Rattle.chain_gather.proofs.Covering.{are_covered}
-use Rattle.chain_gather.proofs.Gathering.{gathered_are, tiles_have}
-use Rattle.chain_gather.proofs.Walk.{rounded_are}
+use Rattle.std.proofs.Math.Logic.{∥∥₁_map}
+use Rattle.linking.proofs.Covering.{are_covered}
+use Rattle.linking.proofs.Gathering.{tiles_have}
 use Rattle.chain_gather.proofs.tiles.gather.Goals as goal
 
-pub links-requires : goal.links-requires
-links-requires g c =
+pub rounded_by_records-requires : goal.rounded_by_records-requires
+rounded_by_records-requires g c =
     let grid = c.args.grid.now in
     let segments = c.args.segments.now in
-    subst (λ (rs : List Record). ∥ AreRecords segments rs ∥₁) (sym c.deref.ensures.value)
-    (∥∥₁_map c.in_ok-records.ensures.records_are (λ all. gathered_are segments c.in_ok-records.field-0.records.items c.in_order-records.result.items (tiles_have grid segments c.in_ok-records.field-0.records.items (are_covered grid segments c.requires.covered) all) c.in_order-records.ensures))
-
-pub counts-requires : goal.counts-requires
-counts-requires g c = record { short = ∥∥₁_elim c.in_ok-list.ensures (hlevel props) (λ l. l.few) }
-
-pub rounded_of-requires : goal.rounded_of-requires
-rounded_of-requires g c = ∥∥₁_map c.in_ok-list.ensures (λ l. rounded_are c.args.segments.now c.in_ok-list.list.items c.in_ok-edges.edges.items l c.in_ok-edges.ensures)
+    ∥∥₁_map c.in_ok-records.ensures.records_are (λ all. tiles_have grid segments c.in_ok-records.field-0.records.items (are_covered grid segments c.requires.covered) all)

@@ -1,8 +1,8 @@
 use Rattle.std.proofs.Common.{Some, subst}
 use Rattle.std.specs.Prelude.{Option}
 use Rattle.geom.specs.declared.rect.Rect.{Rect}
-use Rattle.chain_gather.specs.Gathered.{BoundsHold}
-use Rattle.chain_gather.proofs.Covering.{have_tiles}
+use Rattle.linking.specs.Gathered.{BoundsHold}
+use Rattle.linking.proofs.Covering.{have_tiles}
 use Rattle.engine.proofs.cells.cells_within.Goals as goal
 
 pub returns-in-Some : goal.returns-in-Some

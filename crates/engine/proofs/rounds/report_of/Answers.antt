@@ -1,6 +1,6 @@
 use Rattle.std.proofs.Common.{◌∙◌, ℕ, List, ap, map}
 use Rattle.std.specs.Prelude.{sum_by}
-use Rattle.chain_gather.specs.declared.rounded.TileNumbers.{TileNumbers}
+use Rattle.linking.specs.declared.rounded.TileNumbers.{TileNumbers}
 use Rattle.engine.proofs.rounds.report_of.Goals as goal
 
 pub returns-clause-tiles : goal.returns-clause-tiles

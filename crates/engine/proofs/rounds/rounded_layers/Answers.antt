@@ -2,7 +2,7 @@ use Rattle.std.proofs.Common.{List, subst, sym, arith}
 use Rattle.std.proofs.lemmas.Result.{IfOk-weaker}
 use Rattle.geom.specs.declared.segment.Seg.{Seg}
 use Rattle.geom.specs.Rounded.{AreRounded}
-use Rattle.chain_gather.specs.Gathered.{AreTileNumbers, HaveTiles}
+use Rattle.linking.specs.Gathered.{AreTileNumbers, HaveTiles}
 use Rattle.grid.specs.Tiles.{tile_count}
 use Rattle.engine.specs.Rounds.{AllInLimit}
 use Rattle.engine.proofs.Rounding.{covered, if_both, layers_of}

@@ -3,7 +3,7 @@ use Rattle.std.specs.Prelude.{slice_get}
 use Rattle.std.proofs.lemmas.List.{get_or_default}
 use Rattle.std.proofs.lemmas.Option.{slice_get-get_or}
 use Rattle.geom.specs.declared.edge.Counted.{Counted}
-use Rattle.chain_gather.proofs.Tally.{ne_apart, ne_same}
+use Rattle.linking.proofs.Tally.{ne_apart, ne_same}
 use Rattle.chain_gather.proofs.Picked.{length_picked}
 use Rattle.noding_test.specs.Verdicts.{edge_at}
 use Rattle.noding_test.proofs.OwnVerdicts.{all_pick, near_differs, near_more}

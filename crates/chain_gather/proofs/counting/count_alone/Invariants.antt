@@ -1,5 +1,0 @@
-use Rattle.chain_gather.proofs.Tally.{IsTally, HasBegun}
-use Rattle.chain_gather.proofs.counting.count_alone.Given as goal
-
-abbrev pub invariant-loop-link : goal.invariant-loop-link
-invariant-loop-link g l = IsTally l.links l.link-index l.list.items l.current × HasBegun l.links l.link-index l.current

@@ -1,6 +1,0 @@
-use Rattle.std.proofs.Common.{take}
-use Rattle.chain_gather.specs.Numbers.{ArePaired}
-use Rattle.chain_gather.proofs.numbers.paired.Given as goal
-
-abbrev pub invariant-loop-tile : goal.invariant-loop-tile
-invariant-loop-tile g l = ArePaired (take l.tile l.hot) (take l.tile l.records) l.tiles.items

@@ -1,6 +1,0 @@
-use Rattle.std.proofs.Common.{take}
-use Rattle.chain_gather.specs.Gathered.{AreBoxesOf}
-use Rattle.chain_gather.proofs.tests.boxes_of.Given as goal
-
-abbrev pub invariant-loop-segment : goal.invariant-loop-segment
-invariant-loop-segment g l = AreBoxesOf (take l.segment-index l.segments) l.boxes

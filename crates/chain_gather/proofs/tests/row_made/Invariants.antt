@@ -1,4 +1,0 @@
-use Rattle.chain_gather.proofs.tests.row_made.Given as goal
-
-abbrev pub ghosts-gathered_made : goal.ghosts-gathered_made
-ghosts-gathered_made a = record { grid = a.cells.now; segments = a.segments.now }

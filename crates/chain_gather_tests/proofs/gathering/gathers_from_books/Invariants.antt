@@ -1,0 +1,7 @@
+use Rattle.chain_gather_tests.proofs.gathering.gathers_from_books.Given as goal
+
+abbrev pub ghosts-gathered-L-Ledger : goal.ghosts-gathered-L-Ledger
+ghosts-gathered-L-Ledger g a = record { name = a.blank.name; parts = a.blank.parts }
+
+abbrev pub ghosts-gathered-L-Limited : goal.ghosts-gathered-L-Limited
+ghosts-gathered-L-Limited g a = record { limit = 4 }

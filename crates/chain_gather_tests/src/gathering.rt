@@ -1,0 +1,311 @@
+//! Tests of gathering, with books that hold nothing, pieces of other segments, or the tiles' own pieces.
+
+ghost use Rattle.std.specs.Prelude.{◌≡◌, ◌≤◌, All, Contains, IfOk, IfSome, length};
+ghost use Rattle.grid.specs.Tiles.{tile_count};
+ghost use Rattle.tile_book.specs.Books.{StandInOrder};
+ghost use Rattle.geom.specs.Box.{IsInBox};
+ghost use Rattle.geom.specs.Limit.{AreInLimit};
+ghost use Rattle.linking.specs.Gathered.{AreBoxesOf, HaveTiles};
+ghost use Rattle.chain_gather.specs.Gathered.{AreBinsOf};
+
+use bumpalo::Bump;
+use chain_gather::{Rounded, TilePiece, Tiled, gather, gather_made};
+use geom::{Counted, NoMemory, Pt, Rect, Seg, Source};
+use grid::Grid;
+use lane_tests::Boxes;
+use routing::{Piece, part, piece};
+use std::alloc::{Allocator, Global};
+use std::marker::Brand;
+use std::sync::Wait;
+use std::sync::ledger::Blank;
+use std::test::*;
+use tile_book::{Book, Desk, Limited, close};
+use tiling::Bins;
+
+type Ends = ((i32, i32), (i32, i32));
+
+// A triangle, and a bow tie whose crossing lies on the corner of four tiles.
+const ROW: [Ends; 7] = [
+    ((0, 0), (1, 0)),
+    ((1, 0), (0, 1)),
+    ((0, 1), (0, 0)),
+    ((15, 15), (16, 16)),
+    ((16, 16), (15, 16)),
+    ((15, 16), (16, 15)),
+    ((16, 15), (15, 15)),
+];
+
+const BOW_TIE: [Ends; 4] = [
+    ((0, 0), (1, 1)),
+    ((1, 1), (0, 1)),
+    ((0, 1), (1, 0)),
+    ((1, 0), (0, 0)),
+];
+
+// The rounded edges of the row, with their counts in layer A.
+const EDGES: [(Ends, u32); 7] = [
+    (((0, 0), (0, 1)), 1),
+    (((0, 0), (1, 0)), 1),
+    (((0, 1), (1, 0)), 1),
+    (((15, 15), (16, 15)), 1),
+    (((15, 15), (16, 16)), 1),
+    (((15, 16), (16, 16)), 2),
+    (((16, 15), (16, 16)), 1),
+];
+
+// The hot pixels and the records of the row's tiles.
+const TILES: [(u32, u32); 4] = [(4, 8), (1, 2), (1, 2), (1, 3)];
+
+pub fn point(at: (i32, i32)) -> Pt {
+    Pt { x: at.0, y: at.1 }
+}
+
+fn segment_in(bounds: &Rect, ends: Ends) -> Option<Seg>
+    ensures { IfSome result (λ s. AreInLimit s.a s.b × IsInBox bounds.now.lo bounds.now.hi s.a × IsInBox bounds.now.lo bounds.now.hi s.b) }
+{
+    let (a, b) = (point(ends.0), point(ends.1));
+    if a.is_in_limit() && b.is_in_limit() && bounds.holds(a) && bounds.holds(b) {
+        Seg::new(a, b, Source::A)
+    } else {
+        None
+    }
+}
+
+fn segments_in<A: Allocator>(
+    alloc: A,
+    bounds: &Rect,
+    ends: &[Ends],
+) -> Result<Vec<Seg, A>, NoMemory>
+    ensures { IfOk result (λ v. All (λ s. AreInLimit s.a s.b × IsInBox bounds.now.lo bounds.now.hi s.a × IsInBox bounds.now.lo bounds.now.hi s.b) v.items) }
+{
+    let mut segments = Vec::new(alloc);
+    for pair in ends {
+        let Some(segment) = segment_in(bounds, *pair) else {
+            return Err(NoMemory);
+        };
+        segments.push(segment)?;
+    }
+    Ok(segments)
+}
+
+fn boxes_of<A: Allocator + Copy>(alloc: A, segments: &[Seg]) -> Result<Boxes<A>, NoMemory>
+    ensures { IfOk result (λ boxes. AreBoxesOf segments.now boxes) }
+{
+    let mut boxes = Boxes::new(alloc);
+    for segment in segments {
+        boxes.push(segment.bounds())?;
+    }
+    Ok(boxes)
+}
+
+fn bins_of<A: Allocator + Copy>(
+    alloc: A,
+    grid: &Grid,
+    segments: &[Seg],
+) -> Result<Bins<A>, NoMemory>
+    ensures { IfOk result (λ bins. AreBinsOf grid.now segments.now bins) }
+{
+    let boxes = boxes_of(alloc, segments)?;
+    Bins::build(alloc, grid, &boxes)
+}
+
+// A book of the pieces of the first tiles, made from these segments.
+fn book_of<L: Limited, A: Allocator + Copy>(
+    rt: &impl Wait,
+    alloc: A,
+    blank: Blank,
+    grid: &Grid,
+    posted: u32,
+    segments: &[Seg],
+) -> Result<Book<Piece<A>, L, A>, NoMemory>
+    requires name { blank.name ≡ L.name }
+    requires parts { (blank.parts ≡ L.parts) × (blank.parts ≡ 1) }
+    requires limit { L.limit ≡ 4 }
+    requires segments { All (λ s. AreInLimit s.a s.b) segments.now }
+{
+    let bins = bins_of(alloc, grid, segments)?;
+    let (desk, mut shares) = Desk::new(alloc, blank, 4, 1)?;
+    let Some(mut share) = shares.pop() else {
+        return Err(NoMemory);
+    };
+    let mut numbers = Vec::new(alloc);
+    for tile in 0..posted.min(grid.tiles()) {
+        bins.bin(tile, &mut numbers)?;
+        let made = piece(alloc, grid, tile, segments, &numbers)?;
+        let (same, _answer) = desk.post(rt, share, made);
+        share = same;
+    }
+    shares.push(share)?;
+    close(desk, shares).map_err(|_| NoMemory)
+}
+
+// The row gathered over tiles of side 16, in the second allocator, with a book of the first tiles' pieces, made from other
+// segments.
+fn gathered<L: Limited, A: Allocator + Copy>(
+    rt: &impl Wait,
+    alloc: A,
+    own: A,
+    blank: Blank,
+    posted: u32,
+    others: &[Ends],
+) -> Result<Rounded<A>, NoMemory>
+    requires name { blank.name ≡ L.name }
+    requires parts { (blank.parts ≡ L.parts) × (blank.parts ≡ 1) }
+    requires limit { L.limit ≡ 4 }
+{
+    let bounds = Rect::spanned_by(point((0, 0)), point((16, 16)));
+    if !bounds.lo.is_in_limit() || !bounds.hi.is_in_limit() {
+        return Err(NoMemory);
+    }
+    let Ok(grid) = Grid::new(Some(bounds), 16) else {
+        return Err(NoMemory);
+    };
+    let segments = segments_in(alloc, &bounds, &ROW)?;
+    let bins = bins_of(alloc, &grid, &segments)?;
+    let strange = segments_in(alloc, &bounds, others)?;
+    let book = book_of::<L, A>(rt, alloc, blank, &grid, posted, &strange)?;
+    gather(own, book, &grid, &bins, &segments)
+}
+
+// The pieces of all tiles of a grid over segments.
+fn pieces_of<T: Tiled, A: Allocator + Copy>(
+    alloc: A,
+    grid: &Grid,
+    segments: &[Seg],
+) -> Result<Vec<TilePiece<T, A>, A>, NoMemory>
+    requires tiled { (grid.now ≡ T.grid) × (segments.now ≡ T.segments) }
+    requires in_limit { All (λ s. AreInLimit s.a s.b) segments.now }
+    ensures one_each { IfOk result (λ v. length v.items ≡ tile_count grid.now) }
+    ensures in_order { IfOk result (λ v. StandInOrder (λ p. p.number) v.items) }
+{
+    let bins = bins_of(alloc, grid, segments)?;
+    let mut pieces = Vec::new(alloc);
+    let mut numbers = Vec::new(alloc);
+    for tile in 0..grid.tiles() {
+        bins.bin(tile, &mut numbers)?;
+        let found = part(alloc, grid, tile, segments, &numbers)?;
+        pieces.push(TilePiece::of_part(tile, found))?;
+    }
+    Ok(pieces)
+}
+
+// The rounded edges of segments whose boxes two grids cover, from the pieces of the cells of one, over the tiles of the other.
+fn gathered_made<T: Tiled>(
+    alloc: Global,
+    cells: &Grid,
+    grid: &Grid,
+    segments: &[Seg],
+) -> Result<Rounded<Global>, NoMemory>
+    requires tiled { (cells.now ≡ T.grid) × (segments.now ≡ T.segments) }
+    requires in_limit { All (λ s. AreInLimit s.a s.b) segments.now }
+    requires covered_by_cells { HaveTiles cells.now segments.now }
+    requires covered { HaveTiles grid.now segments.now }
+{
+    let pieces: Vec<TilePiece<T, Global>> = pieces_of(alloc, cells, segments)?;
+    gather_made(alloc, pieces, 0, cells, grid, segments)
+}
+
+// The row over tiles of side 16, from the pieces of cells of this side.
+fn row_made(alloc: Global, side: u32) -> Result<Rounded<Global>, NoMemory> {
+    let bounds = Rect::spanned_by(point((0, 0)), point((16, 16)));
+    if !bounds.lo.is_in_limit() || !bounds.hi.is_in_limit() {
+        return Err(NoMemory);
+    }
+    let Ok(grid) = Grid::new(Some(bounds), 16) else {
+        return Err(NoMemory);
+    };
+    let Ok(cells) = Grid::new(Some(bounds), side) else {
+        return Err(NoMemory);
+    };
+    let segments = segments_in(alloc, &bounds, &ROW)?;
+    gathered_made::<Brand>(alloc, &cells, &grid, &segments)
+}
+
+#[test]
+fn gathers_known_pieces(rt: HostRuntime) -> Result<(), Fail> {
+    for side in [16, 17, 1_024] {
+        let rounded = row_made(rt.alloc(), side)?;
+        assert!(rt; is_row(&rounded) && rounded.remade == 0, "{side}");
+    }
+    Ok(())
+}
+
+fn is_edge(counted: &Counted, expected: &(Ends, u32)) -> bool {
+    let ((p, q), in_a) = *expected;
+    counted.edge.p == point(p)
+        && counted.edge.q == point(q)
+        && counted.in_a == in_a
+        && counted.in_b == 0
+}
+
+fn is_row<A: Allocator>(rounded: &Rounded<A>) -> bool {
+    rounded.edges.len() == EDGES.len()
+        && rounded.tiles.len() == TILES.len()
+        && rounded
+            .edges
+            .iter()
+            .zip(&EDGES)
+            .all(|(counted, expected)| is_edge(counted, expected))
+        && rounded
+            .tiles
+            .iter()
+            .zip(&TILES)
+            .all(|(tile, expected)| (tile.hot, tile.records) == *expected)
+}
+
+// The segments whose pieces a book has, those of how many tiles, and how many pieces are made anew.
+const BOOKS: [(&[Ends], u32, u32); 6] = [
+    (&ROW, 0, 4),
+    (&ROW, 1, 3),
+    (&ROW, 2, 2),
+    (&ROW, 3, 1),
+    (&ROW, 4, 0),
+    (&BOW_TIE, 4, 4),
+];
+
+#[test]
+fn gathers_from_books(rt: HostRuntime) -> Result<(), Fail> {
+    for (others, posted, remade) in BOOKS {
+        let alloc = rt.alloc();
+        let rounded = gathered::<Brand, _>(&rt, alloc, alloc, Blank::new(1), posted, others)?;
+        assert!(rt;
+            is_row(&rounded) && rounded.remade == remade,
+            "{posted}, {remade}"
+        );
+    }
+    Ok(())
+}
+
+const ROOM: usize = 4_032;
+
+// Whether the row is gathered in a heap of `ROOM` bytes of which that many are taken, with the first tiles' own pieces.
+fn fits(rt: &impl Wait, alloc: Global, posted: u32, taken: usize) -> Result<bool, NoMemory> {
+    let others = Bump::new(alloc);
+    let heap = Bump::try_with_capacity(alloc, ROOM)?;
+    heap.set_allocation_limit(Some(0));
+    heap.try_alloc_slice_fill_clone(taken, 0u8)?;
+    Ok(gathered::<Brand, _>(rt, &others, &heap, Blank::new(1), posted, &ROW).is_ok())
+}
+
+// With less and less room the last request is refused first, and then each before it. The first place, in words of 8 bytes,
+// at which one is.
+fn spare(rt: &impl Wait, alloc: Global, posted: u32) -> Result<usize, NoMemory> {
+    for taken in 0..ROOM / 8 {
+        if !fits(rt, alloc, posted, 8 * taken)? {
+            return Ok(taken);
+        }
+    }
+    Err(NoMemory)
+}
+
+// The tiles' own pieces are taken from the book, and not made anew.
+#[test]
+fn asks_for_less_with_a_full_book(rt: HostRuntime) -> Result<(), Fail> {
+    let with_none = spare(&rt, rt.alloc(), 0)?;
+    let with_all = spare(&rt, rt.alloc(), 4)?;
+    assert!(rt;
+        0 < with_none && with_none < with_all,
+        "{with_none}, {with_all}"
+    );
+    Ok(())
+}

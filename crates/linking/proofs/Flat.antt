@@ -1,0 +1,247 @@
+-- The neighbours in a list of records, and those in the segments' routes.
+use Rattle.std.proofs.Common.{◌≡◌, inl, inr, ℕ, suc, ◌+◌, ◌<◌, ◌≤◌, List, [], ◌∷◌, ◌++◌, Bool, true, false, cond, refl, sym, ◌∙◌, ap, arith, subst, length, ◌↔◌, ⊎_elim, map, eqb}
+use Rattle.std.specs.Prelude.{AllPairs, Contains, Some, filter, count_by, slice_get, ◌&&◌, ◌≢◌, not, if◌then◌else◌}
+use Rattle.std.proofs.lemmas.List.{get_or_default}
+use Rattle.std.proofs.lemmas.List.Kept.{AllPairs-filter}
+use Rattle.std.proofs.lemmas.List.Sums.{sum_by-append, sum_by-cons}
+use Rattle.std.proofs.lemmas.Bool.{eqb-true, eq-eqb}
+use Rattle.std.proofs.lemmas.Bool.Decides.{eqb_tells}
+use Rattle.std.proofs.lemmas.Option.{slice_get_within, get_or_from_slice_get}
+use Rattle.std.proofs.Math.ListN.{get_or-map}
+use Rattle.std.proofs.lemmas.List.{length-map}
+use Rattle.geom.specs.declared.point.Pt.{Pt}
+use Rattle.geom.specs.declared.segment.Source.{Source}
+use Rattle.geom.specs.declared.segment.Source.TheVariants.{A}
+use Rattle.geom.specs.declared.segment.Seg.{Seg}
+use Rattle.geom.specs.declared.edge.Edge.{Edge}
+use Rattle.geom.specs.Segments.{same_source, neighbours}
+use Rattle.geom.specs.Hot.{IsHot}
+use Rattle.geom.specs.Route.{Meets, IsEarlier, IsRoute, AreRoutes}
+use Rattle.geom.specs.Route.AreRoutes.{none, next}
+use Rattle.geom.specs.Rounded.{joins, route_steps, count}
+use Rattle.geom.proofs.Lists.{some_same}
+use Rattle.hot_pixel.proofs.ListLaws.{in_cons, here, in_filter, in_map, head_pair, tail_pairs, pairs_map, filter_none, no_one}
+use Rattle.routing.specs.declared.record.Record.{Record}
+use Rattle.routing.specs.Steps.{steps_to}
+use Rattle.routing.specs.Pieces.{IsRecord}
+use Rattle.routing.proofs.StepLaws.{earlier_from_steps}
+use Rattle.linking.specs.Links.{IsRecordBefore, AreRecords, layer_at, record_pairs, makes}
+
+-- ---- the records of one segment, and of the later ones
+abbrev pub is_own : ℕ → Record → Bool
+is_own k r = eqb r.segment k
+
+abbrev pub own : ℕ → List Record → List Record
+own k rs = filter (is_own k) rs
+
+abbrev pub later : ℕ → List Record → List Record
+later k rs = filter (λ r. not (is_own k r)) rs
+
+abbrev pub route_of : ℕ → List Record → List Pt
+route_of k rs = map (λ r. r.pixel) (own k rs)
+
+abbrev pub routes_from : ℕ → List Seg → List Record → List (List Pt)
+routes_from k [] rs = []
+routes_from k (s ∷ ss) rs = route_of k rs ∷ routes_from (suc k) ss (later k rs)
+
+not_eqb : (a b : ℕ) → (a ≡ b → ⊥) → eqb a b ≡ false
+not_eqb a b h = ⊎_elim (λ p. absurd (h p.1)) (λ p. p.0) (eqb_tells a b)
+
+split_records : (k : ℕ) (rs : List Record) → AllPairs IsRecordBefore rs → ((r : Record) → Contains rs r → k ≤ r.segment) → rs ≡ own k rs ++ later k rs
+split_records k [] p h = refl
+split_records k (r ∷ rs) p h = let rest = split_records k rs (tail_pairs IsRecordBefore r rs p) (λ q g. h q (in_cons r rs q g)) in ⊎_elim (first rest) (last rest) (eqb_tells r.segment k)
+  where
+    first : rs ≡ own k rs ++ later k rs → (eqb r.segment k ≡ true) × (r.segment ≡ k) → (r ∷ rs) ≡ own k (r ∷ rs) ++ later k (r ∷ rs)
+    first rest e = rw e.0 (ap (λ (ys : List Record). r ∷ ys) rest)
+
+    above : (q : Record) → (r.segment ≢ k) → IsRecordBefore r q → q.segment ≡ k → ⊥
+    above q e (inl b) f = let u = h r (here r rs) in omega arith
+    above q e (inr b) f = e (b.0 ∙ f)
+
+    last : rs ≡ own k rs ++ later k rs → (eqb r.segment k ≡ false) × (r.segment ≢ k) → (r ∷ rs) ≡ own k (r ∷ rs) ++ later k (r ∷ rs)
+    last rest e =
+        let empty : own k rs ≡ [] = filter_none (is_own k) rs (λ q g. not_eqb q.segment k (above q e.1 (head_pair IsRecordBefore r rs q p g))) in
+        rw (e.0, empty) (ap (λ (ys : List Record). r ∷ ys) (rest ∙ ap (λ (ys : List Record). ys ++ later k rs) empty))
+
+-- ---- routes
+-- the records of the segments from number k on
+pub record AreFrom (segments : List Seg) (k : ℕ) (rs : List Record) : Type 0 where
+  pub ascending : AllPairs IsRecordBefore rs
+  pub exact : (r : Record) → Contains rs r ↔ (IsRecord segments r × (k ≤ r.segment))
+
+own_is : (k : ℕ) (rs : List Record) (r : Record) → Contains (own k rs) r ↔ (Contains rs r × (r.segment ≡ k))
+own_is k rs r = (
+  (λ h. let g = (in_filter (is_own k) rs r).0 h in (g.0, eqb-true r.segment k g.1)),
+  (λ h. (in_filter (is_own k) rs r).1 (h.0, eq-eqb r.segment k h.1)),
+)
+
+later_is : (k : ℕ) (rs : List Record) (r : Record) → Contains (later k rs) r ↔ (Contains rs r × (r.segment ≢ k))
+later_is k rs r = (
+  (λ h. let g = (in_filter (λ q. not (is_own k q)) rs r).0 h in (g.0, λ e. let f = eq-eqb r.segment k e in clash (eqb r.segment k) f g.1)),
+  (λ h. (in_filter (λ q. not (is_own k q)) rs r).1 (h.0, rw (not_eqb r.segment k h.1) refl)),
+)
+  where
+    clash : (b : Bool) → b ≡ true → not b ≡ true → ⊥
+    clash true e f = cc
+    clash false e f = cc
+
+AreFrom-later : (segments : List Seg) (k : ℕ) (rs : List Record) → AreFrom segments k rs → AreFrom segments (suc k) (later k rs)
+AreFrom-later segments k rs h = record {
+  ascending = AllPairs-filter IsRecordBefore (λ r. not (is_own k r)) rs h.ascending;
+  exact = λ r. (
+    (λ g. let a = (later_is k rs r).0 g in let b = (h.exact r).0 a.0 in (b.0, above r b.1 a.1)),
+    (λ g. (later_is k rs r).1 ((h.exact r).1 (g.0, below r g.1), λ e. apart r g.1 e)),
+  );
+}
+  where
+    above : (r : Record) → k ≤ r.segment → r.segment ≢ k → suc k ≤ r.segment
+    above r a b = omega arith
+
+    below : (r : Record) → suc k ≤ r.segment → k ≤ r.segment
+    below r a = omega arith
+
+    apart : (r : Record) → suc k ≤ r.segment → r.segment ≡ k → ⊥
+    apart r a b = omega arith
+
+module _ (segments : List Seg) (k : ℕ) (s : Seg) (rs : List Record) (at : slice_get segments k ≡ Some s) (h : AreFrom segments k rs) where
+  -- what a record of this segment says
+  own_record : (r : Record) → Contains (own k rs) r → (r.segment ≡ k) × IsHot segments r.pixel × Meets s r.pixel × (r.steps ≡ steps_to s r.pixel)
+  own_record r c =
+      let a = (own_is k rs r).0 c in
+      let b = ((h.exact r).0 a.0).0 in
+      let t : b.s ≡ s = some_same (subst (λ (n : ℕ). slice_get segments n ≡ Some b.s) a.1 b.is_at) at in
+      (a.1, b.hot, subst (λ (u : Seg). Meets u r.pixel) t b.met, b.steps_are ∙ ap (λ (u : Seg). steps_to u r.pixel) t)
+
+  own_order : (r q : Record) → Contains (own k rs) r → Contains (own k rs) q → IsRecordBefore r q → IsEarlier s r.pixel q.pixel
+  own_order r q a b (inl l) = let u = (own_record r a).0 in let v = (own_record q b).0 in absurd (omega arith)
+  own_order r q a b (inr (e, l)) =
+      let (u, uh, um, us) = own_record r a in
+      let (v, vh, vm, vs) = own_record q b in
+      earlier_from_steps s r.pixel q.pixel um vm (subst (λ (m : ℕ). m < steps_to s q.pixel) us (subst (λ (n : ℕ). r.steps < n) vs l))
+
+  in_route : (c : Pt) → Contains (route_of k rs) c ↔ (IsHot segments c × Meets s c)
+  in_route c = (to, from)
+    where
+      to : Contains (route_of k rs) c → IsHot segments c × Meets s c
+      to g = let (r, a, e) = (in_map (λ (r : Record). r.pixel) (own k rs) c).0 g in let (u, uh, um, us) = own_record r a in (subst (λ (p : Pt). IsHot segments p) e uh, subst (λ (p : Pt). Meets s p) e um)
+
+      from : IsHot segments c × Meets s c → Contains (route_of k rs) c
+      from (hot, met) =
+          let r : Record = record { segment = k; steps = steps_to s c; pixel = c } in
+          let is : IsRecord segments r = record { s = s; is_at = at; hot = hot; met = met; steps_are = refl } in
+          (in_map (λ (q : Record). q.pixel) (own k rs) c).1 (r, (own_is k rs r).1 ((h.exact r).1 (is, omega arith), refl), refl)
+
+  pub route_is : IsRoute segments s (route_of k rs)
+  route_is = record {
+    exact = in_route;
+    ordered = pairs_map IsRecordBefore (IsEarlier s) (λ r. r.pixel) (own k rs) sorted own_order;
+  }
+    where
+      sorted : AllPairs IsRecordBefore (own k rs)
+      sorted = AllPairs-filter IsRecordBefore (is_own k) rs h.ascending
+
+-- the segments from number k on
+abbrev pub StandFrom : List Seg → ℕ → List Seg → Type 0
+StandFrom segments k ss = (j : ℕ) (s : Seg) → slice_get ss j ≡ Some s → slice_get segments (k + j) ≡ Some s
+
+StandFrom-first : (segments : List Seg) (k : ℕ) (s : Seg) (ss : List Seg) → StandFrom segments k (s ∷ ss) → slice_get segments k ≡ Some s
+StandFrom-first segments k s ss h = let e : k + 0 ≡ k = omega arith in subst (λ (n : ℕ). slice_get segments n ≡ Some s) e (h 0 s refl)
+
+StandFrom-rest : (segments : List Seg) (k : ℕ) (s : Seg) (ss : List Seg) → StandFrom segments k (s ∷ ss) → StandFrom segments (suc k) ss
+StandFrom-rest segments k s ss h = λ j t at. let e : k + suc j ≡ suc k + j = omega arith in subst (λ (n : ℕ). slice_get segments n ≡ Some t) e (h (suc j) t at)
+
+pub routes_are : (segments : List Seg) (k : ℕ) (ss : List Seg) (rs : List Record) → StandFrom segments k ss → AreFrom segments k rs → AreRoutes segments ss (routes_from k ss rs)
+routes_are segments k [] rs st h = none
+routes_are segments k (s ∷ ss) rs st h = next (route_is segments k s rs (StandFrom-first segments k s ss st) h) (routes_are segments (suc k) ss (later k rs) (StandFrom-rest segments k s ss st) (AreFrom-later segments k rs h))
+
+-- ---- counts
+
+module _ (layers : ℕ → Source) (e : Edge) (layer : Source) where
+  abbrev pub made : List Record → ℕ
+  made rs = count_by (makes layers e layer) (record_pairs rs)
+
+  made_cons : (r q : Record) (rs : List Record) → made (r ∷ q ∷ rs) ≡ cond (makes layers e layer (r, q)) 1 0 + made (q ∷ rs)
+  made_cons r q rs = sum_by-cons (λ p. cond (makes layers e layer p) 1 0) (r, q) (record_pairs (q ∷ rs))
+
+  and_false : (a : Bool) → (a && false) ≡ false
+  and_false true = refl
+  and_false false = refl
+
+  and_true : (a : Bool) → (a && true) ≡ a
+  and_true true = refl
+  and_true false = refl
+
+  parted : (r q : Record) → (r.segment ≡ q.segment → ⊥) → makes layers e layer (r, q) ≡ false
+  parted r q h = rw (not_eqb r.segment q.segment h) refl
+
+  made_append : (k : ℕ) (xs ys : List Record) → ((r : Record) → Contains xs r → r.segment ≡ k) → ((r : Record) → Contains ys r → r.segment ≢ k) → made (xs ++ ys) ≡ made xs + made ys
+  made_append k [] ys f g = omega arith
+  made_append k (x ∷ []) [] f g = refl
+  made_append k (x ∷ []) (y ∷ ys) f g = let n = parted x y (λ h. g y (here y ys) (sym h ∙ f x (here x []))) in let c = made_cons x y ys in let d = no_one (makes layers e layer (x, y)) n in omega arith
+  made_append k (x ∷ z ∷ xs) ys f g = let a = made_cons x z (xs ++ ys) in let b = made_cons x z xs in let c = made_append k (z ∷ xs) ys (λ r h. f r (in_cons x (z ∷ xs) r h)) g in omega arith
+
+  own_yes : (k : ℕ) (rs : List Record) → same_source (layers k) layer ≡ true → ((r : Record) → Contains rs r → r.segment ≡ k) → made rs ≡ count_by (joins e) (neighbours (map (λ r. r.pixel) rs))
+  own_yes k [] y f = refl
+  own_yes k (r ∷ []) y f = refl
+  own_yes k (r ∷ q ∷ rs) y f =
+      let same : makes layers e layer (r, q) ≡ joins e (r.pixel, q.pixel) = rw (f r (here r (q ∷ rs)), f q (in_cons r (q ∷ rs) q (here q rs)), y, eq-eqb k k refl) (and_true (joins e (r.pixel, q.pixel))) in
+      let a = made_cons r q rs in
+      let b = sum_by-cons (λ p. cond (joins e p) 1 0) (r.pixel, q.pixel) (neighbours (map (λ (u : Record). u.pixel) (q ∷ rs))) in
+      let c = own_yes k (q ∷ rs) y (λ u h. f u (in_cons r (q ∷ rs) u h)) in
+      let d : cond (makes layers e layer (r, q)) 1 0 ≡ cond (joins e (r.pixel, q.pixel)) 1 0 = ap (λ (v : Bool). cond v 1 0) same in
+      a ∙ ap (λ (n : ℕ). n + made (q ∷ rs)) d ∙ ap (λ (n : ℕ). cond (joins e (r.pixel, q.pixel)) 1 0 + n) c ∙ sym b
+
+  own_no : (k : ℕ) (rs : List Record) → same_source (layers k) layer ≡ false → ((r : Record) → Contains rs r → r.segment ≡ k) → made rs ≡ 0
+  own_no k [] n f = refl
+  own_no k (r ∷ []) n f = refl
+  own_no k (r ∷ q ∷ rs) n f =
+      let same : makes layers e layer (r, q) ≡ false = rw (f r (here r (q ∷ rs)), f q (in_cons r (q ∷ rs) q (here q rs)), n, and_false (joins e (r.pixel, q.pixel)), and_false (eqb k k)) refl in
+      let a = made_cons r q rs in
+      let c = own_no k (q ∷ rs) n (λ u h. f u (in_cons r (q ∷ rs) u h)) in
+      let d = no_one (makes layers e layer (r, q)) same in
+      omega arith
+
+  own_made : (k : ℕ) (s : Seg) (rs : List Record) → layers k ≡ s.layer → ((r : Record) → Contains rs r → r.segment ≡ k) → made rs ≡ count_by (joins e) (if same_source s.layer layer then neighbours (map (λ r. r.pixel) rs) else [])
+  own_made k s rs h f = by_test (same_source s.layer layer) refl
+    where
+      by_test : (b : Bool) → same_source s.layer layer ≡ b → made rs ≡ count_by (joins e) (if b then neighbours (map (λ r. r.pixel) rs) else [])
+      by_test true g = own_yes k rs (ap (λ (l : Source). same_source l layer) h ∙ g) f
+      by_test false g = own_no k rs (ap (λ (l : Source). same_source l layer) h ∙ g) f
+
+  abbrev pub LayersFrom : ℕ → List Seg → Type 0
+  LayersFrom k ss = (j : ℕ) (s : Seg) → slice_get ss j ≡ Some s → layers (k + j) ≡ s.layer
+
+  flat_count : (segments : List Seg) (k : ℕ) (ss : List Seg) (rs : List Record) → length segments ≡ k + length ss → LayersFrom k ss → AreFrom segments k rs → made rs ≡ count_by (joins e) (route_steps layer ss (routes_from k ss rs))
+  flat_count segments k [] [] n l h = refl
+  flat_count segments k [] (r ∷ rs) n l h = let a = (h.exact r).0 (here r rs) in let b = slice_get_within segments r.segment a.0.s a.0.is_at in let c = a.1 in absurd (omega arith)
+  flat_count segments k (s ∷ ss) rs n l h =
+      let here_layer : layers k ≡ s.layer = (let e : k + 0 ≡ k = omega arith in subst (λ (m : ℕ). layers m ≡ s.layer) e (l 0 s refl)) in
+      let rest_layers : LayersFrom (suc k) ss = λ j t at. let e : k + suc j ≡ suc k + j = omega arith in subst (λ (m : ℕ). layers m ≡ t.layer) e (l (suc j) t at) in
+      let a = split_records k rs h.ascending (λ r g. ((h.exact r).0 g).1) in
+      let b = made_append k (own k rs) (later k rs) (λ r g. ((own_is k rs r).0 g).1) (λ r g. ((later_is k rs r).0 g).1) in
+      let c = own_made k s (own k rs) here_layer (λ r g. ((own_is k rs r).0 g).1) in
+      let d = flat_count segments (suc k) ss (later k rs) (omega arith) rest_layers (AreFrom-later segments k rs h) in
+      let t = sum_by-append (λ p. cond (joins e p) 1 0) (if same_source s.layer layer then neighbours (route_of k rs) else []) (route_steps layer ss (routes_from (suc k) ss (later k rs))) in
+      ap made a ∙ b ∙ ap (λ (m : ℕ). m + made (later k rs)) c ∙ ap (λ (m : ℕ). count_by (joins e) (if same_source s.layer layer then neighbours (route_of k rs) else []) + m) d ∙ sym t
+
+pub layer_at_is : (segments : List Seg) (k : ℕ) (s : Seg) → slice_get segments k ≡ Some s → layer_at segments k ≡ s.layer
+layer_at_is segments k s at =
+    let f : Seg → Source = λ t. t.layer in
+    get_or_default (map f segments) k A (f s) (rw (length-map segments f) (slice_get_within segments k s at)) ∙ get_or-map f segments k s ∙ ap f (get_or_from_slice_get segments k s s at)
+
+-- the routes that records in order tell, and the number of places where they join an edge
+module _ (segments : List Seg) (records : List Record) (h : AreRecords segments records) where
+  from : AreFrom segments 0 records
+  from = record { ascending = h.ascending; exact = λ r. (λ g. ((h.exact r).0 g, omega arith), λ g. (h.exact r).1 g.0) }
+
+  stand : StandFrom segments 0 segments
+  stand = λ j s at. let e : j ≡ 0 + j = omega arith in subst (λ (n : ℕ). slice_get segments n ≡ Some s) e at
+
+  pub routes_of : List (List Pt)
+  routes_of = routes_from 0 segments records
+
+  pub routes_of_records : AreRoutes segments segments (routes_from 0 segments records)
+  routes_of_records = routes_are segments 0 segments records stand from
+
+  pub count_is : (e : Edge) (layer : Source) → count layer e segments (routes_from 0 segments records) ≡ count_by (makes (layer_at segments) e layer) (record_pairs records)
+  count_is e layer = sym (flat_count (layer_at segments) e layer segments 0 segments records (omega arith) (λ j s at. layer_at_is segments (0 + j) s (stand j s at)) from)

@@ -1,0 +1,16 @@
+pub mod Flat
+pub mod Walk
+pub mod Tally
+pub mod LinkParts
+pub mod LinkedLaws
+pub mod RecordParts
+pub mod Gathering
+pub mod Boxes
+pub mod Near
+pub mod Covering
+pub mod Parts
+pub mod Ordering
+pub mod Counted
+pub mod WrittenBack
+pub mod SpanLaws
+pub mod ShareLaws

@@ -1,0 +1,6 @@
+pub mod Links
+pub mod Gathered
+pub mod Numbers
+pub mod Orders
+pub mod Spans
+pub mod Shares

@@ -1,0 +1,85 @@
+-- Records of all segments in order, links between neighbours of one segment, and how often each edge is a link (own).
+use Rattle.std.specs.Prelude.{◌≡◌, ◌≢◌, ◌⊎◌, ◌↔◌, ℕ, ◌+◌, ◌-◌, ◌<◌, ◌≤◌, ◌^◌, ◌==◌, Bool, ◌&&◌, List, [], ◌∷◌, AllPairs, Contains, count_by, get_or, length, map, slice_index_or}
+use Rattle.geom.specs.declared.point.Pt.{Pt}
+use Rattle.geom.specs.declared.segment.Source.{Source}
+use Rattle.geom.specs.declared.segment.Source.TheVariants.{A, B}
+use Rattle.geom.specs.declared.segment.Seg.{Seg}
+use Rattle.geom.specs.declared.edge.Edge.{Edge}
+use Rattle.geom.specs.declared.edge.Counted.{Counted}
+use Rattle.geom.specs.Segments.{same_point, same_source}
+use Rattle.geom.specs.Rounded.{IsEdgeBefore, count, joins}
+use Rattle.geom.specs.Route.{AreRoutes}
+use Rattle.routing.specs.declared.record.Record.{Record}
+use Rattle.routing.specs.Pieces.{IsRecord}
+use Rattle.linking.specs.declared.link.Link.{Link}
+
+-- by segment, then by the steps along it
+abbrev pub IsRecordBefore : Record → Record → Type 0
+IsRecordBefore r q = (r.segment < q.segment) ⊎ ((r.segment ≡ q.segment) × (r.steps < q.steps))
+
+-- the records of all routes
+pub record HasRecords (segments : List Seg) (records : List Record) : Type 0 where
+  pub exact : (r : Record) → Contains records r ↔ IsRecord segments r
+
+-- the records of all routes, in order
+pub record AreRecords (segments : List Seg) (records : List Record) : Type 0 where
+  pub ascending : AllPairs IsRecordBefore records
+  pub exact : (r : Record) → Contains records r ↔ IsRecord segments r
+
+-- ---- links
+
+-- two records of one segment have different pixels
+abbrev pub AreApart : List Record → Type 0
+AreApart records = AllPairs (λ r q. r.segment ≡ q.segment → r.pixel ≢ q.pixel) records
+
+abbrev pub same_edge : Edge → Edge → Bool
+same_edge e f = same_point e.p f.p && same_point e.q f.q
+
+-- the link is of the edge and the layer
+abbrev pub is_of : Edge → Source → Link → Bool
+is_of e layer link = same_edge e link.edge && same_source link.layer layer
+
+abbrev pub count_links : Edge → Source → List Link → ℕ
+count_links e layer links = count_by (is_of e layer) links
+
+abbrev pub layer_at : List Seg → ℕ → Source
+layer_at segments k = slice_index_or (map (λ s. s.layer) segments) k A
+
+-- the pairs of neighbours
+abbrev pub record_pairs : List Record → List (Record × Record)
+record_pairs [] = []
+record_pairs (r ∷ []) = []
+record_pairs (r ∷ q ∷ rs) = (r, q) ∷ record_pairs (q ∷ rs)
+
+-- the pair is a link of the edge and the layer
+abbrev pub makes : (ℕ → Source) → Edge → Source → Record × Record → Bool
+makes layers e layer pair = (pair.0.segment == pair.1.segment) && (joins e (pair.0.pixel, pair.1.pixel) && same_source (layers pair.0.segment) layer)
+
+-- the links are those of neighbours among the records
+pub record AreNeighbourLinks (segments : List Seg) (records : List Record) (links : List Link) : Type 0 where
+  pub few : length links ≤ length records
+  pub count_is : (e : Edge) (layer : Source) → count_links e layer links ≡ count_by (makes (layer_at segments) e layer) (record_pairs records)
+
+-- the record at the place, if there is one, is of another segment than the one before
+abbrev pub ChangesSegment : List Record → ℕ → Type 0
+ChangesSegment records place = (d : Record) → place < length records → (get_or records (place - 1) d).segment ≢ (get_or records place d).segment
+
+-- the links are sorted by their edges
+abbrev pub AreInOrder : List Link → Type 0
+AreInOrder links = AllPairs (λ l m. (l.edge ≡ m.edge) ⊎ IsEdgeBefore l.edge m.edge) links
+
+-- the edges of the links go before those of the others
+abbrev pub GoBefore : List Link → List Link → Type 0
+GoBefore front back = (l m : Link) → Contains front l → Contains back m → IsEdgeBefore l.edge m.edge
+
+-- each edge is a link of a layer as often as its ends are neighbours in the routes of the layer's segments
+pub record AreLinks (segments : List Seg) (links : List Link) : Type 0 where
+  pub few : length links < 2 ^ 32
+  pub routes : List (List Pt)
+  pub are_routes : AreRoutes segments segments routes
+  pub count_is : (e : Edge) (layer : Source) → count_links e layer links ≡ count layer e segments routes
+
+-- each edge among the links, once and ascending, with its counts
+pub record AreCounts (links : List Link) (counted : List Counted) : Type 0 where
+  pub ascending : AllPairs (λ c d. IsEdgeBefore c.edge d.edge) counted
+  pub exact : (c : Counted) → Contains counted c ↔ ((count_links c.edge A links ≡ c.in_a) × (count_links c.edge B links ≡ c.in_b) × (0 < c.in_a + c.in_b))

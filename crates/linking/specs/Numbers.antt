@@ -1,0 +1,35 @@
+-- How many hot pixels and how many records lie in each tile of a grid (own).
+use Rattle.std.specs.Prelude.{◌≡◌, ◌≢◌, ◌↔◌, ℕ, All, AllPairs, Contains, List, Some, length, slice_get}
+use Rattle.geom.specs.declared.point.Pt.{Pt}
+use Rattle.grid.specs.Tiles.{HasTile, Owns, Tiling, tile_count}
+use Rattle.routing.specs.declared.record.Record.{Record}
+use Rattle.linking.specs.declared.rounded.TileNumbers.{TileNumbers}
+
+-- n of the xs have P: a list has exactly these, each once
+pub record IsCountOf {X : Type 0} (xs : List X) (P : X → Type 0) (n : ℕ) : Type 0 where
+  pub those : List X
+  pub once : AllPairs (λ x y. x ≢ y) those
+  pub exact : (x : X) → Contains those x ↔ (Contains xs x × P x)
+  pub number_is : n ≡ length those
+
+-- for each tile, how many of the xs have a pixel that it owns
+pub record AreTileCounts {X : Type 0} (g : Tiling) (pixel_of : X → Pt) (xs : List X) (counts : List ℕ) : Type 0 where
+  pub one_each : length counts ≡ tile_count g
+  pub each : (k n : ℕ) → slice_get counts k ≡ Some n → IsCountOf xs (λ x. Owns g k (pixel_of x)) n
+
+-- the numbers of each tile are the two counts of its place
+pub record ArePaired (hot records : List ℕ) (tiles : List TileNumbers) : Type 0 where
+  pub one_each : length tiles ≡ length hot
+  pub each : (k : ℕ) (n : TileNumbers) → slice_get tiles k ≡ Some n → (slice_get hot k ≡ Some n.hot) × (slice_get records k ≡ Some n.records)
+
+-- every item has a tile, and none stands twice
+pub record MayCount (g : Tiling) (pixels : List Pt) (records : List Record) : Type 0 where
+  pub pixels_in : All (λ p. HasTile g p) pixels
+  pub pixels_once : AllPairs (λ p q. p ≢ q) pixels
+  pub records_in : All (λ r. HasTile g r.pixel) records
+  pub records_once : AllPairs (λ r q. r ≢ q) records
+
+-- for each tile, how many of the pixels it owns, and how many of the records have such a pixel
+pub record AreNumbersOf (g : Tiling) (pixels : List Pt) (records : List Record) (tiles : List TileNumbers) : Type 0 where
+  pub one_each : length tiles ≡ tile_count g
+  pub each : (k : ℕ) (n : TileNumbers) → slice_get tiles k ≡ Some n → IsCountOf pixels (Owns g k) n.hot × IsCountOf records (λ r. Owns g k r.pixel) n.records

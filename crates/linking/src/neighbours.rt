@@ -1,0 +1,72 @@
+//! Finding the links of sorted records, between neighbours of one segment.
+
+ghost use Rattle.std.specs.Prelude.{◌≡◌, ◌≢◌, ◌<◌, ◌≤◌, ◌^◌, ◌⊎◌, ◌++◌, All, IfOk, length};
+ghost use Rattle.linking.specs.Links.{AreApart, AreLinks, AreNeighbourLinks, AreRecords};
+
+use crate::link::Link;
+use geom::{Edge, NoMemory, Pt, Seg};
+use routing::Record;
+use std::alloc::Allocator;
+
+/// The edge between two points.
+fn edge_between(c: Pt, d: Pt) -> Edge
+    requires { c ≢ d }
+    ensures { ((result.p ≡ c) × (result.q ≡ d)) ⊎ ((result.p ≡ d) × (result.q ≡ c)) }
+{
+    if c < d {
+        Edge { p: c, q: d }
+    } else {
+        Edge { p: d, q: c }
+    }
+}
+
+/// The links between neighbours among records, with room for so many at first.
+pub(crate) fn neighbour_links<A: Allocator>(
+    alloc: A,
+    room: usize,
+    segments: &[Seg],
+    records: &[Record],
+) -> Result<Vec<Link, A>, NoMemory>
+    requires below { All (λ r. r.segment < length segments.now) records.now }
+    requires apart { AreApart records.now }
+    requires short { length records.now < 2 ^ 32 }
+    ensures { IfOk result (λ v. AreNeighbourLinks segments.now records.now v.items) }
+{
+    let mut list = Vec::with_capacity(alloc, room)?;
+    for i in 1..records.len() {
+        let start = records[i - 1];
+        let end = records[i];
+        if start.segment == end.segment {
+            let edge = edge_between(start.pixel, end.pixel);
+            let layer = segments[start.segment as usize].layer;
+            list.push(Link { edge, layer })?;
+        }
+    }
+    Ok(list)
+}
+
+/// A list with another behind it.
+pub(crate) fn joined<T: Copy, A: Allocator>(
+    mut front: Vec<T, A>,
+    back: Vec<T, A>,
+) -> Result<Vec<T, A>, NoMemory>
+    ensures { IfOk result (λ all. all.items ≡ front.items ++ back.items) }
+{
+    front.extend_from_slice(&back)?;
+    Ok(front)
+}
+
+/// The links of the records of all routes. More than a `u32` counts are refused as want of memory.
+pub(crate) fn links<A: Allocator>(
+    alloc: A,
+    segments: &[Seg],
+    records: &[Record],
+) -> Result<Vec<Link, A>, NoMemory>
+    requires { ∥ AreRecords segments.now records.now ∥₁ }
+    ensures { IfOk result (λ v. ∥ AreLinks segments.now v.items ∥₁) }
+{
+    if records.len() > u32::MAX as usize {
+        return Err(NoMemory);
+    }
+    neighbour_links(alloc, records.len(), segments, records)
+}
