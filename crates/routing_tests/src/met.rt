@@ -1,8 +1,8 @@
 //! Tests of the pixels that a segment meets.
 
-use super::{Ends, Point, point, segment};
-use crate::meets;
+use crate::shapes::{Ends, Point, point, segment};
 use geom::{COORDINATE_LIMIT, Pt, Rect};
+use routing::meets;
 
 /// The greatest coordinate.
 const END: i32 = COORDINATE_LIMIT;

@@ -1,24 +1,19 @@
 //! Tests of the hot pixels of tiles, found in both ways, and of their pieces.
 
-ghost use Rattle.std.specs.Prelude.{◌≡◌, All, IfOk, IfSome};
+ghost use Rattle.std.specs.Prelude.{◌≡◌, All, IfOk};
 ghost use Rattle.geom.specs.Limit.{AreInLimit};
 ghost use Rattle.grid.specs.Tiles.{Owns};
 ghost use Rattle.hot_pixel.specs.Candidates.{AreCandidates};
 
-mod met;
-
-use super::*;
-use geom::{Edge, NoMemory, Pt, Rect, Seg, Source};
+use crate::shapes::{Ends, Point, point, segment};
+use geom::{NoMemory, Pt, Rect, Seg};
 use grid::{Count, Grid};
-use hot_pixel::{Line, hot_in, is_bundle, sweep};
+use hot_pixel::{hot_in, sweep};
+use routing::{Piece, piece};
 use std::alloc::Allocator;
 use std::marker::Brand;
 use std::sync::ledger::{Blank, Ledger};
-use std::test::*;
-
-type Point = (i32, i32);
-
-type Ends = (Point, Point);
+use std::test::Fail;
 
 // A triangle, and a bow tie whose crossing lies on the corner of four tiles.
 const ROW: [Ends; 7] = [
@@ -38,21 +33,6 @@ const ROW_TILES: [(&[Point], usize); 4] = [
     (&[(15, 16)], 2),
     (&[(16, 16)], 3),
 ];
-
-fn point(at: Point) -> Pt {
-    Pt { x: at.0, y: at.1 }
-}
-
-fn segment(ends: Ends) -> Option<Seg>
-    ensures { IfSome result (λ s. AreInLimit s.a s.b) }
-{
-    let (a, b) = (point(ends.0), point(ends.1));
-    if a.is_in_limit() && b.is_in_limit() {
-        Seg::new(a, b, Source::A)
-    } else {
-        None
-    }
-}
 
 fn push<A: Allocator>(segments: &mut Vec<Seg, A>, ends: Ends) -> Result<(), NoMemory>
     requires { All (λ s. AreInLimit s.a s.b) segments.now.items }
@@ -197,100 +177,5 @@ fn finds_a_lattice(rt: HostRuntime) -> Result<(), Fail> {
         (hot, swept, counted, records) == (1760, 1760, 1760, 6720),
         "{hot}, {swept}, {counted}, {records}"
     );
-    Ok(())
-}
-
-// Two corners of a rectangle, two lines, and whether these are a bundle there.
-type BundleRow = (Ends, [Ends; 2], bool);
-
-// The last two meet in (15/2, 17/2).
-const BUNDLES: [BundleRow; 9] = [
-    (
-        ((0, 0), (7, 7)),
-        [((-9, 0), (9, 3)), ((9, 4), (-9, 1))],
-        true,
-    ),
-    (
-        ((0, 0), (7, 7)),
-        [((0, -9), (3, 9)), ((4, 9), (1, -9))],
-        true,
-    ),
-    (
-        ((0, 0), (7, 7)),
-        [((0, 9), (1, -9)), ((5, -9), (3, 9))],
-        true,
-    ),
-    (((1, 0), (7, 7)), [((0, 0), (9, 3)), ((0, 0), (9, 4))], true),
-    (
-        ((0, 0), (7, 7)),
-        [((0, 0), (9, 3)), ((0, 0), (9, 4))],
-        false,
-    ),
-    (
-        ((0, 0), (7, 7)),
-        [((-9, 0), (9, 3)), ((-9, 0), (18, 4))],
-        true,
-    ),
-    (
-        ((0, 0), (7, 7)),
-        [((-9, -9), (9, 9)), ((-9, 9), (9, -9))],
-        false,
-    ),
-    (
-        ((0, 1), (6, 7)),
-        [((-1, 0), (16, 17)), ((-1, 17), (16, 0))],
-        true,
-    ),
-    (
-        ((0, 1), (7, 8)),
-        [((-1, 0), (16, 17)), ((-1, 17), (16, 0))],
-        false,
-    ),
-];
-
-fn line(ends: Ends) -> Option<Line>
-    ensures { IfSome result (λ l. AreInLimit l.edge.p l.edge.q) }
-{
-    let edge = Edge::between(point(ends.0), point(ends.1))?;
-    if edge.p.is_in_limit() && edge.q.is_in_limit() {
-        Some(Line {
-            edge,
-            first: 0,
-            past: 0,
-        })
-    } else {
-        None
-    }
-}
-
-fn push_line<A: Allocator>(lines: &mut Vec<Line, A>, ends: Ends) -> Result<(), NoMemory>
-    requires { All (λ l. AreInLimit l.edge.p l.edge.q) lines.now.items }
-    ensures { All (λ l. AreInLimit l.edge.p l.edge.q) lines.new.items }
-{
-    match line(ends) {
-        None => Err(NoMemory),
-        Some(made) => Ok(lines.push(made)?),
-    }
-}
-
-fn is_row_bundle<A: Allocator + Copy>(alloc: A, row: BundleRow) -> Result<bool, NoMemory> {
-    let (corners, ends, _) = row;
-    let rect = Rect::spanned_by(point(corners.0), point(corners.1));
-    let mut lines = Vec::new(alloc);
-    push_line(&mut lines, ends[0])?;
-    push_line(&mut lines, ends[1])?;
-    if rect.lo.is_in_limit() && rect.hi.is_in_limit() {
-        is_bundle(alloc, &rect, &lines)
-    } else {
-        Err(NoMemory)
-    }
-}
-
-#[test]
-fn tells_bundles(rt: HostRuntime) -> Result<(), Fail> {
-    let alloc = rt.alloc();
-    for row in BUNDLES {
-        assert_eq!(rt; is_row_bundle(alloc, row)?, row.2);
-    }
     Ok(())
 }

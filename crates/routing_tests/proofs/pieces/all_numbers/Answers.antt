@@ -7,7 +7,7 @@ use Rattle.geom.specs.declared.point.Pt.{Pt}
 use Rattle.geom.specs.declared.segment.Seg.{Seg}
 use Rattle.grid.specs.Tiles.{Owns}
 use Rattle.hot_pixel.specs.Candidates.{AreCandidates}
-use Rattle.routing.proofs.tests.all_numbers.Goals as goal
+use Rattle.routing_tests.proofs.pieces.all_numbers.Goals as goal
 
 abbrev AreFirst : List ℕ → ℕ → Type 0
 AreFirst xs n = (length xs ≡ n) × ((k d : ℕ) → k < n → get_or xs k d ≡ k)

@@ -1,6 +1,6 @@
 //! Whether two calls are at work at once.
 
-use crate::join;
+use hands::join;
 use std::sync::atomic::{AtomicBool, Ordering};
 use std::thread;
 use std::thread::Threads;
