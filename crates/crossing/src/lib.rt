@@ -6,6 +6,3 @@ mod common_point;
 
 pub use boxes::may_meet;
 pub use common_point::cross;
-
-#[cfg(test)]
-mod tests;

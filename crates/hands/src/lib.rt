@@ -33,6 +33,3 @@ pub fn join<R: Threads + Sync, F: FnOnce() -> A + Send, G: FnOnce() -> B + Send,
     let (first, (second, ())) = thread::join(rt, f, behind);
     (first, second)
 }
-
-#[cfg(test)]
-mod tests;

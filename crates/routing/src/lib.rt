@@ -12,6 +12,3 @@ pub use finding::{part, piece};
 pub use met::meets;
 pub use pieces::{Part, Piece};
 pub use record::{Candidate, Record};
-
-#[cfg(test)]
-mod tests;

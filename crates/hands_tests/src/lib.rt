@@ -1,0 +1,5 @@
+//! Tests of two calls at once.
+#![tactic(auto)]
+
+#[cfg(test)]
+mod meeting;

@@ -1,7 +1,0 @@
-use Rattle.overlay.proofs.program.perform_by.Goals as goal
-
-pub returns-in-Edges-clause-runs : goal.returns-in-Edges-clause-runs
-returns-in-Edges-clause-runs g c = rw c.in-Edges.is c.edges.ensures
-
-pub returns-in-Apply-clause-runs : goal.returns-in-Apply-clause-runs
-returns-in-Apply-clause-runs g c = rw c.in-Apply.is c.run.ensures

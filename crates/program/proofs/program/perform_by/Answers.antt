@@ -1,0 +1,7 @@
+use Rattle.program.proofs.program.perform_by.Goals as goal
+
+pub returns-in-Edges-clause-runs : goal.returns-in-Edges-clause-runs
+returns-in-Edges-clause-runs g c = rw c.in-Edges.is c.edges.ensures
+
+pub returns-in-Apply-clause-runs : goal.returns-in-Apply-clause-runs
+returns-in-Apply-clause-runs g c = rw c.in-Apply.is c.run.ensures

@@ -1,0 +1,101 @@
+-- What the program writes, and what it answers then (own).
+use Rattle.std.specs.Prelude.{◌≡◌, ◌⊎◌, ℕ, Bool, true, false, List, [], ◌∷◌, ◌++◌, Option, Result, MatchOption, MatchResult, codes, string_bytes}
+use Rattle.std.specs.declared.alloc.Global.{Global}
+use Rattle.clap.specs.Words.{Text}
+use Rattle.grid.specs.declared.sides.TheConstants.{DEFAULT_SIDE}
+use Rattle.engine.specs.Fitting.{IsFittingSide}
+use Rattle.geom.specs.declared.fault.RunFault.{RunFault}
+use Rattle.engine.specs.Runs.{AreEdgesWritten, Runs}
+use Rattle.engine.specs.Results.{IsResultWritten}
+use Rattle.engine.specs.Sinks.{SentAll, SentPart, SinkState}
+use Rattle.engine.specs.Texts.{line_of, report_of, status_of}
+use Rattle.engine.specs.declared.engine.Plan.{Plan}
+use Rattle.engine.specs.declared.text.Report.{Report}
+use Rattle.program.specs.CommandLine.{IsAskedBy, IsRefusalOf}
+use Rattle.program.specs.declared.asked.CliFault.{CliFault}
+use Rattle.program.specs.declared.asked.CliFault.TheVariants.{Unknown, Help, Refused, Memory}
+use Rattle.program.specs.declared.asked.Command.{Command}
+use Rattle.program.specs.declared.asked.Command.TheVariants.{Edges, Apply}
+use Rattle.program.specs.declared.asked.Request.{Request}
+use Rattle.program.specs.declared.files.LoadFault.{LoadFault}
+use Rattle.program.specs.declared.files.LoadFault.TheVariants.{Unreadable, Memory as NoRoom}
+
+-- the text was sent: the sink took all of it, or failed
+abbrev pub IsSent : SinkState → SinkState → List ℕ → Type 0
+IsSent old new text = SentAll old new text ⊎ SentPart old new text
+
+-- the status is 0 where the sink took the whole text, and 1 where it failed
+abbrev pub Shows : SinkState → SinkState → List ℕ → ℕ → Type 0
+Shows old new text status = ((status ≡ 0) × SentAll old new text) ⊎ ((status ≡ 1) × SentPart old new text)
+
+-- the line of want of memory
+abbrev pub memory_line : List ℕ
+memory_line = codes "overlay: 10 out of memory" ++ 10 ∷ []
+
+-- want of memory is told, with status 1
+abbrev pub TellsMemory : SinkState → SinkState → ℕ → Type 0
+TellsMemory old new status = (status ≡ 1) × IsSent old new memory_line
+
+-- the line of a fault is told, with its status; or memory is wanted for the line
+abbrev pub TellsFault : SinkState → SinkState → RunFault → ℕ → Type 0
+TellsFault old new fault status = ((status ≡ status_of fault) × IsSent old new (line_of fault)) ⊎ TellsMemory old new status
+
+-- a report is shown; or memory is wanted for its text
+abbrev pub ShowsReport : {A : Type 0} → SinkState → SinkState → Report A → ℕ → Type 0
+ShowsReport old new report status = Shows old new (report_of report) status ⊎ TellsMemory old new status
+
+-- why a file isn't read is told, with status 1: by its own line, or that of want of memory
+abbrev pub TellsFile : SinkState → SinkState → LoadFault → List ℕ → ℕ → Type 0
+TellsFile old new Unreadable text status = (status ≡ 1) × IsSent old new text
+TellsFile old new NoRoom text status = TellsMemory old new status
+
+-- the line of a command word that isn't offered
+abbrev pub unknown_line : List ℕ
+unknown_line = codes "overlay: unknown command" ++ 10 ∷ []
+
+-- what is said of a command line: help goes to the output, with status 0; all else to the other sink, with status 2, or 1 at want of memory
+abbrev pub TellsLine : {O E : Type 0} → (O → SinkState) → (E → SinkState) → O → O → E → E → CliFault → ℕ → Type 0
+TellsLine out_state err_state out out' err err' Unknown status = (status ≡ 2) × (out' ≡ out) × IsSent (err_state err) (err_state err') unknown_line
+TellsLine out_state err_state out out' err err' (Help text) status = (err' ≡ err) × Shows (out_state out) (out_state out') (string_bytes text) status
+TellsLine out_state err_state out out' err err' (Refused text) status = (status ≡ 2) × (out' ≡ out) × IsSent (err_state err) (err_state err') (string_bytes text)
+TellsLine out_state err_state out out' err err' Memory status = (out' ≡ out) × TellsMemory (err_state err) (err_state err') status
+
+-- the text that a command asks for, and its report
+abbrev pub IsAskedText : {M : Type 0} → Command → Plan → List ℕ → List ℕ → List ℕ → Report M → Type 0
+IsAskedText Edges plan a b text report = AreEdgesWritten plan a b text report
+IsAskedText (Apply op) plan a b text report = IsResultWritten op plan a b text report
+
+-- the plan of a request, with this side of a tile
+abbrev pub plan_of : Request → ℕ → Plan
+plan_of request side = record { side = side; workers = request.workers }
+
+-- a run that a request asks for, with this side of a tile
+abbrev pub RunsFor : {S M : Type 0} → (S → SinkState) → S → S → Request → ℕ → List ℕ → List ℕ → Result (Report M) RunFault → Type 0
+RunsFor state old new request side a b r = Runs state old new (plan_of request side) a b (IsAskedText request.command (plan_of request side) a b) r
+
+-- the side is the one that was given; where none was, the default one, or the one that fits the layers
+abbrev pub IsChosenSide : Option ℕ → List ℕ → List ℕ → ℕ → Type 0
+IsChosenSide given a b side = MatchOption given ((side ≡ DEFAULT_SIDE) ⊎ IsFittingSide a b side) (λ s. side ≡ s)
+
+-- a run that a request asks for on two layers
+abbrev pub Performs : {S M : Type 0} → (S → SinkState) → S → S → Request → List ℕ → List ℕ → Result (Report M) RunFault → Type 0
+Performs state old new request a b r = (side : ℕ) × IsChosenSide request.side a b side × RunsFor state old new request side a b r
+
+-- what is told of an answer: its report, where one is wanted
+abbrev pub TellsAnswer : {E M : Type 0} → (E → SinkState) → E → E → Bool → Report M → ℕ → Type 0
+TellsAnswer state err err' true report status = ShowsReport (state err) (state err') report status
+TellsAnswer state err err' false report status = (status ≡ 0) × (err' ≡ err)
+
+-- what is told of a run
+abbrev pub TellsRun : {E M : Type 0} → (E → SinkState) → E → E → Bool → Result (Report M) RunFault → ℕ → Type 0
+TellsRun state err err' wanted r status = MatchResult r (λ report. TellsAnswer state err err' wanted report status) (λ fault. TellsFault (state err) (state err') fault status)
+
+-- a request is done: a file can't be read, which gives status 1 and no output; or both layers are read, and run
+abbrev pub Does : {O E : Type 0} → (O → SinkState) → (E → SinkState) → O → O → E → E → Request → ℕ → Type 0
+Does out_state err_state out out' err err' request status = ((status ≡ 1) × (out' ≡ out))
+    ⊎ ((a : List ℕ) × (b : List ℕ) × (r : Result (Report Global) RunFault) × Performs out_state out out' request a b r × TellsRun err_state err err' request.report r status)
+
+-- a command line is done: what it asks for is done, or it is told why it isn't accepted
+abbrev pub DoesLine : {O E : Type 0} → (O → SinkState) → (E → SinkState) → O → O → E → E → List Text → ℕ → Type 0
+DoesLine out_state err_state out out' err err' words status = ((request : Request) × IsAskedBy words request × Does out_state err_state out out' err err' request status)
+    ⊎ ((fault : CliFault) × IsRefusalOf words fault × TellsLine out_state err_state out out' err err' fault status)

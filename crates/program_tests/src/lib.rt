@@ -1,0 +1,14 @@
+//! Tests of the program over files and sinks in memory: command lines, layers that are refused, sinks of all sizes, and a
+//! stream whose writes a signal interrupts.
+#![tactic(auto)]
+
+#[cfg(test)]
+mod command_lines;
+#[cfg(test)]
+mod driving;
+#[cfg(test)]
+mod refusals;
+#[cfg(test)]
+mod sinks;
+#[cfg(test)]
+mod streams;

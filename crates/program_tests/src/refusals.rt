@@ -1,0 +1,113 @@
+//! Layers that are refused, as the first and as the second one.
+
+use crate::driving::{Words, driven, is_outcome};
+use geom::NoMemory;
+use std::alloc::Global;
+use std::sync::Wait;
+use std::test::Fail;
+use std::thread::Threads;
+
+/// A command, a layer that is refused, and the lines where it is the first layer and where it is the second one.
+type RefusalRow = (&'static str, &'static str, &'static str, &'static str);
+
+const REFUSED: [RefusalRow; 12] = [
+    (
+        "edges",
+        "decimal",
+        "overlay: A: 1 syntax at 16\n",
+        "overlay: B: 1 syntax at 16\n",
+    ),
+    (
+        "edges",
+        "cut",
+        "overlay: A: 1 syntax at 13\n",
+        "overlay: B: 1 syntax at 13\n",
+    ),
+    (
+        "edges",
+        "joined",
+        "overlay: A: 1 syntax at 13\n",
+        "overlay: B: 1 syntax at 13\n",
+    ),
+    (
+        "edges",
+        "bare",
+        "overlay: A: 1 syntax at 9\n",
+        "overlay: B: 1 syntax at 9\n",
+    ),
+    (
+        "edges",
+        "ends",
+        "overlay: A: 1 syntax at 31\n",
+        "overlay: B: 1 syntax at 31\n",
+    ),
+    (
+        "union",
+        "ends outside",
+        "overlay: A: 1 syntax at 32\n",
+        "overlay: B: 1 syntax at 32\n",
+    ),
+    (
+        "edges",
+        "outside",
+        "overlay: A: 2 number out of range at 15\n",
+        "overlay: B: 2 number out of range at 15\n",
+    ),
+    (
+        "edges",
+        "short",
+        "overlay: A: 3 short ring at 9\n",
+        "overlay: B: 3 short ring at 9\n",
+    ),
+    (
+        "edges",
+        "inner",
+        "overlay: A: 3 short ring at 36\n",
+        "overlay: B: 3 short ring at 36\n",
+    ),
+    (
+        "edges",
+        "open",
+        "overlay: A: 4 open ring at 9\n",
+        "overlay: B: 4 open ring at 9\n",
+    ),
+    // A segment count past the limit, and a text of one byte too many.
+    (
+        "edges",
+        "many",
+        "overlay: 5 too many segments: 1048580\n",
+        "overlay: 5 too many segments: 1048580\n",
+    ),
+    (
+        "edges",
+        "long",
+        "overlay: A: 0 layer too long\n",
+        "overlay: B: 0 layer too long\n",
+    ),
+];
+
+/// Whether a command over two files is refused with this line alone.
+fn is_refused<R: Threads + Wait + Sync>(
+    rt: &R,
+    alloc: Global,
+    command: &str,
+    files: (&str, &str),
+    line: &'static str,
+) -> Result<bool, NoMemory> {
+    let words = [command, files.0, files.1];
+    let outcome = driven(rt, alloc, words.as_slice(), (4000, 4000))?;
+    Ok(is_outcome(&outcome, 3, Words::Text(""), Words::Text(line)))
+}
+
+#[test]
+fn refuses_either_layer(rt: HostRuntime) -> Result<(), Fail> {
+    for (command, name, of_first, of_second) in REFUSED {
+        for (files, line) in [((name, "empty"), of_first), (("empty", name), of_second)] {
+            assert!(rt;
+                is_refused(&rt, rt.alloc(), command, files, line)?,
+                "{command} {files:?}"
+            );
+        }
+    }
+    Ok(())
+}

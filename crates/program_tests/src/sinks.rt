@@ -1,0 +1,107 @@
+//! What is printed to sinks of all sizes.
+
+use crate::driving::{Words, driven, is_outcome};
+use engine_tests::texts::{SQUARES_COMMON, SQUARES_EDGES};
+use std::test::Fail;
+
+/// A command line behind the program's name, the room of both sinks, the exit status, and what they have then.
+type Small = (&'static [&'static str], (usize, usize), u8, Words, Words);
+
+/// What help prints.
+const HELP: &str =
+    "Overlays two polygon layers on the integer grid, exactly and with proved rounding.
+
+Usage: overlay [OPTIONS] <command> <A> <B>
+
+Arguments:
+  <command>  What to compute: union, intersection, difference, symdifference or edges
+  <A>        The first layer's file: POLYGON and MULTIPOLYGON texts
+  <B>        The second layer's file
+
+Options:
+      --tile <N>     The side of a tile, in grid units, 16 to 33554432 [default: 262144, or what fits]
+      --workers <N>  The number of threads at work, 1 to 64 [default: 4]
+      --report       Prints the numbers of the run to standard error
+  -h, --help         Print help
+
+union, intersection, difference and symdifference print the result of that operation on the two
+layers as one MULTIPOLYGON text.
+edges prints a line `x1 y1 x2 y2 countA countB` for each edge of both layers after rounding.
+
+A layer is a text of POLYGON and MULTIPOLYGON geometries, at most 268435456 bytes long, with whole
+coordinates from -268435456 to 268435456, in grid units. Both layers together have at most 1048576
+segments. A layer is read by parity: a point lies in it where an odd number of its rings have the
+point inside, so polygons of one layer that overlap cancel each other there.
+/dev/stdin reads a layer from standard input.
+
+The tiles and the number of threads have no influence on the text. Where no side of a tile is given
+it is 262144, or where that gives more than 65536 tiles the least power of two that doesn't.
+
+Exit status: 0 answered, 1 a file, the output or memory failed, 2 command line not accepted,
+3 input refused.
+
+Example: overlay intersection parcels.wkt zones.wkt > common.wkt
+";
+
+const FAILED: Words = Words::Text("overlay: 11 write failed\n");
+
+const NOTHING: Words = Words::Text("");
+
+const SMALL: [Small; 8] = [
+    (&["--help"], (4000, 4000), 0, Words::Text(HELP), NOTHING),
+    (
+        &["--help"],
+        (10, 4000),
+        1,
+        Words::Text("Overlays t"),
+        NOTHING,
+    ),
+    (&["edges", "square", "other"], (0, 4000), 1, NOTHING, FAILED),
+    (
+        &["intersection", "square", "other"],
+        (0, 4000),
+        1,
+        NOTHING,
+        FAILED,
+    ),
+    (
+        &["edges", "square", "other", "--report"],
+        (0, 4000),
+        1,
+        NOTHING,
+        FAILED,
+    ),
+    (
+        &["edges", "square", "other", "--report"],
+        (4000, 0),
+        1,
+        Words::Text(SQUARES_EDGES),
+        NOTHING,
+    ),
+    (
+        &["intersection", "square", "other", "--report"],
+        (4000, 0),
+        1,
+        Words::Text(SQUARES_COMMON),
+        NOTHING,
+    ),
+    (
+        &["edges", "decimal", "other"],
+        (4000, 0),
+        3,
+        NOTHING,
+        NOTHING,
+    ),
+];
+
+#[test]
+fn prints_to_small_sinks(rt: HostRuntime) -> Result<(), Fail> {
+    for (words, rooms, status, out, err) in SMALL {
+        let outcome = driven(&rt, rt.alloc(), words, rooms)?;
+        assert!(rt;
+            is_outcome(&outcome, status, out, err),
+            "{words:?}, {rooms:?}"
+        );
+    }
+    Ok(())
+}
