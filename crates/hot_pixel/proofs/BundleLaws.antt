@@ -1,7 +1,7 @@
 -- Lines that stand in one order at two borders have no point in common between them.
 use Rattle.std.proofs.Common.{◌≡◌, ◌⊎◌, ◌^◌, ◌+◌, ◌-◌, ◌*◌, ◌<◌, ◌≤◌, ℕ, zero, suc, inl, inr, List, [], ◌∷◌, ◌++◌, Bool, true, false, refl, sym, ◌∙◌, ap, arith, subst, get_or, length, take, ⊎_elim}
-use Rattle.std.proofs.Math.IntN.{ℤ, pos, negsuc, ◌+ℤ◌, ◌-ℤ◌, ◌*ℤ◌, neg_ℤ}
-use Rattle.std.specs.Prelude.{◌<ℤ◌, ◌≤ℤ◌, All, AllPairs, Contains, ◌&&◌, ◌||◌, not, int_lt}
+use Rattle.std.proofs.Math.IntN.{ℤ, pos, negsuc, ◌+ℤ◌, ◌-ℤ◌, ◌*ℤ◌}
+use Rattle.std.specs.Prelude.{◌<ℤ◌, ◌≤ℤ◌, All, AllPairs, Contains, ◌&&◌, ◌||◌, not, int_le, int_lt}
 use borrow.Author.Differences.{up, down}
 use Rattle.std.specs.Int.{int_div_euclid}
 use Rattle.std.specs.List.{AllAdjacentBelow, IsDistinct}
@@ -19,21 +19,21 @@ use Rattle.geom.specs.Hot.{CrossIn}
 use Rattle.geom.specs.Order.{IsBefore}
 use Rattle.geom.specs.OnSegment.{IsOn}
 use Rattle.geom.specs.Pixel.{Point}
-use Rattle.geom.specs.Limit.{AreInLimit, InLimit, IsQuotientWithin, IsWithin, coordinate_limit}
+use Rattle.geom.specs.Limit.{AreInLimit, InLimit, IsWithin, coordinate_limit}
 use Rattle.geom.proofs.Edges.{edge_path, before_strict}
-use Rattle.geom.proofs.Integers.{linear, mul_comm, mul_nonneg, mul_pos, by_sign, mul_neg, scale_le, scale_lt, unscale_le, unscale_lt, unscale_eq}
+use Rattle.geom.proofs.Integers.{linear, mul_comm, mul_nonneg, mul_pos, by_sign, scale_le, scale_lt, unscale_lt, unscale_eq}
 use Rattle.geom.proofs.Identity.{var, num, ◌⊕◌, ◌⊖◌, ◌⊗◌, ring}
 use Rattle.geom.proofs.Pixels.{in_pixel}
 use Rattle.geom.proofs.Points.{and_both, both_and, or_either}
-use Rattle.geom.proofs.Numbers.{gap_is, weak, zero_is_nonneg, le_lt, le_le, strict_gap_is, positive_is_not_zero, lt_lt}
-use Rattle.geom.proofs.Tests.{lt_told, lt_yes}
+use Rattle.geom.proofs.Numbers.{gap_is, weak, zero_is_nonneg, le_le, strict_gap_is, positive_is_not_zero, lt_lt}
+use Rattle.geom.proofs.Tests.{le_told, le_yes, lt_told, lt_yes}
 use Rattle.geom.proofs.Nearest.{quotient-parts}
 use Rattle.hot_pixel.proofs.SweepLaws.{cross_turn}
 use Rattle.hot_pixel.specs.declared.bundle.Course.{Course}
 use Rattle.hot_pixel.specs.declared.bundle.Course.TheVariants.{Columns, Rows}
 use Rattle.hot_pixel.specs.declared.bundle.Strand.{Strand}
 use Rattle.hot_pixel.specs.declared.lines.Line.{Line}
-use Rattle.hot_pixel.specs.Bundle.{exchanged, height, seen_point, AreStrands, AscendsTo, HasNoHot, IsFloor, IsQuotient, IsSeen, IsStrand, IsStrandSeen, RunsThrough, RunsThroughSeen}
+use Rattle.hot_pixel.specs.Bundle.{exchanged, height, seen_point, AreStrands, AscendsTo, HasNoHot, IsFloor, IsFollowedBy, IsQuotient, IsSame, IsSeen, IsStrand, IsStrandSeen, RunsThrough, RunsThroughSeen}
 use Rattle.hot_pixel.specs.Halving.{edges_of, HasHot, IsHotFor}
 use Rattle.hot_pixel.specs.Rects.{IsIn}
 use Rattle.hot_pixel.specs.Lines.{CrossAt, IsLine}
@@ -63,7 +63,7 @@ pub floors_order : (h r k h' r' k' : ℤ) → pos 0 <ℤ r → pos 0 <ℤ r' →
 floors_order h r k h' r' k' p p' f f' less = unscale_lt (h *ℤ r') (h' *ℤ r) parts (chain (r' *ℤ (h *ℤ parts)) _ _ (r *ℤ (h' *ℤ parts)) _ _ _ _ below middle from first second third fourth) (omega (arith, ints))
   where
     parts : ℤ
-    parts = pos (2 ^ 30)
+    parts = pos (2 ^ 60)
 
     below : (r' *ℤ (h *ℤ parts)) <ℤ (r' *ℤ (r *ℤ (k +ℤ pos 1)))
     below = scale_lt _ _ r' f.below p'
@@ -116,98 +116,44 @@ pub quotient_is : (a r : ℤ) → pos 0 <ℤ r → IsQuotient a r (int_div_eucli
 quotient_is a (pos k) p = quotient_from_parts a (int_div_euclid a (pos k)) k (quotient-parts a k (omega (arith, ints)))
 quotient_is a (negsuc k) p = absurd (omega (arith, ints))
 
--- the quotient of a number whose quotient is within n
-quotient_within : (n : ℕ) (a r q : ℤ) → pos 0 <ℤ r → (r *ℤ neg_ℤ (pos n)) ≤ℤ a → a ≤ℤ (r *ℤ pos n) → IsQuotient a r q → IsWithin n q
-quotient_within n a r q p l h f = record { low = least n q (unscale_lt (neg_ℤ (pos n)) (q +ℤ pos 1) r (le_lt _ _ _ l f.below) (weak _ _ p)); high = unscale_le q (pos n) r (le_le _ _ _ f.from h) p }
-  where
-    least : (n : ℕ) (q : ℤ) → neg_ℤ (pos n) <ℤ (q +ℤ pos 1) → neg_ℤ (pos n) ≤ℤ q
-    least n q a = omega (arith, ints)
-
-floor_small : (h r q : ℤ) → pos 0 <ℤ r → IsQuotientWithin (2 ^ 30) h r → IsFloor h r q → IsWithin (2 ^ 60) q
-floor_small h r q p w f = quotient_within (2 ^ 60) (h *ℤ pos (2 ^ 30)) r q p (low h r w.low) (high h r w.high) f
-  where
-    low : (h r : ℤ) → (r *ℤ neg_ℤ (pos (2 ^ 30))) ≤ℤ h → (r *ℤ neg_ℤ (pos (2 ^ 60))) ≤ℤ (h *ℤ pos (2 ^ 30))
-    low h r a = omega (arith, ints)
-
-    high : (h r : ℤ) → h ≤ℤ (r *ℤ pos (2 ^ 30)) → (h *ℤ pos (2 ^ 30)) ≤ℤ (r *ℤ pos (2 ^ 60))
-    high h r a = omega (arith, ints)
-
--- the whole part of a quotient and what is left, and the parts of both together
-module _ (h r w : ℤ) (positive : pos 0 <ℤ r) (run_in : r ≤ℤ pos (2 ^ 30)) (within : IsQuotientWithin (2 ^ 30) h r) (whole : IsQuotient h r w) where
-  stepped : (r w : ℤ) → r *ℤ (w +ℤ pos 1) ≡ (w *ℤ r) +ℤ r
-  stepped r w = ring (r ∷ w ∷ []) (var 0 ⊗ (var 1 ⊕ num (pos 1))) ((var 1 ⊗ var 0) ⊕ var 0) refl
-
-  pub whole_small : IsWithin (2 ^ 30) w
-  whole_small = quotient_within (2 ^ 30) h r w positive within.low within.high whole
-
-  pub product_small : IsWithin (2 ^ 61) (w *ℤ r)
-  product_small = bounds h r (w *ℤ r) _ _ (mul_comm r w) (stepped r w) whole.from whole.below positive run_in within.low within.high
+-- ---- heights with the same number of parts
+module _ (h r h' r' k : ℤ) (p : pos 0 <ℤ r) (p' : pos 0 <ℤ r') (small : r ≤ℤ pos (2 ^ 30)) (small' : r' ≤ℤ pos (2 ^ 30)) (f : IsFloor h r k) (f' : IsFloor h' r' k) where
+  floors_near : (h *ℤ r') <ℤ (h' *ℤ r) → ⊥
+  floors_near less = chain _ _ _ _ _ _ _ _ _ (scale_le _ _ (pos (2 ^ 60)) (next _ _ less) (omega (arith, ints))) (spread (pos (2 ^ 60)) (h *ℤ r')) (moved (pos (2 ^ 60)) h r') (moved (pos (2 ^ 60)) h' r) (scale_lt _ _ r f'.below p) (apart r r' k) (scale_le _ _ r' f.from (weak _ _ p')) (le_le _ _ _ (scale_le _ _ r small' (weak _ _ p)) (area r small))
     where
-      bounds : (h r a x y : ℤ) → x ≡ a → y ≡ a +ℤ r → x ≤ℤ h → h <ℤ y → pos 0 <ℤ r → r ≤ℤ pos (2 ^ 30) → (r *ℤ neg_ℤ (pos (2 ^ 30))) ≤ℤ h → h ≤ℤ (r *ℤ pos (2 ^ 30)) → IsWithin (2 ^ 61) a
-      bounds h r a x y e f from below p k low high = record { low = omega (arith, ints); high = omega (arith, ints) }
+      next : (x y : ℤ) → x <ℤ y → (x +ℤ pos 1) ≤ℤ y
+      next x y l = omega (arith, ints)
 
-  pub rest_small : IsWithin (2 ^ 30) (h -ℤ (w *ℤ r))
-  rest_small = bounds h r (w *ℤ r) _ _ (mul_comm r w) (stepped r w) whole.from whole.below run_in
-    where
-      bounds : (h r a x y : ℤ) → x ≡ a → y ≡ a +ℤ r → x ≤ℤ h → h <ℤ y → r ≤ℤ pos (2 ^ 30) → IsWithin (2 ^ 30) (h -ℤ a)
-      bounds h r a x y e f from below k = record { low = omega (arith, ints); high = omega (arith, ints) }
+      spread : (n x : ℤ) → n *ℤ (x +ℤ pos 1) ≡ (n *ℤ x) +ℤ n
+      spread n x = ring (n ∷ x ∷ []) (var 0 ⊗ (var 1 ⊕ num (pos 1))) ((var 0 ⊗ var 1) ⊕ var 0) refl
 
-  module _ (v : ℤ) (rest : IsQuotient ((h -ℤ (w *ℤ r)) *ℤ pos (2 ^ 30)) r v) where
-    pub part_small : IsWithin (2 ^ 30) v
-    part_small = quotient_within (2 ^ 30) ((h -ℤ (w *ℤ r)) *ℤ pos (2 ^ 30)) r v positive (low h r (w *ℤ r) _ (mul_comm r w) whole.from positive) (high h r (w *ℤ r) _ (stepped r w) whole.below) rest
-      where
-        low : (h r a x : ℤ) → x ≡ a → x ≤ℤ h → pos 0 <ℤ r → (r *ℤ neg_ℤ (pos (2 ^ 30))) ≤ℤ ((h -ℤ a) *ℤ pos (2 ^ 30))
-        low h r a x e from p = omega (arith, ints)
+      moved : (n h r : ℤ) → n *ℤ (h *ℤ r) ≡ r *ℤ (h *ℤ n)
+      moved n h r = ring (n ∷ h ∷ r ∷ []) (var 0 ⊗ (var 1 ⊗ var 2)) (var 2 ⊗ (var 1 ⊗ var 0)) refl
 
-        high : (h r a y : ℤ) → y ≡ a +ℤ r → h <ℤ y → ((h -ℤ a) *ℤ pos (2 ^ 30)) ≤ℤ (r *ℤ pos (2 ^ 30))
-        high h r a y e below = omega (arith, ints)
+      apart : (r s k : ℤ) → r *ℤ (s *ℤ (k +ℤ pos 1)) ≡ (s *ℤ (r *ℤ k)) +ℤ (r *ℤ s)
+      apart r s k = ring (r ∷ s ∷ k ∷ []) (var 0 ⊗ (var 1 ⊗ (var 2 ⊕ num (pos 1)))) ((var 1 ⊗ (var 0 ⊗ var 2)) ⊕ (var 0 ⊗ var 1)) refl
 
-    pub floor_of_both : IsFloor h r ((w *ℤ pos (2 ^ 30)) +ℤ v)
-    floor_of_both = record { from = lower h (w *ℤ r) _ _ (joined r w v (pos (2 ^ 30))) rest.from; below = upper h (w *ℤ r) _ _ (next r w v (pos (2 ^ 30))) rest.below }
-      where
-        joined : (r w v s : ℤ) → r *ℤ ((w *ℤ s) +ℤ v) ≡ ((w *ℤ r) *ℤ s) +ℤ (r *ℤ v)
-        joined r w v s = ring (r ∷ w ∷ v ∷ s ∷ []) (var 0 ⊗ ((var 1 ⊗ var 3) ⊕ var 2)) (((var 1 ⊗ var 0) ⊗ var 3) ⊕ (var 0 ⊗ var 2)) refl
+      area : (r : ℤ) → r ≤ℤ pos (2 ^ 30) → (r *ℤ pos (2 ^ 30)) ≤ℤ pos (2 ^ 60)
+      area r l = omega (arith, ints)
 
-        next : (r w v s : ℤ) → r *ℤ (((w *ℤ s) +ℤ v) +ℤ pos 1) ≡ ((w *ℤ r) *ℤ s) +ℤ (r *ℤ (v +ℤ pos 1))
-        next r w v s = ring (r ∷ w ∷ v ∷ s ∷ []) (var 0 ⊗ (((var 1 ⊗ var 3) ⊕ var 2) ⊕ num (pos 1))) (((var 1 ⊗ var 0) ⊗ var 3) ⊕ (var 0 ⊗ (var 2 ⊕ num (pos 1)))) refl
+      chain : (a b c d e g m n u : ℤ) → a ≤ℤ b → a ≡ c +ℤ n → c ≡ d → b ≡ e → e <ℤ g → g ≡ m +ℤ u → m ≤ℤ d → u ≤ℤ n → ⊥
+      chain a b c d e g m n u x y z i j k v w = omega (arith, linear)
 
-        lower : (h a x b : ℤ) → x ≡ (a *ℤ pos (2 ^ 30)) +ℤ b → b ≤ℤ ((h -ℤ a) *ℤ pos (2 ^ 30)) → x ≤ℤ (h *ℤ pos (2 ^ 30))
-        lower h a x b e k = omega (arith, ints)
-
-        upper : (h a x b : ℤ) → x ≡ (a *ℤ pos (2 ^ 30)) +ℤ b → ((h -ℤ a) *ℤ pos (2 ^ 30)) <ℤ b → (h *ℤ pos (2 ^ 30)) <ℤ x
-        upper h a x b e k = omega (arith, ints)
-
-    pub both_small : IsWithin (2 ^ 60) ((w *ℤ pos (2 ^ 30)) +ℤ v)
-    both_small = floor_small h r ((w *ℤ pos (2 ^ 30)) +ℤ v) positive within floor_of_both
-
--- ---- the height of a line between its ends
-pub height_within : (e : Edge) (b : ℤ) → AreInLimit e.p e.q → (e.p.x +ℤ e.p.x) ≤ℤ b → b ≤ℤ (e.q.x +ℤ e.q.x) → IsQuotientWithin (2 ^ 30) (height e b) (e.q.x -ℤ e.p.x)
-height_within e b h l r = record {
-  low = subst (λ z. z ≤ℤ height e b) (sym (mul_neg (e.q.x -ℤ e.p.x) (pos (2 ^ 30)))) (above _ _ _ _ (sum_low e.p.x e.p.y e.q.x e.q.y b (pos (2 ^ 29))) (mul_nonneg _ _ (gap_is _ _ r) (over h.a_in.y_in)) (mul_nonneg _ _ (gap_is _ _ l) (over h.b_in.y_in)));
-  high = below _ _ _ _ (sum_high e.p.x e.p.y e.q.x e.q.y b (pos (2 ^ 29))) (mul_nonneg _ _ (gap_is _ _ r) (under h.a_in.y_in)) (mul_nonneg _ _ (gap_is _ _ l) (under h.b_in.y_in));
-}
+-- heights that have the same number of parts are equal
+pub floors_equal : (h r h' r' k : ℤ) → pos 0 <ℤ r → pos 0 <ℤ r' → r ≤ℤ pos (2 ^ 30) → r' ≤ℤ pos (2 ^ 30) → IsFloor h r k → IsFloor h' r' k → h *ℤ r' ≡ h' *ℤ r
+floors_equal h r h' r' k p p' small small' f f' = by_sign ((h *ℤ r') -ℤ (h' *ℤ r))
+    (λ l. absurd (floors_near h r h' r' k p p' small small' f f' (below (h *ℤ r') (h' *ℤ r) l)))
+    (λ e. same (h *ℤ r') (h' *ℤ r) e)
+    (λ l. absurd (floors_near h' r' h r k p' p small' small f' f (above (h *ℤ r') (h' *ℤ r) l)))
   where
-    sum_low : (px py qx qy b k : ℤ) → (((qx +ℤ qx) -ℤ b) *ℤ (py +ℤ k)) +ℤ ((b -ℤ (px +ℤ px)) *ℤ (qy +ℤ k)) ≡ (((qx -ℤ px) *ℤ (py +ℤ py)) -ℤ ((qy -ℤ py) *ℤ ((px +ℤ px) -ℤ b))) +ℤ ((qx -ℤ px) *ℤ (k +ℤ k))
-    sum_low px py qx qy b k = ring (px ∷ py ∷ qx ∷ qy ∷ b ∷ k ∷ [])
-        ((((var 2 ⊕ var 2) ⊖ var 4) ⊗ (var 1 ⊕ var 5)) ⊕ ((var 4 ⊖ (var 0 ⊕ var 0)) ⊗ (var 3 ⊕ var 5)))
-        ((((var 2 ⊖ var 0) ⊗ (var 1 ⊕ var 1)) ⊖ ((var 3 ⊖ var 1) ⊗ ((var 0 ⊕ var 0) ⊖ var 4))) ⊕ ((var 2 ⊖ var 0) ⊗ (var 5 ⊕ var 5))) refl
+    below : (x y : ℤ) → (x -ℤ y) <ℤ pos 0 → x <ℤ y
+    below x y l = omega (arith, linear)
 
-    sum_high : (px py qx qy b k : ℤ) → (((qx +ℤ qx) -ℤ b) *ℤ (k -ℤ py)) +ℤ ((b -ℤ (px +ℤ px)) *ℤ (k -ℤ qy)) ≡ ((qx -ℤ px) *ℤ (k +ℤ k)) -ℤ (((qx -ℤ px) *ℤ (py +ℤ py)) -ℤ ((qy -ℤ py) *ℤ ((px +ℤ px) -ℤ b)))
-    sum_high px py qx qy b k = ring (px ∷ py ∷ qx ∷ qy ∷ b ∷ k ∷ [])
-        ((((var 2 ⊕ var 2) ⊖ var 4) ⊗ (var 5 ⊖ var 1)) ⊕ ((var 4 ⊖ (var 0 ⊕ var 0)) ⊗ (var 5 ⊖ var 3)))
-        (((var 2 ⊖ var 0) ⊗ (var 5 ⊕ var 5)) ⊖ (((var 2 ⊖ var 0) ⊗ (var 1 ⊕ var 1)) ⊖ ((var 3 ⊖ var 1) ⊗ ((var 0 ⊕ var 0) ⊖ var 4)))) refl
+    above : (x y : ℤ) → pos 0 <ℤ (x -ℤ y) → y <ℤ x
+    above x y l = omega (arith, linear)
 
-    above : (x y z w : ℤ) → x +ℤ y ≡ z +ℤ w → pos 0 ≤ℤ x → pos 0 ≤ℤ y → neg_ℤ w ≤ℤ z
-    above x y z w q i j = omega (arith, linear)
-
-    below : (x y z w : ℤ) → x +ℤ y ≡ w -ℤ z → pos 0 ≤ℤ x → pos 0 ≤ℤ y → z ≤ℤ w
-    below x y z w q i j = omega (arith, linear)
-
-    over : {y : ℤ} → IsWithin coordinate_limit y → pos 0 ≤ℤ (y +ℤ pos (2 ^ 29))
-    over {y} k = let a = k.low in omega (arith, ints)
-
-    under : {y : ℤ} → IsWithin coordinate_limit y → pos 0 ≤ℤ (pos (2 ^ 29) -ℤ y)
-    under {y} k = let a = k.high in omega (arith, ints)
+    same : (x y : ℤ) → (x -ℤ y) ≡ pos 0 → x ≡ y
+    same x y e = omega (arith, linear)
 
 -- ---- a point on a line
 product_of : (n zy zn py dx m dy : ℤ) → n *ℤ zy ≡ zn *ℤ ((n *ℤ py) +ℤ (m *ℤ dy)) → n *ℤ ((zy -ℤ (zn *ℤ py)) *ℤ dx) ≡ zn *ℤ (m *ℤ (dy *ℤ dx))
@@ -289,9 +235,40 @@ module _ (low high : ℤ) (e f : Edge) (s t : Strand) (c : Pt) (l : low ≤ℤ c
       let nought = on_both (base e) (e.q.x -ℤ e.p.x) (e.q.y -ℤ e.p.y) (base f) (f.q.x -ℤ f.p.x) (f.q.y -ℤ f.p.y) (z.x +ℤ z.x) (z.y +ℤ z.y) z.n at_e at_f in
       positive_is_not_zero _ (between _ _ ((low +ℤ low) -ℤ pos 1) ((high +ℤ high) +ℤ pos 1) (z.x +ℤ z.x) z.n z.positive (left_of z.n low c.x z.x z.positive l column.from) (right_of z.n high c.x z.x z.positive r column.below) (below_at _ _ _ es.left ft.left up.left) (below_at _ _ _ es.right ft.right up.right)) nought
 
-  pub no_crossing : AscendsTo s t → CrossAt e f c → ⊥
+  same_at : (b k k' : ℤ) → IsFloor (height e b) (e.q.x -ℤ e.p.x) k → IsFloor (height f b) (f.q.x -ℤ f.p.x) k' → k ≡ k'
+      → ((base f *ℤ (e.q.x -ℤ e.p.x)) -ℤ (base e *ℤ (f.q.x -ℤ f.p.x))) +ℤ (b *ℤ (((f.q.y -ℤ f.p.y) *ℤ (e.q.x -ℤ e.p.x)) -ℤ ((e.q.y -ℤ e.p.y) *ℤ (f.q.x -ℤ f.p.x)))) ≡ pos 0
+  same_at b k k' u v is = height_is e f b ∙ gone _ _ (floors_equal _ _ _ _ k (run_positive low high c.x e.p.x e.q.x es.through.from es.through.to l r) (run_positive low high c.x f.p.x f.q.x ft.through.from ft.through.to l r) (run_small e es.within) (run_small f ft.within) u (subst (λ n. IsFloor (height f b) (f.q.x -ℤ f.p.x) n) (sym is) v))
+    where
+      gone : (x y : ℤ) → x ≡ y → y -ℤ x ≡ pos 0
+      gone x y e = omega (arith, linear)
+
+      run_small : (g : Edge) → AreInLimit g.p g.q → (g.q.x -ℤ g.p.x) ≤ℤ pos (2 ^ 30)
+      run_small g h = small g.p.x g.q.x h.a_in.x_in h.b_in.x_in
+        where
+          small : (x y : ℤ) → IsWithin coordinate_limit x → IsWithin coordinate_limit y → (y -ℤ x) ≤ℤ pos (2 ^ 30)
+          small x y h k = let a = h.low in let b = k.high in omega (arith, ints)
+
+  -- two lines that have the same strand are parallel
+  same_parallel : IsSame s t → ((e.q.x -ℤ e.p.x) *ℤ (f.q.y -ℤ f.p.y)) -ℤ ((e.q.y -ℤ e.p.y) *ℤ (f.q.x -ℤ f.p.x)) ≡ pos 0
+  same_parallel h = ap (λ w. w -ℤ ((e.q.y -ℤ e.p.y) *ℤ (f.q.x -ℤ f.p.x))) (mul_comm (e.q.x -ℤ e.p.x) (f.q.y -ℤ f.p.y)) ∙ level _ _ _ _ (wide low high c.x l r) (same_at _ _ _ es.left ft.left h.left) (same_at _ _ _ es.right ft.right h.right)
+    where
+      wide : (low high x : ℤ) → low ≤ℤ x → x ≤ℤ high → pos 0 <ℤ (((high +ℤ high) +ℤ pos 1) -ℤ ((low +ℤ low) -ℤ pos 1))
+      wide low high x a b = omega (arith, linear)
+
+      -- what is linear and zero at two places has no slope
+      level : (a b h k : ℤ) → pos 0 <ℤ (k -ℤ h) → a +ℤ (h *ℤ b) ≡ pos 0 → a +ℤ (k *ℤ b) ≡ pos 0 → b ≡ pos 0
+      level a b h k p u v = unscale_eq b (pos 0) (k -ℤ h) (split a b h k ∙ ap (λ w. w -ℤ (a +ℤ (h *ℤ b))) v ∙ ap (λ w. pos 0 -ℤ w) u ∙ nought (k -ℤ h)) p
+        where
+          split : (a b h k : ℤ) → (k -ℤ h) *ℤ b ≡ (a +ℤ (k *ℤ b)) -ℤ (a +ℤ (h *ℤ b))
+          split a b h k = ring (a ∷ b ∷ h ∷ k ∷ []) ((var 3 ⊖ var 2) ⊗ var 1) ((var 0 ⊕ (var 3 ⊗ var 1)) ⊖ (var 0 ⊕ (var 2 ⊗ var 1))) refl
+
+          nought : (n : ℤ) → pos 0 -ℤ pos 0 ≡ n *ℤ pos 0
+          nought n = ring (n ∷ []) (num (pos 0) ⊖ num (pos 0)) (var 0 ⊗ num (pos 0)) refl
+
+  pub no_crossing : IsFollowedBy s t → CrossAt e f c → ⊥
   unfolding segment_of
-  no_crossing up x = never_cross (segment_of e) (segment_of f) refl refl refl refl up (x.cross (segment_of e) (segment_of f) (segment_line e) (segment_line f))
+  no_crossing (inl up) x = never_cross (segment_of e) (segment_of f) refl refl refl refl up (x.cross (segment_of e) (segment_of f) (segment_line e) (segment_line f))
+  no_crossing (inr same) x = (x.cross (segment_of e) (segment_of f) (segment_line e) (segment_line f)).not_parallel (same_parallel same)
 
 -- ---- lines as they are seen
 pub seen_one : (course : Course) (e f g : Edge) → IsSeen course e f → IsSeen course e g → f ≡ g
@@ -372,19 +349,45 @@ parallel_itself e c x = (x.cross (segment_of e) (segment_of e) (segment_line e) 
 abbrev ascends : Strand → Strand → Bool
 ascends s t = int_lt s.left t.left && int_lt s.right t.right
 
--- neither of two strands ascends to the other
+abbrev meets : ℤ → ℤ → Bool
+meets x y = int_le x y && int_le y x
+
+abbrev follows : Strand → Strand → Bool
+follows s t = ascends s t || (meets s.left t.left && meets s.right t.right)
+
+-- neither of two strands is followed by the other
 clash : Strand → Strand → Bool
-clash s t = not (ascends s t || ascends t s)
+clash s t = not (follows s t || follows t s)
 
-ascends_is : (s t : Strand) → ascends s t ≡ true → AscendsTo s t
-ascends_is s t h = let b = and_both (int_lt s.left t.left) (int_lt s.right t.right) h in record { left = lt_told _ _ b.0; right = lt_told _ _ b.1 }
+meets_is : (x y : ℤ) → meets x y ≡ true → x ≡ y
+meets_is x y h = let b = and_both (int_le x y) (int_le y x) h in both x y (le_told _ _ b.0) (le_told _ _ b.1)
+  where
+    both : (x y : ℤ) → x ≤ℤ y → y ≤ℤ x → x ≡ y
+    both x y i j = omega (arith, linear)
 
-is_ascends : (s t : Strand) → AscendsTo s t → ascends s t ≡ true
-is_ascends s t h = both_and (int_lt s.left t.left) (int_lt s.right t.right) (lt_yes _ _ h.left) (lt_yes _ _ h.right)
+is_meets : (x y : ℤ) → x ≡ y → meets x y ≡ true
+is_meets x y e = both_and (int_le x y) (int_le y x) (le_yes _ _ (up x y e)) (le_yes _ _ (up y x (sym e)))
+  where
+    up : (x y : ℤ) → x ≡ y → x ≤ℤ y
+    up x y e = omega (arith, linear)
+
+follows_is : (s t : Strand) → follows s t ≡ true → IsFollowedBy s t
+follows_is s t h = ⊎_elim
+    (λ k. let b = and_both (int_lt s.left t.left) (int_lt s.right t.right) k in inl (record { left = lt_told _ _ b.0; right = lt_told _ _ b.1 }))
+    (λ k. let b = and_both (meets s.left t.left) (meets s.right t.right) k in inr (record { left = meets_is _ _ b.0; right = meets_is _ _ b.1 }))
+    (or_either (ascends s t) (meets s.left t.left && meets s.right t.right) h)
+
+is_follows : (s t : Strand) → IsFollowedBy s t → follows s t ≡ true
+is_follows s t (inl h) = ap (λ b. b || (meets s.left t.left && meets s.right t.right)) (both_and (int_lt s.left t.left) (int_lt s.right t.right) (lt_yes _ _ h.left) (lt_yes _ _ h.right))
+is_follows s t (inr h) = ap (λ b. ascends s t || b) (both_and (meets s.left t.left) (meets s.right t.right) (is_meets _ _ h.left) (is_meets _ _ h.right)) ∙ last (ascends s t)
+  where
+    last : (b : Bool) → (b || true) ≡ true
+    last true = refl
+    last false = refl
 
 clash_flips : (s t : Strand) → clash s t ≡ clash t s
 unfolding clash
-clash_flips s t = ap not (either (ascends s t) (ascends t s))
+clash_flips s t = ap not (either (follows s t) (follows t s))
   where
     either : (a b : Bool) → (a || b) ≡ (b || a)
     either true true = refl
@@ -392,34 +395,37 @@ clash_flips s t = ap not (either (ascends s t) (ascends t s))
     either false true = refl
     either false false = refl
 
-no_clash : (s t : Strand) → AscendsTo s t → clash s t ≡ false
+no_clash : (s t : Strand) → IsFollowedBy s t → clash s t ≡ false
 unfolding clash
-no_clash s t h = ap (λ b. not (b || ascends t s)) (is_ascends s t h)
+no_clash s t h = ap (λ b. not (b || follows t s)) (is_follows s t h)
 
-apart : (s t : Strand) → clash s t ≡ false → AscendsTo s t ⊎ AscendsTo t s
+apart : (s t : Strand) → clash s t ≡ false → IsFollowedBy s t ⊎ IsFollowedBy t s
 unfolding clash
-apart s t h = ⊎_elim (λ k. inl (ascends_is s t k)) (λ k. inr (ascends_is t s k)) (or_either (ascends s t) (ascends t s) (back _ h))
+apart s t h = ⊎_elim (λ k. inl (follows_is s t k)) (λ k. inr (follows_is t s k)) (or_either (follows s t) (follows t s) (back _ h))
   where
     back : (b : Bool) → not b ≡ false → b ≡ true
     back true h = refl
     back false h = sym h
 
-distinct : (ss sorted : List Strand) → IsPermutation ss sorted → AllPairs AscendsTo sorted → IsDistinct clash ss
+distinct : (ss sorted : List Strand) → IsPermutation ss sorted → AllPairs IsFollowedBy sorted → IsDistinct clash ss
 distinct ss sorted moved up = IsDistinct-IsPermutation clash clash_flips sorted ss (IsPermutation-sym ss sorted moved) (IsDistinct-from_apart clash sorted (λ i j d a b. no_clash _ _ (up i j d a b)))
 
-ascends_on : (s t u : Strand) → AscendsTo s t → AscendsTo t u → AscendsTo s u
-ascends_on s t u h k = record { left = lt_lt _ _ _ h.left k.left; right = lt_lt _ _ _ h.right k.right }
+follows_on : (s t u : Strand) → IsFollowedBy s t → IsFollowedBy t u → IsFollowedBy s u
+follows_on s t u (inl h) (inl k) = inl (record { left = lt_lt _ _ _ h.left k.left; right = lt_lt _ _ _ h.right k.right })
+follows_on s t u (inl h) (inr k) = inl (record { left = subst (λ x. s.left <ℤ x) k.left h.left; right = subst (λ x. s.right <ℤ x) k.right h.right })
+follows_on s t u (inr h) (inl k) = inl (record { left = subst (λ x. x <ℤ u.left) (sym h.left) k.left; right = subst (λ x. x <ℤ u.right) (sym h.right) k.right })
+follows_on s t u (inr h) (inr k) = inr (record { left = h.left ∙ k.left; right = h.right ∙ k.right })
 
-far : (ss : List Strand) → AllAdjacentBelow AscendsTo ss (length ss) → (i m : ℕ) (d : Strand) → i + (m + 1) < length ss → AscendsTo (get_or ss i d) (get_or ss (i + (m + 1)) d)
+far : (ss : List Strand) → AllAdjacentBelow IsFollowedBy ss (length ss) → (i m : ℕ) (d : Strand) → i + (m + 1) < length ss → IsFollowedBy (get_or ss i d) (get_or ss (i + (m + 1)) d)
 far ss h i zero d l = h i d l
 far ss h i (suc m) d l =
     let e : (i + (m + 1)) + 1 ≡ i + (suc m + 1) = omega arith in
-    ascends_on _ _ _ (far ss h i m d (omega arith)) (subst (λ k. AscendsTo (get_or ss (i + (m + 1)) d) (get_or ss k d)) e (h (i + (m + 1)) d (omega arith)))
+    follows_on _ _ _ (far ss h i m d (omega arith)) (subst (λ k. IsFollowedBy (get_or ss (i + (m + 1)) d) (get_or ss k d)) e (h (i + (m + 1)) d (omega arith)))
 
-pub all_ascend : (ss : List Strand) → AllAdjacentBelow AscendsTo ss (length ss) → AllPairs AscendsTo ss
+pub all_ascend : (ss : List Strand) → AllAdjacentBelow IsFollowedBy ss (length ss) → AllPairs IsFollowedBy ss
 all_ascend ss h i j d a b =
     let e : i + ((j - (i + 1)) + 1) ≡ j = omega arith in
-    subst (λ k. AscendsTo (get_or ss i d) (get_or ss k d)) e (far ss h i (j - (i + 1)) d (omega arith))
+    subst (λ k. IsFollowedBy (get_or ss i d) (get_or ss k d)) e (far ss h i (j - (i + 1)) d (omega arith))
 
 module _ (course : Course) (low high : ℤ) where
   strand_push : (ls : List Line) (ss : List Strand) (l : Line) (s : Strand) → AreStrands course low high ls ss → IsStrandSeen course low high l.edge s → AreStrands course low high (ls ++ l ∷ []) (ss ++ s ∷ [])
@@ -441,13 +447,13 @@ module _ (course : Course) (low high : ℤ) where
       (λ n. let r = strand_at ls ss h.1 m n in (r.0, in_cons s ss r.0 r.1, r.2))
       (from_cons l ls m k)
 
-  -- two lines have strands of which one ascends to the other
+  -- two lines have strands of which one is followed by the other
   record AreApart (e f : Edge) : Type 0 where
     s : Strand
     t : Strand
     first : IsStrandSeen course low high e s
     second : IsStrandSeen course low high f t
-    order : AscendsTo s t ⊎ AscendsTo t s
+    order : IsFollowedBy s t ⊎ IsFollowedBy t s
 
   turned_apart : (e f : Edge) → AreApart e f → AreApart f e
   turned_apart e f h = record { s = h.t; t = h.s; first = h.second; second = h.first; order = ⊎_elim (λ k. inr k) (λ k. inl k) h.order }
@@ -492,7 +498,7 @@ module _ (course : Course) (low high : ℤ) where
         (λ a. apart_no_crossing k.e k.f (subst (λ e. AreApart e k.f) r.2 (subst (λ f. AreApart r.0.edge f) u.2 a)) k.crosses)
         (two_lines lines ss h d r.0 u.0 r.1 u.1)
 
-  pub bundle_has_no_hot : (lines : List Line) (ss sorted : List Strand) → AreStrands course low high lines ss → IsPermutation ss sorted → AllPairs AscendsTo sorted → HasNoHot course low high (edges_of lines)
+  pub bundle_has_no_hot : (lines : List Line) (ss sorted : List Strand) → AreStrands course low high lines ss → IsPermutation ss sorted → AllPairs IsFollowedBy sorted → HasNoHot course low high (edges_of lines)
   bundle_has_no_hot lines ss sorted h moved up c from to k = none_hot c from to lines ss h (distinct ss sorted moved up) k
 
 -- where no pixel is hot, nothing has to be added

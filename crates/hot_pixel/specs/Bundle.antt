@@ -2,6 +2,7 @@
 use Rattle.std.specs.Prelude.{◌≡◌, ◌⊎◌, ◌^◌, ◌<ℤ◌, ◌≤ℤ◌, ℤ, pos, ◌+ℤ◌, ◌-ℤ◌, ◌*ℤ◌, List, [], ◌∷◌}
 use Rattle.geom.specs.declared.point.Pt.{Pt}
 use Rattle.geom.specs.declared.edge.Edge.{Edge}
+use Rattle.geom.specs.Limit.{AreInLimit}
 use Rattle.geom.specs.Determinant.{determinant}
 use Rattle.hot_pixel.specs.declared.lines.Line.{Line}
 use Rattle.hot_pixel.specs.declared.bundle.Course.{Course}
@@ -43,10 +44,11 @@ pub record IsQuotient (number divisor q : ℤ) : Type 0 where
 
 -- k is the number of parts in height / run, rounded down
 abbrev pub IsFloor : ℤ → ℤ → ℤ → Type 0
-IsFloor height run k = IsQuotient (height *ℤ pos (2 ^ 30)) run k
+IsFloor height run k = IsQuotient (height *ℤ pos (2 ^ 60)) run k
 
 -- s has the heights of e where the columns from low to high begin and end
 pub record IsStrand (low high : ℤ) (e : Edge) (s : Strand) : Type 0 where
+  pub within : AreInLimit e.p e.q
   pub through : RunsThrough low high e
   pub left : IsFloor (height e ((low +ℤ low) -ℤ pos 1)) (e.q.x -ℤ e.p.x) s.left
   pub right : IsFloor (height e ((high +ℤ high) +ℤ pos 1)) (e.q.x -ℤ e.p.x) s.right
@@ -55,6 +57,15 @@ pub record IsStrand (low high : ℤ) (e : Edge) (s : Strand) : Type 0 where
 pub record AscendsTo (s t : Strand) : Type 0 where
   pub left : s.left <ℤ t.left
   pub right : s.right <ℤ t.right
+
+-- s and t are equal at both borders
+pub record IsSame (s t : Strand) : Type 0 where
+  pub left : s.left ≡ t.left
+  pub right : s.right ≡ t.right
+
+-- t is greater than s at both borders, or equal to it
+abbrev pub IsFollowedBy : Strand → Strand → Type 0
+IsFollowedBy s t = AscendsTo s t ⊎ IsSame s t
 
 -- s is the strand of e as it is seen along the course
 abbrev pub IsStrandSeen : Course → ℤ → ℤ → Edge → Strand → Type 0

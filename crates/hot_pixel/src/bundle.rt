@@ -1,17 +1,16 @@
 //! Whether the lines of a rectangle are a bundle: they run side by side, so no pixel of it is hot for them.
 //!
 //! 1. Each line runs through the columns of the rectangle and has no end there.
-//! 2. A line's strand is its height at the left and at the right border of these columns.
-//! 3. The strands are sorted. Where they ascend at both borders, the lines stand in one order there, so no two of them have a
-//!    point in common between the borders.
+//! 2. A line's strand is its height at the left and at the right border of these columns, in parts of which heights that
+//!    differ have different numbers.
+//! 3. The strands are sorted. Where each follows the one before, higher at both borders or equal at both, the lines stand in
+//!    one order there: two of them have no point in common between the borders, or one carrier, and so no crossing.
 //! 4. The same is asked of the rows, with x and y exchanged.
-//!
-//! Heights are rounded down, so lines that stand nearer to each other than a part may be taken to meet.
 
 ghost use Rattle.std.specs.Prelude.{◌≡◌, ◌^◌, ◌<ℤ◌, ◌≤ℤ◌, ◌+ℤ◌, ◌-ℤ◌, All, AllPairs, IfOk, IfSome, IsTrue, pos};
 ghost use Rattle.geom.specs.declared.point.Pt.{Pt};
 ghost use Rattle.geom.specs.Limit.{AreInLimit, InLimit, IsQuotientWithin, IsWithin};
-ghost use Rattle.hot_pixel.specs.Bundle.{AreStrands, AscendsTo, HasNoHot, IsFloor, IsQuotient, IsSeen, IsStrand, RunsThrough, RunsThroughSeen, height};
+ghost use Rattle.hot_pixel.specs.Bundle.{AreStrands, HasNoHot, IsFloor, IsFollowedBy, IsQuotient, IsSeen, IsStrand, RunsThrough, RunsThroughSeen, height};
 ghost use Rattle.hot_pixel.specs.Halving.{IsHotFor, edges_of};
 ghost use Rattle.hot_pixel.specs.Rects.{IsIn};
 
@@ -20,8 +19,9 @@ use crate::lines::Line;
 use geom::{Edge, NoMemory, Pt, Rect};
 use std::alloc::Allocator;
 
-/// How many parts half a unit has.
-const PARTS: i64 = 1_073_741_824;
+/// How many parts half a unit has. The heights of two lines are fractions with denominators of at most 2^29: where they differ,
+/// it is by more than one part.
+const PARTS: i128 = 1_152_921_504_606_846_976;
 
 /// Which borders lines are looked at between.
 #[derive(Clone, Copy, Debug)]
@@ -33,16 +33,17 @@ enum Course {
 /// The heights of a line at two borders, in parts.
 #[derive(Clone, Copy, Debug, PartialEq, Eq, PartialOrd, Ord)]
 struct Strand {
-    left: i64,
-    right: i64,
+    left: i128,
+    right: i128,
 }
 
 impl Strand {
-    /// Whether it is less than another one at both borders.
-    fn ascends_to(&self, other: &Strand) -> bool
-        ensures { IsTrue result → AscendsTo self.now other.now }
+    /// Whether another one is greater than it at both borders, or equal to it.
+    fn is_followed_by(&self, other: &Strand) -> bool
+        ensures { IsTrue result → IsFollowedBy self.now other.now }
     {
         self.left < other.left && self.right < other.right
+            || self.left == other.left && self.right == other.right
     }
 }
 
@@ -93,24 +94,19 @@ fn all_run_through(course: Course, low: i32, high: i32, lines: &[Line]) -> bool
 }
 
 /// A quotient, rounded down.
-fn quotient_of(number: i64, divisor: i64) -> i64
+fn quotient_of(number: i128, divisor: i128) -> i128
     requires { pos 0 <ℤ divisor }
     ensures { IsQuotient number divisor result }
 {
     number.div_euclid(divisor)
 }
 
-/// The number of parts in a quotient, rounded down: those of its whole part, and those of what is left.
-fn parts_of(height: i64, run: i64) -> i64
-    requires height_in { IsQuotientWithin (2 ^ 30) height run }
-    requires positive { pos 0 <ℤ run }
-    requires run_in { run ≤ℤ pos (2 ^ 30) }
-    ensures value { IsFloor height run result }
-    ensures small { IsWithin (2 ^ 60) result }
+/// The number of parts in a quotient, rounded down.
+fn parts_of(height: i64, run: i64) -> i128
+    requires { pos 0 <ℤ run }
+    ensures { IsFloor height run result }
 {
-    let whole = quotient_of(height, run);
-    let rest = height - whole * run;
-    whole * PARTS + quotient_of(rest * PARTS, run)
+    quotient_of(i128::from(height) * PARTS, i128::from(run))
 }
 
 /// Twice the vector from half of a border on the axis to a point.
@@ -128,13 +124,12 @@ fn from_border(p: Pt, border: i64) -> Wide
 }
 
 /// Twice the height of a line over half of a border, in parts, rounded down.
-fn height_at(line: &Edge, border: i64) -> i64
+fn height_at(line: &Edge, border: i64) -> i128
     requires line_in { AreInLimit line.now.p line.now.q }
     requires from { (line.now.p.x +ℤ line.now.p.x) ≤ℤ border }
     requires to { border ≤ℤ (line.now.q.x +ℤ line.now.q.x) }
     requires apart { line.now.p.x <ℤ line.now.q.x }
-    ensures value { IsFloor (height line.now border) (line.now.q.x -ℤ line.now.p.x) result }
-    ensures small { IsWithin (2 ^ 60) result }
+    ensures { IsFloor (height line.now border) (line.now.q.x -ℤ line.now.p.x) result }
 {
     let run = line.p.vector_to(line.q);
     let height = determinant(run, from_border(line.p, border));
@@ -172,7 +167,7 @@ fn strand_of(low: i32, high: i32, line: &Edge) -> Strand
 fn crosses_last(strands: &[Strand], strand: &Strand) -> bool {
     match strands.last() {
         None => false,
-        Some(last) => !last.ascends_to(strand) && !strand.ascends_to(last),
+        Some(last) => !last.is_followed_by(strand) && !strand.is_followed_by(last),
     }
 }
 
@@ -201,12 +196,12 @@ fn strands<A: Allocator>(
     Ok(Some(list))
 }
 
-/// Whether strands ascend at both borders.
+/// Whether each strand is followed by the next one.
 fn ascend(strands: &[Strand]) -> bool
-    ensures { IsTrue result → AllPairs AscendsTo strands.now }
+    ensures { IsTrue result → AllPairs IsFollowedBy strands.now }
 {
     for k in 1..strands.len() {
-        if !strands[k - 1].ascends_to(&strands[k]) {
+        if !strands[k - 1].is_followed_by(&strands[k]) {
             return false;
         }
     }
