@@ -1,5 +1,5 @@
 -- The segments near a tile, from the bins, as candidates.
-use Rattle.std.proofs.Common.{◌≡◌, ℕ, ◌+◌, ◌<◌, List, [], ◌∷◌, refl, sym, ◌∙◌, ap, arith, subst, ◌↔◌, ⊎_elim}
+use Rattle.std.proofs.Common.{◌≡◌, ℕ, ◌<◌, List, [], ◌∷◌, refl, sym, ◌∙◌, ap, arith, subst, ◌↔◌, ⊎_elim}
 use Rattle.std.specs.Prelude.{AllPairs, Contains, Option, Some, None, slice_get, ◌≤ℤ◌}
 use Rattle.std.proofs.Math.IntN.{ℤ}
 use Rattle.geom.specs.declared.point.Pt.{Pt}
