@@ -1,7 +1,7 @@
 -- Lines that stand in one order at two borders have no point in common between them.
 use Rattle.std.proofs.Common.{◌≡◌, ◌⊎◌, ◌^◌, ◌+◌, ◌-◌, ◌*◌, ◌<◌, ◌≤◌, ℕ, zero, suc, inl, inr, List, [], ◌∷◌, ◌++◌, Bool, true, false, refl, sym, ◌∙◌, ap, arith, subst, get_or, length, take, ⊎_elim}
 use Rattle.std.proofs.Math.IntN.{ℤ, pos, negsuc, ◌+ℤ◌, ◌-ℤ◌, ◌*ℤ◌}
-use Rattle.std.specs.Prelude.{◌<ℤ◌, ◌≤ℤ◌, All, AllPairs, Contains, ◌&&◌, ◌||◌, not, int_le, int_lt}
+use Rattle.std.specs.Prelude.{◌<ℤ◌, ◌≤ℤ◌, neg_ℤ, All, AllPairs, Contains, ◌&&◌, ◌||◌, not, int_le, int_lt}
 use borrow.Author.Differences.{up, down}
 use Rattle.std.specs.Int.{int_div_euclid}
 use Rattle.std.specs.List.{AllAdjacentBelow, IsDistinct}
@@ -21,11 +21,11 @@ use Rattle.geom.specs.OnSegment.{IsOn}
 use Rattle.geom.specs.Pixel.{Point}
 use Rattle.geom.specs.Limit.{AreInLimit, InLimit, IsWithin, coordinate_limit}
 use Rattle.geom.proofs.Edges.{edge_path, before_strict}
-use Rattle.geom.proofs.Integers.{linear, mul_comm, mul_nonneg, mul_pos, by_sign, scale_le, scale_lt, unscale_lt, unscale_eq}
+use Rattle.geom.proofs.Integers.{linear, mul_comm, mul_nonneg, mul_pos, by_sign, scale_le, scale_lt, unscale_le, unscale_lt, unscale_eq}
 use Rattle.geom.proofs.Identity.{var, num, ◌⊕◌, ◌⊖◌, ◌⊗◌, ring}
 use Rattle.geom.proofs.Pixels.{in_pixel}
 use Rattle.geom.proofs.Points.{and_both, both_and, or_either}
-use Rattle.geom.proofs.Numbers.{gap_is, weak, zero_is_nonneg, le_le, strict_gap_is, positive_is_not_zero, lt_lt}
+use Rattle.geom.proofs.Numbers.{gap_is, weak, zero_is_nonneg, le_lt, le_le, strict_gap_is, positive_is_not_zero, lt_lt}
 use Rattle.geom.proofs.Tests.{le_told, le_yes, lt_told, lt_yes}
 use Rattle.geom.proofs.Nearest.{quotient-parts}
 use Rattle.hot_pixel.proofs.SweepLaws.{cross_turn}
@@ -115,6 +115,45 @@ quotient_from_parts a q k u = record { from = first q k a u.0; below = subst (λ
 pub quotient_is : (a r : ℤ) → pos 0 <ℤ r → IsQuotient a r (int_div_euclid a r)
 quotient_is a (pos k) p = quotient_from_parts a (int_div_euclid a (pos k)) k (quotient-parts a k (omega (arith, ints)))
 quotient_is a (negsuc k) p = absurd (omega (arith, ints))
+
+-- what is left of a number behind its quotient
+pub left_over : (a r q p : ℤ) → IsQuotient a r q → p ≡ q *ℤ r → (pos 0 ≤ℤ (a -ℤ p)) × ((a -ℤ p) <ℤ r)
+left_over a r q p f e = both a r p _ _ (mul_comm r q) (next r q) e f.from f.below
+  where
+    next : (r q : ℤ) → r *ℤ (q +ℤ pos 1) ≡ (q *ℤ r) +ℤ r
+    next r q = ring (r ∷ q ∷ []) (var 0 ⊗ (var 1 ⊕ num (pos 1))) ((var 1 ⊗ var 0) ⊕ var 0) refl
+
+    both : (a r p x y : ℤ) {z : ℤ} → x ≡ z → y ≡ z +ℤ r → p ≡ z → x ≤ℤ a → a <ℤ y → (pos 0 ≤ℤ (a -ℤ p)) × ((a -ℤ p) <ℤ r)
+    both a r p x y e f g h k = (omega (arith, linear), omega (arith, linear))
+
+-- the quotient of a number by a positive one is no farther from zero
+pub quotient_small : (a r q : ℤ) → pos 0 <ℤ r → IsWithin (2 ^ 60) a → IsQuotient a r q → IsWithin (2 ^ 60) q
+quotient_small a r q p w f = record { low = least q (unscale_lt (neg_ℤ (pos (2 ^ 60))) (q +ℤ pos 1) r (le_lt _ _ _ (low a r p w.low) f.below) (weak _ _ p)); high = unscale_le q (pos (2 ^ 60)) r (le_le _ _ _ f.from (high a r p w.high)) p }
+  where
+    low : (a r : ℤ) → pos 0 <ℤ r → neg_ℤ (pos (2 ^ 60)) ≤ℤ a → (r *ℤ neg_ℤ (pos (2 ^ 60))) ≤ℤ a
+    low a r p l = omega (arith, ints)
+
+    high : (a r : ℤ) → pos 0 <ℤ r → a ≤ℤ pos (2 ^ 60) → a ≤ℤ (r *ℤ pos (2 ^ 60))
+    high a r p h = omega (arith, ints)
+
+    least : (q : ℤ) → neg_ℤ (pos (2 ^ 60)) <ℤ (q +ℤ pos 1) → neg_ℤ (pos (2 ^ 60)) ≤ℤ q
+    least q l = omega (arith, ints)
+
+-- three quotients, each of what the one before left, are one
+pub three_quotients : (h r a b c x y z : ℤ) → pos 0 <ℤ r → h ≡ (r *ℤ a) +ℤ x → x *ℤ pos (2 ^ 30) ≡ (r *ℤ b) +ℤ y → y *ℤ pos (2 ^ 30) ≡ (r *ℤ c) +ℤ z → pos 0 ≤ℤ z → z <ℤ r → IsFloor h r ((((a *ℤ pos (2 ^ 30)) +ℤ b) *ℤ pos (2 ^ 30)) +ℤ c)
+three_quotients h r a b c x y z p u v w from below = record { from = least h x y z _ _ _ (spread r a b c) u v w from; below = most h x y z r _ _ _ _ (spread r a b c) (next r ((((a *ℤ pos (2 ^ 30)) +ℤ b) *ℤ pos (2 ^ 30)) +ℤ c)) u v w below }
+  where
+    spread : (r a b c : ℤ) → r *ℤ ((((a *ℤ pos (2 ^ 30)) +ℤ b) *ℤ pos (2 ^ 30)) +ℤ c) ≡ (((r *ℤ a) *ℤ pos (2 ^ 60)) +ℤ ((r *ℤ b) *ℤ pos (2 ^ 30))) +ℤ (r *ℤ c)
+    spread r a b c = ring (r ∷ a ∷ b ∷ c ∷ []) (var 0 ⊗ ((((var 1 ⊗ num (pos (2 ^ 30))) ⊕ var 2) ⊗ num (pos (2 ^ 30))) ⊕ var 3)) ((((var 0 ⊗ var 1) ⊗ num (pos (2 ^ 60))) ⊕ ((var 0 ⊗ var 2) ⊗ num (pos (2 ^ 30)))) ⊕ (var 0 ⊗ var 3)) refl
+
+    next : (r q : ℤ) → r *ℤ (q +ℤ pos 1) ≡ (r *ℤ q) +ℤ r
+    next r q = ring (r ∷ q ∷ []) (var 0 ⊗ (var 1 ⊕ num (pos 1))) ((var 0 ⊗ var 1) ⊕ var 0) refl
+
+    least : (h x y z a b c : ℤ) {n : ℤ} → n ≡ ((a *ℤ pos (2 ^ 60)) +ℤ (b *ℤ pos (2 ^ 30))) +ℤ c → h ≡ a +ℤ x → x *ℤ pos (2 ^ 30) ≡ b +ℤ y → y *ℤ pos (2 ^ 30) ≡ c +ℤ z → pos 0 ≤ℤ z → n ≤ℤ (h *ℤ pos (2 ^ 60))
+    least h x y z a b c e u v w k = omega (arith, ints)
+
+    most : (h x y z r a b c n : ℤ) → n ≡ ((a *ℤ pos (2 ^ 60)) +ℤ (b *ℤ pos (2 ^ 30))) +ℤ c → {m : ℤ} → m ≡ n +ℤ r → h ≡ a +ℤ x → x *ℤ pos (2 ^ 30) ≡ b +ℤ y → y *ℤ pos (2 ^ 30) ≡ c +ℤ z → z <ℤ r → (h *ℤ pos (2 ^ 60)) <ℤ m
+    most h x y z r a b c n e g u v w k = omega (arith, ints)
 
 -- ---- heights with the same number of parts
 module _ (h r h' r' k : ℤ) (p : pos 0 <ℤ r) (p' : pos 0 <ℤ r') (small : r ≤ℤ pos (2 ^ 30)) (small' : r' ≤ℤ pos (2 ^ 30)) (f : IsFloor h r k) (f' : IsFloor h' r' k) where
