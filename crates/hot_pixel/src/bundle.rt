@@ -25,16 +25,16 @@ const STEP: i64 = 1_073_741_824;
 
 /// Which borders lines are looked at between.
 #[derive(Clone, Copy, Debug)]
-enum Course {
+pub(crate) enum Course {
     Columns,
     Rows,
 }
 
 /// The heights of a line at two borders, in parts.
 #[derive(Clone, Copy, Debug, PartialEq, Eq, PartialOrd, Ord)]
-struct Strand {
-    left: i128,
-    right: i128,
+pub(crate) struct Strand {
+    pub left: i128,
+    pub right: i128,
 }
 
 impl Strand {
@@ -56,7 +56,7 @@ fn exchanged(p: Pt) -> Pt
 }
 
 /// A line as it is seen along its course: for rows with x and y exchanged.
-fn seen(course: Course, line: &Edge) -> Edge
+pub(crate) fn seen(course: Course, line: &Edge) -> Edge
     ensures { IsSeen course line.now result }
 {
     match course {
@@ -74,7 +74,7 @@ fn seen(course: Course, line: &Edge) -> Edge
 }
 
 /// Whether a line runs through the columns from low to high and has no end there.
-fn runs_through(low: i32, high: i32, line: &Edge) -> bool
+pub(crate) fn runs_through(low: i32, high: i32, line: &Edge) -> bool
     ensures { IsTrue result → RunsThrough low high line.now }
 {
     line.p.x < low && high < line.q.x
@@ -173,7 +173,7 @@ fn right_of(high: i32) -> i64
 }
 
 /// The strand of a line.
-fn strand_of(low: i32, high: i32, line: &Edge) -> Strand
+pub(crate) fn strand_of(low: i32, high: i32, line: &Edge) -> Strand
     requires line_in { AreInLimit line.now.p line.now.q }
     requires through { RunsThrough low high line.now }
     requires apart { low ≤ℤ high }
