@@ -1,7 +1,7 @@
 -- Lines that stand in one order at two borders have no point in common between them.
 use Rattle.std.proofs.Common.{◌≡◌, ◌⊎◌, ◌^◌, ◌+◌, ◌-◌, ◌*◌, ◌<◌, ◌≤◌, ℕ, zero, suc, inl, inr, List, [], ◌∷◌, ◌++◌, Bool, true, false, refl, sym, ◌∙◌, ap, arith, subst, get_or, length, take, ⊎_elim}
 use Rattle.std.proofs.Math.IntN.{ℤ, pos, negsuc, ◌+ℤ◌, ◌-ℤ◌, ◌*ℤ◌}
-use Rattle.std.specs.Prelude.{◌<ℤ◌, ◌≤ℤ◌, All, AllPairs, Contains, ◌&&◌, ◌||◌, not, int_le, int_lt}
+use Rattle.std.specs.Prelude.{◌<ℤ◌, ◌≤ℤ◌, neg_ℤ, All, AllPairs, Contains, ◌&&◌, ◌||◌, not, int_le, int_lt}
 use borrow.Author.Differences.{up, down}
 use Rattle.std.specs.Int.{int_div_euclid}
 use Rattle.std.specs.List.{AllAdjacentBelow, IsDistinct}
@@ -21,11 +21,11 @@ use Rattle.geom.specs.OnSegment.{IsOn}
 use Rattle.geom.specs.Pixel.{Point}
 use Rattle.geom.specs.Limit.{AreInLimit, InLimit, IsWithin, coordinate_limit}
 use Rattle.geom.proofs.Edges.{edge_path, before_strict}
-use Rattle.geom.proofs.Integers.{linear, mul_comm, mul_nonneg, mul_pos, by_sign, scale_le, scale_lt, unscale_lt, unscale_eq}
+use Rattle.geom.proofs.Integers.{linear, mul_comm, mul_nonneg, mul_pos, by_sign, scale_le, scale_lt, unscale_le, unscale_lt, unscale_eq}
 use Rattle.geom.proofs.Identity.{var, num, ◌⊕◌, ◌⊖◌, ◌⊗◌, ring}
 use Rattle.geom.proofs.Pixels.{in_pixel}
 use Rattle.geom.proofs.Points.{and_both, both_and, or_either}
-use Rattle.geom.proofs.Numbers.{gap_is, weak, zero_is_nonneg, le_le, strict_gap_is, positive_is_not_zero, lt_lt}
+use Rattle.geom.proofs.Numbers.{gap_is, weak, zero_is_nonneg, le_lt, le_le, strict_gap_is, positive_is_not_zero, lt_lt}
 use Rattle.geom.proofs.Tests.{le_told, le_yes, lt_told, lt_yes}
 use Rattle.geom.proofs.Nearest.{quotient-parts}
 use Rattle.hot_pixel.proofs.SweepLaws.{cross_turn}
@@ -116,6 +116,45 @@ pub quotient_is : (a r : ℤ) → pos 0 <ℤ r → IsQuotient a r (int_div_eucli
 quotient_is a (pos k) p = quotient_from_parts a (int_div_euclid a (pos k)) k (quotient-parts a k (omega (arith, ints)))
 quotient_is a (negsuc k) p = absurd (omega (arith, ints))
 
+-- what is left of a number behind its quotient
+pub left_over : (a r q p : ℤ) → IsQuotient a r q → p ≡ q *ℤ r → (pos 0 ≤ℤ (a -ℤ p)) × ((a -ℤ p) <ℤ r)
+left_over a r q p f e = both a r p _ _ (mul_comm r q) (next r q) e f.from f.below
+  where
+    next : (r q : ℤ) → r *ℤ (q +ℤ pos 1) ≡ (q *ℤ r) +ℤ r
+    next r q = ring (r ∷ q ∷ []) (var 0 ⊗ (var 1 ⊕ num (pos 1))) ((var 1 ⊗ var 0) ⊕ var 0) refl
+
+    both : (a r p x y : ℤ) {z : ℤ} → x ≡ z → y ≡ z +ℤ r → p ≡ z → x ≤ℤ a → a <ℤ y → (pos 0 ≤ℤ (a -ℤ p)) × ((a -ℤ p) <ℤ r)
+    both a r p x y e f g h k = (omega (arith, linear), omega (arith, linear))
+
+-- the quotient of a number by a positive one is no farther from zero
+pub quotient_small : (a r q : ℤ) → pos 0 <ℤ r → IsWithin (2 ^ 60) a → IsQuotient a r q → IsWithin (2 ^ 60) q
+quotient_small a r q p w f = record { low = least q (unscale_lt (neg_ℤ (pos (2 ^ 60))) (q +ℤ pos 1) r (le_lt _ _ _ (low a r p w.low) f.below) (weak _ _ p)); high = unscale_le q (pos (2 ^ 60)) r (le_le _ _ _ f.from (high a r p w.high)) p }
+  where
+    low : (a r : ℤ) → pos 0 <ℤ r → neg_ℤ (pos (2 ^ 60)) ≤ℤ a → (r *ℤ neg_ℤ (pos (2 ^ 60))) ≤ℤ a
+    low a r p l = omega (arith, ints)
+
+    high : (a r : ℤ) → pos 0 <ℤ r → a ≤ℤ pos (2 ^ 60) → a ≤ℤ (r *ℤ pos (2 ^ 60))
+    high a r p h = omega (arith, ints)
+
+    least : (q : ℤ) → neg_ℤ (pos (2 ^ 60)) <ℤ (q +ℤ pos 1) → neg_ℤ (pos (2 ^ 60)) ≤ℤ q
+    least q l = omega (arith, ints)
+
+-- three quotients, each of what the one before left, are one
+pub three_quotients : (h r a b c x y z : ℤ) → pos 0 <ℤ r → h ≡ (r *ℤ a) +ℤ x → x *ℤ pos (2 ^ 30) ≡ (r *ℤ b) +ℤ y → y *ℤ pos (2 ^ 30) ≡ (r *ℤ c) +ℤ z → pos 0 ≤ℤ z → z <ℤ r → IsFloor h r ((((a *ℤ pos (2 ^ 30)) +ℤ b) *ℤ pos (2 ^ 30)) +ℤ c)
+three_quotients h r a b c x y z p u v w from below = record { from = least h x y z _ _ _ (spread r a b c) u v w from; below = most h x y z r _ _ _ _ (spread r a b c) (next r ((((a *ℤ pos (2 ^ 30)) +ℤ b) *ℤ pos (2 ^ 30)) +ℤ c)) u v w below }
+  where
+    spread : (r a b c : ℤ) → r *ℤ ((((a *ℤ pos (2 ^ 30)) +ℤ b) *ℤ pos (2 ^ 30)) +ℤ c) ≡ (((r *ℤ a) *ℤ pos (2 ^ 60)) +ℤ ((r *ℤ b) *ℤ pos (2 ^ 30))) +ℤ (r *ℤ c)
+    spread r a b c = ring (r ∷ a ∷ b ∷ c ∷ []) (var 0 ⊗ ((((var 1 ⊗ num (pos (2 ^ 30))) ⊕ var 2) ⊗ num (pos (2 ^ 30))) ⊕ var 3)) ((((var 0 ⊗ var 1) ⊗ num (pos (2 ^ 60))) ⊕ ((var 0 ⊗ var 2) ⊗ num (pos (2 ^ 30)))) ⊕ (var 0 ⊗ var 3)) refl
+
+    next : (r q : ℤ) → r *ℤ (q +ℤ pos 1) ≡ (r *ℤ q) +ℤ r
+    next r q = ring (r ∷ q ∷ []) (var 0 ⊗ (var 1 ⊕ num (pos 1))) ((var 0 ⊗ var 1) ⊕ var 0) refl
+
+    least : (h x y z a b c : ℤ) {n : ℤ} → n ≡ ((a *ℤ pos (2 ^ 60)) +ℤ (b *ℤ pos (2 ^ 30))) +ℤ c → h ≡ a +ℤ x → x *ℤ pos (2 ^ 30) ≡ b +ℤ y → y *ℤ pos (2 ^ 30) ≡ c +ℤ z → pos 0 ≤ℤ z → n ≤ℤ (h *ℤ pos (2 ^ 60))
+    least h x y z a b c e u v w k = omega (arith, ints)
+
+    most : (h x y z r a b c n : ℤ) → n ≡ ((a *ℤ pos (2 ^ 60)) +ℤ (b *ℤ pos (2 ^ 30))) +ℤ c → {m : ℤ} → m ≡ n +ℤ r → h ≡ a +ℤ x → x *ℤ pos (2 ^ 30) ≡ b +ℤ y → y *ℤ pos (2 ^ 30) ≡ c +ℤ z → z <ℤ r → (h *ℤ pos (2 ^ 60)) <ℤ m
+    most h x y z r a b c n e g u v w k = omega (arith, ints)
+
 -- ---- heights with the same number of parts
 module _ (h r h' r' k : ℤ) (p : pos 0 <ℤ r) (p' : pos 0 <ℤ r') (small : r ≤ℤ pos (2 ^ 30)) (small' : r' ≤ℤ pos (2 ^ 30)) (f : IsFloor h r k) (f' : IsFloor h' r' k) where
   floors_near : (h *ℤ r') <ℤ (h' *ℤ r) → ⊥
@@ -163,14 +202,14 @@ product_of n zy zn py dx m dy h =
     ∙ ring (n ∷ zn ∷ py ∷ dx ∷ m ∷ dy ∷ []) (((var 1 ⊗ ((var 0 ⊗ var 2) ⊕ (var 4 ⊗ var 5))) ⊖ (var 0 ⊗ (var 1 ⊗ var 2))) ⊗ var 3) (var 1 ⊗ (var 4 ⊗ (var 5 ⊗ var 3))) refl
 
 -- the equation of the line from p to q, at z on it
-on_line : (p q : Pt) (z : Point) → IsOn p q z → (z.y -ℤ (z.n *ℤ p.y)) *ℤ (q.x -ℤ p.x) ≡ (z.x -ℤ (z.n *ℤ p.x)) *ℤ (q.y -ℤ p.y)
+pub on_line : (p q : Pt) (z : Point) → IsOn p q z → (z.y -ℤ (z.n *ℤ p.y)) *ℤ (q.x -ℤ p.x) ≡ (z.x -ℤ (z.n *ℤ p.x)) *ℤ (q.y -ℤ p.y)
 on_line p q z (m, n, h) =
     unscale_eq _ _ n
     (product_of n z.y z.n p.y (q.x -ℤ p.x) m (q.y -ℤ p.y) h.y_is ∙ ap (λ w. z.n *ℤ (m *ℤ w)) (mul_comm (q.y -ℤ p.y) (q.x -ℤ p.x)) ∙ sym (product_of n z.x z.n p.x (q.y -ℤ p.y) m (q.x -ℤ p.x) h.x_is))
     h.ratio.positive
 
 -- twice the height over 0, times the run
-abbrev base : Edge → ℤ
+abbrev pub base : Edge → ℤ
 base e = ((e.q.x -ℤ e.p.x) *ℤ (e.p.y +ℤ e.p.y)) -ℤ ((e.q.y -ℤ e.p.y) *ℤ (e.p.x +ℤ e.p.x))
 
 height_is : (e f : Edge) (b : ℤ) → ((base f *ℤ (e.q.x -ℤ e.p.x)) -ℤ (base e *ℤ (f.q.x -ℤ f.p.x))) +ℤ (b *ℤ (((f.q.y -ℤ f.p.y) *ℤ (e.q.x -ℤ e.p.x)) -ℤ ((e.q.y -ℤ e.p.y) *ℤ (f.q.x -ℤ f.p.x))))
@@ -184,7 +223,7 @@ height_is e f b = lines (e.q.x -ℤ e.p.x) (e.q.y -ℤ e.p.y) e.p.x e.p.y (f.q.x
         ((((var 4 ⊗ (var 7 ⊕ var 7)) ⊖ (var 5 ⊗ ((var 6 ⊕ var 6) ⊖ var 8))) ⊗ var 0) ⊖ (((var 0 ⊗ (var 3 ⊕ var 3)) ⊖ (var 1 ⊗ ((var 2 ⊕ var 2) ⊖ var 8))) ⊗ var 4)) refl
 
 -- twice the height of z, by the line that it is on
-doubled : (r d x y zx zy n : ℤ) → (zy -ℤ (n *ℤ y)) *ℤ r ≡ (zx -ℤ (n *ℤ x)) *ℤ d → (n *ℤ ((r *ℤ (y +ℤ y)) -ℤ (d *ℤ (x +ℤ x)))) +ℤ ((zx +ℤ zx) *ℤ d) ≡ r *ℤ (zy +ℤ zy)
+pub doubled : (r d x y zx zy n : ℤ) → (zy -ℤ (n *ℤ y)) *ℤ r ≡ (zx -ℤ (n *ℤ x)) *ℤ d → (n *ℤ ((r *ℤ (y +ℤ y)) -ℤ (d *ℤ (x +ℤ x)))) +ℤ ((zx +ℤ zx) *ℤ d) ≡ r *ℤ (zy +ℤ zy)
 doubled r d x y zx zy n h =
     ring (r ∷ d ∷ x ∷ y ∷ zx ∷ zy ∷ n ∷ []) ((var 6 ⊗ ((var 0 ⊗ (var 3 ⊕ var 3)) ⊖ (var 1 ⊗ (var 2 ⊕ var 2)))) ⊕ ((var 4 ⊕ var 4) ⊗ var 1)) ((num (pos 2) ⊗ (var 6 ⊗ (var 0 ⊗ var 3))) ⊕ (num (pos 2) ⊗ ((var 4 ⊖ (var 6 ⊗ var 2)) ⊗ var 1))) refl
     ∙ ap (λ w. (pos 2 *ℤ (n *ℤ (r *ℤ y))) +ℤ (pos 2 *ℤ w)) (sym h)
@@ -198,10 +237,10 @@ on_both a r d c s g x y n h k =
     ∙ ring (r ∷ s ∷ y ∷ []) (((var 1 ⊗ var 2) ⊗ var 0) ⊖ ((var 0 ⊗ var 2) ⊗ var 1)) (num (pos 0)) refl
 
 -- ---- two lines that stand in one order at both borders
-run_positive : (low high x p q : ℤ) → p <ℤ low → high <ℤ q → low ≤ℤ x → x ≤ℤ high → pos 0 <ℤ (q -ℤ p)
+pub run_positive : (low high x p q : ℤ) → p <ℤ low → high <ℤ q → low ≤ℤ x → x ≤ℤ high → pos 0 <ℤ (q -ℤ p)
 run_positive low high x p q a b c d = omega (arith, linear)
 
-left_of : (n low x z : ℤ) → pos 0 <ℤ n → low ≤ℤ x → (n *ℤ ((pos 2 *ℤ x) -ℤ pos 1)) ≤ℤ (pos 2 *ℤ z) → (n *ℤ ((low +ℤ low) -ℤ pos 1)) ≤ℤ (z +ℤ z)
+pub left_of : (n low x z : ℤ) → pos 0 <ℤ n → low ≤ℤ x → (n *ℤ ((pos 2 *ℤ x) -ℤ pos 1)) ≤ℤ (pos 2 *ℤ z) → (n *ℤ ((low +ℤ low) -ℤ pos 1)) ≤ℤ (z +ℤ z)
 left_of n low x z p l h = join _ _ z (scale_le ((low +ℤ low) -ℤ pos 1) ((pos 2 *ℤ x) -ℤ pos 1) n (apart low x l) (weak _ _ p)) h
   where
     apart : (low x : ℤ) → low ≤ℤ x → ((low +ℤ low) -ℤ pos 1) ≤ℤ ((pos 2 *ℤ x) -ℤ pos 1)
@@ -210,7 +249,7 @@ left_of n low x z p l h = join _ _ z (scale_le ((low +ℤ low) -ℤ pos 1) ((pos
     join : (a b z : ℤ) → a ≤ℤ b → b ≤ℤ (pos 2 *ℤ z) → a ≤ℤ (z +ℤ z)
     join a b z i j = omega (arith, ints)
 
-right_of : (n high x z : ℤ) → pos 0 <ℤ n → x ≤ℤ high → (pos 2 *ℤ z) <ℤ (n *ℤ ((pos 2 *ℤ x) +ℤ pos 1)) → (z +ℤ z) ≤ℤ (n *ℤ ((high +ℤ high) +ℤ pos 1))
+pub right_of : (n high x z : ℤ) → pos 0 <ℤ n → x ≤ℤ high → (pos 2 *ℤ z) <ℤ (n *ℤ ((pos 2 *ℤ x) +ℤ pos 1)) → (z +ℤ z) ≤ℤ (n *ℤ ((high +ℤ high) +ℤ pos 1))
 right_of n high x z p l h = join _ _ z (scale_le ((pos 2 *ℤ x) +ℤ pos 1) ((high +ℤ high) +ℤ pos 1) n (apart high x l) (weak _ _ p)) h
   where
     apart : (high x : ℤ) → x ≤ℤ high → ((pos 2 *ℤ x) +ℤ pos 1) ≤ℤ ((high +ℤ high) +ℤ pos 1)
@@ -235,7 +274,7 @@ module _ (low high : ℤ) (e f : Edge) (s t : Strand) (c : Pt) (l : low ≤ℤ c
       let nought = on_both (base e) (e.q.x -ℤ e.p.x) (e.q.y -ℤ e.p.y) (base f) (f.q.x -ℤ f.p.x) (f.q.y -ℤ f.p.y) (z.x +ℤ z.x) (z.y +ℤ z.y) z.n at_e at_f in
       positive_is_not_zero _ (between _ _ ((low +ℤ low) -ℤ pos 1) ((high +ℤ high) +ℤ pos 1) (z.x +ℤ z.x) z.n z.positive (left_of z.n low c.x z.x z.positive l column.from) (right_of z.n high c.x z.x z.positive r column.below) (below_at _ _ _ es.left ft.left up.left) (below_at _ _ _ es.right ft.right up.right)) nought
 
-  same_at : (b k k' : ℤ) → IsFloor (height e b) (e.q.x -ℤ e.p.x) k → IsFloor (height f b) (f.q.x -ℤ f.p.x) k' → k ≡ k'
+  pub same_at : (b k k' : ℤ) → IsFloor (height e b) (e.q.x -ℤ e.p.x) k → IsFloor (height f b) (f.q.x -ℤ f.p.x) k' → k ≡ k'
       → ((base f *ℤ (e.q.x -ℤ e.p.x)) -ℤ (base e *ℤ (f.q.x -ℤ f.p.x))) +ℤ (b *ℤ (((f.q.y -ℤ f.p.y) *ℤ (e.q.x -ℤ e.p.x)) -ℤ ((e.q.y -ℤ e.p.y) *ℤ (f.q.x -ℤ f.p.x)))) ≡ pos 0
   same_at b k k' u v is = height_is e f b ∙ gone _ _ (floors_equal _ _ _ _ k (run_positive low high c.x e.p.x e.q.x es.through.from es.through.to l r) (run_positive low high c.x f.p.x f.q.x ft.through.from ft.through.to l r) (run_small e es.within) (run_small f ft.within) u (subst (λ n. IsFloor (height f b) (f.q.x -ℤ f.p.x) n) (sym is) v))
     where
@@ -249,7 +288,7 @@ module _ (low high : ℤ) (e f : Edge) (s t : Strand) (c : Pt) (l : low ≤ℤ c
           small x y h k = let a = h.low in let b = k.high in omega (arith, ints)
 
   -- two lines that have the same strand are parallel
-  same_parallel : IsSame s t → ((e.q.x -ℤ e.p.x) *ℤ (f.q.y -ℤ f.p.y)) -ℤ ((e.q.y -ℤ e.p.y) *ℤ (f.q.x -ℤ f.p.x)) ≡ pos 0
+  pub same_parallel : IsSame s t → ((e.q.x -ℤ e.p.x) *ℤ (f.q.y -ℤ f.p.y)) -ℤ ((e.q.y -ℤ e.p.y) *ℤ (f.q.x -ℤ f.p.x)) ≡ pos 0
   same_parallel h = ap (λ w. w -ℤ ((e.q.y -ℤ e.p.y) *ℤ (f.q.x -ℤ f.p.x))) (mul_comm (e.q.x -ℤ e.p.x) (f.q.y -ℤ f.p.y)) ∙ level _ _ _ _ (wide low high c.x l r) (same_at _ _ _ es.left ft.left h.left) (same_at _ _ _ es.right ft.right h.right)
     where
       wide : (low high x : ℤ) → low ≤ℤ x → x ≤ℤ high → pos 0 <ℤ (((high +ℤ high) +ℤ pos 1) -ℤ ((low +ℤ low) -ℤ pos 1))
@@ -293,10 +332,10 @@ seen_limit Rows e f (inr h) l = record { a_in = subst (λ p. InLimit p) (sym h.0
 pub all_more : (P : Line → Type 0) (lines : List Line) (i : ℕ) (l : Line) → i < length lines → l ≡ get_or lines i l → All P (take i lines) → P l → All P (take (i + 1) lines)
 all_more P lines i l below is h k = subst (λ (ls : List Line). All P ls) (sym (take_more lines i l below ∙ ap (λ (x : Line). take i lines ++ x ∷ []) (sym is))) (All-push P (take i lines) l h k)
 
-flip : Seg → Seg
+pub flip : Seg → Seg
 flip s = record { a = exchanged s.a; b = exchanged s.b; layer = s.layer; proper = λ h. s.proper (ap exchanged h) }
 
-flip_cross : (s t : Seg) (c : Pt) → CrossIn s t c → CrossIn (flip s) (flip t) (exchanged c)
+pub flip_cross : (s t : Seg) (c : Pt) → CrossIn s t c → CrossIn (flip s) (flip t) (exchanged c)
 unfolding flip
 flip_cross s t c h = record {
   not_parallel = λ q. h.not_parallel (turned ((s.b.x -ℤ s.a.x) *ℤ (t.b.y -ℤ t.a.y)) ((s.b.y -ℤ s.a.y) *ℤ (t.b.x -ℤ t.a.x)) q);
@@ -312,10 +351,15 @@ flip_cross s t c h = record {
     flip_on : (a b : Pt) (z : Point) → IsOn a b z → IsOn (exchanged a) (exchanged b) (record { x = z.y; y = z.x; n = z.n; positive = z.positive })
     flip_on a b z (m, n, k) = (m, n, record { ratio = k.ratio; x_is = k.y_is; y_is = k.x_is })
 
-flip_line : (e f : Edge) → IsSeen Rows e f → IsLine f (flip (segment_of e))
+pub flip_line : (e f : Edge) → IsSeen Rows e f → IsLine f (flip (segment_of e))
 unfolding flip segment_of
 flip_line e f (inl h) = inl h
 flip_line e f (inr h) = inr h
+
+-- exchanged twice, the ends are those of before
+pub flip_back : (e : Edge) → IsLine e (flip (flip (segment_of e)))
+unfolding flip segment_of
+flip_back e = inl (refl, refl)
 
 pub cross_seen : (course : Course) (e f e' f' : Edge) (c : Pt) → IsSeen course e e' → IsSeen course f f' → CrossAt e f c → CrossAt e' f' (seen_point course c)
 cross_seen Columns e f e' f' c h k x = subst (λ g. CrossAt g f' c) h (subst (λ g. CrossAt e g c) k x)

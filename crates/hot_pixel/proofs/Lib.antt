@@ -7,3 +7,4 @@ pub mod HalvingLaws
 pub mod NearLaws
 pub mod BundleLaws
 pub mod EndLaws
+pub mod CarrierLaws

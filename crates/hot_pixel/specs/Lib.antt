@@ -3,3 +3,4 @@ pub mod Rects
 pub mod Lines
 pub mod Halving
 pub mod Bundle
+pub mod Carriers

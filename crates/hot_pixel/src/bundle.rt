@@ -7,7 +7,7 @@
 //!    one order there: two of them have no point in common between the borders, or one carrier, and so no crossing.
 //! 4. The same is asked of the rows, with x and y exchanged.
 
-ghost use Rattle.std.specs.Prelude.{◌≡◌, ◌^◌, ◌<ℤ◌, ◌≤ℤ◌, ◌+ℤ◌, ◌-ℤ◌, All, AllPairs, IfOk, IfSome, IsTrue, pos};
+ghost use Rattle.std.specs.Prelude.{◌≡◌, ◌^◌, ◌<ℤ◌, ◌≤ℤ◌, ◌+ℤ◌, ◌-ℤ◌, ◌*ℤ◌, All, AllPairs, IfOk, IfSome, IsTrue, pos};
 ghost use Rattle.geom.specs.declared.point.Pt.{Pt};
 ghost use Rattle.geom.specs.Limit.{AreInLimit, InLimit, IsQuotientWithin, IsWithin};
 ghost use Rattle.hot_pixel.specs.Bundle.{AreStrands, HasNoHot, IsFloor, IsFollowedBy, IsQuotient, IsSeen, IsStrand, RunsThrough, RunsThroughSeen, height};
@@ -19,22 +19,22 @@ use crate::lines::Line;
 use geom::{Edge, NoMemory, Pt, Rect};
 use std::alloc::Allocator;
 
-/// How many parts half a unit has. The heights of two lines are fractions with denominators of at most 2^29: where they differ,
-/// it is by more than one part.
-const PARTS: i128 = 1_152_921_504_606_846_976;
+/// How many steps half a unit has, and parts a step. The heights of two lines are fractions with denominators of at most 2^29: where
+/// they differ, it is by more than one part.
+const STEP: i64 = 1_073_741_824;
 
 /// Which borders lines are looked at between.
 #[derive(Clone, Copy, Debug)]
-enum Course {
+pub(crate) enum Course {
     Columns,
     Rows,
 }
 
 /// The heights of a line at two borders, in parts.
 #[derive(Clone, Copy, Debug, PartialEq, Eq, PartialOrd, Ord)]
-struct Strand {
-    left: i128,
-    right: i128,
+pub(crate) struct Strand {
+    pub left: i128,
+    pub right: i128,
 }
 
 impl Strand {
@@ -56,7 +56,7 @@ fn exchanged(p: Pt) -> Pt
 }
 
 /// A line as it is seen along its course: for rows with x and y exchanged.
-fn seen(course: Course, line: &Edge) -> Edge
+pub(crate) fn seen(course: Course, line: &Edge) -> Edge
     ensures { IsSeen course line.now result }
 {
     match course {
@@ -74,7 +74,7 @@ fn seen(course: Course, line: &Edge) -> Edge
 }
 
 /// Whether a line runs through the columns from low to high and has no end there.
-fn runs_through(low: i32, high: i32, line: &Edge) -> bool
+pub(crate) fn runs_through(low: i32, high: i32, line: &Edge) -> bool
     ensures { IsTrue result → RunsThrough low high line.now }
 {
     line.p.x < low && high < line.q.x
@@ -93,20 +93,42 @@ fn all_run_through(course: Course, low: i32, high: i32, lines: &[Line]) -> bool
     true
 }
 
-/// A quotient, rounded down.
-fn quotient_of(number: i128, divisor: i128) -> i128
-    requires { pos 0 <ℤ divisor }
-    ensures { IsQuotient number divisor result }
+/// A quotient, rounded down, and what is left of the number.
+fn parted(number: i64, divisor: i64) -> (i64, i64)
+    requires positive { pos 0 <ℤ divisor }
+    requires small { IsWithin (2 ^ 60) number }
+    requires divisor_small { divisor ≤ℤ pos (2 ^ 30) }
+    ensures sum { number ≡ (divisor *ℤ result.0) +ℤ result.1 }
+    ensures from { pos 0 ≤ℤ result.1 }
+    ensures below { result.1 <ℤ divisor }
+    ensures within { IsWithin (2 ^ 60) result.0 }
 {
-    number.div_euclid(divisor)
+    let quotient = number.div_euclid(divisor);
+    (quotient, number - quotient * divisor)
+}
+
+/// The number of parts in some halves of a unit, some steps, and some parts.
+fn summed(halves: i64, steps: i64, parts: i64) -> i128
+    requires halves_in { IsWithin (2 ^ 60) halves }
+    requires steps_in { IsWithin (2 ^ 60) steps }
+    requires parts_in { IsWithin (2 ^ 60) parts }
+    ensures { result ≡ (((halves *ℤ pos (2 ^ 30)) +ℤ steps) *ℤ pos (2 ^ 30)) +ℤ parts }
+{
+    let step = i128::from(STEP);
+    (i128::from(halves) * step + i128::from(steps)) * step + i128::from(parts)
 }
 
 /// The number of parts in a quotient, rounded down.
 fn parts_of(height: i64, run: i64) -> i128
-    requires { pos 0 <ℤ run }
+    requires small { IsWithin (2 ^ 60) height }
+    requires positive { pos 0 <ℤ run }
+    requires run_small { run ≤ℤ pos (2 ^ 30) }
     ensures { IsFloor height run result }
 {
-    quotient_of(i128::from(height) * PARTS, i128::from(run))
+    let (halves, rest) = parted(height, run);
+    let (steps, rest) = parted(rest * STEP, run);
+    let (parts, _) = parted(rest * STEP, run);
+    summed(halves, steps, parts)
 }
 
 /// Twice the vector from half of a border on the axis to a point.
@@ -151,7 +173,7 @@ fn right_of(high: i32) -> i64
 }
 
 /// The strand of a line.
-fn strand_of(low: i32, high: i32, line: &Edge) -> Strand
+pub(crate) fn strand_of(low: i32, high: i32, line: &Edge) -> Strand
     requires line_in { AreInLimit line.now.p line.now.q }
     requires through { RunsThrough low high line.now }
     requires apart { low ≤ℤ high }

@@ -1,4 +1,5 @@
-//! The hot pixels of a rectangle with few lines: by all ends and all pairs.
+//! The hot pixels of a rectangle with few lines, or of a single pixel: by all ends and all pairs, of many lines by the pairs of
+//! one line of each carrier.
 
 ghost use Rattle.std.specs.Prelude.{◌≡◌, ◌⊎◌, ◌≤◌, All, Contains, IsTrue, OnOk, false, length, take, true};
 ghost use Rattle.geom.specs.declared.point.Pt.{Pt};
@@ -7,11 +8,15 @@ ghost use Rattle.hot_pixel.specs.Halving.{edges_of, HasEndsToo, HasHot, IsEndOf}
 ghost use Rattle.hot_pixel.specs.Lines.{CrossAt, HasAllCrossed, HasCrossed};
 ghost use Rattle.hot_pixel.specs.Rects.{IsIn};
 
+use crate::carrier::one_of_each_carrier;
 use crate::lines::{Line, on_line};
 use crate::pixels::push_in;
 use crossing::{cross, may_meet};
 use geom::{Edge, NoMemory, Pt, Rect};
 use std::alloc::Allocator;
+
+/// How many lines are few: all pairs of them are crossed.
+const FEW: usize = 32;
 
 /// Adds the ends of the lines that lie in the rectangle.
 fn add_ends<A: Allocator>(
@@ -112,8 +117,30 @@ fn cross_pairs<A: Allocator>(
     Ok(())
 }
 
-/// Adds the pixels of a rectangle that are hot for its lines, by all ends and all pairs.
-pub fn add_hot<A: Allocator>(
+/// Adds the crossings of lines that lie in the rectangle, where all ends there are found. Where lines are many, one of each
+/// carrier is crossed with the others.
+fn add_crossings<A: Allocator + Copy>(
+    alloc: A,
+    rect: &Rect,
+    lines: &[Line],
+    found: &mut Vec<Pt, A>,
+) -> Result<(), NoMemory>
+    requires lines_in { All (λ l. AreInLimit l.edge.p l.edge.q) lines.now }
+    requires ends { (c : Pt) → IsEndOf (edges_of lines.now) c → IsIn rect.now c → Contains found.old.items c }
+    ensures { OnOk result (HasAllCrossed rect.now (edges_of lines.now) found.old.items found.new.items) }
+{
+    if lines.len() <= FEW || is_found(rect, found) {
+        return cross_pairs(rect, lines, found);
+    }
+    let kept = one_of_each_carrier(alloc, rect, lines)?;
+    cross_pairs(rect, &kept, found)?;
+    Ok(())
+}
+
+/// Adds the pixels of a rectangle that are hot for its lines, by all ends and the pairs of all lines, or of one line of each
+/// carrier.
+pub fn add_hot<A: Allocator + Copy>(
+    alloc: A,
     rect: &Rect,
     lines: &[Line],
     found: &mut Vec<Pt, A>,
@@ -122,6 +149,6 @@ pub fn add_hot<A: Allocator>(
     ensures { OnOk result (HasHot rect.now (edges_of lines.now) found.old.items found.new.items) }
 {
     add_ends(rect, lines, found)?;
-    cross_pairs(rect, lines, found)?;
+    add_crossings(alloc, rect, lines, found)?;
     Ok(())
 }

@@ -2,6 +2,7 @@
 #![tactic(auto)]
 
 mod bundle;
+mod carrier;
 mod halving;
 mod hot;
 mod leaf;

@@ -2,7 +2,7 @@
 //!
 //! 1. A rectangle with many lines that run side by side is left: it has no hot pixel.
 //! 2. Another one with many lines is halved, and each half is left with the lines that may pass it.
-//! 3. Where few are left, or one pixel, all pairs are crossed.
+//! 3. Where few are left, or one pixel, all pairs are crossed; in a pixel with many lines those of one line of each carrier.
 //! 4. Each line is tested against each hot pixel that was found there. Where it meets one, each segment on the line has a
 //!    record.
 
@@ -108,7 +108,7 @@ fn add_records<A: Allocator>(
     Ok(())
 }
 
-/// Adds the pixels of a rectangle that are hot for its lines, by all ends and all pairs, and the records there.
+/// Adds the pixels of a rectangle that are hot for its lines, by ends and pairs, and the records there.
 fn add_all<A: Allocator + Copy>(
     alloc: A,
     segments: &[Seg],
@@ -125,7 +125,7 @@ fn add_all<A: Allocator + Copy>(
     ensures records { OnOk result (AddsRecords segments.now table.now rect.now lines.now found.old.records.items found.new.records.items) }
 {
     let mut here = Vec::with_capacity(alloc, lines.len())?;
-    add_hot(rect, lines, &mut here)?;
+    add_hot(alloc, rect, lines, &mut here)?;
     let pixels = ascending(here);
     add_records(&mut found.records, segments, table, lines, &pixels)?;
     found.pixels.extend_from_slice(&pixels)?;

@@ -1,6 +1,6 @@
-use Rattle.std.proofs.Common.{◌≡◌, ◌^◌, ◌<◌, w64, to_z, of_z, to_z-of_z, lit<, ◌∙◌, ap, arith}
+use Rattle.std.proofs.Common.{◌≡◌, ◌^◌, ◌<◌, w64, to_z, of_z, to_z-of_z, lit<, ◌∙◌, ap, sym, subst, arith}
 use Rattle.std.proofs.Math.IntN.{ℤ, pos, ◌+ℤ◌, ◌-ℤ◌}
-use Rattle.std.specs.Prelude.{◌<ℤ◌}
+use Rattle.std.specs.Prelude.{◌<ℤ◌, ◌≤ℤ◌}
 use Rattle.std.specs.Int.{w128}
 use Rattle.std.proofs.lemmas.Int.{ints}
 use lib.Signed.{mag}
@@ -19,15 +19,27 @@ run_back r x h e = to_z-of_z (fits_64 (2 ^ 29) r (lit< tt) h) ∙ e
 positive_back : (r p q : ℤ) → to_z w64 (of_z w64 r) ≡ q -ℤ p → p <ℤ q → pos 0 <ℤ to_z w64 (of_z w64 r)
 positive_back r p q e l = omega (arith, ints)
 
+small_back : (r : ℤ) → IsWithin (2 ^ 29) r → to_z w64 (of_z w64 r) ≤ℤ pos (2 ^ 30)
+small_back r h = omega (arith, ints)
+
+height_small : (n : ℤ) → IsWithin (2 ^ 60) n → IsWithin (2 ^ 60) (to_z w64 (of_z w64 n))
+height_small n h = subst (λ x. IsWithin (2 ^ 60) x) (sym (back n n h (λ i. n))) h
+
 floor_back : (n h r x k : ℤ) → to_z w64 (of_z w64 n) ≡ h → to_z w64 (of_z w64 r) ≡ x → mag k < 2 ^ 127 → IsFloor (to_z w64 (of_z w64 n)) (to_z w64 (of_z w64 r)) k → IsFloor h x (to_z w128 (of_z w128 k))
 floor_back n h r x k e f small u =
     let g : to_z w128 (of_z w128 k) ≡ k = omega (arith, ints) in
     rw g (rw (e, f) at u)
 
-pub parts_of-requires : goal.parts_of-requires
-parts_of-requires c =
+pub parts_of-requires-clause-small : goal.parts_of-requires-clause-small
+parts_of-requires-clause-small c = height_small c.determinant-height.result c.determinant-height.ensures.small
+
+pub parts_of-requires-clause-positive : goal.parts_of-requires-clause-positive
+parts_of-requires-clause-positive c =
     let run = c.vector_to-run.result in
     positive_back run.dx c.args.line.now.p.x c.args.line.now.q.x (run_back run.dx _ run.dx_small c.vector_to-run.ensures.dx) c.requires.apart
+
+pub parts_of-requires-clause-run_small : goal.parts_of-requires-clause-run_small
+parts_of-requires-clause-run_small c = small_back c.vector_to-run.result.dx c.vector_to-run.result.dx_small
 
 pub returns : goal.returns
 returns c =
