@@ -9,3 +9,4 @@ pub mod Totals
 pub mod Trues
 pub mod Whole
 pub mod Completed
+pub mod Emptied

@@ -1,7 +1,7 @@
 //! A whole pass over the numbers below a limit: draw, desk, workers, and the book at the end.
 
 ghost use Rattle.std.specs.Prelude.{◌≡◌, ◌+◌, ◌<◌, ◌≤◌, ℕ, true, All, IfOk, IsSome, None, flat_map, length, slice_index_or, sum, vec_len};
-ghost use Rattle.tile_book.specs.Books.{StandInOrder};
+ghost use Rattle.tile_book.specs.Books.{AreMadeOfBook, IsReplay, KeepsHeld, StandInOrder, pieces};
 ghost use Rattle.tile_book.specs.Growth.{HasGrown};
 
 use crate::book::{Book, Numbered};
@@ -67,12 +67,12 @@ where
 pub struct AllPieces<P, A: Allocator> {
     /// In the order of their numbers.
     pub pieces: Vec<P, A>,
-    /// How many of them came back from the book and were made anew.
+    /// How many places the book left empty, whose pieces were made anew.
     pub remade: u32,
 }
 
-/// The pieces of all numbers below a limit, in the order of their numbers: those that `fill` holds, and where one came back, a
-/// new one.
+/// The pieces of all numbers below a limit, in the order of their numbers: those that `fill` holds, and for each place that it
+/// left empty, since a piece came back, a new one.
 pub fn make_all<
     A: Allocator + Copy + Send + Sync,
     J: Job<A> + Sync,
@@ -99,6 +99,7 @@ where
     ensures one_each { IfOk result (λ all. length all.pieces.items ≡ limit) }
     ensures in_order { IfOk result (λ all. StandInOrder J.Piece.Numbered.number_of all.pieces.items) }
     ensures few { IfOk result (λ all. all.remade ≤ limit) }
+    ensures of_a_book { IfOk result (λ all. ∥ AreMadeOfBook J.Piece.Numbered.number_of limit all.pieces.items all.remade ∥₁) }
 {
     let filled: FilledBook<J::Piece, L, A> = fill(
         rt, alloc, blank, limit, workers, job, phase, gate,
@@ -107,7 +108,8 @@ where
     complete(alloc, job, book)
 }
 
-/// The pieces of a book, and a new one of each number that it lacks.
+/// The pieces of a book, each at the place of its number, and a new one for each place that it left empty: `remade` is the
+/// number of these, and 0 where the book is full.
 pub fn complete<A: Allocator + Copy, J: Job<A>, L: Limited>(
     alloc: A,
     job: &J,
@@ -118,6 +120,10 @@ pub fn complete<A: Allocator + Copy, J: Job<A>, L: Limited>(
     ensures one_each { IfOk result (λ all. length all.pieces.items ≡ book.limit) }
     ensures in_order { IfOk result (λ all. StandInOrder J.Piece.Numbered.number_of all.pieces.items) }
     ensures few { IfOk result (λ all. all.remade ≤ book.limit) }
+    ensures replay { IsReplay J.Piece.Numbered.number_of book }
+    ensures kept { IfOk result (λ all. KeepsHeld book.held all.pieces.items) }
+    ensures empty { IfOk result (λ all. all.remade + pieces book.held ≡ book.limit) }
+    ensures full { IfOk result (λ all. ((k : ℕ) → k < book.limit → IsSome (slice_index_or book.held k None)) → all.remade ≡ 0) }
 {
     let mut held = book.into_held();
     let mut pieces = Vec::with_capacity(alloc, held.len())?;
