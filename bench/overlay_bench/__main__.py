@@ -6,7 +6,7 @@ import sys
 
 from . import programs
 
-NAMES = ("compare", "texts", "memory", "faults", "workers", "limits", "speed", "library", "laws", "requests", "kernels", "sizes", "documents")
+NAMES = ("compare", "texts", "memory", "faults", "workers", "parallel", "limits", "speed", "library", "laws", "requests", "kernels", "sizes", "documents")
 WITHOUT_PROGRAM = ("laws", "requests", "kernels", "sizes", "documents")
 
 
@@ -21,7 +21,8 @@ def main():
             command.add_argument("--program", default=programs.BUILT, help="the program (default: the built one)")
         module.add_arguments(command)
     arguments = parser.parse_args()
-    if arguments.name not in WITHOUT_PROGRAM and arguments.program == programs.BUILT and not os.access(programs.BUILT, os.X_OK):
+    is_making = getattr(arguments, "make", False)
+    if arguments.name not in WITHOUT_PROGRAM and not is_making and arguments.program == programs.BUILT and not os.access(programs.BUILT, os.X_OK):
         sys.exit("%s is not built: cd crates/overlay && rt run -- --help" % os.path.relpath(programs.BUILT))
     return modules[arguments.name].main(arguments)
 
