@@ -1,13 +1,18 @@
 //! Tests of the engine's calls on small layers, whose answers come from outside: the edges and all operations by plans of all
-//! kinds, what is refused, sinks that fail, and each request for memory refused in turn.
+//! kinds, points of each kind in the results, the most segments, what is refused, sinks that fail, and each request for
+//! memory refused in turn.
 #![tactic(auto)]
 
+#[cfg(test)]
+mod limits;
 #[cfg(test)]
 mod operations;
 #[cfg(test)]
 mod overlaid;
 #[cfg(test)]
 mod plans;
+#[cfg(test)]
+mod points;
 #[cfg(test)]
 mod refusals;
 #[cfg(test)]

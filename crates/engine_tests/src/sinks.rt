@@ -7,6 +7,7 @@ use crate::overlaid::overlaid;
 use crate::texts::{OTHER, SQUARE, SQUARES_COMMON, SQUARES_EDGES};
 use engine::{MemSink, Plan, Sink, SinkFault};
 use geom::{Fault, NoMemory, Op};
+use refusing::Refusing;
 use std::alloc::{Allocator, Global};
 use std::sync::Wait;
 use std::test::Fail;
@@ -141,5 +142,37 @@ fn tells_that_the_sink_failed(rt: HostRuntime) -> Result<(), Fail> {
     for cut in CUT {
         assert!(rt; is_cut(&rt, rt.alloc(), cut)?, "{cut:?}");
     }
+    Ok(())
+}
+
+/// Whether a sink in memory takes what fits, fails where nothing does and is settled, though its allocator refuses every
+/// request once the room was made.
+fn takes_without_memory(alloc: Global) -> Result<bool, NoMemory> {
+    let heap = Refusing::new(alloc, u64::MAX);
+    let mut sink = MemSink::new(&heap, 5)?;
+    heap.close();
+    if MemSink::new(&heap, 5).is_ok() {
+        return Ok(false);
+    }
+    let first = sink.write(b"MULT");
+    let second = sink.write(b"IPOLYGON");
+    let third = sink.write(b"POLYGON");
+    let is_unsettled = !sink.is_settled();
+    let finished = sink.finish();
+    Ok(
+        first.ok() == Some(4)
+            && second.ok() == Some(1)
+            && third.is_err()
+            && is_unsettled
+            && finished.is_ok()
+            && sink.is_settled()
+            && sink.failures() == 1
+            && sink.bytes() == b"MULTI".as_slice(),
+    )
+}
+
+#[test]
+fn sinks_take_no_memory(rt: HostRuntime) -> Result<(), Fail> {
+    assert!(rt; takes_without_memory(rt.alloc())?);
     Ok(())
 }

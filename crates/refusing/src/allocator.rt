@@ -1,15 +1,16 @@
-//! An allocator that refuses one request.
+//! An allocator that refuses one request, and every one once it is closed.
 
 ghost use Rattle.std.specs.Prelude.{◌≡◌, IfSome};
 
 use std::alloc::{AllocError, Allocator};
-use std::sync::atomic::{AtomicU64, Ordering};
+use std::sync::atomic::{AtomicBool, AtomicU64, Ordering};
 
-/// An allocator that passes requests on but for one.
+/// An allocator that passes requests on but for one, until it refuses all.
 #[derive(Drop)]
 pub struct Refusing<B> {
     inner: B,
     left: AtomicU64,
+    is_closed: AtomicBool,
 }
 
 impl<B> Refusing<B> {
@@ -18,14 +19,20 @@ impl<B> Refusing<B> {
         Refusing {
             inner,
             left: AtomicU64::new(number),
+            is_closed: AtomicBool::new(false),
         }
+    }
+
+    /// Refuses every request from now on.
+    pub fn close(&self) {
+        self.is_closed.store(true, Ordering::SeqCst);
     }
 
     /// The allocator behind, where this request is not the one to refuse.
     fn lent(&self) -> Option<&B>
         ensures { IfSome result (λ h. h.now ≡ self.now.inner) }
     {
-        if self.left.fetch_sub(1, Ordering::SeqCst) == 0 {
+        if self.is_closed.load(Ordering::SeqCst) || self.left.fetch_sub(1, Ordering::SeqCst) == 0 {
             return None;
         }
         Some(&self.inner)
