@@ -106,7 +106,7 @@ fn is_way(edge: DirectedEdge, way: Way) -> bool {
 }
 
 /// Whether this is told of each of the edges that the strips are of.
-fn are_told<A: Allocator>(
+pub fn are_told<A: Allocator>(
     strips: &StripSet<A>,
     counted: &[Counted],
     op: Op,

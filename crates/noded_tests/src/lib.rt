@@ -6,6 +6,8 @@ mod labels;
 #[cfg(test)]
 mod memory;
 #[cfg(test)]
+mod no_memory;
+#[cfg(test)]
 mod noding;
 #[cfg(test)]
 mod pairs;
