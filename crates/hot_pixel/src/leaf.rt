@@ -15,8 +15,8 @@ use crossing::{cross, may_meet};
 use geom::{Edge, NoMemory, Pt, Rect};
 use std::alloc::Allocator;
 
-/// How many lines are few: all pairs of them are crossed.
-const FEW: usize = 32;
+/// How many lines of a rectangle are few: all pairs of them are crossed.
+pub const FEW: usize = 32;
 
 /// Adds the ends of the lines that lie in the rectangle.
 fn add_ends<A: Allocator>(

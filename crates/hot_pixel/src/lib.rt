@@ -13,6 +13,6 @@ mod tile_sweep;
 pub use bundle::is_bundle;
 pub use halving::{cut, passing, within_limit};
 pub use hot::{hot_in, sweep};
-pub use leaf::add_hot;
+pub use leaf::{FEW, add_hot};
 pub use lines::{Line, edge_of, on_line};
 pub use pixels::ascending;

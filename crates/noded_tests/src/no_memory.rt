@@ -5,10 +5,10 @@ ghost use Rattle.geom.specs.Limit.{AreInLimit};
 ghost use Rattle.grid.specs.Tiles.{tile_count};
 
 use crate::labels::{CASES, Case, are_told, noded_of};
-use linking::{Rounded, settled};
 use face_label::StripSet;
 use geom::{NoMemory, Pt, Rect};
 use lane_tests::{Boxes, Edges, Half, Probe, Segs, odd_above, sides};
+use linking::{Rounded, settled};
 use noding_test::Noded;
 use refusing::Refusing;
 use std::alloc::{Allocator, Global};

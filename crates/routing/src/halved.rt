@@ -20,11 +20,8 @@ use crate::by_line::{OnLine, by_line, lines_of};
 use crate::met::meets;
 use crate::record::{Record, steps_to};
 use geom::{NoMemory, Pt, Rect, Seg};
-use hot_pixel::{Line, add_hot, ascending, cut, is_bundle, on_line, passing, within_limit};
+use hot_pixel::{FEW, Line, add_hot, ascending, cut, is_bundle, on_line, passing, within_limit};
 use std::alloc::Allocator;
-
-/// How many lines of a rectangle are few.
-const FEW: usize = 32;
 
 /// How often a rectangle is halved at most. Within the coordinate limit a single pixel is left after 60.
 const DEPTH: u32 = 60;
