@@ -49,6 +49,17 @@ abbrev pub TellsFile : SinkState → SinkState → LoadFault → List ℕ → �
 TellsFile old new Unreadable text status = (status ≡ 1) × IsSent old new text
 TellsFile old new NoRoom text status = TellsMemory old new status
 
+-- the line of a layer whose file can't be read
+abbrev pub unread_a : List ℕ
+unread_a = codes "overlay: A: cannot read" ++ 10 ∷ []
+
+abbrev pub unread_b : List ℕ
+unread_b = codes "overlay: B: cannot read" ++ 10 ∷ []
+
+-- why the file of a layer isn't read is told
+abbrev pub TellsUnread : SinkState → SinkState → ℕ → Type 0
+TellsUnread old new status = (fault : LoadFault) × (TellsFile old new fault unread_a status ⊎ TellsFile old new fault unread_b status)
+
 -- the line of a command word that isn't offered
 abbrev pub unknown_line : List ℕ
 unknown_line = codes "overlay: unknown command" ++ 10 ∷ []
@@ -90,9 +101,9 @@ TellsAnswer state err err' false report status = (status ≡ 0) × (err' ≡ err
 abbrev pub TellsRun : {E M : Type 0} → (E → SinkState) → E → E → Bool → Result (Report M) RunFault → ℕ → Type 0
 TellsRun state err err' wanted r status = MatchResult r (λ report. TellsAnswer state err err' wanted report status) (λ fault. TellsFault (state err) (state err') fault status)
 
--- a request is done: a file can't be read, which gives status 1 and no output; or both layers are read, and run
+-- a request is done: a file can't be read, which is told, with status 1 and no output; or both layers are read, and run
 abbrev pub Does : {O E : Type 0} → (O → SinkState) → (E → SinkState) → O → O → E → E → Request → ℕ → Type 0
-Does out_state err_state out out' err err' request status = ((status ≡ 1) × (out' ≡ out))
+Does out_state err_state out out' err err' request status = ((out' ≡ out) × TellsUnread (err_state err) (err_state err') status)
     ⊎ ((a : List ℕ) × (b : List ℕ) × (r : Result (Report Global) RunFault) × Performs out_state out out' request a b r × TellsRun err_state err err' request.report r status)
 
 -- a command line is done: what it asks for is done, or it is told why it isn't accepted
