@@ -5,7 +5,7 @@ use crate::texts::{
     APART, APART_UNION, BESIDE, BOW_TIE, BOW_TIE_EDGES, OTHER, SLOPE, SLOPE_COMMON, SLOPE_UNION,
     SQUARE, SQUARES_COMMON,
 };
-use engine::{MemSink, Plan};
+use engine::{MemSink, Plan, run_alone};
 use geom::{Fault, NoMemory, Op};
 use refusing::Refusing;
 use std::alloc::{Allocator, Global};
@@ -108,6 +108,54 @@ fn refuses_each_request(rt: HostRuntime) -> Result<(), Fail> {
                 "{row:?} {workers} {count:?}"
             );
         }
+    }
+    Ok(())
+}
+
+/// What `run` by one worker may ask for beyond what `run_alone` asks for: the draw, the desk and the hands, whatever the pieces
+/// are. To make the pieces of any row below again would take more.
+const BEYOND: u64 = 16;
+
+/// The least number from which on no request that is refused changes the answer of `run_alone`.
+fn least_alone(alloc: Global, row: Row) -> Result<u64, NoMemory> {
+    let Some(op) = row.0 else {
+        return Err(NoMemory);
+    };
+    let mut least = 0u64;
+    for number in 0..REQUESTS {
+        let heap = Refusing::new(alloc, number);
+        if run_alone(&heap, op, row.1.as_bytes(), row.2.as_bytes(), 16).is_err() {
+            least = number.wrapping_add(1);
+        }
+    }
+    Ok(least)
+}
+
+/// The same of `run` by one worker, which gathers the pieces that the worker posted.
+fn least_of_run<R: Threads + Wait + Sync>(
+    rt: &R,
+    alloc: Global,
+    row: Row,
+) -> Result<u64, NoMemory> {
+    let mut least = 0u64;
+    for number in 0..REQUESTS {
+        let heap = Refusing::new(alloc, number);
+        if given(rt, &heap, alloc, row, 1)? != Ending::Right {
+            least = number.wrapping_add(1);
+        }
+    }
+    Ok(least)
+}
+
+#[test]
+fn makes_no_piece_again(rt: HostRuntime) -> Result<(), Fail> {
+    for row in [ROWS[0], ROWS[4]] {
+        let alone = least_alone(rt.alloc(), row)?;
+        let run = least_of_run(&rt, rt.alloc(), row)?;
+        assert!(rt;
+            0 < alone && alone < run && run <= alone.wrapping_add(BEYOND),
+            "{row:?} {alone} {run}"
+        );
     }
     Ok(())
 }
