@@ -14,7 +14,7 @@ use Rattle.grid.specs.Tiles.{IsGridOf, Tiling, tile_count}
 use Rattle.linking.specs.declared.rounded.TileNumbers.{TileNumbers}
 use Rattle.wkt.specs.LayerText.{Ring}
 use Rattle.wkt.specs.Refusals.{plain}
-use Rattle.engine.specs.Rounds.{AreBoundsOf, AreRoundedOver, AreSegmentsOf, IsGridOver, TellsTiles}
+use Rattle.engine.specs.Rounds.{AreBoundsOf, AreRoundedOver, AreSegmentsOf, IsGridOver, IsRemade, TellsTiles}
 use Rattle.engine.specs.Runs.{IsChecked, IsPlan, IsReady, Reports, segment_count}
 use Rattle.engine.specs.declared.engine.Plan.{Plan}
 use Rattle.engine.specs.declared.text.Report.{Report}
@@ -83,8 +83,8 @@ module _ (plan : Plan) (a b : List ℕ) (m n : ℕ) (g : Tiling) (known : ∥ Is
 -- the report of a run, from the numbers of its parts
 pub reported : {M : Type 0} (plan : Plan) (a b : List ℕ) (m n : ℕ) (grid : Tiling) (counted : List Counted) (tiles : List TileNumbers) (report : Report M)
     → ∥ IsChecked plan a b m n grid ∥₁ → AreRoundedOver a b grid counted tiles → report.segments_a ≡ m → report.segments_b ≡ n → report.edges ≡ length counted
-    → TellsTiles tiles report.hot report.records report.tiles.items → report.remade ≤ tile_count grid → Reports plan a b counted report
-reported plan a b m n grid counted tiles report known rounded e f edges told few = record {
+    → TellsTiles tiles report.hot report.records report.tiles.items → IsRemade report.remade → Reports plan a b counted report
+reported plan a b m n grid counted tiles report known rounded e f edges told remade = record {
   rings_a = rounded.are_segments.rings_a;
   rings_b = rounded.are_segments.rings_b;
   grid = grid;
@@ -95,5 +95,5 @@ reported plan a b m n grid counted tiles report known rounded e f edges told few
   tiles = tiles;
   rounded = rounded;
   told = told;
-  few = few;
+  remade = remade;
 }

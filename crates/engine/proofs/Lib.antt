@@ -19,3 +19,4 @@ pub mod Fits
 pub mod Known
 pub mod InTurn
 pub mod LineParts
+pub mod Remade

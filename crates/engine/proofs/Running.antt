@@ -16,7 +16,7 @@ use Rattle.engine.specs.declared.text.Report.{Report}
 use Rattle.engine.specs.Sinks.{SinkState}
 use Rattle.grid.specs.Tiles.{Tiling, tile_count}
 use Rattle.linking.specs.declared.rounded.TileNumbers.{TileNumbers}
-use Rattle.engine.specs.Rounds.{AreRoundedOver, TellsTiles}
+use Rattle.engine.specs.Rounds.{AreRoundedOver, IsRemade, TellsTiles}
 use Rattle.engine.proofs.Known.{reported}
 use Rattle.engine.specs.Runs.{IsChecked, Declines, Delivers, IsRefusedAt, MayRun, Reports, Runs, Stops, bad_a, bad_b, bad_tile, bad_workers, too_many, too_many_tiles}
 use Rattle.wkt.specs.Refusals.{IsRefused}
@@ -29,12 +29,12 @@ written Edges plan a b counted text report h reports = record { counted = counte
 written (Apply op) plan a b counted text report h reports = record { counted = counted; result = h; reports = reports }
 
 pub reports_for : {M : Type 0} (wanted : Wanted) (plan : Plan) (a b : List ℕ) (m n : ℕ) (g : Tiling) (counted : List Counted) (tiles : List TileNumbers) (remade : ℕ)
-    → ∥ IsChecked plan a b m n g ∥₁ → AreRoundedOver a b g counted tiles → remade ≤ tile_count g → (r : Result (Report M) NoMemory)
+    → ∥ IsChecked plan a b m n g ∥₁ → AreRoundedOver a b g counted tiles → IsRemade remade → (r : Result (Report M) NoMemory)
     → IfOk r (λ t. t.segments_a ≡ m) → IfOk r (λ t. t.segments_b ≡ n) → IfOk r (λ t. t.edges ≡ length counted) → IfOk r (λ t. TellsTiles tiles t.hot t.records t.tiles.items) → IfOk r (λ t. t.remade ≡ remade)
     → IfOk r (λ t. (text : List ℕ) → IsWantedText wanted counted text → IsWritten wanted plan a b text t)
-reports_for wanted plan a b m n g counted tiles remade known rounded few (Ok t) in_a in_b edges told made =
-    λ text h. written wanted plan a b counted text t h (reported plan a b m n g counted tiles t known rounded in_a in_b edges told (rw made few))
-reports_for wanted plan a b m n g counted tiles remade known rounded few (Err f) in_a in_b edges told made = tt
+reports_for wanted plan a b m n g counted tiles remade known rounded is (Ok t) in_a in_b edges told made =
+    λ text h. written wanted plan a b counted text t h (reported plan a b m n g counted tiles t known rounded in_a in_b edges told (rw made is))
+reports_for wanted plan a b m n g counted tiles remade known rounded is (Err f) in_a in_b edges told made = tt
 
 -- of the layers and the plan that were checked
 module _ {X M : Type 0} (text_of : X → List ℕ) (report_of : X → Report M) where

@@ -17,6 +17,7 @@ use Rattle.grid.specs.Tiles.{IsGridOf, Tiling, most_tiles, tile_count}
 use Rattle.grid.specs.Bins.{AreBins, AreRowBins, TileBins, TileRows}
 use Rattle.linking.specs.Gathered.{AreBoxesOf, AreTileNumbers}
 use Rattle.linking.specs.declared.rounded.TileNumbers.{TileNumbers}
+use Rattle.tile_book.specs.declared.draw.TheConstants.{MOST_NUMBERS}
 use Rattle.wkt.specs.LayerText.{Ring}
 use Rattle.wkt.specs.Refusals.{IsAccepted, plain}
 
@@ -111,6 +112,10 @@ pub record AreRoundedOver (a b : List ℕ) (g : Tiling) (counted : List Counted)
   pub are_segments : AreSegmentsOf a b segments
   pub rounded : ∥ AreRounded segments counted ∥₁
   pub tiles_are : AreTileNumbers g segments (tile_count g) tiles
+
+-- so many pieces can be made anew: a desk has no more places
+abbrev pub IsRemade : ℕ → Type 0
+IsRemade remade = remade ≤ MOST_NUMBERS
 
 -- the numbers of each tile, and their sums
 pub record TellsTiles (tiles : List TileNumbers) (hot records : ℕ) (told : List (ℕ × ℕ)) : Type 0 where

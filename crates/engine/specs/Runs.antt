@@ -19,7 +19,7 @@ use Rattle.engine.specs.declared.text.Report.{Report}
 use Rattle.engine.specs.Sinks.{SentAll, SentPart, SinkState}
 use Rattle.engine.specs.Texts.{edges_text_of}
 use Rattle.linking.specs.declared.rounded.TileNumbers.{TileNumbers}
-use Rattle.engine.specs.Rounds.{AreRingsInLimit, AreRoundedOver, IsGridOver, TellsTiles}
+use Rattle.engine.specs.Rounds.{AreRingsInLimit, AreRoundedOver, IsGridOver, IsRemade, TellsTiles}
 use Rattle.engine.specs.declared.checking.TheConstants.{SEGMENT_LIMIT}
 use Rattle.tile_book.specs.declared.draw.TheConstants.{MOST_HANDS}
 use Rattle.engine.specs.declared.engine.MadeInParts.{MadeInParts}
@@ -88,7 +88,7 @@ pub record IsChecked (plan : Plan) (a b : List ℕ) (segments_a segments_b : ℕ
   pub count_a : segments_a ≡ segment_count rings_a
   pub count_b : segments_b ≡ segment_count rings_b
 
--- the report of these edges: they are the rounded edges of the layers, and its numbers are those of the segments, the edges, the hot pixels and the records, of each tile and in all; no more pieces were made again than there are tiles
+-- the report of these edges: they are the rounded edges of the layers, and its numbers are those of the segments, the edges, the hot pixels and the records, of each tile and in all; and no more pieces were made anew than a desk has places
 pub record Reports {M : Type 0} (plan : Plan) (a b : List ℕ) (counted : List Counted) (report : Report M) : Type 0 where
   pub rings_a : List Ring
   pub rings_b : List Ring
@@ -100,7 +100,7 @@ pub record Reports {M : Type 0} (plan : Plan) (a b : List ℕ) (counted : List C
   pub tiles : List TileNumbers
   pub rounded : AreRoundedOver a b grid counted tiles
   pub told : TellsTiles tiles report.hot report.records report.tiles.items
-  pub few : report.remade ≤ tile_count grid
+  pub remade : IsRemade report.remade
 
 -- the text of the edges, and their report
 pub record AreEdgesWritten {M : Type 0} (plan : Plan) (a b : List ℕ) (text : List ℕ) (report : Report M) : Type 0 where

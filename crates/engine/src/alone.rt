@@ -24,14 +24,15 @@ use std::marker::{Brand, PhantomData};
 use tile_book::{Job, MOST_NUMBERS};
 
 /// The text of the rounded edges of two layers, over tiles of this side, and its report. It is refused as `edges` is,
-/// but for the number of workers and the sink.
+/// but for the number of workers and the sink. No piece is made twice.
 pub fn edges_alone<A: Allocator + Copy>(
     alloc: A,
     a: &[u8],
     b: &[u8],
     side: u32,
 ) -> Result<Output<A>, RunFault>
-    ensures { MatchResult result (λ m. AreEdgesWritten (alone side) a.now b.now m.text.items m.report) (λ f. Declines (alone side) a.now b.now f.at f.fault) }
+    ensures answer { MatchResult result (λ m. AreEdgesWritten (alone side) a.now b.now m.text.items m.report) (λ f. Declines (alone side) a.now b.now f.at f.fault) }
+    ensures none_remade { IfOk result (λ m. m.report.remade ≡ 0) }
 {
     made_alone(alloc, Wanted::Edges, a, b, side)
 }
@@ -45,7 +46,8 @@ pub fn run_alone<A: Allocator + Copy>(
     b: &[u8],
     side: u32,
 ) -> Result<Output<A>, RunFault>
-    ensures { MatchResult result (λ m. IsResultWritten op (alone side) a.now b.now m.text.items m.report) (λ f. Declines (alone side) a.now b.now f.at f.fault) }
+    ensures answer { MatchResult result (λ m. IsResultWritten op (alone side) a.now b.now m.text.items m.report) (λ f. Declines (alone side) a.now b.now f.at f.fault) }
+    ensures none_remade { IfOk result (λ m. m.report.remade ≡ 0) }
 {
     made_alone(alloc, Wanted::Apply(op), a, b, side)
 }
@@ -58,7 +60,8 @@ fn made_alone<A: Allocator + Copy>(
     b: &[u8],
     side: u32,
 ) -> Result<Output<A>, RunFault>
-    ensures { MatchResult result (λ m. IsWritten wanted (alone side) a.now b.now m.text.items m.report) (λ f. Declines (alone side) a.now b.now f.at f.fault) }
+    ensures answer { MatchResult result (λ m. IsWritten wanted (alone side) a.now b.now m.text.items m.report) (λ f. Declines (alone side) a.now b.now f.at f.fault) }
+    ensures none_remade { IfOk result (λ m. m.report.remade ≡ 0) }
 {
     let plan = Plan { side, workers: 1 };
     check_plan(plan)?;
@@ -80,7 +83,8 @@ fn by_one<A: Allocator + Copy>(
 ) -> Result<Output<A>, NoMemory>
     requires read_a { IsReading checked.now.a.now read_a }
     requires read_b { IsReading checked.now.b.now read_b }
-    ensures { IfOk result (λ m. IsWritten wanted checked.now.plan checked.now.a.now checked.now.b.now m.text.items m.report) }
+    ensures written { IfOk result (λ m. IsWritten wanted checked.now.plan checked.now.a.now checked.now.b.now m.text.items m.report) }
+    ensures none_remade { IfOk result (λ m. m.report.remade ≡ 0) }
 {
     let noded = rounded_alone(alloc, checked, read_a, read_b)?;
     let text = text_of(alloc, wanted, &noded.edges)?;
@@ -99,7 +103,7 @@ fn rounded_alone<A: Allocator + Copy>(
     requires read_b { IsReading checked.now.b.now read_b }
     ensures rounded { IfOk result (λ n. AreRoundedOver checked.now.a.now checked.now.b.now checked.now.grid n.edges.items n.tiles.items) }
     ensures layers { IfOk result (λ n. ∥ AreLayers n.edges.items ∥₁) }
-    ensures remade { IfOk result (λ n. n.remade ≤ tile_count checked.now.grid) }
+    ensures none_remade { IfOk result (λ n. n.remade ≡ 0) }
 {
     let segments = read_segments(alloc, checked, read_a, read_b)?;
     gathered_alone(alloc, &checked.grid, &segments)
@@ -115,7 +119,7 @@ fn gathered_alone<A: Allocator + Copy>(
     requires covered { HaveTiles grid.now segments.now }
     ensures rounded { IfOk result (λ n. ∥ AreRounded segments.now n.edges.items ∥₁) }
     ensures tiles { IfOk result (λ n. AreTileNumbers grid.now segments.now (tile_count grid.now) n.tiles.items) }
-    ensures remade { IfOk result (λ n. n.remade ≤ tile_count grid.now) }
+    ensures none_remade { IfOk result (λ n. n.remade ≡ 0) }
 {
     let cells = cells_of(grid, 1, segments);
     by_cells_alone::<Brand, A>(alloc, grid, &cells, segments)
@@ -134,7 +138,7 @@ fn by_cells_alone<T: Tiled, A: Allocator + Copy>(
     requires covered { HaveTiles grid.now segments.now }
     ensures rounded { IfOk result (λ n. ∥ AreRounded segments.now n.edges.items ∥₁) }
     ensures tiles { IfOk result (λ n. AreTileNumbers grid.now segments.now (tile_count grid.now) n.tiles.items) }
-    ensures remade { IfOk result (λ n. n.remade ≤ tile_count grid.now) }
+    ensures none_remade { IfOk result (λ n. n.remade ≡ 0) }
 {
     let bins = bins_of(alloc, cells, segments)?;
     let job: Pieces<T, A> = Pieces {

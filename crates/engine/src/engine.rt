@@ -6,10 +6,9 @@
 //! 3. The rounded edges give the text that is wanted (`text_by_workers`), and the report (`report_for`).
 //! 4. Only now is the sink called: it is sent the text whole (`send`).
 
-ghost use Rattle.std.specs.Prelude.{◌≡◌, ◌<◌, ◌≤◌, ℕ, IfOk, List, MatchResult};
-ghost use Rattle.grid.specs.Tiles.{tile_count};
+ghost use Rattle.std.specs.Prelude.{◌≡◌, ◌<◌, ℕ, IfOk, List, MatchResult};
 ghost use Rattle.engine.specs.Results.{IsResultWritten, IsWantedText, IsWritten};
-ghost use Rattle.engine.specs.Rounds.{AreRoundedOver};
+ghost use Rattle.engine.specs.Rounds.{AreRoundedOver, IsRemade};
 ghost use Rattle.engine.specs.Runs.{AreEdgesWritten, Declines, Delivers, IsReading, Runs};
 
 use crate::checking::{CheckedInput, Reading, check, check_plan};
@@ -136,8 +135,9 @@ pub(crate) fn report_for<A: Allocator + Copy>(
     noded: &Noded<A>,
 ) -> Result<Report<A>, NoMemory>
     requires rounded { AreRoundedOver checked.now.a.now checked.now.b.now checked.now.grid noded.now.edges.items noded.now.tiles.items }
-    requires remade { noded.now.remade ≤ tile_count checked.now.grid }
-    ensures { IfOk result (λ r. (text : List ℕ) → IsWantedText wanted noded.now.edges.items text → IsWritten wanted checked.now.plan checked.now.a.now checked.now.b.now text r) }
+    requires remade { IsRemade noded.now.remade }
+    ensures written { IfOk result (λ r. (text : List ℕ) → IsWantedText wanted noded.now.edges.items text → IsWritten wanted checked.now.plan checked.now.a.now checked.now.b.now text r) }
+    ensures remade { IfOk result (λ r. r.remade ≡ noded.now.remade) }
 {
     report_of(alloc, checked, noded)
 }

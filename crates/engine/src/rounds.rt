@@ -5,7 +5,7 @@ ghost use Rattle.geom.specs.Rounded.{AreRounded};
 ghost use Rattle.grid.specs.Tiles.{tile_count};
 ghost use Rattle.linking.specs.Gathered.{AreTileNumbers, HaveTiles};
 ghost use Rattle.points_law.specs.Law.{AreLayers};
-ghost use Rattle.engine.specs.Rounds.{AllInLimit, AreCellBins, AreRoundedOver, TellsTiles};
+ghost use Rattle.engine.specs.Rounds.{AllInLimit, AreCellBins, AreRoundedOver, IsRemade, TellsTiles};
 ghost use Rattle.engine.specs.Runs.{IsReading};
 
 use crate::cell_parts::{bins_by_hands, cells_by_hands};
@@ -64,7 +64,7 @@ pub(crate) fn rounded_layers<
     requires read_b { IsReading checked.now.b.now read_b }
     ensures rounded { IfOk result (λ n. AreRoundedOver checked.now.a.now checked.now.b.now checked.now.grid n.edges.items n.tiles.items) }
     ensures layers { IfOk result (λ n. ∥ AreLayers n.edges.items ∥₁) }
-    ensures remade { IfOk result (λ n. n.remade ≤ tile_count checked.now.grid) }
+    ensures remade { IfOk result (λ n. IsRemade n.remade) }
 {
     let segments = read_segments_by_workers(rt, alloc, checked, read_a, read_b)?;
     gathered(
@@ -91,7 +91,7 @@ fn gathered<A: Allocator + Copy + Send + Sync, G: Gate + Sync, R: Threads + Wait
     requires covered { HaveTiles grid.now segments.now }
     ensures rounded { IfOk result (λ n. ∥ AreRounded segments.now n.edges.items ∥₁) }
     ensures tiles { IfOk result (λ n. AreTileNumbers grid.now segments.now (tile_count grid.now) n.tiles.items) }
-    ensures remade { IfOk result (λ n. n.remade ≤ tile_count grid.now) }
+    ensures remade { IfOk result (λ n. IsRemade n.remade) }
 {
     let cells = cells_by_hands(rt, grid, workers, segments);
     let blank = Blank::new(u64::from(workers));
@@ -125,7 +125,7 @@ fn by_cells<
     requires covered { HaveTiles grid.now segments.now }
     ensures rounded { IfOk result (λ n. ∥ AreRounded segments.now n.edges.items ∥₁) }
     ensures tiles { IfOk result (λ n. AreTileNumbers grid.now segments.now (tile_count grid.now) n.tiles.items) }
-    ensures remade { IfOk result (λ n. n.remade ≤ tile_count grid.now) }
+    ensures remade { IfOk result (λ n. IsRemade n.remade) }
 {
     let bins = bins_by_hands(rt, alloc, workers as usize, cells, segments)?;
     let job: Pieces<T, A> = Pieces {
@@ -145,9 +145,8 @@ fn by_cells<
         gate,
     )?;
     drop(bins);
-    let most = remade.min(grid.tiles());
     let hands = workers as usize;
-    let rounded = gather_made_by_hands(rt, alloc, hands, pieces, most, cells, grid, segments)?;
+    let rounded = gather_made_by_hands(rt, alloc, hands, pieces, remade, cells, grid, segments)?;
     Ok(settled(rounded))
 }
 

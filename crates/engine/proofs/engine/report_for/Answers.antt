@@ -11,8 +11,8 @@ report_of-requires g c =
     let f = (ready_of now.plan now.a.now now.b.now now.segments_a now.segments_b now.grid now.are_checked rounded.segments rounded.are_segments).few_tiles in
     omega arith
 
-pub returns : goal.returns
-returns g c =
+pub returns-clause-written : goal.returns-clause-written
+returns-clause-written g c =
     let now = c.args.checked.now in
     let told = c.report_of.ensures in
     reports_for c.args.wanted now.plan now.a.now now.b.now now.segments_a now.segments_b now.grid c.args.noded.now.edges.items c.args.noded.now.tiles.items c.args.noded.now.remade
