@@ -1,9 +1,16 @@
 //! What the two layers determine: each law is the contract of a function with an empty body.
 
+ghost use Rattle.std.specs.Prelude.{◌≡◌};
+ghost use Rattle.geom.specs.Limit.{coordinate_limit};
+ghost use Rattle.grid.specs.Tiles.{most_tiles};
+ghost use Rattle.wkt.specs.Refusals.{length_limit};
+ghost use Rattle.engine.specs.Runs.{segment_limit};
 ghost use Rattle.engine.specs.Determined.{EdgesSizesAreOne, EdgesTextIsOne, RefusalIsOne, RefusedMayNotRun, ResultSizesAreOne, ResultTextIsOne, RunReportsAsEdges, TilesAreOne};
 ghost use Rattle.engine.specs.Counting.{CountsAreExact};
 
+use grid::{DEFAULT_SIDE, GREATEST_SIDE, LEAST_SIDE};
 use std::alloc::Allocator;
+use tile_book::{MOST_HANDS, MOST_NUMBERS};
 
 /// The text of the edges is determined by the two layers: it is the same for every tile side, number of workers and order
 /// of threads. So are the numbers of segments, hot pixels, records and edges in the report.
@@ -38,4 +45,17 @@ pub fn counts_are_exact<A: Allocator>()
 /// The report of `run` is that of `edges` for the same plan and layers, but for the number of pieces that were made again.
 pub fn run_reports_as_edges<A: Allocator, B: Allocator>()
     ensures { RunReportsAsEdges A B }
+{}
+
+/// The limits that the definitions cite, as numbers: a coordinate's greatest absolute value (2 to the 28th), the bytes of a
+/// layer text, the segments of both layers together, the sides of tiles in grid units, the default one among them, the tiles,
+/// the workers, and the cells that these draw.
+pub fn limits_are_numbers()
+    ensures coordinate { coordinate_limit ≡ 268435456 }
+    ensures bytes { length_limit ≡ 268435456 }
+    ensures segments { segment_limit ≡ 1048576 }
+    ensures sides { (LEAST_SIDE ≡ 16) × (DEFAULT_SIDE ≡ 262144) × (GREATEST_SIDE ≡ 33554432) }
+    ensures tiles { most_tiles ≡ 65536 }
+    ensures workers { MOST_HANDS ≡ 64 }
+    ensures cells { MOST_NUMBERS ≡ 65536 }
 {}

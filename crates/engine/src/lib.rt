@@ -21,8 +21,8 @@ pub use alone::{edges_alone, run_alone};
 pub use engine::{Output, Plan, edges, run};
 pub use fitting::fitting_side;
 pub use laws::{
-    counts_are_exact, edges_text_is_one, one_refusal, result_text_is_one, run_reports_as_edges,
-    tiles_are_one,
+    counts_are_exact, edges_text_is_one, limits_are_numbers, one_refusal, result_text_is_one,
+    run_reports_as_edges, tiles_are_one,
 };
 pub use operation::result_text;
 pub use sink::{MemSink, Sink, SinkFault, write_all};
