@@ -2,10 +2,12 @@
 #![tactic(auto)]
 
 mod label;
+mod laws;
 mod odd;
 mod strip;
 
 pub use geom::{Directed, add_directions};
 pub use label::labels;
+pub use laws::strips_are_few;
 pub use odd::directions;
 pub use strip::StripSet;
