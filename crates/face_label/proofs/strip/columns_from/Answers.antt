@@ -1,7 +1,8 @@
 use Rattle.std.proofs.Common.{refl, subst, sym}
 use Rattle.geom.specs.declared.edge.Counted.{Counted}
 use Rattle.geom.specs.Limit.{AreInLimit}
-use Rattle.face_label.proofs.Striping.{back, columns_are, first_columns, more_columns}
+use Rattle.geom.proofs.Doubling.{back}
+use Rattle.face_label.proofs.Striping.{columns_are, first_columns, more_columns}
 use Rattle.face_label.proofs.strip.columns_from.Goals as goal
 
 pub loop-one-init : goal.loop-one-init

@@ -5,7 +5,8 @@ use Rattle.geom.specs.declared.edge.Edge.{Edge}
 use Rattle.geom.specs.declared.segment.Source.TheVariants.{A, B}
 use Rattle.geom.specs.Limit.{AreInLimit}
 use Rattle.face_label.specs.Strip.{AreColumnsFrom, IsStriped}
-use Rattle.face_label.proofs.Striping.{back, layer_strips, odd_in_limit, width_at}
+use Rattle.geom.proofs.Doubling.{back}
+use Rattle.face_label.proofs.Striping.{layer_strips, odd_in_limit, width_at}
 use Rattle.face_label.proofs.strip.layers_of.Goals as goal
 
 pub build-requires-clause-in_limit : goal.build-requires-clause-in_limit
