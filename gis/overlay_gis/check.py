@@ -20,10 +20,19 @@ from . import options
 from .faults import FOUND, Refusal
 from .frame import Frame
 from .joined import Joined, gridded
-from .layers import Box, Source, area_name, common_system, is_polygonal, polygons_of, shape_of
-from .messages import followed
-from .output import Column, Row, check_output, write_layer
-from .texts import polygons_in, twice_area
+from .layers import (
+    Source,
+    Survey,
+    area_name,
+    by_geos,
+    common_system,
+    lines_of,
+    polygons_of,
+    shape_of,
+)
+from .messages import followed, tell
+from .output import Column, Row, layer_target, write_layer
+from .program import SEGMENTS
 
 HELP = "tells what is wrong with a layer: failed reads, invalid rings, points off the limits, overlaps"
 EXAMPLE = "overlay-gis check parcels.gpkg -o overlaps.gpkg"
@@ -53,9 +62,8 @@ class Checked:
     findings: list[str] = field(default_factory=list)
     ids: list[int] = field(default_factory=list)
     shapes: list[BaseGeometry] = field(default_factory=list)
-    features: int = 0
+    survey: Survey = field(default_factory=Survey)
     readable: bool = True
-    box: Box | None = None
 
     def find(self, words: str) -> None:
         self.findings.append(words)
@@ -77,24 +85,31 @@ def ring_findings(geometry: ogr.Geometry) -> Iterator[str]:
 
 def look_at(feature: ogr.Feature, seen: Checked) -> None:
     """Takes one feature in, and finds what is wrong with it alone."""
+    seen.survey.features += 1
     number, geometry = feature.GetFID(), feature.GetGeometryRef()
     if geometry is None or geometry.IsEmpty():
         return seen.find(f"feature {number}: no geometry")
-    if not is_polygonal(geometry):
+    lines = lines_of(geometry)
+    if lines is None:
         return seen.reject(f"feature {number}: {geometry.GetGeometryName()} is no polygon")
-    left, right, low, high = geometry.GetEnvelope()
-    if not all(abs(at) < float("inf") for at in (left, right, low, high)):
+    if not seen.survey.take(number, lines):
         return seen.reject(f"feature {number}: a coordinate is no finite number")
-    seen.box = Box(left, low, right, high).joined(seen.box)
     faults = list(ring_findings(geometry))
     for words in faults:
         seen.find(f"feature {number}: {words}")
-    if faults:
-        return None
-    shape = shape_of(geometry, f"feature {number}")
-    if not shape.is_valid:
-        seen.find(f"feature {number}: {explain_validity(shape)}")
-        shape = make_valid(shape)
+    return None if faults else hold(number, geometry, seen)
+
+
+def hold(number: int, geometry: ogr.Geometry, seen: Checked) -> None:
+    """Keeps a feature's shape, made valid; what GEOS finds wrong is found."""
+    try:
+        with by_geos(f"feature {number}"):
+            shape = shape_of(geometry, f"feature {number}")
+            if not shape.is_valid:
+                seen.find(f"feature {number}: {explain_validity(shape)}")
+                shape = make_valid(shape)
+    except Refusal as refusal:
+        return seen.find(str(refusal))
     seen.ids.append(number)
     seen.shapes.append(shape)
     return None
@@ -111,15 +126,25 @@ def near(tree: STRtree, shape: BaseGeometry) -> list[int]:
     return list(tree.query_items(shape)) if hasattr(tree, "query_items") else tree.query(shape).tolist()
 
 
+def overlap_of(k: int, other: int, seen: Checked) -> Iterator[Overlap]:
+    """What two of the shapes share, if that is more than a border; where GEOS can't compute it, that is found."""
+    try:
+        with by_geos(f"features {seen.ids[k]} and {seen.ids[other]}"):
+            common = seen.shapes[k].intersection(seen.shapes[other])
+    except Refusal as refusal:
+        return seen.find(str(refusal))
+    if common.area > 0:
+        yield Overlap(seen.ids[k], seen.ids[other], common)
+    return None
+
+
 def overlaps_in(seen: Checked, name: str) -> Iterator[Overlap]:
-    """The pairs of features that share area, which has no thickness where they only touch."""
+    """The pairs of features that share area."""
     tree = tree_of(seen.shapes)
     for k, shape in followed(enumerate(seen.shapes), f"comparing {name}", len(seen.shapes)):
         for other in sorted(near(tree, shape)):
             if other > k:
-                common = shape.intersection(seen.shapes[other])
-                if common.area > 0:
-                    yield Overlap(seen.ids[k], seen.ids[other], common)
+                yield from overlap_of(k, other, seen)
 
 
 def is_thin(shape: BaseGeometry, unit: float) -> bool:
@@ -132,36 +157,37 @@ def overlap_rows(overlaps: list[Overlap]) -> Iterator[Row]:
         yield ogr.CreateGeometryFromWkb(wkb.dumps(overlap.shape)), (overlap.first, overlap.second, overlap.shape.area)
 
 
-def parity_area(source: Source, frame: Frame) -> tuple[float, float]:
-    """The sum of the areas of all polygons, and the area that is covered where they are read by parity."""
+def areas_of(source: Source, seen: Checked, frame: Frame) -> tuple[float, float] | None:
+    """The sum of the areas of all polygons, and the area that is covered where they are read by parity, on the grid; nothing
+    where the layer is too large for the program, which is found."""
     with TemporaryDirectory(prefix="overlay-gis-") as folder:
         place = Path(folder)
-        layer = gridded(source, frame, place / "layer.wkt")
-        alone = Joined(place, frame, None, [layer])
-        parity = sum(map(twice_area, polygons_in(alone.run("union"), source.name)))
-        return frame.area(layer.written.twice_area), frame.area(parity)
+        layer = gridded(source, seen.survey, frame, place / "layer.wkt")
+        if layer.written.segments > SEGMENTS:
+            seen.find(f"{layer.written.segments:,} segments, and the limit of both layers together is {SEGMENTS:,}")
+            return None
+        twice, _ = Joined(place, frame, None, [layer]).parity(layer)
+        return frame.area(layer.written.twice_area), frame.area(twice)
 
 
 def frame_of(source: Source, seen: Checked, system: osr.SpatialReference | None, arguments: Namespace) -> Frame | None:
     """The frame that a run would choose for this layer alone; what is off its limits is found."""
-    unit = frames.number(arguments.grid) if arguments.grid else None
-    origin = frames.point(arguments.origin) if arguments.origin else None
+    asked = frames.asked_for(arguments.grid, arguments.origin)
+    box = seen.survey.box(source.name) if seen.survey.ids else None
     try:
-        return frames.chosen(source.name, seen.box, system, unit, origin)
+        return frames.chosen(source.name, box, system, *asked)
     except Refusal as refusal:
         seen.find(refusal.reason)
         return None
 
 
 def main(arguments: Namespace) -> int:
-    if arguments.out:
-        check_output(arguments.out, arguments.overwrite, [arguments.a])
     source, seen = Source(arguments.a), Checked()
+    target = layer_target(arguments.out, arguments.overwrite, source.files()) if arguments.out else None
     system = common_system([source], arguments.system)
     for feature in source.features("looking through"):
-        seen.features += 1
         look_at(feature, seen)
-    if not seen.features:
+    if not seen.survey.features:
         seen.find("the layer has no features")
     frame = frame_of(source, seen, system, arguments)
     unit = float(frame.unit) if frame else 0.0
@@ -170,19 +196,19 @@ def main(arguments: Namespace) -> int:
     name = area_name(system)
     for overlap in wide:
         seen.find(f"features {overlap.first} and {overlap.second}: overlap by {overlap.shape.area:,.6g} {name}")
+    areas = areas_of(source, seen, frame) if frame and seen.shapes and seen.readable else None
     for words in seen.findings:
-        print(f"{source.name}: {words}")
-    summarize(source, seen, frame, len(found) - len(wide), name)
-    if arguments.out:
-        write_layer(arguments.out, system, OVERLAP_COLUMNS, overlap_rows(found), ogr.wkbUnknown)
+        tell(f"{source.name}: {words}")
+    tell(f"{source.name}: {', '.join(summary(seen, areas, len(found) - len(wide), name))}")
+    if target:
+        write_layer(target, system, OVERLAP_COLUMNS, overlap_rows(found), ogr.wkbUnknown)
     return FOUND if seen.findings else 0
 
 
-def summarize(source: Source, seen: Checked, frame: Frame | None, thin: int, name: str) -> None:
-    told = [f"{seen.features:,} features", f"{len(seen.findings):,} findings"]
+def summary(seen: Checked, areas: tuple[float, float] | None, thin: int, name: str) -> Iterator[str]:
+    yield f"{seen.survey.features:,} features"
+    yield f"{len(seen.findings):,} findings"
     if thin:
-        told.append(f"{thin:,} overlaps narrower than a grid unit")
-    if frame and seen.shapes and seen.readable:
-        total, parity = parity_area(source, frame)
-        told.append(f"areas {total:,.10g} {name} in sum, {parity:,.10g} by parity")
-    print(f"{source.name}: {', '.join(told)}")
+        yield f"{thin:,} overlaps narrower than a grid unit"
+    if areas:
+        yield f"areas {areas[0]:,.10g} {name} in sum, {areas[1]:,.10g} by parity"

@@ -4,12 +4,14 @@ from __future__ import annotations
 
 import sys
 from argparse import ArgumentParser, RawDescriptionHelpFormatter
+from typing import NoReturn
 
 import shapely
 from osgeo import gdal
 
 from . import __version__, check, explain, faces, from_grid, messages, run, show, to_grid
 from .faults import FAILED, Fault
+from .stopping import Stopped, stoppable
 
 try:
     from shapely import geos_version
@@ -32,8 +34,15 @@ STATUSES = """exit status: 0 answered, 1 a file, the program or an output failed
 The program is what OVERLAY names, else `overlay` on the path, else what stands beside this tool."""
 
 
+class Parser(ArgumentParser):
+    """Says what is wrong with a command line without the passwords that it has."""
+
+    def error(self, message: str) -> NoReturn:
+        super().error(messages.shown(message))
+
+
 def parser() -> ArgumentParser:
-    top = ArgumentParser(
+    top = Parser(
         prog="overlay-gis",
         description="Brings map data to the integer grid of `overlay`, and its answers back.",
         epilog=STATUSES,
@@ -59,7 +68,8 @@ def parser() -> ArgumentParser:
 def main(words: list[str] | None = None) -> int:
     arguments = parser().parse_args(words)
     try:
-        return arguments.main(arguments)
+        with stoppable():
+            return arguments.main(arguments)
     except Fault as fault:
         messages.say(str(fault))
         return fault.status
@@ -72,8 +82,8 @@ def main(words: list[str] | None = None) -> int:
     except OSError as error:
         messages.say(f"{error.filename or 'a temporary file'}: {error.strerror}")
         return FAILED
-    except KeyboardInterrupt:
-        messages.say("stopped")
+    except Stopped as signal:
+        messages.say(f"stopped by {signal}: no file was written or changed")
         return FAILED
     except MemoryError:
         messages.say("out of memory")

@@ -13,10 +13,11 @@ from .arrangement import Arrangement, covers
 from .faults import Refusal
 from .frame import GridPolygon
 from .joined import Joined, joined
-from .layers import Source, polygons_of
+from .layers import Source, files_of, polygons_of
 from .messages import during, say
-from .output import Column, Row, check_output, polygon_geometry, write_layer
-from .texts import Written, edges_in, on_grid, twice_area
+from .output import Column, Row, layer_target, polygon_geometry, write_layer
+from .program import edges_of
+from .texts import Written, closed, on_grid, twice_area
 
 HELP = (
     "tells which features of A lie in which features of B: the faces of both layers' borders, each with what covers it"
@@ -71,7 +72,8 @@ def kept(source: Source, mark: str, asked: str, both: Joined) -> Kept:
         if geometry is None or geometry.IsEmpty():
             continue
         number = feature.GetFID()
-        rounded = [on_grid(polygon, number, both.frame, Written()) for polygon in polygons_of(geometry)]
+        rings = (closed(polygon, number, Written()) for polygon in polygons_of(geometry))
+        rounded = [on_grid(polygon, both.frame) for polygon in rings]
         held.ids.append(number)
         held.values.append(tuple(feature.GetField(field.GetName()) for field in held.fields))
         held.polygons.append(rounded)
@@ -119,11 +121,12 @@ def sides_of(covered: frozenset) -> tuple[list[int], list[int]]:
 
 
 def main(arguments: Namespace) -> int:
-    check_output(arguments.out, arguments.overwrite, [arguments.a, arguments.b])
-    with joined([arguments.a, arguments.b], arguments.grid, arguments.origin, arguments.system) as both:
+    sources = [Source(arguments.a), Source(arguments.b)]
+    target = layer_target(arguments.out, arguments.overwrite, files_of(sources))
+    with joined(sources, arguments.grid, arguments.origin, arguments.system) as both:
         asked = (("a_", arguments.keep_a), ("b_", arguments.keep_b))
         held = [kept(layer.source, mark, words, both) for layer, (mark, words) in zip(both.layers, asked)]
-        arrangement = Arrangement(edges_in(both.run("edges"), "overlay"))
+        arrangement = Arrangement(edges_of(both.run("edges")))
         borders = arrangement.borders([layer.polygons for layer in held], "following the borders")
         with during("making faces"):
             faces = arrangement.faces()
@@ -134,6 +137,6 @@ def main(arguments: Namespace) -> int:
         for layer, many in zip(held, several):
             columns += columns_of(layer, many)
         written = rows([face for face, _ in answered], [sides for _, sides in answered], held, several, both)
-        count = write_layer(arguments.out, both.system, columns, written)
+        count = write_layer(target, both.system, columns, written)
     say(f"{arguments.out}: {count:,} faces")
     return 0

@@ -7,6 +7,7 @@ halves upward and to the right, as the program's own pixels do. That is exact: n
 from __future__ import annotations
 
 import json
+import re
 from dataclasses import dataclass
 from decimal import Decimal, InvalidOperation
 from fractions import Fraction
@@ -32,12 +33,23 @@ REACH = Decimal("0.71")
 FINEST = Decimal("0.001")
 FINEST_DEGREES = Decimal("0.000001")
 
+# How many times the default a unit may be that is chosen. A coarser one is for what is no place on earth, and has to be asked for.
+COARSEST = 1000
+
+# How many digits a number may have, before its point and in all.
+DIGITS = 400
+
+# The texts of systems that a frame may hold: an authority's number, or a definition. Others would name a file or an address.
+SYSTEM = re.compile(r"\w+:\w+|\w+\[.*\]", re.DOTALL)
+
 # An origin is a multiple of so many units where that leaves room, so that it is short to write.
 ROUND_ORIGIN = 1000
 
 
 def plain(number: Decimal) -> str:
-    """Without an exponent and without zeros at the end."""
+    """Without zeros at the end, and without an exponent where that isn't a large one."""
+    if number and abs(number.adjusted()) > 20:
+        return f"{number.normalize()}".lower()
     text = f"{number:f}"
     return text.rstrip("0").rstrip(".") if "." in text else text
 
@@ -54,11 +66,12 @@ class Frame:
         scale = Fraction(self.unit)
         p, q = scale.numerator, scale.denominator
         (ex, fx), (ey, fy) = ((Fraction(at) / scale - Fraction(1, 2)).as_integer_ratio() for at in self.origin)
+        (kx, lx, mx), (ky, ly, my) = ((q * fx, p * ex, p * fx), (q * fy, p * ey, p * fy))
 
         def place(x: float, y: float) -> GridPoint:
-            a, b = float(x).as_integer_ratio()
-            c, d = float(y).as_integer_ratio()
-            return (a * q * fx - ex * b * p) // (b * p * fx), (c * q * fy - ey * d * p) // (d * p * fy)
+            a, b = x.as_integer_ratio()
+            c, d = y.as_integer_ratio()
+            return (a * kx - b * lx) // (b * mx), (c * ky - d * ly) // (d * my)
 
         return place
 
@@ -106,21 +119,35 @@ def loaded(path: str) -> Frame:
     try:
         with open(path, encoding="utf-8-sig") as file:
             held = json.load(file)
-        x, y = (Decimal(str(at)) for at in held["origin"])
-        return Frame(number(str(held["grid"]), path), (x, y), held["system"])
+        x, y = (decimal(str(at)) for at in held["origin"])
+        system = held["system"]
+        if system is not None and not SYSTEM.fullmatch(system):
+            raise ValueError(system)
+        return Frame(number(str(held["grid"]), path), (x, y), system)
     except OSError as error:
         raise Fault(path, error.strerror) from error
-    except (ValueError, KeyError, TypeError, InvalidOperation) as error:
+    except (ValueError, KeyError, TypeError, RecursionError) as error:
         raise Refusal(path, "holds no grid, origin and system") from error
+
+
+def decimal(text: str) -> Decimal:
+    """A finite number as it was written, which exact sums have room for."""
+    try:
+        number = Decimal(text)
+    except InvalidOperation as error:
+        raise ValueError(text) from error
+    if not number.is_finite() or abs(number.adjusted()) > DIGITS or len(number.as_tuple().digits) > DIGITS:
+        raise ValueError(text)
+    return number
 
 
 def number(text: str, name: str = "--grid") -> Decimal:
     """A grid unit as it was asked for."""
     try:
-        unit = Decimal(text)
-    except InvalidOperation as error:
+        unit = decimal(text)
+    except ValueError as error:
         raise Refusal(name, f"{text} is no decimal number") from error
-    if not unit.is_finite() or unit <= 0:
+    if unit <= 0:
         raise Refusal(name, f"a grid unit is above 0, not {text}")
     return unit
 
@@ -128,10 +155,15 @@ def number(text: str, name: str = "--grid") -> Decimal:
 def point(text: str) -> tuple[Decimal, Decimal]:
     """An origin as it was asked for, X,Y."""
     try:
-        x, y = map(Decimal, text.split(","))
-    except (InvalidOperation, ValueError) as error:
-        raise Refusal("--origin", f"{text} is no X,Y") from error
+        x, y = map(decimal, text.split(","))
+    except ValueError as error:
+        raise Refusal("--origin", f"{text} is no X,Y of two decimal numbers") from error
     return x, y
+
+
+def asked_for(unit: str | None, origin: str | None) -> tuple[Decimal | None, tuple[Decimal, Decimal] | None]:
+    """A grid unit and an origin, where the command line names them."""
+    return number(unit) if unit else None, point(origin) if origin else None
 
 
 def finest_for(box: Box) -> Decimal:
@@ -180,6 +212,13 @@ def chosen(
     if box is None:
         return Frame(unit or default, origin or (Decimal(0), Decimal(0)), held)
     finest = finest_for(box)
+    if unit is None and finest > COARSEST * default and box.farthest:
+        layer, feature = box.farthest
+        raise Refusal(
+            layer,
+            f"feature {feature} reaches {box.reach:.6g}, and the finest grid with room for it has {plain(finest)} "
+            f"{unit_name(system)}: mend or remove it, or ask for that by --grid",
+        )
     asked = unit or max(default, finest)
     at = origin or origin_for(box, asked)
     if not fits(box, asked, at):

@@ -13,7 +13,7 @@ from . import options
 from .frame import Frame
 from .layers import system_from
 from .messages import say
-from .output import Column, Row, check_output, polygon_geometry, write_layer
+from .output import Column, Row, layer_target, polygon_geometry, write_layer
 from .texts import EDGES, edges_in, kind_of, polygons_in, text_of, twice_area
 from .to_grid import FRAME
 
@@ -45,15 +45,14 @@ def edge_rows(text: str, name: str, frame: Frame) -> Iterator[Row]:
 
 
 def main(arguments: Namespace) -> int:
-    check_output(arguments.out, arguments.overwrite, [arguments.text])
-    frame = frames.loaded(arguments.frame or os.path.join(os.path.dirname(arguments.text), FRAME))
+    held = arguments.frame or os.path.join(os.path.dirname(arguments.text), FRAME)
+    target = layer_target(arguments.out, arguments.overwrite, [arguments.text, held])
+    frame = frames.loaded(held)
     system = system_from(frame.system) if frame.system else None
     text = text_of(arguments.text)
     if kind_of(text) == EDGES:
-        count = write_layer(
-            arguments.out, system, EDGE_COLUMNS, edge_rows(text, arguments.text, frame), ogr.wkbLineString
-        )
+        count = write_layer(target, system, EDGE_COLUMNS, edge_rows(text, arguments.text, frame), ogr.wkbLineString)
     else:
-        count = write_layer(arguments.out, system, POLYGON_COLUMNS, polygon_rows(text, arguments.text, frame))
+        count = write_layer(target, system, POLYGON_COLUMNS, polygon_rows(text, arguments.text, frame))
     say(f"{arguments.out}: {count:,} features")
     return 0

@@ -2,28 +2,35 @@
 
 from __future__ import annotations
 
-import os
 import sys
 from dataclasses import dataclass
+from pathlib import Path
 from typing import Any, Iterable, Sequence
 
 from osgeo import gdal, ogr, osr
 
 from .faults import Fault, Refusal
-from .layers import LAYER_MARK, Polygon, Source, without_name
+from .layers import Polygon, Source, without_name
 from .messages import followed
+from .whole import Target, draft, target_of
+
+# What is written here is synced as a whole before it is put in place, so SQLite needn't wait for the disk at each step.
+gdal.SetConfigOption("OGR_SQLITE_SYNCHRONOUS", "OFF")
+
+# Drivers whose files are folders.
+FOLDERS = ("OpenFileGDB", "FileGDB")
 
 
-def driver_for(path: str) -> gdal.Driver:
-    """GDAL's first driver that writes vector files with this ending."""
-    ending = os.path.splitext(path)[1].lstrip(".").lower()
+def driver_for(target: Target) -> gdal.Driver:
+    """GDAL's first driver that writes vector files with the ending of this one."""
+    ending = target.path.suffix.lstrip(".").lower()
     for k in range(gdal.GetDriverCount()):
         driver = gdal.GetDriver(k)
         writes = driver.GetMetadataItem(gdal.DCAP_VECTOR) and driver.GetMetadataItem(gdal.DCAP_CREATE)
         if ending and writes and ending in (driver.GetMetadataItem(gdal.DMD_EXTENSIONS) or "").split():
             return driver
     raise Refusal(
-        path,
+        target.name,
         f"no driver of this GDAL writes files that end in .{ending}"
         if ending
         else "has no ending that names a format, as .gpkg",
@@ -52,32 +59,28 @@ class Column:
 Row = tuple[ogr.Geometry, Sequence]
 
 
-def check_output(path: str, overwrite: bool, inputs: Sequence[str]) -> None:
-    """Refuses an output that can't be written, before any work is done."""
-    driver_for(path)
-    for name in (name.partition(LAYER_MARK)[0] for name in inputs):
-        if os.path.exists(path) and os.path.exists(name) and os.path.samefile(path, name):
-            raise Refusal(path, "is an input")
-    if os.path.exists(path) and not overwrite:
-        raise Refusal(path, "is there already; --overwrite replaces it")
-    folder = os.path.dirname(os.path.abspath(path))
-    if not os.path.isdir(folder):
-        raise Fault(path, "its folder isn't there")
+def layer_target(name: str, overwrite: bool, inputs: Iterable[str]) -> Target:
+    """The place of a layer, whose ending names its format; refuses one that can't be written, before any work is done."""
+    target = target_of(name, overwrite, inputs)
+    if driver_for(target).ShortName not in FOLDERS and target.path.is_dir():
+        raise Refusal(name, "is a folder, and no file of this format")
+    return target
 
 
 class Output:
-    """A file of one layer that is being written."""
+    """A target's layer that is being written, in a folder that isn't its own yet."""
 
-    def __init__(self, path: str):
-        self.path = path
+    def __init__(self, target: Target, folder: Path):
+        self.target = target
+        self.path = folder / target.path.name
         self.dataset: Any = None
         self.layer: Any = None
 
     def begin(self, system: osr.SpatialReference | None, columns: Sequence[Column], kind: int) -> None:
-        self.dataset = driver_for(self.path).Create(self.path, 0, 0, 0, gdal.GDT_Unknown)
-        self.layer = self.dataset.CreateLayer(os.path.splitext(os.path.basename(self.path))[0], system, kind)
+        self.dataset = driver_for(self.target).Create(str(self.path), 0, 0, 0, gdal.GDT_Unknown)
+        self.layer = self.dataset.CreateLayer(self.path.stem, system, kind)
         if self.layer.GetLayerDefn().GetGeomFieldCount() == 0:
-            raise Refusal(self.path, "a file of this format keeps no shapes")
+            raise Refusal(self.target.name, "a file of this format keeps no shapes")
         for column in columns:
             self.layer.CreateField(column.defined())
 
@@ -87,7 +90,7 @@ class Output:
         if grouped:
             self.dataset.StartTransaction()
         count = 0
-        for geometry, values in followed(rows, f"writing {self.path}"):
+        for geometry, values in followed(rows, f"writing {self.target.name}"):
             self.add(geometry, values)
             count += 1
         if grouped:
@@ -111,43 +114,38 @@ class Output:
         self.layer = self.dataset = None
         sys.unraisablehook = told
 
+    def check(self, count: int) -> None:
+        """Reads back how many features the closed file has."""
+        try:
+            held = Source(str(self.path))  # a layer is there only as long as its source is
+            found = held.layer.GetFeatureCount()
+        except (Fault, RuntimeError) as error:
+            reason = error.reason if isinstance(error, Fault) else without_name(error, str(self.path))
+            raise Fault(self.target.name, f"can't be read back: {reason}") from error
+        if found != count:
+            raise Fault(self.target.name, f"has {found} of the {count} features that were written to it")
+
 
 def write_layer(
-    path: str,
+    target: Target,
     system: osr.SpatialReference | None,
     columns: Sequence[Column],
     rows: Iterable[Row],
     kind: int = ogr.wkbPolygon,
 ) -> int:
-    """Writes a file of one layer, and answers how many features it has. A file that couldn't be finished is removed."""
-    done = False
-    try:
-        remove(path)
-        output = Output(path)
+    """Writes a file of one layer, and answers how many features it has. Where that fails, what was there stays."""
+    with draft(target) as folder:
+        output = Output(target, folder)
         try:
             output.begin(system, columns, kind)
             count = output.fill(rows)
         except RuntimeError as error:
             error.__traceback__ = None  # its frames would keep the file open
-            raise Fault(path, without_name(error, path)) from error
+            raise Fault(target.name, without_name(error, str(output.path))) from error
         finally:
             output.close()
-        written = Source(path)  # a layer is there only as long as its source is
-        done = written.layer.GetFeatureCount() == count
-        if not done:
-            raise Fault(path, f"doesn't hold the {count} features that were written to it")
-        return count
-    finally:
-        if not done:
-            remove(path)
-
-
-def remove(path: str) -> None:
-    if os.path.exists(path):
-        try:
-            driver_for(path).Delete(path)
-        except RuntimeError:  # what was begun is no file of this format yet
-            os.remove(path)
+        output.check(count)
+    return count
 
 
 def polygon_geometry(polygon: Polygon) -> ogr.Geometry:

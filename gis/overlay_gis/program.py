@@ -4,24 +4,39 @@ from __future__ import annotations
 
 import importlib
 import os
+import re
 import shutil
 import subprocess
 import sys
+from contextlib import suppress
 from dataclasses import dataclass
 from pathlib import Path
 from types import ModuleType
+from typing import Iterator
 
 from .faults import Fault, Refusal
+from .frame import GridPolygon
 from .messages import during
+from .texts import RESULT, Edge, edges_in, kind_of, polygons_in
 
 OPERATIONS = ("union", "intersection", "difference", "symdifference")
 
+# How many segments the program takes, in both layers together.
+SEGMENTS = 1 << 20
+
 HINTS = {
     "0": "the layer is too large: clip it, and join the answers",
-    "5": "the limit of both layers together is 1,048,576 segments: clip them, and join the answers",
+    "5": f"the limit of both layers together is {SEGMENTS:,} segments: clip them, and join the answers",
     "10": "there isn't enough memory",
 }
 
+
+# How the program is told of, and what is said where its answer can't be one.
+PROGRAM = "overlay"
+DOUBT = "is it the program that it should be?"
+
+# A line of the report, but for those of tiles: a name, and its first number.
+REPORTED = re.compile(r"(?!tile )([a-z]+) (\d{1,20})\b")
 
 TOP = Path(__file__).resolve().parents[2]
 
@@ -48,7 +63,7 @@ def located() -> str:
     for place in (TOP / "crates/overlay/out/overlay", TOP / "bin/overlay"):
         if place.is_file():
             return str(place)
-    raise Fault("overlay", "the program isn't on the path, and OVERLAY doesn't name it; README says how it is built")
+    raise Fault(PROGRAM, "the program isn't on the path, and OVERLAY doesn't name it; README says how it is built")
 
 
 @dataclass(frozen=True)
@@ -76,8 +91,8 @@ def run(command: str, inputs: Inputs, out: Path) -> dict[str, int]:
     told = done.stderr.decode("utf-8", "replace").splitlines()
     if done.returncode != 0:
         raise refusal(told[-1] if told else f"ended with status {done.returncode} and no word", done.returncode, inputs)
-    lines = (line.split() for line in told if not line.startswith("tile "))
-    return {line[0]: int(line[1]) for line in lines if len(line) > 1}
+    numbers = (REPORTED.match(line) for line in told)
+    return {found[1]: int(found[2]) for found in numbers if found}
 
 
 def by_library(package: ModuleType, command: str, inputs: Inputs, out: Path) -> dict[str, int]:
@@ -96,10 +111,26 @@ def by_library(package: ModuleType, command: str, inputs: Inputs, out: Path) -> 
 def refusal(line: str, status: int, inputs: Inputs) -> Fault:
     """The fault that a line of the program tells."""
     words = line.removeprefix("overlay: ")
-    name = "overlay"
+    name = PROGRAM
     for mark, layer in (("A: ", inputs.name_a), ("B: ", inputs.name_b)):
         if words.startswith(mark):
             name, words = layer, words.removeprefix(mark)
     hint = HINTS.get(words.partition(" ")[0])
     kind = Refusal if status == Refusal.status else Fault
     return kind(name, f"overlay says: {words}" + (f" ({hint})" if hint else ""))
+
+
+def result_in(text: str) -> list[GridPolygon]:
+    """The polygons of what the program answers to an operation, which is one whole line."""
+    if kind_of(text) == RESULT and text.endswith("\n"):
+        with suppress(Refusal):
+            return polygons_in(text, PROGRAM)
+    raise Fault(PROGRAM, f"its answer is no result: {DOUBT}")
+
+
+def edges_of(text: str) -> Iterator[Edge]:
+    """The edges of what the program answers to `edges`."""
+    try:
+        yield from edges_in(text, PROGRAM)
+    except Refusal as error:
+        raise Fault(PROGRAM, f"{error.reason}: {DOUBT}") from error

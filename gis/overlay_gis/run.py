@@ -3,14 +3,16 @@
 from __future__ import annotations
 
 from argparse import ArgumentParser, Namespace
+from typing import Iterator
 
 from osgeo import ogr
 
 from . import options, program
-from .joined import Joined, check_overlaps, joined
+from .joined import Joined, joined, tell_change
+from .layers import Source, files_of
 from .messages import say
-from .output import Column, check_output, polygon_geometry, write_layer
-from .texts import polygons_in, twice_area
+from .output import Column, Row, layer_target, polygon_geometry, write_layer
+from .texts import twice_area
 
 HELP = "does one set operation on two layers"
 EXAMPLE = "overlay-gis run intersection parcels.gpkg zones.gpkg -o common.gpkg"
@@ -24,19 +26,19 @@ def add_arguments(parser: ArgumentParser) -> None:
     options.add_dissolve(parser)
 
 
-def rows(answer: Joined, text: str):
-    for number, polygon in enumerate(polygons_in(text, "overlay"), 1):
+def rows(answer: Joined, text: str) -> Iterator[Row]:
+    for number, polygon in enumerate(program.result_in(text), 1):
         yield polygon_geometry(answer.frame.polygon(polygon)), (number, answer.frame.area(twice_area(polygon)))
 
 
 def main(arguments: Namespace) -> int:
-    check_output(arguments.out, arguments.overwrite, [arguments.a, arguments.b])
-    names = [arguments.a, arguments.b]
-    with joined(names, arguments.grid, arguments.origin, arguments.system, arguments.dissolve) as both:
+    sources = [Source(arguments.a), Source(arguments.b)]
+    target = layer_target(arguments.out, arguments.overwrite, files_of(sources))
+    with joined(sources, arguments.grid, arguments.origin, arguments.system, arguments.dissolve) as both:
         for layer in both.layers:
-            check_overlaps(both, layer)
+            tell_change(both, layer)
         text = both.run(arguments.operation)
         columns = [Column("id", ogr.OFTInteger64), Column("area", ogr.OFTReal)]
-        count = write_layer(arguments.out, both.system, columns, rows(both, text))
+        count = write_layer(target, both.system, columns, rows(both, text))
     say(f"{arguments.out}: {count:,} polygons")
     return 0

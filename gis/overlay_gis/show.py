@@ -13,6 +13,7 @@ from .arrangement import Ends, ends
 from .faults import Fault, Refusal
 from .frame import GridPoint, GridPolygon
 from .texts import EDGES, LAYERS, Edge, edges_in, kind_of, polygons_in
+from .whole import draft, target_of
 
 HELP = "draws layers, edges texts and results of the grid over one another"
 EXAMPLE = "overlay edges a.wkt b.wkt | overlay-gis show a.wkt b.wkt - -o rounding.svg"
@@ -270,9 +271,7 @@ def main(arguments: Namespace) -> int:
     if not arguments.out:
         sys.stdout.write(text)
         return 0
-    try:
-        with open(arguments.out, "w", encoding="utf-8") as out:
-            out.write(text)
-    except OSError as error:
-        raise Fault(arguments.out, error.strerror) from error
+    target = target_of(arguments.out, True, arguments.files)
+    with draft(target) as folder:
+        (folder / target.path.name).write_text(text, encoding="utf-8")
     return 0

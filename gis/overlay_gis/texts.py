@@ -5,12 +5,14 @@ from __future__ import annotations
 import re
 from dataclasses import dataclass, field
 from heapq import nlargest
-from math import hypot
-from typing import Iterable, Iterator, TextIO
+from itertools import starmap
+from math import dist
+from operator import mul
+from typing import Callable, Iterable, Iterator, TextIO
 
 from .faults import Fault, Refusal
 from .frame import Frame, GridPoint, GridPolygon, GridRing
-from .layers import Polygon
+from .layers import Point, Polygon, Ring
 
 # A polygon's rings in brackets, and what is left of a layer text with a @ for each of these.
 BODY = re.compile(r"\(\s*\([^()]*\)(?:\s*,\s*\([^()]*\))*\s*\)")
@@ -82,8 +84,35 @@ def edges_in(text: str, name: str) -> Iterator[Edge]:
 
 def twice_area(polygon: GridPolygon) -> int:
     """Twice the area of a polygon of the grid: its shell's without its holes', whichever way they run."""
-    shell, *holes = (abs(sum(a * d - c * b for (a, b), (c, d) in zip(ring, ring[1:]))) for ring in polygon)
+    shell, *holes = map(twice_inside, polygon)
     return shell - sum(holes)
+
+
+def twice_inside(ring: GridRing) -> int:
+    xs, ys = zip(*ring)
+    return abs(sum(map(mul, xs, ys[1:])) - sum(map(mul, xs[1:], ys)))
+
+
+@dataclass
+class Moves:
+    """How far vertices were moved onto the grid, in the system's units."""
+
+    vertices: int = 0
+    moved: int = 0
+    way: float = 0.0
+    greatest: float = 0.0
+
+    def take(self, ring: Ring, rounded: GridRing, placed: Callable[[int, int], Point]) -> None:
+        """Takes in a closed ring and where its points are on the grid."""
+        ways = list(map(dist, ring[1:], starmap(placed, rounded[1:])))
+        self.vertices += len(ways)
+        self.moved += len(ways) - ways.count(0.0)
+        self.way += sum(ways)
+        self.greatest = max(self.greatest, *ways)
+
+    @property
+    def mean(self) -> float:
+        return self.way / self.moved if self.moved else 0.0
 
 
 @dataclass
@@ -96,15 +125,16 @@ class Written:
     lengths: list[float] = field(default_factory=list)
     closed: list[int] = field(default_factory=list)
     dropped: list[int] = field(default_factory=list)
+    moves: Moves = field(default_factory=Moves)
 
     def greatest(self, count: int) -> float:
         """The length of so many segments, the longest ones."""
         return sum(nlargest(count, self.lengths))
 
 
-def on_grid(polygon: Polygon, number: int, frame: Frame, seen: Written) -> GridPolygon:
-    """A polygon in grid units. An open ring is closed; one of less than four points covers nothing and is left out."""
-    place, rings = frame.rounded, []
+def closed(polygon: Polygon, number: int, seen: Written) -> Polygon:
+    """A feature's polygon of closed rings. An open ring is closed; one of less than four points covers nothing and is left out."""
+    rings = []
     for points in polygon:
         if points and points[0] != points[-1]:
             seen.closed.append(number)
@@ -112,33 +142,49 @@ def on_grid(polygon: Polygon, number: int, frame: Frame, seen: Written) -> GridP
         if len(points) < 4:
             seen.dropped.append(number)
         else:
-            rings.append([place(x, y) for x, y in points])
+            rings.append(points)
     return rings
+
+
+def on_grid(polygon: Polygon, frame: Frame) -> GridPolygon:
+    """A polygon in grid units."""
+    place = frame.rounded
+    return [[place(x, y) for x, y in ring] for ring in polygon]
+
+
+def segments_of(polygon: GridPolygon) -> int:
+    return sum(a != b for ring in polygon for a, b in zip(ring, ring[1:]))
 
 
 def write_polygons(out: TextIO, features: Iterable[tuple[int, list[Polygon]]], frame: Frame) -> Written:
     """Writes each feature's polygons, numbers and polygons in the system's coordinates, as a line of a layer text."""
     seen = Written()
     for number, polygons in features:
-        rounded = [rings for rings in (on_grid(polygon, number, frame, seen) for polygon in polygons) if rings]
-        for rings in rounded:
-            count(rings, seen)
+        held = [rings for rings in (closed(polygon, number, seen) for polygon in polygons) if rings]
+        rounded = [on_grid(polygon, frame) for polygon in held]
+        for polygon, grid in zip(held, rounded):
+            count(polygon, grid, frame, seen)
         if rounded:
             out.write(line_of(rounded))
     return seen
 
 
-def count(polygon: GridPolygon, seen: Written) -> None:
+def count(polygon: Polygon, rounded: GridPolygon, frame: Frame, seen: Written) -> None:
+    """Takes in a polygon, and what it is on the grid."""
     seen.polygons += 1
-    seen.twice_area += twice_area(polygon)
-    for ring in polygon:
-        lengths = (hypot(c - a, d - b) for (a, b), (c, d) in zip(ring, ring[1:]))
-        seen.lengths.extend(filter(None, lengths))
+    seen.twice_area += twice_area(rounded)
+    for points, ring in zip(polygon, rounded):
+        seen.moves.take(points, ring, frame.placed)
+        seen.lengths.extend(filter(None, map(dist, ring, ring[1:])))
     seen.segments = len(seen.lengths)
 
 
 def body_of(polygon: GridPolygon) -> str:
-    return "(" + ", ".join("(" + ", ".join(f"{x} {y}" for x, y in ring) + ")" for ring in polygon) + ")"
+    return f"({', '.join(map(ring_body, polygon))})"
+
+
+def ring_body(ring: GridRing) -> str:
+    return f"({', '.join([f'{x} {y}' for x, y in ring])})"
 
 
 def line_of(polygons: list[GridPolygon]) -> str:

@@ -4,15 +4,15 @@ from __future__ import annotations
 
 import os
 from argparse import ArgumentParser, Namespace
-from pathlib import Path
 
 from . import frame as frames
 from . import options
 from .faults import Fault, Refusal
 from .frame import Frame
-from .joined import gridded, surveyed, together
-from .layers import Source, common_system, system_from, system_name
+from .joined import box_of, gridded, surveyed, together
+from .layers import Source, Survey, common_system, files_of, system_from, system_name
 from .messages import say
+from .whole import draft, target_of
 
 HELP = "writes layers as texts on the integer grid, with a frame that leads back"
 EXAMPLE = "overlay-gis to-grid parcels.gpkg zones.gpkg -o grid    # grid/parcels.wkt, grid/zones.wkt, grid/frame.json"
@@ -38,17 +38,12 @@ def add_arguments(parser: ArgumentParser) -> None:
     options.add_dissolve(parser)
 
 
-def frame_for(arguments: Namespace, sources: list[Source]) -> Frame:
+def frame_for(arguments: Namespace, sources: list[Source], surveys: list[Survey]) -> Frame:
     """The frame that was named, or one for all layers together."""
-    common = common_system(sources, arguments.system)
-    box = None
-    for source in sources:
-        seen = surveyed(source)
-        box = seen.box.joined(box) if seen.box else box
+    common, box = common_system(sources, arguments.system), box_of(sources, surveys)
     if not arguments.frame:
-        unit = frames.number(arguments.grid) if arguments.grid else None
-        origin = frames.point(arguments.origin) if arguments.origin else None
-        frame = frames.chosen(together(sources), box, common, unit, origin)
+        asked = frames.asked_for(arguments.grid, arguments.origin)
+        frame = frames.chosen(together(sources), box, common, *asked)
     else:
         frame = frames.loaded(arguments.frame)
         held = system_from(frame.system) if frame.system else None
@@ -64,16 +59,22 @@ def frame_for(arguments: Namespace, sources: list[Source]) -> Frame:
 
 def main(arguments: Namespace) -> int:
     sources = [Source(name) for name in arguments.layers]
-    stems = [source.stem for source in sources]
-    if len(set(stems)) < len(stems):
+    names = [f"{source.stem}.wkt" for source in sources]
+    if len(set(names)) < len(names):
         raise Refusal(together(sources), "would be written under one name")
-    frame = frame_for(arguments, sources)
     try:
         os.makedirs(arguments.out, exist_ok=True)
-        for source, stem in zip(sources, stems):
-            layer = gridded(source, frame, Path(arguments.out) / f"{stem}.wkt", arguments.dissolve)
-            say(f"{layer.text}: {layer.written.polygons:,} polygons, {layer.written.segments:,} segments")
     except OSError as error:
-        raise Fault(error.filename or arguments.out, error.strerror) from error
-    frame.saved(os.path.join(arguments.out, FRAME))
+        raise Fault(arguments.out, error.strerror) from error
+    target = target_of(os.path.join(arguments.out, FRAME), True, files_of(sources))
+    for name in names:
+        target.check(target.path.with_name(name))
+    surveys = [surveyed(source) for source in sources]
+    frame = frame_for(arguments, sources, surveys)
+    with draft(target) as folder:
+        for source, seen, name in zip(sources, surveys, names):
+            written = gridded(source, seen, frame, folder / name, arguments.dissolve).written
+            place = os.path.join(arguments.out, name)
+            say(f"{place}: {written.polygons:,} polygons, {written.segments:,} segments")
+        frame.saved(str(folder / FRAME))
     return 0

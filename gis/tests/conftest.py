@@ -45,7 +45,7 @@ def write(
     kind: int = ogr.wkbUnknown,
 ) -> str:
     """A layer file of these shapes; `fields` has a value for each."""
-    driver = {".gpkg": "GPKG", ".shp": "ESRI Shapefile", ".geojson": "GeoJSON"}[path.suffix]
+    driver = {".gpkg": "GPKG", ".shp": "ESRI Shapefile", ".geojson": "GeoJSON", ".fgb": "FlatGeobuf"}[path.suffix]
     dataset = gdal.GetDriverByName(driver).Create(str(path), 0, 0, 0, gdal.GDT_Unknown)
     layer = dataset.CreateLayer(path.stem, system(srs) if srs else None, kind)
     types = {int: ogr.OFTInteger64, float: ogr.OFTReal, str: ogr.OFTString}

@@ -1,0 +1,39 @@
+"""Signals that end a command. They are raised as an exception, so that what was begun is tidied away."""
+
+from __future__ import annotations
+
+import signal
+from contextlib import contextmanager
+from types import FrameType
+from typing import Iterator
+
+SIGNALS = (signal.SIGINT, signal.SIGTERM, signal.SIGHUP)
+
+
+class Stopped(BaseException):
+    """A signal asked the command to end."""
+
+
+def stop(number: int, _: FrameType | None) -> None:
+    go_on()  # a second signal would disturb the tidying
+    raise Stopped("Ctrl-C" if number == signal.SIGINT else signal.Signals(number).name)
+
+
+def go_on() -> None:
+    """From here on no signal of these stops the command."""
+    for number in SIGNALS:
+        signal.signal(number, signal.SIG_IGN)
+
+
+@contextmanager
+def stoppable() -> Iterator[None]:
+    """The signals raise `Stopped`, but for those that were ignored already, as by nohup."""
+    held = {number: signal.getsignal(number) for number in SIGNALS}
+    try:
+        for number, handler in held.items():
+            if handler is not signal.SIG_IGN:
+                signal.signal(number, stop)
+        yield
+    finally:
+        for number, handler in held.items():
+            signal.signal(number, handler)
