@@ -29,7 +29,8 @@ _known: set[str] = set()  # the secrets of the sources that this command was giv
 
 def remember(name: str) -> None:
     """Learns the secrets in a source's name."""
-    found = [match[2] for pattern in (ASSIGNED, SLASHED) for match in pattern.finditer(name)]
+    found = [match[2] for match in ASSIGNED.finditer(name)]
+    found += [match[2].rpartition("@")[0] or match[2] for match in SLASHED.finditer(name)]
     found += [unquote(match[2]).partition(":")[2] for match in ADDRESSED.finditer(name)]
     for secret in found:
         alone = unquote(NEXT.split(secret)[0])

@@ -7,8 +7,10 @@ from pathlib import Path
 from types import ModuleType
 
 import pytest
+from shapely.affinity import translate
+from shapely.geometry import box
 
-from conftest import blobs, parcels, read, write
+from conftest import EAST, NORTH, blobs, parcels, read, write
 from overlay_gis import program
 
 
@@ -71,6 +73,25 @@ def test_the_same_as_by_the_program(gis, package, monkeypatch, tmp_path, words):
     assert gis(*words, a, b, "-o", by_package).status == 0
     assert package[1]
     assert shapes(by_package) == shapes(by_program)
+
+
+OVERLAPPING = [
+    [box(EAST + 30 * k, NORTH, EAST + 30 * k + 30, NORTH + 30) for k in range(200)]
+    + [box(EAST + 10, NORTH + 10, EAST + 10.5, NORTH + 10.5)],
+    [box(EAST, NORTH, EAST + 10, NORTH + 10), box(EAST + 5, NORTH, EAST + 15, NORTH + 10)],
+    [translate(shape, 1 / 3, 1 / 7) for shape in parcels(5, 7)] + [box(EAST + 20, NORTH + 20, EAST + 29, NORTH + 29)],
+]
+
+
+@pytest.mark.parametrize("unit", ["0.001", "0.25"])
+@pytest.mark.parametrize("shapes_of_a", [*OVERLAPPING, parcels(5, 3), parcels(5, 7)])
+def test_the_same_is_said_as_by_the_program(gis, package, monkeypatch, tmp_path, shapes_of_a, unit):
+    a, b = write(tmp_path / "a.gpkg", shapes_of_a), write(tmp_path / "b.gpkg", blobs(6, 7))
+    by_program = gis("run", "union", a, b, "-o", "out.gpkg", "--overwrite", "--grid", unit)
+    monkeypatch.delenv("OVERLAY")
+    by_package = gis("run", "union", a, b, "-o", "out.gpkg", "--overwrite", "--grid", unit)
+    assert package[1] and by_package == by_program
+    assert (" by parity, " in by_package.err) == (shapes_of_a in OVERLAPPING)
 
 
 def test_a_refusal_of_the_package_names_the_layer(gis, package, monkeypatch, tmp_path):

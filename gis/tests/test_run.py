@@ -1,9 +1,11 @@
 """run: Shapely judges the areas, and the bytes don't depend on the format."""
 
 import random
+import re
 import resource
 import subprocess
 import sys
+from math import hypot
 
 import pytest
 from osgeo import gdal, ogr
@@ -57,6 +59,28 @@ def test_what_rounding_means_is_told(gis, tmp_path):
     _, answer = judged(gis, tmp_path, "union", shape, shape, "0.01", 0.71)
     told = "grid 0.01 m, origin 412010, 5654000: a corner moves by at most 0.0071 m (0.71 grid units), a border between two corners by at most 0.0142"
     assert told in answer.err
+
+
+@pytest.mark.parametrize("digits, unit", [(3, "0.001"), (7, "0.01"), (7, "0.5")])
+def test_what_moved_is_told(gis, tmp_path, digits, unit):
+    first, size = parcels(21, digits), float(unit)
+    a, b = write(tmp_path / "a.gpkg", first), write(tmp_path / "b.gpkg", [])
+    answer = gis("run", "union", a, b, "-o", "out.gpkg", "--grid", unit)
+    parts = [part for shape in first for part in getattr(shape, "geoms", [shape])]
+    points = [point for part in parts for ring in (part.exterior, *part.interiors) for point in ring.coords[1:]]
+    ways = [hypot(*(at - round(at / size) * size for at in point)) for point in points]
+    moved = [way for way in ways if way > 1e-7]
+    line = r"a\.gpkg: ([\d,]+) of ([\d,]+) vertices moved(.*); area ([\d.,]+) m² before, and ([\d.,]+) after\n"
+    told = re.search(line, answer.err)
+    count, vertices, before, after = (float(told[k].replace(",", "")) for k in (1, 2, 4, 5))
+    assert (count, vertices) == (len(moved), len(points))
+    assert before == pytest.approx(sum(shape.area for shape in first), rel=1e-9)
+    assert after == pytest.approx(sum(fields["area"] for _, fields in read("out.gpkg")), rel=1e-9)
+    assert bool(moved) == (digits == 7) == bool(told[3])
+    if moved:
+        mean, greatest = map(float, re.findall(r"[\d.]+", told[3]))
+        assert told[3] == f", by {mean:.3g} m on average and {greatest:.3g} at most"
+        assert (mean, greatest) == pytest.approx((sum(moved) / len(moved), max(moved)), rel=0.01)
 
 
 def test_formats_give_the_same_bytes(gis, tmp_path):
