@@ -10,6 +10,7 @@ use Rattle.std.proofs.lemmas.List.Elements.{All-more, All-weaker, All-filter, Al
 use Rattle.std.proofs.lemmas.Option.{slice_get-map, slice_get_within, same_Some}
 use Rattle.std.proofs.Math.ListN.{get_or-append}
 use Rattle.std.proofs.Math.Seq.{get_or-append_seam}
+use Rattle.geom.proofs.Doubling.{back}
 use Rattle.geom.specs.declared.edge.Edge.{Edge}
 use Rattle.geom.specs.declared.edge.Counted.{Counted}
 use Rattle.geom.specs.declared.rect.Rect.{Rect}
