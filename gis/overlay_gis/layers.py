@@ -6,6 +6,7 @@ writes it) where the source has several layers.
 
 from __future__ import annotations
 
+import logging
 import os
 from contextlib import contextmanager
 from dataclasses import dataclass, field
@@ -35,6 +36,7 @@ gdal.UseExceptions()
 ogr.UseExceptions()
 osr.UseExceptions()
 gdal.PushErrorHandler(handle)
+logging.getLogger("shapely").addHandler(logging.NullHandler())  # Shapely 1.8 would print what its exceptions say
 
 Point = tuple[float, float]
 Ring = list[Point]  # the first point again at its end

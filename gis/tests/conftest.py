@@ -108,6 +108,14 @@ def blobs(seed: int, digits: int, count: int = 5) -> list[BaseGeometry]:
     return made
 
 
+@pytest.fixture(autouse=True)
+def unsynced(monkeypatch):
+    """No test of this process waits for the disk, which others may keep busy; `synced` are the files that would be waited for."""
+    synced = []
+    monkeypatch.setattr(os, "fsync", lambda number: synced.append(os.readlink(f"/proc/self/fd/{number}")))
+    return synced
+
+
 @pytest.fixture
 def gis(capfd, monkeypatch, tmp_path):
     """Runs the command in a folder of its own and answers its status and what it said."""

@@ -37,6 +37,7 @@ def stopped(capfd, monkeypatch, tmp_path):
         capfd.readouterr()
         child = os.fork()
         if not child:
+            signal.signal(signal.SIGINT, signal.default_int_handler)  # a shell may have it ignored, in the background
             interrupt(*place, number)
             os._exit(cli.main(list(words)))
         status = os.waitstatus_to_exitcode(os.waitpid(child, 0)[1])
@@ -153,6 +154,21 @@ def test_a_kill_of_texts(stopped, tmp_path):
     assert (folder / "frame.json").read_text() == "POLYGON EMPTY"
 
 
+def test_signals_that_are_ignored_stay_so(stopped, monkeypatch, tmp_path):
+    a, b = layers(tmp_path)
+    monkeypatch.setattr(signal, "default_int_handler", signal.SIG_IGN)
+    assert stopped(ADDED, signal.SIGINT, "run", "difference", a, b, "-o", "out.gpkg").status == 0
+    assert len(read("out.gpkg")) == 9
+
+
+@pytest.mark.parametrize("ending, count", [("gpkg", 1), ("shp", 5)])
+def test_all_parts_are_on_disk_before_they_are_in_place(gis, unsynced, tmp_path, ending, count):
+    a, b = layers(tmp_path)
+    assert gis("run", "difference", a, b, "-o", f"out.{ending}").status == 0
+    *files, folder = unsynced
+    assert len(files) == count and all(".partial/out." in file for file in files) and folder == str(tmp_path)
+
+
 def test_journals_of_an_old_file_are_not_taken_for_the_new_ones(gis, tmp_path):
     a, b = layers(tmp_path)
     write(tmp_path / "out.gpkg", [OLD])
@@ -175,6 +191,7 @@ def test_a_signal_ends_the_program_too(tmp_path, number, name):
         env={**os.environ, "OVERLAY": str(program), "TMPDIR": str(temporary)},
         stderr=subprocess.PIPE,
         text=True,
+        preexec_fn=lambda: signal.signal(signal.SIGINT, signal.SIG_DFL),
     ) as command:
         while not (tmp_path / "begun").exists():
             time.sleep(0.01)
