@@ -79,7 +79,11 @@ fn places<L: Ledger>(
 
 #[test]
 fn places_take_none(rt: HostRuntime) -> Result<(), Fail> {
-    let Ok(grid) = Grid::new(Some(rect(0, 0, 31, 15)), 16) else {
+    let bounds = Rect {
+        lo: Pt { x: 0, y: 0 },
+        hi: Pt { x: 31, y: 15 },
+    };
+    let Ok(grid) = Grid::new(Some(bounds), 16) else {
         return Err(Fail::from("a grid"));
     };
     for (number, expected) in [(0u32, (0u32, 2u32)), (1, (2, 2))] {
