@@ -1,14 +1,16 @@
 //! The run of `overlay` as a plain Rust program: the same rules and the same bytes, with nothing proved and nothing refused.
 //! It is the yardstick for speed, and a second opinion on large layers.
 //!
-//!     plain COMMAND A B [--workers=N] [--tile=SIDE] [--times]
+//!     plain COMMAND A B [--workers=N] [--tile=SIDE] [--report] [--times]
 //!     plain pipe
 //!
-//! The second way answers many pairs, see `pipe.rs`.
+//! The second way answers many pairs, see `pipe.rs`. The report is one line on standard error, the number of records.
 //!
 //! The stages are those of the modules: read, bins, tiles (hot pixels and records), records by segment, links, counted edges,
 //! then their text; or labels, directed edges, next edges, rings and holes, polygons and their text.
 mod bins;
+mod bundle;
+mod crossing;
 mod edges;
 mod hands;
 mod labels;
@@ -18,6 +20,7 @@ mod polygons;
 mod reading;
 mod records;
 mod rings;
+mod stretches;
 mod sweep;
 mod text;
 mod tiles;
@@ -32,18 +35,21 @@ struct Request {
     files: [String; 2],
     workers: usize,
     side: Option<i64>,
+    report: bool,
     times: bool,
 }
 
 impl Request {
     fn read() -> Request {
         let mut words: Vec<String> = Vec::new();
-        let mut request = Request { command: String::new(), files: [String::new(), String::new()], workers: 4, side: None, times: false };
+        let mut request = Request { command: String::new(), files: [String::new(), String::new()], workers: 4, side: None, report: false, times: false };
         for word in std::env::args().skip(1) {
             if let Some(number) = word.strip_prefix("--workers=") {
                 request.workers = number.parse().unwrap();
             } else if let Some(number) = word.strip_prefix("--tile=") {
                 request.side = Some(number.parse().unwrap());
+            } else if word == "--report" {
+                request.report = true;
             } else if word == "--times" {
                 request.times = true;
             } else {
@@ -74,6 +80,7 @@ impl Laps {
 
 /// Both layers up to their counted edges.
 struct Rounded {
+    records: usize,
     counted: Vec<Vec<edges::Counted>>,
     strips: edges::Strips,
 }
@@ -85,6 +92,7 @@ fn round(segments: &[point::Segment], side: Option<i64>, hands: Hands, laps: &mu
     laps.lap("bins");
     let found = tiles::records(&grid, bins, segments, hands);
     laps.lap("tiles");
+    let records = found.iter().map(Vec::len).sum();
     let routes = records::Routes::gather(found, segments.len(), hands);
     laps.lap("records");
     let strips = edges::Strips::of(segments, hands);
@@ -92,23 +100,24 @@ fn round(segments: &[point::Segment], side: Option<i64>, hands: Hands, laps: &mu
     laps.lap("links");
     let counted = edges::count(links, &strips, hands);
     laps.lap("count");
-    Rounded { counted, strips }
+    Rounded { records, counted, strips }
 }
 
 /// The text of a command, in parts, and what it was made of: the program ends without letting go of that, which would take time.
 struct Made {
+    records: usize,
     texts: Vec<Vec<u8>>,
     _of: Option<(labels::Directed, rings::Rings, Vec<Vec<polygons::Piece>>)>,
 }
 
 fn made(rounded: Rounded, command: &str, hands: Hands, laps: &mut Laps) -> Made {
+    let Rounded { records, counted, strips } = rounded;
     if command == "edges" {
-        let texts = text::edges(&rounded.counted, hands);
+        let texts = text::edges(&counted, hands);
         laps.lap("format");
-        return Made { texts, _of: None };
+        return Made { records, texts, _of: None };
     }
-    let strips = rounded.strips;
-    let directed = labels::directed(rounded.counted, command, &strips, hands);
+    let directed = labels::directed(counted, command, &strips, hands);
     laps.lap("labels");
     let next = rings::next_edges(&directed, &strips, hands);
     laps.lap("next");
@@ -120,12 +129,12 @@ fn made(rounded: Rounded, command: &str, hands: Hands, laps: &mut Laps) -> Made 
     laps.lap("polygons");
     let texts = text::polygons(&pieces, &order, directed.edges.len(), hands);
     laps.lap("format");
-    Made { texts, _of: Some((directed, rings, pieces)) }
+    Made { records, texts, _of: Some((directed, rings, pieces)) }
 }
 
 /// The same where no layer has a segment.
 fn made_of_nothing(command: &str) -> Made {
-    Made { texts: vec![if command == "edges" { Vec::new() } else { text::EMPTY.to_vec() }], _of: None }
+    Made { records: 0, texts: vec![if command == "edges" { Vec::new() } else { text::EMPTY.to_vec() }], _of: None }
 }
 
 fn main() {
@@ -147,5 +156,8 @@ fn main() {
         output.write_all(text).unwrap();
     }
     laps.lap("write");
+    if request.report {
+        eprintln!("records {}", found.records);
+    }
     std::mem::forget((segments, found));
 }

@@ -28,8 +28,8 @@ fn answers(pair: &[Vec<u8>; 2]) -> Vec<Vec<u8>> {
     if segments.is_empty() {
         return COMMANDS.iter().map(|command| made_of_nothing(command).texts.concat()).collect();
     }
-    let Rounded { counted, strips } = round(&segments, None, hands, &mut laps);
-    let again = || Rounded { counted: counted.clone(), strips: strips.clone() };
+    let Rounded { records, counted, strips } = round(&segments, None, hands, &mut laps);
+    let again = || Rounded { records, counted: counted.clone(), strips: strips.clone() };
     COMMANDS.iter().map(|command| made(again(), command, hands, &mut laps).texts.concat()).collect()
 }
 

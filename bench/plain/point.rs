@@ -30,6 +30,18 @@ impl Point {
     pub fn y(self) -> i32 {
         (self.0 as u32 as i32) - SHIFT
     }
+
+    /// The run and the rise to another point.
+    #[inline(always)]
+    pub fn to(self, other: Point) -> (i64, i64) {
+        ((other.x() - self.x()) as i64, (other.y() - self.y()) as i64)
+    }
+
+    /// Columns and rows together to a point that isn't left of this one.
+    #[inline(always)]
+    pub fn steps_to(self, other: Point) -> u32 {
+        (other.x() - self.x()) as u32 + (other.y() - self.y()).unsigned_abs()
+    }
 }
 
 /// A segment from its lesser end to its greater one, and its layer, 0 or 1.
@@ -43,6 +55,16 @@ pub struct Segment {
 }
 
 impl Segment {
+    #[inline(always)]
+    pub fn first(&self) -> Point {
+        Point::new(self.px, self.py)
+    }
+
+    #[inline(always)]
+    pub fn last(&self) -> Point {
+        Point::new(self.qx, self.qy)
+    }
+
     #[inline(always)]
     pub fn run(&self) -> i64 {
         (self.qx - self.px) as i64

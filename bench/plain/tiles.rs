@@ -1,8 +1,13 @@
 //! Hot pixels and records of every tile: a tile is halved until few lines are left; then all pairs are crossed, and every line
-//! is tried on every hot pixel. A line is a pair of ends, whatever segments run along it.
+//! is tried on every hot pixel. The lines are the stretches of the tile; ends of segments inside a stretch are its marks.
 use crate::bins::{Bins, Grid, Rect};
+use crate::bundle::Course;
+use crate::crossing::{are_apart, cross, meets};
 use crate::hands::Hands;
 use crate::point::{Point, Segment};
+use crate::stretches::Stretches;
+use std::cmp::Ordering::{Equal, Greater, Less};
+use std::ops::Range;
 use std::sync::atomic::{AtomicUsize, Ordering::Relaxed};
 
 /// Lines that aren't halved any further.
@@ -31,71 +36,6 @@ pub fn records(grid: &Grid, bins: Bins, segments: &[Segment], hands: Hands) -> V
     })
 }
 
-/// Whether the segment has a point in the pixel, which is open on its right and upper side.
-#[inline(always)]
-fn meets(s: &Segment, x: i32, y: i32) -> bool {
-    let (low, high) = s.rows();
-    if x < s.px || x > s.qx || y < low || y > high {
-        return false;
-    }
-    let (dx, dy) = (s.run(), s.rise());
-    let away = 2 * (dx * (y - s.py) as i64 - dy * (x - s.px) as i64);
-    let size = dx + dy.abs();
-    if away == size {
-        return dx > 0 && dy < 0;
-    }
-    -size < away && away < size
-}
-
-/// `m d / n`, rounded to the nearest whole number, halves up, for `0 <= m <= n`: guessed by floating point, then put right.
-#[inline(always)]
-fn rounded(m: i64, n: i64, d: i64) -> i64 {
-    let mut quotient = ((m as f64) * (d as f64) / (n as f64) + 0.5).floor() as i64;
-    let twice = 2 * n as i128;
-    let mut rest = 2 * m as i128 * d as i128 + n as i128 - twice * quotient as i128;
-    while rest < 0 {
-        quotient -= 1;
-        rest += twice;
-    }
-    while rest >= twice {
-        quotient += 1;
-        rest -= twice;
-    }
-    quotient
-}
-
-/// The pixel of the common point of two segments that aren't parallel.
-#[inline(always)]
-fn cross(s: &Segment, t: &Segment) -> Option<(i32, i32)> {
-    let (dx, dy, ex, ey) = (s.run(), s.rise(), t.run(), t.rise());
-    let (fx, fy) = ((t.px - s.px) as i64, (t.py - s.py) as i64);
-    let (mut n, mut m, mut k) = (dx * ey - dy * ex, fx * ey - fy * ex, fx * dy - fy * dx);
-    if n == 0 {
-        return None;
-    }
-    if n < 0 {
-        (n, m, k) = (-n, -m, -k);
-    }
-    if m < 0 || m > n || k < 0 || k > n {
-        return None;
-    }
-    Some((s.px + rounded(m, n, dx) as i32, s.py + rounded(m, n, dy) as i32))
-}
-
-/// Whether two segments have no common point but perhaps a common end, seen by boxes and ends alone.
-#[inline(always)]
-fn are_apart(s: &Segment, t: &Segment) -> bool {
-    let ((s_low, s_high), (t_low, t_high)) = (s.rows(), t.rows());
-    t.px > s.qx
-        || t.qx < s.px
-        || t_low > s_high
-        || t_high < s_low
-        || (t.qx == s.px && t.qy == s.py)
-        || (s.qx == t.px && s.qy == t.py)
-        || (s.px == t.px && s.py == t.py)
-        || (s.qx == t.qx && s.qy == t.qy)
-}
-
 impl Rect {
     /// Whether the segment has a point in the square round the rectangle's pixels: exact, by one determinant.
     #[inline(always)]
@@ -111,7 +51,7 @@ impl Rect {
         away.abs() <= dx * (self.top - self.bottom + 1) as i64 + dy.abs() * (self.right - self.left + 1) as i64
     }
 
-    fn holds(&self, x: i32, y: i32) -> bool {
+    pub fn holds(&self, x: i32, y: i32) -> bool {
         x >= self.left && x <= self.right && y >= self.bottom && y <= self.top
     }
 
@@ -126,16 +66,20 @@ impl Rect {
     }
 }
 
+/// What comes into a rectangle: places of two stacks, of lines and of marks.
+#[derive(Clone)]
+struct Inside {
+    lines: Range<usize>,
+    marks: Range<usize>,
+}
+
 /// The working space of one hand.
 struct Desk<'a> {
     segments: &'a [Segment],
-    /// The tile's segments by their ends, and their numbers.
-    ordered: Vec<(Point, Point, u32)>,
-    /// The different lines, and where in `ordered` each begins.
-    lines: Vec<Segment>,
-    begins: Vec<u32>,
-    /// The numbers of the lines of the rectangles that are being halved, one after the other.
+    stretches: Stretches,
+    /// The numbers of the lines, and the marks, of the rectangles that are being halved, one after the other.
     stack: Vec<u32>,
+    marks: Vec<Point>,
     hot: Vec<Point>,
     heights: Vec<(f64, u32)>,
     records: Vec<Record>,
@@ -145,10 +89,9 @@ impl<'a> Desk<'a> {
     fn new(segments: &'a [Segment], room: usize) -> Self {
         Desk {
             segments,
-            ordered: Vec::new(),
-            lines: Vec::new(),
-            begins: Vec::new(),
+            stretches: Stretches::default(),
             stack: Vec::new(),
+            marks: Vec::new(),
             hot: Vec::new(),
             heights: Vec::new(),
             records: Vec::with_capacity(room),
@@ -156,154 +99,118 @@ impl<'a> Desk<'a> {
     }
 
     fn tile(&mut self, rect: Rect, numbers: &[u32]) {
-        self.ordered.clear();
-        for &number in numbers {
-            let s = &self.segments[number as usize];
-            self.ordered.push((Point::new(s.px, s.py), Point::new(s.qx, s.qy), number));
-        }
-        self.ordered.sort_unstable();
-        self.lines.clear();
-        self.begins.clear();
-        for (place, line) in self.ordered.iter().enumerate() {
-            if place == 0 || (self.ordered[place - 1].0, self.ordered[place - 1].1) != (line.0, line.1) {
-                self.begins.push(place as u32);
-                self.lines.push(self.segments[line.2 as usize]);
-            }
-        }
-        self.begins.push(self.ordered.len() as u32);
+        self.marks.clear();
+        self.stretches.read(self.segments, numbers, &rect, &mut self.marks);
+        self.marks.sort_unstable();
+        self.marks.dedup();
         self.stack.clear();
-        self.stack.extend(0..self.lines.len() as u32);
-        self.halve(rect, 0, self.lines.len());
+        self.stack.extend(0..self.stretches.lines.len() as u32);
+        let lines = &self.stretches.lines;
+        self.stack.sort_unstable_by_key(|&line| lines[line as usize].first());
+        self.halve(rect, Inside { lines: 0..self.stack.len(), marks: 0..self.marks.len() });
+        self.stretches.share(&mut self.records);
     }
 
-    fn line(&self, place: usize) -> &Segment {
-        &self.lines[self.stack[place] as usize]
+    fn lines(&self, places: Range<usize>) -> impl Iterator<Item = &Segment> + Clone {
+        self.stack[places].iter().map(|&line| &self.stretches.lines[line as usize])
     }
 
-    /// A rectangle whose lines are `from..to` of the stack; as deep as the side has binary digits, twice.
-    fn halve(&mut self, rect: Rect, from: usize, to: usize) {
-        let count = to - from;
-        let (is_column, is_row) = (rect.left == rect.right, rect.bottom == rect.top);
-        if count > FEW && (self.is_bundle(&rect, from, to, false) || self.is_bundle(&rect, from, to, true)) {
+    /// Takes a rectangle apart; as deep as the side has binary digits, twice.
+    fn halve(&mut self, rect: Rect, inside: Inside) {
+        let is_few = inside.lines.len() <= FEW;
+        if !is_few && inside.marks.is_empty() && self.is_bundle(&rect, inside.lines.clone()) {
             return;
         }
-        if count <= FEW || (is_column && is_row) {
-            return self.leaf(rect, from, to);
+        if is_few || (rect.left == rect.right && rect.bottom == rect.top) {
+            return self.leaf(rect, inside);
         }
-        let by_column = !is_column && (is_row || self.is_column_better(&rect, from, to));
-        for half in if by_column { rect.halves_by_column() } else { rect.halves_by_row() } {
-            let base = self.stack.len();
-            for place in from..to {
-                let line = self.stack[place];
-                if half.is_met_by(&self.lines[line as usize]) {
-                    self.stack.push(line);
-                }
-            }
-            self.halve(half, base, self.stack.len());
-            self.stack.truncate(base);
+        for half in self.halves(&rect, inside.lines.clone()) {
+            let part = self.part(&half, inside.clone());
+            let (lines, marks) = (part.lines.start, part.marks.start);
+            self.halve(half, part);
+            self.stack.truncate(lines);
+            self.marks.truncate(marks);
         }
     }
 
-    /// Whether fewer of some 48 lines go into both halves by column than by row.
-    fn is_column_better(&self, rect: &Rect, from: usize, to: usize) -> bool {
-        let sent = |halves: [Rect; 2]| -> u32 {
-            let sample = (from..to).step_by(((to - from) / 48).max(1));
-            sample.map(|place| halves.iter().map(|half| half.is_met_by(self.line(place)) as u32).sum::<u32>()).sum()
-        };
-        let (by_column, by_row) = (sent(rect.halves_by_column()), sent(rect.halves_by_row()));
-        if by_column == by_row {
-            rect.right - rect.left >= rect.top - rect.bottom
-        } else {
-            by_column < by_row
-        }
-    }
-
-    /// Whether all lines pass the rectangle's columns (rows, where it is turned) with no end there and no two change places:
-    /// then it has no hot pixel. Told only where heights differ by more than their error.
-    fn is_bundle(&mut self, rect: &Rect, from: usize, to: usize, turned: bool) -> bool {
-        let (first, last) = if turned { (rect.bottom, rect.top) } else { (rect.left, rect.right) };
-        let ends = |s: &Segment| -> [i64; 4] {
-            let [px, py, qx, qy] = [s.px as i64, s.py as i64, s.qx as i64, s.qy as i64];
-            match (turned, py <= qy) {
-                (false, _) => [px, py, qx, qy],
-                (true, true) => [py, px, qy, qx],
-                (true, false) => [qy, qx, py, px],
-            }
-        };
-        for place in from..to {
-            let [px, _, qx, _] = ends(self.line(place));
-            if px >= first as i64 || qx <= last as i64 {
-                return false;
-            }
-        }
-        let doubled_height = |s: &Segment, doubled_x: i64| -> f64 {
-            let [px, py, qx, qy] = ends(s);
-            2.0 * py as f64 + (qy - py) as f64 * (doubled_x - 2 * px) as f64 / (qx - px) as f64
-        };
-        let (entry, exit) = (2 * first as i64 - 1, 2 * last as i64 + 1);
-        self.heights.clear();
-        for place in from..to {
+    /// What comes into a half, put on the stacks.
+    fn part(&mut self, half: &Rect, whole: Inside) -> Inside {
+        let (lines, marks) = (self.stack.len(), self.marks.len());
+        for place in whole.lines {
             let line = self.stack[place];
-            self.heights.push((doubled_height(&self.lines[line as usize], entry), line));
-        }
-        self.heights.sort_unstable_by(|a, b| a.0.total_cmp(&b.0));
-        let (mut last_in, mut last_out) = (f64::NEG_INFINITY, f64::NEG_INFINITY);
-        for &(height_in, line) in &self.heights {
-            let height_out = doubled_height(&self.lines[line as usize], exit);
-            if height_in - last_in < 1e-6 || height_out - last_out < 1e-6 {
-                return false;
+            if half.is_met_by(&self.stretches.lines[line as usize]) {
+                self.stack.push(line);
             }
-            (last_in, last_out) = (height_in, height_out);
         }
-        true
+        for place in whole.marks {
+            let mark = self.marks[place];
+            if half.holds(mark.x(), mark.y()) {
+                self.marks.push(mark);
+            }
+        }
+        Inside { lines: lines..self.stack.len(), marks: marks..self.marks.len() }
     }
 
-    fn leaf(&mut self, rect: Rect, from: usize, to: usize) {
-        self.find_hot(&rect, from, to);
+    /// The halves into which fewer of some 48 lines go both, of a rectangle of more than one pixel.
+    fn halves(&self, rect: &Rect, lines: Range<usize>) -> [Rect; 2] {
+        if rect.left == rect.right {
+            return rect.halves_by_row();
+        } else if rect.bottom == rect.top {
+            return rect.halves_by_column();
+        }
+        let step = (lines.len() / 48).max(1);
+        let sent = |halves: &[Rect; 2]| -> u32 {
+            self.lines(lines.clone()).step_by(step).map(|line| halves.iter().map(|half| half.is_met_by(line) as u32).sum::<u32>()).sum()
+        };
+        let (by_column, by_row) = (rect.halves_by_column(), rect.halves_by_row());
+        match sent(&by_column).cmp(&sent(&by_row)) {
+            Less => by_column,
+            Greater => by_row,
+            Equal if rect.right - rect.left >= rect.top - rect.bottom => by_column,
+            Equal => by_row,
+        }
+    }
+
+    fn is_bundle(&mut self, rect: &Rect, places: Range<usize>) -> bool {
+        let (lines, numbers) = (&self.stretches.lines, &self.stack[places]);
+        [Course::columns(rect), Course::rows(rect)].iter().any(|course| course.is_bundle(lines, numbers, &mut self.heights))
+    }
+
+    fn leaf(&mut self, rect: Rect, inside: Inside) {
+        self.find_hot(&rect, inside.clone());
         self.hot.sort_unstable();
         self.hot.dedup();
-        for place in from..to {
-            let number = self.stack[place] as usize;
-            let line = self.lines[number];
+        for place in inside.lines {
+            let number = self.stack[place];
+            let line = self.stretches.lines[number as usize];
             for &pixel in &self.hot {
-                let (x, y) = (pixel.x(), pixel.y());
-                if meets(&line, x, y) {
-                    let steps = (x - line.px) as u32 + (y - line.py).unsigned_abs();
-                    let along = self.begins[number] as usize..self.begins[number + 1] as usize;
-                    self.records.extend(self.ordered[along].iter().map(|&(_, _, segment)| Record { segment, steps, pixel }));
+                if meets(&line, pixel.x(), pixel.y()) {
+                    self.stretches.meet(number, pixel, &mut self.records);
                 }
             }
         }
     }
 
-    /// Ends and crossings in the rectangle; where it is one pixel, one is enough.
-    fn find_hot(&mut self, rect: &Rect, from: usize, to: usize) {
+    /// Marks, ends and crossings in the rectangle; where it is one pixel, one is enough.
+    fn find_hot(&mut self, rect: &Rect, inside: Inside) {
         self.hot.clear();
+        self.hot.extend_from_slice(&self.marks[inside.marks]);
         let is_pixel = rect.left == rect.right && rect.bottom == rect.top;
-        for place in from..to {
-            let s = self.lines[self.stack[place] as usize];
-            for (x, y) in [(s.px, s.py), (s.qx, s.qy)] {
-                if rect.holds(x, y) {
-                    self.hot.push(Point::new(x, y));
-                }
+        let lines = self.stack[inside.lines].iter().map(|&line| &self.stretches.lines[line as usize]);
+        for end in lines.clone().flat_map(|line| [line.first(), line.last()]) {
+            if rect.holds(end.x(), end.y()) {
+                self.hot.push(end);
             }
         }
-        if is_pixel && !self.hot.is_empty() {
-            return;
-        }
-        for second in from..to {
-            let s = self.lines[self.stack[second] as usize];
-            for first in from..second {
-                let t = &self.lines[self.stack[first] as usize];
-                if are_apart(&s, t) {
+        for (number, s) in lines.clone().enumerate() {
+            for t in lines.clone().take(number) {
+                if is_pixel && !self.hot.is_empty() {
+                    return;
+                }
+                if are_apart(s, t) {
                     continue;
                 }
-                if let Some((x, y)) = cross(&s, t).filter(|&(x, y)| rect.holds(x, y)) {
-                    self.hot.push(Point::new(x, y));
-                    if is_pixel {
-                        return;
-                    }
-                }
+                self.hot.extend(cross(s, t).filter(|&(x, y)| rect.holds(x, y)).map(|(x, y)| Point::new(x, y)));
             }
         }
     }
