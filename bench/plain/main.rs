@@ -9,7 +9,6 @@
 //! The stages are those of the modules: read, bins, tiles (hot pixels and records), records by segment, links, counted edges,
 //! then their text; or labels, directed edges, next edges, rings and holes, polygons and their text.
 mod bins;
-mod bundle;
 mod crossing;
 mod edges;
 mod hands;
@@ -19,6 +18,7 @@ mod point;
 mod polygons;
 mod reading;
 mod records;
+mod ribbon;
 mod rings;
 mod stretches;
 mod sweep;

@@ -1,10 +1,14 @@
-//! Hot pixels and records of every tile: a tile is halved until few lines are left; then all pairs are crossed, and every line
-//! is tried on every hot pixel. The lines are the stretches of the tile; ends of segments inside a stretch are its marks.
+//! Hot pixels and records of every tile. The lines are the stretches of the tile's segments; points that are known to be hot are
+//! marks, as the ends of segments inside a stretch are.
+//!
+//! Where most lines run side by side through a rectangle, they are left out as a ribbon: what they cross becomes marks of the rest,
+//! and what the rest finds is looked up in the ribbon. Else the rectangle is halved. Where few lines are left all pairs are
+//! crossed, and every line is tried on every hot pixel.
 use crate::bins::{Bins, Grid, Rect};
-use crate::bundle::Course;
 use crate::crossing::{are_apart, cross, meets};
 use crate::hands::Hands;
 use crate::point::{Point, Segment};
+use crate::ribbon::{Course, Parted};
 use crate::stretches::Stretches;
 use std::cmp::Ordering::{Equal, Greater, Less};
 use std::ops::Range;
@@ -80,8 +84,11 @@ struct Desk<'a> {
     /// The numbers of the lines, and the marks, of the rectangles that are being halved, one after the other.
     stack: Vec<u32>,
     marks: Vec<Point>,
+    /// The lines of the ribbons that were left out of these rectangles, and the hot pixels that were found without them.
+    ribbons: Vec<u32>,
+    found: Vec<Point>,
     hot: Vec<Point>,
-    heights: Vec<(f64, u32)>,
+    parted: Parted,
     records: Vec<Record>,
 }
 
@@ -92,8 +99,10 @@ impl<'a> Desk<'a> {
             stretches: Stretches::default(),
             stack: Vec::new(),
             marks: Vec::new(),
+            ribbons: Vec::new(),
+            found: Vec::new(),
             hot: Vec::new(),
-            heights: Vec::new(),
+            parted: Parted::default(),
             records: Vec::with_capacity(room),
         }
     }
@@ -104,6 +113,7 @@ impl<'a> Desk<'a> {
         self.marks.sort_unstable();
         self.marks.dedup();
         self.stack.clear();
+        self.found.clear();
         self.stack.extend(0..self.stretches.lines.len() as u32);
         let lines = &self.stretches.lines;
         self.stack.sort_unstable_by_key(|&line| lines[line as usize].first());
@@ -115,13 +125,17 @@ impl<'a> Desk<'a> {
         self.stack[places].iter().map(|&line| &self.stretches.lines[line as usize])
     }
 
-    /// Takes a rectangle apart; as deep as the side has binary digits, twice.
+    /// Takes a rectangle apart; as deep as the side has binary digits, twice, and the number of lines.
     fn halve(&mut self, rect: Rect, inside: Inside) {
-        let is_few = inside.lines.len() <= FEW;
-        if !is_few && inside.marks.is_empty() && self.is_bundle(&rect, inside.lines.clone()) {
-            return;
+        if inside.lines.len() <= FEW {
+            return self.leaf(rect, inside);
         }
-        if is_few || (rect.left == rect.right && rect.bottom == rect.top) {
+        for course in Course::both(&rect) {
+            if course.part(&self.stretches.lines, &self.stack[inside.lines.clone()], &mut self.parted) {
+                return self.leave_ribbon(rect, inside, course);
+            }
+        }
+        if rect.left == rect.right && rect.bottom == rect.top {
             return self.leaf(rect, inside);
         }
         for half in self.halves(&rect, inside.lines.clone()) {
@@ -131,6 +145,44 @@ impl<'a> Desk<'a> {
             self.stack.truncate(lines);
             self.marks.truncate(marks);
         }
+    }
+
+    /// Goes on without the lines that were parted as a ribbon, and then looks up in it what was found.
+    fn leave_ribbon(&mut self, rect: Rect, inside: Inside, course: Course) {
+        let (ribbon, found) = (self.ribbons.len(), self.found.len());
+        self.ribbons.extend(self.parted.ribbon.iter().map(|&(_, number)| number));
+        let rest = self.rest(&rect, inside, course, ribbon);
+        let (lines, marks) = (rest.lines.start, rest.marks.start);
+        if !rest.lines.is_empty() || !rest.marks.is_empty() {
+            self.halve(rect, rest);
+        }
+        for place in found..self.found.len() {
+            let pixel = self.found[place];
+            for met in course.meeting(&self.stretches.lines, &self.ribbons[ribbon..], pixel) {
+                self.stretches.meet(self.ribbons[ribbon + met], pixel, &mut self.records);
+            }
+        }
+        self.stack.truncate(lines);
+        self.marks.truncate(marks);
+        self.ribbons.truncate(ribbon);
+    }
+
+    /// The rest of the lines, put on the stacks with their crossings with the ribbon as marks.
+    fn rest(&mut self, rect: &Rect, inside: Inside, course: Course, ribbon: usize) -> Inside {
+        let (lines, mut marks) = (self.stack.len(), self.marks[inside.marks].to_vec());
+        self.stack.extend_from_slice(&self.parted.rest);
+        for line in self.lines(lines..self.stack.len()) {
+            course.cross_ribbon(&self.stretches.lines, &self.ribbons[ribbon..], line, |x, y| {
+                if rect.holds(x, y) {
+                    marks.push(Point::new(x, y));
+                }
+            });
+        }
+        marks.sort_unstable();
+        marks.dedup();
+        let first = self.marks.len();
+        self.marks.append(&mut marks);
+        Inside { lines: lines..self.stack.len(), marks: first..self.marks.len() }
     }
 
     /// What comes into a half, put on the stacks.
@@ -171,15 +223,13 @@ impl<'a> Desk<'a> {
         }
     }
 
-    fn is_bundle(&mut self, rect: &Rect, places: Range<usize>) -> bool {
-        let (lines, numbers) = (&self.stretches.lines, &self.stack[places]);
-        [Course::columns(rect), Course::rows(rect)].iter().any(|course| course.is_bundle(lines, numbers, &mut self.heights))
-    }
-
     fn leaf(&mut self, rect: Rect, inside: Inside) {
         self.find_hot(&rect, inside.clone());
         self.hot.sort_unstable();
         self.hot.dedup();
+        if !self.ribbons.is_empty() {
+            self.found.extend_from_slice(&self.hot);
+        }
         for place in inside.lines {
             let number = self.stack[place];
             let line = self.stretches.lines[number as usize];
