@@ -6,7 +6,7 @@ import sys
 
 from . import programs
 
-NAMES = ("compare", "texts", "memory", "faults", "workers", "parallel", "limits", "speed", "library", "laws", "requests", "kernels", "sizes", "documents")
+NAMES = ("compare", "texts", "memory", "faults", "workers", "parallel", "limits", "hostile", "speed", "library", "laws", "requests", "kernels", "sizes", "documents")
 WITHOUT_PROGRAM = ("laws", "requests", "kernels", "sizes", "documents")
 
 

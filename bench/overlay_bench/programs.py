@@ -2,6 +2,7 @@
 from __future__ import annotations
 
 import os
+import resource
 import shutil
 import signal
 import subprocess
@@ -53,11 +54,12 @@ class Taken:
     memory: float
 
 
-def taken(words, output, seconds):
-    """Measures a run whose standard output goes to a file."""
-    with open(output, "wb") as out:
+def taken(words, output, seconds, errors=os.devnull, processor=None):
+    """Measures a run whose standard output, and whose errors, go to files. It may be given so many whole processor seconds too."""
+    limit = None if processor is None else lambda: resource.setrlimit(resource.RLIMIT_CPU, (processor, processor))
+    with open(output, "wb") as out, open(errors, "wb") as err:
         start = time.monotonic()
-        process = subprocess.Popen(words, stdout=out, stderr=subprocess.DEVNULL)
+        process = subprocess.Popen(words, stdout=out, stderr=err, preexec_fn=limit)
         over = threading.Event()
 
         def end():
@@ -70,8 +72,9 @@ def taken(words, output, seconds):
         timer.cancel()
         clock = time.monotonic() - start
         process.returncode = os.waitstatus_to_exitcode(status)
-    ended = None if over.is_set() else process.returncode
-    return Taken(ended, clock, used.ru_utime + used.ru_stime, used.ru_maxrss / 1024)
+    seconds_used = used.ru_utime + used.ru_stime
+    is_over = over.is_set() or processor is not None and process.returncode < 0 and seconds_used >= 0.9 * processor
+    return Taken(None if is_over else process.returncode, clock, seconds_used, used.ru_maxrss / 1024)
 
 
 def compiler_of_c():

@@ -86,18 +86,14 @@ impl Course {
 
     /// Whether more than half of the lines make a ribbon; they are then parted.
     pub fn part(&self, lines: &[Segment], numbers: &[u32], parted: &mut Parted) -> bool {
+        let is_through = |number: &&u32| self.is_run_through(&lines[**number as usize]);
+        if 2 * numbers.iter().filter(is_through).count() <= numbers.len() {
+            return false;
+        }
         parted.ribbon.clear();
         parted.rest.clear();
-        for &number in numbers {
-            let line = &lines[number as usize];
-            if self.is_run_through(line) {
-                parted.ribbon.push((self.near(line, self.entry()), number));
-            } else if 2 * parted.rest.len() < numbers.len() {
-                parted.rest.push(number);
-            } else {
-                return false;
-            }
-        }
+        parted.rest.extend(numbers.iter().filter(|number| !is_through(number)));
+        parted.ribbon.extend(numbers.iter().filter(is_through).map(|&number| (self.near(&lines[number as usize], self.entry()), number)));
         self.straighten(lines, parted);
         2 * parted.ribbon.len() > numbers.len()
     }

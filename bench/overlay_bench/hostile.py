@@ -1,0 +1,278 @@
+"""sweeps over kinds of layers that are made to hurt, at all sizes of coordinates: bytes, processor time and growth
+
+Each pair of layers (`hostile_kinds`) is run by all commands and three tile sides (the default one, an eighth of the width, the whole
+width as far as a side may go), by one worker. The bytes have to be the plain program's. What goes in and comes out are input segments,
+records (as the plain program reports them) and output edges or points. A run may take ten times what parcels take for as much of that,
+and grow from one size of a kind to the next one at most as its power of 1.2; less than a tenth of a second is no fault, and what takes
+more is measured up to three times. A run that takes more processor seconds than it may (or a hundred times as long on the clock) is
+ended, told with its layers' name, and its kind is not tried at greater sizes. The exit status is 1 where anything of this is not as it should be. With --only, --size and --coordinates one kind, or
+one pair of layers, is tried: its layers are kept in bench/out.
+"""
+from __future__ import annotations
+
+import filecmp
+import os
+import shutil
+import statistics
+import tempfile
+from dataclasses import dataclass
+
+from . import hostile_kinds, maps, programs, side_by_side
+from .hostile_kinds import KINDS
+from .programs import COMMANDS, taken
+
+COORDINATES = (4, 8, 13, 18, 23, 28)
+SIZES = (3, 30, 300, 3_000, 30_000, 200_000)
+TIMES, POWER, LEAST = 10, 1.2, 0.1
+GREATEST_SIDE = 1 << 25
+# The smallest layers that once took hours, or much longer than others: kind, segments, coordinates.
+FINDS = (
+    ("to_and_fro", 34, 13), ("to_and_fro", 34, 28), ("slivers_at_one_tip", 60, 28), ("rectangles_on_one_base", 160, 28),
+    ("confetti_on_diagonals", 2_000, 28), ("diamonds_at_one_tip", 4_000, 28), ("deep_slope", 6_000, 28),
+)
+
+
+def add_arguments(parser):
+    parser.add_argument("--only", nargs="+", default=[], choices=KINDS, metavar="KIND", help="of: " + ", ".join(KINDS))
+    parser.add_argument("--size", nargs="+", type=int, default=[], metavar="SEGMENTS")
+    parser.add_argument("--coordinates", nargs="+", type=int, default=[], metavar="BITS", help="they reach as far as 2 to the power of it")
+    parser.add_argument("--commands", nargs="+", default=COMMANDS, choices=COMMANDS, metavar="COMMAND")
+    parser.add_argument("--short", action="store_true", help="a share: the smallest finds, and each kind at two sizes by two commands, the default side")
+    parser.add_argument("--finds", action="store_true", help="the smallest finds alone")
+    parser.add_argument("--seconds", type=int, help="processor seconds after which a run is over (default 60, 5 of a short one or of the finds)")
+    parser.add_argument("--jobs", type=int, default=1, help="processes side by side")
+    parser.add_argument("--worst", type=int, default=12, help="how many kinds are shown")
+
+
+@dataclass(frozen=True)
+class Family:
+    """A kind at one reach of the coordinates, at some sizes."""
+
+    kind: str
+    bits: int
+    sizes: tuple
+    commands: tuple
+    sides: tuple
+
+    def layers(self, size):
+        return "%s, %d segments, 2^%d" % (self.kind, size, self.bits)
+
+
+def sides_of(bits):
+    """The default side, an eighth of the width, and the whole of it or the greatest one there may be."""
+    return None, max(16, 1 << bits >> 2), min(max(16, (2 << bits) + 1), GREATEST_SIDE)
+
+
+def families(arguments):
+    sizes = tuple(sorted(arguments.size)) or SIZES
+    for kind in arguments.only or KINDS:
+        for bits in arguments.coordinates or COORDINATES:
+            yield Family(kind, bits, sizes, tuple(arguments.commands), sides_of(bits))
+
+
+def finds(kinds):
+    """The smallest layers of these kinds that a program was seen to hang on."""
+    for kind, size, bits in FINDS:
+        if kind in kinds:
+            yield Family(kind, bits, (size,), ("edges", "union"), (None,))
+
+
+def short_families():
+    """The finds, each kind at the full reach, and at another one in turn."""
+    yield from finds(KINDS)
+    for number, kind in enumerate(KINDS):
+        for bits, size in ((COORDINATES[-1], 1_000), (COORDINATES[number % len(COORDINATES)], 3_000)):
+            yield Family(kind, bits, (size,), ("edges", COMMANDS[1 + number % 4]), (None,))
+
+
+@dataclass
+class Run:
+    """What a command took on layers; how much went in and came out, and how many times what parcels take that was."""
+
+    layers: str
+    command: str
+    side: int | None
+    processor: float
+    plain: float | None
+    items: int
+    times: float = 0.0
+    growth: float = 0.0
+    fault: str = ""
+
+    def __str__(self):
+        side = " --tile=%d" % self.side if self.side else ""
+        return "%s, %s%s: %s" % (self.layers, self.command, side, self.fault)
+
+
+def within(words, output, seconds, errors=os.devnull):
+    """Measures a run that may take so many processor seconds."""
+    return taken(words, output, 100 * seconds, errors, seconds)
+
+
+def items_of(output):
+    """The edges, or the points and rings, of a text."""
+    with open(output, "rb") as file:
+        return sum(part.count(b",") + part.count(b"\n") for part in iter(lambda: file.read(1 << 20), b""))
+
+
+class Judged:
+    """The plain program's answers on two layers."""
+
+    def __init__(self, files, folder, seconds):
+        self.files, self.folder, self.seconds, self.runs = files, folder, seconds, {}
+        self.records = self.report()
+
+    def output(self, command):
+        return os.path.join(self.folder, "plain " + command)
+
+    def report(self):
+        """The number of records; none where it takes too long."""
+        told = os.path.join(self.folder, "report")
+        self.runs["edges"] = within([programs.plain(), "edges", *self.files, "--workers=1", "--report"], self.output("edges"), self.seconds, told)
+        with open(told) as file:
+            return sum(int(line.split()[1]) for line in file if line.startswith("records"))
+
+    def run(self, command):
+        if command not in self.runs:
+            self.runs[command] = within([programs.plain(), command, *self.files, "--workers=1"], self.output(command), self.seconds)
+        return self.runs[command]
+
+
+class Yardstick:
+    """The processor seconds that parcels take for each of what goes in and comes out, by command."""
+
+    def __init__(self, program, size, commands, folder):
+        files = [os.path.join(folder, name) for name in ("parcels a", "parcels b")]
+        programs.apart(lambda: maps.write("parcels", size, files))
+        judged = Judged(files, folder, 120)
+        self.rates = {command: self.rate(program, command, judged, size) for command in commands}
+
+    def rate(self, program, command, judged, size):
+        judged.run(command)
+        times = [taken([program, command, *judged.files, "--workers=1"], os.devnull, 120).processor for _ in range(5)]
+        return statistics.median(times) / (size + judged.records + items_of(judged.output(command)))
+
+    def times(self, run):
+        return run.processor / (self.rates[run.command] * run.items)
+
+
+class Sweep:
+    """Runs families of layers by a program."""
+
+    def __init__(self, arguments, yardstick, seconds):
+        self.arguments, self.yardstick, self.seconds = arguments, yardstick, seconds
+        self.program = arguments.program
+
+    def family(self, family):
+        """All runs of a family, from its smallest size on."""
+        runs, before = [], {}
+        with tempfile.TemporaryDirectory() as folder:
+            files = [os.path.join(folder, name) for name in ("a.wkt", "b.wkt")]
+            for size in family.sizes:
+                programs.apart(lambda: hostile_kinds.write(family.kind, size, 1 << family.bits, files))
+                found = list(self.size(family, size, files, folder, before))
+                runs += found
+                self.keep(family, size, files, found)
+                if any("over" in run.fault for run in found):
+                    break
+        return runs
+
+    def keep(self, family, size, files, found):
+        """Layers that were asked for by name, or on which something is wrong, in bench/out."""
+        if self.arguments.only or any(run.fault for run in found):
+            texts = [open(file, "rb").read() for file in files]
+            programs.keep(os.path.join(programs.OUT, "hostile"), "%s-%d-%d-" % (family.kind, size, family.bits), texts)
+
+    def size(self, family, size, files, folder, before):
+        """The runs on two layers. `before` has those of the size before, by command and side."""
+        judged = Judged(files, folder, self.seconds)
+        for command in family.commands:
+            for side in family.sides:
+                run = self.run(family.layers(size), command, side, judged, before.get((command, side)))
+                yield run
+                before[command, side] = run
+                if "over" in run.fault:
+                    return
+
+    def run(self, layers, command, side, judged, before):
+        """One run, measured again where it takes too long."""
+        plain, output = judged.run(command), os.path.join(judged.folder, "found")
+        words = [self.program, command, *judged.files, "--workers=1"] + (["--tile=%d" % side] if side else [])
+        segments = sum(text.count(b",") for text in (open(file, "rb").read() for file in judged.files))
+        found = Run(layers, command, side, self.seconds, None if plain.status is None else plain.processor, segments + judged.records)
+        for _ in range(3):
+            ran = within(words, output, self.seconds)
+            if ran.status is None:
+                found.fault = "over after %d processor seconds" % self.seconds
+                return found
+            found.processor = min(found.processor, ran.processor)
+            found.items = max(1, segments + judged.records + items_of(output))
+            found.fault = self.fault(found, before)
+            if not found.fault:
+                break
+        if ran.status:
+            found.fault = "status %d" % ran.status
+        elif plain.status is None:
+            found.fault = "the plain program is over after %d processor seconds" % self.seconds
+        elif not filecmp.cmp(output, judged.output(command), shallow=False):
+            found.fault = "bytes differ"
+        return found
+
+    def fault(self, run, before):
+        """What is wrong with the time of a run, whose numbers are filled in."""
+        run.times = self.yardstick.times(run)
+        if run.processor <= LEAST:
+            return ""
+        if run.times > TIMES:
+            return "%.2f s, %.1f times what parcels take" % (run.processor, run.times)
+        if before and run.items > before.items:
+            run.growth = run.processor / max(LEAST, before.processor) / (run.items / before.items) ** POWER
+            if run.growth > 1:
+                return "%.2f s, from %.2f s before: %.1f times what it may grow" % (run.processor, before.processor, run.growth)
+        return ""
+
+
+def shown(kind, runs):
+    """The row of a kind: its hardest run."""
+    run = max(runs, key=lambda run: ("over" in run.fault, run.times if run.processor > LEAST else 0, run.processor))
+    plain = "over" if run.plain is None else "%.2f" % run.plain
+    processor = "over" if "over" in run.fault else "%.2f" % run.processor
+    return "| %s | %s | %s | %s | %s | %.1f | %.1f |" % (
+        run.layers, run.command, run.side or "", processor, plain, run.times, max(run.growth for run in runs))
+
+
+def table(found, worst):
+    """The hardest kinds."""
+    print("\n| layers | command | side | processor s | plain | times parcels | growth, of what may be |\n" + "|---" * 7 + "|")
+    hardness = lambda runs: max((("over" in run.fault) * 1000 + run.times) * (run.processor > LEAST) for run in runs)
+    for kind in sorted(found, key=lambda kind: -hardness(found[kind]))[:worst]:
+        print(shown(kind, found[kind]))
+
+
+def main(arguments):
+    programs.plain()
+    narrowed = arguments.only or arguments.size or arguments.coordinates
+    if arguments.finds:
+        wanted = list(finds(arguments.only or KINDS))
+    else:
+        wanted = list(short_families() if arguments.short and not narrowed else families(arguments))
+    commands = sorted({command for family in wanted for command in family.commands})
+    seconds = arguments.seconds or (5 if arguments.short or arguments.finds else 60)
+    folder, found = tempfile.mkdtemp(), {}
+    try:
+        yardstick = Yardstick(arguments.program, 30_000 if arguments.short or arguments.finds else 100_000, commands, folder)
+        sweep = Sweep(arguments, yardstick, seconds)
+        for family, runs in side_by_side.results(sweep.family, wanted, arguments.jobs):
+            if isinstance(runs, side_by_side.Ended):
+                runs = [Run(family.layers(family.sizes[0]), "all", None, 0, None, 1, fault="the comparing process ended: %s" % runs)]
+            found.setdefault(family.kind, []).extend(runs)
+            for run in runs:
+                if run.fault:
+                    print(run, flush=True)
+    finally:
+        shutil.rmtree(folder, ignore_errors=True)
+    table(found, arguments.worst)
+    runs = [run for of_kind in found.values() for run in of_kind]
+    wrong = sum(bool(run.fault) for run in runs)
+    print("%d kinds, %d pairs of layers, %d runs: %d are not as they should be" % (len(found), len({run.layers for run in runs}), len(runs), wrong))
+    return int(wrong > 0)
