@@ -7,6 +7,11 @@
 
 ghost use Rattle.std.specs.Thread.{IsSend, IsSync};
 
+mod part;
+mod parts;
+
+pub use part::{Part, even_parts, joined, parts_of_work};
+pub use parts::map_parts;
 use std::thread::{self, Threads};
 
 /// From so many hands on, the second call starts threads of its own.

@@ -1,0 +1,2 @@
+pub mod Oks
+pub mod Consecutive
