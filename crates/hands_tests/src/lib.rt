@@ -1,5 +1,7 @@
-//! Tests of two calls at once.
+//! Tests of two calls at once, and of parts that several hands map.
 #![tactic(auto)]
 
 #[cfg(test)]
 mod meeting;
+#[cfg(test)]
+mod parts;
