@@ -1,1 +1,2 @@
 pub mod Consecutive
+pub mod Idle
