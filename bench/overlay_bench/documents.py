@@ -1,4 +1,4 @@
-"""tells what the documents name and the repository doesn't have: paths, lemmas, calls and definitions, and lemma files of geom that CONTRACTS leaves out
+"""tells what the documents name and the repository doesn't have: paths, lemmas, calls and definitions, lemma files of geom that CONTRACTS leaves out, and documents longer than they may be
 
 Whatever stands between backquotes in README and docs/ is looked at. A path stands below the root or below a crate, with or without its
 ending; `File.lemma` is a lemma of a file of that name; in CONTRACTS, MAP and PROOFS each longer word has to stand somewhere in crates/.
@@ -15,6 +15,8 @@ PATH = re.compile(r"[\w.*-]*(/[\w.*-]+)+/?")
 LEMMA = re.compile(r"(?:proofs/)?([A-Z]\w*)\.(\w+)")
 # Documents in which each longer word is one of the code.
 OF_CODE = ("CONTRACTS.md", "MAP.md", "PROOFS.md")
+# How many words a document may have at most.
+MOST_WORDS = {"README.md": 1200, "docs/CHECKING.md": 1200, "docs/CONTRACTS.md": 3400, "docs/DECISIONS.md": 2500}
 MADE = ("/out/", "out/", "File.", "common_ground", "a/b")
 
 
@@ -76,6 +78,11 @@ def main(_):
         for name in missing(document, sources):
             wrong += 1
             print("%s: %s isn't there" % (document, name))
+    for document, most in MOST_WORDS.items():
+        words = len(text_of(document).split())
+        if words > most:
+            wrong += 1
+            print("%s: %d words, %d at most" % (document, words, most))
     for name in unlisted():
         wrong += 1
         print("docs/CONTRACTS.md: %s of crates/geom/proofs isn't listed" % name)
