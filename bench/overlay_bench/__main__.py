@@ -4,7 +4,7 @@ import importlib
 import os
 import sys
 
-from . import programs
+from . import programs, results
 
 NAMES = ("compare", "texts", "memory", "faults", "workers", "parallel", "limits", "hostile", "speed", "library", "laws", "requests", "kernels", "sizes", "documents")
 WITHOUT_PROGRAM = ("laws", "requests", "kernels", "sizes", "documents")
@@ -12,6 +12,7 @@ WITHOUT_PROGRAM = ("laws", "requests", "kernels", "sizes", "documents")
 
 def main():
     parser = argparse.ArgumentParser(prog="bench/run", description="Measurements and comparisons of the built program.")
+    parser.add_argument("--record", action="store_true", help="keep what is printed in bench/results")
     commands = parser.add_subparsers(dest="name", metavar="NAME", required=True)
     modules = {name: importlib.import_module("overlay_bench." + name) for name in NAMES}
     for name, module in modules.items():
@@ -24,7 +25,8 @@ def main():
     is_making = getattr(arguments, "make", False)
     if arguments.name not in WITHOUT_PROGRAM and not is_making and arguments.program == programs.BUILT and not os.access(programs.BUILT, os.X_OK):
         sys.exit("%s is not built: cd crates/overlay && rt run -- --help" % os.path.relpath(programs.BUILT))
-    return modules[arguments.name].main(arguments)
+    call = lambda: modules[arguments.name].main(arguments)
+    return results.recorded(arguments.name, sys.argv[2:], call) if arguments.record else call()
 
 
 sys.exit(main())

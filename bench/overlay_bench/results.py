@@ -1,0 +1,74 @@
+"""What a command printed, kept in `bench/results`: its table in a file of the command's name, its last line in `runs.tsv`, each with the date, the commit, the machine's processors and the words of the command."""
+import datetime
+import os
+import subprocess
+import sys
+
+from . import programs
+
+FOLDER = os.path.join(programs.ROOT, "bench", "results")
+HEAD = ("date", "commit", "processors", "words")
+
+
+class Listening:
+    """A stream that also keeps what goes through it."""
+
+    def __init__(self, stream):
+        self.stream, self.text = stream, []
+
+    def write(self, text):
+        self.text.append(text)
+        return self.stream.write(text)
+
+    def flush(self):
+        self.stream.flush()
+
+    def lines(self):
+        return "".join(self.text).splitlines()
+
+
+def cells(line):
+    return [cell.strip().replace("`", "").replace("\t", " ") for cell in line.strip().strip("|").split("|")]
+
+
+def rows_of(lines):
+    """The rows of the tables among the lines, the head of the first one before them."""
+    rows = [cells(line) for line in lines if line.startswith("|") and not line.startswith("|---")]
+    return rows[:1] + [row for row in rows[1:] if row != rows[0]]
+
+
+def commit():
+    asked = subprocess.run(["git", "-C", programs.ROOT, "describe", "--always", "--dirty"], capture_output=True, text=True, check=False)
+    return asked.stdout.strip()
+
+
+def append(name, head, rows):
+    """Puts rows behind those of a file, which begins with its head."""
+    os.makedirs(FOLDER, exist_ok=True)
+    path = os.path.join(FOLDER, name + ".tsv")
+    is_new = not os.path.exists(path)
+    with open(path, "a", encoding="utf-8") as file:
+        for row in ([[*HEAD, *head]] if is_new else []) + rows:
+            file.write("\t".join(row) + "\n")
+
+
+def keep(name, words, lines):
+    about = [datetime.date.today().isoformat(), commit(), str(os.cpu_count()), " ".join(words)]
+    table = rows_of(lines)
+    if table:
+        append(name, table[0], [about + row for row in table[1:]])
+    others = [line for line in lines if line and not line.startswith("|")]
+    if others:
+        append("runs", ["said"], [about + [others[-1].replace("\t", " ")]])
+
+
+def recorded(name, words, call):
+    """What the call answers; what it prints is kept, if it ends by itself."""
+    heard = Listening(sys.stdout)
+    sys.stdout = heard
+    try:
+        answer = call()
+    finally:
+        sys.stdout = heard.stream
+    keep(name, words, heard.lines())
+    return answer
