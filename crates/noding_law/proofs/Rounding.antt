@@ -17,7 +17,7 @@ use Rattle.geom.proofs.RouteLists.{IsRoundedEdge}
 use Rattle.noding_law.proofs.Routes.{rounded_edges_noded}
 use Rattle.geom.proofs.Steps.{FromRoute, from_count}
 
-rounded_from : (segments : List Seg) (e : Edge) → FromRoute segments segments e → IsRoundedEdge (Among segments) e.p e.q
+pub rounded_from : (segments : List Seg) (e : Edge) → FromRoute segments segments e → IsRoundedEdge (Among segments) e.p e.q
 rounded_from segments e h = (piece h.s, h.route, among segments h.s (in_contains segments h.s h.inside), route_in segments h.s h.route h.is_route, h.next)
 
 counted_once : (m n a b : ℕ) → m ≡ a → n ≡ b → 0 < a + b → (0 < m) ⊎ (0 < n)
@@ -36,7 +36,7 @@ rounded segments counted R e i =
     (λ l. rounded_from segments c.edge (from_count segments B c.edge R.routes R.are_routes l))
     (counted_once (count A c.edge segments R.routes) (count B c.edge segments R.routes) c.in_a c.in_b t.0 t.1 t.2))
 
-end_of : (e : Edge) (z : Point) (o : Pt) → (o ≡ e.p) ⊎ (o ≡ e.q) → Coincides o z → IsEnd e z
+pub end_of : (e : Edge) (z : Point) (o : Pt) → (o ≡ e.p) ⊎ (o ≡ e.q) → Coincides o z → IsEnd e z
 end_of e z o (inl h) k = ∣ inl (subst (λ v. Coincides v z) h k) ∣₁
 end_of e z o (inr h) k = ∣ inr (subst (λ v. Coincides v z) h k) ∣₁
 

@@ -26,7 +26,7 @@ use Rattle.points_law.proofs.Counts.{par_filter}
 use Rattle.points_law.proofs.Layers.{odd_is, degree_is, par_map, distinct, and_is, same_point_is}
 
 -- the ends of a step that are v, modulo 2
-abbrev at_step : Pt → Pt × Pt → Bool
+abbrev pub at_step : Pt → Pt × Pt → Bool
 at_step v step = is v step.0 ⊕ is v step.1
 
 -- ---- along a list of points the steps cancel, but for its ends
@@ -57,7 +57,7 @@ last_is a d (b ∷ ps) =
     next_less : (n : ℕ) → n ≡ suc n - 1
     next_less n = omega arith
 
-route_ends_cancel : (segments : List Seg) (s : Seg) (r : List Pt) (v : Pt) → Contains segments s → IsRoute segments s r → par (at_step v) (neighbours r) ≡ is v s.a ⊕ is v s.b
+pub route_ends_cancel : (segments : List Seg) (s : Seg) (r : List Pt) (v : Pt) → Contains segments s → IsRoute segments s r → par (at_step v) (neighbours r) ≡ is v s.a ⊕ is v s.b
 route_ends_cancel segments s [] v i h = absurd (omega (arith, (route_starts segments s [] i h).0))
 route_ends_cancel segments s (a ∷ ps) v i h =
     let e : a ≡ s.a = (route_starts segments s (a ∷ ps) i h).1 in
@@ -65,14 +65,14 @@ route_ends_cancel segments s (a ∷ ps) v i h =
     along v a ps ∙ ap (λ (w : Pt). is v w ⊕ is v (last a ps)) e ∙ ap (λ (w : Pt). is v s.a ⊕ is v w) f
 
 -- ---- over all routes of a layer
-par-append : {X : Type 0} (p : X → Bool) (xs ys : List X) → par p (xs ++ ys) ≡ par p xs ⊕ par p ys
+pub par-append : {X : Type 0} (p : X → Bool) (xs ys : List X) → par p (xs ++ ys) ≡ par p xs ⊕ par p ys
 par-append p [] ys = refl
 par-append p (x ∷ xs) ys = ap (λ (t : Bool). p x ⊕ t) (par-append p xs ys) ∙ assoc (p x) (par p xs) (par p ys)
   where
     assoc : (a b c : Bool) → a ⊕ (b ⊕ c) ≡ (a ⊕ b) ⊕ c
     assoc a b c = grind arith
 
-par-if : {X : Type 0} (p : X → Bool) (t : Bool) (xs : List X) → par p (cond t xs []) ≡ t ∧∧ par p xs
+pub par-if : {X : Type 0} (p : X → Bool) (t : Bool) (xs : List X) → par p (cond t xs []) ≡ t ∧∧ par p xs
 par-if p true xs = refl
 par-if p false xs = refl
 
@@ -86,14 +86,14 @@ over_routes segments layer v known (next {s} {route} {ss} {routes} r rs) =
 
 -- ---- one edge for each step
 -- the ends of e that are v, modulo 2
-abbrev at_edge : Pt → Edge → Bool
+abbrev pub at_edge : Pt → Edge → Bool
 at_edge v e = is v e.p ⊕ is v e.q
 
 either_true : (a b : Bool) → (a ≡ true) ⊎ (b ≡ true) → a || b ≡ true
 either_true a b (inl h) = grind arith
 either_true a b (inr h) = grind arith
 
-joins_its : (e : Edge) (step : Pt × Pt) → ((e.p ≡ step.0) × (e.q ≡ step.1)) ⊎ ((e.p ≡ step.1) × (e.q ≡ step.0)) → joins e step ≡ true
+pub joins_its : (e : Edge) (step : Pt × Pt) → ((e.p ≡ step.0) × (e.q ≡ step.1)) ⊎ ((e.p ≡ step.1) × (e.q ≡ step.0)) → joins e step ≡ true
 joins_its e step (inl (h, k)) = either_true _ _ (inl (both_and _ _ (same_point_of e.p step.0 h) (same_point_of e.q step.1 k)))
 joins_its e step (inr (h, k)) = either_true _ _ (inr (both_and _ _ (same_point_of e.p step.1 h) (same_point_of e.q step.0 k)))
 
@@ -104,12 +104,12 @@ one_joins e f step (inl (h, k)) (inr (p, q)) = absurd (not_turned e f (h ∙ p) 
 one_joins e f step (inr (h, k)) (inl (p, q)) = absurd (not_turned e f (h ∙ q) (k ∙ p))
 one_joins e f step (inr (h, k)) (inr (p, q)) = edge_path e f (h ∙ q) (k ∙ p)
 
-joins_is : (e f : Edge) (step : Pt × Pt) → ((e.p ≡ step.0) × (e.q ≡ step.1)) ⊎ ((e.p ≡ step.1) × (e.q ≡ step.0)) → joins f step ≡ same f e
+pub joins_is : (e f : Edge) (step : Pt × Pt) → ((e.p ≡ step.0) × (e.q ≡ step.1)) ⊎ ((e.p ≡ step.1) × (e.q ≡ step.0)) → joins f step ≡ same f e
 joins_is e f step h = both_ways (joins f step) (same f e)
     (λ j. subst (λ (g : Edge). same g e ≡ true) (one_joins e f step h (joined f step j)) (same_refl e))
     (λ j. subst (λ (g : Edge). joins g step ≡ true) (sym (same_is f e j)) (joins_its e step h))
 
-at_ends : (v : Pt) (e : Edge) (step : Pt × Pt) → ((e.p ≡ step.0) × (e.q ≡ step.1)) ⊎ ((e.p ≡ step.1) × (e.q ≡ step.0)) → at_edge v e ≡ at_step v step
+pub at_ends : (v : Pt) (e : Edge) (step : Pt × Pt) → ((e.p ≡ step.0) × (e.q ≡ step.1)) ⊎ ((e.p ≡ step.1) × (e.q ≡ step.0)) → at_edge v e ≡ at_step v step
 at_ends v e step (inl (h, k)) = ap (λ (w : Pt). is v w ⊕ is v e.q) h ∙ ap (λ (w : Pt). is v step.0 ⊕ is v w) k
 at_ends v e step (inr (h, k)) = ap (λ (w : Pt). is v w ⊕ is v e.q) h ∙ ap (λ (w : Pt). is v step.1 ⊕ is v w) k ∙ swapped (is v step.1) (is v step.0)
   where

@@ -31,7 +31,7 @@ apart_prop a b = hlevel props
 pub segment_path : (s t : Seg) → s.a ≡ t.a → s.b ≡ t.b → s.layer ≡ t.layer → s ≡ t
 segment_path s t a b l = λ i. record { a = a i; b = b i; layer = l i; proper = is_prop→PathP (λ j. a j ≢ b j) (λ j. apart_prop (a j) (b j)) s.proper t.proper i }
 
-same_segments : (ss ts : List Seg) → map parts ss ≡ map parts ts → ss ≡ ts
+pub same_segments : (ss ts : List Seg) → map parts ss ≡ map parts ts → ss ≡ ts
 same_segments [] [] e = refl
 same_segments [] (t ∷ ts) e = absurd (cc)
 same_segments (s ∷ ss) [] e = absurd (cc)
@@ -44,7 +44,7 @@ pub one_segments : (a b : List (List Pt)) (ss ts : List Seg) → AreSegments a b
 one_segments a b ss ts h k = same_segments ss ts (h ∙ sym k)
 
 -- ---- rounded edges
-same_routes : {segments ss ts : List Seg} {rs us : List (List Pt)} → AreRoutes segments ss rs → AreRoutes segments ts us → ss ≡ ts → rs ≡ us
+pub same_routes : {segments ss ts : List Seg} {rs us : List (List Pt)} → AreRoutes segments ss rs → AreRoutes segments ts us → ss ≡ ts → rs ≡ us
 same_routes none none e = refl
 same_routes none (next h r) e = absurd (cc)
 same_routes (next h r) none e = absurd (cc)

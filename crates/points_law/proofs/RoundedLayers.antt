@@ -24,7 +24,7 @@ use Rattle.points_law.specs.Law.{AreLayers}
 use Rattle.points_law.proofs.Degrees.{closed_even}
 
 -- what is from one end to the other is within the limit, as they are
-between_within : (n : ℕ) (a b c : ℤ) → IsWithin n a → IsWithin n b → Between a b c → IsWithin n c
+pub between_within : (n : ℕ) (a b c : ℤ) → IsWithin n a → IsWithin n b → Between a b c → IsWithin n c
 between_within n a b c h k (inl m) = record { low = omega (arith, ints); high = omega (arith, ints) }
 between_within n a b c h k (inr m) = record { low = omega (arith, ints); high = omega (arith, ints) }
 

@@ -56,16 +56,16 @@ side_over z d e (inl h) = ap (λ (x : DirectedEdge). side_above x z) h ∙ first
 side_over z d e (inr h) = ap (λ (x : DirectedEdge). side_above x z) h ∙ second_way (over z e) (spans e.q e.p z) _ (no_turn z.n e.p.x e.q.x z.x z.positive e.ordered.column)
 
 -- ---- whether a side is that from u to v
-abbrev goes : Pt → Pt → DirectedEdge → Bool
+abbrev pub goes : Pt → Pt → DirectedEdge → Bool
 goes u v d = is d.from u ∧∧ is d.to v
 
-goes_is : (u v : Pt) (d : DirectedEdge) → goes u v d ≡ true → d ≡ from_to u v
+pub goes_is : (u v : Pt) (d : DirectedEdge) → goes u v d ≡ true → d ≡ from_to u v
 goes_is u v d h = let k = is_same d.from u (and_left (is d.from u) (is d.to v) h) in let l = is_same d.to v (and_right (is d.from u) (is d.to v) h) in λ i. record { from = k i; to = l i }
 
 goes_itself : (u v : Pt) → goes u v (from_to u v) ≡ true
 goes_itself u v = ap (λ (t : Bool). t ∧∧ is v v) (is_refl u) ∙ is_refl v
 
-goes_of : (u v : Pt) (d : DirectedEdge) → d ≡ from_to u v → goes u v d ≡ true
+pub goes_of : (u v : Pt) (d : DirectedEdge) → d ≡ from_to u v → goes u v d ≡ true
 goes_of u v d h = ap (goes u v) h ∙ goes_itself u v
 
 -- whether it runs along e
@@ -76,7 +76,7 @@ one_of : (a b : Bool) → a ⊕ b ≡ true → (a ≡ true) ⊎ (b ≡ true)
 one_of true b h = inl refl
 one_of false b h = inr h
 
-turned_apart : (e f : Edge) → ¬ (from_to e.p e.q ≡ from_to f.q f.p)
+pub turned_apart : (e f : Edge) → ¬ (from_to e.p e.q ≡ from_to f.q f.p)
 turned_apart e f h = not_turned e f (ap (λ (d : DirectedEdge). d.from) h) (ap (λ (d : DirectedEdge). d.to) h)
 
 runs_of : (d : DirectedEdge) (e : Edge) → RunsAlong d e → runs d e ≡ true
@@ -92,7 +92,7 @@ runs_same d e f h = both_ways (runs d e) (same e f)
     (λ k. runs_of d e (subst (λ (x : Edge). RunsAlong d x) (sym (same_is e f k)) h))
 
 -- ---- a side is there once, where it is there
-each_once : (ds : List DirectedEdge) → AllPairs IsDirectedBefore ds → Distinct ds
+pub each_once : (ds : List DirectedEdge) → AllPairs IsDirectedBefore ds → Distinct ds
 each_once [] p = tt
 each_once (d ∷ ds) p = (λ i. directed_before_itself d (first_pairs IsDirectedBefore d d ds p (in_contains ds d i)), each_once ds (pairs_tail IsDirectedBefore d ds p))
 
