@@ -1,0 +1,16 @@
+pub mod Owned
+pub mod Projected
+pub mod Told
+pub mod RowLayers
+pub mod Covers
+pub mod OneRows
+pub mod InRow
+pub mod FeatureLayers
+pub mod RoundedBorders
+pub mod IntegerSums
+pub mod BoundedAreas
+pub mod AreasAdd
+pub mod ChangingEdges
+pub mod ClosedFeatures
+pub mod Beyond
+pub mod FaceLaws
