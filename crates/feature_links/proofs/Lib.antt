@@ -1,0 +1,3 @@
+pub mod OddLaws
+pub mod GroupLaws
+pub mod GroupSteps

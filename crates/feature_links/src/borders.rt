@@ -1,0 +1,57 @@
+//! The edges of links, each with where its features stand: runs of links of one edge, one after another.
+
+ghost use Rattle.std.specs.Prelude.{◌≡◌, ◌≢◌, ◌+◌, ◌<◌, ◌≤◌, AllPairs, IfOk, length, map, slice_index_or};
+ghost use Rattle.std.specs.List.{AllWithin};
+ghost use Rattle.feature_links.specs.Groups.{AreGroups, bordered_by, same_ends};
+ghost use Rattle.feature_links.specs.Odd.{IsLinkBefore};
+ghost use Rattle.feature_links.specs.declared.link.FeatureLink.{FeatureLink};
+
+use crate::link::FeatureLink;
+use geom::{Edge, NoMemory};
+use std::alloc::Allocator;
+
+/// An edge, and from where to where its features stand among the links.
+#[derive(Clone, Copy, Debug)]
+pub struct Border {
+    pub edge: Edge,
+    pub from: usize,
+    pub to: usize,
+}
+
+fn is_edge(e: Edge, f: Edge) -> bool
+    ensures { result ≡ same_ends e f }
+{
+    e.p == f.p && e.q == f.q
+}
+
+/// The number of the first link behind those of an edge that begin at a number.
+fn end_of_run(links: &[FeatureLink], from: usize, edge: Edge) -> usize
+    requires begins { from < length links.now }
+    requires first { AllWithin (λ l. l.edge ≡ edge) links.now from (from + 1) }
+    ensures after { from < result }
+    ensures within { result ≤ length links.now }
+    ensures run { AllWithin (λ l. l.edge ≡ edge) links.now from result }
+    ensures past { (d : FeatureLink) → result < length links.now → (slice_index_or links.now result d).edge ≢ edge }
+{
+    let mut to = from + 1;
+    while to < links.len() && is_edge(links[to].edge, edge) {
+        to += 1;
+    }
+    to
+}
+
+/// The edges of ascending links, each with where its features stand.
+pub fn borders_of<A: Allocator>(alloc: A, links: &[FeatureLink]) -> Result<Vec<Border, A>, NoMemory>
+    requires { AllPairs IsLinkBefore links.now }
+    ensures { IfOk result (λ list. AreGroups links.now (map (bordered_by links.now) list.items)) }
+{
+    let mut list = Vec::new(alloc);
+    let mut from = 0;
+    while from < links.len() {
+        let edge = links[from].edge;
+        let to = end_of_run(links, from, edge);
+        list.push(Border { edge, from, to })?;
+        from = to;
+    }
+    Ok(list)
+}
