@@ -46,7 +46,7 @@ impl<A: Allocator + Copy> Job<A> for Verdicts<'_, A> {
 }
 
 /// The same edges, counts and numbers where no two different edges share a point but a common end; otherwise the least pair
-/// that does. The tiles are tested by 1 to 64 workers, of which the calling thread is the first. They call the gate.
+/// that does. The tiles are tested by 1 to 64 workers, one of them in the calling thread. They call the gate.
 pub fn noded<A: Allocator + Copy + Send + Sync, G: Gate + Sync, R: Threads + Wait + Sync>(
     rt: &R,
     alloc: A,

@@ -1,4 +1,4 @@
-//! Workers in threads; one alone works in the calling thread.
+//! Workers at once: one in the calling thread, each other in a thread of its own.
 
 ghost use Rattle.std.specs.Prelude.{◌≡◌, ◌≤◌, [], All, IfOk, vec_len};
 ghost use Rattle.tile_book.specs.Growth.{HasGrown};
@@ -44,8 +44,8 @@ fn seats<L: Limited, A: Allocator + Copy>(
     Ok(seats)
 }
 
-/// A worker for each hand: the calling thread where there is but one, or each in a thread of its own. The calling thread runs each that
-/// could not be started.
+/// A worker for each hand: one in the calling thread, each other in a thread of its own. One whose thread can't be started works in the
+/// thread that would have started it, behind that one's own.
 pub fn run_workers<
     A: Allocator + Copy + Send + Sync,
     J: Job<A> + Sync,
