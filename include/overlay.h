@@ -1,16 +1,19 @@
-/* Overlay of polygon layers on the integer grid, from memory to memory.
+/* Overlay of polygon layers on the integer grid, from memory to memory, in C99 and C++.
  *
- * A layer is a text of POLYGON and MULTIPOLYGON geometries with whole coordinates from -268435456 to 268435456; it needs no
- * 0 at its end. Each call runs on the calling thread alone and keeps nothing, so any number of threads may call at once.
- * It takes memory by malloc, and has let all of it go when it returns.
+ * A layer is a text of POLYGON and MULTIPOLYGON geometries with whole coordinates from -268435456 to 268435456, in grid units,
+ * and has at most 268435456 bytes; both layers together have at most 1048576 segments. It needs no 0 at its end.
+ *
+ * Each call runs on the calling thread alone and keeps nothing, so any number of threads may call at once. It takes memory by
+ * malloc, and has let all of it go when it returns. All that is passed stays the caller's: no call keeps a pointer, and none
+ * has to be freed.
  *
  * The caller sees to it that
  *   - each pointer is to as many bytes as its length says, or the length is 0 and the pointer is not null;
  *   - a room overlaps neither a layer nor the answer;
  *   - no call is made from a signal handler, or in the forked child of a process with several threads.
  *
- * Link with crates/overlay_c/out/liboverlay_c.a and the kit's c/liblibc_c.a, which calls malloc; or make a shared object of
- * both (python/build).
+ * include/example.c is a whole program. An installed library is linked by `pkg-config --cflags --libs overlay`; in a clone link
+ * with crates/overlay_c/out/liboverlay_c.a and the kit's c/liblibc_c.a, which calls malloc.
  */
 #ifndef OVERLAY_H
 #define OVERLAY_H
@@ -18,22 +21,24 @@
 #include <stddef.h>
 #include <stdint.h>
 
+/* The release that this header came with. Programs that link with another one compare overlay_version(). */
+#define OVERLAY_VERSION "1.0.0"
+
 #ifdef __cplusplus
 extern "C" {
 #endif
 
-/* What to compute. */
-enum {
-    OVERLAY_UNION = 0,
-    OVERLAY_INTERSECTION = 1,
-    OVERLAY_DIFFERENCE = 2,
-    OVERLAY_SYMDIFFERENCE = 3,
-    /* a line `x1 y1 x2 y2 a b` for each edge of both layers after rounding, with its count in either layer */
-    OVERLAY_EDGES = 4
+/* What to compute. The first four answer one MULTIPOLYGON line, the last one a line for each edge. */
+enum overlay_call {
+    OVERLAY_UNION = 0,         /* the points of either layer */
+    OVERLAY_INTERSECTION = 1,  /* the points of both layers */
+    OVERLAY_DIFFERENCE = 2,    /* the points of the first layer and not of the second */
+    OVERLAY_SYMDIFFERENCE = 3, /* the points of just one of the layers */
+    OVERLAY_EDGES = 4          /* `x1 y1 x2 y2 a b` for each edge of both layers after rounding, with its count in either layer */
 };
 
 /* How a call ended. */
-enum {
+enum overlay_status {
     OVERLAY_ANSWERED = 0,
     OVERLAY_NO_MEMORY = 1,
     OVERLAY_NO_CALL = 2, /* what to compute is none of the above */
@@ -41,39 +46,67 @@ enum {
     OVERLAY_SMALL = 4    /* there is a text, and it doesn't fit into the room */
 };
 
-/* Enough room for the words of every answer. */
+/* Why an input is refused. */
+enum overlay_refusal {
+    OVERLAY_LAYER_TOO_LONG = 0,    /* more than 268435456 bytes */
+    OVERLAY_SYNTAX = 1,            /* no layer text: detail is the length of its longest front that some layer text begins with */
+    OVERLAY_NUMBER_RANGE = 2,      /* a coordinate is out of range: detail is the byte where the first such number begins */
+    OVERLAY_SHORT_RING = 3,        /* fewer than four points: detail is the byte where the ring opens */
+    OVERLAY_OPEN_RING = 4,         /* the last point isn't the first: detail is the byte where the ring opens */
+    OVERLAY_TOO_MANY_SEGMENTS = 5, /* more than 1048576: detail is their number */
+    OVERLAY_BAD_SIDE = 6,          /* the tile side is not from 16 to 33554432 */
+    OVERLAY_TOO_MANY_TILES = 8,    /* more than 65536 over the box of both layers: detail is their number */
+    OVERLAY_OUT_OF_MEMORY = 10     /* with OVERLAY_NO_MEMORY alone */
+};
+
+/* What is refused. */
+enum overlay_part {
+    OVERLAY_LAYER_A = 0, /* the first layer */
+    OVERLAY_LAYER_B = 1, /* the second layer */
+    OVERLAY_RUN = 2      /* both together, the side, or memory */
+};
+
+/* Enough room for the words of every answer, in bytes. */
 #define OVERLAY_WORDS 64
 
+/* What a call answers. It has the caller's room, and all fields are written. Fields that don't belong to the status are 0. */
 struct overlay_answer {
-    uint64_t length; /* of the text in bytes: OVERLAY_ANSWERED and OVERLAY_SMALL */
-    uint64_t detail; /* OVERLAY_REFUSED: the byte of the layer (1 to 4), the count of segments (5) or of tiles (8) */
-    uint32_t status; /* how the call ended */
-    uint32_t number; /* OVERLAY_REFUSED: why, see below; OVERLAY_NO_MEMORY: 10 */
-    uint32_t part;   /* OVERLAY_REFUSED: what, 0 the first layer, 1 the second, 2 the run; OVERLAY_NO_MEMORY: 2 */
+    uint64_t length; /* OVERLAY_ANSWERED, OVERLAY_SMALL: of the text, in bytes */
+    uint64_t detail; /* OVERLAY_REFUSED: a byte of the layer, counted from 0, or a number of segments or tiles */
+    uint32_t status; /* how the call ended: an overlay_status */
+    uint32_t number; /* OVERLAY_REFUSED, OVERLAY_NO_MEMORY: why, an overlay_refusal */
+    uint32_t part;   /* OVERLAY_REFUSED, OVERLAY_NO_MEMORY: what, an overlay_part */
 };
-/* Fields that don't belong to the status are 0. The refusals: 0 layer too long, 1 syntax, 2 number out of range, 3 short ring,
- * 4 open ring, 5 too many segments, 6 bad tile side, 8 too many tiles. */
 
-/* Puts the text of `call` on layers a and b at the beginning of the room, over tiles of `side` grid units (16 to 33554432),
- * and tells its length. Where the status is not OVERLAY_ANSWERED the room is as it was; behind the text it is so always.
- * The texts are those of the program, line feed included, with no 0 at their end. */
+/* Puts a text at the beginning of a room, and tells its length. Where the status is not OVERLAY_ANSWERED the room is as it was;
+ * behind the text it is so always. The texts are those of the program, line feed included, with no 0 at their end.
+ *
+ *   call                what to compute: an overlay_call
+ *   side                the side of a tile, in grid units, 16 to 33554432; it has no influence on the text
+ *   a, a_length         the first layer, read alone, and its length in bytes
+ *   b, b_length         the second layer, likewise; it may be the same bytes as the first
+ *   room, room_length   where the text goes, and how many bytes there may be written
+ *   answer              where the answer goes; not null */
 void overlay_fill(uint32_t call, uint32_t side, const uint8_t *a, size_t a_length, const uint8_t *b, size_t b_length,
                   uint8_t *room, size_t room_length, struct overlay_answer *answer);
 
-/* Tells the length alone (never OVERLAY_SMALL). The text is made for that and let go, so this takes as long as
- * overlay_fill; to call that first with a room of a guessed size, and again where it was too small, is cheaper. */
+/* Tells the length alone (never OVERLAY_SMALL), of the same parameters. The text is made for that and let go, so this takes as
+ * long as overlay_fill; to call that first with a room of a guessed size, and again where it was too small, is cheaper. */
 void overlay_size(uint32_t call, uint32_t side, const uint8_t *a, size_t a_length, const uint8_t *b, size_t b_length,
                   struct overlay_answer *answer);
 
-/* Puts the words of an answer without a text at the beginning of the room, as `A: 1 syntax at 16`, without a 0 or a line
- * feed, and answers their length: 0 where they don't fit, where memory ran out, or where there is nothing to say. */
+/* Puts the words of an answer without a text at the beginning of a room, as `A: 1 syntax at 16`, without a 0 or a line feed, and
+ * returns their length in bytes: 0 where they don't fit, where memory ran out, or where there is nothing to say.
+ *
+ *   answer              what a call answered; it is read alone
+ *   room, room_length   where the words go, and how many bytes there may be written: OVERLAY_WORDS are enough */
 size_t overlay_words(const struct overlay_answer *answer, uint8_t *room, size_t room_length);
 
-/* The tile side that the program takes where none is given: 262144, or the least greater power of two that doesn't give too
- * many tiles. The side has no influence on the text. Both layers are read once for that. */
+/* Returns the tile side that the program takes where none is given, in grid units: 262144, or the least greater power of two that
+ * doesn't give too many tiles, or 262144 where a layer is refused. Both layers, with their lengths in bytes, are read once. */
 uint32_t overlay_side(const uint8_t *a, size_t a_length, const uint8_t *b, size_t b_length);
 
-/* The version of these calls: 1. */
+/* Returns the version of these calls: 1. It changes where a call, a number or the struct does, not with each release. */
 uint32_t overlay_version(void);
 
 #ifdef __cplusplus

@@ -71,6 +71,18 @@ static void rooms(void) {
     }
 }
 
+/* The names have the numbers that the answers have. */
+static void names(void) {
+    static const int CALLS[] = {OVERLAY_UNION, OVERLAY_INTERSECTION, OVERLAY_DIFFERENCE, OVERLAY_SYMDIFFERENCE, OVERLAY_EDGES};
+    for (int number = 0; number < 5; number++)
+        check(CALLS[number] == number, "the number of a call");
+    uint8_t room[1];
+    struct overlay_answer answer = filled(OVERLAY_EDGES + 1, SIDE, SQUARE, OTHER, room, 0);
+    check(answer.status == OVERLAY_NO_CALL, "no such call");
+    check(sizeof answer == 32 && offsetof(struct overlay_answer, part) == 24, "the struct as it is laid out");
+    check(sizeof OVERLAY_VERSION > 5, "the release");
+}
+
 struct refusal {
     uint32_t call, side;
     const char *a, *b;
@@ -82,14 +94,14 @@ static void refusals(void) {
     static const struct refusal ROWS[] = {
         {5, 16, "", "", {0, 0, 2, 0, 0}, "no such call"},
         {4294967295u, 16, "POLYGON ((0 0", "", {0, 0, 2, 0, 0}, "no such call"},
-        {0, 16, "POLYGON ((0 0, 1.5 0, 0 1, 0 0))", "", {0, 16, 3, 1, 0}, "A: 1 syntax at 16"},
-        {1, 16, "", "POLYGON ((0 0", {0, 13, 3, 1, 1}, "B: 1 syntax at 13"},
-        {2, 16, "POLYGON ((0 0, 268435457 0, 0 1, 0 0))", "", {0, 15, 3, 2, 0}, "A: 2 number out of range at 15"},
-        {3, 16, "", "POLYGON ((0 0, 1 0, 0 1))", {0, 9, 3, 3, 1}, "B: 3 short ring at 9"},
-        {4, 16, "POLYGON ((0 0, 1 0, 1 1, 0 1))", "", {0, 9, 3, 4, 0}, "A: 4 open ring at 9"},
-        {0, 15, "", "", {0, 0, 3, 6, 2}, "6 bad tile side"},
-        {4, 33554433, "POLYGON ((0 0", "", {0, 0, 3, 6, 2}, "6 bad tile side"},
-        {0, 16, "POLYGON ((0 0, 4096 0, 4096 4095, 0 4095, 0 0))", "", {0, 65792, 3, 8, 2}, "8 too many tiles: 65792"},
+        {0, 16, "POLYGON ((0 0, 1.5 0, 0 1, 0 0))", "", {0, 16, OVERLAY_REFUSED, OVERLAY_SYNTAX, OVERLAY_LAYER_A}, "A: 1 syntax at 16"},
+        {1, 16, "", "POLYGON ((0 0", {0, 13, OVERLAY_REFUSED, OVERLAY_SYNTAX, OVERLAY_LAYER_B}, "B: 1 syntax at 13"},
+        {2, 16, "POLYGON ((0 0, 268435457 0, 0 1, 0 0))", "", {0, 15, OVERLAY_REFUSED, OVERLAY_NUMBER_RANGE, OVERLAY_LAYER_A}, "A: 2 number out of range at 15"},
+        {3, 16, "", "POLYGON ((0 0, 1 0, 0 1))", {0, 9, OVERLAY_REFUSED, OVERLAY_SHORT_RING, OVERLAY_LAYER_B}, "B: 3 short ring at 9"},
+        {4, 16, "POLYGON ((0 0, 1 0, 1 1, 0 1))", "", {0, 9, OVERLAY_REFUSED, OVERLAY_OPEN_RING, OVERLAY_LAYER_A}, "A: 4 open ring at 9"},
+        {0, 15, "", "", {0, 0, OVERLAY_REFUSED, OVERLAY_BAD_SIDE, OVERLAY_RUN}, "6 bad tile side"},
+        {4, 33554433, "POLYGON ((0 0", "", {0, 0, OVERLAY_REFUSED, OVERLAY_BAD_SIDE, OVERLAY_RUN}, "6 bad tile side"},
+        {0, 16, "POLYGON ((0 0, 4096 0, 4096 4095, 0 4095, 0 0))", "", {0, 65792, OVERLAY_REFUSED, OVERLAY_TOO_MANY_TILES, OVERLAY_RUN}, "8 too many tiles: 65792"},
     };
     for (size_t row = 0; row < sizeof ROWS / sizeof *ROWS; row++) {
         const struct refusal *want = &ROWS[row];
@@ -125,7 +137,7 @@ static void large(void) {
     many[one * count] = 0;
     uint8_t room[1], words[OVERLAY_WORDS];
     struct overlay_answer answer = filled(0, SIDE, many, "", room, sizeof room);
-    check(answer.status == OVERLAY_REFUSED && answer.number == 5 && answer.part == 2 && answer.detail == 1048580, "too many segments");
+    check(answer.status == OVERLAY_REFUSED && answer.number == OVERLAY_TOO_MANY_SEGMENTS && answer.part == OVERLAY_RUN && answer.detail == 1048580, "too many segments");
     check(overlay_words(&answer, words, sizeof words) == 28 && !memcmp(words, "5 too many segments: 1048580", 28), "words of a count");
     free(many);
     size_t limit = 268435456;
@@ -133,7 +145,7 @@ static void large(void) {
     memset(blank, ' ', limit + 1);
     blank[limit + 1] = 0;
     answer = filled(0, SIDE, "", blank, room, sizeof room);
-    check(answer.status == OVERLAY_REFUSED && answer.number == 0 && answer.part == 1 && !answer.detail, "layer too long");
+    check(answer.status == OVERLAY_REFUSED && answer.number == OVERLAY_LAYER_TOO_LONG && answer.part == OVERLAY_LAYER_B && !answer.detail, "layer too long");
     check(overlay_words(&answer, words, sizeof words) == 19 && !memcmp(words, "B: 0 layer too long", 19), "words of a long layer");
     free(blank);
 }
@@ -189,7 +201,7 @@ static void memory(void) {
         granted = -1;
         if (answer.status == OVERLAY_ANSWERED)
             break;
-        check(answer.status == OVERLAY_NO_MEMORY && answer.number == 10 && answer.part == 2, "no memory");
+        check(answer.status == OVERLAY_NO_MEMORY && answer.number == OVERLAY_OUT_OF_MEMORY && answer.part == OVERLAY_RUN, "no memory");
         check(answer.length == 0 && answer.detail == 0 && room[0] == 7 && room[999] == 7, "a room that is as it was");
         refused++;
     }
@@ -228,6 +240,7 @@ int main(int count, char **words) {
     if (count == 4)
         return print(words);
     check(overlay_version() == 1, "the version");
+    names();
     rooms();
     refusals();
     sides();
