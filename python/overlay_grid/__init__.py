@@ -1,135 +1,213 @@
 """Overlay of polygon layers on the integer grid, by the proved library.
 
-Layers are texts of POLYGON and MULTIPOLYGON geometries with whole coordinates, as str or bytes. The answer is of the first
-layer's type. A call runs on the calling thread, and the interpreter's lock is released meanwhile. The side of a tile, in grid
-units, has no influence on the answer; where none is given, one is taken that fits the layers.
+Layers are texts of POLYGON and MULTIPOLYGON geometries with whole coordinates, as str or bytes:
+
+>>> parcels = "POLYGON ((0 0, 4 0, 4 4, 0 4, 0 0))"
+>>> zones = "POLYGON ((2 2, 6 2, 6 6, 2 6, 2 2))"
+>>> intersection(parcels, zones)
+'MULTIPOLYGON (((2 2, 4 2, 4 4, 2 4, 2 2)))\\n'
+
+The answer is of the first layer's type. A call runs on the calling thread, and the interpreter's lock is released meanwhile. The
+side of a tile, in grid units, has no influence on the answer; where none is given, one is taken that fits the layers.
 """
 
+from __future__ import annotations
+
 import ctypes
-import os
+import enum
+from typing import Optional, TypeVar, Union
 
-__all__ = ["union", "intersection", "difference", "symdifference", "edges", "Refused", "OutOfMemory"]
+from ._library import ANSWERED, NO_MEMORY, SMALL, Answer, library
 
-_ANSWERED, _NO_MEMORY, _NO_CALL, _REFUSED, _SMALL = range(5)
-_EDGES = 4
-_SYNTAX, _OPEN_RING, _SEGMENTS, _TILES = 1, 4, 5, 8
+__all__ = [
+    "Operation",
+    "OutOfMemory",
+    "Refusal",
+    "Refused",
+    "difference",
+    "edges",
+    "intersection",
+    "overlay",
+    "symdifference",
+    "union",
+]
+
+__version__ = "1.0.0"
+
+# A layer's text, and the answer's: str, or bytes and what has a buffer of bytes.
+Text = TypeVar("Text", str, bytes)
+
+
+class Operation(enum.Enum):
+    """What to compute, by the program's words.
+
+    >>> Operation("union")
+    <Operation.UNION: 'union'>
+    """
+
+    UNION = "union"
+    INTERSECTION = "intersection"
+    DIFFERENCE = "difference"
+    SYMDIFFERENCE = "symdifference"
+    EDGES = "edges"
+
+
+# The numbers of the library's calls.
+_CALLS = {
+    Operation.UNION: 0,
+    Operation.INTERSECTION: 1,
+    Operation.DIFFERENCE: 2,
+    Operation.SYMDIFFERENCE: 3,
+    Operation.EDGES: 4,
+}
+
+
+class Refusal(enum.IntEnum):
+    """Why an input is refused."""
+
+    LAYER_TOO_LONG = 0
+    SYNTAX = 1
+    NUMBER_RANGE = 2
+    SHORT_RING = 3
+    OPEN_RING = 4
+    TOO_MANY_SEGMENTS = 5
+    BAD_SIDE = 6
+    TOO_MANY_TILES = 8
+
+
+# What the number beside a refusal tells.
+_HAVE_OFFSETS = (Refusal.SYNTAX, Refusal.NUMBER_RANGE, Refusal.SHORT_RING, Refusal.OPEN_RING)
+_HAVE_COUNTS = (Refusal.TOO_MANY_SEGMENTS, Refusal.TOO_MANY_TILES)
 
 
 class Refused(ValueError):
     """The input is refused.
 
-    number: why, 0 to 8, as the program prints it.
+    number: why, as the program prints it.
     layer: "A" or "B", or None where it is not about one layer.
-    offset: where in the layer, in bytes, or None.
+    offset: where in the layer, in bytes from 0, or None.
     count: how many segments or tiles, or None.
+
+    >>> try:
+    ...     union("POLYGON ((0 0, 1.5 0, 0 1, 0 0))", "")
+    ... except Refused as refused:
+    ...     print(refused, refused.number.name, refused.layer, refused.offset)
+    A: 1 syntax at 16 SYNTAX A 16
     """
 
-    def __init__(self, words, number, layer, offset, count):
+    def __init__(self, words: str, number: int, layer: Optional[str], offset: Optional[int], count: Optional[int]) -> None:
         super().__init__(words)
-        self.number = number
+        self.number = Refusal(number)
         self.layer = layer
         self.offset = offset
         self.count = count
 
-    def __reduce__(self):
-        return type(self), (self.args[0], self.number, self.layer, self.offset, self.count)
+    def __reduce__(self) -> "tuple[type[Refused], tuple[str, int, Optional[str], Optional[int], Optional[int]]]":
+        return type(self), (str(self), int(self.number), self.layer, self.offset, self.count)
 
 
 class OutOfMemory(MemoryError):
     """Memory ran out during the call."""
 
 
-class _Answer(ctypes.Structure):
-    _fields_ = [
-        ("length", ctypes.c_uint64),
-        ("detail", ctypes.c_uint64),
-        ("status", ctypes.c_uint32),
-        ("number", ctypes.c_uint32),
-        ("part", ctypes.c_uint32),
-    ]
-
-
-def _opened():
-    library = ctypes.CDLL(os.path.join(os.path.dirname(os.path.abspath(__file__)), "liboverlay.so"))
-    text = [ctypes.c_char_p, ctypes.c_size_t]
-    library.overlay_fill.argtypes = [ctypes.c_uint32, ctypes.c_uint32, *text, *text, *text, ctypes.POINTER(_Answer)]
-    library.overlay_fill.restype = None
-    library.overlay_words.argtypes = [ctypes.POINTER(_Answer), *text]
-    library.overlay_words.restype = ctypes.c_size_t
-    library.overlay_side.argtypes = [*text, *text]
-    library.overlay_side.restype = ctypes.c_uint32
-    library.overlay_version.argtypes = []
-    library.overlay_version.restype = ctypes.c_uint32
-    if library.overlay_version() != 1:
-        raise ImportError("liboverlay.so is of another version")
-    return library
-
-
-_library = _opened()
-
-
-def _words(answer):
+def _words(answer: Answer) -> str:
     room = ctypes.create_string_buffer(64)
-    length = _library.overlay_words(answer, room, len(room))
+    length: int = library.overlay_words(answer, room, len(room))
     return room.raw[:length].decode("ascii")
 
 
-def _fault(answer):
-    if answer.status == _NO_MEMORY:
+def _fault(answer: Answer) -> Union[Refused, OutOfMemory]:
+    if answer.status == NO_MEMORY:
         return OutOfMemory(_words(answer))
-    number = answer.number
+    number = Refusal(answer.number)
     return Refused(
         _words(answer),
         number,
         ("A", "B", None)[answer.part],
-        answer.detail if _SYNTAX <= number <= _OPEN_RING else None,
-        answer.detail if number in (_SEGMENTS, _TILES) else None,
+        answer.detail if number in _HAVE_OFFSETS else None,
+        answer.detail if number in _HAVE_COUNTS else None,
     )
 
 
-def _number(side):
+def _bytes_of(layer: Union[str, bytes]) -> bytes:
+    return layer.encode() if isinstance(layer, str) else bytes(memoryview(layer))
+
+
+def _side_number(side: int) -> int:
     if isinstance(side, bool) or not isinstance(side, int):
         raise TypeError("the side of a tile is an int")
     return side if 0 <= side < 2**32 else 0  # 0 is refused as every other bad side
 
 
-def _call(call, a, b, side):
-    is_text = isinstance(a, str)
-    a, b = (layer.encode() if isinstance(layer, str) else bytes(memoryview(layer)) for layer in (a, b))
-    side = _library.overlay_side(a, len(a), b, len(b)) if side is None else _number(side)
-    answer = _Answer()
-    size = 256 + (6 if call == _EDGES else 2) * (len(a) + len(b))  # a guess: where it is too small, all is made again
+def _text(operation: Operation, a: bytes, b: bytes, side: Optional[int]) -> bytes:
+    number = library.overlay_side(a, len(a), b, len(b)) if side is None else _side_number(side)
+    answer = Answer()
+    # a guess: where it is too small, all is made again
+    size = 256 + (6 if operation is Operation.EDGES else 2) * (len(a) + len(b))
     while True:
         room = ctypes.create_string_buffer(size)
-        _library.overlay_fill(call, side, a, len(a), b, len(b), room, size, answer)
-        if answer.status == _ANSWERED:
-            text = ctypes.string_at(room, answer.length)
-            return text.decode("ascii") if is_text else text
-        if answer.status != _SMALL:
+        library.overlay_fill(_CALLS[operation], number, a, len(a), b, len(b), room, size, answer)
+        if answer.status == ANSWERED:
+            return ctypes.string_at(room, answer.length)
+        if answer.status != SMALL:
             raise _fault(answer)
         size = answer.length
 
 
-def union(a, b, side=None):
-    """The points of either layer, as one MULTIPOLYGON line."""
-    return _call(0, a, b, side)
+def overlay(operation: Operation, a: Text, b: Union[str, bytes], side: Optional[int] = None) -> Text:
+    """What an operation answers: one MULTIPOLYGON line, or a line for each edge.
+
+    >>> overlay(Operation.UNION, b"POLYGON ((0 0, 1 0, 0 1, 0 0))", "polygon empty")
+    b'MULTIPOLYGON (((0 0, 1 0, 0 1, 0 0)))\\n'
+    """
+    text = _text(Operation(operation), _bytes_of(a), _bytes_of(b), side)
+    return text.decode("ascii") if isinstance(a, str) else text
 
 
-def intersection(a, b, side=None):
-    """The points of both layers, as one MULTIPOLYGON line."""
-    return _call(1, a, b, side)
+def union(a: Text, b: Union[str, bytes], side: Optional[int] = None) -> Text:
+    """The points of either layer, as one MULTIPOLYGON line.
+
+    >>> union("POLYGON ((0 0, 4 0, 4 4, 0 4, 0 0))", "POLYGON ((4 0, 6 0, 6 4, 4 4, 4 0))")
+    'MULTIPOLYGON (((0 0, 6 0, 6 4, 0 4, 0 0)))\\n'
+    """
+    return overlay(Operation.UNION, a, b, side)
 
 
-def difference(a, b, side=None):
-    """The points of the first layer and not of the second, as one MULTIPOLYGON line."""
-    return _call(2, a, b, side)
+def intersection(a: Text, b: Union[str, bytes], side: Optional[int] = None) -> Text:
+    """The points of both layers, as one MULTIPOLYGON line.
+
+    >>> intersection("POLYGON ((0 0, 4 0, 4 4, 0 4, 0 0))", "POLYGON ((7 0, 9 0, 9 2, 7 0))")
+    'MULTIPOLYGON EMPTY\\n'
+    """
+    return overlay(Operation.INTERSECTION, a, b, side)
 
 
-def symdifference(a, b, side=None):
-    """The points of just one of the layers, as one MULTIPOLYGON line."""
-    return _call(3, a, b, side)
+def difference(a: Text, b: Union[str, bytes], side: Optional[int] = None) -> Text:
+    """The points of the first layer and not of the second, as one MULTIPOLYGON line.
+
+    >>> difference("POLYGON ((0 0, 9 0, 9 9, 0 9, 0 0))", "POLYGON ((3 3, 6 3, 6 6, 3 6, 3 3))")
+    'MULTIPOLYGON (((0 0, 9 0, 9 9, 0 9, 0 0), (3 3, 3 6, 6 6, 6 3, 3 3)))\\n'
+    """
+    return overlay(Operation.DIFFERENCE, a, b, side)
 
 
-def edges(a, b, side=None):
-    """A line `x1 y1 x2 y2 a b` for each edge of both layers after rounding, with its count in either layer."""
-    return _call(_EDGES, a, b, side)
+def symdifference(a: Text, b: Union[str, bytes], side: Optional[int] = None) -> Text:
+    """The points of just one of the layers, as one MULTIPOLYGON line.
+
+    >>> square = "POLYGON ((0 0, 4 0, 4 4, 0 4, 0 0))"
+    >>> symdifference(square, square)
+    'MULTIPOLYGON EMPTY\\n'
+    """
+    return overlay(Operation.SYMDIFFERENCE, a, b, side)
+
+
+def edges(a: Text, b: Union[str, bytes], side: Optional[int] = None) -> Text:
+    """A line `x1 y1 x2 y2 a b` for each edge of both layers after rounding, with its count in either layer.
+
+    >>> print(edges("POLYGON ((0 0, 1 1, 0 1, 1 0, 0 0))", ""), end="")
+    0 0 1 0 1 0
+    0 0 1 1 1 0
+    0 1 1 1 2 0
+    1 0 1 1 1 0
+    """
+    return overlay(Operation.EDGES, a, b, side)

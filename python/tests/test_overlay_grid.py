@@ -1,20 +1,19 @@
 """The package against worked texts and against the program's bytes."""
 
+import doctest
 import os
 import pickle
 import subprocess
-import sys
 import threading
 
+import overlay_grid
+import pairs
 import pytest
+from overlay_grid import Operation, Refusal
 
 HERE = os.path.dirname(os.path.abspath(__file__))
 ROOT = os.path.dirname(os.path.dirname(HERE))
-PROGRAM = os.path.join(ROOT, "crates/overlay/out/overlay")
-sys.path[:0] = [os.path.dirname(HERE), HERE]
-
-import overlay_grid  # noqa: E402
-import pairs  # noqa: E402
+PROGRAM = os.environ.get("OVERLAY") or os.path.join(ROOT, "crates/overlay/out/overlay")
 
 SQUARE = "POLYGON ((0 0, 4 0, 4 4, 0 4, 0 0))"
 OTHER = "POLYGON ((2 2, 6 2, 6 6, 2 6, 2 2))"
@@ -41,6 +40,30 @@ def test_worked(word):
     assert asked(word, SQUARE, OTHER) == WORKED[word]
     assert asked(word, SQUARE.encode(), OTHER.encode()) == WORKED[word].encode()
     assert asked(word, SQUARE, OTHER, side=16) == WORKED[word]
+
+
+@pytest.mark.parametrize("operation", Operation)
+def test_operations(operation):
+    assert overlay_grid.overlay(operation, SQUARE, OTHER) == asked(operation.value, SQUARE, OTHER)
+    assert overlay_grid.overlay(Operation(operation.value), SQUARE, OTHER, side=64) == asked(operation.value, SQUARE, OTHER)
+
+
+def test_an_operation_is_one_of_the_words():
+    assert [operation.value for operation in Operation] == CALLS
+    with pytest.raises(ValueError):
+        overlay_grid.overlay("union of", SQUARE, OTHER)
+
+
+def test_bytes_of_any_kind():
+    a, b = bytearray(SQUARE.encode()), memoryview(OTHER.encode())
+    assert overlay_grid.intersection(a, b) == overlay_grid.intersection(memoryview(a), OTHER) == WORKED["intersection"].encode()
+
+
+def test_examples():
+    told = doctest.testmod(overlay_grid)
+    assert told.failed == 0 and told.attempted >= 12
+    page = doctest.testfile(os.path.join(os.path.dirname(HERE), "README.md"), module_relative=False)
+    assert page.failed == 0 and page.attempted == 5
 
 
 def test_empty_layers():
@@ -76,6 +99,7 @@ def test_refused(word, layers, plan, want):
         asked(word, *layers, **plan)
     told = fault.value
     assert (str(told), told.number, told.layer, told.offset, told.count) == want
+    assert isinstance(told.number, Refusal)
     again = pickle.loads(pickle.dumps(told))
     assert (str(again), again.number, again.layer, again.offset, again.count) == want
 

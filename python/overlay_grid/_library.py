@@ -1,0 +1,47 @@
+"""The proved library by ctypes: its calls, their answers and the numbers of their statuses, as include/overlay.h has them."""
+
+from __future__ import annotations
+
+import ctypes
+import os
+
+ANSWERED, NO_MEMORY, NO_CALL, REFUSED, SMALL = range(5)
+
+# The version of the calls that this package makes.
+CALLS = 1
+
+
+class Answer(ctypes.Structure):
+    """What a call answers. Fields that don't belong to the status are 0."""
+
+    length: int
+    detail: int
+    status: int
+    number: int
+    part: int
+    _fields_ = [
+        ("length", ctypes.c_uint64),
+        ("detail", ctypes.c_uint64),
+        ("status", ctypes.c_uint32),
+        ("number", ctypes.c_uint32),
+        ("part", ctypes.c_uint32),
+    ]
+
+
+def _opened() -> ctypes.CDLL:
+    opened = ctypes.CDLL(os.path.join(os.path.dirname(os.path.abspath(__file__)), "liboverlay.so"))
+    text = [ctypes.c_char_p, ctypes.c_size_t]
+    opened.overlay_fill.argtypes = [ctypes.c_uint32, ctypes.c_uint32, *text, *text, *text, ctypes.POINTER(Answer)]
+    opened.overlay_fill.restype = None
+    opened.overlay_words.argtypes = [ctypes.POINTER(Answer), *text]
+    opened.overlay_words.restype = ctypes.c_size_t
+    opened.overlay_side.argtypes = [*text, *text]
+    opened.overlay_side.restype = ctypes.c_uint32
+    opened.overlay_version.argtypes = []
+    opened.overlay_version.restype = ctypes.c_uint32
+    if opened.overlay_version() != CALLS:
+        raise ImportError("liboverlay.so is of another version")
+    return opened
+
+
+library = _opened()
