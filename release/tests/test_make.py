@@ -1,0 +1,147 @@
+"""release/make, on a clone with a gate's log of our own, and with the program and the libraries that the gate left here."""
+
+import os
+import shutil
+import subprocess
+import sys
+from pathlib import Path
+
+import pytest
+
+TOP = Path(__file__).resolve().parents[2]
+PASSED = "rt: ok; handles allowed: Threads, Wait\n345 passed, 0 failed\n"
+BUILT = {
+    "crates/overlay/out/overlay": Path(os.environ.get("OVERLAY") or TOP / "crates/overlay/out/overlay"),
+    "crates/overlay_c/out/liboverlay_c.a": TOP / "crates/overlay_c/out/liboverlay_c.a",
+    "python/overlay_grid/liboverlay.so": TOP / "python/overlay_grid/liboverlay.so",
+}
+LACKING = [tool for tool in ("ar", "dpkg-deb", "hatchling") if not shutil.which(tool)]
+VERSION = (TOP / "VERSION").read_text().strip()
+SQUARES = ("POLYGON ((0 0, 4 0, 4 4, 0 4, 0 0))", "POLYGON ((2 2, 6 2, 6 6, 2 6, 2 2))")
+COMMON = "MULTIPOLYGON (((2 2, 4 2, 4 4, 2 4, 2 2)))\n"
+
+pytestmark = pytest.mark.skipif(bool(LACKING), reason=f"not there: {', '.join(LACKING)}")
+
+
+def printed(*words, **how):
+    return subprocess.run(words, stdout=subprocess.PIPE, text=True, check=True, **how).stdout
+
+
+@pytest.fixture
+def clone(tmp_path):
+    """A clone as a gate leaves it, and a call of its release/make."""
+    tree, kit = tmp_path / "clone", tmp_path / "kit"
+    subprocess.run(["git", "clone", "-q", TOP, tree], check=True)
+    for place, file in BUILT.items():
+        (tree / place).parent.mkdir(parents=True, exist_ok=True)
+        shutil.copy(file, tree / place)
+    (kit / "bin").mkdir(parents=True)
+    (kit / "bin/rt").write_text("#!/bin/sh\necho kit of $1\n")
+    (kit / "bin/rt").chmod(0o755)
+    (kit / "c").symlink_to(Path(os.path.realpath(shutil.which("rt"))).parents[1] / "c")
+
+    def make(log):
+        (tmp_path / "gate.log").write_text(log)
+        words = [tree / "release/make", "--log", tmp_path / "gate.log", tmp_path / "made"]
+        path = f"{kit / 'bin'}:{os.environ['PATH']}"
+        return subprocess.run(words, env={**os.environ, "PATH": path}, capture_output=True, text=True, check=False)
+
+    make.tree = tree
+    return make
+
+
+def test_a_release(clone, tmp_path):
+    done = clone(PASSED)
+    assert done.returncode == 0, done.stderr
+    made = tmp_path / "made"
+    subprocess.run(["sha256sum", "--check", "--quiet", "SHA256SUMS"], cwd=made, check=True)
+    assert len((made / "SHA256SUMS").read_text().splitlines()) == len(list(made.iterdir())) - 1 == 4
+    commit = printed("git", "rev-parse", "HEAD", cwd=clone.tree).strip()
+    wanted = [f"commit {commit}", "kit of version", "the gate's last lines:", *PASSED.splitlines()]
+    assert (made / "GATE").read_text().splitlines() == wanted
+    is_an_archive(made, tmp_path)
+    is_a_package(made)
+    is_a_wheel(made, tmp_path)
+
+
+def is_an_archive(made, tmp_path):
+    """It runs from any folder."""
+    files = [tmp_path / name for name in ("a.wkt", "b.wkt")]
+    for file, text in zip(files, SQUARES):
+        file.write_text(text)
+    anywhere = tmp_path / "any where"
+    anywhere.mkdir()
+    name = f"overlay-{VERSION}-x86_64-linux"
+    printed("tar", "-xzf", made / f"{name}.tar.gz", "-C", anywhere)
+    printed("sha256sum", "--check", "--quiet", "SHA256SUMS", cwd=anywhere / name)
+    assert printed(anywhere / name / "bin/overlay", "intersection", *files, env={}) == COMMON
+    assert "usage: overlay-gis" in printed(anywhere / name / "bin/overlay-gis", "--help", env={"PATH": "/usr/bin:/bin"})
+
+
+def is_a_package(made):
+    """Its fields and its files are Debian's; lintian was asked by release/make, where it is there."""
+    deb = made / f"overlay_{VERSION}_amd64.deb"
+    assert printed("dpkg-deb", "-f", deb, "Version").strip() == VERSION
+    assert "python3-gdal, python3-shapely" in printed("dpkg-deb", "-f", deb, "Depends")
+    names = {line.split()[5] for line in printed("dpkg-deb", "-c", deb).splitlines()}
+    for name in ("bin/overlay", "bin/overlay-gis", "include/overlay.h", "lib/x86_64-linux-gnu/liboverlay.a", "share/man/man1/overlay.1.gz"):
+        assert f"./usr/{name}" in names
+    for name in ("lib/x86_64-linux-gnu/pkgconfig/overlay.pc", "lib/python3/dist-packages/overlay_grid/liboverlay.so", "share/doc/overlay/copyright"):
+        assert f"./usr/{name}" in names
+
+
+def is_a_wheel(made, tmp_path):
+    """Unpacked, it is a package that answers, and it says that it is typed."""
+    (wheel,) = made.glob(f"overlay_grid-{VERSION}-py3-none-manylinux_2_*_x86_64.whl")
+    place = tmp_path / "site"
+    printed(sys.executable, "-m", "zipfile", "-e", wheel, place)
+    told = "import overlay_grid as o, importlib.metadata as m, sys; print(m.version('overlay_grid'), o.intersection(*sys.argv[1:]), end='')"
+    got = printed(sys.executable, "-c", told, *SQUARES, env={"PYTHONPATH": str(place)}, cwd=tmp_path)
+    assert got == f"{VERSION} {COMMON}"
+    assert (place / "overlay_grid/py.typed").exists()
+
+
+@pytest.mark.parametrize(
+    "log, words",
+    [
+        ("", "doesn't say that the gate passed"),
+        ("344 passed, 1 failed\n", "doesn't say"),
+        (PASSED + "1 failed, 145 passed in 5.60s\n", "failed"),
+        (PASSED + "gis/tests: NOT RUN: ..\n", "didn't run"),
+    ],
+)
+def test_a_gate_that_did_not_pass(clone, tmp_path, log, words):
+    done = clone(log)
+    assert done.returncode == 1 and words in done.stderr and not (tmp_path / "made").exists()
+
+
+def test_a_clone_with_changes(clone, tmp_path):
+    (clone.tree / "README.md").write_text("changed")
+    assert "aren't committed" in clone(PASSED).stderr and not (tmp_path / "made").exists()
+
+
+@pytest.mark.parametrize("built", BUILT)
+def test_what_is_older_than_the_commit(clone, tmp_path, built):
+    os.utime(clone.tree / built, (0, 0))
+    assert "older than the commit" in clone(PASSED).stderr and not (tmp_path / "made").exists()
+
+
+@pytest.mark.parametrize("built", BUILT)
+def test_what_is_not_there(clone, tmp_path, built):
+    (clone.tree / built).unlink()
+    assert "there is no" in clone(PASSED).stderr and not (tmp_path / "made").exists()
+
+
+def test_two_versions(clone, tmp_path):
+    (clone.tree / "VERSION").write_text("9.9.9\n")
+    subprocess.run(["git", "-c", "user.name=a", "-c", "user.email=a@b", "commit", "-qam", "another"], cwd=clone.tree, check=True)
+    assert "told differently" in clone(PASSED).stderr and not (tmp_path / "made").exists()
+
+
+def test_another_version(clone):
+    """It is written to all places that tell it, and the changelog's heading is missed."""
+    done = subprocess.run([clone.tree / "release/version", "2.3.4"], capture_output=True, text=True, check=False)
+    assert (done.returncode, done.stdout) == (1, "2.3.4\n")
+    assert done.stderr == "release/version: CHANGELOG.md has no heading of 2.3.4\n"
+    changed = printed("git", "diff", "--numstat", cwd=clone.tree).splitlines()
+    assert len(changed) == 6 and all(line.startswith("1\t1\t") for line in changed)
