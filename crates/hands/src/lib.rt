@@ -1,8 +1,12 @@
-//! Two calls at once.
+//! The hands of a run: a stage's work is cut into parts, each is made by one of them, and what they made is put behind one another.
 //!
-//! A system may start a new thread on the processor of the thread that made it, and move it to another one only when the next tick
-//! finds both at work, milliseconds later. So a caller that has a hand for either call waits while two new threads make them. One that has
-//! more hands makes the second call itself, since all that this does is to start threads for halves of it, and to wait.
+//! In: a list or its length, and a number of parts. Out: what a function makes of each part.
+//!
+//! 1. The work is cut into parts that follow one another (`part`).
+//! 2. rayon maps the function over them (`parts`); two different calls at once are `join`.
+//!
+//! The promise: the answers stand in the order of the parts, each as the function's contract says it, whatever threads there were. The
+//! definition of consecutive parts is `specs/Consecutive`, their laws are `proofs/Consecutive`.
 #![tactic(auto)]
 
 ghost use Rattle.std.specs.Thread.{IsSend, IsSync};

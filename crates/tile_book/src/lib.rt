@@ -1,4 +1,11 @@
-//! Numbers that many hands draw, each once, a book of the pieces that they post, and the workers that do both in threads.
+//! Pieces of numbers, made by many workers: a job and a limit in, one piece for each number below it out.
+//!
+//! 1. Hands draw numbers from one atomic word, each once (`draw`).
+//! 2. A worker makes the piece of each number that it drew and posts it (`worker`) into a book under a lock (`desk`, `book`).
+//! 3. Where all are done, the book has what was posted, and what is missing is made (`crew`, `filling`).
+//!
+//! The promise: the pieces are those of the job, in order, whatever the schedule was, and how many were made anew is told exactly. A book is
+//! the replay of its history by its type; legal histories are defined in `specs/History`.
 #![tactic(auto)]
 
 mod book;
