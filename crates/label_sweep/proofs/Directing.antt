@@ -1,13 +1,13 @@
 -- The directed edges by labels are those of the result.
 use Rattle.std.proofs.Common.{◌≡◌, ◌⊎◌, inl, inr, ⊎_elim, Bool, true, List, [], ◌∷◌, map, refl, sym, ap, ◌∙◌, subst}
-use Rattle.std.specs.List.{Contains}
+use Rattle.std.specs.List.{AllPairs, Contains}
 use Rattle.std.specs.Prelude.{◌&&◌, not}
 use Rattle.geom.specs.declared.op.Op.{Op}
 use Rattle.geom.specs.declared.point.Pt.{Pt}
 use Rattle.geom.specs.declared.edge.Edge.{Edge}
 use Rattle.geom.specs.declared.edge.Counted.{Counted}
 use Rattle.geom.specs.declared.directed.DirectedEdge.{DirectedEdge}
-use Rattle.geom.specs.Directed.{AreResultEdges, IsResultEdge, from_to}
+use Rattle.geom.specs.Directed.{AreResultEdges, IsDirectedBefore, IsResultEdge, from_to}
 use Rattle.geom.specs.ResultEdges.{is_result_edge}
 use Rattle.geom.specs.Rounded.{edges_of}
 use Rattle.geom.proofs.Lists.{In, in_contains, contains_in, in_append, in_front, in_back}
@@ -38,10 +38,10 @@ module _ (op : Op) (cs : List Counted) where
       subst P (sym (way_of l (h l (inl refl)))) (is_way op cs l.edge d (subst Q (sym q) r) b))
   is_listed (l ∷ ls) h e d (inr i) r b = in_back (ways l.edge (directions_of op l)) (directed_of op ls) d (is_listed ls (λ m k. h m (inr k)) e d i r b)
 
-  pub result_edges : (points : List Pt) → ((e : Edge) → Contains (edges_of cs) e → Contains points e.p) → (es : List DirectedEdge) → AreDirectedFrom op cs points es → AreResultEdges op cs es
-  result_edges points all es a = let ls = a.labelled in
+  pub result_edges : (points : List Pt) → ((e : Edge) → Contains (edges_of cs) e → Contains points e.p) → (es : List DirectedEdge) → AllPairs IsDirectedBefore es → AreDirectedFrom op cs points es → AreResultEdges op cs es
+  result_edges points all es ascending a = let ls = a.labelled in
       let each = in_of_all (IsLabelled cs) ls a.labels.each in record {
-        ascending = a.ascending;
+        ascending = ascending;
         exact = λ d. (
           (λ h. listed_is ls each d (contains_in (directed_of op ls) d ((a.along d).0 h))),
           (λ r. (a.along d).1 (in_contains (directed_of op ls) d (is_listed ls each r.edge d

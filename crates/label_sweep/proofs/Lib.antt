@@ -18,5 +18,4 @@ pub mod Chunks
 pub mod Places
 pub mod Borders
 pub mod ChangingEdges
-pub mod Halves
-pub mod Ascending
+pub mod Parts

@@ -3,8 +3,8 @@ use Rattle.std.specs.Prelude.{◌≡◌, ◌<ℤ◌, ◌≤ℤ◌, ◌<◌, ◌�
 use Rattle.geom.specs.declared.point.Pt.{Pt}
 use Rattle.geom.specs.declared.edge.Edge.{Edge}
 use Rattle.geom.specs.Order.{IsBefore}
+use Rattle.hands.specs.declared.part.Part.{Part}
 use Rattle.label_sweep.specs.Status.{IsUnder, IsVertexOf}
-use Rattle.label_sweep.specs.declared.strips.Strip.{Strip}
 
 -- e crosses the column on the left of x: it begins on the left of x, and doesn't end there
 pub record Crosses (es : List Edge) (x : ℤ) (e : Edge) : Type 0 where
@@ -23,7 +23,7 @@ abbrev pub BeginsColumn : List Edge → Pt → Type 0
 BeginsColumn es v = (u : Pt) → IsVertexOf es u → IsBefore u v → u.x <ℤ v.x
 
 -- some vertices after one another, the first of which begins a column
-pub record IsStrip (es : List Edge) (vertices : List Pt) (strip : Strip) : Type 0 where
-  pub order : strip.from ≤ strip.to
-  pub within : strip.to ≤ length vertices
-  pub column : (u : Pt) → strip.from < strip.to → BeginsColumn es (get_or vertices strip.from u)
+pub record IsStrip (es : List Edge) (vertices : List Pt) (strip : Part) : Type 0 where
+  pub order : strip.from ≤ strip.past
+  pub within : strip.past ≤ length vertices
+  pub column : (u : Pt) → strip.from < strip.past → BeginsColumn es (get_or vertices strip.from u)

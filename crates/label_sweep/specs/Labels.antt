@@ -1,5 +1,5 @@
 -- The labels that a sweep gives (own).
-use Rattle.std.specs.Prelude.{false, ◌≡◌, ◌&&◌, ◌++◌, int_lt, ℕ, Bool, List, [], ◌∷◌, All, AllPairs, Contains, ◌↔◌, if◌then◌else◌, map, not}
+use Rattle.std.specs.Prelude.{false, ◌≡◌, ◌&&◌, ◌++◌, int_lt, ℕ, Bool, List, [], ◌∷◌, All, Contains, ◌↔◌, if◌then◌else◌, map, not}
 use Rattle.std.specs.List.{AllWithin}
 use Rattle.geom.specs.declared.edge.Edge.{Edge}
 use Rattle.geom.specs.declared.edge.Counted.{Counted}
@@ -7,7 +7,6 @@ use Rattle.geom.specs.declared.point.Pt.{Pt}
 use Rattle.geom.specs.declared.segment.Source.TheVariants.{A, B}
 use Rattle.geom.specs.declared.op.Op.{Op}
 use Rattle.geom.specs.declared.directed.DirectedEdge.{DirectedEdge}
-use Rattle.geom.specs.Directed.{IsDirectedBefore}
 use Rattle.geom.specs.Operations.{holds}
 use Rattle.geom.specs.Parity.{parity}
 use Rattle.geom.specs.Pixel.{Point}
@@ -86,11 +85,10 @@ abbrev pub directed_of : Op → List LabelledEdge → List DirectedEdge
 directed_of op [] = []
 directed_of op (l ∷ ls) = ways l.edge (directions_of op l) ++ directed_of op ls
 
--- along such labelled edges, the directed edges of the result, in order, each once
+-- along such labelled edges, the directed edges of the result
 pub record AreDirectedFrom (op : Op) (counted : List Counted) (points : List Pt) (directed : List DirectedEdge) : Type 0 where
   pub labelled : List LabelledEdge
   pub labels : AreLabelsFrom counted points labelled
-  pub ascending : AllPairs IsDirectedBefore directed
   pub along : (d : DirectedEdge) → Contains directed d ↔ Contains (directed_of op labelled) d
 
 -- the parities under the lowest of these, or none

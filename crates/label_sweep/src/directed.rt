@@ -1,18 +1,18 @@
 //! The directed edges of a result, by the labels of the sweep.
 
-ghost use Rattle.std.specs.Prelude.{◌≡◌, ◌↔◌, AllPairs, Contains, IfOk, IsTrue};
+ghost use Rattle.std.specs.Prelude.{◌≡◌, ◌↔◌, AllPairs, Contains, IfOk};
 ghost use Rattle.geom.specs.Directed.{AreResultEdges, IsDirectedBefore};
-ghost use Rattle.geom.specs.Order.{IsBefore};
 ghost use Rattle.geom.specs.declared.directed.DirectedEdge.{DirectedEdge};
 ghost use Rattle.points_law.specs.Law.{AreLayers};
 ghost use Rattle.label_sweep.specs.Labels.{directed_of, directions_of};
 
 use crate::changing::{changing_edges, most_change};
-use crate::shared_vertices::vertices_by_hands;
+use crate::shared_vertices::vertices_in_parts;
 use crate::standing::LabelledEdge;
-use crate::strips::{Strip, strip_edges, strip_edges_by_hands};
+use crate::strips::{edges_in_parts, strip_edges};
 use crate::vertices::vertices_of;
-use geom::{Counted, Directed, DirectedEdge, NoMemory, Op, Pt, add_directions};
+use geom::{Counted, Directed, DirectedEdge, NoMemory, Op, add_directions};
+use hands::Part;
 use std::alloc::Allocator;
 use std::thread::Threads;
 
@@ -43,31 +43,7 @@ pub fn directed_edges<A: Allocator + Copy>(
     Ok(edges)
 }
 
-fn is_before(p: Pt, q: Pt) -> bool
-    ensures { IsTrue result ↔ IsBefore p q }
-{
-    p < q
-}
-
-fn comes_before(d: DirectedEdge, e: DirectedEdge) -> bool
-    ensures { IsTrue result ↔ IsDirectedBefore d e }
-{
-    is_before(d.from, e.from) || d.from == e.from && is_before(d.to, e.to)
-}
-
-/// Whether directed edges ascend, none of them twice.
-pub fn ascend(edges: &[DirectedEdge]) -> bool
-    ensures { IsTrue result ↔ AllPairs IsDirectedBefore edges.now }
-{
-    for i in 1..edges.len() {
-        if !comes_before(edges[i - 1], edges[i]) {
-            return false;
-        }
-    }
-    true
-}
-
-/// Directed edges in their order, each once.
+/// Directed edges in their order, each once: a look at each where they ascend.
 pub fn in_order<A: Allocator>(mut edges: Vec<DirectedEdge, A>) -> Vec<DirectedEdge, A>
     ensures ascending { AllPairs IsDirectedBefore result.items }
     ensures same { (d : DirectedEdge) → Contains result.items d ↔ Contains edges.items d }
@@ -87,25 +63,27 @@ fn swept<A: Allocator + Copy>(
     ensures { IfOk result (λ directed. AreResultEdges op counted.now directed) }
 {
     let vertices = vertices_of(alloc, counted)?;
-    let all = Strip::of_all(&vertices);
+    let all = Part {
+        from: 0,
+        past: vertices.len(),
+    };
     let edges = strip_edges(alloc, counted, &vertices, all, op)?;
     Ok(Directed::new(edges))
 }
 
-/// The same, in a strip by each of so many hands.
-fn swept_by_hands<R: Threads + Sync, A: Allocator + Copy + Send + Sync>(
+/// The same, by so many parts of the edges and of the vertices.
+fn swept_in_parts<R: Threads + Sync, A: Allocator + Copy + Send + Sync>(
     rt: &R,
-    hands: u32,
     alloc: A,
+    parts: usize,
     counted: &[Counted],
     op: Op,
 ) -> Result<Directed<A>, NoMemory>
     requires { AreLayers counted.now }
     ensures { IfOk result (λ directed. AreResultEdges op counted.now directed) }
 {
-    let vertices = vertices_by_hands(rt, hands as usize, alloc, counted)?;
-    let all = Strip::of_all(&vertices);
-    let edges = strip_edges_by_hands(rt, hands as usize, alloc, counted, &vertices, all, op)?;
+    let vertices = vertices_in_parts(rt, alloc, parts, counted)?;
+    let edges = edges_in_parts(rt, alloc, parts, counted, &vertices, op)?;
     Ok(Directed::new(edges))
 }
 
@@ -126,11 +104,11 @@ pub fn layer_labels<A: Allocator + Copy>(
     swept(alloc, &edges, op)
 }
 
-/// The same, swept in a strip by each of so many hands.
-pub fn layer_labels_by_hands<R: Threads + Sync, A: Allocator + Copy + Send + Sync>(
+/// The same, in at most so many parts at once: 0 is one.
+pub fn layer_labels_in_parts<R: Threads + Sync, A: Allocator + Copy + Send + Sync>(
     rt: &R,
-    hands: u32,
     alloc: A,
+    parts: usize,
     counted: &[Counted],
     op: Op,
 ) -> Result<Directed<A>, NoMemory>
@@ -138,8 +116,8 @@ pub fn layer_labels_by_hands<R: Threads + Sync, A: Allocator + Copy + Send + Syn
     ensures { IfOk result (λ directed. AreResultEdges op counted.now directed) }
 {
     if most_change(counted) {
-        return swept_by_hands(rt, hands, alloc, counted, op);
+        return swept_in_parts(rt, alloc, parts, counted, op);
     }
     let edges = changing_edges(alloc, counted)?;
-    swept_by_hands(rt, hands, alloc, &edges, op)
+    swept_in_parts(rt, alloc, parts, &edges, op)
 }

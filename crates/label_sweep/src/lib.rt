@@ -16,7 +16,7 @@ mod strips;
 mod turn;
 mod vertices;
 
-pub use directed::{layer_labels, layer_labels_by_hands};
+pub use directed::{layer_labels, layer_labels_in_parts};
 pub use laws::{
     changing_are_layers, changing_bound, ends_are_level, first_left, left_of_first, left_of_next,
     right_is_beyond, search_is_monotone, standing_reaches, standing_stays, turn_is_labelled,
@@ -24,4 +24,3 @@ pub use laws::{
 pub use parities::Parities;
 pub use pass::sweep;
 pub use standing::{LabelledEdge, Spoke, StandingEdge};
-pub use strips::Strip;

@@ -1,6 +1,6 @@
-//! Two lists in order, put behind one another where they hardly overlap, as those of two parts of a map do.
+//! Lists in order, put behind one another where they hardly overlap, as those of the parts of a map do.
 
-ghost use Rattle.std.specs.Prelude.{◌≡◌, ◌≤◌, ◌++◌, IfOk, length};
+ghost use Rattle.std.specs.Prelude.{◌≡◌, ◌≤◌, ◌++◌, IfOk, OnOk, flat_map, length};
 ghost use Rattle.std.specs.List.Sorted.{IsPermutation};
 
 use geom::NoMemory;
@@ -36,17 +36,44 @@ fn sort_between<T: Ord, A: Allocator>(
     Ok(())
 }
 
-/// The items of two lists in order, the second one's behind the first one's, but for those where they overlap, which are sorted.
+/// Puts a list in order behind another one, and sorts the items where they overlap.
+fn merge<T: Copy + Ord, A: Allocator + Copy>(
+    alloc: A,
+    list: &mut Vec<T, A>,
+    more: &[T],
+) -> Result<(), NoMemory>
+    ensures { OnOk result (IsPermutation (list.old.items ++ more.now) list.new.items) }
+{
+    let (from, past) = overlap_of(list, more);
+    list.extend_from_slice(more)?;
+    let end = list.len() - (more.len() - past);
+    sort_between(alloc, list.as_mut_slice(), from.min(end), end)
+}
+
+/// How many items lists have together.
+fn items_of<T, A: Allocator>(lists: &[Vec<T, A>]) -> usize {
+    let mut items = 0usize;
+    for list in lists {
+        items = items.saturating_add(list.len());
+    }
+    items
+}
+
+/// The items of lists in order, each list's behind those of the one before it, but for those where they overlap, which are sorted.
 pub fn merged<T: Copy + Ord, A: Allocator + Copy>(
     alloc: A,
-    mut list: Vec<T, A>,
-    more: Vec<T, A>,
+    lists: Vec<Vec<T, A>, A>,
 ) -> Result<Vec<T, A>, NoMemory>
-    ensures { IfOk result (λ all. IsPermutation (list.items ++ more.items) all.items) }
+    ensures { IfOk result (λ all. IsPermutation (flat_map (λ l. l.items) lists.items) all.items) }
 {
-    let (from, past) = overlap_of(&list, &more);
-    list.extend_from_slice(&more)?;
-    let end = list.len() - (more.len() - past);
-    sort_between(alloc, list.as_mut_slice(), from.min(end), end)?;
-    Ok(list)
+    let room = items_of(&lists);
+    let mut rest = lists.into_iter();
+    let Some(mut all) = rest.next() else {
+        return Ok(Vec::new(alloc));
+    };
+    all.reserve_exact(room.saturating_sub(all.len()))?;
+    for list in rest {
+        merge(alloc, &mut all, &list)?;
+    }
+    Ok(all)
 }

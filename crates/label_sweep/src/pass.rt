@@ -13,10 +13,10 @@ use crate::column::crossing;
 use crate::parities::Parities;
 use crate::standing::{LabelledEdge, Spoke, StandingEdge};
 use crate::status::{Place, Status};
-use crate::strips::Strip;
 use crate::turn::{by_turn, label, stand};
 use crate::vertices::{first_of, last_of};
 use geom::{Counted, NoMemory, Pt};
+use hands::Part;
 use std::alloc::Allocator;
 
 /// The sweep at a vertex.
@@ -104,21 +104,21 @@ pub fn sweep<A: Allocator + Copy>(
     alloc: A,
     counted: &[Counted],
     vertices: &[Pt],
-    strip: Strip,
+    strip: Part,
 ) -> Result<Vec<LabelledEdge, A>, NoMemory>
     requires layers { AreLayers counted.now }
     requires vertices { AreVertices (edges_of counted.now) vertices.now }
     requires strip { IsStrip (edges_of counted.now) vertices.now strip }
-    ensures { IfOk result (λ labelled. AreLabelsFrom counted.now (slice_range vertices.now strip.from strip.to) labelled.items) }
+    ensures { IfOk result (λ labelled. AreLabelsFrom counted.now (slice_range vertices.now strip.from strip.past) labelled.items) }
 {
-    if strip.from == strip.to {
+    if strip.from == strip.past {
         return Ok(Vec::new(alloc));
     }
     let first = vertices[strip.from];
     let start = first_of(counted, first);
     let mut line = SweepLine::before(alloc, counted, first, counted.len() - start)?;
     let mut next = start;
-    for number in strip.from..strip.to {
+    for number in strip.from..strip.past {
         let from = next;
         next = last_of(counted, from, vertices[number]);
         line.pass(counted, from, next, vertices[number])?;

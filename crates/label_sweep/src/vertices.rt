@@ -2,13 +2,14 @@
 //! 1. The first ends are listed, in their order (`first_ends`).
 //! 2. From the last edge to the first, a second end is added unless a small table has it, which holds first ends of later edges: on a map
 //!    few are (`add_second_ends`).
-//! 3. The list is sorted, by a sort that keeps the run of the first ends, and rid of repeats (`vertices_of`).
+//! 3. The list is sorted, by a sort that keeps the run of the first ends, and rid of repeats (`each_once`).
 
-ghost use Rattle.std.specs.Prelude.{◌≡◌, ◌<◌, ◌≤◌, ◌<ℤ◌, ◌≤ℤ◌, ◌⊎◌, All, AllPairs, Contains, IfOk, OnOk, false, int_lt, length, true};
+ghost use Rattle.std.specs.Prelude.{◌≡◌, ◌<◌, ◌≤◌, ◌<ℤ◌, ◌≤ℤ◌, ◌⊎◌, All, AllPairs, Contains, IfOk, List, OnOk, false, int_lt, length, true};
 ghost use Rattle.std.specs.List.{AllWithin};
 ghost use Rattle.geom.specs.EdgeOrder.{IsEdgeBefore};
 ghost use Rattle.geom.specs.Order.{IsBefore, IsUpTo};
 ghost use Rattle.geom.specs.Rounded.{edges_of};
+ghost use Rattle.geom.specs.declared.edge.Edge.{Edge};
 ghost use Rattle.label_sweep.specs.Status.{AreEnds, AreVertices, IsVertexOf};
 
 use geom::{Counted, NoMemory, Pt};
@@ -24,10 +25,17 @@ pub fn vertices_of<A: Allocator + Copy>(
 ) -> Result<Vec<Pt, A>, NoMemory>
     ensures { IfOk result (λ vertices. AreVertices (edges_of counted.now) vertices.items) }
 {
-    let mut vertices = ends_of(alloc, counted)?;
-    vertices.sort()?;
-    vertices.dedup();
-    Ok(vertices)
+    let ends = ends_of(alloc, counted)?;
+    each_once(ends)
+}
+
+/// Points in their order, each once: a look at each where they ascend.
+pub fn each_once<A: Allocator>(mut points: Vec<Pt, A>) -> Result<Vec<Pt, A>, NoMemory>
+    ensures { IfOk result (λ vertices. (es : List Edge) → AreEnds es points.items → AreVertices es vertices.items) }
+{
+    points.sort()?;
+    points.dedup();
+    Ok(points)
 }
 
 /// Both ends of each edge, of those that are listed one after another only the first.

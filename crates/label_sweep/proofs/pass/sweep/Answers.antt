@@ -51,7 +51,7 @@ loop-number-preserved g c =
     )
 
 pub returns-then-strip : goal.returns-then-strip
-returns-then-strip g c = rw c.new.ensures.items (none_labelled c.args.counted.now c.args.vertices.now c.args.strip.from c.args.strip.to c.if-strip.true)
+returns-then-strip g c = rw c.new.ensures.items (none_labelled c.args.counted.now c.args.vertices.now c.args.strip.from c.args.strip.past c.if-strip.true)
 
 pub returns : goal.returns
 returns g c =
@@ -60,6 +60,6 @@ returns g c =
     let e = c.if-strip.false in
     let f = c.first_of-start.ensures in
     let i = c.loop-number.invariant in
-    labels_are c.args.counted.now c.args.vertices.now c.requires.vertices strip.from strip.to c.first_of-start.result c.loop-number.next _ _ s.order s.within
+    labels_are c.args.counted.now c.args.vertices.now c.requires.vertices strip.from strip.past c.first_of-start.result c.loop-number.next _ _ s.order s.within
     (begins c.args.counted.now c.args.vertices.now c.requires.vertices strip.from c.first_of-start.result origin (omega (arith, s.order, s.within, e)) (s.column origin (omega (arith, s.order, e))) f.within f.left f.right _ c.in_ok-line.ensures.swept)
     (subst (λ k. IsSwept c.args.counted.now c.args.vertices.now k c.loop-number.next (all_standing c.loop-number.line.standing)) (omega (arith, c.loop-number-test.false)) i.0) c.loop-number.line.labelled.items i.1

@@ -1,8 +1,9 @@
+use Rattle.std.specs.Prelude.{List}
+use Rattle.std.proofs.lemmas.Result.{IfOk-weaker}
+use Rattle.geom.specs.declared.edge.Edge.{Edge}
 use Rattle.geom.specs.Rounded.{edges_of}
-use Rattle.geom.proofs.Orders.{points_once}
-use Rattle.label_sweep.proofs.Ends.{are_vertices}
+use Rattle.label_sweep.specs.Status.{AreEnds, AreVertices}
 use Rattle.label_sweep.proofs.vertices.vertices_of.Goals as goal
 
 pub returns : goal.returns
-returns g c = are_vertices (edges_of c.args.counted.now) c.in_ok-vertices.vertices.items c.dedup.new.self.items c.in_ok-vertices.ensures
-    (points_once c.in_ok-vertices.vertices.items c.sort.new.self.items c.dedup.new.self.items c.sort.ensures.permutation c.in_ok-sort.ensures.sorted c.dedup.ensures.filtered)
+returns g c = IfOk-weaker c.each_once.result (λ v. (es : List Edge) → AreEnds es c.in_ok-ends.ends.items → AreVertices es v.items) (λ v. AreVertices (edges_of c.args.counted.now) v.items) (λ v h. h (edges_of c.args.counted.now) c.in_ok-ends.ensures) c.each_once.ensures
