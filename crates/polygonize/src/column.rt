@@ -1,9 +1,8 @@
 //! Vertical columns, and the edges that lie across them.
 
-ghost use Rattle.std.specs.Prelude.{◌≡◌, ◌⊎◌, ℕ, ◌↔◌, ◌<◌, ◌≤ℤ◌, ◌<ℤ◌, All, Contains, IfOk, IsTrue, length};
+ghost use Rattle.std.specs.Prelude.{◌↔◌, ◌<◌, ◌≤ℤ◌, ◌<ℤ◌, All, IfOk, IsTrue, length};
 ghost use Rattle.geom.specs.Limit.{AreInLimit, InLimit, IsWithin, coordinate_limit};
 ghost use Rattle.polygonize.specs.Column.{AreColumnsOf, HasMeeting, HasSlanted, Meets, Spans};
-ghost use Rattle.polygonize.specs.Next.{edge_at};
 
 use geom::{COORDINATE_LIMIT, DirectedEdge, NoMemory, Pt};
 use std::alloc::Allocator;

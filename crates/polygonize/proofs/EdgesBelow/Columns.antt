@@ -1,5 +1,5 @@
 -- Vertical columns, and the edges that lie across them.
-use Rattle.std.proofs.Common.{◌≡◌, ◌⊎◌, ℕ, ◌+◌, ◌<◌, List, [], length, get_or, take, refl, sym, ◌∙◌, ap, subst, inl, inr, Bool, false, arith, ℤ, w32, to_z, of_z}
+use Rattle.std.proofs.Common.{◌≡◌, ◌⊎◌, ℕ, ◌+◌, ◌<◌, List, length, get_or, take, refl, sym, ◌∙◌, ap, subst, inl, inr, Bool, false, arith, ℤ, w32, to_z, of_z}
 use Rattle.std.specs.Prelude.{◌≤ℤ◌, ◌<ℤ◌, ◌-ℤ◌, pos, true, All, IsTrue}
 use Rattle.std.specs.Int.{int_max, int_min}
 use Rattle.std.proofs.lemmas.Int.{ints, by_lt_z, int_max_is, int_min_is}
@@ -26,9 +26,6 @@ pub record SpreadSoFar (vertices : List Pt) (asked : List ℕ) (low high : ℤ) 
   pub low_in : IsWithin coordinate_limit low
   pub high_in : IsWithin coordinate_limit high
   pub each : All (λ r. (low ≤ℤ (vertex_at vertices r).x) × ((vertex_at vertices r).x ≤ℤ high)) asked
-
-pub spread_none : (vertices : List Pt) (low high : ℤ) → IsWithin coordinate_limit low → IsWithin coordinate_limit high → SpreadSoFar vertices [] low high
-spread_none vertices low high h k = record { low_in = h; high_in = k; each = λ k d l. absurd (omega arith) }
 
 least_is : (lo m a b : ℤ) → m ≡ int_min a b → lo ≤ℤ a → lo ≤ℤ b → (lo ≤ℤ m) × ((m ≤ℤ a) × (m ≤ℤ b))
 least_is lo m a b e h k = (omega (arith, linear, int_min_is a b), (omega (arith, linear, int_min_is a b), omega (arith, linear, int_min_is a b)))

@@ -9,11 +9,9 @@ use Rattle.geom.specs.declared.edge.Edge.{Edge}
 use Rattle.geom.specs.Determinant.{side}
 use Rattle.geom.specs.Holes.{height, left_of, run_of}
 use Rattle.geom.specs.Limit.{AreInLimit, InLimit, IsWithin, coordinate_limit}
-use Rattle.geom.specs.Order.{IsBefore}
 use Rattle.geom.specs.declared.directed.DirectedEdge.{DirectedEdge}
 use Rattle.geom.specs.Directed.{RunsAlong, from_to}
 use Rattle.geom.proofs.Edges.{edge_path, not_turned}
-use Rattle.geom.proofs.Orders.{before_itself}
 use Rattle.geom.specs.Parity.{covers}
 use Rattle.geom.proofs.Bounds.{fits_64, fits_128, product_within}
 use Rattle.geom.proofs.Integers.{expand, linear}
@@ -152,24 +150,12 @@ runs_of : (d : DirectedEdge) (f : Edge) → ((f.p ≡ d.from) × (f.q ≡ d.to))
 runs_of d f (inl h) = inl (λ i. from_to (sym h.0 i) (sym h.1 i))
 runs_of d f (inr h) = inr (λ i. from_to (sym h.1 i) (sym h.0 i))
 
-ends_of : (d : DirectedEdge) (f : Edge) → RunsAlong d f → ((f.p ≡ d.from) × (f.q ≡ d.to)) ⊎ ((f.p ≡ d.to) × (f.q ≡ d.from))
-ends_of d f (inl r) = inl (ap (λ t. t.from) (sym r), ap (λ t. t.to) (sym r))
-ends_of d f (inr r) = inr (ap (λ t. t.to) (sym r), ap (λ t. t.from) (sym r))
-
 -- ---- which edges lie below
 height_parts : (kk r s px py x y : ℤ) → (r *ℤ ((kk *ℤ y) -ℤ (kk *ℤ py))) -ℤ (s *ℤ (((kk *ℤ x) -ℤ pos 1) -ℤ (kk *ℤ px))) ≡ (kk *ℤ ((r *ℤ (y -ℤ py)) -ℤ (s *ℤ (x -ℤ px)))) +ℤ s
 height_parts kk r s px py x y = simp expand (omega (arith, linear))
 
 pub height_is : (e : Edge) (v : Pt) → height e (left_of v) ≡ (pos (2 ^ 64) *ℤ side e.p e.q v) +ℤ (e.q.y -ℤ e.p.y)
 height_is e v = height_parts (pos (2 ^ 64)) (e.q.x -ℤ e.p.x) (e.q.y -ℤ e.p.y) e.p.x e.p.y v.x v.y
-
--- the ends are one point
-pub no_edge : (d : DirectedEdge) (v : Pt) → d.from ≡ d.to → (e : Edge) → ¬ (RunsBelow d (left_of v) e)
-no_edge d v h e b = apart e (ends_of d e b.runs)
-  where
-    apart : (e : Edge) → ((e.p ≡ d.from) × (e.q ≡ d.to)) ⊎ ((e.p ≡ d.to) × (e.q ≡ d.from)) → ⊥
-    apart e (inl k) = before_itself e.q (let P : Pt → Type 0 = λ t. IsBefore t e.q in subst P (k.0 ∙ h ∙ sym k.1) e.ordered)
-    apart e (inr k) = before_itself e.q (let P : Pt → Type 0 = λ t. IsBefore t e.q in subst P (k.0 ∙ sym h ∙ sym k.1) e.ordered)
 
 -- the edge doesn't cover the point
 pub not_over : (d : DirectedEdge) (v : Pt) (f : Edge) → ((f.p ≡ d.from) × (f.q ≡ d.to)) ⊎ ((f.p ≡ d.to) × (f.q ≡ d.from)) → ¬ (covers f (left_of v) ≡ true) → (e : Edge) → ¬ (RunsBelow d (left_of v) e)

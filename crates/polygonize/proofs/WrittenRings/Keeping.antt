@@ -1,8 +1,8 @@
 -- The shell of a polygon, kept at the places of a ring's edges.
-use Rattle.std.proofs.Common.{◌≡◌, ◌≢◌, ◌⊎◌, ℕ, ◌+◌, ◌<◌, inl, inr, refl, sym, ◌∙◌, ap, Option, Some, None, List, [], ◌∷◌, length, get_or, set, arith}
+use Rattle.std.proofs.Common.{◌≡◌, ◌≢◌, ◌⊎◌, ℕ, ◌<◌, inl, inr, refl, sym, ◌∙◌, ap, Option, Some, None, List, [], ◌∷◌, length, get_or, arith}
 use Rattle.std.specs.Prelude.{Contains}
-use Rattle.std.proofs.lemmas.Bool.{cases_eq, cases_lt}
-use Rattle.std.proofs.lemmas.List.{get_or_default, get_or-set_same, get_or-set_other}
+use Rattle.std.proofs.lemmas.Bool.{cases_eq}
+use Rattle.std.proofs.lemmas.List.{get_or_default}
 use Rattle.geom.proofs.Lists.{In, contains_in, in_contains}
 use Rattle.polygonize.specs.declared.written.Opening.{Opening}
 use Rattle.polygonize.specs.Owning.{KeepsShell}
@@ -14,18 +14,6 @@ pub record KeepsSoFar (cycle : List ℕ) (shell : Opening) (n : ℕ) (old new : 
 
 pub kept_none : (cycle : List ℕ) (shell : Opening) (old : List (Option Opening)) → KeepsSoFar cycle shell 0 old old
 kept_none cycle shell old = record { kept = λ m h. absurd (omega arith); rest = λ k h. refl }
-
-pub kept_one : (cycle : List ℕ) (shell : Opening) (n : ℕ) (old now : List (Option Opening)) → get_or cycle n 0 < length now → KeepsSoFar cycle shell n old now → KeepsSoFar cycle shell (n + 1) old (set now (get_or cycle n 0) (Some shell))
-kept_one cycle shell n old now h w = record {
-  kept = λ m l. elim (cases_eq (get_or cycle m 0) (get_or cycle n 0)) [
-    | inl e ↦ ap (λ t. get_or (set now (get_or cycle n 0) (Some shell)) t None) e ∙ get_or-set_same now (get_or cycle n 0) (Some shell) None h
-    | inr d ↦ get_or-set_other now (get_or cycle n 0) (get_or cycle m 0) (Some shell) None d ∙ w.kept m (before m l d)
-  ];
-  rest = λ k f. get_or-set_other now (get_or cycle n 0) k (Some shell) None (λ e. f n (omega arith) (sym e)) ∙ w.rest k (λ m l. f m (omega (arith, l)));
-}
-  where
-    before : (m : ℕ) → m < n + 1 → get_or cycle m 0 ≢ get_or cycle n 0 → m < n
-    before m l d = elim (cases_lt m n) [ inl k ↦ k | inr k ↦ (let e : m ≡ n = omega arith in absurd (d (ap (λ t. get_or cycle t 0) e))) ]
 
 pub kept_all : (cycle : List ℕ) (shell : Opening) (n : ℕ) (old now : List (Option Opening)) → n ≡ length cycle → KeepsSoFar cycle shell n old now → KeepsShell cycle shell old now
 kept_all cycle shell n old now e w = record {

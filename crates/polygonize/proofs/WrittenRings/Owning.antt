@@ -81,9 +81,6 @@ module _ (ds : List DirectedEdge) (closes : Closes ds) (noded : AreNodedEdges ds
       (one.rotation (ring_of ds piece) (ring_of ds turned) (ring_of ds piece) (least_turned piece turned c.sound t) (own_least ds a piece c.sound c.least))
 
   module _ (ring : List ℕ) (some : 0 < length ring) (vertices : All (IsVertex ds) ring) (lowest : All (λ k. get_or ring 0 0 ≤ k) ring) (on : Contains rings (ring_of ds ring)) (pieces : List (List ℕ)) (cut : IsCut ring pieces) (sound : All (IsSound ds) pieces) where
-    piece_at : ℕ → List ℕ
-    piece_at k = get_or pieces k []
-
     sound_at : (k : ℕ) → k < length pieces → IsSound ds (get_or pieces k [])
     sound_at k h = All-get_or (IsSound ds) pieces k [] h sound
 

@@ -1,33 +1,19 @@
 -- Rings begun at their least number, and how they are added to the written ones.
-use Rattle.std.proofs.Common.{◌≡◌, ℕ, ◌<◌, ◌≤◌, List, [], ◌∷◌, ◌++◌, length, get_or, map, take, drop, refl, sym, ◌∙◌, ap, subst, append_assoc}
+use Rattle.std.proofs.Common.{◌≡◌, ℕ, ◌≤◌, List, [], ◌∷◌, ◌++◌, length, map, sym, ◌∙◌, ap, subst, append_assoc}
 use Rattle.std.specs.Prelude.{All, IsPermutation, flat_map}
-use Rattle.std.proofs.lemmas.List.{take-append-drop, map-append, append-nil}
+use Rattle.std.proofs.lemmas.List.{map-append, append-nil}
 use Rattle.std.proofs.lemmas.List.Elements.{All-nil, All-cons, All-head, All-tail}
 use Rattle.std.proofs.lemmas.List.Sorted.{IsPermutation-refl, IsPermutation-trans, IsPermutation-append, IsPermutation-append_comm, All-permutation, length_permutation}
-use Rattle.std.proofs.Math.Seq.{drop-cons}
 use Rattle.geom.specs.declared.directed.DirectedEdge.{DirectedEdge}
 use Rattle.geom.specs.Rings.{ring_edges}
 use Rattle.geom.proofs.RingEdges.{same_order, rotated_edges}
 use Rattle.polygonize.specs.Next.{edge_at, ring_of}
 use Rattle.polygonize.specs.Number.{IsVertex}
 use Rattle.polygonize.specs.Placed.{PlacedRing, rings_in}
-use Rattle.polygonize.specs.Written.{IsTurned, AreTurned, AreAdded, IsSound, IsCanonical, backward}
+use Rattle.polygonize.specs.Written.{IsTurned, AreTurned, IsSound, IsCanonical, backward}
 use Rattle.polygonize.proofs.Permuted.{all_pairs_permutation}
 
 -- ---- one ring
-pub turned_at : (ring : List ℕ) (k : ℕ) → k < length ring → All (λ j. get_or ring k 0 ≤ j) ring → IsTurned ring (drop k ring ++ take k ring)
-turned_at ring k h l = record {
-  front = take k ring;
-  back = drop k ring;
-  was = sym (take-append-drop k ring);
-  is = refl;
-  least = let P : ℕ → Type 0 = λ t. All (λ j. t ≤ j) (drop k ring ++ take k ring) in subst P (sym first)
-      (All-permutation (λ j. get_or ring k 0 ≤ j) ring (drop k ring ++ take k ring) (IsPermutation-trans _ _ _ (same_order ring (take k ring ++ drop k ring) (sym (take-append-drop k ring))) (IsPermutation-append_comm (take k ring) (drop k ring))) l);
-}
-  where
-    first : get_or (drop k ring ++ take k ring) 0 0 ≡ get_or ring k 0
-    first = ap (λ t. get_or (t ++ take k ring) 0 0) (drop-cons ring k 0 h)
-
 pub turned_permutation : (ring turned : List ℕ) → IsTurned ring turned → IsPermutation ring turned
 turned_permutation ring turned t = IsPermutation-trans _ _ _ (same_order ring (t.front ++ t.back) t.was) (IsPermutation-trans _ _ _ (IsPermutation-append_comm t.front t.back) (same_order (t.back ++ t.front) turned (sym t.is)))
 
@@ -84,9 +70,6 @@ one_added pieces left rest old new piece turned e t a = record {
   each = (t, a.each);
   appended = ap (λ x. x ++ turned ∷ []) a.appended ∙ append_assoc old (backward a.turned) (turned ∷ []);
 }
-
-pub all_added : (pieces old new : List (List ℕ)) → Adding pieces [] old new → AreAdded pieces old new
-all_added pieces old new a = record { turned = a.turned; each = (let P : List (List ℕ) → Type 0 = λ t. AreTurned t a.turned in subst P (sym a.parts) a.each); appended = a.appended }
 
 pub step_added : (pieces left rest : List (List ℕ)) (piece : List ℕ) (old : List (List ℕ)) (new more : List PlacedRing) (w : PlacedRing) → left ≡ rest ++ piece ∷ [] → more ≡ new ++ w ∷ [] → IsTurned piece w.ring
     → Adding pieces left old (rings_in new) → Adding pieces rest old (rings_in more)
