@@ -4,4 +4,3 @@ pub mod Nearness
 pub mod Columns
 pub mod Ladders
 pub mod Searching
-pub mod Halves

@@ -1,5 +1,5 @@
 -- The nearest edge below a point.
-use Rattle.std.specs.Prelude.{◌≡◌, ◌⊎◌, ◌^◌, ◌<◌, ◌≤◌, ◌+ℤ◌, ◌*ℤ◌, ◌≤ℤ◌, ◌<ℤ◌, ℕ, ℤ, pos, true, List, [], All, Contains, Option, Some, None, IfSome, MatchOption, length, slice_index_or}
+use Rattle.std.specs.Prelude.{◌≡◌, ◌⊎◌, ◌^◌, ◌<◌, ◌+ℤ◌, ◌*ℤ◌, ◌≤ℤ◌, ◌<ℤ◌, ℕ, ℤ, pos, true, List, [], Contains, Option, Some, None, IfSome, MatchOption, length, slice_index_or}
 use Rattle.geom.specs.declared.directed.DirectedEdge.{DirectedEdge}
 use Rattle.geom.specs.declared.edge.Edge.{Edge}
 use Rattle.geom.specs.declared.point.Pt.{Pt}
@@ -11,7 +11,7 @@ use Rattle.geom.specs.Pixel.{Point}
 use Rattle.polygonize.specs.declared.below.Gap.{Gap}
 use Rattle.polygonize.specs.declared.column.Columns.{Columns}
 use Rattle.polygonize.specs.Column.{Spans}
-use Rattle.polygonize.specs.Next.{edge_at, ring_of}
+use Rattle.polygonize.specs.Next.{edge_at, first_vertex, ring_of}
 
 -- d runs along e, and e lies below z
 pub record RunsBelow (d : DirectedEdge) (z : Point) (e : Edge) : Type 0 where
@@ -89,16 +89,16 @@ AreNearer ds vertices asked numbers old new = AreNearerFor ds vertices asked (Co
 abbrev pub AreNearerSpanning : List DirectedEdge → List Pt → List ℕ → List ℕ → Columns → List (Option Gap) → List (Option Gap) → Type 0
 AreNearerSpanning ds vertices asked numbers columns old new = AreNearerFor ds vertices asked (λ k. Contains numbers k × Spans (edge_at ds k) columns) old new
 
--- each gap of a vertex that is asked for is that of a nearest edge below it
-pub record AreGapsBelow (ds : List DirectedEdge) (vertices : List Pt) (asked : List ℕ) (best : List (Option Gap)) : Type 0 where
+-- each gap is that of a nearest edge below its vertex
+pub record AreGapsBelow (ds : List DirectedEdge) (vertices : List Pt) (best : List (Option Gap)) : Type 0 where
   pub same_length : length best ≡ length vertices
-  pub each : All (λ r. IsFoundBelow ds (vertex_at vertices r) (best_at best r)) asked
+  pub each : (r : ℕ) → r < length vertices → IsFoundBelow ds (vertex_at vertices r) (best_at best r)
+
+-- the gaps stand in a list at the given numbers
+abbrev pub StandAt : List ℕ → List (Option Gap) → List (Option Gap) → Type 0
+StandAt numbers gaps best = (k : ℕ) → k < length numbers → best_at best (slice_index_or numbers k 0) ≡ best_at gaps k
 
 -- for each cycle whose ring is a hole the nearest edge below its first vertex is found
 pub record AreFoundBelow (ds : List DirectedEdge) (cycles : List (List ℕ)) (best : List (Option Gap)) : Type 0 where
   pub same_length : length best ≡ length cycles
-  pub each : (r : ℕ) → r < length cycles → IsHole (ring_of ds (slice_index_or cycles r [])) → IsFoundBelow ds (edge_at ds (slice_index_or (slice_index_or cycles r []) 0 0)).from (best_at best r)
-
--- of the cycles from one number to before another one, those whose rings are holes are among the found ones
-abbrev pub HasHoles : List DirectedEdge → List (List ℕ) → ℕ → ℕ → List ℕ → Type 0
-HasHoles ds cycles from past found = (r : ℕ) → from ≤ r → r < past → IsHole (ring_of ds (slice_index_or cycles r [])) → Contains found r
+  pub each : (r : ℕ) → r < length cycles → IsHole (ring_of ds (slice_index_or cycles r [])) → IsFoundBelow ds (first_vertex ds cycles r) (best_at best r)

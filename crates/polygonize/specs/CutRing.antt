@@ -36,6 +36,12 @@ pub record AreCyclesCut {M : Type 0} (ds : List DirectedEdge) (cycles : List (Li
   pub reaches : from + length rings ≡ past
   pub each : (k : ℕ) (d : CutRing M) → k < length rings → IsCycleCut ds (slice_index_or cycles (from + k) []) (slice_index_or rings k d)
 
--- the numbers of those rings that are holes are among the found ones
-abbrev pub HasHoleNumbers : {M : Type 0} → List (CutRing M) → List ℕ → Type 0
-HasHoleNumbers {M} rings found = (r : ℕ) (d : CutRing M) → r < length rings → IsTrue (slice_index_or rings r d).is_hole → Contains found r
+-- each number is above those before it
+abbrev pub Ascend : List ℕ → Type 0
+Ascend numbers = (i j : ℕ) → i < j → j < length numbers → slice_index_or numbers i 0 < slice_index_or numbers j 0
+
+-- the numbers of those rings that are holes, in order
+pub record AreHoleNumbers {M : Type 0} (rings : List (CutRing M)) (numbers : List ℕ) : Type 0 where
+  pub ascend : Ascend numbers
+  pub inside : All (λ r. r < length rings) numbers
+  pub each : (r : ℕ) (d : CutRing M) → r < length rings → Contains numbers r ↔ IsTrue (slice_index_or rings r d).is_hole

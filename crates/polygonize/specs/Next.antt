@@ -1,5 +1,5 @@
 -- For each directed edge of a list the place of the next one.
-use Rattle.std.specs.Prelude.{◌≡◌, ℕ, ◌<◌, pos, List, length, map, slice_index, slice_index_or, All}
+use Rattle.std.specs.Prelude.{◌≡◌, ℕ, ◌<◌, pos, List, [], length, map, slice_index, slice_index_or, All}
 use Rattle.geom.specs.declared.point.Pt.{Pt}
 use Rattle.geom.specs.declared.directed.DirectedEdge.{DirectedEdge}
 use Rattle.geom.specs.Rings.{IsNext}
@@ -22,3 +22,7 @@ ring_of ds cycle = map (λ i. (edge_at ds i).from) cycle
 
 abbrev pub rings_of : List DirectedEdge → List (List ℕ) → List (List Pt)
 rings_of ds cycles = map (ring_of ds) cycles
+
+-- where the cycle with a number begins
+abbrev pub first_vertex : List DirectedEdge → List (List ℕ) → ℕ → Pt
+first_vertex ds cycles r = (edge_at ds (slice_index_or (slice_index_or cycles r []) 0 0)).from

@@ -3,7 +3,7 @@
 ghost use Rattle.std.specs.Prelude.{◌≡◌, ◌<◌, ◌≤◌, All, IfOk, length};
 ghost use Rattle.geom.specs.Directed.{AreDirected};
 ghost use Rattle.geom.specs.Limit.{AreInLimit};
-ghost use Rattle.polygonize.specs.CutRing.{AreCyclesCut, AreCyclesOf, HasHoleNumbers, IsCycleCut};
+ghost use Rattle.polygonize.specs.CutRing.{AreCyclesCut, AreCyclesOf, AreHoleNumbers, IsCycleCut};
 ghost use Rattle.polygonize.specs.Number.{AreNumbers};
 ghost use Rattle.polygonize.specs.Written.{ArePlaces};
 
@@ -13,7 +13,9 @@ use crate::hole::is_hole;
 use crate::number::vertices_of;
 use crate::piece::first_piece;
 use geom::{DirectedEdge, NoMemory};
+use hands::{Part, joined, map_parts, parts_of_work};
 use std::alloc::Allocator;
+use std::thread::Threads;
 
 /// A ring that is cut: whether it is a hole, its pieces, and which of them is the first.
 #[derive(Drop)]
@@ -72,13 +74,44 @@ pub fn cut_rings<A: Allocator + Copy>(
     Ok(rings)
 }
 
-/// The numbers of those rings that are holes.
+/// The rings of all cycles, cut in so many parts of about as many edges.
+pub fn cut_rings_in_parts<R: Threads + Sync, A: Allocator + Copy + Send + Sync>(
+    rt: &R,
+    alloc: A,
+    parts: usize,
+    edges: &[DirectedEdge],
+    numbers: &[usize],
+    cycles: &[Cycle<A>],
+) -> Result<Vec<CutRing<A>, A>, NoMemory>
+    requires { AreCyclesOf edges.now numbers.now cycles.now }
+    ensures { IfOk result (λ rings. AreCyclesCut edges.now cycles.now 0 (length cycles.now) rings.items) }
+{
+    let all = parts_of_work(
+        alloc,
+        cycles.len(),
+        parts,
+        |number: usize| -> usize
+            requires { number < length cycles.now }
+        { cycles[number].numbers().len() },
+    )?;
+    let lists = map_parts(
+        rt,
+        alloc,
+        &all,
+        |part: Part| -> Result<Vec<CutRing<A>, A>, NoMemory>
+            requires { AreCyclesOf edges.now numbers.now cycles.now × (part.from ≤ part.past) × (part.past ≤ length cycles.now) }
+            ensures { IfOk result (λ rings. AreCyclesCut edges.entry.now cycles.entry.now part.from part.past rings.items) }
+        { cut_rings(alloc, edges, numbers, cycles, part.from, part.past) },
+    )?;
+    Ok(joined(alloc, lists)?)
+}
+
+/// The numbers of those rings that are holes, in order.
 pub fn holes_among<A: Allocator + Copy>(
     alloc: A,
     rings: &[CutRing<A>],
 ) -> Result<Vec<usize, A>, NoMemory>
-    ensures inside { IfOk result (λ holes. All (λ r. r < length rings.now) holes.items) }
-    ensures complete { IfOk result (λ holes. HasHoleNumbers rings.now holes.items) }
+    ensures { IfOk result (λ holes. AreHoleNumbers rings.now holes.items) }
 {
     let mut holes = Vec::new(alloc);
     for number in 0..rings.len() {

@@ -17,11 +17,9 @@ mod piece;
 mod polygon;
 mod result_rings;
 mod ring;
-mod shared_cuts;
-mod shared_gaps;
 mod stripes;
 mod successor;
 mod written;
 
 pub use polygon::polygons;
-pub use result_rings::{ResultRings, rings_by_hands};
+pub use result_rings::{ResultRings, rings_in_parts};

@@ -8,10 +8,10 @@
 //! Where the vertices stand from left to right, an edge spans or ends in few of the parts at each depth, so that it is
 //! looked at some log n times. The answers are those for any order.
 
-ghost use Rattle.std.specs.Prelude.{◌≡◌, ℕ, ◌<◌, All, Contains, IfOk, IfSome, IsTrue, OnOk, length};
+ghost use Rattle.std.specs.Prelude.{◌≡◌, ℕ, ◌<◌, ◌≤◌, All, Contains, IfOk, IfSome, IsTrue, OnOk, length, slice_range};
 ghost use Rattle.geom.specs.Limit.{AreInLimit, InLimit};
 ghost use Rattle.polygonize.specs.Below.{AreGapsBelow, AreKnown, AreNearer, AreNearerSpanning, IsAsNear, IsGapOf};
-ghost use Rattle.polygonize.specs.Column.{AreColumnsOf, IsIn, Spans};
+ghost use Rattle.polygonize.specs.Column.{AreColumnsOf, IsIn};
 ghost use Rattle.polygonize.specs.Ladder.{IsLadder};
 ghost use Rattle.polygonize.specs.Next.{edge_at};
 
@@ -19,7 +19,9 @@ use crate::below::{Gap, nearer, nearest_among};
 use crate::column::{Columns, columns_of, meeting, slanted};
 use crate::ladder::{highest_below, is_ladder, spanning};
 use geom::{DirectedEdge, NoMemory, Pt};
+use hands::{Part, even_parts, joined, map_parts};
 use std::alloc::Allocator;
+use std::thread::Threads;
 
 /// So few vertices are not halved.
 const FEW: usize = 4;
@@ -129,20 +131,56 @@ fn add<A: Allocator + Copy>(
     Ok(())
 }
 
-/// For each vertex that is asked for the gap to the nearest edge below the point just left of it.
+/// All numbers below a bound.
+fn numbers_below<A: Allocator>(alloc: A, bound: usize) -> Result<Vec<usize, A>, NoMemory>
+    ensures inside { IfOk result (λ all. All (λ r. r < bound) all.items) }
+    ensures complete { IfOk result (λ all. (r : ℕ) → r < bound → Contains all.items r) }
+{
+    let mut all = Vec::with_capacity(alloc, bound)?;
+    for number in 0..bound {
+        all.push(number)?;
+    }
+    Ok(all)
+}
+
+/// For each vertex the gap to the nearest edge below the point just left of it.
 pub fn gaps_below<A: Allocator + Copy>(
     alloc: A,
     edges: &[DirectedEdge],
     vertices: &[Pt],
-    asked: &[usize],
 ) -> Result<Vec<Option<Gap>, A>, NoMemory>
     requires edges_in { All (λ d. AreInLimit d.from d.to) edges.now }
     requires vertices_in { All InLimit vertices.now }
-    requires asked_in { All (λ r. r < length vertices.now) asked.now }
-    ensures { IfOk result (λ best. AreGapsBelow edges.now vertices.now asked.now best.items) }
+    ensures { IfOk result (λ best. AreGapsBelow edges.now vertices.now best.items) }
 {
     let mut best = vec![in alloc; None; vertices.len()]?;
+    let asked = numbers_below(alloc, vertices.len())?;
     let numbers = slanted(alloc, edges)?;
-    add(alloc, edges, vertices, asked, &numbers, &mut best)?;
+    add(alloc, edges, vertices, &asked, &numbers, &mut best)?;
     Ok(best)
+}
+
+/// The same in so many parts.
+pub fn gaps_below_in_parts<R: Threads + Sync, A: Allocator + Copy + Send + Sync>(
+    rt: &R,
+    alloc: A,
+    parts: usize,
+    edges: &[DirectedEdge],
+    vertices: &[Pt],
+) -> Result<Vec<Option<Gap>, A>, NoMemory>
+    requires edges_in { All (λ d. AreInLimit d.from d.to) edges.now }
+    requires vertices_in { All InLimit vertices.now }
+    ensures { IfOk result (λ best. AreGapsBelow edges.now vertices.now best.items) }
+{
+    let all = even_parts(alloc, vertices.len(), parts)?;
+    let lists = map_parts(
+        rt,
+        alloc,
+        &all,
+        |part: Part| -> Result<Vec<Option<Gap>, A>, NoMemory>
+            requires { All (λ d. AreInLimit d.from d.to) edges.now × All InLimit vertices.now × (part.from ≤ part.past) × (part.past ≤ length vertices.now) }
+            ensures { IfOk result (λ best. AreGapsBelow edges.entry.now (slice_range vertices.entry.now part.from part.past) best.items) }
+        { gaps_below(alloc, edges, &vertices[part.from..part.past]) },
+    )?;
+    Ok(joined(alloc, lists)?)
 }

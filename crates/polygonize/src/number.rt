@@ -1,8 +1,8 @@
 //! Numbers of vertices: that of a vertex is the place of the first edge that leaves it, so numbers are ordered as points are.
 
-ghost use Rattle.std.specs.Prelude.{◌≡◌, ◌<◌, All, IfOk, length, map, slice_index, slice_index_or};
+ghost use Rattle.std.specs.Prelude.{◌≡◌, ◌<◌, All, IfOk, length, map, slice_index};
 ghost use Rattle.geom.specs.Directed.{AreDirected};
-ghost use Rattle.polygonize.specs.Next.{edge_at, ring_of};
+ghost use Rattle.polygonize.specs.Next.{first_vertex, ring_of};
 ghost use Rattle.polygonize.specs.Number.{AreNumbers, IsLastNumber, IsNumber};
 
 use crate::angle::are_same;
@@ -73,19 +73,21 @@ pub fn points_of<A: Allocator + Copy>(
     Ok(points?)
 }
 
-/// The vertex where each cycle of edges begins.
+/// The vertices where those cycles of edges begin that have the given numbers.
 pub fn first_vertices<A: Allocator + Copy>(
     alloc: A,
     edges: &[DirectedEdge],
     cycles: &[Cycle<A>],
+    numbers: &[usize],
 ) -> Result<Vec<Pt, A>, NoMemory>
     requires some { All (λ c. 0 < length c) cycles.now }
-    requires inside { All (λ c. All (λ k. k < length edges.now) c) cycles.now }
-    ensures { IfOk result (λ vertices. vertices.items ≡ map (λ c. (edge_at edges.now (slice_index_or c 0 0)).from) cycles.now) }
+    requires edges_inside { All (λ c. All (λ k. k < length edges.now) c) cycles.now }
+    requires inside { All (λ r. r < length cycles.now) numbers.now }
+    ensures { IfOk result (λ vertices. vertices.items ≡ map (first_vertex edges.now cycles.now) numbers.now) }
 {
-    let mut vertices = Vec::with_capacity(alloc, cycles.len())?;
-    for cycle in cycles {
-        vertices.push(edges[cycle.numbers()[0]].from)?;
+    let mut vertices = Vec::with_capacity(alloc, numbers.len())?;
+    for number in numbers {
+        vertices.push(edges[cycles[*number].numbers()[0]].from)?;
     }
     Ok(vertices)
 }

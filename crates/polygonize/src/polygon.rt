@@ -95,7 +95,9 @@ fn polygons_of<A: Allocator + Copy>(
 
 /// The polygons of directed edges that close, in canonical order: a ring that visits a vertex twice is cut there, each
 /// ring begins at its least vertex, and a polygon's holes and the polygons stand in the order of their points.
-/// They are the polygons of the edges where these are noded and a nearest one, which begins further left, lies below each hole.
+/// That they are the polygons of the edges has two premises: the edges are noded, so that they meet at ends alone, and the rings are
+/// grounded, so that below each hole lies a nearest edge, which begins further left. The directed edges of an operation's result
+/// close and meet both, by `points_law`.
 pub fn polygons<A: Allocator + Copy>(
     alloc: A,
     directed: &Directed<A>,

@@ -1,7 +1,7 @@
-//! The rings of a result in the order of its text, by several hands, for a caller who doesn't need them together.
+//! The rings of a result in the order of its text, made in parts, for a caller who doesn't need them together.
 //!
-//! 1. All hands but one look for the next edges; that one makes tables (`next_and_tables`).
-//! 2. All hands cut the rings, and look for the edges below holes (`written_rings_by_hands`).
+//! 1. The next edges are looked for in all parts but one; beside them tables are made (`next_and_tables`).
+//! 2. The rings are cut in all parts, and so are the edges below holes looked for (`written_rings_in_parts`).
 //! 3. The points of a ring are made when they are asked for (`ResultRings::ring`).
 
 ghost use Rattle.std.specs.Prelude.{◌≡◌, ◌<◌, ◌≤◌, Bool, List, All, IfOk, length, map};
@@ -18,15 +18,15 @@ ghost use Rattle.polygonize.specs.Told.{AreToldRings, ring_told, told_at};
 ghost use Rattle.polygonize.specs.Written.{IsSound};
 
 use crate::polygon::simple_ring;
-use crate::successor::successors_by_hands;
-use crate::written::{Tables, WrittenRing, tables_of, written_rings_by_hands};
+use crate::successor::{successors, successors_in_parts};
+use crate::written::{Tables, WrittenRing, tables_of, written_rings_in_parts};
 use geom::{Directed, DirectedEdge, NoMemory, SimpleRing};
 use hands::join;
 use std::alloc::Allocator;
 use std::marker::Model;
 use std::thread::Threads;
 
-/// A hand for either of two calls.
+/// A part for either of two calls.
 const BOTH: usize = 2;
 
 /// The rings of a result in the order of its text: each polygon's shell, and then its holes.
@@ -85,27 +85,29 @@ impl<A: Allocator> ResultRings<A> {
     }
 }
 
-/// The next edges by all hands but one, and beside them by that one the tables that the rings are written by.
+/// The next edges in all parts but one, and beside them the tables that the rings are written by.
 fn next_and_tables<R: Threads + Sync, A: Allocator + Copy + Send + Sync>(
     rt: &R,
-    hands: usize,
     alloc: A,
+    parts: usize,
     edges: &[DirectedEdge],
 ) -> (Result<Vec<usize, A>, NoMemory>, Result<Tables<A>, NoMemory>)
-    requires hands { 2 ≤ hands }
     requires closes { Closes edges.now }
     requires edges_in { All (λ d. AreInLimit d.from d.to) edges.now }
     ensures next { IfOk result.0 (λ next. AreNext edges.now next.items) }
     ensures one_to_one { IfOk result.0 (λ next. IsOneToOne next.items) }
     ensures tables { IfOk result.1 (λ t. AreTables edges.now t) }
 {
+    if parts < BOTH {
+        return (successors(alloc, edges), tables_of(alloc, edges));
+    }
     join(
         rt,
         BOTH,
         || -> Result<Vec<usize, A>, NoMemory>
-            requires { IsSync R.row × IsSend A.row × IsSync A.row × (2 ≤ hands) × Closes edges.now × All (λ d. AreInLimit d.from d.to) edges.now }
+            requires { IsSync R.row × IsSend A.row × IsSync A.row × (2 ≤ parts) × Closes edges.now × All (λ d. AreInLimit d.from d.to) edges.now }
             ensures { IfOk result (λ next. AreNext edges.entry.now next.items × IsOneToOne next.items) }
-        { successors_by_hands(rt, hands - 1, alloc, edges) },
+        { successors_in_parts(rt, alloc, parts - 1, edges) },
         || -> Result<Tables<A>, NoMemory>
             requires { IsSync A.row × Closes edges.now }
             ensures { IfOk result (λ t. AreTables edges.entry.now t) }
@@ -113,21 +115,20 @@ fn next_and_tables<R: Threads + Sync, A: Allocator + Copy + Send + Sync>(
     )
 }
 
-/// The rings of the polygons of directed edges that close, by two hands or more, as `polygons` has them.
-pub fn rings_by_hands<R: Threads + Sync, A: Allocator + Copy + Send + Sync>(
+/// The rings of the polygons of directed edges that close, as `polygons` has them, made in so many parts.
+pub fn rings_in_parts<R: Threads + Sync, A: Allocator + Copy + Send + Sync>(
     rt: &R,
-    hands: usize,
     alloc: A,
+    parts: usize,
     directed: Directed<A>,
 ) -> Result<ResultRings<A>, NoMemory>
-    requires hands { 2 ≤ hands }
     requires closes { Closes directed }
     requires in_limit { All (λ d. AreInLimit d.from d.to) directed }
     ensures { AreNodedEdges directed → HasGroundedRings directed → IfOk result (λ rings. AreToldRings directed rings) }
 {
     let edges = directed.edges();
-    let (next, tables) = next_and_tables(rt, hands, alloc, edges);
-    let mut written = written_rings_by_hands(rt, hands, alloc, edges, &next?, tables?)?;
+    let (next, tables) = next_and_tables(rt, alloc, parts, edges);
+    let mut written = written_rings_in_parts(rt, alloc, parts, edges, &next?, tables?)?;
     written.sort_unstable_by_key(|ring| ring.place());
     Ok(ResultRings { directed, written })
 }

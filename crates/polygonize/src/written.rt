@@ -1,13 +1,13 @@
 //! The rings of the result as they are written, each with its place in the order of the text.
 
-ghost use Rattle.std.specs.Prelude.{◌≡◌, ◌<◌, ◌≤◌, ◌==◌, ◌||◌, ◌++◌, ◌∷◌, [], List, None, All, IfOk, IfSome, OnOk, false, is_some, length, not, slice_index_or, true, unwrap_or};
+ghost use Rattle.std.specs.Prelude.{◌≡◌, ◌<◌, ◌≤◌, ◌==◌, ◌||◌, ◌++◌, ◌∷◌, [], None, All, IfOk, IfSome, OnOk, false, is_some, length, not, slice_index_or, true, unwrap_or};
 ghost use Rattle.geom.specs.Directed.{AreDirected};
 ghost use Rattle.geom.specs.Holes.{AreGrounded, HasGroundedRings, IsHole};
 ghost use Rattle.geom.specs.Limit.{AreInLimit};
 ghost use Rattle.geom.specs.NodedEdges.{AreNodedEdges};
 ghost use Rattle.geom.specs.Rings.{AreRings, Closes};
-ghost use Rattle.polygonize.specs.Below.{AreFoundBelow, IsFoundBelow};
-ghost use Rattle.polygonize.specs.CutRing.{AreCyclesCut, IsCycleCut};
+ghost use Rattle.polygonize.specs.Below.{AreFoundBelow, IsFoundBelow, StandAt};
+ghost use Rattle.polygonize.specs.CutRing.{AreCyclesCut, Ascend, IsCycleCut};
 ghost use Rattle.polygonize.specs.Cycle.{IsOneToOne};
 ghost use Rattle.polygonize.specs.Next.{AreNext, edge_at, ring_of, rings_of};
 ghost use Rattle.polygonize.specs.Owning.{ArePiecesWritten, IsRingPlaced, KeepsShell, kept_for};
@@ -15,14 +15,12 @@ ghost use Rattle.polygonize.specs.Placed.{AreAllWritten, AreTables, AreWritten, 
 ghost use Rattle.polygonize.specs.Written.{AreAdded, ArePlaces, HasItsEdges, HaveEdges, IsCanonical, IsRingWritten};
 
 use crate::below::Gap;
-use crate::cut_ring::{CutRing, cut_rings, holes_among};
+use crate::cut_ring::{CutRing, cut_rings, cut_rings_in_parts, holes_among};
 use crate::cycle::Cycle;
-use crate::nearest::gaps_below;
+use crate::nearest::{gaps_below, gaps_below_in_parts};
 use crate::number::{first_vertices, start_numbers};
 use crate::piece::turned;
 use crate::ring::ring_places;
-use crate::shared_cuts::cuts_by_hands;
-use crate::shared_gaps::gaps_below_by_hands;
 use geom::{DirectedEdge, NoMemory};
 use std::alloc::Allocator;
 use std::marker::Model;
@@ -245,6 +243,25 @@ fn write_cycles<A: Allocator + Copy>(
     Ok(written)
 }
 
+/// For each of so many rings the gap that was found for it, where it is one of the holes.
+fn gaps_of_rings<A: Allocator + Copy>(
+    alloc: A,
+    rings: usize,
+    holes: &[usize],
+    gaps: &[Option<Gap>],
+) -> Result<Vec<Option<Gap>, A>, NoMemory>
+    requires ascend { Ascend holes.now }
+    requires inside { All (λ r. r < rings) holes.now }
+    requires same_length { length gaps.now ≡ length holes.now }
+    ensures { IfOk result (λ below. (length below.items ≡ rings) × StandAt holes.now gaps.now below.items) }
+{
+    let mut below = vec![in alloc; None; rings]?;
+    for place in 0..holes.len() {
+        below[holes[place]] = gaps[place];
+    }
+    Ok(below)
+}
+
 /// For each cycle whose ring is a hole the gap to the nearest edge below it.
 fn edges_below<A: Allocator + Copy>(
     alloc: A,
@@ -259,15 +276,16 @@ fn edges_below<A: Allocator + Copy>(
     ensures { IfOk result (λ below. AreFoundBelow edges.now cycles.now below.items) }
 {
     let holes = holes_among(alloc, rings)?;
-    let vertices = first_vertices(alloc, edges, cycles)?;
-    gaps_below(alloc, edges, &vertices, &holes)
+    let vertices = first_vertices(alloc, edges, cycles, &holes)?;
+    let gaps = gaps_below(alloc, edges, &vertices)?;
+    gaps_of_rings(alloc, rings.len(), &holes, &gaps)
 }
 
-/// The same by so many hands.
-fn edges_below_by_hands<R: Threads + Sync, A: Allocator + Copy + Send + Sync>(
+/// The same in so many parts.
+fn edges_below_in_parts<R: Threads + Sync, A: Allocator + Copy + Send + Sync>(
     rt: &R,
-    hands: usize,
     alloc: A,
+    parts: usize,
     edges: &[DirectedEdge],
     cycles: &[Cycle<A>],
     rings: &[CutRing<A>],
@@ -279,8 +297,9 @@ fn edges_below_by_hands<R: Threads + Sync, A: Allocator + Copy + Send + Sync>(
     ensures { IfOk result (λ below. AreFoundBelow edges.now cycles.now below.items) }
 {
     let holes = holes_among(alloc, rings)?;
-    let vertices = first_vertices(alloc, edges, cycles)?;
-    gaps_below_by_hands(rt, hands, alloc, edges, &vertices, &holes)
+    let vertices = first_vertices(alloc, edges, cycles, &holes)?;
+    let gaps = gaps_below_in_parts(rt, alloc, parts, edges, &vertices)?;
+    gaps_of_rings(alloc, rings.len(), &holes, &gaps)
 }
 
 /// All rings as they are written, in no order yet, by the next edges.
@@ -307,11 +326,11 @@ pub fn written_rings<A: Allocator + Copy>(
     write_cycles(alloc, edges, &cycles, rings, &below, &mut shell_of)
 }
 
-/// The same by tables that are there already, where so many hands cut the rings and look for the edges below holes.
-pub fn written_rings_by_hands<R: Threads + Sync, A: Allocator + Copy + Send + Sync>(
+/// The same by tables that are there already: the rings are cut in so many parts, and the edges below holes are looked for in as many.
+pub fn written_rings_in_parts<R: Threads + Sync, A: Allocator + Copy + Send + Sync>(
     rt: &R,
-    hands: usize,
     alloc: A,
+    parts: usize,
     edges: &[DirectedEdge],
     next: &[usize],
     tables: Tables<A>,
@@ -330,7 +349,7 @@ pub fn written_rings_by_hands<R: Threads + Sync, A: Allocator + Copy + Send + Sy
         mut shell_of,
     } = tables;
     let cycles = ring_places(alloc, edges, next)?;
-    let rings = cuts_by_hands(rt, hands, alloc, edges, &numbers, &cycles, 0, cycles.len())?;
-    let below = edges_below_by_hands(rt, hands, alloc, edges, &cycles, &rings)?;
+    let rings = cut_rings_in_parts(rt, alloc, parts, edges, &numbers, &cycles)?;
+    let below = edges_below_in_parts(rt, alloc, parts, edges, &cycles, &rings)?;
     write_cycles(alloc, edges, &cycles, rings, &below, &mut shell_of)
 }

@@ -1,19 +1,26 @@
 -- The nearest edges below many vertices, by parts of the vertices and of the edges.
-use Rattle.std.proofs.Common.{◌≡◌, ◌≢◌, ℕ, zero, suc, [], ◌+◌, ◌<◌, ◌≤◌, inl, inr, refl, sym, ◌∙◌, ap, subst, Option, Some, None, List, ◌++◌, ◌∷◌, length, get_or, set, map, take, drop, replicate, arith}
-use Rattle.std.specs.Prelude.{All, Contains, IfSome, ℤ, ◌*ℤ◌, ◌≤ℤ◌}
+use Rattle.std.proofs.Common.{◌≡◌, ◌≢◌, ℕ, zero, suc, [], ◌+◌, ◌-◌, ◌<◌, ◌≤◌, inl, inr, refl, sym, ◌∙◌, ap, subst, Option, Some, None, List, ◌++◌, ◌∷◌, length, get_or, set, map, take, drop, replicate, flat_map, arith, length-append}
+use Rattle.std.specs.Prelude.{All, Contains, IfSome, ℤ, ◌*ℤ◌, ◌≤ℤ◌, slice_range}
+use Rattle.std.specs.List.{AllZip}
 use Rattle.std.proofs.lemmas.Bool.{cases_eq, cases_lt}
-use Rattle.std.proofs.lemmas.List.{get_or-set_same, get_or-set_other, get_or_default, get_or_past, length-map, length-set, append-nil, drop_all, take_all}
-use Rattle.std.proofs.lemmas.List.Elements.{All-contains, Contains-append_cases, Contains-get_or}
+use Rattle.std.proofs.lemmas.List.{get_or-set_same, get_or-set_other, get_or_default, get_or_past, get_or-map, get_or_append_left, length-map, length-set, append-nil, drop-drop, drop_all, take_all}
+use Rattle.std.proofs.Math.Seq.{get_or-append_right, take-add}
+use Rattle.std.proofs.lemmas.List.Elements.{All-contains, All-map, Contains-append_cases, Contains-get_or}
 use Rattle.geom.specs.declared.point.Pt.{Pt}
 use Rattle.geom.specs.declared.edge.Edge.{Edge}
 use Rattle.geom.specs.declared.directed.DirectedEdge.{DirectedEdge}
 use Rattle.geom.specs.Directed.{RunsAlong}
-use Rattle.geom.specs.Holes.{LiesBelow, height, left_of, run_of}
-use Rattle.polygonize.specs.Below.{AreFoundBelow, AreGapsBelow, AreKnown, AreNearer, AreNearerFor, AreNearerSpanning, HasHoles, IsAsNear, IsFoundBelow, IsGapOf, IsLesserGap, RunsBelow, best_at, gap_height, vertex_at}
+use Rattle.geom.specs.Limit.{AreInLimit, InLimit}
+use Rattle.geom.specs.Holes.{IsHole, LiesBelow, height, left_of, run_of}
+use Rattle.polygonize.specs.Below.{AreFoundBelow, AreGapsBelow, AreKnown, AreNearer, AreNearerFor, AreNearerSpanning, IsAsNear, IsFoundBelow, IsGapOf, IsLesserGap, RunsBelow, StandAt, best_at, gap_height, vertex_at}
 use Rattle.polygonize.specs.Column.{AreColumnsOf, IsIn, Meets, Spans}
-use Rattle.polygonize.specs.Next.{edge_at, nothing}
+use Rattle.polygonize.specs.Next.{edge_at, first_vertex, nothing, ring_of}
 use Rattle.polygonize.specs.declared.below.Gap.{Gap}
 use Rattle.polygonize.specs.declared.column.Columns.{Columns}
+use Rattle.polygonize.specs.Written.{ArePlaces}
+use Rattle.hands.specs.declared.part.Part.{Part}
+use Rattle.hands.specs.Consecutive.{ArePartsOf}
+use Rattle.hands.proofs.Consecutive.{behind_one_another}
 use Rattle.polygonize.proofs.EdgesBelow.Columns.{below_meets, below_slanted, meets_or_not, spans_or_not}
 use Rattle.polygonize.proofs.EdgesBelow.Nearness.{by_number, known_lesser, near_first, near_second, nothing_below}
 
@@ -163,21 +170,58 @@ found_all ds vertices asked numbers old new slanted n j d h =
 pub written_back : {X : Type 0} (n : ℕ) (old new : List X) → n ≡ length new → length new ≡ length old → take n (new ++ drop (length new) old) ≡ new
 written_back n old new e h = ap (λ t. take n (new ++ t)) (drop_all (length new) old (omega (arith, h))) ∙ ap (λ t. take n t) (append-nil new) ∙ take_all n new (omega (arith, e))
 
--- ---- cycles
+-- ---- holes
 
-mapped_at : (start : List ℕ → Pt) (cycles : List (List ℕ)) (r : ℕ) → r < length cycles → vertex_at (map start cycles) r ≡ start (get_or cycles r [])
-mapped_at start [] r h = absurd (omega arith)
-mapped_at start (v ∷ cycles) zero h = refl
-mapped_at start (v ∷ cycles) (suc r) h = mapped_at start cycles r (omega arith)
-
-pub below_all : (ds : List DirectedEdge) (cycles : List (List ℕ)) (vertices : List Pt) (holes : List ℕ) (best : List (Option Gap)) → vertices ≡ map (λ c. (edge_at ds (get_or c 0 0)).from) cycles → HasHoles ds cycles 0 (length cycles) holes → AreGapsBelow ds vertices holes best → AreFoundBelow ds cycles best
-below_all ds cycles vertices holes best e complete found = record {
-  same_length = found.same_length ∙ ap length e ∙ length-map cycles start;
-  each = λ r h q. subst (λ (t : Pt). IsFoundBelow ds t (best_at best r)) (vertex_is r h) (All-contains (λ r. IsFoundBelow ds (vertex_at vertices r) (best_at best r)) holes r found.each (complete r (omega arith) h q));
+-- the gaps of the vertices where holes begin, put where the cycles of these stand
+pub below_all : (ds : List DirectedEdge) (cycles : List (List ℕ)) (vertices : List Pt) (holes : List ℕ) (gaps best : List (Option Gap)) → vertices ≡ map (first_vertex ds cycles) holes → ((r : ℕ) → r < length cycles → IsHole (ring_of ds (get_or cycles r [])) → Contains holes r)
+    → AreGapsBelow ds vertices gaps → length best ≡ length cycles → StandAt holes gaps best → AreFoundBelow ds cycles best
+below_all ds cycles vertices holes gaps best e complete found same stand = record {
+  same_length = same;
+  each = λ r h q. (let c = complete r h q in let k = c.0 in let is : get_or holes k 0 ≡ r = get_or_default holes k 0 r c.1 ∙ c.2 in
+      let inside : k < length vertices = (let m = ap length e ∙ length-map holes (first_vertex ds cycles) in let i = c.1 in omega (arith, m, i)) in
+      let vertex_is : vertex_at vertices k ≡ first_vertex ds cycles r = ap (λ t. vertex_at t k) e ∙ get_or-map (first_vertex ds cycles) holes k 0 nothing.from c.1 ∙ ap (first_vertex ds cycles) is in
+      let gap_is : best_at gaps k ≡ best_at best r = sym (stand k c.1) ∙ ap (best_at best) is in
+      subst (λ (t : Pt). IsFoundBelow ds t (best_at best r)) vertex_is (subst (λ (g : Option Gap). IsFoundBelow ds (vertex_at vertices k) g) gap_is (found.each k inside)));
 }
-  where
-    start : List ℕ → Pt
-    start c = (edge_at ds (get_or c 0 0)).from
 
-    vertex_is : (r : ℕ) → r < length cycles → vertex_at vertices r ≡ start (get_or cycles r [])
-    vertex_is r h = ap (λ t. vertex_at t r) e ∙ mapped_at start cycles r h
+-- where cycles begin is in the limit
+pub begin_in_limit : (ds : List DirectedEdge) (cycles : List (List ℕ)) (numbers : List ℕ) → All (λ d. AreInLimit d.from d.to) ds → All (ArePlaces ds) cycles → All (λ r. r < length cycles) numbers → All InLimit (map (first_vertex ds cycles) numbers)
+begin_in_limit ds cycles numbers limit places inside = All-map InLimit (first_vertex ds cycles) numbers (λ k d h. let p = places (get_or numbers k d) [] (inside k d h) in (limit _ nothing (p.inside 0 0 p.some)).a_in)
+
+-- ---- parts of the vertices
+
+none_found : (ds : List DirectedEdge) (vertices : List Pt) (at : ℕ) → AreGapsBelow ds (slice_range vertices at at) []
+none_found ds vertices at =
+    let none : at - at ≡ 0 = omega arith in
+    subst (λ (vs : List Pt). AreGapsBelow ds vs []) (sym (ap (λ (n : ℕ). take n (drop at vertices)) none)) (record { same_length = refl; each = λ r h. absurd (omega arith) })
+
+one_behind : (ds : List DirectedEdge) (front back : List Pt) (gaps more : List (Option Gap)) → AreGapsBelow ds front gaps → AreGapsBelow ds back more → AreGapsBelow ds (front ++ back) (gaps ++ more)
+one_behind ds front back gaps more a b = record { same_length = (let l = length-append gaps more in let m = length-append front back in let p = a.same_length in let q = b.same_length in omega (arith, l, m, p, q)); each = each }
+  where
+    each : (r : ℕ) → r < length (front ++ back) → IsFoundBelow ds (vertex_at (front ++ back) r) (best_at (gaps ++ more) r)
+    each r h = elim (cases_lt r (length front)) [
+      | inl l ↦ (let p = a.same_length in
+          subst (λ (v : Pt). IsFoundBelow ds v (best_at (gaps ++ more) r)) (sym (get_or_append_left front back nothing.from r l))
+          (subst (λ (g : Option Gap). IsFoundBelow ds (vertex_at front r) g) (sym (get_or_append_left gaps more None r (omega (arith, l, p)))) (a.each r l)))
+      | inr l ↦ (let p = a.same_length in let m = length-append front back in let there : r - length front < length back = omega (arith, l, m, h) in let same : r - length gaps ≡ r - length front = omega (arith, p) in
+          subst (λ (v : Pt). IsFoundBelow ds v (best_at (gaps ++ more) r)) (sym (get_or-append_right front back r nothing.from l))
+          (subst (λ (g : Option Gap). IsFoundBelow ds (vertex_at back (r - length front)) g) (sym (get_or-append_right gaps more r None (omega (arith, l, p)) ∙ ap (best_at more) same)) (b.each (r - length front) there)))
+    ]
+
+both_ranges : {X : Type 0} (xs : List X) (from middle past : ℕ) → from ≤ middle → middle ≤ past → slice_range xs from past ≡ slice_range xs from middle ++ slice_range xs middle past
+both_ranges xs from middle past first second =
+    let many : past - from ≡ (middle - from) + (past - middle) = omega (arith, first, second) in
+    let there : from + (middle - from) ≡ middle = omega (arith, first) in
+    ap (λ (n : ℕ). take n (drop from xs)) many
+    ∙ take-add (middle - from) (past - middle) (drop from xs)
+    ∙ ap (λ (ys : List _). take (middle - from) (drop from xs) ++ take (past - middle) ys) (drop-drop (middle - from) from xs ∙ ap (λ (n : ℕ). drop n xs) there)
+
+-- the gaps of parts one behind another are those of all vertices
+pub parts_found : {V : Type 0} (items : V → List (Option Gap)) (ds : List DirectedEdge) (vertices : List Pt) (parts : List Part) (lists : List V) → ArePartsOf 0 (length vertices) parts
+    → AllZip (λ (p : Part) v. AreGapsBelow ds (slice_range vertices p.from p.past) (items v)) parts lists → AreGapsBelow ds vertices (flat_map items lists)
+parts_found items ds vertices parts lists are zip =
+    let n = length vertices in
+    let all : n - 0 ≡ n = omega arith in
+    subst (λ (vs : List Pt). AreGapsBelow ds vs (flat_map items lists)) (ap (λ (m : ℕ). take m vertices) all ∙ take_all n vertices (omega arith))
+    (behind_one_another items (λ a b gaps. AreGapsBelow ds (slice_range vertices a b) gaps) (none_found ds vertices)
+    (λ a b c gaps more p q f g. subst (λ (vs : List Pt). AreGapsBelow ds vs (gaps ++ more)) (sym (both_ranges vertices a b c p q)) (one_behind ds (slice_range vertices a b) (slice_range vertices b c) gaps more f g)) 0 n parts lists are zip)

@@ -1,5 +1,6 @@
 -- The rings of cycles as they are cut, in parts and one after another.
 use Rattle.std.proofs.Common.{◌≡◌, ℕ, suc, ◌+◌, ◌-◌, ◌<◌, ◌≤◌, List, [], ◌∷◌, ◌++◌, length, drop, get_or, sym, ◌∙◌, ap, subst, inl, inr, arith, length-append}
+use Rattle.std.specs.Prelude.{Contains}
 use Rattle.std.proofs.lemmas.Bool.{cases_eq, cases_lt}
 use Rattle.std.proofs.Math.Seq.{drop-cons, get_or-append_right}
 use Rattle.std.proofs.lemmas.List.{drop_all, get_or-map, get_or_append_left, get_or_push, length-drop}
@@ -7,8 +8,7 @@ use Rattle.geom.specs.declared.point.Pt.{Pt}
 use Rattle.geom.specs.declared.directed.DirectedEdge.{DirectedEdge}
 use Rattle.geom.specs.Holes.{IsHole}
 use Rattle.polygonize.specs.declared.cut_ring.CutRing.{CutRing}
-use Rattle.polygonize.specs.Below.{HasHoles}
-use Rattle.polygonize.specs.CutRing.{AreCyclesCut, HasHoleNumbers, IsCycleCut}
+use Rattle.polygonize.specs.CutRing.{AreCyclesCut, AreHoleNumbers, IsCycleCut}
 use Rattle.polygonize.specs.Next.{nothing, edge_at, ring_of}
 
 -- ---- parts
@@ -43,8 +43,8 @@ some_item : {X : Type 0} (xs : List X) → 0 < length xs → X
 some_item [] h = absurd (omega arith)
 some_item (x ∷ xs) h = x
 
-pub holes_known : {M : Type 0} (ds : List DirectedEdge) (cycles : List (List ℕ)) (rings : List (CutRing M)) (holes : List ℕ) → AreCyclesCut ds cycles 0 (length cycles) rings → HasHoleNumbers rings holes → HasHoles ds cycles 0 (length cycles) holes
-holes_known {M} ds cycles rings holes cut complete r l h q = complete r d inside (known.hole.1 (let P : List Pt → Type 0 = IsHole in subst P (sym known.same) q))
+pub holes_known : {M : Type 0} (ds : List DirectedEdge) (cycles : List (List ℕ)) (rings : List (CutRing M)) (holes : List ℕ) → AreCyclesCut ds cycles 0 (length cycles) rings → AreHoleNumbers rings holes → (r : ℕ) → r < length cycles → IsHole (ring_of ds (get_or cycles r [])) → Contains holes r
+holes_known {M} ds cycles rings holes cut numbers r h q = (numbers.each r d inside).1 (known.hole.1 (let P : List Pt → Type 0 = IsHole in subst P (sym known.same) q))
   where
     inside : r < length rings
     inside = let a = cut.reaches in omega (arith, a, h)

@@ -181,20 +181,11 @@ pub two_points : (ring turned : List ℕ) → 3 ≤ length ring → IsTurned rin
 two_points ring turned h t = let e = turned_length ring turned t in omega (arith, h, e)
 
 -- ---- what the calls for one ring ask
-pub in_numbers : (ds : List DirectedEdge) (numbers cycle : List ℕ) → AreNumbers ds numbers → ArePlaces ds cycle → All (λ k. k < length numbers) cycle
-in_numbers ds numbers cycle n p = All-weaker (λ k. k < length ds) (λ k. k < length numbers) (λ k l. omega (arith, l, len)) cycle p.inside
-  where
-    len : length numbers ≡ length ds
-    len = n.same_length
-
 pub vertices_inside : (ds : List DirectedEdge) (ring : List ℕ) (n : ℕ) → n ≡ length ds → All (IsVertex ds) ring → All (λ k. k < n) ring
 vertices_inside ds ring n e v = All-weaker (IsVertex ds) (λ k. k < n) (λ k w. below k w.inside) ring v
   where
     below : (k : ℕ) → k < length ds → k < n
     below k h = omega (arith, h, e)
-
-pub places_inside : (ds : List DirectedEdge) (cycle : List ℕ) (n : ℕ) → n ≡ length ds → ArePlaces ds cycle → All (λ k. k < n) cycle
-places_inside ds cycle n e p = All-weaker (λ k. k < length ds) (λ k. k < n) (λ k h. omega (arith, h, e)) cycle p.inside
 
 pub cut_some : {X : Type 0} {ring : List X} {pieces : List (List X)} → IsCut ring pieces → 0 < length pieces
 cut_some (whole s) = omega arith
@@ -270,6 +261,3 @@ of_cycle P cycles i v cycle h e k a = subst P (sym k ∙ sym e) (a i v h)
 pub below_cycle : (ds : List DirectedEdge) (cycles : List (List ℕ)) (below : List (Option Gap)) (i : ℕ) (v cycle : List ℕ) → i < length cycles → cycle ≡ v → v ≡ get_or cycles i v → AreFoundBelow ds cycles below
     → IsHole (ring_of ds cycle) → IsFoundBelow ds (edge_at ds (get_or cycle 0 0)).from (get_or below i None)
 below_cycle ds cycles below i v cycle h e k a = subst (λ (t : List ℕ). IsHole (ring_of ds t) → IsFoundBelow ds (edge_at ds (get_or t 0 0)).from (get_or below i None)) (cycle_at cycles i v cycle h e k) (a.each i h)
-
-pub mapped_more : {V X : Type 0} (f : V → X) (vs : List V) (i : ℕ) (v : V) (xs : List X) → i < length vs → v ≡ get_or vs i v → xs ≡ map f (take i vs) → xs ++ f v ∷ [] ≡ map f (take (i + 1) vs)
-mapped_more f vs i v xs h k e = let next : suc i ≡ i + 1 = omega arith in ap (λ t. t ++ f v ∷ []) e ∙ sym (map-append f (take i vs) (v ∷ [])) ∙ ap (map f) (ap (λ t. take i vs ++ t ∷ []) k ∙ sym (take-suc vs i v h) ∙ ap (λ n. take n vs) next)

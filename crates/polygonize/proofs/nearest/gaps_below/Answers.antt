@@ -1,5 +1,6 @@
-use Rattle.std.proofs.Common.{◌≡◌, ℕ, List, Option, sym, ◌∙◌, ap, subst, length, arith}
-use Rattle.polygonize.specs.Below.{AreGapsBelow, AreKnown, AreNearer}
+use Rattle.std.proofs.Common.{◌≡◌, List, Option, sym, ◌∙◌, ap, subst, length, arith}
+use Rattle.std.proofs.lemmas.List.Elements.{All-contains}
+use Rattle.polygonize.specs.Below.{AreGapsBelow, AreKnown, IsFoundBelow, best_at, vertex_at}
 use Rattle.polygonize.specs.declared.below.Gap.{Gap}
 use Rattle.polygonize.proofs.EdgesBelow.Searching.{found_all, none_known, none_of, written_back}
 use Rattle.polygonize.proofs.nearest.gaps_below.Goals as goal
@@ -17,8 +18,10 @@ returns g c =
     let b = c.in_ok-best.ensures.len in
     let d = c.deref_mut.ensures.len in
     let whole = written_back c.in_ok-best.best.len old new (omega (arith, a, b, d, same)) same in
-    let k = subst (λ (ks : List ℕ). AreNearer c.args.edges.now c.args.vertices.now c.args.asked.now ks c.deref_mut.result.now new) c.deref.ensures.value c.in_ok-add.ensures in
-    subst (λ (t : List (Option Gap)). AreGapsBelow c.args.edges.now c.args.vertices.now c.args.asked.now t) (sym whole) (record {
+    let asked = c.in_ok-asked.asked.items in
+    let k = rw (c.deref.ensures.value, c.deref-2.ensures.value) at c.in_ok-add.ensures in
+    subst (λ (t : List (Option Gap)). AreGapsBelow c.args.edges.now c.args.vertices.now t) (sym whole) (record {
       same_length = omega (arith, same, a, b);
-      each = found_all c.args.edges.now c.args.vertices.now c.args.asked.now c.in_ok-numbers.numbers.items c.deref_mut.result.now new c.in_ok-numbers.ensures.complete k;
+      each = λ r h. All-contains (λ r. IsFoundBelow c.args.edges.now (vertex_at c.args.vertices.now r) (best_at new r)) asked r
+          (found_all c.args.edges.now c.args.vertices.now asked c.in_ok-numbers.numbers.items c.deref_mut.result.now new c.in_ok-numbers.ensures.complete k) (c.in_ok-asked.ensures.complete r h);
     })

@@ -1,6 +1,6 @@
-use Rattle.std.proofs.Common.{◌≡◌, map, take, slice_index_or}
-use Rattle.polygonize.specs.Next.{edge_at}
+use Rattle.std.proofs.Common.{◌≡◌, map, take}
+use Rattle.polygonize.specs.Next.{first_vertex}
 use Rattle.polygonize.proofs.number.first_vertices.Given as goal
 
-abbrev pub invariant-loop-cycle : goal.invariant-loop-cycle
-invariant-loop-cycle g l = l.vertices.items ≡ map (λ c. (edge_at l.edges (slice_index_or c 0 0)).from) (take l.cycle-index l.cycles)
+abbrev pub invariant-loop-number : goal.invariant-loop-number
+invariant-loop-number g l = l.vertices.items ≡ map (first_vertex l.edges l.cycles) (take l.number-index l.numbers)

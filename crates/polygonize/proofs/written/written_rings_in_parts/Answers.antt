@@ -1,7 +1,7 @@
 use Rattle.std.proofs.lemmas.Result.{IfOk-weaker}
 use Rattle.polygonize.specs.Next.{rings_of}
 use Rattle.polygonize.specs.Placed.{AreAllWritten, AreWritten}
-use Rattle.polygonize.proofs.written.written_rings_by_hands.Goals as goal
+use Rattle.polygonize.proofs.written.written_rings_in_parts.Goals as goal
 
 pub returns-clause-written : goal.returns-clause-written
 returns-clause-written g c = λ noded grounded.

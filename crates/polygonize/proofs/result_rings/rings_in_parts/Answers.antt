@@ -10,7 +10,7 @@ use Rattle.polygonize.specs.Told.{AreToldRings, ring_told}
 use Rattle.polygonize.proofs.Told.{are_told, sound}
 use Rattle.polygonize.proofs.TextOrder.PlacedRings.{sorted_by}
 use Rattle.polygonize.proofs.TextOrder.Places.{place_cmp}
-use Rattle.polygonize.proofs.result_rings.rings_by_hands.Goals as goal
+use Rattle.polygonize.proofs.result_rings.rings_in_parts.Goals as goal
 
 pub invariant_of-result : goal.invariant_of-result
 invariant_of-result g c =
@@ -30,6 +30,6 @@ returns g c = λ noded grounded.
     subst (λ (ds : List DirectedEdge). AreToldRings ds (map (ring_told ds) vs)) same
     (are_told edges ws vs c.in_ok-written.ensures.sound c.sort_unstable_by_key.ensures.permutation (subst AreDirected (sym same) c.edges-edges.ensures.directed) noded_edges (c.in_ok-written.ensures.written noded_edges grounded_edges) c.in_ok-written.ensures.edges sorted)
 
-pub written_rings_by_hands-requires-clause-one_to_one : goal.written_rings_by_hands-requires-clause-one_to_one
-written_rings_by_hands-requires-clause-one_to_one g c = λ κs l.
+pub written_rings_in_parts-requires-clause-one_to_one : goal.written_rings_in_parts-requires-clause-one_to_one
+written_rings_in_parts-requires-clause-one_to_one g c = λ κs l.
     subst IsOneToOne (sym c.deref.ensures.value) (subst (λ r. IfOk r (λ next. IsOneToOne next.items)) c.in_ok-next.was c.next_and_tables-next.ensures.one_to_one)

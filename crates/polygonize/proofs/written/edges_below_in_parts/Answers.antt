@@ -1,0 +1,28 @@
+use Rattle.std.proofs.Common.{◌≡◌, List, length, sym, ◌∙◌, subst, arith}
+use Rattle.std.specs.Prelude.{All}
+use Rattle.std.proofs.lemmas.Result.{IfOk-weaker}
+use Rattle.geom.specs.declared.point.Pt.{Pt}
+use Rattle.geom.specs.Limit.{InLimit}
+use Rattle.polygonize.specs.Below.{AreFoundBelow, StandAt}
+use Rattle.polygonize.proofs.EdgesBelow.Searching.{begin_in_limit, below_all}
+use Rattle.polygonize.proofs.WrittenRings.Cuts.{holes_known}
+use Rattle.polygonize.proofs.written.edges_below_in_parts.Goals as goal
+
+pub gaps_below_in_parts-requires-clause-vertices_in : goal.gaps_below_in_parts-requires-clause-vertices_in
+gaps_below_in_parts-requires-clause-vertices_in g c κs within =
+    let holes = c.in_ok-holes.holes.items in
+    let begins = rw c.deref.ensures.value at c.in_ok-vertices.ensures in
+    subst (λ (vs : List Pt). All InLimit vs) (sym (c.deref-2.ensures.value ∙ begins)) (begin_in_limit c.args.edges.now c.args.cycles.now holes c.requires.edges_in c.requires.cycles (λ k d h. let i = c.in_ok-holes.ensures.inside k d h in let r = c.requires.cut.reaches in omega (arith, i, r)))
+
+pub returns : goal.returns
+returns g c =
+    let edges = c.args.edges.now in
+    let cycles = c.args.cycles.now in
+    let rings = c.args.rings.now in
+    let holes = c.in_ok-holes.holes.items in
+    let gaps = c.in_ok-gaps.gaps.items in
+    let begins = rw c.deref.ensures.value at c.in_ok-vertices.ensures in
+    let found = rw c.deref-2.ensures.value at c.in_ok-gaps.ensures in
+    IfOk-weaker c.gaps_of_rings.result (λ below. (length below.items ≡ length rings) × StandAt holes gaps below.items) (λ below. AreFoundBelow edges cycles below.items)
+    (λ below h. below_all edges cycles c.in_ok-vertices.vertices.items holes gaps below.items begins (holes_known edges cycles rings holes c.requires.cut c.in_ok-holes.ensures) found (let l = h.0 in let r = c.requires.cut.reaches in omega (arith, l, r)) h.1)
+    (rw (c.deref-3.ensures.value, c.deref-4.ensures.value) at c.gaps_of_rings.ensures)
