@@ -1,4 +1,12 @@
-//! Labels of rounded edges by one sweep from left to right.
+//! Labels: noded edges of even degrees in, the directed edges out that bound the result of an operation.
+//!
+//! 1. Edges that change no parity are left out (`changing`), and vertices are listed (`vertices`).
+//! 2. Each strip of vertices is swept from the edges that cross the column before it (`column`, `pass`): what stands over a vertex is kept in
+//!    order, with the parities below it (`status`, `turn`).
+//! 3. What bounds the result is directed and brought in order (`directed`).
+//!
+//! The promise: exactly the edges that bound the result, each in its direction. The definitions are in `specs`; the laws (`laws`) carry the
+//! sweep from vertex to vertex.
 #![tactic(auto)]
 
 mod changing;

@@ -1,4 +1,11 @@
-//! Rings and polygons of the directed edges of a result.
+//! Polygons: the directed edges of a result in, its rings, pieces and holes out.
+//!
+//! 1. The next edge of each edge is the first one met turning clockwise round its end (`successor`).
+//! 2. The cycles of next edges are cut where they visit a vertex twice (`cut`, `cut_ring`).
+//! 3. Each hole's owner is the shell of the nearest edge below it (`nearest`, `below`, `hole`).
+//! 4. Rings are written in the canonical order (`written`, `polygon`).
+//!
+//! The promise: where edges meet only at ends and each hole has an edge below it, the polygons of the definition (`ArePolygons` of `geom`).
 #![tactic(auto)]
 
 mod angle;
