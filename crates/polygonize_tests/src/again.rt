@@ -1,8 +1,7 @@
 //! Canonical texts: the edges of their rings give the text again.
 
 use crate::closing::{are_in_limit, closes, each_once};
-use face_label::Directed;
-use geom::{DirectedEdge, NoMemory, Polygon, Pt, SimpleRing};
+use geom::{Directed, DirectedEdge, NoMemory, Polygon, Pt, SimpleRing};
 use polygonize::polygons;
 use std::alloc::{Allocator, Global};
 
@@ -31,7 +30,10 @@ fn add_ring<A: Allocator + Copy>(
     Ok(())
 }
 
-fn edges_of<A: Allocator + Copy>(alloc: A, text: &str) -> Result<Vec<DirectedEdge, A>, NoMemory> {
+pub fn edges_of<A: Allocator + Copy>(
+    alloc: A,
+    text: &str,
+) -> Result<Vec<DirectedEdge, A>, NoMemory> {
     let mut edges = Vec::new(alloc);
     for part in text.split('(') {
         if let Some((ring, _)) = part.split_once(')') {
@@ -41,7 +43,7 @@ fn edges_of<A: Allocator + Copy>(alloc: A, text: &str) -> Result<Vec<DirectedEdg
     Ok(edges)
 }
 
-fn write_ring<A: Allocator + Copy>(
+pub fn write_ring<A: Allocator + Copy>(
     out: &mut String<A>,
     alloc: A,
     ring: &SimpleRing<A>,

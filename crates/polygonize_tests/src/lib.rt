@@ -8,6 +8,8 @@ mod closing;
 #[cfg(test)]
 mod generated;
 #[cfg(test)]
+mod parts;
+#[cfg(test)]
 mod wide;
 #[cfg(test)]
 mod worked;

@@ -2,7 +2,7 @@
 
 use crate::again::gives_again;
 
-const TEXTS: [&str; 19] = [
+pub const TEXTS: [&str; 19] = [
     // the two overlapping squares, intersection
     "MULTIPOLYGON (((2 2, 4 2, 4 4, 2 4, 2 2)))",
     // the two overlapping squares, symmetric difference
