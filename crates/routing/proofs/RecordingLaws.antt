@@ -1,6 +1,7 @@
 -- The records of a rectangle are those of its halves, and of the segments on its lines.
 use Rattle.std.proofs.Common.{◌≡◌, ◌⊎◌, inl, inr, ℕ, ◌+◌, ◌<◌, ◌≤◌, List, [], ◌∷◌, ◌++◌, refl, sym, ◌∙◌, ap, arith, subst, length, get_or, take, ◌↔◌, ⊎_elim}
-use Rattle.std.specs.Prelude.{All, Contains, Some, slice_get}
+use Rattle.std.proofs.Math.IntN.{pos}
+use Rattle.std.specs.Prelude.{All, AllPairs, Contains, Some, slice_get}
 use Rattle.std.specs.List.Sorted.{IsPermutation}
 use Rattle.std.proofs.lemmas.List.Sorted.{Contains-permutation, IsPermutation-sym}
 use Rattle.std.proofs.lemmas.Bool.{cases_lt}
@@ -10,18 +11,26 @@ use Rattle.geom.specs.declared.point.Pt.{Pt}
 use Rattle.geom.specs.declared.rect.Rect.{Rect}
 use Rattle.geom.specs.declared.edge.Edge.{Edge}
 use Rattle.geom.specs.declared.segment.Seg.{Seg}
+use Rattle.geom.specs.Determinant.{turn}
+use Rattle.geom.specs.Hot.{IsHot}
+use Rattle.geom.specs.Hot.IsHot.{start, end, crossing}
 use Rattle.geom.specs.Limit.{InLimit, AreInLimit}
+use Rattle.geom.specs.OnSegment.{IsOn}
+use Rattle.geom.specs.Order.{IsBefore}
+use Rattle.geom.specs.Pixel.{Point, pixel}
+use Rattle.geom.proofs.Integers.{linear, expand}
+use Rattle.geom.proofs.Meaning.{on_turned}
 use Rattle.geom.proofs.Lists.{some_same}
 use Rattle.hot_pixel.specs.Rects.{IsIn}
 use Rattle.hot_pixel.specs.declared.lines.Line.{Line}
 use Rattle.hot_pixel.specs.Candidates.{chosen, AreOwnedHot}
-use Rattle.hot_pixel.specs.Lines.{IsLine, AreLines}
-use Rattle.hot_pixel.specs.Halving.{edges_of, IsMetOn, IsHotFor, HasHot, ArePassing, AreHalves, IsPartInLimit}
-use Rattle.hot_pixel.proofs.HotLaws.{met_limit}
-use Rattle.hot_pixel.proofs.CandidateLaws.{all_chosen, in_chosen}
-use Rattle.hot_pixel.proofs.SweepLaws.{lines_limit}
-use Rattle.hot_pixel.proofs.LineLaws.{segment_of, segment_line}
-use Rattle.hot_pixel.proofs.HalvingLaws.{hot_whole, hot_part, line_at, edge_in, met_on, end_met, first_met, hot_of_lines, lines_of_hot}
+use Rattle.hot_pixel.specs.Lines.{IsLine, CrossAt}
+use Rattle.hot_pixel.specs.Halving.{edges_of, IsEndOf, IsMetOn, IsHotFor, HasHot, ArePassing, AreHalves, IsPartInLimit}
+use Rattle.hot_pixel.proofs.HotLaws.{hot_limit, met_limit}
+use Rattle.hot_pixel.proofs.CandidateLaws.{all_chosen, at_contains, in_chosen}
+use Rattle.hot_pixel.proofs.SweepLaws.{crossing_of, end_in, start_in, start_or_end}
+use Rattle.hot_pixel.proofs.LineLaws.{cross_at, segment_of, segment_line}
+use Rattle.hot_pixel.proofs.HalvingLaws.{hot_whole, hot_part, line_at, edge_in, met_on, end_met, first_met}
 use Rattle.hot_pixel.proofs.ListLaws.{none_in, in_push, in_take_more}
 use Rattle.routing.specs.declared.by_line.OnLine.{OnLine}
 use Rattle.routing.specs.declared.record.Record.{Record}
@@ -29,7 +38,8 @@ use Rattle.routing.specs.declared.record.Candidate.{Candidate}
 use Rattle.routing.specs.Found.{IsRecordOf, HasRecords}
 use Rattle.routing.specs.Pieces.{candidates_of}
 use Rattle.routing.specs.Steps.{steps_to}
-use Rattle.routing.specs.Recording.{IsTable, AreLinesOf, IsCopy, IsRecordAlong, IsRecordOnOne, AddsAt, AddsAlong, AddsRecordsAt, AddsRecords}
+use Rattle.routing.specs.Cutting.{IsEndIn, IsPortion}
+use Rattle.routing.specs.Recording.{IsCutTable, IsTable, AreLinesOf, IsCopy, IsRecordAlong, IsRecordOnOne, AddsAt, AddsAlong, AddsRecordsAt, AddsRecords}
 use Rattle.routing.proofs.PieceLaws.{in_candidates}
 
 -- ---- the segments on one line, at one pixel
@@ -222,8 +232,15 @@ table_same segments numbers xs ys moved h = record {
   all = λ k m. let r = h.all k m in (r.0, Contains-permutation xs ys r.0 moved r.1, r.2);
 }
 
-pub table_below : (segments : List Seg) (numbers : List ℕ) (table : List OnLine) → IsTable segments numbers table → All (λ x. x.number < length segments) table
-table_below segments numbers table h = λ k d l. let x = get_or table k d in let r = h.only x (Contains-get_or table k d l) in slice_get_within segments x.number r.1.0 r.1.1
+pub table_limit : (segments : List Seg) (numbers : List ℕ) (table : List OnLine) → All (λ s. AreInLimit s.a s.b) segments → IsTable segments numbers table → All (λ x. AreInLimit x.edge.p x.edge.q) table
+table_limit segments numbers table limits h = λ k d l.
+    let x = get_or table k d in
+    let r = h.only x (Contains-get_or table k d l) in
+    of_line x.edge r.1.0 r.1.2 (All-contains (λ (s : Seg). AreInLimit s.a s.b) segments r.1.0 limits (at_contains segments x.number r.1.0 r.1.1))
+  where
+    of_line : (e : Edge) (s : Seg) → IsLine e s → AreInLimit s.a s.b → AreInLimit e.p e.q
+    of_line e s (inl (a, b)) l = record { a_in = subst (λ (p : Pt). InLimit p) (sym a) l.a_in; b_in = subst (λ (p : Pt). InLimit p) (sym b) l.b_in }
+    of_line e s (inr (a, b)) l = record { a_in = subst (λ (p : Pt). InLimit p) (sym a) l.b_in; b_in = subst (λ (p : Pt). InLimit p) (sym b) l.a_in }
 
 -- ---- the lines of the table
 -- the lines of the first places
@@ -265,69 +282,224 @@ lines_whole table place lines l h = record {
 }
 
 -- ---- a tile
-module _ (segments : List Seg) (numbers : List ℕ) (table : List OnLine) (lines : List Line) (is_table : IsTable segments numbers table) (are : AreLinesOf table lines) where
-  -- the segment of an entry among those of a line is on it
-  on_its_line : (l : Line) (k : ℕ) (x : OnLine) (s : Seg) → Contains lines l → l.first ≤ k → k < l.past → slice_get table k ≡ Some x → slice_get segments x.number ≡ Some s → IsLine l.edge s
-  on_its_line l k x s h a b at is =
-      let r = is_table.only x (k, slice_get_within table k x at, get_or_from_slice_get table k x x at) in
-      let same : r.1.0 ≡ s = some_same r.1.1 is in
-      let on : IsLine x.edge s = subst (λ (t : Seg). IsLine x.edge t) same r.1.2 in
-      subst (λ (e : Edge). IsLine e s) (are.only l k x h a b at) on
+-- points of an edge, and of the segments on it
+on_edge : (e : Edge) (s : Seg) (z : Point) → IsLine e s → IsOn s.a s.b z → IsOn e.p e.q z
+on_edge e s z (inl (a, b)) h = subst (λ (p : Pt). IsOn p e.q z) (sym a) (subst (λ (q : Pt). IsOn s.a q z) (sym b) h)
+on_edge e s z (inr (a, b)) h = subst (λ (p : Pt). IsOn p e.q z) (sym a) (subst (λ (q : Pt). IsOn s.b q z) (sym b) (on_turned s.a s.b z h))
 
-  -- an entry is among those of a line
-  entry_of : (k : ℕ) → Contains numbers k → (place : ℕ) × (x : OnLine) × (l : Line) × (slice_get table place ≡ Some x) × (x.number ≡ k) × Contains lines l × (l.first ≤ place) × (place < l.past)
-  entry_of k h =
-      let r = is_table.all k h in
-      let place = r.1.0 in
-      let l = are.all place r.1.1 in
-      (place, r.0, l.0, slice_get-get_or table place r.0 r.1.1 ∙ ap Some r.1.2, r.2, l.1, l.2, l.3)
+met_at : (e : Edge) (c : Pt) → IsMetOn e c → (z : Point) × IsOn e.p e.q z × (pixel z ≡ c)
+unfolding segment_of
+met_at e c h = h.meets (segment_of e) (segment_line e)
 
-  pub lines_are : AreLines (chosen segments numbers) (edges_of lines)
-  lines_are = record { only = only; all = all }
-    where
-      only : (e : Edge) → Contains (edges_of lines) e → (s : Seg) × Contains (chosen segments numbers) s × IsLine e s
-      only e h =
-          let l = line_at lines e h in
-          let x = are.some l.0 l.1 in
-          let r = is_table.only x.0 x.1 in
-          (r.1.0, (in_chosen segments numbers r.1.0).1 (x.0.number, r.0, r.1.1), subst (λ (f : Edge). IsLine f r.1.0) (x.2 ∙ l.2) r.1.2)
+at_met : (e : Edge) (c : Pt) (z : Point) → IsOn e.p e.q z → pixel z ≡ c → IsMetOn e c
+unfolding segment_of
+at_met e c z on is = met_on e (segment_of e) c (segment_line e) (z, on, is)
 
-      all : (s : Seg) → Contains (chosen segments numbers) s → (e : Edge) × Contains (edges_of lines) e × IsLine e s
-      all s h =
-          let r = (in_chosen segments numbers s).0 h in
-          let (place, x, l, at, n, listed, a, b) = entry_of r.0 r.1 in
-          (l.edge, edge_in lines l listed, on_its_line l place x s listed a b at (ap (slice_get segments) n ∙ r.2))
+met_whole : (e f : Edge) (c : Pt) → IsPortion e f → IsMetOn f c → IsMetOn e c
+met_whole e f c h m = let r = met_at f c m in at_met e c r.0 (h.inside r.0 r.1) r.2
+
+exchanged_turn : (a b c d : Pt) → turn a b c d ≡ pos 0 → turn c d a b ≡ pos 0
+exchanged_turn a b c d h = let u = simp expand at h in simp expand (omega (arith, linear))
+
+-- portions are parallel where their edges are
+parallel_portions : (e f g h : Edge) → IsPortion e g → IsPortion f h → (turn g.p g.q h.p h.q ≡ pos 0) ↔ (turn e.p e.q f.p f.q ≡ pos 0)
+parallel_portions e f g h a b = (
+  (λ t. exchanged_turn f.p f.q e.p e.q ((b.parallel e.p e.q).0 (exchanged_turn e.p e.q h.p h.q ((a.parallel h.p h.q).0 t)))),
+  (λ t. (a.parallel h.p h.q).1 (exchanged_turn h.p h.q e.p e.q ((b.parallel e.p e.q).1 (exchanged_turn e.p e.q f.p f.q t)))),
+)
+
+cross_by : (e f : Edge) (c : Pt) (z : Point) → (turn e.p e.q f.p f.q ≡ pos 0 → ⊥) → IsOn e.p e.q z → IsOn f.p f.q z → pixel z ≡ c → CrossAt e f c
+unfolding segment_of
+cross_by e f c z apart on_e on_f is = cross_at e f (segment_of e) (segment_of f) c (segment_line e) (segment_line f) (record { not_parallel = apart; z = z; on_first = on_e; on_second = on_f; in_pixel = is })
+
+cross_parts : (e f : Edge) (c : Pt) → CrossAt e f c → (turn e.p e.q f.p f.q ≡ pos 0 → ⊥) × ((z : Point) × IsOn e.p e.q z × IsOn f.p f.q z × (pixel z ≡ c))
+unfolding segment_of
+cross_parts e f c h = let x = crossing_of e f c h in (x.not_parallel, (x.z, x.on_first, x.on_second, x.in_pixel))
+
+module _ (segments : List Seg) (numbers : List ℕ) (table : List OnLine) (lines : List Line) (is_cut : IsCutTable segments numbers table) (are : AreLinesOf table lines) where
+  -- an entry's segment, and the edge that it has a portion of
+  record HasSegment (x : OnLine) : Type 0 where
+    s : Seg
+    is_at : slice_get segments x.number ≡ Some s
+    number : Contains numbers x.number
+    edge : Edge
+    on : IsLine edge s
+    portion : IsPortion edge x.edge
+
+  segment_at : (x : OnLine) → Contains table x → HasSegment x
+  segment_at x h =
+      let r = is_cut.are_cut.only x h in
+      let q = is_cut.is_table.only r.whole r.listed in
+      record { s = q.1.0; is_at = ap (slice_get segments) r.numbered ∙ q.1.1; number = subst (λ (n : ℕ). Contains numbers n) (sym r.numbered) q.0; edge = r.whole.edge; on = q.1.2; portion = r.portion }
+
+  -- an end of an entry is one of a chosen segment
+  end_hot : (c : Pt) → IsEndIn is_cut.whole c → IsHot (chosen segments numbers) c
+  end_hot c h =
+      let q = is_cut.is_table.only h.x h.listed in
+      start_or_end (chosen segments numbers) h.x.edge q.1.0 c ((in_chosen segments numbers q.1.0).1 (h.x.number, q.0, q.1.1)) q.1.2 h.is_end
+
+  -- a line's edge is that of an entry
+  entry_on : (e : Edge) → Contains (edges_of lines) e → (x : OnLine) × Contains table x × (x.edge ≡ e)
+  entry_on e h = let l = line_at lines e h in let x = are.some l.0 l.1 in (x.0, x.1, x.2 ∙ l.2)
+
+  -- and an entry's edge is that of a line
+  record HasLine (x : OnLine) : Type 0 where
+    place : ℕ
+    entry : slice_get table place ≡ Some x
+    line : Line
+    listed : Contains lines line
+    from : line.first ≤ place
+    to : place < line.past
+    same : x.edge ≡ line.edge
+
+  line_of : (x : OnLine) → Contains table x → HasLine x
+  line_of x h =
+      let l = are.all h.0 h.1 in
+      let at : slice_get table h.0 ≡ Some x = slice_get-get_or table h.0 x h.1 ∙ ap Some h.2 in
+      record { place = h.0; entry = at; line = l.0; listed = l.1; from = l.2; to = l.3; same = are.only l.0 h.0 x l.1 l.2 l.3 at }
+
+  edge_listed : (x : OnLine) → Contains table x → Contains (edges_of lines) x.edge
+  edge_listed x h = let l = line_of x h in subst (λ (e : Edge). Contains (edges_of lines) e) (sym l.same) (edge_in lines l.line l.listed)
+
+  -- ---- hot pixels
+  pub hot_of_portions : (c : Pt) → IsHotFor (edges_of lines) c → IsHot (chosen segments numbers) c
+  hot_of_portions c (inl h) =
+      let x = entry_on h.e h.listed in
+      let r = is_cut.are_cut.only x.0 x.1 in
+      end_hot c (⊎_elim
+      (λ k. subst (λ (p : Pt). IsEndIn is_cut.whole p) (ap (λ (e : Edge). e.p) x.2 ∙ k) r.p_end)
+      (λ k. subst (λ (p : Pt). IsEndIn is_cut.whole p) (ap (λ (e : Edge). e.q) x.2 ∙ k) r.q_end)
+      h.is_end)
+  hot_of_portions c (inr h) =
+      let x = entry_on h.e h.e_listed in
+      let y = entry_on h.f h.f_listed in
+      let s = segment_at x.0 x.1 in
+      let t = segment_at y.0 y.1 in
+      let (apart, (z, on_e, on_f, is)) = cross_parts h.e h.f c h.crosses in
+      let first : IsPortion s.edge h.e = subst (λ (e : Edge). IsPortion s.edge e) x.2 s.portion in
+      let second : IsPortion t.edge h.f = subst (λ (e : Edge). IsPortion t.edge e) y.2 t.portion in
+      let crosses = cross_by s.edge t.edge c z (λ k. apart ((parallel_portions s.edge t.edge h.e h.f first second).1 k)) (first.inside z on_e) (second.inside z on_f) is in
+      crossing s.s t.s ((in_chosen segments numbers s.s).1 (x.0.number, s.number, s.is_at)) ((in_chosen segments numbers t.s).1 (y.0.number, t.number, t.is_at)) (crosses.cross s.s t.s s.on t.on)
+
+  -- the whole edge of a chosen segment
+  record HasEdge (s : Seg) : Type 0 where
+    x : OnLine
+    listed : Contains is_cut.whole x
+    is_at : slice_get segments x.number ≡ Some s
+    on : IsLine x.edge s
+
+  edge_of_number : (k : ℕ) (s : Seg) → Contains numbers k → slice_get segments k ≡ Some s → (h : HasEdge s) × (h.x.number ≡ k)
+  edge_of_number k s h at =
+      let r = is_cut.is_table.all k h in
+      let q = is_cut.is_table.only r.0 r.1 in
+      let is : slice_get segments r.0.number ≡ Some s = ap (slice_get segments) r.2 ∙ at in
+      (record { x = r.0; listed = r.1; is_at = is; on = subst (λ (t : Seg). IsLine r.0.edge t) (some_same q.1.1 is) q.1.2 }, r.2)
+
+  end_of_portion : (w : OnLine) (c : Pt) → Contains is_cut.whole w → (w.edge.p ≡ c) ⊎ (w.edge.q ≡ c) → IsEndOf (edges_of lines) c
+  end_of_portion w c h (inl k) = let r = is_cut.are_cut.first w h in record { e = r.0.edge; listed = edge_listed r.0 r.1; is_end = inl (r.2 ∙ k) }
+  end_of_portion w c h (inr k) = let r = is_cut.are_cut.last w h in record { e = r.0.edge; listed = edge_listed r.0 r.1; is_end = inr (r.2 ∙ k) }
+
+  -- an entry with a point of a segment
+  record HasPoint (k : ℕ) (s : Seg) (z : Point) : Type 0 where
+    y : OnLine
+    listed : Contains table y
+    numbered : y.number ≡ k
+    on : IsOn y.edge.p y.edge.q z
+    edge : Edge
+    whole : IsLine edge s
+    portion : IsPortion edge y.edge
+
+  point_at : (k : ℕ) (s : Seg) (z : Point) → Contains numbers k → slice_get segments k ≡ Some s → IsOn s.a s.b z → HasPoint k s z
+  point_at k s z h at on =
+      let (w, is) = edge_of_number k s h at in
+      let r = is_cut.are_cut.all w.x z w.listed (on_edge w.x.edge s z w.on on) in
+      let t = segment_at r.0 r.1 in
+      let n : r.0.number ≡ k = r.2 ∙ is in
+      let same : t.s ≡ s = some_same t.is_at (ap (slice_get segments) n ∙ at) in
+      record { y = r.0; listed = r.1; numbered = n; on = r.3; edge = t.edge; whole = subst (λ (u : Seg). IsLine t.edge u) same t.on; portion = t.portion }
+
+  pub portions_of_hot : (c : Pt) → IsHot (chosen segments numbers) c → IsHotFor (edges_of lines) c
+  portions_of_hot c (start s h k) =
+      let r = (in_chosen segments numbers s).0 h in
+      let w = (edge_of_number r.0 s r.1 r.2).0 in
+      inl (end_of_portion w.x c w.listed (start_in w.x.edge s c w.on k))
+  portions_of_hot c (end s h k) =
+      let r = (in_chosen segments numbers s).0 h in
+      let w = (edge_of_number r.0 s r.1 r.2).0 in
+      inl (end_of_portion w.x c w.listed (end_in w.x.edge s c w.on k))
+  portions_of_hot c (crossing s t h k x) =
+      let r = (in_chosen segments numbers s).0 h in
+      let q = (in_chosen segments numbers t).0 k in
+      let a = point_at r.0 s x.z r.1 r.2 x.on_first in
+      let b = point_at q.0 t x.z q.1 q.2 x.on_second in
+      let apart = (cross_parts a.edge b.edge c (cross_at a.edge b.edge s t c a.whole b.whole x)).0 in
+      inr (record {
+        e = a.y.edge;
+        f = b.y.edge;
+        e_listed = edge_listed a.y a.listed;
+        f_listed = edge_listed b.y b.listed;
+        crosses = cross_by a.y.edge b.y.edge c x.z (λ n. apart ((parallel_portions a.edge b.edge a.y.edge b.y.edge a.portion b.portion).0 n)) a.on b.on x.in_pixel;
+      })
+
+  -- ---- limits
+  pub entries_below : All (λ x. x.number < length segments) table
+  entries_below = λ k d l. let x = get_or table k d in let t = segment_at x (Contains-get_or table k d l) in slice_get_within segments x.number t.s t.is_at
 
   pub lines_in_limit : All (λ s. AreInLimit s.a s.b) segments → All (λ l. AreInLimit l.edge.p l.edge.q) lines
   lines_in_limit limits = λ k d b.
       let l = get_or lines k d in
-      let edges = lines_limit (chosen segments numbers) (edges_of lines) (all_chosen (λ s. AreInLimit s.a s.b) segments numbers (λ s h. All-contains (λ (t : Seg). AreInLimit t.a t.b) segments s limits h)) lines_are in
-      All-contains (λ (e : Edge). AreInLimit e.p e.q) (edges_of lines) l.edge edges (edge_in lines l (Contains-get_or lines k d b))
-
-  pub tile_records : (tile part : Rect) (pixels : List Pt) (records : List Record) → IsPartInLimit tile part → AreOwnedHot (IsIn tile) (chosen segments numbers) pixels → ((c : Pt) → Contains pixels c → IsIn part c) → AddsRecords segments table part lines [] records → HasRecords (candidates_of segments numbers) pixels records
-  tile_records tile part pixels records within hot inside h = record { same = λ r. (to r, from r) }
+      let x = entry_on l.edge (edge_in lines l (Contains-get_or lines k d b)) in
+      let r = is_cut.are_cut.only x.0 x.1 in
+      subst (λ (e : Edge). AreInLimit e.p e.q) x.2 (record { a_in = end_limit x.0.edge.p r.p_end; b_in = end_limit x.0.edge.q r.q_end })
     where
-      to : (r : Record) → Contains records r → ((c : Candidate) × Contains (candidates_of segments numbers) c × IsRecordOf c.number c.segment r) × Contains pixels r.pixel
-      to r m =
-          let k = ⊎_elim (λ n. absurd (none_in r n)) (λ n. n) ((h.same r).0 m) in
-          let copy = k.0.along.copy in
-          let entry = is_table.only copy.x (copy.place, slice_get_within table copy.place copy.x copy.entry, get_or_from_slice_get table copy.place copy.x copy.x copy.entry) in
-          let number : Contains numbers r.segment = subst (λ (n : ℕ). Contains numbers n) (sym copy.numbered) entry.0 in
-          let at : slice_get segments r.segment ≡ Some copy.s = ap (slice_get segments) copy.numbered ∙ copy.is_at in
-          let c : Candidate = record { number = r.segment; segment = copy.s } in
-          let on = on_its_line k.0.line copy.place copy.x copy.s k.0.listed copy.from copy.to copy.entry copy.is_at in (
-            (c, (in_candidates segments numbers c).1 (number, at), record { numbered = refl; met = k.0.along.met.meets copy.s on; steps_are = copy.steps_are }),
-            (hot.exact r.pixel).1 (hot_of_lines (chosen segments numbers) (edges_of lines) r.pixel lines_are k.1, within.only r.pixel k.2),
-          )
+      all_limits : All (λ s. AreInLimit s.a s.b) (chosen segments numbers)
+      all_limits = λ k d b. all_chosen (λ s. AreInLimit s.a s.b) segments numbers (λ s h. All-contains (λ (t : Seg). AreInLimit t.a t.b) segments s limits h) (get_or (chosen segments numbers) k d) (Contains-get_or (chosen segments numbers) k d b)
 
-      from : (r : Record) → ((c : Candidate) × Contains (candidates_of segments numbers) c × IsRecordOf c.number c.segment r) × Contains pixels r.pixel → Contains records r
-      from r ((c, k, of), at) =
-          let u = (in_candidates segments numbers c).0 k in
-          let (place, x, l, entry, n, listed, a, b) = entry_of c.number u.0 in
-          let is_at : slice_get segments x.number ≡ Some c.segment = ap (slice_get segments) n ∙ u.1 in
-          let copy : IsCopy segments table l.first l.past r = record { place = place; from = a; to = b; x = x; entry = entry; s = c.segment; is_at = is_at; numbered = of.numbered ∙ sym n; steps_are = of.steps_are } in
-          let met = met_on l.edge c.segment r.pixel (on_its_line l place x c.segment listed a b entry is_at) of.met in
-          (h.same r).1 (inr (record { line = l; listed = listed; along = record { copy = copy; met = met } }, lines_of_hot (chosen segments numbers) (edges_of lines) r.pixel lines_are ((hot.exact r.pixel).0 at).0, inside r.pixel at))
+      end_limit : (c : Pt) → IsEndIn is_cut.whole c → InLimit c
+      end_limit c h = hot_limit (chosen segments numbers) c all_limits (end_hot c h)
+
+  -- ---- what is found
+  module _ (tile part : Rect) (within : IsPartInLimit tile part) where
+    pub tile_hot : (found pixels : List Pt) → ((s : Seg) → Contains (chosen segments numbers) s → AreInLimit s.a s.b) → HasHot part (edges_of lines) [] found → AllPairs IsBefore pixels → ((c : Pt) → Contains pixels c ↔ Contains found c) → AreOwnedHot (IsIn tile) (chosen segments numbers) pixels
+    tile_hot found pixels limits h order same = record { ascending = order; exact = λ c. (to c, from c) }
+      where
+        to : (c : Pt) → Contains pixels c → IsHot (chosen segments numbers) c × IsIn tile c
+        to c k = ⊎_elim (λ m. absurd (none_in c m)) (λ m. (hot_of_portions c m.0, within.only c m.1)) ((h.same c).0 ((same c).0 k))
+
+        all_limits : All (λ s. AreInLimit s.a s.b) (chosen segments numbers)
+        all_limits = λ k d l. limits (get_or (chosen segments numbers) k d) (Contains-get_or (chosen segments numbers) k d l)
+
+        from : (c : Pt) → IsHot (chosen segments numbers) c × IsIn tile c → Contains pixels c
+        from c k = (same c).1 ((h.same c).1 (inr (portions_of_hot c k.0, within.all c (hot_limit (chosen segments numbers) c all_limits k.0) k.1)))
+
+    pub tile_records : (pixels : List Pt) (records : List Record) → AreOwnedHot (IsIn tile) (chosen segments numbers) pixels → ((c : Pt) → Contains pixels c → IsIn part c) → AddsRecords segments table part lines [] records → HasRecords (candidates_of segments numbers) pixels records
+    tile_records pixels records hot inside h = record { same = λ r. (to r, from r) }
+      where
+        to : (r : Record) → Contains records r → ((c : Candidate) × Contains (candidates_of segments numbers) c × IsRecordOf c.number c.segment r) × Contains pixels r.pixel
+        to r m =
+            let k = ⊎_elim (λ n. absurd (none_in r n)) (λ n. n) ((h.same r).0 m) in
+            let copy = k.0.along.copy in
+            let t = segment_at copy.x (copy.place, slice_get_within table copy.place copy.x copy.entry, get_or_from_slice_get table copy.place copy.x copy.x copy.entry) in
+            let number : Contains numbers r.segment = subst (λ (n : ℕ). Contains numbers n) (sym copy.numbered) t.number in
+            let at : slice_get segments r.segment ≡ Some copy.s = ap (slice_get segments) copy.numbered ∙ copy.is_at in
+            let c : Candidate = record { number = r.segment; segment = copy.s } in
+            let on : IsLine t.edge copy.s = subst (λ (u : Seg). IsLine t.edge u) (some_same t.is_at copy.is_at) t.on in
+            let same : copy.x.edge ≡ k.0.line.edge = are.only k.0.line copy.place copy.x k.0.listed copy.from copy.to copy.entry in
+            let met = met_whole t.edge copy.x.edge r.pixel t.portion (subst (λ (e : Edge). IsMetOn e r.pixel) (sym same) k.0.along.met) in (
+              (c, (in_candidates segments numbers c).1 (number, at), record { numbered = refl; met = met.meets copy.s on; steps_are = copy.steps_are }),
+              (hot.exact r.pixel).1 (hot_of_portions r.pixel k.1, within.only r.pixel k.2),
+            )
+
+        from : (r : Record) → ((c : Candidate) × Contains (candidates_of segments numbers) c × IsRecordOf c.number c.segment r) × Contains pixels r.pixel → Contains records r
+        from r ((c, k, of), at) =
+            let u = (in_candidates segments numbers c).0 k in
+            let (z, on, is) = of.met in
+            let b = point_at c.number c.segment z u.0 u.1 on in
+            let l = line_of b.y b.listed in
+            let is_at : slice_get segments b.y.number ≡ Some c.segment = ap (slice_get segments) b.numbered ∙ u.1 in
+            let copy : IsCopy segments table l.line.first l.line.past r = record { place = l.place; from = l.from; to = l.to; x = b.y; entry = l.entry; s = c.segment; is_at = is_at; numbered = of.numbered ∙ sym b.numbered; steps_are = of.steps_are } in
+            let met : IsMetOn l.line.edge r.pixel = subst (λ (e : Edge). IsMetOn e r.pixel) l.same (at_met b.y.edge r.pixel z b.on is) in
+            (h.same r).1 (inr (record { line = l.line; listed = l.listed; along = record { copy = copy; met = met } }, portions_of_hot r.pixel ((hot.exact r.pixel).0 at).0, inside r.pixel at))
 
 pub no_records : (segments : List Seg) (numbers : List ℕ) → HasRecords (candidates_of segments numbers) [] []
 no_records segments numbers = record { same = λ r. (λ h. absurd (none_in r h), λ h. absurd (none_in r.pixel h.1)) }

@@ -9,6 +9,7 @@ use Rattle.hot_pixel.specs.Rects.{IsIn}
 use Rattle.hot_pixel.specs.Halving.{edges_of, IsMetOn, IsHotFor}
 use Rattle.routing.specs.declared.by_line.OnLine.{OnLine}
 use Rattle.routing.specs.declared.record.Record.{Record}
+use Rattle.routing.specs.Cutting.{AreCut}
 use Rattle.routing.specs.Steps.{steps_to}
 
 -- ---- the segments of a tile, by lines
@@ -17,6 +18,12 @@ use Rattle.routing.specs.Steps.{steps_to}
 pub record IsTable (segments : List Seg) (numbers : List ℕ) (table : List OnLine) : Type 0 where
   pub only : (x : OnLine) → Contains table x → Contains numbers x.number × ((s : Seg) × (slice_get segments x.number ≡ Some s) × IsLine x.edge s)
   pub all : (k : ℕ) → Contains numbers k → (x : OnLine) × Contains table x × (x.number ≡ k)
+
+-- the table has the portions of the segments of these numbers, cut at ends of them
+pub record IsCutTable (segments : List Seg) (numbers : List ℕ) (table : List OnLine) : Type 0 where
+  pub whole : List OnLine
+  pub is_table : IsTable segments numbers whole
+  pub are_cut : AreCut whole whole table
 
 -- each segment of the table stands among those of one of the lines, and only segments on the line do
 pub record AreLinesOf (table : List OnLine) (lines : List Line) : Type 0 where

@@ -1,13 +1,20 @@
-//! Segments by their lines: those with the same ends stand together, whatever their direction and layer.
+//! Segments by their lines: those with the same ends stand together, whatever their direction and layer. Many are cut where they
+//! overlap on one carrier; then their portions stand so.
 
 ghost use Rattle.std.specs.Prelude.{ℕ, ◌≡◌, ◌+◌, ◌<◌, ◌≤◌, All, IfOk, Some, length, slice_get};
-ghost use Rattle.routing.specs.Recording.{IsTable, AreLinesOf};
+ghost use Rattle.geom.specs.Limit.{AreInLimit};
+ghost use Rattle.routing.specs.Cutting.{AreCut};
+ghost use Rattle.routing.specs.Recording.{IsCutTable, IsTable, AreLinesOf};
 
-use geom::{Edge, NoMemory, Seg};
+use crate::cutting::cut_apart;
+use geom::{Edge, NoMemory, Rect, Seg};
 use hot_pixel::{Line, edge_of};
 use std::alloc::Allocator;
 
-/// A segment's number, with its ends.
+/// How many segments of a tile are many. Fewer aren't cut: to look for their carriers would cost more than it saves.
+const MANY: usize = 128;
+
+/// A segment's number, with its ends, or those of a portion of it.
 #[derive(Clone, Copy, Debug, PartialEq, Eq, PartialOrd, Ord)]
 pub(crate) struct OnLine {
     pub edge: Edge,
@@ -33,16 +40,34 @@ fn each_on_line<A: Allocator>(
     Ok(table)
 }
 
-/// The segments of these numbers by their lines.
-pub(crate) fn by_line<A: Allocator>(
+/// The edges of a table, cut where they are many.
+fn portions_of<A: Allocator + Copy>(
     alloc: A,
+    tile: &Rect,
+    table: Vec<OnLine, A>,
+) -> Result<Vec<OnLine, A>, NoMemory>
+    requires { All (λ x. AreInLimit x.edge.p x.edge.q) table.items }
+    ensures { IfOk result (λ v. AreCut table.items table.items v.items) }
+{
+    if table.len() > MANY {
+        return cut_apart(alloc, tile, &table);
+    }
+    Ok(table)
+}
+
+/// The segments of these numbers by their lines, or their portions, whose cuts lie in a tile or next to it.
+pub(crate) fn by_line<A: Allocator + Copy>(
+    alloc: A,
+    tile: &Rect,
     segments: &[Seg],
     numbers: &[u32],
 ) -> Result<Vec<OnLine, A>, NoMemory>
-    requires { All (λ k. k < length segments.now) numbers.now }
-    ensures { IfOk result (λ v. IsTable segments.now numbers.now v.items) }
+    requires limits { All (λ s. AreInLimit s.a s.b) segments.now }
+    requires below { All (λ k. k < length segments.now) numbers.now }
+    ensures { IfOk result (λ v. IsCutTable segments.now numbers.now v.items) }
 {
-    let mut table = each_on_line(alloc, segments, numbers)?;
+    let whole = each_on_line(alloc, segments, numbers)?;
+    let mut table = portions_of(alloc, tile, whole)?;
     table.sort_unstable();
     Ok(table)
 }

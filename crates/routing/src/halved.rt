@@ -1,9 +1,10 @@
 //! The hot pixels of a tile with the records of the segments that meet them, found in ever smaller halves of it.
 //!
-//! 1. A rectangle with many lines that run side by side is left: it has no hot pixel.
-//! 2. Another one with many lines is halved, and each half is left with the lines that may pass it.
-//! 3. Where few are left, or one pixel, all pairs are crossed; in a pixel with many lines those of one line of each carrier.
-//! 4. Each line is tested against each hot pixel that was found there. Where it meets one, each segment on the line has a
+//! 1. Where segments are many they are cut into portions, of which no two overlap on one carrier (`by_line`). These are the lines.
+//! 2. A rectangle with many lines that run side by side is left: it has no hot pixel.
+//! 3. Another one with many lines is halved, and each half is left with the lines that may pass it.
+//! 4. Where few are left, or one pixel, all pairs are crossed; in a pixel with many lines those of one line of each carrier.
+//! 5. Each line is tested against each hot pixel that was found there. Where it meets one, each segment on the line has a
 //!    record.
 
 ghost use Rattle.std.specs.Prelude.{◌≡◌, ◌<◌, ◌≤◌, All, IfOk, IfSome, OnOk, length};
@@ -208,7 +209,7 @@ pub(crate) fn found_in<A: Allocator + Copy>(
     ensures pixels { IfOk result (λ f. AreOwnedHot (IsIn tile.now) (chosen segments.now numbers.now) f.pixels.items) }
     ensures records { IfOk result (λ f. HasRecords (candidates_of segments.now numbers.now) f.pixels.items f.records.items) }
 {
-    let table = by_line(alloc, segments, numbers)?;
+    let table = by_line(alloc, tile, segments, numbers)?;
     let lines = lines_of(alloc, &table)?;
     let mut found = InTile {
         pixels: Vec::new(alloc),

@@ -2,6 +2,7 @@
 #![tactic(auto)]
 
 mod by_line;
+mod cutting;
 mod finding;
 mod halved;
 mod met;

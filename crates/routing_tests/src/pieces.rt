@@ -73,6 +73,21 @@ const LATTICE: [i32; 40] = [
     50, 52, 54, 56, 58, 60, 62, 64, 66, 68, 70, 72, 74, 76, 78,
 ];
 
+// A hundred and fifty segments over one another on one line, each one to seven steps long: enough of them to be cut.
+fn pile<A: Allocator>(alloc: A) -> Result<Vec<Seg, A>, NoMemory>
+    ensures { IfOk result (λ v. All (λ s. AreInLimit s.a s.b) v.items) }
+{
+    let mut segments = Vec::new(alloc);
+    for at in 0..150i32 {
+        let past = at.wrapping_add(at.rem_euclid(7)).wrapping_add(1);
+        push(
+            &mut segments,
+            ((at.wrapping_mul(2), at), (past.wrapping_mul(2), past)),
+        )?;
+    }
+    Ok(segments)
+}
+
 // The numbers of all segments.
 fn all_numbers<A: Allocator>(
     alloc: A,
@@ -177,5 +192,22 @@ fn finds_a_lattice(rt: HostRuntime) -> Result<(), Fail> {
         (hot, swept, counted, records) == (1760, 1760, 1760, 6720),
         "{hot}, {swept}, {counted}, {records}"
     );
+    Ok(())
+}
+
+// The ends are hot, and each segment meets those from its first to its last.
+#[test]
+fn finds_a_pile(rt: HostRuntime) -> Result<(), Fail> {
+    let alloc = rt.alloc();
+    let grid = grid_over((0, 0), (306, 153), 512)?;
+    let segments = pile(alloc)?;
+    let tile = tile_of::<Brand, _>(alloc, Blank::new(1), &grid, 0, &segments)?;
+    let found = (
+        tile.hot.len(),
+        tile.swept.len(),
+        tile.piece.hot,
+        tile.piece.records.len(),
+    );
+    assert!(rt; found == (154, 154, 154, 744), "{found:?}");
     Ok(())
 }

@@ -1,5 +1,4 @@
 use Rattle.std.proofs.Common.{◌≤◌, arith, length}
-use Rattle.std.specs.Prelude.{All}
 use Rattle.geom.specs.Limit.{AreInLimit}
 use Rattle.hot_pixel.proofs.HalvingLaws.{halves_unite, part_all}
 use Rattle.hot_pixel.proofs.BundleLaws.{nothing_hot}

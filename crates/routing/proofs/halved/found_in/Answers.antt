@@ -7,11 +7,11 @@ use Rattle.hot_pixel.specs.declared.lines.Line.{Line}
 use Rattle.hot_pixel.specs.Candidates.{chosen}
 use Rattle.hot_pixel.specs.Halving.{edges_of, HasHot}
 use Rattle.hot_pixel.proofs.CandidateLaws.{all_chosen}
-use Rattle.hot_pixel.proofs.HalvingLaws.{tile_found, tile_none}
+use Rattle.hot_pixel.proofs.HalvingLaws.{tile_none}
 use Rattle.hot_pixel.proofs.ListLaws.{none_in}
 use Rattle.routing.specs.declared.by_line.OnLine.{OnLine}
 use Rattle.routing.specs.Recording.{AddsRecords, AreLinesOf}
-use Rattle.routing.proofs.RecordingLaws.{lines_are, lines_in_limit, table_below, tile_records, no_records}
+use Rattle.routing.proofs.RecordingLaws.{entries_below, lines_in_limit, no_records, tile_hot, tile_records}
 use Rattle.routing.proofs.halved.found_in.Goals as goal
 
 pub returns-in-None-clause-pixels : goal.returns-in-None-clause-pixels
@@ -22,7 +22,9 @@ pub returns-in-None-clause-records : goal.returns-in-None-clause-records
 returns-in-None-clause-records g c = rw (c.new.ensures.items, c.new-2.ensures.items) (no_records c.args.segments.now c.args.numbers.now)
 
 pub halve-requires-clause-table_in : goal.halve-requires-clause-table_in
-halve-requires-clause-table_in g c = subst (λ (xs : List OnLine). All (λ x. x.number < length c.args.segments.now) xs) (sym c.deref-in-Some.ensures.value) (table_below c.args.segments.now c.args.numbers.now c.in_ok-table.table.items c.in_ok-table.ensures)
+halve-requires-clause-table_in g c =
+    let are = subst (λ (xs : List OnLine). AreLinesOf xs c.in_ok-lines.lines.items) c.deref.ensures.value c.in_ok-lines.ensures in
+    subst (λ (xs : List OnLine). All (λ x. x.number < length c.args.segments.now) xs) (sym c.deref-in-Some.ensures.value) (entries_below c.args.segments.now c.args.numbers.now c.in_ok-table.table.items c.in_ok-lines.lines.items c.in_ok-table.ensures are)
 
 pub halve-requires-clause-lines_past : goal.halve-requires-clause-lines_past
 halve-requires-clause-lines_past g c =
@@ -41,9 +43,8 @@ returns-clause-pixels g c =
     let lines = c.in_ok-lines.lines.items in
     let are = subst (λ (xs : List OnLine). AreLinesOf xs lines) c.deref.ensures.value c.in_ok-lines.ensures in
     let h = subst (λ (ls : List Line). HasHot c.in-Some.part (edges_of ls) [] c.halve.new.found.pixels.items) c.deref-in-Some-2.ensures.value (rw c.new.ensures.items at c.in_ok-halve-in-Some.ensures.pixels) in
-    tile_found c.args.tile.now c.in-Some.part (chosen segments numbers) (edges_of lines) c.halve.new.found.pixels.items c.ascending.result.items
-    (all_chosen (λ s. AreInLimit s.a s.b) segments numbers (λ s h. All-contains (λ (t : Seg). AreInLimit t.a t.b) segments s c.requires.limits h))
-    (lines_are segments numbers c.in_ok-table.table.items lines c.in_ok-table.ensures are) c.in-Some.ensures h c.ascending.ensures.order c.ascending.ensures.same
+    tile_hot segments numbers c.in_ok-table.table.items lines c.in_ok-table.ensures are c.args.tile.now c.in-Some.part c.in-Some.ensures c.halve.new.found.pixels.items c.ascending.result.items
+    (all_chosen (λ s. AreInLimit s.a s.b) segments numbers (λ s h. All-contains (λ (t : Seg). AreInLimit t.a t.b) segments s c.requires.limits h)) h c.ascending.ensures.order c.ascending.ensures.same
 
 pub returns-clause-records : goal.returns-clause-records
 returns-clause-records g c =
@@ -55,8 +56,7 @@ returns-clause-records g c =
     let h = subst (λ (ls : List Line). HasHot c.in-Some.part (edges_of ls) [] c.halve.new.found.pixels.items) c.deref-in-Some-2.ensures.value (rw c.new.ensures.items at c.in_ok-halve-in-Some.ensures.pixels) in
     let k = subst (λ (ls : List Line). AddsRecords segments c.deref-in-Some.result.now c.in-Some.part ls [] c.halve.new.found.records.items) c.deref-in-Some-2.ensures.value (rw c.new-2.ensures.items at c.in_ok-halve-in-Some.ensures.records) in
     let m = subst (λ (xs : List OnLine). AddsRecords segments xs c.in-Some.part lines [] c.halve.new.found.records.items) c.deref-in-Some.ensures.value k in
-    tile_records segments numbers table lines c.in_ok-table.ensures are c.args.tile.now c.in-Some.part c.ascending.result.items c.halve.new.found.records.items c.in-Some.ensures
-    (tile_found c.args.tile.now c.in-Some.part (chosen segments numbers) (edges_of lines) c.halve.new.found.pixels.items c.ascending.result.items
-    (all_chosen (λ s. AreInLimit s.a s.b) segments numbers (λ s h. All-contains (λ (t : Seg). AreInLimit t.a t.b) segments s c.requires.limits h))
-    (lines_are segments numbers table lines c.in_ok-table.ensures are) c.in-Some.ensures h c.ascending.ensures.order c.ascending.ensures.same)
+    tile_records segments numbers table lines c.in_ok-table.ensures are c.args.tile.now c.in-Some.part c.in-Some.ensures c.ascending.result.items c.halve.new.found.records.items
+    (tile_hot segments numbers table lines c.in_ok-table.ensures are c.args.tile.now c.in-Some.part c.in-Some.ensures c.halve.new.found.pixels.items c.ascending.result.items
+    (all_chosen (λ s. AreInLimit s.a s.b) segments numbers (λ s h. All-contains (λ (t : Seg). AreInLimit t.a t.b) segments s c.requires.limits h)) h c.ascending.ensures.order c.ascending.ensures.same)
     (λ p n. ⊎_elim (λ o. absurd (none_in p o)) (λ o. o.1) ((h.same p).0 ((c.ascending.ensures.same p).0 n))) m
