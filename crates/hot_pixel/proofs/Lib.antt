@@ -8,3 +8,4 @@ pub mod NearLaws
 pub mod BundleLaws
 pub mod EndLaws
 pub mod CarrierLaws
+pub mod BesideLaws

@@ -4,3 +4,4 @@ pub mod Lines
 pub mod Halving
 pub mod Bundle
 pub mod Carriers
+pub mod Beside

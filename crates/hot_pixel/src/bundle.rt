@@ -39,7 +39,7 @@ pub(crate) struct Strand {
 
 impl Strand {
     /// Whether another one is greater than it at both borders, or equal to it.
-    fn is_followed_by(&self, other: &Strand) -> bool
+    pub(crate) fn is_followed_by(&self, other: &Strand) -> bool
         ensures { IsTrue result → IsFollowedBy self.now other.now }
     {
         self.left < other.left && self.right < other.right

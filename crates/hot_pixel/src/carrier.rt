@@ -19,9 +19,9 @@ use std::alloc::Allocator;
 
 /// A line by its place among the lines, with its strand if it runs through.
 #[derive(Clone, Copy, Debug, PartialEq, Eq, PartialOrd, Ord)]
-struct Carried {
-    strand: Option<Strand>,
-    place: usize,
+pub(crate) struct Carried {
+    pub strand: Option<Strand>,
+    pub place: usize,
 }
 
 impl Carried {
@@ -37,7 +37,7 @@ impl Carried {
 }
 
 /// The strand of a line that runs through.
-fn strand_if_through(course: Course, low: i32, high: i32, line: &Edge) -> Option<Strand>
+pub(crate) fn strand_if_through(course: Course, low: i32, high: i32, line: &Edge) -> Option<Strand>
     requires line_in { AreInLimit line.now.p line.now.q }
     requires apart { low ≤ℤ high }
     ensures { IfSome result (λ s. IsStrandSeen course low high line.now s) }
@@ -105,7 +105,7 @@ fn first_of_each<A: Allocator>(
 }
 
 /// The x of a point as it is seen along the course.
-fn x_of(course: Course, p: Pt) -> i32
+pub(crate) fn x_of(course: Course, p: Pt) -> i32
     ensures { result ≡ (seen_point course p).x }
 {
     match course {

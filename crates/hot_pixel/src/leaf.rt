@@ -19,7 +19,7 @@ use std::alloc::Allocator;
 pub const FEW: usize = 32;
 
 /// Adds the ends of the lines that lie in the rectangle.
-fn add_ends<A: Allocator>(
+pub(crate) fn add_ends<A: Allocator>(
     rect: &Rect,
     lines: &[Line],
     found: &mut Vec<Pt, A>,
@@ -55,7 +55,7 @@ fn may_cross(e: &Edge, f: &Edge) -> bool
 }
 
 /// Adds the crossings of a line with other lines that lie in the rectangle, where its ends there are found.
-fn cross_with<A: Allocator>(
+pub(crate) fn cross_with<A: Allocator>(
     rect: &Rect,
     line: &Edge,
     others: &[Line],

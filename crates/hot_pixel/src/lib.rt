@@ -1,6 +1,7 @@
 //! The hot pixels that a tile owns.
 #![tactic(auto)]
 
+mod beside;
 mod bundle;
 mod carrier;
 mod halving;
@@ -10,6 +11,7 @@ mod lines;
 mod pixels;
 mod tile_sweep;
 
+pub use beside::hot_beside;
 pub use bundle::is_bundle;
 pub use halving::{cut, passing, within_limit};
 pub use hot::{hot_in, sweep};

@@ -1,0 +1,27 @@
+-- Lines of which nearly all run side by side, and the others (own).
+use Rattle.std.specs.Prelude.{◌⊎◌, Contains, List}
+use Rattle.geom.specs.declared.point.Pt.{Pt}
+use Rattle.geom.specs.declared.rect.Rect.{Rect}
+use Rattle.geom.specs.declared.edge.Edge.{Edge}
+use Rattle.hot_pixel.specs.declared.lines.Line.{Line}
+use Rattle.hot_pixel.specs.Halving.{edges_of, IsEndOf}
+use Rattle.hot_pixel.specs.Lines.{CrossAt}
+use Rattle.hot_pixel.specs.Rects.{IsIn}
+
+-- each line is in one of two lists, which have no others
+pub record AreParted (lines beside others : List Line) : Type 0 where
+  pub beside_among : (l : Line) → Contains beside l → Contains lines l
+  pub others_among : (l : Line) → Contains others l → Contains lines l
+  pub all : (l : Line) → Contains lines l → Contains beside l ⊎ Contains others l
+
+-- others has some of the lines: wherever lines end or two of them cross in the rectangle, one that does is among them
+pub record TakePart (rect : Rect) (lines others : List Line) : Type 0 where
+  pub among : (l : Line) → Contains others l → Contains lines l
+  pub ends : (c : Pt) → IsIn rect c → IsEndOf (edges_of lines) c → IsEndOf (edges_of others) c
+  pub crossings : (e f : Edge) (c : Pt) → IsIn rect c → Contains (edges_of lines) e → Contains (edges_of lines) f → CrossAt e f c → Contains (edges_of others) e ⊎ Contains (edges_of others) f
+
+-- new has the points of old, and the crossings of the first edges with the second ones that lie in the rectangle
+pub record HasBothCrossed (rect : Rect) (first second : List Edge) (old new : List Pt) : Type 0 where
+  pub kept : (c : Pt) → Contains old c → Contains new c
+  pub only : (c : Pt) → Contains new c → Contains old c ⊎ (((e : Edge) × (f : Edge) × Contains first e × Contains second f × CrossAt f e c) × IsIn rect c)
+  pub all : (e f : Edge) (c : Pt) → Contains first e → Contains second f → CrossAt f e c → IsIn rect c → Contains new c

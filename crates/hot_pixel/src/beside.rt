@@ -1,0 +1,261 @@
+//! The hot pixels of a rectangle where nearly all lines run side by side: no two of those cross in it, so only the others are
+//! crossed with all.
+//!
+//! 1. Lines that don't run through the columns of the rectangle are some of the others. These may be a few at most.
+//! 2. The strands of the lines that do are sorted, and kept one after the other. Where one doesn't follow the last that is kept,
+//!    both are taken out: they are others too.
+//! 3. If those that are kept are a bundle, ends of the others are hot, and crossings of the others with all lines. These may be
+//!    some at most.
+//! 4. The same is tried by the rows, with x and y exchanged.
+
+ghost use Rattle.std.specs.Prelude.{◌≤ℤ◌, All, IfOk, IfSome, IsTrue, [], Contains};
+ghost use Rattle.geom.specs.declared.point.Pt.{Pt};
+ghost use Rattle.geom.specs.Limit.{AreInLimit};
+ghost use Rattle.hot_pixel.specs.Beside.{AreParted, HasBothCrossed, TakePart};
+ghost use Rattle.hot_pixel.specs.Halving.{HasHot, IsEndOf, edges_of};
+ghost use Rattle.hot_pixel.specs.Rects.{IsIn};
+
+use crate::bundle::{Course, is_bundle, runs_through, seen};
+use crate::carrier::{Carried, strand_if_through, x_of};
+use crate::leaf::{add_ends, cross_with};
+use crate::lines::Line;
+use geom::{NoMemory, Pt, Rect};
+use std::alloc::Allocator;
+
+/// How many lines at most are crossed with all.
+const A_FEW: usize = 8;
+
+/// After how many pixels a rectangle is rather halved, as each is looked for on each line.
+const SOME: usize = 64;
+
+/// Some lines, parted into those that may run side by side and the others.
+#[derive(Drop)]
+struct Parted<A: Allocator> {
+    beside: Vec<Line, A>,
+    others: Vec<Line, A>,
+}
+
+/// Whether all lines but a few run through.
+fn most_run_through(course: Course, low: i32, high: i32, lines: &[Line]) -> bool {
+    let mut others = 0;
+    for line in lines {
+        let edge = seen(course, &line.edge);
+        if !runs_through(low, high, &edge) {
+            if others == A_FEW {
+                return false;
+            }
+            others += 1;
+        }
+    }
+    true
+}
+
+/// Whether two lines run through, and the strand of the second follows that of the first.
+fn are_in_order(first: &Carried, second: &Carried) -> bool {
+    match (first.strand, second.strand) {
+        (Some(a), Some(b)) => a.is_followed_by(&b),
+        _ => false,
+    }
+}
+
+/// Whether the last line of a list and another one run through and change places.
+fn crosses_last(items: &[Carried], item: &Carried) -> bool {
+    match items.last() {
+        None => false,
+        Some(last) => {
+            last.strand.is_some()
+                && item.strand.is_some()
+                && !are_in_order(last, item)
+                && !are_in_order(item, last)
+        }
+    }
+}
+
+/// Each line by its place, with its strand if it runs through; nothing where it is seen at once that more than a few cross.
+fn with_strands<A: Allocator>(
+    alloc: A,
+    course: Course,
+    low: i32,
+    high: i32,
+    lines: &[Line],
+) -> Result<Option<Vec<Carried, A>>, NoMemory>
+    requires lines_in { All (λ l. AreInLimit l.edge.p l.edge.q) lines.now }
+    requires apart { low ≤ℤ high }
+{
+    let mut items = Vec::with_capacity(alloc, lines.len())?;
+    let mut crossed = 0;
+    for place in 0..lines.len() {
+        let strand = strand_if_through(course, low, high, &lines[place].edge);
+        let item = Carried { strand, place };
+        if crosses_last(&items, &item) {
+            if crossed == A_FEW {
+                return Ok(None);
+            }
+            crossed += 1;
+        }
+        items.push(item)?;
+    }
+    Ok(Some(items))
+}
+
+/// Keeps a line that follows the last one that is kept; else both are taken out.
+fn keep<A: Allocator>(
+    kept: &mut Vec<Carried, A>,
+    out: &mut Vec<usize, A>,
+    item: &Carried,
+) -> Result<(), NoMemory> {
+    match kept.pop() {
+        None => {
+            if item.strand.is_some() {
+                kept.push(*item)?;
+            } else {
+                out.push(item.place)?;
+            }
+        }
+        Some(last) => {
+            if are_in_order(&last, item) {
+                kept.push(last)?;
+                kept.push(*item)?;
+            } else {
+                out.push(last.place)?;
+                out.push(item.place)?;
+            }
+        }
+    }
+    Ok(())
+}
+
+/// The places of the lines that are taken out, those with strands being sorted by these; nothing where they are more than a few.
+fn taken_out<A: Allocator + Copy>(
+    alloc: A,
+    items: &[Carried],
+) -> Result<Option<Vec<usize, A>>, NoMemory> {
+    let mut kept = Vec::with_capacity(alloc, items.len())?;
+    let mut out = Vec::new(alloc);
+    for item in items {
+        keep(&mut kept, &mut out, item)?;
+        if out.len() > A_FEW {
+            return Ok(None);
+        }
+    }
+    Ok(Some(out))
+}
+
+/// Whether a place is among some.
+fn is_among(places: &[usize], place: usize) -> bool {
+    for other in places {
+        if *other == place {
+            return true;
+        }
+    }
+    false
+}
+
+/// The lines at some places are the others.
+fn part_at<A: Allocator + Copy>(
+    alloc: A,
+    lines: &[Line],
+    places: &[usize],
+) -> Result<Parted<A>, NoMemory>
+    ensures { IfOk result (λ p. AreParted lines.now p.beside.items p.others.items) }
+{
+    let mut beside = Vec::with_capacity(alloc, lines.len())?;
+    let mut others = Vec::new(alloc);
+    for place in 0..lines.len() {
+        let line = lines[place];
+        if is_among(places, place) {
+            others.push(line)?;
+        } else {
+            beside.push(line)?;
+        }
+    }
+    Ok(Parted { beside, others })
+}
+
+/// Adds the crossings of the others with all lines that lie in the rectangle, where the ends of the others there are found; it
+/// stops where they are many.
+fn cross_others<A: Allocator>(
+    rect: &Rect,
+    lines: &[Line],
+    others: &[Line],
+    found: &mut Vec<Pt, A>,
+) -> Result<bool, NoMemory>
+    requires lines_in { All (λ l. AreInLimit l.edge.p l.edge.q) lines.now }
+    requires others_in { All (λ l. AreInLimit l.edge.p l.edge.q) others.now }
+    requires ends { (c : Pt) → IsEndOf (edges_of others.now) c → IsIn rect.now c → Contains found.old.items c }
+    ensures { IfOk result (λ b. IsTrue b → HasBothCrossed rect.now (edges_of others.now) (edges_of lines.now) found.old.items found.new.items) }
+{
+    for line in others {
+        cross_with(rect, &line.edge, lines, found)?;
+        if found.len() > SOME {
+            return Ok(false);
+        }
+    }
+    Ok(true)
+}
+
+/// The pixels of a rectangle that are hot for its lines, where of those that make one hot some are always among the others.
+fn hot_of_others<A: Allocator>(
+    alloc: A,
+    rect: &Rect,
+    lines: &[Line],
+    others: &[Line],
+) -> Result<Option<Vec<Pt, A>>, NoMemory>
+    requires lines_in { All (λ l. AreInLimit l.edge.p l.edge.q) lines.now }
+    requires others { TakePart rect.now lines.now others.now }
+    ensures { IfOk result (λ o. IfSome o (λ v. HasHot rect.now (edges_of lines.now) [] v.items)) }
+{
+    let mut found = Vec::new(alloc);
+    add_ends(rect, others, &mut found)?;
+    if cross_others(rect, lines, others, &mut found)? {
+        return Ok(Some(found));
+    }
+    Ok(None)
+}
+
+/// The same where nearly all lines run side by side along a course.
+fn hot_along<A: Allocator + Copy>(
+    alloc: A,
+    course: Course,
+    rect: &Rect,
+    lines: &[Line],
+) -> Result<Option<Vec<Pt, A>>, NoMemory>
+    requires rect_in { AreInLimit rect.now.lo rect.now.hi }
+    requires lines_in { All (λ l. AreInLimit l.edge.p l.edge.q) lines.now }
+    ensures { IfOk result (λ o. IfSome o (λ v. HasHot rect.now (edges_of lines.now) [] v.items)) }
+{
+    let low = x_of(course, rect.lo);
+    let high = x_of(course, rect.hi);
+    if !most_run_through(course, low, high, lines) {
+        return Ok(None);
+    }
+    let Some(mut items) = with_strands(alloc, course, low, high, lines)? else {
+        return Ok(None);
+    };
+    items.sort_unstable();
+    let Some(places) = taken_out(alloc, &items)? else {
+        return Ok(None);
+    };
+    let parted = part_at(alloc, lines, &places)?;
+    if is_bundle(alloc, rect, &parted.beside)? {
+        return hot_of_others(alloc, rect, lines, &parted.others);
+    }
+    Ok(None)
+}
+
+/// The pixels of a rectangle that are hot for its lines, where nearly all run side by side and these pixels are few. It may answer
+/// None of any lines.
+pub fn hot_beside<A: Allocator + Copy>(
+    alloc: A,
+    rect: &Rect,
+    lines: &[Line],
+) -> Result<Option<Vec<Pt, A>>, NoMemory>
+    requires rect_in { AreInLimit rect.now.lo rect.now.hi }
+    requires lines_in { All (λ l. AreInLimit l.edge.p l.edge.q) lines.now }
+    ensures { IfOk result (λ o. IfSome o (λ v. HasHot rect.now (edges_of lines.now) [] v.items)) }
+{
+    if let Some(found) = hot_along(alloc, Course::Columns, rect, lines)? {
+        return Ok(Some(found));
+    }
+    hot_along(alloc, Course::Rows, rect, lines)
+}
