@@ -2,12 +2,13 @@
 //!
 //! 1. Where segments are many they are cut into portions, of which no two overlap on one carrier (`by_line`). These are the lines.
 //! 2. A rectangle with many lines that run side by side is left: it has no hot pixel.
-//! 3. Another one with many lines is halved, and each half is left with the lines that may pass it.
-//! 4. Where few are left, or one pixel, all pairs are crossed; in a pixel with many lines those of one line of each carrier.
-//! 5. Each line is tested against each hot pixel that was found there. Where it meets one, each segment on the line has a
+//! 3. Where nearly all of many do, the others are crossed with all lines, unless more than some pixels are found so.
+//! 4. Another one with many lines is halved, and each half is left with the lines that may pass it.
+//! 5. Where few are left, or one pixel, all pairs are crossed; in a pixel with many lines those of one line of each carrier.
+//! 6. Each line is tested against each hot pixel that was found there. Where it meets one, each segment on the line has a
 //!    record.
 
-ghost use Rattle.std.specs.Prelude.{◌≡◌, ◌<◌, ◌≤◌, All, IfOk, IfSome, OnOk, length};
+ghost use Rattle.std.specs.Prelude.{◌≡◌, ◌<◌, ◌≤◌, All, IfOk, IfSome, OnOk, [], length};
 ghost use Rattle.geom.specs.declared.rect.Rect.{Rect};
 ghost use Rattle.geom.specs.Limit.{AreInLimit, InLimit};
 ghost use Rattle.hot_pixel.specs.Candidates.{chosen, AreOwnedHot};
@@ -21,7 +22,9 @@ use crate::by_line::{OnLine, by_line, lines_of};
 use crate::met::meets;
 use crate::record::{Record, steps_to};
 use geom::{NoMemory, Pt, Rect, Seg};
-use hot_pixel::{FEW, Line, add_hot, ascending, cut, is_bundle, on_line, passing, within_limit};
+use hot_pixel::{
+    FEW, Line, add_hot, ascending, cut, hot_beside, is_bundle, on_line, passing, within_limit,
+};
 use std::alloc::Allocator;
 
 /// How often a rectangle is halved at most. Within the coordinate limit a single pixel is left after 60.
@@ -106,6 +109,29 @@ fn add_records<A: Allocator>(
     Ok(())
 }
 
+/// Adds pixels that were found, all that are hot for the lines of a rectangle, and the records there.
+fn add_found<A: Allocator>(
+    here: Vec<Pt, A>,
+    segments: &[Seg],
+    table: &[OnLine],
+    rect: &Rect,
+    lines: &[Line],
+    found: &mut InTile<A>,
+) -> Result<(), NoMemory>
+    requires here { HasHot rect.now (edges_of lines.now) [] here.items }
+    requires segments_in { All (λ s. AreInLimit s.a s.b) segments.now }
+    requires table_in { All (λ x. x.number < length segments.now) table.now }
+    requires lines_past { All (λ l. l.past ≤ length table.now) lines.now }
+    requires lines_in { All (λ l. AreInLimit l.edge.p l.edge.q) lines.now }
+    ensures pixels { OnOk result (HasHot rect.now (edges_of lines.now) found.old.pixels.items found.new.pixels.items) }
+    ensures records { OnOk result (AddsRecords segments.now table.now rect.now lines.now found.old.records.items found.new.records.items) }
+{
+    let pixels = ascending(here);
+    add_records(&mut found.records, segments, table, lines, &pixels)?;
+    found.pixels.extend_from_slice(&pixels)?;
+    Ok(())
+}
+
 /// Adds the pixels of a rectangle that are hot for its lines, by ends and pairs, and the records there.
 fn add_all<A: Allocator + Copy>(
     alloc: A,
@@ -124,10 +150,7 @@ fn add_all<A: Allocator + Copy>(
 {
     let mut here = Vec::with_capacity(alloc, lines.len())?;
     add_hot(alloc, rect, lines, &mut here)?;
-    let pixels = ascending(here);
-    add_records(&mut found.records, segments, table, lines, &pixels)?;
-    found.pixels.extend_from_slice(&pixels)?;
-    Ok(())
+    add_found(here, segments, table, rect, lines, found)
 }
 
 /// The lines that may pass a half of a rectangle. None stands for all of them, which so never stand in memory twice.
@@ -158,7 +181,8 @@ fn left_of<'a, A: Allocator>(lines: &'a [Line], fewer: &'a Option<Vec<Line, A>>)
 }
 
 /// Adds the pixels of a rectangle that are hot for its lines, and the records there. Where the lines are many it has none if
-/// they run side by side, and else it is halved, and each half is left with those that may pass it.
+/// they run side by side. If nearly all do, the others are crossed with all; else it is halved, and each half is left with those
+/// that may pass it.
 fn halve<A: Allocator + Copy>(
     alloc: A,
     segments: &[Seg],
@@ -181,6 +205,9 @@ fn halve<A: Allocator + Copy>(
     }
     if is_bundle(alloc, rect, lines)? {
         return Ok(());
+    }
+    if let Some(here) = hot_beside(alloc, rect, lines)? {
+        return add_found(here, segments, table, rect, lines, found);
     }
     match cut(rect, lines) {
         None => add_all(alloc, segments, table, rect, lines, found),
