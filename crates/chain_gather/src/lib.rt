@@ -5,6 +5,6 @@ mod own;
 mod tiles;
 
 pub use linking::{
-    Link, Noded, Rounded, TileNumbers, TilePiece, Tiled, gather_made, gather_made_by_hands, settled,
+    Link, Noded, Rounded, TileNumbers, TilePiece, Tiled, gather_made, gather_made_in_parts, settled,
 };
 pub use tiles::gather;

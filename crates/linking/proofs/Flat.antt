@@ -237,9 +237,6 @@ module _ (segments : List Seg) (records : List Record) (h : AreRecords segments 
   stand : StandFrom segments 0 segments
   stand = λ j s at. let e : j ≡ 0 + j = omega arith in subst (λ (n : ℕ). slice_get segments n ≡ Some s) e at
 
-  pub routes_of : List (List Pt)
-  routes_of = routes_from 0 segments records
-
   pub routes_of_records : AreRoutes segments segments (routes_from 0 segments records)
   routes_of_records = routes_are segments 0 segments records stand from
 

@@ -13,4 +13,5 @@ pub mod Ordering
 pub mod Counted
 pub mod WrittenBack
 pub mod SpanLaws
+pub mod Slices
 pub mod ShareLaws

@@ -1,7 +1,8 @@
 -- Links that are sorted: their parts, and the counts of these behind one another.
-use Rattle.std.proofs.Common.{◌≡◌, inl, inr, ℕ, zero, suc, ◌+◌, ◌<◌, List, ◌++◌, cond, refl, sym, ◌∙◌, arith, subst, ⊎_elim}
+use Rattle.std.proofs.Common.{◌≡◌, inl, inr, ℕ, zero, suc, ◌+◌, ◌<◌, List, [], ◌∷◌, ◌++◌, cond, refl, sym, ◌∙◌, arith, subst, ⊎_elim}
 use Rattle.std.proofs.lemmas.Int.{ints}
-use Rattle.std.specs.Prelude.{◌<ℤ◌, Contains}
+use Rattle.std.specs.Prelude.{◌<ℤ◌, AllPairs, Contains, flat_map}
+use Rattle.std.specs.List.{AllZip}
 use Rattle.std.specs.List.Sorted.{IsPermutation, IsSorted}
 use Rattle.std.proofs.lemmas.Bool.{cases_lt}
 use Rattle.std.proofs.lemmas.List.Elements.{Contains-append_cases, Contains-append_left, Contains-append_right}
@@ -17,8 +18,10 @@ use Rattle.linking.specs.declared.link.Link.{Link}
 use Rattle.linking.specs.Links.{AreCounts, AreInOrder, GoBefore, count_links, is_of}
 use Rattle.linking.specs.Orders.{link_order}
 use Rattle.linking.specs.Shares.{AreKeysBelow, column_of}
+use Rattle.hot_pixel.proofs.ListLaws.{tail_pairs}
 use Rattle.linking.proofs.Counted.{pairs_append}
-use Rattle.linking.proofs.Tally.{IsExact, link_total, linked, sorted_edges}
+use Rattle.linking.proofs.ShareLaws.{first_apart}
+use Rattle.linking.proofs.Tally.{IsExact, link_total, linked, no_counts, sorted_edges}
 
 pub sorted_in_order : (links : List Link) → IsSorted link_order links → AreInOrder links
 sorted_in_order links up i j d l k = sorted_edges link_order link_total (λ l m. (_, refl)) links up i j d (omega arith) k
@@ -107,3 +110,12 @@ counts_moved links sorted cs moved h = record {
   where
     same : (e : Edge) (layer : Source) → count_links e layer links ≡ count_links e layer sorted
     same e layer = sym (sum_by-IsPermutation (λ m. cond (is_of e layer m) 1 0) links sorted moved)
+
+-- the counts of shares, one behind another
+module _ {S V : Type 0} (links_of : S → List Link) (counts_of : V → List Counted) where
+  pub all_counts : (shares : List S) (vs : List V) → AllPairs (λ s t. AreKeysBelow column_of (links_of s) (links_of t)) shares → AllZip (λ s v. AreCounts (links_of s) (counts_of v)) shares vs → AreCounts (flat_map links_of shares) (flat_map counts_of vs)
+  all_counts [] [] up zip = no_counts [] refl
+  all_counts [] (v ∷ vs) up zip = absurd zip
+  all_counts (s ∷ ss) [] up zip = absurd zip
+  all_counts (s ∷ ss) (v ∷ vs) up zip = counts_append (links_of s) (flat_map links_of ss) (counts_of v) (flat_map counts_of vs) (parted_columns (links_of s) (flat_map links_of ss) (first_apart links_of column_of s ss up)) zip.0
+      (all_counts ss vs (tail_pairs (λ s t. AreKeysBelow column_of (links_of s) (links_of t)) s ss up) zip.1)

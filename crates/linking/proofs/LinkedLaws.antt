@@ -1,33 +1,33 @@
 -- What is found in shares of the records, one behind another.
-use Rattle.std.proofs.Common.{◌≡◌, ◌≢◌, ℕ, ◌+◌, ◌-◌, ◌<◌, List, [], ◌∷◌, ◌++◌, Less, Equal, cond, length, get_or, take, drop, sym, ap, subst, ◌∙◌, arith, ⊎_elim}
+use Rattle.std.proofs.Common.{◌≡◌, ◌≢◌, ℕ, ◌+◌, ◌-◌, ◌<◌, List, [], ◌∷◌, ◌++◌, Less, Equal, cond, length, get_or, refl, sym, ap, subst, ◌∙◌, arith, ⊎_elim}
 use Rattle.std.proofs.Math.Logic.{∥∥₁_elim, ∥∥₁_map}
 use Rattle.std.proofs.Props.{props}
 use Rattle.std.proofs.lemmas.Int.{ints}
-use Rattle.std.proofs.lemmas.List.{get_or-append-add, get_or_append_left, length-append}
+use Rattle.std.proofs.lemmas.List.{get_or-append-add, get_or-map, get_or_append_left, length-append, length-map}
 use Rattle.std.proofs.lemmas.List.Elements.{Contains-append_cases, Contains-append_left, Contains-append_right, Contains-get_or}
-use Rattle.std.proofs.lemmas.List.Sorted.{Contains-permutation, IsPermutation-refl, IsPermutation-sym}
-use Rattle.std.proofs.lemmas.List.Sums.{sum_by-append}
+use Rattle.std.proofs.lemmas.List.Sums.{sum_by-append, sum_by-cons}
 use Rattle.std.proofs.lemmas.Option.{get_or_from_slice_get, slice_get-get_or, slice_get_within}
 use Rattle.std.proofs.lemmas.Cmp.{tied_itself}
-use Rattle.std.specs.Prelude.{◌<ℤ◌, All, AllPairs, Contains, flat_map, pos}
-use Rattle.std.specs.List.Sorted.{IsPermutation}
+use Rattle.std.specs.Prelude.{◌<ℤ◌, All, AllPairs, Contains, flat_map, map, pos, sum_by}
+use Rattle.std.specs.List.{AllZip}
 use Rattle.geom.specs.declared.point.Pt.{Pt}
 use Rattle.geom.specs.declared.segment.Seg.{Seg}
-use Rattle.grid.specs.Tiles.{HasTile, Owns, Tiling}
+use Rattle.grid.specs.Tiles.{HasTile, Owns, Tiling, tile_count}
 use Rattle.hot_pixel.proofs.HotLaws.{hot_meets}
+use Rattle.hot_pixel.proofs.ListLaws.{none_in, tail_pairs}
 use Rattle.routing.specs.declared.record.Record.{Record}
 use Rattle.routing.specs.Pieces.{IsRecord}
 use Rattle.linking.specs.declared.link.Link.{Link}
 use Rattle.routing.proofs.RecordOrder.{record_total}
 use Rattle.linking.specs.Links.{AreApart, AreNeighbourLinks, ChangesSegment, count_links, is_of}
 use Rattle.linking.specs.Numbers.{AreTileCounts, IsCountOf}
-use Rattle.linking.specs.Orders.{AreSortedOnce, record_order}
-use Rattle.linking.specs.Shares.{AreKeysBelow, AreKnownShares, AreLinked, AreShares, AreSums, segment_of}
+use Rattle.linking.specs.Orders.{record_order}
+use Rattle.linking.specs.Shares.{AreKeysBelow, AreLinked, AreSums, segment_of}
 use Rattle.linking.proofs.Counted.{known_tile, pairs_append}
 use Rattle.linking.proofs.Gathering.{AreCovered, record_before}
 use Rattle.linking.proofs.Walk.{pixels_differ}
-use Rattle.linking.proofs.RecordParts.{neighbour_links_append}
-use Rattle.linking.proofs.ShareLaws.{ascend_back, ascend_front, flat_parts, sorted_append}
+use Rattle.linking.proofs.RecordParts.{neighbour_links_append, pairs_across, pairs_back}
+use Rattle.linking.proofs.ShareLaws.{first_apart, zip_all, zip_mapped, zip_weaker}
 
 -- ---- counts of two lists that share no item
 module _ {X : Type 0} (xs ys : List X) (apart : (x y : X) → Contains xs x → Contains ys y → x ≢ y) where
@@ -46,18 +46,39 @@ module _ {X : Type 0} (xs ys : List X) (apart : (x y : X) → Contains xs x → 
     number_is = let l = length-append h.those k.those in let a = h.number_is in let b = k.number_is in omega (arith, l, a, b);
   }
 
-  pub tile_counts_append : (g : Tiling) (pixel_of : X → Pt) (hs ks ts : List ℕ) → AreTileCounts g pixel_of xs hs → AreTileCounts g pixel_of ys ks → AreSums hs ks ts → AreTileCounts g pixel_of (xs ++ ys) ts
-  tile_counts_append g pixel_of hs ks ts h k s = record {
-    one_each = s.one_each ∙ h.one_each;
-    each = λ j n at.
-        let w = slice_get_within ts j n at in
-        let a = s.one_each in
-        let b = h.one_each in
-        let c = k.one_each in
-        let first = h.each j (get_or hs j 0) (slice_get-get_or hs j 0 (omega (arith, w, a))) in
-        let second = k.each j (get_or ks j 0) (slice_get-get_or ks j 0 (omega (arith, w, a, b, c))) in
-        subst (λ (t : ℕ). IsCountOf (xs ++ ys) (λ x. Owns g j (pixel_of x)) t) (sym (s.each j w) ∙ get_or_from_slice_get ts j n 0 at) (count_append (λ x. Owns g j (pixel_of x)) (get_or hs j 0) (get_or ks j 0) first second);
+-- ---- the counts of lists that share no item, added
+module _ {S X : Type 0} (g : Tiling) (pixel_of : X → Pt) (items_of : S → List X) where
+  abbrev pub AreCounted : List S → List (List ℕ) → Type 0
+  AreCounted shares lists = AllZip (λ s counts. AreTileCounts g pixel_of (items_of s) counts) shares lists
+
+  each_sum : (k : ℕ) → k < tile_count g → (shares : List S) (lists : List (List ℕ)) → AllPairs (λ x y. x ≢ y) (flat_map items_of shares) → AreCounted shares lists → IsCountOf (flat_map items_of shares) (λ x. Owns g k (pixel_of x)) (sum_by (λ counts. get_or counts k 0) lists)
+  each_sum k l [] [] once zip = record { those = []; once = once; exact = λ x. (λ h. absurd (none_in x h), λ h. absurd (none_in x h.0)); number_is = refl }
+  each_sum k l [] (c ∷ cs) once zip = absurd zip
+  each_sum k l (s ∷ ss) [] once zip = absurd zip
+  each_sum k l (s ∷ ss) (c ∷ cs) once zip =
+      let size = zip.0.one_each in
+      let front = zip.0.each k (get_or c k 0) (slice_get-get_or c k 0 (omega (arith, l, size))) in
+      let back = each_sum k l ss cs (pairs_back (λ x y. x ≢ y) (items_of s) (flat_map items_of ss) once) zip.1 in
+      subst (λ (n : ℕ). IsCountOf (items_of s ++ flat_map items_of ss) (λ x. Owns g k (pixel_of x)) n) (sym (sum_by-cons (λ counts. get_or counts k 0) c cs))
+      (count_append (items_of s) (flat_map items_of ss) (pairs_across (λ x y. x ≢ y) (items_of s) (flat_map items_of ss) once) (λ x. Owns g k (pixel_of x)) (get_or c k 0) (sum_by (λ counts. get_or counts k 0) cs) front back)
+
+  pub sums_are : (shares : List S) (lists : List (List ℕ)) (sums : List ℕ) → AllPairs (λ x y. x ≢ y) (flat_map items_of shares) → AreCounted shares lists → AreSums (tile_count g) lists sums → AreTileCounts g pixel_of (flat_map items_of shares) sums
+  sums_are shares lists sums once zip h = record {
+    one_each = h.one_each;
+    each = λ k n at.
+        let w = slice_get_within sums k n at in
+        let size = h.one_each in
+        let l : k < tile_count g = omega (arith, w, size) in
+        subst (λ (m : ℕ). IsCountOf (flat_map items_of shares) (λ x. Owns g k (pixel_of x)) m) (sym (h.each k l) ∙ get_or_from_slice_get sums k n 0 at) (each_sum k l shares lists once zip);
   }
+
+-- what lists have, taken out of them
+pub all_unmapped : {X Y : Type 0} (P : Y → Type 0) (f : X → Y) (xs : List X) → All P (map f xs) → All (λ x. P (f x)) xs
+all_unmapped P f xs h k d l = subst P (get_or-map f xs k d (f d) l) (h k (f d) (let e = length-map xs f in omega (arith, l, e)))
+
+pub sum_by_mapped : {X Y : Type 0} (n : Y → ℕ) (f : X → Y) (xs : List X) → sum_by n (map f xs) ≡ sum_by (λ x. n (f x)) xs
+sum_by_mapped n f [] = refl
+sum_by_mapped n f (x ∷ xs) = sum_by-cons n (f x) (map f xs) ∙ ap (λ (m : ℕ). n (f x) + m) (sum_by_mapped n f xs) ∙ sym (sum_by-cons (λ y. n (f y)) x xs)
 
 -- ---- links of two lists of records, whose segments are apart
 links_append : (segments : List Seg) (front back : List Record) (links rest : List Link) → AreKeysBelow segment_of front back → AreNeighbourLinks segments front links → AreNeighbourLinks segments back rest → AreNeighbourLinks segments (front ++ back) (links ++ rest)
@@ -86,52 +107,35 @@ links_append segments (r ∷ rs) back links rest apart f b = neighbour_links_app
         let same : x.segment ≡ y.segment = sym (ap (λ (q : Record). q.segment) a) ∙ e ∙ ap (λ (q : Record). q.segment) b in
         omega (arith, ints, below, same)
 
--- ---- what was found in two parts of the shares
-pub linked_append : (g : Tiling) (segments : List Seg) (front_pixels back_pixels : List Pt) (front back : List Record) (links rest : List Link) (hot more_hot hots records more_records all : List ℕ)
-    → AreKeysBelow segment_of front back → ((p q : Pt) → Contains front_pixels p → Contains back_pixels q → p ≢ q)
-    → AreLinked g segments front_pixels front links hot records → AreLinked g segments back_pixels back rest more_hot more_records
-    → AreSums hot more_hot hots → AreSums records more_records all → AreLinked g segments (front_pixels ++ back_pixels) (front ++ back) (links ++ rest) hots all
-linked_append g segments front_pixels back_pixels front back links rest hot more_hot hots records more_records all apart pixels_apart f b s t = record {
-  those = f.those ++ b.those;
-  sorted = sorted_append (front ++ back) front back f.those b.those (IsPermutation-refl (front ++ back)) apart f.sorted b.sorted;
-  links_are = links_append segments f.those b.those links rest below f.links_are b.links_are;
-  hot_are = tile_counts_append front_pixels back_pixels pixels_apart g (λ p. p) hot more_hot hots f.hot_are b.hot_are s;
-  records_are = tile_counts_append f.those b.those differ g (λ r. r.pixel) records more_records all f.records_are b.records_are t;
-}
+-- ---- links of shares, one behind another
+module _ {S V : Type 0} (segments : List Seg) (items_of : S → List Record) (links_of : V → List Link) where
+  pub all_links : (shares : List S) (vs : List V) → AllPairs (λ s t. AreKeysBelow segment_of (items_of s) (items_of t)) shares → AllZip (λ s v. AreNeighbourLinks segments (items_of s) (links_of v)) shares vs → AreNeighbourLinks segments (flat_map items_of shares) (flat_map links_of vs)
+  all_links [] [] up zip = record { few = omega arith; count_is = λ e layer. refl }
+  all_links [] (v ∷ vs) up zip = absurd zip
+  all_links (s ∷ ss) [] up zip = absurd zip
+  all_links (s ∷ ss) (v ∷ vs) up zip = links_append segments (items_of s) (flat_map items_of ss) (links_of v) (flat_map links_of vs) (first_apart items_of segment_of s ss up) zip.0
+      (all_links ss vs (tail_pairs (λ s t. AreKeysBelow segment_of (items_of s) (items_of t)) s ss up) zip.1)
+
+pub records_differ : (records : List Record) → AllPairs (λ r q. record_order r q ≡ Less) records → AllPairs (λ r q. r ≢ q) records
+records_differ records up i j d a b e = never_itself (get_or records j d) (subst (λ (q : Record). record_order q (get_or records j d) ≡ Less) e (up i j d a b))
   where
-    below : AreKeysBelow segment_of f.those b.those
-    below r q i j = apart r q ((f.sorted.same r).0 i) ((b.sorted.same q).0 j)
+    never_itself : (r : Record) → record_order r r ≡ Less → ⊥
+    never_itself r l = let o : record_order r r ≡ Equal = tied_itself record_total r in absurd (cc)
 
-    differ : (r q : Record) → Contains f.those r → Contains b.those q → r ≢ q
-    differ r q i j e =
-        let l : pos r.segment <ℤ pos q.segment = below r q i j in
-        let same : r.segment ≡ q.segment = ap (λ (x : Record). x.segment) e in
-        omega (arith, ints, l, same)
+-- what was found in shares of records that are in order
+module _ {S V : Type 0} (g : Tiling) (segments : List Seg) (items_of : S → List Record) (links_of : V → List Link) (counts_of : V → List ℕ) (shares : List S) (vs : List V)
+    (zip : AllZip (λ s v. AreLinked g segments (items_of s) (links_of v) (counts_of v)) shares vs) where
+  counted : AllZip (λ s counts. AreTileCounts g (λ r. r.pixel) (items_of s) counts) shares (map counts_of vs)
+  counted = zip_mapped (λ s counts. AreTileCounts g (λ r. r.pixel) (items_of s) counts) counts_of shares vs (zip_weaker _ _ (λ s v h. h.counts_are) shares vs zip)
 
-pub sorted_moved : (found shares those : List Record) → IsPermutation found shares → AreSortedOnce shares those → AreSortedOnce found those
-sorted_moved found shares those moved h = record {
-  ascending = h.ascending;
-  same = λ r. (λ i. Contains-permutation shares found r (IsPermutation-sym found shares moved) ((h.same r).0 i), λ i. (h.same r).1 (Contains-permutation found shares r moved i));
-}
+  pub same_sizes : All (λ counts. length counts ≡ tile_count g) (map counts_of vs)
+  same_sizes = zip_all (λ counts. length counts ≡ tile_count g) shares (map counts_of vs) (zip_weaker _ _ (λ s counts h. h.one_each) shares (map counts_of vs) counted)
 
--- ---- parts of known shares
-module _ {S : Type 0} (items_of : S → List Record) (segments : List Seg) where
-  pub known_front : (n : ℕ) (shares : List S) → AreKnownShares items_of segments shares → AreKnownShares items_of segments (take n shares)
-  known_front n shares h = record {
-    known = λ r c. h.known r (subst (λ (rs : List Record). Contains rs r) (flat_parts items_of n shares) (Contains-append_left (flat_map items_of (take n shares)) (flat_map items_of (drop n shares)) r c));
-    ascending = ascend_front items_of segment_of n shares h.ascending;
-  }
-
-  pub known_back : (n : ℕ) (shares : List S) → AreKnownShares items_of segments shares → AreKnownShares items_of segments (drop n shares)
-  known_back n shares h = record {
-    known = λ r c. h.known r (subst (λ (rs : List Record). Contains rs r) (flat_parts items_of n shares) (Contains-append_right (flat_map items_of (take n shares)) (flat_map items_of (drop n shares)) r c));
-    ascending = ascend_back items_of segment_of n shares h.ascending;
-  }
-
-  pub known_shares : (found : List Record) (shares : List S) → ((r : Record) → Contains found r → ∥ IsRecord segments r ∥₁) → AreShares items_of segment_of found shares → AreKnownShares items_of segments shares
-  known_shares found shares known h = record {
-    known = λ r c. known r (Contains-permutation (flat_map items_of shares) found r (IsPermutation-sym found (flat_map items_of shares) h.same) c);
-    ascending = h.ascending;
+  pub all_linked : (links : List Link) (sums : List ℕ) → AllPairs (λ s t. AreKeysBelow segment_of (items_of s) (items_of t)) shares → AllPairs (λ r q. record_order r q ≡ Less) (flat_map items_of shares)
+      → links ≡ flat_map links_of vs → AreSums (tile_count g) (map counts_of vs) sums → AreLinked g segments (flat_map items_of shares) links sums
+  all_linked links sums up once are h = record {
+    links_are = subst (λ (ls : List Link). AreNeighbourLinks segments (flat_map items_of shares) ls) (sym are) (all_links segments items_of links_of shares vs up (zip_weaker _ _ (λ s v h. h.links_are) shares vs zip));
+    counts_are = sums_are g (λ r. r.pixel) items_of shares (map counts_of vs) sums (records_differ (flat_map items_of shares) once) counted h;
   }
 
 -- ---- records of segments, in order and each once
@@ -147,9 +151,3 @@ module _ (segments : List Seg) (records : List Record) (known : (r : Record) →
     links_apart i j d a b e f =
         ∥∥₁_elim (known (get_or records i d) (Contains-get_or records i d (omega arith))) (hlevel props) (λ u.
         ∥∥₁_elim (known (get_or records j d) (Contains-get_or records j d b)) (hlevel props) (λ v. pixels_differ segments (get_or records i d) (get_or records j d) u v (record_before segments (get_or records i d) (get_or records j d) u v (up i j d a b)) e f))
-
-pub records_differ : (records : List Record) → AllPairs (λ r q. record_order r q ≡ Less) records → AllPairs (λ r q. r ≢ q) records
-records_differ records up i j d a b e = never_itself (get_or records j d) (subst (λ (q : Record). record_order q (get_or records j d) ≡ Less) e (up i j d a b))
-  where
-    never_itself : (r : Record) → record_order r r ≡ Less → ⊥
-    never_itself r l = let o : record_order r r ≡ Equal = tied_itself record_total r in absurd (cc)

@@ -1,6 +1,6 @@
 -- Records that are sorted: their parts, and the links of these behind one another.
 use Rattle.std.proofs.Common.{◌≡◌, ◌≢◌, ℕ, suc, ◌+◌, ◌-◌, ◌<◌, List, [], ◌∷◌, ◌++◌, Bool, cond, refl, sym, ◌∙◌, arith, subst, length, get_or, ⊎_elim}
-use Rattle.std.specs.Prelude.{All, AllPairs, Contains, count_by}
+use Rattle.std.specs.Prelude.{AllPairs, Contains, count_by}
 use Rattle.std.proofs.lemmas.Option.{slice_get-get_or}
 use Rattle.geom.proofs.Lists.{some_same}
 use Rattle.std.proofs.lemmas.Bool.Decides.{eqb_tells}
@@ -28,16 +28,6 @@ pairs_back {X = X} R front back h i j d l k =
     let a = get_or-append-add front back i d in
     let b = get_or-append-add front back j d in
     subst (λ (p : X × X). R p.0 p.1) (λ t. (a t, b t)) (h (length front + i) (length front + j) d (omega arith) (omega arith))
-
-pub all_front : {X : Type 0} (P : X → Type 0) (front back : List X) → All P (front ++ back) → All P front
-all_front P front back h k d l =
-    let n = length-append front back in
-    subst P (get_or_append_left front back d k l) (h k d (omega arith))
-
-pub all_back : {X : Type 0} (P : X → Type 0) (front back : List X) → All P (front ++ back) → All P back
-all_back P front back h k d l =
-    let n = length-append front back in
-    subst P (get_or-append-add front back k d) (h (length front + k) d (omega arith))
 
 pub pairs_across : {X : Type 0} (R : X → X → Type 0) (front back : List X) → AllPairs R (front ++ back) → (x y : X) → Contains front x → Contains back y → R x y
 pairs_across {X = X} R front back h x y (i, l, e) (j, k, f) =

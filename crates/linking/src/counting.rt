@@ -1,24 +1,25 @@
 //! How often each edge is a link, counted by one hand or by several.
 //!
-//! 1. Several hands share the links by the columns of their first ends (`shares_by_hands`).
-//! 2. Each hand sorts the links of its share and counts them, in a thread of its own (`counts`).
-//! 3. The counts of one share are put behind those of the other (`count_both`).
+//! 1. Each hand takes the links of its share, by the columns of their first ends, from all lists, and sorts them
+//!    (`sorted_in_parts`).
+//! 2. Each hand counts the links of its share (`counted_in_parts`).
+//! 3. The counts of the shares are put behind one another (`counts_in_parts`).
 
-ghost use Rattle.std.specs.Prelude.{◌≡◌, ◌+◌, ◌<◌, ◌≤◌, ◌^◌, ◌++◌, ◌∷◌, [], AllPairs, IfOk, IsTrue, OnOk, flat_map, length, if◌then◌else◌};
+ghost use Rattle.std.specs.Prelude.{◌≡◌, ◌+◌, ◌<◌, ◌^◌, ◌++◌, ◌∷◌, [], All, AllPairs, IfOk, IsTrue, OnOk, Some, flat_map, if◌then◌else◌, length, slice_get};
 ghost use Rattle.std.specs.List.Sorted.{IsPermutation, IsSorted};
-ghost use Rattle.std.specs.Thread.{IsSend, IsSync};
 ghost use Rattle.geom.specs.declared.segment.Source.{Source};
 ghost use Rattle.geom.specs.Segments.{same_source};
 ghost use Rattle.linking.specs.Links.{AreCounts, AreInOrder};
 ghost use Rattle.linking.specs.Orders.{link_order};
-ghost use Rattle.linking.specs.Shares.{AreKeysBelow, column_of};
+ghost use Rattle.linking.specs.Shares.{AreKeysBelow, AreShares, column_of};
+ghost use Rattle.linking.specs.Spans.{within};
 
 use crate::by_range::sorted;
 use crate::link::Link;
-use crate::neighbours::joined;
-use crate::shares::{item_count, only_of, shares_by_hands};
+use crate::shares::{places_of, shares_of, taken};
+use crate::span::Share;
 use geom::{Counted, Edge, NoMemory, Source};
-use hands::join;
+use hands::{joined, map_parts};
 use std::alloc::Allocator;
 use std::thread::Threads;
 
@@ -117,56 +118,54 @@ pub(crate) fn counts<A: Allocator>(
     count_alone(alloc, room, &links)
 }
 
-/// As `counts`, of the links of shares, each by a hand of its own. The first share has room for all, so that the others are put
-/// behind it where it stands.
-#[cycle(parts)]
-fn count_parts<R: Threads + Sync, A: Allocator + Copy + Send + Sync>(
+/// The links of lists in at most so many shares, each in order.
+fn sorted_in_parts<R: Threads + Sync, A: Allocator + Copy + Send + Sync>(
     rt: &R,
     alloc: A,
-    room: usize,
-    mut shares: Vec<Vec<Link, A>, A>,
-) -> Result<Vec<Counted, A>, NoMemory>
-    requires short { length (flat_map (λ s. s.items) shares.items) < 2 ^ 32 }
-    requires ascending { AllPairs (λ s t. AreKeysBelow column_of s.items t.items) shares.items }
-    ensures { IfOk result (λ v. AreCounts (flat_map (λ s. s.items) shares.items) v.items) }
+    parts: usize,
+    lists: &[Vec<Link, A>],
+) -> Result<Vec<Vec<Link, A>, A>, NoMemory>
+    ensures shares { IfOk result (λ v. AreShares (λ s. s.items) column_of (flat_map (λ l. l.items) lists.now) v.items) }
+    ensures sorted { IfOk result (λ v. All (λ s. IsSorted link_order s.items) v.items) }
 {
-    if shares.len() < 2 {
-        return counts(alloc, room, only_of(alloc, shares));
-    }
-    let rest = shares.split_off(shares.len() / 2)?;
-    count_both(rt, alloc, room, shares, rest)
+    let shares = shares_of::<Link, _, _>(alloc, parts, lists)?;
+    map_parts(
+        rt,
+        alloc,
+        &shares,
+        |share: Share| -> Result<Vec<Link, A>, NoMemory>
+            ensures { IfOk result (λ v. IsPermutation (within column_of share.span (flat_map (λ l. l.items) lists.entry.now)) v.items × IsSorted link_order v.items) }
+        {
+            let links = taken(alloc, lists, share)?;
+            Ok(links_in_order(links))
+        },
+    )
 }
 
-/// Counts in two parts of the shares at once.
-#[cycle(parts)]
-fn count_both<R: Threads + Sync, A: Allocator + Copy + Send + Sync>(
+/// The counts of shares whose links are in order, each by a hand of its own.
+fn counted_in_parts<R: Threads + Sync, A: Allocator + Copy + Send + Sync>(
     rt: &R,
     alloc: A,
-    room: usize,
-    shares: Vec<Vec<Link, A>, A>,
-    rest: Vec<Vec<Link, A>, A>,
-) -> Result<Vec<Counted, A>, NoMemory>
-    requires some { (0 < length shares.items) × (0 < length rest.items) }
-    requires short { (length (flat_map (λ s. s.items) shares.items) < 2 ^ 32) × (length (flat_map (λ s. s.items) rest.items) < 2 ^ 32) }
-    requires ascending { AllPairs (λ s t. AreKeysBelow column_of s.items t.items) shares.items × AllPairs (λ s t. AreKeysBelow column_of s.items t.items) rest.items }
-    requires apart { AreKeysBelow column_of (flat_map (λ s. s.items) shares.items) (flat_map (λ s. s.items) rest.items) }
-    ensures { IfOk result (λ v. AreCounts (flat_map (λ s. s.items) shares.items ++ flat_map (λ s. s.items) rest.items) v.items) }
+    shares: &[Vec<Link, A>],
+) -> Result<Vec<Vec<Counted, A>, A>, NoMemory>
+    requires short { length (flat_map (λ s. s.items) shares.now) < 2 ^ 32 }
+    requires sorted { All (λ s. IsSorted link_order s.items) shares.now }
+    requires ascending { AllPairs (λ s t. AreKeysBelow column_of s.items t.items) shares.now }
+    ensures { IfOk result (λ v. AreCounts (flat_map (λ s. s.items) shares.now) (flat_map (λ l. l.items) v.items)) }
 {
-    let behind = room_for(item_count(&rest));
-    let hands = shares.len().saturating_add(rest.len());
-    let (counted, others) = join(
+    let places = places_of(alloc, shares.len())?;
+    map_parts(
         rt,
-        hands,
-        move || -> Result<Vec<Counted, A>, NoMemory>
-            requires { IsSync R.row × IsSend A.row × IsSync A.row × (length (flat_map (λ s. s.items) shares.items) < 2 ^ 32) × AllPairs (λ s t. AreKeysBelow column_of s.items t.items) shares.items }
-            ensures { IfOk result (λ v. AreCounts (flat_map (λ s. s.items) shares.items) v.items) }
-        { count_parts(rt, alloc, room, shares) },
-        move || -> Result<Vec<Counted, A>, NoMemory>
-            requires { IsSync R.row × IsSend A.row × IsSync A.row × (length (flat_map (λ s. s.items) rest.items) < 2 ^ 32) × AllPairs (λ s t. AreKeysBelow column_of s.items t.items) rest.items }
-            ensures { IfOk result (λ v. AreCounts (flat_map (λ s. s.items) rest.items) v.items) }
-        { count_parts(rt, alloc, behind, rest) },
-    );
-    joined(counted?, others?)
+        alloc,
+        &places,
+        |place: usize| -> Result<Vec<Counted, A>, NoMemory>
+            requires { (place < length shares.now) × (length (flat_map (λ s. s.items) shares.now) < 2 ^ 32) × All (λ s. IsSorted link_order s.items) shares.now }
+            ensures { IfOk result (λ v. (s : _) → slice_get shares.entry.now place ≡ Some s → AreCounts s.items v.items) }
+        {
+            let links = &shares[place];
+            count_alone(alloc, room_for(links.len()), links)
+        },
+    )
 }
 
 /// Whether a `u32` counts the links of all lists.
@@ -183,12 +182,12 @@ fn are_few<A: Allocator>(lists: &[Vec<Link, A>]) -> bool
     true
 }
 
-/// Each edge among the links of lists, ascending, with its counts, by so many hands. More links than a `u32` counts are refused
-/// as want of memory.
-pub fn counts_by_hands<R: Threads + Sync, A: Allocator + Copy + Send + Sync>(
+/// Each edge among the links of lists, ascending, with its counts, by at most so many parts of the columns. More links than a
+/// `u32` counts are refused as want of memory.
+pub fn counts_in_parts<R: Threads + Sync, A: Allocator + Copy + Send + Sync>(
     rt: &R,
     alloc: A,
-    hands: usize,
+    parts: usize,
     lists: Vec<Vec<Link, A>, A>,
 ) -> Result<Vec<Counted, A>, NoMemory>
     ensures short { IfOk result (λ v. length (flat_map (λ l. l.items) lists.items) < 2 ^ 32) }
@@ -197,8 +196,9 @@ pub fn counts_by_hands<R: Threads + Sync, A: Allocator + Copy + Send + Sync>(
     if !are_few(&lists) {
         return Err(NoMemory);
     }
-    let shares = shares_by_hands(rt, alloc, hands, &lists)?;
+    let shares = sorted_in_parts(rt, alloc, parts, &lists)?;
     drop(lists);
-    let room = room_for(item_count(&shares));
-    count_parts(rt, alloc, room, shares)
+    let counted = counted_in_parts(rt, alloc, &shares)?;
+    drop(shares);
+    Ok(joined(alloc, counted)?)
 }

@@ -15,9 +15,9 @@ mod span;
 mod tile_piece;
 
 pub use by_range::{Keyed, sorted};
-pub use counting::counts_by_hands;
+pub use counting::counts_in_parts;
 pub use link::Link;
-pub use made::{gather_made, gather_made_by_hands, rounded_by_records};
+pub use made::{gather_made, gather_made_in_parts, rounded_by_records};
 pub use noded::{Noded, settled};
 pub use rounded::{Rounded, TileNumbers};
 pub use tile_piece::{TilePiece, Tiled};

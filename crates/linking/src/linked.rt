@@ -1,38 +1,43 @@
-//! What hands find in their shares of the records: links, and how many hot pixels and records each tile has.
+//! What hands find in their shares of the records: links, and how many records each tile has.
 //!
-//! 1. The shares and the hot pixels are halved until one share is left, each half in a thread of its own (`link_parts`).
-//! 2. The records of a share are sorted, and each is put once; they are counted by their tiles, and neighbours are linked
-//!    (`link_share`).
-//! 3. The lists of links stand in the order of the shares, and the counts of each tile are added (`both_linked`).
+//! 1. Each hand takes the records of its share from all pieces, sorts them, and puts each once (`ordered_in_parts`).
+//! 2. Each hand counts the records of its share by their tiles, and links neighbours (`link_share`).
+//! 3. The lists of links stand in the order of the shares, and the counts of each tile are added (`link_in_parts`).
 
-ghost use Rattle.std.specs.Prelude.{◌≡◌, ◌≢◌, ◌<◌, ◌≤◌, ◌++◌, All, AllPairs, Contains, IfOk, flat_map, length};
-ghost use Rattle.std.specs.Thread.{IsSend, IsSync};
-ghost use Rattle.geom.specs.declared.point.Pt.{Pt};
-ghost use Rattle.grid.specs.Tiles.{HasTile};
+ghost use Rattle.std.specs.Prelude.{◌≡◌, ◌<◌, AllPairs, Contains, IfOk, Some, flat_map, length, map, slice_get};
+ghost use Rattle.std.specs.declared.cmp.Ordering.TheVariants.{Less};
 ghost use Rattle.routing.specs.Pieces.{IsRecord};
 ghost use Rattle.routing.specs.declared.record.Record.{Record};
 ghost use Rattle.linking.specs.Gathered.{HaveTiles};
-ghost use Rattle.linking.specs.Orders.{AreSortedOnce};
-ghost use Rattle.linking.specs.Shares.{AreKeysBelow, AreKnownShares, AreLinked, AreSums, segment_of};
+ghost use Rattle.linking.specs.Orders.{AreSortedOnce, record_order};
+ghost use Rattle.linking.specs.Shares.{AreKeysBelow, AreLinked, AreOrdered, segment_of};
+ghost use Rattle.linking.specs.Spans.{within};
 
 use crate::by_range::sorted;
 use crate::link::Link;
 use crate::neighbours::neighbour_links;
 use crate::numbers::{count_by_tile, summed};
-use crate::shares::{followed, only_of};
-use geom::{NoMemory, Pt, Seg};
+use crate::shares::{places_of, shares_of, taken};
+use crate::span::Share;
+use crate::tile_piece::{TilePiece, Tiled};
+use geom::{NoMemory, Seg};
 use grid::Grid;
-use hands::join;
+use hands::map_parts;
 use routing::Record;
 use std::alloc::Allocator;
 use std::thread::Threads;
 
-/// The links of shares of the records, in a list for each share, and how many of some hot pixels and how many of the records each
-/// tile has.
+/// The links of a share of the records, and how many of the records each tile has.
 #[derive(Drop)]
 pub(crate) struct Linked<A: Allocator> {
+    links: Vec<Link, A>,
+    records: Vec<u32, A>,
+}
+
+/// The links of all records, in a list for each share, and how many of the records each tile has.
+#[derive(Drop)]
+pub(crate) struct AllLinked<A: Allocator> {
     pub links: Vec<Vec<Link, A>, A>,
-    pub hot: Vec<u32, A>,
     pub records: Vec<u32, A>,
 }
 
@@ -45,115 +50,96 @@ pub(crate) fn in_order<A: Allocator>(records: Vec<Record, A>) -> Vec<Record, A>
     records
 }
 
+/// The records of pieces in at most so many shares, each in order.
+pub(crate) fn ordered_in_parts<
+    T: Tiled + Sync,
+    A: Allocator + Copy + Send + Sync,
+    R: Threads + Sync,
+>(
+    rt: &R,
+    alloc: A,
+    parts: usize,
+    pieces: &[TilePiece<T, A>],
+) -> Result<Vec<Vec<Record, A>, A>, NoMemory>
+    ensures { IfOk result (λ v. AreOrdered (λ s. s.items) (flat_map (λ p. p.records.items) pieces.now) v.items) }
+{
+    let shares = shares_of::<Record, _, _>(alloc, parts, pieces)?;
+    map_parts(
+        rt,
+        alloc,
+        &shares,
+        |share: Share| -> Result<Vec<Record, A>, NoMemory>
+            ensures { IfOk result (λ v. AreSortedOnce (within segment_of share.span (flat_map (λ p. p.records.items) pieces.entry.now)) v.items) }
+        {
+            let records = taken(alloc, pieces, share)?;
+            Ok(in_order(records))
+        },
+    )
+}
+
 /// What is found in one share. More records than a `u32` counts are refused as want of memory.
 fn link_share<A: Allocator + Copy>(
     alloc: A,
     grid: &Grid,
     segments: &[Seg],
-    pixels: &[Pt],
-    share: Vec<Record, A>,
+    records: &[Record],
 ) -> Result<Linked<A>, NoMemory>
     requires covered { HaveTiles grid.now segments.now }
-    requires known { (r : Record) → Contains share.items r → ∥ IsRecord segments.now r ∥₁ }
-    requires pixels_in { All (λ p. HasTile grid.now p) pixels.now }
-    requires pixels_once { AllPairs (λ p q. p ≢ q) pixels.now }
-    ensures { IfOk result (λ f. AreLinked grid.now segments.now pixels.now share.items (flat_map (λ l. l.items) f.links.items) f.hot.items f.records.items) }
+    requires known { (r : Record) → Contains records.now r → ∥ IsRecord segments.now r ∥₁ }
+    requires ascending { AllPairs (λ r q. record_order r q ≡ Less) records.now }
+    ensures { IfOk result (λ f. AreLinked grid.now segments.now records.now f.links.items f.records.items) }
 {
-    let records = in_order(share);
     if records.len() > u32::MAX as usize {
         return Err(NoMemory);
     }
-    let hot = count_by_tile(alloc, grid, pixels)?;
-    let found = count_by_tile(alloc, grid, &records)?;
-    let list = neighbour_links(alloc, records.len(), segments, &records)?;
-    let mut links = Vec::new(alloc);
-    links.push(list)?;
-    Ok(Linked {
-        links,
-        hot,
-        records: found,
-    })
+    let links = neighbour_links(alloc, records.len(), segments, records)?;
+    let records = count_by_tile(alloc, grid, records)?;
+    Ok(Linked { links, records })
 }
 
-/// What was found in two parts of the shares.
-fn both_linked<A: Allocator + Copy>(
+/// The links of shares, and the counts of these, apart.
+fn parted<A: Allocator + Copy>(
     alloc: A,
-    front: Linked<A>,
-    back: Linked<A>,
-) -> Result<Linked<A>, NoMemory>
-    requires hot { length front.hot.items ≡ length back.hot.items }
-    requires records { length front.records.items ≡ length back.records.items }
-    ensures links { IfOk result (λ f. f.links.items ≡ front.links.items ++ back.links.items) }
-    ensures hot { IfOk result (λ f. AreSums front.hot.items back.hot.items f.hot.items) }
-    ensures records { IfOk result (λ f. AreSums front.records.items back.records.items f.records.items) }
+    found: Vec<Linked<A>, A>,
+) -> Result<(Vec<Vec<Link, A>, A>, Vec<Vec<u32, A>, A>), NoMemory>
+    ensures links { IfOk result (λ r. flat_map (λ l. l.items) r.0.items ≡ flat_map (λ f. f.links.items) found.items) }
+    ensures records { IfOk result (λ r. map (λ l. l.items) r.1.items ≡ map (λ f. f.records.items) found.items) }
 {
-    let hot = summed(alloc, &front.hot, &back.hot)?;
-    let records = summed(alloc, &front.records, &back.records)?;
-    let links = followed(front.links, back.links)?;
-    Ok(Linked {
-        links,
-        hot,
-        records,
-    })
-}
-
-/// What is found in shares, each by a hand of its own.
-#[cycle(parts)]
-pub(crate) fn link_parts<R: Threads + Sync, A: Allocator + Copy + Send + Sync>(
-    rt: &R,
-    alloc: A,
-    grid: &Grid,
-    segments: &[Seg],
-    pixels: &[Pt],
-    mut shares: Vec<Vec<Record, A>, A>,
-) -> Result<Linked<A>, NoMemory>
-    requires covered { HaveTiles grid.now segments.now }
-    requires known { AreKnownShares (λ s. s.items) segments.now shares.items }
-    requires pixels_in { All (λ p. HasTile grid.now p) pixels.now }
-    requires pixels_once { AllPairs (λ p q. p ≢ q) pixels.now }
-    ensures { IfOk result (λ f. AreLinked grid.now segments.now pixels.now (flat_map (λ s. s.items) shares.items) (flat_map (λ l. l.items) f.links.items) f.hot.items f.records.items) }
-{
-    if shares.len() < 2 {
-        return link_share(alloc, grid, segments, pixels, only_of(alloc, shares));
+    let mut lists = Vec::with_capacity(alloc, found.len())?;
+    let mut counts = Vec::with_capacity(alloc, found.len())?;
+    for linked in found {
+        let Linked { links, records } = linked;
+        lists.push(links)?;
+        counts.push(records)?;
     }
-    let rest = shares.split_off(shares.len() / 2)?;
-    let (front, back) = pixels.split_at(pixels.len() / 2);
-    link_both(rt, alloc, grid, segments, front, back, shares, rest)
+    Ok((lists, counts))
 }
 
-/// Finds what two parts of the shares have at once.
-#[cycle(parts)]
-fn link_both<R: Threads + Sync, A: Allocator + Copy + Send + Sync>(
+/// What is found in shares that ascend by segments, each by a hand of its own.
+pub(crate) fn link_in_parts<A: Allocator + Copy + Send + Sync, R: Threads + Sync>(
     rt: &R,
     alloc: A,
     grid: &Grid,
     segments: &[Seg],
-    front: &[Pt],
-    back: &[Pt],
-    shares: Vec<Vec<Record, A>, A>,
-    rest: Vec<Vec<Record, A>, A>,
-) -> Result<Linked<A>, NoMemory>
-    requires some { (0 < length shares.items) × (0 < length rest.items) }
+    shares: &[Vec<Record, A>],
+) -> Result<AllLinked<A>, NoMemory>
     requires covered { HaveTiles grid.now segments.now }
-    requires known { AreKnownShares (λ s. s.items) segments.now shares.items × AreKnownShares (λ s. s.items) segments.now rest.items }
-    requires apart { AreKeysBelow segment_of (flat_map (λ s. s.items) shares.items) (flat_map (λ s. s.items) rest.items) }
-    requires pixels_in { All (λ p. HasTile grid.now p) front.now × All (λ p. HasTile grid.now p) back.now }
-    requires pixels_once { AllPairs (λ p q. p ≢ q) front.now × AllPairs (λ p q. p ≢ q) back.now }
-    requires pixels_apart { (p q : Pt) → Contains front.now p → Contains back.now q → p ≢ q }
-    ensures { IfOk result (λ f. AreLinked grid.now segments.now (front.now ++ back.now) (flat_map (λ s. s.items) shares.items ++ flat_map (λ s. s.items) rest.items) (flat_map (λ l. l.items) f.links.items) f.hot.items f.records.items) }
+    requires known { (r : Record) → Contains (flat_map (λ s. s.items) shares.now) r → ∥ IsRecord segments.now r ∥₁ }
+    requires once { AllPairs (λ r q. record_order r q ≡ Less) (flat_map (λ s. s.items) shares.now) }
+    requires ascending { AllPairs (λ s t. AreKeysBelow segment_of s.items t.items) shares.now }
+    ensures { IfOk result (λ f. AreLinked grid.now segments.now (flat_map (λ s. s.items) shares.now) (flat_map (λ l. l.items) f.links.items) f.records.items) }
 {
-    let hands = shares.len().saturating_add(rest.len());
-    let (linked, others) = join(
+    let places = places_of(alloc, shares.len())?;
+    let found = map_parts(
         rt,
-        hands,
-        move || -> Result<Linked<A>, NoMemory>
-            requires { IsSync R.row × IsSend A.row × IsSync A.row × HaveTiles grid.now segments.now × AreKnownShares (λ s. s.items) segments.now shares.items × All (λ p. HasTile grid.now p) front.now × AllPairs (λ p q. p ≢ q) front.now }
-            ensures { IfOk result (λ f. AreLinked grid.entry.now segments.entry.now front.entry.now (flat_map (λ s. s.items) shares.items) (flat_map (λ l. l.items) f.links.items) f.hot.items f.records.items) }
-        { link_parts(rt, alloc, grid, segments, front, shares) },
-        move || -> Result<Linked<A>, NoMemory>
-            requires { IsSync R.row × IsSend A.row × IsSync A.row × HaveTiles grid.now segments.now × AreKnownShares (λ s. s.items) segments.now rest.items × All (λ p. HasTile grid.now p) back.now × AllPairs (λ p q. p ≢ q) back.now }
-            ensures { IfOk result (λ f. AreLinked grid.entry.now segments.entry.now back.entry.now (flat_map (λ s. s.items) rest.items) (flat_map (λ l. l.items) f.links.items) f.hot.items f.records.items) }
-        { link_parts(rt, alloc, grid, segments, back, rest) },
-    );
-    both_linked(alloc, linked?, others?)
+        alloc,
+        &places,
+        |place: usize| -> Result<Linked<A>, NoMemory>
+            requires { (place < length shares.now) × HaveTiles grid.now segments.now × ((r : Record) → Contains (flat_map (λ s. s.items) shares.now) r → ∥ IsRecord segments.now r ∥₁) × AllPairs (λ r q. record_order r q ≡ Less) (flat_map (λ s. s.items) shares.now) }
+            ensures { IfOk result (λ f. (s : _) → slice_get shares.entry.now place ≡ Some s → AreLinked grid.entry.now segments.entry.now s.items f.links.items f.records.items) }
+        { link_share(alloc, grid, segments, &shares[place]) },
+    )?;
+    let (links, counts) = parted(alloc, found)?;
+    let records = summed(alloc, grid.tiles() as usize, &counts)?;
+    Ok(AllLinked { links, records })
 }

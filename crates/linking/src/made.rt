@@ -10,12 +10,12 @@ ghost use Rattle.linking.specs.Gathered.{AreTileNumbers, HaveTiles};
 ghost use Rattle.linking.specs.Links.{HasRecords};
 ghost use Rattle.tile_book.specs.Books.{StandInOrder};
 
-use crate::counting::{counts, counts_by_hands, room_for};
-use crate::linked::{in_order, link_parts};
+use crate::counting::{counts, counts_in_parts, room_for};
+use crate::linked::{in_order, link_in_parts, ordered_in_parts};
 use crate::neighbours::links;
-use crate::numbers::{numbers_of, paired};
+use crate::numbers::{hot_in_parts, numbers_of, paired};
 use crate::rounded::{Rounded, TileNumbers};
-use crate::shares::{item_count, shares_by_hands};
+use crate::shares::item_count;
 use crate::tile_piece::{TilePiece, Tiled};
 use geom::{Counted, NoMemory, Pt, Seg};
 use grid::Grid;
@@ -83,11 +83,11 @@ pub fn gather_made<T: Tiled, A: Allocator + Copy>(
     Ok(rounded_of(segments, edges, tiles, remade))
 }
 
-/// As `gather_made`, by so many hands, each in a thread of its own.
-pub fn gather_made_by_hands<T: Tiled + Sync, A: Allocator + Copy + Send + Sync, R: Threads + Sync>(
+/// As `gather_made`, in at most so many parts, each in a thread of its own.
+pub fn gather_made_in_parts<T: Tiled + Sync, A: Allocator + Copy + Send + Sync, R: Threads + Sync>(
     rt: &R,
     alloc: A,
-    hands: usize,
+    parts: usize,
     pieces: Vec<TilePiece<T, A>, A>,
     remade: u32,
     cells: &Grid,
@@ -106,16 +106,15 @@ pub fn gather_made_by_hands<T: Tiled + Sync, A: Allocator + Copy + Send + Sync, 
     ensures tiles { IfOk result (λ r. AreTileNumbers grid.now segments.now (tile_count grid.now) r.tiles.items) }
     ensures remade { IfOk result (λ r. r.remade ≡ remade) }
 {
-    if hands < 2 {
-        return gather_made(alloc, pieces, remade, cells, grid, segments);
-    }
-    let shares = shares_by_hands(rt, alloc, hands, &pieces)?;
+    let shares = ordered_in_parts(rt, alloc, parts, &pieces)?;
     let pixels = pixels_of(alloc, &pieces)?;
     drop(pieces);
-    let found = link_parts(rt, alloc, grid, segments, &pixels, shares)?;
+    let hot = hot_in_parts(rt, alloc, parts, grid, &pixels)?;
     drop(pixels);
-    let tiles = paired(alloc, &found.hot, &found.records)?;
-    let edges = counts_by_hands(rt, alloc, hands, found.links)?;
+    let found = link_in_parts(rt, alloc, grid, segments, &shares)?;
+    drop(shares);
+    let tiles = paired(alloc, &hot, &found.records)?;
+    let edges = counts_in_parts(rt, alloc, parts, found.links)?;
     Ok(rounded_of(segments, edges, tiles, remade))
 }
 

@@ -1,6 +1,6 @@
 //! Finding the links of sorted records, between neighbours of one segment.
 
-ghost use Rattle.std.specs.Prelude.{◌≡◌, ◌≢◌, ◌<◌, ◌≤◌, ◌^◌, ◌⊎◌, ◌++◌, All, IfOk, length};
+ghost use Rattle.std.specs.Prelude.{◌≡◌, ◌≢◌, ◌<◌, ◌^◌, ◌⊎◌, All, IfOk, length};
 ghost use Rattle.linking.specs.Links.{AreApart, AreLinks, AreNeighbourLinks, AreRecords};
 
 use crate::link::Link;
@@ -43,17 +43,6 @@ pub(crate) fn neighbour_links<A: Allocator>(
         }
     }
     Ok(list)
-}
-
-/// A list with another behind it.
-pub(crate) fn joined<T: Copy, A: Allocator>(
-    mut front: Vec<T, A>,
-    back: Vec<T, A>,
-) -> Result<Vec<T, A>, NoMemory>
-    ensures { IfOk result (λ all. all.items ≡ front.items ++ back.items) }
-{
-    front.extend_from_slice(&back)?;
-    Ok(front)
 }
 
 /// The links of the records of all routes. More than a `u32` counts are refused as want of memory.

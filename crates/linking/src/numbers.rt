@@ -1,19 +1,22 @@
 //! How many hot pixels and how many records each tile of a grid has, wherever they were found.
 //!
 //! 1. The hot pixels are counted in the tiles that own them, and so are the records, by their pixels (`count_by_tile`).
-//! 2. Both counts of a tile are its numbers (`paired`).
+//! 2. Where several hands count, what they found is added tile by tile (`summed`).
+//! 3. Both counts of a tile are its numbers (`paired`).
 
-ghost use Rattle.std.specs.Prelude.{◌≡◌, ◌≢◌, All, AllPairs, IfOk, length};
+ghost use Rattle.std.specs.Prelude.{◌≡◌, ◌≢◌, ◌<◌, ◌≤◌, All, AllPairs, IfOk, get_or, length, map, slice_range, sum_by};
 ghost use Rattle.geom.specs.declared.point.Pt.{Pt};
-ghost use Rattle.grid.specs.Tiles.{HasTile, tile_count};
+ghost use Rattle.grid.specs.Tiles.{HasTile};
 ghost use Rattle.linking.specs.Numbers.{AreNumbersOf, ArePaired, AreTileCounts, MayCount};
 ghost use Rattle.linking.specs.Shares.{AreSums};
 
 use crate::rounded::TileNumbers;
 use geom::{NoMemory, Pt};
 use grid::Grid;
+use hands::{Part, even_parts, map_parts};
 use routing::Record;
 use std::alloc::Allocator;
+use std::thread::Threads;
 
 /// What has a pixel.
 pub(crate) trait AtPixel {
@@ -61,23 +64,61 @@ pub(crate) fn count_by_tile<X: AtPixel, A: Allocator>(
     Ok(counts)
 }
 
-/// The sum of two counts of each tile. More than a `u32` counts are refused as want of memory.
-pub(crate) fn summed<A: Allocator>(
-    alloc: A,
-    counts: &[u32],
-    more: &[u32],
-) -> Result<Vec<u32, A>, NoMemory>
-    requires { length counts.now ≡ length more.now }
-    ensures { IfOk result (λ v. AreSums counts.now more.now v.items) }
+/// The sum of the counts that lists have of a tile. More than a `u32` counts are refused as want of memory.
+fn sum_at<A: Allocator>(lists: &[Vec<u32, A>], tile: usize) -> Result<u32, NoMemory>
+    requires { All (λ l. tile < length l.items) lists.now }
+    ensures { IfOk result (λ n. n ≡ sum_by (λ l. get_or l.items tile 0) lists.now) }
 {
-    let mut sums = Vec::with_capacity(alloc, counts.len())?;
-    for tile in 0..counts.len() {
-        let Some(sum) = counts[tile].checked_add(more[tile]) else {
+    let mut sum = 0u32;
+    for list in lists {
+        let Some(more) = sum.checked_add(list[tile]) else {
             return Err(NoMemory);
         };
-        sums.push(sum)?;
+        sum = more;
+    }
+    Ok(sum)
+}
+
+/// The sums of the counts that lists have of so many tiles. More than a `u32` counts are refused as want of memory.
+pub(crate) fn summed<A: Allocator + Copy>(
+    alloc: A,
+    tiles: usize,
+    lists: &[Vec<u32, A>],
+) -> Result<Vec<u32, A>, NoMemory>
+    requires { All (λ l. length l.items ≡ tiles) lists.now }
+    ensures { IfOk result (λ v. AreSums tiles (map (λ l. l.items) lists.now) v.items) }
+{
+    let mut sums = Vec::with_capacity(alloc, tiles)?;
+    for tile in 0..tiles {
+        sums.push(sum_at(lists, tile)?)?;
     }
     Ok(sums)
+}
+
+/// How many of the hot pixels each tile has, counted in so many even parts. More than a `u32` counts are refused as want of
+/// memory.
+pub(crate) fn hot_in_parts<A: Allocator + Copy + Send + Sync, R: Threads + Sync>(
+    rt: &R,
+    alloc: A,
+    parts: usize,
+    grid: &Grid,
+    pixels: &[Pt],
+) -> Result<Vec<u32, A>, NoMemory>
+    requires tiles { All (λ p. HasTile grid.now p) pixels.now }
+    requires once { AllPairs (λ p q. p ≢ q) pixels.now }
+    ensures { IfOk result (λ v. AreTileCounts grid.now (λ p. p) pixels.now v.items) }
+{
+    let cuts = even_parts(alloc, pixels.len(), parts)?;
+    let lists = map_parts(
+        rt,
+        alloc,
+        &cuts,
+        |part: Part| -> Result<Vec<u32, A>, NoMemory>
+            requires { (part.from ≤ part.past) × (part.past ≤ length pixels.now) × All (λ p. HasTile grid.now p) pixels.now × AllPairs (λ p q. p ≢ q) pixels.now }
+            ensures { IfOk result (λ v. AreTileCounts grid.entry.now (λ p. p) (slice_range pixels.entry.now part.from part.past) v.items) }
+        { count_by_tile(alloc, grid, &pixels[part.from..part.past]) },
+    )?;
+    summed(alloc, grid.tiles() as usize, &lists)
 }
 
 /// Two counts of each tile.
