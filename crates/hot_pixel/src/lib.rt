@@ -1,4 +1,11 @@
-//! The hot pixels that a tile owns.
+//! Hot pixels: the lines of segments and a rectangle in, the pixels out that an end or a crossing makes hot.
+//!
+//! 1. A rectangle is cut in two, and each half goes on with the lines that pass it (`halving`).
+//! 2. It is left where its lines run through it in order (`bundle`); where all but a few do, these are crossed with all (`beside`).
+//! 3. A small one has its ends and its crossings found (`leaf`).
+//!
+//! The promise: exactly the hot pixels of the rectangle. The definitions are `specs/Halving` and `specs/Lines`; `hot_in` and `sweep` do the
+//! same for a whole tile, by one pass over its lines.
 #![tactic(auto)]
 
 mod beside;

@@ -1,4 +1,11 @@
-//! The rounded edges of two layers, linked and counted from the records of the routes in all cells.
+//! Rounded edges: the pieces of all cells in, the edges of the routes out, with their counts in both layers.
+//!
+//! 1. Records are shared by spans of segments (`span`, `shares`), sorted, and neighbours are linked (`linked`).
+//! 2. Links are shared by spans of columns, sorted and counted (`counting`).
+//! 3. The hot pixels and records of each tile are counted (`numbers`).
+//!
+//! The promise: exactly the definition's rounded edges, ascending, noded, and with even degrees where the segments close. The definitions are
+//! `specs/Gathered` and `specs/Links`.
 #![tactic(auto)]
 
 mod by_range;

@@ -1,4 +1,10 @@
-//! Which pixels a segment meets, its route through the hot ones, and what the routes have in one tile.
+//! Routes: segments and a cell in, the hot pixels that the cell owns out, and which segments meet which of them.
+//!
+//! 1. The segments are cut where they overlap on one carrier (`cutting`), and sorted by their lines (`by_line`).
+//! 2. The cell is halved until few lines are left (`halved`).
+//! 3. In a leaf each line is tested on each hot pixel, and its segments get records (`met`, `record`).
+//!
+//! The promise: exactly the pairs of a segment and an owned hot pixel that it meets. The definitions are in `specs/Pieces`.
 #![tactic(auto)]
 
 mod by_line;
