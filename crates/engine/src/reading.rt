@@ -16,7 +16,7 @@ use geom::{Layer, NoMemory, Seg, Source};
 use hands::join;
 use std::alloc::Allocator;
 use std::thread::Threads;
-use wkt::{OutlinedLayer, read_layer, read_outlined, read_outlined_by_hands};
+use wkt::{OutlinedLayer, read_layer, read_outlined, read_outlined_in_parts};
 
 /// A hand for either text.
 const BOTH: usize = 2;
@@ -37,7 +37,7 @@ fn reading_by_hands<A: Allocator + Copy + Send + Sync, R: Threads + Sync>(
 ) -> Reading<A>
     ensures { IsReading text.now result }
 {
-    read_outlined_by_hands(rt, hands, alloc, text)
+    read_outlined_in_parts(rt, alloc, hands, text)
 }
 
 /// What is read of two layer texts, of both at once by more than one worker, each by a half of the hands.

@@ -18,3 +18,4 @@ pub mod Exclusive
 pub mod Bounded
 pub mod Written
 pub mod Writing
+pub mod WholeLines

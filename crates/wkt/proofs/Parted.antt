@@ -1,8 +1,8 @@
 -- A text of two layer texts, with a line feed between them, is a layer text with the rings of both.
-use Rattle.std.proofs.Common.{◌≡◌, inl, inr, ℕ, ◌+◌, ◌-◌, ◌≤◌, Bool, true, false, cond, List, [], ◌∷◌, ◌++◌, length, map, take, drop, get_or, ◌<◌, refl, sym, ◌∙◌, ap, subst, append_assoc, Option, Some, None, pos}
+use Rattle.std.proofs.Common.{◌≡◌, inl, inr, ℕ, ◌-◌, ◌≤◌, Bool, true, false, cond, List, [], ◌∷◌, ◌++◌, length, map, take, refl, sym, ◌∙◌, ap, subst, append_assoc, Option, Some, None, pos}
 use Rattle.std.specs.Prelude.{IsTrue, neg_ℤ, nat_lt, unsigned_abs}
 use Rattle.std.specs.List.{AllByRecursion, flat_map}
-use Rattle.std.proofs.lemmas.List.{append-nil, drop_more, length-map, map-append, take-append-drop}
+use Rattle.std.proofs.lemmas.List.{append-nil, length-map, map-append}
 use Rattle.geom.specs.declared.point.Pt.{Pt}
 use Rattle.geom.specs.declared.fault.Fault.{Fault}
 use Rattle.geom.specs.declared.fault.Fault.TheVariants.{RingShort, RingOpen}
@@ -222,7 +222,3 @@ parted t u rings more short (rs, a, e) (ss, b, f) = (ws.0, record { read = recor
 
     is : plain ws.0 ≡ rings ++ more
     is = plain_is ws.0 ∙ ap (map opened) ws.2 ∙ map-append opened (map places rs) (map places ss) ∙ ap (λ x. x ++ map opened (map places ss)) (sym (plain_is rs) ∙ e) ∙ ap (λ x. rings ++ x) (sym (plain_is ss) ∙ f)
-
--- a text is what stands before one of its line feeds, that, and what stands behind it
-pub at_line_feed : (text : List ℕ) (at : ℕ) → at < length text → get_or text at 0 ≡ 10 → take at text ++ 10 ∷ drop (at + 1) text ≡ text
-at_line_feed text at h e = ap (λ b. take at text ++ b ∷ drop (at + 1) text) (sym e) ∙ ap (λ x. take at text ++ x) (sym (drop_more text at 0 h)) ∙ take-append-drop at text

@@ -8,3 +8,4 @@ pub mod Running
 pub mod Surveying
 pub mod Collecting
 pub mod Readable
+pub mod WholeLines

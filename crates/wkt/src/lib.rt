@@ -2,8 +2,8 @@
 #![tactic(auto)]
 
 mod check;
-mod halves;
 mod laws;
+mod lines;
 mod outline;
 mod places;
 mod read;
@@ -15,5 +15,5 @@ mod write;
 pub use check::{LENGTH_LIMIT, check_layer};
 pub use laws::{one_reading, one_refusal};
 pub use outline::Outline;
-pub use read::{OutlinedLayer, read_layer, read_outlined, read_outlined_by_hands};
+pub use read::{OutlinedLayer, read_layer, read_outlined, read_outlined_in_parts};
 pub use write::{push_first_ring, push_line_end, push_next_ring, write_multi};

@@ -1,6 +1,6 @@
 //! The outline of a layer.
 
-ghost use Rattle.std.specs.Prelude.{◌≡◌, ◌++◌, IfSome, List};
+ghost use Rattle.std.specs.Prelude.{◌≡◌, ◌++◌, [], IfSome, List};
 ghost use Rattle.geom.specs.declared.point.Pt.{Pt};
 ghost use Rattle.wkt.specs.Outlines.{IsOutline};
 ghost use Rattle.wkt.specs.Surveying.{corners, grown};
@@ -22,6 +22,16 @@ fn bounds_of_both(first: Rect, second: Rect) -> Rect
 }
 
 impl Outline {
+    /// The outline of a layer without rings.
+    pub fn of_none() -> Outline
+        ensures { IsOutline [] result }
+    {
+        Outline {
+            segments: 0,
+            bounds: None,
+        }
+    }
+
     /// The outline of a layer whose rings are those of one and then those of another one, where its segments can be counted.
     pub fn joined(self, other: Outline) -> Option<Outline>
         ensures { (rings more : List (List Pt)) → IsOutline rings self → IsOutline more other → IfSome result (IsOutline (rings ++ more)) }

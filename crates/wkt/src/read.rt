@@ -8,7 +8,7 @@ ghost use Rattle.wkt.specs.Collecting.{closed, gathered, point_value, view};
 ghost use Rattle.wkt.specs.Outlines.{IsOutline};
 
 use crate::check::{LENGTH_LIMIT, check_layer};
-use crate::halves::gathered_by_hands;
+use crate::lines::gathered_in_parts;
 use crate::outline::Outline;
 use crate::reader::{Event, Number, Reader};
 use crate::survey::Survey;
@@ -175,12 +175,12 @@ pub fn read_layer<A: Allocator + Copy>(alloc: A, text: &[u8]) -> Result<Layer<A>
     }
 }
 
-/// As `read_outlined`, by so many hands: a long text is parted, where geometries stand on lines of their own, and read by all of them.
-/// Where a part is no layer by itself, the whole is read once more, by one.
-pub fn read_outlined_by_hands<A: Allocator + Copy + Send + Sync, R: Threads + Sync>(
+/// As `read_outlined`, in so many parts at most: a text whose geometries stand on lines of their own is parted between them, and all
+/// parts are read at once. Where one of them is no layer by itself, the whole is read once more.
+pub fn read_outlined_in_parts<A: Allocator + Copy + Send + Sync, R: Threads + Sync>(
     rt: &R,
-    hands: usize,
     alloc: A,
+    parts: usize,
     text: &[u8],
 ) -> Result<OutlinedLayer<A>, Fault>
     ensures answer { MatchResult result (λ read. (rings : List (List PtOf)) × StandsFor text.now rings × IsOutline rings read.outline) (λ fault. IsRefused text.now fault) }
@@ -188,14 +188,13 @@ pub fn read_outlined_by_hands<A: Allocator + Copy + Send + Sync, R: Threads + Sy
     ensures bounds_in_limit { IfOk result (λ read. IfSome read.outline.bounds (λ r. AreInLimit r.lo r.hi)) }
     ensures in_limit { IfOk result (λ read. IfSome read.layer (λ layer. All (λ ring. All InLimit ring) layer)) }
 {
-    if hands < 2 || text.len() > ONE_PASS {
-        return read_outlined(alloc, text);
+    if text.len() <= ONE_PASS {
+        if let Ok((outline, rings)) = gathered_in_parts(rt, alloc, parts, text) {
+            return Ok(OutlinedLayer {
+                outline,
+                layer: Some(Layer::new(rings)),
+            });
+        }
     }
-    match gathered_by_hands(rt, hands, alloc, text) {
-        Some((outline, rings)) => Ok(OutlinedLayer {
-            outline,
-            layer: Some(Layer::new(rings)),
-        }),
-        None => read_outlined(alloc, text),
-    }
+    read_outlined(alloc, text)
 }

@@ -2,7 +2,7 @@
 #![tactic(auto)]
 
 #[cfg(test)]
-mod halves;
+mod in_parts;
 #[cfg(test)]
 mod reading;
 #[cfg(test)]
