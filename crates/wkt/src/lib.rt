@@ -1,4 +1,11 @@
-//! Layer texts: polygons as they are read and written.
+//! Layer texts: a text in, the rings that it stands for out, or its one refusal; polygons in, their canonical line out.
+//!
+//! 1. One pass over the bytes checks grammar, numbers and rings and gathers these (`reader`, `read`), a long text in parts of whole lines.
+//! 2. What was passed has a number of segments and a box (`outline`).
+//! 3. A line is written polygon by polygon, or ring by ring (`write`).
+//!
+//! The promise: what a text stands for, or is refused for, is one (`laws`), and what is written reads back. The definitions are
+//! `specs/LayerText`, `Refusals`, `Outlines` and `Canonical`.
 #![tactic(auto)]
 
 mod check;
