@@ -9,8 +9,8 @@
 
 ghost use Rattle.std.specs.Prelude.{◌≡◌, ◌^◌, ◌<ℤ◌, ◌≤ℤ◌, ◌+ℤ◌, ◌-ℤ◌, ◌*ℤ◌, All, AllPairs, IfOk, IfSome, IsTrue, pos};
 ghost use Rattle.geom.specs.declared.point.Pt.{Pt};
-ghost use Rattle.geom.specs.Limit.{AreInLimit, InLimit, IsQuotientWithin, IsWithin};
-ghost use Rattle.hot_pixel.specs.Bundle.{AreStrands, HasNoHot, IsFloor, IsFollowedBy, IsQuotient, IsSeen, IsStrand, RunsThrough, RunsThroughSeen, height};
+ghost use Rattle.geom.specs.Limit.{AreInLimit, InLimit, IsWithin};
+ghost use Rattle.hot_pixel.specs.Bundle.{AreStrands, HasNoHot, IsFloor, IsFollowedBy, IsSeen, IsStrand, RunsThrough, RunsThroughSeen, height};
 ghost use Rattle.hot_pixel.specs.Halving.{IsHotFor, edges_of};
 ghost use Rattle.hot_pixel.specs.Rects.{IsIn};
 
