@@ -21,6 +21,8 @@ mod shared_vertices;
 mod standing;
 mod status;
 mod strips;
+#[cfg(test)]
+mod tests;
 mod turn;
 mod vertices;
 

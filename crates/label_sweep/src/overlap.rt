@@ -13,7 +13,7 @@ fn overlap_of<T: Ord>(list: &[T], more: &[T]) -> (usize, usize)
     ensures past { result.1 ≤ length more.now }
 {
     let (Some(last), Some(first)) = (list.last(), more.first()) else {
-        return (0, 0);
+        return (list.len(), 0);
     };
     let from = list.partition_point(|item| item < first);
     let past = more.partition_point(|item| item <= last);

@@ -45,7 +45,7 @@ fn column_end(vertices: &[Pt], number: usize) -> usize
 }
 
 /// The vertices in at most so many strips, all of as many vertices but for the last one, and but for what lies in a strip's last column.
-fn strips_of<A: Allocator>(
+pub fn strips_of<A: Allocator>(
     alloc: A,
     vertices: &[Pt],
     parts: usize,

@@ -142,7 +142,7 @@ fn add_second_ends<A: Allocator>(
 }
 
 /// Whether a point lies on the left of a vertex.
-pub fn is_left(p: Pt, v: Pt) -> bool
+fn is_left(p: Pt, v: Pt) -> bool
     ensures { result ≡ int_lt p.x v.x }
 {
     p.x < v.x
