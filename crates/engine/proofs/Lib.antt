@@ -20,3 +20,6 @@ pub mod Known
 pub mod InTurn
 pub mod LineParts
 pub mod Remade
+pub mod Folds
+pub mod EdgeLines
+pub mod Extents

@@ -5,6 +5,11 @@ use Rattle.std.proofs.lemmas.Grind.{flat_map-append}
 use Rattle.std.proofs.lemmas.List.{append-nil, drop-drop, get_or-drop, length-drop, map-append, take_all, take_more}
 use Rattle.std.proofs.Math.Seq.{take-add}
 use Rattle.std.proofs.lemmas.List.Elements.{All-append, All-cons, All-map, All-nil}
+use Rattle.std.specs.Prelude.{Vec, flat_map}
+use Rattle.std.specs.List.{AllZip}
+use Rattle.hands.specs.declared.part.Part.{Part}
+use Rattle.hands.specs.Consecutive.{ArePartsOf}
+use Rattle.hands.proofs.Consecutive.{behind_one_another, each_part}
 use Rattle.geom.specs.declared.point.Pt.{Pt}
 use Rattle.geom.specs.Canonical.{Shape, written_rings}
 use Rattle.polygonize.specs.Told.{told, told_at}
@@ -63,7 +68,7 @@ one_more xs from at d order inside =
     ∙ take_more (drop from xs) (at - from) d (omega (arith, order, inside, length-drop from xs))
     ∙ ap (λ (x : _). take (at - from) (drop from xs) ++ x ∷ []) (get_or-drop from xs (at - from) d ∙ ap (λ (n : ℕ). slice_index_or xs n d) back)
 
-both_ranges : {X : Type 0} (xs : List X) (from middle past : ℕ) → from ≤ middle → middle ≤ past → slice_range xs from past ≡ slice_range xs from middle ++ slice_range xs middle past
+pub both_ranges : {X : Type 0} (xs : List X) (from middle past : ℕ) → from ≤ middle → middle ≤ past → slice_range xs from past ≡ slice_range xs from middle ++ slice_range xs middle past
 both_ranges xs from middle past first second =
     let many : past - from ≡ (middle - from) + (past - middle) = omega (arith, first, second) in
     let there : from + (middle - from) ≡ middle = omega (arith, first) in
@@ -71,7 +76,7 @@ both_ranges xs from middle past first second =
     ∙ take-add (middle - from) (past - middle) (drop from xs)
     ∙ ap (λ (ys : List _). take (middle - from) (drop from xs) ++ take (past - middle) ys) (drop-drop (middle - from) from xs ∙ ap (λ (n : ℕ). drop n xs) there)
 
-none_between : {X : Type 0} (xs : List X) (from : ℕ) → slice_range xs from from ≡ []
+pub none_between : {X : Type 0} (xs : List X) (from : ℕ) → slice_range xs from from ≡ []
 none_between xs from =
     let none : from - from ≡ 0 = omega arith in
     ap (λ (n : ℕ). take n (drop from xs)) none
@@ -120,6 +125,19 @@ both_parts rings from middle past text rest first second p q =
           ∙ ap next_rings (sym are);
       readable = subst (All CanBeRead) (sym are) (All-append CanBeRead (slice_range rings from middle) (slice_range rings middle past) p.readable q.readable);
     }
+
+-- parts of all rings behind the first one lie inside
+pub may_write : {X : Type 0} (rings : List X) (ps : List Part) → 0 < length rings → ArePartsOf 0 (length rings - 1) ps → All (λ (p : Part). (p.from ≤ p.past) × (p.past + 1 ≤ length rings)) ps
+may_write rings ps some parts = each_part (λ (p : Part). (p.from ≤ p.past) × (p.past + 1 ≤ length rings)) 0 (length rings - 1) ps parts (λ p low order high. (order, omega (arith, some, high)))
+
+-- the texts of parts of all rings behind the first one
+pub all_parts : {M : Type 0} (rings : List Told) (ps : List Part) (texts : List (Vec ℕ M)) → 0 < length rings → ArePartsOf 0 (length rings - 1) ps
+    → AllZip (λ (p : Part) v. IsPartOfLine rings (p.from + 1) (p.past + 1) v.items) ps texts → IsPartOfLine rings 1 (length rings) (flat_map (λ v. v.items) texts)
+all_parts rings ps texts some parts each =
+    subst (λ n. IsPartOfLine rings 1 n (flat_map (λ v. v.items) texts)) (omega (arith, some))
+    (behind_one_another (λ v. v.items) (λ a b text. IsPartOfLine rings (a + 1) (b + 1) text) (λ a. no_part rings (a + 1) [] refl)
+    (λ a b c text rest first second p q. both_parts rings (a + 1) (b + 1) (c + 1) text rest (omega (arith, first)) (omega (arith, second)) p q)
+    0 (length rings - 1) ps texts parts each)
 
 pub no_line : (rings : List Told) (text : List ℕ) → length rings ≡ 0 → text ≡ multi_text [] → IsLine rings text
 no_line [] text none is = record { is_text = is; readable = All-nil CanBeRead }

@@ -7,12 +7,13 @@
 //!    the segments, whatever these are.
 //! 3. Each segment goes to the cells that its box meets (`bins_of`).
 
-ghost use Rattle.std.specs.Prelude.{IfOk, List, Some};
+ghost use Rattle.std.specs.Prelude.{◌≡◌, ◌++◌, IfOk, List, None, Some};
 ghost use Rattle.geom.specs.declared.segment.Seg.{Seg};
 ghost use Rattle.grid.specs.Tiles.{AreBounds, CoversBounds};
 ghost use Rattle.linking.specs.Gathered.{BoundsHold, HaveTiles};
 ghost use Rattle.engine.specs.Rounds.{AllInLimit, AreCellBins};
 
+use crate::checking::joint_bounds;
 use geom::{NoMemory, Rect, Seg};
 use grid::{GREATEST_SIDE, Grid, KeptBins};
 use std::alloc::Allocator;
@@ -56,6 +57,29 @@ impl Reach {
 pub(crate) struct Extent {
     pub bounds: Option<Rect>,
     pub reach: Reach,
+}
+
+impl Extent {
+    /// That of no segments.
+    pub(crate) fn of_none() -> Extent
+        ensures { result.bounds ≡ None }
+    {
+        Extent {
+            bounds: None,
+            reach: reach_of(&[]),
+        }
+    }
+
+    /// That of these segments and others.
+    pub(crate) fn and(self, others: Extent) -> Extent
+        ensures in_limit { AreBounds self.bounds → AreBounds others.bounds → AreBounds result.bounds }
+        ensures holds { (front back : List Seg) → BoundsHold self.bounds front → BoundsHold others.bounds back → BoundsHold result.bounds (front ++ back) }
+    {
+        Extent {
+            bounds: joint_bounds(self.bounds, others.bounds),
+            reach: self.reach.and(others.reach),
+        }
+    }
 }
 
 /// The cells for workers over segments that a grid covers.

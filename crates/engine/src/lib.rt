@@ -16,6 +16,7 @@ mod segments;
 mod sink;
 mod text;
 mod text_parts;
+mod worth;
 
 pub use alone::{edges_alone, run_alone};
 pub use engine::{Output, Plan, edges, run};

@@ -1,11 +1,10 @@
-//! The canonical line of a result in parts, as several workers make it at once:
+//! The canonical line of a result in parts:
 //! 1. The first ring begins the line (`beginning`). Where there is none, the line is that of no polygons (`line_of_none`).
-//! 2. The others are halved, and each half again, until there is a part for each worker, who writes their texts one behind another
-//!    (`rings_text`).
+//! 2. The others are parted, with about as many points in each part, whose rings' texts are written one behind another (`rings_text`),
+//!    those of all parts at once (`rings_text_in_parts`).
 //! 3. Behind the last one the line is ended (`end`).
 
-ghost use Rattle.std.specs.Prelude.{◌≡◌, ◌+◌, ◌<◌, ◌≤◌, ◌++◌, [], All, IfOk, length};
-ghost use Rattle.std.specs.Thread.{IsSend, IsSync};
+ghost use Rattle.std.specs.Prelude.{◌≡◌, ◌+◌, ◌^◌, ◌<◌, ◌≤◌, [], IfOk, length};
 ghost use Rattle.polygonize.specs.Told.{told_at};
 ghost use Rattle.wkt.specs.Canonical.{first_ring, line_end};
 ghost use Rattle.wkt.specs.Readable.{IsReadable};
@@ -13,7 +12,7 @@ ghost use Rattle.engine.specs.LineParts.{IsLine, IsPartOfLine, line_text};
 
 use crate::text_parts::{TextParts, joined};
 use geom::{NoMemory, Polygon};
-use hands::join;
+use hands::{Part, map_parts, parts_of_work};
 use polygonize::ResultRings;
 use std::alloc::Allocator;
 use std::thread::Threads;
@@ -21,26 +20,6 @@ use wkt::{push_first_ring, push_line_end, push_next_ring, write_multi};
 
 /// How many bytes a point has at most, where its coordinates have up to eight digits and a sign.
 const POINT: usize = 21;
-
-/// Where the rings between two numbers part into halves of as many points, or nearly so; both have rings where there are two or more.
-fn middle_of<A: Allocator>(rings: &ResultRings<A>, from: usize, past: usize) -> usize
-    requires order { from ≤ past }
-    requires inside { past ≤ length rings.now }
-    ensures order { from ≤ result }
-    ensures inside { result ≤ past }
-{
-    let half = points_between(rings, from, past) / 2;
-    let mut points = 0usize;
-    for number in from..past {
-        points = points
-            .saturating_add(rings.points(number))
-            .saturating_add(1);
-        if points > half {
-            return number.max(from + 1);
-        }
-    }
-    past
-}
 
 /// How many points the rings between two numbers have in their text, where each ends with its first one.
 fn points_between<A: Allocator>(rings: &ResultRings<A>, from: usize, past: usize) -> usize
@@ -75,72 +54,34 @@ fn rings_text<A: Allocator + Copy>(
     Ok(text)
 }
 
-/// The same in one part.
-fn one_part<A: Allocator + Copy>(
-    alloc: A,
-    rings: &ResultRings<A>,
-    from: usize,
-    past: usize,
-) -> Result<TextParts<A>, NoMemory>
-    requires order { from ≤ past }
-    requires inside { past ≤ length rings.now }
-    ensures { IfOk result (λ text. IsPartOfLine rings.now from past text) }
-{
-    let text = rings_text(alloc, rings, from, past)?;
-    TextParts::one(alloc, text)
-}
-
-/// The same by so many hands.
-#[cycle(halves)]
-fn parts_by_hands<A: Allocator + Copy + Send + Sync, R: Threads + Sync>(
+/// The texts of all rings behind the first one, in at most so many parts with about as many points each.
+fn rings_text_in_parts<A: Allocator + Copy + Send + Sync, R: Threads + Sync>(
     rt: &R,
-    hands: usize,
     alloc: A,
+    parts: usize,
     rings: &ResultRings<A>,
-    from: usize,
-    past: usize,
 ) -> Result<TextParts<A>, NoMemory>
-    requires order { from ≤ past }
-    requires inside { past ≤ length rings.now }
-    ensures { IfOk result (λ text. IsPartOfLine rings.now from past text) }
+    requires { 0 < length rings.now }
+    ensures { IfOk result (λ text. IsPartOfLine rings.now 1 (length rings.now) text) }
 {
-    if hands < 2 {
-        return one_part(alloc, rings, from, past);
-    }
-    let middle = middle_of(rings, from, past);
-    parts_of_both(rt, hands, alloc, rings, from, middle, past)
-}
-
-/// The same of the rings before a middle and from it on at once, each by a half of the hands.
-#[cycle(halves)]
-fn parts_of_both<A: Allocator + Copy + Send + Sync, R: Threads + Sync>(
-    rt: &R,
-    hands: usize,
-    alloc: A,
-    rings: &ResultRings<A>,
-    from: usize,
-    middle: usize,
-    past: usize,
-) -> Result<TextParts<A>, NoMemory>
-    requires hands { 2 ≤ hands }
-    requires first { from ≤ middle }
-    requires second { middle ≤ past }
-    requires inside { past ≤ length rings.now }
-    ensures { IfOk result (λ text. IsPartOfLine rings.now from past text) }
-{
-    let (text, rest) = join(
+    let parts = parts_of_work(
+        alloc,
+        rings.count() - 1,
+        parts,
+        |place: usize| -> usize
+            requires { (place + 1 < length rings.now) × (length rings.now < 2 ^ 64) }
+        { rings.points(place + 1).saturating_add(1) },
+    )?;
+    let texts = map_parts(
         rt,
-        hands,
-        || -> Result<TextParts<A>, NoMemory>
-            requires { IsSync R.row × IsSend A.row × IsSync A.row × (2 ≤ hands) × (from ≤ middle) × (middle ≤ length rings.now) }
-            ensures { IfOk result (λ text. IsPartOfLine rings.entry.now from middle text) }
-        { parts_by_hands(rt, hands / 2, alloc, rings, from, middle) },
-        || -> Result<TextParts<A>, NoMemory>
-            requires { IsSync R.row × IsSend A.row × IsSync A.row × (2 ≤ hands) × (middle ≤ past) × (past ≤ length rings.now) }
-            ensures { IfOk result (λ text. IsPartOfLine rings.entry.now middle past text) }
-        { parts_by_hands(rt, hands - hands / 2, alloc, rings, middle, past) },
-    );
-    joined(text?, rest?)
+        alloc,
+        &parts,
+        |part: Part| -> Result<Vec<u8, A>, NoMemory>
+            requires { (part.from ≤ part.past) × (part.past + 1 ≤ length rings.now) × (length rings.now < 2 ^ 64) }
+            ensures { IfOk result (λ text. IsPartOfLine rings.entry.now (part.from + 1) (part.past + 1) text.items) }
+        { rings_text(alloc, rings, part.from + 1, part.past + 1) },
+    )?;
+    Ok(TextParts::of(texts))
 }
 
 /// The beginning of the line, with its first ring.
@@ -175,11 +116,11 @@ fn line_of_none<A: Allocator + Copy>(alloc: A) -> Result<TextParts<A>, NoMemory>
     TextParts::one(alloc, text)
 }
 
-/// The line of rings, made at once by so many hands.
-pub(crate) fn line_at_once<A: Allocator + Copy + Send + Sync, R: Threads + Sync>(
+/// The line of rings, in at most so many parts but for its beginning and its end.
+pub(crate) fn line_in_parts<A: Allocator + Copy + Send + Sync, R: Threads + Sync>(
     rt: &R,
-    hands: usize,
     alloc: A,
+    parts: usize,
     rings: &ResultRings<A>,
 ) -> Result<TextParts<A>, NoMemory>
     ensures { IfOk result (λ text. IsLine rings.now text) }
@@ -188,6 +129,6 @@ pub(crate) fn line_at_once<A: Allocator + Copy + Send + Sync, R: Threads + Sync>
         return line_of_none(alloc);
     }
     let beginning = beginning(alloc, rings)?;
-    let parts = parts_by_hands(rt, hands, alloc, rings, 1, rings.count())?;
-    joined(joined(beginning, parts)?, end(alloc)?)
+    let others = rings_text_in_parts(rt, alloc, parts, rings)?;
+    joined(joined(beginning, others)?, end(alloc)?)
 }

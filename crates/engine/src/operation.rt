@@ -9,18 +9,16 @@ ghost use Rattle.geom.specs.declared.op.Op.{Op};
 ghost use Rattle.points_law.specs.Law.{AreLayers};
 ghost use Rattle.engine.specs.Results.{IsResultText, IsWantedText};
 
-use crate::line_parts::line_at_once;
+use crate::line_parts::line_in_parts;
 use crate::text::edges_text;
-use crate::text_parts::{TextParts, edges_text_at_once};
+use crate::text_parts::{TextParts, edges_text_in_parts};
+use crate::worth;
 use geom::{Counted, Directed, NoMemory, Op};
 use label_sweep::{layer_labels, layer_labels_by_hands};
 use polygonize::{polygons, rings_by_hands};
 use std::alloc::Allocator;
 use std::thread::Threads;
 use wkt::write_multi;
-
-/// Fewer directed edges are not worth a thread.
-const LEAST: usize = 8_192;
 
 /// What is wanted of two layers.
 #[derive(Clone, Copy, Debug)]
@@ -58,7 +56,10 @@ pub(crate) fn text_by_workers<A: Allocator + Copy + Send + Sync, R: Threads + Sy
     ensures { IfOk result (λ text. IsWantedText wanted counted.now text) }
 {
     match wanted {
-        Wanted::Edges => edges_text_at_once(rt, alloc, workers, counted),
+        Wanted::Edges => {
+            let parts = worth::parts(workers, counted.len(), worth::LINES);
+            edges_text_in_parts(rt, alloc, parts, counted)
+        }
         Wanted::Apply(op) => result_text_by_workers(rt, alloc, workers, counted, op),
     }
 }
@@ -123,10 +124,10 @@ fn line_by_workers<A: Allocator + Copy + Send + Sync, R: Threads + Sync>(
     requires in_limit { All (λ d. AreInLimit d.from d.to) directed }
     ensures { IfOk result (λ text. (op : Op) (counted : List Counted) → AreLayers counted → AreResultEdges op counted directed → IsResultText op counted text) }
 {
-    let hands = workers as usize;
-    if hands < 2 || directed.edges().len() < LEAST {
+    let parts = worth::parts(workers, directed.edges().len(), worth::DIRECTED);
+    if parts < 2 {
         return one_line(alloc, &directed);
     }
-    let rings = rings_by_hands(rt, hands, alloc, directed)?;
-    line_at_once(rt, hands, alloc, &rings)
+    let rings = rings_by_hands(rt, parts, alloc, directed)?;
+    line_in_parts(rt, alloc, parts, &rings)
 }

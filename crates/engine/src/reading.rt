@@ -1,7 +1,6 @@
 //! Two layer texts, read.
 //!
-//! 1. Either text is checked and read in one pass (`reading`), both at once where there are workers for both, and each by a half of the
-//!    hands where it can be parted (`read_both`).
+//! 1. Either text is checked and read in one pass (`reading`), both at once and each in parts, where they are long (`read_both`).
 //! 2. The rings that were read, or are read now, since there was no room for them before (`rings_of`), are cut into segments
 //!    (`read_segments`), those of both layers at once where there are workers for both (`read_segments_by_workers`).
 
@@ -12,6 +11,7 @@ ghost use Rattle.wkt.specs.Refusals.{StandsFor};
 
 use crate::checking::{CheckedInput, Reading};
 use crate::segments::{layer_segments, segments_of};
+use crate::worth;
 use geom::{Layer, NoMemory, Seg, Source};
 use hands::join;
 use std::alloc::Allocator;
@@ -28,19 +28,7 @@ pub(crate) fn reading<A: Allocator + Copy>(alloc: A, text: &[u8]) -> Reading<A>
     read_outlined(alloc, text)
 }
 
-/// The same by so many hands.
-fn reading_by_hands<A: Allocator + Copy + Send + Sync, R: Threads + Sync>(
-    rt: &R,
-    hands: usize,
-    alloc: A,
-    text: &[u8],
-) -> Reading<A>
-    ensures { IsReading text.now result }
-{
-    read_outlined_in_parts(rt, alloc, hands, text)
-}
-
-/// What is read of two layer texts, of both at once by more than one worker, each by a half of the hands.
+/// What is read of two layer texts: of both at once where that is worth it, each in parts by a half of the workers.
 pub(crate) fn read_both<A: Allocator + Copy + Send + Sync, R: Threads + Sync>(
     rt: &R,
     alloc: A,
@@ -51,15 +39,17 @@ pub(crate) fn read_both<A: Allocator + Copy + Send + Sync, R: Threads + Sync>(
     ensures a { IsReading a.now result.0 }
     ensures b { IsReading b.now result.1 }
 {
-    if workers < 2 {
+    if worth::parts(workers, a.len().saturating_add(b.len()), worth::TEXTS) < 2 {
         return (reading(alloc, a), reading(alloc, b));
     }
-    let hands = workers as usize;
+    let half = workers / 2;
+    let parts_a = worth::parts(half, a.len(), worth::BYTES);
+    let parts_b = worth::parts(workers - half, b.len(), worth::BYTES);
     join(
         rt,
         BOTH,
-        || reading_by_hands(rt, hands / 2, alloc, a),
-        || reading_by_hands(rt, hands - hands / 2, alloc, b),
+        || read_outlined_in_parts(rt, alloc, parts_a, a),
+        || read_outlined_in_parts(rt, alloc, parts_b, b),
     )
 }
 

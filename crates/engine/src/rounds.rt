@@ -8,10 +8,11 @@ ghost use Rattle.points_law.specs.Law.{AreLayers};
 ghost use Rattle.engine.specs.Rounds.{AllInLimit, AreCellBins, AreRoundedOver, IsRemade, TellsTiles};
 ghost use Rattle.engine.specs.Runs.{IsReading};
 
-use crate::cell_parts::{bins_by_hands, cells_by_hands};
+use crate::cell_parts::{bins_in_parts, cells_in_parts};
 use crate::checking::{CheckedInput, Reading};
 use crate::reading::read_segments_by_workers;
 use crate::text::Report;
+use crate::worth;
 use geom::{NoMemory, Seg};
 use grid::{Grid, KeptBins, MOST_TILES};
 use linking::{Noded, TileNumbers, TilePiece, Tiled, gather_made_by_hands, settled};
@@ -93,7 +94,8 @@ fn gathered<A: Allocator + Copy + Send + Sync, G: Gate + Sync, R: Threads + Wait
     ensures tiles { IfOk result (λ n. AreTileNumbers grid.now segments.now (tile_count grid.now) n.tiles.items) }
     ensures remade { IfOk result (λ n. IsRemade n.remade) }
 {
-    let cells = cells_by_hands(rt, grid, workers, segments);
+    let parts = worth::parts(workers, segments.len(), worth::SEGMENTS);
+    let cells = cells_in_parts(rt, alloc, parts, grid, workers, segments)?;
     let blank = Blank::new(u64::from(workers));
     by_cells::<Brand, Brand, A, G, R>(rt, alloc, blank, grid, &cells, workers, segments, gate)
 }
@@ -127,7 +129,8 @@ fn by_cells<
     ensures tiles { IfOk result (λ n. AreTileNumbers grid.now segments.now (tile_count grid.now) n.tiles.items) }
     ensures remade { IfOk result (λ n. IsRemade n.remade) }
 {
-    let bins = bins_by_hands(rt, alloc, workers as usize, cells, segments)?;
+    let parts = worth::parts(workers, segments.len(), worth::SEGMENTS);
+    let bins = bins_in_parts(rt, alloc, parts, cells, segments)?;
     let job: Pieces<T, A> = Pieces {
         grid: cells,
         bins: &bins,

@@ -46,7 +46,7 @@ pub struct Report<A: Allocator> {
     pub records: u64,
     /// The rounded edges.
     pub edges: u32,
-    /// The pieces that were made anew: as many as the desk left cells empty, 65,536 at most.
+    /// The pieces that were made anew, 65,536 at most.
     pub remade: u32,
     /// Each tile's own hot pixels, and its records.
     pub tiles: Vec<(u32, u32), A>,

@@ -1,22 +1,14 @@
 //! A text in parts, as several workers make it at once.
 
-ghost use Rattle.std.specs.Prelude.{◌≡◌, ◌++◌, ℕ, IfOk, List, flat_map};
+ghost use Rattle.std.specs.Prelude.{◌≡◌, ◌≤◌, ◌++◌, ℕ, IfOk, List, flat_map, length, slice_range};
 ghost use Rattle.engine.specs.Texts.{edges_text_of};
 
 use crate::text::edges_text;
 use geom::{Counted, NoMemory};
-use hands::join;
+use hands::{Part, even_parts, map_parts};
 use std::alloc::Allocator;
 use std::marker::Model;
 use std::thread::Threads;
-
-/// Fewer edges are not worth a thread.
-const LEAST: usize = 4_096;
-
-/// A hand for each part.
-const HALVES: usize = 2;
-
-const QUARTERS: usize = 4;
 
 /// A text in parts, one behind another, so that none has to be copied behind another.
 #[derive(Drop)]
@@ -42,6 +34,13 @@ impl<A: Allocator + Copy> TextParts<A> {
 }
 
 impl<A: Allocator> TextParts<A> {
+    /// A text in these parts.
+    pub fn of(parts: Vec<Vec<u8, A>, A>) -> TextParts<A>
+        ensures { result ≡ flat_map (λ p. p.items) parts.items }
+    {
+        TextParts { parts }
+    }
+
     /// The parts.
     pub fn parts(&self) -> &[Vec<u8, A>]
         ensures { flat_map (λ p. p.items) result.now ≡ self.now }
@@ -61,53 +60,24 @@ pub(crate) fn joined<A: Allocator>(
     Ok(text)
 }
 
-/// The text of edges in one part.
-fn one_part<A: Allocator + Copy>(alloc: A, edges: &[Counted]) -> Result<TextParts<A>, NoMemory>
-    ensures { IfOk result (λ text. text ≡ edges_text_of edges.now) }
-{
-    let text = edges_text(alloc, edges)?;
-    TextParts::one(alloc, text)
-}
-
-/// The text of edges, whose halves are made at once.
-fn halved_text<A: Allocator + Copy + Send + Sync, R: Threads + Sync>(
+/// The text of edges, in at most so many parts.
+pub(crate) fn edges_text_in_parts<A: Allocator + Copy + Send + Sync, R: Threads + Sync>(
     rt: &R,
     alloc: A,
+    parts: usize,
     edges: &[Counted],
 ) -> Result<TextParts<A>, NoMemory>
     ensures { IfOk result (λ text. text ≡ edges_text_of edges.now) }
 {
-    let (front, back) = edges.split_at(edges.len() / 2);
-    let (text, rest) = join(
+    let parts = even_parts(alloc, edges.len(), parts)?;
+    let texts = map_parts(
         rt,
-        HALVES,
-        || one_part(alloc, front),
-        || one_part(alloc, back),
-    );
-    joined(text?, rest?)
-}
-
-/// The text of edges, made at once by several workers: two by two or three, four by more.
-pub(crate) fn edges_text_at_once<A: Allocator + Copy + Send + Sync, R: Threads + Sync>(
-    rt: &R,
-    alloc: A,
-    workers: u32,
-    edges: &[Counted],
-) -> Result<TextParts<A>, NoMemory>
-    ensures { IfOk result (λ text. text ≡ edges_text_of edges.now) }
-{
-    if workers < 2 || edges.len() < LEAST {
-        return one_part(alloc, edges);
-    }
-    if workers < 4 {
-        return halved_text(rt, alloc, edges);
-    }
-    let (front, back) = edges.split_at(edges.len() / 2);
-    let (text, rest) = join(
-        rt,
-        QUARTERS,
-        || halved_text(rt, alloc, front),
-        || halved_text(rt, alloc, back),
-    );
-    joined(text?, rest?)
+        alloc,
+        &parts,
+        |part: Part| -> Result<Vec<u8, A>, NoMemory>
+            requires { (part.from ≤ part.past) × (part.past ≤ length edges.now) }
+            ensures { IfOk result (λ text. text.items ≡ edges_text_of (slice_range edges.entry.now part.from part.past)) }
+        { edges_text(alloc, &edges[part.from..part.past]) },
+    )?;
+    Ok(TextParts::of(texts))
 }

@@ -17,7 +17,7 @@ pub returns : goal.returns
 returns g c =
     let directed = c.args.directed in
     let rings = c.in_ok-rings.rings in
-    IfOk-weaker c.line_at_once.result (λ text. IsLine rings text) (λ text. (op : Op) (counted : List Counted) → AreLayers counted → AreResultEdges op counted directed → IsResultText op counted text)
+    IfOk-weaker c.line_in_parts.result (λ text. IsLine rings text) (λ text. (op : Op) (counted : List Counted) → AreLayers counted → AreResultEdges op counted directed → IsResultText op counted text)
     (λ text l op counted layers are.
     let told = c.in_ok-rings.ensures (noded_edges op counted directed layers.noded are) (λ cycles r. grounded op counted layers directed are cycles r) in
     let line = is_line told.polygons rings text told.are_told l in
@@ -34,4 +34,4 @@ returns g c =
       written = line.0;
       reads = (back.0, line.0 ∙ back.1, back.2);
     })
-    c.line_at_once.ensures
+    c.line_in_parts.ensures

@@ -1,19 +1,18 @@
-use Rattle.std.proofs.Common.{[], ◌≡◌, ◌<◌, ◌++◌, ◌∙◌, ℕ, List, ap, arith, length, subst, sym}
+use Rattle.std.proofs.Common.{[], ◌≡◌, ◌<◌, ◌++◌, ◌∙◌, ℕ, List, ap, arith, length, sym}
 use Rattle.std.proofs.lemmas.Result.{IfOk-weaker}
-use Rattle.engine.specs.LineParts.{IsLine, IsPartOfLine, line_text}
+use Rattle.engine.specs.LineParts.{IsLine, line_text}
 use Rattle.engine.proofs.LineParts.{no_line, whole_line}
-use Rattle.engine.proofs.line_parts.line_at_once.Goals as goal
+use Rattle.engine.proofs.line_parts.line_in_parts.Goals as goal
 
 pub returns : goal.returns
 returns g c =
     let rings = c.args.rings.now in
-    let parts = c.in_ok-parts.parts in
+    let parts = c.in_ok-others.others in
     let end = c.in_ok-end.field-0 in
     let some : 0 < length rings = omega (arith, c.count.ensures, c.if-count-eq0.false) in
-    let others : IsPartOfLine rings 1 c.count-2.result parts = c.in_ok-parts.ensures in
     IfOk-weaker c.joined-2.result (λ text. text ≡ c.in_ok-joined.field-0 ++ end) (λ text. IsLine rings text)
     (λ text e. whole_line rings c.in_ok-beginning.beginning parts end text some c.in_ok-beginning.ensures.text c.in_ok-beginning.ensures.readable
-    (subst (λ (past : ℕ). IsPartOfLine rings 1 past parts) c.count-2.ensures others) c.in_ok-end.ensures (e ∙ ap (λ (t : List ℕ). t ++ end) c.in_ok-joined.ensures))
+    c.in_ok-others.ensures c.in_ok-end.ensures (e ∙ ap (λ (t : List ℕ). t ++ end) c.in_ok-joined.ensures))
     c.joined-2.ensures
 
 pub returns-then-count-eq0 : goal.returns-then-count-eq0

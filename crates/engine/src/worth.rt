@@ -1,0 +1,35 @@
+//! How much work of each stage is worth several parts, each of which a thread of its own makes.
+
+ghost use Rattle.std.specs.Prelude.{◌≤◌, max};
+
+/// Bytes of two layer texts, read at once.
+pub(crate) const TEXTS: usize = 16_384;
+
+/// Bytes of one layer text, read.
+pub(crate) const BYTES: usize = 131_072;
+
+/// Segments, from which come the cells and their bins.
+pub(crate) const SEGMENTS: usize = 16_384;
+
+/// Records of pieces, linked.
+pub(crate) const RECORDS: usize = 16_384;
+
+/// Rounded edges, whose lines are written.
+pub(crate) const LINES: usize = 4_096;
+
+/// Rounded edges, swept.
+pub(crate) const EDGES: usize = 4_096;
+
+/// Directed edges, of which rings are cut and written.
+pub(crate) const DIRECTED: usize = 8_192;
+
+/// In how many parts workers make as much work of a stage: one each, where it is worth several.
+pub(crate) fn parts(workers: u32, work: usize, worth: usize) -> usize
+    ensures some { 1 ≤ result }
+    ensures most { result ≤ max 1 workers }
+{
+    if work < worth {
+        return 1;
+    }
+    workers.max(1) as usize
+}
