@@ -21,8 +21,6 @@ mod shared_vertices;
 mod standing;
 mod status;
 mod strips;
-#[cfg(test)]
-mod tests;
 mod turn;
 mod vertices;
 
@@ -31,6 +29,9 @@ pub use laws::{
     changing_are_layers, changing_bound, ends_are_level, first_left, left_of_first, left_of_next,
     right_is_beyond, search_is_monotone, standing_reaches, standing_stays, turn_is_labelled,
 };
+pub use overlap::merged;
 pub use parities::Parities;
 pub use pass::sweep;
+pub use shared_vertices::vertices_in_parts;
 pub use standing::{LabelledEdge, Spoke, StandingEdge};
+pub use strips::strips_of;

@@ -1,9 +1,7 @@
 //! How vertices are cut into strips, and how lists become one: their sizes and their order are cost alone, so no contract says them.
 
-use crate::overlap::merged;
-use crate::shared_vertices::vertices_in_parts;
-use crate::strips::strips_of;
 use geom::{Counted, Edge, NoMemory, Pt};
+use label_sweep::{merged, strips_of, vertices_in_parts};
 use std::alloc::{Allocator, Global};
 use std::thread::Threads;
 
