@@ -9,7 +9,7 @@ ghost use Rattle.grid.specs.Tiles.{tile_count, Owns};
 ghost use Rattle.hot_pixel.specs.Candidates.{AreCandidates};
 ghost use Rattle.routing.specs.Pieces.{candidates_of, IsPartOf, IsPieceOf};
 
-use crate::halved::{InTile, found_in};
+use crate::halved::found_in;
 use crate::pieces::{Part, Piece};
 use crate::record::Candidate;
 use geom::{NoMemory, Seg};
@@ -52,7 +52,7 @@ pub fn piece<A: Allocator + Copy>(
     ensures exact { IfOk result (λ p. IsPieceOf (Owns grid.now number) segments.now p.hot p.records.items) }
 {
     let tile = grid.rect(number);
-    let InTile {
+    let Part {
         pixels,
         mut records,
     } = found_in(alloc, &tile, segments, numbers)?;
@@ -85,6 +85,5 @@ pub fn part<A: Allocator + Copy>(
     ensures { IfOk result (λ p. IsPartOf (Owns grid.now number) segments.now p.pixels.items p.records.items) }
 {
     let tile = grid.rect(number);
-    let InTile { pixels, records } = found_in(alloc, &tile, segments, numbers)?;
-    Ok(Part { pixels, records })
+    found_in(alloc, &tile, segments, numbers)
 }

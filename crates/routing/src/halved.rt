@@ -8,7 +8,7 @@
 //! 6. Each line is tested against each hot pixel that was found there. Where it meets one, each segment on the line has a
 //!    record.
 
-ghost use Rattle.std.specs.Prelude.{◌≡◌, ◌<◌, ◌≤◌, All, IfOk, IfSome, OnOk, [], length};
+ghost use Rattle.std.specs.Prelude.{◌<◌, ◌≤◌, All, IfOk, IfSome, OnOk, [], length};
 ghost use Rattle.geom.specs.declared.rect.Rect.{Rect};
 ghost use Rattle.geom.specs.Limit.{AreInLimit, InLimit};
 ghost use Rattle.hot_pixel.specs.Candidates.{chosen, AreOwnedHot};
@@ -20,6 +20,7 @@ ghost use Rattle.routing.specs.Recording.{AddsAt, AddsAlong, AddsRecordsAt, Adds
 
 use crate::by_line::{OnLine, by_line, lines_of};
 use crate::met::meets;
+use crate::pieces::Part;
 use crate::record::{Record, steps_to};
 use geom::{NoMemory, Pt, Rect, Seg};
 use hot_pixel::{
@@ -29,13 +30,6 @@ use std::alloc::Allocator;
 
 /// How often a rectangle is halved at most. Within the coordinate limit a single pixel is left after 60.
 const DEPTH: u32 = 60;
-
-/// The hot pixels of a tile, and the records of its segments there.
-#[derive(Drop)]
-pub(crate) struct InTile<A: Allocator> {
-    pub pixels: Vec<Pt, A>,
-    pub records: Vec<Record, A>,
-}
 
 /// Adds the record of each segment on a line at a pixel.
 #[inline(never)]
@@ -116,7 +110,7 @@ fn add_found<A: Allocator>(
     table: &[OnLine],
     rect: &Rect,
     lines: &[Line],
-    found: &mut InTile<A>,
+    found: &mut Part<A>,
 ) -> Result<(), NoMemory>
     requires here { HasHot rect.now (edges_of lines.now) [] here.items }
     requires segments_in { All (λ s. AreInLimit s.a s.b) segments.now }
@@ -139,7 +133,7 @@ fn add_all<A: Allocator + Copy>(
     table: &[OnLine],
     rect: &Rect,
     lines: &[Line],
-    found: &mut InTile<A>,
+    found: &mut Part<A>,
 ) -> Result<(), NoMemory>
     requires segments_in { All (λ s. AreInLimit s.a s.b) segments.now }
     requires table_in { All (λ x. x.number < length segments.now) table.now }
@@ -190,7 +184,7 @@ fn halve<A: Allocator + Copy>(
     rect: &Rect,
     lines: &[Line],
     depth: u32,
-    found: &mut InTile<A>,
+    found: &mut Part<A>,
 ) -> Result<(), NoMemory>
     requires segments_in { All (λ s. AreInLimit s.a s.b) segments.now }
     requires table_in { All (λ x. x.number < length segments.now) table.now }
@@ -230,7 +224,7 @@ pub(crate) fn found_in<A: Allocator + Copy>(
     tile: &Rect,
     segments: &[Seg],
     numbers: &[u32],
-) -> Result<InTile<A>, NoMemory>
+) -> Result<Part<A>, NoMemory>
     requires limits { All (λ s. AreInLimit s.a s.b) segments.now }
     requires below { All (λ k. k < length segments.now) numbers.now }
     ensures pixels { IfOk result (λ f. AreOwnedHot (IsIn tile.now) (chosen segments.now numbers.now) f.pixels.items) }
@@ -238,7 +232,7 @@ pub(crate) fn found_in<A: Allocator + Copy>(
 {
     let table = by_line(alloc, tile, segments, numbers)?;
     let lines = lines_of(alloc, &table)?;
-    let mut found = InTile {
+    let mut found = Part {
         pixels: Vec::new(alloc),
         records: Vec::new(alloc),
     };
@@ -246,7 +240,7 @@ pub(crate) fn found_in<A: Allocator + Copy>(
         None => Ok(found),
         Some(part) => {
             halve(alloc, segments, &table, &part, &lines, DEPTH, &mut found)?;
-            Ok(InTile {
+            Ok(Part {
                 pixels: ascending(found.pixels),
                 records: found.records,
             })
