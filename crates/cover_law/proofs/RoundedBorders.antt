@@ -55,12 +55,12 @@ either_true a b (inr h) = grind arith
 second_true : (a b : Bool) → a ≡ false → a || b ≡ true → b ≡ true
 second_true a b h k = grind arith
 
-in_has : (f : ℕ) (fs : List ℕ) → In f fs → has f fs ≡ true
+pub in_has : (f : ℕ) (fs : List ℕ) → In f fs → has f fs ≡ true
 in_has f [] i = absurd i
 in_has f (g ∷ gs) (inl e) = either_true (f == g) (has f gs) (inl (eq-eqb f g (sym e)))
 in_has f (g ∷ gs) (inr i) = either_true (f == g) (has f gs) (inr (in_has f gs i))
 
-has_in : (f : ℕ) (fs : List ℕ) → has f fs ≡ true → In f fs
+pub has_in : (f : ℕ) (fs : List ℕ) → has f fs ≡ true → In f fs
 has_in f [] h = absurd (let k = h in cc)
 has_in f (g ∷ gs) h = by_test (f == g) (In f (g ∷ gs)) (λ t. inl (sym (eqb-true f g t))) (λ n. inr (has_in f gs (second_true (f == g) (has f gs) n h)))
 

@@ -1,0 +1,10 @@
+pub mod Numbers
+pub mod Lists
+pub mod Numbered
+pub mod Blocks
+pub mod Exchanges
+pub mod TreeLaws
+pub mod NextTree
+pub mod Kept
+pub mod ExchangeSteps
+pub mod ListHalves

@@ -1,0 +1,5 @@
+pub mod Sets
+pub mod Blocks
+pub mod Exchange
+pub mod Key
+pub mod Trees

@@ -1,0 +1,303 @@
+//! A set of features is a number: `EMPTY`; a feature alone, with the top bit; or the number of a tree. A tree has two parts, which are
+//! sets, and splits at the highest bit in which its features differ. So a set has one tree. No tree is made twice, since a table finds
+//! it by its parts: equal sets have equal numbers.
+//!
+//! 1. A list of features becomes a set by halves (`of`).
+//! 2. What lies beyond an edge is found part by part; parts that don't change are shared (`beyond`).
+
+ghost use Rattle.std.specs.Prelude.{◌≡◌, ◌≢◌, ◌+◌, ◌*◌, ◌/◌, ◌^◌, ◌<◌, ◌≤◌, ◌++◌, ℕ, List, [], All, AllPairs, Contains, IfOk, OnOk, length};
+ghost use Rattle.cover_sets.specs.Sets.{AreSets, IsBeyond, IsListed, IsNumber, Keeps, set_of};
+ghost use Rattle.cover_sets.specs.Blocks.{AreInBlock, InBlock, IsInBlock, Splits};
+ghost use Rattle.cover_sets.specs.Exchange.{IsExchanged};
+ghost use Rattle.cover_sets.specs.Trees.{IsTree};
+
+use crate::halves::{common_levels, few_of, halves, list_levels};
+use crate::table::{Table, add, key_of};
+use crate::tree::{ALONE, EMPTY, Head, Tree};
+use geom::NoMemory;
+use std::alloc::Allocator;
+use std::collections::HashMap;
+use std::marker::Model;
+
+/// Features agree above so many bits, whichever they are.
+const BITS: u32 = 31;
+
+/// Sets of features below 2^31 - 1, by their numbers. In contracts they are the lists of those sets that have a tree.
+#[derive(Drop)]
+pub struct Sets<A: Allocator> {
+    trees: Vec<Tree, A>,
+    table: Table<A>,
+}
+
+impl<A: Allocator> Model for Sets<A> {
+    ghost use Rattle.std.specs.Prelude.{List, ℕ, nat_eq};
+    ghost use Rattle.std.specs.HashMap.{get};
+
+    ghost Value = { List (List ℕ) };
+
+    ghost use Rattle.cover_sets.specs.Trees.{AreTrees, sets_of};
+
+    ghost view = { λ s. sets_of s.trees.items };
+
+    ghost invariant = { λ s. AreTrees s.trees.items (get nat_eq s.table) };
+}
+
+impl<A: Allocator + Copy> Sets<A> {
+    /// No trees.
+    pub fn new(alloc: A) -> Sets<A>
+        ensures { result ≡ [] }
+    {
+        Sets {
+            trees: Vec::new(alloc),
+            table: HashMap::new(alloc),
+        }
+    }
+
+    /// The set of ascending features.
+    pub fn of(&mut self, features: &[u32]) -> Result<u32, NoMemory>
+        requires ascending { AllPairs (λ f g. f < g) features.now }
+        requires below { All (λ f. f < 2147483647) features.now }
+        ensures keeps { Keeps self.old self.new }
+        ensures sets { AreSets self.new }
+        ensures set { IfOk result (IsListed self.new features.now) }
+    {
+        self.of_part(features, BITS)
+    }
+
+    /// The features in one of the two sets and not in both: the set beyond an edge whose features are `delta`.
+    pub fn beyond(&mut self, set: u32, delta: u32) -> Result<u32, NoMemory>
+        requires set { IsNumber self.old set }
+        requires delta { IsNumber self.old delta }
+        ensures keeps { Keeps self.old self.new }
+        ensures sets { AreSets self.new }
+        ensures beyond { IfOk result (IsBeyond self.old set delta self.new) }
+    {
+        let _trees = &self.trees;
+        self.exchanged(set, delta, BITS)
+    }
+
+    /// How many features the set has.
+    pub fn size(&self, set: u32) -> u64
+        requires { IsNumber self.now set }
+        ensures { result ≡ length (set_of self.now set) }
+    {
+        self.len(set) as u64
+    }
+
+    /// Writes the features of the set, ascending, behind those of the list.
+    pub fn push_features<B: Allocator>(
+        &self,
+        set: u32,
+        out: &mut Vec<u32, B>,
+    ) -> Result<(), NoMemory>
+        requires { IsNumber self.now set }
+        ensures { OnOk result (out.new.items ≡ out.old.items ++ set_of self.now set) }
+    {
+        if set == EMPTY {
+            return Ok(());
+        }
+        if set >= ALONE {
+            out.push(set - ALONE)?;
+            return Ok(());
+        }
+        let tree = self.tree_at(set);
+        self.push_features(tree.low, out)?;
+        self.push_features(tree.high, out)
+    }
+
+    fn len(&self, set: u32) -> u32
+        requires { IsNumber self.now set }
+        ensures { result ≡ length (set_of self.now set) }
+    {
+        if set == EMPTY {
+            return 0;
+        }
+        if set >= ALONE {
+            return 1;
+        }
+        self.tree_at(set).size
+    }
+
+    /// The tree of a number without the top bit.
+    fn tree_at(&self, set: u32) -> Tree
+        requires known { IsNumber self.now set }
+        requires tree { set < 2147483648 }
+        ensures { IsTree self.now set result }
+    {
+        let trees: &[Tree] = &self.trees;
+        trees[set as usize]
+    }
+
+    fn head(&self, set: u32) -> Head
+        requires known { IsNumber self.now set }
+        requires some { set < 4294967295 }
+        ensures member { Contains (set_of self.now set) result.member }
+        ensures block { InBlock result.levels (result.member / 2 ^ result.levels) (set_of self.now set) }
+        ensures least { (levels : ℕ) → IsInBlock levels (set_of self.now set) → result.levels ≤ levels }
+        ensures alone { result.levels ≡ 0 → set ≡ 2147483648 + result.member }
+        ensures tree { 0 < result.levels → set < 2147483648 }
+    {
+        if set >= ALONE {
+            return Head {
+                member: set - ALONE,
+                levels: 0,
+            };
+        }
+        let tree = self.tree_at(set);
+        Head {
+            member: tree.member,
+            levels: tree.levels,
+        }
+    }
+
+    /// The features of the set whose bit `level` is 0, and those where it is 1. All agree above it.
+    fn parts(&self, set: u32, level: u32) -> (u32, u32)
+        requires known { IsNumber self.now set }
+        requires some { set < 4294967295 }
+        requires level { level < 31 }
+        requires block { IsInBlock (level + 1) (set_of self.now set) }
+        ensures low { IsNumber self.now result.0 }
+        ensures high { IsNumber self.now result.1 }
+        ensures both { set_of self.now result.0 ++ set_of self.now result.1 ≡ set_of self.now set }
+        ensures low_block { (p : ℕ) → InBlock (level + 1) p (set_of self.now set) → InBlock level (2 * p) (set_of self.now result.0) }
+        ensures high_block { (p : ℕ) → InBlock (level + 1) p (set_of self.now set) → InBlock level (2 * p + 1) (set_of self.now result.1) }
+    {
+        let head = self.head(set);
+        if head.levels > level {
+            let tree = self.tree_at(set);
+            return (tree.low, tree.high);
+        }
+        if (head.member >> level) % 2 == 0 {
+            (set, EMPTY)
+        } else {
+            (EMPTY, set)
+        }
+    }
+
+    /// The least number of bits above which all features of both sets agree.
+    fn shared_levels(&self, a: u32, b: u32, most: u32) -> u32
+        requires a { IsNumber self.now a }
+        requires b { IsNumber self.now b }
+        requires some_a { a < 4294967295 }
+        requires some_b { b < 4294967295 }
+        requires apart { a ≢ b }
+        requires most { most ≤ 31 }
+        requires block { AreInBlock most (set_of self.now a) (set_of self.now b) }
+        ensures some { 0 < result }
+        ensures within { result ≤ most }
+        ensures block { AreInBlock result (set_of self.now a) (set_of self.now b) }
+    {
+        let head = self.head(a);
+        let other = self.head(b);
+        common_levels(
+            head.member,
+            other.member,
+            head.levels.max(other.levels),
+            most,
+        )
+    }
+
+    /// The set of both parts, which differ in the highest of the `levels` bits above which all agree.
+    fn joined(&mut self, low: u32, high: u32, levels: u32) -> Result<u32, NoMemory>
+        requires low { IsNumber self.old low }
+        requires high { IsNumber self.old high }
+        requires levels { levels ≤ 31 }
+        requires splits { Splits levels (set_of self.old low) (set_of self.old high) }
+        ensures keeps { Keeps self.old self.new }
+        ensures sets { AreSets self.new }
+        ensures set { IfOk result (IsListed self.new (set_of self.old low ++ set_of self.old high)) }
+    {
+        if low == EMPTY {
+            let _trees = &self.trees;
+            return Ok(high);
+        }
+        if high == EMPTY {
+            let _trees = &self.trees;
+            return Ok(low);
+        }
+        self.tree(low, high, levels)
+    }
+
+    /// The same of two parts that both have features.
+    fn tree(&mut self, low: u32, high: u32, levels: u32) -> Result<u32, NoMemory>
+        requires low { IsNumber self.old low }
+        requires high { IsNumber self.old high }
+        requires some_low { low < 4294967295 }
+        requires some_high { high < 4294967295 }
+        requires levels { levels ≤ 31 }
+        requires splits { Splits levels (set_of self.old low) (set_of self.old high) }
+        ensures keeps { Keeps self.old self.new }
+        ensures sets { AreSets self.new }
+        ensures set { IfOk result (IsListed self.new (set_of self.old low ++ set_of self.old high)) }
+    {
+        match self.table.get(&key_of(low, high)) {
+            Some(number) => return Ok(*number),
+            None => {}
+        }
+        if self.trees.len() >= ALONE as usize {
+            return Err(NoMemory);
+        }
+        let member = self.head(low).member;
+        let size = self.len(low) + self.len(high);
+        let tree = Tree {
+            low,
+            high,
+            levels,
+            member,
+            size,
+        };
+        let number = add(&mut self.trees, &mut self.table, tree)?;
+        Ok(number)
+    }
+
+    /// The set of ascending features that agree above `most` bits.
+    fn of_part(&mut self, features: &[u32], most: u32) -> Result<u32, NoMemory>
+        requires ascending { AllPairs (λ f g. f < g) features.now }
+        requires below { All (λ f. f < 2147483647) features.now }
+        requires most { most ≤ 31 }
+        requires block { IsInBlock most features.now }
+        ensures keeps { Keeps self.old self.new }
+        ensures sets { AreSets self.new }
+        ensures set { IfOk result (IsListed self.new features.now) }
+    {
+        if features.len() < 2 {
+            let _trees = &self.trees;
+            return Ok(few_of(features));
+        }
+        let level = list_levels(features, most) - 1;
+        let (front, back) = halves(features, level);
+        let low = self.of_part(front, level)?;
+        let high = self.of_part(back, level)?;
+        self.joined(low, high, level + 1)
+    }
+
+    /// The features in one of two sets and not in both, where all agree above `most` bits.
+    fn exchanged(&mut self, a: u32, b: u32, most: u32) -> Result<u32, NoMemory>
+        requires a { IsNumber self.old a }
+        requires b { IsNumber self.old b }
+        requires most { most ≤ 31 }
+        requires block { AreInBlock most (set_of self.old a) (set_of self.old b) }
+        ensures keeps { Keeps self.old self.new }
+        ensures sets { AreSets self.new }
+        ensures set { IfOk result (IsExchanged self.old a b self.new) }
+    {
+        if a == b {
+            let _trees = &self.trees;
+            return Ok(EMPTY);
+        }
+        if a == EMPTY {
+            let _trees = &self.trees;
+            return Ok(b);
+        }
+        if b == EMPTY {
+            let _trees = &self.trees;
+            return Ok(a);
+        }
+        let level = self.shared_levels(a, b, most) - 1;
+        let (a_low, a_high) = self.parts(a, level);
+        let (b_low, b_high) = self.parts(b, level);
+        let low = self.exchanged(a_low, b_low, level)?;
+        let high = self.exchanged(a_high, b_high, level)?;
+        self.joined(low, high, level + 1)
+    }
+}
