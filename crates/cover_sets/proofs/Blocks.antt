@@ -1,9 +1,9 @@
 -- Blocks of features, and their halves.
-use Rattle.std.proofs.Common.{◌≡◌, ◌⊎◌, inl, inr, ℕ, zero, suc, ◌+◌, ◌*◌, ◌/◌, ◌%◌, ◌^◌, ◌<◌, ◌≤◌, List, [], ◌∷◌, ◌++◌, refl, sym, ap, ◌∙◌, arith, subst, ⊎_elim}
+use Rattle.std.proofs.Common.{◌≡◌, ◌⊎◌, inl, inr, ℕ, zero, suc, ◌+◌, ◌*◌, ◌/◌, ◌%◌, ◌^◌, ◌<◌, ◌≤◌, List, [], ◌++◌, sym, ◌∙◌, arith, subst, ⊎_elim}
 use Rattle.std.specs.List.{All}
 use Rattle.geom.proofs.Lists.{In, in_append}
 use Rattle.geom.proofs.Owners.{all_in}
-use Rattle.cover_sets.specs.Blocks.{InBlock, IsInBlock, Splits}
+use Rattle.cover_sets.specs.Blocks.{InBlock, Splits}
 use Rattle.cover_sets.proofs.Lists.{of_all}
 use Rattle.cover_sets.proofs.Numbers.{above_half, above_other, coarser, is_even, is_other}
 

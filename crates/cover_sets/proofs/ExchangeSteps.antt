@@ -1,5 +1,5 @@
 -- Both halves of a block exchanged one after the other, and joined.
-use Rattle.std.proofs.Common.{◌≡◌, ℕ, ◌+◌, ◌*◌, List, ◌++◌, refl, sym, ap, ◌∙◌, subst}
+use Rattle.std.proofs.Common.{◌≡◌, ℕ, ◌+◌, ◌*◌, List, ◌++◌, refl, sym, subst}
 use Rattle.cover_sets.specs.Blocks.{InBlock, Splits}
 use Rattle.cover_sets.specs.Exchange.{IsExchange, IsExchanged}
 use Rattle.cover_sets.specs.Sets.{IsListed, IsNumber, Keeps, set_of}

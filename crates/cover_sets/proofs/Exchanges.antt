@@ -1,13 +1,13 @@
 -- The features in one of two sets and not in both.
-use Rattle.std.proofs.Common.{◌≡◌, ◌⊎◌, inl, inr, ℕ, zero, suc, ◌+◌, ◌*◌, ◌/◌, ◌^◌, ◌<◌, List, [], ◌∷◌, ◌++◌, Bool, true, false, not, refl, sym, ap, ◌∙◌, arith, subst, ⊎_elim, eqb}
-use Rattle.std.specs.List.{All, AllPairs, filter}
+use Rattle.std.proofs.Common.{◌≡◌, ◌⊎◌, inl, inr, ℕ, zero, suc, ◌+◌, ◌*◌, ◌/◌, ◌^◌, ◌<◌, List, [], ◌∷◌, ◌++◌, Bool, true, false, refl, sym, ap, ◌∙◌, arith, ⊎_elim}
+use Rattle.std.specs.List.{All}
 use Rattle.std.specs.Prelude.{◌||◌, ◌==◌}
 use Rattle.std.proofs.lemmas.List.Kept.{AllPairs-filter}
-use Rattle.geom.proofs.Lists.{In, contains_in, in_append, in_back, in_contains, in_front}
+use Rattle.geom.proofs.Lists.{In, contains_in, in_contains}
 use Rattle.geom.proofs.ListOrder.{same_ascending}
 use Rattle.cover_law.specs.Cover.{has, numbers_from}
 use Rattle.cover_law.specs.Rows.{beyond, differ}
-use Rattle.cover_law.proofs.Covers.{ascend, filtered, in_numbers, numbers_in, passes}
+use Rattle.cover_law.proofs.Covers.{ascend, filtered, numbers_in, passes}
 use Rattle.cover_law.proofs.RoundedBorders.{has_in, in_has}
 use Rattle.cover_sets.specs.Blocks.{InBlock}
 use Rattle.cover_sets.specs.Exchange.{IsExchange}

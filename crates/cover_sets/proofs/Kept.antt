@@ -1,8 +1,8 @@
 -- What the fields of sets tell of their numbers.
-use Rattle.std.proofs.Common.{◌≡◌, ◌⊎◌, inl, inr, ℕ, ◌+◌, ◌<◌, ◌≤◌, List, [], ◌∷◌, sym, ap, ◌∙◌, arith, subst, length, get_or}
+use Rattle.std.proofs.Common.{◌≡◌, inl, inr, ℕ, ◌<◌, List, sym, ap, ◌∙◌, arith, subst, length, get_or}
 use Rattle.std.specs.Prelude.{Option}
 use Rattle.cover_sets.specs.declared.tree.Tree.{Tree}
-use Rattle.cover_sets.specs.Sets.{AreSets, IsNumber, set_of}
+use Rattle.cover_sets.specs.Sets.{AreSets, IsNumber}
 use Rattle.cover_sets.specs.Trees.{AreTrees, IsTree, sets_of}
 use Rattle.cover_sets.proofs.TreeLaws.{length_of}
 

@@ -1,14 +1,14 @@
 -- An ascending list of features of one block has those of its low half first.
 use Rattle.std.proofs.Common.{◌≡◌, ◌⊎◌, inl, inr, ℕ, zero, suc, ◌+◌, ◌-◌, ◌*◌, ◌/◌, ◌%◌, ◌^◌, ◌<◌, ◌≤◌, List, [], ◌∷◌, ◌++◌, Bool, true, false, refl, sym, ap, ◌∙◌, arith, subst, ⊎_elim, length, get_or, take, drop, eqb, eqb-true, eq-eqb}
-use Rattle.std.specs.List.{All, AllPairs, AllWithin}
+use Rattle.std.specs.List.{All, AllWithin}
 use Rattle.std.proofs.Math.Pow.{shr_mono}
 use Rattle.std.proofs.lemmas.List.{get_or-take, get_or-drop, get_or_default}
 use Rattle.std.proofs.lemmas.List.Kept.{AllPairs-cons}
 use Rattle.std.specs.List.Sorted.{IsPartitionedBy}
-use Rattle.geom.proofs.Lists.{In, in_back, in_front}
+use Rattle.geom.proofs.Lists.{in_back, in_front}
 use Rattle.geom.proofs.ListOrder.{pairs_head, pairs_tail}
 use Rattle.geom.proofs.Owners.{all_in}
-use Rattle.cover_sets.specs.Blocks.{InBlock, IsInBlock, Splits}
+use Rattle.cover_sets.specs.Blocks.{InBlock, Splits}
 use Rattle.cover_sets.specs.Sets.{IsListed, Keeps, set_of}
 use Rattle.cover_sets.proofs.Lists.{Ascend, of_all}
 use Rattle.cover_sets.proofs.Numbers.{is_even, is_other}

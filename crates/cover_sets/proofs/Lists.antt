@@ -1,8 +1,8 @@
 -- Lists: what holds of all elements, ascending lists, and lists in two parts.
-use Rattle.std.proofs.Common.{◌≡◌, ◌⊎◌, inl, inr, ℕ, zero, suc, ◌+◌, ◌<◌, ◌≤◌, List, [], ◌∷◌, ◌++◌, refl, sym, ap, ◌∙◌, arith, subst, ⊎_elim, length}
+use Rattle.std.proofs.Common.{◌≡◌, ◌⊎◌, inl, inr, ℕ, suc, ◌+◌, ◌<◌, ◌≤◌, List, [], ◌∷◌, ◌++◌, refl, sym, ap, ◌∙◌, arith, subst, ⊎_elim, length}
 use Rattle.std.specs.List.{All, AllPairs}
 use Rattle.std.proofs.lemmas.List.Kept.{AllPairs-cons}
-use Rattle.geom.proofs.Lists.{In, in_append, in_back, in_contains, in_front}
+use Rattle.geom.proofs.Lists.{In, in_append, in_contains}
 use Rattle.geom.proofs.ListOrder.{pairs_head, pairs_tail}
 use Rattle.geom.proofs.Owners.{all_in}
 

@@ -1,11 +1,11 @@
 -- One tree more: its set is of no number that was there, and the table finds it.
-use Rattle.std.proofs.Common.{◌≡◌, ◌≢◌, ◌⊎◌, inl, inr, ℕ, zero, suc, ◌+◌, ◌*◌, ◌/◌, ◌^◌, ◌-◌, ◌<◌, ◌≤◌, List, [], ◌∷◌, ◌++◌, Bool, true, false, cond, refl, sym, ap, ◌∙◌, arith, subst, ⊎_elim, length, get_or, length-append, eqb}
-use Rattle.std.specs.List.{All, AllPairs, Contains}
+use Rattle.std.proofs.Common.{◌≡◌, ◌≢◌, ◌⊎◌, inl, inr, ℕ, zero, suc, ◌+◌, ◌*◌, ◌/◌, ◌^◌, ◌-◌, ◌<◌, ◌≤◌, List, [], ◌∷◌, ◌++◌, Bool, true, cond, refl, sym, ap, ◌∙◌, arith, subst, ⊎_elim, length, get_or, length-append, eqb}
+use Rattle.std.specs.List.{All, Contains}
 use Rattle.std.specs.Prelude.{None, Option, Some}
 use Rattle.std.proofs.lemmas.List.{get_or_append_left, get_or_push, length_push}
 use Rattle.std.proofs.lemmas.List.Elements.{All-append, Contains-append_left}
 use Rattle.std.proofs.lemmas.Nat.{same_from_place}
-use Rattle.geom.proofs.Lists.{In, in_append, in_back, in_front}
+use Rattle.geom.proofs.Lists.{in_back, in_front}
 use Rattle.cover_sets.specs.declared.tree.Tree.{Tree}
 use Rattle.cover_sets.specs.Blocks.{InBlock, Splits}
 use Rattle.cover_sets.specs.Key.{key_of}
@@ -13,7 +13,7 @@ use Rattle.cover_sets.specs.Sets.{AreSets, IsListed, IsNumber, set_of}
 use Rattle.cover_sets.specs.Trees.{AreTrees, IsPart, IsTree, sets_of}
 use Rattle.cover_sets.proofs.Numbers.{below_by_block, less_or}
 use Rattle.cover_sets.proofs.Lists.{Ascend, ascend_both, few_ascend, of_all, one_split}
-use Rattle.cover_sets.proofs.Numbered.{kind_of, number_added, number_stays, of_alone, of_empty, of_other, of_tree, old_or_new, other_than, set_added, set_stays}
+use Rattle.cover_sets.proofs.Numbered.{kind_of, number_added, of_alone, of_empty, old_or_new, other_than, set_added, set_stays}
 use Rattle.cover_sets.proofs.Blocks.{at_block, no_less, whole}
 use Rattle.cover_sets.proofs.TreeLaws.{length_of, length_some, part_is_number, sets_push, some_first, tree_set}
 

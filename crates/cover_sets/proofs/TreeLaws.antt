@@ -1,11 +1,11 @@
 -- The trees of sets: what a tree tells of its set.
-use Rattle.std.proofs.Common.{◌≡◌, ◌≢◌, ◌⊎◌, inl, inr, ℕ, zero, suc, ◌+◌, ◌*◌, ◌/◌, ◌^◌, ◌-◌, ◌<◌, ◌≤◌, List, [], ◌∷◌, ◌++◌, refl, sym, ap, ◌∙◌, arith, subst, ⊎_elim, length, get_or, length-append}
+use Rattle.std.proofs.Common.{◌≡◌, ◌≢◌, inl, inr, ℕ, ◌+◌, ◌*◌, ◌/◌, ◌^◌, ◌<◌, ◌≤◌, List, [], ◌∷◌, ◌++◌, refl, sym, ap, ◌∙◌, arith, subst, length, get_or, length-append}
 use Rattle.std.specs.List.{Contains}
 use Rattle.std.specs.Prelude.{Option}
-use Rattle.std.proofs.lemmas.List.{get_or_append_left, get_or_push, length_push, append_assoc}
-use Rattle.geom.proofs.Lists.{In, contains_in, in_append, in_back, in_front}
+use Rattle.std.proofs.lemmas.List.{length_push}
+use Rattle.geom.proofs.Lists.{In, contains_in, in_back, in_front}
 use Rattle.cover_sets.specs.declared.tree.Tree.{Tree}
-use Rattle.cover_sets.specs.Blocks.{InBlock, IsInBlock, Splits}
+use Rattle.cover_sets.specs.Blocks.{InBlock, IsInBlock}
 use Rattle.cover_sets.specs.Sets.{IsNumber, set_of}
 use Rattle.cover_sets.specs.Trees.{AreTrees, IsPart, IsTree, sets_after, sets_of}
 use Rattle.cover_sets.proofs.Blocks.{at_block, block_of, no_less, whole}

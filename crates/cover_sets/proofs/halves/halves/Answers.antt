@@ -1,5 +1,5 @@
 -- The low half stands in front.
-use Rattle.std.proofs.Common.{◌≡◌, ℕ, rules, sym}
+use Rattle.std.proofs.Common.{rules}
 use Rattle.std.proofs.lemmas.List.Sorted.{IsPartitionPoint-from_clause}
 use Rattle.cover_sets.proofs.ListHalves.{back_high, front_low, is_low, parted}
 use Rattle.cover_sets.proofs.halves.halves.Goals as goal

@@ -1,5 +1,5 @@
 -- The first and the last feature agree where all do, and differ above no bit.
-use Rattle.std.proofs.Common.{◌≡◌, ℕ, zero, suc, ◌-◌, ◌/◌, ◌^◌, ◌<◌, ◌≤◌, sym, ap, ◌∙◌, subst, arith, length, get_or}
+use Rattle.std.proofs.Common.{◌≡◌, ℕ, zero, suc, ◌-◌, ◌/◌, ◌^◌, ◌<◌, sym, ◌∙◌, arith, length, get_or}
 use Rattle.cover_sets.proofs.ListHalves.{ends_block}
 use Rattle.cover_sets.proofs.halves.list_levels.Goals as goal
 

@@ -1,9 +1,9 @@
 -- Both halves of a block are exchanged one after the other.
-use Rattle.std.proofs.Common.{◌≡◌, ℕ, ◌+◌, ◌-◌, ◌*◌, ◌<◌, ◌≤◌, ◌++◌, List, sym, ap, ◌∙◌, subst, arith}
+use Rattle.std.proofs.Common.{◌≡◌, ℕ, ◌+◌, ◌-◌, ◌*◌, ◌<◌, ◌++◌, List, sym, subst, arith}
 use Rattle.std.proofs.lemmas.Result.{IfOk-weaker}
-use Rattle.cover_sets.specs.Blocks.{InBlock, Splits}
-use Rattle.cover_sets.specs.Exchange.{IsExchange, IsExchanged}
-use Rattle.cover_sets.specs.Sets.{IsListed, IsNumber, Keeps, set_of}
+use Rattle.cover_sets.specs.Blocks.{InBlock}
+use Rattle.cover_sets.specs.Exchange.{IsExchanged}
+use Rattle.cover_sets.specs.Sets.{IsListed, set_of}
 use Rattle.cover_sets.proofs.Numbered.{keeps_then}
 use Rattle.cover_sets.proofs.ExchangeSteps.{after_halves, halves_split}
 use Rattle.cover_sets.proofs.sets.Sets.+exchanged.Goals as goal

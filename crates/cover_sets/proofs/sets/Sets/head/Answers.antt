@@ -1,5 +1,5 @@
 -- The tree of a set has a member, and the least block.
-use Rattle.std.proofs.Common.{◌≡◌, ℕ, arith}
+use Rattle.std.proofs.Common.{arith}
 use Rattle.cover_sets.proofs.TreeLaws.{tree_block, tree_least, tree_member, tree_some_levels}
 use Rattle.cover_sets.proofs.sets.Sets.head.Goals as goal
 

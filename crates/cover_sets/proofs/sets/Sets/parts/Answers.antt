@@ -1,5 +1,5 @@
 -- The parts of a tree that splits there are its own; any other set lies in one half.
-use Rattle.std.proofs.Common.{◌≡◌, ℕ, ◌+◌, ◌*◌, ◌/◌, ◌%◌, ◌^◌, ◌<◌, ◌≤◌, sym, arith}
+use Rattle.std.proofs.Common.{◌+◌, ◌/◌, ◌^◌, sym, arith}
 use Rattle.geom.proofs.Lists.{contains_in}
 use Rattle.cover_sets.specs.Sets.{set_of}
 use Rattle.cover_sets.proofs.Blocks.{at_block, block_more, in_high, in_low}

@@ -1,5 +1,5 @@
 -- Both sets lie in the block of a feature of theirs.
-use Rattle.std.proofs.Common.{◌≡◌, ℕ, ◌/◌, ◌^◌, ◌≤◌, sym, subst, arith}
+use Rattle.std.proofs.Common.{ℕ, ◌/◌, ◌^◌, sym, subst, arith}
 use Rattle.cover_sets.specs.Blocks.{InBlock}
 use Rattle.cover_sets.specs.Sets.{set_of}
 use Rattle.cover_sets.proofs.Blocks.{block_more}

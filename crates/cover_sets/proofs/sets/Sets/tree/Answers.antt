@@ -1,10 +1,9 @@
 -- What the table finds is the set of both parts, and otherwise their tree is added.
-use Rattle.std.proofs.Common.{rules, ◌≡◌, ℕ, ◌+◌, ◌<◌, ◌≤◌, ◌++◌, ◌∷◌, [], List, sym, ap, ◌∙◌, subst, arith, length}
+use Rattle.std.proofs.Common.{rules, ◌≡◌, ℕ, ◌+◌, ◌<◌, ◌++◌, List, sym, ap, ◌∙◌, subst, arith, length}
 use Rattle.std.specs.HashMap.{get}
 use Rattle.std.specs.Map.{lookup}
 use Rattle.std.specs.Prelude.{nat_eq, Some, None}
 use Rattle.cover_sets.specs.declared.tree.Tree.{Tree}
-use Rattle.cover_sets.specs.Key.{key_of}
 use Rattle.cover_sets.specs.Sets.{AreSets, IsListed, Keeps, set_of}
 use Rattle.cover_sets.specs.Trees.{AreTrees, sets_of}
 use Rattle.cover_sets.proofs.Kept.{read_sets}
