@@ -13,13 +13,10 @@ from __future__ import annotations
 from collections import Counter, defaultdict, deque
 from typing import Iterable, Sequence
 
-from shapely.geometry import MultiLineString
-from shapely.ops import polygonize
-
 from .faults import Fault
-from .frame import GridPoint, GridPolygon
+from .columns import GridPoint, GridPolygon
 from .messages import followed
-from .texts import Edge
+from .parsing import Edge
 
 Ends = tuple[GridPoint, GridPoint]  # the lesser one first
 
@@ -103,6 +100,9 @@ class Arrangement:
 
     def faces(self) -> list[GridPolygon]:
         """The bounded faces, by GEOS."""
+        from shapely.geometry import MultiLineString  # which takes long, and is there for this alone
+        from shapely.ops import polygonize
+
         shapes = polygonize(list(MultiLineString(list(self.counts)).geoms))
         return [
             [[(int(x), int(y)) for x, y in ring.coords] for ring in (shape.exterior, *shape.interiors)]

@@ -3,20 +3,14 @@
 from __future__ import annotations
 
 import sys
-from argparse import ArgumentParser, RawDescriptionHelpFormatter
+from argparse import Action, ArgumentParser, RawDescriptionHelpFormatter
 from typing import NoReturn
 
-import shapely
 from osgeo import gdal
 
 from . import __version__, check, explain, faces, from_grid, messages, run, show, to_grid
 from .faults import FAILED, Fault
 from .stopping import Stopped, stoppable
-
-try:
-    from shapely import geos_version
-except ImportError:  # Shapely 1.8
-    from shapely.geos import geos_version
 
 VERBS = {
     "run": run,
@@ -41,6 +35,22 @@ class Parser(ArgumentParser):
         super().error(messages.shown(message))
 
 
+class Versions(Action):
+    """Tells the versions of all that is used."""
+
+    def __call__(self, parser: ArgumentParser, *_: object) -> NoReturn:
+        import shapely  # which takes as long as some runs, so it waits until it is needed
+
+        try:
+            from shapely import geos_version
+        except ImportError:  # Shapely 1.8
+            from shapely.geos import geos_version
+        geos = ".".join(map(str, geos_version))
+        told = f"GDAL {gdal.__version__}, Shapely {shapely.__version__}, GEOS {geos}"
+        print(f"{parser.prog} {__version__} ({told})")
+        parser.exit()
+
+
 def parser() -> ArgumentParser:
     top = Parser(
         prog="overlay-gis",
@@ -48,9 +58,7 @@ def parser() -> ArgumentParser:
         epilog=STATUSES,
         formatter_class=RawDescriptionHelpFormatter,
     )
-    geos = ".".join(map(str, geos_version))
-    versions = f"overlay-gis {__version__} (GDAL {gdal.__version__}, Shapely {shapely.__version__}, GEOS {geos})"
-    top.add_argument("--version", action="version", version=versions)
+    top.add_argument("--version", action=Versions, nargs=0, help="show program's version number and exit")
     verbs = top.add_subparsers(dest="verb", metavar="VERB", required=True)
     for name, verb in VERBS.items():
         told = verbs.add_parser(

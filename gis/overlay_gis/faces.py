@@ -10,14 +10,16 @@ from osgeo import ogr
 
 from . import options
 from .arrangement import Arrangement, covers
+from .columns import GridPolygon, of_polygons
 from .faults import Refusal
-from .frame import GridPolygon
-from .joined import Joined, joined
-from .layers import Source, files_of, polygons_of
+from .frame import Frame
+from .joined import Layer, joined
+from .layers import Source, files_of
 from .messages import during, say
-from .output import Column, Row, layer_target, polygon_geometry, write_layer
+from .output import Column, Row, layer_target, write_layer
+from .parsing import edges
 from .program import edges_of
-from .texts import Written, closed, on_grid, twice_area
+from .wkb import encoded
 
 HELP = (
     "tells which features of A lie in which features of B: the faces of both layers' borders, each with what covers it"
@@ -65,19 +67,10 @@ def kept_fields(source: Source, asked: str) -> list[ogr.FieldDefn]:
     return [there[name] for name in names]
 
 
-def kept(source: Source, mark: str, asked: str, both: Joined) -> Kept:
-    held = Kept(mark, kept_fields(source, asked), [], [], [])
-    for feature in source.features():
-        geometry = feature.GetGeometryRef()
-        if geometry is None or geometry.IsEmpty():
-            continue
-        number = feature.GetFID()
-        rings = (closed(polygon, number, Written()) for polygon in polygons_of(geometry))
-        rounded = [on_grid(polygon, both.frame) for polygon in rings]
-        held.ids.append(number)
-        held.values.append(tuple(feature.GetField(field.GetName()) for field in held.fields))
-        held.polygons.append(rounded)
-    return held
+def kept(layer: Layer, mark: str, asked: str) -> Kept:
+    fields, held = kept_fields(layer.source, asked), layer.grid.layer
+    values = layer.source.values([field.GetName() for field in fields], layer.seen)
+    return Kept(mark, fields, held.ids.tolist(), values, held.lists())
 
 
 def columns_of(held: Kept, several: bool) -> list[Column]:
@@ -106,12 +99,13 @@ def rows(
     covering: Sequence[tuple[list[int], list[int]]],
     held: Sequence[Kept],
     several: Sequence[bool],
-    both: Joined,
+    frame: Frame,
 ) -> Iterator[Row]:
-    for face, sides in zip(faces, covering):
+    shapes = of_polygons(faces)
+    for polygon, twice, sides in zip(encoded(frame.off_grid(shapes)), shapes.twice_areas(), covering):
         ids = [JOINT.join(str(layer.ids[k]) for k in side) or None for layer, side in zip(held, sides)]
         values = [value for layer, side, many in zip(held, sides, several) for value in values_of(layer, side, many)]
-        yield polygon_geometry(both.frame.polygon(face)), (*ids, both.frame.area(twice_area(face)), *values)
+        yield polygon, (*ids, frame.area(twice), *values)
 
 
 def sides_of(covered: frozenset) -> tuple[list[int], list[int]]:
@@ -125,8 +119,9 @@ def main(arguments: Namespace) -> int:
     target = layer_target(arguments.out, arguments.overwrite, files_of(sources))
     with joined(sources, arguments.grid, arguments.origin, arguments.system) as both:
         asked = (("a_", arguments.keep_a), ("b_", arguments.keep_b))
-        held = [kept(layer.source, mark, words, both) for layer, (mark, words) in zip(both.layers, asked)]
-        arrangement = Arrangement(edges_of(both.run("edges")))
+        question = both.ask("edges", both.layers)
+        held = [kept(layer, mark, words) for layer, (mark, words) in zip(both.layers, asked)]
+        arrangement = Arrangement(edges(edges_of(question.answer()[0])))
         borders = arrangement.borders([layer.polygons for layer in held], "following the borders")
         with during("making faces"):
             faces = arrangement.faces()
@@ -136,7 +131,7 @@ def main(arguments: Namespace) -> int:
         columns = [Column("a", ogr.OFTString), Column("b", ogr.OFTString), Column("area", ogr.OFTReal)]
         for layer, many in zip(held, several):
             columns += columns_of(layer, many)
-        written = rows([face for face, _ in answered], [sides for _, sides in answered], held, several, both)
+        written = rows([face for face, _ in answered], [sides for _, sides in answered], held, several, both.frame)
         count = write_layer(target, both.system, columns, written)
     say(f"{arguments.out}: {count:,} faces")
     return 0

@@ -1,27 +1,27 @@
 """Which point of the integer grid stands for which point of a reference system.
 
 A frame is the grid's unit, the point that becomes (0, 0), and the system. A coordinate goes to the nearest grid point,
-halves upward and to the right, as the program's own pixels do. That is exact: no sum here is rounded but the last.
+halves upward and to the right, as the program's own pixels do. That is exact; `rounding` says how.
 """
 
 from __future__ import annotations
 
 import json
 import re
-from dataclasses import dataclass
+from dataclasses import dataclass, replace
 from decimal import Decimal, InvalidOperation
 from fractions import Fraction
 from functools import cached_property
-from typing import Callable
 
 from osgeo import osr
 
+from .columns import Columns, GridPoint
 from .faults import Fault, Refusal
-from .layers import Box, Point, Polygon, system_from, unit_name
+from .layers import Box
+from .rounding import Axis
+from .systems import same, system_from, unit_name
 
-GridPoint = tuple[int, int]
-GridRing = list[GridPoint]  # the first point again at its end
-GridPolygon = list[GridRing]  # the shell first
+Point = tuple[float, float]
 
 # The program's limit of coordinates, in absolute value.
 LIMIT = 1 << 28
@@ -61,38 +61,39 @@ class Frame:
     system: str | None
 
     @cached_property
-    def rounded(self) -> Callable[[float, float], GridPoint]:
-        """The call that gives the grid point of a point."""
-        scale = Fraction(self.unit)
-        p, q = scale.numerator, scale.denominator
-        (ex, fx), (ey, fy) = ((Fraction(at) / scale - Fraction(1, 2)).as_integer_ratio() for at in self.origin)
-        (kx, lx, mx), (ky, ly, my) = ((q * fx, p * ex, p * fx), (q * fy, p * ey, p * fy))
+    def axes(self) -> tuple[Axis, Axis]:
+        x, y = (Axis(Fraction(at), Fraction(self.unit)) for at in self.origin)
+        return x, y
 
-        def place(x: float, y: float) -> GridPoint:
-            a, b = x.as_integer_ratio()
-            c, d = y.as_integer_ratio()
-            return (a * kx - b * lx) // (b * mx), (c * ky - d * ly) // (d * my)
+    def rounded(self, x: float, y: float) -> GridPoint:
+        """The grid point of a point."""
+        across, up = self.axes
+        return across.exact(x), up.exact(y)
 
-        return place
+    def placed(self, x: int, y: int) -> Point:
+        """The point of a grid point: the floating-point numbers next to its exact coordinates."""
+        across, up = self.axes
+        return across.place(x), up.place(y)
+
+    def on_grid(self, layer: Columns) -> Columns:
+        """Polygons in the system's coordinates, in grid units."""
+        across, up = self.axes
+        return replace(layer, x=across.rounded(layer.x), y=up.rounded(layer.y))
+
+    def off_grid(self, layer: Columns) -> Columns:
+        """Polygons in grid units, in the system's coordinates."""
+        across, up = self.axes
+        return replace(layer, x=across.placed(layer.x), y=up.placed(layer.y))
 
     @cached_property
-    def placed(self) -> Callable[[int, int], Point]:
-        """The call that gives the point of a grid point: the floating-point numbers next to its exact coordinates."""
-        scale = Fraction(self.unit)
-        both = [Fraction(at) for at in self.origin]
-        q = scale.denominator * both[0].denominator * both[1].denominator
-        p = scale.numerator * (q // scale.denominator)
-        ex, ey = (at.numerator * (q // at.denominator) for at in both)
-        return lambda x, y: ((x * p + ex) / q, (y * p + ey) / q)
+    def square(self) -> tuple[int, int]:
+        """Half a square unit of the grid, in square units of the system, as a fraction."""
+        return (Fraction(self.unit) ** 2 / 2).as_integer_ratio()
 
     def area(self, twice: int) -> float:
         """The area, in square units of the system, of twice so many square units of the grid."""
-        return float(Fraction(self.unit) ** 2 * twice / 2)
-
-    def polygon(self, polygon: GridPolygon) -> Polygon:
-        """A polygon of the grid in the system's coordinates."""
-        placed = self.placed
-        return [[placed(x, y) for x, y in ring] for ring in polygon]
+        p, q = self.square
+        return twice * p / q
 
     def told(self, system: osr.SpatialReference | None) -> str:
         """The frame, and what rounding means in it, in one line."""
@@ -240,8 +241,7 @@ def code_of(system: osr.SpatialReference | None) -> str | None:
     if system is None:
         return None
     code = system.GetAuthorityCode(None)
-    if code and system.IsSame(
-        system_from(f"{system.GetAuthorityName(None)}:{code}"), ["IGNORE_DATA_AXIS_TO_SRS_AXIS_MAPPING=YES"]
-    ):
-        return f"{system.GetAuthorityName(None)}:{code}"
+    name = f"{system.GetAuthorityName(None)}:{code}"
+    if code and same(system, system_from(name)):
+        return name
     return system.ExportToWkt(["FORMAT=WKT2_2019", "MULTILINE=NO"])

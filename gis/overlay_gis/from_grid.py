@@ -6,21 +6,23 @@ import os
 from argparse import ArgumentParser, Namespace
 from typing import Iterator
 
+import numpy as np
 from osgeo import ogr
 
 from . import frame as frames
-from . import options
+from . import options, parsing, run
+from .columns import Numbers
 from .frame import Frame
-from .layers import system_from
 from .messages import say
-from .output import Column, Row, layer_target, polygon_geometry, write_layer
-from .texts import EDGES, edges_in, kind_of, polygons_in, text_of, twice_area
+from .output import Column, Row, layer_target, write_layer
+from .systems import system_from
+from .texts import EDGES, kind_of, text_of
 from .to_grid import FRAME
+from .wkb import lines
 
 HELP = "writes a result, a layer text or an edges text of the grid as a layer"
 EXAMPLE = "overlay-gis from-grid grid/common.wkt -o common.gpkg"
 
-POLYGON_COLUMNS = [Column("id", ogr.OFTInteger64), Column("area", ogr.OFTReal)]
 EDGE_COLUMNS = [Column("count_a", ogr.OFTInteger64), Column("count_b", ogr.OFTInteger64)]
 
 
@@ -30,18 +32,11 @@ def add_arguments(parser: ArgumentParser) -> None:
     parser.add_argument("--frame", metavar="FILE", help=f"the frame that to-grid wrote (default: {FRAME} beside TEXT)")
 
 
-def polygon_rows(text: str, name: str, frame: Frame) -> Iterator[Row]:
-    for number, polygon in enumerate(polygons_in(text, name), 1):
-        yield polygon_geometry(frame.polygon(polygon)), (number, frame.area(twice_area(polygon)))
-
-
-def edge_rows(text: str, name: str, frame: Frame) -> Iterator[Row]:
-    placed = frame.placed
-    for edge in edges_in(text, name):
-        line = ogr.Geometry(ogr.wkbLineString)
-        for x, y in (edge.p, edge.q):
-            line.AddPoint_2D(*placed(x, y))
-        yield line, edge.counts
+def edge_rows(edges: Numbers, frame: Frame) -> Iterator[Row]:
+    """The edges, each a line with how often either layer has it."""
+    across, up = frame.axes
+    ends = [axis.placed(edges[:, k]) for k, axis in enumerate((across, up, across, up))]
+    yield from zip(lines(np.stack(ends, axis=1)), edges[:, 4:].tolist())
 
 
 def main(arguments: Namespace) -> int:
@@ -51,8 +46,9 @@ def main(arguments: Namespace) -> int:
     system = system_from(frame.system) if frame.system else None
     text = text_of(arguments.text)
     if kind_of(text) == EDGES:
-        count = write_layer(target, system, EDGE_COLUMNS, edge_rows(text, arguments.text, frame), ogr.wkbLineString)
+        count = write_layer(target, system, EDGE_COLUMNS, edge_rows(parsing.edge_rows(text, arguments.text), frame), ogr.wkbLineString)
     else:
-        count = write_layer(target, system, POLYGON_COLUMNS, polygon_rows(text, arguments.text, frame))
+        result = parsing.polygons_in(text, arguments.text)
+        count = write_layer(target, system, run.COLUMNS, run.rows(result, frame))
     say(f"{arguments.out}: {count:,} features")
     return 0

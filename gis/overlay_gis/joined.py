@@ -1,85 +1,90 @@
-"""Two layers, or one, brought to one grid as texts in a folder: what every verb that runs the program begins with."""
+"""Two layers, or one, brought to one grid as texts: what every verb that runs the program begins with."""
 
 from __future__ import annotations
 
-from contextlib import contextmanager
-from dataclasses import dataclass
+from contextlib import ExitStack, contextmanager
+from dataclasses import dataclass, replace
 from functools import reduce
-from pathlib import Path
-from tempfile import TemporaryDirectory
 from typing import Iterator, Sequence
 
 from osgeo import ogr, osr
-from shapely.geometry.base import BaseGeometry
-from shapely.ops import unary_union
 
 from . import frame as frames
-from . import program
+from .columns import NOTHING, Columns
 from .faults import Fault, Refusal
 from .frame import Frame
-from .layers import Box, Polygon, Source, Survey, area_name, by_geos, common_system, unit_name, valid_of
-from .messages import during, say, warn
-from .program import DOUBT, PROGRAM, SEGMENTS, edges_of, result_in
-from .texts import Written, closed, on_grid, segments_of, twice_area, write_polygons
+from .layers import Box, Kind, Source, Survey, common_system
+from .messages import say, warn
+from .program import DOUBT, PROGRAM, SEGMENTS, Asked, AskedLibrary, Text, asked, edges_of, memory, result_in
+from .rings import Gridded, gridded
+from .stopping import unbroken
+from .systems import area_name, unit_name
+from .texts import checked, write_polygons
 
 # How many feature numbers a warning names.
 NAMED = 5
 
 
-@dataclass
-class Gridded:
-    """A layer's text, what it has, and the layer's area before, in the system's units."""
+@dataclass(frozen=True)
+class Layer:
+    """A layer on the grid, what its features are, and its text."""
 
     source: Source
-    text: Path
-    written: Written
-    area: float
+    seen: Survey
+    grid: Gridded
+    text: Text
 
 
-@dataclass
-class Joined:
-    """Layers on one grid, in a folder that is there as long as they are in use."""
+@dataclass(frozen=True)
+class Question:
+    """A command on some layers, at which the program is at work."""
 
-    folder: Path
-    frame: Frame
-    system: osr.SpatialReference | None
-    layers: list[Gridded]
+    command: str
+    layers: Sequence[Layer]
+    asked: Asked | AskedLibrary
 
-    def run(self, command: str) -> str:
-        """The program's answer on the first two layers, or on the first and an empty one."""
-        return self.answer(command, self.layers)[0]
-
-    def answer(self, command: str, layers: Sequence[Gridded]) -> tuple[str, dict[str, int]]:
-        """The same on these layers, and the numbers that the program tells."""
-        none = self.folder / "none"
-        none.touch()
-        first, second = layers[0], layers[1] if len(layers) > 1 else None
-        names = (first.source.name, second.source.name if second else "none")
-        inputs = program.Inputs(first.text, second.text if second else none, *names)
-        out = self.folder / f"{command}.txt"
-        report = program.run(command, inputs, out)
+    def answer(self) -> tuple[bytes, dict[str, int]]:
+        """What the program answers, and the numbers that it tells."""
+        text, report = self.asked.answer()
         try:
-            text = out.read_text(encoding="ascii")
-        except UnicodeDecodeError as error:
+            text = checked(text, PROGRAM)
+        except Refusal as error:
             raise Fault(PROGRAM, f"its answer is no text: {DOUBT}") from error
-        if not text and (command != "edges" or any(layer.written.segments for layer in layers)):
+        if not text and (self.command != "edges" or any(layer.grid.segments for layer in self.layers)):
             raise Fault(PROGRAM, f"answered nothing, with status 0: {DOUBT}")
         return text, report
 
-    def parity(self, layer: Gridded) -> tuple[int, int]:
+
+@dataclass(frozen=True)
+class Joined:
+    """Layers on one grid, whose texts and questions are there as long as `room` is open."""
+
+    frame: Frame
+    system: osr.SpatialReference | None
+    layers: list[Layer]
+    none: Text
+    room: ExitStack
+
+    def ask(self, command: str, layers: Sequence[Layer]) -> Question:
+        """Asks the program, which begins at once, on two layers, or on one and an empty one."""
+        first, second = (*(layer.text for layer in layers), self.none)[:2]
+        with unbroken():
+            return Question(command, layers, self.room.enter_context(asked(command, first, second)))
+
+    def parity(self, layer: Layer, union: Question) -> tuple[int, int]:
         """Twice the area of a layer as it is read, by parity and rounded, and how many segments were bent at most.
 
-        A run of the layer alone tells how many pixels its segments meet beyond their own ends. Where there is no report,
+        The layer's union with nothing tells how many pixels its segments meet beyond their own ends. Where there is no report,
         the rounded edges tell it: a segment with so many pixels has one edge less.
         """
-        text, report = self.answer("union", [layer])
-        twice = sum(map(twice_area, result_in(text)))
+        text, report = union.answer()
+        twice = sum(result_in(text).twice_areas())
         if "records" in report:
-            return twice, report["records"] - 2 * layer.written.segments
-        if twice == layer.written.twice_area:
+            return twice, report["records"] - 2 * layer.grid.segments
+        if twice == layer.grid.twice_area():
             return twice, 0
-        edges = edges_of(self.answer("edges", [layer])[0])
-        return twice, sum(edge.counts[0] for edge in edges) - layer.written.segments
+        edges = edges_of(self.ask("edges", [layer]).answer()[0])
+        return twice, int(edges[:, 4].sum()) - layer.grid.segments
 
 
 def together(sources: Sequence[Source]) -> str:
@@ -94,95 +99,92 @@ def numbers(ids: Sequence[int]) -> str:
 
 def box_of(sources: Sequence[Source], surveys: Sequence[Survey]) -> Box | None:
     """The box of all layers, where one has a polygon."""
-    boxes = [seen.box(source.name) for source, seen in zip(sources, surveys) if seen.ids]
-    return reduce(Box.joined, boxes) if boxes else None
+    boxes = [seen.box(source.name) for source, seen in zip(sources, surveys)]
+    there = [box for box in boxes if box]
+    return reduce(Box.joined, there) if there else None
 
 
 def surveyed(source: Source) -> Survey:
-    """A pass over a layer that warns of what is left out, and refuses what is no polygon."""
+    """A pass over a layer that warns of what is left out, and refuses what is no polygon or no place."""
     seen = source.survey()
-    if seen.strange:
-        ids = [number for number, _ in seen.strange]
+    unbound, strange, bare = (seen.of(kind) for kind in (Kind.UNBOUND, Kind.STRANGE, Kind.BARE))
+    if unbound:
         raise Refusal(
-            source.name, f"{numbers(ids)} is no polygon but {seen.strange[0][1]}; overlay-gis check lists all such"
+            source.name, f"feature {unbound[0]} has a coordinate that is no finite number: mend or remove the feature"
+        )
+    if strange:
+        raise Refusal(
+            source.name, f"{numbers(strange)} is no polygon but {seen.names[0]}; overlay-gis check lists all such"
         )
     if not seen.features:
         warn(source.name, "the layer has no features")
-    elif seen.bare:
-        warn(source.name, f"no geometry, left out: {numbers(seen.bare)}")
+    elif bare:
+        warn(source.name, f"no geometry, left out: {numbers(bare)}")
     if ogr.GT_HasZ(source.layer.GetGeomType()):
         warn(source.name, "has Z coordinates, which are left out")
     return seen
 
 
-def united(source: Source) -> BaseGeometry:
-    """All polygons of a layer, united by GEOS."""
-    shapes = []
-    for feature in source.features():
-        geometry = feature.GetGeometryRef()
-        if geometry is not None and not geometry.IsEmpty():
-            shapes.append(valid_of(geometry, f"{source.name}: feature {feature.GetFID()}"))
-    with during(f"uniting {source.name}"), by_geos(source.name):
-        return unary_union(shapes)
+def on_grid(source: Source, seen: Survey, frame: Frame, dissolve: bool = False) -> Gridded:
+    """A layer on the grid; with `dissolve` its polygons are united before."""
+    if not dissolve:
+        return gridded(seen.sound, seen.area(), frame)
+    from .shapes import united  # GEOS is there for this alone
+
+    whole, area = united(source.name, seen.sound)
+    return gridded(whole, area, frame)
 
 
-def polygons_in_shape(whole: BaseGeometry) -> list[Polygon]:
-    parts = [part for part in getattr(whole, "geoms", [whole]) if part.geom_type == "Polygon" and not part.is_empty]
-    return [[[point[:2] for point in ring.coords] for ring in (part.exterior, *part.interiors)] for part in parts]
+def warn_of_rings(source: Source, grid: Gridded) -> None:
+    """Tells of rings that had to be closed or left out."""
+    if grid.closed:
+        warn(source.name, f"rings were open, and closed: {numbers(grid.closed)}")
+    if grid.dropped:
+        warn(source.name, f"rings of less than four points were left out: {numbers(grid.dropped)}")
 
 
-def gridded(source: Source, seen: Survey, frame: Frame, path: Path, dissolve: bool = False) -> Gridded:
-    """A layer's text, written to a file. Rings that had to be closed or left out are told."""
-    if dissolve:
-        whole = united(source)
-        area, features = whole.area, iter([(0, polygons_in_shape(whole))])
-    else:
-        area, features = seen.area, source.polygons()
-    with open(path, "w", encoding="ascii") as out:
-        written = write_polygons(out, features, frame)
-    if written.closed:
-        warn(source.name, f"rings were open, and closed: {numbers(written.closed)}")
-    if written.dropped:
-        warn(source.name, f"rings of less than four points were left out: {numbers(written.dropped)}")
-    return Gridded(source, path, written, area)
-
-
-def tell_change(joined: Joined, layer: Gridded) -> None:
+def tell_change(joined: Joined, layer: Layer, union: Question) -> None:
     """Tells what moved, and warns where more area than rounding can explain is lost, since a layer is read by parity.
 
     Bending changes an area by 0.71 times the length of the segments that are bent.
     """
-    written, name = layer.written, layer.source.name
-    if not written.polygons:
-        return
-    parity, bent = joined.parity(layer)
+    grid, name = layer.grid, layer.source.name
+    parity, bent = joined.parity(layer, union)
     area, square = joined.frame.area, area_name(joined.system)
-    if abs(written.twice_area - parity) > 2 * 0.71 * written.greatest(bent):
+    before = grid.twice_area()
+    if abs(before - parity) > 2 * 0.71 * grid.longest(bent):
         warn(
             name,
-            f"its polygons have {area(written.twice_area):,.10g} {square} in sum, and {area(parity):,.10g} by parity, "
+            f"its polygons have {area(before):,.10g} {square} in sum, and {area(parity):,.10g} by parity, "
             "which is how they are read: polygons overlap or cross themselves (overlay-gis check finds them, --dissolve unites them)",
         )
-    moved = f"{written.moves.moved:,} of {written.moves.vertices:,} vertices moved"
-    if written.moves.moved:
+    moved = f"{grid.moves.moved:,} of {grid.moves.vertices:,} vertices moved"
+    if grid.moves.moved:
         unit = unit_name(joined.system)
-        moved += f", by {written.moves.mean:.3g} {unit} on average and {written.moves.greatest:.3g} at most"
-    say(f"{name}: {moved}; area {layer.area:,.10g} {square} before, and {area(parity):,.10g} after")
+        moved += f", by {grid.moves.mean:.3g} {unit} on average and {grid.moves.greatest:.3g} at most"
+    say(f"{name}: {moved}; area {grid.area:,.10g} {square} before, and {area(parity):,.10g} after")
 
 
-def refuse_many(sources: Sequence[Source], surveys: Sequence[Survey], frame: Frame) -> None:
+def refuse_many(sources: Sequence[Source], grids: Sequence[Gridded]) -> None:
     """Refuses layers of more segments than the program takes, before a text is written."""
-    if sum(seen.corners for seen in surveys) <= SEGMENTS:
-        return
-    polygons = (polygon for source in sources for _, held in source.polygons() for polygon in held)
-    found = 0
-    for polygon in polygons:
-        found += segments_of(on_grid(closed(polygon, 0, Written()), frame))
-        if found > SEGMENTS:
-            raise Refusal(
-                together(sources),
-                f"more than {SEGMENTS:,} segments, the limit of both layers together: clip them, and join the answers",
-            )
+    if sum(grid.segments for grid in grids) > SEGMENTS:
+        raise Refusal(
+            together(sources),
+            f"more than {SEGMENTS:,} segments, the limit of both layers together: clip them, and join the answers",
+        )
+
+
+def text_of(name: str, layer: Columns) -> Text:
+    """A layer's text in the memory."""
+    file = memory("layer")
+    write_polygons(file, layer)
+    file.flush()
+    return Text(name, file)
+
+
+def none() -> Text:
+    """The text of no layer."""
+    return Text("none", memory("none"))
 
 
 @contextmanager
@@ -193,13 +195,13 @@ def joined(
     common = common_system(sources, system)
     surveys = [surveyed(source) for source in sources]
     frame = frames.chosen(together(sources), box_of(sources, surveys), common, *frames.asked_for(unit, origin))
-    if not dissolve:
-        refuse_many(sources, surveys, frame)
+    grids = [on_grid(source, seen, frame, dissolve) for source, seen in zip(sources, surveys)]
+    surveys = [replace(seen, sound=NOTHING) for seen in surveys]  # whose points would take room
+    refuse_many(sources, grids)
     say(frame.told(common))
-    with TemporaryDirectory(prefix="overlay-gis-") as folder:
-        place = Path(folder)
-        layers = [
-            gridded(source, seen, frame, place / f"{k}.wkt", dissolve)
-            for k, (source, seen) in enumerate(zip(sources, surveys))
-        ]
-        yield Joined(place, frame, common, layers)
+    with ExitStack() as room:
+        layers = []
+        for source, seen, grid in zip(sources, surveys, grids):
+            warn_of_rings(source, grid)
+            layers.append(Layer(source, seen, grid, text_of(source.name, grid.layer)))
+        yield Joined(frame, common, layers, none(), room)

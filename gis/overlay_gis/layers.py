@@ -1,4 +1,4 @@
-"""Polygon layers as OGR reads them.
+"""Polygon layers as OGR reads them, into columns.
 
 A layer is named as GDAL names its source, a file or a connection string, with `|layername=NAME` behind it (as QGIS
 writes it) where the source has several layers.
@@ -6,24 +6,21 @@ writes it) where the source has several layers.
 
 from __future__ import annotations
 
-import logging
 import os
-from contextlib import contextmanager
-from dataclasses import dataclass, field
-from itertools import chain
-from math import isfinite
-from operator import itemgetter
+from dataclasses import dataclass
+from enum import IntEnum
 from typing import Iterator, Sequence
 
+import numpy as np
 from osgeo import gdal, ogr, osr
-from shapely import wkb
-from shapely.errors import ShapelyError
-from shapely.geometry.base import BaseGeometry
-from shapely.validation import make_valid
 
+from . import wkb
+from .arrow import Batch, batches
+from .columns import NOTHING, Bytes, Columns, Floats, Numbers, chained, gathered
 from .faults import Fault, Refusal
 from .messages import followed, say
 from .passwords import hidden, remember
+from .systems import known, same, system_from, system_name
 
 
 def handle(kind: int, number: int, words: str) -> None:
@@ -34,19 +31,12 @@ def handle(kind: int, number: int, words: str) -> None:
 
 gdal.UseExceptions()
 ogr.UseExceptions()
-osr.UseExceptions()
 gdal.PushErrorHandler(handle)
-logging.getLogger("shapely").addHandler(logging.NullHandler())  # Shapely 1.8 would print what its exceptions say
-
-Point = tuple[float, float]
-Ring = list[Point]  # the first point again at its end
-Polygon = list[Ring]  # the shell first
-Envelope = tuple[float, float, float, float]  # left, right, low, high
 
 LAYER_MARK = "|layername="
 
-# What GDAL calls the system of a layer whose GeoPackage says that it has none.
-UNDEFINED = ("undefined cartesian srs", "undefined geographic srs", "undefined srs")
+# The first GDAL that hands features over in batches.
+LEAST_GDAL = (3, 6)
 
 
 @dataclass
@@ -73,44 +63,62 @@ class Box:
         )
 
 
+class Kind(IntEnum):
+    """What a feature is: polygons of finite coordinates; without a geometry, or with an empty one; no polygon; polygons of which a
+    coordinate is no finite number."""
+
+    SOUND, BARE, STRANGE, UNBOUND = range(4)
+
+
 @dataclass
 class Survey:
-    """What one pass over a layer tells: how many features it has, those without a geometry, and those that are no polygons; of
-    the others the numbers, the envelopes as GDAL has them, the area, and the bytes of their geometries."""
+    """What a pass over a layer tells: of all features the numbers and what they are, of those that are no polygons the names of
+    what they are, and the polygons of the sound ones."""
 
-    features: int = 0
-    bare: list[int] = field(default_factory=list)
-    strange: list[tuple[int, str]] = field(default_factory=list)
-    ids: list[int] = field(default_factory=list)
-    envelopes: list[Envelope] = field(default_factory=list)
-    area: float = 0.0
-    size: int = 0
-
-    def take(self, number: int, lines: ogr.Geometry) -> bool:
-        """Takes in a feature's polygons, if all their coordinates are finite numbers.
-
-        An envelope passes over what is no number, but an area doesn't; that of finite coordinates may be infinite.
-        """
-        envelope, area = lines.GetEnvelope(), lines.GetArea()
-        if not isfinite(sum(envelope) + area) and not is_finite(lines):
-            return False
-        self.ids.append(number)
-        self.envelopes.append(envelope)
-        self.area += area
-        self.size += lines.WkbSize()
-        return True
+    numbers: Numbers
+    kinds: Bytes
+    names: list[str]
+    sound: Columns
 
     @property
-    def corners(self) -> int:
-        """No less than the number of corners, each of which has two coordinates of eight bytes."""
-        return self.size // 16
+    def features(self) -> int:
+        return len(self.numbers)
 
-    def box(self, name: str) -> Box:
-        """The box of a layer of that name, which has a polygon."""
-        left, right, low, high = zip(*self.envelopes)
-        reaches = (max(-a, b, -c, d) for a, b, c, d in self.envelopes)
-        farthest, _ = max(zip(self.ids, reaches), key=itemgetter(1))
-        return Box(min(left), min(low), max(right), max(high), (name, farthest))
+    def of(self, kind: Kind) -> list[int]:
+        """The numbers of the features that are of a kind."""
+        return self.numbers[self.kinds == kind].tolist()
+
+    def area(self) -> float:
+        """The sum of the areas of all sound polygons, in the system's units, which may be infinite."""
+        with np.errstate(all="ignore"):
+            return float(areas(self.sound).sum())
+
+    def box(self, name: str) -> Box | None:
+        """The box of a layer of that name, if it has a polygon."""
+        held = self.sound
+        if not len(held.ids):
+            return None
+        starts = held.feature_points()[:-1]
+        left, low = np.minimum.reduceat(held.x, starts), np.minimum.reduceat(held.y, starts)
+        right, high = np.maximum.reduceat(held.x, starts), np.maximum.reduceat(held.y, starts)
+        farthest = np.argmax(np.max((-left, right, -low, high), axis=0))
+        sides = (float(side) for side in (left.min(), low.min(), right.max(), high.max()))
+        return Box(*sides, (name, int(held.ids[farthest])))
+
+
+def areas(held: Columns) -> Floats:
+    """For each ring with points its area, below 0 where it is that of a hole. Each is measured from the ring's first point, so that
+    coordinates far from 0 don't swallow it."""
+    filled = held.lengths > 0
+    starts, counts = held.firsts[filled], held.lengths[filled]
+    if not len(starts):
+        return np.zeros(0)
+    x, y = held.x - np.repeat(held.x[starts], counts), held.y - np.repeat(held.y[starts], counts)
+    products = x * np.roll(y, -1) - np.roll(x, -1) * y
+    products[starts + counts - 1] = 0.0
+    shells = np.zeros(len(held.lengths), bool)
+    shells[held.polygons[:-1]] = True
+    return np.abs(np.add.reduceat(products, starts)) / 2 * np.where(shells[filled], 1, -1)
 
 
 class Source:
@@ -155,56 +163,82 @@ class Source:
         return [self.path, *(self.dataset.GetFileList() or [])]
 
     def system(self) -> osr.SpatialReference | None:
-        found = self.layer.GetSpatialRef()
-        if found is None or found.GetName().lower() in UNDEFINED:
-            return None
-        return in_map_order(found.Clone())
+        return known(self.layer.GetSpatialRef())
 
     def fields(self) -> list[ogr.FieldDefn]:
         defined = self.layer.GetLayerDefn()
         return [defined.GetFieldDefn(k) for k in range(defined.GetFieldCount())]
 
-    def features(self, label: str = "reading") -> Iterator[ogr.Feature]:
-        """All features. A read that fails, or ends before the number that the layer tells, is a fault."""
+    def counted(self, parts: Iterator[Batch]) -> Iterator[Batch]:
+        """The same batches. A read that fails, or ends before the number that the layer tells, is a fault."""
         try:
             told = self.layer.GetFeatureCount()
-            self.layer.ResetReading()
             read = 0
-            unread: Iterator[ogr.Feature] = iter(self.layer.GetNextFeature, None)
-            for feature in followed(unread, f"{label} {self.name}", told):
-                read += 1
-                yield feature
+            for part in followed(parts, f"looking through {self.name}", told, lambda part: len(part.numbers)):
+                read += len(part.numbers)
+                yield part
         except RuntimeError as error:
             raise Fault(self.name, without_name(error, self.path)) from error
         if read < told:
             raise Fault(self.name, f"only {read} of {told} features could be read")
 
     def survey(self) -> Survey:
-        seen = Survey()
-        for feature in self.features("looking through"):
-            seen.features += 1
-            geometry = feature.GetGeometryRef()
-            if geometry is None or geometry.IsEmpty():
-                seen.bare.append(feature.GetFID())
-            else:
-                self.measure(feature.GetFID(), geometry, seen)
-        return seen
+        parts = [self.looked_at(batch) for batch in self.counted(batches(self.layer))]
+        return Survey(
+            np.concatenate([NOTHING.ids, *(part.numbers for part in parts)]),
+            np.concatenate([NO_KINDS, *(part.kinds for part in parts)]),
+            [name for part in parts for name in part.names],
+            chained([part.sound for part in parts]) if parts else NOTHING,
+        )
 
-    def measure(self, number: int, geometry: ogr.Geometry, seen: Survey) -> None:
-        lines = lines_of(geometry)
-        if lines is None:
-            seen.strange.append((number, geometry.GetGeometryName()))
-        elif not seen.take(number, lines):
-            raise Refusal(
-                self.name, f"feature {number} has a coordinate that is no finite number: mend or remove the feature"
-            )
+    def looked_at(self, batch: Batch) -> Survey:
+        """What a batch tells."""
+        decoder = wkb.Decoder(batch, self.lines)
+        held = decoder.columns().filled()
+        kinds = kinds_of(held)
+        kinds[decoder.strange] = Kind.STRANGE
+        names = [self.geometry(batch, k).GetGeometryName() for k in decoder.strange]
+        return Survey(batch.numbers.copy(), kinds, names, held.of_features(kinds == Kind.SOUND))
 
-    def polygons(self) -> Iterator[tuple[int, list[Polygon]]]:
-        """The number and the polygons of each feature that has some."""
-        for feature in self.features():
-            geometry = feature.GetGeometryRef()
-            if geometry is not None and not geometry.IsEmpty():
-                yield feature.GetFID(), polygons_of(geometry)
+    def geometry(self, batch: Batch, k: int) -> ogr.Geometry:
+        """The geometry of a batch's feature k as GDAL has it."""
+        try:
+            return ogr.CreateGeometryFromWkb(bytes(batch.data[batch.starts[k] : batch.ends[k]]))
+        except RuntimeError as error:
+            raise Fault(self.name, f"GDAL can't read the geometry of feature {batch.numbers[k]}: {error}") from error
+
+    def lines(self, batch: Batch, k: int) -> bytes | None:
+        """Polygons that GDAL makes of that geometry, curves as lines, in WKB; nothing where it is none."""
+        geometry = self.geometry(batch, k)
+        held = NO_POLYGON if geometry.IsEmpty() else lines_of(geometry)
+        return None if held is None else bytes(held.ExportToWkb(ogr.wkbNDR))
+
+    def values(self, names: Sequence[str], seen: Survey) -> list[tuple]:
+        """The values of these fields of the sound features."""
+        sound = (seen.kinds == Kind.SOUND).tolist()
+        if not names:
+            return [()] * sum(sound)
+        self.layer.SetIgnoredFields(["OGR_GEOMETRY"])
+        self.layer.ResetReading()
+        try:
+            features = followed(iter(self.layer.GetNextFeature, None), f"reading {self.name}", len(sound))
+            read = [(feature.GetFID(), tuple(map(feature.GetField, names))) for feature in features]
+        except RuntimeError as error:
+            raise Fault(self.name, without_name(error, self.path)) from error
+        if [number for number, _ in read] != seen.numbers.tolist():
+            raise Fault(self.name, "was changed while it was read")
+        return [values for (_, values), kept in zip(read, sound) if kept]
+
+
+NO_KINDS = np.zeros(0, np.uint8)
+NO_POLYGON = ogr.Geometry(ogr.wkbPolygon)
+
+
+def kinds_of(held: Columns) -> Bytes:
+    """What the features are, whose polygons have points."""
+    points = held.feature_points()
+    unbound = gathered(~(np.isfinite(held.x) & np.isfinite(held.y)), points) > 0
+    return np.where(np.diff(points) == 0, Kind.BARE, np.where(unbound, Kind.UNBOUND, Kind.SOUND)).astype(np.uint8)
 
 
 def files_of(sources: Sequence[Source]) -> list[str]:
@@ -221,54 +255,13 @@ def without_name(error: Exception, name: str) -> str:
     return words
 
 
-def in_map_order(system: osr.SpatialReference) -> osr.SpatialReference:
-    """The same system with x, easting or longitude, first, as layers hold their coordinates."""
-    system.SetAxisMappingStrategy(osr.OAMS_TRADITIONAL_GIS_ORDER)
-    return system
-
-
-def system_from(text: str) -> osr.SpatialReference:
-    system = osr.SpatialReference()
-    try:
-        system.SetFromUserInput(text)
-    except RuntimeError as error:
-        raise Refusal(text, f"is no reference system: {error}") from error
-    return in_map_order(system)
-
-
-def system_name(system: osr.SpatialReference | None) -> str:
-    """EPSG:25832 where there is a number, else the system's own name."""
-    if system is None:
-        return "no reference system"
-    code = system.GetAuthorityCode(None)
-    return f"{system.GetAuthorityName(None)}:{code}" if code else system.GetName() or "a system without a name"
-
-
-def unit_name(system: osr.SpatialReference | None) -> str:
-    if system is None:
-        return "units"
-    if system.IsGeographic():
-        return "degrees"
-    return "m" if system.GetLinearUnits() == 1.0 else system.GetLinearUnitsName()
-
-
-def area_name(system: osr.SpatialReference | None) -> str:
-    unit = unit_name(system)
-    return f"{unit}\u00b2" if unit == "m" else f"square {unit}"
-
-
 def common_system(sources: Sequence[Source], told: str | None = None) -> osr.SpatialReference | None:
     """The one reference system of all layers; `told` is that of layers which name none."""
     given = system_from(told) if told else None
     systems = [source.system() or given for source in sources]
     first = systems[0]
     for source, system in zip(sources[1:], systems[1:]):
-        same = (
-            system is first
-            if None in (system, first)
-            else first.IsSame(system, ["IGNORE_DATA_AXIS_TO_SRS_AXIS_MAPPING=YES"])
-        )
-        if not same:
+        if not same(first, system):
             hint = (
                 "name that of the other by --system"
                 if None in (system, first)
@@ -280,65 +273,13 @@ def common_system(sources: Sequence[Source], told: str | None = None) -> osr.Spa
     return first
 
 
-def flat_type(geometry: ogr.Geometry) -> int:
-    return ogr.GT_Flatten(geometry.GetGeometryType())
-
-
 FLAT = (ogr.wkbPolygon, ogr.wkbMultiPolygon)
 CURVED = (ogr.wkbCurvePolygon, ogr.wkbMultiSurface)
 
 
 def lines_of(geometry: ogr.Geometry) -> ogr.Geometry | None:
     """A polygonal geometry, curves as GDAL makes lines of them; nothing where it isn't one."""
-    kind = flat_type(geometry)
+    kind = ogr.GT_Flatten(geometry.GetGeometryType())
     if kind in FLAT:
         return geometry
     return geometry.GetLinearGeometry() if kind in CURVED else None
-
-
-def is_finite(lines: ogr.Geometry) -> bool:
-    """Whether all coordinates of polygons are finite numbers."""
-    rings = chain.from_iterable(polygons_of(lines))
-    return all(isfinite(x) and isfinite(y) for ring in rings for x, y in ring)
-
-
-def polygons_of(geometry: ogr.Geometry) -> list[Polygon]:
-    """The polygons of a polygonal geometry, without Z and M, curves as lines, rings as they are."""
-    kind = flat_type(geometry)
-    if kind in CURVED:
-        return polygons_of(geometry.GetLinearGeometry())
-    if kind == ogr.wkbPolygon:
-        parts = [geometry]
-    else:
-        parts = [geometry.GetGeometryRef(k) for k in range(geometry.GetGeometryCount())]
-    return [
-        [ring.GetPoints(2) or [] for ring in (part.GetGeometryRef(k) for k in range(part.GetGeometryCount()))]
-        for part in parts
-        if not part.IsEmpty()
-    ]
-
-
-@contextmanager
-def by_geos(name: str) -> Iterator[None]:
-    """What GEOS can't compute is refused by its name."""
-    try:
-        yield
-    except (ShapelyError, ValueError) as error:
-        raise Refusal(name, f"GEOS can't compute with it: {error}") from error
-
-
-def shape_of(geometry: ogr.Geometry, name: str) -> BaseGeometry:
-    """The geometry as GEOS has it, without Z and M, curves as lines. Refuses what GEOS can't hold, as rings that are open."""
-    flat = geometry.GetLinearGeometry()
-    flat.FlattenTo2D()
-    try:
-        return wkb.loads(bytes(flat.ExportToWkb()))
-    except ShapelyError as error:
-        raise Refusal(name, f"GEOS can't read it: {error}") from error
-
-
-def valid_of(geometry: ogr.Geometry, name: str) -> BaseGeometry:
-    """The same, made valid."""
-    shape = shape_of(geometry, name)
-    with by_geos(name):
-        return shape if shape.is_valid else make_valid(shape)

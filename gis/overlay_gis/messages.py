@@ -7,7 +7,7 @@ import re
 import sys
 import time
 from contextlib import contextmanager
-from typing import Iterable, Iterator, TypeVar
+from typing import Callable, Iterable, Iterator, TypeVar
 
 from .passwords import hidden
 
@@ -43,18 +43,21 @@ def progress(text: str) -> None:
     print(f"\r{shown(text)}\x1b[K", end="", file=sys.stderr, flush=True)
 
 
-def followed(items: Iterable[T], label: str, total: int | None = None) -> Iterator[T]:
-    """The same items. Where standard error is a terminal and they take long, it says how far they are."""
+def followed(
+    items: Iterable[T], label: str, total: int | None = None, size: Callable[[T], int] = lambda _: 1
+) -> Iterator[T]:
+    """The same items. Where standard error is a terminal and they take long, it says how far they are; `size` is how much an item is."""
     if not sys.stderr.isatty():
         yield from items
         return
     due = time.monotonic() + PATIENCE
-    told = False
-    for done, item in enumerate(items):
+    told, done = False, 0
+    for item in items:
         now = time.monotonic()
         if now >= due:
             progress(f"{label}: {100 * done // total}%" if total else f"{label}: {done:,}")
             due, told = now + PAUSE, True
+        done += size(item)
         yield item
     if told:
         progress("")

@@ -10,7 +10,7 @@ from typing import Any, Iterable, Sequence
 from osgeo import gdal, ogr, osr
 
 from .faults import Fault, Refusal
-from .layers import Polygon, Source, without_name
+from .layers import Source, without_name
 from .messages import followed
 from .whole import Target, draft, target_of
 
@@ -55,8 +55,8 @@ class Column:
         return definition
 
 
-# A geometry to be written, with the values of its columns.
-Row = tuple[ogr.Geometry, Sequence]
+# A geometry to be written, in WKB, with the values of its columns.
+Row = tuple[bytes, Sequence]
 
 
 def layer_target(name: str, overwrite: bool, inputs: Iterable[str]) -> Target:
@@ -98,9 +98,9 @@ class Output:
         self.dataset.FlushCache()
         return count
 
-    def add(self, geometry: ogr.Geometry, values: Sequence) -> None:
+    def add(self, geometry: bytes, values: Sequence) -> None:
         feature = ogr.Feature(self.layer.GetLayerDefn())
-        feature.SetGeometryDirectly(geometry)
+        feature.SetGeometryDirectly(ogr.CreateGeometryFromWkb(geometry))
         for k, value in enumerate(values):
             if value is None:
                 feature.SetFieldNull(k)
@@ -146,13 +146,3 @@ def write_layer(
             output.close()
         output.check(count)
     return count
-
-
-def polygon_geometry(polygon: Polygon) -> ogr.Geometry:
-    shape = ogr.Geometry(ogr.wkbPolygon)
-    for points in polygon:
-        ring = ogr.Geometry(ogr.wkbLinearRing)
-        for x, y in points:
-            ring.AddPoint_2D(x, y)
-        shape.AddGeometryDirectly(ring)
-    return shape

@@ -6,18 +6,19 @@ import importlib
 import os
 import re
 import shutil
-import subprocess
 import sys
 from contextlib import suppress
 from dataclasses import dataclass
 from pathlib import Path
+from subprocess import Popen
 from types import ModuleType
-from typing import Iterator
+from typing import BinaryIO
 
+from .columns import Columns, Numbers
 from .faults import Fault, Refusal
-from .frame import GridPolygon
 from .messages import during
-from .texts import RESULT, Edge, edges_in, kind_of, polygons_in
+from .parsing import edge_rows, polygons_in
+from .texts import RESULT, kind_of
 
 OPERATIONS = ("union", "intersection", "difference", "symdifference")
 
@@ -67,70 +68,117 @@ def located() -> str:
 
 
 @dataclass(frozen=True)
-class Inputs:
-    """Two layer texts, and the names by which they are told of."""
+class Text:
+    """A layer's text in a file of the memory, and the name by which it is told of."""
 
-    a: Path
-    b: Path
-    name_a: str
-    name_b: str
+    name: str
+    file: BinaryIO
+
+    @property
+    def path(self) -> str:
+        """The name by which a program that was given the file opens it, each time from its beginning."""
+        return f"/proc/self/fd/{self.file.fileno()}"
 
 
-def run(command: str, inputs: Inputs, out: Path) -> dict[str, int]:
-    """Runs a command on two texts, writes its answer to a file, and answers the numbers of its report by their names; the
-    library tells none."""
+def memory(name: str) -> BinaryIO:
+    """A file that lies in the memory alone, and goes when it is closed."""
+    return os.fdopen(os.memfd_create(name), "w+b")
+
+
+def held(file: BinaryIO) -> bytes:
+    """All that a file of the memory has."""
+    return os.pread(file.fileno(), os.fstat(file.fileno()).st_size, 0)
+
+
+class Asked:
+    """The program at work on a command and two texts, whose answer is waited for; at the end of the context it has ended."""
+
+    def __init__(self, command: str, a: Text, b: Text):
+        self.command = command
+        self.texts = (a, b)
+        self.out, self.told = memory("answer"), memory("report")
+        words = [located(), command, a.path, b.path, "--report"]
+        files = [text.file.fileno() for text in self.texts]
+        try:
+            self.process = Popen(words, stdout=self.out, stderr=self.told, pass_fds=files)
+        except OSError as error:
+            raise Fault(error.filename or words[0], error.strerror) from error
+
+    def __enter__(self) -> Asked:
+        return self
+
+    def __exit__(self, *_: object) -> None:
+        self.process.kill()
+        self.process.wait()
+        self.out.close()
+        self.told.close()
+
+    def answer(self) -> tuple[bytes, dict[str, int]]:
+        """What the program wrote, and the numbers of its report by their names."""
+        with during(f"overlay {self.command}"):
+            status = self.process.wait()
+        told = held(self.told).decode("utf-8", "replace").splitlines()
+        if status != 0:
+            raise refusal(told[-1] if told else f"ended with status {status} and no word", status, self.texts)
+        numbers = (REPORTED.match(line) for line in told)
+        return held(self.out), {found[1]: int(found[2]) for found in numbers if found}
+
+
+class AskedLibrary:
+    """The package for Python in the program's place: it works when it is asked for the answer, and tells no report."""
+
+    def __init__(self, package: ModuleType, command: str, a: Text, b: Text):
+        self.package = package
+        self.command = command
+        self.texts = (a, b)
+
+    def __enter__(self) -> AskedLibrary:
+        return self
+
+    def __exit__(self, *_: object) -> None:
+        pass
+
+    def answer(self) -> tuple[bytes, dict[str, int]]:
+        package = self.package
+        try:
+            with during(f"overlay {self.command}"):
+                return getattr(package, self.command)(*(held(text.file) for text in self.texts)), {}
+        except package.Refused as fault:
+            mark = f"{fault.layer}: " if fault.layer and not str(fault).startswith(f"{fault.layer}: ") else ""
+            raise refusal(mark + str(fault), Refusal.status, self.texts) from fault
+        except package.OutOfMemory as fault:
+            raise refusal(str(fault), Fault.status, self.texts) from fault
+
+
+def asked(command: str, a: Text, b: Text) -> Asked | AskedLibrary:
+    """A command on two texts, at which the program is at work."""
     package = library()
-    if package is not None:
-        return by_library(package, command, inputs, out)
-    words = [located(), command, str(inputs.a), str(inputs.b), "--report"]
-    try:
-        with open(out, "wb") as file, during(f"overlay {command}"):
-            done = subprocess.run(words, stdout=file, stderr=subprocess.PIPE, check=False)
-    except OSError as error:
-        raise Fault(error.filename or words[0], error.strerror) from error
-    told = done.stderr.decode("utf-8", "replace").splitlines()
-    if done.returncode != 0:
-        raise refusal(told[-1] if told else f"ended with status {done.returncode} and no word", done.returncode, inputs)
-    numbers = (REPORTED.match(line) for line in told)
-    return {found[1]: int(found[2]) for found in numbers if found}
+    return Asked(command, a, b) if package is None else AskedLibrary(package, command, a, b)
 
 
-def by_library(package: ModuleType, command: str, inputs: Inputs, out: Path) -> dict[str, int]:
-    try:
-        with during(f"overlay {command}"):
-            answer = getattr(package, command)(inputs.a.read_bytes(), inputs.b.read_bytes())
-    except package.Refused as fault:
-        mark = f"{fault.layer}: " if fault.layer and not str(fault).startswith(f"{fault.layer}: ") else ""
-        raise refusal(mark + str(fault), Refusal.status, inputs) from fault
-    except package.OutOfMemory as fault:
-        raise refusal(str(fault), Fault.status, inputs) from fault
-    out.write_bytes(answer)
-    return {}
-
-
-def refusal(line: str, status: int, inputs: Inputs) -> Fault:
+def refusal(line: str, status: int, texts: tuple[Text, Text]) -> Fault:
     """The fault that a line of the program tells."""
     words = line.removeprefix("overlay: ")
     name = PROGRAM
-    for mark, layer in (("A: ", inputs.name_a), ("B: ", inputs.name_b)):
+    for mark, text in zip(("A: ", "B: "), texts):
         if words.startswith(mark):
-            name, words = layer, words.removeprefix(mark)
+            name, words = text.name, words.removeprefix(mark)
     hint = HINTS.get(words.partition(" ")[0])
     kind = Refusal if status == Refusal.status else Fault
     return kind(name, f"overlay says: {words}" + (f" ({hint})" if hint else ""))
 
 
-def result_in(text: str) -> list[GridPolygon]:
+def result_in(text: bytes) -> Columns:
     """The polygons of what the program answers to an operation, which is one whole line."""
-    if kind_of(text) == RESULT and text.endswith("\n"):
+    if kind_of(text) == RESULT and text.endswith(b"\n"):
         with suppress(Refusal):
             return polygons_in(text, PROGRAM)
     raise Fault(PROGRAM, f"its answer is no result: {DOUBT}")
 
 
-def edges_of(text: str) -> Iterator[Edge]:
-    """The edges of what the program answers to `edges`."""
+def edges_of(text: bytes) -> Numbers:
+    """The edges of what the program answers to `edges`, a row for each."""
     try:
-        yield from edges_in(text, PROGRAM)
+        return edge_rows(text, PROGRAM)
     except Refusal as error:
         raise Fault(PROGRAM, f"{error.reason}: {DOUBT}") from error

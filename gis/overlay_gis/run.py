@@ -8,14 +8,18 @@ from typing import Iterator
 from osgeo import ogr
 
 from . import options, program
-from .joined import Joined, joined, tell_change
+from .columns import Columns
+from .frame import Frame
+from .joined import joined, tell_change
 from .layers import Source, files_of
 from .messages import say
-from .output import Column, Row, layer_target, polygon_geometry, write_layer
-from .texts import twice_area
+from .output import Column, Row, layer_target, write_layer
+from .wkb import encoded
 
 HELP = "does one set operation on two layers"
 EXAMPLE = "overlay-gis run intersection parcels.gpkg zones.gpkg -o common.gpkg"
+
+COLUMNS = [Column("id", ogr.OFTInteger64), Column("area", ogr.OFTReal)]
 
 
 def add_arguments(parser: ArgumentParser) -> None:
@@ -26,19 +30,22 @@ def add_arguments(parser: ArgumentParser) -> None:
     options.add_dissolve(parser)
 
 
-def rows(answer: Joined, text: str) -> Iterator[Row]:
-    for number, polygon in enumerate(program.result_in(text), 1):
-        yield polygon_geometry(answer.frame.polygon(polygon)), (number, answer.frame.area(twice_area(polygon)))
+def rows(result: Columns, frame: Frame) -> Iterator[Row]:
+    """The polygons of a result on the grid, each with its number and its area."""
+    polygons = zip(encoded(frame.off_grid(result)), result.twice_areas())
+    for number, (polygon, twice) in enumerate(polygons, 1):
+        yield polygon, (number, frame.area(twice))
 
 
 def main(arguments: Namespace) -> int:
     sources = [Source(arguments.a), Source(arguments.b)]
     target = layer_target(arguments.out, arguments.overwrite, files_of(sources))
     with joined(sources, arguments.grid, arguments.origin, arguments.system, arguments.dissolve) as both:
-        for layer in both.layers:
-            tell_change(both, layer)
-        text = both.run(arguments.operation)
-        columns = [Column("id", ogr.OFTInteger64), Column("area", ogr.OFTReal)]
-        count = write_layer(target, both.system, columns, rows(both, text))
+        alone = [(layer, both.ask("union", [layer])) for layer in both.layers if layer.grid.polygons]
+        asked = both.ask(arguments.operation, both.layers)
+        for layer, union in alone:
+            tell_change(both, layer, union)
+        result = program.result_in(asked.answer()[0])
+        count = write_layer(target, both.system, COLUMNS, rows(result, both.frame))
     say(f"{arguments.out}: {count:,} polygons")
     return 0

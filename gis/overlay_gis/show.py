@@ -10,9 +10,10 @@ from math import floor, log10
 from typing import Iterator
 
 from .arrangement import Ends, ends
-from .faults import Fault, Refusal
-from .frame import GridPoint, GridPolygon
-from .texts import EDGES, LAYERS, Edge, edges_in, kind_of, polygons_in
+from .columns import GridPoint, GridPolygon
+from .faults import Refusal
+from .parsing import Edge, edge_rows, edges, polygons_in
+from .texts import EDGES, LAYERS, checked, kind_of, text_of
 from .whole import draft, target_of
 
 HELP = "draws layers, edges texts and results of the grid over one another"
@@ -77,23 +78,23 @@ def counted(number: int, word: str) -> str:
     return f"{number:,} {word}" + ("" if number == 1 else "s")
 
 
-def read(name: str, number: int) -> Shown:
-    """A file to be drawn, the so many-th layer of the command."""
+def standard_input(name: str) -> bytes:
     try:
-        if name == "-":
-            text = sys.stdin.read()
-        else:
-            with open(name, encoding="utf-8-sig") as file:
-                text = file.read()
-    except OSError as error:
-        raise Fault(name, error.strerror) from error
+        return sys.stdin.read().encode("utf-8", "surrogateescape")
     except UnicodeDecodeError as error:
         raise Refusal(name, "is no text") from error
-    kind, told = kind_of(text), "standard input" if name == "-" else name
+
+
+def read(name: str, number: int) -> Shown:
+    """A file to be drawn, the so many-th layer of the command."""
+    told = "standard input" if name == "-" else name
+    text = checked(standard_input(told), told) if name == "-" else text_of(name)
+    kind = kind_of(text)
     if kind == EDGES:
-        return Shown(told, kind, BOTH, edges=list(edges_in(text, told)))
+        return Shown(told, kind, BOTH, edges=list(edges(edge_rows(text, told))))
     colour = COLOURS[number % len(COLOURS)] if kind == LAYERS else RESULT
-    return Shown(told, kind, colour, polygons=polygons_in(text, told))
+    features = polygons_in(text, told).lists()
+    return Shown(told, kind, colour, polygons=[polygon for polygons in features for polygon in polygons])
 
 
 @dataclass

@@ -14,9 +14,28 @@ class Stopped(BaseException):
     """A signal asked the command to end."""
 
 
+_waiting: list[int] | None = None  # the signals that came where none may be raised; nothing where one may
+
+
 def stop(number: int, _: FrameType | None) -> None:
+    if _waiting is not None:
+        _waiting.append(number)
+        return
     go_on()  # a second signal would disturb the tidying
     raise Stopped("Ctrl-C" if number == signal.SIGINT else signal.Signals(number).name)
+
+
+@contextmanager
+def unbroken() -> Iterator[None]:
+    """A signal that comes within is raised at the end, so that what is begun here can be known to whoever tidies it away."""
+    global _waiting
+    _waiting = []
+    try:
+        yield
+    finally:
+        came, _waiting = _waiting, None
+    if came:
+        stop(came[0], None)
 
 
 def go_on() -> None:

@@ -9,9 +9,11 @@ from . import frame as frames
 from . import options
 from .faults import Fault, Refusal
 from .frame import Frame
-from .joined import box_of, gridded, surveyed, together
-from .layers import Source, Survey, common_system, files_of, system_from, system_name
+from .joined import box_of, on_grid, surveyed, together, warn_of_rings
+from .layers import Source, Survey, common_system, files_of
 from .messages import say
+from .systems import system_from, system_name
+from .texts import write_polygons
 from .whole import draft, target_of
 
 HELP = "writes layers as texts on the integer grid, with a frame that leads back"
@@ -73,8 +75,10 @@ def main(arguments: Namespace) -> int:
     frame = frame_for(arguments, sources, surveys)
     with draft(target) as folder:
         for source, seen, name in zip(sources, surveys, names):
-            written = gridded(source, seen, frame, folder / name, arguments.dissolve).written
-            place = os.path.join(arguments.out, name)
-            say(f"{place}: {written.polygons:,} polygons, {written.segments:,} segments")
+            grid = on_grid(source, seen, frame, arguments.dissolve)
+            warn_of_rings(source, grid)
+            with open(folder / name, "wb") as file:
+                write_polygons(file, grid.layer)
+            say(f"{os.path.join(arguments.out, name)}: {grid.polygons:,} polygons, {grid.segments:,} segments")
         frame.saved(str(folder / FRAME))
     return 0

@@ -1,0 +1,109 @@
+"""Features as GDAL hands them over in Arrow's C data interface: batches of numbers and geometries, read where they lie."""
+
+from __future__ import annotations
+
+import ctypes
+from dataclasses import dataclass
+from typing import Iterator
+
+import numpy as np
+from osgeo import ogr
+
+from .columns import Bytes, Mask, Numbers
+
+# How many features a batch has at most.
+BATCH = 16384
+
+NO_NUMBER = -1  # what OGR gives a feature that has none
+
+
+class Schema(ctypes.Structure):
+    """A column's type, as the interface lays it out; what follows in it isn't read."""
+
+
+Schema._fields_ = [
+    ("format", ctypes.c_char_p),
+    ("name", ctypes.c_char_p),
+    ("metadata", ctypes.c_void_p),
+    ("flags", ctypes.c_int64),
+    ("n_children", ctypes.c_int64),
+    ("children", ctypes.POINTER(ctypes.POINTER(Schema))),
+]
+
+
+class Array(ctypes.Structure):
+    """A column's values, likewise."""
+
+
+Array._fields_ = [
+    ("length", ctypes.c_int64),
+    ("null_count", ctypes.c_int64),
+    ("offset", ctypes.c_int64),
+    ("n_buffers", ctypes.c_int64),
+    ("n_children", ctypes.c_int64),
+    ("buffers", ctypes.POINTER(ctypes.c_void_p)),
+    ("children", ctypes.POINTER(ctypes.POINTER(Array))),
+]
+
+# The formats of a feature's number, and of geometries, whose offsets have four bytes or eight.
+NUMBER, GEOMETRIES = b"l", {b"z": np.dtype(np.int32), b"Z": np.dtype(np.int64)}
+
+
+@dataclass(frozen=True)
+class Batch:
+    """Features' numbers, and their geometries as WKB: that of feature k lies from starts[k] up to ends[k] in `data`, and has no byte where
+    there is none. It is there until the next batch is asked for."""
+
+    numbers: Numbers
+    data: Bytes
+    starts: Numbers
+    ends: Numbers
+
+
+def seen(address: int | None, kind: np.dtype, count: int) -> np.ndarray:
+    """So many numbers that lie at an address."""
+    if not address or not count:
+        return np.zeros(0, kind)
+    return np.frombuffer((ctypes.c_uint8 * (count * kind.itemsize)).from_address(address), kind)
+
+
+def present(column: Array) -> Mask:
+    """Which of a column's values are there."""
+    end = column.offset + column.length
+    if not column.buffers[0]:
+        return np.ones(column.length, bool)
+    bits = np.unpackbits(seen(column.buffers[0], np.dtype(np.uint8), (end + 7) // 8), bitorder="little")
+    return bits[column.offset : end].astype(bool)
+
+
+def numbers_of(column: Array) -> Numbers:
+    held = seen(column.buffers[1], np.dtype(np.int64), column.offset + column.length)[column.offset :]
+    return np.where(present(column), held, NO_NUMBER)
+
+
+def batch_of(numbers: Array, geometries: Array | None, width: np.dtype) -> Batch:
+    ids = numbers_of(numbers)
+    if geometries is None:
+        none = np.zeros(len(ids), np.int64)
+        return Batch(ids, np.zeros(0, np.uint8), none, none)
+    end = geometries.offset + geometries.length
+    at = seen(geometries.buffers[1], width, end + 1)[geometries.offset :].astype(np.int64)
+    data = seen(geometries.buffers[2], np.dtype(np.uint8), int(at[-1]))
+    return Batch(ids, data, at[:-1], np.where(present(geometries), at[1:], at[:-1]))
+
+
+def batches(layer: ogr.Layer) -> Iterator[Batch]:
+    """All features of a layer, without their fields."""
+    definition = layer.GetLayerDefn()
+    layer.SetIgnoredFields([definition.GetFieldDefn(k).GetName() for k in range(definition.GetFieldCount())])
+    layer.ResetReading()
+    stream = layer.GetArrowStream([f"MAX_FEATURES_IN_BATCH={BATCH}"])
+    held = stream.GetSchema()  # what it tells is there as long as it is
+    schema = Schema.from_address(held._getPtr())
+    formats = [schema.children[k].contents.format for k in range(schema.n_children)]
+    place = next((k for k, name in enumerate(formats) if name in GEOMETRIES), None)
+    width = GEOMETRIES[formats[place]] if place is not None else np.dtype(np.int32)
+    while (part := stream.GetNextRecordBatch()) is not None:
+        array = Array.from_address(part._getPtr())
+        columns = [array.children[k].contents for k in range(array.n_children)]
+        yield batch_of(columns[formats.index(NUMBER)], None if place is None else columns[place], width)

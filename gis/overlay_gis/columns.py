@@ -1,0 +1,133 @@
+"""Polygons as columns, in the layout of GeoArrow: the coordinates of all points, and where each ring, polygon and feature
+begins. No point is an object of its own, so a layer takes little room, and work on it is work on whole arrays."""
+
+from __future__ import annotations
+
+from dataclasses import dataclass, replace
+from itertools import pairwise
+from typing import Any, Sequence
+
+import numpy as np
+
+# Arrays of one kind of values, as numpy.typing has them, which would take long to be there.
+Numbers = np.ndarray[Any, np.dtype[np.int64]]
+Floats = np.ndarray[Any, np.dtype[np.float64]]
+Mask = np.ndarray[Any, np.dtype[np.bool_]]
+Bytes = np.ndarray[Any, np.dtype[np.uint8]]
+
+GridPoint = tuple[int, int]
+GridRing = list[GridPoint]  # the first point again at its end
+GridPolygon = list[GridRing]  # the shell first
+
+# A product of two coordinates of the grid, and a sum of these, in two parts that a whole number of 64 bits holds.
+HALF = 32
+
+
+def offsets(counts: Numbers | Mask) -> Numbers:
+    """Where each of so many things begins among them all, and where the last one ends."""
+    return np.concatenate((np.zeros(1, np.int64), np.cumsum(counts, dtype=np.int64)))
+
+
+def gathered(counts: Numbers | Mask, held: Numbers) -> Numbers:
+    """The counts summed by what holds them; `held` are the offsets of the holders."""
+    return np.diff(offsets(counts)[held])
+
+
+@dataclass(frozen=True)
+class Columns:
+    """Ring k has the points from rings[k] up to rings[k + 1], the first one again at its end; polygon k the rings from polygons[k] on, its
+    shell first; feature k the polygons from features[k] on, and the number ids[k]."""
+
+    x: Floats | Numbers
+    y: Floats | Numbers
+    rings: Numbers
+    polygons: Numbers
+    features: Numbers
+    ids: Numbers
+
+    @property
+    def firsts(self) -> Numbers:
+        return self.rings[:-1]
+
+    @property
+    def lengths(self) -> Numbers:
+        """The number of points of each ring."""
+        return np.diff(self.rings)
+
+    def ring_ids(self) -> Numbers:
+        """For each ring the number of its feature."""
+        return np.repeat(self.ids, np.diff(self.polygons[self.features]))
+
+    def feature_points(self) -> Numbers:
+        """Where the points of each feature begin."""
+        return self.rings[self.polygons[self.features]]
+
+    def of_rings(self, kept: Mask) -> Columns:
+        """The same with these rings alone; a polygon that has none of them is left out, and a feature may be without a polygon."""
+        points = np.repeat(kept, self.lengths)
+        held = gathered(kept, self.polygons)
+        return Columns(
+            self.x[points],
+            self.y[points],
+            offsets(self.lengths[kept]),
+            offsets(held[held > 0]),
+            offsets(gathered(held > 0, self.features)),
+            self.ids,
+        )
+
+    def of_features(self, kept: Mask) -> Columns:
+        """The same with these features alone."""
+        rings = np.repeat(kept, np.diff(self.polygons[self.features]))
+        chosen = self.of_rings(rings)
+        return replace(chosen, features=offsets(np.diff(chosen.features)[kept]), ids=self.ids[kept])
+
+    def filled(self) -> Columns:
+        """The same without polygons that have no point."""
+        empty = np.diff(self.rings[self.polygons]) == 0
+        return self.of_rings(np.repeat(~empty, np.diff(self.polygons))) if empty.any() else self
+
+    def twice_areas(self) -> list[int]:
+        """Twice the area of each polygon of the grid: its shell's without its holes', whichever way they run."""
+        first, last = self.firsts, np.maximum(self.rings[1:] - 1, self.firsts)
+        products = self.x[:-1] * self.y[1:] - self.x[1:] * self.y[:-1]
+        high, low = (offsets(part) for part in (products >> HALF, products & ((1 << HALF) - 1)))
+        sums = zip((high[last] - high[first]).tolist(), (low[last] - low[first]).tolist())
+        inside = [abs((more << HALF) + less) for more, less in sums]
+        return [2 * inside[at] - sum(inside[at:end]) for at, end in pairwise(self.polygons.tolist())]
+
+    def lists(self) -> list[list[GridPolygon]]:
+        """The polygons of each feature as lists of points."""
+        points = list(zip(self.x.tolist(), self.y.tolist()))
+        rings = [points[at:end] for at, end in pairwise(self.rings.tolist())]
+        polygons = [rings[at:end] for at, end in pairwise(self.polygons.tolist())]
+        return [polygons[at:end] for at, end in pairwise(self.features.tolist())]
+
+
+def chained(parts: Sequence[Columns]) -> Columns:
+    """All features of several, one after another."""
+    return Columns(
+        np.concatenate([part.x for part in parts]),
+        np.concatenate([part.y for part in parts]),
+        offsets(np.concatenate([np.diff(part.rings) for part in parts])),
+        offsets(np.concatenate([np.diff(part.polygons) for part in parts])),
+        offsets(np.concatenate([np.diff(part.features) for part in parts])),
+        np.concatenate([part.ids for part in parts]),
+    )
+
+
+def of_polygons(polygons: Sequence[GridPolygon]) -> Columns:
+    """Polygons of the grid that are lists of points, each a feature, numbered from 1."""
+    rings = [ring for polygon in polygons for ring in polygon]
+    points = np.array([point for ring in rings for point in ring], np.int64).reshape(-1, 2)
+    count = len(polygons)
+    return Columns(
+        points[:, 0].copy(),
+        points[:, 1].copy(),
+        offsets(np.array([len(ring) for ring in rings], np.int64)),
+        offsets(np.array([len(polygon) for polygon in polygons], np.int64)),
+        np.arange(count + 1),
+        np.arange(1, count + 1),
+    )
+
+
+NOTHING = replace(of_polygons([]), x=np.zeros(0), y=np.zeros(0))

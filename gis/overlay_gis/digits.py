@@ -1,0 +1,61 @@
+"""Points of the grid as text, for whole arrays of them."""
+
+from __future__ import annotations
+
+from typing import Any
+
+import numpy as np
+
+from .columns import Bytes, Mask, Numbers
+
+# Numbers are written four digits at a time, which lie as one word of a row. The row's last word is what stands behind the number.
+GROUP, DIGITS = 10_000, 4
+WORD = np.dtype(np.uint32)
+Words = np.ndarray[Any, np.dtype[np.uint32]]
+FOURS = np.frombuffer(b"".join(b"%04d" % k for k in range(GROUP)), WORD)
+
+# A number has a digit more where it reaches one of these, up to the greatest below 2^32.
+POWERS = [10**k for k in range(1, 10)]
+
+# What stands behind the x of a point, and behind its y.
+BEHIND = (b" ", b", ")
+
+MINUS = ord("-")
+
+
+def bytes_from(groups: int) -> Mask:
+    """For an x and for a y, and for each byte at which its text may begin, which bytes of its row are text."""
+    width = groups * DIGITS
+    place = np.arange(width + WORD.itemsize)
+    ends = np.repeat([width + len(text) for text in BEHIND], width)
+    starts = np.tile(np.arange(width), len(BEHIND))
+    return (place >= starts[:, np.newaxis]) & (place < ends[:, np.newaxis])
+
+
+def rows_of(numbers: Numbers, size: Words, groups: int) -> Words:
+    """A row for each number, x and y by turns, with its digits; `size` are the numbers without their signs."""
+    rows = np.empty((len(numbers), groups + 1), WORD)
+    for k in reversed(range(groups)):
+        more = size // GROUP
+        rows[:, k] = FOURS[size - more * GROUP]
+        size = more
+    for k, text in enumerate(BEHIND):
+        rows[k::2, groups] = np.frombuffer(text.ljust(WORD.itemsize), WORD)[0]
+    return rows
+
+
+def points_text(x: Numbers, y: Numbers) -> tuple[Bytes, Numbers]:
+    """The text `x y, ` of all points, whose coordinates are below 2^32 in size, and how long that of each is."""
+    numbers = np.empty(2 * len(x), np.int64)
+    numbers[0::2], numbers[1::2] = x, y
+    size, below = np.abs(numbers).astype(np.uint32), numbers < 0
+    groups = 2 if size.max(initial=0) < POWERS[6] else 3
+    first = np.full(len(numbers), groups * DIGITS - 1, np.uint8) - below
+    for power in POWERS:
+        first -= size >= power
+    rows = rows_of(numbers, size, groups).view(np.uint8)
+    rows[below, first[below]] = MINUS
+    whole = 2 * groups * DIGITS + sum(map(len, BEHIND))
+    lengths = whole - first[0::2].astype(np.int64) - first[1::2]
+    first[1::2] += groups * DIGITS
+    return rows[np.take(bytes_from(groups), first, axis=0)], lengths

@@ -1,0 +1,61 @@
+"""Reference systems: as layers, users and frames name them."""
+
+from __future__ import annotations
+
+from osgeo import osr
+
+from .faults import Refusal
+
+osr.UseExceptions()
+
+# What GDAL calls the system of a layer whose GeoPackage says that it has none.
+UNDEFINED = ("undefined cartesian srs", "undefined geographic srs", "undefined srs")
+
+
+def known(system: osr.SpatialReference | None) -> osr.SpatialReference | None:
+    """A layer's system with x first; nothing where it has none, or says that it has none."""
+    if system is None or system.GetName().lower() in UNDEFINED:
+        return None
+    return in_map_order(system.Clone())
+
+
+def in_map_order(system: osr.SpatialReference) -> osr.SpatialReference:
+    """The same system with x, easting or longitude, first, as layers hold their coordinates."""
+    system.SetAxisMappingStrategy(osr.OAMS_TRADITIONAL_GIS_ORDER)
+    return system
+
+
+def system_from(text: str) -> osr.SpatialReference:
+    system = osr.SpatialReference()
+    try:
+        system.SetFromUserInput(text)
+    except RuntimeError as error:
+        raise Refusal(text, f"is no reference system: {error}") from error
+    return in_map_order(system)
+
+
+def system_name(system: osr.SpatialReference | None) -> str:
+    """EPSG:25832 where there is a number, else the system's own name."""
+    if system is None:
+        return "no reference system"
+    code = system.GetAuthorityCode(None)
+    return f"{system.GetAuthorityName(None)}:{code}" if code else system.GetName() or "a system without a name"
+
+
+def unit_name(system: osr.SpatialReference | None) -> str:
+    if system is None:
+        return "units"
+    if system.IsGeographic():
+        return "degrees"
+    return "m" if system.GetLinearUnits() == 1.0 else system.GetLinearUnitsName()
+
+
+def area_name(system: osr.SpatialReference | None) -> str:
+    unit = unit_name(system)
+    return f"{unit}\u00b2" if unit == "m" else f"square {unit}"
+
+
+def same(one: osr.SpatialReference | None, other: osr.SpatialReference | None) -> bool:
+    if one is None or other is None:
+        return one is other
+    return bool(one.IsSame(other, ["IGNORE_DATA_AXIS_TO_SRS_AXIS_MAPPING=YES"]))
