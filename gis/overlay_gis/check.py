@@ -12,7 +12,7 @@ from osgeo import ogr, osr
 
 from . import frame as frames
 from . import options
-from .columns import Columns
+from .columns import Columns, Floats
 from .faults import FOUND, Refusal
 from .frame import Frame
 from .joined import Joined, Layer, none, on_grid, text_of, warn_of_rings
@@ -56,10 +56,10 @@ class Checked:
         return not self.survey.of(Kind.STRANGE) and not self.survey.of(Kind.UNBOUND)
 
 
-def ring_findings(layer: Columns) -> dict[int, list[str]]:
+def ring_findings(layer: Columns[Floats]) -> dict[int, list[str]]:
     """What is wrong with the rings of features, by the features' numbers."""
     found = defaultdict(list)
-    ids, lengths, is_open = layer.ring_ids().tolist(), layer.lengths.tolist(), opened(layer)
+    ids, is_open = layer.ring_ids().tolist(), opened(layer)
     for k in (is_open | (layer.lengths < LEAST_RING)).nonzero()[0].tolist():
         last = layer.rings[k + 1] - 1
         found[ids[k]].append(

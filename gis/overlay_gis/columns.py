@@ -5,7 +5,7 @@ from __future__ import annotations
 
 from dataclasses import dataclass, replace
 from itertools import pairwise
-from typing import Any, Sequence
+from typing import Any, Generic, Sequence, TypeVar
 
 import numpy as np
 
@@ -14,6 +14,10 @@ Numbers = np.ndarray[Any, np.dtype[np.int64]]
 Floats = np.ndarray[Any, np.dtype[np.float64]]
 Mask = np.ndarray[Any, np.dtype[np.bool_]]
 Bytes = np.ndarray[Any, np.dtype[np.uint8]]
+
+# Coordinates in a reference system's units, or in a grid's.
+C = TypeVar("C", Floats, Numbers)
+D = TypeVar("D", Floats, Numbers)
 
 GridPoint = tuple[int, int]
 GridRing = list[GridPoint]  # the first point again at its end
@@ -34,12 +38,12 @@ def gathered(counts: Numbers | Mask, held: Numbers) -> Numbers:
 
 
 @dataclass(frozen=True)
-class Columns:
+class Columns(Generic[C]):
     """Ring k has the points from rings[k] up to rings[k + 1], the first one again at its end; polygon k the rings from polygons[k] on, its
     shell first; feature k the polygons from features[k] on, and the number ids[k]."""
 
-    x: Floats | Numbers
-    y: Floats | Numbers
+    x: C
+    y: C
     rings: Numbers
     polygons: Numbers
     features: Numbers
@@ -62,7 +66,11 @@ class Columns:
         """Where the points of each feature begin."""
         return self.rings[self.polygons[self.features]]
 
-    def of_rings(self, kept: Mask) -> Columns:
+    def at(self, x: D, y: D) -> Columns[D]:
+        """The same with other coordinates."""
+        return Columns(x, y, self.rings, self.polygons, self.features, self.ids)
+
+    def of_rings(self, kept: Mask) -> Columns[C]:
         """The same with these rings alone; a polygon that has none of them is left out, and a feature may be without a polygon."""
         points = np.repeat(kept, self.lengths)
         held = gathered(kept, self.polygons)
@@ -75,13 +83,13 @@ class Columns:
             self.ids,
         )
 
-    def of_features(self, kept: Mask) -> Columns:
+    def of_features(self, kept: Mask) -> Columns[C]:
         """The same with these features alone."""
         rings = np.repeat(kept, np.diff(self.polygons[self.features]))
         chosen = self.of_rings(rings)
         return replace(chosen, features=offsets(np.diff(chosen.features)[kept]), ids=self.ids[kept])
 
-    def filled(self) -> Columns:
+    def filled(self) -> Columns[C]:
         """The same without polygons that have no point."""
         empty = np.diff(self.rings[self.polygons]) == 0
         return self.of_rings(np.repeat(~empty, np.diff(self.polygons))) if empty.any() else self
@@ -103,7 +111,7 @@ class Columns:
         return [polygons[at:end] for at, end in pairwise(self.features.tolist())]
 
 
-def chained(parts: Sequence[Columns]) -> Columns:
+def chained(parts: Sequence[Columns[C]]) -> Columns[C]:
     """All features of several, one after another."""
     return Columns(
         np.concatenate([part.x for part in parts]),
@@ -115,7 +123,7 @@ def chained(parts: Sequence[Columns]) -> Columns:
     )
 
 
-def of_polygons(polygons: Sequence[GridPolygon]) -> Columns:
+def of_polygons(polygons: Sequence[GridPolygon]) -> Columns[Numbers]:
     """Polygons of the grid that are lists of points, each a feature, numbered from 1."""
     rings = [ring for polygon in polygons for ring in polygon]
     points = np.array([point for ring in rings for point in ring], np.int64).reshape(-1, 2)
@@ -130,4 +138,4 @@ def of_polygons(polygons: Sequence[GridPolygon]) -> Columns:
     )
 
 
-NOTHING = replace(of_polygons([]), x=np.zeros(0), y=np.zeros(0))
+NOTHING: Columns[Floats] = of_polygons([]).at(np.zeros(0), np.zeros(0))

@@ -36,7 +36,7 @@ def rows_of(numbers: Numbers, size: Words, groups: int) -> Words:
     """A row for each number, x and y by turns, with its digits; `size` are the numbers without their signs."""
     rows = np.empty((len(numbers), groups + 1), WORD)
     for k in reversed(range(groups)):
-        more = size // GROUP
+        more = size // WORD.type(GROUP)
         rows[:, k] = FOURS[size - more * GROUP]
         size = more
     for k, text in enumerate(BEHIND):

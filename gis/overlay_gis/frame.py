@@ -8,14 +8,14 @@ from __future__ import annotations
 
 import json
 import re
-from dataclasses import dataclass, replace
+from dataclasses import dataclass
 from decimal import Decimal, InvalidOperation
 from fractions import Fraction
 from functools import cached_property
 
 from osgeo import osr
 
-from .columns import Columns, GridPoint
+from .columns import Columns, Floats, GridPoint, Numbers
 from .faults import Fault, Refusal
 from .layers import Box
 from .rounding import Axis
@@ -75,15 +75,15 @@ class Frame:
         across, up = self.axes
         return across.place(x), up.place(y)
 
-    def on_grid(self, layer: Columns) -> Columns:
+    def on_grid(self, layer: Columns[Floats]) -> Columns[Numbers]:
         """Polygons in the system's coordinates, in grid units."""
         across, up = self.axes
-        return replace(layer, x=across.rounded(layer.x), y=up.rounded(layer.y))
+        return layer.at(across.rounded(layer.x), up.rounded(layer.y))
 
-    def off_grid(self, layer: Columns) -> Columns:
+    def off_grid(self, layer: Columns[Numbers]) -> Columns[Floats]:
         """Polygons in grid units, in the system's coordinates."""
         across, up = self.axes
-        return replace(layer, x=across.placed(layer.x), y=up.placed(layer.y))
+        return layer.at(across.placed(layer.x), up.placed(layer.y))
 
     @cached_property
     def square(self) -> tuple[int, int]:

@@ -10,7 +10,7 @@ from typing import Iterator, Sequence
 from osgeo import ogr, osr
 
 from . import frame as frames
-from .columns import NOTHING, Columns
+from .columns import NOTHING, Columns, Numbers
 from .faults import Fault, Refusal
 from .frame import Frame
 from .layers import Box, Kind, Source, Survey, common_system
@@ -67,7 +67,7 @@ class Joined:
 
     def ask(self, command: str, layers: Sequence[Layer]) -> Question:
         """Asks the program, which begins at once, on two layers, or on one and an empty one."""
-        first, second = (*(layer.text for layer in layers), self.none)[:2]
+        first, second = (*(layer.text for layer in layers), self.none, self.none)[:2]
         with unbroken():
             return Question(command, layers, self.room.enter_context(asked(command, first, second)))
 
@@ -174,7 +174,7 @@ def refuse_many(sources: Sequence[Source], grids: Sequence[Gridded]) -> None:
         )
 
 
-def text_of(name: str, layer: Columns) -> Text:
+def text_of(name: str, layer: Columns[Numbers]) -> Text:
     """A layer's text in the memory."""
     file = memory("layer")
     write_polygons(file, layer)

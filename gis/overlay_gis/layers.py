@@ -78,7 +78,7 @@ class Survey:
     numbers: Numbers
     kinds: Bytes
     names: list[str]
-    sound: Columns
+    sound: Columns[Floats]
 
     @property
     def features(self) -> int:
@@ -99,14 +99,15 @@ class Survey:
         if not len(held.ids):
             return None
         starts = held.feature_points()[:-1]
-        left, low = np.minimum.reduceat(held.x, starts), np.minimum.reduceat(held.y, starts)
-        right, high = np.maximum.reduceat(held.x, starts), np.maximum.reduceat(held.y, starts)
-        farthest = np.argmax(np.max((-left, right, -low, high), axis=0))
-        sides = (float(side) for side in (left.min(), low.min(), right.max(), high.max()))
-        return Box(*sides, (name, int(held.ids[farthest])))
+        lows = np.minimum.reduceat(held.x, starts), np.minimum.reduceat(held.y, starts)
+        highs = np.maximum.reduceat(held.x, starts), np.maximum.reduceat(held.y, starts)
+        farthest = np.argmax(np.max((*highs, *(-side for side in lows)), axis=0))
+        left, low = (float(side.min()) for side in lows)
+        right, high = (float(side.max()) for side in highs)
+        return Box(left, low, right, high, (name, int(held.ids[farthest])))
 
 
-def areas(held: Columns) -> Floats:
+def areas(held: Columns[Floats]) -> Floats:
     """For each ring with points its area, below 0 where it is that of a hole. Each is measured from the ring's first point, so that
     coordinates far from 0 don't swallow it."""
     filled = held.lengths > 0
@@ -234,7 +235,7 @@ NO_KINDS = np.zeros(0, np.uint8)
 NO_POLYGON = ogr.Geometry(ogr.wkbPolygon)
 
 
-def kinds_of(held: Columns) -> Bytes:
+def kinds_of(held: Columns[Floats]) -> Bytes:
     """What the features are, whose polygons have points."""
     points = held.feature_points()
     unbound = gathered(~(np.isfinite(held.x) & np.isfinite(held.y)), points) > 0

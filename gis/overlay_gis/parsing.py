@@ -115,7 +115,7 @@ def points_in(tokens: Tokens, inside: Mask) -> tuple[Numbers, Numbers] | None:
     return None if numbers is None else (numbers[0::2], numbers[1::2])
 
 
-def polygons_in(text: bytes, name: str) -> Columns:
+def polygons_in(text: bytes, name: str) -> Columns[Numbers]:
     """The polygons of a layer text or of a result, each a feature."""
     tokens = tokens_of(text)
     opening, closing = tokens.rings()

@@ -168,7 +168,7 @@ def refusal(line: str, status: int, texts: tuple[Text, Text]) -> Fault:
     return kind(name, f"overlay says: {words}" + (f" ({hint})" if hint else ""))
 
 
-def result_in(text: bytes) -> Columns:
+def result_in(text: bytes) -> Columns[Numbers]:
     """The polygons of what the program answers to an operation, which is one whole line."""
     if kind_of(text) == RESULT and text.endswith(b"\n"):
         with suppress(Refusal):

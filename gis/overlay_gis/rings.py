@@ -28,7 +28,7 @@ class Gridded:
     """A layer on the grid, all rings closed, and in grid units. `closed` and `dropped` are the numbers of the features that had an open ring, and
     one that was left out, for each such ring."""
 
-    layer: Columns
+    layer: Columns[Numbers]
     moves: Moves
     lengths: Floats
     closed: list[int]
@@ -54,7 +54,7 @@ class Gridded:
         return float(np.partition(self.lengths, -count)[-count:].sum()) if count > 0 else 0.0
 
 
-def opened(layer: Columns) -> Mask:
+def opened(layer: Columns[Floats]) -> Mask:
     """Which rings end where they don't begin."""
     filled = layer.lengths > 0
     first, last = layer.firsts[filled], layer.rings[1:][filled] - 1
@@ -62,14 +62,14 @@ def opened(layer: Columns) -> Mask:
     return filled
 
 
-def closed(layer: Columns, rings: Mask) -> Columns:
+def closed(layer: Columns[Floats], rings: Mask) -> Columns[Floats]:
     """The same, and these rings with their first points again at their ends."""
     first, end = layer.firsts[rings], layer.rings[1:][rings]
     x, y = np.insert(layer.x, end, layer.x[first]), np.insert(layer.y, end, layer.y[first])
     return replace(layer, x=x, y=y, rings=offsets(layer.lengths + rings))
 
 
-def segments(layer: Columns) -> tuple[Numbers, Numbers]:
+def segments(layer: Columns[Numbers]) -> tuple[Numbers, Numbers]:
     """How far each segment goes to the right and up; a ring that isn't empty has one less than points."""
     within = np.ones(len(layer.x), bool)
     within[layer.rings[1:][layer.lengths > 0] - 1] = False
@@ -77,7 +77,7 @@ def segments(layer: Columns) -> tuple[Numbers, Numbers]:
     return layer.x[within + 1] - layer.x[within], layer.y[within + 1] - layer.y[within]
 
 
-def moves_of(layer: Columns, grid: Columns, frame: Frame) -> Moves:
+def moves_of(layer: Columns[Floats], grid: Columns[Numbers], frame: Frame) -> Moves:
     """How far the vertices of closed rings were moved to where they are on the grid."""
     placed = frame.off_grid(grid)
     vertices = np.ones(len(layer.x), bool)
@@ -88,7 +88,7 @@ def moves_of(layer: Columns, grid: Columns, frame: Frame) -> Moves:
     return Moves(len(ways), moved, mean, float(ways.max(initial=0.0)))
 
 
-def gridded(layer: Columns, area: float, frame: Frame) -> Gridded:
+def gridded(layer: Columns[Floats], area: float, frame: Frame) -> Gridded:
     """A layer of that area, in the system's coordinates, on the grid."""
     ids, open_rings = layer.ring_ids(), opened(layer)
     whole = closed(layer, open_rings) if open_rings.any() else layer

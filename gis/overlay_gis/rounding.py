@@ -2,9 +2,9 @@
 
 With ε = 2^-53 and the grid's unit u and origin o, the wanted number is floor(S) for S = (v - o) / u + 1/2.
 
-1. o is held as the floating-point numbers h next to it and l next to o - h, and what these leave, r; 1 / u as i next to it.
-2. s = ((v - h) - l) · i + 1/2, by five operations and one constant that are each off by at most ε of what they give. With
-   W = (|v - h| + |l|) / u, s is off from S by less than 5 ε W + ε + r / u and terms in ε²: less than 8 ε (W + 1) + r / u.
+1. o is held as the floating-point numbers h next to it and l next to o - h, which leave at most ε |l|; 1 / u as i next to it.
+2. s = ((v - h) - l) · i + 1/2: four operations and these two constants, each off by at most ε of what it gives. With
+   W = (|v - h| + |l|) / u, s is off from S by less than 6 ε W + ε and terms in ε²: less than 8 ε (W + 1).
 3. Where no whole number is as near to s as that, floor(s) is floor(S). The others go by whole numbers, in Python.
 """
 
@@ -20,12 +20,11 @@ import numpy as np
 
 from .columns import Floats, Mask, Numbers
 
-# 8 ε, the bound's share of what the estimate's operations give.
+# 8 ε.
 SHARE = 2.0**-50
 
 # 1 / u has the error that step 2 counts only where it is a normal number.
 LEAST_NORMAL = float(np.finfo(np.float64).tiny)
-
 
 # Up to this, floating-point numbers have all whole numbers.
 WHOLE = 1 << 53
@@ -43,13 +42,12 @@ class Axis:
         try:
             high = float(self.origin)
             low = float(self.origin - Fraction(high))
-            rest = float(abs(self.origin - Fraction(high) - Fraction(low)) / self.unit)
             inverse = float(1 / self.unit)
         except OverflowError:
             return np.zeros_like(values), np.zeros(len(values), bool)
         with np.errstate(all="ignore"):
             ways = values - high
-            bound = SHARE * ((np.abs(ways).max(initial=0.0) + abs(low)) * inverse + 1) + 2 * rest
+            bound = SHARE * ((np.abs(ways).max(initial=0.0) + abs(low)) * inverse + 1)
             guess = (ways - low) * inverse + 0.5
             sure = (np.abs(guess - np.rint(guess)) > bound) & (inverse >= LEAST_NORMAL)
         return np.floor(guess), sure

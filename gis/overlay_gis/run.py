@@ -8,7 +8,7 @@ from typing import Iterator
 from osgeo import ogr
 
 from . import options, program
-from .columns import Columns
+from .columns import Columns, Numbers
 from .frame import Frame
 from .joined import joined, tell_change
 from .layers import Source, files_of
@@ -30,7 +30,7 @@ def add_arguments(parser: ArgumentParser) -> None:
     options.add_dissolve(parser)
 
 
-def rows(result: Columns, frame: Frame) -> Iterator[Row]:
+def rows(result: Columns[Numbers], frame: Frame) -> Iterator[Row]:
     """The polygons of a result on the grid, each with its number and its area."""
     polygons = zip(encoded(frame.off_grid(result)), result.twice_areas())
     for number, (polygon, twice) in enumerate(polygons, 1):

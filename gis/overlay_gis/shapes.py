@@ -14,7 +14,7 @@ from shapely.geometry.base import BaseGeometry
 from shapely.ops import unary_union
 from shapely.validation import make_valid
 
-from .columns import Columns
+from .columns import Columns, Floats
 from .faults import Refusal
 from .messages import during
 from .wkb import collected, decoded, encoded
@@ -31,7 +31,7 @@ def by_geos(name: str) -> Iterator[None]:
         raise Refusal(name, f"GEOS can't compute with it: {error}") from error
 
 
-def features_of(layer: Columns) -> Iterator[bytes]:
+def features_of(layer: Columns[Floats]) -> Iterator[bytes]:
     """The geometry of each feature in WKB."""
     polygons = encoded(layer)
     for at, end in pairwise(layer.features.tolist()):
@@ -53,7 +53,7 @@ def valid_of(geometry: bytes, name: str) -> BaseGeometry:
         return shape if shape.is_valid else make_valid(shape)
 
 
-def united(name: str, layer: Columns) -> tuple[Columns, float]:
+def united(name: str, layer: Columns[Floats]) -> tuple[Columns[Floats], float]:
     """All polygons of a layer of that name as one feature, united by GEOS, and their area."""
     features = zip(layer.ids.tolist(), features_of(layer))
     shapes = [valid_of(geometry, f"{name}: feature {number}") for number, geometry in features]
@@ -62,7 +62,7 @@ def united(name: str, layer: Columns) -> tuple[Columns, float]:
     return polygons_in(whole), whole.area
 
 
-def polygons_in(whole: BaseGeometry) -> Columns:
+def polygons_in(whole: BaseGeometry) -> Columns[Floats]:
     """The polygons of a shape as one feature."""
     parts = [part for part in getattr(whole, "geoms", [whole]) if part.geom_type == "Polygon" and not part.is_empty]
     return decoded(wkb.dumps(MultiPolygon(parts)))

@@ -8,7 +8,7 @@ from typing import BinaryIO, Iterator
 
 import numpy as np
 
-from .columns import Columns, offsets
+from .columns import Columns, Numbers, offsets
 from .digits import BEHIND, points_text
 from .faults import Fault, Refusal
 
@@ -48,12 +48,12 @@ def kind_of(text: bytes) -> str:
     return LAYERS
 
 
-def write_polygons(out: BinaryIO, layer: Columns) -> None:
+def write_polygons(out: BinaryIO, layer: Columns[Numbers]) -> None:
     """Writes the polygons of each feature, which are in grid units, as a line of a layer text."""
     out.writelines(lines_of(layer))
 
 
-def lines_of(layer: Columns) -> Iterator[bytes]:
+def lines_of(layer: Columns[Numbers]) -> Iterator[bytes]:
     rings = rings_of(layer)
     held = [b"((" + b"), (".join(rings[at:end]) + b"))" for at, end in pairwise(layer.polygons.tolist())]
     for at, end in pairwise(layer.features.tolist()):
@@ -63,11 +63,11 @@ def lines_of(layer: Columns) -> Iterator[bytes]:
             yield b"POLYGON " + held[at] + b"\n"
 
 
-def rings_of(layer: Columns) -> list[bytes]:
+def rings_of(layer: Columns[Numbers]) -> list[bytes]:
     """The points of each ring as text."""
     blocks = [slice(at, at + POINTS) for at in range(0, len(layer.x), POINTS)]
     parts = [points_text(layer.x[block], layer.y[block]) for block in blocks]
-    text = b"".join(text for text, _ in parts)
+    text = b"".join(text.tobytes() for text, _ in parts)
     starts = offsets(np.concatenate([layer.ids[:0], *(lengths for _, lengths in parts)]))
     behind = len(BEHIND[-1])
     return [text[at : end - behind] for at, end in pairwise(starts[layer.rings].tolist())]

@@ -39,15 +39,15 @@ class Form(NamedTuple):
     dimensions: int
 
     @property
-    def count(self) -> Struct:
-        return COUNTS[self.order]
+    def number(self) -> Struct:
+        return NUMBERS[self.order]
 
     @property
     def coordinate(self) -> np.dtype:
         return np.dtype("<f8" if self.order == LITTLE_ENDIAN else ">f8")
 
 
-COUNTS = {BIG_ENDIAN: Struct(">I"), LITTLE_ENDIAN: Struct("<I")}
+NUMBERS = {BIG_ENDIAN: Struct(">I"), LITTLE_ENDIAN: Struct("<I")}
 
 
 FORMS = [Form(order, dimensions) for order in (BIG_ENDIAN, LITTLE_ENDIAN) for dimensions in (2, 3, 4)]
@@ -66,10 +66,10 @@ class Ring(NamedTuple):
 
 def head_of(data: memoryview, at: int) -> tuple[Form, int, int]:
     """The form of a geometry's numbers; its kind, without what that says of dimensions; and how many parts it has."""
-    if data[at] not in COUNTS:
+    if data[at] not in NUMBERS:
         raise Unusual("of no byte order")
-    count = COUNTS[data[at]]
-    (kind,), (parts,) = count.unpack_from(data, at + 1), count.unpack_from(data, at + 5)
+    number = NUMBERS[data[at]]
+    (kind,), (parts,) = number.unpack_from(data, at + 1), number.unpack_from(data, at + 5)
     thousands, flat = divmod(kind & ~(Z_BIT | M_BIT), THOUSAND)
     z, m = thousands in WITH_Z or bool(kind & Z_BIT), thousands in WITH_M or bool(kind & M_BIT)
     return Form(data[at], 2 + z + m), flat, parts
@@ -83,7 +83,7 @@ def polygon_at(data: memoryview, at: int, base: int) -> tuple[list[Ring], int]:
     at += 9
     rings = []
     for _ in range(parts):
-        (points,) = form.count.unpack_from(data, at)
+        (points,) = form.number.unpack_from(data, at)
         rings.append(Ring(base + at + 4, points, form))
         at += 4 + points * form.dimensions * WIDTH
     if at > len(data):
@@ -123,7 +123,7 @@ def plain(data: Bytes, starts: Numbers, ends: Numbers) -> tuple[Mask, Numbers]:
 
 def coordinates(data: Bytes, places: Numbers, points: Numbers, form: Form) -> tuple[Floats, Floats]:
     """x and y of all points of some rings of one form."""
-    memory, ends = memoryview(data), places + points * form.dimensions * WIDTH
+    memory, ends = data.data, places + points * form.dimensions * WIDTH
     taken = b"".join([memory[place:end] for place, end in zip(places.tolist(), ends.tolist())])
     held = np.frombuffer(taken, form.coordinate).reshape(-1, form.dimensions)
     return held[:, 0].astype(np.float64), held[:, 1].astype(np.float64)
@@ -143,7 +143,7 @@ class Decoder:
     def walk(self, k: int) -> list[list[Ring]]:
         """The rings of the polygons of a feature."""
         start, end = int(self.batch.starts[k]), int(self.batch.ends[k])
-        geometry = memoryview(self.data)[start:end]
+        geometry = self.data.data[start:end]
         try:
             return polygons_at(geometry, start)
         except Unusual:
@@ -161,7 +161,7 @@ class Decoder:
         column[held], column[~held] = of_simple, of_walked
         return column
 
-    def columns(self) -> Columns:
+    def columns(self) -> Columns[Floats]:
         """All features' polygons; what is strange has none."""
         walked = list(self.walked.values())
         polygons = list(chain.from_iterable(walked))
@@ -188,18 +188,18 @@ class Decoder:
         return x, y
 
 
-def decoded(geometry: bytes) -> Columns:
+def decoded(geometry: bytes) -> Columns[Floats]:
     """A polygonal geometry of lines as one feature, numbered 0."""
     start, data = np.zeros(1, np.int64), np.frombuffer(geometry, np.uint8)
     return Decoder(Batch(start, data, start, start + len(data)), lambda *_: None).columns()
 
 
-def encoded(polygons: Columns) -> Iterator[bytes]:
+def encoded(polygons: Columns[Floats]) -> Iterator[bytes]:
     """Each polygon of some columns in WKB."""
     held = np.empty((len(polygons.x), 2))
     held[:, 0], held[:, 1] = polygons.x, polygons.y
     points, width = memoryview(held.tobytes()), 2 * WIDTH
-    count = COUNTS[LITTLE_ENDIAN].pack
+    count = NUMBERS[LITTLE_ENDIAN].pack
     rings = [
         count(end - at) + points[at * width : end * width] for at, end in pairwise(polygons.rings.tolist())
     ]
@@ -211,7 +211,7 @@ def collected(polygons: Sequence[bytes]) -> bytes:
     """The geometry of a feature in WKB, of its polygons'."""
     if len(polygons) == 1:
         return polygons[0]
-    return b"".join((MULTIPOLYGON_HEAD, COUNTS[LITTLE_ENDIAN].pack(len(polygons)), *polygons))
+    return b"".join((MULTIPOLYGON_HEAD, NUMBERS[LITTLE_ENDIAN].pack(len(polygons)), *polygons))
 
 
 def lines(points: Floats) -> Iterator[bytes]:

@@ -1,0 +1,134 @@
+"""The program at work: on what it is asked at once, on texts in the memory, and ended with the command."""
+
+import os
+import signal
+import sqlite3
+from contextlib import ExitStack
+from pathlib import Path
+
+import pytest
+from shapely.geometry import box
+
+from conftest import EAST, NORTH, write
+from overlay_gis import program, stopping
+from overlay_gis.joined import Joined
+from overlay_gis.stopping import Stopped
+
+SQUARE = box(EAST, NORTH, EAST + 10, NORTH + 10)
+
+
+def text(words):
+    file = program.memory("layer")
+    file.write(words)
+    file.flush()
+    return program.Text("a", file)
+
+
+def test_an_answer_and_both_areas_are_computed_at_once(gis, tmp_path, pretend):
+    """Each run of the program waits until three have begun."""
+    a, b = write(tmp_path / "a.gpkg", [SQUARE]), write(tmp_path / "b.gpkg", [SQUARE])
+    (tmp_path / "begun").mkdir()
+    pretend(
+        f'touch "{tmp_path}/begun/$$"\n'
+        f'for k in $(seq 500); do [ "$(ls "{tmp_path}/begun" | wc -l)" = 3 ] && break; sleep 0.02; done\n'
+        f'[ "$(ls "{tmp_path}/begun" | wc -l)" = 3 ] || exit 1\n'
+        "echo 'MULTIPOLYGON (((0 0, 10000 0, 10000 10000, 0 10000, 0 0)))'\necho 'records 8' >&2\n"
+    )
+    assert gis("run", "union", a, b, "-o", "out.gpkg").status == 0
+
+
+def test_texts_are_no_files_of_a_folder(gis, tmp_path, pretend, monkeypatch):
+    a, b = write(tmp_path / "a.gpkg", [SQUARE]), write(tmp_path / "b.gpkg", [])
+    monkeypatch.setenv("TMPDIR", str(tmp_path / "none"))
+    pretend(f'readlink "$2" "$3" >>"{tmp_path}/names"\ncat "$2" "$2" >>"{tmp_path}/texts"\necho "MULTIPOLYGON EMPTY"\necho "records 8" >&2\n')
+    assert gis("run", "union", a, b, "-o", "out.gpkg", "--origin", f"{EAST},{NORTH}").status == 0
+    assert all(name.startswith("/memfd:") for name in Path("names").read_text().splitlines())
+    line = "POLYGON ((10000 0, 10000 10000, 0 10000, 0 0, 10000 0))\n"
+    assert Path("texts").read_text() == line * 4
+
+
+def test_an_answer_is_what_the_program_wrote(pretend):
+    pretend("cat $2 $3; echo 'records 7 of 9' >&2; echo 'tile 0 8' >&2; echo other words >&2\n")
+    with program.Asked("union", text(b"one\n"), text(b"other\n")) as asked:
+        assert asked.answer() == (b"one\nother\n", {"records": 7})
+
+
+def test_a_long_answer_and_a_long_report(pretend):
+    pretend("head -c 3000000 /dev/zero; head -c 3000000 /dev/zero >&2\n")
+    with program.Asked("union", text(b""), text(b"")) as asked:
+        assert asked.answer()[0] == bytes(3_000_000)
+
+
+def running(number):
+    try:
+        os.kill(number, 0)
+    except ProcessLookupError:
+        return False
+    return True
+
+
+def test_the_program_ends_with_the_context(pretend):
+    pretend("exec sleep 600\n")
+    with pytest.raises(KeyError), program.Asked("union", text(b""), text(b"")) as asked:
+        raise KeyError
+    assert not running(asked.process.pid)
+
+
+def test_a_refusal_ends_the_runs_that_go_on(gis, tmp_path, pretend):
+    a = write(tmp_path / "a.gpkg", [SQUARE])
+    pretend(f'if [ "$1" = union ]; then echo "overlay: A: 1 syntax at 3" >&2; exit 3; fi\necho $$ >"{tmp_path}/at"\nexec sleep 600\n')
+    assert gis("run", "difference", a, a, "-o", "out.gpkg").status == 3
+    assert not Path("at").exists() or not running(int(Path("at").read_text()))
+
+
+@pytest.fixture
+def handled():
+    with stopping.stoppable():
+        yield
+
+
+@pytest.mark.parametrize("number", [signal.SIGTERM, signal.SIGHUP])
+def test_a_signal_waits_for_what_must_not_be_broken(handled, number):
+    done = []
+    with pytest.raises(Stopped, match=number.name):
+        with stopping.unbroken():
+            os.kill(os.getpid(), number)
+            done.append("all")
+        done.append("more")
+    assert done == ["all"]
+
+
+def test_a_signal_behind_it_waits_for_nothing(handled):
+    with stopping.unbroken():
+        pass
+    with pytest.raises(Stopped):
+        os.kill(os.getpid(), signal.SIGTERM)
+        pytest.fail("it went on")
+
+
+def test_a_program_that_a_signal_found_beginning_is_ended(handled, monkeypatch, pretend):
+    """The signal comes when the process is there, and nothing knows of it yet."""
+    begun = []
+    popen = program.Popen
+
+    def interrupted(*words, **named):
+        begun.append(popen(*words, **named))
+        os.kill(os.getpid(), signal.SIGTERM)
+        return begun[0]
+
+    monkeypatch.setattr(program, "Popen", interrupted)
+    pretend("exec sleep 600\n")
+    with pytest.raises(Stopped), ExitStack() as room:
+        joined = Joined(None, None, [], text(b""), room)
+        joined.ask("union", [])
+    assert begun and not running(begun[0].pid)
+
+
+def test_a_geopackage_has_a_whole_index(gis, tmp_path):
+    a = write(tmp_path / "a.gpkg", [box(EAST + 3 * k, NORTH, EAST + 3 * k + 2, NORTH + 2) for k in range(300)])
+    assert gis("run", "union", a, write(tmp_path / "b.gpkg", []), "-o", "out.gpkg").status == 0
+    held = sqlite3.connect("out.gpkg")
+    assert held.execute("select count(*) from out").fetchone() == (300,)
+    assert held.execute("select count(*) from rtree_out_geom where minx >= 412299.9 and maxx < 412600").fetchone() == (100,)
+    assert held.execute("select count(*) from gpkg_extensions where extension_name = 'gpkg_rtree_index'").fetchone() == (1,)
+    assert held.execute("pragma integrity_check").fetchone() == ("ok",)

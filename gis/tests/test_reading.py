@@ -1,0 +1,170 @@
+"""Layers as columns: what is read is what OGR's features have, whatever the format and the form of their geometries."""
+
+import random
+import struct
+
+import numpy as np
+import pytest
+from osgeo import gdal, ogr
+
+from conftest import EAST, NORTH, UTM, blobs, parcels, system, write
+from overlay_gis import wkb
+from overlay_gis.arrow import Batch
+from overlay_gis.faults import Fault
+from overlay_gis.layers import Kind, Source
+
+FORMATS = {
+    "gpkg": "GPKG",
+    "shp": "ESRI Shapefile",
+    "geojson": "GeoJSON",
+    "fgb": "FlatGeobuf",
+    "sqlite": "SQLite",
+    "gml": "GML",
+    "csv": "CSV",
+}
+
+X, Y = EAST, NORTH
+TEXTS = [
+    f"POLYGON (({X} {Y}, {X + 4} {Y}, {X + 4.5} {Y + 4}, {X} {Y}))",
+    f"POLYGON (({X} {Y}, {X + 9} {Y}, {X + 9} {Y + 9}, {X} {Y}), ({X + 5} {Y + 1}, {X + 6} {Y + 2}, {X + 7} {Y + 1}, {X + 5} {Y + 1}))",
+    f"MULTIPOLYGON ((({X} {Y}, {X + 1} {Y}, {X} {Y + 1}, {X} {Y})), (({X + 5} {Y}, {X + 6} {Y}, {X + 5} {Y + 1}, {X + 5} {Y})))",
+    f"POLYGON Z (({X} {Y} 7, {X + 4} {Y} 8, {X + 4} {Y + 4} 9, {X} {Y} 7))",
+    f"MULTIPOLYGON Z ((({X} {Y} 1, {X + 1} {Y} 2, {X} {Y + 1} 3, {X} {Y} 1)))",
+    "POLYGON EMPTY",
+    None,
+    f"CURVEPOLYGON (CIRCULARSTRING ({X} {Y}, {X + 10} {Y}, {X} {Y}))",
+    f"MULTISURFACE (CURVEPOLYGON (CIRCULARSTRING ({X} {Y}, {X + 8} {Y + 1}, {X} {Y})), (({X} {Y}, {X + 1} {Y}, {X} {Y + 1}, {X} {Y})))",
+]
+
+
+def polygons_of(geometry):
+    """The polygons of a geometry, by OGR's calls, each a list of rings."""
+    flat = geometry.GetLinearGeometry()
+    parts = [flat] if flat.GetGeometryName() == "POLYGON" else [flat.GetGeometryRef(k) for k in range(flat.GetGeometryCount())]
+    rings = [[part.GetGeometryRef(k).GetPoints(2) for k in range(part.GetGeometryCount())] for part in parts]
+    return [polygon for polygon in rings if polygon]
+
+
+def wanted(path):
+    """The numbers and polygons of a layer's features that have some, and the numbers of those that have none."""
+    held, bare = {}, []
+    dataset = gdal.OpenEx(str(path), gdal.OF_VECTOR)  # a layer is there only as long as its dataset is
+    for feature in dataset.GetLayer(0):
+        geometry = feature.GetGeometryRef()
+        if geometry is None or geometry.IsEmpty():
+            bare.append(feature.GetFID())
+        else:
+            held[feature.GetFID()] = polygons_of(geometry)
+    return held, bare
+
+
+@pytest.mark.parametrize("ending", FORMATS)
+def test_columns_are_what_the_features_have(tmp_path, ending):
+    path = tmp_path / f"a.{ending}"
+    kind = ogr.wkbPolygon if ending == "shp" else ogr.wkbUnknown
+    options = ["GEOMETRY=AS_WKT"] if ending == "csv" else []
+    dataset = gdal.GetDriverByName(FORMATS[ending]).Create(str(path), 0, 0, 0, gdal.GDT_Unknown)
+    layer = dataset.CreateLayer("a", system(UTM), kind, options)
+    layer.CreateField(ogr.FieldDefn("name", ogr.OFTString))
+    for text in TEXTS:
+        feature = ogr.Feature(layer.GetLayerDefn())
+        feature["name"] = "a name, and more"
+        if text and not (ending in ("shp", "geojson") and "CURVE" in text):
+            feature.SetGeometry(ogr.CreateGeometryFromWkt(text))
+        layer.CreateFeature(feature)
+    del feature, layer, dataset
+    held, bare = wanted(path)
+    seen = Source(str(path)).survey()
+    assert dict(zip(seen.sound.ids.tolist(), seen.sound.lists())) == held
+    assert seen.of(Kind.BARE) == bare and seen.features == len(held) + len(bare) >= 7  # FlatGeobuf leaves out bare features
+    assert not seen.names and len(held) >= 5
+
+
+@pytest.mark.parametrize("count", [1, 3, 1000])
+def test_batches_are_one_layer(tmp_path, monkeypatch, count):
+    monkeypatch.setattr("overlay_gis.arrow.BATCH", count)
+    path = write(tmp_path / "a.gpkg", parcels(3, 3) + blobs(4, 7))
+    seen = Source(path).survey()
+    assert dict(zip(seen.sound.ids.tolist(), seen.sound.lists())) == wanted(path)[0]
+
+
+def test_a_field_of_any_name_is_no_geometry(tmp_path):
+    fields = {"OGC_FID": [1, 2], "geometry": ["POINT (1 1)"] * 2, "wkb_geometry": ["x"] * 2}
+    path = write(tmp_path / "a.gpkg", parcels(3, 3)[:2], fields=fields)
+    seen = Source(path).survey()
+    assert seen.sound.lists() == list(wanted(path)[0].values())
+
+
+def test_a_layer_without_geometries(tmp_path):
+    (tmp_path / "a.csv").write_text("name,use\nx,1\ny,2\n")
+    seen = Source(str(tmp_path / "a.csv")).survey()
+    assert len(seen.of(Kind.BARE)) == 2 and not len(seen.sound.ids)
+
+
+RING = [(1.0, 2.0), (3.5, -4.0), (5.0, 6.0), (1.0, 2.0)]
+
+
+def blob(order, kind, dimensions):
+    """A polygon of two rings in WKB."""
+    points = [(*point, *(9.0 for _ in range(dimensions - 2))) for point in RING]
+    ring = struct.pack(order + "I", len(RING)) + b"".join(struct.pack(f"{order}{dimensions}d", *point) for point in points)
+    return struct.pack(order + "BII", order == "<", kind, 2) + ring + ring
+
+
+def batch_of(*blobs):
+    ends = np.cumsum([len(held) for held in blobs])
+    starts = np.concatenate(([0], ends[:-1]))
+    return Batch(np.arange(len(blobs)), np.frombuffer(b"".join(blobs), np.uint8), starts, ends)
+
+
+def refused(batch, k):
+    raise Fault("a", f"feature {k}")
+
+
+FORMS = [("", 3, 2), (" Z", 1003, 3), (" M", 2003, 3), (" ZM", 3003, 4)]
+FORMS += [(" Z by a bit", 0x80000003, 3), (" M by a bit", 0x40000003, 3), (" ZM by bits", 0xC0000003, 4)]
+
+
+@pytest.mark.parametrize("order", "<>")
+@pytest.mark.parametrize("name, kind, dimensions", FORMS)
+def test_all_forms_of_a_polygon(order, name, kind, dimensions):
+    held = blob(order, kind, dimensions)
+    plain = blob("<", 3, 2)
+    many = struct.pack(order + "BII", order == "<", kind + 3, 2) + held + plain
+    columns = wkb.Decoder(batch_of(held, plain, many, held), refused).columns()
+    polygon = [RING, RING]
+    assert columns.lists() == [[polygon], [polygon], [polygon, polygon], [polygon]]
+
+
+def test_what_is_not_whole_is_left_to_gdal():
+    whole = blob("<", 3, 2)
+    many = struct.pack("<BII", 1, 6, 3) + whole + whole
+    rng, asked = random.Random(5), []
+    spoiled = [whole[:k] for k in range(1, len(whole))] + [many]
+    spoiled += [whole[:5] + struct.pack("<I", count) + whole[9:] for count in (3, 1 << 20, 0xFFFFFFFF)]
+    spoiled += [whole[:9] + struct.pack("<I", count) + whole[13:] for count in (1 << 20, 0xFFFFFFFF)]
+    spoiled += [bytes([2]) + whole[1:], bytes([0]) + whole[1:], whole[:1] + struct.pack("<I", 9) + whole[5:]]
+    rng.shuffle(spoiled)
+    decoder = wkb.Decoder(batch_of(*spoiled), lambda _, k: asked.append(k))
+    assert asked == decoder.strange == list(range(len(spoiled)))
+    assert decoder.columns().lists() == [[]] * len(spoiled)
+
+
+def test_a_geometry_that_gdal_cannot_read_is_told_with_its_feature(gis, tmp_path):
+    path = write(tmp_path / "a.gpkg", parcels(3, 3))
+    with open(path, "r+b") as file:
+        data = file.read()
+        at = data.index(struct.pack("<BIII", 1, 3, 1, 5))
+        file.seek(at + 9)
+        file.write(struct.pack("<I", 1 << 28))
+    answer = gis("run", "union", path, path, "-o", "out.gpkg")
+    assert answer.status == 1 and answer.err.count("\n") == 1
+    assert "a.gpkg: GDAL can't read the geometry of feature " in answer.err
+
+
+def test_columns_come_back_from_wkb():
+    geometries = [blob("<", 3, 2) for _ in range(3)]
+    columns = wkb.Decoder(batch_of(*geometries), refused).columns()
+    for geometry in wkb.encoded(columns):
+        assert geometry == geometries[0]
+    assert wkb.decoded(wkb.collected(list(wkb.encoded(columns)))).lists() == [[[RING, RING]] * 3]
