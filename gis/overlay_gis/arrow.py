@@ -7,12 +7,18 @@ from dataclasses import dataclass
 from typing import Iterator
 
 import numpy as np
-from osgeo import ogr
+from osgeo import gdal, ogr
 
 from .columns import Bytes, Mask, Numbers
+from .faults import Fault
 
 # How many features a batch has at most.
 BATCH = 16384
+
+# Ways of some drivers beside GDAL's own: that of GeoPackage takes what it can't read for no geometry, and that of FlatGeobuf doesn't end
+# on an empty layer.
+for way in ("GPKG", "FLATGEOBUF"):
+    gdal.SetConfigOption(f"OGR_{way}_STREAM_BASE_IMPL", "YES")
 
 NO_NUMBER = -1  # what OGR gives a feature that has none
 
@@ -46,7 +52,8 @@ Array._fields_ = [
 ]
 
 # The formats of a feature's number, and of geometries, whose offsets have four bytes or eight.
-NUMBER, GEOMETRIES = b"l", {b"z": np.dtype(np.int32), b"Z": np.dtype(np.int64)}
+NUMBER = b"l"
+GEOMETRIES: dict[bytes, np.dtype] = {b"z": np.dtype(np.int32), b"Z": np.dtype(np.int64)}
 
 
 @dataclass(frozen=True)
@@ -64,7 +71,7 @@ def seen(address: int | None, kind: np.dtype, count: int) -> np.ndarray:
     """So many numbers that lie at an address."""
     if not address or not count:
         return np.zeros(0, kind)
-    return np.frombuffer((ctypes.c_uint8 * (count * kind.itemsize)).from_address(address), kind)
+    return np.frombuffer(memoryview((ctypes.c_uint8 * (count * kind.itemsize)).from_address(address)), kind)
 
 
 def present(column: Array) -> Mask:
@@ -81,9 +88,9 @@ def numbers_of(column: Array) -> Numbers:
     return np.where(present(column), held, NO_NUMBER)
 
 
-def batch_of(numbers: Array, geometries: Array | None, width: np.dtype) -> Batch:
+def batch_of(numbers: Array, geometries: Array | None, width: np.dtype | None) -> Batch:
     ids = numbers_of(numbers)
-    if geometries is None:
+    if geometries is None or width is None:
         none = np.zeros(len(ids), np.int64)
         return Batch(ids, np.zeros(0, np.uint8), none, none)
     end = geometries.offset + geometries.length
@@ -94,6 +101,8 @@ def batch_of(numbers: Array, geometries: Array | None, width: np.dtype) -> Batch
 
 def batches(layer: ogr.Layer) -> Iterator[Batch]:
     """All features of a layer, without their fields."""
+    if not hasattr(layer, "GetArrowStream"):
+        raise Fault(f"GDAL {gdal.__version__}", "is too old: 3.6 is the first that hands features over in batches")
     definition = layer.GetLayerDefn()
     layer.SetIgnoredFields([definition.GetFieldDefn(k).GetName() for k in range(definition.GetFieldCount())])
     layer.ResetReading()
@@ -102,8 +111,8 @@ def batches(layer: ogr.Layer) -> Iterator[Batch]:
     schema = Schema.from_address(held._getPtr())
     formats = [schema.children[k].contents.format for k in range(schema.n_children)]
     place = next((k for k, name in enumerate(formats) if name in GEOMETRIES), None)
-    width = GEOMETRIES[formats[place]] if place is not None else np.dtype(np.int32)
-    while (part := stream.GetNextRecordBatch()) is not None:
+    width = GEOMETRIES[formats[place]] if place is not None else None
+    while (part := stream.GetNextRecordBatch()) is not None and part.GetLength():
         array = Array.from_address(part._getPtr())
         columns = [array.children[k].contents for k in range(array.n_children)]
         yield batch_of(columns[formats.index(NUMBER)], None if place is None else columns[place], width)

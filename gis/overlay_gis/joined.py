@@ -69,7 +69,9 @@ class Joined:
         """Asks the program, which begins at once, on two layers, or on one and an empty one."""
         first, second = (*(layer.text for layer in layers), self.none, self.none)[:2]
         with unbroken():
-            return Question(command, layers, self.room.enter_context(asked(command, first, second)))
+            begun = asked(command, first, second)
+            self.room.enter_context(begun)
+        return Question(command, layers, begun)
 
     def parity(self, layer: Layer, union: Question) -> tuple[int, int]:
         """Twice the area of a layer as it is read, by parity and rounded, and how many segments were bent at most.

@@ -35,9 +35,6 @@ gdal.PushErrorHandler(handle)
 
 LAYER_MARK = "|layername="
 
-# The first GDAL that hands features over in batches.
-LEAST_GDAL = (3, 6)
-
 
 @dataclass
 class Box:
@@ -222,7 +219,8 @@ class Source:
         self.layer.SetIgnoredFields(["OGR_GEOMETRY"])
         self.layer.ResetReading()
         try:
-            features = followed(iter(self.layer.GetNextFeature, None), f"reading {self.name}", len(sound))
+            unread: Iterator[ogr.Feature] = iter(self.layer.GetNextFeature, None)
+            features = followed(unread, f"reading {self.name}", len(sound))
             read = [(feature.GetFID(), tuple(map(feature.GetField, names))) for feature in features]
         except RuntimeError as error:
             raise Fault(self.name, without_name(error, self.path)) from error

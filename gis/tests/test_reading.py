@@ -2,12 +2,14 @@
 
 import random
 import struct
+import subprocess
+import sys
 
 import numpy as np
 import pytest
 from osgeo import gdal, ogr
 
-from conftest import EAST, NORTH, UTM, blobs, parcels, system, write
+from conftest import COMMAND, EAST, NORTH, UTM, blobs, parcels, system, write
 from overlay_gis import wkb
 from overlay_gis.arrow import Batch
 from overlay_gis.faults import Fault
@@ -80,6 +82,15 @@ def test_columns_are_what_the_features_have(tmp_path, ending):
     assert not seen.names and len(held) >= 5
 
 
+def test_an_old_gdal_is_refused_by_name(gis, tmp_path, monkeypatch):
+    path = write(tmp_path / "a.gpkg", parcels(3, 3))
+    monkeypatch.delattr(ogr.Layer, "GetArrowStream")
+    answer = gis("run", "union", path, path, "-o", "out.gpkg")
+    assert answer.status == 1 and answer.err == (
+        f"overlay-gis: GDAL {gdal.__version__}: is too old: 3.6 is the first that hands features over in batches\n"
+    )
+
+
 @pytest.mark.parametrize("count", [1, 3, 1000])
 def test_batches_are_one_layer(tmp_path, monkeypatch, count):
     monkeypatch.setattr("overlay_gis.arrow.BATCH", count)
@@ -150,16 +161,28 @@ def test_what_is_not_whole_is_left_to_gdal():
     assert decoder.columns().lists() == [[]] * len(spoiled)
 
 
-def test_a_geometry_that_gdal_cannot_read_is_told_with_its_feature(gis, tmp_path):
-    path = write(tmp_path / "a.gpkg", parcels(3, 3))
+def spoil(path, bytes_before, at, put):
+    """Writes some bytes into a file, so far behind the first place of others."""
     with open(path, "r+b") as file:
-        data = file.read()
-        at = data.index(struct.pack("<BIII", 1, 3, 1, 5))
-        file.seek(at + 9)
-        file.write(struct.pack("<I", 1 << 28))
-    answer = gis("run", "union", path, path, "-o", "out.gpkg")
-    assert answer.status == 1 and answer.err.count("\n") == 1
-    assert "a.gpkg: GDAL can't read the geometry of feature " in answer.err
+        file.seek(file.read().index(bytes_before) + at)
+        file.write(put)
+
+
+@pytest.mark.parametrize("at, put", [(9, struct.pack("<I", 1 << 28)), (1, b"\x63"), (-40, b"XX")])
+def test_a_geometry_that_cannot_be_read_is_a_fault(gis, tmp_path, at, put):
+    path = write(tmp_path / "a.gpkg", parcels(3, 3))
+    spoil(path, struct.pack("<BIII", 1, 3, 1, 5), at, put)
+    for words in (("run", "union", path, path, "-o", "out.gpkg"), ("check", path)):
+        answer = gis(*words)
+        assert answer.status == 1 and answer.out == "" and answer.err.count("\n") == 1
+        assert answer.err.startswith(f"overlay-gis: {path}: ")
+
+
+@pytest.mark.parametrize("ending", ["gpkg", "fgb", "geojson", "shp"])
+def test_a_layer_without_features_ends(tmp_path, ending):
+    path = write(tmp_path / f"a.{ending}", [])
+    done = subprocess.run([sys.executable, COMMAND, "check", path], capture_output=True, text=True, timeout=60, check=False)
+    assert done.returncode == 4 and done.stdout.startswith(f"{path}: the layer has no features\n")
 
 
 def test_columns_come_back_from_wkb():
