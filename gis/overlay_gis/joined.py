@@ -3,7 +3,7 @@
 from __future__ import annotations
 
 from contextlib import ExitStack, contextmanager
-from dataclasses import dataclass, replace
+from dataclasses import dataclass
 from functools import reduce
 from typing import Iterator, Sequence
 
@@ -197,8 +197,10 @@ def joined(
     common = common_system(sources, system)
     surveys = [surveyed(source) for source in sources]
     frame = frames.chosen(together(sources), box_of(sources, surveys), common, *frames.asked_for(unit, origin))
-    grids = [on_grid(source, seen, frame, dissolve) for source, seen in zip(sources, surveys)]
-    surveys = [replace(seen, sound=NOTHING) for seen in surveys]  # whose points would take room
+    grids = []
+    for source, seen in zip(sources, surveys):
+        grids.append(on_grid(source, seen, frame, dissolve))
+        seen.sound = NOTHING  # whose points would take room
     refuse_many(sources, grids)
     say(frame.told(common))
     with ExitStack() as room:

@@ -87,8 +87,7 @@ class Survey:
 
     def area(self) -> float:
         """The sum of the areas of all sound polygons, in the system's units, which may be infinite."""
-        with np.errstate(all="ignore"):
-            return float(areas(self.sound).sum())
+        return float(areas(self.sound).sum())
 
     def box(self, name: str) -> Box | None:
         """The box of a layer of that name, if it has a polygon."""

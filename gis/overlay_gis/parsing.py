@@ -17,9 +17,8 @@ from .columns import Bytes, Columns, GridPoint, Mask, Numbers, offsets
 from .faults import Refusal
 
 SPACE, WORD, COMMA, OPEN, CLOSE = range(5)
-SPACES = b" \t\n\r\v\f"
-MARKS = {COMMA: b",", OPEN: b"(", CLOSE: b")"}
-NEW_LINE, MINUS = b"\n-"
+KNOWN = {SPACE: b" \t\n\r\v\f", COMMA: b",", OPEN: b"(", CLOSE: b")"}
+NEW_LINE, MINUS, ZERO = b"\n-0"
 
 # A number of more digits is off the grid.
 DIGITS = 9
@@ -30,21 +29,12 @@ BODY = rb"\(R(?:,R)*\)"
 LAYER = re.compile(rb"(?:[PM]E|P%b|M\(%b(?:,%b)*\))*" % (BODY, BODY, BODY))
 
 
-def table(kinds: dict[int, bytes], other: int) -> Bytes:
-    """For each byte what it is."""
-    made = np.full(256, other, np.uint8)
-    for kind, signs in kinds.items():
-        made[list(signs)] = kind
-    return made
-
-
-SIGNS = np.frombuffer(b" X,()", np.uint8)  # of what has no letter, by its kind
+SIGNS = b" X,()".ljust(256)  # of what has no letter, by its kind
 RING, OPENING = b"R("
 
 EDGE_LINE = re.compile(rb"\s*(?:-?\d{1,%d}\s+){5}-?\d{1,%d}\s*" % (DIGITS, DIGITS))
 
-KINDS = table({SPACE: SPACES, **MARKS}, WORD)
-IS_DIGIT = table({1: b"0123456789"}, 0).astype(bool)
+KINDS = bytes(next((kind for kind, signs in KNOWN.items() if sign in signs), WORD) for sign in range(256))
 BLANKED = bytes(sign if sign in b"-0123456789" else ord(" ") for sign in range(256))
 
 
@@ -67,7 +57,7 @@ class Tokens:
     def letter(self, k: int) -> int:
         """The letter of a word; it may not follow a bracket without a space."""
         at, end = int(self.starts[k]), int(self.ends[k])
-        glued = self.text[at - 1 : at] == MARKS[CLOSE]
+        glued = self.text[at - 1 : at] == KNOWN[CLOSE]
         return ord("X") if glued else ord(WORDS.get(self.text[at:end].lower(), b"X"))
 
     def numbers(self, words: Numbers) -> Numbers | None:
@@ -78,14 +68,14 @@ class Tokens:
         text = np.frombuffer(self.text, np.uint8)
         starts, ends = self.starts[words], self.ends[words]
         lengths = ends - starts - (text[starts] == MINUS)
-        digits = np.count_nonzero(np.take(IS_DIGIT, text))
+        digits = np.count_nonzero(text - np.uint8(ZERO) < 10)  # a byte below 0 comes out as one above 9
         if lengths.min() < 1 or lengths.max() > DIGITS or digits != lengths.sum():
             return None
         return np.fromstring(self.text.translate(BLANKED), np.int64, sep=" ")
 
 
 def tokens_of(text: bytes) -> Tokens:
-    kinds = np.take(KINDS, np.frombuffer(text, np.uint8))
+    kinds = np.frombuffer(text.translate(KINDS), np.uint8)
     words = np.concatenate(([False], kinds == WORD, [False]))
     marks = kinds > WORD
     starts = np.flatnonzero((words[1:-1] & ~words[:-2]) | marks)
@@ -95,7 +85,7 @@ def tokens_of(text: bytes) -> Tokens:
 
 def skeleton_of(tokens: Tokens, opening: Numbers, inside: Mask) -> Bytes:
     """The signs of a text without what its rings hold."""
-    signs = np.take(SIGNS, tokens.kinds)
+    signs = np.frombuffer(bytearray(tokens.kinds.tobytes().translate(SIGNS)), np.uint8)
     signs[opening] = RING
     outside = np.flatnonzero((tokens.kinds == WORD) & ~inside)
     signs[outside] = list(map(tokens.letter, outside.tolist()))

@@ -25,12 +25,12 @@ class Moves:
 
 @dataclass(frozen=True)
 class Gridded:
-    """A layer on the grid, all rings closed, and in grid units. `closed` and `dropped` are the numbers of the features that had an open ring, and
-    one that was left out, for each such ring."""
+    """A layer in grid units, all rings closed; how many of its segments aren't points; the area that it had before. `closed` and `dropped`
+    are the numbers of the features that had an open ring, and one that was left out, for each such ring."""
 
     layer: Columns[Numbers]
     moves: Moves
-    lengths: Floats
+    segments: int
     closed: list[int]
     dropped: list[int]
     area: float
@@ -39,19 +39,15 @@ class Gridded:
     def polygons(self) -> int:
         return len(self.layer.polygons) - 1
 
-    @property
-    def segments(self) -> int:
-        """How many segments aren't points."""
-        return len(self.lengths)
-
     def twice_area(self) -> int:
         return sum(self.layer.twice_areas())
 
     def longest(self, count: int) -> float:
         """The length of so many segments, the longest ones."""
-        if count >= self.segments:
-            return float(self.lengths.sum())
-        return float(np.partition(self.lengths, -count)[-count:].sum()) if count > 0 else 0.0
+        lengths = np.hypot(*segments(self.layer))
+        if 0 < count < len(lengths):
+            lengths.partition(len(lengths) - count)
+        return float(lengths[-count:].sum()) if count > 0 else 0.0
 
 
 def opened(layer: Columns[Floats]) -> Mask:
@@ -70,22 +66,22 @@ def closed(layer: Columns[Floats], rings: Mask) -> Columns[Floats]:
 
 
 def segments(layer: Columns[Numbers]) -> tuple[Numbers, Numbers]:
-    """How far each segment goes to the right and up; a ring that isn't empty has one less than points."""
-    within = np.ones(len(layer.x), bool)
-    within[layer.rings[1:][layer.lengths > 0] - 1] = False
-    within = np.flatnonzero(within)
-    return layer.x[within + 1] - layer.x[within], layer.y[within + 1] - layer.y[within]
+    """How far each segment goes to the right and up: none for a point with which a ring begins."""
+    across, up = np.diff(layer.x, prepend=0), np.diff(layer.y, prepend=0)
+    across[layer.firsts] = up[layer.firsts] = 0
+    return across, up
 
 
 def moves_of(layer: Columns[Floats], grid: Columns[Numbers], frame: Frame) -> Moves:
     """How far the vertices of closed rings were moved to where they are on the grid."""
-    placed = frame.off_grid(grid)
-    vertices = np.ones(len(layer.x), bool)
-    vertices[layer.firsts] = False  # each ring's first point is there again
-    ways = np.hypot(placed.x - layer.x, placed.y - layer.y)[vertices]
+    across, up = (axis.placed(at) for axis, at in zip(frame.axes, (grid.x, grid.y)))
+    across -= layer.x
+    up -= layer.y
+    ways = np.hypot(across, up, out=across)
+    ways[layer.firsts] = 0.0  # each ring's first point is there again
     moved = int(np.count_nonzero(ways))
     mean = float(ways.sum()) / moved if moved else 0.0
-    return Moves(len(ways), moved, mean, float(ways.max(initial=0.0)))
+    return Moves(len(ways) - len(layer.firsts), moved, mean, float(ways.max(initial=0.0)))
 
 
 def gridded(layer: Columns[Floats], area: float, frame: Frame) -> Gridded:
@@ -95,11 +91,11 @@ def gridded(layer: Columns[Floats], area: float, frame: Frame) -> Gridded:
     short = whole.lengths < LEAST_RING
     kept = whole.of_rings(~short) if short.any() else whole
     grid = frame.on_grid(kept)
-    lengths = np.hypot(*segments(grid))
+    across, up = segments(grid)
     return Gridded(
         grid,
         moves_of(kept, grid, frame),
-        lengths[lengths > 0],
+        int(np.count_nonzero(across | up)),
         ids[open_rings].tolist(),
         ids[short].tolist(),
         area,

@@ -45,12 +45,16 @@ class Axis:
             inverse = float(1 / self.unit)
         except OverflowError:
             return np.zeros_like(values), np.zeros(len(values), bool)
-        with np.errstate(all="ignore"):
-            ways = values - high
-            bound = SHARE * ((np.abs(ways).max(initial=0.0) + abs(low)) * inverse + 1)
-            guess = (ways - low) * inverse + 0.5
-            sure = (np.abs(guess - np.rint(guess)) > bound) & (inverse >= LEAST_NORMAL)
-        return np.floor(guess), sure
+        guess = values - high
+        farthest = max(guess.max(initial=0.0), -guess.min(initial=0.0))
+        bound = SHARE * ((farthest + abs(low)) * inverse + 1)
+        guess -= low
+        guess *= inverse
+        guess += 0.5
+        room = np.rint(guess)
+        room -= guess
+        sure = (np.abs(room, out=room) > bound) & (inverse >= LEAST_NORMAL)
+        return np.floor(guess, out=guess), sure
 
     @cached_property
     def exact(self) -> Callable[[float], int]:
@@ -69,7 +73,8 @@ class Axis:
         """The whole numbers next to some numbers that the grid has room for."""
         guess, sure = self.estimate(values)
         doubtful = np.flatnonzero(~sure)
-        found = np.where(sure, guess, 0).astype(np.int64)
+        guess[doubtful] = 0  # which may be more than a whole number holds
+        found = guess.astype(np.int64)
         found[doubtful] = list(map(self.exact, values[doubtful].tolist()))
         return found
 
