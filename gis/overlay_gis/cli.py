@@ -9,7 +9,7 @@ from typing import NoReturn
 from osgeo import gdal
 
 from . import __version__, check, explain, faces, from_grid, messages, run, show, to_grid
-from .faults import FAILED, Fault
+from .faults import FAILED, Fault, not_there
 from .stopping import Stopped, stoppable
 
 VERBS = {
@@ -81,6 +81,9 @@ def main(words: list[str] | None = None) -> int:
     except Fault as fault:
         messages.say(str(fault))
         return fault.status
+    except ImportError as error:
+        messages.say(str(not_there(error)))
+        return FAILED
     except BrokenPipeError:
         sys.stderr.close()
         return FAILED

@@ -21,6 +21,14 @@ class Fault(Exception):
         return f"{self.name}: {self.reason}"
 
 
+def not_there(error: ImportError) -> Fault:
+    """The fault that a package isn't there."""
+    return Fault(
+        str(error.name),
+        "can't be imported; Debian and Ubuntu have it by: apt-get install python3-gdal python3-shapely",
+    )
+
+
 class Refusal(Fault):
     """The input can be read, and can't be answered as it was asked. Exit status 3."""
 

@@ -1,5 +1,6 @@
 """The command itself: help, versions, statuses, and the pages and completions beside it."""
 
+import os
 import re
 import shlex
 import subprocess
@@ -109,3 +110,20 @@ def test_progress_is_said_on_a_terminal_alone(capsys, monkeypatch, terminal):
         pass
     told = capsys.readouterr().err
     assert ("reading a.gpkg: 50%" in told and "overlay union" in told) if terminal else told == ""
+
+
+def test_a_package_that_is_not_there_is_told(tmp_path, program):
+    """Shapely is asked for by the verbs alone that need it."""
+    a = write(tmp_path / "a.gpkg", [box(EAST, NORTH, EAST + 2, NORTH + 2)])
+    (tmp_path / "shapely.py").write_text("raise ModuleNotFoundError('none', name='shapely')\n")
+    for words, status in ((["run", "union", a, a, "-o", "out.gpkg"], 0), (["check", a], 1), (["faces", a, a, "-o", "f.gpkg"], 1)):
+        done = subprocess.run(
+            [sys.executable, COMMAND, *words],
+            cwd=tmp_path,
+            env={**os.environ, "PYTHONPATH": str(tmp_path)},
+            capture_output=True,
+            text=True,
+            check=False,
+        )
+        assert done.returncode == status, done.stderr
+        assert status == 0 or done.stderr.splitlines()[-1].startswith("overlay-gis: shapely: can't be imported; Debian and")
