@@ -12,7 +12,7 @@ from .columns import Bytes, Mask, Numbers
 GROUP, DIGITS = 10_000, 4
 WORD = np.dtype(np.uint32)
 Words = np.ndarray[Any, np.dtype[np.uint32]]
-FOURS = np.frombuffer(b"".join(b"%04d" % k for k in range(GROUP)), WORD)
+FOURS = (np.arange(GROUP)[:, np.newaxis] // [1000, 100, 10, 1] % 10 + ord("0")).astype(np.uint8).view(WORD)[:, 0]
 
 # A number has a digit more where it reaches one of these, up to the greatest below 2^32.
 POWERS = [10**k for k in range(1, 10)]

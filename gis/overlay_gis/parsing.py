@@ -28,14 +28,23 @@ WORDS = {b"polygon": b"P", b"multipolygon": b"M", b"empty": b"E"}
 BODY = rb"\(R(?:,R)*\)"
 LAYER = re.compile(rb"(?:[PM]E|P%b|M\(%b(?:,%b)*\))*" % (BODY, BODY, BODY))
 
-
 SIGNS = b" X,()".ljust(256)  # of what has no letter, by its kind
 RING, OPENING = b"R("
 
 EDGE_LINE = re.compile(rb"\s*(?:-?\d{1,%d}\s+){5}-?\d{1,%d}\s*" % (DIGITS, DIGITS))
 
-KINDS = bytes(next((kind for kind, signs in KNOWN.items() if sign in signs), WORD) for sign in range(256))
-BLANKED = bytes(sign if sign in b"-0123456789" else ord(" ") for sign in range(256))
+
+def table(kinds: dict[int, bytes], other: int) -> bytes:
+    """For each byte what it is."""
+    made = bytearray([other]) * 256
+    for kind, signs in kinds.items():
+        for sign in signs:
+            made[sign] = kind
+    return bytes(made)
+
+
+KINDS = table(KNOWN, WORD)
+BLANKED = table({sign: bytes([sign]) for sign in b"-0123456789"}, ord(" "))
 
 
 @dataclass(frozen=True)
