@@ -15,8 +15,8 @@ from .faults import Fault
 # How many features a batch has at most.
 BATCH = 16384
 
-# Ways of some drivers beside GDAL's own: that of GeoPackage takes what it can't read for no geometry, and that of FlatGeobuf doesn't end
-# on an empty layer.
+# Ways of some drivers beside GDAL's own: that of GeoPackage takes what it can't read for no geometry, and that of
+# FlatGeobuf doesn't end on an empty layer.
 for way in ("GPKG", "FLATGEOBUF"):
     gdal.SetConfigOption(f"OGR_{way}_STREAM_BASE_IMPL", "YES")
 
@@ -58,8 +58,8 @@ GEOMETRIES: dict[bytes, np.dtype] = {b"z": np.dtype(np.int32), b"Z": np.dtype(np
 
 @dataclass(frozen=True)
 class Batch:
-    """Features' numbers, and their geometries as WKB: that of feature k lies from starts[k] up to ends[k] in `data`, and has no byte where
-    there is none. It is there until the next batch is asked for."""
+    """Features' numbers, and their geometries as WKB: that of feature k lies from starts[k] up to ends[k] in `data`, and has no
+    byte where there is none. It is there until the next batch is asked for."""
 
     numbers: Numbers
     data: Bytes

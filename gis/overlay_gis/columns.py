@@ -41,8 +41,8 @@ def gathered(counts: Numbers | Mask, held: Numbers) -> Numbers:
 
 @dataclass(frozen=True)
 class Columns(Generic[C]):
-    """Ring k has the points from rings[k] up to rings[k + 1], the first one again at its end; polygon k the rings from polygons[k] on, its
-    shell first; feature k the polygons from features[k] on, and the number ids[k]."""
+    """Ring k has the points from rings[k] up to rings[k + 1], the first one again at its end; polygon k the rings from polygons[k]
+    on, its shell first; feature k the polygons from features[k] on, and the number ids[k]."""
 
     x: C
     y: C

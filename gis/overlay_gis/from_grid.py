@@ -46,7 +46,8 @@ def main(arguments: Namespace) -> int:
     system = system_from(frame.system) if frame.system else None
     text = text_of(arguments.text)
     if kind_of(text) == EDGES:
-        count = write_layer(target, system, EDGE_COLUMNS, edge_rows(parsing.edge_rows(text, arguments.text), frame), ogr.wkbLineString)
+        edges = parsing.edge_rows(text, arguments.text)
+        count = write_layer(target, system, EDGE_COLUMNS, edge_rows(edges, frame), ogr.wkbLineString)
     else:
         result = parsing.polygons_in(text, arguments.text)
         count = write_layer(target, system, run.COLUMNS, run.rows(result, frame))

@@ -1,8 +1,8 @@
 """Texts of the program read by whole arrays.
 
-A text is cut into tokens: brackets, commas, and words between them. The innermost pairs of brackets are rings. What a ring holds has to be
-points, two numbers each with a comma between two points; and what is left of the text, with one letter for each word and none
-for what a ring holds, has to be a text of polygons.
+A text is cut into tokens: brackets, commas, and words between them. The innermost pairs of brackets are rings. What a ring
+holds has to be points, two numbers each with a comma between two points; and what is left of the text, with one letter for
+each word and none for what a ring holds, has to be a text of polygons.
 """
 
 from __future__ import annotations
@@ -70,8 +70,8 @@ class Tokens:
         return ord("X") if glued else ord(WORDS.get(self.text[at:end].lower(), b"X"))
 
     def numbers(self, words: Numbers) -> Numbers | None:
-        """The numbers that these words are, where no other word of the text has a digit; nothing if one is no number of at most so many
-        digits."""
+        """The numbers that these words are, where no other word of the text has a digit; nothing if one is no number, or a longer
+        one."""
         if not len(words):
             return words
         text = np.frombuffer(self.text, np.uint8)
@@ -102,7 +102,7 @@ def skeleton_of(tokens: Tokens, opening: Numbers, inside: Mask) -> Bytes:
 
 
 def points_in(tokens: Tokens, inside: Mask) -> tuple[Numbers, Numbers] | None:
-    """x and y of the points in the rings, which are two words each with a comma or the ring's end behind them; nothing if one isn't."""
+    """x and y of the points in the rings, which are two words each with a comma or the ring's end behind; nothing if one isn't."""
     held = np.flatnonzero(inside)
     if len(held) % 3:
         return None

@@ -25,8 +25,8 @@ class Moves:
 
 @dataclass(frozen=True)
 class Gridded:
-    """A layer in grid units, all rings closed; how many of its segments aren't points; the area that it had before. `closed` and `dropped`
-    are the numbers of the features that had an open ring, and one that was left out, for each such ring."""
+    """A layer in grid units, all rings closed; how many of its segments aren't points; the area that it had before. `closed` and
+    `dropped` are the numbers of the features that had an open ring, and one that was left out, for each such ring."""
 
     layer: Columns[Numbers]
     moves: Moves

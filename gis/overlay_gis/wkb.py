@@ -130,7 +130,8 @@ def coordinates(data: Bytes, places: Numbers, points: Numbers, form: Form) -> tu
 
 
 class Decoder:
-    """The geometries of one batch. `by_gdal` makes polygons of lines of one that is unusual, in WKB, or answers nothing where it is none."""
+    """The geometries of one batch. `by_gdal` makes polygons of lines, in WKB, of one that is unusual, or answers nothing where it
+    has none."""
 
     def __init__(self, batch: Batch, by_gdal: Callable[[Batch, int], bytes | None]):
         self.batch = batch

@@ -40,7 +40,8 @@ def test_an_answer_and_both_areas_are_computed_at_once(gis, tmp_path, pretend):
 def test_texts_are_no_files_of_a_folder(gis, tmp_path, pretend, monkeypatch):
     a, b = write(tmp_path / "a.gpkg", [SQUARE]), write(tmp_path / "b.gpkg", [])
     monkeypatch.setenv("TMPDIR", str(tmp_path / "none"))
-    pretend(f'readlink "$2" "$3" >>"{tmp_path}/names"\ncat "$2" "$2" >>"{tmp_path}/texts"\necho "MULTIPOLYGON EMPTY"\necho "records 8" >&2\n')
+    script = f'readlink "$2" "$3" >>"{tmp_path}/names"\ncat "$2" "$2" >>"{tmp_path}/texts"\n'
+    pretend(script + 'echo "MULTIPOLYGON EMPTY"\necho "records 8" >&2\n')
     assert gis("run", "union", a, b, "-o", "out.gpkg", "--origin", f"{EAST},{NORTH}").status == 0
     assert all(name.startswith("/memfd:") for name in Path("names").read_text().splitlines())
     line = "POLYGON ((10000 0, 10000 10000, 0 10000, 0 0, 10000 0))\n"
@@ -76,7 +77,8 @@ def test_the_program_ends_with_the_context(pretend):
 
 def test_a_refusal_ends_the_runs_that_go_on(gis, tmp_path, pretend):
     a = write(tmp_path / "a.gpkg", [SQUARE])
-    pretend(f'if [ "$1" = union ]; then echo "overlay: A: 1 syntax at 3" >&2; exit 3; fi\necho $$ >"{tmp_path}/at"\nexec sleep 600\n')
+    refusing = 'if [ "$1" = union ]; then echo "overlay: A: 1 syntax at 3" >&2; exit 3; fi\n'
+    pretend(refusing + f'echo $$ >"{tmp_path}/at"\nexec sleep 600\n')
     assert gis("run", "difference", a, a, "-o", "out.gpkg").status == 3
     assert not Path("at").exists() or not running(int(Path("at").read_text()))
 

@@ -28,14 +28,16 @@ FORMATS = {
 X, Y = EAST, NORTH
 TEXTS = [
     f"POLYGON (({X} {Y}, {X + 4} {Y}, {X + 4.5} {Y + 4}, {X} {Y}))",
-    f"POLYGON (({X} {Y}, {X + 9} {Y}, {X + 9} {Y + 9}, {X} {Y}), ({X + 5} {Y + 1}, {X + 6} {Y + 2}, {X + 7} {Y + 1}, {X + 5} {Y + 1}))",
+    f"POLYGON (({X} {Y}, {X + 9} {Y}, {X + 9} {Y + 9}, {X} {Y}),"
+    f" ({X + 5} {Y + 1}, {X + 6} {Y + 2}, {X + 7} {Y + 1}, {X + 5} {Y + 1}))",
     f"MULTIPOLYGON ((({X} {Y}, {X + 1} {Y}, {X} {Y + 1}, {X} {Y})), (({X + 5} {Y}, {X + 6} {Y}, {X + 5} {Y + 1}, {X + 5} {Y})))",
     f"POLYGON Z (({X} {Y} 7, {X + 4} {Y} 8, {X + 4} {Y + 4} 9, {X} {Y} 7))",
     f"MULTIPOLYGON Z ((({X} {Y} 1, {X + 1} {Y} 2, {X} {Y + 1} 3, {X} {Y} 1)))",
     "POLYGON EMPTY",
     None,
     f"CURVEPOLYGON (CIRCULARSTRING ({X} {Y}, {X + 10} {Y}, {X} {Y}))",
-    f"MULTISURFACE (CURVEPOLYGON (CIRCULARSTRING ({X} {Y}, {X + 8} {Y + 1}, {X} {Y})), (({X} {Y}, {X + 1} {Y}, {X} {Y + 1}, {X} {Y})))",
+    f"MULTISURFACE (CURVEPOLYGON (CIRCULARSTRING ({X} {Y}, {X + 8} {Y + 1}, {X} {Y})),"
+    f" (({X} {Y}, {X + 1} {Y}, {X} {Y + 1}, {X} {Y})))",
 ]
 
 

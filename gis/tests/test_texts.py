@@ -1,4 +1,4 @@
-"""Texts by whole arrays: what is written and read is what plain code writes and reads, for texts that are well-formed and that aren't."""
+"""Texts by whole arrays: what is written and read is what plain code writes and reads, of sound texts and of spoiled ones."""
 
 import io
 import random
@@ -120,7 +120,8 @@ def read(text):
 
 
 SOUND = [
-    "POLYGON ((0 0, 4 0, 4 4, 0 4, 0 0), (1 1, 2 1, 1 2, 1 1))\nPOLYGON EMPTY\nMULTIPOLYGON (((0 0, 1 0, 0 1, 0 0)), ((5 5, 6 -5, 5 6, 5 5), (1 2, 3 4)))\n",
+    "POLYGON ((0 0, 4 0, 4 4, 0 4, 0 0), (1 1, 2 1, 1 2, 1 1))\nPOLYGON EMPTY\n"
+    "MULTIPOLYGON (((0 0, 1 0, 0 1, 0 0)), ((5 5, 6 -5, 5 6, 5 5), (1 2, 3 4)))\n",
     "multipolygon empty\r\n polygon((0 0,1 0,0 1,0 0))",
     "",
     "MULTIPOLYGON EMPTY\n",
