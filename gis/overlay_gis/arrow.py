@@ -112,7 +112,7 @@ def batches(layer: ogr.Layer) -> Iterator[Batch]:
     formats = [schema.children[k].contents.format for k in range(schema.n_children)]
     place = next((k for k, name in enumerate(formats) if name in GEOMETRIES), None)
     width = GEOMETRIES[formats[place]] if place is not None else None
-    while (part := stream.GetNextRecordBatch()) is not None and part.GetLength():
+    while (part := stream.GetNextRecordBatch()) is not None:
         array = Array.from_address(part._getPtr())
         columns = [array.children[k].contents for k in range(array.n_children)]
         yield batch_of(columns[formats.index(NUMBER)], None if place is None else columns[place], width)

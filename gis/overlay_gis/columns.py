@@ -97,8 +97,8 @@ class Columns(Generic[C]):
         return self.of_rings(np.repeat(~empty, np.diff(self.polygons))) if empty.any() else self
 
     def twice_areas(self) -> list[int]:
-        """Twice the area of each polygon of the grid: its shell's without its holes', whichever way they run."""
-        first, last = self.firsts, np.maximum(self.rings[1:] - 1, self.firsts)
+        """Twice the area of each polygon of the grid, whose rings have points: its shell's without its holes', whichever way they run."""
+        first, last = self.firsts, self.rings[1:] - 1
         products = self.x[:-1] * self.y[1:] - self.x[1:] * self.y[:-1]
         high, low = (offsets(part) for part in (products >> HALF, products & ((1 << HALF) - 1)))
         sums = zip((high[last] - high[first]).tolist(), (low[last] - low[first]).tolist())

@@ -33,6 +33,7 @@ TEXTS = [
     f"MULTIPOLYGON ((({X} {Y}, {X + 1} {Y}, {X} {Y + 1}, {X} {Y})), (({X + 5} {Y}, {X + 6} {Y}, {X + 5} {Y + 1}, {X + 5} {Y})))",
     f"POLYGON Z (({X} {Y} 7, {X + 4} {Y} 8, {X + 4} {Y + 4} 9, {X} {Y} 7))",
     f"MULTIPOLYGON Z ((({X} {Y} 1, {X + 1} {Y} 2, {X} {Y + 1} 3, {X} {Y} 1)))",
+    f"MULTIPOLYGON (EMPTY, (({X} {Y}, {X + 1} {Y}, {X} {Y + 1}, {X} {Y})), EMPTY)",
     "POLYGON EMPTY",
     None,
     f"CURVEPOLYGON (CIRCULARSTRING ({X} {Y}, {X + 10} {Y}, {X} {Y}))",
@@ -91,6 +92,13 @@ def test_an_old_gdal_is_refused_by_name(gis, tmp_path, monkeypatch):
     assert answer.status == 1 and answer.err == (
         f"overlay-gis: GDAL {gdal.__version__}: is too old: 3.6 is the first that hands features over in batches\n"
     )
+
+
+def test_a_read_that_ends_early_is_a_fault(gis, tmp_path, monkeypatch):
+    path = write(tmp_path / "a.gpkg", parcels(3, 3))
+    monkeypatch.setattr(ogr.Layer, "GetFeatureCount", lambda _: 40)
+    answer = gis("run", "union", path, path, "-o", "out.gpkg")
+    assert (answer.status, answer.err) == (1, f"overlay-gis: {path}: only 37 of 40 features could be read\n")
 
 
 @pytest.mark.parametrize("count", [1, 3, 1000])
@@ -153,7 +161,9 @@ def test_what_is_not_whole_is_left_to_gdal():
     whole = blob("<", 3, 2)
     many = struct.pack("<BII", 1, 6, 3) + whole + whole
     rng, asked = random.Random(5), []
-    spoiled = [whole[:k] for k in range(1, len(whole))] + [many]
+    single = whole[:5] + struct.pack("<I", 1) + whole[9 : 9 + (len(whole) - 9) // 2]
+    spoiled = [held[:k] for held in (whole, single) for k in range(1, len(held))] + [many]
+    spoiled += [single[:9] + struct.pack("<I", count) + single[13:] for count in (5, 0xFFFFFFFF)]
     spoiled += [whole[:5] + struct.pack("<I", count) + whole[9:] for count in (3, 1 << 20, 0xFFFFFFFF)]
     spoiled += [whole[:9] + struct.pack("<I", count) + whole[13:] for count in (1 << 20, 0xFFFFFFFF)]
     spoiled += [bytes([2]) + whole[1:], bytes([0]) + whole[1:], whole[:1] + struct.pack("<I", 9) + whole[5:]]
