@@ -197,6 +197,15 @@ def test_a_layer_without_features_ends(tmp_path, ending):
     assert done.returncode == 4 and done.stdout.startswith(f"{path}: the layer has no features\n")
 
 
+def test_polygons_without_points_are_left_out(tmp_path):
+    whole, none, empty = blob("<", 3, 2), struct.pack("<BII", 1, 3, 0), struct.pack("<BIII", 1, 3, 1, 0)
+    many = struct.pack("<BII", 1, 6, 4) + none + whole + empty + whole
+    source = Source(write(tmp_path / "a.gpkg", []))
+    seen = source.looked_at(batch_of(many, none, whole, empty, struct.pack("<BII", 1, 6, 0)))
+    assert seen.sound.lists() == [[[RING, RING]] * 2, [[RING, RING]]]
+    assert seen.sound.ids.tolist() == [0, 2] and seen.of(Kind.BARE) == [1, 3, 4]
+
+
 def test_columns_come_back_from_wkb():
     geometries = [blob("<", 3, 2) for _ in range(3)]
     columns = wkb.Decoder(batch_of(*geometries), refused).columns()
