@@ -4,6 +4,7 @@
 //!    search finds the nearest one below it.
 //! 2. The vertices are halved. Each half is left with those of the other edges that meet its columns.
 //! 3. Where few vertices are left, or no edge, the edges that are left are looked at one by one.
+//! 4. Parts of the vertices are gone through by several threads at once (`gaps_below_in_parts`).
 //!
 //! Where the vertices stand from left to right, an edge spans or ends in few of the parts at each depth, so that it is
 //! looked at some log n times. The answers are those for any order.
