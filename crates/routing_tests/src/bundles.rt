@@ -1,11 +1,11 @@
-//! Tests of lines that run side by side through a rectangle.
+//! Tests of lines that run side by side through a rectangle, all or nearly all.
 
 ghost use Rattle.std.specs.Prelude.{All, IfSome};
 ghost use Rattle.geom.specs.Limit.{AreInLimit};
 
 use crate::shapes::{Ends, point};
 use geom::{Edge, NoMemory, Rect};
-use hot_pixel::{Line, is_bundle};
+use hot_pixel::{Line, ascending, hot_beside, is_bundle};
 use std::alloc::Allocator;
 use std::test::Fail;
 
@@ -93,6 +93,36 @@ fn is_row_bundle<A: Allocator + Copy>(alloc: A, row: BundleRow) -> Result<bool, 
     } else {
         Err(NoMemory)
     }
+}
+
+// Three lines side by side, and one across two of them that ends between the second and the third.
+const BESIDE: [Ends; 4] = [
+    ((-9, 0), (9, 0)),
+    ((-9, 2), (9, 2)),
+    ((-9, 6), (9, 6)),
+    ((3, -9), (3, 4)),
+];
+
+// How many pixels are found to be hot.
+fn count_beside<A: Allocator + Copy>(alloc: A) -> Result<usize, NoMemory> {
+    let rect = Rect::spanned_by(point((0, 0)), point((7, 7)));
+    let mut lines = Vec::new(alloc);
+    for ends in BESIDE {
+        push_line(&mut lines, ends)?;
+    }
+    if !rect.lo.is_in_limit() || !rect.hi.is_in_limit() {
+        return Err(NoMemory);
+    }
+    match hot_beside(alloc, &rect, &lines)? {
+        None => Ok(0),
+        Some(found) => Ok(ascending(found).len()),
+    }
+}
+
+#[test]
+fn finds_the_hot_beside(rt: HostRuntime) -> Result<(), Fail> {
+    assert_eq!(rt; count_beside(rt.alloc())?, 3);
+    Ok(())
 }
 
 #[test]
