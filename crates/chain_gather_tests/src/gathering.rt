@@ -1,6 +1,6 @@
 //! Tests of gathering, with books that hold nothing, pieces of other segments, or the tiles' own pieces.
 
-ghost use Rattle.std.specs.Prelude.{◌≡◌, ◌≤◌, All, Contains, IfOk, IfSome, length};
+ghost use Rattle.std.specs.Prelude.{◌≡◌, All, IfOk, IfSome, length};
 ghost use Rattle.grid.specs.Tiles.{tile_count};
 ghost use Rattle.tile_book.specs.Books.{StandInOrder};
 ghost use Rattle.geom.specs.Box.{IsInBox};
@@ -9,7 +9,7 @@ ghost use Rattle.linking.specs.Gathered.{AreBoxesOf, HaveTiles};
 ghost use Rattle.chain_gather.specs.Gathered.{AreBinsOf};
 
 use bumpalo::Bump;
-use chain_gather::{Rounded, TilePiece, Tiled, gather, gather_made};
+use chain_gather::{Rounded, TilePiece, Tiled, gather, gather_made, gather_made_in_parts};
 use geom::{Counted, NoMemory, Pt, Rect, Seg, Source};
 use grid::Grid;
 use lane_tests::Boxes;
@@ -19,10 +19,11 @@ use std::marker::Brand;
 use std::sync::Wait;
 use std::sync::ledger::Blank;
 use std::test::*;
+use std::thread::Threads;
 use tile_book::{Book, Desk, Limited, close};
 use tiling::Bins;
 
-type Ends = ((i32, i32), (i32, i32));
+pub type Ends = ((i32, i32), (i32, i32));
 
 // A triangle, and a bow tie whose crossing lies on the corner of four tiles.
 const ROW: [Ends; 7] = [
@@ -189,9 +190,12 @@ fn pieces_of<T: Tiled, A: Allocator + Copy>(
     Ok(pieces)
 }
 
-// The rounded edges of segments whose boxes two grids cover, from the pieces of the cells of one, over the tiles of the other.
-fn gathered_made<T: Tiled>(
+// The rounded edges of segments whose boxes two grids cover, from the pieces of the cells of one, over the tiles of the other, in so
+// many parts, or by the call that has none.
+fn gathered_made<T: Tiled + Sync, R: Threads + Sync>(
+    rt: &R,
     alloc: Global,
+    parts: Option<usize>,
     cells: &Grid,
     grid: &Grid,
     segments: &[Seg],
@@ -202,11 +206,19 @@ fn gathered_made<T: Tiled>(
     requires covered { HaveTiles grid.now segments.now }
 {
     let pieces: Vec<TilePiece<T, Global>> = pieces_of(alloc, cells, segments)?;
-    gather_made(alloc, pieces, 0, cells, grid, segments)
+    match parts {
+        None => gather_made(alloc, pieces, 0, cells, grid, segments),
+        Some(parts) => { gather_made_in_parts(rt, alloc, parts, pieces, 0, cells, grid, segments) }
+    }
 }
 
 // The row over tiles of side 16, from the pieces of cells of this side.
-fn row_made(alloc: Global, side: u32) -> Result<Rounded<Global>, NoMemory> {
+fn row_made<R: Threads + Sync>(
+    rt: &R,
+    alloc: Global,
+    parts: Option<usize>,
+    side: u32,
+) -> Result<Rounded<Global>, NoMemory> {
     let bounds = Rect::spanned_by(point((0, 0)), point((16, 16)));
     if !bounds.lo.is_in_limit() || !bounds.hi.is_in_limit() {
         return Err(NoMemory);
@@ -218,14 +230,25 @@ fn row_made(alloc: Global, side: u32) -> Result<Rounded<Global>, NoMemory> {
         return Err(NoMemory);
     };
     let segments = segments_in(alloc, &bounds, &ROW)?;
-    gathered_made::<Brand>(alloc, &cells, &grid, &segments)
+    gathered_made::<Brand, R>(rt, alloc, parts, &cells, &grid, &segments)
 }
 
 #[test]
 fn gathers_known_pieces(rt: HostRuntime) -> Result<(), Fail> {
     for side in [16, 17, 1_024] {
-        let rounded = row_made(rt.alloc(), side)?;
+        let rounded = row_made(&rt, rt.alloc(), None, side)?;
         assert!(rt; is_row(&rounded) && rounded.remade == 0, "{side}");
+    }
+    Ok(())
+}
+
+#[test]
+fn gathers_known_pieces_in_parts(rt: HostRuntime) -> Result<(), Fail> {
+    for parts in [0, 1, 2, 3, 64] {
+        for side in [16, 17, 1_024] {
+            let rounded = row_made(&rt, rt.alloc(), Some(parts), side)?;
+            assert!(rt; is_row(&rounded) && rounded.remade == 0, "{parts}, {side}");
+        }
     }
     Ok(())
 }

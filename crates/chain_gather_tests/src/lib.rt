@@ -1,4 +1,4 @@
-//! Tests of gathering: the rounded edges from books and from known pieces, the sort of records, and counting by several hands.
+//! Tests of gathering: the rounded edges from books and from known pieces, the sort of records, and counting in parts.
 #![tactic(auto)]
 
 #[cfg(test)]

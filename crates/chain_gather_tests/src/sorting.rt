@@ -1,10 +1,8 @@
-//! Tests of the sort of records, and of counting links by one hand and by several.
+//! Tests of the sort of records, and of counting links in one part and in several.
 
-ghost use Rattle.std.specs.Prelude.{List};
-
-use crate::gathering::point;
-use geom::{Edge, NoMemory, Source};
-use linking::{Link, counts_by_hands, sorted};
+use crate::gathering::{Ends, point};
+use geom::{Counted, Edge, NoMemory, Source};
+use linking::{Link, counts_in_parts, sorted};
 use routing::Record;
 use std::alloc::Global;
 use std::test::*;
@@ -37,6 +35,38 @@ const SPREADS: [(u32, u32); 5] = [
     (10_006, 100),
     (5_000, 100),
     (5_000, 1_000),
+];
+
+// Links in lists, and the edges among them with their counts: none; in one column; and in three, of which one has the most.
+const LINKS: [(&[&[(Ends, Source)]], &[(Ends, u32, u32)]); 4] = [
+    (&[], &[]),
+    (&[&[], &[]], &[]),
+    (
+        &[
+            &[(((5, 2), (5, 3)), Source::B), (((5, 0), (5, 1)), Source::A)],
+            &[(((5, 2), (5, 3)), Source::B)],
+        ],
+        &[(((5, 0), (5, 1)), 1, 0), (((5, 2), (5, 3)), 0, 2)],
+    ),
+    (
+        &[
+            &[
+                (((0, 0), (3, 0)), Source::A),
+                (((0, 0), (2, 1)), Source::A),
+                (((0, 0), (3, 0)), Source::B),
+                (((0, -7), (3, 0)), Source::A),
+            ],
+            &[(((9, 9), (9, 10)), Source::B)],
+            &[(((-4, 1), (0, 0)), Source::A)],
+        ],
+        &[
+            (((-4, 1), (0, 0)), 1, 0),
+            (((0, -7), (3, 0)), 1, 0),
+            (((0, 0), (2, 1)), 1, 0),
+            (((0, 0), (3, 0)), 1, 1),
+            (((9, 9), (9, 10)), 0, 1),
+        ],
+    ),
 ];
 
 fn record(segment: u32, steps: u32) -> Record {
@@ -89,7 +119,7 @@ fn sorts_spread(alloc: Global, step: u32, gap: u32) -> Result<bool, NoMemory> {
 fn counts_links<R: Threads + Sync>(
     rt: &R,
     alloc: Global,
-    hands: usize,
+    parts: usize,
     step: u32,
 ) -> Result<bool, NoMemory> {
     let mut lists = Vec::new(alloc);
@@ -104,13 +134,66 @@ fn counts_links<R: Threads + Sync>(
         }
         lists.push(list)?;
     }
-    let counted = counts_by_hands(rt, alloc, hands, lists)?;
+    let counted = counts_in_parts(rt, alloc, parts, lists)?;
     Ok(
         counted.len() == LONG as usize
             && counted.iter().enumerate().all(|(at, found)| {
                 found.edge.p.x.unsigned_abs() as usize == at && (found.in_a, found.in_b) == (1, 1)
             }),
     )
+}
+
+// A list of links.
+fn links_of(alloc: Global, links: &[(Ends, Source)]) -> Result<Vec<Link, Global>, NoMemory> {
+    let mut list = Vec::new(alloc);
+    for (ends, layer) in links {
+        let Some(edge) = Edge::between(point(ends.0), point(ends.1)) else {
+            return Err(NoMemory);
+        };
+        list.push(Link {
+            edge,
+            layer: *layer,
+        })?;
+    }
+    Ok(list)
+}
+
+fn are_counted(list: &[Counted], expected: &[(Ends, u32, u32)]) -> bool {
+    list.len() == expected.len()
+        && list.iter().zip(expected).all(|(found, row)| {
+            let ((p, q), in_a, in_b) = *row;
+            (found.edge.p, found.edge.q) == (point(p), point(q))
+                && (found.in_a, found.in_b) == (in_a, in_b)
+        })
+}
+
+// Whether few links in lists are counted in so many parts.
+fn counts_few<R: Threads + Sync>(
+    rt: &R,
+    alloc: Global,
+    parts: usize,
+    links: &[&[(Ends, Source)]],
+    expected: &[(Ends, u32, u32)],
+) -> Result<bool, NoMemory> {
+    let mut lists = Vec::new(alloc);
+    for list in links {
+        lists.push(links_of(alloc, list)?)?;
+    }
+    let counted = counts_in_parts(rt, alloc, parts, lists)?;
+    Ok(are_counted(&counted, expected))
+}
+
+#[test]
+fn few_links_are_counted(rt: HostRuntime) -> Result<(), Fail> {
+    for parts in [0, 1, 2, 3, 64] {
+        for (links, expected) in LINKS {
+            assert!(rt;
+                counts_few(&rt, rt.alloc(), parts, links, expected)?,
+                "{parts}"
+            );
+        }
+    }
+    Ok(())
 }
 
 #[test]
@@ -124,11 +207,11 @@ fn records_are_sorted(rt: HostRuntime) -> Result<(), Fail> {
 
 #[test]
 fn links_are_counted(rt: HostRuntime) -> Result<(), Fail> {
-    for hands in [1, 2, 3, 4, 7] {
+    for parts in [1, 2, 3, 4, 7] {
         for (step, _gap) in SPREADS {
             assert!(rt;
-                counts_links(&rt, rt.alloc(), hands, step)?,
-                "{hands} {step}"
+                counts_links(&rt, rt.alloc(), parts, step)?,
+                "{parts} {step}"
             );
         }
     }

@@ -8,7 +8,7 @@ use Rattle.linking.proofs.Covering.{have_tiles}
 use Rattle.chain_gather_tests.proofs.gathering.row_made.Goals as goal
 
 pub gathered_made-requires-clause-covered_by_cells : goal.gathered_made-requires-clause-covered_by_cells
-gathered_made-requires-clause-covered_by_cells c =
+gathered_made-requires-clause-covered_by_cells g c = λ κs l.
     let r = c.spanned_by-bounds.result in
     let segments = c.in_ok-segments.segments.items in
     subst (λ (ss : List Seg). HaveTiles c.in-Ok-new.cells ss) (sym c.deref.ensures.value) (have_tiles (Some r) c.in-Ok-new.cells segments c.in-Ok-new.ensures.covers (λ s h.
@@ -16,7 +16,7 @@ gathered_made-requires-clause-covered_by_cells c =
     (p.1, p.2)))
 
 pub gathered_made-requires-clause-covered : goal.gathered_made-requires-clause-covered
-gathered_made-requires-clause-covered c =
+gathered_made-requires-clause-covered g c = λ κs l.
     let r = c.spanned_by-bounds.result in
     let segments = c.in_ok-segments.segments.items in
     subst (λ (ss : List Seg). HaveTiles c.in-Ok.grid ss) (sym c.deref.ensures.value) (have_tiles (Some r) c.in-Ok.grid segments c.in-Ok.ensures.covers (λ s h.
