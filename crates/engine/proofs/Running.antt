@@ -41,7 +41,7 @@ module _ {X M : Type 0} (text_of : X → List ℕ) (report_of : X → Report M) 
   abbrev IsMade : Wanted → Plan → List ℕ → List ℕ → X → Type 0
   IsMade wanted plan a b made = IsWritten wanted plan a b (text_of made) (report_of made)
 
-  checked_made : (wanted : Wanted) (plan other : Plan) (a b a' b' : List ℕ) (made : X) → (other ≡ plan) × (a' ≡ a) × (b' ≡ b) → IsMade wanted other a' b' made → IsMade wanted plan a b made
+  pub checked_made : (wanted : Wanted) (plan other : Plan) (a b a' b' : List ℕ) (made : X) → (other ≡ plan) × (a' ≡ a) × (b' ≡ b) → IsMade wanted other a' b' made → IsMade wanted plan a b made
   checked_made wanted plan other a b a' b' made e h =
       subst (λ (p : Plan). IsMade wanted p a b made) e.0 (subst (λ (t : List ℕ). IsMade wanted other t b made) e.1 (subst (λ (t : List ℕ). IsMade wanted other a' t made) e.2 h))
 
@@ -54,6 +54,9 @@ module _ {X M : Type 0} (text_of : X → List ℕ) (report_of : X → Report M) 
   ends wanted plan other a b a' b' r (Err f) e may h is = subst (λ (fault : Fault). Declines plan a b f.at fault) (sym is.1) (is.0, may)
 
 -- ---- how a call without a sink ends
+pub memory_declines : (plan : Plan) (a b : List ℕ) (part : Part) (f : Fault) → MayRun plan a b → (part ≡ Run) × (f ≡ Memory) → Declines plan a b part f
+memory_declines plan a b part f may is = subst (λ (fault : Fault). Declines plan a b part fault) (sym is.1) (is.0, may)
+
 never_memory : (plan : Plan) (a b : List ℕ) (part : Part) (f : Fault) → IsRefusedAt plan a b part f → f ≡ Memory → ⊥
 never_memory plan a b part f (bad_tile n) e = cc
 never_memory plan a b part f (bad_workers s n) e = cc

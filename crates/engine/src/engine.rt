@@ -9,9 +9,9 @@
 ghost use Rattle.std.specs.Prelude.{◌≡◌, ◌<◌, ℕ, IfOk, List, MatchResult};
 ghost use Rattle.engine.specs.Results.{IsResultWritten, IsWantedText, IsWritten};
 ghost use Rattle.engine.specs.Rounds.{AreRoundedOver, IsRemade};
-ghost use Rattle.engine.specs.Runs.{AreEdgesWritten, Declines, Delivers, IsReading, Runs};
+ghost use Rattle.engine.specs.Runs.{AreEdgesWritten, Declines, Delivers, Runs};
 
-use crate::checking::{CheckedInput, Reading, check, check_plan};
+use crate::checking::{CheckedInput, check, check_plan};
 use crate::operation::{Wanted, text_by_workers};
 use crate::reading::read_both;
 use crate::rounds::{report_of, rounded_layers};
@@ -63,7 +63,7 @@ pub fn edges<A: Allocator + Copy + Send + Sync, G: Gate + Sync, S: Sink, R: Thre
     requires { (S.state sink.old).failed < u64.MAX }
     ensures { Runs S.state sink.old sink.new plan a.now b.now (AreEdgesWritten plan a.now b.now) result }
 {
-    let made = made_by_workers(rt, alloc, Wanted::Edges, a, b, plan, gate)?;
+    let made = made(rt, alloc, Wanted::Edges, a, b, plan, gate)?;
     send(made, sink)
 }
 
@@ -83,12 +83,12 @@ pub fn run<A: Allocator + Copy + Send + Sync, G: Gate + Sync, S: Sink, R: Thread
     requires { (S.state sink.old).failed < u64.MAX }
     ensures { Runs S.state sink.old sink.new plan a.now b.now (IsResultWritten op plan a.now b.now) result }
 {
-    let made = made_by_workers(rt, alloc, Wanted::Apply(op), a, b, plan, gate)?;
+    let made = made(rt, alloc, Wanted::Apply(op), a, b, plan, gate)?;
     send(made, sink)
 }
 
 /// The text that is wanted of two layers, and the report, where nothing is refused. The workers call the gate.
-fn made_by_workers<A: Allocator + Copy + Send + Sync, G: Gate + Sync, R: Threads + Wait + Sync>(
+fn made<A: Allocator + Copy + Send + Sync, G: Gate + Sync, R: Threads + Wait + Sync>(
     rt: &R,
     alloc: A,
     wanted: Wanted,
@@ -101,29 +101,13 @@ fn made_by_workers<A: Allocator + Copy + Send + Sync, G: Gate + Sync, R: Threads
 {
     check_plan(plan)?;
     let (read_a, read_b) = read_both(rt, alloc, plan.workers, a, b);
-    match check(a, b, plan, &read_a, &read_b) {
-        Ok(checked) => or_fault(by_workers(rt, alloc, wanted, &checked, read_a, read_b, gate)),
-        Err(fault) => Err(fault),
-    }
-}
-
-/// The same of two layers that were checked: the workers round them.
-fn by_workers<A: Allocator + Copy + Send + Sync, G: Gate + Sync, R: Threads + Wait + Sync>(
-    rt: &R,
-    alloc: A,
-    wanted: Wanted,
-    checked: &CheckedInput<'_, '_>,
-    read_a: Reading<A>,
-    read_b: Reading<A>,
-    gate: &G,
-) -> Result<MadeInParts<A>, NoMemory>
-    requires read_a { IsReading checked.now.a.now read_a }
-    requires read_b { IsReading checked.now.b.now read_b }
-    ensures { IfOk result (λ m. IsWritten wanted checked.now.plan checked.now.a.now checked.now.b.now m.text m.report) }
-{
-    let noded = rounded_layers(rt, alloc, checked, read_a, read_b, gate)?;
-    let text = text_by_workers(rt, alloc, checked.plan.workers, wanted, &noded.edges)?;
-    let report = report_for(alloc, wanted, checked, &noded)?;
+    let checked = match check(a, b, plan, &read_a, &read_b) {
+        Ok(checked) => checked,
+        Err(fault) => return Err(fault),
+    };
+    let noded = or_fault(rounded_layers(rt, alloc, &checked, read_a, read_b, gate))?;
+    let text = or_fault(text_by_workers(rt, alloc, plan.workers, wanted, &noded.edges))?;
+    let report = or_fault(report_for(alloc, wanted, &checked, &noded))?;
     Ok(MadeInParts { text, report })
 }
 

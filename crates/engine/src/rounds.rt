@@ -67,40 +67,18 @@ pub(crate) fn rounded_layers<
     ensures layers { IfOk result (λ n. ∥ AreLayers n.edges.items ∥₁) }
     ensures remade { IfOk result (λ n. IsRemade n.remade) }
 {
-    let segments = read_segments_by_workers(rt, alloc, checked, read_a, read_b)?;
-    gathered(
-        rt,
-        alloc,
-        &checked.grid,
-        checked.plan.workers,
-        &segments,
-        gate,
-    )
-}
-
-/// The rounded edges of segments: the workers make the pieces of the cells, which are gathered.
-fn gathered<A: Allocator + Copy + Send + Sync, G: Gate + Sync, R: Threads + Wait + Sync>(
-    rt: &R,
-    alloc: A,
-    grid: &Grid,
-    workers: u32,
-    segments: &[Seg],
-    gate: &G,
-) -> Result<Noded<A>, NoMemory>
-    requires workers { (0 < workers) × (workers ≤ MOST_HANDS) }
-    requires in_limit { AllInLimit segments.now }
-    requires covered { HaveTiles grid.now segments.now }
-    ensures rounded { IfOk result (λ n. ∥ AreRounded segments.now n.edges.items ∥₁) }
-    ensures tiles { IfOk result (λ n. AreTileNumbers grid.now segments.now (tile_count grid.now) n.tiles.items) }
-    ensures remade { IfOk result (λ n. IsRemade n.remade) }
-{
+    let workers = checked.plan.workers;
+    let read = read_segments_by_workers(rt, alloc, checked, read_a, read_b)?;
+    let segments: &[Seg] = &read;
     let parts = worth::parts(workers, segments.len(), worth::SEGMENTS);
-    let cells = cells_in_parts(rt, alloc, parts, grid, workers, segments)?;
+    let cells = cells_in_parts(rt, alloc, parts, &checked.grid, workers, segments)?;
     let blank = Blank::new(u64::from(workers));
+    let grid = &checked.grid;
     by_cells::<Brand, Brand, A, G, R>(rt, alloc, blank, grid, &cells, workers, segments, gate)
 }
 
-/// The same, where a ledger of its own counts the pieces that are posted, and their type knows the cells and the segments.
+/// The rounded edges of segments: the workers make the pieces of the cells, which are gathered. A ledger of its own counts the pieces that
+/// are posted, and their type knows the cells and the segments.
 fn by_cells<
     L: Limited + Send + Sync,
     T: Tiled + Send + Sync,

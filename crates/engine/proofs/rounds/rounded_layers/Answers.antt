@@ -9,53 +9,46 @@ use Rattle.engine.proofs.Rounding.{covered, if_both, layers_of}
 use Rattle.engine.proofs.Known.{ready_of}
 use Rattle.engine.proofs.rounds.rounded_layers.Goals as goal
 
-pub gathered-requires : goal.gathered-requires
-gathered-requires g c =
+pub cells_in_parts-requires-clause-covered : goal.cells_in_parts-requires-clause-covered
+cells_in_parts-requires-clause-covered g c =
     let now = c.args.checked.now in
-    let segments = c.in_ok-segments.segments.items in
-    let s = c.in_ok-segments.ensures.segments in
-    let ready = ready_of now.plan now.a.now now.b.now now.segments_a now.segments_b now.grid now.are_checked segments s in
-    let crew = ready.planned.workers in (
-      c.type_bounds.send-A,
-      (
-        c.type_bounds.sync-A,
-        (
-          c.type_bounds.sync-G,
-          (
-            c.type_bounds.sync-R,
-            (
-              c.type_bounds.frees-A-Allocator,
-              (
-                (omega (arith, crew.low), crew.high),
-                (
-                  subst (λ (ss : List Seg). AllInLimit ss) (sym c.deref.ensures.value) c.in_ok-segments.ensures.in_limit,
-                  subst (λ (ss : List Seg). HaveTiles c.args.checked.now.grid ss) (sym c.deref.ensures.value)
-                      (covered now.plan now.a.now now.b.now s.rings_a s.rings_b now.grid segments ready s),
-                ),
-              ),
-            ),
-          ),
-        ),
-      ),
-    )
+    let read = c.in_ok-read.read.items in
+    let s = c.in_ok-read.ensures.segments in
+    let ready = ready_of now.plan now.a.now now.b.now now.segments_a now.segments_b now.grid now.are_checked read s in
+    λ κs l. subst (λ (ss : List Seg). HaveTiles c.args.checked.now.grid ss) (sym c.deref-segments.ensures.value) (covered now.plan now.a.now now.b.now s.rings_a s.rings_b now.grid read ready s)
+
+pub by_cells-requires-clause-workers : goal.by_cells-requires-clause-workers
+by_cells-requires-clause-workers g c =
+    let now = c.args.checked.now in
+    let s = c.in_ok-read.ensures.segments in
+    let crew = (ready_of now.plan now.a.now now.b.now now.segments_a now.segments_b now.grid now.are_checked c.in_ok-read.read.items s).planned.workers in
+    λ κs l. (omega (arith, crew.low), crew.high)
+
+pub by_cells-requires-clause-covered : goal.by_cells-requires-clause-covered
+by_cells-requires-clause-covered g c =
+    let now = c.args.checked.now in
+    let read = c.in_ok-read.read.items in
+    let s = c.in_ok-read.ensures.segments in
+    let ready = ready_of now.plan now.a.now now.b.now now.segments_a now.segments_b now.grid now.are_checked read s in
+    λ κs l. subst (λ (ss : List Seg). HaveTiles c.args.checked.now.grid ss) (sym c.deref-segments.ensures.value) (covered now.plan now.a.now now.b.now s.rings_a s.rings_b now.grid read ready s)
 
 pub returns-clause-rounded : goal.returns-clause-rounded
 returns-clause-rounded g c =
-    let segments = c.in_ok-segments.segments.items in
+    let segments = c.in_ok-read.read.items in
     let grid = c.args.checked.now.grid in
-    if_both c.gathered.result _ _ _
+    if_both c.by_cells.result _ _ _
     (λ n r t. record {
       segments = segments;
-      are_segments = c.in_ok-segments.ensures.segments;
-      rounded = subst (λ (ss : List Seg). ∥ AreRounded ss n.edges.items ∥₁) c.deref.ensures.value r;
-      tiles_are = subst (λ (ss : List Seg). AreTileNumbers grid ss (tile_count grid) n.tiles.items) c.deref.ensures.value t;
+      are_segments = c.in_ok-read.ensures.segments;
+      rounded = subst (λ (ss : List Seg). ∥ AreRounded ss n.edges.items ∥₁) c.deref-segments.ensures.value r;
+      tiles_are = subst (λ (ss : List Seg). AreTileNumbers grid ss (tile_count grid) n.tiles.items) c.deref-segments.ensures.value t;
     })
-    c.gathered.ensures.rounded c.gathered.ensures.tiles
+    c.by_cells.ensures.rounded c.by_cells.ensures.tiles
 
 pub returns-clause-layers : goal.returns-clause-layers
 returns-clause-layers g c =
-    let segments = c.in_ok-segments.segments.items in
-    IfOk-weaker c.gathered.result _ _
-    (λ n r. layers_of c.args.checked.now.a.now c.args.checked.now.b.now segments n.edges.items c.in_ok-segments.ensures.segments c.in_ok-segments.ensures.in_limit
-    (subst (λ (ss : List Seg). ∥ AreRounded ss n.edges.items ∥₁) c.deref.ensures.value r))
-    c.gathered.ensures.rounded
+    let segments = c.in_ok-read.read.items in
+    IfOk-weaker c.by_cells.result _ _
+    (λ n r. layers_of c.args.checked.now.a.now c.args.checked.now.b.now segments n.edges.items c.in_ok-read.ensures.segments c.in_ok-read.ensures.in_limit
+    (subst (λ (ss : List Seg). ∥ AreRounded ss n.edges.items ∥₁) c.deref-segments.ensures.value r))
+    c.by_cells.ensures.rounded
