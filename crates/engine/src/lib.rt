@@ -1,4 +1,11 @@
-//! The engine: two layer texts in, the text of their rounded edges, or of an operation's result, to a sink.
+//! The engine: two layer texts, a plan and a sink in; the text of their rounded edges, or of an operation's result, out.
+//!
+//! 1. Both texts are read, and plan and texts are accepted or refused (`reading`, `checking`).
+//! 2. The segments are rounded by workers over cells, and the edges are put together (`rounds`).
+//! 3. The text that is wanted is made (`operation`) and sent (`sink`), with a report.
+//!
+//! The promise: where `edges` and `run` answer, the sink took the one text that the layers determine, in whose polygons each rational point
+//! lies as the operation says. The definitions are `specs/Runs` and `specs/Results`.
 #![tactic(auto)]
 
 mod alone;

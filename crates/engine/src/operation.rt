@@ -14,8 +14,8 @@ use crate::text::edges_text;
 use crate::text_parts::{TextParts, edges_text_in_parts};
 use crate::worth;
 use geom::{Counted, Directed, NoMemory, Op};
-use label_sweep::{layer_labels, layer_labels_by_hands};
-use polygonize::{polygons, rings_by_hands};
+use label_sweep::{layer_labels, layer_labels_in_parts};
+use polygonize::{polygons, rings_in_parts};
 use std::alloc::Allocator;
 use std::thread::Threads;
 use wkt::write_multi;
@@ -89,7 +89,8 @@ fn result_text_by_workers<A: Allocator + Copy + Send + Sync, R: Threads + Sync>(
     requires { AreLayers counted.now }
     ensures { IfOk result (λ text. IsResultText op counted.now text) }
 {
-    let directed = layer_labels_by_hands(rt, workers, alloc, counted, op)?;
+    let parts = worth::parts(workers, counted.len(), worth::EDGES);
+    let directed = layer_labels_in_parts(rt, alloc, parts, counted, op)?;
     line_by_workers(rt, alloc, workers, directed)
 }
 
@@ -128,6 +129,6 @@ fn line_by_workers<A: Allocator + Copy + Send + Sync, R: Threads + Sync>(
     if parts < 2 {
         return one_line(alloc, &directed);
     }
-    let rings = rings_by_hands(rt, parts, alloc, directed)?;
+    let rings = rings_in_parts(rt, alloc, parts, directed)?;
     line_in_parts(rt, alloc, parts, &rings)
 }

@@ -15,7 +15,7 @@ use crate::text::Report;
 use crate::worth;
 use geom::{NoMemory, Seg};
 use grid::{Grid, KeptBins, MOST_TILES};
-use linking::{Noded, TileNumbers, TilePiece, Tiled, gather_made_by_hands, settled};
+use linking::{Noded, TileNumbers, TilePiece, Tiled, gather_made_in_parts, settled};
 use routing::part;
 use std::alloc::Allocator;
 use std::marker::{Brand, PhantomData};
@@ -126,9 +126,18 @@ fn by_cells<
         gate,
     )?;
     drop(bins);
-    let hands = workers as usize;
-    let rounded = gather_made_by_hands(rt, alloc, hands, pieces, remade, cells, grid, segments)?;
+    let parts = worth::parts(workers, record_count(&pieces), worth::RECORDS);
+    let rounded = gather_made_in_parts(rt, alloc, parts, pieces, remade, cells, grid, segments)?;
     Ok(settled(rounded))
+}
+
+/// How many records pieces have together.
+fn record_count<T: Tiled, A: Allocator>(pieces: &[TilePiece<T, A>]) -> usize {
+    let mut count = 0usize;
+    for piece in pieces {
+        count = count.saturating_add(piece.records.len());
+    }
+    count
 }
 
 /// The numbers of a run.

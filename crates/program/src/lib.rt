@@ -1,4 +1,10 @@
-//! The program over the engine, as a library: the command line, files, sinks, and what is done with them.
+//! The program over the engine, as a library: the words of a command line in, an exit status out.
+//!
+//! 1. The words are read (`cli`, `asked`).
+//! 2. The files are loaded (`files`), and the engine is called on their texts (`program`).
+//! 3. The answer goes to standard output, all else to standard error (`stream`).
+//!
+//! The promise: which text goes to which sink, and which status is answered (`specs/Program`).
 #![tactic(auto)]
 
 mod asked;
