@@ -168,7 +168,7 @@ def union(a: Text, b: Union[str, bytes], side: Optional[int] = None) -> Text:
     """The points of either layer, as one MULTIPOLYGON line.
 
     >>> union("POLYGON ((0 0, 4 0, 4 4, 0 4, 0 0))", "POLYGON ((4 0, 6 0, 6 4, 4 4, 4 0))")
-    'MULTIPOLYGON (((0 0, 6 0, 6 4, 0 4, 0 0)))\\n'
+    'MULTIPOLYGON (((0 0, 4 0, 6 0, 6 4, 4 4, 0 4, 0 0)))\\n'
     """
     return overlay(Operation.UNION, a, b, side)
 
