@@ -10,7 +10,7 @@ use Rattle.geom.specs.declared.segment.Seg.{Seg}
 use Rattle.geom.specs.Bounds.{IsBox}
 use Rattle.geom.specs.Segments.{layer_steps}
 use Rattle.geom.proofs.Rects.{same_rect}
-use Rattle.grid.specs.Tiles.{IsGridOf, Tiling, tile_count}
+use Rattle.grid.specs.Tiles.{IsGridOf, Tiling}
 use Rattle.linking.specs.declared.rounded.TileNumbers.{TileNumbers}
 use Rattle.wkt.specs.LayerText.{Ring}
 use Rattle.wkt.specs.Refusals.{plain}

@@ -1,5 +1,5 @@
 -- From what was made and sent to what the whole run says.
-use Rattle.std.proofs.Common.{◌≡◌, ◌≤◌, ℕ, List, length, refl, subst, sym}
+use Rattle.std.proofs.Common.{◌≡◌, ℕ, List, length, refl, subst, sym}
 use Rattle.std.specs.Prelude.{Result, Ok, Err, IfOk, MatchResult}
 use Rattle.geom.specs.declared.fault.Fault.{Fault}
 use Rattle.geom.specs.declared.fault.Fault.TheVariants.{LayerLong, Syntax, NumberRange, RingShort, RingOpen, TooManySegments, BadTile, BadWorkers, TooManyTiles, NotNoded, Memory, Write}
@@ -14,7 +14,7 @@ use Rattle.engine.specs.declared.operation.Wanted.TheVariants.{Apply, Edges}
 use Rattle.geom.specs.declared.edge.Counted.{Counted}
 use Rattle.engine.specs.declared.text.Report.{Report}
 use Rattle.engine.specs.Sinks.{SinkState}
-use Rattle.grid.specs.Tiles.{Tiling, tile_count}
+use Rattle.grid.specs.Tiles.{Tiling}
 use Rattle.linking.specs.declared.rounded.TileNumbers.{TileNumbers}
 use Rattle.engine.specs.Rounds.{AreRoundedOver, IsRemade, TellsTiles}
 use Rattle.engine.proofs.Known.{reported}

@@ -1,4 +1,4 @@
-use Rattle.std.proofs.Common.{◌-◌, ◌<◌, ◌^◌, ℕ, arith, length, subst}
+use Rattle.std.proofs.Common.{◌-◌, ◌<◌, ◌^◌, ℕ, length, subst}
 use Rattle.hands.specs.Consecutive.{ArePartsOf}
 use Rattle.engine.proofs.LineParts.{all_parts, may_write}
 use Rattle.engine.proofs.line_parts.rings_text_in_parts.Goals as goal
