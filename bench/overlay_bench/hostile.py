@@ -59,8 +59,8 @@ class Family:
 
 
 def sides_of(bits):
-    """The default side, an eighth of the width, and the whole of it or the greatest one there may be."""
-    return None, max(16, 1 << bits >> 2), min(max(16, (2 << bits) + 1), GREATEST_SIDE)
+    """The default side, an eighth of the width, and the whole of it, or the greatest one there may be."""
+    return None, min(max(16, 1 << bits >> 2), GREATEST_SIDE), min(max(16, (2 << bits) + 1), GREATEST_SIDE)
 
 
 def families(arguments):
