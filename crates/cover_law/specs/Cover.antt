@@ -1,6 +1,7 @@
 -- Features and what covers a point (own). The features of all layers are numbered from 0, those of the first layer first.
-use Rattle.std.specs.Prelude.{◌==◌, ◌||◌, ℕ, zero, suc, Bool, false, List, [], ◌∷◌, All, AllPairs, filter, map}
+use Rattle.std.specs.Prelude.{◌==◌, ◌||◌, ℕ, zero, suc, Bool, false, List, [], ◌∷◌, All, AllPairs, filter, map, slice_range}
 use Rattle.geom.specs.declared.edge.Edge.{Edge}
+use Rattle.cover_law.specs.declared.border.Border.{Border}
 use Rattle.geom.specs.EdgeOrder.{IsEdgeBefore}
 use Rattle.geom.specs.Limit.{AreInLimit}
 use Rattle.geom.specs.Noded.{IsNoded}
@@ -12,6 +13,10 @@ use Rattle.geom.specs.Rounded.{HasEvenDegrees}
 pub record Bordered : Type 0 where
   pub edge : Edge
   pub features : List ℕ
+
+-- the edge with its features, which stand among those of all edges
+abbrev pub bordered : List ℕ → Border → Bordered
+bordered features b = record { edge = b.edge; features = slice_range features b.from b.to }
 
 abbrev pub edge_in : Bordered → Edge
 edge_in b = b.edge

@@ -1,9 +1,11 @@
 //! Cover sets, rows and their laws: each law is the contract of a function with an empty body.
 #![tactic(auto)]
 
+mod border;
 mod faces;
 mod laws;
 
+pub use border::Border;
 pub use faces::{faces_are_one, faces_tell};
 pub use laws::{
     areas_add_up, borders_are_one, changing_have_same_rows, cover_is_beyond, cover_is_exact,

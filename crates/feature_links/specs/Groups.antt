@@ -9,7 +9,7 @@ use Rattle.geom.specs.Route.{AreRoutes}
 use Rattle.cover_law.specs.Borders.{AreBordered, feature_count}
 use Rattle.cover_law.specs.Changing.{changing, has_some}
 use Rattle.cover_law.specs.Cover.{Bordered}
-use Rattle.feature_links.specs.declared.borders.Border.{Border}
+use Rattle.cover_law.specs.declared.border.Border.{Border}
 use Rattle.feature_links.specs.declared.link.FeatureLink.{FeatureLink}
 use Rattle.feature_links.specs.Odd.{AreOdd, same_link}
 

@@ -7,16 +7,9 @@ ghost use Rattle.feature_links.specs.Odd.{IsLinkBefore};
 ghost use Rattle.feature_links.specs.declared.link.FeatureLink.{FeatureLink};
 
 use crate::link::FeatureLink;
+use cover_law::Border;
 use geom::{Edge, NoMemory};
 use std::alloc::Allocator;
-
-/// An edge, and from where to where its features stand among the links.
-#[derive(Clone, Copy, Debug)]
-pub struct Border {
-    pub edge: Edge,
-    pub from: usize,
-    pub to: usize,
-}
 
 fn is_edge(e: Edge, f: Edge) -> bool
     ensures { result ≡ same_ends e f }

@@ -3,7 +3,7 @@ use Rattle.std.proofs.Common.{◌≡◌, ℕ, ◌∷◌, ◌++◌, [], arith, Li
 use Rattle.std.proofs.lemmas.List.{get_or_default, map-append}
 use Rattle.geom.specs.declared.edge.Edge.{Edge}
 use Rattle.cover_law.specs.Cover.{Bordered}
-use Rattle.feature_links.specs.declared.borders.Border.{Border}
+use Rattle.cover_law.specs.declared.border.Border.{Border}
 use Rattle.feature_links.specs.Groups.{AreGroups, bordered_by}
 use Rattle.feature_links.proofs.GroupSteps.{next_behind, next_groups}
 use Rattle.feature_links.proofs.borders.borders_of.Goals as goal
