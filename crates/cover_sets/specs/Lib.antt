@@ -1,4 +1,5 @@
 pub mod Sets
+pub mod Covers
 pub mod Blocks
 pub mod Exchange
 pub mod Key
