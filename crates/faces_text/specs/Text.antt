@@ -1,5 +1,5 @@
 -- The text of faces (own): a line for each row, with tabs between twice its area, the numbers of each layer's features, and its polygons.
-use Rattle.std.specs.Prelude.{◌≡◌, ◌+◌, ◌-◌, ◌&&◌, ℕ, suc, nat_le, nat_lt, List, [], ◌∷◌, ◌++◌, filter, length, map}
+use Rattle.std.specs.Prelude.{◌≡◌, ◌+◌, ◌-◌, ◌&&◌, ℕ, Bool, suc, nat_le, nat_lt, List, [], ◌∷◌, ◌++◌, filter, length, map}
 use Rattle.std.specs.List.{flat_map}
 use Rattle.std.specs.Fmt.{decimal, signed_decimal}
 use Rattle.geom.specs.declared.point.Pt.{Pt}
@@ -8,9 +8,13 @@ use Rattle.cover_law.specs.Faces.{AreFaces}
 use Rattle.cover_law.specs.Rows.{Row}
 use Rattle.wkt.specs.Canonical.{multi_text}
 
--- of a set the features from one number to before another one, numbered from 1
+-- whether a feature is one of those from one number to before another one, which are a layer's
+abbrev pub is_of_layer : ℕ → ℕ → ℕ → Bool
+is_of_layer first past f = nat_le first f && nat_lt f past
+
+-- of a set the features of a layer, numbered from 1
 abbrev pub numbers_of : ℕ → ℕ → List ℕ → List ℕ
-numbers_of first past set = map (λ f. suc (f - first)) (filter (λ f. nat_le first f && nat_lt f past) set)
+numbers_of first past set = map (λ f. suc (f - first)) (filter (is_of_layer first past) set)
 
 -- `,` between
 abbrev pub numbers_text : List ℕ → List ℕ
