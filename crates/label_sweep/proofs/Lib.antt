@@ -9,6 +9,7 @@ pub mod Ends
 pub mod Steepness
 pub mod Turning
 pub mod Passing
+pub mod Beside
 pub mod Columns
 pub mod Sweeping
 pub mod Directing

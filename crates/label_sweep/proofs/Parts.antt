@@ -36,11 +36,11 @@ module _ {X : Type 0} where
   drop_behind (suc n) (suc m) (suc k) [] e = refl
   drop_behind (suc n) m (suc k) (x ∷ xs) e = drop_behind n m k xs (omega (arith, e))
 
-  slice_behind : (xs : List X) (a b c : ℕ) → a ≤ b → b ≤ c → slice_range xs a c ≡ slice_range xs a b ++ slice_range xs b c
+  pub slice_behind : (xs : List X) (a b c : ℕ) → a ≤ b → b ≤ c → slice_range xs a c ≡ slice_range xs a b ++ slice_range xs b c
   slice_behind xs a b c low high = take_behind (b - a) (c - b) (c - a) (drop a xs) (omega (arith, low, high))
       ∙ ap (λ t. slice_range xs a b ++ take (c - b) t) (sym (drop_behind a (b - a) b xs (omega (arith, low))))
 
-  none_sliced : (xs : List X) (a : ℕ) → slice_range xs a a ≡ []
+  pub none_sliced : (xs : List X) (a : ℕ) → slice_range xs a a ≡ []
   none_sliced xs a = ap (λ n. take n (drop a xs)) (nothing a)
     where
       nothing : (a : ℕ) → a - a ≡ 0

@@ -26,7 +26,7 @@ use Rattle.label_sweep.specs.declared.parities.Parities.{Parities}
 use Rattle.label_sweep.specs.declared.standing.Spoke.{Spoke}
 use Rattle.label_sweep.specs.declared.standing.StandingEdge.{StandingEdge}
 use Rattle.label_sweep.specs.declared.standing.LabelledEdge.{LabelledEdge}
-use Rattle.label_sweep.specs.Labels.{AreLabelsWithin, BeginsWith, IsLabelled, IsSweptTo, IsSweptUpTo, beyond, labels_from, parities_at, standing_of, stands_from, under_lowest}
+use Rattle.label_sweep.specs.Labels.{AreLabelsWithin, BeginsWith, IsLabelled, IsSweptTo, IsSweptUpTo, beyond, labels_from, lowest_of, parities_at, parities_beside, standing_of, stands_from}
 use Rattle.label_sweep.specs.Status.{AreFresh, AreSpokes, AreStanding, GoesOn, IsRangeAt, IsSteeper, IsUnder, IsVertexOf, Reaches}
 use Rattle.label_sweep.proofs.Around.{Steeper, under_turn}
 use Rattle.label_sweep.proofs.Labelling.{turn_is_labelled}
@@ -171,10 +171,10 @@ module _ (cs : List Counted) (h : AreLayers cs) (v : Pt) (x : IsVertexOf (edges_
   cut = ap (map edge_of) (sym (take-append-drop low s) ∙ ap (λ t. take low s ++ t) (drop_split s low high order))
       ∙ map-append edge_of (take low s) (slice_range s low high ++ drop high s) ∙ ap (λ t. map edge_of (take low s) ++ t) (map-append edge_of (slice_range s low high) (drop high s))
 
-  standing_parts : AreStanding (Reaches (edges_of cs) v) (map edge_of (take low s) ++ (map edge_of (slice_range s low high) ++ map edge_of (drop high s)))
+  pub standing_parts : AreStanding (Reaches (edges_of cs) v) (map edge_of (take low s) ++ (map edge_of (slice_range s low high) ++ map edge_of (drop high s)))
   standing_parts = let P : List Edge → Type 0 = λ es. AreStanding (Reaches (edges_of cs) v) es in subst P cut u.edges
 
-  low_all : All (λ e. pos 0 <ℤ side e.p e.q v) (map edge_of (take low s))
+  pub low_all : All (λ e. pos 0 <ℤ side e.p e.q v) (map edge_of (take low s))
   low_all = All-map (λ (e : Edge). pos 0 <ℤ side e.p e.q v) edge_of (take low s) (all_of_in (λ t. IsBelow v (edge_of t)) (take low s) (λ t i. within_take (λ (t : StandingEdge). IsBelow v (edge_of t)) s low is_low t i))
 
   back : (k : ℕ) → k < low + (high - low) → k < high
@@ -183,18 +183,18 @@ module _ (cs : List Counted) (h : AreLayers cs) (v : Pt) (x : IsVertexOf (edges_
   there : (k : ℕ) → k < high → k < length s
   there k l = omega arith
 
-  mid_all : All (λ e. side e.p e.q v ≡ pos 0) (map edge_of (slice_range s low high))
+  pub mid_all : All (λ e. side e.p e.q v ≡ pos 0) (map edge_of (slice_range s low high))
   mid_all = All-map (λ (e : Edge). side e.p e.q v ≡ pos 0) edge_of (slice_range s low high) (all_of_in (λ t. side t.spoke.one.edge.p t.spoke.one.edge.q v ≡ pos 0) (slice_range s low high)
       (λ t i. within_part (λ (t : StandingEdge). side t.spoke.one.edge.p t.spoke.one.edge.q v ≡ pos 0) s low (high - low) 0 (omega arith)
       (λ k d f l. both_zero _ (not_low k d f (there k (back k l))) (not_high k d (omega arith) (back k l))) t i))
 
-  high_all : All (λ e. side e.p e.q v <ℤ pos 0) (map edge_of (drop high s))
+  pub high_all : All (λ e. side e.p e.q v <ℤ pos 0) (map edge_of (drop high s))
   high_all = All-map (λ (e : Edge). side e.p e.q v <ℤ pos 0) edge_of (drop high s) (all_of_in (λ t. IsAbove v (edge_of t)) (drop high s) (λ t i. within_drop (λ (t : StandingEdge). IsAbove v (edge_of t)) s high is_high t i))
 
   under_of : (t : StandingEdge) → In t s → t.under ≡ parities_at cs (right_side (edge_of t).p (edge_of t).q)
   under_of = in_of_all (λ t. t.under ≡ parities_at cs (right_side (edge_of t).p (edge_of t).q)) s u.under
 
-  begins : (hs : List StandingEdge) → drop high s ≡ hs → (ks : List Edge) → AreSpokes (edges_of cs) v ks → BeginsWith cs (under_lowest hs) ks
+  begins : (hs : List StandingEdge) → drop high s ≡ hs → (ks : List Edge) → AreSpokes (edges_of cs) v ks → BeginsWith cs (parities_beside (lowest_of hs)) ks
   begins hs e [] a = tt
   begins [] e (k ∷ rest) a = λ i. record { a = sym (none A) i; b = sym (none B) i }
     where
@@ -208,7 +208,7 @@ module _ (cs : List Counted) (h : AreLayers cs) (v : Pt) (x : IsVertexOf (edges_
           let Q : List StandingEdge → Type 0 = λ hs. All (λ (e : Edge). side e.p e.q v <ℤ pos 0) (map edge_of hs) in
           left_of_first cs h v x (map edge_of (take low s)) (map edge_of (slice_range s low high)) (edge_of f) (map edge_of hs) (subst P e standing_parts) low_all mid_all (subst Q e high_all) k rest a l
 
-  module _ (ss : List Spoke) (a : AreSpokes (edges_of cs) v (map edge_at ss)) (inside : All (λ s. Contains cs s.one) ss) (left : Parities) (e : left ≡ under_lowest (drop high s)) where
+  module _ (ss : List Spoke) (a : AreSpokes (edges_of cs) v (map edge_at ss)) (inside : All (λ s. Contains cs s.one) ss) (left : Parities) (e : left ≡ parities_beside (lowest_of (drop high s))) where
     left_begins : BeginsWith cs left (map edge_at ss)
     left_begins = let P : Parities → Type 0 = λ at. BeginsWith cs at (map edge_at ss) in subst P (sym e) (begins (drop high s) refl (map edge_at ss) a)
 
@@ -230,25 +230,30 @@ module _ (cs : List Counted) (h : AreLayers cs) (v : Pt) (x : IsVertexOf (edges_
           (All-drop (λ t. t.under ≡ parities_at cs (right_side t.spoke.one.edge.p t.spoke.one.edge.q)) high s u.under);
     }
 
-    module _ (first from next : ℕ) (r : IsRangeAt cs v from next) (old : List LabelledEdge) (g : AreLabelsWithin cs first from old) where
-      label_in : (f : Edge) → In f (map edge_at ss) → In f (map (λ (l : LabelledEdge). l.edge) (old ++ labels_from left ss))
-      label_in f i = let P : List Edge → Type 0 = λ es. In f es in
-          subst P (sym (map-append (λ (l : LabelledEdge). l.edge) old (labels_from left ss))) (in_back (map (λ (l : LabelledEdge). l.edge) old) (map (λ (l : LabelledEdge). l.edge) (labels_from left ss)) f
-          (subst P (sym (labels_edges left ss)) i))
+    pub labels_here : All (IsLabelled cs) (labels_from left ss)
+    labels_here = labels cs h v ss a inside left left_begins
 
-      old_in : (f : Edge) → In f (map (λ (l : LabelledEdge). l.edge) old) → In f (map (λ (l : LabelledEdge). l.edge) (old ++ labels_from left ss))
-      old_in f i = let P : List Edge → Type 0 = λ es. In f es in
-          subst P (sym (map-append (λ (l : LabelledEdge). l.edge) old (labels_from left ss))) (in_front (map (λ (l : LabelledEdge). l.edge) old) (map (λ (l : LabelledEdge). l.edge) (labels_from left ss)) f i)
+-- ---- the labels so far
+module _ (cs : List Counted) (v : Pt) (ss : List Spoke) (a : AreSpokes (edges_of cs) v (map edge_at ss)) (left : Parities) (each : All (IsLabelled cs) (labels_from left ss))
+    (first from next : ℕ) (r : IsRangeAt cs v from next) (old : List LabelledEdge) (g : AreLabelsWithin cs first from old) where
+  label_in : (f : Edge) → In f (map edge_at ss) → In f (map (λ (l : LabelledEdge). l.edge) (old ++ labels_from left ss))
+  label_in f i = let P : List Edge → Type 0 = λ es. In f es in
+      subst P (sym (map-append (λ (l : LabelledEdge). l.edge) old (labels_from left ss))) (in_back (map (λ (l : LabelledEdge). l.edge) old) (map (λ (l : LabelledEdge). l.edge) (labels_from left ss)) f
+      (subst P (sym (labels_edges left ss)) i))
 
-      of_counted : (i : ℕ) (d : Counted) → first ≤ i → i < next → In (get_or cs i d).edge (map (λ (l : LabelledEdge). l.edge) (old ++ labels_from left ss))
-      of_counted i d f l = let c = get_or cs i d in ⊎_elim
-          (λ m. old_in c.edge (contains_in (map (λ (l : LabelledEdge). l.edge) old) c.edge (g.all i d f m)))
-          (λ m. let b = (r.exact c).0 (in_contains (slice_range cs from next) c (part_in cs from (next - from) i d m (omega (arith, m, l)) (omega (arith, l, r.within)))) in
-          label_in c.edge (contains_in (map edge_at ss) c.edge ((a.exact c.edge).1 (in_contains (edges_of cs) c.edge (map_in (λ c. c.edge) cs c (contains_in cs c b.0)), b.1))))
-          (cases_lt i from)
+  old_in : (f : Edge) → In f (map (λ (l : LabelledEdge). l.edge) old) → In f (map (λ (l : LabelledEdge). l.edge) (old ++ labels_from left ss))
+  old_in f i = let P : List Edge → Type 0 = λ es. In f es in
+      subst P (sym (map-append (λ (l : LabelledEdge). l.edge) old (labels_from left ss))) (in_front (map (λ (l : LabelledEdge). l.edge) old) (map (λ (l : LabelledEdge). l.edge) (labels_from left ss)) f i)
 
-      pub labelled : AreLabelsWithin cs first next (old ++ labels_from left ss)
-      labelled = record {
-        each = All-append (IsLabelled cs) old (labels_from left ss) g.each (labels cs h v ss a inside left left_begins);
-        all = λ i d f l. in_contains (map (λ (l : LabelledEdge). l.edge) (old ++ labels_from left ss)) (get_or cs i d).edge (of_counted i d f l);
-      }
+  of_counted : (i : ℕ) (d : Counted) → first ≤ i → i < next → In (get_or cs i d).edge (map (λ (l : LabelledEdge). l.edge) (old ++ labels_from left ss))
+  of_counted i d f l = let c = get_or cs i d in ⊎_elim
+      (λ m. old_in c.edge (contains_in (map (λ (l : LabelledEdge). l.edge) old) c.edge (g.all i d f m)))
+      (λ m. let b = (r.exact c).0 (in_contains (slice_range cs from next) c (part_in cs from (next - from) i d m (omega (arith, m, l)) (omega (arith, l, r.within)))) in
+      label_in c.edge (contains_in (map edge_at ss) c.edge ((a.exact c.edge).1 (in_contains (edges_of cs) c.edge (map_in (λ c. c.edge) cs c (contains_in cs c b.0)), b.1))))
+      (cases_lt i from)
+
+  pub labelled : AreLabelsWithin cs first next (old ++ labels_from left ss)
+  labelled = record {
+    each = All-append (IsLabelled cs) old (labels_from left ss) g.each each;
+    all = λ i d f l. in_contains (map (λ (l : LabelledEdge). l.edge) (old ++ labels_from left ss)) (get_or cs i d).edge (of_counted i d f l);
+  }

@@ -7,14 +7,14 @@ use Rattle.std.proofs.Math.Seq.{drop-cons}
 use Rattle.std.proofs.lemmas.List.{drop_all, length-append, length-drop, length-take-le, take-append-drop}
 use Rattle.std.proofs.lemmas.List.Elements.{at_read}
 use Rattle.std.proofs.Math.IntN.{ℤ}
-use Rattle.std.specs.Prelude.{◌<ℤ◌, int_le, pos}
+use Rattle.std.specs.Prelude.{◌<ℤ◌, Some, int_le, pos}
 use Rattle.geom.proofs.Integers.{linear}
 use Rattle.geom.proofs.Tests.{le_yes}
 use Rattle.label_sweep.specs.declared.standing.StandingEdge.{StandingEdge}
 use Rattle.std.proofs.lemmas.Bool.{cases_lt}
 use Rattle.label_sweep.specs.declared.status.Place.{Place}
 use Rattle.label_sweep.specs.Chunks.{AreChunks, IsPlace, joined, number_of, opens}
-use Rattle.label_sweep.specs.Labels.{under_lowest}
+use Rattle.label_sweep.specs.Labels.{lowest_of}
 use Rattle.label_sweep.proofs.Chunks.{all_after, all_before, before_more, before_order, behind, cut_filled, cut_joined, cut_some, drop_joined, exchanged, exchanged_filled, exchanged_some, filled_at, first_of, inside, none_after, passed_before}
 
 -- what a search finds
@@ -24,9 +24,9 @@ pub record IsFound {A : Type 0} (p : StandingEdge → Bool) (chunks : List (Vec 
   pub before : AllWithin (λ s. p s ≡ true) (joined chunks) 0 (number_of chunks at)
   pub rest : AllWithin (λ s. p s ≡ false) (joined chunks) (number_of chunks at) (length (joined chunks))
 
-under_append : (xs ys : List StandingEdge) → 0 < length xs → under_lowest (xs ++ ys) ≡ under_lowest xs
-under_append [] ys h = absurd (omega arith)
-under_append (x ∷ xs) ys h = refl
+lowest_append : (xs ys : List StandingEdge) → 0 < length xs → lowest_of (xs ++ ys) ≡ lowest_of xs
+lowest_append [] ys h = absurd (omega arith)
+lowest_append (x ∷ xs) ys h = refl
 
 pub below_level : (b : ℤ) → pos 0 <ℤ b → int_le (pos 0) b ≡ true
 below_level b h = le_yes (pos 0) b (omega (arith, linear))
@@ -68,18 +68,18 @@ module _ {A : Type 0} where
   chunk_inside (c ∷ chunks) k h l = omega arith
 
   -- ---- what lies from a place on
-  pub under_here : (chunks : List (Vec StandingEdge A)) (k n : ℕ) (c : Vec StandingEdge A) (x : StandingEdge) → k < length chunks → c ≡ get_or chunks k c → n < length c.items → x ≡ get_or c.items n x
-      → x.under ≡ under_lowest (drop (length (joined (take k chunks)) + n) (joined chunks))
-  under_here chunks k n c x h is l e =
+  pub lowest_here : (chunks : List (Vec StandingEdge A)) (k n : ℕ) (c : Vec StandingEdge A) (x : StandingEdge) → k < length chunks → c ≡ get_or chunks k c → n < length c.items → x ≡ get_or c.items n x
+      → Some x ≡ lowest_of (drop (length (joined (take k chunks)) + n) (joined chunks))
+  lowest_here chunks k n c x h is l e =
       let rest : List StandingEdge = joined (drop (suc k) chunks) in
       let P : Vec StandingEdge A → Type 0 = λ y. n ≤ length y.items in
       let there : n ≤ length (get_or chunks k c).items = subst P is (omega (arith, l)) in
-      ap (λ (s : StandingEdge). s.under) e
-      ∙ sym (ap under_lowest (drop_joined (λ (c : Vec StandingEdge A). c.items) chunks k n c h there ∙ ap (λ (y : Vec StandingEdge A). drop n y.items ++ rest) (sym is) ∙ ap (λ t. t ++ rest) (drop-cons c.items n x l)))
+      ap (λ (s : StandingEdge). Some s) e
+      ∙ sym (ap lowest_of (drop_joined (λ (c : Vec StandingEdge A). c.items) chunks k n c h there ∙ ap (λ (y : Vec StandingEdge A). drop n y.items ++ rest) (sym is) ∙ ap (λ t. t ++ rest) (drop-cons c.items n x l)))
 
-  pub under_next : (chunks : List (Vec StandingEdge A)) (k n : ℕ) (c b : Vec StandingEdge A) → AreChunks chunks → suc k < length chunks → c ≡ get_or chunks k c → n ≤ length c.items → length c.items ≤ n
-      → b ≡ get_or chunks (k + 1) b → under_lowest b.items ≡ under_lowest (drop (length (joined (take k chunks)) + n) (joined chunks))
-  under_next chunks k n c b are h is l m at =
+  pub lowest_next : (chunks : List (Vec StandingEdge A)) (k n : ℕ) (c b : Vec StandingEdge A) → AreChunks chunks → suc k < length chunks → c ≡ get_or chunks k c → n ≤ length c.items → length c.items ≤ n
+      → b ≡ get_or chunks (k + 1) b → lowest_of b.items ≡ lowest_of (drop (length (joined (take k chunks)) + n) (joined chunks))
+  lowest_next chunks k n c b are h is l m at =
       let one : k + 1 ≡ suc k = omega arith in
       let e : b ≡ get_or chunks (suc k) b = at ∙ ap (λ i. get_or chunks i b) one in
       let rest : List StandingEdge = joined (drop (suc (suc k)) chunks) in
@@ -87,9 +87,9 @@ module _ {A : Type 0} where
       let Q : Vec StandingEdge A → Type 0 = λ y. 0 < length y.items in
       let there : n ≤ length (get_or chunks k c).items = subst P is l in
       let some : 0 < length b.items = subst Q (sym e) (filled_at (λ (c : Vec StandingEdge A). c.items) chunks are.filled k b h) in
-      sym (ap under_lowest (drop_joined (λ (c : Vec StandingEdge A). c.items) chunks k n c (omega (arith, h)) there ∙ ap (λ (y : Vec StandingEdge A). drop n y.items ++ joined (drop (suc k) chunks)) (sym is)
+      sym (ap lowest_of (drop_joined (λ (c : Vec StandingEdge A). c.items) chunks k n c (omega (arith, h)) there ∙ ap (λ (y : Vec StandingEdge A). drop n y.items ++ joined (drop (suc k) chunks)) (sym is)
       ∙ ap (λ t. t ++ joined (drop (suc k) chunks)) (drop_all n c.items m) ∙ ap joined (drop-cons chunks (suc k) b h) ∙ ap (λ (y : Vec StandingEdge A). y.items ++ rest) (sym e))
-      ∙ under_append b.items rest some)
+      ∙ lowest_append b.items rest some)
 
   -- ---- places by their numbers
   pub places_in_order : (chunks : List (Vec StandingEdge A)) → AreChunks chunks → (low high : Place) → IsPlace chunks low → IsPlace chunks high → number_of chunks low ≤ number_of chunks high → low.chunk ≤ high.chunk

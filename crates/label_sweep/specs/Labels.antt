@@ -1,5 +1,5 @@
 -- The labels that a sweep gives (own).
-use Rattle.std.specs.Prelude.{false, ◌≡◌, ◌&&◌, ◌++◌, int_lt, ℕ, Bool, List, [], ◌∷◌, All, Contains, ◌↔◌, if◌then◌else◌, map, not}
+use Rattle.std.specs.Prelude.{false, ◌≡◌, ◌&&◌, ◌++◌, int_lt, ℕ, Bool, List, [], ◌∷◌, Option, None, Some, All, Contains, ◌↔◌, if◌then◌else◌, map, not}
 use Rattle.std.specs.List.{AllWithin}
 use Rattle.geom.specs.declared.edge.Edge.{Edge}
 use Rattle.geom.specs.declared.edge.Counted.{Counted}
@@ -91,10 +91,20 @@ pub record AreDirectedFrom (op : Op) (counted : List Counted) (points : List Pt)
   pub labels : AreLabelsFrom counted points labelled
   pub along : (d : DirectedEdge) → Contains directed d ↔ Contains (directed_of op labelled) d
 
--- the parities under the lowest of these, or none
-abbrev pub under_lowest : List StandingEdge → Parities
-under_lowest [] = record { a = false; b = false }
-under_lowest (s ∷ ss) = s.under
+-- the lowest of these
+abbrev pub lowest_of : List StandingEdge → Option StandingEdge
+lowest_of [] = None
+lowest_of (s ∷ ss) = Some s
+
+-- the parities below it, or none
+abbrev pub parities_beside : Option StandingEdge → Parities
+parities_beside None = record { a = false; b = false }
+parities_beside (Some s) = s.under
+
+-- the edge itself
+abbrev pub edge_beside : Option StandingEdge → Option Edge
+edge_beside None = None
+edge_beside (Some s) = Some s.spoke.one.edge
 
 abbrev pub standing_of : Spoke → Parities → StandingEdge
 standing_of s under = record { spoke = s; under = under }

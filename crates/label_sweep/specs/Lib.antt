@@ -5,3 +5,4 @@ pub mod Chunks
 pub mod Laws
 pub mod Labels
 pub mod Changing
+pub mod Swept

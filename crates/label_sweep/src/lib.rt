@@ -5,6 +5,8 @@
 //!    order, with the parities below it (`status`, `turn`).
 //! 3. What bounds the result is directed and brought in order (`directed`).
 //!
+//! For callers with more than two layers over the same edges, the same sweep tells which edge is beside each (`swept`).
+//!
 //! The promise: exactly the edges that bound the result, each in its direction. The definitions are in `specs`; the laws (`laws`) carry the
 //! sweep from vertex to vertex.
 #![tactic(auto)]
@@ -21,6 +23,7 @@ mod shared_vertices;
 mod standing;
 mod status;
 mod strips;
+mod swept;
 mod turn;
 mod vertices;
 
@@ -35,3 +38,4 @@ pub use pass::sweep;
 pub use shared_vertices::vertices_in_parts;
 pub use standing::{LabelledEdge, Spoke, StandingEdge};
 pub use strips::strips_of;
+pub use swept::{SweptEdge, swept_edges, swept_edges_in_parts};

@@ -10,11 +10,11 @@ ghost use Rattle.std.specs.List.Sorted.{IsPartitionedBy};
 ghost use Rattle.geom.specs.Limit.{InLimit};
 ghost use Rattle.geom.specs.Determinant.{side};
 ghost use Rattle.label_sweep.specs.Chunks.{AreChunks, IsPlace, all_standing, joined, number_of, opens};
-ghost use Rattle.label_sweep.specs.Labels.{under_lowest};
+ghost use Rattle.label_sweep.specs.Labels.{edge_beside, lowest_of, parities_beside};
 
 use crate::parities::Parities;
 use crate::standing::StandingEdge;
-use geom::{NoMemory, Pt};
+use geom::{Edge, NoMemory, Pt};
 use std::alloc::Allocator;
 
 /// A place among the edges that stand: a chunk, and the number of edges before it in this chunk.
@@ -148,19 +148,19 @@ impl<A: Allocator + Copy> Status<A> {
         Place { chunk, within }
     }
 
-    /// The parities under the lowest of the edges from a place on, or none.
-    pub fn lowest_under(&self, place: Place) -> Parities
+    /// The lowest of the edges from a place on, if there is one.
+    pub fn lowest_from(&self, place: Place) -> Option<StandingEdge>
         requires chunked { AreChunks self.now.chunks.items }
         requires place { IsPlace self.now.chunks.items place }
-        ensures { result ≡ under_lowest (drop (number_of self.now.chunks.items place) (all_standing self.now)) }
+        ensures { result ≡ lowest_of (drop (number_of self.now.chunks.items place) (all_standing self.now)) }
     {
         let chunk = &self.chunks[place.chunk];
         if place.within < chunk.len() {
-            chunk[place.within].under
+            Some(chunk[place.within])
         } else if place.chunk + 1 < self.chunks.len() {
-            first_under(&self.chunks[place.chunk + 1])
+            first_of(&self.chunks[place.chunk + 1])
         } else {
-            Parities { a: false, b: false }
+            None
         }
     }
 
@@ -285,12 +285,29 @@ fn split_once<A: Allocator + Copy>(
     Ok(())
 }
 
-/// The parities under the first of these edges, or none.
-fn first_under(standing: &[StandingEdge]) -> Parities
-    ensures { result ≡ under_lowest standing.now }
+/// The first of these edges, if there is one.
+fn first_of(standing: &[StandingEdge]) -> Option<StandingEdge>
+    ensures { result ≡ lowest_of standing.now }
 {
-    match standing.first() {
+    standing.first().copied()
+}
+
+/// The parities below an edge, or none where there is no edge.
+pub fn parities_beside(lowest: Option<StandingEdge>) -> Parities
+    ensures { result ≡ parities_beside lowest }
+{
+    match lowest {
         Some(one) => one.under,
         None => Parities { a: false, b: false },
+    }
+}
+
+/// The edge itself, if there is one.
+pub fn edge_beside(lowest: Option<StandingEdge>) -> Option<Edge>
+    ensures { result ≡ edge_beside lowest }
+{
+    match lowest {
+        Some(one) => Some(one.spoke.one.edge),
+        None => None,
     }
 }

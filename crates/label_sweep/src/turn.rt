@@ -4,6 +4,7 @@
 //! 2. The first one has on its left the parities under the lowest edge above the vertex, and each further one those beyond the one
 //!    before (`label`).
 //! 3. Those that are not upright stand from there on, from the lowest to the steepest (`stand`).
+//! 4. Where no labels are wanted, the first one has that lowest edge beside it, and each further one the one before (`list_beside`).
 
 ghost use Rattle.std.specs.Prelude.{◌≡◌, ◌≤◌, ◌∷◌, [], if◌then◌else◌, int_lt, ◌++◌, All, Contains, OnOk, length, map, reverse, slice_range};
 ghost use Rattle.geom.specs.Limit.{AreInLimit};
@@ -11,11 +12,13 @@ ghost use Rattle.geom.specs.Rounded.{edges_of};
 ghost use Rattle.points_law.specs.Law.{AreLayers};
 ghost use Rattle.label_sweep.specs.Labels.{labels_from, standing_of, stands_from};
 ghost use Rattle.label_sweep.specs.Status.{AreSpokes, IsRangeAt};
+ghost use Rattle.label_sweep.specs.Swept.{besides_from};
 
 use crate::parities::Parities;
 use crate::place::sort_by_steepness;
 use crate::standing::{LabelledEdge, Spoke, StandingEdge};
-use geom::{Counted, NoMemory, Pt};
+use crate::swept::SweptEdge;
+use geom::{Counted, Edge, NoMemory, Pt};
 use std::alloc::Allocator;
 
 /// The edges from one number to another, as they are listed.
@@ -72,6 +75,23 @@ pub fn label<A: Allocator>(
             right: beyond,
         })?;
         at = beyond;
+    }
+    Ok(())
+}
+
+/// Lists the edges that begin at one vertex, the steepest first, each with the one beside it, from that beside the first.
+pub fn list_beside<A: Allocator>(
+    spokes: &[Spoke],
+    first: Option<Edge>,
+    swept: &mut Vec<SweptEdge, A>,
+) -> Result<(), NoMemory>
+    ensures { OnOk result (swept.new.items ≡ swept.old.items ++ besides_from first spokes.now) }
+{
+    let mut beside = first;
+    for spoke in spokes {
+        let edge = spoke.one.edge;
+        swept.push(SweptEdge { edge, beside })?;
+        beside = Some(edge);
     }
     Ok(())
 }

@@ -1,5 +1,7 @@
-//! Tests of strips, and of lists that become one.
+//! Tests of strips, of lists that become one, and of the edge beside each edge.
 #![tactic(auto)]
 
+#[cfg(test)]
+mod besides;
 #[cfg(test)]
 mod parts;

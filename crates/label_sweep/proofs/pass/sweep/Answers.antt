@@ -17,7 +17,7 @@ loop-number-init g c =
     let e = c.if-strip.false in
     let f = c.first_of-start.ensures in (
       begins c.args.counted.now c.args.vertices.now c.requires.vertices strip.from c.first_of-start.result origin (omega (arith, s.order, s.within, e)) (s.column origin (omega (arith, s.order, e))) f.within f.left f.right _ c.in_ok-line.ensures.swept,
-      rw c.in_ok-line.ensures.labelled (none_within c.args.counted.now c.first_of-start.result),
+      rw c.in_ok-labelled.ensures.items (none_within c.args.counted.now c.first_of-start.result),
       c.in_ok-line.ensures.chunked,
     )
 
@@ -62,4 +62,4 @@ returns g c =
     let i = c.loop-number.invariant in
     labels_are c.args.counted.now c.args.vertices.now c.requires.vertices strip.from strip.past c.first_of-start.result c.loop-number.next _ _ s.order s.within
     (begins c.args.counted.now c.args.vertices.now c.requires.vertices strip.from c.first_of-start.result origin (omega (arith, s.order, s.within, e)) (s.column origin (omega (arith, s.order, e))) f.within f.left f.right _ c.in_ok-line.ensures.swept)
-    (subst (λ k. IsSwept c.args.counted.now c.args.vertices.now k c.loop-number.next (all_standing c.loop-number.line.standing)) (omega (arith, c.loop-number-test.false)) i.0) c.loop-number.line.labelled.items i.1
+    (subst (λ k. IsSwept c.args.counted.now c.args.vertices.now k c.loop-number.next (all_standing c.loop-number.line.standing)) (omega (arith, c.loop-number-test.false)) i.0) c.loop-number.labelled.items i.1
