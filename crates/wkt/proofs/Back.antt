@@ -11,7 +11,7 @@ use Rattle.wkt.specs.declared.places.Place.TheVariants.{Between, Keyword, Keywor
 use Rattle.wkt.specs.declared.places.Class.{Class}
 use Rattle.wkt.specs.declared.places.Class.TheVariants.{Space, Digit, Minus, Comma, Open, Close, Letter}
 use Rattle.wkt.specs.LayerText.{Number, Point, Ring, is_space, is_digit, Spaces, Gap, Word, value_after, IsNumber, IsPoint, More, IsRing, IsBody, joined, polygon_word, multipolygon_word, empty_word, IsEmpty, IsGeometry, IsLayerAt}
-use Rattle.wkt.specs.Machine.{opened, closed, turn, Notes, number, with_point, with_ring, noted}
+use Rattle.wkt.specs.Machine.{opened, closed, turn, Notes, number, with_point, with_ring, with_geometry, noted}
 use Rattle.wkt.proofs.Rests.{RestLayer, RestBodies, RestBody, RestRings, RestPoints, RestDigits, AllOfDigits, IsInner, RestInner, Rest}
 use Rattle.wkt.proofs.Bytes.{IsKind}
 
@@ -84,13 +84,13 @@ letter_at : (b c d : ℕ) → (b ≡ c) ⊎ (b ≡ c + 32) → eqb c d ≡ true 
 letter_at b c d h e = rw (eqb-true c d e) at h
 
 first_letter : (n b c : ℕ) (m : Notes) (t : List ℕ) (v : List Ring) → (b ≡ c) ⊎ (b ≡ c + 32)
-    → IfSome (cond (eqb c 77) (Some (Keyword 1)) (cond (eqb c 80) (Some (Keyword 6)) None)) (λ p. Rest n p (record m { multi = eqb c 77 }) t v → Rest n Between m (b ∷ t) v)
+    → IfSome (cond (eqb c 77) (Some (Keyword 1)) (cond (eqb c 80) (Some (Keyword 6)) None)) (λ p. Rest n p (with_geometry (eqb c 77) m) t v → Rest n Between m (b ∷ t) v)
 first_letter n b c m t v h =
-    if_cond (eqb c 77) _ _ (λ p. Rest n p (record m { multi = eqb c 77 }) t v → Rest n Between m (b ∷ t) v)
-    (λ e r. let k : Rest n (Keyword 1) (record m { multi = true }) t v = subst (λ (x : Bool). Rest n (Keyword 1) (record m { multi = x }) t v) e r in
+    if_cond (eqb c 77) _ _ (λ p. Rest n p (with_geometry (eqb c 77) m) t v → Rest n Between m (b ∷ t) v)
+    (λ e r. let k : Rest n (Keyword 1) (with_geometry true m) t v = subst (λ (x : Bool). Rest n (Keyword 1) (with_geometry x m) t v) e r in
     begins n true m (b ∷ t) k.0 v (b, t, refl, letter_at b c 77 h e, k.1) k.2)
-    (λ e. if_one (eqb c 80) _ (λ p. Rest n p (record m { multi = eqb c 77 }) t v → Rest n Between m (b ∷ t) v)
-    (λ f r. let k : Rest n (Keyword 6) (record m { multi = false }) t v = subst (λ (x : Bool). Rest n (Keyword 6) (record m { multi = x }) t v) e r in
+    (λ e. if_one (eqb c 80) _ (λ p. Rest n p (with_geometry (eqb c 77) m) t v → Rest n Between m (b ∷ t) v)
+    (λ f r. let k : Rest n (Keyword 6) (with_geometry false m) t v = subst (λ (x : Bool). Rest n (Keyword 6) (with_geometry x m) t v) e r in
     begins n false m (b ∷ t) k.0 v (b, t, refl, letter_at b c 80 h f, k.1) k.2))
 
 word_more : (word : List ℕ) (k b c : ℕ) (t u : List ℕ) → k < length word → (b ≡ c) ⊎ (b ≡ c + 32) → eqb c (slice_index word k) ≡ true → Word (drop (k + 1) word) t u → Word (drop k word) (b ∷ t) u

@@ -10,7 +10,7 @@ use Rattle.geom.specs.declared.fault.Fault.{Fault}
 use Rattle.geom.specs.declared.fault.Fault.TheVariants.{LayerLong, Syntax, NumberRange, RingShort, RingOpen, TooManySegments, BadTile, BadWorkers, TooManyTiles, NotNoded, Memory, Write}
 use Rattle.wkt.specs.declared.reader.Reader.{Reader}
 use Rattle.wkt.specs.declared.reader.Event.{Event}
-use Rattle.wkt.specs.declared.reader.Event.TheVariants.{Nothing, Open as Opens, Point as EventPoint, Last, Close as Closes}
+use Rattle.wkt.specs.declared.reader.Event.TheVariants.{Nothing, Geometry, Open as Opens, Point as EventPoint, Last, Close as Closes}
 use Rattle.wkt.specs.LayerText.{Point, Ring, IsBroken}
 use Rattle.wkt.specs.Machine.{class_of, turn, Notes, noted, run, start, may_end}
 use Rattle.wkt.specs.Reading.{u32_max, Idle, ReaderIs, Says, Went}
@@ -59,6 +59,7 @@ few_more rings ps p =
 
 few_noted : (e : Event) (at : ℕ) (m m' : Notes) → Says e at m m' → length (read_segments m'.rings m'.points) ≤ length (read_segments m.rings m.points) + 1
 few_noted Nothing at m m' h = rw (h.0, h.2) (omega arith)
+few_noted Geometry at m m' h = rw (h.0, h.2) (omega arith)
 few_noted Opens at m m' h = rw (h.0, h.2, h.3) (omega arith)
 few_noted (EventPoint x y) at m m' h = rw (h.2, h.4) (few_more m.rings m.points h.0)
 few_noted (Last x y) at m m' h = rw (h.3, h.4, closed_segments m.rings m.ring_at (m.points ++ h.0 ∷ [])) (few_more m.rings m.points h.0)
@@ -82,17 +83,17 @@ checked_more text at r s e r' lt c w = record { notes = noted at r.place (class_
 few_passed : (a b : ℕ) (rings rings' : List Ring) (ps ps' : List Point) → rings' ≡ rings → ps' ≡ ps → a ≤ b → length (read_segments rings ps) ≤ a → length (read_segments rings' ps') ≤ b
 few_passed a b rings rings' ps ps' e f le h = rw (e, f) (omega (arith, h))
 
-pub known_on : (text : List ℕ) (at end : ℕ) (r r' : Reader) (s : Shown) (m : Notes) → Known text at r s m → at ≤ end → (p : HasPassed text end r' m) → Known text end r' s p.notes
-known_on text at end r r' s m c le p = record {
+pub known_on : (text : List ℕ) (at end : ℕ) (begun : Bool) (r r' : Reader) (s : Shown) (m : Notes) → Known text at r s m → at ≤ end → (p : HasPassed text end begun r' m) → Known text end r' s p.notes
+known_on text at end begun r r' s m c le p = record {
   read = p.read;
   survey = noted_survey s at Nothing m p.notes (p.rings, p.ring_at, p.points) c.survey;
   few = few_passed at end m.rings p.notes.rings m.points p.notes.points p.rings p.points le c.few;
 }
 
-pub checked_on : (text : List ℕ) (at end : ℕ) (r r' : Reader) (s : Shown) → Checked text at r s → Passes text at end r r' → Checked text end r' s
-checked_on text at end r r' s c w =
-    let p : HasPassed text end r' c.notes = w.passed c.notes c.known.read in
-    record { notes = p.notes; known = known_on text at end r r' s c.notes c.known w.onward p }
+pub checked_on : (text : List ℕ) (at end : ℕ) (begun : Bool) (r r' : Reader) (s : Shown) → Checked text at r s → Passes text at end begun r r' → Checked text end r' s
+checked_on text at end begun r r' s c w =
+    let p : HasPassed text end begun r' c.notes = w.passed c.notes c.known.read in
+    record { notes = p.notes; known = known_on text at end begun r r' s c.notes c.known w.onward p }
 
 -- ---- the answers
 

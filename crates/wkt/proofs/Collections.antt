@@ -7,7 +7,7 @@ use Rattle.geom.specs.declared.point.Pt.{Pt}
 use Rattle.wkt.specs.declared.reader.Reader.{Reader}
 use Rattle.wkt.specs.declared.reader.Number.{Number as Numeral}
 use Rattle.wkt.specs.declared.reader.Event.{Event}
-use Rattle.wkt.specs.declared.reader.Event.TheVariants.{Nothing, Open as Opens, Point as EventPoint, Last, Close as Closes}
+use Rattle.wkt.specs.declared.reader.Event.TheVariants.{Nothing, Geometry, Open as Opens, Point as EventPoint, Last, Close as Closes}
 use Rattle.wkt.specs.LayerText.{Number, Point, Ring}
 use Rattle.wkt.specs.Machine.{class_of, Notes, noted, State, run, start, may_end}
 use Rattle.wkt.specs.Reading.{ReaderIs, StandFor, value_of, Says, Went}
@@ -55,7 +55,7 @@ point_value_is x y p h e =
 
 -- ---- rings without a fault
 
-front_sound : (rings more : List Ring) → first_fault (rings ++ more) ≡ None → first_fault rings ≡ None
+pub front_sound : (rings more : List Ring) → first_fault (rings ++ more) ≡ None → first_fault rings ≡ None
 front_sound [] more e = refl
 front_sound (r ∷ rings) more e =
     let h = none_first (fault_at r.at (map place_of r.points)) (first_fault (rings ++ more)) e in
@@ -94,11 +94,12 @@ holds_close rings at ps g f e sound =
     ∙ ap (λ (n : ℕ). (plain rings ++ take (n - 1) (map place_of ps) ∷ [], [])) (length-map ps place_of)
     ∙ ap (λ (qs : List (List Pt)). (qs, [])) (sym (map_push (λ (r : Ring). take (length r.points - 1) (map place_of r.points)) rings r))
 
-holds_at : (r r' : List Ring) (p p' : List Point) (g : Gathered) → r ≡ r' → p ≡ p' → Holds r p g → Holds r' p' g
+pub holds_at : (r r' : List Ring) (p p' : List Point) (g : Gathered) → r ≡ r' → p ≡ p' → Holds r p g → Holds r' p' g
 holds_at r r' p p' g e f h = subst (λ (x : List Point). Holds r' x g) f (subst (λ (x : List Ring). Holds x p g) e h)
 
 pub holds_noted : (e : Event) (at : ℕ) (m m' : Notes) (g : Gathered) → Says e at m m' → Holds m.rings m.points g → Holds m'.rings m'.points (gathered e g)
 holds_noted Nothing at m m' g h f = holds_at m.rings m'.rings m.points m'.points g (sym h.0) (sym h.2) f
+holds_noted Geometry at m m' g h f = holds_at m.rings m'.rings m.points m'.points g (sym h.0) (sym h.2) f
 holds_noted Opens at m m' g h f = holds_at m.rings m'.rings m.points m'.points g (sym h.0) (h.3 ∙ sym h.2) f
 holds_noted (EventPoint x y) at m m' g h f = holds_at m.rings m'.rings (m.points ++ h.0 ∷ []) m'.points (gathered (EventPoint x y) g) (sym h.2) (sym h.4) (holds_point m.rings m.points h.0 x y g h.1 f)
 holds_noted (Last x y) at m m' g h f =
@@ -121,10 +122,10 @@ collected_more text at r s g e r' lt k w =
     let m' = noted at r.place (class_of (get_or text at 0)) k.notes in
     record { notes = m'; known = known_more text at r s k.notes e r' lt k.known w; holds = holds_noted e at k.notes m' g w.says k.holds }
 
-pub collected_on : (text : List ℕ) (at end : ℕ) (r r' : Reader) (s : Shown) (g : Gathered) → Collected text at r s g → Passes text at end r r' → Collected text end r' s g
-collected_on text at end r r' s g k w =
-    let p : HasPassed text end r' k.notes = w.passed k.notes k.known.read in
-    record { notes = p.notes; known = known_on text at end r r' s k.notes k.known w.onward p; holds = holds_at k.notes.rings p.notes.rings k.notes.points p.notes.points g (sym p.rings) (sym p.points) k.holds }
+pub collected_on : (text : List ℕ) (at end : ℕ) (begun : Bool) (r r' : Reader) (s : Shown) (g : Gathered) → Collected text at r s g → Passes text at end begun r r' → Collected text end r' s g
+collected_on text at end begun r r' s g k w =
+    let p : HasPassed text end begun r' k.notes = w.passed k.notes k.known.read in
+    record { notes = p.notes; known = known_on text at end begun r r' s k.notes k.known w.onward p; holds = holds_at k.notes.rings p.notes.rings k.notes.points p.notes.points g (sym p.rings) (sym p.points) k.holds }
 
 abbrev pub collected_checked : (text : List ℕ) (at : ℕ) (r : Reader) (s : Shown) (g : Gathered) → Collected text at r s g → Checked text at r s
 collected_checked text at r s g k = record { notes = k.notes; known = k.known }

@@ -19,3 +19,7 @@ pub mod Bounded
 pub mod Written
 pub mod Writing
 pub mod WholeLines
+pub mod Cuts
+pub mod Starts
+pub mod FeatureParts
+pub mod Apart

@@ -1,18 +1,21 @@
--- A text of two layer texts, with a line feed between them, is a layer text with the rings of both.
+-- A text of two layer texts, with a line feed between them, is a layer text with the features of both, and so with their rings.
 use Rattle.std.proofs.Common.{◌≡◌, inl, inr, ℕ, ◌-◌, ◌≤◌, Bool, true, false, cond, List, [], ◌∷◌, ◌++◌, length, map, take, refl, sym, ◌∙◌, ap, subst, append_assoc, Option, Some, None, pos}
 use Rattle.std.specs.Prelude.{IsTrue, neg_ℤ, nat_lt, unsigned_abs}
 use Rattle.std.specs.List.{AllByRecursion, flat_map}
 use Rattle.std.proofs.lemmas.List.{append-nil, length-map, map-append}
+use Rattle.std.proofs.lemmas.List.Concat.{flat_map-append}
 use Rattle.geom.specs.declared.point.Pt.{Pt}
 use Rattle.geom.specs.declared.fault.Fault.{Fault}
 use Rattle.geom.specs.declared.fault.Fault.TheVariants.{RingShort, RingOpen}
 use Rattle.geom.specs.Limit.{coordinate_limit, InLimit}
-use Rattle.wkt.specs.LayerText.{Number, Point, Ring, is_space, Spaces, Gap, Word, Digits, IsNumber, IsPoint, More, Listed, IsRing, IsBody, joined, polygon_word, multipolygon_word, empty_word, IsEmpty, IsSingle, IsMulti, IsGeometry, Geometries, IsLayerAt, IsLayer}
+use Rattle.wkt.specs.LayerText.{Number, Point, Ring, is_space, Spaces, Gap, Word, Digits, IsNumber, IsPoint, More, Listed, IsRing, IsBody, joined, polygon_word, multipolygon_word, empty_word, IsEmpty, IsSingle, IsMulti, IsGeometry, Geometries, IsLayer}
 use Rattle.wkt.specs.Refusals.{place_of, numbers, all_numbers, first_outside, is_closed, fault_at, or_else, first_fault, plain, StandsFor, length_limit}
+use Rattle.wkt.specs.Features.{IsFeaturesAt, HasFeatures, StandsForFeatures, all_rings}
 use Rattle.wkt.proofs.Closing.{none_first}
 use Rattle.wkt.proofs.Collections.{front_inside}
 use Rattle.wkt.proofs.Inside.{both_all, of_within, points_in}
 use Rattle.wkt.proofs.Surveys.{outside_then}
+use Rattle.wkt.proofs.Cuts.{stands_apart, stands_joined}
 
 -- ---- what stands in a text stands in it when it goes on; only offsets change
 
@@ -110,52 +113,51 @@ gap_joined : (t u rest : List ℕ) → Spaces t [] → Spaces u rest → Gap (t 
 gap_joined t u rest ([], all, e) k = (10, u, refl, ap (λ x. x ++ 10 ∷ u) e, k)
 gap_joined t u rest (x ∷ xs, all, e) k = (x, xs ++ 10 ∷ u, all.0, ap (λ y. y ++ 10 ∷ u) (e ∙ append-nil (x ∷ xs)), spaces_joined xs u rest (xs, all.1, sym (append-nil xs)) k)
 
--- ---- the layers of both
-abbrev Together : List Ring → List Ring → List Ring → Type 0
-Together ws rs ss = map places ws ≡ map places rs ++ map places ss
-
-together_append : (first others first' others' : List Ring) → map places first' ≡ map places first → map places others' ≡ map places others → map places (first' ++ others') ≡ map places (first ++ others)
-together_append first others first' others' e f = map-append places first' others' ∙ ap (λ x. x ++ map places others') e ∙ ap (λ x. map places first ++ x) f ∙ sym (map-append places first others)
-
-same_joined : (rss sss : List (List Ring)) → map (map places) sss ≡ map (map places) rss → map places (joined sss) ≡ map places (joined rss)
-same_joined rss sss e = joined_places sss ∙ ap (flat_map (λ x. x)) e ∙ sym (joined_places rss)
+-- ---- the features of both
+abbrev Together : List (List Ring) → List (List Ring) → List (List Ring) → Type 0
+Together wss rss sss = map (map places) wss ≡ map (map places) rss ++ map (map places) sss
 
 -- the second text's geometries behind those of the first
-geometries_then : (n k m : ℕ) (t : List ℕ) (rss : List (List Ring)) (u : List ℕ) (ss : List Ring) → Geometries n t rss → IsLayerAt k u ss → (wss : List (List Ring)) × Geometries m (t ++ 10 ∷ u) wss × (map places (joined wss) ≡ map places (joined rss) ++ map places ss)
-geometries_then n k m t [] u ss s (inl (s', e)) = ([], spaces_joined t u [] s s', sym (ap (map places) e))
-geometries_then n k m t [] u ss s (inr (a, b, first, others, s', h, l, e)) =
+geometries_then : (n k m : ℕ) (t : List ℕ) (rss : List (List Ring)) (u : List ℕ) (sss : List (List Ring)) → Geometries n t rss → IsFeaturesAt k u sss → (wss : List (List Ring)) × Geometries m (t ++ 10 ∷ u) wss × Together wss rss sss
+geometries_then n k m t [] u sss s (inl (s', e)) = ([], spaces_joined t u [] s s', sym (ap (map (map places)) e))
+geometries_then n k m t [] u sss s (inr (a, b, first, others, s', h, l, e)) =
     let f = geometry_on k m [] a first b h in
     let o = geometries_at k m b others l in (
       f.0 ∷ o.0,
       (a ++ [], b ++ [], (let P : List ℕ → Type 0 = Gap (t ++ 10 ∷ u) in subst P (sym (append-nil a)) (gap_joined t u a s s')), f.1, o.1),
-      together_append first (joined others) f.0 (joined o.0) f.2 (same_joined others o.0 o.2) ∙ sym (ap (map places) e),
+      both_cons (map places f.0) (map places first) (map (map places) o.0) (map (map places) others) f.2 o.2 ∙ sym (ap (map (map places)) e),
     )
-geometries_then n k m t (rs ∷ rss) u ss (a, b, g, h, l) w =
+geometries_then n k m t (rs ∷ rss) u sss (a, b, g, h, l) w =
     let f = geometry_on n m (10 ∷ u) a rs b h in
-    let o = geometries_then n k m b rss u ss l w in (
+    let o = geometries_then n k m b rss u sss l w in (
       f.0 ∷ o.0,
       (a ++ 10 ∷ u, b ++ 10 ∷ u, gap_on (10 ∷ u) t a g, f.1, o.1),
-      map-append places f.0 (joined o.0) ∙ ap (λ x. x ++ map places (joined o.0)) f.2 ∙ ap (λ x. map places rs ++ x) o.2
-          ∙ sym (append_assoc (map places rs) (map places (joined rss)) (map places ss)) ∙ ap (λ x. x ++ map places ss) (sym (map-append places rs (joined rss))),
+      both_cons (map places f.0) (map places rs) (map (map places) o.0) (map (map places) rss ++ map (map places) sss) f.2 o.2,
     )
 
-layer_then : (n k m : ℕ) (t : List ℕ) (rs : List Ring) (u : List ℕ) (ss : List Ring) → IsLayerAt n t rs → IsLayerAt k u ss → (ws : List Ring) × IsLayerAt m (t ++ 10 ∷ u) ws × Together ws rs ss
-layer_then n k m t rs u ss (inl (s, e)) (inl (s', e')) = ([], inl (spaces_joined t u [] s s', refl), sym (ap (λ x. map places x ++ map places ss) e ∙ ap (map places) e'))
-layer_then n k m t rs u ss (inl (s, e)) (inr (a, b, first, others, s', h, l, e')) =
+features_then : (n k m : ℕ) (t : List ℕ) (rss : List (List Ring)) (u : List ℕ) (sss : List (List Ring)) → IsFeaturesAt n t rss → IsFeaturesAt k u sss → (wss : List (List Ring)) × IsFeaturesAt m (t ++ 10 ∷ u) wss × Together wss rss sss
+features_then n k m t rss u sss (inl (s, e)) (inl (s', e')) =
+    ([], inl (spaces_joined t u [] s s', refl), sym (ap (λ x. map (map places) x ++ map (map places) sss) e ∙ ap (map (map places)) e'))
+features_then n k m t rss u sss (inl (s, e)) (inr (a, b, first, others, s', h, l, e')) =
     let f = geometry_on k m [] a first b h in
     let o = geometries_at k m b others l in (
-      f.0 ++ joined o.0,
+      f.0 ∷ o.0,
       inr (a ++ [], b ++ [], f.0, o.0, (let P : List ℕ → Type 0 = Spaces (t ++ 10 ∷ u) in subst P (sym (append-nil a)) (spaces_joined t u a s s')), f.1, o.1, refl),
-      together_append first (joined others) f.0 (joined o.0) f.2 (same_joined others o.0 o.2) ∙ sym (ap (map places) e') ∙ sym (ap (λ x. map places x ++ map places ss) e),
+      both_cons (map places f.0) (map places first) (map (map places) o.0) (map (map places) others) f.2 o.2 ∙ sym (ap (map (map places)) e') ∙ sym (ap (λ x. map (map places) x ++ map (map places) sss) e),
     )
-layer_then n k m t rs u ss (inr (a, b, first, others, s, h, l, e)) w =
+features_then n k m t rss u sss (inr (a, b, first, others, s, h, l, e)) w =
     let f = geometry_on n m (10 ∷ u) a first b h in
-    let o = geometries_then n k m b others u ss l w in (
-      f.0 ++ joined o.0,
+    let o = geometries_then n k m b others u sss l w in (
+      f.0 ∷ o.0,
       inr (a ++ 10 ∷ u, b ++ 10 ∷ u, f.0, o.0, spaces_on (10 ∷ u) t a s, f.1, o.1, refl),
-      map-append places f.0 (joined o.0) ∙ ap (λ x. x ++ map places (joined o.0)) f.2 ∙ ap (λ x. map places first ++ x) o.2
-          ∙ sym (append_assoc (map places first) (map places (joined others)) (map places ss)) ∙ ap (λ x. x ++ map places ss) (sym (map-append places first (joined others)) ∙ sym (ap (map places) e)),
+      both_cons (map places f.0) (map places first) (map (map places) o.0) (map (map places) others ++ map (map places) sss) f.2 o.2 ∙ sym (ap (λ x. map (map places) x ++ map (map places) sss) e),
     )
+
+-- and their rings
+joined_together : (wss rss sss : List (List Ring)) → Together wss rss sss → map places (joined wss) ≡ map places (joined rss) ++ map places (joined sss)
+joined_together wss rss sss e =
+    joined_places wss ∙ ap (flat_map (λ x. x)) e ∙ flat_map-append (λ (x : List (List Pt)). x) (map (map places) rss) (map (map places) sss)
+    ∙ ap (λ x. x ++ flat_map (λ x. x) (map (map places) sss)) (sym (joined_places rss)) ∙ ap (λ x. map places (joined rss) ++ x) (sym (joined_places sss))
 
 -- ---- nothing is wrong with rings whose points are right
 
@@ -205,20 +207,44 @@ plain_is : (ws : List Ring) → plain ws ≡ map opened (map places ws)
 plain_is [] = refl
 plain_is (r ∷ rest) = both_cons (take (length r.points - 1) (places r)) (opened (places r)) (plain rest) (map opened (map places rest)) (ap (λ n. take (n - 1) (places r)) (sym (length-map r.points place_of))) (plain_is rest)
 
+plains_are : (wss : List (List Ring)) → map plain wss ≡ map (map opened) (map (map places) wss)
+plains_are [] = refl
+plains_are (ws ∷ wss) = both_cons (plain ws) (map opened (map places ws)) (map plain wss) (map (map opened) (map (map places) wss)) (plain_is ws) (plains_are wss)
+
 -- ---- the text of both parts
 
-pub parted : (t u : List ℕ) (rings more : List (List Pt)) → length (t ++ 10 ∷ u) ≤ length_limit → StandsFor t rings → StandsFor u more → StandsFor (t ++ 10 ∷ u) (rings ++ more)
-unfolding IsLayer
-parted t u rings more short (rs, a, e) (ss, b, f) = (ws.0, record { read = record { short = short; layer = ws.1 }; inside = inside; sound = sound }, is)
+layer_of : (text : List ℕ) (fs : List (List Ring)) → HasFeatures text fs → IsLayer text (joined fs)
+unfolding IsLayer HasFeatures
+layer_of text fs (inl (s, e)) = inl (s, ap joined e)
+layer_of text fs (inr (u, v, first, others, s, item, more, e)) = inr (u, v, first, others, s, item, more, ap joined e)
+
+both_features : (t u : List ℕ) (rss sss : List (List Ring)) → HasFeatures t rss → HasFeatures u sss → (wss : List (List Ring)) × HasFeatures (t ++ 10 ∷ u) wss × Together wss rss sss
+unfolding HasFeatures
+both_features t u rss sss h k = features_then (length t) (length u) (length (t ++ 10 ∷ u)) t rss u sss h k
+
+pub features_parted : (t u : List ℕ) (features more : List (List (List Pt))) → length (t ++ 10 ∷ u) ≤ length_limit → StandsForFeatures t features → StandsForFeatures u more → StandsForFeatures (t ++ 10 ∷ u) (features ++ more)
+features_parted t u features more short (rss, h, a, e) (sss, k, b, f) =
+    (ws.0, ws.1, record { read = record { short = short; layer = layer_of (t ++ 10 ∷ u) ws.0 ws.1 }; inside = inside; sound = sound }, is)
   where
-    ws : (ws : List Ring) × IsLayerAt (length (t ++ 10 ∷ u)) (t ++ 10 ∷ u) ws × Together ws rs ss
-    ws = layer_then (length t) (length u) (length (t ++ 10 ∷ u)) t rs u ss a.read.layer b.read.layer
+    ws : (wss : List (List Ring)) × HasFeatures (t ++ 10 ∷ u) wss × Together wss rss sss
+    ws = both_features t u rss sss h k
 
-    inside : first_outside (all_numbers ws.0) ≡ None
-    inside = inside_rings ws.0 (subst (AllByRecursion (AllByRecursion InLimit)) (sym ws.2) (both_all (AllByRecursion InLimit) (map places rs) (map places ss) (rings_inside rs a.inside) (rings_inside ss b.inside)))
+    rings : map places (joined ws.0) ≡ map places (joined rss) ++ map places (joined sss)
+    rings = joined_together ws.0 rss sss ws.2
 
-    sound : first_fault ws.0 ≡ None
-    sound = sound_rings ws.0 (subst (AllByRecursion IsSound) (sym ws.2) (both_all IsSound (map places rs) (map places ss) (rings_sound rs a.sound) (rings_sound ss b.sound)))
+    inside : first_outside (all_numbers (joined ws.0)) ≡ None
+    inside = inside_rings (joined ws.0) (subst (AllByRecursion (AllByRecursion InLimit)) (sym rings) (both_all (AllByRecursion InLimit) (map places (joined rss)) (map places (joined sss)) (rings_inside (joined rss) a.inside) (rings_inside (joined sss) b.inside)))
 
-    is : plain ws.0 ≡ rings ++ more
-    is = plain_is ws.0 ∙ ap (map opened) ws.2 ∙ map-append opened (map places rs) (map places ss) ∙ ap (λ x. x ++ map opened (map places ss)) (sym (plain_is rs) ∙ e) ∙ ap (λ x. rings ++ x) (sym (plain_is ss) ∙ f)
+    sound : first_fault (joined ws.0) ≡ None
+    sound = sound_rings (joined ws.0) (subst (AllByRecursion IsSound) (sym rings) (both_all IsSound (map places (joined rss)) (map places (joined sss)) (rings_sound (joined rss) a.sound) (rings_sound (joined sss) b.sound)))
+
+    is : map plain ws.0 ≡ features ++ more
+    is = plains_are ws.0 ∙ ap (map (map opened)) ws.2 ∙ map-append (map opened) (map (map places) rss) (map (map places) sss)
+        ∙ ap (λ x. x ++ map (map opened) (map (map places) sss)) (sym (plains_are rss) ∙ e) ∙ ap (λ x. features ++ x) (sym (plains_are sss) ∙ f)
+
+pub parted : (t u : List ℕ) (rings more : List (List Pt)) → length (t ++ 10 ∷ u) ≤ length_limit → StandsFor t rings → StandsFor u more → StandsFor (t ++ 10 ∷ u) (rings ++ more)
+parted t u rings more short h k =
+    let f = stands_apart t rings h in
+    let g = stands_apart u more k in
+    let is : all_rings (f.0 ++ g.0) ≡ rings ++ more = flat_map-append (λ (x : List (List Pt)). x) f.0 g.0 ∙ ap (λ x. x ++ all_rings g.0) f.2 ∙ ap (λ x. rings ++ x) g.2 in
+    subst (StandsFor (t ++ 10 ∷ u)) is (stands_joined (t ++ 10 ∷ u) (f.0 ++ g.0) (features_parted t u f.0 g.0 short f.1 g.1))

@@ -10,9 +10,9 @@ use Rattle.wkt.specs.declared.places.Class.TheVariants.{Space, Digit, Minus, Ope
 use Rattle.wkt.specs.declared.reader.Number.{Number as Numeral}
 use Rattle.wkt.specs.declared.reader.Reader.{Reader}
 use Rattle.wkt.specs.declared.reader.Event.{Event}
-use Rattle.wkt.specs.declared.reader.Event.TheVariants.{Nothing}
-use Rattle.wkt.specs.Machine.{class_of, turn, Notes, noted, step, run, start, is_multi_after}
-use Rattle.wkt.specs.Reading.{with_digit, number_next, x_next, event_of, ReaderIs, Says, Went}
+use Rattle.wkt.specs.declared.reader.Event.TheVariants.{Nothing, Geometry}
+use Rattle.wkt.specs.Machine.{class_of, turn, Notes, started, noted, step, run, start, is_multi_after}
+use Rattle.wkt.specs.Reading.{with_digit, number_next, x_next, event_of, begins_geometry, ReaderIs, Says, Went}
 use Rattle.wkt.specs.Running.{HasRead, HasPassed, Passes, before, behind_minus, behind_digit, reader_at, PassesSpaces, PassesDigits, PassesNumber, Stands}
 use Rattle.wkt.proofs.Fronts.{goes_on, noted_multi}
 use Rattle.wkt.proofs.Steps.{went}
@@ -52,23 +52,54 @@ read_more text at r m e r' lt h w =
 
 -- ---- what nothing completes
 
-pub passes_none : (text : List ℕ) (at : ℕ) (r : Reader) → at ≤ length text → Passes text at at r r
-passes_none text at r le = record { onward = omega arith; within = le; passed = λ m h. record { notes = m; read = h; rings = refl; ring_at = refl; points = refl } }
+pub passes_none : (text : List ℕ) (at : ℕ) (r : Reader) → at ≤ length text → Passes text at at false r r
+passes_none text at r le = record { onward = omega arith; within = le; passed = λ m h. record { notes = m; read = h; rings = refl; ring_at = refl; points = refl; starts = refl } }
 
-pub passes_then : (text : List ℕ) (a b c : ℕ) (q r s : Reader) → Passes text a b q r → Passes text b c r s → Passes text a c q s
-passes_then text a b c q r s f g = record {
+pub passes_then : {begun : Bool} (text : List ℕ) (a b c : ℕ) (q r s : Reader) → Passes text a b begun q r → Passes text b c false r s → Passes text a c begun q s
+passes_then {begun} text a b c q r s f g = record {
   onward = omega (arith, f.onward, g.onward);
   within = g.within;
   passed = λ m h.
-      let p : HasPassed text b r m = f.passed m h in
-      let k : HasPassed text c s p.notes = g.passed p.notes p.read in
-      record { notes = k.notes; read = k.read; rings = k.rings ∙ p.rings; ring_at = k.ring_at ∙ p.ring_at; points = k.points ∙ p.points };
+      let p : HasPassed text b begun r m = f.passed m h in
+      let k : HasPassed text c false s p.notes = g.passed p.notes p.read in
+      record { notes = k.notes; read = k.read; rings = k.rings ∙ p.rings; ring_at = k.ring_at ∙ p.ring_at; points = k.points ∙ p.points; starts = k.starts ∙ p.starts };
 }
 
+-- a geometry begins behind bytes among which none begins
+begins_then : (text : List ℕ) (a b c : ℕ) (q r s : Reader) → Passes text a b false q r → Passes text b c true r s → Passes text a c true q s
+begins_then text a b c q r s f g = record {
+  onward = omega (arith, f.onward, g.onward);
+  within = g.within;
+  passed = λ m h.
+      let p : HasPassed text b false r m = f.passed m h in
+      let k : HasPassed text c true s p.notes = g.passed p.notes p.read in
+      record {
+        notes = k.notes;
+        read = k.read;
+        rings = k.rings ∙ p.rings;
+        ring_at = k.ring_at ∙ p.ring_at;
+        points = k.points ∙ p.points;
+        starts = k.starts ∙ ap (λ x. started true x p.notes.rings) p.starts ∙ ap (started true m.starts) p.rings;
+      };
+}
+
+-- the event of a byte that completes nothing
+abbrev quiet : Bool → Event
+quiet true = Geometry
+quiet false = Nothing
+
+quiet_says : (begun : Bool) (at : ℕ) (m m' : Notes) → Says (quiet begun) at m m' → (m'.rings ≡ m.rings) × (m'.ring_at ≡ m.ring_at) × (m'.points ≡ m.points)
+quiet_says true at m m' h = h
+quiet_says false at m m' h = h
+
+quiet_begins : (begun : Bool) → begins_geometry (quiet begun) ≡ begun
+quiet_begins true = refl
+quiet_begins false = refl
+
 -- one byte that completes nothing
-passes_byte : (text : List ℕ) (at : ℕ) (k : Class) (old : Reader) (next : Place) → at < length text → class_of (get_or text at 0) ≡ k → turn old.place k old.multi ≡ Some next → event_of old.place k old.x old.number ≡ Nothing
-    → Passes text at (at + 1) old (record { place = next; multi = is_multi_after old.place k old.multi; x = x_next old.place k old.x old.number; number = number_next old.place k at old.number })
-passes_byte text at k old next lt is turns none = record {
+passes_byte : (text : List ℕ) (at : ℕ) (begun : Bool) (k : Class) (old : Reader) (next : Place) → at < length text → class_of (get_or text at 0) ≡ k → turn old.place k old.multi ≡ Some next → event_of old.place k old.x old.number ≡ quiet begun
+    → Passes text at (at + 1) begun old (record { place = next; multi = is_multi_after old.place k old.multi; x = x_next old.place k old.x old.number; number = number_next old.place k at old.number })
+passes_byte text at begun k old next lt is turns none = record {
   onward = omega arith;
   within = omega arith;
   passed = λ m h.
@@ -76,33 +107,40 @@ passes_byte text at k old next lt is turns none = record {
       let e : Event = event_of old.place k old.x old.number in
       let m' : Notes = noted at old.place (class_of (get_or text at 0)) m in
       let w : Went at (get_or text at 0) old m e new = went at (get_or text at 0) k old m next (sym is) (sym turns) h.is in
-      let s : Says Nothing at m m' = subst (λ (x : Event). Says x at m m') none w.says in
-      record { notes = m'; read = read_more text at old m e new lt h w; rings = s.0; ring_at = s.1; points = s.2 };
+      let s : (m'.rings ≡ m.rings) × (m'.ring_at ≡ m.ring_at) × (m'.points ≡ m.points) = quiet_says begun at m m' (subst (λ (x : Event). Says x at m m') none w.says) in
+      record {
+        notes = m';
+        read = read_more text at old m e new lt h w;
+        rings = s.0;
+        ring_at = s.1;
+        points = s.2;
+        starts = w.starts ∙ ap (λ (x : Event). started (begins_geometry x) m.starts m.rings) none ∙ ap (λ (b : Bool). started b m.starts m.rings) (quiet_begins begun);
+      };
 }
 
-space : (text : List ℕ) (at : ℕ) → at < length text → class_of (get_or text at 0) ≡ Space → (second multi : Bool) (x n : Numeral) → Passes text at (at + 1) (reader_at (before second) multi x n) (reader_at (before second) multi x n)
-space text at lt is false multi x n = passes_byte text at Space (reader_at BeforePoint multi x n) BeforePoint lt is refl refl
-space text at lt is true multi x n = passes_byte text at Space (reader_at BeforeY multi x n) BeforeY lt is refl refl
+space : (text : List ℕ) (at : ℕ) → at < length text → class_of (get_or text at 0) ≡ Space → (second multi : Bool) (x n : Numeral) → Passes text at (at + 1) false (reader_at (before second) multi x n) (reader_at (before second) multi x n)
+space text at lt is false multi x n = passes_byte text at false Space (reader_at BeforePoint multi x n) BeforePoint lt is refl refl
+space text at lt is true multi x n = passes_byte text at false Space (reader_at BeforeY multi x n) BeforeY lt is refl refl
 
 minus : (text : List ℕ) (at : ℕ) → at < length text → class_of (get_or text at 0) ≡ Minus → (second multi : Bool) (x n : Numeral)
-    → Passes text at (at + 1) (reader_at (before second) multi x n) (reader_at (behind_minus second) multi x (record { at = at; negative = true; magnitude = 0 }))
-minus text at lt is false multi x n = passes_byte text at Minus (reader_at BeforePoint multi x n) MinusX lt is refl refl
-minus text at lt is true multi x n = passes_byte text at Minus (reader_at BeforeY multi x n) MinusY lt is refl refl
+    → Passes text at (at + 1) false (reader_at (before second) multi x n) (reader_at (behind_minus second) multi x (record { at = at; negative = true; magnitude = 0 }))
+minus text at lt is false multi x n = passes_byte text at false Minus (reader_at BeforePoint multi x n) MinusX lt is refl refl
+minus text at lt is true multi x n = passes_byte text at false Minus (reader_at BeforeY multi x n) MinusY lt is refl refl
 
 first_digit : (text : List ℕ) (at d : ℕ) → at < length text → class_of (get_or text at 0) ≡ Digit d → (second multi : Bool) (x n : Numeral)
-    → Passes text at (at + 1) (reader_at (before second) multi x n) (reader_at (behind_digit second) multi x (record { at = at; negative = false; magnitude = d }))
-first_digit text at d lt is false multi x n = passes_byte text at (Digit d) (reader_at BeforePoint multi x n) DigitsX lt is refl refl
-first_digit text at d lt is true multi x n = passes_byte text at (Digit d) (reader_at BeforeY multi x n) DigitsY lt is refl refl
+    → Passes text at (at + 1) false (reader_at (before second) multi x n) (reader_at (behind_digit second) multi x (record { at = at; negative = false; magnitude = d }))
+first_digit text at d lt is false multi x n = passes_byte text at false (Digit d) (reader_at BeforePoint multi x n) DigitsX lt is refl refl
+first_digit text at d lt is true multi x n = passes_byte text at false (Digit d) (reader_at BeforeY multi x n) DigitsY lt is refl refl
 
 signed_digit : (text : List ℕ) (at d : ℕ) → at < length text → class_of (get_or text at 0) ≡ Digit d → (second multi : Bool) (x n : Numeral)
-    → Passes text at (at + 1) (reader_at (behind_minus second) multi x n) (reader_at (behind_digit second) multi x (record n { magnitude = d }))
-signed_digit text at d lt is false multi x n = passes_byte text at (Digit d) (reader_at MinusX multi x n) DigitsX lt is refl refl
-signed_digit text at d lt is true multi x n = passes_byte text at (Digit d) (reader_at MinusY multi x n) DigitsY lt is refl refl
+    → Passes text at (at + 1) false (reader_at (behind_minus second) multi x n) (reader_at (behind_digit second) multi x (record n { magnitude = d }))
+signed_digit text at d lt is false multi x n = passes_byte text at false (Digit d) (reader_at MinusX multi x n) DigitsX lt is refl refl
+signed_digit text at d lt is true multi x n = passes_byte text at false (Digit d) (reader_at MinusY multi x n) DigitsY lt is refl refl
 
 digit : (text : List ℕ) (at d : ℕ) → at < length text → class_of (get_or text at 0) ≡ Digit d → (second multi : Bool) (x n : Numeral)
-    → Passes text at (at + 1) (reader_at (behind_digit second) multi x n) (reader_at (behind_digit second) multi x (with_digit n d))
-digit text at d lt is false multi x n = passes_byte text at (Digit d) (reader_at DigitsX multi x n) DigitsX lt is refl refl
-digit text at d lt is true multi x n = passes_byte text at (Digit d) (reader_at DigitsY multi x n) DigitsY lt is refl refl
+    → Passes text at (at + 1) false (reader_at (behind_digit second) multi x n) (reader_at (behind_digit second) multi x (with_digit n d))
+digit text at d lt is false multi x n = passes_byte text at false (Digit d) (reader_at DigitsX multi x n) DigitsX lt is refl refl
+digit text at d lt is true multi x n = passes_byte text at false (Digit d) (reader_at DigitsY multi x n) DigitsY lt is refl refl
 
 -- ---- runs
 
@@ -140,54 +178,60 @@ negative text at end d read lt is lt' is' p = λ second multi x n.
 -- ---- a point
 
 -- behind its first number
-pub first_number : (text : List ℕ) (at from end : ℕ) (r : Reader) (read : Numeral) → r.place ≡ BeforePoint → PassesSpaces text at from → PassesNumber text from end read → Passes text at end r (reader_at DigitsX r.multi r.x read)
+pub first_number : (text : List ℕ) (at from end : ℕ) (r : Reader) (read : Numeral) → r.place ≡ BeforePoint → PassesSpaces text at from → PassesNumber text from end read → Passes text at end false r (reader_at DigitsX r.multi r.x read)
 first_number text at from end r read e f g =
     let b : Reader = reader_at BeforePoint r.multi r.x r.number in
-    subst (λ (p : Place). Passes text at end (reader_at p r.multi r.x r.number) (reader_at DigitsX r.multi r.x read)) (sym e)
+    subst (λ (p : Place). Passes text at end false (reader_at p r.multi r.x r.number) (reader_at DigitsX r.multi r.x read)) (sym e)
     (passes_then text at from end b b (reader_at DigitsX r.multi r.x read) (f false r.multi r.x r.number) (g false r.multi r.x r.number))
 
-pub before_first : (text : List ℕ) (at from : ℕ) (r : Reader) → r.place ≡ BeforePoint → PassesSpaces text at from → Passes text at from r r
+pub before_first : (text : List ℕ) (at from : ℕ) (r : Reader) → r.place ≡ BeforePoint → PassesSpaces text at from → Passes text at from false r r
 before_first text at from r e f =
-    subst (λ (p : Place). Passes text at from (reader_at p r.multi r.x r.number) (reader_at p r.multi r.x r.number)) (sym e) (f false r.multi r.x r.number)
+    subst (λ (p : Place). Passes text at from false (reader_at p r.multi r.x r.number) (reader_at p r.multi r.x r.number)) (sym e) (f false r.multi r.x r.number)
 
 -- behind the gap
-pub before_second : (text : List ℕ) (at from : ℕ) (r : Reader) → r.place ≡ DigitsX → at < length text → class_of (get_or text at 0) ≡ Space → PassesSpaces text (at + 1) from → Passes text at from r (reader_at BeforeY r.multi r.number r.number)
+pub before_second : (text : List ℕ) (at from : ℕ) (r : Reader) → r.place ≡ DigitsX → at < length text → class_of (get_or text at 0) ≡ Space → PassesSpaces text (at + 1) from → Passes text at from false r (reader_at BeforeY r.multi r.number r.number)
 before_second text at from r e lt is f =
     let b : Reader = reader_at BeforeY r.multi r.number r.number in
-    subst (λ (p : Place). Passes text at from (reader_at p r.multi r.x r.number) b) (sym e)
+    subst (λ (p : Place). Passes text at from false (reader_at p r.multi r.x r.number) b) (sym e)
     (passes_then text at (at + 1) from (reader_at DigitsX r.multi r.x r.number) b b
-    (passes_byte text at Space (reader_at DigitsX r.multi r.x r.number) BeforeY lt is refl refl) (f true r.multi r.number r.number))
+    (passes_byte text at false Space (reader_at DigitsX r.multi r.x r.number) BeforeY lt is refl refl) (f true r.multi r.number r.number))
 
 pub second_number : (text : List ℕ) (at from end : ℕ) (r : Reader) (read : Numeral) → r.place ≡ DigitsX → at < length text → class_of (get_or text at 0) ≡ Space → PassesSpaces text (at + 1) from → PassesNumber text from end read
-    → Passes text at end r (reader_at DigitsY r.multi r.number read)
+    → Passes text at end false r (reader_at DigitsY r.multi r.number read)
 second_number text at from end r read e lt is f g =
     passes_then text at from end r (reader_at BeforeY r.multi r.number r.number) (reader_at DigitsY r.multi r.number read) (before_second text at from r e lt is f) (g true r.multi r.number r.number)
 
 -- ---- from a polygon's last ring to the next polygon's first
 
--- one byte more of what completes nothing and leaves the numbers
-then_byte : (text : List ℕ) (at i : ℕ) (k : Class) (r : Reader) (p q : Place) (x n : Numeral) → at + i < length text → class_of (get_or text (at + i) 0) ≡ k → turn p k false ≡ Some q → event_of p k x n ≡ Nothing
-    → is_multi_after p k false ≡ false → x_next p k x n ≡ x → number_next p k (at + i) n ≡ n → Passes text at (at + i) r (reader_at p false x n) → Passes text at (at + (i + 1)) r (reader_at q false x n)
-then_byte text at i k r p q x n lt is t e f g h before =
+-- one byte of what completes nothing and leaves the numbers
+byte_at : (text : List ℕ) (at i : ℕ) (begun : Bool) (k : Class) (p q : Place) (x n : Numeral) → at + i < length text → class_of (get_or text (at + i) 0) ≡ k → turn p k false ≡ Some q → event_of p k x n ≡ quiet begun
+    → is_multi_after p k false ≡ false → x_next p k x n ≡ x → number_next p k (at + i) n ≡ n → Passes text (at + i) (at + (i + 1)) begun (reader_at p false x n) (reader_at q false x n)
+byte_at text at i begun k p q x n lt is t e f g h =
     let old : Reader = reader_at p false x n in
-    let here : Passes text (at + i) (at + i + 1) old (reader_at q (is_multi_after p k false) (x_next p k x n) (number_next p k (at + i) n)) = passes_byte text (at + i) k old q lt is t e in
-    let same : Passes text (at + i) (at + i + 1) old (reader_at q false x n) =
-    subst (λ (m : Numeral). Passes text (at + i) (at + i + 1) old (reader_at q false x m)) h
-    (subst (λ (y : Numeral). Passes text (at + i) (at + i + 1) old (reader_at q false y (number_next p k (at + i) n))) g
-    (subst (λ (b : Bool). Passes text (at + i) (at + i + 1) old (reader_at q b (x_next p k x n) (number_next p k (at + i) n))) f here)) in
+    let here : Passes text (at + i) (at + i + 1) begun old (reader_at q (is_multi_after p k false) (x_next p k x n) (number_next p k (at + i) n)) = passes_byte text (at + i) begun k old q lt is t e in
+    let same : Passes text (at + i) (at + i + 1) begun old (reader_at q false x n) =
+    subst (λ (m : Numeral). Passes text (at + i) (at + i + 1) begun old (reader_at q false x m)) h
+    (subst (λ (y : Numeral). Passes text (at + i) (at + i + 1) begun old (reader_at q false y (number_next p k (at + i) n))) g
+    (subst (λ (b : Bool). Passes text (at + i) (at + i + 1) begun old (reader_at q b (x_next p k x n) (number_next p k (at + i) n))) f here)) in
     let ends : at + i + 1 ≡ at + (i + 1) = omega arith in
-    subst (λ (j : ℕ). Passes text at j r (reader_at q false x n)) ends (passes_then text at (at + i) (at + i + 1) r old (reader_at q false x n) before same)
+    subst (λ (j : ℕ). Passes text (at + i) j begun old (reader_at q false x n)) ends same
+
+-- one byte more
+then_byte : {begun : Bool} (text : List ℕ) (at i : ℕ) (k : Class) (r : Reader) (p q : Place) (x n : Numeral) → at + i < length text → class_of (get_or text (at + i) 0) ≡ k → turn p k false ≡ Some q → event_of p k x n ≡ Nothing
+    → is_multi_after p k false ≡ false → x_next p k x n ≡ x → number_next p k (at + i) n ≡ n → Passes text at (at + i) begun r (reader_at p false x n) → Passes text at (at + (i + 1)) begun r (reader_at q false x n)
+then_byte text at i k r p q x n lt is t e f g h before =
+    passes_then text at (at + i) (at + (i + 1)) r (reader_at p false x n) (reader_at q false x n) before (byte_at text at i false k p q x n lt is t e f g h)
 
 abbrev next_word : List ℕ
 next_word = 41 ∷ 10 ∷ 80 ∷ 79 ∷ 76 ∷ 89 ∷ 71 ∷ 79 ∷ 78 ∷ 32 ∷ 40 ∷ []
 
-next_polygon_at : (text : List ℕ) (at : ℕ) (x n : Numeral) → Stands text at next_word → Passes text at (at + 11) (reader_at AfterRing false x n) (reader_at BeforeRing false x n)
+next_polygon_at : (text : List ℕ) (at : ℕ) (x n : Numeral) → Stands text at next_word → Passes text at (at + 11) true (reader_at AfterRing false x n) (reader_at BeforeRing false x n)
 next_polygon_at text at x n s =
     let r : Reader = reader_at AfterRing false x n in
     let inside : (i : ℕ) → i < 11 → at + i < length text = λ i lt. omega (arith, lt, s.within) in
     let class_at : (i : ℕ) → i < 11 → class_of (get_or text (at + i) 0) ≡ class_of (get_or next_word i 0) = λ i lt. ap class_of (s.bytes i lt) in
     let none : at + 0 ≡ at = omega arith in
-    let start : Passes text at (at + 0) r r = subst (λ (j : ℕ). Passes text at j r r) (sym none) (passes_none text at r (omega (arith, s.within))) in
+    let start : Passes text at (at + 0) false r r = subst (λ (j : ℕ). Passes text at j false r r) (sym none) (passes_none text at r (omega (arith, s.within))) in
     then_byte text at 10 Open r KeywordGap BeforeRing x n (inside 10 (lit< tt)) (class_at 10 (lit< tt)) refl refl refl refl refl
     (then_byte text at 9 Space r (Keyword 12) KeywordGap x n (inside 9 (lit< tt)) (class_at 9 (lit< tt)) refl refl refl refl refl
     (then_byte text at 8 (Letter 78) r (Keyword 11) (Keyword 12) x n (inside 8 (lit< tt)) (class_at 8 (lit< tt)) refl refl refl refl refl
@@ -196,11 +240,12 @@ next_polygon_at text at x n s =
     (then_byte text at 5 (Letter 89) r (Keyword 8) (Keyword 9) x n (inside 5 (lit< tt)) (class_at 5 (lit< tt)) refl refl refl refl refl
     (then_byte text at 4 (Letter 76) r (Keyword 7) (Keyword 8) x n (inside 4 (lit< tt)) (class_at 4 (lit< tt)) refl refl refl refl refl
     (then_byte text at 3 (Letter 79) r (Keyword 6) (Keyword 7) x n (inside 3 (lit< tt)) (class_at 3 (lit< tt)) refl refl refl refl refl
-    (then_byte text at 2 (Letter 80) r Between (Keyword 6) x n (inside 2 (lit< tt)) (class_at 2 (lit< tt)) refl refl refl refl refl
+    (begins_then text at (at + 2) (at + 3) r (reader_at Between false x n) (reader_at (Keyword 6) false x n)
     (then_byte text at 1 Space r Ended Between x n (inside 1 (lit< tt)) (class_at 1 (lit< tt)) refl refl refl refl refl
-    (then_byte text at 0 Close r AfterRing Ended x n (inside 0 (lit< tt)) (class_at 0 (lit< tt)) refl refl refl refl refl start))))))))))
+    (then_byte text at 0 Close r AfterRing Ended x n (inside 0 (lit< tt)) (class_at 0 (lit< tt)) refl refl refl refl refl start))
+    (byte_at text at 2 true (Letter 80) Between (Keyword 6) x n (inside 2 (lit< tt)) (class_at 2 (lit< tt)) refl refl refl refl refl)))))))))
 
-pub next_polygon : (text : List ℕ) (at : ℕ) (r : Reader) → r.place ≡ AfterRing → r.multi ≡ false → Stands text at next_word → Passes text at (at + 11) r (reader_at BeforeRing r.multi r.x r.number)
+pub next_polygon : (text : List ℕ) (at : ℕ) (r : Reader) → r.place ≡ AfterRing → r.multi ≡ false → Stands text at next_word → Passes text at (at + 11) true r (reader_at BeforeRing r.multi r.x r.number)
 next_polygon text at r e f s =
-    subst (λ (p : Place). Passes text at (at + 11) (reader_at p r.multi r.x r.number) (reader_at BeforeRing r.multi r.x r.number)) (sym e)
-    (subst (λ (b : Bool). Passes text at (at + 11) (reader_at AfterRing b r.x r.number) (reader_at BeforeRing b r.x r.number)) (sym f) (next_polygon_at text at r.x r.number s))
+    subst (λ (p : Place). Passes text at (at + 11) true (reader_at p r.multi r.x r.number) (reader_at BeforeRing r.multi r.x r.number)) (sym e)
+    (subst (λ (b : Bool). Passes text at (at + 11) true (reader_at AfterRing b r.x r.number) (reader_at BeforeRing b r.x r.number)) (sym f) (next_polygon_at text at r.x r.number s))

@@ -12,8 +12,8 @@ use Rattle.wkt.specs.declared.reader.Number.{Number as Numeral}
 use Rattle.wkt.specs.declared.reader.Reader.{Reader}
 use Rattle.wkt.specs.declared.reader.Event.TheVariants.{Point as EventPoint, Last}
 use Rattle.wkt.specs.LayerText.{multipolygon_word, empty_word}
-use Rattle.wkt.specs.Machine.{class_of, turn, opened, closed, Notes, signed, number, noted, is_multi_after}
-use Rattle.wkt.specs.Reading.{u32_max, number_next, x_next, event_of, IsNumeralOf, IsNumeralFor, Idle, ReaderIs, Says, Went}
+use Rattle.wkt.specs.Machine.{class_of, turn, opened, closed, Notes, signed, number, started, with_geometry, noted, is_multi_after}
+use Rattle.wkt.specs.Reading.{u32_max, number_next, x_next, event_of, begins_geometry, IsNumeralOf, IsNumeralFor, Idle, ReaderIs, Says, Went}
 use Rattle.wkt.proofs.Bytes.{IsKind, kinds}
 use Rattle.wkt.proofs.Fronts.{noted_multi}
 
@@ -96,6 +96,24 @@ says at DigitsY (Digit d) x c m h n i = (refl, refl, refl)
 says at DigitsX Space x c m h n i = (refl, refl, refl)
 says at p k x c m h n i = (refl, refl, refl)
 
+starts : (at : ℕ) (p : Place) (k : Class) (x c : Numeral) (m : Notes) → (noted at p k m).starts ≡ started (begins_geometry (event_of p k x c)) m.starts m.rings
+starts at Between (Letter l) x c m = refl
+starts at BeforeRing Open x c m = refl
+starts at DigitsY Space x c m = refl
+starts at DigitsY Comma x c m = refl
+starts at DigitsY Close x c m = refl
+starts at AfterPoint Close x c m = refl
+starts at BeforePoint Minus x c m = refl
+starts at BeforeY Minus x c m = refl
+starts at BeforePoint (Digit d) x c m = refl
+starts at BeforeY (Digit d) x c m = refl
+starts at MinusX (Digit d) x c m = refl
+starts at MinusY (Digit d) x c m = refl
+starts at DigitsX (Digit d) x c m = refl
+starts at DigitsY (Digit d) x c m = refl
+starts at DigitsX Space x c m = refl
+starts at p k x c m = refl
+
 opened_idle : (multi : Bool) (m : Notes) → m.points ≡ [] → Idle (opened multi) m
 opened_idle true m e = e
 opened_idle false m e = e
@@ -109,7 +127,7 @@ empty_idle k m e = elim (eqb k 4) as (λ b. Idle (cond b Ended (Empty (k + 1))) 
 
 idles : (at : ℕ) (p : Place) (k : Class) (m : Notes) → Idle p m → IfSome (turn p k m.multi) (λ q. Idle q (noted at p k m))
 idles at Between Space m g = g
-idles at Between (Letter c) m g = if_cond (eqb c 77) _ _ (λ q. Idle q (record m { multi = eqb c 77 })) (λ e. g) (λ e. if_one (eqb c 80) _ (λ q. Idle q (record m { multi = eqb c 77 })) (λ f. g))
+idles at Between (Letter c) m g = if_cond (eqb c 77) _ _ (λ q. Idle q (with_geometry (eqb c 77) m)) (λ e. g) (λ e. if_one (eqb c 80) _ (λ q. Idle q (with_geometry (eqb c 77) m)) (λ f. g))
 idles at (Keyword k) (Letter c) m g = if_one (ltb k 12 && eqb c (slice_index multipolygon_word k)) _ (λ q. Idle q m) (λ e. g)
 idles at (Keyword k) Space m g = if_one (eqb k 12) _ (λ q. Idle q m) (λ e. g)
 idles at (Keyword k) Open m g = if_one (eqb k 12) _ (λ q. Idle q m) (λ e. opened_idle m.multi m g)
@@ -160,6 +178,7 @@ went at byte k old m next e f r =
       place = t;
       notes = (multis at old.place (class_of byte) old.multi m r.0, firsts at old.place (class_of byte) old.x old.number m r.1 r.2, numbers at old.place (class_of byte) old.number m (subst IsSmall e s) r.2, i);
       says = says at old.place (class_of byte) old.x old.number m r.1 r.2 r.3;
+      starts = starts at old.place (class_of byte) old.x old.number m;
     } in
     subst (λ (x : Class). Went at byte old m (event_of old.place x old.x old.number) (record { place = next; multi = is_multi_after old.place x old.multi; x = x_next old.place x old.x old.number; number = number_next old.place x at old.number })) (sym e) w
 

@@ -8,7 +8,7 @@ use Rattle.std.proofs.lemmas.Bool.Decides.{nat_tests}
 use Rattle.geom.specs.declared.point.Pt.{Pt}
 use Rattle.wkt.specs.declared.reader.Number.{Number as Numeral}
 use Rattle.wkt.specs.declared.reader.Event.{Event}
-use Rattle.wkt.specs.declared.reader.Event.TheVariants.{Nothing, Open as Opens, Point as EventPoint, Last, Close as Closes}
+use Rattle.wkt.specs.declared.reader.Event.TheVariants.{Nothing, Geometry, Open as Opens, Point as EventPoint, Last, Close as Closes}
 use Rattle.geom.specs.declared.fault.Fault.{Fault}
 use Rattle.geom.specs.declared.fault.Fault.TheVariants.{RingShort, RingOpen}
 use Rattle.wkt.specs.LayerText.{Number, Point, Ring}
@@ -303,6 +303,7 @@ at_notes s r r' a a' p p' e f g h = subst (λ (x : List Point). Surveyed s r' a'
 
 pub noted_survey : (s : Shown) (at : ℕ) (e : Event) (m m' : Notes) → Says e at m m' → SurveyedAt s m → SurveyedAt (took s at e) m'
 noted_survey s at Nothing m m' h c = at_notes s m.rings m'.rings m.ring_at m'.ring_at m.points m'.points (sym h.0) (sym h.1) (sym h.2) c
+noted_survey s at Geometry m m' h c = at_notes s m.rings m'.rings m.ring_at m'.ring_at m.points m'.points (sym h.0) (sym h.1) (sym h.2) c
 noted_survey s at Opens m m' h c =
     at_notes (opened_at s at) m.rings m'.rings at m'.ring_at [] m'.points (sym h.0) (sym h.1) (sym h.2)
     (open_step s m.rings m.ring_at at s.outside refl (subst (λ (x : List Point). Surveyed s m.rings m.ring_at x) h.3 c))

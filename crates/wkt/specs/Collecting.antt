@@ -4,7 +4,7 @@ use Rattle.geom.specs.declared.point.Pt.{Pt}
 use Rattle.wkt.specs.declared.read.Collector.{Collector}
 use Rattle.wkt.specs.declared.reader.Number.{Number as Numeral}
 use Rattle.wkt.specs.declared.reader.Event.{Event}
-use Rattle.wkt.specs.declared.reader.Event.TheVariants.{Nothing, Open, Point, Last, Close}
+use Rattle.wkt.specs.declared.reader.Event.TheVariants.{Nothing, Geometry, Open, Point, Last, Close}
 use Rattle.wkt.specs.Reading.{value_of}
 
 abbrev pub point_value : Numeral → Numeral → Pt
@@ -23,6 +23,7 @@ closed g = (if nat_lt (length g.1) 4 then (g.0, []) else (g.0 ++ but_last g.1 �
 
 abbrev pub gathered : Event → Gathered → Gathered
 gathered Nothing g = g
+gathered Geometry g = g
 gathered Open g = g
 gathered (Point x y) g = (g.0, g.1 ++ point_value x y ∷ [])
 gathered (Last x y) g = closed (g.0, g.1 ++ point_value x y ∷ [])

@@ -9,3 +9,5 @@ pub mod Surveying
 pub mod Collecting
 pub mod Readable
 pub mod WholeLines
+pub mod Features
+pub mod FeatureCollecting

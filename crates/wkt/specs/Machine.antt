@@ -56,10 +56,11 @@ turn AfterBody Comma multi = Some BeforeBody
 turn AfterBody Close multi = Some Ended
 turn place class multi = None
 
--- what was read: the rings that are whole, the ring, the point and the number at hand
+-- what was read: the rings that are whole, of each geometry the number of its first one, the ring, the point and the number at hand
 pub record Notes : Type 0 where
   pub multi : Bool
   pub rings : List Ring
+  pub starts : List ℕ
   pub ring_at : ℕ
   pub points : List Point
   pub x : Number
@@ -79,9 +80,17 @@ with_point m = m.points ++ record { x = m.x; y = number m } ∷ []
 abbrev pub with_ring : Notes → List Point → List Ring
 with_ring m points = m.rings ++ record { at = m.ring_at; points = points } ∷ []
 
+-- the starts with one more geometry, if one begins behind these rings
+abbrev pub started : Bool → List ℕ → List Ring → List ℕ
+started begun starts rings = if begun then starts ++ length rings ∷ [] else starts
+
+-- a geometry of this kind begins
+abbrev pub with_geometry : Bool → Notes → Notes
+with_geometry multi m = record m { multi = multi; starts = started true m.starts m.rings }
+
 -- what is noted at a byte of this class at this offset
 abbrev pub noted : ℕ → Place → Class → Notes → Notes
-noted at Between (Letter c) m = record m { multi = c == 77 }
+noted at Between (Letter c) m = with_geometry (c == 77) m
 noted at BeforeRing Open m = record m { ring_at = at; points = [] }
 noted at BeforePoint Minus m = record m { number_at = at; negative = true; magnitude = 0 }
 noted at BeforePoint (Digit d) m = record m { number_at = at; negative = false; magnitude = d }
@@ -112,7 +121,7 @@ run n s [] = Some s
 run n s (b ∷ t) = option_and_then (λ s'. run n s' t) (step (n - length (b ∷ t)) s (class_of b))
 
 abbrev pub start : State
-start = record { place = Between; notes = record { multi = false; rings = []; ring_at = 0; points = []; x = record { at = 0; value = pos 0 }; number_at = 0; negative = false; magnitude = 0 } }
+start = record { place = Between; notes = record { multi = false; rings = []; starts = []; ring_at = 0; points = []; x = record { at = 0; value = pos 0 }; number_at = 0; negative = false; magnitude = 0 } }
 
 -- where a text may end
 abbrev pub may_end : Place → Bool

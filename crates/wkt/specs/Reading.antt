@@ -2,15 +2,15 @@
 use Rattle.std.specs.Prelude.{◌≡◌, ℕ, ◌+◌, ◌*◌, Bool, true, false, min, nat_lt, if◌then◌else◌, [], ◌∷◌, ◌++◌, ℤ, Option, Some, None, MatchOption}
 use Rattle.geom.specs.Limit.{coordinate_limit}
 use Rattle.wkt.specs.declared.places.Place.{Place}
-use Rattle.wkt.specs.declared.places.Place.TheVariants.{BeforeRing, BeforePoint, MinusX, DigitsX, BeforeY, MinusY, DigitsY, AfterPoint}
+use Rattle.wkt.specs.declared.places.Place.TheVariants.{Between, BeforeRing, BeforePoint, MinusX, DigitsX, BeforeY, MinusY, DigitsY, AfterPoint}
 use Rattle.wkt.specs.declared.places.Class.{Class}
-use Rattle.wkt.specs.declared.places.Class.TheVariants.{Space, Digit, Minus, Comma, Open, Close}
+use Rattle.wkt.specs.declared.places.Class.TheVariants.{Space, Digit, Minus, Comma, Open, Close, Letter}
 use Rattle.wkt.specs.declared.reader.Number.{Number as Numeral}
 use Rattle.wkt.specs.declared.reader.Reader.{Reader}
 use Rattle.wkt.specs.declared.reader.Event.{Event}
-use Rattle.wkt.specs.declared.reader.Event.TheVariants.{Nothing, Open as Opens, Point as EventPoint, Last, Close as Closes}
+use Rattle.wkt.specs.declared.reader.Event.TheVariants.{Nothing, Geometry, Open as Opens, Point as EventPoint, Last, Close as Closes}
 use Rattle.wkt.specs.LayerText.{Number, Point}
-use Rattle.wkt.specs.Machine.{class_of, turn, Notes, signed, with_ring, noted}
+use Rattle.wkt.specs.Machine.{class_of, turn, Notes, signed, with_ring, started, noted}
 
 abbrev pub u32_max : ℕ
 u32_max = 4294967295
@@ -38,12 +38,18 @@ x_next DigitsX Space x number = number
 x_next p k x number = x
 
 abbrev pub event_of : Place → Class → Numeral → Numeral → Event
+event_of Between (Letter c) x y = Geometry
 event_of BeforeRing Open x y = Opens
 event_of DigitsY Space x y = EventPoint x y
 event_of DigitsY Comma x y = EventPoint x y
 event_of DigitsY Close x y = Last x y
 event_of AfterPoint Close x y = Closes
 event_of p k x y = Nothing
+
+-- whether a geometry begins
+abbrev pub begins_geometry : Event → Bool
+begins_geometry Geometry = true
+begins_geometry e = false
 
 -- the numeral has this offset, this sign and this magnitude, or is at the greatest u32
 abbrev pub IsNumeralOf : Numeral → ℕ → Bool → ℕ → Type 0
@@ -74,6 +80,7 @@ StandFor x y p = IsNumeralFor x p.x × IsNumeralFor y p.y
 -- what an event says of the notes before it and behind it
 abbrev pub Says : Event → ℕ → Notes → Notes → Type 0
 Says Nothing at m m' = (m'.rings ≡ m.rings) × (m'.ring_at ≡ m.ring_at) × (m'.points ≡ m.points)
+Says Geometry at m m' = (m'.rings ≡ m.rings) × (m'.ring_at ≡ m.ring_at) × (m'.points ≡ m.points)
 Says Opens at m m' = (m'.rings ≡ m.rings) × (m'.ring_at ≡ at) × (m'.points ≡ []) × (m.points ≡ [])
 Says (EventPoint x y) at m m' = (p : Point) × StandFor x y p × (m'.rings ≡ m.rings) × (m'.ring_at ≡ m.ring_at) × (m'.points ≡ m.points ++ p ∷ [])
 Says (Last x y) at m m' = (p : Point) × StandFor x y p × (m'.ring_at ≡ m.ring_at) × (m'.rings ≡ with_ring m (m.points ++ p ∷ [])) × (m'.points ≡ [])
@@ -84,6 +91,7 @@ pub record Went (at byte : ℕ) (old : Reader) (m : Notes) (e : Event) (new : Re
   pub place : turn old.place (class_of byte) m.multi ≡ Some new.place
   pub notes : ReaderIs new (noted at old.place (class_of byte) m)
   pub says : Says e at m (noted at old.place (class_of byte) m)
+  pub starts : (noted at old.place (class_of byte) m).starts ≡ started (begins_geometry e) m.starts m.rings
 
 abbrev pub Stepped : ℕ → ℕ → Reader → Notes → Option Event → Reader → Type 0
 Stepped at byte old m result new = MatchOption result (turn old.place (class_of byte) m.multi ≡ None) (λ e. Went at byte old m e new)

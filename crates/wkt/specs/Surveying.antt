@@ -10,7 +10,7 @@ use Rattle.wkt.specs.declared.outline.Outline.{Outline}
 use Rattle.wkt.specs.declared.survey.Survey.{Survey}
 use Rattle.wkt.specs.declared.reader.Number.{Number as Numeral}
 use Rattle.wkt.specs.declared.reader.Event.{Event}
-use Rattle.wkt.specs.declared.reader.Event.TheVariants.{Nothing, Open, Point, Last, Close}
+use Rattle.wkt.specs.declared.reader.Event.TheVariants.{Nothing, Geometry, Open, Point, Last, Close}
 use Rattle.wkt.specs.Reading.{u32_max, value_of}
 
 -- the corners of a rectangle
@@ -99,6 +99,7 @@ closed_ring s = record s { fault = or_ring s.fault s; points = 0 }
 
 abbrev pub took : Shown → ℕ → Event → Shown
 took s at Nothing = s
+took s at Geometry = s
 took s at Open = opened_at s at
 took s at (Point x y) = pointed s x y
 took s at (Last x y) = closed_ring (pointed s x y)

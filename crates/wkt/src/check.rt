@@ -31,7 +31,8 @@ pub fn check_layer(text: &[u8]) -> Result<Outline, Fault>
             return Err(Fault::Syntax(at));
         };
         survey.note(at, event);
-        at = reader.pass(text, at + 1);
+        let passed = reader.pass(text, at + 1);
+        at = passed.at;
     }
     if !reader.may_end() {
         return Err(Fault::Syntax(text.len()));

@@ -5,6 +5,7 @@ ghost use Rattle.geom.specs.declared.fault.Fault.{Fault};
 ghost use Rattle.geom.specs.declared.point.Pt.{Pt};
 ghost use Rattle.wkt.specs.LayerText.{IsLayer, Ring};
 ghost use Rattle.wkt.specs.Refusals.{IsRefused, StandsFor};
+ghost use Rattle.wkt.specs.Features.{StandsForFeatures, all_rings};
 
 /// A text stands for at most one list of rings.
 pub fn one_reading()
@@ -16,4 +17,11 @@ pub fn one_reading()
 pub fn one_refusal()
     ensures reason { (text : List ℕ) (f g : Fault) → IsRefused text f → IsRefused text g → f ≡ g }
     ensures accepted { (text : List ℕ) (rings : List (List Pt)) (f : Fault) → StandsFor text rings → IsRefused text f → ⊥ }
+{}
+
+/// An accepted text has one list of features, and their rings are those that it stands for.
+pub fn one_list_of_features()
+    ensures one { (text : List ℕ) (a b : List (List (List Pt))) → StandsForFeatures text a → StandsForFeatures text b → a ≡ b }
+    ensures rings { (text : List ℕ) (features : List (List (List Pt))) → StandsForFeatures text features → StandsFor text (all_rings features) }
+    ensures some { (text : List ℕ) (rings : List (List Pt)) → StandsFor text rings → (features : List (List (List Pt))) × StandsForFeatures text features × (all_rings features ≡ rings) }
 {}

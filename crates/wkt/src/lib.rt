@@ -1,14 +1,18 @@
 //! Layer texts: a text in, the rings that it stands for out, or its one refusal; polygons in, their canonical line out.
 //!
-//! 1. One pass over the bytes checks grammar, numbers and rings and gathers these (`reader`, `read`), a long text in parts of whole lines.
+//! 1. One pass over the bytes checks grammar, numbers and rings and gathers these (`reader`, `read`), a long text in parts of whole lines;
+//!    where it is asked for, the rings of each geometry apart (`features`).
 //! 2. What was passed has a number of segments and a box (`outline`).
 //! 3. A line is written polygon by polygon, or ring by ring (`write`).
 //!
 //! The promise: what a text stands for, or is refused for, is one (`laws`), and what is written reads back. The definitions are
-//! `specs/LayerText`, `Refusals`, `Outlines` and `Canonical`.
+//! `specs/LayerText`, `Features`, `Refusals`, `Outlines` and `Canonical`.
 #![tactic(auto)]
 
 mod check;
+mod feature_layer;
+mod feature_lines;
+mod features;
 mod laws;
 mod lines;
 mod outline;
@@ -20,7 +24,11 @@ mod survey;
 mod write;
 
 pub use check::{LENGTH_LIMIT, check_layer};
-pub use laws::{one_reading, one_refusal};
+pub use feature_layer::FeatureLayer;
+pub use features::{
+    OutlinedFeatures, read_features, read_outlined_features, read_outlined_features_in_parts,
+};
+pub use laws::{one_list_of_features, one_reading, one_refusal};
 pub use outline::Outline;
 pub use read::{OutlinedLayer, read_layer, read_outlined, read_outlined_in_parts};
 pub use write::{push_first_ring, push_line_end, push_next_ring, write_multi};

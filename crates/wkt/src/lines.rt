@@ -56,7 +56,7 @@ fn line_from(text: &[u8], near: usize) -> Option<usize>
 }
 
 /// At most so many parts of a text, and one at least, as if one more line feed stood behind it: each ends with a line feed.
-fn line_parts<A: Allocator + Copy>(
+pub fn line_parts<A: Allocator + Copy>(
     alloc: A,
     parts: usize,
     text: &[u8],

@@ -1,6 +1,6 @@
 //! A layer text, read into rings.
 
-ghost use Rattle.std.specs.Prelude.{◌≡◌, ◌⊎◌, List, All, IfOk, IfSome, [], MatchResult, OnOk};
+ghost use Rattle.std.specs.Prelude.{◌≡◌, ◌⊎◌, List, All, IfOk, IfSome, [], MatchResult, OnOk, length};
 ghost use Rattle.geom.specs.Limit.{AreInLimit, InLimit};
 ghost use Rattle.geom.specs.declared.point.Pt.{Pt as PtOf};
 ghost use Rattle.wkt.specs.Refusals.{IsRefused, StandsFor};
@@ -18,7 +18,7 @@ use std::thread::Threads;
 
 /// The greatest length of a text, in bytes, that is read in the pass that checks it: a longer one may have more points than
 /// there should be room for before it is known not to be refused.
-const ONE_PASS: usize = 67_108_864;
+pub const ONE_PASS: usize = 67_108_864;
 
 /// The point that two numbers write, where both are in range.
 fn point_of(x: Number, y: Number) -> Pt
@@ -39,7 +39,7 @@ pub struct Collector<A: Allocator> {
 
 impl<A: Allocator + Copy> Collector<A> {
     /// Without rings.
-    fn new(alloc: A) -> Collector<A>
+    pub fn new(alloc: A) -> Collector<A>
         ensures { view result ≡ ([], []) }
     {
         Collector {
@@ -73,11 +73,11 @@ impl<A: Allocator + Copy> Collector<A> {
 
     /// Notes an event.
     #[inline(always)]
-    fn note(&mut self, alloc: A, event: Event) -> Result<(), NoMemory>
+    pub fn note(&mut self, alloc: A, event: Event) -> Result<(), NoMemory>
         ensures { OnOk result (view self.new ≡ gathered event (view self.old)) }
     {
         match event {
-            Event::Nothing | Event::Open => Ok(()),
+            Event::Nothing | Event::Geometry | Event::Open => Ok(()),
             Event::Point(x, y) => self.point(x, y),
             Event::Last(x, y) => {
                 self.point(x, y)?;
@@ -85,6 +85,21 @@ impl<A: Allocator + Copy> Collector<A> {
             }
             Event::Close => self.close(alloc),
         }
+    }
+
+    /// How many rings are whole.
+    pub fn count(&self) -> usize
+        ensures { result ≡ length self.now.rings.items }
+    {
+        self.rings.len()
+    }
+
+    /// The whole rings.
+    pub fn into_rings(self) -> Vec<Ring<A>, A>
+        ensures { result.items ≡ self.rings.items }
+    {
+        let Collector { rings, .. } = self;
+        rings
     }
 }
 
@@ -110,7 +125,8 @@ pub fn gather<A: Allocator + Copy>(
         let Ok(()) = collector.note(alloc, event) else {
             return Err(Fault::Memory);
         };
-        at = reader.pass(text, at + 1);
+        let passed = reader.pass(text, at + 1);
+        at = passed.at;
     }
     if !reader.may_end() {
         return Err(Fault::Syntax(text.len()));

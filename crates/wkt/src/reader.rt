@@ -1,8 +1,8 @@
 //! A reader of layer texts, byte by byte.
 
-ghost use Rattle.std.specs.Prelude.{◌≡◌, ◌+◌, ◌*◌, ◌≤◌, ℕ, length, min};
+ghost use Rattle.std.specs.Prelude.{◌≡◌, ◌+◌, ◌*◌, ◌≤◌, ℕ, false, length, min};
 ghost use Rattle.wkt.specs.Machine.{Notes, start, may_end};
-ghost use Rattle.wkt.specs.Reading.{ReaderIs, Stepped, number_next, x_next, event_of, u32_max, value_of, with_digit};
+ghost use Rattle.wkt.specs.Reading.{ReaderIs, Stepped, begins_geometry, number_next, x_next, event_of, u32_max, value_of, with_digit};
 ghost use Rattle.wkt.specs.Running.{Passes};
 
 use crate::places::{Class, Place};
@@ -65,6 +65,8 @@ const NEXT_POLYGON: [u8; 11] = *b")\nPOLYGON (";
 #[derive(Clone, Copy, Debug, PartialEq, Eq)]
 pub enum Event {
     Nothing,
+    /// A geometry begins.
+    Geometry,
     /// A ring opens.
     Open,
     Point(Number, Number),
@@ -72,6 +74,25 @@ pub enum Event {
     Last(Number, Number),
     /// A ring closes.
     Close,
+}
+
+impl Event {
+    /// Whether a geometry begins.
+    #[inline(always)]
+    pub fn begins_geometry(self) -> bool
+        ensures { result ≡ begins_geometry self }
+    {
+        matches!(self, Event::Geometry)
+    }
+}
+
+/// How far a reader has passed on.
+#[derive(Clone, Copy, Debug)]
+pub struct Passed {
+    /// The offset behind what it passed.
+    pub at: usize,
+    /// Whether a geometry has begun on the way.
+    pub begun: bool,
 }
 
 /// A reader of one layer text: its place in the grammar, and the numbers of the point at hand.
@@ -137,32 +158,40 @@ impl Reader {
     }
 
     /// Passes what completes nothing and is quickly told: before a point, the point without its end; behind the last ring of
-    /// a polygon, the way to the next polygon's first. The offset behind it.
+    /// a polygon, the way to the next polygon's first.
     #[inline(always)]
-    pub fn pass(&mut self, text: &[u8], at: usize) -> usize
+    pub fn pass(&mut self, text: &[u8], at: usize) -> Passed
         requires { at ≤ length text.now }
-        ensures { Passes text.now at result self.old self.new }
+        ensures { Passes text.now at result.at result.begun self.old self.new }
     {
         match self.place {
-            Place::BeforePoint => self.pass_point(text, at),
+            Place::BeforePoint => {
+                Passed {
+                    at: self.pass_point(text, at),
+                    begun: false,
+                }
+            }
             Place::AfterRing => self.pass_to_polygon(text, at),
-            _ => at,
+            _ => Passed { at, begun: false },
         }
     }
 
     /// Behind a ring, passes the end of its polygon and the next one as far as its first ring, if they stand there as in
-    /// most texts; else nothing. The offset behind them.
+    /// most texts; else nothing.
     #[inline(always)]
-    fn pass_to_polygon(&mut self, text: &[u8], at: usize) -> usize
+    fn pass_to_polygon(&mut self, text: &[u8], at: usize) -> Passed
         requires within { at ≤ length text.now }
         requires place { self.old.place ≡ Place.AfterRing }
-        ensures { Passes text.now at result self.old self.new }
+        ensures { Passes text.now at result.at result.begun self.old self.new }
     {
         if self.multi || !stands(text, at, &NEXT_POLYGON) {
-            return at;
+            return Passed { at, begun: false };
         }
         self.place = Place::BeforeRing;
-        at + NEXT_POLYGON.len()
+        Passed {
+            at: at + NEXT_POLYGON.len(),
+            begun: true,
+        }
     }
 
     /// Before a point, passes the point without its end, as far as it stands there; elsewhere nothing. The offset behind
@@ -170,7 +199,7 @@ impl Reader {
     #[inline(always)]
     fn pass_point(&mut self, text: &[u8], at: usize) -> usize
         requires { at ≤ length text.now }
-        ensures { Passes text.now at result self.old self.new }
+        ensures { Passes text.now at result false self.old self.new }
     {
         let Place::BeforePoint = self.place else {
             return at;
@@ -190,7 +219,7 @@ impl Reader {
     fn pass_second(&mut self, text: &[u8], at: usize) -> usize
         requires within { at ≤ length text.now }
         requires place { self.old.place ≡ Place.DigitsX }
-        ensures { Passes text.now at result self.old self.new }
+        ensures { Passes text.now at result false self.old self.new }
     {
         if at >= text.len() {
             return at;
@@ -259,6 +288,7 @@ impl Place {
         ensures { result ≡ event_of self class x y }
     {
         match (self, class) {
+            (Place::Between, Class::Letter(_)) => Event::Geometry,
             (Place::BeforeRing, Class::Open) => Event::Open,
             (Place::DigitsY, Class::Space | Class::Comma) => Event::Point(x, y),
             (Place::DigitsY, Class::Close) => Event::Last(x, y),

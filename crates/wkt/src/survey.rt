@@ -46,7 +46,7 @@ impl Survey {
         ensures { shown self.new ≡ took (shown self.old) at event }
     {
         match event {
-            Event::Nothing => {}
+            Event::Nothing | Event::Geometry => {}
             Event::Open => self.open(at),
             Event::Point(x, y) => self.point(x, y),
             Event::Last(x, y) => {

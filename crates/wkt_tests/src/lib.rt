@@ -2,6 +2,8 @@
 #![tactic(auto)]
 
 #[cfg(test)]
+mod features;
+#[cfg(test)]
 mod in_parts;
 #[cfg(test)]
 mod reading;

@@ -13,9 +13,9 @@ returns-in_default-clause-answer c =
 
 pub loop-at-preserved : goal.loop-at-preserved
 loop-at-preserved c =
-    checked_on c.args.text.now (c.loop-at.at + 1) c.pass-at.result c.step.new.self c.pass-at.new.self (shown c.note.new.self)
+    checked_on c.args.text.now (c.loop-at.at + 1) c.pass-passed.result.at c.pass-passed.result.begun c.step.new.self c.pass-passed.new.self (shown c.note.new.self)
     (subst (λ (s : Shown). Checked c.args.text.now (c.loop-at.at + 1) c.step.new.self s) (sym c.note.ensures)
-    (checked_more c.args.text.now c.loop-at.at c.loop-at.reader (shown c.loop-at.survey) c.in-Some.event c.step.new.self c.loop-at-test.true c.loop-at.invariant (c.in-Some.ensures c.loop-at.invariant.notes c.loop-at.invariant.known.read.is))) c.pass-at.ensures
+    (checked_more c.args.text.now c.loop-at.at c.loop-at.reader (shown c.loop-at.survey) c.in-Some.event c.step.new.self c.loop-at-test.true c.loop-at.invariant (c.in-Some.ensures c.loop-at.invariant.notes c.loop-at.invariant.known.read.is))) c.pass-passed.ensures
 
 pub returns-then-not-may_end-clause-answer : goal.returns-then-not-may_end-clause-answer
 returns-then-not-may_end-clause-answer c =

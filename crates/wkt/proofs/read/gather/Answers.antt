@@ -14,11 +14,11 @@ returns-in_default g c =
 
 pub loop-at-preserved : goal.loop-at-preserved
 loop-at-preserved g c =
-    collected_on c.args.text.now (c.loop-at.at + 1) c.pass-at.result c.step.new.self c.pass-at.new.self (shown c.note.new.self) (view c.note-in-loop-at.new.self)
+    collected_on c.args.text.now (c.loop-at.at + 1) c.pass-passed.result.at c.pass-passed.result.begun c.step.new.self c.pass-passed.new.self (shown c.note.new.self) (view c.note-in-loop-at.new.self)
     (subst (λ (s : Shown). Collected c.args.text.now (c.loop-at.at + 1) c.step.new.self s (view c.note-in-loop-at.new.self)) (sym c.note.ensures)
     (subst (λ (x : Gathered). Collected c.args.text.now (c.loop-at.at + 1) c.step.new.self (took (shown c.loop-at.survey) c.loop-at.at c.in-Some.event) x) (sym c.in-Ok.ensures)
     (collected_more c.args.text.now c.loop-at.at c.loop-at.reader (shown c.loop-at.survey) (view c.loop-at.collector) c.in-Some.event c.step.new.self c.loop-at-test.true c.loop-at.invariant (c.in-Some.ensures c.loop-at.invariant.notes c.loop-at.invariant.known.read.is))))
-    c.pass-at.ensures
+    c.pass-passed.ensures
 
 pub returns-then-not-may_end : goal.returns-then-not-may_end
 returns-then-not-may_end g c =
