@@ -66,7 +66,8 @@ module _ (count : ℕ) (segments : List Seg) (owners : List ℕ) (below : All (�
   step_of : (e : Edge) (f : ℕ) → Contains odd (link_of e f) → (step : Pt × Pt) × In step (feature_steps f owners R.routes) × (joins e step ≡ true)
   step_of e f c = some_passes (joins e) (feature_steps f owners R.routes) (odd_positive (feature_count f e owners R.routes) (ap is_odd (sym (counts e f)) ∙ (O.exact (link_of e f)).0 c))
 
-  is_below : (e : Edge) (f : ℕ) → Contains odd (link_of e f) → f < count
+  -- a feature with an odd link owns a segment
+  pub is_below : (e : Edge) (f : ℕ) → Contains odd (link_of e f) → f < count
   is_below e f c = let s = step_of e f c in All-contains (λ (g : ℕ). g < count) owners f below (in_contains owners f (owner_there f owners R.routes s.0 s.1))
 
   is_step : (e : Edge) (f : ℕ) → Contains odd (link_of e f) → 0 < count_by (joins e) (flat_map neighbours R.routes)

@@ -1,3 +1,4 @@
 pub mod OddLaws
 pub mod GroupLaws
 pub mod GroupSteps
+pub mod Standing

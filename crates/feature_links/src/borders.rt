@@ -1,8 +1,8 @@
-//! The edges of links, each with where its features stand: runs of links of one edge, one after another.
+//! The edges of links, each with where its features stand: runs of links of one edge, one after another; and the features that stand there.
 
-ghost use Rattle.std.specs.Prelude.{◌≡◌, ◌≢◌, ◌+◌, ◌<◌, ◌≤◌, AllPairs, IfOk, length, map, slice_index_or};
+ghost use Rattle.std.specs.Prelude.{◌≡◌, ◌≢◌, ◌+◌, ◌<◌, ◌≤◌, All, AllPairs, IfOk, length, map, slice_index_or};
 ghost use Rattle.std.specs.List.{AllWithin};
-ghost use Rattle.feature_links.specs.Groups.{AreGroups, bordered_by, same_ends};
+ghost use Rattle.feature_links.specs.Groups.{AreGroups, bordered_by, feature_of, same_ends};
 ghost use Rattle.feature_links.specs.Odd.{IsLinkBefore};
 ghost use Rattle.feature_links.specs.declared.link.FeatureLink.{FeatureLink};
 
@@ -36,7 +36,8 @@ fn end_of_run(links: &[FeatureLink], from: usize, edge: Edge) -> usize
 /// The edges of ascending links, each with where its features stand.
 pub fn borders_of<A: Allocator>(alloc: A, links: &[FeatureLink]) -> Result<Vec<Border, A>, NoMemory>
     requires { AllPairs IsLinkBefore links.now }
-    ensures { IfOk result (λ list. AreGroups links.now (map (bordered_by links.now) list.items)) }
+    ensures groups { IfOk result (λ list. AreGroups links.now (map (bordered_by links.now) list.items)) }
+    ensures inside { IfOk result (λ list. All (λ b. (b.from ≤ b.to) × (b.to ≤ length links.now)) list.items) }
 {
     let mut list = Vec::new(alloc);
     let mut from = 0;
@@ -45,6 +46,17 @@ pub fn borders_of<A: Allocator>(alloc: A, links: &[FeatureLink]) -> Result<Vec<B
         let to = end_of_run(links, from, edge);
         list.push(Border { edge, from, to })?;
         from = to;
+    }
+    Ok(list)
+}
+
+/// The features of links, in their order.
+pub fn features_of<A: Allocator>(alloc: A, links: &[FeatureLink]) -> Result<Vec<u32, A>, NoMemory>
+    ensures { IfOk result (λ list. list.items ≡ map feature_of links.now) }
+{
+    let mut list = Vec::with_capacity(alloc, links.len())?;
+    for link in links {
+        list.push(link.feature)?;
     }
     Ok(list)
 }

@@ -6,7 +6,7 @@ mod laws;
 mod link;
 mod odd;
 
-pub use borders::borders_of;
+pub use borders::{borders_of, features_of};
 pub use laws::groups_are_borders;
 pub use link::FeatureLink;
 pub use odd::odd_links;

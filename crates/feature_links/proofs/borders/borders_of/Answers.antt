@@ -1,5 +1,7 @@
 -- A run of links is one group more.
-use Rattle.std.proofs.Common.{◌≡◌, ℕ, ◌∷◌, ◌++◌, [], arith, List, map, take, sym, ap, ◌∙◌, subst, get_or}
+use Rattle.std.proofs.Common.{◌≡◌, ℕ, ◌∷◌, ◌++◌, [], ◌≤◌, arith, length, List, map, take, sym, ap, ◌∙◌, subst, get_or}
+use Rattle.std.specs.Prelude.{All}
+use Rattle.std.proofs.lemmas.List.Elements.{All-push}
 use Rattle.std.proofs.lemmas.List.{get_or_default, map-append}
 use Rattle.geom.specs.declared.edge.Edge.{Edge}
 use Rattle.cover_law.specs.Cover.{Bordered}
@@ -26,4 +28,5 @@ loop-from-preserved g c =
       subst (λ (bs : List Bordered). AreGroups (take to links) bs) (sym (ap (map (bordered_by links)) pushed ∙ map-append (bordered_by links) c.loop-from.list.items (b ∷ [])))
           (next_groups links from to x c.requires run.after run.within is run.run run.past inv.2 (map (bordered_by links) c.loop-from.list.items) inv.1),
       next_behind links from to x c.requires run.after run.within is run.run run.past inv.2,
+      subst (λ (bs : List Border). All (λ (b : Border). (b.from ≤ b.to) × (b.to ≤ length links)) bs) (sym pushed) (All-push (λ (b : Border). (b.from ≤ b.to) × (b.to ≤ length links)) c.loop-from.list.items b inv.3 (omega arith, run.within)),
     )
