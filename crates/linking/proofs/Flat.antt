@@ -10,22 +10,20 @@ use Rattle.std.proofs.lemmas.Option.{slice_get_within, get_or_from_slice_get}
 use Rattle.std.proofs.Math.ListN.{get_or-map}
 use Rattle.std.proofs.lemmas.List.{length-map}
 use Rattle.geom.specs.declared.point.Pt.{Pt}
-use Rattle.geom.specs.declared.segment.Source.{Source}
-use Rattle.geom.specs.declared.segment.Source.TheVariants.{A}
 use Rattle.geom.specs.declared.segment.Seg.{Seg}
 use Rattle.geom.specs.declared.edge.Edge.{Edge}
-use Rattle.geom.specs.Segments.{same_source, neighbours}
+use Rattle.geom.specs.Segments.{neighbours}
 use Rattle.geom.specs.Hot.{IsHot}
 use Rattle.geom.specs.Route.{Meets, IsEarlier, IsRoute, AreRoutes}
 use Rattle.geom.specs.Route.AreRoutes.{none, next}
-use Rattle.geom.specs.Rounded.{joins, route_steps, count}
+use Rattle.geom.specs.Rounded.{joins}
 use Rattle.geom.proofs.Lists.{some_same}
 use Rattle.hot_pixel.proofs.ListLaws.{in_cons, here, in_filter, in_map, head_pair, tail_pairs, pairs_map, filter_none, no_one}
 use Rattle.routing.specs.declared.record.Record.{Record}
 use Rattle.routing.specs.Steps.{steps_to}
 use Rattle.routing.specs.Pieces.{IsRecord}
 use Rattle.routing.proofs.StepLaws.{earlier_from_steps}
-use Rattle.linking.specs.Links.{IsRecordBefore, AreRecords, layer_at, record_pairs, makes}
+use Rattle.linking.specs.Links.{IsRecordBefore, AreRecords, record_pairs, makes, passes_at, wanted_steps}
 
 -- ---- the records of one segment, and of the later ones
 abbrev pub is_own : ℕ → Record → Bool
@@ -156,12 +154,12 @@ routes_are segments k (s ∷ ss) rs st h = next (route_is segments k s rs (Stand
 
 -- ---- counts
 
-module _ (layers : ℕ → Source) (e : Edge) (layer : Source) where
+module _ (wanted : ℕ → Bool) (e : Edge) where
   abbrev pub made : List Record → ℕ
-  made rs = count_by (makes layers e layer) (record_pairs rs)
+  made rs = count_by (makes wanted e) (record_pairs rs)
 
-  made_cons : (r q : Record) (rs : List Record) → made (r ∷ q ∷ rs) ≡ cond (makes layers e layer (r, q)) 1 0 + made (q ∷ rs)
-  made_cons r q rs = sum_by-cons (λ p. cond (makes layers e layer p) 1 0) (r, q) (record_pairs (q ∷ rs))
+  made_cons : (r q : Record) (rs : List Record) → made (r ∷ q ∷ rs) ≡ cond (makes wanted e (r, q)) 1 0 + made (q ∷ rs)
+  made_cons r q rs = sum_by-cons (λ p. cond (makes wanted e p) 1 0) (r, q) (record_pairs (q ∷ rs))
 
   and_false : (a : Bool) → (a && false) ≡ false
   and_false true = refl
@@ -171,63 +169,62 @@ module _ (layers : ℕ → Source) (e : Edge) (layer : Source) where
   and_true true = refl
   and_true false = refl
 
-  parted : (r q : Record) → (r.segment ≡ q.segment → ⊥) → makes layers e layer (r, q) ≡ false
+  parted : (r q : Record) → (r.segment ≡ q.segment → ⊥) → makes wanted e (r, q) ≡ false
   parted r q h = rw (not_eqb r.segment q.segment h) refl
 
   made_append : (k : ℕ) (xs ys : List Record) → ((r : Record) → Contains xs r → r.segment ≡ k) → ((r : Record) → Contains ys r → r.segment ≢ k) → made (xs ++ ys) ≡ made xs + made ys
   made_append k [] ys f g = omega arith
   made_append k (x ∷ []) [] f g = refl
-  made_append k (x ∷ []) (y ∷ ys) f g = let n = parted x y (λ h. g y (here y ys) (sym h ∙ f x (here x []))) in let c = made_cons x y ys in let d = no_one (makes layers e layer (x, y)) n in omega arith
+  made_append k (x ∷ []) (y ∷ ys) f g = let n = parted x y (λ h. g y (here y ys) (sym h ∙ f x (here x []))) in let c = made_cons x y ys in let d = no_one (makes wanted e (x, y)) n in omega arith
   made_append k (x ∷ z ∷ xs) ys f g = let a = made_cons x z (xs ++ ys) in let b = made_cons x z xs in let c = made_append k (z ∷ xs) ys (λ r h. f r (in_cons x (z ∷ xs) r h)) g in omega arith
 
-  own_yes : (k : ℕ) (rs : List Record) → same_source (layers k) layer ≡ true → ((r : Record) → Contains rs r → r.segment ≡ k) → made rs ≡ count_by (joins e) (neighbours (map (λ r. r.pixel) rs))
+  own_yes : (k : ℕ) (rs : List Record) → wanted k ≡ true → ((r : Record) → Contains rs r → r.segment ≡ k) → made rs ≡ count_by (joins e) (neighbours (map (λ r. r.pixel) rs))
   own_yes k [] y f = refl
   own_yes k (r ∷ []) y f = refl
   own_yes k (r ∷ q ∷ rs) y f =
-      let same : makes layers e layer (r, q) ≡ joins e (r.pixel, q.pixel) = rw (f r (here r (q ∷ rs)), f q (in_cons r (q ∷ rs) q (here q rs)), y, eq-eqb k k refl) (and_true (joins e (r.pixel, q.pixel))) in
+      let same : makes wanted e (r, q) ≡ joins e (r.pixel, q.pixel) = rw (f r (here r (q ∷ rs)), f q (in_cons r (q ∷ rs) q (here q rs)), y, eq-eqb k k refl) (and_true (joins e (r.pixel, q.pixel))) in
       let a = made_cons r q rs in
       let b = sum_by-cons (λ p. cond (joins e p) 1 0) (r.pixel, q.pixel) (neighbours (map (λ (u : Record). u.pixel) (q ∷ rs))) in
       let c = own_yes k (q ∷ rs) y (λ u h. f u (in_cons r (q ∷ rs) u h)) in
-      let d : cond (makes layers e layer (r, q)) 1 0 ≡ cond (joins e (r.pixel, q.pixel)) 1 0 = ap (λ (v : Bool). cond v 1 0) same in
+      let d : cond (makes wanted e (r, q)) 1 0 ≡ cond (joins e (r.pixel, q.pixel)) 1 0 = ap (λ (v : Bool). cond v 1 0) same in
       a ∙ ap (λ (n : ℕ). n + made (q ∷ rs)) d ∙ ap (λ (n : ℕ). cond (joins e (r.pixel, q.pixel)) 1 0 + n) c ∙ sym b
 
-  own_no : (k : ℕ) (rs : List Record) → same_source (layers k) layer ≡ false → ((r : Record) → Contains rs r → r.segment ≡ k) → made rs ≡ 0
+  own_no : (k : ℕ) (rs : List Record) → wanted k ≡ false → ((r : Record) → Contains rs r → r.segment ≡ k) → made rs ≡ 0
   own_no k [] n f = refl
   own_no k (r ∷ []) n f = refl
   own_no k (r ∷ q ∷ rs) n f =
-      let same : makes layers e layer (r, q) ≡ false = rw (f r (here r (q ∷ rs)), f q (in_cons r (q ∷ rs) q (here q rs)), n, and_false (joins e (r.pixel, q.pixel)), and_false (eqb k k)) refl in
+      let same : makes wanted e (r, q) ≡ false = rw (f r (here r (q ∷ rs)), f q (in_cons r (q ∷ rs) q (here q rs)), n, and_false (joins e (r.pixel, q.pixel)), and_false (eqb k k)) refl in
       let a = made_cons r q rs in
       let c = own_no k (q ∷ rs) n (λ u h. f u (in_cons r (q ∷ rs) u h)) in
-      let d = no_one (makes layers e layer (r, q)) same in
+      let d = no_one (makes wanted e (r, q)) same in
       omega arith
 
-  own_made : (k : ℕ) (s : Seg) (rs : List Record) → layers k ≡ s.layer → ((r : Record) → Contains rs r → r.segment ≡ k) → made rs ≡ count_by (joins e) (if same_source s.layer layer then neighbours (map (λ r. r.pixel) rs) else [])
-  own_made k s rs h f = by_test (same_source s.layer layer) refl
-    where
-      by_test : (b : Bool) → same_source s.layer layer ≡ b → made rs ≡ count_by (joins e) (if b then neighbours (map (λ r. r.pixel) rs) else [])
-      by_test true g = own_yes k rs (ap (λ (l : Source). same_source l layer) h ∙ g) f
-      by_test false g = own_no k rs (ap (λ (l : Source). same_source l layer) h ∙ g) f
+  own_made : (k : ℕ) (w : Bool) (rs : List Record) → wanted k ≡ w → ((r : Record) → Contains rs r → r.segment ≡ k) → made rs ≡ count_by (joins e) (if w then neighbours (map (λ r. r.pixel) rs) else [])
+  own_made k true rs h f = own_yes k rs h f
+  own_made k false rs h f = own_no k rs h f
 
-  abbrev pub LayersFrom : ℕ → List Seg → Type 0
-  LayersFrom k ss = (j : ℕ) (s : Seg) → slice_get ss j ≡ Some s → layers (k + j) ≡ s.layer
+  module _ {M : Type 0} (is_wanted : M → Bool) where
+    abbrev pub WantedFrom : ℕ → List M → Type 0
+    WantedFrom k xs = (j : ℕ) (x : M) → slice_get xs j ≡ Some x → wanted (k + j) ≡ is_wanted x
 
-  flat_count : (segments : List Seg) (k : ℕ) (ss : List Seg) (rs : List Record) → length segments ≡ k + length ss → LayersFrom k ss → AreFrom segments k rs → made rs ≡ count_by (joins e) (route_steps layer ss (routes_from k ss rs))
-  flat_count segments k [] [] n l h = refl
-  flat_count segments k [] (r ∷ rs) n l h = let a = (h.exact r).0 (here r rs) in let b = slice_get_within segments r.segment a.0.s a.0.is_at in let c = a.1 in absurd (omega arith)
-  flat_count segments k (s ∷ ss) rs n l h =
-      let here_layer : layers k ≡ s.layer = (let e : k + 0 ≡ k = omega arith in subst (λ (m : ℕ). layers m ≡ s.layer) e (l 0 s refl)) in
-      let rest_layers : LayersFrom (suc k) ss = λ j t at. let e : k + suc j ≡ suc k + j = omega arith in subst (λ (m : ℕ). layers m ≡ t.layer) e (l (suc j) t at) in
-      let a = split_records k rs h.ascending (λ r g. ((h.exact r).0 g).1) in
-      let b = made_append k (own k rs) (later k rs) (λ r g. ((own_is k rs r).0 g).1) (λ r g. ((later_is k rs r).0 g).1) in
-      let c = own_made k s (own k rs) here_layer (λ r g. ((own_is k rs r).0 g).1) in
-      let d = flat_count segments (suc k) ss (later k rs) (omega arith) rest_layers (AreFrom-later segments k rs h) in
-      let t = sum_by-append (λ p. cond (joins e p) 1 0) (if same_source s.layer layer then neighbours (route_of k rs) else []) (route_steps layer ss (routes_from (suc k) ss (later k rs))) in
-      ap made a ∙ b ∙ ap (λ (m : ℕ). m + made (later k rs)) c ∙ ap (λ (m : ℕ). count_by (joins e) (if same_source s.layer layer then neighbours (route_of k rs) else []) + m) d ∙ sym t
+    flat_count : (segments : List Seg) (k : ℕ) (ss : List Seg) (xs : List M) (rs : List Record) → length xs ≡ length ss → length segments ≡ k + length ss → WantedFrom k xs → AreFrom segments k rs → made rs ≡ count_by (joins e) (wanted_steps is_wanted xs (routes_from k ss rs))
+    flat_count segments k [] (x ∷ xs) rs m n l h = absurd (omega arith)
+    flat_count segments k (s ∷ ss) [] rs m n l h = absurd (omega arith)
+    flat_count segments k [] [] [] m n l h = refl
+    flat_count segments k [] [] (r ∷ rs) m n l h = let a = (h.exact r).0 (here r rs) in let b = slice_get_within segments r.segment a.0.s a.0.is_at in let c = a.1 in absurd (omega arith)
+    flat_count segments k (s ∷ ss) (x ∷ xs) rs m n l h =
+        let here_wanted : wanted k ≡ is_wanted x = (let e : k + 0 ≡ k = omega arith in subst (λ (m : ℕ). wanted m ≡ is_wanted x) e (l 0 x refl)) in
+        let rest_wanted : WantedFrom (suc k) xs = λ j y at. let e : k + suc j ≡ suc k + j = omega arith in subst (λ (m : ℕ). wanted m ≡ is_wanted y) e (l (suc j) y at) in
+        let a = split_records k rs h.ascending (λ r g. ((h.exact r).0 g).1) in
+        let b = made_append k (own k rs) (later k rs) (λ r g. ((own_is k rs r).0 g).1) (λ r g. ((later_is k rs r).0 g).1) in
+        let c = own_made k (is_wanted x) (own k rs) here_wanted (λ r g. ((own_is k rs r).0 g).1) in
+        let d = flat_count segments (suc k) ss xs (later k rs) (omega arith) (omega arith) rest_wanted (AreFrom-later segments k rs h) in
+        let t = sum_by-append (λ p. cond (joins e p) 1 0) (if is_wanted x then neighbours (route_of k rs) else []) (wanted_steps is_wanted xs (routes_from (suc k) ss (later k rs))) in
+        ap made a ∙ b ∙ ap (λ (m : ℕ). m + made (later k rs)) c ∙ ap (λ (m : ℕ). count_by (joins e) (if is_wanted x then neighbours (route_of k rs) else []) + m) d ∙ sym t
 
-pub layer_at_is : (segments : List Seg) (k : ℕ) (s : Seg) → slice_get segments k ≡ Some s → layer_at segments k ≡ s.layer
-layer_at_is segments k s at =
-    let f : Seg → Source = λ t. t.layer in
-    get_or_default (map f segments) k A (f s) (rw (length-map segments f) (slice_get_within segments k s at)) ∙ get_or-map f segments k s ∙ ap f (get_or_from_slice_get segments k s s at)
+pub passes_at_is : {M : Type 0} (is_wanted : M → Bool) (makers : List M) (k : ℕ) (x : M) → slice_get makers k ≡ Some x → passes_at is_wanted makers k ≡ is_wanted x
+passes_at_is is_wanted makers k x at =
+    get_or_default (map is_wanted makers) k false (is_wanted x) (rw (length-map makers is_wanted) (slice_get_within makers k x at)) ∙ get_or-map is_wanted makers k x ∙ ap is_wanted (get_or_from_slice_get makers k x x at)
 
 -- the routes that records in order tell, and the number of places where they join an edge
 module _ (segments : List Seg) (records : List Record) (h : AreRecords segments records) where
@@ -240,5 +237,6 @@ module _ (segments : List Seg) (records : List Record) (h : AreRecords segments 
   pub routes_of_records : AreRoutes segments segments (routes_from 0 segments records)
   routes_of_records = routes_are segments 0 segments records stand from
 
-  pub count_is : (e : Edge) (layer : Source) → count layer e segments (routes_from 0 segments records) ≡ count_by (makes (layer_at segments) e layer) (record_pairs records)
-  count_is e layer = sym (flat_count (layer_at segments) e layer segments 0 segments records (omega arith) (λ j s at. layer_at_is segments (0 + j) s (stand j s at)) from)
+  pub count_is : {M : Type 0} (makers : List M) → length makers ≡ length segments → (e : Edge) (is_wanted : M → Bool) → count_by (makes (passes_at is_wanted makers) e) (record_pairs records) ≡ count_by (joins e) (wanted_steps is_wanted makers (routes_from 0 segments records))
+  count_is makers same e is_wanted = flat_count (passes_at is_wanted makers) e is_wanted segments 0 segments makers records same (omega arith)
+      (λ j x at. let n : j ≡ 0 + j = omega arith in passes_at_is is_wanted makers (0 + j) x (subst (λ (n : ℕ). slice_get makers n ≡ Some x) n at)) from

@@ -15,3 +15,5 @@ pub mod WrittenBack
 pub mod SpanLaws
 pub mod Slices
 pub mod ShareLaws
+pub mod OddParts
+pub mod BorderLaws

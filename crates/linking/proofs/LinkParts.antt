@@ -27,12 +27,12 @@ pub sorted_in_order : (links : List Link) → IsSorted link_order links → AreI
 sorted_in_order links up i j d l k = sorted_edges link_order link_total (λ l m. (_, refl)) links up i j d (omega arith) k
 
 -- ---- parts
+pub left_of : (e f : Edge) → e.p.x <ℤ f.p.x → IsEdgeBefore e f
+left_of e f h = inl (record { column = omega (arith, ints); row = λ is. absurd (let a = h in let b = is in omega (arith, ints)) })
+
 -- the first ends of the links of one part lie left of those of the other
 pub parted_columns : (front back : List Link) → AreKeysBelow column_of front back → GoBefore front back
 parted_columns front back apart l k a b = left_of l.edge k.edge (apart l k a b)
-  where
-    left_of : (e f : Edge) → e.p.x <ℤ f.p.x → IsEdgeBefore e f
-    left_of e f h = inl (record { column = omega (arith, ints); row = λ is. absurd (let a = h in let b = is in omega (arith, ints)) })
 
 -- ---- counts
 module _ (front back : List Link) (cs ds : List Counted) (parted : GoBefore front back) (f : AreCounts front cs) (b : AreCounts back ds) where

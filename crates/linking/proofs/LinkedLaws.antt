@@ -4,30 +4,30 @@ use Rattle.std.proofs.Math.Logic.{∥∥₁_elim, ∥∥₁_map}
 use Rattle.std.proofs.Props.{props}
 use Rattle.std.proofs.lemmas.Int.{ints}
 use Rattle.std.proofs.lemmas.List.{get_or-append-add, get_or-map, get_or_append_left, length-append, length-map}
-use Rattle.std.proofs.lemmas.List.Elements.{Contains-append_cases, Contains-append_left, Contains-append_right, Contains-get_or}
+use Rattle.std.proofs.lemmas.List.Elements.{All-contains, Contains-append_cases, Contains-append_left, Contains-append_right, Contains-get_or}
 use Rattle.std.proofs.lemmas.List.Sums.{sum_by-append, sum_by-cons}
 use Rattle.std.proofs.lemmas.Option.{get_or_from_slice_get, slice_get-get_or, slice_get_within}
 use Rattle.std.proofs.lemmas.Cmp.{tied_itself}
-use Rattle.std.specs.Prelude.{◌<ℤ◌, All, AllPairs, Contains, flat_map, map, pos, sum_by}
+use Rattle.std.specs.Prelude.{◌<ℤ◌, All, AllPairs, Contains, count_by, flat_map, map, pos, sum_by}
 use Rattle.std.specs.List.{AllZip}
 use Rattle.geom.specs.declared.point.Pt.{Pt}
+use Rattle.geom.specs.declared.edge.Edge.{Edge}
 use Rattle.geom.specs.declared.segment.Seg.{Seg}
 use Rattle.grid.specs.Tiles.{HasTile, Owns, Tiling, tile_count}
 use Rattle.hot_pixel.proofs.HotLaws.{hot_meets}
 use Rattle.hot_pixel.proofs.ListLaws.{none_in, tail_pairs}
 use Rattle.routing.specs.declared.record.Record.{Record}
 use Rattle.routing.specs.Pieces.{IsRecord}
-use Rattle.linking.specs.declared.link.Link.{Link}
 use Rattle.routing.proofs.RecordOrder.{record_total}
-use Rattle.linking.specs.Links.{AreApart, AreNeighbourLinks, ChangesSegment, count_links, is_of}
+use Rattle.linking.specs.Links.{AreApart, AreNeighbourLinks, ChangesSegment}
 use Rattle.linking.specs.Numbers.{AreTileCounts, IsCountOf}
 use Rattle.linking.specs.Orders.{record_order}
-use Rattle.linking.specs.Shares.{AreKeysBelow, AreLinked, AreSums, segment_of}
+use Rattle.linking.specs.Shares.{AreKeysBelow, AreLinked, AreSums, MayLink, segment_of}
 use Rattle.linking.proofs.Counted.{known_tile, pairs_append}
 use Rattle.linking.proofs.Gathering.{AreCovered, record_before}
 use Rattle.linking.proofs.Walk.{pixels_differ}
 use Rattle.linking.proofs.RecordParts.{neighbour_links_append, pairs_across, pairs_back}
-use Rattle.linking.proofs.ShareLaws.{first_apart, zip_all, zip_mapped, zip_weaker}
+use Rattle.linking.proofs.ShareLaws.{first_apart, part_pairs, to_flat, zip_all, zip_mapped, zip_weaker}
 
 -- ---- counts of two lists that share no item
 module _ {X : Type 0} (xs ys : List X) (apart : (x y : X) → Contains xs x → Contains ys y → x ≢ y) where
@@ -81,16 +81,16 @@ sum_by_mapped n f [] = refl
 sum_by_mapped n f (x ∷ xs) = sum_by-cons n (f x) (map f xs) ∙ ap (λ (m : ℕ). n (f x) + m) (sum_by_mapped n f xs) ∙ sym (sum_by-cons (λ y. n (f y)) x xs)
 
 -- ---- links of two lists of records, whose segments are apart
-links_append : (segments : List Seg) (front back : List Record) (links rest : List Link) → AreKeysBelow segment_of front back → AreNeighbourLinks segments front links → AreNeighbourLinks segments back rest → AreNeighbourLinks segments (front ++ back) (links ++ rest)
-links_append segments [] back links rest apart f b = record {
+links_append : {M L : Type 0} (link_of : M → Edge → L) (makers : List M) (front back : List Record) (links rest : List L) → AreKeysBelow segment_of front back → AreNeighbourLinks link_of makers front links → AreNeighbourLinks link_of makers back rest → AreNeighbourLinks link_of makers (front ++ back) (links ++ rest)
+links_append link_of makers [] back links rest apart f b = record {
   few = let n = length-append links rest in let p = f.few in let q = b.few in omega (arith, n, p, q);
-  count_is = λ e layer.
-      let both : count_links e layer (links ++ rest) ≡ count_links e layer links + count_links e layer rest = sum_by-append (λ m. cond (is_of e layer m) 1 0) links rest in
-      let none : count_links e layer links ≡ 0 = f.count_is e layer in
-      let q = b.count_is e layer in
+  count_is = λ e wanted test pass.
+      let both : count_by test (links ++ rest) ≡ count_by test links + count_by test rest = sum_by-append (λ m. cond (test m) 1 0) links rest in
+      let none : count_by test links ≡ 0 = f.count_is e wanted test pass in
+      let q = b.count_is e wanted test pass in
       omega (arith, both, none, q);
 }
-links_append segments (r ∷ rs) back links rest apart f b = neighbour_links_append segments (r ∷ rs) back links rest (omega arith) changes f b
+links_append link_of makers (r ∷ rs) back links rest apart f b = neighbour_links_append link_of makers (r ∷ rs) back links rest (omega arith) changes f b
   where
     changes : ChangesSegment ((r ∷ rs) ++ back) (length (r ∷ rs))
     changes d l e =
@@ -108,46 +108,68 @@ links_append segments (r ∷ rs) back links rest apart f b = neighbour_links_app
         omega (arith, ints, below, same)
 
 -- ---- links of shares, one behind another
-module _ {S V : Type 0} (segments : List Seg) (items_of : S → List Record) (links_of : V → List Link) where
-  pub all_links : (shares : List S) (vs : List V) → AllPairs (λ s t. AreKeysBelow segment_of (items_of s) (items_of t)) shares → AllZip (λ s v. AreNeighbourLinks segments (items_of s) (links_of v)) shares vs → AreNeighbourLinks segments (flat_map items_of shares) (flat_map links_of vs)
-  all_links [] [] up zip = record { few = omega arith; count_is = λ e layer. refl }
+module _ {K V M L : Type 0} (link_of : M → Edge → L) (makers : List M) (items_of : K → List Record) (links_of : V → List L) where
+  pub all_links : (shares : List K) (vs : List V) → AllPairs (λ s t. AreKeysBelow segment_of (items_of s) (items_of t)) shares → AllZip (λ s v. AreNeighbourLinks link_of makers (items_of s) (links_of v)) shares vs → AreNeighbourLinks link_of makers (flat_map items_of shares) (flat_map links_of vs)
+  all_links [] [] up zip = record { few = omega arith; count_is = λ e wanted test pass. refl }
   all_links [] (v ∷ vs) up zip = absurd zip
   all_links (s ∷ ss) [] up zip = absurd zip
-  all_links (s ∷ ss) (v ∷ vs) up zip = links_append segments (items_of s) (flat_map items_of ss) (links_of v) (flat_map links_of vs) (first_apart items_of segment_of s ss up) zip.0
+  all_links (s ∷ ss) (v ∷ vs) up zip = links_append link_of makers (items_of s) (flat_map items_of ss) (links_of v) (flat_map links_of vs) (first_apart items_of segment_of s ss up) zip.0
       (all_links ss vs (tail_pairs (λ s t. AreKeysBelow segment_of (items_of s) (items_of t)) s ss up) zip.1)
 
-pub records_differ : (records : List Record) → AllPairs (λ r q. record_order r q ≡ Less) records → AllPairs (λ r q. r ≢ q) records
+records_differ : (records : List Record) → AllPairs (λ r q. record_order r q ≡ Less) records → AllPairs (λ r q. r ≢ q) records
 records_differ records up i j d a b e = never_itself (get_or records j d) (subst (λ (q : Record). record_order q (get_or records j d) ≡ Less) e (up i j d a b))
   where
     never_itself : (r : Record) → record_order r r ≡ Less → ⊥
     never_itself r l = let o : record_order r r ≡ Equal = tied_itself record_total r in absurd (cc)
 
--- what was found in shares of records that are in order
-module _ {S V : Type 0} (g : Tiling) (segments : List Seg) (items_of : S → List Record) (links_of : V → List Link) (counts_of : V → List ℕ) (shares : List S) (vs : List V)
-    (zip : AllZip (λ s v. AreLinked g segments (items_of s) (links_of v) (counts_of v)) shares vs) where
+-- what was found in shares of records
+module _ {K V M L : Type 0} (g : Tiling) (link_of : M → Edge → L) (makers : List M) (items_of : K → List Record) (links_of : V → List L) (counts_of : V → List ℕ) (shares : List K) (vs : List V)
+    (zip : AllZip (λ s v. AreLinked g link_of makers (items_of s) (links_of v) (counts_of v)) shares vs) where
   counted : AllZip (λ s counts. AreTileCounts g (λ r. r.pixel) (items_of s) counts) shares (map counts_of vs)
   counted = zip_mapped (λ s counts. AreTileCounts g (λ r. r.pixel) (items_of s) counts) counts_of shares vs (zip_weaker _ _ (λ s v h. h.counts_are) shares vs zip)
 
   pub same_sizes : All (λ counts. length counts ≡ tile_count g) (map counts_of vs)
   same_sizes = zip_all (λ counts. length counts ≡ tile_count g) shares (map counts_of vs) (zip_weaker _ _ (λ s counts h. h.one_each) shares (map counts_of vs) counted)
 
-  pub all_linked : (links : List Link) (sums : List ℕ) → AllPairs (λ s t. AreKeysBelow segment_of (items_of s) (items_of t)) shares → AllPairs (λ r q. record_order r q ≡ Less) (flat_map items_of shares)
-      → links ≡ flat_map links_of vs → AreSums (tile_count g) (map counts_of vs) sums → AreLinked g segments (flat_map items_of shares) links sums
+  pub all_linked : (links : List L) (sums : List ℕ) → AllPairs (λ s t. AreKeysBelow segment_of (items_of s) (items_of t)) shares → AllPairs (λ r q. r ≢ q) (flat_map items_of shares)
+      → links ≡ flat_map links_of vs → AreSums (tile_count g) (map counts_of vs) sums → AreLinked g link_of makers (flat_map items_of shares) links sums
   all_linked links sums up once are h = record {
-    links_are = subst (λ (ls : List Link). AreNeighbourLinks segments (flat_map items_of shares) ls) (sym are) (all_links segments items_of links_of shares vs up (zip_weaker _ _ (λ s v h. h.links_are) shares vs zip));
-    counts_are = sums_are g (λ r. r.pixel) items_of shares (map counts_of vs) sums (records_differ (flat_map items_of shares) once) counted h;
+    links_are = subst (λ (ls : List L). AreNeighbourLinks link_of makers (flat_map items_of shares) ls) (sym are) (all_links link_of makers items_of links_of shares vs up (zip_weaker _ _ (λ s v h. h.links_are) shares vs zip));
+    counts_are = sums_are g (λ r. r.pixel) items_of shares (map counts_of vs) sums once counted h;
   }
+
+-- ---- records that may be linked
+-- so may those of each share
+pub part_may_link : {K : Type 0} (g : Tiling) (n : ℕ) (items_of : K → List Record) (shares : List K) (k : ℕ) (d : K) → k < length shares → MayLink g n (flat_map items_of shares) → MayLink g n (items_of (get_or shares k d))
+part_may_link g n items_of shares k d l h = record {
+  tiles = each (λ r. HasTile g r.pixel) h.tiles;
+  once = part_pairs items_of (λ r q. r ≢ q) shares k d l h.once;
+  below = each (λ r. r.segment < n) h.below;
+  apart = part_pairs items_of (λ r q. r.segment ≡ q.segment → r.pixel ≢ q.pixel) shares k d l h.apart;
+}
+  where
+    each : (P : Record → Type 0) → All P (flat_map items_of shares) → All P (items_of (get_or shares k d))
+    each P all i r m = All-contains P (flat_map items_of shares) (get_or (items_of (get_or shares k d)) i r) all
+        (to_flat items_of shares (get_or shares k d) (get_or (items_of (get_or shares k d)) i r) (Contains-get_or shares k d l) (Contains-get_or (items_of (get_or shares k d)) i r m))
 
 -- ---- records of segments, in order and each once
 module _ (segments : List Seg) (records : List Record) (known : (r : Record) → Contains records r → ∥ IsRecord segments r ∥₁) where
-  pub records_in : (g : Tiling) → AreCovered g segments → All (λ r. HasTile g r.pixel) records
+  records_in : (g : Tiling) → AreCovered g segments → All (λ r. HasTile g r.pixel) records
   records_in g covered k d l = known_tile g (get_or records k d).pixel (∥∥₁_map (known (get_or records k d) (Contains-get_or records k d l)) (λ h. let m = hot_meets segments (get_or records k d).pixel h.hot in covered.tile m.0 (get_or records k d).pixel m.1 m.2))
 
-  pub links_below : All (λ r. r.segment < length segments) records
+  links_below : All (λ r. r.segment < length segments) records
   links_below k d l = ∥∥₁_elim (known (get_or records k d) (Contains-get_or records k d l)) (hlevel props) (λ h. slice_get_within segments (get_or records k d).segment h.s h.is_at)
 
   module _ (up : AllPairs (λ r q. record_order r q ≡ Less) records) where
-    pub links_apart : AreApart records
+    links_apart : AreApart records
     links_apart i j d a b e f =
         ∥∥₁_elim (known (get_or records i d) (Contains-get_or records i d (omega arith))) (hlevel props) (λ u.
         ∥∥₁_elim (known (get_or records j d) (Contains-get_or records j d b)) (hlevel props) (λ v. pixels_differ segments (get_or records i d) (get_or records j d) u v (record_before segments (get_or records i d) (get_or records j d) u v (up i j d a b)) e f))
+
+    pub known_may_link : (g : Tiling) (n : ℕ) → n ≡ length segments → AreCovered g segments → MayLink g n records
+    known_may_link g n same covered = record {
+      tiles = records_in g covered;
+      once = records_differ records up;
+      below = subst (λ (m : ℕ). All (λ (r : Record). r.segment < m) records) (sym same) links_below;
+      apart = links_apart;
+    }

@@ -22,11 +22,11 @@ use Rattle.linking.specs.Links.{IsRecordBefore}
 use Rattle.linking.proofs.Parts.{IsPart, distinct_from, same_length}
 
 -- ---- a list of different elements has an ascending one of the same
-record Ordered {X : Type 0} (R : X → X → Type 0) (xs : List X) : Type 0 where
-  those : List X
-  ascending : AllPairs R those
-  to : (x : X) → In x those → In x xs
-  from : (x : X) → In x xs → In x those
+pub record Ordered {X : Type 0} (R : X → X → Type 0) (xs : List X) : Type 0 where
+  pub those : List X
+  pub ascending : AllPairs R those
+  pub to : (x : X) → In x those → In x xs
+  pub from : (x : X) → In x xs → In x those
 
 module _ {X : Type 0} (R : X → X → Type 0) (Is : X → Type 0) (trans : (x y z : X) → R x y → R y z → R x z) (compare : (x y : X) → Is x → Is y → R x y ⊎ ((x ≡ y) ⊎ R y x)) where
   -- x put into its place
@@ -59,7 +59,7 @@ module _ {X : Type 0} (R : X → X → Type 0) (Is : X → Type 0) (trans : (x y
       behind : Ordered R (x ∷ ys) → Ordered R (x ∷ y ∷ ys)
       behind r = ⊎_elim first (⊎_elim same (later r)) (compare x y is (all y (inl refl)))
 
-  ordered : (xs : List X) → ((x : X) → In x xs → Is x) → Ordered R xs
+  pub ordered : (xs : List X) → ((x : X) → In x xs → Is x) → Ordered R xs
   ordered [] all = record { those = []; ascending = λ i j d a b. absurd (omega arith); to = λ z i. i; from = λ z i. i }
   ordered (x ∷ xs) all = with_first (ordered xs (λ z i. all z (inr i)))
     where

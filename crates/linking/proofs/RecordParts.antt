@@ -6,13 +6,10 @@ use Rattle.geom.proofs.Lists.{some_same}
 use Rattle.std.proofs.lemmas.Bool.Decides.{eqb_tells}
 use Rattle.std.proofs.lemmas.List.{get_or-append-add, get_or_append_left, length-append}
 use Rattle.std.proofs.lemmas.List.Sums.{sum_by-append, sum_by-cons}
-use Rattle.geom.specs.declared.segment.Source.{Source}
-use Rattle.geom.specs.declared.segment.Seg.{Seg}
 use Rattle.geom.specs.declared.edge.Edge.{Edge}
 use Rattle.hot_pixel.proofs.ListLaws.{no_one}
 use Rattle.routing.specs.declared.record.Record.{Record}
-use Rattle.linking.specs.declared.link.Link.{Link}
-use Rattle.linking.specs.Links.{AreNeighbourLinks, ChangesSegment, count_links, is_of, layer_at, makes, record_pairs}
+use Rattle.linking.specs.Links.{AreNeighbourLinks, ChangesSegment, makes, passes_at, record_pairs}
 
 -- ---- a relation of all pairs holds in the parts
 pub pairs_front : {X : Type 0} (R : X → X → Type 0) (front back : List X) → AllPairs R (front ++ back) → AllPairs R front
@@ -41,23 +38,20 @@ pairs_across {X = X} R front back h x y (i, l, e) (j, k, f) =
     same_read xs m d c w = some_same (slice_get-get_or xs m d w) (slice_get-get_or xs m c w)
 
 -- ---- the pairs of neighbours
-module _ (segments : List Seg) (e : Edge) (layer : Source) where
-  abbrev pub test : Record × Record → Bool
-  test pair = makes (layer_at segments) e layer pair
-
+module _ (wanted : ℕ → Bool) (e : Edge) where
   abbrev pub made : List Record → ℕ
-  made records = count_by test (record_pairs records)
+  made records = count_by (makes wanted e) (record_pairs records)
 
   -- of two segments
-  unmade : (r q : Record) → (r.segment ≡ q.segment → ⊥) → cond {A = ℕ} (test (r, q)) 1 0 ≡ 0
-  unmade r q apart = no_one (test (r, q)) (rw (⊎_elim (λ p. absurd (apart p.1)) (λ p. p.0) (eqb_tells r.segment q.segment)) refl)
+  unmade : (r q : Record) → (r.segment ≡ q.segment → ⊥) → cond {A = ℕ} (makes wanted e (r, q)) 1 0 ≡ 0
+  unmade r q apart = no_one (makes wanted e (r, q)) (rw (⊎_elim (λ p. absurd (apart p.1)) (λ p. p.0) (eqb_tells r.segment q.segment)) refl)
 
   pub made_in_parts : (front back : List Record) → 0 < length front → ChangesSegment (front ++ back) (length front) → made (front ++ back) ≡ made front + made back
   made_in_parts [] back some changes = absurd (omega arith)
   made_in_parts (r ∷ []) [] some changes = refl
   made_in_parts (r ∷ []) (q ∷ qs) some changes =
       let z = unmade r q (changes r (omega arith)) in
-      let whole : made ((r ∷ []) ++ (q ∷ qs)) ≡ cond {A = ℕ} (test (r, q)) 1 0 + made (q ∷ qs) = sum_by-cons (λ p. cond {A = ℕ} (test p) 1 0) (r, q) (record_pairs (q ∷ qs)) in
+      let whole : made ((r ∷ []) ++ (q ∷ qs)) ≡ cond {A = ℕ} (makes wanted e (r, q)) 1 0 + made (q ∷ qs) = sum_by-cons (λ p. cond {A = ℕ} (makes wanted e p) 1 0) (r, q) (record_pairs (q ∷ qs)) in
       let one : made (r ∷ []) ≡ 0 = refl in
       omega arith
   made_in_parts (r ∷ q ∷ rs) back some changes =
@@ -65,18 +59,18 @@ module _ (segments : List Seg) (e : Edge) (layer : Source) where
       let a : suc n - 1 ≡ n = omega arith in
       let b : suc (suc n) - 1 ≡ suc n = omega arith in
       let h = made_in_parts (q ∷ rs) back (omega arith) (λ d l. subst (λ (m : ℕ). (get_or (q ∷ (rs ++ back)) m d).segment ≢ (get_or (rs ++ back) n d).segment) (sym a) (subst (λ (m : ℕ). (get_or (r ∷ q ∷ (rs ++ back)) m d).segment ≢ (get_or (rs ++ back) n d).segment) b (changes d (omega arith)))) in
-      let whole : made ((r ∷ q ∷ rs) ++ back) ≡ cond {A = ℕ} (test (r, q)) 1 0 + made ((q ∷ rs) ++ back) = sum_by-cons (λ p. cond {A = ℕ} (test p) 1 0) (r, q) (record_pairs ((q ∷ rs) ++ back)) in
-      let part : made (r ∷ q ∷ rs) ≡ cond {A = ℕ} (test (r, q)) 1 0 + made (q ∷ rs) = sum_by-cons (λ p. cond {A = ℕ} (test p) 1 0) (r, q) (record_pairs (q ∷ rs)) in
+      let whole : made ((r ∷ q ∷ rs) ++ back) ≡ cond {A = ℕ} (makes wanted e (r, q)) 1 0 + made ((q ∷ rs) ++ back) = sum_by-cons (λ p. cond {A = ℕ} (makes wanted e p) 1 0) (r, q) (record_pairs ((q ∷ rs) ++ back)) in
+      let part : made (r ∷ q ∷ rs) ≡ cond {A = ℕ} (makes wanted e (r, q)) 1 0 + made (q ∷ rs) = sum_by-cons (λ p. cond {A = ℕ} (makes wanted e p) 1 0) (r, q) (record_pairs (q ∷ rs)) in
       omega arith
 
 -- the links of one part behind those of the other
-pub neighbour_links_append : (segments : List Seg) (front back : List Record) (links rest : List Link) → 0 < length front → ChangesSegment (front ++ back) (length front) → AreNeighbourLinks segments front links → AreNeighbourLinks segments back rest → AreNeighbourLinks segments (front ++ back) (links ++ rest)
-neighbour_links_append segments front back links rest some changes f b = record {
+pub neighbour_links_append : {M L : Type 0} (link_of : M → Edge → L) (makers : List M) (front back : List Record) (links rest : List L) → 0 < length front → ChangesSegment (front ++ back) (length front) → AreNeighbourLinks link_of makers front links → AreNeighbourLinks link_of makers back rest → AreNeighbourLinks link_of makers (front ++ back) (links ++ rest)
+neighbour_links_append link_of makers front back links rest some changes f b = record {
   few = let n = length-append front back in let m = length-append links rest in let p = f.few in let q = b.few in omega arith;
-  count_is = λ e layer.
-      let whole = made_in_parts segments e layer front back some changes in
-      let both : count_links e layer (links ++ rest) ≡ count_links e layer links + count_links e layer rest = sum_by-append (λ m. cond (is_of e layer m) 1 0) links rest in
-      let p = f.count_is e layer in
-      let q = b.count_is e layer in
+  count_is = λ e wanted test pass.
+      let whole = made_in_parts (passes_at wanted makers) e front back some changes in
+      let both : count_by test (links ++ rest) ≡ count_by test links + count_by test rest = sum_by-append (λ m. cond (test m) 1 0) links rest in
+      let p = f.count_is e wanted test pass in
+      let q = b.count_is e wanted test pass in
       omega arith;
 }

@@ -1,6 +1,6 @@
 -- The walk from records to links, and from links to the rounded edges.
 use Rattle.std.proofs.Common.{◌≡◌, ◌⊎◌, inl, inr, ℕ, ◌+◌, ◌-◌, ◌<◌, ◌≤◌, ◌^◌, List, [], ◌∷◌, ◌++◌, Bool, true, false, cond, refl, sym, ◌∙◌, ap, arith, subst, length, get_or, take, ⊎_elim}
-use Rattle.std.specs.Prelude.{All, Some, count_by, slice_get, ◌&&◌, ◌||◌}
+use Rattle.std.specs.Prelude.{All, Some, count_by, slice_get, ◌&&◌, ◌||◌, if◌then◌else◌}
 use Rattle.std.proofs.lemmas.List.{take_more}
 use Rattle.std.proofs.lemmas.List.Elements.{Contains-get_or}
 use Rattle.std.proofs.lemmas.List.Sums.{sum_by_push}
@@ -14,8 +14,8 @@ use Rattle.geom.specs.declared.segment.Seg.{Seg}
 use Rattle.geom.specs.declared.edge.Edge.{Edge}
 use Rattle.geom.specs.declared.edge.Counted.{Counted}
 use Rattle.geom.specs.Order.{IsBefore}
-use Rattle.geom.specs.Segments.{same_point}
-use Rattle.geom.specs.Rounded.{AreRounded, joins}
+use Rattle.geom.specs.Segments.{neighbours, same_point, same_source}
+use Rattle.geom.specs.Rounded.{AreRounded, joins, route_steps}
 use Rattle.geom.proofs.Points.{and_both, same_point_true}
 use Rattle.geom.proofs.Edges.{before_strict}
 use Rattle.geom.proofs.Lists.{some_same}
@@ -24,8 +24,8 @@ use Rattle.routing.specs.declared.record.Record.{Record}
 use Rattle.routing.specs.Steps.{steps_to}
 use Rattle.routing.specs.Pieces.{IsRecord}
 use Rattle.linking.specs.declared.link.Link.{Link}
-use Rattle.linking.specs.Links.{IsRecordBefore, AreRecords, AreApart, AreLinks, layer_at, record_pairs, makes, same_edge, is_of, count_links, AreCounts}
-use Rattle.linking.proofs.Flat.{layer_at_is, routes_from, routes_of_records, count_is}
+use Rattle.linking.specs.Links.{IsRecordBefore, AreRecords, AreApart, AreLinks, AreNeighbourLinks, AreRouteLinks, PassLinks, passes_at, record_pairs, makes, same_edge, is_of, AreCounts, wanted_steps}
+use Rattle.linking.proofs.Flat.{passes_at_is, routes_from, routes_of_records, count_is}
 
 -- ---- an edge joins the two points that it is between
 abbrev pub IsBetweenPoints : Edge → Pt → Pt → Type 0
@@ -58,22 +58,25 @@ pairs_more records i start end l b e f =
     let whole : take (i + 1) records ≡ take i records ++ end ∷ [] = take_more records i end b ∙ ap (λ (r : Record). take i records ++ r ∷ []) (sym f) in
     ap record_pairs (whole ∙ ap (λ (rs : List Record). rs ++ end ∷ []) front) ∙ pairs_push (take k records) start end ∙ ap (λ (rs : List Record). record_pairs rs ++ (start, end) ∷ []) (sym front)
 
-module _ (segments : List Seg) (records : List Record) (list : List Link) (i : ℕ) (start end : Record) (low : 1 ≤ i) (high : i < length records) (start_is : start ≡ get_or records (i - 1) start) (end_is : end ≡ get_or records i end) (e : Edge) (layer : Source)
-    (before : count_links e layer list ≡ count_by (makes (layer_at segments) e layer) (record_pairs (take i records))) where
-  made_more : count_by (makes (layer_at segments) e layer) (record_pairs (take (i + 1) records)) ≡ count_by (makes (layer_at segments) e layer) (record_pairs (take i records)) + cond {A = ℕ} (makes (layer_at segments) e layer (start, end)) 1 0
-  made_more = ap (λ (ps : List (Record × Record)). count_by (makes (layer_at segments) e layer) ps) (pairs_more records i start end low high start_is end_is) ∙ sum_by_push (λ p. cond {A = ℕ} (makes (layer_at segments) e layer p) 1 0) (record_pairs (take i records)) (start, end)
+module _ {M L : Type 0} (link_of : M → Edge → L) (makers : List M) (records : List Record) (list : List L) (i : ℕ) (start end : Record) (low : 1 ≤ i) (high : i < length records) (start_is : start ≡ get_or records (i - 1) start) (end_is : end ≡ get_or records i end) (e : Edge) (wanted : M → Bool) (test : L → Bool) (pass : PassLinks link_of e wanted test)
+    (before : count_by test list ≡ count_by (makes (passes_at wanted makers) e) (record_pairs (take i records))) where
+  abbrev is_made : Record × Record → Bool
+  is_made pair = makes (passes_at wanted makers) e pair
+
+  made_more : count_by is_made (record_pairs (take (i + 1) records)) ≡ count_by is_made (record_pairs (take i records)) + cond {A = ℕ} (is_made (start, end)) 1 0
+  made_more = ap (λ (ps : List (Record × Record)). count_by is_made ps) (pairs_more records i start end low high start_is end_is) ∙ sum_by_push (λ p. cond {A = ℕ} (is_made p) 1 0) (record_pairs (take i records)) (start, end)
 
   -- of another segment
-  pub walk_skip : (start.segment ≡ end.segment → ⊥) → count_links e layer list ≡ count_by (makes (layer_at segments) e layer) (record_pairs (take (i + 1) records))
-  walk_skip apart = let f : makes (layer_at segments) e layer (start, end) ≡ false = rw (⊎_elim (λ p. absurd (apart p.1)) (λ p. p.0) (eqb_tells start.segment end.segment)) refl in let g = no_one (makes (layer_at segments) e layer (start, end)) f in let h = made_more in omega arith
+  pub walk_skip : (start.segment ≡ end.segment → ⊥) → count_by test list ≡ count_by is_made (record_pairs (take (i + 1) records))
+  walk_skip apart = let f : is_made (start, end) ≡ false = rw (⊎_elim (λ p. absurd (apart p.1)) (λ p. p.0) (eqb_tells start.segment end.segment)) refl in let g = no_one (is_made (start, end)) f in let h = made_more in omega arith
 
   -- of the same segment
-  pub walk_push : start.segment ≡ end.segment → (s : Seg) → slice_get segments start.segment ≡ Some s → (link : Link) → link.layer ≡ s.layer → IsBetweenPoints link.edge start.pixel end.pixel → count_links e layer (list ++ link ∷ []) ≡ count_by (makes (layer_at segments) e layer) (record_pairs (take (i + 1) records))
-  walk_push same s at link own between =
-      let source : layer_at segments start.segment ≡ link.layer = layer_at_is segments start.segment s at ∙ sym own in
-      let test : is_of e layer link ≡ makes (layer_at segments) e layer (start, end) = rw (eq-eqb start.segment end.segment same, source, joins_is e link.edge start.pixel end.pixel between) refl in
-      let a : count_links e layer (list ++ link ∷ []) ≡ count_links e layer list + cond {A = ℕ} (is_of e layer link) 1 0 = sum_by_push (λ m. cond {A = ℕ} (is_of e layer m) 1 0) list link in
-      let b : cond {A = ℕ} (is_of e layer link) 1 0 ≡ cond {A = ℕ} (makes (layer_at segments) e layer (start, end)) 1 0 = ap (λ (t : Bool). cond {A = ℕ} t 1 0) test in
+  pub walk_push : start.segment ≡ end.segment → (maker : M) → slice_get makers start.segment ≡ Some maker → (f : Edge) → IsBetweenPoints f start.pixel end.pixel → (link : L) → link ≡ link_of maker f → count_by test (list ++ link ∷ []) ≡ count_by is_made (record_pairs (take (i + 1) records))
+  walk_push same maker at f between link is =
+      let own : test link ≡ (same_edge e f && wanted maker) = ap test is ∙ pass maker f in
+      let passed : is_made (start, end) ≡ (same_edge e f && wanted maker) = rw (eq-eqb start.segment end.segment same, passes_at_is wanted makers start.segment maker at, joins_is e f start.pixel end.pixel between) refl in
+      let a : count_by test (list ++ link ∷ []) ≡ count_by test list + cond {A = ℕ} (test link) 1 0 = sum_by_push (λ m. cond {A = ℕ} (test m) 1 0) list link in
+      let b : cond {A = ℕ} (test link) 1 0 ≡ cond {A = ℕ} (is_made (start, end)) 1 0 = ap (λ (t : Bool). cond {A = ℕ} t 1 0) (own ∙ sym passed) in
       let h = made_more in
       omega arith
 
@@ -94,13 +97,28 @@ pub records_apart : (segments : List Seg) (records : List Record) → AreRecords
 records_apart segments records h = λ i j d a b e f. pixels_differ segments (get_or records i d) (get_or records j d) ((h.exact _).0 (Contains-get_or records i d (omega arith))) ((h.exact _).0 (Contains-get_or records j d b)) (h.ascending i j d a b) e f
 
 -- links that are counted as the neighbours among records are those of the routes
-pub links_are : (segments : List Seg) (records : List Record) (links : List Link) → AreRecords segments records → length links < 2 ^ 32
-    → ((e : Edge) (layer : Source) → count_links e layer links ≡ count_by (makes (layer_at segments) e layer) (record_pairs records)) → AreLinks segments links
-links_are segments records links h few same = record {
-  few = few;
+pub route_links : {M L : Type 0} (link_of : M → Edge → L) (segments : List Seg) (makers : List M) (records : List Record) (links : List L) → length makers ≡ length segments → AreRecords segments records → AreNeighbourLinks link_of makers records links → AreRouteLinks link_of segments makers links
+route_links link_of segments makers records links size h near = record {
   routes = routes_from 0 segments records;
   are_routes = routes_of_records segments records h;
-  count_is = λ e layer. same e layer ∙ sym (count_is segments records h e layer);
+  count_is = λ e wanted test pass. near.count_is e wanted test pass ∙ count_is segments records h makers size e wanted;
+}
+
+-- ---- links of layers
+abbrev pub layer_link : Seg → Edge → Link
+layer_link s e = record { edge = e; layer = s.layer }
+
+layer_steps_are : (layer : Source) (segments : List Seg) (routes : List (List Pt)) → wanted_steps (λ (s : Seg). same_source s.layer layer) segments routes ≡ route_steps layer segments routes
+layer_steps_are layer [] routes = refl
+layer_steps_are layer (s ∷ ss) [] = refl
+layer_steps_are layer (s ∷ ss) (route ∷ routes) = ap (λ (steps : List (Pt × Pt)). (if same_source s.layer layer then neighbours route else []) ++ steps) (layer_steps_are layer ss routes)
+
+pub links_are : (segments : List Seg) (links : List Link) → AreRouteLinks layer_link segments segments links → length links < 2 ^ 32 → AreLinks segments links
+links_are segments links h few = record {
+  few = few;
+  routes = h.routes;
+  are_routes = h.are_routes;
+  count_is = λ e layer. h.count_is e (λ (s : Seg). same_source s.layer layer) (is_of e layer) (λ s f. refl) ∙ ap (count_by (joins e)) (layer_steps_are layer segments h.routes);
 }
 
 -- the counts of the links are those of the edges

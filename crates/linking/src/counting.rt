@@ -1,23 +1,20 @@
 //! How often each edge is a link, counted by one hand or by several.
 //!
 //! 1. Each hand takes the links of its share, by the columns of their first ends, from all lists, and sorts them
-//!    (`sorted_in_parts`).
+//!    (`shares`).
 //! 2. Each hand counts the links of its share (`counted_in_parts`).
 //! 3. The counts of the shares are put behind one another (`counts_in_parts`).
 
 ghost use Rattle.std.specs.Prelude.{◌≡◌, ◌+◌, ◌<◌, ◌^◌, ◌++◌, ◌∷◌, [], All, AllPairs, IfOk, IsTrue, OnOk, Some, flat_map, if◌then◌else◌, length, slice_get};
-ghost use Rattle.std.specs.List.Sorted.{IsPermutation, IsSorted};
+ghost use Rattle.std.specs.List.Sorted.{IsSorted};
 ghost use Rattle.geom.specs.declared.segment.Source.{Source};
 ghost use Rattle.geom.specs.Segments.{same_source};
 ghost use Rattle.linking.specs.Links.{AreCounts, AreInOrder};
 ghost use Rattle.linking.specs.Orders.{link_order};
-ghost use Rattle.linking.specs.Shares.{AreKeysBelow, AreShares, column_of};
-ghost use Rattle.linking.specs.Spans.{within};
+ghost use Rattle.linking.specs.Shares.{AreKeysBelow, column_of};
 
-use crate::by_range::sorted;
 use crate::link::Link;
-use crate::shares::{places_of, shares_of, taken};
-use crate::span::Share;
+use crate::shares::{items_in_order, places_of, sorted_in_parts};
 use geom::{Counted, Edge, NoMemory, Source};
 use hands::{joined, map_parts};
 use std::alloc::Allocator;
@@ -97,14 +94,6 @@ fn count_alone<A: Allocator>(
     Ok(list)
 }
 
-/// Links in order.
-fn links_in_order<A: Allocator>(links: Vec<Link, A>) -> Vec<Link, A>
-    ensures permutation { IsPermutation links.items result.items }
-    ensures sorted { IsSorted link_order result.items }
-{
-    sorted(links)
-}
-
 /// Each edge among the links, ascending, with its counts, with room for so many at first.
 pub(crate) fn counts<A: Allocator>(
     alloc: A,
@@ -114,32 +103,8 @@ pub(crate) fn counts<A: Allocator>(
     requires short { length links.items < 2 ^ 32 }
     ensures { IfOk result (λ v. AreCounts links.items v.items) }
 {
-    let links = links_in_order(links);
+    let links = items_in_order(links);
     count_alone(alloc, room, &links)
-}
-
-/// The links of lists in at most so many shares, each in order.
-fn sorted_in_parts<R: Threads + Sync, A: Allocator + Copy + Send + Sync>(
-    rt: &R,
-    alloc: A,
-    parts: usize,
-    lists: &[Vec<Link, A>],
-) -> Result<Vec<Vec<Link, A>, A>, NoMemory>
-    ensures shares { IfOk result (λ v. AreShares (λ s. s.items) column_of (flat_map (λ l. l.items) lists.now) v.items) }
-    ensures sorted { IfOk result (λ v. All (λ s. IsSorted link_order s.items) v.items) }
-{
-    let shares = shares_of::<Link, _, _>(alloc, parts, lists)?;
-    map_parts(
-        rt,
-        alloc,
-        &shares,
-        |share: Share| -> Result<Vec<Link, A>, NoMemory>
-            ensures { IfOk result (λ v. IsPermutation (within column_of share.span (flat_map (λ l. l.items) lists.entry.now)) v.items × IsSorted link_order v.items) }
-        {
-            let links = taken(alloc, lists, share)?;
-            Ok(links_in_order(links))
-        },
-    )
 }
 
 /// The counts of shares whose links are in order, each by a hand of its own.

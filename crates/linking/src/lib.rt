@@ -1,13 +1,15 @@
-//! Rounded edges: the pieces of all cells in, the edges of the routes out, with their counts in both layers.
+//! Rounded edges: the pieces of all cells in, the edges of the routes out, with their counts in both layers, or with the features whose
+//! border they are.
 //!
 //! 1. Records are shared by spans of segments (`span`, `shares`), sorted, and neighbours are linked (`linked`).
-//! 2. Links are shared by spans of columns, sorted and counted (`counting`).
+//! 2. Links are shared by spans of columns, sorted and counted (`counting`), or those of a feature cancelled by twos (`bordering`).
 //! 3. The hot pixels and records of each tile are counted (`numbers`).
 //!
 //! The promise: exactly the definition's rounded edges, ascending, noded, and with even degrees where the segments close. The definitions are
 //! `specs/Gathered` and `specs/Links`.
 #![tactic(auto)]
 
+mod bordering;
 mod by_range;
 mod counting;
 mod link;
@@ -21,6 +23,7 @@ mod shares;
 mod span;
 mod tile_piece;
 
+pub use bordering::{RoundedBorders, gather_borders_in_parts};
 pub use by_range::{Keyed, sorted};
 pub use counting::counts_in_parts;
 pub use link::Link;

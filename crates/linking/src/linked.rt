@@ -4,23 +4,19 @@
 //! 2. Each hand counts the records of its share by their tiles, and links neighbours (`link_share`).
 //! 3. The lists of links stand in the order of the shares, and the counts of each tile are added (`link_in_parts`).
 
-ghost use Rattle.std.specs.Prelude.{◌≡◌, ◌<◌, AllPairs, Contains, IfOk, Some, flat_map, length, map, slice_get};
-ghost use Rattle.std.specs.declared.cmp.Ordering.TheVariants.{Less};
-ghost use Rattle.routing.specs.Pieces.{IsRecord};
-ghost use Rattle.routing.specs.declared.record.Record.{Record};
-ghost use Rattle.linking.specs.Gathered.{HaveTiles};
-ghost use Rattle.linking.specs.Orders.{AreSortedOnce, record_order};
-ghost use Rattle.linking.specs.Shares.{AreKeysBelow, AreLinked, AreOrdered, segment_of};
+ghost use Rattle.std.specs.Prelude.{◌≡◌, ◌<◌, AllPairs, IfOk, Some, flat_map, length, map, slice_get};
+ghost use Rattle.linking.specs.Orders.{AreSortedOnce};
+ghost use Rattle.linking.specs.Shares.{AreKeysBelow, AreLinked, AreOrdered, MayLink, segment_of};
 ghost use Rattle.linking.specs.Spans.{within};
 
 use crate::by_range::sorted;
-use crate::link::Link;
+use crate::link::MakesLinks;
 use crate::neighbours::neighbour_links;
 use crate::numbers::{count_by_tile, summed};
 use crate::shares::{places_of, shares_of, taken};
 use crate::span::Share;
 use crate::tile_piece::{TilePiece, Tiled};
-use geom::{NoMemory, Seg};
+use geom::NoMemory;
 use grid::Grid;
 use hands::map_parts;
 use routing::Record;
@@ -29,15 +25,15 @@ use std::thread::Threads;
 
 /// The links of a share of the records, and how many of the records each tile has.
 #[derive(Drop)]
-pub(crate) struct Linked<A: Allocator> {
-    links: Vec<Link, A>,
+pub(crate) struct Linked<L: Copy, A: Allocator> {
+    links: Vec<L, A>,
     records: Vec<u32, A>,
 }
 
 /// The links of all records, in a list for each share, and how many of the records each tile has.
 #[derive(Drop)]
-pub(crate) struct AllLinked<A: Allocator> {
-    pub links: Vec<Vec<Link, A>, A>,
+pub(crate) struct AllLinked<L: Copy, A: Allocator> {
+    pub links: Vec<Vec<L, A>, A>,
     pub records: Vec<u32, A>,
 }
 
@@ -78,30 +74,28 @@ pub(crate) fn ordered_in_parts<
 }
 
 /// What is found in one share. More records than a `u32` counts are refused as want of memory.
-fn link_share<A: Allocator + Copy>(
+fn link_share<M: MakesLinks<L>, L: Copy, A: Allocator + Copy>(
     alloc: A,
     grid: &Grid,
-    segments: &[Seg],
+    makers: &[M],
     records: &[Record],
-) -> Result<Linked<A>, NoMemory>
-    requires covered { HaveTiles grid.now segments.now }
-    requires known { (r : Record) → Contains records.now r → ∥ IsRecord segments.now r ∥₁ }
-    requires ascending { AllPairs (λ r q. record_order r q ≡ Less) records.now }
-    ensures { IfOk result (λ f. AreLinked grid.now segments.now records.now f.links.items f.records.items) }
+) -> Result<Linked<L, A>, NoMemory>
+    requires { MayLink grid.now (length makers.now) records.now }
+    ensures { IfOk result (λ f. AreLinked grid.now M.link_of makers.now records.now f.links.items f.records.items) }
 {
     if records.len() > u32::MAX as usize {
         return Err(NoMemory);
     }
-    let links = neighbour_links(alloc, records.len(), segments, records)?;
+    let links = neighbour_links(alloc, records.len(), makers, records)?;
     let records = count_by_tile(alloc, grid, records)?;
     Ok(Linked { links, records })
 }
 
 /// The links of shares, and the counts of these, apart.
-fn parted<A: Allocator + Copy>(
+fn parted<L: Copy, A: Allocator + Copy>(
     alloc: A,
-    found: Vec<Linked<A>, A>,
-) -> Result<(Vec<Vec<Link, A>, A>, Vec<Vec<u32, A>, A>), NoMemory>
+    found: Vec<Linked<L, A>, A>,
+) -> Result<(Vec<Vec<L, A>, A>, Vec<Vec<u32, A>, A>), NoMemory>
     ensures links { IfOk result (λ r. flat_map (λ l. l.items) r.0.items ≡ flat_map (λ f. f.links.items) found.items) }
     ensures records { IfOk result (λ r. map (λ l. l.items) r.1.items ≡ map (λ f. f.records.items) found.items) }
 {
@@ -116,28 +110,31 @@ fn parted<A: Allocator + Copy>(
 }
 
 /// What is found in shares that ascend by segments, each by a hand of its own.
-pub(crate) fn link_in_parts<A: Allocator + Copy + Send + Sync, R: Threads + Sync>(
+pub(crate) fn link_in_parts<
+    M: MakesLinks<L> + Sync,
+    L: Copy + Send + Sync,
+    A: Allocator + Copy + Send + Sync,
+    R: Threads + Sync,
+>(
     rt: &R,
     alloc: A,
     grid: &Grid,
-    segments: &[Seg],
+    makers: &[M],
     shares: &[Vec<Record, A>],
-) -> Result<AllLinked<A>, NoMemory>
-    requires covered { HaveTiles grid.now segments.now }
-    requires known { (r : Record) → Contains (flat_map (λ s. s.items) shares.now) r → ∥ IsRecord segments.now r ∥₁ }
-    requires once { AllPairs (λ r q. record_order r q ≡ Less) (flat_map (λ s. s.items) shares.now) }
+) -> Result<AllLinked<L, A>, NoMemory>
+    requires may_link { MayLink grid.now (length makers.now) (flat_map (λ s. s.items) shares.now) }
     requires ascending { AllPairs (λ s t. AreKeysBelow segment_of s.items t.items) shares.now }
-    ensures { IfOk result (λ f. AreLinked grid.now segments.now (flat_map (λ s. s.items) shares.now) (flat_map (λ l. l.items) f.links.items) f.records.items) }
+    ensures { IfOk result (λ f. AreLinked grid.now M.link_of makers.now (flat_map (λ s. s.items) shares.now) (flat_map (λ l. l.items) f.links.items) f.records.items) }
 {
     let places = places_of(alloc, shares.len())?;
     let found = map_parts(
         rt,
         alloc,
         &places,
-        |place: usize| -> Result<Linked<A>, NoMemory>
-            requires { (place < length shares.now) × HaveTiles grid.now segments.now × ((r : Record) → Contains (flat_map (λ s. s.items) shares.now) r → ∥ IsRecord segments.now r ∥₁) × AllPairs (λ r q. record_order r q ≡ Less) (flat_map (λ s. s.items) shares.now) }
-            ensures { IfOk result (λ f. (s : _) → slice_get shares.entry.now place ≡ Some s → AreLinked grid.entry.now segments.entry.now s.items f.links.items f.records.items) }
-        { link_share(alloc, grid, segments, &shares[place]) },
+        |place: usize| -> Result<Linked<L, A>, NoMemory>
+            requires { (place < length shares.now) × MayLink grid.now (length makers.now) (flat_map (λ s. s.items) shares.now) }
+            ensures { IfOk result (λ f. (s : _) → slice_get shares.entry.now place ≡ Some s → AreLinked grid.entry.now M.link_of makers.entry.now s.items f.links.items f.records.items) }
+        { link_share(alloc, grid, makers, &shares[place]) },
     )?;
     let (links, counts) = parted(alloc, found)?;
     let records = summed(alloc, grid.tiles() as usize, &counts)?;

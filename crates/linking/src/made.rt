@@ -7,11 +7,12 @@ ghost use Rattle.geom.specs.Rounded.{AreRounded, HasEvenDegrees, edges_of, odd_e
 ghost use Rattle.geom.specs.Segments.{AreClosed};
 ghost use Rattle.grid.specs.Tiles.{tile_count};
 ghost use Rattle.linking.specs.Gathered.{AreTileNumbers, HaveTiles};
-ghost use Rattle.linking.specs.Links.{HasRecords};
+ghost use Rattle.linking.specs.Links.{AreRouteLinks, HasRecords};
 ghost use Rattle.tile_book.specs.Books.{StandInOrder};
 
 use crate::counting::{counts, counts_in_parts, room_for};
-use crate::linked::{in_order, link_in_parts, ordered_in_parts};
+use crate::link::MakesLinks;
+use crate::linked::{AllLinked, in_order, link_in_parts, ordered_in_parts};
 use crate::neighbours::links;
 use crate::numbers::{hot_in_parts, numbers_of, paired};
 use crate::rounded::{Rounded, TileNumbers};
@@ -22,6 +23,13 @@ use grid::Grid;
 use routing::Record;
 use std::alloc::Allocator;
 use std::thread::Threads;
+
+/// The links of all routes, in lists, and each tile's numbers.
+#[derive(Drop)]
+pub(crate) struct LinkedPieces<L: Copy, A: Allocator> {
+    pub links: Vec<Vec<L, A>, A>,
+    pub tiles: Vec<TileNumbers, A>,
+}
 
 /// The rounded edges of segments, of the records of all their routes, in any order and as often as they come, with numbers of
 /// tiles as they are told. More records than a `u32` counts are refused as want of memory.
@@ -106,16 +114,49 @@ pub fn gather_made_in_parts<T: Tiled + Sync, A: Allocator + Copy + Send + Sync, 
     ensures tiles { IfOk result (λ r. AreTileNumbers grid.now segments.now (tile_count grid.now) r.tiles.items) }
     ensures remade { IfOk result (λ r. r.remade ≡ remade) }
 {
+    let found = link_pieces(rt, alloc, parts, pieces, cells, grid, segments, segments)?;
+    let LinkedPieces { links, tiles } = found;
+    let edges = counts_in_parts(rt, alloc, parts, links)?;
+    Ok(rounded_of(segments, edges, tiles, remade))
+}
+
+/// The links of the pieces of all cells, made by what stands for the segments, and each tile's numbers, in at most so many parts.
+pub(crate) fn link_pieces<
+    M: MakesLinks<L> + Sync,
+    L: Copy + Send + Sync,
+    T: Tiled + Sync,
+    A: Allocator + Copy + Send + Sync,
+    R: Threads + Sync,
+>(
+    rt: &R,
+    alloc: A,
+    parts: usize,
+    pieces: Vec<TilePiece<T, A>, A>,
+    cells: &Grid,
+    grid: &Grid,
+    segments: &[Seg],
+    makers: &[M],
+) -> Result<LinkedPieces<L, A>, NoMemory>
+    requires cells { cells.now ≡ T.grid }
+    requires segments { segments.now ≡ T.segments }
+    requires covered_by_cells { HaveTiles cells.now segments.now }
+    requires covered { HaveTiles grid.now segments.now }
+    requires one_each { length pieces.items ≡ tile_count cells.now }
+    requires in_order { StandInOrder (λ p. p.number) pieces.items }
+    requires one_for_each { length makers.now ≡ length segments.now }
+    ensures links { IfOk result (λ r. ∥ AreRouteLinks M.link_of segments.now makers.now (flat_map (λ l. l.items) r.links.items) ∥₁) }
+    ensures tiles { IfOk result (λ r. AreTileNumbers grid.now segments.now (tile_count grid.now) r.tiles.items) }
+{
     let shares = ordered_in_parts(rt, alloc, parts, &pieces)?;
     let pixels = pixels_of(alloc, &pieces)?;
     drop(pieces);
     let hot = hot_in_parts(rt, alloc, parts, grid, &pixels)?;
     drop(pixels);
-    let found = link_in_parts(rt, alloc, grid, segments, &shares)?;
+    let found = link_in_parts(rt, alloc, grid, makers, &shares)?;
     drop(shares);
-    let tiles = paired(alloc, &hot, &found.records)?;
-    let edges = counts_in_parts(rt, alloc, parts, found.links)?;
-    Ok(rounded_of(segments, edges, tiles, remade))
+    let AllLinked { links, records } = found;
+    let tiles = paired(alloc, &hot, &records)?;
+    Ok(LinkedPieces { links, tiles })
 }
 
 /// How many hot pixels pieces have together.

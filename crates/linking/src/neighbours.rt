@@ -3,7 +3,7 @@
 ghost use Rattle.std.specs.Prelude.{◌≡◌, ◌≢◌, ◌<◌, ◌^◌, ◌⊎◌, All, IfOk, length};
 ghost use Rattle.linking.specs.Links.{AreApart, AreLinks, AreNeighbourLinks, AreRecords};
 
-use crate::link::Link;
+use crate::link::{Link, MakesLinks};
 use geom::{Edge, NoMemory, Pt, Seg};
 use routing::Record;
 use std::alloc::Allocator;
@@ -20,17 +20,17 @@ fn edge_between(c: Pt, d: Pt) -> Edge
     }
 }
 
-/// The links between neighbours among records, with room for so many at first.
-pub(crate) fn neighbour_links<A: Allocator>(
+/// The links between neighbours among records, made by what stands for the segments, with room for so many at first.
+pub(crate) fn neighbour_links<M: MakesLinks<L>, L: Copy, A: Allocator>(
     alloc: A,
     room: usize,
-    segments: &[Seg],
+    makers: &[M],
     records: &[Record],
-) -> Result<Vec<Link, A>, NoMemory>
-    requires below { All (λ r. r.segment < length segments.now) records.now }
+) -> Result<Vec<L, A>, NoMemory>
+    requires below { All (λ r. r.segment < length makers.now) records.now }
     requires apart { AreApart records.now }
     requires short { length records.now < 2 ^ 32 }
-    ensures { IfOk result (λ v. AreNeighbourLinks segments.now records.now v.items) }
+    ensures { IfOk result (λ v. AreNeighbourLinks M.link_of makers.now records.now v.items) }
 {
     let mut list = Vec::with_capacity(alloc, room)?;
     for i in 1..records.len() {
@@ -38,8 +38,7 @@ pub(crate) fn neighbour_links<A: Allocator>(
         let end = records[i];
         if start.segment == end.segment {
             let edge = edge_between(start.pixel, end.pixel);
-            let layer = segments[start.segment as usize].layer;
-            list.push(Link { edge, layer })?;
+            list.push(makers[start.segment as usize].link(edge))?;
         }
     }
     Ok(list)

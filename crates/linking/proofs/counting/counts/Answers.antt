@@ -9,13 +9,13 @@ use Rattle.linking.proofs.counting.counts.Goals as goal
 
 pub count_alone-requires-clause-in_order : goal.count_alone-requires-clause-in_order
 count_alone-requires-clause-in_order g c =
-    let up : IsSorted link_order c.links_in_order-links.result.items = c.links_in_order-links.ensures.sorted in
+    let up : IsSorted link_order c.items_in_order-links.result.items = c.items_in_order-links.ensures.sorted in
     sorted_in_order c.deref.result.now (rw c.deref.ensures.value up)
 
 pub count_alone-requires-clause-short : goal.count_alone-requires-clause-short
-count_alone-requires-clause-short g c = let e = length_permutation _ _ c.links_in_order-links.ensures.permutation in let d = ap (λ (ls : List Link). length ls) c.deref.ensures.value in let r = c.requires.short in omega arith
+count_alone-requires-clause-short g c = let e = length_permutation _ _ c.items_in_order-links.ensures.permutation in let d = ap (λ (ls : List Link). length ls) c.deref.ensures.value in let r = c.requires.short in omega arith
 
 pub returns : goal.returns
 returns g c =
-    let moved = subst (λ (ls : List Link). IsPermutation c.args.links.items ls) (sym c.deref.ensures.value) c.links_in_order-links.ensures.permutation in
+    let moved = subst (λ (ls : List Link). IsPermutation c.args.links.items ls) (sym c.deref.ensures.value) c.items_in_order-links.ensures.permutation in
     IfOk-weaker c.count_alone.result _ _ (λ v h. counts_moved c.args.links.items c.deref.result.now v.items moved h) c.count_alone.ensures

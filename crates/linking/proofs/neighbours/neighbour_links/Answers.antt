@@ -1,9 +1,8 @@
-use Rattle.std.proofs.Common.{refl, ap, sym, ◌-◌, arith, ◌≡◌, ◌≤◌, get_or, take, length, List, [], ◌∷◌}
+use Rattle.std.proofs.Common.{refl, ◌-◌, arith, ◌≡◌, ◌≤◌, get_or, take, length, List, [], ◌∷◌}
 use Rattle.std.proofs.Math.IntN.{pos}
 use Rattle.std.proofs.lemmas.Grind.{common_steps}
 use Rattle.std.proofs.lemmas.Option.{slice_get_read}
 use Rattle.std.proofs.lemmas.List.{get_or_default, take_all}
-use Rattle.geom.specs.declared.segment.Seg.{Seg}
 use Rattle.routing.specs.declared.record.Record.{Record}
 use Rattle.linking.specs.Links.{record_pairs}
 use Rattle.linking.proofs.Walk.{walk_skip, walk_push}
@@ -15,11 +14,11 @@ no_pairs [] = refl
 no_pairs (r ∷ rs) = refl
 
 pub loop-i-init : goal.loop-i-init
-loop-i-init g c = rw c.in_ok-list.ensures.items (omega arith, omega arith, λ e layer. rw (no_pairs c.args.records.now) refl)
+loop-i-init g c = rw c.in_ok-list.ensures.items (omega arith, omega arith, λ e wanted test pass. rw (no_pairs c.args.records.now) refl)
 
 pub loop-i-preserved : goal.loop-i-preserved
 loop-i-preserved g c =
-    let segments = c.args.segments.now in
+    let makers = c.args.makers.now in
     let records = c.args.records.now in
     let i = c.loop-i.i in
     let blank : Record = record { segment = 0; steps = 0; pixel = record { x = pos 0; y = pos 0 } } in
@@ -33,15 +32,15 @@ loop-i-preserved g c =
       | then-start-end+in_ok-push w ↦ rw (w.list-is, w.in_ok-push.ensures.items) (
         grind (arith, common_steps, c.loop-i.invariant.0),
         grind (arith, common_steps, c.loop-i.invariant.0),
-        λ e layer. walk_push segments records c.loop-i.list.items i start end low high start_is end_is e layer (c.loop-i.invariant.2 e layer) w.if-start-end.true w.index-segments-start.result
-            (slice_get_read segments (length segments) start.segment w.index-segments-start.result refl (c.requires.below (i - 1) blank (omega arith)) w.index-segments-start.is)
-            (record { edge = w.edge_between-edge.result; layer = (get_or segments start.segment w.index-segments-start.result).layer }) (ap (λ (s : Seg). s.layer) (sym w.index-segments-start.is)) w.edge_between-edge.ensures,
+        λ e wanted test pass. walk_push g.M.MakesLinks.link_of makers records c.loop-i.list.items i start end low high start_is end_is e wanted test pass (c.loop-i.invariant.2 e wanted test pass) w.if-start-end.true w.index-makers-start.result
+            (slice_get_read makers (length makers) start.segment w.index-makers-start.result refl (c.requires.below (i - 1) blank (omega arith)) w.index-makers-start.is)
+            w.edge_between-edge.result w.edge_between-edge.ensures w.link.result w.link.ensures,
       )
-      | else-start-end w ↦ rw w.list-is (let h = c.loop-i.invariant.0 in omega arith, c.loop-i.invariant.1, λ e layer. walk_skip segments records c.loop-i.list.items i start end low high start_is end_is e layer (c.loop-i.invariant.2 e layer) w.if-start-end.false)
+      | else-start-end w ↦ rw w.list-is (let h = c.loop-i.invariant.0 in omega arith, c.loop-i.invariant.1, λ e wanted test pass. walk_skip g.M.MakesLinks.link_of makers records c.loop-i.list.items i start end low high start_is end_is e wanted test pass (c.loop-i.invariant.2 e wanted test pass) w.if-start-end.false)
     ]
 
 pub returns : goal.returns
 returns g c = record {
   few = c.loop-i.invariant.1;
-  count_is = λ e layer. rw (← take_all c.loop-i.i c.args.records.now c.loop-i-test.false) (c.loop-i.invariant.2 e layer);
+  count_is = λ e wanted test pass. rw (← take_all c.loop-i.i c.args.records.now c.loop-i-test.false) (c.loop-i.invariant.2 e wanted test pass);
 }
