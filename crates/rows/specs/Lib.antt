@@ -1,0 +1,3 @@
+pub mod RowEdges
+pub mod RowSets
+pub mod Made
