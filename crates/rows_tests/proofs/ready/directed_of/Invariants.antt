@@ -1,0 +1,6 @@
+use Rattle.std.proofs.Common.{◌≡◌, map, take}
+use Rattle.rows.specs.RowSets.{edge_of}
+use Rattle.rows_tests.proofs.ready.directed_of.Given as goal
+
+abbrev pub invariant-loop-edge : goal.invariant-loop-edge
+invariant-loop-edge g l = l.list.items ≡ map edge_of (take l.edge-index l.run)
