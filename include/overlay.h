@@ -1,7 +1,8 @@
 /* Overlay of polygon layers on the integer grid, from memory to memory, in C99 and C++.
  *
  * A layer is a text of POLYGON and MULTIPOLYGON geometries with whole coordinates from -268435456 to 268435456, in grid units,
- * and has at most 268435456 bytes; both layers together have at most 1048576 segments. It needs no 0 at its end.
+ * and has at most 268435456 bytes; both layers together have at most 1048576 segments, or as many as a call says. It needs no 0
+ * at its end.
  *
  * Each call runs on the calling thread alone and keeps nothing, so any number of threads may call at once. It takes memory by
  * malloc, and has let all of it go when it returns. All that is passed stays the caller's: no call keeps a pointer, and none
@@ -53,7 +54,7 @@ enum overlay_refusal {
     OVERLAY_NUMBER_RANGE = 2,      /* a coordinate is out of range: detail is the byte where the first such number begins */
     OVERLAY_SHORT_RING = 3,        /* fewer than four points: detail is the byte where the ring opens */
     OVERLAY_OPEN_RING = 4,         /* the last point isn't the first: detail is the byte where the ring opens */
-    OVERLAY_TOO_MANY_SEGMENTS = 5, /* more than 1048576: detail is their number */
+    OVERLAY_TOO_MANY_SEGMENTS = 5, /* more than 1048576, or than was said: detail is their number */
     OVERLAY_BAD_SIDE = 6,          /* the tile side is not from 16 to 33554432 */
     OVERLAY_TOO_MANY_TILES = 8,    /* more than 65536 over the box of both layers: detail is their number */
     OVERLAY_OUT_OF_MEMORY = 10     /* with OVERLAY_NO_MEMORY alone */
@@ -89,6 +90,11 @@ struct overlay_answer {
  *   answer              where the answer goes; not null */
 void overlay_fill(uint32_t call, uint32_t side, const uint8_t *a, size_t a_length, const uint8_t *b, size_t b_length,
                   uint8_t *room, size_t room_length, struct overlay_answer *answer);
+
+/* The same for layers that together have at most so many segments, from 1 to 4294967295. The number has no influence on the text;
+ * ten million segments take some 1.6 GB of memory. */
+void overlay_fill_within(uint32_t call, uint32_t side, uint32_t segments, const uint8_t *a, size_t a_length, const uint8_t *b,
+                         size_t b_length, uint8_t *room, size_t room_length, struct overlay_answer *answer);
 
 /* Tells the length alone (never OVERLAY_SMALL), of the same parameters. The text is made for that and let go, so this takes as
  * long as overlay_fill; to call that first with a room of a guessed size, and again where it was too small, is cheaper. */

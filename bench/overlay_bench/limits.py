@@ -126,6 +126,8 @@ def limits(place):
     more = place.write("more", square * (MOST_SEGMENTS // 4 - 1) + b"POLYGON ((0 0, 4 0, 5 2, 4 4, 0 4, 0 0))\n")
     yield "one segment more", place.run("edges", nothing, more), refused(b"5 too many segments: 1048577")
     yield "both layers together", place.run("edges", one, full), refused(b"5 too many segments: 1048580")
+    yield "one segment more within its limit", place.run("edges", nothing, more, "--segments=1048577").status, 0
+    yield "one segment more than its limit", place.run("edges", one, full, "--segments=1048579"), refused(b"5 too many segments: 1048580")
     wide = place.write("wide", b"POLYGON ((0 0, 1048575 0, 0 1, 0 0))")
     yield "tiles", place.run("edges", wide, nothing, "--tile=16").status, 0
     wider = place.write("wider", b"POLYGON ((0 0, 1048576 0, 0 1, 0 0))")

@@ -126,6 +126,24 @@ static void sides(void) {
     check(overlay_side((const uint8_t *)"POLYGON", 7, (const uint8_t *)WHOLE, strlen(WHOLE)) == 262144, "side of what is refused");
 }
 
+/* The two squares have 8 segments: within a limit of 8 and more there is their text, below there is none. */
+static void within(void) {
+    static const uint32_t LIMITS[] = {0, 1, 7, 8, 9, 1048576, 4294967295};
+    for (size_t at = 0; at < sizeof LIMITS / sizeof *LIMITS; at++)
+        for (uint32_t call = 0; call < 5; call++) {
+            uint8_t room[400] = {0};
+            struct overlay_answer answer = {9, 9, 9, 9, 9};
+            overlay_fill_within(call, SIDE, LIMITS[at], (const uint8_t *)SQUARE, strlen(SQUARE), (const uint8_t *)OTHER, strlen(OTHER), room,
+                                sizeof room, &answer);
+            if (LIMITS[at] < 8)
+                check(answer.status == OVERLAY_REFUSED && answer.number == OVERLAY_TOO_MANY_SEGMENTS && answer.part == OVERLAY_RUN
+                          && answer.detail == 8 && !room[0], "more segments than were said");
+            else
+                check(answer.status == OVERLAY_ANSWERED && answer.length == strlen(TEXTS[call]) && !memcmp(room, TEXTS[call], answer.length),
+                      "as many segments as were said");
+        }
+}
+
 /* A layer of one segment more than is allowed, and one of a byte more. */
 static void large(void) {
     size_t one = strlen(SQUARE) + 1, count = 262145;
@@ -139,6 +157,8 @@ static void large(void) {
     struct overlay_answer answer = filled(0, SIDE, many, "", room, sizeof room);
     check(answer.status == OVERLAY_REFUSED && answer.number == OVERLAY_TOO_MANY_SEGMENTS && answer.part == OVERLAY_RUN && answer.detail == 1048580, "too many segments");
     check(overlay_words(&answer, words, sizeof words) == 28 && !memcmp(words, "5 too many segments: 1048580", 28), "words of a count");
+    overlay_fill_within(0, SIDE, 1048580, (const uint8_t *)many, one * count, (const uint8_t *)"", 0, room, sizeof room, &answer);
+    check(answer.status == OVERLAY_SMALL && answer.length == strlen("MULTIPOLYGON (((0 0, 4 0, 4 4, 0 4, 0 0)))\n"), "as many segments as there are");
     free(many);
     size_t limit = 268435456;
     char *blank = malloc(limit + 2);
@@ -244,6 +264,7 @@ int main(int count, char **words) {
     rooms();
     refusals();
     sides();
+    within();
     large();
     broken();
     memory();

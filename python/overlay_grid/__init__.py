@@ -8,7 +8,8 @@ Layers are texts of POLYGON and MULTIPOLYGON geometries with whole coordinates, 
 'MULTIPOLYGON (((2 2, 4 2, 4 4, 2 4, 2 2)))\\n'
 
 The answer is of the first layer's type. A call runs on the calling thread, and the interpreter's lock is released meanwhile. The
-side of a tile, in grid units, has no influence on the answer; where none is given, one is taken that fits the layers.
+side of a tile, in grid units, has no influence on the answer; where none is given, one is taken that fits the layers. Both layers
+together may have as many segments as is said, 1,048,576 where nothing is; ten million take some 1.6 GB of memory.
 """
 
 from __future__ import annotations
@@ -33,6 +34,9 @@ __all__ = [
 ]
 
 __version__ = "1.0.0"
+
+# How many segments both layers together may have, where nothing is said.
+_SEGMENTS = 1_048_576
 
 # A layer's text, and the answer's: str, or bytes and what has a buffer of bytes.
 Text = TypeVar("Text", str, bytes)
@@ -139,14 +143,23 @@ def _side_number(side: int) -> int:
     return side if 0 <= side < 2**32 else 0  # 0 is refused as every other bad side
 
 
-def _text(operation: Operation, a: bytes, b: bytes, side: Optional[int]) -> bytes:
+def _limit(segments: int) -> int:
+    if isinstance(segments, bool) or not isinstance(segments, int):
+        raise TypeError("the number of segments is an int")
+    if segments < 1:
+        raise ValueError("the number of segments is below 1")
+    return min(segments, 2**32 - 1)  # two texts never have as many
+
+
+def _text(operation: Operation, a: bytes, b: bytes, side: Optional[int], segments: int) -> bytes:
+    limit = _limit(segments)
     number = library.overlay_side(a, len(a), b, len(b)) if side is None else _side_number(side)
     answer = Answer()
     # a guess: where it is too small, all is made again
     size = 256 + (6 if operation is Operation.EDGES else 2) * (len(a) + len(b))
     while True:
         room = ctypes.create_string_buffer(size)
-        library.overlay_fill(_CALLS[operation], number, a, len(a), b, len(b), room, size, answer)
+        library.overlay_fill_within(_CALLS[operation], number, limit, a, len(a), b, len(b), room, size, answer)
         if answer.status == ANSWERED:
             return ctypes.string_at(room, answer.length)
         if answer.status != SMALL:
@@ -154,54 +167,54 @@ def _text(operation: Operation, a: bytes, b: bytes, side: Optional[int]) -> byte
         size = answer.length
 
 
-def overlay(operation: Operation, a: Text, b: Union[str, bytes], side: Optional[int] = None) -> Text:
+def overlay(operation: Operation, a: Text, b: Union[str, bytes], side: Optional[int] = None, segments: int = _SEGMENTS) -> Text:
     """What an operation answers: one MULTIPOLYGON line, or a line for each edge.
 
     >>> overlay(Operation.UNION, b"POLYGON ((0 0, 1 0, 0 1, 0 0))", "polygon empty")
     b'MULTIPOLYGON (((0 0, 1 0, 0 1, 0 0)))\\n'
     """
-    text = _text(Operation(operation), _bytes_of(a), _bytes_of(b), side)
+    text = _text(Operation(operation), _bytes_of(a), _bytes_of(b), side, segments)
     return text.decode("ascii") if isinstance(a, str) else text
 
 
-def union(a: Text, b: Union[str, bytes], side: Optional[int] = None) -> Text:
+def union(a: Text, b: Union[str, bytes], side: Optional[int] = None, segments: int = _SEGMENTS) -> Text:
     """The points of either layer, as one MULTIPOLYGON line.
 
     >>> union("POLYGON ((0 0, 4 0, 4 4, 0 4, 0 0))", "POLYGON ((4 0, 6 0, 6 4, 4 4, 4 0))")
     'MULTIPOLYGON (((0 0, 4 0, 6 0, 6 4, 4 4, 0 4, 0 0)))\\n'
     """
-    return overlay(Operation.UNION, a, b, side)
+    return overlay(Operation.UNION, a, b, side, segments)
 
 
-def intersection(a: Text, b: Union[str, bytes], side: Optional[int] = None) -> Text:
+def intersection(a: Text, b: Union[str, bytes], side: Optional[int] = None, segments: int = _SEGMENTS) -> Text:
     """The points of both layers, as one MULTIPOLYGON line.
 
     >>> intersection("POLYGON ((0 0, 4 0, 4 4, 0 4, 0 0))", "POLYGON ((7 0, 9 0, 9 2, 7 0))")
     'MULTIPOLYGON EMPTY\\n'
     """
-    return overlay(Operation.INTERSECTION, a, b, side)
+    return overlay(Operation.INTERSECTION, a, b, side, segments)
 
 
-def difference(a: Text, b: Union[str, bytes], side: Optional[int] = None) -> Text:
+def difference(a: Text, b: Union[str, bytes], side: Optional[int] = None, segments: int = _SEGMENTS) -> Text:
     """The points of the first layer and not of the second, as one MULTIPOLYGON line.
 
     >>> difference("POLYGON ((0 0, 9 0, 9 9, 0 9, 0 0))", "POLYGON ((3 3, 6 3, 6 6, 3 6, 3 3))")
     'MULTIPOLYGON (((0 0, 9 0, 9 9, 0 9, 0 0), (3 3, 3 6, 6 6, 6 3, 3 3)))\\n'
     """
-    return overlay(Operation.DIFFERENCE, a, b, side)
+    return overlay(Operation.DIFFERENCE, a, b, side, segments)
 
 
-def symdifference(a: Text, b: Union[str, bytes], side: Optional[int] = None) -> Text:
+def symdifference(a: Text, b: Union[str, bytes], side: Optional[int] = None, segments: int = _SEGMENTS) -> Text:
     """The points of just one of the layers, as one MULTIPOLYGON line.
 
     >>> square = "POLYGON ((0 0, 4 0, 4 4, 0 4, 0 0))"
     >>> symdifference(square, square)
     'MULTIPOLYGON EMPTY\\n'
     """
-    return overlay(Operation.SYMDIFFERENCE, a, b, side)
+    return overlay(Operation.SYMDIFFERENCE, a, b, side, segments)
 
 
-def edges(a: Text, b: Union[str, bytes], side: Optional[int] = None) -> Text:
+def edges(a: Text, b: Union[str, bytes], side: Optional[int] = None, segments: int = _SEGMENTS) -> Text:
     """A line `x1 y1 x2 y2 a b` for each edge of both layers after rounding, with its count in either layer.
 
     >>> print(edges("POLYGON ((0 0, 1 1, 0 1, 1 0, 0 0))", ""), end="")
@@ -210,4 +223,4 @@ def edges(a: Text, b: Union[str, bytes], side: Optional[int] = None) -> Text:
     0 1 1 1 2 0
     1 0 1 1 1 0
     """
-    return overlay(Operation.EDGES, a, b, side)
+    return overlay(Operation.EDGES, a, b, side, segments)

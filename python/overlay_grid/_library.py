@@ -31,8 +31,8 @@ class Answer(ctypes.Structure):
 def _opened() -> ctypes.CDLL:
     opened = ctypes.CDLL(os.path.join(os.path.dirname(os.path.abspath(__file__)), "liboverlay.so"))
     text = [ctypes.c_char_p, ctypes.c_size_t]
-    opened.overlay_fill.argtypes = [ctypes.c_uint32, ctypes.c_uint32, *text, *text, *text, ctypes.POINTER(Answer)]
-    opened.overlay_fill.restype = None
+    opened.overlay_fill_within.argtypes = [*[ctypes.c_uint32] * 3, *text, *text, *text, ctypes.POINTER(Answer)]
+    opened.overlay_fill_within.restype = None
     opened.overlay_words.argtypes = [ctypes.POINTER(Answer), *text]
     opened.overlay_words.restype = ctypes.c_size_t
     opened.overlay_side.argtypes = [*text, *text]

@@ -84,6 +84,7 @@ REFUSED = [
     (("", "POLYGON ((0 0, 1 0, 0 1))"), {}, ("B: 3 short ring at 9", 3, "B", 9, None)),
     (("POLYGON ((0 0, 1 0, 1 1, 0 1))", ""), {}, ("A: 4 open ring at 9", 4, "A", 9, None)),
     (((SQUARE + " ") * 262145, ""), {}, ("5 too many segments: 1048580", 5, None, None, 1048580)),
+    ((SQUARE, OTHER), {"segments": 7}, ("5 too many segments: 8", 5, None, None, 8)),
     (("", ""), {"side": 15}, ("6 bad tile side", 6, None, None, None)),
     (("", ""), {"side": 2**32 + 16}, ("6 bad tile side", 6, None, None, None)),
     (("", ""), {"side": -16}, ("6 bad tile side", 6, None, None, None)),
@@ -112,7 +113,26 @@ def test_side_that_fits():
     assert (fault.value.number, fault.value.layer, fault.value.count) == (8, None, 4198401)
 
 
+@pytest.mark.parametrize("word", CALLS)
+@pytest.mark.parametrize("segments", [8, 9, 2**32 - 1, 2**64])
+def test_limit_of_segments(word, segments):
+    assert asked(word, SQUARE, OTHER, segments=segments) == asked(word, SQUARE, OTHER)
+
+
+def test_more_segments():
+    many = (SQUARE + " ") * 262145
+    assert overlay_grid.union(many, "", segments=1048580) == overlay_grid.union(SQUARE, "")
+
+
+def test_no_limit_below_one():
+    for segments in (0, -1):
+        with pytest.raises(ValueError, match="below 1"):
+            overlay_grid.union(SQUARE, OTHER, segments=segments)
+
+
 def test_types():
+    with pytest.raises(TypeError):
+        overlay_grid.union(SQUARE, OTHER, segments=8.0)
     with pytest.raises(TypeError):
         overlay_grid.union(SQUARE, OTHER, side=16.0)
     with pytest.raises(TypeError):

@@ -7,7 +7,7 @@ from typing import Optional
 from overlay_grid import Operation, Refusal, Refused, edges, overlay, union
 
 line: str = union("", b"")
-same: bytes = union(b"", "", side=16)
+same: bytes = union(b"", "", side=16, segments=10_000_000)
 rows: str = edges("", "")
 any_of_them: bytes = overlay(Operation.DIFFERENCE, bytearray(), memoryview(b""))
 

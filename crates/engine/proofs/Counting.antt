@@ -14,8 +14,8 @@ use Rattle.hot_pixel.proofs.ListLaws.{in_map, pairs_cons, pairs_map}
 use Rattle.routing.specs.declared.record.Record.{Record}
 use Rattle.routing.specs.Pieces.{IsRecord}
 use Rattle.routing.specs.Steps.{steps_to}
-use Rattle.engine.specs.Counting.{AreCountsOf, CountsAreExact, IsNumberOf, MeetsHot}
-use Rattle.engine.specs.Runs.{Reports}
+use Rattle.engine.specs.Counting.{AreCountsOf, CountsAreExactWithin, IsNumberOf, MeetsHot}
+use Rattle.engine.specs.Runs.{ReportsWithin}
 use Rattle.engine.specs.declared.engine.Plan.{Plan}
 use Rattle.engine.specs.declared.text.Report.{Report}
 use Rattle.engine.proofs.Determined.{tiles_cover}
@@ -72,8 +72,8 @@ module _ (segments : List Seg) where
   }
 
 -- ---- the sums over all tiles
-exact_counts : {M : Type 0} (a b : List ℕ) (plan : Plan) (counted : List Counted) (report : Report M) → Reports plan a b counted report → AreCountsOf a b report.hot report.records
-exact_counts a b plan counted report h = record {
+exact_counts : {M : Type 0} (limit : ℕ) (a b : List ℕ) (plan : Plan) (counted : List Counted) (report : Report M) → ReportsWithin limit plan a b counted report → AreCountsOf a b report.hot report.records
+exact_counts limit a b plan counted report h = record {
   segments = segments;
   are_segments = h.rounded.are_segments;
   hot_are = subst (λ (n : ℕ). ∥ IsNumberOf (IsHot segments) n ∥₁) (sym h.told.hot_is)
@@ -86,7 +86,7 @@ exact_counts a b plan counted report h = record {
     segments = h.rounded.segments
 
     cover : AreCovered h.grid segments
-    cover = tiles_cover plan a b counted report h
+    cover = tiles_cover limit plan a b counted report h
 
-pub counts_are_exact : (M : Type 0) → CountsAreExact M
+pub counts_are_exact : (M : Type 0) → CountsAreExactWithin M
 counts_are_exact M = exact_counts

@@ -16,9 +16,9 @@ use Rattle.grid.specs.Tiles.{Tiling, tile_count}
 use Rattle.wkt.specs.LayerText.{Ring}
 use Rattle.wkt.specs.Refusals.{IsAccepted, plain}
 use Rattle.wkt.proofs.Complete.{at_most_one}
-use Rattle.engine.specs.Determined.{EdgesSizesAreOne, EdgesTextIsOne, HaveOneSize}
+use Rattle.engine.specs.Determined.{EdgesSizesAreOneWithin, EdgesTextIsOneWithin, HaveOneSize}
 use Rattle.engine.specs.Rounds.{AreRoundedOver, AreSegmentsOf}
-use Rattle.engine.specs.Runs.{AreEdgesWritten, Reports, segment_count}
+use Rattle.engine.specs.Runs.{AreEdgesWrittenWithin, ReportsWithin, segment_count}
 use Rattle.engine.specs.Texts.{edges_text_of}
 use Rattle.engine.specs.declared.engine.Plan.{Plan}
 use Rattle.engine.specs.declared.text.Report.{Report}
@@ -57,29 +57,29 @@ number_prop : (m n : ℕ) → IsProp (m ≡ n)
 number_prop m n = hlevel props
 
 -- ---- the edges' text
-one_text : (M N : Type 0) (a b : List ℕ) (plan other : Plan) (text text' : List ℕ) (report : Report M) (report' : Report N)
-    → AreEdgesWritten plan a b text report → AreEdgesWritten other a b text' report' → text ≡ text'
-one_text M N a b plan other text text' report report' h k =
+one_text : (M N : Type 0) (limit limit' : ℕ) (a b : List ℕ) (plan other : Plan) (text text' : List ℕ) (report : Report M) (report' : Report N)
+    → AreEdgesWrittenWithin limit plan a b text report → AreEdgesWrittenWithin limit' other a b text' report' → text ≡ text'
+one_text M N limit limit' a b plan other text text' report report' h k =
     one_counted a b h.reports.grid k.reports.grid h.counted k.counted h.reports.tiles k.reports.tiles h.reports.rounded k.reports.rounded (text_prop text text')
     (λ e. h.text_is ∙ ap edges_text_of e ∙ sym k.text_is)
 
-pub edges_text_is_one : (M N : Type 0) → EdgesTextIsOne M N
+pub edges_text_is_one : (M N : Type 0) → EdgesTextIsOneWithin M N
 edges_text_is_one M N = one_text M N
 
 -- ---- the tiles of a run have every hot pixel
-pub tiles_cover : {M : Type 0} (plan : Plan) (a b : List ℕ) (cs : List Counted) (report : Report M) (h : Reports plan a b cs report) → AreCovered h.grid h.rounded.segments
-tiles_cover plan a b cs report h = are_covered h.grid h.rounded.segments (covered plan a b h.rings_a h.rings_b h.grid h.rounded.segments h.ready h.rounded.are_segments)
+pub tiles_cover : {M : Type 0} (limit : ℕ) (plan : Plan) (a b : List ℕ) (cs : List Counted) (report : Report M) (h : ReportsWithin limit plan a b cs report) → AreCovered h.grid h.rounded.segments
+tiles_cover limit plan a b cs report h = are_covered h.grid h.rounded.segments (covered limit plan a b h.rings_a h.rings_b h.grid h.rounded.segments h.ready h.rounded.are_segments)
 
 -- ---- the numbers of reports
-pub one_size : {M N : Type 0} (a b : List ℕ) (plan other : Plan) (cs ds : List Counted) (report : Report M) (report' : Report N)
-    → Reports plan a b cs report → Reports other a b ds report' → HaveOneSize report report'
-one_size a b plan other cs ds report report' h k = record {
+pub one_size : {M N : Type 0} (limit limit' : ℕ) (a b : List ℕ) (plan other : Plan) (cs ds : List Counted) (report : Report M) (report' : Report N)
+    → ReportsWithin limit plan a b cs report → ReportsWithin limit' other a b ds report' → HaveOneSize report report'
+one_size limit limit' a b plan other cs ds report report' h k = record {
   segments_a = h.segments_a ∙ ap segment_count (one_layer a h.rings_a k.rings_a h.ready.accepted_a k.ready.accepted_a) ∙ sym k.segments_a;
   segments_b = h.segments_b ∙ ap segment_count (one_layer b h.rings_b k.rings_b h.ready.accepted_b k.ready.accepted_b) ∙ sym k.segments_b;
   edges = one_counted a b h.grid k.grid cs ds h.tiles k.tiles h.rounded k.rounded (number_prop report.edges report'.edges)
       (λ e. h.edges ∙ ap length e ∙ sym k.edges);
-  hot = h.told.hot_is ∙ one_hot h.grid k.grid k.rounded.segments h.tiles k.tiles numbers k.rounded.tiles_are cover (tiles_cover other a b ds report' k) ∙ sym k.told.hot_is;
-  records = h.told.records_is ∙ one_records h.grid k.grid k.rounded.segments h.tiles k.tiles numbers k.rounded.tiles_are cover (tiles_cover other a b ds report' k) ∙ sym k.told.records_is;
+  hot = h.told.hot_is ∙ one_hot h.grid k.grid k.rounded.segments h.tiles k.tiles numbers k.rounded.tiles_are cover (tiles_cover limit' other a b ds report' k) ∙ sym k.told.hot_is;
+  records = h.told.records_is ∙ one_records h.grid k.grid k.rounded.segments h.tiles k.tiles numbers k.rounded.tiles_are cover (tiles_cover limit' other a b ds report' k) ∙ sym k.told.records_is;
 }
   where
     one : h.rounded.segments ≡ k.rounded.segments
@@ -89,11 +89,11 @@ one_size a b plan other cs ds report report' h k = record {
     numbers = subst (λ (ss : List Seg). AreTileNumbers h.grid ss (tile_count h.grid) h.tiles) one h.rounded.tiles_are
 
     cover : AreCovered h.grid k.rounded.segments
-    cover = subst (λ (ss : List Seg). AreCovered h.grid ss) one (tiles_cover plan a b cs report h)
+    cover = subst (λ (ss : List Seg). AreCovered h.grid ss) one (tiles_cover limit plan a b cs report h)
 
-one_edges_size : (M N : Type 0) (a b : List ℕ) (plan other : Plan) (text text' : List ℕ) (report : Report M) (report' : Report N)
-    → AreEdgesWritten plan a b text report → AreEdgesWritten other a b text' report' → HaveOneSize report report'
-one_edges_size M N a b plan other text text' report report' h k = one_size a b plan other h.counted k.counted report report' h.reports k.reports
+one_edges_size : (M N : Type 0) (limit limit' : ℕ) (a b : List ℕ) (plan other : Plan) (text text' : List ℕ) (report : Report M) (report' : Report N)
+    → AreEdgesWrittenWithin limit plan a b text report → AreEdgesWrittenWithin limit' other a b text' report' → HaveOneSize report report'
+one_edges_size M N limit limit' a b plan other text text' report report' h k = one_size limit limit' a b plan other h.counted k.counted report report' h.reports k.reports
 
-pub edges_sizes_are_one : (M N : Type 0) → EdgesSizesAreOne M N
+pub edges_sizes_are_one : (M N : Type 0) → EdgesSizesAreOneWithin M N
 edges_sizes_are_one M N = one_edges_size M N

@@ -13,7 +13,7 @@ use Rattle.wkt.specs.declared.outline.Outline.{Outline}
 use Rattle.wkt.proofs.Exclusive.{not_both}
 use Rattle.engine.specs.Fitting.{IsFittingSide, IsTooFineOver}
 use Rattle.engine.specs.Rounds.{AreBoundsOf, AreJointBounds, IsGridOver}
-use Rattle.engine.specs.Runs.{HasOutline, IsRefusedAt, too_many_tiles}
+use Rattle.engine.specs.Runs.{HasOutline, IsRefusedAtWithin, too_many_tiles}
 use Rattle.engine.specs.declared.engine.Plan.{Plan}
 use Rattle.engine.proofs.Determined.{one_layer}
 use Rattle.engine.proofs.OneRefusal.{grid_over_same}
@@ -60,10 +60,10 @@ pub fitting_refused_b : (a b : List ℕ) (f : Fault) → IsRefused b f → IsFit
 fitting_refused_b a b f r = plain_side a b (λ side t. never_both b t.rings_b f t.accepted_b r)
 
 -- a plan with a fitting side isn't refused for its tiles
-pub never_too_fine : (a b : List ℕ) (side : ℕ) → IsFittingSide a b side → (plan : Plan) → plan.side ≡ side → (count : ℕ) → IsRefusedAt plan a b Run (TooManyTiles count) → ⊥
-never_too_fine a b side h plan e count r = go (TooManyTiles count) refl r
+pub never_too_fine : (a b : List ℕ) (side : ℕ) → IsFittingSide a b side → (limit : ℕ) (plan : Plan) → plan.side ≡ side → (count : ℕ) → IsRefusedAtWithin limit plan a b Run (TooManyTiles count) → ⊥
+never_too_fine a b side h limit plan e count r = go (TooManyTiles count) refl r
   where
-    go : (f : Fault) → f ≡ TooManyTiles count → IsRefusedAt plan a b Run f → ⊥
+    go : (f : Fault) → f ≡ TooManyTiles count → IsRefusedAtWithin limit plan a b Run f → ⊥
     go f s (too_many_tiles p rings_a rings_b acc_a acc_b few grid is_grid many) =
         h.few (record { rings_a = rings_a; rings_b = rings_b; accepted_a = acc_a; accepted_b = acc_b; grid = grid; is_grid = subst (λ (k : ℕ). IsGridOver rings_a rings_b k grid) e is_grid; many = many })
     go f s r = cc

@@ -15,7 +15,7 @@ use Rattle.linking.specs.declared.rounded.TileNumbers.{TileNumbers}
 use Rattle.wkt.specs.LayerText.{Ring}
 use Rattle.wkt.specs.Refusals.{plain}
 use Rattle.engine.specs.Rounds.{AreBoundsOf, AreRoundedOver, AreSegmentsOf, IsGridOver, IsRemade, TellsTiles}
-use Rattle.engine.specs.Runs.{IsChecked, IsPlan, IsReady, Reports, segment_count}
+use Rattle.engine.specs.Runs.{IsCheckedWithin, IsPlan, IsReadyWithin, ReportsWithin, segment_count}
 use Rattle.engine.specs.declared.engine.Plan.{Plan}
 use Rattle.engine.specs.declared.text.Report.{Report}
 use Rattle.engine.proofs.Determined.{one_layer}
@@ -59,12 +59,12 @@ number_prop : (m n : ℕ) → IsProp (m ≡ n)
 number_prop m n = hlevel props
 
 -- ---- what was checked holds of the rings that are read
-module _ (plan : Plan) (a b : List ℕ) (m n : ℕ) (g : Tiling) (known : ∥ IsChecked plan a b m n g ∥₁) (segments : List Seg) (s : AreSegmentsOf a b segments) where
-  at : IsChecked plan a b m n g → IsReady plan a b s.rings_a s.rings_b g
-  at k = subst (λ (x : List Ring). IsReady plan a b x s.rings_b g) (one_layer a k.rings_a s.rings_a k.ready.accepted_a s.accepted_a)
-      (subst (λ (y : List Ring). IsReady plan a b k.rings_a y g) (one_layer b k.rings_b s.rings_b k.ready.accepted_b s.accepted_b) k.ready)
+module _ (limit : ℕ) (plan : Plan) (a b : List ℕ) (m n : ℕ) (g : Tiling) (known : ∥ IsCheckedWithin limit plan a b m n g ∥₁) (segments : List Seg) (s : AreSegmentsOf a b segments) where
+  at : IsCheckedWithin limit plan a b m n g → IsReadyWithin limit plan a b s.rings_a s.rings_b g
+  at k = subst (λ (x : List Ring). IsReadyWithin limit plan a b x s.rings_b g) (one_layer a k.rings_a s.rings_a k.ready.accepted_a s.accepted_a)
+      (subst (λ (y : List Ring). IsReadyWithin limit plan a b k.rings_a y g) (one_layer b k.rings_b s.rings_b k.ready.accepted_b s.accepted_b) k.ready)
 
-  pub ready_of : IsReady plan a b s.rings_a s.rings_b g
+  pub ready_of : IsReadyWithin limit plan a b s.rings_a s.rings_b g
   ready_of = record {
     planned = ∥∥₁_elim known (plan_prop plan) (λ k. k.ready.planned);
     accepted_a = s.accepted_a;
@@ -81,16 +81,16 @@ module _ (plan : Plan) (a b : List ℕ) (m n : ℕ) (g : Tiling) (known : ∥ Is
   count_b = ∥∥₁_elim known (number_prop _ _) (λ k. k.count_b ∙ ap segment_count (one_layer b k.rings_b s.rings_b k.ready.accepted_b s.accepted_b))
 
 -- the report of a run, from the numbers of its parts
-pub reported : {M : Type 0} (plan : Plan) (a b : List ℕ) (m n : ℕ) (grid : Tiling) (counted : List Counted) (tiles : List TileNumbers) (report : Report M)
-    → ∥ IsChecked plan a b m n grid ∥₁ → AreRoundedOver a b grid counted tiles → report.segments_a ≡ m → report.segments_b ≡ n → report.edges ≡ length counted
-    → TellsTiles tiles report.hot report.records report.tiles.items → IsRemade report.remade → Reports plan a b counted report
-reported plan a b m n grid counted tiles report known rounded e f edges told remade = record {
+pub reported : {M : Type 0} (limit : ℕ) (plan : Plan) (a b : List ℕ) (m n : ℕ) (grid : Tiling) (counted : List Counted) (tiles : List TileNumbers) (report : Report M)
+    → ∥ IsCheckedWithin limit plan a b m n grid ∥₁ → AreRoundedOver a b grid counted tiles → report.segments_a ≡ m → report.segments_b ≡ n → report.edges ≡ length counted
+    → TellsTiles tiles report.hot report.records report.tiles.items → IsRemade report.remade → ReportsWithin limit plan a b counted report
+reported limit plan a b m n grid counted tiles report known rounded e f edges told remade = record {
   rings_a = rounded.are_segments.rings_a;
   rings_b = rounded.are_segments.rings_b;
   grid = grid;
-  ready = ready_of plan a b m n grid known rounded.segments rounded.are_segments;
-  segments_a = e ∙ count_a plan a b m n grid known rounded.segments rounded.are_segments;
-  segments_b = f ∙ count_b plan a b m n grid known rounded.segments rounded.are_segments;
+  ready = ready_of limit plan a b m n grid known rounded.segments rounded.are_segments;
+  segments_a = e ∙ count_a limit plan a b m n grid known rounded.segments rounded.are_segments;
+  segments_b = f ∙ count_b limit plan a b m n grid known rounded.segments rounded.are_segments;
   edges = edges;
   tiles = tiles;
   rounded = rounded;

@@ -15,9 +15,9 @@ use Rattle.grid.specs.Tiles.{IsGridOf, IsOver, Owns, Tiling, most_tiles, steps, 
 use Rattle.wkt.specs.LayerText.{Ring}
 use Rattle.wkt.specs.Refusals.{IsAccepted, IsRefused, plain}
 use Rattle.wkt.proofs.Exclusive.{not_both, same_refusal}
-use Rattle.engine.specs.Determined.{RefusalIsOne, RefusedMayNotRun}
+use Rattle.engine.specs.Determined.{RefusalIsOneWithin, RefusedMayNotRunWithin}
 use Rattle.engine.specs.Rounds.{AreBoundsOf, IsGridOver}
-use Rattle.engine.specs.Runs.{IsRefusedAt, MayRun, bad_a, bad_b, bad_tile, bad_workers, segment_count, segment_limit, too_many, too_many_tiles}
+use Rattle.engine.specs.Runs.{IsRefusedAtWithin, MayRunWithin, bad_a, bad_b, bad_tile, bad_workers, segment_count, too_many, too_many_tiles}
 use Rattle.engine.specs.declared.engine.Plan.{Plan}
 use Rattle.engine.proofs.Determined.{one_layer}
 
@@ -86,7 +86,7 @@ owns_same (Some r) None side g f taken h k o p j z w = absurd (no_box r (subst (
 owns_same (Some r) (Some s) side g f taken h k o p j z w = subst (λ (t : Tiling). Owns t j z) (over_path r s side g f taken h k o p) w
 
 -- ---- one refusal
-module _ (plan : Plan) (a b : List ℕ) where
+module _ (limit : ℕ) (plan : Plan) (a b : List ℕ) where
   taken : (text : List ℕ) (rings : List Ring) (f : Fault) → IsAccepted text rings → IsRefused text f → ⊥
   taken text rings f h r = not_both text (plain rings) f (rings, h, refl) r
 
@@ -98,10 +98,10 @@ module _ (plan : Plan) (a b : List ℕ) where
       (subst (λ (zs : List (Pt × Pt)). AreBoundsOf zs o.bounds) (ap₂ (λ (i j : List Ring). layer_steps (plain i) ++ layer_steps (plain j)) (one_layer a x v h m) (one_layer b y w k n)) o.are_bounds)
       p.are_bounds o.is_grid p.is_grid
 
-  above : (limit m n : ℕ) → limit < m → n ≤ limit → m ≡ n → ⊥
-  above limit m n h k e = omega (arith, h, k, e)
+  above : (most m n : ℕ) → most < m → n ≤ most → m ≡ n → ⊥
+  above most m n h k e = omega (arith, h, k, e)
 
-  one : (p q : Part) (f g : Fault) → IsRefusedAt plan a b p f → IsRefusedAt plan a b q g → (p ≡ q) × (f ≡ g)
+  one : (p q : Part) (f g : Fault) → IsRefusedAtWithin limit plan a b p f → IsRefusedAtWithin limit plan a b q g → (p ≡ q) × (f ≡ g)
   one p q f g (bad_tile n) (bad_tile m) = (refl, refl)
   one p q f g (bad_tile n) (bad_workers s m) = absurd (n s)
   one p q f g (bad_tile n) (bad_a s r) = absurd (n s.side)
@@ -131,24 +131,24 @@ module _ (plan : Plan) (a b : List ℕ) where
   one p q f g (too_many s x y h k l) (bad_a t i) = absurd (taken a x g h i)
   one p q f g (too_many s x y h k l) (bad_b t v m i) = absurd (taken b y g k i)
   one p q f g (too_many s x y h k l) (too_many t v w m n i) = (refl, ap (λ (j : ℕ). TooManySegments j) (counted x y v w h k m n))
-  one p q f g (too_many s x y h k l) (too_many_tiles t v w m n i c o u) = absurd (above segment_limit _ _ l i (counted x y v w h k m n))
+  one p q f g (too_many s x y h k l) (too_many_tiles t v w m n i c o u) = absurd (above limit _ _ l i (counted x y v w h k m n))
   one p q f g (too_many_tiles s x y h k l c o u) (bad_tile m) = absurd (m s.side)
   one p q f g (too_many_tiles s x y h k l c o u) (bad_workers t m) = absurd (m s.workers)
   one p q f g (too_many_tiles s x y h k l c o u) (bad_a t i) = absurd (taken a x g h i)
   one p q f g (too_many_tiles s x y h k l c o u) (bad_b t v m i) = absurd (taken b y g k i)
-  one p q f g (too_many_tiles s x y h k l c o u) (too_many t v w m n i) = absurd (above segment_limit _ _ i l (counted v w x y m n h k))
+  one p q f g (too_many_tiles s x y h k l c o u) (too_many t v w m n i) = absurd (above limit _ _ i l (counted v w x y m n h k))
   one p q f g (too_many_tiles s x y h k l c o u) (too_many_tiles t v w m n i d z j) = (refl, ap (λ (e : ℕ). TooManyTiles e) (tiled x y v w h k m n c d o z))
 
-  no_run : (p : Part) (f : Fault) → IsRefusedAt plan a b p f → MayRun plan a b → ⊥
+  no_run : (p : Part) (f : Fault) → IsRefusedAtWithin limit plan a b p f → MayRunWithin limit plan a b → ⊥
   no_run p f (bad_tile n) (v, w, g, r) = n r.planned.side
   no_run p f (bad_workers s n) (v, w, g, r) = n r.planned.workers
   no_run p f (bad_a s i) (v, w, g, r) = taken a v f r.accepted_a i
   no_run p f (bad_b s x h i) (v, w, g, r) = taken b w f r.accepted_b i
-  no_run p f (too_many s x y h k l) (v, w, g, r) = above segment_limit _ _ l r.few (counted x y v w h k r.accepted_a r.accepted_b)
+  no_run p f (too_many s x y h k l) (v, w, g, r) = above limit _ _ l r.few (counted x y v w h k r.accepted_a r.accepted_b)
   no_run p f (too_many_tiles s x y h k l c o u) (v, w, g, r) = above most_tiles _ _ u r.few_tiles (tiled x y v w h k r.accepted_a r.accepted_b c g o r.is_grid)
 
-pub refusal_is_one : RefusalIsOne
+pub refusal_is_one : RefusalIsOneWithin
 refusal_is_one = one
 
-pub refused_may_not_run : RefusedMayNotRun
+pub refused_may_not_run : RefusedMayNotRunWithin
 refused_may_not_run = no_run

@@ -7,9 +7,9 @@ use Rattle.geom.specs.Canonical.{ArePolygons}
 use Rattle.geom.specs.Directed.{AreResultEdges}
 use Rattle.geom.proofs.SamePolygons.{same_polygons}
 use Rattle.points_law.proofs.OneResult.{one_directed}
-use Rattle.engine.specs.Determined.{HaveOneSize, ResultSizesAreOne, ResultTextIsOne}
+use Rattle.engine.specs.Determined.{HaveOneSize, ResultSizesAreOneWithin, ResultTextIsOneWithin}
 use Rattle.wkt.specs.Canonical.{multi_text}
-use Rattle.engine.specs.Results.{IsResultText, IsResultWritten}
+use Rattle.engine.specs.Results.{IsResultText, IsResultWrittenWithin}
 use Rattle.engine.specs.declared.engine.Plan.{Plan}
 use Rattle.engine.specs.declared.text.Report.{Report}
 use Rattle.engine.proofs.Determined.{one_counted, one_size, text_prop}
@@ -24,18 +24,18 @@ text_of_one op cs ds s t h k e = h.written ∙ ap multi_text polygons ∙ sym k.
     polygons : h.polygons ≡ k.polygons
     polygons = same_polygons k.directed k.bound.ascending h.polygons k.polygons (subst (λ (us : List DirectedEdge). ArePolygons us h.polygons) directed h.are_polygons) k.are_polygons
 
-one_text : (M N : Type 0) (op : Op) (a b : List ℕ) (plan other : Plan) (text text' : List ℕ) (report : Report M) (report' : Report N)
-    → IsResultWritten op plan a b text report → IsResultWritten op other a b text' report' → text ≡ text'
-one_text M N op a b plan other text text' report report' h k =
+one_text : (M N : Type 0) (limit limit' : ℕ) (op : Op) (a b : List ℕ) (plan other : Plan) (text text' : List ℕ) (report : Report M) (report' : Report N)
+    → IsResultWrittenWithin limit op plan a b text report → IsResultWrittenWithin limit' op other a b text' report' → text ≡ text'
+one_text M N limit limit' op a b plan other text text' report report' h k =
     one_counted a b h.reports.grid k.reports.grid h.counted k.counted h.reports.tiles k.reports.tiles h.reports.rounded k.reports.rounded (text_prop text text')
     (text_of_one op h.counted k.counted text text' h.result k.result)
 
-pub result_text_is_one : (M N : Type 0) → ResultTextIsOne M N
+pub result_text_is_one : (M N : Type 0) → ResultTextIsOneWithin M N
 result_text_is_one M N = one_text M N
 
-one_result_size : (M N : Type 0) (op op' : Op) (a b : List ℕ) (plan other : Plan) (text text' : List ℕ) (report : Report M) (report' : Report N)
-    → IsResultWritten op plan a b text report → IsResultWritten op' other a b text' report' → HaveOneSize report report'
-one_result_size M N op op' a b plan other text text' report report' h k = one_size a b plan other h.counted k.counted report report' h.reports k.reports
+one_result_size : (M N : Type 0) (limit limit' : ℕ) (op op' : Op) (a b : List ℕ) (plan other : Plan) (text text' : List ℕ) (report : Report M) (report' : Report N)
+    → IsResultWrittenWithin limit op plan a b text report → IsResultWrittenWithin limit' op' other a b text' report' → HaveOneSize report report'
+one_result_size M N limit limit' op op' a b plan other text text' report report' h k = one_size limit limit' a b plan other h.counted k.counted report report' h.reports k.reports
 
-pub result_sizes_are_one : (M N : Type 0) → ResultSizesAreOne M N
+pub result_sizes_are_one : (M N : Type 0) → ResultSizesAreOneWithin M N
 result_sizes_are_one M N = one_result_size M N

@@ -8,18 +8,18 @@ use Rattle.grid.specs.Tiles.{IsGridOf, tile_count}
 use Rattle.linking.specs.Gathered.{AreTileNumbers}
 use Rattle.wkt.specs.LayerText.{Ring}
 use Rattle.wkt.specs.Refusals.{plain}
-use Rattle.engine.specs.Determined.{TilesAreOne}
+use Rattle.engine.specs.Determined.{TilesAreOneWithin}
 use Rattle.engine.specs.Rounds.{AreBoundsOf}
-use Rattle.engine.specs.Runs.{Reports}
+use Rattle.engine.specs.Runs.{ReportsWithin}
 use Rattle.engine.specs.declared.engine.Plan.{Plan}
 use Rattle.engine.specs.declared.text.Report.{Report}
 use Rattle.engine.proofs.Determined.{one_layer, one_segments_of}
 use Rattle.engine.proofs.OneRefusal.{grid_same, owns_same}
 use Rattle.engine.proofs.SumsOfTiles.{one_told}
 
-one_tiling : (M N : Type 0) (a b : List ℕ) (plan other : Plan) (cs ds : List Counted) (report : Report M) (report' : Report N)
-    → plan.side ≡ other.side → Reports plan a b cs report → Reports other a b ds report' → report.tiles.items ≡ report'.tiles.items
-one_tiling M N a b plan other cs ds report report' e h k = h.told.told_is
+one_tiling : (M N : Type 0) (limit limit' : ℕ) (a b : List ℕ) (plan other : Plan) (cs ds : List Counted) (report : Report M) (report' : Report N)
+    → plan.side ≡ other.side → ReportsWithin limit plan a b cs report → ReportsWithin limit' other a b ds report' → report.tiles.items ≡ report'.tiles.items
+one_tiling M N limit limit' a b plan other cs ds report report' e h k = h.told.told_is
     ∙ one_told h.grid k.grid k.rounded.segments h.tiles k.tiles numbers k.rounded.tiles_are
     (grid_same h.ready.is_grid.bounds k.ready.is_grid.bounds plan.side h.grid k.grid taken bounds k.ready.is_grid.are_bounds h.ready.is_grid.is_grid is_grid)
     (owns_same h.ready.is_grid.bounds k.ready.is_grid.bounds plan.side h.grid k.grid taken bounds k.ready.is_grid.are_bounds h.ready.is_grid.is_grid is_grid)
@@ -39,5 +39,5 @@ one_tiling M N a b plan other cs ds report report' e h k = h.told.told_is
     numbers : AreTileNumbers h.grid k.rounded.segments (tile_count h.grid) h.tiles
     numbers = subst (λ (ss : List Seg). AreTileNumbers h.grid ss (tile_count h.grid) h.tiles) (one_segments_of a b h.rounded.segments k.rounded.segments h.rounded.are_segments k.rounded.are_segments) h.rounded.tiles_are
 
-pub tiles_are_one : (M N : Type 0) → TilesAreOne M N
+pub tiles_are_one : (M N : Type 0) → TilesAreOneWithin M N
 tiles_are_one M N = one_tiling M N

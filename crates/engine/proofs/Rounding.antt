@@ -23,7 +23,7 @@ use Rattle.wkt.specs.LayerText.{Ring}
 use Rattle.wkt.specs.Refusals.{IsAccepted, StandsFor, plain}
 use Rattle.wkt.proofs.Exclusive.{same_reading}
 use Rattle.engine.specs.Rounds.{AllInLimit, AreBoundsOf, AreSegmentsOf}
-use Rattle.engine.specs.Runs.{IsReady}
+use Rattle.engine.specs.Runs.{IsReadyWithin}
 use Rattle.engine.specs.declared.engine.Plan.{Plan}
 
 -- ---- the bounds hold the segments
@@ -60,8 +60,8 @@ grid_covers (Some r) side g l h = covers r side g l h
 some_side : (side : ℕ) → 16 ≤ side → 0 < side
 some_side side h = omega (arith, h)
 
-pub covered : (plan : Plan) (a b : List ℕ) (rings_a rings_b : List Ring) (g : Tiling) (segments : List Seg) → IsReady plan a b rings_a rings_b g → AreSegmentsOf a b segments → HaveTiles g segments
-covered plan a b rings_a rings_b g segments h s =
+pub covered : (limit : ℕ) (plan : Plan) (a b : List ℕ) (rings_a rings_b : List Ring) (g : Tiling) (segments : List Seg) → IsReadyWithin limit plan a b rings_a rings_b g → AreSegmentsOf a b segments → HaveTiles g segments
+covered limit plan a b rings_a rings_b g segments h s =
     let x = one_plain a s.rings_a rings_a s.accepted_a h.accepted_a in
     let y = one_plain b s.rings_b rings_b s.accepted_b h.accepted_b in
     have_tiles h.is_grid.bounds g segments (grid_covers h.is_grid.bounds plan.side g (some_side plan.side h.planned.side.0) h.is_grid.is_grid) (bounds_hold (plain rings_a) (plain rings_b) segments

@@ -6,7 +6,7 @@ use Rattle.geom.specs.declared.segment.Seg.{Seg}
 use Rattle.geom.specs.Hot.{IsHot}
 use Rattle.geom.specs.Route.{Meets}
 use Rattle.engine.specs.Rounds.{AreSegmentsOf}
-use Rattle.engine.specs.Runs.{Reports}
+use Rattle.engine.specs.Runs.{Reports, ReportsWithin}
 use Rattle.engine.specs.declared.engine.Plan.{Plan}
 use Rattle.engine.specs.declared.text.Report.{Report}
 
@@ -34,3 +34,7 @@ pub record AreCountsOf (a b : List ℕ) (hot records : ℕ) : Type 0 where
 -- a report on two layers, of any call and plan, tells the number of their hot pixels and that of their records
 abbrev pub CountsAreExact : Type 0 → Type 0
 CountsAreExact M = (a b : List ℕ) (plan : Plan) (counted : List Counted) (report : Report M) → Reports plan a b counted report → AreCountsOf a b report.hot report.records
+
+-- the same within any limit of segments
+abbrev pub CountsAreExactWithin : Type 0 → Type 0
+CountsAreExactWithin M = (limit : ℕ) (a b : List ℕ) (plan : Plan) (counted : List Counted) (report : Report M) → ReportsWithin limit plan a b counted report → AreCountsOf a b report.hot report.records

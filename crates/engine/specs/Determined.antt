@@ -6,8 +6,8 @@ use Rattle.geom.specs.declared.edge.Counted.{Counted}
 use Rattle.geom.specs.declared.op.Op.{Op}
 use Rattle.engine.specs.declared.engine.Plan.{Plan}
 use Rattle.engine.specs.declared.text.Report.{Report}
-use Rattle.engine.specs.Results.{IsResultWritten}
-use Rattle.engine.specs.Runs.{AreEdgesWritten, IsRefusedAt, MayRun, Reports}
+use Rattle.engine.specs.Results.{IsResultWritten, IsResultWrittenWithin}
+use Rattle.engine.specs.Runs.{AreEdgesWritten, AreEdgesWrittenWithin, IsRefusedAt, IsRefusedAtWithin, MayRun, MayRunWithin, Reports, ReportsWithin}
 
 -- the text of the edges is one: whatever the tile side and the number of workers, and whatever the threads did
 abbrev pub EdgesTextIsOne : Type 0 → Type 0 → Type 0
@@ -59,3 +59,37 @@ pub record AreOneReport {M N : Type 0} (report : Report M) (other : Report N) : 
 abbrev pub RunReportsAsEdges : Type 0 → Type 0 → Type 0
 RunReportsAsEdges M N = (op : Op) (a b : List ℕ) (plan : Plan) (text text' : List ℕ) (report : Report M) (report' : Report N)
     → AreEdgesWritten plan a b text report → IsResultWritten op plan a b text' report' → AreOneReport report report'
+
+-- ---- the same within any limits of segments: a limit refuses, and changes nothing else
+
+abbrev pub EdgesTextIsOneWithin : Type 0 → Type 0 → Type 0
+EdgesTextIsOneWithin M N = (limit limit' : ℕ) (a b : List ℕ) (plan other : Plan) (text text' : List ℕ) (report : Report M) (report' : Report N)
+    → AreEdgesWrittenWithin limit plan a b text report → AreEdgesWrittenWithin limit' other a b text' report' → text ≡ text'
+
+abbrev pub EdgesSizesAreOneWithin : Type 0 → Type 0 → Type 0
+EdgesSizesAreOneWithin M N = (limit limit' : ℕ) (a b : List ℕ) (plan other : Plan) (text text' : List ℕ) (report : Report M) (report' : Report N)
+    → AreEdgesWrittenWithin limit plan a b text report → AreEdgesWrittenWithin limit' other a b text' report' → HaveOneSize report report'
+
+abbrev pub ResultTextIsOneWithin : Type 0 → Type 0 → Type 0
+ResultTextIsOneWithin M N = (limit limit' : ℕ) (op : Op) (a b : List ℕ) (plan other : Plan) (text text' : List ℕ) (report : Report M) (report' : Report N)
+    → IsResultWrittenWithin limit op plan a b text report → IsResultWrittenWithin limit' op other a b text' report' → text ≡ text'
+
+abbrev pub ResultSizesAreOneWithin : Type 0 → Type 0 → Type 0
+ResultSizesAreOneWithin M N = (limit limit' : ℕ) (op op' : Op) (a b : List ℕ) (plan other : Plan) (text text' : List ℕ) (report : Report M) (report' : Report N)
+    → IsResultWrittenWithin limit op plan a b text report → IsResultWrittenWithin limit' op' other a b text' report' → HaveOneSize report report'
+
+-- within one limit
+abbrev pub RefusalIsOneWithin : Type 0
+RefusalIsOneWithin = (limit : ℕ) (plan : Plan) (a b : List ℕ) (part other : Part) (f g : Fault)
+    → IsRefusedAtWithin limit plan a b part f → IsRefusedAtWithin limit plan a b other g → (part ≡ other) × (f ≡ g)
+
+abbrev pub RefusedMayNotRunWithin : Type 0
+RefusedMayNotRunWithin = (limit : ℕ) (plan : Plan) (a b : List ℕ) (part : Part) (f : Fault) → IsRefusedAtWithin limit plan a b part f → MayRunWithin limit plan a b → ⊥
+
+abbrev pub TilesAreOneWithin : Type 0 → Type 0 → Type 0
+TilesAreOneWithin M N = (limit limit' : ℕ) (a b : List ℕ) (plan other : Plan) (counted counted' : List Counted) (report : Report M) (report' : Report N)
+    → plan.side ≡ other.side → ReportsWithin limit plan a b counted report → ReportsWithin limit' other a b counted' report' → report.tiles.items ≡ report'.tiles.items
+
+abbrev pub RunReportsAsEdgesWithin : Type 0 → Type 0 → Type 0
+RunReportsAsEdgesWithin M N = (limit limit' : ℕ) (op : Op) (a b : List ℕ) (plan : Plan) (text text' : List ℕ) (report : Report M) (report' : Report N)
+    → AreEdgesWrittenWithin limit plan a b text report → IsResultWrittenWithin limit' op plan a b text' report' → AreOneReport report report'

@@ -16,7 +16,7 @@ use Rattle.engine.specs.declared.engine.Plan.{Plan}
 use Rattle.engine.specs.declared.text.Report.{Report}
 use Rattle.engine.specs.declared.operation.Wanted.{Wanted}
 use Rattle.engine.specs.declared.operation.Wanted.TheVariants.{Apply, Edges}
-use Rattle.engine.specs.Runs.{AreEdgesWritten, Reports}
+use Rattle.engine.specs.Runs.{AreEdgesWrittenWithin, ReportsWithin, segment_limit}
 use Rattle.engine.specs.Texts.{edges_text_of}
 
 -- The text is the canonical line of the polygons of the result's directed edges: each shell with its holes, in order. Their rings
@@ -36,10 +36,14 @@ pub record IsResultText (op : Op) (counted : List Counted) (text : List ℕ) : T
   pub reads : (line : List ℕ) × (text ≡ line ++ 10 ∷ []) × IsLayerOf line (map closed (written_rings polygons))
 
 -- the text of the result, and its report
-pub record IsResultWritten {M : Type 0} (op : Op) (plan : Plan) (a b : List ℕ) (text : List ℕ) (report : Report M) : Type 0 where
+pub record IsResultWrittenWithin {M : Type 0} (limit : ℕ) (op : Op) (plan : Plan) (a b : List ℕ) (text : List ℕ) (report : Report M) : Type 0 where
   pub counted : List Counted
   pub result : IsResultText op counted text
-  pub reports : Reports plan a b counted report
+  pub reports : ReportsWithin limit plan a b counted report
+
+-- the same where no limit is given
+abbrev pub IsResultWritten : {M : Type 0} → Op → Plan → List ℕ → List ℕ → List ℕ → Report M → Type 0
+IsResultWritten op plan a b text report = IsResultWrittenWithin segment_limit op plan a b text report
 
 -- the text that is wanted of two rounded layers
 abbrev pub IsWantedText : Wanted → List Counted → List ℕ → Type 0
@@ -47,6 +51,6 @@ IsWantedText Edges counted text = text ≡ edges_text_of counted
 IsWantedText (Apply op) counted text = IsResultText op counted text
 
 -- the text that is wanted, and its report
-abbrev pub IsWritten : {M : Type 0} → Wanted → Plan → List ℕ → List ℕ → List ℕ → Report M → Type 0
-IsWritten Edges plan a b text report = AreEdgesWritten plan a b text report
-IsWritten (Apply op) plan a b text report = IsResultWritten op plan a b text report
+abbrev pub IsWrittenWithin : {M : Type 0} → ℕ → Wanted → Plan → List ℕ → List ℕ → List ℕ → Report M → Type 0
+IsWrittenWithin limit Edges plan a b text report = AreEdgesWrittenWithin limit plan a b text report
+IsWrittenWithin limit (Apply op) plan a b text report = IsResultWrittenWithin limit op plan a b text report

@@ -20,7 +20,7 @@ use Rattle.engine.specs.Sinks.{SentAll, SentPart, SinkState}
 use Rattle.engine.specs.Texts.{edges_text_of}
 use Rattle.linking.specs.declared.rounded.TileNumbers.{TileNumbers}
 use Rattle.engine.specs.Rounds.{AreRingsInLimit, AreRoundedOver, IsGridOver, IsRemade, TellsTiles}
-use Rattle.engine.specs.declared.checking.TheConstants.{SEGMENT_LIMIT}
+use Rattle.engine.specs.declared.engine.TheConstants.{SEGMENT_LIMIT}
 use Rattle.tile_book.specs.declared.draw.TheConstants.{MOST_HANDS}
 use Rattle.engine.specs.declared.engine.MadeInParts.{MadeInParts}
 use Rattle.engine.specs.declared.engine.Plan.{Plan}
@@ -34,7 +34,7 @@ pub record IsPlan (plan : Plan) : Type 0 where
   pub side : IsSide plan.side
   pub workers : IsCrew plan.workers
 
--- the greatest number of segments in both layers
+-- the greatest number of segments in both layers, where no limit is given
 abbrev pub segment_limit : ℕ
 segment_limit = SEGMENT_LIMIT
 
@@ -42,29 +42,29 @@ segment_limit = SEGMENT_LIMIT
 abbrev pub segment_count : List Ring → ℕ
 segment_count rings = length (layer_steps (plain rings))
 
--- the plan is within its limits, and so are the layers, which have these rings, and the grid over them
-pub record IsReady (plan : Plan) (a b : List ℕ) (rings_a rings_b : List Ring) (grid : Tiling) : Type 0 where
+-- the plan is within its limits, and so are the layers, which have these rings and together at most so many segments, and the grid over them
+pub record IsReadyWithin (limit : ℕ) (plan : Plan) (a b : List ℕ) (rings_a rings_b : List Ring) (grid : Tiling) : Type 0 where
   pub planned : IsPlan plan
   pub accepted_a : IsAccepted a rings_a
   pub accepted_b : IsAccepted b rings_b
-  pub few : segment_count rings_a + segment_count rings_b ≤ segment_limit
+  pub few : segment_count rings_a + segment_count rings_b ≤ limit
   pub is_grid : IsGridOver rings_a rings_b plan.side grid
   pub few_tiles : tile_count grid ≤ most_tiles
 
 -- what is refused before anything is made, and where: the first of these that is at fault
-pub data IsRefusedAt (plan : Plan) (a b : List ℕ) : Part → Fault → Type 0 where
-  bad_tile : ¬ IsSide plan.side → IsRefusedAt plan a b Run BadTile
-  bad_workers : IsSide plan.side → ¬ IsCrew plan.workers → IsRefusedAt plan a b Run BadWorkers
-  bad_a : {f : Fault} → IsPlan plan → IsRefused a f → IsRefusedAt plan a b A f
-  bad_b : {f : Fault} → IsPlan plan → (rings : List Ring) → IsAccepted a rings → IsRefused b f → IsRefusedAt plan a b B f
+pub data IsRefusedAtWithin (limit : ℕ) (plan : Plan) (a b : List ℕ) : Part → Fault → Type 0 where
+  bad_tile : ¬ IsSide plan.side → IsRefusedAtWithin limit plan a b Run BadTile
+  bad_workers : IsSide plan.side → ¬ IsCrew plan.workers → IsRefusedAtWithin limit plan a b Run BadWorkers
+  bad_a : {f : Fault} → IsPlan plan → IsRefused a f → IsRefusedAtWithin limit plan a b A f
+  bad_b : {f : Fault} → IsPlan plan → (rings : List Ring) → IsAccepted a rings → IsRefused b f → IsRefusedAtWithin limit plan a b B f
   too_many : IsPlan plan → (rings_a rings_b : List Ring) → IsAccepted a rings_a → IsAccepted b rings_b
-      → segment_limit < segment_count rings_a + segment_count rings_b → IsRefusedAt plan a b Run (TooManySegments (segment_count rings_a + segment_count rings_b))
-  too_many_tiles : IsPlan plan → (rings_a rings_b : List Ring) → IsAccepted a rings_a → IsAccepted b rings_b → segment_count rings_a + segment_count rings_b ≤ segment_limit
-      → (grid : Tiling) → IsGridOver rings_a rings_b plan.side grid → most_tiles < tile_count grid → IsRefusedAt plan a b Run (TooManyTiles (tile_count grid))
+      → limit < segment_count rings_a + segment_count rings_b → IsRefusedAtWithin limit plan a b Run (TooManySegments (segment_count rings_a + segment_count rings_b))
+  too_many_tiles : IsPlan plan → (rings_a rings_b : List Ring) → IsAccepted a rings_a → IsAccepted b rings_b → segment_count rings_a + segment_count rings_b ≤ limit
+      → (grid : Tiling) → IsGridOver rings_a rings_b plan.side grid → most_tiles < tile_count grid → IsRefusedAtWithin limit plan a b Run (TooManyTiles (tile_count grid))
 
--- the plan is refused, whatever the layers are
+-- the plan is refused, whatever the limit and the layers are
 abbrev pub IsRefusedPlan : Plan → Part → Fault → Type 0
-IsRefusedPlan plan part fault = (a b : List ℕ) → IsRefusedAt plan a b part fault
+IsRefusedPlan plan part fault = (limit : ℕ) (a b : List ℕ) → IsRefusedAtWithin limit plan a b part fault
 
 abbrev pub part_of : Source → Part
 part_of FromA = A
@@ -81,19 +81,19 @@ IsReading text reading = MatchResult reading
     (λ fault. IsRefused text fault)
 
 -- the plan, the layers and this grid over them are within their limits; the layers have these numbers of segments
-pub record IsChecked (plan : Plan) (a b : List ℕ) (segments_a segments_b : ℕ) (grid : Tiling) : Type 0 where
+pub record IsCheckedWithin (limit : ℕ) (plan : Plan) (a b : List ℕ) (segments_a segments_b : ℕ) (grid : Tiling) : Type 0 where
   pub rings_a : List Ring
   pub rings_b : List Ring
-  pub ready : IsReady plan a b rings_a rings_b grid
+  pub ready : IsReadyWithin limit plan a b rings_a rings_b grid
   pub count_a : segments_a ≡ segment_count rings_a
   pub count_b : segments_b ≡ segment_count rings_b
 
 -- the report of these edges: they are the rounded edges of the layers, and its numbers are those of the segments, the edges, the hot pixels and the records, of each tile and in all; and no more pieces were made anew than a desk has places
-pub record Reports {M : Type 0} (plan : Plan) (a b : List ℕ) (counted : List Counted) (report : Report M) : Type 0 where
+pub record ReportsWithin {M : Type 0} (limit : ℕ) (plan : Plan) (a b : List ℕ) (counted : List Counted) (report : Report M) : Type 0 where
   pub rings_a : List Ring
   pub rings_b : List Ring
   pub grid : Tiling
-  pub ready : IsReady plan a b rings_a rings_b grid
+  pub ready : IsReadyWithin limit plan a b rings_a rings_b grid
   pub segments_a : report.segments_a ≡ segment_count rings_a
   pub segments_b : report.segments_b ≡ segment_count rings_b
   pub edges : report.edges ≡ length counted
@@ -103,14 +103,14 @@ pub record Reports {M : Type 0} (plan : Plan) (a b : List ℕ) (counted : List C
   pub remade : IsRemade report.remade
 
 -- the text of the edges, and their report
-pub record AreEdgesWritten {M : Type 0} (plan : Plan) (a b : List ℕ) (text : List ℕ) (report : Report M) : Type 0 where
+pub record AreEdgesWrittenWithin {M : Type 0} (limit : ℕ) (plan : Plan) (a b : List ℕ) (text : List ℕ) (report : Report M) : Type 0 where
   pub counted : List Counted
   pub text_is : text ≡ edges_text_of counted
-  pub reports : Reports plan a b counted report
+  pub reports : ReportsWithin limit plan a b counted report
 
 -- the plan, the layers and the grid are within their limits
-abbrev pub MayRun : Plan → List ℕ → List ℕ → Type 0
-MayRun plan a b = (rings_a : List Ring) × (rings_b : List Ring) × (grid : Tiling) × IsReady plan a b rings_a rings_b grid
+abbrev pub MayRunWithin : ℕ → Plan → List ℕ → List ℕ → Type 0
+MayRunWithin limit plan a b = (rings_a : List Ring) × (rings_b : List Ring) × (grid : Tiling) × IsReadyWithin limit plan a b rings_a rings_b grid
 
 -- the text that was made was sent, and its report is answered; or the sink failed, and had taken a beginning of the text
 abbrev pub Delivers : {M : Type 0} → SinkState → SinkState → MadeInParts M → Result (Report M) RunFault → Type 0
@@ -118,36 +118,56 @@ Delivers old new made r =
     MatchResult r (λ report. (report ≡ made.report) × SentAll old new made.text) (λ f. (f.at ≡ Run) × (f.fault ≡ Write) × SentPart old new made.text)
 
 -- an answer: the sink took the text that goes with the report, and is settled
-pub record Answers {M : Type 0} (old new : SinkState) (plan : Plan) (a b : List ℕ) (IsAnswer : List ℕ → Report M → Type 0) (report : Report M) : Type 0 where
-  pub may : MayRun plan a b
+pub record AnswersWithin {M : Type 0} (limit : ℕ) (old new : SinkState) (plan : Plan) (a b : List ℕ) (IsAnswer : List ℕ → Report M → Type 0) (report : Report M) : Type 0 where
+  pub may : MayRunWithin limit plan a b
   pub text : List ℕ
   pub is_answer : IsAnswer text report
   pub sent : SentAll old new text
 
 -- the sink failed, and had taken a beginning of the text of an answer
-pub record FailedToSend {M : Type 0} (old new : SinkState) (plan : Plan) (a b : List ℕ) (IsAnswer : List ℕ → Report M → Type 0) : Type 0 where
-  pub may : MayRun plan a b
+pub record FailedToSendWithin {M : Type 0} (limit : ℕ) (old new : SinkState) (plan : Plan) (a b : List ℕ) (IsAnswer : List ℕ → Report M → Type 0) : Type 0 where
+  pub may : MayRunWithin limit plan a b
   pub text : List ℕ
   pub report : Report M
   pub is_answer : IsAnswer text report
   pub sent : SentPart old new text
 
 -- a refusal: where the sink failed, it took a beginning; otherwise it is as before
-abbrev pub Stops : {S M : Type 0} → (S → SinkState) → S → S → Plan → List ℕ → List ℕ → (List ℕ → Report M → Type 0) → Part → Fault → Type 0
-Stops state old new plan a b IsAnswer part Write = (part ≡ Run) × FailedToSend (state old) (state new) plan a b IsAnswer
-Stops state old new plan a b IsAnswer part Memory = (part ≡ Run) × MayRun plan a b × (new ≡ old)
-Stops state old new plan a b IsAnswer part fault = IsRefusedAt plan a b part fault × (new ≡ old)
+abbrev pub StopsWithin : {S M : Type 0} → ℕ → (S → SinkState) → S → S → Plan → List ℕ → List ℕ → (List ℕ → Report M → Type 0) → Part → Fault → Type 0
+StopsWithin limit state old new plan a b IsAnswer part Write = (part ≡ Run) × FailedToSendWithin limit (state old) (state new) plan a b IsAnswer
+StopsWithin limit state old new plan a b IsAnswer part Memory = (part ≡ Run) × MayRunWithin limit plan a b × (new ≡ old)
+StopsWithin limit state old new plan a b IsAnswer part fault = IsRefusedAtWithin limit plan a b part fault × (new ≡ old)
 
 -- a run on two layers, whose answers are these
-abbrev pub Runs : {S M : Type 0} → (S → SinkState) → S → S → Plan → List ℕ → List ℕ → (List ℕ → Report M → Type 0) → Result (Report M) RunFault → Type 0
-Runs state old new plan a b IsAnswer r =
-    MatchResult r (λ report. Answers (state old) (state new) plan a b IsAnswer report) (λ f. Stops state old new plan a b IsAnswer f.at f.fault)
+abbrev pub RunsWithin : {S M : Type 0} → ℕ → (S → SinkState) → S → S → Plan → List ℕ → List ℕ → (List ℕ → Report M → Type 0) → Result (Report M) RunFault → Type 0
+RunsWithin limit state old new plan a b IsAnswer r =
+    MatchResult r (λ report. AnswersWithin limit (state old) (state new) plan a b IsAnswer report) (λ f. StopsWithin limit state old new plan a b IsAnswer f.at f.fault)
 
 -- the plan of a caller without threads
 abbrev pub alone : ℕ → Plan
 alone side = record { side = side; workers = 1 }
 
 -- a refusal without a sink
+abbrev pub DeclinesWithin : ℕ → Plan → List ℕ → List ℕ → Part → Fault → Type 0
+DeclinesWithin limit plan a b part Memory = (part ≡ Run) × MayRunWithin limit plan a b
+DeclinesWithin limit plan a b part fault = IsRefusedAtWithin limit plan a b part fault
+
+-- ---- the same where no limit is given
+
+abbrev pub IsRefusedAt : Plan → List ℕ → List ℕ → Part → Fault → Type 0
+IsRefusedAt plan a b part fault = IsRefusedAtWithin segment_limit plan a b part fault
+
+abbrev pub MayRun : Plan → List ℕ → List ℕ → Type 0
+MayRun plan a b = MayRunWithin segment_limit plan a b
+
+abbrev pub Reports : {M : Type 0} → Plan → List ℕ → List ℕ → List Counted → Report M → Type 0
+Reports plan a b counted report = ReportsWithin segment_limit plan a b counted report
+
+abbrev pub AreEdgesWritten : {M : Type 0} → Plan → List ℕ → List ℕ → List ℕ → Report M → Type 0
+AreEdgesWritten plan a b text report = AreEdgesWrittenWithin segment_limit plan a b text report
+
+abbrev pub Runs : {S M : Type 0} → (S → SinkState) → S → S → Plan → List ℕ → List ℕ → (List ℕ → Report M → Type 0) → Result (Report M) RunFault → Type 0
+Runs state old new plan a b IsAnswer r = RunsWithin segment_limit state old new plan a b IsAnswer r
+
 abbrev pub Declines : Plan → List ℕ → List ℕ → Part → Fault → Type 0
-Declines plan a b part Memory = (part ≡ Run) × MayRun plan a b
-Declines plan a b part fault = IsRefusedAt plan a b part fault
+Declines plan a b part fault = DeclinesWithin segment_limit plan a b part fault

@@ -7,12 +7,12 @@ ghost use Rattle.grid.specs.Tiles.{tile_count};
 ghost use Rattle.linking.specs.Gathered.{AreTileNumbers, HaveTiles};
 ghost use Rattle.points_law.specs.Law.{AreLayers};
 ghost use Rattle.engine.specs.Rounds.{AllInLimit, AreRoundedOver};
-ghost use Rattle.engine.specs.Results.{IsResultWritten, IsWritten};
-ghost use Rattle.engine.specs.Runs.{AreEdgesWritten, Declines, IsReading, alone};
+ghost use Rattle.engine.specs.Results.{IsResultWritten, IsResultWrittenWithin, IsWrittenWithin};
+ghost use Rattle.engine.specs.Runs.{AreEdgesWritten, AreEdgesWrittenWithin, Declines, DeclinesWithin, IsReading, alone};
 
 use crate::cells::{bins_of, cells_of};
 use crate::checking::{CheckedInput, Reading, check, check_plan};
-use crate::engine::{Output, Plan, or_fault, report_for};
+use crate::engine::{Limits, Output, Plan, or_fault, report_for};
 use crate::operation::{Wanted, text_of};
 use crate::reading::{read_segments, reading};
 use crate::rounds::Pieces;
@@ -34,7 +34,21 @@ pub fn edges_alone<A: Allocator + Copy>(
     ensures answer { MatchResult result (λ m. AreEdgesWritten (alone side) a.now b.now m.text.items m.report) (λ f. Declines (alone side) a.now b.now f.at f.fault) }
     ensures none_remade { IfOk result (λ m. m.report.remade ≡ 0) }
 {
-    made_alone(alloc, Wanted::Edges, a, b, side)
+    edges_alone_within(alloc, a, b, side, Limits::default())
+}
+
+/// The same within a limit of segments that is given: too many are more than that.
+pub fn edges_alone_within<A: Allocator + Copy>(
+    alloc: A,
+    a: &[u8],
+    b: &[u8],
+    side: u32,
+    limits: Limits,
+) -> Result<Output<A>, RunFault>
+    ensures answer { MatchResult result (λ m. AreEdgesWrittenWithin limits.segments (alone side) a.now b.now m.text.items m.report) (λ f. DeclinesWithin limits.segments (alone side) a.now b.now f.at f.fault) }
+    ensures none_remade { IfOk result (λ m. m.report.remade ≡ 0) }
+{
+    made_alone(alloc, Wanted::Edges, a, b, side, limits)
 }
 
 /// The canonical line of the result of an operation on two layers, over tiles of this side, and its report. It is refused
@@ -49,7 +63,22 @@ pub fn run_alone<A: Allocator + Copy>(
     ensures answer { MatchResult result (λ m. IsResultWritten op (alone side) a.now b.now m.text.items m.report) (λ f. Declines (alone side) a.now b.now f.at f.fault) }
     ensures none_remade { IfOk result (λ m. m.report.remade ≡ 0) }
 {
-    made_alone(alloc, Wanted::Apply(op), a, b, side)
+    run_alone_within(alloc, op, a, b, side, Limits::default())
+}
+
+/// The same within a limit of segments that is given: too many are more than that.
+pub fn run_alone_within<A: Allocator + Copy>(
+    alloc: A,
+    op: Op,
+    a: &[u8],
+    b: &[u8],
+    side: u32,
+    limits: Limits,
+) -> Result<Output<A>, RunFault>
+    ensures answer { MatchResult result (λ m. IsResultWrittenWithin limits.segments op (alone side) a.now b.now m.text.items m.report) (λ f. DeclinesWithin limits.segments (alone side) a.now b.now f.at f.fault) }
+    ensures none_remade { IfOk result (λ m. m.report.remade ≡ 0) }
+{
+    made_alone(alloc, Wanted::Apply(op), a, b, side, limits)
 }
 
 /// The text that is wanted of two layers, and the report, where nothing is refused.
@@ -59,15 +88,16 @@ fn made_alone<A: Allocator + Copy>(
     a: &[u8],
     b: &[u8],
     side: u32,
+    limits: Limits,
 ) -> Result<Output<A>, RunFault>
-    ensures answer { MatchResult result (λ m. IsWritten wanted (alone side) a.now b.now m.text.items m.report) (λ f. Declines (alone side) a.now b.now f.at f.fault) }
+    ensures answer { MatchResult result (λ m. IsWrittenWithin limits.segments wanted (alone side) a.now b.now m.text.items m.report) (λ f. DeclinesWithin limits.segments (alone side) a.now b.now f.at f.fault) }
     ensures none_remade { IfOk result (λ m. m.report.remade ≡ 0) }
 {
     let plan = Plan { side, workers: 1 };
     check_plan(plan)?;
     let read_a = reading(alloc, a);
     let read_b = reading(alloc, b);
-    match check(a, b, plan, &read_a, &read_b) {
+    match check(a, b, plan, limits, &read_a, &read_b) {
         Ok(checked) => or_fault(by_one(alloc, wanted, &checked, read_a, read_b)),
         Err(fault) => Err(fault),
     }
@@ -83,7 +113,7 @@ fn by_one<A: Allocator + Copy>(
 ) -> Result<Output<A>, NoMemory>
     requires read_a { IsReading checked.now.a.now read_a }
     requires read_b { IsReading checked.now.b.now read_b }
-    ensures written { IfOk result (λ m. IsWritten wanted checked.now.plan checked.now.a.now checked.now.b.now m.text.items m.report) }
+    ensures written { IfOk result (λ m. IsWrittenWithin checked.now.limits.segments wanted checked.now.plan checked.now.a.now checked.now.b.now m.text.items m.report) }
     ensures none_remade { IfOk result (λ m. m.report.remade ≡ 0) }
 {
     let noded = rounded_alone(alloc, checked, read_a, read_b)?;

@@ -2,7 +2,7 @@
 //!
 //! 1. The plan is in its limits (`check_plan`).
 //! 2. Either text was read as a layer, of which the segments are counted and boxed (`outline_of`).
-//! 3. Both layers together have few segments (`check_total`).
+//! 3. Both layers together have no more segments than the limit that is given (`check_total`).
 //! 4. The grid over both boxes has few tiles (`grid_over`).
 
 ghost use Rattle.std.specs.Prelude.{◌≡◌, ◌+◌, ◌<◌, ◌≤◌, ◌++◌, IfOk, IsTrue, List, MatchResult, nat_lt};
@@ -12,32 +12,30 @@ ghost use Rattle.grid.specs.Tiles.{AreBounds, IsSide};
 ghost use Rattle.engine.specs.Rounds.{AreJointBounds, IsTooFine, IsUsableGrid};
 ghost use Rattle.geom.specs.Fault.{number_of};
 ghost use Rattle.wkt.specs.Refusals.{IsRefused};
-ghost use Rattle.engine.specs.Runs.{HasOutline, IsChecked, IsPlan, IsReading, IsRefusedAt, IsRefusedPlan, MayRun, part_of, segment_limit};
+ghost use Rattle.engine.specs.Runs.{HasOutline, IsCheckedWithin, IsPlan, IsReading, IsRefusedAtWithin, IsRefusedPlan, MayRunWithin, part_of};
 
-use crate::engine::Plan;
+use crate::engine::{Limits, Plan};
 use geom::{Fault, Part, Rect, RunFault, Source};
 use grid::{GREATEST_SIDE, Grid, LEAST_SIDE};
 use std::alloc::Allocator;
 use tile_book::MOST_HANDS;
 use wkt::{Outline, OutlinedLayer};
 
-/// The greatest number of segments in both layers together.
-const SEGMENT_LIMIT: u64 = 1_048_576;
-
 /// What was read of a layer text: its outline, with its rings where there was room for them, or why it is refused.
 pub(crate) type Reading<A> = Result<OutlinedLayer<A>, Fault>;
 
-/// Two layer texts and a plan that are not refused, with the layers' numbers of segments and the grid over them. From here on
-/// only memory and the sink may fail.
+/// Two layer texts and a plan that are not refused within a limit, with the layers' numbers of segments and the grid over them.
+/// From here on only memory and the sink may fail.
 #[derive(Clone, Copy)]
 pub(crate) struct CheckedInput<'a, 'b> {
     pub a: &'a [u8],
     pub b: &'b [u8],
     pub plan: Plan,
+    pub limits: Limits,
     pub segments_a: u32,
     pub segments_b: u32,
     pub grid: Grid,
-    ghost are_checked: { ∥ IsChecked plan a.now b.now segments_a segments_b grid ∥₁ },
+    ghost are_checked: { ∥ IsCheckedWithin limits.segments plan a.now b.now segments_a segments_b grid ∥₁ },
 }
 
 /// Two layers and a plan, where nothing is refused, by what was read of the layers.
@@ -45,23 +43,25 @@ pub(crate) fn check<'a, 'b, A: Allocator>(
     a: &'a [u8],
     b: &'b [u8],
     plan: Plan,
+    limits: Limits,
     read_a: &Reading<A>,
     read_b: &Reading<A>,
 ) -> Result<CheckedInput<'a, 'b>, RunFault>
     requires read_a { IsReading a.now read_a.now }
     requires read_b { IsReading b.now read_b.now }
-    ensures same { IfOk result (λ c. (c.plan ≡ plan) × (c.a.now ≡ a.now) × (c.b.now ≡ b.now)) }
-    ensures answer { MatchResult result (λ _. MayRun plan a.now b.now) (λ f. IsRefusedAt plan a.now b.now f.at f.fault) }
+    ensures same { IfOk result (λ c. (c.plan ≡ plan) × (c.limits ≡ limits) × (c.a.now ≡ a.now) × (c.b.now ≡ b.now)) }
+    ensures answer { MatchResult result (λ _. MayRunWithin limits.segments plan a.now b.now) (λ f. IsRefusedAtWithin limits.segments plan a.now b.now f.at f.fault) }
 {
     check_plan(plan)?;
     let outline_a = outline_of(a, read_a, Source::A)?;
     let outline_b = outline_of(b, read_b, Source::B)?;
-    check_total(outline_a.segments, outline_b.segments)?;
+    check_total(outline_a.segments, outline_b.segments, limits.segments)?;
     let grid = grid_over(outline_a.bounds, outline_b.bounds, plan.side)?;
     Ok(CheckedInput {
         a,
         b,
         plan,
+        limits,
         segments_a: outline_a.segments,
         segments_b: outline_b.segments,
         grid,
@@ -114,11 +114,11 @@ fn layer_fault(layer: Source, fault: Fault) -> RunFault
     }
 }
 
-fn check_total(a: u32, b: u32) -> Result<(), RunFault>
-    ensures { MatchResult result (λ _. a + b ≤ segment_limit) (λ f. (f.at ≡ Part.Run) × (f.fault ≡ Fault.TooManySegments (a + b)) × (segment_limit < a + b)) }
+fn check_total(a: u32, b: u32, limit: u32) -> Result<(), RunFault>
+    ensures { MatchResult result (λ _. a + b ≤ limit) (λ f. (f.at ≡ Part.Run) × (f.fault ≡ Fault.TooManySegments (a + b)) × (limit < a + b)) }
 {
     let both = u64::from(a) + u64::from(b);
-    if both > SEGMENT_LIMIT {
+    if both > u64::from(limit) {
         return Err(RunFault {
             at: Part::Run,
             fault: Fault::TooManySegments(both),

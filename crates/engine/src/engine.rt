@@ -7,9 +7,9 @@
 //! 4. Only now is the sink called: it is sent the text whole (`send`).
 
 ghost use Rattle.std.specs.Prelude.{◌≡◌, ◌<◌, ℕ, IfOk, List, MatchResult};
-ghost use Rattle.engine.specs.Results.{IsResultWritten, IsWantedText, IsWritten};
+ghost use Rattle.engine.specs.Results.{IsResultWritten, IsResultWrittenWithin, IsWantedText, IsWrittenWithin};
 ghost use Rattle.engine.specs.Rounds.{AreRoundedOver, IsRemade};
-ghost use Rattle.engine.specs.Runs.{AreEdgesWritten, Declines, Delivers, Runs};
+ghost use Rattle.engine.specs.Runs.{AreEdgesWritten, AreEdgesWrittenWithin, DeclinesWithin, Delivers, Runs, RunsWithin, segment_limit};
 
 use crate::checking::{CheckedInput, check, check_plan};
 use crate::operation::{Wanted, text_by_workers};
@@ -32,6 +32,26 @@ pub struct Plan {
     pub side: u32,
     /// The number of threads at work, 1 to 64.
     pub workers: u32,
+}
+
+/// The greatest number of segments in both layers together, where no limit is given.
+const SEGMENT_LIMIT: u32 = 1_048_576;
+
+/// How large an input may be. A greater limit costs no time or memory by itself.
+#[derive(Clone, Copy, Debug)]
+pub struct Limits {
+    /// The most segments that both layers may have together: 1,048,576 where no limit is given.
+    pub segments: u32,
+}
+
+impl Default for Limits {
+    fn default() -> Limits
+        ensures { result.segments ≡ segment_limit }
+    {
+        Limits {
+            segments: SEGMENT_LIMIT,
+        }
+    }
 }
 
 /// A text, and the numbers of the run that made it.
@@ -63,7 +83,29 @@ pub fn edges<A: Allocator + Copy + Send + Sync, G: Gate + Sync, S: Sink, R: Thre
     requires { (S.state sink.old).failed < u64.MAX }
     ensures { Runs S.state sink.old sink.new plan a.now b.now (AreEdgesWritten plan a.now b.now) result }
 {
-    let made = made(rt, alloc, Wanted::Edges, a, b, plan, gate)?;
+    edges_within(rt, alloc, a, b, plan, Limits::default(), gate, sink)
+}
+
+/// The same within a limit of segments that is given: too many are more than that.
+pub fn edges_within<
+    A: Allocator + Copy + Send + Sync,
+    G: Gate + Sync,
+    S: Sink,
+    R: Threads + Wait + Sync,
+>(
+    rt: &R,
+    alloc: A,
+    a: &[u8],
+    b: &[u8],
+    plan: Plan,
+    limits: Limits,
+    gate: &G,
+    sink: &mut S,
+) -> Result<Report<A>, RunFault>
+    requires { (S.state sink.old).failed < u64.MAX }
+    ensures { RunsWithin limits.segments S.state sink.old sink.new plan a.now b.now (AreEdgesWrittenWithin limits.segments plan a.now b.now) result }
+{
+    let made = made(rt, alloc, Wanted::Edges, a, b, plan, limits, gate)?;
     send(made, sink)
 }
 
@@ -83,7 +125,30 @@ pub fn run<A: Allocator + Copy + Send + Sync, G: Gate + Sync, S: Sink, R: Thread
     requires { (S.state sink.old).failed < u64.MAX }
     ensures { Runs S.state sink.old sink.new plan a.now b.now (IsResultWritten op plan a.now b.now) result }
 {
-    let made = made(rt, alloc, Wanted::Apply(op), a, b, plan, gate)?;
+    run_within(rt, alloc, op, a, b, plan, Limits::default(), gate, sink)
+}
+
+/// The same within a limit of segments that is given: too many are more than that.
+pub fn run_within<
+    A: Allocator + Copy + Send + Sync,
+    G: Gate + Sync,
+    S: Sink,
+    R: Threads + Wait + Sync,
+>(
+    rt: &R,
+    alloc: A,
+    op: Op,
+    a: &[u8],
+    b: &[u8],
+    plan: Plan,
+    limits: Limits,
+    gate: &G,
+    sink: &mut S,
+) -> Result<Report<A>, RunFault>
+    requires { (S.state sink.old).failed < u64.MAX }
+    ensures { RunsWithin limits.segments S.state sink.old sink.new plan a.now b.now (IsResultWrittenWithin limits.segments op plan a.now b.now) result }
+{
+    let made = made(rt, alloc, Wanted::Apply(op), a, b, plan, limits, gate)?;
     send(made, sink)
 }
 
@@ -95,13 +160,14 @@ fn made<A: Allocator + Copy + Send + Sync, G: Gate + Sync, R: Threads + Wait + S
     a: &[u8],
     b: &[u8],
     plan: Plan,
+    limits: Limits,
     gate: &G,
 ) -> Result<MadeInParts<A>, RunFault>
-    ensures { MatchResult result (λ m. IsWritten wanted plan a.now b.now m.text m.report) (λ f. Declines plan a.now b.now f.at f.fault) }
+    ensures { MatchResult result (λ m. IsWrittenWithin limits.segments wanted plan a.now b.now m.text m.report) (λ f. DeclinesWithin limits.segments plan a.now b.now f.at f.fault) }
 {
     check_plan(plan)?;
     let (read_a, read_b) = read_both(rt, alloc, plan.workers, a, b);
-    let checked = match check(a, b, plan, &read_a, &read_b) {
+    let checked = match check(a, b, plan, limits, &read_a, &read_b) {
         Ok(checked) => checked,
         Err(fault) => return Err(fault),
     };
@@ -120,7 +186,7 @@ pub(crate) fn report_for<A: Allocator + Copy>(
 ) -> Result<Report<A>, NoMemory>
     requires rounded { AreRoundedOver checked.now.a.now checked.now.b.now checked.now.grid noded.now.edges.items noded.now.tiles.items }
     requires remade { IsRemade noded.now.remade }
-    ensures written { IfOk result (λ r. (text : List ℕ) → IsWantedText wanted noded.now.edges.items text → IsWritten wanted checked.now.plan checked.now.a.now checked.now.b.now text r) }
+    ensures written { IfOk result (λ r. (text : List ℕ) → IsWantedText wanted noded.now.edges.items text → IsWrittenWithin checked.now.limits.segments wanted checked.now.plan checked.now.a.now checked.now.b.now text r) }
     ensures remade { IfOk result (λ r. r.remade ≡ noded.now.remade) }
 {
     report_of(alloc, checked, noded)

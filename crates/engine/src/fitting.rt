@@ -4,7 +4,7 @@ ghost use Rattle.std.specs.Prelude.{ℕ, ◌≡◌, IfOk, MatchResult};
 ghost use Rattle.grid.specs.Tiles.{AreBounds};
 ghost use Rattle.wkt.specs.Refusals.{IsRefused};
 ghost use Rattle.engine.specs.Fitting.{IsFittingSide};
-ghost use Rattle.engine.specs.Runs.{HasOutline, IsRefusedAt};
+ghost use Rattle.engine.specs.Runs.{HasOutline, IsRefusedAtWithin};
 
 use crate::checking::joint_bounds;
 use crate::engine::Plan;
@@ -13,10 +13,11 @@ use grid::{DEFAULT_SIDE, default_side};
 use wkt::{Outline, check_layer};
 
 /// The side of a tile over two layers, in grid units, where none is given: 262,144, or where that gives too many tiles, the
-/// least power of two that doesn't. So no plan with this side is refused for its tiles.
+/// least power of two that doesn't. So no plan with this side is refused for its tiles, whatever the limit
+/// of segments is.
 pub fn fitting_side(a: &[u8], b: &[u8]) -> u32
     ensures side { IsFittingSide a.now b.now result }
-    ensures fits { (plan : Plan) → plan.side ≡ result → (count : ℕ) → ¬ IsRefusedAt plan a.now b.now Part.Run (Fault.TooManyTiles count) }
+    ensures fits { (limit : ℕ) (plan : Plan) → plan.side ≡ result → (count : ℕ) → ¬ IsRefusedAtWithin limit plan a.now b.now Part.Run (Fault.TooManyTiles count) }
 {
     let (Ok(outline_a), Ok(outline_b)) = (outline_of(a), outline_of(b)) else {
         return DEFAULT_SIDE;

@@ -1,12 +1,13 @@
-//! What the two layers determine: each law is the contract of a function with an empty body.
+//! What the two layers determine: each law is the contract of a function with an empty body. Its clauses named `within` say the same
+//! for any two limits of segments: a limit refuses, and changes nothing in an answer.
 
 ghost use Rattle.std.specs.Prelude.{◌≡◌};
 ghost use Rattle.geom.specs.Limit.{coordinate_limit};
 ghost use Rattle.grid.specs.Tiles.{most_tiles};
 ghost use Rattle.wkt.specs.Refusals.{length_limit};
 ghost use Rattle.engine.specs.Runs.{segment_limit};
-ghost use Rattle.engine.specs.Determined.{EdgesSizesAreOne, EdgesTextIsOne, RefusalIsOne, RefusedMayNotRun, ResultSizesAreOne, ResultTextIsOne, RunReportsAsEdges, TilesAreOne};
-ghost use Rattle.engine.specs.Counting.{CountsAreExact};
+ghost use Rattle.engine.specs.Determined.{EdgesSizesAreOne, EdgesSizesAreOneWithin, EdgesTextIsOne, EdgesTextIsOneWithin, RefusalIsOne, RefusalIsOneWithin, RefusedMayNotRun, RefusedMayNotRunWithin, ResultSizesAreOne, ResultSizesAreOneWithin, ResultTextIsOne, ResultTextIsOneWithin, RunReportsAsEdges, RunReportsAsEdgesWithin, TilesAreOne, TilesAreOneWithin};
+ghost use Rattle.engine.specs.Counting.{CountsAreExact, CountsAreExactWithin};
 
 use grid::{DEFAULT_SIDE, GREATEST_SIDE, LEAST_SIDE};
 use std::alloc::Allocator;
@@ -17,39 +18,48 @@ use tile_book::{MOST_HANDS, MOST_NUMBERS};
 pub fn edges_text_is_one<A: Allocator, B: Allocator>()
     ensures text { EdgesTextIsOne A B }
     ensures sizes { EdgesSizesAreOne A B }
+    ensures text_within { EdgesTextIsOneWithin A B }
+    ensures sizes_within { EdgesSizesAreOneWithin A B }
 {}
 
 /// The text of a result is determined by the operation and the two layers. Those numbers are the same for every operation.
 pub fn result_text_is_one<A: Allocator, B: Allocator>()
     ensures text { ResultTextIsOne A B }
     ensures sizes { ResultSizesAreOne A B }
+    ensures text_within { ResultTextIsOneWithin A B }
+    ensures sizes_within { ResultSizesAreOneWithin A B }
 {}
 
 /// A plan and two layers are refused for one reason, or for none where they are answered.
 pub fn one_refusal()
     ensures reason { RefusalIsOne }
     ensures answered { RefusedMayNotRun }
+    ensures reason_within { RefusalIsOneWithin }
+    ensures answered_within { RefusedMayNotRunWithin }
 {}
 
 /// The numbers of each tile in a report are determined by the two layers and the tile side.
 pub fn tiles_are_one<A: Allocator, B: Allocator>()
-    ensures { TilesAreOne A B }
+    ensures tiles { TilesAreOne A B }
+    ensures within { TilesAreOneWithin A B }
 {}
 
 /// A report tells the number of the hot pixels of both layers' segments, and that of the pairs of a segment and a hot pixel
 /// that it meets.
 pub fn counts_are_exact<A: Allocator>()
-    ensures { CountsAreExact A }
+    ensures counts { CountsAreExact A }
+    ensures within { CountsAreExactWithin A }
 {}
 
 /// The report of `run` is that of `edges` for the same plan and layers, but for the number of pieces that were made again.
 pub fn run_reports_as_edges<A: Allocator, B: Allocator>()
-    ensures { RunReportsAsEdges A B }
+    ensures report { RunReportsAsEdges A B }
+    ensures within { RunReportsAsEdgesWithin A B }
 {}
 
 /// The limits that the definitions cite, as numbers: a coordinate's greatest absolute value (2 to the 28th), the bytes of a
-/// layer text, the segments of both layers together, the sides of tiles in grid units, the default one among them, the tiles,
-/// the workers, and the cells that these draw.
+/// layer text, the segments of both layers together where no limit is given, the sides of tiles in grid units, the default one
+/// among them, the tiles, the workers, and the cells that these draw.
 pub fn limits_are_numbers()
     ensures coordinate { coordinate_limit ≡ 268435456 }
     ensures bytes { length_limit ≡ 268435456 }

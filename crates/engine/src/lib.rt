@@ -25,8 +25,8 @@ mod text;
 mod text_parts;
 mod worth;
 
-pub use alone::{edges_alone, run_alone};
-pub use engine::{Output, Plan, edges, run};
+pub use alone::{edges_alone, edges_alone_within, run_alone, run_alone_within};
+pub use engine::{Limits, Output, Plan, edges, edges_within, run, run_within};
 pub use fitting::fitting_side;
 pub use laws::{
     counts_are_exact, edges_text_is_one, limits_are_numbers, one_refusal, result_text_is_one,

@@ -1,7 +1,9 @@
-//! As many segments as both layers may have together, and one more.
+//! As many segments as both layers may have together, and one more: where no limit is given, and within limits that are.
 
-use engine::{MemSink, Plan, run};
-use geom::{Fault, NoMemory, Op};
+use engine::{
+    Limits, MemSink, Plan, edges_alone_within, edges_within, run, run_alone_within, run_within,
+};
+use geom::{Fault, NoMemory, Op, RunFault};
 use std::alloc::Global;
 use std::sync::Wait;
 use std::test::Fail;
@@ -17,6 +19,10 @@ const COPIES: u32 = 262_143;
 const APART: &str = "POLYGON ((3 3, 4 3, 4 4, 3 4, 3 3))\n";
 
 const BOTH: &str = "MULTIPOLYGON (((0 0, 1 0, 1 1, 0 1, 0 0)), ((3 3, 4 3, 4 4, 3 4, 3 3)))\n";
+
+/// The edges of the two squares.
+const EDGES: &str =
+    "0 0 0 1 1 0\n0 0 1 0 1 0\n0 1 1 1 1 0\n1 0 1 1 1 0\n3 3 3 4 0 1\n3 3 4 3 0 1\n3 4 4 4 0 1\n4 3 4 4 0 1\n";
 
 /// A pentagon: with it there is one segment too many.
 const PENTAGON: &str = "POLYGON ((3 3, 4 3, 5 4, 4 5, 3 4, 3 3))\n";
@@ -70,5 +76,62 @@ fn takes_as_many_segments_as_there_may_be(rt: HostRuntime) -> Result<(), Fail> {
         refused(&rt, rt.alloc(), &copies, PENTAGON, "")?,
         Some(fault)
     );
+    Ok(())
+}
+
+/// What the calls within a limit are refused for on the two squares, or none where they give the union and the edges: by
+/// workers, and alone.
+fn refused_within<R: Threads + Wait + Sync>(
+    rt: &R,
+    alloc: Global,
+    segments: u32,
+) -> Result<[Option<Fault>; 4], NoMemory> {
+    let (a, b, op) = (SQUARE.as_bytes(), APART.as_bytes(), Op::Union);
+    let limits = Limits { segments };
+    let plan = Plan {
+        side: 16,
+        workers: 2,
+    };
+    let mut line = MemSink::new(alloc, 200)?;
+    let mut lines = MemSink::new(alloc, 200)?;
+    let result = run_within(rt, alloc, op, a, b, plan, limits, &OpenGate, &mut line);
+    let edges = edges_within(rt, alloc, a, b, plan, limits, &OpenGate, &mut lines);
+    let alone = run_alone_within(alloc, op, a, b, 16, limits);
+    let edges_alone = edges_alone_within(alloc, a, b, 16, limits);
+    let is_line = alone
+        .as_ref()
+        .is_ok_and(|made| made.text.as_slice() == BOTH.as_bytes());
+    let are_lines = edges_alone
+        .as_ref()
+        .is_ok_and(|made| made.text.as_slice() == EDGES.as_bytes());
+    Ok([
+        fault_of(result, line.bytes() == BOTH.as_bytes()),
+        fault_of(edges, lines.bytes() == EDGES.as_bytes()),
+        fault_of(alone, is_line),
+        fault_of(edges_alone, are_lines),
+    ])
+}
+
+/// What is refused, or that a write failed where nothing is and the text isn't the one that was wanted.
+fn fault_of<M: Drop>(answer: Result<M, RunFault>, is_text: bool) -> Option<Fault> {
+    match answer {
+        Ok(_) if is_text => None,
+        Ok(_) => Some(Fault::Write),
+        Err(found) => Some(found.fault),
+    }
+}
+
+#[test]
+fn takes_as_many_segments_as_the_limit_says(rt: HostRuntime) -> Result<(), Fail> {
+    for segments in [8, 9, 1_048_576, u32::MAX] {
+        assert_eq!(rt; refused_within(&rt, rt.alloc(), segments)?, [None; 4]);
+    }
+    let fault = Fault::TooManySegments(8);
+    for segments in [0, 1, 7] {
+        assert_eq!(rt;
+            refused_within(&rt, rt.alloc(), segments)?,
+            [Some(fault); 4]
+        );
+    }
     Ok(())
 }

@@ -11,7 +11,7 @@ use Rattle.geom.specs.Fault.{fault_words, number_of}
 use Rattle.geom.specs.Rounded.{AreRounded}
 use Rattle.engine.specs.Results.{IsResultText}
 use Rattle.engine.specs.Rounds.{AreSegmentsOf}
-use Rattle.engine.specs.Runs.{Declines, MayRun, alone}
+use Rattle.engine.specs.Runs.{DeclinesWithin, MayRunWithin, alone}
 use Rattle.engine.specs.Texts.{edges_text_of, place_words, status_of_fault}
 use Rattle.overlay_c.specs.declared.answer.OverlayAnswer.{OverlayAnswer}
 use Rattle.overlay_c.specs.declared.made.Task.{Task}
@@ -31,17 +31,17 @@ abbrev pub IsAsked : Task → List Counted → List ℕ → Type 0
 IsAsked (Apply op) counted text = IsResultText op counted text
 IsAsked Edges counted text = text ≡ edges_text_of counted
 
--- the layers and the tile side are within their limits, and this is the text that is asked for
-pub record IsMade (task : Task) (side : ℕ) (a b text : List ℕ) : Type 0 where
-  pub may : MayRun (alone side) a b
+-- the layers, with at most so many segments, and the tile side are within their limits, and this is the text that is asked for
+pub record IsMade (limit : ℕ) (task : Task) (side : ℕ) (a b text : List ℕ) : Type 0 where
+  pub may : MayRunWithin limit (alone side) a b
   pub segments : List Seg
   pub are_segments : AreSegmentsOf a b segments
   pub counted : List Counted
   pub rounded : ∥ AreRounded segments counted ∥₁
   pub asked : IsAsked task counted text
 
-abbrev pub IsTextOf : (call side : ℕ) (a b text : List ℕ) → Type 0
-IsTextOf call side a b text = (task : Task) × (task_from call ≡ Some task) × IsMade task side a b text
+abbrev pub IsTextOf : (limit call side : ℕ) (a b text : List ℕ) → Type 0
+IsTextOf limit call side a b text = (task : Task) × (task_from call ≡ Some task) × IsMade limit task side a b text
 
 -- the offset or the count that a fault tells
 abbrev pub detail_of : Fault → ℕ
@@ -72,20 +72,20 @@ pub record Holds (text before after : List ℕ) : Type 0 where
   pub holds : after ≡ text ++ drop (length text) before
 
 -- why there is no text
-pub data Fails (call side : ℕ) (a b : List ℕ) : OverlayAnswer → Type 0 where
-  no_call : task_from call ≡ None → Fails call side a b (plain 2 0)
-  declined : (task : Task) → task_from call ≡ Some task → (part : Part) (fault : Fault) → Declines (alone side) a b part fault → Fails call side a b (fault_answer part fault)
+pub data Fails (limit call side : ℕ) (a b : List ℕ) : OverlayAnswer → Type 0 where
+  no_call : task_from call ≡ None → Fails limit call side a b (plain 2 0)
+  declined : (task : Task) → task_from call ≡ Some task → (part : Part) (fault : Fault) → DeclinesWithin limit (alone side) a b part fault → Fails limit call side a b (fault_answer part fault)
 
 -- how a call for the size of a text ends
-pub data Sizes (call side : ℕ) (a b : List ℕ) : OverlayAnswer → Type 0 where
-  sized : (text : List ℕ) → IsTextOf call side a b text → Sizes call side a b (plain 0 (length text))
-  none : {answer : OverlayAnswer} → Fails call side a b answer → Sizes call side a b answer
+pub data Sizes (limit call side : ℕ) (a b : List ℕ) : OverlayAnswer → Type 0 where
+  sized : (text : List ℕ) → IsTextOf limit call side a b text → Sizes limit call side a b (plain 0 (length text))
+  none : {answer : OverlayAnswer} → Fails limit call side a b answer → Sizes limit call side a b answer
 
 -- how a call that fills a room ends: only an answer changes the room, and nothing behind its text
-pub data Fills (call side : ℕ) (a b before after : List ℕ) : OverlayAnswer → Type 0 where
-  filled : (text : List ℕ) → IsTextOf call side a b text → Holds text before after → Fills call side a b before after (plain 0 (length text))
-  small : (text : List ℕ) → IsTextOf call side a b text → length before < length text → after ≡ before → Fills call side a b before after (plain 4 (length text))
-  none : {answer : OverlayAnswer} → Fails call side a b answer → after ≡ before → Fills call side a b before after answer
+pub data Fills (limit call side : ℕ) (a b before after : List ℕ) : OverlayAnswer → Type 0 where
+  filled : (text : List ℕ) → IsTextOf limit call side a b text → Holds text before after → Fills limit call side a b before after (plain 0 (length text))
+  small : (text : List ℕ) → IsTextOf limit call side a b text → length before < length text → after ≡ before → Fills limit call side a b before after (plain 4 (length text))
+  none : {answer : OverlayAnswer} → Fails limit call side a b answer → after ≡ before → Fills limit call side a b before after answer
 
 -- ---- words
 

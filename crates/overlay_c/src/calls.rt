@@ -2,11 +2,12 @@
 
 ghost use Rattle.std.specs.Prelude.{◌≡◌, ◌≤◌, ◌<◌, ◌⊎◌, length};
 ghost use Rattle.engine.specs.Fitting.{IsFittingSide};
+ghost use Rattle.engine.specs.Runs.{segment_limit};
 ghost use Rattle.overlay_c.specs.Boundary.{Fills, Holds, Sizes, plain};
 
 use crate::answer::{ANSWERED, OverlayAnswer, SMALL, plain_answer};
 use crate::made::text_of;
-use engine::fitting_side;
+use engine::{Limits, fitting_side};
 use std::alloc::Global;
 
 /// The version of these calls and of what they answer.
@@ -23,12 +24,19 @@ pub extern "C" fn overlay_size(
     b: &[u8],
     answer: &mut OverlayAnswer,
 )
-    ensures { Sizes call side a.now b.now answer.new }
+    ensures { Sizes segment_limit call side a.now b.now answer.new }
 {
-    *answer = match text_of(alloc, call, side, a, b) {
+    *answer = size(alloc, call, side, Limits::default(), a, b);
+}
+
+/// How many bytes the text within a limit of segments takes.
+fn size(alloc: Global, call: u32, side: u32, limits: Limits, a: &[u8], b: &[u8]) -> OverlayAnswer
+    ensures { Sizes limits.segments call side a.now b.now result }
+{
+    match text_of(alloc, call, side, limits, a, b) {
         Ok(text) => whole(&text),
         Err(told) => told,
-    };
+    }
 }
 
 /// Puts that text at the beginning of a room, where it fits. Nothing else in the room changes.
@@ -43,12 +51,46 @@ pub extern "C" fn overlay_fill(
     answer: &mut OverlayAnswer,
 )
     ensures size { length room.new ≡ length room.old }
-    ensures fills { Fills call side a.now b.now room.old room.new answer.new }
+    ensures fills { Fills segment_limit call side a.now b.now room.old room.new answer.new }
 {
-    *answer = match text_of(alloc, call, side, a, b) {
+    *answer = fill(alloc, call, side, Limits::default(), a, b, room);
+}
+
+/// The same for layers that together have at most so many segments, where `overlay_fill` has its own limit.
+#[unsafe(no_mangle)]
+pub extern "C" fn overlay_fill_within(
+    alloc: Global,
+    call: u32,
+    side: u32,
+    segments: u32,
+    a: &[u8],
+    b: &[u8],
+    room: &mut [u8],
+    answer: &mut OverlayAnswer,
+)
+    ensures size { length room.new ≡ length room.old }
+    ensures fills { Fills segments call side a.now b.now room.old room.new answer.new }
+{
+    *answer = fill(alloc, call, side, Limits { segments }, a, b, room);
+}
+
+/// Puts the text within a limit of segments at the beginning of a room, where it fits.
+fn fill(
+    alloc: Global,
+    call: u32,
+    side: u32,
+    limits: Limits,
+    a: &[u8],
+    b: &[u8],
+    room: &mut [u8],
+) -> OverlayAnswer
+    ensures size { length room.new ≡ length room.old }
+    ensures fills { Fills limits.segments call side a.now b.now room.old room.new result }
+{
+    match text_of(alloc, call, side, limits, a, b) {
         Ok(text) => put(&text, room),
         Err(told) => told,
-    };
+    }
 }
 
 /// Puts a text at the beginning of a room, where it fits.

@@ -7,5 +7,5 @@ mod made;
 mod words;
 
 pub use answer::OverlayAnswer;
-pub use calls::{overlay_fill, overlay_side, overlay_size, overlay_version};
+pub use calls::{overlay_fill, overlay_fill_within, overlay_side, overlay_size, overlay_version};
 pub use words::overlay_words;

@@ -18,7 +18,7 @@ use Rattle.std.specs.Prelude.{pos}
 
 -- the place of an argument, by the first letter of its id
 abbrev place : ℕ → ℕ
-place n = if n == 99 then 0 else if n == 97 then 1 else if n == 98 then 2 else if n == 116 then 3 else if n == 119 then 4 else 5
+place n = if n == 99 then 0 else if n == 97 then 1 else if n == 98 then 2 else if n == 116 then 3 else if n == 119 then 4 else if n == 115 then 5 else 6
 
 letter : (x : Text) (t : Text) → x ≡ t → slice_index x 0 ≡ slice_index t 0
 letter x t e = ap (λ (u : Text). slice_index u 0) e
@@ -36,16 +36,17 @@ own_id id a own some no_h no_v = (
 )
 
 abbrev list_of : (c : Command) → IsOverlayCommand c → List Arg
-list_of c h = h.word ∷ h.a ∷ h.b ∷ h.tile ∷ h.workers ∷ h.report ∷ []
+list_of c h = h.word ∷ h.a ∷ h.b ∷ h.tile ∷ h.workers ∷ h.segments ∷ h.report ∷ []
 
-spot : (c : Command) (h : IsOverlayCommand c) (j : ℕ) (e : Arg) → j < 6 → place (slice_index (slice_index_or (list_of c h) j e).id.now 0) ≡ j
+spot : (c : Command) (h : IsOverlayCommand c) (j : ℕ) (e : Arg) → j < 7 → place (slice_index (slice_index_or (list_of c h) j e).id.now 0) ≡ j
 spot c h zero e lt = ap (λ (u : Text). place (slice_index u 0)) h.is_word.own.id_is
 spot c h (suc zero) e lt = ap (λ (u : Text). place (slice_index u 0)) h.is_a.own.id_is
 spot c h (suc (suc zero)) e lt = ap (λ (u : Text). place (slice_index u 0)) h.is_b.own.id_is
 spot c h (suc (suc (suc zero))) e lt = ap (λ (u : Text). place (slice_index u 0)) h.is_tile.own.id_is
 spot c h (suc (suc (suc (suc zero)))) e lt = ap (λ (u : Text). place (slice_index u 0)) h.is_workers.own.id_is
-spot c h (suc (suc (suc (suc (suc zero))))) e lt = ap (λ (u : Text). place (slice_index u 0)) h.is_report.id_is
-spot c h (suc (suc (suc (suc (suc (suc j)))))) e lt = absurd (omega arith)
+spot c h (suc (suc (suc (suc (suc zero))))) e lt = ap (λ (u : Text). place (slice_index u 0)) h.is_segments.own.id_is
+spot c h (suc (suc (suc (suc (suc (suc zero)))))) e lt = ap (λ (u : Text). place (slice_index u 0)) h.is_report.id_is
+spot c h (suc (suc (suc (suc (suc (suc (suc j))))))) e lt = absurd (omega arith)
 
 distinct : (c : Command) (h : IsOverlayCommand c) → HasDistinctIds (list_of c h)
 distinct c h j k d e lt lt2 same =
@@ -57,30 +58,32 @@ fits c h (suc zero) d lt = own_id _ _ h.is_a.own (omega arith) (λ e. absurd (om
 fits c h (suc (suc zero)) d lt = own_id _ _ h.is_b.own (omega arith) (λ e. absurd (omega arith)) (λ e. absurd (omega arith))
 fits c h (suc (suc (suc zero))) d lt = own_id _ _ h.is_tile.own (omega arith) (λ e. absurd (omega arith)) (λ e. absurd (omega arith))
 fits c h (suc (suc (suc (suc zero)))) d lt = own_id _ _ h.is_workers.own (omega arith) (λ e. absurd (omega arith)) (λ e. absurd (omega arith))
-fits c h (suc (suc (suc (suc (suc zero))))) d lt = own_id _ _ h.is_report (omega arith) (λ e. absurd (omega arith)) (λ e. absurd (omega arith))
-fits c h (suc (suc (suc (suc (suc (suc j)))))) d lt = absurd (omega arith)
+fits c h (suc (suc (suc (suc (suc zero))))) d lt = own_id _ _ h.is_segments.own (omega arith) (λ e. absurd (omega arith)) (λ e. absurd (omega arith))
+fits c h (suc (suc (suc (suc (suc (suc zero)))))) d lt = own_id _ _ h.is_report (omega arith) (λ e. absurd (omega arith)) (λ e. absurd (omega arith))
+fits c h (suc (suc (suc (suc (suc (suc (suc j))))))) d lt = absurd (omega arith)
 
-number_at : (c : Command) (h : IsOverlayCommand c) (m : ArgMatches) → IsParsedFrom c m → (k : ℕ) → k < 6 → (id : Text)
-    → IsNumberArg id (slice_index_or (list_of c h) k h.word)
-    → IsReadOr (found_of m) (slice_index_or (list_of c h) k h.word) id (Signed (pos 0) (pos 4294967295))
-number_at c h m p k lt id n =
-    subst (λ (t : Text). IsReadOr (found_of m) (slice_index_or (list_of c h) k h.word) t (Signed (pos 0) (pos 4294967295))) n.own.id_is
+number_at : (c : Command) (h : IsOverlayCommand c) (m : ArgMatches) → IsParsedFrom c m → (k : ℕ) → k < 7 → (least : ℕ) (id : Text)
+    → IsNumberArg least id (slice_index_or (list_of c h) k h.word)
+    → IsReadOr (found_of m) (slice_index_or (list_of c h) k h.word) id (Signed (pos least) (pos 4294967295))
+number_at c h m p k lt least id n =
+    subst (λ (t : Text). IsReadOr (found_of m) (slice_index_or (list_of c h) k h.word) t (Signed (pos least) (pos 4294967295))) n.own.id_is
     (number_in_chain h.start c (list_of c h) k h.word m h.chain h.no_args h.no_groups h.no_globals h.no_negation (fits c h) (distinct c h) lt
-    n.set n.no_delimiter n.one_value (Signed (pos 0) (pos 4294967295)) n.parser p)
+    n.set n.no_delimiter n.one_value (Signed (pos least) (pos 4294967295)) n.parser p)
 
-number_given : (f : Found) (id : Text) (a : Arg) → IsReadOr f a id (Signed (pos 0) (pos 4294967295)) → MayHaveNumber f id
-number_given f id a read = elim read [ inl none ↦ inl none.1 | inr got ↦ inr (got.0, got.1, got.2.1) ]
+number_given : (f : Found) (id : Text) (a : Arg) (least : ℕ) → IsReadOr f a id (Signed (pos least) (pos 4294967295)) → MayHaveNumber f id
+number_given f id a least read = elim read [ inl none ↦ inl none.1 | inr got ↦ inr (least, got.0, got.1, got.2.1) ]
 
-number_there : (f : Found) (id : Text) (a : Arg) → WantsDefault a → IsReadOr f a id (Signed (pos 0) (pos 4294967295)) → HasNumber f id
-number_there f id a wants read = elim read [ inl none ↦ absurd (none.0 wants) | inr got ↦ (got.0, got.1, got.2.1) ]
+number_there : (f : Found) (id : Text) (a : Arg) (least : ℕ) → WantsDefault a → IsReadOr f a id (Signed (pos least) (pos 4294967295)) → HasNumber f id
+number_there f id a least wants read = elim read [ inl none ↦ absurd (none.0 wants) | inr got ↦ (least, got.0, got.1, got.2.1) ]
 
 pub words_there : (c : Command) (h : IsOverlayCommand c) (m : ArgMatches) → IsParsedFrom c m → HasWords (found_of m)
 words_there c h m p =
-    let has = λ (k : ℕ). λ (lt : k < 6). required_in_chain h.start c (list_of c h) k h.word m h.chain h.no_args h.no_groups h.no_globals h.no_negation (fits c h) (distinct c h) lt in
+    let has = λ (k : ℕ). λ (lt : k < 7). required_in_chain h.start c (list_of c h) k h.word m h.chain h.no_args h.no_groups h.no_globals h.no_negation (fits c h) (distinct c h) lt in
     record {
       word = subst (λ (t : Text). is_some (first_value (found_of m) t) ≡ true) h.is_word.own.id_is (has 0 (omega arith) h.is_word.takes_value p);
       a = subst (λ (t : Text). is_some (first_value (found_of m) t) ≡ true) h.is_a.own.id_is (has 1 (omega arith) h.is_a.takes_value p);
       b = subst (λ (t : Text). is_some (first_value (found_of m) t) ≡ true) h.is_b.own.id_is (has 2 (omega arith) h.is_b.takes_value p);
-      tile = number_given (found_of m) (codes "tile") h.tile (number_at c h m p 3 (omega arith) (codes "tile") h.is_tile);
-      workers = number_there (found_of m) (codes "workers") h.workers h.workers_default (number_at c h m p 4 (omega arith) (codes "workers") h.is_workers);
+      tile = number_given (found_of m) (codes "tile") h.tile 0 (number_at c h m p 3 (omega arith) 0 (codes "tile") h.is_tile);
+      workers = number_there (found_of m) (codes "workers") h.workers 0 h.workers_default (number_at c h m p 4 (omega arith) 0 (codes "workers") h.is_workers);
+      segments = number_given (found_of m) (codes "segments") h.segments 1 (number_at c h m p 5 (omega arith) 1 (codes "segments") h.is_segments);
     }

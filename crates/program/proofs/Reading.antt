@@ -41,7 +41,7 @@ pub number_given_read : {E : Type 0} (G : List ℕ → Result ℕ E → Type 0) 
     → MayHaveNumber f id → IsGivenNumber id (rows_of f) r
 number_given_read G f id r only none value (inl e) = rw (none e) (sym (one_text-rows f id) ∙ e)
 number_given_read {E} G f id r only none value (inr h) =
-    let got = signed_reads E G 32 0 4294967295 h.0 r (value (without_minus h.0) h.1) only (omega arith) h.2 in
+    let got = signed_reads E G 32 h.0 4294967295 h.1 r (value (without_minus h.1) h.2) only (omega arith) h.3 in
     held r got.0 got.1 (number_read G f id r only none value)
   where
     held : (o : Option ℕ) (n : ℕ) → o ≡ Some n → IfSome o (λ m. IsHeldNumber id (rows_of f) m) → IsGivenNumber id (rows_of f) o

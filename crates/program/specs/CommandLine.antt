@@ -19,24 +19,24 @@ word_rule = record (new_rule (codes "command")) { action = Some Set; required = 
 abbrev pub file_rule : Text → Rule
 file_rule id = record (new_rule id) { action = Some Set; required = true; value_names = 1 }
 
--- a whole number below 2^32, with these defaults
-abbrev pub number_rule : Text → List Text → Rule
-number_rule id defaults = record (new_rule id) {
+-- a whole number from the least one on, and below 2^32, with these defaults
+abbrev pub number_rule : ℕ → Text → List Text → Rule
+number_rule least id defaults = record (new_rule id) {
   long = Some id;
   action = Some Set;
   value_names = 1;
   defaults = defaults;
-  parser = Some (Signed (pos 0) (pos 4294967295));
+  parser = Some (Signed (pos least) (pos 4294967295));
 }
 
 abbrev pub flag_rule : Text → Rule
 flag_rule id = record (new_rule id) { long = Some id; action = Some SetTrue }
 
--- `overlay command a b [--tile N] [--workers N] [--report]`
+-- `overlay command a b [--tile N] [--workers N] [--segments N] [--report]`
 unfoldable pub overlay_app : App
-overlay_app = with_rule (with_rule (with_rule (with_rule (with_rule (with_rule (new_app (codes "overlay"))
-    word_rule) (file_rule (codes "a"))) (file_rule (codes "b"))) (number_rule (codes "tile") []))
-    (number_rule (codes "workers") (codes "4" ∷ []))) (flag_rule (codes "report"))
+overlay_app = with_rule (with_rule (with_rule (with_rule (with_rule (with_rule (with_rule (new_app (codes "overlay"))
+    word_rule) (file_rule (codes "a"))) (file_rule (codes "b"))) (number_rule 0 (codes "tile") []))
+    (number_rule 0 (codes "workers") (codes "4" ∷ []))) (number_rule 1 (codes "segments") [])) (flag_rule (codes "report"))
 
 -- the matches of the words, the first of which is the program's name
 unfoldable pub held : List Text → List Row
@@ -72,6 +72,7 @@ pub record IsRequestOf (rows : List Row) (r : Request) : Type 0 where
   pub b : first_of (codes "b") rows ≡ Some r.b.now
   pub side : IsGivenNumber (codes "tile") rows r.side
   pub workers : IsHeldNumber (codes "workers") rows r.workers
+  pub segments : IsGivenNumber (codes "segments") rows r.segments
   pub report : r.report ≡ is_set (one_of (codes "report") rows)
 
 -- the kinds of fault that `clap` finds in the words

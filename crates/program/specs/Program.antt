@@ -1,12 +1,12 @@
 -- What the program writes, and what it answers then (own).
-use Rattle.std.specs.Prelude.{◌≡◌, ◌⊎◌, ℕ, Bool, true, false, List, [], ◌∷◌, ◌++◌, Option, Result, MatchOption, MatchResult, codes, string_bytes}
+use Rattle.std.specs.Prelude.{◌≡◌, ◌⊎◌, ℕ, Bool, true, false, List, [], ◌∷◌, ◌++◌, Option, Some, None, Result, MatchOption, MatchResult, codes, string_bytes}
 use Rattle.std.specs.declared.alloc.Global.{Global}
 use Rattle.clap.specs.Words.{Text}
 use Rattle.grid.specs.declared.sides.TheConstants.{DEFAULT_SIDE}
 use Rattle.engine.specs.Fitting.{IsFittingSide}
 use Rattle.geom.specs.declared.fault.RunFault.{RunFault}
-use Rattle.engine.specs.Runs.{AreEdgesWritten, Runs}
-use Rattle.engine.specs.Results.{IsResultWritten}
+use Rattle.engine.specs.Runs.{AreEdgesWrittenWithin, RunsWithin, segment_limit}
+use Rattle.engine.specs.Results.{IsResultWrittenWithin}
 use Rattle.engine.specs.Sinks.{SentAll, SentPart, SinkState}
 use Rattle.engine.specs.Texts.{line_of, report_of, status_of}
 use Rattle.engine.specs.declared.engine.Plan.{Plan}
@@ -71,18 +71,24 @@ TellsLine out_state err_state out out' err err' (Help text) status = (err' ≡ e
 TellsLine out_state err_state out out' err err' (Refused text) status = (status ≡ 2) × (out' ≡ out) × IsSent (err_state err) (err_state err') (string_bytes text)
 TellsLine out_state err_state out out' err err' Memory status = (out' ≡ out) × TellsMemory (err_state err) (err_state err') status
 
+-- the limit of segments: the one that was given, or where none was the engine's
+abbrev pub limit_of : Option ℕ → ℕ
+limit_of None = segment_limit
+limit_of (Some n) = n
+
 -- the text that a command asks for, and its report
-abbrev pub IsAskedText : {M : Type 0} → Command → Plan → List ℕ → List ℕ → List ℕ → Report M → Type 0
-IsAskedText Edges plan a b text report = AreEdgesWritten plan a b text report
-IsAskedText (Apply op) plan a b text report = IsResultWritten op plan a b text report
+abbrev pub IsAskedText : {M : Type 0} → ℕ → Command → Plan → List ℕ → List ℕ → List ℕ → Report M → Type 0
+IsAskedText limit Edges plan a b text report = AreEdgesWrittenWithin limit plan a b text report
+IsAskedText limit (Apply op) plan a b text report = IsResultWrittenWithin limit op plan a b text report
 
 -- the plan of a request, with this side of a tile
 abbrev pub plan_of : Request → ℕ → Plan
 plan_of request side = record { side = side; workers = request.workers }
 
--- a run that a request asks for, with this side of a tile
+-- a run that a request asks for, with this side of a tile and within its limit of segments
 abbrev pub RunsFor : {S M : Type 0} → (S → SinkState) → S → S → Request → ℕ → List ℕ → List ℕ → Result (Report M) RunFault → Type 0
-RunsFor state old new request side a b r = Runs state old new (plan_of request side) a b (IsAskedText request.command (plan_of request side) a b) r
+RunsFor state old new request side a b r =
+    RunsWithin (limit_of request.segments) state old new (plan_of request side) a b (IsAskedText (limit_of request.segments) request.command (plan_of request side) a b) r
 
 -- the side is the one that was given; where none was, the default one, or the one that fits the layers
 abbrev pub IsChosenSide : Option ℕ → List ℕ → List ℕ → ℕ → Type 0

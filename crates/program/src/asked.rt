@@ -25,6 +25,8 @@ pub struct Request<'a> {
     pub side: Option<u32>,
     /// The number of threads at work.
     pub workers: u32,
+    /// The most segments that both layers may have together, where that was given.
+    pub segments: Option<u32>,
     /// Whether a report is wanted.
     pub report: bool,
 }

@@ -9,8 +9,9 @@ ghost use Rattle.program.specs.CommandLine.{IsAskedBy, IsUnknown, IsGivenNumber,
 
 use crate::asked;
 use crate::asked::{CliFault, Request};
+use clap::builder::ValueParser;
 use clap::error::ErrorKind;
-use clap::{Arg, ArgAction, ArgMatches, Command, value_parser};
+use clap::{Arg, ArgAction, ArgMatches, Command};
 use geom::Op;
 use std::alloc::{AllocError, Global};
 use std::convert::AsStr;
@@ -23,6 +24,9 @@ const TILE_HELP: &str =
 
 const WORKERS_HELP: &str = "The number of threads at work, 1 to 64";
 
+const SEGMENTS_HELP: &str =
+    "The most segments of both layers together, 1 to 4294967295 [default: 1048576]";
+
 const AFTER: &str =
     "union, intersection, difference and symdifference print the result of that operation on the two
 layers as one MULTIPOLYGON text.
@@ -30,9 +34,9 @@ edges prints a line `x1 y1 x2 y2 countA countB` for each edge of both layers aft
 
 A layer is a text of POLYGON and MULTIPOLYGON geometries, at most 268435456 bytes long, with whole
 coordinates from -268435456 to 268435456, in grid units. Both layers together have at most 1048576
-segments. A layer is read by parity: a point lies in it where an odd number of its rings have the
-point inside, so polygons of one layer that overlap cancel each other there.
-/dev/stdin reads a layer from standard input.
+segments, or as many as --segments says; a million take some 170 MB of memory. A layer is read by
+parity: a point lies in it where an odd number of its rings have the point inside, so polygons of one
+layer that overlap cancel each other there. /dev/stdin reads a layer from standard input.
 
 The tiles and the number of threads have no influence on the text. Where no side of a tile is given
 it is 262144, or where that gives more than 65536 tiles the least power of two that doesn't.
@@ -63,24 +67,25 @@ fn file_arg<'a>(alloc: Global, id: &'a str, name: &'a str, help: &'a str) -> Arg
         .help(help)
 }
 
-fn number_arg<'a>(alloc: Global, id: &'a str, help: &'a str) -> Arg<'a>
-    ensures rule { rule_of result ≡ number_rule id.entry.now [] }
-    ensures number { IsNumberArg id.entry.now result }
+/// An argument that takes a whole number, from the least one to 4,294,967,295.
+fn number_arg<'a>(alloc: Global, id: &'a str, least: u32, help: &'a str) -> Arg<'a>
+    ensures rule { rule_of result ≡ number_rule least id.entry.now [] }
+    ensures number { IsNumberArg least id.entry.now result }
 {
     Arg::new(alloc, id)
         .action(ArgAction::Set)
         .long(id)
         .value_name("N")
-        .value_parser(value_parser!(u32))
+        .value_parser(ValueParser::signed(i64::from(least), i64::from(u32::MAX)))
         .help(help)
 }
 
 fn workers_arg<'a>(alloc: Global) -> Arg<'a>
-    ensures rule { rule_of result ≡ number_rule (codes "workers") (codes "4" ∷ []) }
-    ensures number { IsNumberArg (codes "workers") result }
+    ensures rule { rule_of result ≡ number_rule 0 (codes "workers") (codes "4" ∷ []) }
+    ensures number { IsNumberArg 0 (codes "workers") result }
     ensures default { WantsDefault result }
 {
-    number_arg(alloc, "workers", WORKERS_HELP).default_value("4")
+    number_arg(alloc, "workers", 0, WORKERS_HELP).default_value("4")
 }
 
 fn flag_arg<'a>(alloc: Global, id: &'a str, help: &'a str) -> Arg<'a>
@@ -118,8 +123,9 @@ fn parser<'a>(alloc: Global) -> Result<Command<'a>, AllocError>
         "The first layer's file: POLYGON and MULTIPOLYGON texts",
     );
     let b = file_arg(alloc, "b", "B", "The second layer's file");
-    let tile = number_arg(alloc, "tile", TILE_HELP);
+    let tile = number_arg(alloc, "tile", 0, TILE_HELP);
     let workers = workers_arg(alloc);
+    let segments = number_arg(alloc, "segments", 1, SEGMENTS_HELP);
     let report = flag_arg(
         alloc,
         "report",
@@ -131,6 +137,7 @@ fn parser<'a>(alloc: Global) -> Result<Command<'a>, AllocError>
         .arg(b)?
         .arg(tile)?
         .arg(workers)?
+        .arg(segments)?
         .arg(report)
 }
 
@@ -214,6 +221,7 @@ fn request_of<'a>(matches: &ArgMatches<'a>) -> Result<Request<'a>, CliFault>
     let report = flag_held(matches, "report");
     let side = number_given(matches, "tile");
     let workers = number_held(matches, "workers");
+    let segments = number_given(matches, "segments");
     let Some(command) = command_named(word) else {
         return Err(CliFault::Unknown);
     };
@@ -223,6 +231,7 @@ fn request_of<'a>(matches: &ArgMatches<'a>) -> Result<Request<'a>, CliFault>
         b,
         side,
         workers,
+        segments,
         report,
     })
 }

@@ -1,12 +1,15 @@
 //! The program, over files and sinks.
 
 ghost use Rattle.std.specs.Prelude.{ℕ, ◌≡◌, ◌<◌, IfErr, map};
-ghost use Rattle.program.specs.Program.{Does, DoesLine, IsSent, Performs, RunsFor, Shows, ShowsReport, TellsFault, TellsFile, TellsLine, TellsMemory};
+ghost use Rattle.program.specs.Program.{Does, DoesLine, IsSent, limit_of, Performs, RunsFor, Shows, ShowsReport, TellsFault, TellsFile, TellsLine, TellsMemory};
 
 use crate::asked::{CliFault, Command, Request};
 use crate::cli::request;
 use crate::files::{Files, LoadFault};
-use engine::{Plan, Report, Sink, edges, fitting_side, line, report_text, run, status, write_all};
+use engine::{
+    Limits, Plan, Report, Sink, edges_within, fitting_side, line, report_text, run_within, status,
+    write_all,
+};
 use geom::{Fault, RunFault};
 use grid::DEFAULT_SIDE;
 use std::alloc::Global;
@@ -140,9 +143,20 @@ fn perform_by<R: Threads + Wait + Sync, O: Sink>(
         side,
         workers: asked.workers,
     };
+    let limits = limits_of(asked.segments);
     match asked.command {
-        Command::Edges => edges(rt, alloc, a, b, plan, &OpenGate, out),
-        Command::Apply(op) => run(rt, alloc, op, a, b, plan, &OpenGate, out),
+        Command::Edges => edges_within(rt, alloc, a, b, plan, limits, &OpenGate, out),
+        Command::Apply(op) => run_within(rt, alloc, op, a, b, plan, limits, &OpenGate, out),
+    }
+}
+
+/// The limits of a run, by the number of segments that was given.
+fn limits_of(segments: Option<u32>) -> Limits
+    ensures { result.segments ≡ limit_of segments }
+{
+    match segments {
+        Some(segments) => Limits { segments },
+        None => Limits::default(),
     }
 }
 

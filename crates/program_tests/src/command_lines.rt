@@ -14,7 +14,7 @@ const PARSER: Words = Words::Begins("error: ");
 /// A command line behind the program's name, its exit status, and what it prints to standard output and standard error.
 type Case = (&'static [&'static str], u8, &'static str, Words);
 
-const CASES: [Case; 28] = [
+const CASES: [Case; 38] = [
     (
         &["intersection", "square", "other", "--tile=16", "--report"],
         0,
@@ -156,6 +156,53 @@ const CASES: [Case; 28] = [
         0,
         WHOLE_EDGES,
         Words::Text(""),
+    ),
+    // As many segments as the limit that is given, and one more; a limit is a number from 1.
+    (
+        &["edges", "square", "other", "--segments", "8"],
+        0,
+        SQUARES_EDGES,
+        Words::Text(""),
+    ),
+    (
+        &["intersection", "square", "other", "--segments=8"],
+        0,
+        SQUARES_COMMON,
+        Words::Text(""),
+    ),
+    (
+        &["edges", "square", "other", "--segments=4294967295"],
+        0,
+        SQUARES_EDGES,
+        Words::Text(""),
+    ),
+    (
+        &["edges", "square", "other", "--segments=7"],
+        3,
+        "",
+        Words::Text("overlay: 5 too many segments: 8\n"),
+    ),
+    (
+        &["union", "square", "other", "--segments", "1"],
+        3,
+        "",
+        Words::Text("overlay: 5 too many segments: 8\n"),
+    ),
+    // The limit is looked at behind the plan and both layers.
+    (
+        &["union", "square", "cut", "--segments", "1"],
+        3,
+        "",
+        Words::Text("overlay: B: 1 syntax at 13\n"),
+    ),
+    (&["edges", "square", "other", "--segments=0"], 2, "", PARSER),
+    (&["edges", "square", "other", "--segments="], 2, "", PARSER),
+    (&["edges", "square", "other", "--segments=x"], 2, "", PARSER),
+    (
+        &["edges", "square", "other", "--segments=4294967296"],
+        2,
+        "",
+        PARSER,
     ),
 ];
 

@@ -7,6 +7,9 @@ use std::sync::Wait;
 use std::test::Fail;
 use std::thread::Threads;
 
+/// The edges of the layer with a segment count past the limit.
+const MANY_EDGES: &str = "0 0 0 4 262145 0\n0 0 4 0 262145 0\n0 4 4 4 262145 0\n4 0 4 4 262145 0\n";
+
 /// A command, a layer that is refused, and the lines where it is the first layer and where it is the second one.
 type RefusalRow = (&'static str, &'static str, &'static str, &'static str);
 
@@ -109,5 +112,14 @@ fn refuses_either_layer(rt: HostRuntime) -> Result<(), Fail> {
             );
         }
     }
+    Ok(())
+}
+
+/// Within a greater limit the layer with too many segments is answered.
+#[test]
+fn takes_more_segments_within_a_greater_limit(rt: HostRuntime) -> Result<(), Fail> {
+    let words = ["edges", "many", "empty", "--segments=1048580"];
+    let outcome = driven(&rt, rt.alloc(), words.as_slice(), (4000, 4000))?;
+    assert!(rt; is_outcome(&outcome, 0, Words::Text(MANY_EDGES), Words::Text("")));
     Ok(())
 }

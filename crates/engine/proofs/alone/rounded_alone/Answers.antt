@@ -14,11 +14,11 @@ gathered_alone-requires g c =
     let now = c.args.checked.now in
     let segments = c.in_ok-segments.segments.items in
     let s = c.in_ok-segments.ensures.segments in
-    let ready = ready_of now.plan now.a.now now.b.now now.segments_a now.segments_b now.grid now.are_checked segments s in
+    let ready = ready_of now.limits.segments now.plan now.a.now now.b.now now.segments_a now.segments_b now.grid now.are_checked segments s in
     record {
       in_limit = subst (λ (ss : List Seg). AllInLimit ss) (sym c.deref.ensures.value) c.in_ok-segments.ensures.in_limit;
       covered = subst (λ (ss : List Seg). HaveTiles c.args.checked.now.grid ss) (sym c.deref.ensures.value)
-          (covered now.plan now.a.now now.b.now s.rings_a s.rings_b now.grid segments ready s);
+          (covered now.limits.segments now.plan now.a.now now.b.now s.rings_a s.rings_b now.grid segments ready s);
     }
 
 pub returns-clause-rounded : goal.returns-clause-rounded

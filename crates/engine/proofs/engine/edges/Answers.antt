@@ -1,17 +1,8 @@
-use Rattle.std.proofs.lemmas.Result.{err_from_is_err_and}
-use Rattle.engine.specs.Runs.{AreEdgesWritten}
-use Rattle.engine.specs.declared.operation.Wanted.TheVariants.{Edges}
-use Rattle.engine.proofs.Running.{may_run, sent_runs, stops}
+use Rattle.std.proofs.Common.{ℕ, subst}
+use Rattle.engine.specs.Runs.{AreEdgesWrittenWithin, RunsWithin}
 use Rattle.engine.proofs.engine.edges.Goals as goal
-
-pub returns-in_err-made : goal.returns-in_err-made
-returns-in_err-made g c =
-    let p = err_from_is_err_and c.from_residual.result c.from_residual.ensures.1 in
-    let f = c.in_err-made.field-0.0 in
-    rw (p.1, p.2) (stops g.S.Sink.state c.args.sink.now c.args.plan c.args.a.now c.args.b.now (AreEdgesWritten c.args.plan c.args.a.now c.args.b.now) f.at f.fault c.in_err-made.ensures)
 
 pub returns : goal.returns
 returns g c =
-    let made = c.in_ok-made.made in
-    sent_runs g.S.Sink.state c.args.sink.now c.send.new.sink c.args.plan c.args.a.now c.args.b.now (AreEdgesWritten c.args.plan c.args.a.now c.args.b.now) made
-    (may_run Edges c.args.plan c.args.a.now c.args.b.now made.text made.report c.in_ok-made.ensures) c.in_ok-made.ensures c.send.result c.send.ensures
+    subst (λ (limit : ℕ). RunsWithin limit g.S.Sink.state c.args.sink.now c.edges_within.new.sink c.args.plan c.args.a.now c.args.b.now (AreEdgesWrittenWithin limit c.args.plan c.args.a.now c.args.b.now) c.edges_within.result)
+    c.default.ensures c.edges_within.ensures

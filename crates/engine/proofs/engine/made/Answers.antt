@@ -2,7 +2,7 @@ use Rattle.std.proofs.Common.{ℕ, List, sym}
 use Rattle.std.proofs.lemmas.Result.{IfOk-at_ok, err_from_is_err_and}
 use Rattle.points_law.specs.Law.{AreLayers}
 use Rattle.engine.specs.declared.text.Report.{Report}
-use Rattle.engine.specs.Results.{IsWantedText, IsWritten}
+use Rattle.engine.specs.Results.{IsWantedText, IsWrittenWithin}
 use Rattle.engine.proofs.Results.{layers_known}
 use Rattle.engine.proofs.Running.{checked_made, memory_declines, refused_declines}
 use Rattle.engine.proofs.engine.made.Goals as goal
@@ -11,28 +11,28 @@ pub returns-in_err-check_plan : goal.returns-in_err-check_plan
 returns-in_err-check_plan g c =
     let p = err_from_is_err_and c.from_residual.result c.from_residual.ensures.1 in
     let f = c.in_err-check_plan.field-0.0 in
-    rw (p.1, p.2) (refused_declines c.args.plan c.args.a.now c.args.b.now f.at f.fault (c.in_err-check_plan.ensures c.args.a.now c.args.b.now))
+    rw (p.1, p.2) (refused_declines c.args.limits.segments c.args.plan c.args.a.now c.args.b.now f.at f.fault (c.in_err-check_plan.ensures c.args.limits.segments c.args.a.now c.args.b.now))
 
 pub returns-in-Err : goal.returns-in-Err
-returns-in-Err g c = refused_declines c.args.plan c.args.a.now c.args.b.now c.in-Err.fault.at c.in-Err.fault.fault c.in-Err.ensures.answer
+returns-in-Err g c = refused_declines c.args.limits.segments c.args.plan c.args.a.now c.args.b.now c.in-Err.fault.at c.in-Err.fault.fault c.in-Err.ensures.answer
 
 pub returns-in_err-noded : goal.returns-in_err-noded
 returns-in_err-noded g c =
     let p = err_from_is_err_and c.from_residual-in_err-noded.result c.from_residual-in_err-noded.ensures.1 in
     let f = c.in_err-noded.field-0.0 in
-    rw (p.1, p.2) (memory_declines c.args.plan c.args.a.now c.args.b.now f.at f.fault c.in-Ok.ensures.answer c.in_err-noded.ensures)
+    rw (p.1, p.2) (memory_declines c.args.limits.segments c.args.plan c.args.a.now c.args.b.now f.at f.fault c.in-Ok.ensures.answer c.in_err-noded.ensures)
 
 pub returns-in_err-text : goal.returns-in_err-text
 returns-in_err-text g c =
     let p = err_from_is_err_and c.from_residual-in_err-text.result c.from_residual-in_err-text.ensures.1 in
     let f = c.in_err-text.field-0.0 in
-    rw (p.1, p.2) (memory_declines c.args.plan c.args.a.now c.args.b.now f.at f.fault c.in-Ok.ensures.answer c.in_err-text.ensures)
+    rw (p.1, p.2) (memory_declines c.args.limits.segments c.args.plan c.args.a.now c.args.b.now f.at f.fault c.in-Ok.ensures.answer c.in_err-text.ensures)
 
 pub returns-in_err-report : goal.returns-in_err-report
 returns-in_err-report g c =
     let p = err_from_is_err_and c.from_residual-in_err-report.result c.from_residual-in_err-report.ensures.1 in
     let f = c.in_err-report.field-0.0 in
-    rw (p.1, p.2) (memory_declines c.args.plan c.args.a.now c.args.b.now f.at f.fault c.in-Ok.ensures.answer c.in_err-report.ensures)
+    rw (p.1, p.2) (memory_declines c.args.limits.segments c.args.plan c.args.a.now c.args.b.now f.at f.fault c.in-Ok.ensures.answer c.in_err-report.ensures)
 
 pub text_by_workers-requires-clause-layers : goal.text_by_workers-requires-clause-layers
 text_by_workers-requires-clause-layers g c =
@@ -44,5 +44,5 @@ returns g c =
     let now = c.in-Ok.checked in
     let edges = c.in_ok-noded.noded.edges.items in
     let text = IfOk-at_ok (λ t. IsWantedText wanted edges t) c.in_ok-text.ensures (rw (sym c.deref.ensures.value) c.text_by_workers.ensures) in
-    let report = IfOk-at_ok (λ r. (t : List ℕ) → IsWantedText wanted edges t → IsWritten wanted now.plan now.a.now now.b.now t r) c.in_ok-report.ensures c.report_for.ensures.written in
-    checked_made (λ (m : List ℕ × Report g.row.A.Denot). m.0) (λ m. m.1) wanted c.args.plan now.plan c.args.a.now c.args.b.now now.a.now now.b.now (c.in_ok-text.text, c.in_ok-report.report) c.in-Ok.ensures.same (report c.in_ok-text.text text)
+    let report = IfOk-at_ok (λ r. (t : List ℕ) → IsWantedText wanted edges t → IsWrittenWithin now.limits.segments wanted now.plan now.a.now now.b.now t r) c.in_ok-report.ensures c.report_for.ensures.written in
+    checked_made (λ (m : List ℕ × Report g.row.A.Denot). m.0) (λ m. m.1) c.args.limits now.limits wanted c.args.plan now.plan c.args.a.now c.args.b.now now.a.now now.b.now (c.in_ok-text.text, c.in_ok-report.report) c.in-Ok.ensures.same (report c.in_ok-text.text text)

@@ -8,12 +8,12 @@ report_of-requires g c =
     let now = c.args.checked.now in
     let rounded = c.requires.rounded in
     let e = rounded.tiles_are.one_each in
-    let f = (ready_of now.plan now.a.now now.b.now now.segments_a now.segments_b now.grid now.are_checked rounded.segments rounded.are_segments).few_tiles in
+    let f = (ready_of now.limits.segments now.plan now.a.now now.b.now now.segments_a now.segments_b now.grid now.are_checked rounded.segments rounded.are_segments).few_tiles in
     omega arith
 
 pub returns-clause-written : goal.returns-clause-written
 returns-clause-written g c =
     let now = c.args.checked.now in
     let told = c.report_of.ensures in
-    reports_for c.args.wanted now.plan now.a.now now.b.now now.segments_a now.segments_b now.grid c.args.noded.now.edges.items c.args.noded.now.tiles.items c.args.noded.now.remade
+    reports_for now.limits.segments c.args.wanted now.plan now.a.now now.b.now now.segments_a now.segments_b now.grid c.args.noded.now.edges.items c.args.noded.now.tiles.items c.args.noded.now.remade
     now.are_checked c.requires.rounded c.requires.remade c.report_of.result told.segments_a told.segments_b told.edges told.tiles told.remade

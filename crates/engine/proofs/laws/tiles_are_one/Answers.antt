@@ -1,6 +1,10 @@
--- The law is a lemma of its own.
+-- Both laws are one lemma.
+use Rattle.engine.specs.Runs.{segment_limit}
 use Rattle.engine.proofs.OneTiling.{tiles_are_one}
 use Rattle.engine.proofs.laws.tiles_are_one.Goals as goal
 
-pub returns : goal.returns
-returns g c = tiles_are_one _ _
+pub returns-clause-tiles : goal.returns-clause-tiles
+returns-clause-tiles g c = tiles_are_one _ _ segment_limit segment_limit
+
+pub returns-clause-within : goal.returns-clause-within
+returns-clause-within g c = tiles_are_one _ _

@@ -13,14 +13,14 @@ cells_in_parts-requires-clause-covered g c =
     let now = c.args.checked.now in
     let read = c.in_ok-read.read.items in
     let s = c.in_ok-read.ensures.segments in
-    let ready = ready_of now.plan now.a.now now.b.now now.segments_a now.segments_b now.grid now.are_checked read s in
-    λ κs l. subst (λ (ss : List Seg). HaveTiles c.args.checked.now.grid ss) (sym c.deref-segments.ensures.value) (covered now.plan now.a.now now.b.now s.rings_a s.rings_b now.grid read ready s)
+    let ready = ready_of now.limits.segments now.plan now.a.now now.b.now now.segments_a now.segments_b now.grid now.are_checked read s in
+    λ κs l. subst (λ (ss : List Seg). HaveTiles c.args.checked.now.grid ss) (sym c.deref-segments.ensures.value) (covered now.limits.segments now.plan now.a.now now.b.now s.rings_a s.rings_b now.grid read ready s)
 
 pub by_cells-requires-clause-workers : goal.by_cells-requires-clause-workers
 by_cells-requires-clause-workers g c =
     let now = c.args.checked.now in
     let s = c.in_ok-read.ensures.segments in
-    let crew = (ready_of now.plan now.a.now now.b.now now.segments_a now.segments_b now.grid now.are_checked c.in_ok-read.read.items s).planned.workers in
+    let crew = (ready_of now.limits.segments now.plan now.a.now now.b.now now.segments_a now.segments_b now.grid now.are_checked c.in_ok-read.read.items s).planned.workers in
     λ κs l. (omega (arith, crew.low), crew.high)
 
 pub by_cells-requires-clause-covered : goal.by_cells-requires-clause-covered
@@ -28,8 +28,8 @@ by_cells-requires-clause-covered g c =
     let now = c.args.checked.now in
     let read = c.in_ok-read.read.items in
     let s = c.in_ok-read.ensures.segments in
-    let ready = ready_of now.plan now.a.now now.b.now now.segments_a now.segments_b now.grid now.are_checked read s in
-    λ κs l. subst (λ (ss : List Seg). HaveTiles c.args.checked.now.grid ss) (sym c.deref-segments.ensures.value) (covered now.plan now.a.now now.b.now s.rings_a s.rings_b now.grid read ready s)
+    let ready = ready_of now.limits.segments now.plan now.a.now now.b.now now.segments_a now.segments_b now.grid now.are_checked read s in
+    λ κs l. subst (λ (ss : List Seg). HaveTiles c.args.checked.now.grid ss) (sym c.deref-segments.ensures.value) (covered now.limits.segments now.plan now.a.now now.b.now s.rings_a s.rings_b now.grid read ready s)
 
 pub returns-clause-rounded : goal.returns-clause-rounded
 returns-clause-rounded g c =

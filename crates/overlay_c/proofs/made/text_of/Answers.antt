@@ -10,11 +10,11 @@ returns-in_default c =
     let e = c.task_of.ensures in
     let n = none_of c.task_of.result c.in_default.not-Some in
     let h : task_from c.args.call ≡ None = cc in
-    subst (λ (w : OverlayAnswer). Fails c.args.call c.args.side c.args.a.now c.args.b.now w) (sym c.plain_answer.ensures) (no_call h)
+    subst (λ (w : OverlayAnswer). Fails c.args.limits.segments c.args.call c.args.side c.args.a.now c.args.b.now w) (sym c.plain_answer.ensures) (no_call h)
 
 pub returns : goal.returns
 returns c =
     let e = c.task_of.ensures in
     let f = c.in-Some.is in
     let h : task_from c.args.call ≡ Some c.in-Some.task = cc in
-    subst (λ (w : OverlayAnswer). Fails c.args.call c.args.side c.args.a.now c.args.b.now w) (sym c.answer_of.ensures) (declined c.in-Some.task h c.in-Err.fault.at c.in-Err.fault.fault c.in-Err.ensures)
+    subst (λ (w : OverlayAnswer). Fails c.args.limits.segments c.args.call c.args.side c.args.a.now c.args.b.now w) (sym c.answer_of.ensures) (declined c.in-Some.task h c.in-Err.fault.at c.in-Err.fault.fault c.in-Err.ensures)

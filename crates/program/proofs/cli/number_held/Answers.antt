@@ -13,7 +13,7 @@ returns c =
 pub unreachable-requires : goal.unreachable-requires
 unreachable-requires c =
     let h = c.requires in
-    let got = signed_reads _ (λ bs r. ParsesUnsigned 32 10 bs r × ExplainsUnsignedError 10 bs r × HasUnsignedDigitsIfOk bs r) 32 0 4294967295 h.0 None
-    (c.in-None.ensures.value (without_minus h.0) h.1) (λ u x g. g.0) (omega arith) h.2 in
+    let got = signed_reads _ (λ bs r. ParsesUnsigned 32 10 bs r × ExplainsUnsignedError 10 bs r × HasUnsignedDigitsIfOk bs r) 32 h.0 4294967295 h.1 None
+    (c.in-None.ensures.value (without_minus h.1) h.2) (λ u x g. g.0) (omega arith) h.3 in
     let bad : None ≡ Some got.0 = got.1 in
     cc

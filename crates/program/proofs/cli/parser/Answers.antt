@@ -12,19 +12,21 @@ returns-clause-shape c =
     let three = c.in_ok-arg-3.ensures.shape c.file_arg-b.ensures.wanted.own.local ∙ ap₂ with_rule two c.file_arg-b.ensures.rule in
     let four = c.in_ok-arg-4.ensures.shape c.number_arg-tile.ensures.number.own.local ∙ ap₂ with_rule three c.number_arg-tile.ensures.rule in
     let five = c.in_ok-arg-5.ensures.shape c.workers_arg-workers.ensures.number.own.local ∙ ap₂ with_rule four c.workers_arg-workers.ensures.rule in
-    IfOk-weaker c.arg-6.result _ _ (λ r h. h.shape c.flag_arg-report.ensures.flag.local ∙ ap₂ with_rule five c.flag_arg-report.ensures.rule) c.arg-6.ensures
+    let six = c.in_ok-arg-6.ensures.shape c.number_arg-segments.ensures.number.own.local ∙ ap₂ with_rule five c.number_arg-segments.ensures.rule in
+    IfOk-weaker c.arg-7.result _ _ (λ r h. h.shape c.flag_arg-report.ensures.flag.local ∙ ap₂ with_rule six c.flag_arg-report.ensures.rule) c.arg-7.ensures
 
 pub returns-clause-chain : goal.returns-clause-chain
 returns-clause-chain c =
-    IfOk-weaker c.arg-6.result _ _ (λ r h. record {
+    IfOk-weaker c.arg-7.result _ _ (λ r h. record {
       start = c.described.result;
       word = c.word_arg-word.result;
       a = c.file_arg-a.result;
       b = c.file_arg-b.result;
       tile = c.number_arg-tile.result;
       workers = c.workers_arg-workers.result;
+      segments = c.number_arg-segments.result;
       report = c.flag_arg-report.result;
-      chain = (_, c.in_ok-arg.ensures, (_, c.in_ok-arg-2.ensures, (_, c.in_ok-arg-3.ensures, (_, c.in_ok-arg-4.ensures, (_, c.in_ok-arg-5.ensures, (_, h, refl))))));
+      chain = (_, c.in_ok-arg.ensures, (_, c.in_ok-arg-2.ensures, (_, c.in_ok-arg-3.ensures, (_, c.in_ok-arg-4.ensures, (_, c.in_ok-arg-5.ensures, (_, c.in_ok-arg-6.ensures, (_, h, refl)))))));
       no_args = c.described.ensures.empty.0;
       no_groups = c.described.ensures.empty.1;
       no_globals = c.described.ensures.local;
@@ -35,5 +37,6 @@ returns-clause-chain c =
       is_tile = c.number_arg-tile.ensures.number;
       is_workers = c.workers_arg-workers.ensures.number;
       workers_default = c.workers_arg-workers.ensures.default;
+      is_segments = c.number_arg-segments.ensures.number;
       is_report = c.flag_arg-report.ensures.flag;
-    }) c.arg-6.ensures
+    }) c.arg-7.ensures

@@ -1,0 +1,17 @@
+use Rattle.std.proofs.lemmas.Result.{err_from_is_err_and}
+use Rattle.engine.specs.Runs.{AreEdgesWrittenWithin}
+use Rattle.engine.specs.declared.operation.Wanted.TheVariants.{Edges}
+use Rattle.engine.proofs.Running.{may_run, sent_runs, stops}
+use Rattle.engine.proofs.engine.edges_within.Goals as goal
+
+pub returns-in_err-made : goal.returns-in_err-made
+returns-in_err-made g c =
+    let p = err_from_is_err_and c.from_residual.result c.from_residual.ensures.1 in
+    let f = c.in_err-made.field-0.0 in
+    rw (p.1, p.2) (stops c.args.limits.segments g.S.Sink.state c.args.sink.now c.args.plan c.args.a.now c.args.b.now (AreEdgesWrittenWithin c.args.limits.segments c.args.plan c.args.a.now c.args.b.now) f.at f.fault c.in_err-made.ensures)
+
+pub returns : goal.returns
+returns g c =
+    let made = c.in_ok-made.made in
+    sent_runs c.args.limits.segments g.S.Sink.state c.args.sink.now c.send.new.sink c.args.plan c.args.a.now c.args.b.now (AreEdgesWrittenWithin c.args.limits.segments c.args.plan c.args.a.now c.args.b.now) made
+    (may_run c.args.limits.segments Edges c.args.plan c.args.a.now c.args.b.now made.text made.report c.in_ok-made.ensures) c.in_ok-made.ensures c.send.result c.send.ensures
