@@ -8,3 +8,9 @@ pub mod NextTree
 pub mod Kept
 pub mod ExchangeSteps
 pub mod ListHalves
+pub mod BorderLists
+pub mod Besides
+pub mod SweptOrder
+pub mod Visits
+pub mod Searches
+pub mod AllVisited

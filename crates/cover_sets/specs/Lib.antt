@@ -1,5 +1,6 @@
 pub mod Sets
 pub mod Covers
+pub mod Visited
 pub mod Blocks
 pub mod Exchange
 pub mod Key

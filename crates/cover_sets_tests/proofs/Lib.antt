@@ -1,0 +1,3 @@
+pub mod Evens
+pub mod Bordering
+pub mod Sweeping
