@@ -6,8 +6,8 @@ import sys
 
 from . import programs, results
 
-NAMES = ("compare", "texts", "memory", "faults", "workers", "parallel", "limits", "hostile", "speed", "library", "laws", "requests", "kernels", "sizes", "documents")
-WITHOUT_PROGRAM = ("laws", "requests", "kernels", "sizes", "documents")
+NAMES = ("compare", "texts", "memory", "faults", "workers", "parallel", "limits", "hostile", "speed", "library", "laws", "requests", "kernels", "peers", "plot", "sizes", "documents")
+WITHOUT_PROGRAM = ("laws", "requests", "kernels", "plot", "sizes", "documents")
 
 
 def main():

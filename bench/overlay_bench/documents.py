@@ -1,14 +1,15 @@
-"""tells what the documents name and the repository doesn't have: paths, lemmas, calls and definitions, lemma files of geom that CONTRACTS leaves out, and documents longer than they may be
+"""tells what the documents name and the repository doesn't have: paths, lemmas, calls and definitions, lemma files of geom that CONTRACTS leaves out, documents longer than they may be, and what is made of bench/results and isn't the same any more
 
 Whatever stands between backquotes in README and docs/ is looked at. A path stands below the root or below a crate, with or without its
 ending; `File.lemma` is a lemma of a file of that name; in CONTRACTS, MAP and PROOFS each longer word has to stand somewhere in crates/.
+README's table of other tools is made of bench/results/peers.tsv, and docs/speed.svg of that and speed.tsv: `--write` makes both anew.
 The exit status is 1 where something is missing.
 """
 import glob
 import os
 import re
 
-from . import programs
+from . import compared, plot, programs
 
 QUOTED = re.compile(r"`([^`\n]+)`")
 PATH = re.compile(r"[\w.*-]*(/[\w.*-]+)+/?")
@@ -20,8 +21,12 @@ MOST_WORDS = {"README.md": 1200, "docs/CHECKING.md": 1200, "docs/CONTRACTS.md": 
 MADE = ("/out/", "out/", "File.", "common_ground", "a/b")
 
 
+# The first table below this line is README's of other tools.
+COMPARED = re.compile(r"(?<=\n## Compared\n)((?:(?:[^|#\n].*)?\n)*)(?:\|.*\n)+")
+
+
 def add_arguments(parser):
-    pass
+    parser.add_argument("--write", action="store_true", help="makes README's table of other tools and docs/speed.svg anew")
 
 
 def text_of(path):
@@ -71,9 +76,28 @@ def unlisted():
     return [name for name in sorted(names) if name != "Lib" and "`%s`" % name not in listed]
 
 
-def main(_):
+def made_of_results():
+    """What is made of recorded results: each file, and its text as it should be."""
+    table = "".join(line + "\n" for line in compared.table())
+    yield "README.md", COMPARED.sub(lambda found: found[1] + table, text_of("README.md"))
+    yield os.path.relpath(plot.PICTURE), plot.picture()
+
+
+def write():
+    for path, wanted in made_of_results():
+        with open(path, "w", encoding="utf-8") as file:
+            file.write(wanted)
+
+
+def main(arguments):
     os.chdir(programs.ROOT)
+    if arguments.write:
+        write()
     sources, wrong = Sources(), 0
+    for path, wanted in made_of_results():
+        if not os.path.exists(path) or text_of(path) != wanted:
+            wrong += 1
+            print("%s isn't what bench/results says: bench/run documents --write" % path)
     for document in ["README.md", *sorted(glob.glob("docs/*.md"))]:
         for name in missing(document, sources):
             wrong += 1

@@ -52,6 +52,22 @@ def append(name, head, rows):
             file.write("\t".join(row) + "\n")
 
 
+def latest(name, keys):
+    """The rows of a file, each by the names of its columns, of those with the same keys the last one alone, in the order of the file."""
+    path = os.path.join(FOLDER, name + ".tsv")
+    if not os.path.exists(path):
+        return []
+    with open(path, encoding="utf-8") as file:
+        head, *lines = (line.rstrip("\n").split("\t") for line in file)
+    rows = [dict(zip(reversed(head), reversed(line + [""] * (len(head) - len(line))))) for line in lines]  # of columns of one name the first
+    found = {}
+    for row in rows:
+        key = tuple(row[key] for key in keys)
+        found.pop(key, None)
+        found[key] = row
+    return list(found.values())
+
+
 def keep(name, words, lines):
     about = [datetime.date.today().isoformat(), commit(), str(os.cpu_count()), " ".join(words)]
     table = rows_of(lines)

@@ -1,6 +1,7 @@
 """release/make, on a clone with a gate's log of our own, and with the program and the libraries that the gate left here."""
 
 import os
+import re
 import shutil
 import subprocess
 import sys
@@ -15,7 +16,7 @@ BUILT = {
     "crates/overlay_c/out/liboverlay_c.a": TOP / "crates/overlay_c/out/liboverlay_c.a",
     "python/overlay_grid/liboverlay.so": TOP / "python/overlay_grid/liboverlay.so",
 }
-LACKING = [tool for tool in ("ar", "dpkg-deb", "hatchling") if not shutil.which(tool)]
+LACKING = [tool for tool in ("ar", "cc", "dpkg-deb", "hatchling") if not shutil.which(tool)]
 VERSION = (TOP / "VERSION").read_text().strip()
 SQUARES = ("POLYGON ((0 0, 4 0, 4 4, 0 4, 0 0))", "POLYGON ((2 2, 6 2, 6 6, 2 6, 2 2))")
 COMMON = "MULTIPOLYGON (((2 2, 4 2, 4 4, 2 4, 2 2)))\n"
@@ -101,6 +102,22 @@ def is_a_wheel(made, tmp_path):
     assert (place / "overlay_grid/py.typed").exists()
 
 
+def blocks(heading):
+    """The indented blocks of README under a heading."""
+    section = (TOP / "README.md").read_text().partition(f"\n## {heading}\n")[2].partition("\n## ")[0]
+    return re.findall(r"(?:^    .*\n(?:\n(?=    ))?)+", section, re.M)
+
+
+def test_the_lines_that_are_tried():
+    """release/try runs README's lines as they stand there, so these have to be there."""
+    begun = [line.split()[0] for line in blocks("Install")[0].splitlines()]
+    assert begun == ["apt-get", "tar", "python3"]
+    assert all(line.startswith("    overlay-gis ") for line in blocks("A planner's first answer")[0].splitlines())
+    python, c = blocks("A programmer's first call")
+    assert python.startswith("    import overlay_grid\n") and c.startswith('    #include "overlay.h"\n')
+    assert "`cc use.c $(pkg-config --cflags --libs overlay)`" in (TOP / "README.md").read_text()
+
+
 @pytest.mark.parametrize(
     "log, words",
     [
@@ -124,6 +141,14 @@ def test_a_clone_with_changes(clone, tmp_path):
 def test_what_is_older_than_the_commit(clone, tmp_path, built):
     os.utime(clone.tree / built, (0, 0))
     assert "older than the commit" in clone(PASSED).stderr and not (tmp_path / "made").exists()
+
+
+def test_a_library_that_lacks_a_call(clone, tmp_path):
+    """What the package has is linked with include/example.c before it is packed."""
+    archive = clone.tree / "crates/overlay_c/out/liboverlay_c.a"
+    archive.unlink()
+    subprocess.run(["ar", "rcs", archive], check=True)
+    assert "doesn't link" in clone(PASSED).stderr and not (tmp_path / "made").exists()
 
 
 @pytest.mark.parametrize("built", BUILT)

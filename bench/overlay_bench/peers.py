@@ -1,0 +1,176 @@
+"""runs GEOS/Shapely, PostGIS, QGIS, CGAL, Clipper and overlay on the same two maps in one run
+
+A town's parcels and zones in whole millimetres (overlay_bench/town.py), once clean and once with the usual dirt (one parcel in a hundred
+with a corner measured again, so that it overlaps one neighbour and leaves a sliver to the other; one in three hundred that crosses
+itself). Two jobs: `dissolve` is the area that some parcel covers, `common` what some parcel and some zone both cover. For each tool:
+
+  answers      yes, or what it says instead
+  area off     its area against the exact one, in millionths. That is the sum of the faces by `overlay-gis faces`, which tells what covers
+               each. overlay reads a layer by parity, so it is held against the faces that an odd number of features covers
+  again        a second run on the same files: the same bytes, the same polygons otherwise written, or other points
+  other order  the same with the features of both layers in another order
+  processor s  of the operation alone, without reading and writing, by the least of the rounds. overlay, overlay-gis and QGIS: of all
+               runs, from files to files, with what starts take (QGIS some two seconds, three times for `common`); PostGIS: of the session
+  clock s      of the whole run, as processor seconds are
+  ratio        processor seconds to overlay's in this run
+  threads      at work at once, in a tenth of the run at least
+
+PostgreSQL is started for this by a user that isn't root, on a free port of this machine, in a temporary folder, and ended. What isn't
+there is told and left out: apt-get install python3-shapely python3-gdal gdal-bin postgresql postgis postgresql-15-postgis-3 qgis g++
+libcgal-dev libpolyclipping-dev. The exit status is 1 where overlay doesn't answer, or has another area or other bytes than it may.
+"""
+from __future__ import annotations
+
+import contextlib
+import os
+import signal
+import sys
+import tempfile
+from dataclasses import dataclass
+
+from . import shapes, town
+from .peer_tools import Faces, Layers, Overlay, Run, Tool, peers
+
+JOBS = ("dissolve", "common")
+MAPS = {"clean": False, "raw": True}
+HEAD = ("tool", "version", "map", "segments", "job", "answers", "area off", "again", "other order", "processor s", "clock s", "ratio", "threads")
+
+
+def add_arguments(parser) -> None:
+    parser.add_argument("--sizes", nargs="+", type=int, default=(10_000, 100_000), metavar="SEGMENTS", help="of either layer")
+    parser.add_argument("--maps", nargs="+", default=list(MAPS), choices=MAPS)
+    parser.add_argument("--rounds", type=int, default=3, help="runs of each job on the same files")
+    parser.add_argument("--seconds", type=float, default=600, help="after which a run is over")
+    parser.add_argument("--only", nargs="+", default=[], metavar="TOOL", help="tools whose names begin so")
+    parser.add_argument("--without-times", action="store_true", help="tells no times: for a machine with other work")
+
+
+def same(first: str, second: str) -> str:
+    if first == second:
+        return "same bytes"
+    return "same polygons" if shapes.normal(shapes.of_lines(first)) == shapes.normal(shapes.of_lines(second)) else "other points"
+
+
+@dataclass
+class Exact:
+    """The area of a job: of what some feature covers, and of what an odd number of them does."""
+
+    some: float
+    odd: float
+
+
+def exact(faces: str, job: str) -> Exact:
+    found = Exact(0.0, 0.0)
+    for line in faces.splitlines():
+        *ids, area = line.split("\t")
+        counts = [0 if of_layer == "None" else len(of_layer.split(",")) for of_layer in ids][:1 + (job == "common")]
+        found.some += float(area) * all(counts)
+        found.odd += float(area) * all(count % 2 for count in counts)
+    return found
+
+
+@dataclass
+class Row:
+    """One job of one tool on one map."""
+
+    tool: Tool
+    version: str
+    map: str
+    size: int
+    job: str
+    runs: list[Run]
+    other: Run | None
+
+    def off(self, known: Exact | None) -> float | None:
+        """The area against the exact one, in millionths."""
+        if known is None or self.runs[0].fault:
+            return None
+        whole = known.odd if isinstance(self.tool, Overlay) else known.some
+        return 1e6 * (shapes.area(shapes.of_lines(self.runs[0].text)) / whole - 1)
+
+    def again(self) -> str:
+        return same(self.runs[0].text, self.runs[1].text) if len(self.runs) > 1 else ""
+
+    def in_other_order(self) -> str:
+        if self.other is None:
+            return ""
+        return self.other.fault or same(self.runs[0].text, self.other.text)
+
+    def least(self, what: str) -> float:
+        return min(getattr(run, what) for run in self.runs)
+
+
+def row_of(tool: Tool, version: str, name: str, size: int, job: str, layers: Layers, other: Layers, arguments) -> Row:
+    runs = [tool.run(job, layers, arguments.seconds)]
+    if runs[0].fault:
+        return Row(tool, version, name, size, job, runs, None)
+    runs += [tool.run(job, layers, arguments.seconds) for _ in range(arguments.rounds - 1)]
+    return Row(tool, version, name, size, job, runs, tool.run(job, other, arguments.seconds))
+
+
+class Table:
+    """Prints the rows; what overlay took is the measure of the others."""
+
+    def __init__(self, times: bool):
+        self.times, self.wrong = times, False
+        self.ours: dict[tuple[str, int, str], float] = {}
+        print("| %s |\n%s|" % (" | ".join(HEAD), "|---" * len(HEAD)), flush=True)
+
+    def show(self, row: Row, known: Exact | None) -> None:
+        fault, off = row.runs[0].fault, row.off(known)
+        times = ["", "", ""]
+        if self.times and not fault:
+            processor = row.least("processor")
+            if isinstance(row.tool, Overlay):
+                self.ours[row.map, row.size, row.job] = processor
+            ours = self.ours.get((row.map, row.size, row.job))
+            times = ["%.3f" % processor, "%.3f" % row.least("clock"), "%.2f" % (processor / ours) if ours else ""]
+        threads = "" if fault else str(max(run.threads for run in row.runs))
+        told = [fault or "yes", "" if off is None else "%+.3f" % off, row.again(), row.in_other_order(), *times, threads]
+        cells = [row.tool.name, row.version, row.map, str(row.size), row.job, *told]
+        print("| %s |" % " | ".join(cell.replace("|", "/") for cell in cells), flush=True)
+        if isinstance(row.tool, Overlay):
+            self.wrong |= bool(fault) or off not in (None, 0.0) or {row.again(), row.in_other_order()} != {"same bytes"}
+
+    def skip(self, tool: Tool) -> None:
+        print("| %s |" % " | ".join([tool.name, "", "", "", "", "not run: " + tool.missing(), *[""] * 7]), flush=True)
+
+
+def faces_row(tool: Faces, version: str, name: str, size: int, job: str, layers: Layers, arguments, table: Table) -> Exact | None:
+    """The row of the faces that a job is about, and its exact area."""
+    runs = [tool.run(job, layers, arguments.seconds) for _ in range(min(2, arguments.rounds))]
+    again = "" if len(runs) < 2 or runs[0].fault else "same bytes" if runs[0].text == runs[1].text else "other faces"
+    times = ["", ""]
+    if table.times and not runs[0].fault:
+        times = ["%.3f" % min(getattr(run, what) for run in runs) for what in ("processor", "clock")]
+    told = [runs[0].fault or "yes", "", again, "", *times, "", str(max(run.threads for run in runs))]
+    print("| %s |" % " | ".join([tool.name, version, name, str(size), job, *told]), flush=True)
+    return None if runs[0].fault else exact(runs[0].text, job)
+
+
+def main(arguments) -> int:
+    signal.signal(signal.SIGTERM, lambda *_: sys.exit("ended by SIGTERM"))  # so that the server is ended too
+    tools = [tool for tool in peers() if not arguments.only or any(tool.name.startswith(word) for word in arguments.only)]
+    table = Table(not arguments.without_times)
+    for tool in [tool for tool in tools if tool.missing()]:
+        table.skip(tool)
+    with tempfile.TemporaryDirectory() as folder, contextlib.ExitStack() as ends:
+        faces, overlay = Faces(arguments.program), Overlay(arguments.program)
+        there = [tool for tool in tools if not tool.missing()]
+        for tool in there:
+            ends.callback(tool.end)
+        versions = {tool.name: tool.version() for tool in [overlay, *there]}
+        if faces.missing():
+            table.skip(faces)
+        for size in arguments.sizes:
+            for name in arguments.maps:
+                places = [os.path.join(folder, "%s-%d-%s" % (name, size, order)) for order in ("given", "other")]
+                for place in places:
+                    os.mkdir(place)
+                layers = Layers(places[0], town.town(size, MAPS[name]))
+                other = layers.shuffled(places[1])
+                known = {job: None if faces.missing() else faces_row(faces, faces.version(), name, size, job, layers, arguments, table) for job in JOBS}
+                for tool in [overlay, *there]:
+                    for job in JOBS:
+                        table.show(row_of(tool, versions[tool.name], name, size, job, layers, other, arguments), known[job])
+    return int(table.wrong)

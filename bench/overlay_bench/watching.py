@@ -1,0 +1,97 @@
+"""A run of another program, watched: seconds on the clock and of processors, and how many threads were at work, its children's among them."""
+from __future__ import annotations
+
+import glob
+import os
+import signal
+import subprocess
+import threading
+import time
+from dataclasses import dataclass
+from typing import Any
+
+# A thread is at work where it has this share of the time between two looks, of which there are so many a second.
+SHARE, LOOKS = 0.1, 100
+
+
+def tree(process: int) -> list[int]:
+    """A process and all below it that are there."""
+    found = [process]
+    for parent in found:
+        for path in glob.glob("/proc/%d/task/*/children" % parent):
+            try:
+                with open(path, encoding="ascii") as file:
+                    found += map(int, file.read().split())
+            except OSError:
+                continue
+    return found
+
+
+def nanoseconds(process: int) -> dict[str, int]:
+    """What each thread of a process and of those below it has taken of a processor."""
+    taken = {}
+    for member in tree(process):
+        for path in glob.glob("/proc/%d/task/*/schedstat" % member):
+            try:
+                with open(path, encoding="ascii") as file:
+                    taken[path] = int(file.read().split()[0])
+            except (OSError, IndexError):
+                continue
+    return taken
+
+
+class Threads:
+    """Looks at the threads below a process until it is told to stop."""
+
+    def __init__(self, process: int):
+        self.process, self.counts, self.over = process, list[int](), threading.Event()
+        self.thread = threading.Thread(target=self.look, daemon=True)
+        self.thread.start()
+
+    def look(self) -> None:
+        before, start = nanoseconds(self.process), time.monotonic_ns()
+        while not self.over.wait(1 / LOOKS):
+            after, now = nanoseconds(self.process), time.monotonic_ns()
+            count = sum(taken - before.get(path, 0) > SHARE * (now - start) for path, taken in after.items())
+            self.counts += [count] if count else []
+            before, start = after, now
+
+    def stop(self) -> int:
+        """How many were at work at once at a tenth of the looks."""
+        self.over.set()
+        self.thread.join()
+        counts = sorted(self.counts, reverse=True)
+        return counts[len(counts) // 10] if counts else 1
+
+
+@dataclass(frozen=True)
+class Watched:
+    """How a run ended (None where it took too long), seconds on the clock and of processors, threads at work, and what it said."""
+
+    status: int | None
+    clock: float
+    processor: float
+    threads: int
+    said: str
+
+
+def watched(words: list[str], output: str, seconds: float, **more: Any) -> Watched:
+    """Runs a command line, with standard output into a file."""
+    with open(output, "wb") as out, open(output + ".said", "wb") as said:
+        start = time.monotonic()
+        process = subprocess.Popen(words, stdin=subprocess.DEVNULL, stdout=out, stderr=said, **more)
+        threads, over = Threads(process.pid), threading.Event()
+
+        def end() -> None:
+            over.set()
+            os.kill(process.pid, signal.SIGKILL)
+
+        timer = threading.Timer(seconds, end)
+        timer.start()
+        _, status, used = os.wait4(process.pid, 0)
+        clock = time.monotonic() - start
+        timer.cancel()
+        process.returncode = os.waitstatus_to_exitcode(status)
+        count = threads.stop()
+    with open(output + ".said", encoding="utf-8", errors="replace") as told:
+        return Watched(None if over.is_set() else process.returncode, clock, used.ru_utime + used.ru_stime, count, told.read())
