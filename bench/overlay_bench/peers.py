@@ -32,6 +32,8 @@ from . import shapes, town
 from .peer_tools import Faces, Layers, Overlay, Run, Tool, peers
 
 JOBS = ("dissolve", "common")
+# A job that takes so many seconds is run twice at most on the same files.
+SLOW = 30
 MAPS = {"clean": False, "raw": True}
 HEAD = ("tool", "version", "map", "segments", "job", "answers", "area off", "again", "other order", "processor s", "clock s", "ratio", "threads")
 
@@ -39,7 +41,7 @@ HEAD = ("tool", "version", "map", "segments", "job", "answers", "area off", "aga
 def add_arguments(parser) -> None:
     parser.add_argument("--sizes", nargs="+", type=int, default=(10_000, 100_000), metavar="SEGMENTS", help="of either layer")
     parser.add_argument("--maps", nargs="+", default=list(MAPS), choices=MAPS)
-    parser.add_argument("--rounds", type=int, default=3, help="runs of each job on the same files")
+    parser.add_argument("--rounds", type=int, default=3, help="runs of each job on the same files (slow ones: two)")
     parser.add_argument("--seconds", type=float, default=600, help="after which a run is over")
     parser.add_argument("--only", nargs="+", default=[], metavar="TOOL", help="tools whose names begin so")
     parser.add_argument("--without-times", action="store_true", help="tells no times: for a machine with other work")
@@ -104,7 +106,8 @@ def row_of(tool: Tool, version: str, name: str, size: int, job: str, layers: Lay
     runs = [tool.run(job, layers, arguments.seconds)]
     if runs[0].fault:
         return Row(tool, version, name, size, job, runs, None)
-    runs += [tool.run(job, layers, arguments.seconds) for _ in range(arguments.rounds - 1)]
+    rounds = min(arguments.rounds, 2) if runs[0].clock > SLOW else arguments.rounds
+    runs += [tool.run(job, layers, arguments.seconds) for _ in range(rounds - 1)]
     return Row(tool, version, name, size, job, runs, tool.run(job, other, arguments.seconds))
 
 
