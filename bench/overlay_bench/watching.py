@@ -88,9 +88,15 @@ def watched(words: list[str], output: str, seconds: float, **more: Any) -> Watch
 
         timer = threading.Timer(seconds, end)
         timer.start()
-        _, status, used = os.wait4(process.pid, 0)
+        try:
+            _, status, used = os.wait4(process.pid, 0)
+        except BaseException:  # this process is to end, and that one with it
+            process.kill()
+            process.wait()
+            raise
+        finally:
+            timer.cancel()
         clock = time.monotonic() - start
-        timer.cancel()
         process.returncode = os.waitstatus_to_exitcode(status)
         count = threads.stop()
     with open(output + ".said", encoding="utf-8", errors="replace") as told:
