@@ -19,10 +19,11 @@ Arguments:
   <B>        The second layer's file
 
 Options:
-      --tile <N>     The side of a tile, in grid units, 16 to 33554432 [default: 262144, or what fits]
-      --workers <N>  The number of threads at work, 1 to 64 [default: 4]
-      --report       Prints the numbers of the run to standard error
-  -h, --help         Print help
+      --tile <N>      The side of a tile, in grid units, 16 to 33554432 [default: 262144, or what fits]
+      --workers <N>   The number of threads at work, 1 to 64 [default: 4]
+      --segments <N>  The most segments of both layers together, 1 to 4294967295 [default: 1048576]
+      --report        Prints the numbers of the run to standard error
+  -h, --help          Print help
 
 union, intersection, difference and symdifference print the result of that operation on the two
 layers as one MULTIPOLYGON text.
@@ -30,9 +31,9 @@ edges prints a line `x1 y1 x2 y2 countA countB` for each edge of both layers aft
 
 A layer is a text of POLYGON and MULTIPOLYGON geometries, at most 268435456 bytes long, with whole
 coordinates from -268435456 to 268435456, in grid units. Both layers together have at most 1048576
-segments. A layer is read by parity: a point lies in it where an odd number of its rings have the
-point inside, so polygons of one layer that overlap cancel each other there.
-/dev/stdin reads a layer from standard input.
+segments, or as many as --segments says; a million take some 170 MB of memory. A layer is read by
+parity: a point lies in it where an odd number of its rings have the point inside, so polygons of one
+layer that overlap cancel each other there. /dev/stdin reads a layer from standard input.
 
 The tiles and the number of threads have no influence on the text. Where no side of a tile is given
 it is 262144, or where that gives more than 65536 tiles the least power of two that doesn't.
