@@ -83,7 +83,7 @@ def test_bash_completes_verbs_options_and_commands():
         return set(subprocess.run(["bash", "-c", script], stdout=subprocess.PIPE, check=True).stdout.decode().split())
 
     assert completed("overlay", "") == {"union", "intersection", "difference", "symdifference", "edges"}
-    assert completed("overlay", "--") == {"--tile", "--workers", "--report", "--help"}
+    assert completed("overlay", "--") == {"--tile", "--workers", "--segments", "--report", "--help"}
     assert completed("overlay-gis", "") == set(cli.VERBS)
     for verb in cli.VERBS:
         assert completed("overlay-gis", verb, "--") == options_of(verb)
