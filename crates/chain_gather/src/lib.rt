@@ -1,4 +1,11 @@
-//! The rounded edges of two layers, gathered from a book of the pieces of tiles, whatever it holds.
+//! Gathering that trusts nothing: segments, a grid, bins and any book of pieces in, rounded edges out.
+//!
+//! 1. A tile's piece counts where it was made from just what the tile has now (`own`).
+//! 2. A missing or strange one is made anew, and counted (`tiles`).
+//! 3. `linking` sorts, links and counts the records of all tiles.
+//!
+//! The promise: exactly the definition's rounded edges, noded; `remade` is the number of tiles whose piece didn't count. The definitions
+//! are `specs/Gathered`.
 #![tactic(auto)]
 
 mod own;

@@ -1,4 +1,9 @@
-//! Cover sets, rows and their laws: each law is the contract of a function with an empty body.
+//! Cover sets, rows and faces, and their laws: each law is the contract of a function with an empty body. No data goes through them.
+//!
+//! A cover set is what covers a point; a row is all points of one cover set, as polygons; faces are the rows over rounded edges.
+//!
+//! The promise: every rational point lies in the polygons of just the row of its cover set, and features have one list of faces (`faces`);
+//! `laws` has what that rests on. The definitions are `specs/Cover`, `Borders`, `Rows`, `Areas` and `Faces`.
 #![tactic(auto)]
 
 mod border;

@@ -1,4 +1,10 @@
-//! The edges of a result: which rounded edges bound it, and in which direction.
+//! Labels by parities: noded edges of any degrees in, the directed edges of a result out.
+//!
+//! 1. Edges of odd count of each layer go into at most 256 vertical strips (`odd`, `strip`).
+//! 2. Many threads decide each edge's directions by the parities at its side points (`odd`, `label`).
+//! 3. They are sorted.
+//!
+//! The promise: exactly the edges that bound the result, each in its direction (`AreResultEdges` of `geom`).
 #![tactic(auto)]
 
 mod label;
