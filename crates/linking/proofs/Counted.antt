@@ -21,11 +21,11 @@ use Rattle.hot_pixel.proofs.ListLaws.{head_pair, here as first, in_cons, in_push
 use Rattle.routing.specs.declared.record.Record.{Record}
 use Rattle.routing.specs.Pieces.{IsPartOf, IsPieceOf, IsRecord}
 use Rattle.linking.specs.Gathered.{AreTileNumbers, HasPartsBelow, HasTilesBelow}
-use Rattle.linking.specs.Links.{AreRecords, HasRecords, IsRecordBefore}
-use Rattle.linking.specs.Numbers.{AreNumbersOf, ArePaired, AreTileCounts, IsCountOf, MayCount}
+use Rattle.linking.specs.Links.{AreRecords, HasRecords}
+use Rattle.linking.specs.Numbers.{AreNumbersOf, ArePaired, AreTileCounts, IsCountOf}
 use Rattle.linking.specs.declared.rounded.TileNumbers.{TileNumbers}
 use Rattle.linking.proofs.Gathering.{AreCovered, below_none, owner_below, tiles_have}
-use Rattle.linking.proofs.Ordering.{never_before, piece_of}
+use Rattle.linking.proofs.Ordering.{piece_of}
 use Rattle.linking.proofs.Parts.{IsPart, distinct_from}
 
 -- ---- one item after another
@@ -228,17 +228,6 @@ module _ (f g : Tiling) (segments : List Seg) (pixels : List Pt) (found : List R
 
     pub all_records : ∥ AreRecords segments records ∥₁
     all_records = ∥∥₁_map all records_are
-
-    may_count : MayCount g pixels records
-    may_count = record {
-      pixels_in = pixels_in;
-      pixels_once = pixels_once;
-      records_in = λ k d l. known_tile g (get_or records k d).pixel (∥∥₁_map all_records (λ h. tile_of _ ((h.exact _).0 (Contains-get_or records k d l)).hot));
-      records_once = ∥∥₁_elim all_records (hlevel props) (λ h i j d a b e. never_before segments (get_or records i d) (subst (λ (q : Record). IsRecordBefore (get_or records i d) q) (sym e) (h.ascending i j d a b)));
-    }
-
-    pub may_count_as : (ps : List Pt) (rs : List Record) → ps ≡ pixels → rs ≡ records → MayCount g ps rs
-    may_count_as ps rs d e = subst (λ (x : List Pt × List Record). MayCount g x.0 x.1) (λ i. (sym d i, sym e i)) may_count
 
     pub all_numbers : (ps : List Pt) (rs : List Record) (told : List TileNumbers) → ps ≡ pixels → rs ≡ records → AreNumbersOf g ps rs told → AreTileNumbers g segments (tile_count g) told
     all_numbers ps rs told d e h = let n = subst (λ (x : List Pt × List Record). AreNumbersOf g x.0 x.1 told) (λ i. (d i, e i)) h in record {

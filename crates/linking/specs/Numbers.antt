@@ -1,7 +1,7 @@
 -- How many hot pixels and how many records lie in each tile of a grid (own).
-use Rattle.std.specs.Prelude.{◌≡◌, ◌≢◌, ◌↔◌, ℕ, All, AllPairs, Contains, List, Some, length, slice_get}
+use Rattle.std.specs.Prelude.{◌≡◌, ◌≢◌, ◌↔◌, ℕ, AllPairs, Contains, List, Some, length, slice_get}
 use Rattle.geom.specs.declared.point.Pt.{Pt}
-use Rattle.grid.specs.Tiles.{HasTile, Owns, Tiling, tile_count}
+use Rattle.grid.specs.Tiles.{Owns, Tiling, tile_count}
 use Rattle.routing.specs.declared.record.Record.{Record}
 use Rattle.linking.specs.declared.rounded.TileNumbers.{TileNumbers}
 
@@ -21,13 +21,6 @@ pub record AreTileCounts {X : Type 0} (g : Tiling) (pixel_of : X → Pt) (xs : L
 pub record ArePaired (hot records : List ℕ) (tiles : List TileNumbers) : Type 0 where
   pub one_each : length tiles ≡ length hot
   pub each : (k : ℕ) (n : TileNumbers) → slice_get tiles k ≡ Some n → (slice_get hot k ≡ Some n.hot) × (slice_get records k ≡ Some n.records)
-
--- every item has a tile, and none stands twice
-pub record MayCount (g : Tiling) (pixels : List Pt) (records : List Record) : Type 0 where
-  pub pixels_in : All (λ p. HasTile g p) pixels
-  pub pixels_once : AllPairs (λ p q. p ≢ q) pixels
-  pub records_in : All (λ r. HasTile g r.pixel) records
-  pub records_once : AllPairs (λ r q. r ≢ q) records
 
 -- for each tile, how many of the pixels it owns, and how many of the records have such a pixel
 pub record AreNumbersOf (g : Tiling) (pixels : List Pt) (records : List Record) (tiles : List TileNumbers) : Type 0 where

@@ -1,7 +1,8 @@
 //! The borders of features: the pieces of all cells in, the rounded edges that are the border of some feature out, with these features.
 //!
 //! 1. The records are linked as for layers, but that the owner of a segment makes the links of its route (`made`).
-//! 2. Each hand takes the links of its share, by the columns of their first ends, from all lists, and sorts them (`shares`).
+//! 2. Each hand takes the links of its share, by the columns of their first ends, from all lists, and sorts them (`shares`); a thread that
+//!    is alone sorts all of them (`odd_alone`).
 //! 3. Each hand keeps of each link that occurs an odd number of times one (`odd_in_shares`).
 //! 4. What is left is one list: its runs are the edges, and its features are one list for all of them (`borders_by_links`).
 
@@ -21,9 +22,9 @@ ghost use Rattle.linking.specs.Links.{AreFeatureRouteLinks};
 ghost use Rattle.linking.specs.Orders.{feature_link_order};
 ghost use Rattle.linking.specs.Shares.{AreKeysBelow, feature_column_of};
 
-use crate::made::{LinkedPieces, link_pieces};
+use crate::made::{LinkedAlone, LinkedPieces, link_alone, link_pieces};
 use crate::rounded::TileNumbers;
-use crate::shares::{places_of, sorted_in_parts};
+use crate::shares::{items_in_order, places_of, sorted_in_parts};
 use crate::tile_piece::{TilePiece, Tiled};
 use cover_law::Border;
 use feature_links::{FeatureLink, borders_of, features_of, odd_links};
@@ -43,9 +44,41 @@ pub struct RoundedBorders<A: Allocator> {
     pub remade: u32,
 }
 
-/// The rounded edges that are the border of some feature, with these features, of the pieces of all cells in their order, in at most
-/// so many parts, each in a thread of its own. The owners are the features of the segments. All else is as in
-/// `gather_made_in_parts`.
+/// The rounded edges that are the border of some feature, with these features, of the pieces of all cells in their order. The owners are
+/// the features of the segments. All else is as in `gather_made`.
+pub fn gather_borders<T: Tiled, A: Allocator + Copy>(
+    alloc: A,
+    pieces: Vec<TilePiece<T, A>, A>,
+    remade: u32,
+    cells: &Grid,
+    grid: &Grid,
+    segments: &[Seg],
+    owners: &[u32],
+) -> Result<RoundedBorders<A>, NoMemory>
+    requires cells { cells.now ≡ T.grid }
+    requires segments { segments.now ≡ T.segments }
+    requires covered_by_cells { HaveTiles cells.now segments.now }
+    requires covered { HaveTiles grid.now segments.now }
+    requires one_each { length pieces.items ≡ tile_count cells.now }
+    requires in_order { StandInOrder (λ p. p.number) pieces.items }
+    requires owners { length owners.now ≡ length segments.now }
+    ensures borders { IfOk result (λ r. ∥ ((count : ℕ) → All (λ f. f < count) owners.now → (edges : List Bordered) × AreBordered count segments.now owners.now edges × (map (bordered r.features.items) r.borders.items ≡ changing edges)) ∥₁) }
+    ensures noded { IfOk result (λ r. IsNoded (edges_in (map (bordered r.features.items) r.borders.items))) }
+    ensures closed { IfOk result (λ r. (count : ℕ) → All (λ f. f < count) owners.now → ((f : ℕ) → f < count → IsClosedFeature f segments.now owners.now) → All (λ s. AreInLimit s.a s.b) segments.now → AreBorders (map (bordered r.features.items) r.borders.items)) }
+    ensures some { IfOk result (λ r. All (λ b. has_some (bordered r.features.items b).features ≡ true) r.borders.items) }
+    ensures ordered { IfOk result (λ r. All (λ b. AllPairs (λ f g. f < g) (bordered r.features.items b).features) r.borders.items) }
+    ensures inside { IfOk result (λ r. All (λ b. (b.from ≤ b.to) × (b.to ≤ length r.features.items)) r.borders.items) }
+    ensures below { IfOk result (λ r. (count : ℕ) → All (λ f. f < count) owners.now → All (λ f. f < count) r.features.items) }
+    ensures tiles { IfOk result (λ r. AreTileNumbers grid.now segments.now (tile_count grid.now) r.tiles.items) }
+    ensures remade { IfOk result (λ r. r.remade ≡ remade) }
+{
+    let found = link_alone(alloc, pieces, cells, grid, segments, owners)?;
+    let LinkedAlone { links, tiles } = found;
+    let odd = odd_alone(alloc, links)?;
+    borders_by_links(alloc, segments, owners, &odd, tiles, remade)
+}
+
+/// As `gather_borders`, in at most so many parts, each in a thread of its own.
 pub fn gather_borders_in_parts<
     T: Tiled + Sync,
     A: Allocator + Copy + Send + Sync,
@@ -82,6 +115,17 @@ pub fn gather_borders_in_parts<
     let LinkedPieces { links, tiles } = found;
     let odd = odd_in_parts(rt, alloc, parts, links)?;
     borders_by_links(alloc, segments, owners, &odd, tiles, remade)
+}
+
+/// Of links those that occur an odd number of times, in order.
+fn odd_alone<A: Allocator>(
+    alloc: A,
+    links: Vec<FeatureLink, A>,
+) -> Result<Vec<FeatureLink, A>, NoMemory>
+    ensures { IfOk result (λ odd. AreOdd links.items odd.items) }
+{
+    let links = items_in_order(links);
+    odd_links(alloc, &links)
 }
 
 /// Of the links of lists those that occur an odd number of times, in order, by at most so many parts of the columns.

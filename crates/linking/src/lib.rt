@@ -23,7 +23,7 @@ mod shares;
 mod span;
 mod tile_piece;
 
-pub use bordering::{RoundedBorders, gather_borders_in_parts};
+pub use bordering::{RoundedBorders, gather_borders, gather_borders_in_parts};
 pub use by_range::{Keyed, sorted};
 pub use counting::counts_in_parts;
 pub use link::Link;

@@ -4,7 +4,7 @@
 //! 2. Each hand counts the records of its share by their tiles, and links neighbours (`link_share`).
 //! 3. The lists of links stand in the order of the shares, and the counts of each tile are added (`link_in_parts`).
 
-ghost use Rattle.std.specs.Prelude.{◌≡◌, ◌<◌, AllPairs, IfOk, Some, flat_map, length, map, slice_get};
+ghost use Rattle.std.specs.Prelude.{◌≡◌, ◌<◌, ◌^◌, AllPairs, IfOk, Some, flat_map, length, map, slice_get};
 ghost use Rattle.linking.specs.Orders.{AreSortedOnce};
 ghost use Rattle.linking.specs.Shares.{AreKeysBelow, AreLinked, AreOrdered, MayLink, segment_of};
 ghost use Rattle.linking.specs.Spans.{within};
@@ -26,8 +26,8 @@ use std::thread::Threads;
 /// The links of a share of the records, and how many of the records each tile has.
 #[derive(Drop)]
 pub(crate) struct Linked<L: Copy, A: Allocator> {
-    links: Vec<L, A>,
-    records: Vec<u32, A>,
+    pub links: Vec<L, A>,
+    pub records: Vec<u32, A>,
 }
 
 /// The links of all records, in a list for each share, and how many of the records each tile has.
@@ -74,14 +74,15 @@ pub(crate) fn ordered_in_parts<
 }
 
 /// What is found in one share. More records than a `u32` counts are refused as want of memory.
-fn link_share<M: MakesLinks<L>, L: Copy, A: Allocator + Copy>(
+pub(crate) fn link_share<M: MakesLinks<L>, L: Copy, A: Allocator + Copy>(
     alloc: A,
     grid: &Grid,
     makers: &[M],
     records: &[Record],
 ) -> Result<Linked<L, A>, NoMemory>
     requires { MayLink grid.now (length makers.now) records.now }
-    ensures { IfOk result (λ f. AreLinked grid.now M.link_of makers.now records.now f.links.items f.records.items) }
+    ensures linked { IfOk result (λ f. AreLinked grid.now M.link_of makers.now records.now f.links.items f.records.items) }
+    ensures short { IfOk result (λ f. length f.links.items < 2 ^ 32) }
 {
     if records.len() > u32::MAX as usize {
         return Err(NoMemory);

@@ -1,6 +1,6 @@
 //! Gathering the pieces of all cells.
 
-ghost use Rattle.std.specs.Prelude.{◌≡◌, IfOk, flat_map, length};
+ghost use Rattle.std.specs.Prelude.{◌≡◌, ◌<◌, ◌^◌, IfOk, flat_map, length};
 ghost use Rattle.geom.specs.Noded.{IsNoded};
 ghost use Rattle.geom.specs.declared.segment.Source.{Source};
 ghost use Rattle.geom.specs.Rounded.{AreRounded, HasEvenDegrees, edges_of, odd_edges};
@@ -12,9 +12,9 @@ ghost use Rattle.tile_book.specs.Books.{StandInOrder};
 
 use crate::counting::{counts, counts_in_parts, room_for};
 use crate::link::MakesLinks;
-use crate::linked::{AllLinked, in_order, link_in_parts, ordered_in_parts};
+use crate::linked::{AllLinked, Linked, in_order, link_in_parts, link_share, ordered_in_parts};
 use crate::neighbours::links;
-use crate::numbers::{hot_in_parts, numbers_of, paired};
+use crate::numbers::{count_by_tile, hot_in_parts, paired};
 use crate::rounded::{Rounded, TileNumbers};
 use crate::shares::item_count;
 use crate::tile_piece::{TilePiece, Tiled};
@@ -28,6 +28,13 @@ use std::thread::Threads;
 #[derive(Drop)]
 pub(crate) struct LinkedPieces<L: Copy, A: Allocator> {
     pub links: Vec<Vec<L, A>, A>,
+    pub tiles: Vec<TileNumbers, A>,
+}
+
+/// The links of all routes in one list, and each tile's numbers.
+#[derive(Drop)]
+pub(crate) struct LinkedAlone<L: Copy, A: Allocator> {
+    pub links: Vec<L, A>,
     pub tiles: Vec<TileNumbers, A>,
 }
 
@@ -79,15 +86,9 @@ pub fn gather_made<T: Tiled, A: Allocator + Copy>(
     ensures tiles { IfOk result (λ r. AreTileNumbers grid.now segments.now (tile_count grid.now) r.tiles.items) }
     ensures remade { IfOk result (λ r. r.remade ≡ remade) }
 {
-    let found = records_of(alloc, &pieces)?;
-    let pixels = pixels_of(alloc, &pieces)?;
-    drop(pieces);
-    let records = in_order(found);
-    let tiles = numbers_of(alloc, grid, &pixels, &records)?;
-    let list = links(alloc, segments, &records)?;
-    drop(pixels);
-    drop(records);
-    let edges = counts(alloc, room_for(list.len()), list)?;
+    let found = link_alone(alloc, pieces, cells, grid, segments, segments)?;
+    let LinkedAlone { links, tiles } = found;
+    let edges = counts(alloc, room_for(links.len()), links)?;
     Ok(rounded_of(segments, edges, tiles, remade))
 }
 
@@ -157,6 +158,39 @@ pub(crate) fn link_pieces<
     let AllLinked { links, records } = found;
     let tiles = paired(alloc, &hot, &records)?;
     Ok(LinkedPieces { links, tiles })
+}
+
+/// As `link_pieces`, by the calling thread.
+pub(crate) fn link_alone<M: MakesLinks<L>, L: Copy, T: Tiled, A: Allocator + Copy>(
+    alloc: A,
+    pieces: Vec<TilePiece<T, A>, A>,
+    cells: &Grid,
+    grid: &Grid,
+    segments: &[Seg],
+    makers: &[M],
+) -> Result<LinkedAlone<L, A>, NoMemory>
+    requires cells { cells.now ≡ T.grid }
+    requires segments { segments.now ≡ T.segments }
+    requires covered_by_cells { HaveTiles cells.now segments.now }
+    requires covered { HaveTiles grid.now segments.now }
+    requires one_each { length pieces.items ≡ tile_count cells.now }
+    requires in_order { StandInOrder (λ p. p.number) pieces.items }
+    requires one_for_each { length makers.now ≡ length segments.now }
+    ensures links { IfOk result (λ r. ∥ AreRouteLinks M.link_of segments.now makers.now r.links.items ∥₁) }
+    ensures short { IfOk result (λ r. length r.links.items < 2 ^ 32) }
+    ensures tiles { IfOk result (λ r. AreTileNumbers grid.now segments.now (tile_count grid.now) r.tiles.items) }
+{
+    let found = records_of(alloc, &pieces)?;
+    let records = in_order(found);
+    let pixels = pixels_of(alloc, &pieces)?;
+    drop(pieces);
+    let hot = count_by_tile(alloc, grid, &pixels)?;
+    drop(pixels);
+    let linked = link_share(alloc, grid, makers, &records)?;
+    drop(records);
+    let Linked { links, records } = linked;
+    let tiles = paired(alloc, &hot, &records)?;
+    Ok(LinkedAlone { links, tiles })
 }
 
 /// How many hot pixels pieces have together.

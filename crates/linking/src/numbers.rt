@@ -7,7 +7,7 @@
 ghost use Rattle.std.specs.Prelude.{◌≡◌, ◌≢◌, ◌<◌, ◌≤◌, All, AllPairs, IfOk, get_or, length, map, slice_range, sum_by};
 ghost use Rattle.geom.specs.declared.point.Pt.{Pt};
 ghost use Rattle.grid.specs.Tiles.{HasTile};
-ghost use Rattle.linking.specs.Numbers.{AreNumbersOf, ArePaired, AreTileCounts, MayCount};
+ghost use Rattle.linking.specs.Numbers.{ArePaired, AreTileCounts};
 ghost use Rattle.linking.specs.Shares.{AreSums};
 
 use crate::rounded::TileNumbers;
@@ -138,20 +138,4 @@ pub(crate) fn paired<A: Allocator>(
         })?;
     }
     Ok(tiles)
-}
-
-/// How many of the hot pixels and how many of the records each tile has. More than a `u32` counts are refused as want of
-/// memory.
-pub(crate) fn numbers_of<A: Allocator + Copy>(
-    alloc: A,
-    grid: &Grid,
-    pixels: &[Pt],
-    records: &[Record],
-) -> Result<Vec<TileNumbers, A>, NoMemory>
-    requires { MayCount grid.now pixels.now records.now }
-    ensures { IfOk result (λ v. AreNumbersOf grid.now pixels.now records.now v.items) }
-{
-    let hot = count_by_tile(alloc, grid, pixels)?;
-    let found = count_by_tile(alloc, grid, records)?;
-    paired(alloc, &hot, &found)
 }

@@ -85,9 +85,13 @@ pub one_more_in : {X Y : Type 0} (R : X → Y → Type 0) (xs : List X) (a k : �
 one_more_in R xs a k d ys y h l zip r = subst (λ t. AllZip R t (ys ++ y ∷ [])) (sym (slice_behind xs a k (k + 1) h (omega arith) ∙ ap (λ t. slice_range xs a k ++ t) (one_in xs k d l)))
     (zip_append R (slice_range xs a k) (get_or xs k d ∷ []) ys (y ∷ []) zip (r, tt))
 
+-- all places of a list
+pub whole_range : {X : Type 0} (xs : List X) → slice_range xs 0 (length xs) ≡ xs
+whole_range xs = take_all (length xs - 0) xs (omega arith)
+
 -- what belongs to each part belongs, one behind another, to the whole
 pub all_parts : {X Y V : Type 0} (R : X → Y → Type 0) (items : V → List Y) (xs : List X) (ps : List Part) (vs : List V) → ArePartsOf 0 (length xs) ps → AllZip (λ (p : Part) v. AllZip R (slice_range xs p.from p.past) (items v)) ps vs → AllZip R xs (flat_map items vs)
-all_parts R items xs ps vs parts zip = subst (λ t. AllZip R t (flat_map items vs)) (take_all (length xs - 0) xs (omega arith))
+all_parts R items xs ps vs parts zip = subst (λ t. AllZip R t (flat_map items vs)) (whole_range xs)
     (behind_one_another items (λ a b ys. AllZip R (slice_range xs a b) ys)
     (λ a. subst (λ t. AllZip R t []) (sym (none_in xs a)) tt)
     (λ a b c ys rest low high h i. subst (λ t. AllZip R t (ys ++ rest)) (sym (slice_behind xs a b c low high)) (zip_append R (slice_range xs a b) (slice_range xs b c) ys rest h i))

@@ -17,5 +17,5 @@ mod runs;
 
 pub use edges::RowEdge;
 pub use grouped::{RowEdges, count_ids, row_edges};
-pub use parts::{Row, rows_in_parts};
+pub use parts::{Row, rows_in_parts, rows_of};
 pub use runs::RowSet;

@@ -130,7 +130,25 @@ fn in_order<A: Allocator>(mut rows: Vec<Row<A>, A>) -> Vec<Row<A>, A>
     rows
 }
 
-/// The rows of all cover sets, in the order of these, made in so many parts.
+/// The rows of all cover sets, in the order of these.
+pub fn rows_of<A: Allocator + Copy>(
+    alloc: A,
+    sets: &Sets<A>,
+    row_edges: &RowEdges<A>,
+) -> Result<Vec<Row<A>, A>, NoMemory>
+    requires { AreReady sets.now row_edges.now.edges.items row_edges.now.sets.items }
+    ensures rows { (count : ℕ) (borders : List Bordered) → AreBorders borders → AreEdgesOfRows count borders sets.now row_edges.now.edges.items → IfOk result (λ rows. AreRows count borders (map row_of rows.items)) }
+    ensures areas { IfOk result (λ rows. All (λ r. r.twice_area ≡ row_area (row_of r)) rows.items) }
+{
+    let all = Part {
+        from: 0,
+        past: row_edges.sets.len(),
+    };
+    let rows = rows_of_part(alloc, sets, &row_edges.edges, &row_edges.sets, all)?;
+    Ok(in_order(rows))
+}
+
+/// The same, made in so many parts.
 pub fn rows_in_parts<R: Threads + Sync, A: Allocator + Copy + Send + Sync>(
     rt: &R,
     alloc: A,

@@ -22,4 +22,4 @@ returns g c =
     let place = c.args.place in
     let share = c.index-shares-place.result in
     IfOk-weaker c.link_share.result _ _ (λ f h s at. subst (λ (rs : List Record). AreLinked c.captures.grid.now g.M.MakesLinks.link_of c.captures.makers.now rs f.links.items f.records.items)
-    (c.deref.ensures.value ∙ ap (λ s. s.items) (c.index-shares-place.is ∙ some_same (slice_get-get_or shares place share c.requires.0) at)) h) c.link_share.ensures
+    (c.deref.ensures.value ∙ ap (λ s. s.items) (c.index-shares-place.is ∙ some_same (slice_get-get_or shares place share c.requires.0) at)) h) c.link_share.ensures.linked
