@@ -14,3 +14,4 @@ pub mod SweptOrder
 pub mod Visits
 pub mod Searches
 pub mod AllVisited
+pub mod Ends

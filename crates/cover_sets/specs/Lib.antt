@@ -5,3 +5,4 @@ pub mod Blocks
 pub mod Exchange
 pub mod Key
 pub mod Trees
+pub mod Ends

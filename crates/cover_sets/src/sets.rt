@@ -5,7 +5,8 @@
 //! 1. A list of features becomes a set by halves (`of`).
 //! 2. What lies beyond an edge is found part by part; parts that don't change are shared (`beyond`).
 
-ghost use Rattle.std.specs.Prelude.{◌≡◌, ◌≢◌, ◌+◌, ◌*◌, ◌/◌, ◌^◌, ◌<◌, ◌≤◌, ◌++◌, ℕ, List, [], All, AllPairs, Contains, IfOk, OnOk, length};
+ghost use Rattle.std.specs.Prelude.{◌≡◌, ◌≢◌, ◌+◌, ◌*◌, ◌/◌, ◌^◌, ◌<◌, ◌≤◌, ◌++◌, ℕ, List, [], All, AllPairs, Contains, IfOk, MatchOption, OnOk, length};
+ghost use Rattle.cover_sets.specs.Ends.{IsGreatest, IsLeast};
 ghost use Rattle.cover_sets.specs.Sets.{AreSets, IsBeyond, IsListed, IsNumber, Keeps, set_of};
 ghost use Rattle.cover_sets.specs.Blocks.{AreInBlock, InBlock, IsInBlock, Splits};
 ghost use Rattle.cover_sets.specs.Exchange.{IsExchanged};
@@ -103,6 +104,38 @@ impl<A: Allocator + Copy> Sets<A> {
         let tree = self.tree_at(set);
         self.push_features(tree.low, out)?;
         self.push_features(tree.high, out)
+    }
+
+    /// The least feature of the set, if it has one: that of the low part of its tree, in at most 31 steps.
+    pub fn least(&self, set: u32) -> Option<u32>
+        requires { IsNumber self.now set }
+        ensures { MatchOption result (set_of self.now set ≡ []) (IsLeast (set_of self.now set)) }
+    {
+        let _trees = &self.trees;
+        if set == EMPTY {
+            return None;
+        }
+        let mut part = set;
+        while part < ALONE {
+            part = self.tree_at(part).low;
+        }
+        Some(part - ALONE)
+    }
+
+    /// The greatest feature of the set, if it has one: that of the high part of its tree, in at most 31 steps.
+    pub fn greatest(&self, set: u32) -> Option<u32>
+        requires { IsNumber self.now set }
+        ensures { MatchOption result (set_of self.now set ≡ []) (IsGreatest (set_of self.now set)) }
+    {
+        let _trees = &self.trees;
+        if set == EMPTY {
+            return None;
+        }
+        let mut part = set;
+        while part < ALONE {
+            part = self.tree_at(part).high;
+        }
+        Some(part - ALONE)
     }
 
     fn len(&self, set: u32) -> u32

@@ -1,0 +1,4 @@
+pub mod Covered
+pub mod Laws
+pub mod Sides
+pub mod Results
