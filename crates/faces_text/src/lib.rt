@@ -1,4 +1,6 @@
-//! The text of faces: its law (`laws`), and the line of a row (`row`).
+//! The text of faces: rows in, a line for each of them out (`row`): twice its area, the numbers of each layer's features, its polygons.
+//!
+//! The promise: layers have one text of faces (`laws`). The definition is `specs/Text`.
 #![tactic(auto)]
 
 mod laws;
