@@ -23,7 +23,7 @@ use Rattle.engine.proofs.OneRefusal.{no_box, same_corners}
 
 -- ---- a grid is over two layers in at most one way
 
-one_bounds : (taken : List (Pt × Pt)) (x y : Option Rect) → AreBoundsOf taken x → AreBoundsOf taken y → x ≡ y
+pub one_bounds : (taken : List (Pt × Pt)) (x y : Option Rect) → AreBoundsOf taken x → AreBoundsOf taken y → x ≡ y
 one_bounds taken None None h k = refl
 one_bounds taken None (Some s) h k = absurd (no_box s (subst (λ (zs : List (Pt × Pt)). IsBox zs s) h k))
 one_bounds taken (Some r) None h k = absurd (no_box r (subst (λ (zs : List (Pt × Pt)). IsBox zs r) k h))
@@ -32,10 +32,10 @@ one_bounds taken (Some r) (Some s) h k =
     ap (λ (t : Rect). Some t) (same_rect r s (λ i. record { x = e.0 i; y = e.1 i }) (λ i. record { x = e.2 i; y = e.3 i }))
 
 -- bounds that are the box of these steps, with the grid over them
-abbrev Over : List (Pt × Pt) → ℕ → Tiling → Option Rect → Type 0
+abbrev pub Over : List (Pt × Pt) → ℕ → Tiling → Option Rect → Type 0
 Over taken side g bounds = AreBoundsOf taken bounds × IsGridOf bounds side g
 
-over_prop : (taken : List (Pt × Pt)) (side : ℕ) (g : Tiling) (bounds : Option Rect) → IsProp (Over taken side g bounds)
+pub over_prop : (taken : List (Pt × Pt)) (side : ℕ) (g : Tiling) (bounds : Option Rect) → IsProp (Over taken side g bounds)
 over_prop taken side g None = hlevel props
 over_prop taken side g (Some r) = hlevel props
 
@@ -49,13 +49,13 @@ grid_prop x y side g h k =
     (λ o i. over x y side g h.bounds (over_prop taken side g h.bounds (h.are_bounds, h.is_grid) o i))
     (one_bounds taken h.bounds k.bounds h.are_bounds k.are_bounds) (k.are_bounds, k.is_grid)
 
-plan_prop : (plan : Plan) → IsProp (IsPlan plan)
+pub plan_prop : (plan : Plan) → IsProp (IsPlan plan)
 plan_prop plan = hlevel props
 
-le_prop : (m n : ℕ) → IsProp (m ≤ n)
+pub le_prop : (m n : ℕ) → IsProp (m ≤ n)
 le_prop m n = hlevel props
 
-number_prop : (m n : ℕ) → IsProp (m ≡ n)
+pub number_prop : (m n : ℕ) → IsProp (m ≡ n)
 number_prop m n = hlevel props
 
 -- ---- what was checked holds of the rings that are read

@@ -53,11 +53,11 @@ one_plain : (text : List ℕ) (rings other : List Ring) → IsAccepted text ring
 one_plain text rings other h k = same_reading text (plain rings) (plain other) (rings, h, refl) (other, k, refl)
 
 -- the tiles of a grid over bounds have every point of them
-grid_covers : (bounds : Option Rect) (side : ℕ) (g : Tiling) → 0 < side → IsGridOf bounds side g → CoversBounds bounds g
+pub grid_covers : (bounds : Option Rect) (side : ℕ) (g : Tiling) → 0 < side → IsGridOf bounds side g → CoversBounds bounds g
 grid_covers None side g l h = tt
 grid_covers (Some r) side g l h = covers r side g l h
 
-some_side : (side : ℕ) → 16 ≤ side → 0 < side
+pub some_side : (side : ℕ) → 16 ≤ side → 0 < side
 some_side side h = omega (arith, h)
 
 pub covered : (limit : ℕ) (plan : Plan) (a b : List ℕ) (rings_a rings_b : List Ring) (g : Tiling) (segments : List Seg) → IsReadyWithin limit plan a b rings_a rings_b g → AreSegmentsOf a b segments → HaveTiles g segments
@@ -88,3 +88,7 @@ layers_of a b segments counted s limits r =
 pub if_both : {T E : Type 0} (r : Result T E) (P Q S : T → Type 0) → ((x : T) → P x → Q x → S x) → IfOk r P → IfOk r Q → IfOk r S
 if_both (Ok x) P Q S f p q = f x p q
 if_both (Err e) P Q S f p q = tt
+
+pub if_five : {T E : Type 0} (r : Result T E) (P Q R S U V : T → Type 0) → ((x : T) → P x → Q x → R x → S x → U x → V x) → IfOk r P → IfOk r Q → IfOk r R → IfOk r S → IfOk r U → IfOk r V
+if_five (Ok x) P Q R S U V f p q s t u = f x p q s t u
+if_five (Err e) P Q R S U V f p q s t u = tt

@@ -3,6 +3,8 @@ use Rattle.std.specs.Prelude.{◌≡◌, ◌^◌, ◌<◌, ◌≤◌, ℕ, List}
 use Rattle.grid.specs.Tiles.{IsSide, Tiling, most_tiles, tile_count}
 use Rattle.wkt.specs.LayerText.{Ring}
 use Rattle.wkt.specs.Refusals.{IsAccepted}
+use Rattle.geom.specs.declared.point.Pt.{Pt}
+use Rattle.engine.specs.Layers.{IsGridOverLayers, StandForLayers}
 use Rattle.engine.specs.Rounds.{IsGridOver}
 
 -- the layers are accepted, and this side gives more tiles over them than there may be
@@ -23,3 +25,20 @@ pub record IsFittingSide (a b : List ℕ) (side : ℕ) : Type 0 where
   pub is_side : IsSide side
   pub few : ¬ IsTooFineOver a b side
   pub least : (k : ℕ) → 18 ≤ k → k < exponent → IsTooFineOver a b (2 ^ k)
+
+-- the layers are accepted, and this side gives more tiles over them than there may be
+pub record AreTooFineOver (texts : List (List ℕ)) (side : ℕ) : Type 0 where
+  pub layers : List (List (List (List Pt)))
+  pub stand : StandForLayers texts layers
+  pub grid : Tiling
+  pub is_grid : IsGridOverLayers layers side grid
+  pub many : most_tiles < tile_count grid
+
+-- of the same powers of two the least one that isn't too fine for these layers
+pub record IsFittingSideOver (texts : List (List ℕ)) (side : ℕ) : Type 0 where
+  pub exponent : ℕ
+  pub from : 18 ≤ exponent
+  pub power : side ≡ 2 ^ exponent
+  pub is_side : IsSide side
+  pub few : ¬ AreTooFineOver texts side
+  pub least : (k : ℕ) → 18 ≤ k → k < exponent → AreTooFineOver texts (2 ^ k)

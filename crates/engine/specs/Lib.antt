@@ -7,3 +7,11 @@ pub mod Determined
 pub mod Counting
 pub mod Fitting
 pub mod LineParts
+pub mod FaceWords
+pub mod FeatureSegments
+pub mod Layers
+pub mod FaceBorders
+pub mod FaceRows
+pub mod Faces
+pub mod CoveredResults
+pub mod CoveredRuns

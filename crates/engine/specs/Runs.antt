@@ -34,6 +34,12 @@ pub record IsPlan (plan : Plan) : Type 0 where
   pub side : IsSide plan.side
   pub workers : IsCrew plan.workers
 
+-- what is wrong with a plan, the side of a tile before the number of workers
+abbrev pub IsPlanFault : Plan → Fault → Type 0
+IsPlanFault plan BadTile = ¬ IsSide plan.side
+IsPlanFault plan BadWorkers = IsSide plan.side × ¬ IsCrew plan.workers
+IsPlanFault plan _ = ⊥
+
 -- the greatest number of segments in both layers, where no limit is given
 abbrev pub segment_limit : ℕ
 segment_limit = SEGMENT_LIMIT

@@ -6,6 +6,7 @@ ghost use Rattle.geom.specs.Rounded.{AreRounded};
 ghost use Rattle.grid.specs.Tiles.{tile_count};
 ghost use Rattle.linking.specs.Gathered.{AreTileNumbers, HaveTiles};
 ghost use Rattle.points_law.specs.Law.{AreLayers};
+ghost use Rattle.engine.specs.FaceBorders.{AreRoundedBorders};
 ghost use Rattle.engine.specs.Rounds.{AllInLimit, AreRoundedOver};
 ghost use Rattle.engine.specs.Results.{IsResultWritten, IsResultWrittenWithin, IsWrittenWithin};
 ghost use Rattle.engine.specs.Runs.{AreEdgesWritten, AreEdgesWrittenWithin, Declines, DeclinesWithin, IsReading, alone};
@@ -18,7 +19,7 @@ use crate::reading::{read_segments, reading};
 use crate::rounds::Pieces;
 use geom::{NoMemory, Op, RunFault, Seg};
 use grid::Grid;
-use linking::{Noded, Tiled, gather_made, settled};
+use linking::{Noded, RoundedBorders, TilePiece, Tiled, gather_borders, gather_made, settled};
 use std::alloc::Allocator;
 use std::marker::{Brand, PhantomData};
 use tile_book::{Job, MOST_NUMBERS};
@@ -170,6 +171,62 @@ fn by_cells_alone<T: Tiled, A: Allocator + Copy>(
     ensures tiles { IfOk result (λ n. AreTileNumbers grid.now segments.now (tile_count grid.now) n.tiles.items) }
     ensures none_remade { IfOk result (λ n. n.remade ≡ 0) }
 {
+    let pieces = pieces_alone::<T, A>(alloc, cells, segments)?;
+    let rounded = gather_made(alloc, pieces, 0, cells, grid, segments)?;
+    Ok(settled(rounded))
+}
+
+/// The rounded edges that are the border of some feature, with the numbers of the tiles: owners are the features of the segments.
+pub(crate) fn features_alone<A: Allocator + Copy>(
+    alloc: A,
+    grid: &Grid,
+    segments: &[Seg],
+    owners: &[u32],
+) -> Result<RoundedBorders<A>, NoMemory>
+    requires in_limit { AllInLimit segments.now }
+    requires covered { HaveTiles grid.now segments.now }
+    requires owners { length owners.now ≡ length segments.now }
+    ensures borders { IfOk result (λ r. AreRoundedBorders segments.now owners.now r) }
+    ensures tiles { IfOk result (λ r. AreTileNumbers grid.now segments.now (tile_count grid.now) r.tiles.items) }
+    ensures none_remade { IfOk result (λ r. r.remade ≡ 0) }
+{
+    let cells = cells_of(grid, 1, segments);
+    features_by_cells_alone::<Brand, A>(alloc, grid, &cells, segments, owners)
+}
+
+/// The same, where the type of the pieces knows the cells and the segments.
+fn features_by_cells_alone<T: Tiled, A: Allocator + Copy>(
+    alloc: A,
+    grid: &Grid,
+    cells: &Grid,
+    segments: &[Seg],
+    owners: &[u32],
+) -> Result<RoundedBorders<A>, NoMemory>
+    requires tiled { (cells.now ≡ T.grid) × (segments.now ≡ T.segments) }
+    requires in_limit { AllInLimit segments.now }
+    requires covered_by_cells { HaveTiles cells.now segments.now }
+    requires covered { HaveTiles grid.now segments.now }
+    requires owners { length owners.now ≡ length segments.now }
+    ensures borders { IfOk result (λ r. AreRoundedBorders segments.now owners.now r) }
+    ensures tiles { IfOk result (λ r. AreTileNumbers grid.now segments.now (tile_count grid.now) r.tiles.items) }
+    ensures none_remade { IfOk result (λ r. r.remade ≡ 0) }
+{
+    let pieces = pieces_alone::<T, A>(alloc, cells, segments)?;
+    gather_borders(alloc, pieces, 0, cells, grid, segments, owners)
+}
+
+/// The pieces of all cells.
+fn pieces_alone<T: Tiled, A: Allocator + Copy>(
+    alloc: A,
+    cells: &Grid,
+    segments: &[Seg],
+) -> Result<Vec<TilePiece<T, A>, A>, NoMemory>
+    requires tiled { (cells.now ≡ T.grid) × (segments.now ≡ T.segments) }
+    requires in_limit { AllInLimit segments.now }
+    requires covered_by_cells { HaveTiles cells.now segments.now }
+    ensures one_each { IfOk result (λ v. length v.items ≡ tile_count cells.now) }
+    ensures in_order { IfOk result (λ v. StandInOrder (λ p. p.number) v.items) }
+{
     let bins = bins_of(alloc, cells, segments)?;
     let job: Pieces<T, A> = Pieces {
         grid: cells,
@@ -177,10 +234,7 @@ fn by_cells_alone<T: Tiled, A: Allocator + Copy>(
         segments,
         of: PhantomData,
     };
-    let pieces = in_turn(alloc, &job, cells.tiles())?;
-    drop(bins);
-    let rounded = gather_made(alloc, pieces, 0, cells, grid, segments)?;
-    Ok(settled(rounded))
+    in_turn(alloc, &job, cells.tiles())
 }
 
 /// The pieces of the numbers below a limit, made one after another.

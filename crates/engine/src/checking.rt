@@ -5,14 +5,14 @@
 //! 3. Both layers together have no more segments than the limit that is given (`check_total`).
 //! 4. The grid over both boxes has few tiles (`grid_over`).
 
-ghost use Rattle.std.specs.Prelude.{◌≡◌, ◌+◌, ◌<◌, ◌≤◌, ◌++◌, IfOk, IsTrue, List, MatchResult, nat_lt};
+ghost use Rattle.std.specs.Prelude.{◌≡◌, ◌+◌, ◌<◌, ◌≤◌, ◌++◌, IfOk, IsTrue, List, MatchOption, MatchResult, nat_lt};
 ghost use Rattle.geom.specs.declared.segment.Seg.{Seg};
 ghost use Rattle.linking.specs.Gathered.{BoundsHold};
 ghost use Rattle.grid.specs.Tiles.{AreBounds, IsSide};
 ghost use Rattle.engine.specs.Rounds.{AreJointBounds, IsTooFine, IsUsableGrid};
 ghost use Rattle.geom.specs.Fault.{number_of};
 ghost use Rattle.wkt.specs.Refusals.{IsRefused};
-ghost use Rattle.engine.specs.Runs.{HasOutline, IsCheckedWithin, IsPlan, IsReading, IsRefusedAtWithin, IsRefusedPlan, MayRunWithin, part_of};
+ghost use Rattle.engine.specs.Runs.{HasOutline, IsCheckedWithin, IsPlan, IsPlanFault, IsReading, IsRefusedAtWithin, IsRefusedPlan, MayRunWithin, part_of};
 
 use crate::engine::{Limits, Plan};
 use geom::{Fault, Part, Rect, RunFault, Source};
@@ -71,19 +71,26 @@ pub(crate) fn check<'a, 'b, A: Allocator>(
 pub(crate) fn check_plan(plan: Plan) -> Result<(), RunFault>
     ensures { MatchResult result (λ _. IsPlan plan) (λ f. IsRefusedPlan plan f.at f.fault) }
 {
-    if plan.side < LEAST_SIDE || plan.side > GREATEST_SIDE {
-        return Err(RunFault {
+    match plan_fault(plan) {
+        None => Ok(()),
+        Some(fault) => Err(RunFault {
             at: Part::Run,
-            fault: Fault::BadTile,
-        });
+            fault,
+        }),
+    }
+}
+
+/// What is wrong with a plan, if something is.
+pub(crate) fn plan_fault(plan: Plan) -> Option<Fault>
+    ensures { MatchOption result (IsPlan plan) (IsPlanFault plan) }
+{
+    if plan.side < LEAST_SIDE || plan.side > GREATEST_SIDE {
+        return Some(Fault::BadTile);
     }
     if plan.workers == 0 || plan.workers > MOST_HANDS {
-        return Err(RunFault {
-            at: Part::Run,
-            fault: Fault::BadWorkers,
-        });
+        return Some(Fault::BadWorkers);
     }
-    Ok(())
+    None
 }
 
 /// The outline of a layer text, by what was read of it.

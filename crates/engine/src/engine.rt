@@ -35,7 +35,7 @@ pub struct Plan {
 }
 
 /// The greatest number of segments in both layers together, where no limit is given.
-const SEGMENT_LIMIT: u32 = 1_048_576;
+pub(crate) const SEGMENT_LIMIT: u32 = 1_048_576;
 
 /// How large an input may be. A greater limit costs no time or memory by itself.
 #[derive(Clone, Copy, Debug)]

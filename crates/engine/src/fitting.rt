@@ -1,13 +1,16 @@
 //! The side of a tile where none is given.
 
-ghost use Rattle.std.specs.Prelude.{ℕ, ◌≡◌, IfOk, MatchResult};
+ghost use Rattle.std.specs.Prelude.{ℕ, ◌≡◌, IfOk, MatchResult, map};
 ghost use Rattle.grid.specs.Tiles.{AreBounds};
 ghost use Rattle.wkt.specs.Refusals.{IsRefused};
-ghost use Rattle.engine.specs.Fitting.{IsFittingSide};
+ghost use Rattle.engine.specs.Faces.{IsFacesRefusedAt};
+ghost use Rattle.engine.specs.Fitting.{IsFittingSide, IsFittingSideOver};
 ghost use Rattle.engine.specs.Runs.{HasOutline, IsRefusedAtWithin};
 
 use crate::checking::joint_bounds;
 use crate::engine::Plan;
+use crate::faces_fault::{FacesPart, FacesRefusal};
+use crate::faces_limits::FacesLimits;
 use geom::{Fault, Part};
 use grid::{DEFAULT_SIDE, default_side};
 use wkt::{Outline, check_layer};
@@ -23,6 +26,21 @@ pub fn fitting_side(a: &[u8], b: &[u8]) -> u32
         return DEFAULT_SIDE;
     };
     default_side(joint_bounds(outline_a.bounds, outline_b.bounds))
+}
+
+/// The same over any number of layers.
+pub fn fitting_side_over(layers: &[&[u8]]) -> u32
+    ensures side { IsFittingSideOver (map (λ t. t.now) layers.now) result }
+    ensures fits { (limits : FacesLimits) (plan : Plan) → plan.side ≡ result → (count : ℕ) → ¬ IsFacesRefusedAt limits plan (map (λ t. t.now) layers.now) FacesPart.Run (FacesRefusal.Usual (Fault.TooManyTiles count)) }
+{
+    let mut bounds = None;
+    for text in layers {
+        match outline_of(text) {
+            Ok(outline) => bounds = joint_bounds(bounds, outline.bounds),
+            Err(_) => return DEFAULT_SIDE,
+        }
+    }
+    default_side(bounds)
 }
 
 /// The outline of a layer text, where it isn't refused.

@@ -1,4 +1,4 @@
-//! What the two layers determine: each law is the contract of a function with an empty body. Its clauses named `within` say the same
+//! What the layers determine: each law is the contract of a function with an empty body. Its clauses named `within` say the same
 //! for any two limits of segments: a limit refuses, and changes nothing in an answer.
 
 ghost use Rattle.std.specs.Prelude.{◌≡◌};
@@ -7,6 +7,8 @@ ghost use Rattle.grid.specs.Tiles.{most_tiles};
 ghost use Rattle.wkt.specs.Refusals.{length_limit};
 ghost use Rattle.engine.specs.Runs.{segment_limit};
 ghost use Rattle.engine.specs.Determined.{EdgesSizesAreOne, EdgesSizesAreOneWithin, EdgesTextIsOne, EdgesTextIsOneWithin, RefusalIsOne, RefusalIsOneWithin, RefusedMayNotRun, RefusedMayNotRunWithin, ResultSizesAreOne, ResultSizesAreOneWithin, ResultTextIsOne, ResultTextIsOneWithin, RunReportsAsEdges, RunReportsAsEdgesWithin, TilesAreOne, TilesAreOneWithin};
+ghost use Rattle.engine.specs.CoveredRuns.{CoveredTextIsOneWithin};
+ghost use Rattle.engine.specs.Faces.{FacesRefusalIsOne, FacesTextIsOneWithin, RefusedAreNotWritten, RefusedMayNotRound, WrittenFacesTell};
 ghost use Rattle.engine.specs.Counting.{CountsAreExact, CountsAreExactWithin};
 
 use grid::{DEFAULT_SIDE, GREATEST_SIDE, LEAST_SIDE};
@@ -28,6 +30,31 @@ pub fn result_text_is_one<A: Allocator, B: Allocator>()
     ensures sizes { ResultSizesAreOne A B }
     ensures text_within { ResultTextIsOneWithin A B }
     ensures sizes_within { ResultSizesAreOneWithin A B }
+{}
+
+/// The text of faces is determined by the layers: it is the same for every tile side, number of workers, limit and order of threads.
+pub fn faces_text_is_one<A: Allocator, B: Allocator>()
+    ensures { FacesTextIsOneWithin A B }
+{}
+
+/// The text of an operation on layers that are read as covered is determined by the layers.
+pub fn covered_text_is_one<A: Allocator, B: Allocator>()
+    ensures { CoveredTextIsOneWithin A B }
+{}
+
+/// Where faces are written, their rows tell of every rational point which features cover it: it lies in the polygons of
+/// just the row of these features, and in one where some feature covers it. The areas of the rows that have a feature add
+/// up to that of the feature as it was rounded.
+pub fn faces_tell<A: Allocator>()
+    ensures { WrittenFacesTell A }
+{}
+
+/// A plan and layers are refused for one reason, and for none where they are answered, or where the sink got a part of an
+/// answer. Where memory ended the call they may have too many features in all rows, and are refused for nothing else.
+pub fn faces_refused_for_one_reason<A: Allocator>()
+    ensures reason { FacesRefusalIsOne }
+    ensures answered { RefusedAreNotWritten A }
+    ensures memory { RefusedMayNotRound }
 {}
 
 /// A plan and two layers are refused for one reason, or for none where they are answered.

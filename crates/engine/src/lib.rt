@@ -1,18 +1,33 @@
-//! The engine: two layer texts, a plan and a sink in; the text of their rounded edges, or of an operation's result, out.
+//! The engine: layer texts, a plan and a sink in; the text of their rounded edges, of an operation's result, or of their faces, out.
 //!
 //! 1. Both texts are read, and plan and texts are accepted or refused (`reading`, `checking`).
 //! 2. The segments are rounded by workers over cells, and the edges are put together (`rounds`).
 //! 3. The text that is wanted is made (`operation`) and sent (`sink`), with a report.
 //!
+//! Faces are made of the features of up to 64 layers, on a road of their own through the same rounds (`faces_run`).
+//!
 //! The promise: where `edges` and `run` answer, the sink took the one text that the layers determine, in whose polygons each rational point
-//! lies as the operation says. The definitions are `specs/Runs` and `specs/Results`.
+//! lies as the operation says. The definitions are `specs/Runs` and `specs/Results`. Where `faces` answers, each rational point lies in the
+//! polygons of just the row of those features that cover it. The definitions are in `specs/Faces`.
 #![tactic(auto)]
 
 mod alone;
+mod alone_faces;
 mod cell_parts;
 mod cells;
 mod checking;
+mod covered_result;
+mod covered_run;
 mod engine;
+mod face_rows;
+mod face_text;
+mod faces_fault;
+mod faces_limits;
+mod faces_report;
+mod faces_run;
+mod feature_checking;
+mod feature_reading;
+mod feature_segments;
 mod fitting;
 mod laws;
 mod line_parts;
@@ -26,10 +41,19 @@ mod text_parts;
 mod worth;
 
 pub use alone::{edges_alone, edges_alone_within, run_alone, run_alone_within};
+pub use alone_faces::{FacesOutput, faces_alone};
+pub use covered_run::{run_covered, run_covered_within};
 pub use engine::{Limits, Output, Plan, edges, edges_within, run, run_within};
-pub use fitting::fitting_side;
+pub use faces_fault::{FacesFault, FacesPart, FacesRefusal, faces_line, faces_status, layer_name};
+pub use faces_limits::FacesLimits;
+pub use faces_report::{FacesReport, faces_report_text};
+pub use faces_run::{faces, faces_within};
+pub use feature_reading::MOST_LAYERS;
+pub use feature_segments::LayerSize;
+pub use fitting::{fitting_side, fitting_side_over};
 pub use laws::{
-    counts_are_exact, edges_text_is_one, limits_are_numbers, one_refusal, result_text_is_one,
+    counts_are_exact, covered_text_is_one, edges_text_is_one, faces_refused_for_one_reason,
+    faces_tell, faces_text_is_one, limits_are_numbers, one_refusal, result_text_is_one,
     run_reports_as_edges, tiles_are_one,
 };
 pub use operation::result_text;

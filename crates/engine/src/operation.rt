@@ -115,7 +115,7 @@ fn one_line<A: Allocator + Copy>(alloc: A, directed: &Directed<A>) -> Result<Tex
 }
 
 /// The same line, made by several workers at once where that is worth it.
-fn line_by_workers<A: Allocator + Copy + Send + Sync, R: Threads + Sync>(
+pub(crate) fn line_by_workers<A: Allocator + Copy + Send + Sync, R: Threads + Sync>(
     rt: &R,
     alloc: A,
     workers: u32,

@@ -1,10 +1,16 @@
-//! The rounded edges of two layers, over the tiles of a grid and by many workers.
+//! The rounded edges of two layers, or the borders of features, over the tiles of a grid and by many workers.
+//!
+//! 1. Workers make the pieces of the cells (`cell_pieces`).
+//! 2. These are gathered: edges with their counts in both layers (`by_cells`), or edges with the features whose border they are
+//!    (`features_by_cells`).
 
 ghost use Rattle.std.specs.Prelude.{◌≡◌, ◌<◌, ◌≤◌, IfOk, length, map, sum_by};
 ghost use Rattle.geom.specs.Rounded.{AreRounded};
 ghost use Rattle.grid.specs.Tiles.{tile_count};
 ghost use Rattle.linking.specs.Gathered.{AreTileNumbers, HaveTiles};
 ghost use Rattle.points_law.specs.Law.{AreLayers};
+ghost use Rattle.tile_book.specs.Books.{StandInOrder};
+ghost use Rattle.engine.specs.FaceBorders.{AreRoundedBorders};
 ghost use Rattle.engine.specs.Rounds.{AllInLimit, AreCellBins, AreRoundedOver, IsRemade, TellsTiles};
 ghost use Rattle.engine.specs.Runs.{IsReading};
 
@@ -15,7 +21,10 @@ use crate::text::Report;
 use crate::worth;
 use geom::{NoMemory, Seg};
 use grid::{Grid, KeptBins, MOST_TILES};
-use linking::{Noded, TileNumbers, TilePiece, Tiled, gather_made_in_parts, settled};
+use linking::{
+    Noded, RoundedBorders, TileNumbers, TilePiece, Tiled, gather_borders_in_parts,
+    gather_made_in_parts, settled,
+};
 use routing::part;
 use std::alloc::Allocator;
 use std::marker::{Brand, PhantomData};
@@ -107,6 +116,110 @@ fn by_cells<
     ensures tiles { IfOk result (λ n. AreTileNumbers grid.now segments.now (tile_count grid.now) n.tiles.items) }
     ensures remade { IfOk result (λ n. IsRemade n.remade) }
 {
+    let made = cell_pieces::<L, T, A, G, R>(rt, alloc, blank, cells, workers, segments, gate)?;
+    let AllPieces { pieces, remade } = made;
+    let parts = worth::parts(workers, record_count(&pieces), worth::RECORDS);
+    let rounded = gather_made_in_parts(rt, alloc, parts, pieces, remade, cells, grid, segments)?;
+    Ok(settled(rounded))
+}
+
+/// The rounded edges that are the border of some feature, with the numbers of the tiles: owners are the features of the segments. The
+/// workers call the gate.
+pub(crate) fn rounded_features<
+    A: Allocator + Copy + Send + Sync,
+    G: Gate + Sync,
+    R: Threads + Wait + Sync,
+>(
+    rt: &R,
+    alloc: A,
+    grid: &Grid,
+    workers: u32,
+    segments: &[Seg],
+    owners: &[u32],
+    gate: &G,
+) -> Result<RoundedBorders<A>, NoMemory>
+    requires workers { (0 < workers) × (workers ≤ MOST_HANDS) }
+    requires in_limit { AllInLimit segments.now }
+    requires covered { HaveTiles grid.now segments.now }
+    requires owners { length owners.now ≡ length segments.now }
+    ensures borders { IfOk result (λ r. AreRoundedBorders segments.now owners.now r) }
+    ensures tiles { IfOk result (λ r. AreTileNumbers grid.now segments.now (tile_count grid.now) r.tiles.items) }
+    ensures remade { IfOk result (λ r. IsRemade r.remade) }
+{
+    let parts = worth::parts(workers, segments.len(), worth::SEGMENTS);
+    let cells = cells_in_parts(rt, alloc, parts, grid, workers, segments)?;
+    let blank = Blank::new(u64::from(workers));
+    features_by_cells::<Brand, Brand, A, G, R>(
+        rt, alloc, blank, grid, &cells, workers, segments, owners, gate,
+    )
+}
+
+/// The same, where a ledger of its own counts the pieces that are posted, and their type knows the cells and the segments.
+fn features_by_cells<
+    L: Limited + Send + Sync,
+    T: Tiled + Send + Sync,
+    A: Allocator + Copy + Send + Sync,
+    G: Gate + Sync,
+    R: Threads + Wait + Sync,
+>(
+    rt: &R,
+    alloc: A,
+    blank: Blank,
+    grid: &Grid,
+    cells: &Grid,
+    workers: u32,
+    segments: &[Seg],
+    owners: &[u32],
+    gate: &G,
+) -> Result<RoundedBorders<A>, NoMemory>
+    requires name { blank.name ≡ L.name }
+    requires parts { (blank.parts ≡ L.parts) × (blank.parts ≡ workers) }
+    requires limit { tile_count cells.now ≡ L.limit }
+    requires tiled { (cells.now ≡ T.grid) × (segments.now ≡ T.segments) }
+    requires workers { (0 < workers) × (workers ≤ MOST_HANDS) }
+    requires in_limit { AllInLimit segments.now }
+    requires covered_by_cells { HaveTiles cells.now segments.now }
+    requires covered { HaveTiles grid.now segments.now }
+    requires owners { length owners.now ≡ length segments.now }
+    ensures borders { IfOk result (λ r. AreRoundedBorders segments.now owners.now r) }
+    ensures tiles { IfOk result (λ r. AreTileNumbers grid.now segments.now (tile_count grid.now) r.tiles.items) }
+    ensures remade { IfOk result (λ r. IsRemade r.remade) }
+{
+    let made = cell_pieces::<L, T, A, G, R>(rt, alloc, blank, cells, workers, segments, gate)?;
+    let AllPieces { pieces, remade } = made;
+    let parts = worth::parts(workers, record_count(&pieces), worth::RECORDS);
+    gather_borders_in_parts(
+        rt, alloc, parts, pieces, remade, cells, grid, segments, owners,
+    )
+}
+
+/// The pieces of all cells, made by the workers.
+fn cell_pieces<
+    L: Limited + Send + Sync,
+    T: Tiled + Send + Sync,
+    A: Allocator + Copy + Send + Sync,
+    G: Gate + Sync,
+    R: Threads + Wait + Sync,
+>(
+    rt: &R,
+    alloc: A,
+    blank: Blank,
+    cells: &Grid,
+    workers: u32,
+    segments: &[Seg],
+    gate: &G,
+) -> Result<AllPieces<TilePiece<T, A>, A>, NoMemory>
+    requires name { blank.name ≡ L.name }
+    requires parts { (blank.parts ≡ L.parts) × (blank.parts ≡ workers) }
+    requires limit { tile_count cells.now ≡ L.limit }
+    requires tiled { (cells.now ≡ T.grid) × (segments.now ≡ T.segments) }
+    requires workers { (0 < workers) × (workers ≤ MOST_HANDS) }
+    requires in_limit { AllInLimit segments.now }
+    requires covered_by_cells { HaveTiles cells.now segments.now }
+    ensures one_each { IfOk result (λ all. length all.pieces.items ≡ tile_count cells.now) }
+    ensures in_order { IfOk result (λ all. StandInOrder (λ p. p.number) all.pieces.items) }
+    ensures remade { IfOk result (λ all. IsRemade all.remade) }
+{
     let parts = worth::parts(workers, segments.len(), worth::SEGMENTS);
     let bins = bins_in_parts(rt, alloc, parts, cells, segments)?;
     let job: Pieces<T, A> = Pieces {
@@ -115,7 +228,7 @@ fn by_cells<
         segments,
         of: PhantomData,
     };
-    let AllPieces { pieces, remade } = make_all::<A, Pieces<T, A>, L, G, R>(
+    make_all::<A, Pieces<T, A>, L, G, R>(
         rt,
         alloc,
         blank,
@@ -124,11 +237,7 @@ fn by_cells<
         &job,
         Phase::Route,
         gate,
-    )?;
-    drop(bins);
-    let parts = worth::parts(workers, record_count(&pieces), worth::RECORDS);
-    let rounded = gather_made_in_parts(rt, alloc, parts, pieces, remade, cells, grid, segments)?;
-    Ok(settled(rounded))
+    )
 }
 
 /// How many records pieces have together.
@@ -166,7 +275,10 @@ pub(crate) fn report_of<A: Allocator + Copy>(
 }
 
 /// The numbers of each tile.
-fn told_of<A: Allocator>(alloc: A, tiles: &[TileNumbers]) -> Result<Vec<(u32, u32), A>, NoMemory>
+pub(crate) fn told_of<A: Allocator>(
+    alloc: A,
+    tiles: &[TileNumbers],
+) -> Result<Vec<(u32, u32), A>, NoMemory>
     ensures { IfOk result (λ told. told.items ≡ map (λ t. (t.hot, t.records)) tiles.now) }
 {
     let mut told = Vec::with_capacity(alloc, tiles.len())?;
@@ -177,7 +289,7 @@ fn told_of<A: Allocator>(alloc: A, tiles: &[TileNumbers]) -> Result<Vec<(u32, u3
 }
 
 /// The hot pixels of all tiles.
-fn all_hot(tiles: &[TileNumbers]) -> u64
+pub(crate) fn all_hot(tiles: &[TileNumbers]) -> u64
     requires { length tiles.now ≤ MOST_TILES }
     ensures { result ≡ sum_by (λ t. t.hot) tiles.now }
 {
@@ -189,7 +301,7 @@ fn all_hot(tiles: &[TileNumbers]) -> u64
 }
 
 /// The records of all tiles.
-fn all_records(tiles: &[TileNumbers]) -> u64
+pub(crate) fn all_records(tiles: &[TileNumbers]) -> u64
     requires { length tiles.now ≤ MOST_TILES }
     ensures { result ≡ sum_by (λ t. t.records) tiles.now }
 {

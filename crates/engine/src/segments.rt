@@ -44,7 +44,7 @@ pub(crate) fn layer_segments<A: Allocator>(
 }
 
 /// Adds the segments of a layer's rings.
-fn push_rings<A: Allocator>(
+pub(crate) fn push_rings<A: Allocator>(
     segments: &mut Vec<Seg, A>,
     rings: &[Ring<A>],
     layer: Source,

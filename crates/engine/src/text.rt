@@ -53,7 +53,10 @@ pub struct Report<A: Allocator> {
 }
 
 /// Adds a number in decimal digits.
-fn push_number<I: Integer, A: Allocator>(text: &mut Vec<u8, A>, number: I) -> Result<(), AllocError>
+pub(crate) fn push_number<I: Integer, A: Allocator>(
+    text: &mut Vec<u8, A>,
+    number: I,
+) -> Result<(), AllocError>
     ensures { OnOk result (text.new.items ≡ text.old.items ++ I.text number) }
 {
     let mut buffer = Buffer::new();
@@ -98,7 +101,7 @@ pub fn edges_text<A: Allocator>(alloc: A, edges: &[Counted]) -> Result<Vec<u8, A
     Ok(text)
 }
 
-fn push_line<I: Integer, A: Allocator>(
+pub(crate) fn push_line<I: Integer, A: Allocator>(
     text: &mut Vec<u8, A>,
     name: &str,
     number: I,
@@ -112,7 +115,7 @@ fn push_line<I: Integer, A: Allocator>(
     Ok(())
 }
 
-fn push_tile<A: Allocator>(
+pub(crate) fn push_tile<A: Allocator>(
     text: &mut Vec<u8, A>,
     number: usize,
     tile: (u32, u32),

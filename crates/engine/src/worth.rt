@@ -23,6 +23,12 @@ pub(crate) const EDGES: usize = 4_096;
 /// Directed edges, of which rings are cut and written.
 pub(crate) const DIRECTED: usize = 8_192;
 
+/// Rows of faces, whose polygons are made, by their directed edges.
+pub(crate) const ROW_EDGES: usize = 4_096;
+
+/// Rows of faces, whose lines are written, by their features and points.
+pub(crate) const ROW_LINES: usize = 8_192;
+
 /// In how many parts workers make as much work of a stage: one each, where it is worth several.
 pub(crate) fn parts(workers: u32, work: usize, worth: usize) -> usize
     ensures some { 1 ≤ result }

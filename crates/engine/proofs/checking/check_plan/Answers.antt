@@ -1,16 +1,8 @@
-use Rattle.std.proofs.Common.{arith}
-use Rattle.engine.specs.Runs.{bad_tile, bad_workers}
+use Rattle.engine.proofs.PlanFaults.{plan_belongs, plan_refused}
 use Rattle.engine.proofs.checking.check_plan.Goals as goal
-use Rattle.engine.proofs.checking.check_plan.Goals.{then-plan-lt-LEAST_SIDE-via-then-plan-lt-LEAST_SIDE, then-plan-lt-LEAST_SIDE-via-else-plan-lt-LEAST_SIDE+then-plan-gt-GREATEST_SIDE, then-plan-eq0-via-then-plan-eq0, then-plan-eq0-via-else-plan-eq0+then-plan-gt-MOST_HANDS}
 
-pub returns-then-plan-lt-LEAST_SIDE : goal.returns-then-plan-lt-LEAST_SIDE
-returns-then-plan-lt-LEAST_SIDE c = λ limit a b. bad_tile (λ h. elim c.then-plan-lt-LEAST_SIDE.branch [
-  | then-plan-lt-LEAST_SIDE-via-then-plan-lt-LEAST_SIDE w ↦ omega arith
-  | then-plan-lt-LEAST_SIDE-via-else-plan-lt-LEAST_SIDE+then-plan-gt-GREATEST_SIDE w ↦ omega arith
-])
+pub invariant_of-result : goal.invariant_of-result
+invariant_of-result c = record { fits = plan_belongs c.args.plan c.in-Some.fault c.in-Some.ensures }
 
-pub returns-then-plan-eq0 : goal.returns-then-plan-eq0
-returns-then-plan-eq0 c = λ limit a b. bad_workers (omega arith, omega arith) (λ h. elim c.then-plan-eq0.branch [
-  | then-plan-eq0-via-then-plan-eq0 w ↦ omega arith
-  | then-plan-eq0-via-else-plan-eq0+then-plan-gt-MOST_HANDS w ↦ omega arith
-])
+pub returns-in-Some : goal.returns-in-Some
+returns-in-Some c = plan_refused c.args.plan c.in-Some.fault c.in-Some.ensures

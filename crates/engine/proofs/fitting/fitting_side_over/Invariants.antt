@@ -1,0 +1,6 @@
+use Rattle.std.proofs.Common.{map, take}
+use Rattle.engine.proofs.ReadLaws.{AreBoxed}
+use Rattle.engine.proofs.fitting.fitting_side_over.Given as goal
+
+abbrev pub invariant-loop-text : goal.invariant-loop-text
+invariant-loop-text l = AreBoxed (take l.text-index (map (λ t. t.now) l.layers)) l.bounds

@@ -1,0 +1,11 @@
+use Rattle.grid.specs.Tiles.{tile_count}
+use Rattle.engine.proofs.rounds.rounded_features.Given as goal
+
+abbrev pub ghosts-features_by_cells-L-Ledger : goal.ghosts-features_by_cells-L-Ledger
+ghosts-features_by_cells-L-Ledger g a = record { name = a.blank.name; parts = a.blank.parts }
+
+abbrev pub ghosts-features_by_cells-L-Limited : goal.ghosts-features_by_cells-L-Limited
+ghosts-features_by_cells-L-Limited g a = record { limit = tile_count a.cells.now }
+
+abbrev pub ghosts-features_by_cells-T-Tiled : goal.ghosts-features_by_cells-T-Tiled
+ghosts-features_by_cells-T-Tiled g a = record { grid = a.cells.now; segments = a.segments.now }
