@@ -5,6 +5,7 @@
 
 #[cfg(test)]
 mod limits;
+pub mod one_by_one;
 #[cfg(test)]
 mod operations;
 #[cfg(test)]

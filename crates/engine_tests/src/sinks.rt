@@ -1,70 +1,16 @@
 //! Sinks that fail, at each of their calls.
 
-ghost use Rattle.std.specs.Prelude.{◌≡◌, ◌<◌, Some};
-ghost use Rattle.engine.specs.Sinks.{SinkState};
-
+use crate::one_by_one::OneByOne;
 use crate::overlaid::overlaid;
 use crate::texts::{OTHER, SQUARE, SQUARES_COMMON, SQUARES_EDGES};
-use engine::{MemSink, Plan, Sink, SinkFault};
+use engine::{MemSink, Plan, Sink};
 use geom::{Fault, NoMemory, Op};
 use refusing::Refusing;
-use std::alloc::{Allocator, Global};
+use std::alloc::Global;
 use std::sync::Wait;
 use std::test::Fail;
 use std::thread::Threads;
 use tile_book::OpenGate;
-
-/// A sink that takes one byte a call, and fails at one of its calls.
-#[derive(Drop)]
-struct OneByOne<A: Allocator> {
-    taken: Vec<u8, A>,
-    calls: u64,
-    fails_at: u64,
-    failures: u64,
-    settled: bool,
-}
-
-impl<A: Allocator> OneByOne<A> {
-    fn new(alloc: A, fails_at: u64) -> OneByOne<A>
-        ensures { result.failures ≡ 0 }
-    {
-        OneByOne {
-            taken: Vec::new(alloc),
-            calls: 0,
-            fails_at,
-            failures: 0,
-            settled: false,
-        }
-    }
-}
-
-impl<A: Allocator> Sink for OneByOne<A> {
-    ghost state = { λ s. record { failed = s.failures; settled = s.settled; taken = Some s.taken.items } };
-
-    fn write(&mut self, bytes: &[u8]) -> Result<usize, SinkFault> {
-        self.settled = false;
-        self.calls = self.calls.saturating_add(1);
-        if self.calls == self.fails_at || self.taken.push(bytes[0]).is_err() {
-            self.failures += 1;
-            return Err(SinkFault);
-        }
-        Ok(1)
-    }
-
-    fn finish(&mut self) -> Result<(), SinkFault> {
-        self.calls = self.calls.saturating_add(1);
-        if self.calls == self.fails_at {
-            self.failures += 1;
-            return Err(SinkFault);
-        }
-        self.settled = true;
-        Ok(())
-    }
-
-    fn failures(&self) -> u64 {
-        self.failures
-    }
-}
 
 const PLAN: Plan = Plan {
     side: 16,
