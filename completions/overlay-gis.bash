@@ -8,7 +8,7 @@ _overlay_gis() {
   esac
   case $verb in
     run) options="--out --overwrite --grid --origin --system --dissolve" ;;
-    faces) options="--out --overwrite --keep-a --keep-b --grid --origin --system" ;;
+    faces) options="--out --overwrite --parts --keep-a --keep-b --keep --grid --origin --system" ;;
     check) options="--out --overwrite --grid --origin --system" ;;
     to-grid) options="--out --frame --grid --origin --system --dissolve" ;;
     from-grid) options="--out --overwrite --frame" ;;

@@ -1,6 +1,6 @@
 # Completion of overlay for bash.
 _overlay() {
-  local word=${COMP_WORDS[COMP_CWORD]} before=${COMP_WORDS[COMP_CWORD-1]} commands="union intersection difference symdifference edges" k given=0
+  local word=${COMP_WORDS[COMP_CWORD]} before=${COMP_WORDS[COMP_CWORD-1]} commands="union intersection difference symdifference edges faces" k given=0
   case $before in
     --tile) COMPREPLY=($(compgen -W "4096 16384 65536 262144 1048576 4194304 16777216 33554432" -- "$word")); return ;;
     --segments) COMPREPLY=($(compgen -W "1048576 10000000 100000000" -- "$word")); return ;;
@@ -10,7 +10,7 @@ _overlay() {
     [[ " $commands " == *" ${COMP_WORDS[k]} "* ]] && given=1
   done
   if [[ $word == -* ]]; then
-    COMPREPLY=($(compgen -W "--tile --workers --segments --report --help" -- "$word"))
+    COMPREPLY=($(compgen -W "--tile --workers --segments --report --covered --help" -- "$word"))
   elif ((given)); then
     compopt -o default
     COMPREPLY=()

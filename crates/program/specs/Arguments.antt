@@ -21,6 +21,11 @@ pub record IsWanted (id : Text) (a : Arg) : Type 0 where
   pub own : IsOwnArg id a
   pub takes_value : TakesValue a
 
+-- one that is required
+pub record IsRequired (id : Text) (a : Arg) : Type 0 where
+  pub own : IsOwnArg id a
+  pub required : a.required ≡ true
+
 -- one that takes a number from the least one on, and below 2^32
 pub record IsNumberArg (least : ℕ) (id : Text) (a : Arg) : Type 0 where
   pub own : IsOwnArg id a
@@ -42,7 +47,8 @@ pub record IsOverlayCommand (c : Command) : Type 0 where
   pub workers : Arg
   pub segments : Arg
   pub report : Arg
-  pub chain : AddsInTurn AddsArg start (word ∷ a ∷ b ∷ tile ∷ workers ∷ segments ∷ report ∷ []) c
+  pub covered : Arg
+  pub chain : AddsInTurn AddsArg start (word ∷ a ∷ b ∷ tile ∷ workers ∷ segments ∷ report ∷ covered ∷ []) c
   pub no_args : args_of start ≡ []
   pub no_groups : groups_of start ≡ []
   pub no_globals : (out-Command start).has_globals ≡ false
@@ -55,6 +61,7 @@ pub record IsOverlayCommand (c : Command) : Type 0 where
   pub workers_default : WantsDefault workers
   pub is_segments : IsNumberArg 1 (codes "segments") segments
   pub is_report : IsFlagArg (codes "report") report
+  pub is_covered : IsFlagArg (codes "covered") covered
 
 -- the text of the id, of which a first hyphen is left out, is a number below 2^32
 abbrev pub HasNumber : Found → Text → Type 0

@@ -6,12 +6,13 @@ use Rattle.clap.specs.Words.{App, IsAmong, Kinds, Row, Rule, Text, fault_of, fir
 use Rattle.clap.specs.declared.builder.ArgAction.TheVariants.{Set, SetTrue}
 use Rattle.clap.specs.declared.builder.value_parser.ValueParser.TheVariants.{Signed}
 use Rattle.clap.specs.declared.error.kind.ErrorKind.TheVariants.{DisplayHelp}
+use Rattle.geom.specs.declared.op.Op.{Op}
 use Rattle.geom.specs.declared.op.Op.TheVariants.{Union, Intersection, Difference, SymDifference}
 use Rattle.program.specs.declared.asked.Command.{Command}
 use Rattle.program.specs.declared.asked.Command.TheVariants.{Edges, Apply}
 use Rattle.program.specs.declared.asked.Request.{Request}
 use Rattle.program.specs.declared.asked.CliFault.{CliFault}
-use Rattle.program.specs.declared.asked.CliFault.TheVariants.{Unknown, Help, Refused, Memory}
+use Rattle.program.specs.declared.asked.CliFault.TheVariants.{Unknown, CoveredEdges, Help, Refused, Memory}
 
 abbrev pub word_rule : Rule
 word_rule = record (new_rule (codes "command")) { action = Some Set; required = true }
@@ -32,11 +33,11 @@ number_rule least id defaults = record (new_rule id) {
 abbrev pub flag_rule : Text → Rule
 flag_rule id = record (new_rule id) { long = Some id; action = Some SetTrue }
 
--- `overlay command a b [--tile N] [--workers N] [--segments N] [--report]`
+-- `overlay command a b [--tile N] [--workers N] [--segments N] [--report] [--covered]`
 unfoldable pub overlay_app : App
-overlay_app = with_rule (with_rule (with_rule (with_rule (with_rule (with_rule (with_rule (new_app (codes "overlay"))
+overlay_app = with_rule (with_rule (with_rule (with_rule (with_rule (with_rule (with_rule (with_rule (new_app (codes "overlay"))
     word_rule) (file_rule (codes "a"))) (file_rule (codes "b"))) (number_rule 0 (codes "tile") []))
-    (number_rule 0 (codes "workers") (codes "4" ∷ []))) (number_rule 1 (codes "segments") [])) (flag_rule (codes "report"))
+    (number_rule 0 (codes "workers") (codes "4" ∷ []))) (number_rule 1 (codes "segments") [])) (flag_rule (codes "report"))) (flag_rule (codes "covered"))
 
 -- the matches of the words, the first of which is the program's name
 unfoldable pub held : List Text → List Row
@@ -74,6 +75,14 @@ pub record IsRequestOf (rows : List Row) (r : Request) : Type 0 where
   pub workers : IsHeldNumber (codes "workers") rows r.workers
   pub segments : IsGivenNumber (codes "segments") rows r.segments
   pub report : r.report ≡ is_set (one_of (codes "report") rows)
+  pub covered : r.covered ≡ is_set (one_of (codes "covered") rows)
+  pub goes_together : r.covered ≡ true → r.command ≢ Edges
+
+-- the operation on layers that are read as covered, where that is asked for
+abbrev pub operation_covered : Command → Bool → Option Op
+operation_covered (Apply op) true = Some op
+operation_covered (Apply op) false = None
+operation_covered Edges covered = None
 
 -- the kinds of fault that `clap` finds in the words
 unfoldable pub faults : List Text → Kinds
@@ -83,9 +92,20 @@ faults words = fault_of overlay_app words
 abbrev pub IsUnknown : List Row → Type 0
 IsUnknown rows = (word : Text) × (first_of (codes "command") rows ≡ Some word) × (command_of word ≡ None)
 
--- why there is no request: `clap` takes the words and their command is unknown, or `clap` does not take them; memory may run out on any words
+-- the edges of layers that are read as covered are asked for
+abbrev pub AreCoveredEdges : List Row → Type 0
+AreCoveredEdges rows = (word : Text) × (first_of (codes "command") rows ≡ Some word) × (command_of word ≡ Some Edges) × (is_set (one_of (codes "covered") rows) ≡ true)
+
+-- why words that `clap` takes are no request: their command is unknown, or is none of an operation and `--covered` is there
+abbrev pub IsRefusalIn : List Row → CliFault → Type 0
+IsRefusalIn rows Unknown = IsUnknown rows
+IsRefusalIn rows CoveredEdges = AreCoveredEdges rows
+IsRefusalIn rows fault = ⊥
+
+-- why there is no request: `clap` takes the words and they are none, or `clap` does not take them; memory may run out on any words
 abbrev pub IsRefusalBy : Kinds → List Row → CliFault → Type 0
-IsRefusalBy kinds rows Unknown = (kinds ≡ []) × IsUnknown rows
+IsRefusalBy kinds rows Unknown = (kinds ≡ []) × IsRefusalIn rows Unknown
+IsRefusalBy kinds rows CoveredEdges = (kinds ≡ []) × IsRefusalIn rows CoveredEdges
 IsRefusalBy kinds rows (Help text) = IsAmong DisplayHelp kinds
 IsRefusalBy kinds rows (Refused text) = kinds ≢ []
 IsRefusalBy kinds rows Memory = Unit {0}

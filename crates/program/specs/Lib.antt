@@ -1,3 +1,5 @@
 pub mod CommandLine
 pub mod Arguments
 pub mod Program
+pub mod FacesLine
+pub mod FacesProgram

@@ -3,17 +3,21 @@ use Rattle.std.specs.Prelude.{◌≡◌, ◌⊎◌, ℕ, Bool, true, false, List
 use Rattle.std.specs.declared.alloc.Global.{Global}
 use Rattle.clap.specs.Words.{Text}
 use Rattle.grid.specs.declared.sides.TheConstants.{DEFAULT_SIDE}
-use Rattle.engine.specs.Fitting.{IsFittingSide}
+use Rattle.engine.specs.CoveredRuns.{RunsCovered}
+use Rattle.engine.specs.FaceWords.{faces_line_of, faces_status_of}
+use Rattle.engine.specs.Fitting.{IsFittingSide, IsFittingSideOver}
 use Rattle.geom.specs.declared.fault.RunFault.{RunFault}
+use Rattle.geom.specs.declared.op.Op.{Op}
 use Rattle.engine.specs.Runs.{AreEdgesWrittenWithin, RunsWithin, segment_limit}
 use Rattle.engine.specs.Results.{IsResultWrittenWithin}
 use Rattle.engine.specs.Sinks.{SentAll, SentPart, SinkState}
 use Rattle.engine.specs.Texts.{line_of, report_of, status_of}
 use Rattle.engine.specs.declared.engine.Plan.{Plan}
+use Rattle.engine.specs.declared.faces_fault.FacesFault.{FacesFault}
 use Rattle.engine.specs.declared.text.Report.{Report}
-use Rattle.program.specs.CommandLine.{IsAskedBy, IsRefusalOf}
+use Rattle.program.specs.CommandLine.{IsAskedBy, IsRefusalOf, operation_covered}
 use Rattle.program.specs.declared.asked.CliFault.{CliFault}
-use Rattle.program.specs.declared.asked.CliFault.TheVariants.{Unknown, Help, Refused, Memory}
+use Rattle.program.specs.declared.asked.CliFault.TheVariants.{Unknown, CoveredEdges, Help, Refused, Memory}
 use Rattle.program.specs.declared.asked.Command.{Command}
 use Rattle.program.specs.declared.asked.Command.TheVariants.{Edges, Apply}
 use Rattle.program.specs.declared.asked.Request.{Request}
@@ -40,6 +44,10 @@ TellsMemory old new status = (status ≡ 1) × IsSent old new memory_line
 abbrev pub TellsFault : SinkState → SinkState → RunFault → ℕ → Type 0
 TellsFault old new fault status = ((status ≡ status_of fault) × IsSent old new (line_of fault)) ⊎ TellsMemory old new status
 
+-- the line of a fault is told, with its status; or memory is wanted for the line
+abbrev pub TellsFacesFault : SinkState → SinkState → FacesFault → ℕ → Type 0
+TellsFacesFault old new fault status = ((status ≡ faces_status_of fault.refusal) × IsSent old new (faces_line_of fault)) ⊎ TellsMemory old new status
+
 -- a report is shown; or memory is wanted for its text
 abbrev pub ShowsReport : {A : Type 0} → SinkState → SinkState → Report A → ℕ → Type 0
 ShowsReport old new report status = Shows old new (report_of report) status ⊎ TellsMemory old new status
@@ -64,9 +72,14 @@ TellsUnread old new status = (fault : LoadFault) × (TellsFile old new fault unr
 abbrev pub unknown_line : List ℕ
 unknown_line = codes "overlay: unknown command" ++ 10 ∷ []
 
+-- the line where the edges of layers that are read as covered are asked for
+abbrev pub covered_line : List ℕ
+covered_line = codes "overlay: --covered goes with union, intersection, difference and symdifference" ++ 10 ∷ []
+
 -- what is said of a command line: help goes to the output, with status 0; all else to the other sink, with status 2, or 1 at want of memory
 abbrev pub TellsLine : {O E : Type 0} → (O → SinkState) → (E → SinkState) → O → O → E → E → CliFault → ℕ → Type 0
 TellsLine out_state err_state out out' err err' Unknown status = (status ≡ 2) × (out' ≡ out) × IsSent (err_state err) (err_state err') unknown_line
+TellsLine out_state err_state out out' err err' CoveredEdges status = (status ≡ 2) × (out' ≡ out) × IsSent (err_state err) (err_state err') covered_line
 TellsLine out_state err_state out out' err err' (Help text) status = (err' ≡ err) × Shows (out_state out) (out_state out') (string_bytes text) status
 TellsLine out_state err_state out out' err err' (Refused text) status = (status ≡ 2) × (out' ≡ out) × IsSent (err_state err) (err_state err') (string_bytes text)
 TellsLine out_state err_state out out' err err' Memory status = (out' ≡ out) × TellsMemory (err_state err) (err_state err') status
@@ -94,9 +107,20 @@ RunsFor state old new request side a b r =
 abbrev pub IsChosenSide : Option ℕ → List ℕ → List ℕ → ℕ → Type 0
 IsChosenSide given a b side = MatchOption given ((side ≡ DEFAULT_SIDE) ⊎ IsFittingSide a b side) (λ s. side ≡ s)
 
+-- the side is the one that was given; where none was, the default one, or the one that fits the layers
+abbrev pub IsChosenSideOver : Option ℕ → List (List ℕ) → ℕ → Type 0
+IsChosenSideOver given texts side = MatchOption given ((side ≡ DEFAULT_SIDE) ⊎ IsFittingSideOver texts side) (λ s. side ≡ s)
+
 -- a run that a request asks for on two layers
 abbrev pub Performs : {S M : Type 0} → (S → SinkState) → S → S → Request → List ℕ → List ℕ → Result (Report M) RunFault → Type 0
 Performs state old new request a b r = (side : ℕ) × IsChosenSide request.side a b side × RunsFor state old new request side a b r
+
+-- an operation on layers that are read as covered, as a request asks for it, with this side of a tile and within its limit of segments
+abbrev pub RunsCoveredFor : {S M : Type 0} → (S → SinkState) → S → S → Request → Op → ℕ → List ℕ → List ℕ → Result (Report M) FacesFault → Type 0
+RunsCoveredFor state old new request op side a b r = RunsCovered (limit_of request.segments) state old new op (plan_of request side) a b r
+
+abbrev pub PerformsCovered : {S M : Type 0} → (S → SinkState) → S → S → Request → Op → List ℕ → List ℕ → Result (Report M) FacesFault → Type 0
+PerformsCovered state old new request op a b r = (side : ℕ) × IsChosenSideOver request.side (a ∷ b ∷ []) side × RunsCoveredFor state old new request op side a b r
 
 -- what is told of an answer: its report, where one is wanted
 abbrev pub TellsAnswer : {E M : Type 0} → (E → SinkState) → E → E → Bool → Report M → ℕ → Type 0
@@ -107,10 +131,29 @@ TellsAnswer state err err' false report status = (status ≡ 0) × (err' ≡ err
 abbrev pub TellsRun : {E M : Type 0} → (E → SinkState) → E → E → Bool → Result (Report M) RunFault → ℕ → Type 0
 TellsRun state err err' wanted r status = MatchResult r (λ report. TellsAnswer state err err' wanted report status) (λ fault. TellsFault (state err) (state err') fault status)
 
+abbrev pub TellsCoveredRun : {E M : Type 0} → (E → SinkState) → E → E → Bool → Result (Report M) FacesFault → ℕ → Type 0
+TellsCoveredRun state err err' wanted r status =
+    MatchResult r (λ report. TellsAnswer state err err' wanted report status) (λ fault. TellsFacesFault (state err) (state err') fault status)
+
+-- two layers are run by parity, which is told
+abbrev pub DoesByParity : {O E : Type 0} → (O → SinkState) → (E → SinkState) → O → O → E → E → Request → List ℕ → List ℕ → ℕ → Type 0
+DoesByParity out_state err_state out out' err err' request a b status =
+    (r : Result (Report Global) RunFault) × Performs out_state out out' request a b r × TellsRun err_state err err' request.report r status
+
+-- two layers that are read as covered are run, which is told
+abbrev pub DoesCovered : {O E : Type 0} → (O → SinkState) → (E → SinkState) → O → O → E → E → Request → List ℕ → List ℕ → Op → ℕ → Type 0
+DoesCovered out_state err_state out out' err err' request a b op status =
+    (r : Result (Report Global) FacesFault) × PerformsCovered out_state out out' request op a b r × TellsCoveredRun err_state err err' request.report r status
+
+-- two layers are run, read as it is asked for
+abbrev pub DoesOn : {O E : Type 0} → (O → SinkState) → (E → SinkState) → O → O → E → E → Request → List ℕ → List ℕ → ℕ → Type 0
+DoesOn out_state err_state out out' err err' request a b status = MatchOption (operation_covered request.command request.covered)
+    (DoesByParity out_state err_state out out' err err' request a b status) (λ op. DoesCovered out_state err_state out out' err err' request a b op status)
+
 -- a request is done: a file can't be read, which is told, with status 1 and no output; or both layers are read, and run
 abbrev pub Does : {O E : Type 0} → (O → SinkState) → (E → SinkState) → O → O → E → E → Request → ℕ → Type 0
 Does out_state err_state out out' err err' request status = ((out' ≡ out) × TellsUnread (err_state err) (err_state err') status)
-    ⊎ ((a : List ℕ) × (b : List ℕ) × (r : Result (Report Global) RunFault) × Performs out_state out out' request a b r × TellsRun err_state err err' request.report r status)
+    ⊎ ((a : List ℕ) × (b : List ℕ) × DoesOn out_state err_state out out' err err' request a b status)
 
 -- a command line is done: what it asks for is done, or it is told why it isn't accepted
 abbrev pub DoesLine : {O E : Type 0} → (O → SinkState) → (E → SinkState) → O → O → E → E → List Text → ℕ → Type 0

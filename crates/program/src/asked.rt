@@ -1,7 +1,10 @@
 //! What a command line asks for, and why it may be refused.
 
+ghost use Rattle.std.specs.Prelude.{◌≡◌};
+ghost use Rattle.program.specs.CommandLine.{operation_covered};
+
 use geom::Op;
-use std::alloc::{AllocError, AllocFailed};
+use std::alloc::{AllocError, AllocFailed, Global};
 use thiserror::Error;
 
 /// What to compute.
@@ -29,6 +32,33 @@ pub struct Request<'a> {
     pub segments: Option<u32>,
     /// Whether a report is wanted.
     pub report: bool,
+    /// Whether a point lies in a layer where one of its features at least covers it, and not by parity.
+    pub covered: bool,
+}
+
+/// The operation on layers that are read as covered, where that is asked for.
+pub(crate) fn operation_covered(command: Command, covered: bool) -> Option<Op>
+    ensures { result ≡ operation_covered command covered }
+{
+    match command {
+        Command::Apply(op) if covered => Some(op),
+        _ => None,
+    }
+}
+
+/// A command line of `faces` that was accepted.
+#[derive(Drop)]
+pub struct FacesRequest<'a> {
+    /// The names of the layers' files, 1 to 64.
+    pub layers: Vec<&'a str, Global>,
+    /// The side of a tile, in grid units, where one was given.
+    pub side: Option<u32>,
+    /// The number of threads at work.
+    pub workers: u32,
+    /// The most segments that all layers may have together, where that was given.
+    pub segments: Option<u32>,
+    /// Whether a report is wanted.
+    pub report: bool,
 }
 
 /// Why a command line gives no request.
@@ -37,6 +67,9 @@ pub enum CliFault {
     /// The line is well formed, and its command word is none that is offered.
     #[error("unknown command")]
     Unknown,
+    /// The line is well formed, and asks for edges of layers that are read as covered.
+    #[error("--covered goes with union, intersection, difference and symdifference")]
+    CoveredEdges,
     /// Help was asked for; its text.
     #[error("{0}")]
     Help(String),

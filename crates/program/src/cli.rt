@@ -5,7 +5,7 @@ ghost use Rattle.clap.specs.Facts.{WantsDefault};
 ghost use Rattle.clap.specs.Words.{FailsBy, first_value, HasKind, Kinds, Row, app_of, args_of, first_of, found_of, groups_of, new_app, one_of, rows_of, rule_of};
 ghost use Rattle.clap.specs.declared.builder.command.Command.TheViews.{out-Command as fields_of};
 ghost use Rattle.program.specs.Arguments.{MayHaveNumber, HasNumber, HasWords, IsFlagArg, IsNumberArg, IsOverlayCommand, IsWanted};
-ghost use Rattle.program.specs.CommandLine.{IsAskedBy, IsUnknown, IsGivenNumber, IsHeldNumber, IsRefusalBy, IsRefusalOf, is_set, IsRequestOf, command_of, faults, file_rule, flag_rule, held, number_rule, overlay_app, word_rule};
+ghost use Rattle.program.specs.CommandLine.{IsAskedBy, IsGivenNumber, IsHeldNumber, IsRefusalBy, IsRefusalIn, IsRefusalOf, is_set, IsRequestOf, command_of, faults, file_rule, flag_rule, held, number_rule, overlay_app, word_rule};
 
 use crate::asked;
 use crate::asked::{CliFault, Request};
@@ -27,16 +27,26 @@ const WORKERS_HELP: &str = "The number of threads at work, 1 to 64";
 const SEGMENTS_HELP: &str =
     "The most segments of both layers together, 1 to 4294967295 [default: 1048576]";
 
+const COVERED_HELP: &str =
+    "For an operation: a point lies in a layer where one of its features at least covers it";
+
 const AFTER: &str =
     "union, intersection, difference and symdifference print the result of that operation on the two
 layers as one MULTIPOLYGON text.
 edges prints a line `x1 y1 x2 y2 countA countB` for each edge of both layers after rounding.
+faces, which stands before all other words, takes 1 to 64 layers, and prints a line for each set of
+their features (polygon texts, numbered from 1) that covers some points together: twice the area, the
+numbers of each layer's features, and the points as one MULTIPOLYGON text, with tabs between.
 
 A layer is a text of POLYGON and MULTIPOLYGON geometries, at most 268435456 bytes long, with whole
-coordinates from -268435456 to 268435456, in grid units. Both layers together have at most 1048576
+coordinates from -268435456 to 268435456, in grid units. All layers together have at most 1048576
 segments, or as many as --segments says; a million take some 170 MB of memory. A layer is read by
 parity: a point lies in it where an odd number of its rings have the point inside, so polygons of one
-layer that overlap cancel each other there. /dev/stdin reads a layer from standard input.
+layer that overlap cancel each other there; faces reads each feature so, and features never cancel
+each other. /dev/stdin reads a layer from standard input.
+
+With --covered an operation reads each feature so too, and a point lies in a layer where one of its
+features at least covers it, so that features of one layer that overlap don't cancel each other.
 
 The tiles and the number of threads have no influence on the text. Where no side of a tile is given
 it is 262144, or where that gives more than 65536 tiles the least power of two that doesn't.
@@ -46,14 +56,14 @@ Exit status: 0 answered, 1 a file, the output or memory failed, 2 command line n
 
 Example: overlay intersection parcels.wkt zones.wkt > common.wkt";
 
-fn word_arg<'a>(alloc: Global) -> Arg<'a>
+pub(crate) fn word_arg<'a>(alloc: Global) -> Arg<'a>
     ensures rule { rule_of result ≡ word_rule }
     ensures wanted { IsWanted (codes "command") result }
 {
     Arg::new(alloc, "command")
         .action(ArgAction::Set)
         .required(true)
-        .help("What to compute: union, intersection, difference, symdifference or edges")
+        .help("What to compute: union, intersection, difference, symdifference, edges or faces")
 }
 
 fn file_arg<'a>(alloc: Global, id: &'a str, name: &'a str, help: &'a str) -> Arg<'a>
@@ -68,7 +78,7 @@ fn file_arg<'a>(alloc: Global, id: &'a str, name: &'a str, help: &'a str) -> Arg
 }
 
 /// An argument that takes a whole number, from the least one to 4,294,967,295.
-fn number_arg<'a>(alloc: Global, id: &'a str, least: u32, help: &'a str) -> Arg<'a>
+pub(crate) fn number_arg<'a>(alloc: Global, id: &'a str, least: u32, help: &'a str) -> Arg<'a>
     ensures rule { rule_of result ≡ number_rule least id.entry.now [] }
     ensures number { IsNumberArg least id.entry.now result }
 {
@@ -80,7 +90,7 @@ fn number_arg<'a>(alloc: Global, id: &'a str, least: u32, help: &'a str) -> Arg<
         .help(help)
 }
 
-fn workers_arg<'a>(alloc: Global) -> Arg<'a>
+pub(crate) fn workers_arg<'a>(alloc: Global) -> Arg<'a>
     ensures rule { rule_of result ≡ number_rule 0 (codes "workers") (codes "4" ∷ []) }
     ensures number { IsNumberArg 0 (codes "workers") result }
     ensures default { WantsDefault result }
@@ -88,7 +98,7 @@ fn workers_arg<'a>(alloc: Global) -> Arg<'a>
     number_arg(alloc, "workers", 0, WORKERS_HELP).default_value("4")
 }
 
-fn flag_arg<'a>(alloc: Global, id: &'a str, help: &'a str) -> Arg<'a>
+pub(crate) fn flag_arg<'a>(alloc: Global, id: &'a str, help: &'a str) -> Arg<'a>
     ensures rule { rule_of result ≡ flag_rule id.entry.now }
     ensures flag { IsFlagArg id.entry.now result }
 {
@@ -99,7 +109,7 @@ fn flag_arg<'a>(alloc: Global, id: &'a str, help: &'a str) -> Arg<'a>
 }
 
 /// The bare command with its help, before it has arguments.
-fn described<'a>(alloc: Global) -> Command<'a>
+pub(crate) fn described<'a>(alloc: Global) -> Command<'a>
     ensures app { app_of result ≡ new_app (codes "overlay") }
     ensures empty { (args_of result ≡ []) × (groups_of result ≡ []) }
     ensures local { (fields_of result).has_globals ≡ false }
@@ -131,6 +141,7 @@ fn parser<'a>(alloc: Global) -> Result<Command<'a>, AllocError>
         "report",
         "Prints the numbers of the run to standard error",
     );
+    let covered = flag_arg(alloc, "covered", COVERED_HELP);
     described(alloc)
         .arg(word)?
         .arg(a)?
@@ -138,7 +149,8 @@ fn parser<'a>(alloc: Global) -> Result<Command<'a>, AllocError>
         .arg(tile)?
         .arg(workers)?
         .arg(segments)?
-        .arg(report)
+        .arg(report)?
+        .arg(covered)
 }
 
 /// What the words hold.
@@ -151,7 +163,7 @@ fn parsed<'a, S: AsStr>(alloc: Global, words: &'a [S]) -> Result<ArgMatches<'a>,
     command.try_get_matches_from(words)
 }
 
-fn fault_from(alloc: Global, error: clap::Error) -> CliFault
+pub(crate) fn fault_from(alloc: Global, error: clap::Error) -> CliFault
     ensures { (kinds : Kinds) → HasKind kinds error → (rows : List Row) → IsRefusalBy kinds rows result }
 {
     let Ok(text) = error.to_string(alloc) else {
@@ -188,7 +200,7 @@ fn word_held<'a>(matches: &ArgMatches<'a>, id: &str) -> &'a str
     }
 }
 
-fn number_held(matches: &ArgMatches<'_>, id: &str) -> u32
+pub(crate) fn number_held(matches: &ArgMatches<'_>, id: &str) -> u32
     requires { HasNumber (found_of matches.now) id.now }
     ensures { IsHeldNumber id.now (rows_of (found_of matches.now)) result }
 {
@@ -198,14 +210,14 @@ fn number_held(matches: &ArgMatches<'_>, id: &str) -> u32
     }
 }
 
-fn number_given(matches: &ArgMatches<'_>, id: &str) -> Option<u32>
+pub(crate) fn number_given(matches: &ArgMatches<'_>, id: &str) -> Option<u32>
     requires { MayHaveNumber (found_of matches.now) id.now }
     ensures { IsGivenNumber id.now (rows_of (found_of matches.now)) result }
 {
     matches.get_one::<u32>(id)
 }
 
-fn flag_held(matches: &ArgMatches<'_>, id: &str) -> bool
+pub(crate) fn flag_held(matches: &ArgMatches<'_>, id: &str) -> bool
     ensures { result ≡ is_set (one_of id.now (rows_of (found_of matches.now))) }
 {
     matches.get_one::<bool>(id).unwrap_or(false)
@@ -213,18 +225,22 @@ fn flag_held(matches: &ArgMatches<'_>, id: &str) -> bool
 
 fn request_of<'a>(matches: &ArgMatches<'a>) -> Result<Request<'a>, CliFault>
     requires { HasWords (found_of matches.now) }
-    ensures { MatchResult result (λ r. IsRequestOf (rows_of (found_of matches.now)) r) (λ f. (f ≡ CliFault.Unknown) × IsUnknown (rows_of (found_of matches.now))) }
+    ensures { MatchResult result (λ r. IsRequestOf (rows_of (found_of matches.now)) r) (IsRefusalIn (rows_of (found_of matches.now))) }
 {
     let word = word_held(matches, "command");
     let a = word_held(matches, "a");
     let b = word_held(matches, "b");
     let report = flag_held(matches, "report");
+    let covered = flag_held(matches, "covered");
     let side = number_given(matches, "tile");
     let workers = number_held(matches, "workers");
     let segments = number_given(matches, "segments");
     let Some(command) = command_named(word) else {
         return Err(CliFault::Unknown);
     };
+    if covered && command == asked::Command::Edges {
+        return Err(CliFault::CoveredEdges);
+    }
     Ok(Request {
         command,
         a,
@@ -233,6 +249,7 @@ fn request_of<'a>(matches: &ArgMatches<'a>) -> Result<Request<'a>, CliFault>
         workers,
         segments,
         report,
+        covered,
     })
 }
 

@@ -9,12 +9,16 @@
 
 mod asked;
 mod cli;
+mod covered_program;
+mod faces_cli;
+mod faces_program;
 mod files;
 mod program;
 mod stream;
 
-pub use asked::{CliFault, Command, Request};
+pub use asked::{CliFault, Command, FacesRequest, Request};
 pub use cli::request;
+pub use faces_cli::faces_request;
 pub use files::{Disk, Files, LoadFault, READ_LIMIT};
 pub use program::{drive, drive_process};
 pub use stream::{ErrSink, StdSink, Stream};

@@ -1,10 +1,14 @@
 //! The program, over files and sinks.
 
 ghost use Rattle.std.specs.Prelude.{ℕ, ◌≡◌, ◌<◌, IfErr, map};
-ghost use Rattle.program.specs.Program.{Does, DoesLine, IsSent, limit_of, Performs, RunsFor, Shows, ShowsReport, TellsFault, TellsFile, TellsLine, TellsMemory};
+ghost use Rattle.program.specs.FacesProgram.{DoesAnyLine};
+ghost use Rattle.program.specs.Program.{Does, DoesByParity, IsSent, limit_of, Performs, RunsFor, Shows, ShowsReport, TellsFault, TellsFile, TellsLine, TellsMemory};
 
-use crate::asked::{CliFault, Command, Request};
+use crate::asked::{CliFault, Command, Request, operation_covered};
 use crate::cli::request;
+use crate::covered_program::answer_covered;
+use crate::faces_cli::is_for_faces;
+use crate::faces_program::drive_faces;
 use crate::files::{Files, LoadFault};
 use engine::{
     Limits, Plan, Report, Sink, edges_within, fitting_side, line, report_text, run_within, status,
@@ -22,13 +26,17 @@ use std::thread::Threads;
 use tile_book::OpenGate;
 
 /// The exit status where all was answered, or help was asked for.
-const ANSWERED: u8 = 0;
+pub(crate) const ANSWERED: u8 = 0;
 
 /// The exit status where a file, the output or memory failed.
 const FAILED: u8 = 1;
 
 /// The exit status of a command line that isn't accepted.
 const NOT_ACCEPTED: u8 = 2;
+
+/// What is said where the edges of layers that are read as covered are asked for.
+const COVERED_EDGES: &[u8] =
+    b"overlay: --covered goes with union, intersection, difference and symdifference\n";
 
 /// Does what a command line asks for, of which the first word is the program's name, and answers the exit status. The
 /// text goes to `out`; the line of a fault, the parser's text and the report go to `err`. A fault of the command line
@@ -43,8 +51,11 @@ pub fn drive<R: Threads + Wait + Sync, S: AsStr, F: Files, O: Sink, E: Sink>(
 ) -> u8
     requires out { (O.state out.old).failed < u64.MAX }
     requires err { (E.state err.old).failed < u64.MAX }
-    ensures { DoesLine O.state E.state out.old out.new err.old err.new (map S.text words.entry.now) result }
+    ensures { DoesAnyLine O.state E.state out.old out.new err.old err.new (map S.text words.entry.now) result }
 {
+    if is_for_faces(words) {
+        return drive_faces(rt, alloc, words, files, out, err);
+    }
     match request(alloc, words) {
         Ok(asked) => answer(rt, alloc, &asked, files, out, err),
         Err(fault) => tell_command_line(&fault, out, err),
@@ -93,7 +104,27 @@ fn answer<R: Threads + Wait + Sync, F: Files, O: Sink, E: Sink>(
         Ok(bytes) => bytes,
         Err(fault) => return tell_file(fault, b"overlay: B: cannot read\n", err),
     };
-    match perform(rt, alloc, asked, a.as_slice(), b.as_slice(), out) {
+    match operation_covered(asked.command, asked.covered) {
+        Some(op) => answer_covered(rt, alloc, asked, op, &a, &b, out, err),
+        None => answer_by_parity(rt, alloc, asked, &a, &b, out, err),
+    }
+}
+
+/// Runs what is asked for on two layer texts that are read by parity.
+fn answer_by_parity<R: Threads + Wait + Sync, O: Sink, E: Sink>(
+    rt: &R,
+    alloc: Global,
+    asked: &Request<'_>,
+    a: &[u8],
+    b: &[u8],
+    out: &mut O,
+    err: &mut E,
+) -> u8
+    requires out { (O.state out.old).failed < u64.MAX }
+    requires err { (E.state err.old).failed < u64.MAX }
+    ensures { DoesByParity O.state E.state out.old out.new err.old err.new asked.now a.now b.now result }
+{
+    match perform(rt, alloc, asked, a, b, out) {
         Ok(report) if asked.report => show_report(alloc, &report, err),
         Ok(_) => ANSWERED,
         Err(fault) => tell_fault(alloc, &fault, err),
@@ -151,7 +182,7 @@ fn perform_by<R: Threads + Wait + Sync, O: Sink>(
 }
 
 /// The limits of a run, by the number of segments that was given.
-fn limits_of(segments: Option<u32>) -> Limits
+pub(crate) fn limits_of(segments: Option<u32>) -> Limits
     ensures { result.segments ≡ limit_of segments }
 {
     match segments {
@@ -161,20 +192,21 @@ fn limits_of(segments: Option<u32>) -> Limits
 }
 
 /// Writes what is said of a command line, and answers the status.
-fn tell_command_line<O: Sink, E: Sink>(fault: &CliFault, out: &mut O, err: &mut E) -> u8
+pub(crate) fn tell_command_line<O: Sink, E: Sink>(fault: &CliFault, out: &mut O, err: &mut E) -> u8
     requires out { (O.state out.old).failed < u64.MAX }
     requires err { (E.state err.old).failed < u64.MAX }
     ensures { TellsLine O.state E.state out.old out.new err.old err.new fault.now result }
 {
     match fault {
         CliFault::Unknown => tell(err, b"overlay: unknown command\n", NOT_ACCEPTED),
+        CliFault::CoveredEdges => tell(err, COVERED_EDGES, NOT_ACCEPTED),
         CliFault::Help(text) => show(out, text.as_bytes()),
         CliFault::Refused(text) => tell(err, text.as_bytes(), NOT_ACCEPTED),
         CliFault::Memory => tell_no_memory(err),
     }
 }
 
-fn tell_file<E: Sink>(fault: LoadFault, text: &[u8], err: &mut E) -> u8
+pub(crate) fn tell_file<E: Sink>(fault: LoadFault, text: &[u8], err: &mut E) -> u8
     requires { (E.state err.old).failed < u64.MAX }
     ensures { TellsFile (E.state err.old) (E.state err.new) fault text.now result }
 {
@@ -196,7 +228,7 @@ fn tell_fault<E: Sink>(alloc: Global, fault: &RunFault, err: &mut E) -> u8
 }
 
 /// Writes the report, and answers 0, or 1 where it can't be written.
-fn show_report<E: Sink>(alloc: Global, report: &Report<Global>, err: &mut E) -> u8
+pub(crate) fn show_report<E: Sink>(alloc: Global, report: &Report<Global>, err: &mut E) -> u8
     requires { (E.state err.old).failed < u64.MAX }
     ensures { ShowsReport (E.state err.old) (E.state err.new) report.now result }
 {
@@ -206,7 +238,7 @@ fn show_report<E: Sink>(alloc: Global, report: &Report<Global>, err: &mut E) -> 
     }
 }
 
-fn tell_no_memory<E: Sink>(err: &mut E) -> u8
+pub(crate) fn tell_no_memory<E: Sink>(err: &mut E) -> u8
     requires { (E.state err.old).failed < u64.MAX }
     ensures { TellsMemory (E.state err.old) (E.state err.new) result }
 {
@@ -214,7 +246,7 @@ fn tell_no_memory<E: Sink>(err: &mut E) -> u8
 }
 
 /// Writes a line, and answers the status. The status stays where the line can't be written.
-fn tell<E: Sink>(err: &mut E, text: &[u8], answer: u8) -> u8
+pub(crate) fn tell<E: Sink>(err: &mut E, text: &[u8], answer: u8) -> u8
     requires { (E.state err.old).failed < u64.MAX }
     ensures status { result ≡ answer }
     ensures sent { IsSent (E.state err.old) (E.state err.new) text.now }
@@ -224,7 +256,7 @@ fn tell<E: Sink>(err: &mut E, text: &[u8], answer: u8) -> u8
 }
 
 /// Writes a text, and answers 0, or 1 where it can't be written.
-fn show<S: Sink>(sink: &mut S, text: &[u8]) -> u8
+pub(crate) fn show<S: Sink>(sink: &mut S, text: &[u8]) -> u8
     requires { (S.state sink.old).failed < u64.MAX }
     ensures { Shows (S.state sink.old) (S.state sink.new) text.now result }
 {

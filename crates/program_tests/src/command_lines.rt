@@ -8,6 +8,22 @@ use std::sync::Wait;
 use std::test::Fail;
 use std::thread::Threads;
 
+/// The rows of the two squares.
+const SQUARES_FACES: &str =
+    "24\t1\t\tMULTIPOLYGON (((0 0, 4 0, 4 2, 2 2, 2 4, 0 4, 0 0)))\n8\t1\t1\tMULTIPOLYGON (((2 2, 4 2, 4 4, 2 4, 2 2)))\n24\t\t1\tMULTIPOLYGON (((2 4, 4 4, 4 2, 6 2, 6 6, 2 6, 2 4)))\n";
+
+/// On one tile.
+const SQUARES_FACES_REPORT: &str =
+    "segments 4 4\nfeatures 1 1\nhot 10\nrecords 20\nedges 12\nrows 3\nids 4\ntiles 1\nremade 0\ntile 0 10 20\n";
+
+/// The one row of the first square, alone and beside two layers that have none.
+const SQUARE_ALONE: &str = "32\t1\tMULTIPOLYGON (((0 0, 4 0, 4 4, 0 4, 0 0)))\n";
+
+const SQUARE_OF_THREE: &str = "32\t\t1\t\tMULTIPOLYGON (((0 0, 4 0, 4 4, 0 4, 0 0)))\n";
+
+const WHOLE_FACE: &str =
+    "576460752303423488\t1\tMULTIPOLYGON (((-268435456 -268435456, 268435456 -268435456, 268435456 268435456, -268435456 268435456, -268435456 -268435456)))\n";
+
 /// How the parser begins what it says of a line.
 const PARSER: Words = Words::Begins("error: ");
 
@@ -215,6 +231,233 @@ fn is_answered<R: Threads + Wait + Sync>(
     let (words, status, out, err) = case;
     let outcome = driven(rt, alloc, words, (4000, 4000))?;
     Ok(is_outcome(&outcome, status, Words::Text(out), err))
+}
+
+/// Command lines of `faces`.
+const FACES: [Case; 29] = [
+    (
+        &["faces", "square", "other"],
+        0,
+        SQUARES_FACES,
+        Words::Text(""),
+    ),
+    (
+        &[
+            "faces",
+            "square",
+            "other",
+            "--tile=16",
+            "--workers=2",
+            "--report",
+        ],
+        0,
+        SQUARES_FACES,
+        Words::Text(SQUARES_FACES_REPORT),
+    ),
+    // Options may stand between the layers.
+    (
+        &["faces", "square", "--tile", "16", "other", "--segments=8"],
+        0,
+        SQUARES_FACES,
+        Words::Text(""),
+    ),
+    (&["faces", "square"], 0, SQUARE_ALONE, Words::Text("")),
+    (
+        &["faces", "nothing", "square", "empty"],
+        0,
+        SQUARE_OF_THREE,
+        Words::Text(""),
+    ),
+    (&["faces", "nothing"], 0, "", Words::Text("")),
+    // A side that is given stays as it is; where none is, one that fits is taken.
+    (&["faces", "whole"], 0, WHOLE_FACE, Words::Text("")),
+    (
+        &["faces", "whole", "--tile=262144"],
+        3,
+        "",
+        Words::Text("overlay: 8 too many tiles: 4198401\n"),
+    ),
+    // All files are read before a layer or the plan is looked at.
+    (
+        &["faces", "none"],
+        1,
+        "",
+        Words::Text("overlay: A: cannot read\n"),
+    ),
+    (
+        &["faces", "decimal", "square", "none", "--tile=15"],
+        1,
+        "",
+        Words::Text("overlay: C: cannot read\n"),
+    ),
+    (
+        &["faces", "decimal", "other", "--tile=15", "--workers=0"],
+        3,
+        "",
+        Words::Text("overlay: 6 bad tile side\n"),
+    ),
+    (
+        &["faces", "decimal", "other", "--workers=0"],
+        3,
+        "",
+        Words::Text("overlay: 7 bad number of workers\n"),
+    ),
+    (
+        &["faces", "square", "cut", "--segments=1"],
+        3,
+        "",
+        Words::Text("overlay: B: 1 syntax at 13\n"),
+    ),
+    (
+        &["faces", "square", "nothing", "open"],
+        3,
+        "",
+        Words::Text("overlay: C: 4 open ring at 9\n"),
+    ),
+    (
+        &["faces", "square", "other", "--segments=7"],
+        3,
+        "",
+        Words::Text("overlay: 5 too many segments: 8\n"),
+    ),
+    (
+        &["faces", "square", "other", "square", "--segments=11"],
+        3,
+        "",
+        Words::Text("overlay: 5 too many segments: 12\n"),
+    ),
+    // Many layers by their letters, to the 25th one.
+    (
+        &[
+            "faces", "empty", "empty", "empty", "empty", "empty", "empty", "empty", "empty",
+            "empty", "empty", "empty", "empty", "empty", "empty", "empty", "empty", "empty",
+            "empty", "empty", "empty", "empty", "empty", "empty", "empty", "none",
+        ],
+        1,
+        "",
+        Words::Text("overlay: Y: cannot read\n"),
+    ),
+    (&["faces"], 2, "", PARSER),
+    (&["faces", "--report"], 2, "", PARSER),
+    (&["faces", "square", "--side", "16"], 2, "", PARSER),
+    (&["faces", "square", "--tile=x"], 2, "", PARSER),
+    (&["faces", "square", "--workers="], 2, "", PARSER),
+    (&["faces", "square", "--segments=0"], 2, "", PARSER),
+    (&["faces", "square", "--segments=4294967296"], 2, "", PARSER),
+    // The word stands before all others, and is written so.
+    (
+        &["Faces", "square", "other"],
+        2,
+        "",
+        Words::Text("overlay: unknown command\n"),
+    ),
+    (
+        &["face", "square", "other"],
+        2,
+        "",
+        Words::Text("overlay: unknown command\n"),
+    ),
+    (
+        &["--tile=16", "faces", "square", "other"],
+        2,
+        "",
+        Words::Text("overlay: unknown command\n"),
+    ),
+    (
+        &["faces", "square", "square", "faces"],
+        1,
+        "",
+        Words::Text("overlay: C: cannot read\n"),
+    ),
+    (
+        &["union", "faces", "square"],
+        1,
+        "",
+        Words::Text("overlay: A: cannot read\n"),
+    ),
+];
+
+/// A command line of `faces` over so many files, with an option behind so many of them where it isn't the last one.
+fn over_many<'a>(
+    alloc: Global,
+    name: &'a str,
+    count: u32,
+    option_at: u32,
+) -> Result<Vec<&'a str>, NoMemory> {
+    let mut words = Vec::new(alloc);
+    words.push("faces")?;
+    for number in 0..count {
+        if number == option_at {
+            words.push("--tile=16")?;
+        }
+        words.push(name)?;
+    }
+    Ok(words)
+}
+
+/// The name of a file, how many times it stands, behind how many of these an option does, the exit status and the line.
+type Many = (&'static str, u32, u32, u8, Words);
+
+const MANY: [Many; 7] = [
+    ("empty", 64, 100, 0, Words::Text("")),
+    ("empty", 64, 32, 0, Words::Text("")),
+    ("none", 64, 100, 1, Words::Text("overlay: A: cannot read\n")),
+    (
+        "empty",
+        65,
+        64,
+        2,
+        Words::Text("overlay: more than 64 layers\n"),
+    ),
+    (
+        "none",
+        65,
+        1,
+        2,
+        Words::Text("overlay: more than 64 layers\n"),
+    ),
+    (
+        "empty",
+        100,
+        50,
+        2,
+        Words::Text("overlay: more than 64 layers\n"),
+    ),
+    ("empty", 65, 100, 2, PARSER),
+];
+
+/// Whether a command line over many files is answered so, with no output.
+fn is_answered_over_many<R: Threads + Wait + Sync>(
+    rt: &R,
+    alloc: Global,
+    many: Many,
+) -> Result<bool, NoMemory> {
+    let (name, count, option_at, status, err) = many;
+    let words = over_many(alloc, name, count, option_at)?;
+    let outcome = driven(rt, alloc, &words, (4000, 4000))?;
+    Ok(is_outcome(&outcome, status, Words::Text(""), err))
+}
+
+#[test]
+fn answers_lines_of_many_layers(rt: HostRuntime) -> Result<(), Fail> {
+    for many in MANY {
+        assert!(rt;
+            is_answered_over_many(&rt, rt.alloc(), many)?,
+            "{} {} {}",
+            many.0,
+            many.1,
+            many.2
+        );
+    }
+    Ok(())
+}
+
+#[test]
+fn answers_command_lines_of_faces(rt: HostRuntime) -> Result<(), Fail> {
+    for case in FACES {
+        assert!(rt; is_answered(&rt, rt.alloc(), case)?, "{:?}", case.0);
+    }
+    Ok(())
 }
 
 #[test]

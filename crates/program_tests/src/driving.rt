@@ -9,9 +9,14 @@ use std::sync::Wait;
 use std::thread::Threads;
 
 /// Files in memory, by name.
-const TEXTS: [(&str, &str); 15] = [
+const TEXTS: [(&str, &str); 16] = [
     ("square", SQUARE),
     ("other", OTHER),
+    // Both squares in one layer.
+    (
+        "overlap",
+        "POLYGON ((0 0, 4 0, 4 4, 0 4, 0 0))\nPOLYGON ((2 2, 6 2, 6 6, 2 6, 2 2))\n",
+    ),
     ("nothing", ""),
     ("empty", "polygon empty"),
     ("decimal", "POLYGON ((0 0, 1.5 0, 0 1, 0 0))"),

@@ -5,6 +5,8 @@
 #[cfg(test)]
 mod command_lines;
 #[cfg(test)]
+mod covered_layers;
+#[cfg(test)]
 mod driving;
 #[cfg(test)]
 mod refusals;

@@ -14,7 +14,7 @@ const HELP: &str =
 Usage: overlay [OPTIONS] <command> <A> <B>
 
 Arguments:
-  <command>  What to compute: union, intersection, difference, symdifference or edges
+  <command>  What to compute: union, intersection, difference, symdifference, edges or faces
   <A>        The first layer's file: POLYGON and MULTIPOLYGON texts
   <B>        The second layer's file
 
@@ -23,17 +23,68 @@ Options:
       --workers <N>   The number of threads at work, 1 to 64 [default: 4]
       --segments <N>  The most segments of both layers together, 1 to 4294967295 [default: 1048576]
       --report        Prints the numbers of the run to standard error
+      --covered       For an operation: a point lies in a layer where one of its features at least covers it
   -h, --help          Print help
 
 union, intersection, difference and symdifference print the result of that operation on the two
 layers as one MULTIPOLYGON text.
 edges prints a line `x1 y1 x2 y2 countA countB` for each edge of both layers after rounding.
+faces, which stands before all other words, takes 1 to 64 layers, and prints a line for each set of
+their features (polygon texts, numbered from 1) that covers some points together: twice the area, the
+numbers of each layer's features, and the points as one MULTIPOLYGON text, with tabs between.
 
 A layer is a text of POLYGON and MULTIPOLYGON geometries, at most 268435456 bytes long, with whole
-coordinates from -268435456 to 268435456, in grid units. Both layers together have at most 1048576
+coordinates from -268435456 to 268435456, in grid units. All layers together have at most 1048576
 segments, or as many as --segments says; a million take some 170 MB of memory. A layer is read by
 parity: a point lies in it where an odd number of its rings have the point inside, so polygons of one
-layer that overlap cancel each other there. /dev/stdin reads a layer from standard input.
+layer that overlap cancel each other there; faces reads each feature so, and features never cancel
+each other. /dev/stdin reads a layer from standard input.
+
+With --covered an operation reads each feature so too, and a point lies in a layer where one of its
+features at least covers it, so that features of one layer that overlap don't cancel each other.
+
+The tiles and the number of threads have no influence on the text. Where no side of a tile is given
+it is 262144, or where that gives more than 65536 tiles the least power of two that doesn't.
+
+Exit status: 0 answered, 1 a file, the output or memory failed, 2 command line not accepted,
+3 input refused.
+
+Example: overlay intersection parcels.wkt zones.wkt > common.wkt
+";
+
+/// What help prints of faces.
+const FACES_HELP: &str =
+    "Overlays two polygon layers on the integer grid, exactly and with proved rounding.
+
+Usage: overlay [OPTIONS] <command> <LAYER>...
+
+Arguments:
+  <command>   What to compute: union, intersection, difference, symdifference, edges or faces
+  <LAYER>...  The layers' files, 64 at most: POLYGON and MULTIPOLYGON texts
+
+Options:
+      --tile <N>      The side of a tile, in grid units, 16 to 33554432 [default: 262144, or what fits]
+      --workers <N>   The number of threads at work, 1 to 64 [default: 4]
+      --segments <N>  The most segments of all layers together, 1 to 4294967295 [default: 1048576]
+      --report        Prints the numbers of the run to standard error
+  -h, --help          Print help
+
+union, intersection, difference and symdifference print the result of that operation on the two
+layers as one MULTIPOLYGON text.
+edges prints a line `x1 y1 x2 y2 countA countB` for each edge of both layers after rounding.
+faces, which stands before all other words, takes 1 to 64 layers, and prints a line for each set of
+their features (polygon texts, numbered from 1) that covers some points together: twice the area, the
+numbers of each layer's features, and the points as one MULTIPOLYGON text, with tabs between.
+
+A layer is a text of POLYGON and MULTIPOLYGON geometries, at most 268435456 bytes long, with whole
+coordinates from -268435456 to 268435456, in grid units. All layers together have at most 1048576
+segments, or as many as --segments says; a million take some 170 MB of memory. A layer is read by
+parity: a point lies in it where an odd number of its rings have the point inside, so polygons of one
+layer that overlap cancel each other there; faces reads each feature so, and features never cancel
+each other. /dev/stdin reads a layer from standard input.
+
+With --covered an operation reads each feature so too, and a point lies in a layer where one of its
+features at least covers it, so that features of one layer that overlap don't cancel each other.
 
 The tiles and the number of threads have no influence on the text. Where no side of a tile is given
 it is 262144, or where that gives more than 65536 tiles the least power of two that doesn't.
@@ -48,8 +99,37 @@ const FAILED: Words = Words::Text("overlay: 11 write failed\n");
 
 const NOTHING: Words = Words::Text("");
 
-const SMALL: [Small; 8] = [
+const SMALL: [Small; 13] = [
     (&["--help"], (4000, 4000), 0, Words::Text(HELP), NOTHING),
+    (
+        &["faces", "--help"],
+        (4000, 4000),
+        0,
+        Words::Text(FACES_HELP),
+        NOTHING,
+    ),
+    (
+        &["faces", "--help"],
+        (10, 4000),
+        1,
+        Words::Text("Overlays t"),
+        NOTHING,
+    ),
+    (&["faces", "square", "other"], (0, 4000), 1, NOTHING, FAILED),
+    (
+        &["faces", "square", "other", "--report"],
+        (5, 4000),
+        1,
+        Words::Text("24\t1\t"),
+        FAILED,
+    ),
+    (
+        &["faces", "square", "--report"],
+        (4000, 0),
+        1,
+        Words::Text("32\t1\tMULTIPOLYGON (((0 0, 4 0, 4 4, 0 4, 0 0)))\n"),
+        NOTHING,
+    ),
     (
         &["--help"],
         (10, 4000),

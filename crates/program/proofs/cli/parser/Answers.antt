@@ -13,11 +13,12 @@ returns-clause-shape c =
     let four = c.in_ok-arg-4.ensures.shape c.number_arg-tile.ensures.number.own.local ∙ ap₂ with_rule three c.number_arg-tile.ensures.rule in
     let five = c.in_ok-arg-5.ensures.shape c.workers_arg-workers.ensures.number.own.local ∙ ap₂ with_rule four c.workers_arg-workers.ensures.rule in
     let six = c.in_ok-arg-6.ensures.shape c.number_arg-segments.ensures.number.own.local ∙ ap₂ with_rule five c.number_arg-segments.ensures.rule in
-    IfOk-weaker c.arg-7.result _ _ (λ r h. h.shape c.flag_arg-report.ensures.flag.local ∙ ap₂ with_rule six c.flag_arg-report.ensures.rule) c.arg-7.ensures
+    let seven = c.in_ok-arg-7.ensures.shape c.flag_arg-report.ensures.flag.local ∙ ap₂ with_rule six c.flag_arg-report.ensures.rule in
+    IfOk-weaker c.arg-8.result _ _ (λ r h. h.shape c.flag_arg-covered.ensures.flag.local ∙ ap₂ with_rule seven c.flag_arg-covered.ensures.rule) c.arg-8.ensures
 
 pub returns-clause-chain : goal.returns-clause-chain
 returns-clause-chain c =
-    IfOk-weaker c.arg-7.result _ _ (λ r h. record {
+    IfOk-weaker c.arg-8.result _ _ (λ r h. record {
       start = c.described.result;
       word = c.word_arg-word.result;
       a = c.file_arg-a.result;
@@ -26,7 +27,8 @@ returns-clause-chain c =
       workers = c.workers_arg-workers.result;
       segments = c.number_arg-segments.result;
       report = c.flag_arg-report.result;
-      chain = (_, c.in_ok-arg.ensures, (_, c.in_ok-arg-2.ensures, (_, c.in_ok-arg-3.ensures, (_, c.in_ok-arg-4.ensures, (_, c.in_ok-arg-5.ensures, (_, c.in_ok-arg-6.ensures, (_, h, refl)))))));
+      covered = c.flag_arg-covered.result;
+      chain = (_, c.in_ok-arg.ensures, (_, c.in_ok-arg-2.ensures, (_, c.in_ok-arg-3.ensures, (_, c.in_ok-arg-4.ensures, (_, c.in_ok-arg-5.ensures, (_, c.in_ok-arg-6.ensures, (_, c.in_ok-arg-7.ensures, (_, h, refl))))))));
       no_args = c.described.ensures.empty.0;
       no_groups = c.described.ensures.empty.1;
       no_globals = c.described.ensures.local;
@@ -39,4 +41,5 @@ returns-clause-chain c =
       workers_default = c.workers_arg-workers.ensures.default;
       is_segments = c.number_arg-segments.ensures.number;
       is_report = c.flag_arg-report.ensures.flag;
-    }) c.arg-7.ensures
+      is_covered = c.flag_arg-covered.ensures.flag;
+    }) c.arg-8.ensures

@@ -1,14 +1,23 @@
-use Rattle.std.proofs.Common.{inr, refl}
+use Rattle.std.proofs.Common.{◌∙◌, inr, sym}
+use Rattle.program.proofs.AskedReading.{done_as_covered, done_by_parity}
 use Rattle.program.proofs.program.answer.Goals as goal
 
-pub returns-in-Ok-perform : goal.returns-in-Ok-perform
-returns-in-Ok-perform g c =
-    inr (c.as_slice.result.now, c.as_slice-2.result.now, c.perform.result, c.perform.ensures, rw (c.in-Ok-perform.is, c.if-asked.true) c.show_report.ensures)
-
-pub returns-in-Ok-2 : goal.returns-in-Ok-2
-returns-in-Ok-2 g c =
-    inr (c.as_slice.result.now, c.as_slice-2.result.now, c.perform.result, c.perform.ensures, rw (c.in-Ok-2.is, c.if-asked.false) (refl, refl))
+pub returns-in-Some : goal.returns-in-Some
+returns-in-Some g c =
+    inr (
+      c.deref.result.now,
+      c.deref-in-Some.result.now,
+      done_as_covered g.O.Sink.state g.E.Sink.state c.args.out.now c.answer_covered.new.out c.args.err.now c.answer_covered.new.err c.args.asked.now
+          c.deref.result.now c.deref-in-Some.result.now c.in-Some.op c.answer_covered.result
+          (sym c.operation_covered.ensures ∙ c.in-Some.is) c.answer_covered.ensures,
+    )
 
 pub returns : goal.returns
 returns g c =
-    inr (c.as_slice.result.now, c.as_slice-2.result.now, c.perform.result, c.perform.ensures, rw c.in-Err-perform.is c.tell_fault.ensures)
+    inr (
+      c.deref-in-None.result.now,
+      c.deref-in-None-2.result.now,
+      done_by_parity g.O.Sink.state g.E.Sink.state c.args.out.now c.answer_by_parity.new.out c.args.err.now c.answer_by_parity.new.err c.args.asked.now
+          c.deref-in-None.result.now c.deref-in-None-2.result.now c.answer_by_parity.result
+          (sym c.operation_covered.ensures ∙ c.in-None.is) c.answer_by_parity.ensures,
+    )

@@ -1,0 +1,24 @@
+-- What is done with two layers, by how they are to be read.
+use Rattle.std.proofs.Common.{◌≡◌, ℕ, List, Option, Some, None, subst, sym}
+use Rattle.std.specs.Prelude.{MatchOption}
+use Rattle.geom.specs.declared.op.Op.{Op}
+use Rattle.engine.specs.Sinks.{SinkState}
+use Rattle.program.specs.CommandLine.{operation_covered}
+use Rattle.program.specs.Program.{DoesByParity, DoesCovered, DoesOn}
+use Rattle.program.specs.declared.asked.Request.{Request}
+
+-- an operation on layers that are read as covered is asked for, and done
+pub done_as_covered : {O E : Type 0} (out_state : O → SinkState) (err_state : E → SinkState) (out out' : O) (err err' : E) (request : Request) (a b : List ℕ) (op : Op) (status : ℕ)
+    → operation_covered request.command request.covered ≡ Some op → DoesCovered out_state err_state out out' err err' request a b op status
+    → DoesOn out_state err_state out out' err err' request a b status
+done_as_covered out_state err_state out out' err err' request a b op status e done =
+    subst (λ (o : Option Op). MatchOption o (DoesByParity out_state err_state out out' err err' request a b status)
+    (λ op'. DoesCovered out_state err_state out out' err err' request a b op' status)) (sym e) done
+
+-- none is asked for, and both layers are run by parity
+pub done_by_parity : {O E : Type 0} (out_state : O → SinkState) (err_state : E → SinkState) (out out' : O) (err err' : E) (request : Request) (a b : List ℕ) (status : ℕ)
+    → operation_covered request.command request.covered ≡ None → DoesByParity out_state err_state out out' err err' request a b status
+    → DoesOn out_state err_state out out' err err' request a b status
+done_by_parity out_state err_state out out' err err' request a b status e done =
+    subst (λ (o : Option Op). MatchOption o (DoesByParity out_state err_state out out' err err' request a b status)
+    (λ op'. DoesCovered out_state err_state out out' err err' request a b op' status)) (sym e) done
