@@ -1,7 +1,7 @@
 /* Overlay of polygon layers on the integer grid, from memory to memory, in C99 and C++.
  *
  * A layer is a text of POLYGON and MULTIPOLYGON geometries with whole coordinates from -268435456 to 268435456, in grid units,
- * and has at most 268435456 bytes; both layers together have at most 1048576 segments, or as many as a call says. It needs no 0
+ * and has at most 268435456 bytes; all layers together have at most 1048576 segments, or as many as a call says. It needs no 0
  * at its end.
  *
  * Each call runs on the calling thread alone and keeps nothing, so any number of threads may call at once. It takes memory by
@@ -42,8 +42,8 @@ enum overlay_call {
 enum overlay_status {
     OVERLAY_ANSWERED = 0,
     OVERLAY_NO_MEMORY = 1,
-    OVERLAY_NO_CALL = 2, /* what to compute is none of the above */
-    OVERLAY_REFUSED = 3, /* a layer, the tile side, or the number of segments or tiles is refused */
+    OVERLAY_NO_CALL = 2, /* what to compute is none of the above; or faces of more than 64 layers */
+    OVERLAY_REFUSED = 3, /* a layer, the tile side, or the number of segments, tiles or ids is refused */
     OVERLAY_SMALL = 4    /* there is a text, and it doesn't fit into the room */
 };
 
@@ -56,11 +56,12 @@ enum overlay_refusal {
     OVERLAY_OPEN_RING = 4,         /* the last point isn't the first: detail is the byte where the ring opens */
     OVERLAY_TOO_MANY_SEGMENTS = 5, /* more than 1048576, or than was said: detail is their number */
     OVERLAY_BAD_SIDE = 6,          /* the tile side is not from 16 to 33554432 */
-    OVERLAY_TOO_MANY_TILES = 8,    /* more than 65536 over the box of both layers: detail is their number */
-    OVERLAY_OUT_OF_MEMORY = 10     /* with OVERLAY_NO_MEMORY alone */
+    OVERLAY_TOO_MANY_TILES = 8,    /* more than 65536 over the box of all layers: detail is their number */
+    OVERLAY_OUT_OF_MEMORY = 10,    /* with OVERLAY_NO_MEMORY alone */
+    OVERLAY_TOO_MANY_IDS = 12      /* of faces: all rows together have more than was said; detail is their number */
 };
 
-/* What is refused. */
+/* What is refused of two layers. Of faces it is the number of a layer, from 0 on, or the count of layers for the run. */
 enum overlay_part {
     OVERLAY_LAYER_A = 0, /* the first layer */
     OVERLAY_LAYER_B = 1, /* the second layer */
@@ -73,7 +74,7 @@ enum overlay_part {
 /* What a call answers. It has the caller's room, and all fields are written. Fields that don't belong to the status are 0. */
 struct overlay_answer {
     uint64_t length; /* OVERLAY_ANSWERED, OVERLAY_SMALL: of the text, in bytes */
-    uint64_t detail; /* OVERLAY_REFUSED: a byte of the layer, counted from 0, or a number of segments or tiles */
+    uint64_t detail; /* OVERLAY_REFUSED: a byte of the layer, counted from 0, or a number of segments, tiles or ids */
     uint32_t status; /* how the call ended: an overlay_status */
     uint32_t number; /* OVERLAY_REFUSED, OVERLAY_NO_MEMORY: why, an overlay_refusal */
     uint32_t part;   /* OVERLAY_REFUSED, OVERLAY_NO_MEMORY: what, an overlay_part */
@@ -101,7 +102,41 @@ void overlay_fill_within(uint32_t call, uint32_t side, uint32_t segments, const 
 void overlay_size(uint32_t call, uint32_t side, const uint8_t *a, size_t a_length, const uint8_t *b, size_t b_length,
                   struct overlay_answer *answer);
 
-/* Puts the words of an answer without a text at the beginning of a room, as `A: 1 syntax at 16`, without a 0 or a line feed, and
+/* A layer of faces: its text, and how many bytes that has. */
+struct overlay_layer {
+    const uint8_t *bytes; /* not null */
+    size_t length;
+};
+
+/* The most layers that faces may have. */
+#define OVERLAY_MOST_LAYERS 64
+
+/* What the program says where no limit is given: the most segments of all layers together, and the most ids of all rows together. */
+#define OVERLAY_SEGMENTS 1048576u
+#define OVERLAY_IDS 268435456u
+
+/* Puts the text of the faces of layers at the beginning of a room, and tells its length: which features cover which part of the
+ * plane, a line for each set of features that covers some points together. A line is twice the area of these points, the numbers
+ * of the features of each layer, counted from 1 in the layer's text and with commas between, and the points as a MULTIPOLYGON, all
+ * with tabs between. The features of one layer may overlap. Room, status and text are as of overlay_fill.
+ *
+ *   side                the side of a tile, in grid units, 16 to 33554432; it has no influence on the text
+ *   segments            the most segments of all layers together; it has no influence on the text
+ *   ids                 the most features that all lines may name together, which bounds the text; it has no influence on it
+ *   layers, count       the layers, and how many there are: at most OVERLAY_MOST_LAYERS
+ *   room, room_length   where the text goes, and how many bytes there may be written
+ *   answer              where the answer goes; not null */
+void overlay_faces_fill(uint32_t side, uint32_t segments, uint64_t ids, const struct overlay_layer *layers, size_t count,
+                        uint8_t *room, size_t room_length, struct overlay_answer *answer);
+
+/* Tells the length alone (never OVERLAY_SMALL), of the same parameters, as overlay_size does. */
+void overlay_faces_size(uint32_t side, uint32_t segments, uint64_t ids, const struct overlay_layer *layers, size_t count,
+                        struct overlay_answer *answer);
+
+/* Returns the tile side for these layers, as overlay_side does for two, or 262144 where they are more than OVERLAY_MOST_LAYERS. */
+uint32_t overlay_faces_side(const struct overlay_layer *layers, size_t count);
+
+/* Puts the words of an answer of two layers without a text at the beginning of a room, as `A: 1 syntax at 16`, without a 0 or a line feed, and
  * returns their length in bytes: 0 where they don't fit, where memory ran out, or where there is nothing to say.
  *
  *   answer              what a call answered; it is read alone
@@ -112,7 +147,7 @@ size_t overlay_words(const struct overlay_answer *answer, uint8_t *room, size_t 
  * doesn't give too many tiles, or 262144 where a layer is refused. Both layers, with their lengths in bytes, are read once. */
 uint32_t overlay_side(const uint8_t *a, size_t a_length, const uint8_t *b, size_t b_length);
 
-/* Returns the version of these calls: 1. It changes where a call, a number or the struct does, not with each release. */
+/* Returns the version of these calls: 2. It changes where a call, a number or the struct does, not with each release. */
 uint32_t overlay_version(void);
 
 #ifdef __cplusplus

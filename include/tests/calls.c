@@ -118,9 +118,10 @@ static void refusals(void) {
     }
 }
 
+static const char *const WHOLE =
+    "POLYGON ((-268435456 -268435456, 268435456 -268435456, 268435456 268435456, -268435456 268435456, -268435456 -268435456))";
+
 static void sides(void) {
-    static const char *const WHOLE =
-        "POLYGON ((-268435456 -268435456, 268435456 -268435456, 268435456 268435456, -268435456 268435456, -268435456 -268435456))";
     check(overlay_side((const uint8_t *)SQUARE, strlen(SQUARE), (const uint8_t *)"", 0) == 262144, "side of a square");
     check(overlay_side((const uint8_t *)SQUARE, strlen(SQUARE), (const uint8_t *)WHOLE, strlen(WHOLE)) == 4194304, "side of the whole range");
     check(overlay_side((const uint8_t *)"POLYGON", 7, (const uint8_t *)WHOLE, strlen(WHOLE)) == 262144, "side of what is refused");
@@ -228,6 +229,149 @@ static void memory(void) {
     check(refused > 0, "memory was refused");
 }
 
+static struct overlay_answer faces_filled(uint32_t side, uint32_t segments, uint64_t ids, const char *const *texts, size_t count,
+                                          uint8_t *room, size_t length) {
+    struct overlay_layer layers[OVERLAY_MOST_LAYERS + 1];
+    for (size_t at = 0; at < count; at++)
+        layers[at] = (struct overlay_layer){copied(texts[at], strlen(texts[at])), strlen(texts[at])};
+    struct overlay_answer answer = {9, 9, 9, 9, 9}, size = {9, 9, 9, 9, 9};
+    overlay_faces_fill(side, segments, ids, layers, count, room, length, &answer);
+    overlay_faces_size(side, segments, ids, layers, count, &size);
+    if (answer.status == OVERLAY_SMALL)
+        check(size.status == OVERLAY_ANSWERED && size.length == answer.length, "size of faces that don't fit");
+    else
+        check(size.status == answer.status && size.length == answer.length && size.detail == answer.detail
+                  && size.number == answer.number && size.part == answer.part, "size and fill of faces answer the same");
+    for (size_t at = 0; at < count; at++)
+        free((void *)layers[at].bytes);
+    return answer;
+}
+
+static struct overlay_answer usual_faces(const char *const *texts, size_t count, uint8_t *room, size_t length) {
+    return faces_filled(SIDE, OVERLAY_SEGMENTS, OVERLAY_IDS, texts, count, room, length);
+}
+
+static const char *const FACES =
+    "24\t1\t\tMULTIPOLYGON (((0 0, 4 0, 4 2, 2 2, 2 4, 0 4, 0 0)))\n"
+    "8\t1\t1\tMULTIPOLYGON (((2 2, 4 2, 4 4, 2 4, 2 2)))\n"
+    "24\t\t1\tMULTIPOLYGON (((2 4, 4 4, 4 2, 6 2, 6 6, 2 6, 2 4)))\n";
+
+/* The faces of two squares in rooms of every size near the text's; of no layers, and of one. */
+static void faces(void) {
+    const char *const both[] = {SQUARE, OTHER};
+    size_t wanted = strlen(FACES);
+    for (size_t length = 0; length < wanted + 3; length++) {
+        uint8_t *room = malloc(length ? length : 1);
+        memset(room, 0xA5, length ? length : 1);
+        struct overlay_answer answer = usual_faces(both, 2, room, length);
+        check(answer.length == wanted && !answer.detail && !answer.number && !answer.part, "fields of faces");
+        check(answer.status == (length < wanted ? OVERLAY_SMALL : OVERLAY_ANSWERED), "status of faces");
+        size_t from = length < wanted ? 0 : wanted;
+        check(!from || !memcmp(room, FACES, wanted), "the text of faces");
+        for (size_t at = from; at < length; at++)
+            check(room[at] == 0xA5, "the room behind the faces");
+        free(room);
+    }
+    uint8_t room[200];
+    struct overlay_answer none = usual_faces(both, 0, room, sizeof room);
+    check(none.status == OVERLAY_ANSWERED && none.length == 0, "faces of no layers");
+    struct overlay_answer one = usual_faces(both, 1, room, sizeof room);
+    static const char LINE[] = "32\t1\tMULTIPOLYGON (((0 0, 4 0, 4 4, 0 4, 0 0)))\n";
+    check(one.status == OVERLAY_ANSWERED && one.length == sizeof LINE - 1 && !memcmp(room, LINE, sizeof LINE - 1), "faces of one layer");
+}
+
+/* 64 layers have faces and 65 have none. The last layer is the one that is named. */
+static void many_layers(void) {
+    const char *texts[OVERLAY_MOST_LAYERS + 1];
+    struct overlay_layer layers[OVERLAY_MOST_LAYERS + 1];
+    for (size_t at = 0; at <= OVERLAY_MOST_LAYERS; at++) {
+        texts[at] = SQUARE;
+        layers[at] = (struct overlay_layer){(const uint8_t *)SQUARE, strlen(SQUARE)};
+    }
+    uint8_t room[300];
+    struct overlay_answer most = usual_faces(texts, OVERLAY_MOST_LAYERS, room, sizeof room);
+    check(most.status == OVERLAY_ANSWERED && room[0] == '3' && room[most.length - 1] == '\n', "faces of 64 layers");
+    struct overlay_answer more = usual_faces(texts, OVERLAY_MOST_LAYERS + 1, room, sizeof room);
+    check(more.status == OVERLAY_NO_CALL && !more.length && !more.detail && !more.number && !more.part, "faces of 65 layers");
+    texts[OVERLAY_MOST_LAYERS - 1] = "POLYGON ((0 0";
+    struct overlay_answer last = usual_faces(texts, OVERLAY_MOST_LAYERS, room, sizeof room);
+    check(last.status == OVERLAY_REFUSED && last.number == OVERLAY_SYNTAX && last.part == 63 && last.detail == 13, "the last layer is refused");
+    check(overlay_faces_side(layers, OVERLAY_MOST_LAYERS) == 262144, "side of 64 layers");
+    layers[0] = (struct overlay_layer){(const uint8_t *)WHOLE, strlen(WHOLE)};
+    check(overlay_faces_side(layers, OVERLAY_MOST_LAYERS) == 4194304, "side of the whole range");
+    check(overlay_faces_side(layers, OVERLAY_MOST_LAYERS + 1) == 262144, "side of 65 layers");
+}
+
+static void faces_refusals(void) {
+    const char *const both[] = {SQUARE, OTHER}, *const broken[] = {SQUARE, "", "POLYGON ((0 0, 1 0, 1 1, 0 1))"};
+    const char *const broad[] = {"POLYGON ((0 0, 4096 0, 4096 4095, 0 4095, 0 0))"};
+    uint8_t room[400];
+    struct overlay_answer got = faces_filled(15, OVERLAY_SEGMENTS, OVERLAY_IDS, broken, 3, room, sizeof room);
+    check(got.status == OVERLAY_REFUSED && got.number == OVERLAY_BAD_SIDE && got.part == 3 && !got.detail, "side of faces");
+    got = usual_faces(broken, 3, room, sizeof room);
+    check(got.status == OVERLAY_REFUSED && got.number == OVERLAY_OPEN_RING && got.part == 2 && got.detail == 9, "open ring of faces");
+    got = faces_filled(SIDE, 7, OVERLAY_IDS, both, 2, room, sizeof room);
+    check(got.status == OVERLAY_REFUSED && got.number == OVERLAY_TOO_MANY_SEGMENTS && got.part == 2 && got.detail == 8, "segments of faces");
+    got = faces_filled(16, OVERLAY_SEGMENTS, OVERLAY_IDS, broad, 1, room, sizeof room);
+    check(got.status == OVERLAY_REFUSED && got.number == OVERLAY_TOO_MANY_TILES && got.part == 1 && got.detail == 65792, "tiles of faces");
+    got = faces_filled(SIDE, 8, 3, both, 2, room, sizeof room);
+    check(got.status == OVERLAY_REFUSED && got.number == OVERLAY_TOO_MANY_IDS && got.part == 2 && got.detail == 4, "ids of faces");
+    got = faces_filled(SIDE, 8, 4, both, 2, room, sizeof room);
+    check(got.status == OVERLAY_ANSWERED && got.length == strlen(FACES) && !memcmp(room, FACES, got.length), "as many ids as there are");
+}
+
+/* From some request on memory is refused: the room is as it was, or there are the faces. */
+static void faces_memory(void) {
+    const struct overlay_layer layers[] = {{(const uint8_t *)SQUARE, strlen(SQUARE)}, {(const uint8_t *)OTHER, strlen(OTHER)}};
+    uint8_t room[1000];
+    long refused = 0;
+    for (long count = 0; count < 100000; count++) {
+        struct overlay_answer answer;
+        memset(room, 7, sizeof room);
+        granted = count;
+        overlay_faces_fill(SIDE, OVERLAY_SEGMENTS, OVERLAY_IDS, layers, 2, room, sizeof room, &answer);
+        granted = -1;
+        if (answer.status == OVERLAY_ANSWERED) {
+            check(answer.length == strlen(FACES) && !memcmp(room, FACES, answer.length), "faces with just enough memory");
+            break;
+        }
+        check(answer.status == OVERLAY_NO_MEMORY && answer.number == OVERLAY_OUT_OF_MEMORY && answer.part == 2, "no memory for faces");
+        check(answer.length == 0 && answer.detail == 0 && room[0] == 7 && room[999] == 7, "a room that is as it was");
+        refused++;
+    }
+    check(refused > 0, "memory for faces was refused");
+}
+
+/* Broken texts, cut anywhere, each in a block of its own length. */
+static void broken_faces(void) {
+    static const char TEXT[] = "POLYGON ((0 0, 40 0, 40 40, 0 40, 0 0), (3 3, 9 4, 5 8, 3 3)) MULTIPOLYGON EMPTY";
+    static const char LETTERS[] = " (),0123456789-POLYGNEMTUI.\n";
+    long counts[5] = {0};
+    for (int round = 0; round < 10000; round++) {
+        struct overlay_layer layers[4];
+        size_t count = (size_t)rand() % 5, space = (size_t)rand() % 900;
+        for (size_t at = 0; at < count; at++) {
+            size_t length = rand() % 5 ? sizeof TEXT - 1 : (size_t)rand() % sizeof TEXT;
+            uint8_t *bytes = copied(TEXT, length);
+            for (int edits = rand() % 3; edits && length; edits--)
+                bytes[(size_t)rand() % length] = (uint8_t)LETTERS[(size_t)rand() % (sizeof LETTERS - 1)];
+            layers[at] = (struct overlay_layer){bytes, length};
+        }
+        uint8_t *room = malloc(space ? space : 1);
+        struct overlay_answer answer = {9, 9, 9, 9, 9};
+        overlay_faces_fill(rand() % 4 ? 16 + (uint32_t)(rand() % 1000) : (uint32_t)(rand() % 20), OVERLAY_SEGMENTS, (uint64_t)(rand() % 40), layers, count,
+                           room, space, &answer);
+        check(answer.status < 5 && answer.part <= count, "a status of faces");
+        check(answer.status != OVERLAY_ANSWERED || !answer.length || (answer.length <= space && room[answer.length - 1] == '\n'), "lines");
+        counts[answer.status < 5 ? answer.status : 0]++;
+        for (size_t at = 0; at < count; at++)
+            free((void *)layers[at].bytes);
+        free(room);
+    }
+    check(counts[0] && !counts[1] && !counts[2] && counts[3] && counts[4], "broken layers of every kind");
+    printf("faces of broken layers 10000: answered %ld, refused %ld, too small %ld\n", counts[0], counts[3], counts[4]);
+}
+
 static char *read_file(const char *name) {
     FILE *file = fopen(name, "rb");
     if (!file)
@@ -259,7 +403,7 @@ static int print(char **words) {
 int main(int count, char **words) {
     if (count == 4)
         return print(words);
-    check(overlay_version() == 1, "the version");
+    check(overlay_version() == 2, "the version");
     names();
     rooms();
     refusals();
@@ -268,6 +412,11 @@ int main(int count, char **words) {
     large();
     broken();
     memory();
+    faces();
+    many_layers();
+    faces_refusals();
+    faces_memory();
+    broken_faces();
     printf("%ld failed\n", failures);
     return failures != 0;
 }

@@ -10,23 +10,35 @@ Layers are texts of POLYGON and MULTIPOLYGON geometries with whole coordinates, 
 The answer is of the first layer's type. A call runs on the calling thread, and the interpreter's lock is released meanwhile. The
 side of a tile, in grid units, has no influence on the answer; where none is given, one is taken that fits the layers. Both layers
 together may have as many segments as is said, 1,048,576 where nothing is; ten million take some 1.6 GB of memory.
+
+Which features cover what is told by `faces`, of one layer or of several. A feature is a geometry of a layer's text; in each layer
+they are numbered from 1:
+
+>>> for row in faces(parcels, zones):
+...     print(row.twice_area, row.ids, row.wkt)
+24 ((1,), ()) MULTIPOLYGON (((0 0, 4 0, 4 2, 2 2, 2 4, 0 4, 0 0)))
+8 ((1,), (1,)) MULTIPOLYGON (((2 2, 4 2, 4 4, 2 4, 2 2)))
+24 ((), (1,)) MULTIPOLYGON (((2 4, 4 4, 4 2, 6 2, 6 6, 2 6, 2 4)))
 """
 
 from __future__ import annotations
 
 import ctypes
 import enum
-from typing import Optional, TypeVar, Union
+from typing import NamedTuple, Optional, Sequence, Tuple, TypeVar, Union
 
-from ._library import ANSWERED, NO_MEMORY, SMALL, Answer, library
+from ._library import ANSWERED, NO_CALL, NO_MEMORY, SMALL, Answer, Layer, library
 
 __all__ = [
     "Operation",
     "OutOfMemory",
     "Refusal",
     "Refused",
+    "Row",
     "difference",
     "edges",
+    "faces",
+    "faces_text",
     "intersection",
     "overlay",
     "symdifference",
@@ -37,6 +49,10 @@ __version__ = "1.0.0"
 
 # How many segments both layers together may have, where nothing is said.
 _SEGMENTS = 1_048_576
+
+# How many layers faces may have, and how many features all rows together.
+_LAYERS = 64
+_IDS = 268_435_456
 
 # A layer's text, and the answer's: str, or bytes and what has a buffer of bytes.
 Text = TypeVar("Text", str, bytes)
@@ -77,20 +93,21 @@ class Refusal(enum.IntEnum):
     TOO_MANY_SEGMENTS = 5
     BAD_SIDE = 6
     TOO_MANY_TILES = 8
+    TOO_MANY_IDS = 12
 
 
 # What the number beside a refusal tells.
 _HAVE_OFFSETS = (Refusal.SYNTAX, Refusal.NUMBER_RANGE, Refusal.SHORT_RING, Refusal.OPEN_RING)
-_HAVE_COUNTS = (Refusal.TOO_MANY_SEGMENTS, Refusal.TOO_MANY_TILES)
+_HAVE_COUNTS = (Refusal.TOO_MANY_SEGMENTS, Refusal.TOO_MANY_TILES, Refusal.TOO_MANY_IDS)
 
 
 class Refused(ValueError):
     """The input is refused.
 
     number: why, as the program prints it.
-    layer: "A" or "B", or None where it is not about one layer.
+    layer: "A" or "B", or what further layers of `faces` are called: "C" to "Z", and then "27" and on; None where it is not about one.
     offset: where in the layer, in bytes from 0, or None.
-    count: how many segments or tiles, or None.
+    count: how many segments, tiles or features of rows, or None.
 
     >>> try:
     ...     union("POLYGON ((0 0, 1.5 0, 0 1, 0 0))", "")
@@ -114,20 +131,48 @@ class OutOfMemory(MemoryError):
     """Memory ran out during the call."""
 
 
+class Row(NamedTuple):
+    """All points that just the same features cover: twice their area, in grid units; for each layer the numbers of these features,
+    from 1 and ascending; and the points as one MULTIPOLYGON text.
+
+    >>> Row(2, ((1,), ()), "MULTIPOLYGON (((0 0, 1 0, 1 1, 0 1, 0 0)))").twice_area / 2
+    1.0
+    """
+
+    twice_area: int
+    ids: Tuple[Tuple[int, ...], ...]
+    wkt: str
+
+
+# The part of an answer that is about the run, for the library's words.
+_RUN = 2
+
+
 def _words(answer: Answer) -> str:
+    """The words of an answer, without the layer."""
+    if answer.number == Refusal.TOO_MANY_IDS:
+        return f"{answer.number} too many ids: {answer.detail}"
     room = ctypes.create_string_buffer(64)
-    length: int = library.overlay_words(answer, room, len(room))
+    told = Answer(0, answer.detail, answer.status, answer.number, _RUN)
+    length: int = library.overlay_words(told, room, len(room))
     return room.raw[:length].decode("ascii")
 
 
-def _fault(answer: Answer) -> Union[Refused, OutOfMemory]:
+def _layer_name(number: int) -> str:
+    return chr(ord("A") + number) if number < 26 else str(number + 1)
+
+
+def _fault(answer: Answer, layers: int = 2) -> Union[Refused, OutOfMemory]:
+    """The exception of an answer to a call on so many layers."""
+    words = _words(answer)
     if answer.status == NO_MEMORY:
-        return OutOfMemory(_words(answer))
+        return OutOfMemory(words)
     number = Refusal(answer.number)
+    layer = _layer_name(answer.part) if answer.part < layers else None
     return Refused(
-        _words(answer),
+        f"{layer}: {words}" if layer else words,
         number,
-        ("A", "B", None)[answer.part],
+        layer,
         answer.detail if number in _HAVE_OFFSETS else None,
         answer.detail if number in _HAVE_COUNTS else None,
     )
@@ -224,3 +269,56 @@ def edges(a: Text, b: Union[str, bytes], side: Optional[int] = None, segments: i
     1 0 1 1 1 0
     """
     return overlay(Operation.EDGES, a, b, side, segments)
+
+
+def _faces(layers: Sequence[bytes], side: Optional[int], segments: int) -> bytes:
+    limit, count = _limit(segments), len(layers)
+    if count > _LAYERS:
+        raise ValueError(f"{count} layers, and there may be {_LAYERS}")
+    held = (Layer * count)(*(Layer(layer, len(layer)) for layer in layers))
+    number = library.overlay_faces_side(held, count) if side is None else _side_number(side)
+    answer = Answer()
+    # a guess: where it is too small, all is made again
+    size = 256 + 4 * sum(map(len, layers))
+    while True:
+        room = ctypes.create_string_buffer(size)
+        library.overlay_faces_fill(number, limit, _IDS, held, count, room, size, answer)
+        if answer.status == ANSWERED:
+            return ctypes.string_at(room, answer.length)
+        if answer.status == NO_CALL:
+            raise ValueError(f"the library has no call for {count} layers")
+        if answer.status != SMALL:
+            raise _fault(answer, count)
+        size = answer.length
+
+
+def faces_text(a: Text, *more: Union[str, bytes], side: Optional[int] = None, segments: int = _SEGMENTS) -> Text:
+    """Which features cover what, as the program writes it: a line for each set of features that covers some points together, with
+    twice the area, each layer's features, and the points, with tabs between.
+
+    >>> faces_text("POLYGON ((0 0, 4 0, 4 4, 0 4, 0 0)) POLYGON EMPTY", "POLYGON ((0 0, 4 0, 4 4, 0 4, 0 0))")
+    '32\\t1\\t1\\tMULTIPOLYGON (((0 0, 4 0, 4 4, 0 4, 0 0)))\\n'
+    >>> faces_text(b"POLYGON EMPTY")
+    b''
+    """
+    text = _faces([_bytes_of(layer) for layer in (a, *more)], side, segments)
+    return text.decode("ascii") if isinstance(a, str) else text
+
+
+def faces(a: Union[str, bytes], *more: Union[str, bytes], side: Optional[int] = None, segments: int = _SEGMENTS) -> "list[Row]":
+    """Which features cover what: a row for each set of features, of up to 64 layers, that covers some points together, in the order of
+    these sets. Features of one layer that overlap don't cancel one another.
+
+    >>> for row in faces("POLYGON ((0 0, 4 0, 4 4, 0 4, 0 0)) POLYGON ((2 0, 6 0, 6 4, 2 4, 2 0))"):
+    ...     print(row.twice_area, row.ids, row.wkt)
+    16 ((1,),) MULTIPOLYGON (((0 0, 2 0, 2 4, 0 4, 0 0)))
+    16 ((1, 2),) MULTIPOLYGON (((2 0, 4 0, 4 4, 2 4, 2 0)))
+    16 ((2,),) MULTIPOLYGON (((4 0, 6 0, 6 4, 4 4, 4 0)))
+    """
+    text = _faces([_bytes_of(layer) for layer in (a, *more)], side, segments).decode("ascii")
+    return [_row(line) for line in text.splitlines()]
+
+
+def _row(line: str) -> Row:
+    twice, *ids, wkt = line.split("\t")
+    return Row(int(twice), tuple(tuple(map(int, numbers.split(","))) if numbers else () for numbers in ids), wkt)

@@ -8,7 +8,7 @@ import os
 ANSWERED, NO_MEMORY, NO_CALL, REFUSED, SMALL = range(5)
 
 # The version of the calls that this package makes.
-CALLS = 1
+CALLS = 2
 
 
 class Answer(ctypes.Structure):
@@ -28,6 +28,12 @@ class Answer(ctypes.Structure):
     ]
 
 
+class Layer(ctypes.Structure):
+    """A layer's text and its length."""
+
+    _fields_ = [("bytes", ctypes.c_char_p), ("length", ctypes.c_size_t)]
+
+
 def _opened() -> ctypes.CDLL:
     opened = ctypes.CDLL(os.path.join(os.path.dirname(os.path.abspath(__file__)), "liboverlay.so"))
     text = [ctypes.c_char_p, ctypes.c_size_t]
@@ -37,6 +43,12 @@ def _opened() -> ctypes.CDLL:
     opened.overlay_words.restype = ctypes.c_size_t
     opened.overlay_side.argtypes = [*text, *text]
     opened.overlay_side.restype = ctypes.c_uint32
+    layers = (ctypes.POINTER(Layer), ctypes.c_size_t)
+    limits = (ctypes.c_uint32, ctypes.c_uint32, ctypes.c_uint64)
+    opened.overlay_faces_fill.argtypes = [*limits, *layers, *text, ctypes.POINTER(Answer)]
+    opened.overlay_faces_fill.restype = None
+    opened.overlay_faces_side.argtypes = [*layers]
+    opened.overlay_faces_side.restype = ctypes.c_uint32
     opened.overlay_version.argtypes = []
     opened.overlay_version.restype = ctypes.c_uint32
     if opened.overlay_version() != CALLS:

@@ -31,8 +31,8 @@ def asked(word, a, b, **plan):
     return getattr(overlay_grid, word)(a, b, **plan)
 
 
-def printed(word, a, b):
-    return subprocess.run([PROGRAM, word, a, b], capture_output=True, check=True).stdout
+def printed(word, *names):
+    return subprocess.run([PROGRAM, word, *names], capture_output=True, check=True).stdout
 
 
 @pytest.mark.parametrize("word", WORKED)
@@ -61,9 +61,9 @@ def test_bytes_of_any_kind():
 
 def test_examples():
     told = doctest.testmod(overlay_grid)
-    assert told.failed == 0 and told.attempted >= 12
+    assert told.failed == 0 and told.attempted >= 17
     page = doctest.testfile(os.path.join(os.path.dirname(HERE), "README.md"), module_relative=False)
-    assert page.failed == 0 and page.attempted == 5
+    assert page.failed == 0 and page.attempted == 6
 
 
 def test_empty_layers():
@@ -175,3 +175,97 @@ def test_threads():
     for thread in threads:
         thread.join()
     assert different == []
+
+
+THIRD = "POLYGON EMPTY\nPOLYGON ((3 3, 9 3, 9 9, 3 9, 3 3))"
+ROWS = [
+    (24, ((1,), (), ()), "MULTIPOLYGON (((0 0, 4 0, 4 2, 2 2, 2 4, 0 4, 0 0)))"),
+    (6, ((1,), (1,), ()), "MULTIPOLYGON (((2 2, 4 2, 4 3, 3 3, 3 4, 2 4, 2 2)))"),
+    (2, ((1,), (1,), (2,)), "MULTIPOLYGON (((3 3, 4 3, 4 4, 3 4, 3 3)))"),
+    (8, ((), (1,), ()), "MULTIPOLYGON (((2 4, 3 4, 3 6, 2 6, 2 4)), ((4 2, 6 2, 6 3, 4 3, 4 2)))"),
+    (16, ((), (1,), (2,)), "MULTIPOLYGON (((3 4, 4 4, 4 3, 6 3, 6 6, 3 6, 3 4)))"),
+    (54, ((), (), (2,)), "MULTIPOLYGON (((3 6, 6 6, 6 3, 9 3, 9 9, 3 9, 3 6)))"),
+]
+
+
+def line_of(row):
+    twice, ids, wkt = row
+    return "\t".join([str(twice), *(",".join(map(str, layer)) for layer in ids), wkt]) + "\n"
+
+
+def test_faces_worked():
+    layers = (SQUARE, OTHER, THIRD)
+    assert overlay_grid.faces(*layers) == ROWS
+    assert overlay_grid.faces(*(layer.encode() for layer in layers), side=16) == ROWS
+    assert overlay_grid.faces_text(*layers) == "".join(map(line_of, ROWS))
+    assert overlay_grid.faces_text(SQUARE.encode(), bytearray(OTHER.encode()), THIRD) == "".join(map(line_of, ROWS)).encode()
+    assert all(isinstance(row, overlay_grid.Row) for row in overlay_grid.faces(*layers))
+    assert sum(row.twice_area for row in overlay_grid.faces(*layers)) == 110
+
+
+def test_faces_of_one_layer():
+    assert overlay_grid.faces(SQUARE + " " + OTHER.lower()) == [
+        (24, ((1,),), "MULTIPOLYGON (((0 0, 4 0, 4 2, 2 2, 2 4, 0 4, 0 0)))"),
+        (8, ((1, 2),), WORKED["intersection"].rstrip()),
+        (24, ((2,),), "MULTIPOLYGON (((2 4, 4 4, 4 2, 6 2, 6 6, 2 6, 2 4)))"),
+    ]
+    assert overlay_grid.faces("") == overlay_grid.faces("polygon empty", "") == []
+    assert overlay_grid.faces_text("") == "" and overlay_grid.faces_text(b"", "") == b""
+
+
+def test_faces_of_many_features():
+    """The text is longer than what is guessed: 40 squares in one another."""
+    many = " ".join(f"POLYGON (({k} {k}, {99 - k} {k}, {99 - k} {99 - k}, {k} {99 - k}, {k} {k}))" for k in range(40))
+    rows = overlay_grid.faces(many)
+    assert [row.ids for row in rows] == [(tuple(range(1, k + 1)),) for k in range(1, 41)]
+    small = "POLYGON ((0 0, 1 0, 0 1, 0 0))"
+    assert overlay_grid.faces(*[small] * 64) == [(1, ((1,),) * 64, "MULTIPOLYGON (((0 0, 1 0, 0 1, 0 0)))")]
+
+
+REFUSED_FACES = [
+    (("", "POLYGON ((0 0", ""), {}, ("B: 1 syntax at 13", 1, "B", 13, None)),
+    (("POLYGON ((0 0",), {}, ("A: 1 syntax at 13", 1, "A", 13, None)),
+    (("", "", "POLYGON ((0 0, 1 0, 0 1))"), {}, ("C: 3 short ring at 9", 3, "C", 9, None)),
+    ((*[""] * 26, "POLYGON ((0 0, 1 0, 1 1, 0 1))"), {}, ("27: 4 open ring at 9", 4, "27", 9, None)),
+    ((SQUARE, OTHER, THIRD), {"segments": 11}, ("5 too many segments: 12", 5, None, None, 12)),
+    ((SQUARE,), {"segments": 3}, ("5 too many segments: 4", 5, None, None, 4)),
+    (("",), {"side": 15}, ("6 bad tile side", 6, None, None, None)),
+    (("", "", ""), {"side": -1}, ("6 bad tile side", 6, None, None, None)),
+]
+
+
+@pytest.mark.parametrize("call", [overlay_grid.faces, overlay_grid.faces_text])
+@pytest.mark.parametrize("layers, plan, want", REFUSED_FACES, ids=[row[2][0] for row in REFUSED_FACES])
+def test_faces_refused(call, layers, plan, want):
+    with pytest.raises(overlay_grid.Refused) as fault:
+        call(*layers, **plan)
+    told = fault.value
+    assert (str(told), told.number, told.layer, told.offset, told.count) == want
+
+
+def test_too_many_ids():
+    """23,171 squares in one another have 23,171 * 23,172 / 2 numbers in their rows."""
+    many = " ".join(f"POLYGON (({k} {k}, {99999 - k} {k}, {99999 - k} {99999 - k}, {k} {99999 - k}, {k} {k}))" for k in range(23_171))
+    with pytest.raises(overlay_grid.Refused) as fault:
+        overlay_grid.faces_text(many)
+    told = fault.value
+    assert (str(told), told.number, told.layer, told.count) == ("12 too many ids: 268459206", Refusal.TOO_MANY_IDS, None, 268459206)
+
+
+def test_no_more_layers_than_there_may_be():
+    with pytest.raises(ValueError, match="65 layers, and there may be 64"):
+        overlay_grid.faces(*[""] * 65)
+    with pytest.raises(TypeError):
+        overlay_grid.faces(SQUARE, None)
+
+
+@pytest.mark.parametrize("seed", range(60))
+def test_faces_of_pairs(seed, tmp_path):
+    layers = pairs.pair(seed)[: 1 + seed % 3 % 2] + pairs.pair(seed + 1000)[: 1 + seed % 2]
+    names = [str(tmp_path / f"{number}.wkt") for number in range(len(layers))]
+    for name, layer in zip(names, layers):
+        with open(name, "w") as file:
+            file.write(layer)
+    text = overlay_grid.faces_text(*layers, side=(None, 300, 1000)[seed % 3])
+    assert text.encode() == printed("faces", *names)
+    assert "".join(map(line_of, overlay_grid.faces(*layers))) == text

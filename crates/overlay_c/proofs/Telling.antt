@@ -1,6 +1,6 @@
 -- From what the engine and the copy say to what a call for C says.
-use Rattle.std.proofs.Common.{◌≡◌, ◌∙◌, ◌<◌, ◌⊎◌, inl, inr, ℕ, List, length, subst, sym, ap, refl}
-use Rattle.std.specs.Prelude.{MatchResult, Option, Result, Ok, Err, None, Some}
+use Rattle.std.proofs.Common.{◌≡◌, inl, inr, ℕ, List, length, subst, sym, refl}
+use Rattle.std.specs.Prelude.{MatchResult, Option, Result, Ok, Err, None, Some, Vec}
 use Rattle.geom.specs.declared.edge.Counted.{Counted}
 use Rattle.geom.specs.declared.fault.RunFault.{RunFault}
 use Rattle.geom.specs.declared.op.Op.{Op}
@@ -11,7 +11,7 @@ use Rattle.engine.specs.Runs.{AreEdgesWrittenWithin, DeclinesWithin, ReportsWith
 use Rattle.overlay_c.specs.declared.answer.OverlayAnswer.{OverlayAnswer}
 use Rattle.overlay_c.specs.declared.made.Task.{Task}
 use Rattle.overlay_c.specs.declared.made.Task.TheVariants.{Apply, Edges}
-use Rattle.overlay_c.specs.Boundary.{Fills, filled, small, Holds, IsAsked, IsMade, IsTextOf, plain}
+use Rattle.overlay_c.specs.Boundary.{Fills, IsAsked, IsMade, IsPut, Sizes, filled, none, none_filled, plain, sized, small}
 
 made : {M : Type 0} (limit : ℕ) (task : Task) (side : ℕ) (a b text : List ℕ) (counted : List Counted) (report : Report M) → ReportsWithin limit (alone side) a b counted report → IsAsked task counted text → IsMade limit task side a b text
 made limit task side a b text counted report r asked = record {
@@ -35,15 +35,21 @@ pub edges_made : {M : Type 0} (limit : ℕ) (side : ℕ) (a b : List ℕ) (r : R
 edges_made limit side a b (Ok m) h = made limit Edges side a b m.text.items h.counted m.report h.reports h.text_is
 edges_made limit side a b (Err f) h = h
 
-pub put_fills : (limit call side : ℕ) (a b text shown before after : List ℕ) (answer : OverlayAnswer) → shown ≡ text → IsTextOf limit call side a b text
-    → ((Holds shown before after × (answer ≡ plain 0 (length shown))) ⊎ ((length before < length shown) × (after ≡ before) × (answer ≡ plain 4 (length shown))))
-    → Fills limit call side a b before after answer
-put_fills limit call side a b text shown before after answer e is (inl (h, told)) =
-    subst (λ (w : OverlayAnswer). Fills limit call side a b before after w) (sym (told ∙ ap (λ (t : List ℕ). plain 0 (length t)) e))
-    (filled text is (subst (λ (t : List ℕ). Holds t before after) e h))
-put_fills limit call side a b text shown before after answer e is (inr (long, same, told)) =
-    subst (λ (w : OverlayAnswer). Fills limit call side a b before after w) (sym (told ∙ ap (λ (t : List ℕ). plain 4 (length t)) e))
-    (small text is (subst (λ (t : List ℕ). length before < length t) e long) same)
+-- ---- what was made or not, its size or where it was put
+module _ (IsText : List ℕ → Type 0) (IsFailure : OverlayAnswer → Type 0) where
+  put_fills : (text before after : List ℕ) (answer : OverlayAnswer) → IsText text → IsPut text before after answer → Fills IsText IsFailure before after answer
+  put_fills text before after answer is (inl (h, told)) = subst (λ (w : OverlayAnswer). Fills IsText IsFailure before after w) (sym told) (filled text is h)
+  put_fills text before after answer is (inr (long, same, told)) = subst (λ (w : OverlayAnswer). Fills IsText IsFailure before after w) (sym told) (small text is long same)
+
+  pub sizes : {M : Type 0} (made : Result (Vec ℕ M) OverlayAnswer) (answer : OverlayAnswer) → MatchResult made (λ text. IsText text.items) IsFailure
+      → MatchResult made (λ text. answer ≡ plain 0 (length text.items)) (λ told. answer ≡ told) → Sizes IsText IsFailure answer
+  sizes (Ok text) answer is h = subst (λ (w : OverlayAnswer). Sizes IsText IsFailure w) (sym h) (sized text.items is)
+  sizes (Err told) answer is h = subst (λ (w : OverlayAnswer). Sizes IsText IsFailure w) (sym h) (none is)
+
+  pub fills : {M : Type 0} (made : Result (Vec ℕ M) OverlayAnswer) (before after : List ℕ) (answer : OverlayAnswer) → MatchResult made (λ text. IsText text.items) IsFailure
+      → MatchResult made (λ text. IsPut text.items before after answer) (λ told. (answer ≡ told) × (after ≡ before)) → Fills IsText IsFailure before after answer
+  fills (Ok text) before after answer is h = put_fills text.items before after answer is h
+  fills (Err told) before after answer is h = subst (λ (w : OverlayAnswer). Fills IsText IsFailure before after w) (sym h.0) (none_filled is h.1)
 
 pub none_of : {X : Type 0} (r : Option X) → ((x : X) → r ≡ Some x → ⊥) → r ≡ None
 none_of None h = refl

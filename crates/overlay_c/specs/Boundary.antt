@@ -1,5 +1,5 @@
 -- What the calls for C answer (own).
-use Rattle.std.specs.Prelude.{◌≡◌, ◌≤◌, ◌<◌, ◌==◌, ℕ, List, [], ◌++◌, codes, length, drop, Option, Some, None, if◌then◌else◌}
+use Rattle.std.specs.Prelude.{◌≡◌, ◌≤◌, ◌<◌, ◌==◌, ◌⊎◌, ℕ, List, [], ◌++◌, codes, length, drop, Option, Some, None, if◌then◌else◌}
 use Rattle.geom.specs.declared.op.Op.TheVariants.{Union, Intersection, Difference, SymDifference}
 use Rattle.geom.specs.declared.edge.Counted.{Counted}
 use Rattle.geom.specs.declared.fault.Fault.{Fault}
@@ -71,21 +71,26 @@ pub record Holds (text before after : List ℕ) : Type 0 where
   pub fits : length text ≤ length before
   pub holds : after ≡ text ++ drop (length text) before
 
+-- the text was put into the room, or it doesn't fit, and the room is as before
+abbrev pub IsPut : (text before after : List ℕ) → OverlayAnswer → Type 0
+IsPut text before after answer =
+    (Holds text before after × (answer ≡ plain 0 (length text))) ⊎ ((length before < length text) × (after ≡ before) × (answer ≡ plain 4 (length text)))
+
 -- why there is no text
 pub data Fails (limit call side : ℕ) (a b : List ℕ) : OverlayAnswer → Type 0 where
   no_call : task_from call ≡ None → Fails limit call side a b (plain 2 0)
   declined : (task : Task) → task_from call ≡ Some task → (part : Part) (fault : Fault) → DeclinesWithin limit (alone side) a b part fault → Fails limit call side a b (fault_answer part fault)
 
--- how a call for the size of a text ends
-pub data Sizes (limit call side : ℕ) (a b : List ℕ) : OverlayAnswer → Type 0 where
-  sized : (text : List ℕ) → IsTextOf limit call side a b text → Sizes limit call side a b (plain 0 (length text))
-  none : {answer : OverlayAnswer} → Fails limit call side a b answer → Sizes limit call side a b answer
+-- how a call for the size of a text ends, by which text is asked for and why there may be none
+pub data Sizes (IsText : List ℕ → Type 0) (IsFailure : OverlayAnswer → Type 0) : OverlayAnswer → Type 0 where
+  sized : (text : List ℕ) → IsText text → Sizes IsText IsFailure (plain 0 (length text))
+  none : {answer : OverlayAnswer} → IsFailure answer → Sizes IsText IsFailure answer
 
 -- how a call that fills a room ends: only an answer changes the room, and nothing behind its text
-pub data Fills (limit call side : ℕ) (a b before after : List ℕ) : OverlayAnswer → Type 0 where
-  filled : (text : List ℕ) → IsTextOf limit call side a b text → Holds text before after → Fills limit call side a b before after (plain 0 (length text))
-  small : (text : List ℕ) → IsTextOf limit call side a b text → length before < length text → after ≡ before → Fills limit call side a b before after (plain 4 (length text))
-  none : {answer : OverlayAnswer} → Fails limit call side a b answer → after ≡ before → Fills limit call side a b before after answer
+pub data Fills (IsText : List ℕ → Type 0) (IsFailure : OverlayAnswer → Type 0) (before after : List ℕ) : OverlayAnswer → Type 0 where
+  filled : (text : List ℕ) → IsText text → Holds text before after → Fills IsText IsFailure before after (plain 0 (length text))
+  small : (text : List ℕ) → IsText text → length before < length text → after ≡ before → Fills IsText IsFailure before after (plain 4 (length text))
+  none_filled : {answer : OverlayAnswer} → IsFailure answer → after ≡ before → Fills IsText IsFailure before after answer
 
 -- ---- words
 

@@ -1,1 +1,2 @@
 pub mod Boundary
+pub mod Faces

@@ -1,17 +1,20 @@
 //! The calls that C sees.
 
-ghost use Rattle.std.specs.Prelude.{◌≡◌, ◌≤◌, ◌<◌, ◌⊎◌, length};
+ghost use Rattle.std.specs.Prelude.{◌≡◌, length};
 ghost use Rattle.engine.specs.Fitting.{IsFittingSide};
 ghost use Rattle.engine.specs.Runs.{segment_limit};
-ghost use Rattle.overlay_c.specs.Boundary.{Fills, Holds, Sizes, plain};
+ghost use Rattle.overlay_c.specs.Boundary.{Fails, Fills, IsTextOf, Sizes};
+ghost use Rattle.overlay_c.specs.Faces.{AreFacesMade, FailsFaces, IsSideOver, texts_in};
 
-use crate::answer::{ANSWERED, OverlayAnswer, SMALL, plain_answer};
+use crate::answer::OverlayAnswer;
+use crate::faces::{OverlayLayer, faces_text, side_over};
 use crate::made::text_of;
-use engine::{Limits, fitting_side};
+use crate::room::{fill_with, size_of};
+use engine::{FacesLimits, Limits, fitting_side};
 use std::alloc::Global;
 
 /// The version of these calls and of what they answer.
-const VERSION: u32 = 1;
+const VERSION: u32 = 2;
 
 /// How many bytes the text takes: that of an operation (0 union, 1 intersection, 2 difference, 3 symmetric difference) on
 /// two layer texts, or of their rounded edges (4), over tiles of this side. The text is made for that, and let go.
@@ -24,19 +27,9 @@ pub extern "C" fn overlay_size(
     b: &[u8],
     answer: &mut OverlayAnswer,
 )
-    ensures { Sizes segment_limit call side a.now b.now answer.new }
+    ensures { Sizes (IsTextOf segment_limit call side a.now b.now) (Fails segment_limit call side a.now b.now) answer.new }
 {
-    *answer = size(alloc, call, side, Limits::default(), a, b);
-}
-
-/// How many bytes the text within a limit of segments takes.
-fn size(alloc: Global, call: u32, side: u32, limits: Limits, a: &[u8], b: &[u8]) -> OverlayAnswer
-    ensures { Sizes limits.segments call side a.now b.now result }
-{
-    match text_of(alloc, call, side, limits, a, b) {
-        Ok(text) => whole(&text),
-        Err(told) => told,
-    }
+    *answer = size_of(text_of(alloc, call, side, Limits::default(), a, b));
 }
 
 /// Puts that text at the beginning of a room, where it fits. Nothing else in the room changes.
@@ -51,9 +44,9 @@ pub extern "C" fn overlay_fill(
     answer: &mut OverlayAnswer,
 )
     ensures size { length room.new ≡ length room.old }
-    ensures fills { Fills segment_limit call side a.now b.now room.old room.new answer.new }
+    ensures fills { Fills (IsTextOf segment_limit call side a.now b.now) (Fails segment_limit call side a.now b.now) room.old room.new answer.new }
 {
-    *answer = fill(alloc, call, side, Limits::default(), a, b, room);
+    *answer = fill_with(text_of(alloc, call, side, Limits::default(), a, b), room);
 }
 
 /// The same for layers that together have at most so many segments, where `overlay_fill` has its own limit.
@@ -69,47 +62,9 @@ pub extern "C" fn overlay_fill_within(
     answer: &mut OverlayAnswer,
 )
     ensures size { length room.new ≡ length room.old }
-    ensures fills { Fills segments call side a.now b.now room.old room.new answer.new }
+    ensures fills { Fills (IsTextOf segments call side a.now b.now) (Fails segments call side a.now b.now) room.old room.new answer.new }
 {
-    *answer = fill(alloc, call, side, Limits { segments }, a, b, room);
-}
-
-/// Puts the text within a limit of segments at the beginning of a room, where it fits.
-fn fill(
-    alloc: Global,
-    call: u32,
-    side: u32,
-    limits: Limits,
-    a: &[u8],
-    b: &[u8],
-    room: &mut [u8],
-) -> OverlayAnswer
-    ensures size { length room.new ≡ length room.old }
-    ensures fills { Fills limits.segments call side a.now b.now room.old room.new result }
-{
-    match text_of(alloc, call, side, limits, a, b) {
-        Ok(text) => put(&text, room),
-        Err(told) => told,
-    }
-}
-
-/// Puts a text at the beginning of a room, where it fits.
-fn put(text: &[u8], room: &mut [u8]) -> OverlayAnswer
-    ensures size { length room.new ≡ length room.old }
-    ensures put { (Holds text.now room.old room.new × (result ≡ plain 0 (length text.now))) ⊎ ((length room.old < length text.now) × (room.new ≡ room.old) × (result ≡ plain 4 (length text.now))) }
-{
-    if room.len() < text.len() {
-        return plain_answer(SMALL, text.len());
-    }
-    room[..text.len()].copy_from_slice(text);
-    whole(text)
-}
-
-/// The answer that there is this text.
-fn whole(text: &[u8]) -> OverlayAnswer
-    ensures { result ≡ plain 0 (length text.now) }
-{
-    plain_answer(ANSWERED, text.len())
+    *answer = fill_with(text_of(alloc, call, side, Limits { segments }, a, b), room);
 }
 
 /// The side of a tile that fits two layers: 262,144, or the least greater power of two that doesn't give too many tiles.
@@ -118,6 +73,49 @@ pub extern "C" fn overlay_side(a: &[u8], b: &[u8]) -> u32
     ensures { IsFittingSide a.now b.now result }
 {
     fitting_side(a, b)
+}
+
+/// How many bytes the text of the faces of up to 64 layers takes, over tiles of this side, where they have at most so many segments
+/// together, and all rows at most so many ids. The text is made for that, and let go.
+#[unsafe(no_mangle)]
+pub extern "C" fn overlay_faces_size(
+    alloc: Global,
+    side: u32,
+    segments: u32,
+    ids: u64,
+    layers: &[OverlayLayer],
+    answer: &mut OverlayAnswer,
+)
+    ensures { Sizes (AreFacesMade (record { segments = segments; ids = ids }) side (texts_in layers.now)) (FailsFaces (record { segments = segments; ids = ids }) side (texts_in layers.now)) answer.new }
+{
+    let limits = FacesLimits { segments, ids };
+    *answer = size_of(faces_text(alloc, side, limits, layers));
+}
+
+/// Puts that text at the beginning of a room, where it fits. Nothing else in the room changes.
+#[unsafe(no_mangle)]
+pub extern "C" fn overlay_faces_fill(
+    alloc: Global,
+    side: u32,
+    segments: u32,
+    ids: u64,
+    layers: &[OverlayLayer],
+    room: &mut [u8],
+    answer: &mut OverlayAnswer,
+)
+    ensures size { length room.new ≡ length room.old }
+    ensures fills { Fills (AreFacesMade (record { segments = segments; ids = ids }) side (texts_in layers.now)) (FailsFaces (record { segments = segments; ids = ids }) side (texts_in layers.now)) room.old room.new answer.new }
+{
+    let limits = FacesLimits { segments, ids };
+    *answer = fill_with(faces_text(alloc, side, limits, layers), room);
+}
+
+/// The side of a tile that fits up to 64 layers, as `overlay_side` says it, or 262,144 where they are more.
+#[unsafe(no_mangle)]
+pub extern "C" fn overlay_faces_side(layers: &[OverlayLayer]) -> u32
+    ensures { IsSideOver (texts_in layers.now) result }
+{
+    side_over(layers)
 }
 
 /// The version of these calls.

@@ -1,11 +1,17 @@
-//! The overlay for callers in C: two layer texts in memory, a text in a room of the caller's, on the calling thread.
+//! The overlay for callers in C: layer texts in memory, a text in a room of the caller's, on the calling thread.
 #![tactic(auto)]
 
 mod answer;
 mod calls;
+mod faces;
 mod made;
+mod room;
 mod words;
 
 pub use answer::OverlayAnswer;
-pub use calls::{overlay_fill, overlay_fill_within, overlay_side, overlay_size, overlay_version};
+pub use calls::{
+    overlay_faces_fill, overlay_faces_side, overlay_faces_size, overlay_fill, overlay_fill_within,
+    overlay_side, overlay_size, overlay_version,
+};
+pub use faces::OverlayLayer;
 pub use words::overlay_words;
