@@ -91,6 +91,12 @@ class Columns(Generic[C]):
         chosen = self.of_rings(rings)
         return replace(chosen, features=offsets(np.diff(chosen.features)[kept]), ids=self.ids[kept])
 
+    def among(self, ids: Numbers, there: Mask) -> Columns[C]:
+        """The same features among others without polygons: all their numbers, and which of them these here are."""
+        counts = np.zeros(len(ids), np.int64)
+        counts[there] = np.diff(self.features)
+        return replace(self, features=offsets(counts), ids=ids)
+
     def filled(self) -> Columns[C]:
         """The same without polygons that have no point."""
         empty = np.diff(self.rings[self.polygons]) == 0

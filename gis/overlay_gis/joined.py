@@ -1,4 +1,4 @@
-"""Two layers, or one, brought to one grid as texts: what every verb that runs the program begins with."""
+"""Layers brought to one grid as texts: what every verb that runs the program begins with."""
 
 from __future__ import annotations
 
@@ -15,8 +15,9 @@ from .faults import Fault, Refusal
 from .frame import Frame
 from .layers import Box, Kind, Source, Survey, common_system
 from .messages import say, warn
-from .program import DOUBT, PROGRAM, SEGMENTS, Asked, AskedLibrary, Text, asked, edges_of, memory, result_in
+from .program import DOUBT, FACES, PROGRAM, SEGMENTS, Asked, AskedLibrary, Text, asked, edges_of, memory, result_in, rows_of
 from .rings import Gridded, gridded
+from .rows import Rows
 from .stopping import unbroken
 from .systems import area_name, unit_name
 from .texts import checked, write_polygons
@@ -50,9 +51,28 @@ class Question:
             text = checked(text, PROGRAM)
         except Refusal as error:
             raise Fault(PROGRAM, f"its answer is no text: {DOUBT}") from error
-        if not text and (self.command != "edges" or any(layer.grid.segments for layer in self.layers)):
+        if not text and not self.may_be_nothing(report):
             raise Fault(PROGRAM, f"answered nothing, with status 0: {DOUBT}")
         return text, report
+
+    def may_be_nothing(self, report: dict[str, int]) -> bool:
+        """Whether the empty text can be the answer: where there are no segments, to `edges` and `faces`; and to `faces` that tells
+        no rows."""
+        if self.command not in ("edges", FACES):
+            return False
+        return not any(layer.grid.segments for layer in self.layers) or report.get("rows") == 0
+
+    def rows(self) -> Rows:
+        """The rows that the program answers to `faces`, of which it tells the number."""
+        text, report = self.answer()
+        rows = rows_of(text, len(self.layers))
+        wanted = [len(layer.grid.layer.ids) for layer in self.layers]
+        for held, count in zip(rows.members, wanted):
+            if held.places.min(initial=0) < 0 or held.places.max(initial=-1) >= count:
+                raise Fault(PROGRAM, f"its answer tells of a feature that no layer has: {DOUBT}")
+        if len(rows.twice) != report.get("rows", 0):
+            raise Fault(PROGRAM, f"has {len(rows.twice)} rows, and its report {report.get('rows', 'none')}: {DOUBT}")
+        return rows
 
 
 @dataclass(frozen=True)
@@ -66,12 +86,24 @@ class Joined:
     room: ExitStack
 
     def ask(self, command: str, layers: Sequence[Layer]) -> Question:
-        """Asks the program, which begins at once, on two layers, or on one and an empty one."""
-        first, second = (*(layer.text for layer in layers), self.none, self.none)[:2]
+        """Asks the program, which begins at once: for the faces of all these layers, or else on two layers, or on one and an empty
+        one."""
+        texts = [layer.text for layer in layers]
+        if command != FACES:
+            texts = (texts + [self.none, self.none])[:2]
         with unbroken():
-            begun = asked(command, first, second)
+            begun = asked(command, *texts, segments=sum(layer.grid.segments for layer in layers))
             self.room.enter_context(begun)
         return Question(command, layers, begun)
+
+    def united(self, shapes: Columns[Numbers]) -> Columns[Numbers]:
+        """The polygons of all points that some shapes on the grid cover, which don't overlap."""
+        with unbroken():
+            text = text_of("faces", shapes)
+            self.room.callback(text.file.close)
+            begun = asked("union", text, self.none, segments=len(shapes.x))
+            self.room.enter_context(begun)
+        return result_in(Question("union", [], begun).answer()[0])
 
     def parity(self, layer: Layer, union: Question) -> tuple[int, int]:
         """Twice the area of a layer as it is read, by parity and rounded, and how many segments were bent at most.
@@ -127,14 +159,9 @@ def surveyed(source: Source) -> Survey:
     return seen
 
 
-def on_grid(source: Source, seen: Survey, frame: Frame, dissolve: bool = False) -> Gridded:
-    """A layer on the grid; with `dissolve` its polygons are united before."""
-    if not dissolve:
-        return gridded(seen.sound, seen.area(), frame)
-    from .shapes import united  # GEOS is there for this alone
-
-    whole, area = united(source.name, seen.sound)
-    return gridded(whole, area, frame)
+def on_grid(seen: Survey, frame: Frame) -> Gridded:
+    """A layer on the grid, with all its features, also those without polygons."""
+    return gridded(seen.sound.among(seen.numbers, seen.kinds == Kind.SOUND), seen.area(), frame)
 
 
 def warn_of_rings(source: Source, grid: Gridded) -> None:
@@ -160,11 +187,18 @@ def tell_change(joined: Joined, layer: Layer, union: Question) -> None:
             f"its polygons have {area(before):,.10g} {square} in sum, and {area(parity):,.10g} by parity, "
             "which is how they are read: polygons overlap or cross themselves (overlay-gis check finds them, --dissolve unites them)",
         )
+    tell_moves(joined, layer, "before", parity, "after")
+
+
+def tell_moves(joined: Joined, layer: Layer, before: str, twice: int, after: str) -> None:
+    """Tells what moved, and two areas: the sum of all polygons' as they came, and what is twice another one on the grid."""
+    grid, square = layer.grid, area_name(joined.system)
     moved = f"{grid.moves.moved:,} of {grid.moves.vertices:,} vertices moved"
     if grid.moves.moved:
         unit = unit_name(joined.system)
         moved += f", by {grid.moves.mean:.3g} {unit} on average and {grid.moves.greatest:.3g} at most"
-    say(f"{name}: {moved}; area {grid.area:,.10g} {square} before, and {area(parity):,.10g} after")
+    areas = f"area {grid.area:,.10g} {square} {before}, and {joined.frame.area(twice):,.10g} {after}"
+    say(f"{layer.source.name}: {moved}; {areas}")
 
 
 def refuse_many(sources: Sequence[Source], grids: Sequence[Gridded]) -> None:
@@ -172,7 +206,7 @@ def refuse_many(sources: Sequence[Source], grids: Sequence[Gridded]) -> None:
     if sum(grid.segments for grid in grids) > SEGMENTS:
         raise Refusal(
             together(sources),
-            f"more than {SEGMENTS:,} segments, the limit of both layers together: clip them, and join the answers",
+            f"more than {SEGMENTS:,} segments, the limit of all layers together: clip them, and join the answers",
         )
 
 
@@ -190,16 +224,14 @@ def none() -> Text:
 
 
 @contextmanager
-def joined(
-    sources: Sequence[Source], unit: str | None, origin: str | None, system: str | None, dissolve: bool = False
-) -> Iterator[Joined]:
+def joined(sources: Sequence[Source], unit: str | None, origin: str | None, system: str | None) -> Iterator[Joined]:
     """The layers as texts on one grid, whose frame is told."""
     common = common_system(sources, system)
     surveys = [surveyed(source) for source in sources]
     frame = frames.chosen(together(sources), box_of(sources, surveys), common, *frames.asked_for(unit, origin))
     grids = []
-    for source, seen in zip(sources, surveys):
-        grids.append(on_grid(source, seen, frame, dissolve))
+    for seen in surveys:
+        grids.append(on_grid(seen, frame))
         seen.sound = NOTHING  # whose points would take room
     refuse_many(sources, grids)
     say(frame.told(common))
@@ -209,3 +241,10 @@ def joined(
             warn_of_rings(source, grid)
             layers.append(Layer(source, seen, grid, text_of(source.name, grid.layer)))
         yield Joined(frame, common, layers, none(), room)
+
+
+@contextmanager
+def alone(source: Source, seen: Survey, grid: Gridded, frame: Frame) -> Iterator[Joined]:
+    """One layer on the grid as a text."""
+    with ExitStack() as room:
+        yield Joined(frame, None, [Layer(source, seen, grid, text_of(source.name, grid.layer))], none(), room)

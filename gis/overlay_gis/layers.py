@@ -211,21 +211,20 @@ class Source:
         return None if held is None else bytes(held.ExportToWkb(ogr.wkbNDR))
 
     def values(self, names: Sequence[str], seen: Survey) -> list[tuple]:
-        """The values of these fields of the sound features."""
-        sound = (seen.kinds == Kind.SOUND).tolist()
+        """The values of these fields of all features."""
         if not names:
-            return [()] * sum(sound)
+            return [()] * seen.features
         self.layer.SetIgnoredFields(["OGR_GEOMETRY"])
         self.layer.ResetReading()
         try:
             unread: Iterator[ogr.Feature] = iter(self.layer.GetNextFeature, None)
-            features = followed(unread, f"reading {self.name}", len(sound))
+            features = followed(unread, f"reading {self.name}", seen.features)
             read = [(feature.GetFID(), tuple(map(feature.GetField, names))) for feature in features]
         except RuntimeError as error:
             raise Fault(self.name, without_name(error, self.path)) from error
         if [number for number, _ in read] != seen.numbers.tolist():
             raise Fault(self.name, "was changed while it was read")
-        return [values for (_, values), kept in zip(read, sound) if kept]
+        return [values for _, values in read]
 
 
 NO_KINDS = np.zeros(0, np.uint8)

@@ -8,7 +8,7 @@ each word and none for what a ring holds, has to be a text of polygons.
 from __future__ import annotations
 
 import re
-from dataclasses import dataclass
+from dataclasses import dataclass, replace
 from typing import Iterator
 
 import numpy as np
@@ -25,6 +25,7 @@ DIGITS = 9
 
 # A text without the points of its rings, which are R here; P is polygon, M is multipolygon, E is empty, X another word.
 WORDS = {b"polygon": b"P", b"multipolygon": b"M", b"empty": b"E"}
+NAMES = b"PM"
 BODY = rb"\(R(?:,R)*\)"
 LAYER = re.compile(rb"(?:[PM]E|P%b|M\(%b(?:,%b)*\))*" % (BODY, BODY, BODY))
 
@@ -116,6 +117,13 @@ def points_in(tokens: Tokens, inside: Mask) -> tuple[Numbers, Numbers] | None:
 
 def polygons_in(text: bytes, name: str) -> Columns[Numbers]:
     """The polygons of a layer text or of a result, each a feature."""
+    held = geometries_in(text, name)
+    count = len(held.polygons) - 1
+    return replace(held, features=np.arange(count + 1), ids=np.arange(1, count + 1))
+
+
+def geometries_in(text: bytes, name: str) -> Columns[Numbers]:
+    """The geometries of a layer text or of a result, each a feature, as the program numbers them."""
     tokens = tokens_of(text)
     opening, closing = tokens.rings()
     steps = np.zeros(len(tokens.kinds) + 1, np.int8)
@@ -132,13 +140,13 @@ def polygons_in(text: bytes, name: str) -> Columns[Numbers]:
         raise Refusal(name, f"has a point that is not two whole numbers of at most {DIGITS} digits")
     rings = np.flatnonzero(signs == RING)
     first = np.flatnonzero(signs[rings - 1] == OPENING)
-    count = len(first)
+    names = np.flatnonzero((signs == NAMES[0]) | (signs == NAMES[1]))
     return Columns(
         *points,
         offsets((closing - opening) // 3),
         np.append(first, len(rings)),
-        np.arange(count + 1),
-        np.arange(1, count + 1),
+        np.append(np.searchsorted(rings[first], names), len(first)),
+        np.arange(1, len(names) + 1),
     )
 
 

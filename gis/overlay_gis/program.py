@@ -12,24 +12,30 @@ from dataclasses import dataclass
 from pathlib import Path
 from subprocess import Popen
 from types import ModuleType
-from typing import BinaryIO
+from typing import BinaryIO, Sequence
 
 from .columns import Columns, Numbers
 from .faults import Fault, Refusal
 from .messages import during
 from .parsing import edge_rows, polygons_in
+from .rows import Rows, rows_in
 from .texts import RESULT, kind_of
 
 OPERATIONS = ("union", "intersection", "difference", "symdifference")
+FACES = "faces"
 
-# How many segments the program takes, in both layers together.
+# How many segments the program takes where no more are asked for, in all layers together.
 SEGMENTS = 1 << 20
 
 HINTS = {
     "0": "the layer is too large: clip it, and join the answers",
-    "5": f"the limit of both layers together is {SEGMENTS:,} segments: clip them, and join the answers",
+    "5": f"the limit of all layers together is {SEGMENTS:,} segments: clip them, and join the answers",
     "10": "there isn't enough memory",
+    "12": "so many features lie on one another that their numbers alone would fill the answer: clip the layers, and join the answers",
 }
+
+# How the program names its layers.
+LETTERS = "ABCDEFGHIJKLMNOPQRSTUVWXYZ"
 
 
 # How the program is told of, and what is said where its answer can't be one.
@@ -91,13 +97,14 @@ def held(file: BinaryIO) -> bytes:
 
 
 class Asked:
-    """The program at work on a command and two texts, whose answer is waited for; at the end of the context it has ended."""
+    """The program at work on a command and some texts, whose answer is waited for; at the end of the context it has ended."""
 
-    def __init__(self, command: str, a: Text, b: Text):
+    def __init__(self, command: str, *texts: Text, segments: int = 0):
         self.command = command
-        self.texts = (a, b)
+        self.texts = texts
         self.out, self.told = memory("answer"), memory("report")
-        words = [located(), command, a.path, b.path, "--report"]
+        words = [located(), command, *(text.path for text in texts), "--report"]
+        words += ["--segments", str(segments)] if segments > SEGMENTS else []
         files = [text.file.fileno() for text in self.texts]
         try:
             self.process = Popen(words, stdout=self.out, stderr=self.told, pass_fds=files)
@@ -125,12 +132,14 @@ class Asked:
 
 
 class AskedLibrary:
-    """The package for Python in the program's place: it works when it is asked for the answer, and tells no report."""
+    """The package for Python in the program's place: it works when it is asked for the answer, and tells of a report the number of
+    rows alone."""
 
-    def __init__(self, package: ModuleType, command: str, a: Text, b: Text):
+    def __init__(self, package: ModuleType, command: str, *texts: Text, segments: int = 0):
         self.package = package
         self.command = command
-        self.texts = (a, b)
+        self.texts = texts
+        self.plan = {"segments": segments} if segments > SEGMENTS else {}
 
     def __enter__(self) -> AskedLibrary:
         return self
@@ -142,7 +151,9 @@ class AskedLibrary:
         package = self.package
         try:
             with during(f"overlay {self.command}"):
-                return getattr(package, self.command)(*(held(text.file) for text in self.texts)), {}
+                call = getattr(package, CALLS.get(self.command, self.command))
+                answer = call(*(held(text.file) for text in self.texts), **self.plan)
+            return answer, {"rows": answer.count(b"\n")} if self.command == FACES else {}
         except package.Refused as fault:
             mark = f"{fault.layer}: " if fault.layer and not str(fault).startswith(f"{fault.layer}: ") else ""
             raise refusal(mark + str(fault), Refusal.status, self.texts) from fault
@@ -150,19 +161,26 @@ class AskedLibrary:
             raise refusal(str(fault), Fault.status, self.texts) from fault
 
 
-def asked(command: str, a: Text, b: Text) -> Asked | AskedLibrary:
-    """A command on two texts, at which the program is at work."""
+# The package's calls that aren't named as the program's commands are.
+CALLS = {FACES: "faces_text"}
+
+
+def asked(command: str, *texts: Text, segments: int = 0) -> Asked | AskedLibrary:
+    """A command on some texts, at which the program is at work, with room for so many segments; or the package, if it has the call."""
     package = library()
-    return Asked(command, a, b) if package is None else AskedLibrary(package, command, a, b)
+    if package is None or not hasattr(package, CALLS.get(command, command)):
+        return Asked(command, *texts, segments=segments)
+    return AskedLibrary(package, command, *texts, segments=segments)
 
 
-def refusal(line: str, status: int, texts: tuple[Text, Text]) -> Fault:
+def refusal(line: str, status: int, texts: Sequence[Text]) -> Fault:
     """The fault that a line of the program tells."""
     words = line.removeprefix("overlay: ")
     name = PROGRAM
-    for mark, text in zip(("A: ", "B: "), texts):
-        if words.startswith(mark):
-            name, words = text.name, words.removeprefix(mark)
+    for letter, text in zip(LETTERS, texts):
+        if words.startswith(f"{letter}: "):
+            name, words = text.name, words.removeprefix(f"{letter}: ")
+            break
     hint = HINTS.get(words.partition(" ")[0])
     kind = Refusal if status == Refusal.status else Fault
     return kind(name, f"overlay says: {words}" + (f" ({hint})" if hint else ""))
@@ -180,5 +198,13 @@ def edges_of(text: bytes) -> Numbers:
     """The edges of what the program answers to `edges`, a row for each."""
     try:
         return edge_rows(text, PROGRAM)
+    except Refusal as error:
+        raise Fault(PROGRAM, f"{error.reason}: {DOUBT}") from error
+
+
+def rows_of(text: bytes, layers: int) -> Rows:
+    """The rows of what the program answers to `faces` of so many layers."""
+    try:
+        return rows_in(text, layers, PROGRAM)
     except Refusal as error:
         raise Fault(PROGRAM, f"{error.reason}: {DOUBT}") from error

@@ -72,6 +72,13 @@ def segments(layer: Columns[Numbers]) -> tuple[Numbers, Numbers]:
     return across, up
 
 
+def perimeters(layer: Columns[Numbers]) -> Floats:
+    """For each feature, which has points, the length of its border."""
+    if not len(layer.ids):
+        return np.zeros(0)
+    return np.add.reduceat(np.hypot(*segments(layer)), layer.feature_points()[:-1])
+
+
 def moves_of(layer: Columns[Floats], grid: Columns[Numbers], frame: Frame) -> Moves:
     """How far the vertices of closed rings were moved to where they are on the grid."""
     across, up = (axis.placed(at) for axis, at in zip(frame.axes, (grid.x, grid.y)))

@@ -9,7 +9,6 @@ from html import escape
 from math import floor, log10
 from typing import Iterator
 
-from .arrangement import Ends, ends
 from .columns import GridPoint, GridPolygon
 from .faults import Refusal
 from .parsing import Edge, edge_rows, edges, polygons_in
@@ -29,6 +28,8 @@ EMPTY = "nothing in it"
 # The picture's sides, in pixels of the screen, and from which size of a grid pixel it shows pixels and lines.
 WIDTH, HEIGHT, MARGIN, LINE = 860, 560, 16, 20
 PIXEL_SHOWN, GRID_SHOWN = 4.0, 9.0
+
+Ends = tuple[GridPoint, GridPoint]  # the lesser one first
 
 # How thick an edge is drawn that is a border by parity, and one that isn't.
 THICK, THIN = 2.4, 1.0
@@ -72,6 +73,10 @@ class Shown:
     def outline(self) -> list[Ends]:
         """The segments of all rings, each once, whichever way they run."""
         return sorted({ends(a, b) for polygon in self.polygons for ring in polygon for a, b in zip(ring, ring[1:])})
+
+
+def ends(a: GridPoint, b: GridPoint) -> Ends:
+    return (a, b) if a < b else (b, a)
 
 
 def counted(number: int, word: str) -> str:

@@ -49,7 +49,8 @@ def kind_of(text: bytes) -> str:
 
 
 def write_polygons(out: BinaryIO, layer: Columns[Numbers]) -> None:
-    """Writes the polygons of each feature, which are in grid units, as a line of a layer text."""
+    """Writes the polygons of each feature, which are in grid units, as a line of a layer text, so that the program numbers features
+    as they stand here."""
     out.writelines(lines_of(layer))
 
 
@@ -61,6 +62,8 @@ def lines_of(layer: Columns[Numbers]) -> Iterator[bytes]:
             yield b"MULTIPOLYGON (" + b", ".join(held[at:end]) + b")\n"
         elif end > at:
             yield b"POLYGON " + held[at] + b"\n"
+        else:
+            yield b"POLYGON EMPTY\n"
 
 
 def rings_of(layer: Columns[Numbers]) -> list[bytes]:

@@ -5,13 +5,17 @@ from __future__ import annotations
 import os
 from argparse import ArgumentParser, Namespace
 
+import numpy as np
+
+from . import dissolved, options
 from . import frame as frames
-from . import options
+from .columns import Columns, Numbers
 from .faults import Fault, Refusal
 from .frame import Frame
-from .joined import box_of, on_grid, surveyed, together, warn_of_rings
+from .joined import alone, box_of, on_grid, surveyed, together, warn_of_rings
 from .layers import Source, Survey, common_system, files_of
 from .messages import say
+from .rings import Gridded, segments
 from .systems import system_from, system_name
 from .texts import write_polygons
 from .whole import draft, target_of
@@ -59,6 +63,12 @@ def frame_for(arguments: Namespace, sources: list[Source], surveys: list[Survey]
     return frame
 
 
+def united(source: Source, seen: Survey, grid: Gridded, frame: Frame) -> Columns[Numbers]:
+    """All that a layer covers on the grid, as one feature."""
+    with alone(source, seen, grid, frame) as layer:
+        return dissolved.as_one(dissolved.answer(layer, "union", dissolved.rows_of(layer)))
+
+
 def main(arguments: Namespace) -> int:
     sources = [Source(name) for name in arguments.layers]
     names = [f"{source.stem}.wkt" for source in sources]
@@ -75,10 +85,13 @@ def main(arguments: Namespace) -> int:
     frame = frame_for(arguments, sources, surveys)
     with draft(target) as folder:
         for source, seen, name in zip(sources, surveys, names):
-            grid = on_grid(source, seen, frame, arguments.dissolve)
+            grid = on_grid(seen, frame)
             warn_of_rings(source, grid)
+            layer = united(source, seen, grid, frame) if arguments.dissolve else grid.layer
             with open(folder / name, "wb") as file:
-                write_polygons(file, grid.layer)
-            say(f"{os.path.join(arguments.out, name)}: {grid.polygons:,} polygons, {grid.segments:,} segments")
+                write_polygons(file, layer)
+            across, up = segments(layer)
+            told = f"{len(layer.polygons) - 1:,} polygons, {np.count_nonzero(across | up):,} segments"
+            say(f"{os.path.join(arguments.out, name)}: {told}")
         frame.saved(str(folder / FRAME))
     return 0

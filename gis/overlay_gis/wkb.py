@@ -189,12 +189,6 @@ class Decoder:
         return x, y
 
 
-def decoded(geometry: bytes) -> Columns[Floats]:
-    """A polygonal geometry of lines as one feature, numbered 0."""
-    start, data = np.zeros(1, np.int64), np.frombuffer(geometry, np.uint8)
-    return Decoder(Batch(start, data, start, start + len(data)), lambda *_: None).columns()
-
-
 def encoded(polygons: Columns[Floats]) -> Iterator[bytes]:
     """Each polygon of some columns in WKB."""
     held = np.empty((len(polygons.x), 2))
@@ -208,9 +202,9 @@ def encoded(polygons: Columns[Floats]) -> Iterator[bytes]:
         yield POLYGON_HEAD + count(end - at) + b"".join(rings[at:end])
 
 
-def collected(polygons: Sequence[bytes]) -> bytes:
-    """The geometry of a feature in WKB, of its polygons'."""
-    if len(polygons) == 1:
+def collected(polygons: Sequence[bytes], as_many: bool = False) -> bytes:
+    """The geometry of a feature in WKB, of its polygons'; `as_many`: also that of one polygon as one that may have several."""
+    if len(polygons) == 1 and not as_many:
         return polygons[0]
     return b"".join((MULTIPOLYGON_HEAD, NUMBERS[LITTLE_ENDIAN].pack(len(polygons)), *polygons))
 

@@ -38,11 +38,40 @@ def test_overlaps_with_their_features(gis, tmp_path):
     ]
 
 
-def test_an_overlap_that_rounding_closes_is_only_counted(gis, tmp_path):
+def test_an_overlap_that_rounding_closes_is_none(gis, tmp_path):
     shapes = [SQUARE, box(EAST + 9.9996, NORTH, EAST + 20, NORTH + 10)]
     status, lines = checked(gis, write(tmp_path / "a.gpkg", shapes), "--grid", "0.001")
-    assert status == 0 and "1 overlaps narrower than a grid unit" in lines[0]
+    assert status == 0 and "2 features, 0 findings, areas 200 m² in sum, 200 by parity" in lines[0]
     assert checked(gis, tmp_path / "a.gpkg", "--grid", "0.0001")[0] == 4
+
+
+def test_an_overlap_that_is_narrower_than_a_grid_unit_is_only_counted(gis, tmp_path):
+    """The lower one has a corner more, which lies a grid unit above the other's border."""
+    upper = Polygon([(EAST, NORTH), (EAST + 10, NORTH), (EAST + 10, NORTH + 10), (EAST, NORTH + 10)])
+    lower = Polygon([(EAST, NORTH), (EAST, NORTH - 9), (EAST + 10, NORTH - 9), (EAST + 10, NORTH), (EAST + 4, NORTH + 0.001)])
+    status, lines = checked(gis, write(tmp_path / "a.gpkg", [upper, lower]), "-o", "overlaps.gpkg", "--grid", "0.001")
+    assert status == 0 and "1 overlaps narrower than a grid unit" in lines[0]
+    assert [(fields["area"], fields["features"]) for _, fields in read("overlaps.gpkg")] == [(pytest.approx(0.005), "1,2")]
+
+
+def test_an_overlap_of_several_features(gis, tmp_path):
+    shapes = [SQUARE, None, SQUARE, box(EAST + 5, NORTH, EAST + 15, NORTH + 10)]
+    status, lines = checked(gis, write(tmp_path / "a.gpkg", shapes), "-o", "overlaps.gpkg")
+    assert status == 4
+    assert [line.partition(": ")[2] for line in lines] == [
+        "feature 2: no geometry",
+        "features 1 and 3: overlap by 50 m²",
+        "features 1, 3, 4: overlap by 50 m²",
+        "4 features, 3 findings, areas 300 m² in sum, 100 by parity",
+    ]
+    found = [(fields["first"], fields["second"], fields["features"], shape.area) for shape, fields in read("overlaps.gpkg")]
+    assert found == [(1, 3, "1,3", 50), (1, 3, "1,3,4", 50)]
+
+
+def test_overlaps_of_the_features_that_are_sound(gis, tmp_path):
+    shapes = [SQUARE, LineString([(EAST, NORTH), (EAST + 4, NORTH)]), SQUARE]
+    status, lines = checked(gis, write(tmp_path / "a.gpkg", shapes))
+    assert status == 4 and "features 1 and 3: overlap by 100 m²" in lines[1] and lines[2].endswith("3 features, 2 findings")
 
 
 @pytest.mark.parametrize(

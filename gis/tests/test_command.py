@@ -72,7 +72,7 @@ def test_the_manual_page_tells_what_the_program_knows(program):
     told = subprocess.run([program, "--help"], stdout=subprocess.PIPE, check=True).stdout.decode()
     for word in re.findall(r"--[a-z]+", told):
         assert word in PAGE
-    for word in ("union", "intersection", "difference", "symdifference", "edges", "268435456", "/dev/stdin", "parity"):
+    for word in ("union", "intersection", "difference", "symdifference", "edges", "faces", "268435456", "/dev/stdin", "parity"):
         assert word in PAGE
 
 
@@ -82,8 +82,8 @@ def test_bash_completes_verbs_options_and_commands():
         script = f"compopt() {{ :; }}; source {TOP}/completions/{name}.bash; COMP_WORDS=({name} {line}); COMP_CWORD={len(words)}; _{name.replace('-', '_')}; echo ${{COMPREPLY[@]}}"
         return set(subprocess.run(["bash", "-c", script], stdout=subprocess.PIPE, check=True).stdout.decode().split())
 
-    assert completed("overlay", "") == {"union", "intersection", "difference", "symdifference", "edges"}
-    assert completed("overlay", "--") == {"--tile", "--workers", "--segments", "--report", "--help"}
+    assert completed("overlay", "") == {"union", "intersection", "difference", "symdifference", "edges", "faces"}
+    assert completed("overlay", "--") == {"--tile", "--workers", "--segments", "--report", "--covered", "--help"}
     assert completed("overlay-gis", "") == set(cli.VERBS)
     for verb in cli.VERBS:
         assert completed("overlay-gis", verb, "--") == options_of(verb)
@@ -113,10 +113,11 @@ def test_progress_is_said_on_a_terminal_alone(capsys, monkeypatch, terminal):
 
 
 def test_a_package_that_is_not_there_is_told(tmp_path, program):
-    """Shapely is asked for by the verbs alone that need it."""
+    """Shapely is asked for by the verb alone that needs it."""
     a = write(tmp_path / "a.gpkg", [box(EAST, NORTH, EAST + 2, NORTH + 2)])
     (tmp_path / "shapely.py").write_text("raise ModuleNotFoundError('none', name='shapely')\n")
-    for words, status in ((["run", "union", a, a, "-o", "out.gpkg"], 0), (["check", a], 1), (["faces", a, a, "-o", "f.gpkg"], 1)):
+    runs = (["run", "union", a, a, "-o", "out.gpkg"], ["run", "union", a, a, "-o", "all.gpkg", "--dissolve"], ["faces", a, a, "-o", "f.gpkg"])
+    for words, status in (*((words, 0) for words in runs), (["check", a], 1)):
         done = subprocess.run(
             [sys.executable, COMMAND, *words],
             cwd=tmp_path,

@@ -346,7 +346,7 @@ def test_too_many_segments_are_told_before_texts_are_written(gis, tmp_path, monk
     answer = gis(*words, a, b, "-o", "out.gpkg")
     assert answer.status == 3
     assert answer.err == (
-        f"overlay-gis: {a} and {b}: more than 300 segments, the limit of both layers together: "
+        f"overlay-gis: {a} and {b}: more than 300 segments, the limit of all layers together: "
         "clip them, and join the answers\n"
     )
 
@@ -358,7 +358,7 @@ def test_only_segments_on_the_grid_are_counted(gis, tmp_path, monkeypatch):
     assert gis("check", a).status == 0
     monkeypatch.setattr("overlay_gis.check.SEGMENTS", 100)
     answer = gis("check", a)
-    assert answer.status == 4 and "a.gpkg: 179 segments, and the limit of both layers together is 100" in answer.out
+    assert answer.status == 4 and "a.gpkg: 179 segments, and the limit of all layers together is 100" in answer.out
 
 
 def test_a_box_tells_which_feature_lies_farthest():

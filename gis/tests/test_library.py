@@ -31,10 +31,10 @@ def stand_in(executable, folder):
     asked = []
 
     def call(command):
-        def answer(a, b):
+        def answer(*texts, segments=1 << 20):
             asked.append(command)
-            files = [Path(folder, name) for name in ("first", "second")]
-            for file, text in zip(files, (a, b)):
+            files = [Path(folder, f"layer{k}") for k in range(len(texts))]
+            for file, text in zip(files, texts):
                 file.write_bytes(text)
             done = subprocess.run([executable, command, *files], capture_output=True, check=False)
             if done.returncode:
@@ -47,6 +47,7 @@ def stand_in(executable, folder):
     package = ModuleType("overlay_grid")
     for command in (*program.OPERATIONS, "edges"):
         setattr(package, command, call(command))
+    package.faces_text = call("faces")
     package.Refused, package.OutOfMemory = Refused, OutOfMemory
     return package, asked
 
@@ -63,16 +64,28 @@ def shapes(path):
     return [(shape.wkb, fields) for shape, fields in read(path)]
 
 
-@pytest.mark.parametrize("words", [("run", "intersection"), ("run", "union"), ("faces",)])
-def test_the_same_as_by_the_program(gis, package, monkeypatch, tmp_path, words):
+@pytest.mark.parametrize(
+    "words, more", [(("run", "intersection"), ()), (("run", "union"), ()), (("run", "difference"), ("--dissolve",)), (("faces",), ())]
+)
+def test_the_same_as_by_the_program(gis, package, monkeypatch, tmp_path, words, more):
     a, b = write(tmp_path / "a.gpkg", parcels(5, 3)), write(tmp_path / "b.gpkg", blobs(6, 3))
     by_program, by_package = tmp_path / "program.gpkg", tmp_path / "package.gpkg"
-    assert gis(*words, a, b, "-o", by_program).status == 0
+    assert gis(*words, a, b, "-o", by_program, *more).status == 0
     assert not package[1]
     monkeypatch.delenv("OVERLAY")
-    assert gis(*words, a, b, "-o", by_package).status == 0
+    assert gis(*words, a, b, "-o", by_package, *more).status == 0
     assert package[1]
     assert shapes(by_package) == shapes(by_program)
+
+
+def test_a_package_without_faces_leaves_them_to_the_program(gis, package, monkeypatch, tmp_path):
+    a = write(tmp_path / "a.gpkg", parcels(5, 3))
+    (tmp_path / "overlay").symlink_to(os.environ["OVERLAY"])
+    monkeypatch.setenv("PATH", f"{tmp_path}:{os.environ['PATH']}")
+    monkeypatch.delenv("OVERLAY")
+    del package[0].faces_text
+    assert gis("faces", a, "-o", "faces.gpkg").status == 0 and len(read("faces.gpkg")) == len(parcels(5, 3))
+    assert not package[1]
 
 
 OVERLAPPING = [

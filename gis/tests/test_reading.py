@@ -211,4 +211,5 @@ def test_columns_come_back_from_wkb():
     columns = wkb.Decoder(batch_of(*geometries), refused).columns()
     for geometry in wkb.encoded(columns):
         assert geometry == geometries[0]
-    assert wkb.decoded(wkb.collected(list(wkb.encoded(columns)))).lists() == [[[RING, RING]] * 3]
+    again = wkb.Decoder(batch_of(wkb.collected(list(wkb.encoded(columns)))), refused)
+    assert again.columns().lists() == [[[RING, RING]] * 3]

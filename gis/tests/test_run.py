@@ -125,8 +125,25 @@ def test_overlaps_are_told_and_united(gis, tmp_path):
     assert "a.gpkg: warning: its polygons have 200 m² in sum, and 100 by parity" in answer.err
     assert sum(shape.area for shape, _ in read("out.gpkg")) == pytest.approx(100)
     answer = gis("run", "union", a, b, "-o", "out.gpkg", "--dissolve", "--overwrite")
-    assert "by parity" not in answer.err
-    assert sum(shape.area for shape, _ in read("out.gpkg")) == pytest.approx(150)
+    assert "by parity" not in answer.err and "area 200 m² in sum, and 150 united" in answer.err
+    assert [fields["area"] for _, fields in read("out.gpkg")] == [150]
+
+
+@pytest.mark.parametrize("operation", JUDGE)
+def test_layers_that_overlap_are_united_before_an_operation(gis, tmp_path, operation):
+    rng, layers = random.Random(91), []
+    for _ in "ab":
+        corners = [(EAST + rng.randrange(60), NORTH + rng.randrange(60)) for _ in range(14)]
+        layers.append([box(x, y, x + rng.randint(5, 20), y + rng.randint(5, 20)) for x, y in corners])
+    a, b = (write(tmp_path / f"{name}.gpkg", shapes) for name, shapes in zip("ab", layers))
+    answer = gis("run", operation, a, b, "-o", "out.gpkg", "--dissolve", "--grid", "0.01")
+    assert answer.status == 0 and "warning" not in answer.err
+    first, second = map(unary_union, layers)
+    wanted = getattr(first, JUDGE[operation])(second)
+    found = [shape for shape, _ in read("out.gpkg")]
+    assert all(shape.is_valid for shape in found)
+    assert unary_union(found).symmetric_difference(wanted).area == 0
+    assert sum(shape.area for shape in found) == pytest.approx(wanted.area)
 
 
 def test_a_small_overlap_among_many_parcels_is_told(gis, tmp_path):
@@ -274,7 +291,7 @@ def test_the_program_refuses(gis, tmp_path, pretend):
     answer = gis("run", "union", a, a, "-o", "out.gpkg")
     assert (
         answer.status == 3
-        and "overlay: overlay says: 5 too many segments: 1048577 (the limit of both layers" in answer.err
+        and "overlay: overlay says: 5 too many segments: 1048577 (the limit of all layers" in answer.err
     )
     pretend("echo 'overlay: A: 1 syntax at 3' >&2; exit 3\n")
     assert f"overlay-gis: {a}: overlay says: 1 syntax at 3" in gis("run", "union", a, a, "-o", "out.gpkg").err
@@ -365,4 +382,4 @@ def test_open_rings_are_closed_and_short_ones_left_out(gis, tmp_path):
     assert "a.gpkg: warning: rings were open, and closed: feature 1" in answer.err
     assert "a.gpkg: warning: rings of less than four points were left out: feature 2" in answer.err
     answer = gis("run", "union", a, b, "-o", "out.gpkg", "--dissolve", "--overwrite")
-    assert answer.status == 3 and "a.gpkg: feature 1: GEOS can't read it: " in answer.err.splitlines()[-1]
+    assert answer.status == 0 and [shape.area for shape, _ in read("out.gpkg")] == [16]

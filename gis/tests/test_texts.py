@@ -9,7 +9,7 @@ from itertools import pairwise
 import numpy as np
 import pytest
 
-from overlay_gis import digits, parsing, texts
+from overlay_gis import digits, parsing, rows, texts
 from overlay_gis.columns import Columns, chained, of_polygons, offsets
 from overlay_gis.faults import Refusal
 
@@ -40,7 +40,7 @@ def line_of(polygons):
     bodies = [f"({', '.join('(' + ', '.join(f'{x} {y}' for x, y in ring) + ')' for ring in polygon)})" for polygon in polygons]
     if len(bodies) == 1:
         return f"POLYGON {bodies[0]}\n"
-    return f"MULTIPOLYGON ({', '.join(bodies)})\n" if bodies else ""
+    return f"MULTIPOLYGON ({', '.join(bodies)})\n" if bodies else "POLYGON EMPTY\n"
 
 
 def written(layer):
@@ -57,8 +57,9 @@ def test_a_layer_is_written_as_its_lines(monkeypatch, block, reach):
     assert written(columns_of(features)).decode() == "".join(map(line_of, features))
 
 
-def test_no_polygon_is_no_text():
-    assert written(columns_of([])) == written(columns_of([[], []])) == b""
+def test_each_feature_is_a_line():
+    assert written(columns_of([])) == b""
+    assert written(columns_of([[], []])) == b"POLYGON EMPTY\n" * 2
 
 
 @pytest.mark.parametrize("top", [3, 10**7 - 1, 10**8, LIMIT])
@@ -90,6 +91,7 @@ def test_what_was_written_is_read(seed):
     features = features_of(random.Random(seed), 80)
     text = written(columns_of(features))
     assert [held for (held,) in parsing.polygons_in(text, "t").lists()] == [p for polygons in features for p in polygons]
+    assert parsing.geometries_in(text, "t").lists() == features
 
 
 # The grammar of layers, read by regular expressions.
@@ -168,6 +170,60 @@ def test_edges_are_read_line_by_line(seed):
         assert found == edges_plainly(text), text
         seen += isinstance(found, str)
     assert 100 < seen < 1400
+
+
+def rows_plainly(text, layers):
+    """Each row of a text of faces: twice its area, the numbers of each layer, and its polygons; or why it is none."""
+    lines = text.split("\n")
+    if lines.pop() or any(line.count("\t") != layers + 1 or line.rpartition("\t")[2][:1] != "M" for line in lines):
+        return "has a line that is no row"
+    found = []
+    for line in lines:
+        area, *fields, polygons = line.split("\t")
+        if not re.fullmatch(r"\d{1,18}", area) or not all(re.fullmatch(r"(?:\d{1,9}(?:,\d{1,9})*)?", field) for field in fields):
+            return "has a row without"
+        found.append((int(area), [[int(n) for n in field.split(",") if n] for field in fields], polygons))
+    wrong = [read_plainly(polygons) for _, _, polygons in found]
+    words = {words for words in wrong if isinstance(words, str)}
+    for why in ("is no text of polygons", "has a point"):
+        if any(word.startswith(why) for word in words):
+            return why
+    if any(len(re.findall("multipolygon|polygon", polygons.lower())) != 1 for _, _, polygons in found):
+        return "has a line that is no row"
+    return [(area, fields, polygons) for (area, fields, _), polygons in zip(found, wrong)]
+
+
+def rows_read(text, layers):
+    try:
+        held = rows.rows_in(text.encode(), layers, "t")
+    except Refusal as refusal:
+        return refusal.reason
+    places = [[layer.places[a:b].tolist() for a, b in pairwise(layer.starts.tolist())] for layer in held.members]
+    fields = [[[place + 1 for place in of_one] for of_one in of_row] for of_row in zip(*places)]
+    assert held.counts.tolist() == [sum(map(len, of_row)) for of_row in fields]
+    return list(zip(held.twice.tolist(), fields, held.shapes.lists()))
+
+
+@pytest.mark.parametrize("seed", range(4))
+@pytest.mark.parametrize("layers", [1, 2, 5])
+def test_rows_are_read_line_by_line(seed, layers):
+    rng, seen = random.Random(10 * seed + layers), set()
+    for _ in range(1000):
+        text = ""
+        for _ in range(rng.randrange(4)):
+            ids = [",".join(str(rng.choice([1, 7, 10**9 - 1])) for _ in range(rng.choice([0, 1, 1, 3]))) for _ in range(layers)]
+            bodies = features_of(rng, 9)
+            polygons = rng.choice([held for held in bodies if held] or [[[[(0, 0)] * 4]]])
+            line = line_of(polygons)
+            line = line if line.startswith("M") else f"MULTIPOLYGON ({line[8:-1]})\n"
+            text += "\t".join([str(rng.choice([0, 5, 2**59])), *ids, line])
+        for _ in range(rng.randrange(3)):
+            at = rng.randrange(len(text) + 1)
+            text = text[:at] + rng.choice(["\t", "\n", ",", "1", "(", "x", "", "", "POLYGON EMPTY", "M"]) + text[at + rng.choice([0, 1, 2]) :]
+        wanted, found = rows_plainly(text, layers), rows_read(text, layers)
+        assert found.startswith(wanted) if isinstance(wanted, str) else found == wanted, text
+        seen.add(wanted if isinstance(wanted, str) else "rows")
+    assert len(seen) > 3
 
 
 def twice_plainly(polygon):
