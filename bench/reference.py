@@ -40,6 +40,7 @@ WORDS = {
     6: "bad tile side",
     7: "bad number of workers",
     8: "too many tiles: %d",
+    12: "too many ids: %d",
 }
 
 

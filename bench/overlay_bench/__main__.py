@@ -6,7 +6,7 @@ import sys
 
 from . import programs, results
 
-NAMES = ("compare", "texts", "memory", "faults", "workers", "parallel", "limits", "hostile", "speed", "library", "laws", "requests", "kernels", "peers", "plot", "sizes", "documents")
+NAMES = ("compare", "rows", "texts", "memory", "faults", "workers", "parallel", "limits", "hostile", "speed", "faces", "library", "laws", "requests", "kernels", "peers", "plot", "sizes", "documents")
 WITHOUT_PROGRAM = ("laws", "requests", "kernels", "plot", "sizes", "documents")
 
 

@@ -113,10 +113,10 @@ def shim(name="calls"):
     return built
 
 
-def keep(folder, before, texts):
-    """Writes both texts of a difference into a folder of bench/out."""
+def keep(folder, before, texts, names="ab"):
+    """Writes the texts of a difference into a folder of bench/out."""
     os.makedirs(folder, exist_ok=True)
-    for layer, text in zip("ab", texts):
+    for layer, text in zip(names, texts):
         with open(os.path.join(folder, before + layer + ".wkt"), "wb") as file:
             file.write(text)
 

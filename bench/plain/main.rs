@@ -2,15 +2,22 @@
 //! It is the yardstick for speed, and a second opinion on large layers.
 //!
 //!     plain COMMAND A B [--workers=N] [--tile=SIDE] [--report] [--times]
+//!     plain faces A [B ..] [--workers=N] [--tile=SIDE] [--times]
 //!     plain pipe
 //!
-//! The second way answers many pairs, see `pipe.rs`. The report is one line on standard error, the number of records.
+//! The third way answers many pairs, see `pipe.rs`. The report is one line on standard error, the number of records. Of refusals it
+//! knows that of `faces` for too many features in all rows.
 //!
 //! The stages are those of the modules: read, bins, tiles (hot pixels and records), records by segment, links, counted edges,
-//! then their text; or labels, directed edges, next edges, rings and holes, polygons and their text.
+//! then their text; or labels, directed edges, next edges, rings and holes, polygons and their text. For `faces` it is borders
+//! behind the records, then the sweep with sets of features, the rows, and each one's polygons and text.
 mod bins;
+mod borders;
+mod cover;
+mod cover_sweep;
 mod crossing;
 mod edges;
+mod faces;
 mod hands;
 mod labels;
 mod pipe;
@@ -20,6 +27,8 @@ mod reading;
 mod records;
 mod ribbon;
 mod rings;
+mod row_polygons;
+mod rows;
 mod stretches;
 mod sweep;
 mod text;
@@ -32,7 +41,7 @@ use std::time::Instant;
 /// What the command line asks for.
 struct Request {
     command: String,
-    files: [String; 2],
+    files: Vec<String>,
     workers: usize,
     side: Option<i64>,
     report: bool,
@@ -42,7 +51,7 @@ struct Request {
 impl Request {
     fn read() -> Request {
         let mut words: Vec<String> = Vec::new();
-        let mut request = Request { command: String::new(), files: [String::new(), String::new()], workers: 4, side: None, report: false, times: false };
+        let mut request = Request { command: String::new(), files: Vec::new(), workers: 4, side: None, report: false, times: false };
         for word in std::env::args().skip(1) {
             if let Some(number) = word.strip_prefix("--workers=") {
                 request.workers = number.parse().unwrap();
@@ -56,9 +65,9 @@ impl Request {
                 words.push(word);
             }
         }
-        let [command, a, b] = <[String; 3]>::try_from(words).expect("a command and two files");
-        request.command = command;
-        request.files = [a, b];
+        request.files = words.split_off(1.min(words.len()));
+        request.command = words.pop().unwrap_or_default();
+        assert!(request.files.len() == 2 || request.command == "faces" && !request.files.is_empty(), "a command and its files");
         request
     }
 }
@@ -85,8 +94,8 @@ struct Rounded {
     strips: edges::Strips,
 }
 
-/// The rounded edges of at least one segment.
-fn round(segments: &[point::Segment], side: Option<i64>, hands: Hands, laps: &mut Laps) -> Rounded {
+/// The number of records, and the routes of at least one segment.
+fn routes(segments: &[point::Segment], side: Option<i64>, hands: Hands, laps: &mut Laps) -> (usize, records::Routes) {
     let grid = bins::Grid::over(segments, side, hands);
     let bins = bins::Bins::build(&grid, segments, hands);
     laps.lap("bins");
@@ -95,6 +104,12 @@ fn round(segments: &[point::Segment], side: Option<i64>, hands: Hands, laps: &mu
     let records = found.iter().map(Vec::len).sum();
     let routes = records::Routes::gather(found, segments.len(), hands);
     laps.lap("records");
+    (records, routes)
+}
+
+/// The rounded edges of at least one segment.
+fn round(segments: &[point::Segment], side: Option<i64>, hands: Hands, laps: &mut Laps) -> Rounded {
+    let (records, routes) = routes(segments, side, hands, laps);
     let strips = edges::Strips::of(segments, hands);
     let links = edges::links(routes, segments, &strips, hands);
     laps.lap("links");
@@ -137,11 +152,32 @@ fn made_of_nothing(command: &str) -> Made {
     Made { records: 0, texts: vec![if command == "edges" { Vec::new() } else { text::EMPTY.to_vec() }], _of: None }
 }
 
+/// Writes the faces of all layers; the program ends without letting go of what they were made of.
+fn write_faces(request: &Request) {
+    let mut laps = Laps { shown: request.times, last: Instant::now() };
+    let (segments, firsts) = reading::features(&request.files, Hands(request.workers));
+    laps.lap("read");
+    if segments.is_empty() {
+        return;
+    }
+    let texts = faces::texts(&segments, &firsts, request.side, Hands(request.workers), &mut laps).unwrap_or_else(|count| {
+        eprintln!("overlay: 12 too many ids: {count}");
+        std::process::exit(3)
+    });
+    let mut output = std::io::stdout().lock();
+    texts.iter().for_each(|text| output.write_all(text).unwrap());
+    laps.lap("write");
+    std::mem::forget((segments, texts));
+}
+
 fn main() {
     if std::env::args().nth(1).as_deref() == Some("pipe") {
         return pipe::answer_all();
     }
     let request = Request::read();
+    if request.command == "faces" {
+        return write_faces(&request);
+    }
     let hands = Hands(request.workers);
     let mut laps = Laps { shown: request.times, last: Instant::now() };
     let segments = reading::layers(&request.files, hands);

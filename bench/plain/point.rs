@@ -4,7 +4,7 @@
 const SHIFT: i32 = 1 << 29;
 
 /// A grid point; the order of the numbers is by column, then by row.
-#[derive(Clone, Copy, PartialEq, Eq, PartialOrd, Ord, Default)]
+#[derive(Clone, Copy, PartialEq, Eq, PartialOrd, Ord, Hash, Default)]
 pub struct Point(pub u64);
 
 impl Point {
@@ -44,14 +44,14 @@ impl Point {
     }
 }
 
-/// A segment from its lesser end to its greater one, and its layer, 0 or 1.
+/// A segment from its lesser end to its greater one, and whose it is: the number of a layer, 0 or 1, or that of a feature.
 #[derive(Clone, Copy)]
 pub struct Segment {
     pub px: i32,
     pub py: i32,
     pub qx: i32,
     pub qy: i32,
-    pub layer: u32,
+    pub owner: u32,
 }
 
 impl Segment {

@@ -8,11 +8,11 @@ pub const EMPTY: &[u8] = b"MULTIPOLYGON EMPTY\n";
 /// Parts of a result's text.
 const PARTS: usize = 16;
 
-fn push_number(text: &mut Vec<u8>, value: i32) {
+pub fn push_number(text: &mut Vec<u8>, value: i64) {
     if value < 0 {
         text.push(b'-');
     }
-    let (mut rest, mut digits, mut first) = (value.unsigned_abs(), [0u8; 10], 10);
+    let (mut rest, mut digits, mut first) = (value.unsigned_abs(), [0u8; 20], 20);
     loop {
         first -= 1;
         digits[first] = b'0' + (rest % 10) as u8;
@@ -24,10 +24,10 @@ fn push_number(text: &mut Vec<u8>, value: i32) {
     text.extend_from_slice(&digits[first..]);
 }
 
-fn push_point(text: &mut Vec<u8>, point: Point) {
-    push_number(text, point.x());
+pub fn push_point(text: &mut Vec<u8>, point: Point) {
+    push_number(text, point.x() as i64);
     text.push(b' ');
-    push_number(text, point.y());
+    push_number(text, point.y() as i64);
 }
 
 /// One line for each edge, strip by strip.
@@ -40,7 +40,7 @@ pub fn edges(counted: &[Vec<Counted>], hands: Hands) -> Vec<Vec<u8>> {
             push_point(&mut text, edge.q);
             for count in edge.counts {
                 text.push(b' ');
-                push_number(&mut text, count as i32);
+                push_number(&mut text, count as i64);
             }
             text.push(b'\n');
         }
