@@ -80,25 +80,25 @@ members-push cycles cycle = flat_map-append (λ c. c) cycles (cycle ∷ []) ∙ 
     append-nil [] = refl
     append-nil (x ∷ xs) = ap (λ t. x ∷ t) (append-nil xs)
 
+pub none_seen : (n i : ℕ) → get_or (replicate n false) i false ≡ false
+none_seen zero i = refl
+none_seen (suc n) zero = refl
+none_seen (suc n) (suc i) = none_seen n i
+
 pub none_found : (next : List ℕ) → Found next (replicate (length next) false) 0 []
 none_found next = record {
   same_length = length-replicate (length next) false;
-  closed = λ j s. absurd (false≢true (sym (never (length next) j) ∙ s));
+  closed = λ j s. absurd (false≢true (sym (none_seen (length next) j) ∙ s));
   are_cycles = All-nil (IsCycle next);
   distinct = tt;
   only = λ i m. absurd m;
-  all = λ i s. absurd (false≢true (sym (never (length next) i) ∙ s));
+  all = λ i s. absurd (false≢true (sym (none_seen (length next) i) ∙ s));
   passed = λ i h. absurd (omega arith);
   no_twice = All-nil NoTwice;
   least_first = All-nil IsLeastFirst;
   ascending = λ i j d h k. absurd (omega arith);
   begun = All-nil (λ cycle. Begins cycle (0 ∷ []));
 }
-  where
-    never : (n i : ℕ) → get_or (replicate n false) i false ≡ false
-    never zero i = refl
-    never (suc n) zero = refl
-    never (suc n) (suc i) = never n i
 
 pub one_more_cycle : (next : List ℕ) (old new : List Bool) (start : ℕ) (cycles : List (List ℕ)) (cycle : List ℕ) → length new ≡ length old → Found next old start cycles → Walked next old new start cycle → Found next new (suc start) (cycles ++ cycle ∷ [])
 one_more_cycle next old new start cycles cycle len f w = record {
@@ -159,16 +159,19 @@ seen_already next seen start cycles s f = record {
     before : (i : ℕ) → i < suc start → i ≢ start → i < start
     before i h n = omega arith
 
-pub all_found : (next : List ℕ) (seen : List Bool) (start : ℕ) (cycles : List (List ℕ)) → length next ≤ start → Found next seen start cycles → AreCycles next cycles
-all_found next seen start cycles h f = record {
+pub all_seen : (next : List ℕ) (seen : List Bool) (start : ℕ) (cycles : List (List ℕ)) → ((i : ℕ) → i < length next → IsSeen seen i) → Found next seen start cycles → AreCycles next cycles
+all_seen next seen start cycles s f = record {
   are_cycles = f.are_cycles;
   together = same_elements (below (length next)) (members cycles) (below_distinct (length next)) f.distinct
-      (λ i m. f.all i (f.passed i (less i (below_in (length next) i m))))
+      (λ i m. f.all i (s i (below_in (length next) i m)))
       (λ i m. in_below (length next) i (seen_inside next seen i f.same_length (f.only i m)));
   no_twice = f.no_twice;
   least_first = f.least_first;
   ascending = f.ascending;
 }
+
+pub all_found : (next : List ℕ) (seen : List Bool) (start : ℕ) (cycles : List (List ℕ)) → length next ≤ start → Found next seen start cycles → AreCycles next cycles
+all_found next seen start cycles h f = all_seen next seen start cycles (λ i k. f.passed i (less i k)) f
   where
     less : (i : ℕ) → i < length next → i < start
     less i k = omega arith

@@ -14,3 +14,5 @@ pub mod Filtered
 pub mod Sorted
 pub mod Holes
 pub mod Told
+pub mod OneWalk
+pub mod OneRing

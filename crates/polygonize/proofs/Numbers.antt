@@ -25,7 +25,7 @@ start_order ds a m k h l b = by_kind (a.ascending m k nothing h l)
     by_kind (inr e) = less_apart (edge_at ds k).from (edge_at ds m).from b (sym e.0)
 
 -- what stands between two edges with one start has it too
-amid : (ds : List DirectedEdge) → AreDirected ds → (m k i : ℕ) → m < k → k < i → i < length ds → (edge_at ds m).from ≡ (edge_at ds i).from → (edge_at ds k).from ≡ (edge_at ds i).from
+pub amid : (ds : List DirectedEdge) → AreDirected ds → (m k i : ℕ) → m < k → k < i → i < length ds → (edge_at ds m).from ≡ (edge_at ds i).from → (edge_at ds k).from ≡ (edge_at ds i).from
 amid ds a m k i h l n e = neither_less (edge_at ds k).from (edge_at ds i).from
     (not_less (edge_at ds k).from (edge_at ds i).from (λ b. start_order ds a m k h (omega (arith, l, n)) (let P : Pt → Type 0 = IsBefore (edge_at ds k).from in subst P (sym e) b)))
     (not_less (edge_at ds i).from (edge_at ds k).from (start_order ds a k i l n))

@@ -175,8 +175,11 @@ ended next old seen start at cycle e w = record {
 }
 
 -- ---- fewer are unseen
-pub fewer : (seen : List Bool) (at : ℕ) → at < length seen → IsUnseen seen at → count_by not (set seen at true) < count_by not seen
-fewer seen at h u = smaller (count_by not (set seen at true)) (count_by not seen) (cond (not (get_or seen at false)) 1 0) (sum_by-set (λ b. cond (not b) 1 0) seen at true false h) (ap (λ b. cond (not b) 1 0) u)
+pub one_fewer : (seen : List Bool) (at : ℕ) → at < length seen → IsUnseen seen at → count_by not (set seen at true) + 1 ≡ count_by not seen
+one_fewer seen at h u = by_one (count_by not (set seen at true)) (count_by not seen) (cond (not (get_or seen at false)) 1 0) (sum_by-set (λ b. cond (not b) 1 0) seen at true false h) (ap (λ b. cond (not b) 1 0) u)
   where
-    smaller : (a b c : ℕ) → a + c ≡ b + 0 → c ≡ 1 → a < b
-    smaller a b c e f = omega arith
+    by_one : (a b c : ℕ) → a + c ≡ b + 0 → c ≡ 1 → a + 1 ≡ b
+    by_one a b c e f = omega arith
+
+pub fewer : (seen : List Bool) (at : ℕ) → at < length seen → IsUnseen seen at → count_by not (set seen at true) < count_by not seen
+fewer seen at h u = let e = one_fewer seen at h u in omega (arith, e)

@@ -18,6 +18,10 @@ pub record IsVertex (ds : List DirectedEdge) (k : ℕ) : Type 0 where
   pub inside : k < length ds
   pub first : (m : ℕ) → m < k → (edge_at ds m).from ≢ (edge_at ds k).from
 
+-- no vertex is left by two edges, so the place of each edge is a vertex's number
+abbrev pub LeaveApart : List DirectedEdge → Type 0
+LeaveApart ds = (k : ℕ) → k < length ds → IsVertex ds k
+
 -- last is the number for the edge before i, and 0 at the first
 pub record IsLastNumber (ds : List DirectedEdge) (i last : ℕ) : Type 0 where
   pub low : last ≤ i

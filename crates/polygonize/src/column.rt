@@ -90,7 +90,7 @@ pub fn slanted<A: Allocator>(alloc: A, edges: &[DirectedEdge]) -> Result<Vec<usi
     ensures inside { IfOk result (λ found. All (λ k. k < length edges.now) found.items) }
     ensures complete { IfOk result (λ found. HasSlanted edges.now found.items) }
 {
-    let mut found = Vec::new(alloc);
+    let mut found = Vec::with_capacity(alloc, edges.len())?;
     for number in 0..edges.len() {
         if edges[number].from.x != edges[number].to.x {
             found.push(number)?;

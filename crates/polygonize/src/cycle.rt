@@ -78,7 +78,7 @@ pub fn cycles<A: Allocator + Copy>(alloc: A, next: &[usize]) -> Result<Vec<Cycle
 {
     let mut seen = vec![in alloc; false; next.len()]?;
     let mut cycles = Vec::new(alloc);
-    let mut cycle = Vec::new(alloc);
+    let mut cycle = Vec::with_capacity(alloc, next.len())?;
     for start in 0..next.len() {
         if !seen[start] {
             walk(next, &mut seen, start, &mut cycle)?;

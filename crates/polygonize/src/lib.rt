@@ -5,6 +5,8 @@
 //! 3. Each hole's owner is the shell of the nearest edge below it (`nearest`, `below`, `hole`).
 //! 4. Rings are written in the canonical order (`written`, `polygon`).
 //!
+//! Few edges that are one ring, which visits no vertex twice, are a polygon without more ado (`one_ring`).
+//!
 //! The promise: where edges meet only at ends and each hole has an edge below it, the polygons of the definition (`ArePolygons` of `geom`).
 #![tactic(auto)]
 
@@ -20,6 +22,7 @@ mod leaving;
 mod listing;
 mod nearest;
 mod number;
+mod one_ring;
 mod piece;
 mod polygon;
 mod result_rings;

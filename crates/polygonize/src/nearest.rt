@@ -154,6 +154,9 @@ pub fn gaps_below<A: Allocator + Copy>(
     requires vertices_in { All InLimit vertices.now }
     ensures { IfOk result (λ best. AreGapsBelow edges.now vertices.now best.items) }
 {
+    if vertices.is_empty() {
+        return Ok(Vec::new(alloc));
+    }
     let mut best = vec![in alloc; None; vertices.len()]?;
     let asked = numbers_below(alloc, vertices.len())?;
     let numbers = slanted(alloc, edges)?;

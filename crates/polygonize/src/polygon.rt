@@ -1,6 +1,6 @@
 //! The polygons of a result.
 
-ghost use Rattle.std.specs.Prelude.{◌≡◌, ◌+◌, ◌<◌, ◌≤◌, true, All, IfOk, drop, length, map, take, vec_len};
+ghost use Rattle.std.specs.Prelude.{◌≡◌, ◌∷◌, [], ◌+◌, ◌<◌, ◌≤◌, true, All, IfOk, drop, length, map, take, vec_len};
 ghost use Rattle.geom.specs.Canonical.{ArePolygons, HaveEachEdge, written_rings};
 ghost use Rattle.geom.specs.Holes.{HasGroundedRings};
 ghost use Rattle.geom.specs.Limit.{AreInLimit};
@@ -9,10 +9,12 @@ ghost use Rattle.geom.specs.NodedEdges.{AreNodedEdges};
 ghost use Rattle.geom.specs.Rings.{Closes};
 ghost use Rattle.polygonize.specs.Grouped.{AreGrouped, BeginsWithShell};
 ghost use Rattle.polygonize.specs.Next.{ring_of};
+ghost use Rattle.polygonize.specs.OneRing.{without_holes};
 ghost use Rattle.polygonize.specs.Placed.{AreAllWritten, points, rings_in, stands_as_hole};
 ghost use Rattle.polygonize.specs.Written.{AreSimple, HaveEdges, IsCanonical, IsSound};
 
 use crate::number::points_of;
+use crate::one_ring::one_ring;
 use crate::successor::successors;
 use crate::written::{WrittenRing, written_rings};
 use geom::{Directed, DirectedEdge, NoMemory, Polygon, SimpleRing};
@@ -93,6 +95,35 @@ fn polygons_of<A: Allocator + Copy>(
     grouped(alloc, edges, &written)
 }
 
+/// The polygon of a ring alone.
+fn one_polygon<A: Allocator + Copy>(
+    alloc: A,
+    ring: SimpleRing<A>,
+) -> Result<Vec<Polygon<A>, A>, NoMemory>
+    ensures { IfOk result (λ found. found.items ≡ without_holes ring ∷ []) }
+{
+    let mut polygons = Vec::with_capacity(alloc, 1)?;
+    polygons.push(Polygon::new(ring, Vec::new(alloc)))?;
+    Ok(polygons)
+}
+
+/// The polygons of directed edges by the cycles of their next edges.
+fn polygons_by_cycles<A: Allocator + Copy>(
+    alloc: A,
+    edges: &[DirectedEdge],
+) -> Result<Vec<Polygon<A>, A>, NoMemory>
+    requires closes { Closes edges.now }
+    requires in_limit { All (λ d. AreInLimit d.from d.to) edges.now }
+    ensures polygons { AreNodedEdges edges.now → HasGroundedRings edges.now → IfOk result (λ found. ArePolygons edges.now found.items) }
+    ensures each_edge { IfOk result (λ found. HaveEachEdge edges.now found.items) }
+    ensures simple { IfOk result (λ found. AreSimple (written_rings found.items)) }
+    ensures least { IfOk result (λ found. All (λ ring. IsLeastRotation ring ring) (written_rings found.items)) }
+{
+    let next = successors(alloc, edges)?;
+    let written = written_rings(alloc, edges, &next)?;
+    polygons_of(alloc, edges, written)
+}
+
 /// The polygons of directed edges that close, in canonical order: a ring that visits a vertex twice is cut there, each
 /// ring begins at its least vertex, and a polygon's holes and the polygons stand in the order of their points.
 /// That they are the polygons of the edges has two premises: the edges are noded, so that they meet at ends alone, and the rings are
@@ -110,7 +141,8 @@ pub fn polygons<A: Allocator + Copy>(
     ensures least { IfOk result (λ found. All (λ ring. IsLeastRotation ring ring) (written_rings found.items)) }
 {
     let edges = directed.edges();
-    let next = successors(alloc, edges)?;
-    let written = written_rings(alloc, edges, &next)?;
-    polygons_of(alloc, edges, written)
+    match one_ring(alloc, edges)? {
+        Some(ring) => one_polygon(alloc, ring),
+        None => polygons_by_cycles(alloc, edges),
+    }
 }

@@ -35,7 +35,7 @@ fn bits_below(span: u32, edges: usize) -> u32
 impl<A: Allocator + Copy> Stripes<A> {
     /// The stripes of the vertices of edges in their order.
     pub fn of(alloc: A, edges: &[DirectedEdge]) -> Result<Stripes<A>, NoMemory> {
-        let mut stripes = Stripes::over(alloc, edges);
+        let mut stripes = Stripes::over(alloc, edges)?;
         for place in 0..edges.len() {
             stripes.note(edges[place].from, place)?;
         }
@@ -43,24 +43,20 @@ impl<A: Allocator + Copy> Stripes<A> {
     }
 
     /// Stripes as wide as they have to be, without their beginnings.
-    fn over(alloc: A, edges: &[DirectedEdge]) -> Stripes<A> {
-        let begins = Vec::new(alloc);
-        match (edges.first(), edges.last()) {
+    fn over(alloc: A, edges: &[DirectedEdge]) -> Result<Stripes<A>, NoMemory> {
+        let begins = Vec::with_capacity(alloc, edges.len())?;
+        let (least, bits) = match (edges.first(), edges.last()) {
             (Some(first), Some(last)) => {
                 let span = last.from.x.abs_diff(first.from.x);
-                let bits = bits_below(span, edges.len());
-                Stripes {
-                    least: first.from.x,
-                    bits,
-                    begins,
-                }
+                (first.from.x, bits_below(span, edges.len()))
             }
-            _ => Stripes {
-                least: 0,
-                bits: 0,
-                begins,
-            },
-        }
+            _ => (0, 0),
+        };
+        Ok(Stripes {
+            least,
+            bits,
+            begins,
+        })
     }
 
     /// The stripe of a vertex.
@@ -135,6 +131,14 @@ fn first_between(edges: &[DirectedEdge], v: Pt, from: usize, to: usize) -> usize
     low
 }
 
+/// The place of the first edge that leaves no lesser vertex, looked for among all.
+pub fn first_leaving(edges: &[DirectedEdge], v: Pt) -> usize
+    requires { AreDirected edges.now }
+    ensures { IsFirstAt (λ d. d.from) edges.now v result }
+{
+    first_between(edges, v, 0, edges.len())
+}
+
 /// The place of the first edge that leaves no lesser vertex.
 pub fn first_at<A: Allocator + Copy>(edges: &[DirectedEdge], stripes: &Stripes<A>, v: Pt) -> usize
     requires { AreDirected edges.now }
@@ -150,6 +154,6 @@ pub fn first_at<A: Allocator + Copy>(edges: &[DirectedEdge], stripes: &Stripes<A
     {
         first_between(edges, v, from, to)
     } else {
-        first_between(edges, v, 0, edges.len())
+        first_leaving(edges, v)
     }
 }

@@ -10,6 +10,8 @@ mod generated;
 #[cfg(test)]
 mod parts;
 #[cfg(test)]
+mod rings;
+#[cfg(test)]
 mod wide;
 #[cfg(test)]
 mod worked;

@@ -133,7 +133,7 @@ module _ (ds : List DirectedEdge) (c : Closes ds) (k first : ℕ) (h : k < lengt
   pub starts_inside : first < length ds
   starts_inside = let b = behind in let i = inside in omega (arith, b, i)
 
-  starts : (edge_at ds first).from ≡ v
+  pub starts : (edge_at ds first).from ≡ v
   starts = neither_less (edge_at ds first).from v (let i = starts_inside in begins.from first nothing (omega arith) i)
       (let P : Pt → Type 0 = λ q. less q (edge_at ds first).from ≡ false in subst P (ap (λ d. d.from) is) (not_after ds c.are_directed first p nothing behind inside))
 
