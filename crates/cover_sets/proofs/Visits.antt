@@ -22,7 +22,7 @@ use Rattle.cover_sets.specs.Sets.{IsBeyond, IsListed, Keeps, set_of}
 use Rattle.cover_sets.specs.Visited.{IsBesideVisited, IsVisited, cover_beside}
 use Rattle.cover_sets.proofs.Besides.{left_is_beside}
 use Rattle.cover_sets.proofs.BorderLists.{ascending, border_at, border_is, border_within, one_number, some_border, unequal}
-use Rattle.cover_sets.proofs.Numbered.{keeps_then, listed_stays}
+use Rattle.cover_sets.proofs.Numbered.{listed_stays}
 
 same_place : (m n : ℕ) → (m ≡ n) ⊎ (¬ (m ≡ n))
 same_place m n = ⊎_elim (λ e. inl e) (λ o. inr (λ e. ⊎_elim (λ l. omega arith) (λ l. omega arith) o)) (unequal m n)
@@ -47,17 +47,17 @@ module _ (fs : List ℕ) (S : List (List ℕ)) (L R : List ℕ) where
   beside_listed bs n r o f e l h m q v count b = subst (λ (p : Option Edge). IsListed S (cover_beside count (map (bordered fs) bs) p) r) (sym e)
       (beside_at bs n r (some_border bs n l) f l (h (some_border bs n l)) (q ∙ get_or_default R n r 0 m) (subst (IsBesideVisited fs (map (bordered fs) bs) S L R) e v) count b)
 
--- ---- past an edge: S are the sets before, T those with its features, and U those with what lies beyond it
+-- ---- past an edge: S are the sets before, and U those with what lies beyond it
 module _ (fs : List ℕ) (bs : List Border) (borders : AreBorders (map (bordered fs) bs)) (s : SweptEdge) (swept : IsBeside (edges_in (map (bordered fs) bs)) s)
     (n : ℕ) (border : Border) (within : n < length bs) (is : border ≡ get_or bs n border) (edge : border.edge ≡ s.edge)
-    (S T U : List (List ℕ)) (left delta right : ℕ) (first : Keeps S T) (second : Keeps T U)
+    (S U : List (List ℕ)) (left right : ℕ) (keeps : Keeps S U)
     (known : (count : ℕ) → Below count fs → IsListed S (cover_beside count (map (bordered fs) bs) s.beside) left)
-    (own : IsListed T (slice_range fs border.from border.to) delta) (above : IsBeyond T left delta U right) where
+    (above : IsBeyond S left (slice_range fs border.from border.to) U right) where
   abbrev edges : List Bordered
   edges = map (bordered fs) bs
 
   left_listed : (count : ℕ) → Below count fs → IsListed U (cover count edges (left_side s.edge.p s.edge.q)) left
-  left_listed count b = subst (λ (set : List ℕ). IsListed U set left) (sym (left_is_beside count edges borders s swept)) (listed_stays S U (cover_beside count edges s.beside) left (keeps_then S T U first second) (known count b))
+  left_listed count b = subst (λ (set : List ℕ). IsListed U set left) (sym (left_is_beside count edges borders s swept)) (listed_stays S U (cover_beside count edges s.beside) left keeps (known count b))
 
   in_edges : Contains edges (bordered fs border)
   in_edges = (n, (let e = length-map bs (bordered fs) in omega arith), get_or-map (bordered fs) bs n border (bordered fs border) within ∙ ap (bordered fs) (sym is))
@@ -68,12 +68,12 @@ module _ (fs : List ℕ) (bs : List Border) (borders : AreBorders (map (bordered
   right_listed : (count : ℕ) → Below count fs → IsListed U (cover count edges (right_side s.edge.p s.edge.q)) right
   right_listed count b = (above.0, reached ∙ sym (crossed count))
     where
-      at_left : set_of T left ≡ cover count edges (left_side s.edge.p s.edge.q)
-      at_left = (listed_stays S T (cover_beside count edges s.beside) left first (known count b)).1 ∙ sym (left_is_beside count edges borders s swept)
+      at_left : set_of S left ≡ cover count edges (left_side s.edge.p s.edge.q)
+      at_left = (known count b).1 ∙ sym (left_is_beside count edges borders s swept)
 
       reached : set_of U right ≡ beyond count (cover count edges (left_side s.edge.p s.edge.q)) (slice_range fs border.from border.to)
-      reached = above.1 count (subst (Below count) (sym at_left) (below_cover count edges (left_side s.edge.p s.edge.q))) (subst (Below count) (sym own.1) (below_part count fs border.from border.to b))
-          ∙ ap (λ (x : List ℕ). beyond count x (set_of T delta)) at_left ∙ ap (λ (x : List ℕ). beyond count (cover count edges (left_side s.edge.p s.edge.q)) x) own.1
+      reached = above.1 count (subst (Below count) (sym at_left) (below_cover count edges (left_side s.edge.p s.edge.q))) (below_part count fs border.from border.to b)
+          ∙ ap (λ (x : List ℕ). beyond count x (slice_range fs border.from border.to)) at_left
 
   -- ---- one side, whose number is written at the edge's place
   abbrev Known : (Pt → Pt → Point) → List (List ℕ) → List ℕ → Edge → Type 0
@@ -97,7 +97,7 @@ module _ (fs : List ℕ) (bs : List Border) (borders : AreBorders (map (bordered
     kept_side : (e : Edge) → Known side S L e → Known side U (set L n new) e
     kept_side e v count b k c h q = ⊎_elim
         (λ j. here e count k b j (sym own_edge ∙ ap (λ (m : ℕ). (get_or bs m border).edge) (sym j) ∙ sym (edge_at k c h) ∙ q))
-        (λ o. subst (IsListed U (cover count edges (side e.p e.q))) (sym (get_or-set_other L n k new 0 o)) (listed_stays S U (cover count edges (side e.p e.q)) (get_or L k 0) (keeps_then S T U first second) (v count b k c h q)))
+        (λ o. subst (IsListed U (cover count edges (side e.p e.q))) (sym (get_or-set_other L n k new 0 o)) (listed_stays S U (cover count edges (side e.p e.q)) (get_or L k 0) keeps (v count b k c h q)))
         (same_place k n)
 
   module _ (L R : List ℕ) (room_left : n < length L) (room_right : n < length R) where

@@ -25,6 +25,6 @@ Keeps old new = (n : ℕ) → IsNumber old n → IsNumber new n × (set_of new n
 abbrev pub IsListed : List (List ℕ) → List ℕ → ℕ → Type 0
 IsListed sets set n = IsNumber sets n × (set_of sets n ≡ set)
 
--- n is the number of what lies beyond an edge with the features of `delta`, from where the set is that of m
-abbrev pub IsBeyond : List (List ℕ) → ℕ → ℕ → List (List ℕ) → ℕ → Type 0
-IsBeyond old m delta new n = IsNumber new n × ((count : ℕ) → All (λ f. f < count) (set_of old m) → All (λ f. f < count) (set_of old delta) → set_of new n ≡ beyond count (set_of old m) (set_of old delta))
+-- n is the number of what lies beyond an edge that is the border of the features `delta`, from where the set is that of m
+abbrev pub IsBeyond : List (List ℕ) → ℕ → List ℕ → List (List ℕ) → ℕ → Type 0
+IsBeyond old m delta new n = IsNumber new n × ((count : ℕ) → All (λ f. f < count) (set_of old m) → All (λ f. f < count) delta → set_of new n ≡ beyond count (set_of old m) delta)

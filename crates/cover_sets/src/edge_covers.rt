@@ -107,8 +107,7 @@ impl<A: Allocator + Copy> Covers<A> {
         let number = number_of(borders, swept.edge, last.wrapping_add(1));
         let left = self.beside(borders, swept.beside, last);
         let border = borders[number];
-        let delta = self.sets.of(&features[border.from..border.to])?;
-        let right = self.sets.beyond(left, delta)?;
+        let right = self.sets.beyond(left, &features[border.from..border.to])?;
         self.left[number] = left;
         self.right[number] = right;
         Ok(number)

@@ -3,9 +3,9 @@
 //! it by its parts: equal sets have equal numbers.
 //!
 //! 1. A list of features becomes a set by halves (`of`).
-//! 2. What lies beyond an edge is found part by part; parts that don't change are shared (`beyond`).
+//! 2. What lies beyond an edge is found part by part, by halves of the list of its features; parts that don't change are shared (`beyond`).
 
-ghost use Rattle.std.specs.Prelude.{◌≡◌, ◌≢◌, ◌+◌, ◌*◌, ◌/◌, ◌^◌, ◌<◌, ◌≤◌, ◌++◌, ℕ, List, [], All, AllPairs, Contains, IfOk, MatchOption, OnOk, length};
+ghost use Rattle.std.specs.Prelude.{◌≡◌, ◌≢◌, ◌+◌, ◌*◌, ◌/◌, ◌^◌, ◌<◌, ◌≤◌, ◌++◌, ◌∷◌, ℕ, true, false, List, [], All, AllPairs, Contains, IfOk, MatchOption, OnOk, length};
 ghost use Rattle.cover_sets.specs.Ends.{IsGreatest, IsLeast};
 ghost use Rattle.cover_sets.specs.Sets.{AreSets, IsBeyond, IsListed, IsNumber, Keeps, set_of};
 ghost use Rattle.cover_sets.specs.Blocks.{AreInBlock, InBlock, IsInBlock, Splits};
@@ -65,16 +65,17 @@ impl<A: Allocator + Copy> Sets<A> {
         self.of_part(features, BITS)
     }
 
-    /// The features in one of the two sets and not in both: the set beyond an edge whose features are `delta`.
-    pub fn beyond(&mut self, set: u32, delta: u32) -> Result<u32, NoMemory>
+    /// The features either of the set or of the ascending list, and not of both: the set beyond an edge that is the border of those listed.
+    pub fn beyond(&mut self, set: u32, features: &[u32]) -> Result<u32, NoMemory>
         requires set { IsNumber self.old set }
-        requires delta { IsNumber self.old delta }
+        requires ascending { AllPairs (λ f g. f < g) features.now }
+        requires below { All (λ f. f < 2147483647) features.now }
         ensures keeps { Keeps self.old self.new }
         ensures sets { AreSets self.new }
-        ensures beyond { IfOk result (IsBeyond self.old set delta self.new) }
+        ensures beyond { IfOk result (IsBeyond self.old set features.now self.new) }
     {
         let _trees = &self.trees;
-        self.exchanged(set, delta, BITS)
+        self.exchanged(set, features, BITS)
     }
 
     /// How many features the set has.
@@ -207,27 +208,24 @@ impl<A: Allocator + Copy> Sets<A> {
         }
     }
 
-    /// The least number of bits above which all features of both sets agree.
-    fn shared_levels(&self, a: u32, b: u32, most: u32) -> u32
-        requires a { IsNumber self.now a }
-        requires b { IsNumber self.now b }
-        requires some_a { a < 4294967295 }
-        requires some_b { b < 4294967295 }
-        requires apart { a ≢ b }
+    /// The least number of bits above which all features of the set and of the list agree.
+    fn shared_levels(&self, set: u32, features: &[u32], most: u32) -> u32
+        requires set { IsNumber self.now set }
+        requires some_set { set < 4294967295 }
+        requires some { 0 < length features.now }
+        requires apart { (f : ℕ) → features.now ≡ f ∷ [] → set ≢ 2147483648 + f }
+        requires ascending { AllPairs (λ f g. f < g) features.now }
         requires most { most ≤ 31 }
-        requires block { AreInBlock most (set_of self.now a) (set_of self.now b) }
+        requires block { AreInBlock most (set_of self.now set) features.now }
         ensures some { 0 < result }
         ensures within { result ≤ most }
-        ensures block { AreInBlock result (set_of self.now a) (set_of self.now b) }
+        ensures block { AreInBlock result (set_of self.now set) features.now }
     {
-        let head = self.head(a);
-        let other = self.head(b);
-        common_levels(
-            head.member,
-            other.member,
-            head.levels.max(other.levels),
-            most,
-        )
+        let head = self.head(set);
+        let first = features[0];
+        let last = features[features.len() - 1];
+        let own = common_levels(first, last, head.levels, most);
+        common_levels(first, head.member, own, most)
     }
 
     /// The set of both parts, which differ in the highest of the `levels` bits above which all agree.
@@ -304,33 +302,42 @@ impl<A: Allocator + Copy> Sets<A> {
         self.joined(low, high, level + 1)
     }
 
-    /// The features in one of two sets and not in both, where all agree above `most` bits.
-    fn exchanged(&mut self, a: u32, b: u32, most: u32) -> Result<u32, NoMemory>
-        requires a { IsNumber self.old a }
-        requires b { IsNumber self.old b }
+    /// Whether the set is that of a list of one feature.
+    fn is_alone(set: u32, features: &[u32]) -> bool
+        requires { All (λ f. f < 2147483647) features.now }
+        ensures alone { result ≡ true → (f : ℕ) × (features.now ≡ f ∷ []) × (set ≡ 2147483648 + f) }
+        ensures apart { result ≡ false → (f : ℕ) → features.now ≡ f ∷ [] → set ≢ 2147483648 + f }
+    {
+        features.len() == 1 && set == ALONE + features[0]
+    }
+
+    /// The features either of the set or of the list, and not of both, where all agree above `most` bits.
+    fn exchanged(&mut self, set: u32, features: &[u32], most: u32) -> Result<u32, NoMemory>
+        requires set { IsNumber self.old set }
+        requires ascending { AllPairs (λ f g. f < g) features.now }
+        requires below { All (λ f. f < 2147483647) features.now }
         requires most { most ≤ 31 }
-        requires block { AreInBlock most (set_of self.old a) (set_of self.old b) }
+        requires block { AreInBlock most (set_of self.old set) features.now }
         ensures keeps { Keeps self.old self.new }
         ensures sets { AreSets self.new }
-        ensures set { IfOk result (IsExchanged self.old a b self.new) }
+        ensures set { IfOk result (IsExchanged self.old set features.now self.new) }
     {
-        if a == b {
+        if features.is_empty() {
+            let _trees = &self.trees;
+            return Ok(set);
+        }
+        if set == EMPTY {
+            return self.of_part(features, most);
+        }
+        if Sets::<A>::is_alone(set, features) {
             let _trees = &self.trees;
             return Ok(EMPTY);
         }
-        if a == EMPTY {
-            let _trees = &self.trees;
-            return Ok(b);
-        }
-        if b == EMPTY {
-            let _trees = &self.trees;
-            return Ok(a);
-        }
-        let level = self.shared_levels(a, b, most) - 1;
-        let (a_low, a_high) = self.parts(a, level);
-        let (b_low, b_high) = self.parts(b, level);
-        let low = self.exchanged(a_low, b_low, level)?;
-        let high = self.exchanged(a_high, b_high, level)?;
+        let level = self.shared_levels(set, features, most) - 1;
+        let (low, high) = self.parts(set, level);
+        let (front, back) = halves(features, level);
+        let low = self.exchanged(low, front, level)?;
+        let high = self.exchanged(high, back, level)?;
         self.joined(low, high, level + 1)
     }
 }

@@ -55,9 +55,9 @@ fn are_exchanged(alloc: Global, s: &[u32], t: &[u32], wanted: &[u32]) -> Result<
     let mut sets = Sets::new(alloc);
     let first = sets.of(s)?;
     let second = sets.of(t)?;
-    let beyond = sets.beyond(first, second)?;
-    let turned = sets.beyond(second, first)?;
-    let back = sets.beyond(beyond, second)?;
+    let beyond = sets.beyond(first, t)?;
+    let turned = sets.beyond(second, s)?;
+    let back = sets.beyond(beyond, t)?;
     let listed = sets.of(wanted)?;
     Ok(
         beyond == listed

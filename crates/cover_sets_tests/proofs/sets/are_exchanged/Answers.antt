@@ -1,5 +1,9 @@
 -- Numbers stay numbers while more sets are made.
+use Rattle.std.proofs.Common.{refl}
 use Rattle.cover_sets_tests.proofs.sets.are_exchanged.Goals as goal
+
+pub beyond-requires-2-clause-ascending : goal.beyond-requires-2-clause-ascending
+beyond-requires-2-clause-ascending c = c.if-not-are_features.ensures.ascending refl
 
 pub beyond-requires-3-clause-set : goal.beyond-requires-3-clause-set
 beyond-requires-3-clause-set c = (c.in_ok-turned.ensures.keeps c.in_ok-beyond.beyond c.in_ok-beyond.ensures.beyond.0).0

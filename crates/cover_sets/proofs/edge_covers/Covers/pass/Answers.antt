@@ -16,22 +16,22 @@ beside-left-requires-clause-ascending g c = ascending c.args.features.now c.args
 pub beside-left-requires-clause-there : goal.beside-left-requires-clause-there
 beside-left-requires-clause-there g c = inside_some c.args.features.now c.args.borders.now c.args.swept.beside c.requires.there
 
-pub of-requires-clause-below : goal.of-requires-clause-below
-of-requires-clause-below g c = below_part 2147483647 c.args.features.now c.index-borders-number.result.from c.index-borders-number.result.to c.requires.below
-
 pub beyond-requires-clause-set : goal.beyond-requires-clause-set
-beyond-requires-clause-set g c = (c.in_ok-delta.ensures.keeps c.beside-left.result (c.beside-left.ensures c.args.features.now c.requires.beside 2147483647 c.requires.below).0).0
+beyond-requires-clause-set g c = (c.beside-left.ensures c.args.features.now c.requires.beside 2147483647 c.requires.below).0
+
+pub beyond-requires-clause-below : goal.beyond-requires-clause-below
+beyond-requires-clause-below g c = below_part 2147483647 c.args.features.now c.index-borders-number.result.from c.index-borders-number.result.to c.requires.below
 
 pub returns-clause-kept : goal.returns-clause-kept
 returns-clause-kept g c = kept c.args.features.now c.args.borders.now c.requires.borders c.args.swept c.requires.swept c.number_of-number.result c.index-borders-number.result c.number_of-number.ensures.within c.index-borders-number.is
     (ap (λ (b : Border). b.edge) c.index-borders-number.is ∙ c.number_of-number.ensures.edge c.index-borders-number.result)
-    c.args.self.now.sets c.of.new.self c.beyond.new.self c.beside-left.result c.in_ok-delta.delta c.in_ok-right.right c.in_ok-delta.ensures.keeps c.in_ok-right.ensures.keeps
-    (c.beside-left.ensures c.args.features.now c.requires.beside) c.in_ok-delta.ensures.set c.in_ok-right.ensures.beyond c.args.self.now.left.items c.args.self.now.right.items
+    c.args.self.now.sets c.beyond.new.self c.beside-left.result c.in_ok-right.right c.in_ok-right.ensures.keeps
+    (c.beside-left.ensures c.args.features.now c.requires.beside) c.in_ok-right.ensures.beyond c.args.self.now.left.items c.args.self.now.right.items
     (let l = c.requires.left in let w = c.number_of-number.ensures.within in omega arith) (let r = c.requires.right in let w = c.number_of-number.ensures.within in omega arith)
 
 pub returns-clause-visited : goal.returns-clause-visited
 returns-clause-visited g c = visited c.args.features.now c.args.borders.now c.requires.borders c.args.swept c.requires.swept c.number_of-number.result c.index-borders-number.result c.number_of-number.ensures.within c.index-borders-number.is
     (ap (λ (b : Border). b.edge) c.index-borders-number.is ∙ c.number_of-number.ensures.edge c.index-borders-number.result)
-    c.args.self.now.sets c.of.new.self c.beyond.new.self c.beside-left.result c.in_ok-delta.delta c.in_ok-right.right c.in_ok-delta.ensures.keeps c.in_ok-right.ensures.keeps
-    (c.beside-left.ensures c.args.features.now c.requires.beside) c.in_ok-delta.ensures.set c.in_ok-right.ensures.beyond c.args.self.now.left.items c.args.self.now.right.items
+    c.args.self.now.sets c.beyond.new.self c.beside-left.result c.in_ok-right.right c.in_ok-right.ensures.keeps
+    (c.beside-left.ensures c.args.features.now c.requires.beside) c.in_ok-right.ensures.beyond c.args.self.now.left.items c.args.self.now.right.items
     (let l = c.requires.left in let w = c.number_of-number.ensures.within in omega arith) (let r = c.requires.right in let w = c.number_of-number.ensures.within in omega arith)
