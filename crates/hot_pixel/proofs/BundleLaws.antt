@@ -14,7 +14,6 @@ use Rattle.std.proofs.lemmas.Map.Keys.{IsDistinct-IsPermutation, IsDistinct-from
 use Rattle.geom.specs.declared.point.Pt.{Pt}
 use Rattle.geom.specs.declared.edge.Edge.{Edge}
 use Rattle.geom.specs.declared.segment.Seg.{Seg}
-use Rattle.geom.specs.declared.rect.Rect.{Rect}
 use Rattle.geom.specs.Hot.{CrossIn}
 use Rattle.geom.specs.Order.{IsBefore}
 use Rattle.geom.specs.OnSegment.{IsOn}
@@ -34,8 +33,7 @@ use Rattle.hot_pixel.specs.declared.bundle.Course.TheVariants.{Columns, Rows}
 use Rattle.hot_pixel.specs.declared.bundle.Strand.{Strand}
 use Rattle.hot_pixel.specs.declared.lines.Line.{Line}
 use Rattle.hot_pixel.specs.Bundle.{exchanged, height, seen_point, AreStrands, AscendsTo, HasNoHot, IsFloor, IsFollowedBy, IsQuotient, IsSame, IsSeen, IsStrand, IsStrandSeen, RunsThrough, RunsThroughSeen}
-use Rattle.hot_pixel.specs.Halving.{edges_of, HasHot, IsHotFor}
-use Rattle.hot_pixel.specs.Rects.{IsIn}
+use Rattle.hot_pixel.specs.Halving.{edges_of, HasHotInside, IsHotFor}
 use Rattle.hot_pixel.specs.Lines.{CrossAt, IsLine}
 use Rattle.hot_pixel.proofs.HalvingLaws.{line_at}
 use Rattle.hot_pixel.proofs.LineLaws.{segment_of, segment_line, cross_at}
@@ -546,5 +544,5 @@ module _ (course : Course) (low high : ℤ) where
   bundle_has_no_hot lines ss sorted h moved up c from to k = none_hot c from to lines ss h (distinct ss sorted moved up) k
 
 -- where no pixel is hot, nothing has to be added
-pub nothing_hot : (rect : Rect) (lines : List Line) (old : List Pt) → ((c : Pt) → IsIn rect c → IsHotFor (edges_of lines) c → ⊥) → HasHot rect (edges_of lines) old old
-nothing_hot rect lines old none = record { same = λ c. ((λ h. inl h), (λ h. ⊎_elim (λ k. k) (λ k. absurd (none c k.1 k.0)) h)) }
+pub nothing_hot : (Inside : Pt → Type 0) (lines : List Line) (old : List Pt) → ((c : Pt) → Inside c → IsHotFor (edges_of lines) c → ⊥) → HasHotInside Inside (edges_of lines) old old
+nothing_hot Inside lines old none = record { same = λ c. ((λ h. inl h), (λ h. ⊎_elim (λ k. k) (λ k. absurd (none c k.1 k.0)) h)) }

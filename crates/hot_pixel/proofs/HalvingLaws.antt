@@ -21,7 +21,7 @@ use Rattle.hot_pixel.specs.declared.lines.Line.{Line}
 use Rattle.hot_pixel.specs.Lines.{IsLine, AreLines, CrossAt, HasPushed, HasCrossed, HasAllCrossed}
 use Rattle.hot_pixel.specs.Rects.{IsIn}
 use Rattle.hot_pixel.specs.Candidates.{AreOwnedHot}
-use Rattle.hot_pixel.specs.Halving.{IsMetOn, IsEndOf, IsCrossing, IsHotFor, HasEndsToo, HasHot, ArePassing, AreHalves, IsPartInLimit, edges_of}
+use Rattle.hot_pixel.specs.Halving.{IsMetOn, IsEndOf, IsCrossing, IsHotFor, HasEndsToo, HasHot, HasHotInside, AreHalves, AreParts, AreReaching, IsPartInLimit, edges_of}
 use Rattle.hot_pixel.proofs.ListLaws.{none_in, in_push, in_take_more, in_map}
 use Rattle.hot_pixel.proofs.HotLaws.{meets_start, meets_end, first_meets, second_meets, met_line, hot_limit}
 use Rattle.hot_pixel.proofs.LineLaws.{same_line, segment_of, segment_line, cross_at}
@@ -84,30 +84,30 @@ edge_below lines i l = let e = length-map lines (λ (m : Line). m.edge) in omega
 pub edges_taken : (lines : List Line) (i : ℕ) → take i (edges_of lines) ≡ edges_of (take i lines)
 edges_taken lines i = take-map (λ (m : Line). m.edge) i lines
 
-module _ (rect : Rect) (lines part : List Line) (are : ArePassing rect lines part) where
+module _ (Inside : Pt → Type 0) (lines part : List Line) (are : AreReaching Inside lines part) where
   pub hot_whole : (c : Pt) → IsHotFor (edges_of part) c → IsHotFor (edges_of lines) c
   hot_whole c = hot_for (edges_of part) (edges_of lines) c (λ e h m. let r = line_at part e h in subst (λ (f : Edge). Contains (edges_of lines) f) r.2 (edge_in lines r.0 (are.among r.0 r.1)))
 
-  pub hot_part : (c : Pt) → IsIn rect c → IsHotFor (edges_of lines) c → IsHotFor (edges_of part) c
+  pub hot_part : (c : Pt) → Inside c → IsHotFor (edges_of lines) c → IsHotFor (edges_of part) c
   hot_part c t = hot_for (edges_of lines) (edges_of part) c (λ e h m. let r = line_at lines e h in subst (λ (f : Edge). Contains (edges_of part) f) r.2 (edge_in part r.0 (are.complete r.0 c r.1 t (subst (λ (f : Edge). IsMetOn f c) (sym r.2) m))))
 
--- ---- two halves unite
-pub halves_unite : (rect first second : Rect) (lines part rest : List Line) (old mid new : List Pt) → AreHalves rect first second → ArePassing first lines part → ArePassing second lines rest → HasHot first (edges_of part) old mid → HasHot second (edges_of rest) mid new → HasHot rect (edges_of lines) old new
-halves_unite rect first second lines part rest old mid new halves in_first in_second h g = record { same = λ c. (to c, from c) }
+-- ---- two parts unite
+pub parts_unite : (Inside First Second : Pt → Type 0) (lines part rest : List Line) (old mid new : List Pt) → AreParts Inside First Second → AreReaching First lines part → AreReaching Second lines rest → HasHotInside First (edges_of part) old mid → HasHotInside Second (edges_of rest) mid new → HasHotInside Inside (edges_of lines) old new
+parts_unite Inside First Second lines part rest old mid new parts in_first in_second h g = record { same = λ c. (to c, from c) }
   where
-    to : (c : Pt) → Contains new c → Contains old c ⊎ (IsHotFor (edges_of lines) c × IsIn rect c)
+    to : (c : Pt) → Contains new c → Contains old c ⊎ (IsHotFor (edges_of lines) c × Inside c)
     to c k = ⊎_elim
-        (λ m. ⊎_elim (λ n. inl n) (λ n. inr (hot_whole first lines part in_first c n.0, (halves.same c).1 (inl n.1))) ((h.same c).0 m))
-        (λ n. inr (hot_whole second lines rest in_second c n.0, (halves.same c).1 (inr n.1)))
+        (λ m. ⊎_elim (λ n. inl n) (λ n. inr (hot_whole First lines part in_first c n.0, (parts.same c).1 (inl n.1))) ((h.same c).0 m))
+        (λ n. inr (hot_whole Second lines rest in_second c n.0, (parts.same c).1 (inr n.1)))
         ((g.same c).0 k)
 
-    from : (c : Pt) → Contains old c ⊎ (IsHotFor (edges_of lines) c × IsIn rect c) → Contains new c
+    from : (c : Pt) → Contains old c ⊎ (IsHotFor (edges_of lines) c × Inside c) → Contains new c
     from c k = ⊎_elim
         (λ m. (g.same c).1 (inl ((h.same c).1 (inl m))))
         (λ m. ⊎_elim
-        (λ t. (g.same c).1 (inl ((h.same c).1 (inr (hot_part first lines part in_first c t m.0, t)))))
-        (λ t. (g.same c).1 (inr (hot_part second lines rest in_second c t m.0, t)))
-        ((halves.same c).0 m.1))
+        (λ t. (g.same c).1 (inl ((h.same c).1 (inr (hot_part First lines part in_first c t m.0, t)))))
+        (λ t. (g.same c).1 (inr (hot_part Second lines rest in_second c t m.0, t)))
+        ((parts.same c).0 m.1))
         k
 
 -- ---- by brute force
@@ -141,20 +141,20 @@ lines_of_hot L lines c are (end s k h) = let x = are.all s k in inl (record { e 
 lines_of_hot L lines c are (crossing s t k m h) = let x = are.all s k in let y = are.all t m in inr (record { e = x.0; f = y.0; e_listed = x.1; f_listed = y.1; crosses = cross_at x.0 y.0 s t c x.2 y.2 h })
 
 -- ---- the lines that may pass, as they are found
-pub part_none : (rect : Rect) → ArePassing rect [] []
-part_none rect = record { among = λ l h. h; complete = λ l c h t m. h }
+pub part_none : (Inside : Pt → Type 0) → AreReaching Inside [] []
+part_none Inside = record { among = λ l h. h; complete = λ l c h t m. h }
 
-module _ (rect : Rect) (lines : List Line) (i : ℕ) (e : Line) (part : List Line) (l : i < length lines) (is : e ≡ get_or lines i e) where
+module _ (Inside : Pt → Type 0) (lines : List Line) (i : ℕ) (e : Line) (part : List Line) (l : i < length lines) (is : e ≡ get_or lines i e) where
   more : (x : Line) → Contains (take (i + 1) lines) x ↔ (Contains (take i lines) x ⊎ (e ≡ x))
   more x = in_take_more lines i e l is x
 
-  pub part_push : ArePassing rect (take i lines) part → ArePassing rect (take (i + 1) lines) (part ++ e ∷ [])
+  pub part_push : AreReaching Inside (take i lines) part → AreReaching Inside (take (i + 1) lines) (part ++ e ∷ [])
   part_push h = record {
     among = λ x k. (more x).1 (⊎_elim (λ m. inl (h.among x m)) (λ m. inr m) (Contains-push_cases part e x k));
     complete = λ x c k t m. ⊎_elim (λ n. in_push part x e (h.complete x c n t m)) (λ n. subst (λ (y : Line). Contains (part ++ e ∷ []) y) n (Contains-push part e)) ((more x).0 k);
   }
 
-  pub part_skip : ((c : Pt) → IsIn rect c → IsMetOn e.edge c → ⊥) → ArePassing rect (take i lines) part → ArePassing rect (take (i + 1) lines) part
+  pub part_skip : ((c : Pt) → Inside c → IsMetOn e.edge c → ⊥) → AreReaching Inside (take i lines) part → AreReaching Inside (take (i + 1) lines) part
   part_skip none h = record {
     among = λ x k. (more x).1 (inl (h.among x k));
     complete = λ x c k t m. ⊎_elim (λ n. h.complete x c n t m) (λ n. absurd (none c t (subst (λ (y : Line). IsMetOn y.edge c) (sym n) m))) ((more x).0 k);
@@ -255,8 +255,8 @@ pub tile_none : (tile : Rect) (L : List Seg) → ((s : Seg) → Contains L s →
 tile_none tile L limits none = record { ascending = λ i j d a b. absurd (omega arith); exact = λ c. ((λ k. absurd (none_in c k)), (λ k. absurd (none c (hot_limit L c (limit_all L limits) k.0) k.1))) }
 
 -- what holds of all lines holds of a part of them
-pub part_all : (P : Line → Type 0) (rect : Rect) (lines part : List Line) → ArePassing rect lines part → All P lines → All P part
-part_all P rect lines part h all = λ k d l. All-contains P lines (get_or part k d) all (h.among (get_or part k d) (Contains-get_or part k d l))
+pub part_all : (P : Line → Type 0) (Inside : Pt → Type 0) (lines part : List Line) → AreReaching Inside lines part → All P lines → All P part
+part_all P Inside lines part h all = λ k d l. All-contains P lines (get_or part k d) all (h.among (get_or part k d) (Contains-get_or part k d l))
 
 pub taken_in : (xs : List Edge) (i : ℕ) (e : Edge) → Contains (take i xs) e → Contains xs e
 taken_in xs i e h = subst (λ (es : List Edge). Contains es e) (take-append-drop i xs) (Contains-append_left (take i xs) (drop i xs) e h)

@@ -9,3 +9,4 @@ pub mod BundleLaws
 pub mod EndLaws
 pub mod CarrierLaws
 pub mod BesideLaws
+pub mod WallLaws

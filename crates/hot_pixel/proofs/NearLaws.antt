@@ -26,7 +26,7 @@ corners_within d e i j (inr (inl (k, a, b))) = (omega (arith, sized), omega (ari
 corners_within d e i j (inr (inr (k, a, b))) = (omega (arith, sized), omega (arith, sized))
 
 -- a product of two numbers within bounds
-times_within : (d v s h : ℤ) → neg_ℤ s ≤ℤ d → d ≤ℤ s → neg_ℤ h ≤ℤ v → v ≤ℤ h → (neg_ℤ (s *ℤ h) ≤ℤ (d *ℤ v)) × ((d *ℤ v) ≤ℤ (s *ℤ h))
+pub times_within : (d v s h : ℤ) → neg_ℤ s ≤ℤ d → d ≤ℤ s → neg_ℤ h ≤ℤ v → v ≤ℤ h → (neg_ℤ (s *ℤ h) ≤ℤ (d *ℤ v)) × ((d *ℤ v) ≤ℤ (s *ℤ h))
 times_within d v s h a b k l =
     let p = simp expand at (mul_nonneg (s -ℤ d) (h +ℤ v) (omega (arith, linear)) (omega (arith, linear))) in
     let q = simp expand at (mul_nonneg (s +ℤ d) (h -ℤ v) (omega (arith, linear)) (omega (arith, linear))) in
@@ -46,10 +46,10 @@ near_by d e i j u v w h s t (a, b) (k, l) (m, n) =
     let n' = simp expand at n in
     (simp expand (omega (arith, linear)), simp expand (omega (arith, linear)))
 
-size_from : (d : ℤ) → neg_ℤ (size d) ≤ℤ d
+pub size_from : (d : ℤ) → neg_ℤ (size d) ≤ℤ d
 size_from d = omega (arith, sized)
 
-size_to : (d : ℤ) → d ≤ℤ size d
+pub size_to : (d : ℤ) → d ≤ℤ size d
 size_to d = omega (arith, sized)
 
 -- the pixel c of the box from lo to hi, seen from p

@@ -41,14 +41,26 @@ IsHotFor lines c = IsEndOf lines c ⊎ IsCrossing lines c
 pub record HasEndsToo (rect : Rect) (lines : List Edge) (old new : List Pt) : Type 0 where
   pub same : (c : Pt) → Contains new c ↔ (Contains old c ⊎ (IsEndOf lines c × IsIn rect c))
 
--- new has the points of old, and the pixels of the rectangle that are hot for the lines
-pub record HasHot (rect : Rect) (lines : List Edge) (old new : List Pt) : Type 0 where
-  pub same : (c : Pt) → Contains new c ↔ (Contains old c ⊎ (IsHotFor lines c × IsIn rect c))
+-- new has the points of old, and the pixels inside that are hot for the lines
+pub record HasHotInside (Inside : Pt → Type 0) (lines : List Edge) (old new : List Pt) : Type 0 where
+  pub same : (c : Pt) → Contains new c ↔ (Contains old c ⊎ (IsHotFor lines c × Inside c))
 
--- part has some of the lines, those that meet a pixel of the rectangle among them
-pub record ArePassing (rect : Rect) (lines part : List Line) : Type 0 where
+-- those inside the rectangle
+abbrev pub HasHot : Rect → List Edge → List Pt → List Pt → Type 0
+HasHot rect lines old new = HasHotInside (IsIn rect) lines old new
+
+-- part has some of the lines, those that meet a pixel inside among them
+pub record AreReaching (Inside : Pt → Type 0) (lines part : List Line) : Type 0 where
   pub among : (l : Line) → Contains part l → Contains lines l
-  pub complete : (l : Line) (c : Pt) → Contains lines l → IsIn rect c → IsMetOn l.edge c → Contains part l
+  pub complete : (l : Line) (c : Pt) → Contains lines l → Inside c → IsMetOn l.edge c → Contains part l
+
+-- those that meet a pixel of the rectangle among them
+abbrev pub ArePassing : Rect → List Line → List Line → Type 0
+ArePassing rect lines part = AreReaching (IsIn rect) lines part
+
+-- the pixels inside are those of two parts
+pub record AreParts (Inside First Second : Pt → Type 0) : Type 0 where
+  pub same : (c : Pt) → Inside c ↔ (First c ⊎ Second c)
 
 -- the pixels of the rectangle are those of the two
 pub record AreHalves (rect first second : Rect) : Type 0 where

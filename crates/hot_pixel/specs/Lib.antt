@@ -5,3 +5,4 @@ pub mod Halving
 pub mod Bundle
 pub mod Carriers
 pub mod Beside
+pub mod Walls

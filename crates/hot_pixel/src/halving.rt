@@ -12,7 +12,7 @@ use geom::{COORDINATE_LIMIT, Edge, NoMemory, Pt, Rect, Vector};
 use std::alloc::Allocator;
 
 /// How many lines are asked before a rectangle is cut.
-const SAMPLE: usize = 16;
+pub(crate) const SAMPLE: usize = 16;
 
 /// A vector with room for twice the differences of points.
 #[derive(Clone, Copy, Debug)]
@@ -95,7 +95,7 @@ fn is_near(rect: &Rect, line: &Edge) -> bool
 }
 
 /// Whether a line may meet a pixel of a rectangle: its box shares a point with it, and it passes the square round it.
-fn passes(rect: &Rect, line: &Edge) -> bool
+pub(crate) fn passes(rect: &Rect, line: &Edge) -> bool
     requires rect_in { AreInLimit rect.now.lo rect.now.hi }
     requires line_in { AreInLimit line.now.p line.now.q }
     ensures { (c : Pt) → IsIn rect.now c → IsMetOn line.now c → IsTrue result }

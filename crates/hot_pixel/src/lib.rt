@@ -1,6 +1,7 @@
 //! Hot pixels: the lines of segments and a rectangle in, the pixels out that an end or a crossing makes hot.
 //!
-//! 1. A rectangle is cut in two, and each half goes on with the lines that pass it (`halving`).
+//! 1. A rectangle is cut in two, and each half goes on with the lines that pass it (`halving`). Where long lines would go into both,
+//!    a wall beside one of them parts it (`region`, `parting`).
 //! 2. It is left where its lines run through it in order (`bundle`); where all but a few do, these are crossed with all (`beside`).
 //! 3. A small one has its ends and its crossings found (`leaf`).
 //!
@@ -15,8 +16,11 @@ mod halving;
 mod hot;
 mod leaf;
 mod lines;
+mod parting;
 mod pixels;
+mod region;
 mod tile_sweep;
+mod wall;
 
 pub use beside::hot_beside;
 pub use bundle::is_bundle;
@@ -24,4 +28,7 @@ pub use halving::{cut, passing, within_limit};
 pub use hot::{hot_in, sweep};
 pub use leaf::{FEW, add_hot};
 pub use lines::{Line, edge_of, on_line};
+pub use parting::parts;
 pub use pixels::ascending;
+pub use region::{Region, kept, reaching};
+pub use wall::Wall;

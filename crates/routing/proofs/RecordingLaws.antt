@@ -25,7 +25,7 @@ use Rattle.hot_pixel.specs.Rects.{IsIn}
 use Rattle.hot_pixel.specs.declared.lines.Line.{Line}
 use Rattle.hot_pixel.specs.Candidates.{chosen, AreOwnedHot}
 use Rattle.hot_pixel.specs.Lines.{IsLine, CrossAt}
-use Rattle.hot_pixel.specs.Halving.{edges_of, IsEndOf, IsMetOn, IsHotFor, HasHot, ArePassing, AreHalves, IsPartInLimit}
+use Rattle.hot_pixel.specs.Halving.{edges_of, IsEndOf, IsMetOn, IsHotFor, HasHot, HasHotInside, AreParts, AreReaching, IsPartInLimit}
 use Rattle.hot_pixel.proofs.HotLaws.{hot_limit, met_limit}
 use Rattle.hot_pixel.proofs.CandidateLaws.{all_chosen, at_contains, in_chosen}
 use Rattle.hot_pixel.proofs.SweepLaws.{crossing_of, end_in, start_in, start_or_end}
@@ -39,7 +39,7 @@ use Rattle.routing.specs.Found.{IsRecordOf, HasRecords}
 use Rattle.routing.specs.Pieces.{candidates_of}
 use Rattle.routing.specs.Steps.{steps_to}
 use Rattle.routing.specs.Cutting.{IsEndIn, IsPortion}
-use Rattle.routing.specs.Recording.{IsCutTable, IsTable, AreLinesOf, IsCopy, IsRecordAlong, IsRecordOnOne, AddsAt, AddsAlong, AddsRecordsAt, AddsRecords}
+use Rattle.routing.specs.Recording.{IsCutTable, IsTable, AreLinesOf, IsCopy, IsRecordAlong, IsRecordOnOne, AddsAt, AddsAlong, AddsRecordsAt, AddsRecordsInside}
 use Rattle.routing.proofs.PieceLaws.{in_candidates}
 
 -- ---- the segments on one line, at one pixel
@@ -134,52 +134,52 @@ lines_more segments table lines pixels i l old list new below is h g = record { 
         (λ m. (g.same r).1 (inr (subst (λ (x : Line). IsRecordAlong segments table x r) (sym m) k.along, at)))
         ((more k.line).0 k.listed)
 
--- ---- two halves unite
-pub records_unite : (segments : List Seg) (table : List OnLine) (rect first second : Rect) (lines part rest : List Line) (old mid new : List Record) → AreHalves rect first second → ArePassing first lines part → ArePassing second lines rest → AddsRecords segments table first part old mid → AddsRecords segments table second rest mid new → AddsRecords segments table rect lines old new
-records_unite segments table rect first second lines part rest old mid new halves in_first in_second h g = record { same = λ r. (to r, from r) }
+-- ---- two parts unite
+pub records_unite : (segments : List Seg) (table : List OnLine) (Inside First Second : Pt → Type 0) (lines part rest : List Line) (old mid new : List Record) → AreParts Inside First Second → AreReaching First lines part → AreReaching Second lines rest → AddsRecordsInside segments table First part old mid → AddsRecordsInside segments table Second rest mid new → AddsRecordsInside segments table Inside lines old new
+records_unite segments table Inside First Second lines part rest old mid new parts in_first in_second h g = record { same = λ r. (to r, from r) }
   where
-    IsHere : Rect → List Line → Record → Type 0
-    IsHere half some r = IsRecordOnOne segments table some r × IsHotFor (edges_of some) r.pixel × IsIn half r.pixel
+    IsHere : (Pt → Type 0) → List Line → Record → Type 0
+    IsHere Here some r = IsRecordOnOne segments table some r × IsHotFor (edges_of some) r.pixel × Here r.pixel
 
-    widen : (half : Rect) (some : List Line) → ArePassing half lines some → ((c : Pt) → IsIn half c → IsIn rect c) → (r : Record) → IsHere half some r → IsHere rect lines r
-    widen half some are inside r k = (record { line = k.0.line; listed = are.among k.0.line k.0.listed; along = k.0.along }, hot_whole half lines some are r.pixel k.1, inside r.pixel k.2)
+    widen : (Here : Pt → Type 0) (some : List Line) → AreReaching Here lines some → ((c : Pt) → Here c → Inside c) → (r : Record) → IsHere Here some r → IsHere Inside lines r
+    widen Here some are inside r k = (record { line = k.0.line; listed = are.among k.0.line k.0.listed; along = k.0.along }, hot_whole Here lines some are r.pixel k.1, inside r.pixel k.2)
 
-    narrow : (half : Rect) (some : List Line) → ArePassing half lines some → (r : Record) → IsIn half r.pixel → IsHere rect lines r → IsHere half some r
-    narrow half some are r t k = (record { line = k.0.line; listed = are.complete k.0.line r.pixel k.0.listed t k.0.along.met; along = k.0.along }, hot_part half lines some are r.pixel t k.1, t)
+    narrow : (Here : Pt → Type 0) (some : List Line) → AreReaching Here lines some → (r : Record) → Here r.pixel → IsHere Inside lines r → IsHere Here some r
+    narrow Here some are r t k = (record { line = k.0.line; listed = are.complete k.0.line r.pixel k.0.listed t k.0.along.met; along = k.0.along }, hot_part Here lines some are r.pixel t k.1, t)
 
-    to : (r : Record) → Contains new r → Contains old r ⊎ IsHere rect lines r
+    to : (r : Record) → Contains new r → Contains old r ⊎ IsHere Inside lines r
     to r k = ⊎_elim
-        (λ m. ⊎_elim (λ n. inl n) (λ n. inr (widen first part in_first (λ c t. (halves.same c).1 (inl t)) r n)) ((h.same r).0 m))
-        (λ n. inr (widen second rest in_second (λ c t. (halves.same c).1 (inr t)) r n))
+        (λ m. ⊎_elim (λ n. inl n) (λ n. inr (widen First part in_first (λ c t. (parts.same c).1 (inl t)) r n)) ((h.same r).0 m))
+        (λ n. inr (widen Second rest in_second (λ c t. (parts.same c).1 (inr t)) r n))
         ((g.same r).0 k)
 
-    from : (r : Record) → Contains old r ⊎ IsHere rect lines r → Contains new r
+    from : (r : Record) → Contains old r ⊎ IsHere Inside lines r → Contains new r
     from r k = ⊎_elim
         (λ m. (g.same r).1 (inl ((h.same r).1 (inl m))))
         (λ m. ⊎_elim
-        (λ t. (g.same r).1 (inl ((h.same r).1 (inr (narrow first part in_first r t m)))))
-        (λ t. (g.same r).1 (inr (narrow second rest in_second r t m)))
-        ((halves.same r.pixel).0 m.2))
+        (λ t. (g.same r).1 (inl ((h.same r).1 (inr (narrow First part in_first r t m)))))
+        (λ t. (g.same r).1 (inr (narrow Second rest in_second r t m)))
+        ((parts.same r.pixel).0 m.2))
         k
 
 -- ---- by brute force
-module _ (rect : Rect) (lines : List Line) (new pixels : List Pt) (hot : HasHot rect (edges_of lines) [] new) (same : (c : Pt) → Contains pixels c ↔ Contains new c) where
-  hot_at : (c : Pt) → Contains pixels c → IsHotFor (edges_of lines) c × IsIn rect c
-  hot_at c k = ⊎_elim (λ m. absurd (none_in c m)) (λ m. m) ((hot.same c).0 ((same c).0 k))
+module _ (Inside : Pt → Type 0) (lines : List Line) (pixels : List Pt) (hot : HasHotInside Inside (edges_of lines) [] pixels) where
+  hot_at : (c : Pt) → Contains pixels c → IsHotFor (edges_of lines) c × Inside c
+  hot_at c k = ⊎_elim (λ m. absurd (none_in c m)) (λ m. m) ((hot.same c).0 k)
 
-  pub records_all : (segments : List Seg) (table : List OnLine) (old list : List Record) → AddsRecordsAt segments table lines pixels old list → AddsRecords segments table rect lines old list
+  pub records_all : (segments : List Seg) (table : List OnLine) (old list : List Record) → AddsRecordsAt segments table lines pixels old list → AddsRecordsInside segments table Inside lines old list
   records_all segments table old list h = record {
     same = λ r. (
       (λ k. ⊎_elim (λ m. inl m) (λ m. let t = hot_at r.pixel m.1 in inr (m.0, t.0, t.1)) ((h.same r).0 k)),
-      (λ k. ⊎_elim (λ m. (h.same r).1 (inl m)) (λ m. (h.same r).1 (inr (m.0, (same r.pixel).1 ((hot.same r.pixel).1 (inr (m.1, m.2)))))) k),
+      (λ k. ⊎_elim (λ m. (h.same r).1 (inl m)) (λ m. (h.same r).1 (inr (m.0, (hot.same r.pixel).1 (inr (m.1, m.2))))) k),
     );
   }
 
-  pub hot_added : (old all : List Pt) → all ≡ old ++ pixels → HasHot rect (edges_of lines) old all
+  pub hot_added : (old all : List Pt) → all ≡ old ++ pixels → HasHotInside Inside (edges_of lines) old all
   hot_added old all h = record {
     same = λ c. (
       (λ k. ⊎_elim (λ m. inl m) (λ m. inr (hot_at c m)) (Contains-append_cases old pixels c (subst (λ (xs : List Pt). Contains xs c) h k))),
-      (λ k. subst (λ (xs : List Pt). Contains xs c) (sym h) (⊎_elim (λ m. Contains-append_left old pixels c m) (λ m. Contains-append_right old pixels c ((same c).1 ((hot.same c).1 (inr m)))) k)),
+      (λ k. subst (λ (xs : List Pt). Contains xs c) (sym h) (⊎_elim (λ m. Contains-append_left old pixels c m) (λ m. Contains-append_right old pixels c ((hot.same c).1 (inr m))) k)),
     );
   }
 
@@ -472,7 +472,7 @@ module _ (segments : List Seg) (numbers : List ℕ) (table : List OnLine) (lines
         from : (c : Pt) → IsHot (chosen segments numbers) c × IsIn tile c → Contains pixels c
         from c k = (same c).1 ((h.same c).1 (inr (portions_of_hot c k.0, within.all c (hot_limit (chosen segments numbers) c all_limits k.0) k.1)))
 
-    pub tile_records : (pixels : List Pt) (records : List Record) → AreOwnedHot (IsIn tile) (chosen segments numbers) pixels → ((c : Pt) → Contains pixels c → IsIn part c) → AddsRecords segments table part lines [] records → HasRecords (candidates_of segments numbers) pixels records
+    pub tile_records : (pixels : List Pt) (records : List Record) → AreOwnedHot (IsIn tile) (chosen segments numbers) pixels → ((c : Pt) → Contains pixels c → IsIn part c) → AddsRecordsInside segments table (IsIn part) lines [] records → HasRecords (candidates_of segments numbers) pixels records
     tile_records pixels records hot inside h = record { same = λ r. (to r, from r) }
       where
         to : (r : Record) → Contains records r → ((c : Candidate) × Contains (candidates_of segments numbers) c × IsRecordOf c.number c.segment r) × Contains pixels r.pixel
@@ -505,5 +505,14 @@ pub no_records : (segments : List Seg) (numbers : List ℕ) → HasRecords (cand
 no_records segments numbers = record { same = λ r. (λ h. absurd (none_in r h), λ h. absurd (none_in r.pixel h.1)) }
 
 -- where no pixel is hot, no record has to be added
-pub nothing_recorded : (segments : List Seg) (table : List OnLine) (rect : Rect) (lines : List Line) (old : List Record) → ((c : Pt) → IsIn rect c → IsHotFor (edges_of lines) c → ⊥) → AddsRecords segments table rect lines old old
-nothing_recorded segments table rect lines old none = record { same = λ r. ((λ h. inl h), (λ h. ⊎_elim (λ k. k) (λ k. absurd (none r.pixel k.2 k.1)) h)) }
+pub nothing_recorded : (segments : List Seg) (table : List OnLine) (Inside : Pt → Type 0) (lines : List Line) (old : List Record) → ((c : Pt) → Inside c → IsHotFor (edges_of lines) c → ⊥) → AddsRecordsInside segments table Inside lines old old
+nothing_recorded segments table Inside lines old none = record { same = λ r. ((λ h. inl h), (λ h. ⊎_elim (λ k. k) (λ k. absurd (none r.pixel k.2 k.1)) h)) }
+
+-- the same records under another name of what is inside
+pub records_same : (segments : List Seg) (table : List OnLine) (Inside Other : Pt → Type 0) (lines : List Line) (old new : List Record) → ((c : Pt) → Inside c ↔ Other c) → AddsRecordsInside segments table Inside lines old new → AddsRecordsInside segments table Other lines old new
+records_same segments table Inside Other lines old new alike h = record {
+  same = λ r. (
+    (λ k. ⊎_elim (λ m. inl m) (λ m. inr (m.0, m.1, (alike r.pixel).0 m.2)) ((h.same r).0 k)),
+    (λ k. (h.same r).1 (⊎_elim (λ m. inl m) (λ m. inr (m.0, m.1, (alike r.pixel).1 m.2)) k)),
+  );
+}

@@ -1,11 +1,9 @@
 -- Records of the segments on lines, as they are found (own).
 use Rattle.std.specs.Prelude.{◌≡◌, ◌⊎◌, ◌↔◌, ℕ, ◌<◌, ◌≤◌, All, Contains, List, Some, length, slice_get}
 use Rattle.geom.specs.declared.point.Pt.{Pt}
-use Rattle.geom.specs.declared.rect.Rect.{Rect}
 use Rattle.geom.specs.declared.segment.Seg.{Seg}
 use Rattle.hot_pixel.specs.declared.lines.Line.{Line}
 use Rattle.hot_pixel.specs.Lines.{IsLine}
-use Rattle.hot_pixel.specs.Rects.{IsIn}
 use Rattle.hot_pixel.specs.Halving.{edges_of, IsMetOn, IsHotFor}
 use Rattle.routing.specs.declared.by_line.OnLine.{OnLine}
 use Rattle.routing.specs.declared.record.Record.{Record}
@@ -69,6 +67,6 @@ pub record AddsAlong (segments : List Seg) (table : List OnLine) (line : Line) (
 pub record AddsRecordsAt (segments : List Seg) (table : List OnLine) (lines : List Line) (pixels : List Pt) (old new : List Record) : Type 0 where
   pub same : (r : Record) → Contains new r ↔ (Contains old r ⊎ (IsRecordOnOne segments table lines r × Contains pixels r.pixel))
 
--- new has the records of old, and those of the lines at the pixels of the rectangle that are hot for them
-pub record AddsRecords (segments : List Seg) (table : List OnLine) (rect : Rect) (lines : List Line) (old new : List Record) : Type 0 where
-  pub same : (r : Record) → Contains new r ↔ (Contains old r ⊎ (IsRecordOnOne segments table lines r × IsHotFor (edges_of lines) r.pixel × IsIn rect r.pixel))
+-- new has the records of old, and those of the lines at the pixels inside that are hot for them
+pub record AddsRecordsInside (segments : List Seg) (table : List OnLine) (Inside : Pt → Type 0) (lines : List Line) (old new : List Record) : Type 0 where
+  pub same : (r : Record) → Contains new r ↔ (Contains old r ⊎ (IsRecordOnOne segments table lines r × IsHotFor (edges_of lines) r.pixel × Inside r.pixel))

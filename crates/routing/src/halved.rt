@@ -1,22 +1,24 @@
 //! The hot pixels of a tile with the records of the segments that meet them, found in ever smaller halves of it.
 //!
 //! 1. Where segments are many they are cut into portions, of which no two overlap on one carrier (`by_line`). These are the lines.
-//! 2. A rectangle with many lines that run side by side is left: it has no hot pixel.
+//! 2. A region, at first the tile, with many lines that run side by side in its rectangle is left: it has no hot pixel.
 //! 3. Where nearly all of many do, the others are crossed with all lines, unless more than some pixels are found so.
-//! 4. Another one with many lines is halved, and each half is left with the lines that may pass it.
+//! 4. Another one with many lines is parted (`hot_pixel: parts`), and each part is left with the lines that may meet its pixels.
 //! 5. Where few are left, or one pixel, all pairs are crossed; in a pixel with many lines those of one line of each carrier.
 //! 6. Each line is tested against each hot pixel that was found there. Where it meets one, each segment on the line has a
 //!    record.
 
-ghost use Rattle.std.specs.Prelude.{◌<◌, ◌≤◌, All, IfOk, IfSome, OnOk, [], length};
+ghost use Rattle.std.specs.Prelude.{◌<◌, ◌≤◌, All, IfOk, IfSome, List, OnOk, [], length};
 ghost use Rattle.geom.specs.declared.rect.Rect.{Rect};
 ghost use Rattle.geom.specs.Limit.{AreInLimit, InLimit};
+ghost use Rattle.hot_pixel.specs.declared.wall.Wall.{Wall};
 ghost use Rattle.hot_pixel.specs.Candidates.{chosen, AreOwnedHot};
-ghost use Rattle.hot_pixel.specs.Halving.{edges_of, ArePassing, HasHot};
+ghost use Rattle.hot_pixel.specs.Halving.{edges_of, AreReaching, HasHot, HasHotInside};
 ghost use Rattle.hot_pixel.specs.Rects.{IsIn};
+ghost use Rattle.hot_pixel.specs.Walls.{IsInside};
 ghost use Rattle.routing.specs.Found.{HasRecords};
 ghost use Rattle.routing.specs.Pieces.{candidates_of};
-ghost use Rattle.routing.specs.Recording.{AddsAt, AddsAlong, AddsRecordsAt, AddsRecords};
+ghost use Rattle.routing.specs.Recording.{AddsAt, AddsAlong, AddsRecordsAt, AddsRecordsInside};
 
 use crate::by_line::{OnLine, by_line, lines_of};
 use crate::met::meets;
@@ -24,12 +26,14 @@ use crate::pieces::Part;
 use crate::record::{Record, steps_to};
 use geom::{NoMemory, Pt, Rect, Seg};
 use hot_pixel::{
-    FEW, Line, add_hot, ascending, cut, hot_beside, is_bundle, on_line, passing, within_limit,
+    FEW, Line, Region, add_hot, ascending, hot_beside, is_bundle, kept, on_line, parts, reaching,
+    within_limit,
 };
 use std::alloc::Allocator;
 
-/// How often a rectangle is halved at most. Within the coordinate limit a single pixel is left after 60.
-const DEPTH: u32 = 60;
+/// How often a region is parted at most. Within the coordinate limit a single pixel is left after 60 halvings of its rectangle, and it
+/// has 60 walls at most.
+const DEPTH: u32 = 120;
 
 /// Adds the record of each segment on a line at a pixel.
 #[inline(never)]
@@ -103,35 +107,36 @@ fn add_records<A: Allocator>(
     Ok(())
 }
 
-/// Adds pixels that were found, all that are hot for the lines of a rectangle, and the records there.
+/// Adds those of the pixels that are hot for the lines of a rectangle that lie in a region of it, and the records there.
 fn add_found<A: Allocator>(
+    alloc: A,
     here: Vec<Pt, A>,
     segments: &[Seg],
     table: &[OnLine],
-    rect: &Rect,
+    region: &Region<A>,
     lines: &[Line],
     found: &mut Part<A>,
 ) -> Result<(), NoMemory>
-    requires here { HasHot rect.now (edges_of lines.now) [] here.items }
+    requires here { HasHot region.now.rect (edges_of lines.now) [] here.items }
     requires segments_in { All (λ s. AreInLimit s.a s.b) segments.now }
     requires table_in { All (λ x. x.number < length segments.now) table.now }
     requires lines_past { All (λ l. l.past ≤ length table.now) lines.now }
     requires lines_in { All (λ l. AreInLimit l.edge.p l.edge.q) lines.now }
-    ensures pixels { OnOk result (HasHot rect.now (edges_of lines.now) found.old.pixels.items found.new.pixels.items) }
-    ensures records { OnOk result (AddsRecords segments.now table.now rect.now lines.now found.old.records.items found.new.records.items) }
+    ensures pixels { OnOk result (HasHotInside (IsInside region.now.rect region.now.walls.items) (edges_of lines.now) found.old.pixels.items found.new.pixels.items) }
+    ensures records { OnOk result (AddsRecordsInside segments.now table.now (IsInside region.now.rect region.now.walls.items) lines.now found.old.records.items found.new.records.items) }
 {
-    let pixels = ascending(here);
+    let pixels = kept(alloc, &region.walls, ascending(here))?;
     add_records(&mut found.records, segments, table, lines, &pixels)?;
     found.pixels.extend_from_slice(&pixels)?;
     Ok(())
 }
 
-/// Adds the pixels of a rectangle that are hot for its lines, by ends and pairs, and the records there.
+/// Adds the pixels of a region that are hot for the lines of its rectangle, by ends and pairs, and the records there.
 fn add_all<A: Allocator + Copy>(
     alloc: A,
     segments: &[Seg],
     table: &[OnLine],
-    rect: &Rect,
+    region: &Region<A>,
     lines: &[Line],
     found: &mut Part<A>,
 ) -> Result<(), NoMemory>
@@ -139,72 +144,75 @@ fn add_all<A: Allocator + Copy>(
     requires table_in { All (λ x. x.number < length segments.now) table.now }
     requires lines_past { All (λ l. l.past ≤ length table.now) lines.now }
     requires lines_in { All (λ l. AreInLimit l.edge.p l.edge.q) lines.now }
-    ensures pixels { OnOk result (HasHot rect.now (edges_of lines.now) found.old.pixels.items found.new.pixels.items) }
-    ensures records { OnOk result (AddsRecords segments.now table.now rect.now lines.now found.old.records.items found.new.records.items) }
+    ensures pixels { OnOk result (HasHotInside (IsInside region.now.rect region.now.walls.items) (edges_of lines.now) found.old.pixels.items found.new.pixels.items) }
+    ensures records { OnOk result (AddsRecordsInside segments.now table.now (IsInside region.now.rect region.now.walls.items) lines.now found.old.records.items found.new.records.items) }
 {
     let mut here = Vec::with_capacity(alloc, lines.len())?;
-    add_hot(alloc, rect, lines, &mut here)?;
-    add_found(here, segments, table, rect, lines, found)
+    add_hot(alloc, &region.rect, lines, &mut here)?;
+    add_found(alloc, here, segments, table, region, lines, found)
 }
 
-/// The lines that may pass a half of a rectangle. None stands for all of them, which so never stand in memory twice.
+/// The lines that may meet a pixel of a part of a region. None stands for all of them, which so never stand in memory twice.
 fn fewer<A: Allocator>(
     alloc: A,
-    half: &Rect,
+    part: &Region<A>,
     lines: &[Line],
 ) -> Result<Option<Vec<Line, A>>, NoMemory>
-    requires half_in { AreInLimit half.now.lo half.now.hi }
+    requires part_in { AreInLimit part.now.rect.lo part.now.rect.hi }
     requires lines_in { All (λ l. AreInLimit l.edge.p l.edge.q) lines.now }
-    ensures { IfOk result (λ f. IfSome f (λ part. ArePassing half.now lines.now part.items)) }
+    ensures { IfOk result (λ f. IfSome f (λ some. AreReaching (IsInside part.now.rect part.now.walls.items) lines.now some.items)) }
 {
-    let part = passing(alloc, half, lines)?;
-    if part.len() == lines.len() {
+    let some = reaching(alloc, part, lines)?;
+    if some.len() == lines.len() {
         return Ok(None);
     }
-    Ok(Some(part))
+    Ok(Some(some))
 }
 
-/// The lines that a half is left with: the fewer ones, or all.
+/// The lines that a part is left with: the fewer ones, or all.
 fn left_of<'a, A: Allocator>(lines: &'a [Line], fewer: &'a Option<Vec<Line, A>>) -> &'a [Line]
-    ensures { (half : Rect) → IfSome fewer.now (λ part. ArePassing half lines.now part.items) → ArePassing half lines.now result.now }
+    ensures { (rect : Rect) (walls : List Wall) → IfSome fewer.now (λ some. AreReaching (IsInside rect walls) lines.now some.items) → AreReaching (IsInside rect walls) lines.now result.now }
 {
     match fewer {
-        Some(part) => part,
+        Some(some) => some,
         None => lines,
     }
 }
 
-/// Adds the pixels of a rectangle that are hot for its lines, and the records there. Where the lines are many it has none if
-/// they run side by side. If nearly all do, the others are crossed with all; else it is halved, and each half is left with those
-/// that may pass it.
+/// Adds the pixels of a region that are hot for its lines, and the records there. Where the lines are many it has none if they run
+/// side by side. If nearly all do, the others are crossed with all; else it is parted, and each part is left with those that may
+/// meet its pixels.
 fn halve<A: Allocator + Copy>(
     alloc: A,
     segments: &[Seg],
     table: &[OnLine],
-    rect: &Rect,
+    region: &Region<A>,
     lines: &[Line],
     depth: u32,
     found: &mut Part<A>,
 ) -> Result<(), NoMemory>
     requires segments_in { All (λ s. AreInLimit s.a s.b) segments.now }
     requires table_in { All (λ x. x.number < length segments.now) table.now }
-    requires rect_in { AreInLimit rect.now.lo rect.now.hi }
+    requires rect_in { AreInLimit region.now.rect.lo region.now.rect.hi }
     requires lines_past { All (λ l. l.past ≤ length table.now) lines.now }
     requires lines_in { All (λ l. AreInLimit l.edge.p l.edge.q) lines.now }
-    ensures pixels { OnOk result (HasHot rect.now (edges_of lines.now) found.old.pixels.items found.new.pixels.items) }
-    ensures records { OnOk result (AddsRecords segments.now table.now rect.now lines.now found.old.records.items found.new.records.items) }
+    ensures pixels { OnOk result (HasHotInside (IsInside region.now.rect region.now.walls.items) (edges_of lines.now) found.old.pixels.items found.new.pixels.items) }
+    ensures records { OnOk result (AddsRecordsInside segments.now table.now (IsInside region.now.rect region.now.walls.items) lines.now found.old.records.items found.new.records.items) }
 {
     if depth == 0 || lines.len() <= FEW {
-        return add_all(alloc, segments, table, rect, lines, found);
+        return add_all(alloc, segments, table, region, lines, found);
     }
-    if is_bundle(alloc, rect, lines)? {
+    if region.is_empty() {
         return Ok(());
     }
-    if let Some(here) = hot_beside(alloc, rect, lines)? {
-        return add_found(here, segments, table, rect, lines, found);
+    if is_bundle(alloc, &region.rect, lines)? {
+        return Ok(());
     }
-    match cut(rect, lines) {
-        None => add_all(alloc, segments, table, rect, lines, found),
+    if let Some(here) = hot_beside(alloc, &region.rect, lines)? {
+        return add_found(alloc, here, segments, table, region, lines, found);
+    }
+    match parts(alloc, region, lines)? {
+        None => add_all(alloc, segments, table, region, lines, found),
         Some((first, second)) => {
             let part = fewer(alloc, &first, lines)?;
             let left = left_of(lines, &part);
@@ -239,7 +247,8 @@ pub(crate) fn found_in<A: Allocator + Copy>(
     match within_limit(tile) {
         None => Ok(found),
         Some(part) => {
-            halve(alloc, segments, &table, &part, &lines, DEPTH, &mut found)?;
+            let whole = Region::open(alloc, part);
+            halve(alloc, segments, &table, &whole, &lines, DEPTH, &mut found)?;
             Ok(Part {
                 pixels: ascending(found.pixels),
                 records: found.records,

@@ -9,7 +9,7 @@ use crate::shapes::{Ends, Point, point, segment};
 use geom::{NoMemory, Pt, Rect, Seg};
 use grid::{Count, Grid};
 use hot_pixel::{hot_in, sweep};
-use routing::{Piece, piece};
+use routing::{Piece, meets, piece};
 use std::alloc::Allocator;
 use std::marker::Brand;
 use std::sync::ledger::{Blank, Ledger};
@@ -86,6 +86,42 @@ fn pile<A: Allocator>(alloc: A) -> Result<Vec<Seg, A>, NoMemory>
         )?;
     }
     Ok(segments)
+}
+
+// Seventy slanted lines side by side, and a short one beside each, of which some cross it or its neighbour.
+fn confetti<A: Allocator>(alloc: A) -> Result<Vec<Seg, A>, NoMemory>
+    ensures { IfOk result (λ v. All (λ s. AreInLimit s.a s.b) v.items) }
+{
+    let mut segments = Vec::new(alloc);
+    for at in 0..70i32 {
+        let low = at.wrapping_mul(6);
+        push(&mut segments, ((0, low), (300, low.wrapping_add(200))))?;
+        let x = at.wrapping_mul(37).rem_euclid(290);
+        let y = low
+            .wrapping_add(x.div_euclid(3).wrapping_mul(2))
+            .wrapping_add(at.rem_euclid(5));
+        let across = (x.wrapping_add(2), y.wrapping_add(at.rem_euclid(3)));
+        push(
+            &mut segments,
+            ((x, y), (across.0, across.1.wrapping_sub(1))),
+        )?;
+    }
+    Ok(segments)
+}
+
+// How often a segment meets one of some pixels.
+fn count_met(segments: &[Seg], pixels: &[Pt]) -> usize
+    requires { All (λ s. AreInLimit s.a s.b) segments.now }
+{
+    let mut count = 0usize;
+    for s in segments {
+        for pixel in pixels {
+            if pixel.is_in_limit() && meets(s, *pixel) {
+                count = count.wrapping_add(1);
+            }
+        }
+    }
+    count
 }
 
 // The numbers of all segments.
@@ -209,5 +245,25 @@ fn finds_a_pile(rt: HostRuntime) -> Result<(), Fail> {
         tile.piece.records.len(),
     );
     assert!(rt; found == (154, 154, 154, 744), "{found:?}");
+    Ok(())
+}
+
+// The lines between which the short ones stand go into both halves of each rectangle.
+#[test]
+fn finds_confetti(rt: HostRuntime) -> Result<(), Fail> {
+    let alloc = rt.alloc();
+    let grid = grid_over((0, -1), (300, 620), 1024)?;
+    let segments = confetti(alloc)?;
+    let tile = tile_of::<Brand, _>(alloc, Blank::new(1), &grid, 0, &segments)?;
+    let met = count_met(&segments, &tile.hot);
+    let found = (
+        tile.hot.len(),
+        tile.piece.hot as usize,
+        tile.piece.records.len(),
+    );
+    assert!(rt;
+        found == (tile.swept.len(), tile.swept.len(), met),
+        "{found:?}, {met}"
+    );
     Ok(())
 }

@@ -2,12 +2,13 @@ use Rattle.std.proofs.Common.{List, subst}
 use Rattle.std.proofs.lemmas.List.{take_all}
 use Rattle.hot_pixel.specs.declared.lines.Line.{Line}
 use Rattle.hot_pixel.specs.Halving.{ArePassing}
+use Rattle.hot_pixel.specs.Rects.{IsIn}
 use Rattle.hot_pixel.proofs.HalvingLaws.{part_none, part_push, part_skip}
 use Rattle.hot_pixel.proofs.halving.passing.Goals as goal
 use Rattle.hot_pixel.proofs.halving.passing.Goals.{then-passes+in_ok-push, else-passes}
 
 pub loop-line-init : goal.loop-line-init
-loop-line-init g c = rw c.in_ok-part.ensures.items (part_none c.args.rect.now)
+loop-line-init g c = rw c.in_ok-part.ensures.items (part_none (IsIn c.args.rect.now))
 
 pub loop-line-preserved : goal.loop-line-preserved
 loop-line-preserved g c =
@@ -16,8 +17,8 @@ loop-line-preserved g c =
     let i = c.loop-line.line-index in
     let e = c.line-item.result in
     elim c.if-passes.branch [
-      | then-passes+in_ok-push w ↦ rw (w.part-is, w.in_ok-push.ensures.items) (part_push rect lines i e c.loop-line.part.items c.loop-line-test.true c.line-item.is c.loop-line.invariant)
-      | else-passes w ↦ rw w.part-is (part_skip rect lines i e c.loop-line.part.items c.loop-line-test.true c.line-item.is (λ p h m. let a = c.passes.ensures p h m in let b = w.if-passes.false in cc) c.loop-line.invariant)
+      | then-passes+in_ok-push w ↦ rw (w.part-is, w.in_ok-push.ensures.items) (part_push (IsIn rect) lines i e c.loop-line.part.items c.loop-line-test.true c.line-item.is c.loop-line.invariant)
+      | else-passes w ↦ rw w.part-is (part_skip (IsIn rect) lines i e c.loop-line.part.items c.loop-line-test.true c.line-item.is (λ p h m. let a = c.passes.ensures p h m in let b = w.if-passes.false in cc) c.loop-line.invariant)
     ]
 
 pub returns : goal.returns

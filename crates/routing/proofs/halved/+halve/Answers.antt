@@ -1,13 +1,18 @@
-use Rattle.std.proofs.Common.{◌≤◌, arith, length}
+use Rattle.std.proofs.Common.{◌≤◌, arith, length, subst}
+use Rattle.std.specs.Prelude.{IfSome}
 use Rattle.geom.specs.Limit.{AreInLimit}
-use Rattle.hot_pixel.proofs.HalvingLaws.{halves_unite, part_all}
+use Rattle.hot_pixel.specs.Halving.{AreParts}
+use Rattle.hot_pixel.specs.Walls.{IsInside}
+use Rattle.hot_pixel.proofs.HalvingLaws.{part_all, parts_unite}
 use Rattle.hot_pixel.proofs.BundleLaws.{nothing_hot}
 use Rattle.routing.proofs.RecordingLaws.{nothing_recorded, records_unite}
 use Rattle.routing.proofs.halved.+halve.Goals as goal
 
 pub halve-requires : goal.halve-requires
 halve-requires g t c =
-    let are = c.left_of-left.ensures c.in-Some-cut.first c.in_ok-part-in-Some-cut.ensures in
+    let first = c.in-Some-2.first in
+    let are = c.left_of-left.ensures first.rect first.walls.items c.in_ok-part-in-Some-2.ensures in
+    let within = subst (λ o. IfSome o (λ h. AreInLimit h.0.rect.lo h.0.rect.hi)) c.in-Some-2.is c.in_ok-parts.ensures.first_in in
     λ κs h. (
       omega arith,
       (
@@ -17,17 +22,19 @@ halve-requires g t c =
           (
             c.requires.table_in,
             (
-              c.in-Some-cut.ensures.1,
-              (part_all (λ l. l.past ≤ length c.args.table.now) c.in-Some-cut.first c.args.lines.now _ are c.requires.lines_past, part_all (λ l. AreInLimit l.edge.p l.edge.q) c.in-Some-cut.first c.args.lines.now _ are c.requires.lines_in),
+              within,
+              (part_all (λ l. l.past ≤ length c.args.table.now) (IsInside first.rect first.walls.items) c.args.lines.now _ are c.requires.lines_past, part_all (λ l. AreInLimit l.edge.p l.edge.q) (IsInside first.rect first.walls.items) c.args.lines.now _ are c.requires.lines_in),
             ),
           ),
         ),
       ),
     )
 
-pub halve-requires-in-Some-cut : goal.halve-requires-in-Some-cut
-halve-requires-in-Some-cut g t c =
-    let are = c.left_of-left-in-Some-cut.ensures c.in-Some-cut.second c.in_ok-rest-in-Some-cut.ensures in
+pub halve-requires-in-Some-2 : goal.halve-requires-in-Some-2
+halve-requires-in-Some-2 g t c =
+    let second = c.in-Some-2.second in
+    let are = c.left_of-left-in-Some-2.ensures second.rect second.walls.items c.in_ok-rest-in-Some-2.ensures in
+    let within = subst (λ o. IfSome o (λ h. AreInLimit h.1.rect.lo h.1.rect.hi)) c.in-Some-2.is c.in_ok-parts.ensures.second_in in
     λ κs h. (
       omega arith,
       (
@@ -37,24 +44,34 @@ halve-requires-in-Some-cut g t c =
           (
             c.requires.table_in,
             (
-              c.in-Some-cut.ensures.2,
-              (part_all (λ l. l.past ≤ length c.args.table.now) c.in-Some-cut.second c.args.lines.now _ are c.requires.lines_past, part_all (λ l. AreInLimit l.edge.p l.edge.q) c.in-Some-cut.second c.args.lines.now _ are c.requires.lines_in),
+              within,
+              (part_all (λ l. l.past ≤ length c.args.table.now) (IsInside second.rect second.walls.items) c.args.lines.now _ are c.requires.lines_past, part_all (λ l. AreInLimit l.edge.p l.edge.q) (IsInside second.rect second.walls.items) c.args.lines.now _ are c.requires.lines_in),
             ),
           ),
         ),
       ),
     )
 
-pub returns-in_ok-halve-in-Some-cut-2-clause-pixels : goal.returns-in_ok-halve-in-Some-cut-2-clause-pixels
-returns-in_ok-halve-in-Some-cut-2-clause-pixels g t c = halves_unite c.args.rect.now c.in-Some-cut.first c.in-Some-cut.second c.args.lines.now _ _ c.args.found.now.pixels.items c.halve.new.found.pixels.items c.halve-in-Some-cut.new.found.pixels.items c.in-Some-cut.ensures.0
-    (c.left_of-left.ensures c.in-Some-cut.first c.in_ok-part-in-Some-cut.ensures) (c.left_of-left-in-Some-cut.ensures c.in-Some-cut.second c.in_ok-rest-in-Some-cut.ensures) c.in_ok-halve-in-Some-cut.ensures.pixels c.in_ok-halve-in-Some-cut-2.ensures.pixels
+pub returns-in_ok-halve-in-Some-2-2-clause-pixels : goal.returns-in_ok-halve-in-Some-2-2-clause-pixels
+returns-in_ok-halve-in-Some-2-2-clause-pixels g t c =
+    let region = c.args.region.now in
+    let first = c.in-Some-2.first in
+    let second = c.in-Some-2.second in
+    let parts = subst (λ o. IfSome o (λ h. AreParts (IsInside region.rect region.walls.items) (IsInside h.0.rect h.0.walls.items) (IsInside h.1.rect h.1.walls.items))) c.in-Some-2.is c.in_ok-parts.ensures.parts in
+    parts_unite (IsInside region.rect region.walls.items) (IsInside first.rect first.walls.items) (IsInside second.rect second.walls.items) c.args.lines.now _ _ c.args.found.now.pixels.items c.halve.new.found.pixels.items c.halve-in-Some-2.new.found.pixels.items parts
+    (c.left_of-left.ensures first.rect first.walls.items c.in_ok-part-in-Some-2.ensures) (c.left_of-left-in-Some-2.ensures second.rect second.walls.items c.in_ok-rest-in-Some-2.ensures) c.in_ok-halve-in-Some-2.ensures.pixels c.in_ok-halve-in-Some-2-2.ensures.pixels
 
-pub returns-in_ok-halve-in-Some-cut-2-clause-records : goal.returns-in_ok-halve-in-Some-cut-2-clause-records
-returns-in_ok-halve-in-Some-cut-2-clause-records g t c = records_unite c.args.segments.now c.args.table.now c.args.rect.now c.in-Some-cut.first c.in-Some-cut.second c.args.lines.now _ _ c.args.found.now.records.items c.halve.new.found.records.items c.halve-in-Some-cut.new.found.records.items c.in-Some-cut.ensures.0
-    (c.left_of-left.ensures c.in-Some-cut.first c.in_ok-part-in-Some-cut.ensures) (c.left_of-left-in-Some-cut.ensures c.in-Some-cut.second c.in_ok-rest-in-Some-cut.ensures) c.in_ok-halve-in-Some-cut.ensures.records c.in_ok-halve-in-Some-cut-2.ensures.records
+pub returns-in_ok-halve-in-Some-2-2-clause-records : goal.returns-in_ok-halve-in-Some-2-2-clause-records
+returns-in_ok-halve-in-Some-2-2-clause-records g t c =
+    let region = c.args.region.now in
+    let first = c.in-Some-2.first in
+    let second = c.in-Some-2.second in
+    let parts = subst (λ o. IfSome o (λ h. AreParts (IsInside region.rect region.walls.items) (IsInside h.0.rect h.0.walls.items) (IsInside h.1.rect h.1.walls.items))) c.in-Some-2.is c.in_ok-parts.ensures.parts in
+    records_unite c.args.segments.now c.args.table.now (IsInside region.rect region.walls.items) (IsInside first.rect first.walls.items) (IsInside second.rect second.walls.items) c.args.lines.now _ _ c.args.found.now.records.items c.halve.new.found.records.items c.halve-in-Some-2.new.found.records.items parts
+    (c.left_of-left.ensures first.rect first.walls.items c.in_ok-part-in-Some-2.ensures) (c.left_of-left-in-Some-2.ensures second.rect second.walls.items c.in_ok-rest-in-Some-2.ensures) c.in_ok-halve-in-Some-2.ensures.records c.in_ok-halve-in-Some-2-2.ensures.records
 
 pub returns-then-branch-clause-pixels : goal.returns-then-branch-clause-pixels
-returns-then-branch-clause-pixels g t c = nothing_hot c.args.rect.now c.args.lines.now c.args.found.now.pixels.items (c.in_ok-is_bundle.ensures c.if-branch.true)
+returns-then-branch-clause-pixels g t c = nothing_hot (IsInside c.args.region.now.rect c.args.region.now.walls.items) c.args.lines.now c.args.found.now.pixels.items (λ p inside. c.in_ok-is_bundle.ensures c.if-branch.true p inside.in_rect)
 
 pub returns-then-branch-clause-records : goal.returns-then-branch-clause-records
-returns-then-branch-clause-records g t c = nothing_recorded c.args.segments.now c.args.table.now c.args.rect.now c.args.lines.now c.args.found.now.records.items (c.in_ok-is_bundle.ensures c.if-branch.true)
+returns-then-branch-clause-records g t c = nothing_recorded c.args.segments.now c.args.table.now (IsInside c.args.region.now.rect c.args.region.now.walls.items) c.args.lines.now c.args.found.now.records.items (λ p inside. c.in_ok-is_bundle.ensures c.if-branch.true p inside.in_rect)

@@ -1,17 +1,46 @@
-use Rattle.std.proofs.Common.{List, subst, sym, ◌∙◌, ap, ◌++◌}
-use Rattle.std.specs.Prelude.{All}
+use Rattle.std.proofs.Common.{List, [], subst, sym, ◌∙◌, ap, ◌++◌, ◌↔◌}
+use Rattle.std.specs.Prelude.{All, Contains}
 use Rattle.geom.specs.declared.point.Pt.{Pt}
+use Rattle.geom.specs.declared.rect.Rect.{Rect}
 use Rattle.geom.specs.Limit.{InLimit}
+use Rattle.hot_pixel.specs.declared.lines.Line.{Line}
+use Rattle.hot_pixel.specs.declared.wall.Wall.{Wall}
+use Rattle.hot_pixel.specs.Halving.{edges_of, HasHot, HasHotInside}
+use Rattle.hot_pixel.specs.Rects.{IsIn}
+use Rattle.hot_pixel.specs.Walls.{AreKept, IsInside}
+use Rattle.hot_pixel.proofs.WallLaws.{hot_kept, hot_same}
 use Rattle.routing.specs.Recording.{AddsRecordsAt}
 use Rattle.routing.proofs.RecordingLaws.{records_all, hot_added, hot_within}
 use Rattle.routing.proofs.halved.add_found.Goals as goal
 
+hot_here : (rect : Rect) (walls : List Wall) (lines : List Line) (here sorted some : List Pt) → HasHot rect (edges_of lines) [] here → ((c : Pt) → Contains sorted c ↔ Contains here c) → AreKept walls sorted some → HasHotInside (IsInside rect walls) (edges_of lines) [] some
+hot_here rect walls lines here sorted some h same k = hot_kept rect walls (edges_of lines) sorted some (hot_same (IsIn rect) (edges_of lines) [] here sorted same h) k
+
+pub kept-requires : goal.kept-requires
+kept-requires g c =
+    let rect = c.args.region.now.rect in
+    hot_within (IsIn rect) c.args.lines.now c.ascending.result.items (hot_same (IsIn rect) (edges_of c.args.lines.now) [] c.args.here.items c.ascending.result.items c.ascending.ensures.same c.requires.here) c.requires.lines_in
+
 pub add_records-requires-clause-pixels_in : goal.add_records-requires-clause-pixels_in
-add_records-requires-clause-pixels_in g c = subst (λ (ps : List Pt). All InLimit ps) (sym c.deref.ensures.value)
-    (hot_within c.args.rect.now c.args.lines.now c.args.here.items c.ascending-pixels.result.items c.requires.here c.ascending-pixels.ensures.same c.requires.lines_in)
+add_records-requires-clause-pixels_in g c =
+    let region = c.args.region.now in
+    let pixels = c.in_ok-pixels.pixels.items in
+    let some = subst (λ (ws : List Wall). AreKept ws c.ascending.result.items pixels) c.deref.ensures.value c.in_ok-pixels.ensures in
+    let hot = hot_here region.rect region.walls.items c.args.lines.now c.args.here.items c.ascending.result.items pixels c.requires.here c.ascending.ensures.same some in
+    subst (λ (ps : List Pt). All InLimit ps) (sym c.deref-2.ensures.value) (hot_within (IsInside region.rect region.walls.items) c.args.lines.now pixels hot c.requires.lines_in)
 
 pub returns-clause-pixels : goal.returns-clause-pixels
-returns-clause-pixels g c = hot_added c.args.rect.now c.args.lines.now c.args.here.items c.ascending-pixels.result.items c.requires.here c.ascending-pixels.ensures.same c.args.found.now.pixels.items _ (c.in_ok-extend_from_slice.ensures.items ∙ ap (λ (ps : List Pt). c.args.found.now.pixels.items ++ ps) c.deref-2.ensures.value)
+returns-clause-pixels g c =
+    let region = c.args.region.now in
+    let pixels = c.in_ok-pixels.pixels.items in
+    let some = subst (λ (ws : List Wall). AreKept ws c.ascending.result.items pixels) c.deref.ensures.value c.in_ok-pixels.ensures in
+    let hot = hot_here region.rect region.walls.items c.args.lines.now c.args.here.items c.ascending.result.items pixels c.requires.here c.ascending.ensures.same some in
+    hot_added (IsInside region.rect region.walls.items) c.args.lines.now pixels hot c.args.found.now.pixels.items _ (c.in_ok-extend_from_slice.ensures.items ∙ ap (λ (ps : List Pt). c.args.found.now.pixels.items ++ ps) c.deref-3.ensures.value)
 
 pub returns-clause-records : goal.returns-clause-records
-returns-clause-records g c = records_all c.args.rect.now c.args.lines.now c.args.here.items c.ascending-pixels.result.items c.requires.here c.ascending-pixels.ensures.same c.args.segments.now c.args.table.now c.args.found.now.records.items _ (subst (λ (ps : List Pt). AddsRecordsAt c.args.segments.now c.args.table.now c.args.lines.now ps c.args.found.now.records.items c.add_records.new.records.items) c.deref.ensures.value c.in_ok-add_records.ensures)
+returns-clause-records g c =
+    let region = c.args.region.now in
+    let pixels = c.in_ok-pixels.pixels.items in
+    let some = subst (λ (ws : List Wall). AreKept ws c.ascending.result.items pixels) c.deref.ensures.value c.in_ok-pixels.ensures in
+    let hot = hot_here region.rect region.walls.items c.args.lines.now c.args.here.items c.ascending.result.items pixels c.requires.here c.ascending.ensures.same some in
+    records_all (IsInside region.rect region.walls.items) c.args.lines.now pixels hot c.args.segments.now c.args.table.now c.args.found.now.records.items _ (subst (λ (ps : List Pt). AddsRecordsAt c.args.segments.now c.args.table.now c.args.lines.now ps c.args.found.now.records.items c.add_records.new.records.items) c.deref-2.ensures.value c.in_ok-add_records.ensures)

@@ -10,8 +10,11 @@ use Rattle.hot_pixel.proofs.CandidateLaws.{all_chosen}
 use Rattle.hot_pixel.proofs.HalvingLaws.{tile_none}
 use Rattle.hot_pixel.proofs.ListLaws.{none_in}
 use Rattle.routing.specs.declared.by_line.OnLine.{OnLine}
-use Rattle.routing.specs.Recording.{AddsRecords, AreLinesOf}
-use Rattle.routing.proofs.RecordingLaws.{entries_below, lines_in_limit, no_records, tile_hot, tile_records}
+use Rattle.hot_pixel.specs.Rects.{IsIn}
+use Rattle.hot_pixel.specs.Walls.{IsInside}
+use Rattle.hot_pixel.proofs.WallLaws.{hot_open, inside_open}
+use Rattle.routing.specs.Recording.{AddsRecordsInside, AreLinesOf}
+use Rattle.routing.proofs.RecordingLaws.{entries_below, lines_in_limit, no_records, records_same, tile_hot, tile_records}
 use Rattle.routing.proofs.halved.found_in.Goals as goal
 
 pub returns-in-None-clause-pixels : goal.returns-in-None-clause-pixels
@@ -42,7 +45,7 @@ returns-clause-pixels g c =
     let numbers = c.args.numbers.now in
     let lines = c.in_ok-lines.lines.items in
     let are = subst (λ (xs : List OnLine). AreLinesOf xs lines) c.deref.ensures.value c.in_ok-lines.ensures in
-    let h = subst (λ (ls : List Line). HasHot c.in-Some.part (edges_of ls) [] c.halve.new.found.pixels.items) c.deref-in-Some-2.ensures.value (rw c.new.ensures.items at c.in_ok-halve-in-Some.ensures.pixels) in
+    let h = subst (λ (ls : List Line). HasHot c.in-Some.part (edges_of ls) [] c.halve.new.found.pixels.items) c.deref-in-Some-2.ensures.value (hot_open c.in-Some.part _ [] c.halve.new.found.pixels.items (rw (c.open-whole.ensures.rect, c.open-whole.ensures.walls, c.new.ensures.items) at c.in_ok-halve-in-Some.ensures.pixels)) in
     tile_hot segments numbers c.in_ok-table.table.items lines c.in_ok-table.ensures are c.args.tile.now c.in-Some.part c.in-Some.ensures c.halve.new.found.pixels.items c.ascending.result.items
     (all_chosen (λ s. AreInLimit s.a s.b) segments numbers (λ s h. All-contains (λ (t : Seg). AreInLimit t.a t.b) segments s c.requires.limits h)) h c.ascending.ensures.order c.ascending.ensures.same
 
@@ -53,9 +56,12 @@ returns-clause-records g c =
     let table = c.in_ok-table.table.items in
     let lines = c.in_ok-lines.lines.items in
     let are = subst (λ (xs : List OnLine). AreLinesOf xs lines) c.deref.ensures.value c.in_ok-lines.ensures in
-    let h = subst (λ (ls : List Line). HasHot c.in-Some.part (edges_of ls) [] c.halve.new.found.pixels.items) c.deref-in-Some-2.ensures.value (rw c.new.ensures.items at c.in_ok-halve-in-Some.ensures.pixels) in
-    let k = subst (λ (ls : List Line). AddsRecords segments c.deref-in-Some.result.now c.in-Some.part ls [] c.halve.new.found.records.items) c.deref-in-Some-2.ensures.value (rw c.new-2.ensures.items at c.in_ok-halve-in-Some.ensures.records) in
-    let m = subst (λ (xs : List OnLine). AddsRecords segments xs c.in-Some.part lines [] c.halve.new.found.records.items) c.deref-in-Some.ensures.value k in
+    let h = subst (λ (ls : List Line). HasHot c.in-Some.part (edges_of ls) [] c.halve.new.found.pixels.items) c.deref-in-Some-2.ensures.value (hot_open c.in-Some.part _ [] c.halve.new.found.pixels.items (rw (c.open-whole.ensures.rect, c.open-whole.ensures.walls, c.new.ensures.items) at c.in_ok-halve-in-Some.ensures.pixels)) in
+    let part = c.in-Some.part in
+    let inside = rw (c.open-whole.ensures.rect, c.open-whole.ensures.walls, c.new-2.ensures.items) at c.in_ok-halve-in-Some.ensures.records in
+    let j = records_same segments c.deref-in-Some.result.now (IsInside part []) (IsIn part) c.deref-in-Some-2.result.now [] c.halve.new.found.records.items (inside_open part) inside in
+    let k = subst (λ (ls : List Line). AddsRecordsInside segments c.deref-in-Some.result.now (IsIn part) ls [] c.halve.new.found.records.items) c.deref-in-Some-2.ensures.value j in
+    let m = subst (λ (xs : List OnLine). AddsRecordsInside segments xs (IsIn part) lines [] c.halve.new.found.records.items) c.deref-in-Some.ensures.value k in
     tile_records segments numbers table lines c.in_ok-table.ensures are c.args.tile.now c.in-Some.part c.in-Some.ensures c.ascending.result.items c.halve.new.found.records.items
     (tile_hot segments numbers table lines c.in_ok-table.ensures are c.args.tile.now c.in-Some.part c.in-Some.ensures c.halve.new.found.pixels.items c.ascending.result.items
     (all_chosen (λ s. AreInLimit s.a s.b) segments numbers (λ s h. All-contains (λ (t : Seg). AreInLimit t.a t.b) segments s c.requires.limits h)) h c.ascending.ensures.order c.ascending.ensures.same)
