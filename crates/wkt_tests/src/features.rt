@@ -1,6 +1,7 @@
 //! Texts read into features: each geometry is one, with its own rings, whatever the number of parts.
 
 use geom::Fault;
+use refusing::Refusing;
 use std::alloc::Global;
 use std::thread::Threads;
 use wkt::{
@@ -68,6 +69,35 @@ fn is_refused<R: Threads + Sync>(rt: &R, alloc: Global, text: &str, fault: Fault
     }
     read_features(alloc, text).err() == Some(fault)
         && read_outlined_features(alloc, text).err() == Some(fault)
+}
+
+/// Four features, of a line each.
+const LINES: &str =
+    "POLYGON ((0 0, 1 0, 0 1, 0 0))\nPOLYGON ((2 2, 3 2, 2 3, 2 2))\nPOLYGON ((4 4, 5 4, 4 5, 4 4))\nPOLYGON EMPTY\n";
+
+/// More requests for memory than to read these takes.
+const REQUESTS: u64 = 100;
+
+/// Whether the features are kept whichever request for memory is refused: where the parts want memory, the whole is read once more.
+fn keeps_features<R: Threads + Sync>(rt: &R, alloc: Global, parts: usize) -> bool {
+    for number in 0..REQUESTS {
+        let heap = Refusing::new(alloc, number);
+        match read_outlined_features_in_parts(rt, &heap, parts, LINES.as_bytes()) {
+            Ok(read) if read.features.is_some() => {}
+            _ => return false,
+        }
+    }
+    true
+}
+
+#[test]
+fn parts_are_read_before_the_whole(rt: HostRuntime) {
+    for parts in PARTS {
+        assert!(rt;
+            keeps_features(&rt, rt.alloc(), parts) == (parts > 1),
+            "{parts}"
+        );
+    }
 }
 
 #[test]

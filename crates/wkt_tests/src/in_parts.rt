@@ -1,6 +1,7 @@
 //! Texts read in parts: what stands behind ten triangles, of a line each, is told whatever the number of parts.
 
 use geom::{Fault, Pt, Rect};
+use refusing::Refusing;
 use std::alloc::{AllocError, Global};
 use std::thread::Threads;
 use wkt::{Outline, read_outlined_in_parts};
@@ -47,6 +48,24 @@ fn is_refused<R: Threads + Sync>(rt: &R, alloc: Global, parts: usize, row: (&str
     read_outlined_in_parts(rt, alloc, parts, &text).err() == Some(fault)
 }
 
+/// More requests for memory than to read the triangles takes.
+const REQUESTS: u64 = 100;
+
+/// Whether the rings are kept whichever request for memory is refused: where the parts want memory, the whole is read once more.
+fn keeps_rings<R: Threads + Sync>(rt: &R, alloc: Global, parts: usize) -> bool {
+    let Ok(text) = text_with(alloc, "") else {
+        return false;
+    };
+    for number in 0..REQUESTS {
+        let heap = Refusing::new(alloc, number);
+        match read_outlined_in_parts(rt, &heap, parts, &text) {
+            Ok(read) if read.layer.is_some() => {}
+            _ => return false,
+        }
+    }
+    true
+}
+
 /// What stands behind, and how many rings and segments there are, which reach so far.
 const ACCEPTED: [(&str, usize, u32, i32); 5] = [
     ("", 10, 30, 1),
@@ -91,5 +110,15 @@ fn refused_in_parts(rt: HostRuntime) {
         for parts in PARTS {
             assert!(rt; is_refused(&rt, rt.alloc(), parts, row), "{parts}");
         }
+    }
+}
+
+#[test]
+fn parts_are_read_before_the_whole(rt: HostRuntime) {
+    for parts in PARTS {
+        assert!(rt;
+            keeps_rings(&rt, rt.alloc(), parts) == (parts > 1),
+            "{parts}"
+        );
     }
 }
