@@ -1,0 +1,9 @@
+pub mod Lists
+pub mod Cuts
+pub mod Reached
+pub mod PointColumns
+pub mod Sound
+pub mod RingBoxes
+pub mod RingWalks
+pub mod RingOutlines
+pub mod Written

@@ -1,0 +1,10 @@
+use Rattle.std.proofs.Common.{List, subst, sym}
+use Rattle.std.specs.Prelude.{◌≢◌, AllPairs}
+use Rattle.geom.specs.declared.point.Pt.{Pt}
+use Rattle.columns_tests.proofs.Squares.{square_apart}
+use Rattle.columns_tests.proofs.written.quadrangle.Goals as goal
+
+pub new-requires-clause-distinct : goal.new-requires-clause-distinct
+new-requires-clause-distinct g c =
+    subst (λ (ps : List Pt). AllPairs (λ p q. p ≢ q) ps) (sym c.in_ok-from_slice.ensures.items)
+    (square_apart c.args.a c.args.b c.args.c c.args.d c.requires.ab c.requires.ac c.requires.ad c.requires.bc c.requires.db c.requires.dc)
