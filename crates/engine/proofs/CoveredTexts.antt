@@ -43,15 +43,16 @@ module _ (op : Op) (split count : ℕ) (edges : List Bordered) (h : AreBorders e
   pub covered_text : (text : List ℕ) → ((o : Op) (counted : List Counted) → AreLayers counted → AreResultEdges o counted directed → IsResultText o counted text) → IsCoveredText op split count edges text
   covered_text text f =
       let r = f Union layer.0 layer.1.layers bound in
+      let result = r.result in
       record {
-        directed = r.directed;
-        bound = (layer.1.directed r.directed).1 r.bound;
+        directed = result.directed;
+        bound = (layer.1.directed result.directed).1 result.bound;
         polygons = r.polygons;
-        are_polygons = r.are_polygons;
-        each_edge = r.each_edge;
-        simple = r.simple;
-        least = r.least;
-        points = λ z. r.points z ∙ layer.1.points z;
+        are_polygons = result.are_polygons;
+        each_edge = result.each_edge;
+        simple = result.simple;
+        least = result.least;
+        points = λ z. result.points z ∙ layer.1.points z;
         written = r.written;
         reads = r.reads;
       }

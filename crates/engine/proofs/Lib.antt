@@ -47,3 +47,7 @@ pub mod CoveredTexts
 pub mod CoveredWritten
 pub mod CoveredRunning
 pub mod OneCoveredText
+pub mod RingLayers
+pub mod ColumnsRunning
+pub mod OneColumns
+pub mod OneColumnsRefusal

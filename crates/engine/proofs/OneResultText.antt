@@ -3,26 +3,26 @@ use Rattle.std.proofs.Common.{◌≡◌, ℕ, List, sym, ap, subst, ◌∙◌}
 use Rattle.geom.specs.declared.op.Op.{Op}
 use Rattle.geom.specs.declared.directed.DirectedEdge.{DirectedEdge}
 use Rattle.geom.specs.declared.edge.Counted.{Counted}
-use Rattle.geom.specs.Canonical.{ArePolygons}
+use Rattle.geom.specs.Canonical.{ArePolygons, Shape}
 use Rattle.geom.specs.Directed.{AreResultEdges}
 use Rattle.geom.proofs.SamePolygons.{same_polygons}
 use Rattle.points_law.proofs.OneResult.{one_directed}
 use Rattle.engine.specs.Determined.{HaveOneSize, ResultSizesAreOneWithin, ResultTextIsOneWithin}
 use Rattle.wkt.specs.Canonical.{multi_text}
-use Rattle.engine.specs.Results.{IsResultText, IsResultWrittenWithin}
+use Rattle.engine.specs.Results.{IsResult, IsResultText, IsResultWrittenWithin}
 use Rattle.engine.specs.declared.engine.Plan.{Plan}
 use Rattle.engine.specs.declared.text.Report.{Report}
 use Rattle.engine.proofs.Determined.{one_counted, one_size, text_prop}
 
 -- of the same rounded edges
-text_of_one : (op : Op) (cs ds : List Counted) (s t : List ℕ) → IsResultText op cs s → IsResultText op ds t → cs ≡ ds → s ≡ t
-text_of_one op cs ds s t h k e = h.written ∙ ap multi_text polygons ∙ sym k.written
+pub polygons_of_one : (op : Op) (cs ds : List Counted) (ps qs : List Shape) → IsResult op cs ps → IsResult op ds qs → cs ≡ ds → ps ≡ qs
+polygons_of_one op cs ds ps qs h k e = same_polygons k.directed k.bound.ascending ps qs (subst (λ (us : List DirectedEdge). ArePolygons us ps) directed h.are_polygons) k.are_polygons
   where
     directed : h.directed ≡ k.directed
     directed = one_directed op ds h.directed k.directed (subst (λ (us : List Counted). AreResultEdges op us h.directed) e h.bound) k.bound
 
-    polygons : h.polygons ≡ k.polygons
-    polygons = same_polygons k.directed k.bound.ascending h.polygons k.polygons (subst (λ (us : List DirectedEdge). ArePolygons us h.polygons) directed h.are_polygons) k.are_polygons
+text_of_one : (op : Op) (cs ds : List Counted) (s t : List ℕ) → IsResultText op cs s → IsResultText op ds t → cs ≡ ds → s ≡ t
+text_of_one op cs ds s t h k e = h.written ∙ ap multi_text (polygons_of_one op cs ds h.polygons k.polygons h.result k.result e) ∙ sym k.written
 
 one_text : (M N : Type 0) (limit limit' : ℕ) (op : Op) (a b : List ℕ) (plan other : Plan) (text text' : List ℕ) (report : Report M) (report' : Report N)
     → IsResultWrittenWithin limit op plan a b text report → IsResultWrittenWithin limit' op other a b text' report' → text ≡ text'

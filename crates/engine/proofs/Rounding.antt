@@ -44,12 +44,12 @@ step_of a b segments are s h = ⊎_elim
     (in_append (map (tagged A) (layer_steps a)) (map (tagged B) (layer_steps b)) (parts s)
     (subst (λ (ts : List (Pt × Pt × Source)). In (parts s) ts) are (map_in parts segments s (contains_in segments s h))))
 
-bounds_hold : (a b : List (List Pt)) (segments : List Seg) → AreSegments a b segments → (bounds : Option Rect) → AreBoundsOf (layer_steps a ++ layer_steps b) bounds → BoundsHold bounds segments
+pub bounds_hold : (a b : List (List Pt)) (segments : List Seg) → AreSegments a b segments → (bounds : Option Rect) → AreBoundsOf (layer_steps a ++ layer_steps b) bounds → BoundsHold bounds segments
 bounds_hold a b segments are None e = λ s h. subst (λ (ts : List (Pt × Pt)). In (s.a, s.b) ts) e (step_of a b segments are s h)
 bounds_hold a b segments are (Some r) box = λ s h. box.holds (s.a, s.b) (in_contains (layer_steps a ++ layer_steps b) (s.a, s.b) (step_of a b segments are s h))
 
 -- a text has one list of rings
-one_plain : (text : List ℕ) (rings other : List Ring) → IsAccepted text rings → IsAccepted text other → plain rings ≡ plain other
+pub one_plain : (text : List ℕ) (rings other : List Ring) → IsAccepted text rings → IsAccepted text other → plain rings ≡ plain other
 one_plain text rings other h k = same_reading text (plain rings) (plain other) (rings, h, refl) (other, k, refl)
 
 -- the tiles of a grid over bounds have every point of them
@@ -81,9 +81,12 @@ segments_read a b rings_a rings_b segments h k are = record {
 
 -- ---- layers
 
+pub layers_of_rings : (a b : List (List Pt)) (segments : List Seg) (counted : List Counted) → AreSegments a b segments → AllInLimit segments → ∥ AreRounded segments counted ∥₁ → ∥ AreLayers counted ∥₁
+layers_of_rings a b segments counted s limits r =
+    ∥∥₁_map r (λ h. rounded_layers segments counted h limits (rings_closed a b segments s A) (rings_closed a b segments s B) (rounded_noded segments counted h))
+
 pub layers_of : (a b : List ℕ) (segments : List Seg) (counted : List Counted) → AreSegmentsOf a b segments → AllInLimit segments → ∥ AreRounded segments counted ∥₁ → ∥ AreLayers counted ∥₁
-layers_of a b segments counted s limits r =
-    ∥∥₁_map r (λ h. rounded_layers segments counted h limits (rings_closed (plain s.rings_a) (plain s.rings_b) segments s.are_segments A) (rings_closed (plain s.rings_a) (plain s.rings_b) segments s.are_segments B) (rounded_noded segments counted h))
+layers_of a b segments counted s limits r = layers_of_rings (plain s.rings_a) (plain s.rings_b) segments counted s.are_segments limits r
 
 pub if_both : {T E : Type 0} (r : Result T E) (P Q S : T → Type 0) → ((x : T) → P x → Q x → S x) → IfOk r P → IfOk r Q → IfOk r S
 if_both (Ok x) P Q S f p q = f x p q

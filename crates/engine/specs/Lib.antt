@@ -15,3 +15,6 @@ pub mod FaceRows
 pub mod Faces
 pub mod CoveredResults
 pub mod CoveredRuns
+pub mod RingLayers
+pub mod ColumnsRuns
+pub mod ColumnsLaws

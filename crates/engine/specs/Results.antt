@@ -1,4 +1,4 @@
--- The text of a set operation (OGC 06-103r4 for the text; the rest is own).
+-- The polygons of a set operation, and their text (OGC 06-103r4 for the text; the rest is own).
 use Rattle.std.specs.Prelude.{◌≡◌, ℕ, List, [], ◌∷◌, ◌++◌, All, map}
 use Rattle.geom.specs.declared.op.Op.{Op}
 use Rattle.geom.specs.declared.edge.Counted.{Counted}
@@ -19,19 +19,23 @@ use Rattle.engine.specs.declared.operation.Wanted.TheVariants.{Apply, Edges}
 use Rattle.engine.specs.Runs.{AreEdgesWrittenWithin, ReportsWithin, segment_limit}
 use Rattle.engine.specs.Texts.{edges_text_of}
 
--- The text is the canonical line of the polygons of the result's directed edges: each shell with its holes, in order. Their rings
--- together have each of these edges once, none visits a point twice, and each is read from its least rotation. Any point lies in
--- the polygons, by the even-odd rule over all their rings, exactly where the operation holds of its parities in the two rounded layers.
--- Without its line feed the text reads back, by the grammar of layer texts, as exactly these rings, each closed.
-pub record IsResultText (op : Op) (counted : List Counted) (text : List ℕ) : Type 0 where
+-- The polygons are those of the result's directed edges: each shell with its holes, in order. Their rings together have each of these
+-- edges once, none visits a point twice, and each is read from its least rotation. Any point lies in the polygons, by the even-odd rule
+-- over all their rings, exactly where the operation holds of its parities in the two rounded layers.
+pub record IsResult (op : Op) (counted : List Counted) (polygons : List Shape) : Type 0 where
   pub directed : List DirectedEdge
   pub bound : AreResultEdges op counted directed
-  pub polygons : List Shape
   pub are_polygons : ArePolygons directed polygons
   pub each_edge : HaveEachEdge directed polygons
   pub simple : AreSimple (written_rings polygons)
   pub least : All (λ ring. IsLeastRotation ring ring) (written_rings polygons)
   pub points : (z : Point) → ring_parity (written_rings polygons) z ≡ holds_at op counted z
+
+-- The text is the canonical line of the result's polygons. Without its line feed it reads back, by the grammar of layer texts, as exactly
+-- their rings, each closed.
+pub record IsResultText (op : Op) (counted : List Counted) (text : List ℕ) : Type 0 where
+  pub polygons : List Shape
+  pub result : IsResult op counted polygons
   pub written : text ≡ multi_text polygons
   pub reads : (line : List ℕ) × (text ≡ line ++ 10 ∷ []) × IsLayerOf line (map closed (written_rings polygons))
 

@@ -141,7 +141,7 @@ fn rounded_alone<A: Allocator + Copy>(
 }
 
 /// The rounded edges of segments.
-fn gathered_alone<A: Allocator + Copy>(
+pub(crate) fn gathered_alone<A: Allocator + Copy>(
     alloc: A,
     grid: &Grid,
     segments: &[Seg],

@@ -121,7 +121,8 @@ fn layer_fault(layer: Source, fault: Fault) -> RunFault
     }
 }
 
-fn check_total(a: u32, b: u32, limit: u32) -> Result<(), RunFault>
+/// Whether two layers with so many segments have together no more than a limit.
+pub(crate) fn check_total(a: u32, b: u32, limit: u32) -> Result<(), RunFault>
     ensures { MatchResult result (λ _. a + b ≤ limit) (λ f. (f.at ≡ Part.Run) × (f.fault ≡ Fault.TooManySegments (a + b)) × (limit < a + b)) }
 {
     let both = u64::from(a) + u64::from(b);
@@ -135,7 +136,7 @@ fn check_total(a: u32, b: u32, limit: u32) -> Result<(), RunFault>
 }
 
 /// The grid over the segments of two layers with these bounds.
-fn grid_over(a: Option<Rect>, b: Option<Rect>, side: u32) -> Result<Grid, RunFault>
+pub(crate) fn grid_over(a: Option<Rect>, b: Option<Rect>, side: u32) -> Result<Grid, RunFault>
     requires a_in { AreBounds a }
     requires b_in { AreBounds b }
     requires side { IsSide side }

@@ -189,7 +189,7 @@ pub(crate) fn report_for<A: Allocator + Copy>(
     ensures written { IfOk result (λ r. (text : List ℕ) → IsWantedText wanted noded.now.edges.items text → IsWrittenWithin checked.now.limits.segments wanted checked.now.plan checked.now.a.now checked.now.b.now text r) }
     ensures remade { IfOk result (λ r. r.remade ≡ noded.now.remade) }
 {
-    report_of(alloc, checked, noded)
+    report_of(alloc, checked.segments_a, checked.segments_b, noded)
 }
 
 /// What was made, or that the run wants memory.

@@ -7,6 +7,7 @@ ghost use Rattle.grid.specs.Tiles.{most_tiles};
 ghost use Rattle.wkt.specs.Refusals.{length_limit};
 ghost use Rattle.engine.specs.Runs.{segment_limit};
 ghost use Rattle.engine.specs.Determined.{EdgesSizesAreOne, EdgesSizesAreOneWithin, EdgesTextIsOne, EdgesTextIsOneWithin, RefusalIsOne, RefusalIsOneWithin, RefusedMayNotRun, RefusedMayNotRunWithin, ResultSizesAreOne, ResultSizesAreOneWithin, ResultTextIsOne, ResultTextIsOneWithin, RunReportsAsEdges, RunReportsAsEdgesWithin, TilesAreOne, TilesAreOneWithin};
+ghost use Rattle.engine.specs.ColumnsLaws.{ColumnsAnswerIsOne, ColumnsRefusalIsOne, ColumnsSizesAreOne, RefusedColumnsMayNotRun, RunIsByColumns};
 ghost use Rattle.engine.specs.CoveredRuns.{CoveredTextIsOneWithin};
 ghost use Rattle.engine.specs.Faces.{FacesRefusalIsOne, FacesTextIsOneWithin, RefusedAreNotWritten, RefusedMayNotRound, WrittenFacesTell};
 ghost use Rattle.engine.specs.Counting.{CountsAreExact, CountsAreExactWithin};
@@ -40,6 +41,25 @@ pub fn faces_text_is_one<A: Allocator, B: Allocator>()
 /// The text of an operation on layers that are read as covered is determined by the layers.
 pub fn covered_text_is_one<A: Allocator, B: Allocator>()
     ensures { CoveredTextIsOneWithin A B }
+{}
+
+/// The columns of a result are determined by the operation and the rings of the two layers, in whatever columns these stand. So are the
+/// numbers of segments, hot pixels, records and edges in the report, which are the same for every operation.
+pub fn columns_answer_is_one<A: Allocator, B: Allocator>()
+    ensures columns { ColumnsAnswerIsOne A B }
+    ensures sizes { ColumnsSizesAreOne A B }
+{}
+
+/// Where texts and columns stand for the same rings, the text that `run` writes is the canonical line of the polygons that the columns of the
+/// result hold, and both reports have the same sums.
+pub fn run_is_by_columns<A: Allocator, B: Allocator>()
+    ensures { RunIsByColumns A B }
+{}
+
+/// A plan and two layers of columns are refused for one reason, or for none where they are answered.
+pub fn columns_refused_for_one_reason()
+    ensures reason { ColumnsRefusalIsOne }
+    ensures answered { RefusedColumnsMayNotRun }
 {}
 
 /// Where faces are written, their rows tell of every rational point which features cover it: it lies in the polygons of

@@ -9,6 +9,9 @@
 //! The promise: where `edges` and `run` answer, the sink took the one text that the layers determine, in whose polygons each rational point
 //! lies as the operation says. The definitions are `specs/Runs` and `specs/Results`. Where `faces` answers, each rational point lies in the
 //! polygons of just the row of those features that cover it. The definitions are in `specs/Faces`.
+//!
+//! Layers may be columns of coordinates and offsets in place of texts, and so is the result then: `run_columns_within` answers the columns of
+//! the polygons whose canonical line `run` writes. The definitions are in `specs/ColumnsRuns`.
 #![tactic(auto)]
 
 mod alone;
@@ -16,6 +19,10 @@ mod alone_faces;
 mod cell_parts;
 mod cells;
 mod checking;
+mod columns_alone;
+mod columns_checking;
+mod columns_output;
+mod columns_run;
 mod covered_result;
 mod covered_run;
 mod engine;
@@ -42,6 +49,9 @@ mod worth;
 
 pub use alone::{edges_alone, edges_alone_within, run_alone, run_alone_within};
 pub use alone_faces::{FacesOutput, faces_alone};
+pub use columns_alone::run_columns_alone_within;
+pub use columns_output::{ColumnsOutput, ColumnsRefused};
+pub use columns_run::run_columns_within;
 pub use covered_run::{run_covered, run_covered_within};
 pub use engine::{Limits, Output, Plan, edges, edges_within, run, run_within};
 pub use faces_fault::{FacesFault, FacesPart, FacesRefusal, faces_line, faces_status, layer_name};
@@ -52,9 +62,10 @@ pub use feature_reading::MOST_LAYERS;
 pub use feature_segments::LayerSize;
 pub use fitting::{fitting_side, fitting_side_over};
 pub use laws::{
-    counts_are_exact, covered_text_is_one, edges_text_is_one, faces_refused_for_one_reason,
-    faces_tell, faces_text_is_one, limits_are_numbers, one_refusal, result_text_is_one,
-    run_reports_as_edges, tiles_are_one,
+    columns_answer_is_one, columns_refused_for_one_reason, counts_are_exact, covered_text_is_one,
+    edges_text_is_one, faces_refused_for_one_reason, faces_tell, faces_text_is_one,
+    limits_are_numbers, one_refusal, result_text_is_one, run_is_by_columns, run_reports_as_edges,
+    tiles_are_one,
 };
 pub use operation::result_text;
 pub use sink::{MemSink, Sink, SinkFault, write_all};

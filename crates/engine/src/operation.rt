@@ -1,4 +1,4 @@
-//! The text that is wanted of two rounded layers: their edges, or the canonical line of an operation's result.
+//! What is wanted of two rounded layers: the text of their edges, or an operation's result, as polygons or as their canonical line.
 
 ghost use Rattle.std.specs.Prelude.{All, IfOk, List};
 ghost use Rattle.geom.specs.Directed.{AreResultEdges};
@@ -7,13 +7,13 @@ ghost use Rattle.geom.specs.Rings.{Closes};
 ghost use Rattle.geom.specs.declared.edge.Counted.{Counted};
 ghost use Rattle.geom.specs.declared.op.Op.{Op};
 ghost use Rattle.points_law.specs.Law.{AreLayers};
-ghost use Rattle.engine.specs.Results.{IsResultText, IsWantedText};
+ghost use Rattle.engine.specs.Results.{IsResult, IsResultText, IsWantedText};
 
 use crate::line_parts::line_in_parts;
 use crate::text::edges_text;
 use crate::text_parts::{TextParts, edges_text_in_parts};
 use crate::worth;
-use geom::{Counted, Directed, NoMemory, Op};
+use geom::{Counted, Directed, NoMemory, Op, Polygon};
 use label_sweep::{layer_labels, layer_labels_in_parts};
 use polygonize::{polygons, rings_in_parts};
 use std::alloc::Allocator;
@@ -94,13 +94,54 @@ fn result_text_by_workers<A: Allocator + Copy + Send + Sync, R: Threads + Sync>(
     line_by_workers(rt, alloc, workers, directed)
 }
 
+/// The polygons of the result of an operation on two rounded layers, by their rounded edges.
+pub(crate) fn result_polygons<A: Allocator + Copy>(
+    alloc: A,
+    counted: &[Counted],
+    op: Op,
+) -> Result<Vec<Polygon<A>, A>, NoMemory>
+    requires { AreLayers counted.now }
+    ensures { IfOk result (λ polygons. IsResult op counted.now polygons.items) }
+{
+    let directed = layer_labels(alloc, counted, op)?;
+    polygons_along(alloc, &directed)
+}
+
+/// The same polygons, where several workers label the edges.
+pub(crate) fn result_polygons_by_workers<A: Allocator + Copy + Send + Sync, R: Threads + Sync>(
+    rt: &R,
+    alloc: A,
+    workers: u32,
+    counted: &[Counted],
+    op: Op,
+) -> Result<Vec<Polygon<A>, A>, NoMemory>
+    requires layers { AreLayers counted.now }
+    ensures { IfOk result (λ polygons. IsResult op counted.now polygons.items) }
+{
+    let parts = worth::parts(workers, counted.len(), worth::EDGES);
+    let directed = layer_labels_in_parts(rt, alloc, parts, counted, op)?;
+    polygons_along(alloc, &directed)
+}
+
+/// The polygons of the result that these directed edges bound.
+fn polygons_along<A: Allocator + Copy>(
+    alloc: A,
+    directed: &Directed<A>,
+) -> Result<Vec<Polygon<A>, A>, NoMemory>
+    requires closes { Closes directed.now }
+    requires in_limit { All (λ d. AreInLimit d.from d.to) directed.now }
+    ensures { IfOk result (λ polygons. (op : Op) (counted : List Counted) → AreLayers counted → AreResultEdges op counted directed.now → IsResult op counted polygons.items) }
+{
+    polygons(alloc, directed)
+}
+
 /// The canonical line of the result that these directed edges bound.
 fn line_along<A: Allocator + Copy>(alloc: A, directed: &Directed<A>) -> Result<Vec<u8, A>, NoMemory>
     requires closes { Closes directed.now }
     requires in_limit { All (λ d. AreInLimit d.from d.to) directed.now }
     ensures { IfOk result (λ text. (op : Op) (counted : List Counted) → AreLayers counted → AreResultEdges op counted directed.now → IsResultText op counted text.items) }
 {
-    let polygons = polygons(alloc, directed)?;
+    let polygons = polygons_along(alloc, directed)?;
     write_multi(alloc, polygons.as_slice())
 }
 

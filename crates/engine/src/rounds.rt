@@ -1,7 +1,7 @@
 //! The rounded edges of two layers, or the borders of features, over the tiles of a grid and by many workers.
 //!
 //! 1. Workers make the pieces of the cells (`cell_pieces`).
-//! 2. These are gathered: edges with their counts in both layers (`by_cells`), or edges with the features whose border they are
+//! 2. These are gathered: edges with their counts in both layers (`rounded_segments`), or edges with the features whose border they are
 //!    (`features_by_cells`).
 
 ghost use Rattle.std.specs.Prelude.{◌≡◌, ◌<◌, ◌≤◌, IfOk, length, map, sum_by};
@@ -76,18 +76,38 @@ pub(crate) fn rounded_layers<
     ensures layers { IfOk result (λ n. ∥ AreLayers n.edges.items ∥₁) }
     ensures remade { IfOk result (λ n. IsRemade n.remade) }
 {
-    let workers = checked.plan.workers;
     let read = read_segments_by_workers(rt, alloc, checked, read_a, read_b)?;
-    let segments: &[Seg] = &read;
+    rounded_segments(rt, alloc, &checked.grid, checked.plan.workers, &read, gate)
+}
+
+/// The rounded edges of segments, with the numbers of the tiles. The workers call the gate.
+pub(crate) fn rounded_segments<
+    A: Allocator + Copy + Send + Sync,
+    G: Gate + Sync,
+    R: Threads + Wait + Sync,
+>(
+    rt: &R,
+    alloc: A,
+    grid: &Grid,
+    workers: u32,
+    segments: &[Seg],
+    gate: &G,
+) -> Result<Noded<A>, NoMemory>
+    requires workers { (0 < workers) × (workers ≤ MOST_HANDS) }
+    requires in_limit { AllInLimit segments.now }
+    requires covered { HaveTiles grid.now segments.now }
+    ensures rounded { IfOk result (λ n. ∥ AreRounded segments.now n.edges.items ∥₁) }
+    ensures tiles { IfOk result (λ n. AreTileNumbers grid.now segments.now (tile_count grid.now) n.tiles.items) }
+    ensures remade { IfOk result (λ n. IsRemade n.remade) }
+{
     let parts = worth::parts(workers, segments.len(), worth::SEGMENTS);
-    let cells = cells_in_parts(rt, alloc, parts, &checked.grid, workers, segments)?;
+    let cells = cells_in_parts(rt, alloc, parts, grid, workers, segments)?;
     let blank = Blank::new(u64::from(workers));
-    let grid = &checked.grid;
     by_cells::<Brand, Brand, A, G, R>(rt, alloc, blank, grid, &cells, workers, segments, gate)
 }
 
-/// The rounded edges of segments: the workers make the pieces of the cells, which are gathered. A ledger of its own counts the pieces that
-/// are posted, and their type knows the cells and the segments.
+/// The same: the workers make the pieces of the cells, which are gathered. A ledger of its own counts the pieces that are posted, and
+/// their type knows the cells and the segments.
 fn by_cells<
     L: Limited + Send + Sync,
     T: Tiled + Send + Sync,
@@ -249,23 +269,24 @@ fn record_count<T: Tiled, A: Allocator>(pieces: &[TilePiece<T, A>]) -> usize {
     count
 }
 
-/// The numbers of a run.
+/// The numbers of a run on two layers with so many segments.
 pub(crate) fn report_of<A: Allocator + Copy>(
     alloc: A,
-    checked: &CheckedInput<'_, '_>,
+    segments_a: u32,
+    segments_b: u32,
     noded: &Noded<A>,
 ) -> Result<Report<A>, NoMemory>
     requires { length noded.now.tiles.items ≤ MOST_TILES }
-    ensures segments_a { IfOk result (λ r. r.segments_a ≡ checked.now.segments_a) }
-    ensures segments_b { IfOk result (λ r. r.segments_b ≡ checked.now.segments_b) }
+    ensures segments_a { IfOk result (λ r. r.segments_a ≡ segments_a) }
+    ensures segments_b { IfOk result (λ r. r.segments_b ≡ segments_b) }
     ensures edges { IfOk result (λ r. r.edges ≡ length noded.now.edges.items) }
     ensures tiles { IfOk result (λ r. TellsTiles noded.now.tiles.items r.hot r.records r.tiles.items) }
     ensures remade { IfOk result (λ r. r.remade ≡ noded.now.remade) }
 {
     let tiles = told_of(alloc, &noded.tiles)?;
     Ok(Report {
-        segments_a: checked.segments_a,
-        segments_b: checked.segments_b,
+        segments_a,
+        segments_b,
         hot: all_hot(&noded.tiles),
         records: all_records(&noded.tiles),
         edges: u32::try_from(noded.edges.len()).map_err(|_| NoMemory)?,

@@ -23,14 +23,16 @@ returns g c =
     let line = is_line told.polygons rings text told.are_told l in
     let back = reads told.polygons line.1 in
     record {
-      directed = directed;
-      bound = are;
       polygons = told.polygons;
-      are_polygons = told.are_polygons;
-      each_edge = told.each_edge;
-      simple = told.simple;
-      least = told.least;
-      points = text_has_parity op counted layers directed are told.polygons told.each_edge;
+      result = record {
+        directed = directed;
+        bound = are;
+        are_polygons = told.are_polygons;
+        each_edge = told.each_edge;
+        simple = told.simple;
+        least = told.least;
+        points = text_has_parity op counted layers directed are told.polygons told.each_edge;
+      };
       written = line.0;
       reads = (back.0, line.0 ∙ back.1, back.2);
     })

@@ -1,0 +1,10 @@
+//! Tests of operations on layers that are columns: rows worked out by hand, what is refused, and the same polygons as by texts.
+#![tactic(auto)]
+
+#[cfg(test)]
+mod random;
+#[cfg(test)]
+mod refusals;
+#[cfg(test)]
+mod rows;
+pub mod written;

@@ -1,0 +1,30 @@
+use Rattle.std.proofs.Common.{List, arith, subst, sym, ◌≡◌, ◌∙◌, ℕ}
+use Rattle.std.proofs.lemmas.Result.{IfOk-weaker}
+use Rattle.geom.specs.Canonical.{Shape}
+use Rattle.geom.specs.declared.edge.Counted.{Counted}
+use Rattle.points_law.specs.Law.{AreLayers}
+use Rattle.engine.specs.Results.{IsResult}
+use Rattle.engine.specs.Rounds.{IsRemade}
+use Rattle.engine.proofs.Results.{layers_known}
+use Rattle.engine.proofs.columns_alone.columns_by_one.Goals as goal
+
+pub result_polygons-requires : goal.result_polygons-requires
+result_polygons-requires g c =
+    let h : AreLayers c.deref.result.now = rw c.deref.ensures.value (layers_known c.in_ok-noded.noded.edges.items c.in_ok-noded.ensures.layers) in h
+
+pub output_of-requires : goal.output_of-requires
+output_of-requires g c =
+    let e = c.in_ok-noded.ensures.rounded.tiles_are.one_each in
+    let f = c.requires.ready.ready.few_tiles in
+    omega (arith, e, f)
+
+pub returns-clause-made : goal.returns-clause-made
+returns-clause-made g c =
+    let noded = c.in_ok-noded.noded in
+    let polygons = c.in_ok-polygons.polygons.items in
+    let on_edges = subst (λ (cs : List Counted). IsResult c.args.op cs polygons) c.deref.ensures.value c.in_ok-polygons.ensures in
+    let result = subst (λ (ps : List Shape). IsResult c.args.op noded.edges.items ps) (sym c.deref-2.ensures.value) on_edges in
+    c.output_of.ensures.made c.args.op c.args.a.now c.args.b.now c.requires c.in_ok-noded.ensures.rounded (subst (λ (n : ℕ). IsRemade n) (sym c.in_ok-noded.ensures.none_remade) (omega arith)) result
+
+pub returns-clause-none_remade : goal.returns-clause-none_remade
+returns-clause-none_remade g c = IfOk-weaker c.output_of.result _ (λ m. m.report.remade ≡ 0) (λ m e. e ∙ c.in_ok-noded.ensures.none_remade) c.output_of.ensures.remade
