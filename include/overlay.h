@@ -58,7 +58,11 @@ enum overlay_refusal {
     OVERLAY_BAD_SIDE = 6,          /* the tile side is not from 16 to 33554432 */
     OVERLAY_TOO_MANY_TILES = 8,    /* more than 65536 over the box of all layers: detail is their number */
     OVERLAY_OUT_OF_MEMORY = 10,    /* with OVERLAY_NO_MEMORY alone */
-    OVERLAY_TOO_MANY_IDS = 12      /* of faces: all rows together have more than was said; detail is their number */
+    OVERLAY_TOO_MANY_IDS = 12,     /* of faces: all rows together have more than was said; detail is their number */
+    OVERLAY_COORDINATE_MISSING = 13, /* of columns: an x without its y */
+    OVERLAY_FEATURE_OFFSET = 14,     /* of columns: an offset of features falls or passes the end; detail is its number */
+    OVERLAY_POLYGON_OFFSET = 15,     /* likewise of polygons */
+    OVERLAY_RING_OFFSET = 16         /* likewise of rings */
 };
 
 /* What is refused of two layers. Of faces it is the number of a layer, from 0 on, or the count of layers for the run. */
@@ -135,6 +139,46 @@ void overlay_faces_size(uint32_t side, uint32_t segments, uint64_t ids, const st
 
 /* Returns the tile side for these layers, as overlay_side does for two, or 262144 where they are more than OVERLAY_MOST_LAYERS. */
 uint32_t overlay_faces_side(const struct overlay_layer *layers, size_t count);
+
+/* A layer as columns, in the layout of GeoArrow's MultiPolygon: features, their polygons, their rings, their points. An offset says where a
+ * list begins in the next level; there is one more of them than there are lists, and the lists that the features' offsets don't reach have no
+ * meaning, so that slices of longer columns will do. Rings are closed: their last point is their first. No pointer is null. */
+struct overlay_columns {
+    const int32_t *coordinates; /* x y x y .., in grid units */
+    size_t coordinates_length;
+    const uint32_t *rings; /* where each ring begins among the points */
+    size_t rings_length;
+    const uint32_t *polygons; /* where each polygon begins among the rings */
+    size_t polygons_length;
+    const uint32_t *features; /* where each feature begins among the polygons */
+    size_t features_length;
+};
+
+/* What a call on columns answers. All fields are written; those that don't belong to the status are 0. The words of a number are those of
+ * overlay_refusal; 2, 3 and 4 count points or rings in their column, from 0 on. */
+struct overlay_columns_answer {
+    uint64_t coordinates; /* OVERLAY_ANSWERED, OVERLAY_SMALL: how many coordinates the result has */
+    uint64_t rings;       /* how many offsets of rings */
+    uint64_t polygons;    /* how many offsets of polygons */
+    uint64_t detail;      /* OVERLAY_REFUSED: the number of a point, a ring or an offset, or a number of segments or tiles */
+    uint32_t status;      /* how the call ended: an overlay_status */
+    uint32_t number;      /* OVERLAY_REFUSED, OVERLAY_NO_MEMORY: why, an overlay_refusal */
+    uint32_t part;        /* OVERLAY_REFUSED, OVERLAY_NO_MEMORY: what, an overlay_part */
+};
+
+/* Puts the result of an operation on two layers of columns, as columns too, at the beginning of three rooms, and tells their lengths: the
+ * coordinates of closed rings, shells before their holes, where each ring and where each polygon begins. They are the polygons whose line
+ * overlay_fill writes. Where one room is too small, or the status is not OVERLAY_ANSWERED, all rooms are as they were; behind the columns
+ * they are so always.
+ *
+ *   call                what to compute: an overlay_call, but for OVERLAY_EDGES
+ *   side, segments      as of overlay_fill_within
+ *   a, b                the layers; they may be the same
+ *   coordinates, rings, polygons, and their lengths   where the columns go, and how many numbers there may be written; they don't overlap
+ *   answer              where the answer goes; not null */
+void overlay_columns_fill(uint32_t call, uint32_t side, uint32_t segments, const struct overlay_columns *a, const struct overlay_columns *b,
+                          int32_t *coordinates, size_t coordinates_length, uint32_t *rings, size_t rings_length, uint32_t *polygons,
+                          size_t polygons_length, struct overlay_columns_answer *answer);
 
 /* Puts the words of an answer of two layers without a text at the beginning of a room, as `A: 1 syntax at 16`, without a 0 or a line feed, and
  * returns their length in bytes: 0 where they don't fit, where memory ran out, or where there is nothing to say.

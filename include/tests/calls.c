@@ -400,6 +400,68 @@ static int print(char **words) {
     return (int)answer.status;
 }
 
+static const int32_t SQUARE_COORDINATES[] = {0, 0, 4, 0, 4, 4, 0, 4, 0, 0};
+static const int32_t OTHER_COORDINATES[] = {9, 9, 2, 2, 6, 2, 6, 6, 2, 6, 2, 2}; /* the ring begins at the second point */
+static const uint32_t FIVE[] = {0, 5}, FIVE_BEHIND[] = {1, 6}, ONE[] = {0, 1};
+static const struct overlay_columns SQUARE_COLUMNS = {SQUARE_COORDINATES, 10, FIVE, 2, ONE, 2, ONE, 2};
+static const struct overlay_columns OTHER_COLUMNS = {OTHER_COORDINATES, 12, FIVE_BEHIND, 2, ONE, 2, ONE, 2};
+
+/* The intersection of two squares in rooms of every size near its columns'. */
+static void columns(void) {
+    static const int32_t WANTED[] = {2, 2, 4, 2, 4, 4, 2, 4, 2, 2};
+    for (size_t size = 0; size < 4 * 13; size++) {
+        size_t lengths[] = {size % 13, 2, 2};
+        lengths[1] -= size / 13 == 1;
+        lengths[2] -= size / 13 == 2;
+        int fits = lengths[0] >= 10 && lengths[1] == 2 && lengths[2] == 2;
+        int32_t *coordinates = malloc(13 * sizeof *coordinates);
+        uint32_t rings[2] = {7, 7}, polygons[2] = {7, 7};
+        for (size_t at = 0; at < 13; at++)
+            coordinates[at] = 7;
+        struct overlay_columns_answer answer;
+        overlay_columns_fill(OVERLAY_INTERSECTION, SIDE, OVERLAY_SEGMENTS, &SQUARE_COLUMNS, &OTHER_COLUMNS, coordinates, lengths[0],
+                             rings, lengths[1], polygons, lengths[2], &answer);
+        check(answer.status == (fits ? OVERLAY_ANSWERED : OVERLAY_SMALL), "status of columns");
+        check(answer.coordinates == 10 && answer.rings == 2 && answer.polygons == 2, "lengths of columns");
+        check(!answer.detail && !answer.number && !answer.part, "fields of columns");
+        check(!fits || !memcmp(coordinates, WANTED, sizeof WANTED), "the coordinates");
+        for (size_t at = fits ? 10 : 0; at < 13; at++)
+            check(coordinates[at] == 7, "the room behind the coordinates");
+        check(rings[0] == (fits ? 0 : 7) && rings[1] == (fits ? 5 : 7), "the offsets of rings");
+        check(polygons[0] == (fits ? 0 : 7) && polygons[1] == (fits ? 1 : 7), "the offsets of polygons");
+        free(coordinates);
+    }
+}
+
+static void columns_refusals(void) {
+    static const uint32_t FOUR[] = {0, 4}, SEVEN[] = {0, 7};
+    static const struct overlay_columns OPEN = {SQUARE_COORDINATES, 10, FOUR, 2, ONE, 2, ONE, 2};
+    static const struct overlay_columns BEYOND = {SQUARE_COORDINATES, 10, SEVEN, 2, ONE, 2, ONE, 2};
+    static const struct {
+        uint32_t call, side, segments;
+        const struct overlay_columns *a, *b;
+        uint64_t detail;
+        uint32_t status, number, part;
+    } ROWS[] = {
+        {OVERLAY_EDGES, SIDE, 8, &OPEN, &BEYOND, 0, OVERLAY_NO_CALL, 0, 0},
+        {OVERLAY_UNION, 15, 8, &OPEN, &BEYOND, 0, OVERLAY_REFUSED, OVERLAY_BAD_SIDE, OVERLAY_RUN},
+        {OVERLAY_UNION, SIDE, 8, &OPEN, &BEYOND, 0, OVERLAY_REFUSED, OVERLAY_OPEN_RING, OVERLAY_LAYER_A},
+        {OVERLAY_UNION, SIDE, 8, &OTHER_COLUMNS, &BEYOND, 1, OVERLAY_REFUSED, OVERLAY_RING_OFFSET, OVERLAY_LAYER_B},
+        {OVERLAY_UNION, SIDE, 7, &OTHER_COLUMNS, &SQUARE_COLUMNS, 8, OVERLAY_REFUSED, OVERLAY_TOO_MANY_SEGMENTS, OVERLAY_RUN},
+    };
+    for (size_t row = 0; row < sizeof ROWS / sizeof *ROWS; row++) {
+        int32_t coordinates[64] = {7};
+        uint32_t rings[64] = {7}, polygons[64] = {7};
+        struct overlay_columns_answer got;
+        overlay_columns_fill(ROWS[row].call, ROWS[row].side, ROWS[row].segments, ROWS[row].a, ROWS[row].b, coordinates, 64, rings, 64,
+                             polygons, 64, &got);
+        check(got.status == ROWS[row].status && got.number == ROWS[row].number && got.part == ROWS[row].part && got.detail == ROWS[row].detail,
+              "a refusal of columns");
+        check(!got.coordinates && !got.rings && !got.polygons, "lengths of a refusal");
+        check(coordinates[0] == 7 && rings[0] == 7 && polygons[0] == 7, "the rooms of a refusal");
+    }
+}
+
 int main(int count, char **words) {
     if (count == 4)
         return print(words);
@@ -417,6 +479,8 @@ int main(int count, char **words) {
     faces_refusals();
     faces_memory();
     broken_faces();
+    columns();
+    columns_refusals();
     printf("%ld failed\n", failures);
     return failures != 0;
 }

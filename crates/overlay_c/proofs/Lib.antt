@@ -1,3 +1,4 @@
 pub mod Telling
 pub mod FacesTelling
 pub mod PassedLayers
+pub mod ColumnsTelling

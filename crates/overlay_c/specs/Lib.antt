@@ -1,2 +1,3 @@
 pub mod Boundary
 pub mod Faces
+pub mod Columns

@@ -62,7 +62,7 @@ pub fn answer_of(fault: &RunFault) -> OverlayAnswer
 }
 
 /// The offset or the count that a fault tells.
-fn detail(fault: Fault) -> u64
+pub fn detail(fault: Fault) -> u64
     ensures { result ≡ detail_of fault }
 {
     match fault {
