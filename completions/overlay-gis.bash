@@ -1,17 +1,19 @@
 # Completion of overlay-gis for bash.
 _overlay_gis() {
   local word=${COMP_WORDS[COMP_CWORD]} before=${COMP_WORDS[COMP_CWORD-1]} verb=${COMP_WORDS[1]} options
+  local out="--out --layer --append --overwrite" grid="--grid --origin --system" most="--segments"
   case $before in
     run) ((COMP_CWORD == 2)) && COMPREPLY=($(compgen -W "union intersection difference symdifference" -- "$word")) && return ;;
     --grid) COMPREPLY=($(compgen -W "0.0001 0.001 0.01 0.1 1" -- "$word")); return ;;
-    --origin | --system | --title | --keep-a | --keep-b) return ;;
+    --origin | --system | --title | --keep | --keep-a | --keep-b | --by | --layer | --segments | --gap-width | --gap-area | --sliver-width) return ;;
   esac
   case $verb in
-    run) options="--out --overwrite --grid --origin --system --dissolve" ;;
-    faces) options="--out --overwrite --parts --keep-a --keep-b --keep --grid --origin --system" ;;
-    check) options="--out --overwrite --grid --origin --system" ;;
-    to-grid) options="--out --frame --grid --origin --system --dissolve" ;;
-    from-grid) options="--out --overwrite --frame" ;;
+    run) options="$out --dissolve --keep-a --keep-b $grid $most" ;;
+    faces) options="$out --parts --keep-a --keep-b --keep --by --pairs $grid $most" ;;
+    dissolve) options="$out --by --parts $grid $most" ;;
+    check) options="$out --gap-width --gap-area --sliver-width $grid $most" ;;
+    to-grid) options="--out --frame --dissolve $grid" ;;
+    from-grid) options="$out --frame" ;;
     show) options="--out --title" ;;
     explain) options="" ;;
     *) options="--version" ;;
@@ -19,7 +21,7 @@ _overlay_gis() {
   if [[ $word == -* ]]; then
     COMPREPLY=($(compgen -W "$options --help" -- "$word"))
   elif ((COMP_CWORD == 1)); then
-    COMPREPLY=($(compgen -W "run faces check to-grid from-grid show explain" -- "$word"))
+    COMPREPLY=($(compgen -W "run faces dissolve check to-grid from-grid show explain" -- "$word"))
   else
     compopt -o default
     COMPREPLY=()

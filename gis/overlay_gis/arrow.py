@@ -4,7 +4,7 @@ from __future__ import annotations
 
 import ctypes
 from dataclasses import dataclass
-from typing import Iterator
+from typing import Any, Iterator
 
 import numpy as np
 from osgeo import gdal, ogr
@@ -53,7 +53,7 @@ Array._fields_ = [
 
 # The formats of a feature's number, and of geometries, whose offsets have four bytes or eight.
 NUMBER = b"l"
-GEOMETRIES: dict[bytes, np.dtype] = {b"z": np.dtype(np.int32), b"Z": np.dtype(np.int64)}
+GEOMETRIES: dict[bytes, np.dtype[Any]] = {b"z": np.dtype(np.int32), b"Z": np.dtype(np.int64)}
 
 
 @dataclass(frozen=True)
@@ -67,7 +67,7 @@ class Batch:
     ends: Numbers
 
 
-def seen(address: int | None, kind: np.dtype, count: int) -> np.ndarray:
+def seen(address: int | None, kind: np.dtype[Any], count: int) -> np.ndarray[Any, Any]:
     """So many numbers that lie at an address."""
     if not address or not count:
         return np.zeros(0, kind)
@@ -88,7 +88,7 @@ def numbers_of(column: Array) -> Numbers:
     return np.where(present(column), held, NO_NUMBER)
 
 
-def batch_of(numbers: Array, geometries: Array | None, width: np.dtype | None) -> Batch:
+def batch_of(numbers: Array, geometries: Array | None, width: np.dtype[Any] | None) -> Batch:
     ids = numbers_of(numbers)
     if geometries is None or width is None:
         none = np.zeros(len(ids), np.int64)

@@ -5,44 +5,38 @@ from __future__ import annotations
 from argparse import ArgumentParser, Namespace
 from collections import defaultdict
 from dataclasses import dataclass, field
-from itertools import pairwise
 from typing import Iterator
 
-import numpy as np
-from osgeo import ogr, osr
+from osgeo import osr
 
 from . import frame as frames
 from . import options
-from .columns import Columns, Floats, Mask
+from .columns import Columns, Floats
+from .destination import destination
 from .faults import FOUND, Refusal
+from .flaws import SLIVER, Flaws, Sizes, found_in, kind_of, table_of, usual_sizes
 from .frame import Frame
 from .joined import alone, numbers, on_grid, warn_of_rings
 from .layers import Kind, Source, Survey, common_system
 from .messages import followed, tell
-from .output import Column, Row, layer_target, write_layer
-from .program import FACES, SEGMENTS
-from .rings import LEAST_RING, Gridded, opened, perimeters
+from .rings import LEAST_RING, Gridded, opened
 from .rows import Rows
-from .systems import area_name
-from .wkb import collected, encoded
+from .systems import area_name, unit_name
 
-HELP = "tells what is wrong with a layer: failed reads, invalid rings, points off the limits, overlaps"
-EXAMPLE = "overlay-gis check parcels.gpkg -o overlaps.gpkg"
-
-OVERLAP_COLUMNS = [
-    Column("first", ogr.OFTInteger64),
-    Column("second", ogr.OFTInteger64),
-    Column("area", ogr.OFTReal),
-    Column("features", ogr.OFTString),
-]
-
+HELP = "tells what is wrong with a layer: failed reads, invalid rings, points off the limits, overlaps, gaps, slivers"
+EXAMPLE = "overlay-gis check parcels.gpkg -o flaws.gpkg --gap-width 0.5"
 
 def add_arguments(parser: ArgumentParser) -> None:
     parser.add_argument("a", metavar="A", help=options.LAYER)
     options.add_output(
-        parser, "a file for the overlaps, each with the numbers of its features: first, second, and all of them", required=False
+        parser,
+        "a file for overlaps and gaps, each with its kind (overlap, gap or sliver), area and width, and the numbers of the features that "
+        "overlap: first, second, and all of them",
+        required=False,
     )
+    options.add_sizes(parser)
     options.add_grid(parser)
+    options.add_segments(parser)
 
 
 @dataclass
@@ -100,46 +94,40 @@ def look_through(source: Source) -> Checked:
 
 @dataclass
 class Covered:
-    """A layer on the grid, and which of its features cover what; `thin` are the overlaps that are narrower than a grid unit all in
-    all, which rounding may have made."""
+    """A layer on the grid, which of its features cover what, its overlaps and its gaps."""
 
     grid: Gridded
     rows: Rows
     frame: Frame
-
-    def __post_init__(self) -> None:
-        several = self.rows.counts > 1
-        thin = several & (self.rows.twice < perimeters(self.rows.shapes))
-        self.overlaps, self.wide, self.thin = several, several & ~thin, int(thin.sum())
+    overlaps: Flaws
+    gaps: Flaws
 
     def areas(self) -> tuple[float, float]:
         """The sum of the areas of all polygons, and the area that is covered where they are read by parity."""
         return self.frame.area(self.grid.twice_area()), self.frame.area(self.rows.within(self.rows.counts % 2 == 1))
 
-    def chosen(self, which: Mask) -> Iterator[tuple[int, list[int], float]]:
-        """The places of such rows, with their features' numbers and their areas."""
-        (held,) = self.rows.members
-        ids, twice, starts = self.grid.layer.ids[held.places], self.rows.twice.tolist(), held.starts.tolist()
-        for k in np.flatnonzero(which).tolist():
-            yield k, ids[starts[k] : starts[k + 1]].tolist(), self.frame.area(twice[k])
-
-    def written(self) -> Iterator[Row]:
-        """All overlaps, as they are written to a file."""
-        shapes = self.rows.shapes.of_features(self.overlaps)
-        polygons = encoded(self.frame.off_grid(shapes))
-        for (_, ids, area), (at, end) in zip(self.chosen(self.overlaps), pairwise(shapes.features.tolist())):
-            geometry = collected([next(polygons) for _ in range(end - at)], as_many=True)
-            yield geometry, (ids[0], ids[1], area, ",".join(map(str, ids)))
+    def findings(self, unit: str, square: str, sizes: Sizes) -> Iterator[str]:
+        """A line for each overlap and gap that isn't narrower than a grid unit."""
+        for flaws in (self.overlaps, self.gaps):
+            for flaw in flaws.chosen(~flaws.thin).each():
+                x, y = flaw.at
+                told = f"{named(flaw.ids)}: overlap by" if flaw.ids else f"gap at {x:.12g} {y:.12g}:"
+                narrow = f", a sliver {flaw.width:,.3g} {unit} wide" if kind_of(flaw, sizes) == SLIVER else ""
+                yield f"{told} {flaw.area:,.6g} {square}{narrow}"
 
 
-def covered(source: Source, seen: Checked, frame: Frame) -> Covered:
-    """What the features of a layer cover on the grid; a layer that is too large for a run is found."""
+def covered(source: Source, seen: Checked, frame: Frame, sizes: Sizes, most: int) -> Covered | None:
+    """What the features of a layer cover on the grid, if they have polygons there; a layer that is too large for a run is found."""
     grid = on_grid(seen.survey, frame)
     warn_of_rings(source, grid)
-    if grid.segments > SEGMENTS:
-        seen.find(f"{grid.segments:,} segments, and the limit of all layers together is {SEGMENTS:,}")
-    with alone(source, seen.survey, grid, frame) as layer:
-        return Covered(grid, layer.ask(FACES, layer.layers).rows(), frame)
+    if grid.segments > most:
+        seen.find(f"{grid.segments:,} segments, and the limit of all layers together is {most:,}")
+    if not grid.polygons:
+        return None
+    with alone(source, seen.survey, grid, frame) as together:
+        (layer,) = together.layers
+        rows, overlaps, gaps = found_in(together, layer, sizes)
+        return Covered(grid, rows, frame, overlaps, gaps)
 
 
 def named(ids: list[int]) -> str:
@@ -158,28 +146,30 @@ def frame_of(source: Source, seen: Checked, system: osr.SpatialReference | None,
 
 def main(arguments: Namespace) -> int:
     source = Source(arguments.a)
-    target = layer_target(arguments.out, arguments.overwrite, source.files()) if arguments.out else None
+    place = destination(arguments, [source]) if arguments.out else None
     system = common_system([source], arguments.system)
     seen = look_through(source)
     if not seen.survey.features:
         seen.find("the layer has no features")
     frame, name = frame_of(source, seen, system, arguments), area_name(system)
-    held = covered(source, seen, frame) if frame and len(seen.survey.sound.ids) else None
-    for _, ids, area in held.chosen(held.wide) if held else ():
-        seen.find(f"{named(ids)}: overlap by {area:,.6g} {name}")
+    sizes = options.sizes(arguments, usual_sizes(system))
+    held = covered(source, seen, frame, sizes, arguments.segments) if frame and len(seen.survey.sound.ids) else None
+    for words in held.findings(unit_name(system), name, sizes) if held else ():
+        seen.find(words)
     for words in seen.findings:
         tell(f"{source.name}: {words}")
     tell(f"{source.name}: {', '.join(summary(seen, held, name))}")
-    if target:
-        write_layer(target, system, OVERLAP_COLUMNS, held.written() if held else (), ogr.wkbMultiPolygon)
+    if place:
+        place.write(system, table_of([held.overlaps, held.gaps] if held else [], sizes))
     return FOUND if seen.findings else 0
 
 
 def summary(seen: Checked, held: Covered | None, name: str) -> Iterator[str]:
     yield f"{seen.survey.features:,} features"
     yield f"{len(seen.findings):,} findings"
-    if held and held.thin:
-        yield f"{held.thin:,} overlaps narrower than a grid unit"
+    for flaws, kind in ((held.overlaps, "overlaps"), (held.gaps, "gaps")) if held else ():
+        if thin := int(flaws.thin.sum()):
+            yield f"{thin:,} {kind} narrower than a grid unit"
     if held and seen.readable:
         sums, parity = held.areas()
         yield f"areas {sums:,.10g} {name} in sum, {parity:,.10g} by parity"

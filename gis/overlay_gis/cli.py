@@ -3,18 +3,19 @@
 from __future__ import annotations
 
 import sys
-from argparse import Action, ArgumentParser, RawDescriptionHelpFormatter
+from argparse import Action, ArgumentParser, Namespace, RawDescriptionHelpFormatter
 from typing import NoReturn
 
 from osgeo import gdal
 
-from . import __version__, check, explain, faces, from_grid, messages, run, show, to_grid
-from .faults import FAILED, Fault, not_there
+from . import __version__, check, dissolve, explain, faces, from_grid, messages, run, show, to_grid
+from .faults import FAILED, Fault, OutOfMemory, not_there
 from .stopping import Stopped, stoppable
 
 VERBS = {
     "run": run,
     "faces": faces,
+    "dissolve": dissolve,
     "check": check,
     "to-grid": to_grid,
     "from-grid": from_grid,
@@ -73,29 +74,33 @@ def parser() -> ArgumentParser:
     return top
 
 
+def answered(arguments: Namespace) -> int:
+    """The status of a verb that was done; what fails is a fault."""
+    try:
+        return int(arguments.main(arguments))
+    except ImportError as error:
+        raise not_there(error) from error
+    except RuntimeError as error:
+        raise Fault("GDAL", error) from error
+    except BrokenPipeError:
+        raise
+    except OSError as error:
+        raise Fault(error.filename or "a temporary file", error.strerror) from error
+    except MemoryError as error:
+        raise OutOfMemory() from error
+
+
 def main(words: list[str] | None = None) -> int:
     arguments = parser().parse_args(words)
     try:
         with stoppable():
-            return arguments.main(arguments)
+            return answered(arguments)
     except Fault as fault:
         messages.say(str(fault))
         return fault.status
-    except ImportError as error:
-        messages.say(str(not_there(error)))
-        return FAILED
     except BrokenPipeError:
         sys.stderr.close()
         return FAILED
-    except RuntimeError as error:
-        messages.say(f"GDAL: {' '.join(str(error).split())}")
-        return FAILED
-    except OSError as error:
-        messages.say(f"{error.filename or 'a temporary file'}: {error.strerror}")
-        return FAILED
     except Stopped as signal:
         messages.say(f"stopped by {signal}: no file was written or changed")
-        return FAILED
-    except MemoryError:
-        messages.say("out of memory")
         return FAILED

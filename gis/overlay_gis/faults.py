@@ -21,6 +21,16 @@ class Fault(Exception):
         return f"{self.name}: {self.reason}"
 
 
+class OutOfMemory(Fault):
+    """There isn't enough memory. Exit status 1."""
+
+    def __init__(self) -> None:
+        super().__init__("overlay-gis", "out of memory")
+
+    def __str__(self) -> str:
+        return self.reason
+
+
 def not_there(error: ImportError) -> Fault:
     """The fault that a package isn't there."""
     return Fault(

@@ -12,9 +12,10 @@ from osgeo import ogr
 from . import frame as frames
 from . import options, parsing, run
 from .columns import Numbers
+from .destination import destination
 from .frame import Frame
 from .messages import say
-from .output import Column, Row, layer_target, write_layer
+from .output import Column, Row, Table
 from .systems import system_from
 from .texts import EDGES, kind_of, text_of
 from .to_grid import FRAME
@@ -41,15 +42,16 @@ def edge_rows(edges: Numbers, frame: Frame) -> Iterator[Row]:
 
 def main(arguments: Namespace) -> int:
     held = arguments.frame or os.path.join(os.path.dirname(arguments.text), FRAME)
-    target = layer_target(arguments.out, arguments.overwrite, [arguments.text, held])
+    place = destination(arguments, [], [arguments.text, held])
     frame = frames.loaded(held)
     system = system_from(frame.system) if frame.system else None
     text = text_of(arguments.text)
     if kind_of(text) == EDGES:
         edges = parsing.edge_rows(text, arguments.text)
-        count = write_layer(target, system, EDGE_COLUMNS, edge_rows(edges, frame), ogr.wkbLineString)
+        table = Table(EDGE_COLUMNS, edge_rows(edges, frame), ogr.wkbLineString)
     else:
         result = parsing.polygons_in(text, arguments.text)
-        count = write_layer(target, system, run.COLUMNS, run.rows(result, frame))
+        table = Table(run.COLUMNS, run.rows(result, frame))
+    (count,) = place.write(system, table)
     say(f"{arguments.out}: {count:,} features")
     return 0

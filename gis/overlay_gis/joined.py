@@ -14,7 +14,7 @@ from .columns import NOTHING, Columns, Numbers
 from .faults import Fault, Refusal
 from .frame import Frame
 from .layers import Box, Kind, Source, Survey, common_system
-from .messages import say, warn
+from .messages import during, say, warn
 from .program import DOUBT, FACES, PROGRAM, SEGMENTS, Asked, AskedLibrary, Text, asked, edges_of, memory, result_in, rows_of
 from .rings import Gridded, gridded
 from .rows import Rows
@@ -62,6 +62,10 @@ class Question:
             return False
         return not any(layer.grid.segments for layer in self.layers) or report.get("rows") == 0
 
+    def result(self) -> Columns[Numbers]:
+        """The polygons that the program answers to an operation."""
+        return result_in(self.answer()[0])
+
     def rows(self) -> Rows:
         """The rows that the program answers to `faces`, of which it tells the number."""
         text, report = self.answer()
@@ -85,25 +89,26 @@ class Joined:
     none: Text
     room: ExitStack
 
-    def ask(self, command: str, layers: Sequence[Layer]) -> Question:
+    def ask(self, command: str, layers: Sequence[Layer], covered: bool = False) -> Question:
         """Asks the program, which begins at once: for the faces of all these layers, or else on two layers, or on one and an empty
-        one."""
+        one. `covered`: features that overlap don't cancel each other."""
         texts = [layer.text for layer in layers]
         if command != FACES:
             texts = (texts + [self.none, self.none])[:2]
+        return self.begun(command, texts, layers, sum(layer.grid.segments for layer in layers), covered)
+
+    def begun(self, command: str, texts: Sequence[Text], layers: Sequence[Layer], segments: int, covered: bool) -> Question:
+        """A question on these texts, which have the layers and so many segments."""
         with unbroken():
-            begun = asked(command, *texts, segments=sum(layer.grid.segments for layer in layers))
+            begun = asked(command, *texts, segments=segments, covered=covered)
             self.room.enter_context(begun)
         return Question(command, layers, begun)
 
-    def united(self, shapes: Columns[Numbers]) -> Columns[Numbers]:
-        """The polygons of all points that some shapes on the grid cover, which don't overlap."""
-        with unbroken():
-            text = text_of("faces", shapes)
-            self.room.callback(text.file.close)
-            begun = asked("union", text, self.none, segments=len(shapes.x))
-            self.room.enter_context(begun)
-        return result_in(Question("union", [], begun).answer()[0])
+    def beyond(self, shapes: Columns[Numbers], layer: Layer) -> Question:
+        """Asks for what some shapes on the grid have beyond all that a layer's features cover."""
+        text = text_of("shapes", shapes)
+        self.room.callback(text.file.close)
+        return self.begun("difference", [text, layer.text], [layer], layer.grid.segments + len(shapes.x), True)
 
     def parity(self, layer: Layer, union: Question) -> tuple[int, int]:
         """Twice the area of a layer as it is read, by parity and rounded, and how many segments were bent at most.
@@ -201,12 +206,12 @@ def tell_moves(joined: Joined, layer: Layer, before: str, twice: int, after: str
     say(f"{layer.source.name}: {moved}; {areas}")
 
 
-def refuse_many(sources: Sequence[Source], grids: Sequence[Gridded]) -> None:
-    """Refuses layers of more segments than the program takes, before a text is written."""
-    if sum(grid.segments for grid in grids) > SEGMENTS:
+def refuse_many(sources: Sequence[Source], grids: Sequence[Gridded], most: int) -> None:
+    """Refuses layers of more segments than were asked for, before a text is written."""
+    if sum(grid.segments for grid in grids) > most:
         raise Refusal(
             together(sources),
-            f"more than {SEGMENTS:,} segments, the limit of all layers together: clip them, and join the answers",
+            f"more than {most:,} segments, the limit of all layers together: clip them, and join the answers, or ask for more by --segments",
         )
 
 
@@ -224,22 +229,26 @@ def none() -> Text:
 
 
 @contextmanager
-def joined(sources: Sequence[Source], unit: str | None, origin: str | None, system: str | None) -> Iterator[Joined]:
-    """The layers as texts on one grid, whose frame is told."""
+def joined(
+    sources: Sequence[Source], unit: str | None, origin: str | None, system: str | None, most: int = SEGMENTS
+) -> Iterator[Joined]:
+    """The layers as texts on one grid, whose frame is told; together they may have so many segments at most."""
     common = common_system(sources, system)
     surveys = [surveyed(source) for source in sources]
     frame = frames.chosen(together(sources), box_of(sources, surveys), common, *frames.asked_for(unit, origin))
     grids = []
-    for seen in surveys:
-        grids.append(on_grid(seen, frame))
+    for source, seen in zip(sources, surveys):
+        with during(f"rounding {source.name}"):
+            grids.append(on_grid(seen, frame))
         seen.sound = NOTHING  # whose points would take room
-    refuse_many(sources, grids)
+        refuse_many(sources, grids, most)
     say(frame.told(common))
     with ExitStack() as room:
         layers = []
         for source, seen, grid in zip(sources, surveys, grids):
             warn_of_rings(source, grid)
-            layers.append(Layer(source, seen, grid, text_of(source.name, grid.layer)))
+            with during(f"writing {source.name} as text"):
+                layers.append(Layer(source, seen, grid, text_of(source.name, grid.layer)))
         yield Joined(frame, common, layers, none(), room)
 
 

@@ -9,7 +9,7 @@ from __future__ import annotations
 import os
 from dataclasses import dataclass
 from enum import IntEnum
-from typing import Iterator, Sequence
+from typing import Any, Iterator, Sequence
 
 import numpy as np
 from osgeo import gdal, ogr, osr
@@ -210,7 +210,7 @@ class Source:
         held = NO_POLYGON if geometry.IsEmpty() else lines_of(geometry)
         return None if held is None else bytes(held.ExportToWkb(ogr.wkbNDR))
 
-    def values(self, names: Sequence[str], seen: Survey) -> list[tuple]:
+    def values(self, names: Sequence[str], seen: Survey) -> list[tuple[Any, ...]]:
         """The values of these fields of all features."""
         if not names:
             return [()] * seen.features

@@ -7,7 +7,8 @@ import re
 import sys
 import time
 from contextlib import contextmanager
-from typing import Callable, Iterable, Iterator, TypeVar
+from contextvars import ContextVar
+from typing import Callable, Iterable, Iterator, Protocol, TypeVar
 
 from .passwords import hidden
 
@@ -25,29 +26,71 @@ def shown(text: str) -> str:
     return CONTROL.sub(lambda found: repr(found[0])[1:-1], hidden(text))
 
 
+class Listener(Protocol):
+    """Another program that hears what is said, in the place of standard output and standard error. What its calls raise ends the
+    work, and leaves every output as it was."""
+
+    def line(self, text: str) -> None:
+        """A note, a warning, or a line of the answer."""
+
+    def progress(self, work: str, share: float | None) -> None:
+        """What is done, and how much of it is, from 0 to 1, where that is known. It is called several times a second."""
+
+
+_listener: ContextVar[Listener | None] = ContextVar("listener", default=None)
+
+
+@contextmanager
+def heard_by(listener: Listener) -> Iterator[None]:
+    """Within, all that this thread says goes to the listener."""
+    token = _listener.set(listener)
+    try:
+        yield
+    finally:
+        _listener.reset(token)
+
+
 def tell(text: str) -> None:
     """A line of the answer, on standard output."""
-    print(shown(text))
+    listener = _listener.get()
+    if listener:
+        listener.line(shown(text))
+    else:
+        print(shown(text))
 
 
 def say(text: str) -> None:
-    print(f"overlay-gis: {shown(text)}", file=sys.stderr)
+    listener = _listener.get()
+    if listener:
+        listener.line(shown(text))
+    else:
+        print(f"overlay-gis: {shown(text)}", file=sys.stderr)
 
 
 def warn(name: str, text: str) -> None:
     say(f"{name}: warning: {text}")
 
 
-def progress(text: str) -> None:
-    """Puts a text in the place of the terminal's last line, or clears that."""
-    print(f"\r{shown(text)}\x1b[K", end="", file=sys.stderr, flush=True)
+def is_watched() -> bool:
+    """Whether anybody hears how far a work is."""
+    return _listener.get() is not None or sys.stderr.isatty()
+
+
+def progress(work: str, share: float | None = None, count: int | None = None) -> None:
+    """Tells a listener how far a work is, or puts it in the place of the terminal's last line; no work clears that."""
+    listener = _listener.get()
+    if listener:
+        listener.progress(shown(work), share)
+        return
+    far = f": {100 * share:.0f}%" if share is not None else f": {count:,}" if count is not None else ""
+    print(f"\r{shown(work + far)}\x1b[K", end="", file=sys.stderr, flush=True)
 
 
 def followed(
     items: Iterable[T], label: str, total: int | None = None, size: Callable[[T], int] = lambda _: 1
 ) -> Iterator[T]:
-    """The same items. Where standard error is a terminal and they take long, it says how far they are; `size` is how much an item is."""
-    if not sys.stderr.isatty():
+    """The same items. Where somebody hears it and they take long, it says how far they are; `size` is how much an item is."""
+    if not is_watched():
         yield from items
         return
     due = time.monotonic() + PATIENCE
@@ -55,7 +98,7 @@ def followed(
     for item in items:
         now = time.monotonic()
         if now >= due:
-            progress(f"{label}: {100 * done // total}%" if total else f"{label}: {done:,}")
+            progress(label, done / total if total else None, done)
             due, told = now + PAUSE, True
         done += size(item)
         yield item
@@ -65,12 +108,20 @@ def followed(
 
 @contextmanager
 def during(label: str) -> Iterator[None]:
-    """Where standard error is a terminal, says what is done as long as it is done."""
-    told = sys.stderr.isatty()
+    """Where somebody hears it, says what is done as long as it is done."""
+    told = is_watched()
     if told:
         progress(label)
     try:
         yield
     finally:
-        if told:
+        if told and _listener.get() is None:
             progress("")
+
+
+def waited(label: str, ended: Callable[[float | None], bool]) -> None:
+    """Waits until a work has ended, and says what is waited for; `ended` waits for so many seconds at most, or, without a number,
+    to the end. A listener is told again and again, and may end the work."""
+    with during(label):
+        while not ended(PAUSE if _listener.get() else None):
+            progress(label)

@@ -2,7 +2,11 @@
 
 from __future__ import annotations
 
-from argparse import ArgumentParser
+from argparse import ArgumentParser, ArgumentTypeError, Namespace
+from dataclasses import replace
+
+from .flaws import Sizes
+from .program import SEGMENTS
 
 LAYER = (
     "a polygon layer that GDAL reads: a file, or a connection string as PG:dbname=town, "
@@ -16,8 +20,14 @@ def add_layers(parser: ArgumentParser) -> None:
 
 
 def add_output(parser: ArgumentParser, words: str, required: bool = True) -> None:
-    parser.add_argument("-o", "--out", metavar="OUT", required=required, help=words)
-    parser.add_argument("--overwrite", action="store_true", help="replaces OUT where it is there already")
+    parser.add_argument("-o", "--out", metavar="OUT", required=required, help=f"{words}; or PG:.. for a table that --layer names")
+    parser.add_argument("--layer", metavar="NAME", help="the name of the layer in a GeoPackage, or of the table, as schema.table")
+    parser.add_argument("--append", action="store_true", help="puts the layer into the GeoPackage OUT, which keeps its others")
+    parser.add_argument(
+        "--overwrite",
+        action="store_true",
+        help="replaces OUT where it is there already; with --layer or --append the layer of that name alone",
+    )
 
 
 def add_grid(parser: ArgumentParser) -> None:
@@ -34,7 +44,78 @@ def add_grid(parser: ArgumentParser) -> None:
     )
 
 
+def count(text: str) -> int:
+    """A number of segments as it was asked for."""
+    if not text.isascii() or not text.isdigit() or not 1 <= int(text) < 1 << 32:
+        raise ArgumentTypeError(f"{text} is no whole number from 1 to 4294967295")
+    return int(text)
+
+
+def add_segments(parser: ArgumentParser) -> None:
+    parser.add_argument(
+        "--segments",
+        metavar="N",
+        type=count,
+        default=SEGMENTS,
+        help=f"the most segments of all layers together (default: {SEGMENTS})",
+    )
+
+
 def add_dissolve(parser: ArgumentParser) -> None:
     parser.add_argument(
-        "--dissolve", action="store_true", help="unites the polygons of each layer first, so that overlaps don't cancel"
+        "--dissolve",
+        action="store_true",
+        help="takes a point to lie in a layer where one of its features at least covers it, so that overlaps don't cancel",
     )
+
+
+def add_parts(parser: ArgumentParser) -> None:
+    parser.add_argument(
+        "--parts",
+        action="store_true",
+        help="writes each polygon by itself, with its own area (default: what belongs together is one feature of several polygons)",
+    )
+
+
+def add_keep(parser: ArgumentParser, words: str = "") -> None:
+    parser.add_argument(
+        "--keep-a",
+        metavar="FIELD,..",
+        default="",
+        help=f"fields of the first layer that a row takes over, as a_FIELD; values of several features are joined by commas{words}",
+    )
+    parser.add_argument("--keep-b", metavar="FIELD,..", default="", help="fields of the second layer, as b_FIELD")
+
+
+def size(text: str) -> float:
+    """A width or an area as it was asked for."""
+    try:
+        found = float(text)
+    except ValueError as error:
+        raise ArgumentTypeError(f"{text} is no number") from error
+    if not 0 <= found < float("inf"):
+        raise ArgumentTypeError(f"a size is 0 or above, not {text}")
+    return found
+
+
+def add_sizes(parser: ArgumentParser) -> None:
+    parser.add_argument(
+        "--gap-width",
+        metavar="W",
+        type=size,
+        help="a hole of all features together is a gap where it is narrower than this (default: 1, or 0.00001 degrees); a width is twice "
+        "the area divided by the length of the border",
+    )
+    parser.add_argument("--gap-area", metavar="AREA", type=size, help="or where it is smaller than this (default: the square of these)")
+    parser.add_argument(
+        "--sliver-width",
+        metavar="W",
+        type=size,
+        help="an overlap or a gap that is narrower is a sliver (default: a tenth of these)",
+    )
+
+
+def sizes(arguments: Namespace, usual: Sizes) -> Sizes:
+    """The sizes that were asked for, and the usual ones where none were."""
+    asked = {"gap_width": arguments.gap_width, "gap_area": arguments.gap_area, "sliver_width": arguments.sliver_width}
+    return replace(usual, **{name: value for name, value in asked.items() if value is not None})

@@ -1,16 +1,16 @@
-"""Layers as OGR writes them: one file of one layer, whole or not at all."""
+"""Layers as OGR writes them: a file whole, or not at all."""
 
 from __future__ import annotations
 
 import sys
 from dataclasses import dataclass
 from pathlib import Path
-from typing import Any, Iterable, Sequence
+from typing import Any, Callable, Iterable, Sequence
 
 from osgeo import gdal, ogr, osr
 
 from .faults import Fault, Refusal
-from .layers import Source, without_name
+from .layers import LAYER_MARK, Source, without_name
 from .messages import followed
 from .whole import Target, draft, target_of
 
@@ -19,6 +19,9 @@ gdal.SetConfigOption("OGR_SQLITE_SYNCHRONOUS", "OFF")
 
 # Drivers whose files are folders.
 FOLDERS = ("OpenFileGDB", "FileGDB")
+
+# The driver whose files may have several layers here.
+PACKAGE = "GPKG"
 
 
 def driver_for(target: Target) -> gdal.Driver:
@@ -55,8 +58,19 @@ class Column:
         return definition
 
 
-# A geometry to be written, in WKB, with the values of its columns.
-Row = tuple[bytes, Sequence]
+# A geometry to be written, in WKB, if there is one, with the values of its columns.
+Row = tuple[bytes | None, Sequence[Any]]
+
+
+@dataclass
+class Table:
+    """What is written as a layer: its fields and its rows; the kind of its shapes, wkbNone for a table without any; and its name, or
+    nothing for that of its file."""
+
+    columns: Sequence[Column]
+    rows: Iterable[Row]
+    kind: int = ogr.wkbPolygon
+    name: str = ""
 
 
 def layer_target(name: str, overwrite: bool, inputs: Iterable[str]) -> Target:
@@ -67,8 +81,28 @@ def layer_target(name: str, overwrite: bool, inputs: Iterable[str]) -> Target:
     return target
 
 
+def create(layers: Any, name: str, system: osr.SpatialReference | None, table: Table, *options: str) -> ogr.Layer:
+    """A new layer of a data set, with the table's fields."""
+    layer = layers.CreateLayer(name, None if table.kind == ogr.wkbNone else system, table.kind, list(options))
+    for column in table.columns:
+        layer.CreateField(column.defined())
+    return layer
+
+
+def add(layer: ogr.Layer, geometry: bytes | None, values: Sequence[Any]) -> None:
+    feature = ogr.Feature(layer.GetLayerDefn())
+    if geometry is not None:
+        feature.SetGeometryDirectly(ogr.CreateGeometryFromWkb(geometry))
+    for k, value in enumerate(values):
+        if value is None:
+            feature.SetFieldNull(k)
+        else:
+            feature.SetField(k, value)
+    layer.CreateFeature(feature)
+
+
 class Output:
-    """A target's layer that is being written, in a folder that isn't its own yet."""
+    """A target's file that is being written, in a folder that isn't its own yet."""
 
     def __init__(self, target: Target, folder: Path):
         self.target = target
@@ -76,13 +110,14 @@ class Output:
         self.dataset: Any = None
         self.layer: Any = None
 
-    def begin(self, system: osr.SpatialReference | None, columns: Sequence[Column], kind: int) -> None:
-        self.dataset = driver_for(self.target).Create(str(self.path), 0, 0, 0, gdal.GDT_Unknown)
-        self.layer = self.dataset.CreateLayer(self.path.stem, system, kind)
-        if self.layer.GetLayerDefn().GetGeomFieldCount() == 0:
+    def opened(self) -> Any:
+        return driver_for(self.target).Create(str(self.path), 0, 0, 0, gdal.GDT_Unknown)
+
+    def begin(self, system: osr.SpatialReference | None, table: Table) -> None:
+        self.dataset = self.dataset or self.opened()
+        self.layer = create(self.dataset, table.name or self.path.stem, system, table)
+        if table.kind != ogr.wkbNone and self.layer.GetLayerDefn().GetGeomFieldCount() == 0:
             raise Refusal(self.target.name, "a file of this format keeps no shapes")
-        for column in columns:
-            self.layer.CreateField(column.defined())
 
     def fill(self, rows: Iterable[Row]) -> int:
         """Writes all rows, and answers how many they were."""
@@ -98,15 +133,8 @@ class Output:
         self.dataset.FlushCache()
         return count
 
-    def add(self, geometry: bytes, values: Sequence) -> None:
-        feature = ogr.Feature(self.layer.GetLayerDefn())
-        feature.SetGeometryDirectly(ogr.CreateGeometryFromWkb(geometry))
-        for k, value in enumerate(values):
-            if value is None:
-                feature.SetFieldNull(k)
-            else:
-                feature.SetField(k, value)
-        self.layer.CreateFeature(feature)
+    def add(self, geometry: bytes | None, values: Sequence[Any]) -> None:
+        add(self.layer, geometry, values)
 
     def close(self) -> None:
         """Closes the file. GDAL's bindings would print what fails here, and can't raise it: a look at the file tells."""
@@ -114,10 +142,11 @@ class Output:
         self.layer = self.dataset = None
         sys.unraisablehook = told
 
-    def check(self, count: int) -> None:
-        """Reads back how many features the closed file has."""
+    def check(self, table: Table, count: int) -> None:
+        """Reads back how many features a layer of the closed file has."""
         try:
-            held = Source(str(self.path))  # a layer is there only as long as its source is
+            named = LAYER_MARK + table.name if table.name else ""
+            held = Source(str(self.path) + named)  # a layer is there only as long as its source is
             found = held.layer.GetFeatureCount()
         except (Fault, RuntimeError) as error:
             reason = error.reason if isinstance(error, Fault) else without_name(error, str(self.path))
@@ -126,23 +155,25 @@ class Output:
             raise Fault(self.target.name, f"has {found} of the {count} features that were written to it")
 
 
-def write_layer(
+def write_tables(
     target: Target,
     system: osr.SpatialReference | None,
-    columns: Sequence[Column],
-    rows: Iterable[Row],
-    kind: int = ogr.wkbPolygon,
-) -> int:
-    """Writes a file of one layer, and answers how many features it has. Where that fails, what was there stays."""
+    tables: Sequence[Table],
+    begun: Callable[[Target, Path], Output] = Output,
+) -> list[int]:
+    """Writes a file of these layers, and answers how many features each has. Where that fails, what was there stays."""
     with draft(target) as folder:
-        output = Output(target, folder)
+        output = begun(target, folder)
+        counts = []
         try:
-            output.begin(system, columns, kind)
-            count = output.fill(rows)
+            for table in tables:
+                output.begin(system, table)
+                counts.append(output.fill(table.rows))
         except RuntimeError as error:
             error.__traceback__ = None  # its frames would keep the file open
             raise Fault(target.name, without_name(error, str(output.path))) from error
         finally:
             output.close()
-        output.check(count)
-    return count
+        for table, count in zip(tables, counts):
+            output.check(table, count)
+    return counts

@@ -10,13 +10,13 @@ import sys
 from contextlib import suppress
 from dataclasses import dataclass
 from pathlib import Path
-from subprocess import Popen
+from subprocess import Popen, TimeoutExpired
 from types import ModuleType
 from typing import BinaryIO, Sequence
 
 from .columns import Columns, Numbers
 from .faults import Fault, Refusal
-from .messages import during
+from .messages import during, waited
 from .parsing import edge_rows, polygons_in
 from .rows import Rows, rows_in
 from .texts import RESULT, kind_of
@@ -99,12 +99,13 @@ def held(file: BinaryIO) -> bytes:
 class Asked:
     """The program at work on a command and some texts, whose answer is waited for; at the end of the context it has ended."""
 
-    def __init__(self, command: str, *texts: Text, segments: int = 0):
+    def __init__(self, command: str, *texts: Text, segments: int = 0, covered: bool = False):
         self.command = command
         self.texts = texts
         self.out, self.told = memory("answer"), memory("report")
         words = [located(), command, *(text.path for text in texts), "--report"]
         words += ["--segments", str(segments)] if segments > SEGMENTS else []
+        words += ["--covered"] if covered else []
         files = [text.file.fileno() for text in self.texts]
         try:
             self.process = Popen(words, stdout=self.out, stderr=self.told, pass_fds=files)
@@ -120,10 +121,16 @@ class Asked:
         self.out.close()
         self.told.close()
 
+    def ended(self, seconds: float | None) -> bool:
+        """Whether the program has ended after so many seconds."""
+        with suppress(TimeoutExpired):
+            self.process.wait(seconds)
+        return self.process.returncode is not None
+
     def answer(self) -> tuple[bytes, dict[str, int]]:
         """What the program wrote, and the numbers of its report by their names."""
-        with during(f"overlay {self.command}"):
-            status = self.process.wait()
+        waited(f"overlay {self.command}", self.ended)
+        status = self.process.returncode
         told = held(self.told).decode("utf-8", "replace").splitlines()
         if status != 0:
             raise refusal(told[-1] if told else f"ended with status {status} and no word", status, self.texts)
@@ -165,11 +172,12 @@ class AskedLibrary:
 CALLS = {FACES: "faces_text"}
 
 
-def asked(command: str, *texts: Text, segments: int = 0) -> Asked | AskedLibrary:
-    """A command on some texts, at which the program is at work, with room for so many segments; or the package, if it has the call."""
-    package = library()
+def asked(command: str, *texts: Text, segments: int = 0, covered: bool = False) -> Asked | AskedLibrary:
+    """A command on some texts, at which the program is at work, with room for so many segments; or the package, if it has the call.
+    `covered`: a point lies in a layer where one of its features at least covers it, for which the package has no call."""
+    package = None if covered else library()
     if package is None or not hasattr(package, CALLS.get(command, command)):
-        return Asked(command, *texts, segments=segments)
+        return Asked(command, *texts, segments=segments, covered=covered)
     return AskedLibrary(package, command, *texts, segments=segments)
 
 

@@ -36,6 +36,14 @@ class Members:
     def counts(self) -> Numbers:
         return np.diff(self.starts)
 
+    def owners(self) -> Numbers:
+        """For each of the places the row that has it."""
+        return np.repeat(np.arange(len(self.starts) - 1), self.counts)
+
+    def chosen(self, kept: Mask) -> Members:
+        """Those of these rows alone."""
+        return Members(offsets(self.counts[kept]), self.places[np.repeat(kept, self.counts)])
+
 
 @dataclass(frozen=True)
 class Rows:
@@ -50,6 +58,16 @@ class Rows:
     def counts(self) -> Numbers:
         """How many features each row has, of all layers."""
         return np.sum([layer.counts for layer in self.members], axis=0)
+
+    def chosen(self, kept: Mask) -> Rows:
+        """These rows alone."""
+        return Rows(self.twice[kept], [layer.chosen(kept) for layer in self.members], self.shapes.of_features(kept))
+
+    def areas_of(self, layer: int, count: int) -> Numbers:
+        """Twice the area of each of the layer's so many features."""
+        held, made = self.members[layer], np.zeros(count, np.int64)
+        np.add.at(made, held.places, self.twice[held.owners()])
+        return made
 
     def within(self, kept: Mask) -> int:
         """Twice the area of these rows together."""

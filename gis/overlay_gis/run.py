@@ -3,17 +3,22 @@
 from __future__ import annotations
 
 from argparse import ArgumentParser, Namespace
-from typing import Iterator
+from functools import reduce
+from operator import and_, or_, xor
+from typing import Callable, Iterator
 
 from osgeo import ogr
 
-from . import dissolved, options, program
-from .columns import Columns, Numbers
+from . import options, program, row_tables
+from .columns import Columns, Mask, Numbers
+from .destination import destination
+from .faces import NAMES
+from .fields import kept
 from .frame import Frame
 from .joined import Joined, joined, tell_change, tell_moves
-from .layers import Source, files_of
+from .layers import Source
 from .messages import say
-from .output import Column, Row, layer_target, write_layer
+from .output import Column, Row, Table
 from .wkb import encoded
 
 HELP = "does one set operation on two layers"
@@ -21,13 +26,23 @@ EXAMPLE = "overlay-gis run intersection parcels.gpkg zones.gpkg -o common.gpkg"
 
 COLUMNS = [Column("id", ogr.OFTInteger64), Column("area", ogr.OFTReal)]
 
+# Which rows of faces an operation has, by whether each layer covers them.
+CHOICES: dict[str, Callable[[Mask, Mask], Mask]] = {
+    "union": or_,
+    "intersection": and_,
+    "difference": lambda first, second: first & ~second,
+    "symdifference": xor,
+}
+
 
 def add_arguments(parser: ArgumentParser) -> None:
     parser.add_argument("operation", metavar="OP", choices=program.OPERATIONS, help=", ".join(program.OPERATIONS))
     options.add_layers(parser)
     options.add_output(parser, "the file for the result; its ending names its format, as .gpkg, .shp, .geojson")
-    options.add_grid(parser)
     options.add_dissolve(parser)
+    options.add_keep(parser, "; with it, or with --keep-b, the result is the rows of faces that the operation has")
+    options.add_grid(parser)
+    options.add_segments(parser)
 
 
 def rows(result: Columns[Numbers], frame: Frame) -> Iterator[Row]:
@@ -37,29 +52,40 @@ def rows(result: Columns[Numbers], frame: Frame) -> Iterator[Row]:
         yield polygon, (number, frame.area(twice))
 
 
-def by_parity(both: Joined, operation: str) -> Columns[Numbers]:
-    """What the program answers, and what became of each layer is told."""
-    alone = [(layer, both.ask("union", [layer])) for layer in both.layers if layer.grid.polygons]
-    asked = both.ask(operation, both.layers)
+def answer(both: Joined, operation: str, covered: bool) -> Columns[Numbers]:
+    """What the program answers, and what became of each layer is told; `covered`: each layer is read as all that its features cover."""
+    alone = [(layer, both.ask("union", [layer], covered)) for layer in both.layers if layer.grid.polygons]
+    asked = both.ask(operation, both.layers, covered)
     for layer, union in alone:
-        tell_change(both, layer, union)
-    return program.result_in(asked.answer()[0])
+        if covered:
+            tell_moves(both, layer, "in sum", sum(union.result().twice_areas()), "united")
+        else:
+            tell_change(both, layer, union)
+    return asked.result()
 
 
-def by_cover(both: Joined, operation: str) -> Columns[Numbers]:
-    """The same of layers whose polygons are united."""
-    held = dissolved.rows_of(both)
-    for layer, covered in zip(both.layers, dissolved.covers(held)):
+def with_fields(both: Joined, operation: str, asked: tuple[str, str]) -> Table:
+    """The rows of faces that an operation has, with the fields that are asked for of both layers."""
+    question = both.ask(program.FACES, both.layers)
+    held = [kept(*of_one) for of_one in zip(both.layers, NAMES, asked)]
+    faces = question.rows()
+    covers = [members.counts > 0 for members in faces.members]
+    for layer, covered in zip(both.layers, covers):
         if layer.grid.polygons:
-            tell_moves(both, layer, "in sum", held.within(covered), "united")
-    return dissolved.answer(both, operation, held)
+            tell_moves(both, layer, "in sum", faces.within(covered), "united")
+    return row_tables.table_of(faces.chosen(reduce(CHOICES[operation], covers)), held, both.frame)
 
 
 def main(arguments: Namespace) -> int:
     sources = [Source(arguments.a), Source(arguments.b)]
-    target = layer_target(arguments.out, arguments.overwrite, files_of(sources))
-    with joined(sources, arguments.grid, arguments.origin, arguments.system) as both:
-        result = (by_cover if arguments.dissolve else by_parity)(both, arguments.operation)
-        count = write_layer(target, both.system, COLUMNS, rows(result, both.frame))
-    say(f"{arguments.out}: {count:,} polygons")
+    place = destination(arguments, sources)
+    asked = (arguments.keep_a, arguments.keep_b)
+    with joined(sources, arguments.grid, arguments.origin, arguments.system, arguments.segments) as both:
+        if any(asked):
+            table = with_fields(both, arguments.operation, asked)
+        else:
+            result = answer(both, arguments.operation, arguments.dissolve)
+            table = Table(COLUMNS, rows(result, both.frame))
+        (count,) = place.write(both.system, table)
+    say(f"{arguments.out}: {count:,} {'rows' if any(asked) else 'polygons'}")
     return 0

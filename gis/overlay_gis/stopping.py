@@ -14,6 +14,7 @@ class Stopped(BaseException):
     """A signal asked the command to end."""
 
 
+_ours = False  # whether signals are this command's; another program that calls it keeps its own
 _waiting: list[int] | None = None  # the signals that came where none may be raised; nothing where one may
 
 
@@ -29,6 +30,9 @@ def stop(number: int, _: FrameType | None) -> None:
 def unbroken() -> Iterator[None]:
     """A signal that comes within is raised at the end, so that what is begun here can be known to whoever tidies it away."""
     global _waiting
+    if not _ours:
+        yield
+        return
     _waiting = []
     try:
         yield
@@ -40,19 +44,22 @@ def unbroken() -> Iterator[None]:
 
 def go_on() -> None:
     """From here on no signal of these stops the command."""
-    for number in SIGNALS:
+    for number in SIGNALS if _ours else ():
         signal.signal(number, signal.SIG_IGN)
 
 
 @contextmanager
 def stoppable() -> Iterator[None]:
     """The signals raise `Stopped`, but for those that were ignored already, as by nohup."""
+    global _ours
     held = {number: signal.getsignal(number) for number in SIGNALS}
+    _ours = True
     try:
         for number, handler in held.items():
             if handler is not signal.SIG_IGN:
                 signal.signal(number, stop)
         yield
     finally:
+        _ours = False
         for number, handler in held.items():
             signal.signal(number, handler)

@@ -4,10 +4,11 @@ from __future__ import annotations
 
 import os
 from argparse import ArgumentParser, Namespace
+from dataclasses import replace
 
 import numpy as np
 
-from . import dissolved, options
+from . import options
 from . import frame as frames
 from .columns import Columns, Numbers
 from .faults import Fault, Refusal
@@ -66,7 +67,8 @@ def frame_for(arguments: Namespace, sources: list[Source], surveys: list[Survey]
 def united(source: Source, seen: Survey, grid: Gridded, frame: Frame) -> Columns[Numbers]:
     """All that a layer covers on the grid, as one feature."""
     with alone(source, seen, grid, frame) as layer:
-        return dissolved.as_one(dissolved.answer(layer, "union", dissolved.rows_of(layer)))
+        polygons = layer.ask("union", layer.layers, covered=True).result()
+        return replace(polygons, features=np.array([0, len(polygons.polygons) - 1]), ids=np.ones(1, np.int64))
 
 
 def main(arguments: Namespace) -> int:

@@ -9,7 +9,7 @@ from __future__ import annotations
 import struct
 from itertools import chain, pairwise
 from struct import Struct
-from typing import Callable, Iterator, NamedTuple, Sequence
+from typing import Any, Callable, Iterator, NamedTuple, Sequence
 
 import numpy as np
 
@@ -43,7 +43,7 @@ class Form(NamedTuple):
         return NUMBERS[self.order]
 
     @property
-    def coordinate(self) -> np.dtype:
+    def coordinate(self) -> np.dtype[Any]:
         return np.dtype("<f8" if self.order == LITTLE_ENDIAN else ">f8")
 
 

@@ -3,8 +3,10 @@
 import pytest
 from osgeo import ogr
 from shapely.geometry import LineString, Polygon, box
+from shapely.ops import unary_union
 
 from conftest import EAST, NORTH, parcels, read, write
+from test_faces import heap
 
 SQUARE = box(EAST, NORTH, EAST + 10, NORTH + 10)
 
@@ -117,3 +119,106 @@ def test_a_read_that_fails(gis, tmp_path):
     (tmp_path / "a.gpkg").write_bytes(b"")
     answer = gis("check", "a.gpkg")
     assert answer.status == 1 and answer.err.startswith("overlay-gis: a.gpkg: ")
+
+
+def boxes(*corners):
+    return [box(EAST + x, NORTH + y, EAST + x + w, NORTH + y + h) for x, y, w, h in corners]
+
+
+# A ring of 10 by 10 meters and 1 thick, of four boxes: its hole is 8 by 8.
+RING = boxes((0, 0, 10, 1), (0, 9, 10, 1), (0, 1, 1, 8), (9, 1, 1, 8))
+
+
+def flaws(path):
+    return [(fields["kind"], fields["features"], fields["area"], fields["width"]) for _, fields in read(path)]
+
+
+@pytest.mark.parametrize(
+    "filling, words, told, wanted",
+    [
+        ([], (), [], []),
+        ([], ("--gap-width", "4.5"), ["gap at 412001 5654001: 64 m²"], [("gap", None, 64.0, 4.0)]),
+        ([], ("--gap-width", "4"), [], []),
+        ([], ("--gap-area", "65", "--gap-width", "0"), ["gap at 412001 5654001: 64 m²"], [("gap", None, 64.0, 4.0)]),
+        # What is left beside it is 8 by 0.05 meters.
+        (
+            boxes((1, 1, 7.95, 8)),
+            (),
+            ["gap at 412008.95 5654001: 0.4 m², a sliver 0.0497 m wide"],
+            [("sliver", None, 0.4, 0.8 / 16.1)],
+        ),
+        (boxes((1, 1, 7.95, 8)), ("--sliver-width", "0.01"), ["gap at 412008.95 5654001: 0.4 m²"], [("gap", None, 0.4, 0.8 / 16.1)]),
+        (boxes((1, 1, 7.95, 8)), ("--gap-width", "0", "--gap-area", "0"), [], []),
+        # A moat half a meter wide round an island is one gap.
+        (boxes((1.5, 1.5, 7, 7)), (), ["gap at 412001 5654001: 15 m²"], [("gap", None, 15.0, 0.5)]),
+        # An overlap of 8 by 0.05 meters.
+        (
+            boxes((1, 1, 8.05, 8)),
+            (),
+            ["features 4 and 5: overlap by 0.4 m², a sliver 0.0497 m wide"],
+            [("sliver", "4,5", 0.4, 0.8 / 16.1)],
+        ),
+    ],
+)
+def test_gaps_and_slivers(gis, tmp_path, filling, words, told, wanted):
+    a = write(tmp_path / "a.gpkg", RING + filling)
+    status, lines = checked(gis, a, "-o", "flaws.gpkg", *words)
+    assert [line.partition(": ")[2] for line in lines[:-1]] == told and status == (4 if told else 0)
+    assert flaws("flaws.gpkg") == [(kind, features, pytest.approx(area), pytest.approx(width)) for kind, features, area, width in wanted]
+    assert all(shape.area == pytest.approx(fields["area"]) and shape.is_valid for shape, fields in read("flaws.gpkg"))
+
+
+def test_a_bay_is_no_gap(gis, tmp_path):
+    """Open by a meter, or by a grid unit; and closed by it."""
+    for opening, found in ((1.0, 0), (0.001, 0), (0.0, 1)):
+        shapes = RING[:3] + boxes((9, 1, 1, 8 - opening))
+        status, lines = checked(gis, write(tmp_path / f"a{found}{opening}.gpkg", shapes), "--gap-width", "9")
+        assert len(lines) == 1 + found and status == 4 * found
+
+
+def test_a_gap_that_is_narrower_than_a_grid_unit_is_only_counted(gis, tmp_path):
+    """Two triangles on one border, whose corners in it lie a grid unit off."""
+    upper = Polygon([(EAST, NORTH), (EAST + 10, NORTH), (EAST + 10, NORTH + 10), (EAST, NORTH + 10)])
+    lower = Polygon([(EAST, NORTH), (EAST, NORTH - 9), (EAST + 10, NORTH - 9), (EAST + 10, NORTH), (EAST + 4, NORTH - 0.001)])
+    status, lines = checked(gis, write(tmp_path / "a.gpkg", [upper, lower]), "-o", "flaws.gpkg", "--grid", "0.001")
+    assert status == 0 and "1 gaps narrower than a grid unit" in lines[0]
+    assert flaws("flaws.gpkg") == [("sliver", None, pytest.approx(0.005), pytest.approx(0.0005))]
+
+
+def test_gaps_at_the_limits_of_the_grid(gis, tmp_path):
+    """Where the grid has no room beyond the layer, what is open to its limit is no gap."""
+    limit = 268435.456
+    frame = [box(-limit, -limit, limit, -limit + 1), box(-limit, -limit, -limit + 1, limit), box(limit - 1, -limit, limit, limit)]
+    bars = [box(-limit, 0, limit, 1), box(-limit, 2, 5, 3)]
+    for shapes, found in ((frame[:2] + bars, 0), (frame + bars, 1)):
+        path = write(tmp_path / f"a{found}.gpkg", shapes)
+        status, lines = checked(gis, path, "--gap-width", "600000", "--grid", "0.001", "--origin", "0,0")
+        assert sum(": gap at" in line for line in lines) == found
+
+
+def test_sizes_that_are_none(gis, tmp_path):
+    a = write(tmp_path / "a.gpkg", RING)
+    for words in (("--gap-width", "-1"), ("--gap-area", "much"), ("--sliver-width", "nan"), ("--gap-width", "inf")):
+        assert gis("check", a, *words).status == 2
+
+
+@pytest.mark.parametrize("seed", range(4))
+def test_gaps_are_the_holes_that_shapely_finds(gis, tmp_path, seed):
+    shapes = heap(seed, 30)
+    checked(gis, write(tmp_path / "a.gpkg", shapes), "-o", "flaws.gpkg", "--gap-width", "1000", "--sliver-width", "0")
+    union = unary_union(shapes)
+    holes = [Polygon(ring) for part in getattr(union, "geoms", [union]) for ring in part.interiors]
+    wanted = unary_union(holes).difference(union)
+    found = [shape for shape, fields in read("flaws.gpkg") if fields["kind"] == "gap"]
+    assert sum(shape.area for shape in found) == pytest.approx(wanted.area)
+    assert unary_union(found).symmetric_difference(wanted).area == pytest.approx(0)
+
+
+def test_sizes_in_degrees(gis, tmp_path):
+    """Strips 0.001 degrees long that are open between two boxes: one 0.000005 degrees wide, about half a meter, one twice as wide."""
+    for width, kinds in ((0.000005, ["gap"]), (0.00002, []), (0.000001, ["sliver"])):
+        shapes = [box(8, 50, 8.001, 50.001), box(8.001 + width, 50, 8.002, 50.001)]
+        shapes += [box(8, 49.999, 8.002, 50), box(8, 50.001, 8.002, 50.002)]
+        a = write(tmp_path / f"a{len(kinds)}{width}.gpkg", shapes, "EPSG:4326")
+        status, _ = checked(gis, a, "-o", "flaws.gpkg", "--overwrite", "--grid", "0.0000001")
+        assert [kind for kind, *_ in flaws("flaws.gpkg")] == kinds and status == (4 if kinds else 0)

@@ -1,6 +1,7 @@
 """The command itself: help, versions, statuses, and the pages and completions beside it."""
 
 import os
+import pty
 import re
 import shlex
 import subprocess
@@ -11,7 +12,7 @@ import pytest
 from shapely.geometry import box
 
 from conftest import COMMAND, EAST, NORTH, write
-from overlay_gis import __version__, cli, messages
+from overlay_gis import __version__, cli, messages, program
 
 TOP = Path(__file__).resolve().parents[2]
 PAGE = (TOP / "docs" / "overlay.1").read_text().replace("\\-", "-")
@@ -110,6 +111,35 @@ def test_progress_is_said_on_a_terminal_alone(capsys, monkeypatch, terminal):
         pass
     told = capsys.readouterr().err
     assert ("reading a.gpkg: 50%" in told and "overlay union" in told) if terminal else told == ""
+
+
+@pytest.mark.parametrize("terminal", [True, False])
+def test_a_user_at_a_terminal_hears_what_is_done(tmp_path, program, terminal):
+    a = write(tmp_path / "a.gpkg", [box(EAST, NORTH, EAST + 2, NORTH + 2)], fields={"owner": ["Ada"]})
+    ours, theirs = pty.openpty() if terminal else os.pipe()
+    words = [COMMAND, "dissolve", a, "--by", "owner", "-o", "out.gpkg"]
+    done = subprocess.run(words, cwd=tmp_path, stderr=theirs, check=False)
+    told = os.read(ours, 1 << 16).decode()
+    os.close(ours)
+    os.close(theirs)
+    assert done.returncode == 0 and ("\x1b[K" in told) == terminal
+    for work in (f"rounding {a}", "overlay faces", "uniting features"):
+        assert (work in told) == terminal
+
+
+def test_numbers_of_segments_that_are_none(gis):
+    for words in ("0", "-1", "8.0", "4294967296", "²"):
+        assert gis("faces", "a.gpkg", "-o", "out.gpkg", "--segments", words).status == 2
+
+
+def test_more_segments_are_asked_for(gis, tmp_path, monkeypatch):
+    """The program is told of more than it takes by itself."""
+    a = write(tmp_path / "a.gpkg", [box(EAST, NORTH, EAST + 2, NORTH + 2)])
+    monkeypatch.setattr(program, "SEGMENTS", 7)
+    asked, begin = [], program.Popen
+    monkeypatch.setattr(program, "Popen", lambda words, **more: asked.append(words) or begin(words, **more))
+    assert gis("faces", a, a, "-o", "out.gpkg").status == 0
+    assert asked[0][-2:] == ["--segments", "8"]
 
 
 def test_a_package_that_is_not_there_is_told(tmp_path, program):

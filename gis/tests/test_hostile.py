@@ -12,7 +12,7 @@ from osgeo import gdal
 from shapely.geometry import box
 
 from conftest import COMMAND, EAST, NORTH, UTM, parcels, read, system, write
-from overlay_gis import frame, joined, messages, passwords, program
+from overlay_gis import frame, joined, messages, passwords
 from overlay_gis.faults import Refusal
 from overlay_gis.layers import Box
 
@@ -37,6 +37,7 @@ VERBS = [
     ("run", "union", "x.geojson", "b.geojson"),
     ("run", "union", "x.geojson", "b.geojson", "--dissolve"),
     ("faces", "x.geojson", "b.geojson"),
+    ("dissolve", "x.geojson"),
     ("to-grid", "x.geojson"),
 ]
 
@@ -340,24 +341,20 @@ def test_two_layers_without_a_system_have_units(gis, tmp_path, number):
 @pytest.mark.parametrize("words", [("run", "union"), ("faces",)], ids=lambda words: words[0])
 def test_too_many_segments_are_told_before_texts_are_written(gis, tmp_path, monkeypatch, words):
     a, b = write(tmp_path / "a.gpkg", parcels(3, 3)), write(tmp_path / "b.gpkg", parcels(4, 3))
-    for module in (joined, program):
-        monkeypatch.setattr(module, "SEGMENTS", 300)
     monkeypatch.setattr(joined, "write_polygons", lambda *_: pytest.fail("a text is written"))
-    answer = gis(*words, a, b, "-o", "out.gpkg")
+    answer = gis(*words, a, b, "-o", "out.gpkg", "--segments", "300")
     assert answer.status == 3
     assert answer.err == (
         f"overlay-gis: {a} and {b}: more than 300 segments, the limit of all layers together: "
-        "clip them, and join the answers\n"
+        "clip them, and join the answers, or ask for more by --segments\n"
     )
 
 
-def test_only_segments_on_the_grid_are_counted(gis, tmp_path, monkeypatch):
+def test_only_segments_on_the_grid_are_counted(gis, tmp_path):
     a, b = write(tmp_path / "a.gpkg", parcels(3, 3)), write(tmp_path / "b.gpkg", parcels(4, 3))
-    monkeypatch.setattr(joined, "SEGMENTS", 300)
-    assert gis("run", "union", a, b, "-o", "out.gpkg", "--grid", "1000").status == 0
+    assert gis("run", "union", a, b, "-o", "out.gpkg", "--grid", "1000", "--segments", "300").status == 0
     assert gis("check", a).status == 0
-    monkeypatch.setattr("overlay_gis.check.SEGMENTS", 100)
-    answer = gis("check", a)
+    answer = gis("check", a, "--segments", "100")
     assert answer.status == 4 and "a.gpkg: 179 segments, and the limit of all layers together is 100" in answer.out
 
 

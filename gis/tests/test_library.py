@@ -65,7 +65,7 @@ def shapes(path):
 
 
 @pytest.mark.parametrize(
-    "words, more", [(("run", "intersection"), ()), (("run", "union"), ()), (("run", "difference"), ("--dissolve",)), (("faces",), ())]
+    "words, more", [(("run", "intersection"), ()), (("run", "union"), ()), (("faces",), ()), (("faces",), ("--parts",))]
 )
 def test_the_same_as_by_the_program(gis, package, monkeypatch, tmp_path, words, more):
     a, b = write(tmp_path / "a.gpkg", parcels(5, 3)), write(tmp_path / "b.gpkg", blobs(6, 3))
@@ -78,11 +78,22 @@ def test_the_same_as_by_the_program(gis, package, monkeypatch, tmp_path, words, 
     assert shapes(by_package) == shapes(by_program)
 
 
-def test_a_package_without_faces_leaves_them_to_the_program(gis, package, monkeypatch, tmp_path):
-    a = write(tmp_path / "a.gpkg", parcels(5, 3))
+@pytest.fixture
+def beside(package, monkeypatch, tmp_path):
+    """The program on the path, where the package is too."""
     (tmp_path / "overlay").symlink_to(os.environ["OVERLAY"])
     monkeypatch.setenv("PATH", f"{tmp_path}:{os.environ['PATH']}")
     monkeypatch.delenv("OVERLAY")
+
+
+def test_layers_that_are_read_as_covered_are_left_to_the_program(gis, package, beside, tmp_path):
+    a, b = write(tmp_path / "a.gpkg", OVERLAPPING[1]), write(tmp_path / "b.gpkg", [])
+    assert gis("run", "union", a, b, "-o", "out.gpkg", "--dissolve").status == 0
+    assert [fields["area"] for _, fields in read("out.gpkg")] == [150.0] and not package[1]
+
+
+def test_a_package_without_faces_leaves_them_to_the_program(gis, package, beside, tmp_path):
+    a = write(tmp_path / "a.gpkg", parcels(5, 3))
     del package[0].faces_text
     assert gis("faces", a, "-o", "faces.gpkg").status == 0 and len(read("faces.gpkg")) == len(parcels(5, 3))
     assert not package[1]

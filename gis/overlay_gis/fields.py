@@ -1,0 +1,105 @@
+"""Fields of layers that rows take over: which, and the values of a row's features."""
+
+from __future__ import annotations
+
+from dataclasses import dataclass
+from itertools import pairwise
+from typing import Any, Sequence
+
+import numpy as np
+from osgeo import ogr
+
+from .columns import Numbers
+from .faults import Refusal
+from .joined import Layer
+from .layers import Source
+from .output import Column
+from .rows import Members
+
+# Between the values of several features that cover one row.
+JOINT = ","
+
+
+@dataclass
+class Kept:
+    """A layer's name in the output, its features' numbers, if rows tell them, and the values of the fields that are kept; and whether
+    a row has several of its features."""
+
+    name: str
+    fields: list[ogr.FieldDefn]
+    ids: Numbers | None
+    values: list[tuple[Any, ...]]
+    several: bool = False
+
+    def columns(self) -> list[Column]:
+        """The fields that are kept; they are texts where several features of the layer cover one row."""
+        mark = f"{self.name}_"
+        if self.several:
+            return [Column(mark + field.GetName(), ogr.OFTString) for field in self.fields]
+        return [column_of(field, mark) for field in self.fields]
+
+    def numbers(self, held: Members) -> list[str | None]:
+        """For each row the features' numbers as text, if it has any."""
+        ids = self.ids if self.ids is not None else np.zeros(0, np.int64)
+        words = list(map(str, ids[held.places].tolist()))
+        return [JOINT.join(words[at:end]) or None for at, end in pairwise(held.starts.tolist())]
+
+    def kept(self, held: Members) -> list[list[Any]]:
+        """For each row the values of its features."""
+        places = held.places.tolist()
+        return [self.values_of(places[at:end]) for at, end in pairwise(held.starts.tolist())]
+
+    def values_of(self, covering: Sequence[int]) -> list[Any]:
+        if not covering:
+            return [None] * len(self.fields)
+        if not self.several:
+            return list(self.values[covering[0]])
+        return [
+            JOINT.join("" if value is None else str(value) for value in column)
+            for column in zip(*(self.values[k] for k in covering))
+        ]
+
+
+def column_of(field: ogr.FieldDefn, mark: str = "") -> Column:
+    """A field as it is, with a mark before its name."""
+    return Column(mark + field.GetName(), field.GetType(), field.GetSubType(), field.GetWidth(), field.GetPrecision())
+
+
+def fields_of(source: Source, asked: str) -> list[ogr.FieldDefn]:
+    """The fields of a layer that are named, with commas between."""
+    there = {field.GetName(): field for field in source.fields()}
+    names = [name.strip() for name in asked.split(",") if name.strip()]
+    for name in names:
+        if name not in there:
+            raise Refusal(source.name, f"has no field {name}, but {', '.join(there) or 'none'}")
+    return [there[name] for name in dict.fromkeys(names)]
+
+
+def values_in(layer: Layer, fields: Sequence[ogr.FieldDefn]) -> list[tuple[Any, ...]]:
+    """The values of these fields of all features."""
+    return layer.source.values([field.GetName() for field in fields], layer.seen)
+
+
+def kept(layer: Layer, name: str, asked: str) -> Kept:
+    fields = fields_of(layer.source, asked)
+    return Kept(name, fields, layer.grid.layer.ids, values_in(layer, fields))
+
+
+def told_apart(values: Sequence[tuple[Any, ...]]) -> tuple[Numbers, list[int]]:
+    """For each feature the number of its values among all that differ, in the order of their first features, and where these are."""
+    known: dict[tuple[Any, ...], int] = {}
+    firsts: list[int] = []
+    classes = []
+    for place, held in enumerate(values):
+        at = known.setdefault(tuple(map(comparable, held)), len(firsts))
+        if at == len(firsts):
+            firsts.append(place)
+        classes.append(at)
+    return np.array(classes, np.int64), firsts
+
+
+def comparable(value: Any) -> Any:
+    """A value that is the same as another one just where it is equal to it: lists are kept apart, and no number is one number."""
+    if isinstance(value, list):
+        return tuple(map(comparable, value))
+    return "no number" if value != value else (type(value).__name__, value)

@@ -1,0 +1,95 @@
+"""A layer of a GeoPackage that has others, which stay as they are: the file is copied beside itself, changed there, and put in its
+place."""
+
+from __future__ import annotations
+
+import shutil
+import sqlite3
+from contextlib import closing
+from pathlib import Path
+from typing import Any, Sequence
+
+from osgeo import gdal, osr
+
+from .faults import Fault, Refusal
+from .layers import LAYER_MARK, Source
+from .messages import during, is_watched, progress
+from .output import Output, Table
+from .whole import Target, identity
+
+# Pages of a GeoPackage that are copied at a time.
+PAGES = 4096
+
+
+def layers_of(target: Target) -> list[str]:
+    """The names of a GeoPackage's layers."""
+    try:
+        dataset = gdal.OpenEx(str(target.path), gdal.OF_VECTOR | gdal.OF_READONLY, ["GPKG"])
+        return [dataset.GetLayer(k).GetName() for k in range(dataset.GetLayerCount())]
+    except RuntimeError as error:
+        raise Refusal(target.name, "is no GeoPackage, which alone takes another layer") from error
+
+
+def same_name(one: str, other: str) -> bool:
+    """Whether SQLite takes two names of tables for one."""
+    return one.lower() == other.lower()
+
+
+def check_layers(target: Target, names: Sequence[str], overwrite: bool, sources: Sequence[Source]) -> None:
+    """Refuses names of layers that are there without leave to replace them, and those of inputs."""
+    there = layers_of(target)
+    for name in names:
+        if any(same_name(name, other) for other in there) and not overwrite:
+            raise Refusal(target.name, f"has a layer {name} already; --overwrite replaces it, and --layer names another one")
+        for source in sources:
+            if identity(Path(source.path)) == identity(target.path) and same_name(name, source.layer.GetName()):
+                raise Refusal(f"{target.name}{LAYER_MARK}{name}", "is an input")
+
+
+def state_of(path: Path) -> list[tuple[int, int, int]]:
+    """What tells whether a GeoPackage was changed: of the file, and of its journal of what isn't in it yet."""
+    there = [place for place in (path, path.with_name(path.name + "-wal")) if place.exists()]
+    found = [place.stat() for place in there]
+    return [(held.st_ino, held.st_size, held.st_mtime_ns) for held in found if held.st_size]
+
+
+class Enlarged(Output):
+    """The copy of a GeoPackage to which layers are added, or of which layers of these names are replaced."""
+
+    def __init__(self, target: Target, folder: Path):
+        super().__init__(target, folder)
+        self.state = state_of(target.path)
+
+    def opened(self) -> Any:
+        try:
+            with during(f"copying {self.target.name}"):
+                self.copy()
+        except sqlite3.Error as error:
+            raise Fault(self.target.name, f"can't be copied: {error}") from error
+        return gdal.OpenEx(str(self.path), gdal.OF_VECTOR | gdal.OF_UPDATE, ["GPKG"])
+
+    def copy(self) -> None:
+        """Copies what has been committed, whoever has the file open."""
+        address = f"{self.target.path.as_uri()}?mode=ro"
+        with closing(sqlite3.connect(address, uri=True)) as held, closing(sqlite3.connect(self.path)) as copied:
+            held.backup(copied, pages=PAGES, progress=self.tell_copied, sleep=0)
+            copied.execute("PRAGMA journal_mode = DELETE")
+        shutil.copymode(self.target.path, self.path)
+
+    def tell_copied(self, _: int, left: int, pages: int) -> None:
+        """Says how far the copy is; a signal that came meanwhile is acted on here."""
+        if is_watched():
+            progress(f"copying {self.target.name}", 1 - left / max(pages, 1))
+
+    def begin(self, system: osr.SpatialReference | None, table: Table) -> None:
+        self.dataset = self.dataset or self.opened()
+        for k in reversed(range(self.dataset.GetLayerCount())):
+            if same_name(self.dataset.GetLayer(k).GetName(), table.name):
+                self.dataset.DeleteLayer(k)
+        super().begin(system, table)
+
+    def check(self, table: Table, count: int) -> None:
+        super().check(table, count)
+        if state_of(self.target.path) != self.state:
+            raise Fault(self.target.name, "was changed meanwhile by another program: nothing was written")
+

@@ -1,0 +1,118 @@
+"""Tables of PostGIS: a server of our own, on a free port of this machine, is there as long as these tests are."""
+
+import glob
+import os
+import signal
+import sys
+from pathlib import Path
+
+import pytest
+from osgeo import gdal
+from shapely import wkb
+from shapely.geometry import box
+
+from conftest import EAST, NORTH, write
+from overlay_gis import database
+from test_kills import stopped  # noqa: F401 a fixture
+
+sys.path.insert(0, str(Path(__file__).resolve().parents[2] / "bench"))
+
+from overlay_bench import postgres  # noqa: E402
+
+WITHOUT = [
+    words
+    for there, words in (
+        (postgres.folder(), "no PostgreSQL server (postgresql-15)"),
+        (glob.glob("/usr/share/postgresql/*/extension/postgis.control"), "no PostGIS (postgresql-15-postgis-3)"),
+        (gdal.GetDriverByName("PostgreSQL"), "no driver for PostgreSQL in GDAL"),
+    )
+    if not there
+]
+pytestmark = pytest.mark.skipif(bool(WITHOUT), reason=f"NOT RUN: {', '.join(WITHOUT)}")
+
+SQUARE, OTHER = box(EAST, NORTH, EAST + 10, NORTH + 10), box(EAST + 5, NORTH, EAST + 15, NORTH + 10)
+
+
+@pytest.fixture(scope="module")
+def server():
+    with postgres.Server() as there:
+        there.said("create extension postgis")
+        there.said("create schema town")
+        yield there
+
+
+@pytest.fixture
+def address(server):
+    server.said("drop schema town cascade; create schema town")
+    word = server.environment["PGPASSWORD"]
+    return f"PG:host=127.0.0.1 port={server.port} dbname=postgres user=peers password={word}"
+
+
+def layers(tmp_path):
+    a = write(tmp_path / "a.gpkg", [SQUARE], fields={"Owner": ["Ada"]})
+    return a, write(tmp_path / "b.gpkg", [OTHER], fields={"rule": ["wet"]})
+
+
+def test_a_table_is_made_and_replaced(gis, tmp_path, server, address):
+    a, b = layers(tmp_path)
+    words = ("-o", address, "--layer", "town.common")
+    answer = gis("run", "intersection", a, b, *words)
+    assert answer.status == 0 and server.environment["PGPASSWORD"] not in answer.err, answer.err
+    assert server.said("select id, area, st_srid(geom), st_area(geom) from town.common") == "1|50|25832|50\n"
+    answer = gis("run", "union", a, b, *words)
+    assert answer.status == 3 and "has a table town.common already; --overwrite replaces it" in answer.err
+    assert gis("run", "union", a, b, *words, "--overwrite").status == 0
+    assert server.said("select area from town.common") == "150\n"
+    ((shape,),) = (line.split("|") for line in server.said("select encode(st_asbinary(geom), 'hex') from town.common").splitlines())
+    assert wkb.loads(shape, hex=True).equals(SQUARE.union(OTHER))
+
+
+def test_rows_and_pairs_and_layers_of_the_database(gis, tmp_path, server, address):
+    a, b = layers(tmp_path)
+    assert gis("faces", a, b, "-o", address, "--layer", "town.rows", "--keep-a", "Owner", "--pairs", address).status == 0
+    assert server.said('select a, b, area, "a_Owner" from town.rows order by fid') == "1||50|Ada\n1|1|50|Ada\n|1|50|\n"
+    assert server.said("select a, b, twice_area, share_a from town.rows_pairs") == "1|1|100000000|0.5\n"
+    assert gis("dissolve", f"{address}|layername=town.rows", "--by", "b", "-o", address, "--layer", "town.rules").status == 0
+    assert server.said("select b, features, area from town.rules order by fid") == "|1|50\n1|2|100\n"
+    answer = gis("dissolve", f"{address}|layername=town.rows", "-o", address, "--layer", "town.rows", "--overwrite")
+    assert answer.status == 3 and answer.err.endswith(" is an input\n")
+
+
+def test_what_is_refused(gis, tmp_path, server, address):
+    a, b = layers(tmp_path)
+    for words, told in (
+        ((), "takes a table that --layer names"),
+        (("--layer", "town.x", "--append"), "and no --append"),
+        (("--layer", "no.x"), ""),
+    ):
+        answer = gis("run", "union", a, b, "-o", address, *words)
+        assert answer.status in (1, 3) and told in answer.err and server.environment["PGPASSWORD"] not in answer.err
+    answer = gis("run", "union", a, b, "-o", "PG:host=127.0.0.1 port=1 dbname=town password=secret", "--layer", "x")
+    assert answer.status == 1 and "secret" not in answer.err
+    server.said("create database bare")
+    answer = gis("run", "union", a, b, "-o", address.replace("dbname=postgres", "dbname=bare"), "--layer", "x")
+    assert answer.status == 3 and "has no PostGIS" in answer.err
+
+
+def test_a_view_on_the_table_keeps_it(gis, tmp_path, server, address):
+    a, b = layers(tmp_path)
+    words = ("-o", address, "--layer", "town.common")
+    assert gis("run", "intersection", a, b, *words).status == 0
+    server.said("create view town.seen as select area from town.common")
+    answer = gis("run", "union", a, b, *words, "--overwrite")
+    assert answer.status == 1 and "depend" in answer.err, answer.err
+    assert server.said("select area from town.seen") == "50\n"
+
+
+@pytest.mark.parametrize("number", [signal.SIGKILL, signal.SIGTERM], ids=lambda number: number.name)
+def test_a_kill_leaves_the_table_as_it_was(stopped, tmp_path, server, address, number):  # noqa: F811
+    a, b = layers(tmp_path)
+    words = (a, b, "-o", address, "--layer", "town.common")
+    place = (database, "add", False)
+    answer = stopped(place, number, "run", "intersection", *words)
+    assert answer.status == (1 if number == signal.SIGTERM else -signal.SIGKILL)
+    assert server.said("select to_regclass('town.common')") == "\n"
+    server.said("create table town.common as select 7 as area")
+    stopped(place, number, "run", "intersection", *words, "--overwrite")
+    assert server.said("select area from town.common") == "7\n"
+    assert not list(tmp_path.glob(".*")) and os.path.exists(a)
