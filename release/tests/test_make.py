@@ -5,6 +5,7 @@ import re
 import shutil
 import subprocess
 import sys
+import zipfile
 from pathlib import Path
 
 import pytest
@@ -56,13 +57,14 @@ def test_a_release(clone, tmp_path):
     assert done.returncode == 0, done.stderr
     made = tmp_path / "made"
     subprocess.run(["sha256sum", "--check", "--quiet", "SHA256SUMS"], cwd=made, check=True)
-    assert len((made / "SHA256SUMS").read_text().splitlines()) == len(list(made.iterdir())) - 1 == 4
+    assert len((made / "SHA256SUMS").read_text().splitlines()) == len(list(made.iterdir())) - 1 == 5
     commit = printed("git", "rev-parse", "HEAD", cwd=clone.tree).strip()
     wanted = [f"commit {commit}", "kit of version", "the gate's last lines:", *PASSED.splitlines()]
     assert (made / "GATE").read_text().splitlines() == wanted
     is_an_archive(made, tmp_path)
     is_a_package(made)
     is_a_wheel(made, tmp_path)
+    is_a_plugin(made)
 
 
 def is_an_archive(made, tmp_path):
@@ -100,6 +102,14 @@ def is_a_wheel(made, tmp_path):
     got = printed(sys.executable, "-c", told, *SQUARES, env={"PYTHONPATH": str(place)}, cwd=tmp_path)
     assert got == f"{VERSION} {COMMON}"
     assert (place / "overlay_grid/py.typed").exists()
+
+
+def is_a_plugin(made):
+    """A folder of the plugin's name, with what QGIS asks for in a ZIP file."""
+    held = zipfile.ZipFile(made / f"overlay_exact-{VERSION}.zip")
+    assert all(name.startswith("overlay_exact/") and "__pycache__" not in name for name in held.namelist())
+    assert {"overlay_exact/__init__.py", "overlay_exact/icon.svg", "overlay_exact/LICENSE"} <= set(held.namelist())
+    assert f"\nversion={VERSION}\n" in held.read("overlay_exact/metadata.txt").decode()
 
 
 def blocks(heading):
@@ -169,4 +179,4 @@ def test_another_version(clone):
     assert (done.returncode, done.stdout) == (1, "2.3.4\n")
     assert done.stderr == "release/version: CHANGELOG.md has no heading of 2.3.4\n"
     changed = printed("git", "diff", "--numstat", cwd=clone.tree).splitlines()
-    assert len(changed) == 6 and all(line.startswith("1\t1\t") for line in changed)
+    assert len(changed) == 7 and all(line.startswith("1\t1\t") for line in changed)

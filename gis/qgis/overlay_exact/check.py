@@ -1,0 +1,49 @@
+"""The algorithm check: what is wrong with a layer: overlaps, gaps, and what else a pass over it finds."""
+
+from __future__ import annotations
+
+from typing import Any
+
+from qgis.core import QgsProcessingOutputBoolean
+
+from .algorithm import INPUT, OUTPUT, TEXTS, Call, VerbAlgorithm
+
+SOUND = "SOUND"
+
+# Sizes that tell what is found.
+SIZES = {
+    "GAP_WIDTH": ("--gap-width", "Gaps are narrower than (empty: 1, or 0.00001 degrees)"),
+    "GAP_AREA": ("--gap-area", "Or smaller than (empty: the square of these)"),
+    "SLIVER_WIDTH": ("--sliver-width", "Slivers are narrower than (empty: a tenth of these)"),
+}
+
+# The status by which the command tells that it found something.
+FOUND = 4
+
+
+class Check(VerbAlgorithm):
+    NAME, TITLE = "check", "Check a layer for overlaps and gaps"
+    TAGS = ("overlaps", "gaps", "slivers", "topology", "validity")
+    RESULT = "Overlaps and gaps"
+    STATUSES = (0, FOUND)
+    TEXTS = {**SIZES, **TEXTS}
+    HELP = (
+        "Which features of a layer overlap, and where gaps are between them: a row for each set of features that cover some points "
+        "together, with their numbers, and for each gap, which is a hole of all features together that is narrow or small. The field kind "
+        "tells overlap, gap or sliver; a width is twice the area divided by the length of the border."
+        "\n\nThe log tells these and what else is wrong with the layer: features without a geometry, rings that are open or cross "
+        "themselves, points off the limits."
+    )
+
+    def initAlgorithm(self, configuration: Any = None) -> None:
+        super().initAlgorithm(configuration)
+        self.addOutput(QgsProcessingOutputBoolean(SOUND, "Whether nothing was found"))
+
+    def add_inputs(self) -> None:
+        self.add_layer(INPUT, "Layer")
+
+    def words(self, call: Call) -> list[str]:
+        return ["check", call.hand(INPUT).name]
+
+    def results(self, output: str, status: int) -> dict[str, Any]:
+        return {OUTPUT: output, SOUND: status != FOUND}
