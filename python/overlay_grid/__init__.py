@@ -1,4 +1,4 @@
-"""Overlay of polygon layers on the integer grid, by the proved library.
+"""Overlay of polygon layers, by the proved library, which rounds them exactly to the integer grid.
 
 Layers are texts of POLYGON and MULTIPOLYGON geometries with whole coordinates, as str or bytes:
 
@@ -11,31 +11,53 @@ The answer is of the first layer's type. A call runs on the calling thread, and 
 side of a tile, in grid units, has no influence on the answer; where none is given, one is taken that fits the layers. Both layers
 together may have as many segments as is said, 1,048,576 where nothing is; ten million take some 1.6 GB of memory.
 
-Which features cover what is told by `faces`, of one layer or of several. A feature is a geometry of a layer's text; in each layer
-they are numbered from 1:
+Coordinates that aren't whole are brought to a grid whose unit is said, and the answer is brought back:
+
+>>> intersection("POLYGON ((0 0, 0.4 0, 0.4 0.4, 0 0.4, 0 0))", "POLYGON ((0.2 0.2, 0.6 0.2, 0.6 0.6, 0.2 0.6, 0.2 0.2))", grid=0.1)
+'MULTIPOLYGON (((0.2 0.2, 0.4 0.2, 0.4 0.4, 0.2 0.4, 0.2 0.2)))\\n'
+
+A coordinate goes to the nearest multiple of the unit, halves upward and to the right, exactly. So are layers of other kinds: geometries
+of Shapely, WKB as bytes, and coordinates as numpy arrays of shape (n, 2), each a ring, or a tuple of such rings. A list of geometries
+is a layer whose features these are, and it covers what any of them covers. Where no unit is said of these it is 0.001. The answer is of
+the first layer's kind. A grid has room for 2^29 units each way; an `origin` that is said is the point of which no coordinate may lie
+further than 2^28 units, and else one is taken that fits the layers.
+
+Which features cover what is told by `faces`, of one layer or of several. A feature is a geometry of a layer; in each layer they are
+numbered from 1:
 
 >>> for row in faces(parcels, zones):
 ...     print(row.twice_area, row.ids, row.wkt)
 24 ((1,), ()) MULTIPOLYGON (((0 0, 4 0, 4 2, 2 2, 2 4, 0 4, 0 0)))
 8 ((1,), (1,)) MULTIPOLYGON (((2 2, 4 2, 4 4, 2 4, 2 2)))
 24 ((), (1,)) MULTIPOLYGON (((2 4, 4 4, 4 2, 6 2, 6 6, 2 6, 2 4)))
+
+What can't be read is refused: a text by `Refused`, a geometry by `GeometryError`, both of which are ValueErrors and tell the place.
+
+Data frames of GeoPandas are overlaid by `overlay` and dissolved by `dissolve`.
 """
 
 from __future__ import annotations
 
-import ctypes
-import enum
-from typing import NamedTuple, Optional, Sequence, Tuple, TypeVar, Union
+from typing import Any, Iterable, List, NamedTuple, Optional, Protocol, Tuple, TypeVar, Union, overload
 
-from ._library import ANSWERED, NO_CALL, NO_MEMORY, SMALL, Answer, Layer, library
+from . import _asking, _calls, _edges, _frames, _kinds, _wkb
+from ._asking import Plan
+from ._calls import CALLS, Operation
+from ._edges import Edge
+from ._faults import GeometryError, OutOfMemory, Refusal, Refused
+from ._grid import Origin, Unit
 
 __all__ = [
+    "Edge",
+    "Face",
+    "GeometryError",
     "Operation",
     "OutOfMemory",
     "Refusal",
     "Refused",
     "Row",
     "difference",
+    "dissolve",
     "edges",
     "faces",
     "faces_text",
@@ -47,88 +69,26 @@ __all__ = [
 
 __version__ = "1.0.0"
 
-# How many segments both layers together may have, where nothing is said.
-_SEGMENTS = 1_048_576
+# Exceptions are pickled and told of by the names that users import.
+for _public in (Edge, GeometryError, Operation, OutOfMemory, Refusal, Refused):
+    _public.__module__ = __name__
 
-# How many layers faces may have, and how many features all rows together.
-_LAYERS = 64
-_IDS = 268_435_456
-
-# A layer's text, and the answer's: str, or bytes and what has a buffer of bytes.
+# A layer's text, and the answer's: str, or bytes and what has a buffer of bytes. Bytes may be WKB, too.
 Text = TypeVar("Text", str, bytes)
 
 
-class Operation(enum.Enum):
-    """What to compute, by the program's words.
+class Geometry(Protocol):
+    """A geometry of Shapely's."""
 
-    >>> Operation("union")
-    <Operation.UNION: 'union'>
-    """
+    @property
+    def geom_type(self) -> str: ...
 
-    UNION = "union"
-    INTERSECTION = "intersection"
-    DIFFERENCE = "difference"
-    SYMDIFFERENCE = "symdifference"
-    EDGES = "edges"
+    @property
+    def wkb(self) -> bytes: ...
 
 
-# The numbers of the library's calls.
-_CALLS = {
-    Operation.UNION: 0,
-    Operation.INTERSECTION: 1,
-    Operation.DIFFERENCE: 2,
-    Operation.SYMDIFFERENCE: 3,
-    Operation.EDGES: 4,
-}
-
-
-class Refusal(enum.IntEnum):
-    """Why an input is refused."""
-
-    LAYER_TOO_LONG = 0
-    SYNTAX = 1
-    NUMBER_RANGE = 2
-    SHORT_RING = 3
-    OPEN_RING = 4
-    TOO_MANY_SEGMENTS = 5
-    BAD_SIDE = 6
-    TOO_MANY_TILES = 8
-    TOO_MANY_IDS = 12
-
-
-# What the number beside a refusal tells.
-_HAVE_OFFSETS = (Refusal.SYNTAX, Refusal.NUMBER_RANGE, Refusal.SHORT_RING, Refusal.OPEN_RING)
-_HAVE_COUNTS = (Refusal.TOO_MANY_SEGMENTS, Refusal.TOO_MANY_TILES, Refusal.TOO_MANY_IDS)
-
-
-class Refused(ValueError):
-    """The input is refused.
-
-    number: why, as the program prints it.
-    layer: "A" or "B", or what further layers of `faces` are called: "C" to "Z", and then "27" and on; None where it is not about one.
-    offset: where in the layer, in bytes from 0, or None.
-    count: how many segments, tiles or features of rows, or None.
-
-    >>> try:
-    ...     union("POLYGON ((0 0, 1.5 0, 0 1, 0 0))", "")
-    ... except Refused as refused:
-    ...     print(refused, refused.number.name, refused.layer, refused.offset)
-    A: 1 syntax at 16 SYNTAX A 16
-    """
-
-    def __init__(self, words: str, number: int, layer: Optional[str], offset: Optional[int], count: Optional[int]) -> None:
-        super().__init__(words)
-        self.number = Refusal(number)
-        self.layer = layer
-        self.offset = offset
-        self.count = count
-
-    def __reduce__(self) -> "tuple[type[Refused], tuple[str, int, Optional[str], Optional[int], Optional[int]]]":
-        return type(self), (str(self), int(self.number), self.layer, self.offset, self.count)
-
-
-class OutOfMemory(MemoryError):
-    """Memory ran out during the call."""
+# A layer of any kind: a text or WKB, a geometry, an array of coordinates, or several geometries.
+Layer = Union[str, bytes, Geometry, Iterable[Any]]
 
 
 class Row(NamedTuple):
@@ -144,123 +104,318 @@ class Row(NamedTuple):
     wkt: str
 
 
-# The part of an answer that is about the run, for the library's words.
-_RUN = 2
+class Face(NamedTuple):
+    """All points that just the same features cover, of layers on a grid whose unit is not 1: their area, in square units of the
+    coordinates; for each layer the numbers of these features, from 1 and ascending; and the points, of the first layer's kind.
+
+    >>> Face(0.5, ((1,), ()), "MULTIPOLYGON (((0 0, 1 0, 1 1, 0 1, 0 0)))").area
+    0.5
+    """
+
+    area: float
+    ids: Tuple[Tuple[int, ...], ...]
+    geometry: Any
 
 
-def _words(answer: Answer) -> str:
-    """The words of an answer, without the layer."""
-    if answer.number == Refusal.TOO_MANY_IDS:
-        return f"{answer.number} too many ids: {answer.detail}"
-    room = ctypes.create_string_buffer(64)
-    told = Answer(0, answer.detail, answer.status, answer.number, _RUN)
-    length: int = library.overlay_words(told, room, len(room))
-    return room.raw[:length].decode("ascii")
+def _is_text(layer: Any) -> bool:
+    if type(layer) is bytes:
+        return not _wkb.begins(layer)
+    return isinstance(layer, str) or _kinds.kind_of(layer) is _kinds.bytes_answer
 
 
-def _layer_name(number: int) -> str:
-    return chr(ord("A") + number) if number < 26 else str(number + 1)
+def _asked(call: int, a: Any, b: Any, side: Optional[int], segments: Optional[int], grid: Optional[Unit], origin: Optional[Origin]) -> Any:
+    if grid is None and origin is None and _is_text(a) and _is_text(b):
+        text = _calls.text_of(call, _calls.bytes_of(a), _calls.bytes_of(b), side, segments)
+        return text.decode("ascii") if isinstance(a, str) else text
+    plan = Plan(side, segments, grid, origin)
+    return _edges.edges(a, b, plan) if call == CALLS[Operation.EDGES] else _asking.operation(call, a, b, plan)
 
 
-def _fault(answer: Answer, layers: int = 2) -> Union[Refused, OutOfMemory]:
-    """The exception of an answer to a call on so many layers."""
-    words = _words(answer)
-    if answer.status == NO_MEMORY:
-        return OutOfMemory(words)
-    number = Refusal(answer.number)
-    layer = _layer_name(answer.part) if answer.part < layers else None
-    return Refused(
-        f"{layer}: {words}" if layer else words,
-        number,
-        layer,
-        answer.detail if number in _HAVE_OFFSETS else None,
-        answer.detail if number in _HAVE_COUNTS else None,
-    )
+class _Frame(Protocol):
+    """A data frame of GeoPandas."""
+
+    @property
+    def columns(self) -> Any: ...
+
+    @property
+    def geometry(self) -> Any: ...
 
 
-def _bytes_of(layer: Union[str, bytes]) -> bytes:
-    return layer.encode() if isinstance(layer, str) else bytes(memoryview(layer))
+Frame = TypeVar("Frame", bound=_Frame)
 
 
-def _side_number(side: int) -> int:
-    if isinstance(side, bool) or not isinstance(side, int):
-        raise TypeError("the side of a tile is an int")
-    return side if 0 <= side < 2**32 else 0  # 0 is refused as every other bad side
+@overload
+def overlay(
+    operation: Operation,
+    a: Text,
+    b: Union[str, bytes],
+    side: Optional[int] = None,
+    segments: Optional[int] = None,
+    *,
+    grid: Optional[Unit] = None,
+    origin: Optional[Origin] = None,
+) -> Text: ...
 
 
-def _limit(segments: int) -> int:
-    if isinstance(segments, bool) or not isinstance(segments, int):
-        raise TypeError("the number of segments is an int")
-    if segments < 1:
-        raise ValueError("the number of segments is below 1")
-    return min(segments, 2**32 - 1)  # two texts never have as many
+@overload
+def overlay(
+    operation: Operation,
+    a: Layer,
+    b: Layer,
+    side: Optional[int] = None,
+    segments: Optional[int] = None,
+    *,
+    grid: Optional[Unit] = None,
+    origin: Optional[Origin] = None,
+) -> Any: ...
 
 
-def _text(operation: Operation, a: bytes, b: bytes, side: Optional[int], segments: int) -> bytes:
-    limit = _limit(segments)
-    number = library.overlay_side(a, len(a), b, len(b)) if side is None else _side_number(side)
-    answer = Answer()
-    # a guess: where it is too small, all is made again
-    size = 256 + (6 if operation is Operation.EDGES else 2) * (len(a) + len(b))
-    while True:
-        room = ctypes.create_string_buffer(size)
-        library.overlay_fill_within(_CALLS[operation], number, limit, a, len(a), b, len(b), room, size, answer)
-        if answer.status == ANSWERED:
-            return ctypes.string_at(room, answer.length)
-        if answer.status != SMALL:
-            raise _fault(answer)
-        size = answer.length
+@overload
+def overlay(
+    df1: Frame,
+    df2: _Frame,
+    how: str = "intersection",
+    keep_geom_type: Optional[bool] = None,
+    make_valid: bool = True,
+    *,
+    grid: Optional[Unit] = None,
+    origin: Optional[Origin] = None,
+) -> Frame: ...
 
 
-def overlay(operation: Operation, a: Text, b: Union[str, bytes], side: Optional[int] = None, segments: int = _SEGMENTS) -> Text:
-    """What an operation answers: one MULTIPOLYGON line, or a line for each edge.
+def overlay(*given: Any, **named: Any) -> Any:
+    """What an operation answers on two layers, `overlay(operation, a, b)`; or what geopandas.overlay answers on two data frames,
+    `overlay(df1, df2, how="intersection", keep_geom_type=None, make_valid=True, grid=.., origin=..)`.
 
     >>> overlay(Operation.UNION, b"POLYGON ((0 0, 1 0, 0 1, 0 0))", "polygon empty")
     b'MULTIPOLYGON (((0 0, 1 0, 0 1, 0 0)))\\n'
+
+    `how` is "intersection", "union", "identity", "symmetric_difference" or "difference". The answer has the same rows and columns as
+    GeoPandas gives, on the grid: a row for each feature of `df1`, of `df2` or pair of both that has an area of its own, and all borders
+    that two rows share are the same points. The unit is 0.001 where none is said, or 0.000001 where coordinates are degrees. Only areas
+    are told, also where `keep_geom_type` is False. A feature is read by parity; `make_valid=False` refuses those that aren't valid.
     """
-    text = _text(Operation(operation), _bytes_of(a), _bytes_of(b), side, segments)
-    return text.decode("ascii") if isinstance(a, str) else text
+    first = given[0] if given else named.get("operation", named.get("df1"))
+    if isinstance(first, (Operation, str)):
+        return _overlay_layers(*given, **named)
+    return _frames.overlay(*given, **named)
 
 
-def union(a: Text, b: Union[str, bytes], side: Optional[int] = None, segments: int = _SEGMENTS) -> Text:
-    """The points of either layer, as one MULTIPOLYGON line.
+def _overlay_layers(
+    operation: Operation,
+    a: Any,
+    b: Any,
+    side: Optional[int] = None,
+    segments: Optional[int] = None,
+    *,
+    grid: Optional[Unit] = None,
+    origin: Optional[Origin] = None,
+) -> Any:
+    return _asked(CALLS[Operation(operation)], a, b, side, segments, grid, origin)
+
+
+@overload
+def union(
+    a: Text,
+    b: Union[str, bytes],
+    side: Optional[int] = None,
+    segments: Optional[int] = None,
+    *,
+    grid: Optional[Unit] = None,
+    origin: Optional[Origin] = None,
+) -> Text: ...
+
+
+@overload
+def union(
+    a: Layer,
+    b: Layer,
+    side: Optional[int] = None,
+    segments: Optional[int] = None,
+    *,
+    grid: Optional[Unit] = None,
+    origin: Optional[Origin] = None,
+) -> Any: ...
+
+
+def union(
+    a: Any,
+    b: Any,
+    side: Optional[int] = None,
+    segments: Optional[int] = None,
+    *,
+    grid: Optional[Unit] = None,
+    origin: Optional[Origin] = None,
+) -> Any:
+    """The points of either layer, as one MULTIPOLYGON line or of the first layer's kind.
 
     >>> union("POLYGON ((0 0, 4 0, 4 4, 0 4, 0 0))", "POLYGON ((4 0, 6 0, 6 4, 4 4, 4 0))")
     'MULTIPOLYGON (((0 0, 4 0, 6 0, 6 4, 4 4, 0 4, 0 0)))\\n'
+    >>> union(b"POLYGON ((0 0, .5 0, .5 .5, 0 0))", "POLYGON ((.51 0, 1 0, 1 1, .51 0))", grid="0.1")
+    b'MULTIPOLYGON (((0 0, 0.5 0, 0.5 0.5, 0 0)), ((0.5 0, 1 0, 1 1, 0.5 0)))\\n'
     """
-    return overlay(Operation.UNION, a, b, side, segments)
+    return _asked(0, a, b, side, segments, grid, origin)
 
 
-def intersection(a: Text, b: Union[str, bytes], side: Optional[int] = None, segments: int = _SEGMENTS) -> Text:
-    """The points of both layers, as one MULTIPOLYGON line.
+@overload
+def intersection(
+    a: Text,
+    b: Union[str, bytes],
+    side: Optional[int] = None,
+    segments: Optional[int] = None,
+    *,
+    grid: Optional[Unit] = None,
+    origin: Optional[Origin] = None,
+) -> Text: ...
+
+
+@overload
+def intersection(
+    a: Layer,
+    b: Layer,
+    side: Optional[int] = None,
+    segments: Optional[int] = None,
+    *,
+    grid: Optional[Unit] = None,
+    origin: Optional[Origin] = None,
+) -> Any: ...
+
+
+def intersection(
+    a: Any,
+    b: Any,
+    side: Optional[int] = None,
+    segments: Optional[int] = None,
+    *,
+    grid: Optional[Unit] = None,
+    origin: Optional[Origin] = None,
+) -> Any:
+    """The points of both layers, as one MULTIPOLYGON line or of the first layer's kind.
 
     >>> intersection("POLYGON ((0 0, 4 0, 4 4, 0 4, 0 0))", "POLYGON ((7 0, 9 0, 9 2, 7 0))")
     'MULTIPOLYGON EMPTY\\n'
     """
-    return overlay(Operation.INTERSECTION, a, b, side, segments)
+    return _asked(1, a, b, side, segments, grid, origin)
 
 
-def difference(a: Text, b: Union[str, bytes], side: Optional[int] = None, segments: int = _SEGMENTS) -> Text:
-    """The points of the first layer and not of the second, as one MULTIPOLYGON line.
+@overload
+def difference(
+    a: Text,
+    b: Union[str, bytes],
+    side: Optional[int] = None,
+    segments: Optional[int] = None,
+    *,
+    grid: Optional[Unit] = None,
+    origin: Optional[Origin] = None,
+) -> Text: ...
+
+
+@overload
+def difference(
+    a: Layer,
+    b: Layer,
+    side: Optional[int] = None,
+    segments: Optional[int] = None,
+    *,
+    grid: Optional[Unit] = None,
+    origin: Optional[Origin] = None,
+) -> Any: ...
+
+
+def difference(
+    a: Any,
+    b: Any,
+    side: Optional[int] = None,
+    segments: Optional[int] = None,
+    *,
+    grid: Optional[Unit] = None,
+    origin: Optional[Origin] = None,
+) -> Any:
+    """The points of the first layer and not of the second, as one MULTIPOLYGON line or of the first layer's kind.
 
     >>> difference("POLYGON ((0 0, 9 0, 9 9, 0 9, 0 0))", "POLYGON ((3 3, 6 3, 6 6, 3 6, 3 3))")
     'MULTIPOLYGON (((0 0, 9 0, 9 9, 0 9, 0 0), (3 3, 3 6, 6 6, 6 3, 3 3)))\\n'
     """
-    return overlay(Operation.DIFFERENCE, a, b, side, segments)
+    return _asked(2, a, b, side, segments, grid, origin)
 
 
-def symdifference(a: Text, b: Union[str, bytes], side: Optional[int] = None, segments: int = _SEGMENTS) -> Text:
-    """The points of just one of the layers, as one MULTIPOLYGON line.
+@overload
+def symdifference(
+    a: Text,
+    b: Union[str, bytes],
+    side: Optional[int] = None,
+    segments: Optional[int] = None,
+    *,
+    grid: Optional[Unit] = None,
+    origin: Optional[Origin] = None,
+) -> Text: ...
+
+
+@overload
+def symdifference(
+    a: Layer,
+    b: Layer,
+    side: Optional[int] = None,
+    segments: Optional[int] = None,
+    *,
+    grid: Optional[Unit] = None,
+    origin: Optional[Origin] = None,
+) -> Any: ...
+
+
+def symdifference(
+    a: Any,
+    b: Any,
+    side: Optional[int] = None,
+    segments: Optional[int] = None,
+    *,
+    grid: Optional[Unit] = None,
+    origin: Optional[Origin] = None,
+) -> Any:
+    """The points of just one of the layers, as one MULTIPOLYGON line or of the first layer's kind.
 
     >>> square = "POLYGON ((0 0, 4 0, 4 4, 0 4, 0 0))"
     >>> symdifference(square, square)
     'MULTIPOLYGON EMPTY\\n'
     """
-    return overlay(Operation.SYMDIFFERENCE, a, b, side, segments)
+    return _asked(3, a, b, side, segments, grid, origin)
 
 
-def edges(a: Text, b: Union[str, bytes], side: Optional[int] = None, segments: int = _SEGMENTS) -> Text:
-    """A line `x1 y1 x2 y2 a b` for each edge of both layers after rounding, with its count in either layer.
+@overload
+def edges(
+    a: Text,
+    b: Union[str, bytes],
+    side: Optional[int] = None,
+    segments: Optional[int] = None,
+    *,
+    grid: Optional[Unit] = None,
+    origin: Optional[Origin] = None,
+) -> Text: ...
+
+
+@overload
+def edges(
+    a: Layer,
+    b: Layer,
+    side: Optional[int] = None,
+    segments: Optional[int] = None,
+    *,
+    grid: Optional[Unit] = None,
+    origin: Optional[Origin] = None,
+) -> Any: ...
+
+
+def edges(
+    a: Any,
+    b: Any,
+    side: Optional[int] = None,
+    segments: Optional[int] = None,
+    *,
+    grid: Optional[Unit] = None,
+    origin: Optional[Origin] = None,
+) -> Any:
+    """A line `x1 y1 x2 y2 a b` for each edge of both layers after rounding, with its count in either layer; or a list of `Edge`s where
+    the first layer isn't a text.
 
     >>> print(edges("POLYGON ((0 0, 1 1, 0 1, 1 0, 0 0))", ""), end="")
     0 0 1 0 1 0
@@ -268,57 +423,95 @@ def edges(a: Text, b: Union[str, bytes], side: Optional[int] = None, segments: i
     0 1 1 1 2 0
     1 0 1 1 1 0
     """
-    return overlay(Operation.EDGES, a, b, side, segments)
+    return _asked(CALLS[Operation.EDGES], a, b, side, segments, grid, origin)
 
 
-def _faces(layers: Sequence[bytes], side: Optional[int], segments: int) -> bytes:
-    limit, count = _limit(segments), len(layers)
-    if count > _LAYERS:
-        raise ValueError(f"{count} layers, and there may be {_LAYERS}")
-    held = (Layer * count)(*(Layer(layer, len(layer)) for layer in layers))
-    number = library.overlay_faces_side(held, count) if side is None else _side_number(side)
-    answer = Answer()
-    # a guess: where it is too small, all is made again
-    size = 256 + 4 * sum(map(len, layers))
-    while True:
-        room = ctypes.create_string_buffer(size)
-        library.overlay_faces_fill(number, limit, _IDS, held, count, room, size, answer)
-        if answer.status == ANSWERED:
-            return ctypes.string_at(room, answer.length)
-        if answer.status == NO_CALL:
-            raise ValueError(f"the library has no call for {count} layers")
-        if answer.status != SMALL:
-            raise _fault(answer, count)
-        size = answer.length
-
-
-def faces_text(a: Text, *more: Union[str, bytes], side: Optional[int] = None, segments: int = _SEGMENTS) -> Text:
+def faces_text(a: Text, *more: Union[str, bytes], side: Optional[int] = None, segments: Optional[int] = None) -> Text:
     """Which features cover what, as the program writes it: a line for each set of features that covers some points together, with
-    twice the area, each layer's features, and the points, with tabs between.
+    twice the area, each layer's features, and the points, with tabs between. The layers are texts with whole coordinates.
 
     >>> faces_text("POLYGON ((0 0, 4 0, 4 4, 0 4, 0 0)) POLYGON EMPTY", "POLYGON ((0 0, 4 0, 4 4, 0 4, 0 0))")
     '32\\t1\\t1\\tMULTIPOLYGON (((0 0, 4 0, 4 4, 0 4, 0 0)))\\n'
     >>> faces_text(b"POLYGON EMPTY")
     b''
     """
-    text = _faces([_bytes_of(layer) for layer in (a, *more)], side, segments)
+    text = _calls.faces_of([_calls.bytes_of(layer) for layer in (a, *more)], side, segments)
     return text.decode("ascii") if isinstance(a, str) else text
 
 
-def faces(a: Union[str, bytes], *more: Union[str, bytes], side: Optional[int] = None, segments: int = _SEGMENTS) -> "list[Row]":
+@overload
+def faces(a: Union[str, bytes], *more: Union[str, bytes], side: Optional[int] = None, segments: Optional[int] = None) -> List[Row]: ...
+
+
+@overload
+def faces(
+    a: Layer,
+    *more: Layer,
+    side: Optional[int] = None,
+    segments: Optional[int] = None,
+    grid: Unit,
+    origin: Optional[Origin] = None,
+) -> List[Face]: ...
+
+
+@overload
+def faces(
+    a: Layer,
+    *more: Layer,
+    side: Optional[int] = None,
+    segments: Optional[int] = None,
+    grid: Optional[Unit] = None,
+    origin: Optional[Origin] = None,
+) -> List[Any]: ...
+
+
+def faces(
+    a: Any,
+    *more: Any,
+    side: Optional[int] = None,
+    segments: Optional[int] = None,
+    grid: Optional[Unit] = None,
+    origin: Optional[Origin] = None,
+) -> Any:
     """Which features cover what: a row for each set of features, of up to 64 layers, that covers some points together, in the order of
-    these sets. Features of one layer that overlap don't cancel one another.
+    these sets. Features of one layer that overlap don't cancel one another. Rows of texts with whole coordinates are `Row`s, and of all
+    else `Face`s.
 
     >>> for row in faces("POLYGON ((0 0, 4 0, 4 4, 0 4, 0 0)) POLYGON ((2 0, 6 0, 6 4, 2 4, 2 0))"):
     ...     print(row.twice_area, row.ids, row.wkt)
     16 ((1,),) MULTIPOLYGON (((0 0, 2 0, 2 4, 0 4, 0 0)))
     16 ((1, 2),) MULTIPOLYGON (((2 0, 4 0, 4 4, 2 4, 2 0)))
     16 ((2,),) MULTIPOLYGON (((4 0, 6 0, 6 4, 4 4, 4 0)))
+    >>> for face in faces("POLYGON ((0 0, 0.5 0, 0.5 0.5, 0 0))", grid=0.5):
+    ...     print(face.area, face.ids, face.geometry)
+    0.125 ((1,),) MULTIPOLYGON (((0 0, 0.5 0, 0.5 0.5, 0 0)))
     """
-    text = _faces([_bytes_of(layer) for layer in (a, *more)], side, segments).decode("ascii")
-    return [_row(line) for line in text.splitlines()]
+    layers = (a, *more)
+    if grid is None and origin is None and all(map(_is_text, layers)):
+        text = _calls.faces_of(list(map(_calls.bytes_of, layers)), side, segments)
+        return [Row(*line) for line in _asking.lines_of(text)]
+    held = _asking.layers_of(layers)
+    lines, frame = _asking.rows_of(held, Plan(side, segments, grid, origin))
+    answer = _asking.answerer_of(held)
+    return [Face(frame.area(line.twice), line.ids, answer(line.wkt, frame)) for line in lines]
 
 
-def _row(line: str) -> Row:
-    twice, *ids, wkt = line.split("\t")
-    return Row(int(twice), tuple(tuple(map(int, numbers.split(","))) if numbers else () for numbers in ids), wkt)
+def dissolve(
+    df: Frame,
+    by: Any = None,
+    aggfunc: Any = "first",
+    as_index: bool = True,
+    level: Any = None,
+    sort: bool = True,
+    observed: bool = False,
+    dropna: bool = True,
+    *,
+    grid: Optional[Unit] = None,
+    origin: Optional[Origin] = None,
+    **kwargs: Any,
+) -> Frame:
+    """What GeoDataFrame.dissolve answers, on the grid: a row for each group, whose geometry is what any feature of the group covers.
+    Borders that two groups share are the same points. The unit is as of `overlay`.
+    """
+    dissolved: Frame = _frames.dissolve(df, by, aggfunc, as_index, level, sort, observed, dropna, grid=grid, origin=origin, **kwargs)
+    return dissolved

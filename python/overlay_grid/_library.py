@@ -37,7 +37,8 @@ class Layer(ctypes.Structure):
 def _opened() -> ctypes.CDLL:
     opened = ctypes.CDLL(os.path.join(os.path.dirname(os.path.abspath(__file__)), "liboverlay.so"))
     text = [ctypes.c_char_p, ctypes.c_size_t]
-    opened.overlay_fill_within.argtypes = [*[ctypes.c_uint32] * 3, *text, *text, *text, ctypes.POINTER(Answer)]
+    room = [ctypes.c_void_p, ctypes.c_size_t, ctypes.c_void_p]
+    opened.overlay_fill_within.argtypes = [*[ctypes.c_uint32] * 3, *text, *text, *room]
     opened.overlay_fill_within.restype = None
     opened.overlay_words.argtypes = [ctypes.POINTER(Answer), *text]
     opened.overlay_words.restype = ctypes.c_size_t
@@ -45,7 +46,7 @@ def _opened() -> ctypes.CDLL:
     opened.overlay_side.restype = ctypes.c_uint32
     layers = (ctypes.POINTER(Layer), ctypes.c_size_t)
     limits = (ctypes.c_uint32, ctypes.c_uint32, ctypes.c_uint64)
-    opened.overlay_faces_fill.argtypes = [*limits, *layers, *text, ctypes.POINTER(Answer)]
+    opened.overlay_faces_fill.argtypes = [*limits, *layers, *room]
     opened.overlay_faces_fill.restype = None
     opened.overlay_faces_side.argtypes = [*layers]
     opened.overlay_faces_side.restype = ctypes.c_uint32

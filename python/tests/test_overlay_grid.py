@@ -1,8 +1,10 @@
 """The package against worked texts and against the program's bytes."""
 
 import doctest
+import importlib
 import os
 import pickle
+import pkgutil
 import subprocess
 import threading
 
@@ -60,10 +62,12 @@ def test_bytes_of_any_kind():
 
 
 def test_examples():
-    told = doctest.testmod(overlay_grid)
-    assert told.failed == 0 and told.attempted >= 17
+    names = [part.name for part in pkgutil.iter_modules(overlay_grid.__path__) if part.name.startswith("_")]
+    parts = [overlay_grid, *(importlib.import_module(f"overlay_grid.{name}") for name in names)]
+    told = [doctest.testmod(part) for part in parts]
+    assert not any(one.failed for one in told) and sum(one.attempted for one in told) >= 24
     page = doctest.testfile(os.path.join(os.path.dirname(HERE), "README.md"), module_relative=False)
-    assert page.failed == 0 and page.attempted == 6
+    assert page.failed == 0 and page.attempted == 11
 
 
 def test_empty_layers():
@@ -108,6 +112,8 @@ def test_refused(word, layers, plan, want):
 def test_side_that_fits():
     whole = "POLYGON ((-268435456 -268435456, 268435456 -268435456, 268435456 268435456, -268435456 268435456, -268435456 -268435456))"
     assert overlay_grid.union(whole, "").startswith("MULTIPOLYGON (((-268435456 -268435456, 268435456 -268435456, ")
+    assert overlay_grid.union(whole, " " * 100_000) == overlay_grid.union(whole, "")
+    assert overlay_grid.faces_text(whole, " " * 100_000) == overlay_grid.faces_text(whole, "")
     with pytest.raises(overlay_grid.Refused) as fault:
         overlay_grid.union(whole, "", side=262144)
     assert (fault.value.number, fault.value.layer, fault.value.count) == (8, None, 4198401)

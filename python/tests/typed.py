@@ -2,9 +2,10 @@
 
 from __future__ import annotations
 
+from decimal import Decimal
 from typing import Optional
 
-from overlay_grid import Operation, Refusal, Refused, Row, edges, faces, faces_text, overlay, union
+from overlay_grid import GeometryError, Operation, Refusal, Refused, Row, dissolve, edges, faces, faces_text, overlay, union
 
 line: str = union("", b"")
 same: bytes = union(b"", "", side=16, segments=10_000_000)
@@ -16,6 +17,33 @@ areas: list[int] = [row.twice_area for row in found]
 ids: list[tuple[tuple[int, ...], ...]] = [row.ids for row in found]
 wkt: list[str] = [row.wkt for row in found]
 any_of_them: bytes = overlay(Operation.DIFFERENCE, bytearray(), memoryview(b""))
+on_a_grid: str = union("", "", grid=0.1, origin=("412000", Decimal(0)))
+areas_on_it: list[float] = [face.area for face in faces("", b"", grid=0.5)]
+
+
+class Square:
+    """A geometry as Shapely has them."""
+
+    geom_type = "Polygon"
+    wkb = b""
+
+
+class Frame:
+    """A data frame as GeoPandas has them."""
+
+    columns = ["geometry"]
+    geometry = [Square()]
+
+
+of_a_geometry = union(Square(), Square(), grid="0.001")
+of_geometries = union([Square(), None], b"")
+faces_of_geometries = faces([Square()], Square())
+table: Frame = overlay(Frame(), Frame(), how="union", grid=1)
+dissolved: Frame = dissolve(table, by="zone", grid=1)
+
+
+def at(error: GeometryError) -> tuple[str, str, int, Optional[int]]:
+    return error.reason, error.layer, error.feature, error.part
 
 
 def told(refused: Refused) -> tuple[Refusal, Optional[str], Optional[int], Optional[int]]:
@@ -23,7 +51,8 @@ def told(refused: Refused) -> tuple[Refusal, Optional[str], Optional[int], Optio
 
 
 not_bytes: bytes = union("", "")  # type: ignore[assignment]
-no_operation = overlay("union", "", "")  # type: ignore[arg-type]
-no_layer = union("", None)  # type: ignore[arg-type]
+no_operation = overlay("union", "", "")  # type: ignore[call-overload]
+no_layer = union("", None)  # type: ignore[call-overload]
 not_a_str: str = faces_text(b"")  # type: ignore[assignment]
-none_of_them = faces()  # type: ignore[call-arg]
+none_of_them = faces()  # type: ignore[call-overload]
+no_unit = union("", "", grid=[1])  # type: ignore[call-overload]

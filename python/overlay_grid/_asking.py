@@ -1,0 +1,125 @@
+"""What is asked of layers of any kind on a grid: they are brought to it, the library answers, and the answer is brought back."""
+
+from __future__ import annotations
+
+from typing import Any, Callable, Dict, List, NamedTuple, Optional, Sequence, Tuple, TypeVar
+
+from ._calls import CALLS, MOST_SEGMENTS, Operation, faces_of, layer_name, text_of
+from ._faults import Refused
+from ._grid import FINEST, Frame, Origin, Unit, frame_at, frame_for, joined
+from ._kinds import Answerer, Given, arrays_answer, given, told_at
+from ._shapes import Shapes
+from ._texts import Text
+from ._uniting import united
+
+Ids = Tuple[Tuple[int, ...], ...]
+Result = TypeVar("Result")
+
+# Which rows an operation has, by whether each layer has their points.
+CHOICES: Dict[int, Callable[[bool, bool], bool]] = {
+    CALLS[Operation.UNION]: lambda a, b: a or b,
+    CALLS[Operation.INTERSECTION]: lambda a, b: a and b,
+    CALLS[Operation.DIFFERENCE]: lambda a, b: a and not b,
+    CALLS[Operation.SYMDIFFERENCE]: lambda a, b: a != b,
+}
+
+
+class Plan(NamedTuple):
+    """What is said of a run: the side of a tile, the most segments, the grid's unit and its origin, or nothing."""
+
+    side: Optional[int] = None
+    segments: Optional[int] = None
+    grid: Optional[Unit] = None
+    origin: Optional[Origin] = None
+
+    @property
+    def limit(self) -> int:
+        """The most segments, of which there is no number where nothing is said of geometries."""
+        return MOST_SEGMENTS if self.segments is None else self.segments
+
+
+class Line(NamedTuple):
+    """A row of faces: twice its area in squares of the grid, the features of each layer, and its polygons' text."""
+
+    twice: int
+    ids: Ids
+    wkt: str
+
+
+def lines_of(text: bytes) -> List[Line]:
+    """The rows of an answer."""
+    return [line_of(line) for line in text.decode("ascii").splitlines()]
+
+
+def line_of(line: str) -> Line:
+    """The row of a line."""
+    twice, *ids, wkt = line.split("\t")
+    return Line(int(twice), tuple(tuple(map(int, numbers.split(","))) if numbers else () for numbers in ids), wkt)
+
+
+def frame_of(layers: Sequence[Given], plan: Plan) -> Frame:
+    """The frame for some layers; a point that has no room on it is refused."""
+    unit = FINEST if plan.grid is None else plan.grid
+    box = joined([layer.held.box() for layer in layers])
+    frame = frame_for(unit, box) if plan.origin is None else frame_at(unit, plan.origin)
+    if box is None or frame.fits(box):
+        return frame
+    forms = [layer.held.without_numbers() if isinstance(layer.held, Text) else b"" for layer in layers]
+    asked(layers, lambda: faces_of(forms, None, MOST_SEGMENTS))
+    if plan.origin is None:
+        raise max(layers, key=lambda layer: layer.held.farthest()).held.no_room(box)
+    raise next(filter(None, (layer.held.off_grid(frame) for layer in layers)))
+
+
+def asked(layers: Sequence[Given], call: Callable[[], Result]) -> Result:
+    """What a call answers; a refusal tells of the layers as they came."""
+    try:
+        return call()
+    except Refused as error:
+        raise told_at(error, layers) from None
+
+
+def layers_of(values: Sequence[Any]) -> List[Given]:
+    """Layers as they were given, called A, B and on."""
+    return [given(value, layer_name(number)) for number, value in enumerate(values)]
+
+
+def answerer_of(layers: Sequence[Given]) -> Answerer:
+    """What makes answers of the first layer's kind, or of the next one's where that has no geometry."""
+    return next((layer.answer for layer in layers if layer.answer), arrays_answer)
+
+
+def simple(layer: Given) -> bool:
+    """Whether a layer may be read by parity: where it is said so, or has one feature."""
+    return not layer.covered or (isinstance(layer.held, Shapes) and len(layer.held.features) < 2)
+
+
+def operation(call: int, a: Any, b: Any, plan: Plan) -> Any:
+    """What an operation answers, of the first layer's kind."""
+    layers = layers_of([a, b])
+    frame = frame_of(layers, plan)
+    texts = [layer.held.text(frame) for layer in layers]
+    chosen = None if all(map(simple, layers)) else chosen_of(call, layers, texts, plan)
+    if chosen is None:
+        text = asked(layers, lambda: text_of(call, texts[0], texts[1], plan.side, plan.limit)).decode("ascii")
+    else:
+        text = united(chosen)
+    return answerer_of(layers)(text, frame)
+
+
+def chosen_of(call: int, layers: Sequence[Given], texts: Sequence[bytes], plan: Plan) -> Optional[List[str]]:
+    """The rows that an operation has on layers that are read as covered; nothing where no features of one layer overlap, so that
+    parity tells the same."""
+    rows = lines_of(asked(layers, lambda: faces_of(texts, plan.side, plan.limit)))
+    covered = [layer.covered for layer in layers]
+    if not any(len(ids) > 1 for row in rows for ids, read in zip(row.ids, covered) if read):
+        return None
+    choice = CHOICES[call]
+    return [row.wkt for row in rows if choice(*(bool(ids) if read else len(ids) % 2 == 1 for ids, read in zip(row.ids, covered)))]
+
+
+def rows_of(layers: Sequence[Given], plan: Plan) -> Tuple[List[Line], Frame]:
+    """The faces of layers, and the frame that leads back."""
+    frame = frame_of(layers, plan)
+    texts = [layer.held.text(frame) for layer in layers]
+    return lines_of(asked(layers, lambda: faces_of(texts, plan.side, plan.limit))), frame

@@ -1,0 +1,175 @@
+"""The kinds of values that a layer may be, and answers of these kinds.
+
+A layer is a text, or one geometry, or a list of geometries, which are its features. A geometry is WKB, one of Shapely's, or
+coordinates: an array of points, which is a ring, or a tuple of such arrays, which are all rings of the geometry.
+"""
+
+from __future__ import annotations
+
+import sys
+from array import array
+from itertools import islice
+from typing import Any, Callable, Iterable, List, NamedTuple, Optional, Sequence, Tuple, Union
+
+from . import _wkb
+from ._faults import GeometryError, Refused
+from ._grid import Frame
+from ._optional import module
+from ._shapes import Builder, Shapes, found_in
+from ._texts import Text, placed
+
+Answerer = Callable[[str, Frame], Any]
+
+
+def text_answer(text: str, frame: Frame) -> str:
+    """An answer's text in the reference system's units."""
+    return placed(text, frame)
+
+
+def bytes_answer(text: str, frame: Frame) -> bytes:
+    """The same as bytes."""
+    return placed(text, frame).encode()
+
+
+def wkb_answer(text: str, frame: Frame) -> bytes:
+    """An answer as WKB."""
+    found = found_in(text)
+    return _wkb.encoded(found.points(frame), found.rings, found.polygons)
+
+
+def shapely_answer(text: str, frame: Frame) -> Any:
+    """An answer as Shapely's geometry."""
+    return module("shapely.wkb").loads(wkb_answer(text, frame))
+
+
+def arrays_answer(text: str, frame: Frame) -> List[Tuple[Any, ...]]:
+    """An answer as a list of polygons, each a tuple of arrays, the shell first."""
+    found = found_in(text)
+    if not found.polygons:
+        return []
+    points = module("numpy").frombuffer(found.points(frame)).reshape(-1, 2)
+    at, rings = 0, []
+    for count in found.rings:
+        rings.append(points[at : at + count].copy())
+        at += count
+    each = iter(rings)
+    return [tuple(islice(each, count)) for count in found.polygons]
+
+
+class Given(NamedTuple):
+    """A layer that was given: what it holds, whether it covers what any of its features covers (else it is read by parity), and what
+    makes an answer of its kind, which a list without geometries doesn't tell."""
+
+    held: Union[Shapes, Text]
+    covered: bool
+    answer: Optional[Answerer]
+
+
+def is_geometry(value: Any) -> bool:
+    """Whether a value is one of Shapely's geometries; where nobody imported Shapely there are none."""
+    base = sys.modules.get("shapely.geometry.base")
+    return base is not None and isinstance(value, base.BaseGeometry)
+
+
+def is_array(value: Any) -> bool:
+    """Whether a value is an array of numpy's."""
+    return hasattr(value, "__array_interface__") and hasattr(value, "dtype")
+
+
+def is_bytes(value: Any) -> bool:
+    """Whether a value has a buffer of bytes."""
+    try:
+        view = memoryview(value)
+    except (TypeError, ValueError, BufferError):
+        return False
+    return view.itemsize == 1 and view.ndim == 1
+
+
+def kind_of(value: Any) -> Optional[Answerer]:
+    """What makes answers of the kind of a geometry; nothing where it is none."""
+    if isinstance(value, str):
+        return text_answer
+    if is_bytes(value):
+        return wkb_answer if _wkb.begins(bytes(memoryview(value)[: _wkb.BEGINNING])) else bytes_answer
+    if is_geometry(value):
+        return shapely_answer
+    if is_array(value) and value.dtype.kind in "fiu":
+        return arrays_answer
+    return arrays_answer if isinstance(value, tuple) and all(map(is_array, value)) else None
+
+
+def given(layer: Any, name: str) -> Given:
+    """A layer as it was given."""
+    answer = kind_of(layer)
+    if answer in (text_answer, bytes_answer):
+        return Given(Text(layer.encode() if isinstance(layer, str) else bytes(layer), name), False, answer)
+    if answer is not None:
+        return Given(shapes_of([layer], name), True, answer)
+    features = list_of(layer, name)
+    answer = kind_of(next((feature for feature in features if feature is not None), None))
+    if answer in (text_answer, bytes_answer):
+        return Given(joined_texts(features, name), True, answer)
+    return Given(shapes_of(features, name), True, answer)
+
+
+def list_of(layer: Any, name: str) -> List[Any]:
+    """The features of a layer that is a list, an array, a series or a frame of geometries."""
+    if hasattr(layer, "columns") and hasattr(layer, "geometry"):
+        layer = layer.geometry
+    try:
+        return list(layer)
+    except TypeError as error:
+        raise TypeError(f"{name}: a {type(layer).__name__} is no layer") from error
+
+
+def joined_texts(features: Iterable[Any], name: str) -> Text:
+    """Texts as one layer, one after another."""
+    texts = [b"POLYGON EMPTY" if feature is None else feature for feature in features]
+    for number, text in enumerate(texts, 1):
+        if kind_of(text) not in (text_answer, bytes_answer):
+            raise GeometryError("is no text, as the first one is", name, number)
+    return Text(b"\n".join([text.encode() if isinstance(text, str) else bytes(text) for text in texts]), name)
+
+
+def shapes_of(features: Sequence[Any], name: str) -> Shapes:
+    """The polygons of some geometries."""
+    builder = Builder(name)
+    for feature in as_wkb(features):
+        if feature is None or is_bytes(feature):
+            _wkb.add(None if feature is None else bytes(feature), builder)
+        elif is_geometry(feature):
+            _wkb.add(feature.wkb, builder)
+        else:
+            add_rings(feature, builder)
+    return builder.shapes()
+
+
+def as_wkb(features: Sequence[Any]) -> Sequence[Any]:
+    """The same, all in WKB at once where all are of Shapely 2."""
+    shapely: Any = sys.modules.get("shapely")
+    if len(features) > 1 and hasattr(shapely, "to_wkb") and all(one is None or is_geometry(one) for one in features):
+        made: List[Any] = shapely.to_wkb(features, output_dimension=2, byte_order=1).tolist()
+        return made
+    return features
+
+
+def add_rings(feature: Any, builder: Builder) -> None:
+    """Adds a geometry that is an array of points, or a tuple of such arrays; a ring that is open is closed."""
+    rings = feature if isinstance(feature, tuple) else (feature,)
+    for ring in rings:
+        if not is_array(ring) or ring.dtype.kind not in "fiu" or ring.ndim != 2 or ring.shape[1] != 2:
+            told = f"an array of shape {ring.shape}" if is_array(ring) else f"a {type(ring).__name__}"
+            raise builder.refused(f"{told} is no polygon: a ring is an array of shape (n, 2)")
+        points = array("d", ring.astype("<f8").tobytes())
+        if points[:2] != points[-2:]:
+            points += points[:2]
+        builder.ring(points.tobytes(), 1)
+    builder.feature([len(rings)])
+
+
+def told_at(error: Refused, layers: Sequence[Given]) -> Refused:
+    """A refusal of a layer's text on the grid, told of the text as it came."""
+    for layer in layers:
+        if isinstance(layer.held, Text) and layer.held.layer == error.layer and error.offset is not None:
+            return error.at(layer.held.place(error.offset))
+    return error

@@ -1,0 +1,93 @@
+"""Texts of polygons whose coordinates are decimals: brought to the grid, and answers back from it.
+
+Each number is replaced and all else stays, so that the library finds what is wrong with a text, and `place` tells where that stood.
+"""
+
+from __future__ import annotations
+
+import re
+from array import array
+from math import isfinite
+from typing import Iterable, List, Optional
+
+from ._faults import Refusal, Refused
+from ._grid import LIMIT, Box, Frame
+
+NUMBER = re.compile(rb"(?<![^\s(),])([-+]?(?:\d+\.?\d*|\.\d+)(?:[eE][-+]?\d+)?)(?![^\s(),])")
+WHOLE = re.compile(r"(-?\d+)")
+
+
+class Text:
+    """A layer's text, and its numbers: x and y by turns, where it is a text of polygons at all."""
+
+    def __init__(self, text: bytes, layer: str) -> None:
+        self.layer = layer
+        self.pieces: List[bytes] = NUMBER.split(text)
+        self.values = array("d", map(float, self.pieces[1::2]))
+        self.made = self.pieces
+
+    def box(self) -> Optional[Box]:
+        """The box of all points; a number that floating-point numbers have no room for is refused."""
+        if len(self.values) < 2:
+            return None
+        if not isfinite(sum(self.values)):
+            for number, value in enumerate(self.values):
+                if not isfinite(value):
+                    raise self.out_of_range(number)
+        x, y = self.values[0::2], self.values[1::2]
+        return Box(min(x), min(y), max(x), max(y))
+
+    def off_grid(self, frame: Frame) -> Optional[Refused]:
+        """The refusal of the first number that lies off a grid; nothing where none does."""
+        for number, value in enumerate(self.values):
+            if abs(frame[number % 2].exact(value)) > LIMIT:
+                return self.out_of_range(number)
+        return None
+
+    def farthest(self) -> float:
+        """The greatest absolute value of a number."""
+        return max(max(self.values), -min(self.values)) if self.values else 0.0
+
+    def no_room(self, box: Box) -> Refused:
+        """The refusal of the farthest number, where no grid of the unit has room for a box of all layers."""
+        reach = self.farthest()
+        return self.out_of_range(next(k for k, value in enumerate(self.values) if abs(value) == reach))
+
+    def out_of_range(self, number: int) -> Refused:
+        """The refusal of a number, by its place among all."""
+        at = sum(map(len, self.pieces[: 2 * number + 1]))
+        return Refused(f"{self.layer}: 2 number out of range at {at}", Refusal.NUMBER_RANGE, self.layer, at, None)
+
+    def text(self, frame: Frame) -> bytes:
+        """The text on the grid."""
+        across, up = (axis.rounded(self.values[k::2]) for k, axis in enumerate(frame))
+        return self.with_numbers(across, up)
+
+    def without_numbers(self) -> bytes:
+        """The text with 0 for each number."""
+        count = len(self.values)
+        return self.with_numbers([0] * (count - count // 2), [0] * (count // 2))
+
+    def with_numbers(self, across: Iterable[int], up: Iterable[int]) -> bytes:
+        """The text with other numbers."""
+        self.made = list(self.pieces)
+        self.made[1::4] = [b"%d" % number for number in across]
+        self.made[3::4] = [b"%d" % number for number in up]
+        return b"".join(self.made)
+
+    def place(self, offset: int) -> int:
+        """Where in the text as it came that stood which is now at a place."""
+        at = 0
+        for k, (was, now) in enumerate(zip(self.pieces, self.made)):
+            if offset < len(now):
+                return at if k % 2 else at + offset
+            at, offset = at + len(was), offset - len(now)
+        return at
+
+
+def placed(text: str, frame: Frame) -> str:
+    """A text of polygons of the grid in the reference system's units, exactly."""
+    pieces = WHOLE.split(text)
+    for k, axis in enumerate(frame):
+        pieces[2 * k + 1 :: 4] = [axis.told(int(number)) for number in pieces[2 * k + 1 :: 4]]
+    return "".join(pieces)

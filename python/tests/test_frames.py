@@ -1,0 +1,224 @@
+"""Overlay and dissolving of data frames, against GeoPandas where its answers are exact."""
+
+import random
+import warnings
+
+import overlay_grid
+import pytest
+from overlay_grid import GeometryError
+
+geopandas = pytest.importorskip("geopandas", reason="no geopandas: apt-get install python3-geopandas")
+pandas = pytest.importorskip("pandas")
+from pandas.testing import assert_frame_equal  # noqa: E402
+from shapely.geometry import LineString, MultiPolygon, Polygon, box  # noqa: E402
+
+HOWS = ["intersection", "union", "identity", "symmetric_difference", "difference"]
+
+
+def squares(*corners, side=2):
+    return geopandas.GeoSeries([box(x, y, x + side, y + side) for x, y in corners])
+
+
+def worked():
+    """The example of geopandas.overlay's page."""
+    first = geopandas.GeoDataFrame({"geometry": squares((0, 0), (2, 2)), "df1_data": [1, 2]})
+    return first, geopandas.GeoDataFrame({"geometry": squares((1, 1), (3, 3)), "df2_data": [1, 2]})
+
+
+def theirs(*frames, **plan):
+    """GeoPandas' answer, where it has an index to find it by."""
+    try:
+        with warnings.catch_warnings():
+            warnings.simplefilter("ignore")
+            return geopandas.overlay(*frames, **plan)
+    except ImportError as error:
+        pytest.skip(f"geopandas.overlay answers nothing ({error}): apt-get install python3-rtree")
+
+
+def same(found, want):
+    """The same columns, types, names and values, and geometries of the same points."""
+    assert type(found) is type(want) and found.geometry.name == want.geometry.name and found.crs == want.crs
+    name = want.geometry.name
+    assert list(found.columns) == list(want.columns)
+    others = [pandas.DataFrame(df.drop(columns=name)) for df in (found, want.reset_index(drop=True))]
+    assert_frame_equal(*others, check_column_type=False)
+    for ours, theirs in zip(found.geometry, want.geometry):
+        assert ours.is_valid and ours.symmetric_difference(theirs).area == 0
+
+
+@pytest.mark.parametrize("how", HOWS)
+def test_page(how):
+    df1, df2 = worked()
+    same(overlay_grid.overlay(df1, df2, how=how, grid=0.5), theirs(df1, df2, how=how))
+    same(overlay_grid.overlay(df1, df2, how, True, grid=0.001), theirs(df1, df2, how))
+    same(overlay_grid.overlay(df1=df1, df2=df2, how=how), theirs(df1=df1, df2=df2, how=how))
+
+
+def test_worked():
+    """The rows of the page, by hand."""
+    df1, df2 = worked()
+    found = overlay_grid.overlay(df1, df2, "union", grid=1)
+    assert list(found.columns) == ["df1_data", "df2_data", "geometry"] and list(found.index) == list(range(7))
+    data = found[["df1_data", "df2_data"]].fillna(0).astype(int)
+    assert list(data.itertuples(index=False, name=None)) == [(1, 1), (2, 1), (2, 2), (1, 0), (2, 0), (0, 1), (0, 2)]
+    assert found.geometry.area.tolist() == [1, 1, 1, 3, 2, 2, 3]
+    assert found.geometry.iloc[0].equals(box(1, 1, 2, 2))
+
+
+def drawn(draw, count, names, index=None, overlapping=True):
+    step = 7 if overlapping else 12
+    geometries = []
+    for k in range(count):
+        x, y = (draw.randrange(40), draw.randrange(40)) if overlapping else (step * (k % 4), step * (k // 4))
+        geometries.append(box(x, y, x + draw.randint(1, 12), y + draw.randint(1, 12)))
+    kinds = {"name": lambda k: f"name {k}", "real": lambda k: k * 1.5}
+    values = {name: list(map(kinds.get(name, int), range(count))) for name in names}
+    return geopandas.GeoDataFrame(values, geometry=geometries, index=index, crs="EPSG:25832")
+
+
+@pytest.mark.parametrize("how", HOWS)
+@pytest.mark.parametrize("seed", range(12))
+def test_rectangles(seed, how):
+    """Overlapping rectangles with whole corners, columns with the same names, any index."""
+    draw = random.Random(seed)
+    df1 = drawn(draw, draw.randint(1, 8), ["id", "name", "real"], overlapping=seed % 2 == 0)
+    df2 = drawn(draw, draw.randint(1, 8), ["name", "id", "only"], overlapping=seed % 3 > 0)
+    df1.index = [f"row {k}" for k in range(len(df1))]
+    df2.index = [k % 2 for k in range(len(df2))]
+    same(overlay_grid.overlay(df1, df2, how=how, grid=1), theirs(df1, df2, how=how))
+
+
+@pytest.mark.parametrize("how", HOWS)
+def test_types_of_columns(how):
+    df1, df2 = worked()
+    for df in (df1, df2):
+        df["flag"] = [True, False]
+        df["day"] = pandas.to_datetime(["2024-02-29", None])
+        df["kind"] = pandas.Categorical(["x", "y"])
+        df["whole"] = pandas.array([1, None], dtype="Int64")
+        df["small"] = pandas.Series([1, 2], dtype="int8")
+        df["text"] = pandas.array(["p", None], dtype="string")
+    df2 = df2.rename(columns={"day": "date", "whole": "count"})
+    same(overlay_grid.overlay(df1, df2, how=how, grid=1), theirs(df1, df2, how=how))
+
+
+@pytest.mark.parametrize("how", HOWS)
+def test_names_of_geometries(how):
+    df1, df2 = worked()
+    df1, df2 = df1.rename_geometry("shape"), df2.rename_geometry("outline")
+    same(overlay_grid.overlay(df1, df2, how=how, grid=1), theirs(df1, df2, how=how))
+
+
+@pytest.mark.parametrize("how", HOWS)
+def test_nothing_in_common(how):
+    df1, df2 = worked()
+    df2.geometry = df2.geometry.translate(100, 0)
+    same(overlay_grid.overlay(df1, df2, how=how, grid=1), theirs(df1, df2, how=how))
+
+
+def test_common_borders():
+    """Triangles with a common border, and lines across it: rows fill the plane, with one area."""
+    df1 = geopandas.GeoDataFrame({"a": [1, 2]}, geometry=[Polygon([(0, 0), (9, 0.1), (7, 7.3)]), Polygon([(0, 0), (7, 7.3), (-1, 8)])])
+    df2 = geopandas.GeoDataFrame({"b": [1, 2]}, geometry=[Polygon([(-2, 1), (9.3, 2), (9, 3)]), Polygon([(-2, 1), (9, 3), (8, 9)])])
+    found = overlay_grid.overlay(df1, df2, "union", grid=0.1)
+    assert found.is_valid.all()
+    whole = overlay_grid.union(list(df1.geometry), list(df2.geometry), grid=0.1)
+    assert found.geometry.area.sum() == pytest.approx(whole.area, rel=1e-12)
+    assert overlay_grid.dissolve(found, grid=0.1).geometry.iloc[0].equals(whole)
+
+
+def test_units():
+    df1, df2 = worked()
+    fine = geopandas.GeoDataFrame({"a": [1]}, geometry=[box(0, 0, 0.0004, 1)], crs="EPSG:4326")
+    other = geopandas.GeoDataFrame({"b": [1]}, geometry=[box(0, 0, 1, 1)], crs="EPSG:4326")
+    assert overlay_grid.overlay(fine, other).geometry.iloc[0].equals(box(0, 0, 0.0004, 1))
+    fine.crs = other.crs = None
+    assert len(overlay_grid.overlay(fine, other)) == 0
+
+
+@pytest.mark.parametrize("how", HOWS)
+def test_reference_systems(how):
+    df1, df2 = worked()
+    with pytest.warns(UserWarning, match="reference systems"):
+        found = overlay_grid.overlay(df1.set_crs("EPSG:25832"), df2.set_crs("EPSG:25833"), how)
+    same(found, theirs(df1, df2, how=how).set_crs("EPSG:25832"))
+    same(overlay_grid.overlay(df1.set_crs("EPSG:25832"), df2, how), theirs(df1, df2, how=how).set_crs("EPSG:25832"))
+
+
+@pytest.mark.parametrize("how", HOWS)
+def test_no_rows(how):
+    df1, df2 = worked()
+    columns = ["geometry", "df1_data"] if how == "difference" else ["df1_data", "df2_data", "geometry"]
+    for first, second, count in ((df1.iloc[:0], df2, 0), (df1, df2.iloc[:0], 2), (df1.iloc[:0], df2.iloc[:0], 0)):
+        found = overlay_grid.overlay(first, second, how)
+        want = {"intersection": 0, "union": max(count, len(second)), "symmetric_difference": max(count, len(second))}.get(how, count)
+        assert list(found.columns) == columns and len(found) == want
+    assert len(overlay_grid.dissolve(df1.iloc[:0], by="df1_data")) == 0
+
+
+def test_missing_geometries():
+    df1, df2 = worked()
+    more = geopandas.GeoDataFrame({"geometry": [None, MultiPolygon()], "df1_data": [7, 8]})
+    df1 = geopandas.GeoDataFrame(pandas.concat([more, df1], ignore_index=True), geometry="geometry")
+    found = overlay_grid.overlay(df1, df2, "difference", grid=1)
+    assert found.df1_data.tolist() == [1, 2]
+    assert overlay_grid.overlay(df1, df2, grid=1).df1_data.tolist() == [1, 2, 2]
+
+
+def test_refused():
+    df1, df2 = worked()
+    with pytest.raises(ValueError, match="`how` was 'with'"):
+        overlay_grid.overlay(df1, df2, how="with")
+    with pytest.raises(TypeError, match="df2: a GeoSeries is no GeoDataFrame"):
+        overlay_grid.overlay(df1, df2.geometry)
+    lines = geopandas.GeoDataFrame({"a": [1, 2]}, geometry=[box(0, 0, 1, 1), LineString([(0, 0), (1, 1)])])
+    with pytest.raises(GeometryError, match="^df2: feature 2: a LineString is no polygon"):
+        overlay_grid.overlay(df1, lines)
+    with pytest.raises(GeometryError, match="^df: feature 2: a LineString is no polygon"):
+        overlay_grid.dissolve(lines)
+    bow = geopandas.GeoDataFrame({"a": [1]}, geometry=[Polygon([(0, 0), (1, 1), (1, 0), (0, 1)])])
+    assert len(overlay_grid.overlay(bow, df2, "difference")) == 1
+    with pytest.raises(ValueError, match="make_valid is False"):
+        overlay_grid.overlay(bow, df2, make_valid=False)
+    holed = box(0, 0, 9, 9).difference(box(1, 1, 2, 2))
+    lost = Polygon(holed.exterior.coords, [[(1, 1), (float("nan"), 1), (2, 2), (1, 1)]])
+    with pytest.raises(GeometryError, match="^df2: feature 3, polygon 2: a coordinate is no finite number") as fault:
+        overlay_grid.overlay(df1, geopandas.GeoDataFrame({"b": [1, 2, 3]}, geometry=[holed, holed, MultiPolygon([holed, lost])]))
+    assert (fault.value.layer, fault.value.feature, fault.value.part) == ("df2", 3, 2)
+    far = geopandas.GeoDataFrame({"a": [1]}, geometry=[box(0, 0, 1e12, 1)])
+    with pytest.raises(GeometryError, match="^df1: feature 1, polygon 1: reaches 1e\\+12"):
+        overlay_grid.overlay(far, df2)
+
+
+PLANS = [
+    {},
+    {"by": "kind"},
+    {"by": "kind", "as_index": False},
+    {"by": ["kind", "zone"]},
+    {"by": "kind", "aggfunc": {"id": "sum", "real": ["min", "max"]}},
+    {"by": "kind", "aggfunc": "last", "sort": False},
+    {"by": "gap"},
+    {"by": "gap", "dropna": False},
+    {"level": 0},
+    {"by": "group"},
+    {"by": "group", "observed": True},
+]
+
+
+@pytest.mark.parametrize("plan", PLANS, ids=str)
+@pytest.mark.parametrize("seed", range(4))
+def test_dissolve(plan, seed):
+    draw = random.Random(seed)
+    df = drawn(draw, 9, ["id", "real", "name"])
+    df["kind"] = [draw.choice("cab") for _ in range(9)]
+    df["zone"] = [draw.randrange(2) for _ in range(9)]
+    df["gap"] = [draw.choice(["x", "y", None]) for _ in range(9)]
+    df["group"] = pandas.Categorical([draw.choice("pq") for _ in range(9)], categories=list("qpr"))
+    df.index = [k // 2 for k in range(9)]
+    want = df.dissolve(**plan)
+    found = overlay_grid.dissolve(df, grid=1, **plan)
+    assert type(found) is type(want) and list(found.columns) == list(want.columns) and found.crs == want.crs
+    assert_frame_equal(*(pandas.DataFrame(one.drop(columns="geometry")) for one in (found, want)))
+    for ours, theirs in zip(found.geometry, want.geometry):
+        empty = theirs is None or theirs.is_empty
+        assert ours.is_empty if empty else ours.is_valid and ours.symmetric_difference(theirs).area == 0
