@@ -1,4 +1,4 @@
-"""`bench/run NAME ..`: runs the module of that name; each has `add_arguments(parser)` and `main(arguments)`, and its first line says what it does."""
+"""`bench/run NAME ..`: runs the module of that name; each has `add_arguments(parser)` and `main(arguments)`, and its first line says what it does; `RECORDED` names its file of results where that isn't its own."""
 import argparse
 import importlib
 import os
@@ -6,7 +6,7 @@ import sys
 
 from . import programs, results
 
-NAMES = ("compare", "rows", "texts", "memory", "faults", "workers", "parallel", "limits", "hostile", "speed", "faces", "library", "laws", "requests", "kernels", "peers", "plot", "sizes", "documents")
+NAMES = ("compare", "rows", "texts", "memory", "faults", "workers", "parallel", "repeat", "scarce", "changing", "limits", "hostile", "speed", "faces", "library", "laws", "requests", "kernels", "peers", "bridge", "plot", "sizes", "documents")
 WITHOUT_PROGRAM = ("laws", "requests", "kernels", "plot", "sizes", "documents")
 
 
@@ -26,7 +26,7 @@ def main():
     if arguments.name not in WITHOUT_PROGRAM and not is_making and arguments.program == programs.BUILT and not os.access(programs.BUILT, os.X_OK):
         sys.exit("%s is not built: cd crates/overlay && rt run -- --help" % os.path.relpath(programs.BUILT))
     call = lambda: modules[arguments.name].main(arguments)
-    return results.recorded(arguments.name, sys.argv[2:], call) if arguments.record else call()
+    return results.recorded(getattr(modules[arguments.name], "RECORDED", arguments.name), sys.argv[2:], call) if arguments.record else call()
 
 
 sys.exit(main())

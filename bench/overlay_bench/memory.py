@@ -1,24 +1,27 @@
 """refuses each request for memory in turn, and each thread
 
-The program runs behind a library that refuses its N-th request for memory, for N from 1 until refusing one more changes
-nothing. Each run has to give the right answer, or nothing with `overlay: 10 out of memory` and status 1; with a report also
-the whole answer with that line, since the report is made when the answer is written. Then each thread that it starts is
-refused in turn, which may change nothing. With more than one worker the requests come in any order, and each number refuses
-some of them. The exit status is 1 where a run gives anything else.
+The program runs behind a library that refuses its N-th request for memory, for N from 1 to as many as it has. Each run has
+to give the right answer, or nothing with `overlay: 10 out of memory` and status 1; with a report also the whole answer with
+that line, since the report is made when the answer is written. Then each thread that it starts is refused in turn, which may
+change nothing. With more than one worker the requests come in any order, and each number refuses some of them. The exit status
+is 1 where a run gives anything else.
 
 With `--rows` four small pairs alone, whose answers stand below, by one and by two workers; each run that answers that memory is
-out is followed by the same one with ample memory, which has to give the answer.
+out is followed by the same one with ample memory, which has to give the answer. With `--layers` the faces of so many layers
+alone, rough rings through one another, by four workers; --requests of them are refused, evenly spread, where each is too many.
 """
 import errno
+import math
 import os
 import random
 import tempfile
 import time
 
-from . import layers, programs
+from . import endurance, layers, programs
 from .programs import COMMANDS, Answer
 
-OUT_OF_MEMORY = b"overlay: 10 out of memory\n"
+RECORDED = "endurance"
+OUT_OF_MEMORY = endurance.OUT_OF_MEMORY
 SQUARE = "POLYGON ((0 0, 4 0, 4 4, 0 4, 0 0))"
 LARGE_SQUARE = "POLYGON ((0 0, 9 0, 9 9, 0 9, 0 0))"
 # What is worth an own way through the program: two layers for each.
@@ -54,13 +57,22 @@ FEW = ("corner", "nothing", "holes that touch", "ties")
 def add_arguments(parser):
     parser.add_argument("--rows", action="store_true", help="four pairs with known answers alone, 1 and 2 workers, and each refused run again")
     parser.add_argument("--short", action="store_true", help="fewer layers, 1 and 4 workers")
-    parser.add_argument("--segments", type=int, default=200, help="the size of the last pair of layers, which a short run leaves out")
+    parser.add_argument("--segments", type=int, help="the size of the last pair of layers, which a short run leaves out (200), or of each of --layers (5000)")
+    parser.add_argument("--layers", type=int, help="the faces of so many layers alone, by four workers")
+    parser.add_argument("--requests", type=int, help="how many requests of these are refused, evenly spread (default: each)")
 
 
 def many_segments(count):
     """Two layers of so many segments together, with holes and crossings."""
     rng = random.Random(22)
     return tuple(layers.text_of(layers.parcels(rng, count // 4) + layers.holes(rng, count // 4)) for _ in "ab")
+
+
+def rings(count, segments):
+    """So many layers of one rough ring each, the middle of each beside that of the one before: all cross all others."""
+    rng, turned = random.Random(22), [2 * math.pi * k / segments for k in range(segments)]
+    around = lambda k: [(round(300 * k + rng.randint(199_900, 200_100) * math.cos(a)), round(rng.randint(199_900, 200_100) * math.sin(a))) for a in turned]
+    return [layers.text_of([[around(k)]]) for k in range(count)]
 
 
 class Refusing:
@@ -73,19 +85,26 @@ class Refusing:
         self.runs += 1
         return programs.answer([self.program, *words], env=dict(os.environ, LD_PRELOAD=self.library, **rules))
 
+    def counted(self, words):
+        """The right answer, and how many requests the run had."""
+        with tempfile.NamedTemporaryFile("r") as file:
+            return self.answer(words, COUNT_MALLOC=file.name), int(file.read() or 0)
+
+    def without(self, words, number):
+        """The answer where this request is refused."""
+        return self.answer(words, REFUSE_MALLOC="%d %d" % (number, errno.ENOMEM))
+
     def refuse_each(self, words, again=False):
-        """How many requests were refused until one more changes nothing; with `again` each refused run is followed by one with memory."""
-        right, number, calm = self.answer(words), 0, 0
-        allowed = [right, Answer(1, b"", OUT_OF_MEMORY)] + [Answer(1, right.out, OUT_OF_MEMORY)] * ("--report" in words)
-        while calm < 8:
-            number += 1
-            got = self.answer(words, REFUSE_MALLOC="%d %d" % (number, errno.ENOMEM))
-            calm = calm + 1 if got == right else 0
+        """Refuses each request, and tells how many; with `again` each refused run is followed by one with memory."""
+        right, requests = self.counted(words)
+        allowed = [right, OUT_OF_MEMORY] + [Answer(1, right.out, OUT_OF_MEMORY.err)] * ("--report" in words)
+        for number in range(1, requests + 1):
+            got = self.without(words, number)
             if got not in allowed:
                 self.wrong.append((words, "request %d" % number, got))
             if again and got != right and self.answer(words) != right:
                 self.wrong.append((words, "request %d" % number, "something else with memory again"))
-        return number - calm
+        return requests
 
     def refuse_row(self, words, workers, text):
         """Each thread and each request of a command line whose answer is known."""
@@ -138,7 +157,7 @@ def refuse_rows(refusing, folder):
 
 def refuse_runs(refusing, folder, arguments):
     """All command lines: how many, and how many requests."""
-    pairs = {name: PAIRS[name] for name in FEW} if arguments.short else dict(PAIRS, many=many_segments(arguments.segments))
+    pairs = {name: PAIRS[name] for name in FEW} if arguments.short else dict(PAIRS, many=many_segments(arguments.segments or 200))
     lines, requests = 0, 0
     for workers, words in runs(folder, pairs, (1, 4) if arguments.short else (1, 2, 4)):
         lines += 1
@@ -148,9 +167,27 @@ def refuse_runs(refusing, folder, arguments):
     return lines, requests
 
 
+def refuse_layers(refusing, folder, arguments):
+    """Requests of the faces of many layers; 1 where a run went wrong."""
+    files = [os.path.join(folder, "%d.wkt" % k) for k in range(arguments.layers)]
+    for path, text in zip(files, rings(arguments.layers, arguments.segments or 5_000)):
+        with open(path, "w") as layer:
+            layer.write(text)
+    words = ["faces", *files, "--workers=4"]
+    right, requests = refusing.counted(words)
+    most = min(arguments.requests or requests, requests)
+    counts = endurance.Counts("memory", "%d requests of %d layers of %d segments" % (requests, arguments.layers, arguments.segments or 5_000))
+    for number in (1 + k * requests // most for k in range(most)):
+        got = refusing.without(words, number)
+        counts.judge(got, got == right, got == OUT_OF_MEMORY, "request %d of %s" % (number, " ".join(words)), files)
+    return counts.end()
+
+
 def main(arguments):
     refusing, start = Refusing(arguments.program), time.monotonic()
     with tempfile.TemporaryDirectory() as folder:
+        if arguments.layers:
+            return refuse_layers(refusing, folder, arguments)
         lines, requests = refuse_rows(refusing, folder) if arguments.rows else refuse_runs(refusing, folder, arguments)
     for words, what, got in refusing.wrong:
         print("%s, %s refused: %s" % (" ".join(words), what, got))

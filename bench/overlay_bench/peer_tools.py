@@ -249,7 +249,10 @@ class PostGis(Tool):
 class Qgis(Tool):
     """Algorithms by qgis_process, from file to file, one start each."""
 
-    name, needs = "QGIS", "qgis gdal-bin"
+    needs = "qgis gdal-bin"
+
+    def __init__(self, name: str, makes_valid: bool = False):
+        self.name, self.makes_valid = name, makes_valid
 
     def missing(self) -> str:
         return "" if shutil.which("qgis_process.bin") and shutil.which("ogr2ogr") else self.needs
@@ -270,15 +273,24 @@ class Qgis(Tool):
         run = watching.watched(call, os.path.join(folder, "out"), seconds, env=self.environment(folder))
         return run if run.status or os.path.exists(output) else replace(run, status=1)
 
-    def run(self, job: str, layers: Layers, seconds: float) -> Run:
-        first, second, _ = layers.packages()
-        one, two, both = (os.path.join(layers.folder, name) for name in ("da.gpkg", "db.gpkg", "c.gpkg"))
-        asked = [("native:dissolve", one, {"INPUT": first})]
+    def asked(self, job: str, layers: Layers) -> list[tuple[str, str, dict[str, str]]]:
+        """The algorithms of a job, each with the file that it writes and its other words."""
+        names = ("a", "b") if job == "common" else ("a",)
+        inputs = dict(zip(names, layers.packages()))
+        made = lambda name: os.path.join(layers.folder, name + ".gpkg")
+        asked = []
+        if self.makes_valid:
+            asked = [("native:fixgeometries", made("v" + name), {"INPUT": inputs[name]}) for name in names]
+            inputs = {name: made("v" + name) for name in names}
+        asked += [("native:dissolve", made("d" + name), {"INPUT": inputs[name]}) for name in names]
         if job == "common":
-            asked += [("native:dissolve", two, {"INPUT": second}), ("native:intersection", both, {"INPUT": one, "OVERLAY": two})]
+            asked.append(("native:intersection", made("c"), {"INPUT": made("da"), "OVERLAY": made("db")}))
+        return asked
+
+    def run(self, job: str, layers: Layers, seconds: float) -> Run:
         processor = clock = 0.0
-        threads = 1
-        for name, output, words in asked:
+        threads, output = 1, ""
+        for name, output, words in self.asked(job, layers):
             run = self.algorithm(name, layers.folder, output, seconds, **words)
             processor, clock, threads = processor + run.processor, clock + run.clock, max(threads, run.threads)
             if fault_of(run, seconds):
@@ -304,7 +316,8 @@ def peers() -> list[Tool]:
         PostGis("PostGIS", "st_union(geom)", "st_intersection({a}, {b})"),
         PostGis("PostGIS, grid 1", "st_union(geom, 1)", "st_intersection({a}, {b}, 1)"),
         PostGis("PostGIS, made valid", "st_union(st_makevalid(geom))", "st_intersection({a}, {b})"),
-        Qgis(),
+        Qgis("QGIS"),
+        Qgis("QGIS, made valid", True),
         Compiled("CGAL", "cgal", "CGAL/Polygon_set_2.h", "libcgal-dev", "-lgmp", "-lmpfr"),
         Compiled("Clipper 6", "clipper", "polyclipping/clipper.hpp", "libpolyclipping-dev", "-lpolyclipping"),
         Absent("mapshaper", "no package in Debian 12: it comes by npm alone"),

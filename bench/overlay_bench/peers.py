@@ -10,7 +10,8 @@ itself). Two jobs: `dissolve` is the area that some parcel covers, `common` what
   again        a second run on the same files: the same bytes, the same polygons otherwise written, or other points
   other order  the same with the features of both layers in another order
   processor s  of the operation alone, without reading and writing, by the least of the rounds. overlay, overlay-gis and QGIS: of all
-               runs, from files to files, with what starts take (QGIS some two seconds, three times for `common`); PostGIS: of the session
+               runs, from files to files, with what starts take (QGIS some two seconds, three times for `common`, five where the layers are
+               made valid); PostGIS: of the session
   clock s      of the whole run, as processor seconds are
   ratio        processor seconds to overlay's in this run
   threads      at work at once, in a tenth of the run at least

@@ -2,6 +2,7 @@
  *
  * REFUSE_MALLOC, REFUSE_THREAD, REFUSE_OPEN, REFUSE_READ, REFUSE_WRITE = "N ERROR": the N-th call (each one where N is 0)
  * fails with that error number; malloc and realloc count as one. SHORT_READ, SHORT_WRITE = "K": a call moves at most K bytes.
+ * PAUSE_READ = "K": a read waits K microseconds first. COUNT_MALLOC = "FILE": at the end it has the number of requests for memory.
  */
 #define _GNU_SOURCE
 #include <dlfcn.h>
@@ -10,6 +11,7 @@
 #include <pthread.h>
 #include <stdarg.h>
 #include <stdatomic.h>
+#include <stdio.h>
 #include <stdlib.h>
 #include <unistd.h>
 
@@ -24,9 +26,10 @@ static struct rule reads = {"REFUSE_READ"}, writes = {"REFUSE_WRITE"};
 /* The error of this call, or 0 where it is let through. */
 static int refused(struct rule *rule) {
     const char *words = getenv(rule->name);
+    long number = atomic_fetch_add(&rule->calls, 1) + 1;
     if (!words) return 0;
     char *rest;
-    long which = strtol(words, &rest, 10), number = atomic_fetch_add(&rule->calls, 1) + 1;
+    long which = strtol(words, &rest, 10);
     return which == 0 || which == number ? (int)strtol(rest, 0, 10) : 0;
 }
 
@@ -76,6 +79,8 @@ ssize_t read(int file, void *bytes, size_t size) {
     NEXT(ssize_t, "read", int, void *, size_t);
     int error = refused(&reads);
     if (error) { errno = error; return -1; }
+    const char *pause = getenv("PAUSE_READ");
+    if (pause) usleep((useconds_t)atol(pause));
     return next(file, bytes, shortened("SHORT_READ", size));
 }
 
@@ -84,4 +89,17 @@ ssize_t write(int file, const void *bytes, size_t size) {
     int error = refused(&writes);
     if (error) { errno = error; return -1; }
     return next(file, bytes, shortened("SHORT_WRITE", size));
+}
+
+/* The program's way to end. */
+_Noreturn void _exit(int status) {
+    NEXT(void, "_exit", int);
+    long requests = atomic_load(&memory.calls);
+    const char *path = getenv("COUNT_MALLOC");
+    FILE *file = path ? fopen(path, "w") : 0;
+    if (file) {
+        fprintf(file, "%ld\n", requests);
+        fclose(file);
+    }
+    for (;;) next(status);
 }
