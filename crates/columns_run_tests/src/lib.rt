@@ -2,9 +2,9 @@
 #![tactic(auto)]
 
 #[cfg(test)]
+mod by_hand;
+#[cfg(test)]
 mod random;
 #[cfg(test)]
 mod refusals;
-#[cfg(test)]
-mod rows;
 pub mod written;
