@@ -11,7 +11,6 @@ pub mod Covering
 pub mod Parts
 pub mod Ordering
 pub mod Counted
-pub mod WrittenBack
 pub mod SpanLaws
 pub mod Slices
 pub mod ShareLaws

@@ -118,7 +118,7 @@ pub fn gather_borders_in_parts<
 }
 
 /// Of links those that occur an odd number of times, in order.
-fn odd_alone<A: Allocator>(
+fn odd_alone<A: Allocator + Copy>(
     alloc: A,
     links: Vec<FeatureLink, A>,
 ) -> Result<Vec<FeatureLink, A>, NoMemory>

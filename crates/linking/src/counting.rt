@@ -95,7 +95,7 @@ fn count_alone<A: Allocator>(
 }
 
 /// Each edge among the links, ascending, with its counts, with room for so many at first.
-pub(crate) fn counts<A: Allocator>(
+pub(crate) fn counts<A: Allocator + Copy>(
     alloc: A,
     room: usize,
     links: Vec<Link, A>,

@@ -10,8 +10,8 @@
 #![tactic(auto)]
 
 mod bordering;
-mod by_range;
 mod counting;
+mod keyed;
 mod link;
 mod linked;
 mod made;
@@ -24,8 +24,8 @@ mod span;
 mod tile_piece;
 
 pub use bordering::{RoundedBorders, gather_borders, gather_borders_in_parts};
-pub use by_range::{Keyed, sorted};
 pub use counting::counts_in_parts;
+pub use keyed::{Keyed, sorted};
 pub use link::Link;
 pub use made::{gather_made, gather_made_in_parts, rounded_by_records};
 pub use noded::{Noded, settled};

@@ -9,7 +9,7 @@ ghost use Rattle.linking.specs.Orders.{AreSortedOnce};
 ghost use Rattle.linking.specs.Shares.{AreKeysBelow, AreLinked, AreOrdered, MayLink, segment_of};
 ghost use Rattle.linking.specs.Spans.{within};
 
-use crate::by_range::sorted;
+use crate::keyed::sorted;
 use crate::link::MakesLinks;
 use crate::neighbours::neighbour_links;
 use crate::numbers::{count_by_tile, summed};
@@ -38,7 +38,7 @@ pub(crate) struct AllLinked<L: Copy, A: Allocator> {
 }
 
 /// Records in order, each once.
-pub(crate) fn in_order<A: Allocator>(records: Vec<Record, A>) -> Vec<Record, A>
+pub(crate) fn in_order<A: Allocator + Copy>(records: Vec<Record, A>) -> Vec<Record, A>
     ensures { AreSortedOnce records.items result.items }
 {
     let mut records = sorted(records);
