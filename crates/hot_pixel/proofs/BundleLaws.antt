@@ -452,22 +452,27 @@ apart s t h = ⊎_elim (λ k. inl (follows_is s t k)) (λ k. inr (follows_is t s
 distinct : (ss sorted : List Strand) → IsPermutation ss sorted → AllPairs IsFollowedBy sorted → IsDistinct clash ss
 distinct ss sorted moved up = IsDistinct-IsPermutation clash clash_flips sorted ss (IsPermutation-sym ss sorted moved) (IsDistinct-from_apart clash sorted (λ i j d a b. no_clash _ _ (up i j d a b)))
 
-follows_on : (s t u : Strand) → IsFollowedBy s t → IsFollowedBy t u → IsFollowedBy s u
+pub follows_on : (s t u : Strand) → IsFollowedBy s t → IsFollowedBy t u → IsFollowedBy s u
 follows_on s t u (inl h) (inl k) = inl (record { left = lt_lt _ _ _ h.left k.left; right = lt_lt _ _ _ h.right k.right })
 follows_on s t u (inl h) (inr k) = inl (record { left = subst (λ x. s.left <ℤ x) k.left h.left; right = subst (λ x. s.right <ℤ x) k.right h.right })
 follows_on s t u (inr h) (inl k) = inl (record { left = subst (λ x. x <ℤ u.left) (sym h.left) k.left; right = subst (λ x. x <ℤ u.right) (sym h.right) k.right })
 follows_on s t u (inr h) (inr k) = inr (record { left = h.left ∙ k.left; right = h.right ∙ k.right })
 
-far : (ss : List Strand) → AllAdjacentBelow IsFollowedBy ss (length ss) → (i m : ℕ) (d : Strand) → i + (m + 1) < length ss → IsFollowedBy (get_or ss i d) (get_or ss (i + (m + 1)) d)
-far ss h i zero d l = h i d l
-far ss h i (suc m) d l =
-    let e : (i + (m + 1)) + 1 ≡ i + (suc m + 1) = omega arith in
-    follows_on _ _ _ (far ss h i m d (omega arith)) (subst (λ k. IsFollowedBy (get_or ss (i + (m + 1)) d) (get_or ss k d)) e (h (i + (m + 1)) d (omega arith)))
+-- what holds of each item and the next one holds of each item and those behind it
+module _ {X : Type 0} (R : X → X → Type 0) (on : (x y z : X) → R x y → R y z → R x z) where
+  far : (xs : List X) → AllAdjacentBelow R xs (length xs) → (i m : ℕ) (d : X) → i + (m + 1) < length xs → R (get_or xs i d) (get_or xs (i + (m + 1)) d)
+  far xs h i zero d l = h i d l
+  far xs h i (suc m) d l =
+      let e : (i + (m + 1)) + 1 ≡ i + (suc m + 1) = omega arith in
+      on _ _ _ (far xs h i m d (omega arith)) (subst (λ k. R (get_or xs (i + (m + 1)) d) (get_or xs k d)) e (h (i + (m + 1)) d (omega arith)))
+
+  pub all_in_turn : (xs : List X) → AllAdjacentBelow R xs (length xs) → AllPairs R xs
+  all_in_turn xs h i j d a b =
+      let e : i + ((j - (i + 1)) + 1) ≡ j = omega arith in
+      subst (λ k. R (get_or xs i d) (get_or xs k d)) e (far xs h i (j - (i + 1)) d (omega arith))
 
 pub all_ascend : (ss : List Strand) → AllAdjacentBelow IsFollowedBy ss (length ss) → AllPairs IsFollowedBy ss
-all_ascend ss h i j d a b =
-    let e : i + ((j - (i + 1)) + 1) ≡ j = omega arith in
-    subst (λ k. IsFollowedBy (get_or ss i d) (get_or ss k d)) e (far ss h i (j - (i + 1)) d (omega arith))
+all_ascend = all_in_turn IsFollowedBy follows_on
 
 module _ (course : Course) (low high : ℤ) where
   strand_push : (ls : List Line) (ss : List Strand) (l : Line) (s : Strand) → AreStrands course low high ls ss → IsStrandSeen course low high l.edge s → AreStrands course low high (ls ++ l ∷ []) (ss ++ s ∷ [])
@@ -490,12 +495,12 @@ module _ (course : Course) (low high : ℤ) where
       (from_cons l ls m k)
 
   -- two lines have strands of which one is followed by the other
-  record AreApart (e f : Edge) : Type 0 where
-    s : Strand
-    t : Strand
-    first : IsStrandSeen course low high e s
-    second : IsStrandSeen course low high f t
-    order : IsFollowedBy s t ⊎ IsFollowedBy t s
+  pub record AreApart (e f : Edge) : Type 0 where
+    pub s : Strand
+    pub t : Strand
+    pub first : IsStrandSeen course low high e s
+    pub second : IsStrandSeen course low high f t
+    pub order : IsFollowedBy s t ⊎ IsFollowedBy t s
 
   turned_apart : (e f : Edge) → AreApart e f → AreApart f e
   turned_apart e f h = record { s = h.t; t = h.s; first = h.second; second = h.first; order = ⊎_elim (λ k. inr k) (λ k. inl k) h.order }
@@ -520,6 +525,14 @@ module _ (course : Course) (low high : ℤ) where
       (from_cons k ls m j))
       (from_cons k ls l i)
 
+  -- each line has a strand
+  abbrev pub HaveStrands : List Line → Type 0
+  HaveStrands lines = (l : Line) → Contains lines l → (s : Strand) × IsStrandSeen course low high l.edge s
+
+  -- any two lines are the same, or have strands of which one is followed by the other
+  abbrev pub StandApart : List Line → Type 0
+  StandApart lines = (l m : Line) → Contains lines l → Contains lines m → (l ≡ m) ⊎ AreApart l.edge m.edge
+
   module _ (c : Pt) (from : low ≤ℤ (seen_point course c).x) (to : (seen_point course c).x ≤ℤ high) where
     apart_no_crossing : (e f : Edge) → AreApart e f → CrossAt e f c → ⊥
     apart_no_crossing e f h x =
@@ -528,20 +541,23 @@ module _ (course : Course) (low high : ℤ) where
         (λ up. no_crossing low high h.second.0 h.first.0 h.t h.s (seen_point course c) from to h.second.2 h.first.2 up (cross_turn h.first.0 h.second.0 (seen_point course c) y))
         h.order
 
-    none_hot : (lines : List Line) (ss : List Strand) → AreStrands course low high lines ss → IsDistinct clash ss → IsHotFor (edges_of lines) c → ⊥
-    none_hot lines ss h d (inl k) =
+    none_hot : (lines : List Line) → HaveStrands lines → StandApart lines → IsHotFor (edges_of lines) c → ⊥
+    none_hot lines have apart (inl k) =
         let r = line_at lines k.e k.listed in
-        let s = strand_at lines ss h r.0 r.1 in
-        no_end low high s.2.0 (seen_point course c) from to s.2.2.through (ends_seen course k.e s.2.0 c (subst (λ e. IsSeen course e s.2.0) r.2 s.2.1) k.is_end)
-    none_hot lines ss h d (inr k) =
+        let s = have r.0 r.1 in
+        no_end low high s.1.0 (seen_point course c) from to s.1.2.through (ends_seen course k.e s.1.0 c (subst (λ e. IsSeen course e s.1.0) r.2 s.1.1) k.is_end)
+    none_hot lines have apart (inr k) =
         let r = line_at lines k.e k.e_listed in
         let u = line_at lines k.f k.f_listed in ⊎_elim
         (λ same. parallel_itself k.f c (subst (λ e. CrossAt e k.f c) (sym r.2 ∙ ap (λ (x : Line). x.edge) same ∙ u.2) k.crosses))
         (λ a. apart_no_crossing k.e k.f (subst (λ e. AreApart e k.f) r.2 (subst (λ f. AreApart r.0.edge f) u.2 a)) k.crosses)
-        (two_lines lines ss h d r.0 u.0 r.1 u.1)
+        (apart r.0 u.0 r.1 u.1)
+
+  pub apart_has_no_hot : (lines : List Line) → HaveStrands lines → StandApart lines → HasNoHot course low high (edges_of lines)
+  apart_has_no_hot lines have apart c from to k = none_hot c from to lines have apart k
 
   pub bundle_has_no_hot : (lines : List Line) (ss sorted : List Strand) → AreStrands course low high lines ss → IsPermutation ss sorted → AllPairs IsFollowedBy sorted → HasNoHot course low high (edges_of lines)
-  bundle_has_no_hot lines ss sorted h moved up c from to k = none_hot c from to lines ss h (distinct ss sorted moved up) k
+  bundle_has_no_hot lines ss sorted h moved up = apart_has_no_hot lines (λ l k. let r = strand_at lines ss h l k in (r.0, r.2)) (two_lines lines ss h (distinct ss sorted moved up))
 
 -- where no pixel is hot, nothing has to be added
 pub nothing_hot : (Inside : Pt → Type 0) (lines : List Line) (old : List Pt) → ((c : Pt) → Inside c → IsHotFor (edges_of lines) c → ⊥) → HasHotInside Inside (edges_of lines) old old

@@ -158,11 +158,11 @@ cross_either Rows low high e f g s c l r (e', h, es) (f', k, fs) x =
     cross_at f g (flip v) (flip w) c (flip_back f) (flip_back g) (flip_cross v w d fourth)
 
 -- ---- the borders of a rectangle, as they are seen
-after_low : (course : Course) (rect : Rect) (c : Pt) → IsIn rect c → (seen_point course rect.lo).x ≤ℤ (seen_point course c).x
+pub after_low : (course : Course) (rect : Rect) (c : Pt) → IsIn rect c → (seen_point course rect.lo).x ≤ℤ (seen_point course c).x
 after_low Columns rect c t = t.left
 after_low Rows rect c t = t.bottom
 
-up_to_high : (course : Course) (rect : Rect) (c : Pt) → IsIn rect c → (seen_point course c).x ≤ℤ (seen_point course rect.hi).x
+pub up_to_high : (course : Course) (rect : Rect) (c : Pt) → IsIn rect c → (seen_point course c).x ≤ℤ (seen_point course rect.hi).x
 up_to_high Columns rect c t = t.right
 up_to_high Rows rect c t = t.top
 
@@ -171,7 +171,7 @@ low_to_high Columns rect = rect.wide
 low_to_high Rows rect = rect.high
 
 -- ---- items of lines
-some_one : {X : Type 0} (o : Option X) (a b : X) → o ≡ Some a → o ≡ Some b → a ≡ b
+pub some_one : {X : Type 0} (o : Option X) (a b : X) → o ≡ Some a → o ≡ Some b → a ≡ b
 some_one o a b h k = let g : Some a ≡ Some b = sym h ∙ k in cc
 
 -- items of the lines before a place

@@ -5,8 +5,10 @@ pub mod SweepLaws
 pub mod CandidateLaws
 pub mod HalvingLaws
 pub mod NearLaws
+pub mod OrderLaws
 pub mod BundleLaws
 pub mod EndLaws
 pub mod CarrierLaws
 pub mod BesideLaws
 pub mod WallLaws
+pub mod ReachLaws

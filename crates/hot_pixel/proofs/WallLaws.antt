@@ -97,18 +97,16 @@ short a b z n m k t np kp from to is below_a below_b =
     gap x y h = omega (arith, linear)
 
 -- a line with both ends too far to the right meets no pixel behind the wall
-pub out_of_reach : (w : Wall) (e : Edge) (c : Pt) → IsBehind w c → IsMetOn e c
-    → (pos 2 *ℤ determinant w.run.dx w.run.dy e.p.x e.p.y) <ℤ ((pos 2 *ℤ w.bound) -ℤ (size w.run.dx +ℤ size w.run.dy))
-    → (pos 2 *ℤ determinant w.run.dx w.run.dy e.q.x e.q.y) <ℤ ((pos 2 *ℤ w.bound) -ℤ (size w.run.dx +ℤ size w.run.dy)) → ⊥
+pub out_of_span : (d f b : ℤ) (e : Edge) (c : Pt) → b ≤ℤ determinant d f c.x c.y → IsMetOn e c
+    → (pos 2 *ℤ determinant d f e.p.x e.p.y) <ℤ ((pos 2 *ℤ b) -ℤ (size d +ℤ size f))
+    → (pos 2 *ℤ determinant d f e.q.x e.q.y) <ℤ ((pos 2 *ℤ b) -ℤ (size d +ℤ size f)) → ⊥
 unfolding segment_of
-out_of_reach w e c behind met p_short q_short =
+out_of_span d f b e c behind met p_short q_short =
     let (z, (m, k, at), is) = met.meets (segment_of e) (segment_line e) in
-    let d = w.run.dx in
-    let f = w.run.dy in
     let here = in_pixel z c is in
     let low = spread d f c.x c.y z.x z.y z.n here.column.from (weak _ _ here.column.below) here.row.from (weak _ _ here.row.below) in
     let high = short (determinant d f e.p.x e.p.y) (determinant d f e.q.x e.q.y) (determinant d f z.x z.y) z.n m k _ z.positive at.ratio.positive at.ratio.from at.ratio.to (along d f e.p.x e.p.y e.q.x e.q.y z.x z.y z.n m k at.x_is at.y_is) p_short q_short in
-    let enough = scale_le ((pos 2 *ℤ w.bound) -ℤ (size d +ℤ size f)) ((pos 2 *ℤ determinant d f c.x c.y) -ℤ (size d +ℤ size f)) z.n (twice _ _ (size d +ℤ size f) behind.from) (weak _ _ z.positive) in
+    let enough = scale_le ((pos 2 *ℤ b) -ℤ (size d +ℤ size f)) ((pos 2 *ℤ determinant d f c.x c.y) -ℤ (size d +ℤ size f)) z.n (twice _ _ (size d +ℤ size f) behind) (weak _ _ z.positive) in
     never _ _ _ enough low high
   where
     twice : (b x s : ℤ) → b ≤ℤ x → ((pos 2 *ℤ b) -ℤ s) ≤ℤ ((pos 2 *ℤ x) -ℤ s)
@@ -116,6 +114,11 @@ out_of_reach w e c behind met p_short q_short =
 
     never : (a b c : ℤ) → a ≤ℤ b → b ≤ℤ c → c <ℤ a → ⊥
     never a b c h k l = omega (arith, linear)
+
+pub out_of_reach : (w : Wall) (e : Edge) (c : Pt) → IsBehind w c → IsMetOn e c
+    → (pos 2 *ℤ determinant w.run.dx w.run.dy e.p.x e.p.y) <ℤ ((pos 2 *ℤ w.bound) -ℤ (size w.run.dx +ℤ size w.run.dy))
+    → (pos 2 *ℤ determinant w.run.dx w.run.dy e.q.x e.q.y) <ℤ ((pos 2 *ℤ w.bound) -ℤ (size w.run.dx +ℤ size w.run.dy)) → ⊥
+out_of_reach w e c behind met p_short q_short = out_of_span w.run.dx w.run.dy w.bound e c behind.from met p_short q_short
 
 -- ends that are far enough to the left
 pub reaches_end : (w : Wall) (e : Edge) (c : Pt) → IsBehind w c → IsMetOn e c

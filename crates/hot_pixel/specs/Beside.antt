@@ -1,12 +1,28 @@
 -- Lines of which nearly all run side by side, and the others (own).
-use Rattle.std.specs.Prelude.{◌⊎◌, Contains, List}
+use Rattle.std.specs.Prelude.{◌≡◌, ◌⊎◌, ◌<◌, AllPairs, Contains, List, Some, length}
 use Rattle.geom.specs.declared.point.Pt.{Pt}
 use Rattle.geom.specs.declared.rect.Rect.{Rect}
 use Rattle.geom.specs.declared.edge.Edge.{Edge}
 use Rattle.hot_pixel.specs.declared.lines.Line.{Line}
+use Rattle.hot_pixel.specs.declared.bundle.Strand.{Strand}
+use Rattle.hot_pixel.specs.declared.carrier.Carried.{Carried}
+use Rattle.hot_pixel.specs.Bundle.{IsFollowedBy}
 use Rattle.hot_pixel.specs.Halving.{edges_of, IsEndOf}
 use Rattle.hot_pixel.specs.Lines.{CrossAt}
 use Rattle.hot_pixel.specs.Rects.{IsIn}
+
+-- two items have strands, and that of d follows that of c
+pub record AreInOrder (c d : Carried) : Type 0 where
+  pub s : Strand
+  pub t : Strand
+  pub first : c.strand ≡ Some s
+  pub second : d.strand ≡ Some t
+  pub follows : IsFollowedBy s t
+
+-- there are several items, each of them in order with those behind it
+pub record AreAscending (items : List Carried) : Type 0 where
+  pub several : 1 < length items
+  pub in_order : AllPairs AreInOrder items
 
 -- each line is in one of two lists, which have no others
 pub record AreParted (lines beside others : List Line) : Type 0 where

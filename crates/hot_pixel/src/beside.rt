@@ -2,16 +2,17 @@
 //! crossed with all.
 //!
 //! 1. Lines that don't run through the columns of the rectangle are some of the others. These may be a few at most.
-//! 2. The strands of the lines that do are sorted, and kept one after the other. Where one doesn't follow the last that is kept,
-//!    both are taken out: they are others too.
-//! 3. If those that are kept are a bundle, ends of the others are hot, and crossings of the others with all lines. These may be
+//! 2. The strands of the lines that do are sorted. If all lines run through and each strand follows the one before, no pixel is hot.
+//! 3. Else they are kept one after the other. Where one doesn't follow the last that is kept, both are taken out: they are others too.
+//! 4. If those that are kept are a bundle, ends of the others are hot, and crossings of the others with all lines. These may be
 //!    some at most.
-//! 4. The same is tried by the rows, with x and y exchanged.
+//! 5. Steep lines are looked at by the rows, with x and y exchanged, and so are others where columns won't do.
 
 ghost use Rattle.std.specs.Prelude.{◌≤ℤ◌, All, IfOk, IfSome, IsTrue, [], Contains};
 ghost use Rattle.geom.specs.declared.point.Pt.{Pt};
 ghost use Rattle.geom.specs.Limit.{AreInLimit};
-ghost use Rattle.hot_pixel.specs.Beside.{AreParted, HasBothCrossed, TakePart};
+ghost use Rattle.hot_pixel.specs.Beside.{AreAscending, AreInOrder, AreParted, HasBothCrossed, TakePart};
+ghost use Rattle.hot_pixel.specs.Carriers.{AreCarried};
 ghost use Rattle.hot_pixel.specs.Halving.{HasHot, IsEndOf, edges_of};
 ghost use Rattle.hot_pixel.specs.Rects.{IsIn};
 
@@ -51,7 +52,9 @@ fn most_run_through(course: Course, low: i32, high: i32, lines: &[Line]) -> bool
 }
 
 /// Whether two lines run through, and the strand of the second follows that of the first.
-fn are_in_order(first: &Carried, second: &Carried) -> bool {
+fn are_in_order(first: &Carried, second: &Carried) -> bool
+    ensures { IsTrue result → AreInOrder first.now second.now }
+{
     match (first.strand, second.strand) {
         (Some(a), Some(b)) => a.is_followed_by(&b),
         _ => false,
@@ -81,6 +84,7 @@ fn with_strands<A: Allocator>(
 ) -> Result<Option<Vec<Carried, A>>, NoMemory>
     requires lines_in { All (λ l. AreInLimit l.edge.p l.edge.q) lines.now }
     requires apart { low ≤ℤ high }
+    ensures { IfOk result (λ o. IfSome o (λ v. AreCarried course low high lines.now v.items)) }
 {
     let mut items = Vec::with_capacity(alloc, lines.len())?;
     let mut crossed = 0;
@@ -96,6 +100,21 @@ fn with_strands<A: Allocator>(
         items.push(item)?;
     }
     Ok(Some(items))
+}
+
+/// Whether there are several lines, of which each is in order with the one before.
+fn ascend(items: &[Carried]) -> bool
+    ensures { IsTrue result → AreAscending items.now }
+{
+    if items.len() < 2 {
+        return false;
+    }
+    for k in 1..items.len() {
+        if !are_in_order(&items[k - 1], &items[k]) {
+            return false;
+        }
+    }
+    true
 }
 
 /// Keeps a line that follows the last one that is kept; else both are taken out.
@@ -213,7 +232,7 @@ fn hot_of_others<A: Allocator>(
     Ok(None)
 }
 
-/// The same where nearly all lines run side by side along a course.
+/// The same where nearly all lines run side by side along a course, through which they run.
 fn hot_along<A: Allocator + Copy>(
     alloc: A,
     course: Course,
@@ -226,13 +245,13 @@ fn hot_along<A: Allocator + Copy>(
 {
     let low = x_of(course, rect.lo);
     let high = x_of(course, rect.hi);
-    if !most_run_through(course, low, high, lines) {
-        return Ok(None);
-    }
     let Some(mut items) = with_strands(alloc, course, low, high, lines)? else {
         return Ok(None);
     };
     items.sort_unstable();
+    if ascend(&items) {
+        return Ok(Some(Vec::new(alloc)));
+    }
     let Some(places) = taken_out(alloc, &items)? else {
         return Ok(None);
     };
@@ -241,6 +260,32 @@ fn hot_along<A: Allocator + Copy>(
         return hot_of_others(alloc, rect, lines, &parted.others);
     }
     Ok(None)
+}
+
+/// Whether a line is steeper than the diagonal.
+fn is_steep(line: &Line) -> bool
+    requires { AreInLimit line.now.edge.p line.now.edge.q }
+{
+    let run = line.edge.p.vector_to(line.edge.q);
+    run.dx.abs() < run.dy.abs()
+}
+
+/// The course along which all lines of a rectangle but a few run through, if there is one: the one that is closer to the direction of
+/// a line in the middle, or else the other.
+fn course_of(rect: &Rect, lines: &[Line]) -> Option<Course>
+    requires { All (λ l. AreInLimit l.edge.p l.edge.q) lines.now }
+{
+    let (mut course, mut other) = (Course::Columns, Course::Rows);
+    if !lines.is_empty() && is_steep(&lines[lines.len() / 2]) {
+        (course, other) = (other, course);
+    }
+    if most_run_through(course, x_of(course, rect.lo), x_of(course, rect.hi), lines) {
+        return Some(course);
+    }
+    if most_run_through(other, x_of(other, rect.lo), x_of(other, rect.hi), lines) {
+        return Some(other);
+    }
+    None
 }
 
 /// The pixels of a rectangle that are hot for its lines, where nearly all run side by side and these pixels are few. It may answer
@@ -254,8 +299,8 @@ pub fn hot_beside<A: Allocator + Copy>(
     requires lines_in { All (λ l. AreInLimit l.edge.p l.edge.q) lines.now }
     ensures { IfOk result (λ o. IfSome o (λ v. HasHot rect.now (edges_of lines.now) [] v.items)) }
 {
-    if let Some(found) = hot_along(alloc, Course::Columns, rect, lines)? {
-        return Ok(Some(found));
+    match course_of(rect, lines) {
+        None => Ok(None),
+        Some(course) => hot_along(alloc, course, rect, lines),
     }
-    hot_along(alloc, Course::Rows, rect, lines)
 }

@@ -3,7 +3,7 @@
 //!
 //! 1. The rectangle is cut by columns or by rows (`halving`). Of a sample of its lines, those are long that go far through it and
 //!    into both halves.
-//! 2. Where many of the sample are long, a wall is set beside the middle one of them, in its direction.
+//! 2. Where many of the sample are long, a wall is set beside the middle one of them, in its direction: on its left, or on its right.
 //! 3. The wall stands if few lines may meet pixels on both its sides, and many on each side alone. Else the halves stay.
 
 ghost use Rattle.std.specs.Prelude.{◌<◌, ◌≤◌, All, IfOk, IfSome, length};
@@ -13,6 +13,7 @@ ghost use Rattle.hot_pixel.specs.Walls.{ArePartition, IsInside};
 
 use crate::halving::{SAMPLE, cut, passes};
 use crate::lines::Line;
+use crate::reach::may_come_behind;
 use crate::region::{Region, walls_at};
 use crate::wall::{Wall, offset, span};
 use geom::{Edge, NoMemory, Rect, Vector};
@@ -107,29 +108,49 @@ fn middle_of(run: Vector, lines: &[Edge]) -> usize
     middle
 }
 
-/// The walls beside the middle one of some lines, in the direction of one of them.
-fn walls_beside(lines: &[Edge]) -> (Wall, Wall)
+/// The direction of a line, or the opposite one.
+fn direction_of(line: &Edge, is_opposite: bool) -> Vector
+    requires { AreInLimit line.now.p line.now.q }
+{
+    if is_opposite {
+        line.q.vector_to(line.p)
+    } else {
+        line.p.vector_to(line.q)
+    }
+}
+
+/// The walls beside the middle one of some lines, in the direction of one of them or the opposite one: on its left or its right.
+fn walls_beside(lines: &[Edge], is_opposite: bool) -> (Wall, Wall)
     requires some { 0 < length lines.now }
     requires lines_in { All (λ e. AreInLimit e.p e.q) lines.now }
     ensures { ArePartition result.0 result.1 }
 {
     let line = lines[lines.len() / 2];
-    let run = line.p.vector_to(line.q);
+    let run = direction_of(&line, is_opposite);
     let middle = lines[middle_of(run, lines)];
     walls_at(run, offset(run, middle.p) + span(run) + 1)
 }
 
-/// Whether walls part lines: few may meet pixels behind both, and many behind each alone.
-fn part_lines(walls: &(Wall, Wall), lines: &[Line]) -> bool
-    requires { All (λ l. AreInLimit l.edge.p l.edge.q) lines.now }
+/// Whether a line may meet a pixel of a rectangle behind a wall.
+fn comes_behind(wall: &Wall, rect: &Rect, line: &Edge) -> bool
+    requires rect_in { AreInLimit rect.now.lo rect.now.hi }
+    requires line_in { AreInLimit line.now.p line.now.q }
+{
+    wall.is_reached_by(line) && may_come_behind(wall, rect, line)
+}
+
+/// Whether walls part the lines of a rectangle: few may meet pixels behind both, and many behind each alone.
+fn part_lines(rect: &Rect, walls: &(Wall, Wall), lines: &[Line]) -> bool
+    requires rect_in { AreInLimit rect.now.lo rect.now.hi }
+    requires lines_in { All (λ l. AreInLimit l.edge.p l.edge.q) lines.now }
 {
     let share = lines.len() / SHARE;
     let mut first = 0;
     let mut second = 0;
     let mut both = 0;
     for line in lines {
-        let is_first = walls.0.is_reached_by(&line.edge);
-        if is_first && walls.1.is_reached_by(&line.edge) {
+        let is_first = comes_behind(&walls.0, rect, &line.edge);
+        if is_first && comes_behind(&walls.1, rect, &line.edge) {
             both += 1;
         } else if is_first {
             first += 1;
@@ -150,17 +171,23 @@ fn slanted<A: Allocator>(
     halves: &(Rect, Rect),
     lines: &[Line],
 ) -> Result<Option<(Wall, Wall)>, NoMemory>
+    requires rect_in { AreInLimit rect.now.lo rect.now.hi }
     requires first_in { AreInLimit halves.now.0.lo halves.now.0.hi }
     requires second_in { AreInLimit halves.now.1.lo halves.now.1.hi }
     requires lines_in { All (λ l. AreInLimit l.edge.p l.edge.q) lines.now }
     ensures { IfOk result (λ o. IfSome o (λ w. ArePartition w.0 w.1)) }
 {
     let long = long_lines(alloc, rect, halves, lines)?;
-    if long.len() >= LONG {
-        let walls = walls_beside(&long);
-        if part_lines(&walls, lines) {
-            return Ok(Some(walls));
-        }
+    if long.len() < LONG {
+        return Ok(None);
+    }
+    let walls = walls_beside(&long, false);
+    if part_lines(rect, &walls, lines) {
+        return Ok(Some(walls));
+    }
+    let walls = walls_beside(&long, true);
+    if part_lines(rect, &walls, lines) {
+        return Ok(Some(walls));
     }
     Ok(None)
 }

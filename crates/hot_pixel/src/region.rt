@@ -14,6 +14,7 @@ ghost use Rattle.hot_pixel.specs.Walls.{AreKept, ArePartition, IsBehind, IsBehin
 
 use crate::halving::{passes, passing};
 use crate::lines::Line;
+use crate::reach::may_come_behind;
 use crate::wall::{Wall, leftmost, offset, span};
 use geom::{Edge, NoMemory, Pt, Rect, Vector};
 use std::alloc::Allocator;
@@ -129,7 +130,7 @@ fn may_meet_behind(rect: &Rect, wall: &Wall, line: &Edge) -> bool
     requires line_in { AreInLimit line.now.p line.now.q }
     ensures { (c : Pt) → IsIn rect.now c × IsBehind wall.now c → IsMetOn line.now c → IsTrue result }
 {
-    wall.is_reached_by(line) && passes(rect, line)
+    wall.is_reached_by(line) && passes(rect, line) && may_come_behind(wall, rect, line)
 }
 
 /// The lines that may meet a pixel of a rectangle behind a wall.

@@ -37,7 +37,7 @@ pub(crate) fn span(v: Vector) -> i64
 }
 
 /// The number from low to high whose product with a factor is the greatest.
-fn greatest_times(factor: i64, low: i32, high: i32) -> i32
+pub(crate) fn greatest_times(factor: i64, low: i32, high: i32) -> i32
     requires { low ≤ℤ high }
     ensures from { low ≤ℤ result }
     ensures to { result ≤ℤ high }

@@ -8,6 +8,7 @@ use Rattle.std.proofs.lemmas.List.Kept.{Contains-from_dedup}
 use Rattle.std.proofs.lemmas.List.Elements.{All-contains, Contains-push, Contains-push_cases, Contains-get_or}
 use Rattle.std.proofs.lemmas.List.Sorted.{Contains-permutation, IsPermutation-sym}
 use Rattle.geom.specs.declared.point.Pt.{Pt}
+use Rattle.geom.specs.declared.segment.Seg.{Seg}
 use Rattle.geom.specs.declared.edge.Edge.{Edge}
 use Rattle.geom.specs.Limit.{AreInLimit, InLimit}
 use Rattle.geom.specs.OnSegment.{IsOn}
@@ -17,6 +18,7 @@ use Rattle.hot_pixel.proofs.ListLaws.{none_in, in_push, in_take_more}
 use Rattle.routing.specs.declared.by_line.OnLine.{OnLine}
 use Rattle.routing.specs.declared.cutting.Mark.{Mark}
 use Rattle.routing.specs.Cutting.{AddsPortions, AreAmong, AreCut, AreMarks, IsCutFrom, IsCutPoint, IsEndIn, IsPortion, IsPortionAt, LiesBetween}
+use Rattle.routing.specs.Recording.{IsTable}
 use Rattle.routing.specs.Cutting.IsCutPoint.{start, end, mark}
 use Rattle.routing.proofs.PortionLaws.{first_portion, itself, last_portion, on_either, portion_of_portion}
 
@@ -174,6 +176,13 @@ cut_itself table = record {
   all = λ x z h on. (x, h, refl, on);
   first = λ x h. (x, h, refl);
   last = λ x h. (x, h, refl);
+}
+
+-- the table of segments in another order
+pub table_sorted : (segments : List Seg) (numbers : List ℕ) (table sorted : List OnLine) → IsPermutation table sorted → IsTable segments numbers table → IsTable segments numbers sorted
+table_sorted segments numbers table sorted moved h = record {
+  only = λ x k. h.only x (Contains-permutation sorted table x (IsPermutation-sym table sorted moved) k);
+  all = λ k listed. let r = h.all k listed in (r.0, Contains-permutation table sorted r.0 moved r.1, r.2);
 }
 
 pub cut_sorted : (table portions sorted : List OnLine) → IsPermutation portions sorted → AreCut table table portions → AreCut table table sorted

@@ -28,7 +28,7 @@ record_equivalence = and_equiv (on_equiv (λ (r : Record). r.segment) nat_eq_equ
 record_ties : (r q : Record) → record_eq r q ≡ eq_by_cmp record_cmp r q
 record_ties = search (comparing, rules)
 
-same_record : (r q : Record) → record_eq r q ≡ true → r ≡ q
+pub same_record : (r q : Record) → record_eq r q ≡ true → r ≡ q
 same_record r q h =
     let e = and_both _ _ h in
     let f = and_both _ _ e.1 in

@@ -39,7 +39,7 @@ use Rattle.routing.specs.Found.{IsRecordOf, HasRecords}
 use Rattle.routing.specs.Pieces.{candidates_of}
 use Rattle.routing.specs.Steps.{steps_to}
 use Rattle.routing.specs.Cutting.{IsEndIn, IsPortion}
-use Rattle.routing.specs.Recording.{IsCutTable, IsTable, AreLinesOf, IsCopy, IsRecordAlong, IsRecordOnOne, AddsAt, AddsAlong, AddsRecordsAt, AddsRecordsInside}
+use Rattle.routing.specs.Recording.{IsCutTable, IsTable, AreLinesOf, IsCopy, IsRecordAt, IsRecordAlong, IsRecordOnOne, AddsAt, AddsAlong, AddsRecordsAt, AddsRecordsInside}
 use Rattle.routing.proofs.PieceLaws.{in_candidates}
 
 -- ---- the segments on one line, at one pixel
@@ -50,17 +50,17 @@ wider : (segments : List Seg) (table : List OnLine) (first past more : ℕ) (r :
 wider segments table first past more r l k = record { place = k.place; from = k.from; to = (let a = k.to in omega arith); x = k.x; entry = k.entry; s = k.s; is_at = k.is_at; numbered = k.numbered; steps_are = k.steps_are }
 
 -- one more place
-pub at_more : (segments : List Seg) (table : List OnLine) (first place : ℕ) (pixel : Pt) (old list : List Record) (x : OnLine) (s : Seg) (y : Record) → first ≤ place → slice_get table place ≡ Some x → slice_get segments x.number ≡ Some s
-    → y.segment ≡ x.number → y.steps ≡ steps_to s pixel → y.pixel ≡ pixel → AddsAt segments table first place pixel old list → AddsAt segments table first (place + 1) pixel old (list ++ y ∷ [])
-at_more segments table first place pixel old list x s y l at is e f g h = record { same = λ r. (to r, from r) }
+pub at_more : (segments : List Seg) (table : List OnLine) (first place : ℕ) (pixel : Pt) (old list : List Record) (x : OnLine) (y : Record) → first ≤ place → slice_get table place ≡ Some x → IsRecordAt segments x.number pixel y
+    → AddsAt segments table first place pixel old list → AddsAt segments table first (place + 1) pixel old (list ++ y ∷ [])
+at_more segments table first place pixel old list x y l at is h = record { same = λ r. (to r, from r) }
   where
     own : IsCopy segments table first (place + 1) y
-    own = record { place = place; from = l; to = omega arith; x = x; entry = at; s = s; is_at = is; numbered = e; steps_are = f ∙ ap (steps_to s) (sym g) }
+    own = record { place = place; from = l; to = omega arith; x = x; entry = at; s = is.s; is_at = is.is_at; numbered = is.numbered; steps_are = is.steps_are ∙ ap (steps_to is.s) (sym is.pixel_is) }
 
     to : (r : Record) → Contains (list ++ y ∷ []) r → Contains old r ⊎ (IsCopy segments table first (place + 1) r × (pixel ≡ r.pixel))
     to r k = ⊎_elim
         (λ m. ⊎_elim (λ n. inl n) (λ n. inr (wider segments table first place (place + 1) r (omega arith) n.0, n.1)) ((h.same r).0 m))
-        (λ m. inr (subst (λ (z : Record). IsCopy segments table first (place + 1) z) m own, sym g ∙ ap (λ (z : Record). z.pixel) m))
+        (λ m. inr (subst (λ (z : Record). IsCopy segments table first (place + 1) z) m own, sym is.pixel_is ∙ ap (λ (z : Record). z.pixel) m))
         (Contains-push_cases list y r k)
 
     from : (r : Record) → Contains old r ⊎ (IsCopy segments table first (place + 1) r × (pixel ≡ r.pixel)) → Contains (list ++ y ∷ []) r
@@ -70,13 +70,25 @@ at_more segments table first place pixel old list x s y l at is e f g h = record
         (λ m.
         let q : k.place ≡ place = (let a = k.to in omega arith) in
         let u : x ≡ k.x = some_same at (ap (slice_get table) (sym q) ∙ k.entry) in
-        let v : s ≡ k.s = some_same is (ap (λ (z : OnLine). slice_get segments z.number) u ∙ k.is_at) in
-        let a : y.segment ≡ r.segment = e ∙ ap (λ (z : OnLine). z.number) u ∙ sym k.numbered in
-        let b : y.pixel ≡ r.pixel = g ∙ p in
-        let d : y.steps ≡ r.steps = f ∙ ap (steps_to s) p ∙ ap (λ (t : Seg). steps_to t r.pixel) v ∙ sym k.steps_are in
+        let v : is.s ≡ k.s = some_same is.is_at (ap (λ (z : OnLine). slice_get segments z.number) u ∙ k.is_at) in
+        let a : y.segment ≡ r.segment = is.numbered ∙ ap (λ (z : OnLine). z.number) u ∙ sym k.numbered in
+        let b : y.pixel ≡ r.pixel = is.pixel_is ∙ p in
+        let d : y.steps ≡ r.steps = is.steps_are ∙ ap (steps_to is.s) p ∙ ap (λ (t : Seg). steps_to t r.pixel) v ∙ sym k.steps_are in
         let whole : y ≡ r = λ j. record { segment = a j; steps = d j; pixel = b j } in
         subst (λ (z : Record). Contains (list ++ y ∷ []) z) whole (Contains-push list y))
         (cases_lt k.place place)
+
+-- one more place, whose record is listed already
+pub at_known : (segments : List Seg) (table : List OnLine) (first place : ℕ) (pixel : Pt) (old list : List Record) (x : OnLine) (y : Record) → first ≤ place → slice_get table place ≡ Some x → IsRecordAt segments x.number pixel y
+    → Contains list y → AddsAt segments table first place pixel old list → AddsAt segments table first (place + 1) pixel old list
+at_known segments table first place pixel old list x y l at is k h =
+    let pushed = at_more segments table first place pixel old list x y l at is h in
+    record {
+      same = λ r. (
+        (λ m. (pushed.same r).0 (in_push list r y m)),
+        (λ m. ⊎_elim (λ n. n) (λ n. subst (λ (z : Record). Contains list z) n k) (Contains-push_cases list y r ((pushed.same r).1 m))),
+      );
+    }
 
 -- no place is left
 pub at_all : (segments : List Seg) (table : List OnLine) (first place past : ℕ) (pixel : Pt) (old new : List Record) → place ≡ past → AddsAt segments table first place pixel old new → AddsAt segments table first past pixel old new

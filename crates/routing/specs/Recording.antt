@@ -32,6 +32,14 @@ pub record AreLinesOf (table : List OnLine) (lines : List Line) : Type 0 where
 
 -- ---- records
 
+-- r tells the pixel, and the steps to it of the segment of this number
+pub record IsRecordAt (segments : List Seg) (number : ℕ) (pixel : Pt) (r : Record) : Type 0 where
+  pub s : Seg
+  pub is_at : slice_get segments number ≡ Some s
+  pub numbered : r.segment ≡ number
+  pub steps_are : r.steps ≡ steps_to s pixel
+  pub pixel_is : r.pixel ≡ pixel
+
 -- r is of one of the segments that stand from the first place on, before the past one, and has the steps to its pixel
 pub record IsCopy (segments : List Seg) (table : List OnLine) (first past : ℕ) (r : Record) : Type 0 where
   pub place : ℕ

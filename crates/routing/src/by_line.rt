@@ -1,12 +1,15 @@
-//! Segments by their lines: those with the same ends stand together, whatever their direction and layer. Many are cut where they
-//! overlap on one carrier; then their portions stand so.
+//! Segments by their lines: those with the same ends stand together, whatever their direction and layer.
+//!
+//! 1. The segments are brought in order by their ends (`in_order`).
+//! 2. Many are cut where they overlap on one carrier, and their portions are brought in order likewise (`portions_of`).
 
 ghost use Rattle.std.specs.Prelude.{ℕ, ◌≡◌, ◌+◌, ◌<◌, ◌≤◌, All, IfOk, Some, length, slice_get};
+ghost use Rattle.std.specs.List.Sorted.{IsPermutation};
 ghost use Rattle.geom.specs.Limit.{AreInLimit};
 ghost use Rattle.routing.specs.Cutting.{AreCut};
 ghost use Rattle.routing.specs.Recording.{IsCutTable, IsTable, AreLinesOf};
 
-use crate::cutting::cut_apart;
+use crate::cutting::{cut_at, marks_between};
 use geom::{Edge, NoMemory, Rect, Seg};
 use hot_pixel::{Line, edge_of};
 use std::alloc::Allocator;
@@ -50,9 +53,22 @@ fn portions_of<A: Allocator + Copy>(
     ensures { IfOk result (λ v. AreCut table.items table.items v.items) }
 {
     if table.len() > MANY {
-        return cut_apart(alloc, tile, &table);
+        let marks = marks_between(alloc, tile, &table)?;
+        if !marks.is_empty() {
+            return cut_at(alloc, &table, &marks);
+        }
     }
     Ok(table)
+}
+
+/// The same entries by their edges.
+fn in_order<A: Allocator + Copy>(table: Vec<OnLine, A>) -> Vec<OnLine, A>
+    ensures { IsPermutation table.items result.items }
+{
+    if table.is_sorted() {
+        return table;
+    }
+    range_sort::sorted(table, |entry: &OnLine| i64::from(entry.edge.p.x))
 }
 
 /// The segments of these numbers by their lines, or their portions, whose cuts lie in a tile or next to it.
@@ -66,10 +82,10 @@ pub(crate) fn by_line<A: Allocator + Copy>(
     requires below { All (λ k. k < length segments.now) numbers.now }
     ensures { IfOk result (λ v. IsCutTable segments.now numbers.now v.items) }
 {
-    let whole = each_on_line(alloc, segments, numbers)?;
-    let mut table = portions_of(alloc, tile, whole)?;
-    table.sort_unstable();
-    Ok(table)
+    let entries = each_on_line(alloc, segments, numbers)?;
+    let whole = in_order(entries);
+    let table = portions_of(alloc, tile, whole)?;
+    Ok(in_order(table))
 }
 
 /// The place after the last of the segments from a place on that have the same ends as the one there.

@@ -1,15 +1,16 @@
 //! Segments cut where others of their carrier end on them. The carrier of a segment is the line through it.
 //!
-//! 1. The ends of all segments are marks. They are sorted by the carriers, and along these.
-//! 2. Where the gap between two neighbours may pass the tile, both are kept.
+//! 1. The ends of all lines are marks. They are sorted by the carriers, and along these (`marks_of`).
+//! 2. A mark between two others of its carrier is kept where the gap before or behind it may pass the tile (`near`).
 //! 3. Each segment is cut at those that are kept and lie on it, between its ends. So of one carrier no two portions pass the tile
 //!    that aren't equal or share an end alone.
 
-ghost use Rattle.std.specs.Prelude.{◌≡◌, ◌+◌, ◌<◌, All, Contains, IfOk, IsTrue, OnOk, length, pos};
+ghost use Rattle.std.specs.Prelude.{◌≡◌, ◌+◌, ◌<◌, All, Contains, IfOk, IsTrue, List, OnOk, length, pos};
 ghost use Rattle.geom.specs.Determinant.{side};
 ghost use Rattle.geom.specs.Limit.{AreInLimit, InLimit};
 ghost use Rattle.geom.specs.Order.{IsBefore};
 ghost use Rattle.routing.specs.Cutting.{AddsPortions, AreAmong, AreCut, AreMarks, LiesBetween};
+ghost use Rattle.routing.specs.declared.by_line.OnLine.{OnLine};
 
 use crate::by_line::OnLine;
 use geom::{Edge, NoMemory, Pt, Rect};
@@ -18,17 +19,17 @@ use std::alloc::Allocator;
 /// A carrier: its direction in lowest terms, whether that goes down, and the determinant of it with the vector to a point from the
 /// origin, which is the same for all points, with whether that is below 0.
 #[derive(Clone, Copy, Debug, PartialEq, Eq, PartialOrd, Ord)]
-struct Carrier {
-    goes_down: bool,
+pub(crate) struct Carrier {
     run: u64,
     rise: u64,
+    goes_down: bool,
     is_below: bool,
     side: u64,
 }
 
 /// An end of a segment, on its carrier.
 #[derive(Clone, Copy, Debug, PartialEq, Eq, PartialOrd, Ord)]
-struct Mark {
+pub(crate) struct Mark {
     carrier: Carrier,
     point: Pt,
 }
@@ -57,32 +58,55 @@ fn carrier_of(edge: &Edge) -> Carrier
     let (run, rise) = (along.dx.unsigned_abs(), along.dy.unsigned_abs());
     let divisor = common_divisor(run, rise);
     Carrier {
-        goes_down: along.dy < 0,
         run: run / divisor,
         rise: rise / divisor,
+        goes_down: along.dy < 0,
         is_below: side < 0,
         side: side.unsigned_abs() / divisor,
     }
 }
 
-/// The ends of the edges of a table, by their carriers and along these.
-fn marks_of<A: Allocator>(alloc: A, table: &[OnLine]) -> Result<Vec<Mark, A>, NoMemory>
+/// By what a mark stands first.
+fn run_of(mark: &Mark) -> i64 {
+    i64::try_from(mark.carrier.run).unwrap_or(i64::MAX)
+}
+
+/// Adds both ends of an edge.
+fn push_ends<A: Allocator>(marks: &mut Vec<Mark, A>, edge: &Edge) -> Result<(), NoMemory>
+    requires { AreInLimit edge.now.p edge.now.q }
+    ensures { OnOk result ((table : List OnLine) (x : OnLine) → Contains table x → x.edge ≡ edge.now → AreMarks table marks.old.items → AreMarks table marks.new.items) }
+{
+    let carrier = carrier_of(edge);
+    marks.push(Mark {
+        carrier,
+        point: edge.p,
+    })?;
+    marks.push(Mark {
+        carrier,
+        point: edge.q,
+    })?;
+    Ok(())
+}
+
+/// Whether the entry at a place has the edge of the one before it.
+fn is_again(table: &[OnLine], place: usize) -> bool
+    requires { place < length table.now }
+{
+    place > 0 && table[place - 1].edge == table[place].edge
+}
+
+/// The ends of the edges of a table, where equal ones stand together, by their carriers and along these.
+fn marks_of<A: Allocator + Copy>(alloc: A, table: &[OnLine]) -> Result<Vec<Mark, A>, NoMemory>
     requires { All (λ x. AreInLimit x.edge.p x.edge.q) table.now }
     ensures { IfOk result (λ v. AreMarks table.now v.items) }
 {
     let mut marks = Vec::new(alloc);
-    for whole in table {
-        let carrier = carrier_of(&whole.edge);
-        marks.push(Mark {
-            carrier,
-            point: whole.edge.p,
-        })?;
-        marks.push(Mark {
-            carrier,
-            point: whole.edge.q,
-        })?;
+    for place in 0..table.len() {
+        if !is_again(table, place) {
+            push_ends(&mut marks, &table[place].edge)?;
+        }
     }
-    marks.sort_unstable();
+    let mut marks = range_sort::sorted(marks, run_of);
     marks.dedup();
     Ok(marks)
 }
@@ -100,16 +124,20 @@ fn mark_at(marks: &[Mark], place: usize) -> Mark
     marks[place]
 }
 
-/// Whether the gap before or behind a mark may pass a tile.
+/// Whether a mark lies between two others of its carrier, and the gap before or behind it may pass a tile.
 fn is_near(tile: &Rect, marks: &[Mark], place: usize) -> bool
     requires { place < length marks.now }
 {
-    let mark = &marks[place];
-    place > 0 && passes(tile, &marks[place - 1], mark)
-        || place + 1 < marks.len() && passes(tile, mark, &marks[place + 1])
+    if place == 0 || place + 1 == marks.len() {
+        return false;
+    }
+    let (before, mark, behind) = (&marks[place - 1], &marks[place], &marks[place + 1]);
+    before.carrier == mark.carrier
+        && mark.carrier == behind.carrier
+        && (passes(tile, before, mark) || passes(tile, mark, behind))
 }
 
-/// The marks next to gaps that may pass a tile, in their order.
+/// The marks between others, next to gaps that may pass a tile, in their order.
 fn near<A: Allocator>(alloc: A, tile: &Rect, marks: &[Mark]) -> Result<Vec<Mark, A>, NoMemory>
     ensures { IfOk result (λ v. AreAmong marks.now v.items) }
 {
@@ -200,7 +228,7 @@ fn add_portions<A: Allocator>(
 }
 
 /// The portions of the edges of a table, cut at some of their ends.
-fn cut_at<A: Allocator>(
+pub(crate) fn cut_at<A: Allocator>(
     alloc: A,
     table: &[OnLine],
     marks: &[Mark],
@@ -216,16 +244,16 @@ fn cut_at<A: Allocator>(
     Ok(portions)
 }
 
-/// The portions of the edges of a table, cut where ends of others lie on them in a tile or next to it.
-pub(crate) fn cut_apart<A: Allocator + Copy>(
+/// The ends of edges of a table at which others may have to be cut, in a tile or next to it.
+pub(crate) fn marks_between<A: Allocator + Copy>(
     alloc: A,
     tile: &Rect,
     table: &[OnLine],
-) -> Result<Vec<OnLine, A>, NoMemory>
+) -> Result<Vec<Mark, A>, NoMemory>
     requires { All (λ x. AreInLimit x.edge.p x.edge.q) table.now }
-    ensures { IfOk result (λ v. AreCut table.now table.now v.items) }
+    ensures { IfOk result (λ v. AreMarks table.now v.items) }
 {
     let ends = marks_of(alloc, table)?;
     let marks = near(alloc, tile, &ends)?;
-    cut_at(alloc, table, &marks)
+    Ok(marks)
 }

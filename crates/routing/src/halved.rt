@@ -1,11 +1,11 @@
 //! The hot pixels of a tile with the records of the segments that meet them, found in ever smaller halves of it.
 //!
 //! 1. Where segments are many they are cut into portions, of which no two overlap on one carrier (`by_line`). These are the lines.
-//! 2. A region, at first the tile, with many lines that run side by side in its rectangle is left: it has no hot pixel.
-//! 3. Where nearly all of many do, the others are crossed with all lines, unless more than some pixels are found so.
-//! 4. Another one with many lines is parted (`hot_pixel: parts`), and each part is left with the lines that may meet its pixels.
-//! 5. Where few are left, or one pixel, all pairs are crossed; in a pixel with many lines those of one line of each carrier.
-//! 6. Each line is tested against each hot pixel that was found there. Where it meets one, each segment on the line has a
+//! 2. A region, at first the tile, with many lines that run side by side in its rectangle is left: it has no hot pixel. Where nearly
+//!    all do, the others are crossed with all lines, unless more than some pixels are found so (`hot_pixel: hot_beside`).
+//! 3. Another one with many lines is parted (`hot_pixel: parts`), and each part is left with the lines that may meet its pixels.
+//! 4. Where few are left, or one pixel, all pairs are crossed; in a pixel with many lines those of one line of each carrier.
+//! 5. Each line is tested against each hot pixel that was found there. Where it meets one, each segment on the line has a
 //!    record.
 
 ghost use Rattle.std.specs.Prelude.{◌<◌, ◌≤◌, All, IfOk, IfSome, List, OnOk, [], length};
@@ -23,11 +23,11 @@ ghost use Rattle.routing.specs.Recording.{AddsAt, AddsAlong, AddsRecordsAt, Adds
 use crate::by_line::{OnLine, by_line, lines_of};
 use crate::met::meets;
 use crate::pieces::Part;
-use crate::record::{Record, steps_to};
+use crate::piled::{add_new_at, is_pile};
+use crate::record::{Record, record_at};
 use geom::{NoMemory, Pt, Rect, Seg};
 use hot_pixel::{
-    FEW, Line, Region, add_hot, ascending, hot_beside, is_bundle, kept, on_line, parts, reaching,
-    within_limit,
+    FEW, Line, Region, add_hot, ascending, hot_beside, kept, on_line, parts, reaching, within_limit,
 };
 use std::alloc::Allocator;
 
@@ -51,15 +51,30 @@ fn add_at<A: Allocator>(
     ensures { OnOk result (AddsAt segments.now table.now line.now.first line.now.past pixel records.old.items records.new.items) }
 {
     for place in line.first..line.past {
-        let number = table[place].number;
-        let steps = steps_to(&segments[number as usize], pixel);
-        records.push(Record {
-            segment: number,
-            steps,
-            pixel,
-        })?;
+        records.push(record_at(segments, table[place].number, pixel))?;
     }
     Ok(())
+}
+
+/// The same; of a pile those that aren't told yet.
+fn add_met<A: Allocator>(
+    records: &mut Vec<Record, A>,
+    segments: &[Seg],
+    table: &[OnLine],
+    line: &Line,
+    pixel: Pt,
+) -> Result<(), NoMemory>
+    requires segments_in { All (λ s. AreInLimit s.a s.b) segments.now }
+    requires table_in { All (λ x. x.number < length segments.now) table.now }
+    requires line_in { line.now.past ≤ length table.now }
+    requires pixel_in { InLimit pixel }
+    ensures { OnOk result (AddsAt segments.now table.now line.now.first line.now.past pixel records.old.items records.new.items) }
+{
+    if is_pile(line) {
+        add_new_at(records, segments, table, line, pixel)
+    } else {
+        add_at(records, segments, table, line, pixel)
+    }
 }
 
 /// Adds the records of the segments on a line at those of the pixels that it meets.
@@ -80,7 +95,7 @@ fn add_along<A: Allocator>(
     let s = on_line(&line.edge);
     for pixel in pixels {
         if meets(&s, *pixel) {
-            add_at(records, segments, table, line, *pixel)?;
+            add_met(records, segments, table, line, *pixel)?;
         }
     }
     Ok(())
@@ -179,9 +194,8 @@ fn left_of<'a, A: Allocator>(lines: &'a [Line], fewer: &'a Option<Vec<Line, A>>)
     }
 }
 
-/// Adds the pixels of a region that are hot for its lines, and the records there. Where the lines are many it has none if they run
-/// side by side. If nearly all do, the others are crossed with all; else it is parted, and each part is left with those that may
-/// meet its pixels.
+/// Adds the pixels of a region that are hot for its lines, and the records there. Where many lines run side by side, or nearly all
+/// do, these are found at once; else it is parted, and each part is left with those that may meet its pixels.
 fn halve<A: Allocator + Copy>(
     alloc: A,
     segments: &[Seg],
@@ -203,9 +217,6 @@ fn halve<A: Allocator + Copy>(
         return add_all(alloc, segments, table, region, lines, found);
     }
     if region.is_empty() {
-        return Ok(());
-    }
-    if is_bundle(alloc, &region.rect, lines)? {
         return Ok(());
     }
     if let Some(here) = hot_beside(alloc, &region.rect, lines)? {

@@ -13,6 +13,7 @@ mod finding;
 mod halved;
 mod met;
 mod pieces;
+mod piled;
 mod record;
 
 pub use finding::{part, piece};

@@ -1,7 +1,8 @@
 //! Records of routes, and the candidates that they are found among.
 
-ghost use Rattle.std.specs.Prelude.{◌≡◌};
+ghost use Rattle.std.specs.Prelude.{◌≡◌, ◌<◌, All, length};
 ghost use Rattle.geom.specs.Limit.{AreInLimit, InLimit};
+ghost use Rattle.routing.specs.Recording.{IsRecordAt};
 ghost use Rattle.routing.specs.Steps.{steps_to};
 
 use geom::{Pt, Seg};
@@ -29,4 +30,19 @@ pub(crate) fn steps_to(s: &Seg, pixel: Pt) -> u32
     ensures { result ≡ steps_to s.now pixel }
 {
     pixel.x.abs_diff(s.a.x) + pixel.y.abs_diff(s.a.y)
+}
+
+/// The record of the segment of a number at a pixel.
+pub(crate) fn record_at(segments: &[Seg], number: u32, pixel: Pt) -> Record
+    requires segments_in { All (λ s. AreInLimit s.a s.b) segments.now }
+    requires number_in { number < length segments.now }
+    requires pixel_in { InLimit pixel }
+    ensures { IsRecordAt segments.now number pixel result }
+{
+    let steps = steps_to(&segments[number as usize], pixel);
+    Record {
+        segment: number,
+        steps,
+        pixel,
+    }
 }

@@ -1,9 +1,13 @@
-use Rattle.routing.proofs.CuttingLaws.{cut_sorted}
+use Rattle.routing.proofs.CuttingLaws.{cut_sorted, table_sorted}
 use Rattle.routing.proofs.RecordingLaws.{table_limit}
 use Rattle.routing.proofs.by_line.by_line.Goals as goal
 
 pub portions_of-requires : goal.portions_of-requires
-portions_of-requires g c = table_limit c.args.segments.now c.args.numbers.now c.in_ok-whole.whole.items c.requires.limits c.in_ok-whole.ensures
+portions_of-requires g c =
+    let table = table_sorted c.args.segments.now c.args.numbers.now c.in_ok-entries.entries.items c.in_order-whole.result.items c.in_order-whole.ensures c.in_ok-entries.ensures in
+    table_limit c.args.segments.now c.args.numbers.now c.in_order-whole.result.items c.requires.limits table
 
 pub returns : goal.returns
-returns g c = record { whole = c.in_ok-whole.whole.items; is_table = c.in_ok-whole.ensures; are_cut = cut_sorted c.in_ok-whole.whole.items c.in_ok-table.table.items _ c.sort_unstable.ensures.permutation c.in_ok-table.ensures }
+returns g c =
+    let table = table_sorted c.args.segments.now c.args.numbers.now c.in_ok-entries.entries.items c.in_order-whole.result.items c.in_order-whole.ensures c.in_ok-entries.ensures in
+    record { whole = c.in_order-whole.result.items; is_table = table; are_cut = cut_sorted c.in_order-whole.result.items c.in_ok-table.table.items _ c.in_order.ensures c.in_ok-table.ensures }

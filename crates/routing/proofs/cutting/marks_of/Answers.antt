@@ -1,17 +1,19 @@
-use Rattle.std.proofs.Common.{inl, inr, refl, sym}
-use Rattle.std.specs.Prelude.{Contains}
-use Rattle.routing.proofs.CuttingLaws.{end_at, marks_none, marks_more, marks_sorted}
+use Rattle.std.proofs.Common.{ap, sym}
+use Rattle.routing.specs.declared.by_line.OnLine.{OnLine}
+use Rattle.routing.proofs.CuttingLaws.{marks_none, marks_sorted}
 use Rattle.routing.proofs.cutting.marks_of.Goals as goal
+use Rattle.routing.proofs.cutting.marks_of.Goals.{then-not-is_again+in_ok-push_ends, else-not-is_again}
 
-pub loop-whole-init : goal.loop-whole-init
-loop-whole-init g c = rw c.new-marks.ensures.items (marks_none c.args.table.now)
+pub loop-place-init : goal.loop-place-init
+loop-place-init g c = rw c.new-marks.ensures.items (marks_none c.args.table.now)
 
-pub loop-whole-preserved : goal.loop-whole-preserved
-loop-whole-preserved g c =
+pub loop-place-preserved : goal.loop-place-preserved
+loop-place-preserved g c =
     let table = c.args.table.now in
-    let listed : Contains table c.whole-item.result = (c.loop-whole.whole-index, c.loop-whole-test.true, sym c.whole-item.is) in
-    rw c.in_ok-push-2.ensures.items (marks_more table _ _ (end_at table c.whole-item.result _ listed (inr refl))
-    (rw c.in_ok-push.ensures.items (marks_more table c.loop-whole.marks.items _ (end_at table c.whole-item.result _ listed (inl refl)) c.loop-whole.invariant)))
+    elim c.if-not-is_again.branch [
+      | then-not-is_again+in_ok-push_ends w ↦ rw w.marks-is (w.in_ok-push_ends.ensures table w.index-table-place.result (c.loop-place.place, c.loop-place-test.true, sym w.index-table-place.is) (ap (λ (x : OnLine). x.edge) w.index-table-place.is) c.loop-place.invariant)
+      | else-not-is_again w ↦ rw w.marks-is c.loop-place.invariant
+    ]
 
 pub returns : goal.returns
-returns g c = marks_sorted c.args.table.now c.loop-whole.marks.items c.sort_unstable.new.self.items c.dedup.new.self.items c.sort_unstable.ensures.permutation c.dedup.ensures.filtered c.loop-whole.invariant
+returns g c = marks_sorted c.args.table.now c.loop-place.marks.items c.sorted-marks.result.items c.dedup.new.self.items c.sorted-marks.ensures.permutation c.dedup.ensures.filtered c.loop-place.invariant

@@ -4,8 +4,7 @@ use Rattle.geom.specs.Limit.{AreInLimit}
 use Rattle.hot_pixel.specs.Halving.{AreParts}
 use Rattle.hot_pixel.specs.Walls.{IsInside}
 use Rattle.hot_pixel.proofs.HalvingLaws.{part_all, parts_unite}
-use Rattle.hot_pixel.proofs.BundleLaws.{nothing_hot}
-use Rattle.routing.proofs.RecordingLaws.{nothing_recorded, records_unite}
+use Rattle.routing.proofs.RecordingLaws.{records_unite}
 use Rattle.routing.proofs.halved.+halve.Goals as goal
 
 pub halve-requires : goal.halve-requires
@@ -69,9 +68,3 @@ returns-in_ok-halve-in-Some-2-2-clause-records g t c =
     let parts = subst (λ o. IfSome o (λ h. AreParts (IsInside region.rect region.walls.items) (IsInside h.0.rect h.0.walls.items) (IsInside h.1.rect h.1.walls.items))) c.in-Some-2.is c.in_ok-parts.ensures.parts in
     records_unite c.args.segments.now c.args.table.now (IsInside region.rect region.walls.items) (IsInside first.rect first.walls.items) (IsInside second.rect second.walls.items) c.args.lines.now _ _ c.args.found.now.records.items c.halve.new.found.records.items c.halve-in-Some-2.new.found.records.items parts
     (c.left_of-left.ensures first.rect first.walls.items c.in_ok-part-in-Some-2.ensures) (c.left_of-left-in-Some-2.ensures second.rect second.walls.items c.in_ok-rest-in-Some-2.ensures) c.in_ok-halve-in-Some-2.ensures.records c.in_ok-halve-in-Some-2-2.ensures.records
-
-pub returns-then-branch-clause-pixels : goal.returns-then-branch-clause-pixels
-returns-then-branch-clause-pixels g t c = nothing_hot (IsInside c.args.region.now.rect c.args.region.now.walls.items) c.args.lines.now c.args.found.now.pixels.items (λ p inside. c.in_ok-is_bundle.ensures c.if-branch.true p inside.in_rect)
-
-pub returns-then-branch-clause-records : goal.returns-then-branch-clause-records
-returns-then-branch-clause-records g t c = nothing_recorded c.args.segments.now c.args.table.now (IsInside c.args.region.now.rect c.args.region.now.walls.items) c.args.lines.now c.args.found.now.records.items (λ p inside. c.in_ok-is_bundle.ensures c.if-branch.true p inside.in_rect)

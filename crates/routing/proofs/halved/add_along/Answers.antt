@@ -7,7 +7,7 @@ use Rattle.hot_pixel.proofs.HalvingLaws.{met_on}
 use Rattle.routing.specs.Recording.{AddsAlong}
 use Rattle.routing.proofs.RecordingLaws.{along_none, along_skip, along_push}
 use Rattle.routing.proofs.halved.add_along.Goals as goal
-use Rattle.routing.proofs.halved.add_along.Goals.{then-meets+in_ok-add_at, else-meets}
+use Rattle.routing.proofs.halved.add_along.Goals.{then-meets+in_ok-add_met, else-meets}
 
 pub loop-pixel-init : goal.loop-pixel-init
 loop-pixel-init g c = along_none c.args.segments.now c.args.table.now c.args.line.now c.args.records.now.items
@@ -23,8 +23,8 @@ loop-pixel-preserved g c =
     let pixel = get_or pixels i blank in
     let is = get_or_default pixels i blank pixel c.loop-pixel-test.true in
     elim c.if-meets.branch [
-      | then-meets+in_ok-add_at w ↦ rw w.records-is
-          (along_push c.args.segments.now c.args.table.now line c.args.records.now.items pixels c.loop-pixel.records.items i pixel c.loop-pixel-test.true is c.loop-pixel.invariant w.add_at.new.records.items (met_on line.edge s pixel on (c.meets.ensures.0 w.if-meets.true)) w.in_ok-add_at.ensures)
+      | then-meets+in_ok-add_met w ↦ rw w.records-is
+          (along_push c.args.segments.now c.args.table.now line c.args.records.now.items pixels c.loop-pixel.records.items i pixel c.loop-pixel-test.true is c.loop-pixel.invariant w.add_met.new.records.items (met_on line.edge s pixel on (c.meets.ensures.0 w.if-meets.true)) w.in_ok-add_met.ensures)
       | else-meets w ↦ rw w.records-is
           (along_skip c.args.segments.now c.args.table.now line c.args.records.now.items pixels c.loop-pixel.records.items i pixel c.loop-pixel-test.true is c.loop-pixel.invariant (λ h. let e = c.meets.ensures.1 (h.meets s on) in let f = w.if-meets.false in cc))
     ]

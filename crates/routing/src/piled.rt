@@ -1,0 +1,77 @@
+//! Records of a pile: of many segments on one line.
+//!
+//! 1. Where a segment is cut a portion of it ends, and the next one begins. Both meet the pixel there, and so both tell its record.
+//! 2. The records of the line before stand last. Those of a line and a pixel are looked for among them, in the order of the segments,
+//!    and only those that aren't found there are added.
+
+ghost use Rattle.std.specs.Prelude.{◌<◌, ◌≤◌, All, Contains, IsTrue, OnOk, length};
+ghost use Rattle.geom.specs.Limit.{AreInLimit, InLimit};
+ghost use Rattle.routing.specs.Recording.{AddsAt};
+
+use crate::by_line::OnLine;
+use crate::record::{Record, record_at};
+use geom::{NoMemory, Pt, Seg};
+use hot_pixel::Line;
+use std::alloc::Allocator;
+
+/// How many segments on one line are a pile.
+const PILE: usize = 8;
+
+/// Whether the segments on a line are a pile.
+pub(crate) fn is_pile(line: &Line) -> bool {
+    line.past - line.first >= PILE
+}
+
+/// Where the records at a pixel begin that stand last, of so many at most.
+fn last_at(records: &[Record], pixel: Pt, most: usize) -> usize {
+    let mut place = records.len();
+    for _step in 0..most {
+        if place == 0 || records[place - 1].pixel != pixel {
+            break;
+        }
+        place -= 1;
+    }
+    place
+}
+
+/// The next place, from one on, at which a record isn't before another one, or the end.
+fn past_lesser(records: &[Record], from: usize, wanted: &Record) -> usize {
+    let mut place = from;
+    while place < records.len() && records[place] < *wanted {
+        place += 1;
+    }
+    place
+}
+
+/// Whether a record stands at a place.
+fn stands_at(records: &[Record], place: usize, wanted: &Record) -> bool
+    ensures { IsTrue result → Contains records.now wanted.now }
+{
+    place < records.len() && records[place] == *wanted
+}
+
+/// Adds those of the records of the segments on a line at a pixel that aren't found among the last ones.
+#[inline(never)]
+pub(crate) fn add_new_at<A: Allocator>(
+    records: &mut Vec<Record, A>,
+    segments: &[Seg],
+    table: &[OnLine],
+    line: &Line,
+    pixel: Pt,
+) -> Result<(), NoMemory>
+    requires segments_in { All (λ s. AreInLimit s.a s.b) segments.now }
+    requires table_in { All (λ x. x.number < length segments.now) table.now }
+    requires line_in { line.now.past ≤ length table.now }
+    requires pixel_in { InLimit pixel }
+    ensures { OnOk result (AddsAt segments.now table.now line.now.first line.now.past pixel records.old.items records.new.items) }
+{
+    let mut told = last_at(records, pixel, (line.past - line.first).saturating_mul(2));
+    for place in line.first..line.past {
+        let record = record_at(segments, table[place].number, pixel);
+        told = past_lesser(records, told, &record);
+        if !stands_at(records, told, &record) {
+            records.push(record)?;
+        }
+    }
+    Ok(())
+}
