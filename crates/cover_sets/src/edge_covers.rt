@@ -3,7 +3,8 @@
 //! 1. Edges are taken in the order of a sweep, where the edge beside each comes before it (`SweptEdge`).
 //! 2. So the set on its left is known: that on the right of the edge beside it, or the empty one where nothing lies above (`Covers::beside`).
 //! 3. The set on its right is what lies beyond it from there, where its own features are exchanged (`Sets::beyond`).
-//! 4. Both stand at the edge's number, which is found by halves (`number_of`).
+//! 4. Both stand at the edge's number, which is guessed by the column in which the edge begins (`guess`), or else found by halves
+//!    (`number_of`).
 
 ghost use Rattle.std.specs.Prelude.{◌≡◌, ◌<◌, ◌≤◌, ℕ, true, false, List, All, AllPairs, Contains, IfOk, IfSome, OnOk, length, map};
 ghost use Rattle.std.specs.List.{HoldsAt};
@@ -19,6 +20,7 @@ use crate::tree::EMPTY;
 use cover_law::Border;
 use geom::{Edge, NoMemory};
 use label_sweep::SweptEdge;
+use range_sort::Places;
 use std::alloc::Allocator;
 
 /// The cover sets on the left and on the right of each edge, by their numbers among the sets, in the order of the edges.
@@ -29,6 +31,36 @@ pub struct Covers<A: Allocator> {
     pub right: Vec<u32, A>,
 }
 
+/// The column in which an edge begins.
+fn column_of(edge: Edge) -> i64 {
+    i64::from(edge.p.x)
+}
+
+/// Where the borders of each column stand.
+pub(crate) fn columns_of<A: Allocator + Copy>(
+    alloc: A,
+    borders: &[Border],
+) -> Result<Places<A>, NoMemory> {
+    Ok(Places::of(alloc, borders, &|border: &Border| column_of(border.edge))?)
+}
+
+/// What may be the number of an edge: one that is likely, or else what is found among those that begin in columns like its own.
+fn guess<A: Allocator + Copy>(
+    borders: &[Border],
+    columns: &Places<A>,
+    edge: Edge,
+    likely: usize,
+) -> usize {
+    if likely < borders.len() && borders[likely].edge == edge {
+        return likely;
+    }
+    let (from, to) = columns.around(column_of(edge));
+    match borders.get(from..to) {
+        Some(near) => from.wrapping_add(near.partition_point(|b| b.edge < edge)),
+        None => likely,
+    }
+}
+
 /// Whether an edge is less than another one.
 fn is_edge_before(e: Edge, f: Edge) -> bool
     ensures before { result ≡ true → IsEdgeBefore e f }
@@ -37,13 +69,19 @@ fn is_edge_before(e: Edge, f: Edge) -> bool
     e < f
 }
 
-/// The number of an edge, which may be the one that is guessed.
-fn number_of(borders: &[Border], edge: Edge, guess: usize) -> usize
+/// The number of an edge, which may be a likely one.
+fn number_of<A: Allocator + Copy>(
+    borders: &[Border],
+    columns: &Places<A>,
+    edge: Edge,
+    likely: usize,
+) -> usize
     requires ascending { AllPairs (λ b c. IsEdgeBefore b.edge c.edge) borders.now }
     requires there { Contains (map (λ b. b.edge) borders.now) edge }
     ensures within { result < length borders.now }
     ensures edge { HoldsAt (λ b. b.edge ≡ edge) borders.now result }
 {
+    let guess = guess(borders, columns, edge, likely);
     if guess < borders.len() && borders[guess].edge == edge {
         return guess;
     }
@@ -67,7 +105,13 @@ impl<A: Allocator + Copy> Covers<A> {
     }
 
     /// The set on the right of the edge beside another one.
-    fn beside(&self, borders: &[Border], beside: Option<Edge>, guess: usize) -> u32
+    fn beside(
+        &self,
+        borders: &[Border],
+        columns: &Places<A>,
+        beside: Option<Edge>,
+        likely: usize,
+    ) -> u32
         requires ascending { AllPairs (λ b c. IsEdgeBefore b.edge c.edge) borders.now }
         requires there { IfSome beside (λ f. Contains (map (λ b. b.edge) borders.now) f) }
         requires right { length self.now.right.items ≡ length borders.now }
@@ -75,7 +119,7 @@ impl<A: Allocator + Copy> Covers<A> {
             → (count : ℕ) → All (λ f. f < count) features → IsListed self.now.sets (cover_beside count (map (bordered features) borders.now) beside) result }
     {
         match beside {
-            Some(edge) => self.right[number_of(borders, edge, guess)],
+            Some(edge) => self.right[number_of(borders, columns, edge, likely)],
             None => EMPTY,
         }
     }
@@ -84,6 +128,7 @@ impl<A: Allocator + Copy> Covers<A> {
     pub(crate) fn pass(
         &mut self,
         borders: &[Border],
+        columns: &Places<A>,
         features: &[u32],
         swept: SweptEdge,
         last: usize,
@@ -104,8 +149,8 @@ impl<A: Allocator + Copy> Covers<A> {
             → IsVisited features.now (map (bordered features.now) borders.now) self.new.sets self.new.left.items self.new.right.items e) }
         ensures visited { OnOk result (IsVisited features.now (map (bordered features.now) borders.now) self.new.sets self.new.left.items self.new.right.items swept.edge) }
     {
-        let number = number_of(borders, swept.edge, last.wrapping_add(1));
-        let left = self.beside(borders, swept.beside, last);
+        let number = number_of(borders, columns, swept.edge, last.wrapping_add(1));
+        let left = self.beside(borders, columns, swept.beside, last);
         let border = borders[number];
         let right = self.sets.beyond(left, &features[border.from..border.to])?;
         self.left[number] = left;

@@ -18,7 +18,7 @@ pub fn few_of(features: &[u32]) -> u32
     ALONE + features[0]
 }
 
-/// The least number of bits, from `least` on, above which both agree.
+/// The least number of bits, from `least` on, above which both agree: those up to the highest bit in which they differ.
 pub fn common_levels(f: u32, g: u32, least: u32, most: u32) -> u32
     requires least { least ≤ most }
     requires most { most ≤ 31 }
@@ -27,7 +27,8 @@ pub fn common_levels(f: u32, g: u32, least: u32, most: u32) -> u32
     ensures most { result ≤ most }
     ensures common { f / 2 ^ result ≡ g / 2 ^ result }
 {
-    let mut levels = least;
+    let apart = u32::BITS - (f ^ g).leading_zeros();
+    let mut levels = apart.clamp(least, most);
     while f >> levels != g >> levels {
         levels += 1;
     }

@@ -19,4 +19,4 @@ mod tree;
 pub use edge_covers::Covers;
 pub use sets::Sets;
 pub use swept_covers::covers;
-pub use tree::EMPTY;
+pub use tree::{ALONE, EMPTY};

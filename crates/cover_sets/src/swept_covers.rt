@@ -5,7 +5,7 @@ ghost use Rattle.label_sweep.specs.Swept.{AreSwept};
 ghost use Rattle.cover_law.specs.Cover.{AreBorders, bordered, edges_in};
 ghost use Rattle.cover_sets.specs.Covers.{AreCovers};
 
-use crate::edge_covers::Covers;
+use crate::edge_covers::{Covers, columns_of};
 use cover_law::Border;
 use geom::NoMemory;
 use label_sweep::SweptEdge;
@@ -26,10 +26,11 @@ pub fn covers<A: Allocator + Copy>(
     requires swept { AreSwept (edges_in (map (bordered features.now) borders.now)) swept.now }
     ensures { (count : ℕ) → All (λ f. f < count) features.now → IfOk result (λ c. AreCovers count (map (bordered features.now) borders.now) c.sets c.left.items c.right.items) }
 {
+    let columns = columns_of(alloc, borders)?;
     let mut covers = Covers::new(alloc, borders.len())?;
     let mut last = 0;
     for one in swept {
-        last = covers.pass(borders, features, *one, last)?;
+        last = covers.pass(borders, &columns, features, *one, last)?;
     }
     Ok(covers)
 }

@@ -3,5 +3,5 @@ use Rattle.rows.proofs.edges.in_order.Goals as goal
 
 pub returns : goal.returns
 returns g c =
-    let once = row_edges_once c.args.list.items c.sort_unstable.new.self.items c.dedup.new.self.items c.sort_unstable.ensures.permutation c.sort_unstable.ensures.sorted c.dedup.ensures.filtered in
+    let once = row_edges_once c.args.list.items c.sorted-list.result.items c.dedup.new.self.items c.sorted-list.ensures.permutation c.sorted-list.ensures.sorted c.dedup.ensures.filtered in
     record { ascending = row_edges_ascending c.dedup.new.self.items once.ascending; same = once.same }
