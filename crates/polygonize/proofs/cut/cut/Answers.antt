@@ -24,3 +24,12 @@ loop-v-preserved g c =
 
 pub returns : goal.returns
 returns g c = rw (c.in_ok-push-3.ensures.items, c.new-2.ensures) (cutting_all c.args.ring.now c.loop-v.v-index c.loop-v.stack.items c.loop-v.place c.loop-v.pieces.items c.loop-v-test.false c.loop-v.invariant)
+
+pub place_on-requires-clause-stacked : goal.place_on-requires-clause-stacked
+place_on-requires-clause-stacked g c = rw c.deref.ensures.value c.loop-v.invariant.stacked
+
+pub place_on-requires-clause-inside : goal.place_on-requires-clause-inside
+place_on-requires-clause-inside g c = rw c.loop-v.auto.place (c.requires c.loop-v.v-index 0 c.loop-v-test.true)
+
+pub bounds-place-v : goal.bounds-place-v
+bounds-place-v g c = rw c.loop-v.auto.place (c.requires c.loop-v.v-index 0 c.loop-v-test.true)

@@ -1,5 +1,5 @@
-use Rattle.std.proofs.Common.{◌<◌, arith, length, subst, sym, List, ℕ}
-use Rattle.polygonize.specs.CutRing.{IsCycleCut}
+use Rattle.std.proofs.Common.{◌≡◌, ◌<◌, arith, length, subst, sym, List, ℕ}
+use Rattle.polygonize.specs.CutRing.{AreCyclesCut, IsCycleCut}
 use Rattle.polygonize.specs.Written.{ArePlaces}
 use Rattle.polygonize.proofs.WrittenRings.Cuts.{none_cut, one_cut}
 use Rattle.polygonize.proofs.WrittenRings.Writing.{cycle_at, of_cycle}
@@ -18,3 +18,8 @@ loop-number-preserved g c =
     let inside : c.loop-number.number < length c.args.cycles.now = omega (arith, c.loop-number-test.true, c.requires.inside) in
     rw c.in_ok-push.ensures.items (one_cut c.args.edges.now c.args.cycles.now c.args.from c.loop-number.number c.loop-number.rings.items c.in_ok-cut_ring.field-0
     (subst (λ (cycle : List ℕ). IsCycleCut c.args.edges.now cycle c.in_ok-cut_ring.field-0) (sym (cycle_at c.args.cycles.now c.loop-number.number c.index-cycles-number.result c.numbers-cycle.result.now inside c.numbers-cycle.ensures c.index-cycles-number.is)) c.in_ok-cut_ring.ensures) c.loop-number.invariant)
+
+pub returns : goal.returns
+returns g c =
+    let past : c.loop-number.number ≡ c.args.past = omega (arith, c.loop-number-test.false, c.loop-number.auto.number-end c.requires.order) in
+    subst (λ (n : ℕ). AreCyclesCut c.args.edges.now c.args.cycles.now c.args.from n c.loop-number.rings.items) past c.loop-number.invariant

@@ -1,6 +1,6 @@
 use Rattle.std.proofs.Common.{length, ap, sym, ◌∙◌}
 use Rattle.std.proofs.lemmas.List.{with_items_is}
-use Rattle.polygonize.proofs.Cycles.{one_more_found, seen_found, all_found}
+use Rattle.polygonize.proofs.Cycles.{none_found, one_more_found, seen_found, all_found}
 use Rattle.polygonize.proofs.cycle.cycles.Goals as goal
 use Rattle.polygonize.proofs.cycle.cycles.Goals.{then-not-index+in_ok-walk+in_ok-from_slice+in_ok-push, else-not-index}
 
@@ -17,3 +17,6 @@ loop-start-preserved g c = elim c.if-not-index.branch [
 
 pub returns : goal.returns
 returns g c = all_found c.args.next.now c.loop-start.seen.items c.loop-start.start c.loop-start.cycles.items c.loop-start-test.false c.loop-start.invariant
+
+pub loop-start-init : goal.loop-start-init
+loop-start-init g c = rw (c.new-cycles.ensures.items, c.in_ok-seen.ensures.items_if_clones_equal (λ y h. h)) (none_found c.args.next.now)

@@ -1,5 +1,6 @@
-use Rattle.std.proofs.Common.{◌≡◌, List, length, sym, ◌∙◌, subst, arith}
+use Rattle.std.proofs.Common.{◌≡◌, List, length, sym, ap, ◌∙◌, subst, arith}
 use Rattle.std.specs.Prelude.{All}
+use Rattle.std.proofs.lemmas.List.{length-map}
 use Rattle.std.proofs.lemmas.Result.{IfOk-weaker}
 use Rattle.geom.specs.declared.point.Pt.{Pt}
 use Rattle.geom.specs.Limit.{InLimit}
@@ -13,6 +14,30 @@ gaps_below-requires-clause-vertices_in g c =
     let holes = c.in_ok-holes.holes.items in
     let begins = rw c.deref.ensures.value at c.in_ok-vertices.ensures in
     subst (λ (vs : List Pt). All InLimit vs) (sym (c.deref-2.ensures.value ∙ begins)) (begin_in_limit c.args.edges.now c.args.cycles.now holes c.requires.edges_in c.requires.cycles (λ k d h. let i = c.in_ok-holes.ensures.inside k d h in let r = c.requires.cut.reaches in omega (arith, i, r)))
+
+pub first_vertices-requires-clause-some : goal.first_vertices-requires-clause-some
+first_vertices-requires-clause-some g c = λ k d h. (c.requires.cycles k d h).some
+
+pub first_vertices-requires-clause-edges_inside : goal.first_vertices-requires-clause-edges_inside
+first_vertices-requires-clause-edges_inside g c = λ k d h. (c.requires.cycles k d h).inside
+
+pub first_vertices-requires-clause-inside : goal.first_vertices-requires-clause-inside
+first_vertices-requires-clause-inside g c = rw c.deref.ensures.value (λ k d h. let i = c.in_ok-holes.ensures.inside k d h in let r = c.requires.cut.reaches in omega (arith, i, r))
+
+pub gaps_below-requires-clause-edges_in : goal.gaps_below-requires-clause-edges_in
+gaps_below-requires-clause-edges_in g c = c.requires.edges_in
+
+pub gaps_of_rings-requires-clause-ascend : goal.gaps_of_rings-requires-clause-ascend
+gaps_of_rings-requires-clause-ascend g c = rw c.deref-3.ensures.value c.in_ok-holes.ensures.ascend
+
+pub gaps_of_rings-requires-clause-inside : goal.gaps_of_rings-requires-clause-inside
+gaps_of_rings-requires-clause-inside g c = rw c.deref-3.ensures.value c.in_ok-holes.ensures.inside
+
+pub gaps_of_rings-requires-clause-same_length : goal.gaps_of_rings-requires-clause-same_length
+gaps_of_rings-requires-clause-same_length g c =
+    let begins = rw c.deref.ensures.value at c.in_ok-vertices.ensures in
+    let found = rw c.deref-2.ensures.value at c.in_ok-gaps.ensures in
+    rw (c.deref-3.ensures.value, c.deref-4.ensures.value) (found.same_length ∙ ap length begins ∙ length-map _ _)
 
 pub returns : goal.returns
 returns g c =

@@ -12,6 +12,23 @@ loop-ring-init g c = (
   (λ noded grounded. rw c.in_ok-written.ensures.items (nothing_filled c.args.edges.now c.args.cycles.now c.args.shell_of.now)),
 )
 
+pub bounds-cycles-number : goal.bounds-cycles-number
+bounds-cycles-number g c = cycle_inside c.args.edges.now c.args.cycles.now c.args.rings.items c.loop-ring.number c.in-Some.ring c.next.new.self.rest.items c.requires.cut (c.loop-ring.invariant.0 ∙ c.in-Some.ensures.steps.0)
+
+pub offset_bounds-cycles-number : goal.offset_bounds-cycles-number
+offset_bounds-cycles-number g c =
+    let inside = cycle_inside c.args.edges.now c.args.cycles.now c.args.rings.items c.loop-ring.number c.in-Some.ring c.next.new.self.rest.items c.requires.cut (c.loop-ring.invariant.0 ∙ c.in-Some.ensures.steps.0) in
+    omega (arith, inside)
+
+pub bounds-below-number : goal.bounds-below-number
+bounds-below-number g c =
+    let inside = cycle_inside c.args.edges.now c.args.cycles.now c.args.rings.items c.loop-ring.number c.in-Some.ring c.next.new.self.rest.items c.requires.cut (c.loop-ring.invariant.0 ∙ c.in-Some.ensures.steps.0) in
+    let l = c.requires.found.same_length in
+    omega (arith, inside, l)
+
+pub write_ring-requires-clause-shells : goal.write_ring-requires-clause-shells
+write_ring-requires-clause-shells g c = c.loop-ring.auto.shell_of ∙ c.requires.shells
+
 pub write_ring-requires-clause-cycle : goal.write_ring-requires-clause-cycle
 write_ring-requires-clause-cycle g c =
     let inside = cycle_inside c.args.edges.now c.args.cycles.now c.args.rings.items c.loop-ring.number c.in-Some.ring c.next.new.self.rest.items c.requires.cut (c.loop-ring.invariant.0 ∙ c.in-Some.ensures.steps.0) in

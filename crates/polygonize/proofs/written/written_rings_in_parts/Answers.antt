@@ -8,3 +8,30 @@ returns-clause-written g c = λ noded grounded.
     let rings = rings_of c.args.edges.now c.in_ok-cycles.cycles.items in
     IfOk-weaker c.write_cycles.result (λ found. AreWritten c.args.edges.now rings found.items) (λ found. AreAllWritten c.args.edges.now found.items) (λ found h. (rings, h))
     ((rw c.deref-5.ensures.value at c.write_cycles.ensures.written) noded (grounded rings c.in_ok-cycles.ensures.rings))
+
+pub edges_below_in_parts-requires-clause-cycles : goal.edges_below_in_parts-requires-clause-cycles
+edges_below_in_parts-requires-clause-cycles g c κs within = rw c.deref-3.ensures.value c.in_ok-cycles.ensures.places
+
+pub edges_below_in_parts-requires-clause-cut : goal.edges_below_in_parts-requires-clause-cut
+edges_below_in_parts-requires-clause-cut g c κs within = rw (c.deref-3.ensures.value, c.deref-4.ensures.value) (rw c.deref-2.ensures.value at c.in_ok-rings.ensures)
+
+pub write_cycles-requires-clause-cycles : goal.write_cycles-requires-clause-cycles
+write_cycles-requires-clause-cycles g c = rw c.deref-5.ensures.value c.in_ok-cycles.ensures.places
+
+pub write_cycles-requires-clause-rings : goal.write_cycles-requires-clause-rings
+write_cycles-requires-clause-rings g c = rw c.deref-5.ensures.value c.in_ok-cycles.ensures.rings
+
+pub write_cycles-requires-clause-cut : goal.write_cycles-requires-clause-cut
+write_cycles-requires-clause-cut g c = rw c.deref-5.ensures.value (rw c.deref-2.ensures.value at c.in_ok-rings.ensures)
+
+pub write_cycles-requires-clause-found : goal.write_cycles-requires-clause-found
+write_cycles-requires-clause-found g c = rw (c.deref-5.ensures.value, c.deref-6.ensures.value) (rw c.deref-3.ensures.value at c.in_ok-below.ensures)
+
+pub write_cycles-requires-clause-its_edges : goal.write_cycles-requires-clause-its_edges
+write_cycles-requires-clause-its_edges g c = rw c.deref-5.ensures.value c.in_ok-cycles.ensures.edges
+
+pub returns-clause-edges : goal.returns-clause-edges
+returns-clause-edges g c = c.write_cycles.ensures.edges
+
+pub returns-clause-sound : goal.returns-clause-sound
+returns-clause-sound g c = c.write_cycles.ensures.sound
