@@ -4,7 +4,11 @@
 #[cfg(test)]
 mod by_hand;
 #[cfg(test)]
+mod pairs;
+#[cfg(test)]
 mod random;
 #[cfg(test)]
 mod refusals;
+#[cfg(test)]
+mod sides;
 pub mod written;

@@ -51,3 +51,7 @@ pub mod RingLayers
 pub mod ColumnsRunning
 pub mod OneColumns
 pub mod OneColumnsRefusal
+pub mod FitsColumns
+pub mod PairsRunning
+pub mod OnePair
+pub mod OnePairsRefusal

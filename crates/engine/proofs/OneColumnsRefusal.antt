@@ -15,13 +15,13 @@ use Rattle.engine.specs.RingLayers.{IsGridOverRings}
 use Rattle.engine.proofs.OneRefusal.{grid_same}
 
 -- columns are not both accepted and refused, and refused for one fault
-taken : (c : Columns) (f : ColumnsFault) → AreAccepted c → AreRefused c f → ⊥
+pub taken : (c : Columns) (f : ColumnsFault) → AreAccepted c → AreRefused c f → ⊥
 taken c f h r = let e : None ≡ Some f = sym h ∙ r in cc
 
-one_fault : (c : Columns) (f g : ColumnsFault) → AreRefused c f → AreRefused c g → f ≡ g
+pub one_fault : (c : Columns) (f g : ColumnsFault) → AreRefused c f → AreRefused c g → f ≡ g
 one_fault c f g h k = let e : Some f ≡ Some g = sym h ∙ k in cc
 
-above : (most n : ℕ) → most < n → n ≤ most → ⊥
+pub above : (most n : ℕ) → most < n → n ≤ most → ⊥
 above most n h k = omega (arith, h, k)
 
 module _ (limit : ℕ) (plan : Plan) (a b : Columns) where

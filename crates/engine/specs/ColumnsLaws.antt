@@ -1,5 +1,5 @@
 -- What two layers that are columns determine, whatever the plan of a run and however their points stand in columns.
-use Rattle.std.specs.Prelude.{◌≡◌, ℕ, List}
+use Rattle.std.specs.Prelude.{◌≡◌, ◌<◌, ℕ, List, [], get_or, length}
 use Rattle.geom.specs.declared.op.Op.{Op}
 use Rattle.geom.specs.Canonical.{Shape}
 use Rattle.wkt.specs.Canonical.{multi_text}
@@ -7,10 +7,13 @@ use Rattle.wkt.specs.Refusals.{StandsFor}
 use Rattle.columns.specs.declared.answer.OwnedColumns.{OwnedColumns}
 use Rattle.columns.specs.declared.layout.Columns.{Columns}
 use Rattle.columns.specs.Answers.{AreColumnsOf}
+use Rattle.columns.specs.Layout.{feature_rings_in, plain}
 use Rattle.engine.specs.declared.columns_output.ColumnsOutput.{ColumnsOutput}
 use Rattle.engine.specs.declared.columns_output.ColumnsRefused.{ColumnsRefused}
+use Rattle.engine.specs.declared.columns_pairs.PairsOutput.{PairsOutput}
 use Rattle.engine.specs.declared.engine.Plan.{Plan}
 use Rattle.engine.specs.declared.text.Report.{Report}
+use Rattle.engine.specs.ColumnsPairs.{ArePairsMade}
 use Rattle.engine.specs.ColumnsRuns.{AreColumnsMade, AreColumnsRefused, MayRunColumns, rings_of}
 use Rattle.engine.specs.Determined.{HaveOneSize}
 use Rattle.engine.specs.Results.{IsResultWrittenWithin}
@@ -43,6 +46,13 @@ abbrev pub RunIsByColumns : Type 0 → Type 0 → Type 0
 RunIsByColumns M N = (limit limit' : ℕ) (op : Op) (s t : List ℕ) (a b : Columns) (plan other : Plan) (text : List ℕ) (report : Report M) (made : ColumnsOutput N)
     → StandsFor s (rings_of a) → StandsFor t (rings_of b) → IsResultWrittenWithin limit op plan s t text report → AreColumnsMade limit' op other a b made
     → AreOfOnePolygons text made.columns × HaveOneSize report made.report
+
+-- The polygons of a pair are those of the result on layers of which each has the rings of just one of the two features, in whatever columns
+-- these stand, and whatever plan and limit that run has.
+abbrev pub PairIsByColumns : Type 0 → Type 0 → Type 0
+PairIsByColumns M N = (limit limit' : ℕ) (op : Op) (a b a' b' : Columns) (plan : Plan) (pairs : PairsOutput M) (made : ColumnsOutput N) (h : ArePairsMade limit op a b pairs) (i : ℕ) → i < length h.results
+    → rings_of a' ≡ plain (get_or (feature_rings_in a) i []) → rings_of b' ≡ plain (get_or (feature_rings_in b) i []) → AreColumnsMade limit' op plan a' b' made
+    → AreColumnsOf (get_or h.results i []) made.columns
 
 -- a plan and two layers are refused for one reason
 abbrev pub ColumnsRefusalIsOne : Type 0

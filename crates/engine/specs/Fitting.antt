@@ -4,7 +4,10 @@ use Rattle.grid.specs.Tiles.{IsSide, Tiling, most_tiles, tile_count}
 use Rattle.wkt.specs.LayerText.{Ring}
 use Rattle.wkt.specs.Refusals.{IsAccepted}
 use Rattle.geom.specs.declared.point.Pt.{Pt}
+use Rattle.columns.specs.declared.layout.Columns.{Columns}
+use Rattle.engine.specs.ColumnsRuns.{AreBothAccepted, rings_of}
 use Rattle.engine.specs.Layers.{IsGridOverLayers, StandForLayers}
+use Rattle.engine.specs.RingLayers.{IsGridOverRings}
 use Rattle.engine.specs.Rounds.{IsGridOver}
 
 -- the layers are accepted, and this side gives more tiles over them than there may be
@@ -42,3 +45,19 @@ pub record IsFittingSideOver (texts : List (List ℕ)) (side : ℕ) : Type 0 whe
   pub is_side : IsSide side
   pub few : ¬ AreTooFineOver texts side
   pub least : (k : ℕ) → 18 ≤ k → k < exponent → AreTooFineOver texts (2 ^ k)
+
+-- both layers are accepted, and this side gives more tiles over them than there may be
+pub record AreTooFineColumns (a b : Columns) (side : ℕ) : Type 0 where
+  pub accepted : AreBothAccepted a b
+  pub grid : Tiling
+  pub is_grid : IsGridOverRings (rings_of a) (rings_of b) side grid
+  pub many : most_tiles < tile_count grid
+
+-- of the same powers of two the least one that isn't too fine for these columns
+pub record IsFittingSideOfColumns (a b : Columns) (side : ℕ) : Type 0 where
+  pub exponent : ℕ
+  pub from : 18 ≤ exponent
+  pub power : side ≡ 2 ^ exponent
+  pub is_side : IsSide side
+  pub few : ¬ AreTooFineColumns a b side
+  pub least : (k : ℕ) → 18 ≤ k → k < exponent → AreTooFineColumns a b (2 ^ k)

@@ -18,3 +18,4 @@ pub mod CoveredRuns
 pub mod RingLayers
 pub mod ColumnsRuns
 pub mod ColumnsLaws
+pub mod ColumnsPairs

@@ -3,14 +3,17 @@
 ghost use Rattle.std.specs.Prelude.{ℕ, ◌≡◌, IfOk, MatchResult, map};
 ghost use Rattle.grid.specs.Tiles.{AreBounds};
 ghost use Rattle.wkt.specs.Refusals.{IsRefused};
+ghost use Rattle.engine.specs.ColumnsRuns.{AreColumnsRefused};
 ghost use Rattle.engine.specs.Faces.{IsFacesRefusedAt};
-ghost use Rattle.engine.specs.Fitting.{IsFittingSide, IsFittingSideOver};
+ghost use Rattle.engine.specs.Fitting.{IsFittingSide, IsFittingSideOfColumns, IsFittingSideOver};
 ghost use Rattle.engine.specs.Runs.{HasOutline, IsRefusedAtWithin};
 
 use crate::checking::joint_bounds;
+use crate::columns_output::ColumnsRefused;
 use crate::engine::Plan;
 use crate::faces_fault::{FacesPart, FacesRefusal};
 use crate::faces_limits::FacesLimits;
+use columns::{Columns, survey};
 use geom::{Fault, Part};
 use grid::{DEFAULT_SIDE, default_side};
 use wkt::{Outline, check_layer};
@@ -41,6 +44,17 @@ pub fn fitting_side_over(layers: &[&[u8]]) -> u32
         }
     }
     default_side(bounds)
+}
+
+/// The same over two layers that are columns. Takes no memory.
+pub fn fitting_side_of_columns(a: &Columns<'_>, b: &Columns<'_>) -> u32
+    ensures side { IsFittingSideOfColumns a.now b.now result }
+    ensures fits { (limit : ℕ) (plan : Plan) → plan.side ≡ result → (count : ℕ) → ¬ AreColumnsRefused limit plan a.now b.now (ColumnsRefused.Run (Fault.TooManyTiles count)) }
+{
+    let (Ok(first), Ok(second)) = (survey(a), survey(b)) else {
+        return DEFAULT_SIDE;
+    };
+    default_side(joint_bounds(first.bounds, second.bounds))
 }
 
 /// The outline of a layer text, where it isn't refused.

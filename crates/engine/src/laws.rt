@@ -7,7 +7,8 @@ ghost use Rattle.grid.specs.Tiles.{most_tiles};
 ghost use Rattle.wkt.specs.Refusals.{length_limit};
 ghost use Rattle.engine.specs.Runs.{segment_limit};
 ghost use Rattle.engine.specs.Determined.{EdgesSizesAreOne, EdgesSizesAreOneWithin, EdgesTextIsOne, EdgesTextIsOneWithin, RefusalIsOne, RefusalIsOneWithin, RefusedMayNotRun, RefusedMayNotRunWithin, ResultSizesAreOne, ResultSizesAreOneWithin, ResultTextIsOne, ResultTextIsOneWithin, RunReportsAsEdges, RunReportsAsEdgesWithin, TilesAreOne, TilesAreOneWithin};
-ghost use Rattle.engine.specs.ColumnsLaws.{ColumnsAnswerIsOne, ColumnsRefusalIsOne, ColumnsSizesAreOne, RefusedColumnsMayNotRun, RunIsByColumns};
+ghost use Rattle.engine.specs.ColumnsLaws.{ColumnsAnswerIsOne, ColumnsRefusalIsOne, ColumnsSizesAreOne, PairIsByColumns, RefusedColumnsMayNotRun, RunIsByColumns};
+ghost use Rattle.engine.specs.ColumnsPairs.{PairsRefusalIsOne, RefusedPairsMayNotRun};
 ghost use Rattle.engine.specs.CoveredRuns.{CoveredTextIsOneWithin};
 ghost use Rattle.engine.specs.Faces.{FacesRefusalIsOne, FacesTextIsOneWithin, RefusedAreNotWritten, RefusedMayNotRound, WrittenFacesTell};
 ghost use Rattle.engine.specs.Counting.{CountsAreExact, CountsAreExactWithin};
@@ -56,10 +57,21 @@ pub fn run_is_by_columns<A: Allocator, B: Allocator>()
     ensures { RunIsByColumns A B }
 {}
 
+/// The polygons of each pair of features are those of `run_columns_within` on layers with the rings of just these two features.
+pub fn pair_is_by_columns<A: Allocator, B: Allocator>()
+    ensures { PairIsByColumns A B }
+{}
+
 /// A plan and two layers of columns are refused for one reason, or for none where they are answered.
 pub fn columns_refused_for_one_reason()
     ensures reason { ColumnsRefusalIsOne }
     ensures answered { RefusedColumnsMayNotRun }
+{}
+
+/// Two layers whose features are to be paired are refused for one reason, or for none where they are answered.
+pub fn pairs_refused_for_one_reason()
+    ensures reason { PairsRefusalIsOne }
+    ensures answered { RefusedPairsMayNotRun }
 {}
 
 /// Where faces are written, their rows tell of every rational point which features cover it: it lies in the polygons of

@@ -11,7 +11,8 @@
 //! polygons of just the row of those features that cover it. The definitions are in `specs/Faces`.
 //!
 //! Layers may be columns of coordinates and offsets in place of texts, and so is the result then: `run_columns_within` answers the columns of
-//! the polygons whose canonical line `run` writes. The definitions are in `specs/ColumnsRuns`.
+//! the polygons whose canonical line `run` writes. The definitions are in `specs/ColumnsRuns`. `run_pairs_alone_within` answers so for each
+//! feature of a layer and the one with the same number of another layer (`specs/ColumnsPairs`).
 #![tactic(auto)]
 
 mod alone;
@@ -22,6 +23,7 @@ mod checking;
 mod columns_alone;
 mod columns_checking;
 mod columns_output;
+mod columns_pairs;
 mod columns_run;
 mod covered_result;
 mod covered_run;
@@ -51,6 +53,7 @@ pub use alone::{edges_alone, edges_alone_within, run_alone, run_alone_within};
 pub use alone_faces::{FacesOutput, faces_alone};
 pub use columns_alone::run_columns_alone_within;
 pub use columns_output::{ColumnsOutput, ColumnsRefused};
+pub use columns_pairs::{PairsOutput, PairsRefused, run_pairs_alone_within};
 pub use columns_run::run_columns_within;
 pub use covered_run::{run_covered, run_covered_within};
 pub use engine::{Limits, Output, Plan, edges, edges_within, run, run_within};
@@ -60,12 +63,12 @@ pub use faces_report::{FacesReport, faces_report_text};
 pub use faces_run::{faces, faces_within};
 pub use feature_reading::MOST_LAYERS;
 pub use feature_segments::LayerSize;
-pub use fitting::{fitting_side, fitting_side_over};
+pub use fitting::{fitting_side, fitting_side_of_columns, fitting_side_over};
 pub use laws::{
     columns_answer_is_one, columns_refused_for_one_reason, counts_are_exact, covered_text_is_one,
     edges_text_is_one, faces_refused_for_one_reason, faces_tell, faces_text_is_one,
-    limits_are_numbers, one_refusal, result_text_is_one, run_is_by_columns, run_reports_as_edges,
-    tiles_are_one,
+    limits_are_numbers, one_refusal, pair_is_by_columns, pairs_refused_for_one_reason,
+    result_text_is_one, run_is_by_columns, run_reports_as_edges, tiles_are_one,
 };
 pub use operation::result_text;
 pub use sink::{MemSink, Sink, SinkFault, write_all};
