@@ -62,7 +62,8 @@ enum overlay_refusal {
     OVERLAY_COORDINATE_MISSING = 13, /* of columns: an x without its y */
     OVERLAY_FEATURE_OFFSET = 14,     /* of columns: an offset of features falls or passes the end; detail is its number */
     OVERLAY_POLYGON_OFFSET = 15,     /* likewise of polygons */
-    OVERLAY_RING_OFFSET = 16         /* likewise of rings */
+    OVERLAY_RING_OFFSET = 16,        /* likewise of rings */
+    OVERLAY_UNPAIRED = 17            /* of pairs: a layer has more features than the other; detail is the number of the first one without another */
 };
 
 /* What is refused of two layers. Of faces it is the number of a layer, from 0 on, or the count of layers for the run. */
@@ -160,7 +161,7 @@ struct overlay_columns_answer {
     uint64_t coordinates; /* OVERLAY_ANSWERED, OVERLAY_SMALL: how many coordinates the result has */
     uint64_t rings;       /* how many offsets of rings */
     uint64_t polygons;    /* how many offsets of polygons */
-    uint64_t detail;      /* OVERLAY_REFUSED: the number of a point, a ring or an offset, or a number of segments or tiles */
+    uint64_t detail;      /* OVERLAY_REFUSED: the number of a point, a ring, an offset or a feature, or a number of segments or tiles */
     uint32_t status;      /* how the call ended: an overlay_status */
     uint32_t number;      /* OVERLAY_REFUSED, OVERLAY_NO_MEMORY: why, an overlay_refusal */
     uint32_t part;        /* OVERLAY_REFUSED, OVERLAY_NO_MEMORY: what, an overlay_part */
@@ -180,6 +181,19 @@ void overlay_columns_fill(uint32_t call, uint32_t side, uint32_t segments, const
                           int32_t *coordinates, size_t coordinates_length, uint32_t *rings, size_t rings_length, uint32_t *polygons,
                           size_t polygons_length, struct overlay_columns_answer *answer);
 
+/* Puts the results of an operation on each feature of a layer and the feature with the same number of another layer, which has as many, at
+ * the beginning of four rooms, as columns with a feature for each pair: features tells where each result begins among the polygons, and where
+ * the last one ends. The result of a pair is what overlay_columns_fill answers on these two features alone, and needs no tile side; answer
+ * doesn't tell the length of features, which is 1 more than there are pairs. Layers, rooms and status are as of overlay_columns_fill.
+ *
+ *   segments            the most segments of both layers, with all their features */
+void overlay_pairs_fill(uint32_t call, uint32_t segments, const struct overlay_columns *a, const struct overlay_columns *b, int32_t *coordinates,
+                        size_t coordinates_length, uint32_t *rings, size_t rings_length, uint32_t *polygons, size_t polygons_length,
+                        uint32_t *features, size_t features_length, struct overlay_columns_answer *answer);
+
+/* Returns the tile side for two layers of columns, as overlay_side does for two texts: 262144 where one is refused. */
+uint32_t overlay_columns_side(const struct overlay_columns *a, const struct overlay_columns *b);
+
 /* Puts the words of an answer of two layers without a text at the beginning of a room, as `A: 1 syntax at 16`, without a 0 or a line feed, and
  * returns their length in bytes: 0 where they don't fit, where memory ran out, or where there is nothing to say.
  *
@@ -191,7 +205,7 @@ size_t overlay_words(const struct overlay_answer *answer, uint8_t *room, size_t 
  * doesn't give too many tiles, or 262144 where a layer is refused. Both layers, with their lengths in bytes, are read once. */
 uint32_t overlay_side(const uint8_t *a, size_t a_length, const uint8_t *b, size_t b_length);
 
-/* Returns the version of these calls: 2. It changes where a call, a number or the struct does, not with each release. */
+/* Returns the version of these calls: 3. It changes where a call, a number or the struct does, not with each release. */
 uint32_t overlay_version(void);
 
 #ifdef __cplusplus

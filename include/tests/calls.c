@@ -433,6 +433,20 @@ static void columns(void) {
     }
 }
 
+static void columns_sides(void) {
+    static const int32_t R = 268435456, WHOLE_COORDINATES[] = {-R, -R, R, -R, R, R, -R, R, -R, -R};
+    static const uint32_t FOUR[] = {0, 4};
+    static const struct overlay_columns WHOLE_COLUMNS = {WHOLE_COORDINATES, 10, FIVE, 2, ONE, 2, ONE, 2};
+    static const struct overlay_columns NONE = {WHOLE_COORDINATES, 0, FIVE, 0, ONE, 0, ONE, 0};
+    static const struct overlay_columns OPEN = {SQUARE_COORDINATES, 10, FOUR, 2, ONE, 2, ONE, 2};
+    check(overlay_columns_side(&SQUARE_COLUMNS, &OTHER_COLUMNS) == 262144, "side of columns");
+    check(overlay_columns_side(&NONE, &NONE) == 262144, "side of no columns");
+    check(overlay_columns_side(&SQUARE_COLUMNS, &WHOLE_COLUMNS) == 4194304, "side of columns of the whole range");
+    check(overlay_columns_side(&WHOLE_COLUMNS, &NONE) == 4194304, "side of the whole range and of nothing");
+    check(overlay_columns_side(&WHOLE_COLUMNS, &OPEN) == 262144, "side of columns that are refused");
+    check(overlay_columns_side(&OPEN, &WHOLE_COLUMNS) == 262144, "side of columns of which the first are refused");
+}
+
 static void columns_refusals(void) {
     static const uint32_t FOUR[] = {0, 4}, SEVEN[] = {0, 7};
     static const struct overlay_columns OPEN = {SQUARE_COORDINATES, 10, FOUR, 2, ONE, 2, ONE, 2};
@@ -462,10 +476,45 @@ static void columns_refusals(void) {
     }
 }
 
+/* From some request on memory is refused: the rooms are as they were, or there are the results of two pairs. */
+static void pairs_memory(void) {
+    static const int32_t WANTED[] = {2, 2, 4, 2, 4, 4, 2, 4, 2, 2, 2, 2, 4, 2, 4, 4, 2, 4, 2, 2};
+    static const int32_t TWICE[] = {0, 0, 4, 0, 4, 4, 0, 4, 0, 0, 2, 2, 6, 2, 6, 6, 2, 6, 2, 2};
+    static const uint32_t RINGS[] = {0, 5, 10}, NUMBERS[] = {0, 1, 2}, BACK[] = {5, 10, 10};
+    static const struct overlay_columns FIRST = {TWICE, 20, RINGS, 3, NUMBERS, 3, NUMBERS, 3};
+    static const struct overlay_columns SECOND = {OTHER_COORDINATES, 12, FIVE_BEHIND, 2, ONE, 2, NUMBERS, 2};
+    int32_t both[22], coordinates[20];
+    uint32_t rings[3], polygons[3], features[3];
+    memcpy(both, TWICE + 10, 10 * sizeof *both);
+    memcpy(both + 10, TWICE, 10 * sizeof *both);
+    const struct overlay_columns turned = {both, 20, RINGS, 3, NUMBERS, 3, NUMBERS, 3}, open = {both, 20, BACK, 3, NUMBERS, 3, NUMBERS, 3};
+    struct overlay_columns_answer answer;
+    long refused = 0;
+    for (long count = 0; count < 100000; count++) {
+        coordinates[0] = 7;
+        rings[0] = polygons[0] = features[0] = 7;
+        granted = count;
+        overlay_pairs_fill(OVERLAY_INTERSECTION, 16, &FIRST, &turned, coordinates, 20, rings, 3, polygons, 3, features, 3, &answer);
+        granted = -1;
+        if (answer.status == OVERLAY_ANSWERED)
+            break;
+        check(answer.status == OVERLAY_NO_MEMORY && answer.number == OVERLAY_OUT_OF_MEMORY && answer.part == OVERLAY_RUN, "no memory for pairs");
+        check(coordinates[0] == 7 && rings[0] == 7 && polygons[0] == 7 && features[0] == 7, "rooms that are as they were");
+        refused++;
+    }
+    check(refused > 0, "memory for pairs was refused");
+    check(answer.coordinates == 20 && answer.rings == 3 && answer.polygons == 3 && !memcmp(coordinates, WANTED, sizeof WANTED), "two pairs");
+    check(!memcmp(rings, RINGS, sizeof RINGS) && !memcmp(polygons, NUMBERS, sizeof NUMBERS) && !memcmp(features, NUMBERS, sizeof NUMBERS), "their offsets");
+    overlay_pairs_fill(OVERLAY_UNION, 16, &FIRST, &SECOND, coordinates, 20, rings, 3, polygons, 3, features, 3, &answer);
+    check(answer.status == OVERLAY_REFUSED && answer.number == OVERLAY_UNPAIRED && answer.detail == 1 && answer.part == OVERLAY_RUN, "features without another");
+    overlay_pairs_fill(OVERLAY_UNION, 16, &FIRST, &open, coordinates, 20, rings, 3, polygons, 3, features, 3, &answer);
+    check(answer.status == OVERLAY_REFUSED && answer.number == OVERLAY_SHORT_RING && answer.detail == 1 && answer.part == OVERLAY_LAYER_B, "a pair with a fault");
+}
+
 int main(int count, char **words) {
     if (count == 4)
         return print(words);
-    check(overlay_version() == 2, "the version");
+    check(overlay_version() == 3, "the version");
     names();
     rooms();
     refusals();
@@ -480,7 +529,9 @@ int main(int count, char **words) {
     faces_memory();
     broken_faces();
     columns();
+    columns_sides();
     columns_refusals();
+    pairs_memory();
     printf("%ld failed\n", failures);
     return failures != 0;
 }

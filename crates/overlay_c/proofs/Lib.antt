@@ -2,3 +2,4 @@ pub mod Telling
 pub mod FacesTelling
 pub mod PassedLayers
 pub mod ColumnsTelling
+pub mod PairsTelling

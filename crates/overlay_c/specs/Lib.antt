@@ -1,3 +1,4 @@
 pub mod Boundary
 pub mod Faces
 pub mod Columns
+pub mod Pairs

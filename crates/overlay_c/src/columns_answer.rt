@@ -45,7 +45,7 @@ pub fn lengths_of(status: u32, columns: &OwnedColumns<Global>) -> OverlayColumns
 }
 
 /// An answer without columns.
-fn told(status: u32, number: u8, part: u32, detail: u64) -> OverlayColumnsAnswer
+pub fn told(status: u32, number: u8, part: u32, detail: u64) -> OverlayColumnsAnswer
     ensures { result ≡ refused_answer status number part detail }
 {
     OverlayColumnsAnswer {

@@ -1,9 +1,10 @@
-//! The call on columns that C sees.
+//! The calls on columns that C sees.
 
+ghost use Rattle.engine.specs.Fitting.{IsFittingSideOfColumns};
 ghost use Rattle.overlay_c.specs.Columns.{FillsColumns, columns_in};
 
 use crate::columns_answer::OverlayColumnsAnswer;
-use crate::columns_layer::{OverlayColumns, columns_result};
+use crate::columns_layer::{OverlayColumns, columns_result, side_of_columns};
 use crate::columns_rooms::fill_rooms;
 use engine::Limits;
 use std::alloc::Global;
@@ -28,4 +29,12 @@ pub extern "C" fn overlay_columns_fill(
 {
     let made = columns_result(alloc, call, side, Limits { segments }, a, b);
     *answer = fill_rooms(made, coordinates, rings, polygons);
+}
+
+/// The side of a tile that fits two layers that are columns, as `overlay_side` says it.
+#[unsafe(no_mangle)]
+pub extern "C" fn overlay_columns_side(a: &OverlayColumns, b: &OverlayColumns) -> u32
+    ensures { IsFittingSideOfColumns (columns_in a.now) (columns_in b.now) result }
+{
+    side_of_columns(a, b)
 }

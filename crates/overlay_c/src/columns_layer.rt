@@ -1,11 +1,12 @@
 //! Layers that C passes as columns, and the columns of an operation's result on them.
 
 ghost use Rattle.std.specs.Prelude.{◌≡◌, MatchResult};
+ghost use Rattle.engine.specs.Fitting.{IsFittingSideOfColumns};
 ghost use Rattle.overlay_c.specs.Columns.{FailsColumns, IsColumnsResult, columns_in, lists_of, op_from};
 
 use crate::columns_answer::{OverlayColumnsAnswer, answer_of_columns, no_such_call};
 use columns::{Columns, OwnedColumns, Points};
-use engine::{ColumnsOutput, Limits, run_columns_alone_within};
+use engine::{ColumnsOutput, Limits, fitting_side_of_columns, run_columns_alone_within};
 use geom::Op;
 use std::alloc::Global;
 
@@ -24,7 +25,7 @@ pub struct OverlayColumns<'a> {
 }
 
 /// The operation that the number of a call asks for.
-fn op_of(call: u32) -> Option<Op>
+pub fn op_of(call: u32) -> Option<Op>
     ensures { result ≡ op_from call }
 {
     match call {
@@ -37,7 +38,7 @@ fn op_of(call: u32) -> Option<Op>
 }
 
 /// The columns of a layer, as it is passed.
-fn columns_from<'a>(layer: &OverlayColumns<'a>) -> Columns<'a>
+pub fn columns_from<'a>(layer: &OverlayColumns<'a>) -> Columns<'a>
     ensures { result ≡ columns_in layer.now }
 {
     Columns {
@@ -68,4 +69,11 @@ pub fn columns_result(
         Ok(ColumnsOutput { columns, .. }) => Ok(columns),
         Err(refused) => Err(answer_of_columns(refused)),
     }
+}
+
+/// The side of a tile that fits two layers.
+pub fn side_of_columns(a: &OverlayColumns<'_>, b: &OverlayColumns<'_>) -> u32
+    ensures { IsFittingSideOfColumns (columns_in a.now) (columns_in b.now) result }
+{
+    fitting_side_of_columns(&columns_from(a), &columns_from(b))
 }

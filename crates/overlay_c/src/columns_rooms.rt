@@ -24,7 +24,7 @@ pub fn fill_rooms(
 }
 
 /// Puts columns at the beginning of three rooms, where all of them fit.
-fn put_columns(
+pub fn put_columns(
     columns: &OwnedColumns<Global>,
     coordinates: &mut [i32],
     rings: &mut [u32],
@@ -45,7 +45,7 @@ fn put_columns(
 }
 
 /// Puts a column at the beginning of a room.
-fn put<T: Copy>(column: &[T], room: &mut [T])
+pub fn put<T: Copy>(column: &[T], room: &mut [T])
     requires { length column.now ≤ length room.old }
     ensures { HoldsItems column.now room.old room.new }
 {

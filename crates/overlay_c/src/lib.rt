@@ -10,6 +10,7 @@ mod columns_layer;
 mod columns_rooms;
 mod faces;
 mod made;
+mod pairs_call;
 mod room;
 mod words;
 
@@ -19,7 +20,8 @@ pub use calls::{
     overlay_side, overlay_size, overlay_version,
 };
 pub use columns_answer::OverlayColumnsAnswer;
-pub use columns_call::overlay_columns_fill;
+pub use columns_call::{overlay_columns_fill, overlay_columns_side};
 pub use columns_layer::OverlayColumns;
 pub use faces::OverlayLayer;
+pub use pairs_call::overlay_pairs_fill;
 pub use words::overlay_words;
