@@ -19,6 +19,8 @@ use std::convert::AsStr;
 const ABOUT: &str =
     "Overlays two polygon layers on the integer grid, exactly and with proved rounding.";
 
+const FIRST_HELP: &str = "The first layer's file: POLYGON and MULTIPOLYGON texts";
+
 const TILE_HELP: &str =
     "The side of a tile, in grid units, 16 to 33554432 [default: 262144, or what fits]";
 
@@ -26,6 +28,8 @@ const WORKERS_HELP: &str = "The number of threads at work, 1 to 64";
 
 const SEGMENTS_HELP: &str =
     "The most segments of both layers together, 1 to 4294967295 [default: 1048576]";
+
+pub(crate) const REPORT_HELP: &str = "Prints the numbers of the run to standard error";
 
 const COVERED_HELP: &str =
     "For an operation: a point lies in a layer where one of its features at least covers it";
@@ -125,32 +129,15 @@ fn parser<'a>(alloc: Global) -> Result<Command<'a>, AllocError>
     ensures shape { IfOk result (λ c. app_of c ≡ overlay_app) }
     ensures chain { IfOk result (λ c. IsOverlayCommand c) }
 {
-    let word = word_arg(alloc);
-    let a = file_arg(
-        alloc,
-        "a",
-        "A",
-        "The first layer's file: POLYGON and MULTIPOLYGON texts",
-    );
-    let b = file_arg(alloc, "b", "B", "The second layer's file");
-    let tile = number_arg(alloc, "tile", 0, TILE_HELP);
-    let workers = workers_arg(alloc);
-    let segments = number_arg(alloc, "segments", 1, SEGMENTS_HELP);
-    let report = flag_arg(
-        alloc,
-        "report",
-        "Prints the numbers of the run to standard error",
-    );
-    let covered = flag_arg(alloc, "covered", COVERED_HELP);
     described(alloc)
-        .arg(word)?
-        .arg(a)?
-        .arg(b)?
-        .arg(tile)?
-        .arg(workers)?
-        .arg(segments)?
-        .arg(report)?
-        .arg(covered)
+        .arg(word_arg(alloc))?
+        .arg(file_arg(alloc, "a", "A", FIRST_HELP))?
+        .arg(file_arg(alloc, "b", "B", "The second layer's file"))?
+        .arg(number_arg(alloc, "tile", 0, TILE_HELP))?
+        .arg(workers_arg(alloc))?
+        .arg(number_arg(alloc, "segments", 1, SEGMENTS_HELP))?
+        .arg(flag_arg(alloc, "report", REPORT_HELP))?
+        .arg(flag_arg(alloc, "covered", COVERED_HELP))
 }
 
 /// What the words hold.

@@ -8,8 +8,8 @@ ghost use Rattle.program.specs.FacesLine.{HasFacesWords, IsFacesAskedBy, IsFaces
 
 use crate::asked::{CliFault, FacesRequest};
 use crate::cli::{
-    described, fault_from, flag_arg, flag_held, number_arg, number_given, number_held, word_arg,
-    workers_arg,
+    REPORT_HELP, described, fault_from, flag_arg, flag_held, number_arg, number_given, number_held,
+    word_arg, workers_arg,
 };
 use clap::{Arg, ArgAction, ArgMatches, Command};
 use engine::MOST_LAYERS;
@@ -46,23 +46,13 @@ fn parser<'a>(alloc: Global) -> Result<Command<'a>, AllocError>
     ensures shape { IfOk result (λ c. app_of c ≡ faces_app) }
     ensures chain { IfOk result (λ c. IsFacesCommand c) }
 {
-    let word = word_arg(alloc);
-    let layers = layers_arg(alloc);
-    let tile = number_arg(alloc, "tile", 0, TILE_HELP);
-    let workers = workers_arg(alloc);
-    let segments = number_arg(alloc, "segments", 1, SEGMENTS_HELP);
-    let report = flag_arg(
-        alloc,
-        "report",
-        "Prints the numbers of the run to standard error",
-    );
     described(alloc)
-        .arg(word)?
-        .arg(layers)?
-        .arg(tile)?
-        .arg(workers)?
-        .arg(segments)?
-        .arg(report)
+        .arg(word_arg(alloc))?
+        .arg(layers_arg(alloc))?
+        .arg(number_arg(alloc, "tile", 0, TILE_HELP))?
+        .arg(workers_arg(alloc))?
+        .arg(number_arg(alloc, "segments", 1, SEGMENTS_HELP))?
+        .arg(flag_arg(alloc, "report", REPORT_HELP))
 }
 
 /// The names of the layers' files.
