@@ -513,5 +513,6 @@ def dissolve(
     """What GeoDataFrame.dissolve answers, on the grid: a row for each group, whose geometry is what any feature of the group covers.
     Borders that two groups share are the same points. The unit is as of `overlay`.
     """
-    dissolved: Frame = _frames.dissolve(df, by, aggfunc, as_index, level, sort, observed, dropna, grid=grid, origin=origin, **kwargs)
+    said = {"by": by, "aggfunc": aggfunc, "as_index": as_index, "level": level, "sort": sort, "observed": observed, "dropna": dropna}
+    dissolved: Frame = _frames.dissolve(df, {**said, **kwargs}, grid, origin)
     return dissolved

@@ -5,9 +5,10 @@ from __future__ import annotations
 from typing import Any, Callable, Dict, List, NamedTuple, Optional, Sequence, Tuple, TypeVar
 
 from ._calls import CALLS, MOST_SEGMENTS, Operation, faces_of, layer_name, text_of
+from ._columns import polygons_of
 from ._faults import Refused
 from ._grid import FINEST, Frame, Origin, Unit, frame_at, frame_for, joined
-from ._kinds import Answerer, Given, arrays_answer, given, told_at
+from ._kinds import OF_POLYGONS, Answerer, Given, arrays_answer, given, told_at
 from ._shapes import Shapes
 from ._texts import Text
 from ._uniting import united
@@ -98,19 +99,22 @@ def operation(call: int, a: Any, b: Any, plan: Plan) -> Any:
     """What an operation answers, of the first layer's kind."""
     layers = layers_of([a, b])
     frame = frame_of(layers, plan)
-    texts = [layer.held.text(frame) for layer in layers]
-    chosen = None if all(map(simple, layers)) else chosen_of(call, layers, texts, plan)
-    if chosen is None:
-        text = asked(layers, lambda: text_of(call, texts[0], texts[1], plan.side, plan.limit)).decode("ascii")
-    else:
-        text = united(chosen)
-    return answerer_of(layers)(text, frame)
+    answer = answerer_of(layers)
+    rows = None if all(map(simple, layers)) else chosen_of(call, layers, frame, plan)
+    if rows is not None:
+        return answer(united(rows), frame)
+    first, second = (layer.held for layer in layers)
+    if isinstance(first, Shapes) and isinstance(second, Shapes):
+        found = polygons_of(call, first.on_grid(frame), second.on_grid(frame), plan.side, plan.limit)
+        return OF_POLYGONS[answer](found, frame)
+    texts = first.text(frame), second.text(frame)
+    return answer(asked(layers, lambda: text_of(call, *texts, plan.side, plan.limit)).decode("ascii"), frame)
 
 
-def chosen_of(call: int, layers: Sequence[Given], texts: Sequence[bytes], plan: Plan) -> Optional[List[str]]:
+def chosen_of(call: int, layers: Sequence[Given], frame: Frame, plan: Plan) -> Optional[List[str]]:
     """The rows that an operation has on layers that are read as covered; nothing where no features of one layer overlap, so that
     parity tells the same."""
-    rows = lines_of(asked(layers, lambda: faces_of(texts, plan.side, plan.limit)))
+    rows = faces_on(layers, frame, plan)
     covered = [layer.covered for layer in layers]
     if not any(len(ids) > 1 for row in rows for ids, read in zip(row.ids, covered) if read):
         return None
@@ -118,8 +122,13 @@ def chosen_of(call: int, layers: Sequence[Given], texts: Sequence[bytes], plan: 
     return [row.wkt for row in rows if choice(*(bool(ids) if read else len(ids) % 2 == 1 for ids, read in zip(row.ids, covered)))]
 
 
+def faces_on(layers: Sequence[Given], frame: Frame, plan: Plan) -> List[Line]:
+    """The faces of layers on a grid."""
+    texts = [layer.held.text(frame) for layer in layers]
+    return lines_of(asked(layers, lambda: faces_of(texts, plan.side, plan.limit)))
+
+
 def rows_of(layers: Sequence[Given], plan: Plan) -> Tuple[List[Line], Frame]:
     """The faces of layers, and the frame that leads back."""
     frame = frame_of(layers, plan)
-    texts = [layer.held.text(frame) for layer in layers]
-    return lines_of(asked(layers, lambda: faces_of(texts, plan.side, plan.limit))), frame
+    return faces_on(layers, frame, plan), frame

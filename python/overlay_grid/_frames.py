@@ -192,28 +192,14 @@ def union(df1: Any, df2: Any, pairs: Parts, firsts: Parts, seconds: Parts) -> An
     return held[[*held.columns.drop(GEOMETRY), GEOMETRY]]
 
 
-def dissolve(
-    df: Any,
-    by: Any = None,
-    aggfunc: Any = "first",
-    as_index: bool = True,
-    level: Any = None,
-    sort: bool = True,
-    observed: bool = False,
-    dropna: bool = True,
-    *,
-    grid: Optional[Unit] = None,
-    origin: Optional[Origin] = None,
-    **kwargs: Any,
-) -> Any:
-    """See overlay_grid.dissolve. GeoPandas makes the groups and their values, of points that tell the numbers of features."""
+def dissolve(df: Any, said: Dict[str, Any], grid: Optional[Unit], origin: Optional[Origin]) -> Any:
+    """See overlay_grid.dissolve. GeoPandas makes the groups and their values, as it is said, of points that tell the numbers of features."""
     geopandas = module("geopandas")
     lines, frame = faces_on(((df, "df"),), grid, origin)
     name, count = df.geometry.name, len(df)
     marked = df.copy()
     marked[name] = geopandas.GeoSeries(geopandas.points_from_xy(range(count), [0] * count), index=df.index, crs=df.crs)
-    plan = {"by": by, "aggfunc": aggfunc, "as_index": as_index, "level": level, "sort": sort, "observed": observed, "dropna": dropna}
-    dissolved = marked.dissolve(**plan, **kwargs)
+    dissolved = marked.dissolve(**said)
     groups: Dict[int, int] = {}
     for group, marks in enumerate(dissolved.geometry):
         groups.update((feature, group) for feature in numbers_in(marks))

@@ -4,7 +4,8 @@ A coordinate goes to the nearest grid point, halves upward and to the right, as 
 the unit u and the origin o, the wanted number is floor(S) for S = (v - o) / u + 1/2.
 
 1. o is held as the floating-point number h next to it and l next to o - h, and 1 / u as i next to it.
-2. s = ((v - h) - l) · i + 1/2 is off from S by less than 8 ε (W + 1), where W = (|v - h| + |l|) / u.
+2. s = ((v - h) - l) · i + 1/2 is off from S by less than 8 ε (W + 1), where W = (|v - h| + |l|) / u. Where the grid has room for v,
+   S is at most 2^28 + 1, and so W is at most 2^28 + 2 + 2 |l| / u.
 3. Where no whole number is as near to s as that, floor(s) is floor(S). The others go by whole numbers.
 
 Units and origins are finite decimals, so all of them are whole numbers over one power of ten.
@@ -20,7 +21,7 @@ from functools import lru_cache
 from itertools import count
 from math import floor
 from operator import sub
-from typing import Any, List, NamedTuple, Optional, Sequence, Tuple, Union
+from typing import Any, Callable, List, NamedTuple, Optional, Sequence, Tuple, Union
 
 from ._optional import numpy_for
 
@@ -42,6 +43,9 @@ LEAST_NORMAL = sys.float_info.min
 
 # Up to this, floating-point numbers have all whole numbers.
 WHOLE = 1 << 53
+
+# The greatest whole number that isn't above a number.
+WHOLE_BELOW: Callable[[float], int] = floor
 
 Unit = Union[int, float, str, Decimal]
 Origin = Tuple[Unit, Unit]
@@ -112,6 +116,8 @@ class Axis:
             self.inverse = self.scale / unit
         except OverflowError:
             self.high = self.low = self.inverse = 0.0
+        # more than 8 ε (W + 1) wherever the grid has room
+        self.bound = SHARE * (LIMIT + 3 + 2 * abs(self.low) * self.inverse)
 
     def exact(self, value: float) -> int:
         """The whole number next to a number, by whole numbers alone."""
@@ -121,17 +127,23 @@ class Axis:
 
     def rounded(self, values: Sequence[float]) -> List[int]:
         """The whole numbers next to some numbers that the grid has room for."""
-        if self.inverse < LEAST_NORMAL:
-            return list(map(self.exact, values))
         numpy = numpy_for(len(values))
-        return self._few(values) if numpy is None else self._many(numpy, values)
+        if numpy is None:
+            return self._few(values)
+        found: List[int] = self._many(numpy, values).tolist()
+        return found
+
+    def column(self, values: Sequence[float]) -> "array[int]":
+        """The same as a column of 32-bit numbers."""
+        numpy = numpy_for(len(values))
+        return array("i", self._few(values) if numpy is None else self._many(numpy, values).astype(numpy.int32).tobytes())
 
     def _few(self, values: Sequence[float]) -> List[int]:
-        high, low, inverse = self.high, self.low, self.inverse
-        farthest = max(max(values, default=0.0) - high, high - min(values, default=0.0))
-        bound = SHARE * ((farthest + abs(low)) * inverse + 1)
+        if self.inverse < LEAST_NORMAL:
+            return list(map(self.exact, values))
+        high, low, inverse, bound = self.high, self.low, self.inverse, self.bound
         guesses = [(value - high - low) * inverse + 0.5 for value in values]
-        found = [floor(guess) for guess in guesses]
+        found = list(map(WHOLE_BELOW, guesses))
         parts = list(map(sub, guesses, found))
         if parts and not (bound < min(parts) and max(parts) < 1 - bound):
             for k, part in enumerate(parts):
@@ -139,16 +151,15 @@ class Axis:
                     found[k] = self.exact(values[k])
         return found
 
-    def _many(self, numpy: Any, values: Sequence[float]) -> List[int]:
-        held = numpy.frombuffer(values, numpy.float64)
-        guess = held - self.high
-        farthest = max(guess.max(initial=0.0), -guess.min(initial=0.0))
-        bound = SHARE * ((farthest + abs(self.low)) * self.inverse + 1)
+    def _many(self, numpy: Any, values: Sequence[float]) -> Any:
+        if self.inverse < LEAST_NORMAL:
+            return numpy.array(list(map(self.exact, values)), numpy.int64)
+        guess = numpy.frombuffer(values, numpy.float64) - self.high
         guess -= self.low
         guess *= self.inverse
         guess += 0.5
-        found: List[int] = numpy.floor(guess).astype(numpy.int64).tolist()
-        for k in numpy.flatnonzero(~(abs(numpy.rint(guess) - guess) > bound)).tolist():
+        found = numpy.floor(guess).astype(numpy.int64)
+        for k in numpy.flatnonzero(~(abs(numpy.rint(guess) - guess) > self.bound)).tolist():
             found[k] = self.exact(values[k])
         return found
 

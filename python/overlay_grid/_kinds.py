@@ -7,15 +7,14 @@ coordinates: an array of points, which is a ring, or a tuple of such arrays, whi
 from __future__ import annotations
 
 import sys
-from array import array
 from itertools import islice
-from typing import Any, Callable, Iterable, List, NamedTuple, Optional, Sequence, Tuple, Union
+from typing import Any, Callable, Dict, Iterable, List, NamedTuple, Optional, Sequence, Tuple, Union
 
 from . import _wkb
 from ._faults import GeometryError, Refused
 from ._grid import Frame
 from ._optional import module
-from ._shapes import Builder, Shapes, found_in
+from ._shapes import POINT, Builder, Found, Shapes, found_in, is_closed
 from ._texts import Text, placed
 
 Answerer = Callable[[str, Frame], Any]
@@ -31,20 +30,28 @@ def bytes_answer(text: str, frame: Frame) -> bytes:
     return placed(text, frame).encode()
 
 
+def wkb_of(found: Found, frame: Frame) -> bytes:
+    """Polygons as WKB."""
+    return _wkb.encoded(found.points(frame), found.rings, found.polygons)
+
+
 def wkb_answer(text: str, frame: Frame) -> bytes:
     """An answer as WKB."""
-    found = found_in(text)
-    return _wkb.encoded(found.points(frame), found.rings, found.polygons)
+    return wkb_of(found_in(text), frame)
+
+
+def shapely_of(found: Found, frame: Frame) -> Any:
+    """Polygons as Shapely's geometry."""
+    return module("shapely.wkb").loads(wkb_of(found, frame))
 
 
 def shapely_answer(text: str, frame: Frame) -> Any:
     """An answer as Shapely's geometry."""
-    return module("shapely.wkb").loads(wkb_answer(text, frame))
+    return shapely_of(found_in(text), frame)
 
 
-def arrays_answer(text: str, frame: Frame) -> List[Tuple[Any, ...]]:
-    """An answer as a list of polygons, each a tuple of arrays, the shell first."""
-    found = found_in(text)
+def arrays_of(found: Found, frame: Frame) -> List[Tuple[Any, ...]]:
+    """Polygons as a list, each a tuple of arrays, the shell first."""
     if not found.polygons:
         return []
     points = module("numpy").frombuffer(found.points(frame)).reshape(-1, 2)
@@ -54,6 +61,15 @@ def arrays_answer(text: str, frame: Frame) -> List[Tuple[Any, ...]]:
         at += count
     each = iter(rings)
     return [tuple(islice(each, count)) for count in found.polygons]
+
+
+def arrays_answer(text: str, frame: Frame) -> List[Tuple[Any, ...]]:
+    """An answer as such a list."""
+    return arrays_of(found_in(text), frame)
+
+
+# What makes an answer of polygons, by what makes one of their text.
+OF_POLYGONS: Dict[Answerer, Callable[[Found, Frame], Any]] = {wkb_answer: wkb_of, shapely_answer: shapely_of, arrays_answer: arrays_of}
 
 
 class Given(NamedTuple):
@@ -72,8 +88,9 @@ def is_geometry(value: Any) -> bool:
 
 
 def is_array(value: Any) -> bool:
-    """Whether a value is an array of numpy's."""
-    return hasattr(value, "__array_interface__") and hasattr(value, "dtype")
+    """Whether a value is an array of numpy's, or like one."""
+    numpy = sys.modules.get("numpy")
+    return numpy is not None and isinstance(value, numpy.ndarray) or hasattr(value, "__array_interface__") and hasattr(value, "dtype")
 
 
 def is_bytes(value: Any) -> bool:
@@ -160,10 +177,8 @@ def add_rings(feature: Any, builder: Builder) -> None:
         if not is_array(ring) or ring.dtype.kind not in "fiu" or ring.ndim != 2 or ring.shape[1] != 2:
             told = f"an array of shape {ring.shape}" if is_array(ring) else f"a {type(ring).__name__}"
             raise builder.refused(f"{told} is no polygon: a ring is an array of shape (n, 2)")
-        points = array("d", ring.astype("<f8").tobytes())
-        if points[:2] != points[-2:]:
-            points += points[:2]
-        builder.ring(points.tobytes(), 1)
+        points = ring.astype("<f8", copy=False).tobytes()
+        builder.ring(points if is_closed(points) else points + points[:POINT], 1)
     builder.feature([len(rings)])
 
 

@@ -8,7 +8,7 @@ import os
 ANSWERED, NO_MEMORY, NO_CALL, REFUSED, SMALL = range(5)
 
 # The version of the calls that this package makes.
-CALLS = 2
+CALLS = 3
 
 
 class Answer(ctypes.Structure):
@@ -34,6 +34,32 @@ class Layer(ctypes.Structure):
     _fields_ = [("bytes", ctypes.c_char_p), ("length", ctypes.c_size_t)]
 
 
+class ColumnsAnswer(ctypes.Structure):
+    """What a call on columns answers. Fields that don't belong to the status are 0."""
+
+    coordinates: int
+    rings: int
+    polygons: int
+    detail: int
+    status: int
+    number: int
+    part: int
+    _fields_ = [
+        *((name, ctypes.c_uint64) for name in ("coordinates", "rings", "polygons", "detail")),
+        *((name, ctypes.c_uint32) for name in ("status", "number", "part")),
+    ]
+
+
+class Columns(ctypes.Structure):
+    """A layer as columns: where each of them stands, and how many numbers it has."""
+
+    _fields_ = [
+        field
+        for name in ("coordinates", "rings", "polygons", "features")
+        for field in ((name, ctypes.c_void_p), (f"{name}_length", ctypes.c_size_t))
+    ]
+
+
 def _opened() -> ctypes.CDLL:
     opened = ctypes.CDLL(os.path.join(os.path.dirname(os.path.abspath(__file__)), "liboverlay.so"))
     text = [ctypes.c_char_p, ctypes.c_size_t]
@@ -50,6 +76,11 @@ def _opened() -> ctypes.CDLL:
     opened.overlay_faces_fill.restype = None
     opened.overlay_faces_side.argtypes = [*layers]
     opened.overlay_faces_side.restype = ctypes.c_uint32
+    columns = ctypes.POINTER(Columns)
+    opened.overlay_columns_fill.argtypes = [*[ctypes.c_uint32] * 3, columns, columns, *room[:2], *room[:2], *room]
+    opened.overlay_columns_fill.restype = None
+    opened.overlay_columns_side.argtypes = [columns, columns]
+    opened.overlay_columns_side.restype = ctypes.c_uint32
     opened.overlay_version.argtypes = []
     opened.overlay_version.restype = ctypes.c_uint32
     if opened.overlay_version() != CALLS:

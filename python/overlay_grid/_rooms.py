@@ -6,9 +6,10 @@ A call takes a room and gives it back, so that each thread has its own, also whe
 from __future__ import annotations
 
 import ctypes
-from typing import Any, List
+from array import array
+from typing import Any, List, Tuple
 
-from ._library import Answer
+from ._library import Answer, ColumnsAnswer
 
 # Rooms up to this many bytes are kept.
 MOST = 1 << 20
@@ -16,21 +17,45 @@ LEAST = 1 << 14
 
 
 class Room:
-    """Memory for a text, and for what a call answers."""
+    """Memory for a text or for columns, and for what a call answers.
 
-    __slots__ = ("size", "held", "answer", "place", "answer_place")
+    Columns of polygons with so many points have twice as many coordinates, and an offset more than there are rings, or polygons. No ring
+    has fewer than four points.
+    """
+
+    __slots__ = ("size", "held", "answer", "place", "answer_place", "columns_answer", "columns")
 
     def __init__(self, size: int) -> None:
         self.size = max(LEAST, size)
         self.held: Any = ctypes.create_string_buffer(self.size)
-        self.answer = Answer()
+        self.answer, self.columns_answer = Answer(), ColumnsAnswer()
         self.place = ctypes.addressof(self.held)
         self.answer_place = ctypes.addressof(self.answer)
+        points = (self.size - 16) // 10
+        lists = points // 4 + 2
+        rings = self.place + 8 * points
+        self.columns = (self.place, 2 * points, rings, lists, rings + 4 * lists, lists, ctypes.addressof(self.columns_answer))
 
     def text(self) -> bytes:
         """The text that was answered."""
         text: bytes = self.held[: self.answer.length]
         return text
+
+    def lists(self) -> Tuple["array[int]", "array[int]", "array[int]"]:
+        """The columns that were answered."""
+        coordinates, _, rings, _, polygons, *_ = self.columns
+        answer = self.columns_answer
+        return column("i", coordinates, answer.coordinates), column("I", rings, answer.rings), column("I", polygons, answer.polygons)
+
+
+def column(kind: str, place: int, count: int) -> "array[int]":
+    """So many numbers that stand at a place."""
+    return array(kind, ctypes.string_at(place, 4 * count))
+
+
+def size_for(points: int) -> int:
+    """How many bytes a room for polygons with so many points has."""
+    return 10 * points + 16
 
 
 _free: List[Room] = []

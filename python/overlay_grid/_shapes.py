@@ -1,6 +1,6 @@
-"""Polygons as columns, in the layout of GeoArrow, and their texts on the grid.
+"""Polygons as columns, in the layout of GeoArrow, and their rings or texts on the grid.
 
-No point is an object of its own: `points` has x and y of all points by turns, and the other lists say how many points each ring has,
+No point is an object of its own: `x` and `y` have the coordinates of all points, and the other lists say how many points each ring has,
 how many rings each polygon, and how many polygons each feature.
 """
 
@@ -8,21 +8,42 @@ from __future__ import annotations
 
 from array import array
 from functools import lru_cache
-from itertools import islice
+from itertools import accumulate, islice
 from math import isfinite
-from typing import Iterable, List, NamedTuple, Optional, Tuple
+from typing import Iterable, List, NamedTuple, Optional, Sequence, Tuple
 
 from ._faults import GeometryError
 from ._grid import Box, Frame, finest_for
+from ._optional import numpy_for
 
 # A ring of fewer points, the first one again at its end, is refused.
 LEAST_RING = 4
+
+# How many bytes a point has.
+POINT = 16
+
+
+class Rings(NamedTuple):
+    """Closed rings on the grid: x and y of all points by turns, and where each ring begins among the points, and the last one ends."""
+
+    coordinates: "array[int]"
+    offsets: "array[int]"
+
+
+def extent(values: "array[float]") -> Tuple[float, float]:
+    """The least and the greatest of some numbers."""
+    numpy = numpy_for(len(values))
+    if numpy is None:
+        return min(values), max(values)
+    held = numpy.frombuffer(values)
+    return float(held.min()), float(held.max())
 
 
 class Shapes(NamedTuple):
     """Polygons in a reference system's units, and what their layer is called."""
 
-    points: "array[float]"
+    x: "array[float]"
+    y: "array[float]"
     rings: List[int]
     polygons: List[int]
     features: List[int]
@@ -44,38 +65,44 @@ class Shapes(NamedTuple):
 
     def box(self) -> Optional[Box]:
         """The box of all points; a point that has no place is refused."""
-        if not self.points:
+        if not self.x:
             return None
-        if not isfinite(sum(self.points)):
-            for k, value in enumerate(self.points):
-                if not isfinite(value):
-                    raise self.fault(f"a coordinate is no finite number: {value}", k // 2)
-        x, y = self.points[0::2], self.points[1::2]
-        return Box(min(x), min(y), max(x), max(y))
+        if not isfinite(sum(self.x) + sum(self.y)):
+            for k, point in enumerate(zip(self.x, self.y)):
+                for value in point:
+                    if not isfinite(value):
+                        raise self.fault(f"a coordinate is no finite number: {value}", k)
+        (left, right), (low, high) = extent(self.x), extent(self.y)
+        return Box(left, low, right, high)
 
     def off_grid(self, frame: Frame) -> Optional[GeometryError]:
         """The refusal of the first point that lies off a grid; nothing where none does."""
-        for k, (x, y) in enumerate(zip(self.points[0::2], self.points[1::2])):
+        for k, (x, y) in enumerate(zip(self.x, self.y)):
             if frame.off(x, y):
                 return self.fault(f"the point {x!r} {y!r} lies off the grid, which has 2^28 units each way from its origin", k)
         return None
 
     def farthest(self) -> float:
         """The greatest absolute value of a coordinate."""
-        return max(max(self.points), -min(self.points)) if self.points else 0.0
+        return max(abs(end) for end in (*extent(self.x), *extent(self.y))) if self.x else 0.0
 
     def no_room(self, box: Box) -> GeometryError:
         """The refusal of the farthest point, where no grid of the unit has room for a box of all layers."""
         reach = self.farthest()
-        k = next(k for k, value in enumerate(self.points) if abs(value) == reach)
+        k = next(k for k, (x, y) in enumerate(zip(self.x, self.y)) if reach in (abs(x), abs(y)))
         reason = f"reaches {reach:.6g}, and the finest grid with room for all layers is {float(finest_for(box)):g}"
-        return self.fault(reason, k // 2)
+        return self.fault(reason, k)
+
+    def on_grid(self, frame: Frame) -> Rings:
+        """All rings on the grid."""
+        coordinates = array("i", bytes(8 * len(self.x)))
+        coordinates[0::2], coordinates[1::2] = frame.across.column(self.x), frame.up.column(self.y)
+        return Rings(coordinates, array("I", accumulate(self.rings, initial=0)))
 
     def text(self, frame: Frame) -> bytes:
         """The layer's text on the grid, a line for each feature."""
-        numbers = [0] * len(self.points)
-        numbers[0::2] = frame.across.rounded(self.points[0::2])
-        numbers[1::2] = frame.up.rounded(self.points[1::2])
+        numbers = [0] * (2 * len(self.x))
+        numbers[0::2], numbers[1::2] = frame.across.rounded(self.x), frame.up.rounded(self.y)
         return (form_of(self.rings, self.polygons, self.features) % tuple(numbers)).encode()
 
 
@@ -99,6 +126,12 @@ def feature_form(polygons: List[str]) -> str:
     return f"MULTIPOLYGON ({', '.join(polygons)})" if polygons else "POLYGON EMPTY"
 
 
+def is_closed(points: bytes) -> bool:
+    """Whether a ring's last point is its first."""
+    first, last = points[:POINT], points[-POINT:]
+    return first == last or array("d", first) == array("d", last)
+
+
 class Builder:
     """Shapes in the making, of features that are added one by one."""
 
@@ -115,8 +148,8 @@ class Builder:
 
     def ring(self, points: bytes, part: int) -> None:
         """Adds a ring of points, the first one again at its end, to the polygon that comes next."""
-        count = len(points) // 16
-        if points[:16] != points[-16:] and array("d", points[:16]) != array("d", points[-16:]):
+        count = len(points) // POINT
+        if not is_closed(points):
             raise self.refused("a ring's last point isn't its first", part)
         if count < LEAST_RING:
             raise self.refused(f"a ring has {count} points, the first one again at its end, and at least {LEAST_RING} are wanted", part)
@@ -133,14 +166,14 @@ class Builder:
         """All that was added."""
         points = array("d")
         points.frombytes(b"".join(self.chunks))
-        return Shapes(points, self.rings, self.polygons, self.features, self.layer)
+        return Shapes(points[0::2], points[1::2], self.rings, self.polygons, self.features, self.layer)
 
 
 class Found(NamedTuple):
     """Polygons of the grid that the library answered."""
 
-    x: List[int]
-    y: List[int]
+    x: Sequence[int]
+    y: Sequence[int]
     rings: List[int]
     polygons: List[int]
 

@@ -28,12 +28,12 @@ class Text:
 
     def box(self) -> Optional[Box]:
         """The box of all points; a number that floating-point numbers have no room for is refused."""
-        if len(self.values) < 2:
-            return None
         if not isfinite(sum(self.values)):
             for number, value in enumerate(self.values):
                 if not isfinite(value):
                     raise self.out_of_range(number)
+        if len(self.values) < 2:
+            return None
         x, y = self.values[0::2], self.values[1::2]
         return Box(min(x), min(y), max(x), max(y))
 

@@ -7,7 +7,7 @@ from array import array
 from itertools import islice
 from typing import Iterator, List, Optional, Tuple
 
-from ._shapes import Builder
+from ._shapes import POINT, Builder
 
 BIG_ENDIAN, LITTLE_ENDIAN = 0, 1
 NAMES = {
@@ -81,8 +81,21 @@ def points_of(data: bytes, order: int, dimensions: int) -> bytes:
     return flat.tobytes()
 
 
+def plain_end(data: bytes, at: int) -> int:
+    """Where a polygon of one ring in two dimensions ends; 0 where there is none such, or it isn't whole."""
+    if len(data) - at < PLAIN.size:
+        return 0
+    order, kind, rings, points = PLAIN.unpack_from(data, at)
+    end: int = at + PLAIN.size + points * POINT
+    return end if order == LITTLE_ENDIAN and kind == POLYGON and rings == 1 and points and end <= len(data) else 0
+
+
 def add_polygon(data: bytes, at: int, builder: Builder, part: int) -> Tuple[int, int]:
     """Adds a polygon's rings; how many they are, and where it ends."""
+    end = plain_end(data, at)
+    if end:
+        builder.ring(data[at + PLAIN.size : end], part)
+        return 1, end
     order, kind, dimensions, rings, at = head_of(data, at)
     if kind != POLYGON:
         raise Unusual(f"a {NAMES.get(kind, f'geometry of kind {kind}')} is no polygon")
@@ -103,11 +116,10 @@ def add(data: Optional[bytes], builder: Builder) -> None:
     """Adds a geometry; nothing is one without polygons."""
     if data is None:
         return builder.feature([])
-    if len(data) >= PLAIN.size:
-        order, kind, rings, points = PLAIN.unpack_from(data)
-        if order == LITTLE_ENDIAN and kind == POLYGON and rings == 1 and points and len(data) == PLAIN.size + points * 2 * WIDTH:
-            builder.ring(data[PLAIN.size :], 1)
-            return builder.feature([1])
+    end = plain_end(data, 0)
+    if end:
+        builder.ring(data[PLAIN.size : end], 1)
+        return builder.feature([1])
     try:
         builder.feature(list(polygons_of(data, builder)))
     except (struct.error, IndexError) as error:

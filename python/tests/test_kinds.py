@@ -108,6 +108,7 @@ REFUSED = [
     (("", "POLYGON ((0.25 0, 1.25 0, 0.25 0))"), {}, ("B: 3 short ring at 9", Refusal.SHORT_RING, "B", 9)),
     (("POLYGON EMPTY POLYGON ((0.25 0, 1.25 0, 0.25 1, 1 1))", ""), {}, ("A: 4 open ring at 23", Refusal.OPEN_RING, "A", 23)),
     (("", "POLYGON ((0.5 0, 1e999 0, 1 1, 0.5 0))"), {}, ("B: 2 number out of range at 17", Refusal.NUMBER_RANGE, "B", 17)),
+    (("", "POLYGON ((-1e999"), {}, ("B: 2 number out of range at 10", Refusal.NUMBER_RANGE, "B", 10)),
     (("POLYGON ((0.5 0, 1 0, 1 268435456.5, 0.5 0))", ""), {"origin": (0, 0)}, ("A: 2 number out of range at 24", 2, "A", 24)),
     (("POLYGON ((0 0, 1 0, 1 1, 0 0))", "POLYGON ((0 0, 1 0, -1e10 1, 0 0))"), {}, ("B: 2 number out of range at 20", 2, "B", 20)),
     (("POLYGON ((0 0, 1e10 0, 1 1, 0 0)", ""), {}, ("A: 1 syntax at 32", Refusal.SYNTAX, "A", 32)),

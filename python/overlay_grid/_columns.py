@@ -1,0 +1,66 @@
+"""Calls of the library on layers that are columns of the grid, in the layout of GeoArrow, and the polygons that it answers."""
+
+from __future__ import annotations
+
+from array import array
+from operator import sub
+from typing import List, Optional
+
+from ._calls import SEGMENTS, SIDE, fault_of, limit_of, side_number
+from ._faults import Refusal
+from ._library import ANSWERED, SMALL, Answer, Columns, library
+from ._rooms import Room, given_back, size_for, taken
+from ._shapes import Found, Rings
+
+
+class Passed:
+    """Rings as the library takes them, which stay where they are as long as this is there. They are read by parity, so that they may be
+    those of one polygon."""
+
+    __slots__ = ("held", "columns")
+
+    def __init__(self, rings: Rings) -> None:
+        offsets, whole = rings.offsets, array("I", (0, len(rings.offsets) - 1))
+        one, (first, _) = array("I", (0, 1)), offsets.buffer_info()
+        place, count = rings.coordinates.buffer_info()
+        self.held = (rings, whole, one)
+        self.columns = Columns(place or first, count, *offsets.buffer_info(), *whole.buffer_info(), *one.buffer_info())
+
+
+def fill(call: int, side: int, limit: int, a: Passed, b: Passed, points: int) -> Room:
+    """The room with what the library answers, in which the columns are whole where there are any."""
+    while True:
+        room = taken(size_for(points))
+        library.overlay_columns_fill(call, side, limit, a.columns, b.columns, *room.columns)
+        if room.columns_answer.status != SMALL:
+            return room
+        points = room.columns_answer.coordinates // 2
+        given_back(room)
+
+
+def polygons_of(call: int, a: Rings, b: Rings, side: Optional[int], segments: Optional[int]) -> Found:
+    """What an operation answers on the rings of two layers."""
+    limit = SEGMENTS if segments is None else limit_of(segments)
+    first, second = Passed(a), Passed(b)
+    points = 64 + len(a.coordinates) + len(b.coordinates)  # a guess: where it is too small, all is made again
+    room = fill(call, SIDE if side is None else side_number(side), limit, first, second, points)
+    if side is None and room.columns_answer.number == Refusal.TOO_MANY_TILES:
+        given_back(room)
+        room = fill(call, library.overlay_columns_side(first.columns, second.columns), limit, first, second, points)
+    told = room.columns_answer
+    if told.status != ANSWERED:
+        raise fault_of(Answer(0, told.detail, told.status, told.number, told.part))
+    found = found_in(room)
+    given_back(room)
+    return found
+
+
+def found_in(room: Room) -> Found:
+    """The polygons that a room has."""
+    coordinates, rings, polygons = room.lists()
+    return Found(coordinates[0::2], coordinates[1::2], counts_of(rings), counts_of(polygons))
+
+
+def counts_of(offsets: "array[int]") -> List[int]:
+    """How long the lists are that offsets cut."""
+    return list(map(sub, offsets[1:], offsets))
