@@ -58,7 +58,9 @@ it is 262144, or where that gives more than 65536 tiles the least power of two t
 Exit status: 0 answered, 1 a file, the output or memory failed, 2 command line not accepted,
 3 input refused.
 
-Example: overlay intersection parcels.wkt zones.wkt > common.wkt";
+Example: overlay intersection parcels.wkt zones.wkt > common.wkt
+
+Version 1.0.0";
 
 pub(crate) fn word_arg<'a>(alloc: Global) -> Arg<'a>
     ensures rule { rule_of result ≡ word_rule }

@@ -50,6 +50,8 @@ Exit status: 0 answered, 1 a file, the output or memory failed, 2 command line n
 3 input refused.
 
 Example: overlay intersection parcels.wkt zones.wkt > common.wkt
+
+Version 1.0.0
 ";
 
 /// What help prints of faces.
@@ -93,6 +95,8 @@ Exit status: 0 answered, 1 a file, the output or memory failed, 2 command line n
 3 input refused.
 
 Example: overlay intersection parcels.wkt zones.wkt > common.wkt
+
+Version 1.0.0
 ";
 
 const FAILED: Words = Words::Text("overlay: 11 write failed\n");
