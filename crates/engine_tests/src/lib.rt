@@ -4,6 +4,12 @@
 #![tactic(auto)]
 
 #[cfg(test)]
+mod arrays;
+#[cfg(test)]
+mod covered_lines;
+#[cfg(test)]
+mod faces;
+#[cfg(test)]
 mod limits;
 pub mod one_by_one;
 #[cfg(test)]

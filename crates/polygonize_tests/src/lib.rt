@@ -3,15 +3,13 @@
 
 #[cfg(test)]
 mod again;
-#[cfg(test)]
-mod closing;
+pub mod closing;
 #[cfg(test)]
 mod generated;
 #[cfg(test)]
 mod parts;
 #[cfg(test)]
 mod rings;
-#[cfg(test)]
-mod wide;
+pub mod wide;
 #[cfg(test)]
 mod worked;

@@ -2,10 +2,6 @@
 #![tactic(auto)]
 
 #[cfg(test)]
-mod closing;
-#[cfg(test)]
 mod ready;
-#[cfg(test)]
-mod wide;
 #[cfg(test)]
 mod worked;

@@ -7,9 +7,9 @@ ghost use Rattle.rows.specs.Made.{AreReady, IsBound};
 ghost use Rattle.rows.specs.RowEdges.{IsRowEdgeBefore};
 ghost use Rattle.rows.specs.RowSets.{AreRowSets, edges_at};
 
-use crate::closing::{are_in_limit, closes};
 use cover_sets::Sets;
 use geom::{DirectedEdge, NoMemory};
+use polygonize_tests::closing::{are_in_limit, closes};
 use rows::{RowEdge, RowEdges, RowSet};
 use std::alloc::Allocator;
 

@@ -7,5 +7,6 @@ mod features;
 mod in_parts;
 #[cfg(test)]
 mod reading;
+pub mod squares;
 #[cfg(test)]
 mod written;

@@ -1,35 +1,10 @@
 //! Polygons that are written, and read again.
 
-ghost use Rattle.std.specs.Prelude.{◌<ℤ◌};
-
-use geom::{NoMemory, Polygon, Pt, SimpleRing};
+use crate::squares::square;
+use geom::{NoMemory, Polygon};
 use std::alloc::Allocator;
 use std::test::Fail;
 use wkt::{read_layer, write_multi};
-
-fn quadrangle<A: Allocator>(alloc: A, a: Pt, b: Pt, c: Pt, d: Pt) -> Result<SimpleRing<A>, NoMemory>
-    requires ab { a.x <ℤ b.x }
-    requires ac { a.x <ℤ c.x }
-    requires ad { a.y <ℤ d.y }
-    requires bc { b.y <ℤ c.y }
-    requires db { d.x <ℤ b.x }
-    requires dc { d.x <ℤ c.x }
-{
-    Ok(SimpleRing::new(Vec::from_slice(alloc, &[a, b, c, d])?))
-}
-
-/// The square from (lo, lo) to (hi, hi), counter-clockwise.
-fn square<A: Allocator>(alloc: A, lo: i32, hi: i32) -> Result<SimpleRing<A>, NoMemory>
-    requires { lo <ℤ hi }
-{
-    quadrangle(
-        alloc,
-        Pt { x: lo, y: lo },
-        Pt { x: hi, y: lo },
-        Pt { x: hi, y: hi },
-        Pt { x: lo, y: hi },
-    )
-}
 
 fn with_hole<A: Allocator + Copy>(alloc: A) -> Result<Polygon<A>, NoMemory> {
     let mut holes = Vec::new(alloc);

@@ -2,9 +2,9 @@
 
 ghost use Rattle.std.specs.Prelude.{◌<◌};
 
-use crate::layers::{WORKED, lent};
+use crate::faces::layers::{WORKED, lent};
+use crate::one_by_one::OneByOne;
 use engine::{FacesFault, FacesPart, FacesRefusal, MemSink, Plan, Sink, faces, faces_status};
-use engine_tests::one_by_one::OneByOne;
 use geom::{Fault, NoMemory};
 use std::alloc::Global;
 use std::sync::Wait;

@@ -1,6 +1,6 @@
 //! Layers of chance: what columns give is what texts of the same rings give.
 
-use crate::written::{line_of, push_ring};
+use crate::arrays::written::{line_of, push_ring};
 use columns::{Columns, Points};
 use engine::{
     ColumnsOutput, Limits, Output, Plan, run_alone, run_columns_alone_within, run_columns_within,

@@ -1,7 +1,7 @@
 //! Two workers at the same time.
 
+use crate::texts::{LARGE, LARGE_OTHER};
 use engine::{MemSink, Plan, faces};
-use engine_tests::texts::{LARGE, LARGE_OTHER};
 use geom::NoMemory;
 use holding::Holding;
 use std::alloc::Global;

@@ -1,8 +1,8 @@
 use Rattle.std.proofs.Common.{List, subst, sym}
 use Rattle.std.specs.Prelude.{◌≢◌, AllPairs}
 use Rattle.geom.specs.declared.point.Pt.{Pt}
-use Rattle.columns_tests.proofs.Squares.{square_apart}
-use Rattle.columns_tests.proofs.written.quadrangle.Goals as goal
+use Rattle.wkt_tests.proofs.Apart.{square_apart}
+use Rattle.wkt_tests.proofs.squares.quadrangle.Goals as goal
 
 pub new-requires-clause-distinct : goal.new-requires-clause-distinct
 new-requires-clause-distinct g c =
