@@ -15,14 +15,14 @@ ghost use Rattle.engine.specs.Rounds.{AllInLimit, AreCellBins};
 
 use crate::checking::joint_bounds;
 use geom::{NoMemory, Rect, Seg};
-use grid::{GREATEST_SIDE, Grid, KeptBins};
+use grid::{GREATEST_SIDE, Grid, KeptBins, MOST_TILES};
 use std::alloc::Allocator;
 
 /// How many cells a worker has at least, where that is cheap.
 const CELLS: u64 = 4;
 
 /// How many segments are worth a cell.
-const SEGMENTS: u64 = 64;
+const SEGMENTS: u64 = 16;
 
 /// How many more times than once the segments may lie in cells on average.
 const DOUBLES: u128 = 16;
@@ -202,6 +202,11 @@ fn doubles_over(reach: &Reach, side: u32) -> u128 {
     (reach.lengths / side).saturating_add(reach.areas / side / side)
 }
 
+/// How many cells so many segments are worth at most.
+fn most_cells(segments: u64) -> u64 {
+    (segments / SEGMENTS).min(u64::from(MOST_TILES))
+}
+
 /// Whether the segments lie in too many cells of this side for any number of workers.
 fn lie_in_many(reach: &Reach, side: u32) -> bool {
     doubles_over(reach, side) > DOUBLES * u128::from(reach.count)
@@ -218,5 +223,5 @@ fn is_worth(bounds: &Rect, reach: &Reach, workers: u32, side: u32) -> bool {
     let count = u128::from(reach.count);
     cells < workers && !lie_in_many(reach, side / 2)
         || cells < CELLS * workers && doubles <= DOUBLES_FOR_SHARES * count
-        || finer <= reach.count / SEGMENTS && doubles <= count
+        || finer <= most_cells(reach.count) && doubles <= count
 }
