@@ -1,6 +1,6 @@
 """tells what the documents name and the repository doesn't have: paths, lemmas, calls and definitions, lemma files of geom that CONTRACTS leaves out, documents and lines longer than they may be, and what is made of bench/results and isn't the same any more
 
-Whatever stands between backquotes in README and docs/ is looked at. A path stands below the root or below a crate, with or without its
+Whatever stands between backquotes in a text of Markdown is looked at. A path stands below the root or below a crate, with or without its
 ending; `File.lemma` is a lemma of a file of that name; in CONTRACTS, MAP and PROOFS each longer word has to stand somewhere in crates/.
 A line of Markdown has at most 100 columns, but for tables, code, and what can't be broken: a link, a path, what is quoted.
 README's table of other tools is made of bench/results/peers.tsv, and docs/speed.svg of that and speed.tsv: `--write` makes both anew.
@@ -26,7 +26,7 @@ MOST_WORDS = {"README.md": 1200, "docs/CHECKING.md": 1200, "docs/CONTRACTS.md": 
 MOST_COLUMNS = 100
 # What stays on one line: a word, what is quoted, a link.
 UNBROKEN = re.compile(r"(?:`[^`]*`|\[[^]]*\]\([^)]*\)|[^\s`[]|[`[])+")
-MADE = ("/out/", "out/", "File.", "common_ground", "a/b")
+MADE = ("/out/", "out/", "File.", "NAME", "common_ground", "a/b", "/vsicurl/")
 # The first table below this line is README's of other tools.
 COMPARED = re.compile(r"(?<=\n## Compared\n)((?:(?:[^|#\n].*)?\n)*)(?:\|.*\n)+")
 
@@ -114,21 +114,21 @@ def main(arguments: argparse.Namespace) -> int:
         if not os.path.exists(path) or text_of(path) != wanted:
             wrong += 1
             print("%s isn't what bench/results says: bench/run documents --write" % path)
-    for document in ["README.md", *sorted(glob.glob("docs/*.md"))]:
+    documents = sorted(glob.glob("**/*.md", recursive=True) + glob.glob(".github/**/*.md", recursive=True))
+    for document in documents:
         for name in missing(document, sources):
             wrong += 1
             print("%s: %s isn't there" % (document, name))
+        for number in long_lines(document):
+            wrong += 1
+            print("%s: line %d has more than %d columns" % (document, number, MOST_COLUMNS))
     for document, most in MOST_WORDS.items():
         words = len(text_of(document).split())
         if words > most:
             wrong += 1
             print("%s: %d words, %d at most" % (document, words, most))
-    for document in sorted(glob.glob("**/*.md", recursive=True) + glob.glob(".github/**/*.md", recursive=True)):
-        for number in long_lines(document):
-            wrong += 1
-            print("%s: line %d has more than %d columns" % (document, number, MOST_COLUMNS))
     for name in unlisted():
         wrong += 1
         print("docs/CONTRACTS.md: %s of crates/geom/proofs isn't listed" % name)
-    print("%d documents read; faults found: %d" % (1 + len(glob.glob("docs/*.md")), wrong))
+    print("%d documents read; faults found: %d" % (len(documents), wrong))
     return int(wrong > 0)
