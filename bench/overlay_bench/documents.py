@@ -22,7 +22,7 @@ LEMMA = re.compile(r"(?:proofs/)?([A-Z]\w*)\.(\w+)")
 # Documents in which each longer word is one of the code.
 OF_CODE = ("CONTRACTS.md", "MAP.md", "PROOFS.md")
 # How many words a document may have at most.
-MOST_WORDS = {"README.md": 1200, "docs/CHECKING.md": 1200, "docs/CONTRACTS.md": 2600, "docs/DECISIONS.md": 2500}
+MOST_WORDS = {"README.md": 1200, "docs/CHECKING.md": 1200, "docs/CONTRACTS.md": 2750, "docs/DECISIONS.md": 2500}
 MOST_COLUMNS = 100
 # What stays on one line: a word, what is quoted, a link.
 UNBROKEN = re.compile(r"(?:`[^`]*`|\[[^]]*\]\([^)]*\)|[^\s`[]|[`[])+")
