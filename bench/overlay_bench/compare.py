@@ -9,27 +9,33 @@ number, its seed and its commands, cut down to a small one that still differs; t
 """
 from __future__ import annotations
 
+import argparse
 import os
 import random
 import shutil
 import tempfile
 import time
 from collections import Counter
+from collections.abc import Callable, Sequence
 from dataclasses import dataclass
+from typing import NamedTuple, TypeVar
 
 import reference
 
 from . import answering, layers, programs, side_by_side
-from .answering import Plan
+from .answering import Asked, Plan, Texts
 from .cutting import cut
-from .judges import Exact, Plain
+from .judges import Exact, Judge, Plain
+from .layers import Pair, Polygon, Polygons
 from .programs import COMMANDS
 
 SMALL, LARGE = (3, 30), (30, 3000)
 MOST = 20
 
+Thing = TypeVar("Thing")
 
-def add_arguments(parser):
+
+def add_arguments(parser: argparse.ArgumentParser) -> None:
     side_by_side.add_arguments(parser, "pairs", 1000)
     parser.add_argument("--large", type=float, default=0.1, help="the share of large pairs; 0 needs no rustc")
     answering.add_share(parser)
@@ -38,7 +44,7 @@ def add_arguments(parser):
     parser.add_argument("--seconds", type=float, default=60, help="after which a call is over")
 
 
-def plan(rng, command, bounds):
+def plan(rng: random.Random, command: str, bounds: reference.Bounds) -> Plan:
     """A plan: where there are too many tiles (seldom) it is refused."""
     if rng.random() < 0.1:
         return Plan(command, None, 4, rng.random() < 0.4)
@@ -62,16 +68,28 @@ class Case:
     number: int
     kind: str
     large: bool
-    polygons: tuple
+    polygons: Pair
     together: bool
-    plans: list
-    asked: answering.Program | answering.Library
+    plans: list[Plan]
+    asked: Asked
 
-    def texts(self, polygons=None):
-        return tuple(layers.text_of(layer, self.together).encode() for layer in polygons or self.polygons)
+    def texts(self, polygons: Pair | None = None) -> Texts:
+        first, second = polygons or self.polygons
+        return layers.text_of(first, self.together).encode(), layers.text_of(second, self.together).encode()
 
 
-def case(number, arguments, tested):
+class Outcome(NamedTuple):
+    """Who was asked about a pair, by which judge, how many runs it were, differed and were over; and what there is to tell."""
+
+    asked: str
+    judge: str
+    runs: int
+    wrong: int
+    over: int
+    told: list[str]
+
+
+def case(number: int, arguments: argparse.Namespace, tested: answering.Tested) -> Case:
     rng = random.Random(arguments.seed * 1_000_003 + number)
     kind = layers.KINDS[number % len(layers.KINDS)]
     if arguments.kind:
@@ -91,15 +109,16 @@ def case(number, arguments, tested):
 class Bench:
     """What is tested, and what judges it."""
 
-    def __init__(self, arguments, folder):
+    def __init__(self, arguments: argparse.Namespace, folder: str) -> None:
         self.arguments, self.tested = arguments, answering.Tested(arguments, folder, arguments.seconds)
 
-    def judge(self, large):
+    def judge(self, large: bool) -> type[Exact] | type[Plain]:
         return Plain if large or self.arguments.judge == "plain" else Exact
 
-    def wrong(self, texts, plans, found):
+    def wrong(self, texts: Texts, plans: Sequence[Plan], found: Case) -> tuple[list[Plan], list[Plan]]:
         """The plans whose answers are not the judge's, and those that took too long."""
-        judge, wrong, over = self.judge(found.large)(texts), [], []
+        judge: Judge = self.judge(found.large)(texts)
+        wrong, over = [], []
         for wanted in plans:
             got = found.asked.answer(texts, wanted)
             if got.status is None:
@@ -108,23 +127,23 @@ class Bench:
                 wrong.append(wanted)
         return wrong, over
 
-    def one(self, number):
-        """Runs one pair: who was asked, by which judge, how many runs it were, differed and were over; and what there is to tell."""
+    def one(self, number: int) -> Outcome:
+        """Runs one pair."""
         made = case(number, self.arguments, self.tested)
         wrong, over = self.wrong(made.texts(), made.plans, made)
         told = ["%s is over by %s %s" % (named(made), wanted.command, " ".join(wanted.words())) for wanted in over]
         if wrong:
             told.append("%s differs: %s" % (named(made), os.path.relpath(self.keep(made, wrong))))
-        return made.asked.name, self.judge(made.large).name, len(made.plans), len(wrong), len(over), told
+        return Outcome(made.asked.name, self.judge(made.large).name, len(made.plans), len(wrong), len(over), told)
 
-    def ended(self, number, how):
-        """The same of a pair whose process ended in the middle."""
+    def ended(self, number: int, how: side_by_side.Ended) -> Outcome:
+        """A pair whose process ended in the middle."""
         made = case(number, self.arguments, self.tested)
         folder = self.write(made, made.plans)
         told = ["%s ended its process: %s, %s" % (named(made), "over" if how.is_over() else how, os.path.relpath(folder))]
-        return made.asked.name, self.judge(made.large).name, len(made.plans), 0 if how.is_over() else 1, how.is_over(), told
+        return Outcome(made.asked.name, self.judge(made.large).name, len(made.plans), int(not how.is_over()), int(how.is_over()), told)
 
-    def write(self, made, wanted):
+    def write(self, made: Case, wanted: Sequence[Plan]) -> str:
         """A folder of bench/out with a pair, and how to run it again."""
         folder = os.path.join(programs.OUT, "difference-%d-%d" % (self.arguments.seed, made.number))
         programs.keep(folder, "", made.texts())
@@ -135,57 +154,66 @@ class Bench:
             file.write("bench/run compare --seed %d --first %d --pairs 1%s\n" % (self.arguments.seed, made.number, same))
         return folder
 
-    def keep(self, made, wanted):
+    def keep(self, made: Case, wanted: Sequence[Plan]) -> str:
         """Writes a difference to bench/out, as it was and cut down."""
         folder = self.write(made, wanted)
         programs.keep(folder, "small-", made.texts(cut_down(self, made, wanted[0])))
         return folder
 
 
-def named(made):
+def named(made: Case) -> str:
     segments = sum(len(ring) for layer in made.polygons for rings in layer for ring in rings)
     return "pair %d (%s, %d segments, by %s)" % (made.number, made.kind, segments, made.asked.name)
 
 
-def replaced(items, place, item):
+def replaced(items: list[Thing], place: int, item: Thing) -> list[Thing]:
     return [*items[:place], item, *items[place + 1:]]
 
 
-def cut_down(bench, found, wanted, seconds=120):
+def cut_down(bench: Bench, found: Case, wanted: Plan, seconds: float = 120) -> Pair:
     """A smaller pair on which one plan still differs: polygons, then rings, then points are left out as long as it does."""
-    best, until = list(found.polygons), time.monotonic() + seconds
+    until = time.monotonic() + seconds
 
-    def differs(polygons):
+    def differs(polygons: Pair) -> bool:
         return time.monotonic() < until and bool(bench.wrong(found.texts(polygons), [wanted], found)[0])
 
-    for side in (0, 1):
-        best[side] = cut(best[side], lambda layer: differs(replaced(best, side, layer)))
-        for i in range(len(best[side])):
-            rings = lambda changed: replaced(best, side, replaced(best[side], i, changed))
-            best[side][i:i + 1] = [cut(best[side][i], lambda changed: len(changed) > 0 and differs(rings(changed)))]
-            for j in range(len(best[side][i])):
-                points = lambda changed: rings(replaced(best[side][i], j, changed))
-                best = points(cut(best[side][i][j], lambda changed: len(changed) > 2 and differs(points(changed))))
-    return tuple(best)
+    first, second = found.polygons
+    first = cut_layer(first, lambda changed: differs((changed, second)))
+    return first, cut_layer(second, lambda changed: differs((first, changed)))
+
+
+def cut_layer(layer: Polygons, differs: Callable[[Polygons], bool]) -> Polygons:
+    """Fewer polygons, rings and points of a layer with which it still differs."""
+    layer = cut(layer, differs)
+    for i in range(len(layer)):
+        def is_with(polygon: Polygon) -> bool:
+            return len(polygon) > 0 and differs(replaced(layer, i, polygon))
+
+        polygon = cut(layer[i], is_with)
+        for j in range(len(polygon)):
+            polygon = replaced(polygon, j, cut(polygon[j], lambda ring: len(ring) > 2 and is_with(replaced(polygon, j, ring))))
+        layer = replaced(layer, i, polygon)
+    return layer
 
 
 class Counts:
     """What was compared how, and what came of it."""
 
-    def __init__(self):
-        self.pairs, self.runs, self.wrong, self.over = Counter(), 0, 0, 0
+    def __init__(self) -> None:
+        self.pairs: Counter[tuple[str, str]] = Counter()
+        self.runs = self.wrong = self.over = 0
 
-    def add(self, asked, judge, runs, wrong, over):
-        self.pairs[asked, judge] += 1
-        self.runs += runs
-        self.wrong += bool(wrong)
-        self.over += over
+    def add(self, done: Outcome) -> None:
+        self.pairs[done.asked, done.judge] += 1
+        self.runs += done.runs
+        self.wrong += bool(done.wrong)
+        self.over += done.over
 
-    def by(self, asked):
+    def by(self, asked: str) -> str:
         return ", ".join("%d pairs against %s" % (count, judge) for (who, judge), count in sorted(self.pairs.items()) if who == asked) or "no pair"
 
 
-def main(arguments):
+def main(arguments: argparse.Namespace) -> int:
     if arguments.large or arguments.judge == "plain":
         programs.plain()
     start, counts = time.monotonic(), Counts()
@@ -193,9 +221,9 @@ def main(arguments):
     bench, numbers = Bench(arguments, folder), range(arguments.first, arguments.first + arguments.pairs)
     try:
         for number, result in side_by_side.results(bench.one, numbers, arguments.jobs, arguments.minutes):
-            *result, told = bench.ended(number, result) if isinstance(result, side_by_side.Ended) else result
-            counts.add(*result)
-            for line in told:
+            done = bench.ended(number, result) if isinstance(result, side_by_side.Ended) else result
+            counts.add(done)
+            for line in done.told:
                 print(line, flush=True)
             if counts.wrong == MOST:
                 break

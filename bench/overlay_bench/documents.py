@@ -1,13 +1,18 @@
-"""tells what the documents name and the repository doesn't have: paths, lemmas, calls and definitions, lemma files of geom that CONTRACTS leaves out, documents longer than they may be, and what is made of bench/results and isn't the same any more
+"""tells what the documents name and the repository doesn't have: paths, lemmas, calls and definitions, lemma files of geom that PROOFS leaves out, documents and lines longer than they may be, and what is made of bench/results and isn't the same any more
 
-Whatever stands between backquotes in README and docs/ is looked at. A path stands below the root or below a crate, with or without its
+Whatever stands between backquotes in a text of Markdown is looked at. A path stands below the root or below a crate, with or without its
 ending; `File.lemma` is a lemma of a file of that name; in CONTRACTS, MAP and PROOFS each longer word has to stand somewhere in crates/.
+A line of Markdown has at most 100 columns, but for tables, code, and what can't be broken: a link, a path, what is quoted.
 README's table of other tools is made of bench/results/peers.tsv, and docs/speed.svg of that and speed.tsv: `--write` makes both anew.
 The exit status is 1 where something is missing.
 """
+from __future__ import annotations
+
+import argparse
 import glob
 import os
 import re
+from collections.abc import Iterator
 
 from . import compared, plot, programs
 
@@ -17,19 +22,22 @@ LEMMA = re.compile(r"(?:proofs/)?([A-Z]\w*)\.(\w+)")
 # Documents in which each longer word is one of the code.
 OF_CODE = ("CONTRACTS.md", "MAP.md", "PROOFS.md")
 # How many words a document may have at most.
-MOST_WORDS = {"README.md": 1200, "docs/CHECKING.md": 1200, "docs/CONTRACTS.md": 3400, "docs/DECISIONS.md": 2500}
-MADE = ("/out/", "out/", "File.", "common_ground", "a/b")
-
-
+MOST_WORDS = {
+    "README.md": 1200, "docs/CHECKING.md": 1200, "docs/CONTRACTS.md": 2700, "docs/DECISIONS.md": 2500, "docs/PROOFS.md": 5500,
+}
+MOST_COLUMNS = 100
+# What stays on one line: a word, what is quoted, a link.
+UNBROKEN = re.compile(r"(?:`[^`]*`|\[[^]]*\]\([^)]*\)|[^\s`[]|[`[])+")
+MADE = ("/out/", "out/", "File.", "NAME", "common_ground", "a/b", "/vsicurl/")
 # The first table below this line is README's of other tools.
 COMPARED = re.compile(r"(?<=\n## Compared\n)((?:(?:[^|#\n].*)?\n)*)(?:\|.*\n)+")
 
 
-def add_arguments(parser):
+def add_arguments(parser: argparse.ArgumentParser) -> None:
     parser.add_argument("--write", action="store_true", help="makes README's table of other tools and docs/speed.svg anew")
 
 
-def text_of(path):
+def text_of(path: str) -> str:
     with open(path, encoding="utf-8") as file:
         return file.read()
 
@@ -37,23 +45,23 @@ def text_of(path):
 class Sources:
     """The files of the crates, their words, and their paths."""
 
-    def __init__(self):
+    def __init__(self) -> None:
         found = glob.glob("crates/**/*", recursive=True) + glob.glob("*/**/*", recursive=True)
         self.files = {path: text_of(path) for path in found if path.endswith((".rt", ".antt")) and "/out/" not in path}
         self.words = {word for text in self.files.values() for word in re.findall(r"\w+", text)}
         self.words |= {part for path in found for name in path.split("/") for part in re.findall(r"\w+", name)}
 
-    def has_path(self, path):
+    def has_path(self, path: str) -> bool:
         places = [before + path for before in ("", "crates/", "docs/", "crates/*/", "crates/*/specs/", "crates/*/proofs/", "gis/")]
         return any(glob.glob(place + ending) for place in places for ending in ("", ".antt", ".rt"))
 
-    def has_lemma(self, file, lemma):
+    def has_lemma(self, file: str, lemma: str) -> bool:
         """`File.lemma`; also a call of a type, and the name of a file."""
         of_file = [text for path, text in self.files.items() if os.path.basename(path) == file + ".antt"]
-        return lemma in ("antt", "rt") and of_file or any(re.search(r"\b%s\b" % lemma, text) for text in of_file or self.files.values())
+        return lemma in ("antt", "rt") and bool(of_file) or any(re.search(r"\b%s\b" % lemma, text) for text in of_file or self.files.values())
 
 
-def missing(document, sources):
+def missing(document: str, sources: Sources) -> Iterator[str]:
     """What a document names and the sources don't have."""
     of_code = os.path.basename(document) in OF_CODE
     for quoted in QUOTED.findall(text_of(document)):
@@ -69,27 +77,37 @@ def missing(document, sources):
             yield from (word for word in re.findall(r"[A-Za-z_]\w{3,}", quoted) if word not in sources.words)
 
 
-def unlisted():
-    """The files of lemmas of geom that CONTRACTS doesn't list."""
-    listed = text_of("docs/CONTRACTS.md").partition("### Proofs that other crates use")[2].partition("\n## ")[0]
+def long_lines(document: str) -> Iterator[int]:
+    """The numbers of the lines that are too long and could be broken; code is indented or fenced."""
+    fenced = False
+    for number, line in enumerate(text_of(document).splitlines(), 1):
+        fenced ^= line.startswith("```")
+        if len(line) > MOST_COLUMNS and not fenced and not line.startswith(("|", "    ")):
+            if max(map(len, UNBROKEN.findall(line))) <= MOST_COLUMNS:
+                yield number
+
+
+def unlisted() -> list[str]:
+    """The files of lemmas of geom that PROOFS doesn't list."""
+    listed = text_of("docs/PROOFS.md").partition("## Lemmas of geom\n")[2].partition("\n---")[0]
     names = [os.path.basename(path)[:-5] for path in glob.glob("crates/geom/proofs/*.antt")]
     return [name for name in sorted(names) if name != "Lib" and "`%s`" % name not in listed]
 
 
-def made_of_results():
+def made_of_results() -> Iterator[tuple[str, str]]:
     """What is made of recorded results: each file, and its text as it should be."""
     table = "".join(line + "\n" for line in compared.table())
     yield "README.md", COMPARED.sub(lambda found: found[1] + table, text_of("README.md"))
     yield os.path.relpath(plot.PICTURE), plot.picture()
 
 
-def write():
+def write() -> None:
     for path, wanted in made_of_results():
         with open(path, "w", encoding="utf-8") as file:
             file.write(wanted)
 
 
-def main(arguments):
+def main(arguments: argparse.Namespace) -> int:
     os.chdir(programs.ROOT)
     if arguments.write:
         write()
@@ -98,10 +116,14 @@ def main(arguments):
         if not os.path.exists(path) or text_of(path) != wanted:
             wrong += 1
             print("%s isn't what bench/results says: bench/run documents --write" % path)
-    for document in ["README.md", *sorted(glob.glob("docs/*.md"))]:
+    documents = sorted(glob.glob("**/*.md", recursive=True) + glob.glob(".github/**/*.md", recursive=True))
+    for document in documents:
         for name in missing(document, sources):
             wrong += 1
             print("%s: %s isn't there" % (document, name))
+        for number in long_lines(document):
+            wrong += 1
+            print("%s: line %d has more than %d columns" % (document, number, MOST_COLUMNS))
     for document, most in MOST_WORDS.items():
         words = len(text_of(document).split())
         if words > most:
@@ -109,6 +131,6 @@ def main(arguments):
             print("%s: %d words, %d at most" % (document, words, most))
     for name in unlisted():
         wrong += 1
-        print("docs/CONTRACTS.md: %s of crates/geom/proofs isn't listed" % name)
-    print("%d documents read, %d names are missing" % (1 + len(glob.glob("docs/*.md")), wrong))
+        print("docs/PROOFS.md: %s of crates/geom/proofs isn't listed" % name)
+    print("%d documents read; faults found: %d" % (len(documents), wrong))
     return int(wrong > 0)

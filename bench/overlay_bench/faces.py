@@ -5,20 +5,24 @@ file; medians of several rounds, the ratios to union and to the plain program, a
 maps of `speed`, `shared`, the same parcels as both layers, so that parity cancels nearly all borders, and layers of features that lie on
 one another. The bytes of both programs have to be the same; where they differ the row says so, and the exit status is 1.
 """
+from __future__ import annotations
+
+import argparse
 import filecmp
 import os
 import random
 import tempfile
+from collections.abc import Iterator, Sequence
 
 from . import feature_layers, layers, maps, programs
-from .speed import Series, ratio, shown
+from .speed import Series, greatest, ratio, shown
 
 SIZES = (100_000, 1_000_000)
 MAPS = ("parcels", "shared", "coast", "blobs", "tight")
 CREWS = (1, 4)
 
 
-def add_arguments(parser):
+def add_arguments(parser: argparse.ArgumentParser) -> None:
     kinds = (*MAPS, *feature_layers.HOSTILE)
     parser.add_argument("--kinds", nargs="+", default=list(kinds), choices=kinds, metavar="KIND", help="of: " + ", ".join(kinds))
     parser.add_argument("--sizes", nargs="+", type=int, default=SIZES, metavar="SEGMENTS", help="of maps; the others have one size each")
@@ -26,7 +30,7 @@ def add_arguments(parser):
     parser.add_argument("--seconds", type=float, default=120, help="after which a run is over")
 
 
-def write_shared(segments, files):
+def write_shared(segments: int, files: Sequence[str]) -> None:
     """Writes the same parcels as both layers."""
     cells = maps.cells(random.Random("shared %d" % segments), int((segments / 8) ** 0.5), 1000, 1, 0, 0)
     for name in files:
@@ -34,7 +38,7 @@ def write_shared(segments, files):
             file.write(layers.text_of(cells))
 
 
-def write(kind, size, files):
+def write(kind: str, size: int, files: Sequence[str]) -> None:
     """Writes both layers of a kind."""
     if kind in feature_layers.HOSTILE:
         feature_layers.write(kind, size, files)
@@ -44,7 +48,7 @@ def write(kind, size, files):
         maps.write(kind, size, files)
 
 
-def counts(path):
+def counts(path: str) -> tuple[int, int]:
     """How many rows a text has, and how many features these."""
     rows = features = 0
     with open(path, "rb") as file:
@@ -57,7 +61,7 @@ def counts(path):
 class Row:
     """All three on one pair of layers."""
 
-    def __init__(self, arguments, folder, files):
+    def __init__(self, arguments: argparse.Namespace, folder: str, files: Sequence[str]) -> None:
         self.texts = {name: os.path.join(folder, name) for name in ("faces", "union", "plain")}
         calls = {"faces": (arguments.program, "faces"), "union": (arguments.program, "union"), "plain": (programs.plain(), "faces")}
         self.series = {
@@ -70,23 +74,23 @@ class Row:
                     self.series[name, crew].run(arguments.seconds)
                 self.differs |= not self.is_over(crew) and not filecmp.cmp(self.texts["faces"], self.texts["plain"], shallow=False)
 
-    def is_over(self, crew):
+    def is_over(self, crew: int) -> bool:
         return self.series["faces", crew].is_over() or self.series["plain", crew].is_over()
 
-    def numbers(self):
+    def numbers(self) -> Iterator[str]:
         for crew in CREWS:
             faces, union, plain = (self.series[name, crew].median("processor") for name in self.texts)
             yield from (shown(faces, 2), shown(union, 2), ratio(faces, union), shown(plain, 2), ratio(faces, plain))
         memory = [self.series["faces", crew].median("memory") for crew in CREWS]
-        yield shown(None if None in memory else max(memory), 0)
+        yield shown(greatest(memory), 0)
         yield from map("{:,}".format, counts(self.texts["faces"]))
 
-    def note(self):
+    def note(self) -> str:
         failed = [series for series in self.series.values() if series.failed()]
         return " status %s" % failed[0].runs[-1].status if failed else " bytes differ" if self.differs else ""
 
 
-def main(arguments):
+def main(arguments: argparse.Namespace) -> int:
     programs.plain()
     wrong = False
     heads = ("faces s", "union s", "ratio", "plain s", "ratio")

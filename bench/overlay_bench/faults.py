@@ -4,14 +4,19 @@ Each check runs the built program where one thing is amiss: a full disk, a close
 interrupted (by a library before the C library's), endless input, folders, pipes, names, command lines. What it has to answer
 is written beside it. The exit status is 1 where one answers anything else.
 """
+from __future__ import annotations
+
+import argparse
 import errno
 import os
 import subprocess
 import tempfile
 import threading
+from collections.abc import Callable, Iterator
+from typing import IO
 
 from . import layers, programs
-from .programs import Answer, answer
+from .programs import Answer, Tried, answer
 
 SQUARE = b"POLYGON ((0 0, 4 0, 4 4, 0 4, 0 0))\n"
 SQUARE_EDGES = b"0 0 0 4 1 0\n0 0 4 0 1 0\n0 4 4 4 1 0\n4 0 4 4 1 0\n"
@@ -22,7 +27,7 @@ WRITE_FAILED, MEMORY = b"overlay: 11 write failed\n", b"overlay: 10 out of memor
 SIDE = "--tile=262144"
 
 
-def add_arguments(parser):
+def add_arguments(parser: argparse.ArgumentParser) -> None:
     parser.add_argument("--only", default="", help="the checks whose names have this word")
     parser.add_argument("--but", action="append", default=[], metavar="NAME", help="leaves this check out")
 
@@ -30,7 +35,7 @@ def add_arguments(parser):
 class Place:
     """A folder with some layers, and the program run in it."""
 
-    def __init__(self, program, folder):
+    def __init__(self, program: str, folder: str) -> None:
         self.program, self.folder, self.library = os.path.abspath(program), folder, programs.shim()
         rows = [[layers.rectangle(10 * k, 0, 5, 5)] for k in range(400)]
         texts = {"square": SQUARE, "corner": CORNER, "empty": b"", "rows": layers.text_of(rows).encode()}
@@ -40,35 +45,36 @@ class Place:
         self.rows_edges = b"".join(
             b"%d 0 %d 5 1 0\n%d 0 %d 0 1 0\n%d 5 %d 5 1 0\n%d 0 %d 5 1 0\n" % (x, x, x, x + 5, x, x + 5, x + 5, x + 5) for x in range(0, 4000, 10))
 
-    def path(self, name):
+    def path(self, name: str) -> str:
         return os.path.join(self.folder, name)
 
-    def run(self, *words, **more):
-        return answer([self.program, *words], cwd=self.folder, **more)
+    def run(self, *words: str | bytes, env: dict[str, str] | None = None, stdin: IO[bytes] | None = None) -> Answer:
+        return answer([self.program, *words], cwd=self.folder, env=env, stdin=stdin)
 
-    def with_calls(self, *words, **rules):
+    def with_calls(self, *words: str, **rules: int | tuple[int, int]) -> Answer:
         """A run with rules for its calls; a rule is a number of a call and an error, or a number of bytes."""
-        rules = {name: "%d %d" % rule if isinstance(rule, tuple) else str(rule) for name, rule in rules.items()}
-        return self.run(*words, env=dict(os.environ, LD_PRELOAD=self.library, **rules))
+        told = {name: "%d %d" % rule if isinstance(rule, tuple) else str(rule) for name, rule in rules.items()}
+        return self.run(*words, env=dict(os.environ, LD_PRELOAD=self.library, **told))
 
-    def to_file(self, name, *words):
+    def to_file(self, name: str, *words: str) -> Answer:
         """A run whose standard output is this file: what it gave beside it."""
         with open(name, "wb") as file:
             run = subprocess.run([self.program, *words], cwd=self.folder, stdout=file, stderr=subprocess.PIPE)
         return Answer(run.returncode, b"", run.stderr)
 
 
-CHECKS = []
+Check = Callable[[Place], Iterator[Tried]]
+CHECKS: list[Check] = []
 
 
-def check(function):
+def check(function: Check) -> Check:
     """Registers a check: it yields what it tried, what came, and what should come."""
     CHECKS.append(function)
     return function
 
 
 @check
-def answers(place):
+def answers(place: Place) -> Iterator[Tried]:
     yield "edges", place.run("edges", "square", "empty"), Answer(0, SQUARE_EDGES, b"")
     yield "an operation", place.run("intersection", "square", "corner"), Answer(0, COMMON, b"")
     yield "a report", place.run("intersection", "square", "corner", "--report", SIDE), Answer(0, COMMON, COMMON_REPORT)
@@ -76,14 +82,14 @@ def answers(place):
 
 
 @check
-def command_lines(place):
+def command_lines(place: Place) -> Iterator[Tried]:
     helped = place.run("--help")
     yield "help", (helped.status, helped.out[:9], helped.err), (0, b"Overlays ", b"")
     yield "-h", place.run("-h").status, 0
     yield "help with a report", place.run("--help", "--report"), helped
     for word in ("Union", "UNION", "", "xor", "union "):
         yield "unknown command", place.run(word, "square", "corner"), Answer(2, b"", b"overlay: unknown command\n")
-    lines = [(), ("edges",), ("edges", "square"), ("edges", "square", "corner", "corner"), ("xor", "square"), ("edges", "square", "corner", "--nothing"),
+    lines: list[tuple[str, ...]] = [(), ("edges",), ("edges", "square"), ("edges", "square", "corner", "corner"), ("xor", "square"), ("edges", "square", "corner", "--nothing"),
              ("edges", "square", "corner", "--report", "--report")]
     lines += [("edges", "square", "corner", "--tile=" + side) for side in ("", "x", "-1", "1.5", "4294967296", " 16", "0x10")]
     lines += [("edges", "square", "corner", "--workers=" + number) for number in ("", "x", "-1", "4294967296")]
@@ -96,11 +102,11 @@ def command_lines(place):
 
 
 @check
-def refusals(place):
-    def refused(layer, words):
+def refusals(place: Place) -> Iterator[Tried]:
+    def refused(layer: bytes, words: bytes) -> Answer:
         return Answer(3, b"", b"overlay: " + (layer + b": " if layer else b"") + words + b"\n")
 
-    def text(name, content):
+    def text(name: str, content: bytes) -> str:
         with open(place.path(name), "wb") as file:
             file.write(content)
         return name
@@ -110,8 +116,8 @@ def refusals(place):
               (b"POLYGON ((0 0, 1 0, 1 1, 0 1))", b"4 open ring at 9")]
     for content, words in faults:
         for command in programs.COMMANDS:
-            yield words, place.run(command, text("bad", content), "square"), refused(b"A", words)
-            yield words, place.run(command, "square", text("bad", content)), refused(b"B", words)
+            yield words.decode(), place.run(command, text("bad", content), "square"), refused(b"A", words)
+            yield words.decode(), place.run(command, "square", text("bad", content)), refused(b"B", words)
     yield "A before B", place.run("edges", text("bad", b"x"), text("worse", b"POLYGON x")), refused(b"A", b"1 syntax at 0")
     for side in ("0", "15", "33554433", "4294967295"):
         yield "side " + side, place.run("edges", "bad", "square", "--tile", side, "--workers=0"), refused(b"", b"6 bad tile side")
@@ -123,7 +129,7 @@ def refusals(place):
 
 
 @check
-def files(place):
+def files(place: Place) -> Iterator[Tried]:
     for layer, names in (("A", ("none", "square")), ("B", ("square", "none")), ("A", (".", "square")), ("B", ("square", ".")), ("A", ("", "square"))):
         unread = Answer(1, b"", b"overlay: %s: cannot read\n" % layer.encode())
         yield "no file %r %r" % names, place.run("edges", *names), unread
@@ -141,12 +147,12 @@ def files(place):
 
 
 @check
-def pipes(place):
+def pipes(place: Place) -> Iterator[Tried]:
     with open(place.path("rows"), "rb") as file:
         yield "standard input", place.run("edges", "/dev/stdin", "empty", stdin=file), Answer(0, place.rows_edges, b"")
     os.mkfifo(place.path("pipe"))
 
-    def feed():
+    def feed() -> None:
         with open(place.path("rows"), "rb") as source, open(place.path("pipe"), "wb") as pipe:
             pipe.write(source.read())
 
@@ -157,19 +163,19 @@ def pipes(place):
 
 
 @check
-def endless_input(place):
+def endless_input(place: Place) -> Iterator[Tried]:
     yield "endless zeros", place.run("edges", "/dev/zero", "empty"), Answer(3, b"", b"overlay: A: 0 layer too long\n")
     yield "endless zeros", place.run("union", "square", "/dev/zero"), Answer(3, b"", b"overlay: B: 0 layer too long\n")
 
 
 @check
-def full_disk(place):
+def full_disk(place: Place) -> Iterator[Tried]:
     yield "the text", place.to_file("/dev/full", "edges", "rows", "empty"), Answer(1, b"", WRITE_FAILED)
     yield "a line", place.to_file("/dev/full", "intersection", "square", "corner"), Answer(1, b"", WRITE_FAILED)
     yield "help", place.to_file("/dev/full", "--help"), Answer(1, b"", b"")
     yield "no bytes to write", place.to_file("/dev/full", "edges", "empty", "empty"), Answer(0, b"", b"")
     with open("/dev/full", "wb") as full:
-        runs = [(("intersection", "square", "corner", "--report"), 1, COMMON), (("edges", "none", "square"), 1, b""), (("xor", "a", "b"), 2, b""),
+        runs: list[tuple[tuple[str, ...], int, bytes]] = [(("intersection", "square", "corner", "--report"), 1, COMMON), (("edges", "none", "square"), 1, b""), (("xor", "a", "b"), 2, b""),
                 (("edges", "square", "corner", "--tile=3"), 3, b"")]
         for words, status, text in runs:
             run = subprocess.run([place.program, *words], cwd=place.folder, stdout=subprocess.PIPE, stderr=full)
@@ -177,7 +183,7 @@ def full_disk(place):
 
 
 @check
-def closed_pipe(place):
+def closed_pipe(place: Place) -> Iterator[Tried]:
     for words in (("edges", "rows", "empty"), ("intersection", "square", "corner")):
         read, write = os.pipe()
         os.close(read)
@@ -190,7 +196,7 @@ def closed_pipe(place):
 
 
 @check
-def refused_writes(place):
+def refused_writes(place: Place) -> Iterator[Tried]:
     for number in range(1, 12):
         for error in (errno.EIO, errno.ENOSPC, errno.EAGAIN):
             got = place.with_calls("edges", "rows", "empty", SHORT_WRITE=1000, REFUSE_WRITE=(number, error))
@@ -200,7 +206,7 @@ def refused_writes(place):
 
 
 @check
-def short_writes(place):
+def short_writes(place: Place) -> Iterator[Tried]:
     for size in (1, 7, 4096):
         yield "%d bytes" % size, place.with_calls("edges", "rows", "empty", SHORT_WRITE=size), Answer(0, place.rows_edges, b"")
     got = place.with_calls("intersection", "square", "corner", "--report", SIDE, SHORT_WRITE=1)
@@ -209,7 +215,7 @@ def short_writes(place):
 
 
 @check
-def interrupted_writes(place):
+def interrupted_writes(place: Place) -> Iterator[Tried]:
     for number in (1, 2, 5, 11):
         got = place.with_calls("edges", "rows", "empty", SHORT_WRITE=1000, REFUSE_WRITE=(number, errno.EINTR))
         yield "write %d" % number, got, Answer(0, place.rows_edges, b"")
@@ -218,7 +224,7 @@ def interrupted_writes(place):
 
 
 @check
-def reads(place):
+def reads(place: Place) -> Iterator[Tried]:
     for size in (1, 7, 511):
         yield "%d bytes" % size, place.with_calls("edges", "rows", "empty", SHORT_READ=size), Answer(0, place.rows_edges, b"")
     for number in (1, 2, 7):
@@ -231,16 +237,15 @@ def reads(place):
 
 
 @check
-def memory_and_threads(place):
+def memory_and_threads(place: Place) -> Iterator[Tried]:
     yield "no memory at all", place.with_calls("edges", "square", "corner", REFUSE_MALLOC=(0, errno.ENOMEM)), Answer(1, b"", MEMORY)
-    for command, expected in (("edges", Answer(0, place.rows_edges, b"")), ("union", None)):
-        expected = expected or place.run(command, "rows", "empty", "--tile=64")
+    for command, expected in (("edges", Answer(0, place.rows_edges, b"")), ("union", place.run("union", "rows", "empty", "--tile=64"))):
         for number in (0, 1, 2, 3):
             got = place.with_calls(command, "rows", "empty", "--tile=64", REFUSE_THREAD=(number, errno.EAGAIN))
             yield "a thread that can't be started", got, expected
 
 
-def main(arguments):
+def main(arguments: argparse.Namespace) -> int:
     tried, wrong = 0, 0
     for function in CHECKS:
         if arguments.only not in function.__name__ or function.__name__ in arguments.but:

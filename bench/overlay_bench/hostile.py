@@ -10,16 +10,18 @@ one pair of layers, is tried: its layers are kept in bench/out.
 """
 from __future__ import annotations
 
+import argparse
 import filecmp
 import os
 import shutil
 import statistics
 import tempfile
+from collections.abc import Iterator, Mapping, Sequence
 from dataclasses import dataclass
 
 from . import hostile_kinds, maps, programs, side_by_side
 from .hostile_kinds import KINDS
-from .programs import COMMANDS, taken
+from .programs import COMMANDS, Taken, taken
 
 COORDINATES = (4, 8, 13, 18, 23, 28)
 SIZES = (3, 30, 300, 3_000, 30_000, 200_000)
@@ -32,7 +34,7 @@ FINDS = (
 )
 
 
-def add_arguments(parser):
+def add_arguments(parser: argparse.ArgumentParser) -> None:
     parser.add_argument("--only", nargs="+", default=[], choices=KINDS, metavar="KIND", help="of: " + ", ".join(KINDS))
     parser.add_argument("--size", nargs="+", type=int, default=[], metavar="SEGMENTS")
     parser.add_argument("--coordinates", nargs="+", type=int, default=[], metavar="BITS", help="they reach as far as 2 to the power of it")
@@ -50,34 +52,34 @@ class Family:
 
     kind: str
     bits: int
-    sizes: tuple
-    commands: tuple
-    sides: tuple
+    sizes: tuple[int, ...]
+    commands: tuple[str, ...]
+    sides: tuple[int | None, ...]
 
-    def layers(self, size):
+    def layers(self, size: int) -> str:
         return "%s, %d segments, 2^%d" % (self.kind, size, self.bits)
 
 
-def sides_of(bits):
+def sides_of(bits: int) -> tuple[int | None, ...]:
     """The default side, an eighth of the width, and the whole of it, or the greatest one there may be."""
     return None, min(max(16, 1 << bits >> 2), GREATEST_SIDE), min(max(16, (2 << bits) + 1), GREATEST_SIDE)
 
 
-def families(arguments):
+def families(arguments: argparse.Namespace) -> Iterator[Family]:
     sizes = tuple(sorted(arguments.size)) or SIZES
     for kind in arguments.only or KINDS:
         for bits in arguments.coordinates or COORDINATES:
             yield Family(kind, bits, sizes, tuple(arguments.commands), sides_of(bits))
 
 
-def finds(kinds):
+def finds(kinds: Sequence[str] | Mapping[str, hostile_kinds.Kind]) -> Iterator[Family]:
     """The smallest layers of these kinds that a program was seen to hang on."""
     for kind, size, bits in FINDS:
         if kind in kinds:
             yield Family(kind, bits, (size,), ("edges", "union"), (None,))
 
 
-def short_families():
+def short_families() -> Iterator[Family]:
     """The finds, each kind at the full reach, and at another one in turn."""
     yield from finds(KINDS)
     for number, kind in enumerate(KINDS):
@@ -99,17 +101,21 @@ class Run:
     growth: float = 0.0
     fault: str = ""
 
-    def __str__(self):
+    def __str__(self) -> str:
         side = " --tile=%d" % self.side if self.side else ""
         return "%s, %s%s: %s" % (self.layers, self.command, side, self.fault)
 
 
-def within(words, output, seconds, errors=os.devnull):
+# The runs on the layers of the size before, by command and side.
+Before = dict[tuple[str, int | None], Run]
+
+
+def within(words: Sequence[str], output: str, seconds: int, errors: str = os.devnull) -> Taken:
     """Measures a run that may take so many processor seconds."""
     return taken(words, output, 100 * seconds, errors, seconds)
 
 
-def items_of(output):
+def items_of(output: str) -> int:
     """The edges, or the points and rings, of a text."""
     with open(output, "rb") as file:
         return sum(part.count(b",") + part.count(b"\n") for part in iter(lambda: file.read(1 << 20), b""))
@@ -118,21 +124,22 @@ def items_of(output):
 class Judged:
     """The plain program's answers on two layers."""
 
-    def __init__(self, files, folder, seconds):
-        self.files, self.folder, self.seconds, self.runs = files, folder, seconds, {}
+    def __init__(self, files: Sequence[str], folder: str, seconds: int) -> None:
+        self.files, self.folder, self.seconds = files, folder, seconds
+        self.runs: dict[str, Taken] = {}
         self.records = self.report()
 
-    def output(self, command):
+    def output(self, command: str) -> str:
         return os.path.join(self.folder, "plain " + command)
 
-    def report(self):
+    def report(self) -> int:
         """The number of records; none where it takes too long."""
         told = os.path.join(self.folder, "report")
         self.runs["edges"] = within([programs.plain(), "edges", *self.files, "--workers=1", "--report"], self.output("edges"), self.seconds, told)
         with open(told) as file:
             return sum(int(line.split()[1]) for line in file if line.startswith("records"))
 
-    def run(self, command):
+    def run(self, command: str) -> Taken:
         if command not in self.runs:
             self.runs[command] = within([programs.plain(), command, *self.files, "--workers=1"], self.output(command), self.seconds)
         return self.runs[command]
@@ -141,31 +148,32 @@ class Judged:
 class Yardstick:
     """The processor seconds that parcels take for each of what goes in and comes out, by command."""
 
-    def __init__(self, program, size, commands, folder):
+    def __init__(self, program: str, size: int, commands: Sequence[str], folder: str) -> None:
         files = [os.path.join(folder, name) for name in ("parcels a", "parcels b")]
         programs.apart(lambda: maps.write("parcels", size, files))
         judged = Judged(files, folder, 120)
         self.rates = {command: self.rate(program, command, judged, size) for command in commands}
 
-    def rate(self, program, command, judged, size):
+    def rate(self, program: str, command: str, judged: Judged, size: int) -> float:
         judged.run(command)
         times = [taken([program, command, *judged.files, "--workers=1"], os.devnull, 120).processor for _ in range(5)]
         return statistics.median(times) / (size + judged.records + items_of(judged.output(command)))
 
-    def times(self, run):
+    def times(self, run: Run) -> float:
         return run.processor / (self.rates[run.command] * run.items)
 
 
 class Sweep:
     """Runs families of layers by a program."""
 
-    def __init__(self, arguments, yardstick, seconds):
+    def __init__(self, arguments: argparse.Namespace, yardstick: Yardstick, seconds: int) -> None:
         self.arguments, self.yardstick, self.seconds = arguments, yardstick, seconds
         self.program = arguments.program
 
-    def family(self, family):
+    def family(self, family: Family) -> list[Run]:
         """All runs of a family, from its smallest size on."""
-        runs, before = [], {}
+        runs: list[Run] = []
+        before: Before = {}
         with tempfile.TemporaryDirectory() as folder:
             files = [os.path.join(folder, name) for name in ("a.wkt", "b.wkt")]
             for size in family.sizes:
@@ -177,14 +185,14 @@ class Sweep:
                     break
         return runs
 
-    def keep(self, family, size, files, found):
+    def keep(self, family: Family, size: int, files: Sequence[str], found: Sequence[Run]) -> None:
         """Layers that were asked for by name, or on which something is wrong, in bench/out."""
         if self.arguments.only or any(run.fault for run in found):
             texts = [open(file, "rb").read() for file in files]
             programs.keep(os.path.join(programs.OUT, "hostile"), "%s-%d-%d-" % (family.kind, size, family.bits), texts)
 
-    def size(self, family, size, files, folder, before):
-        """The runs on two layers. `before` has those of the size before, by command and side."""
+    def size(self, family: Family, size: int, files: Sequence[str], folder: str, before: Before) -> Iterator[Run]:
+        """The runs on two layers, which `before` has then."""
         judged = Judged(files, folder, self.seconds)
         for command in family.commands:
             for side in family.sides:
@@ -194,7 +202,7 @@ class Sweep:
                 if "over" in run.fault:
                     return
 
-    def run(self, layers, command, side, judged, before):
+    def run(self, layers: str, command: str, side: int | None, judged: Judged, before: Run | None) -> Run:
         """One run, measured again where it takes too long."""
         plain, output = judged.run(command), os.path.join(judged.folder, "found")
         words = [self.program, command, *judged.files, "--workers=1"] + (["--tile=%d" % side] if side else [])
@@ -218,7 +226,7 @@ class Sweep:
             found.fault = "bytes differ"
         return found
 
-    def fault(self, run, before):
+    def fault(self, run: Run, before: Run | None) -> str:
         """What is wrong with the time of a run, whose numbers are filled in."""
         run.times = self.yardstick.times(run)
         if run.processor <= LEAST:
@@ -232,7 +240,7 @@ class Sweep:
         return ""
 
 
-def shown(kind, runs):
+def shown(kind: str, runs: Sequence[Run]) -> str:
     """The row of a kind: its hardest run."""
     run = max(runs, key=lambda run: ("over" in run.fault, run.times if run.processor > LEAST else 0, run.processor))
     plain = "over" if run.plain is None else "%.2f" % run.plain
@@ -241,15 +249,18 @@ def shown(kind, runs):
         run.layers, run.command, run.side or "", processor, plain, run.times, max(run.growth for run in runs))
 
 
-def table(found, worst):
+def table(found: Mapping[str, Sequence[Run]], worst: int) -> None:
     """The hardest kinds."""
     print("\n| layers | command | side | processor s | plain | times parcels | growth, of what may be |\n" + "|---" * 7 + "|")
-    hardness = lambda runs: max((("over" in run.fault) * 1000 + run.times) * (run.processor > LEAST) for run in runs)
-    for kind in sorted(found, key=lambda kind: -hardness(found[kind]))[:worst]:
+
+    def ease(kind: str) -> float:
+        return -max((("over" in run.fault) * 1000 + run.times) * (run.processor > LEAST) for run in found[kind])
+
+    for kind in sorted(found, key=ease)[:worst]:
         print(shown(kind, found[kind]))
 
 
-def main(arguments):
+def main(arguments: argparse.Namespace) -> int:
     programs.plain()
     narrowed = arguments.only or arguments.size or arguments.coordinates
     if arguments.finds:
@@ -258,13 +269,16 @@ def main(arguments):
         wanted = list(short_families() if arguments.short and not narrowed else families(arguments))
     commands = sorted({command for family in wanted for command in family.commands})
     seconds = arguments.seconds or (5 if arguments.short or arguments.finds else 60)
-    folder, found = tempfile.mkdtemp(), {}
+    folder = tempfile.mkdtemp()
+    found: dict[str, list[Run]] = {}
     try:
         yardstick = Yardstick(arguments.program, 30_000 if arguments.short or arguments.finds else 100_000, commands, folder)
         sweep = Sweep(arguments, yardstick, seconds)
-        for family, runs in side_by_side.results(sweep.family, wanted, arguments.jobs):
-            if isinstance(runs, side_by_side.Ended):
-                runs = [Run(family.layers(family.sizes[0]), "all", None, 0, None, 1, fault="the comparing process ended: %s" % runs)]
+        for family, result in side_by_side.results(sweep.family, wanted, arguments.jobs):
+            if isinstance(result, side_by_side.Ended):
+                runs = [Run(family.layers(family.sizes[0]), "all", None, 0, None, 1, fault="the comparing process ended: %s" % result)]
+            else:
+                runs = result
             found.setdefault(family.kind, []).extend(runs)
             for run in runs:
                 if run.fault:

@@ -3,13 +3,23 @@ from __future__ import annotations
 
 import subprocess
 import threading
+from typing import Protocol
 
 import reference
 
 from . import programs
+from .answering import Plan, Texts
 from .programs import COMMANDS, Answer
 
 MOST_SECONDS = 300
+
+
+class Judge(Protocol):
+    """What says whether an answer on its texts is right."""
+
+    name: str
+
+    def agrees(self, wanted: Plan, got: Answer) -> bool: ...
 
 
 class Exact:
@@ -17,53 +27,58 @@ class Exact:
 
     name = "bench/reference.py"
 
-    def __init__(self, texts):
-        self.texts, self.arranged = texts, None
+    def __init__(self, texts: Texts) -> None:
+        self.texts = texts
+        self.arranged: reference.Arranged | None = None
 
-    def answer(self, wanted):
+    def answer(self, wanted: Plan) -> Answer:
         try:
-            if self.arranged is None:
-                self.arranged = reference.Arranged(*self.texts)
-            self.refuse(wanted.side, wanted.workers)
+            arranged = self.arranged = self.arranged or reference.Arranged(*self.texts)
+            refuse(arranged, wanted.side, wanted.workers)
         except reference.Fault as fault:
             return Answer(3, b"", fault.line().encode())
-        text = self.arranged.text(wanted.command)
-        return Answer(0, text.encode(), self.arranged.report(wanted.side).encode() if wanted.report else b"")
+        text = arranged.text(wanted.command)
+        return Answer(0, text.encode(), arranged.report(wanted.side).encode() if wanted.report else b"")
 
-    def refuse(self, side, workers):
-        if side is not None and not reference.LEAST_SIDE <= side <= reference.GREATEST_SIDE:
-            raise reference.Fault(6)
-        if not 1 <= workers <= reference.WORKER_LIMIT:
-            raise reference.Fault(7)
-        self.arranged.refuse_tiles(side)
-
-    def agrees(self, wanted, got):
+    def agrees(self, wanted: Plan, got: Answer) -> bool:
         return got == self.answer(wanted)
+
+
+def refuse(arranged: reference.Arranged, side: int | None, workers: int) -> None:
+    """The fault of a plan on layers that aren't refused."""
+    if side is not None and not reference.LEAST_SIDE <= side <= reference.GREATEST_SIDE:
+        raise reference.Fault(6)
+    if not 1 <= workers <= reference.WORKER_LIMIT:
+        raise reference.Fault(7)
+    arranged.refuse_tiles(side)
 
 
 class Pipe:
     """One process of the plain program that answers pair after pair: all five commands at once."""
 
-    def __init__(self):
-        self.process = None
+    def __init__(self) -> None:
+        self.process: subprocess.Popen[bytes] | None = None
 
-    def start(self):
-        self.process = subprocess.Popen([programs.plain(), "pipe"], stdin=subprocess.PIPE, stdout=subprocess.PIPE)
-
-    def answers(self, texts):
-        """The five texts by their commands; None where the process ended, or took too long."""
+    def started(self) -> subprocess.Popen[bytes]:
         if self.process is None:
-            self.start()
-        timer = threading.Timer(MOST_SECONDS, self.process.kill)
+            self.process = subprocess.Popen([programs.plain(), "pipe"], stdin=subprocess.PIPE, stdout=subprocess.PIPE)
+        return self.process
+
+    def answers(self, texts: Texts) -> dict[str, bytes] | None:
+        """The five texts by their commands; None where the process ended, or took too long."""
+        process = self.started()
+        asking, answering = process.stdin, process.stdout
+        assert asking is not None and answering is not None, "both are pipes"
+        timer = threading.Timer(MOST_SECONDS, process.kill)
         timer.start()
         try:
-            self.process.stdin.write(b"%d %d\n" % tuple(map(len, texts)) + b"".join(texts))
-            self.process.stdin.flush()
-            lengths = self.process.stdout.readline().split()
-            return {command: self.process.stdout.read(int(length)) for command, length in zip(COMMANDS, lengths, strict=True)}
+            asking.write(b"%d %d\n" % tuple(map(len, texts)) + b"".join(texts))
+            asking.flush()
+            lengths = answering.readline().split()
+            return {command: answering.read(int(length)) for command, length in zip(COMMANDS, lengths, strict=True)}
         except (OSError, ValueError):
-            self.process.kill()
-            self.process.wait()
+            process.kill()
+            process.wait()
             self.process = None
             return None
         finally:
@@ -76,17 +91,18 @@ class Plain:
     name = "bench/plain"
     pipe = Pipe()
 
-    def __init__(self, texts):
-        self.texts, self.found = texts, None
+    def __init__(self, texts: Texts) -> None:
+        self.texts = texts
+        self.found: dict[str, bytes] | None = None
         self.segments = [reference.segments_of([ring for _, ring in reference.read_tokens(text)[0]], layer) for layer, text in enumerate(texts)]
         self.bounds = reference.bounds_of(p for layer in self.segments for s in layer for p in s[:2])
 
-    def answer(self, command):
+    def answer(self, command: str) -> bytes | None:
         if self.found is None:
             self.found = self.pipe.answers(self.texts) or {}
         return self.found.get(command)
 
-    def refusal(self, wanted):
+    def refusal(self, wanted: Plan) -> reference.Fault | None:
         if wanted.side is not None and not reference.LEAST_SIDE <= wanted.side <= reference.GREATEST_SIDE:
             return reference.Fault(6)
         if not 1 <= wanted.workers <= reference.WORKER_LIMIT:
@@ -95,7 +111,7 @@ class Plain:
             return reference.Fault(8, reference.Grid(self.bounds, wanted.side).tiles)
         return None
 
-    def agrees(self, wanted, got):
+    def agrees(self, wanted: Plan, got: Answer) -> bool:
         refused = self.refusal(wanted)
         if refused:
             return got == Answer(3, b"", refused.line().encode())
@@ -103,7 +119,7 @@ class Plain:
             return False
         return self.is_report(got.err, wanted) if wanted.report else got.err == b""
 
-    def is_report(self, text, wanted):
+    def is_report(self, text: bytes, wanted: Plan) -> bool:
         """Whether a report has the numbers that are known, and those of its tiles add up."""
         lines = [line.split() for line in text.decode().splitlines()]
         head, tiles = lines[:6], lines[6:]
@@ -112,7 +128,7 @@ class Plain:
             "segments": ["%d" % len(layer) for layer in self.segments],
             "hot": ["%d" % sum(int(words[2]) for words in tiles)],
             "records": ["%d" % sum(int(words[3]) for words in tiles)],
-            "edges": ["%d" % self.answer("edges").count(b"\n")],
+            "edges": ["%d" % (self.answer("edges") or b"").count(b"\n")],
             "tiles": ["%d" % reference.Grid(self.bounds, wanted.side or reference.fitting_side(self.bounds)).tiles],
             "remade": ["0"],
         }

@@ -5,6 +5,9 @@ checks kept of them; bench/kernels has its source (ending in .txt, so that no ga
 compiled for the same processor. Printed are, for each loop, the milliseconds of the fastest round of several runs; where both
 have a loop of one name the sums of their answers have to agree. Needs the kit's `rt`, and `rustc`.
 """
+from __future__ import annotations
+
+import argparse
 import os
 import random
 import re
@@ -12,8 +15,10 @@ import shutil
 import subprocess
 import sys
 import tempfile
+from collections.abc import Sequence
 
 from . import layers, programs
+from .layers import Polygons
 
 KERNELS = {
     "crossings": ("geom", "lane_tests", "tiling", "crossing", "tile_book", "hot_pixel", "routing"),
@@ -24,15 +29,16 @@ KERNELS = {
 COUNTERPARTS = {"check_layer": "parse", "read_layer": "parse"}
 
 
-def add_arguments(parser):
+def add_arguments(parser: argparse.ArgumentParser) -> None:
     parser.add_argument("kernel", choices=KERNELS)
     parser.add_argument("--runs", type=int, default=5, help="of which the fastest round counts")
     parser.add_argument("--megabytes", type=int, default=20, help="the size of the text that is read")
 
 
-def squares(megabytes):
+def squares(megabytes: int) -> str:
     """One MULTIPOLYGON of random squares over the whole range."""
-    rng, polygons, length = random.Random(7), [], 0
+    rng, length = random.Random(7), 0
+    polygons: Polygons = []
     while length < megabytes * 1_000_000:
         x, y, side = rng.randint(-256_000_000, 256_000_000), rng.randint(-256_000_000, 256_000_000), rng.randint(1, 11_200_000)
         polygons.append([layers.rectangle(x, y, side, side)])
@@ -40,7 +46,7 @@ def squares(megabytes):
     return layers.text_of(polygons, together=True)
 
 
-def build(kernel, folder):
+def build(kernel: str, folder: str) -> tuple[str, str]:
     """The plain program, and the one over the crates."""
     source = os.path.join(programs.BENCH, "kernels", kernel)
     plain, speed = os.path.join(folder, "plain"), os.path.join(folder, "crates", "speed")
@@ -60,9 +66,9 @@ def build(kernel, folder):
     return plain, os.path.join(speed, "out", "speed")
 
 
-def fastest(words, runs):
+def fastest(words: Sequence[str], runs: int) -> dict[str, tuple[int, str]]:
     """For each loop the least microseconds, and the sum of its answers."""
-    best = {}
+    best: dict[str, tuple[int, str]] = {}
     for _ in range(runs):
         for line in subprocess.run(words, check=True, stdout=subprocess.PIPE, text=True).stdout.splitlines():
             name, micros, total = line.split()
@@ -70,7 +76,7 @@ def fastest(words, runs):
     return best
 
 
-def main(arguments):
+def main(arguments: argparse.Namespace) -> int:
     with tempfile.TemporaryDirectory() as folder:
         os.chmod(folder, 0o711)
         files = []

@@ -4,15 +4,31 @@ The definitions are those of crates/geom/specs, in exact arithmetic and without 
 cases, and then with a premise dropped on a case where its conclusion fails. The rounded edges and the result edges are also
 compared with those of the exact reference. Exit status 0: all laws held, and every dropped premise made its law fail.
 """
+from __future__ import annotations
+
+import argparse
 import random
+from collections.abc import Callable, Iterable, Iterator, Sequence
 from fractions import Fraction
 from math import ceil, floor
 
 import reference
+from reference import Counts, Edge, Operation, Point, Ring, Segment
+
+Number = int | Fraction
+# A rational point, or one with whole coordinates.
+Spot = tuple[Number, Number]
+Rounding = Callable[[Spot], Point]
+# A parameter, and whether the range that it ends is open there.
+Bound = tuple[Fraction, bool]
+# The edges with an odd count in either layer.
+Odd = tuple[list[Edge], list[Edge]]
+# What contradicts a law; None where nothing does.
+Broken = str | None
 
 HALF = Fraction(1, 2)
 K = 2**64
-OPS = {
+OPS: dict[str, Operation] = {
     "union": lambda a, b: a or b,
     "intersection": lambda a, b: a and b,
     "difference": lambda a, b: a and not b,
@@ -23,27 +39,27 @@ OPS = {
 # ---- points, pixels, segments. A segment is (a, b, layer), an edge (p, q) with p before q.
 
 
-def determinant(dx, dy, ex, ey):
+def determinant(dx: Number, dy: Number, ex: Number, ey: Number) -> Number:
     return dx * ey - dy * ex
 
 
-def turn(a, b, c, d):
+def turn(a: Spot, b: Spot, c: Spot, d: Spot) -> Number:
     return determinant(b[0] - a[0], b[1] - a[1], d[0] - c[0], d[1] - c[1])
 
 
-def side(c, e, h):
+def side(c: Spot, e: Spot, h: Spot) -> Number:
     return turn(c, e, c, h)
 
 
-def pixel(z):
+def pixel(z: Spot) -> Point:
     return floor(z[0] + HALF), floor(z[1] + HALF)
 
 
-def point_at(a, b, t):
+def point_at(a: Spot, b: Spot, t: Fraction) -> Spot:
     return a[0] + t * (b[0] - a[0]), a[1] + t * (b[1] - a[1])
 
 
-def common_points(a, b, c, d):
+def common_points(a: Point, b: Point, c: Point, d: Point) -> tuple[Fraction, Fraction] | None:
     """The parameters on a, b from which and to which it shares points with c, d; None where it shares none."""
     k = turn(a, b, c, d)
     if k != 0:
@@ -58,7 +74,7 @@ def common_points(a, b, c, d):
     return (low, high) if low <= high else None
 
 
-def hot_pixels(segments, rounded=pixel):
+def hot_pixels(segments: Sequence[Segment], rounded: Rounding = pixel) -> set[Point]:
     hot = {s[0] for s in segments} | {s[1] for s in segments}
     for s in segments:
         for t in segments:
@@ -69,7 +85,7 @@ def hot_pixels(segments, rounded=pixel):
     return hot
 
 
-def parameters(s, c):
+def parameters(s: Segment, c: Point) -> tuple[Bound, Bound] | None:
     """The parameters of the points of s with pixel c, as ((low, open), (high, open)); None where there is none."""
     low, high = (Fraction(0), False), (Fraction(1), False)
     for axis in (0, 1):
@@ -89,22 +105,22 @@ def parameters(s, c):
     return low, high
 
 
-def route(s, hot):
-    met = [(parameters(s, c), c) for c in hot if parameters(s, c)]
+def route(s: Segment, hot: Iterable[Point]) -> list[Point]:
+    met = [(found, c) for c in hot if (found := parameters(s, c))]
     met.sort(key=lambda m: (m[0][0], m[0][1][0]))
     for (first, _), (second, _) in zip(met, met[1:]):
         assert first[1][0] < second[0][0] or (first[1][0] == second[0][0] and (first[1][1] or second[0][1]))
     return [c for _, c in met]
 
 
-def edge_of(c, e):
+def edge_of(c: Point, e: Point) -> Edge:
     return (c, e) if c < e else (e, c)
 
 
-def rounded_edges(segments, rounded=pixel):
+def rounded_edges(segments: Sequence[Segment], rounded: Rounding = pixel) -> Counts:
     """Each rounded edge with its counts in the two layers."""
     hot = hot_pixels(segments, rounded)
-    counted = {}
+    counted: Counts = {}
     for s in segments:
         r = route(s, hot)
         for c, e in zip(r, r[1:]):
@@ -112,19 +128,19 @@ def rounded_edges(segments, rounded=pixel):
     return counted
 
 
-def odd_edges(layer, counted):
+def odd_edges(layer: int, counted: Counts) -> list[Edge]:
     return [e for e in sorted(counted) if counted[e][layer] % 2 == 1]
 
 
-def degree(edges, v):
+def degree(edges: Iterable[Edge], v: Point) -> int:
     return sum(v in e for e in edges)
 
 
-def has_even_degrees(edges):
+def has_even_degrees(edges: Sequence[Edge] | set[Edge]) -> bool:
     return all(degree(edges, v) % 2 == 0 for e in edges for v in e)
 
 
-def is_noded(edges):
+def is_noded(edges: Iterable[Edge]) -> bool:
     edges = sorted(edges)
     for i, e in enumerate(edges):
         for f in edges[i + 1 :]:
@@ -134,11 +150,11 @@ def is_noded(edges):
     return True
 
 
-def is_common_end(e, f, z):
+def is_common_end(e: Edge, f: Edge, z: Spot) -> bool:
     return z in e and z in f
 
 
-def are_closed(layer, segments):
+def are_closed(layer: int, segments: Sequence[Segment]) -> bool:
     points = {p for s in segments for p in s[:2]}
     return all(sum(s[2] == layer and s[0] == v for s in segments) == sum(s[2] == layer and s[1] == v for s in segments) for v in points)
 
@@ -146,82 +162,82 @@ def are_closed(layer, segments):
 # ---- parity and the result
 
 
-def covers(e, z):
+def covers(e: Edge, z: Spot) -> bool:
     return e[0][0] <= z[0] < e[1][0]
 
 
-def height(e, z):
+def height(e: Edge, z: Spot) -> Number:
     return side(e[0], e[1], z)
 
 
-def parity(edges, z):
+def parity(edges: Iterable[Edge], z: Spot) -> bool:
     return sum(covers(e, z) and height(e, z) < 0 for e in edges) % 2 == 1
 
 
-def left_side(u, v):
+def left_side(u: Point, v: Point) -> Spot:
     return Fraction(u[0] + v[0], 2) - Fraction(v[1] - u[1], K), Fraction(u[1] + v[1], 2) + Fraction(v[0] - u[0], K)
 
 
-def right_side(u, v):
+def right_side(u: Point, v: Point) -> Spot:
     return left_side(v, u)
 
 
-def holds_at(op, odd, z):
+def holds_at(op: Operation, odd: Odd, z: Spot) -> bool:
     return op(parity(odd[0], z), parity(odd[1], z))
 
 
-def odd_in_both(counted):
+def odd_in_both(counted: Counts) -> Odd:
     return odd_edges(0, counted), odd_edges(1, counted)
 
 
-def is_result_edge(op, odd, u, v):
+def is_result_edge(op: Operation, odd: Odd, u: Point, v: Point) -> bool:
     return holds_at(op, odd, left_side(u, v)) and not holds_at(op, odd, right_side(u, v))
 
 
-def directed_edges(op, counted):
+def directed_edges(op: Operation, counted: Counts) -> list[Edge]:
     odd = odd_in_both(counted)
     both = [d for e in counted for d in (e, (e[1], e[0]))]
     return sorted(d for d in both if is_result_edge(op, odd, *d))
 
 
-def without_direction(directed):
+def without_direction(directed: Iterable[Edge]) -> set[Edge]:
     return {edge_of(*d) for d in directed}
 
 
 # ---- round a vertex
 
 
-def is_sooner(v, a, b):
+def is_sooner(v: Point, a: Point, b: Point) -> bool:
     if v < a and b < v:
         return True
     return ((v < a and v < b) or (a < v and b < v)) and side(v, a, b) < 0
 
 
-def is_met_before(v, u, a, b):
+def is_met_before(v: Point, u: Point, a: Point, b: Point) -> bool:
     ua, ab, bu = is_sooner(v, u, a), is_sooner(v, a, b), is_sooner(v, b, u)
     return (ua and ab) or (ab and bu) or (bu and ua)
 
 
-def neighbours(directed, v):
+def neighbours(directed: Sequence[Edge], v: Point) -> set[Point]:
     return {d[1] for d in directed if d[0] == v} | {d[0] for d in directed if d[1] == v}
 
 
-def next_points(directed, u, v):
+def next_points(directed: Sequence[Edge], u: Point, v: Point) -> list[Point]:
     near = neighbours(directed, v)
     return [w for w in near if w != u and all(is_met_before(v, u, w, a) for a in near if a not in (u, w))]
 
 
-def left_of(v):
+def left_of(v: Point) -> Spot:
     return v[0] - Fraction(1, K), Fraction(v[1])
 
 
-def nearest_below(directed, z):
+def nearest_below(directed: Sequence[Edge], z: Spot) -> Edge | None:
     below = [edge_of(*d) for d in directed if covers(edge_of(*d), z) and height(edge_of(*d), z) > 0]
     gap = lambda e: Fraction(height(e, z)) / (e[1][0] - e[0][0])
     return min(below, key=gap) if below else None
 
 
-def rings_of(directed):
+def rings_of(directed: Sequence[Edge]) -> list[Ring]:
     """The cycles of the rule; only called where it closes."""
     rings, left = [], set(directed)
     while left:
@@ -235,7 +251,7 @@ def rings_of(directed):
     return rings
 
 
-def cut(ring):
+def cut(ring: Ring) -> list[Ring]:
     """The pieces of a ring: the first place whose point stood earlier ends a piece, which begins there and is taken out."""
     pieces = []
     while len(set(ring)) < len(ring):
@@ -246,34 +262,34 @@ def cut(ring):
     return pieces + [ring]
 
 
-def ring_edges(ring):
+def ring_edges(ring: Ring) -> list[Edge]:
     return list(zip(ring, ring[1:] + ring[:1]))
 
 
-def spans(u, v, z):
+def spans(u: Point, v: Point, z: Spot) -> bool:
     return u[0] <= z[0] < v[0]
 
 
-def runs_above(u, v, z):
+def runs_above(u: Point, v: Point, z: Spot) -> bool:
     return side(u, v, z) < 0
 
 
-def side_above(u, v, z):
+def side_above(u: Point, v: Point, z: Spot) -> bool:
     return (spans(u, v, z) and runs_above(u, v, z)) or (spans(v, u, z) and runs_above(v, u, z))
 
 
-def ring_parity(rings, z):
+def ring_parity(rings: Sequence[Ring], z: Spot) -> bool:
     return sum(side_above(u, v, z) for ring in rings for u, v in ring_edges(ring)) % 2 == 1
 
 
 # ---- the laws: each answers what contradicts it, or None
 
 
-def rounded_edges_are_noded(segments, rounded=pixel):
+def rounded_edges_are_noded(segments: Sequence[Segment], rounded: Rounding = pixel) -> Broken:
     return None if is_noded(rounded_edges(segments, rounded)) else "two rounded edges share a point that is not a common end"
 
 
-def rounded_has_even_degrees(segments):
+def rounded_has_even_degrees(segments: Sequence[Segment]) -> Broken:
     counted = rounded_edges(segments)
     for layer in (0, 1):
         if are_closed(layer, segments) and not has_even_degrees(odd_edges(layer, counted)):
@@ -281,7 +297,7 @@ def rounded_has_even_degrees(segments):
     return None
 
 
-def result_has_parity(op, counted, directed, points):
+def result_has_parity(op: Operation, counted: Counts, directed: Sequence[Edge], points: Iterable[Spot]) -> Broken:
     result, odd = without_direction(directed), odd_in_both(counted)
     for z in points:
         if parity(result, z) != holds_at(op, odd, z):
@@ -289,7 +305,7 @@ def result_has_parity(op, counted, directed, points):
     return None
 
 
-def text_has_parity(op, counted, rings, points):
+def text_has_parity(op: Operation, counted: Counts, rings: Sequence[Ring], points: Iterable[Spot]) -> Broken:
     odd = odd_in_both(counted)
     for z in points:
         if ring_parity(rings, z) != holds_at(op, odd, z):
@@ -297,11 +313,11 @@ def text_has_parity(op, counted, rings, points):
     return None
 
 
-def result_has_even_degrees(directed):
+def result_has_even_degrees(directed: Sequence[Edge]) -> Broken:
     return None if has_even_degrees(without_direction(directed)) else "an odd degree in the result"
 
 
-def result_edges_close(directed):
+def result_edges_close(directed: Sequence[Edge]) -> Broken:
     for u, v in directed:
         if (v, u) in directed:
             return f"an edge in both directions at {u}"
@@ -313,7 +329,7 @@ def result_edges_close(directed):
     return None
 
 
-def next_edge_is_one_to_one(directed):
+def next_edge_is_one_to_one(directed: Sequence[Edge]) -> Broken:
     for t, v in directed:
         for u, x in directed:
             if x == v and t != u and set(next_points(directed, t, v)) & set(next_points(directed, u, v)):
@@ -321,7 +337,7 @@ def next_edge_is_one_to_one(directed):
     return None
 
 
-def holes_of(directed):
+def holes_of(directed: Sequence[Edge]) -> Iterator[Ring]:
     for ring in rings_of(directed):
         v = min(ring)
         corners = [(ring[i - 1], ring[i], ring[(i + 1) % len(ring)]) for i in range(len(ring))]
@@ -329,7 +345,7 @@ def holes_of(directed):
             yield ring
 
 
-def holes_are_grounded(op, counted, directed):
+def holes_are_grounded(op: Operation, counted: Counts, directed: Sequence[Edge]) -> Broken:
     """Also that the result lies left of the least vertex of each hole."""
     odd = odd_in_both(counted)
     for ring in holes_of(directed):
@@ -345,10 +361,10 @@ def holes_are_grounded(op, counted, directed):
 # ---- random cases
 
 
-def random_rings(rng, size):
+def random_rings(rng: random.Random, size: int) -> list[list[Ring]]:
     """One or two rings a layer; every third time the first layer has a frame round them all, so that there are holes."""
 
-    def ring():
+    def ring() -> Ring:
         return [(rng.randint(0, size), rng.randint(0, size)) for _ in range(rng.randint(3, 6))]
 
     layers = [[ring() for _ in range(rng.randint(1, 2))] for _ in (0, 1)]
@@ -358,23 +374,26 @@ def random_rings(rng, size):
     return layers
 
 
-def segments_of(layers):
+def segments_of(layers: list[list[Ring]]) -> list[Segment]:
     return [(a, b, layer) for layer in (0, 1) for ring in layers[layer] for a, b in zip(ring, ring[1:] + ring[:1]) if a != b]
 
 
-def random_segments(rng, size):
-    point = lambda: (rng.randint(0, size), rng.randint(0, size))
+def random_segments(rng: random.Random, size: int) -> list[Segment]:
+
+    def point() -> Point:
+        return rng.randint(0, size), rng.randint(0, size)
+
     return [(a, b, rng.randint(0, 1)) for a, b in ((point(), point()) for _ in range(rng.randint(2, 7))) if a != b]
 
 
-def points_to_try(rng, counted, size):
-    points = [(Fraction(rng.randint(-7, 7 * size + 7), 7), Fraction(rng.randint(-5, 5 * size + 5), 5)) for _ in range(6)]
+def points_to_try(rng: random.Random, counted: Counts, size: int) -> list[Spot]:
+    points: list[Spot] = [(Fraction(rng.randint(-7, 7 * size + 7), 7), Fraction(rng.randint(-5, 5 * size + 5), 5)) for _ in range(6)]
     for e in list(counted)[:4]:
         points += [e[0], left_of(e[1]), left_side(*e), right_side(*e), point_at(e[0], e[1], HALF)]
     return points
 
 
-def try_case(rng, size):
+def try_case(rng: random.Random, size: int) -> tuple[str, Sequence[Segment]] | None:
     """The first law that a random case contradicts, with the case."""
     free = random_segments(rng, size)
     broken = rounded_edges_are_noded(free) or rounded_has_even_degrees(free)
@@ -396,14 +415,14 @@ def try_case(rng, size):
     return (broken, segments) if broken else None
 
 
-def try_text(op, counted, directed, points):
+def try_text(op: Operation, counted: Counts, directed: Sequence[Edge], points: Iterable[Spot]) -> Broken:
     """The rings of the result, whole and cut, as those of a text."""
     rings = rings_of(directed)
     pieces = [piece for ring in rings for piece in cut(ring)]
     return text_has_parity(op, counted, rings, points) or text_has_parity(op, counted, pieces, points)
 
 
-def compare(segments, counted, name, directed):
+def compare(segments: Sequence[Segment], counted: Counts, name: str, directed: Sequence[Edge]) -> Broken:
     hot = reference.hot_pixels(segments)
     theirs = reference.rounded_edges(segments, [reference.route(s, hot) for s in segments])
     if {e: tuple(c) for e, c in theirs.items()} != {e: tuple(c) for e, c in counted.items()}:
@@ -416,20 +435,20 @@ def compare(segments, counted, name, directed):
 # ---- with a premise dropped
 
 
-def unrounded(segments):
+def unrounded(segments: Iterable[Segment]) -> Counts:
     """The segments themselves as edges with counts."""
-    counted = {}
+    counted: Counts = {}
     for a, b, layer in segments:
         counted.setdefault(edge_of(a, b), [0, 0])[layer] += 1
     return counted
 
 
-def closed_on_the_right(z):
+def closed_on_the_right(z: Spot) -> Point:
     """The pixel of z where pixels are closed on the right and bottom sides."""
     return ceil(z[0] - HALF), floor(z[1] + HALF)
 
 
-def ring(layer, *points):
+def ring(layer: int, *points: Point) -> list[Segment]:
     return [(a, b, layer) for a, b in zip(points, points[1:] + points[:1])]
 
 
@@ -441,20 +460,22 @@ THIN_TRIANGLE = ring(0, (0, 0), (FAR, 1), (FAR - 1, 1))
 UNION = OPS["union"]
 
 
-def near_middle(counted):
+def near_middle(counted: Counts) -> list[Spot]:
     """Points at and beside the middle of each edge."""
     middles = [point_at(e[0], e[1], HALF) for e in counted]
     beside = [side_of(*e) for e in counted for side_of in (left_side, right_side)]
-    between = [((y[0] + z[0]) / 2, (y[1] + z[1]) / 2) for y in middles for z in middles]
+    between = [point_at(y, z, HALF) for y in middles for z in middles]
     return middles + beside + between + [(Fraction(-1), Fraction(-1))]
 
 
-def dropped_premises():
+def dropped_premises() -> Iterator[tuple[str, Broken]]:
     """Each premise that a law needs, with what its conclusion says of a case that doesn't meet it."""
     squares, corner, thin = unrounded(TWO_SQUARES), unrounded(OPEN_CORNER), unrounded(THIN_TRIANGLE)
-    outside = lambda a, b: not a
 
-    def parity_law(op, counted):
+    def outside(a: bool, b: bool) -> bool:
+        return not a
+
+    def parity_law(op: Operation, counted: Counts) -> Broken:
         return result_has_parity(op, counted, directed_edges(op, counted), near_middle(counted))
 
     yield "a crossing's pixel closed on the right", rounded_edges_are_noded(TWO_SEGMENTS, closed_on_the_right)
@@ -472,17 +493,17 @@ def dropped_premises():
     yield "segments that don't close, even degrees", None if has_even_degrees(odd_edges(0, rounded_edges(TWO_SEGMENTS))) else "an odd degree"
 
 
-def add_arguments(parser):
+def add_arguments(parser: argparse.ArgumentParser) -> None:
     parser.add_argument("--cases", type=int, default=2000)
     parser.add_argument("--seed", type=int, default=1)
 
 
-def main(arguments):
+def main(arguments: argparse.Namespace) -> int:
     rng = random.Random(arguments.seed)
     for case in range(arguments.cases):
-        broken = try_case(rng, rng.randint(2, 7))
-        if broken:
-            print(f"case {case}: {broken[0]}: {broken[1]}")
+        contradicted = try_case(rng, rng.randint(2, 7))
+        if contradicted:
+            print(f"case {case}: {contradicted[0]}: {contradicted[1]}")
             return 1
     print(f"{arguments.cases} cases, seed {arguments.seed}: every law held")
     kept = [premise for premise, broken in dropped_premises() if not broken]

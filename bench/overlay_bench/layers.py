@@ -3,40 +3,52 @@
 A generator gets a source of chance and about how many segments are wanted, and gives polygons: lists of rings, each a list of
 points without the first one again.
 """
+from __future__ import annotations
+
 import math
+import random
+from collections.abc import Callable
+
+Point = tuple[int, int]
+Ring = list[Point]
+Polygon = list[Ring]
+Polygons = list[Polygon]
+Pair = tuple[Polygons, Polygons]
+Kind = Callable[[random.Random, int], Polygons]
 
 LIMIT = 1 << 28
 
 
-def point(rng, size):
+def point(rng: random.Random, size: int) -> Point:
     return rng.randint(-size, size), rng.randint(-size, size)
 
 
-def rectangle(x, y, width, height):
+def rectangle(x: int, y: int, width: int, height: int) -> Ring:
     return [(x, y), (x + width, y), (x + width, y + height), (x, y + height)]
 
 
-def random_rectangle(rng, size):
+def random_rectangle(rng: random.Random, size: int) -> Ring:
     return rectangle(*point(rng, size), rng.randint(1, size), rng.randint(1, size))
 
 
-def inside(p):
-    return tuple(max(-LIMIT, min(LIMIT, c)) for c in p)
+def inside(p: Point) -> Point:
+    x, y = (max(-LIMIT, min(LIMIT, c)) for c in p)
+    return x, y
 
 
-def self_crossing(rng, count):
+def self_crossing(rng: random.Random, count: int) -> Polygons:
     """Rings through random points of a small square: many crossings in one pixel."""
     size = rng.choice([2, 4, 9, 30]) * (1 + count // 100)
     return [[[point(rng, size) for _ in range(rng.randint(3, 12))]] for _ in range(1 + count // 12)]
 
 
-def rectangles(rng, count):
+def rectangles(rng: random.Random, count: int) -> Polygons:
     """Rectangles on a small grid: coincident and touching borders."""
     size = 5 + int(math.sqrt(count))
     return [[random_rectangle(rng, size)] for _ in range(1 + count // 6)]
 
 
-def parcels(rng, count):
+def parcels(rng: random.Random, count: int) -> Polygons:
     """Cells that share their borders."""
     columns, side = 1 + int(math.sqrt(count / 5)), rng.choice([5, 20, 1000])
     jitter = max(1, side // 5)
@@ -44,7 +56,7 @@ def parcels(rng, count):
     return [[[corner[i][j], corner[i + 1][j], corner[i + 1][j + 1], corner[i][j + 1]]] for i in range(columns) for j in range(columns)]
 
 
-def coincident(rng, count):
+def coincident(rng: random.Random, count: int) -> Polygons:
     """Rings that run along the same lines, some of them twice or backwards."""
     reach = 4 + count // 20
     line = [(3 * k, 2 * k) for k in range(-reach, reach + 1)]
@@ -55,7 +67,7 @@ def coincident(rng, count):
     return polygons + polygons[:rng.randint(0, 2)]
 
 
-def near_a_line(rng, count):
+def near_a_line(rng: random.Random, count: int) -> Polygons:
     """Triangles whose corners lie on, or within a pixel of, one long edge."""
     dx, dy = rng.randint(8, 40) * (1 + count // 30), rng.randint(-20, 20)
     polygons = [[[(0, 0), (dx, dy), (rng.randint(0, dx), dy + 25)]]]
@@ -66,7 +78,7 @@ def near_a_line(rng, count):
     return polygons
 
 
-def near_many_pixels(rng, count):
+def near_many_pixels(rng: random.Random, count: int) -> Polygons:
     """Long thin rings past a row of small ones: each long edge passes within half a pixel of many hot pixels."""
     rise, run = rng.randint(1, 7), rng.randint(8, 30)
     steps = 2 + count // 8
@@ -80,7 +92,7 @@ def near_many_pixels(rng, count):
     return polygons
 
 
-def on_halves(rng, count):
+def on_halves(rng: random.Random, count: int) -> Polygons:
     """Diagonals of odd squares, whose crossings lie on halves, and steep and flat edges beside them."""
     size = 6 + int(math.sqrt(count))
     polygons = []
@@ -90,7 +102,7 @@ def on_halves(rng, count):
     return polygons
 
 
-def spikes(rng, count):
+def spikes(rng: random.Random, count: int) -> Polygons:
     """Rings with spikes, out and back along the same segment, and slivers."""
     polygons = []
     for _ in range(1 + count // 10):
@@ -101,7 +113,7 @@ def spikes(rng, count):
     return polygons
 
 
-def flat(rng, count):
+def flat(rng: random.Random, count: int) -> Polygons:
     """Rings without an area: along a path and back, or on one line."""
     polygons = []
     for _ in range(1 + count // 8):
@@ -110,7 +122,7 @@ def flat(rng, count):
     return polygons
 
 
-def repeated_points(rng, count):
+def repeated_points(rng: random.Random, count: int) -> Polygons:
     """Rings with repeated neighbours, and rings of one point."""
     ring = []
     for _ in range(rng.randint(3, 6)):
@@ -118,7 +130,7 @@ def repeated_points(rng, count):
     return [[ring], [[point(rng, 8)] * (3 + count // 10)]]
 
 
-def petals(rng, count):
+def petals(rng: random.Random, count: int) -> Polygons:
     """One ring that comes back to one vertex again and again."""
     size = 20 + 3 * count
     center = point(rng, 5)
@@ -129,10 +141,10 @@ def petals(rng, count):
     return [[ring]]
 
 
-def cactus(rng, count):
+def cactus(rng: random.Random, count: int) -> Polygons:
     """A ring whose vertices carry rings, whose vertices carry rings."""
 
-    def loop(at, size, depth):
+    def loop(at: Point, size: int, depth: int) -> Ring:
         ring = [at]
         for dx, dy in ((size, rng.randint(0, size)), (rng.randint(0, size), size)):
             p = (at[0] + dx, at[1] + dy)
@@ -143,7 +155,7 @@ def cactus(rng, count):
     return [[loop(point(rng, 9), 3 ** min(depth + 1, 12), depth)]]
 
 
-def nested(rng, count):
+def nested(rng: random.Random, count: int) -> Polygons:
     """Squares in squares, each the hole of the one round it; some touch it at their least vertex."""
     depth, polygons = 1 + count // 4, []
     low, high = -2 * depth, 2 * depth
@@ -155,7 +167,7 @@ def nested(rng, count):
     return polygons if rng.random() < 0.5 else [[ring for rings in polygons for ring in rings]]
 
 
-def holes_at_corners(rng, count):
+def holes_at_corners(rng: random.Random, count: int) -> Polygons:
     """Holes that touch their shell, and one another, at their least vertices."""
     polygons = []
     for k in range(1 + count // 16):
@@ -165,27 +177,27 @@ def holes_at_corners(rng, count):
     return polygons
 
 
-def holes(rng, count):
+def holes(rng: random.Random, count: int) -> Polygons:
     """Shells with holes, some of them across the shell's border."""
     size = 20 + count // 4
     return [[random_rectangle(rng, size)] + [random_rectangle(rng, size // 2) for _ in range(rng.randint(1, 3))] for _ in range(1 + count // 12)]
 
 
-def shells_at_one_vertex(rng, count):
+def shells_at_one_vertex(rng: random.Random, count: int) -> Polygons:
     """Triangles that all have one vertex."""
     size = 9 + 2 * count
     ends = [point(rng, size) for _ in range(1 + count // 3)]
     return [[[(0, 0), p, (p[0] + rng.randint(-4, 4), p[1] + rng.randint(1, 4))]] for p in ends]
 
 
-def fan(rng, count):
+def fan(rng: random.Random, count: int) -> Polygons:
     """Triangles of which neighbours share a side, round one vertex."""
     size = 30 + 2 * count
     rim = sorted({point(rng, size) for _ in range(2 + count // 3)} - {(0, 0)}, key=lambda p: math.atan2(p[1], p[0]))
     return [[[(0, 0), p, q]] for p, q in zip(rim, rim[1:] + rim[:1])]
 
 
-def wheel(rng, count):
+def wheel(rng: random.Random, count: int) -> Polygons:
     """A rim and spokes, each a thin triangle from the hub."""
     size, spokes = 50 + 3 * count, 3 + count // 4
     turned = [2 * math.pi * (k + rng.random() / 2) / spokes for k in range(spokes)]
@@ -193,7 +205,7 @@ def wheel(rng, count):
     return [[rim]] + [[[(0, 0), p, (p[0] + 1, p[1] + 1)]] for p in rim]
 
 
-def through_one_point(rng, count):
+def through_one_point(rng: random.Random, count: int) -> Polygons:
     """Thin quadrangles through nearly one point."""
     size, polygons = 40 + 5 * count, []
     for _ in range(1 + count // 4):
@@ -202,7 +214,7 @@ def through_one_point(rng, count):
     return polygons
 
 
-def star(rng, count):
+def star(rng: random.Random, count: int) -> Polygons:
     """One ring of chords: every edge crosses nearly every other one."""
     points, size = 2 * (1 + count // 3) + 1, 20 + 5 * count
     skip = points // 2
@@ -210,7 +222,7 @@ def star(rng, count):
     return [[[(round(size * math.cos(a)), round(size * math.sin(a)) + rng.randint(-1, 1)) for a in turned]]]
 
 
-def comb(rng, count):
+def comb(rng: random.Random, count: int) -> Polygons:
     """Long teeth over one another, lying or standing."""
     length, ring = rng.choice([9, 50, 400]), []
     for k in range(1 + count // 4):
@@ -219,13 +231,13 @@ def comb(rng, count):
     return [[ring if rng.random() < 0.5 else [(y, x) for x, y in ring]]]
 
 
-def diagonals(rng, count):
+def diagonals(rng: random.Random, count: int) -> Polygons:
     """Thin parallel quadrangles, close together."""
     length = rng.choice([20, 100, 1000])
     return [[[(3 * k, 0), (3 * k + 1, 0), (3 * k + length + rng.randint(0, 1), length), (3 * k + length, length)]] for k in range(1 + count // 4)]
 
 
-def long_triangles(rng, count):
+def long_triangles(rng: random.Random, count: int) -> Polygons:
     """Long thin triangles across one another, some lying, some standing."""
     size, polygons = 50 + 10 * count, []
     for _ in range(1 + count // 3):
@@ -235,7 +247,7 @@ def long_triangles(rng, count):
     return polygons
 
 
-def upright(rng, count):
+def upright(rng: random.Random, count: int) -> Polygons:
     """Only vertical and horizontal edges; some rings lie on one line."""
     size, polygons = 4 + int(math.sqrt(count)), []
     for _ in range(1 + count // 8):
@@ -246,41 +258,47 @@ def upright(rng, count):
     return polygons
 
 
-def on_tile_borders(rng, count):
+def on_tile_borders(rng: random.Random, count: int) -> Polygons:
     """Corners on, and beside, multiples of 16."""
     reach = 3 + int(math.sqrt(count))
-    near = lambda: 16 * rng.randint(0, reach) + rng.choice([-1, 0, 0, 0, 1])
+
+    def near() -> int:
+        return 16 * rng.randint(0, reach) + rng.choice([-1, 0, 0, 0, 1])
+
     polygons = [[[(near(), near()) for _ in range(rng.randint(3, 5))]] for _ in range(1 + count // 5)]
     return polygons + [[rectangle(0, 0, 16, 16)], [rectangle(16, 16, 15, 17)]]
 
 
-def at_the_limit(rng, count):
+def at_the_limit(rng: random.Random, count: int) -> Polygons:
     """Segments as long as coordinates allow."""
-    at = lambda: rng.choice([-LIMIT, LIMIT, 1 - LIMIT, LIMIT - 1, rng.randint(-LIMIT, LIMIT)])
+
+    def at() -> int:
+        return rng.choice([-LIMIT, LIMIT, 1 - LIMIT, LIMIT - 1, rng.randint(-LIMIT, LIMIT)])
+
     return [[[(at(), at()) for _ in range(rng.randint(3, 7))]] for _ in range(1 + min(count, 300) // 12)]
 
 
-def in_a_corner(rng, count):
+def in_a_corner(rng: random.Random, count: int) -> Polygons:
     """Another kind, moved to a corner of the range."""
     polygons, (x, y) = rng.choice([self_crossing, on_halves, rectangles, nested, fan])(rng, count), rng.choice([(LIMIT, LIMIT), (-LIMIT, LIMIT), (-LIMIT, -LIMIT)])
     reach = max(max(abs(c) for c in p) for rings in polygons for ring in rings for p in ring)
-    x, y = x - math.copysign(reach, x), y - math.copysign(reach, y)
-    return [[[inside((round(p[0] + x), round(p[1] + y))) for p in ring] for ring in rings] for rings in polygons]
+    dx, dy = round(x - math.copysign(reach, x)), round(y - math.copysign(reach, y))
+    return [[[inside((p[0] + dx, p[1] + dy)) for p in ring] for ring in rings] for rings in polygons]
 
 
-def far_apart(rng, count):
+def far_apart(rng: random.Random, count: int) -> Polygons:
     """A dense cluster and two small far outliers."""
     far = rng.choice([1000, 100_000, LIMIT - 100])
     return self_crossing(rng, count) + [[rectangle(far, far, 2, 3)], [rectangle(-far, rng.randint(-9, 9), 5, 1)]]
 
 
-def copies(rng, count):
+def copies(rng: random.Random, count: int) -> Polygons:
     """One ring, again and again; sometimes once the other way round."""
     ring = [point(rng, 9) for _ in range(rng.randint(3, 5))]
     return [[ring]] * (1 + count // len(ring)) + [[ring[::-1]]] * rng.randint(0, 1)
 
 
-KINDS = (
+KINDS: tuple[Kind, ...] = (
     self_crossing, rectangles, parcels, coincident, near_a_line, near_many_pixels, on_halves, spikes, flat, repeated_points, petals, cactus, nested,
     holes_at_corners, holes, shells_at_one_vertex, fan, wheel, through_one_point, star, comb, diagonals, long_triangles, upright, on_tile_borders,
     at_the_limit, in_a_corner, far_apart, copies,
@@ -289,15 +307,15 @@ KINDS = (
 CROWDED = (star, through_one_point, long_triangles, self_crossing, wheel, petals, at_the_limit, on_tile_borders, far_apart, holes, in_a_corner)
 
 
-def moved(polygons, dx, dy):
+def moved(polygons: Polygons, dx: int, dy: int) -> Polygons:
     return [[[inside((x + dx, y + dy)) for x, y in ring] for ring in rings] for rings in polygons]
 
 
-def reversed_rings(polygons):
+def reversed_rings(polygons: Polygons) -> Polygons:
     return [[ring[::-1] for ring in rings] for rings in polygons]
 
 
-def second_layer(rng, kind, first, count):
+def second_layer(rng: random.Random, kind: Kind, first: Polygons, count: int) -> Polygons:
     """The layer beside a first one: mostly of its kind or of another, sometimes the same again in some way, or nothing."""
     chance = rng.random()
     if chance < 0.45:
@@ -314,22 +332,22 @@ def second_layer(rng, kind, first, count):
     return moved(first, rng.randint(-2, 2), rng.randint(-2, 2))
 
 
-def pair(rng, kind, count):
+def pair(rng: random.Random, kind: Kind, count: int) -> Pair:
     """Two layers of about so many segments each, fewer where nearly all of them cross."""
     count = min(count // 2 + 2, 200) if kind in CROWDED else count
     layers = (first := kind(rng, count)), second_layer(rng, kind, first, count)
     return layers if rng.random() < 0.5 else layers[::-1]
 
 
-def ring_text(ring):
+def ring_text(ring: Ring) -> str:
     return "(" + ", ".join("%d %d" % p for p in [*ring, ring[0]]) + ")"
 
 
-def polygon_text(rings):
+def polygon_text(rings: Polygon) -> str:
     return "(" + ", ".join(map(ring_text, rings)) + ")"
 
 
-def text_of(polygons, together=False):
+def text_of(polygons: Polygons, together: bool = False) -> str:
     """A layer text: one POLYGON for each polygon, or one MULTIPOLYGON of them all."""
     if together and polygons:
         return "MULTIPOLYGON (" + ", ".join(map(polygon_text, polygons)) + ")\n"

@@ -4,32 +4,38 @@ For each kind, size and command: processor seconds of a call of `overlay_grid`, 
 `--workers 1`, from files to a file, in turn; medians of several rounds, and the ratio. Where the bytes differ the row says so, and
 the exit status is 1. The package has to be built: `python/build`.
 """
+from __future__ import annotations
+
+import argparse
 import os
 import statistics
 import tempfile
 import time
+from collections.abc import Callable, Sequence
 
 from . import answering, maps, programs
 from .programs import COMMANDS
 
+Call = Callable[[bytes, bytes], bytes]
 KINDS = ("parcels", "coast", "blobs")
 
 
-def add_arguments(parser):
+def add_arguments(parser: argparse.ArgumentParser) -> None:
     parser.add_argument("--kinds", nargs="+", default=KINDS, choices=maps.KINDS, metavar="KIND")
     parser.add_argument("--sizes", nargs="+", type=int, default=(10_000, 100_000), metavar="SEGMENTS")
     parser.add_argument("--commands", nargs="+", default=("edges", "intersection"), choices=COMMANDS, metavar="COMMAND")
     parser.add_argument("--rounds", type=int, default=5)
 
 
-def called(call, texts):
+def called(call: Call, texts: Sequence[bytes]) -> tuple[bytes, float]:
     """The answer of a call, and its processor seconds."""
     start = time.process_time()
-    answer = call(*texts)
+    first, second = texts
+    answer = call(first, second)
     return answer, time.process_time() - start
 
 
-def row(program, call, command, files, output, rounds):
+def row(program: str, call: Call, command: str, files: Sequence[str], output: str, rounds: int) -> tuple[float, float, bool]:
     """Processor seconds of the library and of the program, and whether their bytes are the same."""
     texts = []
     for name in files:
@@ -45,7 +51,7 @@ def row(program, call, command, files, output, rounds):
     return statistics.median(ours), statistics.median(theirs), same
 
 
-def main(arguments):
+def main(arguments: argparse.Namespace) -> int:
     library, wrong = answering.package(), False
     print("| kind | segments | command | library: processor s | program | ratio |")
     print("|---" * 6 + "|")

@@ -5,79 +5,83 @@ are run by the default plan: seconds on the clock, memory and bytes stand beside
 friendly layers (parcels) take for as many records, and 1 GB. The exit status is 1 where a limit is answered otherwise, or
 where a layer takes more than that.
 """
+from __future__ import annotations
+
+import argparse
 import math
 import os
 import random
 import subprocess
 import tempfile
+from collections.abc import Callable, Iterable, Iterator, Sequence
 from dataclasses import dataclass
 
 from . import layers, maps, programs
-from .layers import rectangle
-from .programs import Answer, answer, taken
+from .layers import Polygons, Ring, rectangle
+from .programs import Answer, Tried, answer, taken
 
 MOST_SEGMENTS, MOST_BYTES, LIMIT = 1_048_576, 268_435_456, 268_435_456
 MOST_MEGABYTES, FRIENDLY_SEGMENTS = 1024, 100_000
 
 
-def add_arguments(parser):
+def add_arguments(parser: argparse.ArgumentParser) -> None:
     parser.add_argument("--only", default="", help="those whose names have this word")
     parser.add_argument("--seconds", type=float, default=120, help="after which a run is over")
     parser.add_argument("--commands", nargs="+", default=("edges", "union"), choices=programs.COMMANDS)
 
 
-def around(radius, turned):
+def around(radius: float, turned: Iterable[float]) -> Ring:
     return [(round(radius * math.cos(angle)), round(radius * math.sin(angle))) for angle in turned]
 
 
-def fan(count):
+def fan(count: int) -> Polygons:
     """Triangles round one point, of which neighbours share a side."""
     rim = around(2_000_000, [2 * math.pi * k / count for k in range(count)])
     return [[[(0, 0), p, q]] for p, q in zip(rim, rim[1:] + rim[:1])]
 
 
-def flower(count):
+def flower(count: int) -> Polygons:
     """One ring of petals at one vertex."""
     rim = around(2_000_000, [math.pi * k / count for k in range(2 * count)])
     return [[[p for tip, back in zip(rim[::2], rim[1::2]) for p in ((0, 0), tip, back)]]]
 
 
-def wheel(count):
+def wheel(count: int) -> Polygons:
     """A rim, and a thin triangle from the hub for each spoke."""
     rim = around(1_000_000, [2 * math.pi * (k + 0.3) / count for k in range(count)])
     return [[rim]] + [[[(0, 0), (x, y), (x + 1, y + 1)]] for x, y in rim]
 
 
-def star(count):
+def star(count: int) -> Polygons:
     """One ring of chords, each of which crosses nearly all the others, in one tile."""
     return [[around(130_000, [2 * math.pi * (k * (count // 2) % count) / count for k in range(count)])]]
 
 
-def grid_of_triangles(count):
+def grid_of_triangles(count: int) -> Polygons:
     """Long thin triangles, half of them lying, half standing."""
     size = 40 * count
     lying = [[[(0, 40 * k), (size, 40 * k + 3), (size, 40 * k + 5)]] for k in range(count // 2)]
     return lying + [[[(y, x) for x, y in rings[0]]] for rings in lying]
 
 
-def long_segments(count):
+def long_segments(count: int) -> Polygons:
     """Thin triangles across the whole of a map of many tiles."""
     rng, size = random.Random(3), 30_000_000
     ends = [(rng.randint(-size, size), rng.randint(-size, size)) for _ in range(2 * (count // 3))]
     return [[[p, q, (q[0] + 1, q[1] + 2)]] for p, q in zip(ends[::2], ends[1::2])]
 
 
-def nested_on_a_line(count):
+def nested_on_a_line(count: int) -> Polygons:
     """Rings in one another that all have an edge on one line."""
     return [[rectangle(0, -k, 2 * k, 2 * k)] for k in range(1, count + 1)]
 
 
-def repeated_points(count):
+def repeated_points(count: int) -> Polygons:
     """A ring whose points are each there many times."""
     return [[[p for p in rectangle(0, 0, 9, 9) for _ in range(count // 4)]]]
 
 
-HARD = {
+HARD: dict[str, Callable[[], Polygons]] = {
     "fan of 100,000 triangles": lambda: fan(100_000),
     "flower of 100,000 petals": lambda: flower(100_000),
     "wheel of 5,000 spokes": lambda: wheel(5_000),
@@ -97,7 +101,7 @@ class Place:
     program: str
     folder: str
 
-    def write(self, name, begin, middle=b"", times=0, end=b""):
+    def write(self, name: str, begin: bytes, middle: bytes = b"", times: int = 0, end: bytes = b"") -> str:
         path = os.path.join(self.folder, name)
         with open(path, "wb") as file:
             file.write(begin)
@@ -106,15 +110,15 @@ class Place:
             file.write(end)
         return path
 
-    def run(self, *words):
+    def run(self, *words: str) -> Answer:
         return answer([self.program, *words], 300)
 
 
-def refused(words):
+def refused(words: bytes) -> Answer:
     return Answer(3, b"", b"overlay: %s\n" % words)
 
 
-def limits(place):
+def limits(place: Place) -> Iterator[Tried]:
     """What was tried, what came, what should come."""
     square = b"POLYGON ((0 0, 4 0, 4 4, 0 4, 0 0))\n"
     nothing, one = place.write("nothing", b""), place.write("one", square)
@@ -141,7 +145,7 @@ def limits(place):
     yield "one past the coordinates", place.run("union", nothing, beyond), refused(b"B: 2 number out of range at 17")
 
 
-def long_texts(place):
+def long_texts(place: Place) -> Iterator[Tried]:
     nothing, found = place.write("nothing", b""), Answer(0, b"MULTIPOLYGON (((0 0, 4 0, 4 4, 0 4, 0 0)))\n", b"")
     square = b"POLYGON ((0 0, 4 0, 4 4, 0 4, 0 0))"
     text = place.write("long", square, b" " * 1000, (MOST_BYTES - len(square)) // 1000, b" " * ((MOST_BYTES - len(square)) % 1000))
@@ -156,42 +160,47 @@ def long_texts(place):
 class Friendly:
     """What parcels take for each record."""
 
-    def __init__(self, program, folder, commands):
-        self.program, self.folder, self.rates, self.known = program, folder, {}, {}
+    def __init__(self, program: str, folder: str, commands: Iterable[str]) -> None:
+        self.program, self.folder = program, folder
+        self.rates: dict[str, float] = {}
+        self.known: dict[str, int | None] = {}
         files = [os.path.join(folder, name) for name in ("a.wkt", "b.wkt")]
         programs.apart(lambda: maps.write("parcels", FRIENDLY_SEGMENTS, files))
+        records = self.records("parcels", files)
+        assert records, "parcels have records"
         for command in commands:
             times = [taken([program, command, *files], os.path.join(folder, "out"), 120).clock for _ in range(5)]
-            self.rates[command] = sorted(times)[2] / self.records("parcels", files)
+            self.rates[command] = sorted(times)[2] / records
 
-    def records(self, name, files, seconds=120):
+    def records(self, name: str, files: Sequence[str], seconds: float = 120) -> int | None:
         """The number of records of the layers of a name; None where the report takes too long."""
         if name not in self.known:
             self.known[name] = self.told(files, seconds)
         return self.known[name]
 
-    def told(self, files, seconds):
+    def told(self, files: Sequence[str], seconds: float) -> int | None:
         try:
             run = subprocess.run([self.program, "edges", *files, "--report"], stdout=subprocess.DEVNULL, stderr=subprocess.PIPE, check=True, timeout=seconds)
         except subprocess.TimeoutExpired:
             return None
         return next(int(line.split()[1]) for line in run.stderr.splitlines() if line.startswith(b"records"))
 
-    def seconds(self, command, records):
+    def seconds(self, command: str, records: int) -> float:
         """Ten times as long, and no less than a tenth of a second, which a start may take on a busy machine."""
         return max(0.1, 10 * self.rates[command] * records)
 
 
-def write(name, files):
+def write(name: str, files: Sequence[str]) -> None:
     """Writes the hard layers of a name; the second one is empty but for maps."""
     if name in MAPS:
-        return maps.write(MAPS[name], FRIENDLY_SEGMENTS, files)
+        maps.write(MAPS[name], FRIENDLY_SEGMENTS, files)
+        return
     for file, text in zip(files, (layers.text_of(HARD[name]()), "")):
         with open(file, "w") as written:
             written.write(text)
 
 
-def hard_row(arguments, friendly, name, command, files, output):
+def hard_row(arguments: argparse.Namespace, friendly: Friendly, name: str, command: str, files: Sequence[str], output: str) -> bool:
     """Prints the row of a command on hard layers; whether it takes more than may be expected."""
     run = taken([arguments.program, command, *files], output, arguments.seconds)
     records = None if run.status is None else friendly.records(name, files, arguments.seconds)
@@ -204,7 +213,7 @@ def hard_row(arguments, friendly, name, command, files, output):
     return bool(note)
 
 
-def hard(arguments, folder):
+def hard(arguments: argparse.Namespace, folder: str) -> bool:
     """Prints a row for each command on hard layers; whether one takes more than may be expected."""
     names = [name for name in (*HARD, *MAPS) if arguments.only in name]
     if not names:
@@ -218,7 +227,7 @@ def hard(arguments, folder):
     return wrong
 
 
-def main(arguments):
+def main(arguments: argparse.Namespace) -> int:
     tried, wrong = 0, 0
     with tempfile.TemporaryDirectory() as folder:
         place = Place(arguments.program, folder)

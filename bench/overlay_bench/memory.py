@@ -10,12 +10,16 @@ With `--rows` four small pairs alone, whose answers stand below, by one and by t
 out is followed by the same one with ample memory, which has to give the answer. With `--layers` the faces of so many layers
 alone, rough rings through one another, by four workers; --requests of them are refused, evenly spread, where each is too many.
 """
+from __future__ import annotations
+
+import argparse
 import errno
 import math
 import os
 import random
 import tempfile
 import time
+from collections.abc import Iterable, Iterator, Mapping, Sequence
 
 from . import endurance, layers, programs
 from .programs import COMMANDS, Answer
@@ -54,7 +58,7 @@ ROWS = (
 FEW = ("corner", "nothing", "holes that touch", "ties")
 
 
-def add_arguments(parser):
+def add_arguments(parser: argparse.ArgumentParser) -> None:
     parser.add_argument("--rows", action="store_true", help="four pairs with known answers alone, 1 and 2 workers, and each refused run again")
     parser.add_argument("--short", action="store_true", help="fewer layers, 1 and 4 workers")
     parser.add_argument("--segments", type=int, help="the size of the last pair of layers, which a short run leaves out (200), or of each of --layers (5000)")
@@ -62,39 +66,45 @@ def add_arguments(parser):
     parser.add_argument("--requests", type=int, help="how many requests of these are refused, evenly spread (default: each)")
 
 
-def many_segments(count):
+def many_segments(count: int) -> tuple[str, str]:
     """Two layers of so many segments together, with holes and crossings."""
     rng = random.Random(22)
-    return tuple(layers.text_of(layers.parcels(rng, count // 4) + layers.holes(rng, count // 4)) for _ in "ab")
+    first, second = (layers.text_of(layers.parcels(rng, count // 4) + layers.holes(rng, count // 4)) for _ in "ab")
+    return first, second
 
 
-def rings(count, segments):
+def rings(count: int, segments: int) -> list[str]:
     """So many layers of one rough ring each, the middle of each beside that of the one before: all cross all others."""
     rng, turned = random.Random(22), [2 * math.pi * k / segments for k in range(segments)]
-    around = lambda k: [(round(300 * k + rng.randint(199_900, 200_100) * math.cos(a)), round(rng.randint(199_900, 200_100) * math.sin(a))) for a in turned]
+
+    def around(k: int) -> layers.Ring:
+        return [(round(300 * k + rng.randint(199_900, 200_100) * math.cos(a)), round(rng.randint(199_900, 200_100) * math.sin(a))) for a in turned]
+
     return [layers.text_of([[around(k)]]) for k in range(count)]
 
 
 class Refusing:
     """The program behind the library, and what it found."""
 
-    def __init__(self, program):
-        self.program, self.library, self.runs, self.wrong = program, programs.shim(), 0, []
+    def __init__(self, program: str) -> None:
+        self.program, self.library, self.runs = program, programs.shim(), 0
+        # A command line, what was refused, and what it gave.
+        self.wrong: list[tuple[Sequence[str], str, object]] = []
 
-    def answer(self, words, **rules):
+    def answer(self, words: Sequence[str], **rules: str) -> Answer:
         self.runs += 1
         return programs.answer([self.program, *words], env=dict(os.environ, LD_PRELOAD=self.library, **rules))
 
-    def counted(self, words):
+    def counted(self, words: Sequence[str]) -> tuple[Answer, int]:
         """The right answer, and how many requests the run had."""
         with tempfile.NamedTemporaryFile("r") as file:
             return self.answer(words, COUNT_MALLOC=file.name), int(file.read() or 0)
 
-    def without(self, words, number):
+    def without(self, words: Sequence[str], number: int) -> Answer:
         """The answer where this request is refused."""
         return self.answer(words, REFUSE_MALLOC="%d %d" % (number, errno.ENOMEM))
 
-    def refuse_each(self, words, again=False):
+    def refuse_each(self, words: Sequence[str], again: bool = False) -> int:
         """Refuses each request, and tells how many; with `again` each refused run is followed by one with memory."""
         right, requests = self.counted(words)
         allowed = [right, OUT_OF_MEMORY] + [Answer(1, right.out, OUT_OF_MEMORY.err)] * ("--report" in words)
@@ -106,7 +116,7 @@ class Refusing:
                 self.wrong.append((words, "request %d" % number, "something else with memory again"))
         return requests
 
-    def refuse_row(self, words, workers, text):
+    def refuse_row(self, words: Sequence[str], workers: int, text: str) -> int:
         """Each thread and each request of a command line whose answer is known."""
         got = self.answer(words)
         if got != Answer(0, text.encode(), b""):
@@ -114,7 +124,7 @@ class Refusing:
         self.refuse_threads(words, workers)
         return self.refuse_each(words, again=True)
 
-    def refuse_threads(self, words, workers):
+    def refuse_threads(self, words: Sequence[str], workers: int) -> None:
         right = self.answer(words)
         for number in range(0, workers + 4):
             got = self.answer(words, REFUSE_THREAD="%d %d" % (number, errno.EAGAIN))
@@ -122,7 +132,7 @@ class Refusing:
                 self.wrong.append((words, "thread %d" % number if number else "each thread", got))
 
 
-def written(folder, name, texts):
+def written(folder: str, name: str, texts: Iterable[str]) -> list[str]:
     """The files of two layers."""
     files = [os.path.join(folder, "%s %s.wkt" % (name, layer)) for layer in "ab"]
     for file, text in zip(files, texts):
@@ -131,7 +141,7 @@ def written(folder, name, texts):
     return files
 
 
-def runs(folder, pairs, workers):
+def runs(folder: str, pairs: Mapping[str, tuple[str, str]], workers: Sequence[int]) -> Iterator[tuple[int, list[str]]]:
     """The command lines: every pair by all commands, and some that fail before a run."""
     for name, texts in pairs.items():
         files = written(folder, name, texts)
@@ -144,7 +154,7 @@ def runs(folder, pairs, workers):
     yield from ((1, words) for words in (["--help"], ["edges", programs.__file__, files[0]], ["xor", *files], ["edges", missing, missing], ["edges"]))
 
 
-def refuse_rows(refusing, folder):
+def refuse_rows(refusing: Refusing, folder: str) -> tuple[int, int]:
     """The rows by one and by two workers: how many command lines, and how many requests."""
     lines, requests = 0, 0
     for command, name, text in ROWS:
@@ -155,7 +165,7 @@ def refuse_rows(refusing, folder):
     return lines, requests
 
 
-def refuse_runs(refusing, folder, arguments):
+def refuse_runs(refusing: Refusing, folder: str, arguments: argparse.Namespace) -> tuple[int, int]:
     """All command lines: how many, and how many requests."""
     pairs = {name: PAIRS[name] for name in FEW} if arguments.short else dict(PAIRS, many=many_segments(arguments.segments or 200))
     lines, requests = 0, 0
@@ -167,7 +177,7 @@ def refuse_runs(refusing, folder, arguments):
     return lines, requests
 
 
-def refuse_layers(refusing, folder, arguments):
+def refuse_layers(refusing: Refusing, folder: str, arguments: argparse.Namespace) -> int:
     """Requests of the faces of many layers; 1 where a run went wrong."""
     files = [os.path.join(folder, "%d.wkt" % k) for k in range(arguments.layers)]
     for path, text in zip(files, rings(arguments.layers, arguments.segments or 5_000)):
@@ -183,7 +193,7 @@ def refuse_layers(refusing, folder, arguments):
     return counts.end()
 
 
-def main(arguments):
+def main(arguments: argparse.Namespace) -> int:
     refusing, start = Refusing(arguments.program), time.monotonic()
     with tempfile.TemporaryDirectory() as folder:
         if arguments.layers:

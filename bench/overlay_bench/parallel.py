@@ -9,15 +9,18 @@ the exact reference (bench/reference.py). The exit status is 1 where anything di
 The checksums were made by `bench/run parallel --make`: it runs the plain program (bench/plain), which is a second program of the
 same rules, and prints the table below; it first compares the plain program with the exact reference on the sibling.
 """
+from __future__ import annotations
+
+import argparse
 import hashlib
 import os
 import sys
 import tempfile
-
-import reference
+from collections.abc import Callable, Sequence
 
 from . import layers, programs
-from .programs import COMMANDS, answer
+from .layers import Polygons
+from .programs import COMMANDS, Answer, answer
 
 CREWS = (1, 2, 3, 4, 64)
 SIDES = (None, 128)
@@ -39,35 +42,35 @@ TEXTS = {
 }
 
 
-def add_arguments(parser):
+def add_arguments(parser: argparse.ArgumentParser) -> None:
     parser.add_argument("--make", action="store_true", help="make the checksums by the plain program, and print them")
     parser.add_argument("--seconds", type=float, default=60, help="after which a run is over")
 
 
-def scattered(number, size):
+def scattered(number: int, size: int) -> int:
     """A number from 0 to below a size, the same on each machine: multiplicative hashing, Knuth 1973."""
     return (number * 2_654_435_761 % (1 << 32)) * size >> 32
 
 
-def squares(count):
+def squares(count: int) -> Polygons:
     """Squares of side 12 to 14 in a grid of step 10: each overlaps its neighbours."""
     columns = max(1, count // 50) if count >= 100 else 6
     return [[layers.rectangle(10 * (k % columns), 10 * (k // columns), 12 + scattered(k, 3), 12 + scattered(k + 7, 3))] for k in range(count)]
 
 
-def crossings(count):
+def crossings(count: int) -> Polygons:
     """Quadrangles with corners within 20 of the places of the same grid: most of their sides cross others, some their own."""
     columns = max(1, count // 50) if count >= 100 else 6
-    polygons = []
+    polygons: Polygons = []
     for k in range(count):
         x, y = 10 * (k % columns), 10 * (k // columns)
         polygons.append([[(x + scattered(8 * k + 2 * corner, 41) - 20, y + scattered(8 * k + 2 * corner + 1, 41) - 20) for corner in range(4)]])
     return polygons
 
 
-def write(folder, count):
+def write(folder: str, count: int) -> list[str]:
     """Writes both layers, and gives their files."""
-    files = []
+    files: list[str] = []
     for layer, make in (("a", squares), ("b", crossings)):
         files.append(os.path.join(folder, "%s-%d.wkt" % (layer, count)))
         with open(files[-1], "w") as file:
@@ -75,16 +78,16 @@ def write(folder, count):
     return files
 
 
-def checksum(text):
+def checksum(text: bytes) -> str:
     return hashlib.sha256(text).hexdigest()
 
 
-def is_above(command, text):
+def is_above(command: str, text: bytes) -> bool:
     """Whether a text has so many edges, or points, that threads are worth it."""
     return text.count(b"\n") >= EDGES if command == "edges" else text.count(b",") >= POINTS
 
 
-def exact(command, files):
+def exact(command: str, files: Sequence[str]) -> Answer:
     """What the exact reference answers."""
     return answer([sys.executable, os.path.join(programs.BENCH, "reference.py"), command, *files, "--tile", "16"], 600)
 
@@ -92,17 +95,17 @@ def exact(command, files):
 class Told:
     """What was compared, and what differed."""
 
-    def __init__(self):
+    def __init__(self) -> None:
         self.runs = self.wrong = 0
 
-    def compared(self, agrees, what):
+    def compared(self, agrees: bool, what: str) -> None:
         self.runs += 1
         if not agrees:
             self.wrong += 1
             print("%s differs" % what, flush=True)
 
 
-def compare_sibling(told, call, files):
+def compare_sibling(told: Told, call: Callable[[str, Sequence[str]], list[list[str]]], files: Sequence[str]) -> None:
     """Compares a program with the exact reference on the sibling."""
     for command in COMMANDS:
         wanted = exact(command, files)
@@ -111,7 +114,7 @@ def compare_sibling(told, call, files):
             told.compared(wanted.status == 0 and (got.status, got.out) == (0, wanted.out), " ".join(words))
 
 
-def make(folder):
+def make(folder: str) -> int:
     """Prints the checksums that the plain program's answers have."""
     told, plain = Told(), programs.plain()
     compare_sibling(told, lambda command, files: [[plain, command, *files, "--workers=%d" % crew] for crew in (1, 4)], write(folder, SIBLING))
@@ -128,12 +131,12 @@ def make(folder):
     return int(told.wrong > 0)
 
 
-def compare(told, program, files, seconds):
+def compare(told: Told, program: str, files: Sequence[str], seconds: float) -> None:
     """Compares each command by each crew with the stored checksum, and its report with that of one worker."""
     for command in COMMANDS:
         for side in SIDES:
             words = [program, command, *files, "--report", *(["--tile=%d" % side] if side else [])]
-            alone = None
+            alone: Answer | None = None
             for crew in CREWS:
                 got = answer([*words, "--workers=%d" % crew], seconds)
                 alone = alone or got
@@ -141,7 +144,7 @@ def compare(told, program, files, seconds):
                 told.compared(agrees and got.err == alone.err and b"\nremade 0\n" in got.err, " ".join([*words[1:], "--workers=%d" % crew]))
 
 
-def main(arguments):
+def main(arguments: argparse.Namespace) -> int:
     told = Told()
     with tempfile.TemporaryDirectory() as folder:
         if arguments.make:

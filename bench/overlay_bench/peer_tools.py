@@ -277,7 +277,10 @@ class Qgis(Tool):
         """The algorithms of a job, each with the file that it writes and its other words."""
         names = ("a", "b") if job == "common" else ("a",)
         inputs = dict(zip(names, layers.packages()))
-        made = lambda name: os.path.join(layers.folder, name + ".gpkg")
+
+        def made(name: str) -> str:
+            return os.path.join(layers.folder, name + ".gpkg")
+
         asked = []
         if self.makes_valid:
             asked = [("native:fixgeometries", made("v" + name), {"INPUT": inputs[name]}) for name in names]

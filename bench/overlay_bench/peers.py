@@ -22,6 +22,7 @@ libcgal-dev libpolyclipping-dev. The exit status is 1 where overlay doesn't answ
 """
 from __future__ import annotations
 
+import argparse
 import contextlib
 import os
 import signal
@@ -39,7 +40,7 @@ MAPS = {"clean": False, "raw": True}
 HEAD = ("tool", "version", "map", "segments", "job", "answers", "area off", "again", "other order", "processor s", "clock s", "ratio", "threads")
 
 
-def add_arguments(parser) -> None:
+def add_arguments(parser: argparse.ArgumentParser) -> None:
     parser.add_argument("--sizes", nargs="+", type=int, default=(10_000, 100_000), metavar="SEGMENTS", help="of either layer")
     parser.add_argument("--maps", nargs="+", default=list(MAPS), choices=MAPS)
     parser.add_argument("--rounds", type=int, default=3, help="runs of each job on the same files (slow ones: two)")
@@ -100,10 +101,11 @@ class Row:
         return self.other.fault or same(self.runs[0].text, self.other.text)
 
     def least(self, what: str) -> float:
-        return min(getattr(run, what) for run in self.runs)
+        taken: list[float] = [getattr(run, what) for run in self.runs]
+        return min(taken)
 
 
-def row_of(tool: Tool, version: str, name: str, size: int, job: str, layers: Layers, other: Layers, arguments) -> Row:
+def row_of(tool: Tool, version: str, name: str, size: int, job: str, layers: Layers, other: Layers, arguments: argparse.Namespace) -> Row:
     runs = [tool.run(job, layers, arguments.seconds)]
     if runs[0].fault:
         return Row(tool, version, name, size, job, runs, None)
@@ -140,7 +142,7 @@ class Table:
         print("| %s |" % " | ".join([tool.name, "", "", "", "", "not run: " + tool.missing(), *[""] * 7]), flush=True)
 
 
-def faces_row(tool: Faces, version: str, name: str, size: int, job: str, layers: Layers, arguments, table: Table) -> Exact | None:
+def faces_row(tool: Faces, version: str, name: str, size: int, job: str, layers: Layers, arguments: argparse.Namespace, table: Table) -> Exact | None:
     """The row of the faces that a job is about, and its exact area."""
     runs = [tool.run(job, layers, arguments.seconds) for _ in range(min(2, arguments.rounds))]
     again = "" if len(runs) < 2 or runs[0].fault else "same bytes" if runs[0].text == runs[1].text else "other faces"
@@ -152,7 +154,7 @@ def faces_row(tool: Faces, version: str, name: str, size: int, job: str, layers:
     return None if runs[0].fault else exact(runs[0].text, job)
 
 
-def main(arguments) -> int:
+def main(arguments: argparse.Namespace) -> int:
     signal.signal(signal.SIGTERM, lambda *_: sys.exit("ended by SIGTERM"))  # so that the server is ended too
     tools = [tool for tool in peers() if not arguments.only or any(tool.name.startswith(word) for word in arguments.only)]
     table = Table(not arguments.without_times)

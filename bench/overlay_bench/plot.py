@@ -6,8 +6,10 @@ drawing has no date and no chance in it: the same tables give the same bytes.
 """
 from __future__ import annotations
 
+import argparse
 import math
 import os
+from collections.abc import Callable
 from dataclasses import dataclass
 
 from . import programs, results
@@ -26,7 +28,7 @@ class Series:
     points: tuple[tuple[float, float], ...]
 
 
-def add_arguments(parser) -> None:
+def add_arguments(parser: argparse.ArgumentParser) -> None:
     parser.add_argument("--output", default=PICTURE)
 
 
@@ -37,7 +39,7 @@ def number(text: str) -> float | None:
         return None
 
 
-def series(rows: list[dict], name: str, seconds: str, kind) -> list[Series]:
+def series(rows: list[dict[str, str]], name: str, seconds: str, kind: Callable[[str], str]) -> list[Series]:
     """The points of each name, those that weren't measured left out."""
     found: dict[str, list[tuple[float, float]]] = {}
     for row in rows:
@@ -85,8 +87,13 @@ def panel(title: str, drawn: list[Series], left: float, missing: str) -> list[st
     if not drawn:
         return lines + ['<text x="%d" y="%d">%s</text>' % (left, TOP + 20, missing)]
     across, up = powers([x for one in drawn for x, _ in one.points]), powers([y for one in drawn for _, y in one.points])
-    at_x = lambda value: left + WIDE * (math.log10(value) - across[0]) / (across[-1] - across[0])
-    at_y = lambda value: TOP + HIGH - HIGH * (math.log10(value) - up[0]) / (up[-1] - up[0])
+
+    def at_x(value: float) -> float:
+        return left + WIDE * (math.log10(value) - across[0]) / (across[-1] - across[0])
+
+    def at_y(value: float) -> float:
+        return TOP + HIGH - HIGH * (math.log10(value) - up[0]) / (up[-1] - up[0])
+
     for power in across:
         x = at_x(10.0 ** power)
         lines += ['<path class="grid" d="M%.1f %dV%d"/>' % (x, TOP, TOP + HIGH), '<text x="%.1f" y="%d" text-anchor="middle">%s</text>' % (x, TOP + HIGH + 16, told(power))]
@@ -120,7 +127,7 @@ def picture() -> str:
     return "\n".join([*lines, "</svg>", ""])
 
 
-def main(arguments) -> int:
+def main(arguments: argparse.Namespace) -> int:
     drawn = picture()
     with open(arguments.output, "w", encoding="utf-8") as file:
         file.write(drawn)

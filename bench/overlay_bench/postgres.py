@@ -11,7 +11,7 @@ import socket
 import subprocess
 import tempfile
 import time
-from typing import Any
+from typing import IO
 
 from . import watching
 
@@ -26,14 +26,13 @@ def folder() -> str:
     return os.path.dirname(max(found, key=lambda path: int(path.split("/")[4]))) if found else ""
 
 
-def unprivileged() -> dict[str, Any]:
-    """What a program is started with so that it isn't root: the server refuses that."""
+def unprivileged() -> pwd.struct_passwd | None:
+    """The user to start a program as so that it isn't root, which the server refuses; None where this process isn't root."""
     if os.getuid():
-        return {}
+        return None
     for name in ("postgres", "nobody"):
         try:
-            user = pwd.getpwnam(name)
-            return {"user": user.pw_uid, "group": user.pw_gid, "extra_groups": []}
+            return pwd.getpwnam(name)
         except KeyError:
             continue
     raise OSError("no user but root to start PostgreSQL as")
@@ -42,7 +41,8 @@ def unprivileged() -> dict[str, Any]:
 def free_port() -> int:
     with socket.socket() as door:
         door.bind(("127.0.0.1", 0))
-        return door.getsockname()[1]
+        port: int = door.getsockname()[1]
+        return port
 
 
 class Server:
@@ -63,16 +63,21 @@ class Server:
         word = os.path.join(self.place, "word")
         with open(word, "w", opener=lambda path, flags: os.open(path, flags, 0o600), encoding="ascii") as file:
             file.write(self.environment["PGPASSWORD"])
+        user, group, groups = (self.user.pw_uid, self.user.pw_gid, ()) if self.user else (None, None, None)
         if self.user:
             for path in (self.place, word):
-                os.chown(path, self.user["user"], self.user["group"])
-        call: dict[str, Any] = {"cwd": self.place, "env": self.environment, **self.user}
+                os.chown(path, self.user.pw_uid, self.user.pw_gid)
         words = ["--pgdata=data", "--username=peers", "--auth=scram-sha-256", "--pwfile=word", "--encoding=UTF8", "--no-sync"]
-        subprocess.run([os.path.join(folder(), "initdb"), *words], stdout=subprocess.DEVNULL, check=True, **call)
+        initdb, server = (os.path.join(folder(), name) for name in ("initdb", "postgres"))
+        subprocess.run(
+            [initdb, *words], stdout=subprocess.DEVNULL, check=True,
+            cwd=self.place, env=self.environment, user=user, group=group, extra_groups=groups)
         settings = [*SETTINGS, "listen_addresses=127.0.0.1", "port=%d" % self.port, "unix_socket_directories="]
         words = [word for setting in settings for word in ("-c", setting)]
         with open(os.path.join(self.place, "log"), "wb") as log:
-            process = self.process = subprocess.Popen([os.path.join(folder(), "postgres"), "-D", "data", *words], stdin=subprocess.DEVNULL, stdout=log, stderr=log, **call)
+            process = self.process = subprocess.Popen(
+                [server, "-D", "data", *words], stdin=subprocess.DEVNULL, stdout=log, stderr=log,
+                cwd=self.place, env=self.environment, user=user, group=group, extra_groups=groups)
         end = time.monotonic() + SECONDS
         while self.psql("select 1").returncode:
             if process.poll() is not None or time.monotonic() > end:
@@ -91,7 +96,7 @@ class Server:
             self.process.wait()
         shutil.rmtree(self.place)
 
-    def psql(self, *statements: str, source: Any = subprocess.DEVNULL, seconds: float = 600) -> subprocess.CompletedProcess[str]:
+    def psql(self, *statements: str, source: IO[str] | int = subprocess.DEVNULL, seconds: float = 600) -> subprocess.CompletedProcess[str]:
         """Runs statements in one session; the first one that fails ends it."""
         words = ["psql", "-h", "127.0.0.1", "-p", str(self.port), "-U", "peers", "-d", "postgres", "-qAtX", "-v", "ON_ERROR_STOP=1"]
         words += [word for statement in statements for word in ("-c", statement)]

@@ -10,7 +10,9 @@ import sys
 import tempfile
 import threading
 import time
+from collections.abc import Callable, Iterable, Mapping, Sequence
 from dataclasses import dataclass
+from typing import IO
 
 BENCH = os.path.dirname(os.path.dirname(os.path.abspath(__file__)))
 ROOT = os.path.dirname(BENCH)
@@ -27,14 +29,23 @@ class Answer:
     out: bytes
     err: bytes
 
-    def __str__(self):
-        shown = [text if len(text) <= 200 else text[:200] + b".." for text in (self.out, self.err)]
-        return "status %s, standard output %r, standard error %r" % (self.status, *shown)
+    def __str__(self) -> str:
+        out, err = (text if len(text) <= 200 else text[:200] + b".." for text in (self.out, self.err))
+        return "status %s, standard output %r, standard error %r" % (self.status, out, err)
 
 
-def answer(words, seconds=60.0, **more):
-    """Runs a command line, at most for these seconds."""
-    process = subprocess.Popen(words, stdout=subprocess.PIPE, stderr=subprocess.PIPE, **more)
+# What was tried, what came, and what should have come.
+Tried = tuple[str, object, object]
+
+
+def answer(
+    words: Sequence[str | bytes], seconds: float = 60.0, *, cwd: str | None = None, env: Mapping[str, str] | None = None,
+    stdin: IO[bytes] | None = None, preexec_fn: Callable[[], None] | None = None, user: int | None = None,
+) -> Answer:
+    """Runs a command line, at most for these seconds; with a user as that one, in the group of its number alone."""
+    process = subprocess.Popen(
+        words, stdin=stdin, stdout=subprocess.PIPE, stderr=subprocess.PIPE, cwd=cwd, env=env, preexec_fn=preexec_fn,
+        user=user, group=user, extra_groups=None if user is None else [])
     try:
         out, err = process.communicate(timeout=seconds)
         return Answer(process.returncode, out, err)
@@ -54,7 +65,7 @@ class Taken:
     memory: float
 
 
-def taken(words, output, seconds, errors=os.devnull, processor=None):
+def taken(words: Sequence[str], output: str, seconds: float, errors: str = os.devnull, processor: int | None = None) -> Taken:
     """Measures a run whose standard output, and whose errors, go to files. It may be given so many whole processor seconds too."""
     limit = None if processor is None else lambda: resource.setrlimit(resource.RLIMIT_CPU, (processor, processor))
     with open(output, "wb") as out, open(errors, "wb") as err:
@@ -62,7 +73,7 @@ def taken(words, output, seconds, errors=os.devnull, processor=None):
         process = subprocess.Popen(words, stdout=out, stderr=err, preexec_fn=limit)
         over = threading.Event()
 
-        def end():
+        def end() -> None:
             over.set()
             os.kill(process.pid, signal.SIGKILL)
 
@@ -77,18 +88,18 @@ def taken(words, output, seconds, errors=os.devnull, processor=None):
     return Taken(None if is_over else process.returncode, clock, seconds_used, used.ru_maxrss / 1024)
 
 
-def compiler_of_c():
+def compiler_of_c() -> str:
     for name in ("cc", "clang", "gcc"):
         if shutil.which(name):
             return name
     sys.exit("no compiler for C was found (cc, clang or gcc): this step needs one")
 
 
-def newer(built, sources):
+def newer(built: str, sources: Iterable[str]) -> bool:
     return os.path.exists(built) and all(os.path.getmtime(built) > os.path.getmtime(source) for source in sources)
 
 
-def plain():
+def plain() -> str:
     """The plain program of the same rules, compiled where its sources have changed."""
     folder, built = os.path.join(BENCH, "plain"), os.path.join(OUT, "plain")
     sources = [os.path.join(folder, name) for name in os.listdir(folder)]
@@ -104,7 +115,7 @@ def plain():
     return built
 
 
-def shim(name="calls"):
+def shim(name: str = "calls") -> str:
     """A library of bench/shims that stands before the C library, compiled where its source has changed."""
     source, built = os.path.join(BENCH, "shims", name + ".c"), os.path.join(OUT, name + ".so")
     if not newer(built, [source]):
@@ -113,7 +124,7 @@ def shim(name="calls"):
     return built
 
 
-def keep(folder, before, texts, names="ab"):
+def keep(folder: str, before: str, texts: Iterable[bytes], names: Iterable[str] = "ab") -> None:
     """Writes the texts of a difference into a folder of bench/out."""
     os.makedirs(folder, exist_ok=True)
     for layer, text in zip(names, texts):
@@ -121,7 +132,7 @@ def keep(folder, before, texts, names="ab"):
             file.write(text)
 
 
-def apart(make):
+def apart(make: Callable[[], None]) -> None:
     """Runs a function in a process of its own: what it takes would else count as memory of programs started later."""
     child = os.fork()
     if child == 0:

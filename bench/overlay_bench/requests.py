@@ -4,6 +4,9 @@ A copy of that crate gets four tests more: what goes before `gather`, and that w
 with its N-th request refused; the least N with which it passes is one more than the number of its requests. Exit status 1 where a
 full book doesn't save requests. Needs the kit's `rt`.
 """
+from __future__ import annotations
+
+import argparse
 import os
 import re
 import shutil
@@ -24,7 +27,7 @@ fn {name}(rt: HostRuntime) -> Result<(), Fail> {{
 BOOKS = (("empty", 0), ("full", 4))
 
 
-def with_tests(text):
+def with_tests(text: str) -> str:
     """The tests' text with the four tests in place of its own."""
     start = text.index("fn gathered<")
     gathered = text[start:text.index("\n}\n", start) + 3]
@@ -39,7 +42,7 @@ def with_tests(text):
     return text
 
 
-def copied(folder):
+def copied(folder: str) -> str:
     """A copy of the repository's crates, the tests of gathering exchanged; the folder of chain_gather_tests."""
     shutil.copy(os.path.join(ROOT, "crates.txt"), folder)
     shutil.copytree(os.path.join(ROOT, "crates"), os.path.join(folder, "crates"), ignore=shutil.ignore_patterns("out", "must-fail"))
@@ -52,20 +55,20 @@ def copied(folder):
     return crate
 
 
-def passing(crate, refused):
+def passing(crate: str, refused: int) -> set[str]:
     """The tests that pass where this request is refused."""
     run = subprocess.run(["rt", "try", "--test", "--fail-alloc", str(refused)], cwd=crate, stdout=subprocess.PIPE, stderr=subprocess.STDOUT, text=True)
-    told = dict(re.findall(r"^test gathering::(\w+) \.\.\. (\w+)$", run.stdout, re.M))
+    told: dict[str, str] = dict(re.findall(r"^test gathering::(\w+) \.\.\. (\w+)$", run.stdout, re.M))
     if len(told) != 4:
         sys.exit("the tests did not run:\n" + run.stdout)
     return {name for name, outcome in told.items() if outcome == "ok"}
 
 
-def requests(crate):
+def requests(crate: str) -> dict[str, int]:
     """The number of requests of each test: the greatest whose refusal makes it fail."""
-    answers = {}
+    answers: dict[int, set[str]] = {}
 
-    def passes(name, refused):
+    def passes(name: str, refused: int) -> bool:
         if refused not in answers:
             answers[refused] = passing(crate, refused)
         return name in answers[refused]
@@ -83,15 +86,14 @@ def requests(crate):
     return counts
 
 
-def add_arguments(parser):
+def add_arguments(parser: argparse.ArgumentParser) -> None:
     pass
 
 
-def main(arguments):
+def main(arguments: argparse.Namespace) -> int:
     with tempfile.TemporaryDirectory() as folder:
         counts = requests(copied(folder))
     made = {book: counts["gathered_with_%s_book" % book] - counts["prepared_with_%s_book" % book] for book, _ in BOOKS}
     for book, count in made.items():
         print("%s book: %d requests by gather, the %d-th refused changes nothing" % (book, count, count + 1))
     return 0 if 0 < made["full"] < made["empty"] else 1
-

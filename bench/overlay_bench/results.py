@@ -1,8 +1,12 @@
 """What a command printed, kept in `bench/results`: its table in a file of the command's name, its last line in `runs.tsv`, each with the date, the commit, the machine's processors and the words of the command."""
+from __future__ import annotations
+
 import datetime
 import os
 import subprocess
 import sys
+from collections.abc import Callable, Sequence
+from typing import TextIO, cast
 
 from . import programs
 
@@ -13,36 +17,37 @@ HEAD = ("date", "commit", "processors", "words")
 class Listening:
     """A stream that also keeps what goes through it."""
 
-    def __init__(self, stream):
-        self.stream, self.text = stream, []
+    def __init__(self, stream: TextIO) -> None:
+        self.stream = stream
+        self.text: list[str] = []
 
-    def write(self, text):
+    def write(self, text: str) -> int:
         self.text.append(text)
         return self.stream.write(text)
 
-    def flush(self):
+    def flush(self) -> None:
         self.stream.flush()
 
-    def lines(self):
+    def lines(self) -> list[str]:
         return "".join(self.text).splitlines()
 
 
-def cells(line):
+def cells(line: str) -> list[str]:
     return [cell.strip().replace("`", "").replace("\t", " ") for cell in line.strip().strip("|").split("|")]
 
 
-def rows_of(lines):
+def rows_of(lines: Sequence[str]) -> list[list[str]]:
     """The rows of the tables among the lines, the head of the first one before them."""
     rows = [cells(line) for line in lines if line.startswith("|") and not line.startswith("|---")]
     return rows[:1] + [row for row in rows[1:] if row != rows[0]]
 
 
-def commit():
+def commit() -> str:
     asked = subprocess.run(["git", "-C", programs.ROOT, "describe", "--always", "--dirty"], capture_output=True, text=True, check=False)
     return asked.stdout.strip()
 
 
-def append(name, head, rows):
+def append(name: str, head: Sequence[str], rows: list[list[str]]) -> None:
     """Puts rows behind those of a file, which begins with its head."""
     os.makedirs(FOLDER, exist_ok=True)
     path = os.path.join(FOLDER, name + ".tsv")
@@ -52,7 +57,7 @@ def append(name, head, rows):
             file.write("\t".join(row) + "\n")
 
 
-def latest(name, keys):
+def latest(name: str, keys: Sequence[str]) -> list[dict[str, str]]:
     """The rows of a file, each by the names of its columns, of those with the same keys the last one alone, in the order of the file."""
     path = os.path.join(FOLDER, name + ".tsv")
     if not os.path.exists(path):
@@ -60,15 +65,15 @@ def latest(name, keys):
     with open(path, encoding="utf-8") as file:
         head, *lines = (line.rstrip("\n").split("\t") for line in file)
     rows = [dict(zip(reversed(head), reversed(line + [""] * (len(head) - len(line))))) for line in lines]  # of columns of one name the first
-    found = {}
+    found: dict[tuple[str, ...], dict[str, str]] = {}
     for row in rows:
-        key = tuple(row[key] for key in keys)
-        found.pop(key, None)
-        found[key] = row
+        values = tuple(row[key] for key in keys)
+        found.pop(values, None)
+        found[values] = row
     return list(found.values())
 
 
-def keep(name, words, lines):
+def keep(name: str, words: Sequence[str], lines: Sequence[str]) -> None:
     about = [datetime.date.today().isoformat(), commit(), str(os.cpu_count()), " ".join(words)]
     table = rows_of(lines)
     if table:
@@ -78,10 +83,10 @@ def keep(name, words, lines):
         append("runs", ["said"], [about + [others[-1].replace("\t", " ")]])
 
 
-def recorded(name, words, call):
+def recorded(name: str, words: Sequence[str], call: Callable[[], int]) -> int:
     """What the call answers; what it prints is kept, if it ends by itself."""
     heard = Listening(sys.stdout)
-    sys.stdout = heard
+    sys.stdout = cast(TextIO, heard)  # all that `print` asks of a stream
     try:
         answer = call()
     finally:

@@ -9,19 +9,23 @@ are in it. A case that differs is kept in bench/out, cut down to fewer features;
 """
 from __future__ import annotations
 
+import argparse
 import os
 import random
 import re
 import shutil
 import tempfile
 import time
+from collections.abc import Iterable, Iterator, Sequence
 from dataclasses import dataclass
 
 import reference
 import reference_faces
+from reference import Edge, Ring
 
 from . import feature_layers, programs, side_by_side
 from .cutting import cut
+from .feature_layers import Features
 from .programs import Answer
 
 MOST = 20
@@ -29,7 +33,7 @@ RING = re.compile(rb"\(([^()]+)\)")
 SIDES = (None, None, 16, 17, 64, 1000, 262_144, 1 << 22)  # small ones give a few layers more tiles than there may be
 
 
-def add_arguments(parser):
+def add_arguments(parser: argparse.ArgumentParser) -> None:
     side_by_side.add_arguments(parser, "pairs", 1000)
     parser.add_argument("--large", type=float, default=0.1, help="the share of large pairs; 0 needs no rustc")
     parser.add_argument("--points", type=int, default=10, help="random points of each small pair")
@@ -46,7 +50,7 @@ class Plan:
     segments: int | None
     report: bool
 
-    def words(self):
+    def words(self) -> list[str]:
         words = [] if self.side is None else ["--tile=%d" % self.side]
         words += [] if self.segments is None else ["--segments=%d" % self.segments]
         return [*words, "--workers=%d" % self.workers, *["--report"] * self.report]
@@ -58,11 +62,11 @@ class Case:
 
     number: int
     large: bool
-    layers: list
+    layers: list[Features]
     plan: Plan
     spelling: int
 
-    def texts(self, layers=None):
+    def texts(self, layers: list[Features] | None = None) -> list[bytes]:
         """The texts of the layers, or of others in their place; some are spelled otherwise, and a few of these aren't layers then."""
         rng, texts = random.Random(self.spelling), []
         for layer in self.layers if layers is None else layers:
@@ -76,7 +80,7 @@ class Case:
         return texts
 
 
-def case(number, arguments):
+def case(number: int, arguments: argparse.Namespace) -> Case:
     rng = random.Random(arguments.seed * 1_000_003 + number)
     large = rng.random() < arguments.large
     found = feature_layers.drawn(rng, not large)
@@ -91,17 +95,18 @@ def case(number, arguments):
     return Case(number, large, found, plan, rng.randrange(1 << 30))
 
 
-def edges_of(shape):
+def edges_of(shape: bytes) -> Iterator[Edge]:
     for ring in RING.findall(shape):
-        points = [tuple(map(int, point.split())) for point in ring.split(b",")]
+        points = [(int(x), int(y)) for x, y in (point.split() for point in ring.split(b","))]
         yield from zip(points, points[1:])
 
 
-def rows_of(text, sizes):
+def rows_of(text: bytes, sizes: Sequence[int]) -> Iterator[tuple[list[int], list[Edge]]]:
     """Of each row its features, numbered from 0 through all layers, and its directed edges."""
     for line in text.splitlines():
         _, *ids, shape = line.split(b"\t")
-        first, covered = 0, []
+        first = 0
+        covered: list[int] = []
         for numbers, size in zip(ids, sizes):
             covered += [first + int(number) - 1 for number in numbers.split(b",") if number]
             first += size
@@ -111,17 +116,17 @@ def rows_of(text, sizes):
 class Bench:
     """What is tested, and what judges it."""
 
-    def __init__(self, arguments, folder):
+    def __init__(self, arguments: argparse.Namespace, folder: str) -> None:
         self.arguments, self.folder = arguments, folder
 
-    def ask(self, program, words, texts):
+    def ask(self, program: str, words: Sequence[str], texts: Sequence[bytes]) -> Answer:
         names = [os.path.join(self.folder, "%d-%d.wkt" % (os.getpid(), number)) for number in range(len(texts))]
         for name, text in zip(names, texts):
             with open(name, "wb") as file:
                 file.write(text)
         return programs.answer([program, words[0], *names, *words[1:]], self.arguments.seconds)
 
-    def judged(self, made, texts):
+    def judged(self, made: Case, texts: Sequence[bytes]) -> Answer:
         """What the reference answers to a small case; its laws are asserted."""
         plan = made.plan
         try:
@@ -132,13 +137,13 @@ class Bench:
         faces.try_points(self.arguments.points, random.Random(made.spelling))
         return Answer(0, faces.text().encode(), faces.report(plan.side).encode() if plan.report else b"")
 
-    def by_plain(self, made, texts):
+    def by_plain(self, made: Case, texts: Sequence[bytes]) -> Answer | None:
         """What the plain program answers to a large one."""
         if made.spelling % 40 == 0:
             return None
         return self.ask(programs.plain(), ["faces"], texts)
 
-    def parted(self, made, texts, text):
+    def parted(self, made: Case, texts: Sequence[bytes], text: bytes) -> bool:
         """Whether `edges` of the features in two random layers agree with the rows."""
         rng, features = random.Random(made.spelling), [rings for part in texts for rings in reference_faces.features_of(part)]
         sizes = [len(reference_faces.features_of(part)) for part in texts]
@@ -147,7 +152,8 @@ class Bench:
             chosen = {number for number in range(len(features)) if rng.random() < 0.5}
             halves = [[rings for number, rings in enumerate(features) if (number in chosen) == first] for first in (True, False)]
             told = self.ask(self.arguments.program, ["edges", "--segments=4000000"], [written(half) for half in halves])
-            odd, changing = set(), set()
+            odd: set[Edge] = set()
+            changing: set[Edge] = set()
             for line in told.out.splitlines():
                 *ends, count, _ = map(int, line.split())
                 if count % 2:
@@ -159,7 +165,7 @@ class Bench:
                 return False
         return True
 
-    def wrong(self, made, layers=None):
+    def wrong(self, made: Case, layers: list[Features] | None = None) -> str | None:
         """Why a case differs; nothing where it doesn't, or where the call took too long."""
         texts = made.texts(layers)
         got = self.ask(self.arguments.program, ["faces", *made.plan.words()], texts)
@@ -172,13 +178,13 @@ class Bench:
             return "has other edges than `edges`"
         return None
 
-    def one(self, number):
+    def one(self, number: int) -> tuple[bool, str | None]:
         """Runs one case: whether it is large, and what there is to tell."""
         made = case(number, self.arguments)
         found = self.wrong(made)
         return made.large, found and "pair %d %s: %s" % (number, found, os.path.relpath(self.keep(made)))
 
-    def keep(self, made):
+    def keep(self, made: Case) -> str:
         """A folder of bench/out with a case, as it was and cut down, and how to run it again."""
         folder = os.path.join(programs.OUT, "rows-%d-%d" % (self.arguments.seed, made.number))
         for before, found in (("", made.layers), ("small-", self.cut_down(made))):
@@ -188,22 +194,24 @@ class Bench:
             file.write("bench/run rows --seed %d --first %d --pairs 1 --large %s\n" % (self.arguments.seed, made.number, self.arguments.large))
         return folder
 
-    def cut_down(self, made, seconds=120):
+    def cut_down(self, made: Case, seconds: float = 120) -> list[Features]:
         """Fewer features with which the case still differs."""
         best, until = list(made.layers), time.monotonic() + seconds
         for place in range(len(best)):
-            changed = lambda layer: [*best[:place], layer, *best[place + 1:]]
-            best[place] = cut(best[place], lambda layer: time.monotonic() < until and self.wrong(made, changed(layer)) is not None)
+            def differs(layer: Features) -> bool:
+                return time.monotonic() < until and self.wrong(made, [*best[:place], layer, *best[place + 1:]]) is not None
+
+            best[place] = cut(best[place], differs)
         return best
 
 
-def written(features):
+def written(features: Iterable[Iterable[Ring]]) -> bytes:
     """The rings of some features as one layer."""
     rings = ["(" + ", ".join("%d %d" % p for p in ring) + ")" for rings in features for ring in rings]
     return ("POLYGON (" + ", ".join(rings) + ")\n" if rings else "").encode()
 
 
-def main(arguments):
+def main(arguments: argparse.Namespace) -> int:
     if arguments.large:
         programs.plain()
     start, cases, large, wrong = time.monotonic(), 0, 0, 0

@@ -12,7 +12,6 @@ import os
 import resource
 import shutil
 import tempfile
-from typing import Any
 
 from . import endurance, parallel
 from .programs import Answer, answer
@@ -33,10 +32,9 @@ def add_arguments(parser: argparse.ArgumentParser) -> None:
     parser.add_argument("--seconds", type=float, default=120, help="after which a run hangs")
 
 
-def run(words: list[str], seconds: float, limit: int, most: int, **more: Any) -> Answer:
+def run(words: list[str], seconds: float, limit: int, most: int, user: int | None = None) -> Answer:
     """A run with a limit of the system."""
-    got: Answer = answer(words, seconds, preexec_fn=lambda: resource.setrlimit(limit, (most, most)), **more)
-    return got
+    return answer(words, seconds, preexec_fn=lambda: resource.setrlimit(limit, (most, most)), user=user)
 
 
 def least(words: list[str], seconds: float) -> int:
@@ -84,7 +82,7 @@ def threads(arguments: argparse.Namespace, folder: str, files: list[str], alone:
         for command, right in alone.items():
             for most in sorted({1, 2, 3, workers // 2 + 1, workers, workers + 1, 2 * workers}):
                 words = [program, command, *files, "--workers=%d" % workers]
-                got = run(words, arguments.seconds, resource.RLIMIT_NPROC, most, user=USER, group=USER, extra_groups=[])
+                got = run(words, arguments.seconds, resource.RLIMIT_NPROC, most, USER)
                 counts.judge(got, got == right, False, "%s as a user of %d threads" % (" ".join(words[1:]), most), files)
     return counts.end()
 

@@ -6,9 +6,11 @@ import math
 import re
 import sqlite3
 import struct
+from typing import Any
 
 Ring = list[tuple[float, float]]
 Polygon = list[Ring]
+Turned = tuple[tuple[float, float], ...]
 
 RING = re.compile(r"\(([^()]+)\)")
 POLYGON = re.compile(r"\(\s*\([^()]*\)(?:\s*,\s*\([^()]*\))*\s*\)")
@@ -57,8 +59,8 @@ def of_lines(text: str) -> list[Polygon]:
     return found
 
 
-def rows_of_geopackage(path: str, fields: tuple[str | None, ...]) -> list[tuple]:
-    """Fields of the first layer's rows, in their order; `None` stands for its geometry."""
+def rows_of_geopackage(path: str, fields: tuple[str | None, ...]) -> list[tuple[Any, ...]]:
+    """Fields of the first layer's rows, in their order, of the types that the file gives them; `None` stands for its geometry."""
     with contextlib.closing(sqlite3.connect("file:%s?mode=ro" % path, uri=True)) as source:
         table, column = source.execute("select table_name, column_name from gpkg_geometry_columns").fetchone()
         names = ", ".join('"%s"' % (field or column) for field in fields)
@@ -81,13 +83,13 @@ def area(polygons: list[Polygon]) -> float:
     return math.fsum(abs(twice_area(rings[0])) - sum(abs(twice_area(ring)) for ring in rings[1:]) for rings in polygons if rings) / 2
 
 
-def turned(ring: Ring, left: bool) -> tuple:
+def turned(ring: Ring, left: bool) -> Turned:
     """The ring from its least point, with its inner side to the left or to the right."""
     ring = ring if (twice_area(ring) > 0) == left else ring[::-1]
     first = ring.index(min(ring))
     return tuple(ring[first:] + ring[:first])
 
 
-def normal(polygons: list[Polygon]) -> list:
+def normal(polygons: list[Polygon]) -> list[tuple[Turned, list[Turned]]]:
     """The same for the same polygons, wherever their rings start and in whatever order they come."""
     return sorted((turned(rings[0], True), sorted(turned(ring, False) for ring in rings[1:])) for rings in polygons if rings)

@@ -3,6 +3,7 @@ from __future__ import annotations
 
 import math
 import random
+from collections.abc import Iterator
 
 Point = tuple[int, int]
 Feature = list[list[Point]]
@@ -23,7 +24,9 @@ class Block:
     """Parcels in rows between streets: neighbours share each border point for point, and none crosses itself."""
 
     def __init__(self, rng: random.Random, left: int, bottom: int):
-        jitter = lambda at: at + rng.randint(-1500, 1500)
+        def jitter(at: int) -> int:
+            return at + rng.randint(-1500, 1500)
+
         self.rng = rng
         self.borders: dict[tuple[Point, Point], list[Point]] = {}
         self.corners = {(i, j): (jitter(left + i * WIDE), jitter(bottom + j * DEEP)) for i in range(ACROSS + 1) for j in range(ALONG + 1)}
@@ -37,7 +40,7 @@ class Block:
         inner = self.borders[low, high]
         return [self.corners[start]] + (inner if start == low else inner[::-1])
 
-    def parcels(self):
+    def parcels(self) -> Iterator[list[Point]]:
         for i in range(ACROSS):
             for j in range(ALONG):
                 turns = [(i, j), (i + 1, j), (i + 1, j + 1), (i, j + 1)]

@@ -7,8 +7,8 @@ import signal
 import subprocess
 import threading
 import time
+from collections.abc import Mapping
 from dataclasses import dataclass
-from typing import Any
 
 # A thread is at work where it has this share of the time between two looks, of which there are so many a second.
 SHARE, LOOKS = 0.1, 100
@@ -75,11 +75,11 @@ class Watched:
     said: str
 
 
-def watched(words: list[str], output: str, seconds: float, **more: Any) -> Watched:
+def watched(words: list[str], output: str, seconds: float, env: Mapping[str, str] | None = None) -> Watched:
     """Runs a command line, with standard output into a file."""
     with open(output, "wb") as out, open(output + ".said", "wb") as said:
         start = time.monotonic()
-        process = subprocess.Popen(words, stdin=subprocess.DEVNULL, stdout=out, stderr=said, **more)
+        process = subprocess.Popen(words, stdin=subprocess.DEVNULL, stdout=out, stderr=said, env=env)
         threads, over = Threads(process.pid), threading.Event()
 
         def end() -> None:

@@ -5,12 +5,16 @@
   faces     each pair of features of A and B    check   each pair of features of A, with what both cover
 
 `bridge.py valid A OUT` writes a layer with each feature made valid, `bridge.py lines A` prints one as WKB in hexadecimal digits."""
+from __future__ import annotations
+
 import sys
 import warnings
+from collections.abc import Iterable, Iterator, Sequence
 
 from osgeo import ogr, osr
 from shapely import wkb
 from shapely.geometry import MultiPolygon
+from shapely.geometry.base import BaseGeometry
 from shapely.ops import unary_union
 from shapely.strtree import STRtree
 from shapely.validation import make_valid
@@ -19,12 +23,12 @@ warnings.simplefilter("ignore")
 ogr.UseExceptions()
 
 
-def read(path):
+def read(path: str) -> list[BaseGeometry]:
     source = ogr.Open(path)
     return [wkb.loads(bytes(feature.GetGeometryRef().ExportToWkb())) for feature in source.GetLayer(0)]
 
 
-def write(path, geometries):
+def write(path: str, geometries: Iterable[BaseGeometry]) -> None:
     system = osr.SpatialReference()
     system.ImportFromEPSG(25832)
     target = ogr.GetDriverByName("GPKG").CreateDataSource(path)
@@ -37,21 +41,21 @@ def write(path, geometries):
     target.CommitTransaction()
 
 
-def polygons(geometry):
+def polygons(geometry: BaseGeometry) -> list[BaseGeometry]:
     """What a geometry has of polygons."""
     return [part for part in getattr(geometry, "geoms", [geometry]) if part.geom_type == "Polygon" and not part.is_empty]
 
 
-def valid(geometries):
+def valid(geometries: Iterable[BaseGeometry]) -> list[BaseGeometry]:
     return [geometry if geometry.is_valid else MultiPolygon(polygons(make_valid(geometry))) for geometry in geometries]
 
 
-def near(tree, geometry):
+def near(tree: STRtree, geometry: BaseGeometry) -> Iterable[int]:
     """The numbers of what may touch a geometry: by another call before version 2."""
     return tree.query_items(geometry) if hasattr(tree, "query_items") else tree.query(geometry)
 
 
-def pairs(first, second):
+def pairs(first: Sequence[BaseGeometry], second: Sequence[BaseGeometry]) -> Iterator[BaseGeometry]:
     """What features of both layers cover, pair by pair; of one layer itself each pair once."""
     tree = STRtree(first)
     for number, other in enumerate(second):
@@ -63,7 +67,7 @@ def pairs(first, second):
                 yield common
 
 
-def by_shapely(job, first, second):
+def by_shapely(job: str, first: Sequence[BaseGeometry], second: Sequence[BaseGeometry]) -> list[BaseGeometry]:
     if job == "dissolve":
         return polygons(unary_union(first))
     if job == "common":
@@ -73,7 +77,7 @@ def by_shapely(job, first, second):
     return list(pairs(checked, checked if job == "check" else second))
 
 
-def by_geopandas(job, first, second):
+def by_geopandas(job: str, first: Sequence[BaseGeometry], second: Sequence[BaseGeometry]) -> list[BaseGeometry]:
     import geopandas
 
     one, two = (geopandas.GeoDataFrame(geometry=layer, crs="EPSG:25832") for layer in (first, second))
@@ -84,12 +88,14 @@ def by_geopandas(job, first, second):
     return list(geopandas.overlay(one, two, how="intersection").geometry)
 
 
-def main():
+def main() -> None:
     tool, job, *paths = sys.argv[1:]
     if tool == "valid":
-        return write(paths[0], valid(read(job)))
+        write(paths[0], valid(read(job)))
+        return
     if tool == "lines":
-        return sys.stdout.writelines("%s\n" % wkb.dumps(geometry, hex=True) for geometry in read(job))
+        sys.stdout.writelines("%s\n" % wkb.dumps(geometry, hex=True) for geometry in read(job))
+        return
     try:
         found = (by_shapely if tool == "shapely" else by_geopandas)(job, read(paths[0]), read(paths[1]))
     except Exception as error:
@@ -98,7 +104,7 @@ def main():
     print("area %r" % sum(geometry.area for geometry in found))
 
 
-def versions():
+def versions() -> None:
     import geopandas
     import shapely
     from osgeo import gdal

@@ -3,26 +3,30 @@
 
 Prints each polygon of the answer as WKB in hexadecimal digits, and at last on standard error the processor seconds of the operation alone.
 With a grid above 0 GEOS rounds onto it: by Shapely's own words since version 2, before that by the calls of the C library."""
+from __future__ import annotations
+
 import ctypes
 import logging
 import sys
 import time
+from collections.abc import Sequence
 
 import shapely
 from shapely import wkb, wkt
 from shapely.geometry import GeometryCollection
+from shapely.geometry.base import BaseGeometry
 from shapely.ops import unary_union
 from shapely.validation import make_valid
 
 logging.basicConfig(format="%(message)s")
 
 
-def read(path):
+def read(path: str) -> list[BaseGeometry]:
     with open(path, encoding="ascii") as file:
         return [wkt.loads(line) for line in file]
 
 
-def on_grid_before_2(name, grid, *geometries):
+def on_grid_before_2(name: str, grid: float, *geometries: BaseGeometry) -> BaseGeometry:
     from shapely.geometry.base import geom_factory
     from shapely.geos import lgeos
 
@@ -34,7 +38,7 @@ def on_grid_before_2(name, grid, *geometries):
     return geom_factory(found)
 
 
-def union(geometries, grid):
+def union(geometries: Sequence[BaseGeometry], grid: float) -> BaseGeometry:
     if not grid:
         return unary_union(geometries)
     if hasattr(shapely, "union_all"):
@@ -42,7 +46,7 @@ def union(geometries, grid):
     return on_grid_before_2("GEOSUnaryUnionPrec_r", grid, GeometryCollection(geometries))
 
 
-def common(first, second, grid):
+def common(first: BaseGeometry, second: BaseGeometry, grid: float) -> BaseGeometry:
     if not grid:
         return first.intersection(second)
     if hasattr(shapely, "union_all"):
@@ -50,7 +54,7 @@ def common(first, second, grid):
     return on_grid_before_2("GEOSIntersectionPrec_r", grid, first, second)
 
 
-def main():
+def main() -> None:
     job, *files = sys.argv[1:4]
     grid = float(sys.argv[4]) if len(sys.argv) > 4 else 0.0
     layers = [read(path) for path in files]
