@@ -261,8 +261,7 @@ def test_passwords_are_not_in_what_gdal_is_made_to_tell(tmp_path):
     assert done.returncode == 1 and "3cr" not in done.stdout and "et/7" not in done.stdout
 
 
-def test_what_is_no_password_is_told(monkeypatch):
-    monkeypatch.setattr(passwords, "_known", set())
+def test_what_is_no_password_is_told():
     passwords.remember(f"OCI:me/{SECRET}@town:parcels")
     passwords.remember(f"MYSQL:town,user=me,password={SECRET},host=127.0.0.1")
     for text in ("a.gpkg: is no polygon", "at 3: x=7", "user me on 127.0.0.1:5432", "me@town.gpkg"):

@@ -11,7 +11,7 @@ import pytest
 from osgeo import gdal
 from shapely.geometry import box
 
-from conftest import COMMAND, EAST, NORTH, Answer, read, write
+from conftest import COMMAND, EAST, NORTH, Answer, numbers_in, read, running, write
 from overlay_gis import cli, output, whole
 
 FORMATS = ["gpkg", "shp", "geojson", "fgb"]
@@ -180,26 +180,30 @@ def test_journals_of_an_old_file_are_not_taken_for_the_new_ones(gis, tmp_path):
 
 
 @pytest.mark.parametrize("number, name", [(signal.SIGINT, "Ctrl-C"), (signal.SIGTERM, "SIGTERM")])
-def test_a_signal_ends_the_program_too(tmp_path, number, name):
+def test_a_signal_ends_the_program_too(tmp_path, begun, number, name):
+    """It comes when all three runs of the program have begun, each of which would take ten minutes."""
     layers(tmp_path)
     program, temporary = tmp_path / "slow", tmp_path / "temporary"
     temporary.mkdir()
-    program.write_text(f"#!/bin/sh\necho $$ >{tmp_path}/begun.tmp\nmv {tmp_path}/begun.tmp {tmp_path}/begun\nexec sleep 600\n")
+    program.write_text(f'#!/bin/sh\ntouch "{begun}/$$"\nexec sleep 600\n')
     program.chmod(0o755)
-    with subprocess.Popen(
+    command = subprocess.Popen(
         [sys.executable, COMMAND, "run", "union", "a.gpkg", "b.gpkg", "-o", "out.gpkg"],
         cwd=tmp_path,
         env={**os.environ, "OVERLAY": str(program), "TMPDIR": str(temporary)},
         stderr=subprocess.PIPE,
         text=True,
         preexec_fn=lambda: signal.signal(signal.SIGINT, signal.SIG_DFL),
-    ) as command:
-        while not (tmp_path / "begun").exists():
+    )
+    try:
+        while len(numbers_in(begun)) < 3:
+            assert command.poll() is None
             time.sleep(0.01)
         command.send_signal(number)
-        said = command.communicate(timeout=20)[1]
+        said = command.communicate(timeout=300)[1]
+    finally:
+        command.kill()
     assert command.returncode == 1
     assert said.splitlines()[-1] == f"overlay-gis: stopped by {name}: no file was written or changed"
     assert "Traceback" not in said and not list(temporary.iterdir()) and not (tmp_path / "out.gpkg").exists()
-    with pytest.raises(ProcessLookupError):
-        os.kill(int((tmp_path / "begun").read_text()), 0)
+    assert not any(map(running, numbers_in(begun)))

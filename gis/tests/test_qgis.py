@@ -323,6 +323,7 @@ while :; do sleep 0.1; done
     script.chmod(0o755)
     answer = pyqgis(f"""
 from overlay_exact import command
+command.GRACE = 300.0  # a machine may be too busy for what users wait
 ProcessingConfig.setSettingValue(command.SETTING, {str(script)!r})
 log, reached = Log(), []
 log.progressChanged.connect(lambda percent: reached.append(percent))

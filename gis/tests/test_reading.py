@@ -193,7 +193,7 @@ def test_a_geometry_that_cannot_be_read_is_a_fault(gis, tmp_path, at, put):
 @pytest.mark.parametrize("ending", ["gpkg", "fgb", "geojson", "shp"])
 def test_a_layer_without_features_ends(tmp_path, ending):
     path = write(tmp_path / f"a.{ending}", [])
-    done = subprocess.run([sys.executable, COMMAND, "check", path], capture_output=True, text=True, timeout=60, check=False)
+    done = subprocess.run([sys.executable, COMMAND, "check", path], capture_output=True, text=True, timeout=600, check=False)
     assert done.returncode == 4 and done.stdout.startswith(f"{path}: the layer has no features\n")
 
 
