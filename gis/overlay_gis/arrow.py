@@ -15,11 +15,6 @@ from .faults import Fault
 # How many features a batch has at most.
 BATCH = 16384
 
-# Ways of some drivers beside GDAL's own: that of GeoPackage takes what it can't read for no geometry, and that of
-# FlatGeobuf doesn't end on an empty layer.
-for way in ("GPKG", "FLATGEOBUF"):
-    gdal.SetConfigOption(f"OGR_{way}_STREAM_BASE_IMPL", "YES")
-
 NO_NUMBER = -1  # what OGR gives a feature that has none
 
 

@@ -6,10 +6,12 @@ import sys
 from argparse import Action, ArgumentParser, Namespace, RawDescriptionHelpFormatter
 from typing import NoReturn
 
+import numpy as np
 from osgeo import gdal
 
-from . import __version__, check, dissolve, explain, faces, from_grid, messages, run, show, to_grid
+from . import __version__, check, dissolve, explain, faces, from_grid, gdal_state, messages, run, show, to_grid
 from .faults import FAILED, Fault, OutOfMemory, not_there
+from .gdal_errors import told_as
 from .stopping import Stopped, stoppable
 
 VERBS = {
@@ -77,11 +79,11 @@ def parser() -> ArgumentParser:
 def answered(arguments: Namespace) -> int:
     """The status of a verb that was done; what fails is a fault."""
     try:
-        return int(arguments.main(arguments))
+        # A sum that is too large for floating-point numbers is told as what it is, inf.
+        with gdal_state.of_a_verb(), np.errstate(all="ignore"), told_as(lambda words: Fault("GDAL", words)):
+            return int(arguments.main(arguments))
     except ImportError as error:
         raise not_there(error) from error
-    except RuntimeError as error:
-        raise Fault("GDAL", error) from error
     except BrokenPipeError:
         raise
     except OSError as error:

@@ -19,8 +19,6 @@ Bytes = np.ndarray[Any, np.dtype[np.uint8]]
 C = TypeVar("C", Floats, Numbers)
 D = TypeVar("D", Floats, Numbers)
 
-np.seterr(all="ignore")  # a sum that is too large for floating-point numbers is told as what it is, inf
-
 GridPoint = tuple[int, int]
 GridRing = list[GridPoint]  # the first point again at its end
 GridPolygon = list[GridRing]  # the shell first

@@ -8,7 +8,8 @@ from typing import Any, Iterator, Sequence
 from osgeo import gdal, osr
 
 from .faults import Fault, Refusal
-from .layers import LAYER_MARK, Source, without_name
+from .gdal_errors import blamed_on
+from .layers import LAYER_MARK, Source
 from .messages import followed
 from .output import Table, add, create
 from .passwords import hidden, remember
@@ -50,10 +51,8 @@ class Database:
 
     def opened(self) -> Any:
         address = self.address if self.address.lower().startswith("pg:") else f"PG:{self.address}"
-        try:
+        with blamed_on(self.name, self.address):
             return gdal.OpenEx(address, gdal.OF_VECTOR | gdal.OF_UPDATE, ["PostgreSQL"])
-        except RuntimeError as error:
-            raise Fault(self.name, without_name(error, self.address)) from error
 
     def check(self, tables: Sequence[str]) -> None:
         """Refuses, before any work is done, a database without PostGIS, and tables that are there without leave to replace them."""
@@ -72,12 +71,9 @@ class Database:
 
     def write(self, system: osr.SpatialReference | None, tables: Sequence[Table]) -> list[int]:
         """Makes the tables, and answers how many features each has."""
-        try:
-            with transaction(self.opened()) as dataset:
-                dataset.ExecuteSQL(f"SET LOCAL lock_timeout = '{LOCK_SECONDS}s'")
-                return [self.made(dataset, system, table) for table in tables]
-        except RuntimeError as error:
-            raise Fault(self.name, without_name(error, self.address)) from error
+        with blamed_on(self.name, self.address), transaction(self.opened()) as dataset:
+            dataset.ExecuteSQL(f"SET LOCAL lock_timeout = '{LOCK_SECONDS}s'")
+            return [self.made(dataset, system, table) for table in tables]
 
     def made(self, dataset: Any, system: osr.SpatialReference | None, table: Table) -> int:
         if self.has(dataset, table.name):

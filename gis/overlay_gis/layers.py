@@ -18,20 +18,11 @@ from . import wkb
 from .arrow import Batch, batches
 from .columns import NOTHING, Bytes, Columns, Floats, Numbers, chained, gathered
 from .faults import Fault, Refusal
-from .messages import followed, say
+from .gdal_errors import blamed_on, told_as
+from .messages import followed
 from .passwords import hidden, remember
 from .systems import known, same, system_from, system_name
 
-
-def handle(kind: int, number: int, words: str) -> None:
-    """What GDAL says beside its exceptions is not told, but for what CPL_DEBUG asks for."""
-    if kind == gdal.CE_Debug:
-        say(words)
-
-
-gdal.UseExceptions()
-ogr.UseExceptions()
-gdal.PushErrorHandler(handle)
 
 LAYER_MARK = "|layername="
 
@@ -125,10 +116,8 @@ class Source:
         self.path, _, self.wanted = name.partition(LAYER_MARK)
         remember(self.path)
         self.name = hidden(self.path)
-        try:
+        with blamed_on(self.name, self.path):
             self.dataset = gdal.OpenEx(self.path, gdal.OF_VECTOR | gdal.OF_READONLY)
-        except RuntimeError as error:
-            raise Fault(self.name, without_name(error, self.path)) from error
         if self.dataset is None:
             raise Fault(self.name, "GDAL can't read it as a vector layer")
         self.layer = self.chosen()
@@ -168,14 +157,12 @@ class Source:
 
     def counted(self, parts: Iterator[Batch]) -> Iterator[Batch]:
         """The same batches. A read that fails, or ends before the number that the layer tells, is a fault."""
-        try:
+        with blamed_on(self.name, self.path):
             told = self.layer.GetFeatureCount()
             read = 0
             for part in followed(parts, f"looking through {self.name}", told, lambda part: len(part.numbers)):
                 read += len(part.numbers)
                 yield part
-        except RuntimeError as error:
-            raise Fault(self.name, without_name(error, self.path)) from error
         if read < told:
             raise Fault(self.name, f"only {read} of {told} features could be read")
 
@@ -199,10 +186,9 @@ class Source:
 
     def geometry(self, batch: Batch, k: int) -> ogr.Geometry:
         """The geometry of a batch's feature k as GDAL has it."""
-        try:
+        told = f"GDAL can't read the geometry of feature {batch.numbers[k]}"
+        with told_as(lambda words: Fault(self.name, f"{told}: {words}")):
             return ogr.CreateGeometryFromWkb(bytes(batch.data[batch.starts[k] : batch.ends[k]]))
-        except RuntimeError as error:
-            raise Fault(self.name, f"GDAL can't read the geometry of feature {batch.numbers[k]}: {error}") from error
 
     def lines(self, batch: Batch, k: int) -> bytes | None:
         """Polygons that GDAL makes of that geometry, curves as lines, in WKB; nothing where it is none."""
@@ -216,12 +202,10 @@ class Source:
             return [()] * seen.features
         self.layer.SetIgnoredFields(["OGR_GEOMETRY"])
         self.layer.ResetReading()
-        try:
+        with blamed_on(self.name, self.path):
             unread: Iterator[ogr.Feature] = iter(self.layer.GetNextFeature, None)
             features = followed(unread, f"reading {self.name}", seen.features)
             read = [(feature.GetFID(), tuple(map(feature.GetField, names))) for feature in features]
-        except RuntimeError as error:
-            raise Fault(self.name, without_name(error, self.path)) from error
         if [number for number, _ in read] != seen.numbers.tolist():
             raise Fault(self.name, "was changed while it was read")
         return [values for _, values in read]
@@ -241,15 +225,6 @@ def kinds_of(held: Columns[Floats]) -> Bytes:
 def files_of(sources: Sequence[Source]) -> list[str]:
     """Everything that the sources are read from."""
     return [file for source in sources for file in source.files()]
-
-
-def without_name(error: Exception, name: str) -> str:
-    """GDAL's own words, without the name that stands before them anyway."""
-    words = str(error).strip() or "GDAL can't read it, and doesn't say why"
-    for quoted in (f"`{name}' ", f"'{name}' ", f"{name}: "):
-        if words.startswith(quoted):
-            return words[len(quoted) :]
-    return words
 
 
 def common_system(sources: Sequence[Source], told: str | None = None) -> osr.SpatialReference | None:

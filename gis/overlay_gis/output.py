@@ -5,17 +5,16 @@ from __future__ import annotations
 import sys
 from dataclasses import dataclass
 from pathlib import Path
+from traceback import clear_frames
 from typing import Any, Callable, Iterable, Sequence
 
 from osgeo import gdal, ogr, osr
 
 from .faults import Fault, Refusal
-from .layers import LAYER_MARK, Source, without_name
+from .gdal_errors import blamed_on
+from .layers import LAYER_MARK, Source
 from .messages import followed
 from .whole import Target, draft, target_of
-
-# What is written here is synced as a whole before it is put in place, so SQLite needn't wait for the disk at each step.
-gdal.SetConfigOption("OGR_SQLITE_SYNCHRONOUS", "OFF")
 
 # Drivers whose files are folders.
 FOLDERS = ("OpenFileGDB", "FileGDB")
@@ -147,10 +146,10 @@ class Output:
         try:
             named = LAYER_MARK + table.name if table.name else ""
             held = Source(str(self.path) + named)  # a layer is there only as long as its source is
-            found = held.layer.GetFeatureCount()
-        except (Fault, RuntimeError) as error:
-            reason = error.reason if isinstance(error, Fault) else without_name(error, str(self.path))
-            raise Fault(self.target.name, f"can't be read back: {reason}") from error
+            with blamed_on(held.name, held.path):
+                found = held.layer.GetFeatureCount()
+        except Fault as error:
+            raise Fault(self.target.name, f"can't be read back: {error.reason}") from error
         if found != count:
             raise Fault(self.target.name, f"has {found} of the {count} features that were written to it")
 
@@ -165,15 +164,16 @@ def write_tables(
     with draft(target) as folder:
         output = begun(target, folder)
         counts = []
-        try:
-            for table in tables:
-                output.begin(system, table)
-                counts.append(output.fill(table.rows))
-        except RuntimeError as error:
-            error.__traceback__ = None  # its frames would keep the file open
-            raise Fault(target.name, without_name(error, str(output.path))) from error
-        finally:
-            output.close()
+        with blamed_on(target.name, str(output.path)):
+            try:
+                for table in tables:
+                    output.begin(system, table)
+                    counts.append(output.fill(table.rows))
+            except BaseException as error:
+                clear_frames(error.__traceback__)  # they would keep the file open
+                raise
+            finally:
+                output.close()
         for table, count in zip(tables, counts):
             output.check(table, count)
     return counts

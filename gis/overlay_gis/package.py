@@ -12,6 +12,7 @@ from typing import Any, Sequence
 from osgeo import gdal, osr
 
 from .faults import Fault, Refusal
+from .gdal_errors import told_as
 from .layers import LAYER_MARK, Source
 from .messages import during, is_watched, progress
 from .output import Output, Table
@@ -23,11 +24,9 @@ PAGES = 4096
 
 def layers_of(target: Target) -> list[str]:
     """The names of a GeoPackage's layers."""
-    try:
+    with told_as(lambda _: Refusal(target.name, "is no GeoPackage, which alone takes another layer")):
         dataset = gdal.OpenEx(str(target.path), gdal.OF_VECTOR | gdal.OF_READONLY, ["GPKG"])
         return [dataset.GetLayer(k).GetName() for k in range(dataset.GetLayerCount())]
-    except RuntimeError as error:
-        raise Refusal(target.name, "is no GeoPackage, which alone takes another layer") from error
 
 
 def same_name(one: str, other: str) -> bool:

@@ -12,7 +12,7 @@ from osgeo import gdal
 from shapely.geometry import box
 
 from conftest import COMMAND, EAST, NORTH, Answer, numbers_in, read, running, write
-from overlay_gis import cli, output, whole
+from overlay_gis import cli, gdal_state, output, whole
 
 FORMATS = ["gpkg", "shp", "geojson", "fgb"]
 SIGNALS = [signal.SIGKILL, signal.SIGTERM, signal.SIGINT]
@@ -105,7 +105,7 @@ def test_a_kill_while_the_parts_of_a_shapefile_change_places(stopped, tmp_path, 
         assert answer.status == 0 and len(read("out.shp")) == 9
         assert not list(tmp_path.glob(".*"))
         return
-    with pytest.raises(RuntimeError):
+    with gdal_state.raising(), pytest.raises(RuntimeError):
         gdal.OpenEx("out.shp", gdal.OF_VECTOR)
     kept = {path.name: path.read_bytes() for path in tmp_path.glob(".overlay-gis-*.partial/replaced/*")}
     assert {**parts("out.shp"), **kept} == old
