@@ -15,7 +15,7 @@ from typing import Any
 
 from . import watching
 
-SECONDS = 60
+SECONDS = 600  # a machine may be busy
 # No other process of the server may take time meanwhile, and nothing has to survive it.
 SETTINGS = ("autovacuum=off", "fsync=off", "full_page_writes=off", "synchronous_commit=off", "logging_collector=off", "shared_buffers=512MB", "work_mem=256MB")
 
@@ -50,7 +50,7 @@ class Server:
 
     def __enter__(self) -> "Server":
         self.place, self.user, self.port = tempfile.mkdtemp(prefix="peers-"), unprivileged(), free_port()
-        self.environment = {"PATH": os.environ["PATH"], "LC_ALL": "C.UTF-8", "HOME": self.place, "PGPASSWORD": secrets.token_hex(16)}
+        self.environment = {"PATH": os.environ["PATH"], "LC_ALL": "C.UTF-8", "HOME": self.place, "PGPASSWORD": secrets.token_hex(16), "PGCONNECT_TIMEOUT": "60"}
         self.process: subprocess.Popen[bytes] | None = None
         try:
             self.start()
@@ -69,6 +69,17 @@ class Server:
         call: dict[str, Any] = {"cwd": self.place, "env": self.environment, **self.user}
         words = ["--pgdata=data", "--username=peers", "--auth=scram-sha-256", "--pwfile=word", "--encoding=UTF8", "--no-sync"]
         subprocess.run([os.path.join(folder(), "initdb"), *words], stdout=subprocess.DEVNULL, check=True, **call)
+        while not self.listens(call):
+            self.port = free_port()
+        assert self.process is not None
+        # what stays when no session is there
+        self.lasting: set[int] = set()
+        while (there := set(watching.tree(self.process.pid))) != self.lasting:
+            self.lasting = there
+            time.sleep(0.3)
+
+    def listens(self, call: dict[str, Any]) -> bool:
+        """Whether the server has begun to; it doesn't where another program took the port meanwhile."""
         settings = [*SETTINGS, "listen_addresses=127.0.0.1", "port=%d" % self.port, "unix_socket_directories="]
         words = [word for setting in settings for word in ("-c", setting)]
         with open(os.path.join(self.place, "log"), "wb") as log:
@@ -76,14 +87,13 @@ class Server:
         end = time.monotonic() + SECONDS
         while self.psql("select 1").returncode:
             if process.poll() is not None or time.monotonic() > end:
-                with open(os.path.join(self.place, "log"), encoding="utf-8") as log:
-                    raise OSError("PostgreSQL didn't start: %s" % log.read()[-500:])
+                with open(os.path.join(self.place, "log"), encoding="utf-8") as told:
+                    words = told.read()
+                if process.poll() is not None and "Address already in use" in words:
+                    return False
+                raise OSError("PostgreSQL didn't start: %s" % words[-500:])
             time.sleep(0.1)
-        # what stays when no session is there
-        self.lasting: set[int] = set()
-        while (there := set(watching.tree(process.pid))) != self.lasting:
-            self.lasting = there
-            time.sleep(0.3)
+        return True
 
     def __exit__(self, *_: object) -> None:
         if self.process is not None and self.process.poll() is None:
