@@ -4,6 +4,7 @@ from __future__ import annotations
 
 import sys
 from argparse import Action, ArgumentParser, Namespace, RawDescriptionHelpFormatter
+from functools import partial
 from typing import NoReturn
 
 import numpy as np
@@ -25,8 +26,8 @@ VERBS = {
     "explain": explain,
 }
 
-STATUSES = """exit status: 0 answered, 1 a file, the program or an output failed, 2 the command line is not accepted,
-3 the input is refused, 4 check found something
+STATUSES = """exit status: 0 answered, 1 a file, the program or an output failed, 2 the command line is not
+accepted, 3 the input is refused, 4 check found something
 
 The program is what OVERLAY names, else `overlay` on the path, else what stands beside this tool."""
 
@@ -61,7 +62,9 @@ def parser() -> ArgumentParser:
         epilog=STATUSES,
         formatter_class=RawDescriptionHelpFormatter,
     )
-    top.add_argument("--version", action=Versions, nargs=0, help="show program's version number and exit")
+    top.add_argument(
+        "--version", action=Versions, nargs=0, help="show program's version number and exit"
+    )
     verbs = top.add_subparsers(dest="verb", metavar="VERB", required=True)
     for name, verb in VERBS.items():
         told = verbs.add_parser(
@@ -80,7 +83,7 @@ def answered(arguments: Namespace) -> int:
     """The status of a verb that was done; what fails is a fault."""
     try:
         # A sum that is too large for floating-point numbers is told as what it is, inf.
-        with gdal_state.of_a_verb(), np.errstate(all="ignore"), told_as(lambda words: Fault("GDAL", words)):
+        with gdal_state.of_a_verb(), np.errstate(all="ignore"), told_as(partial(Fault, "GDAL")):
             return int(arguments.main(arguments))
     except ImportError as error:
         raise not_there(error) from error

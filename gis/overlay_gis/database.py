@@ -1,4 +1,5 @@
-"""A table of a PostgreSQL database with PostGIS, made in one transaction: it is there whole, or as it was."""
+"""A table of a PostgreSQL database with PostGIS, made in one transaction: it is there whole, or as
+it was."""
 
 from __future__ import annotations
 
@@ -55,7 +56,8 @@ class Database:
             return gdal.OpenEx(address, gdal.OF_VECTOR | gdal.OF_UPDATE, ["PostgreSQL"])
 
     def check(self, tables: Sequence[str]) -> None:
-        """Refuses, before any work is done, a database without PostGIS, and tables that are there without leave to replace them."""
+        """Refuses, before any work is done, a database without PostGIS, and tables that are there
+        without leave to replace them."""
         dataset = self.opened()
         if not answer(dataset, "SELECT 1 FROM pg_extension WHERE extname = 'postgis'"):
             raise Refusal(self.name, "has no PostGIS: CREATE EXTENSION postgis")
@@ -63,7 +65,13 @@ class Database:
             if any(source.path == self.address and same(source.layer.GetName(), table) for source in self.sources):
                 raise Refusal(f"{self.name}{LAYER_MARK}{table}", "is an input")
             if self.has(dataset, table) and not self.overwrite:
-                raise Refusal(self.name, f"has a table {table} already; --overwrite replaces it, and --layer names another one")
+                raise Refusal(
+                    self.name,
+                    (
+                        f"has a table {table} already; --overwrite replaces it, and --layer names"
+                        " another one"
+                    ),
+                )
 
     def has(self, dataset: Any, table: str) -> bool:
         literal = quoted(table).replace("'", "''")
@@ -77,7 +85,8 @@ class Database:
 
     def made(self, dataset: Any, system: osr.SpatialReference | None, table: Table) -> int:
         if self.has(dataset, table.name):
-            dataset.ExecuteSQL(f"DROP TABLE {quoted(table.name)}")  # which fails where a view stands on it
+            # which fails where a view stands on it
+            dataset.ExecuteSQL(f"DROP TABLE {quoted(table.name)}")
         layer = create(dataset, table.name, system, table, *OPTIONS)
         count = 0
         for geometry, values in followed(table.rows, f"writing {table.name}"):
@@ -86,13 +95,17 @@ class Database:
         layer.SyncToDisk()
         found = int(answer(dataset, f"SELECT count(*) FROM {quoted(table.name)}") or 0)
         if found != count:
-            raise Fault(self.name, f"{table.name} has {found} of the {count} features that were written to it")
+            raise Fault(
+                self.name,
+                f"{table.name} has {found} of the {count} features that were written to it",
+            )
         return count
 
 
 @contextmanager
 def transaction(dataset: Any) -> Iterator[Any]:
-    """Does all that is done within, or nothing: GDAL by itself would commit when it closes what wasn't finished."""
+    """Does all that is done within, or nothing: GDAL by itself would commit when it closes what
+    wasn't finished."""
     dataset.StartTransaction()
     try:
         yield dataset

@@ -1,4 +1,5 @@
-"""What GDAL raises is told as a fault; what anything else raises while GDAL is at work is not taken for GDAL's."""
+"""What GDAL raises is told as a fault; what anything else raises while GDAL is at work is not taken
+for GDAL's."""
 
 from __future__ import annotations
 
@@ -29,7 +30,8 @@ def told_as(fault: Callable[[str], Fault]) -> Iterator[None]:
 
 @contextmanager
 def blamed_on(name: str, path: str) -> Iterator[None]:
-    """What GDAL raises within is a fault of that name, in its words without the path that stands before them."""
+    """What GDAL raises within is a fault of that name, in its words without the path that stands
+    before them."""
     with told_as(lambda words: Fault(name, without_path(words, path))):
         yield
 

@@ -1,4 +1,5 @@
-"""How GDAL behaves while a verb is at work. Another program that imports this package, or calls a verb, keeps what it has set."""
+"""How GDAL behaves while a verb is at work. Another program that imports this package, or calls a
+verb, keeps what it has set."""
 
 from __future__ import annotations
 
@@ -12,11 +13,13 @@ from osgeo import gdal, ogr, osr
 from .messages import say
 
 OPTIONS = {
-    # Ways of some drivers beside GDAL's own to hand features over in batches: that of GeoPackage takes what it can't read for no
-    # geometry, and that of FlatGeobuf doesn't end on an empty layer.
+    # Ways of some drivers beside GDAL's own to hand features over in batches: that of GeoPackage
+    # takes what it can't read for no geometry, and that of FlatGeobuf doesn't end on an empty
+    # layer.
     "OGR_GPKG_STREAM_BASE_IMPL": "YES",
     "OGR_FLATGEOBUF_STREAM_BASE_IMPL": "YES",
-    # What is written is synced as a whole before it is put in place, so SQLite needn't wait for the disk at each step.
+    # What is written is synced as a whole before it is put in place, so SQLite needn't wait for the
+    # disk at each step.
     "OGR_SQLITE_SYNCHRONOUS": "OFF",
 }
 
@@ -27,7 +30,8 @@ _switched: list[ModuleType] = []  # the bindings that raise nothing where no ver
 
 @contextmanager
 def raising() -> Iterator[None]:
-    """Within, GDAL raises what fails. All threads have this in common, so the last one that leaves puts it back."""
+    """Within, GDAL raises what fails. All threads have this in common, so the last one that leaves
+    puts it back."""
     global _at_work
     with _lock:
         if not _at_work:

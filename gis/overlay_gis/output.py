@@ -63,8 +63,8 @@ Row = tuple[bytes | None, Sequence[Any]]
 
 @dataclass
 class Table:
-    """What is written as a layer: its fields and its rows; the kind of its shapes, wkbNone for a table without any; and its name, or
-    nothing for that of its file."""
+    """What is written as a layer: its fields and its rows; the kind of its shapes, wkbNone for a
+    table without any; and its name, or nothing for that of its file."""
 
     columns: Sequence[Column]
     rows: Iterable[Row]
@@ -73,7 +73,8 @@ class Table:
 
 
 def layer_target(name: str, overwrite: bool, inputs: Iterable[str]) -> Target:
-    """The place of a layer, whose ending names its format; refuses one that can't be written, before any work is done."""
+    """The place of a layer, whose ending names its format; refuses one that can't be written,
+    before any work is done."""
     target = target_of(name, overwrite, inputs)
     if driver_for(target).ShortName not in FOLDERS and target.path.is_dir():
         raise Refusal(name, "is a folder, and no file of this format")
@@ -136,7 +137,8 @@ class Output:
         add(self.layer, geometry, values)
 
     def close(self) -> None:
-        """Closes the file. GDAL's bindings would print what fails here, and can't raise it: a look at the file tells."""
+        """Closes the file. GDAL's bindings would print what fails here, and can't raise it: a look
+        at the file tells."""
         told, sys.unraisablehook = sys.unraisablehook, lambda _: None
         self.layer = self.dataset = None
         sys.unraisablehook = told
@@ -151,7 +153,9 @@ class Output:
         except Fault as error:
             raise Fault(self.target.name, f"can't be read back: {error.reason}") from error
         if found != count:
-            raise Fault(self.target.name, f"has {found} of the {count} features that were written to it")
+            raise Fault(
+                self.target.name, f"has {found} of the {count} features that were written to it"
+            )
 
 
 def write_tables(
@@ -160,7 +164,8 @@ def write_tables(
     tables: Sequence[Table],
     begun: Callable[[Target, Path], Output] = Output,
 ) -> list[int]:
-    """Writes a file of these layers, and answers how many features each has. Where that fails, what was there stays."""
+    """Writes a file of these layers, and answers how many features each has. Where that fails, what
+    was there stays."""
     with draft(target) as folder:
         output = begun(target, folder)
         counts = []

@@ -36,7 +36,11 @@ def system_name(system: osr.SpatialReference | None) -> str:
     if system is None:
         return "no reference system"
     code = system.GetAuthorityCode(None)
-    return f"{system.GetAuthorityName(None)}:{code}" if code else system.GetName() or "a system without a name"
+    return (
+        f"{system.GetAuthorityName(None)}:{code}"
+        if code
+        else system.GetName() or "a system without a name"
+    )
 
 
 def unit_name(system: osr.SpatialReference | None) -> str:
@@ -44,7 +48,7 @@ def unit_name(system: osr.SpatialReference | None) -> str:
         return "units"
     if system.IsGeographic():
         return "degrees"
-    return "m" if system.GetLinearUnits() == 1.0 else system.GetLinearUnitsName()
+    return "m" if system.GetLinearUnits() == 1.0 else str(system.GetLinearUnitsName())
 
 
 def area_name(system: osr.SpatialReference | None) -> str:

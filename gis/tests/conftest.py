@@ -110,7 +110,8 @@ def blobs(seed: int, digits: int, count: int = 5) -> list[BaseGeometry]:
 
 @pytest.fixture(autouse=True)
 def unsynced(monkeypatch):
-    """No test of this process waits for the disk, which others may keep busy; `synced` are the files that would be waited for."""
+    """No test of this process waits for the disk, which others may keep busy; `synced` are the
+    files that would be waited for."""
     synced = []
     monkeypatch.setattr(os, "fsync", lambda number: synced.append(os.readlink(f"/proc/self/fd/{number}")))
     return synced
@@ -147,7 +148,8 @@ def program() -> str:
 
 
 def waiting(folder: Path, count: int) -> str:
-    """Lines of the shell that wait until a folder has so many files, for some minutes at most, which a busy machine may take."""
+    """Lines of the shell that wait until a folder has so many files, for some minutes at most,
+    which a busy machine may take."""
     there = f'[ "$(ls "{folder}" | wc -l)" -ge {count} ]'
     return f"for k in $(seq 3000); do {there} && break; sleep 0.1; done\n{there} || exit 1\n"
 
@@ -163,7 +165,8 @@ def running(number: int) -> bool:
 
 @pytest.fixture
 def begun(tmp_path):
-    """A folder in which a run of the program puts an empty file whose name is its number, by `touch`: no number is half there."""
+    """A folder in which a run of the program puts an empty file whose name is its number, by
+    `touch`: no number is half there."""
     folder = tmp_path / "begun"
     folder.mkdir()
     return folder

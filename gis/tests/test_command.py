@@ -115,7 +115,8 @@ def test_progress_is_said_on_a_terminal_alone(capsys, monkeypatch, terminal):
 
 
 def all_of(number):
-    """What is written to a terminal or a pipe until nobody does any more; a read answers but a part of it."""
+    """What is written to a terminal or a pipe until nobody does any more; a read answers but a part
+    of it."""
     parts = []
     with suppress(OSError):  # by which Linux says so of a terminal
         while part := os.read(number, 1 << 16):

@@ -1,4 +1,5 @@
-"""What a verb sets in GDAL is there within the verb alone, and what isn't GDAL's is never told as GDAL's."""
+"""What a verb sets in GDAL is there within the verb alone, and what isn't GDAL's is never told as
+GDAL's."""
 
 import subprocess
 import sys
@@ -108,7 +109,8 @@ def failing(error):
     return fail
 
 
-# Where something that isn't GDAL's fails while GDAL is at work: in the verb, on features that are read, and on those that are written.
+# Where something that isn't GDAL's fails while GDAL is at work: in the verb, on features that are
+# read, and on those that are written.
 PLACES = [(cli.VERBS["run"], "answer"), (texts, "points_text"), (layers.wkb, "Decoder"), (output, "add"), (output.Output, "opened")]
 
 
@@ -189,6 +191,6 @@ def test_an_error_of_gdal_is_told_in_its_words():
 
 
 def test_what_no_file_is_blamed_for_is_told_as_gdals(gis, maps, monkeypatch):
-    monkeypatch.setattr(cli.VERBS["run"], "joined", lambda *_: ogr.CreateGeometryFromWkb(b"\1"))
+    monkeypatch.setattr(cli.VERBS["run"], "brought_together", lambda *_: ogr.CreateGeometryFromWkb(b"\1"))
     answer = gis(*WORDS)
     assert answer.status == 1 and answer.err.startswith("overlay-gis: GDAL: ") and answer.err.count("\n") == 1

@@ -1,4 +1,5 @@
-"""Kills: whatever ends the command, an output is there whole, or as it was; and nothing half made looks whole."""
+"""Kills: whatever ends the command, an output is there whole, or as it was; and nothing half made
+looks whole."""
 
 import os
 import signal
@@ -18,8 +19,8 @@ FORMATS = ["gpkg", "shp", "geojson", "fgb"]
 SIGNALS = [signal.SIGKILL, signal.SIGTERM, signal.SIGINT]
 OLD = box(EAST + 50, NORTH, EAST + 51, NORTH + 1)
 
-# Where a command is stopped while it writes, each a call and whether that is before it: before and behind the first feature,
-# once the file is closed, and when all is on disk.
+# Where a command is stopped while it writes, each a call and whether that is before it: before and
+# behind the first feature, once the file is closed, and when all is on disk.
 BEGUN, ADDED, CLOSED, ON_DISK = (
     (output.Output, "begin", False),
     (output.Output, "add", False),
@@ -30,14 +31,17 @@ BEGUN, ADDED, CLOSED, ON_DISK = (
 
 @pytest.fixture
 def stopped(capfd, monkeypatch, tmp_path):
-    """Runs a command in a process of its own, which sends itself a signal where it leaves a call."""
+    """Runs a command in a process of its own, which sends itself a signal where it leaves a
+    call."""
     monkeypatch.chdir(tmp_path)
 
     def run(place, number: signal.Signals, *words: str) -> Answer:
         capfd.readouterr()
         child = os.fork()
         if not child:
-            signal.signal(signal.SIGINT, signal.default_int_handler)  # a shell may have it ignored, in the background
+            signal.signal(signal.SIGTERM, signal.SIG_DFL)
+            # a shell may have it ignored, in the background
+            signal.signal(signal.SIGINT, signal.default_int_handler)
             interrupt(*place, number)
             os._exit(cli.main(list(words)))
         status = os.waitstatus_to_exitcode(os.waitpid(child, 0)[1])
@@ -48,7 +52,8 @@ def stopped(capfd, monkeypatch, tmp_path):
 
 
 def interrupt(owner, name, before, number):
-    """Has a call of a module or a class send a signal to this process, before or behind what it does."""
+    """Has a call of a module or a class send a signal to this process, before or behind what it
+    does."""
     call = getattr(owner, name)
 
     def interrupted(*words, **named):
@@ -181,7 +186,8 @@ def test_journals_of_an_old_file_are_not_taken_for_the_new_ones(gis, tmp_path):
 
 @pytest.mark.parametrize("number, name", [(signal.SIGINT, "Ctrl-C"), (signal.SIGTERM, "SIGTERM")])
 def test_a_signal_ends_the_program_too(tmp_path, begun, number, name):
-    """It comes when all three runs of the program have begun, each of which would take ten minutes."""
+    """It comes when all three runs of the program have begun, each of which would take ten
+    minutes."""
     layers(tmp_path)
     program, temporary = tmp_path / "slow", tmp_path / "temporary"
     temporary.mkdir()
@@ -193,7 +199,7 @@ def test_a_signal_ends_the_program_too(tmp_path, begun, number, name):
         env={**os.environ, "OVERLAY": str(program), "TMPDIR": str(temporary)},
         stderr=subprocess.PIPE,
         text=True,
-        preexec_fn=lambda: signal.signal(signal.SIGINT, signal.SIG_DFL),
+        preexec_fn=lambda: signal.signal(number, signal.SIG_DFL),
     )
     try:
         while len(numbers_in(begun)) < 3:

@@ -1,4 +1,5 @@
-"""bench/run peers and what is made of its table: the maps, the answers' areas and forms, the server, README's table and the drawing."""
+"""bench/run peers and what is made of its table: the maps, the answers' areas and forms, the
+server, README's table and the drawing."""
 
 from __future__ import annotations
 
@@ -71,7 +72,8 @@ def test_one_form_whatever_the_order_is():
 
 @pytest.mark.parametrize("job, some, odd", [("dissolve", 10 + 4 + 1, 10 + 4), ("common", 4 + 1, 4)])
 def test_areas_of_faces(job, some, odd):
-    """One face of A alone, one of B alone, one of both, and one that two features of A share in B."""
+    """One face of A alone, one of B alone, one of both, and one that two features of A share in
+    B."""
     assert peers.exact("1\tNone\t10\nNone\t7\t2\n1\t7\t4\n1,2\t7\t1\n", job) == peers.Exact(some, odd)
 
 

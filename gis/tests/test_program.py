@@ -1,9 +1,9 @@
-"""The program at work: on what it is asked at once, on texts in the memory, and ended with the command."""
+"""The program at work: on what it is asked at once, on texts in the memory, and ended with the
+command."""
 
 import os
 import signal
 import sqlite3
-from contextlib import ExitStack
 from pathlib import Path
 
 import pytest
@@ -11,7 +11,7 @@ from shapely.geometry import box
 
 from conftest import EAST, NORTH, numbers_in, running, waiting, write
 from overlay_gis import program, stopping
-from overlay_gis.joined import Joined
+from overlay_gis.questions import questions
 from overlay_gis.stopping import Stopped
 
 SQUARE = box(EAST, NORTH, EAST + 10, NORTH + 10)
@@ -78,8 +78,13 @@ def test_a_refusal_ends_the_runs_that_go_on(gis, tmp_path, begun, pretend):
 
 @pytest.fixture
 def handled():
+    """Signals as a command has them, also where who began the tests had some ignored, as nohup
+    does."""
+    held = {number: signal.signal(number, signal.SIG_DFL) for number in stopping.SIGNALS}
     with stopping.stoppable():
         yield
+    for number, handler in held.items():
+        signal.signal(number, handler)
 
 
 @pytest.mark.parametrize("number", [signal.SIGTERM, signal.SIGHUP])
@@ -113,9 +118,8 @@ def test_a_program_that_a_signal_found_beginning_is_ended(handled, monkeypatch, 
 
     monkeypatch.setattr(program, "Popen", interrupted)
     pretend("exec sleep 600\n")
-    with pytest.raises(Stopped), ExitStack() as room:
-        joined = Joined(None, None, [], text(b""), room)
-        joined.ask("union", [])
+    with pytest.raises(Stopped), questions() as asked:
+        asked.ask("union", [])
     assert begun and not running(begun[0].pid)
 
 
