@@ -36,7 +36,8 @@ def call(
     `line` gets each line that the command would print. `progress` gets what is done and how much of
     it is, from 0 to 1 or None, and answers whether to go on. Raises `faults.Fault`, of which `str`
     is the command's own line and `status` its status; `Cancelled`; and SystemExit with 2 where the
-    words aren't accepted. Where anything is raised, every output is as it was.
+    words aren't accepted. Where anything is raised, every output is as it was. Meanwhile GDAL raises
+    what fails, in all threads.
     """
     arguments = cli.parser().parse_args(list(words))
     with heard_by(Heard(line, progress)):

@@ -5,6 +5,7 @@ from __future__ import annotations
 
 import os
 import random
+import socket
 import subprocess
 import sys
 from pathlib import Path
@@ -86,6 +87,18 @@ def test_a_server_is_there_and_gone():
         server.said("select count(*) from generate_series(1, 500000)")
         assert server.processor() > before
     assert server.process.returncode == 0 and not os.path.exists(server.place)
+
+
+def test_a_port_that_another_program_took_meanwhile(monkeypatch):
+    if not postgres.folder():
+        pytest.skip("no PostgreSQL: apt-get install postgresql")
+    with socket.socket() as door:
+        door.bind(("127.0.0.1", 0))
+        taken = door.getsockname()[1]
+        ports = iter([taken, postgres.free_port()])
+        monkeypatch.setattr(postgres, "free_port", lambda: next(ports))
+        with postgres.Server() as server:
+            assert server.port != taken and server.said("select 1") == "1\n"
 
 
 def test_a_run_with_one_peer(program):
