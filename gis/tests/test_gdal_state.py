@@ -126,7 +126,7 @@ def test_an_error_of_another_is_not_told_as_one_of_gdal(maps, program, monkeypat
 
 @pytest.mark.parametrize("owner, name", PLACES, ids=lambda value: value if isinstance(value, str) else None)
 def test_memory_that_is_not_there_is_told_as_such(gis, maps, program, monkeypatch, owner, name):
-    monkeypatch.setattr(owner, name, failing(MemoryError()))
+    monkeypatch.setattr(owner, name, failing(MemoryError))
     answer = gis(*WORDS)
     assert (answer.status, answer.err.splitlines()[-1]) == (1, "overlay-gis: out of memory")
     assert all(line.startswith("overlay-gis: ") for line in answer.err.splitlines())
@@ -135,7 +135,7 @@ def test_memory_that_is_not_there_is_told_as_such(gis, maps, program, monkeypatc
 @pytest.mark.parametrize("ending", ["gpkg", "shp", "geojson", "fgb"])
 def test_a_file_is_closed_before_its_folder_goes(gis, maps, program, monkeypatch, ending):
     """Also where a layer is half made: GDAL says nothing of it."""
-    monkeypatch.setattr(output.Column, "defined", failing(MemoryError()))
+    monkeypatch.setattr(output.Column, "defined", failing(MemoryError))
     answer = gis(*WORDS[:-1], f"out.{ending}")
     assert answer.status == 1 and all(line.startswith("overlay-gis: ") for line in answer.err.splitlines()), answer.err
 
