@@ -15,7 +15,7 @@ from typing import IO
 
 from . import watching
 
-SECONDS = 60
+SECONDS = 600  # a machine may be busy
 # No other process of the server may take time meanwhile, and nothing has to survive it.
 SETTINGS = ("autovacuum=off", "fsync=off", "full_page_writes=off", "synchronous_commit=off", "logging_collector=off", "shared_buffers=512MB", "work_mem=256MB")
 
@@ -50,7 +50,7 @@ class Server:
 
     def __enter__(self) -> "Server":
         self.place, self.user, self.port = tempfile.mkdtemp(prefix="peers-"), unprivileged(), free_port()
-        self.environment = {"PATH": os.environ["PATH"], "LC_ALL": "C.UTF-8", "HOME": self.place, "PGPASSWORD": secrets.token_hex(16)}
+        self.environment = {"PATH": os.environ["PATH"], "LC_ALL": "C.UTF-8", "HOME": self.place, "PGPASSWORD": secrets.token_hex(16), "PGCONNECT_TIMEOUT": "60"}
         self.process: subprocess.Popen[bytes] | None = None
         try:
             self.start()
@@ -68,27 +68,36 @@ class Server:
             for path in (self.place, word):
                 os.chown(path, self.user.pw_uid, self.user.pw_gid)
         words = ["--pgdata=data", "--username=peers", "--auth=scram-sha-256", "--pwfile=word", "--encoding=UTF8", "--no-sync"]
-        initdb, server = (os.path.join(folder(), name) for name in ("initdb", "postgres"))
         subprocess.run(
-            [initdb, *words], stdout=subprocess.DEVNULL, check=True,
+            [os.path.join(folder(), "initdb"), *words], stdout=subprocess.DEVNULL, check=True,
             cwd=self.place, env=self.environment, user=user, group=group, extra_groups=groups)
+        while not self.listens(user, group, groups):
+            self.port = free_port()
+        assert self.process is not None
+        # what stays when no session is there
+        self.lasting: set[int] = set()
+        while (there := set(watching.tree(self.process.pid))) != self.lasting:
+            self.lasting = there
+            time.sleep(0.3)
+
+    def listens(self, user: int | None, group: int | None, groups: tuple[()] | None) -> bool:
+        """Whether the server has begun to; it doesn't where another program took the port meanwhile."""
         settings = [*SETTINGS, "listen_addresses=127.0.0.1", "port=%d" % self.port, "unix_socket_directories="]
         words = [word for setting in settings for word in ("-c", setting)]
         with open(os.path.join(self.place, "log"), "wb") as log:
             process = self.process = subprocess.Popen(
-                [server, "-D", "data", *words], stdin=subprocess.DEVNULL, stdout=log, stderr=log,
+                [os.path.join(folder(), "postgres"), "-D", "data", *words], stdin=subprocess.DEVNULL, stdout=log, stderr=log,
                 cwd=self.place, env=self.environment, user=user, group=group, extra_groups=groups)
         end = time.monotonic() + SECONDS
         while self.psql("select 1").returncode:
             if process.poll() is not None or time.monotonic() > end:
-                with open(os.path.join(self.place, "log"), encoding="utf-8") as log:
-                    raise OSError("PostgreSQL didn't start: %s" % log.read()[-500:])
+                with open(os.path.join(self.place, "log"), encoding="utf-8") as file:
+                    told = file.read()
+                if process.poll() is not None and "Address already in use" in told:
+                    return False
+                raise OSError("PostgreSQL didn't start: %s" % told[-500:])
             time.sleep(0.1)
-        # what stays when no session is there
-        self.lasting: set[int] = set()
-        while (there := set(watching.tree(process.pid))) != self.lasting:
-            self.lasting = there
-            time.sleep(0.3)
+        return True
 
     def __exit__(self, *_: object) -> None:
         if self.process is not None and self.process.poll() is None:

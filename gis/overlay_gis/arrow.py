@@ -1,4 +1,5 @@
-"""Features as GDAL hands them over in Arrow's C data interface: batches of numbers and geometries, read where they lie."""
+"""Features as GDAL hands them over in Arrow's C data interface: batches of numbers and geometries,
+read where they lie."""
 
 from __future__ import annotations
 
@@ -14,11 +15,6 @@ from .faults import Fault
 
 # How many features a batch has at most.
 BATCH = 16384
-
-# Ways of some drivers beside GDAL's own: that of GeoPackage takes what it can't read for no geometry, and that of
-# FlatGeobuf doesn't end on an empty layer.
-for way in ("GPKG", "FLATGEOBUF"):
-    gdal.SetConfigOption(f"OGR_{way}_STREAM_BASE_IMPL", "YES")
 
 NO_NUMBER = -1  # what OGR gives a feature that has none
 
@@ -58,8 +54,9 @@ GEOMETRIES: dict[bytes, np.dtype[Any]] = {b"z": np.dtype(np.int32), b"Z": np.dty
 
 @dataclass(frozen=True)
 class Batch:
-    """Features' numbers, and their geometries as WKB: that of feature k lies from starts[k] up to ends[k] in `data`, and has no
-    byte where there is none. It is there until the next batch is asked for."""
+    """Features' numbers, and their geometries as WKB: that of feature k lies from starts[k] up to
+    ends[k] in `data`, and has no byte where there is none. It is there until the next batch is
+    asked for."""
 
     numbers: Numbers
     data: Bytes
@@ -102,7 +99,10 @@ def batch_of(numbers: Array, geometries: Array | None, width: np.dtype[Any] | No
 def batches(layer: ogr.Layer) -> Iterator[Batch]:
     """All features of a layer, without their fields."""
     if not hasattr(layer, "GetArrowStream"):
-        raise Fault(f"GDAL {gdal.__version__}", "is too old: 3.6 is the first that hands features over in batches")
+        raise Fault(
+            f"GDAL {gdal.__version__}",
+            "is too old: 3.6 is the first that hands features over in batches",
+        )
     definition = layer.GetLayerDefn()
     layer.SetIgnoredFields([definition.GetFieldDefn(k).GetName() for k in range(definition.GetFieldCount())])
     layer.ResetReading()

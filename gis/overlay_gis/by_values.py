@@ -21,7 +21,8 @@ def of_classes(members: Members, classes: Numbers) -> Members:
 
 
 def alike(members: Sequence[Members]) -> tuple[Numbers, list[int]]:
-    """For each row the number of its group, which are all rows with the same members, and the first row of each group."""
+    """For each row the number of its group, which are all rows with the same members, and the first
+    row of each group."""
     starts, bytes_of = [held.starts.tolist() for held in members], [memoryview(held.places.tobytes()) for held in members]
     width = np.dtype(np.int64).itemsize
     keys = [
@@ -32,8 +33,9 @@ def alike(members: Sequence[Members]) -> tuple[Numbers, list[int]]:
 
 
 def united(rows: Rows, held: Sequence[Kept], asked: Sequence[Kept | None]) -> tuple[Rows, list[Kept]]:
-    """The rows united whose features have the same values in the layers for which fields are asked, and in the others are the same;
-    and what is kept of each layer, which is these values where fields are asked."""
+    """The rows united whose features have the same values in the layers for which fields are asked,
+    and in the others are the same; and what is kept of each layer, which is these values where
+    fields are asked."""
     members, kept = [], []
     for of_layer, layer, by in zip(rows.members, held, asked):
         if by is None:

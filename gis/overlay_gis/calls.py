@@ -30,11 +30,14 @@ def call(
     line: Callable[[str], None] = lambda text: None,
     progress: Callable[[str, float | None], bool] = lambda work, share: True,
 ) -> int:
-    """Does what the command does with these words, in this thread, and answers its status: 0, or 4 where `check` found something.
+    """Does what the command does with these words, in this thread, and answers its status: 0, or 4
+    where `check` found something.
 
-    `line` gets each line that the command would print. `progress` gets what is done and how much of it is, from 0 to 1 or None, and
-    answers whether to go on. Raises `faults.Fault`, of which `str` is the command's own line and `status` its status; `Cancelled`; and
-    SystemExit with 2 where the words aren't accepted. Where anything is raised, every output is as it was.
+    `line` gets each line that the command would print. `progress` gets what is done and how much of
+    it is, from 0 to 1 or None, and answers whether to go on. Raises `faults.Fault`, of which `str`
+    is the command's own line and `status` its status; `Cancelled`; and SystemExit with 2 where the
+    words aren't accepted. Where anything is raised, every output is as it was. Meanwhile GDAL raises
+    what fails, in all threads.
     """
     arguments = cli.parser().parse_args(list(words))
     with heard_by(Heard(line, progress)):

@@ -12,26 +12,32 @@ from osgeo import osr
 from . import frame as frames
 from . import options
 from .columns import Columns, Floats
+from .common_grid import alone, on_grid, warn_of_rings
 from .destination import destination
 from .faults import FOUND, Refusal
 from .flaws import SLIVER, Flaws, Sizes, found_in, kind_of, table_of, usual_sizes
 from .frame import Frame
-from .joined import alone, numbers, on_grid, warn_of_rings
 from .layers import Kind, Source, Survey, common_system
 from .messages import followed, tell
 from .rings import LEAST_RING, Gridded, opened
 from .rows import Rows
+from .surveys import numbers
 from .systems import area_name, unit_name
 
-HELP = "tells what is wrong with a layer: failed reads, invalid rings, points off the limits, overlaps, gaps, slivers"
+HELP = (
+    "tells what is wrong with a layer: failed reads, invalid rings, points off the limits,"
+    " overlaps, gaps, slivers"
+)
 EXAMPLE = "overlay-gis check parcels.gpkg -o flaws.gpkg --gap-width 0.5"
 
 def add_arguments(parser: ArgumentParser) -> None:
     parser.add_argument("a", metavar="A", help=options.LAYER)
     options.add_output(
         parser,
-        "a file for overlaps and gaps, each with its kind (overlap, gap or sliver), area and width, and the numbers of the features that "
-        "overlap: first, second, and all of them",
+        (
+            "a file for overlaps and gaps, each with its kind (overlap, gap or sliver), area and"
+            " width, and the numbers of the features that overlap: first, second, and all of them"
+        ),
         required=False,
     )
     options.add_sizes(parser)
@@ -71,7 +77,8 @@ def ring_findings(layer: Columns[Floats]) -> dict[int, list[str]]:
 
 def look_through(source: Source) -> Checked:
     """Finds what is wrong with each feature alone."""
-    from .shapes import fault_of, features_of  # GEOS takes long to be there, and other verbs don't need it
+    # GEOS takes long to be there, and other verbs don't need it
+    from .shapes import fault_of, features_of
 
     seen = Checked(source.survey())
     survey = seen.survey
@@ -103,7 +110,8 @@ class Covered:
     gaps: Flaws
 
     def areas(self) -> tuple[float, float]:
-        """The sum of the areas of all polygons, and the area that is covered where they are read by parity."""
+        """The sum of the areas of all polygons, and the area that is covered where they are read by
+        parity."""
         return self.frame.area(self.grid.twice_area()), self.frame.area(self.rows.within(self.rows.counts % 2 == 1))
 
     def findings(self, unit: str, square: str, sizes: Sizes) -> Iterator[str]:
@@ -112,12 +120,17 @@ class Covered:
             for flaw in flaws.chosen(~flaws.thin).each():
                 x, y = flaw.at
                 told = f"{named(flaw.ids)}: overlap by" if flaw.ids else f"gap at {x:.12g} {y:.12g}:"
-                narrow = f", a sliver {flaw.width:,.3g} {unit} wide" if kind_of(flaw, sizes) == SLIVER else ""
+                narrow = (
+                    f", a sliver {flaw.width:,.3g} {unit} wide"
+                    if kind_of(flaw, sizes) == SLIVER
+                    else ""
+                )
                 yield f"{told} {flaw.area:,.6g} {square}{narrow}"
 
 
 def covered(source: Source, seen: Checked, frame: Frame, sizes: Sizes, most: int) -> Covered | None:
-    """What the features of a layer cover on the grid, if they have polygons there; a layer that is too large for a run is found."""
+    """What the features of a layer cover on the grid, if they have polygons there; a layer that is
+    too large for a run is found."""
     grid = on_grid(seen.survey, frame)
     warn_of_rings(source, grid)
     if grid.segments > most:

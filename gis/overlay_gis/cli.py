@@ -4,12 +4,15 @@ from __future__ import annotations
 
 import sys
 from argparse import Action, ArgumentParser, Namespace, RawDescriptionHelpFormatter
+from functools import partial
 from typing import NoReturn
 
+import numpy as np
 from osgeo import gdal
 
-from . import __version__, check, dissolve, explain, faces, from_grid, messages, run, show, to_grid
+from . import __version__, check, dissolve, explain, faces, from_grid, gdal_state, messages, run, show, to_grid
 from .faults import FAILED, Fault, OutOfMemory, not_there
+from .gdal_errors import told_as
 from .stopping import Stopped, stoppable
 
 VERBS = {
@@ -23,8 +26,8 @@ VERBS = {
     "explain": explain,
 }
 
-STATUSES = """exit status: 0 answered, 1 a file, the program or an output failed, 2 the command line is not accepted,
-3 the input is refused, 4 check found something
+STATUSES = """exit status: 0 answered, 1 a file, the program or an output failed, 2 the command line is not
+accepted, 3 the input is refused, 4 check found something
 
 The program is what OVERLAY names, else `overlay` on the path, else what stands beside this tool."""
 
@@ -59,7 +62,9 @@ def parser() -> ArgumentParser:
         epilog=STATUSES,
         formatter_class=RawDescriptionHelpFormatter,
     )
-    top.add_argument("--version", action=Versions, nargs=0, help="show program's version number and exit")
+    top.add_argument(
+        "--version", action=Versions, nargs=0, help="show program's version number and exit"
+    )
     verbs = top.add_subparsers(dest="verb", metavar="VERB", required=True)
     for name, verb in VERBS.items():
         told = verbs.add_parser(
@@ -77,11 +82,11 @@ def parser() -> ArgumentParser:
 def answered(arguments: Namespace) -> int:
     """The status of a verb that was done; what fails is a fault."""
     try:
-        return int(arguments.main(arguments))
+        # A sum that is too large for floating-point numbers is told as what it is, inf.
+        with gdal_state.of_a_verb(), np.errstate(all="ignore"), told_as(partial(Fault, "GDAL")):
+            return int(arguments.main(arguments))
     except ImportError as error:
         raise not_there(error) from error
-    except RuntimeError as error:
-        raise Fault("GDAL", error) from error
     except BrokenPipeError:
         raise
     except OSError as error:

@@ -1,5 +1,6 @@
-"""Polygons as columns, in the layout of GeoArrow: the coordinates of all points, and where each ring, polygon and feature
-begins. No point is an object of its own, so a layer takes little room, and work on it is work on whole arrays."""
+"""Polygons as columns, in the layout of GeoArrow: the coordinates of all points, and where each
+ring, polygon and feature begins. No point is an object of its own, so a layer takes little room,
+and work on it is work on whole arrays."""
 
 from __future__ import annotations
 
@@ -19,13 +20,12 @@ Bytes = np.ndarray[Any, np.dtype[np.uint8]]
 C = TypeVar("C", Floats, Numbers)
 D = TypeVar("D", Floats, Numbers)
 
-np.seterr(all="ignore")  # a sum that is too large for floating-point numbers is told as what it is, inf
-
 GridPoint = tuple[int, int]
 GridRing = list[GridPoint]  # the first point again at its end
 GridPolygon = list[GridRing]  # the shell first
 
-# A product of two coordinates of the grid, and a sum of these, in two parts that a whole number of 64 bits holds.
+# A product of two coordinates of the grid, and a sum of these, in two parts that a whole number of
+# 64 bits holds.
 HALF = 32
 
 
@@ -41,8 +41,9 @@ def gathered(counts: Numbers | Mask, held: Numbers) -> Numbers:
 
 @dataclass(frozen=True)
 class Columns(Generic[C]):
-    """Ring k has the points from rings[k] up to rings[k + 1], the first one again at its end; polygon k the rings from polygons[k]
-    on, its shell first; feature k the polygons from features[k] on, and the number ids[k]."""
+    """Ring k has the points from rings[k] up to rings[k + 1], the first one again at its end;
+    polygon k the rings from polygons[k] on, its shell first; feature k the polygons from
+    features[k] on, and the number ids[k]."""
 
     x: C
     y: C
@@ -66,14 +67,16 @@ class Columns(Generic[C]):
 
     def feature_points(self) -> Numbers:
         """Where the points of each feature begin."""
-        return self.rings[self.polygons[self.features]]
+        points: Numbers = self.rings[self.polygons[self.features]]
+        return points
 
     def at(self, x: D, y: D) -> Columns[D]:
         """The same with other coordinates."""
         return Columns(x, y, self.rings, self.polygons, self.features, self.ids)
 
     def of_rings(self, kept: Mask) -> Columns[C]:
-        """The same with these rings alone; a polygon that has none of them is left out, and a feature may be without a polygon."""
+        """The same with these rings alone; a polygon that has none of them is left out, and a
+        feature may be without a polygon."""
         points = np.repeat(kept, self.lengths)
         held = gathered(kept, self.polygons)
         return Columns(
@@ -92,7 +95,8 @@ class Columns(Generic[C]):
         return replace(chosen, features=offsets(np.diff(chosen.features)[kept]), ids=self.ids[kept])
 
     def among(self, ids: Numbers, there: Mask) -> Columns[C]:
-        """The same features among others without polygons: all their numbers, and which of them these here are."""
+        """The same features among others without polygons: all their numbers, and which of them
+        these here are."""
         counts = np.zeros(len(ids), np.int64)
         counts[there] = np.diff(self.features)
         return replace(self, features=offsets(counts), ids=ids)
@@ -103,7 +107,8 @@ class Columns(Generic[C]):
         return self.of_rings(np.repeat(~empty, np.diff(self.polygons))) if empty.any() else self
 
     def twice_areas(self) -> list[int]:
-        """Twice the area of each polygon of the grid, whose rings have points: its shell's without its holes', whichever way they run."""
+        """Twice the area of each polygon of the grid, whose rings have points: its shell's without
+        its holes', whichever way they run."""
         first, last = self.firsts, self.rings[1:] - 1
         products = self.x[:-1] * self.y[1:] - self.x[1:] * self.y[:-1]
         high, low = (offsets(part) for part in (products >> HALF, products & ((1 << HALF) - 1)))

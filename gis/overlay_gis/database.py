@@ -1,4 +1,5 @@
-"""A table of a PostgreSQL database with PostGIS, made in one transaction: it is there whole, or as it was."""
+"""A table of a PostgreSQL database with PostGIS, made in one transaction: it is there whole, or as
+it was."""
 
 from __future__ import annotations
 
@@ -8,7 +9,8 @@ from typing import Any, Iterator, Sequence
 from osgeo import gdal, osr
 
 from .faults import Fault, Refusal
-from .layers import LAYER_MARK, Source, without_name
+from .gdal_errors import blamed_on
+from .layers import LAYER_MARK, Source
 from .messages import followed
 from .output import Table, add, create
 from .passwords import hidden, remember
@@ -50,13 +52,12 @@ class Database:
 
     def opened(self) -> Any:
         address = self.address if self.address.lower().startswith("pg:") else f"PG:{self.address}"
-        try:
+        with blamed_on(self.name, self.address):
             return gdal.OpenEx(address, gdal.OF_VECTOR | gdal.OF_UPDATE, ["PostgreSQL"])
-        except RuntimeError as error:
-            raise Fault(self.name, without_name(error, self.address)) from error
 
     def check(self, tables: Sequence[str]) -> None:
-        """Refuses, before any work is done, a database without PostGIS, and tables that are there without leave to replace them."""
+        """Refuses, before any work is done, a database without PostGIS, and tables that are there
+        without leave to replace them."""
         dataset = self.opened()
         if not answer(dataset, "SELECT 1 FROM pg_extension WHERE extname = 'postgis'"):
             raise Refusal(self.name, "has no PostGIS: CREATE EXTENSION postgis")
@@ -64,7 +65,13 @@ class Database:
             if any(source.path == self.address and same(source.layer.GetName(), table) for source in self.sources):
                 raise Refusal(f"{self.name}{LAYER_MARK}{table}", "is an input")
             if self.has(dataset, table) and not self.overwrite:
-                raise Refusal(self.name, f"has a table {table} already; --overwrite replaces it, and --layer names another one")
+                raise Refusal(
+                    self.name,
+                    (
+                        f"has a table {table} already; --overwrite replaces it, and --layer names"
+                        " another one"
+                    ),
+                )
 
     def has(self, dataset: Any, table: str) -> bool:
         literal = quoted(table).replace("'", "''")
@@ -72,16 +79,14 @@ class Database:
 
     def write(self, system: osr.SpatialReference | None, tables: Sequence[Table]) -> list[int]:
         """Makes the tables, and answers how many features each has."""
-        try:
-            with transaction(self.opened()) as dataset:
-                dataset.ExecuteSQL(f"SET LOCAL lock_timeout = '{LOCK_SECONDS}s'")
-                return [self.made(dataset, system, table) for table in tables]
-        except RuntimeError as error:
-            raise Fault(self.name, without_name(error, self.address)) from error
+        with blamed_on(self.name, self.address), transaction(self.opened()) as dataset:
+            dataset.ExecuteSQL(f"SET LOCAL lock_timeout = '{LOCK_SECONDS}s'")
+            return [self.made(dataset, system, table) for table in tables]
 
     def made(self, dataset: Any, system: osr.SpatialReference | None, table: Table) -> int:
         if self.has(dataset, table.name):
-            dataset.ExecuteSQL(f"DROP TABLE {quoted(table.name)}")  # which fails where a view stands on it
+            # which fails where a view stands on it
+            dataset.ExecuteSQL(f"DROP TABLE {quoted(table.name)}")
         layer = create(dataset, table.name, system, table, *OPTIONS)
         count = 0
         for geometry, values in followed(table.rows, f"writing {table.name}"):
@@ -90,13 +95,17 @@ class Database:
         layer.SyncToDisk()
         found = int(answer(dataset, f"SELECT count(*) FROM {quoted(table.name)}") or 0)
         if found != count:
-            raise Fault(self.name, f"{table.name} has {found} of the {count} features that were written to it")
+            raise Fault(
+                self.name,
+                f"{table.name} has {found} of the {count} features that were written to it",
+            )
         return count
 
 
 @contextmanager
 def transaction(dataset: Any) -> Iterator[Any]:
-    """Does all that is done within, or nothing: GDAL by itself would commit when it closes what wasn't finished."""
+    """Does all that is done within, or nothing: GDAL by itself would commit when it closes what
+    wasn't finished."""
     dataset.StartTransaction()
     try:
         yield dataset

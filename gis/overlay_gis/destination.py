@@ -1,5 +1,5 @@
-"""Where an answer goes: a new file, layers of a GeoPackage that is there, or tables of a database. It is looked at before any work is
-done."""
+"""Where an answer goes: a new file, layers of a GeoPackage that is there, or tables of a database.
+It is looked at before any work is done."""
 
 from __future__ import annotations
 
@@ -39,7 +39,8 @@ class Destination:
 
 @dataclass(frozen=True)
 class Wanted:
-    """An output as the command line names it, what may become of what is there, and the names of tables that go beside the layer."""
+    """An output as the command line names it, what may become of what is there, and the names of
+    tables that go beside the layer."""
 
     out: str
     layer: str
@@ -48,7 +49,8 @@ class Wanted:
     beside: Sequence[str]
 
     def names(self, usual: str) -> list[str]:
-        """The layer's name, which is the usual one where none was asked for, and those of the tables beside it."""
+        """The layer's name, which is the usual one where none was asked for, and those of the
+        tables beside it."""
         mark = self.layer or (usual if usual in self.beside else "")
         return [self.layer or usual, *(f"{mark}_{name}" if mark else name for name in self.beside)]
 
@@ -60,12 +62,17 @@ class Wanted:
         if there and (self.append or (self.layer and self.overwrite)):
             return self.enlarged(sources)
         if there and self.layer:
-            words = "is there already; --append puts the layer into it, --overwrite replaces its layer of that name alone"
+            words = (
+                "is there already; --append puts the layer into it, --overwrite replaces its layer"
+                " of that name alone"
+            )
             raise Refusal(self.out, words)
         target = layer_target(self.out, self.overwrite, files)
         several = self.layer or self.append or self.beside
         if several and driver_for(target).ShortName != PACKAGE:
-            raise Refusal(self.out, "only a GeoPackage takes several layers, or one of another name")
+            raise Refusal(
+                self.out, "only a GeoPackage takes several layers, or one of another name"
+            )
         return Destination(self.names(target.path.stem if several else ""), partial(write_tables, target))
 
     def enlarged(self, sources: Sequence[Source]) -> Destination:
@@ -77,7 +84,9 @@ class Wanted:
     def database(self, sources: Sequence[Source]) -> Destination:
         database = Database(self.out, self.overwrite, sources)
         if not self.layer or self.append:
-            raise Refusal(database.name, "takes a table that --layer names, as schema.table, and no --append")
+            raise Refusal(
+                database.name, "takes a table that --layer names, as schema.table, and no --append"
+            )
         names = self.names(self.layer)
         database.check(names)
         return Destination(names, database.write)
@@ -86,6 +95,7 @@ class Wanted:
 def destination(
     arguments: Namespace, sources: Sequence[Source], files: Sequence[str] = (), beside: Sequence[str] = ()
 ) -> Destination:
-    """Where the answer goes, as the arguments of `options.add_output` say; `files` are further inputs."""
+    """Where the answer goes, as the arguments of `options.add_output` say; `files` are further
+    inputs."""
     wanted = Wanted(arguments.out, arguments.layer or "", arguments.append, arguments.overwrite, beside)
     return wanted.place(sources, [*files_of(sources), *files])

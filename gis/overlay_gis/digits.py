@@ -8,7 +8,8 @@ import numpy as np
 
 from .columns import Bytes, Mask, Numbers
 
-# Numbers are written four digits at a time, which lie as one word of a row. The row's last word is what stands behind the number.
+# Numbers are written four digits at a time, which lie as one word of a row. The row's last word is
+# what stands behind the number.
 GROUP, DIGITS = 10_000, 4
 WORD = np.dtype(np.uint32)
 Words = np.ndarray[Any, np.dtype[np.uint32]]
@@ -24,7 +25,8 @@ MINUS = ord("-")
 
 
 def bytes_from(groups: int) -> Mask:
-    """For an x and for a y, and for each byte at which its text may begin, which bytes of its row are text."""
+    """For an x and for a y, and for each byte at which its text may begin, which bytes of its row
+    are text."""
     width = groups * DIGITS
     place = np.arange(width + WORD.itemsize)
     ends = np.repeat([width + len(text) for text in BEHIND], width)
@@ -33,7 +35,8 @@ def bytes_from(groups: int) -> Mask:
 
 
 def rows_of(numbers: Numbers, size: Words, groups: int) -> Words:
-    """A row for each number, x and y by turns, with its digits; `size` are the numbers without their signs."""
+    """A row for each number, x and y by turns, with its digits; `size` are the numbers without
+    their signs."""
     rows = np.empty((len(numbers), groups + 1), WORD)
     for k in reversed(range(groups)):
         more = size // WORD.type(GROUP)
@@ -45,7 +48,8 @@ def rows_of(numbers: Numbers, size: Words, groups: int) -> Words:
 
 
 def points_text(x: Numbers, y: Numbers) -> tuple[Bytes, Numbers]:
-    """The text `x y, ` of all points, whose coordinates are below 2^32 in size, and how long that of each is."""
+    """The text `x y, ` of all points, whose coordinates are below 2^32 in size, and how long that
+    of each is."""
     numbers = np.empty(2 * len(x), np.int64)
     numbers[0::2], numbers[1::2] = x, y
     size, below = np.abs(numbers).astype(np.uint32), numbers < 0

@@ -1,7 +1,8 @@
 """dissolve: the features of a layer united, all of them or those of equal values.
 
-All features are rounded together, once. Rows of faces tell which features cover what; those of one value are united without
-moving anything (`merging.py`). Without fields the program itself unites all.
+All features are rounded together, once. Rows of faces tell which features cover what; those of one
+value are united without moving anything (`merging.py`). Without fields the program itself unites
+all.
 """
 
 from __future__ import annotations
@@ -15,11 +16,12 @@ from osgeo import ogr
 
 from . import options, row_tables
 from .by_values import of_classes
+from .changes import tell_moves
 from .columns import Columns, Numbers
+from .common_grid import CommonGrid, brought_together
 from .destination import destination
 from .fields import column_of, fields_of, told_apart, values_in
 from .frame import Frame
-from .joined import Joined, joined, tell_moves
 from .layers import Source
 from .merging import Groups, merged
 from .messages import during, say
@@ -29,7 +31,8 @@ from .program import FACES
 HELP = "unites the features of a layer, or those with equal values of some fields"
 EXAMPLE = "overlay-gis dissolve parcels.gpkg --by owner -o owners.gpkg"
 
-# Fields beside those of the values, which go before them: such a name has a line behind it where a field of a value has it.
+# Fields beside those of the values, which go before them: such a name has a line behind it where a
+# field of a value has it.
 FEATURES, AREA = "features", "area"
 
 
@@ -39,7 +42,10 @@ def add_arguments(parser: ArgumentParser) -> None:
         "--by",
         metavar="FIELD,..",
         default="",
-        help="the fields: a feature for each of their values, with these, the number of features and the area (default: one for all)",
+        help=(
+            "the fields: a feature for each of their values, with these, the number of features and"
+            " the area (default: one for all)"
+        ),
     )
     options.add_output(parser, "the file for the united features")
     options.add_parts(parser)
@@ -49,8 +55,8 @@ def add_arguments(parser: ArgumentParser) -> None:
 
 @dataclass(frozen=True)
 class United:
-    """What the features of each value cover, a feature for each value; these values; how many features have them; and twice the
-    area."""
+    """What the features of each value cover, a feature for each value; these values; how many
+    features have them; and twice the area."""
 
     shapes: Columns[Numbers]
     values: Sequence[tuple[Any, ...]]
@@ -58,18 +64,18 @@ class United:
     twice: Sequence[int]
 
 
-def all_of(together: Joined) -> United:
+def all_of(together: CommonGrid) -> United:
     """All features of the layer as one."""
     (layer,) = together.layers
-    found = together.ask("union", [layer], covered=True).result()
+    found = together.questions.ask("union", [layer], covered=True).result()
     shapes = replace(found, features=np.array([0, len(found.polygons) - 1]), ids=np.zeros(1, np.int64))
     return United(shapes, [()], [len(layer.grid.layer.ids)], [sum(found.twice_areas())])
 
 
-def by_values(together: Joined, fields: Sequence[ogr.FieldDefn]) -> United:
+def by_values(together: CommonGrid, fields: Sequence[ogr.FieldDefn]) -> United:
     """The features of each value of some fields as one."""
     (layer,) = together.layers
-    question = together.ask(FACES, [layer])
+    question = together.questions.ask(FACES, [layer])
     values = values_in(layer, fields)
     classes, firsts = told_apart(values)
     rows = question.rows()
@@ -102,7 +108,7 @@ def main(arguments: Namespace) -> int:
     source = Source(arguments.a)
     fields = fields_of(source, arguments.by)
     place = destination(arguments, [source])
-    with joined([source], arguments.grid, arguments.origin, arguments.system, arguments.segments) as together:
+    with brought_together([source], arguments.grid, arguments.origin, arguments.system, arguments.segments) as together:
         united = by_values(together, fields) if fields else all_of(together)
         (layer,) = together.layers
         if layer.grid.polygons:

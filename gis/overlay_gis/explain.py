@@ -19,7 +19,10 @@ BYTE_ORDER_MARKS = {b"\xef\xbb\xbf": "UTF-8", b"\xff\xfe": "UTF-16", b"\xfe\xff"
 def add_arguments(parser: ArgumentParser) -> None:
     parser.add_argument("text", metavar="TEXT", help="the file that overlay refused")
     parser.add_argument(
-        "offset", metavar="OFFSET", type=int, help="the number behind `at` in the refusal, in bytes from 0"
+        "offset",
+        metavar="OFFSET",
+        type=int,
+        help="the number behind `at` in the refusal, in bytes from 0",
     )
 
 
@@ -52,7 +55,9 @@ def lines_round(data: bytes, offset: int) -> list[str]:
         text = lines[number - 1].rstrip(b"\r")
         first = start if number == line else 0
         before, behind = "..." if first else "   ", "..." if len(text) > first + 2 * REACH else ""
-        told.append(f"{number:>7} | {before}{shown(text, first, first + 2 * REACH)}{behind}".rstrip())
+        told.append(
+            f"{number:>7} | {before}{shown(text, first, first + 2 * REACH)}{behind}".rstrip()
+        )
         if number == line:
             told.append(" " * (7 + 3 + 3 + column - 1 - start) + "^")
     return told

@@ -8,10 +8,10 @@ from functools import partial
 from typing import Sequence
 
 from . import by_values, options, pairs, row_tables
+from .common_grid import CommonGrid, brought_together
 from .destination import PAIRS, Destination, destination
 from .faults import Refusal
 from .fields import Kept, kept
-from .joined import Joined, joined
 from .layers import Source, files_of
 from .messages import say
 from .output import layer_target, write_tables
@@ -19,18 +19,29 @@ from .program import FACES, LETTERS
 from .rows import Rows
 
 HELP = (
-    "tells which features of all layers lie on one another: a row for each set of features that cover some points together"
+    "tells which features of all layers lie on one another: a row for each set of features that"
+    " cover some points together"
 )
-EXAMPLE = "overlay-gis faces parcels.gpkg zones.gpkg -o faces.gpkg --keep-a owner --keep-b name,rule"
+EXAMPLE = (
+    "overlay-gis faces parcels.gpkg zones.gpkg -o faces.gpkg --keep-a owner --keep-b name,rule"
+)
 
 NAMES = LETTERS.lower()
 
 
 def add_arguments(parser: ArgumentParser) -> None:
-    parser.add_argument("layers", metavar="LAYER", nargs="+", help=f"the layers, a first, one or more: {options.LAYER}")
+    parser.add_argument(
+        "layers",
+        metavar="LAYER",
+        nargs="+",
+        help=f"the layers, a first, one or more: {options.LAYER}",
+    )
     options.add_output(
         parser,
-        "the file for the rows, with the fields a, b and so on (numbers of each layer's features that cover a row) and area",
+        (
+            "the file for the rows, with the fields a, b and so on (numbers of each layer's"
+            " features that cover a row) and area"
+        ),
     )
     options.add_parts(parser)
     options.add_keep(parser)
@@ -46,14 +57,19 @@ def add_arguments(parser: ArgumentParser) -> None:
         metavar="[NAME:]FIELD,..",
         action="append",
         default=[],
-        help="a row for each set of values of these fields, rather than of features, of the first layer or of that one, as b:rule; "
-        "may be given several times",
+        help=(
+            "a row for each set of values of these fields, rather than of features, of the first"
+            " layer or of that one, as b:rule; may be given several times"
+        ),
     )
     parser.add_argument(
         "--pairs",
         metavar="TABLE",
-        help="a table, as pairs.csv, of all pairs of a feature of the first layer and one of the second that have points in common, with "
-        "twice the common area in grid units, the area, and its shares of both features; where TABLE is OUT, its table pairs",
+        help=(
+            "a table, as pairs.csv, of all pairs of a feature of the first layer and one of the"
+            " second that have points in common, with twice the common area in grid units, the"
+            " area, and its shares of both features; where TABLE is OUT, its table pairs"
+        ),
     )
     options.add_grid(parser)
     options.add_segments(parser)
@@ -65,7 +81,10 @@ def named(arguments: Namespace, option: str, words: Sequence[str]) -> list[str]:
     for given in words:
         name, _, fields = given.partition(":")
         if fields and name not in asked:
-            raise Refusal(f"{option} {given}", f"there is no layer {name or 'without a name'}: they are {', '.join(asked)}")
+            raise Refusal(
+                f"{option} {given}",
+                f"there is no layer {name or 'without a name'}: they are {', '.join(asked)}",
+            )
         if fields:
             asked[name] = f"{asked[name]},{fields}"
     return list(asked.values())
@@ -80,7 +99,10 @@ def fields_asked(arguments: Namespace) -> tuple[list[str], list[str]]:
     by = named(arguments, "--by", [words if ":" in words else f"a:{words}" for words in arguments.by])
     for name, both in zip(NAMES, zip(keep, by)):
         if all(both):
-            raise Refusal(f"--by {name}:{both[1].strip(',')}", "its rows have values and no features, of which fields could be kept")
+            raise Refusal(
+                f"--by {name}:{both[1].strip(',')}",
+                "its rows have values and no features, of which fields could be kept",
+            )
     return keep, by
 
 
@@ -96,9 +118,10 @@ def same_place(arguments: Namespace) -> bool:
     return bool(arguments.pairs) and os.path.realpath(arguments.pairs) == os.path.realpath(arguments.out)
 
 
-def rows_asked(together: Joined, keep: Sequence[str], by: Sequence[str]) -> tuple[Rows, Rows, list[Kept]]:
-    """The rows of features; those that are asked for, by values where fields are named; and what is kept of each layer."""
-    question = together.ask(FACES, together.layers)
+def rows_asked(together: CommonGrid, keep: Sequence[str], by: Sequence[str]) -> tuple[Rows, Rows, list[Kept]]:
+    """The rows of features; those that are asked for, by values where fields are named; and what is
+    kept of each layer."""
+    question = together.questions.ask(FACES, together.layers)
     held = [kept(*of_one) for of_one in zip(together.layers, NAMES, keep)]
     values = [kept(layer, name, fields) if fields else None for layer, name, fields in zip(together.layers, NAMES, by)]
     rows = question.rows()
@@ -114,7 +137,7 @@ def main(arguments: Namespace) -> int:
     sources = [Source(name) for name in arguments.layers]
     place = destination(arguments, sources, beside=[PAIRS] if same_place(arguments) else [])
     apart = pairs_place(arguments, sources)
-    with joined(sources, arguments.grid, arguments.origin, arguments.system, arguments.segments) as together:
+    with brought_together(sources, arguments.grid, arguments.origin, arguments.system, arguments.segments) as together:
         rows, wanted, held = rows_asked(together, keep, by)
         tables = [row_tables.table_of(wanted, held, together.frame, arguments.parts)]
         if arguments.pairs:

@@ -35,7 +35,10 @@ def not_there(error: ImportError) -> Fault:
     """The fault that a package isn't there."""
     return Fault(
         str(error.name),
-        "can't be imported; Debian and Ubuntu have it by: apt-get install python3-gdal python3-shapely",
+        (
+            "can't be imported; Debian and Ubuntu have it by: apt-get install python3-gdal"
+            " python3-shapely"
+        ),
     )
 
 

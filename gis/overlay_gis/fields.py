@@ -11,9 +11,9 @@ from osgeo import ogr
 
 from .columns import Numbers
 from .faults import Refusal
-from .joined import Layer
 from .layers import Source
 from .output import Column
+from .questions import Layer
 from .rows import Members
 
 # Between the values of several features that cover one row.
@@ -22,8 +22,8 @@ JOINT = ","
 
 @dataclass
 class Kept:
-    """A layer's name in the output, its features' numbers, if rows tell them, and the values of the fields that are kept; and whether
-    a row has several of its features."""
+    """A layer's name in the output, its features' numbers, if rows tell them, and the values of the
+    fields that are kept; and whether a row has several of its features."""
 
     name: str
     fields: list[ogr.FieldDefn]
@@ -32,7 +32,8 @@ class Kept:
     several: bool = False
 
     def columns(self) -> list[Column]:
-        """The fields that are kept; they are texts where several features of the layer cover one row."""
+        """The fields that are kept; they are texts where several features of the layer cover one
+        row."""
         mark = f"{self.name}_"
         if self.several:
             return [Column(mark + field.GetName(), ogr.OFTString) for field in self.fields]
@@ -86,7 +87,8 @@ def kept(layer: Layer, name: str, asked: str) -> Kept:
 
 
 def told_apart(values: Sequence[tuple[Any, ...]]) -> tuple[Numbers, list[int]]:
-    """For each feature the number of its values among all that differ, in the order of their first features, and where these are."""
+    """For each feature the number of its values among all that differ, in the order of their first
+    features, and where these are."""
     known: dict[tuple[Any, ...], int] = {}
     firsts: list[int] = []
     classes = []
@@ -99,7 +101,8 @@ def told_apart(values: Sequence[tuple[Any, ...]]) -> tuple[Numbers, list[int]]:
 
 
 def comparable(value: Any) -> Any:
-    """A value that is the same as another one just where it is equal to it: lists are kept apart, and no number is one number."""
+    """A value that is the same as another one just where it is equal to it: lists are kept apart,
+    and no number is one number."""
     if isinstance(value, list):
         return tuple(map(comparable, value))
     return "no number" if value != value else (type(value).__name__, value)

@@ -1,7 +1,8 @@
 """What a layer that should cover its area once doesn't: overlaps, and gaps.
 
-An overlap is a row of several features. A gap is a part of the plane that all features together enclose and leave open. The width of
-either is twice its area divided by the length of its border, which of a long strip is the strip's width.
+An overlap is a row of several features. A gap is a part of the plane that all features together
+enclose and leave open. The width of either is twice its area divided by the length of its border,
+which of a long strip is the strip's width.
 """
 
 from __future__ import annotations
@@ -15,10 +16,11 @@ import numpy as np
 from osgeo import ogr, osr
 
 from .columns import Columns, Floats, GridPolygon, Mask, Numbers, of_polygons
+from .common_grid import CommonGrid
 from .frame import LIMIT, Frame
-from .joined import Joined, Layer
 from .output import Column, Row, Table
 from .program import FACES
+from .questions import Layer
 from .rings import perimeters
 from .row_tables import shapes
 from .rows import Rows
@@ -37,7 +39,8 @@ COLUMNS = [
 
 @dataclass(frozen=True)
 class Sizes:
-    """Below which width or area a gap is one, and below which width an overlap or a gap is a sliver, in the system's units."""
+    """Below which width or area a gap is one, and below which width an overlap or a gap is a
+    sliver, in the system's units."""
 
     gap_width: float
     gap_area: float
@@ -52,7 +55,8 @@ def usual_sizes(system: osr.SpatialReference | None) -> Sizes:
 
 @dataclass(frozen=True)
 class Flaw:
-    """An overlap of features of these numbers, or a gap where there are none; a point of its border, its area and its width."""
+    """An overlap of features of these numbers, or a gap where there are none; a point of its
+    border, its area and its width."""
 
     ids: list[int]
     at: tuple[float, float]
@@ -62,8 +66,8 @@ class Flaw:
 
 @dataclass(frozen=True)
 class Flaws:
-    """Overlaps or gaps of a layer on the grid, each a feature of `shapes`, with twice their areas; and the numbers of the features that
-    overlap in each, none for gaps."""
+    """Overlaps or gaps of a layer on the grid, each a feature of `shapes`, with twice their areas;
+    and the numbers of the features that overlap in each, none for gaps."""
 
     frame: Frame
     shapes: Columns[Numbers]
@@ -119,7 +123,8 @@ def meets(polygons: Columns[Numbers], box: GridPolygon) -> Mask:
     for at, ends in ((polygons.x, (left, right)), (polygons.y, (low, high))):
         for end in ends:
             sides |= (at[:-1] == end) & (at[1:] == end)
-    sides[polygons.rings[1:-1] - 1] = False  # from a ring's end to the next one's beginning is no edge
+    # from a ring's end to the next one's beginning is no edge
+    sides[polygons.rings[1:-1] - 1] = False
     found = np.zeros(len(polygons.polygons) - 1, bool)
     found[np.searchsorted(polygons.rings[polygons.polygons], np.flatnonzero(sides), "right") - 1] = True
     return found
@@ -134,11 +139,11 @@ def gaps(beyond: Columns[Numbers], box: GridPolygon, frame: Frame, sizes: Sizes)
     return found.chosen(small | (found.widths * unit < sizes.gap_width))
 
 
-def found_in(together: Joined, layer: Layer, sizes: Sizes) -> tuple[Rows, Flaws, Flaws]:
+def found_in(together: CommonGrid, layer: Layer, sizes: Sizes) -> tuple[Rows, Flaws, Flaws]:
     """The rows, the overlaps and the gaps of a layer that has polygons."""
     box, frame = box_round(layer.grid.layer), together.frame
-    question = together.ask(FACES, [layer])
-    beyond = together.beyond(of_polygons([box]), layer)
+    question = together.questions.ask(FACES, [layer])
+    beyond = together.questions.beyond(of_polygons([box]), layer)
     rows = question.rows()
     return rows, overlaps(rows, layer.grid.layer.ids, frame), gaps(beyond.result(), box, frame, sizes)
 

@@ -1,7 +1,8 @@
 """Which point of the integer grid stands for which point of a reference system.
 
-A frame is the grid's unit, the point that becomes (0, 0), and the system. A coordinate goes to the nearest grid point,
-halves upward and to the right, as the program's own pixels do. That is exact; `rounding` says how.
+A frame is the grid's unit, the point that becomes (0, 0), and the system. A coordinate goes to the
+nearest grid point, halves upward and to the right, as the program's own pixels do. That is exact;
+`rounding` says how.
 """
 
 from __future__ import annotations
@@ -33,13 +34,15 @@ REACH = Decimal("0.71")
 FINEST = Decimal("0.001")
 FINEST_DEGREES = Decimal("0.000001")
 
-# How many times the default a unit may be that is chosen. A coarser one is for what is no place on earth, and has to be asked for.
+# How many times the default a unit may be that is chosen. A coarser one is for what is no place on
+# earth, and has to be asked for.
 COARSEST = 1000
 
 # How many digits a number may have, before its point and in all.
 DIGITS = 400
 
-# The texts of systems that a frame may hold: an authority's number, or a definition. Others would name a file or an address.
+# The texts of systems that a frame may hold: an authority's number, or a definition. Others would
+# name a file or an address.
 SYSTEM = re.compile(r"\w+:\w+|\w+\[.*\]", re.DOTALL)
 
 # An origin is a multiple of so many units where that leaves room, so that it is short to write.
@@ -100,8 +103,9 @@ class Frame:
         name, reach = unit_name(system), REACH * self.unit
         at = ", ".join(map(plain, self.origin))
         return (
-            f"grid {plain(self.unit)} {name}, origin {at}: a corner moves by at most {plain(reach)} {name} (0.71 grid units), "
-            f"a border between two corners by at most {plain(2 * reach)}"
+            f"grid {plain(self.unit)} {name}, origin {at}: a corner moves by at most"
+            f" {plain(reach)} {name} (0.71 grid units), a border between two corners by at most"
+            f" {plain(2 * reach)}"
         )
 
     def saved(self, path: str) -> None:
@@ -179,7 +183,8 @@ def finest_for(box: Box) -> Decimal:
 
 
 def origin_for(box: Box, unit: Decimal) -> tuple[Decimal, Decimal]:
-    """The lower left corner, or the middle where only that leaves room: a multiple of the unit, a round one if it may be."""
+    """The lower left corner, or the middle where only that leaves room: a multiple of the unit, a
+    round one if it may be."""
     middle = (Fraction(box.right) - Fraction(box.left) > (LIMIT - ROUND_ORIGIN) * Fraction(unit)) or (
         Fraction(box.high) - Fraction(box.low) > (LIMIT - ROUND_ORIGIN) * Fraction(unit)
     )
@@ -207,7 +212,8 @@ def chosen(
     unit: Decimal | None,
     origin: tuple[Decimal, Decimal] | None,
 ) -> Frame:
-    """The frame for a box: the unit and the origin that were asked for, or fitting ones. Refuses a unit that doesn't fit."""
+    """The frame for a box: the unit and the origin that were asked for, or fitting ones. Refuses a
+    unit that doesn't fit."""
     held = code_of(system)
     default = FINEST_DEGREES if system is not None and system.IsGeographic() else FINEST
     if box is None:
@@ -217,8 +223,11 @@ def chosen(
         layer, feature = box.farthest
         raise Refusal(
             layer,
-            f"feature {feature} reaches {box.reach:.6g}, and the finest grid with room for it has {plain(finest)} "
-            f"{unit_name(system)}: mend or remove it, or ask for that by --grid",
+            (
+                f"feature {feature} reaches {box.reach:.6g}, and the finest grid with room for it"
+                f" has {plain(finest)} {unit_name(system)}: mend or remove it, or ask for that by"
+                " --grid"
+            ),
         )
     asked = unit or max(default, finest)
     at = origin or origin_for(box, asked)
@@ -226,7 +235,10 @@ def chosen(
         if origin and fits(box, asked, origin_for(box, asked)):
             raise Refusal(
                 name,
-                "points lie off the limits of the grid, 2^28 units from the origin: without --origin, one that fits is chosen",
+                (
+                    "points lie off the limits of the grid, 2^28 units from the origin: without"
+                    " --origin, one that fits is chosen"
+                ),
             )
         raise Refusal(
             name,
@@ -244,4 +256,4 @@ def code_of(system: osr.SpatialReference | None) -> str | None:
     name = f"{system.GetAuthorityName(None)}:{code}"
     if code and same(system, system_from(name)):
         return name
-    return system.ExportToWkt(["FORMAT=WKT2_2019", "MULTILINE=NO"])
+    return str(system.ExportToWkt(["FORMAT=WKT2_2019", "MULTILINE=NO"]))

@@ -28,9 +28,17 @@ EDGE_COLUMNS = [Column("count_a", ogr.OFTInteger64), Column("count_b", ogr.OFTIn
 
 
 def add_arguments(parser: ArgumentParser) -> None:
-    parser.add_argument("text", metavar="TEXT", help="a text on the grid: what overlay printed, or what to-grid wrote")
+    parser.add_argument(
+        "text",
+        metavar="TEXT",
+        help="a text on the grid: what overlay printed, or what to-grid wrote",
+    )
     options.add_output(parser, "the file for the layer; its ending names its format")
-    parser.add_argument("--frame", metavar="FILE", help=f"the frame that to-grid wrote (default: {FRAME} beside TEXT)")
+    parser.add_argument(
+        "--frame",
+        metavar="FILE",
+        help=f"the frame that to-grid wrote (default: {FRAME} beside TEXT)",
+    )
 
 
 def edge_rows(edges: Numbers, frame: Frame) -> Iterator[Row]:

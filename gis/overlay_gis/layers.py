@@ -1,7 +1,7 @@
 """Polygon layers as OGR reads them, into columns.
 
-A layer is named as GDAL names its source, a file or a connection string, with `|layername=NAME` behind it (as QGIS
-writes it) where the source has several layers.
+A layer is named as GDAL names its source, a file or a connection string, with `|layername=NAME`
+behind it (as QGIS writes it) where the source has several layers.
 """
 
 from __future__ import annotations
@@ -18,27 +18,19 @@ from . import wkb
 from .arrow import Batch, batches
 from .columns import NOTHING, Bytes, Columns, Floats, Numbers, chained, gathered
 from .faults import Fault, Refusal
-from .messages import followed, say
+from .gdal_errors import blamed_on, told_as
+from .messages import followed
 from .passwords import hidden, remember
 from .systems import known, same, system_from, system_name
 
-
-def handle(kind: int, number: int, words: str) -> None:
-    """What GDAL says beside its exceptions is not told, but for what CPL_DEBUG asks for."""
-    if kind == gdal.CE_Debug:
-        say(words)
-
-
-gdal.UseExceptions()
-ogr.UseExceptions()
-gdal.PushErrorHandler(handle)
 
 LAYER_MARK = "|layername="
 
 
 @dataclass
 class Box:
-    """The least upright rectangle round some points; `farthest` is the layer and the feature that lie farthest from 0 0."""
+    """The least upright rectangle round some points; `farthest` is the layer and the feature that
+    lie farthest from 0 0."""
 
     left: float
     low: float
@@ -61,16 +53,16 @@ class Box:
 
 
 class Kind(IntEnum):
-    """What a feature is: polygons of finite coordinates; without a geometry, or with an empty one; no polygon; polygons of which a
-    coordinate is no finite number."""
+    """What a feature is: polygons of finite coordinates; without a geometry, or with an empty one;
+    no polygon; polygons of which a coordinate is no finite number."""
 
     SOUND, BARE, STRANGE, UNBOUND = range(4)
 
 
 @dataclass
 class Survey:
-    """What a pass over a layer tells: of all features the numbers and what they are, of those that are no polygons the names of
-    what they are, and the polygons of the sound ones."""
+    """What a pass over a layer tells: of all features the numbers and what they are, of those that
+    are no polygons the names of what they are, and the polygons of the sound ones."""
 
     numbers: Numbers
     kinds: Bytes
@@ -83,10 +75,12 @@ class Survey:
 
     def of(self, kind: Kind) -> list[int]:
         """The numbers of the features that are of a kind."""
-        return self.numbers[self.kinds == kind].tolist()
+        found: list[int] = self.numbers[self.kinds == kind].tolist()
+        return found
 
     def area(self) -> float:
-        """The sum of the areas of all sound polygons, in the system's units, which may be infinite."""
+        """The sum of the areas of all sound polygons, in the system's units, which may be
+        infinite."""
         return float(areas(self.sound).sum())
 
     def box(self, name: str) -> Box | None:
@@ -104,8 +98,8 @@ class Survey:
 
 
 def areas(held: Columns[Floats]) -> Floats:
-    """For each ring with points its area, below 0 where it is that of a hole. Each is measured from the ring's first point, so that
-    coordinates far from 0 don't swallow it."""
+    """For each ring with points its area, below 0 where it is that of a hole. Each is measured from
+    the ring's first point, so that coordinates far from 0 don't swallow it."""
     filled = held.lengths > 0
     starts, counts = held.firsts[filled], held.lengths[filled]
     if not len(starts):
@@ -115,7 +109,8 @@ def areas(held: Columns[Floats]) -> Floats:
     products[starts + counts - 1] = 0.0
     shells = np.zeros(len(held.lengths), bool)
     shells[held.polygons[:-1]] = True
-    return np.abs(np.add.reduceat(products, starts)) / 2 * np.where(shells[filled], 1, -1)
+    sizes: Floats = np.abs(np.add.reduceat(products, starts)) / 2
+    return np.where(shells[filled], sizes, -sizes)
 
 
 class Source:
@@ -125,10 +120,8 @@ class Source:
         self.path, _, self.wanted = name.partition(LAYER_MARK)
         remember(self.path)
         self.name = hidden(self.path)
-        try:
+        with blamed_on(self.name, self.path):
             self.dataset = gdal.OpenEx(self.path, gdal.OF_VECTOR | gdal.OF_READONLY)
-        except RuntimeError as error:
-            raise Fault(self.name, without_name(error, self.path)) from error
         if self.dataset is None:
             raise Fault(self.name, "GDAL can't read it as a vector layer")
         self.layer = self.chosen()
@@ -137,11 +130,15 @@ class Source:
         names = [self.dataset.GetLayer(k).GetName() for k in range(self.dataset.GetLayerCount())]
         if self.wanted:
             if self.wanted not in names:
-                raise Refusal(self.name, f"has no layer {self.wanted}, but {', '.join(names) or 'none at all'}")
+                raise Refusal(
+                    self.name,
+                    f"has no layer {self.wanted}, but {', '.join(names) or 'none at all'}",
+                )
             return self.dataset.GetLayerByName(self.wanted)
         if len(names) != 1:
             told = (
-                f"{len(names)} layers ({', '.join(names[:8])}): name one, as {self.name}{LAYER_MARK}{names[0]}"
+                f"{len(names)} layers ({', '.join(names[:8])}): name one, as"
+                f" {self.name}{LAYER_MARK}{names[0]}"
                 if names
                 else "no layer"
             )
@@ -150,10 +147,11 @@ class Source:
 
     @property
     def stem(self) -> str:
-        """A short name: that of the file without its ending, or that of the layer where one was named."""
+        """A short name: that of the file without its ending, or that of the layer where one was
+        named."""
         if os.path.exists(self.path) and not self.wanted:
             return os.path.splitext(os.path.basename(os.path.normpath(self.path)))[0]
-        return self.layer.GetName()
+        return str(self.layer.GetName())
 
     def files(self) -> list[str]:
         """Everything that the source is read from, as far as GDAL tells."""
@@ -167,15 +165,14 @@ class Source:
         return [defined.GetFieldDefn(k) for k in range(defined.GetFieldCount())]
 
     def counted(self, parts: Iterator[Batch]) -> Iterator[Batch]:
-        """The same batches. A read that fails, or ends before the number that the layer tells, is a fault."""
-        try:
+        """The same batches. A read that fails, or ends before the number that the layer tells, is a
+        fault."""
+        with blamed_on(self.name, self.path):
             told = self.layer.GetFeatureCount()
             read = 0
             for part in followed(parts, f"looking through {self.name}", told, lambda part: len(part.numbers)):
                 read += len(part.numbers)
                 yield part
-        except RuntimeError as error:
-            raise Fault(self.name, without_name(error, self.path)) from error
         if read < told:
             raise Fault(self.name, f"only {read} of {told} features could be read")
 
@@ -199,13 +196,13 @@ class Source:
 
     def geometry(self, batch: Batch, k: int) -> ogr.Geometry:
         """The geometry of a batch's feature k as GDAL has it."""
-        try:
+        told = f"GDAL can't read the geometry of feature {batch.numbers[k]}"
+        with told_as(lambda words: Fault(self.name, f"{told}: {words}")):
             return ogr.CreateGeometryFromWkb(bytes(batch.data[batch.starts[k] : batch.ends[k]]))
-        except RuntimeError as error:
-            raise Fault(self.name, f"GDAL can't read the geometry of feature {batch.numbers[k]}: {error}") from error
 
     def lines(self, batch: Batch, k: int) -> bytes | None:
-        """Polygons that GDAL makes of that geometry, curves as lines, in WKB; nothing where it is none."""
+        """Polygons that GDAL makes of that geometry, curves as lines, in WKB; nothing where it is
+        none."""
         geometry = self.geometry(batch, k)
         held = NO_POLYGON if geometry.IsEmpty() else lines_of(geometry)
         return None if held is None else bytes(held.ExportToWkb(ogr.wkbNDR))
@@ -216,12 +213,10 @@ class Source:
             return [()] * seen.features
         self.layer.SetIgnoredFields(["OGR_GEOMETRY"])
         self.layer.ResetReading()
-        try:
+        with blamed_on(self.name, self.path):
             unread: Iterator[ogr.Feature] = iter(self.layer.GetNextFeature, None)
             features = followed(unread, f"reading {self.name}", seen.features)
             read = [(feature.GetFID(), tuple(map(feature.GetField, names))) for feature in features]
-        except RuntimeError as error:
-            raise Fault(self.name, without_name(error, self.path)) from error
         if [number for number, _ in read] != seen.numbers.tolist():
             raise Fault(self.name, "was changed while it was read")
         return [values for _, values in read]
@@ -243,15 +238,6 @@ def files_of(sources: Sequence[Source]) -> list[str]:
     return [file for source in sources for file in source.files()]
 
 
-def without_name(error: Exception, name: str) -> str:
-    """GDAL's own words, without the name that stands before them anyway."""
-    words = str(error).strip() or "GDAL can't read it, and doesn't say why"
-    for quoted in (f"`{name}' ", f"'{name}' ", f"{name}: "):
-        if words.startswith(quoted):
-            return words[len(quoted) :]
-    return words
-
-
 def common_system(sources: Sequence[Source], told: str | None = None) -> osr.SpatialReference | None:
     """The one reference system of all layers; `told` is that of layers which name none."""
     given = system_from(told) if told else None
@@ -265,7 +251,11 @@ def common_system(sources: Sequence[Source], told: str | None = None) -> osr.Spa
                 else "bring one into the other's, as by ogr2ogr -t_srs"
             )
             raise Refusal(
-                source.name, f"has {system_name(system)}, and {sources[0].name} has {system_name(first)}: {hint}"
+                source.name,
+                (
+                    f"has {system_name(system)}, and {sources[0].name} has {system_name(first)}:"
+                    f" {hint}"
+                ),
             )
     return first
 

@@ -1,10 +1,13 @@
-"""Rows of faces united without a second rounding: the borders between them are left out, and nothing moves.
+"""Rows of faces united without a second rounding: the borders between them are left out, and
+nothing moves.
 
 Rows don't overlap, and what lies between two of them is an edge of both, once in each direction.
 
-1. An edge that a group of rows has in both directions is no border of the group, and the polygons on its two sides become one.
-2. After the edge from u to v comes the first one met when turning clockwise round v from u, so that what the group covers lies to
-   the left. The cycles of this rule are cut where they come to a vertex again, into rings.
+1. An edge that a group of rows has in both directions is no border of the group, and the polygons
+   on its two sides become one.
+2. After the edge from u to v comes the first one met when turning clockwise round v from u, so that
+   what the group covers lies to the left. The cycles of this rule are cut where they come to a
+   vertex again, into rings.
 3. The rings of one polygon are a shell, which runs counter-clockwise, and its holes.
 
 Rings and polygons stand in the order of the program's results.
@@ -22,7 +25,8 @@ from .columns import Columns, Mask, Numbers, offsets
 from .faults import Fault
 from .program import DOUBT, PROGRAM
 
-# Coordinates of the grid are from -LEAST to LEAST, and a number of so many bits when LEAST is added.
+# Coordinates of the grid are from -LEAST to LEAST, and a number of so many bits when LEAST is
+# added.
 LEAST, BITS = 1 << 28, 30
 
 Way = tuple[int, int]
@@ -30,7 +34,8 @@ Way = tuple[int, int]
 
 @dataclass(frozen=True)
 class Groups:
-    """Row rows[k] belongs to group groups[k]; a row may belong to several groups, of which there are `count`."""
+    """Row rows[k] belongs to group groups[k]; a row may belong to several groups, of which there
+    are `count`."""
 
     rows: Numbers
     groups: Numbers
@@ -45,7 +50,8 @@ class Groups:
 
 @dataclass(frozen=True)
 class Edges:
-    """Directed edges: the numbers of their ends in the order of points; the group, and the polygon of a row, on their left."""
+    """Directed edges: the numbers of their ends in the order of points; the group, and the polygon
+    of a row, on their left."""
 
     first: Numbers
     second: Numbers
@@ -57,7 +63,8 @@ class Edges:
 
 
 def merged(shapes: Columns[Numbers], groups: Groups) -> Columns[Numbers]:
-    """What the rows of each group cover together, a feature for each group; `shapes` are the polygons of all rows."""
+    """What the rows of each group cover together, a feature for each group; `shapes` are the
+    polygons of all rows."""
     points, ends = np.unique(((shapes.x + LEAST) << BITS) + shapes.y + LEAST, return_inverse=True)
     x, y = (points >> BITS) - LEAST, (points & ((1 << BITS) - 1)) - LEAST
     edges = edges_of(shapes, ends, groups)
@@ -78,7 +85,8 @@ def edges_of(shapes: Columns[Numbers], ends: Numbers, groups: Groups) -> Edges:
     counts = np.diff(of_row)[groups.rows]
     chosen = np.arange(counts.sum()) + np.repeat(of_row[:-1][groups.rows] - offsets(counts)[:-1], counts)
     polygon = np.repeat(np.arange(len(shapes.polygons) - 1), np.diff(held))[chosen]
-    copies = offsets(np.diff(shapes.features)[groups.rows])[:-1] - first  # a row's polygons in another group are others
+    # a row's polygons in another group are others
+    copies = offsets(np.diff(shapes.features)[groups.rows])[:-1] - first
     return Edges(
         ends[places[chosen]],
         ends[places[chosen] + 1],
@@ -88,8 +96,8 @@ def edges_of(shapes: Columns[Numbers], ends: Numbers, groups: Groups) -> Edges:
 
 
 def bordering(edges: Edges) -> tuple[Edges, Numbers]:
-    """The edges that a group has in one direction alone, ordered by group and ends; and for each polygon the least one that it becomes
-    one with."""
+    """The edges that a group has in one direction alone, ordered by group and ends; and for each
+    polygon the least one that it becomes one with."""
     low, high = np.minimum(edges.first, edges.second), np.maximum(edges.first, edges.second)
     order = np.lexsort((high, low, edges.group))
     twins = np.ones(max(len(order) - 1, 0), bool)
@@ -140,12 +148,14 @@ def followers(edges: Edges, x: Numbers, y: Numbers) -> Numbers:
 
 
 def turn(one: Way, other: Way) -> int:
-    """Above 0 where the second way lies counter-clockwise of the first one, by less than a half turn."""
+    """Above 0 where the second way lies counter-clockwise of the first one, by less than a half
+    turn."""
     return one[0] * other[1] - one[1] * other[0]
 
 
 def first_clockwise(back: Way, ways: Sequence[Way]) -> int:
-    """The place of the way that is met first when turning clockwise from another one, which is none of them."""
+    """The place of the way that is met first when turning clockwise from another one, which is none
+    of them."""
     best = 0
     for k, way in enumerate(ways):
         sides = [(side > 0) - (side < 0) for side in (turn(back, way), turn(back, ways[best]))]
@@ -201,7 +211,8 @@ def assembled(
     ahead = edges.chosen(path[starts[:-1]])  # the first edge of each ring
     vertices, ends = edges.first[path], edges.second[path]
     products = x[vertices] * y[ends] - x[ends] * y[vertices]
-    holes = (np.add.reduceat(products, starts[:-1]) if len(rings) else starts[1:]) < 0  # a ring's sum fits, whatever its parts do
+    # a ring's sum fits, whatever its parts do
+    holes = (np.add.reduceat(products, starts[:-1]) if len(rings) else starts[1:]) < 0
     rank, shells = ranked(ahead, holes, owners)
     placed = np.lexsort((ahead.second, ahead.first, holes, rank))
     points = vertices[closed(starts, placed)]
@@ -216,7 +227,8 @@ def assembled(
 
 
 def ranked(ahead: Edges, holes: Mask, owners: Numbers) -> tuple[Numbers, Numbers]:
-    """For each ring, of which the first edge is given, the place of its polygon among all; and the shells in that order."""
+    """For each ring, of which the first edge is given, the place of its polygon among all; and the
+    shells in that order."""
     owner = owners[ahead.polygon]
     order = np.lexsort((ahead.second, ahead.first, ahead.group))
     shells = order[~holes[order]]
@@ -229,8 +241,10 @@ def ranked(ahead: Edges, holes: Mask, owners: Numbers) -> tuple[Numbers, Numbers
 
 
 def closed(starts: Numbers, placed: Numbers) -> Numbers:
-    """The places of the points of some rings, in that order, each ring's first one again at its end."""
+    """The places of the points of some rings, in that order, each ring's first one again at its
+    end."""
     lengths = np.diff(starts)[placed]
     more = lengths + 1
     inside = (np.arange(more.sum()) - np.repeat(offsets(more)[:-1], more)) % np.repeat(lengths, more)
-    return np.repeat(starts[:-1][placed], more) + inside
+    places: Numbers = np.repeat(starts[:-1][placed], more) + inside
+    return places

@@ -1,5 +1,5 @@
-"""What is said on standard error beside the answer: notes, warnings, and how far a long work is. No text tells a password,
-and none has a control character, which a name in a strange file may have."""
+"""What is said on standard error beside the answer: notes, warnings, and how far a long work is. No
+text tells a password, and none has a control character, which a name in a strange file may have."""
 
 from __future__ import annotations
 
@@ -27,14 +27,15 @@ def shown(text: str) -> str:
 
 
 class Listener(Protocol):
-    """Another program that hears what is said, in the place of standard output and standard error. What its calls raise ends the
-    work, and leaves every output as it was."""
+    """Another program that hears what is said, in the place of standard output and standard error.
+    What its calls raise ends the work, and leaves every output as it was."""
 
     def line(self, text: str) -> None:
         """A note, a warning, or a line of the answer."""
 
     def progress(self, work: str, share: float | None) -> None:
-        """What is done, and how much of it is, from 0 to 1, where that is known. It is called several times a second."""
+        """What is done, and how much of it is, from 0 to 1, where that is known. It is called
+        several times a second."""
 
 
 _listener: ContextVar[Listener | None] = ContextVar("listener", default=None)
@@ -77,7 +78,8 @@ def is_watched() -> bool:
 
 
 def progress(work: str, share: float | None = None, count: int | None = None) -> None:
-    """Tells a listener how far a work is, or puts it in the place of the terminal's last line; no work clears that."""
+    """Tells a listener how far a work is, or puts it in the place of the terminal's last line; no
+    work clears that."""
     listener = _listener.get()
     if listener:
         listener.progress(shown(work), share)
@@ -89,7 +91,8 @@ def progress(work: str, share: float | None = None, count: int | None = None) ->
 def followed(
     items: Iterable[T], label: str, total: int | None = None, size: Callable[[T], int] = lambda _: 1
 ) -> Iterator[T]:
-    """The same items. Where somebody hears it and they take long, it says how far they are; `size` is how much an item is."""
+    """The same items. Where somebody hears it and they take long, it says how far they are; `size`
+    is how much an item is."""
     if not is_watched():
         yield from items
         return
@@ -120,8 +123,9 @@ def during(label: str) -> Iterator[None]:
 
 
 def waited(label: str, ended: Callable[[float | None], bool]) -> None:
-    """Waits until a work has ended, and says what is waited for; `ended` waits for so many seconds at most, or, without a number,
-    to the end. A listener is told again and again, and may end the work."""
+    """Waits until a work has ended, and says what is waited for; `ended` waits for so many seconds
+    at most, or, without a number, to the end. A listener is told again and again, and may end the
+    work."""
     with during(label):
         while not ended(PAUSE if _listener.get() else None):
             progress(label)

@@ -20,13 +20,30 @@ def add_layers(parser: ArgumentParser) -> None:
 
 
 def add_output(parser: ArgumentParser, words: str, required: bool = True) -> None:
-    parser.add_argument("-o", "--out", metavar="OUT", required=required, help=f"{words}; or PG:.. for a table that --layer names")
-    parser.add_argument("--layer", metavar="NAME", help="the name of the layer in a GeoPackage, or of the table, as schema.table")
-    parser.add_argument("--append", action="store_true", help="puts the layer into the GeoPackage OUT, which keeps its others")
+    parser.add_argument(
+        "-o",
+        "--out",
+        metavar="OUT",
+        required=required,
+        help=f"{words}; or PG:.. for a table that --layer names",
+    )
+    parser.add_argument(
+        "--layer",
+        metavar="NAME",
+        help="the name of the layer in a GeoPackage, or of the table, as schema.table",
+    )
+    parser.add_argument(
+        "--append",
+        action="store_true",
+        help="puts the layer into the GeoPackage OUT, which keeps its others",
+    )
     parser.add_argument(
         "--overwrite",
         action="store_true",
-        help="replaces OUT where it is there already; with --layer or --append the layer of that name alone",
+        help=(
+            "replaces OUT where it is there already; with --layer or --append the layer of that"
+            " name alone"
+        ),
     )
 
 
@@ -34,13 +51,20 @@ def add_grid(parser: ArgumentParser) -> None:
     parser.add_argument(
         "--grid",
         metavar="UNIT",
-        help="the grid's unit, in the system's own (default: 0.001, or 0.000001 degrees, or the finest above that has room)",
+        help=(
+            "the grid's unit, in the system's own (default: 0.001, or 0.000001 degrees, or the"
+            " finest above that has room)"
+        ),
     )
     parser.add_argument(
-        "--origin", metavar="X,Y", help="the point that becomes 0 0 (default: chosen from the layers' extent)"
+        "--origin",
+        metavar="X,Y",
+        help="the point that becomes 0 0 (default: chosen from the layers' extent)",
     )
     parser.add_argument(
-        "--system", metavar="SYSTEM", help="the reference system of layers that name none, as EPSG:25832"
+        "--system",
+        metavar="SYSTEM",
+        help="the reference system of layers that name none, as EPSG:25832",
     )
 
 
@@ -65,7 +89,10 @@ def add_dissolve(parser: ArgumentParser) -> None:
     parser.add_argument(
         "--dissolve",
         action="store_true",
-        help="takes a point to lie in a layer where one of its features at least covers it, so that overlaps don't cancel",
+        help=(
+            "takes a point to lie in a layer where one of its features at least covers it, so that"
+            " overlaps don't cancel"
+        ),
     )
 
 
@@ -73,7 +100,10 @@ def add_parts(parser: ArgumentParser) -> None:
     parser.add_argument(
         "--parts",
         action="store_true",
-        help="writes each polygon by itself, with its own area (default: what belongs together is one feature of several polygons)",
+        help=(
+            "writes each polygon by itself, with its own area (default: what belongs together is"
+            " one feature of several polygons)"
+        ),
     )
 
 
@@ -82,9 +112,14 @@ def add_keep(parser: ArgumentParser, words: str = "") -> None:
         "--keep-a",
         metavar="FIELD,..",
         default="",
-        help=f"fields of the first layer that a row takes over, as a_FIELD; values of several features are joined by commas{words}",
+        help=(
+            "fields of the first layer that a row takes over, as a_FIELD; values of several"
+            f" features are joined by commas{words}"
+        ),
     )
-    parser.add_argument("--keep-b", metavar="FIELD,..", default="", help="fields of the second layer, as b_FIELD")
+    parser.add_argument(
+        "--keep-b", metavar="FIELD,..", default="", help="fields of the second layer, as b_FIELD"
+    )
 
 
 def size(text: str) -> float:
@@ -103,10 +138,17 @@ def add_sizes(parser: ArgumentParser) -> None:
         "--gap-width",
         metavar="W",
         type=size,
-        help="a hole of all features together is a gap where it is narrower than this (default: 1, or 0.00001 degrees); a width is twice "
-        "the area divided by the length of the border",
+        help=(
+            "a hole of all features together is a gap where it is narrower than this (default: 1,"
+            " or 0.00001 degrees); a width is twice the area divided by the length of the border"
+        ),
     )
-    parser.add_argument("--gap-area", metavar="AREA", type=size, help="or where it is smaller than this (default: the square of these)")
+    parser.add_argument(
+        "--gap-area",
+        metavar="AREA",
+        type=size,
+        help="or where it is smaller than this (default: the square of these)",
+    )
     parser.add_argument(
         "--sliver-width",
         metavar="W",

@@ -5,17 +5,16 @@ from __future__ import annotations
 import sys
 from dataclasses import dataclass
 from pathlib import Path
+from traceback import clear_frames
 from typing import Any, Callable, Iterable, Sequence
 
 from osgeo import gdal, ogr, osr
 
 from .faults import Fault, Refusal
-from .layers import LAYER_MARK, Source, without_name
+from .gdal_errors import blamed_on
+from .layers import LAYER_MARK, Source
 from .messages import followed
 from .whole import Target, draft, target_of
-
-# What is written here is synced as a whole before it is put in place, so SQLite needn't wait for the disk at each step.
-gdal.SetConfigOption("OGR_SQLITE_SYNCHRONOUS", "OFF")
 
 # Drivers whose files are folders.
 FOLDERS = ("OpenFileGDB", "FileGDB")
@@ -64,8 +63,8 @@ Row = tuple[bytes | None, Sequence[Any]]
 
 @dataclass
 class Table:
-    """What is written as a layer: its fields and its rows; the kind of its shapes, wkbNone for a table without any; and its name, or
-    nothing for that of its file."""
+    """What is written as a layer: its fields and its rows; the kind of its shapes, wkbNone for a
+    table without any; and its name, or nothing for that of its file."""
 
     columns: Sequence[Column]
     rows: Iterable[Row]
@@ -74,7 +73,8 @@ class Table:
 
 
 def layer_target(name: str, overwrite: bool, inputs: Iterable[str]) -> Target:
-    """The place of a layer, whose ending names its format; refuses one that can't be written, before any work is done."""
+    """The place of a layer, whose ending names its format; refuses one that can't be written,
+    before any work is done."""
     target = target_of(name, overwrite, inputs)
     if driver_for(target).ShortName not in FOLDERS and target.path.is_dir():
         raise Refusal(name, "is a folder, and no file of this format")
@@ -137,7 +137,8 @@ class Output:
         add(self.layer, geometry, values)
 
     def close(self) -> None:
-        """Closes the file. GDAL's bindings would print what fails here, and can't raise it: a look at the file tells."""
+        """Closes the file. GDAL's bindings would print what fails here, and can't raise it: a look
+        at the file tells."""
         told, sys.unraisablehook = sys.unraisablehook, lambda _: None
         self.layer = self.dataset = None
         sys.unraisablehook = told
@@ -147,12 +148,14 @@ class Output:
         try:
             named = LAYER_MARK + table.name if table.name else ""
             held = Source(str(self.path) + named)  # a layer is there only as long as its source is
-            found = held.layer.GetFeatureCount()
-        except (Fault, RuntimeError) as error:
-            reason = error.reason if isinstance(error, Fault) else without_name(error, str(self.path))
-            raise Fault(self.target.name, f"can't be read back: {reason}") from error
+            with blamed_on(held.name, held.path):
+                found = held.layer.GetFeatureCount()
+        except Fault as error:
+            raise Fault(self.target.name, f"can't be read back: {error.reason}") from error
         if found != count:
-            raise Fault(self.target.name, f"has {found} of the {count} features that were written to it")
+            raise Fault(
+                self.target.name, f"has {found} of the {count} features that were written to it"
+            )
 
 
 def write_tables(
@@ -161,19 +164,21 @@ def write_tables(
     tables: Sequence[Table],
     begun: Callable[[Target, Path], Output] = Output,
 ) -> list[int]:
-    """Writes a file of these layers, and answers how many features each has. Where that fails, what was there stays."""
+    """Writes a file of these layers, and answers how many features each has. Where that fails, what
+    was there stays."""
     with draft(target) as folder:
         output = begun(target, folder)
         counts = []
-        try:
-            for table in tables:
-                output.begin(system, table)
-                counts.append(output.fill(table.rows))
-        except RuntimeError as error:
-            error.__traceback__ = None  # its frames would keep the file open
-            raise Fault(target.name, without_name(error, str(output.path))) from error
-        finally:
-            output.close()
+        with blamed_on(target.name, str(output.path)):
+            try:
+                for table in tables:
+                    output.begin(system, table)
+                    counts.append(output.fill(table.rows))
+            except BaseException as error:
+                clear_frames(error.__traceback__)  # they would keep the file open
+                raise
+            finally:
+                output.close()
         for table, count in zip(tables, counts):
             output.check(table, count)
     return counts

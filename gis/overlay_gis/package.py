@@ -1,5 +1,5 @@
-"""A layer of a GeoPackage that has others, which stay as they are: the file is copied beside itself, changed there, and put in its
-place."""
+"""A layer of a GeoPackage that has others, which stay as they are: the file is copied beside
+itself, changed there, and put in its place."""
 
 from __future__ import annotations
 
@@ -12,6 +12,7 @@ from typing import Any, Sequence
 from osgeo import gdal, osr
 
 from .faults import Fault, Refusal
+from .gdal_errors import told_as
 from .layers import LAYER_MARK, Source
 from .messages import during, is_watched, progress
 from .output import Output, Table
@@ -23,11 +24,10 @@ PAGES = 4096
 
 def layers_of(target: Target) -> list[str]:
     """The names of a GeoPackage's layers."""
-    try:
+    words = "is no GeoPackage, which alone takes another layer"
+    with told_as(lambda _: Refusal(target.name, words)):
         dataset = gdal.OpenEx(str(target.path), gdal.OF_VECTOR | gdal.OF_READONLY, ["GPKG"])
         return [dataset.GetLayer(k).GetName() for k in range(dataset.GetLayerCount())]
-    except RuntimeError as error:
-        raise Refusal(target.name, "is no GeoPackage, which alone takes another layer") from error
 
 
 def same_name(one: str, other: str) -> bool:
@@ -40,21 +40,29 @@ def check_layers(target: Target, names: Sequence[str], overwrite: bool, sources:
     there = layers_of(target)
     for name in names:
         if any(same_name(name, other) for other in there) and not overwrite:
-            raise Refusal(target.name, f"has a layer {name} already; --overwrite replaces it, and --layer names another one")
+            raise Refusal(
+                target.name,
+                (
+                    f"has a layer {name} already; --overwrite replaces it, and --layer names"
+                    " another one"
+                ),
+            )
         for source in sources:
             if identity(Path(source.path)) == identity(target.path) and same_name(name, source.layer.GetName()):
                 raise Refusal(f"{target.name}{LAYER_MARK}{name}", "is an input")
 
 
 def state_of(path: Path) -> list[tuple[int, int, int]]:
-    """What tells whether a GeoPackage was changed: of the file, and of its journal of what isn't in it yet."""
+    """What tells whether a GeoPackage was changed: of the file, and of its journal of what isn't in
+    it yet."""
     there = [place for place in (path, path.with_name(path.name + "-wal")) if place.exists()]
     found = [place.stat() for place in there]
     return [(held.st_ino, held.st_size, held.st_mtime_ns) for held in found if held.st_size]
 
 
 class Enlarged(Output):
-    """The copy of a GeoPackage to which layers are added, or of which layers of these names are replaced."""
+    """The copy of a GeoPackage to which layers are added, or of which layers of these names are
+    replaced."""
 
     def __init__(self, target: Target, folder: Path):
         super().__init__(target, folder)
@@ -91,5 +99,7 @@ class Enlarged(Output):
     def check(self, table: Table, count: int) -> None:
         super().check(table, count)
         if state_of(self.target.path) != self.state:
-            raise Fault(self.target.name, "was changed meanwhile by another program: nothing was written")
+            raise Fault(
+                self.target.name, "was changed meanwhile by another program: nothing was written"
+            )
 

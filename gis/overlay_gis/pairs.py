@@ -33,7 +33,8 @@ class Pairs:
 
 
 def pairs_in(rows: Rows) -> Pairs:
-    """All pairs of two layers' features that cover a row together, ordered by the first and then the second one."""
+    """All pairs of two layers' features that cover a row together, ordered by the first and then
+    the second one."""
     a, b = rows.members
     counts = a.counts * b.counts
     row = np.repeat(np.arange(len(counts)), counts)

@@ -1,8 +1,9 @@
 """Texts of the program read by whole arrays.
 
-A text is cut into tokens: brackets, commas, and words between them. The innermost pairs of brackets are rings. What a ring
-holds has to be points, two numbers each with a comma between two points; and what is left of the text, with one letter for
-each word and none for what a ring holds, has to be a text of polygons.
+A text is cut into tokens: brackets, commas, and words between them. The innermost pairs of brackets
+are rings. What a ring holds has to be points, two numbers each with a comma between two points; and
+what is left of the text, with one letter for each word and none for what a ring holds, has to be a
+text of polygons.
 """
 
 from __future__ import annotations
@@ -23,7 +24,8 @@ NEW_LINE, MINUS, ZERO = b"\n-0"
 # A number of more digits is off the grid.
 DIGITS = 9
 
-# A text without the points of its rings, which are R here; P is polygon, M is multipolygon, E is empty, X another word.
+# A text without the points of its rings, which are R here; P is polygon, M is multipolygon, E is
+# empty, X another word.
 WORDS = {b"polygon": b"P", b"multipolygon": b"M", b"empty": b"E"}
 NAMES = b"PM"
 BODY = rb"\(R(?:,R)*\)"
@@ -71,14 +73,15 @@ class Tokens:
         return ord("X") if glued else ord(WORDS.get(self.text[at:end].lower(), b"X"))
 
     def numbers(self, words: Numbers) -> Numbers | None:
-        """The numbers that these words are, where no other word of the text has a digit; nothing if one is no number, or a longer
-        one."""
+        """The numbers that these words are, where no other word of the text has a digit; nothing if
+        one is no number, or a longer one."""
         if not len(words):
             return words
         text = np.frombuffer(self.text, np.uint8)
         starts, ends = self.starts[words], self.ends[words]
         lengths = ends - starts - (text[starts] == MINUS)
-        digits = np.count_nonzero(text - np.uint8(ZERO) < 10)  # a byte below 0 comes out as one above 9
+        # a byte below 0 comes out as one above 9
+        digits = np.count_nonzero(text - np.uint8(ZERO) < 10)
         if lengths.min() < 1 or lengths.max() > DIGITS or digits != lengths.sum():
             return None
         return np.fromstring(self.text.translate(BLANKED), np.int64, sep=" ")
@@ -103,7 +106,8 @@ def skeleton_of(tokens: Tokens, opening: Numbers, inside: Mask) -> Bytes:
 
 
 def points_in(tokens: Tokens, inside: Mask) -> tuple[Numbers, Numbers] | None:
-    """x and y of the points in the rings, which are two words each with a comma or the ring's end behind; nothing if one isn't."""
+    """x and y of the points in the rings, which are two words each with a comma or the ring's end
+    behind; nothing if one isn't."""
     held = np.flatnonzero(inside)
     if len(held) % 3:
         return None
@@ -123,7 +127,8 @@ def polygons_in(text: bytes, name: str) -> Columns[Numbers]:
 
 
 def geometries_in(text: bytes, name: str) -> Columns[Numbers]:
-    """The geometries of a layer text or of a result, each a feature, as the program numbers them."""
+    """The geometries of a layer text or of a result, each a feature, as the program numbers
+    them."""
     tokens = tokens_of(text)
     opening, closing = tokens.rings()
     steps = np.zeros(len(tokens.kinds) + 1, np.int8)
@@ -133,7 +138,10 @@ def geometries_in(text: bytes, name: str) -> Columns[Numbers]:
     if not LAYER.fullmatch(signs.tobytes()):
         raise Refusal(
             name,
-            "is no text of polygons on the grid; overlay tells where the fault is, and overlay-gis explain shows it",
+            (
+                "is no text of polygons on the grid; overlay tells where the fault is, and"
+                " overlay-gis explain shows it"
+            ),
         )
     points = points_in(tokens, inside)
     if points is None:

@@ -1,7 +1,8 @@
 """Passwords in the names of sources, which no message may tell.
 
-What looks like one is hidden in every text. The parts of one that a source's name had are hidden wherever they stand as
-words, since a library's own error may quote a piece of a name that it couldn't read.
+What looks like one is hidden in every text. The parts of one that a source's name had are hidden
+wherever they stand as words, since a library's own error may quote a piece of a name that it
+couldn't read.
 """
 
 from __future__ import annotations
@@ -11,7 +12,8 @@ from urllib.parse import unquote
 
 HIDDEN = ".."
 
-# password=secret and its like, as libpq, MySQL, ODBC and addresses of the web have it: quoted, or up to white space.
+# password=secret and its like, as libpq, MySQL, ODBC and addresses of the web have it: quoted, or
+# up to white space.
 SECRET_WORD = r"\w*(?:password|passwd|pwd|token|secret|api_?key|access_?key|signature|cookie|authorization)"
 QUOTED = r"'(?:\\.|[^'\\])*'?|\"(?:\\.|[^\"\\])*\"?|\{[^}]*\}?"
 BARE = r"(?:\\.|\S)+?(?=:?(?:\s|$))"

@@ -1,4 +1,5 @@
-"""Asks the proved program, or the package for Python where it is there, and says refusals in the words of the layers."""
+"""Asks the proved program, or the package for Python where it is there, and says refusals in the
+words of the layers."""
 
 from __future__ import annotations
 
@@ -29,9 +30,15 @@ SEGMENTS = 1 << 20
 
 HINTS = {
     "0": "the layer is too large: clip it, and join the answers",
-    "5": f"the limit of all layers together is {SEGMENTS:,} segments: clip them, and join the answers",
+    "5": (
+        f"the limit of all layers together is {SEGMENTS:,} segments: clip them, and join the"
+        " answers"
+    ),
     "10": "there isn't enough memory",
-    "12": "so many features lie on one another that their numbers alone would fill the answer: clip the layers, and join the answers",
+    "12": (
+        "so many features lie on one another that their numbers alone would fill the answer: clip"
+        " the layers, and join the answers"
+    ),
 }
 
 # How the program names its layers.
@@ -49,7 +56,8 @@ TOP = Path(__file__).resolve().parents[2]
 
 
 def library() -> ModuleType | None:
-    """The package `overlay_grid`: an installed one, or the one beside this package, if its library was built. OVERLAY goes before it."""
+    """The package `overlay_grid`: an installed one, or the one beside this package, if its library
+    was built. OVERLAY goes before it."""
     if os.environ.get("OVERLAY"):
         return None
     beside = str(TOP / "python")
@@ -63,14 +71,18 @@ def library() -> ModuleType | None:
 
 
 def located() -> str:
-    """The program: what OVERLAY names, else what the path has, else what stands beside this package."""
+    """The program: what OVERLAY names, else what the path has, else what stands beside this
+    package."""
     named = os.environ.get("OVERLAY") or shutil.which("overlay")
     if named:
         return named
     for place in (TOP / "crates/overlay/out/overlay", TOP / "bin/overlay"):
         if place.is_file():
             return str(place)
-    raise Fault(PROGRAM, "the program isn't on the path, and OVERLAY doesn't name it; README says how it is built")
+    raise Fault(
+        PROGRAM,
+        "the program isn't on the path, and OVERLAY doesn't name it; README says how it is built",
+    )
 
 
 @dataclass(frozen=True)
@@ -82,7 +94,8 @@ class Text:
 
     @property
     def path(self) -> str:
-        """The name by which a program that was given the file opens it, each time from its beginning."""
+        """The name by which a program that was given the file opens it, each time from its
+        beginning."""
         return f"/proc/self/fd/{self.file.fileno()}"
 
 
@@ -97,7 +110,8 @@ def held(file: BinaryIO) -> bytes:
 
 
 class Asked:
-    """The program at work on a command and some texts, whose answer is waited for; at the end of the context it has ended."""
+    """The program at work on a command and some texts, whose answer is waited for; at the end of
+    the context it has ended."""
 
     def __init__(self, command: str, *texts: Text, segments: int = 0, covered: bool = False):
         self.command = command
@@ -133,14 +147,16 @@ class Asked:
         status = self.process.returncode
         told = held(self.told).decode("utf-8", "replace").splitlines()
         if status != 0:
-            raise refusal(told[-1] if told else f"ended with status {status} and no word", status, self.texts)
+            raise refusal(
+                told[-1] if told else f"ended with status {status} and no word", status, self.texts
+            )
         numbers = (REPORTED.match(line) for line in told)
         return held(self.out), {found[1]: int(found[2]) for found in numbers if found}
 
 
 class AskedLibrary:
-    """The package for Python in the program's place: it works when it is asked for the answer, and tells of a report the number of
-    rows alone."""
+    """The package for Python in the program's place: it works when it is asked for the answer, and
+    tells of a report the number of rows alone."""
 
     def __init__(self, package: ModuleType, command: str, *texts: Text, segments: int = 0):
         self.package = package
@@ -173,8 +189,9 @@ CALLS = {FACES: "faces_text"}
 
 
 def asked(command: str, *texts: Text, segments: int = 0, covered: bool = False) -> Asked | AskedLibrary:
-    """A command on some texts, at which the program is at work, with room for so many segments; or the package, if it has the call.
-    `covered`: a point lies in a layer where one of its features at least covers it, for which the package has no call."""
+    """A command on some texts, at which the program is at work, with room for so many segments; or
+    the package, if it has the call. `covered`: a point lies in a layer where one of its features at
+    least covers it, for which the package has no call."""
     package = None if covered else library()
     if package is None or not hasattr(package, CALLS.get(command, command)):
         return Asked(command, *texts, segments=segments, covered=covered)

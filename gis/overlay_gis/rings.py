@@ -1,4 +1,5 @@
-"""What becomes of a layer's rings on the grid: which are closed or left out, how far their vertices move, what they measure."""
+"""What becomes of a layer's rings on the grid: which are closed or left out, how far their vertices
+move, what they measure."""
 
 from __future__ import annotations
 
@@ -25,8 +26,9 @@ class Moves:
 
 @dataclass(frozen=True)
 class Gridded:
-    """A layer in grid units, all rings closed; how many of its segments aren't points; the area that it had before. `closed` and
-    `dropped` are the numbers of the features that had an open ring, and one that was left out, for each such ring."""
+    """A layer in grid units, all rings closed; how many of its segments aren't points; the area
+    that it had before. `closed` and `dropped` are the numbers of the features that had an open
+    ring, and one that was left out, for each such ring."""
 
     layer: Columns[Numbers]
     moves: Moves

@@ -1,11 +1,16 @@
-"""Rounding onto the grid on whole arrays, exactly: the nearest grid point, halves upward and to the right.
+"""Rounding onto the grid on whole arrays, exactly: the nearest grid point, halves upward and to the
+right.
 
-With ε = 2^-53 and the grid's unit u and origin o, the wanted number is floor(S) for S = (v - o) / u + 1/2.
+With ε = 2^-53 and the grid's unit u and origin o, the wanted number is floor(S) for
+S = (v - o) / u + 1/2.
 
-1. o is held as the floating-point numbers h next to it and l next to o - h, which leave at most ε |l|; 1 / u as i next to it.
-2. s = ((v - h) - l) · i + 1/2: four operations and these two constants, each off by at most ε of what it gives. With
-   W = (|v - h| + |l|) / u, s is off from S by less than 6 ε W + ε and terms in ε²: less than 8 ε (W + 1).
-3. Where no whole number is as near to s as that, floor(s) is floor(S). The others go by whole numbers, in Python.
+1. o is held as the floating-point numbers h next to it and l next to o - h, which leave at most ε
+   |l|; 1 / u as i next to it.
+2. s = ((v - h) - l) · i + 1/2: four operations and these two constants, each off by at most ε of
+   what it gives. With W = (|v - h| + |l|) / u, s is off from S by less than 6 ε W + ε and terms in
+   ε²: less than 8 ε (W + 1).
+3. Where no whole number is as near to s as that, floor(s) is floor(S). The others go by whole
+   numbers, in Python.
 """
 
 from __future__ import annotations
@@ -38,7 +43,8 @@ class Axis:
     unit: Fraction
 
     def estimate(self, values: Floats) -> tuple[Floats, Mask]:
-        """For each number the whole number next to it as floating-point numbers tell, and whether that is known to be right."""
+        """For each number the whole number next to it as floating-point numbers tell, and whether
+        that is known to be right."""
         try:
             high = float(self.origin)
             low = float(self.origin - Fraction(high))
@@ -90,7 +96,8 @@ class Axis:
         return (number * p + e) / q
 
     def placed(self, numbers: Numbers) -> Floats:
-        """The same for many: a quotient of whole numbers up to 2^53 is rounded once, as it is here."""
+        """The same for many: a quotient of whole numbers up to 2^53 is rounded once, as it is
+        here."""
         p, e, q = self.ratio
         greatest = int(np.abs(numbers).max(initial=0)) * p + abs(e)
         if max(greatest, p, q) <= WHOLE:

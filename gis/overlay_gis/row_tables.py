@@ -32,7 +32,8 @@ def table_of(rows: Rows, held: Sequence[Kept], frame: Frame, by_parts: bool = Fa
 
 
 def values_of(rows: Rows, held: Sequence[Kept]) -> tuple[list[tuple[Any, ...]], list[list[Any]]]:
-    """For each row the numbers of its features, layer by layer where these are told, and the values of all fields that are kept."""
+    """For each row the numbers of its features, layer by layer where these are told, and the values
+    of all fields that are kept."""
     count, pairs = len(rows.twice), list(zip(held, rows.members))
     ids = list(zip(*(layer.numbers(members) for layer, members in pairs if layer.ids is not None)))
     kept = zip(*(layer.kept(members) for layer, members in pairs if layer.fields))

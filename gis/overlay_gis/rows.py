@@ -1,7 +1,8 @@
 """The program's answer to `faces`, read by whole arrays: which features cover what.
 
-A line has twice the area, for each layer the numbers of its features with commas between, and the polygons, with tabs between
-these. What stands before the polygons is cut out and read apart, so that the rest is a text of polygons.
+A line has twice the area, for each layer the numbers of its features with commas between, and the
+polygons, with tabs between these. What stands before the polygons is cut out and read apart, so
+that the rest is a text of polygons.
 """
 
 from __future__ import annotations
@@ -26,8 +27,8 @@ PLAIN = bytes.maketrans(b"\t,", b"  ")
 
 @dataclass(frozen=True)
 class Members:
-    """The features of one layer in each row: row k has those at the places from starts[k] up to starts[k + 1], places of the
-    layer's features from 0, ascending."""
+    """The features of one layer in each row: row k has those at the places from starts[k] up to
+    starts[k + 1], places of the layer's features from 0, ascending."""
 
     starts: Numbers
     places: Numbers
@@ -47,8 +48,8 @@ class Members:
 
 @dataclass(frozen=True)
 class Rows:
-    """Rows, each all points that just the same features cover: twice its area in grid units, these features by their layers, and its
-    polygons, which are those of one feature of `shapes`."""
+    """Rows, each all points that just the same features cover: twice its area in grid units, these
+    features by their layers, and its polygons, which are those of one feature of `shapes`."""
 
     twice: Numbers
     members: list[Members]
@@ -57,7 +58,8 @@ class Rows:
     @property
     def counts(self) -> Numbers:
         """How many features each row has, of all layers."""
-        return np.sum([layer.counts for layer in self.members], axis=0)
+        sums: Numbers = np.sum([layer.counts for layer in self.members], axis=0)
+        return sums
 
     def chosen(self, kept: Mask) -> Rows:
         """These rows alone."""
@@ -88,7 +90,8 @@ def inside(starts: Numbers, ends: Numbers, length: int) -> Mask:
 
 
 def lines_of(signs: Bytes, layers: int) -> tuple[Numbers, Numbers] | None:
-    """Where the lines of a text begin, and where their polygons do; nothing where it isn't made of lines of so many fields."""
+    """Where the lines of a text begin, and where their polygons do; nothing where it isn't made of
+    lines of so many fields."""
     ends, tabs = np.flatnonzero(signs == NEW_LINE), np.flatnonzero(signs == TAB)
     starts = np.append(0, ends + 1)
     if starts[-1] != len(signs) or len(tabs) != len(ends) * (layers + 1):
@@ -120,7 +123,9 @@ def rows_in(text: bytes, layers: int, name: str) -> Rows:
     held = inside(*lines, len(signs))
     heads = signs[held].tobytes()
     if not heads_of(layers).fullmatch(heads):
-        raise Refusal(name, "has a row without an area, or with other numbers than those of features")
+        raise Refusal(
+            name, "has a row without an area, or with other numbers than those of features"
+        )
     shapes = geometries_in(np.where(held, np.uint8(SPACE), signs).tobytes(), name)
     if len(shapes.ids) != len(lines[0]):
         raise Refusal(name, "has a line that is no row of faces")

@@ -10,12 +10,13 @@ from typing import Callable, Iterator
 from osgeo import ogr
 
 from . import options, program, row_tables
+from .changes import tell_change, tell_moves
 from .columns import Columns, Mask, Numbers
+from .common_grid import CommonGrid, brought_together
 from .destination import destination
 from .faces import NAMES
 from .fields import kept
 from .frame import Frame
-from .joined import Joined, joined, tell_change, tell_moves
 from .layers import Source
 from .messages import say
 from .output import Column, Row, Table
@@ -38,9 +39,14 @@ CHOICES: dict[str, Callable[[Mask, Mask], Mask]] = {
 def add_arguments(parser: ArgumentParser) -> None:
     parser.add_argument("operation", metavar="OP", choices=program.OPERATIONS, help=", ".join(program.OPERATIONS))
     options.add_layers(parser)
-    options.add_output(parser, "the file for the result; its ending names its format, as .gpkg, .shp, .geojson")
+    options.add_output(
+        parser, "the file for the result; its ending names its format, as .gpkg, .shp, .geojson"
+    )
     options.add_dissolve(parser)
-    options.add_keep(parser, "; with it, or with --keep-b, the result is the rows of faces that the operation has")
+    options.add_keep(
+        parser,
+        "; with it, or with --keep-b, the result is the rows of faces that the operation has",
+    )
     options.add_grid(parser)
     options.add_segments(parser)
 
@@ -52,10 +58,11 @@ def rows(result: Columns[Numbers], frame: Frame) -> Iterator[Row]:
         yield polygon, (number, frame.area(twice))
 
 
-def answer(both: Joined, operation: str, covered: bool) -> Columns[Numbers]:
-    """What the program answers, and what became of each layer is told; `covered`: each layer is read as all that its features cover."""
-    alone = [(layer, both.ask("union", [layer], covered)) for layer in both.layers if layer.grid.polygons]
-    asked = both.ask(operation, both.layers, covered)
+def answer(both: CommonGrid, operation: str, covered: bool) -> Columns[Numbers]:
+    """What the program answers, and what became of each layer is told; `covered`: each layer is
+    read as all that its features cover."""
+    alone = [(layer, both.questions.ask("union", [layer], covered)) for layer in both.layers if layer.grid.polygons]
+    asked = both.questions.ask(operation, both.layers, covered)
     for layer, union in alone:
         if covered:
             tell_moves(both, layer, "in sum", sum(union.result().twice_areas()), "united")
@@ -64,9 +71,10 @@ def answer(both: Joined, operation: str, covered: bool) -> Columns[Numbers]:
     return asked.result()
 
 
-def with_fields(both: Joined, operation: str, asked: tuple[str, str]) -> Table:
-    """The rows of faces that an operation has, with the fields that are asked for of both layers."""
-    question = both.ask(program.FACES, both.layers)
+def with_fields(both: CommonGrid, operation: str, asked: tuple[str, str]) -> Table:
+    """The rows of faces that an operation has, with the fields that are asked for of both
+    layers."""
+    question = both.questions.ask(program.FACES, both.layers)
     held = [kept(*of_one) for of_one in zip(both.layers, NAMES, asked)]
     faces = question.rows()
     covers = [members.counts > 0 for members in faces.members]
@@ -80,7 +88,7 @@ def main(arguments: Namespace) -> int:
     sources = [Source(arguments.a), Source(arguments.b)]
     place = destination(arguments, sources)
     asked = (arguments.keep_a, arguments.keep_b)
-    with joined(sources, arguments.grid, arguments.origin, arguments.system, arguments.segments) as both:
+    with brought_together(sources, arguments.grid, arguments.origin, arguments.system, arguments.segments) as both:
         if any(asked):
             table = with_fields(both, arguments.operation, asked)
         else:

@@ -13,7 +13,8 @@ from shapely.validation import explain_validity
 from .columns import Columns, Floats
 from .wkb import collected, encoded
 
-logging.getLogger("shapely").addHandler(logging.NullHandler())  # Shapely 1.8 would print what its exceptions say
+# Shapely 1.8 would print what its exceptions say
+logging.getLogger("shapely").addHandler(logging.NullHandler())
 
 
 def features_of(layer: Columns[Floats]) -> Iterator[bytes]:

@@ -25,7 +25,8 @@ HOT, HOT_SIDE = "#ffdf80", "#d9b64a"
 INK = "#333"
 EMPTY = "nothing in it"
 
-# The picture's sides, in pixels of the screen, and from which size of a grid pixel it shows pixels and lines.
+# The picture's sides, in pixels of the screen, and from which size of a grid pixel it shows pixels
+# and lines.
 WIDTH, HEIGHT, MARGIN, LINE = 860, 560, 16, 20
 PIXEL_SHOWN, GRID_SHOWN = 4.0, 9.0
 
@@ -40,10 +41,14 @@ def add_arguments(parser: ArgumentParser) -> None:
         "files",
         metavar="FILE",
         nargs="+",
-        help="a text on the grid, told apart by its form: a layer, what `overlay edges` or what an operation "
-        "printed; - is standard input",
+        help=(
+            "a text on the grid, told apart by its form: a layer, what `overlay edges` or what an"
+            " operation printed; - is standard input"
+        ),
     )
-    parser.add_argument("-o", "--out", metavar="OUT.svg", help="the picture's file (default: standard output)")
+    parser.add_argument(
+        "-o", "--out", metavar="OUT.svg", help="the picture's file (default: standard output)"
+    )
     parser.add_argument("--title", metavar="TEXT", default="", help="a line below the drawing")
 
 
@@ -68,7 +73,10 @@ class Shown:
     def told(self) -> str:
         if self.kind == EDGES:
             return f"{self.name}: {counted(len(self.edges), 'rounded edge')}"
-        return f"{self.name}: {self.kind}, {counted(len(self.polygons), 'polygon') if self.polygons else EMPTY}"
+        return (
+            f"{self.name}: {self.kind},"
+            f" {counted(len(self.polygons), 'polygon') if self.polygons else EMPTY}"
+        )
 
     def outline(self) -> list[Ends]:
         """The segments of all rings, each once, whichever way they run."""
@@ -135,7 +143,9 @@ def grid_lines(view: View) -> Iterator[str]:
         return
     right, low = MARGIN + view.width - 2 * MARGIN, MARGIN + view.height - 2 * MARGIN
     columns = range(round((right - MARGIN) / view.scale))
-    upright = " ".join(f"M{MARGIN + (k + 0.5) * view.scale:.1f} {MARGIN}V{low:.1f}" for k in columns)
+    upright = " ".join(
+        f"M{MARGIN + (k + 0.5) * view.scale:.1f} {MARGIN}V{low:.1f}" for k in columns
+    )
     level = " ".join(
         f"M{MARGIN} {MARGIN + (k + 0.5) * view.scale:.1f}H{right:.1f}"
         for k in range(round((low - MARGIN) / view.scale))
@@ -150,7 +160,8 @@ def hot_pixels(view: View, files: list[Shown]) -> Iterator[str]:
     centres = sorted({end for file in files for edge in file.edges for end in (edge.p, edge.q)})
     side = view.scale
     squares = " ".join(
-        f"M{view.x(x - 0.5):.1f} {view.y(y + 0.5):.1f}h{side:.1f}v{side:.1f}h-{side:.1f}z" for x, y in centres
+        f"M{view.x(x - 0.5):.1f} {view.y(y + 0.5):.1f}h{side:.1f}v{side:.1f}h-{side:.1f}z"
+        for x, y in centres
     )
     if centres:
         yield f'<path d="{squares}" fill="{HOT}" stroke="{HOT_SIDE}" stroke-width="0.7"/>'

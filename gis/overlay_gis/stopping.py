@@ -1,4 +1,5 @@
-"""Signals that end a command. They are raised as an exception, so that what was begun is tidied away."""
+"""Signals that end a command. They are raised as an exception, so that what was begun is tidied
+away."""
 
 from __future__ import annotations
 
@@ -15,7 +16,8 @@ class Stopped(BaseException):
 
 
 _ours = False  # whether signals are this command's; another program that calls it keeps its own
-_waiting: list[int] | None = None  # the signals that came where none may be raised; nothing where one may
+# the signals that came where none may be raised; nothing where one may
+_waiting: list[int] | None = None
 
 
 def stop(number: int, _: FrameType | None) -> None:
@@ -28,7 +30,8 @@ def stop(number: int, _: FrameType | None) -> None:
 
 @contextmanager
 def unbroken() -> Iterator[None]:
-    """A signal that comes within is raised at the end, so that what is begun here can be known to whoever tidies it away."""
+    """A signal that comes within is raised at the end, so that what is begun here can be known to
+    whoever tidies it away."""
     global _waiting
     if not _ours:
         yield

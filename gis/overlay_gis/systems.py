@@ -5,8 +5,7 @@ from __future__ import annotations
 from osgeo import osr
 
 from .faults import Refusal
-
-osr.UseExceptions()
+from .gdal_errors import told_as
 
 # What GDAL calls the system of a layer whose GeoPackage says that it has none.
 UNDEFINED = ("undefined cartesian srs", "undefined geographic srs", "undefined srs")
@@ -27,10 +26,8 @@ def in_map_order(system: osr.SpatialReference) -> osr.SpatialReference:
 
 def system_from(text: str) -> osr.SpatialReference:
     system = osr.SpatialReference()
-    try:
+    with told_as(lambda words: Refusal(text, f"is no reference system: {words}")):
         system.SetFromUserInput(text)
-    except RuntimeError as error:
-        raise Refusal(text, f"is no reference system: {error}") from error
     return in_map_order(system)
 
 
@@ -39,7 +36,11 @@ def system_name(system: osr.SpatialReference | None) -> str:
     if system is None:
         return "no reference system"
     code = system.GetAuthorityCode(None)
-    return f"{system.GetAuthorityName(None)}:{code}" if code else system.GetName() or "a system without a name"
+    return (
+        f"{system.GetAuthorityName(None)}:{code}"
+        if code
+        else system.GetName() or "a system without a name"
+    )
 
 
 def unit_name(system: osr.SpatialReference | None) -> str:
@@ -47,7 +48,7 @@ def unit_name(system: osr.SpatialReference | None) -> str:
         return "units"
     if system.IsGeographic():
         return "degrees"
-    return "m" if system.GetLinearUnits() == 1.0 else system.GetLinearUnitsName()
+    return "m" if system.GetLinearUnits() == 1.0 else str(system.GetLinearUnitsName())
 
 
 def area_name(system: osr.SpatialReference | None) -> str:

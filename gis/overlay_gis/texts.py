@@ -1,4 +1,5 @@
-"""The program's texts, all on the integer grid: which kinds there are, and layers as texts. `parsing` reads texts."""
+"""The program's texts, all on the integer grid: which kinds there are, and layers as texts.
+`parsing` reads texts."""
 
 from __future__ import annotations
 
@@ -40,7 +41,8 @@ def checked(text: bytes, name: str) -> bytes:
 
 
 def kind_of(text: bytes) -> str:
-    """A text of edges begins with a number; a result is one line as the program writes it; all else is a layer."""
+    """A text of edges begins with a number; a result is one line as the program writes it; all else
+    is a layer."""
     if re.match(rb"\s*-?\d", text):
         return EDGES
     if re.fullmatch(rb"MULTIPOLYGON (?:EMPTY|\(\(\(-?\d[^\n]*\)\)\))\n?", text):
@@ -49,8 +51,8 @@ def kind_of(text: bytes) -> str:
 
 
 def write_polygons(out: BinaryIO, layer: Columns[Numbers]) -> None:
-    """Writes the polygons of each feature, which are in grid units, as a line of a layer text, so that the program numbers features
-    as they stand here."""
+    """Writes the polygons of each feature, which are in grid units, as a line of a layer text, so
+    that the program numbers features as they stand here."""
     out.writelines(lines_of(layer))
 
 

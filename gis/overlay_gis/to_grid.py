@@ -11,18 +11,22 @@ import numpy as np
 from . import options
 from . import frame as frames
 from .columns import Columns, Numbers
+from .common_grid import alone, on_grid, warn_of_rings
 from .faults import Fault, Refusal
 from .frame import Frame
-from .joined import alone, box_of, on_grid, surveyed, together, warn_of_rings
 from .layers import Source, Survey, common_system, files_of
 from .messages import say
 from .rings import Gridded, segments
+from .surveys import box_of, names_of, surveyed
 from .systems import system_from, system_name
 from .texts import write_polygons
 from .whole import draft, target_of
 
 HELP = "writes layers as texts on the integer grid, with a frame that leads back"
-EXAMPLE = "overlay-gis to-grid parcels.gpkg zones.gpkg -o grid    # grid/parcels.wkt, grid/zones.wkt, grid/frame.json"
+EXAMPLE = (
+    "overlay-gis to-grid parcels.gpkg zones.gpkg -o grid    # grid/parcels.wkt, grid/zones.wkt,"
+    " grid/frame.json"
+)
 
 FRAME = "frame.json"
 
@@ -39,7 +43,10 @@ def add_arguments(parser: ArgumentParser) -> None:
     parser.add_argument(
         "--frame",
         metavar="FILE",
-        help="a frame that is there already, for layers that come later, instead of a grid and an origin",
+        help=(
+            "a frame that is there already, for layers that come later, instead of a grid and an"
+            " origin"
+        ),
     )
     options.add_grid(parser)
     options.add_dissolve(parser)
@@ -50,13 +57,17 @@ def frame_for(arguments: Namespace, sources: list[Source], surveys: list[Survey]
     common, box = common_system(sources, arguments.system), box_of(sources, surveys)
     if not arguments.frame:
         asked = frames.asked_for(arguments.grid, arguments.origin)
-        frame = frames.chosen(together(sources), box, common, *asked)
+        frame = frames.chosen(names_of(sources), box, common, *asked)
     else:
         frame = frames.loaded(arguments.frame)
         held = system_from(frame.system) if frame.system else None
         if frames.code_of(common) != frames.code_of(held):
             raise Refusal(
-                arguments.frame, f"is a frame of {system_name(held)}, and {sources[0].name} has {system_name(common)}"
+                arguments.frame,
+                (
+                    f"is a frame of {system_name(held)}, and {sources[0].name} has"
+                    f" {system_name(common)}"
+                ),
             )
         if box and not frames.fits(box, frame.unit, frame.origin):
             raise Refusal(arguments.frame, "points of these layers lie off the limits of its grid")
@@ -67,7 +78,7 @@ def frame_for(arguments: Namespace, sources: list[Source], surveys: list[Survey]
 def united(source: Source, seen: Survey, grid: Gridded, frame: Frame) -> Columns[Numbers]:
     """All that a layer covers on the grid, as one feature."""
     with alone(source, seen, grid, frame) as layer:
-        polygons = layer.ask("union", layer.layers, covered=True).result()
+        polygons = layer.questions.ask("union", layer.layers, covered=True).result()
         return replace(polygons, features=np.array([0, len(polygons.polygons) - 1]), ids=np.ones(1, np.int64))
 
 
@@ -75,7 +86,7 @@ def main(arguments: Namespace) -> int:
     sources = [Source(name) for name in arguments.layers]
     names = [f"{source.stem}.wkt" for source in sources]
     if len(set(names)) < len(names):
-        raise Refusal(together(sources), "would be written under one name")
+        raise Refusal(names_of(sources), "would be written under one name")
     try:
         os.makedirs(arguments.out, exist_ok=True)
     except OSError as error:
@@ -93,7 +104,9 @@ def main(arguments: Namespace) -> int:
             with open(folder / name, "wb") as file:
                 write_polygons(file, layer)
             across, up = segments(layer)
-            told = f"{len(layer.polygons) - 1:,} polygons, {np.count_nonzero(across | up):,} segments"
+            told = (
+                f"{len(layer.polygons) - 1:,} polygons, {np.count_nonzero(across | up):,} segments"
+            )
             say(f"{os.path.join(arguments.out, name)}: {told}")
         frame.saved(str(folder / FRAME))
     return 0

@@ -1,4 +1,5 @@
-"""Outputs that are there whole, or else as they were: they are made in a folder beside their place, and put there at the end."""
+"""Outputs that are there whole, or else as they were: they are made in a folder beside their place,
+and put there at the end."""
 
 from __future__ import annotations
 
@@ -13,8 +14,8 @@ from typing import Iterable, Iterator, Sequence
 from .faults import Fault, Refusal
 from .stopping import go_on
 
-# What the file of that ending may have beside it: parts of its format, and what readers would take for a part of a new file,
-# as an index or a journal of the old one.
+# What the file of that ending may have beside it: parts of its format, and what readers would take
+# for a part of a new file, as an index or a journal of the old one.
 JOURNALS = ("-journal", "-wal", "-shm")
 COMPANIONS = {
     ".shp": (".shx", ".dbf", ".prj", ".cpg", ".qix", ".sbn", ".sbx", ".idm", ".ind", ".qpj"),
@@ -35,8 +36,8 @@ Identity = tuple[int, int]  # a file's device and its number there
 
 @dataclass(frozen=True)
 class Target:
-    """Where an output goes: the path as it was named, and the file to which that leads; whether something that is there is
-    replaced; and the files that aren't, since the command reads them."""
+    """Where an output goes: the path as it was named, and the file to which that leads; whether
+    something that is there is replaced; and the files that aren't, since the command reads them."""
 
     name: str
     path: Path
@@ -97,8 +98,8 @@ def target_of(name: str, overwrite: bool, inputs: Iterable[str]) -> Target:
 def draft(target: Target) -> Iterator[Path]:
     """A folder for everything that the output consists of, which is put in place at the end.
 
-    Until then what is there is as it was. The folder goes whatever happens, but for a kill that no program hears of: that leaves
-    it, hidden and with `partial` in its name.
+    Until then what is there is as it was. The folder goes whatever happens, but for a kill that no
+    program hears of: that leaves it, hidden and with `partial` in its name.
     """
     try:
         made = TemporaryDirectory(prefix=".overlay-gis-", suffix=".partial", dir=target.path.parent)
@@ -113,8 +114,8 @@ def draft(target: Target) -> Iterator[Path]:
 
 
 def publish(folder: Path, target: Target) -> None:
-    """Puts all parts in their places. A single file changes in one step; several do one after another, and the one by which
-    readers find the others goes first and comes last."""
+    """Puts all parts in their places. A single file changes in one step; several do one after
+    another, and the one by which readers find the others goes first and comes last."""
     parts = sorted(folder.iterdir(), key=lambda part: (part.name == target.path.name, part.name))
     places = [target.path.parent / part.name for part in parts]
     stale = [place for place in {target.path, *target.companions(), *places} if os.path.lexists(place)]
@@ -146,7 +147,8 @@ def sync(path: Path) -> None:
     """Has the system write to its disk what a file has, or which names a folder has."""
     number = os.open(path, os.O_RDONLY)
     try:
-        with suppress(*((OSError,) if path.is_dir() else ())):  # some file systems can't for folders
+        # some file systems can't for folders
+        with suppress(*((OSError,) if path.is_dir() else ())):
             os.fsync(number)
     finally:
         os.close(number)

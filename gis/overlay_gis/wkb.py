@@ -1,7 +1,8 @@
 """Geometries in WKB, decoded into columns and encoded from them.
 
-A polygon of one ring in two dimensions, as most are, is found for all features of a batch at once; the rings of the others are
-walked one by one. Then the coordinates of all rings are taken together. What is no polygon of lines is left to GDAL.
+A polygon of one ring in two dimensions, as most are, is found for all features of a batch at once;
+the rings of the others are walked one by one. Then the coordinates of all rings are taken together.
+What is no polygon of lines is left to GDAL.
 """
 
 from __future__ import annotations
@@ -18,12 +19,14 @@ from .columns import Bytes, Columns, Floats, Mask, Numbers, offsets
 
 POLYGON, MULTIPOLYGON, LINE = 3, 6, 2
 
-# The bytes before the points of a plain polygon: the byte order, the kind, the number of rings, the number of points.
+# The bytes before the points of a plain polygon: the byte order, the kind, the number of rings, the
+# number of points.
 PLAIN = np.dtype([("order", "u1"), ("kind", "<u4"), ("rings", "<u4"), ("points", "<u4")])
 BIG_ENDIAN, LITTLE_ENDIAN = 0, 1
 WIDTH = 8  # bytes of a coordinate
 
-# How a kind says that points have Z or M: by bits, as PostGIS and old versions of GDAL do, or by thousands.
+# How a kind says that points have Z or M: by bits, as PostGIS and old versions of GDAL do, or by
+# thousands.
 Z_BIT, M_BIT, THOUSAND = 1 << 31, 1 << 30, 1000
 WITH_Z, WITH_M = (1, 3), (2, 3)
 
@@ -65,7 +68,8 @@ class Ring(NamedTuple):
 
 
 def head_of(data: memoryview, at: int) -> tuple[Form, int, int]:
-    """The form of a geometry's numbers; its kind, without what that says of dimensions; and how many parts it has."""
+    """The form of a geometry's numbers; its kind, without what that says of dimensions; and how
+    many parts it has."""
     if data[at] not in NUMBERS:
         raise Unusual("of no byte order")
     number = NUMBERS[data[at]]
@@ -109,7 +113,8 @@ def polygons_at(data: memoryview, base: int) -> list[list[Ring]]:
 
 
 def plain(data: Bytes, starts: Numbers, ends: Numbers) -> tuple[Mask, Numbers]:
-    """Which geometries are a polygon of one ring in two dimensions, and how many points that has."""
+    """Which geometries are a polygon of one ring in two dimensions, and how many points that
+    has."""
     long = ends - starts >= PLAIN.itemsize
     places = np.where(long, starts, 0)[:, np.newaxis] + np.arange(PLAIN.itemsize)
     if not long.any():
@@ -130,8 +135,8 @@ def coordinates(data: Bytes, places: Numbers, points: Numbers, form: Form) -> tu
 
 
 class Decoder:
-    """The geometries of one batch. `by_gdal` makes polygons of lines, in WKB, of one that is unusual, or answers nothing where it
-    has none."""
+    """The geometries of one batch. `by_gdal` makes polygons of lines, in WKB, of one that is
+    unusual, or answers nothing where it has none."""
 
     def __init__(self, batch: Batch, by_gdal: Callable[[Batch, int], bytes | None]):
         self.batch = batch
@@ -157,7 +162,8 @@ class Decoder:
         return polygons_at(memoryview(lines), base)
 
     def merged(self, held: Mask, of_simple: Numbers | int, of_walked: Sequence[int]) -> Numbers:
-        """A column of which the simple features, where `held` says so, have some values, and the others theirs."""
+        """A column of which the simple features, where `held` says so, have some values, and the
+        others theirs."""
         column = np.empty(len(held), np.int64)
         column[held], column[~held] = of_simple, of_walked
         return column
@@ -203,7 +209,8 @@ def encoded(polygons: Columns[Floats]) -> Iterator[bytes]:
 
 
 def collected(polygons: Sequence[bytes], as_many: bool = False) -> bytes:
-    """The geometry of a feature in WKB, of its polygons'; `as_many`: also that of one polygon as one that may have several."""
+    """The geometry of a feature in WKB, of its polygons'; `as_many`: also that of one polygon as
+    one that may have several."""
     if len(polygons) == 1 and not as_many:
         return polygons[0]
     return b"".join((MULTIPOLYGON_HEAD, NUMBERS[LITTLE_ENDIAN].pack(len(polygons)), *polygons))

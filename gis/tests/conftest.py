@@ -16,7 +16,7 @@ from shapely.geometry.base import BaseGeometry
 
 sys.path.insert(0, str(Path(__file__).resolve().parents[1]))
 
-from overlay_gis import cli  # noqa: E402
+from overlay_gis import cli, passwords  # noqa: E402
 
 COMMAND = str(Path(__file__).resolve().parents[1] / "overlay-gis")
 UTM = "EPSG:25832"
@@ -110,10 +110,17 @@ def blobs(seed: int, digits: int, count: int = 5) -> list[BaseGeometry]:
 
 @pytest.fixture(autouse=True)
 def unsynced(monkeypatch):
-    """No test of this process waits for the disk, which others may keep busy; `synced` are the files that would be waited for."""
+    """No test of this process waits for the disk, which others may keep busy; `synced` are the
+    files that would be waited for."""
     synced = []
     monkeypatch.setattr(os, "fsync", lambda number: synced.append(os.readlink(f"/proc/self/fd/{number}")))
     return synced
+
+
+@pytest.fixture(autouse=True)
+def no_passwords(monkeypatch):
+    """No test hides words that others had as passwords."""
+    monkeypatch.setattr(passwords, "_known", set())
 
 
 @pytest.fixture
@@ -138,6 +145,35 @@ def program() -> str:
     named = os.environ.get("OVERLAY")
     assert named, "OVERLAY names no program; use gis/tests/run"
     return named
+
+
+def waiting(folder: Path, count: int) -> str:
+    """Lines of the shell that wait until a folder has so many files, for some minutes at most,
+    which a busy machine may take."""
+    there = f'[ "$(ls "{folder}" | wc -l)" -ge {count} ]'
+    return f"for k in $(seq 3000); do {there} && break; sleep 0.1; done\n{there} || exit 1\n"
+
+
+def running(number: int) -> bool:
+    """Whether there is a process of this number."""
+    try:
+        os.kill(number, 0)
+    except ProcessLookupError:
+        return False
+    return True
+
+
+@pytest.fixture
+def begun(tmp_path):
+    """A folder in which a run of the program puts an empty file whose name is its number, by
+    `touch`: no number is half there."""
+    folder = tmp_path / "begun"
+    folder.mkdir()
+    return folder
+
+
+def numbers_in(folder: Path) -> list[int]:
+    return [int(path.name) for path in folder.iterdir()]
 
 
 @pytest.fixture

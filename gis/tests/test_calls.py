@@ -8,7 +8,7 @@ from pathlib import Path
 import pytest
 from shapely.geometry import box
 
-from conftest import EAST, NORTH, read, write
+from conftest import EAST, NORTH, numbers_in, read, running, write
 from overlay_gis import calls, faults
 
 SQUARE = box(EAST, NORTH, EAST + 10, NORTH + 10)
@@ -58,18 +58,18 @@ def test_faults_are_raised(layers, program):
         calls.call(["fly"])
 
 
-def test_a_call_is_cancelled_while_the_program_works(layers, pretend):
+def test_a_call_is_cancelled_while_the_program_works(layers, begun, pretend):
+    """It is cancelled when all its three runs have begun, each of which would take ten minutes."""
     a, b = layers
-    pretend(f'echo $$ >>"{Path.cwd()}/begun"\nexec sleep 600\n')
-    begun = time.monotonic()
+    pretend(f'touch "{begun}/$$"\nexec sleep 600\n')
+    asked = time.monotonic()
 
     def call():
         try:
-            return calls.call(["run", "union", a, b, "-o", "out.gpkg"], progress=lambda work, share: not Path("begun").exists())
+            return calls.call(["run", "union", a, b, "-o", "out.gpkg"], progress=lambda work, share: len(numbers_in(begun)) < 3)
         except calls.Cancelled:
             return "cancelled"
 
-    assert in_a_thread(call) == "cancelled" and time.monotonic() - begun < 60
+    assert in_a_thread(call) == "cancelled" and time.monotonic() - asked < 300
     assert not list(Path().glob("out*")) and not list(Path().glob(".overlay*"))
-    for number in Path("begun").read_text().split():
-        assert not Path(f"/proc/{number}").exists()
+    assert not any(map(running, numbers_in(begun)))

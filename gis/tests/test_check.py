@@ -215,7 +215,8 @@ def test_gaps_are_the_holes_that_shapely_finds(gis, tmp_path, seed):
 
 
 def test_sizes_in_degrees(gis, tmp_path):
-    """Strips 0.001 degrees long that are open between two boxes: one 0.000005 degrees wide, about half a meter, one twice as wide."""
+    """Strips 0.001 degrees long that are open between two boxes: one 0.000005 degrees wide, about
+    half a meter, one twice as wide."""
     for width, kinds in ((0.000005, ["gap"]), (0.00002, []), (0.000001, ["sliver"])):
         shapes = [box(8, 50, 8.001, 50.001), box(8.001 + width, 50, 8.002, 50.001)]
         shapes += [box(8, 49.999, 8.002, 50), box(8, 50.001, 8.002, 50.002)]

@@ -6,6 +6,7 @@ import re
 import shlex
 import subprocess
 import sys
+from contextlib import suppress
 from pathlib import Path
 
 import pytest
@@ -113,16 +114,26 @@ def test_progress_is_said_on_a_terminal_alone(capsys, monkeypatch, terminal):
     assert ("reading a.gpkg: 50%" in told and "overlay union" in told) if terminal else told == ""
 
 
+def all_of(number):
+    """What is written to a terminal or a pipe until nobody does any more; a read answers but a part
+    of it."""
+    parts = []
+    with suppress(OSError):  # by which Linux says so of a terminal
+        while part := os.read(number, 1 << 16):
+            parts.append(part)
+    return b"".join(parts)
+
+
 @pytest.mark.parametrize("terminal", [True, False])
 def test_a_user_at_a_terminal_hears_what_is_done(tmp_path, program, terminal):
     a = write(tmp_path / "a.gpkg", [box(EAST, NORTH, EAST + 2, NORTH + 2)], fields={"owner": ["Ada"]})
     ours, theirs = pty.openpty() if terminal else os.pipe()
     words = [COMMAND, "dissolve", a, "--by", "owner", "-o", "out.gpkg"]
-    done = subprocess.run(words, cwd=tmp_path, stderr=theirs, check=False)
-    told = os.read(ours, 1 << 16).decode()
-    os.close(ours)
-    os.close(theirs)
-    assert done.returncode == 0 and ("\x1b[K" in told) == terminal
+    with subprocess.Popen(words, cwd=tmp_path, stderr=theirs) as command:
+        os.close(theirs)
+        told = all_of(ours).decode()
+        os.close(ours)
+    assert command.returncode == 0 and ("\x1b[K" in told) == terminal
     for work in (f"rounding {a}", "overlay faces", "uniting features"):
         assert (work in told) == terminal
 

@@ -1,4 +1,5 @@
-"""Tables of PostGIS: a server of our own, on a free port of this machine, is there as long as these tests are."""
+"""Tables of PostGIS: a server of our own, on a free port of this machine, is there as long as these
+tests are."""
 
 import glob
 import os

@@ -1,4 +1,5 @@
-"""dissolve, and faces by values: Shapely judges what is united, and the program's own union of all is the same to the byte."""
+"""dissolve, and faces by values: Shapely judges what is united, and the program's own union of all
+is the same to the byte."""
 
 import random
 
@@ -28,7 +29,8 @@ def test_features_of_each_value_become_one(gis, tmp_path):
     found = dissolved(gis, a, "--by", "owner")
     assert [tuple(fields.values()) for _, fields in found] == [("Ada", 3, 300.0), ("Grace", 2, 200.0)]
     assert found[0][0].equals(unary_union([shapes[k] for k in (0, 1, 4)])) and len(found[0][0].geoms) == 2
-    assert [len(part.exterior.coords) for part in found[1][0].geoms] == [5, 5]  # they meet in a point
+    # they meet in a point
+    assert [len(part.exterior.coords) for part in found[1][0].geoms] == [5, 5]
     both = dissolved(gis, a, "--by", "owner,floors")
     assert [tuple(fields.values())[:3] for _, fields in both] == [("Ada", 1, 2), ("Ada", 2, 1), ("Grace", 2, 2)]
     pieces = dissolved(gis, a, "--by", "owner", "--parts")
@@ -151,7 +153,8 @@ def test_rows_by_values_of_features_that_overlap(gis, tmp_path):
 
 @pytest.mark.parametrize("seed", range(60))
 def test_cells_of_groups_are_united_as_shapely_does(seed):
-    """Cells that meet in points, holes in holes, and holes that touch one another or their shell."""
+    """Cells that meet in points, holes in holes, and holes that touch one another or their
+    shell."""
     rng = random.Random(seed)
     side = rng.randint(2, 9)
     cells = [(i, j) for i in range(side) for j in range(side)]

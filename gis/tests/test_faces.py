@@ -137,7 +137,8 @@ def sets_of(faces, names):
 
 
 def sets_by_shapely(layers, names):
-    """The same by the faces of all borders as GEOS finds them, each with a point inside that tells its features."""
+    """The same by the faces of all borders as GEOS finds them, each with a point inside that tells
+    its features."""
     features = [(name, number, shape) for name, layer in zip(names, layers) for number, shape in enumerate(layer, 1) if shape]
     found = defaultdict(float)
     for face in polygonize(unary_union([shape.boundary for _, _, shape in features])):

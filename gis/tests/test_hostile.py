@@ -1,4 +1,5 @@
-"""Strange input and strange surroundings: each is refused in one line that names the feature, and nothing is lost or told."""
+"""Strange input and strange surroundings: each is refused in one line that names the feature, and
+nothing is lost or told."""
 
 import os
 import shutil
@@ -12,7 +13,7 @@ from osgeo import gdal
 from shapely.geometry import box
 
 from conftest import COMMAND, EAST, NORTH, UTM, parcels, read, system, write
-from overlay_gis import frame, joined, messages, passwords
+from overlay_gis import frame, messages, passwords, questions
 from overlay_gis.faults import Refusal
 from overlay_gis.layers import Box
 
@@ -20,7 +21,8 @@ SQUARE = box(EAST, NORTH, EAST + 10, NORTH + 10)
 
 
 def spoiled(path, value, at):
-    """A layer of two squares, of which the second has a coordinate of that text at a place of its ring."""
+    """A layer of two squares, of which the second has a coordinate of that text at a place of its
+    ring."""
     rings = [[[f"{x}", f"{y}"] for x, y in box(k, k, k + 1, k + 1).exterior.coords] for k in (0, 5)]
     for place in (at, -1) if at == 0 else (at,):
         rings[1][place][0] = value
@@ -261,8 +263,7 @@ def test_passwords_are_not_in_what_gdal_is_made_to_tell(tmp_path):
     assert done.returncode == 1 and "3cr" not in done.stdout and "et/7" not in done.stdout
 
 
-def test_what_is_no_password_is_told(monkeypatch):
-    monkeypatch.setattr(passwords, "_known", set())
+def test_what_is_no_password_is_told():
     passwords.remember(f"OCI:me/{SECRET}@town:parcels")
     passwords.remember(f"MYSQL:town,user=me,password={SECRET},host=127.0.0.1")
     for text in ("a.gpkg: is no polygon", "at 3: x=7", "user me on 127.0.0.1:5432", "me@town.gpkg"):
@@ -341,7 +342,7 @@ def test_two_layers_without_a_system_have_units(gis, tmp_path, number):
 @pytest.mark.parametrize("words", [("run", "union"), ("faces",)], ids=lambda words: words[0])
 def test_too_many_segments_are_told_before_texts_are_written(gis, tmp_path, monkeypatch, words):
     a, b = write(tmp_path / "a.gpkg", parcels(3, 3)), write(tmp_path / "b.gpkg", parcels(4, 3))
-    monkeypatch.setattr(joined, "write_polygons", lambda *_: pytest.fail("a text is written"))
+    monkeypatch.setattr(questions, "write_polygons", lambda *_: pytest.fail("a text is written"))
     answer = gis(*words, a, b, "-o", "out.gpkg", "--segments", "300")
     assert answer.status == 3
     assert answer.err == (

@@ -7,7 +7,8 @@ from shapely.ops import unary_union
 from conftest import EAST, NORTH, blobs, parcels, read, write
 from test_run import JUDGE
 
-# Two strips of 10 by 5 meters that have 5 in common, and one of 20 by 2 across both: owner, rule, area.
+# Two strips of 10 by 5 meters that have 5 in common, and one of 20 by 2 across both: owner, rule,
+# area.
 BOTH = {("Ada", "wet"): 10.0, ("Ada,Grace", "wet"): 10.0, ("Grace", "wet"): 10.0}
 FIRST = {("Ada", None): 15.0, ("Ada,Grace", None): 15.0, ("Grace", None): 15.0}
 SECOND = {(None, "wet"): 10.0}

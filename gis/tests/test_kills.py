@@ -1,4 +1,5 @@
-"""Kills: whatever ends the command, an output is there whole, or as it was; and nothing half made looks whole."""
+"""Kills: whatever ends the command, an output is there whole, or as it was; and nothing half made
+looks whole."""
 
 import os
 import signal
@@ -11,15 +12,15 @@ import pytest
 from osgeo import gdal
 from shapely.geometry import box
 
-from conftest import COMMAND, EAST, NORTH, Answer, read, write
-from overlay_gis import cli, output, whole
+from conftest import COMMAND, EAST, NORTH, Answer, numbers_in, read, running, write
+from overlay_gis import cli, gdal_state, output, whole
 
 FORMATS = ["gpkg", "shp", "geojson", "fgb"]
 SIGNALS = [signal.SIGKILL, signal.SIGTERM, signal.SIGINT]
 OLD = box(EAST + 50, NORTH, EAST + 51, NORTH + 1)
 
-# Where a command is stopped while it writes, each a call and whether that is before it: before and behind the first feature,
-# once the file is closed, and when all is on disk.
+# Where a command is stopped while it writes, each a call and whether that is before it: before and
+# behind the first feature, once the file is closed, and when all is on disk.
 BEGUN, ADDED, CLOSED, ON_DISK = (
     (output.Output, "begin", False),
     (output.Output, "add", False),
@@ -30,14 +31,17 @@ BEGUN, ADDED, CLOSED, ON_DISK = (
 
 @pytest.fixture
 def stopped(capfd, monkeypatch, tmp_path):
-    """Runs a command in a process of its own, which sends itself a signal where it leaves a call."""
+    """Runs a command in a process of its own, which sends itself a signal where it leaves a
+    call."""
     monkeypatch.chdir(tmp_path)
 
     def run(place, number: signal.Signals, *words: str) -> Answer:
         capfd.readouterr()
         child = os.fork()
         if not child:
-            signal.signal(signal.SIGINT, signal.default_int_handler)  # a shell may have it ignored, in the background
+            signal.signal(signal.SIGTERM, signal.SIG_DFL)
+            # a shell may have it ignored, in the background
+            signal.signal(signal.SIGINT, signal.default_int_handler)
             interrupt(*place, number)
             os._exit(cli.main(list(words)))
         status = os.waitstatus_to_exitcode(os.waitpid(child, 0)[1])
@@ -48,7 +52,8 @@ def stopped(capfd, monkeypatch, tmp_path):
 
 
 def interrupt(owner, name, before, number):
-    """Has a call of a module or a class send a signal to this process, before or behind what it does."""
+    """Has a call of a module or a class send a signal to this process, before or behind what it
+    does."""
     call = getattr(owner, name)
 
     def interrupted(*words, **named):
@@ -105,7 +110,7 @@ def test_a_kill_while_the_parts_of_a_shapefile_change_places(stopped, tmp_path, 
         assert answer.status == 0 and len(read("out.shp")) == 9
         assert not list(tmp_path.glob(".*"))
         return
-    with pytest.raises(RuntimeError):
+    with gdal_state.raising(), pytest.raises(RuntimeError):
         gdal.OpenEx("out.shp", gdal.OF_VECTOR)
     kept = {path.name: path.read_bytes() for path in tmp_path.glob(".overlay-gis-*.partial/replaced/*")}
     assert {**parts("out.shp"), **kept} == old
@@ -180,26 +185,31 @@ def test_journals_of_an_old_file_are_not_taken_for_the_new_ones(gis, tmp_path):
 
 
 @pytest.mark.parametrize("number, name", [(signal.SIGINT, "Ctrl-C"), (signal.SIGTERM, "SIGTERM")])
-def test_a_signal_ends_the_program_too(tmp_path, number, name):
+def test_a_signal_ends_the_program_too(tmp_path, begun, number, name):
+    """It comes when all three runs of the program have begun, each of which would take ten
+    minutes."""
     layers(tmp_path)
     program, temporary = tmp_path / "slow", tmp_path / "temporary"
     temporary.mkdir()
-    program.write_text(f"#!/bin/sh\necho $$ >{tmp_path}/begun.tmp\nmv {tmp_path}/begun.tmp {tmp_path}/begun\nexec sleep 600\n")
+    program.write_text(f'#!/bin/sh\ntouch "{begun}/$$"\nexec sleep 600\n')
     program.chmod(0o755)
-    with subprocess.Popen(
+    command = subprocess.Popen(
         [sys.executable, COMMAND, "run", "union", "a.gpkg", "b.gpkg", "-o", "out.gpkg"],
         cwd=tmp_path,
         env={**os.environ, "OVERLAY": str(program), "TMPDIR": str(temporary)},
         stderr=subprocess.PIPE,
         text=True,
-        preexec_fn=lambda: signal.signal(signal.SIGINT, signal.SIG_DFL),
-    ) as command:
-        while not (tmp_path / "begun").exists():
+        preexec_fn=lambda: signal.signal(number, signal.SIG_DFL),
+    )
+    try:
+        while len(numbers_in(begun)) < 3:
+            assert command.poll() is None
             time.sleep(0.01)
         command.send_signal(number)
-        said = command.communicate(timeout=20)[1]
+        said = command.communicate(timeout=300)[1]
+    finally:
+        command.kill()
     assert command.returncode == 1
     assert said.splitlines()[-1] == f"overlay-gis: stopped by {name}: no file was written or changed"
     assert "Traceback" not in said and not list(temporary.iterdir()) and not (tmp_path / "out.gpkg").exists()
-    with pytest.raises(ProcessLookupError):
-        os.kill(int((tmp_path / "begun").read_text()), 0)
+    assert not any(map(running, numbers_in(begun)))

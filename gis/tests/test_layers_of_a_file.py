@@ -1,4 +1,5 @@
-"""Layers put into a GeoPackage that is there: its others stay as they are, whatever ends the command."""
+"""Layers put into a GeoPackage that is there: its others stay as they are, whatever ends the
+command."""
 
 import os
 import signal

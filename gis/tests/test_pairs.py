@@ -11,7 +11,8 @@ from test_faces import heap
 
 
 def layers(tmp_path):
-    """Two squares that overlap by half, and three: one across both, one beside, one that only touches."""
+    """Two squares that overlap by half, and three: one across both, one beside, one that only
+    touches."""
     at = lambda x, y, w, h: box(EAST + x, NORTH + y, EAST + x + w, NORTH + y + h)  # noqa: E731
     a = write(tmp_path / "a.gpkg", [at(0, 0, 10, 10), at(5, 0, 10, 10)])
     return a, write(tmp_path / "b.gpkg", [at(0, 0, 20, 4), at(50, 0, 1, 1), at(15, 4, 5, 5)])

@@ -1,9 +1,11 @@
-"""bench/run peers and what is made of its table: the maps, the answers' areas and forms, the server, README's table and the drawing."""
+"""bench/run peers and what is made of its table: the maps, the answers' areas and forms, the
+server, README's table and the drawing."""
 
 from __future__ import annotations
 
 import os
 import random
+import socket
 import subprocess
 import sys
 from pathlib import Path
@@ -71,7 +73,8 @@ def test_one_form_whatever_the_order_is():
 
 @pytest.mark.parametrize("job, some, odd", [("dissolve", 10 + 4 + 1, 10 + 4), ("common", 4 + 1, 4)])
 def test_areas_of_faces(job, some, odd):
-    """One face of A alone, one of B alone, one of both, and one that two features of A share in B."""
+    """One face of A alone, one of B alone, one of both, and one that two features of A share in
+    B."""
     assert peers.exact("1\tNone\t10\nNone\t7\t2\n1\t7\t4\n1,2\t7\t1\n", job) == peers.Exact(some, odd)
 
 
@@ -84,6 +87,18 @@ def test_a_server_is_there_and_gone():
         server.said("select count(*) from generate_series(1, 500000)")
         assert server.processor() > before
     assert server.process.returncode == 0 and not os.path.exists(server.place)
+
+
+def test_a_port_that_another_program_took_meanwhile(monkeypatch):
+    if not postgres.folder():
+        pytest.skip("no PostgreSQL: apt-get install postgresql")
+    with socket.socket() as door:
+        door.bind(("127.0.0.1", 0))
+        taken = door.getsockname()[1]
+        ports = iter([taken, postgres.free_port()])
+        monkeypatch.setattr(postgres, "free_port", lambda: next(ports))
+        with postgres.Server() as server:
+            assert server.port != taken and server.said("select 1") == "1\n"
 
 
 def test_a_run_with_one_peer(program):

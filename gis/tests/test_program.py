@@ -1,17 +1,17 @@
-"""The program at work: on what it is asked at once, on texts in the memory, and ended with the command."""
+"""The program at work: on what it is asked at once, on texts in the memory, and ended with the
+command."""
 
 import os
 import signal
 import sqlite3
-from contextlib import ExitStack
 from pathlib import Path
 
 import pytest
 from shapely.geometry import box
 
-from conftest import EAST, NORTH, write
+from conftest import EAST, NORTH, numbers_in, running, waiting, write
 from overlay_gis import program, stopping
-from overlay_gis.joined import Joined
+from overlay_gis.questions import questions
 from overlay_gis.stopping import Stopped
 
 SQUARE = box(EAST, NORTH, EAST + 10, NORTH + 10)
@@ -24,17 +24,16 @@ def text(words):
     return program.Text("a", file)
 
 
-def test_an_answer_and_both_areas_are_computed_at_once(gis, tmp_path, pretend):
+def test_an_answer_and_both_areas_are_computed_at_once(gis, tmp_path, begun, pretend):
     """Each run of the program waits until three have begun."""
     a, b = write(tmp_path / "a.gpkg", [SQUARE]), write(tmp_path / "b.gpkg", [SQUARE])
-    (tmp_path / "begun").mkdir()
     pretend(
-        f'touch "{tmp_path}/begun/$$"\n'
-        f'for k in $(seq 500); do [ "$(ls "{tmp_path}/begun" | wc -l)" = 3 ] && break; sleep 0.02; done\n'
-        f'[ "$(ls "{tmp_path}/begun" | wc -l)" = 3 ] || exit 1\n'
+        f'touch "{begun}/$$"\n'
+        f"{waiting(begun, 3)}"
         "echo 'MULTIPOLYGON (((0 0, 10000 0, 10000 10000, 0 10000, 0 0)))'\necho 'records 8' >&2\n"
     )
     assert gis("run", "union", a, b, "-o", "out.gpkg").status == 0
+    assert len(numbers_in(begun)) == 3
 
 
 def test_texts_are_no_files_of_a_folder(gis, tmp_path, pretend, monkeypatch):
@@ -60,14 +59,6 @@ def test_a_long_answer_and_a_long_report(pretend):
         assert asked.answer()[0] == bytes(3_000_000)
 
 
-def running(number):
-    try:
-        os.kill(number, 0)
-    except ProcessLookupError:
-        return False
-    return True
-
-
 def test_the_program_ends_with_the_context(pretend):
     pretend("exec sleep 600\n")
     with pytest.raises(KeyError), program.Asked("union", text(b""), text(b"")) as asked:
@@ -75,18 +66,25 @@ def test_the_program_ends_with_the_context(pretend):
     assert not running(asked.process.pid)
 
 
-def test_a_refusal_ends_the_runs_that_go_on(gis, tmp_path, pretend):
+def test_a_refusal_ends_the_runs_that_go_on(gis, tmp_path, begun, pretend):
+    """The areas are refused, once the run for the answer has begun, which would take minutes."""
     a = write(tmp_path / "a.gpkg", [SQUARE])
-    refusing = 'if [ "$1" = union ]; then echo "overlay: A: 1 syntax at 3" >&2; exit 3; fi\n'
-    pretend(refusing + f'echo $$ >"{tmp_path}/at"\nexec sleep 600\n')
+    refusing = f'{waiting(begun, 1)}echo "overlay: A: 1 syntax at 3" >&2\nexit 3\n'
+    pretend(f'if [ "$1" = union ]; then\n{refusing}fi\ntouch "{begun}/$$"\nexec sleep 600\n')
     assert gis("run", "difference", a, a, "-o", "out.gpkg").status == 3
-    assert not Path("at").exists() or not running(int(Path("at").read_text()))
+    (number,) = numbers_in(begun)
+    assert not running(number)
 
 
 @pytest.fixture
 def handled():
+    """Signals as a command has them, also where who began the tests had some ignored, as nohup
+    does."""
+    held = {number: signal.signal(number, signal.SIG_DFL) for number in stopping.SIGNALS}
     with stopping.stoppable():
         yield
+    for number, handler in held.items():
+        signal.signal(number, handler)
 
 
 @pytest.mark.parametrize("number", [signal.SIGTERM, signal.SIGHUP])
@@ -120,9 +118,8 @@ def test_a_program_that_a_signal_found_beginning_is_ended(handled, monkeypatch, 
 
     monkeypatch.setattr(program, "Popen", interrupted)
     pretend("exec sleep 600\n")
-    with pytest.raises(Stopped), ExitStack() as room:
-        joined = Joined(None, None, [], text(b""), room)
-        joined.ask("union", [])
+    with pytest.raises(Stopped), questions() as asked:
+        asked.ask("union", [])
     assert begun and not running(begun[0].pid)
 
 

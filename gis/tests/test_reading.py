@@ -1,4 +1,5 @@
-"""Layers as columns: what is read is what OGR's features have, whatever the format and the form of their geometries."""
+"""Layers as columns: what is read is what OGR's features have, whatever the format and the form of
+their geometries."""
 
 import random
 import struct
@@ -51,9 +52,11 @@ def polygons_of(geometry):
 
 
 def wanted(path):
-    """The numbers and polygons of a layer's features that have some, and the numbers of those that have none."""
+    """The numbers and polygons of a layer's features that have some, and the numbers of those that
+    have none."""
     held, bare = {}, []
-    dataset = gdal.OpenEx(str(path), gdal.OF_VECTOR)  # a layer is there only as long as its dataset is
+    # a layer is there only as long as its dataset is
+    dataset = gdal.OpenEx(str(path), gdal.OF_VECTOR)
     for feature in dataset.GetLayer(0):
         geometry = feature.GetGeometryRef()
         if geometry is None or geometry.IsEmpty():
@@ -81,7 +84,8 @@ def test_columns_are_what_the_features_have(tmp_path, ending):
     held, bare = wanted(path)
     seen = Source(str(path)).survey()
     assert dict(zip(seen.sound.ids.tolist(), seen.sound.lists())) == held
-    assert seen.of(Kind.BARE) == bare and seen.features == len(held) + len(bare) >= 7  # FlatGeobuf leaves out bare features
+    # FlatGeobuf leaves out bare features
+    assert seen.of(Kind.BARE) == bare and seen.features == len(held) + len(bare) >= 7
     assert not seen.names and len(held) >= 5
 
 
@@ -193,7 +197,7 @@ def test_a_geometry_that_cannot_be_read_is_a_fault(gis, tmp_path, at, put):
 @pytest.mark.parametrize("ending", ["gpkg", "fgb", "geojson", "shp"])
 def test_a_layer_without_features_ends(tmp_path, ending):
     path = write(tmp_path / f"a.{ending}", [])
-    done = subprocess.run([sys.executable, COMMAND, "check", path], capture_output=True, text=True, timeout=60, check=False)
+    done = subprocess.run([sys.executable, COMMAND, "check", path], capture_output=True, text=True, timeout=600, check=False)
     assert done.returncode == 4 and done.stdout.startswith(f"{path}: the layer has no features\n")
 
 

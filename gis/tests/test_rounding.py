@@ -1,4 +1,5 @@
-"""Rounding on whole arrays is that of the exact numbers, each time, on all grids; and fractions are seldom needed."""
+"""Rounding on whole arrays is that of the exact numbers, each time, on all grids; and fractions are
+seldom needed."""
 
 import random
 from fractions import Fraction
@@ -29,7 +30,8 @@ def near(axis, place):
 
 
 def numbers_on(axis, rng):
-    """Floating-point numbers that the axis has room for: anywhere, with few decimals, and next to halves and grid points."""
+    """Floating-point numbers that the axis has room for: anywhere, with few decimals, and next to
+    halves and grid points."""
     drawn = [Fraction(rng.randint(-LIMIT, LIMIT)) for _ in range(100)]
     drawn += [Fraction(rng.randint(-LIMIT, LIMIT) * 2 + 1, 2) for _ in range(250)]
     drawn += [Fraction(rng.randint(-99, 99) * 2 + 1, 2) for _ in range(50)]
@@ -48,7 +50,8 @@ def test_all_numbers_are_rounded_as_the_exact_ones(unit):
         values = numbers_on(axis, rng)
         assert axis.rounded(np.array(values)).tolist() == [exact(value, axis) for value in values]
         judged += len(values)
-    assert judged > (5000 if Fraction(unit) > Fraction(1, 10**20) else 1000)  # of the finest, only what lies at 0 has room
+    # of the finest, only what lies at 0 has room
+    assert judged > (5000 if Fraction(unit) > Fraction(1, 10**20) else 1000)
 
 
 @pytest.mark.parametrize("unit", UNITS)
@@ -73,7 +76,8 @@ def test_fractions_are_seldom_needed(unit, origin):
 
 
 def test_what_is_sure_is_right_where_nothing_is_near_the_origin():
-    """Coordinates far from the origin, in which floating-point numbers are wider apart than the grid's points."""
+    """Coordinates far from the origin, in which floating-point numbers are wider apart than the
+    grid's points."""
     axis = Axis(Fraction(10**17) + Fraction(1, 3), Fraction("0.001"))
     values = np.array([1e17, nextafter(1e17, inf), nextafter(1e17, -inf)])
     assert axis.rounded(values).tolist() == [exact(value, axis) for value in values.tolist()]

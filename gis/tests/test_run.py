@@ -28,7 +28,8 @@ def perimeter(shapes):
 
 
 def judged(gis, tmp_path, operation, first, second, unit, reach):
-    """Runs an operation, and has Shapely compare the area and the validity; `reach` is how far a border may move, in units."""
+    """Runs an operation, and has Shapely compare the area and the validity; `reach` is how far a
+    border may move, in units."""
     a, b, out = write(tmp_path / "a.gpkg", first), write(tmp_path / "b.gpkg", second), tmp_path / "out.gpkg"
     answer = gis("run", operation, a, b, "-o", out, "--grid", unit)
     assert answer.status == 0, answer.err

@@ -1,4 +1,5 @@
-"""Texts by whole arrays: what is written and read is what plain code writes and reads, of sound texts and of spoiled ones."""
+"""Texts by whole arrays: what is written and read is what plain code writes and reads, of sound
+texts and of spoiled ones."""
 
 import io
 import random
@@ -173,7 +174,8 @@ def test_edges_are_read_line_by_line(seed):
 
 
 def rows_plainly(text, layers):
-    """Each row of a text of faces: twice its area, the numbers of each layer, and its polygons; or why it is none."""
+    """Each row of a text of faces: twice its area, the numbers of each layer, and its polygons; or
+    why it is none."""
     lines = text.split("\n")
     if lines.pop() or any(line.count("\t") != layers + 1 or line.rpartition("\t")[2][:1] != "M" for line in lines):
         return "has a line that is no row"
@@ -235,7 +237,8 @@ def twice_plainly(polygon):
 def test_areas_are_exact(reach):
     polygons = [p for feature in features_of(random.Random(reach), 100, reach) for p in feature]
     square = [(-LIMIT, -LIMIT), (LIMIT, -LIMIT), (LIMIT, LIMIT), (-LIMIT, LIMIT)]
-    polygons.append([square * 5000 + square[:1]])  # round its square so often that 64 bits don't hold it
+    # round its square so often that 64 bits don't hold it
+    polygons.append([square * 5000 + square[:1]])
     assert of_polygons(polygons).twice_areas() == list(map(twice_plainly, polygons))
 
 

@@ -1,4 +1,5 @@
-"""Exact overlay of polygon layers in QGIS: a provider for Processing whose algorithms are the verbs of `overlay-gis`."""
+"""Exact overlay of polygon layers in QGIS: a provider for Processing whose algorithms are the verbs
+of `overlay-gis`."""
 
 from __future__ import annotations
 

@@ -1,4 +1,5 @@
-"""What all algorithms have in common: layers, a grid, an output file, and the command that does the work."""
+"""What all algorithms have in common: layers, a grid, an output file, and the command that does the
+work."""
 
 from __future__ import annotations
 
@@ -38,8 +39,8 @@ TEXTS = {
 }
 
 ON_A_GRID = (
-    "\n\nCorners and crossings are rounded to a grid: a corner moves by at most 0.71 grid units. No layer has to be valid. "
-    "Layers have one reference system, and the output has it too."
+    "\n\nCorners and crossings are rounded to a grid: a corner moves by at most 0.71 grid units. "
+    "No layer has to be valid. Layers have one reference system, and the output has it too."
 )
 
 
@@ -54,13 +55,13 @@ class Call:
         self.output: str = algorithm.parameterAsOutputLayer(parameters, OUTPUT, context)
 
     def text(self, name: str) -> str:
-        return self.algorithm.parameterAsString(self.parameters, name, self.context).strip()
+        return str(self.algorithm.parameterAsString(self.parameters, name, self.context)).strip()
 
     def truth(self, name: str) -> bool:
-        return self.algorithm.parameterAsBoolean(self.parameters, name, self.context)
+        return bool(self.algorithm.parameterAsBoolean(self.parameters, name, self.context))
 
     def choice(self, name: str) -> int:
-        return self.algorithm.parameterAsEnum(self.parameters, name, self.context)
+        return int(self.algorithm.parameterAsEnum(self.parameters, name, self.context))
 
     def given(self, name: str) -> bool:
         return self.parameters.get(name) not in (None, "")
@@ -88,7 +89,8 @@ class Call:
 
 
 class VerbAlgorithm(QgsProcessingAlgorithm):
-    """An algorithm that is a verb of the command: it has parameters, and the words that the command is called by."""
+    """An algorithm that is a verb of the command: it has parameters, and the words that the command
+    is called by."""
 
     NAME = TITLE = HELP = ""
     TAGS: Sequence[str] = ()

@@ -1,4 +1,5 @@
-"""The algorithm check: what is wrong with a layer: overlaps, gaps, and what else a pass over it finds."""
+"""The algorithm check: what is wrong with a layer: overlaps, gaps, and what else a pass over it
+finds."""
 
 from __future__ import annotations
 
@@ -28,11 +29,12 @@ class Check(VerbAlgorithm):
     STATUSES = (0, FOUND)
     TEXTS = {**SIZES, **TEXTS}
     HELP = (
-        "Which features of a layer overlap, and where gaps are between them: a row for each set of features that cover some points "
-        "together, with their numbers, and for each gap, which is a hole of all features together that is narrow or small. The field kind "
-        "tells overlap, gap or sliver; a width is twice the area divided by the length of the border."
-        "\n\nThe log tells these and what else is wrong with the layer: features without a geometry, rings that are open or cross "
-        "themselves, points off the limits."
+        "Which features of a layer overlap, and where gaps are between them: a row for each set of "
+        "features that cover some points together, with their numbers, and for each gap, which is "
+        "a hole of all features together that is narrow or small. The field kind tells overlap, "
+        "gap or sliver; a width is twice the area divided by the length of the border."
+        "\n\nThe log tells these and what else is wrong with the layer: features without a "
+        "geometry, rings that are open or cross themselves, points off the limits."
     )
 
     def initAlgorithm(self, configuration: Any = None) -> None:

@@ -1,7 +1,7 @@
 """The command `overlay-gis`, as a process of its own.
 
-It is given a terminal to speak to, since there it tells how far it is; SIGTERM ends it when the user cancels, and it then leaves what
-was there as it was.
+It is given a terminal to speak to, since there it tells how far it is; SIGTERM ends it when the
+user cancels, and it then leaves what was there as it was.
 """
 
 from __future__ import annotations
@@ -40,7 +40,8 @@ REACHED = re.compile(r": ([\d,]+)(%?)$")
 
 
 def located() -> str:
-    """The command: what the setting names, else what stands beside this plugin, what the path has, or what Debian's package has."""
+    """The command: what the setting names, else what stands beside this plugin, what the path has,
+    or what Debian's package has."""
     named: str = ProcessingConfig.getSetting(SETTING)
     for place in (named,) if named else (BESIDE, shutil.which(NAME), PACKAGED):
         if place and os.path.isfile(place):
@@ -97,7 +98,8 @@ def stop(process: subprocess.Popen[bytes]) -> None:
 
 
 def follow(process: subprocess.Popen[bytes], terminal: int, log: Log) -> None:
-    """Reads what the process writes until it has ended, which it is asked for where the user cancels."""
+    """Reads what the process writes until it has ended, which it is asked for where the user
+    cancels."""
     while True:
         if log.feedback.isCanceled():
             stop(process)
@@ -111,7 +113,8 @@ def follow(process: subprocess.Popen[bytes], terminal: int, log: Log) -> None:
 
 
 def run(words: Sequence[str], folder: str, feedback: QgsProcessingFeedback, statuses: Sequence[int] = (0,)) -> int:
-    """Runs the command in a folder, and answers its status, which is one of these unless the user cancels."""
+    """Runs the command in a folder, and answers its status, which is one of these unless the user
+    cancels."""
     command = [located(), *words]
     ours, its = os.openpty()
     try:

@@ -12,8 +12,9 @@ class Dissolve(VerbAlgorithm):
     TAGS = ("union", "unite", "merge", "aggregate")
     RESULT = "Dissolved"
     HELP = (
-        "Unites all features of a layer, or those that have the same values in some fields: a feature for each value, with the value, "
-        "the number of features and the area. All is rounded once, so that neighbours keep their common borders."
+        "Unites all features of a layer, or those that have the same values in some fields: a"
+        " feature for each value, with the value, the number of features and the area. All is"
+        " rounded once, so that neighbours keep their common borders."
     )
 
     def add_inputs(self) -> None:

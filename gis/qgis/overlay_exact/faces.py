@@ -15,10 +15,13 @@ class Faces(VerbAlgorithm):
     TAGS = ("identity", "intersection", "union", "overlaps", "flat")
     RESULT = "Faces"
     HELP = (
-        "All points that just the same features cover are one row. The field a has the numbers of the first layer's features that cover "
-        "it, b those of the second one's, and so on, with commas between; area is its area. The fields that are kept are named a_FIELD, "
-        "b_FIELD; where several features of a layer cover a row, their values are texts with commas between."
-        "\n\nIntersection: the rows with a and b. Identity: those with a. Union: all. Overlaps within a layer: those with several numbers."
+        "All points that just the same features cover are one row. The field a has the numbers of "
+        "the first layer's features that cover it, b those of the second one's, and so on, with "
+        "commas between; area is its area. The fields that are kept are named a_FIELD, b_FIELD; "
+        "where several features of a layer cover a row, their values are texts with commas "
+        "between."
+        "\n\nIntersection: the rows with a and b. Identity: those with a. Union: all. Overlaps "
+        "within a layer: those with several numbers."
     )
 
     def add_inputs(self) -> None:
@@ -28,7 +31,11 @@ class Faces(VerbAlgorithm):
         self.add_fields(OVERLAY_FIELDS, "Fields of the second layer to keep", OVERLAY)
         told = "Further layers (c, d, ..)"
         self.addParameter(QgsProcessingParameterMultipleLayers(LAYERS, told, QgsProcessing.TypeVectorPolygon, optional=True))
-        self.addParameter(QgsProcessingParameterBoolean(ALL_FIELDS, "Keep all fields of further layers", defaultValue=False))
+        self.addParameter(
+            QgsProcessingParameterBoolean(
+                ALL_FIELDS, "Keep all fields of further layers", defaultValue=False
+            )
+        )
         self.add_parts()
 
     def words(self, call: Call) -> list[str]:

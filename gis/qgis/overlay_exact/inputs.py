@@ -1,7 +1,8 @@
-"""Layers as QGIS shows them, as files that the command reads: each is a GeoPackage in a folder that goes at the end.
+"""Layers as QGIS shows them, as files that the command reads: each is a GeoPackage in a folder that
+goes at the end.
 
-So a layer is what the user sees, wherever it is kept: with its filter, selection, edits that aren't saved, joined fields and the
-reference system that was set in QGIS. Features keep their numbers.
+So a layer is what the user sees, wherever it is kept: with its filter, selection, edits that aren't
+saved, joined fields and the reference system that was set in QGIS. Features keep their numbers.
 """
 
 from __future__ import annotations
@@ -35,7 +36,8 @@ LONGEST = 60
 
 
 class Handed(NamedTuple):
-    """A layer that was handed over: what the command calls it, its file's name in the folder, and the fields that it has there."""
+    """A layer that was handed over: what the command calls it, its file's name in the folder, and
+    the fields that it has there."""
 
     letter: str
     name: str
@@ -43,7 +45,8 @@ class Handed(NamedTuple):
 
 
 class Inputs:
-    """The layers that are handed over, each in a folder of its letter: a, b and so on, as the command calls them."""
+    """The layers that are handed over, each in a folder of its letter: a, b and so on, as the
+    command calls them."""
 
     def __init__(self, folder: str, context: QgsProcessingContext, feedback: QgsProcessingFeedback):
         self.folder = folder
@@ -97,7 +100,10 @@ def place_of(field: str, source: QgsProcessingFeatureSource) -> int:
     """Which field of a source it is."""
     place: int = source.fields().lookupField(field)
     if place < 0:
-        raise QgsProcessingException(f"{source.sourceName()}: has no field {field}, but {', '.join(source.fields().names()) or 'none'}")
+        raise QgsProcessingException(
+            f"{source.sourceName()}: has no field {field}, but"
+            f" {', '.join(source.fields().names()) or 'none'}"
+        )
     return place
 
 
@@ -108,7 +114,8 @@ def words_of(layers: Sequence[Handed]) -> list[str]:
 
 
 def keep(letter: str) -> str:
-    """The option for the fields of a layer that are kept, which the first two have one of their own for."""
+    """The option for the fields of a layer that are kept, which the first two have one of their own
+    for."""
     return f"--keep-{letter}=" if letter in "ab" else f"--keep={letter}:"
 
 

@@ -23,10 +23,10 @@ class Overlay(VerbAlgorithm):
     TAGS = ("intersection", "union", "difference", "clip", "erase")
     HELP = (
         "A set operation on two polygon layers: the polygons of the result, with their areas."
-        "\n\nWhere fields are kept, the result is the rows of the algorithm Faces that the operation has, with the fields as a_FIELD and "
-        "b_FIELD."
-        "\n\nA layer is all that its features cover. Where no fields are kept, it may be read by parity instead, so that where two of its "
-        "features overlap is outside."
+        "\n\nWhere fields are kept, the result is the rows of the algorithm Faces that the "
+        "operation has, with the fields as a_FIELD and b_FIELD."
+        "\n\nA layer is all that its features cover. Where no fields are kept, it may be read by "
+        "parity instead, so that where two of its features overlap is outside."
     )
 
     def add_inputs(self) -> None:
@@ -35,7 +35,11 @@ class Overlay(VerbAlgorithm):
         self.add_fields(INPUT_FIELDS, "Fields of the first layer to keep", INPUT)
         self.add_layer(OVERLAY, "Second layer")
         self.add_fields(OVERLAY_FIELDS, "Fields of the second layer to keep", OVERLAY)
-        self.addParameter(QgsProcessingParameterBoolean(COVERED, "Overlaps within a layer don't cancel", defaultValue=True))
+        self.addParameter(
+            QgsProcessingParameterBoolean(
+                COVERED, "Overlaps within a layer don't cancel", defaultValue=True
+            )
+        )
 
     def words(self, call: Call) -> list[str]:
         layers = [call.hand(INPUT, INPUT_FIELDS), call.hand(OVERLAY, OVERLAY_FIELDS)]

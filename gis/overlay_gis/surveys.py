@@ -1,0 +1,63 @@
+"""The pass over each layer that a verb begins with: what all of them tell together, and what is
+warned of or refused."""
+
+from __future__ import annotations
+
+from functools import reduce
+from typing import Sequence
+
+from osgeo import ogr
+
+from .faults import Refusal
+from .layers import Box, Kind, Source, Survey
+from .messages import warn
+
+# How many feature numbers a warning names.
+NAMED = 5
+
+
+def names_of(sources: Sequence[Source]) -> str:
+    return " and ".join(source.name for source in sources)
+
+
+def numbers(ids: Sequence[int]) -> str:
+    """feature 3, or features 3, 7, 8, .."""
+    told = ", ".join(map(str, ids[:NAMED])) + (", .." if len(ids) > NAMED else "")
+    return f"feature {told}" if len(ids) == 1 else f"features {told}"
+
+
+def box_of(sources: Sequence[Source], surveys: Sequence[Survey]) -> Box | None:
+    """The box of all layers, where one has a polygon."""
+    boxes = [seen.box(source.name) for source, seen in zip(sources, surveys)]
+    there = [box for box in boxes if box]
+    return reduce(Box.joined, there) if there else None
+
+
+def surveyed(source: Source) -> Survey:
+    """A pass over a layer that warns of what is left out, and refuses what is no polygon or no
+    place."""
+    seen = source.survey()
+    unbound, strange, bare = (seen.of(kind) for kind in (Kind.UNBOUND, Kind.STRANGE, Kind.BARE))
+    if unbound:
+        raise Refusal(
+            source.name,
+            (
+                f"feature {unbound[0]} has a coordinate that is no finite number: mend or remove"
+                " the feature"
+            ),
+        )
+    if strange:
+        raise Refusal(
+            source.name,
+            (
+                f"{numbers(strange)} is no polygon but {seen.names[0]}; overlay-gis check lists all"
+                " such"
+            ),
+        )
+    if not seen.features:
+        warn(source.name, "the layer has no features")
+    elif bare:
+        warn(source.name, f"no geometry, left out: {numbers(bare)}")
+    if ogr.GT_HasZ(source.layer.GetGeomType()):
+        warn(source.name, "has Z coordinates, which are left out")
+    return seen
