@@ -2,6 +2,7 @@
 use Rattle.std.proofs.Common.{◌≡◌, ◌⊎◌, inl, inr, ℕ, zero, suc, ◌+◌, ◌*◌, ◌/◌, ◌^◌, ◌<◌, List, [], ◌∷◌, ◌++◌, Bool, true, false, refl, sym, ap, ◌∙◌, arith, ⊎_elim}
 use Rattle.std.specs.List.{All}
 use Rattle.std.specs.Prelude.{◌||◌, ◌==◌}
+use Rattle.std.proofs.lemmas.Bool.{eqb-true}
 use Rattle.std.proofs.lemmas.List.Kept.{AllPairs-filter}
 use Rattle.geom.proofs.Lists.{In, contains_in, in_contains}
 use Rattle.geom.proofs.ListOrder.{same_ascending}
@@ -92,6 +93,32 @@ module _ (level p : ℕ) (low_s high_s low_t high_t low_r high_r : List ℕ)
 
   pub exchange_both : IsExchange (low_s ++ high_s) (low_t ++ high_t) (low_r ++ high_r)
   exchange_both f = has-append f low_r high_r ∙ both_ways f ∙ ap (λ (t : Bool). differ t (has f low_t || has f high_t)) (sym (has-append f low_s high_s)) ∙ ap (λ (t : Bool). differ (has f (low_s ++ high_s)) t) (sym (has-append f low_t high_t))
+
+-- ---- one of two features
+module _ (f g : ℕ) (apart : f < g) where
+  not_both : (x : ℕ) → (x == f) ≡ true → (x == g) ≡ true → ⊥
+  not_both x h k = two (eqb-true x f h) (eqb-true x g k)
+    where
+      two : x ≡ f → x ≡ g → ⊥
+      two a b = omega (arith, apart, a, b)
+
+  other_is : (a b : Bool) → (a ≡ true → b ≡ true → ⊥) → b || false ≡ differ (a || false) (a || (b || false))
+  other_is true true n = absurd (n refl refl)
+  other_is true false n = refl
+  other_is false true n = refl
+  other_is false false n = refl
+
+  first_is : (a b : Bool) → (a ≡ true → b ≡ true → ⊥) → a || false ≡ differ (b || false) (a || (b || false))
+  first_is true true n = absurd (n refl refl)
+  first_is true false n = refl
+  first_is false true n = refl
+  first_is false false n = refl
+
+  pub exchange_first : IsExchange (f ∷ []) (f ∷ g ∷ []) (g ∷ [])
+  exchange_first x = other_is (x == f) (x == g) (not_both x)
+
+  pub exchange_second : IsExchange (g ∷ []) (f ∷ g ∷ []) (f ∷ [])
+  exchange_second x = first_is (x == f) (x == g) (not_both x)
 
 -- ---- the definition's word
 less_itself : (n : ℕ) → n < n → ⊥

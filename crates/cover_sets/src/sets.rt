@@ -5,7 +5,7 @@
 //! 1. A list of features becomes a set by halves (`of`).
 //! 2. What lies beyond an edge is found part by part, by halves of the list of its features; parts that don't change are shared (`beyond`).
 
-ghost use Rattle.std.specs.Prelude.{◌≡◌, ◌≢◌, ◌+◌, ◌*◌, ◌/◌, ◌^◌, ◌<◌, ◌≤◌, ◌++◌, ◌∷◌, ℕ, true, false, List, [], All, AllPairs, Contains, IfOk, MatchOption, OnOk, length};
+ghost use Rattle.std.specs.Prelude.{◌≡◌, ◌≢◌, ◌+◌, ◌*◌, ◌/◌, ◌^◌, ◌<◌, ◌≤◌, ◌++◌, ◌∷◌, ℕ, true, false, List, [], All, AllPairs, Contains, IfOk, IfSome, MatchOption, OnOk, length};
 ghost use Rattle.cover_sets.specs.Ends.{IsGreatest, IsLeast};
 ghost use Rattle.cover_sets.specs.Sets.{AreSets, IsBeyond, IsListed, IsNumber, Keeps, set_of};
 ghost use Rattle.cover_sets.specs.Blocks.{AreInBlock, InBlock, IsInBlock, Splits};
@@ -311,6 +311,24 @@ impl<A: Allocator + Copy> Sets<A> {
         features.len() == 1 && set == ALONE + features[0]
     }
 
+    /// The other one of two features, where the set is that of one of them alone.
+    fn other_of(set: u32, features: &[u32]) -> Option<u32>
+        requires ascending { AllPairs (λ f g. f < g) features.now }
+        requires below { All (λ f. f < 2147483647) features.now }
+        ensures { IfSome result (λ other. (sets : List (List ℕ)) → IsExchanged sets set features.now sets other) }
+    {
+        if features.len() != 2 {
+            return None;
+        }
+        if set == ALONE + features[0] {
+            return Some(ALONE + features[1]);
+        }
+        if set == ALONE + features[1] {
+            return Some(ALONE + features[0]);
+        }
+        None
+    }
+
     /// The features either of the set or of the list, and not of both, where all agree above `most` bits.
     fn exchanged(&mut self, set: u32, features: &[u32], most: u32) -> Result<u32, NoMemory>
         requires set { IsNumber self.old set }
@@ -332,6 +350,10 @@ impl<A: Allocator + Copy> Sets<A> {
         if Sets::<A>::is_alone(set, features) {
             let _trees = &self.trees;
             return Ok(EMPTY);
+        }
+        if let Some(other) = Sets::<A>::other_of(set, features) {
+            let _trees = &self.trees;
+            return Ok(other);
         }
         let level = self.shared_levels(set, features, most) - 1;
         let (low, high) = self.parts(set, level);

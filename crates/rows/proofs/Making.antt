@@ -168,6 +168,9 @@ all_ready count es sets edges row_sets h S E G = record {
       });
 }
 
+pub numbers_are : (sets : List (List ℕ)) (edges : List RowEdge) (row_sets : List RowSet) → All (IsBound sets edges) row_sets → All (λ r. IsNumber sets r.set) row_sets
+numbers_are sets edges row_sets h = all_in (λ (r : RowSet). IsNumber sets r.set) row_sets (λ r i. (All-contains (IsBound sets edges) row_sets r h (in_contains row_sets r i)).number)
+
 -- ---- how many features
 module _ (count : ℕ) (es : List Bordered) (sets : List (List ℕ)) (edges : List RowEdge) (row_sets : List RowSet) (S : AreSets sets) (E : AreEdgesOfRows count es sets edges) (G : AreRowSets edges row_sets) (rows : List law.Row) (R : AreRows count es rows) where
   set_at : RowSet → List ℕ
@@ -232,12 +235,18 @@ module _ (count : ℕ) (es : List Bordered) (sets : List (List ℕ)) (edges : Li
       sum_of_map f (x ∷ xs) = sum_by-cons (λ y. length (f y)) x xs ∙ ap (λ (n : ℕ). length (f x) + n) (sum_of_map f xs) ∙ sym (sum_by-cons length (f x) (map f xs))
 
 -- ---- all rows
-module _ {M : Type 0} (count : ℕ) (es : List Bordered) (h : AreBorders es) (sets : List (List ℕ)) (edges : List RowEdge) (row_sets : List RowSet) (S : AreSets sets) (E : AreEdgesOfRows count es sets edges) (G : AreRowSets edges row_sets) (made sorted : List (Row M)) (zip : AllZip (IsRowOf sets edges) row_sets made) (moved : IsPermutation made sorted) (up : AllPairs (λ (r s : Row M). ¬ (IsSetBefore s.features.items r.features.items)) sorted) where
+module _ {M : Type 0} (count : ℕ) (es : List Bordered) (h : AreBorders es) (sets : List (List ℕ)) (edges : List RowEdge) (row_sets ordered : List RowSet) (S : AreSets sets) (E : AreEdgesOfRows count es sets edges) (G : AreRowSets edges row_sets) (again : IsPermutation row_sets ordered) (made sorted : List (Row M)) (zip : AllZip (IsRowOf sets edges) ordered made) (moved : IsPermutation made sorted) (up : AllPairs (λ (r s : Row M). ¬ (IsSetBefore s.features.items r.features.items)) sorted) where
   abbrev Made : RowSet → Row M → Type 0
   Made = IsRowOf sets edges
 
   set_in : Row M → List ℕ
   set_in r = r.features.items
+
+  from_ordered : (r : RowSet) → In r ordered → In r row_sets
+  from_ordered r i = contains_in row_sets r (Contains-permutation ordered row_sets r (IsPermutation-sym row_sets ordered again) (in_contains ordered r i))
+
+  to_ordered : (r : RowSet) → In r row_sets → In r ordered
+  to_ordered r i = contains_in ordered r (Contains-permutation row_sets ordered r again (in_contains row_sets r i))
 
   is_row : (r : RowSet) (m : Row M) → In r row_sets → Made r m → IsRow count es (row_of m)
   is_row r m i o =
@@ -256,8 +265,8 @@ module _ {M : Type 0} (count : ℕ) (es : List Bordered) (h : AreBorders es) (se
   only row c =
       let m = in_map (row_of {M = M}) sorted row (contains_in (map (row_of {M = M}) sorted) row c) in
       let there = contains_in made m.0 (Contains-permutation sorted made m.0 (IsPermutation-sym made sorted moved) (in_contains sorted m.0 m.1)) in
-      let o = zip_of Made row_sets made zip m.0 there in
-      subst (λ (x : law.Row). IsRow count es x) m.2 (is_row o.0 m.0 o.1 o.2)
+      let o = zip_of Made ordered made zip m.0 there in
+      subst (λ (x : law.Row). IsRow count es x) m.2 (is_row o.0 m.0 (from_ordered o.0 o.1) o.2)
 
   each : (set : List ℕ) (d : DirectedEdge) → set ≢ [] → IsRowEdge count es set d → (row : law.Row) × Contains (map (row_of {M = M}) sorted) row × (row.set ≡ set)
   each set d n k =
@@ -270,16 +279,18 @@ module _ {M : Type 0} (count : ℕ) (es : List Bordered) (h : AreBorders es) (se
           (row_of m.0, in_contains (map (row_of {M = M}) sorted) (row_of m.0) (map_in (row_of {M = M}) sorted m.0 there), m.2.set_is ∙ h)
 
       by_set : (n : ℕ) → set_of sets n ≡ set → (r : RowSet) × In r row_sets × In (row_edge n d) (run_of edges r) → (row : law.Row) × Contains (map (row_of {M = M}) sorted) row × (row.set ≡ set)
-      by_set n h q = by_row q.0 (ap (set_of sets) (sym (run_set count es sets edges row_sets S E G q.0 q.1 (row_edge n d) q.2)) ∙ h) (zip_to Made row_sets made zip q.0 q.1)
+      by_set n h q = by_row q.0 (ap (set_of sets) (sym (run_set count es sets edges row_sets S E G q.0 q.1 (row_edge n d) q.2)) ∙ h) (zip_to Made ordered made zip q.0 (to_ordered q.0 q.1))
+
+  sets_apart : AllPairs (λ (r s : RowSet). r.set ≢ s.set) ordered
+  sets_apart = all_pairs_permutation (λ (r s : RowSet). r.set ≢ s.set) (λ r s n e. n (sym e)) row_sets ordered again
+      (λ i j d a b e. let l = G.ascending i j d a b in absurd (omega (arith, l, e)))
 
   -- rows of different sets have different features
   apart : AllPairs (λ (r s : Row M). r.features.items ≢ s.features.items) sorted
   apart = all_pairs_permutation (λ (r s : Row M). r.features.items ≢ s.features.items) (λ r s n e. n (sym e)) made sorted moved
-      (zip_pairs Made (λ (r s : RowSet). r.set < s.set) (λ (r s : Row M). r.features.items ≢ s.features.items) row_sets made
-      (λ r s m n i j l a b e.
-      let same = S.apart r.set s.set (row_number count es sets edges row_sets S E G r i) (row_number count es sets edges row_sets S E G s j) (sym a.set_is ∙ e ∙ b.set_is) in
-      absurd (omega (arith, l, same)))
-      zip G.ascending)
+      (zip_pairs Made (λ (r s : RowSet). r.set ≢ s.set) (λ (r s : Row M). r.features.items ≢ s.features.items) ordered made
+      (λ r s m n i j l a b e. l (S.apart r.set s.set (row_number count es sets edges row_sets S E G r (from_ordered r i)) (row_number count es sets edges row_sets S E G s (from_ordered s j)) (sym a.set_is ∙ e ∙ b.set_is)))
+      zip sets_apart)
 
   pub are_rows : AreRows count es (map (row_of {M = M}) sorted)
   are_rows = record {

@@ -49,7 +49,7 @@ fn sides_of<A: Allocator>(
     requires right { length right.now ≡ length borders.now }
     ensures { IfOk result (λ list. list.items ≡ sides borders.now left.now right.now) }
 {
-    let mut list = Vec::new(alloc);
+    let mut list = Vec::with_capacity(alloc, borders.len().saturating_mul(2))?;
     for number in 0..borders.len() {
         let edge = borders[number].edge;
         let along = DirectedEdge {

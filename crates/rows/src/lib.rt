@@ -4,13 +4,15 @@
 //! empty one.
 //!
 //! 1. Each edge gives a directed edge for the set on its left, and one back for the set on its right (`edges`).
-//! 2. Those of one set are those of one row (`runs`, `grouped`).
+//! 2. Those of one set are those of one row (`runs`, `grouped`). The sets are brought nearly in the order of their features before the rows
+//!    are made, so that hardly a row has to be moved (`ends`).
 //! 3. A row's polygons and its area are those of its directed edges, for parts of the rows at once (`parts`, `area`).
 //! 4. Rows stand in the order of their sets (`parts`).
 #![tactic(auto)]
 
 mod area;
 mod edges;
+mod ends;
 mod grouped;
 mod parts;
 mod runs;

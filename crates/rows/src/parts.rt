@@ -11,6 +11,7 @@ ghost use Rattle.rows.specs.RowSets.{edges_at};
 
 use crate::area::twice_area;
 use crate::edges::RowEdge;
+use crate::ends::nearly_in_order;
 use crate::grouped::RowEdges;
 use crate::runs::RowSet;
 use cover_sets::Sets;
@@ -140,11 +141,12 @@ pub fn rows_of<A: Allocator + Copy>(
     ensures rows { (count : ℕ) (borders : List Bordered) → AreBorders borders → AreEdgesOfRows count borders sets.now row_edges.now.edges.items → IfOk result (λ rows. AreRows count borders (map row_of rows.items)) }
     ensures areas { IfOk result (λ rows. All (λ r. r.twice_area ≡ row_area (row_of r)) rows.items) }
 {
+    let row_sets = nearly_in_order(alloc, sets, &row_edges.sets)?;
     let all = Part {
         from: 0,
-        past: row_edges.sets.len(),
+        past: row_sets.len(),
     };
-    let rows = rows_of_part(alloc, sets, &row_edges.edges, &row_edges.sets, all)?;
+    let rows = rows_of_part(alloc, sets, &row_edges.edges, &row_sets, all)?;
     Ok(in_order(rows))
 }
 
@@ -160,6 +162,7 @@ pub fn rows_in_parts<R: Threads + Sync, A: Allocator + Copy + Send + Sync>(
     ensures rows { (count : ℕ) (borders : List Bordered) → AreBorders borders → AreEdgesOfRows count borders sets.now row_edges.now.edges.items → IfOk result (λ rows. AreRows count borders (map row_of rows.items)) }
     ensures areas { IfOk result (λ rows. All (λ r. r.twice_area ≡ row_area (row_of r)) rows.items) }
 {
-    let rows = made_in_parts(rt, alloc, parts, sets, &row_edges.edges, &row_edges.sets)?;
+    let row_sets = nearly_in_order(alloc, sets, &row_edges.sets)?;
+    let rows = made_in_parts(rt, alloc, parts, sets, &row_edges.edges, &row_sets)?;
     Ok(in_order(rows))
 }

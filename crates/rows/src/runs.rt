@@ -13,7 +13,7 @@ use geom::NoMemory;
 use std::alloc::Allocator;
 
 /// The number of a cover set, and from where to before where the directed edges of its row stand.
-#[derive(Clone, Copy, Debug)]
+#[derive(Clone, Copy, Debug, PartialEq, Eq, PartialOrd, Ord)]
 pub struct RowSet {
     pub set: u32,
     pub from: usize,
