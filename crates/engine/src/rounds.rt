@@ -138,7 +138,7 @@ fn by_cells<
 {
     let made = cell_pieces::<L, T, A, G, R>(rt, alloc, blank, cells, workers, segments, gate)?;
     let AllPieces { pieces, remade } = made;
-    let parts = worth::parts(workers, record_count(&pieces), worth::RECORDS);
+    let parts = worth::parts(workers, record_count(&pieces, segments), worth::RECORDS);
     let rounded = gather_made_in_parts(rt, alloc, parts, pieces, remade, cells, grid, segments)?;
     Ok(settled(rounded))
 }
@@ -207,7 +207,7 @@ fn features_by_cells<
 {
     let made = cell_pieces::<L, T, A, G, R>(rt, alloc, blank, cells, workers, segments, gate)?;
     let AllPieces { pieces, remade } = made;
-    let parts = worth::parts(workers, record_count(&pieces), worth::RECORDS);
+    let parts = worth::parts(workers, record_count(&pieces, segments), worth::RECORDS);
     gather_borders_in_parts(
         rt, alloc, parts, pieces, remade, cells, grid, segments, owners,
     )
@@ -260,9 +260,9 @@ fn cell_pieces<
     )
 }
 
-/// How many records pieces have together.
-fn record_count<T: Tiled, A: Allocator>(pieces: &[TilePiece<T, A>]) -> usize {
-    let mut count = 0usize;
+/// How many records the pieces of segments have together, with those of both ends of each segment.
+fn record_count<T: Tiled, A: Allocator>(pieces: &[TilePiece<T, A>], segments: &[Seg]) -> usize {
+    let mut count = segments.len().saturating_mul(2);
     for piece in pieces {
         count = count.saturating_add(piece.records.len());
     }

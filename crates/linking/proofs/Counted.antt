@@ -20,11 +20,13 @@ use Rattle.hot_pixel.proofs.HotLaws.{hot_meets}
 use Rattle.hot_pixel.proofs.ListLaws.{head_pair, here as first, in_cons, in_push, in_take_more, none_in, pairs_cons, tail_pairs}
 use Rattle.routing.specs.declared.record.Record.{Record}
 use Rattle.routing.specs.Pieces.{IsPartOf, IsPieceOf, IsRecord}
-use Rattle.linking.specs.Gathered.{AreTileNumbers, HasPartsBelow, HasTilesBelow}
+use Rattle.linking.specs.Ends.{ends_from}
+use Rattle.linking.specs.Gathered.{AreTileNumbers, HasInnerBelow, HasPartsBelow}
 use Rattle.linking.specs.Links.{AreRecords, HasRecords}
 use Rattle.linking.specs.Numbers.{AreNumbersOf, ArePaired, AreTileCounts, IsCountOf}
 use Rattle.linking.specs.declared.rounded.TileNumbers.{TileNumbers}
-use Rattle.linking.proofs.Gathering.{AreCovered, below_none, owner_below, tiles_have}
+use Rattle.linking.proofs.EndLaws.{tiles_and_ends}
+use Rattle.linking.proofs.Gathering.{AreCovered, owner_below}
 use Rattle.linking.proofs.Ordering.{piece_of}
 use Rattle.linking.proofs.Parts.{IsPart, distinct_from}
 
@@ -117,7 +119,7 @@ pub parts_none : (g : Tiling) (segments : List Seg) → HasPartsBelow g segments
 parts_none g segments = record {
   once = λ i j d a b. absurd (omega (arith, b));
   hot = λ p. (λ h. absurd (none_in p h), λ h. absurd (let l = h.1.1 in omega arith));
-  has = below_none g segments;
+  has = record { same = λ r. (λ h. absurd (none_in r h), λ h. absurd (let l = h.1.1 in omega arith)) };
 }
 
 pub parts_more : (g : Tiling) (segments : List Seg) (k : ℕ) (pixels more_pixels : List Pt) (records more_records : List Record) → HasPartsBelow g segments k pixels records → IsPartOf (Owns g k) segments more_pixels more_records
@@ -139,7 +141,7 @@ parts_more g segments k pixels more_pixels records more_records h p = record { o
         (λ m. Contains-append_right pixels more_pixels c ((p.are_hot.exact c).1 (is, (let e : j ≡ k = omega arith in subst (λ (n : ℕ). Owns g n c) e o))))
         (cases_lt j k)
 
-    has : HasTilesBelow g segments (k + 1) (records ++ more_records)
+    has : HasInnerBelow g segments (k + 1) (records ++ more_records)
     has = record {
       same = λ r. (
         (λ c. ⊎_elim (λ m. let n = (h.has.same r).0 m in (n.0, (n.1.0, weak n.1.0 n.1.1, n.1.2))) (λ m. let n = (p.exact r).0 m in (n.0, (k, last, n.1))) (Contains-append_cases records more_records r c)),
@@ -219,12 +221,13 @@ module _ (f g : Tiling) (segments : List Seg) (pixels : List Pt) (found : List R
   pub pixels_once : AllPairs (λ p q. p ≢ q) pixels
   pixels_once = ∥∥₁_elim all (hlevel props) (λ h. h.once)
 
-  pub known_records : (r : Record) → Contains found r → ∥ IsRecord segments r ∥₁
-  known_records r m = ∥∥₁_map all (λ h. ((h.has.same r).0 m).0)
+  -- with those of both ends
+  pub known_records : (r : Record) → Contains (found ++ ends_from 0 segments) r → ∥ IsRecord segments r ∥₁
+  known_records r m = ∥∥₁_map all (λ h. ((tiles_and_ends f segments found cells h.has).exact r).0 m)
 
-  module _ (records : List Record) (order : HasRecords segments found → AreRecords segments records) where
+  module _ (records : List Record) (order : HasRecords segments (found ++ ends_from 0 segments) → AreRecords segments records) where
     records_are : HasPartsBelow f segments (tile_count f) pixels found → AreRecords segments records
-    records_are h = order (tiles_have f segments found cells h.has)
+    records_are h = order (tiles_and_ends f segments found cells h.has)
 
     pub all_records : ∥ AreRecords segments records ∥₁
     all_records = ∥∥₁_map all records_are

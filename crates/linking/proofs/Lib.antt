@@ -5,6 +5,7 @@ pub mod LinkParts
 pub mod LinkedLaws
 pub mod RecordParts
 pub mod Gathering
+pub mod EndLaws
 pub mod Boxes
 pub mod Near
 pub mod Covering

@@ -7,7 +7,7 @@ use Rattle.geom.specs.Hot.{IsHot}
 use Rattle.geom.specs.Box.{IsInBox, greatest_corner, least_corner}
 use Rattle.grid.specs.Tiles.{Tiling, Owns, HasTile}
 use Rattle.routing.specs.declared.record.Record.{Record}
-use Rattle.routing.specs.Pieces.{IsRecord, IsPieceOf}
+use Rattle.routing.specs.Pieces.{IsInnerRecord, IsRecord, IsPieceOf}
 use Rattle.linking.specs.declared.rounded.TileNumbers.{TileNumbers}
 
 -- ---- what a caller hands in
@@ -46,8 +46,12 @@ pub record AreTileNumbers (g : Tiling) (segments : List Seg) (limit : ℕ) (tile
 pub record HasTilesBelow (g : Tiling) (segments : List Seg) (k : ℕ) (list : List Record) : Type 0 where
   pub same : (r : Record) → Contains list r ↔ (IsRecord segments r × ((j : ℕ) × (j < k) × Owns g j r.pixel))
 
--- the hot pixels of the tiles below k, each once, and their records
+-- the records of the tiles below k whose pixels are no ends of their segments
+pub record HasInnerBelow (g : Tiling) (segments : List Seg) (k : ℕ) (list : List Record) : Type 0 where
+  pub same : (r : Record) → Contains list r ↔ (IsInnerRecord segments r × ((j : ℕ) × (j < k) × Owns g j r.pixel))
+
+-- the hot pixels of the tiles below k, each once, and the records of those that segments meet between their ends
 pub record HasPartsBelow (g : Tiling) (segments : List Seg) (k : ℕ) (pixels : List Pt) (records : List Record) : Type 0 where
   pub once : AllPairs (λ p q. p ≢ q) pixels
   pub hot : (p : Pt) → Contains pixels p ↔ (IsHot segments p × ((j : ℕ) × (j < k) × Owns g j p))
-  pub has : HasTilesBelow g segments k records
+  pub has : HasInnerBelow g segments k records

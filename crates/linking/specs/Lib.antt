@@ -4,3 +4,4 @@ pub mod Numbers
 pub mod Orders
 pub mod Spans
 pub mod Shares
+pub mod Ends

@@ -1,7 +1,8 @@
 //! Rounded edges: the pieces of all cells in, the edges of the routes out, with their counts in both layers, or with the features whose
 //! border they are.
 //!
-//! 1. Records are shared by spans of segments (`span`, `shares`), sorted, and neighbours are linked (`linked`).
+//! 1. Records are shared by spans of segments (`span`, `shares`) and sorted, both ends of each segment are put in (`ends`), and neighbours
+//!    are linked (`linked`).
 //! 2. Links are shared by spans of columns, sorted and counted (`counting`), or those of a feature cancelled by twos (`bordering`).
 //! 3. The hot pixels and records of each tile are counted (`numbers`).
 //!
@@ -11,6 +12,7 @@
 
 mod bordering;
 mod counting;
+mod ends;
 mod keyed;
 mod link;
 mod linked;

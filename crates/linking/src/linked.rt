@@ -1,22 +1,26 @@
 //! What hands find in their shares of the records: links, and how many records each tile has.
 //!
-//! 1. Each hand takes the records of its share from all pieces, sorts them, and puts each once (`ordered_in_parts`).
+//! 1. Each hand takes the records of its share from all pieces, sorts them, and puts in those of both ends of each segment, each once
+//!    (`ordered_in_parts`).
 //! 2. Each hand counts the records of its share by their tiles, and links neighbours (`link_share`).
 //! 3. The lists of links stand in the order of the shares, and the counts of each tile are added (`link_in_parts`).
 
-ghost use Rattle.std.specs.Prelude.{◌≡◌, ◌<◌, ◌^◌, AllPairs, IfOk, Some, flat_map, length, map, slice_get};
+ghost use Rattle.std.specs.Prelude.{◌≡◌, ◌<◌, ◌^◌, ◌++◌, All, AllPairs, IfOk, Some, flat_map, length, map, slice_get};
+ghost use Rattle.geom.specs.Limit.{AreInLimit};
+ghost use Rattle.linking.specs.Ends.{ends_from};
 ghost use Rattle.linking.specs.Orders.{AreSortedOnce};
 ghost use Rattle.linking.specs.Shares.{AreKeysBelow, AreLinked, AreOrdered, MayLink, segment_of};
 ghost use Rattle.linking.specs.Spans.{within};
 
+use crate::ends::with_ends;
 use crate::keyed::sorted;
 use crate::link::MakesLinks;
 use crate::neighbours::neighbour_links;
 use crate::numbers::{count_by_tile, summed};
-use crate::shares::{places_of, shares_of, taken};
+use crate::shares::{places_of, shares_of_records, taken};
 use crate::span::Share;
 use crate::tile_piece::{TilePiece, Tiled};
-use geom::NoMemory;
+use geom::{NoMemory, Seg};
 use grid::Grid;
 use hands::map_parts;
 use routing::Record;
@@ -46,7 +50,30 @@ pub(crate) fn in_order<A: Allocator + Copy>(records: Vec<Record, A>) -> Vec<Reco
     records
 }
 
-/// The records of pieces in at most so many shares, each in order.
+/// The records of a share of those of pieces and of both ends of all segments, in order, each once. More segments than a `u32` counts are
+/// refused as want of memory.
+pub(crate) fn ordered_share<T: Tiled, A: Allocator + Copy>(
+    alloc: A,
+    pieces: &[TilePiece<T, A>],
+    segments: &[Seg],
+    share: Share,
+) -> Result<Vec<Record, A>, NoMemory>
+    requires { All (λ s. AreInLimit s.a s.b) segments.now }
+    ensures { IfOk result (λ v. AreSortedOnce (within segment_of share.span (flat_map (λ p. p.records.items) pieces.now ++ ends_from 0 segments.now)) v.items) }
+{
+    if segments.len() > u32::MAX as usize {
+        return Err(NoMemory);
+    }
+    let count = segments.len() as u32;
+    let first = share.span.first_of(count);
+    let past = share.span.past_of(count);
+    let found = taken(alloc, pieces, share)?;
+    let records = in_order(found);
+    let list = with_ends(alloc, segments, first, past, &records)?;
+    Ok(list)
+}
+
+/// The records of pieces, and those of both ends of all segments, in at most so many shares, each in order.
 pub(crate) fn ordered_in_parts<
     T: Tiled + Sync,
     A: Allocator + Copy + Send + Sync,
@@ -56,20 +83,20 @@ pub(crate) fn ordered_in_parts<
     alloc: A,
     parts: usize,
     pieces: &[TilePiece<T, A>],
+    segments: &[Seg],
 ) -> Result<Vec<Vec<Record, A>, A>, NoMemory>
-    ensures { IfOk result (λ v. AreOrdered (λ s. s.items) (flat_map (λ p. p.records.items) pieces.now) v.items) }
+    requires { All (λ s. AreInLimit s.a s.b) segments.now }
+    ensures { IfOk result (λ v. AreOrdered (λ s. s.items) (flat_map (λ p. p.records.items) pieces.now ++ ends_from 0 segments.now) v.items) }
 {
-    let shares = shares_of::<Record, _, _>(alloc, parts, pieces)?;
+    let shares = shares_of_records(alloc, parts, pieces, segments.len())?;
     map_parts(
         rt,
         alloc,
         &shares,
         |share: Share| -> Result<Vec<Record, A>, NoMemory>
-            ensures { IfOk result (λ v. AreSortedOnce (within segment_of share.span (flat_map (λ p. p.records.items) pieces.entry.now)) v.items) }
-        {
-            let records = taken(alloc, pieces, share)?;
-            Ok(in_order(records))
-        },
+            requires { All (λ s. AreInLimit s.a s.b) segments.now }
+            ensures { IfOk result (λ v. AreSortedOnce (within segment_of share.span (flat_map (λ p. p.records.items) pieces.entry.now ++ ends_from 0 segments.entry.now)) v.items) }
+        { ordered_share(alloc, pieces, segments, share) },
     )
 }
 

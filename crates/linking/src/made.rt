@@ -1,6 +1,7 @@
 //! Gathering the pieces of all cells.
 
-ghost use Rattle.std.specs.Prelude.{◌≡◌, ◌<◌, ◌^◌, IfOk, flat_map, length};
+ghost use Rattle.std.specs.Prelude.{◌≡◌, ◌<◌, ◌^◌, All, IfOk, flat_map, length};
+ghost use Rattle.geom.specs.Limit.{AreInLimit};
 ghost use Rattle.geom.specs.Noded.{IsNoded};
 ghost use Rattle.geom.specs.declared.segment.Source.{Source};
 ghost use Rattle.geom.specs.Rounded.{AreRounded, HasEvenDegrees, edges_of, odd_edges};
@@ -12,11 +13,14 @@ ghost use Rattle.tile_book.specs.Books.{StandInOrder};
 
 use crate::counting::{counts, counts_in_parts, room_for};
 use crate::link::MakesLinks;
-use crate::linked::{AllLinked, Linked, in_order, link_in_parts, link_share, ordered_in_parts};
+use crate::linked::{
+    AllLinked, Linked, in_order, link_in_parts, link_share, ordered_in_parts, ordered_share,
+};
 use crate::neighbours::links;
 use crate::numbers::{count_by_tile, hot_in_parts, paired};
 use crate::rounded::{Rounded, TileNumbers};
 use crate::shares::item_count;
+use crate::span::Share;
 use crate::tile_piece::{TilePiece, Tiled};
 use geom::{Counted, NoMemory, Pt, Seg};
 use grid::Grid;
@@ -76,6 +80,7 @@ pub fn gather_made<T: Tiled, A: Allocator + Copy>(
 ) -> Result<Rounded<A>, NoMemory>
     requires cells { cells.now ≡ T.grid }
     requires segments { segments.now ≡ T.segments }
+    requires limits { All (λ s. AreInLimit s.a s.b) segments.now }
     requires covered_by_cells { HaveTiles cells.now segments.now }
     requires covered { HaveTiles grid.now segments.now }
     requires one_each { length pieces.items ≡ tile_count cells.now }
@@ -105,6 +110,7 @@ pub fn gather_made_in_parts<T: Tiled + Sync, A: Allocator + Copy + Send + Sync, 
 ) -> Result<Rounded<A>, NoMemory>
     requires cells { cells.now ≡ T.grid }
     requires segments { segments.now ≡ T.segments }
+    requires limits { All (λ s. AreInLimit s.a s.b) segments.now }
     requires covered_by_cells { HaveTiles cells.now segments.now }
     requires covered { HaveTiles grid.now segments.now }
     requires one_each { length pieces.items ≡ tile_count cells.now }
@@ -140,6 +146,7 @@ pub(crate) fn link_pieces<
 ) -> Result<LinkedPieces<L, A>, NoMemory>
     requires cells { cells.now ≡ T.grid }
     requires segments { segments.now ≡ T.segments }
+    requires limits { All (λ s. AreInLimit s.a s.b) segments.now }
     requires covered_by_cells { HaveTiles cells.now segments.now }
     requires covered { HaveTiles grid.now segments.now }
     requires one_each { length pieces.items ≡ tile_count cells.now }
@@ -148,7 +155,7 @@ pub(crate) fn link_pieces<
     ensures links { IfOk result (λ r. ∥ AreRouteLinks M.link_of segments.now makers.now (flat_map (λ l. l.items) r.links.items) ∥₁) }
     ensures tiles { IfOk result (λ r. AreTileNumbers grid.now segments.now (tile_count grid.now) r.tiles.items) }
 {
-    let shares = ordered_in_parts(rt, alloc, parts, &pieces)?;
+    let shares = ordered_in_parts(rt, alloc, parts, &pieces, segments)?;
     let pixels = pixels_of(alloc, &pieces)?;
     drop(pieces);
     let hot = hot_in_parts(rt, alloc, parts, grid, &pixels)?;
@@ -171,6 +178,7 @@ pub(crate) fn link_alone<M: MakesLinks<L>, L: Copy, T: Tiled, A: Allocator + Cop
 ) -> Result<LinkedAlone<L, A>, NoMemory>
     requires cells { cells.now ≡ T.grid }
     requires segments { segments.now ≡ T.segments }
+    requires limits { All (λ s. AreInLimit s.a s.b) segments.now }
     requires covered_by_cells { HaveTiles cells.now segments.now }
     requires covered { HaveTiles grid.now segments.now }
     requires one_each { length pieces.items ≡ tile_count cells.now }
@@ -180,8 +188,8 @@ pub(crate) fn link_alone<M: MakesLinks<L>, L: Copy, T: Tiled, A: Allocator + Cop
     ensures short { IfOk result (λ r. length r.links.items < 2 ^ 32) }
     ensures tiles { IfOk result (λ r. AreTileNumbers grid.now segments.now (tile_count grid.now) r.tiles.items) }
 {
-    let found = records_of(alloc, &pieces)?;
-    let records = in_order(found);
+    let whole = Share::whole(item_count(&pieces));
+    let records = ordered_share(alloc, &pieces, segments, whole)?;
     let pixels = pixels_of(alloc, &pieces)?;
     drop(pieces);
     let hot = count_by_tile(alloc, grid, &pixels)?;
@@ -214,20 +222,6 @@ fn pixels_of<T: Tiled, A: Allocator>(
         pixels.extend_from_slice(&piece.pixels)?;
     }
     Ok(pixels)
-}
-
-/// The records of pieces, in their order.
-fn records_of<T: Tiled, A: Allocator>(
-    alloc: A,
-    pieces: &[TilePiece<T, A>],
-) -> Result<Vec<Record, A>, NoMemory>
-    ensures { IfOk result (λ v. v.items ≡ flat_map (λ p. p.records.items) pieces.now) }
-{
-    let mut records = Vec::with_capacity(alloc, item_count(pieces))?;
-    for piece in pieces {
-        records.extend_from_slice(&piece.records)?;
-    }
-    Ok(records)
 }
 
 /// What was gathered, by the rounded edges of segments.

@@ -24,7 +24,8 @@ impl Tiled for Brand {
     ghost segments = { [] };
 }
 
-/// What the routes of all segments have in one cell: its number, its hot pixels, and the records of those that segments meet.
+/// What the routes of all segments have in one cell: its number, its hot pixels, and the records of those that segments meet
+/// between their ends.
 #[derive(Drop)]
 pub struct TilePiece<T: Tiled, A: Allocator> {
     pub number: u32,

@@ -35,8 +35,8 @@ use Rattle.hot_pixel.proofs.ListLaws.{none_in, in_push, in_take_more}
 use Rattle.routing.specs.declared.by_line.OnLine.{OnLine}
 use Rattle.routing.specs.declared.record.Record.{Record}
 use Rattle.routing.specs.declared.record.Candidate.{Candidate}
-use Rattle.routing.specs.Found.{IsRecordOf, HasRecords}
-use Rattle.routing.specs.Pieces.{candidates_of}
+use Rattle.routing.specs.Found.{IsRecordOf, HasInnerRecords}
+use Rattle.routing.specs.Pieces.{candidates_of, IsEnd, IsEndRecord}
 use Rattle.routing.specs.Steps.{steps_to}
 use Rattle.routing.specs.Cutting.{IsEndIn, IsPortion}
 use Rattle.routing.specs.Recording.{IsCutTable, IsTable, AreLinesOf, IsCopy, IsRecordAt, IsRecordAlong, IsRecordOnOne, AddsAt, AddsAlong, AddsRecordsAt, AddsRecordsInside}
@@ -47,15 +47,19 @@ pub at_none : (segments : List Seg) (table : List OnLine) (first : ℕ) (pixel :
 at_none segments table first pixel old = record { same = λ r. (λ h. inl h, λ h. ⊎_elim (λ k. k) (λ k. absurd (let a = k.0.from in let b = k.0.to in omega arith)) h) }
 
 wider : (segments : List Seg) (table : List OnLine) (first past more : ℕ) (r : Record) → past ≤ more → IsCopy segments table first past r → IsCopy segments table first more r
-wider segments table first past more r l k = record { place = k.place; from = k.from; to = (let a = k.to in omega arith); x = k.x; entry = k.entry; s = k.s; is_at = k.is_at; numbered = k.numbered; steps_are = k.steps_are }
+wider segments table first past more r l k = record { place = k.place; from = k.from; to = (let a = k.to in omega arith); x = k.x; entry = k.entry; s = k.s; is_at = k.is_at; numbered = k.numbered; steps_are = k.steps_are; inner = k.inner }
+
+-- the pixel is no end of the segment of this number
+abbrev pub IsInnerAt : List Seg → ℕ → Pt → Type 0
+IsInnerAt segments number pixel = (s : Seg) → slice_get segments number ≡ Some s → ¬ (IsEnd s pixel)
 
 -- one more place
 pub at_more : (segments : List Seg) (table : List OnLine) (first place : ℕ) (pixel : Pt) (old list : List Record) (x : OnLine) (y : Record) → first ≤ place → slice_get table place ≡ Some x → IsRecordAt segments x.number pixel y
-    → AddsAt segments table first place pixel old list → AddsAt segments table first (place + 1) pixel old (list ++ y ∷ [])
-at_more segments table first place pixel old list x y l at is h = record { same = λ r. (to r, from r) }
+    → IsInnerAt segments x.number pixel → AddsAt segments table first place pixel old list → AddsAt segments table first (place + 1) pixel old (list ++ y ∷ [])
+at_more segments table first place pixel old list x y l at is apart h = record { same = λ r. (to r, from r) }
   where
     own : IsCopy segments table first (place + 1) y
-    own = record { place = place; from = l; to = omega arith; x = x; entry = at; s = is.s; is_at = is.is_at; numbered = is.numbered; steps_are = is.steps_are ∙ ap (steps_to is.s) (sym is.pixel_is) }
+    own = record { place = place; from = l; to = omega arith; x = x; entry = at; s = is.s; is_at = is.is_at; numbered = is.numbered; steps_are = is.steps_are ∙ ap (steps_to is.s) (sym is.pixel_is); inner = λ e. apart is.s is.is_at (subst (λ (c : Pt). IsEnd is.s c) is.pixel_is e) }
 
     to : (r : Record) → Contains (list ++ y ∷ []) r → Contains old r ⊎ (IsCopy segments table first (place + 1) r × (pixel ≡ r.pixel))
     to r k = ⊎_elim
@@ -66,7 +70,7 @@ at_more segments table first place pixel old list x y l at is h = record { same 
     from : (r : Record) → Contains old r ⊎ (IsCopy segments table first (place + 1) r × (pixel ≡ r.pixel)) → Contains (list ++ y ∷ []) r
     from r (inl k) = in_push list r y ((h.same r).1 (inl k))
     from r (inr (k, p)) = ⊎_elim
-        (λ m. in_push list r y ((h.same r).1 (inr (record { place = k.place; from = k.from; to = m; x = k.x; entry = k.entry; s = k.s; is_at = k.is_at; numbered = k.numbered; steps_are = k.steps_are }, p))))
+        (λ m. in_push list r y ((h.same r).1 (inr (record { place = k.place; from = k.from; to = m; x = k.x; entry = k.entry; s = k.s; is_at = k.is_at; numbered = k.numbered; steps_are = k.steps_are; inner = k.inner }, p))))
         (λ m.
         let q : k.place ≡ place = (let a = k.to in omega arith) in
         let u : x ≡ k.x = some_same at (ap (slice_get table) (sym q) ∙ k.entry) in
@@ -80,15 +84,34 @@ at_more segments table first place pixel old list x y l at is h = record { same 
 
 -- one more place, whose record is listed already
 pub at_known : (segments : List Seg) (table : List OnLine) (first place : ℕ) (pixel : Pt) (old list : List Record) (x : OnLine) (y : Record) → first ≤ place → slice_get table place ≡ Some x → IsRecordAt segments x.number pixel y
-    → Contains list y → AddsAt segments table first place pixel old list → AddsAt segments table first (place + 1) pixel old list
-at_known segments table first place pixel old list x y l at is k h =
-    let pushed = at_more segments table first place pixel old list x y l at is h in
+    → IsInnerAt segments x.number pixel → Contains list y → AddsAt segments table first place pixel old list → AddsAt segments table first (place + 1) pixel old list
+at_known segments table first place pixel old list x y l at is apart k h =
+    let pushed = at_more segments table first place pixel old list x y l at is apart h in
     record {
       same = λ r. (
         (λ m. (pushed.same r).0 (in_push list r y m)),
         (λ m. ⊎_elim (λ n. n) (λ n. subst (λ (z : Record). Contains list z) n k) (Contains-push_cases list y r ((pushed.same r).1 m))),
       );
     }
+
+-- one more place, of a segment of which the pixel is an end
+pub at_end : (segments : List Seg) (table : List OnLine) (first place : ℕ) (pixel : Pt) (old list : List Record) (x : OnLine) (s : Seg) → slice_get table place ≡ Some x → slice_get segments x.number ≡ Some s → IsEnd s pixel
+    → AddsAt segments table first place pixel old list → AddsAt segments table first (place + 1) pixel old list
+at_end segments table first place pixel old list x s at is ends h = record { same = λ r. (to r, from r) }
+  where
+    to : (r : Record) → Contains list r → Contains old r ⊎ (IsCopy segments table first (place + 1) r × (pixel ≡ r.pixel))
+    to r k = ⊎_elim (λ n. inl n) (λ n. inr (wider segments table first place (place + 1) r (omega arith) n.0, n.1)) ((h.same r).0 k)
+
+    from : (r : Record) → Contains old r ⊎ (IsCopy segments table first (place + 1) r × (pixel ≡ r.pixel)) → Contains list r
+    from r (inl k) = (h.same r).1 (inl k)
+    from r (inr (k, p)) = ⊎_elim
+        (λ m. (h.same r).1 (inr (record { place = k.place; from = k.from; to = m; x = k.x; entry = k.entry; s = k.s; is_at = k.is_at; numbered = k.numbered; steps_are = k.steps_are; inner = k.inner }, p)))
+        (λ m.
+        let q : k.place ≡ place = (let a = k.to in omega arith) in
+        let u : x ≡ k.x = some_same at (ap (slice_get table) (sym q) ∙ k.entry) in
+        let v : s ≡ k.s = some_same is (ap (λ (z : OnLine). slice_get segments z.number) u ∙ k.is_at) in
+        absurd (k.inner (subst (λ (t : Seg). IsEnd t r.pixel) v (subst (λ (c : Pt). IsEnd s c) p ends))))
+        (cases_lt k.place place)
 
 -- no place is left
 pub at_all : (segments : List Seg) (table : List OnLine) (first place past : ℕ) (pixel : Pt) (old new : List Record) → place ≡ past → AddsAt segments table first place pixel old new → AddsAt segments table first past pixel old new
@@ -484,10 +507,10 @@ module _ (segments : List Seg) (numbers : List ℕ) (table : List OnLine) (lines
         from : (c : Pt) → IsHot (chosen segments numbers) c × IsIn tile c → Contains pixels c
         from c k = (same c).1 ((h.same c).1 (inr (portions_of_hot c k.0, within.all c (hot_limit (chosen segments numbers) c all_limits k.0) k.1)))
 
-    pub tile_records : (pixels : List Pt) (records : List Record) → AreOwnedHot (IsIn tile) (chosen segments numbers) pixels → ((c : Pt) → Contains pixels c → IsIn part c) → AddsRecordsInside segments table (IsIn part) lines [] records → HasRecords (candidates_of segments numbers) pixels records
+    pub tile_records : (pixels : List Pt) (records : List Record) → AreOwnedHot (IsIn tile) (chosen segments numbers) pixels → ((c : Pt) → Contains pixels c → IsIn part c) → AddsRecordsInside segments table (IsIn part) lines [] records → HasInnerRecords (candidates_of segments numbers) pixels records
     tile_records pixels records hot inside h = record { same = λ r. (to r, from r) }
       where
-        to : (r : Record) → Contains records r → ((c : Candidate) × Contains (candidates_of segments numbers) c × IsRecordOf c.number c.segment r) × Contains pixels r.pixel
+        to : (r : Record) → Contains records r → ((c : Candidate) × Contains (candidates_of segments numbers) c × IsRecordOf c.number c.segment r × ¬ (IsEnd c.segment r.pixel)) × Contains pixels r.pixel
         to r m =
             let k = ⊎_elim (λ n. absurd (none_in r n)) (λ n. n) ((h.same r).0 m) in
             let copy = k.0.along.copy in
@@ -498,22 +521,22 @@ module _ (segments : List Seg) (numbers : List ℕ) (table : List OnLine) (lines
             let on : IsLine t.edge copy.s = subst (λ (u : Seg). IsLine t.edge u) (some_same t.is_at copy.is_at) t.on in
             let same : copy.x.edge ≡ k.0.line.edge = are.only k.0.line copy.place copy.x k.0.listed copy.from copy.to copy.entry in
             let met = met_whole t.edge copy.x.edge r.pixel t.portion (subst (λ (e : Edge). IsMetOn e r.pixel) (sym same) k.0.along.met) in (
-              (c, (in_candidates segments numbers c).1 (number, at), record { numbered = refl; met = met.meets copy.s on; steps_are = copy.steps_are }),
+              (c, (in_candidates segments numbers c).1 (number, at), record { numbered = refl; met = met.meets copy.s on; steps_are = copy.steps_are }, copy.inner),
               (hot.exact r.pixel).1 (hot_of_portions r.pixel k.1, within.only r.pixel k.2),
             )
 
-        from : (r : Record) → ((c : Candidate) × Contains (candidates_of segments numbers) c × IsRecordOf c.number c.segment r) × Contains pixels r.pixel → Contains records r
-        from r ((c, k, of), at) =
+        from : (r : Record) → ((c : Candidate) × Contains (candidates_of segments numbers) c × IsRecordOf c.number c.segment r × ¬ (IsEnd c.segment r.pixel)) × Contains pixels r.pixel → Contains records r
+        from r ((c, k, of, inner), at) =
             let u = (in_candidates segments numbers c).0 k in
             let (z, on, is) = of.met in
             let b = point_at c.number c.segment z u.0 u.1 on in
             let l = line_of b.y b.listed in
             let is_at : slice_get segments b.y.number ≡ Some c.segment = ap (slice_get segments) b.numbered ∙ u.1 in
-            let copy : IsCopy segments table l.line.first l.line.past r = record { place = l.place; from = l.from; to = l.to; x = b.y; entry = l.entry; s = c.segment; is_at = is_at; numbered = of.numbered ∙ sym b.numbered; steps_are = of.steps_are } in
+            let copy : IsCopy segments table l.line.first l.line.past r = record { place = l.place; from = l.from; to = l.to; x = b.y; entry = l.entry; s = c.segment; is_at = is_at; numbered = of.numbered ∙ sym b.numbered; steps_are = of.steps_are; inner = inner } in
             let met : IsMetOn l.line.edge r.pixel = subst (λ (e : Edge). IsMetOn e r.pixel) l.same (at_met b.y.edge r.pixel z b.on is) in
             (h.same r).1 (inr (record { line = l.line; listed = l.listed; along = record { copy = copy; met = met } }, portions_of_hot r.pixel ((hot.exact r.pixel).0 at).0, inside r.pixel at))
 
-pub no_records : (segments : List Seg) (numbers : List ℕ) → HasRecords (candidates_of segments numbers) [] []
+pub no_records : (segments : List Seg) (numbers : List ℕ) → HasInnerRecords (candidates_of segments numbers) [] []
 no_records segments numbers = record { same = λ r. (λ h. absurd (none_in r h), λ h. absurd (none_in r.pixel h.1)) }
 
 -- where no pixel is hot, no record has to be added

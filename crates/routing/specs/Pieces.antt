@@ -15,12 +15,28 @@ use Rattle.routing.specs.Steps.{steps_to}
 
 -- ---- of all segments
 
+-- c is an end of s
+abbrev pub IsEnd : Seg → Pt → Type 0
+IsEnd s c = (s.a ≡ c) ⊎ (s.b ≡ c)
+
 -- r tells a hot pixel that the segment of its number meets
 pub record IsRecord (segments : List Seg) (r : Record) : Type 0 where
   pub s : Seg
   pub is_at : slice_get segments r.segment ≡ Some s
   pub hot : IsHot segments r.pixel
   pub met : Meets s r.pixel
+  pub steps_are : r.steps ≡ steps_to s r.pixel
+
+-- such a pixel that is no end of the segment
+pub record IsInnerRecord (segments : List Seg) (r : Record) : Type 0 where
+  pub known : IsRecord segments r
+  pub inner : ¬ (IsEnd known.s r.pixel)
+
+-- r tells an end of the segment of its number
+pub record IsEndRecord (segments : List Seg) (r : Record) : Type 0 where
+  pub s : Seg
+  pub is_at : slice_get segments r.segment ≡ Some s
+  pub is_end : IsEnd s r.pixel
   pub steps_are : r.steps ≡ steps_to s r.pixel
 
 -- by segment, then along the segment
@@ -35,10 +51,10 @@ pub record IsPieceOf (Owned : Pt → Type 0) (segments : List Seg) (hot : ℕ) (
   pub ordered : AllPairs (IsAlong segments) records
   pub exact : (r : Record) → Contains records r ↔ (IsRecord segments r × Owned r.pixel)
 
--- the owned hot pixels, and the records of those that segments meet, in any order
+-- the owned hot pixels, and the records of those that segments meet between their ends, in any order
 pub record IsPartOf (Owned : Pt → Type 0) (segments : List Seg) (pixels : List Pt) (records : List Record) : Type 0 where
   pub are_hot : AreOwnedHot Owned segments pixels
-  pub exact : (r : Record) → Contains records r ↔ (IsRecord segments r × Owned r.pixel)
+  pub exact : (r : Record) → Contains records r ↔ (IsInnerRecord segments r × Owned r.pixel)
 
 -- ---- of the candidates that a piece carries
 

@@ -1,13 +1,16 @@
 -- Records of the segments on lines, as they are found (own).
 use Rattle.std.specs.Prelude.{◌≡◌, ◌⊎◌, ◌↔◌, ℕ, ◌<◌, ◌≤◌, All, Contains, List, Some, length, slice_get}
 use Rattle.geom.specs.declared.point.Pt.{Pt}
+use Rattle.geom.specs.declared.rect.Rect.{Rect}
 use Rattle.geom.specs.declared.segment.Seg.{Seg}
 use Rattle.hot_pixel.specs.declared.lines.Line.{Line}
 use Rattle.hot_pixel.specs.Lines.{IsLine}
+use Rattle.hot_pixel.specs.Rects.{IsIn}
 use Rattle.hot_pixel.specs.Halving.{edges_of, IsMetOn, IsHotFor}
 use Rattle.routing.specs.declared.by_line.OnLine.{OnLine}
 use Rattle.routing.specs.declared.record.Record.{Record}
 use Rattle.routing.specs.Cutting.{AreCut}
+use Rattle.routing.specs.Pieces.{IsEnd, IsEndRecord}
 use Rattle.routing.specs.Steps.{steps_to}
 
 -- ---- the segments of a tile, by lines
@@ -40,7 +43,8 @@ pub record IsRecordAt (segments : List Seg) (number : ℕ) (pixel : Pt) (r : Rec
   pub steps_are : r.steps ≡ steps_to s pixel
   pub pixel_is : r.pixel ≡ pixel
 
--- r is of one of the segments that stand from the first place on, before the past one, and has the steps to its pixel
+-- r is of one of the segments that stand from the first place on, before the past one, and has the steps to its pixel, which is no end of
+-- that segment
 pub record IsCopy (segments : List Seg) (table : List OnLine) (first past : ℕ) (r : Record) : Type 0 where
   pub place : ℕ
   pub from : first ≤ place
@@ -51,6 +55,7 @@ pub record IsCopy (segments : List Seg) (table : List OnLine) (first past : ℕ)
   pub is_at : slice_get segments x.number ≡ Some s
   pub numbered : r.segment ≡ x.number
   pub steps_are : r.steps ≡ steps_to s r.pixel
+  pub inner : ¬ (IsEnd s r.pixel)
 
 -- r tells a pixel that the line meets, of a segment on it
 pub record IsRecordAlong (segments : List Seg) (table : List OnLine) (line : Line) (r : Record) : Type 0 where
@@ -78,3 +83,13 @@ pub record AddsRecordsAt (segments : List Seg) (table : List OnLine) (lines : Li
 -- new has the records of old, and those of the lines at the pixels inside that are hot for them
 pub record AddsRecordsInside (segments : List Seg) (table : List OnLine) (Inside : Pt → Type 0) (lines : List Line) (old new : List Record) : Type 0 where
   pub same : (r : Record) → Contains new r ↔ (Contains old r ⊎ (IsRecordOnOne segments table lines r × IsHotFor (edges_of lines) r.pixel × Inside r.pixel))
+
+-- ---- ends
+
+-- new has the records of old, and that of the segment of this number at the pixel, if the tile has it
+pub record AddsEndAt (tile : Rect) (segments : List Seg) (number : ℕ) (pixel : Pt) (old new : List Record) : Type 0 where
+  pub same : (r : Record) → Contains new r ↔ (Contains old r ⊎ (IsRecordAt segments number pixel r × IsIn tile pixel))
+
+-- new has the records of old, and those of the ends of the segments of these numbers in the tile
+pub record AddsEnds (tile : Rect) (segments : List Seg) (numbers : List ℕ) (old new : List Record) : Type 0 where
+  pub same : (r : Record) → Contains new r ↔ (Contains old r ⊎ (IsEndRecord segments r × Contains numbers r.segment × IsIn tile r.pixel))

@@ -1,18 +1,19 @@
 //! How a piece is made: the records of its tile, in order, with what they were found among; and a part, without these and in
 //! no order.
 
-ghost use Rattle.std.specs.Prelude.{◌≡◌, ◌↔◌, ◌<◌, All, IfOk, length};
+ghost use Rattle.std.specs.Prelude.{◌≡◌, ◌↔◌, ◌<◌, All, IfOk, OnOk, length};
 ghost use Rattle.geom.specs.declared.point.Pt.{Pt};
-ghost use Rattle.geom.specs.Limit.{AreInLimit};
+ghost use Rattle.geom.specs.Limit.{AreInLimit, InLimit};
 ghost use Rattle.hot_pixel.specs.Rects.{IsIn};
 ghost use Rattle.grid.specs.Tiles.{tile_count, Owns};
 ghost use Rattle.hot_pixel.specs.Candidates.{AreCandidates};
 ghost use Rattle.routing.specs.Pieces.{candidates_of, IsPartOf, IsPieceOf};
+ghost use Rattle.routing.specs.Recording.{AddsEnds, AddsEndAt};
 
 use crate::halved::found_in;
 use crate::pieces::{Part, Piece};
-use crate::record::Candidate;
-use geom::{NoMemory, Seg};
+use crate::record::{Candidate, Record, record_at};
+use geom::{NoMemory, Pt, Rect, Seg};
 use grid::Grid;
 use std::alloc::Allocator;
 
@@ -33,6 +34,45 @@ fn candidates_of<A: Allocator>(
         })?;
     }
     Ok(candidates)
+}
+
+/// Adds the record of a segment at a pixel, if that lies in a tile.
+fn add_end<A: Allocator>(
+    records: &mut Vec<Record, A>,
+    tile: &Rect,
+    segments: &[Seg],
+    number: u32,
+    pixel: Pt,
+) -> Result<(), NoMemory>
+    requires limits { All (λ s. AreInLimit s.a s.b) segments.now }
+    requires below { number < length segments.now }
+    requires pixel_in { InLimit pixel }
+    ensures { OnOk result (AddsEndAt tile.now segments.now number pixel records.old.items records.new.items) }
+{
+    if !tile.holds(pixel) {
+        return Ok(());
+    }
+    records.push(record_at(segments, number, pixel))?;
+    Ok(())
+}
+
+/// Adds the records of the segments of these numbers at those of their ends that lie in a tile.
+fn add_ends<A: Allocator>(
+    records: &mut Vec<Record, A>,
+    tile: &Rect,
+    segments: &[Seg],
+    numbers: &[u32],
+) -> Result<(), NoMemory>
+    requires limits { All (λ s. AreInLimit s.a s.b) segments.now }
+    requires below { All (λ k. k < length segments.now) numbers.now }
+    ensures { OnOk result (AddsEnds tile.now segments.now numbers.now records.old.items records.new.items) }
+{
+    for number in numbers {
+        let s = segments[*number as usize];
+        add_end(records, tile, segments, *number, s.a)?;
+        add_end(records, tile, segments, *number, s.b)?;
+    }
+    Ok(())
 }
 
 /// The piece of a tile, found among the segments of these numbers.
@@ -56,6 +96,7 @@ pub fn piece<A: Allocator + Copy>(
         pixels,
         mut records,
     } = found_in(alloc, &tile, segments, numbers)?;
+    add_ends(&mut records, &tile, segments, numbers)?;
     let candidates = candidates_of(alloc, segments, numbers)?;
     records.sort_unstable();
     records.dedup();
@@ -71,7 +112,7 @@ pub fn piece<A: Allocator + Copy>(
     })
 }
 
-/// The hot pixels of a tile and the records there, found among the segments of these numbers.
+/// The hot pixels of a tile and the records of those that segments meet between their ends, found among the segments of these numbers.
 pub fn part<A: Allocator + Copy>(
     alloc: A,
     grid: &Grid,

@@ -16,7 +16,7 @@ ghost use Rattle.hot_pixel.specs.Candidates.{chosen, AreOwnedHot};
 ghost use Rattle.hot_pixel.specs.Halving.{edges_of, AreReaching, HasHot, HasHotInside};
 ghost use Rattle.hot_pixel.specs.Rects.{IsIn};
 ghost use Rattle.hot_pixel.specs.Walls.{IsInside};
-ghost use Rattle.routing.specs.Found.{HasRecords};
+ghost use Rattle.routing.specs.Found.{HasInnerRecords};
 ghost use Rattle.routing.specs.Pieces.{candidates_of};
 ghost use Rattle.routing.specs.Recording.{AddsAt, AddsAlong, AddsRecordsAt, AddsRecordsInside};
 
@@ -24,7 +24,7 @@ use crate::by_line::{OnLine, by_line, lines_of};
 use crate::met::meets;
 use crate::pieces::Part;
 use crate::piled::{add_new_at, is_pile};
-use crate::record::{Record, record_at};
+use crate::record::{Record, is_end, record_at};
 use geom::{NoMemory, Pt, Rect, Seg};
 use hot_pixel::{
     FEW, Line, Region, add_hot, ascending, hot_beside, kept, on_line, parts, reaching, within_limit,
@@ -35,7 +35,7 @@ use std::alloc::Allocator;
 /// has 60 walls at most.
 const DEPTH: u32 = 120;
 
-/// Adds the record of each segment on a line at a pixel.
+/// Adds the record of each segment on a line at a pixel that is no end of it.
 #[inline(never)]
 fn add_at<A: Allocator>(
     records: &mut Vec<Record, A>,
@@ -51,7 +51,10 @@ fn add_at<A: Allocator>(
     ensures { OnOk result (AddsAt segments.now table.now line.now.first line.now.past pixel records.old.items records.new.items) }
 {
     for place in line.first..line.past {
-        records.push(record_at(segments, table[place].number, pixel))?;
+        let number = table[place].number;
+        if !is_end(&segments[number as usize], pixel) {
+            records.push(record_at(segments, number, pixel))?;
+        }
     }
     Ok(())
 }
@@ -237,7 +240,8 @@ fn halve<A: Allocator + Copy>(
     }
 }
 
-/// The hot pixels of a tile among the chosen segments, ascending and each once, and the records of these segments there.
+/// The hot pixels of a tile among the chosen segments, ascending and each once, and the records of these segments at those that are no
+/// ends of them.
 pub(crate) fn found_in<A: Allocator + Copy>(
     alloc: A,
     tile: &Rect,
@@ -247,7 +251,7 @@ pub(crate) fn found_in<A: Allocator + Copy>(
     requires limits { All (λ s. AreInLimit s.a s.b) segments.now }
     requires below { All (λ k. k < length segments.now) numbers.now }
     ensures pixels { IfOk result (λ f. AreOwnedHot (IsIn tile.now) (chosen segments.now numbers.now) f.pixels.items) }
-    ensures records { IfOk result (λ f. HasRecords (candidates_of segments.now numbers.now) f.pixels.items f.records.items) }
+    ensures records { IfOk result (λ f. HasInnerRecords (candidates_of segments.now numbers.now) f.pixels.items f.records.items) }
 {
     let table = by_line(alloc, tile, segments, numbers)?;
     let lines = lines_of(alloc, &table)?;

@@ -19,4 +19,4 @@ mod record;
 pub use finding::{part, piece};
 pub use met::meets;
 pub use pieces::{Part, Piece};
-pub use record::{Candidate, Record};
+pub use record::{Candidate, Record, record_at};

@@ -28,7 +28,7 @@ impl<A: Allocator> Numbered for Piece<A> {
 }
 
 /// What the routes have in one tile, as it is found: its hot pixels, ascending and each once, and the records of those that
-/// segments meet, in any order.
+/// segments meet between their ends, in any order.
 #[derive(Drop)]
 pub struct Part<A: Allocator> {
     pub pixels: Vec<Pt, A>,

@@ -2,14 +2,15 @@
 //!
 //! 1. Where a segment is cut a portion of it ends, and the next one begins. Both meet the pixel there, and so both tell its record.
 //! 2. The records of the line before stand last. Those of a line and a pixel are looked for among them, in the order of the segments,
-//!    and only those that aren't found there are added.
+//!    and only those that are not found there and tell no ends are added.
 
-ghost use Rattle.std.specs.Prelude.{◌<◌, ◌≤◌, All, Contains, IsTrue, OnOk, length};
+ghost use Rattle.std.specs.Prelude.{◌⊎◌, ◌<◌, ◌≤◌, All, Contains, IsTrue, MatchBool, OnOk, length};
 ghost use Rattle.geom.specs.Limit.{AreInLimit, InLimit};
+ghost use Rattle.routing.specs.Pieces.{IsEnd};
 ghost use Rattle.routing.specs.Recording.{AddsAt};
 
 use crate::by_line::OnLine;
-use crate::record::{Record, record_at};
+use crate::record::{Record, is_end, record_at};
 use geom::{NoMemory, Pt, Seg};
 use hot_pixel::Line;
 use std::alloc::Allocator;
@@ -50,6 +51,16 @@ fn stands_at(records: &[Record], place: usize, wanted: &Record) -> bool
     place < records.len() && records[place] == *wanted
 }
 
+/// Whether a record tells no end of its segment, and doesn't stand at a place.
+fn is_new(records: &[Record], place: usize, s: &Seg, wanted: &Record) -> bool
+    ensures { MatchBool result (¬ (IsEnd s.now wanted.now.pixel)) (IsEnd s.now wanted.now.pixel ⊎ Contains records.now wanted.now) }
+{
+    if is_end(s, wanted.pixel) {
+        return false;
+    }
+    !stands_at(records, place, wanted)
+}
+
 /// Adds those of the records of the segments on a line at a pixel that aren't found among the last ones.
 #[inline(never)]
 pub(crate) fn add_new_at<A: Allocator>(
@@ -67,9 +78,10 @@ pub(crate) fn add_new_at<A: Allocator>(
 {
     let mut told = last_at(records, pixel, (line.past - line.first).saturating_mul(2));
     for place in line.first..line.past {
-        let record = record_at(segments, table[place].number, pixel);
+        let number = table[place].number;
+        let record = record_at(segments, number, pixel);
         told = past_lesser(records, told, &record);
-        if !stands_at(records, told, &record) {
+        if is_new(records, told, &segments[number as usize], &record) {
             records.push(record)?;
         }
     }

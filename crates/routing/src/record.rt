@@ -1,7 +1,8 @@
 //! Records of routes, and the candidates that they are found among.
 
-ghost use Rattle.std.specs.Prelude.{◌≡◌, ◌<◌, All, length};
+ghost use Rattle.std.specs.Prelude.{◌≡◌, ◌↔◌, ◌<◌, All, IsTrue, length};
 ghost use Rattle.geom.specs.Limit.{AreInLimit, InLimit};
+ghost use Rattle.routing.specs.Pieces.{IsEnd};
 ghost use Rattle.routing.specs.Recording.{IsRecordAt};
 ghost use Rattle.routing.specs.Steps.{steps_to};
 
@@ -32,8 +33,17 @@ pub(crate) fn steps_to(s: &Seg, pixel: Pt) -> u32
     pixel.x.abs_diff(s.a.x) + pixel.y.abs_diff(s.a.y)
 }
 
+/// Whether a pixel is an end of a segment.
+#[inline(always)]
+pub(crate) fn is_end(s: &Seg, pixel: Pt) -> bool
+    ensures { IsTrue result ↔ IsEnd s.now pixel }
+{
+    s.a == pixel || s.b == pixel
+}
+
 /// The record of the segment of a number at a pixel.
-pub(crate) fn record_at(segments: &[Seg], number: u32, pixel: Pt) -> Record
+#[inline(always)]
+pub fn record_at(segments: &[Seg], number: u32, pixel: Pt) -> Record
     requires segments_in { All (λ s. AreInLimit s.a s.b) segments.now }
     requires number_in { number < length segments.now }
     requires pixel_in { InLimit pixel }

@@ -1,10 +1,11 @@
-use Rattle.std.proofs.Common.{◌≡◌, ℕ, List, ◌∙◌, ap, flat_map, length, refl, subst, sym}
+use Rattle.std.proofs.Common.{◌≡◌, ℕ, List, ◌∙◌, ◌++◌, ap, flat_map, length, refl, subst, sym}
 use Rattle.std.proofs.Math.Logic.{∥∥₁_map}
 use Rattle.std.specs.Prelude.{All, AllPairs}
 use Rattle.geom.specs.declared.point.Pt.{Pt}
 use Rattle.grid.specs.Tiles.{HasTile, Owns}
 use Rattle.routing.specs.declared.record.Record.{Record}
 use Rattle.routing.specs.Pieces.{IsPartOf}
+use Rattle.linking.specs.Ends.{ends_from}
 use Rattle.linking.specs.Links.{AreRecords, HasRecords}
 use Rattle.linking.specs.Numbers.{ArePaired}
 use Rattle.linking.specs.Shares.{AreLinked, AreOrdered}
@@ -58,7 +59,7 @@ link_in_parts-requires-clause-may_link g c = λ κs l.
     let hot = flat_map (λ p. p.pixels.items) pieces in
     let in_cells = are_covered cells segments c.requires.covered_by_cells in
     let in_tiles = are_covered grid segments c.requires.covered in
-    let ordered = subst (λ (rs : List Record). AreOrdered (λ s. s.items) rs c.in_ok-shares.shares.items) (ap (flat_map (λ p. p.records.items)) c.deref.ensures.value) c.in_ok-shares.ensures in
+    let ordered = subst (λ (rs : List Record). AreOrdered (λ s. s.items) (rs ++ ends_from 0 segments) c.in_ok-shares.shares.items) (ap (flat_map (λ p. p.records.items)) c.deref.ensures.value) c.in_ok-shares.ensures in
     let those = flat_map (λ s. s.items) c.in_ok-shares.shares.items in
     rw c.deref-4.ensures.value (known_may_link segments those (λ r has. known_records cells grid segments hot found in_cells in_tiles all r ((ordered.sorted.same r).0 has)) ordered.sorted.ascending grid (length c.args.makers.now) c.requires.one_for_each in_tiles)
 
@@ -82,9 +83,9 @@ returns-clause-links g c =
     let in_tiles = are_covered grid segments c.requires.covered in
     let makers = c.args.makers.now in
     let link_of = g.M.MakesLinks.link_of in
-    let ordered = subst (λ (rs : List Record). AreOrdered (λ s. s.items) rs c.in_ok-shares.shares.items) (ap (flat_map (λ p. p.records.items)) c.deref.ensures.value) c.in_ok-shares.ensures in
+    let ordered = subst (λ (rs : List Record). AreOrdered (λ s. s.items) (rs ++ ends_from 0 segments) c.in_ok-shares.shares.items) (ap (flat_map (λ p. p.records.items)) c.deref.ensures.value) c.in_ok-shares.ensures in
     let those = flat_map (λ s. s.items) c.in_ok-shares.shares.items in
-    let order : HasRecords segments found → AreRecords segments those = λ has. gathered_are segments found those has ordered.sorted in
+    let order : HasRecords segments (found ++ ends_from 0 segments) → AreRecords segments those = λ has. gathered_are segments (found ++ ends_from 0 segments) those has ordered.sorted in
     let linked = subst (λ (rs : List Record). AreLinked grid link_of makers rs (flat_map (λ l. l.items) c.in_ok-found.found.links.items) c.in_ok-found.found.records.items) (ap (flat_map (λ s. s.items)) c.deref-4.ensures.value) c.in_ok-found.ensures in
     ∥∥₁_map (all_records cells grid segments hot found in_cells in_tiles all those order) (λ r. route_links link_of segments makers those (flat_map (λ l. l.items) c.in_ok-found.found.links.items) c.requires.one_for_each r linked.links_are)
 
@@ -101,9 +102,9 @@ returns-clause-tiles g c =
     let in_cells = are_covered cells segments c.requires.covered_by_cells in
     let in_tiles = are_covered grid segments c.requires.covered in
     let same : c.deref-3.result.now ≡ hot = c.deref-3.ensures.value ∙ c.in_ok-pixels.ensures ∙ ap (flat_map (λ p. p.pixels.items)) c.deref-2.ensures.value in
-    let ordered = subst (λ (rs : List Record). AreOrdered (λ s. s.items) rs c.in_ok-shares.shares.items) (ap (flat_map (λ p. p.records.items)) c.deref.ensures.value) c.in_ok-shares.ensures in
+    let ordered = subst (λ (rs : List Record). AreOrdered (λ s. s.items) (rs ++ ends_from 0 segments) c.in_ok-shares.shares.items) (ap (flat_map (λ p. p.records.items)) c.deref.ensures.value) c.in_ok-shares.ensures in
     let those = flat_map (λ s. s.items) c.in_ok-shares.shares.items in
-    let order : HasRecords segments found → AreRecords segments those = λ has. gathered_are segments found those has ordered.sorted in
+    let order : HasRecords segments (found ++ ends_from 0 segments) → AreRecords segments those = λ has. gathered_are segments (found ++ ends_from 0 segments) those has ordered.sorted in
     let linked = subst (λ (rs : List Record). AreLinked grid g.M.MakesLinks.link_of c.args.makers.now rs (flat_map (λ l. l.items) c.in_ok-found.found.links.items) c.in_ok-found.found.records.items) (ap (flat_map (λ s. s.items)) c.deref-4.ensures.value) c.in_ok-found.ensures in
     let paired : ArePaired c.in_ok-hot.hot.items c.in_ok-found.found.records.items c.in_ok-tiles.tiles.items = subst (λ (x : List ℕ × List ℕ). ArePaired x.0 x.1 c.in_ok-tiles.tiles.items) (λ i. (c.deref-5.ensures.value i, c.deref-6.ensures.value i)) c.in_ok-tiles.ensures in
     all_numbers cells grid segments hot found in_cells in_tiles all those order c.deref-3.result.now those c.in_ok-tiles.tiles.items same refl

@@ -3,7 +3,7 @@ use Rattle.std.specs.Prelude.{IfOk}
 use Rattle.grid.specs.Tiles.{Owns}
 use Rattle.hot_pixel.specs.Candidates.{chosen, AreOwnedHot}
 use Rattle.hot_pixel.specs.Rects.{IsIn}
-use Rattle.routing.specs.Found.{HasRecords}
+use Rattle.routing.specs.Found.{HasInnerRecords}
 use Rattle.routing.specs.Pieces.{candidates_of, IsPartOf}
 use Rattle.routing.proofs.PieceLaws.{part_found}
 use Rattle.routing.proofs.finding.part.Goals as goal
@@ -24,6 +24,6 @@ returns g c =
     let numbers = c.args.numbers.now in
     if_both c.found_in.result
     (λ p. AreOwnedHot (IsIn tile) (chosen segments numbers) p.pixels.items)
-    (λ p. HasRecords (candidates_of segments numbers) p.pixels.items p.records.items)
+    (λ p. HasInnerRecords (candidates_of segments numbers) p.pixels.items p.records.items)
     (λ p. IsPartOf owned segments p.pixels.items p.records.items)
     (λ p pixels records. part_found owned segments numbers tile p.pixels.items p.records.items c.rect-tile.ensures.exact c.requires.candidates pixels records) c.found_in.ensures.pixels c.found_in.ensures.records

@@ -1,10 +1,15 @@
-use Rattle.std.proofs.Common.{◌≡◌, ◌<◌, arith, length, get_or, Some, subst, List}
-use Rattle.std.specs.Prelude.{slice_get, Contains}
-use Rattle.std.proofs.lemmas.Option.{slice_get-get_or}
+use Rattle.std.proofs.Common.{◌≡◌, ◌<◌, arith, length, get_or, Some, refl, sym, subst, List, ⊎_elim}
+use Rattle.std.specs.Prelude.{◌⊎◌, MatchBool, slice_get, Contains}
+use Rattle.std.proofs.lemmas.Option.{slice_get-get_or, slice_get_read}
+use Rattle.geom.specs.declared.point.Pt.{Pt}
+use Rattle.geom.specs.declared.segment.Seg.{Seg}
+use Rattle.geom.proofs.Lists.{some_same}
 use Rattle.routing.specs.declared.record.Record.{Record}
-use Rattle.routing.proofs.RecordingLaws.{at_none, at_more, at_known, at_all}
+use Rattle.routing.specs.Pieces.{IsEnd}
+use Rattle.routing.proofs.RecordingLaws.{IsInnerAt, at_none, at_more, at_known, at_end, at_all}
+use Rattle.routing.proofs.PieceLaws.{is_end_or_not}
 use Rattle.routing.proofs.piled.add_new_at.Goals as goal
-use Rattle.routing.proofs.piled.add_new_at.Goals.{then-not-stands_at+in_ok-push, else-not-stands_at}
+use Rattle.routing.proofs.piled.add_new_at.Goals.{then-is_new+in_ok-push, else-is_new}
 
 pub loop-place-init : goal.loop-place-init
 loop-place-init g c = (at_none c.args.segments.now c.args.table.now c.args.line.now.first c.args.pixel c.args.records.now.items, omega arith, c.args.line.now.ordered)
@@ -13,19 +18,29 @@ pub loop-place-preserved : goal.loop-place-preserved
 loop-place-preserved g c =
     let segments = c.args.segments.now in
     let table = c.args.table.now in
+    let pixel = c.args.pixel in
     let first = c.args.line.now.first in
     let place = c.loop-place.place in
     let old = c.args.records.now.items in
     let x = get_or table place c.index-table-place.result in
     let below : place < length table = omega arith in
     let at : slice_get table place ≡ Some x = slice_get-get_or table place c.index-table-place.result below in
+    let s = c.index-segments-number.result in
+    let is : slice_get segments x.number ≡ Some s = slice_get_read segments (length segments) x.number s refl (c.requires.table_in place c.index-table-place.result below) c.index-segments-number.is in
+    let here = c.record_at-record.ensures in
     let inv = c.loop-place.invariant in (
-      elim c.if-not-stands_at.branch [
-        | then-not-stands_at+in_ok-push w ↦ rw (w.records-is, w.in_ok-push.ensures.items) (at_more segments table first place c.args.pixel old c.loop-place.records.items x _ inv.1 at c.record_at-record.ensures inv.0)
-        | else-not-stands_at w ↦
-            let told = c.stands_at.ensures (let f = w.if-not-stands_at.false in cc) in
-            let known = subst (λ (rs : List Record). Contains rs c.record_at-record.result) c.deref-in-loop-place-2.ensures.value told in
-            rw w.records-is (at_known segments table first place c.args.pixel old c.loop-place.records.items x _ inv.1 at c.record_at-record.ensures known inv.0)
+      elim c.if-is_new.branch [
+        | then-is_new+in_ok-push w ↦
+            let inner = subst (λ b. MatchBool b (¬ (IsEnd s c.record_at-record.result.pixel)) (IsEnd s c.record_at-record.result.pixel ⊎ Contains c.deref-in-loop-place-2.result.now c.record_at-record.result)) w.if-is_new.true c.is_new.ensures in
+            let apart : IsInnerAt segments x.number pixel = λ t e k. inner (subst (λ (p : Pt). IsEnd s p) (sym here.pixel_is) (subst (λ (u : Seg). IsEnd u pixel) (some_same e is) k)) in
+            rw (w.records-is, w.in_ok-push.ensures.items) (at_more segments table first place pixel old c.loop-place.records.items x _ inv.1 at here apart inv.0)
+        | else-is_new w ↦ rw w.records-is (⊎_elim
+            (λ k. at_end segments table first place pixel old c.loop-place.records.items x s at is (subst (λ (p : Pt). IsEnd s p) here.pixel_is k) inv.0)
+            (λ k. ⊎_elim
+            (λ e. at_end segments table first place pixel old c.loop-place.records.items x s at is e inv.0)
+            (λ n. at_known segments table first place pixel old c.loop-place.records.items x _ inv.1 at here (λ t e k. n (subst (λ (u : Seg). IsEnd u pixel) (some_same e is) k)) (subst (λ (rs : List Record). Contains rs c.record_at-record.result) c.deref-in-loop-place-2.ensures.value k) inv.0)
+            (is_end_or_not s pixel))
+            (subst (λ b. MatchBool b (¬ (IsEnd s c.record_at-record.result.pixel)) (IsEnd s c.record_at-record.result.pixel ⊎ Contains c.deref-in-loop-place-2.result.now c.record_at-record.result)) w.if-is_new.false c.is_new.ensures))
       ],
       omega (arith, inv.1),
       omega arith,
