@@ -272,7 +272,7 @@ class Qgis(Tool):
             os.remove(output)
         call = ["qgis_process.bin", "run", name, "--", *("%s=%s" % pair for pair in words.items()), "OUTPUT=" + output]
         run = watching.watched(call, os.path.join(folder, "out"), seconds, env=self.environment(folder))
-        return run if run.status or os.path.exists(output) else replace(run, status=1)
+        return run if run.status != 0 or os.path.exists(output) else replace(run, status=1)
 
     def asked(self, job: str, layers: Layers) -> list[tuple[str, str, dict[str, str]]]:
         """The algorithms of a job, each with the file that it writes and its other words."""
