@@ -43,8 +43,10 @@ STATEMENTS = {
     "dissolve": "select (st_dump(st_union(geom))).geom from a",
     "common": "select (st_dump(st_intersection((select st_union(geom) from a), (select st_union(geom) from b)))).geom",
     "faces": PAIRS.format("a", "b", ""),
-    "check": PAIRS.format("(select id, st_makevalid(geom) geom from a)", "(select id, st_makevalid(geom) geom from a)", "p.id < q.id and "),
+    "check": PAIRS.format("v", "v", "p.id < q.id and "),
 }
+# The parcels made valid, with an index, for their check.
+VALID = ("drop table if exists v", "create table v as select id, st_makevalid(geom) geom from a", "create index on v using gist (geom)", "analyze v")
 
 
 def add_arguments(parser: argparse.ArgumentParser) -> None:
@@ -101,7 +103,7 @@ def by_overlay(job: str, place: Map, arguments: argparse.Namespace) -> Done:
     words = [GIS, *asked[job], "-o", out, *ON_GRID, "--segments", "4000000"]
     run = watching.watched(words, os.path.join(place.folder, "said"), arguments.seconds, env=environment)
     answers = run.status == 0 or job == "check" and run.status == 4  # 4: it found something
-    return Done("" if answers else fault_of(run, arguments.seconds), own_area(job, out) if answers else 0.0, run.processor, run.clock)
+    return Done("" if answers else fault_of(run), own_area(job, out) if answers else 0.0, run.processor, run.clock)
 
 
 def by_script(tool: str) -> Tool:
@@ -112,7 +114,7 @@ def by_script(tool: str) -> Tool:
         done = watching.watched([DEBIAN_PYTHON, SCRIPT, tool, job, place.path("a"), place.path("b"), out], said, arguments.seconds)
         with open(said, encoding="ascii") as file:
             area = re.findall(r"^area (\S+)$", file.read(), re.M)
-        return Done(fault_of(done, arguments.seconds), float(area[0]) if area else 0.0, done.processor, done.clock)
+        return Done(fault_of(done), float(area[0]) if area else 0.0, done.processor, done.clock)
 
     return run
 
@@ -124,12 +126,12 @@ class Tables:
         self.server = server
         server.said("create extension if not exists postgis")
 
-    def timed(self, call: Callable[[], subprocess.CompletedProcess[str]], seconds: float) -> Done:
-        processor, start = self.server.processor(), time.monotonic()
+    def timed(self, call: Callable[[], subprocess.CompletedProcess[str]]) -> Done:
+        before, start = self.server.processor(), time.monotonic()
         done = call()
-        clock = time.monotonic() - start
-        fault = peer_tools.over(seconds) if "statement timeout" in done.stderr else peer_tools.words_of(done.stderr) if done.returncode else ""
-        return Done(fault, 0.0, self.server.processor() - processor, clock)
+        clock, processor = time.monotonic() - start, self.server.processor() - before
+        fault = peer_tools.over(processor) if "statement timeout" in done.stderr else peer_tools.words_of(done.stderr) if done.returncode else ""
+        return Done(fault, 0.0, processor, clock)
 
     def load(self, place: Map, arguments: argparse.Namespace) -> Done:
         """Both tables and their indexes."""
@@ -146,12 +148,13 @@ class Tables:
                     done = self.server.psql(*statements, source=source)
             return done
 
-        return self.timed(copied, arguments.seconds)
+        return self.timed(copied)
 
     def run(self, job: str, place: Map, arguments: argparse.Namespace) -> Done:
         limit = "set statement_timeout = %d" % (1000 * arguments.seconds)
-        asked = (limit, "set max_parallel_workers_per_gather = 0", "drop table if exists r", "create table r as " + STATEMENTS[job])
-        done = self.timed(lambda: self.server.psql(*asked, seconds=2 * arguments.seconds), arguments.seconds)
+        before = VALID if job == "check" else ()
+        asked = (limit, "set max_parallel_workers_per_gather = 0", *before, "drop table if exists r", "create table r as " + STATEMENTS[job])
+        done = self.timed(lambda: self.server.psql(*asked, seconds=2 * arguments.seconds))
         area = 0.0 if done.fault else float(self.server.said("select coalesce(sum(st_area(geom)), 0) from r"))
         return Done(done.fault, area, done.processor, done.clock)
 

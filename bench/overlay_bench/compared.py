@@ -3,7 +3,7 @@ from __future__ import annotations
 
 import re
 
-from . import results
+from . import peer_tools, results
 
 HEAD = ("", "raw map", "mixed order", "threads", "time")
 # A tool's rows on a grid, and with its layers made valid, tell more of the same tool.
@@ -35,7 +35,7 @@ def on_raw_map(rows: list[Row], valid: list[Row]) -> str:
     faults = [re.sub(r"^status -?\d+: ", "", row["answers"]) for row in raw if row["answers"] != "yes"]
     off = max((number(row["area off"]) for row in raw), key=abs, default=0.0)
     if faults:
-        found = faults[0] if faults[0].startswith("no answer") else "stops: " + faults[0].partition(":")[0]
+        found = faults[0] if faults[0].startswith(peer_tools.OVER) else "stops: " + faults[0].partition(":")[0]
     elif not raw:
         return "–"
     elif abs(off) > 1:

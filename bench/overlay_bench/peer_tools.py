@@ -16,6 +16,7 @@ from .town import Feature
 
 PEERS = os.path.join(programs.BENCH, "peers")
 DEBIAN_PYTHON = "/usr/bin/python3"
+OVER = "no answer"
 
 
 class Layers:
@@ -70,14 +71,14 @@ def words_of(said: str) -> str:
     return re.sub(r"^.*?(\w+Exception: [a-zA-Z ]+?) at .*$", r"\1", told)[:80]
 
 
-def over(seconds: float) -> str:
-    return "no answer within %.0f s" % seconds
+def over(processor: float) -> str:
+    return OVER + " within %.0f processor s" % processor
 
 
-def fault_of(run: watching.Watched, seconds: float) -> str:
+def fault_of(run: watching.Watched) -> str:
     """Why a run has no answer, in a few words."""
     if run.status is None:
-        return over(seconds)
+        return over(run.processor)
     return "status %d: %s" % (run.status, words_of(run.said)) if run.status else ""
 
 
@@ -104,7 +105,7 @@ class Tool:
         run = watching.watched(words, output, seconds)
         told = re.findall(r"^processor ([0-9.]+)$", run.said, re.M)
         with open(output, encoding="ascii") as file:
-            return Run(fault_of(run, seconds), float(told[-1]) if told else run.processor, run.clock, run.threads, file.read())
+            return Run(fault_of(run), float(told[-1]) if told else run.processor, run.clock, run.threads, file.read())
 
 
 class Overlay(Tool):
@@ -148,7 +149,7 @@ class Faces(Tool):
         words = [os.path.join(programs.ROOT, "gis", "overlay-gis"), "faces", first, second if job == "common" else nothing, "-o", found, "--grid", "1", "--origin", "0,0"]
         run = watching.watched(words, output, seconds, env=environment)
         lines = "".join("%s\t%s\t%s\n" % row for row in shapes.rows_of_geopackage(found, ("a", "b", "area"))) if run.status == 0 else ""
-        return Run(fault_of(run, seconds), run.processor, run.clock, run.threads, lines)
+        return Run(fault_of(run), run.processor, run.clock, run.threads, lines)
 
 
 class Geos(Tool):
@@ -240,10 +241,10 @@ class PostGis(Tool):
         threads, before, start = watching.Threads(server.number()), server.processor(), time.monotonic()
         limit = "set statement_timeout = %d" % (1000 * seconds)
         done = server.psql(limit, "drop table if exists r", "create table r as select (d.dump).geom from (select st_dump(%s) dump) d" % asked, seconds=2 * seconds)
-        clock = time.monotonic() - start
-        fault = over(seconds) if "statement timeout" in done.stderr else words_of(done.stderr) if done.returncode else ""
+        clock, processor = time.monotonic() - start, server.processor() - before
+        fault = over(processor) if "statement timeout" in done.stderr else words_of(done.stderr) if done.returncode else ""
         text = "" if fault else server.said("select encode(st_asbinary(geom), 'hex') from r")
-        return Run(fault, server.processor() - before, clock, threads.stop(), text)
+        return Run(fault, processor, clock, threads.stop(), text)
 
 
 class Qgis(Tool):
@@ -271,7 +272,7 @@ class Qgis(Tool):
             os.remove(output)
         call = ["qgis_process.bin", "run", name, "--", *("%s=%s" % pair for pair in words.items()), "OUTPUT=" + output]
         run = watching.watched(call, os.path.join(folder, "out"), seconds, env=self.environment(folder))
-        return run if run.status or os.path.exists(output) else replace(run, status=1)
+        return run if run.status != 0 or os.path.exists(output) else replace(run, status=1)
 
     def asked(self, job: str, layers: Layers) -> list[tuple[str, str, dict[str, str]]]:
         """The algorithms of a job, each with the file that it writes and its other words."""
@@ -296,8 +297,8 @@ class Qgis(Tool):
         for name, output, words in self.asked(job, layers):
             run = self.algorithm(name, layers.folder, output, seconds, **words)
             processor, clock, threads = processor + run.processor, clock + run.clock, max(threads, run.threads)
-            if fault_of(run, seconds):
-                return Run(fault_of(run, seconds), processor, clock, threads)
+            if fault_of(run):
+                return Run(fault_of(run), processor, clock, threads)
         return Run("", processor, clock, threads, "".join("%s\n" % blob.hex() for blob in shapes.geometries_of_geopackage(output)))
 
 

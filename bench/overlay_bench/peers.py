@@ -28,10 +28,10 @@ import os
 import signal
 import sys
 import tempfile
-from dataclasses import dataclass
+from dataclasses import dataclass, replace
 
 from . import shapes, town
-from .peer_tools import Faces, Layers, Overlay, Run, Tool, peers
+from .peer_tools import OVER, Faces, Layers, Overlay, Run, Tool, peers
 
 JOBS = ("dissolve", "common")
 # A job that takes so many seconds is run twice at most on the same files.
@@ -44,7 +44,7 @@ def add_arguments(parser: argparse.ArgumentParser) -> None:
     parser.add_argument("--sizes", nargs="+", type=int, default=(10_000, 100_000), metavar="SEGMENTS", help="of either layer")
     parser.add_argument("--maps", nargs="+", default=list(MAPS), choices=MAPS)
     parser.add_argument("--rounds", type=int, default=3, help="runs of each job on the same files (slow ones: two)")
-    parser.add_argument("--seconds", type=float, default=600, help="after which a run is over")
+    parser.add_argument("--seconds", type=float, default=600, help="on the clock, after which a run is over; `common` begins as `dissolve`, and isn't tried where that was over")
     parser.add_argument("--only", nargs="+", default=[], metavar="TOOL", help="tools whose names begin so")
     parser.add_argument("--without-times", action="store_true", help="tells no times: for a machine with other work")
 
@@ -91,6 +91,9 @@ class Row:
             return None
         whole = known.odd if isinstance(self.tool, Overlay) else known.some
         return 1e6 * (shapes.area(shapes.of_lines(self.runs[0].text)) / whole - 1)
+
+    def is_over(self) -> bool:
+        return self.runs[0].fault.startswith(OVER)
 
     def again(self) -> str:
         return same(self.runs[0].text, self.runs[1].text) if len(self.runs) > 1 else ""
@@ -177,6 +180,11 @@ def main(arguments: argparse.Namespace) -> int:
                 other = layers.shuffled(places[1])
                 known = {job: None if faces.missing() else faces_row(faces, faces.version(), name, size, job, layers, arguments, table) for job in JOBS}
                 for tool in [overlay, *there]:
+                    rows: list[Row] = []
                     for job in JOBS:
-                        table.show(row_of(tool, versions[tool.name], name, size, job, layers, other, arguments), known[job])
+                        if any(row.is_over() for row in rows):
+                            rows.append(replace(rows[0], job=job))
+                        else:
+                            rows.append(row_of(tool, versions[tool.name], name, size, job, layers, other, arguments))
+                        table.show(rows[-1], known[job])
     return int(table.wrong)

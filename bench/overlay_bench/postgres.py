@@ -103,7 +103,7 @@ class Server:
         if self.process is not None and self.process.poll() is None:
             self.process.send_signal(signal.SIGINT)  # ends its sessions too
             self.process.wait()
-        shutil.rmtree(self.place)
+        shutil.rmtree(self.place, ignore_errors=True)  # it may be gone: this is also called where the start failed
 
     def psql(self, *statements: str, source: IO[str] | int = subprocess.DEVNULL, seconds: float = 600) -> subprocess.CompletedProcess[str]:
         """Runs statements in one session; the first one that fails ends it."""

@@ -10,8 +10,8 @@ import time
 from collections.abc import Mapping
 from dataclasses import dataclass
 
-# A thread is at work where it has this share of the time between two looks, of which there are so many a second.
-SHARE, LOOKS = 0.1, 100
+# So many looks a second.
+LOOKS = 100
 
 
 def tree(process: int) -> list[int]:
@@ -27,17 +27,17 @@ def tree(process: int) -> list[int]:
     return found
 
 
-def nanoseconds(process: int) -> dict[str, int]:
-    """What each thread of a process and of those below it has taken of a processor."""
-    taken = {}
+def at_work(process: int) -> int:
+    """How many threads of a process, and of those below it, run or wait for nothing but a processor."""
+    count = 0
     for member in tree(process):
-        for path in glob.glob("/proc/%d/task/*/schedstat" % member):
+        for path in glob.glob("/proc/%d/task/*/stat" % member):
             try:
-                with open(path, encoding="ascii") as file:
-                    taken[path] = int(file.read().split()[0])
+                with open(path, encoding="utf-8", errors="replace") as file:
+                    count += file.read().rpartition(")")[2].split()[0] == "R"
             except (OSError, IndexError):
                 continue
-    return taken
+    return count
 
 
 class Threads:
@@ -49,12 +49,9 @@ class Threads:
         self.thread.start()
 
     def look(self) -> None:
-        before, start = nanoseconds(self.process), time.monotonic_ns()
         while not self.over.wait(1 / LOOKS):
-            after, now = nanoseconds(self.process), time.monotonic_ns()
-            count = sum(taken - before.get(path, 0) > SHARE * (now - start) for path, taken in after.items())
+            count = at_work(self.process)
             self.counts += [count] if count else []
-            before, start = after, now
 
     def stop(self) -> int:
         """How many were at work at once at a tenth of the looks."""
