@@ -179,4 +179,6 @@ def test_another_version(clone):
     assert (done.returncode, done.stdout) == (1, "2.3.4\n")
     assert done.stderr == "release/version: CHANGELOG.md has no heading of 2.3.4\n"
     changed = printed("git", "diff", "--numstat", cwd=clone.tree).splitlines()
-    assert len(changed) == 7 and all(line.startswith("1\t1\t") for line in changed)
+    assert len(changed) == 9
+    # The tests of what help prints have it twice.
+    assert all(line.startswith(("1\t1\t", "2\t2\tcrates/program_tests/")) for line in changed)
