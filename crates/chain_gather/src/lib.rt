@@ -12,6 +12,7 @@ mod own;
 mod tiles;
 
 pub use linking::{
-    Link, Noded, Rounded, TileNumbers, TilePiece, Tiled, gather_made, gather_made_in_parts, settled,
+    LimitedSegments, Link, Noded, Rounded, TileNumbers, TilePiece, Tiled, gather_made,
+    gather_made_in_parts, settled,
 };
 pub use tiles::gather;

@@ -9,7 +9,9 @@ ghost use Rattle.linking.specs.Gathered.{AreBoxesOf, HaveTiles};
 ghost use Rattle.chain_gather.specs.Gathered.{AreBinsOf};
 
 use bumpalo::Bump;
-use chain_gather::{Rounded, TilePiece, Tiled, gather, gather_made, gather_made_in_parts};
+use chain_gather::{
+    LimitedSegments, Rounded, TilePiece, Tiled, gather, gather_made, gather_made_in_parts,
+};
 use geom::{Counted, NoMemory, Pt, Rect, Seg, Source};
 use grid::Grid;
 use lane_tests::Boxes;
@@ -172,13 +174,13 @@ fn gathered<L: Limited, A: Allocator + Copy>(
 fn pieces_of<T: Tiled, A: Allocator + Copy>(
     alloc: A,
     grid: &Grid,
-    segments: &[Seg],
+    limited: LimitedSegments<'_>,
 ) -> Result<Vec<TilePiece<T, A>, A>, NoMemory>
-    requires tiled { (grid.now ≡ T.grid) × (segments.now ≡ T.segments) }
-    requires in_limit { All (λ s. AreInLimit s.a s.b) segments.now }
+    requires tiled { (grid.now ≡ T.grid) × (limited.list.now ≡ T.segments) }
     ensures one_each { IfOk result (λ v. length v.items ≡ tile_count grid.now) }
     ensures in_order { IfOk result (λ v. StandInOrder (λ p. p.number) v.items) }
 {
+    let segments = limited.list;
     let bins = bins_of(alloc, grid, segments)?;
     let mut pieces = Vec::new(alloc);
     let mut numbers = Vec::new(alloc);
@@ -198,14 +200,14 @@ fn gathered_made<T: Tiled + Sync, R: Threads + Sync>(
     parts: Option<usize>,
     cells: &Grid,
     grid: &Grid,
-    segments: &[Seg],
+    limited: LimitedSegments<'_>,
 ) -> Result<Rounded<Global>, NoMemory>
-    requires tiled { (cells.now ≡ T.grid) × (segments.now ≡ T.segments) }
-    requires in_limit { All (λ s. AreInLimit s.a s.b) segments.now }
-    requires covered_by_cells { HaveTiles cells.now segments.now }
-    requires covered { HaveTiles grid.now segments.now }
+    requires tiled { (cells.now ≡ T.grid) × (limited.list.now ≡ T.segments) }
+    requires covered_by_cells { HaveTiles cells.now limited.list.now }
+    requires covered { HaveTiles grid.now limited.list.now }
 {
-    let pieces: Vec<TilePiece<T, Global>> = pieces_of(alloc, cells, segments)?;
+    let segments = limited.list;
+    let pieces: Vec<TilePiece<T, Global>> = pieces_of(alloc, cells, limited)?;
     match parts {
         None => gather_made(alloc, pieces, 0, cells, grid, segments),
         Some(parts) => { gather_made_in_parts(rt, alloc, parts, pieces, 0, cells, grid, segments) }
@@ -230,7 +232,8 @@ fn row_made<R: Threads + Sync>(
         return Err(NoMemory);
     };
     let segments = segments_in(alloc, &bounds, &ROW)?;
-    gathered_made::<Brand, R>(rt, alloc, parts, &cells, &grid, &segments)
+    let limited = LimitedSegments { list: &segments };
+    gathered_made::<Brand, R>(rt, alloc, parts, &cells, &grid, limited)
 }
 
 #[test]

@@ -19,7 +19,9 @@ use crate::reading::{read_segments, reading};
 use crate::rounds::Pieces;
 use geom::{NoMemory, Op, RunFault, Seg};
 use grid::Grid;
-use linking::{Noded, RoundedBorders, TilePiece, Tiled, gather_borders, gather_made, settled};
+use linking::{
+    LimitedSegments, Noded, RoundedBorders, TilePiece, Tiled, gather_borders, gather_made, settled,
+};
 use std::alloc::Allocator;
 use std::marker::{Brand, PhantomData};
 use tile_book::{Job, MOST_NUMBERS};
@@ -153,7 +155,7 @@ pub(crate) fn gathered_alone<A: Allocator + Copy>(
     ensures none_remade { IfOk result (λ n. n.remade ≡ 0) }
 {
     let cells = cells_of(grid, 1, segments);
-    by_cells_alone::<Brand, A>(alloc, grid, &cells, segments)
+    by_cells_alone::<Brand, A>(alloc, grid, &cells, LimitedSegments { list: segments })
 }
 
 /// The same, where the type of the pieces knows the cells and the segments.
@@ -161,17 +163,17 @@ fn by_cells_alone<T: Tiled, A: Allocator + Copy>(
     alloc: A,
     grid: &Grid,
     cells: &Grid,
-    segments: &[Seg],
+    limited: LimitedSegments<'_>,
 ) -> Result<Noded<A>, NoMemory>
-    requires tiled { (cells.now ≡ T.grid) × (segments.now ≡ T.segments) }
-    requires in_limit { AllInLimit segments.now }
-    requires covered_by_cells { HaveTiles cells.now segments.now }
-    requires covered { HaveTiles grid.now segments.now }
-    ensures rounded { IfOk result (λ n. ∥ AreRounded segments.now n.edges.items ∥₁) }
-    ensures tiles { IfOk result (λ n. AreTileNumbers grid.now segments.now (tile_count grid.now) n.tiles.items) }
+    requires tiled { (cells.now ≡ T.grid) × (limited.list.now ≡ T.segments) }
+    requires covered_by_cells { HaveTiles cells.now limited.list.now }
+    requires covered { HaveTiles grid.now limited.list.now }
+    ensures rounded { IfOk result (λ n. ∥ AreRounded limited.entry.list.now n.edges.items ∥₁) }
+    ensures tiles { IfOk result (λ n. AreTileNumbers grid.now limited.entry.list.now (tile_count grid.now) n.tiles.items) }
     ensures none_remade { IfOk result (λ n. n.remade ≡ 0) }
 {
-    let pieces = pieces_alone::<T, A>(alloc, cells, segments)?;
+    let segments = limited.list;
+    let pieces = pieces_alone::<T, A>(alloc, cells, limited)?;
     let rounded = gather_made(alloc, pieces, 0, cells, grid, segments)?;
     Ok(settled(rounded))
 }
@@ -191,7 +193,8 @@ pub(crate) fn features_alone<A: Allocator + Copy>(
     ensures none_remade { IfOk result (λ r. r.remade ≡ 0) }
 {
     let cells = cells_of(grid, 1, segments);
-    features_by_cells_alone::<Brand, A>(alloc, grid, &cells, segments, owners)
+    let limited = LimitedSegments { list: segments };
+    features_by_cells_alone::<Brand, A>(alloc, grid, &cells, limited, owners)
 }
 
 /// The same, where the type of the pieces knows the cells and the segments.
@@ -199,19 +202,19 @@ fn features_by_cells_alone<T: Tiled, A: Allocator + Copy>(
     alloc: A,
     grid: &Grid,
     cells: &Grid,
-    segments: &[Seg],
+    limited: LimitedSegments<'_>,
     owners: &[u32],
 ) -> Result<RoundedBorders<A>, NoMemory>
-    requires tiled { (cells.now ≡ T.grid) × (segments.now ≡ T.segments) }
-    requires in_limit { AllInLimit segments.now }
-    requires covered_by_cells { HaveTiles cells.now segments.now }
-    requires covered { HaveTiles grid.now segments.now }
-    requires owners { length owners.now ≡ length segments.now }
-    ensures borders { IfOk result (λ r. AreRoundedBorders segments.now owners.now r) }
-    ensures tiles { IfOk result (λ r. AreTileNumbers grid.now segments.now (tile_count grid.now) r.tiles.items) }
+    requires tiled { (cells.now ≡ T.grid) × (limited.list.now ≡ T.segments) }
+    requires covered_by_cells { HaveTiles cells.now limited.list.now }
+    requires covered { HaveTiles grid.now limited.list.now }
+    requires owners { length owners.now ≡ length limited.list.now }
+    ensures borders { IfOk result (λ r. AreRoundedBorders limited.entry.list.now owners.now r) }
+    ensures tiles { IfOk result (λ r. AreTileNumbers grid.now limited.entry.list.now (tile_count grid.now) r.tiles.items) }
     ensures none_remade { IfOk result (λ r. r.remade ≡ 0) }
 {
-    let pieces = pieces_alone::<T, A>(alloc, cells, segments)?;
+    let segments = limited.list;
+    let pieces = pieces_alone::<T, A>(alloc, cells, limited)?;
     gather_borders(alloc, pieces, 0, cells, grid, segments, owners)
 }
 
@@ -219,14 +222,14 @@ fn features_by_cells_alone<T: Tiled, A: Allocator + Copy>(
 fn pieces_alone<T: Tiled, A: Allocator + Copy>(
     alloc: A,
     cells: &Grid,
-    segments: &[Seg],
+    limited: LimitedSegments<'_>,
 ) -> Result<Vec<TilePiece<T, A>, A>, NoMemory>
-    requires tiled { (cells.now ≡ T.grid) × (segments.now ≡ T.segments) }
-    requires in_limit { AllInLimit segments.now }
-    requires covered_by_cells { HaveTiles cells.now segments.now }
+    requires tiled { (cells.now ≡ T.grid) × (limited.list.now ≡ T.segments) }
+    requires covered_by_cells { HaveTiles cells.now limited.list.now }
     ensures one_each { IfOk result (λ v. length v.items ≡ tile_count cells.now) }
     ensures in_order { IfOk result (λ v. StandInOrder (λ p. p.number) v.items) }
 {
+    let segments = limited.list;
     let bins = bins_of(alloc, cells, segments)?;
     let job: Pieces<T, A> = Pieces {
         grid: cells,

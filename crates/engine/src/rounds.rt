@@ -22,8 +22,8 @@ use crate::worth;
 use geom::{NoMemory, Seg};
 use grid::{Grid, KeptBins, MOST_TILES};
 use linking::{
-    Noded, RoundedBorders, TileNumbers, TilePiece, Tiled, gather_borders_in_parts,
-    gather_made_in_parts, settled,
+    LimitedSegments, Noded, RoundedBorders, TileNumbers, TilePiece, Tiled,
+    gather_borders_in_parts, gather_made_in_parts, settled,
 };
 use routing::part;
 use std::alloc::Allocator;
@@ -103,7 +103,8 @@ pub(crate) fn rounded_segments<
     let parts = worth::parts(workers, segments.len(), worth::SEGMENTS);
     let cells = cells_in_parts(rt, alloc, parts, grid, workers, segments)?;
     let blank = Blank::new(u64::from(workers));
-    by_cells::<Brand, Brand, A, G, R>(rt, alloc, blank, grid, &cells, workers, segments, gate)
+    let limited = LimitedSegments { list: segments };
+    by_cells::<Brand, Brand, A, G, R>(rt, alloc, blank, grid, &cells, workers, limited, gate)
 }
 
 /// The same: the workers make the pieces of the cells, which are gathered. A ledger of its own counts the pieces that are posted, and
@@ -121,22 +122,22 @@ fn by_cells<
     grid: &Grid,
     cells: &Grid,
     workers: u32,
-    segments: &[Seg],
+    limited: LimitedSegments<'_>,
     gate: &G,
 ) -> Result<Noded<A>, NoMemory>
     requires name { blank.name ≡ L.name }
     requires parts { (blank.parts ≡ L.parts) × (blank.parts ≡ workers) }
     requires limit { tile_count cells.now ≡ L.limit }
-    requires tiled { (cells.now ≡ T.grid) × (segments.now ≡ T.segments) }
+    requires tiled { (cells.now ≡ T.grid) × (limited.list.now ≡ T.segments) }
     requires workers { (0 < workers) × (workers ≤ MOST_HANDS) }
-    requires in_limit { AllInLimit segments.now }
-    requires covered_by_cells { HaveTiles cells.now segments.now }
-    requires covered { HaveTiles grid.now segments.now }
-    ensures rounded { IfOk result (λ n. ∥ AreRounded segments.now n.edges.items ∥₁) }
-    ensures tiles { IfOk result (λ n. AreTileNumbers grid.now segments.now (tile_count grid.now) n.tiles.items) }
+    requires covered_by_cells { HaveTiles cells.now limited.list.now }
+    requires covered { HaveTiles grid.now limited.list.now }
+    ensures rounded { IfOk result (λ n. ∥ AreRounded limited.entry.list.now n.edges.items ∥₁) }
+    ensures tiles { IfOk result (λ n. AreTileNumbers grid.now limited.entry.list.now (tile_count grid.now) n.tiles.items) }
     ensures remade { IfOk result (λ n. IsRemade n.remade) }
 {
-    let made = cell_pieces::<L, T, A, G, R>(rt, alloc, blank, cells, workers, segments, gate)?;
+    let segments = limited.list;
+    let made = cell_pieces::<L, T, A, G, R>(rt, alloc, blank, cells, workers, limited, gate)?;
     let AllPieces { pieces, remade } = made;
     let parts = worth::parts(workers, record_count(&pieces, segments), worth::RECORDS);
     let rounded = gather_made_in_parts(rt, alloc, parts, pieces, remade, cells, grid, segments)?;
@@ -169,8 +170,9 @@ pub(crate) fn rounded_features<
     let parts = worth::parts(workers, segments.len(), worth::SEGMENTS);
     let cells = cells_in_parts(rt, alloc, parts, grid, workers, segments)?;
     let blank = Blank::new(u64::from(workers));
+    let limited = LimitedSegments { list: segments };
     features_by_cells::<Brand, Brand, A, G, R>(
-        rt, alloc, blank, grid, &cells, workers, segments, owners, gate,
+        rt, alloc, blank, grid, &cells, workers, limited, owners, gate,
     )
 }
 
@@ -188,24 +190,24 @@ fn features_by_cells<
     grid: &Grid,
     cells: &Grid,
     workers: u32,
-    segments: &[Seg],
+    limited: LimitedSegments<'_>,
     owners: &[u32],
     gate: &G,
 ) -> Result<RoundedBorders<A>, NoMemory>
     requires name { blank.name ≡ L.name }
     requires parts { (blank.parts ≡ L.parts) × (blank.parts ≡ workers) }
     requires limit { tile_count cells.now ≡ L.limit }
-    requires tiled { (cells.now ≡ T.grid) × (segments.now ≡ T.segments) }
+    requires tiled { (cells.now ≡ T.grid) × (limited.list.now ≡ T.segments) }
     requires workers { (0 < workers) × (workers ≤ MOST_HANDS) }
-    requires in_limit { AllInLimit segments.now }
-    requires covered_by_cells { HaveTiles cells.now segments.now }
-    requires covered { HaveTiles grid.now segments.now }
-    requires owners { length owners.now ≡ length segments.now }
-    ensures borders { IfOk result (λ r. AreRoundedBorders segments.now owners.now r) }
-    ensures tiles { IfOk result (λ r. AreTileNumbers grid.now segments.now (tile_count grid.now) r.tiles.items) }
+    requires covered_by_cells { HaveTiles cells.now limited.list.now }
+    requires covered { HaveTiles grid.now limited.list.now }
+    requires owners { length owners.now ≡ length limited.list.now }
+    ensures borders { IfOk result (λ r. AreRoundedBorders limited.entry.list.now owners.now r) }
+    ensures tiles { IfOk result (λ r. AreTileNumbers grid.now limited.entry.list.now (tile_count grid.now) r.tiles.items) }
     ensures remade { IfOk result (λ r. IsRemade r.remade) }
 {
-    let made = cell_pieces::<L, T, A, G, R>(rt, alloc, blank, cells, workers, segments, gate)?;
+    let segments = limited.list;
+    let made = cell_pieces::<L, T, A, G, R>(rt, alloc, blank, cells, workers, limited, gate)?;
     let AllPieces { pieces, remade } = made;
     let parts = worth::parts(workers, record_count(&pieces, segments), worth::RECORDS);
     gather_borders_in_parts(
@@ -226,20 +228,20 @@ fn cell_pieces<
     blank: Blank,
     cells: &Grid,
     workers: u32,
-    segments: &[Seg],
+    limited: LimitedSegments<'_>,
     gate: &G,
 ) -> Result<AllPieces<TilePiece<T, A>, A>, NoMemory>
     requires name { blank.name ≡ L.name }
     requires parts { (blank.parts ≡ L.parts) × (blank.parts ≡ workers) }
     requires limit { tile_count cells.now ≡ L.limit }
-    requires tiled { (cells.now ≡ T.grid) × (segments.now ≡ T.segments) }
+    requires tiled { (cells.now ≡ T.grid) × (limited.list.now ≡ T.segments) }
     requires workers { (0 < workers) × (workers ≤ MOST_HANDS) }
-    requires in_limit { AllInLimit segments.now }
-    requires covered_by_cells { HaveTiles cells.now segments.now }
+    requires covered_by_cells { HaveTiles cells.now limited.list.now }
     ensures one_each { IfOk result (λ all. length all.pieces.items ≡ tile_count cells.now) }
     ensures in_order { IfOk result (λ all. StandInOrder (λ p. p.number) all.pieces.items) }
     ensures remade { IfOk result (λ all. IsRemade all.remade) }
 {
+    let segments = limited.list;
     let parts = worth::parts(workers, segments.len(), worth::SEGMENTS);
     let bins = bins_in_parts(rt, alloc, parts, cells, segments)?;
     let job: Pieces<T, A> = Pieces {

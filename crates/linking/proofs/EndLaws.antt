@@ -5,7 +5,7 @@ use Rattle.std.proofs.lemmas.Bool.{cases_lt}
 use Rattle.std.proofs.lemmas.List.{append-nil, get_or-drop, length-drop, take_all, take_more}
 use Rattle.std.proofs.lemmas.List.Elements.{Contains-append_cases, Contains-append_left, Contains-append_right, Contains-push, Contains-push_cases}
 use Rattle.std.proofs.lemmas.Option.{slice_get_within}
-use Rattle.std.specs.Prelude.{◌&&◌, AllPairs, Contains, Some, pos, slice_get, slice_range}
+use Rattle.std.specs.Prelude.{AllPairs, Contains, Some, pos, slice_get, slice_range}
 use Rattle.geom.specs.declared.point.Pt.{Pt}
 use Rattle.geom.specs.declared.segment.Seg.{Seg}
 use Rattle.geom.proofs.Lists.{some_same}
@@ -15,7 +15,7 @@ use Rattle.hot_pixel.proofs.CandidateLaws.{at_contains}
 use Rattle.hot_pixel.proofs.HotLaws.{hot_meets}
 use Rattle.hot_pixel.proofs.ListLaws.{from_cons, here, in_cons, in_filter, in_push, none_in}
 use Rattle.routing.specs.declared.record.Record.{Record}
-use Rattle.routing.specs.Pieces.{IsEnd, IsEndRecord, IsInnerRecord, IsRecord}
+use Rattle.routing.specs.Pieces.{IsEnd, IsEndRecord, IsRecord}
 use Rattle.routing.specs.Recording.{IsRecordAt}
 use Rattle.routing.specs.Steps.{steps_to}
 use Rattle.routing.proofs.PieceLaws.{hot_end, is_end_or_not, met_end}

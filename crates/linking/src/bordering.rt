@@ -57,7 +57,6 @@ pub fn gather_borders<T: Tiled, A: Allocator + Copy>(
 ) -> Result<RoundedBorders<A>, NoMemory>
     requires cells { cells.now ≡ T.grid }
     requires segments { segments.now ≡ T.segments }
-    requires limits { All (λ s. AreInLimit s.a s.b) segments.now }
     requires covered_by_cells { HaveTiles cells.now segments.now }
     requires covered { HaveTiles grid.now segments.now }
     requires one_each { length pieces.items ≡ tile_count cells.now }
@@ -97,7 +96,6 @@ pub fn gather_borders_in_parts<
 ) -> Result<RoundedBorders<A>, NoMemory>
     requires cells { cells.now ≡ T.grid }
     requires segments { segments.now ≡ T.segments }
-    requires limits { All (λ s. AreInLimit s.a s.b) segments.now }
     requires covered_by_cells { HaveTiles cells.now segments.now }
     requires covered { HaveTiles grid.now segments.now }
     requires one_each { length pieces.items ≡ tile_count cells.now }

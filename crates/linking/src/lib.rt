@@ -32,4 +32,4 @@ pub use link::Link;
 pub use made::{gather_made, gather_made_in_parts, rounded_by_records};
 pub use noded::{Noded, settled};
 pub use rounded::{Rounded, TileNumbers};
-pub use tile_piece::{TilePiece, Tiled};
+pub use tile_piece::{LimitedSegments, TilePiece, Tiled};

@@ -1,7 +1,6 @@
 //! Gathering the pieces of all cells.
 
 ghost use Rattle.std.specs.Prelude.{◌≡◌, ◌<◌, ◌^◌, All, IfOk, flat_map, length};
-ghost use Rattle.geom.specs.Limit.{AreInLimit};
 ghost use Rattle.geom.specs.Noded.{IsNoded};
 ghost use Rattle.geom.specs.declared.segment.Source.{Source};
 ghost use Rattle.geom.specs.Rounded.{AreRounded, HasEvenDegrees, edges_of, odd_edges};
@@ -80,7 +79,6 @@ pub fn gather_made<T: Tiled, A: Allocator + Copy>(
 ) -> Result<Rounded<A>, NoMemory>
     requires cells { cells.now ≡ T.grid }
     requires segments { segments.now ≡ T.segments }
-    requires limits { All (λ s. AreInLimit s.a s.b) segments.now }
     requires covered_by_cells { HaveTiles cells.now segments.now }
     requires covered { HaveTiles grid.now segments.now }
     requires one_each { length pieces.items ≡ tile_count cells.now }
@@ -110,7 +108,6 @@ pub fn gather_made_in_parts<T: Tiled + Sync, A: Allocator + Copy + Send + Sync, 
 ) -> Result<Rounded<A>, NoMemory>
     requires cells { cells.now ≡ T.grid }
     requires segments { segments.now ≡ T.segments }
-    requires limits { All (λ s. AreInLimit s.a s.b) segments.now }
     requires covered_by_cells { HaveTiles cells.now segments.now }
     requires covered { HaveTiles grid.now segments.now }
     requires one_each { length pieces.items ≡ tile_count cells.now }
@@ -146,7 +143,6 @@ pub(crate) fn link_pieces<
 ) -> Result<LinkedPieces<L, A>, NoMemory>
     requires cells { cells.now ≡ T.grid }
     requires segments { segments.now ≡ T.segments }
-    requires limits { All (λ s. AreInLimit s.a s.b) segments.now }
     requires covered_by_cells { HaveTiles cells.now segments.now }
     requires covered { HaveTiles grid.now segments.now }
     requires one_each { length pieces.items ≡ tile_count cells.now }
@@ -178,7 +174,6 @@ pub(crate) fn link_alone<M: MakesLinks<L>, L: Copy, T: Tiled, A: Allocator + Cop
 ) -> Result<LinkedAlone<L, A>, NoMemory>
     requires cells { cells.now ≡ T.grid }
     requires segments { segments.now ≡ T.segments }
-    requires limits { All (λ s. AreInLimit s.a s.b) segments.now }
     requires covered_by_cells { HaveTiles cells.now segments.now }
     requires covered { HaveTiles grid.now segments.now }
     requires one_each { length pieces.items ≡ tile_count cells.now }

@@ -1,27 +1,40 @@
 //! Pieces of the cells of one grid over one list of segments, which their type knows.
 
-ghost use Rattle.std.specs.Prelude.{◌≡◌, [], List, pos};
+ghost use Rattle.std.specs.Prelude.{◌≡◌, [], All, List, pos};
+ghost use Rattle.std.proofs.lemmas.List.Elements.{All-nil};
 ghost use Rattle.geom.specs.declared.segment.Seg.{Seg};
+ghost use Rattle.geom.specs.Limit.{AreInLimit};
 ghost use Rattle.grid.specs.Tiles.{Owns, Tiling};
 ghost use Rattle.routing.specs.Pieces.{IsPartOf};
 
-use geom::Pt;
+use geom::{Pt, Seg};
 use routing::{Part, Record};
 use std::alloc::Allocator;
 use std::marker::{Brand, PhantomData};
 use tile_book::Numbered;
 
-/// Segments over a grid, which contracts alone know.
+/// Segments within the coordinate limit over a grid, which contracts alone know.
 pub trait Tiled {
     ghost grid: { Tiling };
 
     ghost segments: { List Seg };
+
+    ghost in_limit: { All (λ s. AreInLimit s.a s.b) segments };
 }
 
 impl Tiled for Brand {
     ghost grid = { record { left = pos 0; bottom = pos 0; side = 1; columns = 0; rows = 0 } };
 
     ghost segments = { [] };
+
+    ghost in_limit = { All-nil (λ s. AreInLimit s.a s.b) };
+}
+
+/// Segments within the coordinate limit, which a piece's type may know.
+#[derive(Clone, Copy)]
+pub struct LimitedSegments<'a> {
+    pub list: &'a [Seg],
+    ghost in_limit: { All (λ s. AreInLimit s.a s.b) list.now },
 }
 
 /// What the routes of all segments have in one cell: its number, its hot pixels, and the records of those that segments meet

@@ -8,4 +8,4 @@ abbrev pub ghosts-features_by_cells-L-Limited : goal.ghosts-features_by_cells-L-
 ghosts-features_by_cells-L-Limited g a = record { limit = tile_count a.cells.now }
 
 abbrev pub ghosts-features_by_cells-T-Tiled : goal.ghosts-features_by_cells-T-Tiled
-ghosts-features_by_cells-T-Tiled g a = record { grid = a.cells.now; segments = a.segments.now }
+ghosts-features_by_cells-T-Tiled g a = record { grid = a.cells.now; segments = a.limited.list.now; in_limit = a.limited.in_limit }

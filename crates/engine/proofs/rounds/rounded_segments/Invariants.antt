@@ -8,4 +8,4 @@ abbrev pub ghosts-by_cells-L-Limited : goal.ghosts-by_cells-L-Limited
 ghosts-by_cells-L-Limited g a = record { limit = tile_count a.cells.now }
 
 abbrev pub ghosts-by_cells-T-Tiled : goal.ghosts-by_cells-T-Tiled
-ghosts-by_cells-T-Tiled g a = record { grid = a.cells.now; segments = a.segments.now }
+ghosts-by_cells-T-Tiled g a = record { grid = a.cells.now; segments = a.limited.list.now; in_limit = a.limited.in_limit }

@@ -1,4 +1,4 @@
-use Rattle.std.proofs.Common.{◌<◌, ◌∙◌, get_or, length, ◌++◌, ◌∷◌, [], List, ap, arith, append_assoc, refl, sym}
+use Rattle.std.proofs.Common.{◌<◌, get_or, length, arith}
 use Rattle.std.proofs.Math.IntN.{pos}
 use Rattle.std.proofs.lemmas.List.{get_or_default}
 use Rattle.routing.specs.declared.record.Record.{Record}

@@ -1,4 +1,3 @@
-use Rattle.std.proofs.Common.{subst}
 use Rattle.routing.proofs.RecordOrder.{records_once}
 use Rattle.linking.proofs.EndLaws.{ends_once}
 use Rattle.linking.proofs.ends.with_ends.Goals as goal

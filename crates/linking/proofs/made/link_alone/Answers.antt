@@ -2,6 +2,8 @@ use Rattle.std.proofs.Common.{◌≡◌, ℕ, List, ◌∙◌, ◌++◌, ap, fla
 use Rattle.std.proofs.Math.Logic.{∥∥₁_map}
 use Rattle.std.specs.Prelude.{All, AllPairs}
 use Rattle.geom.specs.declared.point.Pt.{Pt}
+use Rattle.geom.specs.declared.segment.Seg.{Seg}
+use Rattle.geom.specs.Limit.{AreInLimit}
 use Rattle.grid.specs.Tiles.{HasTile, Owns}
 use Rattle.routing.specs.declared.record.Record.{Record}
 use Rattle.routing.specs.Pieces.{IsPartOf}
@@ -17,6 +19,9 @@ use Rattle.linking.proofs.LinkedLaws.{known_may_link}
 use Rattle.linking.proofs.ShareLaws.{open_span, parts_of_all}
 use Rattle.linking.proofs.Walk.{route_links}
 use Rattle.linking.proofs.made.link_alone.Goals as goal
+
+pub ordered_share-requires : goal.ordered_share-requires
+ordered_share-requires g c = subst (λ (segments : List Seg). All (λ s. AreInLimit s.a s.b) segments) (sym c.requires.segments) g.T.Tiled.in_limit
 
 pub count_by_tile-requires-clause-tiles : goal.count_by_tile-requires-clause-tiles
 count_by_tile-requires-clause-tiles g c =

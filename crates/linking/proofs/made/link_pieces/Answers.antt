@@ -1,7 +1,9 @@
-use Rattle.std.proofs.Common.{◌≡◌, ℕ, List, ◌∙◌, ◌++◌, ap, flat_map, length, refl, subst, sym}
+use Rattle.std.proofs.Common.{◌≡◌, ℕ, List, ◌∙◌, ◌++◌, ap, flat_map, length, refl, rules, subst, sym}
 use Rattle.std.proofs.Math.Logic.{∥∥₁_map}
 use Rattle.std.specs.Prelude.{All, AllPairs}
 use Rattle.geom.specs.declared.point.Pt.{Pt}
+use Rattle.geom.specs.declared.segment.Seg.{Seg}
+use Rattle.geom.specs.Limit.{AreInLimit}
 use Rattle.grid.specs.Tiles.{HasTile, Owns}
 use Rattle.routing.specs.declared.record.Record.{Record}
 use Rattle.routing.specs.Pieces.{IsPartOf}
@@ -16,6 +18,11 @@ use Rattle.linking.proofs.LinkedLaws.{known_may_link}
 use Rattle.linking.proofs.ShareLaws.{parts_of_all}
 use Rattle.linking.proofs.Walk.{route_links}
 use Rattle.linking.proofs.made.link_pieces.Goals as goal
+
+pub ordered_in_parts-requires : goal.ordered_in_parts-requires
+ordered_in_parts-requires g c =
+    let limited = subst (λ (segments : List Seg). All (λ s. AreInLimit s.a s.b) segments) (sym c.requires.segments) g.T.Tiled.in_limit in
+    search rules
 
 pub hot_in_parts-requires-clause-tiles : goal.hot_in_parts-requires-clause-tiles
 hot_in_parts-requires-clause-tiles g c = λ κs l.
