@@ -4,11 +4,10 @@
 //! 1. Lines that don't run through the columns of the rectangle are some of the others. These may be a few at most.
 //! 2. The strands of the lines that do are sorted. If all lines run through and each strand follows the one before, no pixel is hot.
 //! 3. Else they are kept one after the other. Where one doesn't follow the last that is kept, both are taken out: they are others too.
-//! 4. If those that are kept are a bundle, ends of the others are hot, and crossings of the others with all lines. These may be
-//!    some at most.
+//! 4. If those that are kept are a bundle, the ends of the others are hot, and their crossings with all lines.
 //! 5. Steep lines are looked at by the rows, with x and y exchanged, and so are others where columns won't do.
 
-ghost use Rattle.std.specs.Prelude.{◌≤ℤ◌, All, IfOk, IfSome, IsTrue, [], Contains};
+ghost use Rattle.std.specs.Prelude.{◌≤ℤ◌, All, IfOk, IfSome, IsTrue, OnOk, [], Contains};
 ghost use Rattle.geom.specs.declared.point.Pt.{Pt};
 ghost use Rattle.geom.specs.Limit.{AreInLimit};
 ghost use Rattle.hot_pixel.specs.Beside.{AreAscending, AreInOrder, AreParted, HasBothCrossed, TakePart};
@@ -18,16 +17,15 @@ ghost use Rattle.hot_pixel.specs.Rects.{IsIn};
 
 use crate::bundle::{Course, is_bundle, runs_through, seen};
 use crate::carrier::{Carried, strand_if_through, x_of};
-use crate::leaf::{add_ends, cross_with};
+use crate::leaf::{FEW, add_ends, cross_with};
 use crate::lines::Line;
 use geom::{NoMemory, Pt, Rect};
 use std::alloc::Allocator;
 
-/// How many lines at most are crossed with all.
-const A_FEW: usize = 8;
-
-/// After how many pixels a rectangle is rather halved, as each is looked for on each line.
-const SOME: usize = 64;
+/// How many of so many lines are crossed with all at most.
+fn a_few(lines: usize) -> usize {
+    (lines / 8).max(8).min(FEW)
+}
 
 /// Some lines, parted into those that may run side by side and the others.
 #[derive(Drop)]
@@ -38,11 +36,12 @@ struct Parted<A: Allocator> {
 
 /// Whether all lines but a few run through.
 fn most_run_through(course: Course, low: i32, high: i32, lines: &[Line]) -> bool {
+    let most = a_few(lines.len());
     let mut others = 0;
     for line in lines {
         let edge = seen(course, &line.edge);
         if !runs_through(low, high, &edge) {
-            if others == A_FEW {
+            if others == most {
                 return false;
             }
             others += 1;
@@ -87,12 +86,13 @@ fn with_strands<A: Allocator>(
     ensures { IfOk result (λ o. IfSome o (λ v. AreCarried course low high lines.now v.items)) }
 {
     let mut items = Vec::with_capacity(alloc, lines.len())?;
+    let most = a_few(lines.len());
     let mut crossed = 0;
     for place in 0..lines.len() {
         let strand = strand_if_through(course, low, high, &lines[place].edge);
         let item = Carried { strand, place };
         if crosses_last(&items, &item) {
-            if crossed == A_FEW {
+            if crossed == most {
                 return Ok(None);
             }
             crossed += 1;
@@ -151,9 +151,10 @@ fn taken_out<A: Allocator + Copy>(
 ) -> Result<Option<Vec<usize, A>>, NoMemory> {
     let mut kept = Vec::with_capacity(alloc, items.len())?;
     let mut out = Vec::new(alloc);
+    let most = a_few(items.len());
     for item in items {
         keep(&mut kept, &mut out, item)?;
-        if out.len() > A_FEW {
+        if out.len() > most {
             return Ok(None);
         }
     }
@@ -191,26 +192,22 @@ fn part_at<A: Allocator + Copy>(
     Ok(Parted { beside, others })
 }
 
-/// Adds the crossings of the others with all lines that lie in the rectangle, where the ends of the others there are found; it
-/// stops where they are many.
+/// Adds the crossings of the others with all lines that lie in the rectangle, where the ends of the others there are found.
 fn cross_others<A: Allocator>(
     rect: &Rect,
     lines: &[Line],
     others: &[Line],
     found: &mut Vec<Pt, A>,
-) -> Result<bool, NoMemory>
+) -> Result<(), NoMemory>
     requires lines_in { All (λ l. AreInLimit l.edge.p l.edge.q) lines.now }
     requires others_in { All (λ l. AreInLimit l.edge.p l.edge.q) others.now }
     requires ends { (c : Pt) → IsEndOf (edges_of others.now) c → IsIn rect.now c → Contains found.old.items c }
-    ensures { IfOk result (λ b. IsTrue b → HasBothCrossed rect.now (edges_of others.now) (edges_of lines.now) found.old.items found.new.items) }
+    ensures { OnOk result (HasBothCrossed rect.now (edges_of others.now) (edges_of lines.now) found.old.items found.new.items) }
 {
     for line in others {
         cross_with(rect, &line.edge, lines, found)?;
-        if found.len() > SOME {
-            return Ok(false);
-        }
     }
-    Ok(true)
+    Ok(())
 }
 
 /// The pixels of a rectangle that are hot for its lines, where of those that make one hot some are always among the others.
@@ -219,17 +216,15 @@ fn hot_of_others<A: Allocator>(
     rect: &Rect,
     lines: &[Line],
     others: &[Line],
-) -> Result<Option<Vec<Pt, A>>, NoMemory>
+) -> Result<Vec<Pt, A>, NoMemory>
     requires lines_in { All (λ l. AreInLimit l.edge.p l.edge.q) lines.now }
     requires others { TakePart rect.now lines.now others.now }
-    ensures { IfOk result (λ o. IfSome o (λ v. HasHot rect.now (edges_of lines.now) [] v.items)) }
+    ensures { IfOk result (λ v. HasHot rect.now (edges_of lines.now) [] v.items) }
 {
     let mut found = Vec::new(alloc);
     add_ends(rect, others, &mut found)?;
-    if cross_others(rect, lines, others, &mut found)? {
-        return Ok(Some(found));
-    }
-    Ok(None)
+    cross_others(rect, lines, others, &mut found)?;
+    Ok(found)
 }
 
 /// The same where nearly all lines run side by side along a course, through which they run.
@@ -257,7 +252,8 @@ fn hot_along<A: Allocator + Copy>(
     };
     let parted = part_at(alloc, lines, &places)?;
     if is_bundle(alloc, rect, &parted.beside)? {
-        return hot_of_others(alloc, rect, lines, &parted.others);
+        let found = hot_of_others(alloc, rect, lines, &parted.others)?;
+        return Ok(Some(found));
     }
     Ok(None)
 }
@@ -288,8 +284,7 @@ fn course_of(rect: &Rect, lines: &[Line]) -> Option<Course>
     None
 }
 
-/// The pixels of a rectangle that are hot for its lines, where nearly all run side by side and these pixels are few. It may answer
-/// None of any lines.
+/// The pixels of a rectangle that are hot for its lines, where nearly all run side by side. It may answer None of any lines.
 pub fn hot_beside<A: Allocator + Copy>(
     alloc: A,
     rect: &Rect,

@@ -1,7 +1,7 @@
 //! Hot pixels: the lines of segments and a rectangle in, the pixels out that an end or a crossing makes hot.
 //!
-//! 1. A rectangle is cut in two, and each half goes on with the lines that pass it (`halving`). Where long lines would go into both,
-//!    a wall beside one of them parts it (`region`, `reach`, `parting`).
+//! 1. A rectangle is cut in two, and each half goes on with the lines that pass it (`halving`, `border`). Where long lines would go
+//!    into both, a wall beside one or all of them parts it (`region`, `reach`, `parting`, `outer`).
 //! 2. It is left where its lines run through it in order (`bundle`); where all but a few do, these are crossed with all (`beside`).
 //! 3. A small one has its ends and its crossings found (`leaf`).
 //!
@@ -10,12 +10,14 @@
 #![tactic(auto)]
 
 mod beside;
+mod border;
 mod bundle;
 mod carrier;
 mod halving;
 mod hot;
 mod leaf;
 mod lines;
+mod outer;
 mod parting;
 mod pixels;
 mod reach;

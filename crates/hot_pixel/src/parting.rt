@@ -4,15 +4,19 @@
 //! 1. The rectangle is cut by columns or by rows (`halving`). Of a sample of its lines, those are long that go far through it and
 //!    into both halves.
 //! 2. Where many of the sample are long, a wall is set beside the middle one of them, in its direction: on its left, or on its right.
-//! 3. The wall stands if few lines may meet pixels on both its sides, and many on each side alone. Else the halves stay.
+//! 3. The wall stands if few lines may meet pixels on both its sides, and many on each side alone.
+//! 4. Else one is set past all long lines, where these are a thin bundle and others lie beside it (`outer`).
+//! 5. Else the halves stay. Where lines are many the border between these is moved (`border`).
 
 ghost use Rattle.std.specs.Prelude.{◌<◌, ◌≤◌, All, IfOk, IfSome, length};
 ghost use Rattle.geom.specs.Limit.{AreInLimit};
-ghost use Rattle.hot_pixel.specs.Halving.{AreParts};
+ghost use Rattle.hot_pixel.specs.Halving.{AreHalves, AreParts};
 ghost use Rattle.hot_pixel.specs.Walls.{ArePartition, IsInside};
 
+use crate::border::with_border_moved;
 use crate::halving::{SAMPLE, cut, passes};
 use crate::lines::Line;
+use crate::outer::walls_parting_off;
 use crate::reach::may_come_behind;
 use crate::region::{Region, walls_at};
 use crate::wall::{Wall, offset, span};
@@ -29,7 +33,7 @@ const MANY: usize = 64;
 const LONG: usize = 4;
 
 /// One in how many lines may be on both sides of a wall at most, and has to be on one side alone at least.
-const SHARE: usize = 8;
+pub(crate) const SHARE: usize = 8;
 
 /// Whether a span from one number to another has more than half of the one from low to high.
 fn has_half(low: i32, high: i32, from: i32, to: i32) -> bool {
@@ -109,7 +113,7 @@ fn middle_of(run: Vector, lines: &[Edge]) -> usize
 }
 
 /// The direction of a line, or the opposite one.
-fn direction_of(line: &Edge, is_opposite: bool) -> Vector
+pub(crate) fn direction_of(line: &Edge, is_opposite: bool) -> Vector
     requires { AreInLimit line.now.p line.now.q }
 {
     if is_opposite {
@@ -132,7 +136,7 @@ fn walls_beside(lines: &[Edge], is_opposite: bool) -> (Wall, Wall)
 }
 
 /// Whether a line may meet a pixel of a rectangle behind a wall.
-fn comes_behind(wall: &Wall, rect: &Rect, line: &Edge) -> bool
+pub(crate) fn comes_behind(wall: &Wall, rect: &Rect, line: &Edge) -> bool
     requires rect_in { AreInLimit rect.now.lo rect.now.hi }
     requires line_in { AreInLimit line.now.p line.now.q }
 {
@@ -189,7 +193,30 @@ fn slanted<A: Allocator>(
     if part_lines(rect, &walls, lines) {
         return Ok(Some(walls));
     }
-    Ok(None)
+    if let Some(walls) = walls_parting_off(rect, &long, false, lines) {
+        return Ok(Some(walls));
+    }
+    Ok(walls_parting_off(rect, &long, true, lines))
+}
+
+/// Halves of a region's rectangle, the border between them moved where lines are many, or were parted by walls before.
+fn halves_for<A: Allocator>(
+    region: &Region<A>,
+    halves: (Rect, Rect),
+    lines: &[Line],
+) -> (Rect, Rect)
+    requires rect_in { AreInLimit region.now.rect.lo region.now.rect.hi }
+    requires halves { AreHalves region.now.rect halves.0 halves.1 }
+    requires first_in { AreInLimit halves.0.lo halves.0.hi }
+    requires second_in { AreInLimit halves.1.lo halves.1.hi }
+    ensures halves { AreHalves region.now.rect result.0 result.1 }
+    ensures first_in { AreInLimit result.0.lo result.0.hi }
+    ensures second_in { AreInLimit result.1.lo result.1.hi }
+{
+    if lines.len() < MANY && region.walls.is_empty() {
+        return halves;
+    }
+    with_border_moved(&region.rect, halves, lines)
 }
 
 /// Two parts of a region, by which its lines are parted. Only a single pixel has none.
@@ -214,6 +241,7 @@ pub fn parts<A: Allocator + Copy>(
             return Ok(Some((first, second)));
         }
     }
+    let halves = halves_for(region, halves, lines);
     let first = region.within(alloc, halves.0)?;
     let second = region.within(alloc, halves.1)?;
     Ok(Some((first, second)))

@@ -36,7 +36,7 @@ use Rattle.routing.specs.declared.by_line.OnLine.{OnLine}
 use Rattle.routing.specs.declared.record.Record.{Record}
 use Rattle.routing.specs.declared.record.Candidate.{Candidate}
 use Rattle.routing.specs.Found.{IsRecordOf, HasInnerRecords}
-use Rattle.routing.specs.Pieces.{candidates_of, IsEnd, IsEndRecord}
+use Rattle.routing.specs.Pieces.{candidates_of, IsEnd}
 use Rattle.routing.specs.Steps.{steps_to}
 use Rattle.routing.specs.Cutting.{IsEndIn, IsPortion}
 use Rattle.routing.specs.Recording.{IsCutTable, IsTable, AreLinesOf, IsCopy, IsRecordAt, IsRecordAlong, IsRecordOnOne, AddsAt, AddsAlong, AddsRecordsAt, AddsRecordsInside}

@@ -2,11 +2,11 @@
 //!
 //! 1. Where segments are many they are cut into portions, of which no two overlap on one carrier (`by_line`). These are the lines.
 //! 2. A region, at first the tile, with many lines that run side by side in its rectangle is left: it has no hot pixel. Where nearly
-//!    all do, the others are crossed with all lines, unless more than some pixels are found so (`hot_pixel: hot_beside`).
+//!    all do, the others are crossed with all lines (`hot_pixel: hot_beside`).
 //! 3. Another one with many lines is parted (`hot_pixel: parts`), and each part is left with the lines that may meet its pixels.
 //! 4. Where few are left, or one pixel, all pairs are crossed; in a pixel with many lines those of one line of each carrier.
-//! 5. Each line is tested against each hot pixel that was found there. Where it meets one, each segment on the line has a
-//!    record.
+//! 5. Each line is tested on each hot pixel that was found there; where both are many, on those that it comes near (`spread`). Where
+//!    it meets one, each segment on the line has a record.
 
 ghost use Rattle.std.specs.Prelude.{◌<◌, ◌≤◌, All, IfOk, IfSome, List, OnOk, [], length};
 ghost use Rattle.geom.specs.declared.rect.Rect.{Rect};
@@ -25,15 +25,16 @@ use crate::met::meets;
 use crate::pieces::Part;
 use crate::piled::{add_new_at, is_pile};
 use crate::record::{Record, is_end, record_at};
+use crate::spread::add_spread;
 use geom::{NoMemory, Pt, Rect, Seg};
 use hot_pixel::{
     FEW, Line, Region, add_hot, ascending, hot_beside, kept, on_line, parts, reaching, within_limit,
 };
 use std::alloc::Allocator;
 
-/// How often a region is parted at most. Within the coordinate limit a single pixel is left after 60 halvings of its rectangle, and it
-/// has 60 walls at most.
-const DEPTH: u32 = 120;
+/// How often a region is parted at most. Within the coordinate limit a single pixel is left after 60 halvings of its rectangle, but
+/// that once by columns and once by rows a part may be larger than a half (`hot_pixel: parts`); and it has 60 walls at most.
+const DEPTH: u32 = 122;
 
 /// Adds the record of each segment on a line at a pixel that is no end of it.
 #[inline(never)]
@@ -104,8 +105,8 @@ fn add_along<A: Allocator>(
     Ok(())
 }
 
-/// Adds the records of the segments on lines at those of the pixels that they meet.
-fn add_records<A: Allocator>(
+/// Adds the records of the segments on lines at those of the pixels that they meet: each line is tested on each pixel.
+pub(crate) fn add_records<A: Allocator>(
     records: &mut Vec<Record, A>,
     segments: &[Seg],
     table: &[OnLine],
@@ -126,7 +127,7 @@ fn add_records<A: Allocator>(
 }
 
 /// Adds those of the pixels that are hot for the lines of a rectangle that lie in a region of it, and the records there.
-fn add_found<A: Allocator>(
+fn add_found<A: Allocator + Copy>(
     alloc: A,
     here: Vec<Pt, A>,
     segments: &[Seg],
@@ -144,7 +145,15 @@ fn add_found<A: Allocator>(
     ensures records { OnOk result (AddsRecordsInside segments.now table.now (IsInside region.now.rect region.now.walls.items) lines.now found.old.records.items found.new.records.items) }
 {
     let pixels = kept(alloc, &region.walls, ascending(here))?;
-    add_records(&mut found.records, segments, table, lines, &pixels)?;
+    add_spread(
+        alloc,
+        &mut found.records,
+        segments,
+        table,
+        lines,
+        &pixels,
+        DEPTH,
+    )?;
     found.pixels.extend_from_slice(&pixels)?;
     Ok(())
 }
@@ -171,7 +180,7 @@ fn add_all<A: Allocator + Copy>(
 }
 
 /// The lines that may meet a pixel of a part of a region. None stands for all of them, which so never stand in memory twice.
-fn fewer<A: Allocator>(
+pub(crate) fn fewer<A: Allocator>(
     alloc: A,
     part: &Region<A>,
     lines: &[Line],
@@ -188,7 +197,10 @@ fn fewer<A: Allocator>(
 }
 
 /// The lines that a part is left with: the fewer ones, or all.
-fn left_of<'a, A: Allocator>(lines: &'a [Line], fewer: &'a Option<Vec<Line, A>>) -> &'a [Line]
+pub(crate) fn left_of<'a, A: Allocator>(
+    lines: &'a [Line],
+    fewer: &'a Option<Vec<Line, A>>,
+) -> &'a [Line]
     ensures { (rect : Rect) (walls : List Wall) → IfSome fewer.now (λ some. AreReaching (IsInside rect walls) lines.now some.items) → AreReaching (IsInside rect walls) lines.now result.now }
 {
     match fewer {

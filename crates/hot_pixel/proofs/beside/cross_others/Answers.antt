@@ -27,7 +27,7 @@ loop-line-preserved g c =
     both_more c.args.rect.now (edges_of others) (edges_of c.args.lines.now) i l.edge c.args.found.now.items c.loop-line.found.items c.cross_with.new.found.items (edge_below others i c.loop-line-test.true) (edge_at others i l c.line-item.is) c.loop-line.invariant c.in_ok-cross_with.ensures
 
 pub returns : goal.returns
-returns g c = λ told.
+returns g c =
     let others = c.args.others.now in
     let i = c.loop-line.line-index in
     subst (λ (es : List Edge). HasBothCrossed c.args.rect.now es (edges_of c.args.lines.now) c.args.found.now.items c.loop-line.found.items) (edges_taken others i ∙ ap edges_of (take_all i others c.loop-line-test.false)) c.loop-line.invariant

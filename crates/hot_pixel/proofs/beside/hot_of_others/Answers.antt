@@ -9,5 +9,5 @@ cross_others-requires-clause-ends g c = λ p k t. (c.in_ok-add_ends.ensures.same
 pub cross_others-requires-clause-others_in : goal.cross_others-requires-clause-others_in
 cross_others-requires-clause-others_in g c = both_all (λ l. AreInLimit l.edge.p l.edge.q) c.args.lines.now c.args.others.now c.requires.others.among c.requires.lines_in
 
-pub returns-then-branch : goal.returns-then-branch
-returns-then-branch g c = found_beside c.args.rect.now c.args.lines.now c.args.others.now c.add_ends.new.found.items c.cross_others.new.found.items c.requires.others (rw c.new-found.ensures.items at c.in_ok-add_ends.ensures) (c.in_ok-cross_others.ensures c.if-branch.true)
+pub returns : goal.returns
+returns g c = found_beside c.args.rect.now c.args.lines.now c.args.others.now c.add_ends.new.found.items c.cross_others.new.found.items c.requires.others (rw c.new-found.ensures.items at c.in_ok-add_ends.ensures) c.in_ok-cross_others.ensures

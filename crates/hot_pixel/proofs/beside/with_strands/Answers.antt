@@ -4,7 +4,7 @@ use Rattle.hot_pixel.specs.declared.lines.Line.{Line}
 use Rattle.hot_pixel.specs.Bundle.{IsStrandSeen}
 use Rattle.hot_pixel.proofs.CarrierLaws.{carried_all, carried_more}
 use Rattle.hot_pixel.proofs.beside.with_strands.Goals as goal
-use Rattle.hot_pixel.proofs.beside.with_strands.Goals.{then-crosses_last+else-crossed-eq-A_FEW, else-crosses_last}
+use Rattle.hot_pixel.proofs.beside.with_strands.Goals.{then-crosses_last+else-crossed-most, else-crosses_last}
 
 pub loop-place-preserved : goal.loop-place-preserved
 loop-place-preserved g c =
@@ -15,7 +15,7 @@ loop-place-preserved g c =
     let strand = subst (λ (x : Line). IfSome c.strand_if_through-strand.result (λ s. IsStrandSeen c.args.course low high x.edge s)) (sym c.index-lines-place.is) c.strand_if_through-strand.ensures in (
       rw c.in_ok-push.ensures.items (carried_more c.args.course low high c.args.lines.now c.loop-place.place c.loop-place.items.items l _ c.loop-place-test.true c.index-lines-place.is refl strand inv.0),
       elim c.if-crosses_last.branch [
-        | then-crosses_last+else-crossed-eq-A_FEW w ↦ rw w.crossed-is (omega (arith, inv.1, w.if-crossed-eq-A_FEW.false))
+        | then-crosses_last+else-crossed-most w ↦ rw w.crossed-is (omega (arith, inv.1, w.if-crossed-most.false))
         | else-crosses_last w ↦ rw w.crossed-is inv.1
       ],
     )

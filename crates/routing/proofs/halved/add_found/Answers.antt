@@ -21,8 +21,8 @@ kept-requires g c =
     let rect = c.args.region.now.rect in
     hot_within (IsIn rect) c.args.lines.now c.ascending.result.items (hot_same (IsIn rect) (edges_of c.args.lines.now) [] c.args.here.items c.ascending.result.items c.ascending.ensures.same c.requires.here) c.requires.lines_in
 
-pub add_records-requires-clause-pixels_in : goal.add_records-requires-clause-pixels_in
-add_records-requires-clause-pixels_in g c =
+pub add_spread-requires-clause-pixels_in : goal.add_spread-requires-clause-pixels_in
+add_spread-requires-clause-pixels_in g c =
     let region = c.args.region.now in
     let pixels = c.in_ok-pixels.pixels.items in
     let some = subst (λ (ws : List Wall). AreKept ws c.ascending.result.items pixels) c.deref.ensures.value c.in_ok-pixels.ensures in
@@ -43,4 +43,4 @@ returns-clause-records g c =
     let pixels = c.in_ok-pixels.pixels.items in
     let some = subst (λ (ws : List Wall). AreKept ws c.ascending.result.items pixels) c.deref.ensures.value c.in_ok-pixels.ensures in
     let hot = hot_here region.rect region.walls.items c.args.lines.now c.args.here.items c.ascending.result.items pixels c.requires.here c.ascending.ensures.same some in
-    records_all (IsInside region.rect region.walls.items) c.args.lines.now pixels hot c.args.segments.now c.args.table.now c.args.found.now.records.items _ (subst (λ (ps : List Pt). AddsRecordsAt c.args.segments.now c.args.table.now c.args.lines.now ps c.args.found.now.records.items c.add_records.new.records.items) c.deref-2.ensures.value c.in_ok-add_records.ensures)
+    records_all (IsInside region.rect region.walls.items) c.args.lines.now pixels hot c.args.segments.now c.args.table.now c.args.found.now.records.items _ (subst (λ (ps : List Pt). AddsRecordsAt c.args.segments.now c.args.table.now c.args.lines.now ps c.args.found.now.records.items c.add_spread.new.records.items) c.deref-2.ensures.value c.in_ok-add_spread.ensures)
