@@ -12,3 +12,4 @@ pub mod CarrierLaws
 pub mod BesideLaws
 pub mod WallLaws
 pub mod ReachLaws
+pub mod BoxLaws

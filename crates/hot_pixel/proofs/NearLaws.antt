@@ -97,7 +97,7 @@ met_near rect e c h m =
 lies : (lo hi c : Pt) → IsInBox lo hi c → LiesInBox lo hi (record { x = c.x; y = c.y; n = pos 1; positive = omega (arith, linear) })
 lies lo hi c h = record { left = once_from lo.x c.x h.left; right = once_to hi.x c.x h.right; bottom = once_from lo.y c.y h.bottom; top = once_to hi.y c.y h.top }
 
-in_bounds : (e : Edge) (c : Pt) → IsMetOn e c → IsInBox (least_corner e.p e.q) (greatest_corner e.p e.q) c
+pub in_bounds : (e : Edge) (c : Pt) → IsMetOn e c → IsInBox (least_corner e.p e.q) (greatest_corner e.p e.q) c
 unfolding segment_of
 in_bounds e c m = let b = meets_box (piece (segment_of e)) c (meets_in (segment_of e) c (met_segment e c m)) in box_of_between e.p e.q c b.0 b.1
 

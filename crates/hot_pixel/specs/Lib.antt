@@ -6,3 +6,4 @@ pub mod Bundle
 pub mod Carriers
 pub mod Beside
 pub mod Walls
+pub mod Boxes

@@ -1,9 +1,10 @@
 //! The hot pixels of a rectangle with few lines, or of a single pixel: by all ends and all pairs, of many lines by the pairs of
 //! one line of each carrier.
 
-ghost use Rattle.std.specs.Prelude.{◌≡◌, ◌⊎◌, ◌≤◌, All, Contains, IsTrue, OnOk, false, length, take, true};
+ghost use Rattle.std.specs.Prelude.{◌≡◌, ◌⊎◌, ◌≤◌, ◌∷◌, [], All, Contains, IsTrue, OnOk, false, length, take, true};
 ghost use Rattle.geom.specs.declared.point.Pt.{Pt};
 ghost use Rattle.geom.specs.Limit.{AreInLimit};
+ghost use Rattle.hot_pixel.specs.Boxes.{boxes_of};
 ghost use Rattle.hot_pixel.specs.Halving.{edges_of, HasEndsToo, HasHot, IsEndOf};
 ghost use Rattle.hot_pixel.specs.Lines.{CrossAt, HasAllCrossed, HasCrossed};
 ghost use Rattle.hot_pixel.specs.Rects.{IsIn};
@@ -11,12 +12,13 @@ ghost use Rattle.hot_pixel.specs.Rects.{IsIn};
 use crate::carrier::one_of_each_carrier;
 use crate::lines::{Line, on_line};
 use crate::pixels::push_in;
+use box_lanes::{Boxes, LANES, split_first};
 use crossing::{cross, may_meet};
 use geom::{Edge, NoMemory, Pt, Rect};
 use std::alloc::Allocator;
 
-/// How many lines of a rectangle are few: all pairs of them are crossed.
-pub const FEW: usize = 32;
+/// How many lines of a rectangle are few: all pairs of them are crossed, whose boxes are compared by lanes.
+pub const FEW: usize = LANES;
 
 /// Adds the ends of the lines that lie in the rectangle.
 pub(crate) fn add_ends<A: Allocator>(
@@ -47,11 +49,24 @@ fn have_common_end(e: &Edge, f: &Edge) -> bool
     is_end_of(e.p, f) || is_end_of(e.q, f)
 }
 
-/// Whether two lines may cross elsewhere than in an end of the first.
-fn may_cross(e: &Edge, f: &Edge) -> bool
-    ensures { (c : Pt) → result ≡ false → CrossAt f.now e.now c → (e.now.p ≡ c) ⊎ (e.now.q ≡ c) }
+/// Adds the crossing of two lines, if it lies in the rectangle, where the ends of the first one there are found.
+fn cross_pair<A: Allocator>(
+    rect: &Rect,
+    line: &Edge,
+    other: &Edge,
+    found: &mut Vec<Pt, A>,
+) -> Result<(), NoMemory>
+    requires line_in { AreInLimit line.now.p line.now.q }
+    requires other_in { AreInLimit other.now.p other.now.q }
+    requires ends { (c : Pt) → (line.now.p ≡ c) ⊎ (line.now.q ≡ c) → IsIn rect.now c → Contains found.old.items c }
+    ensures { OnOk result (HasCrossed rect.now line.now (other.now ∷ []) found.old.items found.new.items) }
 {
-    may_meet(&on_line(e), &on_line(f)) && !have_common_end(e, f)
+    if !have_common_end(line, other) {
+        if let Some(pixel) = cross(&on_line(line), &on_line(other)) {
+            push_in(found, rect, pixel)?;
+        }
+    }
+    Ok(())
 }
 
 /// Adds the crossings of a line with other lines that lie in the rectangle, where its ends there are found.
@@ -68,12 +83,32 @@ pub(crate) fn cross_with<A: Allocator>(
 {
     let s = on_line(line);
     for other in others {
-        if may_cross(line, &other.edge) {
-            let t = on_line(&other.edge);
-            if let Some(pixel) = cross(&s, &t) {
-                push_in(found, rect, pixel)?;
-            }
+        if may_meet(&s, &on_line(&other.edge)) {
+            cross_pair(rect, line, &other.edge, found)?;
         }
+    }
+    Ok(())
+}
+
+/// The same, where the boxes of the other lines are told.
+fn cross_near<A: Allocator>(
+    rect: &Rect,
+    line: &Edge,
+    others: &[Line],
+    boxes: &Boxes,
+    found: &mut Vec<Pt, A>,
+) -> Result<(), NoMemory>
+    requires line_in { AreInLimit line.now.p line.now.q }
+    requires others_in { All (λ l. AreInLimit l.edge.p l.edge.q) others.now }
+    requires boxes { boxes.now ≡ boxes_of (edges_of others.now) }
+    requires ends { (c : Pt) → (line.now.p ≡ c) ⊎ (line.now.q ≡ c) → IsIn rect.now c → Contains found.old.items c }
+    ensures { OnOk result (HasCrossed rect.now line.now (edges_of others.now) found.old.items found.new.items) }
+{
+    let mut near = boxes.sharing(&line.bounds());
+    while near != 0 {
+        let (place, rest) = split_first(near);
+        cross_pair(rect, line, &others[place].edge, found)?;
+        near = rest;
     }
     Ok(())
 }
@@ -117,6 +152,29 @@ fn cross_pairs<A: Allocator>(
     Ok(())
 }
 
+/// The same, where lines are few.
+fn cross_few<A: Allocator>(
+    rect: &Rect,
+    lines: &[Line],
+    found: &mut Vec<Pt, A>,
+) -> Result<(), NoMemory>
+    requires few { length lines.now ≤ 32 }
+    requires lines_in { All (λ l. AreInLimit l.edge.p l.edge.q) lines.now }
+    requires ends { (c : Pt) → IsEndOf (edges_of lines.now) c → IsIn rect.now c → Contains found.old.items c }
+    ensures { OnOk result (HasAllCrossed rect.now (edges_of lines.now) found.old.items found.new.items) }
+{
+    let mut boxes = Boxes::none();
+    for place in 0..lines.len() {
+        if is_found(rect, found) {
+            return Ok(());
+        }
+        let line = &lines[place];
+        cross_near(rect, &line.edge, earlier(lines, place), &boxes, found)?;
+        boxes.push(&line.edge.bounds());
+    }
+    Ok(())
+}
+
 /// Adds the crossings of lines that lie in the rectangle, where all ends there are found. Where lines are many, one of each
 /// carrier is crossed with the others.
 fn add_crossings<A: Allocator + Copy>(
@@ -129,8 +187,11 @@ fn add_crossings<A: Allocator + Copy>(
     requires ends { (c : Pt) → IsEndOf (edges_of lines.now) c → IsIn rect.now c → Contains found.old.items c }
     ensures { OnOk result (HasAllCrossed rect.now (edges_of lines.now) found.old.items found.new.items) }
 {
-    if lines.len() <= FEW || is_found(rect, found) {
-        return cross_pairs(rect, lines, found);
+    if lines.len() <= FEW {
+        return cross_few(rect, lines, found);
+    }
+    if is_found(rect, found) {
+        return Ok(());
     }
     let kept = one_of_each_carrier(alloc, rect, lines)?;
     cross_pairs(rect, &kept, found)?;

@@ -1,15 +1,18 @@
-use Rattle.std.proofs.Common.{◌∙◌, inl, refl, sym, ap, Some, List, subst}
+use Rattle.std.proofs.Common.{◌∙◌, inl, sym, ap, List, subst}
 use Rattle.std.proofs.lemmas.List.{take_all}
 use Rattle.geom.specs.declared.edge.Edge.{Edge}
 use Rattle.hot_pixel.specs.Lines.{IsLine, HasCrossed}
-use Rattle.hot_pixel.proofs.SweepLaws.{crossed_none, crossed_known, crossed_skip, crossed_push, pair_found, pair_none}
+use Rattle.hot_pixel.proofs.SweepLaws.{crossed_none, crossed_skip, crossed_one, pair_apart}
 use Rattle.hot_pixel.specs.Halving.{edges_of}
 use Rattle.hot_pixel.proofs.HalvingLaws.{edge_at, edge_below, edges_taken}
 use Rattle.hot_pixel.proofs.leaf.cross_with.Goals as goal
-use Rattle.hot_pixel.proofs.leaf.cross_with.Goals.{then-may_cross+in-Some+in_ok-push_in, then-may_cross+in_default, else-may_cross}
+use Rattle.hot_pixel.proofs.leaf.cross_with.Goals.{then-may_meet+in_ok-cross_pair, else-may_meet}
 
 pub loop-other-init : goal.loop-other-init
 loop-other-init g c = crossed_none c.args.rect.now c.args.line.now c.args.found.now.items
+
+pub cross_pair-requires-clause-ends : goal.cross_pair-requires-clause-ends
+cross_pair-requires-clause-ends g c = λ p k t. c.loop-other.invariant.kept p (c.requires.ends p k t)
 
 pub loop-other-preserved : goal.loop-other-preserved
 loop-other-preserved g c =
@@ -23,14 +26,10 @@ loop-other-preserved g c =
     let l = edge_below c.args.others.now i c.loop-other-test.true in
     let is = edge_at c.args.others.now i c.other-item.result c.other-item.is in
     let inv = c.loop-other.invariant in
-    elim c.if-may_cross.branch [
-      | then-may_cross+in-Some+in_ok-push_in w ↦ rw w.found-is
-          (let p = pair_found e f s w.on_line-t.result on_e (inl (sym w.on_line-t.ensures.a, sym w.on_line-t.ensures.b)) (Some w.in-Some.pixel) w.in-Some.ensures w.in-Some.pixel refl in
-          crossed_push tile e others i f c.args.found.now.items c.loop-other.found.items l is inv w.push_in.new.found.items w.in-Some.pixel p.0 p.1 w.in_ok-push_in.ensures)
-      | then-may_cross+in_default w ↦ rw w.found-is
-          (crossed_skip tile e others i f c.args.found.now.items c.loop-other.found.items l is inv (pair_none e f s w.on_line-t.result on_e (inl (sym w.on_line-t.ensures.a, sym w.on_line-t.ensures.b)) w.cross.result w.cross.ensures w.in_default.not-Some))
-      | else-may_cross w ↦ rw w.found-is
-          (crossed_known tile e others i f c.args.found.now.items c.loop-other.found.items l is inv (λ p x. c.requires.ends p (c.may_cross.ensures p w.if-may_cross.false x)))
+    elim c.if-may_meet.branch [
+      | then-may_meet+in_ok-cross_pair w ↦ rw w.found-is (crossed_one tile e others i f c.args.found.now.items c.loop-other.found.items l is inv w.cross_pair.new.found.items w.in_ok-cross_pair.ensures)
+      | else-may_meet w ↦ rw w.found-is
+          (crossed_skip tile e others i f c.args.found.now.items c.loop-other.found.items l is inv (pair_apart e f s c.on_line.result on_e (inl (sym c.on_line.ensures.a, sym c.on_line.ensures.b)) c.may_meet.result c.may_meet.ensures.crossing w.if-may_meet.false))
     ]
 
 pub returns : goal.returns
