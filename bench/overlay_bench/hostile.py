@@ -1,12 +1,13 @@
-"""sweeps over kinds of layers that are made to hurt, at all sizes of coordinates: bytes, processor time and growth
+"""sweeps over kinds of layers that are made to hurt, at all sizes of coordinates: bytes, processor time, memory and growth
 
 Each pair of layers (`hostile_kinds`) is run by all commands and three tile sides (the default one, an eighth of the width, the whole
 width as far as a side may go), by one worker. The bytes have to be the plain program's. What goes in and comes out are input segments,
-records (as the plain program reports them) and output edges or points. A run may take ten times what parcels take for as much of that,
-and grow from one size of a kind to the next one at most as its power of 1.2; less than a tenth of a second is no fault, and what takes
-more is measured up to three times. A run that takes more processor seconds than it may (or a hundred times as long on the clock) is
-ended, told with its layers' name, and its kind is not tried at greater sizes. The exit status is 1 where anything of this is not as it should be. With --only, --size and --coordinates one kind, or
-one pair of layers, is tried: its layers are kept in bench/out.
+records (as the plain program reports them) and output edges or points. A run may take ten times what parcels take for as much of that.
+Time and memory may grow at most as its power of 1.2, from one size of a kind to the next one that has at least twice as much of it.
+Less than a tenth of a second, or 64 megabytes, is no fault, and what takes more is measured up to three times. A run that takes more
+processor seconds than it may (or a hundred times as long on the clock) is ended, told with its layers' name, and its kind is not tried
+at greater sizes. The exit status is 1 where anything of this is not as it should be. With --only, --size and --coordinates one kind,
+or one pair of layers, is tried: its layers are kept in bench/out.
 """
 from __future__ import annotations
 
@@ -25,12 +26,14 @@ from .programs import COMMANDS, Taken, taken
 
 COORDINATES = (4, 8, 13, 18, 23, 28)
 SIZES = (3, 30, 300, 3_000, 30_000, 200_000)
-TIMES, POWER, LEAST = 10, 1.2, 0.1
+TIMES, POWER = 10, 1.2
+LEAST, LEAST_MEMORY = 0.1, 64
 GREATEST_SIDE = 1 << 25
 # The smallest layers that once took hours, or much longer than others: kind, segments, coordinates.
 FINDS = (
     ("to_and_fro", 34, 13), ("to_and_fro", 34, 28), ("slivers_at_one_tip", 60, 28), ("rectangles_on_one_base", 160, 28),
     ("confetti_on_diagonals", 2_000, 28), ("diamonds_at_one_tip", 4_000, 28), ("deep_slope", 6_000, 28),
+    ("flat_zigzag", 2_000, 28), ("confetti_at_a_pencil", 30_000, 20),
 )
 
 
@@ -89,7 +92,8 @@ def short_families() -> Iterator[Family]:
 
 @dataclass
 class Run:
-    """What a command took on layers; how much went in and came out, and how many times what parcels take that was."""
+    """What a command took on layers, seconds and megabytes; how much went in and came out, and how many times what parcels take that was.
+    How much of what they may time and memory grew."""
 
     layers: str
     command: str
@@ -98,7 +102,9 @@ class Run:
     plain: float | None
     items: int
     times: float = 0.0
+    memory: float = 0.0
     growth: float = 0.0
+    memory_growth: float = 0.0
     fault: str = ""
 
     def __str__(self) -> str:
@@ -106,7 +112,7 @@ class Run:
         return "%s, %s%s: %s" % (self.layers, self.command, side, self.fault)
 
 
-# The runs on the layers of the size before, by command and side.
+# The runs by which growth is told, by command and side: of a size before, with at most half as much that goes in and comes out.
 Before = dict[tuple[str, int | None], Run]
 
 
@@ -192,13 +198,15 @@ class Sweep:
             programs.keep(os.path.join(programs.OUT, "hostile"), "%s-%d-%d-" % (family.kind, size, family.bits), texts)
 
     def size(self, family: Family, size: int, files: Sequence[str], folder: str, before: Before) -> Iterator[Run]:
-        """The runs on two layers, which `before` has then."""
+        """The runs on two layers, which `before` has then where twice as much goes in and comes out."""
         judged = Judged(files, folder, self.seconds)
         for command in family.commands:
             for side in family.sides:
-                run = self.run(family.layers(size), command, side, judged, before.get((command, side)))
+                last = before.get((command, side))
+                run = self.run(family.layers(size), command, side, judged, last)
                 yield run
-                before[command, side] = run
+                if last is None or run.items >= 2 * last.items:
+                    before[command, side] = run
                 if "over" in run.fault:
                     return
 
@@ -213,7 +221,7 @@ class Sweep:
             if ran.status is None:
                 found.fault = "over after %d processor seconds" % self.seconds
                 return found
-            found.processor = min(found.processor, ran.processor)
+            found.processor, found.memory = min(found.processor, ran.processor), ran.memory
             found.items = max(1, segments + judged.records + items_of(output))
             found.fault = self.fault(found, before)
             if not found.fault:
@@ -227,16 +235,18 @@ class Sweep:
         return found
 
     def fault(self, run: Run, before: Run | None) -> str:
-        """What is wrong with the time of a run, whose numbers are filled in."""
+        """What is wrong with the time and the memory of a run, whose numbers are filled in."""
         run.times = self.yardstick.times(run)
-        if run.processor <= LEAST:
-            return ""
-        if run.times > TIMES:
+        if run.processor > LEAST and run.times > TIMES:
             return "%.2f s, %.1f times what parcels take" % (run.processor, run.times)
-        if before and run.items > before.items:
-            run.growth = run.processor / max(LEAST, before.processor) / (run.items / before.items) ** POWER
+        if before and run.items >= 2 * before.items:
+            may = (run.items / before.items) ** POWER
+            run.growth = run.processor / max(LEAST, before.processor) / may
+            run.memory_growth = run.memory / max(LEAST_MEMORY, before.memory) / may
             if run.growth > 1:
                 return "%.2f s, from %.2f s before: %.1f times what it may grow" % (run.processor, before.processor, run.growth)
+            if run.memory_growth > 1:
+                return "%.0f MB, from %.0f MB before: %.1f times what it may grow" % (run.memory, before.memory, run.memory_growth)
         return ""
 
 
@@ -245,13 +255,14 @@ def shown(kind: str, runs: Sequence[Run]) -> str:
     run = max(runs, key=lambda run: ("over" in run.fault, run.times if run.processor > LEAST else 0, run.processor))
     plain = "over" if run.plain is None else "%.2f" % run.plain
     processor = "over" if "over" in run.fault else "%.2f" % run.processor
-    return "| %s | %s | %s | %s | %s | %.1f | %.1f |" % (
-        run.layers, run.command, run.side or "", processor, plain, run.times, max(run.growth for run in runs))
+    return "| %s | %s | %s | %s | %s | %.1f | %.1f | %.0f | %.1f |" % (
+        run.layers, run.command, run.side or "", processor, plain, run.times, max(run.growth for run in runs),
+        max(run.memory for run in runs), max(run.memory_growth for run in runs))
 
 
 def table(found: Mapping[str, Sequence[Run]], worst: int) -> None:
     """The hardest kinds."""
-    print("\n| layers | command | side | processor s | plain | times parcels | growth, of what may be |\n" + "|---" * 7 + "|")
+    print("\n| layers | command | side | processor s | plain | times parcels | growth, of what may be | MB | growth, of what may be |\n" + "|---" * 9 + "|")
 
     def ease(kind: str) -> float:
         return -max((("over" in run.fault) * 1000 + run.times) * (run.processor > LEAST) for run in found[kind])
