@@ -1,4 +1,9 @@
-//! Closed boxes, and which of them share a point with a rectangle, all at once by lanes.
+//! Boxes by lanes: up to 32 closed boxes and a rectangle in, the numbers of those that share a point with it out.
+//!
+//! 1. The sides of the boxes stand in columns, sixteen of which are compared at once (`boxes`).
+//! 2. The answer has a bit for each box; the lowest one is taken off it until none is left (`places`).
+//!
+//! The promise: a bit is set exactly where the box of that number shares a point with the rectangle. The definition is `specs/Sides`.
 #![tactic(auto)]
 
 mod boxes;
