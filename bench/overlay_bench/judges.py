@@ -1,6 +1,8 @@
 """What answers beside the product: the exact reference for small pairs, the plain program for large ones."""
 from __future__ import annotations
 
+import functools
+import re
 import subprocess
 import threading
 from typing import Protocol
@@ -12,6 +14,7 @@ from .answering import Plan, Texts
 from .programs import COMMANDS, Answer
 
 MOST_SECONDS = 300
+NUMBER = re.compile(rb"-?[0-9]+")
 
 
 class Judge(Protocol):
@@ -94,8 +97,20 @@ class Plain:
     def __init__(self, texts: Texts) -> None:
         self.texts = texts
         self.found: dict[str, bytes] | None = None
-        self.segments = [reference.segments_of([ring for _, ring in reference.read_tokens(text)[0]], layer) for layer, text in enumerate(texts)]
-        self.bounds = reference.bounds_of(p for layer in self.segments for s in layer for p in s[:2])
+
+    @functools.cached_property
+    def segments(self) -> list[list[reference.Segment]]:
+        return [reference.segments_of([ring for _, ring in reference.read_tokens(text)[0]], layer) for layer, text in enumerate(self.texts)]
+
+    @functools.cached_property
+    def bounds(self) -> reference.Bounds:
+        return reference.bounds_of(p for layer in self.segments for s in layer for p in s[:2])
+
+    @functools.cached_property
+    def box(self) -> reference.Bounds:
+        """A box round all that is written, found without reading it: the bounds are in it."""
+        numbers = [[int(number) for number in NUMBER.findall(text)] for text in self.texts]
+        return reference.bounds_of(p for layer in numbers for p in zip(layer[::2], layer[1::2]))
 
     def answer(self, command: str) -> bytes | None:
         if self.found is None:
@@ -107,9 +122,10 @@ class Plain:
             return reference.Fault(6)
         if not 1 <= wanted.workers <= reference.WORKER_LIMIT:
             return reference.Fault(7)
-        if wanted.side is not None and reference.Grid(self.bounds, wanted.side).tiles > reference.TILE_LIMIT:
-            return reference.Fault(8, reference.Grid(self.bounds, wanted.side).tiles)
-        return None
+        if wanted.side is None or reference.Grid(self.box, wanted.side).tiles <= reference.TILE_LIMIT:
+            return None
+        tiles = reference.Grid(self.bounds, wanted.side).tiles
+        return reference.Fault(8, tiles) if tiles > reference.TILE_LIMIT else None
 
     def agrees(self, wanted: Plan, got: Answer) -> bool:
         refused = self.refusal(wanted)

@@ -221,6 +221,20 @@ HARD: dict[str, Kind] = {
 KINDS = {**FRIENDLY, **HARD}
 
 
+# `stars` alone takes seconds where the others take tenths.
+DRAWN = tuple(kind for kind in KINDS if kind != "stars")
+
+
+def drawn(rng: random.Random, number: int, segments: int) -> tuple[str, Pair]:
+    """A pair by chance with about so many segments a layer, and what it is: kinds take turns, and now and then the second layer is of another one."""
+    kind = DRAWN[number % len(DRAWN)]
+    first, second = KINDS[kind](rng, 2 * segments)
+    if rng.random() >= 0.3:
+        return kind, (first, second)
+    other = rng.choice(DRAWN)
+    return "%s with %s" % (kind, other), (first, KINDS[other](rng, 2 * segments)[1])
+
+
 def count(polygons: Polygons) -> int:
     return sum(len(ring) for rings in polygons for ring in rings)
 
