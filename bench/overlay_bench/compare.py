@@ -68,7 +68,7 @@ def plan(rng: random.Random, command: str, bounds: reference.Bounds) -> Plan:
 def plan_of_map(rng: random.Random, command: str, bounds: reference.Bounds) -> Plan:
     """A plan of 1 to 8 workers; few have a report, which is slow to judge."""
     drawn = plan(rng, command, bounds)
-    return Plan(command, drawn.side, rng.randint(1, MOST_FOR_MAPS), rng.random() < 0.05)
+    return Plan(command, drawn.side, rng.randint(1, MOST_FOR_MAPS), rng.random() < 0.02)
 
 
 @dataclass

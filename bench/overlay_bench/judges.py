@@ -2,7 +2,6 @@
 from __future__ import annotations
 
 import functools
-import re
 import subprocess
 import threading
 from typing import Protocol
@@ -14,7 +13,7 @@ from .answering import Plan, Texts
 from .programs import COMMANDS, Answer
 
 MOST_SECONDS = 300
-NUMBER = re.compile(rb"-?[0-9]+")
+BLANKS = bytes(byte if chr(byte) in "-0123456789" else 32 for byte in range(256))
 
 
 class Judge(Protocol):
@@ -109,7 +108,7 @@ class Plain:
     @functools.cached_property
     def box(self) -> reference.Bounds:
         """A box round all that is written, found without reading it: the bounds are in it."""
-        numbers = [[int(number) for number in NUMBER.findall(text)] for text in self.texts]
+        numbers = [list(map(int, text.translate(BLANKS).split())) for text in self.texts]
         return reference.bounds_of(p for layer in numbers for p in zip(layer[::2], layer[1::2]))
 
     def answer(self, command: str) -> bytes | None:

@@ -221,8 +221,8 @@ HARD: dict[str, Kind] = {
 KINDS = {**FRIENDLY, **HARD}
 
 
-# `stars` alone takes seconds where the others take tenths.
-DRAWN = tuple(kind for kind in KINDS if kind != "stars")
+# Runs of hard kinds take several times as long as friendly ones, and `stars` a hundred times.
+DRAWN = (*FRIENDLY, *FRIENDLY, *FRIENDLY, *(kind for kind in HARD if kind != "stars"))
 
 
 def drawn(rng: random.Random, number: int, segments: int) -> tuple[str, Pair]:
