@@ -142,15 +142,16 @@ class Bench:
         return Plain if large or self.arguments.judge == "plain" else Exact
 
     def wrong(self, texts: Texts, plans: Sequence[Plan], found: Case) -> tuple[list[Plan], list[Plan]]:
-        """The plans whose answers are not the judge's, and those that took too long."""
+        """The plans whose answers are not the judge's, and those for which one of both took too long."""
         judge: Judge = self.judge(found.large)(texts)
-        wrong, over = [], []
+        wrong: list[Plan] = []
+        over: list[Plan] = []
         for wanted in plans:
             got = found.asked.answer(texts, wanted)
             if got.status is None:
                 over.append(wanted)
             elif not judge.agrees(wanted, got):
-                wrong.append(wanted)
+                (over if judge.is_silent() else wrong).append(wanted)
         return wrong, over
 
     def one(self, number: int) -> Outcome:

@@ -23,6 +23,10 @@ class Judge(Protocol):
 
     def agrees(self, wanted: Plan, got: Answer) -> bool: ...
 
+    def is_silent(self) -> bool:
+        """Whether it gave no answer, since that took too long."""
+        ...
+
 
 class Exact:
     """The exact reference on two texts."""
@@ -44,6 +48,9 @@ class Exact:
 
     def agrees(self, wanted: Plan, got: Answer) -> bool:
         return got == self.answer(wanted)
+
+    def is_silent(self) -> bool:
+        return False
 
 
 def refuse(arranged: reference.Arranged, side: int | None, workers: int) -> None:
@@ -115,6 +122,9 @@ class Plain:
         if self.found is None:
             self.found = self.pipe.answers(self.texts) or {}
         return self.found.get(command)
+
+    def is_silent(self) -> bool:
+        return self.found == {}
 
     def refusal(self, wanted: Plan) -> reference.Fault | None:
         if wanted.side is not None and not reference.LEAST_SIDE <= wanted.side <= reference.GREATEST_SIDE:

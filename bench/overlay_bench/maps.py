@@ -226,13 +226,13 @@ DRAWN = (*FRIENDLY, *FRIENDLY, *FRIENDLY, *(kind for kind in HARD if kind != "st
 
 
 def drawn(rng: random.Random, number: int, segments: int) -> tuple[str, Pair]:
-    """A pair by chance with about so many segments a layer, and what it is: kinds take turns, and now and then the second layer is of another one."""
+    """A pair by chance with about so many segments a layer, and what it is: kinds take turns, and a friendly one may have another one of them as its second layer."""
     kind = DRAWN[number % len(DRAWN)]
     first, second = KINDS[kind](rng, 2 * segments)
-    if rng.random() >= 0.3:
+    if kind in HARD or rng.random() >= 0.3:
         return kind, (first, second)
-    other = rng.choice(DRAWN)
-    return "%s with %s" % (kind, other), (first, KINDS[other](rng, 2 * segments)[1])
+    other = rng.choice(list(FRIENDLY))
+    return "%s with %s" % (kind, other), (first, FRIENDLY[other](rng, 2 * segments)[1])
 
 
 def count(polygons: Polygons) -> int:
