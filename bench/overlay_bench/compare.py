@@ -6,6 +6,8 @@ command; the others by the library for Python, without processes (and so without
 statuses and bytes have to be those of the exact reference (bench/reference.py); where it is large, those of the plain program
 (bench/plain). A call that takes too long is told as "over" and is no difference. A pair that differs is kept in bench/out with its
 number, its seed and its commands, cut down to a small one that still differs; the run ends after 20 of them, and the exit status is 1.
+
+With --maps the pairs are maps of so many segments a layer, by 1 to 8 workers, and the plain program alone judges them.
 """
 from __future__ import annotations
 
@@ -22,7 +24,7 @@ from typing import NamedTuple, TypeVar
 
 import reference
 
-from . import answering, layers, programs, side_by_side
+from . import answering, layers, maps, programs, side_by_side
 from .answering import Asked, Plan, Texts
 from .cutting import cut
 from .judges import Exact, Judge, Plain
@@ -31,6 +33,7 @@ from .programs import COMMANDS
 
 SMALL, LARGE = (3, 30), (30, 3000)
 MOST = 20
+MOST_FOR_MAPS = 8
 
 Thing = TypeVar("Thing")
 
@@ -40,6 +43,7 @@ def add_arguments(parser: argparse.ArgumentParser) -> None:
     parser.add_argument("--large", type=float, default=0.1, help="the share of large pairs; 0 needs no rustc")
     answering.add_share(parser)
     parser.add_argument("--judge", choices=("both", "plain"), default="both", help="plain: small pairs too are compared with the plain program")
+    parser.add_argument("--maps", nargs=2, type=int, metavar=("LEAST", "MOST"), help="maps of so many segments a layer, in place of small and large pairs")
     parser.add_argument("--kind", choices=[kind.__name__ for kind in layers.KINDS], help="pairs of this kind alone")
     parser.add_argument("--seconds", type=float, default=60, help="after which a call is over")
 
@@ -59,6 +63,12 @@ def plan(rng: random.Random, command: str, bounds: reference.Bounds) -> Plan:
         side = rng.choice([0, 15, 16, 33_554_432, 33_554_433])
     workers = rng.choice([1, 1, 2, 2, 3, 4, 4, 7, 16, rng.randint(1, 64)]) if rng.random() < 0.99 else rng.choice([0, 65])
     return Plan(command, side, workers, rng.random() < 0.4)
+
+
+def plan_of_map(rng: random.Random, command: str, bounds: reference.Bounds) -> Plan:
+    """A plan of 1 to 8 workers; few have a report, which is slow to judge."""
+    drawn = plan(rng, command, bounds)
+    return Plan(command, drawn.side, rng.randint(1, MOST_FOR_MAPS), rng.random() < 0.02)
 
 
 @dataclass
@@ -91,6 +101,8 @@ class Outcome(NamedTuple):
 
 def case(number: int, arguments: argparse.Namespace, tested: answering.Tested) -> Case:
     rng = random.Random(arguments.seed * 1_000_003 + number)
+    if arguments.maps:
+        return case_of_maps(number, rng, arguments.maps, tested.drawn(rng, arguments.programs))
     kind = layers.KINDS[number % len(layers.KINDS)]
     if arguments.kind:
         kind = getattr(layers, arguments.kind)
@@ -99,11 +111,25 @@ def case(number: int, arguments: argparse.Namespace, tested: answering.Tested) -
     low, high = LARGE if large else SMALL
     count = round(low * (high / low) ** rng.random())
     polygons = layers.pair(rng, kind, count)
-    bounds = reference.bounds_of(p for layer in polygons for rings in layer for ring in rings for p in ring)
-    together, plans = rng.random() < 0.3, [plan(rng, command, bounds) for command in COMMANDS]
-    if asked is tested.library:
-        plans = [Plan(wanted.command, wanted.side, 4, False) for wanted in plans]
-    return Case(number, kind.__name__, large, polygons, together, plans, asked)
+    together, plans = rng.random() < 0.3, [plan(rng, command, bounds_of(polygons)) for command in COMMANDS]
+    return Case(number, kind.__name__, large, polygons, together, [asked_of(asked, wanted) for wanted in plans], asked)
+
+
+def case_of_maps(number: int, rng: random.Random, segments: Sequence[int], asked: Asked) -> Case:
+    """A pair of maps: twice as many segments are a fourth as likely, so that half of the layers have less than twice the least."""
+    least, most = segments
+    kind, polygons = maps.drawn(rng, number, round(least / (1 - rng.random() * (1 - least / most))))
+    together, plans = rng.random() < 0.3, [plan_of_map(rng, command, bounds_of(polygons)) for command in COMMANDS]
+    return Case(number, kind, True, polygons, together, [asked_of(asked, wanted) for wanted in plans], asked)
+
+
+def bounds_of(polygons: Pair) -> reference.Bounds:
+    return reference.bounds_of(p for layer in polygons for rings in layer for ring in rings for p in ring)
+
+
+def asked_of(asked: Asked, wanted: Plan) -> Plan:
+    """The plan as it is asked for: the library has no workers and no report."""
+    return wanted if isinstance(asked, answering.Program) else Plan(wanted.command, wanted.side, 4, False)
 
 
 class Bench:
@@ -116,15 +142,16 @@ class Bench:
         return Plain if large or self.arguments.judge == "plain" else Exact
 
     def wrong(self, texts: Texts, plans: Sequence[Plan], found: Case) -> tuple[list[Plan], list[Plan]]:
-        """The plans whose answers are not the judge's, and those that took too long."""
+        """The plans whose answers are not the judge's, and those for which one of both took too long."""
         judge: Judge = self.judge(found.large)(texts)
-        wrong, over = [], []
+        wrong: list[Plan] = []
+        over: list[Plan] = []
         for wanted in plans:
             got = found.asked.answer(texts, wanted)
             if got.status is None:
                 over.append(wanted)
             elif not judge.agrees(wanted, got):
-                wrong.append(wanted)
+                (over if judge.is_silent() else wrong).append(wanted)
         return wrong, over
 
     def one(self, number: int) -> Outcome:
@@ -151,6 +178,7 @@ class Bench:
             for plan_ in wanted:
                 file.write("%s: %s a.wkt b.wkt %s\n" % (made.asked.name, plan_.command, " ".join(plan_.words())))
             same = "".join(" --%s %s" % (name, getattr(self.arguments, name)) for name in ("large", "programs", "judge", "kind") if getattr(self.arguments, name) is not None)
+            same += " --maps %d %d" % tuple(self.arguments.maps) if self.arguments.maps else ""
             file.write("bench/run compare --seed %d --first %d --pairs 1%s\n" % (self.arguments.seed, made.number, same))
         return folder
 
@@ -214,7 +242,7 @@ class Counts:
 
 
 def main(arguments: argparse.Namespace) -> int:
-    if arguments.large or arguments.judge == "plain":
+    if arguments.large or arguments.maps or arguments.judge == "plain":
         programs.plain()
     start, counts = time.monotonic(), Counts()
     folder = tempfile.mkdtemp()

@@ -1,6 +1,7 @@
 """What answers beside the product: the exact reference for small pairs, the plain program for large ones."""
 from __future__ import annotations
 
+import functools
 import subprocess
 import threading
 from typing import Protocol
@@ -12,6 +13,7 @@ from .answering import Plan, Texts
 from .programs import COMMANDS, Answer
 
 MOST_SECONDS = 300
+BLANKS = bytes(byte if chr(byte) in "-0123456789" else 32 for byte in range(256))
 
 
 class Judge(Protocol):
@@ -20,6 +22,10 @@ class Judge(Protocol):
     name: str
 
     def agrees(self, wanted: Plan, got: Answer) -> bool: ...
+
+    def is_silent(self) -> bool:
+        """Whether it gave no answer, since that took too long."""
+        ...
 
 
 class Exact:
@@ -42,6 +48,9 @@ class Exact:
 
     def agrees(self, wanted: Plan, got: Answer) -> bool:
         return got == self.answer(wanted)
+
+    def is_silent(self) -> bool:
+        return False
 
 
 def refuse(arranged: reference.Arranged, side: int | None, workers: int) -> None:
@@ -94,22 +103,38 @@ class Plain:
     def __init__(self, texts: Texts) -> None:
         self.texts = texts
         self.found: dict[str, bytes] | None = None
-        self.segments = [reference.segments_of([ring for _, ring in reference.read_tokens(text)[0]], layer) for layer, text in enumerate(texts)]
-        self.bounds = reference.bounds_of(p for layer in self.segments for s in layer for p in s[:2])
+
+    @functools.cached_property
+    def segments(self) -> list[list[reference.Segment]]:
+        return [reference.segments_of([ring for _, ring in reference.read_tokens(text)[0]], layer) for layer, text in enumerate(self.texts)]
+
+    @functools.cached_property
+    def bounds(self) -> reference.Bounds:
+        return reference.bounds_of(p for layer in self.segments for s in layer for p in s[:2])
+
+    @functools.cached_property
+    def box(self) -> reference.Bounds:
+        """A box round all that is written, found without reading it: the bounds are in it."""
+        numbers = [list(map(int, text.translate(BLANKS).split())) for text in self.texts]
+        return reference.bounds_of(p for layer in numbers for p in zip(layer[::2], layer[1::2]))
 
     def answer(self, command: str) -> bytes | None:
         if self.found is None:
             self.found = self.pipe.answers(self.texts) or {}
         return self.found.get(command)
 
+    def is_silent(self) -> bool:
+        return self.found == {}
+
     def refusal(self, wanted: Plan) -> reference.Fault | None:
         if wanted.side is not None and not reference.LEAST_SIDE <= wanted.side <= reference.GREATEST_SIDE:
             return reference.Fault(6)
         if not 1 <= wanted.workers <= reference.WORKER_LIMIT:
             return reference.Fault(7)
-        if wanted.side is not None and reference.Grid(self.bounds, wanted.side).tiles > reference.TILE_LIMIT:
-            return reference.Fault(8, reference.Grid(self.bounds, wanted.side).tiles)
-        return None
+        if wanted.side is None or reference.Grid(self.box, wanted.side).tiles <= reference.TILE_LIMIT:
+            return None
+        tiles = reference.Grid(self.bounds, wanted.side).tiles
+        return reference.Fault(8, tiles) if tiles > reference.TILE_LIMIT else None
 
     def agrees(self, wanted: Plan, got: Answer) -> bool:
         refused = self.refusal(wanted)

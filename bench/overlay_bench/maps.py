@@ -221,6 +221,20 @@ HARD: dict[str, Kind] = {
 KINDS = {**FRIENDLY, **HARD}
 
 
+# Runs of hard kinds take several times as long as friendly ones, and `stars` a hundred times.
+DRAWN = (*FRIENDLY, *FRIENDLY, *FRIENDLY, *(kind for kind in HARD if kind != "stars"))
+
+
+def drawn(rng: random.Random, number: int, segments: int) -> tuple[str, Pair]:
+    """A pair by chance with about so many segments a layer, and what it is: kinds take turns, and a friendly one may have another one of them as its second layer."""
+    kind = DRAWN[number % len(DRAWN)]
+    first, second = KINDS[kind](rng, 2 * segments)
+    if kind in HARD or rng.random() >= 0.3:
+        return kind, (first, second)
+    other = rng.choice(list(FRIENDLY))
+    return "%s with %s" % (kind, other), (first, FRIENDLY[other](rng, 2 * segments)[1])
+
+
 def count(polygons: Polygons) -> int:
     return sum(len(ring) for rings in polygons for ring in rings)
 

@@ -9,6 +9,8 @@ is 1 where a run gives anything else.
 With `--rows` four small pairs alone, whose answers stand below, by one and by two workers; each run that answers that memory is
 out is followed by the same one with ample memory, which has to give the answer. With `--layers` the faces of so many layers
 alone, rough rings through one another, by four workers; --requests of them are refused, evenly spread, where each is too many.
+With --parts they are refused in copies of one run, made where the request comes, which takes a tenth of the time: the workers are then
+turns of one thread (bench/shims/turns.c). A part K has each request whose number leaves K by --parts.
 """
 from __future__ import annotations
 
@@ -21,7 +23,7 @@ import tempfile
 import time
 from collections.abc import Iterable, Iterator, Mapping, Sequence
 
-from . import endurance, layers, programs
+from . import endurance, layers, programs, turns
 from .programs import COMMANDS, Answer
 
 RECORDED = "endurance"
@@ -64,6 +66,9 @@ def add_arguments(parser: argparse.ArgumentParser) -> None:
     parser.add_argument("--segments", type=int, help="the size of the last pair of layers, which a short run leaves out (200), or of each of --layers (5000)")
     parser.add_argument("--layers", type=int, help="the faces of so many layers alone, by four workers")
     parser.add_argument("--requests", type=int, help="how many requests of these are refused, evenly spread (default: each)")
+    parser.add_argument("--parts", type=int, help="refuses requests of these in copies of a run, one of so many parts a run")
+    parser.add_argument("--first", type=int, default=0, help="the first part")
+    parser.add_argument("--minutes", type=float, default=0, help="no part is begun after so many minutes")
 
 
 def many_segments(count: int) -> tuple[str, str]:
@@ -177,13 +182,31 @@ def refuse_runs(refusing: Refusing, folder: str, arguments: argparse.Namespace) 
     return lines, requests
 
 
-def refuse_layers(refusing: Refusing, folder: str, arguments: argparse.Namespace) -> int:
-    """Requests of the faces of many layers; 1 where a run went wrong."""
+def faces_of(folder: str, arguments: argparse.Namespace) -> tuple[list[str], list[str]]:
+    """The command line, and the files, of the faces of many layers."""
     files = [os.path.join(folder, "%d.wkt" % k) for k in range(arguments.layers)]
     for path, text in zip(files, rings(arguments.layers, arguments.segments or 5_000)):
         with open(path, "w") as layer:
             layer.write(text)
-    words = ["faces", *files, "--workers=4"]
+    return ["faces", *files, "--workers=4"], files
+
+
+def refuse_parts(refusing: Refusing, folder: str, arguments: argparse.Namespace) -> int:
+    """The same requests in copies of a run, part by part; 1 where one went wrong."""
+    words, files = faces_of(folder, arguments)
+    right, start, done = refusing.answer(words), time.monotonic(), arguments.first
+    counts, requests = endurance.Counts("memory", ""), 0
+    while done < arguments.parts and not (arguments.minutes and time.monotonic() - start > 60 * arguments.minutes):
+        requests = turns.refuse([refusing.program, *words], right, files, done, arguments.parts, counts)
+        done += 1
+    counts.about = "parts %d to %d of %d of %d requests of %d layers of %d segments, workers by turns" % (
+        arguments.first, done - 1, arguments.parts, requests, arguments.layers, arguments.segments or 5_000)
+    return counts.end()
+
+
+def refuse_layers(refusing: Refusing, folder: str, arguments: argparse.Namespace) -> int:
+    """Requests of the faces of many layers; 1 where a run went wrong."""
+    words, files = faces_of(folder, arguments)
     right, requests = refusing.counted(words)
     most = min(arguments.requests or requests, requests)
     counts = endurance.Counts("memory", "%d requests of %d layers of %d segments" % (requests, arguments.layers, arguments.segments or 5_000))
@@ -197,7 +220,7 @@ def main(arguments: argparse.Namespace) -> int:
     refusing, start = Refusing(arguments.program), time.monotonic()
     with tempfile.TemporaryDirectory() as folder:
         if arguments.layers:
-            return refuse_layers(refusing, folder, arguments)
+            return (refuse_parts if arguments.parts else refuse_layers)(refusing, folder, arguments)
         lines, requests = refuse_rows(refusing, folder) if arguments.rows else refuse_runs(refusing, folder, arguments)
     for words, what, got in refusing.wrong:
         print("%s, %s refused: %s" % (" ".join(words), what, got))
