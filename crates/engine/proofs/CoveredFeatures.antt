@@ -8,13 +8,13 @@ use Rattle.geom.specs.declared.segment.Source.{Source}
 use Rattle.geom.specs.Segments.{layer_steps, parts}
 use Rattle.geom.proofs.Lists.{In, contains_in, in_append, in_back, in_contains, in_front, in_map, map_in}
 use Rattle.cover_law.specs.Borders.{AreFeatureSegments, feature_parts, part_of, segment_part, step_of}
-use Rattle.grid.specs.Tiles.{Tiling}
+use Rattle.grid.specs.Tiles.{IsSide, Tiling}
 use Rattle.linking.specs.Gathered.{BoundsHold, HaveTiles}
 use Rattle.linking.proofs.Covering.{have_tiles}
 use Rattle.wkt.specs.Features.{all_rings}
 use Rattle.engine.specs.declared.engine.Plan.{Plan}
 use Rattle.engine.specs.FeatureSegments.{all_features, feature_steps}
-use Rattle.engine.specs.Layers.{AreReady}
+use Rattle.engine.specs.Layers.{AreReady, IsGridOverLayers}
 use Rattle.engine.specs.Rounds.{AreBoundsOf}
 use Rattle.engine.proofs.FeatureParts.{rings_append, steps_of_all}
 use Rattle.engine.proofs.Rounding.{grid_covers, some_side}
@@ -37,9 +37,13 @@ pub features_hold : (fs : List (List (List Pt))) (segments : List Seg) (owners :
 features_hold fs segments owners are None e = λ s h. subst (λ (ss : List (Pt × Pt)). In (s.a, s.b) ss) e (segment_step fs segments owners are s h)
 features_hold fs segments owners are (Some r) box = λ s h. box.holds (s.a, s.b) (in_contains (feature_steps fs) (s.a, s.b) (segment_step fs segments owners are s h))
 
+pub grid_over_covers : (layers : List (List (List (List Pt)))) (side : ℕ) (g : Tiling) (segments : List Seg) (owners : List ℕ) → IsSide side → IsGridOverLayers layers side g
+    → AreFeatureSegments (all_features layers) segments owners → HaveTiles g segments
+grid_over_covers layers side g segments owners s h are =
+    have_tiles h.bounds g segments (grid_covers h.bounds side g (some_side side s.0) h.is_grid)
+    (features_hold (all_features layers) segments owners are h.bounds
+    (subst (λ (ss : List (Pt × Pt)). AreBoundsOf ss h.bounds) (sym (steps_of_all layers)) h.are_bounds))
+
 pub layers_covered : (limit : ℕ) (plan : Plan) (texts : List (List ℕ)) (layers : List (List (List (List Pt)))) (g : Tiling) (segments : List Seg) (owners : List ℕ) → AreReady limit plan texts layers g
     → AreFeatureSegments (all_features layers) segments owners → HaveTiles g segments
-layers_covered limit plan texts layers g segments owners h are =
-    have_tiles h.is_grid.bounds g segments (grid_covers h.is_grid.bounds plan.side g (some_side plan.side h.planned.side.0) h.is_grid.is_grid)
-    (features_hold (all_features layers) segments owners are h.is_grid.bounds
-    (subst (λ (ss : List (Pt × Pt)). AreBoundsOf ss h.is_grid.bounds) (sym (steps_of_all layers)) h.is_grid.are_bounds))
+layers_covered limit plan texts layers g segments owners h are = grid_over_covers layers plan.side g segments owners h.planned.side h.is_grid are

@@ -55,23 +55,23 @@ first_two f (z ∷ w ∷ zs) d p q h = (let k = h in cc, let k = h in cc)
 -- ---- what the borders over layers tell
 module _ {M : Type 0} (limit : ℕ) (plan : Plan) (texts : List (List ℕ)) (n : ℕ) (g : Tiling) (known : ∥ AreCheckedLayers limit plan texts n g ∥₁) (b : FaceBorders M) (over : AreBordersOver texts g b) where
   pub borders_over : AreBorders (borders_in b.rounded)
-  borders_over = are_borders (all_features over.layers) over.segments over.owners over.are_segments over.in_limit b.rounded over.rounded
+  borders_over = are_borders (all_features over.layers) over.of.segments over.of.owners over.of.are_segments over.of.in_limit b.rounded over.of.rounded
 
   pub below_all : All (λ (f : ℕ). f < 2147483647) b.rounded.features.items
   below_all = all_in (λ (f : ℕ). f < 2147483647) b.rounded.features.items (λ f i.
-      let all = features_below (all_features over.layers) over.segments over.owners over.are_segments over.in_limit b.rounded over.rounded in
+      let all = features_below (all_features over.layers) over.of.segments over.of.owners over.of.are_segments over.of.in_limit b.rounded over.of.rounded in
       let l = All-contains (λ (k : ℕ). k < length (all_features over.layers)) b.rounded.features.items f all (in_contains b.rounded.features.items f i) in
-      let few = over.few in
+      let few = over.of.few in
       omega (arith, l, few))
 
   pub tiles_few : length b.rounded.tiles.items ≤ most_tiles
   tiles_few =
-      let each = over.tiles_are.one_each in
+      let each = over.of.tiles_are.one_each in
       let few = (layers_ready limit plan texts n g known over.layers over.stand).few_tiles in
       omega (arith, each, few)
 
   pub size_each : length b.sizes.items ≡ length texts
-  size_each = sym (length-map b.sizes.items (λ (z : LayerSize). z.features)) ∙ ap (λ (ns : List ℕ). length ns) over.features_are
+  size_each = sym (length-map b.sizes.items (λ (z : LayerSize). z.features)) ∙ ap (λ (ns : List ℕ). length ns) over.of.features_are
       ∙ length-map over.layers (λ (fs : List (List (List Pt))). length fs) ∙ stand_length texts over.layers over.stand
 
 -- ---- the answer
@@ -85,20 +85,20 @@ module _ {M : Type 0} (limit : ℕ) (op : Op) (plan : Plan) (s t : List ℕ) (n 
   all : all_features over.layers ≡ fs
   all = ap all_features two.are ∙ ap (λ (xs : List (List (List Pt))). two.a ++ xs) (append-nil two.b)
 
-  are : AreFeatureSegments fs over.segments over.owners
-  are = subst (λ (xs : List (List (List Pt))). AreFeatureSegments xs over.segments over.owners) all over.are_segments
+  are : AreFeatureSegments fs over.of.segments over.of.owners
+  are = subst (λ (xs : List (List (List Pt))). AreFeatureSegments xs over.of.segments over.of.owners) all over.of.are_segments
 
   pub below_count : All (λ (f : ℕ). f < length fs) b.rounded.features.items
-  below_count = features_below fs over.segments over.owners are over.in_limit b.rounded over.rounded
+  below_count = features_below fs over.of.segments over.of.owners are over.of.in_limit b.rounded over.of.rounded
 
   features_are : map (λ (z : LayerSize). z.features) b.sizes.items ≡ length two.a ∷ length two.b ∷ []
-  features_are = over.features_are ∙ ap (λ (ls : List (List (List (List Pt)))). map (λ (x : List (List (List Pt))). length x) ls) two.are
+  features_are = over.of.features_are ∙ ap (λ (ls : List (List (List (List Pt)))). map (λ (x : List (List (List Pt))). length x) ls) two.are
 
   segments_are : map (λ (z : LayerSize). z.segments) b.sizes.items ≡ length (feature_steps two.a) ∷ length (feature_steps two.b) ∷ []
-  segments_are = over.segments_are ∙ ap (λ (ls : List (List (List (List Pt)))). map (λ (x : List (List (List Pt))). length (feature_steps x)) ls) two.are
+  segments_are = over.of.segments_are ∙ ap (λ (ls : List (List (List (List Pt)))). map (λ (x : List (List (List Pt))). length (feature_steps x)) ls) two.are
 
-  whole : (edges : List Bordered) → AreBordered (length fs) over.segments over.owners edges → AreBorders edges
-  whole edges of = rounded_are_borders (length fs) over.segments over.owners edges of over.in_limit (λ f l. features_of_rings_close fs over.segments over.owners are f) (bordered_noded (length fs) over.segments over.owners edges of)
+  whole : (edges : List Bordered) → AreBordered (length fs) over.of.segments over.of.owners edges → AreBorders edges
+  whole edges of = rounded_are_borders (length fs) over.of.segments over.of.owners edges of over.of.in_limit (λ f l. features_of_rings_close fs over.of.segments over.of.owners are f) (bordered_noded (length fs) over.of.segments over.of.owners edges of)
 
   pub covered_written : {N : Type 0} (first second : LayerSize) (text : List ℕ) (report : Report N) → first ≡ get_or b.sizes.items 0 first → second ≡ get_or b.sizes.items 1 second
       → IsCoveredText op first.features (length fs) (borders_in b.rounded) text
@@ -109,11 +109,11 @@ module _ {M : Type 0} (limit : ℕ) (op : Op) (plan : Plan) (s t : List ℕ) (n 
     features_b = two.b;
     grid = g;
     ready = subst (λ (ls : List (List (List (List Pt)))). AreReady limit plan (s ∷ t ∷ []) ls g) two.are (layers_ready limit plan (s ∷ t ∷ []) n g known over.layers over.stand);
-    result = ∥∥₁_map over.rounded.borders (λ c.
-        let e = c (length fs) (owners_below fs over.segments over.owners are) in
+    result = ∥∥₁_map over.of.rounded.borders (λ c.
+        let e = c (length fs) (owners_below fs over.of.segments over.of.owners are) in
         record {
-          segments = over.segments;
-          owners = over.owners;
+          segments = over.of.segments;
+          owners = over.of.owners;
           are_segments = are;
           edges = e.0;
           are_bordered = e.1;
@@ -121,12 +121,12 @@ module _ {M : Type 0} (limit : ℕ) (op : Op) (plan : Plan) (s t : List ℕ) (n 
               (subst (λ (bs : List Bordered). IsCoveredText op (length two.a) (length fs) bs text) e.2 (subst (λ (k : ℕ). IsCoveredText op k (length fs) (borders_in b.rounded) text) split is));
           changing_edges = edges ∙ sym (length-map b.rounded.borders.items (bordered b.rounded.features.items)) ∙ ap (λ (bs : List Bordered). length bs) e.2;
           tiles = b.rounded.tiles.items;
-          tiles_are = over.tiles_are;
+          tiles_are = over.of.tiles_are;
           told = told;
         });
     segments_a = sizes.0 ∙ ap (λ (z : LayerSize). z.segments) one ∙ (first_two (λ (z : LayerSize). z.segments) b.sizes.items first (length (feature_steps two.a)) (length (feature_steps two.b)) segments_are).0;
     segments_b = sizes.1 ∙ ap (λ (z : LayerSize). z.segments) other ∙ (first_two (λ (z : LayerSize). z.segments) b.sizes.items second (length (feature_steps two.a)) (length (feature_steps two.b)) segments_are).1;
-    remade = subst IsRemade (sym remade) over.remade;
+    remade = subst IsRemade (sym remade) over.of.remade;
   }
     where
       split : first.features ≡ length two.a

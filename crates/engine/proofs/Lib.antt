@@ -33,6 +33,7 @@ pub mod ReadLaws
 pub mod LayersKnown
 pub mod FitsOver
 pub mod CoveredFeatures
+pub mod BordersOf
 pub mod FacesWritten
 pub mod PlanFaults
 pub mod LayersRefused
@@ -55,3 +56,7 @@ pub mod FitsColumns
 pub mod PairsRunning
 pub mod OnePair
 pub mod OnePairsRefusal
+pub mod ColumnLayers
+pub mod BoundedRows
+pub mod FaceColumns
+pub mod OneFaceColumns

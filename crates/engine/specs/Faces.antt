@@ -161,10 +161,8 @@ WrittenFacesTell M = (limits : FacesLimits) (plan : Plan) (texts : List (List �
 
 -- ---- what is known on the way
 
--- the borders of the features of the layers that these texts stand for, as they are rounded together, with the sizes of the layers, and the tiles' numbers over a grid
-pub record AreBordersOver {M : Type 0} (texts : List (List ℕ)) (grid : Tiling) (b : FaceBorders M) : Type 0 where
-  pub layers : List (List (List (List Pt)))
-  pub stand : StandForLayers texts layers
+-- the borders of the features of layers, as they are rounded together, with the sizes of the layers, and the tiles' numbers over a grid
+pub record AreBordersOf {M : Type 0} (layers : List (List (List (List Pt)))) (grid : Tiling) (b : FaceBorders M) : Type 0 where
   pub segments : List Seg
   pub owners : List ℕ
   pub are_segments : AreFeatureSegments (all_features layers) segments owners
@@ -175,3 +173,9 @@ pub record AreBordersOver {M : Type 0} (texts : List (List ℕ)) (grid : Tiling)
   pub features_are : map (λ z. z.features) b.sizes.items ≡ map (λ features. length features) layers
   pub tiles_are : AreTileNumbers grid segments (tile_count grid) b.rounded.tiles.items
   pub remade : IsRemade b.rounded.remade
+
+-- those of the layers that these texts stand for
+pub record AreBordersOver {M : Type 0} (texts : List (List ℕ)) (grid : Tiling) (b : FaceBorders M) : Type 0 where
+  pub layers : List (List (List (List Pt)))
+  pub stand : StandForLayers texts layers
+  pub of : AreBordersOf layers grid b

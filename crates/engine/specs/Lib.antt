@@ -19,3 +19,7 @@ pub mod RingLayers
 pub mod ColumnsRuns
 pub mod ColumnsLaws
 pub mod ColumnsPairs
+pub mod BoundedRows
+pub mod ColumnLayers
+pub mod FaceColumns
+pub mod FaceColumnsLaws

@@ -1,23 +1,27 @@
 //! The faces of layers on the calling thread alone, from memory to memory, for a caller that has no threads to lend.
 
-ghost use Rattle.std.specs.Prelude.{◌≡◌, ◌≤◌, IfOk, MatchResult, length, map};
-ghost use Rattle.engine.specs.Faces.{AreBordersOver, AreFacesWritten, DeclinesFaces};
+ghost use Rattle.std.specs.Prelude.{◌≡◌, ◌≤◌, IfOk, List, MatchResult, length, map};
+ghost use Rattle.geom.specs.declared.point.Pt.{Pt};
+ghost use Rattle.linking.specs.Gathered.{HaveTiles};
+ghost use Rattle.engine.specs.Faces.{AreBordersOf, AreBordersOver, AreFacesWritten, DeclinesFaces};
+ghost use Rattle.engine.specs.FeatureSegments.{AreFeaturesOf, AreOwned};
 ghost use Rattle.engine.specs.Layers.{HaveKept};
 ghost use Rattle.engine.specs.Runs.{alone};
 
 use crate::alone::features_alone;
+use crate::bounded_rows::{BoundedRows, bounded_rows_alone};
 use crate::checking::plan_fault;
 use crate::engine::Plan;
-use crate::face_rows::face_sets_alone;
 use crate::face_text::rows_text_alone;
 use crate::faces_fault::FacesFault;
 use crate::faces_limits::FacesLimits;
 use crate::faces_report::FacesReport;
-use crate::faces_run::{FaceBorders, faces_report_of, few_ids, or_want};
+use crate::faces_run::{FaceBorders, faces_report_of, or_want};
 use crate::feature_checking::{CheckedLayers, check_layers};
 use crate::feature_reading::{KeptFeatures, MOST_LAYERS, read_layers_alone};
 use crate::feature_segments::{FeatureSegments, feature_segments};
 use geom::NoMemory;
+use grid::Grid;
 use std::alloc::Allocator;
 
 /// A text of faces, and the numbers of the run that made it.
@@ -63,13 +67,27 @@ fn borders_alone<A: Allocator + Copy>(
     ensures none_remade { IfOk result (λ b. b.rounded.remade ≡ 0) }
 {
     let all = feature_segments(alloc, checked, kept)?;
+    borders_of_alone(alloc, &checked.grid, all)
+}
+
+/// The borders of features, over a grid, by their segments.
+pub(crate) fn borders_of_alone<A: Allocator + Copy>(
+    alloc: A,
+    grid: &Grid,
+    all: FeatureSegments<A>,
+) -> Result<FaceBorders<A>, NoMemory>
+    requires owned { AreOwned all }
+    requires covered { HaveTiles grid.now all.segments.items }
+    ensures borders { (layers : List (List (List (List Pt)))) → AreFeaturesOf layers all → IfOk result (AreBordersOf layers grid.now) }
+    ensures none_remade { IfOk result (λ b. b.rounded.remade ≡ 0) }
+{
     let FeatureSegments {
         segments,
         owners,
         sizes,
         ..
     } = all;
-    let rounded = features_alone(alloc, &checked.grid, &segments, &owners)?;
+    let rounded = features_alone(alloc, grid, &segments, &owners)?;
     Ok(FaceBorders { rounded, sizes })
 }
 
@@ -84,10 +102,7 @@ fn by_borders_alone<A: Allocator + Copy>(
     ensures same_remade { IfOk result (λ m. m.report.remade ≡ borders.rounded.remade) }
 {
     let FaceBorders { rounded, sizes } = borders;
-    let sets = or_want(face_sets_alone(alloc, &rounded.borders, &rounded.features))?;
-    let ids = few_ids(sets.ids(), checked.limits.ids)?;
-    let rows = or_want(sets.rows_alone(alloc))?;
-    drop(sets);
+    let BoundedRows { rows, ids } = bounded_rows_alone(alloc, checked.limits.ids, &rounded)?;
     let text = or_want(rows_text_alone(alloc, &sizes, &rows))?;
     let report = or_want(faces_report_of(alloc, sizes, &rounded, &rows, ids))?;
     Ok(FacesOutput { text, report })

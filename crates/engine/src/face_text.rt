@@ -16,7 +16,10 @@ use std::alloc::Allocator;
 use std::thread::Threads;
 
 /// The numbers of the layers' features.
-fn feature_counts<A: Allocator>(alloc: A, sizes: &[LayerSize]) -> Result<Vec<u32, A>, NoMemory>
+pub(crate) fn feature_counts<A: Allocator>(
+    alloc: A,
+    sizes: &[LayerSize],
+) -> Result<Vec<u32, A>, NoMemory>
     ensures { IfOk result (λ counts. counts.items ≡ map (λ s. s.features) sizes.now) }
 {
     let mut counts = Vec::with_capacity(alloc, sizes.len())?;

@@ -53,7 +53,7 @@ pub(crate) fn check_layers<'a, 'b, A: Allocator>(
 }
 
 /// How many segments all layers have, where they aren't more than the limit.
-fn few_segments(all: u64, limit: u32) -> Result<u32, FacesFault>
+pub(crate) fn few_segments(all: u64, limit: u32) -> Result<u32, FacesFault>
     ensures { MatchResult result (λ n. (n ≡ all) × (all ≤ limit)) (λ f. (f.at ≡ FacesPart.Run) × (f.refusal ≡ FacesRefusal.Usual (Fault.TooManySegments all)) × (limit < all)) }
 {
     match u32::try_from(all) {
@@ -63,7 +63,7 @@ fn few_segments(all: u64, limit: u32) -> Result<u32, FacesFault>
 }
 
 /// The grid over the segments of all layers, which have these bounds.
-fn grid_over_all(bounds: Option<Rect>, side: u32) -> Result<Grid, FacesFault>
+pub(crate) fn grid_over_all(bounds: Option<Rect>, side: u32) -> Result<Grid, FacesFault>
     requires bounds { AreBounds bounds }
     requires side { IsSide side }
     ensures { MatchResult result (IsFewTiles bounds side) (TellsManyTiles bounds side) }

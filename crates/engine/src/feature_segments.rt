@@ -3,8 +3,11 @@
 //! 1. The layers are taken in turn, the features of each in text order (`push_layer`).
 //! 2. A feature's segments are those of its rings, and it is the owner of each of them (`push_feature`).
 
-ghost use Rattle.std.specs.Prelude.{◌≡◌, ◌≤◌, ◌++◌, ◌∷◌, [], IfOk, List, OnOk, length, map};
+ghost use Rattle.std.specs.Prelude.{◌≡◌, ◌<◌, ◌≤◌, ◌++◌, ◌∷◌, [], IfOk, List, OnOk, get_or, length, map};
+ghost use Rattle.columns.specs.Layout.{feature_rings_in, plain};
+ghost use Rattle.columns.specs.Refusals.{AreAccepted};
 ghost use Rattle.geom.specs.declared.point.Pt.{Pt};
+ghost use Rattle.engine.specs.ColumnLayers.{features_of};
 ghost use Rattle.engine.specs.FeatureSegments.{AreFeaturesOf, AreOwned, AreSegmentsFrom, HaveOwners};
 ghost use Rattle.engine.specs.Layers.{AreFeaturesInLimit, HaveKept, StandForLayers};
 ghost use Rattle.engine.specs.Rounds.{AreRingsInLimit};
@@ -12,6 +15,7 @@ ghost use Rattle.engine.specs.Rounds.{AreRingsInLimit};
 use crate::feature_checking::CheckedLayers;
 use crate::feature_reading::{KeptFeatures, features_of};
 use crate::segments::push_rings;
+use columns::{Columns, feature_count, push_feature};
 use geom::{NoMemory, Ring, Seg, Source};
 use std::alloc::Allocator;
 use wkt::FeatureLayer;
@@ -37,7 +41,7 @@ pub(crate) struct FeatureSegments<A: Allocator> {
 
 impl<A: Allocator + Copy> FeatureSegments<A> {
     /// Those of no layers, with room for so many segments.
-    fn new(alloc: A, room: usize) -> Result<FeatureSegments<A>, NoMemory>
+    pub(crate) fn new(alloc: A, room: usize) -> Result<FeatureSegments<A>, NoMemory>
         ensures { IfOk result (λ s. AreFeaturesOf [] s) }
     {
         Ok(FeatureSegments {
@@ -63,6 +67,44 @@ impl<A: Allocator + Copy> FeatureSegments<A> {
             segments: u32::try_from(self.segments.len() - segments).map_err(|_| NoMemory)?,
             features: self.features - features,
         })?;
+        Ok(())
+    }
+
+    /// Adds those of a layer that is columns.
+    pub(crate) fn push_columns(&mut self, layer: &Columns<'_>) -> Result<(), NoMemory>
+        requires accepted { AreAccepted layer.now }
+        requires owned { AreOwned self.old }
+        ensures { (layers : List (List (List (List Pt)))) → AreFeaturesOf layers self.old → OnOk result (AreFeaturesOf (layers ++ features_of layer.now ∷ []) self.new) }
+    {
+        let segments = self.segments.len();
+        let features = self.features;
+        for number in 0..feature_count(layer) {
+            self.push_of_columns(layer, number)?;
+        }
+        self.sizes.push(LayerSize {
+            segments: u32::try_from(self.segments.len() - segments).map_err(|_| NoMemory)?,
+            features: self.features - features,
+        })?;
+        Ok(())
+    }
+
+    /// Adds those of the feature with this number, counted from 0, of a layer that is columns.
+    fn push_of_columns(&mut self, layer: &Columns<'_>, number: usize) -> Result<(), NoMemory>
+        requires accepted { AreAccepted layer.now }
+        requires number { number < length (feature_rings_in layer.now) }
+        requires owned { AreOwned self.old }
+        ensures owned { OnOk result (AreOwned self.new) }
+        ensures grows { OnOk result ((length self.old.segments.items ≤ length self.new.segments.items) × (self.old.features ≤ self.new.features)) }
+        ensures added { (features : List (List (List Pt))) → AreSegmentsFrom features self.old → OnOk result (AreSegmentsFrom (features ++ plain (get_or (feature_rings_in layer.now) number []) ∷ []) self.new) }
+        ensures sizes { self.new.sizes ≡ self.old.sizes }
+    {
+        let owner = self.features;
+        if owner >= MOST_FEATURES {
+            return Err(NoMemory);
+        }
+        push_feature(&mut self.segments, layer, number, Source::A)?;
+        push_owners(&mut self.owners, self.segments.len(), owner)?;
+        self.features = owner + 1;
         Ok(())
     }
 

@@ -10,6 +10,7 @@ ghost use Rattle.engine.specs.Determined.{EdgesSizesAreOne, EdgesSizesAreOneWith
 ghost use Rattle.engine.specs.ColumnsLaws.{ColumnsAnswerIsOne, ColumnsRefusalIsOne, ColumnsSizesAreOne, PairIsByColumns, RefusedColumnsMayNotRun, RunIsByColumns};
 ghost use Rattle.engine.specs.ColumnsPairs.{PairsRefusalIsOne, RefusedPairsMayNotRun};
 ghost use Rattle.engine.specs.CoveredRuns.{CoveredTextIsOneWithin};
+ghost use Rattle.engine.specs.FaceColumnsLaws.{FaceColumnsAreOne, FaceColumnsRefusalIsOne, FacesAreByColumns, RefusedFaceColumnsAreNotMade, RefusedMayNotRoundColumns};
 ghost use Rattle.engine.specs.Faces.{FacesRefusalIsOne, FacesTextIsOneWithin, RefusedAreNotWritten, RefusedMayNotRound, WrittenFacesTell};
 ghost use Rattle.engine.specs.Counting.{CountsAreExact, CountsAreExactWithin};
 
@@ -79,6 +80,24 @@ pub fn pairs_refused_for_one_reason()
 /// up to that of the feature as it was rounded.
 pub fn faces_tell<A: Allocator>()
     ensures { WrittenFacesTell A }
+{}
+
+/// Where texts and columns stand for the same features, the text that `faces` writes and the columns of the rows are of the same rows.
+pub fn faces_are_by_columns<A: Allocator, B: Allocator>()
+    ensures { FacesAreByColumns A B }
+{}
+
+/// The columns of the rows of faces are determined by the features of the layers, in whatever columns these stand.
+pub fn face_columns_are_one<A: Allocator, B: Allocator>()
+    ensures { FaceColumnsAreOne A B }
+{}
+
+/// A plan and layers of columns are refused faces for one reason, and for none where they are answered. Where memory ended the call they may
+/// have too many features in all rows, and are refused for nothing else.
+pub fn face_columns_refused_for_one_reason<A: Allocator>()
+    ensures reason { FaceColumnsRefusalIsOne }
+    ensures answered { RefusedFaceColumnsAreNotMade A }
+    ensures memory { RefusedMayNotRoundColumns }
 {}
 
 /// A plan and layers are refused for one reason, and for none where they are answered, or where the sink got a part of an

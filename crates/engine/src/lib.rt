@@ -12,14 +12,17 @@
 //!
 //! Layers may be columns of coordinates and offsets in place of texts, and so is the result then: `run_columns_within` answers the columns of
 //! the polygons whose canonical line `run` writes. The definitions are in `specs/ColumnsRuns`. `run_pairs_alone_within` answers so for each
-//! feature of a layer and the one with the same number of another layer (`specs/ColumnsPairs`).
+//! feature of a layer and the one with the same number of another layer (`specs/ColumnsPairs`). `faces_columns_alone` answers the columns of
+//! the rows whose lines `faces` writes (`specs/FaceColumns`).
 #![tactic(auto)]
 
 mod alone;
 mod alone_faces;
+mod bounded_rows;
 mod cell_parts;
 mod cells;
 mod checking;
+mod column_layers;
 mod columns_alone;
 mod columns_checking;
 mod columns_output;
@@ -30,6 +33,7 @@ mod covered_run;
 mod engine;
 mod face_rows;
 mod face_text;
+mod faces_columns;
 mod faces_fault;
 mod faces_limits;
 mod faces_report;
@@ -57,6 +61,7 @@ pub use columns_pairs::{PairsOutput, PairsRefused, run_pairs_alone_within};
 pub use columns_run::run_columns_within;
 pub use covered_run::{run_covered, run_covered_within};
 pub use engine::{Limits, Output, Plan, edges, edges_within, run, run_within};
+pub use faces_columns::{FacesColumns, FacesColumnsRefused, faces_columns_alone};
 pub use faces_fault::{FacesFault, FacesPart, FacesRefusal, faces_line, faces_status, layer_name};
 pub use faces_limits::FacesLimits;
 pub use faces_report::{FacesReport, faces_report_text};
@@ -66,7 +71,8 @@ pub use feature_segments::LayerSize;
 pub use fitting::{fitting_side, fitting_side_of_columns, fitting_side_over};
 pub use laws::{
     columns_answer_is_one, columns_refused_for_one_reason, counts_are_exact, covered_text_is_one,
-    edges_text_is_one, faces_refused_for_one_reason, faces_tell, faces_text_is_one,
+    edges_text_is_one, face_columns_are_one, face_columns_refused_for_one_reason,
+    faces_are_by_columns, faces_refused_for_one_reason, faces_tell, faces_text_is_one,
     limits_are_numbers, one_refusal, pair_is_by_columns, pairs_refused_for_one_reason,
     result_text_is_one, run_is_by_columns, run_reports_as_edges, tiles_are_one,
 };

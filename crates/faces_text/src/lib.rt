@@ -7,4 +7,4 @@ mod laws;
 mod row;
 
 pub use laws::faces_text_is_one;
-pub use row::push_row;
+pub use row::{of_layer, push_row};

@@ -61,7 +61,7 @@ fn count_below(features: &[u32], past: u32) -> usize
 }
 
 /// Of ascending features those from one number to before another one.
-fn of_layer(features: &[u32], first: u32, past: u32) -> &[u32]
+pub fn of_layer(features: &[u32], first: u32, past: u32) -> &[u32]
     requires { AllPairs (λ f g. f < g) features.now }
     ensures { result.now ≡ filter (is_of_layer first past) features.now }
 {

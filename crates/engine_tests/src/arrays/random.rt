@@ -24,13 +24,13 @@ const PAIRS: u32 = 60;
 
 /// Numbers of chance (Marsaglia's xorshift, 32 bits).
 #[derive(Clone, Copy)]
-struct Chance {
-    state: u32,
+pub struct Chance {
+    pub state: u32,
 }
 
 impl Chance {
     /// The next number, below another one.
-    fn below(&mut self, bound: u32) -> u32 {
+    pub fn below(&mut self, bound: u32) -> u32 {
         let mut x = self.state;
         x ^= x << 13;
         x ^= x >> 17;
@@ -52,8 +52,8 @@ fn number(length: usize) -> Result<u32, NoMemory> {
 
 /// A layer as text and as columns, a polygon of one ring for each feature.
 #[derive(Drop)]
-struct Both {
-    text: Vec<u8>,
+pub struct Both {
+    pub text: Vec<u8>,
     coordinates: Vec<i32>,
     offsets: Vec<u32>,
     numbers: Vec<u32>,
@@ -84,7 +84,7 @@ impl Both {
         Ok(())
     }
 
-    fn columns(&self) -> Columns<'_> {
+    pub fn columns(&self) -> Columns<'_> {
         Columns {
             points: Points::Interleaved(&self.coordinates),
             rings: &self.offsets,
@@ -110,7 +110,7 @@ fn ring_of(alloc: Global, chance: &mut Chance) -> Result<Vec<i32>, NoMemory> {
 }
 
 /// A layer of up to three features.
-fn layer_of(alloc: Global, chance: &mut Chance) -> Result<Both, NoMemory> {
+pub fn layer_of(alloc: Global, chance: &mut Chance) -> Result<Both, NoMemory> {
     let mut layer = Both::new(alloc)?;
     for _ in 0..chance.below(4) {
         let ring = ring_of(alloc, chance)?;

@@ -52,19 +52,33 @@ fn push_rings(
     Ok(())
 }
 
-/// The canonical line of the polygons that columns hold.
-pub fn line_of(alloc: Global, columns: &OwnedColumns<Global>) -> Result<Vec<u8>, NoMemory> {
-    let count = columns.polygons.len().saturating_sub(1);
-    if count == 0 {
-        return Ok(Vec::from_slice(alloc, b"MULTIPOLYGON EMPTY\n")?);
+/// Adds the canonical line of the polygons from one number to before another one that columns hold.
+pub fn push_polygons(
+    alloc: Global,
+    text: &mut Vec<u8>,
+    columns: &OwnedColumns<Global>,
+    first: usize,
+    last: usize,
+) -> Result<(), NoMemory> {
+    if first >= last {
+        text.extend_from_slice(b"MULTIPOLYGON EMPTY\n")?;
+        return Ok(());
     }
-    let mut text = Vec::from_slice(alloc, b"MULTIPOLYGON (")?;
-    for polygon in 0..count {
-        comma(&mut text, polygon == 0)?;
+    text.extend_from_slice(b"MULTIPOLYGON (")?;
+    for polygon in first..last {
+        comma(text, polygon == first)?;
         let from = offset(&columns.polygons, polygon);
         let past = offset(&columns.polygons, polygon.saturating_add(1));
-        push_rings(alloc, &mut text, columns, from, past)?;
+        push_rings(alloc, text, columns, from, past)?;
     }
     text.extend_from_slice(b")\n")?;
+    Ok(())
+}
+
+/// The canonical line of the polygons that columns hold.
+pub fn line_of(alloc: Global, columns: &OwnedColumns<Global>) -> Result<Vec<u8>, NoMemory> {
+    let mut text = Vec::new(alloc);
+    let count = columns.polygons.len().saturating_sub(1);
+    push_polygons(alloc, &mut text, columns, 0, count)?;
     Ok(text)
 }

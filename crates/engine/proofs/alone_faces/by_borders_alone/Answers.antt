@@ -1,98 +1,62 @@
-use Rattle.std.proofs.Common.{◌≡◌, ℕ, length, map, refl}
-use Rattle.std.specs.Prelude.{All, Ok}
+use Rattle.std.proofs.Common.{◌≡◌, ◌∙◌, ◌≤◌, ℕ, List, ap, length, map, subst, sym}
+use Rattle.std.proofs.lemmas.List.{length-map}
 use Rattle.std.proofs.lemmas.Result.{IfOk-at_ok, err_from_is_err_and}
-use Rattle.cover_law.specs.Areas.{row_area}
-use Rattle.cover_law.specs.Cover.{bordered}
-use Rattle.cover_law.specs.Rows.{AreRows}
 use Rattle.faces_text.specs.Text.{rows_text}
 use Rattle.rows.specs.Made.{row_of}
+use Rattle.rows.specs.declared.parts.Row.{Row}
 use Rattle.engine.specs.declared.feature_segments.LayerSize.{LayerSize}
-use Rattle.engine.specs.FaceBorders.{borders_in}
-use Rattle.engine.specs.FaceRows.{AreFaceSets}
 use Rattle.engine.specs.FeatureSegments.{all_features}
+use Rattle.engine.specs.Rounds.{TellsTiles}
 use Rattle.engine.proofs.FacesRunning.{memory_declines}
-use Rattle.engine.proofs.FacesWritten.{below_most, counts_fit, edges_of, few_tiles, ids_refused, made_written, may, over_borders, sets_ascend, some_over}
+use Rattle.engine.proofs.FacesWritten.{all_below, below_most, bounded_declines, counts_fit, few_tiles, may, over_borders, sets_ascend, some_over, written}
 use Rattle.engine.proofs.alone_faces.by_borders_alone.Goals as goal
 
-pub face_sets_alone-requires-clause-borders : goal.face_sets_alone-requires-clause-borders
-face_sets_alone-requires-clause-borders g c =
+pub bounded_rows_alone-requires-clause-borders : goal.bounded_rows_alone-requires-clause-borders
+bounded_rows_alone-requires-clause-borders g c =
     let now = c.args.checked.now in
-    rw (c.deref.ensures.value, c.deref-2.ensures.value) (over_borders now.limits now.plan (map (λ t. t.now) now.layers.now) now.segments now.grid now.are_checked c.args.borders c.requires)
+    over_borders now.limits now.plan (map (λ t. t.now) now.layers.now) now.segments now.grid now.are_checked c.args.borders c.requires
 
-pub face_sets_alone-requires-clause-some : goal.face_sets_alone-requires-clause-some
-face_sets_alone-requires-clause-some g c =
+pub bounded_rows_alone-requires-clause-some : goal.bounded_rows_alone-requires-clause-some
+bounded_rows_alone-requires-clause-some g c =
     let now = c.args.checked.now in
-    rw (c.deref.ensures.value, c.deref-2.ensures.value) (some_over now.limits now.plan (map (λ t. t.now) now.layers.now) now.segments now.grid now.are_checked c.args.borders c.requires)
+    some_over now.limits now.plan (map (λ t. t.now) now.layers.now) now.segments now.grid now.are_checked c.args.borders c.requires
 
-pub face_sets_alone-requires-clause-inside : goal.face_sets_alone-requires-clause-inside
-face_sets_alone-requires-clause-inside g c = rw (c.deref.ensures.value, c.deref-2.ensures.value) c.requires.rounded.inside
+pub bounded_rows_alone-requires-clause-inside : goal.bounded_rows_alone-requires-clause-inside
+bounded_rows_alone-requires-clause-inside g c = c.requires.of.rounded.inside
 
-pub face_sets_alone-requires-clause-ordered : goal.face_sets_alone-requires-clause-ordered
-face_sets_alone-requires-clause-ordered g c = rw (c.deref.ensures.value, c.deref-2.ensures.value) c.requires.rounded.ordered
+pub bounded_rows_alone-requires-clause-ordered : goal.bounded_rows_alone-requires-clause-ordered
+bounded_rows_alone-requires-clause-ordered g c = c.requires.of.rounded.ordered
 
-pub face_sets_alone-requires-clause-below : goal.face_sets_alone-requires-clause-below
-face_sets_alone-requires-clause-below g c =
+pub bounded_rows_alone-requires-clause-below : goal.bounded_rows_alone-requires-clause-below
+bounded_rows_alone-requires-clause-below g c =
     let now = c.args.checked.now in
-    rw c.deref-2.ensures.value (below_most now.limits now.plan (map (λ t. t.now) now.layers.now) now.segments now.grid now.are_checked c.args.borders c.requires)
-
-pub returns-in_err-sets-clause-answer : goal.returns-in_err-sets-clause-answer
-returns-in_err-sets-clause-answer g c =
-    let now = c.args.checked.now in
-    let texts = map (λ t. t.now) now.layers.now in
-    let p = err_from_is_err_and c.from_residual.result c.from_residual.ensures.1 in
-    let f = c.in_err-sets.field-0.0 in
-    rw (p.1, p.2) (memory_declines now.limits now.plan texts f.at f.refusal (may now.limits now.plan texts now.segments now.grid now.are_checked c.args.borders c.requires) c.in_err-sets.ensures)
-
-pub ids-requires : goal.ids-requires
-ids-requires g c =
-    (IfOk-at_ok (λ s. AreFaceSets c.deref-2.result.now (map (bordered c.deref-2.result.now) c.deref.result.now) s.sets s.edges.edges.items s.edges.sets.items) c.in_ok-sets.ensures c.face_sets_alone.ensures).ready
-
-pub returns-in_err-ids-clause-answer : goal.returns-in_err-ids-clause-answer
-returns-in_err-ids-clause-answer g c =
-    let now = c.args.checked.now in
-    let texts = map (λ t. t.now) now.layers.now in
-    let rounded = c.args.borders.rounded in
-    let p = err_from_is_err_and c.from_residual-in_err-ids.result c.from_residual-in_err-ids.ensures.1 in
-    let f = c.in_err-ids.field-0.0 in
-    let count = length (all_features c.requires.layers) in
-    let sets = c.in_ok-sets.sets in
-    let edges = edges_of now.limits now.plan texts now.segments now.grid now.are_checked c.args.borders c.requires sets.sets sets.edges.edges.items sets.edges.sets.items c.deref-2.result.now c.deref.result.now c.deref-2.ensures.value c.deref.ensures.value
-    (IfOk-at_ok (λ s. AreFaceSets c.deref-2.result.now (map (bordered c.deref-2.result.now) c.deref.result.now) s.sets s.edges.edges.items s.edges.sets.items) c.in_ok-sets.ensures c.face_sets_alone.ensures) in
-    rw (p.1, p.2) (ids_refused now.limits now.plan texts now.segments now.grid now.are_checked c.args.borders c.requires f c.ids.result (c.ids.ensures.number count (borders_in rounded) edges) c.in_err-ids.ensures)
-
-pub rows_alone-requires : goal.rows_alone-requires
-rows_alone-requires g c =
-    (IfOk-at_ok (λ s. AreFaceSets c.deref-2.result.now (map (bordered c.deref-2.result.now) c.deref.result.now) s.sets s.edges.edges.items s.edges.sets.items) c.in_ok-sets.ensures c.face_sets_alone.ensures).ready
+    below_most now.limits now.plan (map (λ t. t.now) now.layers.now) now.segments now.grid now.are_checked c.args.borders c.requires
 
 pub returns-in_err-rows-clause-answer : goal.returns-in_err-rows-clause-answer
 returns-in_err-rows-clause-answer g c =
     let now = c.args.checked.now in
     let texts = map (λ t. t.now) now.layers.now in
-    let p = err_from_is_err_and c.from_residual-in_err-rows.result c.from_residual-in_err-rows.ensures.1 in
+    let below = all_below now.limits now.plan texts now.segments now.grid now.are_checked c.args.borders c.requires in
+    let p = err_from_is_err_and c.from_residual.result c.from_residual.ensures.1 in
     let f = c.in_err-rows.field-0.0 in
-    rw (p.1, p.2) (memory_declines now.limits now.plan texts f.at f.refusal (may now.limits now.plan texts now.segments now.grid now.are_checked c.args.borders c.requires) c.in_err-rows.ensures)
+    rw (p.1, p.2) (bounded_declines now.limits now.plan texts now.segments now.grid now.are_checked c.args.borders c.requires f
+    (c.in_err-rows.ensures.answer (length (all_features c.requires.layers)) below))
 
 pub rows_text_alone-requires-clause-counts : goal.rows_text_alone-requires-clause-counts
 rows_text_alone-requires-clause-counts g c =
     let now = c.args.checked.now in
-    rw c.deref-3.ensures.value (counts_fit now.limits now.plan (map (λ t. t.now) now.layers.now) now.segments now.grid now.are_checked c.args.borders c.requires)
+    rw c.deref.ensures.value (counts_fit now.limits now.plan (map (λ t. t.now) now.layers.now) now.segments now.grid now.are_checked c.args.borders c.requires)
 
 pub rows_text_alone-requires-clause-ascending : goal.rows_text_alone-requires-clause-ascending
 rows_text_alone-requires-clause-ascending g c =
     let now = c.args.checked.now in
     let texts = map (λ t. t.now) now.layers.now in
-    let rounded = c.args.borders.rounded in
-    let count = length (all_features c.requires.layers) in
-    let sets = c.in_ok-sets.sets in
-    let edges = edges_of now.limits now.plan texts now.segments now.grid now.are_checked c.args.borders c.requires sets.sets sets.edges.edges.items sets.edges.sets.items c.deref-2.result.now c.deref.result.now c.deref-2.ensures.value c.deref.ensures.value
-    (IfOk-at_ok (λ s. AreFaceSets c.deref-2.result.now (map (bordered c.deref-2.result.now) c.deref.result.now) s.sets s.edges.edges.items s.edges.sets.items) c.in_ok-sets.ensures c.face_sets_alone.ensures) in
-    let borders = over_borders now.limits now.plan texts now.segments now.grid now.are_checked c.args.borders c.requires in
-    let rows = IfOk-at_ok (λ rs. AreRows count (borders_in rounded) (map row_of rs.items)) c.in_ok-rows.ensures (c.rows_alone.ensures.rows count (borders_in rounded) borders edges) in
-    rw c.deref-4.ensures.value (sets_ascend now.limits now.plan texts now.segments now.grid now.are_checked c.args.borders c.requires c.in_ok-rows.rows.items rows)
+    let below = all_below now.limits now.plan texts now.segments now.grid now.are_checked c.args.borders c.requires in
+    rw c.deref-2.ensures.value (sets_ascend now.limits now.plan texts now.segments now.grid now.are_checked c.args.borders c.requires c.in_ok-rows.field-0.rows.items
+    (c.in_ok-rows.ensures.answer (length (all_features c.requires.layers)) below).rows)
 
 pub rows_text_alone-requires-clause-areas : goal.rows_text_alone-requires-clause-areas
-rows_text_alone-requires-clause-areas g c =
-    rw c.deref-4.ensures.value (IfOk-at_ok (λ rs. All (λ r. r.twice_area ≡ row_area (row_of r)) rs.items) c.in_ok-rows.ensures c.rows_alone.ensures.areas)
+rows_text_alone-requires-clause-areas g c = rw c.deref-2.ensures.value c.in_ok-rows.ensures.areas
 
 pub returns-in_err-text-clause-answer : goal.returns-in_err-text-clause-answer
 returns-in_err-text-clause-answer g c =
@@ -118,14 +82,25 @@ returns-in_err-report-clause-answer g c =
 pub returns-clause-answer : goal.returns-clause-answer
 returns-clause-answer g c =
     let now = c.args.checked.now in
+    let texts = map (λ t. t.now) now.layers.now in
+    let borders = c.args.borders in
+    let below = all_below now.limits now.plan texts now.segments now.grid now.are_checked borders c.requires in
+    let bounded = c.in_ok-rows.ensures.answer (length (all_features c.requires.layers)) below in
+    let rows = c.in_ok-rows.field-0.rows.items in
     let told = c.faces_report_of.ensures in
-    let text = IfOk-at_ok (λ t. t.items ≡ rows_text (map (λ (z : LayerSize). z.features) c.deref-3.result.now) (map row_of c.deref-4.result.now)) c.in_ok-text.ensures c.rows_text_alone.ensures in
-    made_written now.limits now.plan (map (λ t. t.now) now.layers.now) now.segments now.grid now.are_checked c.args.borders c.requires {F = ℕ}
-    c.in_ok-sets.sets.sets c.in_ok-sets.sets.edges.edges.items c.in_ok-sets.sets.edges.sets.items c.deref-2.result.now c.deref.result.now c.deref-3.result.now c.deref-4.result.now c.deref-5.result.now c.ids.result c.in_ok-ids.ids
-    c.rows_alone.result c.in_ok-rows.rows (Ok c.in_ok-text.text.items) c.in_ok-text.text.items c.faces_report_of.result c.in_ok-report.report
-    c.deref-2.ensures.value c.deref.ensures.value c.deref-3.ensures.value c.deref-4.ensures.value c.deref-5.ensures.value
-    (IfOk-at_ok (λ s. AreFaceSets c.deref-2.result.now (map (bordered c.deref-2.result.now) c.deref.result.now) s.sets s.edges.edges.items s.edges.sets.items) c.in_ok-sets.ensures c.face_sets_alone.ensures)
-    c.ids.ensures.rows c.in_ok-ids.ensures c.in_ok-rows.ensures c.rows_alone.ensures.rows refl text c.in_ok-report.ensures told.layers told.edges told.rows told.tiles told.remade
+    let is_report = c.in_ok-report.ensures in
+    let numbers = IfOk-at_ok (λ r. (r.rows ≡ length c.deref-3.result.now) × (r.ids ≡ c.in_ok-rows.field-0.ids)) is_report told.rows in
+    let is_text = IfOk-at_ok (λ t. t.items ≡ rows_text (map (λ (z : LayerSize). z.features) c.deref.result.now) (map row_of c.deref-2.result.now)) c.in_ok-text.ensures c.rows_text_alone.ensures
+    ∙ ap (λ (zs : List LayerSize). rows_text (map (λ (z : LayerSize). z.features) zs) (map row_of c.deref-2.result.now)) c.deref.ensures.value
+    ∙ ap (λ (rs : List (Row g.row.A.Denot)). rows_text (map (λ (z : LayerSize). z.features) borders.sizes.items) (map row_of rs)) c.deref-2.ensures.value in
+    written now.limits now.plan texts now.segments now.grid now.are_checked borders c.requires (map row_of rows) c.in_ok-text.text.items c.in_ok-report.report bounded.rows is_text
+    (ap (λ v. v.items) (IfOk-at_ok (λ r. r.layers ≡ borders.sizes) is_report told.layers))
+    (IfOk-at_ok (λ r. r.edges ≡ length borders.rounded.borders.items) is_report told.edges)
+    (numbers.0 ∙ ap (λ (rs : List (Row g.row.A.Denot)). length rs) c.deref-3.ensures.value ∙ sym (length-map rows row_of))
+    (numbers.1 ∙ bounded.ids)
+    (subst (λ (n : ℕ). n ≤ now.limits.ids) (sym numbers.1) bounded.few)
+    (IfOk-at_ok (λ r. TellsTiles borders.rounded.tiles.items r.hot r.records r.tiles.items) is_report told.tiles)
+    (IfOk-at_ok (λ r. r.remade ≡ borders.rounded.remade) is_report told.remade)
 
 pub returns-clause-same_remade : goal.returns-clause-same_remade
 returns-clause-same_remade g c = IfOk-at_ok (λ r. r.remade ≡ c.args.borders.rounded.remade) c.in_ok-report.ensures c.faces_report_of.ensures.remade

@@ -23,10 +23,10 @@ face_sets-requires-clause-some g c =
     λ κs l. rw (c.deref.ensures.value, c.deref-2.ensures.value) (some_over now.limits now.plan (map (λ t. t.now) now.layers.now) now.segments now.grid now.are_checked c.args.borders c.requires)
 
 pub face_sets-requires-clause-inside : goal.face_sets-requires-clause-inside
-face_sets-requires-clause-inside g c = λ κs l. rw (c.deref.ensures.value, c.deref-2.ensures.value) c.requires.rounded.inside
+face_sets-requires-clause-inside g c = λ κs l. rw (c.deref.ensures.value, c.deref-2.ensures.value) c.requires.of.rounded.inside
 
 pub face_sets-requires-clause-ordered : goal.face_sets-requires-clause-ordered
-face_sets-requires-clause-ordered g c = λ κs l. rw (c.deref.ensures.value, c.deref-2.ensures.value) c.requires.rounded.ordered
+face_sets-requires-clause-ordered g c = λ κs l. rw (c.deref.ensures.value, c.deref-2.ensures.value) c.requires.of.rounded.ordered
 
 pub face_sets-requires-clause-below : goal.face_sets-requires-clause-below
 face_sets-requires-clause-below g c =

@@ -41,14 +41,16 @@ returns g c =
     record {
       layers = all.0;
       stand = all.1;
-      segments = made.segments.items;
-      owners = made.owners.items;
-      are_segments = all.2.all.are_segments;
-      in_limit = all.2.owned.in_limit;
-      few = subst (λ (n : ℕ). n ≤ 2147483647) all.2.all.count all.2.owned.few;
-      rounded = subst (λ (ss : List Seg). AreRoundedBorders ss made.owners.items rounded) c.deref.ensures.value (subst (λ (os : List ℕ). AreRoundedBorders c.deref.result.now os rounded) c.deref-2.ensures.value new.borders);
-      segments_are = all.2.segments_are;
-      features_are = all.2.features_are;
-      tiles_are = subst (λ (ss : List Seg). AreTileNumbers grid ss (tile_count grid) rounded.tiles.items) c.deref.ensures.value new.tiles;
-      remade = new.remade;
+      of = record {
+        segments = made.segments.items;
+        owners = made.owners.items;
+        are_segments = all.2.all.are_segments;
+        in_limit = all.2.owned.in_limit;
+        few = subst (λ (n : ℕ). n ≤ 2147483647) all.2.all.count all.2.owned.few;
+        rounded = subst (λ (ss : List Seg). AreRoundedBorders ss made.owners.items rounded) c.deref.ensures.value (subst (λ (os : List ℕ). AreRoundedBorders c.deref.result.now os rounded) c.deref-2.ensures.value new.borders);
+        segments_are = all.2.segments_are;
+        features_are = all.2.features_are;
+        tiles_are = subst (λ (ss : List Seg). AreTileNumbers grid ss (tile_count grid) rounded.tiles.items) c.deref.ensures.value new.tiles;
+        remade = new.remade;
+      };
     }
