@@ -9,7 +9,7 @@ use Rattle.geom.specs.declared.point.Pt.{Pt}
 use Rattle.grid.specs.Tiles.{most_tiles}
 use Rattle.columns.specs.declared.layout.Columns.{Columns}
 use Rattle.cover_law.specs.Cover.{Bordered, bordered}
-use Rattle.row_columns.specs.Rows.{AreRowColumns}
+use Rattle.rows.specs.RowColumns.{AreRowColumns}
 use Rattle.rows.specs.Made.{row_of}
 use Rattle.engine.specs.declared.bounded_rows.BoundedRows.{BoundedRows}
 use Rattle.engine.specs.declared.column_layers.CheckedColumnLayers.{CheckedColumnLayers}

@@ -13,8 +13,8 @@ use Rattle.columns.specs.Refusals.{AreAccepted, AreRefused}
 use Rattle.cover_law.specs.Rows.{Row}
 use Rattle.cover_law.proofs.FaceLaws.{faces_are_one}
 use Rattle.faces_text.specs.Text.{IsFacesText}
-use Rattle.row_columns.specs.Rows.{AreRowColumns}
-use Rattle.row_columns.specs.declared.answer.RowColumns.{RowColumns}
+use Rattle.rows.specs.RowColumns.{AreRowColumns}
+use Rattle.rows.specs.declared.row_columns.RowColumns.{RowColumns}
 use Rattle.engine.specs.declared.engine.Plan.{Plan}
 use Rattle.engine.specs.declared.faces_columns.FacesColumnsRefused.{FacesColumnsRefused}
 use Rattle.engine.specs.declared.faces_columns.FacesColumnsRefused.TheVariants.{Layer, Run}

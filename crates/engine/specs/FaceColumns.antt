@@ -10,8 +10,8 @@ use Rattle.cover_law.specs.Faces.{AreFaces}
 use Rattle.cover_law.specs.Rows.{Row}
 use Rattle.linking.specs.Gathered.{AreTileNumbers}
 use Rattle.linking.specs.declared.rounded.TileNumbers.{TileNumbers}
-use Rattle.row_columns.specs.Rows.{AreRowColumns}
-use Rattle.row_columns.specs.declared.answer.RowColumns.{RowColumns}
+use Rattle.rows.specs.RowColumns.{AreRowColumns}
+use Rattle.rows.specs.declared.row_columns.RowColumns.{RowColumns}
 use Rattle.rows.specs.Made.{ids_in, row_of}
 use Rattle.engine.specs.declared.bounded_rows.BoundedRows.{BoundedRows}
 use Rattle.engine.specs.declared.engine.Plan.{Plan}

@@ -1,6 +1,6 @@
 //! The rows of faces by the borders of features, where all rows together don't have too many features.
 //!
-//! One path for layers that are texts and for those that are columns: what follows is how rows are written (`face_text`, or the crate `row_columns`).
+//! One path for layers that are texts and for those that are columns: what follows is how rows are written (`face_text`, or `rows: columns_of_rows`).
 
 ghost use Rattle.std.specs.Prelude.{◌≡◌, ◌<◌, ◌≤◌, ℕ, true, All, AllPairs, IfOk, MatchResult, length};
 ghost use Rattle.cover_law.specs.Areas.{row_area};

@@ -25,7 +25,7 @@ use crate::feature_reading::MOST_LAYERS;
 use columns::{Columns, ColumnsFault};
 use geom::NoMemory;
 use grid::MOST_TILES;
-use row_columns::{RowColumns, columns_of_rows};
+use rows::{RowColumns, columns_of_rows};
 use std::alloc::Allocator;
 
 /// The rows of faces as columns, and the numbers of the run that made them.

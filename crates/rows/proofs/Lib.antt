@@ -6,3 +6,4 @@ pub mod Order
 pub mod SetOrder
 pub mod Sides
 pub mod Zips
+pub mod Behind

@@ -1,3 +1,4 @@
 pub mod RowEdges
 pub mod RowSets
 pub mod Made
+pub mod RowColumns

@@ -8,7 +8,7 @@ use engine::{
     faces_columns_alone, faces_report_text,
 };
 use geom::{Fault, NoMemory};
-use row_columns::{NumberLists, RowColumns};
+use rows::{NumberLists, RowColumns};
 use std::alloc::Global;
 use std::test::Fail;
 
