@@ -1,14 +1,27 @@
-"""README's table of other tools, made of bench/results/peers.tsv: its latest rows, of the largest maps."""
+"""README's table of other tools: of the last run that bench/results/peers.tsv has, its largest maps, and beside these what manuals tell."""
 from __future__ import annotations
 
 import re
 
-from . import peer_tools, results
+from . import noding, peer_tools, results
 
-HEAD = ("", "raw map", "mixed order", "threads", "time")
+HEAD = ("rounding", "raw map", "reordered", "threads", "time", "faces with sources", "files", "lacks")
 # A tool's rows on a grid, and with its layers made valid, tell more of the same tool.
 GRID, VALID = ", grid 1", ", made valid"
 SHAPES = ("same bytes", "same polygons", "other points")
+NOT_RUN = "not run: "
+# What overlay's rounding is beside what a run shows: README, What is proved.
+PROVED = "exact, "
+# What no run shows: which features cover what, told by one call; which files are read; what users of the others have. Each by the
+# tool's own words, in the version of the table.
+MANUALS = {
+    "overlay": ("any layers", "GDAL's", "decimals, lines"),  # docs/PLANNERS.md, README's Limits
+    "Shapely": ("no", "WKT, WKB", "a program"),  # shapely.ops: `polygonize` answers polygons alone
+    "PostGIS": ("by `topology`", "tables", "a library"),  # the extension postgis_topology: CreateTopoGeom
+    "QGIS": ("two layers", "GDAL's", "a grid"),  # qgis_process help native:union, native:intersection: no parameter has a grid
+    "CGAL": ("by `Arr_overlay_2`", "WKT", "a program"),  # CGAL/Arr_overlay_2.h, CGAL/IO/WKT.h
+    "Clipper 6": ("no", "none", "features"),  # polyclipping/clipper.hpp: paths go in, paths come out
+}
 
 Row = dict[str, str]
 
@@ -35,35 +48,63 @@ def on_raw_map(rows: list[Row], valid: list[Row]) -> str:
     faults = [re.sub(r"^status -?\d+: ", "", row["answers"]) for row in raw if row["answers"] != "yes"]
     off = max((number(row["area off"]) for row in raw), key=abs, default=0.0)
     if faults:
-        found = faults[0] if faults[0].startswith(peer_tools.OVER) else "stops: " + faults[0].partition(":")[0]
+        late = re.match(peer_tools.OVER + r" within (\d+) ", faults[0])
+        found = "no answer in %s s" % late[1] if late else "stops"
     elif not raw:
         return "–"
     elif abs(off) > 1:
-        found = "%s %.3g %% of the area" % ("loses" if off < 0 else "adds", abs(off) / 10_000)
+        found = "%s %.2g%% of the area" % ("loses" if off < 0 else "adds", abs(off) / 10_000)
     else:
         found = "answers"
-    return found + ("; made valid, answers" if found != "answers" and answers(valid) else "")
+    if found == "answers" or not answers(valid):
+        return found
+    return "made valid, answers" if found == "stops" else found + "; made valid, answers"
+
+
+def common_of(rows: list[Row]) -> Row:
+    """What two clean layers have in common."""
+    return next((row for row in rows if (row["map"], row["job"], row["answers"]) == ("clean", "common", "yes")), {})
+
+
+def rounding(own: Row, grid: Row) -> str:
+    """What the points of an answer are, also where the tool is asked for a grid."""
+    points, asked = own.get("points", ""), grid.get("points", "")
+    if points == noding.DECIMALS:
+        return asked + ", if asked" if asked else "none"
+    return points or "–"
 
 
 def cells(tool: str, rows: dict[str, list[Row]]) -> list[str]:
-    own, valid = rows[tool], rows.get(tool + VALID, [])
+    own, grid, valid = rows[tool], rows.get(tool + GRID, []), rows.get(tool + VALID, [])
     done = [row for row in own + valid if row["answers"] == "yes"]
-    clean = [row for row in own if row["map"] == "clean" and row["answers"] == "yes"]
-    kept = [row[what] for row in done for what in ("again", "other order") if row[what]]
+    kept = [row[what] for row in done for what in ("again", "other order") if row[what] and not row[what].startswith(peer_tools.OVER)]
     order = max(kept, key=lambda word: SHAPES.index(word) if word in SHAPES else len(SHAPES), default="–")
     threads = max((row["threads"] for row in done if row["threads"]), key=number, default="–")
-    ratios = [row["ratio"] for row in clean if row["job"] == "common" and row["ratio"]]
-    time = ("1" if tool == "overlay" else "%.1f" % number(ratios[0])) if ratios else "–"
+    ratio = common_of(own).get("ratio", "")
+    time = ("1" if tool == "overlay" else "%.1f" % number(ratio)) if ratio else "–"
     name = own[-1]["version"].partition(", ")[0]
-    return ["**%s**" % name if tool == "overlay" else name, on_raw_map(own, valid), order, threads, time]
+    rounded = rounding(common_of(own), common_of(grid))
+    measured = [PROVED + rounded if tool == "overlay" else rounded, on_raw_map(own, valid), order, threads, time]
+    return ["**%s**" % name if tool == "overlay" else name, *measured, *MANUALS.get(tool, ("–",) * 3)]
+
+
+def not_run(found: dict[str, list[Row]]) -> list[list[str]]:
+    """The tools that weren't there, by the reasons."""
+    reasons: dict[str, list[str]] = {}
+    for tool, rows in found.items():
+        if rows[-1]["answers"].startswith(NOT_RUN) and not tool.endswith((GRID, VALID)) and tool != peer_tools.Faces.name:
+            reasons.setdefault(re.split("[:,] ", rows[-1]["answers"].removeprefix(NOT_RUN))[0], []).append(tool)
+    return [[", ".join(tools), NOT_RUN + reason] for reason, tools in reasons.items()]
 
 
 def table() -> list[str]:
     """The table's lines; without recorded rows its head alone."""
     found: dict[str, list[Row]] = {}
-    for row in results.latest("peers", ("tool", "map", "segments", "job")):
+    for row in results.last_run("peers", ("tool", "map", "segments", "job")):
         found.setdefault(row["tool"], []).append(row)
-    run = {tool: largest(rows) for tool, rows in found.items() if not rows[-1]["answers"].startswith("not run")}
-    lines = [cells(tool, run) for tool in run if not tool.endswith((GRID, VALID)) and tool != "overlay-gis faces"]
+    run = {tool: largest(rows) for tool, rows in found.items() if not rows[-1]["answers"].startswith(NOT_RUN)}
+    lines = [cells(tool, run) for tool in run if not tool.endswith((GRID, VALID)) and tool != peer_tools.Faces.name]
     lines.sort(key=lambda row: not row[0].startswith("**"))
-    return ["| %s |" % " | ".join(line) for line in (HEAD, *lines)][:1] + ["|---" * len(HEAD) + "|"] + ["| %s |" % " | ".join(line) for line in lines]
+    size = max((number(row["segments"]) for rows in run.values() for row in rows), default=0)
+    head, *rest = ["|%s|" % " | ".join(line) for line in (["%s segments" % format(int(size), ","), *HEAD], *lines, *not_run(found))]
+    return [head, "|---" * (1 + len(HEAD)) + "|", *rest]

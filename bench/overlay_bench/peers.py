@@ -15,10 +15,12 @@ itself). Two jobs: `dissolve` is the area that some parcel covers, `common` what
   clock s      of the whole run, as processor seconds are
   ratio        processor seconds to overlay's in this run
   threads      at work at once, in a tenth of the run at least
+  points       of the answer: decimals; or whole, and noded (edges share ends alone), or with how many crossings
 
 PostgreSQL is started for this by a user that isn't root, on a free port of this machine, in a temporary folder, and ended. What isn't
 there is told and left out: apt-get install python3-shapely python3-gdal gdal-bin postgresql postgis postgresql-15-postgis-3 qgis g++
-libcgal-dev libpolyclipping-dev. The exit status is 1 where overlay doesn't answer, or has another area or other bytes than it may.
+libcgal-dev libpolyclipping-dev. The exit status is 1 where overlay doesn't answer, or has another area or other bytes than it may, or
+edges that cross. README's table is of the last run that was recorded (`--record`), so that should be one of all tools.
 """
 from __future__ import annotations
 
@@ -26,18 +28,19 @@ import argparse
 import contextlib
 import os
 import signal
+import subprocess
 import sys
 import tempfile
 from dataclasses import dataclass, replace
 
-from . import shapes, town
-from .peer_tools import OVER, Faces, Layers, Overlay, Run, Tool, peers
+from . import noding, shapes, town
+from .peer_tools import OVER, Faces, Layers, Overlay, Run, Tool, peers, words_of
 
 JOBS = ("dissolve", "common")
 # A job that takes so many seconds is run twice at most on the same files.
 SLOW = 30
 MAPS = {"clean": False, "raw": True}
-HEAD = ("tool", "version", "map", "segments", "job", "answers", "area off", "again", "other order", "processor s", "clock s", "ratio", "threads")
+HEAD = ("tool", "version", "map", "segments", "job", "answers", "area off", "again", "other order", "processor s", "clock s", "ratio", "threads", "points")
 
 
 def add_arguments(parser: argparse.ArgumentParser) -> None:
@@ -92,6 +95,9 @@ class Row:
         whole = known.odd if isinstance(self.tool, Overlay) else known.some
         return 1e6 * (shapes.area(shapes.of_lines(self.runs[0].text)) / whole - 1)
 
+    def points(self) -> str:
+        return "" if self.runs[0].fault else noding.told(shapes.of_lines(self.runs[0].text))
+
     def is_over(self) -> bool:
         return self.runs[0].fault.startswith(OVER)
 
@@ -135,14 +141,24 @@ class Table:
             ours = self.ours.get((row.map, row.size, row.job))
             times = ["%.3f" % processor, "%.3f" % row.least("clock"), "%.2f" % (processor / ours) if ours else ""]
         threads = "" if fault else str(max(run.threads for run in row.runs))
-        told = [fault or "yes", "" if off is None else "%+.3f" % off, row.again(), row.in_other_order(), *times, threads]
+        told = [fault or "yes", "" if off is None else "%+.3f" % off, row.again(), row.in_other_order(), *times, threads, row.points()]
         cells = [row.tool.name, row.version, row.map, str(row.size), row.job, *told]
         print("| %s |" % " | ".join(cell.replace("|", "/") for cell in cells), flush=True)
         if isinstance(row.tool, Overlay):
-            self.wrong |= bool(fault) or off not in (None, 0.0) or {row.again(), row.in_other_order()} != {"same bytes"}
+            self.wrong |= bool(fault) or off not in (None, 0.0) or {row.again(), row.in_other_order()} != {"same bytes"} or row.points() != noding.NODED
 
-    def skip(self, tool: Tool) -> None:
-        print("| %s |" % " | ".join([tool.name, "", "", "", "", "not run: " + tool.missing(), *[""] * 7]), flush=True)
+    def skip(self, tool: Tool, why: str) -> None:
+        print("| %s |" % " | ".join([tool.name, "", "", "", "", "not run: " + why, *[""] * 8]), flush=True)
+
+    def versions(self, tools: list[Tool]) -> dict[str, str]:
+        """The versions of those that start; the others are told."""
+        found = {}
+        for tool in tools:
+            try:
+                found[tool.name] = tool.version()
+            except (OSError, subprocess.SubprocessError) as error:
+                self.skip(tool, words_of(str(error)))
+        return found
 
 
 def faces_row(tool: Faces, version: str, name: str, size: int, job: str, layers: Layers, arguments: argparse.Namespace, table: Table) -> Exact | None:
@@ -152,7 +168,7 @@ def faces_row(tool: Faces, version: str, name: str, size: int, job: str, layers:
     times = ["", ""]
     if table.times and not runs[0].fault:
         times = ["%.3f" % min(getattr(run, what) for run in runs) for what in ("processor", "clock")]
-    told = [runs[0].fault or "yes", "", again, "", *times, "", str(max(run.threads for run in runs))]
+    told = [runs[0].fault or "yes", "", again, "", *times, "", str(max(run.threads for run in runs)), ""]
     print("| %s |" % " | ".join([tool.name, version, name, str(size), job, *told]), flush=True)
     return None if runs[0].fault else exact(runs[0].text, job)
 
@@ -162,15 +178,16 @@ def main(arguments: argparse.Namespace) -> int:
     tools = [tool for tool in peers() if not arguments.only or any(tool.name.startswith(word) for word in arguments.only)]
     table = Table(not arguments.without_times)
     for tool in [tool for tool in tools if tool.missing()]:
-        table.skip(tool)
+        table.skip(tool, tool.missing())
     with tempfile.TemporaryDirectory() as folder, contextlib.ExitStack() as ends:
         faces, overlay = Faces(arguments.program), Overlay(arguments.program)
         there = [tool for tool in tools if not tool.missing()]
         for tool in there:
             ends.callback(tool.end)
-        versions = {tool.name: tool.version() for tool in [overlay, *there]}
+        versions = table.versions([overlay, *there])
+        there = [tool for tool in there if tool.name in versions]
         if faces.missing():
-            table.skip(faces)
+            table.skip(faces, faces.missing())
         for size in arguments.sizes:
             for name in arguments.maps:
                 places = [os.path.join(folder, "%s-%d-%s" % (name, size, order)) for order in ("given", "other")]

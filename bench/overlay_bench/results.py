@@ -73,8 +73,19 @@ def latest(name: str, keys: Sequence[str]) -> list[dict[str, str]]:
     return list(found.values())
 
 
+def last_run(name: str, keys: Sequence[str]) -> list[dict[str, str]]:
+    """Of these the rows of the last run that was recorded: one date, commit, machine and command."""
+    rows = latest(name, keys)
+    return [row for row in rows if all(row[key] == rows[-1][key] for key in HEAD)]
+
+
+def without_folder(word: str) -> str:
+    """A word of a command line; of a file with its whole path the name alone."""
+    return os.path.basename(word) if os.path.isabs(word) else word
+
+
 def keep(name: str, words: Sequence[str], lines: Sequence[str]) -> None:
-    about = [datetime.date.today().isoformat(), commit(), str(os.cpu_count()), " ".join(words)]
+    about = [datetime.date.today().isoformat(), commit(), str(os.cpu_count()), " ".join(map(without_folder, words))]
     table = rows_of(lines)
     if table:
         append(name, table[0], [about + row for row in table[1:]])

@@ -13,13 +13,13 @@ from xml.etree import ElementTree
 
 import pytest
 from conftest import write
-from shapely.geometry import MultiPolygon, Polygon
+from shapely.geometry import LineString, MultiPolygon, Polygon
 from shapely.ops import unary_union
 
 TOP = Path(__file__).resolve().parents[2]
 sys.path.insert(0, str(TOP / "bench"))
 
-from overlay_bench import compared, documents, peer_tools, peers, plot, postgres, results, shapes, town  # noqa: E402
+from overlay_bench import compared, documents, noding, peer_tools, peers, plot, postgres, results, shapes, town  # noqa: E402
 
 HOLED = [[(0, 0), (9, 0), (9, 9), (0, 9)], [(1, 1), (1, 3), (3, 3), (3, 1)]]
 SMALL = [[(20, 0), (24, 0), (22, 3)]]
@@ -71,6 +71,36 @@ def test_one_form_whatever_the_order_is():
     assert peers.same(text[0], text[0].replace("24 0", "25 0")) == "other points"
 
 
+@pytest.mark.parametrize(
+    "added, points",
+    [
+        ([], "noded"),
+        ([[[(9, 2), (12, 2), (12, 4)]]], "crossings: 2"),  # two sides from a point of one of HOLED
+        ([[[(5, 5), (30, 5), (30, 6)]]], "crossings: 2"),  # two sides through one of HOLED
+        ([[[(9, 0), (9, 5), (15, 5)]]], "crossings: 2"),  # a side along a part of one, and its corner
+        ([[[(9, 0), (9, 9), (15, 5)]]], "noded"),  # the whole side, and so once
+        ([[[(40, 0), (42, 0), (40.5, 1)]]], "decimals"),
+    ],
+)
+def test_points_of_an_answer(added, points):
+    assert noding.told([HOLED, SMALL, *added]) == points
+
+
+@pytest.mark.parametrize("seed", range(8))
+def test_crossings_are_those_of_all_pairs(seed):
+    """The plain way beside the cells: all pairs, and Shapely's word on each."""
+    rng = random.Random(seed)
+    edges = {tuple(sorted((rng.randrange(12), rng.randrange(12)) for _ in range(2))) for _ in range(40)}
+    edges = sorted(edge for edge in edges if edge[0] != edge[1])
+    found = 0
+    for k, first in enumerate(edges):
+        for second in edges[k + 1 :]:
+            common = LineString(first).intersection(LineString(second))
+            ends = {end for end in first if end in second}
+            found += not common.is_empty and not (common.geom_type == "Point" and (common.x, common.y) in ends)
+    assert noding.crossings(edges) == found
+
+
 @pytest.mark.parametrize("job, some, odd", [("dissolve", 10 + 4 + 1, 10 + 4), ("common", 4 + 1, 4)])
 def test_areas_of_faces(job, some, odd):
     """One face of A alone, one of B alone, one of both, and one that two features of A share in
@@ -110,11 +140,12 @@ def test_a_run_with_one_peer(program):
     ours = [row for row in rows if row["tool"] == "overlay"]
     assert len(ours) == 4 and {row["area off"] for row in ours} == {"+0.000"}
     assert {row[what] for row in ours for what in ("again", "other order")} == {"same bytes"}
+    assert {row["points"] for row in ours} == {"noded"}
     assert [row["answers"] for row in rows if (row["tool"], row["map"]) == ("Shapely", "clean")] == ["yes", "yes"]
 
 
 def row(tool, **cells):
-    known = {"version": tool + " 1, of 2", "map": "clean", "segments": "100", "job": "common", "answers": "yes"}
+    known = {"date": "2026-11-27", "version": tool + " 1, of 2", "map": "clean", "segments": "100", "job": "common", "answers": "yes"}
     return {"tool": tool, **known, **{name.replace("_", " "): text for name, text in cells.items()}}
 
 
@@ -124,27 +155,48 @@ def record(folder, name, head, rows):
             file.write("\t".join(line) + "\n")
 
 
+HEAD = (*results.HEAD, *peers.HEAD)
 PEERS = [
     row("Peer", segments="10", area_off="+9.9", ratio="77"),
-    row("Peer", area_off="-0.25", again="same bytes", other_order="same polygons", ratio="4.49", threads="1"),
+    row("Peer", area_off="-0.25", again="same bytes", other_order="same polygons", ratio="4.49", threads="1", points="decimals"),
     row("Peer", map="raw", answers="status 1: TopologyException: side location conflict"),
+    row("Peer, grid 1", area_off="+0.001", again="same bytes", other_order="same bytes", threads="1", points="noded"),
     row("Peer, made valid", map="raw", area_off="+0.001", again="same bytes", other_order="same bytes", threads="1"),
-    row("overlay", area_off="+0.000", again="same bytes", other_order="same bytes", ratio="1.00", threads="4"),
-    row("overlay", map="raw", area_off="+0.000", again="same bytes", other_order="same bytes", threads="3"),
+    row("overlay", area_off="+0.000", again="same bytes", other_order="same bytes", ratio="1.00", threads="4", points="noded"),
+    row("overlay", map="raw", area_off="+0.000", again="same bytes", other_order="same bytes", threads="3", points="noded"),
     row("Loser", map="raw", area_off="-361594.1", again="same bytes", other_order="other points", threads="1"),
-    row("Gone", segments="", job="", map="", answers="not run: no Debian package"),
+    row("Loser, made valid", map="raw", area_off="+0.1", again="same bytes", other_order="no answer within 9 processor s", threads="1"),
+    row("Stops", map="raw", answers="status 1: a ring isn't simple"),
+    row("Stops", area_off="+0.000", again="same bytes", other_order="same bytes", ratio="2", threads="1", points="crossings: 3"),
+    row("Gone", segments="", job="", map="", answers="not run: no Debian package, for this"),
+    row("Away", segments="", job="", map="", answers="not run: no Debian package: but another"),
+    row("Gone, grid 1", segments="", job="", map="", answers="not run: no Debian package, for this"),
 ]
 
 
 def test_readmes_table_is_made_of_the_largest_maps(tmp_path, monkeypatch):
     monkeypatch.setattr(results, "FOLDER", str(tmp_path))
     assert len(compared.table()) == 2
-    record(tmp_path, "peers", peers.HEAD, [row("Peer", area_off="+5"), *PEERS])
+    record(tmp_path, "peers", HEAD, [row("Peer", area_off="+5"), *PEERS])
     assert compared.table()[2:] == [
-        "| **overlay 1** | answers | same bytes | 4 | 1 |",
-        "| Peer 1 | stops: TopologyException; made valid, answers | same polygons | 1 | 4.5 |",
-        "| Loser 1 | loses 36.2 % of the area | other points | 1 | – |",
+        "|**overlay 1** | exact, noded | answers | same bytes | 4 | 1 | any layers | GDAL's | decimals, lines|",
+        "|Peer 1 | noded, if asked | made valid, answers | same polygons | 1 | 4.5 | – | – | –|",
+        "|Loser 1 | – | loses 36% of the area; made valid, answers | other points | 1 | – | – | – | –|",
+        "|Stops 1 | crossings: 3 | stops | same bytes | 1 | 2.0 | – | – | –|",
+        "|Gone, Away | not run: no Debian package|",
     ]
+
+
+def test_readmes_table_is_of_one_run(tmp_path, monkeypatch):
+    monkeypatch.setattr(results, "FOLDER", str(tmp_path))
+    record(tmp_path, "peers", HEAD, [{**row("Former"), "date": "2026-11-26"}, *PEERS])
+    assert "Former" not in "".join(compared.table()) and "Loser" in "".join(compared.table())
+
+
+def test_what_is_kept_names_no_folder(tmp_path, monkeypatch):
+    monkeypatch.setattr(results, "FOLDER", str(tmp_path))
+    results.keep("some", ["some", "--program", "/a/b/overlay"], ["| kind |", "|---|", "| a |"])
+    assert (tmp_path / "some.tsv").read_text().splitlines()[1].split("\t")[3:] == ["some --program overlay", "a"]
 
 
 def test_the_last_row_counts_and_the_first_of_two_columns(tmp_path, monkeypatch):
@@ -163,7 +215,7 @@ def test_the_drawing_is_the_same_and_has_each_series(tmp_path, monkeypatch):
         for size in ("10,000", "100,000")
     ]
     record(tmp_path, "speed", ("kind", "segments", "command", "1 worker: processor s", "ratio", "ratio"), speed)
-    record(tmp_path, "peers", peers.HEAD, [{**row, "processor s": "0.5"} for row in PEERS])
+    record(tmp_path, "peers", HEAD, [{**row, "processor s": "0.5"} for row in PEERS])
     drawn = plot.picture()
     names = [text.text for text in ElementTree.fromstring(drawn).iter("{http://www.w3.org/2000/svg}text")]
     assert {"parcels", "combs", "Peer", "overlay"} <= set(names) and "Peer, made valid" not in names
