@@ -22,8 +22,8 @@ use crate::worth;
 use geom::{NoMemory, Seg};
 use grid::{Grid, KeptBins, MOST_TILES};
 use linking::{
-    LimitedSegments, Noded, RoundedBorders, TileNumbers, TilePiece, Tiled,
-    gather_borders_in_parts, gather_made_in_parts, settled,
+    LimitedSegments, Noded, RoundedBorders, TileNumbers, TilePiece, Tiled, gather_borders_in_parts,
+    gather_made_in_parts, settled,
 };
 use routing::part;
 use std::alloc::Allocator;

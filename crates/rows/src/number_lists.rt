@@ -7,9 +7,9 @@ ghost use Rattle.std.specs.Prelude.{◌≡◌, ◌≤◌, ◌<◌, ◌-◌, ◌+
 ghost use Rattle.rows.specs.Made.{row_of};
 ghost use Rattle.rows.specs.RowColumns.{HaveLists, layer_lists, set_lists};
 
+use crate::parts::Row;
 use faces_text::of_layer;
 use geom::NoMemory;
-use crate::parts::Row;
 use std::alloc::Allocator;
 
 /// Lists of the numbers of features, in the layout of GeoArrow's List.

@@ -7,9 +7,9 @@ ghost use Rattle.rows.specs.Made.{row_of};
 ghost use Rattle.rows.specs.RowColumns.{AreRowColumns, HaveShapes, shapes_in};
 
 use crate::number_lists::{NumberLists, lists_of};
+use crate::parts::Row;
 use columns::{OwnedColumns, columns_of};
 use geom::{NoMemory, Polygon};
-use crate::parts::Row;
 use std::alloc::Allocator;
 
 /// Rows as columns, in grid units.
