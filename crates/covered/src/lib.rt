@@ -5,6 +5,9 @@
 //!
 //! 1. Whether the operation holds of a cover set is told by the set's least and greatest features (`inside`).
 //! 2. An edge bounds the result where the operation holds on one of its sides alone (`edges`).
+//!
+//! The promise: exactly the edges that bound the points of which the operation holds (`laws`). The definitions are `specs/Covered` and
+//! `specs/Results`.
 #![tactic(auto)]
 
 mod edges;

@@ -1,5 +1,12 @@
-//! Exact geometry on the integer grid: points, segments, edges and faults, and the definitions that every crate is
-//! proved against.
+//! Exact geometry on the integer grid, without memory: points, segments, edges, rectangles, rings and faults, and the definitions that every
+//! crate is proved against.
+//!
+//! 1. Points and vectors have differences and determinants in 64 bits (`point`, `vector`, `segment`).
+//! 2. Rational points have the pixel to which they round (`rational`, `pixel`).
+//! 3. Edges and rings have their order and their sides (`edge`, `directed`, `ring`, `rect`).
+//!
+//! The promise: each call answers its definition exactly, for coordinates within the limit; `laws` says what holds of the definitions
+//! themselves. They stand in `specs`, one rule of `docs/RULES.md` each.
 #![tactic(auto)]
 
 mod directed;

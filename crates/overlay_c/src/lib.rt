@@ -1,5 +1,11 @@
-//! The overlay for callers in C: layer texts in memory, a text in a room of the caller's, on the calling thread; or columns of
-//! coordinates and offsets, and columns in three rooms.
+//! The overlay for callers in C (`include/overlay.h`), on the calling thread: layers in memory in, a text or columns in the caller's rooms out.
+//!
+//! 1. Numbers of the call become a plan, and pointers with lengths become layers (`made`, `columns_layer`).
+//! 2. The engine answers (`calls`, `faces`, `columns_call`, `pairs_call`).
+//! 3. What fits is put into the room (`room`, `columns_rooms`); a status, or a refusal's number and place, tells the rest (`answer`, `words`).
+//!
+//! The promise: a status of 0 exactly where the engine answers and the room is large enough, and then the room begins with its text; nothing
+//! behind that changes. The definitions are `specs/Boundary`, `Faces`, `Columns` and `Pairs`.
 #![tactic(auto)]
 
 mod answer;

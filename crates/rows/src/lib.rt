@@ -10,6 +10,9 @@
 //! 4. Rows stand in the order of their sets (`parts`).
 //! 5. As columns they are twice their areas, the numbers of the features of each layer (`number_lists`), and their polygons behind one
 //!    another (`row_columns`), in which nothing of a row is lost.
+//!
+//! The promise: exactly the rows of the features, in order, each with its polygons and twice its area. The definition is `AreRows` in
+//! `specs/Rows` of `cover_law`; that of their columns is `specs/RowColumns`.
 #![tactic(auto)]
 
 mod area;
