@@ -4,8 +4,8 @@ use crate::arrays::random::{Both, Chance, layer_of};
 use crate::arrays::written::push_polygons;
 use columns::{Columns, ColumnsFault, Points};
 use engine::{
-    FacesColumns, FacesColumnsRefused, FacesLimits, FacesOutput, FacesRefusal, faces_alone,
-    faces_columns_alone, faces_report_text,
+    FacesColumns, FacesColumnsRefused, FacesLimits, FacesOutput, FacesRefusal, MOST_LAYERS,
+    faces_alone, faces_columns_alone, faces_report_text,
 };
 use geom::{Fault, NoMemory};
 use rows::{NumberLists, RowColumns};
@@ -74,6 +74,9 @@ fn is_same(alloc: Global, layers: &[Both]) -> Result<bool, NoMemory> {
         texts.push(&layer.text)?;
         columns.push(layer.columns())?;
     }
+    if texts.len() > MOST_LAYERS || columns.len() > MOST_LAYERS {
+        return Ok(false);
+    }
     let limits = FacesLimits::default();
     let by_texts = faces_alone(alloc, &texts, 16, limits);
     let by_columns = faces_columns_alone(alloc, &columns, 16, limits);
@@ -105,13 +108,33 @@ fn columns_and_texts_have_one_list_of_rows(rt: HostRuntime) -> Result<(), Fail> 
     Ok(())
 }
 
-/// A square of two units as a layer with one feature, but for these offsets of rings.
-fn square(rings: &[u32]) -> Columns<'_> {
+/// A layer with one feature of one polygon, whose rings have these points.
+fn layer_with<'a>(coordinates: &'a [i32], rings: &'a [u32]) -> Columns<'a> {
     Columns {
-        points: Points::Interleaved(&[0, 0, 2, 0, 2, 2, 0, 2, 0, 0]),
+        points: Points::Interleaved(coordinates),
         rings,
         polygons: &[0, 1],
         features: &[0, 1],
+    }
+}
+
+/// The points of a square of two units.
+const SQUARE: [i32; 10] = [0, 0, 2, 0, 2, 2, 0, 2, 0, 0];
+
+/// Those of the same square, one unit to the right.
+const RIGHT: [i32; 10] = [1, 0, 3, 0, 3, 2, 1, 2, 1, 0];
+
+/// The rows of the faces of layers, where they aren't refused.
+fn rows_of(alloc: Global, layers: &[Columns<'_>]) -> Option<RowColumns<Global>> {
+    if layers.len() > MOST_LAYERS {
+        return None;
+    }
+    match faces_columns_alone(alloc, layers, 16, FacesLimits::default()) {
+        Ok(made) => {
+            let FacesColumns { columns, .. } = made;
+            Some(columns)
+        }
+        Err(_) => None,
     }
 }
 
@@ -122,41 +145,45 @@ fn refused(
     side: u32,
     limits: FacesLimits,
 ) -> Option<FacesColumnsRefused> {
-    faces_columns_alone(alloc, layers, side, limits).err()
+    if layers.len() > MOST_LAYERS {
+        return None;
+    }
+    match faces_columns_alone(alloc, layers, side, limits) {
+        Ok(_) => None,
+        Err(refused) => Some(refused),
+    }
 }
 
 #[test]
 fn two_squares_have_three_rows(rt: HostRuntime) -> Result<(), Fail> {
-    let first = square(&[0, 5]);
-    let second = Columns {
-        points: Points::Interleaved(&[1, 0, 3, 0, 3, 2, 1, 2, 1, 0]),
-        ..first
+    let rings = [0, 5];
+    let layers = [layer_with(&SQUARE, &rings), layer_with(&RIGHT, &rings)];
+    let Some(rows) = rows_of(rt.alloc(), &layers) else {
+        assert!(rt; false, "refused");
+        return Ok(());
     };
-    match faces_columns_alone(rt.alloc(), &[first, second], 16, FacesLimits::default()) {
-        Ok(FacesColumns { columns, .. }) => {
-            assert!(rt; columns.twice_areas.as_slice() == [4, 4, 4].as_slice());
-            assert!(rt; columns.features.numbers.as_slice() == [0, 0, 0, 0].as_slice());
-            assert!(rt; columns.features.offsets.as_slice() == [0, 1, 2, 2, 2, 3, 4].as_slice());
-            assert!(rt;
-                columns.columns.coordinates.as_slice()
-                    == [
-                        0, 0, 1, 0, 1, 2, 0, 2, 0, 0, 1, 0, 2, 0, 2, 2, 1, 2, 1, 0, 2, 0, 3, 0, 3,
-                        2, 2, 2, 2, 0,
-                    ]
-                    .as_slice()
-            );
-            assert!(rt; columns.columns.rings.as_slice() == [0, 5, 10, 15].as_slice());
-            assert!(rt; columns.columns.polygons.as_slice() == [0, 1, 2, 3].as_slice());
-            assert!(rt; columns.rows.as_slice() == [0, 1, 2, 3].as_slice());
-        }
-        Err(_) => assert!(rt; false, "refused"),
-    }
+    assert!(rt; rows.twice_areas.as_slice() == [4, 4, 4].as_slice());
+    assert!(rt; rows.features.numbers.as_slice() == [0, 0, 0, 0].as_slice());
+    assert!(rt; rows.features.offsets.as_slice() == [0, 1, 2, 2, 2, 3, 4].as_slice());
+    assert!(rt;
+        rows.columns.coordinates.as_slice()
+            == [
+                0, 0, 1, 0, 1, 2, 0, 2, 0, 0, 1, 0, 2, 0, 2, 2, 1, 2, 1, 0, 2, 0, 3, 0, 3, 2, 2, 2,
+                2, 0,
+            ]
+            .as_slice()
+    );
+    assert!(rt; rows.columns.rings.as_slice() == [0, 5, 10, 15].as_slice());
+    assert!(rt; rows.columns.polygons.as_slice() == [0, 1, 2, 3].as_slice());
+    assert!(rt; rows.rows.as_slice() == [0, 1, 2, 3].as_slice());
     Ok(())
 }
 
 #[test]
 fn refuses_the_first_layer_at_fault(rt: HostRuntime) -> Result<(), Fail> {
-    let (good, open, short) = (square(&[0, 5]), square(&[0, 4]), square(&[0, 3]));
+    let good = layer_with(&SQUARE, &[0, 5]);
+    let open = layer_with(&SQUARE, &[0, 4]);
+    let short = layer_with(&SQUARE, &[0, 3]);
     let limits = FacesLimits::default();
     let side = FacesColumnsRefused::Run(FacesRefusal::Usual(Fault::BadTile));
     assert_eq!(rt;
@@ -174,7 +201,7 @@ fn refuses_the_first_layer_at_fault(rt: HostRuntime) -> Result<(), Fail> {
 
 #[test]
 fn refuses_more_than_the_limits(rt: HostRuntime) -> Result<(), Fail> {
-    let good = square(&[0, 5]);
+    let good = layer_with(&SQUARE, &[0, 5]);
     let few = FacesLimits {
         segments: 7,
         ids: 2,
