@@ -6,7 +6,7 @@ use Rattle.chain_gather.proofs.Near.{near_by_bin}
 use Rattle.chain_gather_tests.proofs.gathering.pieces_of.Goals as goal
 
 pub part-requires-clause-candidates : goal.part-requires-clause-candidates
-part-requires-clause-candidates g c = (near_by_bin c.args.grid.now c.args.segments.now c.in_ok-bins.bins c.loop-tile.tile c.bin.new.out.items c.deref.result.now c.in_ok-bins.ensures c.in_ok-bin.ensures.ok c.deref.ensures.value).0
+part-requires-clause-candidates g c = (near_by_bin c.args.grid.now c.args.limited.list.now c.in_ok-bins.bins c.loop-tile.tile c.bin.new.out.items c.deref.result.now c.in_ok-bins.ensures c.in_ok-bin.ensures.ok c.deref.ensures.value).0
 
 pub loop-tile-preserved : goal.loop-tile-preserved
 loop-tile-preserved g c =
