@@ -1,9 +1,9 @@
-"""README's table of other tools: of the last run that bench/results/peers.tsv has, its largest maps, and beside these what manuals tell."""
+"""README's table of other tools: the largest maps of the last run that bench/results/peers.tsv has, and what the last run of capabilities.tsv tells of the same versions."""
 from __future__ import annotations
 
 import re
 
-from . import noding, peer_tools, results
+from . import capabilities, noding, peer_tools, results
 
 HEAD = ("rounding", "raw map", "reordered", "threads", "time", "faces with sources", "files", "lacks")
 # A tool's rows on a grid, and with its layers made valid, tell more of the same tool.
@@ -12,16 +12,6 @@ SHAPES = ("same bytes", "same polygons", "other points")
 NOT_RUN = "not run: "
 # What overlay's rounding is beside what a run shows: README, What is proved.
 PROVED = "exact, "
-# What no run shows: which features cover what, told by one call; which files are read; what users of the others have. Each by the
-# tool's own words, in the version of the table.
-MANUALS = {
-    "overlay": ("any layers", "GDAL's", "decimals, lines"),  # docs/PLANNERS.md, README's Limits
-    "Shapely": ("no", "WKT, WKB", "a program"),  # shapely.ops: `polygonize` answers polygons alone
-    "PostGIS": ("by `topology`", "tables", "a library"),  # the extension postgis_topology: CreateTopoGeom
-    "QGIS": ("two layers", "GDAL's", "a grid"),  # qgis_process help native:union, native:intersection: no parameter has a grid
-    "CGAL": ("by `Arr_overlay_2`", "WKT", "a program"),  # CGAL/Arr_overlay_2.h, CGAL/IO/WKT.h
-    "Clipper 6": ("no", "none", "features"),  # polyclipping/clipper.hpp: paths go in, paths come out
-}
 
 Row = dict[str, str]
 
@@ -74,6 +64,25 @@ def rounding(own: Row, grid: Row) -> str:
     return points or "–"
 
 
+def has(tool: str, version: str) -> dict[str, str]:
+    """What a tool of this version has of what was asked, each by its words."""
+    rows = results.last_run("capabilities", ("tool", "asked"))
+    return {row["asked"]: row["has"] for row in rows if (row["tool"], row["version"]) == (tool, version)}
+
+
+def besides(found: dict[str, str]) -> list[str]:
+    """What a tool answers of faces, which files it reads, and what it lacks."""
+    if not found:
+        return ["–"] * 3
+    two, three = (found.get(asked, capabilities.NO) for asked in capabilities.FACES)
+    faces = three if three != capabilities.NO else two if two == capabilities.NO else "two layers"
+    files = [name for name in capabilities.FILES if found.get(name) == capabilities.YES]
+    lacked = [name for name in capabilities.OTHERS if found.get(name) == capabilities.NO]
+    # a name of a tool's own, which stands without its backquotes in a recorded cell
+    faces = re.sub(r"^by (\S+)$", r"by `\1`", faces)
+    return [faces, "all" if len(files) == len(capabilities.FILES) else ", ".join(files) or "none", ", ".join(lacked) or "none"]
+
+
 def cells(tool: str, rows: dict[str, list[Row]]) -> list[str]:
     own, grid, valid = rows[tool], rows.get(tool + GRID, []), rows.get(tool + VALID, [])
     done = [row for row in own + valid if row["answers"] == "yes"]
@@ -85,7 +94,7 @@ def cells(tool: str, rows: dict[str, list[Row]]) -> list[str]:
     name = own[-1]["version"].partition(", ")[0]
     rounded = rounding(common_of(own), common_of(grid))
     measured = [PROVED + rounded if tool == "overlay" else rounded, on_raw_map(own, valid), order, threads, time]
-    return ["**%s**" % name if tool == "overlay" else name, *measured, *MANUALS.get(tool, ("–",) * 3)]
+    return ["**%s**" % name if tool == "overlay" else name, *measured, *besides(has(tool, own[-1]["version"]))]
 
 
 def not_run(found: dict[str, list[Row]]) -> list[list[str]]:

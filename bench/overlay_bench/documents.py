@@ -3,7 +3,7 @@
 Whatever stands between backquotes in a text of Markdown is looked at. A path stands below the root or below a crate, with or without its
 ending; `File.lemma` is a lemma of a file of that name; in CONTRACTS, MAP and PROOFS each longer word has to stand somewhere in crates/.
 A line of Markdown has at most 100 columns, but for tables, code, and what can't be broken: a link, a path, what is quoted.
-README's table of other tools is made of bench/results/peers.tsv, and docs/speed.svg of that and speed.tsv: `--write` makes both anew.
+README's table of other tools is made of peers.tsv and capabilities.tsv, and docs/speed.svg of peers.tsv and speed.tsv: `--write` makes both anew.
 The exit status is 1 where something is missing.
 """
 from __future__ import annotations

@@ -86,15 +86,15 @@ def main(arguments: argparse.Namespace) -> int:
                 file.write(squares(arguments.megabytes))
         plain, overlay = build(arguments.kernel, folder)
         theirs, ours = fastest([plain, *files], arguments.runs), fastest([overlay, *files], arguments.runs)
-    print("| loop | overlay, ms | plain Rust, ms | ratio |\n|---|---|---|---|")
+    print("| kernel | loop | overlay, ms | plain Rust, ms | ratio |\n|---|---|---|---|---|")
     wrong = False
     for name, (micros, total) in ours.items():
         other = theirs.get(COUNTERPARTS.get(name, name))
         if other is None:
-            print("| `%s` | %.1f | | |" % (name, micros / 1000))
+            print("| %s | `%s` | %.1f | | |" % (arguments.kernel, name, micros / 1000))
             continue
         wrong |= name in theirs and other[1] != total
-        print("| `%s` | %.1f | %.1f | %.2f |" % (name, micros / 1000, other[0] / 1000, micros / other[0]))
+        print("| %s | `%s` | %.1f | %.1f | %.2f |" % (arguments.kernel, name, micros / 1000, other[0] / 1000, micros / other[0]))
     if wrong:
         print("the answers differ")
     return int(wrong)

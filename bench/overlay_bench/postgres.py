@@ -105,6 +105,10 @@ class Server:
             self.process.wait()
         shutil.rmtree(self.place, ignore_errors=True)  # it may be gone: this is also called where the start failed
 
+    def session(self) -> dict[str, str]:
+        """The environment in which `psql` finds the server."""
+        return {"PGHOST": "127.0.0.1", "PGPORT": str(self.port), "PGUSER": "peers", "PGDATABASE": "postgres", "PGPASSWORD": self.environment["PGPASSWORD"]}
+
     def psql(self, *statements: str, source: IO[str] | int = subprocess.DEVNULL, seconds: float = 600) -> subprocess.CompletedProcess[str]:
         """Runs statements in one session; the first one that fails ends it."""
         words = ["psql", "-h", "127.0.0.1", "-p", str(self.port), "-U", "peers", "-d", "postgres", "-qAtX", "-v", "ON_ERROR_STOP=1"]
