@@ -21,6 +21,7 @@
 
 #include <stddef.h>
 #include <stdint.h>
+#include <stdlib.h>
 
 /* The release that this header came with. Programs that link with another one compare overlay_version(). */
 #define OVERLAY_VERSION "1.0.0"
@@ -211,4 +212,65 @@ uint32_t overlay_version(void);
 #ifdef __cplusplus
 }
 #endif
+
+/* The columns of a result, in memory that overlay_arrays took for them and overlay_free lets go. */
+struct overlay_owned_columns {
+    int32_t *coordinates; /* x y x y .. of closed rings, shells before their holes, in grid units */
+    size_t coordinates_length;
+    uint32_t *rings; /* where each ring begins among the points, and where the last one ends */
+    size_t rings_length;
+    uint32_t *polygons; /* where each polygon begins among the rings, and where the last one ends */
+    size_t polygons_length;
+};
+
+/* Lets columns go, and leaves none: to do so once more is no fault. */
+static inline void overlay_free(struct overlay_owned_columns *owned) {
+    free(owned->coordinates);
+    free(owned->rings);
+    free(owned->polygons);
+    owned->coordinates = NULL;
+    owned->rings = owned->polygons = NULL;
+    owned->coordinates_length = owned->rings_length = owned->polygons_length = 0;
+}
+
+/* Takes rooms of these lengths; 0 where there is no memory for one of them. */
+static inline int overlay_take(struct overlay_owned_columns *owned, size_t coordinates, size_t rings, size_t polygons) {
+    owned->coordinates = (int32_t *)malloc((coordinates ? coordinates : 1) * sizeof(int32_t));
+    owned->rings = (uint32_t *)malloc((rings ? rings : 1) * sizeof(uint32_t));
+    owned->polygons = (uint32_t *)malloc((polygons ? polygons : 1) * sizeof(uint32_t));
+    owned->coordinates_length = coordinates;
+    owned->rings_length = rings;
+    owned->polygons_length = polygons;
+    return owned->coordinates && owned->rings && owned->polygons;
+}
+
+/* overlay_columns_fill with a side that fits and with rooms of its own: the result's columns, which the caller owns from then on and lets
+ * go by overlay_free. Rooms as large as both layers are tried first, and where they are too small those that the result asks for. Where the
+ * status is not OVERLAY_ANSWERED there are no columns: their pointers and lengths are 0.
+ *
+ *   call, segments, a, b   as of overlay_columns_fill
+ *   owned                  where the columns are told; what it held is not let go
+ *   answer                 where the answer goes; never OVERLAY_SMALL */
+static inline void overlay_arrays(uint32_t call, uint32_t segments, const struct overlay_columns *a, const struct overlay_columns *b,
+                                  struct overlay_owned_columns *owned, struct overlay_columns_answer *answer) {
+    static const struct overlay_columns_answer NO_MEMORY = {0, 0, 0, 0, OVERLAY_NO_MEMORY, OVERLAY_OUT_OF_MEMORY, OVERLAY_RUN};
+    uint32_t side = overlay_columns_side(a, b);
+    int has_room = overlay_take(owned, a->coordinates_length + b->coordinates_length, a->rings_length + b->rings_length,
+                                a->polygons_length + b->polygons_length);
+    *answer = NO_MEMORY;
+    while (has_room) {
+        overlay_columns_fill(call, side, segments, a, b, owned->coordinates, owned->coordinates_length, owned->rings,
+                             owned->rings_length, owned->polygons, owned->polygons_length, answer);
+        if (answer->status != OVERLAY_SMALL)
+            break;
+        overlay_free(owned);
+        has_room = overlay_take(owned, (size_t)answer->coordinates, (size_t)answer->rings, (size_t)answer->polygons);
+        *answer = has_room ? *answer : NO_MEMORY;
+    }
+    if (answer->status != OVERLAY_ANSWERED)
+        overlay_free(owned);
+    owned->coordinates_length = (size_t)answer->coordinates;
+    owned->rings_length = (size_t)answer->rings;
+    owned->polygons_length = (size_t)answer->polygons;
+}
 #endif

@@ -7,7 +7,8 @@ statuses and bytes have to be those of the exact reference (bench/reference.py);
 (bench/plain). A call that takes too long is told as "over" and is no difference. A pair that differs is kept in bench/out with its
 number, its seed and its commands, cut down to a small one that still differs; the run ends after 20 of them, and the exit status is 1.
 
-With --maps the pairs are maps of so many segments a layer, by 1 to 8 workers, and the plain program alone judges them.
+With --maps the pairs are maps of so many segments a layer, by 1 to 8 workers, and the plain program alone judges them. With --in-turn
+each pair is run by one command, in turn, in place of all five.
 """
 from __future__ import annotations
 
@@ -44,6 +45,7 @@ def add_arguments(parser: argparse.ArgumentParser) -> None:
     answering.add_share(parser)
     parser.add_argument("--judge", choices=("both", "plain"), default="both", help="plain: small pairs too are compared with the plain program")
     parser.add_argument("--maps", nargs=2, type=int, metavar=("LEAST", "MOST"), help="maps of so many segments a layer, in place of small and large pairs")
+    parser.add_argument("--in-turn", action="store_true", help="each pair by one command, in turn")
     parser.add_argument("--kind", choices=[kind.__name__ for kind in layers.KINDS], help="pairs of this kind alone")
     parser.add_argument("--seconds", type=float, default=60, help="after which a call is over")
 
@@ -101,8 +103,9 @@ class Outcome(NamedTuple):
 
 def case(number: int, arguments: argparse.Namespace, tested: answering.Tested) -> Case:
     rng = random.Random(arguments.seed * 1_000_003 + number)
+    commands = COMMANDS[number % len(COMMANDS):][:1] if arguments.in_turn else COMMANDS
     if arguments.maps:
-        return case_of_maps(number, rng, arguments.maps, tested.drawn(rng, arguments.programs))
+        return case_of_maps(number, rng, arguments.maps, commands, tested.drawn(rng, arguments.programs))
     kind = layers.KINDS[number % len(layers.KINDS)]
     if arguments.kind:
         kind = getattr(layers, arguments.kind)
@@ -111,15 +114,15 @@ def case(number: int, arguments: argparse.Namespace, tested: answering.Tested) -
     low, high = LARGE if large else SMALL
     count = round(low * (high / low) ** rng.random())
     polygons = layers.pair(rng, kind, count)
-    together, plans = rng.random() < 0.3, [plan(rng, command, bounds_of(polygons)) for command in COMMANDS]
+    together, plans = rng.random() < 0.3, [plan(rng, command, bounds_of(polygons)) for command in commands]
     return Case(number, kind.__name__, large, polygons, together, [asked_of(asked, wanted) for wanted in plans], asked)
 
 
-def case_of_maps(number: int, rng: random.Random, segments: Sequence[int], asked: Asked) -> Case:
+def case_of_maps(number: int, rng: random.Random, segments: Sequence[int], commands: Sequence[str], asked: Asked) -> Case:
     """A pair of maps: twice as many segments are a fourth as likely, so that half of the layers have less than twice the least."""
     least, most = segments
     kind, polygons = maps.drawn(rng, number, round(least / (1 - rng.random() * (1 - least / most))))
-    together, plans = rng.random() < 0.3, [plan_of_map(rng, command, bounds_of(polygons)) for command in COMMANDS]
+    together, plans = rng.random() < 0.3, [plan_of_map(rng, command, bounds_of(polygons)) for command in commands]
     return Case(number, kind, True, polygons, together, [asked_of(asked, wanted) for wanted in plans], asked)
 
 
@@ -179,6 +182,7 @@ class Bench:
                 file.write("%s: %s a.wkt b.wkt %s\n" % (made.asked.name, plan_.command, " ".join(plan_.words())))
             same = "".join(" --%s %s" % (name, getattr(self.arguments, name)) for name in ("large", "programs", "judge", "kind") if getattr(self.arguments, name) is not None)
             same += " --maps %d %d" % tuple(self.arguments.maps) if self.arguments.maps else ""
+            same += " --in-turn" * self.arguments.in_turn
             file.write("bench/run compare --seed %d --first %d --pairs 1%s\n" % (self.arguments.seed, made.number, same))
         return folder
 

@@ -8,4 +8,6 @@ mod met;
 #[cfg(test)]
 mod pieces;
 #[cfg(test)]
+mod rectangles;
+#[cfg(test)]
 mod shapes;

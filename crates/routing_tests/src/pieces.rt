@@ -34,7 +34,7 @@ const ROW_TILES: [(&[Point], usize); 4] = [
     (&[(16, 16)], 3),
 ];
 
-fn push<A: Allocator>(segments: &mut Vec<Seg, A>, ends: Ends) -> Result<(), NoMemory>
+pub(crate) fn push<A: Allocator>(segments: &mut Vec<Seg, A>, ends: Ends) -> Result<(), NoMemory>
     requires { All (λ s. AreInLimit s.a s.b) segments.now.items }
     ensures { All (λ s. AreInLimit s.a s.b) segments.new.items }
 {
@@ -124,8 +124,8 @@ fn count_met(segments: &[Seg], pixels: &[Pt]) -> usize
     count
 }
 
-// The numbers of all segments.
-fn all_numbers<A: Allocator>(
+/// The numbers of all segments.
+pub(crate) fn all_numbers<A: Allocator>(
     alloc: A,
     grid: &Grid,
     tile: u32,
