@@ -142,26 +142,22 @@ def items_of(output: str) -> int:
 
 
 class Judged:
-    """The plain program's answers on two layers."""
+    """The plain program's answers on two layers, and the number of records, once a command has told it; none where each takes too long."""
 
     def __init__(self, files: Sequence[str], folder: str, seconds: int) -> None:
         self.files, self.folder, self.seconds = files, folder, seconds
         self.runs: dict[str, Taken] = {}
-        self.records = self.report()
+        self.records = 0
 
     def output(self, command: str) -> str:
         return os.path.join(self.folder, "plain " + command)
 
-    def report(self) -> int:
-        """The number of records; none where it takes too long."""
-        told = os.path.join(self.folder, "report")
-        self.runs["edges"] = within([programs.plain(), "edges", *self.files, "--workers=1", "--report"], self.output("edges"), self.seconds, told)
-        with open(told) as file:
-            return sum(int(line.split()[1]) for line in file if line.startswith("records"))
-
     def run(self, command: str) -> Taken:
         if command not in self.runs:
-            self.runs[command] = within([programs.plain(), command, *self.files, "--workers=1"], self.output(command), self.seconds)
+            told = os.path.join(self.folder, "report")
+            self.runs[command] = within([programs.plain(), command, *self.files, "--workers=1", "--report"], self.output(command), self.seconds, told)
+            with open(told) as file:
+                self.records = sum(int(line.split()[1]) for line in file if line.startswith("records")) or self.records
         return self.runs[command]
 
 
