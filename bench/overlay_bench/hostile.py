@@ -50,6 +50,7 @@ def add_arguments(parser: argparse.ArgumentParser) -> None:
     parser.add_argument("--short", action="store_true", help="a share: the smallest finds, and each kind at two sizes by two commands, the default side")
     parser.add_argument("--finds", action="store_true", help="the smallest finds alone")
     parser.add_argument("--seconds", type=int, help="processor seconds after which a run is over (default 60, 5 of a short one or of the finds)")
+    parser.add_argument("--minutes", type=float, default=0, help="ends after so many minutes, however many kinds are left")
     parser.add_argument("--jobs", type=int, default=1, help="processes side by side")
     parser.add_argument("--worst", type=int, default=12, help="how many kinds are shown")
 
@@ -295,7 +296,7 @@ def main(arguments: argparse.Namespace) -> int:
     try:
         yardstick = Yardstick(arguments.program, 30_000 if arguments.short or arguments.finds else 100_000, commands, folder)
         sweep = Sweep(arguments, yardstick, seconds)
-        for family, result in side_by_side.results(sweep.family, wanted, arguments.jobs):
+        for family, result in side_by_side.results(sweep.family, wanted, arguments.jobs, arguments.minutes):
             if isinstance(result, side_by_side.Ended):
                 runs = [Run(family.layers(family.sizes[0]), "all", None, 0, None, 1, fault="the comparing process ended: %s" % result)]
             else:
