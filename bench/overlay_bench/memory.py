@@ -189,30 +189,30 @@ def refuse_runs(refusing: Refusing, folder: str, arguments: argparse.Namespace) 
 
 @dataclass(frozen=True)
 class Line:
-    """A command line by four workers, with what its layers are."""
+    """A command line by four workers, and what its layers are."""
 
-    layers: str
+    what: str
     words: list[str]
     files: list[str]
 
 
-def line(folder: str, layers_: str, command: str, texts: Sequence[str]) -> Line:
+def made_line(folder: str, what: str, command: str, texts: Sequence[str]) -> Line:
     """The line of these texts, which it writes."""
     files = [os.path.join(folder, "%d.wkt" % k) for k in range(len(texts))]
     for path, text in zip(files, texts):
         with open(path, "w") as layer:
             layer.write(text)
-    return Line(layers_, [command, *files, "--workers=4"], files)
+    return Line(what, [command, *files, "--workers=4"], files)
 
 
-def lines(folder: str, arguments: argparse.Namespace) -> Iterator[Line]:
+def made_lines(folder: str, arguments: argparse.Namespace) -> Iterator[Line]:
     """The faces of many layers, or the unions of layers each by itself; each line is over before the next one is written."""
     segments = arguments.segments or 5_000
     if arguments.layers:
-        yield line(folder, "%d layers of %d segments" % (arguments.layers, segments), "faces", rings(arguments.layers, segments))
+        yield made_line(folder, "%d layers of %d segments" % (arguments.layers, segments), "faces", rings(arguments.layers, segments))
     for kind in ALONE if arguments.alone else ():
         first, second = hostile_kinds.made(kind, segments, 1 << 20)
-        yield line(folder, "%s, %d segments" % (kind, segments), "union", [layers.text_of([*first, *second]), SQUARE])
+        yield made_line(folder, "%s, %d segments" % (kind, segments), "union", [layers.text_of([*first, *second]), SQUARE])
 
 
 def refuse_parts(refusing: Refusing, wanted: Line, arguments: argparse.Namespace) -> int:
@@ -222,7 +222,7 @@ def refuse_parts(refusing: Refusing, wanted: Line, arguments: argparse.Namespace
     while done < arguments.parts and not (arguments.minutes and time.monotonic() - start > 60 * arguments.minutes):
         requests = turns.refuse([refusing.program, *wanted.words], right, wanted.files, done, arguments.parts, counts)
         done += 1
-    counts.about = "parts %d to %d of %d of %d requests of %s, workers by turns" % (arguments.first, done - 1, arguments.parts, requests, wanted.layers)
+    counts.about = "parts %d to %d of %d of %d requests of %s, workers by turns" % (arguments.first, done - 1, arguments.parts, requests, wanted.what)
     return counts.end()
 
 
@@ -230,7 +230,7 @@ def refuse_line(refusing: Refusing, wanted: Line, arguments: argparse.Namespace)
     """Requests of a line; 1 where a run went wrong."""
     right, requests = refusing.counted(wanted.words)
     most = min(arguments.requests or requests, requests)
-    counts = endurance.Counts("memory", "%d requests of %s" % (requests, wanted.layers))
+    counts = endurance.Counts("memory", "%d requests of %s" % (requests, wanted.what))
     for number in (1 + k * requests // most for k in range(most)):
         got = refusing.without(wanted.words, number)
         counts.judge(got, got == right, got == OUT_OF_MEMORY, "request %d of %s" % (number, " ".join(wanted.words)), wanted.files)
@@ -242,10 +242,10 @@ def main(arguments: argparse.Namespace) -> int:
     with tempfile.TemporaryDirectory() as folder:
         if arguments.layers or arguments.alone:
             refuse = refuse_parts if arguments.parts else refuse_line
-            return max([refuse(refusing, wanted, arguments) for wanted in lines(folder, arguments)])
-        tried, requests = refuse_rows(refusing, folder) if arguments.rows else refuse_runs(refusing, folder, arguments)
+            return max([refuse(refusing, wanted, arguments) for wanted in made_lines(folder, arguments)])
+        lines, requests = refuse_rows(refusing, folder) if arguments.rows else refuse_runs(refusing, folder, arguments)
     for words, what, got in refusing.wrong:
         print("%s, %s refused: %s" % (" ".join(words), what, got))
     print("%d command lines, %d requests for memory refused, %d runs in %.0f s: %d gave something else" % (
-        tried, requests, refusing.runs, time.monotonic() - start, len(refusing.wrong)))
+        lines, requests, refusing.runs, time.monotonic() - start, len(refusing.wrong)))
     return 1 if refusing.wrong else 0
