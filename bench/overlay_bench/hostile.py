@@ -8,6 +8,9 @@ Less than a tenth of a second, or 64 megabytes, is no fault, and what takes more
 processor seconds than it may (or a hundred times as long on the clock) is ended, told with its layers' name, and its kind is not tried
 at greater sizes. The exit status is 1 where anything of this is not as it should be. With --only, --size and --coordinates one kind,
 or one pair of layers, is tried: its layers are kept in bench/out.
+
+With --in-turn a kind at a reach of the coordinates is run by one command and one side alone, a fifteenth of the runs. Kinds and reaches
+have them in turn: each kind meets all commands and all sides over the six reaches, and so does each reach over the kinds.
 """
 from __future__ import annotations
 
@@ -18,7 +21,7 @@ import shutil
 import statistics
 import tempfile
 from collections.abc import Iterator, Mapping, Sequence
-from dataclasses import dataclass
+from dataclasses import dataclass, replace
 
 from . import hostile_kinds, maps, programs, side_by_side
 from .hostile_kinds import KINDS
@@ -41,10 +44,13 @@ def add_arguments(parser: argparse.ArgumentParser) -> None:
     parser.add_argument("--only", nargs="+", default=[], choices=KINDS, metavar="KIND", help="of: " + ", ".join(KINDS))
     parser.add_argument("--size", nargs="+", type=int, default=[], metavar="SEGMENTS")
     parser.add_argument("--coordinates", nargs="+", type=int, default=[], metavar="BITS", help="they reach as far as 2 to the power of it")
-    parser.add_argument("--commands", nargs="+", default=COMMANDS, choices=COMMANDS, metavar="COMMAND")
+    of_commands = parser.add_mutually_exclusive_group()
+    of_commands.add_argument("--commands", nargs="+", default=COMMANDS, choices=COMMANDS, metavar="COMMAND")
+    of_commands.add_argument("--in-turn", action="store_true", help="of the commands and the sides one for each kind at each reach of the coordinates, in turn")
     parser.add_argument("--short", action="store_true", help="a share: the smallest finds, and each kind at two sizes by two commands, the default side")
     parser.add_argument("--finds", action="store_true", help="the smallest finds alone")
     parser.add_argument("--seconds", type=int, help="processor seconds after which a run is over (default 60, 5 of a short one or of the finds)")
+    parser.add_argument("--minutes", type=float, default=0, help="ends after so many minutes, however many kinds are left")
     parser.add_argument("--jobs", type=int, default=1, help="processes side by side")
     parser.add_argument("--worst", type=int, default=12, help="how many kinds are shown")
 
@@ -72,7 +78,16 @@ def families(arguments: argparse.Namespace) -> Iterator[Family]:
     sizes = tuple(sorted(arguments.size)) or SIZES
     for kind in arguments.only or KINDS:
         for bits in arguments.coordinates or COORDINATES:
-            yield Family(kind, bits, sizes, tuple(arguments.commands), sides_of(bits))
+            family = Family(kind, bits, sizes, tuple(arguments.commands), sides_of(bits))
+            yield in_turn(family) if arguments.in_turn else family
+
+
+def in_turn(family: Family) -> Family:
+    """The family by one command and one side."""
+    # A fifth of each of COORDINATES is one of 0 to 5; 7 and the number of combinations, 15, have no divisor in common.
+    turn = 7 * list(KINDS).index(family.kind) + family.bits // 5
+    command, side = (choices[turn % len(choices)] for choices in (family.commands, family.sides))
+    return replace(family, commands=(command,), sides=(side,))
 
 
 def finds(kinds: Sequence[str] | Mapping[str, hostile_kinds.Kind]) -> Iterator[Family]:
@@ -128,26 +143,22 @@ def items_of(output: str) -> int:
 
 
 class Judged:
-    """The plain program's answers on two layers."""
+    """The plain program's answers on two layers, and the number of records, once a command has told it; none where each takes too long."""
 
     def __init__(self, files: Sequence[str], folder: str, seconds: int) -> None:
         self.files, self.folder, self.seconds = files, folder, seconds
         self.runs: dict[str, Taken] = {}
-        self.records = self.report()
+        self.records = 0
 
     def output(self, command: str) -> str:
         return os.path.join(self.folder, "plain " + command)
 
-    def report(self) -> int:
-        """The number of records; none where it takes too long."""
-        told = os.path.join(self.folder, "report")
-        self.runs["edges"] = within([programs.plain(), "edges", *self.files, "--workers=1", "--report"], self.output("edges"), self.seconds, told)
-        with open(told) as file:
-            return sum(int(line.split()[1]) for line in file if line.startswith("records"))
-
     def run(self, command: str) -> Taken:
         if command not in self.runs:
-            self.runs[command] = within([programs.plain(), command, *self.files, "--workers=1"], self.output(command), self.seconds)
+            told = os.path.join(self.folder, "report")
+            self.runs[command] = within([programs.plain(), command, *self.files, "--workers=1", "--report"], self.output(command), self.seconds, told)
+            with open(told) as file:
+                self.records = sum(int(line.split()[1]) for line in file if line.startswith("records")) or self.records
         return self.runs[command]
 
 
@@ -285,7 +296,7 @@ def main(arguments: argparse.Namespace) -> int:
     try:
         yardstick = Yardstick(arguments.program, 30_000 if arguments.short or arguments.finds else 100_000, commands, folder)
         sweep = Sweep(arguments, yardstick, seconds)
-        for family, result in side_by_side.results(sweep.family, wanted, arguments.jobs):
+        for family, result in side_by_side.results(sweep.family, wanted, arguments.jobs, arguments.minutes):
             if isinstance(result, side_by_side.Ended):
                 runs = [Run(family.layers(family.sizes[0]), "all", None, 0, None, 1, fault="the comparing process ended: %s" % result)]
             else:

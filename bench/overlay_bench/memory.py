@@ -8,9 +8,10 @@ is 1 where a run gives anything else.
 
 With `--rows` four small pairs alone, whose answers stand below, by one and by two workers; each run that answers that memory is
 out is followed by the same one with ample memory, which has to give the answer. With `--layers` the faces of so many layers
-alone, rough rings through one another, by four workers; --requests of them are refused, evenly spread, where each is too many.
-With --parts they are refused in copies of one run, made where the request comes, which takes a tenth of the time: the workers are then
-turns of one thread (bench/shims/turns.c). A part K has each request whose number leaves K by --parts.
+alone, rough rings through one another, by four workers. With `--alone` layers of ten kinds, each by itself: its union with a square, by
+four workers. Of either --requests are refused, evenly spread, where each is too many. With --parts they are refused in copies of one
+run, made where the request comes, which takes a tenth of the time: the workers are then turns of one thread (bench/shims/turns.c). A
+part K has each request whose number leaves K by --parts.
 """
 from __future__ import annotations
 
@@ -22,8 +23,9 @@ import random
 import tempfile
 import time
 from collections.abc import Iterable, Iterator, Mapping, Sequence
+from dataclasses import dataclass
 
-from . import endurance, layers, programs, turns
+from . import endurance, hostile_kinds, layers, programs, turns
 from .programs import COMMANDS, Answer
 
 RECORDED = "endurance"
@@ -56,6 +58,8 @@ ROWS = (
     ("union", "rounded", "MULTIPOLYGON (((0 0, 6 0, 5 1, 7 1, 7 7, 1 7, 1 4, 0 5, 0 0)))\n"),
     ("union", "four tiles", "MULTIPOLYGON (((0 0, 1 0, 0 1, 0 0)), ((15 15, 16 15, 16 16, 15 15)))\n"),
 )
+# Kinds of layers (`hostile_kinds`) whose requests are refused by themselves, of maps and of what is made to hurt; they reach to 2^20.
+ALONE = ("parcels", "coast", "blobs", "slivers", "cluster", "steep_pencil", "square_spiral", "bricks", "stairs", "dense_chords")
 # Those that a short run takes.
 FEW = ("corner", "nothing", "holes that touch", "ties")
 
@@ -63,8 +67,9 @@ FEW = ("corner", "nothing", "holes that touch", "ties")
 def add_arguments(parser: argparse.ArgumentParser) -> None:
     parser.add_argument("--rows", action="store_true", help="four pairs with known answers alone, 1 and 2 workers, and each refused run again")
     parser.add_argument("--short", action="store_true", help="fewer layers, 1 and 4 workers")
-    parser.add_argument("--segments", type=int, help="the size of the last pair of layers, which a short run leaves out (200), or of each of --layers (5000)")
+    parser.add_argument("--segments", type=int, help="the size of the last pair of layers, which a short run leaves out (200), or of each of --layers or of --alone (5000)")
     parser.add_argument("--layers", type=int, help="the faces of so many layers alone, by four workers")
+    parser.add_argument("--alone", action="store_true", help="the unions of layers of ten kinds with a square alone, by four workers")
     parser.add_argument("--requests", type=int, help="how many requests of these are refused, evenly spread (default: each)")
     parser.add_argument("--parts", type=int, help="refuses requests of these in copies of a run, one of so many parts a run")
     parser.add_argument("--first", type=int, default=0, help="the first part")
@@ -182,45 +187,62 @@ def refuse_runs(refusing: Refusing, folder: str, arguments: argparse.Namespace) 
     return lines, requests
 
 
-def faces_of(folder: str, arguments: argparse.Namespace) -> tuple[list[str], list[str]]:
-    """The command line, and the files, of the faces of many layers."""
-    files = [os.path.join(folder, "%d.wkt" % k) for k in range(arguments.layers)]
-    for path, text in zip(files, rings(arguments.layers, arguments.segments or 5_000)):
+@dataclass(frozen=True)
+class Line:
+    """A command line by four workers, and what its layers are."""
+
+    what: str
+    words: list[str]
+    files: list[str]
+
+
+def made_line(folder: str, what: str, command: str, texts: Sequence[str]) -> Line:
+    """The line of these texts, which it writes."""
+    files = [os.path.join(folder, "%d.wkt" % k) for k in range(len(texts))]
+    for path, text in zip(files, texts):
         with open(path, "w") as layer:
             layer.write(text)
-    return ["faces", *files, "--workers=4"], files
+    return Line(what, [command, *files, "--workers=4"], files)
 
 
-def refuse_parts(refusing: Refusing, folder: str, arguments: argparse.Namespace) -> int:
+def made_lines(folder: str, arguments: argparse.Namespace) -> Iterator[Line]:
+    """The faces of many layers, or the unions of layers each by itself; each line is over before the next one is written."""
+    segments = arguments.segments or 5_000
+    if arguments.layers:
+        yield made_line(folder, "%d layers of %d segments" % (arguments.layers, segments), "faces", rings(arguments.layers, segments))
+    for kind in ALONE if arguments.alone else ():
+        first, second = hostile_kinds.made(kind, segments, 1 << 20)
+        yield made_line(folder, "%s, %d segments" % (kind, segments), "union", [layers.text_of([*first, *second]), SQUARE])
+
+
+def refuse_parts(refusing: Refusing, wanted: Line, arguments: argparse.Namespace) -> int:
     """The same requests in copies of a run, part by part; 1 where one went wrong."""
-    words, files = faces_of(folder, arguments)
-    right, start, done = refusing.answer(words), time.monotonic(), arguments.first
+    right, start, done = refusing.answer(wanted.words), time.monotonic(), arguments.first
     counts, requests = endurance.Counts("memory", ""), 0
     while done < arguments.parts and not (arguments.minutes and time.monotonic() - start > 60 * arguments.minutes):
-        requests = turns.refuse([refusing.program, *words], right, files, done, arguments.parts, counts)
+        requests = turns.refuse([refusing.program, *wanted.words], right, wanted.files, done, arguments.parts, counts)
         done += 1
-    counts.about = "parts %d to %d of %d of %d requests of %d layers of %d segments, workers by turns" % (
-        arguments.first, done - 1, arguments.parts, requests, arguments.layers, arguments.segments or 5_000)
+    counts.about = "parts %d to %d of %d of %d requests of %s, workers by turns" % (arguments.first, done - 1, arguments.parts, requests, wanted.what)
     return counts.end()
 
 
-def refuse_layers(refusing: Refusing, folder: str, arguments: argparse.Namespace) -> int:
-    """Requests of the faces of many layers; 1 where a run went wrong."""
-    words, files = faces_of(folder, arguments)
-    right, requests = refusing.counted(words)
+def refuse_line(refusing: Refusing, wanted: Line, arguments: argparse.Namespace) -> int:
+    """Requests of a line; 1 where a run went wrong."""
+    right, requests = refusing.counted(wanted.words)
     most = min(arguments.requests or requests, requests)
-    counts = endurance.Counts("memory", "%d requests of %d layers of %d segments" % (requests, arguments.layers, arguments.segments or 5_000))
+    counts = endurance.Counts("memory", "%d requests of %s" % (requests, wanted.what))
     for number in (1 + k * requests // most for k in range(most)):
-        got = refusing.without(words, number)
-        counts.judge(got, got == right, got == OUT_OF_MEMORY, "request %d of %s" % (number, " ".join(words)), files)
+        got = refusing.without(wanted.words, number)
+        counts.judge(got, got == right, got == OUT_OF_MEMORY, "request %d of %s" % (number, " ".join(wanted.words)), wanted.files)
     return counts.end()
 
 
 def main(arguments: argparse.Namespace) -> int:
     refusing, start = Refusing(arguments.program), time.monotonic()
     with tempfile.TemporaryDirectory() as folder:
-        if arguments.layers:
-            return (refuse_parts if arguments.parts else refuse_layers)(refusing, folder, arguments)
+        if arguments.layers or arguments.alone:
+            refuse = refuse_parts if arguments.parts else refuse_line
+            return max([refuse(refusing, wanted, arguments) for wanted in made_lines(folder, arguments)])
         lines, requests = refuse_rows(refusing, folder) if arguments.rows else refuse_runs(refusing, folder, arguments)
     for words, what, got in refusing.wrong:
         print("%s, %s refused: %s" % (" ".join(words), what, got))

@@ -4,6 +4,9 @@ use crate::hands::Hands;
 use crate::point::Point;
 use crate::sweep::{Edge, Plane};
 
+/// From so many edges on that leave one vertex, they are no longer looked at one by one.
+pub const FEW: usize = 32;
+
 /// Directed edges, ascending, and where each strip's begin.
 pub struct Directed {
     pub edges: Vec<(Point, Point)>,
@@ -15,9 +18,10 @@ impl Directed {
     pub fn leaving(&self, vertex: Point, strips: &Strips) -> std::ops::Range<usize> {
         let strip = strips.of_point(vertex);
         let here = self.begins[strip]..self.begins[strip + 1];
-        let from = here.start + self.edges[here].partition_point(|edge| edge.0 < vertex);
-        let count = self.edges[from..].iter().take_while(|edge| edge.0 == vertex).count();
-        from..from + count
+        let from = here.start + self.edges[here.clone()].partition_point(|edge| edge.0 < vertex);
+        let is_of = |edge: &(Point, Point)| edge.0 == vertex;
+        let few = self.edges[from..].iter().take(FEW).take_while(|edge| is_of(edge)).count();
+        from..from + if few < FEW { few } else { self.edges[from..here.end].partition_point(is_of) }
     }
 }
 

@@ -1,9 +1,12 @@
 //! Next edges, the rings that they make, and which shell owns each.
 use crate::edges::Strips;
 use crate::hands::Hands;
-use crate::labels::Directed;
+use crate::labels::{Directed, FEW};
 use crate::point::{turn, Point};
 use crate::sweep::{Edge, Plane};
+use std::cmp::Ordering;
+use std::collections::HashMap;
+use std::ops::Range;
 
 /// The edge after another one, and how many leave that vertex.
 #[derive(Clone, Copy)]
@@ -15,11 +18,14 @@ pub struct Next {
 /// For each edge the first one clockwise from it round its end.
 pub fn next_edges(directed: &Directed, strips: &Strips, hands: Hands) -> Vec<Next> {
     let next = hands.each(|hand| {
-        let part = hands.part(directed.edges.len(), hand);
-        part.map(|number| next_edge(directed, strips, number)).collect::<Vec<Next>>()
+        let (part, mut rounds) = (hands.part(directed.edges.len(), hand), HashMap::new());
+        part.map(|number| next_edge(directed, strips, &mut rounds, number)).collect::<Vec<Next>>()
     });
     next.concat()
 }
+
+/// The edges that leave a vertex, clockwise, by the first of them.
+type Rounds = HashMap<usize, Vec<usize>>;
 
 /// How far round `v`, from `u`, clockwise: less than a half turn, a half turn, more, a whole one.
 fn quarter(v: Point, u: Point, w: Point) -> u8 {
@@ -38,21 +44,46 @@ fn quarter(v: Point, u: Point, w: Point) -> u8 {
     }
 }
 
-fn next_edge(directed: &Directed, strips: &Strips, number: usize) -> Next {
+/// The order of two points round `v`, clockwise, from straight up.
+fn clockwise(v: Point, p: Point, q: Point) -> Ordering {
+    (p < v).cmp(&(q < v)).then_with(|| turn(v, p, q).cmp(&0))
+}
+
+fn next_edge(directed: &Directed, strips: &Strips, rounds: &mut Rounds, number: usize) -> Next {
     let (u, v) = directed.edges[number];
     let leaving = directed.leaving(v, strips);
+    let count = leaving.len() as u32;
+    let edge = match leaving.len() {
+        1 => leaving.start,
+        ..FEW => nearest(directed, leaving, u, v),
+        _ => {
+            let round = rounds.entry(leaving.start).or_insert_with(|| round(directed, leaving, v));
+            let passed = round.partition_point(|&edge| clockwise(v, directed.edges[edge].1, u).is_le());
+            round[passed % round.len()]
+        }
+    };
+    Next { edge: edge as u32, leaving: count }
+}
+
+/// Of the edges that leave `v` the first one clockwise from `u`.
+fn nearest(directed: &Directed, leaving: Range<usize>, u: Point, v: Point) -> usize {
     let mut best = leaving.start;
-    if leaving.len() > 1 {
-        let mut best_quarter = quarter(v, u, directed.edges[best].1);
-        for other in leaving.start + 1..leaving.end {
-            let w = directed.edges[other].1;
-            let found = quarter(v, u, w);
-            if found < best_quarter || (found == best_quarter && turn(v, directed.edges[best].1, w) > 0) {
-                (best, best_quarter) = (other, found);
-            }
+    let mut best_quarter = quarter(v, u, directed.edges[best].1);
+    for other in leaving.start + 1..leaving.end {
+        let w = directed.edges[other].1;
+        let found = quarter(v, u, w);
+        if found < best_quarter || (found == best_quarter && turn(v, directed.edges[best].1, w) > 0) {
+            (best, best_quarter) = (other, found);
         }
     }
-    Next { edge: best as u32, leaving: leaving.len() as u32 }
+    best
+}
+
+/// All edges that leave `v`, clockwise.
+fn round(directed: &Directed, leaving: Range<usize>, v: Point) -> Vec<usize> {
+    let mut round: Vec<usize> = leaving.collect();
+    round.sort_unstable_by(|&a, &b| clockwise(v, directed.edges[a].1, directed.edges[b].1));
+    round
 }
 
 /// The rings, each a part of one walk over all edges, from its least edge on.
