@@ -27,6 +27,7 @@ GridPolygon = list[GridRing]  # the shell first
 # A product of two coordinates of the grid, and a sum of these, in two parts that a whole number of
 # 64 bits holds.
 HALF = 32
+WIDTH = 63  # bits of a number without its sign
 
 
 def offsets(counts: Numbers | Mask) -> Numbers:
@@ -109,12 +110,25 @@ class Columns(Generic[C]):
     def twice_areas(self) -> list[int]:
         """Twice the area of each polygon of the grid, whose rings have points: its shell's without
         its holes', whichever way they run."""
+        sizes, shells = self.twice_ring_areas(), self.polygons[:-1]
+        if not len(shells):
+            return []
+        found: list[int] = (2 * sizes[shells] - np.add.reduceat(sizes, shells)).tolist()
+        return found
+
+    def twice_ring_areas(self) -> np.ndarray[Any, Any]:
+        """Twice the area of each ring, by sums of 64 bits where these have room for all rings
+        together."""
         first, last = self.firsts, self.rings[1:] - 1
-        products = self.x[:-1] * self.y[1:] - self.x[1:] * self.y[:-1]
-        high, low = (offsets(part) for part in (products >> HALF, products & ((1 << HALF) - 1)))
-        sums = zip((high[last] - high[first]).tolist(), (low[last] - low[first]).tolist())
-        inside = [abs((more << HALF) + less) for more, less in sums]
-        return [2 * inside[at] - sum(inside[at:end]) for at, end in pairwise(self.polygons.tolist())]
+        products = np.zeros(len(self.x), np.int64)
+        products[:-1] = self.x[:-1] * self.y[1:] - self.x[1:] * self.y[:-1]
+        products[last] = 0  # from a ring's end to the next one's beginning
+        reach = [max(int(at.max(initial=0)), -int(at.min(initial=0))) for at in (self.x, self.y)]
+        if 4 * reach[0] * reach[1] * len(products) >> WIDTH:
+            high, low = (np.add.reduceat(part, first) for part in (products >> HALF, products & ((1 << HALF) - 1)))
+            sums = [abs((more << HALF) + less) for more, less in zip(high.tolist(), low.tolist())]
+            return np.array(sums, object)
+        return np.abs(np.add.reduceat(products, first)) if len(first) else products
 
     def lists(self) -> list[list[GridPolygon]]:
         """The polygons of each feature as lists of points."""

@@ -16,6 +16,7 @@ import numpy as np
 
 from .columns import Bytes, Columns, GridPoint, Mask, Numbers, offsets
 from .faults import Refusal
+from .plain_texts import columns_in
 
 SPACE, WORD, COMMA, OPEN, CLOSE = range(5)
 KNOWN = {SPACE: b" \t\n\r\v\f", COMMA: b",", OPEN: b"(", CLOSE: b")"}
@@ -129,6 +130,12 @@ def polygons_in(text: bytes, name: str) -> Columns[Numbers]:
 def geometries_in(text: bytes, name: str) -> Columns[Numbers]:
     """The geometries of a layer text or of a result, each a feature, as the program numbers
     them."""
+    plain = columns_in(text)
+    return geometries_by_tokens(text, name) if plain is None else plain
+
+
+def geometries_by_tokens(text: bytes, name: str) -> Columns[Numbers]:
+    """The same, of any text."""
     tokens = tokens_of(text)
     opening, closing = tokens.rings()
     steps = np.zeros(len(tokens.kinds) + 1, np.int8)
