@@ -15,7 +15,8 @@ from .columns import Numbers
 from .destination import destination
 from .frame import Frame
 from .messages import say
-from .output import Column, Row, Table
+from .geopackage import Row
+from .output import Column, Table
 from .systems import system_from
 from .texts import EDGES, kind_of, text_of
 from .to_grid import FRAME
@@ -59,7 +60,7 @@ def main(arguments: Namespace) -> int:
         table = Table(EDGE_COLUMNS, edge_rows(edges, frame), ogr.wkbLineString)
     else:
         result = parsing.polygons_in(text, arguments.text)
-        table = Table(run.COLUMNS, run.rows(result, frame))
+        table = run.table_of(result, frame)
     (count,) = place.write(system, table)
     say(f"{arguments.out}: {count:,} features")
     return 0

@@ -9,7 +9,7 @@ text of polygons.
 from __future__ import annotations
 
 import re
-from dataclasses import dataclass, replace
+from dataclasses import dataclass
 from typing import Iterator
 
 import numpy as np
@@ -122,9 +122,7 @@ def points_in(tokens: Tokens, inside: Mask) -> tuple[Numbers, Numbers] | None:
 
 def polygons_in(text: bytes, name: str) -> Columns[Numbers]:
     """The polygons of a layer text or of a result, each a feature."""
-    held = geometries_in(text, name)
-    count = len(held.polygons) - 1
-    return replace(held, features=np.arange(count + 1), ids=np.arange(1, count + 1))
+    return geometries_in(text, name).apart()
 
 
 def geometries_in(text: bytes, name: str) -> Columns[Numbers]:

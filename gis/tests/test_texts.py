@@ -54,6 +54,7 @@ def written(layer):
 @pytest.mark.parametrize("reach", [3, 1000, 10**7 - 1, 10**7, LIMIT])
 def test_a_layer_is_written_as_its_lines(monkeypatch, block, reach):
     monkeypatch.setattr(texts, "POINTS", block)
+    monkeypatch.setattr(texts, "FEATURES", block)
     features = features_of(random.Random(reach + block), 60, reach)
     assert written(columns_of(features)).decode() == "".join(map(line_of, features))
 
@@ -68,9 +69,9 @@ def test_numbers_of_all_lengths(top):
     rng = random.Random(top)
     held = [number for number in EDGES if abs(number) <= top] + [rng.randint(-top, top) for _ in range(3001)]
     x, y = np.array(held), np.array(held[::-1])
-    text, lengths = digits.points_text(x, y)
-    wanted = [f"{a} {b}, ".encode() for a, b in zip(held, held[::-1])]
-    assert text.tobytes() == b"".join(wanted) and lengths.tolist() == list(map(len, wanted))
+    behind = [rng.choice([b", ", b"rr", b")\n"]) for _ in held]
+    text = digits.points_text(x, y, np.array(list(map(digits.word_of, behind)), np.uint32))
+    assert text == b"".join(f"{a} {b}".encode() + end for a, b, end in zip(held, held[::-1], behind))
 
 
 def test_writing_takes_at_most_four_times_the_text():
