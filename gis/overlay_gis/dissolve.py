@@ -29,7 +29,6 @@ from .messages import during, say
 from .output import Column, Table
 from .program import FACES
 
-HELP = "unites the features of a layer, or those with equal values of some fields"
 EXAMPLE = "overlay-gis dissolve parcels.gpkg --by owner -o owners.gpkg"
 
 # Fields beside those of the values, which go before them: such a name has a line behind it where a

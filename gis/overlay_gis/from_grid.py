@@ -22,7 +22,6 @@ from .texts import EDGES, kind_of, text_of
 from .to_grid import FRAME
 from .wkb import lines
 
-HELP = "writes a result, a layer text or an edges text of the grid as a layer"
 EXAMPLE = "overlay-gis from-grid grid/common.wkt -o common.gpkg"
 
 EDGE_COLUMNS = [Column("count_a", ogr.OFTInteger64), Column("count_b", ogr.OFTInteger64)]

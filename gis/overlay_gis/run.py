@@ -21,7 +21,6 @@ from .messages import say
 from .output import Column, Table
 from .wkb import encoded
 
-HELP = "does one set operation on two layers"
 EXAMPLE = "overlay-gis run intersection parcels.gpkg zones.gpkg -o common.gpkg"
 
 COLUMNS = [Column("id", ogr.OFTInteger64), Column("area", ogr.OFTReal)]
