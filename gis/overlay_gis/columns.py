@@ -149,14 +149,15 @@ class Columns(Generic[C]):
         return found
 
     def twice_ring_areas(self) -> np.ndarray[Any, Any]:
-        """Twice the area of each ring, by sums of 64 bits where these have room for all rings
-        together."""
+        """Twice the area of each ring, by sums of 64 bits where these have room for those of each
+        polygon."""
         first, last = self.firsts, self.rings[1:] - 1
         products = np.zeros(len(self.x), np.int64)
         products[:-1] = self.x[:-1] * self.y[1:] - self.x[1:] * self.y[:-1]
         products[last] = 0  # from a ring's end to the next one's beginning
         reach = [max(int(at.max(initial=0)), -int(at.min(initial=0))) for at in (self.x, self.y)]
-        if 4 * reach[0] * reach[1] * len(products) >> WIDTH:
+        most = int(np.diff(self.rings[self.polygons]).max(initial=0))
+        if 4 * reach[0] * reach[1] * most >> WIDTH:
             high, low = (np.add.reduceat(part, first) for part in (products >> HALF, products & ((1 << HALF) - 1)))
             sums = [abs((more << HALF) + less) for more, less in zip(high.tolist(), low.tolist())]
             return np.array(sums, object)

@@ -18,24 +18,24 @@ LAYERS, EDGES, RESULT = "layer", "edges", "result"
 # How many features, and how many points of them, are brought to text at a time.
 FEATURES, POINTS = 1 << 13, 1 << 16
 
+BYTE_ORDER_MARK = b"\xef\xbb\xbf"
+
 EMPTY = b"POLYGON EMPTY\n"
 
-# A feature of one polygon, and one of several: what stands before its points, and behind them.
-ONE, MANY = 0, 1
-OPENINGS = (b"POLYGON ((", b"MULTIPOLYGON (((")
-CLOSINGS = (b"))\n", b")))\n")
+# A feature of one polygon, one of several, and none; what stands before the points of either, and
+# behind their last bracket.
+ONE, MANY, NONE = range(3)
+OPENINGS = (b"POLYGON ((", b"MULTIPOLYGON (((", b"")
+CLOSINGS = (b")\n", b"))\n")
 
-# What stands between two rings, and the two letters for it in the meantime.
-SIGNS = ((b"aa", b"ab"), (b"ba", b"bb"))
-BETWEEN = {
-    b"rr": b"), (",
-    b"pp": b")), ((",
-    **{SIGNS[k][n]: CLOSINGS[k] + OPENINGS[n] for k in (ONE, MANY) for n in (ONE, MANY)},
-}
-NEXT_POINT, NEXT_RING, NEXT_POLYGON = map(word_of, (b", ", b"rr", b"pp"))
-FEATURE_ENDS = np.array([[word_of(sign) for sign in signs] for signs in SIGNS], WORD)
-
-BYTE_ORDER_MARK = b"\xef\xbb\xbf"
+# What stands behind a ring's bracket: before the polygon's next ring, before the feature's next
+# polygon, and at the end of a feature, of either kind, before a feature of each kind or none. In the
+# meantime there is a letter for it.
+BEHIND = [b", (", b"), ((", *(closing + opening for closing in CLOSINGS for opening in OPENINGS)]
+RING, POLYGON = 0, 1
+FEATURES_BEHIND = np.arange(2, len(BEHIND)).reshape(len(CLOSINGS), len(OPENINGS))
+LETTERS = b"abcdefgh"
+WORDS = np.array([word_of(bytes([ord(")"), letter])) for letter in LETTERS], WORD)
 
 
 def text_of(path: str) -> bytes:
@@ -72,7 +72,7 @@ def write_polygons(out: BinaryIO, layer: Columns[Numbers]) -> None:
     that the program numbers features as they stand here."""
     for block in layer.blocks(FEATURES):
         for part in in_runs(block):
-            out.write(text_without_empties(part) if len(part.x) else EMPTY * len(part.ids))
+            out.writelines(lines_of(part) if len(part.x) else [EMPTY] * len(part.ids))
 
 
 def in_runs(layer: Columns[Numbers]) -> Iterator[Columns[Numbers]]:
@@ -86,19 +86,18 @@ def in_runs(layer: Columns[Numbers]) -> Iterator[Columns[Numbers]]:
         yield layer.part(at, end)
 
 
-def text_without_empties(layer: Columns[Numbers]) -> bytes:
-    """The lines of features that all have polygons: the points of all rings, with a sign behind
-    each ring, for which what stands between rings is put then."""
-    several = np.diff(layer.features) > 1
-    names = np.where(several, MANY, ONE)
-    behind = np.full(len(layer.x), NEXT_POINT, WORD)
-    ends = layer.rings[1:] - 1
-    behind[ends] = NEXT_RING
-    behind[ends[layer.polygons[1:] - 1]] = NEXT_POLYGON
-    feature_ends = ends[layer.polygons[layer.features[1:]] - 1]
-    behind[feature_ends] = FEATURE_ENDS[names, np.append(names[1:], ONE)]
+def lines_of(layer: Columns[Numbers]) -> Iterator[bytes]:
+    """The lines of features that all have polygons: the points of all rings, with a letter behind
+    each ring, in the place of which what stands behind the ring is put then."""
+    kinds = np.where(np.diff(layer.features) > 1, MANY, ONE)
+    letters = np.full(len(layer.rings) - 1, RING)
+    letters[layer.polygons[1:] - 1] = POLYGON
+    letters[layer.polygons[layer.features[1:]] - 1] = FEATURES_BEHIND[kinds, np.append(kinds[1:], NONE)]
+    behind = np.full(len(layer.x), word_of(b", "), WORD)
+    behind[layer.rings[1:] - 1] = WORDS[letters]
     blocks = [slice(at, at + POINTS) for at in range(0, len(layer.x), POINTS)]
     text = b"".join([points_text(layer.x[block], layer.y[block], behind[block]) for block in blocks])
-    for sign, words in BETWEEN.items():
-        text = text.replace(sign, words)
-    return OPENINGS[names[0]] + text.removesuffix(OPENINGS[ONE])
+    for letter in np.unique(letters).tolist():
+        text = text.replace(LETTERS[letter : letter + 1], BEHIND[letter])
+    yield OPENINGS[kinds[0]]
+    yield text
