@@ -36,8 +36,7 @@ class Kept:
     several: bool = False
 
     def is_plain(self) -> bool:
-        """Whether all values are numbers and texts; GDAL makes bytes of a text in no known
-        encoding."""
+        """Whether all values are numbers and texts."""
         return all(map(is_plain, chain.from_iterable(self.values)))
 
     def columns(self) -> list[Column]:
@@ -71,7 +70,11 @@ class Kept:
 
 
 def is_plain(value: Any) -> bool:
-    return value is None or isinstance(value, (str, int, float))
+    """Whether a value is a number, nothing, or a text of Unicode's signs; GDAL makes other signs of
+    bytes that are none."""
+    if isinstance(value, str):
+        return value.isascii() or value == value.encode(errors="ignore").decode()
+    return value is None or isinstance(value, (int, float))
 
 
 def column_of(field: ogr.FieldDefn, mark: str = "") -> Column:

@@ -75,7 +75,8 @@ def filled(path: Path, place: Place, rows: Iterable[Row], boxes: Floats) -> int:
         (count,) = held.execute(f"SELECT count(*) FROM {quoted(place.table)}").fetchone()
         if place.geometry and len(boxes):
             enter(held, place, boxes)
-        held.execute("UPDATE gpkg_ogr_contents SET feature_count = ? WHERE table_name = ?", (count, place.table))
+        if count:  # of no row GDAL tells no number either
+            held.execute("UPDATE gpkg_ogr_contents SET feature_count = ? WHERE table_name = ?", (count, place.table))
         for trigger in triggers:
             held.execute(trigger)
         held.execute("COMMIT")

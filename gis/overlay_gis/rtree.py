@@ -22,6 +22,9 @@ ENTRY = np.dtype([("number", ">i8"), ("box", ">f4", (4,))])
 
 ROOT = 1
 
+# By which a number is multiplied that is rounded the wrong way.
+LESS, MORE = 1 - 2.0**-23, 1 + 2.0**-23
+
 Boxes = np.ndarray[Any, np.dtype[np.float32]]
 
 
@@ -36,12 +39,13 @@ class Tree:
 
 
 def outward(boxes: Floats) -> Boxes:
-    """The least boxes of 32 bits round some boxes; each box is its least and greatest x, and y."""
+    """Boxes of 32 bits that hold these, as SQLite itself makes them; each box is its least and
+    greatest x, and y."""
     near = boxes.astype(np.float32)
-    for side, way in enumerate((-np.inf, np.inf) * 2):
+    for side, way in enumerate((LESS, MORE) * 2):
         bound, at = boxes[:, side], near[:, side]
-        inward = at > bound if way < 0 else at < bound
-        near[inward, side] = np.nextafter(at[inward], np.float32(way))
+        inward = at > bound if way is LESS else at < bound
+        near[inward, side] = bound[inward] * np.where(bound[inward] < 0, 2 - way, way)
     return near
 
 
