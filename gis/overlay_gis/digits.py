@@ -6,7 +6,7 @@ from typing import Any
 
 import numpy as np
 
-from .columns import Bytes, Mask, Numbers
+from .columns import Mask, Numbers
 
 # Numbers are written four digits at a time, which lie as one word of a row. The row's last word is
 # what stands behind the number.
