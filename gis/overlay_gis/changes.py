@@ -38,7 +38,7 @@ def tell_change(together: CommonGrid, layer: Layer, union: Question) -> None:
     twice, bent = parity(together.questions, layer, union)
     area, square = together.frame.area, area_name(together.system)
     before = grid.twice_area()
-    if abs(before - twice) > 2 * 0.71 * grid.longest(bent):
+    if before != twice and abs(before - twice) > 2 * 0.71 * grid.longest(bent):
         warn(
             name,
             (

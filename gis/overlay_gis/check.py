@@ -24,10 +24,6 @@ from .rows import Rows
 from .surveys import numbers
 from .systems import area_name, unit_name
 
-HELP = (
-    "tells what is wrong with a layer: failed reads, invalid rings, points off the limits,"
-    " overlaps, gaps, slivers"
-)
 EXAMPLE = "overlay-gis check parcels.gpkg -o flaws.gpkg --gap-width 0.5"
 
 def add_arguments(parser: ArgumentParser) -> None:

@@ -5,25 +5,34 @@ from __future__ import annotations
 import sys
 from argparse import Action, ArgumentParser, Namespace, RawDescriptionHelpFormatter
 from functools import partial
-from typing import NoReturn
+from importlib import import_module
+from types import ModuleType
+from typing import Any, NoReturn
 
 import numpy as np
 from osgeo import gdal
 
-from . import __version__, check, dissolve, explain, faces, from_grid, gdal_state, messages, run, show, to_grid
+from . import __version__, gdal_state, messages
 from .faults import FAILED, Fault, OutOfMemory, not_there
 from .gdal_errors import told_as
 from .stopping import Stopped, stoppable
 
+# What each verb does; the verb itself, in a file of that name, is there when it is asked for.
 VERBS = {
-    "run": run,
-    "faces": faces,
-    "dissolve": dissolve,
-    "check": check,
-    "to-grid": to_grid,
-    "from-grid": from_grid,
-    "show": show,
-    "explain": explain,
+    "run": "does one set operation on two layers",
+    "faces": (
+        "tells which features of all layers lie on one another: a row for each set of features that"
+        " cover some points together"
+    ),
+    "dissolve": "unites the features of a layer, or those with equal values of some fields",
+    "check": (
+        "tells what is wrong with a layer: failed reads, invalid rings, points off the limits,"
+        " overlaps, gaps, slivers"
+    ),
+    "to-grid": "writes layers as texts on the integer grid, with a frame that leads back",
+    "from-grid": "writes a result, a layer text or an edges text of the grid as a layer",
+    "show": "draws layers, edges texts and results of the grid over one another",
+    "explain": "shows the place of a text that a refusal tells",
 }
 
 STATUSES = """exit status: 0 answered, 1 a file, the program or an output failed, 2 the command line is not
@@ -37,6 +46,31 @@ class Parser(ArgumentParser):
 
     def error(self, message: str) -> NoReturn:
         super().error(messages.shown(message))
+
+
+class VerbParser(Parser):
+    """Reads what stands behind a verb, of whose words it knows when it is asked."""
+
+    verb = ""
+
+    def parse_known_args(self, args: Any = None, namespace: Any = None) -> tuple[Any, list[str]]:
+        if self.verb:
+            self.learn(verb_of(self.verb))
+        return super().parse_known_args(args, namespace)
+
+    def learn(self, verb: ModuleType) -> None:
+        self.verb = ""
+        self.epilog = f"example:\n  {verb.EXAMPLE}"
+        verb.add_arguments(self)
+        self.set_defaults(main=verb.main)
+
+
+def verb_of(name: str) -> ModuleType:
+    """The module of a verb, each of which takes its time to be there."""
+    try:
+        return import_module(f".{name.replace('-', '_')}", __package__)
+    except ImportError as error:
+        raise not_there(error) from error
 
 
 class Versions(Action):
@@ -65,17 +99,15 @@ def parser() -> ArgumentParser:
     top.add_argument(
         "--version", action=Versions, nargs=0, help="show program's version number and exit"
     )
-    verbs = top.add_subparsers(dest="verb", metavar="VERB", required=True)
-    for name, verb in VERBS.items():
+    verbs = top.add_subparsers(dest="verb", metavar="VERB", required=True, parser_class=VerbParser)
+    for name, words in VERBS.items():
         told = verbs.add_parser(
             name,
-            help=verb.HELP,
-            description=f"{verb.HELP[0].upper()}{verb.HELP[1:]}.",
-            epilog=f"example:\n  {verb.EXAMPLE}",
+            help=words,
+            description=f"{words[0].upper()}{words[1:]}.",
             formatter_class=RawDescriptionHelpFormatter,
         )
-        verb.add_arguments(told)
-        told.set_defaults(main=verb.main)
+        told.verb = name
     return top
 
 
@@ -96,8 +128,8 @@ def answered(arguments: Namespace) -> int:
 
 
 def main(words: list[str] | None = None) -> int:
-    arguments = parser().parse_args(words)
     try:
+        arguments = parser().parse_args(words)
         with stoppable():
             return answered(arguments)
     except Fault as fault:

@@ -6,7 +6,7 @@ from __future__ import annotations
 
 from dataclasses import dataclass, replace
 from itertools import pairwise
-from typing import Any, Generic, Sequence, TypeVar
+from typing import Any, Generic, Iterator, Sequence, TypeVar
 
 import numpy as np
 
@@ -27,6 +27,11 @@ GridPolygon = list[GridRing]  # the shell first
 # A product of two coordinates of the grid, and a sum of these, in two parts that a whole number of
 # 64 bits holds.
 HALF = 32
+WIDTH = 63  # bits of a number without its sign
+
+# How many features, and how many points, are worked on at a time, so that what is made by the way
+# stays where a processor has it at hand.
+BLOCK, POINTS = 1 << 12, 1 << 15
 
 
 def offsets(counts: Numbers | Mask) -> Numbers:
@@ -37,6 +42,13 @@ def offsets(counts: Numbers | Mask) -> Numbers:
 def gathered(counts: Numbers | Mask, held: Numbers) -> Numbers:
     """The counts summed by what holds them; `held` are the offsets of the holders."""
     return np.diff(offsets(counts)[held])
+
+
+def extents(values: Any, starts: Numbers) -> tuple[Any, Any]:
+    """The least and the greatest of the values from each of these places up to the next."""
+    if not len(starts):
+        return values[:0], values[:0]
+    return np.minimum.reduceat(values, starts), np.maximum.reduceat(values, starts)
 
 
 @dataclass(frozen=True)
@@ -90,9 +102,30 @@ class Columns(Generic[C]):
 
     def of_features(self, kept: Mask) -> Columns[C]:
         """The same with these features alone."""
+        if kept.all():
+            return self
         rings = np.repeat(kept, np.diff(self.polygons[self.features]))
         chosen = self.of_rings(rings)
         return replace(chosen, features=offsets(np.diff(chosen.features)[kept]), ids=self.ids[kept])
+
+    def blocks(self, size: int = BLOCK) -> Iterator[Columns[C]]:
+        """The same features in order, so many at a time."""
+        for at in range(0, len(self.ids), size):
+            yield self.part(at, at + size)
+
+    def part(self, at: int, end: int) -> Columns[C]:
+        """The same features from that place on up to another."""
+        features = self.features[at : end + 1]
+        polygons = self.polygons[features[0] : features[-1] + 1]
+        rings = self.rings[polygons[0] : polygons[-1] + 1]
+        points = slice(rings[0], rings[-1])
+        starts = (rings - rings[0], polygons - polygons[0], features - features[0])
+        return Columns(self.x[points], self.y[points], *starts, self.ids[at:end])
+
+    def apart(self) -> Columns[C]:
+        """The same with a feature for each polygon, numbered from 1."""
+        count = len(self.polygons) - 1
+        return replace(self, features=np.arange(count + 1), ids=np.arange(1, count + 1))
 
     def among(self, ids: Numbers, there: Mask) -> Columns[C]:
         """The same features among others without polygons: all their numbers, and which of them
@@ -109,12 +142,27 @@ class Columns(Generic[C]):
     def twice_areas(self) -> list[int]:
         """Twice the area of each polygon of the grid, whose rings have points: its shell's without
         its holes', whichever way they run."""
+        sizes, shells = self.twice_ring_areas(), self.polygons[:-1]
+        if not len(shells):
+            return []
+        found: list[int] = (2 * sizes[shells] - np.add.reduceat(sizes, shells)).tolist()
+        return found
+
+    def twice_ring_areas(self) -> np.ndarray[Any, Any]:
+        """Twice the area of each ring, by sums of 64 bits where these have room for those of each
+        polygon."""
         first, last = self.firsts, self.rings[1:] - 1
-        products = self.x[:-1] * self.y[1:] - self.x[1:] * self.y[:-1]
-        high, low = (offsets(part) for part in (products >> HALF, products & ((1 << HALF) - 1)))
-        sums = zip((high[last] - high[first]).tolist(), (low[last] - low[first]).tolist())
-        inside = [abs((more << HALF) + less) for more, less in sums]
-        return [2 * inside[at] - sum(inside[at:end]) for at, end in pairwise(self.polygons.tolist())]
+        products = np.zeros(len(self.x), np.int64)
+        products[:-1] = self.x[:-1] * self.y[1:] - self.x[1:] * self.y[:-1]
+        products[last] = 0  # from a ring's end to the next one's beginning
+        reach = [max(int(at.max(initial=0)), -int(at.min(initial=0))) for at in (self.x, self.y)]
+        most = int(np.diff(self.rings[self.polygons]).max(initial=0))
+        if 4 * reach[0] * reach[1] * most >> WIDTH:
+            high, low = (np.add.reduceat(part, first) for part in (products >> HALF, products & ((1 << HALF) - 1)))
+            sums = [abs((more << HALF) + less) for more, less in zip(high.tolist(), low.tolist())]
+            return np.array(sums, object)
+        found: Numbers = np.abs(np.add.reduceat(products, first)) if len(first) else products
+        return found
 
     def lists(self) -> list[list[GridPolygon]]:
         """The polygons of each feature as lists of points."""
@@ -126,6 +174,8 @@ class Columns(Generic[C]):
 
 def chained(parts: Sequence[Columns[C]]) -> Columns[C]:
     """All features of several, one after another."""
+    if len(parts) == 1:
+        return parts[0]
     return Columns(
         np.concatenate([part.x for part in parts]),
         np.concatenate([part.y for part in parts]),

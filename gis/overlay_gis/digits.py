@@ -6,7 +6,7 @@ from typing import Any
 
 import numpy as np
 
-from .columns import Bytes, Mask, Numbers
+from .columns import Mask, Numbers
 
 # Numbers are written four digits at a time, which lie as one word of a row. The row's last word is
 # what stands behind the number.
@@ -18,10 +18,15 @@ FOURS = (np.arange(GROUP)[:, np.newaxis] // [1000, 100, 10, 1] % 10 + ord("0")).
 # A number has a digit more where it reaches one of these, up to the greatest below 2^32.
 POWERS = [10**k for k in range(1, 10)]
 
-# What stands behind the x of a point, and behind its y.
-BEHIND = (b" ", b", ")
+# How many bytes stand behind the y of a point.
+BEHIND = 2
 
 MINUS = ord("-")
+
+
+def word_of(text: bytes) -> int:
+    """A text of up to four bytes as one word."""
+    return int(np.frombuffer(text.ljust(WORD.itemsize), WORD)[0])
 
 
 def bytes_from(groups: int) -> Mask:
@@ -29,27 +34,26 @@ def bytes_from(groups: int) -> Mask:
     are text."""
     width = groups * DIGITS
     place = np.arange(width + WORD.itemsize)
-    ends = np.repeat([width + len(text) for text in BEHIND], width)
-    starts = np.tile(np.arange(width), len(BEHIND))
+    ends = np.repeat([width + 1, width + BEHIND], width)
+    starts = np.tile(np.arange(width), 2)
     return (place >= starts[:, np.newaxis]) & (place < ends[:, np.newaxis])
 
 
-def rows_of(numbers: Numbers, size: Words, groups: int) -> Words:
+def rows_of(size: Words, groups: int, behind: Words) -> Words:
     """A row for each number, x and y by turns, with its digits; `size` are the numbers without
-    their signs."""
-    rows = np.empty((len(numbers), groups + 1), WORD)
+    their signs, `behind` what stands behind each y."""
+    rows = np.empty((len(size), groups + 1), WORD)
     for k in reversed(range(groups)):
         more = size // WORD.type(GROUP)
         rows[:, k] = FOURS[size - more * GROUP]
         size = more
-    for k, text in enumerate(BEHIND):
-        rows[k::2, groups] = np.frombuffer(text.ljust(WORD.itemsize), WORD)[0]
+    rows[0::2, groups], rows[1::2, groups] = word_of(b" "), behind
     return rows
 
 
-def points_text(x: Numbers, y: Numbers) -> tuple[Bytes, Numbers]:
-    """The text `x y, ` of all points, whose coordinates are below 2^32 in size, and how long that
-    of each is."""
+def points_text(x: Numbers, y: Numbers, behind: Words) -> bytes:
+    """The text of all points, whose coordinates are below 2^32 in size: `x y`, and two bytes of the
+    word that is to stand behind."""
     numbers = np.empty(2 * len(x), np.int64)
     numbers[0::2], numbers[1::2] = x, y
     size, below = np.abs(numbers).astype(np.uint32), numbers < 0
@@ -57,9 +61,7 @@ def points_text(x: Numbers, y: Numbers) -> tuple[Bytes, Numbers]:
     first = np.full(len(numbers), groups * DIGITS - 1, np.uint8) - below
     for power in POWERS:
         first -= size >= power
-    rows = rows_of(numbers, size, groups).view(np.uint8)
+    rows = rows_of(size, groups, behind).view(np.uint8)
     rows[below, first[below]] = MINUS
-    whole = 2 * groups * DIGITS + sum(map(len, BEHIND))
-    lengths = whole - first[0::2].astype(np.int64) - first[1::2]
     first[1::2] += groups * DIGITS
-    return rows[np.take(bytes_from(groups), first, axis=0)], lengths
+    return rows[np.take(bytes_from(groups), first, axis=0)].tobytes()

@@ -9,6 +9,7 @@ from __future__ import annotations
 
 from argparse import ArgumentParser, Namespace
 from dataclasses import dataclass, replace
+from itertools import chain
 from typing import Any, Sequence
 
 import numpy as np
@@ -20,7 +21,7 @@ from .changes import tell_moves
 from .columns import Columns, Numbers
 from .common_grid import CommonGrid, brought_together
 from .destination import destination
-from .fields import column_of, fields_of, told_apart, values_in
+from .fields import column_of, fields_of, is_plain, told_apart, values_in
 from .frame import Frame
 from .layers import Source
 from .merging import Groups, merged
@@ -28,7 +29,6 @@ from .messages import during, say
 from .output import Column, Table
 from .program import FACES
 
-HELP = "unites the features of a layer, or those with equal values of some fields"
 EXAMPLE = "overlay-gis dissolve parcels.gpkg --by owner -o owners.gpkg"
 
 # Fields beside those of the values, which go before them: such a name has a line behind it where a
@@ -95,13 +95,15 @@ def table_of(united: United, fields: Sequence[ogr.FieldDefn], frame: Frame, by_p
     taken = {field.GetName().lower() for field in fields}
     names = [f"{name}_" if name in taken else name for name in (FEATURES, AREA)]
     columns = [*map(column_of, fields), Column(names[0], ogr.OFTInteger64), Column(names[1], ogr.OFTReal)]
+    plain = all(map(is_plain, chain.from_iterable(united.values)))
     facts = list(zip(united.values, united.features))
     if by_parts:
         polygons = row_tables.parts(united.shapes, frame)
-        return Table(columns, ((shape, (*facts[k][0], facts[k][1], area)) for k, shape, area in polygons), ogr.wkbPolygon)
+        made = ((shape, (*facts[k][0], facts[k][1], area)) for k, shape, area in polygons)
+        return Table(columns, made, ogr.wkbPolygon, frame.boxes(united.shapes.apart()) if plain else None)
     wholes = zip(row_tables.shapes(united.shapes, frame), facts, united.twice)
     rows = ((shape if twice else None, (*values, count, frame.area(twice))) for shape, (values, count), twice in wholes)
-    return Table(columns, rows, ogr.wkbMultiPolygon)
+    return Table(columns, rows, ogr.wkbMultiPolygon, frame.boxes(united.shapes) if plain else None)
 
 
 def main(arguments: Namespace) -> int:

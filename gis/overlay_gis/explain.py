@@ -6,7 +6,6 @@ from argparse import ArgumentParser, Namespace
 
 from .faults import Fault, Refusal
 
-HELP = "shows the place of a text that a refusal tells"
 EXAMPLE = "overlay-gis explain parcels.wkt 1017    # after: overlay: A: 1 syntax at 1017"
 
 # Lines shown before and behind the place, and bytes of a line to either side.

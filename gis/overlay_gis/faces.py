@@ -11,22 +11,16 @@ from . import by_values, options, pairs, row_tables
 from .common_grid import CommonGrid, brought_together
 from .destination import PAIRS, Destination, destination
 from .faults import Refusal
-from .fields import Kept, kept
+from .fields import NAMES, Kept, kept
 from .layers import Source, files_of
 from .messages import say
 from .output import layer_target, write_tables
-from .program import FACES, LETTERS
+from .program import FACES
 from .rows import Rows
 
-HELP = (
-    "tells which features of all layers lie on one another: a row for each set of features that"
-    " cover some points together"
-)
 EXAMPLE = (
     "overlay-gis faces parcels.gpkg zones.gpkg -o faces.gpkg --keep-a owner --keep-b name,rule"
 )
-
-NAMES = LETTERS.lower()
 
 
 def add_arguments(parser: ArgumentParser) -> None:

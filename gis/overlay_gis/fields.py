@@ -3,7 +3,7 @@
 from __future__ import annotations
 
 from dataclasses import dataclass
-from itertools import pairwise
+from itertools import chain, pairwise
 from typing import Any, Sequence
 
 import numpy as np
@@ -13,8 +13,12 @@ from .columns import Numbers
 from .faults import Refusal
 from .layers import Source
 from .output import Column
+from .program import LETTERS
 from .questions import Layer
 from .rows import Members
+
+# The names of layers in an output.
+NAMES = LETTERS.lower()
 
 # Between the values of several features that cover one row.
 JOINT = ","
@@ -30,6 +34,10 @@ class Kept:
     ids: Numbers | None
     values: list[tuple[Any, ...]]
     several: bool = False
+
+    def is_plain(self) -> bool:
+        """Whether all values are numbers and texts."""
+        return all(map(is_plain, chain.from_iterable(self.values)))
 
     def columns(self) -> list[Column]:
         """The fields that are kept; they are texts where several features of the layer cover one
@@ -59,6 +67,14 @@ class Kept:
             JOINT.join("" if value is None else str(value) for value in column)
             for column in zip(*(self.values[k] for k in covering))
         ]
+
+
+def is_plain(value: Any) -> bool:
+    """Whether a value is a number, nothing, or a text of Unicode's signs; GDAL makes other signs of
+    bytes that are none."""
+    if isinstance(value, str):
+        return value.isascii() or value == value.encode(errors="ignore").decode()
+    return value is None or isinstance(value, (int, float))
 
 
 def column_of(field: ogr.FieldDefn, mark: str = "") -> Column:

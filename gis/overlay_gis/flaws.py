@@ -18,7 +18,8 @@ from osgeo import ogr, osr
 from .columns import Columns, Floats, GridPolygon, Mask, Numbers, of_polygons
 from .common_grid import CommonGrid
 from .frame import LIMIT, Frame
-from .output import Column, Row, Table
+from .geopackage import Row
+from .output import NO_BOXES, Column, Table
 from .program import FACES
 from .questions import Layer
 from .rings import perimeters
@@ -150,7 +151,8 @@ def found_in(together: CommonGrid, layer: Layer, sizes: Sizes) -> tuple[Rows, Fl
 
 def table_of(parts: list[Flaws], sizes: Sizes) -> Table:
     """All overlaps and gaps as a layer."""
-    return Table(COLUMNS, (row for part in parts for row in rows_of(part, sizes)), ogr.wkbMultiPolygon)
+    boxes = np.concatenate([NO_BOXES, *(part.frame.boxes(part.shapes) for part in parts)])
+    return Table(COLUMNS, (row for part in parts for row in rows_of(part, sizes)), ogr.wkbMultiPolygon, boxes)
 
 
 def rows_of(part: Flaws, sizes: Sizes) -> Iterator[Row]:

@@ -14,9 +14,10 @@ from decimal import Decimal, InvalidOperation
 from fractions import Fraction
 from functools import cached_property
 
+import numpy as np
 from osgeo import osr
 
-from .columns import Columns, Floats, GridPoint, Numbers
+from .columns import Columns, Floats, GridPoint, Numbers, extents
 from .faults import Fault, Refusal
 from .layers import Box
 from .rounding import Axis
@@ -87,6 +88,18 @@ class Frame:
         """Polygons in grid units, in the system's coordinates."""
         across, up = self.axes
         return layer.at(across.placed(layer.x), up.placed(layer.y))
+
+    def boxes(self, layer: Columns[Numbers]) -> Floats:
+        """The box round each feature that has polygons, in the system's coordinates: its least and
+        greatest x, and its least and greatest y."""
+        points = layer.feature_points()
+        starts = points[:-1][np.diff(points) > 0]
+        sides = [
+            axis.placed(side)
+            for axis, at in zip(self.axes, (layer.x, layer.y))
+            for side in extents(at, starts)
+        ]
+        return np.stack(sides, axis=1)
 
     @cached_property
     def square(self) -> tuple[int, int]:

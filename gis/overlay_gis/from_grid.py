@@ -15,13 +15,13 @@ from .columns import Numbers
 from .destination import destination
 from .frame import Frame
 from .messages import say
-from .output import Column, Row, Table
+from .geopackage import Row
+from .output import Column, Table
 from .systems import system_from
 from .texts import EDGES, kind_of, text_of
 from .to_grid import FRAME
 from .wkb import lines
 
-HELP = "writes a result, a layer text or an edges text of the grid as a layer"
 EXAMPLE = "overlay-gis from-grid grid/common.wkt -o common.gpkg"
 
 EDGE_COLUMNS = [Column("count_a", ogr.OFTInteger64), Column("count_b", ogr.OFTInteger64)]
@@ -59,7 +59,7 @@ def main(arguments: Namespace) -> int:
         table = Table(EDGE_COLUMNS, edge_rows(edges, frame), ogr.wkbLineString)
     else:
         result = parsing.polygons_in(text, arguments.text)
-        table = Table(run.COLUMNS, run.rows(result, frame))
+        table = run.table_of(result, frame)
     (count,) = place.write(system, table)
     say(f"{arguments.out}: {count:,} features")
     return 0

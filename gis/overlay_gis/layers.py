@@ -16,7 +16,7 @@ from osgeo import gdal, ogr, osr
 
 from . import wkb
 from .arrow import Batch, batches
-from .columns import NOTHING, Bytes, Columns, Floats, Numbers, chained, gathered
+from .columns import NOTHING, Bytes, Columns, Floats, Numbers, chained, extents, gathered
 from .faults import Fault, Refusal
 from .gdal_errors import blamed_on, told_as
 from .messages import followed
@@ -89,8 +89,7 @@ class Survey:
         if not len(held.ids):
             return None
         starts = held.feature_points()[:-1]
-        lows = np.minimum.reduceat(held.x, starts), np.minimum.reduceat(held.y, starts)
-        highs = np.maximum.reduceat(held.x, starts), np.maximum.reduceat(held.y, starts)
+        lows, highs = zip(extents(held.x, starts), extents(held.y, starts))
         farthest = np.argmax(np.max((*highs, *(-side for side in lows)), axis=0))
         left, low = (float(side.min()) for side in lows)
         right, high = (float(side.max()) for side in highs)
@@ -105,7 +104,8 @@ def areas(held: Columns[Floats]) -> Floats:
     if not len(starts):
         return np.zeros(0)
     x, y = held.x - np.repeat(held.x[starts], counts), held.y - np.repeat(held.y[starts], counts)
-    products = x * np.roll(y, -1) - np.roll(x, -1) * y
+    products = np.zeros_like(x)
+    products[:-1] = x[:-1] * y[1:] - x[1:] * y[:-1]
     products[starts + counts - 1] = 0.0
     shells = np.zeros(len(held.lengths), bool)
     shells[held.polygons[:-1]] = True
@@ -229,7 +229,8 @@ NO_POLYGON = ogr.Geometry(ogr.wkbPolygon)
 def kinds_of(held: Columns[Floats]) -> Bytes:
     """What the features are, whose polygons have points."""
     points = held.feature_points()
-    unbound = gathered(~(np.isfinite(held.x) & np.isfinite(held.y)), points) > 0
+    finite = np.isfinite(held.x) & np.isfinite(held.y)
+    unbound = gathered(~finite, points) > 0 if not finite.all() else np.zeros(len(held.ids), bool)
     return np.where(np.diff(points) == 0, Kind.BARE, np.where(unbound, Kind.UNBOUND, Kind.SOUND)).astype(np.uint8)
 
 

@@ -2,16 +2,20 @@
 
 from __future__ import annotations
 
+import sqlite3
 import sys
 from dataclasses import dataclass
 from pathlib import Path
 from traceback import clear_frames
 from typing import Any, Callable, Iterable, Sequence
 
+import numpy as np
 from osgeo import gdal, ogr, osr
 
+from .columns import Floats
 from .faults import Fault, Refusal
 from .gdal_errors import blamed_on
+from .geopackage import Place, Row, filled, place_of
 from .layers import LAYER_MARK, Source
 from .messages import followed
 from .whole import Target, draft, target_of
@@ -57,18 +61,21 @@ class Column:
         return definition
 
 
-# A geometry to be written, in WKB, if there is one, with the values of its columns.
-Row = tuple[bytes | None, Sequence[Any]]
+# There is no box where there is no geometry.
+NO_BOXES: Floats = np.zeros((0, 4))
 
 
 @dataclass
 class Table:
     """What is written as a layer: its fields and its rows; the kind of its shapes, wkbNone for a
-    table without any; and its name, or nothing for that of its file."""
+    table without any; the least and greatest x, and y, of each shape that is there; and its name,
+    or nothing for that of its file. Where no boxes are told, GDAL writes the rows, and so it does
+    with values that are more than numbers and texts."""
 
     columns: Sequence[Column]
     rows: Iterable[Row]
     kind: int = ogr.wkbPolygon
+    boxes: Floats | None = None
     name: str = ""
 
 
@@ -109,23 +116,45 @@ class Output:
         self.path = folder / target.path.name
         self.dataset: Any = None
         self.layer: Any = None
+        self.begun = False  # whether the file is there
 
     def opened(self) -> Any:
         return driver_for(self.target).Create(str(self.path), 0, 0, 0, gdal.GDT_Unknown)
 
+    def again(self) -> Any:
+        """The file that was closed meanwhile."""
+        return gdal.OpenEx(str(self.path), gdal.OF_VECTOR | gdal.OF_UPDATE)
+
     def begin(self, system: osr.SpatialReference | None, table: Table) -> None:
-        self.dataset = self.dataset or self.opened()
+        self.dataset = self.dataset or (self.again() if self.begun else self.opened())
+        self.begun = True
         self.layer = create(self.dataset, table.name or self.path.stem, system, table)
         if table.kind != ogr.wkbNone and self.layer.GetLayerDefn().GetGeomFieldCount() == 0:
             raise Refusal(self.target.name, "a file of this format keeps no shapes")
 
-    def fill(self, rows: Iterable[Row]) -> int:
+    def fill(self, table: Table) -> int:
         """Writes all rows, and answers how many they were."""
+        rows = followed(table.rows, f"writing {self.target.name}")
+        place = place_of(self.layer) if self.takes_all_at_once(table) else None
+        return self.fill_one_by_one(rows) if place is None else self.fill_at_once(place, rows, table.boxes)
+
+    def takes_all_at_once(self, table: Table) -> bool:
+        return table.boxes is not None and self.dataset.GetDriver().ShortName == PACKAGE
+
+    def fill_at_once(self, place: Place, rows: Iterable[Row], boxes: Floats | None) -> int:
+        """Writes all rows of a GeoPackage's layer, whose file GDAL has to close before."""
+        self.close()
+        try:
+            return filled(self.path, place, rows, NO_BOXES if boxes is None else boxes)
+        except sqlite3.Error as error:
+            raise Fault(self.target.name, f"can't be written: {error}") from error
+
+    def fill_one_by_one(self, rows: Iterable[Row]) -> int:
         grouped = self.dataset.TestCapability(ogr.ODsCTransactions)
         if grouped:
             self.dataset.StartTransaction()
         count = 0
-        for geometry, values in followed(rows, f"writing {self.target.name}"):
+        for geometry, values in rows:
             self.add(geometry, values)
             count += 1
         if grouped:
@@ -173,7 +202,7 @@ def write_tables(
             try:
                 for table in tables:
                     output.begin(system, table)
-                    counts.append(output.fill(table.rows))
+                    counts.append(output.fill(table))
             except BaseException as error:
                 clear_frames(error.__traceback__)  # they would keep the file open
                 raise

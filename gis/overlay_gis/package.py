@@ -90,7 +90,7 @@ class Enlarged(Output):
             progress(f"copying {self.target.name}", 1 - left / max(pages, 1))
 
     def begin(self, system: osr.SpatialReference | None, table: Table) -> None:
-        self.dataset = self.dataset or self.opened()
+        self.dataset = self.dataset or (self.again() if self.begun else self.opened())
         for k in reversed(range(self.dataset.GetLayerCount())):
             if same_name(self.dataset.GetLayer(k).GetName(), table.name):
                 self.dataset.DeleteLayer(k)

@@ -10,7 +10,8 @@ from osgeo import ogr
 
 from .columns import Numbers, offsets
 from .frame import Frame
-from .output import Column, Row, Table
+from .geopackage import Row
+from .output import NO_BOXES, Column, Table
 from .rows import Rows
 
 COLUMNS = [
@@ -50,7 +51,7 @@ def pairs_in(rows: Rows) -> Pairs:
 
 def table_of(rows: Rows, ids: tuple[Numbers, Numbers], frame: Frame) -> Table:
     """The table of pairs of two layers, whose features have these numbers."""
-    return Table(COLUMNS, lines(rows, ids, frame), ogr.wkbNone)
+    return Table(COLUMNS, lines(rows, ids, frame), ogr.wkbNone, NO_BOXES)
 
 
 def lines(rows: Rows, ids: tuple[Numbers, Numbers], frame: Frame) -> Iterator[Row]:

@@ -9,13 +9,14 @@ text of polygons.
 from __future__ import annotations
 
 import re
-from dataclasses import dataclass, replace
+from dataclasses import dataclass
 from typing import Iterator
 
 import numpy as np
 
 from .columns import Bytes, Columns, GridPoint, Mask, Numbers, offsets
 from .faults import Refusal
+from .plain_texts import columns_in
 
 SPACE, WORD, COMMA, OPEN, CLOSE = range(5)
 KNOWN = {SPACE: b" \t\n\r\v\f", COMMA: b",", OPEN: b"(", CLOSE: b")"}
@@ -121,14 +122,18 @@ def points_in(tokens: Tokens, inside: Mask) -> tuple[Numbers, Numbers] | None:
 
 def polygons_in(text: bytes, name: str) -> Columns[Numbers]:
     """The polygons of a layer text or of a result, each a feature."""
-    held = geometries_in(text, name)
-    count = len(held.polygons) - 1
-    return replace(held, features=np.arange(count + 1), ids=np.arange(1, count + 1))
+    return geometries_in(text, name).apart()
 
 
 def geometries_in(text: bytes, name: str) -> Columns[Numbers]:
     """The geometries of a layer text or of a result, each a feature, as the program numbers
     them."""
+    plain = columns_in(text)
+    return geometries_by_tokens(text, name) if plain is None else plain
+
+
+def geometries_by_tokens(text: bytes, name: str) -> Columns[Numbers]:
+    """The same, of any text."""
     tokens = tokens_of(text)
     opening, closing = tokens.rings()
     steps = np.zeros(len(tokens.kinds) + 1, np.int8)

@@ -7,7 +7,7 @@ from dataclasses import dataclass, replace
 
 import numpy as np
 
-from .columns import Columns, Floats, Mask, Numbers, offsets
+from .columns import POINTS, Columns, Floats, Mask, Numbers, offsets
 from .frame import Frame
 
 # A ring of fewer points, the first one again at its end, covers nothing.
@@ -69,7 +69,9 @@ def closed(layer: Columns[Floats], rings: Mask) -> Columns[Floats]:
 
 def segments(layer: Columns[Numbers]) -> tuple[Numbers, Numbers]:
     """How far each segment goes to the right and up: none for a point with which a ring begins."""
-    across, up = np.diff(layer.x, prepend=0), np.diff(layer.y, prepend=0)
+    across, up = np.zeros_like(layer.x), np.zeros_like(layer.y)
+    np.subtract(layer.x[1:], layer.x[:-1], out=across[1:])
+    np.subtract(layer.y[1:], layer.y[:-1], out=up[1:])
     across[layer.firsts] = up[layer.firsts] = 0
     return across, up
 
@@ -83,10 +85,14 @@ def perimeters(layer: Columns[Numbers]) -> Floats:
 
 def moves_of(layer: Columns[Floats], grid: Columns[Numbers], frame: Frame) -> Moves:
     """How far the vertices of closed rings were moved to where they are on the grid."""
-    across, up = (axis.placed(at) for axis, at in zip(frame.axes, (grid.x, grid.y)))
-    across -= layer.x
-    up -= layer.y
-    ways = np.hypot(across, up, out=across)
+    ways = np.zeros_like(layer.x)
+    for at in range(0, len(ways), POINTS):
+        held = slice(at, at + POINTS)
+        across, up = (axis.placed(way[held]) for axis, way in zip(frame.axes, (grid.x, grid.y)))
+        across -= layer.x[held]
+        up -= layer.y[held]
+        if across.any() or up.any():
+            np.hypot(across, up, out=ways[held])
     ways[layer.firsts] = 0.0  # each ring's first point is there again
     moved = int(np.count_nonzero(ways))
     mean = float(ways.sum()) / moved if moved else 0.0

@@ -23,7 +23,7 @@ from typing import Callable
 
 import numpy as np
 
-from .columns import Floats, Mask, Numbers
+from .columns import POINTS, Floats, Mask, Numbers
 
 # 8 ε.
 SHARE = 2.0**-50
@@ -77,6 +77,12 @@ class Axis:
 
     def rounded(self, values: Floats) -> Numbers:
         """The whole numbers next to some numbers that the grid has room for."""
+        found = np.empty(len(values), np.int64)
+        for at in range(0, len(values), POINTS):
+            found[at : at + POINTS] = self.rounded_together(values[at : at + POINTS])
+        return found
+
+    def rounded_together(self, values: Floats) -> Numbers:
         guess, sure = self.estimate(values)
         doubtful = np.flatnonzero(~sure)
         guess[doubtful] = 0  # which may be more than a whole number holds

@@ -8,7 +8,7 @@ from typing import Any, Iterator, Sequence
 import numpy as np
 from osgeo import ogr
 
-from .columns import Columns, Numbers
+from .columns import Columns, Floats, Numbers
 from .fields import Kept
 from .frame import Frame
 from .output import Column, Table
@@ -25,10 +25,16 @@ def table_of(rows: Rows, held: Sequence[Kept], frame: Frame, by_parts: bool = Fa
     ids, values = values_of(rows, held)
     if by_parts:
         features = parts(rows.shapes, frame)
-        return Table(columns, ((shape, (*ids[k], area, *values[k])) for k, shape, area in features), ogr.wkbPolygon)
+        made = ((shape, (*ids[k], area, *values[k])) for k, shape, area in features)
+        return Table(columns, made, ogr.wkbPolygon, boxes_of(frame.boxes(rows.shapes.apart()), held))
     wholes = zip(shapes(rows.shapes, frame), ids, rows.twice.tolist(), values)
     made = ((shape, (*numbers, frame.area(twice), *kept)) for shape, numbers, twice, kept in wholes)
-    return Table(columns, made, ogr.wkbMultiPolygon)
+    return Table(columns, made, ogr.wkbMultiPolygon, boxes_of(frame.boxes(rows.shapes), held))
+
+
+def boxes_of(boxes: Floats, held: Sequence[Kept]) -> Floats | None:
+    """The same, if all values that are kept are numbers and texts."""
+    return boxes if all(layer.is_plain() for layer in held) else None
 
 
 def values_of(rows: Rows, held: Sequence[Kept]) -> tuple[list[tuple[Any, ...]], list[list[Any]]]:
@@ -42,14 +48,16 @@ def values_of(rows: Rows, held: Sequence[Kept]) -> tuple[list[tuple[Any, ...]], 
 
 def shapes(polygons: Columns[Numbers], frame: Frame) -> Iterator[bytes]:
     """The polygons of each feature as one shape."""
-    made = encoded(frame.off_grid(polygons))
-    for count in np.diff(polygons.features).tolist():
-        yield collected([next(made) for _ in range(count)], as_many=True)
+    for block in polygons.blocks():
+        made = encoded(frame.off_grid(block))
+        for count in np.diff(block.features).tolist():
+            yield collected([next(made) for _ in range(count)], as_many=True)
 
 
 def parts(polygons: Columns[Numbers], frame: Frame) -> Iterator[tuple[int, bytes, float]]:
     """The place of each polygon's feature, the polygon, and its area."""
     owners = np.repeat(np.arange(len(polygons.ids)), np.diff(polygons.features)).tolist()
-    for owner, polygon, twice in zip(owners, encoded(frame.off_grid(polygons)), polygons.twice_areas()):
+    made = chain.from_iterable(encoded(frame.off_grid(block)) for block in polygons.blocks())
+    for owner, polygon, twice in zip(owners, made, polygons.twice_areas()):
         yield owner, polygon, frame.area(twice)
 

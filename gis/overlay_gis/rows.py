@@ -7,20 +7,23 @@ that the rest is a text of polygons.
 
 from __future__ import annotations
 
-import re
-from dataclasses import dataclass
+from dataclasses import dataclass, replace
+from typing import Sequence
 
 import numpy as np
 
-from .columns import Bytes, Columns, Mask, Numbers, offsets
+from .columns import Bytes, Columns, Mask, Numbers, chained, offsets
 from .faults import Refusal
 from .parsing import DIGITS, NEW_LINE, geometries_in
 
-TAB, COMMA, SPACE = b"\t, "
+TAB, COMMA, SPACE, ZERO = b"\t, 0"
 POLYGONS = b"M"[0]  # with which each row's polygons begin
 
 # Digits of twice an area, which is at most 2^59.
 AREA = 18
+
+# How many rows' polygons are read at a time.
+ROWS = 1 << 12
 
 PLAIN = bytes.maketrans(b"\t,", b"  ")
 
@@ -76,29 +79,32 @@ class Rows:
         return sum(self.twice[kept].tolist())
 
 
-def heads_of(layers: int) -> re.Pattern[bytes]:
-    """What stands before the polygons of all rows."""
-    numbers = rb"(?:\d{1,%d}(?:,\d{1,%d})*)?\t" % (DIGITS, DIGITS)
-    return re.compile(rb"(?:\d{1,%d}\t(?:%b){%d})*" % (AREA, numbers, layers))
-
-
-def inside(starts: Numbers, ends: Numbers, length: int) -> Mask:
-    """Which of so many bytes lie in stretches that don't meet."""
-    steps = np.zeros(length + 1, np.int8)
-    steps[starts], steps[ends] = 1, -1
-    return np.cumsum(steps[:-1], dtype=np.int8).astype(bool)
-
-
 def lines_of(signs: Bytes, layers: int) -> tuple[Numbers, Numbers] | None:
     """Where the lines of a text begin, and where their polygons do; nothing where it isn't made of
     lines of so many fields."""
-    ends, tabs = np.flatnonzero(signs == NEW_LINE), np.flatnonzero(signs == TAB)
+    marks = np.flatnonzero(signs < SPACE)
+    kinds = signs[marks]
+    ends, tabs = marks[kinds == NEW_LINE], marks[kinds == TAB]
     starts = np.append(0, ends + 1)
     if starts[-1] != len(signs) or len(tabs) != len(ends) * (layers + 1):
         return None
     polygons = tabs.reshape(-1, layers + 1)[:, -1] + 1
     own = np.searchsorted(ends, tabs) == np.repeat(np.arange(len(ends)), layers + 1)
     return (starts[:-1], polygons) if own.all() and (signs[polygons] == POLYGONS).all() else None
+
+
+def are_heads(heads: bytes, layers: int) -> bool:
+    """Whether what stands before the polygons of all rows is an area and lists of features, with a
+    tab behind each."""
+    signs = np.frombuffer(heads, np.uint8)
+    marks = np.flatnonzero(signs - np.uint8(ZERO) >= 10)  # a byte below 0 comes out as one above 9
+    kinds, digits = signs[marks], np.diff(marks, prepend=-1) - 1
+    tabs = kinds == TAB
+    field = (np.cumsum(tabs) - tabs) % (layers + 1)
+    alone = tabs & np.append(True, tabs)[:-1]  # a list of no feature may have no digit
+    known = tabs | (kinds == COMMA) & (field > 0)
+    sized = (digits <= np.where(field > 0, DIGITS, AREA)) & ((digits > 0) | alone & (field > 0))
+    return bool((known & sized).all())
 
 
 def fields_of(heads: bytes, layers: int) -> tuple[Numbers, list[Members]]:
@@ -120,13 +126,24 @@ def rows_in(text: bytes, layers: int, name: str) -> Rows:
     lines = lines_of(signs, layers)
     if lines is None:
         raise Refusal(name, "has a line that is no row of faces")
-    held = inside(*lines, len(signs))
-    heads = signs[held].tobytes()
-    if not heads_of(layers).fullmatch(heads):
+    starts, polygons = lines
+    heads = b"".join([text[at:end] for at, end in zip(starts.tolist(), polygons.tolist())])
+    if not are_heads(heads, layers):
         raise Refusal(
             name, "has a row without an area, or with other numbers than those of features"
         )
-    shapes = geometries_in(np.where(held, np.uint8(SPACE), signs).tobytes(), name)
-    if len(shapes.ids) != len(lines[0]):
+    shapes = shapes_of(text, polygons.tolist(), np.append(starts[1:], len(text)).tolist(), name)
+    if len(shapes.ids) != len(starts):
         raise Refusal(name, "has a line that is no row of faces")
     return Rows(*fields_of(heads, layers), shapes)
+
+
+def shapes_of(text: bytes, starts: Sequence[int], ends: Sequence[int], name: str) -> Columns[Numbers]:
+    """The polygons of rows, of which these are the stretches of a text; those of some rows at a
+    time, so that what they take by the way is little."""
+    parts = []
+    for at in range(0, max(len(starts), 1), ROWS):
+        stretches = zip(starts[at : at + ROWS], ends[at : at + ROWS])
+        parts.append(geometries_in(b"".join([text[start:end] for start, end in stretches]), name))
+    found = chained(parts)
+    return replace(found, ids=np.arange(1, len(found.features)))

@@ -5,7 +5,7 @@ from __future__ import annotations
 from argparse import ArgumentParser, Namespace
 from functools import reduce
 from operator import and_, or_, xor
-from typing import Callable, Iterator
+from typing import Callable
 
 from osgeo import ogr
 
@@ -14,15 +14,13 @@ from .changes import tell_change, tell_moves
 from .columns import Columns, Mask, Numbers
 from .common_grid import CommonGrid, brought_together
 from .destination import destination
-from .faces import NAMES
-from .fields import kept
+from .fields import NAMES, kept
 from .frame import Frame
 from .layers import Source
 from .messages import say
-from .output import Column, Row, Table
+from .output import Column, Table
 from .wkb import encoded
 
-HELP = "does one set operation on two layers"
 EXAMPLE = "overlay-gis run intersection parcels.gpkg zones.gpkg -o common.gpkg"
 
 COLUMNS = [Column("id", ogr.OFTInteger64), Column("area", ogr.OFTReal)]
@@ -51,11 +49,11 @@ def add_arguments(parser: ArgumentParser) -> None:
     options.add_segments(parser)
 
 
-def rows(result: Columns[Numbers], frame: Frame) -> Iterator[Row]:
+def table_of(result: Columns[Numbers], frame: Frame) -> Table:
     """The polygons of a result on the grid, each with its number and its area."""
     polygons = zip(encoded(frame.off_grid(result)), result.twice_areas())
-    for number, (polygon, twice) in enumerate(polygons, 1):
-        yield polygon, (number, frame.area(twice))
+    rows = ((polygon, (number, frame.area(twice))) for number, (polygon, twice) in enumerate(polygons, 1))
+    return Table(COLUMNS, rows, ogr.wkbPolygon, frame.boxes(result))
 
 
 def answer(both: CommonGrid, operation: str, covered: bool) -> Columns[Numbers]:
@@ -93,7 +91,7 @@ def main(arguments: Namespace) -> int:
             table = with_fields(both, arguments.operation, asked)
         else:
             result = answer(both, arguments.operation, arguments.dissolve)
-            table = Table(COLUMNS, rows(result, both.frame))
+            table = table_of(result, both.frame)
         (count,) = place.write(both.system, table)
     say(f"{arguments.out}: {count:,} {'rows' if any(asked) else 'polygons'}")
     return 0

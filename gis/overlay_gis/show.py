@@ -15,7 +15,6 @@ from .parsing import Edge, edge_rows, edges, polygons_in
 from .texts import EDGES, LAYERS, checked, kind_of, text_of
 from .whole import draft, target_of
 
-HELP = "draws layers, edges texts and results of the grid over one another"
 EXAMPLE = "overlay edges a.wkt b.wkt | overlay-gis show a.wkt b.wkt - -o rounding.svg"
 
 COLOURS = ("#2f6db5", "#c8642a", "#7d4aa8", "#3c8d4e", "#8a6d1f")

@@ -9,16 +9,33 @@ from typing import BinaryIO, Iterator
 
 import numpy as np
 
-from .columns import Columns, Numbers, offsets
-from .digits import BEHIND, points_text
+from .columns import Columns, Numbers
+from .digits import WORD, points_text, word_of
 from .faults import Fault, Refusal
 
 LAYERS, EDGES, RESULT = "layer", "edges", "result"
 
-# How many points are brought to text at a time.
-POINTS = 1 << 16
+# How many features, and how many points of them, are brought to text at a time.
+FEATURES, POINTS = 1 << 13, 1 << 16
 
 BYTE_ORDER_MARK = b"\xef\xbb\xbf"
+
+EMPTY = b"POLYGON EMPTY\n"
+
+# A feature of one polygon, one of several, and none; what stands before the points of either, and
+# behind their last bracket.
+ONE, MANY, NONE = range(3)
+OPENINGS = (b"POLYGON ((", b"MULTIPOLYGON (((", b"")
+CLOSINGS = (b")\n", b"))\n")
+
+# What stands behind a ring's bracket: before the polygon's next ring, before the feature's next
+# polygon, and at the end of a feature, of either kind, before a feature of each kind or none. In the
+# meantime there is a letter for it.
+BEHIND = [b", (", b"), ((", *(closing + opening for closing in CLOSINGS for opening in OPENINGS)]
+RING, POLYGON = 0, 1
+FEATURES_BEHIND = np.arange(2, len(BEHIND)).reshape(len(CLOSINGS), len(OPENINGS))
+LETTERS = b"abcdefgh"
+WORDS = np.array([word_of(bytes([ord(")"), letter])) for letter in LETTERS], WORD)
 
 
 def text_of(path: str) -> bytes:
@@ -53,26 +70,34 @@ def kind_of(text: bytes) -> str:
 def write_polygons(out: BinaryIO, layer: Columns[Numbers]) -> None:
     """Writes the polygons of each feature, which are in grid units, as a line of a layer text, so
     that the program numbers features as they stand here."""
-    out.writelines(lines_of(layer))
+    for block in layer.blocks(FEATURES):
+        for part in in_runs(block):
+            out.writelines(lines_of(part) if len(part.x) else [EMPTY] * len(part.ids))
+
+
+def in_runs(layer: Columns[Numbers]) -> Iterator[Columns[Numbers]]:
+    """The same features: by turns some that have polygons, and some that have none."""
+    empty = np.diff(layer.features) == 0
+    if not empty.any():
+        yield layer
+        return
+    changes = np.flatnonzero(empty[1:] != empty[:-1]) + 1
+    for at, end in pairwise([0, *changes.tolist(), len(empty)]):
+        yield layer.part(at, end)
 
 
 def lines_of(layer: Columns[Numbers]) -> Iterator[bytes]:
-    rings = rings_of(layer)
-    held = [b"((" + b"), (".join(rings[at:end]) + b"))" for at, end in pairwise(layer.polygons.tolist())]
-    for at, end in pairwise(layer.features.tolist()):
-        if end - at > 1:
-            yield b"MULTIPOLYGON (" + b", ".join(held[at:end]) + b")\n"
-        elif end > at:
-            yield b"POLYGON " + held[at] + b"\n"
-        else:
-            yield b"POLYGON EMPTY\n"
-
-
-def rings_of(layer: Columns[Numbers]) -> list[bytes]:
-    """The points of each ring as text."""
+    """The lines of features that all have polygons: the points of all rings, with a letter behind
+    each ring, in the place of which what stands behind the ring is put then."""
+    kinds = np.where(np.diff(layer.features) > 1, MANY, ONE)
+    letters = np.full(len(layer.rings) - 1, RING)
+    letters[layer.polygons[1:] - 1] = POLYGON
+    letters[layer.polygons[layer.features[1:]] - 1] = FEATURES_BEHIND[kinds, np.append(kinds[1:], NONE)]
+    behind = np.full(len(layer.x), word_of(b", "), WORD)
+    behind[layer.rings[1:] - 1] = WORDS[letters]
     blocks = [slice(at, at + POINTS) for at in range(0, len(layer.x), POINTS)]
-    parts = [points_text(layer.x[block], layer.y[block]) for block in blocks]
-    text = b"".join(text.tobytes() for text, _ in parts)
-    starts = offsets(np.concatenate([layer.ids[:0], *(lengths for _, lengths in parts)]))
-    behind = len(BEHIND[-1])
-    return [text[at : end - behind] for at, end in pairwise(starts[layer.rings].tolist())]
+    text = b"".join([points_text(layer.x[block], layer.y[block], behind[block]) for block in blocks])
+    for letter in np.unique(letters).tolist():
+        text = text.replace(LETTERS[letter : letter + 1], BEHIND[letter])
+    yield OPENINGS[kinds[0]]
+    yield text

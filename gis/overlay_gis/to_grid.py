@@ -22,7 +22,6 @@ from .systems import system_from, system_name
 from .texts import write_polygons
 from .whole import draft, target_of
 
-HELP = "writes layers as texts on the integer grid, with a frame that leads back"
 EXAMPLE = (
     "overlay-gis to-grid parcels.gpkg zones.gpkg -o grid    # grid/parcels.wkt, grid/zones.wkt,"
     " grid/frame.json"

@@ -187,8 +187,11 @@ class Decoder:
 
     def taken(self, starts: Numbers, points: Numbers, forms: Numbers) -> tuple[Floats, Floats]:
         """x and y of the points of all rings."""
+        found = np.unique(forms)
+        if len(found) == 1:
+            return coordinates(self.data, starts, points, FORMS[found[0]])
         x, y = np.empty(points.sum()), np.empty(points.sum())
-        for form in np.unique(forms):
+        for form in found:
             rings = forms == form
             held = np.repeat(rings, points)
             x[held], y[held] = coordinates(self.data, starts[rings], points[rings], FORMS[form])
@@ -197,15 +200,14 @@ class Decoder:
 
 def encoded(polygons: Columns[Floats]) -> Iterator[bytes]:
     """Each polygon of some columns in WKB."""
-    held = np.empty((len(polygons.x), 2))
-    held[:, 0], held[:, 1] = polygons.x, polygons.y
-    points, width = memoryview(held.tobytes()), 2 * WIDTH
-    count = NUMBERS[LITTLE_ENDIAN].pack
-    rings = [
-        count(end - at) + points[at * width : end * width] for at, end in pairwise(polygons.rings.tolist())
-    ]
-    for at, end in pairwise(polygons.polygons.tolist()):
-        yield POLYGON_HEAD + count(end - at) + b"".join(rings[at:end])
+    points = np.empty((len(polygons.x), 2), "<f8")
+    points[:, 0], points[:, 1] = polygons.x, polygons.y
+    # the number of points of each ring before these
+    words = np.insert(points.view("<u4").ravel(), 4 * polygons.firsts, polygons.lengths)
+    places = (4 * (4 * polygons.rings + np.arange(len(polygons.rings))))[polygons.polygons]
+    rings, count = memoryview(words.tobytes()), NUMBERS[LITTLE_ENDIAN].pack
+    for held, (at, end) in zip(np.diff(polygons.polygons).tolist(), pairwise(places.tolist())):
+        yield b"".join((POLYGON_HEAD, count(held), rings[at:end]))
 
 
 def collected(polygons: Sequence[bytes], as_many: bool = False) -> bytes:

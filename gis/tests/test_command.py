@@ -21,6 +21,7 @@ PAGE = (TOP / "docs" / "overlay.1").read_text().replace("\\-", "-")
 
 def options_of(verb):
     told = cli.parser()._subparsers._group_actions[0].choices[verb]
+    told.learn(cli.verb_of(verb))
     return {word for action in told._actions for word in action.option_strings if word.startswith("--")}
 
 

@@ -12,7 +12,7 @@ from osgeo import gdal, ogr, osr
 from shapely.geometry import box
 
 from conftest import EAST, NORTH, write
-from overlay_gis import calls, cli, database, faults, gdal_errors, gdal_state, layers, output, texts
+from overlay_gis import calls, cli, database, faults, gdal_errors, gdal_state, layers, output, run, texts
 from overlay_gis.systems import system_from
 
 TOP = Path(__file__).resolve().parents[1]
@@ -111,7 +111,19 @@ def failing(error):
 
 # Where something that isn't GDAL's fails while GDAL is at work: in the verb, on features that are
 # read, and on those that are written.
-PLACES = [(cli.VERBS["run"], "answer"), (texts, "points_text"), (layers.wkb, "Decoder"), (output, "add"), (output.Output, "opened")]
+PLACES = [
+    (run, "answer"),
+    (texts, "points_text"),
+    (layers.wkb, "Decoder"),
+    (output, "add"),
+    (output, "filled"),
+    (output.Output, "opened"),
+]
+
+
+def words_for(name):
+    """The command that comes to a place: only what is no GeoPackage is written row by row."""
+    return (*WORDS[:-1], "out.shp" if name == "add" else "out.gpkg")
 
 
 @pytest.mark.parametrize("owner, name", PLACES, ids=lambda value: value if isinstance(value, str) else None)
@@ -120,14 +132,14 @@ def test_an_error_of_another_is_not_told_as_one_of_gdal(maps, program, monkeypat
     error = kind("not of GDAL")
     monkeypatch.setattr(owner, name, failing(error))
     with pytest.raises(kind) as raised:
-        calls.call(WORDS)
-    assert raised.value is error and not Path("out.gpkg").exists()
+        calls.call(words_for(name))
+    assert raised.value is error and not list(Path().glob("out.*"))
 
 
 @pytest.mark.parametrize("owner, name", PLACES, ids=lambda value: value if isinstance(value, str) else None)
 def test_memory_that_is_not_there_is_told_as_such(gis, maps, program, monkeypatch, owner, name):
     monkeypatch.setattr(owner, name, failing(MemoryError))
-    answer = gis(*WORDS)
+    answer = gis(*words_for(name))
     assert (answer.status, answer.err.splitlines()[-1]) == (1, "overlay-gis: out of memory")
     assert all(line.startswith("overlay-gis: ") for line in answer.err.splitlines())
 
@@ -191,6 +203,6 @@ def test_an_error_of_gdal_is_told_in_its_words():
 
 
 def test_what_no_file_is_blamed_for_is_told_as_gdals(gis, maps, monkeypatch):
-    monkeypatch.setattr(cli.VERBS["run"], "brought_together", lambda *_: ogr.CreateGeometryFromWkb(b"\1"))
+    monkeypatch.setattr(run, "brought_together", lambda *_: ogr.CreateGeometryFromWkb(b"\1"))
     answer = gis(*WORDS)
     assert answer.status == 1 and answer.err.startswith("overlay-gis: GDAL: ") and answer.err.count("\n") == 1

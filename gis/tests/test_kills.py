@@ -13,17 +13,19 @@ from osgeo import gdal
 from shapely.geometry import box
 
 from conftest import COMMAND, EAST, NORTH, Answer, numbers_in, read, running, write
-from overlay_gis import cli, gdal_state, output, whole
+from overlay_gis import cli, gdal_state, geopackage, output, whole
 
 FORMATS = ["gpkg", "shp", "geojson", "fgb"]
 SIGNALS = [signal.SIGKILL, signal.SIGTERM, signal.SIGINT]
 OLD = box(EAST + 50, NORTH, EAST + 51, NORTH + 1)
 
-# Where a command is stopped while it writes, each a call and whether that is before it: before and
-# behind the first feature, once the file is closed, and when all is on disk.
-BEGUN, ADDED, CLOSED, ON_DISK = (
+# Where a command is stopped while it writes, each a call and whether that is before it: before the
+# first feature; behind it, or in a GeoPackage behind all of them, before their index is made; once
+# the file is closed, and when all is on disk.
+BEGUN, ADDED, FILLED, CLOSED, ON_DISK = (
     (output.Output, "begin", False),
     (output.Output, "add", False),
+    (geopackage, "enter", True),
     (output.Output, "close", False),
     (whole, "go_on", True),
 )
@@ -84,6 +86,7 @@ def parts(name):
 def test_a_kill_while_it_writes(stopped, tmp_path, ending, place, number):
     a, b = layers(tmp_path)
     out = f"out.{ending}"
+    place = FILLED if (place, ending) == (ADDED, "gpkg") else place
     answer = stopped(place, number, "run", "difference", a, b, "-o", out)
     assert not list(tmp_path.glob("out*")), answer.err
     write(tmp_path / out, [OLD])
@@ -133,7 +136,7 @@ def test_a_step_that_fails_puts_all_parts_back(gis, tmp_path, monkeypatch):
     assert {path.name: path.read_bytes() for path in tmp_path.glob("out.*")} == old
 
 
-@pytest.mark.parametrize("place", [ADDED, ON_DISK], ids=lambda place: place[1])
+@pytest.mark.parametrize("place", [FILLED, ON_DISK], ids=lambda place: place[1])
 @pytest.mark.parametrize("words", [("check", "a.gpkg"), ("faces", "a.gpkg", "b.gpkg")], ids=lambda words: words[0])
 def test_a_kill_of_other_verbs(stopped, tmp_path, words, place):
     layers(tmp_path)
@@ -162,7 +165,7 @@ def test_a_kill_of_texts(stopped, tmp_path):
 def test_signals_that_are_ignored_stay_so(stopped, monkeypatch, tmp_path):
     a, b = layers(tmp_path)
     monkeypatch.setattr(signal, "default_int_handler", signal.SIG_IGN)
-    assert stopped(ADDED, signal.SIGINT, "run", "difference", a, b, "-o", "out.gpkg").status == 0
+    assert stopped(FILLED, signal.SIGINT, "run", "difference", a, b, "-o", "out.gpkg").status == 0
     assert len(read("out.gpkg")) == 9
 
 

@@ -12,7 +12,7 @@ from shapely.geometry import box
 
 from conftest import EAST, NORTH, read, write
 from overlay_gis import package
-from test_kills import ADDED, BEGUN, CLOSED, ON_DISK, stopped  # noqa: F401 a fixture
+from test_kills import BEGUN, CLOSED, FILLED, ON_DISK, stopped  # noqa: F401 a fixture
 
 SQUARE, OTHER = box(EAST, NORTH, EAST + 10, NORTH + 10), box(EAST + 5, NORTH, EAST + 15, NORTH + 10)
 
@@ -141,7 +141,7 @@ def test_a_change_meanwhile_is_not_lost(gis, plan, monkeypatch):
 
 
 @pytest.mark.parametrize("number", [signal.SIGKILL, signal.SIGTERM], ids=lambda number: number.name)
-@pytest.mark.parametrize("place", [BEGUN, ADDED, CLOSED, ON_DISK], ids=lambda place: place[1])
+@pytest.mark.parametrize("place", [BEGUN, FILLED, CLOSED, ON_DISK], ids=lambda place: place[1])
 def test_a_kill_leaves_the_file_as_it_was(stopped, plan, place, number):  # noqa: F811
     before = Path(plan).read_bytes()
     answer = stopped(place, number, *WORDS, "--layer", "both", "--append")

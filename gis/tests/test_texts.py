@@ -10,7 +10,7 @@ from itertools import pairwise
 import numpy as np
 import pytest
 
-from overlay_gis import digits, parsing, rows, texts
+from overlay_gis import digits, parsing, plain_texts, rows, texts
 from overlay_gis.columns import Columns, chained, of_polygons, offsets
 from overlay_gis.faults import Refusal
 
@@ -54,6 +54,7 @@ def written(layer):
 @pytest.mark.parametrize("reach", [3, 1000, 10**7 - 1, 10**7, LIMIT])
 def test_a_layer_is_written_as_its_lines(monkeypatch, block, reach):
     monkeypatch.setattr(texts, "POINTS", block)
+    monkeypatch.setattr(texts, "FEATURES", block)
     features = features_of(random.Random(reach + block), 60, reach)
     assert written(columns_of(features)).decode() == "".join(map(line_of, features))
 
@@ -68,9 +69,9 @@ def test_numbers_of_all_lengths(top):
     rng = random.Random(top)
     held = [number for number in EDGES if abs(number) <= top] + [rng.randint(-top, top) for _ in range(3001)]
     x, y = np.array(held), np.array(held[::-1])
-    text, lengths = digits.points_text(x, y)
-    wanted = [f"{a} {b}, ".encode() for a, b in zip(held, held[::-1])]
-    assert text.tobytes() == b"".join(wanted) and lengths.tolist() == list(map(len, wanted))
+    behind = [rng.choice([b", ", b"rr", b")\n"]) for _ in held]
+    text = digits.points_text(x, y, np.array(list(map(digits.word_of, behind)), np.uint32))
+    assert text == b"".join(f"{a} {b}".encode() + end for a, b, end in zip(held, held[::-1], behind))
 
 
 def test_writing_takes_at_most_four_times_the_text():
@@ -130,6 +131,7 @@ SOUND = [
     "MULTIPOLYGON EMPTY\n",
     "MultiPolygon\t( ((-0 -999999999,1 0,0 1,0 0)) , ((5 5 , 6 5,5 6,5 5)) )",
 ]
+PLAIN_SIGNS = ["", " ", "  ", ",", ", ", ",  ", "(", ")", "((", "))", "), (", ")), ((", "-", "0", "7", "1 2", "\n", "N", "EMPTY", "1234567890", "é"]
 SIGNS = [*"() ,-0123456789.+_xPOLYGNMUTIE\n\t", "EMPTY", "POLYGON", "((", "))", "1 2", "1234567890", "é"]
 
 
@@ -254,3 +256,54 @@ def test_columns_are_cut_and_joined_as_lists_are(seed):
     cut = [[[ring for ring in polygon if next(rings)] for polygon in polygons] for polygons in features]
     assert layer.of_rings(np.array(wanted, bool)).lists() == [[p for p in polygons if p] for polygons in cut]
     assert chained([layer, layer.of_features(kept)]).lists() == features + layer.of_features(kept).lists()
+
+
+@pytest.mark.parametrize("seed", range(4))
+def test_plain_texts_are_read_as_all_are(seed):
+    """Texts as the program writes them, and such with a few signs changed: they are taken for plain
+    only if all of the grammar reads the same from them."""
+    rng, plain = random.Random(100 + seed), 0
+    for _ in range(4000):
+        features = features_of(rng, rng.randrange(1, 3), rng.choice([3, LIMIT]))
+        text = "".join(line_of(held) for held in features if held)
+        for _ in range(rng.choice([0, 1, 1, 2, 2, 3])):
+            at = rng.randrange(len(text) + 1)
+            text = text[:at] + rng.choice(PLAIN_SIGNS) + text[at + rng.choice([0, 0, 1, 1, 2, 3]) :]
+        found = plain_texts.columns_in(text.encode())
+        if found is None:
+            continue
+        plain += 1
+        wanted = parsing.geometries_by_tokens(text.encode(), "t")
+        for one, other in zip(vars(found).values(), vars(wanted).values()):
+            assert one.tolist() == other.tolist(), text
+    assert 500 < plain < 3000
+
+
+@pytest.mark.parametrize(
+    "text",
+    [
+        "POLYGON ((1 2 3, 4, 5 6))\n",
+        "POLYGON ((1 2,3 4 5 6))\n",
+        "POLYGON ((,1 2 3 4))\n",
+        "POLYGON (( 2, 3 4-5))\n",
+        "POLYGON (( 2, 3 4))5\n",
+        "5POLYGON (( 2, 3 4))\n",
+        "POLY5GON (( 2, 3 4))\n",
+        "POLYGON 5(( 2, 3 4))\n",
+        "POLYGON (( 2), (3 4), 5(6 7))\n",
+        "1 2, POLYGON (( , 3 4))\n",
+        "POLYGON ((1 -, 3 45))\n",
+        "POLYGON ((1 2, 3 4))\n-",
+        "POLYGON ((1 2, 3 4))",
+        "POLYGON ((01 2, 3 4))\n",
+        "POLYGON ((-0 2, 3 4))\n",
+        "POLYGON ((1000000000 2, 3 4))\n",
+        "POLYGON EMPTY\n",
+        "MULTIPOLYGON ((1 2, 3 4))\n",
+        "POLYGON (((1 2, 3 4)))\n",
+        "POLYGON ((1 2, 3 4))\n\n",
+        "POLYGON ((1 2, 3 4)) POLYGON ((1 2, 3 4))\n",
+    ],
+)
+def test_texts_that_are_not_plain(text):
+    assert plain_texts.columns_in(text.encode()) is None

@@ -1,0 +1,198 @@
+"""Rows that SQLite puts into a GeoPackage: the file is as GDAL would have written it, and its index
+is sound."""
+
+import sqlite3
+from contextlib import closing
+
+import numpy as np
+import pytest
+from osgeo import gdal, ogr
+from shapely.geometry import MultiPolygon, box
+
+from conftest import EAST, NORTH, parcels, write
+from overlay_gis import geopackage, output, rtree
+from overlay_gis.faults import Fault
+
+NODES = ("node", "rowid", "parent")
+
+
+def contents(path):
+    """All tables of a GeoPackage but for the nodes of indexes, with the types of all values; what
+    its schema tells; and what SQLite finds wrong."""
+    with closing(sqlite3.connect(path)) as held:
+        schema = sorted(held.execute("select type, name, sql from sqlite_master where sql is not null").fetchall())
+        tables = [name for kind, name, _ in schema if kind == "table"]
+        indexes = [name for name in tables if name.startswith("rtree_") and not name.endswith(NODES)]
+        found = {"schema": schema, "wrong": held.execute("pragma integrity_check").fetchall()}
+        for name in tables:
+            if name.startswith("rtree_") and name not in indexes:
+                continue
+            columns = [row[1] for row in held.execute(f"pragma table_info({geopackage.quoted(name)})") if row[1] != "last_change"]
+            asked = ", ".join(map(geopackage.quoted, columns))
+            rows = held.execute(f"select {asked} from {geopackage.quoted(name)} order by 1").fetchall()
+            # GDAL tells the extent of a layer by SQLite's own decimals, which are off in the last ones
+            shown = float_shown if name == "gpkg_contents" else lambda value: value
+            found[name] = [tuple((type(value), shown(value)) for value in row) for row in rows]
+        for name in indexes:
+            assert held.execute("select rtreecheck(?)", (name,)).fetchone() == ("ok",)
+        return found
+
+
+def float_shown(value):
+    return f"{value:.14g}" if isinstance(value, float) else value
+
+
+@pytest.fixture
+def both_ways(gis):
+    """Runs a command by SQLite and by GDAL alone, and answers what either file has, and how often
+    SQLite filled a layer."""
+
+    def run(out, *words):
+        filled, calls = output.filled, []
+        with pytest.MonkeyPatch.context() as changed:
+            changed.setattr(output, "filled", lambda *held: calls.append(held) or filled(*held))
+            assert gis(*words, "-o", out, "--overwrite").status in (0, 4)
+        ours = contents(out)
+        with pytest.MonkeyPatch.context() as changed:
+            changed.setattr(output.Output, "takes_all_at_once", lambda *_: False)
+            assert gis(*words, "-o", out, "--overwrite").status in (0, 4)
+        return ours, contents(out), len(calls)
+
+    return run
+
+
+FIELDS = {"owner": ["é\"'", "", "b", "c"], "number": [2**62, -1, 0, 7], "share": [0.1, -1e300, 2.0, float("inf")]}
+COMMANDS = [
+    ("run", "union", "a.gpkg", "b.gpkg"),
+    ("run", "union", "a.gpkg", "b.gpkg", "--keep-a", "owner,number,share"),
+    ("faces", "a.gpkg", "b.gpkg", "--keep-a", "owner,number,share"),
+    ("faces", "a.gpkg", "b.gpkg", "--parts"),
+    ("faces", "a.gpkg", "b.gpkg", "--by", "owner"),
+    ("faces", "a.gpkg", "b.gpkg", "--pairs", "out.gpkg"),
+    ("dissolve", "a.gpkg"),
+    ("dissolve", "a.gpkg", "--by", "owner,share", "--parts"),
+    ("dissolve", "a.gpkg", "--by", "number"),
+    ("check", "a.gpkg"),
+    ("run", "intersection", "a.gpkg", "far.gpkg"),
+]
+
+
+@pytest.mark.parametrize("words", COMMANDS, ids=lambda words: "-".join(word.strip("-") for word in words))
+@pytest.mark.parametrize("srs", ["EPSG:25832", None, "EPSG:4326"])
+def test_a_file_is_as_gdal_writes_it(both_ways, program, tmp_path, words, srs):
+    """Also where a feature covers nothing."""
+    x, y = (7, 51) if srs == "EPSG:4326" else (EAST, NORTH)
+    shapes = [box(x, y, x + 2, y + 2), box(x + 1, y, x + 3, y + 2), MultiPolygon([box(x + k, y + 5, x + k + 1, y + 6) for k in (0, 4)]), None]
+    write(tmp_path / "a.gpkg", shapes, srs, FIELDS)
+    write(tmp_path / "b.gpkg", [box(x + 1, y + 1, x + 9, y + 9)], srs)
+    write(tmp_path / "far.gpkg", [box(x + 20, y, x + 21, y + 1)], srs)
+    ours, gdals, count = both_ways('out "1".gpkg' if "--pairs" not in words else "out.gpkg", *words)
+    assert ours == gdals and count == (2 if "--pairs" in words else 1)
+    assert ours["wrong"] == [("ok",)]
+
+
+def test_many_rows_are_as_gdal_writes_them(both_ways, program, tmp_path):
+    write(tmp_path / "a.gpkg", parcels(1, 3, 60))
+    ours, gdals, _ = both_ways("out.gpkg", "faces", "a.gpkg")
+    assert ours == gdals and len(ours["rtree_out_geom"]) > 3600
+
+
+@pytest.mark.parametrize("page", [1024, 65536])
+def test_a_layer_beside_others(gis, program, tmp_path, page):
+    """Also where the file's pages aren't those that GDAL would make."""
+    write(tmp_path / "a.gpkg", parcels(1, 3, 12))
+    with closing(sqlite3.connect("a.gpkg", isolation_level=None)) as held:
+        held.execute("pragma journal_mode = delete")
+        held.execute(f"pragma page_size = {page}")
+        held.execute("vacuum")
+    before = contents("a.gpkg")
+    assert gis("faces", "a.gpkg", "-o", "a.gpkg", "--layer", "rows", "--append").status == 0
+    found = contents("a.gpkg")
+    assert found["a"] == before["a"] and len(found["rows"]) == len(found["rtree_rows_geom"]) > 144
+
+
+def kept(tmp_path, kind, subtype, value):
+    """A layer of one feature with a value of that type."""
+    dataset = gdal.GetDriverByName("GPKG").Create(str(tmp_path / "a.gpkg"), 0, 0, 0, gdal.GDT_Unknown)
+    layer = dataset.CreateLayer("a", None, ogr.wkbPolygon)
+    field = ogr.FieldDefn("kept", kind)
+    field.SetSubType(subtype)
+    layer.CreateField(field)
+    feature = ogr.Feature(layer.GetLayerDefn())
+    feature.SetGeometry(ogr.CreateGeometryFromWkb(box(0, 0, 1, 1).wkb))
+    if value is not None:
+        feature.SetField("kept", value)
+    layer.CreateFeature(feature)
+
+
+@pytest.mark.parametrize(
+    "kind, subtype, value, all_at_once",
+    [
+        (ogr.OFTString, ogr.OFSTNone, "x", True),
+        (ogr.OFTInteger, ogr.OFSTNone, 7, True),
+        (ogr.OFTReal, ogr.OFSTNone, None, True),
+        (ogr.OFTInteger, ogr.OFSTBoolean, 1, False),
+        (ogr.OFTReal, ogr.OFSTFloat32, 0.1, False),
+        (ogr.OFTString, ogr.OFSTJSON, "{}", False),
+        (ogr.OFTDate, ogr.OFSTNone, "2026/11/27", False),
+        (ogr.OFTDateTime, ogr.OFSTNone, "2026/11/27 10:11:12+01", False),
+    ],
+)
+def test_values_that_are_no_numbers_or_texts_are_left_to_gdal(both_ways, program, tmp_path, kind, subtype, value, all_at_once):
+    kept(tmp_path, kind, subtype, value)
+    for words in (("faces", "a.gpkg", "--keep-a", "kept"), ("dissolve", "a.gpkg", "--by", "kept")):
+        ours, gdals, count = both_ways("out.gpkg", *words)
+        assert ours == gdals and count == all_at_once
+
+
+def test_texts_in_no_known_encoding_are_left_to_gdal(gis, program, tmp_path):
+    kept(tmp_path, ogr.OFTString, ogr.OFSTNone, "x")
+    with closing(sqlite3.connect("a.gpkg")) as held, held:
+        for (name,) in held.execute("select name from sqlite_master where type = 'trigger' and tbl_name = 'a'").fetchall():
+            held.execute(f"drop trigger {name}")
+        held.execute("update a set kept = cast(x'62fc' as text)")
+    answer = gis("faces", "a.gpkg", "-o", "out.gpkg", "--keep-a", "kept")
+    assert answer.status == 1 and answer.err.splitlines()[-1].startswith("overlay-gis: out.gpkg: ")
+    assert not list(tmp_path.glob("*out*"))
+
+
+def test_what_sqlite_says_is_told(gis, program, tmp_path, monkeypatch):
+    write(tmp_path / "a.gpkg", [box(0, 0, 1, 1)])
+
+    def failing(*_):
+        raise sqlite3.OperationalError("database or disk is full")
+
+    monkeypatch.setattr(geopackage, "enter", failing)
+    answer = gis("dissolve", "a.gpkg", "-o", "out.gpkg")
+    assert answer.status == Fault.status and not list(tmp_path.glob("*out*"))
+    assert answer.err.splitlines()[-1] == "overlay-gis: out.gpkg: can't be written: database or disk is full"
+
+
+@pytest.mark.parametrize("size", [448, 1228])
+@pytest.mark.parametrize("count", [0, 1, 18, 19, 51, 52, 51 * 51, 51 * 51 + 1, 20_000])
+def test_an_index_finds_what_is_there(count, size):
+    """In each window it finds all rows that lie in it, and no row that is away from it."""
+    rng = np.random.default_rng(count)
+    corners = rng.uniform(-1e7, 1e7, (count, 2)) * rng.choice([1e-9, 1, 1e30], (count, 1))
+    boxes = np.empty((count, 4))
+    boxes[:, 0::2] = corners
+    boxes[:, 1::2] = corners + rng.choice([0, 1, 1e5], (count, 2))
+    numbers = np.sort(rng.choice(3 * count + 1, count, replace=False)) + 1
+    tree = rtree.packed(numbers, boxes, size)
+    with closing(sqlite3.connect(":memory:")) as held:
+        held.execute(f"pragma page_size = {size + 64 if size < 1000 else 4096}")
+        held.execute("create virtual table r using rtree(id, minx, maxx, miny, maxy)")
+        assert held.execute("select length(data) from r_node").fetchall() == [(size,)]
+        for part, rows in (("node", tree.nodes), ("rowid", tree.rows), ("parent", tree.parents)):
+            held.executemany(f"insert or replace into r_{part} values (?, ?)", rows)
+        assert held.execute("select rtreecheck('r')").fetchone() == ("ok",)
+        assert held.execute("select id from r order by id").fetchall() == [(number,) for number in numbers.tolist()]
+        for number, (left, right, low, high) in zip(numbers.tolist()[:200], boxes.tolist()):
+            window = "select id from r where minx <= ? and maxx >= ? and miny <= ? and maxy >= ?"
+            found = {number for (number,) in held.execute(window, (right, left, high, low))}
+            wanted = (boxes[:, 0] <= right) & (boxes[:, 1] >= left) & (boxes[:, 2] <= high) & (boxes[:, 3] >= low)
+            assert number in found and found >= set(numbers[wanted].tolist())
+        # it stays sound where rows come and go
+        held.execute("delete from r where id % 2")
+        held.executemany("insert into r values (?, 0, 1, 0, 1)", [(10**9 + k,) for k in range(300)])
+        assert held.execute("select rtreecheck('r')").fetchone() == ("ok",)
