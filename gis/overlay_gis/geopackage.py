@@ -1,8 +1,8 @@
 """The rows of a new layer of a GeoPackage, put in by SQLite all together.
 
 GDAL makes the layer, with all that readers want to find of it. It takes long to put rows in one by
-one, though, and to enter each into the layer's index; here the index is made of all boxes at once
-(`rtree.py`). What triggers do for a single row is done at the end, so they are laid aside meanwhile.
+one, though, and to have triggers enter each into the layer's index. What these do for a single row
+is done for all at the end, so they are laid aside meanwhile.
 """
 
 from __future__ import annotations
@@ -17,7 +17,6 @@ import numpy as np
 from osgeo import ogr
 
 from .columns import Floats
-from .rtree import packed
 
 # The types of fields whose values SQLite takes as they are.
 TYPES = (ogr.OFTString, ogr.OFTInteger, ogr.OFTInteger64, ogr.OFTReal)
@@ -110,14 +109,11 @@ def numbered(rows: Iterable[Row], heads: Iterator[memoryview] | None) -> Iterato
 
 
 def enter(held: sqlite3.Connection, place: Place, boxes: Floats) -> None:
-    """Makes the index of all geometries, and tells the box round them."""
+    """Puts all geometries into the layer's index, and tells the box round them."""
     there = f"SELECT {quoted(place.number)} FROM {quoted(place.table)} WHERE {quoted(place.geometry)} IS NOT NULL"
-    numbers = np.array([number for (number,) in held.execute(there)], np.int64)
-    (size,) = held.execute(f"SELECT length(data) FROM {quoted(place.index + '_node')} WHERE nodeno = 1").fetchone()
-    tree = packed(numbers, boxes, size)
-    parts: dict[str, Sequence[tuple[Any, ...]]] = {"node": tree.nodes, "rowid": tree.rows, "parent": tree.parents}
-    for part, rows in parts.items():
-        held.executemany(f"INSERT OR REPLACE INTO {quoted(f'{place.index}_{part}')} VALUES (?, ?)", rows)
+    numbers = [number for (number,) in held.execute(there)]
+    entries = zip(numbers, *boxes.T.tolist())
+    held.executemany(f"INSERT INTO {quoted(place.index)} VALUES (?, ?, ?, ?, ?)", entries)
     (left, _, low, _), (_, right, _, high) = boxes.min(axis=0).tolist(), boxes.max(axis=0).tolist()
     words = "min_x = ?, min_y = ?, max_x = ?, max_y = ?, last_change = strftime('%Y-%m-%dT%H:%M:%fZ', 'now')"
     held.execute(f"UPDATE gpkg_contents SET {words} WHERE table_name = ?", (left, low, right, high, place.table))

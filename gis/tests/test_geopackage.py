@@ -4,13 +4,12 @@ is sound."""
 import sqlite3
 from contextlib import closing
 
-import numpy as np
 import pytest
 from osgeo import gdal, ogr
 from shapely.geometry import MultiPolygon, box
 
 from conftest import EAST, NORTH, parcels, write
-from overlay_gis import geopackage, output, rtree
+from overlay_gis import geopackage, output
 from overlay_gis.faults import Fault
 
 NODES = ("node", "rowid", "parent")
@@ -166,33 +165,3 @@ def test_what_sqlite_says_is_told(gis, program, tmp_path, monkeypatch):
     answer = gis("dissolve", "a.gpkg", "-o", "out.gpkg")
     assert answer.status == Fault.status and not list(tmp_path.glob("*out*"))
     assert answer.err.splitlines()[-1] == "overlay-gis: out.gpkg: can't be written: database or disk is full"
-
-
-@pytest.mark.parametrize("size", [448, 1228])
-@pytest.mark.parametrize("count", [0, 1, 18, 19, 51, 52, 51 * 51, 51 * 51 + 1, 20_000])
-def test_an_index_finds_what_is_there(count, size):
-    """In each window it finds all rows that lie in it, and no row that is away from it."""
-    rng = np.random.default_rng(count)
-    corners = rng.uniform(-1e7, 1e7, (count, 2)) * rng.choice([1e-9, 1, 1e30], (count, 1))
-    boxes = np.empty((count, 4))
-    boxes[:, 0::2] = corners
-    boxes[:, 1::2] = corners + rng.choice([0, 1, 1e5], (count, 2))
-    numbers = np.sort(rng.choice(3 * count + 1, count, replace=False)) + 1
-    tree = rtree.packed(numbers, boxes, size)
-    with closing(sqlite3.connect(":memory:")) as held:
-        held.execute(f"pragma page_size = {size + 64 if size < 1000 else 4096}")
-        held.execute("create virtual table r using rtree(id, minx, maxx, miny, maxy)")
-        assert held.execute("select length(data) from r_node").fetchall() == [(size,)]
-        for part, rows in (("node", tree.nodes), ("rowid", tree.rows), ("parent", tree.parents)):
-            held.executemany(f"insert or replace into r_{part} values (?, ?)", rows)
-        assert held.execute("select rtreecheck('r')").fetchone() == ("ok",)
-        assert held.execute("select id from r order by id").fetchall() == [(number,) for number in numbers.tolist()]
-        for number, (left, right, low, high) in zip(numbers.tolist()[:200], boxes.tolist()):
-            window = "select id from r where minx <= ? and maxx >= ? and miny <= ? and maxy >= ?"
-            found = {number for (number,) in held.execute(window, (right, left, high, low))}
-            wanted = (boxes[:, 0] <= right) & (boxes[:, 1] >= left) & (boxes[:, 2] <= high) & (boxes[:, 3] >= low)
-            assert number in found and found >= set(numbers[wanted].tolist())
-        # it stays sound where rows come and go
-        held.execute("delete from r where id % 2")
-        held.executemany("insert into r values (?, 0, 1, 0, 1)", [(10**9 + k,) for k in range(300)])
-        assert held.execute("select rtreecheck('r')").fetchone() == ("ok",)
