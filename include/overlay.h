@@ -208,7 +208,7 @@ struct overlay_face_rooms {
     size_t twice_areas_length;
     uint32_t *ids; /* the numbers of the features that the rows have, counted from 0 in their layer */
     size_t ids_length;
-    uint32_t *lists; /* where each list begins among the ids: a list for each row of the first layer's, then one for each row of the second's .. */
+    uint32_t *lists; /* where each list begins among the ids: the first layer's list of each row, then the second layer's of each row, and so on */
     size_t lists_length;
 };
 
