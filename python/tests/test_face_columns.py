@@ -92,6 +92,7 @@ def test_answers_that_are_larger_than_guessed(monkeypatch):
     """Of 2 times 60 bars 3,600 squares are common, and each has a row of its own."""
     sizes = []
     taken = _rooms.taken
+    monkeypatch.setattr(_rooms, "_free", [])
     monkeypatch.setattr(_columns, "taken", lambda size: sizes.append(size) or taken(size))
     layers = [bars(60, turned)[len("MULTIPOLYGON (") : -1].replace(")), ((", "))|((").split("|") for turned in (False, True)]
     texts = ["\n".join(f"POLYGON {polygon}" for polygon in layer) for layer in layers]
