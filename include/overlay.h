@@ -195,6 +195,54 @@ void overlay_pairs_fill(uint32_t call, uint32_t segments, const struct overlay_c
 /* Returns the tile side for two layers of columns, as overlay_side does for two texts: 262144 where one is refused. */
 uint32_t overlay_columns_side(const struct overlay_columns *a, const struct overlay_columns *b);
 
+/* Where the faces of layers go as columns, and how many numbers there may be written. No pointer is null, and no room overlaps another one. */
+struct overlay_face_rooms {
+    int32_t *coordinates; /* x y x y .. of closed rings, shells before their holes */
+    size_t coordinates_length;
+    uint32_t *rings; /* where each ring begins among the points */
+    size_t rings_length;
+    uint32_t *polygons; /* where each polygon begins among the rings */
+    size_t polygons_length;
+    uint32_t *rows; /* where each row begins among the polygons */
+    size_t rows_length;
+    int64_t *twice_areas; /* twice the area of each row, in squares of the grid */
+    size_t twice_areas_length;
+    uint32_t *ids; /* the numbers of the features that the rows have, counted from 0 in their layer */
+    size_t ids_length;
+    uint32_t *lists; /* where each list begins among the ids: the first layer's list of each row, then the second layer's of each row, and so on */
+    size_t lists_length;
+};
+
+/* What a call on faces as columns answers. All fields are written; those that don't belong to the status are 0. */
+struct overlay_faces_answer {
+    uint64_t coordinates; /* OVERLAY_ANSWERED, OVERLAY_SMALL: how many numbers the column of this name has */
+    uint64_t rings;
+    uint64_t polygons;
+    uint64_t rows;
+    uint64_t twice_areas; /* that is how many rows there are */
+    uint64_t ids;
+    uint64_t lists;
+    uint64_t detail; /* OVERLAY_REFUSED: the number of a point, a ring or an offset, or a number of segments, tiles or ids */
+    uint32_t status; /* how the call ended: an overlay_status */
+    uint32_t number; /* OVERLAY_REFUSED, OVERLAY_NO_MEMORY: why, an overlay_refusal */
+    uint32_t part;   /* OVERLAY_REFUSED, OVERLAY_NO_MEMORY: what: the number of a layer, from 0 on, or the count of layers for the run */
+};
+
+/* Puts the faces of layers of columns, as columns too, at the beginning of seven rooms, and tells their lengths. Their rows are those whose
+ * lines overlay_faces_fill writes of the same features, in the same order. A column of offsets has one number more than there are lists. Of
+ * the layer with the number n row r has the ids of list n * twice_areas + r. Where one room is too small, or the status is not
+ * OVERLAY_ANSWERED, all rooms are as they were; behind the columns they are so always.
+ *
+ *   side, segments, ids   as of overlay_faces_fill
+ *   layers, count         the layers, and how many there are: at most OVERLAY_MOST_LAYERS
+ *   rooms                 where the columns go; the pointers and the lengths stay as they are
+ *   answer                where the answer goes; not null */
+void overlay_faces_columns_fill(uint32_t side, uint32_t segments, uint64_t ids, const struct overlay_columns *layers, size_t count,
+                                struct overlay_face_rooms *rooms, struct overlay_faces_answer *answer);
+
+/* Returns the tile side for these layers, as overlay_faces_side does for texts. */
+uint32_t overlay_faces_columns_side(const struct overlay_columns *layers, size_t count);
+
 /* Puts the words of an answer of two layers without a text at the beginning of a room, as `A: 1 syntax at 16`, without a 0 or a line feed, and
  * returns their length in bytes: 0 where they don't fit, where memory ran out, or where there is nothing to say.
  *
@@ -206,7 +254,7 @@ size_t overlay_words(const struct overlay_answer *answer, uint8_t *room, size_t 
  * doesn't give too many tiles, or 262144 where a layer is refused. Both layers, with their lengths in bytes, are read once. */
 uint32_t overlay_side(const uint8_t *a, size_t a_length, const uint8_t *b, size_t b_length);
 
-/* Returns the version of these calls: 3. It changes where a call, a number or the struct does, not with each release. */
+/* Returns the version of these calls: 4. It changes where a call, a number or the struct does, not with each release. */
 uint32_t overlay_version(void);
 
 #ifdef __cplusplus

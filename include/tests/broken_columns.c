@@ -1,7 +1,7 @@
 /* 30,000 pairs of layers as arrays, most of them broken, under the sanitizers: what is refused, and where, is what a reference below says,
  * which follows the rules (docs/RULES.md) feature by feature, polygon by polygon, ring by ring; and where nothing is, the result has the
- * polygons of the line for the same layers as texts. So for pairs of features, whose results are those of the two features alone. Each array
- * ends where its block does. */
+ * polygons of the line for the same layers as texts. So for pairs of features, whose results are those of the two features alone, and for
+ * faces of up to three of these layers, whose rows are the lines for the same features as texts. Each array ends where its block does. */
 #include "../overlay.h"
 
 #include <stdio.h>
@@ -256,14 +256,15 @@ static struct overlay_columns_answer wanted(uint32_t call, uint32_t side, uint32
     return told(OVERLAY_ANSWERED, at(0, 0), 0);
 }
 
-static uint32_t wanted_side(const struct overlay_columns *a, const struct overlay_columns *b) {
-    struct survey both = NOTHING;
+static uint32_t wanted_side(const struct overlay_columns *layers, size_t count) {
+    struct survey all = NOTHING;
     uint32_t side = 262144;
-    if (layer_fault(a).number || layer_fault(b).number)
-        return side;
-    each_ring(a, counted, &both);
-    each_ring(b, counted, &both);
-    while (tiles(&both, side) > 65536)
+    for (size_t layer = 0; layer < count; layer++)
+        if (layer_fault(&layers[layer]).number)
+            return side;
+    for (size_t layer = 0; layer < count; layer++)
+        each_ring(&layers[layer], counted, &all);
+    while (tiles(&all, side) > 65536)
         side *= 2;
     return side;
 }
@@ -290,12 +291,17 @@ static void empty(struct rooms rooms) {
     free(rooms.polygons);
 }
 
-/* Whether a room is as it was from a place on. */
-static int is_kept(const void *room, size_t from, size_t length) {
-    for (size_t k = 4 * from; k < 4 * length; k++)
+/* Whether bytes of a room are as they were. */
+static int are_bytes_kept(const void *room, size_t from, size_t past) {
+    for (size_t k = from; k < past; k++)
         if (((const uint8_t *)room)[k] != 0x7F)
             return 0;
     return 1;
+}
+
+/* Whether a room is as it was from a place on. */
+static int is_kept(const void *room, size_t from, size_t length) {
+    return are_bytes_kept(room, 4 * from, 4 * length);
 }
 
 static int are_kept(const struct rooms *rooms, const struct overlay_columns_answer *behind) {
@@ -319,7 +325,7 @@ static int is_same(const struct overlay_columns_answer *p, const struct overlay_
 
 /* ---- texts */
 
-#define TEXT 65536
+#define TEXT (1 << 20)
 
 /* A text in the making. */
 struct text {
@@ -353,18 +359,23 @@ static void add_layer(struct text *text, const struct overlay_columns *c) {
             }
 }
 
-/* A result as its line. */
-static void add_result(struct text *text, const struct rooms *c) {
-    add(text, c->lengths[2] == 1 ? "MULTIPOLYGON EMPTY" : "MULTIPOLYGON (");
-    for (size_t p = 0; p + 1 < c->lengths[2]; p++) {
-        add(text, p ? ", (" : "(");
-        for (uint32_t r = c->polygons[p]; r < c->polygons[p + 1]; r++) {
-            add(text, r == c->polygons[p] ? "" : ", ");
-            add_corners(text, c->coordinates + 2 * (size_t)c->rings[r], c->coordinates + 2 * (size_t)c->rings[r + 1]);
+/* Polygons of a result, from one to before another, as a line. */
+static void add_polygons(struct text *text, const int32_t *coordinates, const uint32_t *rings, const uint32_t *polygons, size_t from, size_t past) {
+    add(text, from == past ? "MULTIPOLYGON EMPTY" : "MULTIPOLYGON (");
+    for (size_t p = from; p < past; p++) {
+        add(text, p > from ? ", (" : "(");
+        for (uint32_t r = polygons[p]; r < polygons[p + 1]; r++) {
+            add(text, r == polygons[p] ? "" : ", ");
+            add_corners(text, coordinates + 2 * (size_t)rings[r], coordinates + 2 * (size_t)rings[r + 1]);
         }
         add(text, ")");
     }
-    add(text, c->lengths[2] == 1 ? "\n" : ")\n");
+    add(text, from == past ? "\n" : ")\n");
+}
+
+/* A result as its line. */
+static void add_result(struct text *text, const struct rooms *c) {
+    add_polygons(text, c->coordinates, c->rings, c->polygons, 0, c->lengths[2] - 1);
 }
 
 /* The result has the polygons of the line that is answered for the layers as texts. */
@@ -462,10 +473,174 @@ static void pairs(uint32_t call, uint32_t limit, const struct overlay_columns *a
     empty(rooms);
 }
 
+/* ---- faces */
+
+#define COLUMNS 7
+
+/* How many bytes a number has in each column of faces, in the order of the answer's lengths. */
+static const size_t SIZES[COLUMNS] = {4, 4, 4, 4, 8, 4, 4};
+
+struct face_rooms {
+    void *places[COLUMNS];
+    uint64_t lengths[COLUMNS];
+};
+
+static struct face_rooms face_rooms_of(const uint64_t *lengths) {
+    struct face_rooms rooms;
+    for (int k = 0; k < COLUMNS; k++) {
+        rooms.places[k] = malloc(SIZES[k] * lengths[k] + 1);
+        memset(rooms.places[k], 0x7F, SIZES[k] * lengths[k]);
+        rooms.lengths[k] = lengths[k];
+    }
+    return rooms;
+}
+
+static void empty_faces(struct face_rooms rooms) {
+    for (int k = 0; k < COLUMNS; k++)
+        free(rooms.places[k]);
+}
+
+/* A call for faces: its limits, and its layers. */
+struct asked {
+    uint32_t side, segments;
+    uint64_t ids;
+    const struct overlay_columns *layers;
+    size_t count;
+};
+
+static struct overlay_faces_answer faces_filled(const struct asked *asked, const struct face_rooms *rooms, int round) {
+    void *const *places = rooms->places;
+    const uint64_t *lengths = rooms->lengths;
+    struct overlay_face_rooms passed = {places[0], lengths[0], places[1], lengths[1], places[2], lengths[2], places[3], lengths[3],
+                                        places[4], lengths[4], places[5], lengths[5], places[6], lengths[6]}, before = passed;
+    struct overlay_faces_answer answer;
+    memset(&answer, 9, sizeof answer);
+    overlay_faces_columns_fill(asked->side, asked->segments, asked->ids, asked->layers, asked->count, &passed, &answer);
+    check(!memcmp(&passed, &before, sizeof passed), "the places of rooms", round);
+    return answer;
+}
+
+/* A layer as a text, a geometry for each feature. */
+static void add_features(struct text *text, const struct overlay_columns *c) {
+    for (size_t f = 0; f < lists(c->features_length); f++) {
+        int rings = 0;
+        for (uint32_t p = c->features[f]; p < c->features[f + 1]; p++)
+            for (uint32_t r = c->polygons[p]; r < c->polygons[p + 1]; r++) {
+                add(text, rings++ ? ", (" : "MULTIPOLYGON ((");
+                add_corners(text, c->coordinates + 2 * (size_t)c->rings[r], c->coordinates + 2 * (size_t)c->rings[r + 1]);
+                add(text, ")");
+            }
+        add(text, rings ? ")\n" : "POLYGON EMPTY\n");
+    }
+}
+
+/* The columns of faces of so many layers as the lines of their rows. */
+static void add_rows(struct text *text, const struct face_rooms *c, size_t layers) {
+    const uint32_t *rows = c->places[3], *ids = c->places[5], *offsets = c->places[6];
+    const int64_t *areas = c->places[4];
+    size_t count = c->lengths[4];
+    char number[32];
+    for (size_t row = 0; row < count; row++) {
+        snprintf(number, sizeof number, "%lld\t", (long long)areas[row]);
+        add(text, number);
+        for (size_t layer = 0; layer < layers; layer++) {
+            size_t list = layer * count + row;
+            for (uint32_t k = offsets[list]; k < offsets[list + 1]; k++) {
+                snprintf(number, sizeof number, "%s%lu", k > offsets[list] ? "," : "", ids[k] + 1ul);
+                add(text, number);
+            }
+            add(text, "\t");
+        }
+        add_polygons(text, c->places[0], c->places[1], c->places[2], rows[row], rows[row + 1]);
+    }
+}
+
+/* What is answered for the same features as texts. */
+static struct overlay_answer of_texts(const struct asked *asked, uint8_t *room, size_t length) {
+    static struct text texts[4];
+    struct overlay_layer layers[4];
+    struct overlay_answer answer;
+    for (size_t layer = 0; layer < asked->count; layer++) {
+        texts[layer].length = 0;
+        add_features(&texts[layer], &asked->layers[layer]);
+        layers[layer] = (struct overlay_layer){(const uint8_t *)texts[layer].bytes, texts[layer].length};
+    }
+    overlay_faces_fill(asked->side, asked->segments, asked->ids, layers, asked->count, room, length, &answer);
+    return answer;
+}
+
+/* The first layer that is refused, or their count. */
+static size_t first_bad(const struct overlay_columns *layers, size_t count) {
+    size_t bad = 0;
+    while (bad < count && !layer_fault(&layers[bad]).number)
+        bad++;
+    return bad;
+}
+
+/* A refusal is that of the texts, but for what is wrong with a layer. */
+static void faces_refused(const struct asked *asked, const struct overlay_faces_answer *got, const struct overlay_answer *of_text, int round) {
+    static const uint64_t NONE[COLUMNS];
+    size_t bad = asked->side < 16 || asked->side > 33554432 ? asked->count : first_bad(asked->layers, asked->count);
+    struct fault fault = bad < asked->count ? layer_fault(&asked->layers[bad]) : at(of_text->number, of_text->detail);
+    check(got->status == OVERLAY_REFUSED && got->number == fault.number && got->detail == fault.detail && got->part == bad, "a refusal of faces", round);
+    check(!memcmp(got, NONE, sizeof NONE), "the lengths of a refusal of faces", round);
+}
+
+/* Rooms that aren't written are as they were, and so is what stands behind columns. */
+static void faces_kept(const struct face_rooms *rooms, const uint64_t *behind, int round) {
+    for (int k = 0; k < COLUMNS; k++)
+        check(are_bytes_kept(rooms->places[k], behind ? SIZES[k] * behind[k] : 0, SIZES[k] * rooms->lengths[k]), "the rooms of faces", round);
+}
+
+/* Faces that there are: in rooms of chance, and in just the rooms that are told. */
+static void faces_answered(const struct asked *asked, struct overlay_faces_answer got, const struct face_rooms *rooms, const uint8_t *text, size_t length, int round) {
+    static struct text lines;
+    uint64_t told[COLUMNS], again[COLUMNS];
+    int fits = 1;
+    memcpy(told, &got, sizeof told);
+    for (int k = 0; k < COLUMNS; k++)
+        fits = fits && told[k] <= rooms->lengths[k];
+    check(got.status == (fits ? OVERLAY_ANSWERED : OVERLAY_SMALL) && !got.detail && !got.number && !got.part, "the status of faces", round);
+    faces_kept(rooms, fits ? told : NULL, round);
+    struct face_rooms just = face_rooms_of(told);
+    struct overlay_faces_answer whole = faces_filled(asked, &just, round);
+    memcpy(again, &whole, sizeof again);
+    check(whole.status == OVERLAY_ANSWERED && !memcmp(again, told, sizeof told), "just the rooms that faces want", round);
+    for (int k = 0; fits && k < COLUMNS; k++)
+        check(!memcmp(just.places[k], rooms->places[k], SIZES[k] * told[k]), "the columns of faces", round);
+    lines.length = 0;
+    add_rows(&lines, &just, asked->count);
+    check(lines.length == length && !memcmp(lines.bytes, text, length), "the lines of faces", round);
+    empty_faces(just);
+}
+
+static void faces(const struct asked *asked, long *counts, int round) {
+    static const uint64_t MOST[COLUMNS] = {900, 120, 90, 60, 60, 120, 120};
+    static uint8_t room[TEXT];
+    uint64_t lengths[COLUMNS];
+    for (int k = 0; k < COLUMNS; k++)
+        lengths[k] = below(8) ? MOST[k] : below((uint32_t)MOST[k]);
+    struct face_rooms rooms = face_rooms_of(lengths);
+    struct overlay_faces_answer got = faces_filled(asked, &rooms, round);
+    size_t bad = first_bad(asked->layers, asked->count);
+    struct overlay_answer of_text = {0, 0, OVERLAY_REFUSED, OVERLAY_BAD_SIDE, 0};
+    if (bad == asked->count && asked->side >= 16 && asked->side <= 33554432)
+        of_text = of_texts(asked, room, TEXT);
+    if (of_text.status == OVERLAY_ANSWERED)
+        faces_answered(asked, got, &rooms, room, of_text.length, round);
+    else {
+        faces_refused(asked, &got, &of_text, round);
+        faces_kept(&rooms, NULL, round);
+    }
+    counts[got.status < 5 ? got.status : 1]++;
+    counts[5] += got.number == OVERLAY_TOO_MANY_IDS;
+    empty_faces(rooms);
+}
+
 int main(void) {
     static const uint32_t LIMITS[] = {OVERLAY_SEGMENTS, OVERLAY_SEGMENTS, UINT32_MAX, 20};
     static const uint32_t SIDES[] = {16, 64, 64, 262144, 262144, 4194304, 4194304, 33554432};
-    long statuses[5] = {0}, refusals[17] = {0}, of_pairs[6] = {0};
+    long statuses[5] = {0}, refusals[17] = {0}, of_pairs[6] = {0}, of_faces[6] = {0};
     for (int round = 0; round < ROUNDS; round++) {
         struct overlay_columns a = drawn(), b = drawn();
         uint32_t call = below(20) ? below(4) : 4 + below(2);
@@ -479,8 +654,12 @@ int main(void) {
             check(is_same(&want, &got), "a refusal", round);
             check(are_kept(&rooms, NULL), "the rooms of a refusal", round);
         }
-        check(overlay_columns_side(&a, &b) == wanted_side(&a, &b), "the side", round);
+        const struct overlay_columns layers[] = {a, b, a};
+        struct asked asked = {side, limit, below(4) ? OVERLAY_IDS : below(12), layers, below(4)};
+        check(overlay_columns_side(&a, &b) == wanted_side(layers, 2), "the side", round);
+        check(overlay_faces_columns_side(layers, asked.count) == wanted_side(layers, asked.count), "the side of faces", round);
         pairs(call, limit, &a, &b, of_pairs, round);
+        faces(&asked, of_faces, round);
         statuses[got.status < 5 ? got.status : 1]++;
         refusals[got.number < 17 ? got.number : 0]++;
         empty(rooms);
@@ -495,7 +674,8 @@ int main(void) {
     }
     check(statuses[0] && !statuses[1] && statuses[2] && statuses[3] && statuses[4], "every status", ROUNDS);
     check(of_pairs[0] && !of_pairs[1] && of_pairs[2] && of_pairs[3] && of_pairs[4] && of_pairs[5], "every status of pairs", ROUNDS);
-    printf("\npairs of their features: answered %ld, too small %ld, refused %ld, of which 17: %ld\n%ld failed\n", of_pairs[0], of_pairs[4], of_pairs[3],
-           of_pairs[5], failures);
+    check(of_faces[0] && !of_faces[1] && !of_faces[2] && of_faces[3] && of_faces[4] && of_faces[5], "every status of faces", ROUNDS);
+    printf("\npairs of their features: answered %ld, too small %ld, refused %ld, of which 17: %ld\n", of_pairs[0], of_pairs[4], of_pairs[3], of_pairs[5]);
+    printf("their faces: answered %ld, too small %ld, refused %ld, of which 12: %ld\n%ld failed\n", of_faces[0], of_faces[4], of_faces[3], of_faces[5], failures);
     return failures != 0;
 }

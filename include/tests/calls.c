@@ -511,10 +511,142 @@ static void pairs_memory(void) {
     check(answer.status == OVERLAY_REFUSED && answer.number == OVERLAY_SHORT_RING && answer.detail == 1 && answer.part == OVERLAY_LAYER_B, "a pair with a fault");
 }
 
+/* The columns of the faces of both squares: their rows are the lines of FACES. */
+static const int32_t FACE_COORDINATES[] = {0, 0, 4, 0, 4, 2, 2, 2, 2, 4, 0, 4, 0, 0, 2, 2, 4, 2, 4, 4, 2, 4, 2, 2, 2, 4, 4, 4, 4, 2, 6, 2, 6, 6, 2, 6, 2, 4};
+static const uint32_t FACE_RINGS[] = {0, 7, 12, 19}, FACE_OFFSETS[] = {0, 1, 2, 3}, FACE_IDS[] = {0, 0, 0, 0}, FACE_LISTS[] = {0, 1, 2, 2, 2, 3, 4};
+static const int64_t FACE_AREAS[] = {24, 8, 24};
+
+/* Rooms that have more than they are said to have. */
+struct face_room {
+    int32_t coordinates[40];
+    uint32_t rings[6], polygons[6], rows[6], ids[6], lists[9];
+    int64_t twice_areas[5];
+};
+
+/* What is wanted of the rooms, all of whose bytes were 7. */
+static int are_faces(const struct face_room *room, int written) {
+    struct face_room want;
+    memset(&want, 7, sizeof want);
+    if (written) {
+        memcpy(want.coordinates, FACE_COORDINATES, sizeof FACE_COORDINATES);
+        memcpy(want.rings, FACE_RINGS, sizeof FACE_RINGS);
+        memcpy(want.polygons, FACE_OFFSETS, sizeof FACE_OFFSETS);
+        memcpy(want.rows, FACE_OFFSETS, sizeof FACE_OFFSETS);
+        memcpy(want.ids, FACE_IDS, sizeof FACE_IDS);
+        memcpy(want.lists, FACE_LISTS, sizeof FACE_LISTS);
+        memcpy(want.twice_areas, FACE_AREAS, sizeof FACE_AREAS);
+    }
+    return !memcmp(room, &want, sizeof want);
+}
+
+/* A call on layers with these limits, and rooms of which one has less than is wanted, or, where that is none of them, more. */
+static struct overlay_faces_answer face_columns_filled(uint32_t side, uint32_t segments, uint64_t ids, const struct overlay_columns *layers, size_t count,
+                                                       struct face_room *room, int few) {
+    static const size_t WANTED[] = {38, 4, 4, 4, 3, 4, 7};
+    size_t n[7];
+    for (int k = 0; k < 7; k++)
+        n[k] = WANTED[k] + (few == 7) - (few == k);
+    struct overlay_face_rooms rooms = {room->coordinates, n[0], room->rings, n[1], room->polygons, n[2], room->rows, n[3],
+                                       room->twice_areas, n[4], room->ids, n[5], room->lists, n[6]}, before = rooms;
+    struct overlay_faces_answer answer;
+    memset(room, 7, sizeof *room);
+    memset(&answer, 9, sizeof answer);
+    overlay_faces_columns_fill(side, segments, ids, layers, count, &rooms, &answer);
+    check(!memcmp(&rooms, &before, sizeof rooms), "rooms that are where they were");
+    return answer;
+}
+
+static int has_face_lengths(const struct overlay_faces_answer *answer) {
+    return answer->coordinates == 38 && answer->rings == 4 && answer->polygons == 4 && answer->rows == 4 && answer->twice_areas == 3
+        && answer->ids == 4 && answer->lists == 7 && !answer->detail && !answer->number && !answer->part;
+}
+
+static int has_no_lengths(const struct overlay_faces_answer *answer) {
+    return !answer->coordinates && !answer->rings && !answer->polygons && !answer->rows && !answer->twice_areas && !answer->ids && !answer->lists;
+}
+
+/* The faces of both squares, in rooms of which each is too small in turn; then just large enough, and larger. */
+static void face_columns(void) {
+    const struct overlay_columns both[] = {SQUARE_COLUMNS, OTHER_COLUMNS};
+    struct face_room room;
+    for (int few = 0; few < 9; few++) {
+        struct overlay_faces_answer answer = face_columns_filled(SIDE, 8, 4, both, 2, &room, few);
+        check(answer.status == (few < 7 ? OVERLAY_SMALL : OVERLAY_ANSWERED) && has_face_lengths(&answer), "faces as columns");
+        check(are_faces(&room, few >= 7), "the rooms of faces as columns");
+    }
+    struct overlay_faces_answer none = face_columns_filled(SIDE, 8, 4, both, 0, &room, 7);
+    check(none.status == OVERLAY_ANSWERED && !none.coordinates && none.rings == 1 && none.polygons == 1 && none.rows == 1 && !none.twice_areas
+              && !none.ids && none.lists == 1 && !room.rings[0] && !room.polygons[0] && !room.rows[0] && !room.lists[0], "columns of no layers");
+    check(sizeof none == 80 && offsetof(struct overlay_faces_answer, part) == 72 && sizeof(struct overlay_face_rooms) == 112, "the structs as they are laid out");
+}
+
+static void face_columns_refusals(void) {
+    static const int32_t R = 268435456, WHOLE_COORDINATES[] = {-R, -R, R, -R, R, R, -R, R, -R, -R};
+    static const uint32_t FOUR[] = {0, 4};
+    const struct overlay_columns open = {SQUARE_COORDINATES, 10, FOUR, 2, ONE, 2, ONE, 2}, whole = {WHOLE_COORDINATES, 10, FIVE, 2, ONE, 2, ONE, 2};
+    struct overlay_columns layers[OVERLAY_MOST_LAYERS + 1];
+    for (size_t at = 0; at <= OVERLAY_MOST_LAYERS; at++)
+        layers[at] = SQUARE_COLUMNS;
+    const struct {
+        uint32_t side, segments;
+        uint64_t ids;
+        size_t count;
+        struct overlay_columns first;
+        uint64_t detail;
+        uint32_t status, number, part;
+    } ROWS[] = {
+        {15, 8, 4, 65, SQUARE_COLUMNS, 0, OVERLAY_NO_CALL, 0, 0},
+        {15, 8, 4, 2, open, 0, OVERLAY_REFUSED, OVERLAY_BAD_SIDE, 2},
+        {SIDE, 8, 4, 3, open, 0, OVERLAY_REFUSED, OVERLAY_OPEN_RING, 0},
+        {SIDE, 255, 4, 64, SQUARE_COLUMNS, 256, OVERLAY_REFUSED, OVERLAY_TOO_MANY_SEGMENTS, 64},
+        {SIDE, 8, 4, 2, whole, 4198401, OVERLAY_REFUSED, OVERLAY_TOO_MANY_TILES, 2},
+        {SIDE, 256, 63, 64, SQUARE_COLUMNS, 64, OVERLAY_REFUSED, OVERLAY_TOO_MANY_IDS, 64},
+    };
+    struct face_room room;
+    for (size_t row = 0; row < sizeof ROWS / sizeof *ROWS; row++) {
+        layers[0] = ROWS[row].first;
+        struct overlay_faces_answer got = face_columns_filled(ROWS[row].side, ROWS[row].segments, ROWS[row].ids, layers, ROWS[row].count, &room, 7);
+        check(got.status == ROWS[row].status && got.number == ROWS[row].number && got.part == ROWS[row].part && got.detail == ROWS[row].detail,
+              "a refusal of faces as columns");
+        check(has_no_lengths(&got) && are_faces(&room, 0), "the rooms of a refusal of faces");
+    }
+    layers[0] = SQUARE_COLUMNS;
+    layers[63] = open;
+    struct overlay_faces_answer last = face_columns_filled(SIDE, 256, 64, layers, 64, &room, 7);
+    check(last.status == OVERLAY_REFUSED && last.number == OVERLAY_OPEN_RING && last.part == 63 && !last.detail, "the last layer is refused");
+    layers[63] = whole;
+    check(overlay_faces_columns_side(layers, 64) == 4194304, "side of 64 layers of columns");
+    check(overlay_faces_columns_side(layers, 63) == 262144, "side of layers of columns");
+    check(overlay_faces_columns_side(layers, 65) == 262144, "side of 65 layers of columns");
+    check(overlay_faces_columns_side(layers, 0) == 262144, "side of no layers of columns");
+    layers[0] = open;
+    check(overlay_faces_columns_side(layers, 64) == 262144, "side of layers of which one is refused");
+}
+
+/* From some request on memory is refused: the rooms are as they were, or there are the faces. */
+static void face_columns_memory(void) {
+    const struct overlay_columns both[] = {SQUARE_COLUMNS, OTHER_COLUMNS};
+    struct face_room room;
+    long refused = 0;
+    for (long count = 0; count < 100000; count++) {
+        granted = count;
+        struct overlay_faces_answer answer = face_columns_filled(SIDE, OVERLAY_SEGMENTS, OVERLAY_IDS, both, 2, &room, 7);
+        granted = -1;
+        if (answer.status == OVERLAY_ANSWERED) {
+            check(has_face_lengths(&answer) && are_faces(&room, 1), "faces as columns with just enough memory");
+            break;
+        }
+        check(answer.status == OVERLAY_NO_MEMORY && answer.number == OVERLAY_OUT_OF_MEMORY && answer.part == 2 && !answer.detail, "no memory for columns");
+        check(has_no_lengths(&answer) && are_faces(&room, 0), "rooms of faces that are as they were");
+        refused++;
+    }
+    check(refused > 0, "memory for faces as columns was refused");
+}
+
 int main(int count, char **words) {
     if (count == 4)
         return print(words);
-    check(overlay_version() == 3, "the version");
+    check(overlay_version() == 4, "the version");
     names();
     rooms();
     refusals();
@@ -532,6 +664,9 @@ int main(int count, char **words) {
     columns_sides();
     columns_refusals();
     pairs_memory();
+    face_columns();
+    face_columns_refusals();
+    face_columns_memory();
     printf("%ld failed\n", failures);
     return failures != 0;
 }

@@ -40,7 +40,7 @@ from __future__ import annotations
 
 from typing import Any, Iterable, List, NamedTuple, Optional, Protocol, Tuple, TypeVar, Union, overload
 
-from . import _asking, _calls, _edges, _frames, _kinds, _wkb
+from . import _asking, _calls, _edges, _frames, _kinds, _rows, _wkb
 from ._asking import Plan
 from ._calls import CALLS, Operation
 from ._edges import Edge
@@ -475,7 +475,7 @@ def faces(
 ) -> Any:
     """Which features cover what: a row for each set of features, of up to 64 layers, that covers some points together, in the order of
     these sets. Features of one layer that overlap don't cancel one another. Rows of texts with whole coordinates are `Row`s, and of all
-    else `Face`s.
+    else `Face`s. Geometries, lists and frames of them go to the library as arrays.
 
     >>> for row in faces("POLYGON ((0 0, 4 0, 4 4, 0 4, 0 0)) POLYGON ((2 0, 6 0, 6 4, 2 4, 2 0))"):
     ...     print(row.twice_area, row.ids, row.wkt)
@@ -485,15 +485,19 @@ def faces(
     >>> for face in faces("POLYGON ((0 0, 0.5 0, 0.5 0.5, 0 0))", grid=0.5):
     ...     print(face.area, face.ids, face.geometry)
     0.125 ((1,),) MULTIPOLYGON (((0 0, 0.5 0, 0.5 0.5, 0 0)))
+    >>> from struct import pack
+    >>> square = pack("<BIII10d", 1, 3, 1, 5, 0, 0, 2, 0, 2, 2, 0, 2, 0, 0)
+    >>> [(face.area, face.ids, face.geometry == square) for face in faces([square, square], square)]
+    [(4.0, ((1, 2), (1,)), True)]
     """
     layers = (a, *more)
     if grid is None and origin is None and all(map(_is_text, layers)):
         text = _calls.faces_of(list(map(_calls.bytes_of, layers)), side, segments)
-        return [Row(*line) for line in _asking.lines_of(text)]
+        return list(map(Row._make, _rows.lines_of(text)))
     held = _asking.layers_of(layers)
     lines, frame = _asking.rows_of(held, Plan(side, segments, grid, origin))
     answer = _asking.answerer_of(held)
-    return [Face(frame.area(line.twice), line.ids, answer(line.wkt, frame)) for line in lines]
+    return [Face(frame.area(line.twice), line.ids, _kinds.answer_of(answer, line.polygons, frame)) for line in lines]
 
 
 def dissolve(

@@ -5,15 +5,15 @@ from __future__ import annotations
 from typing import Any, Callable, Dict, List, NamedTuple, Optional, Sequence, Tuple, TypeVar
 
 from ._calls import CALLS, MOST_SEGMENTS, Operation, faces_of, layer_name, text_of
-from ._columns import polygons_of
+from ._columns import lines_on, polygons_of
 from ._faults import Refused
 from ._grid import FINEST, Frame, Origin, Unit, frame_at, frame_for, joined
-from ._kinds import OF_POLYGONS, Answerer, Given, arrays_answer, given, told_at
-from ._shapes import Shapes
+from ._kinds import Answerer, Given, answer_of, arrays_answer, given, told_at
+from ._rows import Line, lines_of
+from ._shapes import Polygons, Shapes
 from ._texts import Text
 from ._uniting import united
 
-Ids = Tuple[Tuple[int, ...], ...]
 Result = TypeVar("Result")
 
 # Which rows an operation has, by whether each layer has their points.
@@ -37,25 +37,6 @@ class Plan(NamedTuple):
     def limit(self) -> int:
         """The most segments, of which there is no number where nothing is said of geometries."""
         return MOST_SEGMENTS if self.segments is None else self.segments
-
-
-class Line(NamedTuple):
-    """A row of faces: twice its area in squares of the grid, the features of each layer, and its polygons' text."""
-
-    twice: int
-    ids: Ids
-    wkt: str
-
-
-def lines_of(text: bytes) -> List[Line]:
-    """The rows of an answer."""
-    return [line_of(line) for line in text.decode("ascii").splitlines()]
-
-
-def line_of(line: str) -> Line:
-    """The row of a line."""
-    twice, *ids, wkt = line.split("\t")
-    return Line(int(twice), tuple(tuple(map(int, numbers.split(","))) if numbers else () for numbers in ids), wkt)
 
 
 def frame_of(layers: Sequence[Given], plan: Plan) -> Frame:
@@ -102,16 +83,15 @@ def operation(call: int, a: Any, b: Any, plan: Plan) -> Any:
     answer = answerer_of(layers)
     rows = None if all(map(simple, layers)) else chosen_of(call, layers, frame, plan)
     if rows is not None:
-        return answer(united(rows), frame)
+        return answer_of(answer, united(rows), frame)
     first, second = (layer.held for layer in layers)
     if isinstance(first, Shapes) and isinstance(second, Shapes):
-        found = polygons_of(call, first.on_grid(frame), second.on_grid(frame), plan.side, plan.limit)
-        return OF_POLYGONS[answer](found, frame)
+        return answer_of(answer, polygons_of(call, first.on_grid(frame), second.on_grid(frame), plan.side, plan.limit), frame)
     texts = first.text(frame), second.text(frame)
     return answer(asked(layers, lambda: text_of(call, *texts, plan.side, plan.limit)).decode("ascii"), frame)
 
 
-def chosen_of(call: int, layers: Sequence[Given], frame: Frame, plan: Plan) -> Optional[List[str]]:
+def chosen_of(call: int, layers: Sequence[Given], frame: Frame, plan: Plan) -> Optional[List[Polygons]]:
     """The rows that an operation has on layers that are read as covered; nothing where no features of one layer overlap, so that
     parity tells the same."""
     rows = faces_on(layers, frame, plan)
@@ -119,11 +99,14 @@ def chosen_of(call: int, layers: Sequence[Given], frame: Frame, plan: Plan) -> O
     if not any(len(ids) > 1 for row in rows for ids, read in zip(row.ids, covered) if read):
         return None
     choice = CHOICES[call]
-    return [row.wkt for row in rows if choice(*(bool(ids) if read else len(ids) % 2 == 1 for ids, read in zip(row.ids, covered)))]
+    return [row.polygons for row in rows if choice(*(bool(ids) if read else len(ids) % 2 == 1 for ids, read in zip(row.ids, covered)))]
 
 
 def faces_on(layers: Sequence[Given], frame: Frame, plan: Plan) -> List[Line]:
-    """The faces of layers on a grid."""
+    """The faces of layers on a grid: by columns where no layer is a text."""
+    shapes = [layer.held for layer in layers if isinstance(layer.held, Shapes)]
+    if len(shapes) == len(layers):
+        return lines_on([held.features_on_grid(frame) for held in shapes], plan.side, plan.limit)
     texts = [layer.held.text(frame) for layer in layers]
     return lines_of(asked(layers, lambda: faces_of(texts, plan.side, plan.limit)))
 

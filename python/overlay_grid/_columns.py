@@ -2,15 +2,16 @@
 
 from __future__ import annotations
 
+import ctypes
 from array import array
-from operator import sub
-from typing import List, Optional
+from typing import List, Optional, Sequence
 
-from ._calls import SEGMENTS, SIDE, fault_of, limit_of, side_number
+from ._calls import IDS, LAYERS, SEGMENTS, SIDE, fault_of, limit_of, side_number
 from ._faults import Refusal
 from ._library import ANSWERED, SMALL, Answer, Columns, library
-from ._rooms import Room, given_back, size_for, taken
-from ._shapes import Found, Rings
+from ._rooms import Room, face_lengths_for, face_size, given_back, size_for, size_for_faces, taken
+from ._rows import Line, lines_in
+from ._shapes import Features, Found, Rings, counts_of
 
 
 class Passed:
@@ -61,6 +62,41 @@ def found_in(room: Room) -> Found:
     return Found(coordinates[0::2], coordinates[1::2], counts_of(rings), counts_of(polygons))
 
 
-def counts_of(offsets: "array[int]") -> List[int]:
-    """How long the lists are that offsets cut."""
-    return list(map(sub, offsets[1:], offsets))
+def columns_of(layer: Features) -> Columns:
+    """A layer as the library takes it, which has to stay where it is meanwhile."""
+    rings = layer.rings.buffer_info()
+    place, count = layer.coordinates.buffer_info()
+    return Columns(place or rings[0], count, *rings, *layer.polygons.buffer_info(), *layer.features.buffer_info())
+
+
+def fill_faces(side: int, limit: int, layers: "ctypes.Array[Columns]", size: int) -> Room:
+    """As `fill`, of the faces of layers."""
+    room, count = taken(size), len(layers)
+    lengths = face_lengths_for(room.size, count)
+    while True:
+        library.overlay_faces_columns_fill(side, limit, IDS, layers, count, room.for_faces(lengths), room.faces_place)
+        if room.faces_answer.status != SMALL:
+            return room
+        lengths = room.face_lengths()
+        given_back(room)
+        room = taken(face_size(lengths))
+
+
+def lines_on(layers: Sequence[Features], side: Optional[int], segments: Optional[int]) -> List[Line]:
+    """The rows of the faces of layers."""
+    limit, count = SEGMENTS if segments is None else limit_of(segments), len(layers)
+    if count > LAYERS:
+        raise ValueError(f"{count} layers, and there may be {LAYERS}")
+    held = (Columns * count)(*map(columns_of, layers))
+    # a guess: where it is too small, all is made again
+    size = size_for_faces(16 + sum(len(layer.coordinates) for layer in layers) // 6, count)
+    room = fill_faces(SIDE if side is None else side_number(side), limit, held, size)
+    if side is None and room.faces_answer.number == Refusal.TOO_MANY_TILES:
+        given_back(room)
+        room = fill_faces(library.overlay_faces_columns_side(held, count), limit, held, size)
+    told = room.faces_answer
+    if told.status != ANSWERED:
+        raise fault_of(Answer(0, told.detail, told.status, told.number, told.part), count)
+    lines = lines_in(room.face_lists(), count)
+    given_back(room)
+    return lines

@@ -13,10 +13,12 @@ from decimal import Decimal
 from math import isnan
 from typing import Any, Dict, Iterable, List, Optional, Sequence, Tuple
 
-from ._asking import Line, Plan, rows_of
+from ._asking import Plan, rows_of
 from ._grid import FINEST, Frame, Origin, Unit
-from ._kinds import Given, shapes_of, wkb_answer
+from ._kinds import Given, answer_of, shapes_of, wkb_answer
 from ._optional import module
+from ._rows import Line
+from ._shapes import Polygons
 from ._uniting import united
 
 # The unit where none is said and coordinates are degrees: about a decimetre.
@@ -37,9 +39,9 @@ class Parts:
 
     def __init__(self, frame: Frame) -> None:
         self.frame = frame
-        self.faces: Dict[Any, List[str]] = {}
+        self.faces: Dict[Any, List[Polygons]] = {}
 
-    def add(self, key: Any, face: str) -> None:
+    def add(self, key: Any, face: Polygons) -> None:
         """Adds a face to a row."""
         self.faces.setdefault(key, []).append(face)
 
@@ -54,7 +56,8 @@ class Parts:
     def wkb(self, key: Any) -> bytes:
         """The geometry of a row, which is empty where it has no face."""
         faces = self.faces.get(key, [])
-        return wkb_answer(faces[0] if len(faces) == 1 else united(faces), self.frame)
+        made: bytes = answer_of(wkb_answer, faces[0] if len(faces) == 1 else united(faces), self.frame)
+        return made
 
 
 def series_of(made: Sequence[bytes], like: Any) -> Any:
@@ -122,12 +125,12 @@ def parts_of(lines: Iterable[Line], frame: Frame) -> Tuple[Parts, Parts, Parts]:
         ours, theirs = line.ids
         for a in ours:
             for b in theirs:
-                pairs.add((a - 1, b - 1), line.wkt)
+                pairs.add((a - 1, b - 1), line.polygons)
             if not theirs:
-                firsts.add(a - 1, line.wkt)
+                firsts.add(a - 1, line.polygons)
         if not ours:
             for b in theirs:
-                seconds.add(b - 1, line.wkt)
+                seconds.add(b - 1, line.polygons)
     return pairs, firsts, seconds
 
 
@@ -206,7 +209,7 @@ def dissolve(df: Any, said: Dict[str, Any], grid: Optional[Unit], origin: Option
     parts = Parts(frame)
     for line in lines:
         for group in {groups[feature - 1] for feature in line.ids[0] if feature - 1 in groups}:
-            parts.add(group, line.wkt)
+            parts.add(group, line.polygons)
     dissolved[name] = series_of(list(map(parts.wkb, range(len(dissolved)))), df).values
     return dissolved
 

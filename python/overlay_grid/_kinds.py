@@ -14,7 +14,7 @@ from . import _wkb
 from ._faults import GeometryError, Refused
 from ._grid import Frame
 from ._optional import module
-from ._shapes import POINT, Builder, Found, Shapes, found_in, is_closed
+from ._shapes import POINT, Builder, Placed, Polygons, Shapes, found_in, is_closed, text_of
 from ._texts import Text, placed
 
 Answerer = Callable[[str, Frame], Any]
@@ -30,46 +30,54 @@ def bytes_answer(text: str, frame: Frame) -> bytes:
     return placed(text, frame).encode()
 
 
-def wkb_of(found: Found, frame: Frame) -> bytes:
+def wkb_of(placed: Placed) -> bytes:
     """Polygons as WKB."""
-    return _wkb.encoded(found.points(frame), found.rings, found.polygons)
+    return _wkb.encoded(*placed)
 
 
 def wkb_answer(text: str, frame: Frame) -> bytes:
     """An answer as WKB."""
-    return wkb_of(found_in(text), frame)
+    return wkb_of(found_in(text).placed(frame))
 
 
-def shapely_of(found: Found, frame: Frame) -> Any:
+def shapely_of(placed: Placed) -> Any:
     """Polygons as Shapely's geometry."""
-    return module("shapely.wkb").loads(wkb_of(found, frame))
+    return module("shapely.wkb").loads(wkb_of(placed))
 
 
 def shapely_answer(text: str, frame: Frame) -> Any:
     """An answer as Shapely's geometry."""
-    return shapely_of(found_in(text), frame)
+    return shapely_of(found_in(text).placed(frame))
 
 
-def arrays_of(found: Found, frame: Frame) -> List[Tuple[Any, ...]]:
+def arrays_of(placed: Placed) -> List[Tuple[Any, ...]]:
     """Polygons as a list, each a tuple of arrays, the shell first."""
-    if not found.polygons:
+    if not placed.polygons:
         return []
-    points = module("numpy").frombuffer(found.points(frame)).reshape(-1, 2)
+    points = module("numpy").frombuffer(placed.points).reshape(-1, 2)
     at, rings = 0, []
-    for count in found.rings:
+    for count in placed.rings:
         rings.append(points[at : at + count].copy())
         at += count
     each = iter(rings)
-    return [tuple(islice(each, count)) for count in found.polygons]
+    return [tuple(islice(each, count)) for count in placed.polygons]
 
 
 def arrays_answer(text: str, frame: Frame) -> List[Tuple[Any, ...]]:
     """An answer as such a list."""
-    return arrays_of(found_in(text), frame)
+    return arrays_of(found_in(text).placed(frame))
 
 
 # What makes an answer of polygons, by what makes one of their text.
-OF_POLYGONS: Dict[Answerer, Callable[[Found, Frame], Any]] = {wkb_answer: wkb_of, shapely_answer: shapely_of, arrays_answer: arrays_of}
+OF_POLYGONS: Dict[Answerer, Callable[[Placed], Any]] = {wkb_answer: wkb_of, shapely_answer: shapely_of, arrays_answer: arrays_of}
+
+
+def answer_of(answer: Answerer, polygons: Polygons, frame: Frame) -> Any:
+    """An answer of polygons of the grid, whether these are a text or columns."""
+    if isinstance(polygons, str):
+        return answer(polygons, frame)
+    made = OF_POLYGONS.get(answer)
+    return made(polygons.placed(frame)) if made else answer(text_of(polygons.found()), frame)
 
 
 class Given(NamedTuple):

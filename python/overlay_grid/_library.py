@@ -8,7 +8,7 @@ import os
 ANSWERED, NO_MEMORY, NO_CALL, REFUSED, SMALL = range(5)
 
 # The version of the calls that this package makes.
-CALLS = 3
+CALLS = 4
 
 
 class Answer(ctypes.Structure):
@@ -50,6 +50,19 @@ class ColumnsAnswer(ctypes.Structure):
     ]
 
 
+class FacesAnswer(ctypes.Structure):
+    """What a call on faces of columns answers. Fields that don't belong to the status are 0."""
+
+    detail: int
+    status: int
+    number: int
+    part: int
+    _fields_ = [
+        *((name, ctypes.c_uint64) for name in ("coordinates", "rings", "polygons", "rows", "twice_areas", "ids", "lists", "detail")),
+        *((name, ctypes.c_uint32) for name in ("status", "number", "part")),
+    ]
+
+
 class Columns(ctypes.Structure):
     """A layer as columns: where each of them stands, and how many numbers it has."""
 
@@ -81,6 +94,10 @@ def _opened() -> ctypes.CDLL:
     opened.overlay_columns_fill.restype = None
     opened.overlay_columns_side.argtypes = [columns, columns]
     opened.overlay_columns_side.restype = ctypes.c_uint32
+    opened.overlay_faces_columns_fill.argtypes = [*limits, columns, ctypes.c_size_t, ctypes.c_void_p, ctypes.c_void_p]
+    opened.overlay_faces_columns_fill.restype = None
+    opened.overlay_faces_columns_side.argtypes = [columns, ctypes.c_size_t]
+    opened.overlay_faces_columns_side.restype = ctypes.c_uint32
     opened.overlay_version.argtypes = []
     opened.overlay_version.restype = ctypes.c_uint32
     if opened.overlay_version() != CALLS:

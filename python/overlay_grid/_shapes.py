@@ -10,7 +10,8 @@ from array import array
 from functools import lru_cache
 from itertools import accumulate, islice
 from math import isfinite
-from typing import Iterable, List, NamedTuple, Optional, Sequence, Tuple
+from operator import sub
+from typing import Iterable, Iterator, List, NamedTuple, Optional, Sequence, Tuple, Union
 
 from ._faults import GeometryError
 from ._grid import Box, Frame, finest_for
@@ -28,6 +29,16 @@ class Rings(NamedTuple):
 
     coordinates: "array[int]"
     offsets: "array[int]"
+
+
+class Features(NamedTuple):
+    """Features on the grid: x and y of all points by turns, and where each ring, each polygon and each feature begins, and the last one
+    ends."""
+
+    coordinates: "array[int]"
+    rings: "array[int]"
+    polygons: "array[int]"
+    features: "array[int]"
 
 
 def extent(values: "array[float]") -> Tuple[float, float]:
@@ -93,17 +104,35 @@ class Shapes(NamedTuple):
         reason = f"reaches {reach:.6g}, and the finest grid with room for all layers is {float(finest_for(box)):g}"
         return self.fault(reason, k)
 
-    def on_grid(self, frame: Frame) -> Rings:
-        """All rings on the grid."""
+    def coordinates(self, frame: Frame) -> "array[int]":
+        """x and y of all points on the grid, by turns."""
         coordinates = array("i", bytes(8 * len(self.x)))
         coordinates[0::2], coordinates[1::2] = frame.across.column(self.x), frame.up.column(self.y)
-        return Rings(coordinates, array("I", accumulate(self.rings, initial=0)))
+        return coordinates
+
+    def on_grid(self, frame: Frame) -> Rings:
+        """All rings on the grid."""
+        return Rings(self.coordinates(frame), offsets_of(self.rings))
+
+    def features_on_grid(self, frame: Frame) -> Features:
+        """All features on the grid."""
+        return Features(self.coordinates(frame), offsets_of(self.rings), offsets_of(self.polygons), offsets_of(self.features))
 
     def text(self, frame: Frame) -> bytes:
         """The layer's text on the grid, a line for each feature."""
         numbers = [0] * (2 * len(self.x))
         numbers[0::2], numbers[1::2] = frame.across.rounded(self.x), frame.up.rounded(self.y)
         return (form_of(self.rings, self.polygons, self.features) % tuple(numbers)).encode()
+
+
+def offsets_of(counts: Iterable[int]) -> "array[int]":
+    """Where lists of these lengths begin behind one another, and where the last one ends."""
+    return array("I", accumulate(counts, initial=0))
+
+
+def counts_of(offsets: "array[int]") -> List[int]:
+    """How long the lists are that offsets cut."""
+    return list(map(sub, offsets[1:], offsets))
 
 
 @lru_cache(maxsize=1024)
@@ -114,9 +143,14 @@ def ring_form(points: int) -> str:
 
 def form_of(rings: Iterable[int], polygons: Iterable[int], features: Iterable[int]) -> str:
     """The form of a layer's text, with a place for each number."""
-    each_ring = map(ring_form, rings)
-    each = (f"({', '.join(islice(each_ring, count))})" for count in polygons)
+    each = polygon_forms(rings, polygons)
     return "\n".join([feature_form(list(islice(each, count))) for count in features])
+
+
+def polygon_forms(rings: Iterable[int], polygons: Iterable[int]) -> Iterator[str]:
+    """The forms of polygons' texts."""
+    each = map(ring_form, rings)
+    return (f"({', '.join(islice(each, count))})" for count in polygons)
 
 
 def feature_form(polygons: List[str]) -> str:
@@ -169,6 +203,15 @@ class Builder:
         return Shapes(points[0::2], points[1::2], self.rings, self.polygons, self.features, self.layer)
 
 
+class Placed(NamedTuple):
+    """Polygons in a reference system's units: x and y of all points by turns, how many points each ring has, and how many rings each
+    polygon."""
+
+    points: "array[float]"
+    rings: List[int]
+    polygons: List[int]
+
+
 class Found(NamedTuple):
     """Polygons of the grid that the library answered."""
 
@@ -177,11 +220,66 @@ class Found(NamedTuple):
     rings: List[int]
     polygons: List[int]
 
-    def points(self, frame: Frame) -> "array[float]":
-        """x and y of all points by turns, in the reference system's units."""
-        points = array("d", bytes(16 * len(self.x)))
-        points[0::2], points[1::2] = frame.across.placed(self.x), frame.up.placed(self.y)
-        return points
+    def found(self) -> Found:
+        """These polygons."""
+        return self
+
+    def placed(self, frame: Frame) -> Placed:
+        """The same in the reference system's units."""
+        return Placed(points_of(self.x, self.y, frame), self.rings, self.polygons)
+
+
+class Whole:
+    """Polygons of the grid as columns, with offsets of rings and of polygons, of which rows have some."""
+
+    __slots__ = ("coordinates", "rings", "polygons", "points", "frame")
+
+    def __init__(self, coordinates: "array[int]", rings: "array[int]", polygons: "array[int]") -> None:
+        self.coordinates, self.rings, self.polygons = coordinates, rings, polygons
+        self.frame: Optional[Frame] = None
+        self.points = array("d")
+
+    def points_in(self, frame: Frame) -> "array[float]":
+        """x and y of all points by turns, in the reference system's units, which are told once for all rows."""
+        if self.frame is not frame:
+            self.points, self.frame = points_of(self.coordinates[0::2], self.coordinates[1::2], frame), frame
+        return self.points
+
+
+class Piece(NamedTuple):
+    """Polygons of a whole, from one to before another."""
+
+    whole: Whole
+    first: int
+    past: int
+
+    def found(self) -> Found:
+        """These polygons alone."""
+        low, high, rings, polygons = self.parts()
+        x_and_y = self.whole.coordinates[low:high]
+        return Found(x_and_y[0::2], x_and_y[1::2], rings, polygons)
+
+    def placed(self, frame: Frame) -> Placed:
+        """The same in the reference system's units."""
+        low, high, rings, polygons = self.parts()
+        return Placed(self.whole.points_in(frame)[low:high], rings, polygons)
+
+    def parts(self) -> Tuple[int, int, List[int], List[int]]:
+        """Where their coordinates begin and end, how many points each ring has, and how many rings each polygon."""
+        polygons = self.whole.polygons[self.first : self.past + 1]
+        rings = self.whole.rings[polygons[0] : polygons[-1] + 1]
+        return 2 * rings[0], 2 * rings[-1], counts_of(rings), counts_of(polygons)
+
+
+# Polygons of the grid: a result's text, or columns.
+Polygons = Union[str, Found, Piece]
+
+
+def points_of(x: Sequence[int], y: Sequence[int], frame: Frame) -> "array[float]":
+    """Points of the grid in the reference system's units, x and y by turns."""
+    points = array("d", bytes(16 * len(x)))
+    points[0::2], points[1::2] = frame.across.placed(x), frame.up.placed(y)
+    return points
 
 
 BRACKETS = str.maketrans("(),", "   ")
@@ -196,3 +294,12 @@ def found_in(text: str) -> Found:
     polygons = [polygon.split("), (") for polygon in body[3:-3].split(")), ((")]
     rings = [ring.count(",") + 1 for polygon in polygons for ring in polygon]
     return Found(numbers[0::2], numbers[1::2], rings, list(map(len, polygons)))
+
+
+def text_of(found: Found) -> str:
+    """Polygons as the library writes a result."""
+    if not found.polygons:
+        return "MULTIPOLYGON EMPTY\n"
+    numbers = [0] * (2 * len(found.x))
+    numbers[0::2], numbers[1::2] = found.x, found.y
+    return f"MULTIPOLYGON ({', '.join(polygon_forms(found.rings, found.polygons))})\n" % tuple(numbers)

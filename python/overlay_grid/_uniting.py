@@ -14,15 +14,15 @@ from fractions import Fraction
 from itertools import islice
 from typing import Dict, Iterable, List, Optional, Sequence, Set, Tuple
 
-from ._shapes import found_in
+from ._shapes import Found, Polygons, found_in
 
 Point = Tuple[int, int]
 Edge = Tuple[Point, Point]
 Ring = List[Point]
 
 
-def united(rows: Iterable[str]) -> str:
-    """The union of rows' polygons, as the library writes a result."""
+def united(rows: Iterable[Polygons]) -> Found:
+    """The union of rows' polygons, in the order in which the library writes a result."""
     edges = border_of(rows)
     rings = rings_of(edges)
     owners = owners_of(rings)
@@ -34,14 +34,14 @@ def united(rows: Iterable[str]) -> str:
             first = last is not None and piece[0] == ring[0] and piece[-1] == last
             (shells if first else holes).append(piece)
     made = sorted((shells[0], sorted(holes)) for shells, holes in polygons.values())
-    return text_of([[shell, *holes] for shell, holes in made])
+    return found_of([[shell, *holes] for shell, holes in made])
 
 
-def border_of(rows: Iterable[str]) -> Set[Edge]:
+def border_of(rows: Iterable[Polygons]) -> Set[Edge]:
     """The sides of all polygons but those that two of them share."""
     edges: Set[Edge] = set()
     for row in rows:
-        found = found_in(row)
+        found = found_in(row) if isinstance(row, str) else row.found()
         points = zip(found.x, found.y)
         for count in found.rings:
             ring = list(islice(points, count))
@@ -170,14 +170,8 @@ def from_least(ring: Ring) -> Ring:
     return ring[at:] + ring[:at]
 
 
-def text_of(polygons: List[List[Ring]]) -> str:
-    """Polygons as the library writes a result."""
-    if not polygons:
-        return "MULTIPOLYGON EMPTY\n"
-    body = ", ".join(f"({', '.join(map(ring_text, polygon))})" for polygon in polygons)
-    return f"MULTIPOLYGON ({body})\n"
-
-
-def ring_text(ring: Ring) -> str:
-    """A ring, its first point again at its end."""
-    return f"({', '.join(f'{x} {y}' for x, y in [*ring, ring[0]])})"
+def found_of(polygons: List[List[Ring]]) -> Found:
+    """Polygons as columns, the first point of each ring again at its end."""
+    rings = [[*ring, ring[0]] for polygon in polygons for ring in polygon]
+    points = [point for ring in rings for point in ring]
+    return Found([x for x, _ in points], [y for _, y in points], list(map(len, rings)), list(map(len, polygons)))

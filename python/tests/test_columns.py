@@ -58,6 +58,7 @@ def test_answers_that_are_larger_than_guessed(monkeypatch):
     """Of 2 times 30 bars the intersection has 900 squares, with 4,500 points."""
     sizes = []
     taken = _rooms.taken
+    monkeypatch.setattr(_rooms, "_free", [])
     monkeypatch.setattr(_columns, "taken", lambda size: sizes.append(size) or taken(size))
     a, b = bars(30, False), bars(30, True)
     found = overlay_grid.intersection(wkb_of(a), wkb_of(b), grid=1)

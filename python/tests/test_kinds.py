@@ -10,7 +10,7 @@ from decimal import Decimal
 import overlay_grid
 import pairs
 import pytest
-from overlay_grid import GeometryError, Operation, Refusal, Refused, _kinds, _uniting
+from overlay_grid import GeometryError, Operation, Refusal, Refused, _kinds, _shapes, _uniting
 from test_overlay_grid import PROGRAM
 
 A = "POLYGON ((0 0, 0.4 0, 0.4 0.4, 0 0.4, 0 0))"
@@ -288,9 +288,13 @@ def test_united_rows(seed):
     number of features are what it answers by parity."""
     a, b = pairs.pair(seed)
     rows = overlay_grid.faces(a, b)
-    assert _uniting.united(row.wkt for row in rows if len(row.ids[0]) % 2 or len(row.ids[1]) % 2) == overlay_grid.union(a, b)
-    assert _uniting.united(row.wkt for row in rows if len(row.ids[0]) % 2 and len(row.ids[1]) % 2) == overlay_grid.intersection(a, b)
-    assert _uniting.united(row.wkt for row in rows if len(row.ids[0]) % 2 > len(row.ids[1]) % 2) == overlay_grid.difference(a, b)
+
+    def united(chosen):
+        return _shapes.text_of(_uniting.united(row.wkt for row in chosen))
+
+    assert united(row for row in rows if len(row.ids[0]) % 2 or len(row.ids[1]) % 2) == overlay_grid.union(a, b)
+    assert united(row for row in rows if len(row.ids[0]) % 2 and len(row.ids[1]) % 2) == overlay_grid.intersection(a, b)
+    assert united(row for row in rows if len(row.ids[0]) % 2 > len(row.ids[1]) % 2) == overlay_grid.difference(a, b)
 
 
 def test_nothing_else_is_imported():

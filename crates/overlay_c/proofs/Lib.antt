@@ -3,3 +3,5 @@ pub mod FacesTelling
 pub mod PassedLayers
 pub mod ColumnsTelling
 pub mod PairsTelling
+pub mod FacesColumnsTelling
+pub mod FitsLayers

@@ -2,3 +2,4 @@ pub mod Boundary
 pub mod Faces
 pub mod Columns
 pub mod Pairs
+pub mod FacesColumns

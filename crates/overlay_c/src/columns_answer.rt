@@ -78,7 +78,7 @@ pub fn answer_of_columns(refused: ColumnsRefused) -> OverlayColumnsAnswer
 }
 
 /// The number of the point, ring or offset that a fault of columns tells.
-fn place_of(fault: ColumnsFault) -> u64
+pub fn place_of(fault: ColumnsFault) -> u64
     ensures { result ≡ columns_detail fault }
 {
     match fault {

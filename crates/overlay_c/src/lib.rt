@@ -1,11 +1,11 @@
 //! The overlay for callers in C (`include/overlay.h`), on the calling thread: layers in memory in, a text or columns in the caller's rooms out.
 //!
 //! 1. Numbers of the call become a plan, and pointers with lengths become layers (`made`, `columns_layer`).
-//! 2. The engine answers (`calls`, `faces`, `columns_call`, `pairs_call`).
-//! 3. What fits is put into the room (`room`, `columns_rooms`); a status, or a refusal's number and place, tells the rest (`answer`, `words`).
+//! 2. The engine answers (`calls`, `faces`, `columns_call`, `pairs_call`, `faces_columns`).
+//! 3. What fits is put into the room (`room`, `columns_rooms`, `face_rooms`); a status, or a refusal's number and place, tells the rest (`answer`, `words`).
 //!
 //! The promise: a status of 0 exactly where the engine answers and the room is large enough, and then the room begins with its text; nothing
-//! behind that changes. The definitions are `specs/Boundary`, `Faces`, `Columns` and `Pairs`.
+//! behind that changes. The definitions are `specs/Boundary`, `Faces`, `Columns`, `Pairs` and `FacesColumns`.
 #![tactic(auto)]
 
 mod answer;
@@ -14,7 +14,11 @@ mod columns_answer;
 mod columns_call;
 mod columns_layer;
 mod columns_rooms;
+mod face_rooms;
 mod faces;
+mod faces_answer;
+mod faces_columns;
+mod faces_columns_call;
 mod made;
 mod pairs_call;
 mod room;
@@ -28,6 +32,9 @@ pub use calls::{
 pub use columns_answer::OverlayColumnsAnswer;
 pub use columns_call::{overlay_columns_fill, overlay_columns_side};
 pub use columns_layer::OverlayColumns;
+pub use face_rooms::OverlayFaceRooms;
 pub use faces::OverlayLayer;
+pub use faces_answer::OverlayFacesAnswer;
+pub use faces_columns_call::{overlay_faces_columns_fill, overlay_faces_columns_side};
 pub use pairs_call::overlay_pairs_fill;
 pub use words::overlay_words;
