@@ -19,7 +19,7 @@ from shapely.ops import unary_union
 TOP = Path(__file__).resolve().parents[2]
 sys.path.insert(0, str(TOP / "bench"))
 
-from overlay_bench import compared, documents, noding, peer_tools, peers, plot, postgres, results, shapes, town  # noqa: E402
+from overlay_bench import capabilities, compared, documents, noding, peer_tools, peers, plot, postgres, results, shapes, town  # noqa: E402
 
 HOLED = [[(0, 0), (9, 0), (9, 9), (0, 9)], [(1, 1), (1, 3), (3, 3), (3, 1)]]
 SMALL = [[(20, 0), (24, 0), (22, 3)]]
@@ -179,11 +179,34 @@ def test_readmes_table_is_made_of_the_largest_maps(tmp_path, monkeypatch):
     assert len(compared.table()) == 2
     record(tmp_path, "peers", HEAD, [row("Peer", area_off="+5"), *PEERS])
     assert compared.table()[2:] == [
-        "|**overlay 1** | exact, noded | answers | same bytes | 4 | 1 | any layers | GDAL's | decimals, lines|",
+        "|**overlay 1** | exact, noded | answers | same bytes | 4 | 1 | – | – | –|",
         "|Peer 1 | noded, if asked | made valid, answers | same polygons | 1 | 4.5 | – | – | –|",
         "|Loser 1 | – | loses 36% of the area; made valid, answers | other points | 1 | – | – | – | –|",
         "|Stops 1 | crossings: 3 | stops | same bytes | 1 | 2.0 | – | – | –|",
         "|Gone, Away | not run: no Debian package|",
+    ]
+
+
+def asked(tool, version, **found):
+    names = {"two": "faces of two layers", "three": "faces of three layers"}
+    common = {"date": "2026-11-27", "tool": tool, "version": version}
+    return [{**common, "asked": names.get(name, name), "has": has} for name, has in found.items()]
+
+
+def test_readmes_last_columns_are_what_the_same_versions_showed(tmp_path, monkeypatch):
+    monkeypatch.setattr(results, "FOLDER", str(tmp_path))
+    record(tmp_path, "peers", HEAD, PEERS)
+    files = {name: "yes" for name in capabilities.FILES}
+    found = asked("overlay", "overlay 1, of 2", two="yes", three="yes", **files, decimals="no", lines="no", grid="yes")
+    found += asked("Peer", "Peer 1, of 2", two="yes", three="no", WKT="yes", GeoJSON="no", grid="no", program="yes")
+    found += asked("Loser", "Loser 1, of 2", two="by Join", three="by Join", WKT="no")
+    found += asked("Stops", "Stops 2, of 2", two="yes", WKT="yes")
+    record(tmp_path, "capabilities", (*results.HEAD, *capabilities.HEAD), found)
+    assert [line.rsplit("|", 4)[1:4] for line in compared.table()[2:6]] == [
+        [" yes ", " all ", " decimals, lines"],
+        [" two layers ", " WKT ", " grid"],
+        [" by `Join` ", " none ", " none"],
+        [" – ", " – ", " –"],
     ]
 
 
