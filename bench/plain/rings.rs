@@ -25,7 +25,7 @@ pub fn next_edges(directed: &Directed, strips: &Strips, hands: Hands) -> Vec<Nex
 }
 
 /// The edges that leave a vertex, clockwise, by the first of them.
-type Rounds = HashMap<usize, Vec<usize>>;
+pub type Rounds = HashMap<usize, Vec<usize>>;
 
 /// How far round `v`, from `u`, clockwise: less than a half turn, a half turn, more, a whole one.
 fn quarter(v: Point, u: Point, w: Point) -> u8 {
@@ -50,29 +50,32 @@ fn clockwise(v: Point, p: Point, q: Point) -> Ordering {
 }
 
 fn next_edge(directed: &Directed, strips: &Strips, rounds: &mut Rounds, number: usize) -> Next {
-    let (u, v) = directed.edges[number];
-    let leaving = directed.leaving(v, strips);
+    let leaving = directed.leaving(directed.edges[number].1, strips);
     let count = leaving.len() as u32;
-    let edge = match leaving.len() {
-        1 => leaving.start,
-        ..FEW => nearest(directed, leaving, u, v),
-        _ => {
-            let round = rounds.entry(leaving.start).or_insert_with(|| round(directed, leaving, v));
-            let passed = round.partition_point(|&edge| clockwise(v, directed.edges[edge].1, u).is_le());
-            round[passed % round.len()]
-        }
-    };
-    Next { edge: edge as u32, leaving: count }
+    Next { edge: after(&directed.edges, leaving, rounds, directed.edges[number]) as u32, leaving: count }
 }
 
-/// Of the edges that leave `v` the first one clockwise from `u`.
-fn nearest(directed: &Directed, leaving: Range<usize>, u: Point, v: Point) -> usize {
+/// Of the edges that leave the end of an edge the first one clockwise from it.
+pub fn after(edges: &[(Point, Point)], leaving: Range<usize>, rounds: &mut Rounds, (u, v): (Point, Point)) -> usize {
+    match leaving.len() {
+        1 => leaving.start,
+        ..FEW => nearest(edges, leaving, u, v),
+        _ => {
+            let round = rounds.entry(leaving.start).or_insert_with(|| round(edges, leaving, v));
+            let passed = round.partition_point(|&edge| clockwise(v, edges[edge].1, u).is_le());
+            round[passed % round.len()]
+        }
+    }
+}
+
+/// The same, where they are few.
+fn nearest(edges: &[(Point, Point)], leaving: Range<usize>, u: Point, v: Point) -> usize {
     let mut best = leaving.start;
-    let mut best_quarter = quarter(v, u, directed.edges[best].1);
+    let mut best_quarter = quarter(v, u, edges[best].1);
     for other in leaving.start + 1..leaving.end {
-        let w = directed.edges[other].1;
+        let w = edges[other].1;
         let found = quarter(v, u, w);
-        if found < best_quarter || (found == best_quarter && turn(v, directed.edges[best].1, w) > 0) {
+        if found < best_quarter || (found == best_quarter && turn(v, edges[best].1, w) > 0) {
             (best, best_quarter) = (other, found);
         }
     }
@@ -80,9 +83,9 @@ fn nearest(directed: &Directed, leaving: Range<usize>, u: Point, v: Point) -> us
 }
 
 /// All edges that leave `v`, clockwise.
-fn round(directed: &Directed, leaving: Range<usize>, v: Point) -> Vec<usize> {
+fn round(edges: &[(Point, Point)], leaving: Range<usize>, v: Point) -> Vec<usize> {
     let mut round: Vec<usize> = leaving.collect();
-    round.sort_unstable_by(|&a, &b| clockwise(v, directed.edges[a].1, directed.edges[b].1));
+    round.sort_unstable_by(|&a, &b| clockwise(v, edges[a].1, edges[b].1));
     round
 }
 

@@ -1,5 +1,6 @@
 //! The polygons of one row's directed edges, in the canonical order.
 use crate::point::{turn, Point};
+use crate::rings::{after, Rounds};
 use std::collections::HashMap;
 
 pub type Directed = (Point, Point);
@@ -45,7 +46,7 @@ struct Rings {
 
 impl Rings {
     fn walk(directed: &[Directed]) -> Rings {
-        let next: Vec<(u32, bool)> = directed.iter().map(|&(u, v)| next_edge(directed, u, v)).collect();
+        let next = next_edges(directed);
         let none = u32::MAX;
         let mut rings = Rings { edges: Vec::with_capacity(directed.len()), begins: vec![], of_edge: vec![none; directed.len()], is_tangled: vec![] };
         for first in 0..directed.len() {
@@ -135,29 +136,13 @@ fn cut(ring: &[Point]) -> Vec<Vec<Point>> {
     pieces
 }
 
-/// How far one turns clockwise round `v` from `u` to `w`, in halves: less than half a turn, half, more, or a whole one.
-fn half(v: Point, u: Point, w: Point) -> u8 {
-    let side = turn(v, u, w);
-    let ((ax, ay), (bx, by)) = (v.to(u), v.to(w));
-    match side {
-        0 => 1 + 2 * (ax * bx + ay * by > 0) as u8,
-        _ => 2 * (side > 0) as u8,
-    }
-}
-
-/// The edge behind that from `u` to `v`, and whether several begin there.
-fn next_edge(directed: &[Directed], u: Point, v: Point) -> (u32, bool) {
-    let first = directed.partition_point(|edge| edge.0 < v);
-    let count = directed[first..].iter().take_while(|edge| edge.0 == v).count();
-    let nearer = |best: usize, other: usize| {
-        let (b, w) = (directed[best].1, directed[other].1);
-        let (half_of_b, half_of_w) = (half(v, u, b), half(v, u, w));
-        if half_of_w < half_of_b || half_of_w == half_of_b && turn(v, b, w) > 0 {
-            other
-        } else {
-            best
-        }
+/// The edge behind each edge, and whether several begin there.
+fn next_edges(directed: &[Directed]) -> Vec<(u32, bool)> {
+    let mut rounds = Rounds::new();
+    let next = |&edge: &Directed| {
+        let first = directed.partition_point(|other| other.0 < edge.1);
+        let count = directed[first..].partition_point(|other| other.0 == edge.1);
+        (after(directed, first..first + count, &mut rounds, edge) as u32, count > 1)
     };
-    let nearest = if count > 1 { (first..first + count).reduce(nearer).unwrap() } else { first };
-    (nearest as u32, count > 1)
+    directed.iter().map(next).collect()
 }
