@@ -425,13 +425,14 @@ def round_spiral(rng: random.Random, count: int, reach: int) -> Both:
 def windmills(rng: random.Random, count: int, reach: int) -> Both:
     """Squares in one another, each turned a little."""
     radius = max(1, min(4000, reach // 2))
+    squares = min(count // 4, 250 * (reach // radius) ** 2)
     rings: Rings = []
-    while 4 * len(rings) < count:
+    while len(rings) < squares:
         x, y = (rng.randint(radius - reach, reach - radius) for _ in "xy")
         for turn in range(25):
             corners = [around(radius * 0.87 ** turn, 0.3 * turn + corner * math.pi / 2) for corner in range(4)]
             rings.append([(x + dx, y + dy) for dx, dy in corners])
-    return rings, rings[::7]
+    return rings + far_triangles(rng, count - 4 * len(rings), reach), rings[::7]
 
 
 def holes_of_holes(rng: random.Random, count: int, reach: int) -> Both:
@@ -542,15 +543,15 @@ def snowflake(rng: random.Random, count: int, reach: int) -> Both:
     return [[(round(x), round(y)) for x, y in points]], [rectangle(-reach // 2, -reach // 2, reach, reach)]
 
 
-def of_map(make: maps.Kind) -> Kind:
-    """A kind of another measurement, stretched to the reach."""
+def of_map(make: maps.Kind, most: int = limits.MOST_SEGMENTS) -> Kind:
+    """A kind of another measurement, stretched to the reach, with at most so many segments."""
 
     def kind(rng: random.Random, count: int, reach: int) -> Both:
-        first, second = ([ring for rings in polygons for ring in rings] for polygons in make(rng, max(64, count)))
-        most = max((abs(c) for ring in first + second for p in ring for c in p), default=1) or 1
+        first, second = ([ring for rings in polygons for ring in rings] for polygons in make(rng, max(64, min(count, most))))
+        farthest = max((abs(c) for ring in first + second for p in ring for c in p), default=1) or 1
 
         def stretched(rings: Rings) -> Rings:
-            return [[(x * reach // most, y * reach // most) for x, y in ring] for ring in rings]
+            return [[(x * reach // farthest, y * reach // farthest) for x, y in ring] for ring in rings]
 
         return stretched(first), stretched(second)
 
@@ -560,7 +561,7 @@ def of_map(make: maps.Kind) -> Kind:
 
 def of_layer(make: layers.Kind, most: int) -> Kind:
     """A kind of one layer twice, stretched to the reach, with at most so many segments."""
-    both = of_map(lambda rng, count: (make(rng, min(count, most) // 2 + 2), make(rng, min(count, most) // 2 + 2)))
+    both = of_map(lambda rng, count: (make(rng, count // 2 + 2), make(rng, count // 2 + 2)), most)
     both.__doc__ = make.__doc__
     return both
 
@@ -583,6 +584,7 @@ OWN: tuple[Kind, ...] = (
     rings_on_the_limit, lines_through_a_cluster, snowflake,
 )
 # Those with their greatest number of segments: lines that are nearly one have a record for each pixel that is hot anywhere on them.
+OF_MAPS = {"stars": 30_000}
 OF_LAYERS = (
     (layers.coincident, 600), (layers.near_a_line, 6_000), (layers.near_many_pixels, 6_000), (layers.on_halves, 20_000), (layers.spikes, 1_000),
     (layers.flat, 600), (layers.cactus, 20_000), (layers.upright, 2_000),
@@ -595,7 +597,7 @@ OF_LIMITS = {
 }
 KINDS: dict[str, Kind] = {
     **{kind.__name__: kind for kind in OWN},
-    **{name.replace(" ", "_"): of_map(make) for name, make in maps.KINDS.items()},
+    **{name.replace(" ", "_"): of_map(make, OF_MAPS.get(name, limits.MOST_SEGMENTS)) for name, make in maps.KINDS.items()},
     **{make.__name__: of_layer(make, most) for make, most in OF_LAYERS},
     **{name: of_count(make, of) for name, (make, of) in OF_LIMITS.items()},
 }
