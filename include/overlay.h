@@ -5,8 +5,8 @@
  * at its end.
  *
  * Each call runs on the calling thread alone and keeps nothing, so any number of threads may call at once. It takes memory by
- * malloc, and has let all of it go when it returns. All that is passed stays the caller's: no call keeps a pointer, and none
- * has to be freed.
+ * malloc, and has let all of it go when it returns, but for what overlay_text and overlay_arrays give to the caller. All that is
+ * passed stays the caller's: no call keeps a pointer.
  *
  * The caller sees to it that
  *   - each pointer is to as many bytes as its length says, or the length is 0 and the pointer is not null;
@@ -22,6 +22,7 @@
 #include <stddef.h>
 #include <stdint.h>
 #include <stdlib.h>
+#include <string.h>
 
 /* The release that this header came with. Programs that link with another one compare overlay_version(). */
 #define OVERLAY_VERSION "1.0.0"
@@ -260,6 +261,34 @@ uint32_t overlay_version(void);
 #ifdef __cplusplus
 }
 #endif
+
+/* overlay_fill with layers that end with a 0, a side that fits and a room of its own: returns the text, with a 0 behind it, which the caller
+ * owns from then on and lets go by free; null where the status is not OVERLAY_ANSWERED. A room as large as both layers is tried first, and
+ * where it is too small as large a one as the text wants.
+ *
+ *   call, a, b   as of overlay_fill
+ *   answer       where the answer goes; never OVERLAY_SMALL */
+static inline char *overlay_text(uint32_t call, const char *a, const char *b, struct overlay_answer *answer) {
+    static const struct overlay_answer NO_MEMORY = {0, 0, OVERLAY_NO_MEMORY, OVERLAY_OUT_OF_MEMORY, OVERLAY_RUN};
+    const uint8_t *first = (const uint8_t *)a, *second = (const uint8_t *)b;
+    size_t m = strlen(a), n = strlen(b), length = m + n;
+    uint32_t side = overlay_side(first, m, second, n);
+    for (;;) {
+        uint8_t *room = (uint8_t *)malloc(length + 1);
+        *answer = NO_MEMORY;
+        if (!room)
+            return NULL;
+        overlay_fill(call, side, first, m, second, n, room, length, answer);
+        if (answer->status == OVERLAY_ANSWERED) {
+            room[answer->length] = 0;
+            return (char *)room;
+        }
+        free(room);
+        if (answer->status != OVERLAY_SMALL)
+            return NULL;
+        length = (size_t)answer->length;
+    }
+}
 
 /* The columns of a result, in memory that overlay_arrays took for them and overlay_free lets go. */
 struct overlay_owned_columns {

@@ -1,31 +1,12 @@
 /* overlay_arrays, under the sanitizers, which also see what is not let go: the columns of overlay_columns_fill, in memory of their own,
  * for layers whose result is smaller and larger than they are, for refused ones, and where each request for memory is refused. */
 #include "../overlay.h"
+#include "checking.h"
 
 #include <stdio.h>
 #include <string.h>
 
 enum { BARS = 20, COORDINATES = 20 * BARS * (BARS + 1) };
-
-static long failures, granted = -1;
-
-static void check(int holds, const char *what) {
-    if (!holds) {
-        printf("FAILED: %s\n", what);
-        failures++;
-    }
-}
-
-void *__real_malloc(size_t size);
-
-/* Grants so many requests; all where the number is below 0. */
-void *__wrap_malloc(size_t size) {
-    if (granted == 0)
-        return NULL;
-    if (granted > 0)
-        granted--;
-    return __real_malloc(size);
-}
 
 /* Bars of a unit, two units apart, upright or level: a feature each. */
 struct bars {

@@ -1,21 +1,13 @@
 /* The calls for C, under the sanitizers. Without arguments: every status, broken texts, rooms of every size near the text's.
  * With CALL A B: the text of that call on two files, to standard output. */
 #include "../overlay.h"
+#include "checking.h"
 
 #include <stdio.h>
 #include <stdlib.h>
 #include <string.h>
 
 static const uint32_t SIDE = 262144;
-
-static long failures;
-
-static void check(int holds, const char *what) {
-    if (!holds) {
-        printf("FAILED: %s\n", what);
-        failures++;
-    }
-}
 
 /* A copy that ends where its block does, so that a read past it is seen. */
 static uint8_t *copied(const char *text, size_t length) {
@@ -194,19 +186,6 @@ static void broken(void) {
     }
     check(counts[0] && !counts[1] && counts[2] && counts[3] && counts[4], "broken texts of every kind");
     printf("broken texts 30000: answered %ld, no such call %ld, refused %ld, too small %ld\n", counts[0], counts[2], counts[3], counts[4]);
-}
-
-/* How many requests for memory are granted before one is refused; below 0 all are. Linked with --wrap=malloc. */
-static long granted = -1;
-
-void *__real_malloc(size_t size);
-
-void *__wrap_malloc(size_t size) {
-    if (granted == 0)
-        return NULL;
-    if (granted > 0)
-        granted--;
-    return __real_malloc(size);
 }
 
 /* From some request on memory is refused: the room is as it was, or there is the text. */
