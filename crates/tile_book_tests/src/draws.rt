@@ -6,7 +6,6 @@ use crate::heaps::use_up;
 use bumpalo::Bump;
 use geom::NoMemory;
 use std::alloc::{Allocator, Global};
-use std::test::Fail;
 use tile_book::{Draw, Hand, finish};
 
 /// A draw of two hands, with both.
@@ -80,37 +79,39 @@ fn draws_without_memory(alloc: Global, limit: u32, draws: Draws) -> Result<bool,
 }
 
 #[test]
-fn draws_of_two_hands(rt: HostRuntime) -> Result<(), Fail> {
+fn draws_of_two_hands(rt: HostRuntime) {
     for (limit, draws) in DRAWS {
         assert!(rt;
-            draws_without_memory(rt.alloc(), u32::from(limit), draws)?,
+            draws_without_memory(rt.alloc(), u32::from(limit), draws) == Ok(true),
             "{limit}"
         );
     }
-    Ok(())
 }
 
-#[test]
-fn finish_hands_back(rt: HostRuntime) -> Result<(), Fail> {
-    let (draw, mut one, mut other) = two_hands(rt.alloc(), 2)?;
-    let Err((draw, hands)) = finish(draw, Vec::new(rt.alloc())) else {
-        return Err(Fail::from("no hand was handed in"));
+/// Whether a draw is handed back without hands, without one of them, and with one that has not met the end.
+fn is_handed_back(alloc: Global) -> Result<bool, NoMemory> {
+    let (draw, mut one, mut other) = two_hands(alloc, 2)?;
+    let Err((draw, none)) = finish(draw, Vec::new(alloc)) else {
+        return Ok(false);
     };
-    assert!(rt; hands.is_empty());
     draw.draw(&mut one);
     draw.draw(&mut other);
     draw.draw(&mut one);
-    assert!(rt; one.is_spent() && !other.is_spent());
-    let mut hands = Vec::new(rt.alloc());
+    let met = none.is_empty() && one.is_spent() && !other.is_spent();
+    let mut hands = Vec::new(alloc);
     hands.push(one)?;
     let Err((draw, mut hands)) = finish(draw, hands) else {
-        return Err(Fail::from("a hand is missing"));
+        return Ok(false);
     };
-    assert!(rt; hands.len() == 1);
+    let lacking = hands.len() == 1;
     hands.push(other)?;
-    let Err((_draw, hands)) = finish(draw, hands) else {
-        return Err(Fail::from("a hand has not met the end"));
-    };
-    assert!(rt; hands.len() == 2);
-    Ok(())
+    match finish(draw, hands) {
+        Ok(_) => Ok(false),
+        Err((_, hands)) => Ok(met && lacking && hands.len() == 2),
+    }
+}
+
+#[test]
+fn finish_hands_back(rt: HostRuntime) {
+    assert!(rt; is_handed_back(rt.alloc()) == Ok(true));
 }

@@ -1,25 +1,26 @@
 //! What workers leave, one alone and two in threads.
 
-ghost use Rattle.std.specs.Prelude.{◌≡◌, ◌≤◌};
+ghost use Rattle.std.specs.Prelude.{◌≡◌, ◌≤◌, IfOk};
 
+use crate::desks::{desk_of_one, is_full};
 use crate::notes::{Note, Notes};
-use geom::Fault;
+use geom::{Fault, NoMemory};
 use holding::Holding;
 use std::alloc::Global;
 use std::marker::Brand;
-use std::process::Abort;
 use std::sync::Wait;
 use std::sync::ledger::Blank;
-use std::test::Fail;
 use std::thread::Threads;
 use tile_book::{
-    Desk, Draw, FilledBook, Gate, Limited, OpenGate, Phase, WorkOutcome, close, complete, fill,
+    Desk, Draw, Gate, Hand, Limited, OpenGate, Phase, Share, WorkOutcome, close, complete, fill,
     finish, make_all, work,
 };
 
-/// How many pieces can be made, the limit of the book, and what one worker of five numbers leaves: whether its draw is
-/// finished, how many pieces came back, its fault, and the numbers that the book accepted.
-type WorkRow = (u32, u16, (bool, u32, Option<Fault>), &'static [u32]);
+/// What one worker of five numbers leaves: whether its draw is finished, how many pieces came back, and its fault.
+type Ended = (bool, u32, Option<Fault>);
+
+/// How many pieces can be made, the limit of the book, what one worker leaves, and the numbers that the book accepted.
+type WorkRow = (u32, u16, Ended, &'static [u32]);
 
 /// In the second the draw goes on past the limit of the book, which sends those pieces back.
 const WORKED: [WorkRow; 3] = [
@@ -29,47 +30,69 @@ const WORKED: [WorkRow; 3] = [
 ];
 
 #[test]
-fn one_worker_of_five_numbers(rt: HostRuntime) -> Result<(), Fail> {
+fn one_worker_of_five_numbers(rt: HostRuntime) {
     for (room, limit, ended, accepted) in WORKED {
         let job = Notes { count: 5, room };
         let limit = u32::from(limit);
-        let left = one_worker::<Brand, _>(&rt, rt.alloc(), Blank::new(1), limit, &job)?;
         assert!(rt;
-            (left.is_finished, left.returned, left.fault) == ended
-                && left.accepted.as_slice() == accepted,
+            works_so::<Brand, _>(&rt, rt.alloc(), Blank::new(1), limit, &job, ended, accepted)
+                == Ok(true),
             "{room}, {limit}"
         );
     }
-    Ok(())
 }
 
-/// What one worker leaves: whether its draw is finished, what it hands back, and the numbers that the book accepted.
-#[derive(Drop)]
-struct Left {
-    is_finished: bool,
-    returned: u32,
-    fault: Option<Fault>,
-    accepted: Vec<u32>,
+/// A draw of five numbers for one hand, with it.
+fn draw_of_five(alloc: Global) -> Result<(Draw<Global>, Hand), NoMemory>
+    ensures { IfOk result (λ r. (r.0.limit ≡ 5) × (r.1.draw ≡ r.0)) }
+{
+    let (draw, mut hands) = Draw::new(alloc, 5, 1)?;
+    match hands.pop() {
+        Some(hand) => Ok((draw, hand)),
+        None => Err(NoMemory),
+    }
 }
 
-/// The one worker of a draw of five numbers.
-fn one_worker<L: Limited, R: Wait>(
+/// Whether a draw is finished by its one hand.
+fn is_finished(alloc: Global, draw: Draw<Global>, hand: Hand) -> Result<bool, NoMemory>
+    requires { hand.draw ≡ draw }
+{
+    let mut hands = Vec::new(alloc);
+    hands.push(hand)?;
+    Ok(finish(draw, hands).is_ok())
+}
+
+/// Whether a desk is closed with its share, and has accepted these numbers.
+fn has_accepted<L: Limited>(
+    desk: Desk<Note, L, Global>,
+    mut shares: Vec<Share<L>>,
+    share: Share<L>,
+    accepted: &[u32],
+) -> Result<bool, NoMemory> {
+    shares.push(share)?;
+    match close(desk, shares) {
+        Ok(book) => Ok(book.accepted() == accepted),
+        Err(_) => Ok(false),
+    }
+}
+
+/// Whether the one worker of a draw of five numbers leaves this.
+fn works_so<L: Limited, R: Wait>(
     rt: &R,
     alloc: Global,
     blank: Blank,
     limit: u32,
     job: &Notes,
-) -> Result<Left, Fail>
+    ended: Ended,
+    accepted: &[u32],
+) -> Result<bool, NoMemory>
     requires name { blank.name ≡ L.name }
     requires parts { (blank.parts ≡ L.parts) × (blank.parts ≡ 1) }
     requires limit { (limit ≡ L.limit) × (limit ≤ 65536) }
     requires count { 5 ≤ job.now.count }
 {
-    let (draw, mut hands) = Draw::new(alloc, 5, 1)?;
-    let (desk, mut shares) = Desk::<Note, L, Global>::new(alloc, blank, limit, 1)?;
-    let (Some(hand), Some(share)) = (hands.pop(), shares.pop()) else {
-        return Err(Fail::from("one hand and one share"));
-    };
+    let (draw, hand) = draw_of_five(alloc)?;
+    let (desk, shares, share) = desk_of_one::<L, Global>(alloc, blank, limit)?;
     let WorkOutcome {
         hand,
         share,
@@ -86,64 +109,51 @@ fn one_worker<L: Limited, R: Wait>(
         share,
         &OpenGate,
     );
-    let mut hands = Vec::new(alloc);
-    hands.push(hand)?;
-    shares.push(share)?;
-    let is_finished = finish(draw, hands).is_ok();
-    let Ok(book) = close(desk, shares) else {
-        return Err(Fail::from("all shares are there"));
-    };
-    let accepted = book.accepted().to_vec(alloc)?;
-    Ok(Left {
-        is_finished,
-        returned,
-        fault,
-        accepted,
-    })
+    let same = (is_finished(alloc, draw, hand)?, returned, fault) == ended;
+    Ok(has_accepted(desk, shares, share, accepted)? && same)
 }
 
 #[test]
-fn two_workers_of_five_numbers(rt: HostRuntime) -> Result<(), Fail> {
-    two_workers::<Brand, _, _>(&rt, rt.alloc(), Blank::new(2), &OpenGate)
+fn two_workers_of_five_numbers(rt: HostRuntime) {
+    assert!(rt; two_fill::<Brand, _, _>(&rt, rt.alloc(), Blank::new(2), &OpenGate) == Ok(true));
 }
 
-fn two_workers<L: Limited + Send + Sync, G: Gate + Sync, R: Threads + Wait + Abort + Sync>(
+/// Whether two workers of five numbers fill a book.
+fn two_fill<L: Limited + Send + Sync, G: Gate + Sync, R: Threads + Wait + Sync>(
     rt: &R,
     alloc: Global,
     blank: Blank,
     gate: &G,
-) -> Result<(), Fail>
+) -> Result<bool, NoMemory>
     requires name { blank.name ≡ L.name }
     requires parts { (blank.parts ≡ L.parts) × (blank.parts ≡ 2) }
     requires limit { L.limit ≡ 5 }
 {
     let job = Notes { count: 5, room: 5 };
-    let filled: FilledBook<Note, L, Global> = fill(
-        rt,
-        alloc,
-        blank,
-        5,
-        2,
-        &job,
-        Phase::Route,
-        gate,
-    )?;
-    assert!(rt; filled.returned == 0);
-    assert!(rt; filled.book.accepted().len() == 5);
-    assert!(rt; filled.book.held().iter().all(|note| note.is_some()));
-    Ok(())
+    let filled = fill::<Global, Notes, L, G, R>(rt, alloc, blank, 5, 2, &job, Phase::Route, gate)?;
+    Ok(filled.returned == 0 && filled.book.accepted().len() == 5 && is_full(&filled.book))
 }
 
 #[test]
-fn all_notes_of_five_numbers(rt: HostRuntime) -> Result<(), Fail> {
-    all_notes::<Brand, _>(&rt, rt.alloc(), Blank::new(2))
+fn all_notes_of_five_numbers(rt: HostRuntime) {
+    assert!(rt; makes_all::<Brand, _>(&rt, rt.alloc(), Blank::new(2)) == Ok(true));
 }
 
-fn all_notes<L: Limited + Send + Sync, R: Threads + Wait + Abort + Sync>(
+/// Whether the notes have these numbers.
+fn are_numbered(notes: &[Note], numbers: &[u32]) -> bool {
+    notes.len() == numbers.len()
+        && notes
+            .iter()
+            .zip(numbers)
+            .all(|(note, number)| note.number == *number)
+}
+
+/// Whether two workers make the notes of five numbers, and none of them again.
+fn makes_all<L: Limited + Send + Sync, R: Threads + Wait + Sync>(
     rt: &R,
     alloc: Global,
     blank: Blank,
-) -> Result<(), Fail>
+) -> Result<bool, NoMemory>
     requires name { blank.name ≡ L.name }
     requires parts { (blank.parts ≡ L.parts) × (blank.parts ≡ 2) }
     requires limit { L.limit ≡ 5 }
@@ -159,44 +169,38 @@ fn all_notes<L: Limited + Send + Sync, R: Threads + Wait + Abort + Sync>(
         Phase::Route,
         &OpenGate,
     )?;
-    let numbers: Vec<u32> = all.pieces.iter().map(|note| note.number).collect(alloc)?;
-    assert!(rt; numbers.as_slice() == [0, 1, 2, 3, 4].as_slice());
-    assert_eq!(rt; all.remade, 0);
-    Ok(())
+    Ok(all.remade == 0 && are_numbered(&all.pieces, &[0, 1, 2, 3, 4]))
 }
 
 /// A book that lacks pieces: number 1 of three was posted, and the other two are made when all are asked for.
 #[test]
-fn notes_that_the_book_lacks(rt: HostRuntime) -> Result<(), Fail> {
-    lacking::<Brand, _>(&rt, rt.alloc(), Blank::new(1))
+fn notes_that_the_book_lacks(rt: HostRuntime) {
+    assert!(rt; makes_the_others::<Brand, _>(&rt, rt.alloc(), Blank::new(1)) == Ok(true));
 }
 
-fn lacking<L: Limited, R: Wait + Abort>(rt: &R, alloc: Global, blank: Blank) -> Result<(), Fail>
+fn makes_the_others<L: Limited, R: Wait>(
+    rt: &R,
+    alloc: Global,
+    blank: Blank,
+) -> Result<bool, NoMemory>
     requires name { blank.name ≡ L.name }
     requires parts { (blank.parts ≡ L.parts) × (blank.parts ≡ 1) }
     requires limit { L.limit ≡ 3 }
 {
-    let (desk, mut shares) = Desk::<Note, L, Global>::new(alloc, blank, 3, 1)?;
-    let Some(share) = shares.pop() else {
-        return Err(Fail::from("one share"));
-    };
+    let (desk, mut shares, share) = desk_of_one::<L, Global>(alloc, blank, 3)?;
     let (share, _answer) = desk.post(rt, share, Note { number: 1 });
     shares.push(share)?;
     let Ok(book) = close(desk, shares) else {
-        return Err(Fail::from("all shares are there"));
+        return Ok(false);
     };
     let job = Notes { count: 3, room: 3 };
     let all = complete::<Global, Notes, L>(alloc, &job, book)?;
-    let numbers: Vec<u32> = all.pieces.iter().map(|note| note.number).collect(alloc)?;
-    assert!(rt; numbers.as_slice() == [0, 1, 2].as_slice());
-    assert_eq!(rt; all.remade, 2);
-    Ok(())
+    Ok(all.remade == 2 && are_numbered(&all.pieces, &[0, 1, 2]))
 }
 
 #[test]
-fn two_workers_at_the_same_time(rt: HostRuntime) -> Result<(), Fail> {
+fn two_workers_at_the_same_time(rt: HostRuntime) {
     let gate = Holding::until(Phase::Route, 1);
-    two_workers::<Brand, _, _>(&rt, rt.alloc(), Blank::new(2), &gate)?;
-    assert!(rt; gate.has_seen());
-    Ok(())
+    let filled = two_fill::<Brand, _, _>(&rt, rt.alloc(), Blank::new(2), &gate);
+    assert!(rt; filled == Ok(true) && gate.has_seen());
 }

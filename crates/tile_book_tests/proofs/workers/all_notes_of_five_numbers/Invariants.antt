@@ -1,7 +1,7 @@
 use Rattle.tile_book_tests.proofs.workers.all_notes_of_five_numbers.Given as goal
 
-abbrev pub ghosts-all_notes-L-Ledger : goal.ghosts-all_notes-L-Ledger
-ghosts-all_notes-L-Ledger g a = record { name = a.blank.name; parts = a.blank.parts }
+abbrev pub ghosts-makes_all-L-Ledger : goal.ghosts-makes_all-L-Ledger
+ghosts-makes_all-L-Ledger g a = record { name = a.blank.name; parts = a.blank.parts }
 
-abbrev pub ghosts-all_notes-L-Limited : goal.ghosts-all_notes-L-Limited
-ghosts-all_notes-L-Limited g a = record { limit = 5 }
+abbrev pub ghosts-makes_all-L-Limited : goal.ghosts-makes_all-L-Limited
+ghosts-makes_all-L-Limited g a = record { limit = 5 }
