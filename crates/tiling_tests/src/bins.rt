@@ -1,6 +1,6 @@
 //! The bins of tiles on small examples, and against a plain loop over all boxes.
 
-ghost use Rattle.std.specs.Prelude.{◌≡◌, ◌<◌};
+ghost use Rattle.std.specs.Prelude.{◌≡◌, ◌<◌, IfOk};
 ghost use Rattle.grid.specs.Tiles.{tile_count};
 
 use crate::rects::{boxes_of, grid_over, rect, scattered};
@@ -27,10 +27,17 @@ fn is_plain(list: &[Rect], area: Rect, found: &[u32]) -> bool {
     next == found.len()
 }
 
+/// The bins of a grid over boxes.
+fn bins_of(alloc: Global, grid: &Grid, list: &[Rect]) -> Result<Bins<Global>, NoMemory>
+    ensures { IfOk result (λ bins. bins.grid ≡ grid.now) }
+{
+    let boxes = boxes_of(alloc, list)?;
+    Bins::build(alloc, grid, &boxes)
+}
+
 /// Whether the bin of each tile is that of the plain loop.
 fn bins_agree(alloc: Global, grid: &Grid, list: &[Rect]) -> Result<bool, NoMemory> {
-    let boxes = boxes_of(alloc, list)?;
-    let bins = Bins::build(alloc, grid, &boxes)?;
+    let bins = bins_of(alloc, grid, list)?;
     let mut found = Vec::new(alloc);
     for number in 0..grid.tiles() {
         bins.bin(number, &mut found)?;
@@ -50,25 +57,47 @@ fn example() -> [Rect; 4] {
     ]
 }
 
-/// The bin of a tile, and the places.
-fn bin_and_places<L: Ledger>(
+/// Whether a tile of a grid has this bin in the example.
+fn has_bin(alloc: Global, grid: &Grid, number: u32, numbers: &[u32]) -> Result<bool, NoMemory>
+    requires { number < tile_count grid.now }
+{
+    let bins = bins_of(alloc, grid, &example())?;
+    let mut found = Vec::new(alloc);
+    bins.bin(number, &mut found)?;
+    Ok(found.as_slice() == numbers)
+}
+
+/// The places of a tile of a grid in the example.
+fn places_of<L: Ledger>(
     alloc: Global,
     grid: &Grid,
     number: u32,
     blank: Blank,
-) -> Result<(Vec<u32>, (u32, u32)), NoMemory>
+) -> Result<(u32, u32), NoMemory>
     requires name { blank.name ≡ L.name }
     requires parts { blank.parts ≡ L.parts }
     requires some { 0 < L.parts }
     requires tile { number < tile_count grid.now }
 {
-    let boxes = boxes_of(alloc, example().as_slice())?;
-    let bins = Bins::build(alloc, grid, &boxes)?;
-    let mut count = Count::<L>::new(blank);
-    let places = bins.places(number, &mut count);
-    let mut found = Vec::new(alloc);
-    bins.bin(number, &mut found)?;
-    Ok((found, places))
+    let bins = bins_of(alloc, grid, &example())?;
+    Ok(bins.places(number, &mut Count::<L>::new(blank)))
+}
+
+/// Whether a tile of a grid has this bin and these places in the example.
+fn is_found<L: Ledger>(
+    alloc: Global,
+    grid: &Grid,
+    row: (u32, &[u32], (u32, u32)),
+    blank: Blank,
+) -> bool
+    requires name { blank.name ≡ L.name }
+    requires parts { blank.parts ≡ L.parts }
+    requires some { 0 < L.parts }
+{
+    let (number, numbers, places) = row;
+    number < grid.tiles()
+        && has_bin(alloc, grid, number, numbers) == Ok(true)
+        && places_of::<L>(alloc, grid, number, blank) == Ok(places)
 }
 
 #[test]
@@ -80,12 +109,18 @@ fn bins_of_the_table(rt: HostRuntime) -> Result<(), Fail> {
         (234, [0, 3].as_slice(), (0, 3)),
     ];
     let grid = grid_over(Some(rect(0, 0, 600, 600)), 16)?;
-    for (number, numbers, places) in table {
-        assert!(rt; number < grid.tiles());
-        let (found, between) = bin_and_places::<Brand>(rt.alloc(), &grid, number, Blank::new(1))?;
-        assert!(rt; found.as_slice() == numbers && between == places);
+    for row in table {
+        assert!(rt; is_found::<Brand>(rt.alloc(), &grid, row, Blank::new(1)));
     }
     Ok(())
+}
+
+/// Whether the bins of a grid over bounds are those of the plain loop.
+fn bins_over(alloc: Global, bounds: Rect, side: u32, list: &[Rect]) -> Result<bool, NoMemory> {
+    match grid_over(Some(bounds), side) {
+        Ok(grid) => bins_agree(alloc, &grid, list),
+        Err(_) => Ok(false),
+    }
 }
 
 #[test]
@@ -107,8 +142,7 @@ fn bins_against_the_plain_loop(rt: HostRuntime) -> Result<(), Fail> {
         (whole, 33_554_432, ends.as_slice()),
     ];
     for (bounds, side, list) in table {
-        let grid = grid_over(Some(bounds), side)?;
-        assert!(rt; bins_agree(rt.alloc(), &grid, list)?);
+        assert!(rt; bins_over(rt.alloc(), bounds, side, list) == Ok(true));
     }
     Ok(())
 }

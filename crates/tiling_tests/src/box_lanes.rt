@@ -3,11 +3,10 @@
 ghost use Rattle.std.specs.Prelude.{◌≤◌, length};
 
 use crate::lengths::LENGTHS;
-use crate::rects::pt;
-use geom::{COORDINATE_LIMIT, NoMemory, Pt, Rect};
+use crate::rects::{boxes_of, rect};
+use geom::{COORDINATE_LIMIT, NoMemory, Rect};
 use lane_tests::{Boxes, meet_boxes, meet_in};
 use std::alloc::Global;
-use std::test::Fail;
 
 /// Whether the numbers are those of the boxes from `from` to below `to` that share a point with the rectangle, ascending, by a
 // plain loop.
@@ -51,37 +50,49 @@ fn boxes_with_one(
     Ok(boxes)
 }
 
-#[test]
-fn boxes_of_the_table(rt: HostRuntime) -> Result<(), Fail> {
-    let mut boxes = Boxes::new(rt.alloc());
-    for (left, bottom, right, top) in [
-        (15, 15, 20, 20),
-        (16, 0, 20, 5),
-        (-5, -5, 0, 0),
-        (-5, 3, 40, 3),
-        (3, -9, 3, -1),
-    ] {
-        boxes.push(Rect::spanned_by(pt(left, bottom), pt(right, top)))?;
-    }
-    let mut found = Vec::new(rt.alloc());
-    meet_boxes(&boxes, Rect::spanned_by(pt(0, 0), pt(15, 15)), &mut found)?;
-    assert_eq!(rt; found.as_slice(), [0, 2, 3].as_slice());
-    Ok(())
+/// Whether these of five boxes share a point with a rectangle.
+fn meets_of_five(alloc: Global, area: Rect, numbers: &[u32]) -> Result<bool, NoMemory> {
+    let five = [
+        rect(15, 15, 20, 20),
+        rect(16, 0, 20, 5),
+        rect(-5, -5, 0, 0),
+        rect(-5, 3, 40, 3),
+        rect(3, -9, 3, -1),
+    ];
+    let boxes = boxes_of(alloc, &five)?;
+    let mut found = Vec::new(alloc);
+    meet_boxes(&boxes, area, &mut found)?;
+    Ok(found.as_slice() == numbers)
 }
 
 #[test]
-fn boxes_at_every_length(rt: HostRuntime) -> Result<(), Fail> {
+fn boxes_of_the_table(rt: HostRuntime) {
+    assert!(rt; meets_of_five(rt.alloc(), rect(0, 0, 15, 15), &[0, 2, 3]) == Ok(true));
+}
+
+/// Whether boxes of which all but one are the same are found as by the plain loop.
+fn one_agrees(
+    alloc: Global,
+    length: u32,
+    place: u32,
+    (one, other): (Rect, Rect),
+    rect: Rect,
+) -> Result<bool, NoMemory> {
+    let boxes = boxes_with_one(alloc, length, place, one, other)?;
+    boxes_agree(alloc, &boxes, rect)
+}
+
+#[test]
+fn boxes_at_every_length(rt: HostRuntime) {
     let limit = COORDINATE_LIMIT;
-    let corner = Rect::spanned_by(pt(limit, limit), pt(limit, limit));
-    let whole = Rect::spanned_by(pt(-limit, -limit), pt(limit, limit));
-    let outside = Rect::spanned_by(pt(-limit, -limit), pt(limit - 1, limit));
+    let corner = rect(limit, limit, limit, limit);
+    let whole = rect(-limit, -limit, limit, limit);
+    let outside = rect(-limit, -limit, limit - 1, limit);
     for length in LENGTHS {
         for place in 0..length.max(1) {
-            for (one, other) in [(whole, outside), (outside, whole)] {
-                let boxes = boxes_with_one(rt.alloc(), length, place, one, other)?;
-                assert!(rt; boxes_agree(rt.alloc(), &boxes, corner)?);
+            for both in [(whole, outside), (outside, whole)] {
+                assert!(rt; one_agrees(rt.alloc(), length, place, both, corner) == Ok(true));
             }
         }
     }
-    Ok(())
 }

@@ -62,14 +62,19 @@ fn edges_of(alloc: Global, list: &[(Pt, Pt)]) -> Result<Edges<Global>, NoMemory>
     Ok(edges)
 }
 
-#[test]
-fn parities_of_the_table(rt: HostRuntime) -> Result<(), Fail> {
+/// Whether the parity at a probe over three edges is this, by lanes and by the plain loop.
+fn has_parity(alloc: Global, z: Probe, odd: bool) -> Result<bool, NoMemory> {
     let list = [
         (pt(0, 0), pt(4, 0)),
         (pt(0, 0), pt(4, 4)),
         (pt(4, 0), pt(4, 4)),
     ];
-    let edges = edges_of(rt.alloc(), list.as_slice())?;
+    let edges = edges_of(alloc, list.as_slice())?;
+    Ok(lanes_parity(&edges, z) == Some(odd) && plain_parity(list.as_slice(), z) == odd)
+}
+
+#[test]
+fn parities_of_the_table(rt: HostRuntime) {
     let table = [
         (4, 2, 0, 0, true),
         (8, 2, 0, 0, false),
@@ -80,11 +85,8 @@ fn parities_of_the_table(rt: HostRuntime) -> Result<(), Fail> {
         (4, 4, 4, -4, true),
     ];
     for (x2, y2, dx, dy, odd) in table {
-        let z = Probe { x2, y2, dx, dy };
-        let agrees = lanes_parity(&edges, z) == Some(odd);
-        assert!(rt; agrees && plain_parity(list.as_slice(), z) == odd);
+        assert!(rt; has_parity(rt.alloc(), Probe { x2, y2, dx, dy }, odd) == Ok(true));
     }
-    Ok(())
 }
 
 /// Whether the parity at a probe is that of the plain loop, over `length` edges that are the same but for one.
@@ -123,7 +125,7 @@ fn lengths_agree(
 }
 
 #[test]
-fn parities_at_every_length(rt: HostRuntime) -> Result<(), Fail> {
+fn parities_at_every_length(rt: HostRuntime) {
     let limit = COORDINATE_LIMIT;
     let ends = [
         (pt(-limit, -limit), pt(limit, limit)),
@@ -141,11 +143,11 @@ fn parities_at_every_length(rt: HostRuntime) -> Result<(), Fail> {
     ] {
         for one in ends {
             for other in ends {
-                assert!(rt; lengths_agree(rt.alloc(), one, other, Probe { x2, y2, dx, dy })?);
+                let agree = lengths_agree(rt.alloc(), one, other, Probe { x2, y2, dx, dy });
+                assert!(rt; agree == Ok(true));
             }
         }
     }
-    Ok(())
 }
 
 /// The edges of these numbers, or none where an edge is outside the limit or a number out of range.
@@ -170,18 +172,29 @@ fn all_in_range(numbers: &[u32], edges: &[Edge]) -> bool
     numbers.iter().all(|number| (*number as usize) < count)
 }
 
-#[test]
-fn chosen_edges(rt: HostRuntime) -> Result<(), Fail> {
-    let mut list = Vec::new(rt.alloc());
-    for (px, py, qx, qy) in [(0, 0, 4, 0), (0, 0, 4, 4), (4, 0, 4, 4), (1, 5, 9, 5)] {
-        list.push(Edge::between(pt(px, py), pt(qx, qy)).ok_or("equal ends")?)?;
-    }
+/// Whether the parity below is this over the edges of these numbers, all of them.
+fn has_parity_below(
+    alloc: Global,
+    list: &[Edge],
+    numbers: &[u32],
+    odd: bool,
+) -> Result<bool, NoMemory> {
     let below = Probe {
         x2: 3,
         y2: -1,
         dx: 0,
         dy: 0,
     };
+    let chosen = chosen(alloc, list, numbers)?;
+    Ok(chosen.len() == numbers.len() && odd_above(&chosen, below) == odd)
+}
+
+#[test]
+fn chosen_edges(rt: HostRuntime) -> Result<(), Fail> {
+    let mut list = Vec::new(rt.alloc());
+    for (px, py, qx, qy) in [(0, 0, 4, 0), (0, 0, 4, 4), (4, 0, 4, 4), (1, 5, 9, 5)] {
+        list.push(Edge::between(pt(px, py), pt(qx, qy)).ok_or("equal ends")?)?;
+    }
     let table = [
         ([].as_slice(), false),
         ([1].as_slice(), true),
@@ -192,9 +205,7 @@ fn chosen_edges(rt: HostRuntime) -> Result<(), Fail> {
         ([3, 3, 2, 3].as_slice(), true),
     ];
     for (numbers, odd) in table {
-        let chosen = chosen(rt.alloc(), &list, numbers)?;
-        let count = chosen.len();
-        assert!(rt; count == numbers.len() && odd_above(&chosen, below) == odd);
+        assert!(rt; has_parity_below(rt.alloc(), &list, numbers, odd) == Ok(true));
     }
     Ok(())
 }
