@@ -1,14 +1,19 @@
 //! Tables of texts that are read, with their answers from outside.
 
-ghost use Rattle.std.specs.Prelude.{◌≤◌, ◌^◌};
-
 use geom::{Fault, Pt, Rect};
-use std::alloc::{Allocator, Global};
-use std::test::Fail;
+use std::alloc::{AllocError, Global};
 use wkt::{Outline, check_layer, read_layer, read_outlined};
 
-fn rect(x0: i32, y0: i32, x1: i32, y1: i32) -> Option<Rect> {
-    Some(Rect::spanned_by(Pt { x: x0, y: y0 }, Pt { x: x1, y: y1 }))
+/// The x and y of the lower left corner and of the upper right one.
+type Corners = (i32, i32, i32, i32);
+
+/// The outline of so many segments, with the corners of its bounds.
+fn outline_of(segments: u32, corners: Option<Corners>) -> Outline {
+    let bounds = match corners {
+        Some((x0, y0, x1, y1)) => Some(Rect::spanned_by(Pt { x: x0, y: y0 }, Pt { x: x1, y: y1 })),
+        None => None,
+    };
+    Outline { segments, bounds }
 }
 
 /// Whether a text is a layer of so many rings, with this outline.
@@ -29,76 +34,98 @@ fn is_refused(alloc: Global, text: &str, fault: Fault) -> bool {
     read == Some(fault) && outlined == Some(fault) && check_layer(text.as_bytes()) == Err(fault)
 }
 
+/// A layer, its rings and segments, and the corners of its bounds.
+type Accepted = (&'static str, usize, u32, Option<Corners>);
+
+const ACCEPTED: &[Accepted] = &[
+    ("", 0, 0, None),
+    (" \t\r\n", 0, 0, None),
+    ("POLYGON EMPTY", 0, 0, None),
+    ("MultiPolygon empty", 0, 0, None),
+    ("POLYGON EMPTY\npolygon\tempty ", 0, 0, None),
+    ("POLYGON((0 0,4 0,4 4,0 4,0 0))", 1, 4, Some((0, 0, 4, 4))),
+    (
+        "POLYGON ((007 -0, 8 0, 8 1, 7 0))",
+        1,
+        3,
+        Some((7, 0, 8, 1)),
+    ),
+    ("POLYGON ((5 5, 5 5, 5 5, 5 5))", 1, 0, None),
+    (
+        "POLYGON ((0 0, 16777217 0, 0 1, 0 0))",
+        1,
+        3,
+        Some((0, 0, 16_777_217, 1)),
+    ),
+    (
+        "POLYGON ((-268435456 0, 268435456 0, 0 268435456, -268435456 0))",
+        1,
+        3,
+        Some((-268_435_456, 0, 268_435_456, 268_435_456)),
+    ),
+    (
+        "POLYGON ((0 0, 4 0, 4 0, 0 4, 0 0))",
+        1,
+        3,
+        Some((0, 0, 4, 4)),
+    ),
+    (
+        "MULTIPOLYGON (((0 0, 1 0, 0 1, 0 0)), ((2 2, 3 2, 2 3, 2 2)))",
+        2,
+        6,
+        Some((0, 0, 3, 3)),
+    ),
+];
+
 #[test]
 fn accepted(rt: HostRuntime) {
-    let table = [
-        ("", 0, 0, None),
-        (" \t\r\n", 0, 0, None),
-        ("POLYGON EMPTY", 0, 0, None),
-        ("MultiPolygon empty", 0, 0, None),
-        ("POLYGON EMPTY\npolygon\tempty ", 0, 0, None),
-        ("POLYGON((0 0,4 0,4 4,0 4,0 0))", 1, 4, rect(0, 0, 4, 4)),
-        ("POLYGON ((007 -0, 8 0, 8 1, 7 0))", 1, 3, rect(7, 0, 8, 1)),
-        ("POLYGON ((5 5, 5 5, 5 5, 5 5))", 1, 0, None),
-        (
-            "POLYGON ((0 0, 16777217 0, 0 1, 0 0))",
-            1,
-            3,
-            rect(0, 0, 16_777_217, 1),
-        ),
-        (
-            "POLYGON ((-268435456 0, 268435456 0, 0 268435456, -268435456 0))",
-            1,
-            3,
-            rect(-268_435_456, 0, 268_435_456, 268_435_456),
-        ),
-        (
-            "POLYGON ((0 0, 4 0, 4 0, 0 4, 0 0))",
-            1,
-            3,
-            rect(0, 0, 4, 4),
-        ),
-        (
-            "MULTIPOLYGON (((0 0, 1 0, 0 1, 0 0)), ((2 2, 3 2, 2 3, 2 2)))",
-            2,
-            6,
-            rect(0, 0, 3, 3),
-        ),
-    ];
-    for (text, rings, segments, bounds) in table {
-        let outline = Outline { segments, bounds };
+    for &(text, rings, segments, corners) in ACCEPTED {
+        let outline = outline_of(segments, corners);
         assert!(rt; is_read(rt.alloc(), text, rings, outline), "{text}");
     }
 }
 
-/// A text, and why it is no layer.
-const REFUSED: [(&str, Fault); 32] = [
-    ("POLYGOM EMPTY", Fault::Syntax(6)),
-    ("POLYGONEMPTY", Fault::Syntax(7)),
-    ("POLYGON ()", Fault::Syntax(9)),
-    ("POLYGON (())", Fault::Syntax(10)),
-    ("POLYGON ((0 0, 4 0, 4 4, 0 4, 0 0)", Fault::Syntax(34)),
-    ("POLYGON ((+1 0, 1 1, 0 1, 1 0))", Fault::Syntax(10)),
-    ("POLYGON ((- 1 0, 1 1, 0 1, 1 0))", Fault::Syntax(11)),
-    ("MULTIPOLYGON (EMPTY)", Fault::Syntax(14)),
-    ("POLYGON Z ((0 0 0))", Fault::Syntax(8)),
-    ("POINT (1 1)", Fault::Syntax(2)),
-    ("POLYGON ((0 0, 1.5 0, 0 1, 0 0))", Fault::Syntax(16)),
-    ("POLYGON EMPTYPOLYGON EMPTY", Fault::Syntax(13)),
-    ("POLYGON (0 0, 1 0, 0 1, 0 0)", Fault::Syntax(9)),
-    ("POLYGON ((99999999 0, 1 0, 1 1)", Fault::Syntax(31)),
-    ("POLYGON ((999999999 0, 1 0, 1 1)", Fault::Syntax(32)),
+/// A text that is not of the grammar, and the place where that is told.
+const BAD_SYNTAX: &[(&str, usize)] = &[
+    ("POLYGOM EMPTY", 6),
+    ("POLYGONEMPTY", 7),
+    ("POLYGON ()", 9),
+    ("POLYGON (())", 10),
+    ("POLYGON ((0 0, 4 0, 4 4, 0 4, 0 0)", 34),
+    ("POLYGON ((+1 0, 1 1, 0 1, 1 0))", 10),
+    ("POLYGON ((- 1 0, 1 1, 0 1, 1 0))", 11),
+    ("MULTIPOLYGON (EMPTY)", 14),
+    ("POLYGON Z ((0 0 0))", 8),
+    ("POINT (1 1)", 2),
+    ("POLYGON ((0 0, 1.5 0, 0 1, 0 0))", 16),
+    ("POLYGON EMPTYPOLYGON EMPTY", 13),
+    ("POLYGON (0 0, 1 0, 0 1, 0 0)", 9),
+    ("POLYGON ((99999999 0, 1 0, 1 1)", 31),
+    ("POLYGON ((999999999 0, 1 0, 1 1)", 32),
     // a text that only ends too early is refused at its whole length
-    ("POLYGON ((0 0", Fault::Syntax(13)),
-    ("POLYGON EMPTY POLYGON", Fault::Syntax(21)),
-    ("POLYGON EMPTYP", Fault::Syntax(13)),
-    ("POLYGON EMPTY,", Fault::Syntax(13)),
-    ("POLYGON(EMPTY)", Fault::Syntax(8)),
-    ("MULTIPOLYGON(EMPTY)", Fault::Syntax(13)),
-    ("POLYGON((0,0", Fault::Syntax(10)),
-    ("POLYGON((--1", Fault::Syntax(10)),
-    ("POLYGON((0 0 0", Fault::Syntax(13)),
-    // numbers and rings
+    ("POLYGON ((0 0", 13),
+    ("POLYGON EMPTY POLYGON", 21),
+    ("POLYGON EMPTYP", 13),
+    ("POLYGON EMPTY,", 13),
+    ("POLYGON(EMPTY)", 8),
+    ("MULTIPOLYGON(EMPTY)", 13),
+    ("POLYGON((0,0", 10),
+    ("POLYGON((--1", 10),
+    ("POLYGON((0 0 0", 13),
+];
+
+#[test]
+fn bad_syntax(rt: HostRuntime) {
+    for &(text, place) in BAD_SYNTAX {
+        assert!(rt;
+            is_refused(rt.alloc(), text, Fault::Syntax(place)),
+            "{text}"
+        );
+    }
+}
+
+/// A text whose numbers or rings are refused, and why.
+const REFUSED: [(&str, Fault); 8] = [
     (
         "POLYGON ((0 0, 1 0, 0 -268435457, 5 5))",
         Fault::NumberRange(22),
@@ -132,102 +159,103 @@ fn refused(rt: HostRuntime) {
 #[test]
 fn strange_bytes(rt: HostRuntime) {
     for byte in [0, 11, 12, 127, 200, 239] {
-        assert_eq!(rt; check_layer(&[byte]), Err(Fault::Syntax(0)), "{byte}");
-        assert_eq!(rt; check_layer(&[b' ', byte]), Err(Fault::Syntax(1)), "{byte}");
+        let told = (check_layer(&[byte]), check_layer(&[b' ', byte]));
+        assert!(rt;
+            told == (Err(Fault::Syntax(0)), Err(Fault::Syntax(1))),
+            "{byte}"
+        );
     }
 }
 
-/// Each front of a text, but the empty one and the one without the LF, is refused at its own length.
+/// What a front of a square's text is: each but the empty one and the one without the LF is refused at its own length.
+fn told_of_front(length: usize) -> Result<Outline, Fault> {
+    match length {
+        0 => Ok(Outline::of_none()),
+        1..=34 => Err(Fault::Syntax(length)),
+        _ => Ok(outline_of(4, Some((0, 0, 4, 4)))),
+    }
+}
+
 #[test]
 fn fronts(rt: HostRuntime) {
     let text = b"POLYGON ((0 0, 4 0, 4 4, 0 4, 0 0))\n";
-    let whole = Ok(Outline {
-        segments: 4,
-        bounds: rect(0, 0, 4, 4),
-    });
-    assert_eq!(rt;
-        check_layer(&text[..0]),
-        Ok(Outline {
-            segments: 0,
-            bounds: None
-        })
-    );
-    for length in 1..35 {
-        assert_eq!(rt; check_layer(&text[..length]), Err(Fault::Syntax(length)));
+    for length in 0..=text.len() {
+        assert!(rt;
+            check_layer(&text[..length]) == told_of_front(length),
+            "{length}"
+        );
     }
-    assert_eq!(rt; check_layer(&text[..35]), whole);
-    assert_eq!(rt; check_layer(text), whole);
 }
 
-fn padded<A: Allocator>(
-    alloc: A,
+/// What a text is in which a byte stands so many times between a front and a rest.
+fn told_of_run(
+    alloc: Global,
     front: &str,
     byte: u8,
-    count: usize,
+    count: u32,
     rest: &str,
-) -> Result<Vec<u8, A>, Fail>
-    requires { count ≤ 2 ^ 20 }
-{
+) -> Result<Result<Outline, Fault>, AllocError> {
     let mut text = Vec::from_slice(alloc, front.as_bytes())?;
     for _ in 0..count {
         text.push(byte)?;
     }
     text.extend_from_slice(rest.as_bytes())?;
-    Ok(text)
+    Ok(check_layer(&text))
 }
 
 #[test]
-fn long_runs(rt: HostRuntime) -> Result<(), Fail> {
-    let brackets = padded(rt.alloc(), "POLYGON (", b'(', 100_000, "")?;
-    assert_eq!(rt; check_layer(&brackets), Err(Fault::Syntax(10)));
-    let nines = padded(
-        rt.alloc(),
-        "POLYGON ((",
-        b'9',
-        10_000,
-        " 0, 1 0, 1 1, 0 0))",
-    )?;
-    assert_eq!(rt; check_layer(&nines), Err(Fault::NumberRange(10)));
-    let zeros = padded(
-        rt.alloc(),
-        "POLYGON ((",
-        b'0',
-        9_999,
-        "1 0, 1 1, 0 1, 1 0))",
-    )?;
-    assert_eq!(rt;
-        check_layer(&zeros),
-        Ok(Outline {
-            segments: 3,
-            bounds: rect(0, 0, 1, 1)
-        })
-    );
-    Ok(())
+fn long_runs(rt: HostRuntime) {
+    let one = outline_of(3, Some((0, 0, 1, 1)));
+    let table = [
+        ("POLYGON (", b'(', 100_000, "", Err(Fault::Syntax(10))),
+        (
+            "POLYGON ((",
+            b'9',
+            10_000,
+            " 0, 1 0, 1 1, 0 0))",
+            Err(Fault::NumberRange(10)),
+        ),
+        ("POLYGON ((", b'0', 9_999, "1 0, 1 1, 0 1, 1 0))", Ok(one)),
+    ];
+    for (front, byte, count, rest, told) in table {
+        assert!(rt;
+            told_of_run(rt.alloc(), front, byte, count, rest) == Ok(told),
+            "{count}"
+        );
+    }
 }
 
-/// The two texts at the length limit.
-#[test]
-fn length_limit(rt: HostRuntime) -> Result<(), Fail> {
-    let spaces = vec![in rt.alloc(); b' '; 268_435_457]?;
-    assert_eq!(rt; check_layer(&spaces), Err(Fault::LayerLong));
-    assert_eq!(rt;
-        check_layer(&spaces[1..]),
-        Ok(Outline {
-            segments: 0,
-            bounds: None
-        })
-    );
-    Ok(())
+/// What the two texts at the length limit are.
+fn told_at_limit(
+    alloc: Global,
+) -> Result<(Result<Outline, Fault>, Result<Outline, Fault>), AllocError> {
+    let spaces = vec![in alloc; b' '; 268_435_457]?;
+    Ok((check_layer(&spaces), check_layer(&spaces[1..])))
 }
 
 #[test]
-fn rings(rt: HostRuntime) -> Result<(), Fail> {
+fn length_limit(rt: HostRuntime) {
+    let told = (Err(Fault::LayerLong), Ok(Outline::of_none()));
+    assert!(rt; told_at_limit(rt.alloc()) == Ok(told));
+}
+
+/// Whether a text is a layer of rings with these points.
+fn has_rings(alloc: Global, text: &[u8], rings: &[&[Pt]]) -> bool {
+    let Ok(layer) = read_layer(alloc, text) else {
+        return false;
+    };
+    layer.rings().len() == rings.len()
+        && layer
+            .rings()
+            .iter()
+            .zip(rings)
+            .all(|(ring, points)| ring.points() == *points)
+}
+
+#[test]
+fn rings(rt: HostRuntime) {
     let text = b"POLYGON ((0 0, 4 -1, 4 4, 0 0),(5 5, 6 6, 7 5, 5 5))";
-    let layer = read_layer(rt.alloc(), text).ok().ok_or("a layer")?;
-    assert_eq!(rt; layer.rings().len(), 2);
     let first = [Pt { x: 0, y: 0 }, Pt { x: 4, y: -1 }, Pt { x: 4, y: 4 }];
-    assert_eq!(rt; layer.rings()[0].points(), first.as_slice());
     let second = [Pt { x: 5, y: 5 }, Pt { x: 6, y: 6 }, Pt { x: 7, y: 5 }];
-    assert_eq!(rt; layer.rings()[1].points(), second.as_slice());
-    Ok(())
+    assert!(rt; has_rings(rt.alloc(), text, &[&first, &second]));
 }

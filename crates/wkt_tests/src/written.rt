@@ -2,8 +2,7 @@
 
 use crate::squares::square;
 use geom::{NoMemory, Polygon};
-use std::alloc::Allocator;
-use std::test::Fail;
+use std::alloc::{Allocator, Global};
 use wkt::{read_layer, write_multi};
 
 fn with_hole<A: Allocator + Copy>(alloc: A) -> Result<Polygon<A>, NoMemory> {
@@ -12,21 +11,38 @@ fn with_hole<A: Allocator + Copy>(alloc: A) -> Result<Polygon<A>, NoMemory> {
     Ok(Polygon::new(square(alloc, 0, 9)?, holes))
 }
 
+/// A square with a hole, and a square that shares its corner.
+fn two_polygons(alloc: Global) -> Result<Vec<Polygon<Global>>, NoMemory> {
+    let mut polygons = Vec::new(alloc);
+    polygons.push(with_hole(alloc)?)?;
+    polygons.push(Polygon::new(square(alloc, -2, 0)?, Vec::new(alloc)))?;
+    Ok(polygons)
+}
+
+const LINE: &[u8] =
+    b"MULTIPOLYGON (((0 0, 9 0, 9 9, 0 9, 0 0), (3 3, 6 3, 6 6, 3 6, 3 3)), ((-2 -2, 0 -2, 0 0, -2 0, -2 -2)))\n";
+
+/// Whether no polygons are written as an empty line, and two as `LINE`.
+fn are_lines(alloc: Global) -> Result<bool, NoMemory> {
+    let none = write_multi(alloc, &Vec::<Polygon<Global>>::new(alloc))?;
+    let two = write_multi(alloc, &two_polygons(alloc)?)?;
+    Ok(none.as_slice() == b"MULTIPOLYGON EMPTY\n".as_slice() && two.as_slice() == LINE)
+}
+
+/// Whether `LINE` is read as three rings, of which the last is a shell.
+fn is_read_again(alloc: Global) -> Result<bool, NoMemory> {
+    let shell = square(alloc, -2, 0)?;
+    match read_layer(alloc, LINE) {
+        Ok(layer) => {
+            let rings = layer.rings();
+            Ok(rings.len() == 3 && rings[2].points() == shell.points())
+        }
+        Err(_) => Ok(false),
+    }
+}
+
 #[test]
-fn lines(rt: HostRuntime) -> Result<(), Fail> {
+fn lines(rt: HostRuntime) {
     let alloc = rt.alloc();
-    let mut polygons: Vec<Polygon<_>> = Vec::new(alloc);
-    let empty = write_multi(alloc, &polygons).ok().ok_or("memory")?;
-    assert!(rt; empty.as_slice() == b"MULTIPOLYGON EMPTY\n".as_slice());
-    polygons.push(with_hole(alloc).ok().ok_or("memory")?)?;
-    let shell = square(alloc, -2, 0).ok().ok_or("memory")?;
-    polygons.push(Polygon::new(shell, Vec::new(alloc)))?;
-    let text = write_multi(alloc, &polygons).ok().ok_or("memory")?;
-    let line =
-        b"MULTIPOLYGON (((0 0, 9 0, 9 9, 0 9, 0 0), (3 3, 6 3, 6 6, 3 6, 3 3)), ((-2 -2, 0 -2, 0 0, -2 0, -2 -2)))\n";
-    assert!(rt; text.as_slice() == line.as_slice());
-    let layer = read_layer(alloc, &text).ok().ok_or("a layer")?;
-    assert_eq!(rt; layer.rings().len(), 3);
-    assert_eq!(rt; layer.rings()[2].points(), polygons[1].shell().points());
-    Ok(())
+    assert!(rt; are_lines(alloc) == Ok(true) && is_read_again(alloc) == Ok(true));
 }
