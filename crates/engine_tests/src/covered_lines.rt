@@ -72,14 +72,15 @@ fn is_line<R: Threads + Wait + Sync>(
     }
 }
 
+/// Sides of tiles, and numbers of workers.
+const PLANS: [(u32, u32); 4] = [(16, 1), (16, 3), (33_554_432, 1), (33_554_432, 3)];
+
 #[test]
 fn features_do_not_cancel(rt: HostRuntime) -> Result<(), Fail> {
     for case in CASES {
-        for workers in [1, 3] {
-            for side in [16, 33_554_432] {
-                let plan = Plan { side, workers };
-                assert!(rt; is_line(&rt, rt.alloc(), case, plan)?, "{}", case.3);
-            }
+        for (side, workers) in PLANS {
+            let plan = Plan { side, workers };
+            assert!(rt; is_line(&rt, rt.alloc(), case, plan)?, "{}", case.3);
         }
     }
     Ok(())

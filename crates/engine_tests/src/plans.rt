@@ -58,15 +58,21 @@ const ROWS: [Row; 12] = [
     (VAST, VAST_OTHER, 33_554_432, VAST_EDGES, VAST_REPORT),
 ];
 
-/// Each plan gives the same bytes.
+/// Whether each number of workers gives the bytes of a row.
+fn is_rounded<R: Threads + Wait + Sync>(rt: &R, alloc: Global, row: Row) -> Result<bool, NoMemory> {
+    let (a, b, side, text, report) = row;
+    let mut all = true;
+    for workers in [1, 3, 64] {
+        let plan = Plan { side, workers };
+        all &= is_overlaid(rt, alloc, None, (a, b), plan, text, report)?;
+    }
+    Ok(all)
+}
+
 #[test]
 fn rounds_rows(rt: HostRuntime) -> Result<(), Fail> {
-    for (a, b, side, text, report) in ROWS {
-        for workers in [1, 3, 64] {
-            let plan = Plan { side, workers };
-            let holds = is_overlaid(&rt, rt.alloc(), None, (a, b), plan, text, report)?;
-            assert!(rt; holds, "{text}");
-        }
+    for row in ROWS {
+        assert!(rt; is_rounded(&rt, rt.alloc(), row)?, "{row:?}");
     }
     Ok(())
 }

@@ -147,15 +147,21 @@ fn least_of_run<R: Threads + Wait + Sync>(
     Ok(least)
 }
 
+/// Whether `run` asks for more than `run_alone`, and for no more than that beyond it.
+fn makes_none_again<R: Threads + Wait + Sync>(
+    rt: &R,
+    alloc: Global,
+    row: Row,
+) -> Result<bool, NoMemory> {
+    let alone = least_alone(alloc, row)?;
+    let run = least_of_run(rt, alloc, row)?;
+    Ok(0 < alone && alone < run && run <= alone.wrapping_add(BEYOND))
+}
+
 #[test]
 fn makes_no_piece_again(rt: HostRuntime) -> Result<(), Fail> {
     for row in [ROWS[0], ROWS[4]] {
-        let alone = least_alone(rt.alloc(), row)?;
-        let run = least_of_run(&rt, rt.alloc(), row)?;
-        assert!(rt;
-            0 < alone && alone < run && run <= alone.wrapping_add(BEYOND),
-            "{row:?} {alone} {run}"
-        );
+        assert!(rt; makes_none_again(&rt, rt.alloc(), row)?, "{row:?}");
     }
     Ok(())
 }

@@ -66,33 +66,43 @@ fn lines_of(
     Ok(text)
 }
 
-/// Whether layers have the same rows and the same report by columns as by texts.
-fn is_same(alloc: Global, layers: &[Both]) -> Result<bool, NoMemory> {
+/// Lines and report of the faces of layers, by their texts; none where they are refused.
+fn told_by_texts(alloc: Global, layers: &[Both]) -> Result<Option<(Vec<u8>, Vec<u8>)>, NoMemory> {
     let mut texts: Vec<&[u8]> = Vec::new(alloc);
-    let mut columns = Vec::new(alloc);
     for layer in layers {
         texts.push(&layer.text)?;
-        columns.push(layer.columns())?;
     }
-    if texts.len() > MOST_LAYERS || columns.len() > MOST_LAYERS {
-        return Ok(false);
+    if texts.len() > MOST_LAYERS {
+        return Ok(None);
     }
-    let limits = FacesLimits::default();
-    let by_texts = faces_alone(alloc, &texts, 16, limits);
-    let by_columns = faces_columns_alone(alloc, &columns, 16, limits);
-    match (by_texts, by_columns) {
-        (Ok(FacesOutput { text, report }), Ok(made)) => {
-            let FacesColumns {
-                columns,
-                report: told,
-            } = made;
+    match faces_alone(alloc, &texts, 16, FacesLimits::default()) {
+        Ok(FacesOutput { text, report }) => { Ok(Some((text, faces_report_text(alloc, &report)?))) }
+        Err(_) => Ok(None),
+    }
+}
+
+/// The same by their columns.
+fn told_by_columns(alloc: Global, layers: &[Both]) -> Result<Option<(Vec<u8>, Vec<u8>)>, NoMemory> {
+    let mut lent = Vec::new(alloc);
+    for layer in layers {
+        lent.push(layer.columns())?;
+    }
+    if lent.len() > MOST_LAYERS {
+        return Ok(None);
+    }
+    match faces_columns_alone(alloc, &lent, 16, FacesLimits::default()) {
+        Ok(FacesColumns { columns, report }) => {
             let lines = lines_of(alloc, &columns, layers.len())?;
-            let expected = faces_report_text(alloc, &report)?;
-            let report = faces_report_text(alloc, &told)?;
-            Ok(lines.as_slice() == text.as_slice() && report.as_slice() == expected.as_slice())
+            Ok(Some((lines, faces_report_text(alloc, &report)?)))
         }
-        _ => Ok(false),
+        Err(_) => Ok(None),
     }
+}
+
+/// Whether layers have the same rows and the same report by columns as by texts.
+fn is_same(alloc: Global, layers: &[Both]) -> Result<bool, NoMemory> {
+    let by_texts = told_by_texts(alloc, layers)?;
+    Ok(by_texts.is_some() && by_texts == told_by_columns(alloc, layers)?)
 }
 
 #[test]
@@ -154,28 +164,28 @@ fn refused(
     }
 }
 
+/// The coordinates of the three rectangles that both squares have.
+const RECTANGLES: [i32; 30] = [
+    0, 0, 1, 0, 1, 2, 0, 2, 0, 0, 1, 0, 2, 0, 2, 2, 1, 2, 1, 0, 2, 0, 3, 0, 3, 2, 2, 2, 2, 0,
+];
+
+/// Whether rows are these rectangles: in the first layer alone, in both, in the second one alone.
+fn are_rectangles(rows: &RowColumns<Global>) -> bool {
+    rows.twice_areas.as_slice() == [4, 4, 4].as_slice()
+        && rows.features.numbers.as_slice() == [0, 0, 0, 0].as_slice()
+        && rows.features.offsets.as_slice() == [0, 1, 2, 2, 2, 3, 4].as_slice()
+        && rows.columns.coordinates.as_slice() == RECTANGLES.as_slice()
+        && rows.columns.rings.as_slice() == [0, 5, 10, 15].as_slice()
+        && rows.columns.polygons.as_slice() == [0, 1, 2, 3].as_slice()
+        && rows.rows.as_slice() == [0, 1, 2, 3].as_slice()
+}
+
 #[test]
 fn two_squares_have_three_rows(rt: HostRuntime) -> Result<(), Fail> {
     let rings = [0, 5];
     let layers = [layer_with(&SQUARE, &rings), layer_with(&RIGHT, &rings)];
-    let Some(rows) = rows_of(rt.alloc(), &layers) else {
-        assert!(rt; false, "refused");
-        return Ok(());
-    };
-    assert!(rt; rows.twice_areas.as_slice() == [4, 4, 4].as_slice());
-    assert!(rt; rows.features.numbers.as_slice() == [0, 0, 0, 0].as_slice());
-    assert!(rt; rows.features.offsets.as_slice() == [0, 1, 2, 2, 2, 3, 4].as_slice());
-    assert!(rt;
-        rows.columns.coordinates.as_slice()
-            == [
-                0, 0, 1, 0, 1, 2, 0, 2, 0, 0, 1, 0, 2, 0, 2, 2, 1, 2, 1, 0, 2, 0, 3, 0, 3, 2, 2, 2,
-                2, 0,
-            ]
-            .as_slice()
-    );
-    assert!(rt; rows.columns.rings.as_slice() == [0, 5, 10, 15].as_slice());
-    assert!(rt; rows.columns.polygons.as_slice() == [0, 1, 2, 3].as_slice());
-    assert!(rt; rows.rows.as_slice() == [0, 1, 2, 3].as_slice());
+    let rows = rows_of(rt.alloc(), &layers);
+    assert!(rt; rows.is_some_and(|rows| are_rectangles(&rows)));
     Ok(())
 }
 
@@ -186,38 +196,29 @@ fn refuses_the_first_layer_at_fault(rt: HostRuntime) -> Result<(), Fail> {
     let short = layer_with(&SQUARE, &[0, 3]);
     let limits = FacesLimits::default();
     let side = FacesColumnsRefused::Run(FacesRefusal::Usual(Fault::BadTile));
-    assert_eq!(rt;
-        refused(rt.alloc(), &[good, open, short], 15, limits),
-        Some(side)
-    );
     let layer = FacesColumnsRefused::Layer(1, ColumnsFault::RingOpen(0));
-    assert_eq!(rt;
-        refused(rt.alloc(), &[good, open, short], 16, limits),
-        Some(layer)
-    );
-    assert_eq!(rt; refused(rt.alloc(), &[good, good], 16, limits), None);
+    for (layers, tile, reason) in [
+        ([good, open, short], 15, Some(side)),
+        ([good, open, short], 16, Some(layer)),
+        ([good, good, good], 16, None),
+    ] {
+        assert_eq!(rt; refused(rt.alloc(), &layers, tile, limits), reason);
+    }
     Ok(())
 }
 
 #[test]
 fn refuses_more_than_the_limits(rt: HostRuntime) -> Result<(), Fail> {
     let good = layer_with(&SQUARE, &[0, 5]);
-    let few = FacesLimits {
-        segments: 7,
-        ids: 2,
-    };
-    let segments = FacesColumnsRefused::Run(FacesRefusal::Usual(Fault::TooManySegments(8)));
-    assert_eq!(rt; refused(rt.alloc(), &[good, good], 16, few), Some(segments));
-    let enough = FacesLimits {
-        segments: 8,
-        ids: 1,
-    };
-    let ids = FacesColumnsRefused::Run(FacesRefusal::TooManyIds(2));
-    assert_eq!(rt; refused(rt.alloc(), &[good, good], 16, enough), Some(ids));
-    let both = FacesLimits {
-        segments: 8,
-        ids: 2,
-    };
-    assert_eq!(rt; refused(rt.alloc(), &[good, good], 16, both), None);
+    let too_many_segments = FacesRefusal::Usual(Fault::TooManySegments(8));
+    for (segments, ids, refusal) in [
+        (7, 2, Some(too_many_segments)),
+        (8, 1, Some(FacesRefusal::TooManyIds(2))),
+        (8, 2, None),
+    ] {
+        let limits = FacesLimits { segments, ids };
+        let reason = refusal.map(FacesColumnsRefused::Run);
+        assert_eq!(rt; refused(rt.alloc(), &[good, good], 16, limits), reason);
+    }
     Ok(())
 }

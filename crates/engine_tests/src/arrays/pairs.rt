@@ -135,43 +135,33 @@ fn refused_for(output: Result<PairsOutput<Global>, PairsRefused>) -> Option<Pair
     }
 }
 
+/// A ring that ends beside its first point.
+const OPEN: Columns<'static> = Columns {
+    rings: &[0, 4],
+    polygons: &[0, 1],
+    features: &[0, 1],
+    ..FIRST
+};
+
+/// What two layers of so many segments at most are refused for.
+fn refused(alloc: Global, a: &Columns<'_>, b: &Columns<'_>, segments: u32) -> Option<PairsRefused> {
+    refused_for(run_pairs_alone_within(alloc, Op::Union, a, b, Limits { segments }))
+}
+
 #[test]
 fn rows_are_refused_for_the_first(rt: HostRuntime) -> Result<(), Fail> {
-    let open = Columns {
-        rings: &[0, 4],
-        polygons: &[0, 1],
-        features: &[0, 1],
-        ..FIRST
-    };
-    let fault = ColumnsFault::RingOpen(0);
-    let rows = [
-        (
-            open,
-            open,
-            0,
-            PairsRefused::Layers(ColumnsRefused::A(fault)),
-        ),
-        (
-            FIRST,
-            open,
-            0,
-            PairsRefused::Layers(ColumnsRefused::B(fault)),
-        ),
-        (alone(FIRST, 0), SECOND, 0, PairsRefused::Unpaired(1)),
-        (FIRST, alone(SECOND, 9), 0, PairsRefused::Unpaired(0)),
-        (
-            FIRST,
-            SECOND,
-            33,
-            PairsRefused::Layers(ColumnsRefused::Run(Fault::TooManySegments(34))),
-        ),
-    ];
-    for (a, b, segments, refused) in rows {
-        let made = run_pairs_alone_within(rt.alloc(), Op::Union, &a, &b, Limits { segments });
-        assert_eq!(rt; refused_for(made), Some(refused));
+    let open = ColumnsFault::RingOpen(0);
+    let of_layers = [ColumnsRefused::A(open), ColumnsRefused::B(open)];
+    let too_many = ColumnsRefused::Run(Fault::TooManySegments(34));
+    for (a, b, segments, reason) in [
+        (OPEN, OPEN, 0, Some(PairsRefused::Layers(of_layers[0]))),
+        (FIRST, OPEN, 0, Some(PairsRefused::Layers(of_layers[1]))),
+        (alone(FIRST, 0), SECOND, 0, Some(PairsRefused::Unpaired(1))),
+        (FIRST, alone(SECOND, 9), 0, Some(PairsRefused::Unpaired(0))),
+        (FIRST, SECOND, 33, Some(PairsRefused::Layers(too_many))),
+        (FIRST, SECOND, 34, None),
+    ] {
+        assert_eq!(rt; refused(rt.alloc(), &a, &b, segments), reason);
     }
-    let most = Limits { segments: 34 };
-    let made = run_pairs_alone_within(rt.alloc(), Op::Union, &FIRST, &SECOND, most);
-    assert_eq!(rt; refused_for(made), None);
     Ok(())
 }

@@ -3,7 +3,8 @@
 use crate::arrays::written::{line_of, push_ring};
 use columns::{Columns, Points};
 use engine::{
-    ColumnsOutput, Limits, Output, Plan, run_alone, run_columns_alone_within, run_columns_within,
+    ColumnsOutput, ColumnsRefused, Limits, Output, Plan, run_alone, run_columns_alone_within,
+    run_columns_within,
 };
 use geom::{NoMemory, Op};
 use std::alloc::Global;
@@ -136,22 +137,18 @@ fn is_same<R: Threads + Wait + Sync>(
     let (a, b) = (a.columns(), b.columns());
     let alone = run_columns_alone_within(alloc, op, &a, &b, 16, limits);
     let by_workers = run_columns_within(rt, alloc, op, &a, &b, plan, limits, &OpenGate);
-    match (alone, by_workers) {
-        (
-            Ok(ColumnsOutput { columns: first, .. }),
-            Ok(
-                ColumnsOutput {
-                    columns: second,
-                    ..
-                },
-            ),
-        ) => {
-            Ok(
-                line_of(alloc, &first)?.as_slice() == text.as_slice()
-                    && line_of(alloc, &second)?.as_slice() == text.as_slice(),
-            )
-        }
-        _ => Ok(false),
+    Ok(has_line(alloc, alone, &text)? && has_line(alloc, by_workers, &text)?)
+}
+
+/// Whether the columns of an output have this line.
+fn has_line(
+    alloc: Global,
+    output: Result<ColumnsOutput<Global>, ColumnsRefused>,
+    line: &[u8],
+) -> Result<bool, NoMemory> {
+    match output {
+        Ok(ColumnsOutput { columns, .. }) => Ok(line_of(alloc, &columns)?.as_slice() == line),
+        Err(_) => Ok(false),
     }
 }
 

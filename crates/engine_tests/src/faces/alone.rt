@@ -23,28 +23,32 @@ fn are_rows(alloc: Global, case: Case, side: u32, told: bool) -> Result<bool, No
 #[test]
 fn rows_are_those_of_the_workers(rt: HostRuntime) -> Result<(), Fail> {
     for case in CASES {
-        assert!(rt; are_rows(rt.alloc(), case, 33_554_432, true)?, "{}", case.1);
-        assert!(rt; are_rows(rt.alloc(), case, 16, false)?, "{}", case.1);
+        for (side, told) in [(33_554_432, true), (16, false)] {
+            assert!(rt; are_rows(rt.alloc(), case, side, told)?, "{}", case.1);
+        }
     }
     Ok(())
 }
 
+/// What the front of a layer is refused for, over tiles of this side.
+fn refused(alloc: Global, side: u32) -> Result<Option<(FacesPart, FacesRefusal)>, NoMemory> {
+    let layers = lent(alloc, &["POLYGON ((0 0"])?;
+    match faces_alone(alloc, &layers, side, FacesLimits::default()) {
+        Ok(_) => Ok(None),
+        Err(fault) => Ok(Some((fault.at, fault.refusal))),
+    }
+}
+
 #[test]
 fn refuses_a_side_before_a_layer(rt: HostRuntime) -> Result<(), Fail> {
-    let layers = lent(rt.alloc(), &["POLYGON ((0 0"])?;
-    match faces_alone(rt.alloc(), &layers, 15, FacesLimits::default()) {
-        Ok(_) => assert!(rt; false, "faces"),
-        Err(fault) => {
-            assert_eq!(rt; fault.at, FacesPart::Run);
-            assert_eq!(rt; fault.refusal, FacesRefusal::Usual(Fault::BadTile));
-        }
-    }
-    match faces_alone(rt.alloc(), &layers, 16, FacesLimits::default()) {
-        Ok(_) => assert!(rt; false, "faces"),
-        Err(fault) => {
-            assert_eq!(rt; fault.at, FacesPart::Layer(0));
-            assert_eq!(rt; fault.refusal, FacesRefusal::Usual(Fault::Syntax(13)));
-        }
+    for (side, at, fault) in [
+        (15, FacesPart::Run, Fault::BadTile),
+        (16, FacesPart::Layer(0), Fault::Syntax(13)),
+    ] {
+        assert_eq!(rt;
+            refused(rt.alloc(), side)?,
+            Some((at, FacesRefusal::Usual(fault)))
+        );
     }
     Ok(())
 }

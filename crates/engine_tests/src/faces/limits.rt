@@ -75,13 +75,26 @@ fn is_within<R: Threads + Wait + Sync>(
     }
 }
 
+/// Sides of tiles, and numbers of workers.
+const PLANS: [(u32, u32); 3] = [(16, 1), (262_144, 1), (16, 3)];
+
+/// Whether they are by each plan.
+fn is_within_by_all<R: Threads + Wait + Sync>(
+    rt: &R,
+    alloc: Global,
+    row: Row,
+) -> Result<bool, NoMemory> {
+    let mut all = true;
+    for (side, workers) in PLANS {
+        all &= is_within(rt, alloc, row, Plan { side, workers })?;
+    }
+    Ok(all)
+}
+
 #[test]
 fn takes_as_many_as_the_limits_say(rt: HostRuntime) -> Result<(), Fail> {
     for row in ROWS {
-        for (side, workers) in [(16, 1), (262_144, 1), (16, 3)] {
-            let plan = Plan { side, workers };
-            assert!(rt; is_within(&rt, rt.alloc(), row, plan)?, "{} {} {}", row.1, row.2, row.0.1);
-        }
+        assert!(rt; is_within_by_all(&rt, rt.alloc(), row)?, "{row:?}");
     }
     Ok(())
 }

@@ -124,16 +124,29 @@ fn differing<R: Threads + Wait + Sync>(
     Ok(None)
 }
 
+/// The first plan by which both maps in one layer don't.
+fn differing_in_one<R: Threads + Wait + Sync>(
+    rt: &R,
+    alloc: Global,
+) -> Result<Option<(u32, u32)>, NoMemory> {
+    let mut both = map_from(alloc, 0)?;
+    both.push_str(&map_from(alloc, 5)?)?;
+    differing(rt, alloc, &[both.as_bytes()])
+}
+
+/// The first plan by which they don't in two.
+fn differing_in_two<R: Threads + Wait + Sync>(
+    rt: &R,
+    alloc: Global,
+) -> Result<Option<(u32, u32)>, NoMemory> {
+    let map = map_from(alloc, 0)?;
+    let shifted = map_from(alloc, 5)?;
+    differing(rt, alloc, &[map.as_bytes(), shifted.as_bytes()])
+}
+
 #[test]
 fn rows_of_many_parts_are_one(rt: HostRuntime) -> Result<(), Fail> {
-    let map = map_from(rt.alloc(), 0)?;
-    let shifted = map_from(rt.alloc(), 5)?;
-    let mut both = String::new(rt.alloc());
-    both.push_str(&map)?;
-    both.push_str(&shifted)?;
-    let alone = [both.as_bytes()];
-    assert_eq!(rt; differing(&rt, rt.alloc(), alone.as_slice())?, None);
-    let layers = [map.as_bytes(), shifted.as_bytes()];
-    assert_eq!(rt; differing(&rt, rt.alloc(), layers.as_slice())?, None);
+    assert_eq!(rt; differing_in_one(&rt, rt.alloc())?, None);
+    assert_eq!(rt; differing_in_two(&rt, rt.alloc())?, None);
     Ok(())
 }
