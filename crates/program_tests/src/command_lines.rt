@@ -1,6 +1,6 @@
 //! Command lines, with the exit status and what is printed.
 
-use crate::driving::{Words, driven, is_outcome};
+use crate::driving::{Case, ROOMS, Words, gives};
 use engine_tests::texts::{SQUARES_COMMON, SQUARES_EDGES, SQUARES_REPORT, WHOLE_EDGES};
 use geom::NoMemory;
 use std::alloc::Global;
@@ -26,9 +26,6 @@ const WHOLE_FACE: &str =
 
 /// How the parser begins what it says of a line.
 const PARSER: Words = Words::Begins("error: ");
-
-/// A command line behind the program's name, its exit status, and what it prints to standard output and standard error.
-type Case = (&'static [&'static str], u8, &'static str, Words);
 
 const CASES: [Case; 38] = [
     (
@@ -221,17 +218,6 @@ const CASES: [Case; 38] = [
         PARSER,
     ),
 ];
-
-/// Whether a command line gives what its case says.
-fn is_answered<R: Threads + Wait + Sync>(
-    rt: &R,
-    alloc: Global,
-    case: Case,
-) -> Result<bool, NoMemory> {
-    let (words, status, out, err) = case;
-    let outcome = driven(rt, alloc, words, (4000, 4000))?;
-    Ok(is_outcome(&outcome, status, Words::Text(out), err))
-}
 
 /// Command lines of `faces`.
 const FACES: [Case; 29] = [
@@ -434,8 +420,7 @@ fn is_answered_over_many<R: Threads + Wait + Sync>(
 ) -> Result<bool, NoMemory> {
     let (name, count, option_at, status, err) = many;
     let words = over_many(alloc, name, count, option_at)?;
-    let outcome = driven(rt, alloc, &words, (4000, 4000))?;
-    Ok(is_outcome(&outcome, status, Words::Text(""), err))
+    gives(rt, alloc, &words, ROOMS, (status, Words::Text(""), err))
 }
 
 #[test]
@@ -454,16 +439,18 @@ fn answers_lines_of_many_layers(rt: HostRuntime) -> Result<(), Fail> {
 
 #[test]
 fn answers_command_lines_of_faces(rt: HostRuntime) -> Result<(), Fail> {
-    for case in FACES {
-        assert!(rt; is_answered(&rt, rt.alloc(), case)?, "{:?}", case.0);
+    for (words, status, out, err) in FACES {
+        let given = (status, Words::Text(out), err);
+        assert!(rt; gives(&rt, rt.alloc(), words, ROOMS, given)?, "{words:?}");
     }
     Ok(())
 }
 
 #[test]
 fn answers_command_lines(rt: HostRuntime) -> Result<(), Fail> {
-    for case in CASES {
-        assert!(rt; is_answered(&rt, rt.alloc(), case)?, "{:?}", case.0);
+    for (words, status, out, err) in CASES {
+        let given = (status, Words::Text(out), err);
+        assert!(rt; gives(&rt, rt.alloc(), words, ROOMS, given)?, "{words:?}");
     }
     Ok(())
 }

@@ -1,6 +1,6 @@
 //! Command lines with `--covered`, on a layer of two squares that overlap.
 
-use crate::driving::{Words, driven, is_outcome};
+use crate::driving::{Case, ROOMS, Words, gives};
 use engine_tests::texts::{EMPTY, WHOLE_UNION};
 use std::test::Fail;
 
@@ -27,9 +27,6 @@ const NO_OPERATION: Words = Words::Text(
 const UNKNOWN: Words = Words::Text("overlay: unknown command\n");
 
 const NOTHING: Words = Words::Text("");
-
-/// A command line behind the program's name, its exit status, and what it prints to standard output and standard error.
-type Case = (&'static [&'static str], u8, &'static str, Words);
 
 const CASES: [Case; 23] = [
     (
@@ -176,23 +173,30 @@ const CASES: [Case; 23] = [
 #[test]
 fn reads_layers_as_covered(rt: HostRuntime) -> Result<(), Fail> {
     for (words, status, out, err) in CASES {
-        let outcome = driven(&rt, rt.alloc(), words, (4000, 4000))?;
-        assert!(rt;
-            is_outcome(&outcome, status, Words::Text(out), err),
-            "{words:?}"
-        );
+        let given = (status, Words::Text(out), err);
+        assert!(rt; gives(&rt, rt.alloc(), words, ROOMS, given)?, "{words:?}");
     }
     Ok(())
 }
 
-/// The sink of the text fails, and then that of the report.
+/// Rooms of the sinks of the text and of the report, of which one is too small, and what is printed to both.
+const SMALL: [((usize, usize), Words, Words); 2] = [
+    (
+        (5, 4000),
+        Words::Text("MULTI"),
+        Words::Text("overlay: 11 write failed\n"),
+    ),
+    ((4000, 0), Words::Text(UNITED), NOTHING),
+];
+
 #[test]
 fn tells_of_sinks_that_fail(rt: HostRuntime) -> Result<(), Fail> {
     let words = ["union", "overlap", "nothing", "--covered", "--report"];
-    let failed = Words::Text("overlay: 11 write failed\n");
-    let begun = driven(&rt, rt.alloc(), words.as_slice(), (5, 4000))?;
-    assert!(rt; is_outcome(&begun, 1, Words::Text("MULTI"), failed));
-    let unreported = driven(&rt, rt.alloc(), words.as_slice(), (4000, 0))?;
-    assert!(rt; is_outcome(&unreported, 1, Words::Text(UNITED), NOTHING));
+    for (rooms, out, err) in SMALL {
+        assert!(rt;
+            gives(&rt, rt.alloc(), words.as_slice(), rooms, (1, out, err))?,
+            "{rooms:?}"
+        );
+    }
     Ok(())
 }

@@ -48,31 +48,34 @@ fn copies<A: Allocator>(alloc: A, text: &str, count: u32) -> Result<Vec<u8, A>, 
     Ok(bytes)
 }
 
-/// The bytes of a file in memory: one that is too long, one with too many segments, or one of the texts.
-fn bytes_of<A: Allocator>(alloc: A, name: &str) -> Result<Option<Vec<u8, A>>, AllocError> {
-    if name == "long" {
-        return Ok(Some(vec![in alloc; b' '; READ_LIMIT]?));
-    }
-    if name == "many" {
-        return Ok(Some(copies(alloc, SQUARE, 262_145)?));
-    }
+/// The text of a file, where it is one of them.
+fn text_of(name: &str) -> Option<&'static str> {
     for (known, text) in TEXTS {
         if known == name {
-            return Ok(Some(Vec::from_slice(alloc, text.as_bytes())?));
+            return Some(text);
         }
     }
-    Ok(None)
+    None
+}
+
+/// The bytes of a file in memory: one that is too long, one with too many segments, or one of the texts.
+fn bytes_of<A: Allocator>(alloc: A, name: &str) -> Option<Result<Vec<u8, A>, AllocError>> {
+    match name {
+        "long" => Some(vec![in alloc; b' '; READ_LIMIT]),
+        "many" => Some(copies(alloc, SQUARE, 262_145)),
+        _ => text_of(name).map(|text| Vec::from_slice(alloc, text.as_bytes())),
+    }
 }
 
 impl Files for MemFiles {
     fn load<A: Allocator>(&mut self, alloc: A, name: &str) -> Result<Vec<u8, A>, LoadFault> {
         match bytes_of(alloc, name) {
-            Ok(Some(mut bytes)) => {
+            Some(Ok(mut bytes)) => {
                 bytes.truncate(READ_LIMIT);
                 Ok(bytes)
             }
-            Ok(None) => Err(LoadFault::Unreadable),
-            Err(_) => Err(LoadFault::Memory),
+            Some(Err(_)) => Err(LoadFault::Memory),
+            None => Err(LoadFault::Unreadable),
         }
     }
 }
@@ -93,40 +96,34 @@ fn is_told(bytes: &[u8], told: Words) -> bool {
     }
 }
 
-/// What the program answers and prints.
-#[derive(Drop)]
-pub struct Outcome {
-    status: u8,
-    out: MemSink<Global>,
-    err: MemSink<Global>,
+/// Rooms for all that a case prints.
+pub const ROOMS: (usize, usize) = (4000, 4000);
+
+/// The exit status, and what is printed to standard output and to standard error.
+pub type Given = (u8, Words, Words);
+
+/// A command line behind the program's name, its exit status, and what it prints to standard output and standard error.
+pub type Case = (&'static [&'static str], u8, &'static str, Words);
+
+/// The program's name, and the words of a command line behind it.
+fn line_of<'a>(alloc: Global, rest: &[&'a str]) -> Result<Vec<&'a str>, NoMemory> {
+    let mut words = Vec::new(alloc);
+    words.push("overlay")?;
+    words.extend_from_slice(rest)?;
+    Ok(words)
 }
 
-/// Drives a command line behind the program's name, with room for so many bytes in both sinks.
-pub fn driven<R: Threads + Wait + Sync>(
+/// Whether a command line behind the program's name gives this, with room for so many bytes in both sinks.
+pub fn gives<R: Threads + Wait + Sync>(
     rt: &R,
     alloc: Global,
     rest: &[&str],
     rooms: (usize, usize),
-) -> Result<Outcome, NoMemory> {
-    let mut words = Vec::new(alloc);
-    words.push("overlay")?;
-    words.extend_from_slice(rest)?;
+    given: Given,
+) -> Result<bool, NoMemory> {
+    let words = line_of(alloc, rest)?;
     let mut out = MemSink::new(alloc, rooms.0)?;
     let mut err = MemSink::new(alloc, rooms.1)?;
-    let status = drive(
-        rt,
-        alloc,
-        words.as_slice(),
-        &mut MemFiles,
-        &mut out,
-        &mut err,
-    );
-    Ok(Outcome { status, out, err })
-}
-
-/// Whether this status was answered, and this printed to standard output and to standard error.
-pub fn is_outcome(outcome: &Outcome, status: u8, out: Words, err: Words) -> bool {
-    outcome.status == status
-        && is_told(outcome.out.bytes(), out)
-        && is_told(outcome.err.bytes(), err)
+    let status = drive(rt, alloc, &words, &mut MemFiles, &mut out, &mut err);
+    Ok(status == given.0 && is_told(out.bytes(), given.1) && is_told(err.bytes(), given.2))
 }

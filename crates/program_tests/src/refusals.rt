@@ -1,6 +1,6 @@
 //! Layers that are refused, as the first and as the second one.
 
-use crate::driving::{Words, driven, is_outcome};
+use crate::driving::{ROOMS, Words, gives};
 use geom::NoMemory;
 use std::alloc::Global;
 use std::sync::Wait;
@@ -89,28 +89,28 @@ const REFUSED: [RefusalRow; 12] = [
     ),
 ];
 
-/// Whether a command over two files is refused with this line alone.
+/// Whether a command is refused with these lines, where the layer is the first one and where it is the second one.
 fn is_refused<R: Threads + Wait + Sync>(
     rt: &R,
     alloc: Global,
-    command: &str,
-    files: (&str, &str),
-    line: &'static str,
+    row: RefusalRow,
 ) -> Result<bool, NoMemory> {
-    let words = [command, files.0, files.1];
-    let outcome = driven(rt, alloc, words.as_slice(), (4000, 4000))?;
-    Ok(is_outcome(&outcome, 3, Words::Text(""), Words::Text(line)))
+    let (command, name, of_first, of_second) = row;
+    let mut all = true;
+    for (words, line) in [
+        ([command, name, "empty"], of_first),
+        ([command, "empty", name], of_second),
+    ] {
+        let given = (3, Words::Text(""), Words::Text(line));
+        all &= gives(rt, alloc, words.as_slice(), ROOMS, given)?;
+    }
+    Ok(all)
 }
 
 #[test]
 fn refuses_either_layer(rt: HostRuntime) -> Result<(), Fail> {
-    for (command, name, of_first, of_second) in REFUSED {
-        for (files, line) in [((name, "empty"), of_first), (("empty", name), of_second)] {
-            assert!(rt;
-                is_refused(&rt, rt.alloc(), command, files, line)?,
-                "{command} {files:?}"
-            );
-        }
+    for row in REFUSED {
+        assert!(rt; is_refused(&rt, rt.alloc(), row)?, "{row:?}");
     }
     Ok(())
 }
@@ -119,7 +119,7 @@ fn refuses_either_layer(rt: HostRuntime) -> Result<(), Fail> {
 #[test]
 fn takes_more_segments_within_a_greater_limit(rt: HostRuntime) -> Result<(), Fail> {
     let words = ["edges", "many", "empty", "--segments=1048580"];
-    let outcome = driven(&rt, rt.alloc(), words.as_slice(), (4000, 4000))?;
-    assert!(rt; is_outcome(&outcome, 0, Words::Text(MANY_EDGES), Words::Text("")));
+    let given = (0, Words::Text(MANY_EDGES), Words::Text(""));
+    assert!(rt; gives(&rt, rt.alloc(), words.as_slice(), ROOMS, given)?);
     Ok(())
 }

@@ -1,6 +1,6 @@
 //! What is printed to sinks of all sizes.
 
-use crate::driving::{Words, driven, is_outcome};
+use crate::driving::{ROOMS, Words, gives};
 use engine_tests::texts::{SQUARES_COMMON, SQUARES_EDGES};
 use std::test::Fail;
 
@@ -104,10 +104,10 @@ const FAILED: Words = Words::Text("overlay: 11 write failed\n");
 const NOTHING: Words = Words::Text("");
 
 const SMALL: [Small; 13] = [
-    (&["--help"], (4000, 4000), 0, Words::Text(HELP), NOTHING),
+    (&["--help"], ROOMS, 0, Words::Text(HELP), NOTHING),
     (
         &["faces", "--help"],
-        (4000, 4000),
+        ROOMS,
         0,
         Words::Text(FACES_HELP),
         NOTHING,
@@ -182,9 +182,9 @@ const SMALL: [Small; 13] = [
 #[test]
 fn prints_to_small_sinks(rt: HostRuntime) -> Result<(), Fail> {
     for (words, rooms, status, out, err) in SMALL {
-        let outcome = driven(&rt, rt.alloc(), words, rooms)?;
+        let given = (status, out, err);
         assert!(rt;
-            is_outcome(&outcome, status, out, err),
+            gives(&rt, rt.alloc(), words, rooms, given)?,
             "{words:?}, {rooms:?}"
         );
     }
