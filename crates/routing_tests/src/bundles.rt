@@ -1,13 +1,12 @@
 //! Tests of lines that run side by side through a rectangle, all or nearly all.
 
-ghost use Rattle.std.specs.Prelude.{All, IfSome};
+ghost use Rattle.std.specs.Prelude.{All, IfOk, IfSome};
 ghost use Rattle.geom.specs.Limit.{AreInLimit};
 
-use crate::shapes::{Ends, point};
-use geom::{Edge, NoMemory, Rect};
+use crate::shapes::{Ends, point, rectangle};
+use geom::{Edge, NoMemory};
 use hot_pixel::{Line, ascending, hot_beside, is_bundle};
 use std::alloc::Allocator;
-use std::test::Fail;
 
 // Two corners of a rectangle, two lines, and whether these are a bundle there.
 type BundleRow = (Ends, [Ends; 2], bool);
@@ -72,27 +71,37 @@ fn line(ends: Ends) -> Option<Line>
     }
 }
 
-fn push_line<A: Allocator>(lines: &mut Vec<Line, A>, ends: Ends) -> Result<(), NoMemory>
-    requires { All (λ l. AreInLimit l.edge.p l.edge.q) lines.now.items }
-    ensures { All (λ l. AreInLimit l.edge.p l.edge.q) lines.new.items }
+fn lines_of<A: Allocator>(alloc: A, ends: &[Ends]) -> Result<Vec<Line, A>, NoMemory>
+    ensures { IfOk result (λ v. All (λ l. AreInLimit l.edge.p l.edge.q) v.items) }
 {
-    match line(ends) {
-        None => Err(NoMemory),
-        Some(made) => Ok(lines.push(made)?),
+    let mut lines = Vec::new(alloc);
+    for pair in ends {
+        let Some(made) = line(*pair) else {
+            return Err(NoMemory);
+        };
+        lines.push(made)?;
     }
+    Ok(lines)
 }
 
-fn is_row_bundle<A: Allocator + Copy>(alloc: A, row: BundleRow) -> Result<bool, NoMemory> {
-    let (corners, ends, _) = row;
-    let rect = Rect::spanned_by(point(corners.0), point(corners.1));
-    let mut lines = Vec::new(alloc);
-    push_line(&mut lines, ends[0])?;
-    push_line(&mut lines, ends[1])?;
-    if rect.lo.is_in_limit() && rect.hi.is_in_limit() {
-        is_bundle(alloc, &rect, &lines)
-    } else {
-        Err(NoMemory)
+fn are_bundle<A: Allocator + Copy>(
+    alloc: A,
+    corners: Ends,
+    ends: &[Ends],
+) -> Result<bool, NoMemory> {
+    let rect = rectangle(corners)?;
+    let lines = lines_of(alloc, ends)?;
+    is_bundle(alloc, &rect, &lines)
+}
+
+// Whether each row is told.
+fn tells_rows<A: Allocator + Copy>(alloc: A) -> Result<bool, NoMemory> {
+    for (corners, ends, told) in &BUNDLES {
+        if are_bundle(alloc, *corners, ends)? != *told {
+            return Ok(false);
+        }
     }
+    Ok(true)
 }
 
 // Three lines side by side, and one across two of them that ends between the second and the third.
@@ -105,14 +114,8 @@ const BESIDE: [Ends; 4] = [
 
 // How many pixels are found to be hot.
 fn count_beside<A: Allocator + Copy>(alloc: A) -> Result<usize, NoMemory> {
-    let rect = Rect::spanned_by(point((0, 0)), point((7, 7)));
-    let mut lines = Vec::new(alloc);
-    for ends in BESIDE {
-        push_line(&mut lines, ends)?;
-    }
-    if !rect.lo.is_in_limit() || !rect.hi.is_in_limit() {
-        return Err(NoMemory);
-    }
+    let rect = rectangle(((0, 0), (7, 7)))?;
+    let lines = lines_of(alloc, &BESIDE)?;
     match hot_beside(alloc, &rect, &lines)? {
         None => Ok(0),
         Some(found) => Ok(ascending(found).len()),
@@ -120,16 +123,11 @@ fn count_beside<A: Allocator + Copy>(alloc: A) -> Result<usize, NoMemory> {
 }
 
 #[test]
-fn finds_the_hot_beside(rt: HostRuntime) -> Result<(), Fail> {
-    assert_eq!(rt; count_beside(rt.alloc())?, 3);
-    Ok(())
+fn finds_the_hot_beside(rt: HostRuntime) {
+    assert_eq!(rt; count_beside(rt.alloc()), Ok(3));
 }
 
 #[test]
-fn tells_bundles(rt: HostRuntime) -> Result<(), Fail> {
-    let alloc = rt.alloc();
-    for row in BUNDLES {
-        assert_eq!(rt; is_row_bundle(alloc, row)?, row.2);
-    }
-    Ok(())
+fn tells_bundles(rt: HostRuntime) {
+    assert_eq!(rt; tells_rows(rt.alloc()), Ok(true));
 }

@@ -1,19 +1,18 @@
 //! Tests of the hot pixels of tiles, found in both ways, and of their pieces.
 
-ghost use Rattle.std.specs.Prelude.{◌≡◌, All, IfOk};
+ghost use Rattle.std.specs.Prelude.{◌≡◌, ◌<◌, All, IfOk};
 ghost use Rattle.geom.specs.Limit.{AreInLimit};
-ghost use Rattle.grid.specs.Tiles.{Owns};
+ghost use Rattle.grid.specs.Tiles.{Owns, tile_count};
 ghost use Rattle.hot_pixel.specs.Candidates.{AreCandidates};
 
-use crate::shapes::{Ends, Point, point, segment};
-use geom::{NoMemory, Pt, Rect, Seg};
+use crate::shapes::{Ends, rectangle, segments_of};
+use geom::{NoMemory, Pt, Seg};
 use grid::{Count, Grid};
 use hot_pixel::{hot_in, sweep};
-use routing::{Piece, meets, piece};
-use std::alloc::Allocator;
+use routing::{meets, piece};
+use std::alloc::{Allocator, Global};
 use std::marker::Brand;
 use std::sync::ledger::{Blank, Ledger};
-use std::test::Fail;
 
 // A triangle, and a bow tie whose crossing lies on the corner of four tiles.
 const ROW: [Ends; 7] = [
@@ -27,86 +26,69 @@ const ROW: [Ends; 7] = [
 ];
 
 // The hot pixels of its tiles, and how many records each has.
-const ROW_TILES: [(&[Point], usize); 4] = [
-    (&[(0, 0), (0, 1), (1, 0), (15, 15)], 8),
-    (&[(16, 15)], 2),
-    (&[(15, 16)], 2),
-    (&[(16, 16)], 3),
+const ROW_TILES: [(&[Pt], usize); 4] = [
+    (
+        &[
+            Pt { x: 0, y: 0 },
+            Pt { x: 0, y: 1 },
+            Pt { x: 1, y: 0 },
+            Pt { x: 15, y: 15 },
+        ],
+        8,
+    ),
+    (&[Pt { x: 16, y: 15 }], 2),
+    (&[Pt { x: 15, y: 16 }], 2),
+    (&[Pt { x: 16, y: 16 }], 3),
 ];
 
-pub(crate) fn push<A: Allocator>(segments: &mut Vec<Seg, A>, ends: Ends) -> Result<(), NoMemory>
-    requires { All (λ s. AreInLimit s.a s.b) segments.now.items }
-    ensures { All (λ s. AreInLimit s.a s.b) segments.new.items }
-{
-    match segment(ends) {
-        None => Err(NoMemory),
-        Some(made) => Ok(segments.push(made)?),
-    }
-}
-
-fn row_segments<A: Allocator>(alloc: A) -> Result<Vec<Seg, A>, NoMemory>
-    ensures { IfOk result (λ v. All (λ s. AreInLimit s.a s.b) v.items) }
-{
-    let mut segments = Vec::new(alloc);
-    for ends in ROW {
-        push(&mut segments, ends)?;
-    }
-    Ok(segments)
-}
+// How many pixels are hot, as they are found in both ways and as the pieces tell, and how many records the pieces have.
+type Counts = (usize, usize, usize, usize);
 
 // Forty lines along and forty across, each in both directions. No line has an end on another one.
-fn lattice<A: Allocator>(alloc: A) -> Result<Vec<Seg, A>, NoMemory>
-    ensures { IfOk result (λ v. All (λ s. AreInLimit s.a s.b) v.items) }
-{
-    let mut segments = Vec::new(alloc);
-    for at in LATTICE {
-        push(&mut segments, ((-1, at), (79, at)))?;
-        push(&mut segments, ((79, at), (-1, at)))?;
-        push(&mut segments, ((at, -1), (at, 79)))?;
-        push(&mut segments, ((at, 79), (at, -1)))?;
+fn lattice<A: Allocator>(alloc: A) -> Result<Vec<Ends, A>, NoMemory> {
+    let mut ends = Vec::new(alloc);
+    for number in 0..40i32 {
+        let at = number.wrapping_mul(2);
+        ends.extend_from_slice(&[
+            ((-1, at), (79, at)),
+            ((79, at), (-1, at)),
+            ((at, -1), (at, 79)),
+            ((at, 79), (at, -1)),
+        ])?;
     }
-    Ok(segments)
+    Ok(ends)
 }
-
-const LATTICE: [i32; 40] = [
-    0, 2, 4, 6, 8, 10, 12, 14, 16, 18, 20, 22, 24, 26, 28, 30, 32, 34, 36, 38, 40, 42, 44, 46, 48,
-    50, 52, 54, 56, 58, 60, 62, 64, 66, 68, 70, 72, 74, 76, 78,
-];
 
 // A hundred and fifty segments over one another on one line, each one to seven steps long: enough of them to be cut.
-fn pile<A: Allocator>(alloc: A) -> Result<Vec<Seg, A>, NoMemory>
-    ensures { IfOk result (λ v. All (λ s. AreInLimit s.a s.b) v.items) }
-{
-    let mut segments = Vec::new(alloc);
+fn pile<A: Allocator>(alloc: A) -> Result<Vec<Ends, A>, NoMemory> {
+    let mut ends = Vec::new(alloc);
     for at in 0..150i32 {
         let past = at.wrapping_add(at.rem_euclid(7)).wrapping_add(1);
-        push(
-            &mut segments,
-            ((at.wrapping_mul(2), at), (past.wrapping_mul(2), past)),
-        )?;
+        ends.push(((at.wrapping_mul(2), at), (past.wrapping_mul(2), past)))?;
     }
-    Ok(segments)
+    Ok(ends)
 }
 
-// Seventy slanted lines side by side, and a short one beside each, of which some cross it or its neighbour.
-fn confetti<A: Allocator>(alloc: A) -> Result<Vec<Seg, A>, NoMemory>
-    ensures { IfOk result (λ v. All (λ s. AreInLimit s.a s.b) v.items) }
-{
-    let mut segments = Vec::new(alloc);
+// One of seventy slanted lines side by side, and a short one beside it, which may cross it or its neighbour.
+fn slanted(at: i32) -> [Ends; 2] {
+    let low = at.wrapping_mul(6);
+    let x = at.wrapping_mul(37).rem_euclid(290);
+    let y = low
+        .wrapping_add(x.div_euclid(3).wrapping_mul(2))
+        .wrapping_add(at.rem_euclid(5));
+    let across = (x.wrapping_add(2), y.wrapping_add(at.rem_euclid(3)));
+    [
+        ((0, low), (300, low.wrapping_add(200))),
+        ((x, y), (across.0, across.1.wrapping_sub(1))),
+    ]
+}
+
+fn confetti<A: Allocator>(alloc: A) -> Result<Vec<Ends, A>, NoMemory> {
+    let mut ends = Vec::new(alloc);
     for at in 0..70i32 {
-        let low = at.wrapping_mul(6);
-        push(&mut segments, ((0, low), (300, low.wrapping_add(200))))?;
-        let x = at.wrapping_mul(37).rem_euclid(290);
-        let y = low
-            .wrapping_add(x.div_euclid(3).wrapping_mul(2))
-            .wrapping_add(at.rem_euclid(5));
-        let across = (x.wrapping_add(2), y.wrapping_add(at.rem_euclid(3)));
-        push(
-            &mut segments,
-            ((x, y), (across.0, across.1.wrapping_sub(1))),
-        )?;
+        ends.extend_from_slice(&slanted(at))?;
     }
-    Ok(segments)
+    Ok(ends)
 }
 
 // How often a segment meets one of some pixels.
@@ -143,127 +125,200 @@ pub(crate) fn all_numbers<A: Allocator>(
     Ok(numbers)
 }
 
-fn grid_over(least: Point, greatest: Point, side: u32) -> Result<Grid, NoMemory> {
-    let bounds = Rect::spanned_by(point(least), point(greatest));
-    if !bounds.lo.is_in_limit() || !bounds.hi.is_in_limit() {
-        return Err(NoMemory);
-    }
+fn grid_over(corners: Ends, side: u32) -> Result<Grid, NoMemory> {
+    let bounds = rectangle(corners)?;
     Grid::new(Some(bounds), side).map_err(|_| NoMemory)
 }
 
-// What was found in a tile: its hot pixels in both ways, and its piece.
-#[derive(Drop)]
-struct Tile<A: Allocator> {
-    hot: Vec<Pt, A>,
-    swept: Vec<Pt, A>,
-    piece: Piece<A>,
-}
-
-fn tile_of<L: Ledger, A: Allocator + Copy>(
-    alloc: A,
+fn sweep_counting<L: Ledger, A: Allocator + Copy>(
     blank: Blank,
+    alloc: A,
     grid: &Grid,
     tile: u32,
     segments: &[Seg],
-) -> Result<Tile<A>, NoMemory>
+    numbers: &[u32],
+) -> Result<Vec<Pt, A>, NoMemory>
     requires name { blank.name ≡ L.name }
     requires parts { (blank.parts ≡ L.parts) × (blank.parts ≡ 1) }
-    requires segments { All (λ s. AreInLimit s.a s.b) segments.now }
+    requires tile { tile < tile_count grid.now }
+    requires limits { All (λ s. AreInLimit s.a s.b) segments.now }
+    requires candidates { AreCandidates (Owns grid.now tile) segments.now numbers.now }
 {
-    if tile >= grid.tiles() {
-        return Err(NoMemory);
-    }
-    let numbers = all_numbers(alloc, grid, tile, segments)?;
     let mut count = Count::<L>::new(blank);
-    Ok(Tile {
-        hot: hot_in(alloc, grid, tile, segments, &numbers)?,
-        swept: sweep(alloc, grid, tile, segments, &numbers, &mut count)?,
-        piece: piece(alloc, grid, tile, segments, &numbers)?,
-    })
+    sweep(alloc, grid, tile, segments, numbers, &mut count)
 }
 
-fn are_points(pixels: &[Pt], expected: &[Point]) -> bool {
-    pixels.len() == expected.len()
-        && pixels
-            .iter()
-            .zip(expected)
-            .all(|(pixel, at)| *pixel == point(*at))
+// The hot pixels of a tile, found by a sweep.
+fn swept<A: Allocator + Copy>(
+    alloc: A,
+    grid: &Grid,
+    tile: u32,
+    segments: &[Seg],
+    numbers: &[u32],
+) -> Result<Vec<Pt, A>, NoMemory>
+    requires tile { tile < tile_count grid.now }
+    requires limits { All (λ s. AreInLimit s.a s.b) segments.now }
+    requires candidates { AreCandidates (Owns grid.now tile) segments.now numbers.now }
+{
+    sweep_counting::<Brand, _>(Blank::new(1), alloc, grid, tile, segments, numbers)
+}
+
+// The number of hot pixels and that of records of a tile's piece.
+fn piece_counts<A: Allocator + Copy>(
+    alloc: A,
+    grid: &Grid,
+    tile: u32,
+    segments: &[Seg],
+    numbers: &[u32],
+) -> Result<(usize, usize), NoMemory>
+    requires tile { tile < tile_count grid.now }
+    requires limits { All (λ s. AreInLimit s.a s.b) segments.now }
+    requires candidates { AreCandidates (Owns grid.now tile) segments.now numbers.now }
+{
+    let found = piece(alloc, grid, tile, segments, numbers)?;
+    Ok((found.hot as usize, found.records.len()))
+}
+
+// The counts of a tile.
+fn tile_counts<A: Allocator + Copy>(
+    alloc: A,
+    grid: &Grid,
+    tile: u32,
+    segments: &[Seg],
+) -> Result<Counts, NoMemory>
+    requires tile { tile < tile_count grid.now }
+    requires limits { All (λ s. AreInLimit s.a s.b) segments.now }
+{
+    let numbers = all_numbers(alloc, grid, tile, segments)?;
+    let found = hot_in(alloc, grid, tile, segments, &numbers)?.len();
+    let swept = swept(alloc, grid, tile, segments, &numbers)?.len();
+    let (told, records) = piece_counts(alloc, grid, tile, segments, &numbers)?;
+    Ok((found, swept, told, records))
+}
+
+// Whether these are the hot pixels of a tile, in both ways.
+fn are_hot<A: Allocator + Copy>(
+    alloc: A,
+    grid: &Grid,
+    tile: u32,
+    segments: &[Seg],
+    pixels: &[Pt],
+) -> Result<bool, NoMemory>
+    requires tile { tile < tile_count grid.now }
+    requires limits { All (λ s. AreInLimit s.a s.b) segments.now }
+{
+    let numbers = all_numbers(alloc, grid, tile, segments)?;
+    let found = hot_in(alloc, grid, tile, segments, &numbers)?;
+    let swept = swept(alloc, grid, tile, segments, &numbers)?;
+    Ok(found.as_slice() == pixels && swept.as_slice() == pixels)
+}
+
+// Whether a tile has these hot pixels, and so many records.
+fn is_tile<A: Allocator + Copy>(
+    alloc: A,
+    grid: &Grid,
+    tile: u32,
+    segments: &[Seg],
+    expected: (&[Pt], usize),
+) -> Result<bool, NoMemory>
+    requires { All (λ s. AreInLimit s.a s.b) segments.now }
+{
+    let (pixels, records) = expected;
+    let hot = pixels.len();
+    Ok(
+        tile < grid.tiles()
+            && are_hot(alloc, grid, tile, segments, pixels)?
+            && tile_counts(alloc, grid, tile, segments)? == (hot, hot, hot, records),
+    )
+}
+
+// How many tiles of the row, from the first on, are as they were worked out.
+fn row_tiles<A: Allocator + Copy>(alloc: A) -> Result<u32, NoMemory> {
+    let grid = grid_over(((0, 0), (16, 16)), 16)?;
+    let segments = segments_of(alloc, &ROW)?;
+    let mut number = 0u32;
+    for expected in ROW_TILES {
+        if !is_tile(alloc, &grid, number, &segments, expected)? {
+            return Ok(number);
+        }
+        number = number.wrapping_add(1);
+    }
+    Ok(number)
+}
+
+// The counts of all tiles together.
+fn counts<A: Allocator + Copy>(alloc: A, grid: &Grid, segments: &[Seg]) -> Result<Counts, NoMemory>
+    requires { All (λ s. AreInLimit s.a s.b) segments.now }
+{
+    let (mut found, mut swept, mut told, mut records) = (0usize, 0usize, 0usize, 0usize);
+    for tile in 0..grid.tiles() {
+        let one = tile_counts(alloc, grid, tile, segments)?;
+        found = found.wrapping_add(one.0);
+        swept = swept.wrapping_add(one.1);
+        told = told.wrapping_add(one.2);
+        records = records.wrapping_add(one.3);
+    }
+    Ok((found, swept, told, records))
+}
+
+fn counts_over(alloc: Global, corners: Ends, side: u32, ends: &[Ends]) -> Result<Counts, NoMemory> {
+    let grid = grid_over(corners, side)?;
+    counts(alloc, &grid, &segments_of(alloc, ends)?)
+}
+
+fn lattice_counts(alloc: Global) -> Result<Counts, NoMemory> {
+    counts_over(alloc, ((-1, -1), (79, 79)), 32, &lattice(alloc)?)
+}
+
+fn pile_counts(alloc: Global) -> Result<Counts, NoMemory> {
+    counts_over(alloc, ((0, 0), (306, 153)), 512, &pile(alloc)?)
+}
+
+// How often the segments meet the hot pixels of all tiles.
+fn count_all_met<A: Allocator + Copy>(
+    alloc: A,
+    grid: &Grid,
+    segments: &[Seg],
+) -> Result<usize, NoMemory>
+    requires { All (λ s. AreInLimit s.a s.b) segments.now }
+{
+    let mut count = 0usize;
+    for tile in 0..grid.tiles() {
+        let numbers = all_numbers(alloc, grid, tile, segments)?;
+        let hot = hot_in(alloc, grid, tile, segments, &numbers)?;
+        count = count.wrapping_add(count_met(segments, &hot));
+    }
+    Ok(count)
+}
+
+// Whether all ways find as many hot pixels of the confetti, and there is a record wherever a segment meets one.
+fn finds_all_confetti(alloc: Global) -> Result<bool, NoMemory> {
+    let grid = grid_over(((0, -1), (300, 620)), 1024)?;
+    let segments = segments_of(alloc, &confetti(alloc)?)?;
+    let (found, swept, told, records) = counts(alloc, &grid, &segments)?;
+    let met = count_all_met(alloc, &grid, &segments)?;
+    Ok((found, told, records) == (swept, swept, met))
 }
 
 #[test]
-fn finds_a_row(rt: HostRuntime) -> Result<(), Fail> {
-    let alloc = rt.alloc();
-    let grid = grid_over((0, 0), (16, 16), 16)?;
-    let segments = row_segments(alloc)?;
-    let mut number = 0u32;
-    for (pixels, records) in ROW_TILES {
-        let tile = tile_of::<Brand, _>(alloc, Blank::new(1), &grid, number, &segments)?;
-        assert!(rt;
-            are_points(&tile.hot, pixels)
-                && are_points(&tile.swept, pixels)
-                && tile.piece.hot as usize == pixels.len()
-                && tile.piece.records.len() == records,
-            "{number}"
-        );
-        number = number.wrapping_add(1);
-    }
-    Ok(())
+fn finds_a_row(rt: HostRuntime) {
+    assert_eq!(rt; row_tiles(rt.alloc()), Ok(4));
 }
 
 // 1600 crossings and 160 ends; each of the 160 segments passes 40 crossings and has two ends.
 #[test]
-fn finds_a_lattice(rt: HostRuntime) -> Result<(), Fail> {
-    let alloc = rt.alloc();
-    let grid = grid_over((-1, -1), (79, 79), 32)?;
-    let segments = lattice(alloc)?;
-    let (mut hot, mut swept, mut counted, mut records) = (0usize, 0usize, 0u32, 0usize);
-    for number in 0..grid.tiles() {
-        let tile = tile_of::<Brand, _>(alloc, Blank::new(1), &grid, number, &segments)?;
-        hot = hot.wrapping_add(tile.hot.len());
-        swept = swept.wrapping_add(tile.swept.len());
-        counted = counted.wrapping_add(tile.piece.hot);
-        records = records.wrapping_add(tile.piece.records.len());
-    }
-    assert!(rt;
-        (hot, swept, counted, records) == (1760, 1760, 1760, 6720),
-        "{hot}, {swept}, {counted}, {records}"
-    );
-    Ok(())
+fn finds_a_lattice(rt: HostRuntime) {
+    assert_eq!(rt; lattice_counts(rt.alloc()), Ok((1760, 1760, 1760, 6720)));
 }
 
 // The ends are hot, and each segment meets those from its first to its last.
 #[test]
-fn finds_a_pile(rt: HostRuntime) -> Result<(), Fail> {
-    let alloc = rt.alloc();
-    let grid = grid_over((0, 0), (306, 153), 512)?;
-    let segments = pile(alloc)?;
-    let tile = tile_of::<Brand, _>(alloc, Blank::new(1), &grid, 0, &segments)?;
-    let found = (
-        tile.hot.len(),
-        tile.swept.len(),
-        tile.piece.hot,
-        tile.piece.records.len(),
-    );
-    assert!(rt; found == (154, 154, 154, 744), "{found:?}");
-    Ok(())
+fn finds_a_pile(rt: HostRuntime) {
+    assert_eq!(rt; pile_counts(rt.alloc()), Ok((154, 154, 154, 744)));
 }
 
 // The lines between which the short ones stand go into both halves of each rectangle.
 #[test]
-fn finds_confetti(rt: HostRuntime) -> Result<(), Fail> {
-    let alloc = rt.alloc();
-    let grid = grid_over((0, -1), (300, 620), 1024)?;
-    let segments = confetti(alloc)?;
-    let tile = tile_of::<Brand, _>(alloc, Blank::new(1), &grid, 0, &segments)?;
-    let met = count_met(&segments, &tile.hot);
-    let found = (
-        tile.hot.len(),
-        tile.piece.hot as usize,
-        tile.piece.records.len(),
-    );
-    assert!(rt;
-        found == (tile.swept.len(), tile.swept.len(), met),
-        "{found:?}, {met}"
-    );
-    Ok(())
+fn finds_confetti(rt: HostRuntime) {
+    assert_eq!(rt; finds_all_confetti(rt.alloc()), Ok(true));
 }

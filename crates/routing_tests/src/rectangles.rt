@@ -1,17 +1,18 @@
 //! Tests of how many rectangles a tile is parted into. Each one asks for memory, so an allocator that refuses the request past a bound
 //! tells whether they are few: as many for each line as there may be, however far the lines reach.
 
-ghost use Rattle.std.specs.Prelude.{◌≡◌, All, IfOk};
+ghost use Rattle.std.specs.Prelude.{◌<◌, All};
 ghost use Rattle.geom.specs.Limit.{AreInLimit};
+ghost use Rattle.grid.specs.Tiles.{Owns, tile_count};
+ghost use Rattle.hot_pixel.specs.Candidates.{AreCandidates};
 
-use crate::pieces::{all_numbers, push};
-use crate::shapes::point;
-use geom::{NoMemory, Rect, Seg};
+use crate::pieces::all_numbers;
+use crate::shapes::{Ends, rectangle, segments_of};
+use geom::{NoMemory, Seg};
 use grid::Grid;
 use refusing::Refusing;
 use routing::part;
-use std::alloc::Allocator;
-use std::test::Fail;
+use std::alloc::{Allocator, Global};
 
 // How far coordinates reach.
 const REACHES: [i32; 5] = [1 << 10, 1 << 14, 1 << 18, 1 << 23, 1 << 28];
@@ -19,110 +20,99 @@ const REACHES: [i32; 5] = [1 << 10, 1 << 14, 1 << 18, 1 << 23, 1 << 28];
 // Enough lines that a tile of them is parted.
 const LINES: i32 = 80;
 
-// Lines of one row, each a step shorter at both ends than the one before.
-fn to_and_fro<A: Allocator>(alloc: A, reach: i32) -> Result<Vec<Seg, A>, NoMemory>
-    ensures { IfOk result (λ v. All (λ s. AreInLimit s.a s.b) v.items) }
-{
-    let mut segments = Vec::new(alloc);
-    for at in 0..LINES {
-        let end = reach.wrapping_sub(at);
-        push(&mut segments, ((end.wrapping_neg(), 0), (end, 0)))?;
-    }
-    Ok(segments)
+#[derive(Clone, Copy)]
+enum Kind {
+    ToAndFro,
+    Slivers,
+    Confetti,
 }
 
-// Pairs of nearly parallel lines, all from one point, that end side by side in a row.
-fn slivers<A: Allocator>(alloc: A, reach: i32) -> Result<Vec<Seg, A>, NoMemory>
-    ensures { IfOk result (λ v. All (λ s. AreInLimit s.a s.b) v.items) }
-{
-    let mut segments = Vec::new(alloc);
+// One of the lines of one row, each a step shorter at both ends than the one before.
+fn to_and_fro(reach: i32, at: i32) -> [Ends; 1] {
+    let end = reach.wrapping_sub(at);
+    [((end.wrapping_neg(), 0), (end, 0))]
+}
+
+// Two of the nearly parallel lines, all from one point, that end side by side in a row.
+fn slivers(reach: i32, at: i32) -> [Ends; 3] {
     let tip = (reach.wrapping_neg(), 0);
-    for at in 0..LINES {
-        let end = reach.wrapping_sub(at.wrapping_mul(2));
-        push(&mut segments, (tip, (end, 1)))?;
-        push(&mut segments, ((end, 1), (end.wrapping_sub(1), 1)))?;
-        push(&mut segments, ((end.wrapping_sub(1), 1), tip))?;
-    }
-    Ok(segments)
+    let end = reach.wrapping_sub(at.wrapping_mul(2));
+    let beside = end.wrapping_sub(1);
+    [(tip, (end, 1)), ((end, 1), (beside, 1)), ((beside, 1), tip)]
 }
 
-// Lines along diagonals, all over the plane, and a short one beside each.
-fn confetti<A: Allocator>(alloc: A, reach: i32) -> Result<Vec<Seg, A>, NoMemory>
-    ensures { IfOk result (λ v. All (λ s. AreInLimit s.a s.b) v.items) }
-{
-    let mut segments = Vec::new(alloc);
+// One of the lines along diagonals, all over the plane, and a short one beside it.
+fn confetti(reach: i32, at: i32) -> [Ends; 2] {
     let step = reach.div_euclid(LINES);
+    let aside = at.wrapping_mul(step);
+    let low = reach.wrapping_neg();
+    let x = low.wrapping_add(at.wrapping_mul(37).rem_euclid(LINES).wrapping_mul(step));
+    let y = x.wrapping_add(aside).wrapping_add(2);
+    [
+        (
+            (low, low.wrapping_add(aside)),
+            (reach.wrapping_sub(aside), reach),
+        ),
+        ((x, y), (x.wrapping_add(2), y.wrapping_sub(1))),
+    ]
+}
+
+fn lines<A: Allocator>(alloc: A, kind: Kind, reach: i32) -> Result<Vec<Ends, A>, NoMemory> {
+    let mut ends = Vec::new(alloc);
     for at in 0..LINES {
-        let aside = at.wrapping_mul(step);
-        let low = reach.wrapping_neg();
-        push(
-            &mut segments,
-            (
-                (low, low.wrapping_add(aside)),
-                (reach.wrapping_sub(aside), reach),
-            ),
-        )?;
-        let x = low.wrapping_add(at.wrapping_mul(37).rem_euclid(LINES).wrapping_mul(step));
-        let y = x.wrapping_add(aside).wrapping_add(2);
-        push(
-            &mut segments,
-            ((x, y), (x.wrapping_add(2), y.wrapping_sub(1))),
-        )?;
+        match kind {
+            Kind::ToAndFro => ends.extend_from_slice(&to_and_fro(reach, at))?,
+            Kind::Slivers => ends.extend_from_slice(&slivers(reach, at))?,
+            Kind::Confetti => ends.extend_from_slice(&confetti(reach, at))?,
+        }
     }
-    Ok(segments)
+    Ok(ends)
 }
 
 // Whether the pixels of segments are found with ten requests for memory for each.
 fn are_few_rectangles<A: Allocator + Copy>(
     alloc: A,
-    reach: i32,
+    grid: &Grid,
     segments: &[Seg],
-) -> Result<bool, NoMemory>
-    requires { All (λ s. AreInLimit s.a s.b) segments.now }
+    numbers: &[u32],
+) -> bool
+    requires tile { 0 < tile_count grid.now }
+    requires limits { All (λ s. AreInLimit s.a s.b) segments.now }
+    requires candidates { AreCandidates (Owns grid.now 0) segments.now numbers.now }
 {
-    let low = reach.wrapping_neg();
-    let bounds = Rect::spanned_by(point((low, low)), point((reach, reach)));
-    if !bounds.lo.is_in_limit() || !bounds.hi.is_in_limit() {
-        return Err(NoMemory);
-    }
-    let grid = Grid::one_tile(bounds);
-    let numbers = all_numbers(alloc, &grid, 0, segments)?;
     let heap = Refusing::new(alloc, 10u64.saturating_mul(segments.len() as u64));
-    Ok(part(&heap, &grid, 0, segments, &numbers).is_ok())
+    part(&heap, grid, 0, segments, numbers).is_ok()
+}
+
+fn parts_few(alloc: Global, kind: Kind, reach: i32) -> Result<bool, NoMemory> {
+    let low = reach.wrapping_neg();
+    let grid = Grid::one_tile(rectangle(((low, low), (reach, reach)))?);
+    let segments = segments_of(alloc, &lines(alloc, kind, reach)?)?;
+    let numbers = all_numbers(alloc, &grid, 0, &segments)?;
+    Ok(are_few_rectangles(alloc, &grid, &segments, &numbers))
+}
+
+// The first reach at which the lines are parted into many rectangles.
+fn first_many(alloc: Global, kind: Kind) -> Result<Option<i32>, NoMemory> {
+    for reach in REACHES {
+        if !parts_few(alloc, kind, reach)? {
+            return Ok(Some(reach));
+        }
+    }
+    Ok(None)
 }
 
 #[test]
-fn lines_of_one_row_part_few_rectangles(rt: HostRuntime) -> Result<(), Fail> {
-    for reach in REACHES {
-        let segments = to_and_fro(rt.alloc(), reach)?;
-        assert!(rt;
-            are_few_rectangles(rt.alloc(), reach, &segments)?,
-            "{reach}"
-        );
-    }
-    Ok(())
+fn lines_of_one_row_part_few_rectangles(rt: HostRuntime) {
+    assert_eq!(rt; first_many(rt.alloc(), Kind::ToAndFro), Ok(None));
 }
 
 #[test]
-fn nearly_parallel_lines_part_few_rectangles(rt: HostRuntime) -> Result<(), Fail> {
-    for reach in REACHES {
-        let segments = slivers(rt.alloc(), reach)?;
-        assert!(rt;
-            are_few_rectangles(rt.alloc(), reach, &segments)?,
-            "{reach}"
-        );
-    }
-    Ok(())
+fn nearly_parallel_lines_part_few_rectangles(rt: HostRuntime) {
+    assert_eq!(rt; first_many(rt.alloc(), Kind::Slivers), Ok(None));
 }
 
 #[test]
-fn confetti_parts_few_rectangles(rt: HostRuntime) -> Result<(), Fail> {
-    for reach in REACHES {
-        let segments = confetti(rt.alloc(), reach)?;
-        assert!(rt;
-            are_few_rectangles(rt.alloc(), reach, &segments)?,
-            "{reach}"
-        );
-    }
-    Ok(())
+fn confetti_parts_few_rectangles(rt: HostRuntime) {
+    assert_eq!(rt; first_many(rt.alloc(), Kind::Confetti), Ok(None));
 }
