@@ -1,6 +1,6 @@
 //! Whether directed edges close into cycles, decided by a look at all pairs of them.
 
-ghost use Rattle.std.specs.Prelude.{◌≡◌, ◌≢◌, ◌↔◌, All, AllPairs, Contains, IfOk, IsTrue, true};
+ghost use Rattle.std.specs.Prelude.{◌≡◌, ◌≢◌, All, AllPairs, Contains, IfOk, IsTrue, true};
 ghost use Rattle.geom.specs.Directed.{IsDirectedBefore};
 ghost use Rattle.geom.specs.Limit.{AreInLimit};
 ghost use Rattle.geom.specs.Rings.{Closes};
@@ -29,23 +29,14 @@ pub fn are_in_limit(edges: &[DirectedEdge]) -> bool
         .all(|d| d.from.is_in_limit() && d.to.is_in_limit())
 }
 
-fn has(edges: &[DirectedEdge], edge: DirectedEdge) -> bool
-    ensures { IsTrue result ↔ Contains edges.now edge }
-{
-    edges.contains(&edge)
-}
-
 /// Whether an edge stands in one direction alone.
 fn is_one_way(edges: &[DirectedEdge], d: DirectedEdge) -> bool
     ensures { IsTrue result → ¬ (Contains edges.now (record { from = d.to; to = d.from })) }
 {
-    !has(
-        edges,
-        DirectedEdge {
-            from: d.to,
-            to: d.from,
-        },
-    )
+    !edges.contains(&DirectedEdge {
+        from: d.to,
+        to: d.from,
+    })
 }
 
 fn are_one_way(edges: &[DirectedEdge]) -> bool
