@@ -1,7 +1,7 @@
 //! Tests of gathering, with books that hold nothing, pieces of other segments, or the tiles' own pieces.
 
-ghost use Rattle.std.specs.Prelude.{◌≡◌, All, IfOk, IfSome, length};
-ghost use Rattle.grid.specs.Tiles.{tile_count};
+ghost use Rattle.std.specs.Prelude.{◌≡◌, ◌<◌, All, IfOk, IfSome, Some, length};
+ghost use Rattle.grid.specs.Tiles.{CoversBounds, tile_count};
 ghost use Rattle.tile_book.specs.Books.{StandInOrder};
 ghost use Rattle.geom.specs.Box.{IsInBox};
 ghost use Rattle.geom.specs.Limit.{AreInLimit};
@@ -15,6 +15,7 @@ use chain_gather::{
 use geom::{Counted, NoMemory, Pt, Rect, Seg, Source};
 use grid::Grid;
 use lane_tests::Boxes;
+use linking::TileNumbers;
 use routing::{Piece, part, piece};
 use std::alloc::{Allocator, Global};
 use std::marker::Brand;
@@ -22,7 +23,7 @@ use std::sync::Wait;
 use std::sync::ledger::Blank;
 use std::test::*;
 use std::thread::Threads;
-use tile_book::{Book, Desk, Limited, close};
+use tile_book::{Book, Desk, Limited, Share, close};
 use tiling::Bins;
 
 pub type Ends = ((i32, i32), (i32, i32));
@@ -56,11 +57,36 @@ const EDGES: [(Ends, u32); 7] = [
     (((16, 15), (16, 16)), 1),
 ];
 
+// The sides of the cells whose pieces are known.
+const SIDES: [u32; 3] = [16, 17, 1_024];
+
 // The hot pixels and the records of the row's tiles.
 const TILES: [(u32, u32); 4] = [(4, 8), (1, 2), (1, 2), (1, 3)];
 
 pub fn point(at: (i32, i32)) -> Pt {
     Pt { x: at.0, y: at.1 }
+}
+
+/// The box of the row.
+fn row_bounds() -> Result<Rect, NoMemory>
+    ensures { IfOk result (λ r. AreInLimit r.lo r.hi) }
+{
+    let bounds = Rect::spanned_by(point((0, 0)), point((16, 16)));
+    if bounds.lo.is_in_limit() && bounds.hi.is_in_limit() {
+        Ok(bounds)
+    } else {
+        Err(NoMemory)
+    }
+}
+
+fn grid_over(bounds: &Rect, side: u32) -> Result<Grid, NoMemory>
+    requires { AreInLimit bounds.now.lo bounds.now.hi }
+    ensures { IfOk result (λ g. CoversBounds (Some bounds.now) g) }
+{
+    match Grid::new(Some(*bounds), side) {
+        Ok(grid) => Ok(grid),
+        Err(_) => Err(NoMemory),
+    }
 }
 
 fn segment_in(bounds: &Rect, ends: Ends) -> Option<Seg>
@@ -112,6 +138,44 @@ fn bins_of<A: Allocator + Copy>(
     Bins::build(alloc, grid, &boxes)
 }
 
+fn piece_in<A: Allocator + Copy>(
+    alloc: A,
+    grid: &Grid,
+    bins: &Bins<A>,
+    tile: u32,
+    segments: &[Seg],
+) -> Result<Piece<A>, NoMemory>
+    requires tile { tile < tile_count grid.now }
+    requires limits { All (λ s. AreInLimit s.a s.b) segments.now }
+    requires bins { AreBinsOf grid.now segments.now bins.now }
+{
+    let mut numbers = Vec::new(alloc);
+    bins.bin(tile, &mut numbers)?;
+    piece(alloc, grid, tile, segments, &numbers)
+}
+
+// Posts the pieces of the first tiles.
+fn post_pieces<L: Limited, A: Allocator + Copy>(
+    rt: &impl Wait,
+    alloc: A,
+    desk: &Desk<Piece<A>, L, A>,
+    share: Share<L>,
+    grid: &Grid,
+    posted: u32,
+    segments: &[Seg],
+) -> Result<Share<L>, NoMemory>
+    requires { All (λ s. AreInLimit s.a s.b) segments.now }
+{
+    let bins = bins_of(alloc, grid, segments)?;
+    let mut share = share;
+    for tile in 0..posted.min(grid.tiles()) {
+        let made = piece_in(alloc, grid, &bins, tile, segments)?;
+        let (same, _answer) = desk.post(rt, share, made);
+        share = same;
+    }
+    Ok(share)
+}
+
 // A book of the pieces of the first tiles, made from these segments.
 fn book_of<L: Limited, A: Allocator + Copy>(
     rt: &impl Wait,
@@ -126,20 +190,48 @@ fn book_of<L: Limited, A: Allocator + Copy>(
     requires limit { L.limit ≡ 4 }
     requires segments { All (λ s. AreInLimit s.a s.b) segments.now }
 {
-    let bins = bins_of(alloc, grid, segments)?;
     let (desk, mut shares) = Desk::new(alloc, blank, 4, 1)?;
-    let Some(mut share) = shares.pop() else {
+    let Some(share) = shares.pop() else {
         return Err(NoMemory);
     };
-    let mut numbers = Vec::new(alloc);
-    for tile in 0..posted.min(grid.tiles()) {
-        bins.bin(tile, &mut numbers)?;
-        let made = piece(alloc, grid, tile, segments, &numbers)?;
-        let (same, _answer) = desk.post(rt, share, made);
-        share = same;
+    shares.push(post_pieces(rt, alloc, &desk, share, grid, posted, segments)?)?;
+    match close(desk, shares) {
+        Ok(book) => Ok(book),
+        Err(_) => Err(NoMemory),
     }
-    shares.push(share)?;
-    close(desk, shares).map_err(|_| NoMemory)
+}
+
+// The same, of the segments with these ends.
+fn book_of_ends<L: Limited, A: Allocator + Copy>(
+    rt: &impl Wait,
+    alloc: A,
+    blank: Blank,
+    bounds: &Rect,
+    grid: &Grid,
+    posted: u32,
+    ends: &[Ends],
+) -> Result<Book<Piece<A>, L, A>, NoMemory>
+    requires name { blank.name ≡ L.name }
+    requires parts { (blank.parts ≡ L.parts) × (blank.parts ≡ 1) }
+    requires limit { L.limit ≡ 4 }
+{
+    let segments = segments_in(alloc, bounds, ends)?;
+    book_of::<L, A>(rt, alloc, blank, grid, posted, &segments)
+}
+
+// The row gathered in the second allocator, with a book.
+fn gathered_with<L: Limited, A: Allocator + Copy>(
+    alloc: A,
+    own: A,
+    book: Book<Piece<A>, L, A>,
+    bounds: &Rect,
+    grid: &Grid,
+) -> Result<Rounded<A>, NoMemory>
+    requires { CoversBounds (Some bounds.now) grid.now }
+{
+    let segments = segments_in(alloc, bounds, &ROW)?;
+    let bins = bins_of(alloc, grid, &segments)?;
+    gather(own, book, grid, &bins, &segments)
 }
 
 // The row gathered over tiles of side 16, in the second allocator, with a book of the first tiles' pieces, made from other
@@ -156,18 +248,10 @@ fn gathered<L: Limited, A: Allocator + Copy>(
     requires parts { (blank.parts ≡ L.parts) × (blank.parts ≡ 1) }
     requires limit { L.limit ≡ 4 }
 {
-    let bounds = Rect::spanned_by(point((0, 0)), point((16, 16)));
-    if !bounds.lo.is_in_limit() || !bounds.hi.is_in_limit() {
-        return Err(NoMemory);
-    }
-    let Ok(grid) = Grid::new(Some(bounds), 16) else {
-        return Err(NoMemory);
-    };
-    let segments = segments_in(alloc, &bounds, &ROW)?;
-    let bins = bins_of(alloc, &grid, &segments)?;
-    let strange = segments_in(alloc, &bounds, others)?;
-    let book = book_of::<L, A>(rt, alloc, blank, &grid, posted, &strange)?;
-    gather(own, book, &grid, &bins, &segments)
+    let bounds = row_bounds()?;
+    let grid = grid_over(&bounds, 16)?;
+    let book = book_of_ends::<L, A>(rt, alloc, blank, &bounds, &grid, posted, others)?;
+    gathered_with(alloc, own, book, &bounds, &grid)
 }
 
 // The pieces of all tiles of a grid over segments.
@@ -221,39 +305,55 @@ fn row_made<R: Threads + Sync>(
     parts: Option<usize>,
     side: u32,
 ) -> Result<Rounded<Global>, NoMemory> {
-    let bounds = Rect::spanned_by(point((0, 0)), point((16, 16)));
-    if !bounds.lo.is_in_limit() || !bounds.hi.is_in_limit() {
-        return Err(NoMemory);
-    }
-    let Ok(grid) = Grid::new(Some(bounds), 16) else {
-        return Err(NoMemory);
-    };
-    let Ok(cells) = Grid::new(Some(bounds), side) else {
-        return Err(NoMemory);
-    };
+    let bounds = row_bounds()?;
+    let grid = grid_over(&bounds, 16)?;
+    let cells = grid_over(&bounds, side)?;
     let segments = segments_in(alloc, &bounds, &ROW)?;
     let limited = LimitedSegments { list: &segments };
     gathered_made::<Brand, R>(rt, alloc, parts, &cells, &grid, limited)
 }
 
-#[test]
-fn gathers_known_pieces(rt: HostRuntime) -> Result<(), Fail> {
-    for side in [16, 17, 1_024] {
-        let rounded = row_made(&rt, rt.alloc(), None, side)?;
-        assert!(rt; is_row(&rounded) && rounded.remade == 0, "{side}");
-    }
-    Ok(())
+// How many pieces are made anew where the row is gathered from such pieces; none where it isn't the row.
+fn remade_of_made<R: Threads + Sync>(
+    rt: &R,
+    alloc: Global,
+    parts: Option<usize>,
+    side: u32,
+) -> Result<Option<u32>, NoMemory> {
+    let rounded = row_made(rt, alloc, parts, side)?;
+    Ok(remade_of(&rounded))
 }
 
 #[test]
-fn gathers_known_pieces_in_parts(rt: HostRuntime) -> Result<(), Fail> {
-    for parts in [0, 1, 2, 3, 64] {
-        for side in [16, 17, 1_024] {
-            let rounded = row_made(&rt, rt.alloc(), Some(parts), side)?;
-            assert!(rt; is_row(&rounded) && rounded.remade == 0, "{parts}, {side}");
+fn gathers_known_pieces(rt: HostRuntime) {
+    for side in SIDES {
+        assert_eq!(rt;
+            remade_of_made(&rt, rt.alloc(), None, side),
+            Ok(Some(0)),
+            "{side}"
+        );
+    }
+}
+
+// The first side of cells from whose pieces the row isn't gathered in so many parts.
+fn first_lost<R: Threads + Sync>(
+    rt: &R,
+    alloc: Global,
+    parts: usize,
+) -> Result<Option<u32>, NoMemory> {
+    for side in SIDES {
+        if remade_of_made(rt, alloc, Some(parts), side)? != Some(0) {
+            return Ok(Some(side));
         }
     }
-    Ok(())
+    Ok(None)
+}
+
+#[test]
+fn gathers_known_pieces_in_parts(rt: HostRuntime) {
+    for parts in [0, 1, 2, 3, 64] {
+        assert_eq!(rt; first_lost(&rt, rt.alloc(), parts), Ok(None), "{parts}");
+    }
 }
 
 fn is_edge(counted: &Counted, expected: &(Ends, u32)) -> bool {
@@ -264,19 +364,31 @@ fn is_edge(counted: &Counted, expected: &(Ends, u32)) -> bool {
         && counted.in_b == 0
 }
 
-fn is_row<A: Allocator>(rounded: &Rounded<A>) -> bool {
-    rounded.edges.len() == EDGES.len()
-        && rounded.tiles.len() == TILES.len()
-        && rounded
-            .edges
-            .iter()
-            .zip(&EDGES)
-            .all(|(counted, expected)| is_edge(counted, expected))
-        && rounded
-            .tiles
-            .iter()
-            .zip(&TILES)
-            .all(|(tile, expected)| (tile.hot, tile.records) == *expected)
+fn are_edges(edges: &[Counted]) -> bool {
+    for (counted, expected) in edges.iter().zip(&EDGES) {
+        if !is_edge(counted, expected) {
+            return false;
+        }
+    }
+    edges.len() == EDGES.len()
+}
+
+fn are_tiles(tiles: &[TileNumbers]) -> bool {
+    for (tile, expected) in tiles.iter().zip(&TILES) {
+        if (tile.hot, tile.records) != *expected {
+            return false;
+        }
+    }
+    tiles.len() == TILES.len()
+}
+
+// How many pieces were made anew, where this is the row.
+fn remade_of<A: Allocator>(rounded: &Rounded<A>) -> Option<u32> {
+    if are_edges(&rounded.edges) && are_tiles(&rounded.tiles) {
+        Some(rounded.remade)
+    } else {
+        None
+    }
 }
 
 // The segments whose pieces a book has, those of how many tiles, and how many pieces are made anew.
@@ -289,17 +401,22 @@ const BOOKS: [(&[Ends], u32, u32); 6] = [
     (&BOW_TIE, 4, 4),
 ];
 
+fn remade_of_book(
+    rt: &impl Wait,
+    alloc: Global,
+    posted: u32,
+    others: &[Ends],
+) -> Result<Option<u32>, NoMemory> {
+    let rounded = gathered::<Brand, _>(rt, alloc, alloc, Blank::new(1), posted, others)?;
+    Ok(remade_of(&rounded))
+}
+
 #[test]
-fn gathers_from_books(rt: HostRuntime) -> Result<(), Fail> {
+fn gathers_from_books(rt: HostRuntime) {
     for (others, posted, remade) in BOOKS {
-        let alloc = rt.alloc();
-        let rounded = gathered::<Brand, _>(&rt, alloc, alloc, Blank::new(1), posted, others)?;
-        assert!(rt;
-            is_row(&rounded) && rounded.remade == remade,
-            "{posted}, {remade}"
-        );
+        let found = remade_of_book(&rt, rt.alloc(), posted, others);
+        assert_eq!(rt; found, Ok(Some(remade)), "{posted}");
     }
-    Ok(())
 }
 
 const ROOM: usize = 4_032;
@@ -324,14 +441,15 @@ fn spare(rt: &impl Wait, alloc: Global, posted: u32) -> Result<usize, NoMemory> 
     Err(NoMemory)
 }
 
+// Whether the place comes sooner with no piece in the book than with all.
+fn is_spared(rt: &impl Wait, alloc: Global) -> Result<bool, NoMemory> {
+    let with_none = spare(rt, alloc, 0)?;
+    let with_all = spare(rt, alloc, 4)?;
+    Ok(0 < with_none && with_none < with_all)
+}
+
 // The tiles' own pieces are taken from the book, and not made anew.
 #[test]
-fn asks_for_less_with_a_full_book(rt: HostRuntime) -> Result<(), Fail> {
-    let with_none = spare(&rt, rt.alloc(), 0)?;
-    let with_all = spare(&rt, rt.alloc(), 4)?;
-    assert!(rt;
-        0 < with_none && with_none < with_all,
-        "{with_none}, {with_all}"
-    );
-    Ok(())
+fn asks_for_less_with_a_full_book(rt: HostRuntime) {
+    assert_eq!(rt; is_spared(&rt, rt.alloc()), Ok(true));
 }

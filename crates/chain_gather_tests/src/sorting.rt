@@ -5,7 +5,6 @@ use geom::{Counted, Edge, NoMemory, Source};
 use linking::{Link, counts_in_parts, sorted};
 use routing::Record;
 use std::alloc::Global;
-use std::test::*;
 use std::thread::Threads;
 
 // Pairs of a segment and its steps, and the same in order.
@@ -78,44 +77,86 @@ fn record(segment: u32, steps: u32) -> Record {
 }
 
 fn are_records(list: &[Record], expected: &[(u32, u32)]) -> bool {
+    for (record, pair) in list.iter().zip(expected) {
+        if (record.segment, record.steps) != *pair {
+            return false;
+        }
+    }
     list.len() == expected.len()
-        && list
-            .iter()
-            .zip(expected)
-            .all(|(record, pair)| (record.segment, record.steps) == *pair)
+}
+
+fn records_of(alloc: Global, pairs: &[(u32, u32)]) -> Result<Vec<Record, Global>, NoMemory> {
+    let mut list = Vec::new(alloc);
+    for (segment, steps) in pairs {
+        list.push(record(*segment, *steps))?;
+    }
+    Ok(list)
 }
 
 fn sorts_few(alloc: Global) -> Result<bool, NoMemory> {
-    let mut all = true;
     for (pairs, expected) in FEW {
-        let mut list = Vec::new(alloc);
-        for (segment, steps) in pairs {
-            list.push(record(*segment, *steps))?;
+        let list = sorted(records_of(alloc, pairs)?);
+        if !are_records(&list, expected) {
+            return Ok(false);
         }
-        let list = sorted(list);
-        all = all && are_records(&list, expected);
     }
-    Ok(all)
+    Ok(true)
 }
 
 // Two records of each segment.
-fn sorts_spread(alloc: Global, step: u32, gap: u32) -> Result<bool, NoMemory> {
+fn spread(alloc: Global, step: u32, gap: u32) -> Result<Vec<Record, Global>, NoMemory> {
     let mut list = Vec::new(alloc);
     for at in 0..LONG {
         let segment = (at.wrapping_mul(step) % LONG).wrapping_mul(gap);
-        list.push(record(segment, 1))?;
-        list.push(record(segment, 0))?;
+        list.extend_from_slice(&[record(segment, 1), record(segment, 0)])?;
     }
-    let list = sorted(list);
-    Ok(
-        list.len() == 2 * LONG as usize
-            && list.iter().enumerate().all(|(at, found)| {
-                found.segment == (at as u32 / 2).wrapping_mul(gap) && found.steps == at as u32 % 2
-            }),
-    )
+    Ok(list)
 }
 
-// Each of many edges, from (0, 0) to (0, 1) and so on, is a link of each layer, whose links are a list.
+fn are_in_order(list: &[Record], gap: u32) -> bool {
+    let mut at = 0u32;
+    for found in list {
+        if (found.segment, found.steps) != ((at / 2).wrapping_mul(gap), at % 2) {
+            return false;
+        }
+        at = at.wrapping_add(1);
+    }
+    list.len() == 2 * LONG as usize
+}
+
+// The first of the spreads whose records aren't sorted.
+fn first_unsorted(alloc: Global) -> Result<Option<(u32, u32)>, NoMemory> {
+    for (step, gap) in SPREADS {
+        let list = sorted(spread(alloc, step, gap)?);
+        if !are_in_order(&list, gap) {
+            return Ok(Some((step, gap)));
+        }
+    }
+    Ok(None)
+}
+
+// Each of many edges, from (0, 0) to (0, 1) and so on, as a link of a layer.
+fn each_edge(alloc: Global, layer: Source, step: u32) -> Result<Vec<Link, Global>, NoMemory> {
+    let mut list = Vec::new(alloc);
+    for at in 0..LONG {
+        let x = (at.wrapping_mul(step) % LONG) as i32;
+        let Some(edge) = Edge::between(point((x, 0)), point((x, 1))) else {
+            return Err(NoMemory);
+        };
+        list.push(Link { edge, layer })?;
+    }
+    Ok(list)
+}
+
+fn are_each_once_in_both(counted: &[Counted]) -> bool {
+    for (at, found) in counted.iter().enumerate() {
+        if found.edge.p.x.unsigned_abs() as usize != at || (found.in_a, found.in_b) != (1, 1) {
+            return false;
+        }
+    }
+    counted.len() == LONG as usize
+}
+
 fn counts_links<R: Threads + Sync>(
     rt: &R,
     alloc: Global,
@@ -123,24 +164,24 @@ fn counts_links<R: Threads + Sync>(
     step: u32,
 ) -> Result<bool, NoMemory> {
     let mut lists = Vec::new(alloc);
-    for layer in [Source::B, Source::A] {
-        let mut list = Vec::new(alloc);
-        for at in 0..LONG {
-            let x = (at.wrapping_mul(step) % LONG) as i32;
-            let Some(edge) = Edge::between(point((x, 0)), point((x, 1))) else {
-                return Ok(false);
-            };
-            list.push(Link { edge, layer })?;
-        }
-        lists.push(list)?;
-    }
+    lists.push(each_edge(alloc, Source::B, step)?)?;
+    lists.push(each_edge(alloc, Source::A, step)?)?;
     let counted = counts_in_parts(rt, alloc, parts, lists)?;
-    Ok(
-        counted.len() == LONG as usize
-            && counted.iter().enumerate().all(|(at, found)| {
-                found.edge.p.x.unsigned_abs() as usize == at && (found.in_a, found.in_b) == (1, 1)
-            }),
-    )
+    Ok(are_each_once_in_both(&counted))
+}
+
+// The step of the first of the spreads whose links aren't counted in so many parts.
+fn first_miscounted<R: Threads + Sync>(
+    rt: &R,
+    alloc: Global,
+    parts: usize,
+) -> Result<Option<u32>, NoMemory> {
+    for (step, _gap) in SPREADS {
+        if !counts_links(rt, alloc, parts, step)? {
+            return Ok(Some(step));
+        }
+    }
+    Ok(None)
 }
 
 // A list of links.
@@ -159,12 +200,15 @@ fn links_of(alloc: Global, links: &[(Ends, Source)]) -> Result<Vec<Link, Global>
 }
 
 fn are_counted(list: &[Counted], expected: &[(Ends, u32, u32)]) -> bool {
+    for (found, row) in list.iter().zip(expected) {
+        let ((p, q), in_a, in_b) = *row;
+        if (found.edge.p, found.edge.q) != (point(p), point(q))
+            || (found.in_a, found.in_b) != (in_a, in_b)
+        {
+            return false;
+        }
+    }
     list.len() == expected.len()
-        && list.iter().zip(expected).all(|(found, row)| {
-            let ((p, q), in_a, in_b) = *row;
-            (found.edge.p, found.edge.q) == (point(p), point(q))
-                && (found.in_a, found.in_b) == (in_a, in_b)
-        })
 }
 
 // Whether few links in lists are counted in so many parts.
@@ -183,37 +227,43 @@ fn counts_few<R: Threads + Sync>(
     Ok(are_counted(&counted, expected))
 }
 
+fn counts_all_few<R: Threads + Sync>(
+    rt: &R,
+    alloc: Global,
+    parts: usize,
+) -> Result<bool, NoMemory> {
+    for (links, expected) in LINKS {
+        if !counts_few(rt, alloc, parts, links, expected)? {
+            return Ok(false);
+        }
+    }
+    Ok(true)
+}
+
 #[test]
-fn few_links_are_counted(rt: HostRuntime) -> Result<(), Fail> {
+fn few_links_are_counted(rt: HostRuntime) {
     for parts in [0, 1, 2, 3, 64] {
-        for (links, expected) in LINKS {
-            assert!(rt;
-                counts_few(&rt, rt.alloc(), parts, links, expected)?,
-                "{parts}"
-            );
-        }
+        assert_eq!(rt; counts_all_few(&rt, rt.alloc(), parts), Ok(true), "{parts}");
     }
-    Ok(())
 }
 
 #[test]
-fn records_are_sorted(rt: HostRuntime) -> Result<(), Fail> {
-    assert!(rt; sorts_few(rt.alloc())?);
-    for (step, gap) in SPREADS {
-        assert!(rt; sorts_spread(rt.alloc(), step, gap)?, "{step} {gap}");
-    }
-    Ok(())
+fn few_records_are_sorted(rt: HostRuntime) {
+    assert_eq!(rt; sorts_few(rt.alloc()), Ok(true));
 }
 
 #[test]
-fn links_are_counted(rt: HostRuntime) -> Result<(), Fail> {
+fn records_are_sorted(rt: HostRuntime) {
+    assert_eq!(rt; first_unsorted(rt.alloc()), Ok(None));
+}
+
+#[test]
+fn links_are_counted(rt: HostRuntime) {
     for parts in [1, 2, 3, 4, 7] {
-        for (step, _gap) in SPREADS {
-            assert!(rt;
-                counts_links(&rt, rt.alloc(), parts, step)?,
-                "{parts} {step}"
-            );
-        }
+        assert_eq!(rt;
+            first_miscounted(&rt, rt.alloc(), parts),
+            Ok(None),
+            "{parts}"
+        );
     }
-    Ok(())
 }

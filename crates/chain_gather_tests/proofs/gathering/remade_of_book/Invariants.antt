@@ -1,4 +1,4 @@
-use Rattle.chain_gather_tests.proofs.gathering.gathers_from_books.Given as goal
+use Rattle.chain_gather_tests.proofs.gathering.remade_of_book.Given as goal
 
 abbrev pub ghosts-gathered-L-Ledger : goal.ghosts-gathered-L-Ledger
 ghosts-gathered-L-Ledger g a = record { name = a.blank.name; parts = a.blank.parts }
