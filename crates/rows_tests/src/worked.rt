@@ -1,13 +1,16 @@
 //! Two features that overlap in one layer, and one in another, worked out by hand.
 
-ghost use Rattle.std.specs.Prelude.{◌≡◌, IfOk, All};
+ghost use Rattle.std.specs.Prelude.{◌≡◌, All, AllPairs, IfOk};
 ghost use Rattle.cover_sets.specs.Sets.{AreSets, IsNumber};
+ghost use Rattle.rows.specs.Made.{AreReady};
+ghost use Rattle.rows.specs.RowEdges.{IsRowEdgeBefore};
+ghost use Rattle.rows.specs.RowSets.{AreRowSets};
 
 use crate::ready::is_ready;
 use cover_law::Border;
 use cover_sets::{EMPTY, Sets};
 use geom::{Edge, NoMemory, Pt};
-use rows::{Row, count_ids, row_edges, rows_in_parts};
+use rows::{Row, RowEdges, count_ids, row_edges, rows_in_parts};
 use std::alloc::{Allocator, Global};
 use std::thread::Threads;
 use wkt::write_multi;
@@ -81,42 +84,73 @@ fn are_rows<A: Allocator + Copy>(alloc: A, rows: &[Row<A>]) -> Result<bool, NoMe
     Ok(true)
 }
 
-/// Whether the rows made in so many parts are those that were worked out.
+fn borders<A: Allocator>(alloc: A) -> Result<Vec<Border, A>, NoMemory> {
+    let mut borders = Vec::new(alloc);
+    for (px, py, qx, qy, _, _) in EDGES {
+        let Some(edge) = Edge::between(Pt { x: px, y: py }, Pt { x: qx, y: qy }) else {
+            return Err(NoMemory);
+        };
+        borders.push(Border {
+            edge,
+            from: 0,
+            to: 0,
+        })?;
+    }
+    Ok(borders)
+}
+
+/// The sets on one side of the edges.
+fn sets_beside<A: Allocator>(
+    alloc: A,
+    numbers: &[u32; 4],
+    on_left: bool,
+) -> Result<Vec<u32, A>, NoMemory> {
+    let mut beside = Vec::new(alloc);
+    for (_, _, _, _, left, right) in EDGES {
+        let count = if on_left { left } else { right };
+        beside.push(numbers[count % 4])?;
+    }
+    Ok(beside)
+}
+
+fn edges_of<A: Allocator + Copy>(alloc: A, numbers: &[u32; 4]) -> Result<RowEdges<A>, NoMemory>
+    ensures ascending { IfOk result (λ r. AllPairs IsRowEdgeBefore r.edges.items) }
+    ensures sets { IfOk result (λ r. AreRowSets r.edges.items r.sets.items) }
+{
+    let borders = borders(alloc)?;
+    let left = sets_beside(alloc, numbers, true)?;
+    let right = sets_beside(alloc, numbers, false)?;
+    if left.len() == borders.len() && right.len() == borders.len() {
+        row_edges(alloc, &borders, &left, &right)
+    } else {
+        Err(NoMemory)
+    }
+}
+
+/// Whether the rows made in so many parts, and the count of their features, are those that were worked out.
+fn makes_rows<R: Threads + Sync>(
+    rt: &R,
+    alloc: Global,
+    parts: usize,
+    sets: &Sets<Global>,
+    edges: &RowEdges<Global>,
+) -> Result<bool, NoMemory>
+    requires { AreReady sets.now edges.now.edges.items edges.now.sets.items }
+{
+    let rows = rows_in_parts(rt, alloc, parts, sets, edges)?;
+    Ok(are_rows(alloc, &rows)? && count_ids(sets, edges) == 6)
+}
+
+/// Whether they are of the edges that were worked out, which are ready for their rows.
 fn gives_rows<R: Threads + Sync>(rt: &R, alloc: Global, parts: usize) -> Result<bool, NoMemory> {
     let (sets, numbers) = numbers_of(alloc)?;
-    let mut borders = Vec::new(alloc);
-    let mut left = Vec::new(alloc);
-    let mut right = Vec::new(alloc);
-    for (px, py, qx, qy, on_left, on_right) in EDGES {
-        let p = Pt { x: px, y: py };
-        let q = Pt { x: qx, y: qy };
-        if let Some(edge) = Edge::between(p, q) {
-            borders.push(Border {
-                edge,
-                from: 0,
-                to: 0,
-            })?;
-            left.push(numbers[on_left % 4])?;
-            right.push(numbers[on_right % 4])?;
-        }
-    }
-    if left.len() != borders.len() || right.len() != borders.len() {
-        return Ok(false);
-    }
-    let edges = row_edges(alloc, &borders, &left, &right)?;
-    if !is_ready(alloc, &sets, &edges, &numbers)? || count_ids(&sets, &edges) != 6 {
-        return Ok(false);
-    }
-    let rows = rows_in_parts(rt, alloc, parts, &sets, &edges)?;
-    are_rows(alloc, &rows)
+    let edges = edges_of(alloc, &numbers)?;
+    Ok(is_ready(alloc, &sets, &edges, &numbers)? && makes_rows(rt, alloc, parts, &sets, &edges)?)
 }
 
 #[test]
 fn worked_example(rt: HostRuntime) {
     for parts in PARTS {
-        assert!(rt;
-            gives_rows(&rt, rt.alloc(), parts).is_ok_and(|same| same),
-            "{parts}"
-        );
+        assert_eq!(rt; gives_rows(&rt, rt.alloc(), parts), Ok(true), "{parts}");
     }
 }
