@@ -64,10 +64,12 @@ fn ends_of(edge: Edge) -> (i32, i32, i32, i32) {
 
 /// Whether these are the edges of the picture, each with the one beside it.
 fn are_besides(swept: &[SweptEdge]) -> bool {
+    for (one, (edge, beside)) in swept.iter().zip(&BESIDES) {
+        if ends_of(one.edge) != *edge || one.beside.map(ends_of) != *beside {
+            return false;
+        }
+    }
     swept.len() == BESIDES.len()
-        && swept.iter().zip(BESIDES).all(|(one, (edge, beside))| {
-            ends_of(one.edge) == edge && one.beside.map(ends_of) == beside
-        })
 }
 
 /// Whether the edges of the picture are swept so, in one part.
@@ -90,10 +92,15 @@ fn sweeps_in_parts<R: Threads + Sync, A: Allocator + Copy + Send + Sync>(
 
 #[test]
 fn each_edge_has_the_one_beside_it(rt: HostRuntime) {
-    assert!(rt; sweeps(rt.alloc()) == Ok(true));
+    assert_eq!(rt; sweeps(rt.alloc()), Ok(true));
+}
+
+#[test]
+fn each_edge_has_it_in_parts(rt: HostRuntime) {
     for parts in PARTS {
-        assert!(rt;
-            sweeps_in_parts(&rt, rt.alloc(), parts) == Ok(true),
+        assert_eq!(rt;
+            sweeps_in_parts(&rt, rt.alloc(), parts),
+            Ok(true),
             "{parts}"
         );
     }

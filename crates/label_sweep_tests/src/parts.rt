@@ -74,7 +74,16 @@ fn counted_of<A: Allocator>(alloc: A) -> Result<Vec<Counted, A>, NoMemory> {
 fn are_ends<R: Threads + Sync>(rt: &R, alloc: Global, parts: usize) -> Result<bool, NoMemory> {
     let counted = counted_of(alloc)?;
     let vertices = vertices_in_parts(rt, alloc, parts, &counted)?;
-    Ok(vertices.len() == ENDS.len() && vertices.iter().zip(ENDS).all(|(v, at)| (v.x, v.y) == at))
+    Ok(are_points(&vertices, &ENDS))
+}
+
+fn are_points(vertices: &[Pt], ends: &[(i32, i32)]) -> bool {
+    for (vertex, at) in vertices.iter().zip(ends) {
+        if (vertex.x, vertex.y) != *at {
+            return false;
+        }
+    }
+    vertices.len() == ends.len()
 }
 
 /// Whether the vertices are cut into these strips.
