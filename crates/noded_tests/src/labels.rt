@@ -12,7 +12,6 @@ use geom::{Counted, DirectedEdge, NoMemory, Op, Pt};
 use noding_test::Noded;
 use std::alloc::{Allocator, Global};
 use std::sync::Wait;
-use std::test::Fail;
 use std::thread::Threads;
 use tile_book::OpenGate;
 
@@ -91,14 +90,16 @@ fn are_labels<A: Allocator + Copy + Sync + Send, B: Allocator, R: Threads + Wait
     requires { All (λ c. AreInLimit c.edge.p c.edge.q) noded.now.edges.items }
 {
     let directed = labels(rt, alloc, noded, op)?;
-    let edges = directed.edges();
-    Ok(
-        edges.len() == ways.len()
-            && edges
-                .iter()
-                .zip(ways)
-                .all(|(edge, way)| is_way(*edge, *way)),
-    )
+    Ok(are_ways(directed.edges(), ways))
+}
+
+fn are_ways(edges: &[DirectedEdge], ways: &[Way]) -> bool {
+    for (edge, way) in edges.iter().zip(ways) {
+        if !is_way(*edge, *way) {
+            return false;
+        }
+    }
+    edges.len() == ways.len()
 }
 
 fn is_way(edge: DirectedEdge, way: Way) -> bool {
@@ -160,60 +161,80 @@ fn is_right<R: Threads + Wait + Sync>(rt: &R, alloc: Global, case: Case) -> Resu
 }
 
 #[test]
-fn small_lists(rt: HostRuntime) -> Result<(), Fail> {
+fn small_lists(rt: HostRuntime) {
     for case in CASES {
-        assert!(rt; is_right(&rt, rt.alloc(), case)?, "{case:?}");
+        assert_eq!(rt; is_right(&rt, rt.alloc(), case), Ok(true), "{case:?}");
     }
-    Ok(())
 }
 
 /// Adds a square of side 3, and its edges directed counter-clockwise.
 fn add_square<A: Allocator>(
     rows: &mut Vec<Row, A>,
     ways: &mut Vec<DirectedEdge, A>,
-    column: u8,
-    row: u8,
+    column: u16,
+    row: u16,
 ) -> Result<(), NoMemory> {
-    let x = i32::from(column) * 5;
-    let y = i32::from(row) * 5;
-    rows.push((x, y, x, y + 3, 1, 0))?;
-    rows.push((x, y, x + 3, y, 1, 0))?;
-    rows.push((x, y + 3, x + 3, y + 3, 1, 0))?;
-    rows.push((x + 3, y, x + 3, y + 3, 1, 0))?;
-    let corners = [
-        Pt { x, y },
-        Pt { x: x + 3, y },
-        Pt { x: x + 3, y: y + 3 },
-        Pt { x, y: y + 3 },
-    ];
-    for (from, to) in [(0usize, 1usize), (1, 2), (2, 3), (3, 0)] {
-        ways.push(DirectedEdge {
-            from: corners[from % 4],
-            to: corners[to % 4],
-        })?;
-    }
+    let (left, bottom) = (i32::from(column) * 5, i32::from(row) * 5);
+    let (right, top) = (left + 3, bottom + 3);
+    rows.extend_from_slice(&[
+        (left, bottom, left, top, 1, 0),
+        (left, bottom, right, bottom, 1, 0),
+        (left, top, right, top, 1, 0),
+        (right, bottom, right, top, 1, 0),
+    ])?;
+    let a = Pt { x: left, y: bottom };
+    let b = Pt {
+        x: right,
+        y: bottom,
+    };
+    let c = Pt { x: right, y: top };
+    let d = Pt { x: left, y: top };
+    ways.extend_from_slice(&[
+        DirectedEdge { from: a, to: b },
+        DirectedEdge { from: b, to: c },
+        DirectedEdge { from: c, to: d },
+        DirectedEdge { from: d, to: a },
+    ])?;
     Ok(())
 }
 
-/// Whether the labels of a thousand separate squares are their edges, each with its square on the left, and those of a plain
-/// loop over all edges.
+/// Adds a thousand separate squares, and their edges, both in order.
+fn add_squares<A: Allocator>(
+    rows: &mut Vec<Row, A>,
+    ways: &mut Vec<DirectedEdge, A>,
+) -> Result<(), NoMemory> {
+    for number in 0..1000u16 {
+        add_square(rows, ways, number / 25, number % 25)?;
+    }
+    rows.sort_unstable();
+    ways.sort_unstable();
+    Ok(())
+}
+
+/// Whether the labels of noded edges are these, and those of a plain loop over all edges.
+fn labels_agree<A: Allocator + Copy + Sync + Send, R: Threads + Wait + Sync>(
+    rt: &R,
+    alloc: A,
+    noded: &Noded<A>,
+    ways: &[DirectedEdge],
+) -> Result<bool, NoMemory>
+    requires { All (λ c. AreInLimit c.edge.p c.edge.q) noded.now.edges.items }
+{
+    let directed = labels(rt, alloc, noded, Op::Union)?;
+    let plain = plain_labels(alloc, noded.edges.as_slice(), Op::Union)?;
+    Ok(directed.edges() == ways && plain.as_slice() == ways)
+}
+
+/// Whether the labels of the squares are their edges, each with its square on the left, and those of a plain loop.
 fn squares_agree<A: Allocator + Copy + Sync + Send, R: Threads + Wait + Sync>(
     rt: &R,
     alloc: A,
 ) -> Result<bool, NoMemory> {
     let mut rows = Vec::new(alloc);
     let mut ways = Vec::new(alloc);
-    for column in 0..40u8 {
-        for row in 0..25u8 {
-            add_square(&mut rows, &mut ways, column, row)?;
-        }
-    }
-    rows.sort_unstable();
+    add_squares(&mut rows, &mut ways)?;
     let noded = noded_of(rt, alloc, &rows)?;
-    let directed = labels(rt, alloc, &noded, Op::Union)?;
-    ways.sort_unstable();
-    let plain = plain_labels(alloc, noded.edges.as_slice(), Op::Union)?;
-    Ok(directed.edges() == ways.as_slice() && ways.as_slice() == plain.as_slice())
+    labels_agree(rt, alloc, &noded, &ways)
 }
 
 #[test]

@@ -9,7 +9,6 @@ use noding_test::Noded;
 use refusing::Refusing;
 use std::alloc::{Allocator, Global};
 use std::sync::Wait;
-use std::test::Fail;
 use std::thread::Threads;
 
 /// More requests for memory than the strips and the labels of any case make.
@@ -47,14 +46,21 @@ fn refusals<R: Threads + Wait + Sync>(
     Ok(Some(count))
 }
 
-#[test]
-fn refuses_each_request(rt: HostRuntime) -> Result<(), Fail> {
-    for case in CASES {
-        let count = refusals(&rt, rt.alloc(), case)?;
-        assert!(rt;
-            count.is_some_and(|count| (0 < count) != case.0.is_empty() && count < REQUESTS),
-            "{case:?} {count:?}"
-        );
+/// Whether some number of requests is refused, of a case with edges, and not the last.
+fn is_refused<R: Threads + Wait + Sync>(
+    rt: &R,
+    alloc: Global,
+    case: Case,
+) -> Result<bool, NoMemory> {
+    match refusals(rt, alloc, case)? {
+        Some(count) => Ok((0 < count) != case.0.is_empty() && count < REQUESTS),
+        None => Ok(false),
     }
-    Ok(())
+}
+
+#[test]
+fn refuses_each_request(rt: HostRuntime) {
+    for case in CASES {
+        assert_eq!(rt; is_refused(&rt, rt.alloc(), case), Ok(true), "{case:?}");
+    }
 }

@@ -7,7 +7,6 @@ use linking::Rounded;
 use noding_test::noded;
 use std::alloc::Global;
 use std::sync::Wait;
-use std::test::Fail;
 use std::thread::Threads;
 use tile_book::{Gate, OpenGate, Phase};
 use tiling::Grid;
@@ -101,31 +100,35 @@ fn bad_pair<G: Gate + Sync, R: Threads + Wait + Sync>(
 }
 
 #[test]
-fn names_the_least_bad_pair(rt: HostRuntime) -> Result<(), Fail> {
+fn names_the_least_bad_pair(rt: HostRuntime) {
     for (corners, ends, bad) in CASES {
-        let named = bad_pair(&rt, rt.alloc(), corners, ends, &OpenGate)?;
-        assert!(rt; named == bad, "{corners:?}");
+        let named = bad_pair(&rt, rt.alloc(), corners, ends, &OpenGate);
+        assert_eq!(rt; named, Ok(bad), "{corners:?}");
     }
-    Ok(())
 }
 
-#[test]
-fn no_edges_are_noded(rt: HostRuntime) -> Result<(), Fail> {
+/// Whether no edges are noded, over a grid without tiles.
+fn none_are_noded<R: Threads + Wait + Sync>(rt: &R, alloc: Global) -> Result<bool, NoMemory> {
     let Ok(grid) = Grid::new(None, 16) else {
-        return Err(Fail::from("a grid without tiles"));
+        return Err(NoMemory);
     };
-    let rounded = Rounded::of_edges(rt.alloc(), &[])?;
-    let answer = noded(&rt, rt.alloc(), rounded, &grid, 2, &OpenGate);
-    assert!(rt; answer.is_ok());
-    Ok(())
+    let rounded = Rounded::of_edges(alloc, &[])?;
+    Ok(noded(rt, alloc, rounded, &grid, 2, &OpenGate).is_ok())
 }
 
-/// The verdict of tile 0 is posted behind that of tile 2.
 #[test]
-fn names_it_though_found_last(rt: HostRuntime) -> Result<(), Fail> {
+fn no_edges_are_noded(rt: HostRuntime) {
+    assert_eq!(rt; none_are_noded(&rt, rt.alloc()), Ok(true));
+}
+
+/// Whether the pair of tile 0 is named though its verdict is posted behind that of tile 2.
+fn names_the_last<R: Threads + Wait + Sync>(rt: &R, alloc: Global) -> Result<bool, NoMemory> {
     let gate = Holding::until(Phase::Node, 2);
-    let named = bad_pair(&rt, rt.alloc(), ((0, 0), (36, 4)), &TWO_CROSSES, &gate)?;
-    assert!(rt; named == FIRST_CROSS);
-    assert!(rt; gate.has_seen());
-    Ok(())
+    let named = bad_pair(rt, alloc, ((0, 0), (36, 4)), &TWO_CROSSES, &gate)?;
+    Ok(named == FIRST_CROSS && gate.has_seen())
+}
+
+#[test]
+fn names_it_though_found_last(rt: HostRuntime) {
+    assert_eq!(rt; names_the_last(&rt, rt.alloc()), Ok(true));
 }
