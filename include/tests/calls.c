@@ -2,6 +2,7 @@
  * With CALL A B: the text of that call on two files, to standard output. */
 #include "../overlay.h"
 #include "checking.h"
+#include "squares.h"
 
 #include <stdio.h>
 #include <stdlib.h>
@@ -31,18 +32,6 @@ static struct overlay_answer filled(uint32_t call, uint32_t side, const char *a,
     free(second);
     return answer;
 }
-
-static const char *const SQUARE = "POLYGON ((0 0, 4 0, 4 4, 0 4, 0 0))";
-static const char *const OTHER = "POLYGON ((2 2, 6 2, 6 6, 2 6, 2 2))";
-
-static const char *const TEXTS[5] = {
-    "MULTIPOLYGON (((0 0, 4 0, 4 2, 6 2, 6 6, 2 6, 2 4, 0 4, 0 0)))\n",
-    "MULTIPOLYGON (((2 2, 4 2, 4 4, 2 4, 2 2)))\n",
-    "MULTIPOLYGON (((0 0, 4 0, 4 2, 2 2, 2 4, 0 4, 0 0)))\n",
-    "MULTIPOLYGON (((0 0, 4 0, 4 2, 2 2, 2 4, 0 4, 0 0)), ((2 4, 4 4, 4 2, 6 2, 6 6, 2 6, 2 4)))\n",
-    "0 0 0 4 1 0\n0 0 4 0 1 0\n0 4 2 4 1 0\n2 2 2 4 0 1\n2 2 4 2 0 1\n2 4 2 6 0 1\n2 4 4 4 1 0\n2 6 6 6 0 1\n4 0 4 2 1 0\n"
-    "4 2 4 4 1 0\n4 2 6 2 0 1\n6 2 6 6 0 1\n",
-};
 
 /* A room one byte too small stays as it was; one that is wide enough changes in its first bytes alone. */
 static void rooms(void) {

@@ -2,21 +2,10 @@
  * layers, and each request for memory refused in turn. */
 #include "../overlay.h"
 #include "checking.h"
+#include "squares.h"
 
 #include <stdlib.h>
 #include <string.h>
-
-static const char *const SQUARE = "POLYGON ((0 0, 4 0, 4 4, 0 4, 0 0))", *const OTHER = "POLYGON ((2 2, 6 2, 6 6, 2 6, 2 2))";
-
-/* Worked out by hand, as for the calls with a room. */
-static const char *const TEXTS[5] = {
-    "MULTIPOLYGON (((0 0, 4 0, 4 2, 6 2, 6 6, 2 6, 2 4, 0 4, 0 0)))\n",
-    "MULTIPOLYGON (((2 2, 4 2, 4 4, 2 4, 2 2)))\n",
-    "MULTIPOLYGON (((0 0, 4 0, 4 2, 2 2, 2 4, 0 4, 0 0)))\n",
-    "MULTIPOLYGON (((0 0, 4 0, 4 2, 2 2, 2 4, 0 4, 0 0)), ((2 4, 4 4, 4 2, 6 2, 6 6, 2 6, 2 4)))\n",
-    "0 0 0 4 1 0\n0 0 4 0 1 0\n0 4 2 4 1 0\n2 2 2 4 0 1\n2 2 4 2 0 1\n2 4 2 6 0 1\n2 4 4 4 1 0\n2 6 6 6 0 1\n4 0 4 2 1 0\n"
-    "4 2 4 4 1 0\n4 2 6 2 0 1\n6 2 6 6 0 1\n",
-};
 
 static int is_answered(const char *text, const struct overlay_answer *answer, uint32_t call) {
     return text && !strcmp(text, TEXTS[call]) && answer->status == OVERLAY_ANSWERED && answer->length == strlen(text);
