@@ -14,7 +14,7 @@ ghost use Rattle.rows.specs.Made.{AreReady, ids_in, row_of};
 ghost use Rattle.rows.specs.RowEdges.{AreEdgesOfRows};
 ghost use Rattle.engine.specs.FaceRows.{AreFaceSets, IsNumberOfIds, uncounted};
 
-use crate::worth;
+use hands::worth;
 use cover_law::Border;
 use cover_sets::{Sets, covers};
 use geom::{Counted, NoMemory};

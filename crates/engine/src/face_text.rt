@@ -7,7 +7,7 @@ ghost use Rattle.rows.specs.Made.{row_of};
 
 use crate::feature_segments::LayerSize;
 use crate::text_parts::TextParts;
-use crate::worth;
+use hands::worth;
 use faces_text::push_row;
 use geom::{NoMemory, Polygon};
 use hands::{Part, map_parts, parts_of_work};

@@ -10,7 +10,7 @@ ghost use Rattle.engine.specs.Layers.{AreFeaturesInLimit, AreReadLayers, HaveKep
 
 use crate::checking::joint_bounds;
 use crate::faces_fault::{FacesFault, FacesPart, FacesRefusal};
-use crate::worth;
+use hands::worth;
 use geom::{Fault, NoMemory, Rect};
 use std::alloc::Allocator;
 use std::thread::Threads;

@@ -51,7 +51,6 @@ mod segments;
 mod sink;
 mod text;
 mod text_parts;
-mod worth;
 
 pub use alone::{edges_alone, edges_alone_within, run_alone, run_alone_within};
 pub use alone_faces::{FacesOutput, faces_alone};

@@ -12,7 +12,7 @@ ghost use Rattle.engine.specs.Results.{IsResult, IsResultText, IsWantedText};
 use crate::line_parts::line_in_parts;
 use crate::text::edges_text;
 use crate::text_parts::{TextParts, edges_text_in_parts};
-use crate::worth;
+use hands::worth;
 use geom::{Counted, Directed, NoMemory, Op, Polygon};
 use label_sweep::{layer_labels, layer_labels_in_parts};
 use polygonize::{polygons, rings_in_parts};

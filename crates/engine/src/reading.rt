@@ -11,7 +11,7 @@ ghost use Rattle.wkt.specs.Refusals.{StandsFor};
 
 use crate::checking::{CheckedInput, Reading};
 use crate::segments::{layer_segments, segments_of};
-use crate::worth;
+use hands::worth;
 use geom::{Layer, NoMemory, Seg, Source};
 use hands::join;
 use std::alloc::Allocator;

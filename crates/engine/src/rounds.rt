@@ -18,7 +18,7 @@ use crate::cell_parts::{bins_in_parts, cells_in_parts};
 use crate::checking::{CheckedInput, Reading};
 use crate::reading::read_segments_by_workers;
 use crate::text::Report;
-use crate::worth;
+use hands::worth;
 use geom::{NoMemory, Seg};
 use grid::{Grid, KeptBins, MOST_TILES};
 use linking::{

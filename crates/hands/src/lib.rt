@@ -5,6 +5,8 @@
 //! 1. The work is cut into parts that follow one another (`part`).
 //! 2. rayon maps the function over them (`parts`); two different calls at once are `join`.
 //!
+//! How much work is worth several parts stands in one table (`worth`).
+//!
 //! The promise: the answers stand in the order of the parts, each as the function's contract says it, whatever threads there were. The
 //! definition of consecutive parts is `specs/Consecutive`, their laws are `proofs/Consecutive`.
 #![tactic(auto)]
@@ -13,6 +15,7 @@ ghost use Rattle.std.specs.Thread.{IsSend, IsSync};
 
 mod part;
 mod parts;
+pub mod worth;
 
 pub use part::{Part, even_parts, joined, parts_of_work};
 pub use parts::map_parts;
