@@ -12,7 +12,7 @@ use Rattle.geom.specs.declared.rect.Rect.{Rect}
 use Rattle.geom.specs.declared.segment.Seg.{Seg}
 use Rattle.geom.proofs.Numbers.{itself}
 use Rattle.geom.proofs.Lists.{some_same}
-use Rattle.linking.specs.Gathered.{BoundsHold}
+use Rattle.grid.specs.Tiles.{BoundsHold}
 use Rattle.engine.specs.Rounds.{AllInLimit}
 
 -- q is r with a point

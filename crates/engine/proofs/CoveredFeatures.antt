@@ -8,8 +8,8 @@ use Rattle.geom.specs.declared.segment.Source.{Source}
 use Rattle.geom.specs.Segments.{layer_steps, parts}
 use Rattle.geom.proofs.Lists.{In, contains_in, in_append, in_back, in_contains, in_front, in_map, map_in}
 use Rattle.cover_law.specs.Borders.{AreFeatureSegments, feature_parts, part_of, segment_part, step_of}
-use Rattle.grid.specs.Tiles.{IsSide, Tiling}
-use Rattle.linking.specs.Gathered.{BoundsHold, HaveTiles}
+use Rattle.grid.specs.Tiles.{BoundsHold, IsSide, Tiling}
+use Rattle.linking.specs.Gathered.{HaveTiles}
 use Rattle.linking.proofs.Covering.{have_tiles}
 use Rattle.wkt.specs.Features.{all_rings}
 use Rattle.engine.specs.declared.engine.Plan.{Plan}

@@ -4,9 +4,8 @@ use Rattle.std.specs.Prelude.{Contains, None, Option, slice_range}
 use Rattle.geom.specs.declared.rect.Rect.{Rect}
 use Rattle.geom.specs.declared.segment.Seg.{Seg}
 use Rattle.geom.proofs.Lists.{contains_in}
-use Rattle.grid.specs.Tiles.{AreBounds}
+use Rattle.grid.specs.Tiles.{AreBounds, BoundsHold}
 use Rattle.hands.specs.declared.part.Part.{Part}
-use Rattle.linking.specs.Gathered.{BoundsHold}
 use Rattle.engine.proofs.EdgeLines.{whole_range}
 use Rattle.engine.proofs.LineParts.{both_ranges, none_between}
 

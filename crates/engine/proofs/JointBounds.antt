@@ -13,8 +13,7 @@ use Rattle.geom.specs.declared.rect.Rect.{Rect}
 use Rattle.geom.proofs.Lists.{In, contains_in, in_contains, in_append}
 use Rattle.geom.specs.declared.segment.Seg.{Seg}
 use Rattle.std.proofs.lemmas.List.Elements.{Contains-append_cases}
-use Rattle.grid.specs.Tiles.{AreBounds}
-use Rattle.linking.specs.Gathered.{BoundsHold}
+use Rattle.grid.specs.Tiles.{AreBounds, BoundsHold}
 use Rattle.engine.specs.Rounds.{AreBoundsOf, AreJointBounds}
 
 append_in : {X : Type 0} (xs ys : List X) (x : X) → In x xs ⊎ In x ys → In x (xs ++ ys)

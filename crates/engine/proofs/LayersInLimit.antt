@@ -14,8 +14,7 @@ use Rattle.geom.proofs.Lists.{In, in_contains}
 use Rattle.geom.proofs.Owners.{all_in}
 use Rattle.geom.proofs.RingEdges.{flat_in, in_flat}
 use Rattle.cover_law.specs.Borders.{AreFeatureSegments}
-use Rattle.grid.specs.Tiles.{Tiling}
-use Rattle.linking.specs.Gathered.{BoundsHold}
+use Rattle.grid.specs.Tiles.{BoundsHold, Tiling}
 use Rattle.wkt.specs.Features.{all_rings}
 use Rattle.wkt.proofs.Cuts.{stands_joined}
 use Rattle.wkt.proofs.Inside.{box_in, stands_in}

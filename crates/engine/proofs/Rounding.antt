@@ -15,9 +15,9 @@ use Rattle.noding_law.proofs.Rounding.{rounded_noded}
 use Rattle.points_law.specs.Law.{AreLayers}
 use Rattle.points_law.proofs.ClosedSegments.{rings_closed}
 use Rattle.points_law.proofs.RoundedLayers.{rounded_layers}
-use Rattle.grid.specs.Tiles.{CoversBounds, IsGridOf, Tiling}
+use Rattle.grid.specs.Tiles.{BoundsHold, CoversBounds, IsGridOf, Tiling}
 use Rattle.grid.proofs.Columns.{covers}
-use Rattle.linking.specs.Gathered.{BoundsHold, HaveTiles}
+use Rattle.linking.specs.Gathered.{HaveTiles}
 use Rattle.linking.proofs.Covering.{have_tiles}
 use Rattle.wkt.specs.LayerText.{Ring}
 use Rattle.wkt.specs.Refusals.{IsAccepted, StandsFor, plain}

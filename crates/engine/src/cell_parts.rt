@@ -5,8 +5,8 @@
 //!    those of all parts at once. The bins of rows are put behind those of the rows before (`bins_in_parts`).
 
 ghost use Rattle.std.specs.Prelude.{◌^◌, ◌<◌, ◌≤◌, IfOk, length, slice_range};
-ghost use Rattle.grid.specs.Tiles.{AreBounds};
-ghost use Rattle.linking.specs.Gathered.{BoundsHold, HaveTiles};
+ghost use Rattle.grid.specs.Tiles.{AreBounds, BoundsHold};
+ghost use Rattle.linking.specs.Gathered.{HaveTiles};
 ghost use Rattle.engine.specs.Rounds.{AllInLimit, AreCellBins, AreCellRows};
 
 use crate::cells::{Extent, bins_of, cells_within, extent_of};

@@ -9,8 +9,8 @@
 
 ghost use Rattle.std.specs.Prelude.{◌≡◌, ◌++◌, IfOk, List, None, Some};
 ghost use Rattle.geom.specs.declared.segment.Seg.{Seg};
-ghost use Rattle.grid.specs.Tiles.{AreBounds, CoversBounds};
-ghost use Rattle.linking.specs.Gathered.{BoundsHold, HaveTiles};
+ghost use Rattle.grid.specs.Tiles.{AreBounds, BoundsHold, CoversBounds};
+ghost use Rattle.linking.specs.Gathered.{HaveTiles};
 ghost use Rattle.engine.specs.Rounds.{AllInLimit, AreCellBins};
 
 use crate::checking::joint_bounds;

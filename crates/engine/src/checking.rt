@@ -7,8 +7,7 @@
 
 ghost use Rattle.std.specs.Prelude.{◌≡◌, ◌+◌, ◌<◌, ◌≤◌, ◌++◌, IfOk, IsTrue, List, MatchOption, MatchResult, nat_lt};
 ghost use Rattle.geom.specs.declared.segment.Seg.{Seg};
-ghost use Rattle.linking.specs.Gathered.{BoundsHold};
-ghost use Rattle.grid.specs.Tiles.{AreBounds, IsSide};
+ghost use Rattle.grid.specs.Tiles.{AreBounds, BoundsHold, IsSide};
 ghost use Rattle.engine.specs.Rounds.{AreJointBounds, IsTooFine, IsUsableGrid};
 ghost use Rattle.geom.specs.Fault.{number_of};
 ghost use Rattle.wkt.specs.Refusals.{IsRefused};

@@ -1,11 +1,12 @@
 -- Tiles (own): the columns and rows of a grid, the points that a tile owns, and the refusals.
-use Rattle.std.specs.Prelude.{◌≡◌, ◌^◌, ℕ, ℤ, pos, ◌+◌, ◌-◌, ◌*◌, ◌%◌, ◌<◌, ◌≤◌, ◌+ℤ◌, ◌-ℤ◌, Option, Some, None}
+use Rattle.std.specs.Prelude.{◌≡◌, ◌^◌, ℕ, ℤ, pos, ◌+◌, ◌-◌, ◌*◌, ◌%◌, ◌<◌, ◌≤◌, ◌+ℤ◌, ◌-ℤ◌, List, Contains, Option, Some, None}
 use Rattle.std.specs.Int.{int_div_euclid}
 use Rattle.geom.specs.Limit.{AreInLimit, IsWithin}
 use Rattle.geom.specs.declared.fault.Fault.{Fault}
 use Rattle.geom.specs.declared.fault.Fault.TheVariants.{LayerLong, Syntax, NumberRange, RingShort, RingOpen, TooManySegments, BadTile, BadWorkers, TooManyTiles, NotNoded, Memory, Write}
 use Rattle.geom.specs.declared.point.Pt.{Pt}
 use Rattle.geom.specs.declared.rect.Rect.{Rect}
+use Rattle.geom.specs.declared.segment.Seg.{Seg}
 use Rattle.geom.specs.Box.{IsInBox}
 use Rattle.grid.specs.declared.grid.TheConstants.{GREATEST_SIDE, LEAST_SIDE, MOST_TILES}
 
@@ -94,6 +95,11 @@ AreBounds (Some r) = AreInLimit r.lo r.hi
 abbrev pub CoversBounds : Option Rect → Tiling → Type 0
 CoversBounds None g = Unit {0}
 CoversBounds (Some r) g = (p : Pt) → IsInBox r.lo r.hi p → HasTile g p
+
+-- the bounds hold the ends of all segments; without bounds there are none
+abbrev pub BoundsHold : Option Rect → List Seg → Type 0
+BoundsHold None segments = (s : Seg) → ¬ (Contains segments s)
+BoundsHold (Some r) segments = (s : Seg) → Contains segments s → IsInBox r.lo r.hi s.a × IsInBox r.lo r.hi s.b
 
 -- what the code keeps of a grid: room for its coordinates in 32 bits
 pub record HasRoom (g : Tiling) : Type 0 where

@@ -10,8 +10,8 @@ use Rattle.geom.specs.declared.segment.Seg.{Seg}
 use Rattle.geom.specs.Box.{IsInBox, greatest_corner, least_corner}
 use Rattle.geom.proofs.Integers.{linear}
 use Rattle.geom.proofs.Meaning.{met_pixels_are_in_bounds}
-use Rattle.grid.specs.Tiles.{Tiling, CoversBounds}
-use Rattle.linking.specs.Gathered.{HaveTiles, BoundsHold}
+use Rattle.grid.specs.Tiles.{BoundsHold, CoversBounds, Tiling}
+use Rattle.linking.specs.Gathered.{HaveTiles}
 use Rattle.linking.proofs.Gathering.{AreCovered}
 
 within : (lo hi a b p : ℤ) → lo ≤ℤ a → a ≤ℤ hi → lo ≤ℤ b → b ≤ℤ hi → int_min a b ≤ℤ p → p ≤ℤ int_max a b → (lo ≤ℤ p) × (p ≤ℤ hi)

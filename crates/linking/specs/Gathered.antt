@@ -1,5 +1,5 @@
 -- What is gathered from the tiles of a grid (own).
-use Rattle.std.specs.Prelude.{◌≡◌, ◌≢◌, ◌↔◌, ℕ, ◌<◌, List, AllPairs, Contains, Option, Some, None, length, map, slice_get}
+use Rattle.std.specs.Prelude.{◌≡◌, ◌≢◌, ◌↔◌, ℕ, ◌<◌, List, AllPairs, Contains, length, map, slice_get}
 use Rattle.geom.specs.declared.point.Pt.{Pt}
 use Rattle.geom.specs.declared.rect.Rect.{Rect}
 use Rattle.geom.specs.declared.segment.Seg.{Seg}
@@ -29,11 +29,6 @@ AreBoxesOf segments boxes = AreBoxesBy box_corners segments boxes
 -- every point of each segment's box has a tile
 abbrev pub HaveTiles : Tiling → List Seg → Type 0
 HaveTiles g segments = (s : Seg) (p : Pt) → Contains segments s → IsInBox (least_corner s.a s.b) (greatest_corner s.a s.b) p → HasTile g p
-
--- the bounds hold the ends of all segments; without bounds there are none
-abbrev pub BoundsHold : Option Rect → List Seg → Type 0
-BoundsHold None segments = (s : Seg) → ¬ (Contains segments s)
-BoundsHold (Some r) segments = (s : Seg) → Contains segments s → IsInBox r.lo r.hi s.a × IsInBox r.lo r.hi s.b
 
 -- ---- what tiles have
 

@@ -1,7 +1,7 @@
 use Rattle.std.proofs.Common.{None, Some, subst}
 use Rattle.std.specs.Prelude.{Option}
 use Rattle.geom.specs.declared.rect.Rect.{Rect}
-use Rattle.linking.specs.Gathered.{BoundsHold}
+use Rattle.grid.specs.Tiles.{BoundsHold}
 use Rattle.linking.proofs.Covering.{have_tiles}
 use Rattle.engine.proofs.columns_pairs.one_tile_over.Goals as goal
 
