@@ -23,11 +23,11 @@ use Rattle.rows.specs.declared.edges.RowEdge.{RowEdge}
 use Rattle.rows.specs.declared.runs.RowSet.{RowSet}
 use Rattle.rows.specs.declared.parts.Row as made
 use Rattle.engine.specs.declared.faces_run.FaceBorders.{FaceBorders}
-use Rattle.engine.specs.declared.feature_segments.LayerSize.{LayerSize}
+use Rattle.layers.specs.declared.feature_segments.LayerSize.{LayerSize}
 use Rattle.engine.specs.FaceBorders.{borders_in}
 use Rattle.engine.specs.FaceRows.{AreFaceSets}
 use Rattle.engine.specs.Faces.{AreBordersOf}
-use Rattle.engine.specs.FeatureSegments.{all_features}
+use Rattle.layers.specs.FeatureSegments.{all_features}
 use Rattle.engine.proofs.FacesOf.{are_borders, features_below, have_some}
 
 -- ---- the features of a row ascend

@@ -2,11 +2,11 @@
 use Rattle.std.proofs.Common.{◌≡◌, inl, inr, ℕ, ◌<◌, List}
 use Rattle.geom.specs.declared.fault.Fault.TheVariants.{Memory}
 use Rattle.cover_law.specs.Cover.{Bordered}
-use Rattle.engine.specs.declared.faces_fault.FacesFault.{FacesFault}
-use Rattle.engine.specs.declared.faces_fault.FacesPart.TheVariants.{Run}
-use Rattle.engine.specs.declared.faces_fault.FacesRefusal.TheVariants.{Usual, TooManyIds}
+use Rattle.layers.specs.declared.faces_fault.FacesFault.{FacesFault}
+use Rattle.layers.specs.declared.faces_fault.FacesPart.TheVariants.{Run}
+use Rattle.layers.specs.declared.faces_fault.FacesRefusal.TheVariants.{Usual, TooManyIds}
 use Rattle.engine.specs.BoundedRows.{TellsManyIds}
-use Rattle.engine.specs.FaceRows.{IsNumberOfIds}
+use Rattle.layers.specs.FacesRefusals.{IsNumberOfIds}
 
 module _ (limit count : ℕ) (borders : List Bordered) (f : FacesFault) where
   pub wants_memory : (f.at ≡ Run) × (f.refusal ≡ Usual Memory) → TellsManyIds limit count borders f

@@ -13,7 +13,7 @@ use Rattle.geom.specs.declared.segment.Seg.{Seg}
 use Rattle.geom.proofs.Numbers.{itself}
 use Rattle.geom.proofs.Lists.{some_same}
 use Rattle.grid.specs.Tiles.{BoundsHold}
-use Rattle.engine.specs.Rounds.{AllInLimit}
+use Rattle.layers.specs.Segments.{AllInLimit}
 
 -- q is r with a point
 pub record IsWith (r : Rect) (p : Pt) (q : Rect) : Type 0 where

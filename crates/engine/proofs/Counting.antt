@@ -16,8 +16,8 @@ use Rattle.routing.specs.Pieces.{IsRecord}
 use Rattle.routing.specs.Steps.{steps_to}
 use Rattle.engine.specs.Counting.{AreCountsOf, CountsAreExactWithin, IsNumberOf, MeetsHot}
 use Rattle.engine.specs.Runs.{ReportsWithin}
-use Rattle.engine.specs.declared.engine.Plan.{Plan}
-use Rattle.engine.specs.declared.text.Report.{Report}
+use Rattle.layers.specs.declared.plan.Plan.{Plan}
+use Rattle.results.specs.declared.text.Report.{Report}
 use Rattle.engine.proofs.Determined.{tiles_cover}
 use Rattle.engine.proofs.SumsOfTiles.{all_hot, all_records, hot_owned, record_owned}
 

@@ -12,11 +12,11 @@ use Rattle.grid.specs.Tiles.{BoundsHold, IsSide, Tiling}
 use Rattle.linking.specs.Gathered.{HaveTiles}
 use Rattle.linking.proofs.Covering.{have_tiles}
 use Rattle.wkt.specs.Features.{all_rings}
-use Rattle.engine.specs.declared.engine.Plan.{Plan}
-use Rattle.engine.specs.FeatureSegments.{all_features, feature_steps}
-use Rattle.engine.specs.Layers.{AreReady, IsGridOverLayers}
-use Rattle.engine.specs.Rounds.{AreBoundsOf}
-use Rattle.engine.proofs.FeatureParts.{rings_append, steps_of_all}
+use Rattle.layers.specs.declared.plan.Plan.{Plan}
+use Rattle.layers.specs.FeatureSegments.{all_features, feature_steps}
+use Rattle.layers.specs.FeatureLayers.{AreReady, IsGridOverLayers}
+use Rattle.layers.specs.Grids.{AreBoundsOf}
+use Rattle.layers.proofs.FeatureParts.{rings_append, steps_of_all}
 use Rattle.engine.proofs.Rounding.{grid_covers, some_side}
 
 -- a part of a feature is a step of its rings

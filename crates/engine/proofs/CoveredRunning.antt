@@ -7,18 +7,18 @@ use Rattle.geom.specs.declared.fault.NoMemory.{NoMemory}
 use Rattle.geom.specs.declared.fault.Fault.TheVariants.{LayerLong, Syntax, NumberRange, RingShort, RingOpen, TooManySegments, BadTile, BadWorkers, TooManyTiles, NotNoded, Memory, Write}
 use Rattle.geom.specs.declared.op.Op.{Op}
 use Rattle.engine.specs.declared.engine.MadeInParts.{MadeInParts}
-use Rattle.engine.specs.declared.engine.Plan.{Plan}
-use Rattle.engine.specs.declared.faces_fault.FacesFault.{FacesFault}
-use Rattle.engine.specs.declared.faces_fault.FacesPart.{FacesPart}
-use Rattle.engine.specs.declared.faces_fault.FacesPart.TheVariants.{Run}
-use Rattle.engine.specs.declared.faces_fault.FacesRefusal.{FacesRefusal}
-use Rattle.engine.specs.declared.faces_fault.FacesRefusal.TheVariants.{Usual, TooManyIds}
-use Rattle.engine.specs.declared.faces_limits.FacesLimits.{FacesLimits}
-use Rattle.engine.specs.declared.text.Report.{Report}
+use Rattle.layers.specs.declared.plan.Plan.{Plan}
+use Rattle.layers.specs.declared.faces_fault.FacesFault.{FacesFault}
+use Rattle.layers.specs.declared.faces_fault.FacesPart.{FacesPart}
+use Rattle.layers.specs.declared.faces_fault.FacesPart.TheVariants.{Run}
+use Rattle.layers.specs.declared.faces_fault.FacesRefusal.{FacesRefusal}
+use Rattle.layers.specs.declared.faces_fault.FacesRefusal.TheVariants.{Usual, TooManyIds}
+use Rattle.layers.specs.declared.faces_limits.FacesLimits.{FacesLimits}
+use Rattle.results.specs.declared.text.Report.{Report}
 use Rattle.engine.specs.CoveredRuns.{DeclinesCovered, DeliversCovered, IsCoveredWritten, RunsCovered, StopsCovered, covered_limits}
-use Rattle.engine.specs.Faces.{IsFacesRefusedAt, bad_layer, bad_tile, bad_workers, too_many, too_many_ids, too_many_tiles}
-use Rattle.engine.specs.Layers.{MayRound}
-use Rattle.engine.specs.Sinks.{SinkState}
+use Rattle.layers.specs.FacesRefusals.{IsFacesRefusedAt, bad_layer, bad_tile, bad_workers, too_many, too_many_ids, too_many_tiles}
+use Rattle.layers.specs.FeatureLayers.{MayRound}
+use Rattle.results.specs.Sinks.{SinkState}
 use Rattle.engine.proofs.FacesRunning.{memory_declines}
 use Rattle.wkt.specs.Refusals.{IsRefused}
 

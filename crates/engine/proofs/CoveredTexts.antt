@@ -20,8 +20,8 @@ use Rattle.covered.specs.Sides.{holds_of}
 use Rattle.covered.proofs.CoveredEdges.{changing_have_same_edges}
 use Rattle.covered.proofs.CoveredLayers.{covered_is_layer}
 use Rattle.engine.specs.CoveredResults.{IsCoveredText}
-use Rattle.engine.specs.Results.{IsResultText}
-use Rattle.engine.proofs.Results.{directed_in}
+use Rattle.results.specs.Results.{IsResultText}
+use Rattle.results.proofs.Results.{directed_in}
 
 module _ (op : Op) (split count : ℕ) (edges : List Bordered) (h : AreBorders edges) (directed : List DirectedEdge) (are : AreCoveredEdges op split count edges directed) where
   layer : (counted : List Counted) × IsLayerOf op split count edges counted

@@ -14,16 +14,16 @@ use Rattle.cover_law.specs.Cover.{AreBorders, Bordered, bordered}
 use Rattle.cover_law.proofs.ClosedFeatures.{features_of_rings_close}
 use Rattle.cover_law.proofs.FaceLaws.{bordered_noded}
 use Rattle.cover_law.proofs.RoundedBorders.{rounded_are_borders}
-use Rattle.engine.specs.declared.engine.Plan.{Plan}
+use Rattle.layers.specs.declared.plan.Plan.{Plan}
 use Rattle.engine.specs.declared.faces_run.FaceBorders.{FaceBorders}
-use Rattle.engine.specs.declared.feature_segments.LayerSize.{LayerSize}
-use Rattle.engine.specs.declared.text.Report.{Report}
+use Rattle.layers.specs.declared.feature_segments.LayerSize.{LayerSize}
+use Rattle.results.specs.declared.text.Report.{Report}
 use Rattle.engine.specs.CoveredResults.{IsCoveredText}
 use Rattle.engine.specs.CoveredRuns.{IsCoveredWritten}
 use Rattle.engine.specs.FaceBorders.{borders_in}
 use Rattle.engine.specs.Faces.{AreBordersOver}
-use Rattle.engine.specs.FeatureSegments.{all_features, feature_steps}
-use Rattle.engine.specs.Layers.{AreCheckedLayers, AreReady, StandForLayers}
+use Rattle.layers.specs.FeatureSegments.{all_features, feature_steps}
+use Rattle.layers.specs.FeatureLayers.{AreCheckedLayers, AreReady, StandForLayers}
 use Rattle.engine.specs.Rounds.{IsRemade, TellsTiles}
 use Rattle.engine.proofs.CoveredTexts.{whole_text}
 use Rattle.engine.proofs.FacesOf.{are_borders, features_below, owners_below}

@@ -17,11 +17,13 @@ use Rattle.wkt.specs.LayerText.{Ring}
 use Rattle.wkt.specs.Refusals.{IsAccepted, plain}
 use Rattle.wkt.proofs.Complete.{at_most_one}
 use Rattle.engine.specs.Determined.{EdgesSizesAreOneWithin, EdgesTextIsOneWithin, HaveOneSize}
-use Rattle.engine.specs.Rounds.{AreRoundedOver, AreSegmentsOf}
-use Rattle.engine.specs.Runs.{AreEdgesWrittenWithin, ReportsWithin, segment_count}
-use Rattle.engine.specs.Texts.{edges_text_of}
-use Rattle.engine.specs.declared.engine.Plan.{Plan}
-use Rattle.engine.specs.declared.text.Report.{Report}
+use Rattle.engine.specs.Rounds.{AreRoundedOver}
+use Rattle.layers.specs.Segments.{AreSegmentsOf}
+use Rattle.engine.specs.Runs.{AreEdgesWrittenWithin, ReportsWithin}
+use Rattle.layers.specs.Refusals.{segment_count}
+use Rattle.results.specs.Texts.{edges_text_of}
+use Rattle.layers.specs.declared.plan.Plan.{Plan}
+use Rattle.results.specs.declared.text.Report.{Report}
 use Rattle.engine.proofs.Rounding.{covered}
 use Rattle.engine.proofs.SumsOfTiles.{one_hot, one_records}
 

@@ -6,8 +6,8 @@ use Rattle.geom.specs.declared.segment.Seg.{Seg}
 use Rattle.geom.proofs.Lists.{contains_in}
 use Rattle.grid.specs.Tiles.{AreBounds, BoundsHold}
 use Rattle.hands.specs.declared.part.Part.{Part}
-use Rattle.engine.proofs.EdgeLines.{whole_range}
-use Rattle.engine.proofs.LineParts.{both_ranges, none_between}
+use Rattle.results.proofs.EdgeLines.{whole_range}
+use Rattle.results.proofs.LineParts.{both_ranges, none_between}
 
 -- these bounds are in the limit, and hold the segments from one number to before another one
 abbrev pub HoldsRange : List Seg → ℕ → ℕ → Option Rect → Type 0

@@ -12,24 +12,25 @@ use Rattle.cover_law.specs.Cover.{Bordered, bordered}
 use Rattle.rows.specs.RowColumns.{AreRowColumns}
 use Rattle.rows.specs.Made.{row_of}
 use Rattle.engine.specs.declared.bounded_rows.BoundedRows.{BoundedRows}
-use Rattle.engine.specs.declared.column_layers.CheckedColumnLayers.{CheckedColumnLayers}
-use Rattle.engine.specs.declared.engine.Plan.{Plan}
+use Rattle.layers.specs.declared.column_layers.CheckedColumnLayers.{CheckedColumnLayers}
+use Rattle.layers.specs.declared.plan.Plan.{Plan}
 use Rattle.engine.specs.declared.faces_columns.FacesColumns.{FacesColumns}
-use Rattle.engine.specs.declared.faces_columns.FacesColumnsRefused.{FacesColumnsRefused}
-use Rattle.engine.specs.declared.faces_columns.FacesColumnsRefused.TheVariants.{Layer, Run}
-use Rattle.engine.specs.declared.faces_fault.FacesFault.{FacesFault}
-use Rattle.engine.specs.declared.faces_fault.FacesPart.TheVariants.{Run as OfRun}
-use Rattle.engine.specs.declared.faces_fault.FacesRefusal.{FacesRefusal}
-use Rattle.engine.specs.declared.faces_fault.FacesRefusal.TheVariants.{Usual, TooManyIds}
-use Rattle.engine.specs.declared.faces_limits.FacesLimits.{FacesLimits}
+use Rattle.layers.specs.declared.columns_refused.FacesColumnsRefused.{FacesColumnsRefused}
+use Rattle.layers.specs.declared.columns_refused.FacesColumnsRefused.TheVariants.{Layer, Run}
+use Rattle.layers.specs.declared.faces_fault.FacesFault.{FacesFault}
+use Rattle.layers.specs.declared.faces_fault.FacesPart.TheVariants.{Run as OfRun}
+use Rattle.layers.specs.declared.faces_fault.FacesRefusal.{FacesRefusal}
+use Rattle.layers.specs.declared.faces_fault.FacesRefusal.TheVariants.{Usual, TooManyIds}
+use Rattle.layers.specs.declared.faces_limits.FacesLimits.{FacesLimits}
 use Rattle.engine.specs.declared.faces_run.FaceBorders.{FaceBorders}
-use Rattle.engine.specs.declared.feature_segments.LayerSize.{LayerSize}
+use Rattle.layers.specs.declared.feature_segments.LayerSize.{LayerSize}
 use Rattle.engine.specs.BoundedRows.{AreBoundedRows, HaveManyIds, TellsManyIds}
-use Rattle.engine.specs.ColumnLayers.{IsCheckOfColumns, features_in}
+use Rattle.layers.specs.ColumnLayers.{IsCheckOfColumns, features_in}
 use Rattle.engine.specs.FaceBorders.{borders_in}
-use Rattle.engine.specs.FaceColumns.{AreColumnsOfBorders, AreFaceColumnsMade, DeclinesFaceColumns, IsFaceColumnsRefused, bad_layer, bad_tile, bad_workers, too_many, too_many_ids, too_many_tiles}
+use Rattle.engine.specs.FaceColumns.{AreColumnsOfBorders, AreFaceColumnsMade, DeclinesFaceColumns}
+use Rattle.layers.specs.FaceColumnsRefusals.{IsFaceColumnsRefused, bad_layer, bad_tile, bad_workers, too_many, too_many_ids, too_many_tiles}
 use Rattle.engine.specs.Faces.{AreBordersOf}
-use Rattle.engine.specs.FeatureSegments.{all_features}
+use Rattle.layers.specs.FeatureSegments.{all_features}
 use Rattle.engine.specs.Rounds.{IsRemade}
 use Rattle.engine.proofs.FacesOf.{faces_are, have_ids, owners_below}
 

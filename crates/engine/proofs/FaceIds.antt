@@ -21,9 +21,8 @@ use Rattle.cover_law.proofs.FaceLaws.{faces_tell}
 use Rattle.cover_law.proofs.OneRows.{set_before_itself}
 use Rattle.cover_law.proofs.RoundedBorders.{borders_are_one}
 use Rattle.rows.specs.Made.{ids_in}
-use Rattle.engine.specs.FaceRows.{IsNumberOfIds}
-use Rattle.engine.specs.Faces.{HaveIds}
-use Rattle.engine.specs.Rounds.{AllInLimit}
+use Rattle.layers.specs.FacesRefusals.{HaveIds, IsNumberOfIds}
+use Rattle.layers.specs.Segments.{AllInLimit}
 use Rattle.engine.proofs.SameMembers.{at_most}
 
 -- ---- one number

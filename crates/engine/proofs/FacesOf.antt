@@ -21,9 +21,8 @@ use Rattle.cover_law.proofs.FaceLaws.{bordered_noded}
 use Rattle.cover_law.proofs.RoundedBorders.{rounded_are_borders}
 use Rattle.linking.specs.declared.bordering.RoundedBorders.{RoundedBorders}
 use Rattle.engine.specs.FaceBorders.{AreRoundedBorders, borders_in}
-use Rattle.engine.specs.FaceRows.{IsNumberOfIds}
-use Rattle.engine.specs.Faces.{HaveIds}
-use Rattle.engine.specs.Rounds.{AllInLimit}
+use Rattle.layers.specs.FacesRefusals.{HaveIds, IsNumberOfIds}
+use Rattle.layers.specs.Segments.{AllInLimit}
 
 -- ---- owners are features
 

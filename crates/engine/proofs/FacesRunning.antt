@@ -5,21 +5,22 @@ use Rattle.geom.specs.declared.fault.Fault.{Fault}
 use Rattle.geom.specs.declared.fault.Fault.TheVariants.{LayerLong, Syntax, NumberRange, RingShort, RingOpen, TooManySegments, BadTile, BadWorkers, TooManyTiles, NotNoded, Memory, Write}
 use Rattle.grid.specs.Tiles.{tile_count}
 use Rattle.wkt.specs.Refusals.{IsRefused}
-use Rattle.engine.specs.declared.engine.Plan.{Plan}
-use Rattle.engine.specs.declared.faces_fault.FacesFault.{FacesFault}
-use Rattle.engine.specs.declared.faces_fault.FacesPart.{FacesPart}
-use Rattle.engine.specs.declared.faces_fault.FacesPart.TheVariants.{Run}
-use Rattle.engine.specs.declared.faces_fault.FacesRefusal.{FacesRefusal}
-use Rattle.engine.specs.declared.faces_fault.FacesRefusal.TheVariants.{Usual, TooManyIds}
-use Rattle.engine.specs.declared.faces_limits.FacesLimits.{FacesLimits}
+use Rattle.layers.specs.declared.plan.Plan.{Plan}
+use Rattle.layers.specs.declared.faces_fault.FacesFault.{FacesFault}
+use Rattle.layers.specs.declared.faces_fault.FacesPart.{FacesPart}
+use Rattle.layers.specs.declared.faces_fault.FacesPart.TheVariants.{Run}
+use Rattle.layers.specs.declared.faces_fault.FacesRefusal.{FacesRefusal}
+use Rattle.layers.specs.declared.faces_fault.FacesRefusal.TheVariants.{Usual, TooManyIds}
+use Rattle.layers.specs.declared.faces_limits.FacesLimits.{FacesLimits}
 use Rattle.engine.specs.declared.faces_report.FacesReport.{FacesReport}
 use Rattle.engine.specs.declared.faces_run.MadeFaces.{MadeFaces}
-use Rattle.engine.specs.Faces.{AreFacesWritten, DeclinesFaces, DeliversFaces, IsFacesRefusedAt, RunsFaces, StopsFaces, bad_layer, bad_tile, bad_workers, too_many, too_many_ids, too_many_tiles}
-use Rattle.engine.specs.FeatureSegments.{all_steps}
-use Rattle.engine.specs.Layers.{MayRound}
-use Rattle.engine.specs.Runs.{IsPlanFault}
-use Rattle.engine.specs.Sinks.{SinkState}
-use Rattle.engine.proofs.PlanFaults.{faces_plan_refused}
+use Rattle.engine.specs.Faces.{AreFacesWritten, DeclinesFaces, DeliversFaces, RunsFaces, StopsFaces}
+use Rattle.layers.specs.FacesRefusals.{IsFacesRefusedAt, bad_layer, bad_tile, bad_workers, too_many, too_many_ids, too_many_tiles}
+use Rattle.layers.specs.FeatureSegments.{all_steps}
+use Rattle.layers.specs.FeatureLayers.{MayRound}
+use Rattle.layers.specs.Refusals.{IsPlanFault}
+use Rattle.results.specs.Sinks.{SinkState}
+use Rattle.layers.proofs.PlanFaults.{faces_plan_refused}
 
 -- ---- how a call without a sink ends
 -- a fault for which no text is refused

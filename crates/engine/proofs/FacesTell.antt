@@ -3,11 +3,11 @@ use Rattle.std.proofs.Common.{ℕ, List, length}
 use Rattle.std.proofs.Math.Logic.{∥∥₁_map}
 use Rattle.cover_law.proofs.AreasAdd.{areas_add_up}
 use Rattle.cover_law.proofs.FaceLaws.{faces_tell}
-use Rattle.engine.specs.declared.engine.Plan.{Plan}
-use Rattle.engine.specs.declared.faces_limits.FacesLimits.{FacesLimits}
+use Rattle.layers.specs.declared.plan.Plan.{Plan}
+use Rattle.layers.specs.declared.faces_limits.FacesLimits.{FacesLimits}
 use Rattle.engine.specs.declared.faces_report.FacesReport.{FacesReport}
 use Rattle.engine.specs.Faces.{AreFacesTold, AreFacesWritten, TellOfLayers, WrittenFacesTell}
-use Rattle.engine.specs.FeatureSegments.{all_features}
+use Rattle.layers.specs.FeatureSegments.{all_features}
 use Rattle.engine.proofs.LayersInLimit.{layers_in_limit}
 
 told : (M : Type 0) (limits : FacesLimits) (plan : Plan) (texts : List (List ℕ)) (text : List ℕ) (report : FacesReport M) (w : AreFacesWritten limits plan texts text report) → AreFacesTold w.layers w.grid text report → TellOfLayers w.layers text

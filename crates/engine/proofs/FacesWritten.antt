@@ -18,22 +18,23 @@ use Rattle.rows.specs.RowEdges.{AreEdgesOfRows}
 use Rattle.rows.specs.declared.edges.RowEdge.{RowEdge}
 use Rattle.rows.specs.declared.runs.RowSet.{RowSet}
 use Rattle.rows.specs.declared.parts.Row as made
-use Rattle.engine.specs.declared.engine.Plan.{Plan}
-use Rattle.engine.specs.declared.faces_fault.FacesFault.{FacesFault}
-use Rattle.engine.specs.declared.faces_fault.FacesPart.{FacesPart}
-use Rattle.engine.specs.declared.faces_fault.FacesPart.TheVariants.{Run}
-use Rattle.engine.specs.declared.faces_fault.FacesRefusal.{FacesRefusal}
-use Rattle.engine.specs.declared.faces_fault.FacesRefusal.TheVariants.{Usual, TooManyIds}
-use Rattle.engine.specs.declared.faces_limits.FacesLimits.{FacesLimits}
+use Rattle.layers.specs.declared.plan.Plan.{Plan}
+use Rattle.layers.specs.declared.faces_fault.FacesFault.{FacesFault}
+use Rattle.layers.specs.declared.faces_fault.FacesPart.{FacesPart}
+use Rattle.layers.specs.declared.faces_fault.FacesPart.TheVariants.{Run}
+use Rattle.layers.specs.declared.faces_fault.FacesRefusal.{FacesRefusal}
+use Rattle.layers.specs.declared.faces_fault.FacesRefusal.TheVariants.{Usual, TooManyIds}
+use Rattle.layers.specs.declared.faces_limits.FacesLimits.{FacesLimits}
 use Rattle.engine.specs.declared.faces_report.FacesReport.{FacesReport}
 use Rattle.engine.specs.declared.faces_run.FaceBorders.{FaceBorders}
-use Rattle.engine.specs.declared.feature_segments.LayerSize.{LayerSize}
+use Rattle.layers.specs.declared.feature_segments.LayerSize.{LayerSize}
 use Rattle.engine.specs.BoundedRows.{HaveManyIds, TellsManyIds}
 use Rattle.engine.specs.FaceBorders.{borders_in}
-use Rattle.engine.specs.FaceRows.{AreFaceSets, IsNumberOfIds}
-use Rattle.engine.specs.Faces.{AreBordersOver, AreFacesWritten, DeclinesFaces, IsFacesRefusedAt, too_many_ids}
-use Rattle.engine.specs.FeatureSegments.{all_features}
-use Rattle.engine.specs.Layers.{AreCheckedLayers, MayRound}
+use Rattle.engine.specs.FaceRows.{AreFaceSets}
+use Rattle.layers.specs.FacesRefusals.{IsFacesRefusedAt, IsNumberOfIds, too_many_ids}
+use Rattle.engine.specs.Faces.{AreBordersOver, AreFacesWritten, DeclinesFaces}
+use Rattle.layers.specs.FeatureSegments.{all_features}
+use Rattle.layers.specs.FeatureLayers.{AreCheckedLayers, MayRound}
 use Rattle.engine.specs.Rounds.{IsRemade, TellsTiles}
 use Rattle.engine.proofs.BordersOf.{ascend_in_rows, below_all, below_limit, borders_hold, edges_over, sizes_fit, some_hold}
 use Rattle.engine.proofs.FacesOf.{faces_are, have_ids, owners_below}

@@ -12,9 +12,9 @@ use Rattle.wkt.specs.Refusals.{IsAccepted, IsRefused, plain}
 use Rattle.wkt.specs.declared.outline.Outline.{Outline}
 use Rattle.wkt.proofs.Exclusive.{not_both}
 use Rattle.engine.specs.Fitting.{IsFittingSide, IsTooFineOver}
-use Rattle.engine.specs.Rounds.{AreBoundsOf, AreJointBounds, IsGridOver}
-use Rattle.engine.specs.Runs.{HasOutline, IsRefusedAtWithin, too_many_tiles}
-use Rattle.engine.specs.declared.engine.Plan.{Plan}
+use Rattle.layers.specs.Grids.{AreBoundsOf, AreJointBounds, IsGridOver}
+use Rattle.layers.specs.Refusals.{HasOutline, IsRefusedAtWithin, too_many_tiles}
+use Rattle.layers.specs.declared.plan.Plan.{Plan}
 use Rattle.engine.proofs.Determined.{one_layer}
 use Rattle.engine.proofs.OneRefusal.{grid_over_same}
 

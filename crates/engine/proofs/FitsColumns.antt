@@ -10,13 +10,12 @@ use Rattle.wkt.specs.declared.outline.Outline.{Outline}
 use Rattle.columns.specs.declared.fault.ColumnsFault.{ColumnsFault}
 use Rattle.columns.specs.declared.layout.Columns.{Columns}
 use Rattle.columns.specs.Refusals.{AreAccepted, AreRefused}
-use Rattle.engine.specs.declared.columns_output.ColumnsRefused.{ColumnsRefused}
-use Rattle.engine.specs.declared.columns_output.ColumnsRefused.TheVariants.{Run}
-use Rattle.engine.specs.declared.engine.Plan.{Plan}
-use Rattle.engine.specs.ColumnsRuns.{AreColumnsRefused, rings_of, too_many_tiles}
+use Rattle.layers.specs.declared.columns_refused.ColumnsRefused.{ColumnsRefused}
+use Rattle.layers.specs.declared.columns_refused.ColumnsRefused.TheVariants.{Run}
+use Rattle.layers.specs.declared.plan.Plan.{Plan}
+use Rattle.layers.specs.ColumnsRefusals.{AreColumnsRefused, rings_of, too_many_tiles}
 use Rattle.engine.specs.Fitting.{AreTooFineColumns, IsFittingSideOfColumns}
-use Rattle.engine.specs.RingLayers.{IsGridOverRings}
-use Rattle.engine.specs.Rounds.{AreBoundsOf, AreJointBounds}
+use Rattle.layers.specs.Grids.{AreBoundsOf, AreJointBounds, IsGridOverRings}
 use Rattle.engine.proofs.OneColumnsRefusal.{taken}
 use Rattle.engine.proofs.OneRefusal.{grid_over_same}
 

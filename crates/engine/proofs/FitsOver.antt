@@ -10,20 +10,20 @@ use Rattle.wkt.specs.Features.{all_rings}
 use Rattle.wkt.specs.Refusals.{IsRefused, StandsFor}
 use Rattle.wkt.proofs.Cuts.{stands_joined}
 use Rattle.wkt.proofs.Exclusive.{not_both}
-use Rattle.engine.specs.declared.engine.Plan.{Plan}
-use Rattle.engine.specs.declared.faces_fault.FacesPart.{FacesPart}
-use Rattle.engine.specs.declared.faces_fault.FacesPart.TheVariants.{Run}
-use Rattle.engine.specs.declared.faces_fault.FacesRefusal.{FacesRefusal}
-use Rattle.engine.specs.declared.faces_fault.FacesRefusal.TheVariants.{Usual}
-use Rattle.engine.specs.declared.faces_limits.FacesLimits.{FacesLimits}
-use Rattle.engine.specs.Faces.{IsFacesRefusedAt, too_many_tiles}
-use Rattle.engine.specs.FeatureSegments.{all_steps}
+use Rattle.layers.specs.declared.plan.Plan.{Plan}
+use Rattle.layers.specs.declared.faces_fault.FacesPart.{FacesPart}
+use Rattle.layers.specs.declared.faces_fault.FacesPart.TheVariants.{Run}
+use Rattle.layers.specs.declared.faces_fault.FacesRefusal.{FacesRefusal}
+use Rattle.layers.specs.declared.faces_fault.FacesRefusal.TheVariants.{Usual}
+use Rattle.layers.specs.declared.faces_limits.FacesLimits.{FacesLimits}
+use Rattle.layers.specs.FacesRefusals.{IsFacesRefusedAt, too_many_tiles}
+use Rattle.layers.specs.FeatureSegments.{all_steps}
 use Rattle.engine.specs.Fitting.{AreTooFineOver, IsFittingSideOver}
-use Rattle.engine.specs.Layers.{IsGridOverLayers, StandForLayers}
-use Rattle.engine.specs.Rounds.{AreBoundsOf}
+use Rattle.layers.specs.FeatureLayers.{IsGridOverLayers, StandForLayers}
+use Rattle.layers.specs.Grids.{AreBoundsOf}
 use Rattle.engine.proofs.LayersKnown.{one_list}
 use Rattle.engine.proofs.OneRefusal.{grid_over_same}
-use Rattle.engine.proofs.ReadLaws.{AreBoxed}
+use Rattle.layers.proofs.ReadLaws.{AreBoxed}
 
 pub fitting_over : (texts : List (List ℕ)) (bounds : Option Rect) (side : ℕ) → AreBoxed texts bounds → IsDefaultSide bounds side → IsFittingSideOver texts side
 fitting_over texts bounds side o h = record {

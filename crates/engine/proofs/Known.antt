@@ -14,10 +14,13 @@ use Rattle.grid.specs.Tiles.{IsGridOf, Tiling}
 use Rattle.linking.specs.declared.rounded.TileNumbers.{TileNumbers}
 use Rattle.wkt.specs.LayerText.{Ring}
 use Rattle.wkt.specs.Refusals.{plain}
-use Rattle.engine.specs.Rounds.{AreBoundsOf, AreRoundedOver, AreSegmentsOf, IsGridOver, IsRemade, TellsTiles}
-use Rattle.engine.specs.Runs.{IsCheckedWithin, IsPlan, IsReadyWithin, ReportsWithin, segment_count}
-use Rattle.engine.specs.declared.engine.Plan.{Plan}
-use Rattle.engine.specs.declared.text.Report.{Report}
+use Rattle.layers.specs.Grids.{AreBoundsOf, IsGridOver}
+use Rattle.engine.specs.Rounds.{AreRoundedOver, IsRemade, TellsTiles}
+use Rattle.layers.specs.Segments.{AreSegmentsOf}
+use Rattle.layers.specs.Refusals.{IsCheckedWithin, IsPlan, IsReadyWithin, segment_count}
+use Rattle.engine.specs.Runs.{ReportsWithin}
+use Rattle.layers.specs.declared.plan.Plan.{Plan}
+use Rattle.results.specs.declared.text.Report.{Report}
 use Rattle.engine.proofs.Determined.{one_layer}
 use Rattle.engine.proofs.OneRefusal.{no_box, same_corners}
 

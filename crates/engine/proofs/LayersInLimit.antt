@@ -18,12 +18,13 @@ use Rattle.grid.specs.Tiles.{BoundsHold, Tiling}
 use Rattle.wkt.specs.Features.{all_rings}
 use Rattle.wkt.proofs.Cuts.{stands_joined}
 use Rattle.wkt.proofs.Inside.{box_in, stands_in}
-use Rattle.engine.specs.declared.engine.Plan.{Plan}
-use Rattle.engine.specs.FeatureSegments.{all_features}
-use Rattle.engine.specs.Layers.{AreReady, StandForLayers}
-use Rattle.engine.specs.Rounds.{AllInLimit, AreBoundsOf, AreRingsInLimit}
+use Rattle.layers.specs.declared.plan.Plan.{Plan}
+use Rattle.layers.specs.FeatureSegments.{all_features}
+use Rattle.layers.specs.FeatureLayers.{AreReady, StandForLayers}
+use Rattle.layers.specs.Segments.{AllInLimit, AreRingsInLimit}
+use Rattle.layers.specs.Grids.{AreBoundsOf}
 use Rattle.engine.proofs.CoveredFeatures.{features_hold}
-use Rattle.engine.proofs.FeatureParts.{steps_of_all}
+use Rattle.layers.proofs.FeatureParts.{steps_of_all}
 
 -- ---- the rings
 layer_in_limit : (texts : List (List ℕ)) (layers : List (List (List (List Pt)))) → StandForLayers texts layers → (layer : List (List (List Pt))) → In layer layers → AreRingsInLimit (all_rings layer)

@@ -6,9 +6,9 @@ use Rattle.geom.specs.declared.point.Pt.{Pt}
 use Rattle.geom.specs.declared.rect.Rect.{Rect}
 use Rattle.grid.specs.Tiles.{Tiling}
 use Rattle.wkt.proofs.Cuts.{same_features}
-use Rattle.engine.specs.declared.engine.Plan.{Plan}
-use Rattle.engine.specs.FeatureSegments.{all_steps}
-use Rattle.engine.specs.Layers.{AreCheckedLayers, AreReady, IsGridOverLayers, StandForLayers}
+use Rattle.layers.specs.declared.plan.Plan.{Plan}
+use Rattle.layers.specs.FeatureSegments.{all_steps}
+use Rattle.layers.specs.FeatureLayers.{AreCheckedLayers, AreReady, IsGridOverLayers, StandForLayers}
 use Rattle.engine.proofs.Known.{Over, le_prop, one_bounds, over_prop, plan_prop}
 
 -- texts stand for one list of layers

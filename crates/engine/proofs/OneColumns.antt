@@ -10,10 +10,11 @@ use Rattle.columns.specs.declared.answer.OwnedColumns.{OwnedColumns}
 use Rattle.columns.specs.declared.layout.Columns.{Columns}
 use Rattle.columns.specs.Answers.{AreColumnsOf}
 use Rattle.engine.specs.declared.columns_output.ColumnsOutput.{ColumnsOutput}
-use Rattle.engine.specs.declared.engine.Plan.{Plan}
-use Rattle.engine.specs.declared.text.Report.{Report}
+use Rattle.layers.specs.declared.plan.Plan.{Plan}
+use Rattle.results.specs.declared.text.Report.{Report}
 use Rattle.engine.specs.ColumnsLaws.{AreOfOnePolygons, AreOneColumns, ColumnsAnswerIsOne, ColumnsSizesAreOne, RunIsByColumns}
-use Rattle.engine.specs.ColumnsRuns.{AreColumnsMade, rings_of}
+use Rattle.engine.specs.ColumnsRuns.{AreColumnsMade}
+use Rattle.layers.specs.ColumnsRefusals.{rings_of}
 use Rattle.engine.specs.Determined.{HaveOneSize}
 use Rattle.engine.specs.Results.{IsResultWrittenWithin}
 use Rattle.engine.specs.RingLayers.{ReportsOnRings}

@@ -6,12 +6,12 @@ use Rattle.grid.specs.Tiles.{Tiling, most_tiles, tile_count}
 use Rattle.columns.specs.declared.fault.ColumnsFault.{ColumnsFault}
 use Rattle.columns.specs.declared.layout.Columns.{Columns}
 use Rattle.columns.specs.Refusals.{AreAccepted, AreRefused}
-use Rattle.engine.specs.declared.columns_output.ColumnsRefused.{ColumnsRefused}
-use Rattle.engine.specs.declared.columns_output.ColumnsRefused.TheVariants.{A, B, Run}
-use Rattle.engine.specs.declared.engine.Plan.{Plan}
+use Rattle.layers.specs.declared.columns_refused.ColumnsRefused.{ColumnsRefused}
+use Rattle.layers.specs.declared.columns_refused.ColumnsRefused.TheVariants.{A, B, Run}
+use Rattle.layers.specs.declared.plan.Plan.{Plan}
 use Rattle.engine.specs.ColumnsLaws.{ColumnsRefusalIsOne, RefusedColumnsMayNotRun}
-use Rattle.engine.specs.ColumnsRuns.{AreColumnsRefused, MayRunColumns, bad_a, bad_b, bad_tile, bad_workers, rings_of, too_many, too_many_tiles}
-use Rattle.engine.specs.RingLayers.{IsGridOverRings}
+use Rattle.layers.specs.ColumnsRefusals.{AreColumnsRefused, MayRunColumns, bad_a, bad_b, bad_tile, bad_workers, rings_of, too_many, too_many_tiles}
+use Rattle.layers.specs.Grids.{IsGridOverRings}
 use Rattle.engine.proofs.OneRefusal.{grid_same}
 
 -- columns are not both accepted and refused, and refused for one fault

@@ -7,8 +7,8 @@ use Rattle.grid.specs.Tiles.{Tiling}
 use Rattle.wkt.specs.Canonical.{multi_text}
 use Rattle.covered.specs.Results.{AreCoveredPolygons}
 use Rattle.covered.proofs.CoveredPolygons.{covered_polygons_are_one}
-use Rattle.engine.specs.declared.engine.Plan.{Plan}
-use Rattle.engine.specs.declared.text.Report.{Report}
+use Rattle.layers.specs.declared.plan.Plan.{Plan}
+use Rattle.results.specs.declared.text.Report.{Report}
 use Rattle.engine.specs.CoveredRuns.{CoveredTextIsOneWithin, IsCoveredTold, IsCoveredWritten}
 use Rattle.engine.proofs.Determined.{text_prop}
 use Rattle.engine.proofs.LayersKnown.{one_list}

@@ -15,18 +15,20 @@ use Rattle.cover_law.proofs.FaceLaws.{faces_are_one}
 use Rattle.faces_text.specs.Text.{IsFacesText}
 use Rattle.rows.specs.RowColumns.{AreRowColumns}
 use Rattle.rows.specs.declared.row_columns.RowColumns.{RowColumns}
-use Rattle.engine.specs.declared.engine.Plan.{Plan}
-use Rattle.engine.specs.declared.faces_columns.FacesColumnsRefused.{FacesColumnsRefused}
-use Rattle.engine.specs.declared.faces_columns.FacesColumnsRefused.TheVariants.{Layer, Run}
-use Rattle.engine.specs.declared.faces_fault.FacesRefusal.TheVariants.{Usual, TooManyIds}
-use Rattle.engine.specs.declared.faces_limits.FacesLimits.{FacesLimits}
+use Rattle.layers.specs.declared.plan.Plan.{Plan}
+use Rattle.layers.specs.declared.columns_refused.FacesColumnsRefused.{FacesColumnsRefused}
+use Rattle.layers.specs.declared.columns_refused.FacesColumnsRefused.TheVariants.{Layer, Run}
+use Rattle.layers.specs.declared.faces_fault.FacesRefusal.TheVariants.{Usual, TooManyIds}
+use Rattle.layers.specs.declared.faces_limits.FacesLimits.{FacesLimits}
 use Rattle.engine.specs.declared.faces_report.FacesReport.{FacesReport}
-use Rattle.engine.specs.ColumnLayers.{AllAccepted, IsBadColumns, MayRoundColumns, features_in}
-use Rattle.engine.specs.FaceColumns.{AreFaceColumnsMade, AreFaceColumnsTold, IsFaceColumnsRefused, bad_layer, bad_tile, bad_workers, too_many, too_many_ids, too_many_tiles}
+use Rattle.layers.specs.ColumnLayers.{AllAccepted, IsBadColumns, MayRoundColumns, features_in}
+use Rattle.engine.specs.FaceColumns.{AreFaceColumnsMade, AreFaceColumnsTold}
+use Rattle.layers.specs.FaceColumnsRefusals.{IsFaceColumnsRefused, bad_layer, bad_tile, bad_workers, too_many, too_many_ids, too_many_tiles}
 use Rattle.engine.specs.FaceColumnsLaws.{AreOfOneRows, AreOneRowColumns, FaceColumnsAreOne, FaceColumnsRefusalIsOne, FacesAreByColumns, RefusedFaceColumnsAreNotMade, RefusedMayNotRoundColumns}
-use Rattle.engine.specs.Faces.{AreFacesWritten, HaveIds}
-use Rattle.engine.specs.FeatureSegments.{all_features, all_steps}
-use Rattle.engine.specs.Layers.{IsGridOverLayers, StandForLayers}
+use Rattle.engine.specs.Faces.{AreFacesWritten}
+use Rattle.layers.specs.FacesRefusals.{HaveIds}
+use Rattle.layers.specs.FeatureSegments.{all_features, all_steps}
+use Rattle.layers.specs.FeatureLayers.{IsGridOverLayers, StandForLayers}
 use Rattle.engine.proofs.FaceIds.{ids_of_rows, one_ids}
 use Rattle.engine.proofs.LayersKnown.{one_list}
 use Rattle.engine.proofs.OneRefusal.{grid_same}

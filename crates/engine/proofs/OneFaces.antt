@@ -4,8 +4,8 @@ use Rattle.std.proofs.Math.Logic.{∥∥₁_elim}
 use Rattle.geom.specs.declared.point.Pt.{Pt}
 use Rattle.faces_text.specs.Text.{IsFacesText}
 use Rattle.faces_text.proofs.OneText.{faces_text_is_one as one_text}
-use Rattle.engine.specs.declared.engine.Plan.{Plan}
-use Rattle.engine.specs.declared.faces_limits.FacesLimits.{FacesLimits}
+use Rattle.layers.specs.declared.plan.Plan.{Plan}
+use Rattle.layers.specs.declared.faces_limits.FacesLimits.{FacesLimits}
 use Rattle.engine.specs.declared.faces_report.FacesReport.{FacesReport}
 use Rattle.engine.specs.Faces.{AreFacesWritten, FacesTextIsOneWithin}
 use Rattle.engine.proofs.Determined.{text_prop}

@@ -11,17 +11,18 @@ use Rattle.wkt.specs.Features.{StandsForFeatures, all_rings}
 use Rattle.wkt.specs.Refusals.{IsRefused}
 use Rattle.wkt.proofs.Cuts.{stands_joined}
 use Rattle.wkt.proofs.Exclusive.{not_both, same_refusal}
-use Rattle.engine.specs.declared.engine.Plan.{Plan}
-use Rattle.engine.specs.declared.faces_fault.FacesPart.{FacesPart}
-use Rattle.engine.specs.declared.faces_fault.FacesPart.TheVariants.{Layer, Run}
-use Rattle.engine.specs.declared.faces_fault.FacesRefusal.{FacesRefusal}
-use Rattle.engine.specs.declared.faces_fault.FacesRefusal.TheVariants.{Usual, TooManyIds}
-use Rattle.engine.specs.declared.faces_limits.FacesLimits.{FacesLimits}
+use Rattle.layers.specs.declared.plan.Plan.{Plan}
+use Rattle.layers.specs.declared.faces_fault.FacesPart.{FacesPart}
+use Rattle.layers.specs.declared.faces_fault.FacesPart.TheVariants.{Layer, Run}
+use Rattle.layers.specs.declared.faces_fault.FacesRefusal.{FacesRefusal}
+use Rattle.layers.specs.declared.faces_fault.FacesRefusal.TheVariants.{Usual, TooManyIds}
+use Rattle.layers.specs.declared.faces_limits.FacesLimits.{FacesLimits}
 use Rattle.engine.specs.declared.faces_report.FacesReport.{FacesReport}
-use Rattle.engine.specs.FeatureSegments.{all_features, all_steps}
-use Rattle.engine.specs.Faces.{AreFacesTold, AreFacesWritten, FacesRefusalIsOne, HaveIds, IsFacesRefusedAt, RefusedAreNotWritten, RefusedMayNotRound, bad_layer, bad_tile, bad_workers, too_many, too_many_ids, too_many_tiles}
-use Rattle.engine.specs.Layers.{IsBadLayer, IsGridOverLayers, MayRound, StandForLayers}
-use Rattle.engine.specs.Rounds.{AreBoundsOf}
+use Rattle.layers.specs.FeatureSegments.{all_features, all_steps}
+use Rattle.engine.specs.Faces.{AreFacesTold, AreFacesWritten, FacesRefusalIsOne, RefusedAreNotWritten, RefusedMayNotRound}
+use Rattle.layers.specs.FacesRefusals.{HaveIds, IsFacesRefusedAt, bad_layer, bad_tile, bad_workers, too_many, too_many_ids, too_many_tiles}
+use Rattle.layers.specs.FeatureLayers.{IsBadLayer, IsGridOverLayers, MayRound, StandForLayers}
+use Rattle.layers.specs.Grids.{AreBoundsOf}
 use Rattle.engine.proofs.FaceIds.{ids_of_rows, one_ids}
 use Rattle.engine.proofs.LayersInLimit.{layers_in_limit}
 use Rattle.engine.proofs.LayersKnown.{one_list}

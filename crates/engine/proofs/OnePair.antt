@@ -15,10 +15,11 @@ use Rattle.columns.specs.Answers.{AreColumnsOf}
 use Rattle.columns.specs.Layout.{feature_rings_in, plain}
 use Rattle.engine.specs.declared.columns_output.ColumnsOutput.{ColumnsOutput}
 use Rattle.engine.specs.declared.columns_pairs.PairsOutput.{PairsOutput}
-use Rattle.engine.specs.declared.engine.Plan.{Plan}
+use Rattle.layers.specs.declared.plan.Plan.{Plan}
 use Rattle.engine.specs.ColumnsLaws.{PairIsByColumns}
 use Rattle.engine.specs.ColumnsPairs.{ArePairsMade, IsResultOfRings}
-use Rattle.engine.specs.ColumnsRuns.{AreColumnsMade, rings_of}
+use Rattle.engine.specs.ColumnsRuns.{AreColumnsMade}
+use Rattle.layers.specs.ColumnsRefusals.{rings_of}
 use Rattle.engine.specs.RingLayers.{AreRingsRounded}
 use Rattle.engine.proofs.OneResultText.{polygons_of_one}
 

@@ -2,7 +2,7 @@
 use Rattle.std.proofs.Common.{◌≡◌, ℕ, ap, refl}
 use Rattle.columns.specs.declared.fault.ColumnsFault.{ColumnsFault}
 use Rattle.columns.specs.declared.layout.Columns.{Columns}
-use Rattle.engine.specs.declared.columns_output.ColumnsRefused.TheVariants.{A, B}
+use Rattle.layers.specs.declared.columns_refused.ColumnsRefused.TheVariants.{A, B}
 use Rattle.engine.specs.declared.columns_pairs.PairsRefused.{PairsRefused}
 use Rattle.engine.specs.declared.columns_pairs.PairsRefused.TheVariants.{Layers}
 use Rattle.engine.specs.ColumnsPairs.{ArePairsRefused, MayRunPairs, PairsRefusalIsOne, RefusedPairsMayNotRun, bad_a, bad_b, too_many, unpaired}

@@ -16,9 +16,9 @@ use Rattle.wkt.specs.LayerText.{Ring}
 use Rattle.wkt.specs.Refusals.{IsAccepted, IsRefused, plain}
 use Rattle.wkt.proofs.Exclusive.{not_both, same_refusal}
 use Rattle.engine.specs.Determined.{RefusalIsOneWithin, RefusedMayNotRunWithin}
-use Rattle.engine.specs.Rounds.{AreBoundsOf, IsGridOver}
-use Rattle.engine.specs.Runs.{IsRefusedAtWithin, MayRunWithin, bad_a, bad_b, bad_tile, bad_workers, segment_count, too_many, too_many_tiles}
-use Rattle.engine.specs.declared.engine.Plan.{Plan}
+use Rattle.layers.specs.Grids.{AreBoundsOf, IsGridOver}
+use Rattle.layers.specs.Refusals.{IsRefusedAtWithin, MayRunWithin, bad_a, bad_b, bad_tile, bad_workers, segment_count, too_many, too_many_tiles}
+use Rattle.layers.specs.declared.plan.Plan.{Plan}
 use Rattle.engine.proofs.Determined.{one_layer}
 
 -- ---- one number of tiles

@@ -4,8 +4,8 @@ use Rattle.geom.specs.declared.op.Op.{Op}
 use Rattle.engine.specs.Determined.{AreOneReport, RunReportsAsEdgesWithin}
 use Rattle.engine.specs.Results.{IsResultWrittenWithin}
 use Rattle.engine.specs.Runs.{AreEdgesWrittenWithin}
-use Rattle.engine.specs.declared.engine.Plan.{Plan}
-use Rattle.engine.specs.declared.text.Report.{Report}
+use Rattle.layers.specs.declared.plan.Plan.{Plan}
+use Rattle.results.specs.declared.text.Report.{Report}
 use Rattle.engine.proofs.Determined.{one_size}
 use Rattle.engine.proofs.OneTiling.{tiles_are_one}
 

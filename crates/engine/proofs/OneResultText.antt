@@ -9,9 +9,10 @@ use Rattle.geom.proofs.SamePolygons.{same_polygons}
 use Rattle.points_law.proofs.OneResult.{one_directed}
 use Rattle.engine.specs.Determined.{HaveOneSize, ResultSizesAreOneWithin, ResultTextIsOneWithin}
 use Rattle.wkt.specs.Canonical.{multi_text}
-use Rattle.engine.specs.Results.{IsResult, IsResultText, IsResultWrittenWithin}
-use Rattle.engine.specs.declared.engine.Plan.{Plan}
-use Rattle.engine.specs.declared.text.Report.{Report}
+use Rattle.results.specs.Results.{IsResult, IsResultText}
+use Rattle.engine.specs.Results.{IsResultWrittenWithin}
+use Rattle.layers.specs.declared.plan.Plan.{Plan}
+use Rattle.results.specs.declared.text.Report.{Report}
 use Rattle.engine.proofs.Determined.{one_counted, one_size, text_prop}
 
 -- of the same rounded edges

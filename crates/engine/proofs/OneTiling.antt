@@ -9,10 +9,10 @@ use Rattle.linking.specs.Gathered.{AreTileNumbers}
 use Rattle.wkt.specs.LayerText.{Ring}
 use Rattle.wkt.specs.Refusals.{plain}
 use Rattle.engine.specs.Determined.{TilesAreOneWithin}
-use Rattle.engine.specs.Rounds.{AreBoundsOf}
+use Rattle.layers.specs.Grids.{AreBoundsOf}
 use Rattle.engine.specs.Runs.{ReportsWithin}
-use Rattle.engine.specs.declared.engine.Plan.{Plan}
-use Rattle.engine.specs.declared.text.Report.{Report}
+use Rattle.layers.specs.declared.plan.Plan.{Plan}
+use Rattle.results.specs.declared.text.Report.{Report}
 use Rattle.engine.proofs.Determined.{one_layer, one_segments_of}
 use Rattle.engine.proofs.OneRefusal.{grid_same, owns_same}
 use Rattle.engine.proofs.SumsOfTiles.{one_told}

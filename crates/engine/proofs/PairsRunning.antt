@@ -13,14 +13,14 @@ use Rattle.wkt.specs.Outlines.{IsOutline}
 use Rattle.columns.specs.declared.layout.Columns.{Columns}
 use Rattle.columns.specs.Layout.{feature_rings_in, joined, plain}
 use Rattle.columns.proofs.Written.{joined_more, one_list}
-use Rattle.engine.specs.declared.columns_output.ColumnsRefused.TheVariants.{A, B, Run}
+use Rattle.layers.specs.declared.columns_refused.ColumnsRefused.TheVariants.{A, B, Run}
 use Rattle.engine.specs.declared.columns_pairs.PairResults.{PairResults}
 use Rattle.engine.specs.declared.columns_pairs.PairsOutput.{PairsOutput}
 use Rattle.engine.specs.declared.columns_pairs.PairsRefused.{PairsRefused}
 use Rattle.engine.specs.declared.columns_pairs.PairsRefused.TheVariants.{Layers, Unpaired}
 use Rattle.engine.specs.ColumnsPairs.{ArePairsMade, ArePairsRefused, AreResultsOfPairs, DeclinesPairs, HaveResults, IsResultOfRings, MayRunPairs, bad_a, bad_b, too_many, unpaired}
-use Rattle.engine.specs.ColumnsRuns.{AreBothAccepted, rings_of}
-use Rattle.engine.specs.RingLayers.{steps_count}
+use Rattle.layers.specs.ColumnsRefusals.{AreBothAccepted, rings_of}
+use Rattle.layers.specs.Grids.{steps_count}
 
 -- ---- what is refused
 module _ (limit : ℕ) (a b : Columns) (m n : Outline) (accepted : AreBothAccepted a b) (paired : length (feature_rings_in a) ≡ length (feature_rings_in b)) (o : IsOutline (rings_of a) m) (q : IsOutline (rings_of b) n) where

@@ -13,10 +13,11 @@ use Rattle.linking.proofs.Gathering.{AreCovered}
 use Rattle.points_law.proofs.OneResult.{one_rounded, one_segments}
 use Rattle.wkt.specs.Refusals.{StandsFor, plain}
 use Rattle.engine.specs.Determined.{HaveOneSize}
-use Rattle.engine.specs.RingLayers.{AreRingsReady, ReportsOnRings}
+use Rattle.layers.specs.ColumnsRefusals.{AreRingsReady}
+use Rattle.engine.specs.RingLayers.{ReportsOnRings}
 use Rattle.engine.specs.Runs.{ReportsWithin}
-use Rattle.engine.specs.declared.engine.Plan.{Plan}
-use Rattle.engine.specs.declared.text.Report.{Report}
+use Rattle.layers.specs.declared.plan.Plan.{Plan}
+use Rattle.results.specs.declared.text.Report.{Report}
 use Rattle.engine.proofs.Known.{number_prop}
 use Rattle.engine.proofs.Rounding.{bounds_hold, grid_covers, one_plain, some_side}
 use Rattle.engine.proofs.SumsOfTiles.{one_hot, one_records}

@@ -1,7 +1,7 @@
 -- From two texts that were checked to what the theorems say of their rounded edges.
-use Rattle.std.proofs.Common.{◌≡◌, ℕ, List, ◌++◌, map, ◌<◌, ◌≤◌, refl, sym, subst, ap, arith, ⊎_elim}
+use Rattle.std.proofs.Common.{◌≡◌, ℕ, List, ◌++◌, map, ◌<◌, ◌≤◌, refl, subst, ap, arith, ⊎_elim}
 use Rattle.std.proofs.Math.Logic.{∥∥₁_map}
-use Rattle.std.specs.Prelude.{Contains, Err, IfOk, None, Ok, Option, Result, Some}
+use Rattle.std.specs.Prelude.{Contains, None, Option, Some}
 use Rattle.geom.specs.Rounded.{AreRounded}
 use Rattle.geom.specs.Segments.{AreSegments, layer_steps, parts, tagged}
 use Rattle.geom.specs.declared.edge.Counted.{Counted}
@@ -20,11 +20,12 @@ use Rattle.grid.proofs.Columns.{covers}
 use Rattle.linking.specs.Gathered.{HaveTiles}
 use Rattle.linking.proofs.Covering.{have_tiles}
 use Rattle.wkt.specs.LayerText.{Ring}
-use Rattle.wkt.specs.Refusals.{IsAccepted, StandsFor, plain}
+use Rattle.wkt.specs.Refusals.{IsAccepted, plain}
 use Rattle.wkt.proofs.Exclusive.{same_reading}
-use Rattle.engine.specs.Rounds.{AllInLimit, AreBoundsOf, AreSegmentsOf}
-use Rattle.engine.specs.Runs.{IsReadyWithin}
-use Rattle.engine.specs.declared.engine.Plan.{Plan}
+use Rattle.layers.specs.Segments.{AllInLimit, AreSegmentsOf}
+use Rattle.layers.specs.Grids.{AreBoundsOf}
+use Rattle.layers.specs.Refusals.{IsReadyWithin}
+use Rattle.layers.specs.declared.plan.Plan.{Plan}
 
 -- ---- the bounds hold the segments
 
@@ -68,17 +69,6 @@ covered limit plan a b rings_a rings_b g segments h s =
     (subst (λ (p : List (List Pt)). AreSegments p (plain rings_b) segments) x (subst (λ (p : List (List Pt)). AreSegments (plain s.rings_a) p segments) y s.are_segments))
     h.is_grid.bounds h.is_grid.are_bounds)
 
--- ---- the segments of two texts
-
-pub segments_read : (a b : List ℕ) (rings_a rings_b : List (List Pt)) (segments : List Seg) → StandsFor a rings_a → StandsFor b rings_b → AreSegments rings_a rings_b segments → AreSegmentsOf a b segments
-segments_read a b rings_a rings_b segments h k are = record {
-  rings_a = h.0;
-  rings_b = k.0;
-  accepted_a = h.1;
-  accepted_b = k.1;
-  are_segments = subst (λ (p : List (List Pt)). AreSegments p (plain k.0) segments) (sym h.2) (subst (λ (p : List (List Pt)). AreSegments rings_a p segments) (sym k.2) are);
-}
-
 -- ---- layers
 
 pub layers_of_rings : (a b : List (List Pt)) (segments : List Seg) (counted : List Counted) → AreSegments a b segments → AllInLimit segments → ∥ AreRounded segments counted ∥₁ → ∥ AreLayers counted ∥₁
@@ -87,11 +77,3 @@ layers_of_rings a b segments counted s limits r =
 
 pub layers_of : (a b : List ℕ) (segments : List Seg) (counted : List Counted) → AreSegmentsOf a b segments → AllInLimit segments → ∥ AreRounded segments counted ∥₁ → ∥ AreLayers counted ∥₁
 layers_of a b segments counted s limits r = layers_of_rings (plain s.rings_a) (plain s.rings_b) segments counted s.are_segments limits r
-
-pub if_both : {T E : Type 0} (r : Result T E) (P Q S : T → Type 0) → ((x : T) → P x → Q x → S x) → IfOk r P → IfOk r Q → IfOk r S
-if_both (Ok x) P Q S f p q = f x p q
-if_both (Err e) P Q S f p q = tt
-
-pub if_five : {T E : Type 0} (r : Result T E) (P Q R S U V : T → Type 0) → ((x : T) → P x → Q x → R x → S x → U x → V x) → IfOk r P → IfOk r Q → IfOk r R → IfOk r S → IfOk r U → IfOk r V
-if_five (Ok x) P Q R S U V f p q s t u = f x p q s t u
-if_five (Err e) P Q R S U V f p q s t u = tt

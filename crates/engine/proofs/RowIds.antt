@@ -18,7 +18,7 @@ use Rattle.rows.specs.declared.runs.RowSet.{RowSet}
 use Rattle.rows.specs.RowEdges.{AreEdgesOfRows, row_edge}
 use Rattle.rows.specs.RowSets.{AreRowSets, edges_at, run_of}
 use Rattle.rows.proofs.Making.{row_covered, row_edges_at, row_number, row_some}
-use Rattle.engine.specs.FaceRows.{IsNumberOfIds}
+use Rattle.layers.specs.FacesRefusals.{IsNumberOfIds}
 
 module _ (count : ℕ) (es : List Bordered) (sets : List (List ℕ)) (edges : List RowEdge) (row_sets : List RowSet) (S : AreSets sets) (E : AreEdgesOfRows count es sets edges) (G : AreRowSets edges row_sets) where
   abbrev set_at : RowSet → List ℕ

@@ -10,8 +10,8 @@ use Rattle.hands.proofs.Consecutive.{behind_one_another}
 use Rattle.faces_text.specs.Text.{row_text, rows_text}
 use Rattle.rows.specs.declared.parts.Row.{Row}
 use Rattle.rows.specs.Made.{row_of}
-use Rattle.engine.proofs.EdgeLines.{whole_range}
-use Rattle.engine.proofs.LineParts.{both_ranges, none_between}
+use Rattle.results.proofs.EdgeLines.{whole_range}
+use Rattle.results.proofs.LineParts.{both_ranges, none_between}
 
 -- one row more
 pub row_more : {M : Type 0} (counts : List ℕ) (rows : List (Row M)) (k : ℕ) (row : Row M) (old new : List ℕ) → k < length rows → row ≡ get_or rows k row

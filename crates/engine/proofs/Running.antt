@@ -7,21 +7,23 @@ use Rattle.geom.specs.declared.fault.Part.{Part}
 use Rattle.geom.specs.declared.fault.Part.TheVariants.{Run}
 use Rattle.geom.specs.declared.fault.RunFault.{RunFault}
 use Rattle.geom.specs.declared.fault.NoMemory.{NoMemory}
-use Rattle.engine.specs.declared.engine.Limits.{Limits}
+use Rattle.layers.specs.declared.plan.Limits.{Limits}
 use Rattle.engine.specs.declared.engine.MadeInParts.{MadeInParts}
-use Rattle.engine.specs.declared.engine.Plan.{Plan}
-use Rattle.engine.specs.declared.operation.Wanted.{Wanted}
-use Rattle.engine.specs.declared.operation.Wanted.TheVariants.{Apply, Edges}
+use Rattle.layers.specs.declared.plan.Plan.{Plan}
+use Rattle.results.specs.declared.operation.Wanted.{Wanted}
+use Rattle.results.specs.declared.operation.Wanted.TheVariants.{Apply, Edges}
 use Rattle.geom.specs.declared.edge.Counted.{Counted}
-use Rattle.engine.specs.declared.text.Report.{Report}
-use Rattle.engine.specs.Sinks.{SinkState}
+use Rattle.results.specs.declared.text.Report.{Report}
+use Rattle.results.specs.Sinks.{SinkState}
 use Rattle.grid.specs.Tiles.{Tiling}
 use Rattle.linking.specs.declared.rounded.TileNumbers.{TileNumbers}
 use Rattle.engine.specs.Rounds.{AreRoundedOver, IsRemade, TellsTiles}
 use Rattle.engine.proofs.Known.{reported}
-use Rattle.engine.specs.Runs.{IsCheckedWithin, DeclinesWithin, Delivers, IsRefusedAtWithin, MayRunWithin, ReportsWithin, RunsWithin, StopsWithin, bad_a, bad_b, bad_tile, bad_workers, too_many, too_many_tiles}
+use Rattle.layers.specs.Refusals.{IsCheckedWithin, IsRefusedAtWithin, MayRunWithin, bad_a, bad_b, bad_tile, bad_workers, too_many, too_many_tiles}
+use Rattle.engine.specs.Runs.{DeclinesWithin, Delivers, ReportsWithin, RunsWithin, StopsWithin}
 use Rattle.wkt.specs.Refusals.{IsRefused}
-use Rattle.engine.specs.Results.{IsWantedText, IsWrittenWithin}
+use Rattle.results.specs.Results.{IsWantedText}
+use Rattle.engine.specs.Results.{IsWrittenWithin}
 
 -- ---- what was made
 pub written : {M : Type 0} (limit : ℕ) (wanted : Wanted) (plan : Plan) (a b : List ℕ) (counted : List Counted) (text : List ℕ) (report : Report M)

@@ -5,10 +5,10 @@ use Rattle.cover_law.specs.Cover.{Bordered}
 use Rattle.cover_law.specs.Rows.{AreRows}
 use Rattle.rows.specs.Made.{ids_in, row_of}
 use Rattle.engine.specs.declared.bounded_rows.BoundedRows.{BoundedRows}
-use Rattle.engine.specs.declared.faces_fault.FacesFault.{FacesFault}
-use Rattle.engine.specs.declared.faces_fault.FacesPart.TheVariants.{Run}
-use Rattle.engine.specs.declared.faces_fault.FacesRefusal.TheVariants.{Usual, TooManyIds}
-use Rattle.engine.specs.FaceRows.{IsNumberOfIds}
+use Rattle.layers.specs.declared.faces_fault.FacesFault.{FacesFault}
+use Rattle.layers.specs.declared.faces_fault.FacesPart.TheVariants.{Run}
+use Rattle.layers.specs.declared.faces_fault.FacesRefusal.TheVariants.{Usual, TooManyIds}
+use Rattle.layers.specs.FacesRefusals.{IsNumberOfIds}
 
 -- the rows over these borders, which have together at most so many features
 pub record AreBoundedRows {M : Type 0} (limit count : ℕ) (borders : List Bordered) (r : BoundedRows M) : Type 0 where

@@ -9,12 +9,13 @@ use Rattle.columns.specs.declared.layout.Columns.{Columns}
 use Rattle.columns.specs.Answers.{AreColumnsOf}
 use Rattle.columns.specs.Layout.{feature_rings_in, plain}
 use Rattle.engine.specs.declared.columns_output.ColumnsOutput.{ColumnsOutput}
-use Rattle.engine.specs.declared.columns_output.ColumnsRefused.{ColumnsRefused}
+use Rattle.layers.specs.declared.columns_refused.ColumnsRefused.{ColumnsRefused}
 use Rattle.engine.specs.declared.columns_pairs.PairsOutput.{PairsOutput}
-use Rattle.engine.specs.declared.engine.Plan.{Plan}
-use Rattle.engine.specs.declared.text.Report.{Report}
+use Rattle.layers.specs.declared.plan.Plan.{Plan}
+use Rattle.results.specs.declared.text.Report.{Report}
 use Rattle.engine.specs.ColumnsPairs.{ArePairsMade}
-use Rattle.engine.specs.ColumnsRuns.{AreColumnsMade, AreColumnsRefused, MayRunColumns, rings_of}
+use Rattle.engine.specs.ColumnsRuns.{AreColumnsMade}
+use Rattle.layers.specs.ColumnsRefusals.{AreColumnsRefused, MayRunColumns, rings_of}
 use Rattle.engine.specs.Determined.{HaveOneSize}
 use Rattle.engine.specs.Results.{IsResultWrittenWithin}
 

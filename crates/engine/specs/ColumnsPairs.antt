@@ -13,14 +13,14 @@ use Rattle.columns.specs.declared.layout.Columns.{Columns}
 use Rattle.columns.specs.Answers.{AreColumnsOf, offsets_from}
 use Rattle.columns.specs.Layout.{feature_rings_in, joined, plain}
 use Rattle.columns.specs.Refusals.{AreAccepted, AreRefused}
-use Rattle.engine.specs.declared.columns_output.ColumnsRefused.TheVariants.{A, B, Run}
+use Rattle.layers.specs.declared.columns_refused.ColumnsRefused.TheVariants.{A, B, Run}
 use Rattle.engine.specs.declared.columns_pairs.PairResults.{PairResults}
 use Rattle.engine.specs.declared.columns_pairs.PairsOutput.{PairsOutput}
 use Rattle.engine.specs.declared.columns_pairs.PairsRefused.{PairsRefused}
 use Rattle.engine.specs.declared.columns_pairs.PairsRefused.TheVariants.{Layers, Unpaired}
-use Rattle.engine.specs.ColumnsRuns.{AreBothAccepted, rings_of}
-use Rattle.engine.specs.Results.{IsResult}
-use Rattle.engine.specs.RingLayers.{steps_count}
+use Rattle.layers.specs.ColumnsRefusals.{AreBothAccepted, rings_of}
+use Rattle.results.specs.Results.{IsResult}
+use Rattle.layers.specs.Grids.{steps_count}
 
 -- the polygons of the result over the rounded edges of two layers with these rings
 pub record IsResultOfRings (op : Op) (rings_a rings_b : List (List Pt)) (polygons : List Shape) : Type 0 where

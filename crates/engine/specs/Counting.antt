@@ -5,10 +5,10 @@ use Rattle.geom.specs.declared.point.Pt.{Pt}
 use Rattle.geom.specs.declared.segment.Seg.{Seg}
 use Rattle.geom.specs.Hot.{IsHot}
 use Rattle.geom.specs.Route.{Meets}
-use Rattle.engine.specs.Rounds.{AreSegmentsOf}
+use Rattle.layers.specs.Segments.{AreSegmentsOf}
 use Rattle.engine.specs.Runs.{Reports, ReportsWithin}
-use Rattle.engine.specs.declared.engine.Plan.{Plan}
-use Rattle.engine.specs.declared.text.Report.{Report}
+use Rattle.layers.specs.declared.plan.Plan.{Plan}
+use Rattle.results.specs.declared.text.Report.{Report}
 
 -- there are n that have P: a list has exactly these, each once
 pub record IsNumberOf {X : Type 0} (P : X → Type 0) (n : ℕ) : Type 0 where

@@ -12,20 +12,20 @@ use Rattle.cover_law.specs.Cover.{Bordered}
 use Rattle.linking.specs.Gathered.{AreTileNumbers}
 use Rattle.linking.specs.declared.rounded.TileNumbers.{TileNumbers}
 use Rattle.engine.specs.declared.engine.MadeInParts.{MadeInParts}
-use Rattle.engine.specs.declared.engine.Plan.{Plan}
-use Rattle.engine.specs.declared.faces_fault.FacesFault.{FacesFault}
-use Rattle.engine.specs.declared.faces_fault.FacesPart.{FacesPart}
-use Rattle.engine.specs.declared.faces_fault.FacesPart.TheVariants.{Run}
-use Rattle.engine.specs.declared.faces_fault.FacesRefusal.{FacesRefusal}
-use Rattle.engine.specs.declared.faces_fault.FacesRefusal.TheVariants.{Usual}
-use Rattle.engine.specs.declared.faces_limits.FacesLimits.{FacesLimits}
-use Rattle.engine.specs.declared.text.Report.{Report}
+use Rattle.layers.specs.declared.plan.Plan.{Plan}
+use Rattle.layers.specs.declared.faces_fault.FacesFault.{FacesFault}
+use Rattle.layers.specs.declared.faces_fault.FacesPart.{FacesPart}
+use Rattle.layers.specs.declared.faces_fault.FacesPart.TheVariants.{Run}
+use Rattle.layers.specs.declared.faces_fault.FacesRefusal.{FacesRefusal}
+use Rattle.layers.specs.declared.faces_fault.FacesRefusal.TheVariants.{Usual}
+use Rattle.layers.specs.declared.faces_limits.FacesLimits.{FacesLimits}
+use Rattle.results.specs.declared.text.Report.{Report}
 use Rattle.engine.specs.CoveredResults.{IsCoveredText}
 use Rattle.engine.specs.Faces.{DeclinesFaces}
-use Rattle.engine.specs.FeatureSegments.{feature_steps}
-use Rattle.engine.specs.Layers.{AreReady}
+use Rattle.layers.specs.FeatureSegments.{feature_steps}
+use Rattle.layers.specs.FeatureLayers.{AreReady}
 use Rattle.engine.specs.Rounds.{IsRemade, TellsTiles}
-use Rattle.engine.specs.Sinks.{SentAll, SentPart, SinkState}
+use Rattle.results.specs.Sinks.{SentAll, SentPart, SinkState}
 
 -- ---- limits
 

@@ -4,10 +4,11 @@ use Rattle.geom.specs.declared.fault.Fault.{Fault}
 use Rattle.geom.specs.declared.fault.Part.{Part}
 use Rattle.geom.specs.declared.edge.Counted.{Counted}
 use Rattle.geom.specs.declared.op.Op.{Op}
-use Rattle.engine.specs.declared.engine.Plan.{Plan}
-use Rattle.engine.specs.declared.text.Report.{Report}
+use Rattle.layers.specs.declared.plan.Plan.{Plan}
+use Rattle.results.specs.declared.text.Report.{Report}
 use Rattle.engine.specs.Results.{IsResultWritten, IsResultWrittenWithin}
-use Rattle.engine.specs.Runs.{AreEdgesWritten, AreEdgesWrittenWithin, IsRefusedAt, IsRefusedAtWithin, MayRun, MayRunWithin, Reports, ReportsWithin}
+use Rattle.engine.specs.Runs.{AreEdgesWritten, AreEdgesWrittenWithin, Reports, ReportsWithin}
+use Rattle.layers.specs.Refusals.{IsRefusedAt, IsRefusedAtWithin, MayRun, MayRunWithin}
 
 -- the text of the edges is one: whatever the tile side and the number of workers, and whatever the threads did
 abbrev pub EdgesTextIsOne : Type 0 → Type 0 → Type 0

@@ -5,7 +5,7 @@ use Rattle.cover_law.specs.Borders.{AreBordered, IsClosedFeature}
 use Rattle.cover_law.specs.Changing.{changing}
 use Rattle.cover_law.specs.Cover.{AreBorders, Bordered, bordered}
 use Rattle.linking.specs.declared.bordering.RoundedBorders.{RoundedBorders}
-use Rattle.engine.specs.Rounds.{AllInLimit}
+use Rattle.layers.specs.Segments.{AllInLimit}
 
 -- the borders, with their features, as the definitions have them
 abbrev pub borders_in : {M : Type 0} → RoundedBorders M → List Bordered

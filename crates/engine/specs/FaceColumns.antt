@@ -1,9 +1,8 @@
 -- What a call for the faces of layers that are columns promises: its columns and report, and what it is refused for (own).
-use Rattle.std.specs.Prelude.{◌≡◌, ◌<◌, ◌≤◌, ℕ, List, length, map}
-use Rattle.geom.specs.declared.fault.Fault.TheVariants.{BadTile, BadWorkers, Memory, TooManySegments, TooManyTiles}
+use Rattle.std.specs.Prelude.{◌≡◌, ◌≤◌, List, length, map}
+use Rattle.geom.specs.declared.fault.Fault.TheVariants.{Memory}
 use Rattle.geom.specs.declared.point.Pt.{Pt}
-use Rattle.grid.specs.Tiles.{IsSide, Tiling, most_tiles, tile_count}
-use Rattle.columns.specs.declared.fault.ColumnsFault.{ColumnsFault}
+use Rattle.grid.specs.Tiles.{Tiling, tile_count}
 use Rattle.columns.specs.declared.layout.Columns.{Columns}
 use Rattle.cover_law.specs.Changing.{changing}
 use Rattle.cover_law.specs.Faces.{AreFaces}
@@ -14,34 +13,21 @@ use Rattle.rows.specs.RowColumns.{AreRowColumns}
 use Rattle.rows.specs.declared.row_columns.RowColumns.{RowColumns}
 use Rattle.rows.specs.Made.{ids_in, row_of}
 use Rattle.engine.specs.declared.bounded_rows.BoundedRows.{BoundedRows}
-use Rattle.engine.specs.declared.engine.Plan.{Plan}
+use Rattle.layers.specs.declared.plan.Plan.{Plan}
 use Rattle.engine.specs.declared.faces_columns.FacesColumns.{FacesColumns}
-use Rattle.engine.specs.declared.faces_columns.FacesColumnsRefused.{FacesColumnsRefused}
-use Rattle.engine.specs.declared.faces_columns.FacesColumnsRefused.TheVariants.{Layer, Run}
-use Rattle.engine.specs.declared.faces_fault.FacesRefusal.TheVariants.{Usual, TooManyIds}
-use Rattle.engine.specs.declared.faces_limits.FacesLimits.{FacesLimits}
+use Rattle.layers.specs.declared.columns_refused.FacesColumnsRefused.{FacesColumnsRefused}
+use Rattle.layers.specs.declared.columns_refused.FacesColumnsRefused.TheVariants.{Run}
+use Rattle.layers.specs.declared.faces_fault.FacesRefusal.TheVariants.{Usual}
+use Rattle.layers.specs.declared.faces_limits.FacesLimits.{FacesLimits}
 use Rattle.engine.specs.declared.faces_report.FacesReport.{FacesReport}
 use Rattle.engine.specs.declared.faces_run.FaceBorders.{FaceBorders}
-use Rattle.engine.specs.ColumnLayers.{AllAccepted, AreColumnLayersReady, IsBadColumns, MayRoundColumns, features_in}
-use Rattle.engine.specs.Faces.{HaveIds}
-use Rattle.engine.specs.FeatureSegments.{all_features, all_steps, feature_steps}
-use Rattle.engine.specs.Layers.{IsGridOverLayers}
-use Rattle.engine.specs.Rounds.{AllInLimit, IsRemade, TellsTiles}
-use Rattle.engine.specs.Runs.{IsCrew, IsPlan}
+use Rattle.layers.specs.ColumnLayers.{AreColumnLayersReady, MayRoundColumns, features_in}
+use Rattle.layers.specs.FeatureSegments.{all_features, feature_steps}
+use Rattle.layers.specs.Segments.{AllInLimit}
+use Rattle.engine.specs.Rounds.{IsRemade, TellsTiles}
+use Rattle.layers.specs.FaceColumnsRefusals.{IsFaceColumnsRefused}
 
 -- ---- refusals
-
--- what is refused: the first of these that is at fault
-pub data IsFaceColumnsRefused (limits : FacesLimits) (plan : Plan) (layers : List Columns) : FacesColumnsRefused → Type 0 where
-  bad_tile : ¬ IsSide plan.side → IsFaceColumnsRefused limits plan layers (Run (Usual BadTile))
-  bad_workers : IsSide plan.side → ¬ IsCrew plan.workers → IsFaceColumnsRefused limits plan layers (Run (Usual BadWorkers))
-  bad_layer : {number : ℕ} → {fault : ColumnsFault} → IsPlan plan → IsBadColumns layers number fault → IsFaceColumnsRefused limits plan layers (Layer number fault)
-  too_many : IsPlan plan → AllAccepted layers → limits.segments < length (all_steps (features_in layers))
-      → IsFaceColumnsRefused limits plan layers (Run (Usual (TooManySegments (length (all_steps (features_in layers))))))
-  too_many_tiles : IsPlan plan → AllAccepted layers → length (all_steps (features_in layers)) ≤ limits.segments
-      → (grid : Tiling) → IsGridOverLayers (features_in layers) plan.side grid → most_tiles < tile_count grid → IsFaceColumnsRefused limits plan layers (Run (Usual (TooManyTiles (tile_count grid))))
-  too_many_ids : {ids : ℕ} → (grid : Tiling) → AreColumnLayersReady limits.segments plan layers grid → ∥ HaveIds (all_features (features_in layers)) ids ∥₁
-      → limits.ids < ids → IsFaceColumnsRefused limits plan layers (Run (TooManyIds ids))
 
 -- a refusal
 abbrev pub DeclinesFaceColumns : FacesLimits → Plan → List Columns → FacesColumnsRefused → Type 0

@@ -7,17 +7,18 @@ use Rattle.cover_law.specs.Rows.{Row}
 use Rattle.faces_text.specs.Text.{rows_text}
 use Rattle.rows.specs.RowColumns.{AreRowColumns}
 use Rattle.rows.specs.declared.row_columns.RowColumns.{RowColumns}
-use Rattle.engine.specs.declared.engine.Plan.{Plan}
-use Rattle.engine.specs.declared.faces_columns.FacesColumnsRefused.{FacesColumnsRefused}
-use Rattle.engine.specs.declared.faces_columns.FacesColumnsRefused.TheVariants.{Run}
-use Rattle.engine.specs.declared.faces_fault.FacesRefusal.TheVariants.{TooManyIds}
-use Rattle.engine.specs.declared.faces_limits.FacesLimits.{FacesLimits}
+use Rattle.layers.specs.declared.plan.Plan.{Plan}
+use Rattle.layers.specs.declared.columns_refused.FacesColumnsRefused.{FacesColumnsRefused}
+use Rattle.layers.specs.declared.columns_refused.FacesColumnsRefused.TheVariants.{Run}
+use Rattle.layers.specs.declared.faces_fault.FacesRefusal.TheVariants.{TooManyIds}
+use Rattle.layers.specs.declared.faces_limits.FacesLimits.{FacesLimits}
 use Rattle.engine.specs.declared.faces_report.FacesReport.{FacesReport}
-use Rattle.engine.specs.ColumnLayers.{MayRoundColumns, features_in}
-use Rattle.engine.specs.FaceColumns.{AreFaceColumnsMade, IsFaceColumnsRefused}
+use Rattle.layers.specs.ColumnLayers.{MayRoundColumns, features_in}
+use Rattle.engine.specs.FaceColumns.{AreFaceColumnsMade}
+use Rattle.layers.specs.FaceColumnsRefusals.{IsFaceColumnsRefused}
 use Rattle.engine.specs.Faces.{AreFacesWritten}
-use Rattle.engine.specs.FeatureSegments.{all_features}
-use Rattle.engine.specs.Layers.{StandForLayers}
+use Rattle.layers.specs.FeatureSegments.{all_features}
+use Rattle.layers.specs.FeatureLayers.{StandForLayers}
 
 -- a text of faces and columns of faces are of the same rows, which are those of the layers
 pub record AreOfOneRows {M : Type 0} (layers : List (List (List (List Pt)))) (text : List ℕ) (columns : RowColumns M) : Type 0 where

@@ -1,37 +1,10 @@
 -- The texts that the program writes about faces, but for their rows (own).
-use Rattle.std.specs.Prelude.{◌+◌, ℕ, suc, nat_lt, if◌then◌else◌, List, [], ◌∷◌, ◌++◌, codes, length}
+use Rattle.std.specs.Prelude.{◌+◌, ℕ, List, [], ◌∷◌, ◌++◌, codes, length}
 use Rattle.std.specs.List.{flat_map}
 use Rattle.std.specs.Fmt.{decimal}
-use Rattle.geom.specs.Fault.{fault_words}
-use Rattle.engine.specs.declared.faces_fault.FacesFault.{FacesFault}
-use Rattle.engine.specs.declared.faces_fault.FacesPart.{FacesPart}
-use Rattle.engine.specs.declared.faces_fault.FacesPart.TheVariants.{Layer, Run}
-use Rattle.engine.specs.declared.faces_fault.FacesRefusal.{FacesRefusal}
-use Rattle.engine.specs.declared.faces_fault.FacesRefusal.TheVariants.{Usual, TooManyIds}
 use Rattle.engine.specs.declared.faces_report.FacesReport.{FacesReport}
-use Rattle.engine.specs.declared.feature_segments.LayerSize.{LayerSize}
-use Rattle.engine.specs.Texts.{named, status_of_fault, tile_lines}
-
--- ---- refusals
-
-abbrev pub faces_status_of : FacesRefusal → ℕ
-faces_status_of (Usual fault) = status_of_fault fault
-faces_status_of (TooManyIds ids) = 3
-
--- `A` to `Z`, and then the number from 1
-abbrev pub layer_name : ℕ → List ℕ
-layer_name n = if nat_lt n 26 then (65 + n) ∷ [] else decimal (suc n)
-
-abbrev pub faces_place_words : FacesPart → List ℕ
-faces_place_words (Layer n) = layer_name n ++ codes ": "
-faces_place_words Run = []
-
-abbrev pub refusal_words : FacesRefusal → List ℕ
-refusal_words (Usual fault) = fault_words fault
-refusal_words (TooManyIds ids) = codes "12 too many ids: " ++ decimal ids
-
-abbrev pub faces_line_of : FacesFault → List ℕ
-faces_line_of f = codes "overlay: " ++ (faces_place_words f.at ++ (refusal_words f.refusal ++ 10 ∷ []))
+use Rattle.layers.specs.declared.feature_segments.LayerSize.{LayerSize}
+use Rattle.results.specs.Texts.{named, tile_lines}
 
 -- ---- the report
 

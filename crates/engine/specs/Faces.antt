@@ -1,68 +1,35 @@
 -- What a call for the faces of layers promises: its text and report, what it is refused for, and what it does to the sink (own).
 use Rattle.std.specs.Prelude.{◌≡◌, ◌<◌, ◌≤◌, ℕ, List, Result, MatchResult, length, map}
 use Rattle.geom.specs.declared.directed.DirectedEdge.{DirectedEdge}
-use Rattle.geom.specs.declared.fault.Fault.{Fault}
-use Rattle.geom.specs.declared.fault.Fault.TheVariants.{BadTile, BadWorkers, Memory, TooManySegments, TooManyTiles, Write}
+use Rattle.geom.specs.declared.fault.Fault.TheVariants.{Memory, Write}
 use Rattle.geom.specs.declared.point.Pt.{Pt}
 use Rattle.geom.specs.declared.segment.Seg.{Seg}
-use Rattle.grid.specs.Tiles.{IsSide, Tiling, most_tiles, tile_count}
+use Rattle.grid.specs.Tiles.{Tiling, tile_count}
 use Rattle.cover_law.specs.Areas.{AreFeatureEdges, row_area, rows_with, sum_of, twice_area}
-use Rattle.cover_law.specs.Borders.{AreBordered, AreFeatureSegments}
+use Rattle.cover_law.specs.Borders.{AreFeatureSegments}
 use Rattle.cover_law.specs.Changing.{changing}
-use Rattle.cover_law.specs.Cover.{Bordered}
 use Rattle.cover_law.specs.Faces.{Tell}
 use Rattle.faces_text.specs.Text.{IsFacesText}
 use Rattle.linking.specs.Gathered.{AreTileNumbers}
 use Rattle.linking.specs.declared.rounded.TileNumbers.{TileNumbers}
 use Rattle.rows.specs.Made.{ids_in}
-use Rattle.engine.specs.declared.engine.Plan.{Plan}
+use Rattle.layers.specs.declared.plan.Plan.{Plan}
 use Rattle.engine.specs.declared.faces_run.FaceBorders.{FaceBorders}
 use Rattle.engine.specs.declared.faces_run.MadeFaces.{MadeFaces}
-use Rattle.engine.specs.declared.faces_limits.FacesLimits.{FacesLimits}
-use Rattle.engine.specs.declared.faces_limits.TheConstants.{MOST_IDS}
-use Rattle.engine.specs.declared.faces_fault.FacesFault.{FacesFault}
-use Rattle.engine.specs.declared.faces_fault.FacesPart.{FacesPart}
-use Rattle.engine.specs.declared.faces_fault.FacesPart.TheVariants.{Layer, Run}
-use Rattle.engine.specs.declared.faces_fault.FacesRefusal.{FacesRefusal}
-use Rattle.engine.specs.declared.faces_fault.FacesRefusal.TheVariants.{Usual, TooManyIds}
+use Rattle.layers.specs.declared.faces_limits.FacesLimits.{FacesLimits}
+use Rattle.layers.specs.declared.faces_fault.FacesFault.{FacesFault}
+use Rattle.layers.specs.declared.faces_fault.FacesPart.{FacesPart}
+use Rattle.layers.specs.declared.faces_fault.FacesPart.TheVariants.{Run}
+use Rattle.layers.specs.declared.faces_fault.FacesRefusal.{FacesRefusal}
+use Rattle.layers.specs.declared.faces_fault.FacesRefusal.TheVariants.{Usual, TooManyIds}
 use Rattle.engine.specs.declared.faces_report.FacesReport.{FacesReport}
 use Rattle.engine.specs.FaceBorders.{AreRoundedBorders}
-use Rattle.engine.specs.FaceRows.{IsNumberOfIds}
-use Rattle.engine.specs.FeatureSegments.{all_features, all_steps, feature_steps}
-use Rattle.engine.specs.Layers.{AreReady, IsBadLayer, IsGridOverLayers, MayRound, StandForLayers}
-use Rattle.engine.specs.Rounds.{AllInLimit, IsRemade, TellsTiles}
-use Rattle.engine.specs.Runs.{IsCrew, IsPlan, segment_limit}
-use Rattle.engine.specs.Sinks.{SentAll, SentPart, SinkState}
-
--- ---- limits, and the features of all rows
-
--- the limits where none are given: the most segments of all layers together, and the most features of all rows together
-abbrev pub faces_limits : FacesLimits
-faces_limits = record { segments = segment_limit; ids = MOST_IDS }
-
--- So many features have all rows of the faces of these features together: the sum of the sizes of the cover sets that have a row. It can be
--- told before any row is made. Edges that are no feature's border bound no row, and are left out.
-pub record HaveIds (features : List (List (List Pt))) (ids : ℕ) : Type 0 where
-  pub segments : List Seg
-  pub owners : List ℕ
-  pub are_segments : AreFeatureSegments features segments owners
-  pub edges : List Bordered
-  pub are_bordered : AreBordered (length features) segments owners edges
-  pub is_number : IsNumberOfIds (length features) (changing edges) ids
-
--- ---- refusals
-
--- what is refused before a text is made, and where: the first of these that is at fault
-pub data IsFacesRefusedAt (limits : FacesLimits) (plan : Plan) (texts : List (List ℕ)) : FacesPart → FacesRefusal → Type 0 where
-  bad_tile : ¬ IsSide plan.side → IsFacesRefusedAt limits plan texts Run (Usual BadTile)
-  bad_workers : IsSide plan.side → ¬ IsCrew plan.workers → IsFacesRefusedAt limits plan texts Run (Usual BadWorkers)
-  bad_layer : {number : ℕ} → {fault : Fault} → IsPlan plan → IsBadLayer texts number fault → IsFacesRefusedAt limits plan texts (Layer number) (Usual fault)
-  too_many : IsPlan plan → (layers : List (List (List (List Pt)))) → StandForLayers texts layers → limits.segments < length (all_steps layers)
-      → IsFacesRefusedAt limits plan texts Run (Usual (TooManySegments (length (all_steps layers))))
-  too_many_tiles : IsPlan plan → (layers : List (List (List (List Pt)))) → StandForLayers texts layers → length (all_steps layers) ≤ limits.segments
-      → (grid : Tiling) → IsGridOverLayers layers plan.side grid → most_tiles < tile_count grid → IsFacesRefusedAt limits plan texts Run (Usual (TooManyTiles (tile_count grid)))
-  too_many_ids : {ids : ℕ} → (layers : List (List (List (List Pt)))) → (grid : Tiling) → AreReady limits.segments plan texts layers grid → ∥ HaveIds (all_features layers) ids ∥₁
-      → limits.ids < ids → IsFacesRefusedAt limits plan texts Run (TooManyIds ids)
+use Rattle.layers.specs.FeatureSegments.{all_features, feature_steps}
+use Rattle.layers.specs.FeatureLayers.{AreReady, MayRound, StandForLayers}
+use Rattle.layers.specs.Segments.{AllInLimit}
+use Rattle.engine.specs.Rounds.{IsRemade, TellsTiles}
+use Rattle.results.specs.Sinks.{SentAll, SentPart, SinkState}
+use Rattle.layers.specs.FacesRefusals.{IsFacesRefusedAt}
 
 -- ---- an answer
 

@@ -5,10 +5,9 @@ use Rattle.wkt.specs.LayerText.{Ring}
 use Rattle.wkt.specs.Refusals.{IsAccepted}
 use Rattle.geom.specs.declared.point.Pt.{Pt}
 use Rattle.columns.specs.declared.layout.Columns.{Columns}
-use Rattle.engine.specs.ColumnsRuns.{AreBothAccepted, rings_of}
-use Rattle.engine.specs.Layers.{IsGridOverLayers, StandForLayers}
-use Rattle.engine.specs.RingLayers.{IsGridOverRings}
-use Rattle.engine.specs.Rounds.{IsGridOver}
+use Rattle.layers.specs.ColumnsRefusals.{AreBothAccepted, rings_of}
+use Rattle.layers.specs.FeatureLayers.{IsGridOverLayers, StandForLayers}
+use Rattle.layers.specs.Grids.{IsGridOver, IsGridOverRings}
 
 -- the layers are accepted, and this side gives more tiles over them than there may be
 pub record IsTooFineOver (a b : List ℕ) (side : ℕ) : Type 0 where

@@ -1,15 +1,10 @@
-pub mod Sinks
-pub mod Texts
 pub mod Rounds
 pub mod Runs
 pub mod Results
 pub mod Determined
 pub mod Counting
 pub mod Fitting
-pub mod LineParts
 pub mod FaceWords
-pub mod FeatureSegments
-pub mod Layers
 pub mod FaceBorders
 pub mod FaceRows
 pub mod Faces
@@ -20,6 +15,5 @@ pub mod ColumnsRuns
 pub mod ColumnsLaws
 pub mod ColumnsPairs
 pub mod BoundedRows
-pub mod ColumnLayers
 pub mod FaceColumns
 pub mod FaceColumnsLaws

@@ -1,43 +1,14 @@
 -- The polygons of a set operation, and their text (OGC 06-103r4 for the text; the rest is own).
-use Rattle.std.specs.Prelude.{◌≡◌, ℕ, List, [], ◌∷◌, ◌++◌, All, map}
+use Rattle.std.specs.Prelude.{ℕ, List}
 use Rattle.geom.specs.declared.op.Op.{Op}
 use Rattle.geom.specs.declared.edge.Counted.{Counted}
-use Rattle.geom.specs.declared.directed.DirectedEdge.{DirectedEdge}
-use Rattle.geom.specs.Canonical.{ArePolygons, HaveEachEdge, Shape, written_rings}
-use Rattle.geom.specs.Directed.{AreResultEdges}
-use Rattle.geom.specs.ListOrder.{IsLeastRotation}
-use Rattle.geom.specs.Pixel.{Point}
-use Rattle.geom.specs.ResultEdges.{holds_at}
-use Rattle.geom.specs.RingParity.{ring_parity}
-use Rattle.polygonize.specs.Written.{AreSimple}
-use Rattle.wkt.specs.Canonical.{closed, multi_text}
-use Rattle.wkt.specs.Refusals.{IsLayerOf}
-use Rattle.engine.specs.declared.engine.Plan.{Plan}
-use Rattle.engine.specs.declared.text.Report.{Report}
-use Rattle.engine.specs.declared.operation.Wanted.{Wanted}
-use Rattle.engine.specs.declared.operation.Wanted.TheVariants.{Apply, Edges}
-use Rattle.engine.specs.Runs.{AreEdgesWrittenWithin, ReportsWithin, segment_limit}
-use Rattle.engine.specs.Texts.{edges_text_of}
-
--- The polygons are those of the result's directed edges: each shell with its holes, in order. Their rings together have each of these
--- edges once, none visits a point twice, and each is read from its least rotation. Any point lies in the polygons, by the even-odd rule
--- over all their rings, exactly where the operation holds of its parities in the two rounded layers.
-pub record IsResult (op : Op) (counted : List Counted) (polygons : List Shape) : Type 0 where
-  pub directed : List DirectedEdge
-  pub bound : AreResultEdges op counted directed
-  pub are_polygons : ArePolygons directed polygons
-  pub each_edge : HaveEachEdge directed polygons
-  pub simple : AreSimple (written_rings polygons)
-  pub least : All (λ ring. IsLeastRotation ring ring) (written_rings polygons)
-  pub points : (z : Point) → ring_parity (written_rings polygons) z ≡ holds_at op counted z
-
--- The text is the canonical line of the result's polygons. Without its line feed it reads back, by the grammar of layer texts, as exactly
--- their rings, each closed.
-pub record IsResultText (op : Op) (counted : List Counted) (text : List ℕ) : Type 0 where
-  pub polygons : List Shape
-  pub result : IsResult op counted polygons
-  pub written : text ≡ multi_text polygons
-  pub reads : (line : List ℕ) × (text ≡ line ++ 10 ∷ []) × IsLayerOf line (map closed (written_rings polygons))
+use Rattle.layers.specs.declared.plan.Plan.{Plan}
+use Rattle.results.specs.declared.text.Report.{Report}
+use Rattle.results.specs.declared.operation.Wanted.{Wanted}
+use Rattle.results.specs.declared.operation.Wanted.TheVariants.{Apply, Edges}
+use Rattle.engine.specs.Runs.{AreEdgesWrittenWithin, ReportsWithin}
+use Rattle.layers.specs.Refusals.{segment_limit}
+use Rattle.results.specs.Results.{IsResultText}
 
 -- the text of the result, and its report
 pub record IsResultWrittenWithin {M : Type 0} (limit : ℕ) (op : Op) (plan : Plan) (a b : List ℕ) (text : List ℕ) (report : Report M) : Type 0 where
@@ -48,11 +19,6 @@ pub record IsResultWrittenWithin {M : Type 0} (limit : ℕ) (op : Op) (plan : Pl
 -- the same where no limit is given
 abbrev pub IsResultWritten : {M : Type 0} → Op → Plan → List ℕ → List ℕ → List ℕ → Report M → Type 0
 IsResultWritten op plan a b text report = IsResultWrittenWithin segment_limit op plan a b text report
-
--- the text that is wanted of two rounded layers
-abbrev pub IsWantedText : Wanted → List Counted → List ℕ → Type 0
-IsWantedText Edges counted text = text ≡ edges_text_of counted
-IsWantedText (Apply op) counted text = IsResultText op counted text
 
 -- the text that is wanted, and its report
 abbrev pub IsWrittenWithin : {M : Type 0} → ℕ → Wanted → Plan → List ℕ → List ℕ → List ℕ → Report M → Type 0

@@ -1,35 +1,18 @@
 -- Two layers by their rings: what of them may be rounded, and the report on their rounded edges (own).
-use Rattle.std.specs.Prelude.{◌≡◌, ◌++◌, ◌+◌, ◌≤◌, ℕ, List, Option, length}
+use Rattle.std.specs.Prelude.{◌≡◌, ℕ, List, length}
 use Rattle.geom.specs.Rounded.{AreRounded}
-use Rattle.geom.specs.Segments.{AreSegments, layer_steps}
+use Rattle.geom.specs.Segments.{AreSegments}
 use Rattle.geom.specs.declared.edge.Counted.{Counted}
 use Rattle.geom.specs.declared.point.Pt.{Pt}
-use Rattle.geom.specs.declared.rect.Rect.{Rect}
 use Rattle.geom.specs.declared.segment.Seg.{Seg}
-use Rattle.grid.specs.Tiles.{IsGridOf, Tiling, most_tiles, tile_count}
+use Rattle.grid.specs.Tiles.{Tiling, tile_count}
 use Rattle.linking.specs.Gathered.{AreTileNumbers}
 use Rattle.linking.specs.declared.rounded.TileNumbers.{TileNumbers}
-use Rattle.engine.specs.declared.engine.Plan.{Plan}
-use Rattle.engine.specs.declared.text.Report.{Report}
-use Rattle.engine.specs.Rounds.{AreBoundsOf, IsRemade, TellsTiles}
-use Rattle.engine.specs.Runs.{IsPlan}
-
--- the number of segments of a layer with these rings
-abbrev pub steps_count : List (List Pt) → ℕ
-steps_count rings = length (layer_steps rings)
-
--- the grid of this side over the segments of the layers with these rings
-pub record IsGridOverRings (rings_a rings_b : List (List Pt)) (side : ℕ) (g : Tiling) : Type 0 where
-  pub bounds : Option Rect
-  pub are_bounds : AreBoundsOf (layer_steps rings_a ++ layer_steps rings_b) bounds
-  pub is_grid : IsGridOf bounds side g
-
--- the plan is within its limits, the layers with these rings have together at most so many segments, and the grid over them few tiles
-pub record AreRingsReady (limit : ℕ) (plan : Plan) (rings_a rings_b : List (List Pt)) (grid : Tiling) : Type 0 where
-  pub planned : IsPlan plan
-  pub few : steps_count rings_a + steps_count rings_b ≤ limit
-  pub is_grid : IsGridOverRings rings_a rings_b plan.side grid
-  pub few_tiles : tile_count grid ≤ most_tiles
+use Rattle.layers.specs.declared.plan.Plan.{Plan}
+use Rattle.results.specs.declared.text.Report.{Report}
+use Rattle.engine.specs.Rounds.{IsRemade, TellsTiles}
+use Rattle.layers.specs.Grids.{steps_count}
+use Rattle.layers.specs.ColumnsRefusals.{AreRingsReady}
 
 -- the counted edges are the rounded edges of the layers with these rings, and the tiles' numbers those of their pieces
 pub record AreRingsRounded (rings_a rings_b : List (List Pt)) (g : Tiling) (counted : List Counted) (tiles : List TileNumbers) : Type 0 where

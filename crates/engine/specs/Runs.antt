@@ -1,98 +1,21 @@
 -- What a run of the engine is refused for, and what it does to the sink (own).
-use Rattle.std.specs.Prelude.{◌≡◌, ◌≤◌, ◌<◌, ◌+◌, ℕ, IfSome, List, Result, length, MatchResult}
+use Rattle.std.specs.Prelude.{◌≡◌, ℕ, List, Result, length, MatchResult}
 use Rattle.geom.specs.declared.edge.Counted.{Counted}
 use Rattle.geom.specs.declared.fault.Fault.{Fault}
-use Rattle.geom.specs.declared.fault.Fault.TheVariants.{TooManySegments, BadTile, BadWorkers, TooManyTiles, Memory, Write}
+use Rattle.geom.specs.declared.fault.Fault.TheVariants.{Memory, Write}
 use Rattle.geom.specs.declared.fault.Part.{Part}
-use Rattle.geom.specs.declared.fault.Part.TheVariants.{A, B, Run}
+use Rattle.geom.specs.declared.fault.Part.TheVariants.{Run}
 use Rattle.geom.specs.declared.fault.RunFault.{RunFault}
-use Rattle.geom.specs.Segments.{layer_steps}
-use Rattle.geom.specs.declared.segment.Source.{Source}
-use Rattle.geom.specs.declared.segment.Source.TheVariants.{A as FromA, B as FromB}
-use Rattle.grid.specs.Tiles.{AreBounds, IsSide, Tiling, most_tiles, tile_count}
+use Rattle.grid.specs.Tiles.{Tiling}
 use Rattle.wkt.specs.LayerText.{Ring}
-use Rattle.wkt.specs.Outlines.{IsOutline}
-use Rattle.wkt.specs.declared.outline.Outline.{Outline}
-use Rattle.wkt.specs.Refusals.{IsAccepted, IsRefused, StandsFor, plain}
-use Rattle.wkt.specs.declared.read.OutlinedLayer.{OutlinedLayer}
-use Rattle.engine.specs.declared.text.Report.{Report}
-use Rattle.engine.specs.Sinks.{SentAll, SentPart, SinkState}
-use Rattle.engine.specs.Texts.{edges_text_of}
+use Rattle.results.specs.declared.text.Report.{Report}
+use Rattle.results.specs.Sinks.{SentAll, SentPart, SinkState}
+use Rattle.results.specs.Texts.{edges_text_of}
 use Rattle.linking.specs.declared.rounded.TileNumbers.{TileNumbers}
-use Rattle.engine.specs.Rounds.{AreRingsInLimit, AreRoundedOver, IsGridOver, IsRemade, TellsTiles}
-use Rattle.engine.specs.declared.engine.TheConstants.{SEGMENT_LIMIT}
-use Rattle.tile_book.specs.declared.draw.TheConstants.{MOST_HANDS}
+use Rattle.engine.specs.Rounds.{AreRoundedOver, IsRemade, TellsTiles}
 use Rattle.engine.specs.declared.engine.MadeInParts.{MadeInParts}
-use Rattle.engine.specs.declared.engine.Plan.{Plan}
-
--- the number of workers is within its limits
-pub record IsCrew (workers : ℕ) : Type 0 where
-  pub low : 1 ≤ workers
-  pub high : workers ≤ MOST_HANDS
-
-pub record IsPlan (plan : Plan) : Type 0 where
-  pub side : IsSide plan.side
-  pub workers : IsCrew plan.workers
-
--- what is wrong with a plan, the side of a tile before the number of workers
-abbrev pub IsPlanFault : Plan → Fault → Type 0
-IsPlanFault plan BadTile = ¬ IsSide plan.side
-IsPlanFault plan BadWorkers = IsSide plan.side × ¬ IsCrew plan.workers
-IsPlanFault plan _ = ⊥
-
--- the greatest number of segments in both layers, where no limit is given
-abbrev pub segment_limit : ℕ
-segment_limit = SEGMENT_LIMIT
-
--- the number of segments of a layer with these rings
-abbrev pub segment_count : List Ring → ℕ
-segment_count rings = length (layer_steps (plain rings))
-
--- the plan is within its limits, and so are the layers, which have these rings and together at most so many segments, and the grid over them
-pub record IsReadyWithin (limit : ℕ) (plan : Plan) (a b : List ℕ) (rings_a rings_b : List Ring) (grid : Tiling) : Type 0 where
-  pub planned : IsPlan plan
-  pub accepted_a : IsAccepted a rings_a
-  pub accepted_b : IsAccepted b rings_b
-  pub few : segment_count rings_a + segment_count rings_b ≤ limit
-  pub is_grid : IsGridOver rings_a rings_b plan.side grid
-  pub few_tiles : tile_count grid ≤ most_tiles
-
--- what is refused before anything is made, and where: the first of these that is at fault
-pub data IsRefusedAtWithin (limit : ℕ) (plan : Plan) (a b : List ℕ) : Part → Fault → Type 0 where
-  bad_tile : ¬ IsSide plan.side → IsRefusedAtWithin limit plan a b Run BadTile
-  bad_workers : IsSide plan.side → ¬ IsCrew plan.workers → IsRefusedAtWithin limit plan a b Run BadWorkers
-  bad_a : {f : Fault} → IsPlan plan → IsRefused a f → IsRefusedAtWithin limit plan a b A f
-  bad_b : {f : Fault} → IsPlan plan → (rings : List Ring) → IsAccepted a rings → IsRefused b f → IsRefusedAtWithin limit plan a b B f
-  too_many : IsPlan plan → (rings_a rings_b : List Ring) → IsAccepted a rings_a → IsAccepted b rings_b
-      → limit < segment_count rings_a + segment_count rings_b → IsRefusedAtWithin limit plan a b Run (TooManySegments (segment_count rings_a + segment_count rings_b))
-  too_many_tiles : IsPlan plan → (rings_a rings_b : List Ring) → IsAccepted a rings_a → IsAccepted b rings_b → segment_count rings_a + segment_count rings_b ≤ limit
-      → (grid : Tiling) → IsGridOver rings_a rings_b plan.side grid → most_tiles < tile_count grid → IsRefusedAtWithin limit plan a b Run (TooManyTiles (tile_count grid))
-
--- the plan is refused, whatever the limit and the layers are
-abbrev pub IsRefusedPlan : Plan → Part → Fault → Type 0
-IsRefusedPlan plan part fault = (limit : ℕ) (a b : List ℕ) → IsRefusedAtWithin limit plan a b part fault
-
-abbrev pub part_of : Source → Part
-part_of FromA = A
-part_of FromB = B
-
--- the text of a layer is accepted, and has this outline
-abbrev pub HasOutline : List ℕ → Outline → Type 0
-HasOutline text outline = (rings : List Ring) × IsAccepted text rings × IsOutline (plain rings) outline
-
--- what was read of a layer text: its outline, with its rings where they were kept, or why it is refused
-abbrev pub IsReading : {M : Type 0} → List ℕ → Result (OutlinedLayer M) Fault → Type 0
-IsReading text reading = MatchResult reading
-    (λ read. HasOutline text read.outline × AreBounds read.outline.bounds × IfSome read.layer (λ layer. StandsFor text layer × AreRingsInLimit layer))
-    (λ fault. IsRefused text fault)
-
--- the plan, the layers and this grid over them are within their limits; the layers have these numbers of segments
-pub record IsCheckedWithin (limit : ℕ) (plan : Plan) (a b : List ℕ) (segments_a segments_b : ℕ) (grid : Tiling) : Type 0 where
-  pub rings_a : List Ring
-  pub rings_b : List Ring
-  pub ready : IsReadyWithin limit plan a b rings_a rings_b grid
-  pub count_a : segments_a ≡ segment_count rings_a
-  pub count_b : segments_b ≡ segment_count rings_b
+use Rattle.layers.specs.declared.plan.Plan.{Plan}
+use Rattle.layers.specs.Refusals.{IsReadyWithin, IsRefusedAtWithin, MayRunWithin, segment_count, segment_limit}
 
 -- the report of these edges: they are the rounded edges of the layers, and its numbers are those of the segments, the edges, the hot pixels and the records, of each tile and in all; and no more pieces were made anew than a desk has places
 pub record ReportsWithin {M : Type 0} (limit : ℕ) (plan : Plan) (a b : List ℕ) (counted : List Counted) (report : Report M) : Type 0 where
@@ -113,10 +36,6 @@ pub record AreEdgesWrittenWithin {M : Type 0} (limit : ℕ) (plan : Plan) (a b :
   pub counted : List Counted
   pub text_is : text ≡ edges_text_of counted
   pub reports : ReportsWithin limit plan a b counted report
-
--- the plan, the layers and the grid are within their limits
-abbrev pub MayRunWithin : ℕ → Plan → List ℕ → List ℕ → Type 0
-MayRunWithin limit plan a b = (rings_a : List Ring) × (rings_b : List Ring) × (grid : Tiling) × IsReadyWithin limit plan a b rings_a rings_b grid
 
 -- the text that was made was sent, and its report is answered; or the sink failed, and had taken a beginning of the text
 abbrev pub Delivers : {M : Type 0} → SinkState → SinkState → MadeInParts M → Result (Report M) RunFault → Type 0
@@ -159,12 +78,6 @@ DeclinesWithin limit plan a b part Memory = (part ≡ Run) × MayRunWithin limit
 DeclinesWithin limit plan a b part fault = IsRefusedAtWithin limit plan a b part fault
 
 -- ---- the same where no limit is given
-
-abbrev pub IsRefusedAt : Plan → List ℕ → List ℕ → Part → Fault → Type 0
-IsRefusedAt plan a b part fault = IsRefusedAtWithin segment_limit plan a b part fault
-
-abbrev pub MayRun : Plan → List ℕ → List ℕ → Type 0
-MayRun plan a b = MayRunWithin segment_limit plan a b
 
 abbrev pub Reports : {M : Type 0} → Plan → List ℕ → List ℕ → List Counted → Report M → Type 0
 Reports plan a b counted report = ReportsWithin segment_limit plan a b counted report

@@ -7,21 +7,22 @@ ghost use Rattle.grid.specs.Tiles.{tile_count};
 ghost use Rattle.linking.specs.Gathered.{AreTileNumbers, HaveTiles};
 ghost use Rattle.points_law.specs.Law.{AreLayers};
 ghost use Rattle.engine.specs.FaceBorders.{AreRoundedBorders};
-ghost use Rattle.engine.specs.Rounds.{AllInLimit, AreRoundedOver};
+ghost use Rattle.layers.specs.Segments.{AllInLimit};
+ghost use Rattle.engine.specs.Rounds.{AreRoundedOver};
 ghost use Rattle.engine.specs.Results.{IsResultWritten, IsResultWrittenWithin, IsWrittenWithin};
-ghost use Rattle.engine.specs.Runs.{AreEdgesWritten, AreEdgesWrittenWithin, Declines, DeclinesWithin, IsReading, alone};
+ghost use Rattle.engine.specs.Runs.{AreEdgesWritten, AreEdgesWrittenWithin, Declines, DeclinesWithin, alone};
+ghost use Rattle.layers.specs.Refusals.{IsReading};
 
 use crate::cells::{bins_of, cells_of};
-use crate::checking::{CheckedInput, Reading, check, check_plan};
-use crate::engine::{Limits, Output, Plan, or_fault, report_for};
-use crate::operation::{Wanted, text_of};
-use crate::reading::{read_segments, reading};
+use crate::engine::{Output, or_fault, report_for};
 use crate::rounds::Pieces;
 use geom::{NoMemory, Op, RunFault, Seg};
 use grid::Grid;
+use layers::{CheckedInput, Limits, Plan, Reading, check, check_plan, read_one, read_segments};
 use linking::{
     LimitedSegments, Noded, RoundedBorders, TilePiece, Tiled, gather_borders, gather_made, settled,
 };
+use results::{Wanted, text_of};
 use std::alloc::Allocator;
 use std::marker::{Brand, PhantomData};
 use tile_book::{Job, MOST_NUMBERS};
@@ -98,8 +99,8 @@ fn made_alone<A: Allocator + Copy>(
 {
     let plan = Plan { side, workers: 1 };
     check_plan(plan)?;
-    let read_a = reading(alloc, a);
-    let read_b = reading(alloc, b);
+    let read_a = read_one(alloc, a);
+    let read_b = read_one(alloc, b);
     match check(a, b, plan, limits, &read_a, &read_b) {
         Ok(checked) => or_fault(by_one(alloc, wanted, &checked, read_a, read_b)),
         Err(fault) => Err(fault),

@@ -4,24 +4,18 @@ ghost use Rattle.std.specs.Prelude.{◌≡◌, ◌≤◌, IfOk, List, MatchResul
 ghost use Rattle.geom.specs.declared.point.Pt.{Pt};
 ghost use Rattle.linking.specs.Gathered.{HaveTiles};
 ghost use Rattle.engine.specs.Faces.{AreBordersOf, AreBordersOver, AreFacesWritten, DeclinesFaces};
-ghost use Rattle.engine.specs.FeatureSegments.{AreFeaturesOf, AreOwned};
-ghost use Rattle.engine.specs.Layers.{HaveKept};
+ghost use Rattle.layers.specs.FeatureSegments.{AreFeaturesOf, AreOwned};
+ghost use Rattle.layers.specs.FeatureLayers.{HaveKept};
 ghost use Rattle.engine.specs.Runs.{alone};
 
 use crate::alone::features_alone;
 use crate::bounded_rows::{BoundedRows, bounded_rows_alone};
-use crate::checking::plan_fault;
-use crate::engine::Plan;
 use crate::face_text::rows_text_alone;
-use crate::faces_fault::FacesFault;
-use crate::faces_limits::FacesLimits;
 use crate::faces_report::FacesReport;
 use crate::faces_run::{FaceBorders, faces_report_of, or_want};
-use crate::feature_checking::{CheckedLayers, check_layers};
-use crate::feature_reading::{KeptFeatures, MOST_LAYERS, read_layers_alone};
-use crate::feature_segments::{FeatureSegments, feature_segments};
 use geom::NoMemory;
 use grid::Grid;
+use layers::{CheckedLayers, FacesFault, FacesLimits, FeatureSegments, KeptFeatures, MOST_LAYERS, Plan, check_layers, segments_of_texts, plan_fault, read_layers_alone};
 use std::alloc::Allocator;
 
 /// A text of faces, and the numbers of the run that made it.
@@ -66,7 +60,7 @@ fn borders_alone<A: Allocator + Copy>(
     ensures borders { IfOk result (AreBordersOver (map (λ t. t.now) checked.now.layers.now) checked.now.grid) }
     ensures none_remade { IfOk result (λ b. b.rounded.remade ≡ 0) }
 {
-    let all = feature_segments(alloc, checked, kept)?;
+    let all = segments_of_texts(alloc, checked, kept)?;
     borders_of_alone(alloc, &checked.grid, all)
 }
 

@@ -11,8 +11,8 @@ ghost use Rattle.engine.specs.BoundedRows.{AreBoundedRows, TellsManyIds};
 ghost use Rattle.engine.specs.FaceBorders.{borders_in};
 
 use crate::face_rows::face_sets_alone;
-use crate::faces_fault::FacesFault;
 use crate::faces_run::{few_ids, or_want};
+use layers::FacesFault;
 use linking::RoundedBorders;
 use rows::Row;
 use std::alloc::Allocator;

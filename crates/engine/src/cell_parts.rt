@@ -7,7 +7,8 @@
 ghost use Rattle.std.specs.Prelude.{◌^◌, ◌<◌, ◌≤◌, IfOk, length, slice_range};
 ghost use Rattle.grid.specs.Tiles.{AreBounds, BoundsHold};
 ghost use Rattle.linking.specs.Gathered.{HaveTiles};
-ghost use Rattle.engine.specs.Rounds.{AllInLimit, AreCellBins, AreCellRows};
+ghost use Rattle.layers.specs.Segments.{AllInLimit};
+ghost use Rattle.engine.specs.Rounds.{AreCellBins, AreCellRows};
 
 use crate::cells::{Extent, bins_of, cells_within, extent_of};
 use geom::{NoMemory, Seg};

@@ -11,11 +11,12 @@ ghost use Rattle.std.specs.Prelude.{◌≡◌, ◌++◌, IfOk, List, None, Some}
 ghost use Rattle.geom.specs.declared.segment.Seg.{Seg};
 ghost use Rattle.grid.specs.Tiles.{AreBounds, BoundsHold, CoversBounds};
 ghost use Rattle.linking.specs.Gathered.{HaveTiles};
-ghost use Rattle.engine.specs.Rounds.{AllInLimit, AreCellBins};
+ghost use Rattle.layers.specs.Segments.{AllInLimit};
+ghost use Rattle.engine.specs.Rounds.{AreCellBins};
 
-use crate::checking::joint_bounds;
 use geom::{NoMemory, Rect, Seg};
 use grid::{GREATEST_SIDE, Grid, KeptBins, MOST_TILES};
+use layers::joint_bounds;
 use std::alloc::Allocator;
 
 /// How many cells a worker has at least, where that is cheap.

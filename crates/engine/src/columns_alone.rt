@@ -2,19 +2,19 @@
 
 ghost use Rattle.std.specs.Prelude.{◌≡◌, IfOk, MatchResult};
 ghost use Rattle.points_law.specs.Law.{AreLayers};
-ghost use Rattle.engine.specs.ColumnsRuns.{AreColumnsMade, DeclinesColumns, IsCheckOf, rings_of};
+ghost use Rattle.engine.specs.ColumnsRuns.{AreColumnsMade, DeclinesColumns};
+ghost use Rattle.layers.specs.ColumnsRefusals.{IsCheckOf, rings_of};
 ghost use Rattle.engine.specs.RingLayers.{AreRingsRounded};
 ghost use Rattle.engine.specs.Runs.{alone};
 
 use crate::alone::gathered_alone;
-use crate::columns_checking::{CheckedColumns, check_columns};
-use crate::columns_output::{ColumnsOutput, ColumnsRefused, or_refused, output_of};
+use crate::columns_output::{ColumnsOutput, or_refused, output_of};
 use crate::columns_run::columns_segments;
-use crate::engine::{Limits, Plan};
-use crate::operation::result_polygons;
 use columns::Columns;
 use geom::{NoMemory, Op};
+use layers::{CheckedColumns, ColumnsRefused, Limits, Plan, check_columns};
 use linking::Noded;
+use results::result_polygons;
 use std::alloc::Allocator;
 
 /// The result of an operation on two layers that are columns, over tiles of this side, and its report. It is refused as

@@ -3,18 +3,19 @@
 ghost use Rattle.std.specs.Prelude.{◌≡◌, ◌≤◌, ℕ, IfOk, List, MatchResult, length};
 ghost use Rattle.columns.specs.declared.layout.Columns.{Columns};
 ghost use Rattle.geom.specs.declared.op.Op.{Op};
-ghost use Rattle.engine.specs.ColumnsRuns.{AreColumnsMade, IsCheckOf, rings_of};
-ghost use Rattle.engine.specs.Results.{IsResult};
+ghost use Rattle.engine.specs.ColumnsRuns.{AreColumnsMade};
+ghost use Rattle.layers.specs.ColumnsRefusals.{IsCheckOf, rings_of};
+ghost use Rattle.results.specs.Results.{IsResult};
 ghost use Rattle.engine.specs.RingLayers.{AreRingsRounded};
 ghost use Rattle.engine.specs.Rounds.{IsRemade};
 
-use crate::columns_checking::CheckedColumns;
 use crate::rounds::report_of;
-use crate::text::Report;
 use columns::{ColumnsFault, OwnedColumns, columns_of};
 use geom::{Fault, NoMemory, Polygon};
 use grid::MOST_TILES;
+use layers::{CheckedColumns, ColumnsRefused};
 use linking::Noded;
+use results::Report;
 use std::alloc::Allocator;
 
 /// The polygons of a result as columns, and the numbers of the run that made them.
@@ -22,17 +23,6 @@ use std::alloc::Allocator;
 pub struct ColumnsOutput<A: Allocator> {
     pub columns: OwnedColumns<A>,
     pub report: Report<A>,
-}
-
-/// Why an operation on columns is refused: the refusals of columns are about a layer, the others about the run.
-#[derive(Clone, Copy, Debug, PartialEq, Eq)]
-pub enum ColumnsRefused {
-    /// The first layer.
-    A(ColumnsFault),
-    /// The second layer.
-    B(ColumnsFault),
-    /// The plan, the segments or tiles of both layers, or memory.
-    Run(Fault),
 }
 
 /// The columns of a result's polygons, and the report on the rounded edges.

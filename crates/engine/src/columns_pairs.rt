@@ -10,18 +10,16 @@ ghost use Rattle.geom.specs.Segments.{AreSegments};
 ghost use Rattle.columns.specs.Layout.{feature_rings_in, plain};
 ghost use Rattle.linking.specs.Gathered.{HaveTiles};
 ghost use Rattle.engine.specs.ColumnsPairs.{ArePairsMade, ArePairsRefused, DeclinesPairs, HaveResults, IsResultOfRings, MayRunPairs};
-ghost use Rattle.engine.specs.ColumnsRuns.{AreBothAccepted};
-ghost use Rattle.engine.specs.Rounds.{AllInLimit};
+ghost use Rattle.layers.specs.ColumnsRefusals.{AreBothAccepted};
+ghost use Rattle.layers.specs.Segments.{AllInLimit};
 
 use crate::alone::gathered_alone;
 use crate::cells::extent_of;
-use crate::checking::check_total;
-use crate::columns_output::ColumnsRefused;
-use crate::engine::Limits;
-use crate::operation::result_polygons;
 use columns::{Columns, OwnedColumns, columns_of, feature_count, push_feature, survey};
 use geom::{Fault, NoMemory, Op, Polygon, Pt, Rect, Seg, Source};
 use grid::Grid;
+use layers::{ColumnsRefused, Limits, check_total};
+use results::result_polygons;
 use std::alloc::Allocator;
 
 /// The results of an operation on pairs of features, as columns: a feature for each pair.

@@ -7,18 +7,19 @@
 ghost use Rattle.std.specs.Prelude.{IfOk, MatchResult};
 ghost use Rattle.geom.specs.Segments.{AreSegments};
 ghost use Rattle.points_law.specs.Law.{AreLayers};
-ghost use Rattle.engine.specs.ColumnsRuns.{AreBothAccepted, AreColumnsMade, DeclinesColumns, IsCheckOf, rings_of};
+ghost use Rattle.layers.specs.ColumnsRefusals.{AreBothAccepted, IsCheckOf, rings_of};
+ghost use Rattle.engine.specs.ColumnsRuns.{AreColumnsMade, DeclinesColumns};
 ghost use Rattle.engine.specs.RingLayers.{AreRingsRounded};
-ghost use Rattle.engine.specs.Rounds.{AllInLimit, IsRemade};
+ghost use Rattle.layers.specs.Segments.{AllInLimit};
+ghost use Rattle.engine.specs.Rounds.{IsRemade};
 
-use crate::columns_checking::{CheckedColumns, check_columns};
-use crate::columns_output::{ColumnsOutput, ColumnsRefused, or_refused, output_of};
-use crate::engine::{Limits, Plan};
-use crate::operation::result_polygons_by_workers;
+use crate::columns_output::{ColumnsOutput, or_refused, output_of};
 use crate::rounds::rounded_segments;
 use columns::{Columns, push_segments};
 use geom::{NoMemory, Op, Seg, Source};
+use layers::{CheckedColumns, ColumnsRefused, Limits, Plan, check_columns};
 use linking::Noded;
+use results::result_polygons_by_workers;
 use std::alloc::Allocator;
 use std::sync::Wait;
 use std::thread::Threads;

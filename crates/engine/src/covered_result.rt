@@ -9,12 +9,11 @@ ghost use Rattle.covered.specs.Covered.{AreCoveredEdges};
 ghost use Rattle.engine.specs.CoveredResults.{IsCoveredText};
 
 use crate::face_rows::swept_of;
-use crate::operation::line_by_workers;
-use crate::text_parts::TextParts;
 use cover_law::Border;
 use cover_sets::covers;
 use covered::covered_edges;
 use geom::{Directed, NoMemory, Op};
+use results::{TextParts, line_by_workers};
 use std::alloc::Allocator;
 use std::thread::Threads;
 

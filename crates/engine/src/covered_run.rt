@@ -8,23 +8,17 @@ ghost use Rattle.std.specs.Prelude.{◌≡◌, ◌≤◌, ◌<◌, [], ◌∷◌
 ghost use Rattle.engine.specs.CoveredRuns.{DeclinesCovered, DeliversCovered, IsCoveredWritten, RunsCovered, covered_limits};
 ghost use Rattle.engine.specs.Faces.{AreBordersOver};
 ghost use Rattle.engine.specs.Rounds.{TellsTiles};
-ghost use Rattle.engine.specs.Runs.{segment_limit};
+ghost use Rattle.layers.specs.Refusals.{segment_limit};
 
-use crate::checking::plan_fault;
 use crate::covered_result::covered_text;
-use crate::engine::{Limits, MadeInParts, Plan};
-use crate::faces_fault::FacesFault;
-use crate::faces_limits::FacesLimits;
+use crate::engine::MadeInParts;
 use crate::faces_run::{FaceBorders, face_borders, or_want};
-use crate::feature_checking::{CheckedLayers, check_layers};
-use crate::feature_reading::read_layers;
-use crate::feature_segments::LayerSize;
 use crate::rounds::{all_hot, all_records, told_of};
-use crate::sink::{Sink, write_parts};
-use crate::text::Report;
 use geom::{Fault, NoMemory, Op};
 use grid::MOST_TILES;
+use layers::{CheckedLayers, FacesFault, FacesLimits, LayerSize, Limits, Plan, check_layers, plan_fault, read_layers};
 use linking::RoundedBorders;
+use results::{Report, Sink, write_parts};
 use std::alloc::Allocator;
 use std::sync::Wait;
 use std::thread::Threads;

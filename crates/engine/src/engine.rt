@@ -7,52 +7,21 @@
 //! 4. Only now is the sink called: it is sent the text whole (`send`).
 
 ghost use Rattle.std.specs.Prelude.{◌≡◌, ◌<◌, ℕ, IfOk, List, MatchResult};
-ghost use Rattle.engine.specs.Results.{IsResultWritten, IsResultWrittenWithin, IsWantedText, IsWrittenWithin};
+ghost use Rattle.engine.specs.Results.{IsResultWritten, IsResultWrittenWithin, IsWrittenWithin};
+ghost use Rattle.results.specs.Results.{IsWantedText};
 ghost use Rattle.engine.specs.Rounds.{AreRoundedOver, IsRemade};
-ghost use Rattle.engine.specs.Runs.{AreEdgesWritten, AreEdgesWrittenWithin, DeclinesWithin, Delivers, Runs, RunsWithin, segment_limit};
+ghost use Rattle.engine.specs.Runs.{AreEdgesWritten, AreEdgesWrittenWithin, DeclinesWithin, Delivers, Runs, RunsWithin};
+ghost use Rattle.layers.specs.Refusals.{segment_limit};
 
-use crate::checking::{CheckedInput, check, check_plan};
-use crate::operation::{Wanted, text_by_workers};
-use crate::reading::read_both;
 use crate::rounds::{report_of, rounded_layers};
-use crate::sink::{Sink, write_parts};
-use crate::text::Report;
-use crate::text_parts::TextParts;
 use geom::{Fault, NoMemory, Op, Part, RunFault};
+use layers::{CheckedInput, Limits, Plan, check, check_plan, read_both};
 use linking::Noded;
+use results::{Report, Sink, TextParts, Wanted, text_by_workers, write_parts};
 use std::alloc::Allocator;
 use std::sync::Wait;
 use std::thread::Threads;
 use tile_book::Gate;
-
-/// How a run is divided. It has no influence on the text.
-#[derive(Clone, Copy, Debug)]
-pub struct Plan {
-    /// The side of a tile, in grid units, 16 to 33,554,432.
-    pub side: u32,
-    /// The number of threads at work, 1 to 64.
-    pub workers: u32,
-}
-
-/// The greatest number of segments in both layers together, where no limit is given.
-pub(crate) const SEGMENT_LIMIT: u32 = 1_048_576;
-
-/// How large an input may be. A greater limit costs no time or memory by itself.
-#[derive(Clone, Copy, Debug)]
-pub struct Limits {
-    /// The most segments that both layers may have together: 1,048,576 where no limit is given.
-    pub segments: u32,
-}
-
-impl Default for Limits {
-    fn default() -> Limits
-        ensures { result.segments ≡ segment_limit }
-    {
-        Limits {
-            segments: SEGMENT_LIMIT,
-        }
-    }
-}
 
 /// A text, and the numbers of the run that made it.
 #[derive(Drop)]

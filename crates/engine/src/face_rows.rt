@@ -12,12 +12,13 @@ ghost use Rattle.cover_law.specs.Rows.{AreRows, Row as RowOf};
 ghost use Rattle.label_sweep.specs.Swept.{AreSwept};
 ghost use Rattle.rows.specs.Made.{AreReady, ids_in, row_of};
 ghost use Rattle.rows.specs.RowEdges.{AreEdgesOfRows};
-ghost use Rattle.engine.specs.FaceRows.{AreFaceSets, IsNumberOfIds, uncounted};
+ghost use Rattle.engine.specs.FaceRows.{AreFaceSets, uncounted};
+ghost use Rattle.layers.specs.FacesRefusals.{IsNumberOfIds};
 
-use hands::worth;
 use cover_law::Border;
 use cover_sets::{Sets, covers};
 use geom::{Counted, NoMemory};
+use hands::worth;
 use label_sweep::{SweptEdge, swept_edges, swept_edges_in_parts};
 use rows::{Row, RowEdges, count_ids, row_edges, rows_in_parts, rows_of};
 use std::alloc::Allocator;

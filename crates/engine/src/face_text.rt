@@ -5,12 +5,12 @@ ghost use Rattle.cover_law.specs.Areas.{row_area};
 ghost use Rattle.faces_text.specs.Text.{rows_text};
 ghost use Rattle.rows.specs.Made.{row_of};
 
-use crate::feature_segments::LayerSize;
-use crate::text_parts::TextParts;
-use hands::worth;
 use faces_text::push_row;
 use geom::{NoMemory, Polygon};
+use hands::worth;
 use hands::{Part, map_parts, parts_of_work};
+use layers::LayerSize;
+use results::TextParts;
 use rows::Row;
 use std::alloc::Allocator;
 use std::thread::Threads;

@@ -7,24 +7,20 @@
 ghost use Rattle.std.specs.Prelude.{◌≡◌, ◌<◌, ◌≤◌, All, AllPairs, IfOk, MatchResult, length, map, sum};
 ghost use Rattle.cover_law.specs.Areas.{row_area};
 ghost use Rattle.rows.specs.Made.{row_of};
-ghost use Rattle.engine.specs.ColumnLayers.{IsCheckOfColumns, features_in};
+ghost use Rattle.layers.specs.ColumnLayers.{IsCheckOfColumns, features_in};
 ghost use Rattle.engine.specs.FaceColumns.{AreColumnsOfBorders, AreFaceColumnsMade, DeclinesFaceColumns};
 ghost use Rattle.engine.specs.Faces.{AreBordersOf};
 ghost use Rattle.engine.specs.Runs.{alone};
 
 use crate::alone_faces::borders_of_alone;
 use crate::bounded_rows::{BoundedRows, bounded_rows_alone};
-use crate::column_layers::{CheckedColumnLayers, check_column_layers, column_segments};
-use crate::engine::Plan;
 use crate::face_text::feature_counts;
-use crate::faces_fault::{FacesFault, FacesRefusal};
-use crate::faces_limits::FacesLimits;
 use crate::faces_report::FacesReport;
 use crate::faces_run::{FaceBorders, faces_report_of, or_want};
-use crate::feature_reading::MOST_LAYERS;
 use columns::{Columns, ColumnsFault};
 use geom::NoMemory;
 use grid::MOST_TILES;
+use layers::{CheckedColumnLayers, FacesColumnsRefused, FacesFault, FacesLimits, FacesRefusal, MOST_LAYERS, Plan, check_column_layers, column_segments};
 use rows::{RowColumns, columns_of_rows};
 use std::alloc::Allocator;
 
@@ -33,15 +29,6 @@ use std::alloc::Allocator;
 pub struct FacesColumns<A: Allocator> {
     pub columns: RowColumns<A>,
     pub report: FacesReport<A>,
-}
-
-/// Why the faces of columns are refused.
-#[derive(Clone, Copy, Debug, PartialEq, Eq)]
-pub enum FacesColumnsRefused {
-    /// The layer of this number, counted from 0.
-    Layer(u8, ColumnsFault),
-    /// The plan, the segments or tiles of all layers, the features of all rows, or memory.
-    Run(FacesRefusal),
 }
 
 /// The rows of the faces of up to 64 layers that are columns, over tiles of this side, as columns, and the report. It is refused for the first of

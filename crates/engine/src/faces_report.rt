@@ -3,9 +3,9 @@
 ghost use Rattle.std.specs.Prelude.{◌≡◌, ◌++◌, IfOk, OnOk};
 ghost use Rattle.engine.specs.FaceWords.{faces_report_of, faces_sums_of, faces_totals_of, features_line, segments_line};
 
-use crate::feature_segments::LayerSize;
-use crate::text::{push_line, push_number, push_tile};
 use geom::NoMemory;
+use layers::LayerSize;
+use results::{push_line, push_number, push_tile};
 use std::alloc::{AllocError, Allocator};
 
 /// The numbers of a run that made faces.

@@ -6,26 +6,20 @@
 //! 4. The rows give the text and the report (`face_text`); only then is the sink called: it is sent the text whole.
 
 ghost use Rattle.std.specs.Prelude.{◌≡◌, ◌<◌, ◌≤◌, IfOk, MatchResult, length, map};
-ghost use Rattle.engine.specs.Faces.{AreBordersOver, AreFacesWritten, DeclinesFaces, DeliversFaces, RunsFaces, faces_limits};
-ghost use Rattle.engine.specs.Layers.{HaveKept};
+ghost use Rattle.engine.specs.Faces.{AreBordersOver, AreFacesWritten, DeclinesFaces, DeliversFaces, RunsFaces};
+ghost use Rattle.layers.specs.FacesRefusals.{faces_limits};
+ghost use Rattle.layers.specs.FeatureLayers.{HaveKept};
 ghost use Rattle.engine.specs.Rounds.{TellsTiles};
 
-use crate::checking::plan_fault;
-use crate::engine::Plan;
 use crate::face_rows::face_sets;
 use crate::face_text::rows_text_by_workers;
-use crate::faces_fault::{FacesFault, FacesPart, FacesRefusal};
-use crate::faces_limits::FacesLimits;
 use crate::faces_report::FacesReport;
-use crate::feature_checking::{CheckedLayers, check_layers};
-use crate::feature_reading::{KeptFeatures, MOST_LAYERS, read_layers};
-use crate::feature_segments::{FeatureSegments, LayerSize, feature_segments};
 use crate::rounds::{all_hot, all_records, rounded_features, told_of};
-use crate::sink::{Sink, write_parts};
-use crate::text_parts::TextParts;
 use geom::{Fault, NoMemory};
 use grid::MOST_TILES;
+use layers::{CheckedLayers, FacesFault, FacesLimits, FacesPart, FacesRefusal, FeatureSegments, KeptFeatures, LayerSize, MOST_LAYERS, Plan, check_layers, segments_of_texts, plan_fault, read_layers};
 use linking::RoundedBorders;
+use results::{Sink, TextParts, write_parts};
 use rows::Row;
 use std::alloc::Allocator;
 use std::sync::Wait;
@@ -126,7 +120,7 @@ pub(crate) fn face_borders<
     requires { HaveKept (map (λ t. t.now) checked.now.layers.now) kept }
     ensures { IfOk result (AreBordersOver (map (λ t. t.now) checked.now.layers.now) checked.now.grid) }
 {
-    let all = feature_segments(alloc, checked, kept)?;
+    let all = segments_of_texts(alloc, checked, kept)?;
     let FeatureSegments {
         segments,
         owners,

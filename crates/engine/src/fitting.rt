@@ -3,19 +3,15 @@
 ghost use Rattle.std.specs.Prelude.{ℕ, ◌≡◌, IfOk, MatchResult, map};
 ghost use Rattle.grid.specs.Tiles.{AreBounds};
 ghost use Rattle.wkt.specs.Refusals.{IsRefused};
-ghost use Rattle.engine.specs.ColumnsRuns.{AreColumnsRefused};
-ghost use Rattle.engine.specs.Faces.{IsFacesRefusedAt};
+ghost use Rattle.layers.specs.ColumnsRefusals.{AreColumnsRefused};
+ghost use Rattle.layers.specs.FacesRefusals.{IsFacesRefusedAt};
 ghost use Rattle.engine.specs.Fitting.{IsFittingSide, IsFittingSideOfColumns, IsFittingSideOver};
-ghost use Rattle.engine.specs.Runs.{HasOutline, IsRefusedAtWithin};
+ghost use Rattle.layers.specs.Refusals.{HasOutline, IsRefusedAtWithin};
 
-use crate::checking::joint_bounds;
-use crate::columns_output::ColumnsRefused;
-use crate::engine::Plan;
-use crate::faces_fault::{FacesPart, FacesRefusal};
-use crate::faces_limits::FacesLimits;
 use columns::{Columns, survey};
 use geom::{Fault, Part};
 use grid::{DEFAULT_SIDE, default_side};
+use layers::{ColumnsRefused, FacesLimits, FacesPart, FacesRefusal, Plan, joint_bounds};
 use wkt::{Outline, check_layer};
 
 /// The side of a tile over two layers, in grid units, where none is given: 262,144, or where that gives too many tiles, the

@@ -5,7 +5,7 @@ ghost use Rattle.std.specs.Prelude.{◌≡◌};
 ghost use Rattle.geom.specs.Limit.{coordinate_limit};
 ghost use Rattle.grid.specs.Tiles.{most_tiles};
 ghost use Rattle.wkt.specs.Refusals.{length_limit};
-ghost use Rattle.engine.specs.Runs.{segment_limit};
+ghost use Rattle.layers.specs.Refusals.{segment_limit};
 ghost use Rattle.engine.specs.Determined.{EdgesSizesAreOne, EdgesSizesAreOneWithin, EdgesTextIsOne, EdgesTextIsOneWithin, RefusalIsOne, RefusalIsOneWithin, RefusedMayNotRun, RefusedMayNotRunWithin, ResultSizesAreOne, ResultSizesAreOneWithin, ResultTextIsOne, ResultTextIsOneWithin, RunReportsAsEdges, RunReportsAsEdgesWithin, TilesAreOne, TilesAreOneWithin};
 ghost use Rattle.engine.specs.ColumnsLaws.{ColumnsAnswerIsOne, ColumnsRefusalIsOne, ColumnsSizesAreOne, PairIsByColumns, RefusedColumnsMayNotRun, RunIsByColumns};
 ghost use Rattle.engine.specs.ColumnsPairs.{PairsRefusalIsOne, RefusedPairsMayNotRun};

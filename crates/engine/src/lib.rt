@@ -1,8 +1,8 @@
 //! The engine: layer texts, a plan and a sink in; the text of their rounded edges, of an operation's result, or of their faces, out.
 //!
-//! 1. Both texts are read, and plan and texts are accepted or refused (`reading`, `checking`).
+//! 1. Both texts are read, and plan and texts are accepted or refused (`layers`).
 //! 2. The segments are rounded by workers over cells, and the edges are put together (`rounds`).
-//! 3. The text that is wanted is made (`operation`) and sent (`sink`), with a report.
+//! 3. The text that is wanted is made and sent (`results`), with a report.
 //!
 //! Faces are made of the features of up to 64 layers, on a road of their own through the same rounds (`faces_run`).
 //!
@@ -21,10 +21,7 @@ mod alone_faces;
 mod bounded_rows;
 mod cell_parts;
 mod cells;
-mod checking;
-mod column_layers;
 mod columns_alone;
-mod columns_checking;
 mod columns_output;
 mod columns_pairs;
 mod columns_run;
@@ -34,39 +31,23 @@ mod engine;
 mod face_rows;
 mod face_text;
 mod faces_columns;
-mod faces_fault;
-mod faces_limits;
 mod faces_report;
 mod faces_run;
-mod feature_checking;
-mod feature_reading;
-mod feature_segments;
 mod fitting;
 mod laws;
-mod line_parts;
-mod operation;
-mod reading;
 mod rounds;
-mod segments;
-mod sink;
-mod text;
-mod text_parts;
 
 pub use alone::{edges_alone, edges_alone_within, run_alone, run_alone_within};
 pub use alone_faces::{FacesOutput, faces_alone};
 pub use columns_alone::run_columns_alone_within;
-pub use columns_output::{ColumnsOutput, ColumnsRefused};
+pub use columns_output::ColumnsOutput;
 pub use columns_pairs::{PairsOutput, PairsRefused, run_pairs_alone_within};
 pub use columns_run::run_columns_within;
 pub use covered_run::{run_covered, run_covered_within};
-pub use engine::{Limits, Output, Plan, edges, edges_within, run, run_within};
-pub use faces_columns::{FacesColumns, FacesColumnsRefused, faces_columns_alone};
-pub use faces_fault::{FacesFault, FacesPart, FacesRefusal, faces_line, faces_status, layer_name};
-pub use faces_limits::FacesLimits;
+pub use engine::{Output, edges, edges_within, run, run_within};
+pub use faces_columns::{FacesColumns, faces_columns_alone};
 pub use faces_report::{FacesReport, faces_report_text};
 pub use faces_run::{faces, faces_within};
-pub use feature_reading::MOST_LAYERS;
-pub use feature_segments::LayerSize;
 pub use fitting::{fitting_side, fitting_side_of_columns, fitting_side_over};
 pub use laws::{
     columns_answer_is_one, columns_refused_for_one_reason, counts_are_exact, covered_text_is_one,
@@ -75,6 +56,10 @@ pub use laws::{
     limits_are_numbers, one_refusal, pair_is_by_columns, pairs_refused_for_one_reason,
     result_text_is_one, run_is_by_columns, run_reports_as_edges, tiles_are_one,
 };
-pub use operation::result_text;
-pub use sink::{MemSink, Sink, SinkFault, write_all};
-pub use text::{Report, line, report_text, status};
+pub use layers::{
+    ColumnsRefused, FacesColumnsRefused, FacesFault, FacesLimits, FacesPart, FacesRefusal,
+    LayerSize, Limits, MOST_LAYERS, Plan, faces_line, faces_status, layer_name, line, status,
+};
+pub use results::{
+    MemSink, Report, Sink, SinkFault, report_text, result_text, write_all,
+};

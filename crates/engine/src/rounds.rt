@@ -11,20 +11,20 @@ ghost use Rattle.linking.specs.Gathered.{AreTileNumbers, HaveTiles};
 ghost use Rattle.points_law.specs.Law.{AreLayers};
 ghost use Rattle.tile_book.specs.Books.{StandInOrder};
 ghost use Rattle.engine.specs.FaceBorders.{AreRoundedBorders};
-ghost use Rattle.engine.specs.Rounds.{AllInLimit, AreCellBins, AreRoundedOver, IsRemade, TellsTiles};
-ghost use Rattle.engine.specs.Runs.{IsReading};
+ghost use Rattle.layers.specs.Segments.{AllInLimit};
+ghost use Rattle.engine.specs.Rounds.{AreCellBins, AreRoundedOver, IsRemade, TellsTiles};
+ghost use Rattle.layers.specs.Refusals.{IsReading};
 
 use crate::cell_parts::{bins_in_parts, cells_in_parts};
-use crate::checking::{CheckedInput, Reading};
-use crate::reading::read_segments_by_workers;
-use crate::text::Report;
-use hands::worth;
 use geom::{NoMemory, Seg};
 use grid::{Grid, KeptBins, MOST_TILES};
+use hands::worth;
+use layers::{CheckedInput, Reading, read_segments_by_workers};
 use linking::{
     LimitedSegments, Noded, RoundedBorders, TileNumbers, TilePiece, Tiled, gather_borders_in_parts,
     gather_made_in_parts, settled,
 };
+use results::Report;
 use routing::part;
 use std::alloc::Allocator;
 use std::marker::{Brand, PhantomData};

@@ -1,7 +1,7 @@
 //! A sink that fails at one of its calls.
 
 ghost use Rattle.std.specs.Prelude.{◌≡◌, ◌<◌, Some};
-ghost use Rattle.engine.specs.Sinks.{SinkState};
+ghost use Rattle.results.specs.Sinks.{SinkState};
 
 use engine::{Sink, SinkFault};
 use std::alloc::Allocator;

@@ -4,7 +4,7 @@ use Rattle.std.proofs.Math.Logic.{∥∥₁_map}
 use Rattle.std.specs.Prelude.{MatchResult, Result, Ok, Err}
 use Rattle.columns.specs.declared.layout.Columns.{Columns}
 use Rattle.rows.specs.declared.row_columns.RowColumns.{RowColumns}
-use Rattle.engine.specs.declared.faces_limits.FacesLimits.{FacesLimits}
+use Rattle.layers.specs.declared.faces_limits.FacesLimits.{FacesLimits}
 use Rattle.engine.specs.declared.faces_report.FacesReport.{FacesReport}
 use Rattle.engine.specs.FaceColumns.{AreFaceColumnsMade}
 use Rattle.engine.specs.Runs.{alone}

@@ -1,7 +1,7 @@
 -- From what the engine says of faces to what a call for C says.
 use Rattle.std.proofs.Common.{ℕ, ◌≤◌, List, subst}
 use Rattle.std.proofs.Math.Logic.{∥∥₁_map}
-use Rattle.engine.specs.declared.faces_limits.FacesLimits.{FacesLimits}
+use Rattle.layers.specs.declared.faces_limits.FacesLimits.{FacesLimits}
 use Rattle.engine.specs.declared.faces_report.FacesReport.{FacesReport}
 use Rattle.engine.specs.Faces.{AreFacesWritten}
 use Rattle.engine.specs.Runs.{alone}

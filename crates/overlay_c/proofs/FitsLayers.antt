@@ -11,14 +11,14 @@ use Rattle.wkt.specs.declared.outline.Outline.{Outline}
 use Rattle.columns.specs.declared.fault.ColumnsFault.{ColumnsFault}
 use Rattle.columns.specs.declared.layout.Columns.{Columns}
 use Rattle.columns.specs.Refusals.{AreAccepted, AreRefused}
-use Rattle.engine.specs.ColumnLayers.{AllAccepted, features_in, features_of}
-use Rattle.engine.specs.ColumnsRuns.{rings_of}
-use Rattle.engine.specs.FeatureSegments.{all_steps, feature_steps}
-use Rattle.engine.specs.Rounds.{AreBoundsOf, AreJointBounds}
-use Rattle.engine.proofs.ColumnLayers.{accepted_at, accepted_more, steps_of_columns}
+use Rattle.layers.specs.ColumnLayers.{AllAccepted, features_in, features_of}
+use Rattle.layers.specs.ColumnsRefusals.{rings_of}
+use Rattle.layers.specs.FeatureSegments.{all_steps, feature_steps}
+use Rattle.layers.specs.Grids.{AreBoundsOf, AreJointBounds}
+use Rattle.layers.proofs.ColumnLayers.{accepted_at, accepted_more, steps_of_columns}
 use Rattle.engine.proofs.OneColumnsRefusal.{taken}
 use Rattle.engine.proofs.OneRefusal.{grid_over_same}
-use Rattle.engine.proofs.ReadLaws.{steps_snoc}
+use Rattle.layers.proofs.ReadLaws.{steps_snoc}
 use Rattle.overlay_c.specs.declared.columns_layer.OverlayColumns.{OverlayColumns}
 use Rattle.overlay_c.specs.Columns.{columns_in}
 use Rattle.overlay_c.specs.FacesColumns.{IsFittingSideOfLayers, layers_in}

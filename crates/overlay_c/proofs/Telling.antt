@@ -5,7 +5,7 @@ use Rattle.geom.specs.declared.edge.Counted.{Counted}
 use Rattle.geom.specs.declared.fault.RunFault.{RunFault}
 use Rattle.geom.specs.declared.op.Op.{Op}
 use Rattle.engine.specs.declared.engine.Output.{Output}
-use Rattle.engine.specs.declared.text.Report.{Report}
+use Rattle.results.specs.declared.text.Report.{Report}
 use Rattle.engine.specs.Results.{IsResultWrittenWithin}
 use Rattle.engine.specs.Runs.{AreEdgesWrittenWithin, DeclinesWithin, ReportsWithin, alone}
 use Rattle.overlay_c.specs.declared.answer.OverlayAnswer.{OverlayAnswer}

@@ -9,10 +9,12 @@ use Rattle.geom.specs.declared.fault.Part.TheVariants.{A, B, Run}
 use Rattle.geom.specs.declared.segment.Seg.{Seg}
 use Rattle.geom.specs.Fault.{fault_words, number_of}
 use Rattle.geom.specs.Rounded.{AreRounded}
-use Rattle.engine.specs.Results.{IsResultText}
-use Rattle.engine.specs.Rounds.{AreSegmentsOf}
-use Rattle.engine.specs.Runs.{DeclinesWithin, MayRunWithin, alone}
-use Rattle.engine.specs.Texts.{edges_text_of, place_words, status_of_fault}
+use Rattle.results.specs.Results.{IsResultText}
+use Rattle.layers.specs.Segments.{AreSegmentsOf}
+use Rattle.engine.specs.Runs.{DeclinesWithin, alone}
+use Rattle.layers.specs.Refusals.{MayRunWithin}
+use Rattle.results.specs.Texts.{edges_text_of}
+use Rattle.layers.specs.FaultWords.{place_words, status_of_fault}
 use Rattle.overlay_c.specs.declared.answer.OverlayAnswer.{OverlayAnswer}
 use Rattle.overlay_c.specs.declared.made.Task.{Task}
 use Rattle.overlay_c.specs.declared.made.Task.TheVariants.{Apply, Edges}

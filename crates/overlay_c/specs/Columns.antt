@@ -18,10 +18,11 @@ use Rattle.columns.specs.declared.layout.Points.TheVariants.{Interleaved}
 use Rattle.columns.specs.Answers.{closed_rings, coordinates_of, offsets_from}
 use Rattle.columns.specs.Faults.{number_of}
 use Rattle.columns.specs.Layout.{joined}
-use Rattle.engine.specs.declared.columns_output.ColumnsRefused.{ColumnsRefused}
-use Rattle.engine.specs.declared.columns_output.ColumnsRefused.TheVariants.{A, B, Run}
-use Rattle.engine.specs.ColumnsRuns.{DeclinesColumns, MayRunColumns, rings_of}
-use Rattle.engine.specs.Results.{IsResult}
+use Rattle.layers.specs.declared.columns_refused.ColumnsRefused.{ColumnsRefused}
+use Rattle.layers.specs.declared.columns_refused.ColumnsRefused.TheVariants.{A, B, Run}
+use Rattle.engine.specs.ColumnsRuns.{DeclinesColumns}
+use Rattle.layers.specs.ColumnsRefusals.{MayRunColumns, rings_of}
+use Rattle.results.specs.Results.{IsResult}
 use Rattle.engine.specs.Runs.{alone}
 use Rattle.overlay_c.specs.declared.columns_answer.OverlayColumnsAnswer.{OverlayColumnsAnswer}
 use Rattle.overlay_c.specs.declared.columns_layer.OverlayColumns.{OverlayColumns}

@@ -6,17 +6,17 @@ use Rattle.grid.specs.Tiles.{Tiling}
 use Rattle.grid.specs.declared.sides.TheConstants.{DEFAULT_SIDE}
 use Rattle.faces_text.specs.Text.{IsFacesText}
 use Rattle.rows.specs.Made.{ids_in}
-use Rattle.engine.specs.declared.faces_fault.FacesFault.{FacesFault}
-use Rattle.engine.specs.declared.faces_fault.FacesPart.{FacesPart}
-use Rattle.engine.specs.declared.faces_fault.FacesPart.TheVariants.{Layer, Run}
-use Rattle.engine.specs.declared.faces_fault.FacesRefusal.{FacesRefusal}
-use Rattle.engine.specs.declared.faces_fault.FacesRefusal.TheVariants.{Usual, TooManyIds}
-use Rattle.engine.specs.declared.faces_limits.FacesLimits.{FacesLimits}
-use Rattle.engine.specs.declared.feature_reading.TheConstants.{MOST_LAYERS}
+use Rattle.layers.specs.declared.faces_fault.FacesFault.{FacesFault}
+use Rattle.layers.specs.declared.faces_fault.FacesPart.{FacesPart}
+use Rattle.layers.specs.declared.faces_fault.FacesPart.TheVariants.{Layer, Run}
+use Rattle.layers.specs.declared.faces_fault.FacesRefusal.{FacesRefusal}
+use Rattle.layers.specs.declared.faces_fault.FacesRefusal.TheVariants.{Usual, TooManyIds}
+use Rattle.layers.specs.declared.faces_limits.FacesLimits.{FacesLimits}
+use Rattle.layers.specs.declared.feature_reading.TheConstants.{MOST_LAYERS}
 use Rattle.engine.specs.Faces.{DeclinesFaces}
-use Rattle.engine.specs.FaceWords.{faces_status_of}
+use Rattle.layers.specs.FaultWords.{faces_status_of}
 use Rattle.engine.specs.Fitting.{IsFittingSideOver}
-use Rattle.engine.specs.Layers.{AreReady}
+use Rattle.layers.specs.FeatureLayers.{AreReady}
 use Rattle.engine.specs.Runs.{alone}
 use Rattle.overlay_c.specs.declared.answer.OverlayAnswer.{OverlayAnswer}
 use Rattle.overlay_c.specs.declared.faces.OverlayLayer.{OverlayLayer}

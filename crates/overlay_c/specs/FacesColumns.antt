@@ -13,15 +13,15 @@ use Rattle.cover_law.specs.Rows.{Row}
 use Rattle.rows.specs.Made.{ids_in}
 use Rattle.rows.specs.RowColumns.{set_lists, shapes_in}
 use Rattle.rows.specs.declared.row_columns.RowColumns.{RowColumns}
-use Rattle.engine.specs.declared.faces_columns.FacesColumnsRefused.{FacesColumnsRefused}
-use Rattle.engine.specs.declared.faces_columns.FacesColumnsRefused.TheVariants.{Layer, Run}
-use Rattle.engine.specs.declared.faces_limits.FacesLimits.{FacesLimits}
-use Rattle.engine.specs.declared.feature_reading.TheConstants.{MOST_LAYERS}
-use Rattle.engine.specs.ColumnLayers.{AllAccepted, AreColumnLayersReady, features_in}
+use Rattle.layers.specs.declared.columns_refused.FacesColumnsRefused.{FacesColumnsRefused}
+use Rattle.layers.specs.declared.columns_refused.FacesColumnsRefused.TheVariants.{Layer, Run}
+use Rattle.layers.specs.declared.faces_limits.FacesLimits.{FacesLimits}
+use Rattle.layers.specs.declared.feature_reading.TheConstants.{MOST_LAYERS}
+use Rattle.layers.specs.ColumnLayers.{AllAccepted, AreColumnLayersReady, features_in}
 use Rattle.engine.specs.FaceColumns.{DeclinesFaceColumns}
-use Rattle.engine.specs.FaceWords.{faces_status_of}
-use Rattle.engine.specs.FeatureSegments.{all_features}
-use Rattle.engine.specs.Layers.{IsGridOverLayers}
+use Rattle.layers.specs.FaultWords.{faces_status_of}
+use Rattle.layers.specs.FeatureSegments.{all_features}
+use Rattle.layers.specs.FeatureLayers.{IsGridOverLayers}
 use Rattle.engine.specs.Runs.{alone}
 use Rattle.overlay_c.specs.declared.columns_layer.OverlayColumns.{OverlayColumns}
 use Rattle.overlay_c.specs.declared.face_rooms.OverlayFaceRooms.{OverlayFaceRooms}

@@ -2,7 +2,7 @@
 
 ghost use Rattle.std.specs.Prelude.{◌≡◌, length};
 ghost use Rattle.engine.specs.Fitting.{IsFittingSide};
-ghost use Rattle.engine.specs.Runs.{segment_limit};
+ghost use Rattle.layers.specs.Refusals.{segment_limit};
 ghost use Rattle.overlay_c.specs.Boundary.{Fails, Fills, IsTextOf, Sizes};
 ghost use Rattle.overlay_c.specs.Faces.{AreFacesMade, FailsFaces, IsSideOver, texts_in};
 

@@ -2,7 +2,7 @@
 
 ghost use Rattle.std.specs.Prelude.{◌≡◌, ◌≤◌, MatchResult, length, take};
 ghost use Rattle.grid.specs.Tiles.{AreBounds};
-ghost use Rattle.engine.specs.Rounds.{AreJointBounds};
+ghost use Rattle.layers.specs.Grids.{AreJointBounds};
 ghost use Rattle.overlay_c.specs.FacesColumns.{AreFaceColumns, FailsFaceColumns, IsSideOfLayers, face_lists_of, layers_in};
 
 use crate::answer::NO_CALL;

@@ -2,7 +2,7 @@
 
 ghost use Rattle.std.specs.Prelude.{◌≡◌, ◌++◌, ◌⊎◌, IfOk, length, min, take};
 ghost use Rattle.geom.specs.Fault.{fault_words};
-ghost use Rattle.engine.specs.Texts.{place_words};
+ghost use Rattle.layers.specs.FaultWords.{place_words};
 ghost use Rattle.overlay_c.specs.Boundary.{Holds, fault_from, part_from, words_of};
 
 use crate::answer::{ANSWERED, NO_CALL, OverlayAnswer, SMALL};

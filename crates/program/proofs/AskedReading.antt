@@ -2,7 +2,7 @@
 use Rattle.std.proofs.Common.{◌≡◌, ℕ, List, Option, Some, None, subst, sym}
 use Rattle.std.specs.Prelude.{MatchOption}
 use Rattle.geom.specs.declared.op.Op.{Op}
-use Rattle.engine.specs.Sinks.{SinkState}
+use Rattle.results.specs.Sinks.{SinkState}
 use Rattle.program.specs.CommandLine.{operation_covered}
 use Rattle.program.specs.Program.{DoesByParity, DoesCovered, DoesOn}
 use Rattle.program.specs.declared.asked.Request.{Request}

@@ -2,12 +2,14 @@
 use Rattle.std.specs.Prelude.{◌≡◌, ◌⊎◌, ◌<◌, ℕ, Bool, true, false, List, [], ◌∷◌, ◌++◌, Option, Result, MatchOption, MatchResult, codes, length}
 use Rattle.std.specs.declared.alloc.Global.{Global}
 use Rattle.clap.specs.Words.{Text}
-use Rattle.engine.specs.Faces.{RunsFaces, faces_limits}
-use Rattle.engine.specs.FaceWords.{faces_report_of, layer_name}
-use Rattle.engine.specs.Sinks.{SinkState}
-use Rattle.engine.specs.declared.engine.Plan.{Plan}
-use Rattle.engine.specs.declared.faces_fault.FacesFault.{FacesFault}
-use Rattle.engine.specs.declared.faces_limits.FacesLimits.{FacesLimits}
+use Rattle.engine.specs.Faces.{RunsFaces}
+use Rattle.layers.specs.FacesRefusals.{faces_limits}
+use Rattle.engine.specs.FaceWords.{faces_report_of}
+use Rattle.layers.specs.FaultWords.{layer_name}
+use Rattle.results.specs.Sinks.{SinkState}
+use Rattle.layers.specs.declared.plan.Plan.{Plan}
+use Rattle.layers.specs.declared.faces_fault.FacesFault.{FacesFault}
+use Rattle.layers.specs.declared.faces_limits.FacesLimits.{FacesLimits}
 use Rattle.engine.specs.declared.faces_report.FacesReport.{FacesReport}
 use Rattle.program.specs.FacesLine.{IsFacesAskedBy, IsFacesRefusalOf, asks_for_faces}
 use Rattle.program.specs.Program.{DoesLine, IsChosenSideOver, Shows, TellsFacesFault, TellsFile, TellsLine, TellsMemory, limit_of}

@@ -4,17 +4,18 @@ use Rattle.std.specs.declared.alloc.Global.{Global}
 use Rattle.clap.specs.Words.{Text}
 use Rattle.grid.specs.declared.sides.TheConstants.{DEFAULT_SIDE}
 use Rattle.engine.specs.CoveredRuns.{RunsCovered}
-use Rattle.engine.specs.FaceWords.{faces_line_of, faces_status_of}
+use Rattle.layers.specs.FaultWords.{faces_line_of, faces_status_of, line_of, status_of}
 use Rattle.engine.specs.Fitting.{IsFittingSide, IsFittingSideOver}
 use Rattle.geom.specs.declared.fault.RunFault.{RunFault}
 use Rattle.geom.specs.declared.op.Op.{Op}
-use Rattle.engine.specs.Runs.{AreEdgesWrittenWithin, RunsWithin, segment_limit}
+use Rattle.engine.specs.Runs.{AreEdgesWrittenWithin, RunsWithin}
+use Rattle.layers.specs.Refusals.{segment_limit}
 use Rattle.engine.specs.Results.{IsResultWrittenWithin}
-use Rattle.engine.specs.Sinks.{SentAll, SentPart, SinkState}
-use Rattle.engine.specs.Texts.{line_of, report_of, status_of}
-use Rattle.engine.specs.declared.engine.Plan.{Plan}
-use Rattle.engine.specs.declared.faces_fault.FacesFault.{FacesFault}
-use Rattle.engine.specs.declared.text.Report.{Report}
+use Rattle.results.specs.Sinks.{SentAll, SentPart, SinkState}
+use Rattle.results.specs.Texts.{report_of}
+use Rattle.layers.specs.declared.plan.Plan.{Plan}
+use Rattle.layers.specs.declared.faces_fault.FacesFault.{FacesFault}
+use Rattle.results.specs.declared.text.Report.{Report}
 use Rattle.program.specs.CommandLine.{IsAskedBy, IsRefusalOf, operation_covered}
 use Rattle.program.specs.declared.asked.CliFault.{CliFault}
 use Rattle.program.specs.declared.asked.CliFault.TheVariants.{Unknown, CoveredEdges, Help, Refused, Memory}

@@ -1,5 +1,5 @@
 use Rattle.points_law.specs.Law.{AreLayers}
-use Rattle.engine.proofs.Results.{layers_known}
+use Rattle.results.proofs.Results.{layers_known}
 use Rattle.engine.proofs.alone.by_one.Goals as goal
 
 pub text_of-requires : goal.text_of-requires

@@ -1,4 +1,4 @@
-use Rattle.engine.proofs.Rounding.{if_five}
+use Rattle.results.proofs.Answering.{if_five}
 use Rattle.engine.proofs.alone.features_by_cells_alone.Goals as goal
 
 pub returns-clause-borders : goal.returns-clause-borders

@@ -3,7 +3,8 @@ use Rattle.geom.specs.declared.segment.Seg.{Seg}
 use Rattle.grid.specs.Tiles.{tile_count}
 use Rattle.linking.specs.Gathered.{AreTileNumbers, HaveTiles}
 use Rattle.engine.specs.FaceBorders.{AreRoundedBorders}
-use Rattle.engine.specs.Rounds.{AllInLimit, IsRemade}
+use Rattle.layers.specs.Segments.{AllInLimit}
+use Rattle.engine.specs.Rounds.{IsRemade}
 use Rattle.engine.proofs.alone_faces.borders_of_alone.Goals as goal
 
 pub features_alone-requires-clause-in_limit : goal.features_alone-requires-clause-in_limit

@@ -4,8 +4,8 @@ use Rattle.std.proofs.lemmas.Result.{IfOk-at_ok, err_from_is_err_and}
 use Rattle.faces_text.specs.Text.{rows_text}
 use Rattle.rows.specs.Made.{row_of}
 use Rattle.rows.specs.declared.parts.Row.{Row}
-use Rattle.engine.specs.declared.feature_segments.LayerSize.{LayerSize}
-use Rattle.engine.specs.FeatureSegments.{all_features}
+use Rattle.layers.specs.declared.feature_segments.LayerSize.{LayerSize}
+use Rattle.layers.specs.FeatureSegments.{all_features}
 use Rattle.engine.specs.Rounds.{TellsTiles}
 use Rattle.engine.proofs.FacesRunning.{memory_declines}
 use Rattle.engine.proofs.FacesWritten.{all_below, below_most, bounded_declines, counts_fit, few_tiles, may, over_borders, sets_ascend, some_over, written}

@@ -1,9 +1,10 @@
 use Rattle.std.proofs.Common.{Bor, List, ap, map, rules, subst, sym, ℕ}
 use Rattle.std.proofs.lemmas.Result.{err_from_is_err_and}
-use Rattle.engine.specs.Layers.{HaveKept}
-use Rattle.engine.specs.Runs.{IsPlan, alone}
+use Rattle.layers.specs.FeatureLayers.{HaveKept}
+use Rattle.layers.specs.Refusals.{IsPlan}
+use Rattle.engine.specs.Runs.{alone}
 use Rattle.engine.proofs.FacesRunning.{checked_ends, memory_declines, plan_declines, refused_declines}
-use Rattle.engine.proofs.LayersRefused.{layer_refused}
+use Rattle.layers.proofs.LayersRefused.{layer_refused}
 use Rattle.engine.proofs.alone_faces.faces_alone.Goals as goal
 
 pub returns-in-Some-clause-answer : goal.returns-in-Some-clause-answer

@@ -6,7 +6,7 @@ use Rattle.hands.specs.declared.part.Part.{Part}
 use Rattle.hands.specs.Consecutive.{ArePartsOf}
 use Rattle.engine.specs.Rounds.{AreCellRows}
 use Rattle.engine.proofs.Binned.{bins_of_all, rows_behind}
-use Rattle.engine.proofs.Folds.{folded, inside, next_part, one_on}
+use Rattle.results.proofs.Folds.{folded, inside, next_part, one_on}
 use Rattle.engine.proofs.cell_parts.bins_in_parts.Goals as goal
 
 pub map_parts-requires-after_bounds : goal.map_parts-requires-after_bounds

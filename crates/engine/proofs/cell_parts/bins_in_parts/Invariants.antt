@@ -1,5 +1,5 @@
 use Rattle.engine.specs.Rounds.{AreCellRows}
-use Rattle.engine.proofs.Folds.{IsFolded}
+use Rattle.results.proofs.Folds.{IsFolded}
 use Rattle.engine.proofs.cell_parts.bins_in_parts.Given as goal
 
 abbrev pub invariant-loop-next : goal.invariant-loop-next

@@ -1,7 +1,7 @@
 use Rattle.std.proofs.Common.{arith, length}
 use Rattle.hands.specs.Consecutive.{ArePartsOf}
 use Rattle.engine.proofs.Extents.{HoldsRange, all_segments, more_segments, no_segments}
-use Rattle.engine.proofs.Folds.{folded, inside, one_on}
+use Rattle.results.proofs.Folds.{folded, inside, one_on}
 use Rattle.engine.proofs.cell_parts.extent_in_parts.Goals as goal
 
 pub map_parts-requires-after_bounds : goal.map_parts-requires-after_bounds

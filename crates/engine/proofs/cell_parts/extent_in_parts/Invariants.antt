@@ -1,6 +1,6 @@
 use Rattle.std.proofs.Common.{length}
 use Rattle.engine.proofs.Extents.{HoldsRange}
-use Rattle.engine.proofs.Folds.{IsFolded}
+use Rattle.results.proofs.Folds.{IsFolded}
 use Rattle.engine.proofs.cell_parts.extent_in_parts.Given as goal
 
 abbrev pub invariant-loop-next : goal.invariant-loop-next

@@ -3,9 +3,9 @@ use Rattle.std.proofs.lemmas.Result.{IfOk-weaker}
 use Rattle.geom.specs.Canonical.{Shape}
 use Rattle.geom.specs.declared.edge.Counted.{Counted}
 use Rattle.points_law.specs.Law.{AreLayers}
-use Rattle.engine.specs.Results.{IsResult}
+use Rattle.results.specs.Results.{IsResult}
 use Rattle.engine.specs.Rounds.{IsRemade}
-use Rattle.engine.proofs.Results.{layers_known}
+use Rattle.results.proofs.Results.{layers_known}
 use Rattle.engine.proofs.columns_alone.columns_by_one.Goals as goal
 
 pub result_polygons-requires : goal.result_polygons-requires

@@ -4,10 +4,11 @@ use Rattle.geom.specs.declared.segment.Seg.{Seg}
 use Rattle.geom.specs.Rounded.{AreRounded}
 use Rattle.linking.specs.Gathered.{AreTileNumbers, HaveTiles}
 use Rattle.grid.specs.Tiles.{tile_count}
-use Rattle.engine.specs.ColumnsRuns.{rings_of}
-use Rattle.engine.specs.Rounds.{AllInLimit}
+use Rattle.layers.specs.ColumnsRefusals.{rings_of}
+use Rattle.layers.specs.Segments.{AllInLimit}
 use Rattle.engine.proofs.RingLayers.{rings_covered}
-use Rattle.engine.proofs.Rounding.{if_both, layers_of_rings}
+use Rattle.results.proofs.Answering.{if_both}
+use Rattle.engine.proofs.Rounding.{layers_of_rings}
 use Rattle.engine.proofs.columns_alone.columns_rounded_alone.Goals as goal
 
 pub gathered_alone-requires : goal.gathered_alone-requires

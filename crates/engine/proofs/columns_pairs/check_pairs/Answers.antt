@@ -2,7 +2,7 @@ use Rattle.std.proofs.Common.{◌∙◌, ℕ, ap₂, subst, sym}
 use Rattle.std.specs.Prelude.{min}
 use Rattle.engine.specs.declared.columns_pairs.PairsRefused.TheVariants.{Unpaired}
 use Rattle.engine.specs.ColumnsPairs.{ArePairsRefused, bad_a, bad_b, unpaired}
-use Rattle.engine.specs.ColumnsRuns.{AreBothAccepted}
+use Rattle.layers.specs.ColumnsRefusals.{AreBothAccepted}
 use Rattle.engine.proofs.PairsRunning.{many_pairs, may_run}
 use Rattle.engine.proofs.columns_pairs.check_pairs.Goals as goal
 

@@ -8,8 +8,8 @@ use Rattle.columns.specs.Layout.{feature_rings_in, plain}
 use Rattle.columns.specs.declared.layout.Columns.{Columns}
 use Rattle.points_law.specs.Law.{AreLayers}
 use Rattle.engine.specs.ColumnsPairs.{IsResultOfRings}
-use Rattle.engine.specs.Results.{IsResult}
-use Rattle.engine.proofs.Results.{layers_known}
+use Rattle.results.specs.Results.{IsResult}
+use Rattle.results.proofs.Results.{layers_known}
 use Rattle.engine.proofs.Rounding.{layers_of_rings}
 use Rattle.engine.proofs.columns_pairs.pair_polygons.Goals as goal
 

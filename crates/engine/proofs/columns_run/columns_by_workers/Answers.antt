@@ -2,8 +2,8 @@ use Rattle.std.proofs.Common.{List, arith, subst, sym}
 use Rattle.geom.specs.Canonical.{Shape}
 use Rattle.geom.specs.declared.edge.Counted.{Counted}
 use Rattle.points_law.specs.Law.{AreLayers}
-use Rattle.engine.specs.Results.{IsResult}
-use Rattle.engine.proofs.Results.{layers_known}
+use Rattle.results.specs.Results.{IsResult}
+use Rattle.results.proofs.Results.{layers_known}
 use Rattle.engine.proofs.columns_run.columns_by_workers.Goals as goal
 
 pub result_polygons_by_workers-requires-clause-layers : goal.result_polygons_by_workers-requires-clause-layers

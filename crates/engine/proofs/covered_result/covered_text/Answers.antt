@@ -6,7 +6,7 @@ use Rattle.geom.specs.declared.op.Op.{Op}
 use Rattle.points_law.specs.Law.{AreLayers}
 use Rattle.cover_law.specs.Cover.{bordered}
 use Rattle.engine.specs.CoveredResults.{IsCoveredText}
-use Rattle.engine.specs.Results.{IsResultText}
+use Rattle.results.specs.Results.{IsResultText}
 use Rattle.engine.proofs.CoveredTexts.{covered_closes, covered_in_limit, covered_text}
 use Rattle.engine.proofs.covered_result.covered_text.Goals as goal
 

@@ -5,7 +5,7 @@ use Rattle.cover_law.specs.declared.border.Border.{Border}
 use Rattle.cover_law.specs.Cover.{bordered}
 use Rattle.engine.specs.CoveredResults.{IsCoveredText}
 use Rattle.engine.specs.Faces.{AreBordersOver}
-use Rattle.engine.specs.Layers.{AreCheckedLayers}
+use Rattle.layers.specs.FeatureLayers.{AreCheckedLayers}
 use Rattle.engine.proofs.CoveredWritten.{below_all, below_count, borders_over, covered_written, fs, size_each, tiles_few}
 use Rattle.engine.proofs.covered_run.covered_by_borders.Goals as goal
 

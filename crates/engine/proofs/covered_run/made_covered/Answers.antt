@@ -1,13 +1,13 @@
 use Rattle.std.proofs.Common.{Bor, List, [], ◌∷◌, ◌∙◌, ap, map, rules, subst, ℕ}
 use Rattle.std.proofs.lemmas.Result.{err_from_is_err_and}
 use Rattle.engine.specs.CoveredRuns.{covered_limits}
-use Rattle.engine.specs.declared.faces_limits.FacesLimits.{FacesLimits}
-use Rattle.engine.specs.Faces.{IsFacesRefusedAt}
-use Rattle.engine.specs.Layers.{MayRound}
-use Rattle.engine.specs.Runs.{IsPlan}
+use Rattle.layers.specs.declared.faces_limits.FacesLimits.{FacesLimits}
+use Rattle.layers.specs.FacesRefusals.{IsFacesRefusedAt}
+use Rattle.layers.specs.FeatureLayers.{MayRound}
+use Rattle.layers.specs.Refusals.{IsPlan}
 use Rattle.engine.proofs.CoveredRunning.{ends}
 use Rattle.engine.proofs.FacesRunning.{plan_declines, refused_declines}
-use Rattle.engine.proofs.LayersRefused.{layer_refused}
+use Rattle.layers.proofs.LayersRefused.{layer_refused}
 use Rattle.engine.proofs.covered_run.made_covered.Goals as goal
 
 pub returns-in-Some : goal.returns-in-Some

@@ -1,6 +1,6 @@
 use Rattle.std.proofs.lemmas.Result.{err_from_is_err_and}
 use Rattle.engine.specs.Runs.{AreEdgesWrittenWithin}
-use Rattle.engine.specs.declared.operation.Wanted.TheVariants.{Edges}
+use Rattle.results.specs.declared.operation.Wanted.TheVariants.{Edges}
 use Rattle.engine.proofs.Running.{may_run, sent_runs, stops}
 use Rattle.engine.proofs.engine.edges_within.Goals as goal
 

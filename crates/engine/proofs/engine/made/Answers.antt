@@ -1,9 +1,10 @@
 use Rattle.std.proofs.Common.{ℕ, List, sym}
 use Rattle.std.proofs.lemmas.Result.{IfOk-at_ok, err_from_is_err_and}
 use Rattle.points_law.specs.Law.{AreLayers}
-use Rattle.engine.specs.declared.text.Report.{Report}
-use Rattle.engine.specs.Results.{IsWantedText, IsWrittenWithin}
-use Rattle.engine.proofs.Results.{layers_known}
+use Rattle.results.specs.declared.text.Report.{Report}
+use Rattle.results.specs.Results.{IsWantedText}
+use Rattle.engine.specs.Results.{IsWrittenWithin}
+use Rattle.results.proofs.Results.{layers_known}
 use Rattle.engine.proofs.Running.{checked_made, memory_declines, refused_declines}
 use Rattle.engine.proofs.engine.made.Goals as goal
 

@@ -1,6 +1,6 @@
 use Rattle.std.proofs.lemmas.Result.{err_from_is_err_and}
 use Rattle.engine.specs.Results.{IsResultWrittenWithin}
-use Rattle.engine.specs.declared.operation.Wanted.TheVariants.{Apply}
+use Rattle.results.specs.declared.operation.Wanted.TheVariants.{Apply}
 use Rattle.engine.proofs.Running.{may_run, sent_runs, stops}
 use Rattle.engine.proofs.engine.run_within.Goals as goal
 

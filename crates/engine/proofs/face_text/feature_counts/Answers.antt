@@ -1,6 +1,6 @@
 use Rattle.std.proofs.Common.{◌≡◌, ℕ, ◌<◌, ◌+◌, ◌∙◌, List, [], ◌∷◌, ◌++◌, ap, get_or, length, map, refl, take}
 use Rattle.std.proofs.lemmas.List.{map_more, take_all}
-use Rattle.engine.specs.declared.feature_segments.LayerSize.{LayerSize}
+use Rattle.layers.specs.declared.feature_segments.LayerSize.{LayerSize}
 use Rattle.engine.proofs.face_text.feature_counts.Goals as goal
 
 one_pushed : {X Y : Type 0} (f : X → Y) (xs : List X) (i : ℕ) (d : X) (old new : List Y) → i < length xs → old ≡ map f (take i xs) → new ≡ old ++ f (get_or xs i d) ∷ [] → new ≡ map f (take (i + 1) xs)

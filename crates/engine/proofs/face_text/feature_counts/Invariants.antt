@@ -1,5 +1,5 @@
 use Rattle.std.proofs.Common.{◌≡◌, map, take}
-use Rattle.engine.specs.declared.feature_segments.LayerSize.{LayerSize}
+use Rattle.layers.specs.declared.feature_segments.LayerSize.{LayerSize}
 use Rattle.engine.proofs.face_text.feature_counts.Given as goal
 
 abbrev pub invariant-loop-size : goal.invariant-loop-size

@@ -1,7 +1,7 @@
 use Rattle.std.proofs.Common.{◌≤◌, ◌∙◌, length}
 use Rattle.std.specs.Prelude.{All}
 use Rattle.hands.specs.declared.part.Part.{Part}
-use Rattle.engine.proofs.Folds.{inside}
+use Rattle.results.proofs.Folds.{inside}
 use Rattle.engine.proofs.RowLines.{rows_in_parts}
 use Rattle.engine.proofs.face_text.rows_text_in_parts.Goals as goal
 

@@ -1,4 +1,4 @@
-use Rattle.engine.specs.ColumnLayers.{features_in}
+use Rattle.layers.specs.ColumnLayers.{features_in}
 use Rattle.engine.proofs.CoveredFeatures.{grid_over_covers}
 use Rattle.engine.proofs.faces_columns.column_borders.Goals as goal
 

@@ -1,8 +1,8 @@
 use Rattle.std.proofs.Common.{◌≡◌, ◌∙◌, length}
 use Rattle.std.proofs.lemmas.Result.{IfOk-at_ok, IfOk-weaker, err_from_is_err_and}
-use Rattle.engine.specs.ColumnLayers.{features_in}
+use Rattle.layers.specs.ColumnLayers.{features_in}
 use Rattle.engine.specs.Faces.{AreBordersOf}
-use Rattle.engine.specs.FeatureSegments.{all_features}
+use Rattle.layers.specs.FeatureSegments.{all_features}
 use Rattle.engine.proofs.BordersOf.{ascend_in_rows, below_all, below_limit, borders_hold, sizes_fit, some_hold}
 use Rattle.engine.proofs.FaceColumns.{ends, memory_declines, rows_decline, tiles_are_few}
 use Rattle.engine.proofs.Remade.{made_known}

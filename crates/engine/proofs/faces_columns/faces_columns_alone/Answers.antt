@@ -1,5 +1,5 @@
 use Rattle.engine.specs.Runs.{alone}
-use Rattle.engine.specs.declared.faces_columns.FacesColumnsRefused.TheVariants.{Run}
+use Rattle.layers.specs.declared.columns_refused.FacesColumnsRefused.TheVariants.{Run}
 use Rattle.engine.proofs.FaceColumns.{declined_as_given, made_as_given, refused_declines}
 use Rattle.engine.proofs.faces_columns.faces_columns_alone.Goals as goal
 

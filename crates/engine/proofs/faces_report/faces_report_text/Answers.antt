@@ -1,6 +1,6 @@
 use Rattle.std.proofs.Common.{ℕ, List, ap, arith, get_or}
 use Rattle.engine.specs.FaceWords.{faces_totals_of}
-use Rattle.engine.proofs.Lines.{lines_more}
+use Rattle.results.proofs.Lines.{lines_more}
 use Rattle.engine.proofs.faces_report.faces_report_text.Goals as goal
 
 pub loop-number-preserved : goal.loop-number-preserved

@@ -1,6 +1,6 @@
 use Rattle.std.proofs.Common.{◌≡◌, ◌++◌, take}
 use Rattle.engine.specs.FaceWords.{faces_totals_of}
-use Rattle.engine.specs.Texts.{tile_lines}
+use Rattle.results.specs.Texts.{tile_lines}
 use Rattle.engine.proofs.faces_report.faces_report_text.Given as goal
 
 abbrev pub invariant-loop-number : goal.invariant-loop-number

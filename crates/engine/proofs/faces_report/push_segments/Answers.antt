@@ -2,7 +2,7 @@ use Rattle.std.proofs.Common.{◌≡◌, ℕ, ◌<◌, ◌+◌, ◌∙◌, List,
 use Rattle.std.specs.List.{flat_map}
 use Rattle.std.specs.Fmt.{decimal}
 use Rattle.std.proofs.lemmas.List.{flat_map_more, take_all, take_more}
-use Rattle.engine.specs.declared.feature_segments.LayerSize.{LayerSize}
+use Rattle.layers.specs.declared.feature_segments.LayerSize.{LayerSize}
 use Rattle.engine.proofs.faces_report.push_segments.Goals as goal
 
 one_more : (layers : List LayerSize) (i : ℕ) (d : LayerSize) (front words old comma new : List ℕ) → i < length layers → old ≡ front ++ (words ++ flat_map (λ (z : LayerSize). 32 ∷ decimal z.segments) (take i layers))

@@ -7,7 +7,7 @@ use Rattle.cover_law.specs.Rows.{AreRows}
 use Rattle.rows.specs.Made.{row_of}
 use Rattle.engine.specs.FaceBorders.{borders_in}
 use Rattle.engine.specs.FaceRows.{AreFaceSets}
-use Rattle.engine.specs.FeatureSegments.{all_features}
+use Rattle.layers.specs.FeatureSegments.{all_features}
 use Rattle.engine.proofs.FacesRunning.{memory_declines}
 use Rattle.engine.proofs.FacesWritten.{below_most, counts_fit, edges_of, few_tiles, ids_refused, made_written, may, over_borders, sets_ascend, some_over}
 use Rattle.engine.proofs.faces_run.by_borders.Goals as goal

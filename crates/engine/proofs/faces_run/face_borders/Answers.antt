@@ -3,7 +3,7 @@ use Rattle.geom.specs.declared.segment.Seg.{Seg}
 use Rattle.grid.specs.Tiles.{tile_count}
 use Rattle.linking.specs.Gathered.{AreTileNumbers, HaveTiles}
 use Rattle.engine.specs.FaceBorders.{AreRoundedBorders}
-use Rattle.engine.specs.Rounds.{AllInLimit}
+use Rattle.layers.specs.Segments.{AllInLimit}
 use Rattle.engine.proofs.CoveredFeatures.{layers_covered}
 use Rattle.engine.proofs.LayersKnown.{layers_ready}
 use Rattle.engine.proofs.faces_run.face_borders.Goals as goal

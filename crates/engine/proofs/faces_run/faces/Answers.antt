@@ -1,5 +1,5 @@
 use Rattle.std.proofs.Common.{map, subst}
-use Rattle.engine.specs.declared.faces_limits.FacesLimits.{FacesLimits}
+use Rattle.layers.specs.declared.faces_limits.FacesLimits.{FacesLimits}
 use Rattle.engine.specs.Faces.{RunsFaces}
 use Rattle.engine.proofs.faces_run.faces.Goals as goal
 

@@ -1,7 +1,7 @@
 use Rattle.std.proofs.Common.{List, map, subst, sym, ℕ}
 use Rattle.engine.proofs.FitsOver.{fitting_over, fitting_refused, never_too_fine_over}
-use Rattle.engine.proofs.InLayers.{text_at, text_next, texts_whole}
-use Rattle.engine.proofs.ReadLaws.{AreBoxed, boxed_more}
+use Rattle.layers.proofs.InLayers.{text_at, text_next, texts_whole}
+use Rattle.layers.proofs.ReadLaws.{AreBoxed, boxed_more}
 use Rattle.engine.proofs.fitting.fitting_side_over.Goals as goal
 
 pub returns-in-Err-clause-side : goal.returns-in-Err-clause-side

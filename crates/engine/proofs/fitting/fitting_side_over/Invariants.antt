@@ -1,5 +1,5 @@
 use Rattle.std.proofs.Common.{map, take}
-use Rattle.engine.proofs.ReadLaws.{AreBoxed}
+use Rattle.layers.proofs.ReadLaws.{AreBoxed}
 use Rattle.engine.proofs.fitting.fitting_side_over.Given as goal
 
 abbrev pub invariant-loop-text : goal.invariant-loop-text

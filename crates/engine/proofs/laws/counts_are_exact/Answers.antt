@@ -1,5 +1,5 @@
 -- Both laws are one lemma.
-use Rattle.engine.specs.Runs.{segment_limit}
+use Rattle.layers.specs.Refusals.{segment_limit}
 use Rattle.engine.proofs.Counting.{counts_are_exact}
 use Rattle.engine.proofs.laws.counts_are_exact.Goals as goal
 

@@ -1,5 +1,5 @@
 -- The laws are two lemmas.
-use Rattle.engine.specs.Runs.{segment_limit}
+use Rattle.layers.specs.Refusals.{segment_limit}
 use Rattle.engine.proofs.Determined.{edges_sizes_are_one, edges_text_is_one}
 use Rattle.engine.proofs.laws.edges_text_is_one.Goals as goal
 

@@ -1,5 +1,5 @@
 -- The laws are two lemmas.
-use Rattle.engine.specs.Runs.{segment_limit}
+use Rattle.layers.specs.Refusals.{segment_limit}
 use Rattle.engine.proofs.OneRefusal.{refusal_is_one, refused_may_not_run}
 use Rattle.engine.proofs.laws.one_refusal.Goals as goal
 

@@ -1,5 +1,5 @@
 -- The laws are two lemmas.
-use Rattle.engine.specs.Runs.{segment_limit}
+use Rattle.layers.specs.Refusals.{segment_limit}
 use Rattle.engine.proofs.OneResultText.{result_sizes_are_one, result_text_is_one}
 use Rattle.engine.proofs.laws.result_text_is_one.Goals as goal
 

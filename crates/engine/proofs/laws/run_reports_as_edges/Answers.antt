@@ -1,5 +1,5 @@
 -- Both laws are one lemma.
-use Rattle.engine.specs.Runs.{segment_limit}
+use Rattle.layers.specs.Refusals.{segment_limit}
 use Rattle.engine.proofs.OneReport.{run_reports_as_edges}
 use Rattle.engine.proofs.laws.run_reports_as_edges.Goals as goal
 

@@ -1,5 +1,5 @@
 -- Both laws are one lemma.
-use Rattle.engine.specs.Runs.{segment_limit}
+use Rattle.layers.specs.Refusals.{segment_limit}
 use Rattle.engine.proofs.OneTiling.{tiles_are_one}
 use Rattle.engine.proofs.laws.tiles_are_one.Goals as goal
 

@@ -1,4 +1,4 @@
-use Rattle.engine.proofs.Rounding.{if_five}
+use Rattle.results.proofs.Answering.{if_five}
 use Rattle.engine.proofs.rounds.features_by_cells.Goals as goal
 
 pub returns-clause-borders : goal.returns-clause-borders

@@ -4,8 +4,9 @@ use Rattle.geom.specs.declared.segment.Seg.{Seg}
 use Rattle.geom.specs.Rounded.{AreRounded}
 use Rattle.linking.specs.Gathered.{AreTileNumbers, HaveTiles}
 use Rattle.grid.specs.Tiles.{tile_count}
-use Rattle.engine.specs.Rounds.{AllInLimit}
-use Rattle.engine.proofs.Rounding.{covered, if_both, layers_of}
+use Rattle.layers.specs.Segments.{AllInLimit}
+use Rattle.engine.proofs.Rounding.{covered, layers_of}
+use Rattle.results.proofs.Answering.{if_both}
 use Rattle.engine.proofs.Known.{ready_of}
 use Rattle.engine.proofs.rounds.rounded_layers.Goals as goal
 

@@ -1,7 +1,7 @@
 use Rattle.std.proofs.Common.{ap, ◌∙◌}
 use Rattle.std.proofs.Math.IntN.{ℤ}
 use Rattle.std.specs.Int.{int_max, int_min}
-use Rattle.engine.proofs.JointBounds.{both_bounds, joined_in_limit}
+use Rattle.layers.proofs.JointBounds.{both_bounds, joined_in_limit}
 use Rattle.overlay_c.proofs.faces_columns.joint_bounds.Goals as goal
 
 pub returns-in-Some-Some-clause-joint : goal.returns-in-Some-Some-clause-joint

@@ -2,7 +2,7 @@ use Rattle.std.proofs.Common.{List, arith, subst}
 use Rattle.std.proofs.lemmas.List.{length-map, take_all}
 use Rattle.columns.specs.declared.layout.Columns.{Columns}
 use Rattle.columns.specs.Refusals.{AreRefused}
-use Rattle.engine.proofs.JointBounds.{bounds_from_some}
+use Rattle.layers.proofs.JointBounds.{bounds_from_some}
 use Rattle.overlay_c.specs.declared.columns_layer.OverlayColumns.{OverlayColumns}
 use Rattle.overlay_c.specs.Columns.{columns_in}
 use Rattle.overlay_c.specs.FacesColumns.{fitting, layers_in, many_layers}

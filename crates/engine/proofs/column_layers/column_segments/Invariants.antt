@@ -1,7 +1,0 @@
-use Rattle.std.proofs.Common.{take}
-use Rattle.engine.specs.ColumnLayers.{features_in}
-use Rattle.engine.specs.FeatureSegments.{AreFeaturesOf}
-use Rattle.engine.proofs.column_layers.column_segments.Given as goal
-
-abbrev pub invariant-loop-layer : goal.invariant-loop-layer
-invariant-loop-layer g l = AreFeaturesOf (features_in (take l.layer-index l.layers)) l.all

@@ -1,9 +1,0 @@
-use Rattle.std.proofs.Common.{◌*◌, ◌≤◌, map, take}
-use Rattle.engine.specs.Layers.{AreReadLayers}
-use Rattle.engine.proofs.feature_reading.read_layers.Given as goal
-
-abbrev pub invariant-loop-number : goal.invariant-loop-number
-invariant-loop-number g l = record {
-  read : AreReadLayers (take l.number (map (λ t. t.now) l.layers)) l.read;
-  few : l.read.segments ≤ l.number * 4_294_967_295;
-}

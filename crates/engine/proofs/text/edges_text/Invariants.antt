@@ -1,6 +1,0 @@
-use Rattle.std.proofs.Common.{◌≡◌, take}
-use Rattle.engine.specs.Texts.{edges_text_of}
-use Rattle.engine.proofs.text.edges_text.Given as goal
-
-abbrev pub invariant-loop-counted : goal.invariant-loop-counted
-invariant-loop-counted g l = l.text.items ≡ edges_text_of (take l.counted-index l.edges)

@@ -1,6 +1,0 @@
-use Rattle.std.proofs.Common.{◌≡◌, ◌++◌, take}
-use Rattle.engine.specs.Texts.{totals_of, tile_lines}
-use Rattle.engine.proofs.text.report_text.Given as goal
-
-abbrev pub invariant-loop-number : goal.invariant-loop-number
-invariant-loop-number g l = l.text.items ≡ totals_of l.report ++ tile_lines 0 (take l.number l.report.tiles.items)

@@ -1,0 +1,11 @@
+pub mod JointBounds
+pub mod Refusing
+pub mod RingSteps
+pub mod SegmentsRead
+pub mod FeatureParts
+pub mod InLayers
+pub mod ReadLaws
+pub mod PlanFaults
+pub mod LayersRefused
+pub mod RefusedColumns
+pub mod ColumnLayers

@@ -1,0 +1,10 @@
+pub mod Segments
+pub mod Grids
+pub mod Refusals
+pub mod ColumnsRefusals
+pub mod FeatureSegments
+pub mod FeatureLayers
+pub mod ColumnLayers
+pub mod FacesRefusals
+pub mod FaceColumnsRefusals
+pub mod FaultWords

@@ -1,0 +1,4 @@
+pub mod Sinks
+pub mod Texts
+pub mod LineParts
+pub mod Results
