@@ -15,7 +15,10 @@ use crate::faces_report::FacesReport;
 use crate::faces_run::{FaceBorders, faces_report_of, or_want};
 use geom::NoMemory;
 use grid::Grid;
-use layers::{CheckedLayers, FacesFault, FacesLimits, FeatureSegments, KeptFeatures, MOST_LAYERS, Plan, check_layers, segments_of_texts, plan_fault, read_layers_alone};
+use layers::{
+    CheckedLayers, FacesFault, FacesLimits, FeatureSegments, KeptFeatures, MOST_LAYERS, Plan,
+    check_layers, plan_fault, read_layers_alone, segments_of_texts,
+};
 use std::alloc::Allocator;
 
 /// A text of faces, and the numbers of the run that made it.

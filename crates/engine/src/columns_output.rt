@@ -1,6 +1,6 @@
 //! What an operation on columns answers, or why it is refused.
 
-ghost use Rattle.std.specs.Prelude.{◌≡◌, ◌≤◌, ℕ, IfOk, List, MatchResult, length};
+ghost use Rattle.std.specs.Prelude.{◌≡◌, ◌≤◌, IfOk, MatchResult, length};
 ghost use Rattle.columns.specs.declared.layout.Columns.{Columns};
 ghost use Rattle.geom.specs.declared.op.Op.{Op};
 ghost use Rattle.engine.specs.ColumnsRuns.{AreColumnsMade};
@@ -10,7 +10,7 @@ ghost use Rattle.engine.specs.RingLayers.{AreRingsRounded};
 ghost use Rattle.engine.specs.Rounds.{IsRemade};
 
 use crate::rounds::report_of;
-use columns::{ColumnsFault, OwnedColumns, columns_of};
+use columns::{OwnedColumns, columns_of};
 use geom::{Fault, NoMemory, Polygon};
 use grid::MOST_TILES;
 use layers::{CheckedColumns, ColumnsRefused};

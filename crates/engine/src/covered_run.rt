@@ -16,7 +16,10 @@ use crate::faces_run::{FaceBorders, face_borders, or_want};
 use crate::rounds::{all_hot, all_records, told_of};
 use geom::{Fault, NoMemory, Op};
 use grid::MOST_TILES;
-use layers::{CheckedLayers, FacesFault, FacesLimits, LayerSize, Limits, Plan, check_layers, plan_fault, read_layers};
+use layers::{
+    CheckedLayers, FacesFault, FacesLimits, LayerSize, Limits, Plan, check_layers, plan_fault,
+    read_layers,
+};
 use linking::RoundedBorders;
 use results::{Report, Sink, write_parts};
 use std::alloc::Allocator;

@@ -11,7 +11,6 @@ ghost use Rattle.engine.specs.Results.{IsResultWritten, IsResultWrittenWithin, I
 ghost use Rattle.results.specs.Results.{IsWantedText};
 ghost use Rattle.engine.specs.Rounds.{AreRoundedOver, IsRemade};
 ghost use Rattle.engine.specs.Runs.{AreEdgesWritten, AreEdgesWrittenWithin, DeclinesWithin, Delivers, Runs, RunsWithin};
-ghost use Rattle.layers.specs.Refusals.{segment_limit};
 
 use crate::rounds::{report_of, rounded_layers};
 use geom::{Fault, NoMemory, Op, Part, RunFault};

@@ -7,8 +7,7 @@ ghost use Rattle.rows.specs.Made.{row_of};
 
 use faces_text::push_row;
 use geom::{NoMemory, Polygon};
-use hands::worth;
-use hands::{Part, map_parts, parts_of_work};
+use hands::{Part, map_parts, parts_of_work, worth};
 use layers::LayerSize;
 use results::TextParts;
 use rows::Row;

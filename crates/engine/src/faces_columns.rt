@@ -17,10 +17,13 @@ use crate::bounded_rows::{BoundedRows, bounded_rows_alone};
 use crate::face_text::feature_counts;
 use crate::faces_report::FacesReport;
 use crate::faces_run::{FaceBorders, faces_report_of, or_want};
-use columns::{Columns, ColumnsFault};
+use columns::Columns;
 use geom::NoMemory;
 use grid::MOST_TILES;
-use layers::{CheckedColumnLayers, FacesColumnsRefused, FacesFault, FacesLimits, FacesRefusal, MOST_LAYERS, Plan, check_column_layers, column_segments};
+use layers::{
+    CheckedColumnLayers, FacesColumnsRefused, FacesFault, FacesLimits, MOST_LAYERS, Plan,
+    check_column_layers, column_segments,
+};
 use rows::{RowColumns, columns_of_rows};
 use std::alloc::Allocator;
 

@@ -17,7 +17,10 @@ use crate::faces_report::FacesReport;
 use crate::rounds::{all_hot, all_records, rounded_features, told_of};
 use geom::{Fault, NoMemory};
 use grid::MOST_TILES;
-use layers::{CheckedLayers, FacesFault, FacesLimits, FacesPart, FacesRefusal, FeatureSegments, KeptFeatures, LayerSize, MOST_LAYERS, Plan, check_layers, segments_of_texts, plan_fault, read_layers};
+use layers::{
+    CheckedLayers, FacesFault, FacesLimits, FacesPart, FacesRefusal, FeatureSegments, KeptFeatures,
+    LayerSize, MOST_LAYERS, Plan, check_layers, plan_fault, read_layers, segments_of_texts,
+};
 use linking::RoundedBorders;
 use results::{Sink, TextParts, write_parts};
 use rows::Row;

@@ -60,6 +60,4 @@ pub use layers::{
     ColumnsRefused, FacesColumnsRefused, FacesFault, FacesLimits, FacesPart, FacesRefusal,
     LayerSize, Limits, MOST_LAYERS, Plan, faces_line, faces_status, layer_name, line, status,
 };
-pub use results::{
-    MemSink, Report, Sink, SinkFault, report_text, result_text, write_all,
-};
+pub use results::{MemSink, Report, Sink, SinkFault, report_text, result_text, write_all};
