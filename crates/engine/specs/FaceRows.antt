@@ -1,4 +1,4 @@
--- The cover sets that have rows, and how many features these have together (own).
+-- The cover sets that have rows, with the edges of these (own).
 use Rattle.std.specs.Prelude.{◌<◌, ℕ, List, All}
 use Rattle.geom.specs.declared.edge.Counted.{Counted}
 use Rattle.cover_law.specs.declared.border.Border.{Border}

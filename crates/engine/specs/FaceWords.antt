@@ -1,12 +1,10 @@
--- The texts that the program writes about faces, but for their rows (own).
+-- The report of faces (own).
 use Rattle.std.specs.Prelude.{◌+◌, ℕ, List, [], ◌∷◌, ◌++◌, codes, length}
 use Rattle.std.specs.List.{flat_map}
 use Rattle.std.specs.Fmt.{decimal}
 use Rattle.engine.specs.declared.faces_report.FacesReport.{FacesReport}
 use Rattle.layers.specs.declared.feature_segments.LayerSize.{LayerSize}
 use Rattle.results.specs.Texts.{named, tile_lines}
-
--- ---- the report
 
 abbrev pub segments_line : List LayerSize → List ℕ
 segments_line layers = codes "segments" ++ (flat_map (λ l. 32 ∷ decimal l.segments) layers ++ 10 ∷ [])

@@ -1,4 +1,4 @@
--- The polygons of a set operation, and their text (OGC 06-103r4 for the text; the rest is own).
+-- The text of a set operation on two layers, with its report (own).
 use Rattle.std.specs.Prelude.{ℕ, List}
 use Rattle.geom.specs.declared.op.Op.{Op}
 use Rattle.geom.specs.declared.edge.Counted.{Counted}

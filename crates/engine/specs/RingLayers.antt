@@ -1,4 +1,4 @@
--- Two layers by their rings: what of them may be rounded, and the report on their rounded edges (own).
+-- Two layers by their rings: their rounded edges, and the report on these (own).
 use Rattle.std.specs.Prelude.{◌≡◌, ℕ, List, length}
 use Rattle.geom.specs.Rounded.{AreRounded}
 use Rattle.geom.specs.Segments.{AreSegments}

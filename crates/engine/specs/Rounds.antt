@@ -1,4 +1,4 @@
--- The segments of two layers, their boxes, and what of them is rounded (own).
+-- The bins of cells, and what of the segments of two layers is rounded (own).
 use Rattle.std.specs.Prelude.{◌≡◌, ◌≤◌, ℕ, List, map, sum_by}
 use Rattle.geom.specs.Rounded.{AreRounded}
 use Rattle.geom.specs.declared.edge.Counted.{Counted}

@@ -1,4 +1,4 @@
--- What a run of the engine is refused for, and what it does to the sink (own).
+-- What a run of the engine answers, and what it does to the sink (own).
 use Rattle.std.specs.Prelude.{◌≡◌, ℕ, List, Result, length, MatchResult}
 use Rattle.geom.specs.declared.edge.Counted.{Counted}
 use Rattle.geom.specs.declared.fault.Fault.{Fault}

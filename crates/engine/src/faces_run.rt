@@ -1,7 +1,7 @@
 //! The faces of layers: which features cover which part of the plane, a line for each set of features.
 //!
-//! 1. The plan is checked, each layer is read into its features, and what was read is checked (`feature_reading`, `feature_checking`).
-//! 2. The segments of all features are rounded together, which gives the borders of the features (`feature_segments`, `rounds`).
+//! 1. The plan is checked, each layer is read into its features, and what was read is checked (`read_layers`, `check_layers`).
+//! 2. The segments of all features are rounded together, which gives the borders of the features (`segments_of_texts`, `rounds`).
 //! 3. The cover sets on both sides of the edges tell the rows, whose features are counted before any row is made (`face_rows`).
 //! 4. The rows give the text and the report (`face_text`); only then is the sink called: it is sent the text whole.
 

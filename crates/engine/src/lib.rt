@@ -1,19 +1,13 @@
-//! The engine: layer texts, a plan and a sink in; the text of their rounded edges, of an operation's result, or of their faces, out.
+//! The engine: layers, a plan and a sink in; the text of their rounded edges, of an operation's result, or of their faces, out.
 //!
-//! 1. Both texts are read, and plan and texts are accepted or refused (`layers`).
-//! 2. The segments are rounded by workers over cells, and the edges are put together (`rounds`).
-//! 3. The text that is wanted is made and sent (`results`), with a report.
+//! 1. Layers and plan are accepted or refused (`layers`), but for pairs of features, which are checked here (`columns_pairs`).
+//! 2. Workers round the segments over cells: into edges, or for faces and covered layers into the borders of features (`rounds`, `faces_run`).
+//! 3. The text that is wanted is made and sent whole (`results`), with a report. Layers that are columns give columns (`columns_run`,
+//!    `columns_pairs`, `faces_columns`).
 //!
-//! Faces are made of the features of up to 64 layers, on a road of their own through the same rounds (`faces_run`).
-//!
-//! The promise: where `edges` and `run` answer, the sink took the one text that the layers determine, in whose polygons each rational point
-//! lies as the operation says. The definitions are `specs/Runs` and `specs/Results`. Where `faces` answers, each rational point lies in the
-//! polygons of just the row of those features that cover it. The definitions are in `specs/Faces`.
-//!
-//! Layers may be columns of coordinates and offsets in place of texts, and so is the result then: `run_columns_within` answers the columns of
-//! the polygons whose canonical line `run` writes. The definitions are in `specs/ColumnsRuns`. `run_pairs_alone_within` answers so for each
-//! feature of a layer and the one with the same number of another layer (`specs/ColumnsPairs`). `faces_columns_alone` answers the columns of
-//! the rows whose lines `faces` writes (`specs/FaceColumns`).
+//! The promise: where a call answers, it is the one answer that the layers determine, in whose polygons each rational point lies as the
+//! operation says (`specs/Runs`, `Results`, `CoveredRuns`, `ColumnsRuns`, `ColumnsPairs`); or it lies in the polygons of just the row of those
+//! features that cover it (`specs/Faces`, `FaceColumns`).
 #![tactic(auto)]
 
 mod alone;

@@ -25,6 +25,7 @@ features_of c = map plain (feature_rings_in c)
 abbrev pub features_in : List Columns → List (List (List (List Pt)))
 features_in layers = map features_of layers
 
+-- each layer is accepted
 abbrev pub AllAccepted : List Columns → Type 0
 AllAccepted layers = AllByRecursion AreAccepted layers
 

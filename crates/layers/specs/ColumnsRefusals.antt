@@ -1,4 +1,4 @@
--- What two layers that are columns, and a plan, are refused for (own).
+-- What two layers that are columns and a plan are refused for, and what is known where they aren't (own).
 use Rattle.std.specs.Prelude.{◌≡◌, ◌⊎◌, ◌≤◌, ◌<◌, ◌+◌, ℕ, List}
 use Rattle.geom.specs.declared.fault.Fault.{Fault}
 use Rattle.geom.specs.declared.fault.Fault.TheVariants.{TooManySegments, BadTile, BadWorkers, TooManyTiles}
@@ -38,6 +38,7 @@ pub record AreColumnsReady (limit : ℕ) (plan : Plan) (a b : Columns) (grid : T
   pub accepted : AreBothAccepted a b
   pub ready : AreRingsReady limit plan (rings_of a) (rings_of b) grid
 
+-- nothing is refused before anything is made
 abbrev pub MayRunColumns : ℕ → Plan → Columns → Columns → Type 0
 MayRunColumns limit plan a b = (grid : Tiling) × AreColumnsReady limit plan a b grid
 

@@ -1,4 +1,4 @@
--- What faces of layers that are columns are refused for (own).
+-- What the faces of layers that are columns are refused for (own).
 use Rattle.std.specs.Prelude.{◌<◌, ◌≤◌, ℕ, List, length}
 use Rattle.geom.specs.declared.fault.Fault.TheVariants.{BadTile, BadWorkers, TooManySegments, TooManyTiles}
 use Rattle.grid.specs.Tiles.{IsSide, Tiling, most_tiles, tile_count}

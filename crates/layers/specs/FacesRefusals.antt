@@ -1,4 +1,4 @@
--- What faces are refused for (own).
+-- What the faces of layer texts are refused for, and how many features all rows have together (own).
 use Rattle.std.specs.Prelude.{◌≡◌, ◌<◌, ◌≤◌, ℕ, List, length, ◌≢◌, ◌↔◌, [], AllPairs, Contains, sum_by}
 use Rattle.geom.specs.declared.directed.DirectedEdge.{DirectedEdge}
 use Rattle.geom.specs.declared.fault.Fault.{Fault}

@@ -49,6 +49,7 @@ pub record IsBadLayer (texts : List (List ℕ)) (number : ℕ) (fault : Fault) :
   pub before : List (List (List (List Pt)))
   pub accepted : StandForLayers (take number texts) before
 
+-- each point of the features is within the coordinate limit
 abbrev pub AreFeaturesInLimit : List (List (List Pt)) → Type 0
 AreFeaturesInLimit features = All AreRingsInLimit features
 

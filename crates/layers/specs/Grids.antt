@@ -39,17 +39,17 @@ pub record IsTooFine (a b : Option Rect) (side : ℕ) (part : Part) (fault : Fau
   pub part_is : part ≡ Run
   pub fault_is : fault ≡ TooManyTiles (tile_count grid)
 
--- the grid of this side over the segments of the layers with these rings
+-- the grid of this side over the segments of the layers with these rings as they are written
 pub record IsGridOver (rings_a rings_b : List Ring) (side : ℕ) (g : Tiling) : Type 0 where
   pub bounds : Option Rect
   pub are_bounds : AreBoundsOf (layer_steps (plain rings_a) ++ layer_steps (plain rings_b)) bounds
   pub is_grid : IsGridOf bounds side g
 
--- the number of segments of a layer with these rings
+-- the number of segments of a layer with these rings, whose first points are not repeated
 abbrev pub steps_count : List (List Pt) → ℕ
 steps_count rings = length (layer_steps rings)
 
--- the grid of this side over the segments of the layers with these rings
+-- the grid of this side over the segments of the layers with such rings
 pub record IsGridOverRings (rings_a rings_b : List (List Pt)) (side : ℕ) (g : Tiling) : Type 0 where
   pub bounds : Option Rect
   pub are_bounds : AreBoundsOf (layer_steps rings_a ++ layer_steps rings_b) bounds

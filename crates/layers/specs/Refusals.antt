@@ -24,6 +24,7 @@ pub record IsCrew (workers : ℕ) : Type 0 where
   pub low : 1 ≤ workers
   pub high : workers ≤ MOST_HANDS
 
+-- the plan is within its limits
 pub record IsPlan (plan : Plan) : Type 0 where
   pub side : IsSide plan.side
   pub workers : IsCrew plan.workers
@@ -38,7 +39,7 @@ IsPlanFault plan _ = ⊥
 abbrev pub segment_limit : ℕ
 segment_limit = SEGMENT_LIMIT
 
--- the number of segments of a layer with these rings
+-- the number of segments of a layer with these rings as they are written
 abbrev pub segment_count : List Ring → ℕ
 segment_count rings = length (layer_steps (plain rings))
 
@@ -66,6 +67,7 @@ pub data IsRefusedAtWithin (limit : ℕ) (plan : Plan) (a b : List ℕ) : Part �
 abbrev pub IsRefusedPlan : Plan → Part → Fault → Type 0
 IsRefusedPlan plan part fault = (limit : ℕ) (a b : List ℕ) → IsRefusedAtWithin limit plan a b part fault
 
+-- the layer that a fault is told of
 abbrev pub part_of : Source → Part
 part_of FromA = A
 part_of FromB = B
@@ -88,9 +90,11 @@ pub record IsCheckedWithin (limit : ℕ) (plan : Plan) (a b : List ℕ) (segment
   pub count_a : segments_a ≡ segment_count rings_a
   pub count_b : segments_b ≡ segment_count rings_b
 
--- the plan, the layers and the grid are within their limits
+-- nothing is refused before anything is made
 abbrev pub MayRunWithin : ℕ → Plan → List ℕ → List ℕ → Type 0
 MayRunWithin limit plan a b = (rings_a : List Ring) × (rings_b : List Ring) × (grid : Tiling) × IsReadyWithin limit plan a b rings_a rings_b grid
+
+-- ---- the same where no limit is given
 
 abbrev pub IsRefusedAt : Plan → List ℕ → List ℕ → Part → Fault → Type 0
 IsRefusedAt plan a b part fault = IsRefusedAtWithin segment_limit plan a b part fault

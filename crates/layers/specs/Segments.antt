@@ -8,9 +8,11 @@ use Rattle.geom.specs.declared.segment.Source.{Source}
 use Rattle.wkt.specs.LayerText.{Ring}
 use Rattle.wkt.specs.Refusals.{IsAccepted, plain}
 
+-- both ends of each segment are within the coordinate limit
 abbrev pub AllInLimit : List Seg → Type 0
 AllInLimit segments = All (λ s. AreInLimit s.a s.b) segments
 
+-- each point of the rings is within it
 abbrev pub AreRingsInLimit : List (List Pt) → Type 0
 AreRingsInLimit rings = All (λ ring. All InLimit ring) rings
 

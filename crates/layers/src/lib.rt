@@ -2,11 +2,12 @@
 //!
 //! 1. Layer texts are read, two of them at once (`reading`), or up to 64 into their features (`feature_reading`); columns are surveyed.
 //! 2. What was read is checked, with the plan (`checking`, `feature_checking`, `columns_checking`, `column_layers`): only here is an input
-//!    refused, but for too many features in all rows of faces. A refusal has a line of its own (`fault_line`, `faces_fault`).
+//!    refused, but for pairs of features, and for too many features in all rows of faces. A refusal has a line of its own (`fault_line`,
+//!    `faces_fault`).
 //! 3. The rings of accepted layers are cut into segments (`segments`), those of features with their owners (`feature_segments`).
 //!
-//! The promise: exactly the refusals of `specs/Refusals` (`ColumnsRefusals`, `FacesRefusals`, `FaceColumnsRefusals`), the first that is at
-//! fault, and exactly the segments of the layers that are accepted (`specs/Segments`, `specs/FeatureSegments`).
+//! The promise: exactly the refusals of `specs/Refusals` (`ColumnsRefusals`, `FacesRefusals`, `FaceColumnsRefusals`), the first that holds, and
+//! exactly the segments of the layers that are accepted (`specs/Segments`, `specs/FeatureSegments`).
 #![tactic(auto)]
 
 mod checking;

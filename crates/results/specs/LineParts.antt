@@ -1,4 +1,4 @@
--- The canonical line of a result in parts (own).
+-- The canonical line of rings one after another, in parts (OGC 06-103r4; the spelling is own).
 use Rattle.std.specs.Prelude.{◌≡◌, ℕ, Bool, List, [], ◌∷◌, ◌++◌, All, flat_map, slice_range}
 use Rattle.geom.specs.declared.point.Pt.{Pt}
 use Rattle.wkt.specs.Canonical.{first_ring, line_end, multi_text, next_ring}

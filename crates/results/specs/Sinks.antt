@@ -26,6 +26,7 @@ pub record TookNothing (old new : SinkState) : Type 0 where
   pub unsettled : new.settled ≡ false
   pub same_bytes : new.taken ≡ old.taken
 
+-- what a `write` does
 abbrev pub Wrote : SinkState → SinkState → List ℕ → Result ℕ SinkFault → Type 0
 Wrote old new bytes r = MatchResult r (λ n. Took old new bytes n) (λ _. TookNothing old new)
 
@@ -41,6 +42,7 @@ pub record NotSettled (old new : SinkState) : Type 0 where
   pub same_mark : new.settled ≡ old.settled
   pub same_bytes : new.taken ≡ old.taken
 
+-- what a `finish` does
 abbrev pub Finished : SinkState → SinkState → Result Unit SinkFault → Type 0
 Finished old new r = MatchResult r (λ _. Settled old new) (λ _. NotSettled old new)
 
@@ -76,6 +78,7 @@ pub record SentPart (old new : SinkState) (text : List ℕ) : Type 0 where
 abbrev pub SentUnsettled : SinkState → SinkState → List ℕ → Result Unit SinkFault → Type 0
 SentUnsettled old new text r = MatchResult r (λ _. (new.failed ≡ old.failed) × SentUnfinished old new text) (λ _. (new.failed ≡ old.failed + 1) × SentBeginning old new text)
 
+-- the whole text was taken and settled; or the sink failed once
 abbrev pub Sent : SinkState → SinkState → List ℕ → Result Unit SinkFault → Type 0
 Sent old new text r = MatchResult r (λ _. SentAll old new text) (λ _. SentPart old new text)
 

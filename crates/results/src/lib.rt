@@ -1,12 +1,12 @@
-//! Results: the rounded edges of two layers in; the text of the edges, or the polygons of an operation's result and their canonical line, out.
+//! Results: the rounded edges of two layers in; their text, or the polygons of an operation's result and the canonical line of these, out.
 //!
-//! 1. The edges are labelled and directed, and the directed edges become rings (`operation`, by `label_sweep` and `polygonize`).
+//! 1. The edges that bound the result are told and directed, and give rings and polygons (`operation`, by `label_sweep` and `polygonize`).
 //! 2. The rings are written as one line, in parts by several workers (`line_parts`, `text_parts`); edges and the report are lines of their
 //!    own (`text`).
 //! 3. A text goes to a sink whole (`sink`).
 //!
 //! The promise: the text is the one canonical line of the polygons in which any point lies exactly where the operation holds of its
-//! parities in the two rounded layers (`specs/Results`), or the line of each edge in order (`specs/Texts`); what a sink took is told in
+//! parities in the two rounded layers (`specs/Results`), or the line of each edge in order (`specs/Texts`); what a sink took is in
 //! `specs/Sinks`.
 #![tactic(auto)]
 
