@@ -5,11 +5,11 @@ use Rattle.geom.specs.Fault.{fault_words}
 use Rattle.geom.specs.declared.fault.Fault.{Fault}
 use Rattle.geom.specs.declared.fault.Fault.TheVariants.{Memory, Write}
 use Rattle.geom.specs.declared.fault.Part.{Part}
-use Rattle.geom.specs.declared.fault.Part.TheVariants.{A, B, Run}
+use Rattle.geom.specs.declared.fault.Part.TheVariants.{A, B, Run as OfRun}
 use Rattle.geom.specs.declared.fault.RunFault.{RunFault}
 use Rattle.layers.specs.declared.faces_fault.FacesFault.{FacesFault}
 use Rattle.layers.specs.declared.faces_fault.FacesPart.{FacesPart}
-use Rattle.layers.specs.declared.faces_fault.FacesPart.TheVariants.{Layer}
+use Rattle.layers.specs.declared.faces_fault.FacesPart.TheVariants.{Layer, Run}
 use Rattle.layers.specs.declared.faces_fault.FacesRefusal.{FacesRefusal}
 use Rattle.layers.specs.declared.faces_fault.FacesRefusal.TheVariants.{Usual, TooManyIds}
 
@@ -27,7 +27,7 @@ status_of f = status_of_fault f.fault
 abbrev pub place_words : Part → List ℕ
 place_words A = codes "A: "
 place_words B = codes "B: "
-place_words Run = []
+place_words OfRun = []
 
 -- the line of a fault, with its LF
 abbrev pub line_of : RunFault → List ℕ
