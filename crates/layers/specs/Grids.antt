@@ -1,5 +1,5 @@
 -- The boxes of layers, and the grid over them (own).
-use Rattle.std.specs.Prelude.{◌≡◌, ◌++◌, ◌≤◌, ◌<◌, ℕ, List, [], Option, MatchOption, ◌+◌, length}
+use Rattle.std.specs.Prelude.{◌≡◌, ◌++◌, ◌≤◌, ◌<◌, ℕ, List, [], Option, MatchOption, length}
 use Rattle.geom.specs.Bounds.{IsBox}
 use Rattle.geom.specs.Segments.{layer_steps}
 use Rattle.geom.specs.declared.point.Pt.{Pt}
