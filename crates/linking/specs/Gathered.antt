@@ -1,5 +1,5 @@
 -- What is gathered from the tiles of a grid (own).
-use Rattle.std.specs.Prelude.{◌≡◌, ◌≢◌, ◌↔◌, ℕ, ◌<◌, List, AllPairs, Contains, length, map, slice_get}
+use Rattle.std.specs.Prelude.{◌≡◌, ◌≢◌, ◌↔◌, ℕ, ◌<◌, List, AllPairs, Contains, Some, length, map, slice_get}
 use Rattle.geom.specs.declared.point.Pt.{Pt}
 use Rattle.geom.specs.declared.rect.Rect.{Rect}
 use Rattle.geom.specs.declared.segment.Seg.{Seg}
