@@ -67,6 +67,7 @@ pub fn check<'a, 'b, A: Allocator>(
     })
 }
 
+/// Whether a plan is within its limits; the side of a tile is refused before the number of workers.
 pub fn check_plan(plan: Plan) -> Result<(), RunFault>
     ensures { MatchResult result (λ _. IsPlan plan) (λ f. IsRefusedPlan plan f.at f.fault) }
 {

@@ -41,6 +41,7 @@ pub fn push_number<I: Integer, A: Allocator>(
     text.extend_from_slice(buffer.format(number).as_bytes())
 }
 
+/// Adds a point: its coordinates with a blank between them.
 pub fn push_point<A: Allocator>(text: &mut Vec<u8, A>, point: Pt) -> Result<(), AllocError>
     ensures { OnOk result (text.new.items ≡ text.old.items ++ pt_words point) }
 {
@@ -79,6 +80,7 @@ pub fn edges_text<A: Allocator>(alloc: A, edges: &[Counted]) -> Result<Vec<u8, A
     Ok(text)
 }
 
+/// Adds a line of the report: a name and its number.
 pub fn push_line<I: Integer, A: Allocator>(
     text: &mut Vec<u8, A>,
     name: &str,
@@ -93,6 +95,7 @@ pub fn push_line<I: Integer, A: Allocator>(
     Ok(())
 }
 
+/// Adds the line of a tile: its number, its own hot pixels, and its records.
 pub fn push_tile<A: Allocator>(
     text: &mut Vec<u8, A>,
     number: usize,
