@@ -3,7 +3,7 @@
 //! each request for memory refused in turn.
 
 mod alone;
-mod layers;
+mod cases;
 mod limits;
 mod many_layers;
 mod many_parts;

@@ -1,6 +1,6 @@
 //! The same rows and reports by the calling thread alone, whose requests for memory are refused in turn by `--fail-alloc`.
 
-use crate::faces::layers::{CASES, Case, lent};
+use crate::faces::cases::{CASES, Case, lent};
 use engine::{FacesLimits, FacesPart, FacesRefusal, faces_alone, faces_report_text};
 use geom::{Fault, NoMemory};
 use std::alloc::Global;

@@ -1,6 +1,6 @@
 //! As many features of rows as there may be, and as many segments, and one more.
 
-use crate::faces::layers::{ALONE, COPIES, Case, EMPTIES, NONE, THREE, WORKED, lent};
+use crate::faces::cases::{ALONE, COPIES, Case, EMPTIES, NONE, THREE, WORKED, lent};
 use engine::{
     FacesFault, FacesLimits, FacesPart, FacesRefusal, MemSink, Plan, Sink, faces_line,
     faces_status, faces_within,

@@ -1,6 +1,6 @@
 //! What faces are refused for: the first of the refusals in their order, with nothing written.
 
-use crate::faces::layers::lent;
+use crate::faces::cases::lent;
 use engine::{
     FacesLimits, FacesPart, FacesRefusal, MemSink, Plan, faces_line, faces_status, faces_within,
 };

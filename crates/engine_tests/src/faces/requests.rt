@@ -1,6 +1,6 @@
 //! What is answered where a request for memory is refused.
 
-use crate::faces::layers::{Case, EMPTIES, WORKED, lent};
+use crate::faces::cases::{Case, EMPTIES, WORKED, lent};
 use engine::{FacesPart, FacesRefusal, MemSink, Plan, faces, faces_status};
 use geom::{Fault, NoMemory};
 use refusing::Refusing;

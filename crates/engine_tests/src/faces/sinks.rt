@@ -2,7 +2,7 @@
 
 ghost use Rattle.std.specs.Prelude.{◌<◌};
 
-use crate::faces::layers::{WORKED, lent};
+use crate::faces::cases::{WORKED, lent};
 use crate::one_by_one::OneByOne;
 use engine::{FacesFault, FacesPart, FacesRefusal, MemSink, Plan, Sink, faces, faces_status};
 use geom::{Fault, NoMemory};

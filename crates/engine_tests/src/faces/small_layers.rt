@@ -1,6 +1,6 @@
 //! The rows of small layers, by plans of all kinds, and their reports.
 
-use crate::faces::layers::{CASES, Case, lent};
+use crate::faces::cases::{CASES, Case, lent};
 use engine::{MemSink, Plan, faces, faces_report_text};
 use geom::NoMemory;
 use std::alloc::Global;
