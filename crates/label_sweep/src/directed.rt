@@ -87,8 +87,8 @@ fn swept_in_parts<R: Threads + Sync, A: Allocator + Copy + Send + Sync>(
     Ok(Directed::new(edges))
 }
 
-/// The directed edges of the result of an operation on two layers, ascending by start, then by end: those that `labels`
-/// gives, in n log n steps, for noded edges of even degrees alone. Edges that change no parity are left out first.
+/// The directed edges that bound the result of an operation on two layers, ascending by start, then by end, in n log n steps, of noded
+/// edges of even degrees. Edges that change no parity are left out first.
 pub fn layer_labels<A: Allocator + Copy>(
     alloc: A,
     counted: &[Counted],

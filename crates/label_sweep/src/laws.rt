@@ -14,7 +14,7 @@ pub fn left_of_first()
     ensures { LeftOfFirst }
 {}
 
-/// Or none.
+/// Where no edge is above the vertex, that edge has no parity on its left.
 pub fn first_left()
     ensures { FirstLeft }
 {}

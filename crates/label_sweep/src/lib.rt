@@ -33,9 +33,6 @@ pub use laws::{
     right_is_beyond, search_is_monotone, standing_reaches, standing_stays, turn_is_labelled,
 };
 pub use overlap::merged;
-pub use parities::Parities;
-pub use pass::sweep;
 pub use shared_vertices::vertices_in_parts;
-pub use standing::{LabelledEdge, Spoke, StandingEdge};
 pub use strips::strips_of;
 pub use swept::{SweptEdge, swept_edges, swept_edges_in_parts};

@@ -175,7 +175,8 @@ pub fn sweep<A: Allocator + Copy>(
     let first = vertices[strip.from];
     let start = first_of(counted, first);
     let mut line = SweepLine::before(alloc, counted, first)?;
-    let mut labelled = Vec::with_capacity(alloc, counted.len() - start)?;
+    let edges = edges_up_to(counted, vertices, strip.past).saturating_sub(start);
+    let mut labelled = Vec::with_capacity(alloc, edges)?;
     let mut next = start;
     for number in strip.from..strip.past {
         let from = next;

@@ -15,8 +15,11 @@ ghost use Rattle.label_sweep.specs.Status.{AreEnds, AreVertices, IsVertexOf};
 use geom::{Counted, NoMemory, Pt};
 use std::alloc::Allocator;
 
-/// The places of the table of first ends.
-const PLACES: usize = 16_384;
+/// How many places the table of first ends has at most.
+const MOST_PLACES: usize = 16_384;
+
+/// How many places of the table an edge is worth.
+const PLACES: usize = 4;
 
 /// The ends of the edges, each once, ascending.
 pub fn vertices_of<A: Allocator + Copy>(
@@ -46,7 +49,8 @@ fn ends_of<A: Allocator + Copy>(alloc: A, counted: &[Counted]) -> Result<Vec<Pt,
     if counted.is_empty() {
         return Ok(ends);
     }
-    let mut held = vec![in alloc; counted[0].edge.p; PLACES]?;
+    let places = counted.len().saturating_mul(PLACES).min(MOST_PLACES);
+    let mut held = vec![in alloc; counted[0].edge.p; places]?;
     add_second_ends(&mut ends, &mut held, counted)?;
     Ok(ends)
 }
@@ -75,22 +79,22 @@ fn first_ends<A: Allocator + Copy>(alloc: A, counted: &[Counted]) -> Result<Vec<
     Ok(ends)
 }
 
-/// A point's place in the table: neighbours have different ones.
-fn place_of(v: Pt) -> usize
-    ensures { result < PLACES }
-{
+/// A point's place in a table with so many: neighbours have different ones.
+fn place_of(v: Pt, places: usize) -> usize {
     let by_column = v.x.cast_unsigned().wrapping_mul(0x9E37_79B1);
     let by_row = v.y.cast_unsigned().wrapping_mul(0x85EB_CA77);
-    (by_column.wrapping_add(by_row) >> 18) as usize % PLACES
+    let mixed = u64::from(by_column.wrapping_add(by_row));
+    (mixed.wrapping_mul(places as u64) >> 32) as usize
 }
 
 /// Whether the table has a point in its place.
 fn is_held(held: &[Pt], v: Pt) -> bool
-    requires places { length held.now ≡ PLACES }
     ensures { result ≡ true → Contains held.now v }
 {
-    let other = held[place_of(v)];
-    other == v
+    match held.get(place_of(v, held.len())) {
+        Some(other) => *other == v,
+        None => false,
+    }
 }
 
 /// Adds a second end, if it isn't among the ends that the table holds.
@@ -99,7 +103,6 @@ fn add_second_end<A: Allocator>(
     held: &[Pt],
     one: &Counted,
 ) -> Result<(), NoMemory>
-    requires places { length held.now ≡ PLACES }
     requires held { All (Contains ends.old.items) held.now }
     ensures added { OnOk result (Contains ends.new.items one.now.edge.q) }
     ensures kept { OnOk result ((v : Pt) → Contains ends.old.items v → Contains ends.new.items v) }
@@ -113,11 +116,12 @@ fn add_second_end<A: Allocator>(
 
 /// Puts a point in its place in the table.
 fn hold(held: &mut [Pt], v: Pt)
-    requires places { length held.old ≡ PLACES }
-    ensures places { length held.new ≡ PLACES }
-    ensures held { (w : Pt) → Contains held.new w → Contains held.old w ⊎ (w ≡ v) }
+    ensures { (w : Pt) → Contains held.new w → Contains held.old w ⊎ (w ≡ v) }
 {
-    held[place_of(v)] = v;
+    let place = place_of(v, held.len());
+    if place < held.len() {
+        held[place] = v;
+    }
 }
 
 /// Adds the second ends, where the first ends are listed and the table holds some of them.
@@ -126,7 +130,6 @@ fn add_second_ends<A: Allocator>(
     held: &mut [Pt],
     counted: &[Counted],
 ) -> Result<(), NoMemory>
-    requires places { length held.old ≡ PLACES }
     requires held { All (Contains ends.old.items) held.old }
     requires all { All (λ c. Contains ends.old.items c.edge.p) counted.now }
     requires only { All (IsVertexOf (edges_of counted.now)) ends.old.items }

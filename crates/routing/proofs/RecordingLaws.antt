@@ -2,8 +2,6 @@
 use Rattle.std.proofs.Common.{◌≡◌, ◌⊎◌, inl, inr, ℕ, ◌+◌, ◌<◌, ◌≤◌, List, [], ◌∷◌, ◌++◌, refl, sym, ◌∙◌, ap, arith, subst, length, get_or, take, ◌↔◌, ⊎_elim}
 use Rattle.std.proofs.Math.IntN.{pos}
 use Rattle.std.specs.Prelude.{All, AllPairs, Contains, Some, slice_get}
-use Rattle.std.specs.List.Sorted.{IsPermutation}
-use Rattle.std.proofs.lemmas.List.Sorted.{Contains-permutation, IsPermutation-sym}
 use Rattle.std.proofs.lemmas.Bool.{cases_lt}
 use Rattle.std.proofs.lemmas.Option.{slice_get-get_or, get_or_from_slice_get, slice_get_within}
 use Rattle.std.proofs.lemmas.List.Elements.{All-contains, Contains-push, Contains-push_cases, Contains-get_or, Contains-append_left, Contains-append_right, Contains-append_cases}
@@ -116,35 +114,6 @@ at_end segments table first place pixel old list x s at is ends h = record { sam
 -- no place is left
 pub at_all : (segments : List Seg) (table : List OnLine) (first place past : ℕ) (pixel : Pt) (old new : List Record) → place ≡ past → AddsAt segments table first place pixel old new → AddsAt segments table first past pixel old new
 at_all segments table first place past pixel old new e h = subst (λ (k : ℕ). AddsAt segments table first k pixel old new) e h
-
--- ---- one line, at pixels
-pub along_none : (segments : List Seg) (table : List OnLine) (line : Line) (old : List Record) → AddsAlong segments table line [] old old
-along_none segments table line old = record { same = λ r. (λ h. inl h, λ h. ⊎_elim (λ k. k) (λ k. absurd (none_in r.pixel k.1)) h) }
-
-module _ (segments : List Seg) (table : List OnLine) (line : Line) (old : List Record) (pixels : List Pt) (list : List Record) (i : ℕ) (pixel : Pt) (below : i < length pixels) (is : pixel ≡ get_or pixels i pixel) (h : AddsAlong segments table line (take i pixels) old list) where
-  more : (c : Pt) → Contains (take (i + 1) pixels) c ↔ (Contains (take i pixels) c ⊎ (pixel ≡ c))
-  more c = in_take_more pixels i pixel below is c
-
-  pub along_skip : ¬ (IsMetOn line.edge pixel) → AddsAlong segments table line (take (i + 1) pixels) old list
-  along_skip misses = record {
-    same = λ r. (
-      (λ k. ⊎_elim (λ m. inl m) (λ m. inr (m.0, (more r.pixel).1 (inl m.1))) ((h.same r).0 k)),
-      (λ k. ⊎_elim (λ m. (h.same r).1 (inl m)) (λ m. ⊎_elim (λ n. (h.same r).1 (inr (m.0, n))) (λ n. absurd (misses (subst (λ (c : Pt). IsMetOn line.edge c) (sym n) m.0.met))) ((more r.pixel).0 m.1)) k),
-    );
-  }
-
-  pub along_push : (new : List Record) → IsMetOn line.edge pixel → AddsAt segments table line.first line.past pixel list new → AddsAlong segments table line (take (i + 1) pixels) old new
-  along_push new met g = record { same = λ r. (to r, from r) }
-    where
-      to : (r : Record) → Contains new r → Contains old r ⊎ (IsRecordAlong segments table line r × Contains (take (i + 1) pixels) r.pixel)
-      to r k = ⊎_elim
-          (λ m. ⊎_elim (λ n. inl n) (λ n. inr (n.0, (more r.pixel).1 (inl n.1))) ((h.same r).0 m))
-          (λ m. inr (record { copy = m.0; met = subst (λ (c : Pt). IsMetOn line.edge c) m.1 met }, (more r.pixel).1 (inr m.1)))
-          ((g.same r).0 k)
-
-      from : (r : Record) → Contains old r ⊎ (IsRecordAlong segments table line r × Contains (take (i + 1) pixels) r.pixel) → Contains new r
-      from r (inl k) = (g.same r).1 (inl ((h.same r).1 (inl k)))
-      from r (inr k) = ⊎_elim (λ m. (g.same r).1 (inl ((h.same r).1 (inr (k.0, m))))) (λ m. (g.same r).1 (inr (k.0.copy, m))) ((more r.pixel).0 k.1)
 
 -- ---- lines, at pixels
 pub lines_none : (segments : List Seg) (table : List OnLine) (pixels : List Pt) (old : List Record) → AddsRecordsAt segments table [] pixels old old
@@ -260,12 +229,6 @@ table_more segments numbers i k s x list l is at on e h = record { only = only; 
         (λ o. let r = h.all n o in (r.0, in_push list r.0 x r.1, r.2))
         (λ o. (x, Contains-push list x, e ∙ o))
         ((more n).0 m)
-
-pub table_same : (segments : List Seg) (numbers : List ℕ) (xs ys : List OnLine) → IsPermutation xs ys → IsTable segments numbers xs → IsTable segments numbers ys
-table_same segments numbers xs ys moved h = record {
-  only = λ x m. h.only x (Contains-permutation ys xs x (IsPermutation-sym xs ys moved) m);
-  all = λ k m. let r = h.all k m in (r.0, Contains-permutation xs ys r.0 moved r.1, r.2);
-}
 
 pub table_limit : (segments : List Seg) (numbers : List ℕ) (table : List OnLine) → All (λ s. AreInLimit s.a s.b) segments → IsTable segments numbers table → All (λ x. AreInLimit x.edge.p x.edge.q) table
 table_limit segments numbers table limits h = λ k d l.
@@ -538,10 +501,6 @@ module _ (segments : List Seg) (numbers : List ℕ) (table : List OnLine) (lines
 
 pub no_records : (segments : List Seg) (numbers : List ℕ) → HasInnerRecords (candidates_of segments numbers) [] []
 no_records segments numbers = record { same = λ r. (λ h. absurd (none_in r h), λ h. absurd (none_in r.pixel h.1)) }
-
--- where no pixel is hot, no record has to be added
-pub nothing_recorded : (segments : List Seg) (table : List OnLine) (Inside : Pt → Type 0) (lines : List Line) (old : List Record) → ((c : Pt) → Inside c → IsHotFor (edges_of lines) c → ⊥) → AddsRecordsInside segments table Inside lines old old
-nothing_recorded segments table Inside lines old none = record { same = λ r. ((λ h. inl h), (λ h. ⊎_elim (λ k. k) (λ k. absurd (none r.pixel k.2 k.1)) h)) }
 
 -- the same records under another name of what is inside
 pub records_same : (segments : List Seg) (table : List OnLine) (Inside Other : Pt → Type 0) (lines : List Line) (old new : List Record) → ((c : Pt) → Inside c ↔ Other c) → AddsRecordsInside segments table Inside lines old new → AddsRecordsInside segments table Other lines old new

@@ -5,8 +5,8 @@
 //!    all do, the others are crossed with all lines (`hot_pixel: hot_beside`).
 //! 3. Another one with many lines is parted (`hot_pixel: parts`), and each part is left with the lines that may meet its pixels.
 //! 4. Where few are left, or one pixel, all pairs are crossed; in a pixel with many lines those of one line of each carrier.
-//! 5. Each line is tested on each hot pixel that was found there; where both are many, on those that it comes near (`spread`). Where
-//!    it meets one, each segment on the line has a record.
+//! 5. Each line is tested on the hot pixels that were found there (`recording`); where both are many, on those that it comes near
+//!    (`spread`). Where it meets one, each segment on the line has a record.
 
 ghost use Rattle.std.specs.Prelude.{◌<◌, ◌≤◌, All, IfOk, IfSome, List, OnOk, [], length};
 ghost use Rattle.geom.specs.declared.rect.Rect.{Rect};
@@ -18,113 +18,20 @@ ghost use Rattle.hot_pixel.specs.Rects.{IsIn};
 ghost use Rattle.hot_pixel.specs.Walls.{IsInside};
 ghost use Rattle.routing.specs.Found.{HasInnerRecords};
 ghost use Rattle.routing.specs.Pieces.{candidates_of};
-ghost use Rattle.routing.specs.Recording.{AddsAt, AddsAlong, AddsRecordsAt, AddsRecordsInside};
+ghost use Rattle.routing.specs.Recording.{AddsRecordsInside};
 
 use crate::by_line::{OnLine, by_line, lines_of};
-use crate::met::meets;
 use crate::pieces::Part;
-use crate::piled::{add_new_at, is_pile};
-use crate::record::{Record, is_end, record_at};
 use crate::spread::add_spread;
 use geom::{NoMemory, Pt, Rect, Seg};
 use hot_pixel::{
-    FEW, Line, Region, add_hot, ascending, hot_beside, kept, on_line, parts, reaching, within_limit,
+    FEW, Line, Region, add_hot, ascending, hot_beside, kept, parts, reaching, within_limit,
 };
 use std::alloc::Allocator;
 
 /// How often a region is parted at most. Within the coordinate limit a single pixel is left after 60 halvings of its rectangle, but
 /// that once by columns and once by rows a part may be larger than a half (`hot_pixel: parts`); and it has 60 walls at most.
 const DEPTH: u32 = 122;
-
-/// Adds the record of each segment on a line at a pixel that is no end of it.
-#[inline(never)]
-fn add_at<A: Allocator>(
-    records: &mut Vec<Record, A>,
-    segments: &[Seg],
-    table: &[OnLine],
-    line: &Line,
-    pixel: Pt,
-) -> Result<(), NoMemory>
-    requires segments_in { All (λ s. AreInLimit s.a s.b) segments.now }
-    requires table_in { All (λ x. x.number < length segments.now) table.now }
-    requires line_in { line.now.past ≤ length table.now }
-    requires pixel_in { InLimit pixel }
-    ensures { OnOk result (AddsAt segments.now table.now line.now.first line.now.past pixel records.old.items records.new.items) }
-{
-    for place in line.first..line.past {
-        let number = table[place].number;
-        if !is_end(&segments[number as usize], pixel) {
-            records.push(record_at(segments, number, pixel))?;
-        }
-    }
-    Ok(())
-}
-
-/// The same; of a pile those that aren't told yet.
-fn add_met<A: Allocator>(
-    records: &mut Vec<Record, A>,
-    segments: &[Seg],
-    table: &[OnLine],
-    line: &Line,
-    pixel: Pt,
-) -> Result<(), NoMemory>
-    requires segments_in { All (λ s. AreInLimit s.a s.b) segments.now }
-    requires table_in { All (λ x. x.number < length segments.now) table.now }
-    requires line_in { line.now.past ≤ length table.now }
-    requires pixel_in { InLimit pixel }
-    ensures { OnOk result (AddsAt segments.now table.now line.now.first line.now.past pixel records.old.items records.new.items) }
-{
-    if is_pile(line) {
-        add_new_at(records, segments, table, line, pixel)
-    } else {
-        add_at(records, segments, table, line, pixel)
-    }
-}
-
-/// Adds the records of the segments on a line at those of the pixels that it meets.
-fn add_along<A: Allocator>(
-    records: &mut Vec<Record, A>,
-    segments: &[Seg],
-    table: &[OnLine],
-    line: &Line,
-    pixels: &[Pt],
-) -> Result<(), NoMemory>
-    requires segments_in { All (λ s. AreInLimit s.a s.b) segments.now }
-    requires table_in { All (λ x. x.number < length segments.now) table.now }
-    requires line_in { line.now.past ≤ length table.now }
-    requires edge_in { AreInLimit line.now.edge.p line.now.edge.q }
-    requires pixels_in { All InLimit pixels.now }
-    ensures { OnOk result (AddsAlong segments.now table.now line.now pixels.now records.old.items records.new.items) }
-{
-    let s = on_line(&line.edge);
-    for pixel in pixels {
-        if meets(&s, *pixel) {
-            add_met(records, segments, table, line, *pixel)?;
-        }
-    }
-    Ok(())
-}
-
-/// Adds the records of the segments on lines at those of the pixels that they meet: each line is tested on each pixel.
-pub(crate) fn add_records<A: Allocator>(
-    records: &mut Vec<Record, A>,
-    segments: &[Seg],
-    table: &[OnLine],
-    lines: &[Line],
-    pixels: &[Pt],
-) -> Result<(), NoMemory>
-    requires segments_in { All (λ s. AreInLimit s.a s.b) segments.now }
-    requires table_in { All (λ x. x.number < length segments.now) table.now }
-    requires lines_past { All (λ l. l.past ≤ length table.now) lines.now }
-    requires lines_in { All (λ l. AreInLimit l.edge.p l.edge.q) lines.now }
-    requires pixels_in { All InLimit pixels.now }
-    ensures { OnOk result (AddsRecordsAt segments.now table.now lines.now pixels.now records.old.items records.new.items) }
-{
-    for line in lines {
-        add_along(records, segments, table, line, pixels)?;
-    }
-    Ok(())
-}
 
 /// Adds those of the pixels that are hot for the lines of a rectangle that lie in a region of it, and the records there.
 fn add_found<A: Allocator + Copy>(

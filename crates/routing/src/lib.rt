@@ -2,8 +2,8 @@
 //!
 //! 1. The segments are cut where they overlap on one carrier (`cutting`), and sorted by their lines (`by_line`).
 //! 2. The cell is halved until few lines are left (`halved`).
-//! 3. In a leaf each line is tested on each hot pixel, and its segments get records (`met`, `record`). Where lines and pixels are many,
-//!    the pixels are halved first (`spread`).
+//! 3. In a leaf each line is tested on the hot pixels in its box, which lanes tell, and its segments get records (`recording`, `met`).
+//!    Where lines and pixels are many, the pixels are halved first (`spread`).
 //!
 //! The promise: exactly the pairs of a segment and an owned hot pixel that it meets. The definitions are in `specs/Pieces`.
 #![tactic(auto)]
@@ -16,6 +16,7 @@ mod met;
 mod pieces;
 mod piled;
 mod record;
+mod recording;
 mod spread;
 
 pub use finding::{part, piece};

@@ -11,8 +11,9 @@ ghost use Rattle.routing.specs.Recording.{AddsRecordsAt};
 ghost use Rattle.routing.specs.Spread.{AreThoseIn};
 
 use crate::by_line::OnLine;
-use crate::halved::{add_records, fewer, left_of};
+use crate::halved::{fewer, left_of};
 use crate::record::Record;
+use crate::recording::add_records;
 use geom::{NoMemory, Pt, Rect, Seg};
 use hot_pixel::{FEW, Line, Region, cut};
 use std::alloc::Allocator;

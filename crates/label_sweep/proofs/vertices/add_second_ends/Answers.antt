@@ -17,14 +17,13 @@ loop-number-preserved g c =
     let bound = i.0 in
     let h : n < length cs = omega (arith, c.loop-number-test.true, bound) in (
       omega (arith, bound),
-      c.hold.ensures.places,
-      held_more ends more c.loop-number.held c.hold.new.held (get_or cs n two).edge.p e.kept i.2 (i.3 n two h) c.hold.ensures.held,
-      (λ k d l. e.kept (get_or cs k d).edge.p (i.3 k d l)),
-      from_before (λ (t : Counted). Contains more t.edge.q) cs n c.loop-number.number one (omega (arith, c.loop-number-test.true)) h c.index-counted-number.is e.added (λ k d l u. e.kept (get_or cs k d).edge.q (i.4 k d l u)),
-      seconds_more cs ends more n one h c.index-counted-number.is i.5 e.only,
+      held_more ends more c.loop-number.held c.hold.new.held (get_or cs n two).edge.p e.kept i.1 (i.2 n two h) c.hold.ensures,
+      (λ k d l. e.kept (get_or cs k d).edge.p (i.2 k d l)),
+      from_before (λ (t : Counted). Contains more t.edge.q) cs n c.loop-number.number one (omega (arith, c.loop-number-test.true)) h c.index-counted-number.is e.added (λ k d l u. e.kept (get_or cs k d).edge.q (i.3 k d l u)),
+      seconds_more cs ends more n one h c.index-counted-number.is i.4 e.only,
     )
 
 pub returns : goal.returns
 returns g c =
     let i = c.loop-number.invariant in
-    are_ends c.args.counted.now c.loop-number.ends.items i.3 (λ k d l. i.4 k d (omega (arith, c.loop-number-test.false)) l) i.5
+    are_ends c.args.counted.now c.loop-number.ends.items i.2 (λ k d l. i.3 k d (omega (arith, c.loop-number-test.false)) l) i.4

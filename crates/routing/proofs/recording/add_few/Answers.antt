@@ -3,7 +3,7 @@ use Rattle.std.proofs.lemmas.List.{take_all}
 use Rattle.hot_pixel.specs.declared.lines.Line.{Line}
 use Rattle.routing.specs.Recording.{AddsRecordsAt}
 use Rattle.routing.proofs.RecordingLaws.{lines_none, lines_more}
-use Rattle.routing.proofs.halved.add_records.Goals as goal
+use Rattle.routing.proofs.recording.add_few.Goals as goal
 
 pub loop-line-init : goal.loop-line-init
 loop-line-init g c = lines_none c.args.segments.now c.args.table.now c.args.pixels.now c.args.records.now.items

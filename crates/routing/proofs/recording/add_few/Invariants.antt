@@ -1,6 +1,6 @@
 use Rattle.std.proofs.Common.{take}
 use Rattle.routing.specs.Recording.{AddsRecordsAt}
-use Rattle.routing.proofs.halved.add_records.Given as goal
+use Rattle.routing.proofs.recording.add_few.Given as goal
 
 abbrev pub invariant-loop-line : goal.invariant-loop-line
 invariant-loop-line g l = AddsRecordsAt l.segments l.table (take l.line-index l.lines) l.pixels l.initial.records.items l.records.items

@@ -5,8 +5,8 @@ use Rattle.geom.specs.declared.segment.Seg.{Seg}
 use Rattle.geom.proofs.Lists.{some_same}
 use Rattle.routing.specs.Pieces.{IsEnd}
 use Rattle.routing.proofs.RecordingLaws.{IsInnerAt, at_none, at_more, at_end, at_all}
-use Rattle.routing.proofs.halved.add_at.Goals as goal
-use Rattle.routing.proofs.halved.add_at.Goals.{then-not-is_end+in_ok-push, else-not-is_end}
+use Rattle.routing.proofs.recording.add_at.Goals as goal
+use Rattle.routing.proofs.recording.add_at.Goals.{then-not-is_end+in_ok-push, else-not-is_end}
 
 pub loop-place-init : goal.loop-place-init
 loop-place-init g c = (at_none c.args.segments.now c.args.table.now c.args.line.now.first c.args.pixel c.args.records.now.items, omega arith, c.args.line.now.ordered)
