@@ -24,9 +24,6 @@ block_of l m p set x le h i = to_block m (x / 2 ^ m) set (λ f j. coarser l m f 
 pub block_more : (l m : ℕ) (set : List ℕ) (x : ℕ) → l ≤ m → InBlock l (x / 2 ^ l) set → InBlock m (x / 2 ^ m) set
 block_more l m set x le h = to_block m (x / 2 ^ m) set (λ f j. coarser l m f x le (at_block l (x / 2 ^ l) set h f j))
 
-pub none_in_block : (l p : ℕ) → InBlock l p []
-none_in_block l p k d h = absurd (omega arith)
-
 -- ---- a set that splits
 module _ (levels : ℕ) (low high : List ℕ) (s : Splits levels low high) where
   pub whole : InBlock levels s.prefix (low ++ high)

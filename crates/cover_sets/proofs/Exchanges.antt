@@ -31,18 +31,6 @@ has_not f xs n = by (has f xs) refl
     by false e = e
 
 -- ---- with nothing, and with itself
-pub differ_none : (t : Bool) → t ≡ differ t false
-differ_none true = refl
-differ_none false = refl
-
-pub differ_from : (t : Bool) → t ≡ differ false t
-differ_from true = refl
-differ_from false = refl
-
-pub differ_itself : (t : Bool) → false ≡ differ t t
-differ_itself true = refl
-differ_itself false = refl
-
 -- ---- what differs is in one of both
 one_of : (s t : Bool) → differ s t ≡ true → (s ≡ true) ⊎ (t ≡ true)
 one_of true t h = inl refl

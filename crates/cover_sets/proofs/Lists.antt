@@ -40,8 +40,3 @@ module _ (P Q : ℕ → Type 0) (never : (x : ℕ) → P x → Q x → ⊥) wher
       let t : xs ++ ys ≡ us ++ vs = cc in
       let r = one_split xs ys us vs t (λ y i. a y (inr i)) b (λ y i. c y (inr i)) d in
       (ap (λ (y : ℕ). y ∷ xs) h ∙ ap (λ (l : List ℕ). u ∷ l) r.0, r.1)
-
-pub one_element : (xs : List ℕ) (p : ℕ) → Ascend xs → ((x : ℕ) → In x xs → x ≡ p) → (xs ≡ []) ⊎ (xs ≡ p ∷ [])
-one_element [] p h k = inl refl
-one_element (x ∷ []) p h k = inr (ap (λ (y : ℕ). y ∷ []) (k x (inl refl)))
-one_element (x ∷ y ∷ xs) p h k = absurd (let l = pairs_head (λ (a b : ℕ). a < b) x (y ∷ xs) h y (inl refl) in let a = k x (inl refl) in let b = k y (inr (inl refl)) in omega arith)

@@ -71,10 +71,6 @@ some_not_none o x h k = absurd (cc)
 some_is : {X : Type 0} (o : Option X) (x y : X) → o ≡ Some x → o ≡ Some y → x ≡ y
 some_is o x y h k = cc
 
-not_nothing : (xs : List ℕ) → 0 < length xs → xs ≢ []
-not_nothing [] l e = omega arith
-not_nothing (x ∷ xs) l e = absurd (cc)
-
 -- a number that isn't that of the empty set has a set with features
 pub has_features : (trees : List Tree) (found : ℕ → Option ℕ) → AreTrees trees found → (n : ℕ) → IsNumber (sets_of trees) n → n < 4294967295 → set_of (sets_of trees) n ≢ []
 has_features trees found h n (inl i) l e =

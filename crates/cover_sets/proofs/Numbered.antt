@@ -66,9 +66,6 @@ module _ (S : List (List ℕ)) (L : List ℕ) where
       less (suc f) (suc g) = ⊎_elim (λ k. inl (omega arith)) (λ k. inr (omega arith)) (less f g)
   old_or_new n (inr h) = inl (inr h)
 
-pub keeps_self : (S : List (List ℕ)) → Keeps S S
-keeps_self S n h = (h, refl)
-
 pub keeps_then : (S T U : List (List ℕ)) → Keeps S T → Keeps T U → Keeps S U
 keeps_then S T U h k n i = let a = h n i in let b = k n a.0 in (b.0, b.1 ∙ a.1)
 

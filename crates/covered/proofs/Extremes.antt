@@ -41,9 +41,3 @@ by_greatest split set f h = same_when (has_of_b split set) (leb split f)
     let a = from r.0 split r.2 in
     let b = not_from f split n in
     absurd (omega arith)))
-
-pub none_of_a : (split : ℕ) (set : List ℕ) → set ≡ [] → has_of_a split set ≡ false
-none_of_a split set h = ap (has_of_a split) h
-
-pub none_of_b : (split : ℕ) (set : List ℕ) → set ≡ [] → has_of_b split set ≡ false
-none_of_b split set h = ap (has_of_b split) h

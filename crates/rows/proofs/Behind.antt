@@ -55,18 +55,11 @@ next_layer counts rows i first count d old new below is h have = record {
       ∙ ap (λ ls. h.done ++ ls) (sym here) ∙ h.whole;
 }
 
-pub all_listed : {M : Type 0} (counts : List ℕ) (rows : List Row) (i first : ℕ) (l : NumberLists M) → drop i counts ≡ [] → AreListedTo counts rows i first l → HaveLists (set_lists 0 counts rows) l
-all_listed {M} counts rows i first l none h =
-    subst (λ ls. HaveLists ls l) (sym (append-nil h.done) ∙ ap (λ cs. h.done ++ set_lists first cs rows) (sym none) ∙ h.whole) h.have
-
 -- the polygons of the rows before some, and those of these
 pub record AreShapedTo {M N : Type 0} (rows rest : List (made.Row M)) (p : RowPolygons N) : Type 0 where
   pub done : List (List Shape)
   pub have : HaveShapes done p
   pub whole : done ++ shapes_in (map row_of rest) ≡ shapes_in (map row_of rows)
-
-pub none_shaped : {M N : Type 0} (rows : List (made.Row M)) (p : RowPolygons N) → HaveShapes [] p → AreShapedTo rows rows p
-none_shaped rows p h = record { done = []; have = h; whole = refl }
 
 pub next_shaped : {M N K : Type 0} (rows rest left : List (made.Row M)) (row : made.Row M) (old : RowPolygons N) (new : RowPolygons K) → rest ≡ row ∷ left → (h : AreShapedTo rows rest old) → HaveShapes (h.done ++ row.polygons.items ∷ []) new → AreShapedTo rows left new
 next_shaped rows rest left row old new is h have = record {
