@@ -107,6 +107,3 @@ holds_more segments i old mid new s is l all first second h = record {
         let e : get_or segments i s ≡ get_or segments i d = some_same (slice_get-get_or segments i s l) (slice_get-get_or segments i d l) in
         let t : IsInBox new.lo new.hi s.a × IsInBox new.lo new.hi s.b = (still_in mid s.b new second s.a (now_in old s.a mid first), now_in mid s.b new second) in
         subst (λ (t : Seg). IsInBox new.lo new.hi t.a × IsInBox new.lo new.hi t.b) e (subst (λ (t : Seg). IsInBox new.lo new.hi t.a × IsInBox new.lo new.hi t.b) is t)
-
-pub holds_all : (segments : List Seg) (count : ℕ) (r : Rect) → ¬ (count < length segments) → HoldsFirst segments count r → BoundsHold (Some r) segments
-holds_all segments count r past h = λ s (k, l, e). subst (λ (t : Seg). IsInBox r.lo r.hi t.a × IsInBox r.lo r.hi t.b) e (h.holds k s (omega (arith, past, l)))

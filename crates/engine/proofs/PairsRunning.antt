@@ -53,9 +53,6 @@ pub record AreMadeTo {M : Type 0} (op : Op) (a b : Columns) (count : ℕ) (r : P
   pub count_is : length results ≡ count
   pub are_results : AreResultsOfPairs op a b results
 
-pub none_made : {M : Type 0} (op : Op) (a b : Columns) (r : PairResults M) → HaveResults [] r → AreMadeTo op a b 0 r
-none_made op a b r h = record { results = []; have = h; count_is = refl; are_results = λ i low. absurd (omega (arith, low)) }
-
 abbrev result_at : Op → Columns → Columns → ℕ → List Shape → Type 0
 result_at op a b i polygons = IsResultOfRings op (plain (get_or (feature_rings_in a) i [])) (plain (get_or (feature_rings_in b) i [])) polygons
 

@@ -5,6 +5,7 @@ ghost use Rattle.std.specs.Prelude.{◌≡◌};
 ghost use Rattle.geom.specs.Limit.{coordinate_limit};
 ghost use Rattle.grid.specs.Tiles.{most_tiles};
 ghost use Rattle.wkt.specs.Refusals.{length_limit};
+ghost use Rattle.layers.specs.FacesRefusals.{faces_limits};
 ghost use Rattle.layers.specs.Refusals.{segment_limit};
 ghost use Rattle.engine.specs.Determined.{EdgesSizesAreOne, EdgesSizesAreOneWithin, EdgesTextIsOne, EdgesTextIsOneWithin, RefusalIsOne, RefusalIsOneWithin, RefusedMayNotRun, RefusedMayNotRunWithin, ResultSizesAreOne, ResultSizesAreOneWithin, ResultTextIsOne, ResultTextIsOneWithin, RunReportsAsEdges, RunReportsAsEdgesWithin, TilesAreOne, TilesAreOneWithin};
 ghost use Rattle.engine.specs.ColumnsLaws.{ColumnsAnswerIsOne, ColumnsRefusalIsOne, ColumnsSizesAreOne, PairIsByColumns, RefusedColumnsMayNotRun, RunIsByColumns};
@@ -15,6 +16,7 @@ ghost use Rattle.engine.specs.Faces.{FacesRefusalIsOne, FacesTextIsOneWithin, Re
 ghost use Rattle.engine.specs.Counting.{CountsAreExact, CountsAreExactWithin};
 
 use grid::{DEFAULT_SIDE, GREATEST_SIDE, LEAST_SIDE};
+use layers::MOST_LAYERS;
 use std::alloc::Allocator;
 use tile_book::{MOST_HANDS, MOST_NUMBERS};
 
@@ -136,12 +138,14 @@ pub fn run_reports_as_edges<A: Allocator, B: Allocator>()
 {}
 
 /// The limits that the definitions cite, as numbers: a coordinate's greatest absolute value (2 to the 28th), the bytes of a
-/// layer text, the segments of both layers together where no limit is given, the sides of tiles in grid units, the default one
-/// among them, the tiles, the workers, and the cells that these draw.
+/// layer text, the segments of all layers together where no limit is given, the layers of faces, the features in all their rows
+/// together, the sides of tiles in grid units, the default one among them, the tiles, the workers, and the cells that these draw.
 pub fn limits_are_numbers()
     ensures coordinate { coordinate_limit ≡ 268435456 }
     ensures bytes { length_limit ≡ 268435456 }
     ensures segments { segment_limit ≡ 1048576 }
+    ensures layers { MOST_LAYERS ≡ 64 }
+    ensures ids { faces_limits.ids ≡ 268435456 }
     ensures sides { (LEAST_SIDE ≡ 16) × (DEFAULT_SIDE ≡ 262144) × (GREATEST_SIDE ≡ 33554432) }
     ensures tiles { most_tiles ≡ 65536 }
     ensures workers { MOST_HANDS ≡ 64 }

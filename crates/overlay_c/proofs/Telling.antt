@@ -13,28 +13,6 @@ use Rattle.overlay_c.specs.declared.made.Task.{Task}
 use Rattle.overlay_c.specs.declared.made.Task.TheVariants.{Apply, Edges}
 use Rattle.overlay_c.specs.Boundary.{Fills, IsAsked, IsMade, IsPut, Sizes, filled, none, none_filled, plain, sized, small}
 
-made : {M : Type 0} (limit : ℕ) (task : Task) (side : ℕ) (a b text : List ℕ) (counted : List Counted) (report : Report M) → ReportsWithin limit (alone side) a b counted report → IsAsked task counted text → IsMade limit task side a b text
-made limit task side a b text counted report r asked = record {
-  may = (r.rings_a, r.rings_b, r.grid, r.ready);
-  segments = r.rounded.segments;
-  are_segments = r.rounded.are_segments;
-  counted = counted;
-  rounded = r.rounded.rounded;
-  asked = asked;
-}
-
-pub result_made : {M : Type 0} (limit : ℕ) (op : Op) (side : ℕ) (a b : List ℕ) (r : Result (Output M) RunFault)
-    → MatchResult r (λ m. IsResultWrittenWithin limit op (alone side) a b m.text.items m.report) (λ f. DeclinesWithin limit (alone side) a b f.at f.fault)
-    → MatchResult r (λ m. IsMade limit (Apply op) side a b m.text.items) (λ f. DeclinesWithin limit (alone side) a b f.at f.fault)
-result_made limit op side a b (Ok m) h = made limit (Apply op) side a b m.text.items h.counted m.report h.reports h.result
-result_made limit op side a b (Err f) h = h
-
-pub edges_made : {M : Type 0} (limit : ℕ) (side : ℕ) (a b : List ℕ) (r : Result (Output M) RunFault)
-    → MatchResult r (λ m. AreEdgesWrittenWithin limit (alone side) a b m.text.items m.report) (λ f. DeclinesWithin limit (alone side) a b f.at f.fault)
-    → MatchResult r (λ m. IsMade limit Edges side a b m.text.items) (λ f. DeclinesWithin limit (alone side) a b f.at f.fault)
-edges_made limit side a b (Ok m) h = made limit Edges side a b m.text.items h.counted m.report h.reports h.text_is
-edges_made limit side a b (Err f) h = h
-
 -- ---- what was made or not, its size or where it was put
 module _ (IsText : List ℕ → Type 0) (IsFailure : OverlayAnswer → Type 0) where
   put_fills : (text before after : List ℕ) (answer : OverlayAnswer) → IsText text → IsPut text before after answer → Fills IsText IsFailure before after answer

@@ -1,5 +1,5 @@
 -- What the program writes about faces, and what it answers then (own).
-use Rattle.std.specs.Prelude.{◌≡◌, ◌⊎◌, ◌<◌, ℕ, Bool, true, false, List, [], ◌∷◌, ◌++◌, Option, Result, MatchOption, MatchResult, codes, length}
+use Rattle.std.specs.Prelude.{◌≡◌, ◌⊎◌, ◌<◌, ℕ, Bool, true, false, List, [], ◌∷◌, ◌++◌, Option, Result, MatchResult, codes, length}
 use Rattle.std.specs.declared.alloc.Global.{Global}
 use Rattle.clap.specs.Words.{Text}
 use Rattle.engine.specs.Faces.{RunsFaces}
@@ -12,7 +12,7 @@ use Rattle.layers.specs.declared.faces_fault.FacesFault.{FacesFault}
 use Rattle.layers.specs.declared.faces_limits.FacesLimits.{FacesLimits}
 use Rattle.engine.specs.declared.faces_report.FacesReport.{FacesReport}
 use Rattle.program.specs.FacesLine.{IsFacesAskedBy, IsFacesRefusalOf, asks_for_faces}
-use Rattle.program.specs.Program.{DoesLine, IsChosenSideOver, Shows, TellsFacesFault, TellsFile, TellsLine, TellsMemory, limit_of}
+use Rattle.program.specs.Program.{DoesLine, IsChosenSideOver, IsFittedOver, Shows, TellsFacesFault, TellsFile, TellsLine, TellsMemory, limit_of}
 use Rattle.program.specs.declared.asked.CliFault.{CliFault}
 use Rattle.program.specs.declared.asked.FacesRequest.{FacesRequest}
 use Rattle.program.specs.declared.files.LoadFault.{LoadFault}
@@ -42,7 +42,7 @@ abbrev pub RunsFacesFor : {S M : Type 0} → (S → SinkState) → S → S → F
 RunsFacesFor state old new request side texts r = RunsFaces (faces_limits_of request.segments) state old new (faces_plan_of request side) texts r
 
 abbrev pub PerformsFaces : {S M : Type 0} → (S → SinkState) → S → S → FacesRequest → List (List ℕ) → Result (FacesReport M) FacesFault → Type 0
-PerformsFaces state old new request texts r = (side : ℕ) × IsChosenSideOver request.side texts side × RunsFacesFor state old new request side texts r
+PerformsFaces state old new request texts r = (side : ℕ) × IsChosenSideOver request.side texts side × RunsFacesFor state old new request side texts r × IsFittedOver request.side r
 
 -- what is told of an answer: its report, where one is wanted
 abbrev pub TellsFacesAnswer : {E M : Type 0} → (E → SinkState) → E → E → Bool → FacesReport M → ℕ → Type 0

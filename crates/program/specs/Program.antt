@@ -1,11 +1,13 @@
 -- What the program writes, and what it answers then (own).
-use Rattle.std.specs.Prelude.{◌≡◌, ◌⊎◌, ℕ, Bool, true, false, List, [], ◌∷◌, ◌++◌, Option, Some, None, Result, MatchOption, MatchResult, codes, string_bytes}
+use Rattle.std.specs.Prelude.{◌≡◌, ◌≢◌, ◌⊎◌, ℕ, Bool, true, false, List, [], ◌∷◌, ◌++◌, Option, Some, None, Result, IfErr, MatchOption, MatchResult, codes, string_bytes}
 use Rattle.std.specs.declared.alloc.Global.{Global}
 use Rattle.clap.specs.Words.{Text}
 use Rattle.grid.specs.declared.sides.TheConstants.{DEFAULT_SIDE}
 use Rattle.engine.specs.CoveredRuns.{RunsCovered}
 use Rattle.layers.specs.FaultWords.{faces_line_of, faces_status_of, line_of, status_of}
 use Rattle.engine.specs.Fitting.{IsFittingSide, IsFittingSideOver}
+use Rattle.geom.specs.declared.fault.Fault.TheVariants.{TooManyTiles}
+use Rattle.geom.specs.declared.fault.Part.TheVariants.{Run}
 use Rattle.geom.specs.declared.fault.RunFault.{RunFault}
 use Rattle.geom.specs.declared.op.Op.{Op}
 use Rattle.engine.specs.Runs.{AreEdgesWrittenWithin, RunsWithin}
@@ -15,6 +17,8 @@ use Rattle.results.specs.Sinks.{SentAll, SentPart, SinkState}
 use Rattle.results.specs.Texts.{report_of}
 use Rattle.layers.specs.declared.plan.Plan.{Plan}
 use Rattle.layers.specs.declared.faces_fault.FacesFault.{FacesFault}
+use Rattle.layers.specs.declared.faces_fault.FacesPart.TheVariants.{Run as AllLayers}
+use Rattle.layers.specs.declared.faces_fault.FacesRefusal.TheVariants.{Usual}
 use Rattle.results.specs.declared.text.Report.{Report}
 use Rattle.program.specs.CommandLine.{IsAskedBy, IsRefusalOf, operation_covered}
 use Rattle.program.specs.declared.asked.CliFault.{CliFault}
@@ -112,16 +116,26 @@ IsChosenSide given a b side = MatchOption given ((side ≡ DEFAULT_SIDE) ⊎ IsF
 abbrev pub IsChosenSideOver : Option ℕ → List (List ℕ) → ℕ → Type 0
 IsChosenSideOver given texts side = MatchOption given ((side ≡ DEFAULT_SIDE) ⊎ IsFittingSideOver texts side) (λ s. side ≡ s)
 
+-- where no side was given, the run isn't refused for too many tiles
+abbrev pub IsFitted : {M : Type 0} → Option ℕ → Result (Report M) RunFault → Type 0
+IsFitted None r = IfErr r (λ f. (count : ℕ) → f.at ≡ Run → f.fault ≢ TooManyTiles count)
+IsFitted (Some side) r = Unit {0}
+
+-- where no side was given, the layers aren't refused for too many tiles
+abbrev pub IsFittedOver : {M : Type 0} → Option ℕ → Result M FacesFault → Type 0
+IsFittedOver None r = IfErr r (λ f. (count : ℕ) → f.at ≡ AllLayers → f.refusal ≢ Usual (TooManyTiles count))
+IsFittedOver (Some side) r = Unit {0}
+
 -- a run that a request asks for on two layers
 abbrev pub Performs : {S M : Type 0} → (S → SinkState) → S → S → Request → List ℕ → List ℕ → Result (Report M) RunFault → Type 0
-Performs state old new request a b r = (side : ℕ) × IsChosenSide request.side a b side × RunsFor state old new request side a b r
+Performs state old new request a b r = (side : ℕ) × IsChosenSide request.side a b side × RunsFor state old new request side a b r × IsFitted request.side r
 
 -- an operation on layers that are read as covered, as a request asks for it, with this side of a tile and within its limit of segments
 abbrev pub RunsCoveredFor : {S M : Type 0} → (S → SinkState) → S → S → Request → Op → ℕ → List ℕ → List ℕ → Result (Report M) FacesFault → Type 0
 RunsCoveredFor state old new request op side a b r = RunsCovered (limit_of request.segments) state old new op (plan_of request side) a b r
 
 abbrev pub PerformsCovered : {S M : Type 0} → (S → SinkState) → S → S → Request → Op → List ℕ → List ℕ → Result (Report M) FacesFault → Type 0
-PerformsCovered state old new request op a b r = (side : ℕ) × IsChosenSideOver request.side (a ∷ b ∷ []) side × RunsCoveredFor state old new request op side a b r
+PerformsCovered state old new request op a b r = (side : ℕ) × IsChosenSideOver request.side (a ∷ b ∷ []) side × RunsCoveredFor state old new request op side a b r × IsFittedOver request.side r
 
 -- what is told of an answer: its report, where one is wanted
 abbrev pub TellsAnswer : {E M : Type 0} → (E → SinkState) → E → E → Bool → Report M → ℕ → Type 0
