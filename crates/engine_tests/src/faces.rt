@@ -12,3 +12,5 @@ mod requests;
 mod sinks;
 mod small_layers;
 mod workers;
+
+pub use many_parts::map_from;

@@ -10,6 +10,8 @@ mod covered_lines;
 #[cfg(test)]
 mod faces;
 #[cfg(test)]
+mod large_unions;
+#[cfg(test)]
 mod limits;
 pub mod one_by_one;
 #[cfg(test)]

@@ -50,7 +50,7 @@ fn push_column(alloc: Global, text: &mut String, x: u32, y: u32) -> Result<(), N
 }
 
 /// A map of squares from (start, start) on.
-fn map_from(alloc: Global, start: u32) -> Result<String, NoMemory> {
+pub fn map_from(alloc: Global, start: u32) -> Result<String, NoMemory> {
     let mut text = String::new(alloc);
     let mut x = start;
     for _ in 0..SQUARES {
