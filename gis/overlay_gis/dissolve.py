@@ -31,8 +31,8 @@ from .program import FACES
 
 EXAMPLE = "overlay-gis dissolve parcels.gpkg --by owner -o owners.gpkg"
 
-# Fields beside those of the values, which go before them: such a name has a line behind it where a
-# field of a value has it.
+# Fields beside those of the values, which go before them: their names have lines behind them where
+# fields of the values have these.
 FEATURES, AREA = "features", "area"
 
 
@@ -92,9 +92,7 @@ def by_values(together: CommonGrid, fields: Sequence[ogr.FieldDefn]) -> United:
 
 
 def table_of(united: United, fields: Sequence[ogr.FieldDefn], frame: Frame, by_parts: bool) -> Table:
-    taken = {field.GetName().lower() for field in fields}
-    names = [f"{name}_" if name in taken else name for name in (FEATURES, AREA)]
-    columns = [*map(column_of, fields), Column(names[0], ogr.OFTInteger64), Column(names[1], ogr.OFTReal)]
+    columns = [*map(column_of, fields), Column(FEATURES, ogr.OFTInteger64), Column(AREA, ogr.OFTReal)]
     plain = all(map(is_plain, chain.from_iterable(united.values)))
     facts = list(zip(united.values, united.features))
     if by_parts:

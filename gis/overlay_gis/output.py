@@ -4,7 +4,7 @@ from __future__ import annotations
 
 import sqlite3
 import sys
-from dataclasses import dataclass
+from dataclasses import dataclass, replace
 from pathlib import Path
 from traceback import clear_frames
 from typing import Any, Callable, Iterable, Sequence
@@ -14,6 +14,7 @@ from osgeo import gdal, ogr, osr
 
 from .columns import Floats
 from .faults import Fault, Refusal
+from .fitting import apart
 from .gdal_errors import blamed_on
 from .geopackage import Place, Row, filled, place_of
 from .layers import LAYER_MARK, Source
@@ -89,10 +90,12 @@ def layer_target(name: str, overwrite: bool, inputs: Iterable[str]) -> Target:
 
 
 def create(layers: Any, name: str, system: osr.SpatialReference | None, table: Table, *options: str) -> ogr.Layer:
-    """A new layer of a data set, with the table's fields."""
+    """A new layer of a data set, with the table's fields. None of them is called as another one, or
+    as the layer's columns that are no fields."""
     layer = layers.CreateLayer(name, None if table.kind == ogr.wkbNone else system, table.kind, list(options))
-    for column in table.columns:
-        layer.CreateField(column.defined())
+    taken = (layer.GetFIDColumn(), layer.GetGeometryColumn())
+    for column, called in zip(table.columns, apart([column.name for column in table.columns], taken)):
+        layer.CreateField(replace(column, name=called).defined())
     return layer
 
 

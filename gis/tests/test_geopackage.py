@@ -8,7 +8,7 @@ import pytest
 from osgeo import gdal, ogr
 from shapely.geometry import MultiPolygon, box
 
-from conftest import EAST, NORTH, parcels, write
+from conftest import EAST, NORTH, parcels, read, write
 from overlay_gis import geopackage, output
 from overlay_gis.faults import Fault
 
@@ -165,3 +165,49 @@ def test_what_sqlite_says_is_told(gis, program, tmp_path, monkeypatch):
     answer = gis("dissolve", "a.gpkg", "-o", "out.gpkg")
     assert answer.status == Fault.status and not list(tmp_path.glob("*out*"))
     assert answer.err.splitlines()[-1] == "overlay-gis: out.gpkg: can't be written: database or disk is full"
+
+
+def index_of(path, table):
+    """For each row of a layer its least x in the index and that of its shape."""
+    opened = gdal.OpenEx(str(path))
+    with closing(sqlite3.connect(path)) as held:
+        (name,) = held.execute("select name from sqlite_master where name like 'rtree_%_geom' and sql like '%virtual%'").fetchone()
+        lows = dict(held.execute(f"select id, minx from {geopackage.quoted(name)}").fetchall())
+    return [(lows[feature.GetFID()], feature.GetGeometryRef().GetEnvelope()[0]) for feature in opened.GetLayerByName(table)]
+
+
+@pytest.mark.parametrize("field", ["fid", "FID", "geom", "Geom"])
+@pytest.mark.parametrize("ending", ["geojson", "shp"])
+def test_a_field_called_as_a_column_of_the_layer_has_another_name(both_ways, tmp_path, field, ending):
+    a = write(tmp_path / f"a.{ending}", [box(x, 0, x + 10, 10) for x in (0, 100, 200)], None, {field: [3, 2, 1]})
+    for words in (("dissolve", a, "--by", field), ("dissolve", a, "--by", field, "--parts")):
+        ours, gdals, count = both_ways("out.gpkg", *words)
+        assert ours == gdals and count == 1
+        assert [fields[f"{field}_"] for _, fields in read("out.gpkg")] == [3, 2, 1]
+        assert index_of("out.gpkg", "out") == [(0, 0), (100, 100), (200, 200)]
+
+
+def test_kept_fields_never_take_the_place_of_a_rows_number(gis, tmp_path):
+    a = write(tmp_path / "a.geojson", [box(x, 0, x + 10, 10) for x in (0, 100, 200)], None, {"fid": [3, 2, 1]})
+    for words in (("faces", a, "--keep-a", "fid"), ("faces", a, "--by", "fid"), ("run", "union", a, a, "--keep-a", "fid")):
+        assert gis(*words, "-o", "out.gpkg", "--overwrite").status == 0
+        assert index_of("out.gpkg", "out") == [(0, 0), (100, 100), (200, 200)]
+        assert [fields["a_fid"] for _, fields in read("out.gpkg")] == [3, 2, 1]
+
+
+@pytest.mark.parametrize(
+    "fields, names",
+    [
+        (["features", "features_"], ["features", "features_", "features__", "area"]),
+        (["area", "features", "Area_"], ["area", "features", "Area_", "features_", "area__"]),
+        (["Name", "name"], ["Name", "name_", "features", "area"]),
+        (["NAME", "name", "name_"], ["NAME", "name__", "name_", "features", "area"]),
+    ],
+)
+@pytest.mark.parametrize("out", ["out.gpkg", "out.sqlite", "out.geojson"])
+def test_names_that_differ_by_case_alone_are_told_apart(gis, tmp_path, fields, names, out):
+    a = write(tmp_path / "a.geojson", [box(0, 0, 10, 10)], None, {name: [k] for k, name in enumerate(fields)})
+    answer = gis("dissolve", a, "--by", ",".join(fields), "-o", out)
+    assert answer.status == 0, answer.err
+    ((_, found),) = read(out)
+    assert list(found) == (list(map(str.lower, names)) if out == "out.sqlite" else names)  # as SQLite's driver has it
