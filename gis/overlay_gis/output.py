@@ -145,7 +145,9 @@ class Output:
         return table.boxes is not None and self.dataset.GetDriver().ShortName == PACKAGE
 
     def fill_at_once(self, place: Place, rows: Iterable[Row], boxes: Floats | None) -> int:
-        """Writes all rows of a GeoPackage's layer, whose file GDAL has to close before."""
+        """Writes all rows of a GeoPackage's layer, whose file GDAL has to close before; what it
+        can't make is told here."""
+        self.layer.SyncToDisk()
         self.close()
         try:
             return filled(self.path, place, rows, NO_BOXES if boxes is None else boxes)
