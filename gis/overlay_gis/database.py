@@ -87,12 +87,12 @@ class Database:
         if self.has(dataset, table.name):
             # which fails where a view stands on it
             dataset.ExecuteSQL(f"DROP TABLE {quoted(table.name)}")
-        layer = create(dataset, table.name, system, table, *OPTIONS)
+        made = create(dataset, table.name, system, table, self.name, *OPTIONS)
         count = 0
         for geometry, values in followed(table.rows, f"writing {table.name}"):
-            add(layer, geometry, values)
+            add(made, geometry, values)
             count += 1
-        layer.SyncToDisk()
+        made.layer.SyncToDisk()
         found = int(answer(dataset, f"SELECT count(*) FROM {quoted(table.name)}") or 0)
         if found != count:
             raise Fault(

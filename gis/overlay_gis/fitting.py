@@ -1,8 +1,25 @@
-"""What a format takes in place of what it hasn't: names of fields."""
+"""What a format takes in place of what it hasn't: names and types of fields."""
 
 from __future__ import annotations
 
 from typing import Iterable, Sequence
+
+from osgeo import gdal, ogr
+
+# What stands in for a type of fields that a format hasn't.
+TEXTS = (ogr.OFTDate, ogr.OFTTime, ogr.OFTDateTime)
+INSTEAD = {ogr.OFTInteger64: ogr.OFTReal, **dict.fromkeys(TEXTS, ogr.OFTString)}
+
+# How a driver is to make a layer, where its usual way has no room for all texts.
+OPTIONS = {"ESRI Shapefile": ("ENCODING=UTF-8",), "MapInfo File": ("ENCODING=UTF-8",)}
+
+
+def fitted(field: ogr.FieldDefn, driver: gdal.Driver) -> ogr.FieldDefn:
+    """The field, of a type that the format has."""
+    types = (driver.GetMetadataItem(gdal.DMD_CREATIONFIELDDATATYPES) or "").split()
+    if not types or field.GetType() not in INSTEAD or field.GetTypeName() in types:
+        return field
+    return ogr.FieldDefn(field.GetName(), INSTEAD[field.GetType()])
 
 
 def apart(names: Sequence[str], taken: Iterable[str]) -> list[str]:

@@ -16,6 +16,7 @@ from .gdal_errors import told_as
 from .layers import LAYER_MARK, Source
 from .messages import during, is_watched, progress
 from .output import Output, Table
+from .read_back import Written
 from .whole import Target, identity
 
 # Pages of a GeoPackage that are copied at a time.
@@ -114,8 +115,8 @@ class Enlarged(Output):
                 self.dataset.DeleteLayer(k)
         super().begin(system, table)
 
-    def check(self, table: Table, count: int) -> None:
-        super().check(table, count)
+    def check(self, table: Table, written: Written) -> None:
+        super().check(table, written)
         if state_of(self.target.path) != self.state:
             raise Fault(
                 self.target.name, "was changed meanwhile by another program: nothing was written"
