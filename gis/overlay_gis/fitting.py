@@ -1,14 +1,19 @@
-"""What a format takes in place of what it hasn't: names and types of fields."""
+"""What a format takes in place of what it hasn't: names and types of fields; and how values are put
+into them."""
 
 from __future__ import annotations
 
-from typing import Iterable, Sequence
+from typing import Any, Callable, Iterable, Sequence
 
 from osgeo import gdal, ogr
 
 # What stands in for a type of fields that a format hasn't.
-TEXTS = (ogr.OFTDate, ogr.OFTTime, ogr.OFTDateTime)
+TEXTS = (ogr.OFTDate, ogr.OFTTime, ogr.OFTDateTime, ogr.OFTBinary)
 INSTEAD = {ogr.OFTInteger64: ogr.OFTReal, **dict.fromkeys(TEXTS, ogr.OFTString)}
+
+# What puts a value into a feature's field, which is no number or text.
+Put = Callable[[ogr.Feature, int, Any], object]
+PUTS: dict[int, Put] = {ogr.OFTBinary: ogr.Feature.SetFieldBinaryFromHexString}
 
 # How a driver is to make a layer, where its usual way has no room for all texts.
 OPTIONS = {"ESRI Shapefile": ("ENCODING=UTF-8",), "MapInfo File": ("ENCODING=UTF-8",)}
@@ -40,3 +45,8 @@ def lined(name: str, taken: set[str]) -> str:
     while name.lower() in taken:
         name += "_"
     return name
+
+
+def putting(field: ogr.FieldDefn) -> Put:
+    """What puts a value into a field of that type, as `ogr.Feature.GetField` has it."""
+    return PUTS.get(field.GetType(), ogr.Feature.SetField)

@@ -14,7 +14,7 @@ from osgeo import gdal, ogr, osr
 
 from .columns import Floats
 from .faults import Fault, Refusal
-from .fitting import OPTIONS, apart, fitted
+from .fitting import OPTIONS, Put, apart, fitted, putting
 from .gdal_errors import blamed_on
 from .geopackage import Place, Row, filled, place_of
 from .layers import LAYER_MARK, Source
@@ -95,10 +95,11 @@ def layer_target(name: str, overwrite: bool, inputs: Iterable[str]) -> Target:
 
 @dataclass(frozen=True)
 class Made:
-    """A layer that was made, and its fields as its file has to have them."""
+    """A layer that was made, its fields as its file has to have them, and what puts values there."""
 
     layer: ogr.Layer
     fields: Sequence[ogr.FieldDefn]
+    puts: Sequence[Put]
 
 
 def create(
@@ -118,18 +119,18 @@ def create(
         fields[-1].SetName(definition.GetFieldDefn(definition.GetFieldCount() - 1).GetName())
         if fields[-1].GetName() != column.name:
             warn(told, f"the field {column.name} is called {fields[-1].GetName()} there")
-    return Made(layer, fields)
+    return Made(layer, fields, list(map(putting, fields)))
 
 
 def add(made: Made, geometry: bytes | None, values: Sequence[Any]) -> None:
     feature = ogr.Feature(made.layer.GetLayerDefn())
     if geometry is not None:
         feature.SetGeometryDirectly(ogr.CreateGeometryFromWkb(geometry))
-    for k, value in enumerate(values):
+    for k, (put, value) in enumerate(zip(made.puts, values)):
         if value is None:
             feature.SetFieldNull(k)
         else:
-            feature.SetField(k, value)
+            put(feature, k, value)
     made.layer.CreateFeature(feature)
 
 

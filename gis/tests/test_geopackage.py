@@ -119,7 +119,9 @@ def kept(tmp_path, kind, subtype, value):
     layer.CreateField(field)
     feature = ogr.Feature(layer.GetLayerDefn())
     feature.SetGeometry(ogr.CreateGeometryFromWkb(box(0, 0, 1, 1).wkb))
-    if value is not None:
+    if kind == ogr.OFTBinary:
+        feature.SetFieldBinaryFromHexString("kept", value)
+    elif value is not None:
         feature.SetField("kept", value)
     layer.CreateFeature(feature)
 
@@ -133,6 +135,7 @@ def kept(tmp_path, kind, subtype, value):
         (ogr.OFTInteger, ogr.OFSTBoolean, 1, False),
         (ogr.OFTReal, ogr.OFSTFloat32, 0.1, False),
         (ogr.OFTString, ogr.OFSTJSON, "{}", False),
+        (ogr.OFTBinary, ogr.OFSTNone, "00FF27AB", False),
         (ogr.OFTDate, ogr.OFSTNone, "2026/11/27", False),
         (ogr.OFTDateTime, ogr.OFSTNone, "2026/11/27 10:11:12+01", False),
     ],
@@ -142,6 +145,23 @@ def test_values_that_are_no_numbers_or_texts_are_left_to_gdal(both_ways, program
     for words in (("faces", "a.gpkg", "--keep-a", "kept"), ("dissolve", "a.gpkg", "--by", "kept")):
         ours, gdals, count = both_ways("out.gpkg", *words)
         assert ours == gdals and count == all_at_once
+
+
+@pytest.mark.parametrize("ending", ["gpkg", "sqlite", "fgb", "shp", "geojson"])
+def test_bytes_are_kept(gis, tmp_path, ending):
+    """As texts of hexadecimal digits where a format has none."""
+    kept(tmp_path, ogr.OFTBinary, ogr.OFSTNone, "00FF27AB")
+    for words, name in ((("faces", "a.gpkg", "--keep-a", "kept"), "a_kept"), (("dissolve", "a.gpkg", "--by", "kept"), "kept")):
+        answer = gis(*words, "-o", f"out.{ending}", "--overwrite")
+        assert answer.status == 0, answer.err
+        held = gdal.OpenEx(f"out.{ending}")
+        feature = held.GetLayer(0).GetNextFeature()
+        place = feature.GetFieldIndex(name)
+        if ending in ("shp", "geojson"):
+            assert feature.GetField(place) == "00FF27AB"
+        else:
+            assert bytes(feature.GetFieldAsBinary(place)) == b"\0\xff\x27\xab"
+        feature = None
 
 
 def test_texts_in_no_known_encoding_are_left_to_gdal(gis, program, tmp_path):
