@@ -3,17 +3,24 @@ into them."""
 
 from __future__ import annotations
 
+import json
 from typing import Any, Callable, Iterable, Sequence
 
 from osgeo import gdal, ogr
 
-# What stands in for a type of fields that a format hasn't.
-TEXTS = (ogr.OFTDate, ogr.OFTTime, ogr.OFTDateTime, ogr.OFTBinary)
-INSTEAD = {ogr.OFTInteger64: ogr.OFTReal, **dict.fromkeys(TEXTS, ogr.OFTString)}
-
-# What puts a value into a feature's field, which is no number or text.
+# What puts a value into a feature's field, where that isn't one of numbers, texts or times.
 Put = Callable[[ogr.Feature, int, Any], object]
-PUTS: dict[int, Put] = {ogr.OFTBinary: ogr.Feature.SetFieldBinaryFromHexString}
+LISTS: dict[int, Put] = {
+    ogr.OFTIntegerList: ogr.Feature.SetFieldIntegerList,
+    ogr.OFTInteger64List: ogr.Feature.SetFieldInteger64List,
+    ogr.OFTRealList: ogr.Feature.SetFieldDoubleList,
+    ogr.OFTStringList: ogr.Feature.SetFieldStringList,
+}
+PUTS: dict[int, Put] = {ogr.OFTBinary: ogr.Feature.SetFieldBinaryFromHexString, **LISTS}
+
+# What stands in for a type of fields that a format hasn't.
+TEXTS = (ogr.OFTDate, ogr.OFTTime, ogr.OFTDateTime, *PUTS)
+INSTEAD = {ogr.OFTInteger64: ogr.OFTReal, **dict.fromkeys(TEXTS, ogr.OFTString)}
 
 # How a driver is to make a layer, where its usual way has no room for all texts.
 OPTIONS = {"ESRI Shapefile": ("ENCODING=UTF-8",), "MapInfo File": ("ENCODING=UTF-8",)}
@@ -24,7 +31,15 @@ def fitted(field: ogr.FieldDefn, driver: gdal.Driver) -> ogr.FieldDefn:
     types = (driver.GetMetadataItem(gdal.DMD_CREATIONFIELDDATATYPES) or "").split()
     if not types or field.GetType() not in INSTEAD or field.GetTypeName() in types:
         return field
-    return ogr.FieldDefn(field.GetName(), INSTEAD[field.GetType()])
+    made = ogr.FieldDefn(field.GetName(), INSTEAD[field.GetType()])
+    if field.GetType() in LISTS:
+        made.SetSubType(ogr.OFSTJSON)
+    return made
+
+
+def text_of(value: Any) -> Any:
+    """A list as a text of JSON, for a field of texts; others as they are."""
+    return json.dumps(value, ensure_ascii=False) if isinstance(value, list) else value
 
 
 def apart(names: Sequence[str], taken: Iterable[str]) -> list[str]:
@@ -49,4 +64,6 @@ def lined(name: str, taken: set[str]) -> str:
 
 def putting(field: ogr.FieldDefn) -> Put:
     """What puts a value into a field of that type, as `ogr.Feature.GetField` has it."""
+    if field.GetSubType() == ogr.OFSTJSON:
+        return lambda feature, place, value: feature.SetField(place, text_of(value))
     return PUTS.get(field.GetType(), ogr.Feature.SetField)

@@ -11,6 +11,8 @@ from typing import Any, Callable, Iterator, Sequence
 
 from osgeo import ogr
 
+from .fitting import text_of
+
 # Numbers that are the same to so many parts of themselves have the same 15 digits.
 DIGITS = 1e-14
 
@@ -82,8 +84,8 @@ def same(one: Any, other: Any) -> bool:
 
 
 def is_nothing(value: Any) -> bool:
-    """No value, no text and no number are one for formats of text."""
-    return value is None or value == "" or value != value
+    """No value, a text or a list of nothing and no number are one for formats of text."""
+    return value is None or value in ("", []) or value != value
 
 
 def near(one: Any, other: Any) -> bool:
@@ -126,6 +128,10 @@ def converter(wanted: ogr.FieldDefn) -> Callable[[Any], Any]:
     return converted
 
 
+def as_it_is(value: Any) -> Any:
+    return value
+
+
 def alone(wanted: ogr.FieldDefn) -> ogr.Feature:
     """A feature with that field alone."""
     definition = ogr.FeatureDefn()
@@ -134,9 +140,10 @@ def alone(wanted: ogr.FieldDefn) -> ogr.Feature:
 
 
 def comparable(wanted: ogr.FieldDefn) -> Callable[[Any], Any]:
-    """What makes the same of all texts of one moment, if the field is one of moments."""
+    """What makes the same of all texts of one moment, if the field is one of moments; and of a list
+    its text, if it is one of texts."""
     if wanted.GetType() != ogr.OFTDateTime:
-        return lambda value: value
+        return text_of if wanted.GetType() == ogr.OFTString else as_it_is
     feature = alone(wanted)
 
     def moment(value: Any) -> Any:

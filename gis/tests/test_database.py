@@ -16,6 +16,7 @@ from conftest import EAST, NORTH, write
 from overlay_gis import database
 from test_geopackage import kept
 from test_kills import stopped  # noqa: F401 a fixture
+from test_room import layer
 
 sys.path.insert(0, str(Path(__file__).resolve().parents[2] / "bench"))
 
@@ -84,6 +85,12 @@ def test_bytes_are_kept(gis, tmp_path, server, address):
     kept(tmp_path, ogr.OFTBinary, ogr.OFSTNone, "00FF27AB")
     assert gis("faces", "a.gpkg", "-o", address, "--layer", "town.bytes", "--keep-a", "kept").status == 0
     assert server.said("select encode(\"a_kept\", 'hex') from town.bytes") == "00ff27ab\n"
+
+
+def test_lists_are_kept(gis, tmp_path, server, address):
+    a = layer(tmp_path / "a.geojson", {"tags": ["x", "y"], "lots": [1, 2], "shares": [0.5]})
+    assert gis("dissolve", a, "--by", "tags,lots,shares", "-o", address, "--layer", "town.lists").status == 0
+    assert server.said("select tags, lots, shares from town.lists") == "{x,y}|{1,2}|{0.5}\n"
 
 
 def test_a_field_called_as_a_column_has_another_name(gis, tmp_path, server, address):

@@ -116,6 +116,25 @@ def test_last_digits_and_blanks_that_go_are_told(gis, tmp_path):
     ]
 
 
+LISTS = {"tags": ["x", "y, z", "é"], "lots": [1, 2**40], "ids": [1, 2], "shares": [0.5, 1.25, 1 / 3]}
+
+
+@pytest.mark.parametrize("ending", ["geojson", "sqlite", "gpkg", "shp", "fgb", "kml"])
+@pytest.mark.parametrize("words, mark", [(("faces", "--keep-a"), "a_"), (("dissolve", "--by"), ""), (("run", "union", "--keep-a"), "a_")])
+def test_lists_are_kept(gis, tmp_path, ending, words, mark):
+    """As texts of JSON where a format has no lists."""
+    b = layer(tmp_path / "b.geojson", LISTS, {**LISTS, "tags": []})
+    *verb, option = words
+    answer = gis(*verb, b, *([b] if verb[0] == "run" else []), option, "tags,lots,ids,shares", "-o", f"out.{ending}")
+    assert answer.status == 0, answer.err
+    for _, fields in read(f"out.{ending}"):
+        for name in ("tags", "lots", "ids", "shares"):
+            value = fields[mark + name]
+            if ending not in ("geojson", "sqlite") and value is not None:
+                value = json.loads(value)
+            assert value == LISTS[name] or (name, value or []) == ("tags", [])
+
+
 def written(kind, *values):
     held = ogr.FieldDefn("kept", kind)
     return read_back.Written(len(values), [held], [(value,) for value in values])
