@@ -6,6 +6,7 @@ import sqlite3
 import sys
 from dataclasses import dataclass, replace
 from pathlib import Path
+from tempfile import TemporaryDirectory
 from traceback import clear_frames
 from typing import Any, Callable, Iterable, Sequence
 
@@ -20,7 +21,7 @@ from .geopackage import Place, Row, filled, place_of
 from .layers import LAYER_MARK, Source
 from .messages import followed, warn
 from .read_back import Written, differences
-from .whole import Target, draft, target_of
+from .whole import Drafts, Target, blamed, target_of
 
 # Drivers whose files are folders.
 FOLDERS = ("OpenFileGDB", "FileGDB")
@@ -224,25 +225,47 @@ class Output:
 
 def write_tables(
     target: Target,
+    held: Drafts,
     system: osr.SpatialReference | None,
     tables: Sequence[Table],
     begun: Callable[[Target, Path], Output] = Output,
 ) -> list[int]:
-    """Writes a file of these layers, and answers how many features each has. Where that fails, what
-    was there stays."""
-    with draft(target) as folder:
-        output = begun(target, folder)
-        filled = []
-        with blamed_on(target.name, str(output.path)):
-            try:
-                for table in tables:
-                    output.begin(system, table)
-                    filled.append(output.fill(table))
-            except BaseException as error:
-                clear_frames(error.__traceback__)  # they would keep the file open
-                raise
-            finally:
-                output.close()
-        for table, written in zip(tables, filled):
-            output.check(table, written)
+    """Drafts a file of these layers, and answers how many features each has."""
+    with blamed(target):
+        return write_into(held.folder(target), target, system, tables, begun)
+
+
+def write_into(
+    folder: Path,
+    target: Target,
+    system: osr.SpatialReference | None,
+    tables: Sequence[Table],
+    begun: Callable[[Target, Path], Output] = Output,
+) -> list[int]:
+    """The same, in a folder that is there."""
+    output = begun(target, folder)
+    filled = []
+    with blamed_on(target.name, str(output.path)):
+        try:
+            for table in tables:
+                output.begin(system, table)
+                filled.append(output.fill(table))
+        except BaseException as error:
+            clear_frames(error.__traceback__)  # they would keep the file open
+            raise
+        finally:
+            output.close()
+    for table, written in zip(tables, filled):
+        output.check(table, written)
     return [written.count for written in filled]
+
+
+def refuse_without_rows(target: Target) -> None:
+    """Refuses a format that keeps no rows without shapes; a row is tried."""
+    table = Table([Column("a", ogr.OFTInteger64)], [(None, (1,))], ogr.wkbNone, NO_BOXES)
+    try:
+        with TemporaryDirectory() as folder:
+            write_into(Path(folder), target, None, [table])
+    except Fault as fault:
+        words = "a file of this format keeps no rows without shapes; one of .csv or .gpkg does"
+        raise Refusal(target.name, words) from fault

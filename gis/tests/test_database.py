@@ -99,6 +99,27 @@ def test_a_field_called_as_a_column_has_another_name(gis, tmp_path, server, addr
     assert server.said('select fid, fid_, "Geom_", features from town.names order by fid') == "1|7|1|1\n2|5|2|1\n"
 
 
+def test_rows_and_pairs_are_there_together_or_not_at_all(gis, tmp_path, server, address, monkeypatch):
+    """Where the file isn't put in place, or the table isn't made for good, neither is there."""
+    a, b = layers(tmp_path)
+    words = ("faces", a, b, "-o", address, "--layer", "town.rows", "--pairs", "pairs.csv")
+
+    def failing(*_):
+        raise OSError(5, "Input/output error")
+
+    with monkeypatch.context() as changed:
+        changed.setattr(os, "replace", failing)
+        answer = gis(*words)
+    assert answer.status == 1 and answer.err.splitlines()[-1] == "overlay-gis: pairs.csv: Input/output error"
+    with monkeypatch.context() as changed:
+        changed.setattr(database, "go_on", failing)
+        answer = gis(*words)
+    assert answer.status == 1 and "Input/output error" in answer.err.splitlines()[-1]
+    assert server.said("select to_regclass('town.rows')") == "\n" and not list(tmp_path.glob("pairs*"))
+    assert gis(*words).status == 0
+    assert server.said("select count(*) from town.rows") == "3\n" and Path("pairs.csv").exists()
+
+
 def test_what_is_refused(gis, tmp_path, server, address):
     a, b = layers(tmp_path)
     for words, told in (
