@@ -21,6 +21,7 @@ from .changes import tell_moves
 from .columns import Columns, Numbers
 from .common_grid import CommonGrid, brought_together
 from .destination import destination
+from .encodings import check_texts
 from .fields import column_of, fields_of, is_plain, told_apart, values_in
 from .frame import Frame
 from .layers import Source
@@ -77,6 +78,7 @@ def by_values(together: CommonGrid, fields: Sequence[ogr.FieldDefn]) -> United:
     (layer,) = together.layers
     question = together.questions.ask(FACES, [layer])
     values = values_in(layer, fields)
+    check_texts(layer, fields, values)
     classes, firsts = told_apart(values)
     rows = question.rows()
     held = of_classes(rows.members[0], classes)

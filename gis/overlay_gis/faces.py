@@ -11,6 +11,7 @@ from typing import Sequence
 from . import by_values, options, pairs, row_tables
 from .common_grid import CommonGrid, brought_together
 from .destination import PAIRS, Destination, destination
+from .encodings import check_texts
 from .faults import Refusal
 from .fields import NAMES, Kept, kept
 from .layers import Source, files_of
@@ -123,6 +124,9 @@ def rows_asked(together: CommonGrid, keep: Sequence[str], by: Sequence[str]) -> 
     question = together.questions.ask(FACES, together.layers)
     held = [kept(*of_one) for of_one in zip(together.layers, NAMES, keep)]
     values = [kept(layer, name, fields) if fields else None for layer, name, fields in zip(together.layers, NAMES, by)]
+    for layer, *of_layer in zip(together.layers, held, values):
+        for taken in filter(None, of_layer):
+            check_texts(layer, taken.fields, taken.values)
     rows = question.rows()
     if not any(values):
         return rows, rows, held

@@ -13,6 +13,7 @@ from typing import Any, Callable, Iterable, Sequence
 import numpy as np
 from osgeo import gdal, ogr, osr
 
+from . import gdal_state
 from .columns import Floats
 from .faults import Fault, Refusal
 from .fitting import OPTIONS, Put, apart, fitted, putting
@@ -231,7 +232,7 @@ def write_tables(
     begun: Callable[[Target, Path], Output] = Output,
 ) -> list[int]:
     """Drafts a file of these layers, and answers how many features each has."""
-    with blamed(target):
+    with blamed(target), gdal_state.options(gdal_state.WRITING):
         return write_into(held.folder(target), target, system, tables, begun)
 
 

@@ -164,15 +164,49 @@ def test_bytes_are_kept(gis, tmp_path, ending):
         feature = None
 
 
-def test_texts_in_no_known_encoding_are_left_to_gdal(gis, program, tmp_path):
-    kept(tmp_path, ogr.OFTString, ogr.OFSTNone, "x")
+def in_latin(path):
+    """A GeoPackage whose one text is in Latin-1."""
+    kept(path.parent, ogr.OFTString, ogr.OFSTNone, "x")
     with closing(sqlite3.connect("a.gpkg")) as held, held:
         for (name,) in held.execute("select name from sqlite_master where type = 'trigger' and tbl_name = 'a'").fetchall():
             held.execute(f"drop trigger {name}")
         held.execute("update a set kept = cast(x'62fc' as text)")
-    answer = gis("faces", "a.gpkg", "-o", "out.gpkg", "--keep-a", "kept")
-    assert answer.status == 1 and answer.err.splitlines()[-1].startswith("overlay-gis: out.gpkg: ")
+
+
+WITH_FIELDS = [
+    ("faces", "--keep-a", "kept"),
+    ("faces", "--by", "kept"),
+    ("dissolve", "--by", "kept"),
+    ("run", "union", "b.gpkg", "--keep-b", "kept"),
+]
+
+
+@pytest.mark.parametrize("words", WITH_FIELDS, ids=lambda words: "-".join(word.strip("-") for word in words))
+@pytest.mark.parametrize("name", ["a.gpkg", "a.shp"])
+def test_texts_in_no_known_encoding_are_told(gis, tmp_path, words, name):
+    write(tmp_path / "b.gpkg", [box(5, 5, 6, 6)], None)
+    if name == "a.gpkg":
+        in_latin(tmp_path / name)
+    else:
+        write(tmp_path / name, [box(0, 0, 1, 1)], None, {"kept": ["bü"]})  # in ISO-8859-1, as its .dbf says
+        (tmp_path / "a.cpg").write_text("UTF-8")
+    number = 1 if name == "a.gpkg" else 0
+    answer = gis(*words[:-2], name, *words[-2:], "-o", "out.gpkg")
+    told = f"overlay-gis: {name}: feature {number}: its field kept has no text in UTF-8: where it is a Shapefile, name its encoding"
+    assert answer.status == 3 and answer.err.splitlines()[-1].startswith(told), answer.err
     assert not list(tmp_path.glob("*out*"))
+
+
+def test_an_encoding_that_is_named_is_taken(gis, tmp_path, monkeypatch):
+    write(tmp_path / "a.shp", [box(0, 0, 1, 1)], None, {"kept": ["bü"]})
+    (tmp_path / "a.cpg").write_text("UTF-8")
+    gdal.SetConfigOption("SHAPE_ENCODING", "ISO-8859-1")
+    try:
+        answer = gis("dissolve", "a.shp", "--by", "kept", "-o", "out.shp")
+    finally:
+        gdal.SetConfigOption("SHAPE_ENCODING", None)
+    assert answer.status == 0, answer.err
+    assert (tmp_path / "out.cpg").read_text() == "UTF-8" and [fields["kept"] for _, fields in read("out.shp")] == ["bü"]
 
 
 def test_what_sqlite_says_is_told(gis, program, tmp_path, monkeypatch):
