@@ -23,8 +23,9 @@ OPTIONS = {
     "OGR_SQLITE_SYNCHRONOUS": "OFF",
 }
 
-# What a layer is read by isn't what another is written by: that is always UTF-8.
-WRITING = {"SHAPE_ENCODING": "UTF-8"}
+# While a file is written and read back: the encoding that is named for layers which are read isn't
+# that of the file; and no text is taken for a date.
+WRITING = {"SHAPE_ENCODING": "UTF-8", "OGR_GEOJSON_DATE_AS_STRING": "YES"}
 
 _lock = Lock()
 _at_work = 0  # how many verbs are, each in a thread of its own

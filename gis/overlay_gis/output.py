@@ -115,13 +115,18 @@ def create(
     names = apart([column.name for column in table.columns], (layer.GetFIDColumn(), layer.GetGeometryColumn()))
     fields = []
     for column, called in zip(table.columns, names):
-        fields.append(fitted(replace(column, name=called).defined(), driver))
-        layer.CreateField(fields[-1])
-        definition = layer.GetLayerDefn()
-        fields[-1].SetName(definition.GetFieldDefn(definition.GetFieldCount() - 1).GetName())
+        fields.append(made_in(layer, fitted(replace(column, name=called).defined(), driver)))
         if fields[-1].GetName() != column.name:
             warn(told, f"the field {column.name} is called {fields[-1].GetName()} there")
     return Made(layer, fields, list(map(putting, fields)))
+
+
+def made_in(layer: ogr.Layer, field: ogr.FieldDefn) -> ogr.FieldDefn:
+    """A field that is made in a layer, with the name that it gets there."""
+    layer.CreateField(field)
+    definition = layer.GetLayerDefn()
+    field.SetName(definition.GetFieldDefn(definition.GetFieldCount() - 1).GetName())
+    return field
 
 
 def add(made: Made, geometry: bytes | None, values: Sequence[Any]) -> None:
@@ -220,7 +225,8 @@ class Output:
             )
         for difference in unlike:
             if not difference.near:
-                raise Fault(self.target.name, f"{difference}: {ROOM}")
+                way = "" if driver_for(self.target).ShortName == PACKAGE else f": {ROOM}"
+                raise Fault(self.target.name, f"{difference}{way}")
             warn(self.target.name, str(difference))
 
 

@@ -3,6 +3,7 @@ take, and its driver cuts or rounds them, or leaves them out, without raising it
 
 from __future__ import annotations
 
+import json
 from collections import Counter
 from dataclasses import dataclass, field
 from datetime import date
@@ -11,7 +12,7 @@ from typing import Any, Callable, Iterator, Sequence
 
 from osgeo import ogr
 
-from .fitting import text_of
+from .fitting import LISTS, text_of
 
 # Numbers that are the same to so many parts of themselves have the same 15 digits.
 DIGITS = 1e-14
@@ -80,12 +81,23 @@ def of_field(held: ogr.FieldDefn, wanted: Sequence[Any], found: Sequence[Any]) -
 
 
 def same(one: Any, other: Any) -> bool:
-    return one == other or (is_nothing(one) and is_nothing(other))
+    return one == other or (is_nothing(one) and is_nothing(other)) or is_same_json(one, other)
 
 
 def is_nothing(value: Any) -> bool:
     """No value, a text or a list of nothing and no number are one for formats of text."""
     return value is None or value in ("", []) or value != value
+
+
+def is_same_json(one: Any, other: Any) -> bool:
+    """Whether both are texts of one object, or list, of JSON: drivers lay it out in their own
+    ways."""
+    if not (isinstance(one, str) and isinstance(other, str) and one[:1] in ("{", "[")):
+        return False
+    try:
+        return bool(json.loads(one) == json.loads(other))
+    except (ValueError, RecursionError):
+        return False
 
 
 def near(one: Any, other: Any) -> bool:
@@ -105,7 +117,7 @@ def reader(wanted: ogr.FieldDefn, found: ogr.FieldDefn | None, place: int) -> Ca
     written."""
     if found is None:
         return lambda feature: None
-    if wanted.GetType() == ogr.OFTString:
+    if wanted.GetType() == ogr.OFTString and found.GetType() not in LISTS:
         return lambda feature: feature.GetFieldAsString(place) if feature.IsFieldSetAndNotNull(place) else None
     if found.GetType() == wanted.GetType():
         return lambda feature: feature.GetField(place)

@@ -169,15 +169,15 @@ def blamed(target: Target) -> Iterator[None]:
 def in_place(held: Drafts) -> Iterator[None]:
     """Puts all parts in their places, and what was there back if that fails, or what is done
     within. From the first step on no signal stops it."""
-    steps = []
+    asked = []
     for folder, target in held.made:
         with blamed(target):
-            steps.append((target, moves(folder, target, held.in_one_step())))
+            asked.append((target, moves(folder, target, held.in_one_step())))
     go_on()
     with ExitStack() as back:
-        for target, moved in steps:
+        for target, steps in asked:
             with blamed(target):
-                carry_out(moved, back)
+                carry_out(steps, back)
         yield
         back.pop_all()
     for _, target in held.made:
@@ -204,9 +204,9 @@ def moves(folder: Path, target: Target, in_one_step: bool) -> dict[Path, Path]:
     return {**{old: aside / old.name for old in stale}, **dict(zip(parts, places))}
 
 
-def carry_out(moves: dict[Path, Path], back: ExitStack) -> None:
+def carry_out(steps: dict[Path, Path], back: ExitStack) -> None:
     """Moves the files, and has `back` move them back."""
-    for source, place in moves.items():
+    for source, place in steps.items():
         os.replace(source, place)
         back.callback(os.replace, place, source)
 

@@ -4,8 +4,9 @@ import json
 
 import pytest
 from osgeo import ogr
+from shapely.geometry import box
 
-from conftest import read
+from conftest import read, write
 from overlay_gis import read_back
 
 
@@ -114,6 +115,15 @@ def test_last_digits_and_blanks_that_go_are_told(gis, tmp_path):
         "overlay-gis: out.shp: warning: field share of row 2: 0.3333333333333333 comes out as 0.333333333333333",
         "overlay-gis: out.shp: warning: field name of row 1: a  comes out as a",
     ]
+
+
+@pytest.mark.parametrize("value", ["2026-11-27", "2026-11-27T10:11:12", "[1,2]", '{"a":1}', "(2:x,y)", "[x]", "{", "true"])
+@pytest.mark.parametrize("ending", ["geojson", "geojsonl", "shp", "fgb", "sqlite", "gml", "kml", "tab"])
+def test_a_text_that_looks_like_something_else_is_no_fault(gis, tmp_path, ending, value):
+    """As GeoJSON's driver reads dates, and writes JSON as what it says."""
+    write(tmp_path / "a.gpkg", [box(0, 0, 1, 1), box(2, 2, 3, 3)], "EPSG:4326", {"kept": [value, "x"]})
+    answer = dissolved(gis, "a.gpkg", f"out.{ending}")
+    assert answer.status == 0 and "warning" not in answer.err, answer.err
 
 
 LISTS = {"tags": ["x", "y, z", "é"], "lots": [1, 2**40], "ids": [1, 2], "shares": [0.5, 1.25, 1 / 3]}
