@@ -50,15 +50,17 @@ class Difference:
 
 
 def told(value: Any) -> str:
-    if value is None:
+    text = str(value) if value is not None else ""
+    if not text:
         return "nothing"
-    text = str(value)
     return text if len(text) <= SHOWN else f"a text of {len(text):,} signs"
 
 
 def differences(layer: ogr.Layer, written: Written) -> Iterator[Difference]:
     """The first difference of each field that has any, those that are no near ones before others of
     their field."""
+    layer.SetIgnoredFields(["OGR_GEOMETRY"])
+    layer.ResetReading()
     definition = layer.GetLayerDefn()
     places = [definition.GetFieldIndex(held.GetName()) for held in written.fields]
     reads = [reader(held, definition.GetFieldDefn(at) if at >= 0 else None, at) for held, at in zip(written.fields, places)]
@@ -74,7 +76,7 @@ def of_field(held: ogr.FieldDefn, wanted: Sequence[Any], found: Sequence[Any]) -
     if not unlike:
         return
     lost = [k for k in unlike if not near(ours[k], theirs[k])]
-    if lost and Counter(map(repr, ours)) == Counter(map(repr, theirs)):
+    if lost and Counter(map(key, ours)) == Counter(map(key, theirs)):
         return  # a driver may have put the rows in another order
     k = (lost or unlike)[0]
     yield Difference(held.GetName(), k + 1, wanted[k], found[k], not lost)
@@ -87,6 +89,11 @@ def same(one: Any, other: Any) -> bool:
 def is_nothing(value: Any) -> bool:
     """No value, a text or a list of nothing and no number are one for formats of text."""
     return value is None or value in ("", []) or value != value
+
+
+def key(value: Any) -> str:
+    """A text that the same values have."""
+    return "" if is_nothing(value) else repr(value)
 
 
 def is_same_json(one: Any, other: Any) -> bool:
@@ -117,8 +124,10 @@ def reader(wanted: ogr.FieldDefn, found: ogr.FieldDefn | None, place: int) -> Ca
     written."""
     if found is None:
         return lambda feature: None
-    if wanted.GetType() == ogr.OFTString and found.GetType() not in LISTS:
-        return lambda feature: feature.GetFieldAsString(place) if feature.IsFieldSetAndNotNull(place) else None
+    if wanted.GetType() == ogr.OFTString:
+        if found.GetType() in LISTS:
+            return lambda feature: text_of(feature.GetField(place))
+        return lambda feature: feature.GetFieldAsString(place)  # nothing is a text of no sign
     if found.GetType() == wanted.GetType():
         return lambda feature: feature.GetField(place)
     converted = converter(wanted)
@@ -153,9 +162,9 @@ def alone(wanted: ogr.FieldDefn) -> ogr.Feature:
 
 def comparable(wanted: ogr.FieldDefn) -> Callable[[Any], Any]:
     """What makes the same of all texts of one moment, if the field is one of moments; and of a list
-    its text, if it is one of texts."""
+    its text, if it is one of JSON."""
     if wanted.GetType() != ogr.OFTDateTime:
-        return text_of if wanted.GetType() == ogr.OFTString else as_it_is
+        return text_of if wanted.GetSubType() == ogr.OFSTJSON else as_it_is
     feature = alone(wanted)
 
     def moment(value: Any) -> Any:
