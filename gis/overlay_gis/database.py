@@ -15,6 +15,7 @@ from .messages import followed
 from .output import Table, add, create
 from .passwords import hidden, remember
 from .stopping import go_on
+from .whole import Drafts
 
 PREFIXES = ("pg:", "postgresql://", "postgres://")
 
@@ -77,22 +78,28 @@ class Database:
         literal = quoted(table).replace("'", "''")
         return answer(dataset, f"SELECT to_regclass('{literal}')") is not None
 
-    def write(self, system: osr.SpatialReference | None, tables: Sequence[Table]) -> list[int]:
+    def write(self, held: Drafts, system: osr.SpatialReference | None, tables: Sequence[Table]) -> list[int]:
         """Makes the tables, and answers how many features each has."""
+        dataset = held.within(self.changed())
+        dataset.ExecuteSQL(f"SET LOCAL lock_timeout = '{LOCK_SECONDS}s'")
+        return [self.made(dataset, system, table) for table in tables]
+
+    @contextmanager
+    def changed(self) -> Iterator[Any]:
+        """The database in a transaction, whose failures are its faults."""
         with blamed_on(self.name, self.address), transaction(self.opened()) as dataset:
-            dataset.ExecuteSQL(f"SET LOCAL lock_timeout = '{LOCK_SECONDS}s'")
-            return [self.made(dataset, system, table) for table in tables]
+            yield dataset
 
     def made(self, dataset: Any, system: osr.SpatialReference | None, table: Table) -> int:
         if self.has(dataset, table.name):
             # which fails where a view stands on it
             dataset.ExecuteSQL(f"DROP TABLE {quoted(table.name)}")
-        layer = create(dataset, table.name, system, table, *OPTIONS)
+        made = create(dataset, table.name, system, table, self.name, *OPTIONS)
         count = 0
         for geometry, values in followed(table.rows, f"writing {table.name}"):
-            add(layer, geometry, values)
+            add(made, geometry, values)
             count += 1
-        layer.SyncToDisk()
+        made.layer.SyncToDisk()
         found = int(answer(dataset, f"SELECT count(*) FROM {quoted(table.name)}") or 0)
         if found != count:
             raise Fault(

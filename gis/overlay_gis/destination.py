@@ -17,12 +17,12 @@ from .faults import Refusal
 from .layers import Source, files_of
 from .output import PACKAGE, Table, driver_for, layer_target, write_tables
 from .package import Enlarged, check_layers
-from .whole import Target
+from .whole import Drafts, Target, drafts
 
 # The table of pairs, beside the rows in one file with them.
 PAIRS = "pairs"
 
-Writer = Callable[[osr.SpatialReference, Sequence[Table]], "list[int]"]
+Writer = Callable[[Drafts, osr.SpatialReference, Sequence[Table]], "list[int]"]
 
 
 @dataclass(frozen=True)
@@ -34,7 +34,12 @@ class Destination:
 
     def write(self, system: osr.SpatialReference | None, *tables: Table) -> list[int]:
         """Writes all tables or none of them, and answers how many features each has."""
-        return self.writer(system, [replace(table, name=name) for table, name in zip(tables, self.names)])
+        with drafts() as held:
+            return self.draft(held, system, *tables)
+
+    def draft(self, held: Drafts, system: osr.SpatialReference | None, *tables: Table) -> list[int]:
+        """The same, to be put in place with all other drafts."""
+        return self.writer(held, system, [replace(table, name=name) for table, name in zip(tables, self.names)])
 
 
 @dataclass(frozen=True)

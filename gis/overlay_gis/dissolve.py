@@ -21,6 +21,7 @@ from .changes import tell_moves
 from .columns import Columns, Numbers
 from .common_grid import CommonGrid, brought_together
 from .destination import destination
+from .encodings import check_texts
 from .fields import column_of, fields_of, is_plain, told_apart, values_in
 from .frame import Frame
 from .layers import Source
@@ -31,8 +32,8 @@ from .program import FACES
 
 EXAMPLE = "overlay-gis dissolve parcels.gpkg --by owner -o owners.gpkg"
 
-# Fields beside those of the values, which go before them: such a name has a line behind it where a
-# field of a value has it.
+# Fields beside those of the values, which go before them: their names have lines behind them where
+# fields of the values have these.
 FEATURES, AREA = "features", "area"
 
 
@@ -77,6 +78,7 @@ def by_values(together: CommonGrid, fields: Sequence[ogr.FieldDefn]) -> United:
     (layer,) = together.layers
     question = together.questions.ask(FACES, [layer])
     values = values_in(layer, fields)
+    check_texts(layer, fields, values)
     classes, firsts = told_apart(values)
     rows = question.rows()
     held = of_classes(rows.members[0], classes)
@@ -92,9 +94,7 @@ def by_values(together: CommonGrid, fields: Sequence[ogr.FieldDefn]) -> United:
 
 
 def table_of(united: United, fields: Sequence[ogr.FieldDefn], frame: Frame, by_parts: bool) -> Table:
-    taken = {field.GetName().lower() for field in fields}
-    names = [f"{name}_" if name in taken else name for name in (FEATURES, AREA)]
-    columns = [*map(column_of, fields), Column(names[0], ogr.OFTInteger64), Column(names[1], ogr.OFTReal)]
+    columns = [*map(column_of, fields), Column(FEATURES, ogr.OFTInteger64), Column(AREA, ogr.OFTReal)]
     plain = all(map(is_plain, chain.from_iterable(united.values)))
     facts = list(zip(united.values, united.features))
     if by_parts:

@@ -5,18 +5,21 @@ from __future__ import annotations
 import os
 from argparse import ArgumentParser, Namespace
 from functools import partial
+from pathlib import Path
 from typing import Sequence
 
 from . import by_values, options, pairs, row_tables
 from .common_grid import CommonGrid, brought_together
 from .destination import PAIRS, Destination, destination
+from .encodings import check_texts
 from .faults import Refusal
 from .fields import NAMES, Kept, kept
 from .layers import Source, files_of
 from .messages import say
-from .output import layer_target, write_tables
+from .output import layer_target, refuse_without_rows, write_tables
 from .program import FACES
 from .rows import Rows
+from .whole import drafts
 
 EXAMPLE = (
     "overlay-gis faces parcels.gpkg zones.gpkg -o faces.gpkg --keep-a owner --keep-b name,rule"
@@ -105,6 +108,9 @@ def pairs_place(arguments: Namespace, sources: Sequence[Source]) -> Destination 
     if not arguments.pairs or same_place(arguments):
         return None
     target = layer_target(arguments.pairs, arguments.overwrite, files_of(sources))
+    if target.shares(Path(os.path.realpath(arguments.out))):
+        raise Refusal(arguments.pairs, f"would be a part of {arguments.out}")
+    refuse_without_rows(target)
     return Destination([""], partial(write_tables, target))
 
 
@@ -118,6 +124,9 @@ def rows_asked(together: CommonGrid, keep: Sequence[str], by: Sequence[str]) -> 
     question = together.questions.ask(FACES, together.layers)
     held = [kept(*of_one) for of_one in zip(together.layers, NAMES, keep)]
     values = [kept(layer, name, fields) if fields else None for layer, name, fields in zip(together.layers, NAMES, by)]
+    for layer, *of_layer in zip(together.layers, held, values):
+        for taken in filter(None, of_layer):
+            check_texts(layer, taken.fields, taken.values)
     rows = question.rows()
     if not any(values):
         return rows, rows, held
@@ -137,9 +146,10 @@ def main(arguments: Namespace) -> int:
         if arguments.pairs:
             first, second = (layer.grid.layer.ids for layer in together.layers)
             tables.append(pairs.table_of(rows, (first, second), together.frame))
-        counts = place.write(together.system, *tables)
-        if apart:
-            counts += apart.write(None, tables[1])
+        with drafts() as outputs:
+            counts = place.draft(outputs, together.system, *tables)
+            if apart:
+                counts += apart.draft(outputs, None, tables[1])
     say(f"{arguments.out}: {counts[0]:,} {'polygons' if arguments.parts else 'rows'}")
     if arguments.pairs:
         say(f"{arguments.pairs}: {counts[1]:,} pairs")

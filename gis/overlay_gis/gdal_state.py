@@ -6,7 +6,7 @@ from __future__ import annotations
 from contextlib import contextmanager
 from threading import Lock
 from types import ModuleType
-from typing import Iterator
+from typing import Iterator, Mapping
 
 from osgeo import gdal, ogr, osr
 
@@ -22,6 +22,10 @@ OPTIONS = {
     # disk at each step.
     "OGR_SQLITE_SYNCHRONOUS": "OFF",
 }
+
+# While a file is written and read back: the encoding that is named for layers which are read isn't
+# that of the file; and no text is taken for a date.
+WRITING = {"SHAPE_ENCODING": "UTF-8", "OGR_GEOJSON_DATE_AS_STRING": "YES"}
 
 _lock = Lock()
 _at_work = 0  # how many verbs are, each in a thread of its own
@@ -57,14 +61,22 @@ def heard(kind: int, number: int, words: str) -> None:
 @contextmanager
 def of_a_verb() -> Iterator[None]:
     """GDAL as a verb wants it, in this thread."""
-    held = {name: gdal.GetThreadLocalConfigOption(name) for name in OPTIONS}
-    with raising():
+    with raising(), options(OPTIONS):
         gdal.PushErrorHandler(heard)
         try:
-            for name, value in OPTIONS.items():
-                gdal.SetThreadLocalConfigOption(name, value)
             yield
         finally:
-            for name, value in held.items():
-                gdal.SetThreadLocalConfigOption(name, value)
             gdal.PopErrorHandler()
+
+
+@contextmanager
+def options(wanted: Mapping[str, str]) -> Iterator[None]:
+    """Within, these options of GDAL have these values in this thread."""
+    held = {name: gdal.GetThreadLocalConfigOption(name) for name in wanted}
+    try:
+        for name, value in wanted.items():
+            gdal.SetThreadLocalConfigOption(name, value)
+        yield
+    finally:
+        for name, value in held.items():
+            gdal.SetThreadLocalConfigOption(name, value)

@@ -4,24 +4,31 @@ from __future__ import annotations
 
 import sqlite3
 import sys
-from dataclasses import dataclass
+from dataclasses import dataclass, replace
 from pathlib import Path
+from tempfile import TemporaryDirectory
 from traceback import clear_frames
 from typing import Any, Callable, Iterable, Sequence
 
 import numpy as np
 from osgeo import gdal, ogr, osr
 
+from . import gdal_state
 from .columns import Floats
 from .faults import Fault, Refusal
+from .fitting import OPTIONS, Put, apart, fitted, putting
 from .gdal_errors import blamed_on
 from .geopackage import Place, Row, filled, place_of
 from .layers import LAYER_MARK, Source
-from .messages import followed
-from .whole import Target, draft, target_of
+from .messages import followed, warn
+from .read_back import Written, differences
+from .whole import Drafts, Target, blamed, target_of
 
 # Drivers whose files are folders.
 FOLDERS = ("OpenFileGDB", "FileGDB")
+
+# What is told where a format has none for a value.
+ROOM = "a GeoPackage, whose name ends in .gpkg, has room for it"
 
 # The driver whose files may have several layers here.
 PACKAGE = "GPKG"
@@ -88,24 +95,50 @@ def layer_target(name: str, overwrite: bool, inputs: Iterable[str]) -> Target:
     return target
 
 
-def create(layers: Any, name: str, system: osr.SpatialReference | None, table: Table, *options: str) -> ogr.Layer:
-    """A new layer of a data set, with the table's fields."""
-    layer = layers.CreateLayer(name, None if table.kind == ogr.wkbNone else system, table.kind, list(options))
-    for column in table.columns:
-        layer.CreateField(column.defined())
-    return layer
+@dataclass(frozen=True)
+class Made:
+    """A layer that was made, its fields as its file has to have them, and what puts values there."""
+
+    layer: ogr.Layer
+    fields: Sequence[ogr.FieldDefn]
+    puts: Sequence[Put]
 
 
-def add(layer: ogr.Layer, geometry: bytes | None, values: Sequence[Any]) -> None:
-    feature = ogr.Feature(layer.GetLayerDefn())
+def create(
+    layers: Any, name: str, system: osr.SpatialReference | None, table: Table, told: str, *options: str
+) -> Made:
+    """A new layer of a data set that is told by that name, with the table's fields. None of them is
+    called as another one, or as the layer's columns that are no fields."""
+    driver = layers.GetDriver()
+    asked = [*options, *OPTIONS.get(driver.ShortName, ())]
+    layer = layers.CreateLayer(name, None if table.kind == ogr.wkbNone else system, table.kind, asked)
+    names = apart([column.name for column in table.columns], (layer.GetFIDColumn(), layer.GetGeometryColumn()))
+    fields = []
+    for column, called in zip(table.columns, names):
+        fields.append(made_in(layer, fitted(replace(column, name=called).defined(), driver)))
+        if fields[-1].GetName() != column.name:
+            warn(told, f"the field {column.name} is called {fields[-1].GetName()} there")
+    return Made(layer, fields, list(map(putting, fields)))
+
+
+def made_in(layer: ogr.Layer, field: ogr.FieldDefn) -> ogr.FieldDefn:
+    """A field that is made in a layer, with the name that it gets there."""
+    layer.CreateField(field)
+    definition = layer.GetLayerDefn()
+    field.SetName(definition.GetFieldDefn(definition.GetFieldCount() - 1).GetName())
+    return field
+
+
+def add(made: Made, geometry: bytes | None, values: Sequence[Any]) -> None:
+    feature = ogr.Feature(made.layer.GetLayerDefn())
     if geometry is not None:
         feature.SetGeometryDirectly(ogr.CreateGeometryFromWkb(geometry))
-    for k, value in enumerate(values):
+    for k, (put, value) in enumerate(zip(made.puts, values)):
         if value is None:
             feature.SetFieldNull(k)
         else:
-            feature.SetField(k, value)
-    layer.CreateFeature(feature)
+            put(feature, k, value)
+    made.layer.CreateFeature(feature)
 
 
 class Output:
@@ -115,7 +148,7 @@ class Output:
         self.target = target
         self.path = folder / target.path.name
         self.dataset: Any = None
-        self.layer: Any = None
+        self.made: Any = None
         self.begun = False  # whether the file is there
 
     def opened(self) -> Any:
@@ -128,86 +161,118 @@ class Output:
     def begin(self, system: osr.SpatialReference | None, table: Table) -> None:
         self.dataset = self.dataset or (self.again() if self.begun else self.opened())
         self.begun = True
-        self.layer = create(self.dataset, table.name or self.path.stem, system, table)
-        if table.kind != ogr.wkbNone and self.layer.GetLayerDefn().GetGeomFieldCount() == 0:
+        self.made = create(self.dataset, table.name or self.path.stem, system, table, self.target.name)
+        if table.kind != ogr.wkbNone and self.made.layer.GetLayerDefn().GetGeomFieldCount() == 0:
             raise Refusal(self.target.name, "a file of this format keeps no shapes")
 
-    def fill(self, table: Table) -> int:
-        """Writes all rows, and answers how many they were."""
+    def fill(self, table: Table) -> Written:
+        """Writes all rows."""
         rows = followed(table.rows, f"writing {self.target.name}")
-        place = place_of(self.layer) if self.takes_all_at_once(table) else None
-        return self.fill_one_by_one(rows) if place is None else self.fill_at_once(place, rows, table.boxes)
+        place = place_of(self.made.layer) if self.takes_all_at_once(table) else None
+        if place is None:
+            return self.fill_one_by_one(rows)
+        return Written(self.fill_at_once(place, rows, table.boxes))
 
     def takes_all_at_once(self, table: Table) -> bool:
         return table.boxes is not None and self.dataset.GetDriver().ShortName == PACKAGE
 
     def fill_at_once(self, place: Place, rows: Iterable[Row], boxes: Floats | None) -> int:
-        """Writes all rows of a GeoPackage's layer, whose file GDAL has to close before."""
+        """Writes all rows of a GeoPackage's layer, whose file GDAL has to close before; what it
+        can't make is told here."""
+        self.made.layer.SyncToDisk()
         self.close()
         try:
             return filled(self.path, place, rows, NO_BOXES if boxes is None else boxes)
         except sqlite3.Error as error:
             raise Fault(self.target.name, f"can't be written: {error}") from error
 
-    def fill_one_by_one(self, rows: Iterable[Row]) -> int:
+    def fill_one_by_one(self, rows: Iterable[Row]) -> Written:
         grouped = self.dataset.TestCapability(ogr.ODsCTransactions)
         if grouped:
             self.dataset.StartTransaction()
-        count = 0
+        written = []
         for geometry, values in rows:
             self.add(geometry, values)
-            count += 1
+            written.append(values)
         if grouped:
             self.dataset.CommitTransaction()
         self.dataset.FlushCache()
-        return count
+        return Written(len(written), self.made.fields, written)
 
     def add(self, geometry: bytes | None, values: Sequence[Any]) -> None:
-        add(self.layer, geometry, values)
+        add(self.made, geometry, values)
 
     def close(self) -> None:
         """Closes the file. GDAL's bindings would print what fails here, and can't raise it: a look
         at the file tells."""
         told, sys.unraisablehook = sys.unraisablehook, lambda _: None
-        self.layer = self.dataset = None
+        self.made = self.dataset = None
         sys.unraisablehook = told
 
-    def check(self, table: Table, count: int) -> None:
-        """Reads back how many features a layer of the closed file has."""
+    def check(self, table: Table, written: Written) -> None:
+        """Reads back what a layer of the closed file has."""
         try:
             named = LAYER_MARK + table.name if table.name else ""
             held = Source(str(self.path) + named)  # a layer is there only as long as its source is
             with blamed_on(held.name, held.path):
-                found = held.layer.GetFeatureCount()
+                found, unlike = held.layer.GetFeatureCount(), list(differences(held.layer, written))
         except Fault as error:
             raise Fault(self.target.name, f"can't be read back: {error.reason}") from error
-        if found != count:
+        if found != written.count:
             raise Fault(
-                self.target.name, f"has {found} of the {count} features that were written to it"
+                self.target.name,
+                f"has {found} of the {written.count} features that were written to it",
             )
+        for difference in unlike:
+            if not difference.near:
+                way = "" if driver_for(self.target).ShortName == PACKAGE else f": {ROOM}"
+                raise Fault(self.target.name, f"{difference}{way}")
+            warn(self.target.name, str(difference))
 
 
 def write_tables(
+    target: Target,
+    held: Drafts,
+    system: osr.SpatialReference | None,
+    tables: Sequence[Table],
+    begun: Callable[[Target, Path], Output] = Output,
+) -> list[int]:
+    """Drafts a file of these layers, and answers how many features each has."""
+    with blamed(target), gdal_state.options(gdal_state.WRITING):
+        return write_into(held.folder(target), target, system, tables, begun)
+
+
+def write_into(
+    folder: Path,
     target: Target,
     system: osr.SpatialReference | None,
     tables: Sequence[Table],
     begun: Callable[[Target, Path], Output] = Output,
 ) -> list[int]:
-    """Writes a file of these layers, and answers how many features each has. Where that fails, what
-    was there stays."""
-    with draft(target) as folder:
-        output = begun(target, folder)
-        counts = []
-        with blamed_on(target.name, str(output.path)):
-            try:
-                for table in tables:
-                    output.begin(system, table)
-                    counts.append(output.fill(table))
-            except BaseException as error:
-                clear_frames(error.__traceback__)  # they would keep the file open
-                raise
-            finally:
-                output.close()
-        for table, count in zip(tables, counts):
-            output.check(table, count)
-    return counts
+    """The same, in a folder that is there."""
+    output = begun(target, folder)
+    filled = []
+    with blamed_on(target.name, str(output.path)):
+        try:
+            for table in tables:
+                output.begin(system, table)
+                filled.append(output.fill(table))
+        except BaseException as error:
+            clear_frames(error.__traceback__)  # they would keep the file open
+            raise
+        finally:
+            output.close()
+    for table, written in zip(tables, filled):
+        output.check(table, written)
+    return [written.count for written in filled]
+
+
+def refuse_without_rows(target: Target) -> None:
+    """Refuses a format that keeps no rows without shapes; a row is tried."""
+    table = Table([Column("a", ogr.OFTInteger64)], [(None, (1,))], ogr.wkbNone, NO_BOXES)
+    try:
+        with TemporaryDirectory() as folder:
+            write_into(Path(folder), target, None, [table])
+    except Fault as fault:
+        words = "a file of this format keeps no rows without shapes; one of .csv or .gpkg does"
+        raise Refusal(target.name, words) from fault

@@ -16,6 +16,7 @@ from .gdal_errors import told_as
 from .layers import LAYER_MARK, Source
 from .messages import during, is_watched, progress
 from .output import Output, Table
+from .read_back import Written
 from .whole import Target, identity
 
 # Pages of a GeoPackage that are copied at a time.
@@ -30,16 +31,36 @@ def layers_of(target: Target) -> list[str]:
         return [dataset.GetLayer(k).GetName() for k in range(dataset.GetLayerCount())]
 
 
+def opened(target: Target) -> sqlite3.Connection:
+    """The file of a GeoPackage, for reading what has been committed, whoever has it open."""
+    return sqlite3.connect(f"{target.path.as_uri()}?mode=ro", uri=True)
+
+
+def tables_of(target: Target) -> list[str]:
+    """The names of everything that SQLite has in the file of a GeoPackage."""
+    try:
+        with closing(opened(target)) as held:
+            return [name for (name,) in held.execute("SELECT name FROM sqlite_master")]
+    except sqlite3.Error as error:
+        raise Fault(target.name, f"can't be read: {error}") from error
+
+
 def same_name(one: str, other: str) -> bool:
     """Whether SQLite takes two names of tables for one."""
     return one.lower() == other.lower()
 
 
 def check_layers(target: Target, names: Sequence[str], overwrite: bool, sources: Sequence[Source]) -> None:
-    """Refuses names of layers that are there without leave to replace them, and those of inputs."""
-    there = layers_of(target)
+    """Refuses names of layers that are there without leave to replace them, those of inputs, and
+    those of what is no layer, as a raster."""
+    there, tables = layers_of(target), tables_of(target)
     for name in names:
-        if any(same_name(name, other) for other in there) and not overwrite:
+        is_layer, is_table = (any(same_name(name, other) for other in held) for held in (there, tables))
+        if is_table and not is_layer:
+            raise Refusal(
+                target.name, f"has {name} already, which is no layer: --layer names another one"
+            )
+        if is_layer and not overwrite:
             raise Refusal(
                 target.name,
                 (
@@ -77,9 +98,7 @@ class Enlarged(Output):
         return gdal.OpenEx(str(self.path), gdal.OF_VECTOR | gdal.OF_UPDATE, ["GPKG"])
 
     def copy(self) -> None:
-        """Copies what has been committed, whoever has the file open."""
-        address = f"{self.target.path.as_uri()}?mode=ro"
-        with closing(sqlite3.connect(address, uri=True)) as held, closing(sqlite3.connect(self.path)) as copied:
+        with closing(opened(self.target)) as held, closing(sqlite3.connect(self.path)) as copied:
             held.backup(copied, pages=PAGES, progress=self.tell_copied, sleep=0)
             copied.execute("PRAGMA journal_mode = DELETE")
         shutil.copymode(self.target.path, self.path)
@@ -96,8 +115,8 @@ class Enlarged(Output):
                 self.dataset.DeleteLayer(k)
         super().begin(system, table)
 
-    def check(self, table: Table, count: int) -> None:
-        super().check(table, count)
+    def check(self, table: Table, written: Written) -> None:
+        super().check(table, written)
         if state_of(self.target.path) != self.state:
             raise Fault(
                 self.target.name, "was changed meanwhile by another program: nothing was written"

@@ -14,6 +14,7 @@ from .changes import tell_change, tell_moves
 from .columns import Columns, Mask, Numbers
 from .common_grid import CommonGrid, brought_together
 from .destination import destination
+from .encodings import check_texts
 from .fields import NAMES, kept
 from .frame import Frame
 from .layers import Source
@@ -74,6 +75,8 @@ def with_fields(both: CommonGrid, operation: str, asked: tuple[str, str]) -> Tab
     layers."""
     question = both.questions.ask(program.FACES, both.layers)
     held = [kept(*of_one) for of_one in zip(both.layers, NAMES, asked)]
+    for layer, taken in zip(both.layers, held):
+        check_texts(layer, taken.fields, taken.values)
     faces = question.rows()
     covers = [members.counts > 0 for members in faces.members]
     for layer, covered in zip(both.layers, covers):

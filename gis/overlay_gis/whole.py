@@ -5,11 +5,11 @@ from __future__ import annotations
 
 import os
 import re
-from contextlib import ExitStack, contextmanager, suppress
+from contextlib import AbstractContextManager, ExitStack, contextmanager, suppress
 from dataclasses import dataclass
 from pathlib import Path
 from tempfile import TemporaryDirectory
-from typing import Iterable, Iterator, Sequence
+from typing import Iterable, Iterator, TypeVar
 
 from .faults import Fault, Refusal
 from .stopping import go_on
@@ -31,6 +31,8 @@ BY_DRIVER = re.compile(r"[A-Za-z]\w+:(.+?)(?::[^:/]*)?")
 
 LONGEST = 4096  # bytes of a path, as Linux has it
 
+T = TypeVar("T")
+
 Identity = tuple[int, int]  # a file's device and its number there
 
 
@@ -45,10 +47,11 @@ class Target:
     inputs: frozenset[Identity]
 
     def companions(self) -> list[Path]:
-        ending = self.path.suffix.lower()
-        beside = [self.path.with_suffix(other) for other in COMPANIONS.get(ending, ())]
-        journals = JOURNALS if ending in JOURNALLED else ()
-        return beside + [self.path.with_name(self.path.name + end) for end in journals]
+        return companions(self.path)
+
+    def shares(self, other: Path) -> bool:
+        """Whether one of both may be a part of the other."""
+        return self.path in companions(other) or other in self.companions()
 
     def check(self, place: Path) -> None:
         """Refuses to replace an input, or what is there without leave."""
@@ -57,6 +60,14 @@ class Target:
             raise Refusal(told, "is an input")
         if os.path.lexists(place) and not self.overwrite:
             raise Refusal(told, "is there already; --overwrite replaces it")
+
+
+def companions(path: Path) -> list[Path]:
+    """What a file may have beside it."""
+    ending = path.suffix.lower()
+    beside = [path.with_suffix(other) for other in COMPANIONS.get(ending, ())]
+    journals = JOURNALS if ending in JOURNALLED else ()
+    return beside + [path.with_name(path.name + end) for end in journals]
 
 
 def identity(path: Path) -> Identity | None:
@@ -94,28 +105,90 @@ def target_of(name: str, overwrite: bool, inputs: Iterable[str]) -> Target:
     return target
 
 
+@dataclass(frozen=True)
+class Drafts:
+    """Outputs that are made together: the folders of those that are files, and what else ends with
+    them, as a transaction. `folders` tidies away, `last` ends it."""
+
+    folders: ExitStack
+    last: ExitStack
+    made: list[tuple[Path, Target]]
+    others: list[object]
+
+    def folder(self, target: Target) -> Path:
+        """A folder for everything that an output consists of."""
+        try:
+            made = TemporaryDirectory(prefix=".overlay-gis-", suffix=".partial", dir=target.path.parent)
+        except OSError as error:
+            raise Fault(target.name, f"can't be written beside: {error.strerror}") from error
+        folder = Path(self.folders.enter_context(made))
+        self.made.append((folder, target))
+        return folder
+
+    def within(self, other: AbstractContextManager[T]) -> T:
+        """Begins what ends when all files are in place, and which takes them back by raising."""
+        self.others.append(other)
+        return self.last.enter_context(other)
+
+    def in_one_step(self) -> bool:
+        """Whether there is but one file, and nothing beside it."""
+        return len(self.made) == 1 and not self.others
+
+
+@contextmanager
+def drafts() -> Iterator[Drafts]:
+    """Outputs that are put in place at the end, all of them or none.
+
+    Until then what is there is as it was. The folders go whatever happens, but for a kill that no
+    program hears of: that leaves them, hidden and with `partial` in their names.
+    """
+    with ExitStack() as folders, ExitStack() as last:
+        held = Drafts(folders, last, [], [])
+        yield held
+        with in_place(held):
+            last.close()
+
+
 @contextmanager
 def draft(target: Target) -> Iterator[Path]:
-    """A folder for everything that the output consists of, which is put in place at the end.
+    """A folder for everything that one output consists of."""
+    with drafts() as held, blamed(target):
+        yield held.folder(target)
 
-    Until then what is there is as it was. The folder goes whatever happens, but for a kill that no
-    program hears of: that leaves it, hidden and with `partial` in its name.
-    """
+
+@contextmanager
+def blamed(target: Target) -> Iterator[None]:
+    """What the system can't do within is the target's fault."""
     try:
-        made = TemporaryDirectory(prefix=".overlay-gis-", suffix=".partial", dir=target.path.parent)
+        yield
     except OSError as error:
-        raise Fault(target.name, f"can't be written beside: {error.strerror}") from error
-    with made as name:
-        try:
-            yield Path(name)
-            publish(Path(name), target)
-        except OSError as error:
-            raise Fault(target.name, error.strerror) from error
+        raise Fault(target.name, error.strerror) from error
 
 
-def publish(folder: Path, target: Target) -> None:
-    """Puts all parts in their places. A single file changes in one step; several do one after
-    another, and the one by which readers find the others goes first and comes last."""
+@contextmanager
+def in_place(held: Drafts) -> Iterator[None]:
+    """Puts all parts in their places, and what was there back if that fails, or what is done
+    within. From the first step on no signal stops it."""
+    asked = []
+    for folder, target in held.made:
+        with blamed(target):
+            asked.append((target, moves(folder, target, held.in_one_step())))
+    go_on()
+    with ExitStack() as back:
+        for target, steps in asked:
+            with blamed(target):
+                carry_out(steps, back)
+        yield
+        back.pop_all()
+    for _, target in held.made:
+        with blamed(target):
+            sync(target.path.parent)
+
+
+def moves(folder: Path, target: Target, in_one_step: bool) -> dict[Path, Path]:
+    """Where to each part goes, and before that each old one; all that is new is on the disk then. A
+    single file changes in one step; several do one after another, and the one by which readers find
+    the others goes first and comes last."""
     parts = sorted(folder.iterdir(), key=lambda part: (part.name == target.path.name, part.name))
     places = [target.path.parent / part.name for part in parts]
     stale = [place for place in {target.path, *target.companions(), *places} if os.path.lexists(place)]
@@ -123,24 +196,19 @@ def publish(folder: Path, target: Target) -> None:
         target.check(place)
     for part in folder.rglob("*"):
         sync(part)
-    go_on()
-    if places == [target.path] and not target.path.is_dir() and set(stale) <= {target.path}:
-        os.replace(parts[0], target.path)
-    else:
-        stale.sort(key=lambda place: place != target.path)
-        exchange(stale, folder / "replaced", dict(zip(parts, places)))
-    sync(target.path.parent)
-
-
-def exchange(stale: Sequence[Path], aside: Path, places: dict[Path, Path]) -> None:
-    """Puts the old files aside and the new ones in place, or all back where that fails."""
+    if in_one_step and places == [target.path] and not target.path.is_dir() and set(stale) <= {target.path}:
+        return dict(zip(parts, places))
+    stale.sort(key=lambda place: place != target.path)
+    aside = folder / "replaced"
     aside.mkdir()
-    moves = {**{old: aside / old.name for old in stale}, **places}
-    with ExitStack() as back:
-        for source, place in moves.items():
-            os.replace(source, place)
-            back.callback(os.replace, place, source)
-        back.pop_all()
+    return {**{old: aside / old.name for old in stale}, **dict(zip(parts, places))}
+
+
+def carry_out(steps: dict[Path, Path], back: ExitStack) -> None:
+    """Moves the files, and has `back` move them back."""
+    for source, place in steps.items():
+        os.replace(source, place)
+        back.callback(os.replace, place, source)
 
 
 def sync(path: Path) -> None:

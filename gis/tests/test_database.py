@@ -8,13 +8,15 @@ import sys
 from pathlib import Path
 
 import pytest
-from osgeo import gdal
+from osgeo import gdal, ogr
 from shapely import wkb
 from shapely.geometry import box
 
 from conftest import EAST, NORTH, write
 from overlay_gis import database
+from test_geopackage import kept
 from test_kills import stopped  # noqa: F401 a fixture
+from test_room import layer
 
 sys.path.insert(0, str(Path(__file__).resolve().parents[2] / "bench"))
 
@@ -77,6 +79,45 @@ def test_rows_and_pairs_and_layers_of_the_database(gis, tmp_path, server, addres
     assert server.said("select b, features, area from town.rules order by fid") == "|1|50\n1|2|100\n"
     answer = gis("dissolve", f"{address}|layername=town.rows", "-o", address, "--layer", "town.rows", "--overwrite")
     assert answer.status == 3 and answer.err.endswith(" is an input\n")
+
+
+def test_bytes_are_kept(gis, tmp_path, server, address):
+    kept(tmp_path, ogr.OFTBinary, ogr.OFSTNone, "00FF27AB")
+    assert gis("faces", "a.gpkg", "-o", address, "--layer", "town.bytes", "--keep-a", "kept").status == 0
+    assert server.said("select encode(\"a_kept\", 'hex') from town.bytes") == "00ff27ab\n"
+
+
+def test_lists_are_kept(gis, tmp_path, server, address):
+    a = layer(tmp_path / "a.geojson", {"tags": ["x", "y"], "lots": [1, 2], "shares": [0.5]})
+    assert gis("dissolve", a, "--by", "tags,lots,shares", "-o", address, "--layer", "town.lists").status == 0
+    assert server.said("select tags, lots, shares from town.lists") == "{x,y}|{1,2}|{0.5}\n"
+
+
+def test_a_field_called_as_a_column_has_another_name(gis, tmp_path, server, address):
+    a = write(tmp_path / "a.geojson", [SQUARE, OTHER], None, fields={"fid": [7, 5], "Geom": [1, 2]})
+    assert gis("dissolve", a, "--by", "fid,Geom", "-o", address, "--layer", "town.names").status == 0
+    assert server.said('select fid, fid_, "Geom_", features from town.names order by fid') == "1|7|1|1\n2|5|2|1\n"
+
+
+def test_rows_and_pairs_are_there_together_or_not_at_all(gis, tmp_path, server, address, monkeypatch):
+    """Where the file isn't put in place, or the table isn't made for good, neither is there."""
+    a, b = layers(tmp_path)
+    words = ("faces", a, b, "-o", address, "--layer", "town.rows", "--pairs", "pairs.csv")
+
+    def failing(*_):
+        raise OSError(5, "Input/output error")
+
+    with monkeypatch.context() as changed:
+        changed.setattr(os, "replace", failing)
+        answer = gis(*words)
+    assert answer.status == 1 and answer.err.splitlines()[-1] == "overlay-gis: pairs.csv: Input/output error"
+    with monkeypatch.context() as changed:
+        changed.setattr(database, "go_on", failing)
+        answer = gis(*words)
+    assert answer.status == 1 and "Input/output error" in answer.err.splitlines()[-1]
+    assert server.said("select to_regclass('town.rows')") == "\n" and not list(tmp_path.glob("pairs*"))
+    assert gis(*words).status == 0
+    assert server.said("select count(*) from town.rows") == "3\n" and Path("pairs.csv").exists()
 
 
 def test_what_is_refused(gis, tmp_path, server, address):

@@ -8,7 +8,7 @@ import pytest
 from osgeo import gdal, ogr
 from shapely.geometry import MultiPolygon, box
 
-from conftest import EAST, NORTH, parcels, write
+from conftest import EAST, NORTH, parcels, read, write
 from overlay_gis import geopackage, output
 from overlay_gis.faults import Fault
 
@@ -119,7 +119,9 @@ def kept(tmp_path, kind, subtype, value):
     layer.CreateField(field)
     feature = ogr.Feature(layer.GetLayerDefn())
     feature.SetGeometry(ogr.CreateGeometryFromWkb(box(0, 0, 1, 1).wkb))
-    if value is not None:
+    if kind == ogr.OFTBinary:
+        feature.SetFieldBinaryFromHexString("kept", value)
+    elif value is not None:
         feature.SetField("kept", value)
     layer.CreateFeature(feature)
 
@@ -133,6 +135,7 @@ def kept(tmp_path, kind, subtype, value):
         (ogr.OFTInteger, ogr.OFSTBoolean, 1, False),
         (ogr.OFTReal, ogr.OFSTFloat32, 0.1, False),
         (ogr.OFTString, ogr.OFSTJSON, "{}", False),
+        (ogr.OFTBinary, ogr.OFSTNone, "00FF27AB", False),
         (ogr.OFTDate, ogr.OFSTNone, "2026/11/27", False),
         (ogr.OFTDateTime, ogr.OFSTNone, "2026/11/27 10:11:12+01", False),
     ],
@@ -144,15 +147,66 @@ def test_values_that_are_no_numbers_or_texts_are_left_to_gdal(both_ways, program
         assert ours == gdals and count == all_at_once
 
 
-def test_texts_in_no_known_encoding_are_left_to_gdal(gis, program, tmp_path):
-    kept(tmp_path, ogr.OFTString, ogr.OFSTNone, "x")
+@pytest.mark.parametrize("ending", ["gpkg", "sqlite", "fgb", "shp", "geojson"])
+def test_bytes_are_kept(gis, tmp_path, ending):
+    """As texts of hexadecimal digits where a format has none."""
+    kept(tmp_path, ogr.OFTBinary, ogr.OFSTNone, "00FF27AB")
+    for words, name in ((("faces", "a.gpkg", "--keep-a", "kept"), "a_kept"), (("dissolve", "a.gpkg", "--by", "kept"), "kept")):
+        answer = gis(*words, "-o", f"out.{ending}", "--overwrite")
+        assert answer.status == 0, answer.err
+        held = gdal.OpenEx(f"out.{ending}")
+        feature = held.GetLayer(0).GetNextFeature()
+        place = feature.GetFieldIndex(name)
+        if ending in ("shp", "geojson"):
+            assert feature.GetField(place) == "00FF27AB"
+        else:
+            assert bytes(feature.GetFieldAsBinary(place)) == b"\0\xff\x27\xab"
+        feature = None
+
+
+def in_latin(path):
+    """A GeoPackage whose one text is in Latin-1."""
+    kept(path.parent, ogr.OFTString, ogr.OFSTNone, "x")
     with closing(sqlite3.connect("a.gpkg")) as held, held:
         for (name,) in held.execute("select name from sqlite_master where type = 'trigger' and tbl_name = 'a'").fetchall():
             held.execute(f"drop trigger {name}")
         held.execute("update a set kept = cast(x'62fc' as text)")
-    answer = gis("faces", "a.gpkg", "-o", "out.gpkg", "--keep-a", "kept")
-    assert answer.status == 1 and answer.err.splitlines()[-1].startswith("overlay-gis: out.gpkg: ")
+
+
+WITH_FIELDS = [
+    ("faces", "--keep-a", "kept"),
+    ("faces", "--by", "kept"),
+    ("dissolve", "--by", "kept"),
+    ("run", "union", "b.gpkg", "--keep-b", "kept"),
+]
+
+
+@pytest.mark.parametrize("words", WITH_FIELDS, ids=lambda words: "-".join(word.strip("-") for word in words))
+@pytest.mark.parametrize("name", ["a.gpkg", "a.shp"])
+def test_texts_in_no_known_encoding_are_told(gis, tmp_path, words, name):
+    write(tmp_path / "b.gpkg", [box(5, 5, 6, 6)], None)
+    if name == "a.gpkg":
+        in_latin(tmp_path / name)
+    else:
+        write(tmp_path / name, [box(0, 0, 1, 1)], None, {"kept": ["bü"]})  # in ISO-8859-1, as its .dbf says
+        (tmp_path / "a.cpg").write_text("UTF-8")
+    number = 1 if name == "a.gpkg" else 0
+    answer = gis(*words[:-2], name, *words[-2:], "-o", "out.gpkg")
+    told = f"overlay-gis: {name}: feature {number}: its field kept has no text in UTF-8: where it is a Shapefile, name its encoding"
+    assert answer.status == 3 and answer.err.splitlines()[-1].startswith(told), answer.err
     assert not list(tmp_path.glob("*out*"))
+
+
+def test_an_encoding_that_is_named_is_taken(gis, tmp_path, monkeypatch):
+    write(tmp_path / "a.shp", [box(0, 0, 1, 1)], None, {"kept": ["bü"]})
+    (tmp_path / "a.cpg").write_text("UTF-8")
+    gdal.SetConfigOption("SHAPE_ENCODING", "ISO-8859-1")
+    try:
+        answer = gis("dissolve", "a.shp", "--by", "kept", "-o", "out.shp")
+    finally:
+        gdal.SetConfigOption("SHAPE_ENCODING", None)
+    assert answer.status == 0, answer.err
+    assert (tmp_path / "out.cpg").read_text() == "UTF-8" and [fields["kept"] for _, fields in read("out.shp")] == ["bü"]
 
 
 def test_what_sqlite_says_is_told(gis, program, tmp_path, monkeypatch):
@@ -165,3 +219,49 @@ def test_what_sqlite_says_is_told(gis, program, tmp_path, monkeypatch):
     answer = gis("dissolve", "a.gpkg", "-o", "out.gpkg")
     assert answer.status == Fault.status and not list(tmp_path.glob("*out*"))
     assert answer.err.splitlines()[-1] == "overlay-gis: out.gpkg: can't be written: database or disk is full"
+
+
+def index_of(path, table):
+    """For each row of a layer its least x in the index and that of its shape."""
+    opened = gdal.OpenEx(str(path))
+    with closing(sqlite3.connect(path)) as held:
+        (name,) = held.execute("select name from sqlite_master where name like 'rtree_%_geom' and sql like '%virtual%'").fetchone()
+        lows = dict(held.execute(f"select id, minx from {geopackage.quoted(name)}").fetchall())
+    return [(lows[feature.GetFID()], feature.GetGeometryRef().GetEnvelope()[0]) for feature in opened.GetLayerByName(table)]
+
+
+@pytest.mark.parametrize("field", ["fid", "FID", "geom", "Geom"])
+@pytest.mark.parametrize("ending", ["geojson", "shp"])
+def test_a_field_called_as_a_column_of_the_layer_has_another_name(both_ways, tmp_path, field, ending):
+    a = write(tmp_path / f"a.{ending}", [box(x, 0, x + 10, 10) for x in (0, 100, 200)], None, {field: [3, 2, 1]})
+    for words in (("dissolve", a, "--by", field), ("dissolve", a, "--by", field, "--parts")):
+        ours, gdals, count = both_ways("out.gpkg", *words)
+        assert ours == gdals and count == 1
+        assert [fields[f"{field}_"] for _, fields in read("out.gpkg")] == [3, 2, 1]
+        assert index_of("out.gpkg", "out") == [(0, 0), (100, 100), (200, 200)]
+
+
+def test_kept_fields_never_take_the_place_of_a_rows_number(gis, tmp_path):
+    a = write(tmp_path / "a.geojson", [box(x, 0, x + 10, 10) for x in (0, 100, 200)], None, {"fid": [3, 2, 1]})
+    for words in (("faces", a, "--keep-a", "fid"), ("faces", a, "--by", "fid"), ("run", "union", a, a, "--keep-a", "fid")):
+        assert gis(*words, "-o", "out.gpkg", "--overwrite").status == 0
+        assert index_of("out.gpkg", "out") == [(0, 0), (100, 100), (200, 200)]
+        assert [fields["a_fid"] for _, fields in read("out.gpkg")] == [3, 2, 1]
+
+
+@pytest.mark.parametrize(
+    "fields, names",
+    [
+        (["features", "features_"], ["features", "features_", "features__", "area"]),
+        (["area", "features", "Area_"], ["area", "features", "Area_", "features_", "area__"]),
+        (["Name", "name"], ["Name", "name_", "features", "area"]),
+        (["NAME", "name", "name_"], ["NAME", "name__", "name_", "features", "area"]),
+    ],
+)
+@pytest.mark.parametrize("out", ["out.gpkg", "out.sqlite", "out.geojson"])
+def test_names_that_differ_by_case_alone_are_told_apart(gis, tmp_path, fields, names, out):
+    a = write(tmp_path / "a.geojson", [box(0, 0, 10, 10)], None, {name: [k] for k, name in enumerate(fields)})
+    answer = gis("dissolve", a, "--by", ",".join(fields), "-o", out)
+    assert answer.status == 0, answer.err
+    ((_, found),) = read(out)
+    assert list(found) == (list(map(str.lower, names)) if out == "out.sqlite" else names)  # as SQLite's driver has it

@@ -148,6 +148,32 @@ def test_a_kill_of_other_verbs(stopped, tmp_path, words, place):
         assert parts("out.gpkg") == old
 
 
+@pytest.mark.parametrize("number", SIGNALS, ids=lambda number: number.name)
+@pytest.mark.parametrize("place", [FILLED, ADDED, CLOSED, ON_DISK], ids=lambda place: place[1])
+def test_a_kill_while_two_files_are_written(stopped, tmp_path, place, number):
+    """The rows by SQLite, the pairs row by row: neither is there, or both are as they were."""
+    a, b = layers(tmp_path)
+    write(tmp_path / "b.gpkg", [box(EAST, NORTH, EAST + 4, NORTH + 1)])
+    words = ("faces", a, b, "-o", "out.gpkg", "--pairs", "pairs.csv")
+    stopped(place, number, *words)
+    assert not list(tmp_path.glob("out*")) and not list(tmp_path.glob("pairs*"))
+    write(tmp_path / "out.gpkg", [OLD])
+    Path("pairs.csv").write_text("old")
+    old = parts("out.gpkg")
+    answer = stopped(place, number, *words, "--overwrite")
+    assert parts("out.gpkg") == old and Path("pairs.csv").read_text() == "old"
+    if number != signal.SIGKILL:
+        assert answer.status == 1 and "no file was written or changed" in answer.err
+        assert not list(tmp_path.glob(".*"))
+
+
+def test_a_kill_while_two_files_change_places(stopped, tmp_path):
+    """From the first of these steps on, the command goes on to its end."""
+    a, b = layers(tmp_path)
+    answer = stopped((os, "replace", False), signal.SIGTERM, "faces", a, b, "-o", "out.gpkg", "--pairs", "pairs.csv")
+    assert answer.status == 0 and len(read("out.gpkg")) and Path("pairs.csv").exists()
+
+
 def test_a_kill_of_texts(stopped, tmp_path):
     layers(tmp_path)
     folder = tmp_path / "grid"

@@ -90,6 +90,29 @@ def test_what_is_refused(gis, plan, tmp_path):
     assert answer.status == 3 and "out.shp: only a GeoPackage takes several layers" in answer.err
 
 
+@pytest.mark.parametrize("name", ["ortho", "Ortho", "gpkg_contents", "rtree_plan_geom"])
+def test_what_is_no_layer_is_not_replaced(gis, plan, name):
+    """As a raster."""
+    raster = gdal.GetDriverByName("MEM").Create("", 4, 4, 1, gdal.GDT_Byte)
+    raster.SetGeoTransform([0, 1, 0, 4, 0, -1])
+    gdal.Translate(plan, raster, format="GPKG", creationOptions=["APPEND_SUBDATASET=YES", "RASTER_TABLE=ortho"])
+    before = Path(plan).read_bytes()
+    for words in ((), ("--overwrite",)):
+        answer = gis(*WORDS, "--layer", name, "--append", *words)
+        assert answer.status == 3 and f"plan.gpkg: has {name} already, which is no layer" in answer.err, answer.err
+    assert Path(plan).read_bytes() == before
+
+
+@pytest.mark.parametrize("name, told", [("sqlite_master", "reserved for internal use"), ("gpkg_layers", "reserved geopackage prefix")])
+@pytest.mark.parametrize("out", ["plan.gpkg", "new.gpkg"])
+def test_a_name_that_no_layer_may_have_is_told_in_gdals_words(gis, plan, name, told, out):
+    before = Path(plan).read_bytes()
+    answer = gis(*WORDS[:-1], out, "--layer", name, "--append")
+    last = answer.err.splitlines()[-1]
+    assert answer.status == 1 and last.startswith(f"overlay-gis: {out}: ") and told in last, answer.err
+    assert Path(plan).read_bytes() == before and not Path("new.gpkg").exists()
+
+
 def test_a_new_file_has_the_layer_that_was_named(gis, plan):
     assert gis(*WORDS[:-1], "new.gpkg", "--layer", "both").status == 0
     assert layers_of("new.gpkg") == ["both"]

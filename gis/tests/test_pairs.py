@@ -1,12 +1,14 @@
 """faces --pairs: worked by hand, and by Shapely's intersections of each feature with each."""
 
 import csv
+import os
+from pathlib import Path
 
 import pytest
 from osgeo import gdal, ogr
 from shapely.geometry import box
 
-from conftest import EAST, NORTH, blobs, parcels, write
+from conftest import EAST, NORTH, blobs, parcels, read, write
 from test_faces import heap
 
 
@@ -47,6 +49,8 @@ def test_pairs_in_a_table_of_their_own(gis, tmp_path):
     assert gis("faces", a, b, "-o", "out2.shp", "--pairs", "pairs.csv").status == 3
     assert gis("faces", a, b, "-o", "out3.gpkg", "--pairs", "pairs.gpkg", "--grid", "1").status == 0
     assert table("pairs.gpkg", "pairs") == WANTED
+    assert gis("faces", a, b, "-o", "out4.gpkg", "--pairs", "pairs.tab", "--grid", "1").status == 0
+    assert table("pairs.tab", "pairs") == WANTED
 
 
 def test_pairs_are_those_of_two_layers(gis, tmp_path):
@@ -69,3 +73,42 @@ def test_pairs_have_the_areas_that_shapely_finds(gis, tmp_path, first, second):
             assert area == pytest.approx(twice / 2e6, rel=1e-12)
             assert share == pytest.approx(area / one.area, abs=1e-4) and other_share == pytest.approx(area / other.area, abs=1e-4)
     assert not found
+
+
+@pytest.mark.parametrize("out", ["out.shp", "out.fgb", "out.dxf"])
+def test_formats_without_rows_are_refused_before_any_work(gis, tmp_path, pretend, out):
+    a, b = layers(tmp_path)
+    pretend("exit 1\n")
+    answer = gis("faces", a, b, "-o", "o.gpkg", "--pairs", out)
+    told = f"overlay-gis: {out}: a file of this format keeps no rows without shapes; one of .csv or .gpkg does\n"
+    assert (answer.status, answer.err) == (3, told)
+    assert not list(tmp_path.glob("o*"))
+
+
+@pytest.mark.parametrize("out, pairs", [("o.shp", "o.dbf"), ("o.tab", "o.dat"), ("o.gpkg", "o.gpkg-wal")])
+def test_no_part_of_the_rows_is_the_pairs(gis, tmp_path, out, pairs):
+    a, b = layers(tmp_path)
+    answer = gis("faces", a, b, "-o", out, "--pairs", pairs)
+    assert answer.status == 3 and not list(tmp_path.glob("o.*")), answer.err
+
+
+def test_rows_and_pairs_are_there_together_or_not_at_all(gis, tmp_path, monkeypatch):
+    """Also where the last step of putting them in place fails."""
+    a, b = layers(tmp_path)
+    for name in ("out.gpkg", "pairs.csv"):
+        (tmp_path / name).write_text("old")
+    replace = os.replace
+
+    def failing(source, place):
+        if Path(place).name == "pairs.csv" and Path(source).parent.suffix == ".partial":
+            raise OSError(5, "Input/output error")
+        replace(source, place)
+
+    with monkeypatch.context() as changed:
+        changed.setattr(os, "replace", failing)
+        answer = gis("faces", a, b, "-o", "out.gpkg", "--pairs", "pairs.csv", "--overwrite")
+    assert answer.status == 1 and answer.err.splitlines()[-1] == "overlay-gis: pairs.csv: Input/output error"
+    assert (tmp_path / "out.gpkg").read_text() == (tmp_path / "pairs.csv").read_text() == "old"
+    assert not list(tmp_path.glob(".*"))
+    assert gis("faces", a, b, "-o", "out.gpkg", "--pairs", "pairs.csv", "--overwrite").status == 0
+    assert len(read("out.gpkg")) and (tmp_path / "pairs.csv").read_text().startswith("a,b,")

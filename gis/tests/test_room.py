@@ -1,0 +1,185 @@
+"""Values and names for which a format has no room: none is cut, rounded or left out silently."""
+
+import json
+
+import pytest
+from osgeo import ogr
+from shapely.geometry import box
+
+from conftest import read, write
+from overlay_gis import read_back
+
+
+def layer(path, *rows):
+    """A layer of a square for each row of fields."""
+    corners = [[0, 0], [1, 0], [1, 1], [0, 1], [0, 0]]
+    features = [
+        {
+            "type": "Feature",
+            "properties": fields,
+            "geometry": {"type": "Polygon", "coordinates": [[[x + 10 * k, y] for x, y in corners]]},
+        }
+        for k, fields in enumerate(rows)
+    ]
+    path.write_text(json.dumps({"type": "FeatureCollection", "features": features}))
+    return str(path)
+
+
+def dissolved(gis, path, out, by="kept"):
+    return gis("dissolve", path, "--by", by, "-o", out, "--overwrite")
+
+
+# What a file of each ending has no room for, and how that is told.
+TOO_MUCH = [
+    ("shp", "x" * 255, "a text of 255 signs comes out as a text of 254 signs"),
+    ("shp", "é" * 200, "a text of 200 signs comes out as a text of 127 signs"),
+    ("tab", "x" * 255, "a text of 255 signs comes out as a text of 254 signs"),
+    ("shp", 2**62 + 1, "4611686018427387905 comes out as 4.611686018427388e+18"),
+    ("kml", 2**53 + 1, "9007199254740993 comes out as"),
+    ("tab", 2**53 + 1, "9007199254740993 comes out as"),
+    ("shp", 3.21e-14, "3.21e-14 comes out as 3.2e-14"),
+    ("shp", 1e300, "1e+300 comes out as"),
+]
+
+
+@pytest.mark.parametrize("ending, value, told", TOO_MUCH)
+def test_what_does_not_fit_is_told(gis, tmp_path, ending, value, told):
+    """And nothing is written."""
+    nothing = {str: "", int: 0, float: 0.5}[type(value)]
+    a = layer(tmp_path / "a.geojson", {"kept": nothing}, {"kept": value})
+    answer = dissolved(gis, a, f"out.{ending}")
+    assert answer.status == 1
+    last = answer.err.splitlines()[-1]
+    assert last.startswith(f"overlay-gis: out.{ending}: field kept of row 2: {told}"), answer.err
+    assert last.endswith(": a GeoPackage, whose name ends in .gpkg, has room for it")
+    assert not list(tmp_path.glob("out*"))
+    assert dissolved(gis, a, "out.gpkg").status == 0
+    assert [fields["kept"] for _, fields in read("out.gpkg")] == [nothing, value]
+
+
+FITTING = ["", "x" * 254, "Łąka Ж é 中", 2**53 + 1, -(2**40), 0.1, 123456789.12345678, "2026-11-27", "007", "\"'<&,;"]
+
+
+@pytest.mark.parametrize("value", FITTING, ids=lambda value: str(value)[:12])
+@pytest.mark.parametrize("ending", ["shp", "geojson", "fgb", "sqlite"])
+def test_what_fits_comes_out_as_it_was(gis, tmp_path, ending, value):
+    a = layer(tmp_path / "a.geojson", {"kept": value}, {"kept": None}, {"kept": value})
+    answer = dissolved(gis, a, f"out.{ending}")
+    assert answer.status == 0 and "warning" not in answer.err, answer.err
+    found = {fields["kept"] for _, fields in read(f"out.{ending}")}
+    wanted = {value, None} - ({""} if ending == "shp" else set())
+    if value == "2026-11-27":  # which GDAL reads as a date
+        assert {str(day).replace("-", "/")[:10] for day in found} == {"2026/11/27", "None"}
+    else:
+        assert found == wanted
+
+
+def test_features_that_are_many_do_not_end_within_a_number(gis, tmp_path):
+    """A Shapefile's texts have 254 bytes at most."""
+    for count, status in ((80, 0), (120, 1)):
+        corners = [[0, 0], [1, 0], [1, 1], [0, 1], [0, 0]]
+        shape = {"type": "Polygon", "coordinates": [corners]}
+        features = [{"type": "Feature", "properties": {}, "geometry": shape}] * count
+        (tmp_path / "a.geojson").write_text(json.dumps({"type": "FeatureCollection", "features": features}))
+        answer = gis("faces", "a.geojson", "-o", f"out{count}.shp")
+        assert answer.status == status, answer.err
+    assert "out120.shp: field a of row 1: a text of 369 signs comes out as a text of 254 signs" in answer.err
+
+
+def test_a_time_is_kept_as_a_text_where_a_format_has_dates_alone(gis, tmp_path):
+    a = layer(tmp_path / "a.geojson", {"kept": "2026-11-27T10:11:12+01:00"}, {"kept": None})
+    assert dissolved(gis, a, "out.shp").status == 0
+    assert [fields["kept"] for _, fields in read("out.shp")] == ["2026/11/27 10:11:12+01", None]
+    answer = dissolved(gis, a, "out.tab")
+    assert answer.status == 1 and "out.tab: field kept of row 1: 2026/11/27 10:11:12+01 comes out as" in answer.err
+
+
+def test_a_name_that_is_shortened_is_told(gis, tmp_path):
+    a = layer(tmp_path / "a.geojson", {"measured_height": 1, "measured_height_above": 2, "fid": 3})
+    answer = dissolved(gis, a, "out.shp", "measured_height,measured_height_above,fid")
+    assert answer.status == 0
+    assert "out.shp: warning: the field measured_height is called measured_h there" in answer.err
+    assert "out.shp: warning: the field measured_height_above is called measured_1 there" in answer.err
+    assert answer.err.count("warning") == 2
+    ((_, fields),) = read("out.shp")
+    assert fields == {"measured_h": 1, "measured_1": 2, "fid": 3, "features": 1, "area": 1.0}
+    assert "out.gpkg: warning: the field fid is called fid_ there" in dissolved(gis, a, "out.gpkg", "fid").err
+
+
+def test_last_digits_and_blanks_that_go_are_told(gis, tmp_path):
+    a = layer(tmp_path / "a.geojson", {"share": 0.5, "name": "a "}, {"share": 1 / 3, "name": "b"})
+    answer = dissolved(gis, a, "out.shp", "share,name")
+    assert answer.status == 0
+    told = [line for line in answer.err.splitlines() if "warning" in line]
+    assert told == [
+        "overlay-gis: out.shp: warning: field share of row 2: 0.3333333333333333 comes out as 0.333333333333333",
+        "overlay-gis: out.shp: warning: field name of row 1: a  comes out as a",
+    ]
+
+
+@pytest.mark.parametrize("value", ["2026-11-27", "2026-11-27T10:11:12", "[1,2]", '{"a":1}', "(2:x,y)", "[x]", "{", "true"])
+@pytest.mark.parametrize("ending", ["geojson", "geojsonl", "shp", "fgb", "sqlite", "gml", "kml", "tab"])
+def test_a_text_that_looks_like_something_else_is_no_fault(gis, tmp_path, ending, value):
+    """As GeoJSON's driver reads dates, and writes JSON as what it says."""
+    write(tmp_path / "a.gpkg", [box(0, 0, 1, 1), box(2, 2, 3, 3)], "EPSG:4326", {"kept": [value, "x"]})
+    answer = dissolved(gis, "a.gpkg", f"out.{ending}")
+    assert answer.status == 0 and "warning" not in answer.err, answer.err
+
+
+LISTS = {"tags": ["x", "y, z", "é"], "lots": [1, 2**40], "ids": [1, 2], "shares": [0.5, 1.25, 1 / 3]}
+
+
+@pytest.mark.parametrize("ending", ["geojson", "sqlite", "gpkg", "shp", "fgb", "kml"])
+@pytest.mark.parametrize("words, mark", [(("faces", "--keep-a"), "a_"), (("dissolve", "--by"), ""), (("run", "union", "--keep-a"), "a_")])
+def test_lists_are_kept(gis, tmp_path, ending, words, mark):
+    """As texts of JSON where a format has no lists."""
+    b = layer(tmp_path / "b.geojson", LISTS, {**LISTS, "tags": []})
+    *verb, option = words
+    answer = gis(*verb, b, *([b] if verb[0] == "run" else []), option, "tags,lots,ids,shares", "-o", f"out.{ending}")
+    assert answer.status == 0, answer.err
+    for _, fields in read(f"out.{ending}"):
+        for name in ("tags", "lots", "ids", "shares"):
+            value = fields[mark + name]
+            if ending not in ("geojson", "sqlite") and value is not None:
+                value = json.loads(value)
+            assert value == LISTS[name] or (name, value or []) == ("tags", [])
+
+
+def written(kind, *values):
+    held = ogr.FieldDefn("kept", kind)
+    return read_back.Written(len(values), [held], [(value,) for value in values])
+
+
+def held(kind, *values):
+    """A layer of the memory that has these values."""
+    dataset = ogr.GetDriverByName("Memory").CreateDataSource("")
+    made = dataset.CreateLayer("a")
+    made.CreateField(ogr.FieldDefn("kept", kind))
+    for value in values:
+        feature = ogr.Feature(made.GetLayerDefn())
+        if value is not None:
+            feature.SetField(0, value)
+        made.CreateFeature(feature)
+    return dataset, made
+
+
+@pytest.mark.parametrize(
+    "kinds, wanted, found, row",
+    [
+        ((ogr.OFTString, ogr.OFTString), ("a", "b", "a"), ("b", "a", "a"), None),
+        ((ogr.OFTString, ogr.OFTString), ("a", "b", "a"), ("b", "a", "b"), 1),
+        ((ogr.OFTInteger64, ogr.OFTString), (1, None, 3), ("1", "", "3"), None),
+        ((ogr.OFTInteger64, ogr.OFTString), (1, None, 3), ("1", "", "4"), 3),
+        ((ogr.OFTDateTime, ogr.OFTDateTime), ("2026/11/27 10:11:12+01",), ("2026/11/27 09:11:12+00",), None),
+        ((ogr.OFTDateTime, ogr.OFTDateTime), ("2026/11/27 00:11:12+01",), ("2026/11/26 23:11:12+00",), None),
+        ((ogr.OFTDateTime, ogr.OFTString), ("2026/11/27 10:11:12.5",), ("2026-11-27T10:11:12.5",), None),
+        ((ogr.OFTDateTime, ogr.OFTDate), ("2026/11/27 10:11:12",), ("2026/11/27",), 1),
+        ((ogr.OFTDateTime, ogr.OFTDate), ("2026/11/27 00:00:00",), ("2026/11/27",), None),
+    ],
+)
+def test_values_are_compared_as_what_they_are(kinds, wanted, found, row):
+    """Also where a driver put rows in another order, as that of FlatGeobuf does."""
+    dataset, there = held(kinds[1], *found)
+    told = list(read_back.differences(there, written(kinds[0], *wanted)))
+    assert [difference.row for difference in told] == ([row] if row else [])
+    assert dataset
