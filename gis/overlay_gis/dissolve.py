@@ -41,7 +41,8 @@ def add_arguments(parser: ArgumentParser) -> None:
     parser.add_argument(
         "--by",
         metavar="FIELD,..",
-        default="",
+        type=options.fields,
+        default=[],
         help=(
             "the fields: a feature for each of their values, with these, the number of features and"
             " the area (default: one for all)"

@@ -4,6 +4,7 @@ from __future__ import annotations
 
 from argparse import ArgumentParser, ArgumentTypeError, Namespace
 from dataclasses import replace
+from typing import NamedTuple
 
 from .flaws import Sizes
 from .program import SEGMENTS
@@ -107,18 +108,54 @@ def add_parts(parser: ArgumentParser) -> None:
     )
 
 
+def fields(text: str) -> list[str]:
+    """The names of fields, with commas between."""
+    names = [name.strip() for name in text.split(",") if name.strip()]
+    if not names:
+        raise ArgumentTypeError("names no field; FIELD,.. is wanted")
+    return names
+
+
+class OfLayer(NamedTuple):
+    """A layer's name in the output, and names of its fields."""
+
+    name: str
+    fields: list[str]
+
+    def told(self) -> str:
+        return f"{self.name}:{','.join(self.fields)}"
+
+
+def of_first(text: str) -> OfLayer:
+    """The fields of a layer, which is the first one where none is named."""
+    name, mark, names = text.partition(":")
+    return OfLayer(name, fields(names)) if mark else OfLayer("a", fields(text))
+
+
+def of_layer(text: str) -> OfLayer:
+    """The fields of a layer that is named before them."""
+    if ":" not in text:
+        raise ArgumentTypeError(f"names no layer; NAME:FIELD,.. is wanted, as a:{text or 'owner'}")
+    return of_first(text)
+
+
 def add_keep(parser: ArgumentParser, words: str = "") -> None:
     parser.add_argument(
         "--keep-a",
         metavar="FIELD,..",
-        default="",
+        type=fields,
+        default=[],
         help=(
             "fields of the first layer that a row takes over, as a_FIELD; values of several"
             f" features are joined by commas{words}"
         ),
     )
     parser.add_argument(
-        "--keep-b", metavar="FIELD,..", default="", help="fields of the second layer, as b_FIELD"
+        "--keep-b",
+        metavar="FIELD,..",
+        type=fields,
+        default=[],
+        help="fields of the second layer, as b_FIELD",
     )
 
 
