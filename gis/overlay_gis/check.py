@@ -12,7 +12,7 @@ from osgeo import osr
 from . import frame as frames
 from . import options
 from .columns import Columns, Floats
-from .common_grid import alone, on_grid, warn_of_rings
+from .common_grid import alone, on_grid, warn_of_losses
 from .destination import destination
 from .faults import FOUND, Refusal
 from .flaws import SLIVER, Flaws, Sizes, found_in, kind_of, table_of, usual_sizes
@@ -128,7 +128,7 @@ def covered(source: Source, seen: Checked, frame: Frame, sizes: Sizes, most: int
     """What the features of a layer cover on the grid, if they have polygons there; a layer that is
     too large for a run is found."""
     grid = on_grid(seen.survey, frame)
-    warn_of_rings(source, grid)
+    warn_of_losses(source, grid)
     if grid.segments > most:
         seen.find(f"{grid.segments:,} segments, and the limit of all layers together is {most:,}")
     if not grid.polygons:

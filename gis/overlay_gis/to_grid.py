@@ -11,7 +11,7 @@ import numpy as np
 from . import options
 from . import frame as frames
 from .columns import Columns, Numbers
-from .common_grid import alone, on_grid, warn_of_rings
+from .common_grid import alone, on_grid, warn_of_losses
 from .faults import Fault, Refusal
 from .frame import Frame
 from .layers import Source, Survey, common_system, files_of
@@ -98,7 +98,7 @@ def main(arguments: Namespace) -> int:
     with draft(target) as folder:
         for source, seen, name in zip(sources, surveys, names):
             grid = on_grid(seen, frame)
-            warn_of_rings(source, grid)
+            warn_of_losses(source, grid)
             layer = united(source, seen, grid, frame) if arguments.dissolve else grid.layer
             with open(folder / name, "wb") as file:
                 write_polygons(file, layer)
