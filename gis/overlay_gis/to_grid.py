@@ -3,6 +3,7 @@
 from __future__ import annotations
 
 import os
+import re
 from argparse import ArgumentParser, Namespace
 from dataclasses import replace
 
@@ -28,6 +29,9 @@ EXAMPLE = (
 )
 
 FRAME = "frame.json"
+
+# What a layer's name may have, and no file's name.
+NO_PART = re.compile(r"[/\x00]")
 
 
 def add_arguments(parser: ArgumentParser) -> None:
@@ -81,9 +85,14 @@ def united(source: Source, seen: Survey, grid: Gridded, frame: Frame) -> Columns
         return replace(polygons, features=np.array([0, len(polygons.polygons) - 1]), ids=np.ones(1, np.int64))
 
 
+def file_name(source: Source) -> str:
+    """The name of the file for a layer's text."""
+    return f"{NO_PART.sub('_', source.stem)}.wkt"
+
+
 def main(arguments: Namespace) -> int:
     sources = [Source(name) for name in arguments.layers]
-    names = [f"{source.stem}.wkt" for source in sources]
+    names = [file_name(source) for source in sources]
     if len(set(names)) < len(names):
         raise Refusal(names_of(sources), "would be written under one name")
     try:

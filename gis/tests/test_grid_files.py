@@ -91,6 +91,17 @@ def test_layers_of_one_file_have_their_own_names(gis, tmp_path):
     assert sorted(path.name for path in Path("grid").iterdir()) == ["a.wkt", "b.wkt", "frame.json"]
 
 
+def test_a_layer_whose_name_is_no_file_name(gis, tmp_path):
+    square = gdal.OpenEx(write(tmp_path / "a.gpkg", [box(EAST, NORTH, EAST + 4, NORTH + 4)]))
+    for number, name in enumerate(("plan/2024", "plan_2024")):
+        gdal.VectorTranslate("f.gpkg", square, accessMode="append" if number else None, layerName=name)
+    answer = gis("to-grid", "f.gpkg|layername=plan/2024", "-o", "grid")
+    assert answer.status == 0 and "grid/plan_2024.wkt: 1 polygons, 4 segments" in answer.err
+    assert sorted(path.name for path in Path("grid").iterdir()) == ["frame.json", "plan_2024.wkt"]
+    answer = gis("to-grid", "f.gpkg|layername=plan/2024", "f.gpkg|layername=plan_2024", "-o", "grid")
+    assert answer.status == 3 and "would be written under one name" in answer.err
+
+
 def test_dissolved_layers(gis, tmp_path):
     a = write(tmp_path / "a.gpkg", [box(EAST, NORTH, EAST + 4, NORTH + 4), box(EAST + 2, NORTH, EAST + 6, NORTH + 4)])
     assert "1 polygons" in gis("to-grid", a, "-o", "grid", "--dissolve").err
