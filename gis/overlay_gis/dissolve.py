@@ -45,7 +45,7 @@ def add_arguments(parser: ArgumentParser) -> None:
         default=[],
         help=(
             "the fields: a feature for each of their values, with these, the number of features and"
-            " the area (default: one for all)"
+            f" the area (default: one for all); {options.IN_QUOTES}"
         ),
     )
     options.add_output(parser, "the file for the united features")

@@ -56,7 +56,7 @@ def add_arguments(parser: ArgumentParser) -> None:
         default=[],
         help=(
             "a row for each set of values of these fields, rather than of features, of the first"
-            " layer or of that one, as b:rule; may be given several times"
+            f" layer or of that one, as b:rule; may be given several times; {options.IN_QUOTES}"
         ),
     )
     parser.add_argument(

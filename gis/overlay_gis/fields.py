@@ -83,12 +83,14 @@ def column_of(field: ogr.FieldDefn, mark: str = "") -> Column:
 
 
 def fields_of(source: Source, names: Sequence[str]) -> list[ogr.FieldDefn]:
-    """The fields of a layer that are named."""
+    """The fields of a layer that are named; a space at a name's end is no part of it unless a field's
+    name has it too."""
     there = {field.GetName(): field for field in source.fields()}
-    for name in names:
+    wanted = [name if name in there else name.strip() for name in names]
+    for name in wanted:
         if name not in there:
             raise Refusal(source.name, f"has no field {name}, but {', '.join(there) or 'none'}")
-    return [there[name] for name in dict.fromkeys(names)]
+    return [there[name] for name in dict.fromkeys(wanted)]
 
 
 def values_in(layer: Layer, fields: Sequence[ogr.FieldDefn]) -> list[tuple[Any, ...]]:

@@ -2,6 +2,8 @@
 
 from __future__ import annotations
 
+import csv
+import re
 from argparse import ArgumentParser, ArgumentTypeError, Namespace
 from dataclasses import replace
 from typing import NamedTuple
@@ -13,6 +15,12 @@ LAYER = (
     "a polygon layer that GDAL reads: a file, or a connection string as PG:dbname=town, "
     "with |layername=NAME where it has several"
 )
+
+# How a field is named whose name has a comma, or looks as if a layer were named before it.
+IN_QUOTES = "a name that has a comma or a colon in quotes: '\"x,y\"'"
+
+# A layer's name before the fields of it.
+LAYER_NAME = re.compile(r'([^",:]*):')
 
 
 def add_layers(parser: ArgumentParser) -> None:
@@ -109,11 +117,20 @@ def add_parts(parser: ArgumentParser) -> None:
 
 
 def fields(text: str) -> list[str]:
-    """The names of fields, with commas between."""
-    names = [name.strip() for name in text.split(",") if name.strip()]
+    """The names of fields, as a line of CSV has them."""
+    try:
+        names = [name for line in csv.reader([text], skipinitialspace=True, strict=True) for name in line if name.strip()]
+    except csv.Error as error:
+        raise ArgumentTypeError(f"{text} is no list of fields as in CSV, with {IN_QUOTES}") from error
     if not names:
         raise ArgumentTypeError("names no field; FIELD,.. is wanted")
     return names
+
+
+def named(text: str) -> tuple[str | None, str]:
+    """A layer's name before a list of fields, if there is one, and the list."""
+    found = LAYER_NAME.match(text)
+    return (found[1], text[found.end() :]) if found else (None, text)
 
 
 class OfLayer(NamedTuple):
@@ -128,13 +145,13 @@ class OfLayer(NamedTuple):
 
 def of_first(text: str) -> OfLayer:
     """The fields of a layer, which is the first one where none is named."""
-    name, mark, names = text.partition(":")
-    return OfLayer(name, fields(names)) if mark else OfLayer("a", fields(text))
+    name, names = named(text)
+    return OfLayer("a" if name is None else name, fields(names))
 
 
 def of_layer(text: str) -> OfLayer:
     """The fields of a layer that is named before them."""
-    if ":" not in text:
+    if named(text)[0] is None:
         raise ArgumentTypeError(f"names no layer; NAME:FIELD,.. is wanted, as a:{text or 'owner'}")
     return of_first(text)
 
@@ -147,7 +164,7 @@ def add_keep(parser: ArgumentParser, words: str = "") -> None:
         default=[],
         help=(
             "fields of the first layer that a row takes over, as a_FIELD; values of several"
-            f" features are joined by commas{words}"
+            f" features are joined by commas{words}; {IN_QUOTES}"
         ),
     )
     parser.add_argument(
