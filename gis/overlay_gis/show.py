@@ -12,7 +12,7 @@ from typing import Iterator
 from .columns import GridPoint, GridPolygon
 from .faults import Refusal
 from .parsing import Edge, edge_rows, edges, polygons_in
-from .texts import EDGES, LAYERS, checked, kind_of, text_of
+from .texts import EDGES, LAYERS, checked, kind_in, text_of
 from .whole import draft, target_of
 
 EXAMPLE = "overlay edges a.wkt b.wkt | overlay-gis show a.wkt b.wkt - -o rounding.svg"
@@ -101,7 +101,7 @@ def read(name: str, number: int) -> Shown:
     """A file to be drawn, the so many-th layer of the command."""
     told = "standard input" if name == "-" else name
     text = checked(standard_input(told), told) if name == "-" else text_of(name)
-    kind = kind_of(text)
+    kind = kind_in(text, told)
     if kind == EDGES:
         return Shown(told, kind, BOTH, edges=list(edges(edge_rows(text, told))))
     colour = COLOURS[number % len(COLOURS)] if kind == LAYERS else RESULT

@@ -137,6 +137,15 @@ def test_texts_that_are_none(gis, tmp_path, text):
     assert not Path("out.gpkg").exists()
 
 
+def test_rows_of_faces_are_told_as_such(gis, program):
+    Path("a.wkt").write_text("POLYGON ((0 0, 4 0, 4 4, 0 4, 0 0))\nPOLYGON ((2 0, 4 0, 4 4, 2 4, 2 0))\n")
+    for layers in (["a.wkt"], ["a.wkt", "a.wkt"]):
+        text = subprocess.run([program, "faces", *layers], stdout=subprocess.PIPE, check=True).stdout.decode()
+        told = "overlay-gis: t.wkt: has the rows that overlay faces prints: overlay-gis faces writes a file of them, from the layers\n"
+        for answer in (from_grid(gis, text, "out.gpkg"), gis("show", "t.wkt")):
+            assert (answer.status, answer.err) == (3, told)
+
+
 @pytest.mark.parametrize("frame", [None, "", "[]", FRAME.replace('"1"', '"0"'), FRAME.replace('["0", "0"]', '["0"]')])
 def test_frames_that_are_none(gis, tmp_path, frame):
     answer = from_grid(gis, "POLYGON EMPTY", "out.gpkg", frame)
