@@ -27,7 +27,7 @@ from .systems import area_name, unit_name
 EXAMPLE = "overlay-gis check parcels.gpkg -o flaws.gpkg --gap-width 0.5"
 
 def add_arguments(parser: ArgumentParser) -> None:
-    parser.add_argument("a", metavar="A", help=options.LAYER)
+    parser.add_argument("a", metavar="A", type=options.text, help=options.LAYER)
     options.add_output(
         parser,
         (

@@ -102,7 +102,7 @@ class Versions(Action):
             from shapely.geos import geos_version
         geos = ".".join(map(str, geos_version))
         told = f"GDAL {gdal.__version__}, Shapely {shapely.__version__}, GEOS {geos}"
-        print(f"{parser.prog} {__version__} ({told})")
+        messages.tell(f"{parser.prog} {__version__} ({told})")
         parser.exit()
 
 

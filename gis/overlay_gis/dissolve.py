@@ -37,7 +37,7 @@ FEATURES, AREA = "features", "area"
 
 
 def add_arguments(parser: ArgumentParser) -> None:
-    parser.add_argument("a", metavar="LAYER", help=options.LAYER)
+    parser.add_argument("a", metavar="LAYER", type=options.text, help=options.LAYER)
     parser.add_argument(
         "--by",
         metavar="FIELD,..",

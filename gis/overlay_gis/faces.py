@@ -28,6 +28,7 @@ def add_arguments(parser: ArgumentParser) -> None:
     parser.add_argument(
         "layers",
         metavar="LAYER",
+        type=options.text,
         nargs="+",
         help=f"the layers, a first, one or more: {options.LAYER}",
     )
@@ -62,6 +63,7 @@ def add_arguments(parser: ArgumentParser) -> None:
     parser.add_argument(
         "--pairs",
         metavar="TABLE",
+        type=options.text,
         help=(
             "a table, as pairs.csv, of all pairs of a feature of the first layer and one of the"
             " second that have points in common, with twice the common area in grid units, the"

@@ -23,9 +23,20 @@ IN_QUOTES = "a name that has a comma or a colon in quotes: '\"x,y\"'"
 LAYER_NAME = re.compile(r'([^",:]*):')
 
 
+def text(words: str) -> str:
+    """Words that GDAL takes and a file can have; bytes that are no text reach Python as half signs."""
+    try:
+        words.encode()
+    except UnicodeEncodeError as error:
+        raise ArgumentTypeError(f"{words} is no text of UTF-8") from error
+    return words
+
+
 def add_layers(parser: ArgumentParser) -> None:
-    parser.add_argument("a", metavar="A", help=f"the first layer: {LAYER}")
-    parser.add_argument("b", metavar="B", help="the second layer, in the same reference system")
+    parser.add_argument("a", metavar="A", type=text, help=f"the first layer: {LAYER}")
+    parser.add_argument(
+        "b", metavar="B", type=text, help="the second layer, in the same reference system"
+    )
 
 
 def add_output(parser: ArgumentParser, words: str, required: bool = True) -> None:
@@ -33,12 +44,14 @@ def add_output(parser: ArgumentParser, words: str, required: bool = True) -> Non
         "-o",
         "--out",
         metavar="OUT",
+        type=text,
         required=required,
         help=f"{words}; or PG:.. for a table that --layer names",
     )
     parser.add_argument(
         "--layer",
         metavar="NAME",
+        type=text,
         help="the name of the layer in a GeoPackage, or of the table, as schema.table",
     )
     parser.add_argument(
@@ -73,6 +86,7 @@ def add_grid(parser: ArgumentParser) -> None:
     parser.add_argument(
         "--system",
         metavar="SYSTEM",
+        type=text,
         help="the reference system of layers that name none, as EPSG:25832",
     )
 

@@ -35,7 +35,7 @@ NO_PART = re.compile(r"[/\x00]")
 
 
 def add_arguments(parser: ArgumentParser) -> None:
-    parser.add_argument("layers", metavar="LAYER", nargs="+", help=options.LAYER)
+    parser.add_argument("layers", metavar="LAYER", type=options.text, nargs="+", help=options.LAYER)
     parser.add_argument(
         "-o",
         "--out",
