@@ -154,6 +154,8 @@ def frame_of(source: Source, seen: Checked, system: osr.SpatialReference | None,
 
 
 def main(arguments: Namespace) -> int:
+    if not arguments.out:
+        options.refuse_beside(arguments, ("layer", "append", "overwrite"), "there is no -o that it could be about")
     source = Source(arguments.a)
     place = destination(arguments, [source]) if arguments.out else None
     system = common_system([source], arguments.system)

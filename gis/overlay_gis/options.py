@@ -6,8 +6,9 @@ import csv
 import re
 from argparse import ArgumentParser, ArgumentTypeError, Namespace
 from dataclasses import replace
-from typing import NamedTuple
+from typing import NamedTuple, Sequence
 
+from .faults import Refusal
 from .flaws import Sizes
 from .program import SEGMENTS
 
@@ -67,6 +68,13 @@ def add_output(parser: ArgumentParser, words: str, required: bool = True) -> Non
             " name alone"
         ),
     )
+
+
+def refuse_beside(arguments: Namespace, names: Sequence[str], reason: str) -> None:
+    """Refuses options of these names that are given and would be passed over."""
+    given = [f"--{name}" for name in names if getattr(arguments, name)]
+    if given:
+        raise Refusal(" and ".join(given), reason)
 
 
 def add_grid(parser: ArgumentParser) -> None:

@@ -91,6 +91,8 @@ def file_name(source: Source) -> str:
 
 
 def main(arguments: Namespace) -> int:
+    if arguments.frame:
+        options.refuse_beside(arguments, ("grid", "origin"), "the frame that --frame names has its own")
     sources = [Source(name) for name in arguments.layers]
     names = [file_name(source) for source in sources]
     if len(set(names)) < len(names):

@@ -76,6 +76,17 @@ def test_a_later_layer_takes_the_frame_that_is_there(gis, tmp_path):
     assert "is a frame of EPSG:25832" in gis("to-grid", other, "-o", "two", "--frame", "one/frame.json").err
 
 
+@pytest.mark.parametrize(
+    "words, told", [(("--grid", "0.1"), "--grid"), (("--grid", "0.1", "--origin", "1,1"), "--grid and --origin")]
+)
+def test_a_frame_takes_no_grid_and_no_origin(gis, tmp_path, words, told):
+    a = write(tmp_path / "a.gpkg", [box(EAST, NORTH, EAST + 4, NORTH + 4)])
+    assert gis("to-grid", a, "-o", "one").status == 0
+    answer = gis("to-grid", a, "-o", "two", "--frame", "one/frame.json", *words)
+    assert (answer.status, answer.err) == (3, f"overlay-gis: {told}: the frame that --frame names has its own\n")
+    assert not Path("two").exists()
+
+
 def test_layers_of_one_name_are_refused(gis, tmp_path):
     (tmp_path / "x").mkdir()
     a, b = write(tmp_path / "a.gpkg", []), write(tmp_path / "x" / "a.gpkg", [])
