@@ -12,7 +12,7 @@ from collections import defaultdict
 from heapq import heapify, heappop, heappush
 from itertools import chain, pairwise
 from math import gcd
-from typing import Iterable
+from typing import Iterable, Iterator
 
 import numpy as np
 
@@ -41,11 +41,16 @@ def cancels(segments: list[Ends]) -> bool:
         ends = beginning(segments)
         if any(len(held) % 2 for held in ends):
             return False
-        for held in ends:
-            for step in zip(held[::2], held[1::2]):
-                if step[0] != step[1]:
-                    heappush(segments, step)
+        for rest in rests(ends):
+            heappush(segments, rest)
     return True
+
+
+def rests(ends: Iterable[list[GridPoint]]) -> Iterator[Ends]:
+    """What is left of segments that begin in one point: of each two in one direction the way from the
+    nearer end to the other one's."""
+    two = chain.from_iterable(zip(held[::2], held[1::2]) for held in ends)
+    return (step for step in two if step[0] != step[1])
 
 
 def beginning(segments: list[Ends]) -> Iterable[list[GridPoint]]:
