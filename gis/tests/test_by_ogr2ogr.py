@@ -17,10 +17,10 @@ PLACE = {"GRID": "0.001", "X": str(EAST), "Y": str(NORTH)}
 SQUARE = box(EAST, NORTH, EAST + 4, NORTH + 4)
 
 
-def by_ogr2ogr(*words):
+def by_ogr2ogr(*words, **place):
     """The recipe on these words, with its status and what it said."""
     command = [TOP / "gis/by-ogr2ogr", *words]
-    return subprocess.run(command, env={**os.environ, **PLACE}, capture_output=True, text=True, check=False)
+    return subprocess.run(command, env={**os.environ, **PLACE, **place}, capture_output=True, text=True, check=False)
 
 
 @pytest.mark.parametrize("operation, judge", [("intersection", "intersection"), ("difference", "difference")])
@@ -92,3 +92,16 @@ def test_a_refusal_names_the_file_and_the_reason(tmp_path, wkt, words):
         done = by_ogr2ogr("union", *files, tmp_path / "out.gpkg")
         assert done.returncode == 3 and done.stderr.splitlines()[-1].startswith(words.format(b))
     assert not (tmp_path / "out.gpkg").exists()
+
+
+@pytest.mark.parametrize("unit", ["0", "-1", "fine"])
+def test_a_unit_that_is_none(tmp_path, unit):
+    a = write(tmp_path / "a.gpkg", [SQUARE])
+    done = by_ogr2ogr("union", a, a, tmp_path / "out.gpkg", GRID=unit)
+    assert (done.returncode, done.stderr) == (2, f"by-ogr2ogr: GRID is a number above 0, not {unit}\n")
+
+
+def test_features_smaller_than_the_unit_are_left_out(tmp_path):
+    a, out = write(tmp_path / "a.gpkg", [SQUARE, box(EAST + 1000, NORTH, EAST + 2000, NORTH + 1000)]), tmp_path / "out.gpkg"
+    assert by_ogr2ogr("union", a, a, out, GRID="1000").returncode == 0
+    assert [shape.area for shape, _ in read(out)] == [1_000_000]
