@@ -65,7 +65,8 @@ def crossed(ring, x, y):
 def covers_nothing(rings):
     """Whether no face of all borders has its inner point in an odd number of rings."""
     lines = [LineString(step) for ring in rings for step in zip(ring, ring[1:]) if step[0] != step[1]]
-    inside = [face.representative_point() for face in polygonize(unary_union(lines))]
+    noded = unary_union(lines)
+    inside = [face.representative_point() for face in polygonize(list(getattr(noded, "geoms", [noded])))]
     return not any(sum(crossed(ring, at.x, at.y) for ring in rings) % 2 for at in inside)
 
 
