@@ -12,7 +12,7 @@ from osgeo import osr
 from . import frame as frames
 from . import options
 from .columns import Columns, Floats
-from .common_grid import alone, on_grid, warn_of_rings
+from .common_grid import alone, on_grid, warn_of_losses
 from .destination import destination
 from .faults import FOUND, Refusal
 from .flaws import SLIVER, Flaws, Sizes, found_in, kind_of, table_of, usual_sizes
@@ -27,7 +27,7 @@ from .systems import area_name, unit_name
 EXAMPLE = "overlay-gis check parcels.gpkg -o flaws.gpkg --gap-width 0.5"
 
 def add_arguments(parser: ArgumentParser) -> None:
-    parser.add_argument("a", metavar="A", help=options.LAYER)
+    parser.add_argument("a", metavar="A", type=options.text, help=options.LAYER)
     options.add_output(
         parser,
         (
@@ -128,7 +128,7 @@ def covered(source: Source, seen: Checked, frame: Frame, sizes: Sizes, most: int
     """What the features of a layer cover on the grid, if they have polygons there; a layer that is
     too large for a run is found."""
     grid = on_grid(seen.survey, frame)
-    warn_of_rings(source, grid)
+    warn_of_losses(source, grid)
     if grid.segments > most:
         seen.find(f"{grid.segments:,} segments, and the limit of all layers together is {most:,}")
     if not grid.polygons:
@@ -154,6 +154,8 @@ def frame_of(source: Source, seen: Checked, system: osr.SpatialReference | None,
 
 
 def main(arguments: Namespace) -> int:
+    if not arguments.out:
+        options.refuse_beside(arguments, ("layer", "append", "overwrite"), "there is no -o that it could be about")
     source = Source(arguments.a)
     place = destination(arguments, [source]) if arguments.out else None
     system = common_system([source], arguments.system)

@@ -2,12 +2,13 @@
 
 from __future__ import annotations
 
+import re
 import sys
 from argparse import Action, ArgumentParser, Namespace, RawDescriptionHelpFormatter
 from functools import partial
 from importlib import import_module
 from types import ModuleType
-from typing import Any, NoReturn
+from typing import Any, NoReturn, Sequence
 
 import numpy as np
 from osgeo import gdal
@@ -35,6 +36,10 @@ VERBS = {
     "explain": "shows the place of a text that a refusal tells",
 }
 
+# The option of an origin, also where it is cut short, and a number below 0.
+ORIGIN = re.compile(r"--or(i(g(in?)?)?)?")
+NEGATIVE = re.compile(r"-\.?[0-9]")
+
 STATUSES = """exit status: 0 answered, 1 a file, the program or an output failed, 2 the command line is not
 accepted, 3 the input is refused, 4 check found something
 
@@ -56,13 +61,25 @@ class VerbParser(Parser):
     def parse_known_args(self, args: Any = None, namespace: Any = None) -> tuple[Any, list[str]]:
         if self.verb:
             self.learn(verb_of(self.verb))
-        return super().parse_known_args(args, namespace)
+        return super().parse_known_args(joined(args or ()), namespace)
 
     def learn(self, verb: ModuleType) -> None:
         self.verb = ""
         self.epilog = f"example:\n  {verb.EXAMPLE}"
         verb.add_arguments(self)
         self.set_defaults(main=verb.main)
+
+
+def joined(words: Sequence[str]) -> list[str]:
+    """The same words. An origin that begins with a minus sign, as -100,0, is one word with its option:
+    else it would be taken for another one."""
+    made: list[str] = []
+    for word in words:
+        if made and ORIGIN.fullmatch(made[-1]) and NEGATIVE.match(word):
+            made[-1] += f"={word}"
+        else:
+            made.append(word)
+    return made
 
 
 def verb_of(name: str) -> ModuleType:
@@ -85,7 +102,7 @@ class Versions(Action):
             from shapely.geos import geos_version
         geos = ".".join(map(str, geos_version))
         told = f"GDAL {gdal.__version__}, Shapely {shapely.__version__}, GEOS {geos}"
-        print(f"{parser.prog} {__version__} ({told})")
+        messages.tell(f"{parser.prog} {__version__} ({told})")
         parser.exit()
 
 

@@ -18,6 +18,7 @@ from .program import SEGMENTS
 from .questions import Layer, Questions, questions, text_of
 from .rings import Gridded, gridded
 from .surveys import box_of, names_of, numbers, surveyed
+from .vanishing import vanished
 
 
 @dataclass(frozen=True)
@@ -35,12 +36,17 @@ def on_grid(seen: Survey, frame: Frame) -> Gridded:
     return gridded(seen.sound.among(seen.numbers, seen.kinds == Kind.SOUND), seen.area(), frame)
 
 
-def warn_of_rings(source: Source, grid: Gridded) -> None:
-    """Tells of rings that had to be closed or left out."""
+def warn_of_losses(source: Source, grid: Gridded) -> None:
+    """Tells of rings that had to be closed or left out, and of features that the grid leaves nothing
+    of."""
     if grid.closed:
         warn(source.name, f"rings were open, and closed: {numbers(grid.closed)}")
     if grid.dropped:
         warn(source.name, f"rings of less than four points were left out: {numbers(grid.dropped)}")
+    gone = vanished(grid.layer)
+    if gone:
+        count = f"{len(gone):,} of {len(grid.layer.ids):,} features"
+        warn(source.name, f"{count} cover nothing on this grid: {numbers(gone)}")
 
 
 def refuse_many(sources: Sequence[Source], grids: Sequence[Gridded], most: int) -> None:
@@ -74,7 +80,7 @@ def brought_together(
     with questions() as asked:
         layers = []
         for source, seen, grid in zip(sources, surveys, grids):
-            warn_of_rings(source, grid)
+            warn_of_losses(source, grid)
             with during(f"writing {source.name} as text"):
                 layers.append(Layer(source, seen, grid, text_of(source.name, grid.layer)))
         yield CommonGrid(frame, common, layers, asked)

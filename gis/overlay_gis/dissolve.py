@@ -38,14 +38,15 @@ FEATURES, AREA = "features", "area"
 
 
 def add_arguments(parser: ArgumentParser) -> None:
-    parser.add_argument("a", metavar="LAYER", help=options.LAYER)
+    parser.add_argument("a", metavar="LAYER", type=options.text, help=options.LAYER)
     parser.add_argument(
         "--by",
         metavar="FIELD,..",
-        default="",
+        type=options.fields,
+        default=[],
         help=(
             "the fields: a feature for each of their values, with these, the number of features and"
-            " the area (default: one for all)"
+            f" the area (default: one for all); {options.IN_QUOTES}"
         ),
     )
     options.add_output(parser, "the file for the united features")

@@ -5,6 +5,7 @@ from __future__ import annotations
 from argparse import ArgumentParser, Namespace
 
 from .faults import Fault, Refusal
+from .messages import tell
 
 EXAMPLE = "overlay-gis explain parcels.wkt 1017    # after: overlay: A: 1 syntax at 1017"
 
@@ -71,6 +72,7 @@ def main(arguments: Namespace) -> int:
     if not 0 <= arguments.offset <= len(data):
         raise Refusal(arguments.text, f"has {len(data)} bytes, so no offset {arguments.offset}")
     line, column = place(data, arguments.offset)
-    print(f"{arguments.text}: line {line}, column {column}: {words_on(data, arguments.offset)}")
-    print("\n".join(lines_round(data, arguments.offset)))
+    tell(f"{arguments.text}: line {line}, column {column}: {words_on(data, arguments.offset)}")
+    for told in lines_round(data, arguments.offset):
+        tell(told)
     return 0

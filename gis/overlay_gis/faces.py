@@ -16,6 +16,7 @@ from .faults import Refusal
 from .fields import NAMES, Kept, kept
 from .layers import Source, files_of
 from .messages import say
+from .options import OfLayer
 from .output import layer_target, refuse_without_rows, write_tables
 from .program import FACES
 from .rows import Rows
@@ -30,6 +31,7 @@ def add_arguments(parser: ArgumentParser) -> None:
     parser.add_argument(
         "layers",
         metavar="LAYER",
+        type=options.text,
         nargs="+",
         help=f"the layers, a first, one or more: {options.LAYER}",
     )
@@ -45,6 +47,7 @@ def add_arguments(parser: ArgumentParser) -> None:
     parser.add_argument(
         "--keep",
         metavar="NAME:FIELD,..",
+        type=options.of_layer,
         action="append",
         default=[],
         help="fields of any layer, as c:owner,share; may be given several times",
@@ -52,16 +55,18 @@ def add_arguments(parser: ArgumentParser) -> None:
     parser.add_argument(
         "--by",
         metavar="[NAME:]FIELD,..",
+        type=options.of_first,
         action="append",
         default=[],
         help=(
             "a row for each set of values of these fields, rather than of features, of the first"
-            " layer or of that one, as b:rule; may be given several times"
+            f" layer or of that one, as b:rule; may be given several times; {options.IN_QUOTES}"
         ),
     )
     parser.add_argument(
         "--pairs",
         metavar="TABLE",
+        type=options.text,
         help=(
             "a table, as pairs.csv, of all pairs of a feature of the first layer and one of the"
             " second that have points in common, with twice the common area in grid units, the"
@@ -72,32 +77,31 @@ def add_arguments(parser: ArgumentParser) -> None:
     options.add_segments(parser)
 
 
-def named(arguments: Namespace, option: str, words: Sequence[str]) -> list[str]:
-    """The fields of each layer that an option names, with the names of layers before them."""
-    asked = dict.fromkeys(NAMES[: len(arguments.layers)], "")
-    for given in words:
-        name, _, fields = given.partition(":")
-        if fields and name not in asked:
+def named(arguments: Namespace, option: str, given: Sequence[OfLayer]) -> list[list[str]]:
+    """The fields of each layer that an option names."""
+    asked: dict[str, list[str]] = {name: [] for name in NAMES[: len(arguments.layers)]}
+    for one in given:
+        if one.name not in asked:
             raise Refusal(
-                f"{option} {given}",
-                f"there is no layer {name or 'without a name'}: they are {', '.join(asked)}",
+                f"{option} {one.told()}",
+                f"there is no layer {one.name or 'without a name'}: they are {', '.join(asked)}",
             )
-        if fields:
-            asked[name] = f"{asked[name]},{fields}"
+        asked[one.name] += one.fields
     return list(asked.values())
 
 
-def fields_asked(arguments: Namespace) -> tuple[list[str], list[str]]:
+def fields_asked(arguments: Namespace) -> tuple[list[list[str]], list[list[str]]]:
     """For each layer the fields that are kept, and those whose values make the rows."""
     count = len(arguments.layers)
     if count > len(NAMES):
         raise Refusal("faces", f"takes {len(NAMES)} layers at most, and {count} are named")
-    keep = named(arguments, "--keep", [f"a:{arguments.keep_a}", f"b:{arguments.keep_b}", *arguments.keep])
-    by = named(arguments, "--by", [words if ":" in words else f"a:{words}" for words in arguments.by])
+    of_two = map(OfLayer, NAMES, (arguments.keep_a, arguments.keep_b))
+    keep = named(arguments, "--keep", [*(one for one in of_two if one.fields), *arguments.keep])
+    by = named(arguments, "--by", arguments.by)
     for name, both in zip(NAMES, zip(keep, by)):
         if all(both):
             raise Refusal(
-                f"--by {name}:{both[1].strip(',')}",
+                f"--by {OfLayer(name, both[1]).told()}",
                 "its rows have values and no features, of which fields could be kept",
             )
     return keep, by
@@ -118,7 +122,7 @@ def same_place(arguments: Namespace) -> bool:
     return bool(arguments.pairs) and os.path.realpath(arguments.pairs) == os.path.realpath(arguments.out)
 
 
-def rows_asked(together: CommonGrid, keep: Sequence[str], by: Sequence[str]) -> tuple[Rows, Rows, list[Kept]]:
+def rows_asked(together: CommonGrid, keep: Sequence[list[str]], by: Sequence[list[str]]) -> tuple[Rows, Rows, list[Kept]]:
     """The rows of features; those that are asked for, by values where fields are named; and what is
     kept of each layer."""
     question = together.questions.ask(FACES, together.layers)

@@ -82,14 +82,15 @@ def column_of(field: ogr.FieldDefn, mark: str = "") -> Column:
     return Column(mark + field.GetName(), field.GetType(), field.GetSubType(), field.GetWidth(), field.GetPrecision())
 
 
-def fields_of(source: Source, asked: str) -> list[ogr.FieldDefn]:
-    """The fields of a layer that are named, with commas between."""
+def fields_of(source: Source, names: Sequence[str]) -> list[ogr.FieldDefn]:
+    """The fields of a layer that are named; a space at a name's end is no part of it unless a field's
+    name has it too."""
     there = {field.GetName(): field for field in source.fields()}
-    names = [name.strip() for name in asked.split(",") if name.strip()]
-    for name in names:
+    wanted = [name if name in there else name.strip() for name in names]
+    for name in wanted:
         if name not in there:
             raise Refusal(source.name, f"has no field {name}, but {', '.join(there) or 'none'}")
-    return [there[name] for name in dict.fromkeys(names)]
+    return [there[name] for name in dict.fromkeys(wanted)]
 
 
 def values_in(layer: Layer, fields: Sequence[ogr.FieldDefn]) -> list[tuple[Any, ...]]:
@@ -97,8 +98,8 @@ def values_in(layer: Layer, fields: Sequence[ogr.FieldDefn]) -> list[tuple[Any, 
     return layer.source.values([field.GetName() for field in fields], layer.seen)
 
 
-def kept(layer: Layer, name: str, asked: str) -> Kept:
-    fields = fields_of(layer.source, asked)
+def kept(layer: Layer, name: str, names: Sequence[str]) -> Kept:
+    fields = fields_of(layer.source, names)
     return Kept(name, fields, layer.grid.layer.ids, values_in(layer, fields))
 
 

@@ -18,7 +18,7 @@ from .messages import say
 from .geopackage import Row
 from .output import Column, Table
 from .systems import system_from
-from .texts import EDGES, kind_of, text_of
+from .texts import EDGES, kind_in, text_of
 from .to_grid import FRAME
 from .wkb import lines
 
@@ -54,7 +54,7 @@ def main(arguments: Namespace) -> int:
     frame = frames.loaded(held)
     system = system_from(frame.system) if frame.system else None
     text = text_of(arguments.text)
-    if kind_of(text) == EDGES:
+    if kind_in(text, arguments.text) == EDGES:
         edges = parsing.edge_rows(text, arguments.text)
         table = Table(EDGE_COLUMNS, edge_rows(edges, frame), ogr.wkbLineString)
     else:

@@ -9,6 +9,7 @@ from __future__ import annotations
 import os
 from dataclasses import dataclass
 from enum import IntEnum
+from itertools import chain
 from typing import Any, Iterator, Sequence
 
 import numpy as np
@@ -62,12 +63,14 @@ class Kind(IntEnum):
 @dataclass
 class Survey:
     """What a pass over a layer tells: of all features the numbers and what they are, of those that
-    are no polygons the names of what they are, and the polygons of the sound ones."""
+    are no polygons the names of what they are, and the polygons of the sound ones; and whether a point
+    has more than x and y."""
 
     numbers: Numbers
     kinds: Bytes
     names: list[str]
     sound: Columns[Floats]
+    deep: bool
 
     @property
     def features(self) -> int:
@@ -183,6 +186,7 @@ class Source:
             np.concatenate([NO_KINDS, *(part.kinds for part in parts)]),
             [name for part in parts for name in part.names],
             chained([part.sound for part in parts]) if parts else NOTHING,
+            any(part.deep for part in parts),
         )
 
     def looked_at(self, batch: Batch) -> Survey:
@@ -192,7 +196,8 @@ class Source:
         kinds = kinds_of(held)
         kinds[decoder.strange] = Kind.STRANGE
         names = [self.geometry(batch, k).GetGeometryName() for k in decoder.strange]
-        return Survey(batch.numbers.copy(), kinds, names, held.of_features(kinds == Kind.SOUND))
+        deep = any(ring.form.dimensions > 2 for polygons in decoder.walked.values() for ring in chain.from_iterable(polygons))
+        return Survey(batch.numbers.copy(), kinds, names, held.of_features(kinds == Kind.SOUND), deep)
 
     def geometry(self, batch: Batch, k: int) -> ogr.Geometry:
         """The geometry of a batch's feature k as GDAL has it."""

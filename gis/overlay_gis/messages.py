@@ -10,6 +10,7 @@ from contextlib import contextmanager
 from contextvars import ContextVar
 from typing import Callable, Iterable, Iterator, Protocol, TypeVar
 
+from .faults import Fault
 from .passwords import hidden
 
 T = TypeVar("T")
@@ -57,7 +58,19 @@ def tell(text: str) -> None:
     if listener:
         listener.line(shown(text))
     else:
-        print(shown(text))
+        put(f"{shown(text)}\n")
+
+
+def put(text: str) -> None:
+    """Writes a text to standard output."""
+    if sys.stdout is None:
+        raise Fault("standard output", "is closed")
+    try:
+        sys.stdout.write(text)
+    except BrokenPipeError:
+        raise
+    except OSError as error:
+        raise Fault("standard output", error.strerror) from error
 
 
 def say(text: str) -> None:

@@ -2,9 +2,13 @@
 
 from __future__ import annotations
 
+import csv
+import re
 from argparse import ArgumentParser, ArgumentTypeError, Namespace
 from dataclasses import replace
+from typing import NamedTuple, Sequence
 
+from .faults import Refusal
 from .flaws import Sizes
 from .program import SEGMENTS
 
@@ -13,10 +17,27 @@ LAYER = (
     "with |layername=NAME where it has several"
 )
 
+# How a field is named whose name has a comma, or looks as if a layer were named before it.
+IN_QUOTES = "a name that has a comma or a colon in quotes: '\"x,y\"'"
+
+# A layer's name before the fields of it.
+LAYER_NAME = re.compile(r'([^",:]*):')
+
+
+def text(words: str) -> str:
+    """Words that GDAL takes and a file can have; bytes that are no text reach Python as half signs."""
+    try:
+        words.encode()
+    except UnicodeEncodeError as error:
+        raise ArgumentTypeError(f"{words} is no text of UTF-8") from error
+    return words
+
 
 def add_layers(parser: ArgumentParser) -> None:
-    parser.add_argument("a", metavar="A", help=f"the first layer: {LAYER}")
-    parser.add_argument("b", metavar="B", help="the second layer, in the same reference system")
+    parser.add_argument("a", metavar="A", type=text, help=f"the first layer: {LAYER}")
+    parser.add_argument(
+        "b", metavar="B", type=text, help="the second layer, in the same reference system"
+    )
 
 
 def add_output(parser: ArgumentParser, words: str, required: bool = True) -> None:
@@ -24,12 +45,14 @@ def add_output(parser: ArgumentParser, words: str, required: bool = True) -> Non
         "-o",
         "--out",
         metavar="OUT",
+        type=text,
         required=required,
         help=f"{words}; or PG:.. for a table that --layer names",
     )
     parser.add_argument(
         "--layer",
         metavar="NAME",
+        type=text,
         help="the name of the layer in a GeoPackage, or of the table, as schema.table",
     )
     parser.add_argument(
@@ -45,6 +68,13 @@ def add_output(parser: ArgumentParser, words: str, required: bool = True) -> Non
             " name alone"
         ),
     )
+
+
+def refuse_beside(arguments: Namespace, names: Sequence[str], reason: str) -> None:
+    """Refuses options of these names that are given and would be passed over."""
+    given = [f"--{name}" for name in names if getattr(arguments, name)]
+    if given:
+        raise Refusal(" and ".join(given), reason)
 
 
 def add_grid(parser: ArgumentParser) -> None:
@@ -64,6 +94,7 @@ def add_grid(parser: ArgumentParser) -> None:
     parser.add_argument(
         "--system",
         metavar="SYSTEM",
+        type=text,
         help="the reference system of layers that name none, as EPSG:25832",
     )
 
@@ -107,18 +138,63 @@ def add_parts(parser: ArgumentParser) -> None:
     )
 
 
+def fields(text: str) -> list[str]:
+    """The names of fields, as a line of CSV has them."""
+    try:
+        names = [name for line in csv.reader([text], skipinitialspace=True, strict=True) for name in line if name.strip()]
+    except csv.Error as error:
+        raise ArgumentTypeError(f"{text} is no list of fields as in CSV, with {IN_QUOTES}") from error
+    if not names:
+        raise ArgumentTypeError("names no field; FIELD,.. is wanted")
+    return names
+
+
+def named(text: str) -> tuple[str | None, str]:
+    """A layer's name before a list of fields, if there is one, and the list."""
+    found = LAYER_NAME.match(text)
+    return (found[1], text[found.end() :]) if found else (None, text)
+
+
+class OfLayer(NamedTuple):
+    """A layer's name in the output, and names of its fields."""
+
+    name: str
+    fields: list[str]
+
+    def told(self) -> str:
+        return f"{self.name}:{','.join(self.fields)}"
+
+
+def of_first(text: str) -> OfLayer:
+    """The fields of a layer, which is the first one where none is named."""
+    name, names = named(text)
+    return OfLayer("a" if name is None else name, fields(names))
+
+
+def of_layer(text: str) -> OfLayer:
+    """The fields of a layer that is named before them."""
+    if named(text)[0] is None:
+        raise ArgumentTypeError(f"names no layer; NAME:FIELD,.. is wanted, as a:{text or 'owner'}")
+    return of_first(text)
+
+
 def add_keep(parser: ArgumentParser, words: str = "") -> None:
     parser.add_argument(
         "--keep-a",
         metavar="FIELD,..",
-        default="",
+        type=fields,
+        default=[],
         help=(
             "fields of the first layer that a row takes over, as a_FIELD; values of several"
-            f" features are joined by commas{words}"
+            f" features are joined by commas{words}; {IN_QUOTES}"
         ),
     )
     parser.add_argument(
-        "--keep-b", metavar="FIELD,..", default="", help="fields of the second layer, as b_FIELD"
+        "--keep-b",
+        metavar="FIELD,..",
+        type=fields,
+        default=[],
+        help="fields of the second layer, as b_FIELD",
     )
 
 

@@ -5,7 +5,7 @@ from __future__ import annotations
 from argparse import ArgumentParser, Namespace
 from functools import reduce
 from operator import and_, or_, xor
-from typing import Callable
+from typing import Callable, Sequence
 
 from osgeo import ogr
 
@@ -70,7 +70,7 @@ def answer(both: CommonGrid, operation: str, covered: bool) -> Columns[Numbers]:
     return asked.result()
 
 
-def with_fields(both: CommonGrid, operation: str, asked: tuple[str, str]) -> Table:
+def with_fields(both: CommonGrid, operation: str, asked: Sequence[Sequence[str]]) -> Table:
     """The rows of faces that an operation has, with the fields that are asked for of both
     layers."""
     question = both.questions.ask(program.FACES, both.layers)

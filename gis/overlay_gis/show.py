@@ -9,10 +9,12 @@ from html import escape
 from math import floor, log10
 from typing import Iterator
 
+from . import options
 from .columns import GridPoint, GridPolygon
-from .faults import Refusal
+from .faults import Fault, Refusal
+from .messages import put, shown
 from .parsing import Edge, edge_rows, edges, polygons_in
-from .texts import EDGES, LAYERS, checked, kind_of, text_of
+from .texts import EDGES, LAYERS, checked, kind_in, text_of
 from .whole import draft, target_of
 
 EXAMPLE = "overlay edges a.wkt b.wkt | overlay-gis show a.wkt b.wkt - -o rounding.svg"
@@ -48,7 +50,9 @@ def add_arguments(parser: ArgumentParser) -> None:
     parser.add_argument(
         "-o", "--out", metavar="OUT.svg", help="the picture's file (default: standard output)"
     )
-    parser.add_argument("--title", metavar="TEXT", default="", help="a line below the drawing")
+    parser.add_argument(
+        "--title", metavar="TEXT", type=options.text, default="", help="a line below the drawing"
+    )
 
 
 @dataclass
@@ -91,6 +95,8 @@ def counted(number: int, word: str) -> str:
 
 
 def standard_input(name: str) -> bytes:
+    if sys.stdin is None:
+        raise Fault(name, "is closed")
     try:
         return sys.stdin.read().encode("utf-8", "surrogateescape")
     except UnicodeDecodeError as error:
@@ -101,7 +107,7 @@ def read(name: str, number: int) -> Shown:
     """A file to be drawn, the so many-th layer of the command."""
     told = "standard input" if name == "-" else name
     text = checked(standard_input(told), told) if name == "-" else text_of(name)
-    kind = kind_of(text)
+    kind = kind_in(text, told)
     if kind == EDGES:
         return Shown(told, kind, BOTH, edges=list(edges(edge_rows(text, told))))
     colour = COLOURS[number % len(COLOURS)] if kind == LAYERS else RESULT
@@ -212,6 +218,11 @@ def edges_drawn(view: View, file: Shown) -> Iterator[str]:
         yield "".join(f'<circle cx="{view.x(x):.1f}" cy="{view.y(y):.1f}" r="2.2" fill="{INK}"/>' for x, y in dots)
 
 
+def words_of(text: str) -> str:
+    """A text as the picture has it: a name's bytes may be no signs, or none that XML allows."""
+    return escape(shown(text).encode("utf-8", "backslashreplace").decode())
+
+
 def line_sign(colour: str, width: float) -> str:
     return f'<path d="M0 0H24" stroke="{colour}" stroke-width="{width}"/>'
 
@@ -240,12 +251,12 @@ def legend(view: View, files: list[Shown], title: str) -> tuple[list[str], float
     """The title and the legend below the drawing, the legend in two columns, and where they end."""
     told, lines, top = signs(view, files), [], view.height + LINE / 2
     if title:
-        lines.append(f'<text x="{MARGIN}" y="{top:.1f}" font-weight="bold">{escape(title)}</text>')
+        lines.append(f'<text x="{MARGIN}" y="{top:.1f}" font-weight="bold">{words_of(title)}</text>')
         top += LINE
     column = max(view.width, 640) / 2
     for number, (sign, words) in enumerate(told):
         x, y = MARGIN + (number % 2) * column, top + (number // 2) * LINE
-        lines.append(f'<g transform="translate({x:.1f} {y:.1f})">{sign}<text x="32" y="4">{escape(words)}</text></g>')
+        lines.append(f'<g transform="translate({x:.1f} {y:.1f})">{sign}<text x="32" y="4">{words_of(words)}</text></g>')
     return lines, top + (len(told) + 1) // 2 * LINE
 
 
@@ -285,7 +296,7 @@ def main(arguments: Namespace) -> int:
         files.append(file)
     text = picture(files, arguments.title)
     if not arguments.out:
-        sys.stdout.write(text)
+        put(text)
         return 0
     target = target_of(arguments.out, True, arguments.files)
     with draft(target) as folder:

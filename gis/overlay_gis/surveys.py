@@ -58,6 +58,15 @@ def surveyed(source: Source) -> Survey:
         warn(source.name, "the layer has no features")
     elif bare:
         warn(source.name, f"no geometry, left out: {numbers(bare)}")
-    if ogr.GT_HasZ(source.layer.GetGeomType()):
-        warn(source.name, "has Z coordinates, which are left out")
+    further = coordinates_left_out(source, seen)
+    if further:
+        warn(source.name, f"has {further} coordinates, which are left out")
     return seen
+
+
+def coordinates_left_out(source: Source, seen: Survey) -> str:
+    """The names of the coordinates beside x and y that the layer says to have, or that its points may
+    have; nothing where there are none."""
+    kind = source.layer.GetGeomType()
+    declared = [name for name, has in (("Z", ogr.GT_HasZ), ("M", ogr.GT_HasM)) if has(kind)]
+    return " and ".join(declared) or ("Z or M" if seen.deep else "")

@@ -22,6 +22,9 @@ BYTE_ORDER_MARK = b"\xef\xbb\xbf"
 
 EMPTY = b"POLYGON EMPTY\n"
 
+# How a row of faces begins: twice its area, the features of each layer, and its polygons.
+FACES = re.compile(rb"\d+(?:\t[\d,]*)+\tMULTIPOLYGON ")
+
 # A feature of one polygon, one of several, and none; what stands before the points of either, and
 # behind their last bracket.
 ONE, MANY, NONE = range(3)
@@ -55,6 +58,16 @@ def checked(text: bytes, name: str) -> bytes:
     except UnicodeDecodeError as error:
         raise Refusal(name, "is no text") from error
     return text.removeprefix(BYTE_ORDER_MARK)
+
+
+def kind_in(text: bytes, name: str) -> str:
+    """The kind of a file's text. Rows of faces are refused: they name features of layers that the
+    file doesn't have."""
+    if FACES.match(text):
+        raise Refusal(
+            name, "has the rows that overlay faces prints: overlay-gis faces writes a file of them, from the layers"
+        )
+    return kind_of(text)
 
 
 def kind_of(text: bytes) -> str:

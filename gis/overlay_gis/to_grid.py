@@ -3,6 +3,7 @@
 from __future__ import annotations
 
 import os
+import re
 from argparse import ArgumentParser, Namespace
 from dataclasses import replace
 
@@ -11,7 +12,7 @@ import numpy as np
 from . import options
 from . import frame as frames
 from .columns import Columns, Numbers
-from .common_grid import alone, on_grid, warn_of_rings
+from .common_grid import alone, on_grid, warn_of_losses
 from .faults import Fault, Refusal
 from .frame import Frame
 from .layers import Source, Survey, common_system, files_of
@@ -29,9 +30,12 @@ EXAMPLE = (
 
 FRAME = "frame.json"
 
+# What a layer's name may have, and no file's name.
+NO_PART = re.compile(r"[/\x00]")
+
 
 def add_arguments(parser: ArgumentParser) -> None:
-    parser.add_argument("layers", metavar="LAYER", nargs="+", help=options.LAYER)
+    parser.add_argument("layers", metavar="LAYER", type=options.text, nargs="+", help=options.LAYER)
     parser.add_argument(
         "-o",
         "--out",
@@ -81,9 +85,16 @@ def united(source: Source, seen: Survey, grid: Gridded, frame: Frame) -> Columns
         return replace(polygons, features=np.array([0, len(polygons.polygons) - 1]), ids=np.ones(1, np.int64))
 
 
+def file_name(source: Source) -> str:
+    """The name of the file for a layer's text."""
+    return f"{NO_PART.sub('_', source.stem)}.wkt"
+
+
 def main(arguments: Namespace) -> int:
+    if arguments.frame:
+        options.refuse_beside(arguments, ("grid", "origin"), "the frame that --frame names has its own")
     sources = [Source(name) for name in arguments.layers]
-    names = [f"{source.stem}.wkt" for source in sources]
+    names = [file_name(source) for source in sources]
     if len(set(names)) < len(names):
         raise Refusal(names_of(sources), "would be written under one name")
     try:
@@ -98,7 +109,7 @@ def main(arguments: Namespace) -> int:
     with draft(target) as folder:
         for source, seen, name in zip(sources, surveys, names):
             grid = on_grid(seen, frame)
-            warn_of_rings(source, grid)
+            warn_of_losses(source, grid)
             layer = united(source, seen, grid, frame) if arguments.dissolve else grid.layer
             with open(folder / name, "wb") as file:
                 write_polygons(file, layer)

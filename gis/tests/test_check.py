@@ -223,3 +223,10 @@ def test_sizes_in_degrees(gis, tmp_path):
         a = write(tmp_path / f"a{len(kinds)}{width}.gpkg", shapes, "EPSG:4326")
         status, _ = checked(gis, a, "-o", "flaws.gpkg", "--overwrite", "--grid", "0.0000001")
         assert [kind for kind, *_ in flaws("flaws.gpkg")] == kinds and status == (4 if kinds else 0)
+
+
+@pytest.mark.parametrize("words", [("--layer", "flaws"), ("--append",), ("--overwrite",), ("--layer", "flaws", "--append")])
+def test_what_is_about_an_output_needs_one(gis, tmp_path, words):
+    answer = gis("check", write(tmp_path / "a.gpkg", [SQUARE]), *words)
+    told = " and ".join(word for word in words if word.startswith("--"))
+    assert (answer.status, answer.out, answer.err) == (3, "", f"overlay-gis: {told}: there is no -o that it could be about\n")

@@ -71,6 +71,43 @@ def test_a_reader_that_goes_away(tmp_path):
     assert done.stderr == b"" and done.stdout == b"<svg xmlns"
 
 
+HALF = os.fsdecode(b"\xff")
+
+
+@pytest.mark.parametrize(
+    "words, option",
+    [
+        (("show", "t.wkt", "--title", HALF), "--title"),
+        (("run", "union", "a.gpkg", "a.gpkg", "-o", "o.gpkg", "--layer", f"l{HALF}"), "--layer"),
+        (("run", "union", "a.gpkg", "a.gpkg", "-o", "o.gpkg", "--system", HALF), "--system"),
+        (("dissolve", "a.gpkg", "-o", f"{HALF}.gpkg"), "-o/--out"),
+        (("faces", "a.gpkg", f"{HALF}.gpkg", "-o", "o.gpkg"), "LAYER"),
+    ],
+)
+def test_words_that_are_no_text_are_not_accepted(gis, words, option):
+    answer = gis(*words)
+    assert answer.status == 2 and f"argument {option}: " in answer.err and answer.err.endswith("is no text of UTF-8\n")
+
+
+CLOSED = {
+    "check a.gpkg >&-": (1, "overlay-gis: standard output: is closed\n"),
+    "show t.wkt >&-": (1, "overlay-gis: standard output: is closed\n"),
+    "explain t.wkt 3 >&-": (1, "overlay-gis: standard output: is closed\n"),
+    "show - <&-": (1, "overlay-gis: standard input: is closed\n"),
+    "check a.gpkg 2>&-": (0, ""),
+    "check a.gpkg >&- 2>&-": (1, ""),
+    "check a.gpkg <&-": (0, ""),
+}
+
+
+@pytest.mark.parametrize("words", CLOSED)
+def test_standard_streams_that_are_closed(tmp_path, program, words):
+    write(tmp_path / "a.gpkg", [box(EAST, NORTH, EAST + 2, NORTH + 2)])
+    (tmp_path / "t.wkt").write_text("POLYGON ((0 0, 1 0, 0 1, 0 0))")
+    done = subprocess.run(f"{COMMAND} {words}", shell=True, cwd=tmp_path, capture_output=True, text=True, check=False)
+    assert (done.returncode, done.stderr) == CLOSED[words]
+
+
 def test_the_manual_page_tells_what_the_program_knows(program):
     told = subprocess.run([program, "--help"], stdout=subprocess.PIPE, check=True).stdout.decode()
     for word in re.findall(r"--[a-z]+", told):

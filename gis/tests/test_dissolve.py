@@ -175,3 +175,9 @@ def test_layers_without_features(gis, tmp_path):
     assert read("out.gpkg") == []
     assert gis("run", "union", a, a, "-o", "out.gpkg", "--overwrite", "--keep-a", "owner").status == 0
     assert gis("dissolve", a, "-o", "out.gpkg", "--overwrite").status == 0
+
+
+def test_values_of_no_field_are_not_accepted(gis, tmp_path):
+    a = write(tmp_path / "a.gpkg", squares((0, 0)))
+    answer = gis("dissolve", a, "--by", "", "-o", "out.gpkg")
+    assert answer.status == 2 and answer.err.endswith("argument --by: names no field; FIELD,.. is wanted\n")

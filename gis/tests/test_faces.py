@@ -310,3 +310,22 @@ def test_too_many_numbers_are_told(gis, tmp_path, pretend):
     pretend("echo 'overlay: C: 1 syntax at 3' >&2; exit 3\n")
     b, c = write(tmp_path / "b.gpkg", []), write(tmp_path / "c.gpkg", [])
     assert f"overlay-gis: {c}: overlay says: 1 syntax at 3" in gis("faces", a, b, c, "-o", "faces.gpkg").err
+
+
+@pytest.mark.parametrize(
+    "words, told",
+    [
+        (("--keep", "owner"), "--keep: names no layer; NAME:FIELD,.. is wanted, as a:owner"),
+        (("--keep", ""), "--keep: names no layer; NAME:FIELD,.. is wanted, as a:owner"),
+        (("--keep", "c:"), "--keep: names no field; FIELD,.. is wanted"),
+        (("--keep-a", ""), "--keep-a: names no field; FIELD,.. is wanted"),
+        (("--keep-b", " ,"), "--keep-b: names no field; FIELD,.. is wanted"),
+        (("--by", ""), "--by: names no field; FIELD,.. is wanted"),
+        (("--by", "b:"), "--by: names no field; FIELD,.. is wanted"),
+    ],
+)
+def test_words_that_name_no_field_are_not_accepted(gis, tmp_path, words, told):
+    a = write(tmp_path / "a.gpkg", [box(EAST, NORTH, EAST + 1, NORTH + 1)], fields={"owner": ["Ada"]})
+    answer = gis("faces", a, a, "-o", "faces.gpkg", *words)
+    assert answer.status == 2 and answer.err.endswith(f"argument {told}\n")
+    assert not (tmp_path / "faces.gpkg").exists()

@@ -5,8 +5,9 @@ from fractions import Fraction
 from math import floor
 
 import pytest
+from shapely.geometry import box
 
-from conftest import UTM, system
+from conftest import UTM, system, write
 from overlay_gis import frame
 from overlay_gis.faults import Refusal
 from overlay_gis.layers import Box
@@ -94,3 +95,12 @@ def test_a_frame_is_kept_in_a_file(tmp_path):
     held = frame.Frame(Decimal("0.005"), (Decimal("411991.5"), Decimal("-3")), UTM)
     held.saved(path)
     assert frame.loaded(path) == held
+
+
+@pytest.mark.parametrize("words", [("--origin", "-100,-4.5"), ("--origin=-100,-4.5",), ("--orig", "-100,-4.5")])
+def test_an_origin_of_negative_numbers(gis, tmp_path, words):
+    a = write(tmp_path / "a.gpkg", [box(-99, -4, -98, -3)], "EPSG:4326")
+    answer = gis("dissolve", a, *words, "-o", "out.gpkg")
+    assert answer.status == 0 and "origin -100, -4.5: " in answer.err
+    answer = gis("dissolve", a, "--origin", "--parts", "-o", "out2.gpkg")
+    assert answer.status == 2 and "argument --origin: expected one argument" in answer.err

@@ -76,6 +76,17 @@ def test_a_later_layer_takes_the_frame_that_is_there(gis, tmp_path):
     assert "is a frame of EPSG:25832" in gis("to-grid", other, "-o", "two", "--frame", "one/frame.json").err
 
 
+@pytest.mark.parametrize(
+    "words, told", [(("--grid", "0.1"), "--grid"), (("--grid", "0.1", "--origin", "1,1"), "--grid and --origin")]
+)
+def test_a_frame_takes_no_grid_and_no_origin(gis, tmp_path, words, told):
+    a = write(tmp_path / "a.gpkg", [box(EAST, NORTH, EAST + 4, NORTH + 4)])
+    assert gis("to-grid", a, "-o", "one").status == 0
+    answer = gis("to-grid", a, "-o", "two", "--frame", "one/frame.json", *words)
+    assert (answer.status, answer.err) == (3, f"overlay-gis: {told}: the frame that --frame names has its own\n")
+    assert not Path("two").exists()
+
+
 def test_layers_of_one_name_are_refused(gis, tmp_path):
     (tmp_path / "x").mkdir()
     a, b = write(tmp_path / "a.gpkg", []), write(tmp_path / "x" / "a.gpkg", [])
@@ -89,6 +100,17 @@ def test_layers_of_one_file_have_their_own_names(gis, tmp_path):
     gdal.VectorTranslate("a.gpkg", other, accessMode="append", layerName="b")
     assert gis("to-grid", "a.gpkg|layername=a", "a.gpkg|layername=b", "-o", "grid").status == 0
     assert sorted(path.name for path in Path("grid").iterdir()) == ["a.wkt", "b.wkt", "frame.json"]
+
+
+def test_a_layer_whose_name_is_no_file_name(gis, tmp_path):
+    square = gdal.OpenEx(write(tmp_path / "a.gpkg", [box(EAST, NORTH, EAST + 4, NORTH + 4)]))
+    for number, name in enumerate(("plan/2024", "plan_2024")):
+        gdal.VectorTranslate("f.gpkg", square, accessMode="append" if number else None, layerName=name)
+    answer = gis("to-grid", "f.gpkg|layername=plan/2024", "-o", "grid")
+    assert answer.status == 0 and "grid/plan_2024.wkt: 1 polygons, 4 segments" in answer.err
+    assert sorted(path.name for path in Path("grid").iterdir()) == ["frame.json", "plan_2024.wkt"]
+    answer = gis("to-grid", "f.gpkg|layername=plan/2024", "f.gpkg|layername=plan_2024", "-o", "grid")
+    assert answer.status == 3 and "would be written under one name" in answer.err
 
 
 def test_dissolved_layers(gis, tmp_path):
@@ -124,6 +146,15 @@ def test_texts_that_are_none(gis, tmp_path, text):
     answer = from_grid(gis, text, "out.gpkg")
     assert answer.status == 3 and answer.err.startswith("overlay-gis: t.wkt: ") and answer.err.count("\n") == 1
     assert not Path("out.gpkg").exists()
+
+
+def test_rows_of_faces_are_told_as_such(gis, program):
+    Path("a.wkt").write_text("POLYGON ((0 0, 4 0, 4 4, 0 4, 0 0))\nPOLYGON ((2 0, 4 0, 4 4, 2 4, 2 0))\n")
+    for layers in (["a.wkt"], ["a.wkt", "a.wkt"]):
+        text = subprocess.run([program, "faces", *layers], stdout=subprocess.PIPE, check=True).stdout.decode()
+        told = "overlay-gis: t.wkt: has the rows that overlay faces prints: overlay-gis faces writes a file of them, from the layers\n"
+        for answer in (from_grid(gis, text, "out.gpkg"), gis("show", "t.wkt")):
+            assert (answer.status, answer.err) == (3, told)
 
 
 @pytest.mark.parametrize("frame", [None, "", "[]", FRAME.replace('"1"', '"0"'), FRAME.replace('["0", "0"]', '["0"]')])

@@ -62,3 +62,38 @@ def test_rows_cover_what_the_operation_does(gis, tmp_path, operation):
         inside = shape.representative_point()
         assert fields["a_n"] is None or first[fields["a_n"]].distance(inside) < 0.002
         assert fields["b_n"] is None or second[fields["b_n"]].distance(inside) < 0.002
+
+
+NAMES = ["x,y", "of:whom", 'the "old" one', " spaced ", 'a"b', "plain"]
+
+
+@pytest.fixture
+def strangely_named(tmp_path):
+    """A layer of one feature with such fields."""
+    return write(tmp_path / "a.gpkg", [box(EAST, NORTH, EAST + 1, NORTH + 1)], fields={name: [len(name)] for name in NAMES})
+
+
+@pytest.mark.parametrize(
+    "text, names",
+    [
+        ('"x,y"', ["x,y"]),
+        ('"x,y", plain ,"of:whom"', ["x,y", "plain", "of:whom"]),
+        ('plain,of:whom,"the ""old"" one"', ["plain", "of:whom", 'the "old" one']),
+        ('" spaced ",a"b,,', [" spaced ", 'a"b']),
+    ],
+)
+def test_fields_of_any_name(gis, strangely_named, text, names):
+    assert gis("run", "union", strangely_named, strangely_named, "-o", "run.gpkg", "--keep-a", text).status == 0
+    assert list(read("run.gpkg")[0][1])[3:] == [f"a_{name}" for name in names]
+    assert gis("dissolve", strangely_named, "--by", text, "-o", "values.gpkg").status == 0
+    assert list(read("values.gpkg")[0][1])[:-2] == names
+    for words in (("--keep", f"b:{text}"), ("--keep-b", text), ("--by", f"b:{text}")):
+        assert gis("faces", strangely_named, strangely_named, "-o", "faces.gpkg", "--overwrite", *words).status == 0
+        assert [name for name in read("faces.gpkg")[0][1] if name.startswith("b_")] == [f"b_{name}" for name in names]
+    assert gis("faces", strangely_named, "-o", "faces.gpkg", "--overwrite", "--by", text).status == 0
+
+
+@pytest.mark.parametrize("text", ['"x,y', '"x"y', '"'])
+def test_quotes_that_are_not_closed(gis, strangely_named, text):
+    answer = gis("dissolve", strangely_named, "--by", text, "-o", "out.gpkg")
+    assert answer.status == 2 and f"--by: {text} is no list of fields as in CSV" in answer.err

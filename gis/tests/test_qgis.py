@@ -202,6 +202,16 @@ answer += [rows(run("dissolve", INPUT={parcels!r}, PARTS=parts)) for parts in (F
     assert by_owner == [["Ada", "1", "2", 28], ["Bo", "2", "1", 16]] and whole == [[44]] and parts == [[16], [28]]
 
 
+def test_fields_with_commas_and_quotes(pyqgis, tmp_path):
+    names = ["x,y", 'the "old" one']
+    a = write(tmp_path / "a.gpkg", [square(0, 0)], fields={names[0]: ["Ada"], names[1]: ["Bo"]})
+    united, faces = pyqgis(f"""
+answer = [rows(run("dissolve", INPUT={a!r}, FIELD={names}), *{names})]
+answer += [rows(run("faces", INPUT={a!r}, INPUT_FIELDS={names}, LAYERS=[{a!r}], ALL_FIELDS=True), *["a_" + name for name in {names}])]
+""")
+    assert united == faces == [["Ada", "Bo", 16]]
+
+
 def test_check(pyqgis, tmp_path):
     """Two squares that overlap by 1 metre, and a frame of which the hole is 2 metres wide."""
     frame = square(20, 0, 12).difference(square(25, 5, 2))

@@ -164,15 +164,29 @@ def test_empty_layers(gis, tmp_path):
     assert read("out.gpkg") == []
 
 
-def test_z_coordinates_are_left_out(gis, tmp_path):
-    solid = ogr.CreateGeometryFromWkt(
-        f"POLYGON Z (({EAST} {NORTH} 7, {EAST + 4} {NORTH} 7.5, {EAST + 4} {NORTH + 4} 8, {EAST} {NORTH} 7))"
-    )
-    a, b = write(tmp_path / "a.gpkg", [solid], kind=ogr.wkbPolygon25D), write(tmp_path / "b.gpkg", [])
+SOLID = ogr.CreateGeometryFromWkt(f"POLYGON (({EAST} {NORTH}, {EAST + 4} {NORTH}, {EAST + 4} {NORTH + 4}, {EAST} {NORTH}))")
+
+
+@pytest.mark.parametrize(
+    "kind, declared, told",
+    [
+        (ogr.wkbPolygon25D, ogr.wkbPolygon25D, "Z"),
+        (ogr.wkbPolygonM, ogr.wkbPolygonM, "M"),
+        (ogr.wkbPolygonZM, ogr.wkbPolygonZM, "Z and M"),
+        (ogr.wkbPolygon25D, ogr.wkbUnknown, "Z or M"),
+        (ogr.wkbPolygonM, ogr.wkbUnknown, "Z or M"),
+        (ogr.wkbMultiPolygonZM, ogr.wkbUnknown, "Z or M"),
+        (ogr.wkbCurvePolygonM, ogr.wkbUnknown, "Z or M"),
+        (ogr.wkbPolygon, ogr.wkbUnknown, ""),
+    ],
+)
+def test_further_coordinates_are_left_out(gis, tmp_path, kind, declared, told):
+    flat = box(EAST + 9, NORTH, EAST + 10, NORTH + 1)
+    a, b = write(tmp_path / "a.gpkg", [flat, ogr.ForceTo(SOLID.Clone(), kind)], kind=declared), write(tmp_path / "b.gpkg", [])
     answer = gis("run", "union", a, b, "-o", "out.gpkg")
-    assert "has Z coordinates, which are left out" in answer.err
-    ((shape, _),) = read("out.gpkg")
-    assert shape.area == 8 and not shape.has_z
+    warned = [line for line in answer.err.splitlines() if "left out" in line]
+    assert warned == ([f"overlay-gis: {a}: warning: has {told} coordinates, which are left out"] if told else [])
+    assert sorted(shape.area for shape, _ in read("out.gpkg")) == [1, 8] and not read("out.gpkg")[0][0].has_z
 
 
 def test_curves_become_lines(gis, tmp_path):

@@ -1,6 +1,7 @@
 """show: the pictures are drawings of what the files hold."""
 
 import io
+import os
 import subprocess
 import sys
 import xml.etree.ElementTree as tree
@@ -64,6 +65,13 @@ def test_empty_files_are_drawn_as_such(gis):
     Path("r.wkt").write_text("MULTIPOLYGON EMPTY\n")
     _, words = drawn(gis("show", "a.wkt", "r.wkt").out)
     assert {"a.wkt: layer, nothing in it", "r.wkt: result, nothing in it"} <= set(words)
+
+
+def test_names_that_xml_has_no_signs_for(gis):
+    name = os.fsdecode(b"\xff\x01.wkt")
+    Path(name).write_text("")
+    assert gis("show", name, "-o", "out.svg", "--title", "\x02").status == 0
+    assert {"\\udcff\\x01.wkt: layer, nothing in it", "\\x02"} <= set(drawn(Path("out.svg").read_text())[1])
 
 
 @pytest.mark.parametrize("data", [b"POLYGON ((0 0, 1", b"\xff\xfe\x00", b"1 2 3 4\n", b"SQLite format 3\x00"])

@@ -3,6 +3,7 @@
 from __future__ import annotations
 
 from .algorithm import INPUT, PARTS, Call, VerbAlgorithm
+from .inputs import listed
 
 FIELD = "FIELD"
 
@@ -24,5 +25,5 @@ class Dissolve(VerbAlgorithm):
 
     def words(self, call: Call) -> list[str]:
         layer = call.hand(INPUT, FIELD)
-        by = ["--by", ",".join(layer.fields)] if layer.fields else []
+        by = ["--by", listed(layer.fields)] if layer.fields else []
         return ["dissolve", layer.name, *by, *(["--parts"] if call.truth(PARTS) else [])]

@@ -109,8 +109,14 @@ def place_of(field: str, source: QgsProcessingFeatureSource) -> int:
 
 def words_of(layers: Sequence[Handed]) -> list[str]:
     """The words of the command that name layers, and the fields of them that are kept."""
-    kept = [keep(layer.letter) + ",".join(layer.fields) for layer in layers if layer.fields]
+    kept = [keep(layer.letter) + listed(layer.fields) for layer in layers if layer.fields]
     return [*(layer.name for layer in layers), *kept]
+
+
+def listed(fields: Sequence[str]) -> str:
+    """The names of fields as the command takes them: in quotes, with those that they have doubled, as
+    in CSV."""
+    return ",".join('"' + field.replace('"', '""') + '"' for field in fields)
 
 
 def keep(letter: str) -> str:
