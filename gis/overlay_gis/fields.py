@@ -11,6 +11,7 @@ from osgeo import ogr
 
 from .columns import Numbers
 from .faults import Refusal
+from .fitting import text_of
 from .layers import Source
 from .output import Column
 from .program import LETTERS
@@ -64,7 +65,7 @@ class Kept:
         if not self.several:
             return list(self.values[covering[0]])
         return [
-            JOINT.join("" if value is None else str(value) for value in column)
+            JOINT.join("" if value is None else str(text_of(value)) for value in column)
             for column in zip(*(self.values[k] for k in covering))
         ]
 

@@ -27,6 +27,9 @@ from .whole import Drafts, Target, blamed, target_of
 # Drivers whose files are folders.
 FOLDERS = ("OpenFileGDB", "FileGDB")
 
+# Drivers that bring each layer to a system of their own, and so off its grid.
+MOVING = ("GeoJSONSeq", "KML", "LIBKML", "GPX", "MBTiles")
+
 # What is told where a format has none for a value.
 ROOM = "a GeoPackage, whose name ends in .gpkg, has room for it"
 
@@ -90,7 +93,14 @@ def layer_target(name: str, overwrite: bool, inputs: Iterable[str]) -> Target:
     """The place of a layer, whose ending names its format; refuses one that can't be written,
     before any work is done."""
     target = target_of(name, overwrite, inputs)
-    if driver_for(target).ShortName not in FOLDERS and target.path.is_dir():
+    driver = driver_for(target).ShortName
+    if driver in MOVING:
+        raise Refusal(
+            name,
+            f"GDAL brings all that it writes as {driver} to a system of its own; .gpkg, .geojson, .shp and .fgb"
+            " keep that of the layers",
+        )
+    if driver not in FOLDERS and target.path.is_dir():
         raise Refusal(name, "is a folder, and no file of this format")
     return target
 

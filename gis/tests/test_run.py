@@ -398,3 +398,10 @@ def test_open_rings_are_closed_and_short_ones_left_out(gis, tmp_path):
     assert "a.gpkg: warning: rings of less than four points were left out: feature 2" in answer.err
     answer = gis("run", "union", a, b, "-o", "out.gpkg", "--dissolve", "--overwrite")
     assert answer.status == 0 and [shape.area for shape, _ in read("out.gpkg")] == [16]
+
+
+@pytest.mark.parametrize("name", ["out.geojsonl", "out.geojsons", "out.kml", "out.kmz", "out.gpx"])
+def test_formats_that_have_another_system_are_refused(gis, tmp_path, name):
+    answer = gis("dissolve", write(tmp_path / "a.gpkg", [box(EAST, NORTH, EAST + 1, NORTH + 1)]), "-o", name)
+    assert answer.status == 3 and ".gpkg, .geojson, .shp and .fgb keep that of the layers" in answer.err
+    assert answer.err.count("\n") == 1 and not (tmp_path / name).exists()
