@@ -84,7 +84,7 @@ impl SquareMap {
         let (right, top) = (x.wrapping_add(10), y.wrapping_add(10));
         let corners = [x, y, right, y, right, top, x, top, x, y];
         self.coordinates.extend_from_slice(&corners)?;
-        let past = self.ones.len() as u32;
+        let past = u32::try_from(self.ones.len()).map_err(|_| NoMemory)?;
         self.rings.push(past.wrapping_mul(5))?;
         self.ones.push(past)?;
         Ok(())
