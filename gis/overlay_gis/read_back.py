@@ -46,7 +46,7 @@ class Difference:
     near: bool
 
     def __str__(self) -> str:
-        return f"field {self.name} of row {self.row}: {told(self.wanted)} comes out as {told(self.found)}"
+        return f"field {self.name} in row number {self.row}: {told(self.wanted)} comes out as {told(self.found)}"
 
 
 def told(value: Any) -> str:

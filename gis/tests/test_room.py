@@ -49,7 +49,7 @@ def test_what_does_not_fit_is_told(gis, tmp_path, ending, value, told):
     answer = dissolved(gis, a, f"out.{ending}")
     assert answer.status == 1
     last = answer.err.splitlines()[-1]
-    assert last.startswith(f"overlay-gis: out.{ending}: field kept of row 2: {told}"), answer.err
+    assert last.startswith(f"overlay-gis: out.{ending}: field kept in row number 2: {told}"), answer.err
     assert last.endswith(": a GeoPackage, whose name ends in .gpkg, has room for it")
     assert not list(tmp_path.glob("out*"))
     assert dissolved(gis, a, "out.gpkg").status == 0
@@ -82,7 +82,7 @@ def test_features_that_are_many_do_not_end_within_a_number(gis, tmp_path):
         (tmp_path / "a.geojson").write_text(json.dumps({"type": "FeatureCollection", "features": features}))
         answer = gis("faces", "a.geojson", "-o", f"out{count}.shp")
         assert answer.status == status, answer.err
-    assert "out120.shp: field a of row 1: a text of 369 signs comes out as a text of 254 signs" in answer.err
+    assert "out120.shp: field a in row number 1: a text of 369 signs comes out as a text of 254 signs" in answer.err
 
 
 def test_a_time_is_kept_as_a_text_where_a_format_has_dates_alone(gis, tmp_path):
@@ -90,7 +90,7 @@ def test_a_time_is_kept_as_a_text_where_a_format_has_dates_alone(gis, tmp_path):
     assert dissolved(gis, a, "out.shp").status == 0
     assert [fields["kept"] for _, fields in read("out.shp")] == ["2026/11/27 10:11:12+01", None]
     answer = dissolved(gis, a, "out.tab")
-    assert answer.status == 1 and "out.tab: field kept of row 1: 2026/11/27 10:11:12+01 comes out as" in answer.err
+    assert answer.status == 1 and "out.tab: field kept in row number 1: 2026/11/27 10:11:12+01 comes out as" in answer.err
 
 
 def test_a_name_that_is_shortened_is_told(gis, tmp_path):
@@ -111,8 +111,8 @@ def test_last_digits_and_blanks_that_go_are_told(gis, tmp_path):
     assert answer.status == 0
     told = [line for line in answer.err.splitlines() if "warning" in line]
     assert told == [
-        "overlay-gis: out.shp: warning: field share of row 2: 0.3333333333333333 comes out as 0.333333333333333",
-        "overlay-gis: out.shp: warning: field name of row 1: a  comes out as a",
+        "overlay-gis: out.shp: warning: field share in row number 2: 0.3333333333333333 comes out as 0.333333333333333",
+        "overlay-gis: out.shp: warning: field name in row number 1: a  comes out as a",
     ]
 
 

@@ -1,17 +1,8 @@
 -- From what the engine and the copy say to what a call for C says.
 use Rattle.std.proofs.Common.{◌≡◌, inl, inr, ℕ, List, length, subst, sym, refl}
 use Rattle.std.specs.Prelude.{MatchResult, Option, Result, Ok, Err, None, Some, Vec}
-use Rattle.geom.specs.declared.edge.Counted.{Counted}
-use Rattle.geom.specs.declared.fault.RunFault.{RunFault}
-use Rattle.geom.specs.declared.op.Op.{Op}
-use Rattle.engine.specs.declared.engine.Output.{Output}
-use Rattle.results.specs.declared.text.Report.{Report}
-use Rattle.engine.specs.Results.{IsResultWrittenWithin}
-use Rattle.engine.specs.Runs.{AreEdgesWrittenWithin, DeclinesWithin, ReportsWithin, alone}
 use Rattle.overlay_c.specs.declared.answer.OverlayAnswer.{OverlayAnswer}
-use Rattle.overlay_c.specs.declared.made.Task.{Task}
-use Rattle.overlay_c.specs.declared.made.Task.TheVariants.{Apply, Edges}
-use Rattle.overlay_c.specs.Boundary.{Fills, IsAsked, IsMade, IsPut, Sizes, filled, none, none_filled, plain, sized, small}
+use Rattle.overlay_c.specs.Boundary.{Fills, IsPut, Sizes, filled, none, none_filled, plain, sized, small}
 
 -- ---- what was made or not, its size or where it was put
 module _ (IsText : List ℕ → Type 0) (IsFailure : OverlayAnswer → Type 0) where
