@@ -4,3 +4,4 @@ pub mod Nearness
 pub mod Columns
 pub mod Ladders
 pub mod Searching
+pub mod Short

@@ -1,5 +1,5 @@
 -- The nearest edge below a point.
-use Rattle.std.specs.Prelude.{◌≡◌, ◌⊎◌, ◌^◌, ◌<◌, ◌+ℤ◌, ◌*ℤ◌, ◌≤ℤ◌, ◌<ℤ◌, ℕ, ℤ, pos, true, List, [], Contains, Option, Some, None, IfSome, MatchOption, length, slice_index_or}
+use Rattle.std.specs.Prelude.{◌≡◌, ◌⊎◌, ◌^◌, ◌<◌, ◌≤◌, ◌+ℤ◌, ◌*ℤ◌, ◌≤ℤ◌, ◌<ℤ◌, ℕ, ℤ, pos, true, List, [], Contains, Option, Some, None, IfSome, MatchOption, length, slice_index_or}
 use Rattle.geom.specs.declared.directed.DirectedEdge.{DirectedEdge}
 use Rattle.geom.specs.declared.edge.Edge.{Edge}
 use Rattle.geom.specs.declared.point.Pt.{Pt}
@@ -74,20 +74,34 @@ best_at best r = slice_index_or best r None
 abbrev pub AreKnown : List DirectedEdge → List Pt → List (Option Gap) → Type 0
 AreKnown ds vertices best = (r : ℕ) → IfSome (best_at best r) (λ g. IsGapOf ds (vertex_at vertices r) g)
 
--- no gap grows, and those of the vertices that are asked for are now at most those of the edges for which P holds
-pub record AreNearerFor (ds : List DirectedEdge) (vertices : List Pt) (asked : List ℕ) (P : ℕ → Type 0) (old new : List (Option Gap)) : Type 0 where
+-- no gap grows, and those of the vertices for which Asked holds are now at most those of the edges for which P holds
+pub record AreNearerFor (ds : List DirectedEdge) (vertices : List Pt) (Asked P : ℕ → Type 0) (old new : List (Option Gap)) : Type 0 where
   pub same_length : length new ≡ length old
   pub known : AreKnown ds vertices new
   pub kept : (r : ℕ) (d : DirectedEdge) → IsAsNear d (vertex_at vertices r) (best_at old r) → IsAsNear d (vertex_at vertices r) (best_at new r)
-  pub near : (r : ℕ) → Contains asked r → (k : ℕ) → P k → IsAsNear (edge_at ds k) (vertex_at vertices r) (best_at new r)
+  pub near : (r : ℕ) → Asked r → (k : ℕ) → P k → IsAsNear (edge_at ds k) (vertex_at vertices r) (best_at new r)
 
 -- for the edges at the numbers
 abbrev pub AreNearer : List DirectedEdge → List Pt → List ℕ → List ℕ → List (Option Gap) → List (Option Gap) → Type 0
-AreNearer ds vertices asked numbers old new = AreNearerFor ds vertices asked (Contains numbers) old new
+AreNearer ds vertices asked numbers old new = AreNearerFor ds vertices (Contains asked) (Contains numbers) old new
 
 -- for those of them that span the columns
 abbrev pub AreNearerSpanning : List DirectedEdge → List Pt → List ℕ → List ℕ → Columns → List (Option Gap) → List (Option Gap) → Type 0
-AreNearerSpanning ds vertices asked numbers columns old new = AreNearerFor ds vertices asked (λ k. Contains numbers k × Spans (edge_at ds k) columns) old new
+AreNearerSpanning ds vertices asked numbers columns old new = AreNearerFor ds vertices (Contains asked) (λ k. Contains numbers k × Spans (edge_at ds k) columns) old new
+
+-- for the edge with this number, and the vertices from one place to before another one
+abbrev pub AreNearerWithin : List DirectedEdge → List Pt → ℕ → ℕ → ℕ → List (Option Gap) → List (Option Gap) → Type 0
+AreNearerWithin ds vertices number from past old new = AreNearerFor ds vertices (λ r. (from ≤ r) × (r < past)) (λ k. k ≡ number) old new
+
+-- the gap of each vertex is at most that of the edge with this number
+abbrev pub IsTaken : List DirectedEdge → List Pt → List (Option Gap) → ℕ → Type 0
+IsTaken ds vertices best k = (r : ℕ) → r < length vertices → IsAsNear (edge_at ds k) (vertex_at vertices r) (best_at best r)
+
+-- each of the first n edges is left, or its gaps are taken into account
+pub record AreTakenBut (ds : List DirectedEdge) (vertices : List Pt) (n : ℕ) (left : List ℕ) (old new : List (Option Gap)) : Type 0 where
+  pub same_length : length new ≡ length old
+  pub known : AreKnown ds vertices new
+  pub each : (k : ℕ) → k < n → Contains left k ⊎ IsTaken ds vertices new k
 
 -- each gap is that of a nearest edge below its vertex
 pub record AreGapsBelow (ds : List DirectedEdge) (vertices : List Pt) (best : List (Option Gap)) : Type 0 where

@@ -1,5 +1,5 @@
 -- Vertical columns, and the edges that lie across them.
-use Rattle.std.specs.Prelude.{◌⊎◌, ◌<ℤ◌, ◌≤ℤ◌, ◌<◌, ◌≡◌, ℕ, pos, List, All, Contains, length, slice_index_or}
+use Rattle.std.specs.Prelude.{◌⊎◌, ◌<ℤ◌, ◌≤ℤ◌, ◌<◌, ◌≤◌, ℕ, pos, List, All, Contains, length, slice_index_or}
 use Rattle.geom.specs.declared.directed.DirectedEdge.{DirectedEdge}
 use Rattle.geom.specs.declared.point.Pt.{Pt}
 use Rattle.geom.specs.Limit.{IsWithin, coordinate_limit}
@@ -28,6 +28,16 @@ Meets d columns = ((d.from.x <ℤ columns.high) × (columns.low ≤ℤ d.to.x)) 
 abbrev pub HasMeeting : List DirectedEdge → Columns → Columns → List ℕ → List ℕ → Type 0
 HasMeeting ds all part numbers found = (k : ℕ) → Contains numbers k → ¬ (Spans (edge_at ds k) all) → Meets (edge_at ds k) part → Contains found k
 
--- the edges that aren't upright are among the found ones
-abbrev pub HasSlanted : List DirectedEdge → List ℕ → Type 0
-HasSlanted ds found = (k : ℕ) → k < length ds → ¬ ((edge_at ds k).from.x ≡ (edge_at ds k).to.x) → Contains found k
+-- the column of a vertex alone
+abbrev pub column_of : Pt → Columns
+column_of v = record { low = v.x; high = v.x }
+
+-- the vertices stand from left to right
+abbrev pub StandFromLeft : List Pt → Type 0
+StandFromLeft vertices = (i j : ℕ) → i ≤ j → j < length vertices → (slice_index_or vertices i (record { x = pos 0; y = pos 0 })).x ≤ℤ (slice_index_or vertices j (record { x = pos 0; y = pos 0 })).x
+
+-- the vertices in whose columns the edge lies stand among those from one place to before another one
+pub record StandsOver (d : DirectedEdge) (vertices : List Pt) (from past : ℕ) : Type 0 where
+  pub ordered : from ≤ past
+  pub inside : past ≤ length vertices
+  pub each : (r : ℕ) → r < length vertices → Meets d (column_of (slice_index_or vertices r (record { x = pos 0; y = pos 0 }))) → (from ≤ r) × (r < past)

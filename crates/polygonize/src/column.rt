@@ -2,7 +2,7 @@
 
 ghost use Rattle.std.specs.Prelude.{◌↔◌, ◌<◌, ◌≤ℤ◌, ◌<ℤ◌, All, IfOk, IsTrue, length};
 ghost use Rattle.geom.specs.Limit.{AreInLimit, InLimit, IsWithin, coordinate_limit};
-ghost use Rattle.polygonize.specs.Column.{AreColumnsOf, HasMeeting, HasSlanted, Meets, Spans};
+ghost use Rattle.polygonize.specs.Column.{AreColumnsOf, HasMeeting, Meets, Spans};
 
 use geom::{COORDINATE_LIMIT, DirectedEdge, NoMemory, Pt};
 use std::alloc::Allocator;
@@ -80,20 +80,6 @@ pub fn meeting<A: Allocator>(
         let edge = edges[*number];
         if !spans(edge, all) && meets(edge, part) {
             found.push(*number)?;
-        }
-    }
-    Ok(found)
-}
-
-/// The numbers of the edges that aren't upright.
-pub fn slanted<A: Allocator>(alloc: A, edges: &[DirectedEdge]) -> Result<Vec<usize, A>, NoMemory>
-    ensures inside { IfOk result (λ found. All (λ k. k < length edges.now) found.items) }
-    ensures complete { IfOk result (λ found. HasSlanted edges.now found.items) }
-{
-    let mut found = Vec::with_capacity(alloc, edges.len())?;
-    for number in 0..edges.len() {
-        if edges[number].from.x != edges[number].to.x {
-            found.push(number)?;
         }
     }
     Ok(found)

@@ -27,6 +27,7 @@ mod piece;
 mod polygon;
 mod result_rings;
 mod ring;
+mod short;
 mod stripes;
 mod successor;
 mod written;

@@ -1,24 +1,26 @@
 //! The nearest edges below vertices, for all vertices that are asked for at once.
 //!
-//! 1. The edges that span the columns of these vertices are put into order from low to high. For each vertex a binary
-//!    search finds the nearest one below it.
-//! 2. The vertices are halved. Each half is left with those of the other edges that meet its columns.
-//! 3. Where few vertices are left, or no edge, the edges that are left are looked at one by one.
-//! 4. Parts of the vertices are gone through by several threads at once (`gaps_below_in_parts`).
+//! 1. The edges over few vertices are taken into account by themselves (`short`).
+//! 2. Those of the others that span the columns of the vertices are put into order from low to high. For each vertex a
+//!    binary search finds the nearest one below it.
+//! 3. The vertices are halved. Each half is left with those of the other edges that meet its columns.
+//! 4. Where few vertices are left, or no edge, the edges that are left are looked at one by one.
+//! 5. Parts of the vertices are gone through by several threads at once (`gaps_below_in_parts`).
 //!
-//! Where the vertices stand from left to right, an edge spans or ends in few of the parts at each depth, so that it is
-//! looked at some log n times. The answers are those for any order.
+//! The vertices stand from left to right, so that an edge spans or ends in few of the parts at each depth, and is looked
+//! at some log n times.
 
 ghost use Rattle.std.specs.Prelude.{◌≡◌, ℕ, ◌<◌, ◌≤◌, All, Contains, IfOk, IfSome, IsTrue, OnOk, length, slice_range};
 ghost use Rattle.geom.specs.Limit.{AreInLimit, InLimit};
 ghost use Rattle.polygonize.specs.Below.{AreGapsBelow, AreKnown, AreNearer, AreNearerSpanning, IsAsNear, IsGapOf};
-ghost use Rattle.polygonize.specs.Column.{AreColumnsOf, IsIn};
+ghost use Rattle.polygonize.specs.Column.{AreColumnsOf, IsIn, StandFromLeft};
 ghost use Rattle.polygonize.specs.Ladder.{IsLadder};
 ghost use Rattle.polygonize.specs.Next.{edge_at};
 
 use crate::below::{Gap, nearer, nearest_among};
-use crate::column::{Columns, columns_of, meeting, slanted};
+use crate::column::{Columns, columns_of, meeting};
 use crate::ladder::{highest_below, is_ladder, spanning};
+use crate::short::add_short;
 use geom::{DirectedEdge, NoMemory, Pt};
 use hands::{Part, even_parts, joined, map_parts};
 use std::alloc::Allocator;
@@ -152,15 +154,16 @@ pub fn gaps_below<A: Allocator + Copy>(
 ) -> Result<Vec<Option<Gap>, A>, NoMemory>
     requires edges_in { All (λ d. AreInLimit d.from d.to) edges.now }
     requires vertices_in { All InLimit vertices.now }
+    requires from_left { StandFromLeft vertices.now }
     ensures { IfOk result (λ best. AreGapsBelow edges.now vertices.now best.items) }
 {
     if vertices.is_empty() {
         return Ok(Vec::new(alloc));
     }
     let mut best = vec![in alloc; None; vertices.len()]?;
+    let left = add_short(alloc, edges, vertices, &mut best)?;
     let asked = numbers_below(alloc, vertices.len())?;
-    let numbers = slanted(alloc, edges)?;
-    add(alloc, edges, vertices, &asked, &numbers, &mut best)?;
+    add(alloc, edges, vertices, &asked, &left, &mut best)?;
     Ok(best)
 }
 
@@ -174,6 +177,7 @@ pub fn gaps_below_in_parts<R: Threads + Sync, A: Allocator + Copy + Send + Sync>
 ) -> Result<Vec<Option<Gap>, A>, NoMemory>
     requires edges_in { All (λ d. AreInLimit d.from d.to) edges.now }
     requires vertices_in { All InLimit vertices.now }
+    requires from_left { StandFromLeft vertices.now }
     ensures { IfOk result (λ best. AreGapsBelow edges.now vertices.now best.items) }
 {
     let all = even_parts(alloc, vertices.len(), parts)?;
@@ -182,7 +186,7 @@ pub fn gaps_below_in_parts<R: Threads + Sync, A: Allocator + Copy + Send + Sync>
         alloc,
         &all,
         |part: Part| -> Result<Vec<Option<Gap>, A>, NoMemory>
-            requires { All (λ d. AreInLimit d.from d.to) edges.now × All InLimit vertices.now × (part.from ≤ part.past) × (part.past ≤ length vertices.now) }
+            requires { All (λ d. AreInLimit d.from d.to) edges.now × All InLimit vertices.now × StandFromLeft vertices.now × (part.from ≤ part.past) × (part.past ≤ length vertices.now) }
             ensures { IfOk result (λ best. AreGapsBelow edges.entry.now (slice_range vertices.entry.now part.from part.past) best.items) }
         { gaps_below(alloc, edges, &vertices[part.from..part.past]) },
     )?;

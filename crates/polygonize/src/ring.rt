@@ -1,8 +1,8 @@
 //! The rings of directed edges, as lists of the edges' places.
 
-ghost use Rattle.std.specs.Prelude.{All, IfOk};
+ghost use Rattle.std.specs.Prelude.{All, AllPairs, IfOk};
 ghost use Rattle.geom.specs.Rings.{AreRings, Closes};
-ghost use Rattle.polygonize.specs.Cycle.{IsOneToOne};
+ghost use Rattle.polygonize.specs.Cycle.{Begins, IsOneToOne};
 ghost use Rattle.polygonize.specs.Next.{AreNext, rings_of};
 ghost use Rattle.polygonize.specs.Written.{ArePlaces, HasItsEdges};
 
@@ -22,6 +22,7 @@ pub fn ring_places<A: Allocator + Copy>(
     ensures places { IfOk result (λ found. All (ArePlaces edges.now) found.items) }
     ensures rings { IfOk result (λ found. AreRings edges.now (rings_of edges.now found.items)) }
     ensures edges { IfOk result (λ found. All (HasItsEdges edges.now) found.items) }
+    ensures ascending { IfOk result (λ found. AllPairs Begins found.items) }
 {
     cycles(alloc, next)
 }

@@ -1,6 +1,6 @@
 //! The rings of the result as they are written, each with its place in the order of the text.
 
-ghost use Rattle.std.specs.Prelude.{◌≡◌, ◌<◌, ◌≤◌, ◌==◌, ◌||◌, ◌++◌, ◌∷◌, [], None, All, IfOk, IfSome, OnOk, false, is_some, length, not, slice_index_or, true, unwrap_or};
+ghost use Rattle.std.specs.Prelude.{◌≡◌, ◌<◌, ◌≤◌, ◌==◌, ◌||◌, ◌++◌, ◌∷◌, [], None, All, AllPairs, IfOk, IfSome, OnOk, false, is_some, length, not, slice_index_or, true, unwrap_or};
 ghost use Rattle.geom.specs.Directed.{AreDirected};
 ghost use Rattle.geom.specs.Holes.{AreGrounded, HasGroundedRings, IsHole};
 ghost use Rattle.geom.specs.Limit.{AreInLimit};
@@ -8,7 +8,7 @@ ghost use Rattle.geom.specs.NodedEdges.{AreNodedEdges};
 ghost use Rattle.geom.specs.Rings.{AreRings, Closes};
 ghost use Rattle.polygonize.specs.Below.{AreFoundBelow, IsFoundBelow, StandAt};
 ghost use Rattle.polygonize.specs.CutRing.{AreCyclesCut, Ascend, IsCycleCut};
-ghost use Rattle.polygonize.specs.Cycle.{IsOneToOne};
+ghost use Rattle.polygonize.specs.Cycle.{Begins, IsOneToOne};
 ghost use Rattle.polygonize.specs.Next.{AreNext, edge_at, ring_of, rings_of};
 ghost use Rattle.polygonize.specs.Owning.{ArePiecesWritten, IsRingPlaced, KeepsShell, kept_for};
 ghost use Rattle.polygonize.specs.Placed.{AreAllWritten, AreTables, AreWritten, opening_of, rings_in};
@@ -272,6 +272,7 @@ fn edges_below<A: Allocator + Copy>(
     requires directed { AreDirected edges.now }
     requires edges_in { All (λ d. AreInLimit d.from d.to) edges.now }
     requires cycles { All (ArePlaces edges.now) cycles.now }
+    requires ascending { AllPairs Begins cycles.now }
     requires cut { AreCyclesCut edges.now cycles.now 0 (length cycles.now) rings.now }
     ensures { IfOk result (λ below. AreFoundBelow edges.now cycles.now below.items) }
 {
@@ -293,6 +294,7 @@ fn edges_below_in_parts<R: Threads + Sync, A: Allocator + Copy + Send + Sync>(
     requires directed { AreDirected edges.now }
     requires edges_in { All (λ d. AreInLimit d.from d.to) edges.now }
     requires cycles { All (ArePlaces edges.now) cycles.now }
+    requires ascending { AllPairs Begins cycles.now }
     requires cut { AreCyclesCut edges.now cycles.now 0 (length cycles.now) rings.now }
     ensures { IfOk result (λ below. AreFoundBelow edges.now cycles.now below.items) }
 {

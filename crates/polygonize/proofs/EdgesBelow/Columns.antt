@@ -1,5 +1,5 @@
 -- Vertical columns, and the edges that lie across them.
-use Rattle.std.proofs.Common.{◌≡◌, ◌⊎◌, ℕ, ◌+◌, ◌<◌, List, length, get_or, take, refl, sym, ◌∙◌, ap, subst, inl, inr, Bool, false, arith, ℤ, w32, to_z, of_z}
+use Rattle.std.proofs.Common.{◌≡◌, ◌⊎◌, ℕ, ◌+◌, ◌<◌, List, length, get_or, take, refl, sym, ap, subst, inl, inr, Bool, false, arith, ℤ, w32, to_z, of_z}
 use Rattle.std.specs.Prelude.{◌≤ℤ◌, ◌<ℤ◌, ◌-ℤ◌, pos, true, All, IsTrue}
 use Rattle.std.specs.Int.{int_max, int_min}
 use Rattle.std.proofs.lemmas.Int.{ints, by_lt_z, int_max_is, int_min_is}
@@ -88,17 +88,6 @@ below_meets d columns v i f r = let o = over_is f.p.x f.q.x v.x r.over in by_end
     by_end : (f.p.x <ℤ v.x) × (v.x ≤ℤ f.q.x) → RunsAlong d f → Meets d columns
     by_end o (inl e) = inl ((let P : ℤ → Type 0 = λ t. t <ℤ columns.high in subst P (sym (ap (λ t. t.from.x) e)) (lt_le f.p.x v.x columns.high o.0 i.1)), (let P : ℤ → Type 0 = λ t. columns.low ≤ℤ t in subst P (sym (ap (λ t. t.to.x) e)) (le_le columns.low v.x f.q.x i.0 o.1)))
     by_end o (inr e) = inr ((let P : ℤ → Type 0 = λ t. t <ℤ columns.high in subst P (sym (ap (λ t. t.to.x) e)) (lt_le f.p.x v.x columns.high o.0 i.1)), (let P : ℤ → Type 0 = λ t. columns.low ≤ℤ t in subst P (sym (ap (λ t. t.from.x) e)) (le_le columns.low v.x f.q.x i.0 o.1)))
-
--- and isn't upright
-pub below_slanted : (d : DirectedEdge) (v : Pt) (f : Edge) → RunsBelow d (left_of v) f → ¬ (d.from.x ≡ d.to.x)
-below_slanted d v f r e = let o = over_is f.p.x f.q.x v.x r.over in upright o r.runs
-  where
-    apart : (p x q : ℤ) → p <ℤ x → x ≤ℤ q → p ≡ q → ⊥
-    apart p x q h k e = omega (arith, linear)
-
-    upright : (f.p.x <ℤ v.x) × (v.x ≤ℤ f.q.x) → RunsAlong d f → ⊥
-    upright o (inl k) = apart f.p.x v.x f.q.x o.0 o.1 (sym (ap (λ t. t.from.x) k) ∙ e ∙ ap (λ t. t.to.x) k)
-    upright o (inr k) = apart f.p.x v.x f.q.x o.0 o.1 (sym (ap (λ t. t.to.x) k) ∙ sym e ∙ ap (λ t. t.from.x) k)
 
 -- one that spans the columns has an edge over each of their points
 pub edge_over : (d : DirectedEdge) (columns : Columns) (v : Pt) → Spans d columns → IsIn columns v → (e : Edge) × RunsAlong d e × (covers e (left_of v) ≡ true)

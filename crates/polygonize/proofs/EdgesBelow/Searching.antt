@@ -1,5 +1,5 @@
 -- The nearest edges below many vertices, by parts of the vertices and of the edges.
-use Rattle.std.proofs.Common.{◌≡◌, ◌≢◌, ℕ, zero, suc, [], ◌+◌, ◌-◌, ◌<◌, ◌≤◌, inl, inr, refl, sym, ◌∙◌, ap, subst, Option, Some, None, List, ◌++◌, ◌∷◌, length, get_or, set, map, take, drop, replicate, flat_map, arith, length-append}
+use Rattle.std.proofs.Common.{◌≡◌, ◌≢◌, ◌⊎◌, ℕ, zero, suc, [], ◌+◌, ◌-◌, ◌<◌, ◌≤◌, inl, inr, refl, sym, ◌∙◌, ap, subst, Option, Some, None, List, ◌++◌, ◌∷◌, length, get_or, set, map, take, drop, replicate, flat_map, arith, length-append}
 use Rattle.std.specs.Prelude.{All, Contains, IfSome, ℤ, ◌*ℤ◌, ◌≤ℤ◌, slice_range}
 use Rattle.std.specs.List.{AllZip}
 use Rattle.std.proofs.lemmas.Bool.{cases_eq, cases_lt}
@@ -12,7 +12,7 @@ use Rattle.geom.specs.declared.directed.DirectedEdge.{DirectedEdge}
 use Rattle.geom.specs.Directed.{RunsAlong}
 use Rattle.geom.specs.Limit.{AreInLimit, InLimit}
 use Rattle.geom.specs.Holes.{IsHole, LiesBelow, height, left_of, run_of}
-use Rattle.polygonize.specs.Below.{AreFoundBelow, AreGapsBelow, AreKnown, AreNearer, AreNearerFor, AreNearerSpanning, IsAsNear, IsFoundBelow, IsGapOf, IsLesserGap, RunsBelow, StandAt, best_at, gap_height, vertex_at}
+use Rattle.polygonize.specs.Below.{AreFoundBelow, AreGapsBelow, AreKnown, AreNearer, AreNearerFor, AreNearerSpanning, AreTakenBut, IsAsNear, IsFoundBelow, IsGapOf, IsLesserGap, RunsBelow, StandAt, best_at, gap_height, vertex_at}
 use Rattle.polygonize.specs.Column.{AreColumnsOf, IsIn, Meets, Spans}
 use Rattle.polygonize.specs.Next.{edge_at, first_vertex, nothing, ring_of}
 use Rattle.polygonize.specs.declared.below.Gap.{Gap}
@@ -21,32 +21,17 @@ use Rattle.polygonize.specs.Written.{ArePlaces}
 use Rattle.hands.specs.declared.part.Part.{Part}
 use Rattle.hands.specs.Consecutive.{ArePartsOf}
 use Rattle.hands.proofs.Consecutive.{behind_one_another}
-use Rattle.polygonize.proofs.EdgesBelow.Columns.{below_meets, below_slanted, meets_or_not, spans_or_not}
-use Rattle.polygonize.proofs.EdgesBelow.Nearness.{by_number, known_lesser, near_first, near_second, nothing_below}
+use Rattle.polygonize.proofs.EdgesBelow.Columns.{below_meets, meets_or_not, spans_or_not}
+use Rattle.polygonize.proofs.EdgesBelow.Nearness.{known_lesser, near_first, near_second, nothing_below}
 
 -- ---- one vertex after another
 
--- the first n of the vertices that are asked for have their gaps
-pub record NearerSoFar (ds : List DirectedEdge) (vertices : List Pt) (asked : List ℕ) (P : ℕ → Type 0) (n : ℕ) (old new : List (Option Gap)) : Type 0 where
-  pub same_length : length new ≡ length old
-  pub known : AreKnown ds vertices new
-  pub kept : (r : ℕ) (d : DirectedEdge) → IsAsNear d (vertex_at vertices r) (best_at old r) → IsAsNear d (vertex_at vertices r) (best_at new r)
-  pub near : (m : ℕ) → m < n → (k : ℕ) → P k → IsAsNear (edge_at ds k) (vertex_at vertices (get_or asked m 0)) (best_at new (get_or asked m 0))
+module _ (ds : List DirectedEdge) (vertices : List Pt) (P : ℕ → Type 0) where
+  pub nobody_asked : (Asked : ℕ → Type 0) (old : List (Option Gap)) → ((r : ℕ) → ¬ (Asked r)) → AreKnown ds vertices old → AreNearerFor ds vertices Asked P old old
+  nobody_asked Asked old n k = record { same_length = refl; known = k; kept = λ r d h. h; near = λ r a. absurd (n r a) }
 
-module _ (ds : List DirectedEdge) (vertices : List Pt) (asked : List ℕ) (P : ℕ → Type 0) where
-  pub nobody_asked : (old : List (Option Gap)) → AreKnown ds vertices old → NearerSoFar ds vertices asked P 0 old old
-  nobody_asked old k = record { same_length = refl; known = k; kept = λ r d h. h; near = λ m h. absurd (omega arith) }
-
-  pub all_asked : (n : ℕ) (old new : List (Option Gap)) → length asked ≤ n → NearerSoFar ds vertices asked P n old new → AreNearerFor ds vertices asked P old new
-  all_asked n old new l s = record {
-    same_length = s.same_length;
-    known = s.known;
-    kept = s.kept;
-    near = by_number (λ r. (k : ℕ) → P k → IsAsNear (edge_at ds k) (vertex_at vertices r) (best_at new r)) asked (λ m h. s.near m (omega arith));
-  }
-
-  module _ (n place : ℕ) (old best now : List (Option Gap)) (found least : Option Gap) (e : place ≡ get_or asked n 0) (within : place < length best) (is : now ≡ set best place least) (known : IfSome found (IsGapOf ds (vertex_at vertices place)))
-      (near : (k : ℕ) → P k → IsAsNear (edge_at ds k) (vertex_at vertices place) found) (lesser : IsLesserGap (best_at best place) found least) (s : NearerSoFar ds vertices asked P n old best) where
+  module _ (Asked Next : ℕ → Type 0) (place : ℕ) (old best now : List (Option Gap)) (found least : Option Gap) (then : (r : ℕ) → Next r → Asked r ⊎ (r ≡ place)) (within : place < length best) (is : now ≡ set best place least) (known : IfSome found (IsGapOf ds (vertex_at vertices place)))
+      (near : (k : ℕ) → P k → IsAsNear (edge_at ds k) (vertex_at vertices place) found) (lesser : IsLesserGap (best_at best place) found least) (s : AreNearerFor ds vertices Asked P old best) where
     at_place : best_at now place ≡ least
     at_place = ap (λ t. best_at t place) is ∙ get_or-set_same best place least None within
 
@@ -69,22 +54,35 @@ module _ (ds : List DirectedEdge) (vertices : List Pt) (asked : List ℕ) (P : �
     kept_here : (r : ℕ) (d : DirectedEdge) → IsAsNear d (vertex_at vertices r) (best_at best r) → IsAsNear d (vertex_at vertices r) (best_at now r)
     kept_here r d h = by_place (λ t g. IsAsNear d (vertex_at vertices t) g) r (λ same. first d (let R : ℕ → Type 0 = λ t. IsAsNear d (vertex_at vertices t) (best_at best t) in subst R same h)) (λ other. h)
 
-    pub one_asked : NearerSoFar ds vertices asked P (n + 1) old now
+    pub one_asked : AreNearerFor ds vertices Next P old now
     one_asked = record {
       same_length = ap length is ∙ length-set best place least ∙ s.same_length;
       known = λ r. by_place (λ t g. IfSome g (IsGapOf ds (vertex_at vertices t))) r (λ same. known_lesser ds (vertex_at vertices place) (best_at best place) found least (s.known place) known lesser) (λ other. s.known r);
       kept = λ r d h. kept_here r d (s.kept r d h);
-      near = λ m l k p. elim (cases_lt m n) [
-        | inl h ↦ kept_here (get_or asked m 0) (edge_at ds k) (s.near m h k p)
-        | inr h ↦ (let same : m ≡ n = omega arith in let R : ℕ → Type 0 = λ t. IsAsNear (edge_at ds k) (vertex_at vertices t) (best_at now t) in
-            subst R (e ∙ ap (λ t. get_or asked t 0) (sym same)) (let R : Option Gap → Type 0 = IsAsNear (edge_at ds k) (vertex_at vertices place) in subst R (sym at_place) (second (edge_at ds k) (near k p))))
+      near = λ r n k p. elim (then r n) [
+        | inl a ↦ kept_here r (edge_at ds k) (s.near r a k p)
+        | inr same ↦ (let R : ℕ → Type 0 = λ t. IsAsNear (edge_at ds k) (vertex_at vertices t) (best_at now t) in
+            subst R (sym same) (let R : Option Gap → Type 0 = IsAsNear (edge_at ds k) (vertex_at vertices place) in subst R (sym at_place) (second (edge_at ds k) (near k p))))
       ];
     }
 
+-- the place is one of the first n that are asked for
+abbrev pub IsOneOfFirst : List ℕ → ℕ → ℕ → Type 0
+IsOneOfFirst asked n r = (m : ℕ) × (m < n) × (get_or asked m 0 ≡ r)
+
+pub one_more_first : (asked : List ℕ) (n r : ℕ) → IsOneOfFirst asked (n + 1) r → IsOneOfFirst asked n r ⊎ (r ≡ get_or asked n 0)
+one_more_first asked n r i = elim (cases_lt i.0 n) [
+  | inl h ↦ inl (i.0, h, i.2)
+  | inr h ↦ inr (let l = i.1 in let same : i.0 ≡ n = omega (arith, l, h) in sym i.2 ∙ ap (λ t. get_or asked t 0) same)
+]
+
+pub all_first : (asked : List ℕ) (n : ℕ) → length asked ≤ n → (r : ℕ) → Contains asked r → IsOneOfFirst asked n r
+all_first asked n l r c = (c.0, (let i = c.1 in omega (arith, i, l)), sym (get_or_default asked c.0 r 0 c.1) ∙ c.2)
+
 -- ---- parts of the edges, and of the vertices
 
-pub for_fewer : (ds : List DirectedEdge) (vertices : List Pt) (asked : List ℕ) (P Q : ℕ → Type 0) (old new : List (Option Gap)) → ((k : ℕ) → Q k → P k) → AreNearerFor ds vertices asked P old new → AreNearerFor ds vertices asked Q old new
-for_fewer ds vertices asked P Q old new f n = record { same_length = n.same_length; known = n.known; kept = n.kept; near = λ r c k q. n.near r c k (f k q) }
+pub for_fewer : (ds : List DirectedEdge) (vertices : List Pt) (Asked Fewer P Q : ℕ → Type 0) (old new : List (Option Gap)) → ((r : ℕ) → Fewer r → Asked r) → ((k : ℕ) → Q k → P k) → AreNearerFor ds vertices Asked P old new → AreNearerFor ds vertices Fewer Q old new
+for_fewer ds vertices Asked Fewer P Q old new a f n = record { same_length = n.same_length; known = n.known; kept = n.kept; near = λ r c k q. n.near r (a r c) k (f k q) }
 
 -- of a half of the vertices, those of the edges that don't span all columns
 half_near : (ds : List DirectedEdge) (vertices : List Pt) (half numbers part : List ℕ) (all columns : Columns) (old new : List (Option Gap)) → ((k : ℕ) → Contains numbers k → ¬ (Spans (edge_at ds k) all) → Meets (edge_at ds k) columns → Contains part k)
@@ -153,18 +151,13 @@ at_found ds v (Some g) h n = (
     there : (e : Edge) (b : LiesBelow ds (left_of v) e) → RunsBelow (edge_at ds b.inside.0) (left_of v) e
     there e b = record { runs = (let P : DirectedEdge → Type 0 = λ t. RunsAlong t e in subst P (sym b.inside.2 ∙ get_or_default ds b.inside.0 b.edge nothing b.inside.1) b.runs); over = b.over; below = b.below }
 
-if_below : (d : DirectedEdge) (v : Pt) (best : Option Gap) → ((f : Edge) → RunsBelow d (left_of v) f → IsAsNear d v best) → IsAsNear d v best
-if_below d v None h = λ f r. h f r f r
-if_below d v (Some g) h = λ f r. h f r f r
-
-pub found_all : (ds : List DirectedEdge) (vertices : List Pt) (asked numbers : List ℕ) (old new : List (Option Gap)) → ((k : ℕ) → k < length ds → ¬ ((edge_at ds k).from.x ≡ (edge_at ds k).to.x) → Contains numbers k) → AreNearer ds vertices asked numbers old new
-    → All (λ r. IsFoundBelow ds (vertex_at vertices r) (best_at new r)) asked
-found_all ds vertices asked numbers old new slanted n j d h =
-    let r = get_or asked j d in
-    at_found ds (vertex_at vertices r) (best_at new r) (n.known r) (λ k i. as_near r (Contains-get_or asked j d h) k i)
-  where
-    as_near : (r : ℕ) → Contains asked r → (k : ℕ) → k < length ds → IsAsNear (edge_at ds k) (vertex_at vertices r) (best_at new r)
-    as_near r c k i = if_below (edge_at ds k) (vertex_at vertices r) (best_at new r) (λ f b. n.near r c k (slanted k i (below_slanted (edge_at ds k) (vertex_at vertices r) f b)))
+-- the edges that were left are looked for, and the others were taken into account before
+pub found_all : (ds : List DirectedEdge) (vertices : List Pt) (asked left : List ℕ) (old short new : List (Option Gap)) → ((r : ℕ) → r < length vertices → Contains asked r) → AreTakenBut ds vertices (length ds) left old short → AreNearer ds vertices asked left short new
+    → (r : ℕ) → r < length vertices → IsFoundBelow ds (vertex_at vertices r) (best_at new r)
+found_all ds vertices asked left old short new complete taken n r h = at_found ds (vertex_at vertices r) (best_at new r) (n.known r) (λ k i. elim (taken.each k i) [
+  | inl l ↦ n.near r (complete r h) k l
+  | inr t ↦ n.kept r (edge_at ds k) (t r h)
+])
 
 -- the room of a list is written back whole
 pub written_back : {X : Type 0} (n : ℕ) (old new : List X) → n ≡ length new → length new ≡ length old → take n (new ++ drop (length new) old) ≡ new

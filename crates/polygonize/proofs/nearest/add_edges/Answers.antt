@@ -1,12 +1,12 @@
-use Rattle.std.proofs.Common.{slice_index_or, refl, arith}
+use Rattle.std.proofs.Common.{◌+◌, slice_index_or, refl, arith}
 use Rattle.std.specs.Prelude.{Contains}
 use Rattle.polygonize.specs.Below.{best_at, vertex_at}
 use Rattle.polygonize.proofs.EdgesBelow.Nearness.{room_of}
-use Rattle.polygonize.proofs.EdgesBelow.Searching.{all_asked, nobody_asked, one_asked}
+use Rattle.polygonize.proofs.EdgesBelow.Searching.{IsOneOfFirst, all_first, for_fewer, nobody_asked, one_asked, one_more_first}
 use Rattle.polygonize.proofs.nearest.add_edges.Goals as goal
 
 pub loop-place-init : goal.loop-place-init
-loop-place-init c = nobody_asked c.args.edges.now c.args.vertices.now c.args.asked.now (Contains c.args.numbers.now) c.args.best.now c.requires.known
+loop-place-init c = nobody_asked c.args.edges.now c.args.vertices.now (Contains c.args.numbers.now) (IsOneOfFirst c.args.asked.now 0) c.args.best.now (λ r i. let l = i.1 in omega (arith, l)) c.requires.known
 
 pub nearest_of-found-requires-clause-column : goal.nearest_of-found-requires-clause-column
 nearest_of-found-requires-clause-column c = λ t. (c.requires.columns t).each c.loop-place.place-index 0 c.loop-place-test.true
@@ -27,8 +27,9 @@ loop-place-preserved c =
     let inside = c.requires.asked_in c.loop-place.place-index 0 c.loop-place-test.true in
     let a = c.loop-place.invariant.same_length in
     let b = c.requires.same_length in
-    one_asked c.args.edges.now c.args.vertices.now c.args.asked.now (Contains c.args.numbers.now) c.loop-place.place-index r c.args.best.now c.loop-place.best _ c.nearest_of-found.result c.nearer.result refl (omega (arith, inside, a, b)) refl
+    one_asked c.args.edges.now c.args.vertices.now (Contains c.args.numbers.now) (IsOneOfFirst c.args.asked.now c.loop-place.place-index) (IsOneOfFirst c.args.asked.now (c.loop-place.place-index + 1)) r c.args.best.now c.loop-place.best _ c.nearest_of-found.result c.nearer.result (one_more_first c.args.asked.now c.loop-place.place-index) (omega (arith, inside, a, b)) refl
     c.nearest_of-found.ensures.known c.nearest_of-found.ensures.near c.nearer.ensures c.loop-place.invariant
 
 pub returns : goal.returns
-returns c = all_asked c.args.edges.now c.args.vertices.now c.args.asked.now (Contains c.args.numbers.now) c.loop-place.place-index c.args.best.now c.loop-place.best (let t = c.loop-place-test.false in omega arith) c.loop-place.invariant
+returns c = for_fewer c.args.edges.now c.args.vertices.now (IsOneOfFirst c.args.asked.now c.loop-place.place-index) (Contains c.args.asked.now) (Contains c.args.numbers.now) (Contains c.args.numbers.now) c.args.best.now c.loop-place.best
+    (all_first c.args.asked.now c.loop-place.place-index (let t = c.loop-place-test.false in omega arith)) (λ k h. h) c.loop-place.invariant

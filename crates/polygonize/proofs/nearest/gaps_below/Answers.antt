@@ -1,27 +1,41 @@
 use Rattle.std.proofs.Common.{◌≡◌, List, Option, sym, ◌∙◌, ap, subst, length, arith}
-use Rattle.std.proofs.lemmas.List.Elements.{All-contains}
-use Rattle.polygonize.specs.Below.{AreGapsBelow, AreKnown, IsFoundBelow, best_at, vertex_at}
+use Rattle.polygonize.specs.Below.{AreKnown}
 use Rattle.polygonize.specs.declared.below.Gap.{Gap}
 use Rattle.polygonize.proofs.EdgesBelow.Searching.{found_all, none_known, none_of, written_back}
 use Rattle.polygonize.proofs.nearest.gaps_below.Goals as goal
 
-pub add-requires-clause-known : goal.add-requires-clause-known
-add-requires-clause-known g c = let e = c.in_ok-best.ensures.items_if_clones_equal (none_of _ (λ z k. k)) in
+pub add_short-requires-clause-known : goal.add_short-requires-clause-known
+add_short-requires-clause-known g c = let e = c.in_ok-best.ensures.items_if_clones_equal (none_of _ (λ z k. k)) in
     subst (λ (t : List (Option Gap)). AreKnown c.args.edges.now c.args.vertices.now t) (sym (c.deref_mut.ensures.value ∙ e)) (none_known c.args.edges.now c.args.vertices.now _)
+
+pub add-requires-clause-known : goal.add-requires-clause-known
+add-requires-clause-known g c =
+    let n = c.in_ok-best.best.len in
+    let old = c.in_ok-best.best.items in
+    let short = c.add_short.new.best in
+    let taken = c.in_ok-left.ensures.taken in
+    let same : length short ≡ length old = taken.same_length ∙ ap length c.deref_mut.ensures.value in
+    let a = c.in_ok-best.best.ok.0 in
+    subst (λ (t : List (Option Gap)). AreKnown c.args.edges.now c.args.vertices.now t) (sym (c.deref_mut-2.ensures.value ∙ written_back n old short (omega (arith, a, same)) same)) taken.known
 
 pub returns : goal.returns
 returns g c =
-    let new = c.add.new.best in
+    let n = c.in_ok-best.best.len in
     let old = c.in_ok-best.best.items in
-    let same : length new ≡ length old = c.in_ok-add.ensures.same_length ∙ ap length c.deref_mut.ensures.value in
+    let short = c.add_short.new.best in
+    let new = c.add.new.best in
+    let left = c.in_ok-left.left.items in
+    let asked = c.in_ok-asked.asked.items in
+    let taken = c.in_ok-left.ensures.taken in
     let a = c.in_ok-best.best.ok.0 in
     let b = c.in_ok-best.ensures.len in
-    let d = c.deref_mut.ensures.len in
-    let whole = written_back c.in_ok-best.best.len old new (omega (arith, a, b, d, same)) same in
-    let asked = c.in_ok-asked.asked.items in
-    let k = rw (c.deref.ensures.value, c.deref-2.ensures.value) at c.in_ok-add.ensures in
-    subst (λ (t : List (Option Gap)). AreGapsBelow c.args.edges.now c.args.vertices.now t) (sym whole) (record {
-      same_length = omega (arith, same, a, b);
-      each = λ r h. All-contains (λ r. IsFoundBelow c.args.edges.now (vertex_at c.args.vertices.now r) (best_at new r)) asked r
-          (found_all c.args.edges.now c.args.vertices.now asked c.in_ok-numbers.numbers.items c.deref_mut.result.now new c.in_ok-numbers.ensures.complete k) (c.in_ok-asked.ensures.complete r h);
+    let same : length short ≡ length old = taken.same_length ∙ ap length c.deref_mut.ensures.value in
+    let first = written_back n old short (omega (arith, a, same)) same in
+    let held : c.deref_mut-2.result.now ≡ short = c.deref_mut-2.ensures.value ∙ first in
+    let like : length new ≡ length short = c.in_ok-add.ensures.same_length ∙ ap length held in
+    let second = written_back n short new (omega (arith, a, same, like)) like in
+    let nearer = rw (c.deref.ensures.value, c.deref-2.ensures.value, held) at c.in_ok-add.ensures in
+    rw (first, second) (record {
+      same_length = omega (arith, same, like, a, b);
+      each = found_all c.args.edges.now c.args.vertices.now asked left c.deref_mut.result.now short new c.in_ok-asked.ensures.complete taken nearer;
     })

@@ -1,6 +1,7 @@
 use Rattle.std.proofs.Common.{◌≤◌, length, subst, sym}
 use Rattle.std.specs.Prelude.{All}
 use Rattle.geom.specs.Limit.{AreInLimit, InLimit}
+use Rattle.polygonize.specs.Column.{StandFromLeft}
 use Rattle.hands.specs.Consecutive.{ArePartsOf}
 use Rattle.hands.proofs.Consecutive.{each_part}
 use Rattle.polygonize.proofs.EdgesBelow.Searching.{parts_found}
@@ -10,8 +11,8 @@ pub map_parts-requires-after_bounds : goal.map_parts-requires-after_bounds
 map_parts-requires-after_bounds g c κs within =
     let vertices = c.args.vertices.now in
     let are = subst (ArePartsOf 0 (length vertices)) (sym c.deref.ensures.value) c.in_ok-all.ensures in
-    each_part (λ p. All (λ d. AreInLimit d.from d.to) c.args.edges.now × All InLimit vertices × (p.from ≤ p.past) × (p.past ≤ length vertices)) 0 (length vertices) c.deref.result.now are
-    (λ p low order inside. (c.requires.edges_in, c.requires.vertices_in, order, inside))
+    each_part (λ p. All (λ d. AreInLimit d.from d.to) c.args.edges.now × All InLimit vertices × StandFromLeft vertices × (p.from ≤ p.past) × (p.past ≤ length vertices)) 0 (length vertices) c.deref.result.now are
+    (λ p low order inside. (c.requires.edges_in, c.requires.vertices_in, c.requires.from_left, order, inside))
 
 pub returns : goal.returns
 returns g c =

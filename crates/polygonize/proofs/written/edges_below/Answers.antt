@@ -5,7 +5,9 @@ use Rattle.std.proofs.lemmas.Result.{IfOk-weaker}
 use Rattle.geom.specs.declared.point.Pt.{Pt}
 use Rattle.geom.specs.Limit.{InLimit}
 use Rattle.polygonize.specs.Below.{AreFoundBelow, StandAt}
+use Rattle.polygonize.specs.Column.{StandFromLeft}
 use Rattle.polygonize.proofs.EdgesBelow.Searching.{begin_in_limit, below_all}
+use Rattle.polygonize.proofs.EdgesBelow.Short.{begin_from_left}
 use Rattle.polygonize.proofs.WrittenRings.Cuts.{holes_known}
 use Rattle.polygonize.proofs.written.edges_below.Goals as goal
 
@@ -14,6 +16,12 @@ gaps_below-requires-clause-vertices_in g c =
     let holes = c.in_ok-holes.holes.items in
     let begins = rw c.deref.ensures.value at c.in_ok-vertices.ensures in
     subst (λ (vs : List Pt). All InLimit vs) (sym (c.deref-2.ensures.value ∙ begins)) (begin_in_limit c.args.edges.now c.args.cycles.now holes c.requires.edges_in c.requires.cycles (λ k d h. let i = c.in_ok-holes.ensures.inside k d h in let r = c.requires.cut.reaches in omega (arith, i, r)))
+
+pub gaps_below-requires-clause-from_left : goal.gaps_below-requires-clause-from_left
+gaps_below-requires-clause-from_left g c =
+    let holes = c.in_ok-holes.holes.items in
+    let begins = rw c.deref.ensures.value at c.in_ok-vertices.ensures in
+    subst StandFromLeft (sym (c.deref-2.ensures.value ∙ begins)) (begin_from_left c.args.edges.now c.args.cycles.now holes c.requires.directed c.requires.cycles c.requires.ascending c.in_ok-holes.ensures.ascend (λ k d h. let i = c.in_ok-holes.ensures.inside k d h in let r = c.requires.cut.reaches in omega (arith, i, r)))
 
 pub first_vertices-requires-clause-some : goal.first_vertices-requires-clause-some
 first_vertices-requires-clause-some g c = λ k d h. (c.requires.cycles k d h).some

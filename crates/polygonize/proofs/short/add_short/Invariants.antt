@@ -1,0 +1,7 @@
+use Rattle.std.proofs.Common.{◌<◌, length}
+use Rattle.std.specs.Prelude.{All}
+use Rattle.polygonize.specs.Below.{AreTakenBut}
+use Rattle.polygonize.proofs.short.add_short.Given as goal
+
+abbrev pub invariant-loop-number : goal.invariant-loop-number
+invariant-loop-number g l = All (λ k. k < length l.edges) l.left.items × AreTakenBut l.edges l.vertices l.number l.left.items l.initial.best l.best

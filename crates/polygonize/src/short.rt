@@ -1,0 +1,111 @@
+//! The edges that few vertices stand over, each taken into account by itself.
+//!
+//! 1. A binary search finds the first vertex right of an edge's left end. Those up to its right end stand from there on.
+//! 2. Where they are few, the edge is taken into account for each of them. The other edges are left, by their numbers.
+
+ghost use Rattle.std.specs.Prelude.{◌≡◌, ℕ, ◌<◌, ◌≤◌, ◌≤ℤ◌, ◌<ℤ◌, All, IfOk, IfSome, int_le, length};
+ghost use Rattle.geom.specs.Limit.{AreInLimit, InLimit, IsWithin, coordinate_limit};
+ghost use Rattle.polygonize.specs.Below.{AreKnown, AreNearerWithin, AreTakenBut, vertex_at};
+ghost use Rattle.polygonize.specs.Column.{StandFromLeft, StandsOver};
+
+use crate::below::{Gap, gap_below, nearer};
+use geom::{DirectedEdge, NoMemory, Pt};
+use hands::Part;
+use std::alloc::Allocator;
+
+/// An edge over so many vertices is left.
+const MANY: usize = 16;
+
+/// Whether a vertex stands in a column, or left of it.
+fn is_up_to(v: Pt, column: i32) -> bool
+    ensures { result ≡ int_le v.x column }
+{
+    v.x <= column
+}
+
+/// The place of the first vertex right of a column.
+fn first_past(vertices: &[Pt], column: i32) -> usize
+    requires from_left { StandFromLeft vertices.now }
+    requires column_in { IsWithin coordinate_limit column }
+    ensures inside { result ≤ length vertices.now }
+    ensures before { (r : ℕ) → r < result → (vertex_at vertices.now r).x ≤ℤ column }
+    ensures past { (r : ℕ) → result ≤ r → r < length vertices.now → column <ℤ (vertex_at vertices.now r).x }
+{
+    vertices.partition_point(|v| is_up_to(*v, column))
+}
+
+/// The same from a place on, where it isn't far.
+fn first_past_near(vertices: &[Pt], from: usize, column: i32) -> Option<usize>
+    requires from_left { StandFromLeft vertices.now }
+    requires column_in { IsWithin coordinate_limit column }
+    requires inside { from ≤ length vertices.now }
+    ensures inside { IfSome result (λ past. (from ≤ past) × (past ≤ length vertices.now)) }
+    ensures past { IfSome result (λ past. (r : ℕ) → past ≤ r → r < length vertices.now → column <ℤ (vertex_at vertices.now r).x) }
+{
+    let to = vertices.len().min(from.saturating_add(MANY));
+    for past in from..to {
+        if !is_up_to(vertices[past], column) {
+            return Some(past);
+        }
+    }
+    if to == vertices.len() { Some(to) } else { None }
+}
+
+/// The places of the vertices in whose columns an edge lies, where they aren't many.
+fn places_over(vertices: &[Pt], edge: DirectedEdge) -> Option<Part>
+    requires edge_in { AreInLimit edge.from edge.to }
+    requires from_left { StandFromLeft vertices.now }
+    ensures { IfSome result (λ part. StandsOver edge vertices.now part.from part.past) }
+{
+    let from = first_past(vertices, edge.from.x.min(edge.to.x));
+    let past = first_past_near(vertices, from, edge.from.x.max(edge.to.x))?;
+    Some(Part { from, past })
+}
+
+/// Takes an edge into account, for the vertices of a part.
+fn add_edge(
+    edges: &[DirectedEdge],
+    number: usize,
+    vertices: &[Pt],
+    part: Part,
+    best: &mut [Option<Gap>],
+)
+    requires edges_in { All (λ d. AreInLimit d.from d.to) edges.now }
+    requires vertices_in { All InLimit vertices.now }
+    requires number_in { number < length edges.now }
+    requires order { part.from ≤ part.past }
+    requires part_in { part.past ≤ length vertices.now }
+    requires same_length { length best.old ≡ length vertices.now }
+    requires known { AreKnown edges.now vertices.now best.old }
+    ensures { AreNearerWithin edges.now vertices.now number part.from part.past best.old best.new }
+{
+    for place in part.from..part.past {
+        let found = gap_below(edges[number], number, vertices[place]);
+        best[place] = nearer(best[place], found);
+    }
+}
+
+/// Takes the edges over few vertices into account, and answers the numbers of the others.
+pub fn add_short<A: Allocator>(
+    alloc: A,
+    edges: &[DirectedEdge],
+    vertices: &[Pt],
+    best: &mut [Option<Gap>],
+) -> Result<Vec<usize, A>, NoMemory>
+    requires edges_in { All (λ d. AreInLimit d.from d.to) edges.now }
+    requires vertices_in { All InLimit vertices.now }
+    requires from_left { StandFromLeft vertices.now }
+    requires same_length { length best.old ≡ length vertices.now }
+    requires known { AreKnown edges.now vertices.now best.old }
+    ensures inside { IfOk result (λ left. All (λ k. k < length edges.now) left.items) }
+    ensures taken { IfOk result (λ left. AreTakenBut edges.now vertices.now (length edges.now) left.items best.old best.new) }
+{
+    let mut left = Vec::new(alloc);
+    for number in 0..edges.len() {
+        match places_over(vertices, edges[number]) {
+            Some(part) => add_edge(edges, number, vertices, part, best),
+            None => left.push(number)?,
+        }
+    }
+    Ok(left)
+}
