@@ -48,7 +48,7 @@ pub fn spans(edge: DirectedEdge, columns: Columns) -> bool
 }
 
 /// Whether an edge begins left of one of the columns, and ends there or right of it.
-fn meets(edge: DirectedEdge, columns: Columns) -> bool
+pub fn meets(edge: DirectedEdge, columns: Columns) -> bool
     requires edge_in { AreInLimit edge.from edge.to }
     requires low_in { IsWithin coordinate_limit columns.low }
     requires high_in { IsWithin coordinate_limit columns.high }

@@ -1,14 +1,16 @@
 //! The edges that few vertices stand over, each taken into account by itself.
 //!
-//! 1. A binary search finds the first vertex right of an edge's left end. Those up to its right end stand from there on.
-//! 2. Where they are few, the edge is taken into account for each of them. The other edges are left, by their numbers.
+//! 1. An edge that doesn't meet the columns from the first vertex to the last one lies over none.
+//! 2. A binary search finds the first vertex right of an edge's left end. Those up to its right end stand from there on.
+//! 3. Where they are few, the edge is taken into account for each of them. The other edges are left, by their numbers.
 
 ghost use Rattle.std.specs.Prelude.{◌≡◌, ℕ, ◌<◌, ◌≤◌, ◌≤ℤ◌, ◌<ℤ◌, All, IfOk, IfSome, int_le, length};
 ghost use Rattle.geom.specs.Limit.{AreInLimit, InLimit, IsWithin, coordinate_limit};
 ghost use Rattle.polygonize.specs.Below.{AreKnown, AreNearerWithin, AreTakenBut, vertex_at};
-ghost use Rattle.polygonize.specs.Column.{StandFromLeft, StandsOver};
+ghost use Rattle.polygonize.specs.Column.{IsIn, StandFromLeft, StandsOver};
 
 use crate::below::{Gap, gap_below, nearer};
+use crate::column::{Columns, meets};
 use geom::{DirectedEdge, NoMemory, Pt};
 use hands::Part;
 use std::alloc::Allocator;
@@ -51,12 +53,33 @@ fn first_past_near(vertices: &[Pt], from: usize, column: i32) -> Option<usize>
     if to == vertices.len() { Some(to) } else { None }
 }
 
-/// The places of the vertices in whose columns an edge lies, where they aren't many.
-fn places_over(vertices: &[Pt], edge: DirectedEdge) -> Option<Part>
-    requires edge_in { AreInLimit edge.from edge.to }
+/// The columns from the first vertex to the last one.
+fn all_columns(vertices: &[Pt]) -> Columns
+    requires vertices_in { All InLimit vertices.now }
     requires from_left { StandFromLeft vertices.now }
+    requires some { 0 < length vertices.now }
+    ensures low_in { IsWithin coordinate_limit result.low }
+    ensures high_in { IsWithin coordinate_limit result.high }
+    ensures each { (r : ℕ) → r < length vertices.now → IsIn result (vertex_at vertices.now r) }
+{
+    Columns {
+        low: vertices[0].x,
+        high: vertices[vertices.len() - 1].x,
+    }
+}
+
+/// The places of the vertices in whose columns an edge lies, where they aren't many.
+fn places_over(vertices: &[Pt], all: Columns, edge: DirectedEdge) -> Option<Part>
+    requires edge_in { AreInLimit edge.from edge.to }
+    requires low_in { IsWithin coordinate_limit all.low }
+    requires high_in { IsWithin coordinate_limit all.high }
+    requires from_left { StandFromLeft vertices.now }
+    requires each { (r : ℕ) → r < length vertices.now → IsIn all (vertex_at vertices.now r) }
     ensures { IfSome result (λ part. StandsOver edge vertices.now part.from part.past) }
 {
+    if !meets(edge, all) {
+        return Some(Part { from: 0, past: 0 });
+    }
     let from = first_past(vertices, edge.from.x.min(edge.to.x));
     let past = first_past_near(vertices, from, edge.from.x.max(edge.to.x))?;
     Some(Part { from, past })
@@ -95,14 +118,16 @@ pub fn add_short<A: Allocator>(
     requires edges_in { All (λ d. AreInLimit d.from d.to) edges.now }
     requires vertices_in { All InLimit vertices.now }
     requires from_left { StandFromLeft vertices.now }
+    requires some { 0 < length vertices.now }
     requires same_length { length best.old ≡ length vertices.now }
     requires known { AreKnown edges.now vertices.now best.old }
     ensures inside { IfOk result (λ left. All (λ k. k < length edges.now) left.items) }
     ensures taken { IfOk result (λ left. AreTakenBut edges.now vertices.now (length edges.now) left.items best.old best.new) }
 {
+    let all = all_columns(vertices);
     let mut left = Vec::new(alloc);
     for number in 0..edges.len() {
-        match places_over(vertices, edges[number]) {
+        match places_over(vertices, all, edges[number]) {
             Some(part) => add_edge(edges, number, vertices, part, best),
             None => left.push(number)?,
         }

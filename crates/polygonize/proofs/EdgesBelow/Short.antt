@@ -14,15 +14,16 @@ use Rattle.geom.specs.Limit.{IsWithin, coordinate_limit}
 use Rattle.geom.specs.Order.{IsBefore}
 use Rattle.geom.proofs.Edges.{before_by_cases}
 use Rattle.geom.proofs.Integers.{linear}
-use Rattle.geom.proofs.Numbers.{itself, le_le}
+use Rattle.geom.proofs.Numbers.{itself, le_le, lt_le}
 use Rattle.geom.proofs.Tests.{le_told, le_yes}
 use Rattle.polygonize.specs.Below.{AreKnown, AreNearerWithin, AreTakenBut, IsAsNear, best_at, vertex_at}
-use Rattle.polygonize.specs.Column.{Meets, StandFromLeft, StandsOver, column_of}
+use Rattle.polygonize.specs.Column.{IsIn, Meets, StandFromLeft, StandsOver, column_of}
 use Rattle.polygonize.specs.Cycle.{Begins}
 use Rattle.polygonize.specs.CutRing.{Ascend}
 use Rattle.polygonize.specs.Next.{edge_at, first_vertex, nothing}
 use Rattle.polygonize.specs.Written.{ArePlaces}
 use Rattle.polygonize.specs.declared.below.Gap.{Gap}
+use Rattle.polygonize.specs.declared.column.Columns.{Columns}
 use Rattle.polygonize.proofs.EdgesBelow.Columns.{below_meets, meets_or_not}
 use Rattle.polygonize.proofs.EdgesBelow.Nearness.{nothing_below}
 use Rattle.polygonize.proofs.Numbers.{start_order}
@@ -58,6 +59,18 @@ stands_over d vertices from past low high e f o before after = record {
     elim (cases_lt r past) [ inl h ↦ h | inr h ↦ absurd (not_both high _ (after r h i) b.1) ],
   );
 }
+
+-- an edge that doesn't meet the columns of all vertices lies over none
+pub stands_over_none : (d : DirectedEdge) (vertices : List Pt) (all : Columns) → ((r : ℕ) → r < length vertices → IsIn all (vertex_at vertices r)) → ¬ (Meets d all) → StandsOver d vertices 0 0
+stands_over_none d vertices all each n = record {
+  ordered = omega arith;
+  inside = omega arith;
+  each = λ r i m. absurd (n (wider (vertex_at vertices r) (each r i) m));
+}
+  where
+    wider : (v : Pt) → IsIn all v → Meets d (column_of v) → Meets d all
+    wider v h (inl m) = inl (lt_le d.from.x v.x all.high m.0 h.1, le_le all.low v.x d.to.x h.0 m.1)
+    wider v h (inr m) = inr (lt_le d.to.x v.x all.high m.0 h.1, le_le all.low v.x d.from.x h.0 m.1)
 
 -- ---- one edge after another
 

@@ -1,5 +1,5 @@
 use Rattle.geom.proofs.Doubling.{back}
-use Rattle.polygonize.proofs.EdgesBelow.Short.{greatest_within, least_within, stands_over}
+use Rattle.polygonize.proofs.EdgesBelow.Short.{greatest_within, least_within, stands_over, stands_over_none}
 use Rattle.polygonize.proofs.short.places_over.Goals as goal
 
 pub first_past-from-requires-clause-column_in : goal.first_past-from-requires-clause-column_in
@@ -26,3 +26,6 @@ returns c =
     stands_over edge c.args.vertices.now c.first_past-from.result c.in_ok-past.past c.min.result c.max.result low high c.in_ok-past.ensures.inside
     (rw (back c.min.result (least_within _ _ c.min.result low c.requires.edge_in.a_in.x_in c.requires.edge_in.b_in.x_in)) at c.first_past-from.ensures.before)
     (rw (back c.max.result (greatest_within _ _ c.max.result high c.requires.edge_in.a_in.x_in c.requires.edge_in.b_in.x_in)) at c.in_ok-past.ensures.past)
+
+pub returns-then-not-meets : goal.returns-then-not-meets
+returns-then-not-meets c = stands_over_none c.args.edge c.args.vertices.now c.args.all c.requires.each (λ m. let a = c.meets.ensures.1 m in let b = c.if-not-meets.true in cc)
