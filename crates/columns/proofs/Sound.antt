@@ -137,9 +137,6 @@ many n h = grind (arith, nat_tests)
 few : (n : ℕ) → n < 4 → nat_lt n 4 ≡ true
 few n h = grind (arith, nat_tests)
 
-pub short_fault : (k : ℕ) (ring : List Pt) → length ring < 4 → ring_fault k ring ≡ Some (RingShort k)
-short_fault k ring h = ap (λ b. let o : Option ColumnsFault = cond b (Some (RingShort k)) (cond (is_closed ring) None (Some (RingOpen k))) in o) (few (length ring) h)
-
 pub closed_fault : (k n : ℕ) (ring : List Pt) (t : Bool) → length ring ≡ n → 4 ≤ n → is_closed ring ≡ t → ring_fault k ring ≡ (let o : Option ColumnsFault = cond t None (Some (RingOpen k)) in o)
 closed_fault k n ring t e long f =
     fault_is k n ring t e f

@@ -91,9 +91,6 @@ one_ring rings ring old new past h added offset at =
 
 -- ---- polygons, one after another
 
-pub no_polygons : {M : Type 0} (c : OwnedColumns M) → c.coordinates.items ≡ [] → c.rings.items ≡ 0 ∷ [] → c.polygons.items ≡ 0 ∷ [] → AreColumnsOf [] c
-no_polygons c e f g = record { have = record { points = e; offsets = f }; offsets = g }
-
 pub holes_more : {M : Type 0} (rings : List (List Pt)) (shell : List Pt) (holes : List (List Pt)) (hole : List Pt) (c : OwnedColumns M) → HaveRings ((rings ++ map closed (shell ∷ holes)) ++ closed hole ∷ []) c → HaveRings (rings ++ map closed (shell ∷ (holes ++ hole ∷ []))) c
 holes_more rings shell holes hole c h =
     subst (λ t. HaveRings t c) (append_assoc rings (map closed (shell ∷ holes)) (closed hole ∷ []) ∙ ap (λ t. rings ++ t) (sym (map-append closed (shell ∷ holes) (hole ∷ [])))) h

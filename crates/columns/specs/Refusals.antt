@@ -1,6 +1,6 @@
 -- The refusals of columns (own), in their order: points that aren't whole, offsets that fall or pass the end, a point outside the
 -- coordinate limit, a ring at fault. Of points and rings only those that the features reach are looked at.
-use Rattle.std.specs.Prelude.{◌≡◌, ℕ, ◌+◌, ◌-◌, ◌%◌, Bool, ◌||◌, ◌==◌, nat_lt, if◌then◌else◌, List, [], ◌∷◌, length, get_or, map, option_map, unsigned_abs, Option, Some, None}
+use Rattle.std.specs.Prelude.{◌≡◌, ℕ, ◌+◌, ◌-◌, ◌%◌, Bool, ◌||◌, ◌==◌, nat_lt, if◌then◌else◌, List, [], ◌∷◌, length, get_or, option_map, unsigned_abs, Option, Some, None}
 use Rattle.geom.specs.declared.point.Pt.{Pt}
 use Rattle.geom.specs.Limit.{coordinate_limit}
 use Rattle.wkt.specs.Refusals.{is_closed}
@@ -9,7 +9,7 @@ use Rattle.columns.specs.declared.layout.Points.TheVariants.{Interleaved, Separa
 use Rattle.columns.specs.declared.layout.Columns.{Columns}
 use Rattle.columns.specs.declared.fault.ColumnsFault.{ColumnsFault}
 use Rattle.columns.specs.declared.fault.ColumnsFault.TheVariants.{PointRange, RingShort, RingOpen, PointsUneven, FeatureOffset, PolygonOffset, RingOffset}
-use Rattle.columns.specs.Layout.{feature_rings_in, joined, plain, points_of, rings_in}
+use Rattle.columns.specs.Layout.{joined, points_of, rings_in}
 
 -- the first of two, if there is one, or the second
 abbrev pub or_else : {X : Type 0} → Option X → Option X → Option X
@@ -92,11 +92,3 @@ AreAccepted c = fault_of c ≡ None
 
 abbrev pub AreRefused : Columns → ColumnsFault → Type 0
 AreRefused c fault = fault_of c ≡ Some fault
-
--- the columns are accepted, and stand for these rings, whose first points are not repeated
-abbrev pub StandsForColumns : Columns → List (List Pt) → Type 0
-StandsForColumns c rings = AreAccepted c × (plain (rings_in c) ≡ rings)
-
--- and for these features, of which each has its rings
-abbrev pub StandsForColumnFeatures : Columns → List (List (List Pt)) → Type 0
-StandsForColumnFeatures c features = AreAccepted c × (map plain (feature_rings_in c) ≡ features)

@@ -1,6 +1,6 @@
 -- The box of all segments.
 use Rattle.std.proofs.Common.{◌≡◌, inl, inr, ℕ, zero, suc, false, ℤ, ◌+◌, ◌<◌, List, length, get_or, refl, sym, subst, arith}
-use Rattle.std.specs.Prelude.{◌≤ℤ◌, ◌==◌, Some}
+use Rattle.std.specs.Prelude.{◌≤ℤ◌, ◌==◌}
 use Rattle.std.specs.Int.{int_max, int_min}
 use Rattle.std.proofs.lemmas.Bool.{cases_lt}
 use Rattle.std.proofs.lemmas.Int.{ints, clamps}
@@ -12,7 +12,6 @@ use Rattle.geom.specs.declared.rect.Rect.{Rect}
 use Rattle.geom.specs.declared.segment.Seg.{Seg}
 use Rattle.geom.proofs.Numbers.{itself}
 use Rattle.geom.proofs.Lists.{some_same}
-use Rattle.grid.specs.Tiles.{BoundsHold}
 use Rattle.layers.specs.Segments.{AllInLimit}
 
 -- q is r with a point

@@ -96,7 +96,3 @@ module _ (texts : List (List ℕ)) (number : ℕ) (below : number < length texts
     left = still_left kept old new e none h.left;
     all = all;
   }
-
-pub all_listed : {M : Type 0} (texts : List (List ℕ)) (number : ℕ) (rest : List (Option (List (List (List Pt))))) (s : FeatureSegments M) → length texts ≤ number → IsListedTo texts number rest s
-    → (layers : List (List (List (List Pt)))) × StandForLayers texts layers × AreFeaturesOf layers s
-all_listed texts number rest s past h = (h.layers, subst (λ (ts : List (List ℕ)). StandForLayers ts h.layers) (take_all number texts past) h.stand, h.all)

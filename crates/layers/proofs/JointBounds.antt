@@ -1,10 +1,9 @@
 -- The bounds of two layers together.
-use Rattle.std.proofs.Common.{◌≡◌, ◌⊎◌, inl, inr, List, [], ◌∷◌, ◌++◌, sym, subst, arith, ⊎_elim}
+use Rattle.std.proofs.Common.{◌≡◌, ◌⊎◌, inl, inr, List, [], ◌∷◌, ◌++◌, arith, ⊎_elim}
 use Rattle.std.proofs.Math.IntN.{ℤ}
 use Rattle.std.specs.Prelude.{◌≤ℤ◌, Option, Some, None, IfSome}
 use Rattle.std.specs.Int.{int_min, int_max}
 use Rattle.std.proofs.lemmas.Int.{ints, clamps}
-use Rattle.std.proofs.lemmas.List.{append-nil}
 use Rattle.geom.specs.Bounds.{HoldsSteps, IsBox}
 use Rattle.geom.specs.Box.{IsInBox}
 use Rattle.geom.specs.Limit.{AreInLimit, IsWithin, coordinate_limit}
@@ -14,7 +13,7 @@ use Rattle.geom.proofs.Lists.{In, contains_in, in_contains, in_append}
 use Rattle.geom.specs.declared.segment.Seg.{Seg}
 use Rattle.std.proofs.lemmas.List.Elements.{Contains-append_cases}
 use Rattle.grid.specs.Tiles.{AreBounds, BoundsHold}
-use Rattle.layers.specs.Grids.{AreBoundsOf, AreJointBounds}
+use Rattle.layers.specs.Grids.{AreJointBounds}
 
 append_in : {X : Type 0} (xs ys : List X) (x : X) → In x xs ⊎ In x ys → In x (xs ++ ys)
 append_in [] ys x (inl i) = absurd i
@@ -104,15 +103,6 @@ module _ (r s q : Rect) (j : IsJoined r s q) where
 
   pub both_bounds : AreJointBounds (Some r) (Some s) (Some q)
   both_bounds = joined_box
-
-first_alone : (xs ys : List (Pt × Pt)) (r : Rect) → IsBox xs r → ys ≡ [] → IsBox (xs ++ ys) r
-first_alone xs ys r h e = subst (λ (zs : List (Pt × Pt)). IsBox (xs ++ zs) r) (sym e) (subst (λ (zs : List (Pt × Pt)). IsBox zs r) (sym (append-nil xs)) h)
-
-pub first_bounds : (r : Rect) → AreJointBounds (Some r) None (Some r)
-first_bounds r = λ xs ys h e. first_alone xs ys r h e
-
-pub second_bounds : (other : Option Rect) → AreJointBounds None other other
-second_bounds other = λ xs ys e h. subst (λ (zs : List (Pt × Pt)). AreBoundsOf (zs ++ ys) other) (sym e) h
 
 -- ---- in the coordinate limit
 

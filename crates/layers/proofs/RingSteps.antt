@@ -8,8 +8,7 @@ use Rattle.std.proofs.lemmas.Grind.{flat_map-append}
 use Rattle.geom.specs.declared.point.Pt.{Pt}
 use Rattle.geom.specs.declared.segment.Seg.{Seg}
 use Rattle.geom.specs.declared.segment.Source.{Source}
-use Rattle.geom.specs.declared.segment.Source.TheVariants.{A, B}
-use Rattle.geom.specs.Segments.{AreSegments, neighbours, parts, ring_steps, same_point, tagged}
+use Rattle.geom.specs.Segments.{neighbours, parts, ring_steps, same_point, tagged}
 use Rattle.layers.specs.Segments.{HasSteps, proper}
 
 proper-append : (layer : Source) (xs ys : List (Pt × Pt)) → proper layer (xs ++ ys) ≡ proper layer xs ++ proper layer ys
@@ -26,10 +25,6 @@ pub more_steps : (layer : Source) (xs ys : List (Pt × Pt)) (old mid new : List 
 more_steps layer xs ys old mid new h k =
     k ∙ ap (λ t. t ++ proper layer ys) h ∙ append_assoc (map parts old) (proper layer xs) (proper layer ys) ∙ ap (λ t. map parts old ++ t) (sym (proper-append layer xs ys))
 
--- both layers, the first of them first
-pub both_layers : (a b : List (List Pt)) (mid new : List Seg) → HasSteps A (flat_map ring_steps a) [] mid → HasSteps B (flat_map ring_steps b) mid new → AreSegments a b new
-both_layers a b mid new h k = k ∙ ap (λ t. t ++ proper B (flat_map ring_steps b)) h
-
 -- ---- neighbours
 
 front_more : (ps : List Pt) (i : ℕ) (d : Pt) → suc i < length ps → neighbours (take (suc (suc i)) ps) ≡ neighbours (take (suc i) ps) ++ (get_or ps i d, get_or ps (suc i) d) ∷ []
@@ -45,10 +40,6 @@ next_step ps (suc i) d h k =
     let e : suc i + 1 ≡ suc (suc i) = omega arith in
     let f : suc i - 1 ≡ i = omega arith in
     ap (λ n. neighbours (take n ps)) e ∙ front_more ps i d k ∙ ap (λ n. neighbours (take (suc i) ps) ++ (get_or ps n d, get_or ps (suc i) d) ∷ []) (sym f)
-
-pub first_step : (ps : List Pt) → 1 ≤ length ps → neighbours (take 1 ps) ≡ []
-first_step [] h = absurd (omega arith)
-first_step (a ∷ ps) h = refl
 
 then_last : (a : Pt) (ps : List Pt) (z d : Pt) → neighbours (a ∷ ps ++ z ∷ []) ≡ neighbours (a ∷ ps) ++ (get_or (a ∷ ps) (length ps) d, z) ∷ []
 then_last a [] z d = refl

@@ -28,9 +28,6 @@ use Rattle.polygonize.proofs.Walking.{Walking, begun, ended, one_fewer, onward}
 abbrev pub LeaveApartBefore : List DirectedEdge → ℕ → Type 0
 LeaveApartBefore ds n = (k : ℕ) → k < n → k < length ds → IsVertex ds k
 
-pub one_apart : (ds : List DirectedEdge) → LeaveApartBefore ds 1
-one_apart ds k h l = record { inside = l; first = λ m j. absurd (omega (arith, h, j)) }
-
 pub more_apart : (ds : List DirectedEdge) → AreDirected ds → (n : ℕ) → 1 ≤ n → (edge_at ds (n - 1)).from ≢ (edge_at ds n).from → LeaveApartBefore ds n → LeaveApartBefore ds (n + 1)
 more_apart ds a n some apart b k h l = elim (cases_lt k n) [
   | inl before ↦ b k before l
