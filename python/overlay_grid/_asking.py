@@ -2,12 +2,14 @@
 
 from __future__ import annotations
 
+import sys
+import warnings
 from typing import Any, Callable, Dict, List, NamedTuple, Optional, Sequence, Tuple, TypeVar
 
 from ._calls import CALLS, MOST_SEGMENTS, Operation, faces_of, layer_name, text_of
 from ._columns import lines_on, polygons_of
 from ._faults import Refused
-from ._grid import FINEST, Frame, Origin, Unit, frame_at, frame_for, joined
+from ._grid import FINEST, FINEST_DEGREES, Frame, Origin, Unit, frame_at, frame_for, joined
 from ._kinds import Answerer, Given, answer_of, arrays_answer, given, told_at
 from ._rows import Line, lines_of
 from ._shapes import Polygons, Shapes
@@ -39,9 +41,26 @@ class Plan(NamedTuple):
         return MOST_SEGMENTS if self.segments is None else self.segments
 
 
+def warn(words: str) -> None:
+    """Warns whoever called the package."""
+    level, caller = 1, sys._getframe()
+    while caller.f_back and caller.f_globals.get("__package__") == __package__:
+        level, caller = level + 1, caller.f_back
+    warnings.warn(words, UserWarning, stacklevel=level)
+
+
+def unit_for(systems: Sequence[Any]) -> Unit:
+    """The unit where none is said: by the first reference system that is told."""
+    told = next((system for system in systems if system is not None), None)
+    return FINEST_DEGREES if getattr(told, "is_geographic", False) else FINEST
+
+
 def frame_of(layers: Sequence[Given], plan: Plan) -> Frame:
-    """The frame for some layers; a point that has no room on it is refused."""
-    unit = FINEST if plan.grid is None else plan.grid
+    """The frame for some layers; a point that has no room on it is refused, and reference systems that differ are warned of."""
+    systems = [system for layer in layers for system in layer.systems]
+    if any(system != systems[0] for system in systems):
+        warn("the reference systems of the layers differ, and coordinates are taken as they are")
+    unit = unit_for(systems) if plan.grid is None else plan.grid
     box = joined([layer.held.box() for layer in layers])
     frame = frame_for(unit, box) if plan.origin is None else frame_at(unit, plan.origin)
     if box is None or frame.fits(box):

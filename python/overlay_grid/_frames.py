@@ -8,21 +8,16 @@
 
 from __future__ import annotations
 
-import warnings
-from decimal import Decimal
 from math import isnan
 from typing import Any, Dict, Iterable, List, Optional, Sequence, Tuple
 
 from ._asking import Plan, rows_of
-from ._grid import FINEST, Frame, Origin, Unit
-from ._kinds import Given, answer_of, shapes_of, wkb_answer
+from ._grid import Frame, Origin, Unit
+from ._kinds import Given, answer_of, shapes_of, systems_of, wkb_answer
 from ._optional import module
 from ._rows import Line
 from ._shapes import Polygons
 from ._uniting import united
-
-# The unit where none is said and coordinates are degrees: about a decimetre.
-FINEST_DEGREES = Decimal("0.000001")
 
 HOWS = ("intersection", "union", "identity", "symmetric_difference", "difference")
 SUFFIXES = ("_1", "_2")
@@ -67,20 +62,12 @@ def series_of(made: Sequence[bytes], like: Any) -> Any:
 
 def features_of(df: Any, name: str) -> Given:
     """A frame's geometries as a layer."""
-    return Given(shapes_of(df.geometry.to_wkb().tolist(), name), True, wkb_answer)
-
-
-def unit_for(df: Any, grid: Optional[Unit]) -> Unit:
-    """The unit that was said, or one for the frame's reference system."""
-    if grid is not None:
-        return grid
-    return FINEST_DEGREES if df.crs is not None and df.crs.is_geographic else FINEST
+    return Given(shapes_of(df.geometry.to_wkb().tolist(), name), True, wkb_answer, systems_of(df))
 
 
 def faces_on(frames: Sequence[Tuple[Any, str]], grid: Optional[Unit], origin: Optional[Origin]) -> Tuple[List[Line], Frame]:
     """The faces of frames' features, and how they came to the grid."""
-    layers = [features_of(df, name) for df, name in frames]
-    return rows_of(layers, Plan(grid=unit_for(frames[0][0], grid), origin=origin))
+    return rows_of([features_of(df, name) for df, name in frames], Plan(grid=grid, origin=origin))
 
 
 def overlay(
@@ -101,8 +88,6 @@ def overlay(
             raise TypeError(f"{name}: a {type(df).__name__} is no GeoDataFrame")
         if not make_valid and not df.geometry.dropna().is_valid.all():
             raise ValueError(f"{name} has geometries that aren't valid, and make_valid is False")
-    if df1.crs is not None and df2.crs is not None and df1.crs != df2.crs:
-        warnings.warn("the reference systems of both frames differ, and coordinates are taken as they are", UserWarning, stacklevel=3)
     lines, frame = faces_on(((df1, "df1"), (df2, "df2")), grid, origin)
     pairs, firsts, seconds = parts_of(lines, frame)
     if how == "difference":

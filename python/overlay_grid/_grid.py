@@ -31,6 +31,9 @@ LIMIT = 1 << 28
 # The unit where none is said: a millimetre where coordinates are metres.
 FINEST = Decimal("0.001")
 
+# And where coordinates are degrees: about a decimetre.
+FINEST_DEGREES = Decimal("0.000001")
+
 # An origin that is chosen is a multiple of so many units where that leaves room.
 ROUND_ORIGIN = 1000
 

@@ -81,12 +81,13 @@ def answer_of(answer: Answerer, polygons: Polygons, frame: Frame) -> Any:
 
 
 class Given(NamedTuple):
-    """A layer that was given: what it holds, whether it covers what any of its features covers (else it is read by parity), and what
-    makes an answer of its kind, which a list without geometries doesn't tell."""
+    """A layer that was given: what it holds, whether it covers what any of its features covers (else it is read by parity), what makes
+    an answer of its kind, which a list without geometries doesn't tell, and its reference system: of a frame or a series one, or None."""
 
     held: Union[Shapes, Text]
     covered: bool
     answer: Optional[Answerer]
+    systems: Tuple[Any, ...] = ()
 
 
 def is_geometry(value: Any) -> bool:
@@ -134,7 +135,12 @@ def given(layer: Any, name: str) -> Given:
     answer = kind_of(next((feature for feature in features if feature is not None), None))
     if answer in (text_answer, bytes_answer):
         return Given(joined_texts(features, name), True, answer)
-    return Given(shapes_of(features, name), True, answer)
+    return Given(shapes_of(features, name), True, answer, systems_of(layer))
+
+
+def systems_of(layer: Any) -> Tuple[Any, ...]:
+    """The reference system of a frame or a series, which is None where it has none; nothing of other lists."""
+    return (layer.crs,) if hasattr(layer, "crs") else ()
 
 
 def list_of(layer: Any, name: str) -> List[Any]:

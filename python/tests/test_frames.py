@@ -136,13 +136,56 @@ def test_units():
     assert len(overlay_grid.overlay(fine, other)) == 0
 
 
+@pytest.mark.parametrize("layer", [lambda df: df, lambda df: df.geometry, lambda df: df.geometry.values], ids=["frame", "series", "array"])
+def test_units_of_degrees(layer):
+    """Frames and series in degrees have a finer unit by themselves in all calls, and where only one of two tells its system."""
+    fine = geopandas.GeoDataFrame({"a": [1]}, geometry=[box(0, 0, 0.0004, 1)], crs="EPSG:4326")
+    plain = geopandas.GeoDataFrame({"b": [1]}, geometry=[box(0, 0, 1, 1)])
+    degrees, unknown = layer(fine), layer(plain)
+    with warnings.catch_warnings():
+        warnings.simplefilter("ignore")
+        for a, b in ((degrees, degrees), (unknown, degrees), (degrees, unknown)):
+            assert overlay_grid.intersection(a, b).equals(box(0, 0, 0.0004, 1))
+            assert ((1,), (1,)) in [face.ids for face in overlay_grid.faces(a, b)]
+        assert overlay_grid.faces(degrees)[0].geometry.equals(box(0, 0, 0.0004, 1))
+        assert len(overlay_grid.edges(degrees, [])) == 4
+        assert overlay_grid.intersection(degrees, unknown, grid=0.001).is_empty
+
+
+def test_units_of_frames_of_which_one_has_a_system():
+    fine = geopandas.GeoDataFrame({"a": [1]}, geometry=[box(0, 0, 0.0004, 1)])
+    other = geopandas.GeoDataFrame({"b": [1]}, geometry=[box(0, 0, 1, 1)], crs="EPSG:4326")
+    with pytest.warns(UserWarning, match="reference systems"):
+        assert len(overlay_grid.overlay(fine, other)) == 1
+
+
+def test_reference_systems_of_layers():
+    """Layers whose systems differ are warned of at the caller's line, and what tells no system isn't."""
+    df1, df2 = worked()
+    metres, others = df1.set_crs("EPSG:25832"), df2.set_crs("EPSG:25833")
+    calls = [overlay_grid.union, overlay_grid.faces, overlay_grid.edges, overlay_grid.overlay]
+    for call in [*calls, lambda a, b: overlay_grid.overlay(overlay_grid.Operation.UNION, a, b)]:
+        for a, b in ((metres, others), (metres, df2), (df1, others)):
+            with pytest.warns(UserWarning, match="reference systems") as told:
+                call(a, b)
+            assert [warning.filename for warning in told] == [__file__]
+    with warnings.catch_warnings():
+        warnings.simplefilter("error")
+        for call in calls:
+            call(metres, metres)
+        overlay_grid.union(metres.geometry, list(df2.geometry))
+        overlay_grid.faces(df1, [box(0, 0, 1, 1)])
+
+
 @pytest.mark.parametrize("how", HOWS)
 def test_reference_systems(how):
     df1, df2 = worked()
     with pytest.warns(UserWarning, match="reference systems"):
         found = overlay_grid.overlay(df1.set_crs("EPSG:25832"), df2.set_crs("EPSG:25833"), how)
     same(found, theirs(df1, df2, how=how).set_crs("EPSG:25832"))
-    same(overlay_grid.overlay(df1.set_crs("EPSG:25832"), df2, how), theirs(df1, df2, how=how).set_crs("EPSG:25832"))
+    with pytest.warns(UserWarning, match="reference systems"):
+        found = overlay_grid.overlay(df1.set_crs("EPSG:25832"), df2, how)
+    same(found, theirs(df1, df2, how=how).set_crs("EPSG:25832"))
 
 
 @pytest.mark.parametrize("how", HOWS)
