@@ -4,7 +4,7 @@ from __future__ import annotations
 
 import sys
 import warnings
-from typing import Any, Callable, Dict, List, NamedTuple, Optional, Sequence, Tuple, TypeVar
+from typing import Any, Callable, Dict, List, NamedTuple, Optional, Sequence, Set, Tuple, TypeVar
 
 from ._calls import CALLS, MOST_SEGMENTS, Operation, faces_of, layer_name, text_of
 from ._columns import lines_on, polygons_of
@@ -17,6 +17,9 @@ from ._texts import Text
 from ._uniting import united
 
 Result = TypeVar("Result")
+
+# How many features a warning tells.
+TOLD = 5
 
 # Which rows an operation has, by whether each layer has their points.
 CHOICES: Dict[int, Callable[[bool, bool], bool]] = {
@@ -131,6 +134,18 @@ def faces_on(layers: Sequence[Given], frame: Frame, plan: Plan) -> List[Line]:
 
 
 def rows_of(layers: Sequence[Given], plan: Plan) -> Tuple[List[Line], Frame]:
-    """The faces of layers, and the frame that leads back."""
+    """The faces of layers, and the frame that leads back; features of which no face is left are warned of."""
     frame = frame_of(layers, plan)
-    return faces_on(layers, frame, plan), frame
+    rows = faces_on(layers, frame, plan)
+    for number, layer in enumerate(layers):
+        if isinstance(layer.held, Shapes):
+            warn_of_lost(layer.held, {feature for row in rows for feature in row.ids[number]})
+    return rows, frame
+
+
+def warn_of_lost(held: Shapes, left: Set[int]) -> None:
+    """Warns of features that have polygons, and of which the grid leaves nothing."""
+    lost = [number for number, polygons in enumerate(held.features, 1) if polygons and number not in left]
+    if lost:
+        more = ", .." if len(lost) > TOLD else ""
+        warn(f"{held.layer}: the grid leaves nothing of {len(lost)} of {len(held.features)} features: {', '.join(map(str, lost[:TOLD]))}{more}")

@@ -26,6 +26,7 @@ def wanted(*layers):
     return [(row.twice_area, row.ids, wkb_of(row.wkt)) for row in overlay_grid.faces(*layers)]
 
 
+@pytest.mark.filterwarnings("ignore:.*the grid leaves nothing")
 @pytest.mark.parametrize("seed", range(60))
 def test_rows(seed):
     a, b = pairs.pair(seed)

@@ -133,7 +133,8 @@ def test_units():
     other = geopandas.GeoDataFrame({"b": [1]}, geometry=[box(0, 0, 1, 1)], crs="EPSG:4326")
     assert overlay_grid.overlay(fine, other).geometry.iloc[0].equals(box(0, 0, 0.0004, 1))
     fine.crs = other.crs = None
-    assert len(overlay_grid.overlay(fine, other)) == 0
+    with pytest.warns(UserWarning, match="df1: the grid leaves nothing of 1 of 1 features: 1"):
+        assert len(overlay_grid.overlay(fine, other)) == 0
 
 
 @pytest.mark.parametrize("layer", [lambda df: df, lambda df: df.geometry, lambda df: df.geometry.values], ids=["frame", "series", "array"])
@@ -186,6 +187,26 @@ def test_reference_systems(how):
     with pytest.warns(UserWarning, match="reference systems"):
         found = overlay_grid.overlay(df1.set_crs("EPSG:25832"), df2, how)
     same(found, theirs(df1, df2, how=how).set_crs("EPSG:25832"))
+
+
+def test_features_that_the_grid_leaves_nothing_of():
+    """They are told by their numbers, and features without polygons aren't."""
+    small = [box(k, 0, k + 0.001, 1) for k in range(7)]
+    df = geopandas.GeoDataFrame({"k": ["a"] * 9}, geometry=[None, *small[:3], box(0, 0, 9, 9), *small[3:]])
+    whole = geopandas.GeoDataFrame({"b": [1]}, geometry=[box(0, 0, 5, 5)])
+    told = "the grid leaves nothing of 7 of 9 features: 2, 3, 4, 6, 7, .."
+    for name, call in (
+        ("df1", lambda: overlay_grid.overlay(df, whole, grid=1)),
+        ("df2", lambda: overlay_grid.overlay(whole, df, "difference", grid=1)),
+        ("df", lambda: overlay_grid.dissolve(df, by="k", grid=1)),
+        ("B", lambda: overlay_grid.faces(whole, df, grid=1)),
+    ):
+        with pytest.warns(UserWarning) as warned:
+            call()
+        assert [(str(one.message), one.filename) for one in warned] == [(f"{name}: {told}", __file__)]
+    with warnings.catch_warnings():
+        warnings.simplefilter("error")
+        overlay_grid.overlay(df, whole, grid=0.001)
 
 
 @pytest.mark.parametrize("how", HOWS)
