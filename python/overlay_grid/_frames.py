@@ -12,6 +12,7 @@ from math import isnan
 from typing import Any, Dict, Iterable, List, Optional, Sequence, Tuple
 
 from ._asking import Plan, rows_of
+from ._faults import GeometryError
 from ._grid import Frame, Origin, Unit
 from ._kinds import Given, answer_of, shapes_of, systems_of, wkb_answer
 from ._optional import module
@@ -84,15 +85,16 @@ def overlay(
     if how not in HOWS:
         raise ValueError(f"`how` was '{how}' but is expected to be in {list(HOWS)}")
     for df, name in ((df1, "df1"), (df2, "df2")):
-        if not (hasattr(df, "columns") and hasattr(df, "geometry")):
-            raise TypeError(f"{name}: a {type(df).__name__} is no GeoDataFrame")
-        if not make_valid and not df.geometry.dropna().is_valid.all():
-            raise ValueError(f"{name} has geometries that aren't valid, and make_valid is False")
+        check_frame(df, name)
+        if not make_valid:
+            check_valid(df, name)
+        if how != "difference":
+            check_columns(df, name)
     lines, frame = faces_on(((df1, "df1"), (df2, "df2")), grid, origin)
     pairs, firsts, seconds = parts_of(lines, frame)
     if how == "difference":
-        result = difference(df1, firsts)
-    elif how == "intersection":
+        return difference(df1, firsts).reset_index(drop=True)
+    if how == "intersection":
         result = intersection(df1, df2, pairs)
     elif how == "symmetric_difference":
         result = symmetric_difference(df1, df2, firsts, seconds)
@@ -100,7 +102,29 @@ def overlay(
         result = union(df1, df2, pairs, firsts, seconds)
     if how == "identity":
         result = result[result[KEYS[0]].notnull()]
-    return result.drop(columns=[key for key in KEYS if key in result.columns]).reset_index(drop=True)
+    return result.drop(columns=KEYS).reset_index(drop=True)
+
+
+def check_frame(df: Any, name: str) -> None:
+    """Refuses what is no frame with geometries."""
+    if not (hasattr(df, "columns") and hasattr(df, "to_crs")):
+        raise TypeError(f"{name}: a {type(df).__name__} is no GeoDataFrame")
+    if not hasattr(df, "geometry"):
+        raise TypeError(f"{name}: a GeoDataFrame without a column of geometries, which set_geometry names")
+
+
+def check_valid(df: Any, name: str) -> None:
+    """Refuses a geometry that isn't valid."""
+    valid = (df.geometry.is_valid.to_numpy() | df.geometry.isna().to_numpy()).tolist()
+    if not all(valid):
+        raise GeometryError("isn't valid, and make_valid is False", name, valid.index(False) + 1)
+
+
+def check_columns(df: Any, name: str) -> None:
+    """Refuses columns that are called as those that join the parts of an answer."""
+    for key in KEYS:
+        if key in df.columns:
+            raise ValueError(f"{name}: a column is called {key!r}, as one that joins the rows of both frames")
 
 
 def parts_of(lines: Iterable[Line], frame: Frame) -> Tuple[Parts, Parts, Parts]:
@@ -183,6 +207,7 @@ def union(df1: Any, df2: Any, pairs: Parts, firsts: Parts, seconds: Parts) -> An
 def dissolve(df: Any, said: Dict[str, Any], grid: Optional[Unit], origin: Optional[Origin]) -> Any:
     """See overlay_grid.dissolve. GeoPandas makes the groups and their values, as it is said, of points that tell the numbers of features."""
     geopandas = module("geopandas")
+    check_frame(df, "df")
     lines, frame = faces_on(((df, "df"),), grid, origin)
     name, count = df.geometry.name, len(df)
     marked = df.copy()

@@ -8,7 +8,7 @@ from __future__ import annotations
 
 import sys
 from itertools import islice
-from typing import Any, Callable, Dict, Iterable, List, NamedTuple, Optional, Sequence, Tuple, Union
+from typing import Any, Callable, Dict, Iterable, List, Mapping, NamedTuple, Optional, Sequence, Tuple, Union
 
 from . import _wkb
 from ._faults import GeometryError, Refused
@@ -145,12 +145,15 @@ def systems_of(layer: Any) -> Tuple[Any, ...]:
 
 def list_of(layer: Any, name: str) -> List[Any]:
     """The features of a layer that is a list, an array, a series or a frame of geometries."""
-    if hasattr(layer, "columns") and hasattr(layer, "geometry"):
+    if hasattr(layer, "columns"):
+        if not hasattr(layer, "geometry"):
+            raise TypeError(f"{name}: a {type(layer).__name__} without a column of geometries is no layer")
         layer = layer.geometry
-    try:
+    if is_array(layer) and (layer.ndim != 1 or layer.dtype.kind not in "OSU"):
+        raise TypeError(f"{name}: an array of shape {layer.shape} and type {layer.dtype} is no layer")
+    if isinstance(layer, Iterable) and not isinstance(layer, Mapping):
         return list(layer)
-    except TypeError as error:
-        raise TypeError(f"{name}: a {type(layer).__name__} is no layer") from error
+    raise TypeError(f"{name}: a {type(layer).__name__} is no layer")
 
 
 def joined_texts(features: Iterable[Any], name: str) -> Text:

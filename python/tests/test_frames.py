@@ -242,8 +242,10 @@ def test_refused():
         overlay_grid.dissolve(lines)
     bow = geopandas.GeoDataFrame({"a": [1]}, geometry=[Polygon([(0, 0), (1, 1), (1, 0), (0, 1)])])
     assert len(overlay_grid.overlay(bow, df2, "difference")) == 1
-    with pytest.raises(ValueError, match="make_valid is False"):
-        overlay_grid.overlay(bow, df2, make_valid=False)
+    mixed = geopandas.GeoDataFrame({"a": [1, 2, 3]}, geometry=[None, box(0, 0, 1, 1), bow.geometry[0]], index=[5, 5, 5])
+    with pytest.raises(GeometryError, match="^df2: feature 3: isn't valid, and make_valid is False"):
+        overlay_grid.overlay(df1, mixed, make_valid=False)
+    assert len(overlay_grid.overlay(df1, mixed[:2], make_valid=False)) == 1
     holed = box(0, 0, 9, 9).difference(box(1, 1, 2, 2))
     lost = Polygon(holed.exterior.coords, [[(1, 1), (float("nan"), 1), (2, 2), (1, 1)]])
     with pytest.raises(GeometryError, match="^df2: feature 3, polygon 2: a coordinate is no finite number") as fault:
@@ -252,6 +254,36 @@ def test_refused():
     far = geopandas.GeoDataFrame({"a": [1]}, geometry=[box(0, 0, 1e12, 1)])
     with pytest.raises(GeometryError, match="^df1: feature 1, polygon 1: reaches 1e\\+12"):
         overlay_grid.overlay(far, df2)
+
+
+def test_no_frames():
+    """What has no geometries is told by its name, by each call."""
+    df1, df2 = worked()
+    table = pandas.DataFrame({"geometry": df1.geometry})
+    bare = geopandas.GeoDataFrame({"a": [1]})
+    for wrong, words in ((table, "a DataFrame is no GeoDataFrame"), ([1], "a list is no GeoDataFrame"), (bare, "a GeoDataFrame without a column")):
+        with pytest.raises(TypeError, match=f"^df1: {words}"):
+            overlay_grid.overlay(wrong, df2)
+        with pytest.raises(TypeError, match=f"^df: {words}"):
+            overlay_grid.dissolve(wrong)
+    for wrong in (bare, pandas.DataFrame({"a": [1]})):
+        with pytest.raises(TypeError, match="^B: a .*DataFrame without a column of geometries is no layer"):
+            overlay_grid.faces(df1, wrong)
+    assert len(overlay_grid.faces(table)) == 2
+
+
+@pytest.mark.parametrize("how", HOWS)
+def test_columns_called_as_those_that_join(how):
+    """No column is lost or taken for another one."""
+    df1, df2 = worked()
+    df1["__idx1"], df2["__idx2"] = 7, 8
+    if how == "difference":
+        assert overlay_grid.overlay(df1, df2, how)["__idx1"].tolist() == [7, 7]
+    else:
+        with pytest.raises(ValueError, match="^df1: a column is called '__idx1'"):
+            overlay_grid.overlay(df1, df2, how)
+        with pytest.raises(ValueError, match="^df2: a column is called '__idx2'"):
+            overlay_grid.overlay(df2.rename(columns={"__idx2": "a"}), df2, how)
 
 
 PLANS = [

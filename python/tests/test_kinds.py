@@ -246,8 +246,8 @@ def test_off_the_grid():
 
 
 def test_no_layers():
-    for wrong in (None, 5, object()):
-        with pytest.raises(TypeError, match="is no layer"):
+    for wrong in (None, 5, object(), {"type": "Polygon", "coordinates": []}):
+        with pytest.raises(TypeError, match="^B: a .* is no layer"):
             overlay_grid.union([], wrong)
     with pytest.raises(GeometryError, match="A: feature 1: a int is no polygon"):
         overlay_grid.union([5], [])
@@ -257,6 +257,13 @@ def test_no_layers():
         overlay_grid.union([wkb_of(multi(A)), A], [])
     with pytest.raises(ValueError, match="^grid: "):
         overlay_grid.union(A, B, grid=0)
+
+
+@pytest.mark.parametrize("kind", ["bool", "complex", "object", "datetime64[s]", "U9"])
+def test_arrays_of_no_numbers(kind):
+    numpy = pytest.importorskip("numpy")
+    with pytest.raises(TypeError, match=r"^A: an array of shape \(4, 2\) and type .* is no layer"):
+        overlay_grid.union(numpy.zeros((4, 2), kind), [])
 
 
 def test_limits_of_segments():
