@@ -197,6 +197,9 @@ GEOMETRIES = [
     (wkb_of(multi(A)), struct.pack("<BII", 1, 7, 1) + wkb_of(multi(B)), "A: feature 2: a GeometryCollection is no polygon", None),
     (wkb_of(multi(A)), wkb_of(multi(B))[:-1], "A: feature 2: is WKB that isn't whole", None),
     (wkb_of(multi(A)), wkb_of(multi(B))[:7], "A: feature 2: is WKB that isn't whole", None),
+    (wkb_of(multi(A)), wkb_of(multi(A)) + b"\0", "A: feature 2: is WKB that goes on behind its end, by 1 of 94 bytes", None),
+    (None, wkb_of("MULTIPOLYGON EMPTY") + wkb_of(multi(A)), "A: feature 2: is WKB that goes on behind its end, by 93 of 102 bytes", None),
+    (None, wkb_of(multi(A), ">") + wkb_of(multi(B)), "A: feature 2: is WKB that goes on behind its end, by 93 of 186 bytes", None),
     (None, wkb_of("MULTIPOLYGON (((0 0, nan 0, 1 1, 0 0)))"), "A: feature 2, polygon 1: a coordinate is no finite number: nan", 1),
     (
         wkb_of(multi(A)),
