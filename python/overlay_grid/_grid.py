@@ -21,7 +21,7 @@ from functools import lru_cache
 from itertools import count
 from math import floor
 from operator import sub
-from typing import Any, Callable, List, NamedTuple, Optional, Sequence, Tuple, Union
+from typing import Any, Callable, Hashable, List, NamedTuple, Optional, Sequence, Tuple, Union
 
 from ._optional import numpy_for
 
@@ -85,9 +85,16 @@ def decimal(number: Unit, name: str) -> Decimal:
     return held
 
 
-@lru_cache(maxsize=64, typed=True)
 def unit_of(unit: Unit) -> Tuple[int, int]:
     """A unit as a whole number, and the number of decimal places by which that is to be divided."""
+    if not isinstance(unit, Hashable):
+        raise TypeError("grid is a number")
+    return unit_kept(unit)
+
+
+@lru_cache(maxsize=64, typed=True)
+def unit_kept(unit: Unit) -> Tuple[int, int]:
+    """The same, kept for the next calls."""
     held = decimal(unit, "grid")
     if held <= 0:
         raise ValueError(f"grid: a unit is above 0, not {unit}")

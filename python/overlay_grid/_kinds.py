@@ -11,6 +11,7 @@ from itertools import islice
 from typing import Any, Callable, Dict, Iterable, List, Mapping, NamedTuple, Optional, Sequence, Tuple, Union
 
 from . import _wkb
+from ._calls import bytes_of
 from ._faults import GeometryError, Refused
 from ._grid import Frame
 from ._optional import module
@@ -128,7 +129,7 @@ def given(layer: Any, name: str) -> Given:
     """A layer as it was given."""
     answer = kind_of(layer)
     if answer in (text_answer, bytes_answer):
-        return Given(Text(layer.encode() if isinstance(layer, str) else bytes(layer), name), False, answer)
+        return Given(Text(bytes_of(layer), name), False, answer)
     if answer is not None:
         return Given(shapes_of([layer], name), True, answer)
     features = list_of(layer, name)
@@ -162,7 +163,7 @@ def joined_texts(features: Iterable[Any], name: str) -> Text:
     for number, text in enumerate(texts, 1):
         if kind_of(text) not in (text_answer, bytes_answer):
             raise GeometryError("is no text, as the first one is", name, number)
-    return Text(b"\n".join([text.encode() if isinstance(text, str) else bytes(text) for text in texts]), name)
+    return Text(b"\n".join(map(bytes_of, texts)), name)
 
 
 def shapes_of(features: Sequence[Any], name: str) -> Shapes:

@@ -84,6 +84,9 @@ def test_layer_with_a_zero_byte():
 REFUSED = [
     (("POLYGON ((0 0, 1.5 0, 0 1, 0 0))", ""), {}, ("A: 1 syntax at 16", 1, "A", 16, None)),
     (("", "POLYGON ((0 0"), {}, ("B: 1 syntax at 13", 1, "B", 13, None)),
+    ((SQUARE + " \ud800", ""), {}, ("A: 1 syntax at 36", 1, "A", 36, None)),
+    ((SQUARE + " \ud800", ""), {"grid": 1}, ("A: 1 syntax at 36", 1, "A", 36, None)),
+    (([SQUARE, "\ud800"], ""), {}, ("A: 1 syntax at 36", 1, "A", 36, None)),
     (("POLYGON ((0 0, 268435457 0, 0 1, 0 0))", ""), {}, ("A: 2 number out of range at 15", 2, "A", 15, None)),
     (("", "POLYGON ((0 0, 1 0, 0 1))"), {}, ("B: 3 short ring at 9", 3, "B", 9, None)),
     (("POLYGON ((0 0, 1 0, 1 1, 0 1))", ""), {}, ("A: 4 open ring at 9", 4, "A", 9, None)),
@@ -128,6 +131,13 @@ def test_limit_of_segments(word, segments):
 def test_more_segments():
     many = (SQUARE + " ") * 262145
     assert overlay_grid.union(many, "", segments=1048580) == overlay_grid.union(SQUARE, "")
+
+
+def test_numbers_of_numpy():
+    numpy = pytest.importorskip("numpy")
+    for kind in (numpy.int64, numpy.uint16):
+        assert overlay_grid.union(SQUARE, OTHER, kind(16), kind(8)) == WORKED["union"]
+        assert overlay_grid.faces_text(SQUARE, side=kind(16), segments=kind(4)) == overlay_grid.faces_text(SQUARE)
 
 
 def test_no_limit_below_one():
