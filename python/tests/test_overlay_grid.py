@@ -1,11 +1,14 @@
 """The package against worked texts and against the program's bytes."""
 
+import _ctypes
 import doctest
 import importlib
 import os
 import pickle
 import pkgutil
+import shutil
 import subprocess
+import sys
 import threading
 
 import overlay_grid
@@ -68,6 +71,19 @@ def test_examples():
     assert not any(one.failed for one in told) and sum(one.attempted for one in told) >= 24
     page = doctest.testfile(os.path.join(os.path.dirname(HERE), "README.md"), module_relative=False)
     assert page.failed == 0 and page.attempted == 11
+
+
+def test_no_library(tmp_path):
+    """Without its library, or with another file in its place, the package is none that can be imported."""
+    copy = tmp_path / "overlay_grid"
+    shutil.copytree(os.path.dirname(overlay_grid.__file__), copy, ignore=shutil.ignore_patterns("*.so", "__pycache__"))
+
+    def told():
+        return subprocess.run([sys.executable, "-c", "import overlay_grid"], cwd=tmp_path, env={}, capture_output=True, text=True).stderr
+
+    assert told().splitlines()[-1].startswith("ImportError: ") and "python/build makes the library" in told()
+    shutil.copy(_ctypes.__file__, copy / "liboverlay.so")
+    assert told().splitlines()[-1].startswith("ImportError: ") and "undefined symbol: overlay_version" in told()
 
 
 def test_empty_layers():
