@@ -6,8 +6,9 @@ coordinates: an array of points, which is a ring, or a tuple of such arrays, whi
 
 from __future__ import annotations
 
+import re
 import sys
-from itertools import islice
+from itertools import accumulate, islice
 from typing import Any, Callable, Dict, Iterable, List, Mapping, NamedTuple, Optional, Sequence, Tuple, Union
 
 from . import _wkb
@@ -19,6 +20,9 @@ from ._shapes import POINT, Builder, Placed, Polygons, Shapes, found_in, is_clos
 from ._texts import Text, placed
 
 Answerer = Callable[[str, Frame], Any]
+
+# The text of one geometry, as far as that tells it from none and from several.
+ONE_GEOMETRY = re.compile(rb"\s*(?:multi)?polygon\b(?!.*polygon)", re.IGNORECASE | re.DOTALL)
 
 
 def text_answer(text: str, frame: Frame) -> str:
@@ -158,12 +162,17 @@ def list_of(layer: Any, name: str) -> List[Any]:
 
 
 def joined_texts(features: Iterable[Any], name: str) -> Text:
-    """Texts as one layer, one after another."""
-    texts = [b"POLYGON EMPTY" if feature is None else feature for feature in features]
-    for number, text in enumerate(texts, 1):
-        if kind_of(text) not in (text_answer, bytes_answer):
+    """Texts as one layer, one after another, so that their numbers are those of the layer's geometries."""
+    texts = []
+    for number, feature in enumerate(features, 1):
+        if feature is not None and kind_of(feature) not in (text_answer, bytes_answer):
             raise GeometryError("is no text, as the first one is", name, number)
-    return Text(b"\n".join(map(bytes_of, texts)), name)
+        text = b"" if feature is None else bytes_of(feature)
+        texts.append(text if text.strip() else b"POLYGON EMPTY")
+        if not ONE_GEOMETRY.match(texts[-1]):
+            raise GeometryError("is no text of one polygon or multipolygon", name, number)
+    starts = accumulate((len(text) + 1 for text in texts[:-1]), initial=0)
+    return Text(b"\n".join(texts), name, list(starts))
 
 
 def shapes_of(features: Sequence[Any], name: str) -> Shapes:
@@ -204,5 +213,6 @@ def told_at(error: Refused, layers: Sequence[Given]) -> Refused:
     """A refusal of a layer's text on the grid, told of the text as it came."""
     for layer in layers:
         if isinstance(layer.held, Text) and layer.held.layer == error.layer and error.offset is not None:
-            return error.at(layer.held.place(error.offset))
+            words = str(error).partition(": ")[2].rpartition(" at ")[0]
+            return layer.held.refused(words, error.number, layer.held.place(error.offset))
     return error

@@ -241,6 +241,32 @@ def test_refused_geometries(first, second, words, part):
         overlay_grid.difference(wkb_of(multi(A)), second)
 
 
+LISTS_OF_TEXTS = [
+    ([A, "POLYGON ((0 0, 1 0", B], Refused, "A: feature 2: 1 syntax at 18", (2, 18)),
+    ([A, " POLYGON ((0 0,\n1 0, 1 1))", B], Refused, "A: feature 2: 3 short ring at 10", (2, 10)),
+    ([A, B, "POLYGON ((0 0, 1 0, 1e999 1, 0 0))"], Refused, "A: feature 3: 2 number out of range at 20", (3, 20)),
+    (["POLYGON ((0 0, 1 0, 1e12 1, 0 0))", A], Refused, "A: feature 1: 2 number out of range at 20", (1, 20)),
+    ([A, "POLYGON ((0 0, 1 0, 1 1, ", "0 1, 0 0))"], GeometryError, "A: feature 3: is no text of one polygon or multipolygon", (3, None)),
+    ([A, f"{A} {B}"], GeometryError, "A: feature 2: is no text of one polygon or multipolygon", (2, None)),
+    ([None, "LINESTRING (0 0, 1 1)"], GeometryError, "A: feature 2: is no text of one polygon or multipolygon", (2, None)),
+]
+
+
+@pytest.mark.parametrize("texts, kind, words, place", LISTS_OF_TEXTS, ids=[row[2] for row in LISTS_OF_TEXTS])
+def test_refused_texts_of_a_list(texts, kind, words, place):
+    """Each of the texts is a feature, and a refusal tells which one and where in it."""
+    for call in (overlay_grid.union, overlay_grid.faces, overlay_grid.edges):
+        with pytest.raises(kind) as fault:
+            call(texts, [])
+        told = fault.value
+        assert (str(told), told.feature, getattr(told, "offset", None)) == (words, *place)
+
+
+def test_numbers_of_texts_in_a_list():
+    """A text without geometries is a feature without points, as None is."""
+    assert [face.ids for face in overlay_grid.faces(["", A, " \n", None, f"  {B}\n"], grid=0.1)] == [((2,),), ((2, 5),), ((5,),)]
+
+
 def test_off_the_grid():
     far = wkb_of("MULTIPOLYGON (((0 0, 268436 0, 1 1, 0 0)))")
     with pytest.raises(GeometryError, match="^B: feature 1, polygon 1: the point 268436.0 0.0 lies off the grid"):

@@ -102,7 +102,7 @@ REFUSED = [
     (("", "POLYGON ((0 0"), {}, ("B: 1 syntax at 13", 1, "B", 13, None)),
     ((SQUARE + " \ud800", ""), {}, ("A: 1 syntax at 36", 1, "A", 36, None)),
     ((SQUARE + " \ud800", ""), {"grid": 1}, ("A: 1 syntax at 36", 1, "A", 36, None)),
-    (([SQUARE, "\ud800"], ""), {}, ("A: 1 syntax at 36", 1, "A", 36, None)),
+    (("", [None, SQUARE + "\ud800"]), {}, ("B: feature 2: 1 syntax at 35", 1, "B", 35, None)),
     (("POLYGON ((0 0, 268435457 0, 0 1, 0 0))", ""), {}, ("A: 2 number out of range at 15", 2, "A", 15, None)),
     (("", "POLYGON ((0 0, 1 0, 0 1))"), {}, ("B: 3 short ring at 9", 3, "B", 9, None)),
     (("POLYGON ((0 0, 1 0, 1 1, 0 1))", ""), {}, ("A: 4 open ring at 9", 4, "A", 9, None)),
@@ -125,7 +125,7 @@ def test_refused(word, layers, plan, want):
     assert (str(told), told.number, told.layer, told.offset, told.count) == want
     assert isinstance(told.number, Refusal)
     again = pickle.loads(pickle.dumps(told))
-    assert (str(again), again.number, again.layer, again.offset, again.count) == want
+    assert (str(again), again.number, again.layer, again.offset, again.count) == want and again.feature == told.feature
 
 
 def test_side_that_fits():
