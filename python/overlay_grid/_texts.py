@@ -14,7 +14,7 @@ from typing import Iterable, List, Optional, Sequence, Tuple
 from ._faults import Refusal, Refused
 from ._grid import LIMIT, Box, Frame
 
-NUMBER = re.compile(rb"(?<![^\s(),])([-+]?(?:\d+\.?\d*|\.\d+)(?:[eE][-+]?\d+)?)(?![^\s(),])")
+NUMBER = re.compile(rb"(?<![^\s(),])([-+]?(?:\d+(?:\.\d*)?|\.\d+)(?:[eE][-+]?\d+)?)(?![^\s(),])")
 WHOLE = re.compile(r"(-?\d+)")
 
 

@@ -241,6 +241,14 @@ def test_refused_geometries(first, second, words, part):
         overlay_grid.difference(wkb_of(multi(A)), second)
 
 
+@pytest.mark.parametrize("number", ["{}x", "{}.{}x", "1.{}x", "1e{}x", "-{}-", "{}e"])
+def test_long_words_that_are_no_numbers(number):
+    """They are refused in a time that grows as their length does."""
+    word = number.format("1" * 200_000, "1" * 200_000)
+    with pytest.raises(Refused, match="^A: 1 syntax at"):
+        overlay_grid.union(f"POLYGON ((0 0, {word} 0, 1 1, 0 0))", "", grid=1)
+
+
 LISTS_OF_TEXTS = [
     ([A, "POLYGON ((0 0, 1 0", B], Refused, "A: feature 2: 1 syntax at 18", (2, 18)),
     ([A, " POLYGON ((0 0,\n1 0, 1 1))", B], Refused, "A: feature 2: 3 short ring at 10", (2, 10)),
