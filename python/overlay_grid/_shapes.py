@@ -23,6 +23,9 @@ LEAST_RING = 4
 # How many bytes a point has.
 POINT = 16
 
+# Forms of rings up to so many points are kept.
+KEPT = 512
+
 
 class Rings(NamedTuple):
     """Closed rings on the grid: x and y of all points by turns, and where each ring begins among the points, and the last one ends."""
@@ -135,10 +138,18 @@ def counts_of(offsets: "array[int]") -> List[int]:
     return list(map(sub, offsets[1:], offsets))
 
 
-@lru_cache(maxsize=1024)
 def ring_form(points: int) -> str:
     """The form of a ring's text."""
+    return form_kept(points) if points <= KEPT else form_made(points)
+
+
+def form_made(points: int) -> str:
+    """The same, made anew."""
     return f"({'%d %d, ' * (points - 1)}%d %d)"
+
+
+# The same for the next calls.
+form_kept = lru_cache(maxsize=None)(form_made)
 
 
 def form_of(rings: Iterable[int], polygons: Iterable[int], features: Iterable[int]) -> str:

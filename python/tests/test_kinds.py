@@ -5,6 +5,7 @@ import re
 import struct
 import subprocess
 import sys
+import tracemalloc
 from decimal import Decimal
 
 import overlay_grid
@@ -273,6 +274,17 @@ def test_refused_texts_of_a_list(texts, kind, words, place):
 def test_numbers_of_texts_in_a_list():
     """A text without geometries is a feature without points, as None is."""
     assert [face.ids for face in overlay_grid.faces(["", A, " \n", None, f"  {B}\n"], grid=0.1)] == [((2,),), ((2, 5),), ((5,),)]
+
+
+def test_forms_of_large_rings():
+    """Of a ring with many points no form is kept, and of a small one the form."""
+    tracemalloc.start()
+    try:
+        assert all(_shapes.ring_form(count).count("%d") == 2 * count for count in range(50_000, 50_020))
+        assert tracemalloc.get_traced_memory()[0] < 1 << 20
+    finally:
+        tracemalloc.stop()
+    assert _shapes.ring_form(5) is _shapes.ring_form(5)
 
 
 def test_off_the_grid():
