@@ -140,7 +140,8 @@ def given(layer: Any, name: str) -> Given:
     answer = kind_of(next((feature for feature in features if feature is not None), None))
     if answer in (text_answer, bytes_answer):
         return Given(joined_texts(features, name), True, answer)
-    return Given(shapes_of(features, name), True, answer, systems_of(layer))
+    systems = systems_of(layer)
+    return Given(shapes_of(features, name), True, answer or (shapely_answer if systems else None), systems)
 
 
 def systems_of(layer: Any) -> Tuple[Any, ...]:

@@ -220,6 +220,16 @@ def test_no_rows(how):
     assert len(overlay_grid.dissolve(df1.iloc[:0], by="df1_data")) == 0
 
 
+def test_no_geometries():
+    """The answer on frames and series without geometries is a geometry, too."""
+    df, _ = worked()
+    none = geopandas.GeoSeries([None, None])
+    for call in (overlay_grid.union, overlay_grid.intersection, overlay_grid.difference, overlay_grid.symdifference):
+        for empty in (df.iloc[:0], df.geometry.iloc[:0], none):
+            assert call(empty, none).is_empty and call(empty, []).is_empty and call([], empty).is_empty
+    assert overlay_grid.union(df.iloc[:0], df).area == 8
+
+
 def test_missing_geometries():
     df1, df2 = worked()
     more = geopandas.GeoDataFrame({"geometry": [None, MultiPolygon()], "df1_data": [7, 8]})
