@@ -14,7 +14,7 @@ from typing import Any, Callable, Dict, Iterable, List, Mapping, NamedTuple, Opt
 from . import _wkb
 from ._calls import bytes_of
 from ._faults import GeometryError, Refused
-from ._grid import Frame
+from ._grid import WHOLE, Frame
 from ._optional import module
 from ._shapes import POINT, Builder, Placed, Polygons, Shapes, found_in, is_closed, text_of
 from ._texts import Text, placed
@@ -205,7 +205,10 @@ def add_rings(feature: Any, builder: Builder) -> None:
         if not is_array(ring) or ring.dtype.kind not in "fiu" or ring.ndim != 2 or ring.shape[1] != 2:
             told = f"an array of shape {ring.shape}" if is_array(ring) else f"a {type(ring).__name__}"
             raise builder.refused(f"{told} is no polygon: a ring is an array of shape (n, 2)")
-        points = ring.astype("<f8", copy=False).tobytes()
+        numbers = ring.astype("<f8", copy=False)
+        if ring.dtype.kind in "iu" and (abs(numbers) >= WHOLE).any():
+            raise builder.refused("has whole numbers from 2^53 on, of which floating-point numbers have not all", 1)
+        points = numbers.tobytes()
         builder.ring(points if is_closed(points) else points + points[:POINT], 1)
     builder.feature([len(rings)])
 

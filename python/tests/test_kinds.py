@@ -387,6 +387,17 @@ def test_arrays():
     assert overlay_grid.intersection(holed, []) == []
 
 
+@pytest.mark.parametrize("kind", ["int64", "uint64"])
+def test_arrays_of_large_whole_numbers(kind):
+    """None of them is rounded before it comes to the grid."""
+    numpy = pytest.importorskip("numpy")
+    square = numpy.array([[0, 0], [9, 0], [9, 9], [0, 9]], kind)
+    most = square + numpy.array(2**53 - 10, kind)
+    assert overlay_grid.faces(most, grid=1)[0].area == 81
+    with pytest.raises(GeometryError, match="^A: feature 2, polygon 1: has whole numbers from 2\\^53 on"):
+        overlay_grid.faces([most, most + numpy.array(2, kind)], grid=1)
+
+
 def test_wrong_arrays():
     numpy = pytest.importorskip("numpy")
     square = numpy.array([[0.0, 0], [4, 0], [4, 4]])
