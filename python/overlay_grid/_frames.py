@@ -11,7 +11,7 @@ from __future__ import annotations
 from math import isnan
 from typing import Any, Dict, Iterable, List, Optional, Sequence, Tuple
 
-from ._asking import Plan, rows_of
+from ._asking import Plan, rows_of, warn
 from ._faults import GeometryError
 from ._grid import Frame, Origin, Unit
 from ._kinds import Given, answer_of, shapes_of, systems_of, wkb_answer
@@ -121,10 +121,12 @@ def check_valid(df: Any, name: str) -> None:
 
 
 def check_columns(df: Any, name: str) -> None:
-    """Refuses columns that are called as those that join the parts of an answer."""
+    """Refuses columns that are called as those that join the parts of an answer, and warns of one that gives way to its geometries."""
     for key in KEYS:
         if key in df.columns:
             raise ValueError(f"{name}: a column is called {key!r}, as one that joins the rows of both frames")
+    if GEOMETRY in df.columns and df.geometry.name != GEOMETRY:
+        warn(f"{name}: the column {GEOMETRY!r} is left out, as the answer's geometries are called so")
 
 
 def parts_of(lines: Iterable[Line], frame: Frame) -> Tuple[Parts, Parts, Parts]:

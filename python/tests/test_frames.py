@@ -110,6 +110,19 @@ def test_names_of_geometries(how):
 
 
 @pytest.mark.parametrize("how", HOWS)
+def test_another_column_called_geometry(how):
+    """It is left out, as GeoPandas does, and that is told."""
+    df1, df2 = worked()
+    df1 = df1.rename_geometry("shape").assign(geometry=["p", "q"])
+    with warnings.catch_warnings(record=True) as told:
+        warnings.simplefilter("always")
+        found = overlay_grid.overlay(df1, df2, how, grid=1)
+    words = ["df1: the column 'geometry' is left out, as the answer's geometries are called so"]
+    assert [str(one.message) for one in told] == (words if how != "difference" else [])
+    same(found, theirs(df1, df2, how=how))
+
+
+@pytest.mark.parametrize("how", HOWS)
 def test_nothing_in_common(how):
     df1, df2 = worked()
     df2.geometry = df2.geometry.translate(100, 0)
