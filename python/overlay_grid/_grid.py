@@ -37,6 +37,9 @@ FINEST_DEGREES = Decimal("0.000001")
 # An origin that is chosen is a multiple of so many units where that leaves room.
 ROUND_ORIGIN = 1000
 
+# What is wrong with a point for which a grid of a given origin has no room.
+OFF_THE_GRID = "lies off the grid, which has 2^28 units each way from its origin"
+
 # How many digits a number may have, before its point and in all.
 DIGITS = 400
 
@@ -253,6 +256,11 @@ def far(span: Tuple[float, float], unit: int, places: int) -> bool:
 def middle_of(least: float, greatest: float) -> Tuple[int, int]:
     """The middle of two numbers, as a fraction."""
     return ((Fraction(least) + Fraction(greatest)) / 2).as_integer_ratio()
+
+
+def no_room_for(reach: float, box: Box) -> str:
+    """Why no grid of the unit has room for a box, by the farthest coordinate."""
+    return f"reaches {reach:.6g}, and the finest grid with room for all layers is {float(finest_for(box)):g}"
 
 
 def finest_for(box: Box) -> Decimal:

@@ -12,7 +12,7 @@ from math import isfinite
 from typing import Iterable, List, Optional, Sequence, Tuple
 
 from ._faults import Refusal, Refused
-from ._grid import LIMIT, Box, Frame
+from ._grid import LIMIT, OFF_THE_GRID, Box, Frame, no_room_for
 
 NUMBER = re.compile(rb"(?<![^\s(),])([-+]?(?:\d+(?:\.\d*)?|\.\d+)(?:[eE][-+]?\d+)?)(?![^\s(),])")
 WHOLE = re.compile(r"(-?\d+)")
@@ -34,7 +34,7 @@ class Text:
         if not isfinite(sum(self.values)):
             for number, value in enumerate(self.values):
                 if not isfinite(value):
-                    raise self.out_of_range(number)
+                    raise self.out_of_range(number, "is no finite number")
         if len(self.values) < 2:
             return None
         x, y = self.values[0::2], self.values[1::2]
@@ -44,7 +44,7 @@ class Text:
         """The refusal of the first number that lies off a grid; nothing where none does."""
         for number, value in enumerate(self.values):
             if abs(frame[number % 2].exact(value)) > LIMIT:
-                return self.out_of_range(number)
+                return self.out_of_range(number, OFF_THE_GRID)
         return None
 
     def farthest(self) -> float:
@@ -54,17 +54,18 @@ class Text:
     def no_room(self, box: Box) -> Refused:
         """The refusal of the farthest number, where no grid of the unit has room for a box of all layers."""
         reach = self.farthest()
-        return self.out_of_range(next(k for k, value in enumerate(self.values) if abs(value) == reach))
+        return self.out_of_range(next(k for k, value in enumerate(self.values) if abs(value) == reach), no_room_for(reach, box))
 
-    def out_of_range(self, number: int) -> Refused:
+    def out_of_range(self, number: int, reason: str) -> Refused:
         """The refusal of a number, by its place among all."""
-        return self.refused("2 number out of range", Refusal.NUMBER_RANGE, sum(map(len, self.pieces[: 2 * number + 1])))
+        place = sum(map(len, self.pieces[: 2 * number + 1]))
+        return self.refused("2 number out of range", Refusal.NUMBER_RANGE, place, f": {reason}")
 
-    def refused(self, words: str, number: int, place: int) -> Refused:
+    def refused(self, words: str, number: int, place: int, more: str = "") -> Refused:
         """The refusal of what stands at a place of the text as it came."""
         feature, offset = self.feature_at(place)
         layer = self.layer if feature is None else f"{self.layer}: feature {feature}"
-        return Refused(f"{layer}: {words} at {offset}", number, self.layer, offset, None, feature)
+        return Refused(f"{layer}: {words} at {offset}{more}", number, self.layer, offset, None, feature)
 
     def feature_at(self, place: int) -> Tuple[Optional[int], int]:
         """Which of a list's texts has a place, and where in it that is. What stands where a text begins is that the one before ended."""

@@ -11,9 +11,10 @@ from decimal import Decimal
 import overlay_grid
 import pairs
 import pytest
-from overlay_grid import GeometryError, Operation, Refusal, Refused, _kinds, _shapes, _uniting
+from overlay_grid import GeometryError, Operation, Refusal, Refused, _grid, _kinds, _shapes, _uniting
 from test_overlay_grid import PROGRAM
 
+FINEST_IS = "and the finest grid with room for all layers is"
 A = "POLYGON ((0 0, 0.4 0, 0.4 0.4, 0 0.4, 0 0))"
 B = "POLYGON ((0.2 0.2, 0.6 0.2, 0.6 0.6, 0.2 0.6, 0.2 0.2))"
 WORKED = {
@@ -108,10 +109,14 @@ REFUSED = [
     (("POLYGON ((0 0, nan 0, 1 1, 0 0))", ""), {}, ("A: 1 syntax at 15", Refusal.SYNTAX, "A", 15)),
     (("", "POLYGON ((0.25 0, 1.25 0, 0.25 0))"), {}, ("B: 3 short ring at 9", Refusal.SHORT_RING, "B", 9)),
     (("POLYGON EMPTY POLYGON ((0.25 0, 1.25 0, 0.25 1, 1 1))", ""), {}, ("A: 4 open ring at 23", Refusal.OPEN_RING, "A", 23)),
-    (("", "POLYGON ((0.5 0, 1e999 0, 1 1, 0.5 0))"), {}, ("B: 2 number out of range at 17", Refusal.NUMBER_RANGE, "B", 17)),
-    (("", "POLYGON ((-1e999"), {}, ("B: 2 number out of range at 10", Refusal.NUMBER_RANGE, "B", 10)),
-    (("POLYGON ((0.5 0, 1 0, 1 268435456.5, 0.5 0))", ""), {"origin": (0, 0)}, ("A: 2 number out of range at 24", 2, "A", 24)),
-    (("POLYGON ((0 0, 1 0, 1 1, 0 0))", "POLYGON ((0 0, 1 0, -1e10 1, 0 0))"), {}, ("B: 2 number out of range at 20", 2, "B", 20)),
+    (("", "POLYGON ((0.5 0, 1e999 0, 1 1, 0.5 0))"), {}, ("B: 2 number out of range at 17: is no finite number", Refusal.NUMBER_RANGE, "B", 17)),
+    (("", "POLYGON ((-1e999"), {}, ("B: 2 number out of range at 10: is no finite number", Refusal.NUMBER_RANGE, "B", 10)),
+    (("POLYGON ((0.5 0, 1 0, 1 268435456.5, 0.5 0))", ""), {"origin": (0, 0)}, (f"A: 2 number out of range at 24: {_grid.OFF_THE_GRID}", 2, "A", 24)),
+    (
+        ("POLYGON ((0 0, 1 0, 1 1, 0 0))", "POLYGON ((0 0, 1 0, -1e10 1, 0 0))"),
+        {},
+        (f"B: 2 number out of range at 20: reaches 1e+10, {FINEST_IS} 20", 2, "B", 20),
+    ),
     (("POLYGON ((0 0, 1e10 0, 1 1, 0 0)", ""), {}, ("A: 1 syntax at 32", Refusal.SYNTAX, "A", 32)),
 ]
 
@@ -253,8 +258,8 @@ def test_long_words_that_are_no_numbers(number):
 LISTS_OF_TEXTS = [
     ([A, "POLYGON ((0 0, 1 0", B], Refused, "A: feature 2: 1 syntax at 18", (2, 18)),
     ([A, " POLYGON ((0 0,\n1 0, 1 1))", B], Refused, "A: feature 2: 3 short ring at 10", (2, 10)),
-    ([A, B, "POLYGON ((0 0, 1 0, 1e999 1, 0 0))"], Refused, "A: feature 3: 2 number out of range at 20", (3, 20)),
-    (["POLYGON ((0 0, 1 0, 1e12 1, 0 0))", A], Refused, "A: feature 1: 2 number out of range at 20", (1, 20)),
+    ([A, B, "POLYGON ((0 0, 1 0, 1e999 1, 0 0))"], Refused, "A: feature 3: 2 number out of range at 20: is no finite number", (3, 20)),
+    (["POLYGON ((0 0, 1 0, 1e12 1, 0 0))", A], Refused, f"A: feature 1: 2 number out of range at 20: reaches 1e+12, {FINEST_IS} 2000", (1, 20)),
     ([A, "POLYGON ((0 0, 1 0, 1 1, ", "0 1, 0 0))"], GeometryError, "A: feature 3: is no text of one polygon or multipolygon", (3, None)),
     ([A, f"{A} {B}"], GeometryError, "A: feature 2: is no text of one polygon or multipolygon", (2, None)),
     ([None, "LINESTRING (0 0, 1 1)"], GeometryError, "A: feature 2: is no text of one polygon or multipolygon", (2, None)),
