@@ -90,6 +90,8 @@ def overlay(
             check_valid(df, name)
         if how != "difference":
             check_columns(df, name)
+    if how != "difference":
+        check_suffixes(df1, df2)
     lines, frame = faces_on(((df1, "df1"), (df2, "df2")), grid, origin)
     pairs, firsts, seconds = parts_of(lines, frame)
     if how == "difference":
@@ -127,6 +129,15 @@ def check_columns(df: Any, name: str) -> None:
             raise ValueError(f"{name}: a column is called {key!r}, as one that joins the rows of both frames")
     if GEOMETRY in df.columns and df.geometry.name != GEOMETRY:
         warn(f"{name}: the column {GEOMETRY!r} is left out, as the answer's geometries are called so")
+
+
+def check_suffixes(df1: Any, df2: Any) -> None:
+    """Refuses columns of which two would have one name, by the suffixes of those that both frames have."""
+    first, second = (set(df.columns) - {df.geometry.name} for df in (df1, df2))
+    suffixed = {f"{name}{suffix}": name for name in first & second for suffix in SUFFIXES}
+    for name in first ^ second:
+        if name in suffixed:
+            raise ValueError(f"df1 and df2 have columns {suffixed[name]!r}, and one has {name!r}, so that two would be called {name!r}")
 
 
 def parts_of(lines: Iterable[Line], frame: Frame) -> Tuple[Parts, Parts, Parts]:

@@ -110,6 +110,24 @@ def test_names_of_geometries(how):
 
 
 @pytest.mark.parametrize("how", HOWS)
+@pytest.mark.parametrize("more, name", [("id_1", "df1"), ("id_2", "df1"), ("id_1", "df2")])
+def test_columns_that_would_have_one_name(how, more, name):
+    df1, df2 = (df.assign(id=1) for df in worked())
+    (df1 if name == "df1" else df2)[more] = 7
+    if how == "difference":
+        same(overlay_grid.overlay(df1, df2, how, grid=1), theirs(df1, df2, how=how))
+    else:
+        with pytest.raises(ValueError, match=f"^df1 and df2 have columns 'id', and one has {more!r}, so that two would be called {more!r}"):
+            overlay_grid.overlay(df1, df2, how, grid=1)
+
+
+@pytest.mark.parametrize("how", HOWS)
+def test_columns_of_both_with_suffixes(how):
+    df1, df2 = (df.assign(id=1, id_1=2) for df in worked())
+    same(overlay_grid.overlay(df1, df2, how, grid=1), theirs(df1, df2, how=how))
+
+
+@pytest.mark.parametrize("how", HOWS)
 def test_another_column_called_geometry(how):
     """It is left out, as GeoPandas does, and that is told."""
     df1, df2 = worked()
