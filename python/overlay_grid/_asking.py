@@ -116,7 +116,7 @@ def operation(call: int, a: Any, b: Any, plan: Plan) -> Any:
 def chosen_of(call: int, layers: Sequence[Given], frame: Frame, plan: Plan) -> Optional[List[Polygons]]:
     """The rows that an operation has on layers that are read as covered; nothing where no features of one layer overlap, so that
     parity tells the same."""
-    rows = faces_on(layers, frame, plan)
+    rows = faces_on(layers, frame, plan, numbered=False)
     covered = [layer.covered for layer in layers]
     if not any(len(ids) > 1 for row in rows for ids, read in zip(row.ids, covered) if read):
         return None
@@ -124,11 +124,11 @@ def chosen_of(call: int, layers: Sequence[Given], frame: Frame, plan: Plan) -> O
     return [row.polygons for row in rows if choice(*(bool(ids) if read else len(ids) % 2 == 1 for ids, read in zip(row.ids, covered)))]
 
 
-def faces_on(layers: Sequence[Given], frame: Frame, plan: Plan) -> List[Line]:
-    """The faces of layers on a grid: by columns where no layer is a text."""
+def faces_on(layers: Sequence[Given], frame: Frame, plan: Plan, numbered: bool = True) -> List[Line]:
+    """The faces of layers on a grid: by columns where no layer is a text, and then with numbers of features where they are wanted."""
     shapes = [layer.held for layer in layers if isinstance(layer.held, Shapes)]
     if len(shapes) == len(layers):
-        return lines_on([held.features_on_grid(frame) for held in shapes], plan.side, plan.limit)
+        return lines_on([held.features_on_grid(frame) for held in shapes], plan.side, plan.limit, numbered)
     texts = [layer.held.text(frame) for layer in layers]
     return lines_of(asked(layers, lambda: faces_of(texts, plan.side, plan.limit)))
 
