@@ -245,7 +245,8 @@ void overlay_faces_columns_fill(uint32_t side, uint32_t segments, uint64_t ids, 
 uint32_t overlay_faces_columns_side(const struct overlay_columns *layers, size_t count);
 
 /* Puts the words of an answer of two layers without a text at the beginning of a room, as `A: 1 syntax at 16`, without a 0 or a line feed, and
- * returns their length in bytes: 0 where they don't fit, where memory ran out, or where there is nothing to say.
+ * returns their length in bytes: 0 where they don't fit, where memory ran out, or where there is nothing to say. Refusals from
+ * OVERLAY_TOO_MANY_IDS on have no words. An answer of columns has the words of an overlay_answer with the same detail, status, number and part.
  *
  *   answer              what a call answered; it is read alone
  *   room, room_length   where the words go, and how many bytes there may be written: OVERLAY_WORDS are enough */

@@ -18,9 +18,9 @@ Coordinates that aren't whole are brought to a grid whose unit is said, and the 
 
 A coordinate goes to the nearest multiple of the unit, halves upward and to the right, exactly. So are layers of other kinds: geometries
 of Shapely, WKB as bytes, and coordinates as numpy arrays of shape (n, 2), each a ring, or a tuple of such rings. A list of geometries
-is a layer whose features these are, and it covers what any of them covers. Where no unit is said of these it is 0.001. The answer is of
-the first layer's kind. A grid has room for 2^29 units each way; an `origin` that is said is the point of which no coordinate may lie
-further than 2^28 units, and else one is taken that fits the layers.
+is a layer whose features these are, and it covers what any of them covers. Where no unit is said of these it is 0.001, or 0.000001 of
+frames and series in degrees. The answer is of the first layer's kind. A grid has room for 2^29 units each way; an `origin` that is said
+is the point of which no coordinate may lie further than 2^28 units, and else one is taken that fits the layers.
 
 Which features cover what is told by `faces`, of one layer or of several. A feature is a geometry of a layer; in each layer they are
 numbered from 1:

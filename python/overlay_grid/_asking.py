@@ -2,12 +2,14 @@
 
 from __future__ import annotations
 
-from typing import Any, Callable, Dict, List, NamedTuple, Optional, Sequence, Tuple, TypeVar
+import sys
+import warnings
+from typing import Any, Callable, Dict, List, NamedTuple, Optional, Sequence, Set, Tuple, TypeVar
 
 from ._calls import CALLS, MOST_SEGMENTS, Operation, faces_of, layer_name, text_of
 from ._columns import lines_on, polygons_of
 from ._faults import Refused
-from ._grid import FINEST, Frame, Origin, Unit, frame_at, frame_for, joined
+from ._grid import FINEST, FINEST_DEGREES, Frame, Origin, Unit, frame_at, frame_for, joined
 from ._kinds import Answerer, Given, answer_of, arrays_answer, given, told_at
 from ._rows import Line, lines_of
 from ._shapes import Polygons, Shapes
@@ -15,6 +17,9 @@ from ._texts import Text
 from ._uniting import united
 
 Result = TypeVar("Result")
+
+# How many features a warning tells.
+TOLD = 5
 
 # Which rows an operation has, by whether each layer has their points.
 CHOICES: Dict[int, Callable[[bool, bool], bool]] = {
@@ -39,9 +44,26 @@ class Plan(NamedTuple):
         return MOST_SEGMENTS if self.segments is None else self.segments
 
 
+def warn(words: str) -> None:
+    """Warns whoever called the package."""
+    level, caller = 1, sys._getframe()
+    while caller.f_back and caller.f_globals.get("__package__") == __package__:
+        level, caller = level + 1, caller.f_back
+    warnings.warn(words, UserWarning, stacklevel=level)
+
+
+def unit_for(systems: Sequence[Any]) -> Unit:
+    """The unit where none is said: by the first reference system that is told."""
+    told = next((system for system in systems if system is not None), None)
+    return FINEST_DEGREES if getattr(told, "is_geographic", False) else FINEST
+
+
 def frame_of(layers: Sequence[Given], plan: Plan) -> Frame:
-    """The frame for some layers; a point that has no room on it is refused."""
-    unit = FINEST if plan.grid is None else plan.grid
+    """The frame for some layers; a point that has no room on it is refused, and reference systems that differ are warned of."""
+    systems = [system for layer in layers for system in layer.systems]
+    if any(system != systems[0] for system in systems):
+        warn("the reference systems of the layers differ, and coordinates are taken as they are")
+    unit = unit_for(systems) if plan.grid is None else plan.grid
     box = joined([layer.held.box() for layer in layers])
     frame = frame_for(unit, box) if plan.origin is None else frame_at(unit, plan.origin)
     if box is None or frame.fits(box):
@@ -94,7 +116,7 @@ def operation(call: int, a: Any, b: Any, plan: Plan) -> Any:
 def chosen_of(call: int, layers: Sequence[Given], frame: Frame, plan: Plan) -> Optional[List[Polygons]]:
     """The rows that an operation has on layers that are read as covered; nothing where no features of one layer overlap, so that
     parity tells the same."""
-    rows = faces_on(layers, frame, plan)
+    rows = faces_on(layers, frame, plan, numbered=False)
     covered = [layer.covered for layer in layers]
     if not any(len(ids) > 1 for row in rows for ids, read in zip(row.ids, covered) if read):
         return None
@@ -102,16 +124,28 @@ def chosen_of(call: int, layers: Sequence[Given], frame: Frame, plan: Plan) -> O
     return [row.polygons for row in rows if choice(*(bool(ids) if read else len(ids) % 2 == 1 for ids, read in zip(row.ids, covered)))]
 
 
-def faces_on(layers: Sequence[Given], frame: Frame, plan: Plan) -> List[Line]:
-    """The faces of layers on a grid: by columns where no layer is a text."""
+def faces_on(layers: Sequence[Given], frame: Frame, plan: Plan, numbered: bool = True) -> List[Line]:
+    """The faces of layers on a grid: by columns where no layer is a text, and then with numbers of features where they are wanted."""
     shapes = [layer.held for layer in layers if isinstance(layer.held, Shapes)]
     if len(shapes) == len(layers):
-        return lines_on([held.features_on_grid(frame) for held in shapes], plan.side, plan.limit)
+        return lines_on([held.features_on_grid(frame) for held in shapes], plan.side, plan.limit, numbered)
     texts = [layer.held.text(frame) for layer in layers]
     return lines_of(asked(layers, lambda: faces_of(texts, plan.side, plan.limit)))
 
 
 def rows_of(layers: Sequence[Given], plan: Plan) -> Tuple[List[Line], Frame]:
-    """The faces of layers, and the frame that leads back."""
+    """The faces of layers, and the frame that leads back; features of which no face is left are warned of."""
     frame = frame_of(layers, plan)
-    return faces_on(layers, frame, plan), frame
+    rows = faces_on(layers, frame, plan)
+    for number, layer in enumerate(layers):
+        if isinstance(layer.held, Shapes):
+            warn_of_lost(layer.held, {feature for row in rows for feature in row.ids[number]})
+    return rows, frame
+
+
+def warn_of_lost(held: Shapes, left: Set[int]) -> None:
+    """Warns of features that have polygons, and of which the grid leaves nothing."""
+    lost = [number for number, polygons in enumerate(held.features, 1) if polygons and number not in left]
+    if lost:
+        more = ", .." if len(lost) > TOLD else ""
+        warn(f"{held.layer}: the grid leaves nothing of {len(lost)} of {len(held.features)} features: {', '.join(map(str, lost[:TOLD]))}{more}")

@@ -4,7 +4,8 @@ from __future__ import annotations
 
 import ctypes
 import enum
-from typing import Optional, Sequence, Union
+from operator import index
+from typing import Optional, Sequence, SupportsIndex, Union
 
 from ._faults import OutOfMemory, Refusal, Refused
 from ._library import ANSWERED, NO_CALL, NO_MEMORY, SMALL, Answer, Layer, library
@@ -89,24 +90,29 @@ def fault_of(answer: Answer, layers: int = 2) -> Union[Refused, OutOfMemory]:
 def bytes_of(layer: Union[str, bytes]) -> bytes:
     """A layer's text."""
     if isinstance(layer, str):
-        return layer.encode()
+        return layer.encode("utf-8", "surrogatepass")  # so that the library tells the place of what no UTF-8 has
     return layer if type(layer) is bytes else bytes(memoryview(layer))
 
 
-def side_number(side: int) -> int:
+def whole(number: SupportsIndex, name: str) -> int:
+    """A whole number that was said, also one of numpy's."""
+    if isinstance(number, bool) or not hasattr(number, "__index__"):
+        raise TypeError(f"{name} is an int")
+    return index(number)
+
+
+def side_number(side: SupportsIndex) -> int:
     """The side of a tile that was said."""
-    if isinstance(side, bool) or not isinstance(side, int):
-        raise TypeError("the side of a tile is an int")
-    return side if 0 <= side < 2**32 else 0  # 0 is refused as every other bad side
+    number = whole(side, "the side of a tile")
+    return number if 0 <= number < 2**32 else 0  # 0 is refused as every other bad side
 
 
-def limit_of(segments: int) -> int:
+def limit_of(segments: SupportsIndex) -> int:
     """The number of segments that was said."""
-    if isinstance(segments, bool) or not isinstance(segments, int):
-        raise TypeError("the number of segments is an int")
-    if segments < 1:
+    number = whole(segments, "the number of segments")
+    if number < 1:
         raise ValueError("the number of segments is below 1")
-    return min(segments, MOST_SEGMENTS)  # two texts never have as many
+    return min(number, MOST_SEGMENTS)  # two texts never have as many
 
 
 def fill(call: int, side: int, limit: int, a: bytes, b: bytes) -> Room:

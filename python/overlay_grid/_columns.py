@@ -82,8 +82,8 @@ def fill_faces(side: int, limit: int, layers: "ctypes.Array[Columns]", size: int
         room = taken(face_size(lengths))
 
 
-def lines_on(layers: Sequence[Features], side: Optional[int], segments: Optional[int]) -> List[Line]:
-    """The rows of the faces of layers."""
+def lines_on(layers: Sequence[Features], side: Optional[int], segments: Optional[int], numbered: bool = True) -> List[Line]:
+    """The rows of the faces of layers, as `lines_in` tells them."""
     limit, count = SEGMENTS if segments is None else limit_of(segments), len(layers)
     if count > LAYERS:
         raise ValueError(f"{count} layers, and there may be {LAYERS}")
@@ -97,6 +97,6 @@ def lines_on(layers: Sequence[Features], side: Optional[int], segments: Optional
     told = room.faces_answer
     if told.status != ANSWERED:
         raise fault_of(Answer(0, told.detail, told.status, told.number, told.part), count)
-    lines = lines_in(room.face_lists(), count)
+    lines = lines_in(room.face_lists(), count, numbered)
     given_back(room)
     return lines

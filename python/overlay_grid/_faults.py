@@ -25,7 +25,8 @@ class Refused(ValueError):
 
     number: why, as the program prints it.
     layer: "A" or "B", or what further layers of `faces` are called: "C" to "Z", and then "27" and on; None where it is not about one.
-    offset: where in the layer, in bytes from 0, or None.
+    feature: which text of a layer that is a list of texts, from 1, or None.
+    offset: where in the layer, or in that text, in bytes from 0, or None.
     count: how many segments, tiles or features of rows, or None.
 
     >>> import overlay_grid
@@ -36,20 +37,24 @@ class Refused(ValueError):
     A: 1 syntax at 16 SYNTAX A 16
     """
 
-    def __init__(self, words: str, number: int, layer: Optional[str], offset: Optional[int], count: Optional[int]) -> None:
+    def __init__(
+        self,
+        words: str,
+        number: int,
+        layer: Optional[str],
+        offset: Optional[int],
+        count: Optional[int],
+        feature: Optional[int] = None,
+    ) -> None:
         super().__init__(words)
         self.number = Refusal(number)
         self.layer = layer
         self.offset = offset
         self.count = count
+        self.feature = feature
 
-    def __reduce__(self) -> "Tuple[Type[Refused], Tuple[str, int, Optional[str], Optional[int], Optional[int]]]":
-        return type(self), (str(self), int(self.number), self.layer, self.offset, self.count)
-
-    def at(self, offset: int) -> Refused:
-        """The same refusal at another place of the layer."""
-        words = f"{str(self).rpartition(' ')[0]} {offset}"
-        return Refused(words, self.number, self.layer, offset, self.count)
+    def __reduce__(self) -> "Tuple[Type[Refused], Tuple[str, int, Optional[str], Optional[int], Optional[int], Optional[int]]]":
+        return type(self), (str(self), int(self.number), self.layer, self.offset, self.count, self.feature)
 
 
 class GeometryError(ValueError):

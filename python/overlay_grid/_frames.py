@@ -8,21 +8,17 @@
 
 from __future__ import annotations
 
-import warnings
-from decimal import Decimal
 from math import isnan
 from typing import Any, Dict, Iterable, List, Optional, Sequence, Tuple
 
-from ._asking import Plan, rows_of
-from ._grid import FINEST, Frame, Origin, Unit
-from ._kinds import Given, answer_of, shapes_of, wkb_answer
+from ._asking import Plan, rows_of, warn
+from ._faults import GeometryError
+from ._grid import Frame, Origin, Unit
+from ._kinds import Given, answer_of, shapes_of, systems_of, wkb_answer
 from ._optional import module
 from ._rows import Line
 from ._shapes import Polygons
 from ._uniting import united
-
-# The unit where none is said and coordinates are degrees: about a decimetre.
-FINEST_DEGREES = Decimal("0.000001")
 
 HOWS = ("intersection", "union", "identity", "symmetric_difference", "difference")
 SUFFIXES = ("_1", "_2")
@@ -67,20 +63,12 @@ def series_of(made: Sequence[bytes], like: Any) -> Any:
 
 def features_of(df: Any, name: str) -> Given:
     """A frame's geometries as a layer."""
-    return Given(shapes_of(df.geometry.to_wkb().tolist(), name), True, wkb_answer)
-
-
-def unit_for(df: Any, grid: Optional[Unit]) -> Unit:
-    """The unit that was said, or one for the frame's reference system."""
-    if grid is not None:
-        return grid
-    return FINEST_DEGREES if df.crs is not None and df.crs.is_geographic else FINEST
+    return Given(shapes_of(df.geometry.to_wkb().tolist(), name), True, wkb_answer, systems_of(df))
 
 
 def faces_on(frames: Sequence[Tuple[Any, str]], grid: Optional[Unit], origin: Optional[Origin]) -> Tuple[List[Line], Frame]:
     """The faces of frames' features, and how they came to the grid."""
-    layers = [features_of(df, name) for df, name in frames]
-    return rows_of(layers, Plan(grid=unit_for(frames[0][0], grid), origin=origin))
+    return rows_of([features_of(df, name) for df, name in frames], Plan(grid=grid, origin=origin))
 
 
 def overlay(
@@ -97,17 +85,18 @@ def overlay(
     if how not in HOWS:
         raise ValueError(f"`how` was '{how}' but is expected to be in {list(HOWS)}")
     for df, name in ((df1, "df1"), (df2, "df2")):
-        if not (hasattr(df, "columns") and hasattr(df, "geometry")):
-            raise TypeError(f"{name}: a {type(df).__name__} is no GeoDataFrame")
-        if not make_valid and not df.geometry.dropna().is_valid.all():
-            raise ValueError(f"{name} has geometries that aren't valid, and make_valid is False")
-    if df1.crs is not None and df2.crs is not None and df1.crs != df2.crs:
-        warnings.warn("the reference systems of both frames differ, and coordinates are taken as they are", UserWarning, stacklevel=3)
+        check_frame(df, name)
+        if not make_valid:
+            check_valid(df, name)
+        if how != "difference":
+            check_columns(df, name)
+    if how != "difference":
+        check_suffixes(df1, df2)
     lines, frame = faces_on(((df1, "df1"), (df2, "df2")), grid, origin)
     pairs, firsts, seconds = parts_of(lines, frame)
     if how == "difference":
-        result = difference(df1, firsts)
-    elif how == "intersection":
+        return difference(df1, firsts).reset_index(drop=True)
+    if how == "intersection":
         result = intersection(df1, df2, pairs)
     elif how == "symmetric_difference":
         result = symmetric_difference(df1, df2, firsts, seconds)
@@ -115,7 +104,40 @@ def overlay(
         result = union(df1, df2, pairs, firsts, seconds)
     if how == "identity":
         result = result[result[KEYS[0]].notnull()]
-    return result.drop(columns=[key for key in KEYS if key in result.columns]).reset_index(drop=True)
+    return result.drop(columns=KEYS).reset_index(drop=True)
+
+
+def check_frame(df: Any, name: str) -> None:
+    """Refuses what is no frame with geometries."""
+    if not (hasattr(df, "columns") and hasattr(df, "to_crs")):
+        raise TypeError(f"{name}: a {type(df).__name__} is no GeoDataFrame")
+    if not hasattr(df, "geometry"):
+        raise TypeError(f"{name}: a GeoDataFrame without a column of geometries, which set_geometry names")
+
+
+def check_valid(df: Any, name: str) -> None:
+    """Refuses a geometry that isn't valid."""
+    valid = (df.geometry.is_valid.to_numpy() | df.geometry.isna().to_numpy()).tolist()
+    if not all(valid):
+        raise GeometryError("isn't valid, and make_valid is False", name, valid.index(False) + 1)
+
+
+def check_columns(df: Any, name: str) -> None:
+    """Refuses columns that are called as those that join the parts of an answer, and warns of one that gives way to its geometries."""
+    for key in KEYS:
+        if key in df.columns:
+            raise ValueError(f"{name}: a column is called {key!r}, as one that joins the rows of both frames")
+    if GEOMETRY in df.columns and df.geometry.name != GEOMETRY:
+        warn(f"{name}: the column {GEOMETRY!r} is left out, as the answer's geometries are called so")
+
+
+def check_suffixes(df1: Any, df2: Any) -> None:
+    """Refuses columns of which two would have one name, by the suffixes of those that both frames have."""
+    first, second = (set(df.columns) - {df.geometry.name} for df in (df1, df2))
+    suffixed = {f"{name}{suffix}": name for name in first & second for suffix in SUFFIXES}
+    for name in first ^ second:
+        if name in suffixed:
+            raise ValueError(f"df1 and df2 have columns {suffixed[name]!r}, and one has {name!r}, so that two would be called {name!r}")
 
 
 def parts_of(lines: Iterable[Line], frame: Frame) -> Tuple[Parts, Parts, Parts]:
@@ -198,6 +220,7 @@ def union(df1: Any, df2: Any, pairs: Parts, firsts: Parts, seconds: Parts) -> An
 def dissolve(df: Any, said: Dict[str, Any], grid: Optional[Unit], origin: Optional[Origin]) -> Any:
     """See overlay_grid.dissolve. GeoPandas makes the groups and their values, as it is said, of points that tell the numbers of features."""
     geopandas = module("geopandas")
+    check_frame(df, "df")
     lines, frame = faces_on(((df, "df"),), grid, origin)
     name, count = df.geometry.name, len(df)
     marked = df.copy()

@@ -21,7 +21,7 @@ from functools import lru_cache
 from itertools import count
 from math import floor
 from operator import sub
-from typing import Any, Callable, List, NamedTuple, Optional, Sequence, Tuple, Union
+from typing import Any, Callable, Hashable, List, NamedTuple, Optional, Sequence, Tuple, Union
 
 from ._optional import numpy_for
 
@@ -31,8 +31,14 @@ LIMIT = 1 << 28
 # The unit where none is said: a millimetre where coordinates are metres.
 FINEST = Decimal("0.001")
 
+# And where coordinates are degrees: about a decimetre.
+FINEST_DEGREES = Decimal("0.000001")
+
 # An origin that is chosen is a multiple of so many units where that leaves room.
 ROUND_ORIGIN = 1000
+
+# What is wrong with a point for which a grid of a given origin has no room.
+OFF_THE_GRID = "lies off the grid, which has 2^28 units each way from its origin"
 
 # How many digits a number may have, before its point and in all.
 DIGITS = 400
@@ -82,9 +88,16 @@ def decimal(number: Unit, name: str) -> Decimal:
     return held
 
 
-@lru_cache(maxsize=64, typed=True)
 def unit_of(unit: Unit) -> Tuple[int, int]:
     """A unit as a whole number, and the number of decimal places by which that is to be divided."""
+    if not isinstance(unit, Hashable):
+        raise TypeError("grid is a number")
+    return unit_kept(unit)
+
+
+@lru_cache(maxsize=64, typed=True)
+def unit_kept(unit: Unit) -> Tuple[int, int]:
+    """The same, kept for the next calls."""
     held = decimal(unit, "grid")
     if held <= 0:
         raise ValueError(f"grid: a unit is above 0, not {unit}")
@@ -243,6 +256,11 @@ def far(span: Tuple[float, float], unit: int, places: int) -> bool:
 def middle_of(least: float, greatest: float) -> Tuple[int, int]:
     """The middle of two numbers, as a fraction."""
     return ((Fraction(least) + Fraction(greatest)) / 2).as_integer_ratio()
+
+
+def no_room_for(reach: float, box: Box) -> str:
+    """Why no grid of the unit has room for a box, by the farthest coordinate."""
+    return f"reaches {reach:.6g}, and the finest grid with room for all layers is {float(finest_for(box)):g}"
 
 
 def finest_for(box: Box) -> Decimal:

@@ -6,18 +6,23 @@ coordinates: an array of points, which is a ring, or a tuple of such arrays, whi
 
 from __future__ import annotations
 
+import re
 import sys
-from itertools import islice
-from typing import Any, Callable, Dict, Iterable, List, NamedTuple, Optional, Sequence, Tuple, Union
+from itertools import accumulate, islice
+from typing import Any, Callable, Dict, Iterable, List, Mapping, NamedTuple, Optional, Sequence, Tuple, Union
 
 from . import _wkb
+from ._calls import bytes_of
 from ._faults import GeometryError, Refused
-from ._grid import Frame
+from ._grid import WHOLE, Frame
 from ._optional import module
 from ._shapes import POINT, Builder, Placed, Polygons, Shapes, found_in, is_closed, text_of
 from ._texts import Text, placed
 
 Answerer = Callable[[str, Frame], Any]
+
+# The text of one geometry, as far as that tells it from none and from several.
+ONE_GEOMETRY = re.compile(rb"\s*(?:multi)?polygon\b(?!.*polygon)", re.IGNORECASE | re.DOTALL)
 
 
 def text_answer(text: str, frame: Frame) -> str:
@@ -81,12 +86,13 @@ def answer_of(answer: Answerer, polygons: Polygons, frame: Frame) -> Any:
 
 
 class Given(NamedTuple):
-    """A layer that was given: what it holds, whether it covers what any of its features covers (else it is read by parity), and what
-    makes an answer of its kind, which a list without geometries doesn't tell."""
+    """A layer that was given: what it holds, whether it covers what any of its features covers (else it is read by parity), what makes
+    an answer of its kind, which a list without geometries doesn't tell, and its reference system: of a frame or a series one, or None."""
 
     held: Union[Shapes, Text]
     covered: bool
     answer: Optional[Answerer]
+    systems: Tuple[Any, ...] = ()
 
 
 def is_geometry(value: Any) -> bool:
@@ -127,33 +133,47 @@ def given(layer: Any, name: str) -> Given:
     """A layer as it was given."""
     answer = kind_of(layer)
     if answer in (text_answer, bytes_answer):
-        return Given(Text(layer.encode() if isinstance(layer, str) else bytes(layer), name), False, answer)
+        return Given(Text(bytes_of(layer), name), False, answer)
     if answer is not None:
         return Given(shapes_of([layer], name), True, answer)
     features = list_of(layer, name)
     answer = kind_of(next((feature for feature in features if feature is not None), None))
     if answer in (text_answer, bytes_answer):
         return Given(joined_texts(features, name), True, answer)
-    return Given(shapes_of(features, name), True, answer)
+    systems = systems_of(layer)
+    return Given(shapes_of(features, name), True, answer or (shapely_answer if systems else None), systems)
+
+
+def systems_of(layer: Any) -> Tuple[Any, ...]:
+    """The reference system of a frame or a series, which is None where it has none; nothing of other lists."""
+    return (layer.crs,) if hasattr(layer, "crs") else ()
 
 
 def list_of(layer: Any, name: str) -> List[Any]:
     """The features of a layer that is a list, an array, a series or a frame of geometries."""
-    if hasattr(layer, "columns") and hasattr(layer, "geometry"):
+    if hasattr(layer, "columns"):
+        if not hasattr(layer, "geometry"):
+            raise TypeError(f"{name}: a {type(layer).__name__} without a column of geometries is no layer")
         layer = layer.geometry
-    try:
+    if is_array(layer) and (layer.ndim != 1 or layer.dtype.kind not in "OSU"):
+        raise TypeError(f"{name}: an array of shape {layer.shape} and type {layer.dtype} is no layer")
+    if isinstance(layer, Iterable) and not isinstance(layer, Mapping):
         return list(layer)
-    except TypeError as error:
-        raise TypeError(f"{name}: a {type(layer).__name__} is no layer") from error
+    raise TypeError(f"{name}: a {type(layer).__name__} is no layer")
 
 
 def joined_texts(features: Iterable[Any], name: str) -> Text:
-    """Texts as one layer, one after another."""
-    texts = [b"POLYGON EMPTY" if feature is None else feature for feature in features]
-    for number, text in enumerate(texts, 1):
-        if kind_of(text) not in (text_answer, bytes_answer):
+    """Texts as one layer, one after another, so that their numbers are those of the layer's geometries."""
+    texts = []
+    for number, feature in enumerate(features, 1):
+        if feature is not None and kind_of(feature) not in (text_answer, bytes_answer):
             raise GeometryError("is no text, as the first one is", name, number)
-    return Text(b"\n".join([text.encode() if isinstance(text, str) else bytes(text) for text in texts]), name)
+        text = b"" if feature is None else bytes_of(feature)
+        texts.append(text if text.strip() else b"POLYGON EMPTY")
+        if not ONE_GEOMETRY.match(texts[-1]):
+            raise GeometryError("is no text of one polygon or multipolygon", name, number)
+    starts = accumulate((len(text) + 1 for text in texts[:-1]), initial=0)
+    return Text(b"\n".join(texts), name, list(starts))
 
 
 def shapes_of(features: Sequence[Any], name: str) -> Shapes:
@@ -185,7 +205,10 @@ def add_rings(feature: Any, builder: Builder) -> None:
         if not is_array(ring) or ring.dtype.kind not in "fiu" or ring.ndim != 2 or ring.shape[1] != 2:
             told = f"an array of shape {ring.shape}" if is_array(ring) else f"a {type(ring).__name__}"
             raise builder.refused(f"{told} is no polygon: a ring is an array of shape (n, 2)")
-        points = ring.astype("<f8", copy=False).tobytes()
+        numbers = ring.astype("<f8", copy=False)
+        if ring.dtype.kind in "iu" and (abs(numbers) >= WHOLE).any():
+            raise builder.refused("has whole numbers from 2^53 on, of which floating-point numbers have not all", 1)
+        points = numbers.tobytes()
         builder.ring(points if is_closed(points) else points + points[:POINT], 1)
     builder.feature([len(rings)])
 
@@ -194,5 +217,6 @@ def told_at(error: Refused, layers: Sequence[Given]) -> Refused:
     """A refusal of a layer's text on the grid, told of the text as it came."""
     for layer in layers:
         if isinstance(layer.held, Text) and layer.held.layer == error.layer and error.offset is not None:
-            return error.at(layer.held.place(error.offset))
+            words = str(error).partition(": ")[2].rpartition(" at ")[0]
+            return layer.held.refused(words, error.number, layer.held.place(error.offset))
     return error

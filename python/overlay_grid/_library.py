@@ -74,7 +74,16 @@ class Columns(ctypes.Structure):
 
 
 def _opened() -> ctypes.CDLL:
-    opened = ctypes.CDLL(os.path.join(os.path.dirname(os.path.abspath(__file__)), "liboverlay.so"))
+    path = os.path.join(os.path.dirname(os.path.abspath(__file__)), "liboverlay.so")
+    try:
+        opened = ctypes.CDLL(path)
+        opened.overlay_version.argtypes = []
+        opened.overlay_version.restype = ctypes.c_uint32
+        version = opened.overlay_version()
+    except (OSError, AttributeError) as error:
+        raise ImportError(f"{error} (a wheel is for x86-64 Linux; from the sources python/build makes the library)", path=path) from error
+    if version != CALLS:
+        raise ImportError(f"{path} has version {version} of the calls, and {CALLS} is wanted", path=path)
     text = [ctypes.c_char_p, ctypes.c_size_t]
     room = [ctypes.c_void_p, ctypes.c_size_t, ctypes.c_void_p]
     opened.overlay_fill_within.argtypes = [*[ctypes.c_uint32] * 3, *text, *text, *room]
@@ -98,10 +107,6 @@ def _opened() -> ctypes.CDLL:
     opened.overlay_faces_columns_fill.restype = None
     opened.overlay_faces_columns_side.argtypes = [columns, ctypes.c_size_t]
     opened.overlay_faces_columns_side.restype = ctypes.c_uint32
-    opened.overlay_version.argtypes = []
-    opened.overlay_version.restype = ctypes.c_uint32
-    if opened.overlay_version() != CALLS:
-        raise ImportError("liboverlay.so is of another version")
     return opened
 
 

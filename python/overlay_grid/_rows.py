@@ -4,7 +4,7 @@ from __future__ import annotations
 
 from array import array
 from itertools import repeat
-from typing import List, NamedTuple, Sequence, Tuple
+from typing import Any, List, NamedTuple, Sequence, Tuple
 
 from ._shapes import Piece, Polygons, Whole
 
@@ -19,6 +19,12 @@ class Line(NamedTuple):
     polygons: Polygons
 
 
+def numbers_in(ids: "array[int]", offsets: "array[int]") -> List[Tuple[int, ...]]:
+    """Lists of features, from 1 on. Each number is one object, however many lists have it."""
+    names = list(range(1, max(ids, default=-1) + 2))
+    return [tuple(map(names.__getitem__, ids[first:past])) for first, past in zip(offsets, offsets[1:])]
+
+
 def lines_of(text: bytes) -> List[Line]:
     """The rows of an answer that is a text."""
     return [line_of(line) for line in text.decode("ascii").splitlines()]
@@ -30,10 +36,15 @@ def line_of(line: str) -> Line:
     return Line(int(twice), tuple(tuple(map(int, numbers.split(","))) if numbers else () for numbers in ids), wkt)
 
 
-def lines_in(lists: Sequence["array[int]"], layers: int) -> List[Line]:
-    """The rows of so many layers' faces, as the library answers columns."""
+def lines_in(lists: Sequence["array[int]"], layers: int, numbered: bool = True) -> List[Line]:
+    """The rows of so many layers' faces, as the library answers columns. Where they aren't to be numbered, ranges stand for the lists of
+    features, which are as long."""
     coordinates, rings, polygons, rows, twice, ids, offsets = lists
-    numbers, count = [number + 1 for number in ids], len(twice)
-    each = [tuple(numbers[first:past]) for first, past in zip(offsets, offsets[1:])]
+    each: Sequence[Any]
+    if numbered:
+        each = numbers_in(ids, offsets)
+    else:
+        each = [range(first, past) for first, past in zip(offsets, offsets[1:])]
+    count = len(twice)
     sets = zip(*(each[layer * count : (layer + 1) * count] for layer in range(layers)))
     return list(map(Line, twice, sets, map(Piece, repeat(Whole(coordinates, rings, polygons)), rows, rows[1:])))

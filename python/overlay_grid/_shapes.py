@@ -14,7 +14,7 @@ from operator import sub
 from typing import Iterable, Iterator, List, NamedTuple, Optional, Sequence, Tuple, Union
 
 from ._faults import GeometryError
-from ._grid import Box, Frame, finest_for
+from ._grid import OFF_THE_GRID, Box, Frame, no_room_for
 from ._optional import numpy_for
 
 # A ring of fewer points, the first one again at its end, is refused.
@@ -22,6 +22,9 @@ LEAST_RING = 4
 
 # How many bytes a point has.
 POINT = 16
+
+# Forms of rings up to so many points are kept.
+KEPT = 512
 
 
 class Rings(NamedTuple):
@@ -90,7 +93,7 @@ class Shapes(NamedTuple):
         """The refusal of the first point that lies off a grid; nothing where none does."""
         for k, (x, y) in enumerate(zip(self.x, self.y)):
             if frame.off(x, y):
-                return self.fault(f"the point {x!r} {y!r} lies off the grid, which has 2^28 units each way from its origin", k)
+                return self.fault(f"the point {x!r} {y!r} {OFF_THE_GRID}", k)
         return None
 
     def farthest(self) -> float:
@@ -101,8 +104,7 @@ class Shapes(NamedTuple):
         """The refusal of the farthest point, where no grid of the unit has room for a box of all layers."""
         reach = self.farthest()
         k = next(k for k, (x, y) in enumerate(zip(self.x, self.y)) if reach in (abs(x), abs(y)))
-        reason = f"reaches {reach:.6g}, and the finest grid with room for all layers is {float(finest_for(box)):g}"
-        return self.fault(reason, k)
+        return self.fault(no_room_for(reach, box), k)
 
     def coordinates(self, frame: Frame) -> "array[int]":
         """x and y of all points on the grid, by turns."""
@@ -135,10 +137,18 @@ def counts_of(offsets: "array[int]") -> List[int]:
     return list(map(sub, offsets[1:], offsets))
 
 
-@lru_cache(maxsize=1024)
 def ring_form(points: int) -> str:
     """The form of a ring's text."""
+    return form_kept(points) if points <= KEPT else form_made(points)
+
+
+def form_made(points: int) -> str:
+    """The same, made anew."""
     return f"({'%d %d, ' * (points - 1)}%d %d)"
+
+
+# The same for the next calls.
+form_kept = lru_cache(maxsize=None)(form_made)
 
 
 def form_of(rings: Iterable[int], polygons: Iterable[int], features: Iterable[int]) -> str:

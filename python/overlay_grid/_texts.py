@@ -7,21 +7,24 @@ from __future__ import annotations
 
 import re
 from array import array
+from bisect import bisect_left
 from math import isfinite
-from typing import Iterable, List, Optional
+from typing import Iterable, List, Optional, Sequence, Tuple
 
 from ._faults import Refusal, Refused
-from ._grid import LIMIT, Box, Frame
+from ._grid import LIMIT, OFF_THE_GRID, Box, Frame, no_room_for
 
-NUMBER = re.compile(rb"(?<![^\s(),])([-+]?(?:\d+\.?\d*|\.\d+)(?:[eE][-+]?\d+)?)(?![^\s(),])")
+NUMBER = re.compile(rb"(?<![^\s(),])([-+]?(?:\d+(?:\.\d*)?|\.\d+)(?:[eE][-+]?\d+)?)(?![^\s(),])")
 WHOLE = re.compile(r"(-?\d+)")
 
 
 class Text:
-    """A layer's text, and its numbers: x and y by turns, where it is a text of polygons at all."""
+    """A layer's text, and its numbers: x and y by turns, where it is a text of polygons at all. Of a list of texts it tells where each
+    of them begins; each has a polygon or a multipolygon, and they stand one behind another on lines of their own."""
 
-    def __init__(self, text: bytes, layer: str) -> None:
+    def __init__(self, text: bytes, layer: str, starts: Sequence[int] = ()) -> None:
         self.layer = layer
+        self.starts = starts
         self.pieces: List[bytes] = NUMBER.split(text)
         self.values = array("d", map(float, self.pieces[1::2]))
         self.made = self.pieces
@@ -31,7 +34,7 @@ class Text:
         if not isfinite(sum(self.values)):
             for number, value in enumerate(self.values):
                 if not isfinite(value):
-                    raise self.out_of_range(number)
+                    raise self.out_of_range(number, "is no finite number")
         if len(self.values) < 2:
             return None
         x, y = self.values[0::2], self.values[1::2]
@@ -41,7 +44,7 @@ class Text:
         """The refusal of the first number that lies off a grid; nothing where none does."""
         for number, value in enumerate(self.values):
             if abs(frame[number % 2].exact(value)) > LIMIT:
-                return self.out_of_range(number)
+                return self.out_of_range(number, OFF_THE_GRID)
         return None
 
     def farthest(self) -> float:
@@ -51,12 +54,26 @@ class Text:
     def no_room(self, box: Box) -> Refused:
         """The refusal of the farthest number, where no grid of the unit has room for a box of all layers."""
         reach = self.farthest()
-        return self.out_of_range(next(k for k, value in enumerate(self.values) if abs(value) == reach))
+        return self.out_of_range(next(k for k, value in enumerate(self.values) if abs(value) == reach), no_room_for(reach, box))
 
-    def out_of_range(self, number: int) -> Refused:
+    def out_of_range(self, number: int, reason: str) -> Refused:
         """The refusal of a number, by its place among all."""
-        at = sum(map(len, self.pieces[: 2 * number + 1]))
-        return Refused(f"{self.layer}: 2 number out of range at {at}", Refusal.NUMBER_RANGE, self.layer, at, None)
+        place = sum(map(len, self.pieces[: 2 * number + 1]))
+        return self.refused("2 number out of range", Refusal.NUMBER_RANGE, place, f": {reason}")
+
+    def refused(self, words: str, number: int, place: int, more: str = "") -> Refused:
+        """The refusal of what stands at a place of the text as it came."""
+        feature, offset = self.feature_at(place)
+        layer = self.layer if feature is None else f"{self.layer}: feature {feature}"
+        return Refused(f"{layer}: {words} at {offset}{more}", number, self.layer, offset, None, feature)
+
+    def feature_at(self, place: int) -> Tuple[Optional[int], int]:
+        """Which of a list's texts has a place, and where in it that is. What stands where a text begins is that the one before ended."""
+        if not self.starts:
+            return None, place
+        feature = max(1, bisect_left(self.starts, place))
+        first, *after = self.starts[feature - 1 : feature + 1]
+        return feature, min([place, *(start - 1 for start in after)]) - first
 
     def text(self, frame: Frame) -> bytes:
         """The text on the grid."""

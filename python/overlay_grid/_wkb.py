@@ -116,9 +116,8 @@ def add(data: Optional[bytes], builder: Builder) -> None:
     """Adds a geometry; nothing is one without polygons."""
     if data is None:
         return builder.feature([])
-    end = plain_end(data, 0)
-    if end:
-        builder.ring(data[PLAIN.size : end], 1)
+    if data and plain_end(data, 0) == len(data):
+        builder.ring(data[PLAIN.size :], 1)
         return builder.feature([1])
     try:
         builder.feature(list(polygons_of(data, builder)))
@@ -132,13 +131,14 @@ def polygons_of(data: bytes, builder: Builder) -> Iterator[int]:
     """Adds the rings of a geometry that isn't plain; how many each of its polygons has."""
     _, kind, _, parts, at = head_of(data, 0)
     if kind == POLYGON:
-        yield add_polygon(data, 0, builder, 1)[0]
-        return
-    if kind != MULTIPOLYGON and (kind != COLLECTION or parts):  # Shapely 1.8 has empty geometries as collections of nothing
+        at, parts = 0, 1
+    elif kind != MULTIPOLYGON and (kind != COLLECTION or parts):  # Shapely 1.8 has empty geometries as collections of nothing
         raise Unusual(f"a {NAMES.get(kind, f'geometry of kind {kind}')} is no polygon")
     for part in range(1, parts + 1):
         rings, at = add_polygon(data, at, builder, part)
         yield rings
+    if at < len(data):
+        raise Unusual(f"is WKB that goes on behind its end, by {len(data) - at} of {len(data)} bytes")
 
 
 def encoded(points: "array[float]", rings: List[int], polygons: List[int]) -> bytes:

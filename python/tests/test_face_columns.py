@@ -1,13 +1,15 @@
 """Faces of layers that go to the library as columns: the rows are those of texts, and so are the refusals."""
 
 import threading
+import tracemalloc
+from array import array
 
 import overlay_grid
 import pairs
 import pytest
-from overlay_grid import OutOfMemory, Refusal, Refused, _columns, _rooms
+from overlay_grid import OutOfMemory, Refusal, Refused, _columns, _rooms, _rows
 from test_columns import REFUSED, WHOLE, bars, one_of
-from test_kinds import A, B, multi, rings_of, wkb_of
+from test_kinds import A, B, WORKED, multi, rings_of, wkb_of
 
 SQUARE = "MULTIPOLYGON (((0 0, 4 0, 4 4, 0 4, 0 0)))"
 
@@ -26,6 +28,7 @@ def wanted(*layers):
     return [(row.twice_area, row.ids, wkb_of(row.wkt)) for row in overlay_grid.faces(*layers)]
 
 
+@pytest.mark.filterwarnings("ignore:.*the grid leaves nothing")
 @pytest.mark.parametrize("seed", range(60))
 def test_rows(seed):
     a, b = pairs.pair(seed)
@@ -97,6 +100,21 @@ def test_answers_that_are_larger_than_guessed(monkeypatch):
     layers = [bars(60, turned)[len("MULTIPOLYGON (") : -1].replace(")), ((", "))|((").split("|") for turned in (False, True)]
     texts = ["\n".join(f"POLYGON {polygon}" for polygon in layer) for layer in layers]
     assert faces_of(*map(features_of, texts)) == wanted(*texts) and len(sizes) == 2 and sizes[1] > 3600 * 100
+
+
+def test_lists_of_many_features(monkeypatch):
+    """A row's numbers are the same objects in all rows, and an operation makes none of them."""
+    offsets = array("I", range(0, 300_001, 300))
+    tracemalloc.start()
+    try:
+        lists = _rows.numbers_in(array("I", [*range(700, 1000)] * 1000), offsets)
+        assert tracemalloc.get_traced_memory()[0] < 4 << 20
+    finally:
+        tracemalloc.stop()
+    assert lists == [tuple(range(701, 1001))] * 1000 and _rows.numbers_in(array("I"), array("I", [0, 0])) == [()]
+    monkeypatch.setattr(_rows, "numbers_in", None)
+    a, b = (wkb_of(multi(text)) for text in (A, B))
+    assert overlay_grid.union([a, b, a], [b], grid=0.1) == wkb_of(WORKED["union"])
 
 
 def test_wide_layers():

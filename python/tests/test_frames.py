@@ -110,6 +110,37 @@ def test_names_of_geometries(how):
 
 
 @pytest.mark.parametrize("how", HOWS)
+@pytest.mark.parametrize("more, name", [("id_1", "df1"), ("id_2", "df1"), ("id_1", "df2")])
+def test_columns_that_would_have_one_name(how, more, name):
+    df1, df2 = (df.assign(id=1) for df in worked())
+    (df1 if name == "df1" else df2)[more] = 7
+    if how == "difference":
+        same(overlay_grid.overlay(df1, df2, how, grid=1), theirs(df1, df2, how=how))
+    else:
+        with pytest.raises(ValueError, match=f"^df1 and df2 have columns 'id', and one has {more!r}, so that two would be called {more!r}"):
+            overlay_grid.overlay(df1, df2, how, grid=1)
+
+
+@pytest.mark.parametrize("how", HOWS)
+def test_columns_of_both_with_suffixes(how):
+    df1, df2 = (df.assign(id=1, id_1=2) for df in worked())
+    same(overlay_grid.overlay(df1, df2, how, grid=1), theirs(df1, df2, how=how))
+
+
+@pytest.mark.parametrize("how", HOWS)
+def test_another_column_called_geometry(how):
+    """It is left out, as GeoPandas does, and that is told."""
+    df1, df2 = worked()
+    df1 = df1.rename_geometry("shape").assign(geometry=["p", "q"])
+    with warnings.catch_warnings(record=True) as told:
+        warnings.simplefilter("always")
+        found = overlay_grid.overlay(df1, df2, how, grid=1)
+    words = ["df1: the column 'geometry' is left out, as the answer's geometries are called so"]
+    assert [str(one.message) for one in told] == (words if how != "difference" else [])
+    same(found, theirs(df1, df2, how=how))
+
+
+@pytest.mark.parametrize("how", HOWS)
 def test_nothing_in_common(how):
     df1, df2 = worked()
     df2.geometry = df2.geometry.translate(100, 0)
@@ -133,7 +164,49 @@ def test_units():
     other = geopandas.GeoDataFrame({"b": [1]}, geometry=[box(0, 0, 1, 1)], crs="EPSG:4326")
     assert overlay_grid.overlay(fine, other).geometry.iloc[0].equals(box(0, 0, 0.0004, 1))
     fine.crs = other.crs = None
-    assert len(overlay_grid.overlay(fine, other)) == 0
+    with pytest.warns(UserWarning, match="df1: the grid leaves nothing of 1 of 1 features: 1"):
+        assert len(overlay_grid.overlay(fine, other)) == 0
+
+
+@pytest.mark.parametrize("layer", [lambda df: df, lambda df: df.geometry, lambda df: df.geometry.values], ids=["frame", "series", "array"])
+def test_units_of_degrees(layer):
+    """Frames and series in degrees have a finer unit by themselves in all calls, and where only one of two tells its system."""
+    fine = geopandas.GeoDataFrame({"a": [1]}, geometry=[box(0, 0, 0.0004, 1)], crs="EPSG:4326")
+    plain = geopandas.GeoDataFrame({"b": [1]}, geometry=[box(0, 0, 1, 1)])
+    degrees, unknown = layer(fine), layer(plain)
+    with warnings.catch_warnings():
+        warnings.simplefilter("ignore")
+        for a, b in ((degrees, degrees), (unknown, degrees), (degrees, unknown)):
+            assert overlay_grid.intersection(a, b).equals(box(0, 0, 0.0004, 1))
+            assert ((1,), (1,)) in [face.ids for face in overlay_grid.faces(a, b)]
+        assert overlay_grid.faces(degrees)[0].geometry.equals(box(0, 0, 0.0004, 1))
+        assert len(overlay_grid.edges(degrees, [])) == 4
+        assert overlay_grid.intersection(degrees, unknown, grid=0.001).is_empty
+
+
+def test_units_of_frames_of_which_one_has_a_system():
+    fine = geopandas.GeoDataFrame({"a": [1]}, geometry=[box(0, 0, 0.0004, 1)])
+    other = geopandas.GeoDataFrame({"b": [1]}, geometry=[box(0, 0, 1, 1)], crs="EPSG:4326")
+    with pytest.warns(UserWarning, match="reference systems"):
+        assert len(overlay_grid.overlay(fine, other)) == 1
+
+
+def test_reference_systems_of_layers():
+    """Layers whose systems differ are warned of at the caller's line, and what tells no system isn't."""
+    df1, df2 = worked()
+    metres, others = df1.set_crs("EPSG:25832"), df2.set_crs("EPSG:25833")
+    calls = [overlay_grid.union, overlay_grid.faces, overlay_grid.edges, overlay_grid.overlay]
+    for call in [*calls, lambda a, b: overlay_grid.overlay(overlay_grid.Operation.UNION, a, b)]:
+        for a, b in ((metres, others), (metres, df2), (df1, others)):
+            with pytest.warns(UserWarning, match="reference systems") as told:
+                call(a, b)
+            assert [warning.filename for warning in told] == [__file__]
+    with warnings.catch_warnings():
+        warnings.simplefilter("error")
+        for call in calls:
+            call(metres, metres)
+        overlay_grid.union(metres.geometry, list(df2.geometry))
+        overlay_grid.faces(df1, [box(0, 0, 1, 1)])
 
 
 @pytest.mark.parametrize("how", HOWS)
@@ -142,7 +215,29 @@ def test_reference_systems(how):
     with pytest.warns(UserWarning, match="reference systems"):
         found = overlay_grid.overlay(df1.set_crs("EPSG:25832"), df2.set_crs("EPSG:25833"), how)
     same(found, theirs(df1, df2, how=how).set_crs("EPSG:25832"))
-    same(overlay_grid.overlay(df1.set_crs("EPSG:25832"), df2, how), theirs(df1, df2, how=how).set_crs("EPSG:25832"))
+    with pytest.warns(UserWarning, match="reference systems"):
+        found = overlay_grid.overlay(df1.set_crs("EPSG:25832"), df2, how)
+    same(found, theirs(df1, df2, how=how).set_crs("EPSG:25832"))
+
+
+def test_features_that_the_grid_leaves_nothing_of():
+    """They are told by their numbers, and features without polygons aren't."""
+    small = [box(k, 0, k + 0.001, 1) for k in range(7)]
+    df = geopandas.GeoDataFrame({"k": ["a"] * 9}, geometry=[None, *small[:3], box(0, 0, 9, 9), *small[3:]])
+    whole = geopandas.GeoDataFrame({"b": [1]}, geometry=[box(0, 0, 5, 5)])
+    told = "the grid leaves nothing of 7 of 9 features: 2, 3, 4, 6, 7, .."
+    for name, call in (
+        ("df1", lambda: overlay_grid.overlay(df, whole, grid=1)),
+        ("df2", lambda: overlay_grid.overlay(whole, df, "difference", grid=1)),
+        ("df", lambda: overlay_grid.dissolve(df, by="k", grid=1)),
+        ("B", lambda: overlay_grid.faces(whole, df, grid=1)),
+    ):
+        with pytest.warns(UserWarning) as warned:
+            call()
+        assert [(str(one.message), one.filename) for one in warned] == [(f"{name}: {told}", __file__)]
+    with warnings.catch_warnings():
+        warnings.simplefilter("error")
+        overlay_grid.overlay(df, whole, grid=0.001)
 
 
 @pytest.mark.parametrize("how", HOWS)
@@ -154,6 +249,16 @@ def test_no_rows(how):
         want = {"intersection": 0, "union": max(count, len(second)), "symmetric_difference": max(count, len(second))}.get(how, count)
         assert list(found.columns) == columns and len(found) == want
     assert len(overlay_grid.dissolve(df1.iloc[:0], by="df1_data")) == 0
+
+
+def test_no_geometries():
+    """The answer on frames and series without geometries is a geometry, too."""
+    df, _ = worked()
+    none = geopandas.GeoSeries([None, None])
+    for call in (overlay_grid.union, overlay_grid.intersection, overlay_grid.difference, overlay_grid.symdifference):
+        for empty in (df.iloc[:0], df.geometry.iloc[:0], none):
+            assert call(empty, none).is_empty and call(empty, []).is_empty and call([], empty).is_empty
+    assert overlay_grid.union(df.iloc[:0], df).area == 8
 
 
 def test_missing_geometries():
@@ -178,8 +283,10 @@ def test_refused():
         overlay_grid.dissolve(lines)
     bow = geopandas.GeoDataFrame({"a": [1]}, geometry=[Polygon([(0, 0), (1, 1), (1, 0), (0, 1)])])
     assert len(overlay_grid.overlay(bow, df2, "difference")) == 1
-    with pytest.raises(ValueError, match="make_valid is False"):
-        overlay_grid.overlay(bow, df2, make_valid=False)
+    mixed = geopandas.GeoDataFrame({"a": [1, 2, 3]}, geometry=[None, box(0, 0, 1, 1), bow.geometry[0]], index=[5, 5, 5])
+    with pytest.raises(GeometryError, match="^df2: feature 3: isn't valid, and make_valid is False"):
+        overlay_grid.overlay(df1, mixed, make_valid=False)
+    assert len(overlay_grid.overlay(df1, mixed[:2], make_valid=False)) == 1
     holed = box(0, 0, 9, 9).difference(box(1, 1, 2, 2))
     lost = Polygon(holed.exterior.coords, [[(1, 1), (float("nan"), 1), (2, 2), (1, 1)]])
     with pytest.raises(GeometryError, match="^df2: feature 3, polygon 2: a coordinate is no finite number") as fault:
@@ -188,6 +295,36 @@ def test_refused():
     far = geopandas.GeoDataFrame({"a": [1]}, geometry=[box(0, 0, 1e12, 1)])
     with pytest.raises(GeometryError, match="^df1: feature 1, polygon 1: reaches 1e\\+12"):
         overlay_grid.overlay(far, df2)
+
+
+def test_no_frames():
+    """What has no geometries is told by its name, by each call."""
+    df1, df2 = worked()
+    table = pandas.DataFrame({"geometry": df1.geometry})
+    bare = geopandas.GeoDataFrame({"a": [1]})
+    for wrong, words in ((table, "a DataFrame is no GeoDataFrame"), ([1], "a list is no GeoDataFrame"), (bare, "a GeoDataFrame without a column")):
+        with pytest.raises(TypeError, match=f"^df1: {words}"):
+            overlay_grid.overlay(wrong, df2)
+        with pytest.raises(TypeError, match=f"^df: {words}"):
+            overlay_grid.dissolve(wrong)
+    for wrong in (bare, pandas.DataFrame({"a": [1]})):
+        with pytest.raises(TypeError, match="^B: a .*DataFrame without a column of geometries is no layer"):
+            overlay_grid.faces(df1, wrong)
+    assert len(overlay_grid.faces(table)) == 2
+
+
+@pytest.mark.parametrize("how", HOWS)
+def test_columns_called_as_those_that_join(how):
+    """No column is lost or taken for another one."""
+    df1, df2 = worked()
+    df1["__idx1"], df2["__idx2"] = 7, 8
+    if how == "difference":
+        assert overlay_grid.overlay(df1, df2, how)["__idx1"].tolist() == [7, 7]
+    else:
+        with pytest.raises(ValueError, match="^df1: a column is called '__idx1'"):
+            overlay_grid.overlay(df1, df2, how)
+        with pytest.raises(ValueError, match="^df2: a column is called '__idx2'"):
+            overlay_grid.overlay(df2.rename(columns={"__idx2": "a"}), df2, how)
 
 
 PLANS = [

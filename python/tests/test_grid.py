@@ -102,8 +102,9 @@ def test_units():
     for wrong in (0, -1, "nan", "inf", "a metre", "1e-500"):
         with pytest.raises(ValueError, match="^grid: "):
             _grid.unit_of(wrong)
-    with pytest.raises(TypeError):
-        _grid.unit_of(True)
+    for wrong in (True, [1], {}):
+        with pytest.raises(TypeError, match="^grid is a number"):
+            _grid.unit_of(wrong)
     with pytest.raises(TypeError, match="origin"):
         _grid.frame_at(1, 5)
     with pytest.raises(ValueError, match="^origin: "):

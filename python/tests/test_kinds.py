@@ -5,14 +5,16 @@ import re
 import struct
 import subprocess
 import sys
+import tracemalloc
 from decimal import Decimal
 
 import overlay_grid
 import pairs
 import pytest
-from overlay_grid import GeometryError, Operation, Refusal, Refused, _kinds, _shapes, _uniting
+from overlay_grid import GeometryError, Operation, Refusal, Refused, _grid, _kinds, _shapes, _uniting
 from test_overlay_grid import PROGRAM
 
+FINEST_IS = "and the finest grid with room for all layers is"
 A = "POLYGON ((0 0, 0.4 0, 0.4 0.4, 0 0.4, 0 0))"
 B = "POLYGON ((0.2 0.2, 0.6 0.2, 0.6 0.6, 0.2 0.6, 0.2 0.2))"
 WORKED = {
@@ -107,10 +109,14 @@ REFUSED = [
     (("POLYGON ((0 0, nan 0, 1 1, 0 0))", ""), {}, ("A: 1 syntax at 15", Refusal.SYNTAX, "A", 15)),
     (("", "POLYGON ((0.25 0, 1.25 0, 0.25 0))"), {}, ("B: 3 short ring at 9", Refusal.SHORT_RING, "B", 9)),
     (("POLYGON EMPTY POLYGON ((0.25 0, 1.25 0, 0.25 1, 1 1))", ""), {}, ("A: 4 open ring at 23", Refusal.OPEN_RING, "A", 23)),
-    (("", "POLYGON ((0.5 0, 1e999 0, 1 1, 0.5 0))"), {}, ("B: 2 number out of range at 17", Refusal.NUMBER_RANGE, "B", 17)),
-    (("", "POLYGON ((-1e999"), {}, ("B: 2 number out of range at 10", Refusal.NUMBER_RANGE, "B", 10)),
-    (("POLYGON ((0.5 0, 1 0, 1 268435456.5, 0.5 0))", ""), {"origin": (0, 0)}, ("A: 2 number out of range at 24", 2, "A", 24)),
-    (("POLYGON ((0 0, 1 0, 1 1, 0 0))", "POLYGON ((0 0, 1 0, -1e10 1, 0 0))"), {}, ("B: 2 number out of range at 20", 2, "B", 20)),
+    (("", "POLYGON ((0.5 0, 1e999 0, 1 1, 0.5 0))"), {}, ("B: 2 number out of range at 17: is no finite number", Refusal.NUMBER_RANGE, "B", 17)),
+    (("", "POLYGON ((-1e999"), {}, ("B: 2 number out of range at 10: is no finite number", Refusal.NUMBER_RANGE, "B", 10)),
+    (("POLYGON ((0.5 0, 1 0, 1 268435456.5, 0.5 0))", ""), {"origin": (0, 0)}, (f"A: 2 number out of range at 24: {_grid.OFF_THE_GRID}", 2, "A", 24)),
+    (
+        ("POLYGON ((0 0, 1 0, 1 1, 0 0))", "POLYGON ((0 0, 1 0, -1e10 1, 0 0))"),
+        {},
+        (f"B: 2 number out of range at 20: reaches 1e+10, {FINEST_IS} 20", 2, "B", 20),
+    ),
     (("POLYGON ((0 0, 1e10 0, 1 1, 0 0)", ""), {}, ("A: 1 syntax at 32", Refusal.SYNTAX, "A", 32)),
 ]
 
@@ -197,6 +203,9 @@ GEOMETRIES = [
     (wkb_of(multi(A)), struct.pack("<BII", 1, 7, 1) + wkb_of(multi(B)), "A: feature 2: a GeometryCollection is no polygon", None),
     (wkb_of(multi(A)), wkb_of(multi(B))[:-1], "A: feature 2: is WKB that isn't whole", None),
     (wkb_of(multi(A)), wkb_of(multi(B))[:7], "A: feature 2: is WKB that isn't whole", None),
+    (wkb_of(multi(A)), wkb_of(multi(A)) + b"\0", "A: feature 2: is WKB that goes on behind its end, by 1 of 94 bytes", None),
+    (None, wkb_of("MULTIPOLYGON EMPTY") + wkb_of(multi(A)), "A: feature 2: is WKB that goes on behind its end, by 93 of 102 bytes", None),
+    (None, wkb_of(multi(A), ">") + wkb_of(multi(B)), "A: feature 2: is WKB that goes on behind its end, by 93 of 186 bytes", None),
     (None, wkb_of("MULTIPOLYGON (((0 0, nan 0, 1 1, 0 0)))"), "A: feature 2, polygon 1: a coordinate is no finite number: nan", 1),
     (
         wkb_of(multi(A)),
@@ -238,6 +247,51 @@ def test_refused_geometries(first, second, words, part):
         overlay_grid.difference(wkb_of(multi(A)), second)
 
 
+@pytest.mark.parametrize("number", ["{}x", "{}.{}x", "1.{}x", "1e{}x", "-{}-", "{}e"])
+def test_long_words_that_are_no_numbers(number):
+    """They are refused in a time that grows as their length does."""
+    word = number.format("1" * 200_000, "1" * 200_000)
+    with pytest.raises(Refused, match="^A: 1 syntax at"):
+        overlay_grid.union(f"POLYGON ((0 0, {word} 0, 1 1, 0 0))", "", grid=1)
+
+
+LISTS_OF_TEXTS = [
+    ([A, "POLYGON ((0 0, 1 0", B], Refused, "A: feature 2: 1 syntax at 18", (2, 18)),
+    ([A, " POLYGON ((0 0,\n1 0, 1 1))", B], Refused, "A: feature 2: 3 short ring at 10", (2, 10)),
+    ([A, B, "POLYGON ((0 0, 1 0, 1e999 1, 0 0))"], Refused, "A: feature 3: 2 number out of range at 20: is no finite number", (3, 20)),
+    (["POLYGON ((0 0, 1 0, 1e12 1, 0 0))", A], Refused, f"A: feature 1: 2 number out of range at 20: reaches 1e+12, {FINEST_IS} 2000", (1, 20)),
+    ([A, "POLYGON ((0 0, 1 0, 1 1, ", "0 1, 0 0))"], GeometryError, "A: feature 3: is no text of one polygon or multipolygon", (3, None)),
+    ([A, f"{A} {B}"], GeometryError, "A: feature 2: is no text of one polygon or multipolygon", (2, None)),
+    ([None, "LINESTRING (0 0, 1 1)"], GeometryError, "A: feature 2: is no text of one polygon or multipolygon", (2, None)),
+]
+
+
+@pytest.mark.parametrize("texts, kind, words, place", LISTS_OF_TEXTS, ids=[row[2] for row in LISTS_OF_TEXTS])
+def test_refused_texts_of_a_list(texts, kind, words, place):
+    """Each of the texts is a feature, and a refusal tells which one and where in it."""
+    for call in (overlay_grid.union, overlay_grid.faces, overlay_grid.edges):
+        with pytest.raises(kind) as fault:
+            call(texts, [])
+        told = fault.value
+        assert (str(told), told.feature, getattr(told, "offset", None)) == (words, *place)
+
+
+def test_numbers_of_texts_in_a_list():
+    """A text without geometries is a feature without points, as None is."""
+    assert [face.ids for face in overlay_grid.faces(["", A, " \n", None, f"  {B}\n"], grid=0.1)] == [((2,),), ((2, 5),), ((5,),)]
+
+
+def test_forms_of_large_rings():
+    """Of a ring with many points no form is kept, and of a small one the form."""
+    tracemalloc.start()
+    try:
+        assert all(_shapes.ring_form(count).count("%d") == 2 * count for count in range(50_000, 50_020))
+        assert tracemalloc.get_traced_memory()[0] < 1 << 20
+    finally:
+        tracemalloc.stop()
+    assert _shapes.ring_form(5) is _shapes.ring_form(5)
+
+
 def test_off_the_grid():
     far = wkb_of("MULTIPOLYGON (((0 0, 268436 0, 1 1, 0 0)))")
     with pytest.raises(GeometryError, match="^B: feature 1, polygon 1: the point 268436.0 0.0 lies off the grid"):
@@ -246,8 +300,8 @@ def test_off_the_grid():
 
 
 def test_no_layers():
-    for wrong in (None, 5, object()):
-        with pytest.raises(TypeError, match="is no layer"):
+    for wrong in (None, 5, object(), {"type": "Polygon", "coordinates": []}):
+        with pytest.raises(TypeError, match="^B: a .* is no layer"):
             overlay_grid.union([], wrong)
     with pytest.raises(GeometryError, match="A: feature 1: a int is no polygon"):
         overlay_grid.union([5], [])
@@ -257,6 +311,13 @@ def test_no_layers():
         overlay_grid.union([wkb_of(multi(A)), A], [])
     with pytest.raises(ValueError, match="^grid: "):
         overlay_grid.union(A, B, grid=0)
+
+
+@pytest.mark.parametrize("kind", ["bool", "complex", "object", "datetime64[s]", "U9"])
+def test_arrays_of_no_numbers(kind):
+    numpy = pytest.importorskip("numpy")
+    with pytest.raises(TypeError, match=r"^A: an array of shape \(4, 2\) and type .* is no layer"):
+        overlay_grid.union(numpy.zeros((4, 2), kind), [])
 
 
 def test_limits_of_segments():
@@ -329,6 +390,17 @@ def test_arrays():
     assert lists_of(overlay_grid.union(holed, [], grid=1)) == lists_of(holed)
     assert lists_of(overlay_grid.union(holed[0], [], grid=1)) == lists_of(holed)
     assert overlay_grid.intersection(holed, []) == []
+
+
+@pytest.mark.parametrize("kind", ["int64", "uint64"])
+def test_arrays_of_large_whole_numbers(kind):
+    """None of them is rounded before it comes to the grid."""
+    numpy = pytest.importorskip("numpy")
+    square = numpy.array([[0, 0], [9, 0], [9, 9], [0, 9]], kind)
+    most = square + numpy.array(2**53 - 10, kind)
+    assert overlay_grid.faces(most, grid=1)[0].area == 81
+    with pytest.raises(GeometryError, match="^A: feature 2, polygon 1: has whole numbers from 2\\^53 on"):
+        overlay_grid.faces([most, most + numpy.array(2, kind)], grid=1)
 
 
 def test_wrong_arrays():

@@ -1,11 +1,14 @@
 """The package against worked texts and against the program's bytes."""
 
+import _ctypes
 import doctest
 import importlib
 import os
 import pickle
 import pkgutil
+import shutil
 import subprocess
+import sys
 import threading
 
 import overlay_grid
@@ -70,6 +73,19 @@ def test_examples():
     assert page.failed == 0 and page.attempted == 11
 
 
+def test_no_library(tmp_path):
+    """Without its library, or with another file in its place, the package is none that can be imported."""
+    copy = tmp_path / "overlay_grid"
+    shutil.copytree(os.path.dirname(overlay_grid.__file__), copy, ignore=shutil.ignore_patterns("*.so", "__pycache__"))
+
+    def told():
+        return subprocess.run([sys.executable, "-c", "import overlay_grid"], cwd=tmp_path, env={}, capture_output=True, text=True).stderr
+
+    assert told().splitlines()[-1].startswith("ImportError: ") and "python/build makes the library" in told()
+    shutil.copy(_ctypes.__file__, copy / "liboverlay.so")
+    assert told().splitlines()[-1].startswith("ImportError: ") and "undefined symbol: overlay_version" in told()
+
+
 def test_empty_layers():
     assert overlay_grid.union("", "polygon empty") == "MULTIPOLYGON EMPTY\n"
     assert overlay_grid.edges("", "") == ""
@@ -84,6 +100,9 @@ def test_layer_with_a_zero_byte():
 REFUSED = [
     (("POLYGON ((0 0, 1.5 0, 0 1, 0 0))", ""), {}, ("A: 1 syntax at 16", 1, "A", 16, None)),
     (("", "POLYGON ((0 0"), {}, ("B: 1 syntax at 13", 1, "B", 13, None)),
+    ((SQUARE + " \ud800", ""), {}, ("A: 1 syntax at 36", 1, "A", 36, None)),
+    ((SQUARE + " \ud800", ""), {"grid": 1}, ("A: 1 syntax at 36", 1, "A", 36, None)),
+    (("", [None, SQUARE + "\ud800"]), {}, ("B: feature 2: 1 syntax at 35", 1, "B", 35, None)),
     (("POLYGON ((0 0, 268435457 0, 0 1, 0 0))", ""), {}, ("A: 2 number out of range at 15", 2, "A", 15, None)),
     (("", "POLYGON ((0 0, 1 0, 0 1))"), {}, ("B: 3 short ring at 9", 3, "B", 9, None)),
     (("POLYGON ((0 0, 1 0, 1 1, 0 1))", ""), {}, ("A: 4 open ring at 9", 4, "A", 9, None)),
@@ -106,7 +125,7 @@ def test_refused(word, layers, plan, want):
     assert (str(told), told.number, told.layer, told.offset, told.count) == want
     assert isinstance(told.number, Refusal)
     again = pickle.loads(pickle.dumps(told))
-    assert (str(again), again.number, again.layer, again.offset, again.count) == want
+    assert (str(again), again.number, again.layer, again.offset, again.count) == want and again.feature == told.feature
 
 
 def test_side_that_fits():
@@ -128,6 +147,13 @@ def test_limit_of_segments(word, segments):
 def test_more_segments():
     many = (SQUARE + " ") * 262145
     assert overlay_grid.union(many, "", segments=1048580) == overlay_grid.union(SQUARE, "")
+
+
+def test_numbers_of_numpy():
+    numpy = pytest.importorskip("numpy")
+    for kind in (numpy.int64, numpy.uint16):
+        assert overlay_grid.union(SQUARE, OTHER, kind(16), kind(8)) == WORKED["union"]
+        assert overlay_grid.faces_text(SQUARE, side=kind(16), segments=kind(4)) == overlay_grid.faces_text(SQUARE)
 
 
 def test_no_limit_below_one():

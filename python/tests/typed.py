@@ -46,8 +46,8 @@ def at(error: GeometryError) -> tuple[str, str, int, Optional[int]]:
     return error.reason, error.layer, error.feature, error.part
 
 
-def told(refused: Refused) -> tuple[Refusal, Optional[str], Optional[int], Optional[int]]:
-    return refused.number, refused.layer, refused.offset, refused.count
+def told(refused: Refused) -> tuple[Refusal, Optional[str], Optional[int], Optional[int], Optional[int]]:
+    return refused.number, refused.layer, refused.feature, refused.offset, refused.count
 
 
 not_bytes: bytes = union("", "")  # type: ignore[assignment]
