@@ -1,6 +1,6 @@
 //! The command `faces`, over files and sinks.
 
-ghost use Rattle.std.specs.Prelude.{ℕ, ◌≡◌, ◌⊎◌, ◌+◌, ◌<◌, ◌≤◌, IfErr, IfOk, MatchResult, length, map, string_bytes};
+ghost use Rattle.std.specs.Prelude.{ℕ, ◌≡◌, ◌⊎◌, ◌<◌, ◌≤◌, IfErr, IfOk, MatchResult, length, map, string_bytes};
 ghost use Rattle.program.specs.Loading.{AreLoadedInTurn, AreNotAllLoaded, IsLoadedNext, IsNotLoadedNext};
 ghost use Rattle.program.specs.FacesProgram.{DoesFaces, DoesFacesLine, PerformsFaces, RunsFacesFor, ShowsFacesReport, faces_limits_of, unread_line};
 ghost use Rattle.program.specs.Program.{TellsFacesFault, TellsFile, TellsMemory};
