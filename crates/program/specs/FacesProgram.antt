@@ -1,5 +1,5 @@
 -- What the program writes about faces, and what it answers then (own).
-use Rattle.std.specs.Prelude.{◌≡◌, ◌⊎◌, ◌<◌, ℕ, Bool, true, false, List, [], ◌∷◌, ◌++◌, Option, Result, MatchResult, codes, length}
+use Rattle.std.specs.Prelude.{◌≡◌, ◌⊎◌, ℕ, Bool, true, false, List, [], ◌∷◌, ◌++◌, Option, Result, MatchResult, codes, map}
 use Rattle.std.specs.declared.alloc.Global.{Global}
 use Rattle.clap.specs.Words.{Text}
 use Rattle.engine.specs.Faces.{RunsFaces}
@@ -11,6 +11,7 @@ use Rattle.layers.specs.declared.plan.Plan.{Plan}
 use Rattle.layers.specs.declared.faces_fault.FacesFault.{FacesFault}
 use Rattle.layers.specs.declared.faces_limits.FacesLimits.{FacesLimits}
 use Rattle.engine.specs.declared.faces_report.FacesReport.{FacesReport}
+use Rattle.program.specs.Loading.{AreLoadedInTurn, AreSomeLoaded, IsFirstUnread, Loads}
 use Rattle.program.specs.FacesLine.{IsFacesAskedBy, IsFacesRefusalOf, asks_for_faces}
 use Rattle.program.specs.Program.{DoesLine, IsChosenSideOver, IsFittedOver, Shows, TellsFacesFault, TellsFile, TellsLine, TellsMemory, limit_of}
 use Rattle.program.specs.declared.asked.CliFault.{CliFault}
@@ -21,9 +22,11 @@ use Rattle.program.specs.declared.files.LoadFault.{LoadFault}
 abbrev pub unread_line : ℕ → List ℕ
 unread_line number = codes "overlay: " ++ (layer_name number ++ (codes ": cannot read" ++ 10 ∷ []))
 
--- why the file of one of so many layers isn't read is told, or memory is wanted for it
-abbrev pub TellsUnreadLayer : ℕ → SinkState → SinkState → ℕ → Type 0
-TellsUnreadLayer layers old new status = ((number : ℕ) × (number < layers) × (fault : LoadFault) × TellsFile old new fault (unread_line number) status) ⊎ TellsMemory old new status
+-- why the layers of these names aren't read is told: the first that can't be loaded, by its number and fault; or memory is wanted
+abbrev pub TellsUnreadLayer : {F : Type 0} → Loads F → F → F → List Text → SinkState → SinkState → ℕ → Type 0
+TellsUnreadLayer loads files files' names old new status =
+    ((number : ℕ) × (fault : LoadFault) × IsFirstUnread loads files names number fault files' × (TellsFile old new fault (unread_line number) status ⊎ TellsMemory old new status))
+    ⊎ (AreSomeLoaded loads files names files' × TellsMemory old new status)
 
 -- a report is shown; or memory is wanted for its text
 abbrev pub ShowsFacesReport : {A : Type 0} → SinkState → SinkState → FacesReport A → ℕ → Type 0
@@ -53,18 +56,27 @@ abbrev pub TellsFacesRun : {E M : Type 0} → (E → SinkState) → E → E → 
 TellsFacesRun state err err' wanted r status =
     MatchResult r (λ report. TellsFacesAnswer state err err' wanted report status) (λ fault. TellsFacesFault (state err) (state err') fault status)
 
--- a request is done: a file can't be read, which is told, with no output; or as many texts as layers are read, and their faces are asked for; or memory is wanted
-abbrev pub DoesFaces : {O E : Type 0} → (O → SinkState) → (E → SinkState) → O → O → E → E → FacesRequest → ℕ → Type 0
-DoesFaces out_state err_state out out' err err' request status = ((out' ≡ out) × TellsUnreadLayer (length request.layers.items) (err_state err) (err_state err') status)
-    ⊎ ((texts : List (List ℕ)) × (length texts ≡ length request.layers.items) × (r : Result (FacesReport Global) FacesFault) × PerformsFaces out_state out out' request texts r
-    × TellsFacesRun err_state err err' request.report r status)
+-- the faces of these texts of layers are asked for, which is told
+abbrev pub DoesFacesOn : {O E : Type 0} → (O → SinkState) → (E → SinkState) → O → O → E → E → FacesRequest → List (List ℕ) → ℕ → Type 0
+DoesFacesOn out_state err_state out out' err err' request texts status =
+    (r : Result (FacesReport Global) FacesFault) × PerformsFaces out_state out out' request texts r × TellsFacesRun err_state err err' request.report r status
 
--- a command line of `faces` is done: what it asks for is done, or it is told why it isn't accepted
-abbrev pub DoesFacesLine : {O E : Type 0} → (O → SinkState) → (E → SinkState) → O → O → E → E → List Text → ℕ → Type 0
-DoesFacesLine out_state err_state out out' err err' words status = ((request : FacesRequest) × IsFacesAskedBy words request × DoesFaces out_state err_state out out' err err' request status)
-    ⊎ ((fault : CliFault) × IsFacesRefusalOf words fault × TellsLine out_state err_state out out' err err' fault status)
+abbrev pub layer_names : FacesRequest → List Text
+layer_names request = map (λ n. n.now) request.layers.items
+
+-- a request is done: the layers are loaded in the order of the request, and their faces are asked for; or not all are read, which is told, with no output
+abbrev pub DoesFaces : {F O E : Type 0} → Loads F → (O → SinkState) → (E → SinkState) → F → F → O → O → E → E → FacesRequest → ℕ → Type 0
+DoesFaces loads out_state err_state files files' out out' err err' request status =
+    ((out' ≡ out) × TellsUnreadLayer loads files files' (layer_names request) (err_state err) (err_state err') status)
+    ⊎ ((texts : List (List ℕ)) × AreLoadedInTurn loads files (layer_names request) texts files' × DoesFacesOn out_state err_state out out' err err' request texts status)
+
+-- a command line of `faces` is done: what it asks for is done; or it is told why it isn't accepted, and nothing is loaded
+abbrev pub DoesFacesLine : {F O E : Type 0} → Loads F → (O → SinkState) → (E → SinkState) → F → F → O → O → E → E → List Text → ℕ → Type 0
+DoesFacesLine loads out_state err_state files files' out out' err err' words status =
+    ((request : FacesRequest) × IsFacesAskedBy words request × DoesFaces loads out_state err_state files files' out out' err err' request status)
+    ⊎ ((fault : CliFault) × IsFacesRefusalOf words fault × (files' ≡ files) × TellsLine out_state err_state out out' err err' fault status)
 
 -- any command line is done
-pub record DoesAnyLine {O E : Type 0} (out_state : O → SinkState) (err_state : E → SinkState) (out out' : O) (err err' : E) (words : List Text) (status : ℕ) : Type 0 where
-  pub of_faces : asks_for_faces words ≡ true → DoesFacesLine out_state err_state out out' err err' words status
-  pub of_two_layers : asks_for_faces words ≡ false → DoesLine out_state err_state out out' err err' words status
+pub record DoesAnyLine {F O E : Type 0} (loads : Loads F) (out_state : O → SinkState) (err_state : E → SinkState) (files files' : F) (out out' : O) (err err' : E) (words : List Text) (status : ℕ) : Type 0 where
+  pub of_faces : asks_for_faces words ≡ true → DoesFacesLine loads out_state err_state files files' out out' err err' words status
+  pub of_two_layers : asks_for_faces words ≡ false → DoesLine loads out_state err_state files files' out out' err err' words status

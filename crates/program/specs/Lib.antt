@@ -3,3 +3,4 @@ pub mod Arguments
 pub mod Program
 pub mod FacesLine
 pub mod FacesProgram
+pub mod Loading

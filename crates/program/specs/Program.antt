@@ -1,5 +1,5 @@
 -- What the program writes, and what it answers then (own).
-use Rattle.std.specs.Prelude.{◌≡◌, ◌≢◌, ◌⊎◌, ℕ, Bool, true, false, List, [], ◌∷◌, ◌++◌, Option, Some, None, Result, IfErr, MatchOption, MatchResult, codes, string_bytes}
+use Rattle.std.specs.Prelude.{◌≡◌, ◌≢◌, ◌⊎◌, ℕ, Bool, true, false, List, [], ◌∷◌, ◌++◌, Option, Some, None, Result, Ok, Err, IfErr, MatchOption, MatchResult, codes, string_bytes}
 use Rattle.std.specs.declared.alloc.Global.{Global}
 use Rattle.clap.specs.Words.{Text}
 use Rattle.grid.specs.declared.sides.TheConstants.{DEFAULT_SIDE}
@@ -21,6 +21,7 @@ use Rattle.layers.specs.declared.faces_fault.FacesPart.TheVariants.{Run as AllLa
 use Rattle.layers.specs.declared.faces_fault.FacesRefusal.TheVariants.{Usual}
 use Rattle.results.specs.declared.text.Report.{Report}
 use Rattle.program.specs.CommandLine.{IsAskedBy, IsRefusalOf, operation_covered}
+use Rattle.program.specs.Loading.{Loads}
 use Rattle.program.specs.declared.asked.CliFault.{CliFault}
 use Rattle.program.specs.declared.asked.CliFault.TheVariants.{Unknown, CoveredEdges, Help, Refused, Memory}
 use Rattle.program.specs.declared.asked.Command.{Command}
@@ -68,10 +69,6 @@ unread_a = codes "overlay: A: cannot read" ++ 10 ∷ []
 
 abbrev pub unread_b : List ℕ
 unread_b = codes "overlay: B: cannot read" ++ 10 ∷ []
-
--- why the file of a layer isn't read is told
-abbrev pub TellsUnread : SinkState → SinkState → ℕ → Type 0
-TellsUnread old new status = (fault : LoadFault) × (TellsFile old new fault unread_a status ⊎ TellsFile old new fault unread_b status)
 
 -- the line of a command word that isn't offered
 abbrev pub unknown_line : List ℕ
@@ -165,12 +162,23 @@ abbrev pub DoesOn : {O E : Type 0} → (O → SinkState) → (E → SinkState) �
 DoesOn out_state err_state out out' err err' request a b status = MatchOption (operation_covered request.command request.covered)
     (DoesByParity out_state err_state out out' err err' request a b status) (λ op. DoesCovered out_state err_state out out' err err' request a b op status)
 
--- a request is done: a file can't be read, which is told, with status 1 and no output; or both layers are read, and run
-abbrev pub Does : {O E : Type 0} → (O → SinkState) → (E → SinkState) → O → O → E → E → Request → ℕ → Type 0
-Does out_state err_state out out' err err' request status = ((out' ≡ out) × TellsUnread (err_state err) (err_state err') status)
-    ⊎ ((a : List ℕ) × (b : List ℕ) × DoesOn out_state err_state out out' err err' request a b status)
+-- a file can't be loaded: this is told by its fault and this line, with status 1 and no output
+abbrev pub EndsUnread : {F O E : Type 0} → Loads F → (E → SinkState) → F → F → O → O → E → E → Text → List ℕ → ℕ → Type 0
+EndsUnread loads err_state files files' out out' err err' name line status =
+    (fault : LoadFault) × loads files name (Err fault) files' × (out' ≡ out) × TellsFile (err_state err) (err_state err') fault line status
 
--- a command line is done: what it asks for is done, or it is told why it isn't accepted
-abbrev pub DoesLine : {O E : Type 0} → (O → SinkState) → (E → SinkState) → O → O → E → E → List Text → ℕ → Type 0
-DoesLine out_state err_state out out' err err' words status = ((request : Request) × IsAskedBy words request × Does out_state err_state out out' err err' request status)
-    ⊎ ((fault : CliFault) × IsRefusalOf words fault × TellsLine out_state err_state out out' err err' fault status)
+-- file B is loaded, and run with the text of file A; or it can't be loaded
+abbrev pub DoesWithB : {F O E : Type 0} → Loads F → (O → SinkState) → (E → SinkState) → F → F → O → O → E → E → Request → List ℕ → ℕ → Type 0
+DoesWithB loads out_state err_state files files' out out' err err' request a status = EndsUnread loads err_state files files' out out' err err' request.b.now unread_b status
+    ⊎ ((b : List ℕ) × loads files request.b.now (Ok b) files' × DoesOn out_state err_state out out' err err' request a b status)
+
+-- a request is done: file A is loaded, and then file B; or file A can't be loaded, and file B is not tried
+abbrev pub Does : {F O E : Type 0} → Loads F → (O → SinkState) → (E → SinkState) → F → F → O → O → E → E → Request → ℕ → Type 0
+Does {F} loads out_state err_state files files' out out' err err' request status = EndsUnread loads err_state files files' out out' err err' request.a.now unread_a status
+    ⊎ ((a : List ℕ) × (between : F) × loads files request.a.now (Ok a) between × DoesWithB loads out_state err_state between files' out out' err err' request a status)
+
+-- a command line is done: what it asks for is done; or it is told why it isn't accepted, and nothing is loaded
+abbrev pub DoesLine : {F O E : Type 0} → Loads F → (O → SinkState) → (E → SinkState) → F → F → O → O → E → E → List Text → ℕ → Type 0
+DoesLine loads out_state err_state files files' out out' err err' words status =
+    ((request : Request) × IsAskedBy words request × Does loads out_state err_state files files' out out' err err' request status)
+    ⊎ ((fault : CliFault) × IsRefusalOf words fault × (files' ≡ files) × TellsLine out_state err_state out out' err err' fault status)

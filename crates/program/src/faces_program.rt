@@ -1,6 +1,7 @@
 //! The command `faces`, over files and sinks.
 
-ghost use Rattle.std.specs.Prelude.{ℕ, ◌≡◌, ◌⊎◌, ◌+◌, ◌<◌, ◌≤◌, IfErr, IfOk, MatchResult, OnOk, length, map, string_bytes};
+ghost use Rattle.std.specs.Prelude.{ℕ, ◌≡◌, ◌⊎◌, ◌<◌, ◌≤◌, IfErr, IfOk, MatchResult, length, map, string_bytes};
+ghost use Rattle.program.specs.Loading.{AreLoadedInTurn, AreNotAllLoaded, IsLoadedNext, IsNotLoadedNext};
 ghost use Rattle.program.specs.FacesProgram.{DoesFaces, DoesFacesLine, PerformsFaces, RunsFacesFor, ShowsFacesReport, faces_limits_of, unread_line};
 ghost use Rattle.program.specs.Program.{TellsFacesFault, TellsFile, TellsMemory};
 
@@ -31,7 +32,7 @@ pub fn drive_faces<R: Threads + Wait + Sync, S: AsStr, F: Files, O: Sink, E: Sin
 ) -> u8
     requires out { (O.state out.old).failed < u64.MAX }
     requires err { (E.state err.old).failed < u64.MAX }
-    ensures { DoesFacesLine O.state E.state out.old out.new err.old err.new (map S.text words.entry.now) result }
+    ensures { DoesFacesLine F.loads O.state E.state files.old files.new out.old out.new err.old err.new (map S.text words.entry.now) result }
 {
     match faces_request(alloc, words) {
         Ok(asked) => answer(rt, alloc, &asked, files, out, err),
@@ -58,7 +59,7 @@ fn answer<R: Threads + Wait + Sync, F: Files, O: Sink, E: Sink>(
     requires out { (O.state out.old).failed < u64.MAX }
     requires err { (E.state err.old).failed < u64.MAX }
     requires few { length asked.now.layers.items ≤ 64 }
-    ensures { DoesFaces O.state E.state out.old out.new err.old err.new asked.now result }
+    ensures { DoesFaces F.loads O.state E.state files.old files.new out.old out.new err.old err.new asked.now result }
 {
     let texts = match load_all(alloc, &asked.layers, files) {
         Ok(texts) => texts,
@@ -77,7 +78,7 @@ fn answer<R: Threads + Wait + Sync, F: Files, O: Sink, E: Sink>(
 /// The bytes of all files, or the first one that isn't read.
 fn load_all<F: Files>(alloc: Global, names: &[&str], files: &mut F) -> Result<Vec<Vec<u8>>, Unread>
     requires { length names.now ≤ 64 }
-    ensures { MatchResult result (λ texts. length texts.items ≡ length names.now) (λ unread. unread.number < length names.now) }
+    ensures { MatchResult result (λ texts. AreLoadedInTurn F.loads files.old (map (λ n. n.now) names.now) (map (λ t. t.items) texts.items) files.new) (λ unread. AreNotAllLoaded F.loads files.old (map (λ n. n.now) names.now) unread.number unread.fault files.new) }
 {
     let mut texts = Vec::new(alloc);
     for number in 0..names.len() {
@@ -98,7 +99,7 @@ fn load_next<F: Files>(
     files: &mut F,
     texts: &mut Vec<Vec<u8>>,
 ) -> Result<(), LoadFault>
-    ensures { OnOk result (length texts.new.items ≡ length texts.old.items + 1) }
+    ensures { MatchResult result (λ _. IsLoadedNext F.loads files.old name.now (map (λ t. t.items) texts.old.items) (map (λ t. t.items) texts.new.items) files.new) (λ fault. IsNotLoadedNext F.loads files.old name.now fault files.new) }
 {
     let bytes = files.load(alloc, name)?;
     match texts.push(bytes) {

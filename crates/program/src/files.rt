@@ -1,6 +1,6 @@
 //! Where layer texts are read.
 
-ghost use Rattle.std.specs.Prelude.{◌≤◌, IfOk, length};
+ghost use Rattle.std.specs.Prelude.{◌≤◌, IfOk, MatchResult, length};
 
 use std::alloc::Allocator;
 use std::io::{ErrorKind, Read};
@@ -21,12 +21,18 @@ pub enum LoadFault {
 
 /// Where files are read by their names.
 pub trait Files {
+    ghost use Rattle.program.specs.Loading.{Loads};
+
+    // the files before, a name, what is answered, and the files after: nothing is known of them where an impl keeps this
+    ghost loads: { Loads Self } = { λ _ _ _ _. Unit {0} };
+
     /// A file's bytes, to its end or to one byte past the limit.
     fn load<A: Allocator>(&mut self, alloc: A, name: &str) -> Result<Vec<u8, A>, LoadFault>
-        ensures { IfOk result (λ bytes. length bytes.items ≤ READ_LIMIT) };
+        ensures short { IfOk result (λ bytes. length bytes.items ≤ READ_LIMIT) }
+        ensures loaded { MatchResult result (λ bytes. loads self.old name.now (Ok bytes.items) self.new) (λ fault. loads self.old name.now (Err fault) self.new) };
 }
 
-/// The machine's files.
+/// The machine's files. No contract says what they hold.
 #[derive(Drop)]
 pub struct Disk<'a, R> {
     rt: &'a R,

@@ -51,7 +51,7 @@ pub fn drive<R: Threads + Wait + Sync, S: AsStr, F: Files, O: Sink, E: Sink>(
 ) -> u8
     requires out { (O.state out.old).failed < u64.MAX }
     requires err { (E.state err.old).failed < u64.MAX }
-    ensures { DoesAnyLine O.state E.state out.old out.new err.old err.new (map S.text words.entry.now) result }
+    ensures { DoesAnyLine F.loads O.state E.state files.old files.new out.old out.new err.old err.new (map S.text words.entry.now) result }
 {
     if is_for_faces(words) {
         return drive_faces(rt, alloc, words, files, out, err);
@@ -94,7 +94,7 @@ fn answer<R: Threads + Wait + Sync, F: Files, O: Sink, E: Sink>(
 ) -> u8
     requires out { (O.state out.old).failed < u64.MAX }
     requires err { (E.state err.old).failed < u64.MAX }
-    ensures { Does O.state E.state out.old out.new err.old err.new asked.now result }
+    ensures { Does F.loads O.state E.state files.old files.new out.old out.new err.old err.new asked.now result }
 {
     let a = match files.load(alloc, asked.a) {
         Ok(bytes) => bytes,
