@@ -46,9 +46,8 @@ impl<'a, R: rt::Files + AllocGlobal> Disk<'a, R> {
 
     fn read<A: Allocator>(&self, alloc: A, name: &str) -> io::Result<Vec<u8, A>> {
         let mut bytes = Vec::new(alloc);
-        fs::open(self.rt, name)?
-            .take(READ_LIMIT as u64)
-            .read_to_end(&mut bytes)?;
+        let mut file = fs::open(self.rt, name)?.take(READ_LIMIT as u64);
+        io::copy(&mut file, &mut bytes)?;
         Ok(bytes)
     }
 }
