@@ -4,6 +4,7 @@ from __future__ import annotations
 
 from argparse import ArgumentParser, Namespace
 
+from . import options
 from .faults import Fault, Refusal
 from .messages import tell
 
@@ -17,7 +18,9 @@ BYTE_ORDER_MARKS = {b"\xef\xbb\xbf": "UTF-8", b"\xff\xfe": "UTF-16", b"\xfe\xff"
 
 
 def add_arguments(parser: ArgumentParser) -> None:
-    parser.add_argument("text", metavar="TEXT", help="the file that overlay refused")
+    parser.add_argument(
+        "text", metavar="TEXT", type=options.given, help="the file that overlay refused"
+    )
     parser.add_argument(
         "offset",
         metavar="OFFSET",

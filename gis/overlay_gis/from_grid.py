@@ -31,12 +31,14 @@ def add_arguments(parser: ArgumentParser) -> None:
     parser.add_argument(
         "text",
         metavar="TEXT",
+        type=options.given,
         help="a text on the grid: what overlay printed, or what to-grid wrote",
     )
     options.add_output(parser, "the file for the layer; its ending names its format")
     parser.add_argument(
         "--frame",
         metavar="FILE",
+        type=options.given,
         help=f"the frame that to-grid wrote (default: {FRAME} beside TEXT)",
     )
 

@@ -24,10 +24,17 @@ IN_QUOTES = "a name that has a comma or a colon in quotes: '\"x,y\"'"
 LAYER_NAME = re.compile(r'([^",:]*):')
 
 
+def given(words: str) -> str:
+    """Words of any bytes, as a file's name may have, but not none."""
+    if not words:
+        raise ArgumentTypeError("nothing is given")
+    return words
+
+
 def text(words: str) -> str:
     """Words that GDAL takes and a file can have; bytes that are no text reach Python as half signs."""
     try:
-        words.encode()
+        given(words).encode()
     except UnicodeEncodeError as error:
         raise ArgumentTypeError(f"{words} is no text of UTF-8") from error
     return words
@@ -81,6 +88,7 @@ def add_grid(parser: ArgumentParser) -> None:
     parser.add_argument(
         "--grid",
         metavar="UNIT",
+        type=text,
         help=(
             "the grid's unit, in the system's own (default: 0.001, or 0.000001 degrees, or the"
             " finest above that has room)"
@@ -89,6 +97,7 @@ def add_grid(parser: ArgumentParser) -> None:
     parser.add_argument(
         "--origin",
         metavar="X,Y",
+        type=text,
         help="the point that becomes 0 0 (default: chosen from the layers' extent)",
     )
     parser.add_argument(

@@ -41,6 +41,7 @@ def add_arguments(parser: ArgumentParser) -> None:
     parser.add_argument(
         "files",
         metavar="FILE",
+        type=options.given,
         nargs="+",
         help=(
             "a text on the grid, told apart by its form: a layer, what `overlay edges` or what an"
@@ -48,10 +49,14 @@ def add_arguments(parser: ArgumentParser) -> None:
         ),
     )
     parser.add_argument(
-        "-o", "--out", metavar="OUT.svg", help="the picture's file (default: standard output)"
+        "-o",
+        "--out",
+        metavar="OUT.svg",
+        type=options.given,
+        help="the picture's file (default: standard output)",
     )
     parser.add_argument(
-        "--title", metavar="TEXT", type=options.text, default="", help="a line below the drawing"
+        "--title", metavar="TEXT", type=options.text, help="a line below the drawing"
     )
 
 
@@ -247,7 +252,7 @@ def signs(view: View, files: list[Shown]) -> list[tuple[str, str]]:
     return told
 
 
-def legend(view: View, files: list[Shown], title: str) -> tuple[list[str], float]:
+def legend(view: View, files: list[Shown], title: str | None) -> tuple[list[str], float]:
     """The title and the legend below the drawing, the legend in two columns, and where they end."""
     told, lines, top = signs(view, files), [], view.height + LINE / 2
     if title:
@@ -274,7 +279,7 @@ def scale_bar(view: View, top: float) -> str:
     return f'<g transform="translate({MARGIN} {top:.1f})">{bar}{words}</g>'
 
 
-def picture(files: list[Shown], title: str) -> str:
+def picture(files: list[Shown], title: str | None) -> str:
     view = View.of([point for file in files for point in file.points()])
     told, bottom = legend(view, files, title)
     width, height = max(view.width, 640 + 2 * MARGIN), bottom + LINE

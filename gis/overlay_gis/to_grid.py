@@ -40,12 +40,14 @@ def add_arguments(parser: ArgumentParser) -> None:
         "-o",
         "--out",
         metavar="FOLDER",
+        type=options.given,
         required=True,
         help="the folder for the texts and for frame.json, which holds grid, origin and system",
     )
     parser.add_argument(
         "--frame",
         metavar="FILE",
+        type=options.given,
         help=(
             "a frame that is there already, for layers that come later, instead of a grid and an"
             " origin"

@@ -89,6 +89,25 @@ def test_words_that_are_no_text_are_not_accepted(gis, words, option):
     assert answer.status == 2 and f"argument {option}: " in answer.err and answer.err.endswith("is no text of UTF-8\n")
 
 
+@pytest.mark.parametrize(
+    "words, option",
+    [
+        (("run", "union", "a.gpkg", "a.gpkg", "-o", "o.gpkg", "--grid", ""), "--grid"),
+        (("run", "union", "a.gpkg", "a.gpkg", "-o", "o.gpkg", "--origin="), "--origin"),
+        (("run", "union", "a.gpkg", "a.gpkg", "-o", "o.gpkg", "--system", ""), "--system"),
+        (("run", "union", "a.gpkg", "a.gpkg", "-o", ""), "-o/--out"),
+        (("dissolve", "a.gpkg", "-o", "o.gpkg", "--layer", ""), "--layer"),
+        (("to-grid", "a.gpkg", "-o", "o", "--frame", ""), "--frame"),
+        (("from-grid", "", "-o", "o.gpkg"), "TEXT"),
+        (("show", "t.wkt", "-o", ""), "-o/--out"),
+        (("check", ""), "A"),
+    ],
+)
+def test_empty_words_are_not_passed_over(gis, words, option):
+    answer = gis(*words)
+    assert answer.status == 2 and answer.err.endswith(f"argument {option}: nothing is given\n")
+
+
 CLOSED = {
     "check a.gpkg >&-": (1, "overlay-gis: standard output: is closed\n"),
     "show t.wkt >&-": (1, "overlay-gis: standard output: is closed\n"),
