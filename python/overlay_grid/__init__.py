@@ -31,6 +31,8 @@ numbered from 1:
 8 ((1,), (1,)) MULTIPOLYGON (((2 2, 4 2, 4 4, 2 4, 2 2)))
 24 ((), (1,)) MULTIPOLYGON (((2 4, 4 4, 4 2, 6 2, 6 6, 2 6, 2 4)))
 
+An operation on many pairs of geometries is one call, `pairs`.
+
 What can't be read is refused: a text by `Refused`, a geometry by `GeometryError`, both of which are ValueErrors and tell the place.
 
 Data frames of GeoPandas are overlaid by `overlay` and dissolved by `dissolve`.
@@ -38,9 +40,9 @@ Data frames of GeoPandas are overlaid by `overlay` and dissolved by `dissolve`.
 
 from __future__ import annotations
 
-from typing import Any, Iterable, List, NamedTuple, Optional, Protocol, Tuple, TypeVar, Union, overload
+from typing import Any, Iterable, List, NamedTuple, Optional, Protocol, Sequence, Tuple, TypeVar, Union, overload
 
-from . import _asking, _calls, _edges, _frames, _kinds, _rows, _wkb
+from . import _asking, _calls, _edges, _frames, _kinds, _pairs, _rows, _wkb
 from ._asking import Plan
 from ._calls import CALLS, Operation
 from ._edges import Edge
@@ -63,6 +65,7 @@ __all__ = [
     "faces_text",
     "intersection",
     "overlay",
+    "pairs",
     "symdifference",
     "union",
 ]
@@ -498,6 +501,56 @@ def faces(
     lines, frame = _asking.rows_of(held, Plan(side, segments, grid, origin))
     answer = _asking.answerer_of(held)
     return [Face(frame.area(line.twice), line.ids, _kinds.answer_of(answer, line.polygons, frame)) for line in lines]
+
+
+@overload
+def pairs(
+    operation: Union[Operation, str],
+    a: Union[bytes, Sequence[bytes]],
+    b: Layer,
+    *,
+    grid: Optional[Unit] = None,
+    origin: Optional[Origin] = None,
+) -> List[bytes]: ...
+
+
+@overload
+def pairs(
+    operation: Union[Operation, str],
+    a: Layer,
+    b: Layer,
+    *,
+    grid: Optional[Unit] = None,
+    origin: Optional[Origin] = None,
+) -> Any: ...
+
+
+def pairs(
+    operation: Union[Operation, str],
+    a: Any,
+    b: Any,
+    *,
+    grid: Optional[Unit] = None,
+    origin: Optional[Origin] = None,
+) -> Any:
+    """What an operation answers on each pair of geometries: on the first ones of both layers, the second ones, and so on. Where one of
+    the layers is a geometry and no list, that stands against each of the other's.
+
+    >>> from struct import pack
+    >>> def box(left, right):
+    ...     return pack("<BIII10d", 1, 3, 1, 5, left, 0, right, 0, right, 1, left, 1, left, 0)
+    >>> pairs("intersection", [box(0, 4), box(3, 9)], box(2, 5)) == [box(2, 4), box(3, 5)]
+    True
+
+    The answer is a list with a geometry of the first layer's kind for each pair, an empty one where nothing is left; or of a series or a
+    frame of Shapely's geometries a series with its index and reference system. Pairs go by order, whatever indexes series have. All are
+    on one grid, and each is rounded alone: its answer is that of `intersection` on the two. So answers that share a border needn't have
+    the same points there, as those of `overlay` have. Layers are of WKB, of Shapely's geometries or of arrays, and not of texts.
+    """
+    word = Operation(operation)
+    if word is Operation.EDGES:
+        raise ValueError("pairs have no edges: the operation is one of union, intersection, difference and symdifference")
+    return _pairs.pairs(CALLS[word], a, b, Plan(grid=grid, origin=origin))
 
 
 def dissolve(

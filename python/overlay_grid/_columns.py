@@ -4,14 +4,20 @@ from __future__ import annotations
 
 import ctypes
 from array import array
-from typing import List, Optional, Sequence
+from bisect import bisect_right
+from itertools import repeat
+from operator import add
+from typing import Iterator, List, Optional, Sequence, Tuple, Union
 
-from ._calls import IDS, LAYERS, SEGMENTS, SIDE, fault_of, limit_of, side_number
-from ._faults import Refusal
-from ._library import ANSWERED, SMALL, Answer, Columns, library
+from ._calls import IDS, LAYERS, MOST_SEGMENTS, SEGMENTS, SIDE, fault_of, limit_of, side_number
+from ._faults import OutOfMemory, Refusal, Refused
+from ._library import ANSWERED, SMALL, Answer, Columns, ColumnsAnswer, FacesAnswer, library
 from ._rooms import Room, face_lengths_for, face_size, given_back, size_for, size_for_faces, taken
 from ._rows import Line, lines_in
-from ._shapes import Features, Found, Rings, counts_of
+from ._shapes import Features, Found, Paired, Piece, Rings, Whole, counts_of
+
+# Pairs go to the library in calls of so many points, or of one pair: each pair is answered alone, so that this has no influence.
+POINTS = 1 << 16
 
 
 class Passed:
@@ -50,10 +56,15 @@ def polygons_of(call: int, a: Rings, b: Rings, side: Optional[int], segments: Op
         room = fill(call, library.overlay_columns_side(first.columns, second.columns), limit, first, second, points)
     told = room.columns_answer
     if told.status != ANSWERED:
-        raise fault_of(Answer(0, told.detail, told.status, told.number, told.part))
+        raise fault_in(told)
     found = found_in(room)
     given_back(room)
     return found
+
+
+def fault_in(told: Union[ColumnsAnswer, FacesAnswer], layers: int = 2) -> Union[Refused, OutOfMemory]:
+    """The exception of an answer to a call on so many layers of columns."""
+    return fault_of(Answer(0, told.detail, told.status, told.number, told.part), layers)
 
 
 def found_in(room: Room) -> Found:
@@ -67,6 +78,45 @@ def columns_of(layer: Features) -> Columns:
     rings = layer.rings.buffer_info()
     place, count = layer.coordinates.buffer_info()
     return Columns(place or rings[0], count, *rings, *layer.polygons.buffer_info(), *layer.features.buffer_info())
+
+
+def fill_pairs(call: int, a: Columns, b: Columns, features: "array[int]", points: int) -> Room:
+    """As `fill`, of an operation on pairs of features; it is told in a column of its own where each result begins."""
+    while True:
+        room = taken(size_for(points))
+        *columns, answer = room.columns
+        library.overlay_pairs_fill(call, MOST_SEGMENTS, a, b, *columns, *features.buffer_info(), answer)
+        if room.columns_answer.status != SMALL:
+            return room
+        points = room.columns_answer.coordinates // 2
+        given_back(room)
+
+
+def pieces_of(call: int, a: Features, b: Features) -> List[Piece]:
+    """What an operation answers on each feature of a layer and the one with the same number of another layer, in one call."""
+    features = array("I", bytes(4 * len(a.features)))
+    points = 64 + len(a.coordinates) + len(b.coordinates)  # a guess: where it is too small, all is made again
+    room = fill_pairs(call, columns_of(a), columns_of(b), features, points)
+    if room.columns_answer.status != ANSWERED:
+        raise fault_in(room.columns_answer)
+    whole = Whole(*room.lists())
+    given_back(room)
+    return list(map(Piece, repeat(whole), features, features[1:]))
+
+
+def runs_of(starts: Sequence[int]) -> Iterator[Tuple[int, int]]:
+    """Pairs for one call, from which one to before which, by where the points of each begin."""
+    first, count = 0, len(starts) - 1
+    while first < count:
+        past = max(first + 1, bisect_right(starts, starts[first] + POINTS) - 1)
+        yield first, past
+        first = past
+
+
+def pairs_of(call: int, a: Paired, b: Paired) -> Iterator[Piece]:
+    """The same in several calls, whose memory is bounded so."""
+    for first, past in runs_of(list(map(add, a.starts(), b.starts()))):
+        yield from pieces_of(call, a.part(first, past), b.part(first, past))
 
 
 def fill_faces(side: int, limit: int, layers: "ctypes.Array[Columns]", size: int) -> Room:
@@ -96,7 +146,7 @@ def lines_on(layers: Sequence[Features], side: Optional[int], segments: Optional
         room = fill_faces(library.overlay_faces_columns_side(held, count), limit, held, size)
     told = room.faces_answer
     if told.status != ANSWERED:
-        raise fault_of(Answer(0, told.detail, told.status, told.number, told.part), count)
+        raise fault_in(told, count)
     lines = lines_in(room.face_lists(), count, numbered)
     given_back(room)
     return lines

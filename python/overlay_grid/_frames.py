@@ -56,9 +56,9 @@ class Parts:
         return made
 
 
-def series_of(made: Sequence[bytes], like: Any) -> Any:
-    """Geometries in the reference system of a frame."""
-    return module("geopandas").GeoSeries.from_wkb(list(made), crs=like.crs)
+def series_of(made: Sequence[bytes], like: Any, index: Any = None) -> Any:
+    """Geometries in the reference system of a frame or a series, numbered from 0 where no index is said."""
+    return module("geopandas").GeoSeries.from_wkb(list(made), index=index, crs=like.crs)
 
 
 def features_of(df: Any, name: str) -> Given:

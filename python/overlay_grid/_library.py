@@ -101,6 +101,8 @@ def _opened() -> ctypes.CDLL:
     columns = ctypes.POINTER(Columns)
     opened.overlay_columns_fill.argtypes = [*[ctypes.c_uint32] * 3, columns, columns, *room[:2], *room[:2], *room]
     opened.overlay_columns_fill.restype = None
+    opened.overlay_pairs_fill.argtypes = [*[ctypes.c_uint32] * 2, columns, columns, *room[:2] * 3, *room]
+    opened.overlay_pairs_fill.restype = None
     opened.overlay_columns_side.argtypes = [columns, columns]
     opened.overlay_columns_side.restype = ctypes.c_uint32
     opened.overlay_faces_columns_fill.argtypes = [*limits, columns, ctypes.c_size_t, ctypes.c_void_p, ctypes.c_void_p]

@@ -43,6 +43,42 @@ class Features(NamedTuple):
     polygons: "array[int]"
     features: "array[int]"
 
+    def starts(self) -> List[int]:
+        """Where the points of each feature begin, and those of the last one end."""
+        return [self.rings[self.polygons[polygon]] for polygon in self.features]
+
+    def part(self, first: int, past: int) -> Features:
+        """The features from one to before another."""
+        polygons = self.polygons[self.features[first] : self.features[past] + 1]
+        rings = self.rings[polygons[0] : polygons[-1] + 1]
+        offsets = map(from_the_first, (rings, polygons, self.features[first : past + 1]))
+        return Features(self.coordinates[2 * rings[0] : 2 * rings[-1]], *offsets)
+
+    def repeated(self, times: int) -> Features:
+        """All features so many times, one after another."""
+        offsets = (offsets_of(counts_of(held) * times) for held in (self.rings, self.polygons, self.features))
+        return Features(self.coordinates * times, *offsets)
+
+
+class Repeated(NamedTuple):
+    """One feature on the grid, so many times."""
+
+    feature: Features
+    times: int
+
+    def starts(self) -> List[int]:
+        """Where the points of each begin, and those of the last one end."""
+        points = len(self.feature.coordinates) // 2
+        return [points * number for number in range(self.times + 1)]
+
+    def part(self, first: int, past: int) -> Features:
+        """Those from one to before another."""
+        return self.feature.repeated(past - first)
+
+
+# The features of a layer, each of which belongs to the one of another layer with the same number.
+Paired = Union[Features, Repeated]
+
 
 def extent(values: "array[float]") -> Tuple[float, float]:
     """The least and the greatest of some numbers."""
@@ -130,6 +166,12 @@ class Shapes(NamedTuple):
 def offsets_of(counts: Iterable[int]) -> "array[int]":
     """Where lists of these lengths begin behind one another, and where the last one ends."""
     return array("I", accumulate(counts, initial=0))
+
+
+def from_the_first(offsets: "array[int]") -> "array[int]":
+    """The same offsets where the first list begins at 0."""
+    first = offsets[0]
+    return array("I", [offset - first for offset in offsets])
 
 
 def counts_of(offsets: "array[int]") -> List[int]:

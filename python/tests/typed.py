@@ -5,7 +5,7 @@ from __future__ import annotations
 from decimal import Decimal
 from typing import Optional
 
-from overlay_grid import GeometryError, Operation, Refusal, Refused, Row, dissolve, edges, faces, faces_text, overlay, union
+from overlay_grid import GeometryError, Operation, Refusal, Refused, Row, dissolve, edges, faces, faces_text, overlay, pairs, union
 
 line: str = union("", b"")
 same: bytes = union(b"", "", side=16, segments=10_000_000)
@@ -38,6 +38,9 @@ class Frame:
 of_a_geometry = union(Square(), Square(), grid="0.001")
 of_geometries = union([Square(), None], b"")
 faces_of_geometries = faces([Square()], Square())
+clipped: list[bytes] = pairs(Operation.INTERSECTION, [b"", b""], b"", grid="0.1", origin=(0, 0))
+against_each: list[bytes] = pairs("difference", b"", [Square(), None])
+of_pairs = pairs("union", [Square(), None], (Square(), b""), grid=1)
 table: Frame = overlay(Frame(), Frame(), how="union", grid=1)
 dissolved: Frame = dissolve(table, by="zone", grid=1)
 
@@ -55,4 +58,6 @@ no_operation = overlay("union", "", "")  # type: ignore[call-overload]
 no_layer = union("", None)  # type: ignore[call-overload]
 not_a_str: str = faces_text(b"")  # type: ignore[assignment]
 none_of_them = faces()  # type: ignore[call-overload]
+not_one: bytes = pairs("union", [b""], b"")  # type: ignore[assignment]
+no_pairs = pairs(1, [b""], [b""])  # type: ignore[call-overload]
 no_unit = union("", "", grid=[1])  # type: ignore[call-overload]
