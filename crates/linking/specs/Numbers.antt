@@ -1,8 +1,10 @@
 -- How many hot pixels and how many records lie in each tile of a grid (own).
 use Rattle.std.specs.Prelude.{◌≡◌, ◌≢◌, ◌↔◌, ℕ, AllPairs, Contains, List, Some, length, slice_get}
 use Rattle.geom.specs.declared.point.Pt.{Pt}
+use Rattle.geom.specs.Box.{IsInBox}
 use Rattle.grid.specs.Tiles.{Owns, Tiling, tile_count}
 use Rattle.routing.specs.declared.record.Record.{Record}
+use Rattle.linking.specs.declared.numbers.OwnedRect.{OwnedRect}
 use Rattle.linking.specs.declared.rounded.TileNumbers.{TileNumbers}
 
 -- n of the xs have P: a list has exactly these, each once
@@ -11,6 +13,10 @@ pub record IsCountOf {X : Type 0} (xs : List X) (P : X → Type 0) (n : ℕ) : T
   pub once : AllPairs (λ x y. x ≢ y) those
   pub exact : (x : X) → Contains those x ↔ (Contains xs x × P x)
   pub number_is : n ≡ length those
+
+-- the rectangle has exactly the points that the tile owns
+abbrev pub HasOwned : Tiling → OwnedRect → Type 0
+HasOwned g owned = (p : Pt) → IsInBox owned.rect.lo owned.rect.hi p ↔ Owns g owned.tile p
 
 -- for each tile, how many of the xs have a pixel that it owns
 pub record AreTileCounts {X : Type 0} (g : Tiling) (pixel_of : X → Pt) (xs : List X) (counts : List ℕ) : Type 0 where

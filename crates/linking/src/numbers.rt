@@ -1,17 +1,18 @@
 //! How many hot pixels and how many records each tile of a grid has, wherever they were found.
 //!
-//! 1. The hot pixels are counted in the tiles that own them, and so are the records, by their pixels (`count_by_tile`).
+//! 1. The hot pixels are counted in the tiles that own them, and so are the records, by their pixels (`count_by_tile`): most have the tile
+//!    of the one before (`owner_of`).
 //! 2. Where several hands count, what they found is added tile by tile (`summed`).
 //! 3. Both counts of a tile are its numbers (`paired`).
 
-ghost use Rattle.std.specs.Prelude.{◌≡◌, ◌≢◌, ◌<◌, ◌≤◌, All, AllPairs, IfOk, get_or, length, map, slice_range, sum_by};
+ghost use Rattle.std.specs.Prelude.{◌≡◌, ◌≢◌, ◌<◌, ◌≤◌, All, AllPairs, IfOk, IfSome, get_or, length, map, slice_range, sum_by};
 ghost use Rattle.geom.specs.declared.point.Pt.{Pt};
-ghost use Rattle.grid.specs.Tiles.{HasTile};
-ghost use Rattle.linking.specs.Numbers.{ArePaired, AreTileCounts};
+ghost use Rattle.grid.specs.Tiles.{HasTile, Owns};
+ghost use Rattle.linking.specs.Numbers.{ArePaired, AreTileCounts, HasOwned};
 ghost use Rattle.linking.specs.Shares.{AreSums};
 
 use crate::rounded::TileNumbers;
-use geom::{NoMemory, Pt};
+use geom::{NoMemory, Pt, Rect};
 use grid::Grid;
 use hands::{Part, even_parts, map_parts};
 use routing::Record;
@@ -43,6 +44,33 @@ impl AtPixel for Record {
     }
 }
 
+/// A tile, and the rectangle of the points that it owns.
+#[derive(Clone, Copy, Debug)]
+struct OwnedRect {
+    tile: u32,
+    rect: Rect,
+}
+
+/// The tile that owns a point, with its rectangle, where that of another point is at hand.
+#[inline(always)]
+fn owner_of(grid: &Grid, last: Option<OwnedRect>, point: Pt) -> OwnedRect
+    requires tile { HasTile grid.now point }
+    requires last { IfSome last (HasOwned grid.now) }
+    ensures owner { Owns grid.now result.tile point }
+    ensures owned { HasOwned grid.now result }
+{
+    if let Some(owned) = last {
+        if owned.rect.holds(point) {
+            return owned;
+        }
+    }
+    let tile = grid.tile_of(point);
+    OwnedRect {
+        tile,
+        rect: grid.rect(tile),
+    }
+}
+
 /// How many of some items each tile has. More than a `u32` counts are refused as want of memory.
 pub(crate) fn count_by_tile<X: AtPixel, A: Allocator>(
     alloc: A,
@@ -54,8 +82,11 @@ pub(crate) fn count_by_tile<X: AtPixel, A: Allocator>(
     ensures { IfOk result (λ v. AreTileCounts grid.now X.pixel_of items.now v.items) }
 {
     let mut counts = vec![in alloc; 0u32; grid.tiles() as usize]?;
+    let mut last = None;
     for item in items {
-        let tile = grid.tile_of(item.pixel()) as usize;
+        let owned = owner_of(grid, last, item.pixel());
+        last = Some(owned);
+        let tile = owned.tile as usize;
         let Some(count) = counts[tile].checked_add(1) else {
             return Err(NoMemory);
         };

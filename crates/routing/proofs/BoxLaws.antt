@@ -83,6 +83,18 @@ module _ (segments : List Seg) (table : List OnLine) (line : Line) (pixels : Lis
       ];
     }
 
+    -- or the list has them already
+    pub but_added : AddsAt segments table line.first line.past c list list → AddsAlongBut segments table line pixels rest old list
+    but_added g = record {
+      within = λ j m. h.within j ((others j).0 m).0;
+      kept = h.kept;
+      only = h.only;
+      all = λ j r l at gone along. elim (cases_eq j k) [
+        | inl m ↦ (g.same r).1 (inr (along.copy, same r j m at))
+        | inr m ↦ h.all j r l at (λ n. gone ((others j).1 (n, m))) along
+      ];
+    }
+
   -- none is left
   pub but_none : (new : List Record) → AddsAlongBut segments table line pixels 0 old new → AddsAlong segments table line pixels old new
   but_none new h = record {

@@ -107,7 +107,7 @@ fn past_of(table: &[OnLine], first: usize) -> usize
 pub(crate) fn lines_of<A: Allocator>(alloc: A, table: &[OnLine]) -> Result<Vec<Line, A>, NoMemory>
     ensures { IfOk result (λ v. AreLinesOf table.now v.items) }
 {
-    let mut lines = Vec::new(alloc);
+    let mut lines = Vec::with_capacity(alloc, table.len())?;
     let mut first = 0;
     while first < table.len() {
         let past = past_of(table, first);

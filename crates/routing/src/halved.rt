@@ -81,7 +81,8 @@ fn add_all<A: Allocator + Copy>(
     ensures pixels { OnOk result (HasHotInside (IsInside region.now.rect region.now.walls.items) (edges_of lines.now) found.old.pixels.items found.new.pixels.items) }
     ensures records { OnOk result (AddsRecordsInside segments.now table.now (IsInside region.now.rect region.now.walls.items) lines.now found.old.records.items found.new.records.items) }
 {
-    let mut here = Vec::with_capacity(alloc, lines.len())?;
+    let ends = lines.len().saturating_mul(2);
+    let mut here = Vec::with_capacity(alloc, ends)?;
     add_hot(alloc, &region.rect, lines, &mut here)?;
     add_found(alloc, here, segments, table, region, lines, found)
 }

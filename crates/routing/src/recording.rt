@@ -3,7 +3,7 @@
 //! 1. So many pixels are taken at once as there are lanes.
 //! 2. Each line is tested on those in its box. Where it meets one, each segment on the line has a record there.
 
-ghost use Rattle.std.specs.Prelude.{◌≡◌, ◌<◌, ◌≤◌, All, OnOk, length};
+ghost use Rattle.std.specs.Prelude.{◌≡◌, ◌<◌, ◌≤◌, All, IsTrue, List, OnOk, length};
 ghost use Rattle.geom.specs.Limit.{AreInLimit, InLimit};
 ghost use Rattle.routing.specs.Boxes.{boxes_of};
 ghost use Rattle.routing.specs.Recording.{AddsAlong, AddsAt, AddsRecordsAt};
@@ -77,6 +77,24 @@ fn boxes_of(pixels: &[Pt]) -> Boxes
     boxes
 }
 
+/// Whether a pixel is an end of each segment on a line, which then has no record there. Of a pile that isn't looked for.
+#[inline(always)]
+fn ends_each(segments: &[Seg], table: &[OnLine], line: &Line, pixel: Pt) -> bool
+    requires table_in { All (λ x. x.number < length segments.now) table.now }
+    requires line_in { line.now.past ≤ length table.now }
+    ensures { IsTrue result → (records : List Record) → AddsAt segments.now table.now line.now.first line.now.past pixel records records }
+{
+    if is_pile(line) {
+        return false;
+    }
+    for place in line.first..line.past {
+        if !is_end(&segments[table[place].number as usize], pixel) {
+            return false;
+        }
+    }
+    true
+}
+
 /// Adds the records of the segments on a line at those of the pixels that it meets, where the pixels are told as boxes.
 fn add_along<A: Allocator>(
     records: &mut Vec<Record, A>,
@@ -99,7 +117,7 @@ fn add_along<A: Allocator>(
     while near != 0 {
         let (place, rest) = split_first(near);
         let pixel = pixels[place];
-        if meets(&s, pixel) {
+        if !ends_each(segments, table, line, pixel) && meets(&s, pixel) {
             add_met(records, segments, table, line, pixel)?;
         }
         near = rest;

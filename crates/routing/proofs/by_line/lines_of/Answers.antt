@@ -5,7 +5,7 @@ use Rattle.routing.proofs.RecordingLaws.{lines_first, lines_next, lines_whole}
 use Rattle.routing.proofs.by_line.lines_of.Goals as goal
 
 pub loop-first-init : goal.loop-first-init
-loop-first-init g c = rw c.new-lines.ensures.items (lines_first c.args.table.now)
+loop-first-init g c = rw c.in_ok-lines.ensures.items (lines_first c.args.table.now)
 
 pub loop-first-preserved : goal.loop-first-preserved
 loop-first-preserved g c =
