@@ -104,7 +104,12 @@ void overlay_fill(uint32_t call, uint32_t side, const uint8_t *a, size_t a_lengt
 void overlay_fill_within(uint32_t call, uint32_t side, uint32_t segments, const uint8_t *a, size_t a_length, const uint8_t *b,
                          size_t b_length, uint8_t *room, size_t room_length, struct overlay_answer *answer);
 
-/* Tells the length alone (never OVERLAY_SMALL), of the same parameters. The text is made for that and let go, so this takes as
+/* The same where features that overlap don't cancel: a point lies in a layer where one of its geometries at least covers it. So the union of
+ * a layer and an empty one has all that the layer's geometries cover. OVERLAY_EDGES is OVERLAY_NO_CALL. */
+void overlay_covered_fill(uint32_t call, uint32_t side, uint32_t segments, const uint8_t *a, size_t a_length, const uint8_t *b,
+                          size_t b_length, uint8_t *room, size_t room_length, struct overlay_answer *answer);
+
+/* Tells the length alone (never OVERLAY_SMALL), of the parameters of overlay_fill. The text is made for that and let go, so this takes as
  * long as overlay_fill; to call that first with a room of a guessed size, and again where it was too small, is cheaper. */
 void overlay_size(uint32_t call, uint32_t side, const uint8_t *a, size_t a_length, const uint8_t *b, size_t b_length,
                   struct overlay_answer *answer);

@@ -126,6 +126,70 @@ static void within(void) {
         }
 }
 
+static const char *const OVERLAPPING = "POLYGON ((0 0, 4 0, 4 4, 0 4, 0 0)) POLYGON ((2 2, 6 2, 6 6, 2 6, 2 2))";
+static const char *const STRIP = "POLYGON ((1 1, 5 1, 5 3, 1 3, 1 1))";
+
+static struct overlay_answer covered_filled(uint32_t call, uint32_t side, uint32_t segments, const char *a, const char *b, uint8_t *room,
+                                            size_t length) {
+    struct overlay_answer answer = {9, 9, 9, 9, 9};
+    uint8_t *first = copied(a, strlen(a)), *second = copied(b, strlen(b));
+    overlay_covered_fill(call, side, segments, first, strlen(a), second, strlen(b), room, length, &answer);
+    free(first);
+    free(second);
+    return answer;
+}
+
+/* Two squares that overlap cover both, in rooms of every size near the text's, and are cut by a strip over their common part. */
+static void covered(void) {
+    static const struct {
+        uint32_t call;
+        const char *b, *text;
+    } ROWS[] = {
+        {OVERLAY_UNION, "", "MULTIPOLYGON (((0 0, 4 0, 4 2, 6 2, 6 6, 2 6, 2 4, 0 4, 0 0)))\n"},
+        {OVERLAY_INTERSECTION, STRIP, "MULTIPOLYGON (((1 1, 4 1, 4 2, 5 2, 5 3, 4 3, 2 3, 1 3, 1 1)))\n"},
+        {OVERLAY_SYMDIFFERENCE, OVERLAPPING, "MULTIPOLYGON EMPTY\n"},
+    };
+    for (size_t row = 0; row < sizeof ROWS / sizeof *ROWS; row++) {
+        size_t wanted = strlen(ROWS[row].text);
+        for (size_t length = wanted - 2; length < wanted + 3; length++) {
+            uint8_t room[100];
+            memset(room, 0xA5, sizeof room);
+            struct overlay_answer answer = covered_filled(ROWS[row].call, SIDE, 20, OVERLAPPING, ROWS[row].b, room, length);
+            check(answer.length == wanted && !answer.detail && !answer.number && !answer.part, "fields of a covered text");
+            check(answer.status == (length < wanted ? OVERLAY_SMALL : OVERLAY_ANSWERED), "status of a covered text");
+            size_t from = length < wanted ? 0 : wanted;
+            check(!from || !memcmp(room, ROWS[row].text, wanted), ROWS[row].text);
+            for (size_t at = from; at < sizeof room; at++)
+                check(room[at] == 0xA5, "the room behind a covered text");
+        }
+    }
+}
+
+/* They are refused as the other texts are, and the edges are no operation. */
+static void covered_refusals(void) {
+    static const struct {
+        uint32_t call, side, segments;
+        const char *a, *b;
+        struct overlay_answer answer;
+    } ROWS[] = {
+        {OVERLAY_EDGES, 16, 20, "", "", {0, 0, OVERLAY_NO_CALL, 0, 0}},
+        {0, 15, 20, "POLYGON", "", {0, 0, OVERLAY_REFUSED, OVERLAY_BAD_SIDE, OVERLAY_RUN}},
+        {0, 16, 20, "POLYGON ((0 0", "", {0, 13, OVERLAY_REFUSED, OVERLAY_SYNTAX, OVERLAY_LAYER_A}},
+        {1, 16, 20, "", "POLYGON ((0 0, 1 0, 0 1))", {0, 9, OVERLAY_REFUSED, OVERLAY_SHORT_RING, OVERLAY_LAYER_B}},
+        {2, 16, 7, SQUARE, "POLYGON ((2 2, 6 2, 6 6, 2 6, 2 2))", {0, 8, OVERLAY_REFUSED, OVERLAY_TOO_MANY_SEGMENTS, OVERLAY_RUN}},
+    };
+    for (size_t row = 0; row < sizeof ROWS / sizeof *ROWS; row++) {
+        uint8_t room[100];
+        memset(room, 0xA5, sizeof room);
+        struct overlay_answer got = covered_filled(ROWS[row].call, ROWS[row].side, ROWS[row].segments, ROWS[row].a, ROWS[row].b, room, sizeof room);
+        const struct overlay_answer *want = &ROWS[row].answer;
+        check(got.length == want->length && got.detail == want->detail && got.status == want->status && got.number == want->number
+                  && got.part == want->part, "a refusal of covered layers");
+        for (size_t at = 0; at < sizeof room; at++)
+            check(room[at] == 0xA5, "the room of a refusal of covered layers");
+    }
+}
+
 /* A layer of one segment more than is allowed, and one of a byte more. */
 static void large(void) {
     size_t one = strlen(SQUARE) + 1, count = 262145;
@@ -177,8 +241,10 @@ static void broken(void) {
     printf("broken texts 30000: answered %ld, no such call %ld, refused %ld, too small %ld\n", counts[0], counts[2], counts[3], counts[4]);
 }
 
+typedef void filling(uint32_t, uint32_t, uint32_t, const uint8_t *, size_t, const uint8_t *, size_t, uint8_t *, size_t, struct overlay_answer *);
+
 /* From some request on memory is refused: the room is as it was, or there is the text. */
-static void memory(void) {
+static void memory(filling *fill) {
     uint8_t room[1000];
     long refused = 0;
     size_t m = strlen(SQUARE), n = strlen(OTHER);
@@ -186,7 +252,7 @@ static void memory(void) {
         struct overlay_answer answer;
         memset(room, 7, sizeof room);
         granted = count;
-        overlay_fill(OVERLAY_INTERSECTION, SIDE, (const uint8_t *)SQUARE, m, (const uint8_t *)OTHER, n, room, sizeof room, &answer);
+        fill(OVERLAY_INTERSECTION, SIDE, 8, (const uint8_t *)SQUARE, m, (const uint8_t *)OTHER, n, room, sizeof room, &answer);
         granted = -1;
         if (answer.status == OVERLAY_ANSWERED)
             break;
@@ -622,7 +688,10 @@ int main(int count, char **words) {
     within();
     large();
     broken();
-    memory();
+    covered();
+    covered_refusals();
+    memory(overlay_fill_within);
+    memory(overlay_covered_fill);
     faces();
     many_layers();
     faces_refusals();

@@ -102,20 +102,34 @@ def operation(call: int, a: Any, b: Any, plan: Plan) -> Any:
     """What an operation answers, of the first layer's kind."""
     layers = layers_of([a, b])
     frame = frame_of(layers, plan)
-    answer = answerer_of(layers)
-    rows = None if all(map(simple, layers)) else chosen_of(call, layers, frame, plan)
-    if rows is not None:
-        return answer_of(answer, united(rows), frame)
+    if all(map(simple, layers)):
+        return by_parity(call, layers, frame, plan)
+    if all(layer.covered for layer in layers):
+        return by_texts(call, layers, frame, plan, covered=True)
+    rows = chosen_of(call, layers, frame, plan)
+    if rows is None:
+        return by_parity(call, layers, frame, plan)
+    return answer_of(answerer_of(layers), united(rows), frame)
+
+
+def by_parity(call: int, layers: Sequence[Given], frame: Frame, plan: Plan) -> Any:
+    """What an operation answers on layers that are read by parity: as columns where neither is a text."""
     first, second = (layer.held for layer in layers)
-    if isinstance(first, Shapes) and isinstance(second, Shapes):
-        return answer_of(answer, polygons_of(call, first.on_grid(frame), second.on_grid(frame), plan.side, plan.limit), frame)
-    texts = first.text(frame), second.text(frame)
-    return answer(asked(layers, lambda: text_of(call, *texts, plan.side, plan.limit)).decode("ascii"), frame)
+    if not (isinstance(first, Shapes) and isinstance(second, Shapes)):
+        return by_texts(call, layers, frame, plan, covered=False)
+    return answer_of(answerer_of(layers), polygons_of(call, first.on_grid(frame), second.on_grid(frame), plan.side, plan.limit), frame)
+
+
+def by_texts(call: int, layers: Sequence[Given], frame: Frame, plan: Plan, covered: bool) -> Any:
+    """What an operation answers on the texts of layers, by parity or as they are covered."""
+    texts = [layer.held.text(frame) for layer in layers]
+    text = asked(layers, lambda: text_of(call, texts[0], texts[1], plan.side, plan.limit, covered))
+    return answerer_of(layers)(text.decode("ascii"), frame)
 
 
 def chosen_of(call: int, layers: Sequence[Given], frame: Frame, plan: Plan) -> Optional[List[Polygons]]:
-    """The rows that an operation has on layers that are read as covered; nothing where no features of one layer overlap, so that
-    parity tells the same."""
+    """The rows that an operation has on layers of which one is read as covered; nothing where no features of that overlap, so that parity
+    tells the same."""
     rows = faces_on(layers, frame, plan, numbered=False)
     covered = [layer.covered for layer in layers]
     if not any(len(ids) > 1 for row in rows for ids, read in zip(row.ids, covered) if read):

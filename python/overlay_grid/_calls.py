@@ -115,31 +115,32 @@ def limit_of(segments: SupportsIndex) -> int:
     return min(number, MOST_SEGMENTS)  # two texts never have as many
 
 
-def fill(call: int, side: int, limit: int, a: bytes, b: bytes) -> Room:
+def fill(call: int, side: int, limit: int, a: bytes, b: bytes, covered: bool) -> Room:
     """The room with what the library answers, in which the text is whole where there is one."""
+    filled = library.overlay_covered_fill if covered else library.overlay_fill_within
     # a guess: where it is too small, all is made again
     size = 256 + (6 if call == 4 else 2) * (len(a) + len(b))
     while True:
         room = taken(size)
-        library.overlay_fill_within(call, side, limit, a, len(a), b, len(b), room.place, room.size, room.answer_place)
+        filled(call, side, limit, a, len(a), b, len(b), room.place, room.size, room.answer_place)
         if room.answer.status != SMALL:
             return room
         size = room.answer.length
         given_back(room)
 
 
-def text_of(call: int, a: bytes, b: bytes, side: Optional[int], segments: Optional[int]) -> bytes:
-    """What an operation answers on two texts."""
+def text_of(call: int, a: bytes, b: bytes, side: Optional[int], segments: Optional[int], covered: bool = False) -> bytes:
+    """What an operation answers on two texts, whose geometries don't cancel each other where they are read as covered."""
     limit = SEGMENTS if segments is None else limit_of(segments)
     tried = side is None and len(a) + len(b) <= TRIED
     if side is None:
         number = SIDE if tried else library.overlay_side(a, len(a), b, len(b))
     else:
         number = side_number(side)
-    room = fill(call, number, limit, a, b)
+    room = fill(call, number, limit, a, b, covered)
     if tried and room.answer.number == Refusal.TOO_MANY_TILES:
         given_back(room)
-        room = fill(call, library.overlay_side(a, len(a), b, len(b)), limit, a, b)
+        room = fill(call, library.overlay_side(a, len(a), b, len(b)), limit, a, b, covered)
     if room.answer.status != ANSWERED:
         raise fault_of(room.answer)
     text = room.text()

@@ -88,6 +88,8 @@ def _opened() -> ctypes.CDLL:
     room = [ctypes.c_void_p, ctypes.c_size_t, ctypes.c_void_p]
     opened.overlay_fill_within.argtypes = [*[ctypes.c_uint32] * 3, *text, *text, *room]
     opened.overlay_fill_within.restype = None
+    opened.overlay_covered_fill.argtypes = opened.overlay_fill_within.argtypes
+    opened.overlay_covered_fill.restype = None
     opened.overlay_words.argtypes = [ctypes.POINTER(Answer), *text]
     opened.overlay_words.restype = ctypes.c_size_t
     opened.overlay_side.argtypes = [*text, *text]

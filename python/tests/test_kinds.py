@@ -343,6 +343,16 @@ def test_lists_are_read_as_covered(seed, tmp_path):
         assert asked(word, *([wkb_of(multi(feature)) for feature in layer] for layer in features), grid=1) == wkb_of(want)
 
 
+def test_a_list_whose_features_overlap_much():
+    """Squares on a diagonal, each of which overlaps all others: by faces, they would have half a milliard numbers of features."""
+    count = 950
+    squares = [f"POLYGON (({k} {k}, {k + count} {k}, {k + count} {k + count}, {k} {k + count}, {k} {k}))" for k in range(count)]
+    down = [(count + k - corner, k) for k in range(count) for corner in (1, 0)][1:]
+    up = [(k, count + k - corner) for k in reversed(range(count)) for corner in (0, 1)][:-1]
+    outline = [(0, 0), *down, (2 * count - 1, 2 * count - 1), *up, (0, 0)]
+    assert overlay_grid.union(squares, []) == f"MULTIPOLYGON ((({', '.join('%d %d' % point for point in outline)})))\n"
+
+
 @pytest.mark.parametrize("seed", range(60))
 def test_united_rows(seed):
     """Rows of faces, united, are what an operation answers on layers whose features don't overlap; and all rows but those of an even

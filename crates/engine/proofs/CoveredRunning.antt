@@ -59,12 +59,12 @@ module _ (segments : ℕ) (op : Op) (plan : Plan) (a b : List ℕ) where
       (h.0, record { text = made.text; report = made.report; written = is; sent = h.2 })
 
   -- ---- what was checked is what was given, and what isn't made wants memory
-  pub ends : {M : Type 0} (checked : FacesLimits) (other : Plan) (texts : List (List ℕ)) → checked ≡ covered_limits segments → other ≡ plan → texts ≡ a ∷ b ∷ [] → MayRound segments plan (a ∷ b ∷ [])
-      → (made : Result (MadeInParts M) NoMemory) → ((s t : List ℕ) → texts ≡ s ∷ t ∷ [] → IfOk made (λ m. IsCoveredWritten checked.segments op other s t m.text m.report))
-      → (r : Result (MadeInParts M) FacesFault) → MatchResult r (λ m. made ≡ Ok m) (λ f. (f.at ≡ Run) × (f.refusal ≡ Usual Memory))
-      → MatchResult r (λ m. IsCoveredWritten segments op plan a b m.text m.report) (λ f. DeclinesCovered segments plan a b f.at f.refusal)
-  ends checked other texts l p t may made f (Ok m) h =
-      subst (λ (x : Plan). IsCoveredWritten segments op x a b m.text m.report) p
-      (subst (λ (x : FacesLimits). IsCoveredWritten x.segments op other a b m.text m.report) l
-      (IfOk-at_ok (λ (n : MadeInParts _). IsCoveredWritten checked.segments op other a b n.text n.report) h (f a b t)))
-  ends checked other texts l p t may made f (Err e) h = memory_declines (covered_limits segments) plan (a ∷ b ∷ []) e.at e.refusal may h
+  pub ends : {N M : Type 0} (text_in : N → List ℕ) (report_in : N → Report M) (checked : FacesLimits) (other : Plan) (texts : List (List ℕ)) → checked ≡ covered_limits segments → other ≡ plan → texts ≡ a ∷ b ∷ []
+      → MayRound segments plan (a ∷ b ∷ []) → (made : Result N NoMemory) → ((s t : List ℕ) → texts ≡ s ∷ t ∷ [] → IfOk made (λ m. IsCoveredWritten checked.segments op other s t (text_in m) (report_in m)))
+      → (r : Result N FacesFault) → MatchResult r (λ m. made ≡ Ok m) (λ f. (f.at ≡ Run) × (f.refusal ≡ Usual Memory))
+      → MatchResult r (λ m. IsCoveredWritten segments op plan a b (text_in m) (report_in m)) (λ f. DeclinesCovered segments plan a b f.at f.refusal)
+  ends text_in report_in checked other texts l p t may made f (Ok m) h =
+      subst (λ (x : Plan). IsCoveredWritten segments op x a b (text_in m) (report_in m)) p
+      (subst (λ (x : FacesLimits). IsCoveredWritten x.segments op other a b (text_in m) (report_in m)) l
+      (IfOk-at_ok (λ n. IsCoveredWritten checked.segments op other a b (text_in n) (report_in n)) h (f a b t)))
+  ends text_in report_in checked other texts l p t may made f (Err e) h = memory_declines (covered_limits segments) plan (a ∷ b ∷ []) e.at e.refusal may h

@@ -112,13 +112,15 @@ module _ {M : Type 0} (limit : ℕ) (op : Op) (plan : Plan) (s t : List ℕ) (n 
     result = ∥∥₁_map over.of.rounded.borders (λ c.
         let e = c (length fs) (owners_below fs over.of.segments over.of.owners are) in
         record {
-          segments = over.of.segments;
-          owners = over.of.owners;
-          are_segments = are;
-          edges = e.0;
-          are_bordered = e.1;
-          is_text = whole_text op (length two.a) (length fs) e.0 (whole e.0 e.1) text
-              (subst (λ (bs : List Bordered). IsCoveredText op (length two.a) (length fs) bs text) e.2 (subst (λ (k : ℕ). IsCoveredText op k (length fs) (borders_in b.rounded) text) split is));
+          of = record {
+            segments = over.of.segments;
+            owners = over.of.owners;
+            are_segments = are;
+            edges = e.0;
+            are_bordered = e.1;
+            is_text = whole_text op (length two.a) (length fs) e.0 (whole e.0 e.1) text
+                (subst (λ (bs : List Bordered). IsCoveredText op (length two.a) (length fs) bs text) e.2 (subst (λ (k : ℕ). IsCoveredText op k (length fs) (borders_in b.rounded) text) split is));
+          };
           changing_edges = edges ∙ sym (length-map b.rounded.borders.items (bordered b.rounded.features.items)) ∙ ap (λ (bs : List Bordered). length bs) e.2;
           tiles = b.rounded.tiles.items;
           tiles_are = over.of.tiles_are;

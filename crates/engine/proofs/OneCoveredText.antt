@@ -3,18 +3,17 @@ use Rattle.std.proofs.Common.{◌≡◌, ◌∙◌, ℕ, List, [], ◌∷◌, ap
 use Rattle.std.proofs.Math.Logic.{∥∥₁_elim}
 use Rattle.geom.specs.declared.op.Op.{Op}
 use Rattle.geom.specs.declared.point.Pt.{Pt}
-use Rattle.grid.specs.Tiles.{Tiling}
 use Rattle.wkt.specs.Canonical.{multi_text}
 use Rattle.covered.specs.Results.{AreCoveredPolygons}
 use Rattle.covered.proofs.CoveredPolygons.{covered_polygons_are_one}
 use Rattle.layers.specs.declared.plan.Plan.{Plan}
 use Rattle.results.specs.declared.text.Report.{Report}
-use Rattle.engine.specs.CoveredRuns.{CoveredTextIsOneWithin, IsCoveredTold, IsCoveredWritten}
+use Rattle.engine.specs.CoveredRuns.{CoveredTextIsOneWithin, IsCoveredOf, IsCoveredWritten}
 use Rattle.engine.proofs.Determined.{text_prop}
 use Rattle.engine.proofs.LayersKnown.{one_list}
 
-polygons_of : {M : Type 0} (op : Op) (a b : List (List (List Pt))) (grid : Tiling) (text : List ℕ) (report : Report M) → (t : IsCoveredTold op a b grid text report) → AreCoveredPolygons op a b t.is_text.polygons
-polygons_of op a b grid text report t = record {
+polygons_of : (op : Op) (a b : List (List (List Pt))) (text : List ℕ) → (t : IsCoveredOf op a b text) → AreCoveredPolygons op a b t.is_text.polygons
+polygons_of op a b text t = record {
   segments = t.segments;
   owners = t.owners;
   are_segments = t.are_segments;
@@ -26,12 +25,9 @@ polygons_of op a b grid text report t = record {
   each_edge = t.is_text.each_edge;
 }
 
-one_told : {M N : Type 0} (op : Op) (a b : List (List (List Pt))) (grid other : Tiling) (text text' : List ℕ) (report : Report M) (report' : Report N)
-    → IsCoveredTold op a b grid text report → IsCoveredTold op a b other text' report' → text ≡ text'
-one_told op a b grid other text text' report report' s t =
-    s.is_text.written
-    ∙ ap multi_text (covered_polygons_are_one op a b s.is_text.polygons t.is_text.polygons (polygons_of op a b grid text report s) (polygons_of op a b other text' report' t))
-    ∙ sym t.is_text.written
+one_of : (op : Op) (a b : List (List (List Pt))) (text text' : List ℕ) → IsCoveredOf op a b text → IsCoveredOf op a b text' → text ≡ text'
+one_of op a b text text' s t =
+    s.is_text.written ∙ ap multi_text (covered_polygons_are_one op a b s.is_text.polygons t.is_text.polygons (polygons_of op a b text s) (polygons_of op a b text' t)) ∙ sym t.is_text.written
 
 heads : {X : Type 0} (x y z w : X) → x ∷ y ∷ [] ≡ z ∷ w ∷ [] → (x ≡ z) × (y ≡ w)
 heads {X} x y z w h = (cc, cc)
@@ -43,9 +39,8 @@ same_text M N segments other_segments op plan other a b text text' report report
     (one_list (a ∷ b ∷ []) (h.features_a ∷ h.features_b ∷ []) (k.features_a ∷ k.features_b ∷ []) h.ready.stand k.ready.stand) in
     ∥∥₁_elim h.result (text_prop text text') (λ s.
     ∥∥₁_elim k.result (text_prop text text') (λ t.
-    one_told op k.features_a k.features_b h.grid k.grid text text' report report'
-    (subst (λ (fs : List (List (List Pt))). IsCoveredTold op fs k.features_b h.grid text report) e.0
-    (subst (λ (fs : List (List (List Pt))). IsCoveredTold op h.features_a fs h.grid text report) e.1 s)) t))
+    one_of op k.features_a k.features_b text text'
+    (subst (λ (fs : List (List (List Pt))). IsCoveredOf op fs k.features_b text) e.0 (subst (λ (fs : List (List (List Pt))). IsCoveredOf op h.features_a fs text) e.1 s.of)) t.of))
 
 pub covered_text_is_one : (M N : Type 0) → CoveredTextIsOneWithin M N
 covered_text_is_one M N = same_text M N

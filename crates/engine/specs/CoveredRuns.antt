@@ -35,18 +35,22 @@ covered_limits segments = record { segments = segments; ids = 184467440737095516
 
 -- ---- an answer
 
--- The text of the result on two layers of features, whose segments are rounded together, and the numbers of the rounding over a grid: of the edges
--- that are the border of some feature, of the hot pixels and the records, of each tile and in all.
-pub record IsCoveredTold {M : Type 0} (op : Op) (a b : List (List (List Pt))) (grid : Tiling) (text : List ℕ) (report : Report M) : Type 0 where
+-- the text of the result on two layers of features, whose segments are rounded together
+pub record IsCoveredOf (op : Op) (a b : List (List (List Pt))) (text : List ℕ) : Type 0 where
   pub segments : List Seg
   pub owners : List ℕ
   pub are_segments : AreFeatureSegments (a ++ b) segments owners
   pub edges : List Bordered
   pub are_bordered : AreBordered (length (a ++ b)) segments owners edges
   pub is_text : IsCoveredText op (length a) (length (a ++ b)) edges text
-  pub changing_edges : report.edges ≡ length (changing edges)
+
+-- that text, and the numbers of the rounding over a grid: of the edges that are the border of some feature, of the hot pixels and the records, of
+-- each tile and in all
+pub record IsCoveredTold {M : Type 0} (op : Op) (a b : List (List (List Pt))) (grid : Tiling) (text : List ℕ) (report : Report M) : Type 0 where
+  pub of : IsCoveredOf op a b text
+  pub changing_edges : report.edges ≡ length (changing of.edges)
   pub tiles : List TileNumbers
-  pub tiles_are : AreTileNumbers grid segments (tile_count grid) tiles
+  pub tiles_are : AreTileNumbers grid of.segments (tile_count grid) tiles
   pub told : TellsTiles tiles report.hot report.records report.tiles.items
 
 -- the text of the result on two layers, and its report, which has the numbers of each layer's segments too

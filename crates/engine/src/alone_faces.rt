@@ -54,7 +54,7 @@ pub fn faces_alone<A: Allocator + Copy>(
 }
 
 /// The borders of the features of layers that were checked, by what was kept of these.
-fn borders_alone<A: Allocator + Copy>(
+pub(crate) fn borders_alone<A: Allocator + Copy>(
     alloc: A,
     checked: &CheckedLayers<'_, '_>,
     kept: KeptFeatures<A>,

@@ -77,7 +77,7 @@ pub fn run_covered_within<
 }
 
 /// The limits of faces, with no limit for the features of rows, which aren't made.
-fn limits_of(limits: Limits) -> FacesLimits
+pub(crate) fn limits_of(limits: Limits) -> FacesLimits
     ensures { result ≡ covered_limits limits.segments }
 {
     FacesLimits {
@@ -140,7 +140,7 @@ fn covered_by_borders<A: Allocator + Copy + Send + Sync, R: Threads + Sync>(
 }
 
 /// The numbers of a run.
-fn covered_report<A: Allocator + Copy>(
+pub(crate) fn covered_report<A: Allocator + Copy>(
     alloc: A,
     first: LayerSize,
     second: LayerSize,

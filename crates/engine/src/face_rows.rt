@@ -63,7 +63,7 @@ pub(crate) fn swept_of<A: Allocator + Copy + Send + Sync, R: Threads + Sync>(
 }
 
 /// The same by the calling thread.
-fn swept_alone<A: Allocator + Copy>(
+pub(crate) fn swept_alone<A: Allocator + Copy>(
     alloc: A,
     borders: &[Border],
     features: &[u32],

@@ -11,6 +11,7 @@
 #![tactic(auto)]
 
 mod alone;
+mod alone_covered;
 mod alone_faces;
 mod bounded_rows;
 mod cell_parts;
@@ -32,6 +33,7 @@ mod laws;
 mod rounds;
 
 pub use alone::{edges_alone, edges_alone_within, run_alone, run_alone_within};
+pub use alone_covered::run_covered_alone_within;
 pub use alone_faces::{FacesOutput, faces_alone};
 pub use columns_alone::run_columns_alone_within;
 pub use columns_output::ColumnsOutput;

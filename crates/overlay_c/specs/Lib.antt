@@ -1,5 +1,6 @@
 pub mod Boundary
 pub mod Faces
 pub mod Columns
+pub mod Covered
 pub mod Pairs
 pub mod FacesColumns

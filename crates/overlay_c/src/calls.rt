@@ -4,9 +4,11 @@ ghost use Rattle.std.specs.Prelude.{◌≡◌, length};
 ghost use Rattle.engine.specs.Fitting.{IsFittingSide};
 ghost use Rattle.layers.specs.Refusals.{segment_limit};
 ghost use Rattle.overlay_c.specs.Boundary.{Fails, Fills, IsTextOf, Sizes};
+ghost use Rattle.overlay_c.specs.Covered.{FailsCovered, IsCoveredMade};
 ghost use Rattle.overlay_c.specs.Faces.{AreFacesMade, FailsFaces, IsSideOver, texts_in};
 
 use crate::answer::OverlayAnswer;
+use crate::covered_made::covered_text;
 use crate::faces::{OverlayLayer, faces_text, side_over};
 use crate::made::text_of;
 use crate::room::{fill_with, size_of};
@@ -65,6 +67,29 @@ pub extern "C" fn overlay_fill_within(
     ensures fills { Fills (IsTextOf segments call side a.now b.now) (Fails segments call side a.now b.now) room.old room.new answer.new }
 {
     *answer = fill_with(text_of(alloc, call, side, Limits { segments }, a, b), room);
+}
+
+/// Puts the canonical line of an operation (0 union, 1 intersection, 2 difference, 3 symmetric difference) on two layer texts, over tiles of
+/// this side, at the beginning of a room, where it fits: a point lies in a layer where one of its geometries at least covers it. The layers
+/// have together at most so many segments. Nothing else in the room changes.
+#[unsafe(no_mangle)]
+pub extern "C" fn overlay_covered_fill(
+    alloc: Global,
+    call: u32,
+    side: u32,
+    segments: u32,
+    a: &[u8],
+    b: &[u8],
+    room: &mut [u8],
+    answer: &mut OverlayAnswer,
+)
+    ensures size { length room.new ≡ length room.old }
+    ensures fills { Fills (IsCoveredMade segments call side a.now b.now) (FailsCovered segments call side a.now b.now) room.old room.new answer.new }
+{
+    *answer = fill_with(
+        covered_text(alloc, call, side, Limits { segments }, a, b),
+        room,
+    );
 }
 
 /// The side of a tile that fits two layers: 262,144, or the least greater power of two that doesn't give too many tiles.

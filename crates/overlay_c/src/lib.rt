@@ -1,11 +1,11 @@
 //! The overlay for callers in C (`include/overlay.h`), on the calling thread: layers in memory in, a text or columns in the caller's rooms out.
 //!
 //! 1. Numbers of the call become a plan, and pointers with lengths become layers (`made`, `columns_layer`).
-//! 2. The engine answers (`calls`, `faces`, `columns_call`, `pairs_call`, `faces_columns`).
+//! 2. The engine answers (`calls`, `covered_made`, `faces`, `columns_call`, `pairs_call`, `faces_columns`).
 //! 3. What fits is put into the room (`room`, `columns_rooms`, `face_rooms`); a status, or a refusal's number and place, tells the rest (`answer`, `words`).
 //!
 //! The promise: a status of 0 exactly where the engine answers and the room is large enough, and then the room begins with its text; nothing
-//! behind that changes. The definitions are `specs/Boundary`, `Faces`, `Columns`, `Pairs` and `FacesColumns`.
+//! behind that changes. The definitions are `specs/Boundary`, `Covered`, `Faces`, `Columns`, `Pairs` and `FacesColumns`.
 #![tactic(auto)]
 
 mod answer;
@@ -14,6 +14,7 @@ mod columns_answer;
 mod columns_call;
 mod columns_layer;
 mod columns_rooms;
+mod covered_made;
 mod face_rooms;
 mod faces;
 mod faces_answer;
@@ -26,8 +27,8 @@ mod words;
 
 pub use answer::OverlayAnswer;
 pub use calls::{
-    overlay_faces_fill, overlay_faces_side, overlay_faces_size, overlay_fill, overlay_fill_within,
-    overlay_side, overlay_size, overlay_version,
+    overlay_covered_fill, overlay_faces_fill, overlay_faces_side, overlay_faces_size, overlay_fill,
+    overlay_fill_within, overlay_side, overlay_size, overlay_version,
 };
 pub use columns_answer::OverlayColumnsAnswer;
 pub use columns_call::{overlay_columns_fill, overlay_columns_side};

@@ -17,7 +17,7 @@ mod text;
 mod text_parts;
 
 pub use operation::{
-    Wanted, line_by_workers, result_polygons, result_polygons_by_workers, result_text,
+    Wanted, line_along, line_by_workers, result_polygons, result_polygons_by_workers, result_text,
     text_by_workers, text_of,
 };
 pub use sink::{MemSink, Sink, SinkFault, write_all, write_parts};

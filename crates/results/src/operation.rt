@@ -136,7 +136,10 @@ fn polygons_along<A: Allocator + Copy>(
 }
 
 /// The canonical line of the result that these directed edges bound.
-fn line_along<A: Allocator + Copy>(alloc: A, directed: &Directed<A>) -> Result<Vec<u8, A>, NoMemory>
+pub fn line_along<A: Allocator + Copy>(
+    alloc: A,
+    directed: &Directed<A>,
+) -> Result<Vec<u8, A>, NoMemory>
     requires closes { Closes directed.now }
     requires in_limit { All (λ d. AreInLimit d.from d.to) directed.now }
     ensures { IfOk result (λ text. (op : Op) (counted : List Counted) → AreLayers counted → AreResultEdges op counted directed.now → IsResultText op counted text.items) }

@@ -34,7 +34,7 @@ returns g c =
     let now = c.in-Ok.checked in
     let same = c.in-Ok.ensures.same in
     let texts : List (List ℕ) = c.args.a.now ∷ c.args.b.now ∷ [] in
-    ends c.args.limits.segments c.args.op c.args.plan c.args.a.now c.args.b.now now.limits now.plan (map (λ t. t.now) now.layers.now) (same.1 ∙ c.limits_of.ensures) same.0
+    ends c.args.limits.segments c.args.op c.args.plan c.args.a.now c.args.b.now (λ m. m.text) (λ m. m.report) now.limits now.plan (map (λ t. t.now) now.layers.now) (same.1 ∙ c.limits_of.ensures) same.0
     (ap (λ (ts : List (Bor (List ℕ))). map (λ t. t.now) ts) same.2)
     (subst (λ (l : FacesLimits). MayRound l.segments c.args.plan texts) c.limits_of.ensures c.in-Ok.ensures.answer)
     c.covered_by_borders.result c.covered_by_borders.ensures c.or_want-2.result c.or_want-2.ensures
