@@ -158,9 +158,10 @@ class AskedLibrary:
     """The package for Python in the program's place: it works when it is asked for the answer, and
     tells of a report the number of rows alone."""
 
-    def __init__(self, package: ModuleType, command: str, *texts: Text, segments: int = 0):
+    def __init__(self, package: ModuleType, command: str, *texts: Text, segments: int = 0, covered: bool = False):
         self.package = package
         self.command = command
+        self.covered = covered
         self.texts = texts
         self.plan = {"segments": segments} if segments > SEGMENTS else {}
 
@@ -174,8 +175,9 @@ class AskedLibrary:
         package = self.package
         try:
             with during(f"overlay {self.command}"):
-                call = getattr(package, CALLS.get(self.command, self.command))
-                answer = call(*(held(text.file) for text in self.texts), **self.plan)
+                call = getattr(package, call_for(self.command, self.covered))
+                words = [self.command] if self.covered else []
+                answer = call(*words, *(held(text.file) for text in self.texts), **self.plan)
             return answer, {"rows": answer.count(b"\n")} if self.command == FACES else {}
         except package.Refused as fault:
             mark = f"{fault.layer}: " if fault.layer and not str(fault).startswith(f"{fault.layer}: ") else ""
@@ -188,14 +190,19 @@ class AskedLibrary:
 CALLS = {FACES: "faces_text"}
 
 
+def call_for(command: str, covered: bool) -> str:
+    """The package's call for a command; that for all operations on covered layers is one."""
+    return "covered_text" if covered else CALLS.get(command, command)
+
+
 def asked(command: str, *texts: Text, segments: int = 0, covered: bool = False) -> Asked | AskedLibrary:
     """A command on some texts, at which the program is at work, with room for so many segments; or
     the package, if it has the call. `covered`: a point lies in a layer where one of its features at
-    least covers it, for which the package has no call."""
-    package = None if covered else library()
-    if package is None or not hasattr(package, CALLS.get(command, command)):
+    least covers it."""
+    package = library()
+    if package is None or not hasattr(package, call_for(command, covered)):
         return Asked(command, *texts, segments=segments, covered=covered)
-    return AskedLibrary(package, command, *texts, segments=segments)
+    return AskedLibrary(package, command, *texts, segments=segments, covered=covered)
 
 
 def refusal(line: str, status: int, texts: Sequence[Text]) -> Fault:

@@ -30,13 +30,13 @@ def stand_in(executable, folder):
     """A package with the calls of `overlay_grid`, by the program."""
     asked = []
 
-    def call(command):
+    def call(command, *more):
         def answer(*texts, segments=1 << 20):
             asked.append(command)
             files = [Path(folder, f"layer{k}") for k in range(len(texts))]
             for file, text in zip(files, texts):
                 file.write_bytes(text)
-            done = subprocess.run([executable, command, *files], capture_output=True, check=False)
+            done = subprocess.run([executable, command, *files, *more], capture_output=True, check=False)
             if done.returncode:
                 words = done.stderr.decode().strip().removeprefix("overlay: ")
                 raise Refused(words, words[0] if words[1] == ":" else None)
@@ -48,6 +48,7 @@ def stand_in(executable, folder):
     for command in (*program.OPERATIONS, "edges"):
         setattr(package, command, call(command))
     package.faces_text = call("faces")
+    package.covered_text = lambda command, *texts, **named: call(command, "--covered")(*texts, **named)
     package.Refused, package.OutOfMemory = Refused, OutOfMemory
     return package, asked
 
@@ -65,7 +66,14 @@ def shapes(path):
 
 
 @pytest.mark.parametrize(
-    "words, more", [(("run", "intersection"), ()), (("run", "union"), ()), (("faces",), ()), (("faces",), ("--parts",))]
+    "words, more",
+    [
+        (("run", "intersection"), ()),
+        (("run", "union"), ()),
+        (("run", "union"), ("--dissolve",)),
+        (("faces",), ()),
+        (("faces",), ("--parts",)),
+    ],
 )
 def test_the_same_as_by_the_program(gis, package, monkeypatch, tmp_path, words, more):
     a, b = write(tmp_path / "a.gpkg", parcels(5, 3)), write(tmp_path / "b.gpkg", blobs(6, 3))
@@ -86,10 +94,14 @@ def beside(package, monkeypatch, tmp_path):
     monkeypatch.delenv("OVERLAY")
 
 
-def test_layers_that_are_read_as_covered_are_left_to_the_program(gis, package, beside, tmp_path):
+@pytest.mark.parametrize("has_call", [True, False])
+def test_layers_that_are_read_as_covered(gis, package, beside, tmp_path, has_call):
+    """By the package where it has the call, else by the program."""
+    if not has_call:
+        del package[0].covered_text
     a, b = write(tmp_path / "a.gpkg", OVERLAPPING[1]), write(tmp_path / "b.gpkg", [])
     assert gis("run", "union", a, b, "-o", "out.gpkg", "--dissolve").status == 0
-    assert [fields["area"] for _, fields in read("out.gpkg")] == [150.0] and not package[1]
+    assert [fields["area"] for _, fields in read("out.gpkg")] == [150.0] and bool(package[1]) == has_call
 
 
 def test_a_package_without_faces_leaves_them_to_the_program(gis, package, beside, tmp_path):

@@ -58,6 +58,7 @@ __all__ = [
     "Refusal",
     "Refused",
     "Row",
+    "covered_text",
     "difference",
     "dissolve",
     "edges",
@@ -427,6 +428,26 @@ def edges(
     1 0 1 1 1 0
     """
     return _asked(CALLS[Operation.EDGES], a, b, side, segments, grid, origin)
+
+
+def covered_text(
+    operation: Operation,
+    a: Text,
+    b: Union[str, bytes],
+    side: Optional[int] = None,
+    segments: Optional[int] = None,
+) -> Text:
+    """What an operation answers on two texts with whole coordinates that are read as covered: a point lies in a layer where one of its
+    geometries at least covers it, so that those that overlap don't cancel each other.
+
+    >>> squares = "POLYGON ((0 0, 4 0, 4 4, 0 4, 0 0)) POLYGON ((2 0, 6 0, 6 4, 2 4, 2 0))"
+    >>> covered_text(Operation.UNION, squares, "")
+    'MULTIPOLYGON (((0 0, 2 0, 4 0, 6 0, 6 4, 4 4, 2 4, 0 4, 0 0)))\\n'
+    """
+    if Operation(operation) is Operation.EDGES:
+        raise ValueError("edges is no operation on what layers cover")
+    text = _calls.text_of(CALLS[Operation(operation)], _calls.bytes_of(a), _calls.bytes_of(b), side, segments, covered=True)
+    return text.decode("ascii") if isinstance(a, str) else text
 
 
 def faces_text(a: Text, *more: Union[str, bytes], side: Optional[int] = None, segments: Optional[int] = None) -> Text:
