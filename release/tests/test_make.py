@@ -45,8 +45,10 @@ def clone(tmp_path):
     def make(log):
         (tmp_path / "gate.log").write_text(log)
         words = [tree / "release/make", "--log", tmp_path / "gate.log", tmp_path / "made"]
+        # As in a shell: what the tests' own environment says of Python's bytecode isn't said there.
+        own = {name: value for name, value in os.environ.items() if name != "PYTHONDONTWRITEBYTECODE"}
         path = f"{kit / 'bin'}:{os.environ['PATH']}"
-        return subprocess.run(words, env={**os.environ, "PATH": path}, capture_output=True, text=True, check=False)
+        return subprocess.run(words, env={**own, "PATH": path}, capture_output=True, text=True, check=False)
 
     make.tree = tree
     return make
@@ -61,10 +63,17 @@ def test_a_release(clone, tmp_path):
     commit = printed("git", "rev-parse", "HEAD", cwd=clone.tree).strip()
     wanted = [f"commit {commit}", "kit of version", "the gate's last lines:", *PASSED.splitlines()]
     assert (made / "GATE").read_text().splitlines() == wanted
+    assert not [name for name in packed(made) if "__pycache__" in name]
     is_an_archive(made, tmp_path)
     is_a_package(made)
     is_a_wheel(made, tmp_path)
     is_a_plugin(made)
+
+
+def packed(made):
+    """The names in the archive and in the package."""
+    (archive,), (deb,) = made.glob("*.tar.gz"), made.glob("*.deb")
+    return printed("tar", "-tzf", archive).splitlines() + printed("dpkg-deb", "-c", deb).splitlines()
 
 
 def is_an_archive(made, tmp_path):
