@@ -24,8 +24,11 @@
 #include <stdlib.h>
 #include <string.h>
 
-/* The release that this header came with. Programs that link with another one compare overlay_version(). */
+/* The release that this header came with. */
 #define OVERLAY_VERSION "1.0.0"
+
+/* The version of the calls that are declared here. Programs that may meet another library compare overlay_version() with it. */
+#define OVERLAY_CALLS_VERSION 4u
 
 #ifdef __cplusplus
 extern "C" {
@@ -256,7 +259,8 @@ size_t overlay_words(const struct overlay_answer *answer, uint8_t *room, size_t 
  * doesn't give too many tiles, or 262144 where a layer is refused. Both layers, with their lengths in bytes, are read once. */
 uint32_t overlay_side(const uint8_t *a, size_t a_length, const uint8_t *b, size_t b_length);
 
-/* Returns the version of these calls: 4. It changes where a call, a number or the struct does, not with each release. */
+/* Returns the version of the library's calls: OVERLAY_CALLS_VERSION of this header. It changes where a call, a number or a struct does,
+ * not with each release. */
 uint32_t overlay_version(void);
 
 #ifdef __cplusplus
