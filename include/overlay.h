@@ -249,7 +249,8 @@ uint32_t overlay_faces_columns_side(const struct overlay_columns *layers, size_t
 
 /* Puts the words of an answer of two layers without a text at the beginning of a room, as `A: 1 syntax at 16`, without a 0 or a line feed, and
  * returns their length in bytes: 0 where they don't fit, where memory ran out, or where there is nothing to say. Refusals from
- * OVERLAY_TOO_MANY_IDS on have no words. An answer of columns has the words of an overlay_answer with the same detail, status, number and part.
+ * OVERLAY_TOO_MANY_IDS on have no words, and the part of an answer of faces is no part of two layers: overlay_reason tells why these are refused.
+ * An answer of columns has the words of an overlay_answer with the same detail, status, number and part.
  *
  *   answer              what a call answered; it is read alone
  *   room, room_length   where the words go, and how many bytes there may be written: OVERLAY_WORDS are enough */
@@ -266,6 +267,29 @@ uint32_t overlay_version(void);
 #ifdef __cplusplus
 }
 #endif
+
+/* Returns why an input is refused, as `open ring` of OVERLAY_OPEN_RING, with a 0 behind it; null where the number is no overlay_refusal. The
+ * part and the detail of the answer tell the place. */
+static inline const char *overlay_reason(uint32_t number) {
+    switch (number) {
+    case OVERLAY_LAYER_TOO_LONG: return "layer too long";
+    case OVERLAY_SYNTAX: return "syntax";
+    case OVERLAY_NUMBER_RANGE: return "number out of range";
+    case OVERLAY_SHORT_RING: return "short ring";
+    case OVERLAY_OPEN_RING: return "open ring";
+    case OVERLAY_TOO_MANY_SEGMENTS: return "too many segments";
+    case OVERLAY_BAD_SIDE: return "bad tile side";
+    case OVERLAY_TOO_MANY_TILES: return "too many tiles";
+    case OVERLAY_OUT_OF_MEMORY: return "out of memory";
+    case OVERLAY_TOO_MANY_IDS: return "too many ids";
+    case OVERLAY_COORDINATE_MISSING: return "coordinate missing";
+    case OVERLAY_FEATURE_OFFSET: return "bad offset of features";
+    case OVERLAY_POLYGON_OFFSET: return "bad offset of polygons";
+    case OVERLAY_RING_OFFSET: return "bad offset of rings";
+    case OVERLAY_UNPAIRED: return "feature without another";
+    default: return NULL;
+    }
+}
 
 /* overlay_fill with layers that end with a 0, a side that fits and a room of its own: returns the text, with a 0 behind it, which the caller
  * owns from then on and lets go by free; null where the status is not OVERLAY_ANSWERED. A room as large as both layers is tried first, and

@@ -64,6 +64,18 @@ static void names(void) {
     check(sizeof OVERLAY_VERSION > 5, "the release");
 }
 
+/* The words that docs/RULES.md has for each refusal, without its number and its place. */
+static void reasons(void) {
+    static const char *const WANTED[] = {"layer too long", "syntax", "number out of range", "short ring", "open ring", "too many segments",
+                                         "bad tile side", NULL, "too many tiles", NULL, "out of memory", NULL, "too many ids", "coordinate missing",
+                                         "bad offset of features", "bad offset of polygons", "bad offset of rings", "feature without another", NULL};
+    for (uint32_t number = 0; number < sizeof WANTED / sizeof *WANTED; number++) {
+        const char *got = overlay_reason(number);
+        check(WANTED[number] ? got && !strcmp(got, WANTED[number]) : !got, "the reason of a refusal");
+    }
+    check(!overlay_reason(4294967295u), "the reason of no refusal");
+}
+
 struct refusal {
     uint32_t call, side;
     const char *a, *b;
@@ -96,6 +108,7 @@ static void refusals(void) {
         size_t length = strlen(want->words);
         check(overlay_words(&got, words, sizeof words) == length && !memcmp(words, want->words, length), want->words);
         check(overlay_words(&got, words, length - 1) == 0, "words that don't fit");
+        check(got.status != OVERLAY_REFUSED || strstr(want->words, overlay_reason(got.number)), "the reason is in the words");
     }
 }
 
@@ -616,6 +629,7 @@ int main(int count, char **words) {
         return print(words);
     check(overlay_version() == 4 && OVERLAY_CALLS_VERSION == 4, "the version");
     names();
+    reasons();
     rooms();
     refusals();
     sides();
