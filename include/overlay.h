@@ -9,7 +9,7 @@
  * passed stays the caller's: no call keeps a pointer.
  *
  * The caller sees to it that
- *   - each pointer is to as many bytes as its length says, or the length is 0 and the pointer is not null;
+ *   - each pointer is to as many bytes as its length says, of columns to as many numbers, or the length is 0 and the pointer is not null;
  *   - a room overlaps neither a layer nor the answer;
  *   - no call is made from a signal handler, or in the forked child of a process with several threads.
  *
@@ -48,7 +48,7 @@ enum overlay_status {
     OVERLAY_ANSWERED = 0,
     OVERLAY_NO_MEMORY = 1,
     OVERLAY_NO_CALL = 2, /* what to compute is none of the above; or faces of more than 64 layers */
-    OVERLAY_REFUSED = 3, /* a layer, the tile side, or the number of segments, tiles or ids is refused */
+    OVERLAY_REFUSED = 3, /* a layer, the tile side, or the number of features, segments, tiles or ids is refused */
     OVERLAY_SMALL = 4    /* there is a text, and it doesn't fit into the room */
 };
 
@@ -147,8 +147,9 @@ void overlay_faces_size(uint32_t side, uint32_t segments, uint64_t ids, const st
 uint32_t overlay_faces_side(const struct overlay_layer *layers, size_t count);
 
 /* A layer as columns, in the layout of GeoArrow's MultiPolygon: features, their polygons, their rings, their points. An offset says where a
- * list begins in the next level; there is one more of them than there are lists, and the lists that the features' offsets don't reach have no
- * meaning, so that slices of longer columns will do. Rings are closed: their last point is their first. No pointer is null. */
+ * list begins in the next level; there is one more of them than there are lists, and none falls or passes the end of that level. The lists that
+ * the features' offsets don't reach have no other meaning, so that slices of longer columns will do. Rings are closed: their last point is their
+ * first. No pointer is null. */
 struct overlay_columns {
     const int32_t *coordinates; /* x y x y .., in grid units */
     size_t coordinates_length;

@@ -429,9 +429,11 @@ static void columns_sides(void) {
 }
 
 static void columns_refusals(void) {
-    static const uint32_t FOUR[] = {0, 4}, SEVEN[] = {0, 7};
+    static const uint32_t FOUR[] = {0, 4}, SEVEN[] = {0, 7}, FALLS[] = {0, 5, 4}, PASSES[] = {0, 1, 2};
     static const struct overlay_columns OPEN = {SQUARE_COORDINATES, 10, FOUR, 2, ONE, 2, ONE, 2};
     static const struct overlay_columns BEYOND = {SQUARE_COORDINATES, 10, SEVEN, 2, ONE, 2, ONE, 2};
+    static const struct overlay_columns UNREACHED_RING = {SQUARE_COORDINATES, 10, FALLS, 3, ONE, 2, ONE, 2};
+    static const struct overlay_columns UNREACHED_POLYGON = {SQUARE_COORDINATES, 10, FIVE, 2, PASSES, 3, ONE, 2};
     static const struct {
         uint32_t call, side, segments;
         const struct overlay_columns *a, *b;
@@ -443,6 +445,8 @@ static void columns_refusals(void) {
         {OVERLAY_UNION, SIDE, 8, &OPEN, &BEYOND, 0, OVERLAY_REFUSED, OVERLAY_OPEN_RING, OVERLAY_LAYER_A},
         {OVERLAY_UNION, SIDE, 8, &OTHER_COLUMNS, &BEYOND, 1, OVERLAY_REFUSED, OVERLAY_RING_OFFSET, OVERLAY_LAYER_B},
         {OVERLAY_UNION, SIDE, 7, &OTHER_COLUMNS, &SQUARE_COLUMNS, 8, OVERLAY_REFUSED, OVERLAY_TOO_MANY_SEGMENTS, OVERLAY_RUN},
+        {OVERLAY_UNION, SIDE, 8, &UNREACHED_RING, &BEYOND, 2, OVERLAY_REFUSED, OVERLAY_RING_OFFSET, OVERLAY_LAYER_A},
+        {OVERLAY_UNION, SIDE, 8, &OTHER_COLUMNS, &UNREACHED_POLYGON, 2, OVERLAY_REFUSED, OVERLAY_POLYGON_OFFSET, OVERLAY_LAYER_B},
     };
     for (size_t row = 0; row < sizeof ROWS / sizeof *ROWS; row++) {
         int32_t coordinates[64] = {7};
