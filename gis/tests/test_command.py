@@ -135,17 +135,45 @@ def test_the_manual_page_tells_what_the_program_knows(program):
         assert word in PAGE
 
 
-def test_bash_completes_verbs_options_and_commands():
-    def completed(name, *words):
-        line = " ".join(map(shlex.quote, words))
-        script = f"compopt() {{ :; }}; source {TOP}/completions/{name}.bash; COMP_WORDS=({name} {line}); COMP_CWORD={len(words)}; _{name.replace('-', '_')}; echo ${{COMPREPLY[@]}}"
-        return set(subprocess.run(["bash", "-c", script], stdout=subprocess.PIPE, check=True).stdout.decode().split())
+OPERATIONS = {"union", "intersection", "difference", "symdifference"}
 
+
+def completed(name, *words):
+    """What bash offers for the last word."""
+    line = " ".join(map(shlex.quote, words))
+    script = f"compopt() {{ :; }}; source {TOP}/completions/{name}.bash; COMP_WORDS=({name} {line}); COMP_CWORD={len(words)}; _{name.replace('-', '_')}; echo ${{COMPREPLY[@]}}"
+    return set(subprocess.run(["bash", "-c", script], stdout=subprocess.PIPE, check=True).stdout.decode().split())
+
+
+def test_bash_completes_verbs_options_and_commands():
     assert completed("overlay", "") == {"union", "intersection", "difference", "symdifference", "edges", "faces"}
     assert completed("overlay", "--") == {"--tile", "--workers", "--segments", "--report", "--covered", "--help"}
     assert completed("overlay-gis", "") == set(cli.VERBS)
     for verb in cli.VERBS:
         assert completed("overlay-gis", verb, "--") == options_of(verb)
+
+
+@pytest.mark.parametrize("written", [["65"], ["=", "65"]])
+def test_bash_completes_values_behind_a_sign_too(written):
+    """Bash cuts `--tile=65` at its sign."""
+    assert completed("overlay", "union", "--tile", *written) == {"65536"}
+    assert completed("overlay", "--workers", *written[:-1], "6") == {"64"}
+    assert completed("overlay-gis", "check", "--grid", *written[:-1], "0.0") == {"0.0001", "0.001", "0.01"}
+    assert completed("overlay-gis", "run", "union", "--origin", *written) == set()
+
+
+def test_bash_completes_a_sign_alone():
+    assert completed("overlay", "--workers", "=") == {"1", "2", "4", "8", "16", "32", "64"}
+    assert completed("overlay-gis", "check", "--grid", "=") == {"0.0001", "0.001", "0.01", "0.1", "1"}
+
+
+def test_bash_offers_words_where_they_stand():
+    """The program takes `faces` before all other words alone, and overlay-gis an operation behind options."""
+    assert completed("overlay", "--tile", "16", "") == OPERATIONS | {"edges"}
+    assert completed("overlay", "faces", "") == completed("overlay", "--report", "union", "") == set()
+    assert completed("overlay-gis", "run", "--dissolve", "") == completed("overlay-gis", "run", "-o", "x.gpkg", "") == OPERATIONS
+    for words in (["-o", ""], ["--out", "=", "u"], ["union", ""], ["--dissolve", "union", "u"]):
+        assert completed("overlay-gis", "run", *words) == set()
 
 
 @pytest.mark.parametrize("verb", cli.VERBS)
