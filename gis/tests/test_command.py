@@ -187,6 +187,19 @@ def test_zsh_completes_all_options(verb):
     assert options_of(verb) == set(re.findall(r"--[a-z-]+", line))
 
 
+def takes_a_value(verb):
+    told = cli.parser()._subparsers._group_actions[0].choices[verb]
+    told.learn(cli.verb_of(verb))
+    return {word for action in told._actions if action.nargs != 0 for word in action.option_strings if word.startswith("--")}
+
+
+def test_zsh_completes_values_behind_a_sign_too():
+    """`--tile=4096` is taken as `--tile 4096` is."""
+    program, bridge = ((TOP / "completions" / name).read_text() for name in ("_overlay", "_overlay-gis"))
+    assert set(re.findall(r"(--[a-z-]+)=", program)) == {"--tile", "--workers", "--segments"}
+    assert set(re.findall(r"(--[a-z-]+)=", bridge)) == set().union(*map(takes_a_value, cli.VERBS))
+
+
 @pytest.mark.parametrize("terminal", [True, False])
 def test_progress_is_said_on_a_terminal_alone(capsys, monkeypatch, terminal):
     monkeypatch.setattr(messages, "PATIENCE", 0)
