@@ -135,6 +135,23 @@ def test_the_manual_page_tells_what_the_program_knows(program):
         assert word in PAGE
 
 
+@pytest.mark.parametrize("command", ["union", "faces"])
+def test_the_manual_page_tells_what_a_report_has(program, tmp_path, command):
+    layer = tmp_path / "a.wkt"
+    layer.write_text("POLYGON ((0 0, 1 0, 0 1, 0 0))")
+    told = subprocess.run([program, command, layer, layer, "--report"], stderr=subprocess.PIPE, stdout=subprocess.DEVNULL, check=True).stderr.decode()
+    names = [line.split()[0] for line in told.splitlines()]
+    assert "remade" in names
+    for name in names:
+        assert f"\\fB{name}\\fR" in PAGE
+
+
+@pytest.mark.parametrize("words", [["--tile", "15"], ["--workers", "65"]])
+def test_the_manual_page_tells_the_status_of_numbers(program, words):
+    assert subprocess.run([program, "union", "/dev/null", "/dev/null", *words], stderr=subprocess.DEVNULL, check=False).returncode == 3
+    assert words[0] in PAGE.partition("\n.SH EXIT STATUS\n")[2].partition("\n.B 3\n")[2].partition("\n.SH ")[0]
+
+
 OPERATIONS = {"union", "intersection", "difference", "symdifference"}
 
 
