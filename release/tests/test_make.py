@@ -32,7 +32,7 @@ def printed(*words, **how):
 @pytest.fixture
 def clone(tmp_path):
     """A clone as a gate leaves it, and a call of its release/make."""
-    tree, kit = tmp_path / "clone", tmp_path / "kit"
+    tree, kit = tmp_path / "a clone", tmp_path / "kit"
     subprocess.run(["git", "clone", "-q", TOP, tree], check=True)
     for place, file in BUILT.items():
         (tree / place).parent.mkdir(parents=True, exist_ok=True)
