@@ -106,6 +106,7 @@ def is_a_package(made):
     deb = made / f"overlay_{VERSION}_amd64.deb"
     assert printed("dpkg-deb", "-f", deb, "Version").strip() == VERSION
     assert "python3-gdal, python3-shapely" in printed("dpkg-deb", "-f", deb, "Depends")
+    assert "which features" in printed("dpkg-deb", "-f", deb, "Description")
     names = {line.split()[5] for line in printed("dpkg-deb", "-c", deb).splitlines()}
     for name in ("bin/overlay", "bin/overlay-gis", "include/overlay.h", "lib/x86_64-linux-gnu/liboverlay.a", "share/man/man1/overlay.1.gz"):
         assert f"./usr/{name}" in names
