@@ -269,6 +269,13 @@ uint32_t overlay_version(void);
 }
 #endif
 
+/* What follows is C in C++ too, and not for a program's warnings of that. */
+#if defined __cplusplus && defined __GNUC__
+#pragma GCC diagnostic push
+#pragma GCC diagnostic ignored "-Wold-style-cast"
+#pragma GCC diagnostic ignored "-Wzero-as-null-pointer-constant"
+#endif
+
 /* Returns why an input is refused, as `open ring` of OVERLAY_OPEN_RING, with a 0 behind it; null where the number is no overlay_refusal. The
  * part and the detail of the answer tell the place. */
 static inline const char *overlay_reason(uint32_t number) {
@@ -380,4 +387,8 @@ static inline void overlay_arrays(uint32_t call, uint32_t segments, const struct
     owned->rings_length = (size_t)answer->rings;
     owned->polygons_length = (size_t)answer->polygons;
 }
+
+#if defined __cplusplus && defined __GNUC__
+#pragma GCC diagnostic pop
+#endif
 #endif
