@@ -414,6 +414,14 @@ def test_wrong_arrays():
         overlay_grid.union([], square)
 
 
+def test_arrays_of_words():
+    """What is wrong with an array is told where its shape is right."""
+    numpy = pytest.importorskip("numpy")
+    square = numpy.array([[0, 0], [4, 0], [4, 4]])
+    with pytest.raises(GeometryError, match="^A: feature 2: an array of type <U21 is no polygon: a ring is an array of shape \\(n, 2\\), of numbers$"):
+        overlay_grid.union([square, square.astype(str)], [])
+
+
 def test_bytes_in_arrays():
     """A text as an array of bytes is a text."""
     numpy = pytest.importorskip("numpy")
