@@ -107,6 +107,12 @@ def is_array(value: Any) -> bool:
     return numpy is not None and isinstance(value, numpy.ndarray) or hasattr(value, "__array_interface__") and hasattr(value, "dtype")
 
 
+def is_masked(array: Any) -> bool:
+    """Whether numbers of an array are masked, so that they have no value."""
+    numpy = sys.modules.get("numpy")
+    return numpy is not None and bool(numpy.ma.is_masked(array))
+
+
 def has_points(value: Any) -> bool:
     """Whether a value is an array of pairs."""
     return is_array(value) and value.ndim == 2 and value.shape[1] == 2
@@ -216,6 +222,8 @@ def add_rings(feature: Any, builder: Builder) -> None:
     for ring in rings:
         if not has_points(ring) or ring.dtype.kind not in "fiu":
             raise builder.refused(f"{told_of(ring)} is no polygon: a ring is an array of shape (n, 2), of numbers")
+        if is_masked(ring):
+            raise builder.refused("an array has masked numbers", 1)
         numbers = ring.astype("<f8", copy=False)
         if ring.dtype.kind in "iu" and (abs(numbers) >= WHOLE).any():
             raise builder.refused("has whole numbers from 2^53 on, of which floating-point numbers have not all", 1)
