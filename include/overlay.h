@@ -148,8 +148,8 @@ uint32_t overlay_faces_side(const struct overlay_layer *layers, size_t count);
 
 /* A layer as columns, in the layout of GeoArrow's MultiPolygon: features, their polygons, their rings, their points. An offset says where a
  * list begins in the next level; there is one more of them than there are lists, and none falls or passes the end of that level. The lists that
- * the features' offsets don't reach have no other meaning, so that slices of longer columns will do. Rings are closed: their last point is their
- * first. No pointer is null. */
+ * the features' offsets don't reach have no other meaning, so that slices of longer columns will do; but each call reads all offsets that it is
+ * handed, so that slices of all columns take less time. Rings are closed: their last point is their first. No pointer is null. */
 struct overlay_columns {
     const int32_t *coordinates; /* x y x y .., in grid units */
     size_t coordinates_length;
