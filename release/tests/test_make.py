@@ -42,13 +42,13 @@ def clone(tmp_path):
     (kit / "bin/rt").chmod(0o755)
     (kit / "c").symlink_to(Path(os.path.realpath(shutil.which("rt"))).parents[1] / "c")
 
-    def make(log, made="made", umask=0o022):
+    def make(log, made="made", umask=0o022, **more):
         (tmp_path / "gate.log").write_text(log)
         words = [tree / "release/make", "--log", tmp_path / "gate.log", tmp_path / made]
         # As in a shell: what the tests' own environment says of Python's bytecode isn't said there.
         own = {name: value for name, value in os.environ.items() if name != "PYTHONDONTWRITEBYTECODE"}
         path = f"{kit / 'bin'}:{os.environ['PATH']}"
-        return subprocess.run(words, env={**own, "PATH": path}, capture_output=True, text=True, check=False, umask=umask)
+        return subprocess.run(words, env={**own, "PATH": path, **more}, capture_output=True, text=True, check=False, umask=umask)
 
     make.tree = tree
     return make
@@ -70,11 +70,17 @@ def test_a_release(clone, tmp_path):
     is_a_plugin(made)
 
 
+def in_memory():
+    """Temporary files on another file system, where there is one on which programs may run."""
+    there = os.access("/dev/shm", os.W_OK) and not os.statvfs("/dev/shm").f_flag & os.ST_NOEXEC
+    return {"TMPDIR": "/dev/shm"} if there else {}
+
+
 def test_for_everybody(clone, tmp_path):
-    """Whoever makes a release, and keeps files private: its bytes are the same, and all may read it."""
-    names = {"made": 0o022, "private": 0o077}
-    for name, umask in names.items():
-        done = clone(PASSED, name, umask)
+    """Whoever makes a release, on whatever file system, and keeps files private: its bytes are the same, and all may read it."""
+    names = {"made": (0o022, {}), "private": (0o077, in_memory())}
+    for name, (umask, more) in names.items():
+        done = clone(PASSED, name, umask, **more)
         assert done.returncode == 0, done.stderr
     sums, private = ((tmp_path / name / "SHA256SUMS").read_text() for name in names)
     assert sums == private
