@@ -63,7 +63,10 @@ def test_a_release(clone, tmp_path):
     commit = printed("git", "rev-parse", "HEAD", cwd=clone.tree).strip()
     wanted = [f"commit {commit}", "kit of version", "the gate's last lines:", *PASSED.splitlines()]
     assert (made / "GATE").read_text().splitlines() == wanted
-    assert not [name for name in packed(made) if "__pycache__" in name]
+    names = packed(made)
+    assert not [name for name in names if "__pycache__" in name]
+    for page in ("README.md", "SECURITY.md", "docs/PLANNERS.md", "docs/RULES.md", "docs/picture.svg", "python/README.md"):
+        assert {f"{top}/{page}" for top in (f"overlay-{VERSION}-x86_64-linux", "./usr/share/doc/overlay")} <= set(names)
     is_an_archive(made, tmp_path)
     is_a_package(made)
     is_a_wheel(made, tmp_path)
@@ -90,7 +93,7 @@ def test_for_everybody(clone, tmp_path):
 def packed(made):
     """The names in the archive and in the package."""
     (archive,), (deb,) = made.glob("*.tar.gz"), made.glob("*.deb")
-    return printed("tar", "-tzf", archive).splitlines() + printed("dpkg-deb", "-c", deb).splitlines()
+    return printed("tar", "-tzf", archive).splitlines() + [line.split()[5] for line in printed("dpkg-deb", "-c", deb).splitlines()]
 
 
 def is_an_archive(made, tmp_path):
