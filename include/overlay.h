@@ -276,8 +276,8 @@ uint32_t overlay_version(void);
 #pragma GCC diagnostic ignored "-Wzero-as-null-pointer-constant"
 #endif
 
-/* Returns why an input is refused, as `open ring` of OVERLAY_OPEN_RING, with a 0 behind it; null where the number is no overlay_refusal. The
- * part and the detail of the answer tell the place. */
+/* Returns why an input is refused, by the number of an answer that is OVERLAY_REFUSED or OVERLAY_NO_MEMORY: as `open ring` of OVERLAY_OPEN_RING,
+ * with a 0 behind it; null where the number is no overlay_refusal. The answer's part and detail tell the place. */
 static inline const char *overlay_reason(uint32_t number) {
     switch (number) {
     case OVERLAY_LAYER_TOO_LONG: return "layer too long";
