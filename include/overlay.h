@@ -306,13 +306,13 @@ static inline const char *overlay_reason(uint32_t number) {
  *   call, a, b   as of overlay_fill
  *   answer       where the answer goes; never OVERLAY_SMALL */
 static inline char *overlay_text(uint32_t call, const char *a, const char *b, struct overlay_answer *answer) {
-    static const struct overlay_answer NO_MEMORY = {0, 0, OVERLAY_NO_MEMORY, OVERLAY_OUT_OF_MEMORY, OVERLAY_RUN};
+    static const struct overlay_answer no_memory = {0, 0, OVERLAY_NO_MEMORY, OVERLAY_OUT_OF_MEMORY, OVERLAY_RUN};
     const uint8_t *first = (const uint8_t *)a, *second = (const uint8_t *)b;
     size_t m = strlen(a), n = strlen(b), length = m + n;
     uint32_t side = overlay_side(first, m, second, n);
     for (;;) {
         uint8_t *room = (uint8_t *)malloc(length + 1);
-        *answer = NO_MEMORY;
+        *answer = no_memory;
         if (!room)
             return NULL;
         overlay_fill(call, side, first, m, second, n, room, length, answer);
@@ -367,11 +367,11 @@ static inline int overlay_take(struct overlay_owned_columns *owned, size_t coord
  *   answer                 where the answer goes; never OVERLAY_SMALL */
 static inline void overlay_arrays(uint32_t call, uint32_t segments, const struct overlay_columns *a, const struct overlay_columns *b,
                                   struct overlay_owned_columns *owned, struct overlay_columns_answer *answer) {
-    static const struct overlay_columns_answer NO_MEMORY = {0, 0, 0, 0, OVERLAY_NO_MEMORY, OVERLAY_OUT_OF_MEMORY, OVERLAY_RUN};
+    static const struct overlay_columns_answer no_memory = {0, 0, 0, 0, OVERLAY_NO_MEMORY, OVERLAY_OUT_OF_MEMORY, OVERLAY_RUN};
     uint32_t side = overlay_columns_side(a, b);
     int has_room = overlay_take(owned, a->coordinates_length + b->coordinates_length, a->rings_length + b->rings_length,
                                 a->polygons_length + b->polygons_length);
-    *answer = NO_MEMORY;
+    *answer = no_memory;
     while (has_room) {
         overlay_columns_fill(call, side, segments, a, b, owned->coordinates, owned->coordinates_length, owned->rings,
                              owned->rings_length, owned->polygons, owned->polygons_length, answer);
@@ -379,7 +379,7 @@ static inline void overlay_arrays(uint32_t call, uint32_t segments, const struct
             break;
         overlay_free(owned);
         has_room = overlay_take(owned, (size_t)answer->coordinates, (size_t)answer->rings, (size_t)answer->polygons);
-        *answer = has_room ? *answer : NO_MEMORY;
+        *answer = has_room ? *answer : no_memory;
     }
     if (answer->status != OVERLAY_ANSWERED)
         overlay_free(owned);
