@@ -1,12 +1,18 @@
 # Completion of overlay-gis for bash.
 _overlay_gis() {
-  local word=${COMP_WORDS[COMP_CWORD]} before=${COMP_WORDS[COMP_CWORD-1]} verb=${COMP_WORDS[1]} options
-  local out="--out --layer --append --overwrite" grid="--grid --origin --system" most="--segments"
+  local word=${COMP_WORDS[COMP_CWORD]} before=${COMP_WORDS[COMP_CWORD-1]} verb=${COMP_WORDS[1]} options k
+  local out="--out --layer --append --overwrite" grid="--grid --origin --system" most="--segments" operations="union intersection difference symdifference"
+  # --grid=0.1 comes in three words.
+  if [[ $word == = ]]; then word=; elif [[ $before == = ]]; then before=${COMP_WORDS[COMP_CWORD-2]}; fi
   case $before in
-    run) ((COMP_CWORD == 2)) && COMPREPLY=($(compgen -W "union intersection difference symdifference" -- "$word")) && return ;;
     --grid) COMPREPLY=($(compgen -W "0.0001 0.001 0.01 0.1 1" -- "$word")); return ;;
     --origin | --system | --title | --keep | --keep-a | --keep-b | --by | --layer | --segments | --gap-width | --gap-area | --sliver-width) return ;;
   esac
+  # An operation is offered once, and where no file is wanted.
+  [[ $verb == run && $before != -o && $before != --out ]] || operations=
+  for ((k = 2; k < COMP_CWORD; k++)); do
+    [[ " $operations " == *" ${COMP_WORDS[k]} "* ]] && operations=
+  done
   case $verb in
     run) options="$out --dissolve --keep-a --keep-b $grid $most" ;;
     faces) options="$out --parts --keep-a --keep-b --keep --by --pairs $grid $most" ;;
@@ -22,6 +28,8 @@ _overlay_gis() {
     COMPREPLY=($(compgen -W "$options --help" -- "$word"))
   elif ((COMP_CWORD == 1)); then
     COMPREPLY=($(compgen -W "run faces dissolve check to-grid from-grid show explain" -- "$word"))
+  elif [[ $operations ]]; then
+    COMPREPLY=($(compgen -W "$operations" -- "$word"))
   else
     compopt -o default
     COMPREPLY=()

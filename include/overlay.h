@@ -9,7 +9,7 @@
  * passed stays the caller's: no call keeps a pointer.
  *
  * The caller sees to it that
- *   - each pointer is to as many bytes as its length says, or the length is 0 and the pointer is not null;
+ *   - each pointer is to as many bytes as its length says, of columns to as many numbers, or the length is 0 and the pointer is not null;
  *   - a room overlaps neither a layer nor the answer;
  *   - no call is made from a signal handler, or in the forked child of a process with several threads.
  *
@@ -24,8 +24,11 @@
 #include <stdlib.h>
 #include <string.h>
 
-/* The release that this header came with. Programs that link with another one compare overlay_version(). */
+/* The release that this header came with. */
 #define OVERLAY_VERSION "1.0.0"
+
+/* The version of the calls that are declared here. Programs that may meet another library compare overlay_version() with it. */
+#define OVERLAY_CALLS_VERSION 4u
 
 #ifdef __cplusplus
 extern "C" {
@@ -45,7 +48,7 @@ enum overlay_status {
     OVERLAY_ANSWERED = 0,
     OVERLAY_NO_MEMORY = 1,
     OVERLAY_NO_CALL = 2, /* what to compute is none of the above; or faces of more than 64 layers */
-    OVERLAY_REFUSED = 3, /* a layer, the tile side, or the number of segments, tiles or ids is refused */
+    OVERLAY_REFUSED = 3, /* a layer, the tile side, or the number of features, segments, tiles or ids is refused */
     OVERLAY_SMALL = 4    /* there is a text, and it doesn't fit into the room */
 };
 
@@ -149,8 +152,9 @@ void overlay_faces_size(uint32_t side, uint32_t segments, uint64_t ids, const st
 uint32_t overlay_faces_side(const struct overlay_layer *layers, size_t count);
 
 /* A layer as columns, in the layout of GeoArrow's MultiPolygon: features, their polygons, their rings, their points. An offset says where a
- * list begins in the next level; there is one more of them than there are lists, and the lists that the features' offsets don't reach have no
- * meaning, so that slices of longer columns will do. Rings are closed: their last point is their first. No pointer is null. */
+ * list begins in the next level; there is one more of them than there are lists, and none falls or passes the end of that level. The lists that
+ * the features' offsets don't reach have no other meaning, so that slices of longer columns will do; but each call reads all offsets that it is
+ * handed, so that slices of all columns take less time. Rings are closed: their last point is their first. No pointer is null. */
 struct overlay_columns {
     const int32_t *coordinates; /* x y x y .., in grid units */
     size_t coordinates_length;
@@ -251,7 +255,8 @@ uint32_t overlay_faces_columns_side(const struct overlay_columns *layers, size_t
 
 /* Puts the words of an answer of two layers without a text at the beginning of a room, as `A: 1 syntax at 16`, without a 0 or a line feed, and
  * returns their length in bytes: 0 where they don't fit, where memory ran out, or where there is nothing to say. Refusals from
- * OVERLAY_TOO_MANY_IDS on have no words. An answer of columns has the words of an overlay_answer with the same detail, status, number and part.
+ * OVERLAY_TOO_MANY_IDS on have no words, and the part of an answer of faces is no part of two layers: overlay_reason tells why these are refused.
+ * An answer of columns has the words of an overlay_answer with the same detail, status, number and part.
  *
  *   answer              what a call answered; it is read alone
  *   room, room_length   where the words go, and how many bytes there may be written: OVERLAY_WORDS are enough */
@@ -261,12 +266,43 @@ size_t overlay_words(const struct overlay_answer *answer, uint8_t *room, size_t 
  * doesn't give too many tiles, or 262144 where a layer is refused. Both layers, with their lengths in bytes, are read once. */
 uint32_t overlay_side(const uint8_t *a, size_t a_length, const uint8_t *b, size_t b_length);
 
-/* Returns the version of these calls: 4. It changes where a call, a number or the struct does, not with each release. */
+/* Returns the version of the library's calls: OVERLAY_CALLS_VERSION of this header. It changes where a call, a number or a struct does,
+ * not with each release. */
 uint32_t overlay_version(void);
 
 #ifdef __cplusplus
 }
 #endif
+
+/* What follows is C in C++ too, and not for a program's warnings of that. */
+#if defined __cplusplus && defined __GNUC__
+#pragma GCC diagnostic push
+#pragma GCC diagnostic ignored "-Wold-style-cast"
+#pragma GCC diagnostic ignored "-Wzero-as-null-pointer-constant"
+#endif
+
+/* Returns why an input is refused, by the number of an answer that is OVERLAY_REFUSED or OVERLAY_NO_MEMORY: as `open ring` of OVERLAY_OPEN_RING,
+ * with a 0 behind it; null where the number is no overlay_refusal. The answer's part and detail tell the place. */
+static inline const char *overlay_reason(uint32_t number) {
+    switch (number) {
+    case OVERLAY_LAYER_TOO_LONG: return "layer too long";
+    case OVERLAY_SYNTAX: return "syntax";
+    case OVERLAY_NUMBER_RANGE: return "number out of range";
+    case OVERLAY_SHORT_RING: return "short ring";
+    case OVERLAY_OPEN_RING: return "open ring";
+    case OVERLAY_TOO_MANY_SEGMENTS: return "too many segments";
+    case OVERLAY_BAD_SIDE: return "bad tile side";
+    case OVERLAY_TOO_MANY_TILES: return "too many tiles";
+    case OVERLAY_OUT_OF_MEMORY: return "out of memory";
+    case OVERLAY_TOO_MANY_IDS: return "too many ids";
+    case OVERLAY_COORDINATE_MISSING: return "coordinate missing";
+    case OVERLAY_FEATURE_OFFSET: return "bad offset of features";
+    case OVERLAY_POLYGON_OFFSET: return "bad offset of polygons";
+    case OVERLAY_RING_OFFSET: return "bad offset of rings";
+    case OVERLAY_UNPAIRED: return "feature without another";
+    default: return NULL;
+    }
+}
 
 /* overlay_fill with layers that end with a 0, a side that fits and a room of its own: returns the text, with a 0 behind it, which the caller
  * owns from then on and lets go by free; null where the status is not OVERLAY_ANSWERED. A room as large as both layers is tried first, and
@@ -275,13 +311,13 @@ uint32_t overlay_version(void);
  *   call, a, b   as of overlay_fill
  *   answer       where the answer goes; never OVERLAY_SMALL */
 static inline char *overlay_text(uint32_t call, const char *a, const char *b, struct overlay_answer *answer) {
-    static const struct overlay_answer NO_MEMORY = {0, 0, OVERLAY_NO_MEMORY, OVERLAY_OUT_OF_MEMORY, OVERLAY_RUN};
+    static const struct overlay_answer no_memory = {0, 0, OVERLAY_NO_MEMORY, OVERLAY_OUT_OF_MEMORY, OVERLAY_RUN};
     const uint8_t *first = (const uint8_t *)a, *second = (const uint8_t *)b;
     size_t m = strlen(a), n = strlen(b), length = m + n;
     uint32_t side = overlay_side(first, m, second, n);
     for (;;) {
         uint8_t *room = (uint8_t *)malloc(length + 1);
-        *answer = NO_MEMORY;
+        *answer = no_memory;
         if (!room)
             return NULL;
         overlay_fill(call, side, first, m, second, n, room, length, answer);
@@ -336,11 +372,11 @@ static inline int overlay_take(struct overlay_owned_columns *owned, size_t coord
  *   answer                 where the answer goes; never OVERLAY_SMALL */
 static inline void overlay_arrays(uint32_t call, uint32_t segments, const struct overlay_columns *a, const struct overlay_columns *b,
                                   struct overlay_owned_columns *owned, struct overlay_columns_answer *answer) {
-    static const struct overlay_columns_answer NO_MEMORY = {0, 0, 0, 0, OVERLAY_NO_MEMORY, OVERLAY_OUT_OF_MEMORY, OVERLAY_RUN};
+    static const struct overlay_columns_answer no_memory = {0, 0, 0, 0, OVERLAY_NO_MEMORY, OVERLAY_OUT_OF_MEMORY, OVERLAY_RUN};
     uint32_t side = overlay_columns_side(a, b);
     int has_room = overlay_take(owned, a->coordinates_length + b->coordinates_length, a->rings_length + b->rings_length,
                                 a->polygons_length + b->polygons_length);
-    *answer = NO_MEMORY;
+    *answer = no_memory;
     while (has_room) {
         overlay_columns_fill(call, side, segments, a, b, owned->coordinates, owned->coordinates_length, owned->rings,
                              owned->rings_length, owned->polygons, owned->polygons_length, answer);
@@ -348,7 +384,7 @@ static inline void overlay_arrays(uint32_t call, uint32_t segments, const struct
             break;
         overlay_free(owned);
         has_room = overlay_take(owned, (size_t)answer->coordinates, (size_t)answer->rings, (size_t)answer->polygons);
-        *answer = has_room ? *answer : NO_MEMORY;
+        *answer = has_room ? *answer : no_memory;
     }
     if (answer->status != OVERLAY_ANSWERED)
         overlay_free(owned);
@@ -356,4 +392,8 @@ static inline void overlay_arrays(uint32_t call, uint32_t segments, const struct
     owned->rings_length = (size_t)answer->rings;
     owned->polygons_length = (size_t)answer->polygons;
 }
+
+#if defined __cplusplus && defined __GNUC__
+#pragma GCC diagnostic pop
+#endif
 #endif

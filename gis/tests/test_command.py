@@ -135,17 +135,62 @@ def test_the_manual_page_tells_what_the_program_knows(program):
         assert word in PAGE
 
 
-def test_bash_completes_verbs_options_and_commands():
-    def completed(name, *words):
-        line = " ".join(map(shlex.quote, words))
-        script = f"compopt() {{ :; }}; source {TOP}/completions/{name}.bash; COMP_WORDS=({name} {line}); COMP_CWORD={len(words)}; _{name.replace('-', '_')}; echo ${{COMPREPLY[@]}}"
-        return set(subprocess.run(["bash", "-c", script], stdout=subprocess.PIPE, check=True).stdout.decode().split())
+@pytest.mark.parametrize("command", ["union", "faces"])
+def test_the_manual_page_tells_what_a_report_has(program, tmp_path, command):
+    layer = tmp_path / "a.wkt"
+    layer.write_text("POLYGON ((0 0, 1 0, 0 1, 0 0))")
+    told = subprocess.run([program, command, layer, layer, "--report"], stderr=subprocess.PIPE, stdout=subprocess.DEVNULL, check=True).stderr.decode()
+    names = [line.split()[0] for line in told.splitlines()]
+    assert "remade" in names
+    for name in names:
+        assert f"\\fB{name}\\fR" in PAGE
 
+
+@pytest.mark.parametrize("words", [["--tile", "15"], ["--workers", "65"]])
+def test_the_manual_page_tells_the_status_of_numbers(program, words):
+    assert subprocess.run([program, "union", "/dev/null", "/dev/null", *words], stderr=subprocess.DEVNULL, check=False).returncode == 3
+    assert words[0] in PAGE.partition("\n.SH EXIT STATUS\n")[2].partition("\n.B 3\n")[2].partition("\n.SH ")[0]
+
+
+OPERATIONS = {"union", "intersection", "difference", "symdifference"}
+
+
+def completed(name, *words):
+    """What bash offers for the last word."""
+    line = " ".join(map(shlex.quote, words))
+    script = f"compopt() {{ :; }}; source {TOP}/completions/{name}.bash; COMP_WORDS=({name} {line}); COMP_CWORD={len(words)}; _{name.replace('-', '_')}; echo ${{COMPREPLY[@]}}"
+    return set(subprocess.run(["bash", "-c", script], stdout=subprocess.PIPE, check=True).stdout.decode().split())
+
+
+def test_bash_completes_verbs_options_and_commands():
     assert completed("overlay", "") == {"union", "intersection", "difference", "symdifference", "edges", "faces"}
     assert completed("overlay", "--") == {"--tile", "--workers", "--segments", "--report", "--covered", "--help"}
     assert completed("overlay-gis", "") == set(cli.VERBS)
     for verb in cli.VERBS:
         assert completed("overlay-gis", verb, "--") == options_of(verb)
+
+
+@pytest.mark.parametrize("written", [["65"], ["=", "65"]])
+def test_bash_completes_values_behind_a_sign_too(written):
+    """Bash cuts `--tile=65` at its sign."""
+    assert completed("overlay", "union", "--tile", *written) == {"65536"}
+    assert completed("overlay", "--workers", *written[:-1], "6") == {"64"}
+    assert completed("overlay-gis", "check", "--grid", *written[:-1], "0.0") == {"0.0001", "0.001", "0.01"}
+    assert completed("overlay-gis", "run", "union", "--origin", *written) == set()
+
+
+def test_bash_completes_a_sign_alone():
+    assert completed("overlay", "--workers", "=") == {"1", "2", "4", "8", "16", "32", "64"}
+    assert completed("overlay-gis", "check", "--grid", "=") == {"0.0001", "0.001", "0.01", "0.1", "1"}
+
+
+def test_bash_offers_words_where_they_stand():
+    """The program takes `faces` before all other words alone, and overlay-gis an operation behind options."""
+    assert completed("overlay", "--tile", "16", "") == OPERATIONS | {"edges"}
+    assert completed("overlay", "faces", "") == completed("overlay", "--report", "union", "") == set()
+    assert completed("overlay-gis", "run", "--dissolve", "") == completed("overlay-gis", "run", "-o", "x.gpkg", "") == OPERATIONS
+    for words in (["-o", ""], ["--out", "=", "u"], ["union", ""], ["--dissolve", "union", "u"]):
+        assert completed("overlay-gis", "run", *words) == set()
 
 
 @pytest.mark.parametrize("verb", cli.VERBS)
@@ -157,6 +202,19 @@ def test_zsh_completes_all_options(verb):
             f"${name}", next(whole for whole in text.splitlines() if whole.strip().startswith(f"{name}="))
         )
     assert options_of(verb) == set(re.findall(r"--[a-z-]+", line))
+
+
+def takes_a_value(verb):
+    told = cli.parser()._subparsers._group_actions[0].choices[verb]
+    told.learn(cli.verb_of(verb))
+    return {word for action in told._actions if action.nargs != 0 for word in action.option_strings if word.startswith("--")}
+
+
+def test_zsh_completes_values_behind_a_sign_too():
+    """`--tile=4096` is taken as `--tile 4096` is."""
+    program, bridge = ((TOP / "completions" / name).read_text() for name in ("_overlay", "_overlay-gis"))
+    assert set(re.findall(r"(--[a-z-]+)=", program)) == {"--tile", "--workers", "--segments"}
+    assert set(re.findall(r"(--[a-z-]+)=", bridge)) == set().union(*map(takes_a_value, cli.VERBS))
 
 
 @pytest.mark.parametrize("terminal", [True, False])

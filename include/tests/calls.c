@@ -64,6 +64,18 @@ static void names(void) {
     check(sizeof OVERLAY_VERSION > 5, "the release");
 }
 
+/* The words that docs/RULES.md has for each refusal, without its number and its place. */
+static void reasons(void) {
+    static const char *const WANTED[] = {"layer too long", "syntax", "number out of range", "short ring", "open ring", "too many segments",
+                                         "bad tile side", NULL, "too many tiles", NULL, "out of memory", NULL, "too many ids", "coordinate missing",
+                                         "bad offset of features", "bad offset of polygons", "bad offset of rings", "feature without another", NULL};
+    for (uint32_t number = 0; number < sizeof WANTED / sizeof *WANTED; number++) {
+        const char *got = overlay_reason(number);
+        check(WANTED[number] ? got && !strcmp(got, WANTED[number]) : !got, "the reason of a refusal");
+    }
+    check(!overlay_reason(4294967295u), "the reason of no refusal");
+}
+
 struct refusal {
     uint32_t call, side;
     const char *a, *b;
@@ -96,6 +108,7 @@ static void refusals(void) {
         size_t length = strlen(want->words);
         check(overlay_words(&got, words, sizeof words) == length && !memcmp(words, want->words, length), want->words);
         check(overlay_words(&got, words, length - 1) == 0, "words that don't fit");
+        check(got.status != OVERLAY_REFUSED || strstr(want->words, overlay_reason(got.number)), "the reason is in the words");
     }
 }
 
@@ -482,9 +495,11 @@ static void columns_sides(void) {
 }
 
 static void columns_refusals(void) {
-    static const uint32_t FOUR[] = {0, 4}, SEVEN[] = {0, 7};
+    static const uint32_t FOUR[] = {0, 4}, SEVEN[] = {0, 7}, FALLS[] = {0, 5, 4}, PASSES[] = {0, 1, 2};
     static const struct overlay_columns OPEN = {SQUARE_COORDINATES, 10, FOUR, 2, ONE, 2, ONE, 2};
     static const struct overlay_columns BEYOND = {SQUARE_COORDINATES, 10, SEVEN, 2, ONE, 2, ONE, 2};
+    static const struct overlay_columns UNREACHED_RING = {SQUARE_COORDINATES, 10, FALLS, 3, ONE, 2, ONE, 2};
+    static const struct overlay_columns UNREACHED_POLYGON = {SQUARE_COORDINATES, 10, FIVE, 2, PASSES, 3, ONE, 2};
     static const struct {
         uint32_t call, side, segments;
         const struct overlay_columns *a, *b;
@@ -496,6 +511,8 @@ static void columns_refusals(void) {
         {OVERLAY_UNION, SIDE, 8, &OPEN, &BEYOND, 0, OVERLAY_REFUSED, OVERLAY_OPEN_RING, OVERLAY_LAYER_A},
         {OVERLAY_UNION, SIDE, 8, &OTHER_COLUMNS, &BEYOND, 1, OVERLAY_REFUSED, OVERLAY_RING_OFFSET, OVERLAY_LAYER_B},
         {OVERLAY_UNION, SIDE, 7, &OTHER_COLUMNS, &SQUARE_COLUMNS, 8, OVERLAY_REFUSED, OVERLAY_TOO_MANY_SEGMENTS, OVERLAY_RUN},
+        {OVERLAY_UNION, SIDE, 8, &UNREACHED_RING, &BEYOND, 2, OVERLAY_REFUSED, OVERLAY_RING_OFFSET, OVERLAY_LAYER_A},
+        {OVERLAY_UNION, SIDE, 8, &OTHER_COLUMNS, &UNREACHED_POLYGON, 2, OVERLAY_REFUSED, OVERLAY_POLYGON_OFFSET, OVERLAY_LAYER_B},
     };
     for (size_t row = 0; row < sizeof ROWS / sizeof *ROWS; row++) {
         int32_t coordinates[64] = {7};
@@ -680,8 +697,9 @@ static void face_columns_memory(void) {
 int main(int count, char **words) {
     if (count == 4)
         return print(words);
-    check(overlay_version() == 4, "the version");
+    check(overlay_version() == 4 && OVERLAY_CALLS_VERSION == 4, "the version");
     names();
+    reasons();
     rooms();
     refusals();
     sides();

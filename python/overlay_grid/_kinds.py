@@ -107,6 +107,24 @@ def is_array(value: Any) -> bool:
     return numpy is not None and isinstance(value, numpy.ndarray) or hasattr(value, "__array_interface__") and hasattr(value, "dtype")
 
 
+def is_masked(array: Any) -> bool:
+    """Whether numbers of an array are masked, so that they have no value."""
+    numpy = sys.modules.get("numpy")
+    return numpy is not None and bool(numpy.ma.is_masked(array))
+
+
+def has_points(value: Any) -> bool:
+    """Whether a value is an array of pairs."""
+    return is_array(value) and value.ndim == 2 and value.shape[1] == 2
+
+
+def told_of(value: Any) -> str:
+    """What a value is that is no ring."""
+    if not is_array(value):
+        return f"a {type(value).__name__}"
+    return f"an array of type {value.dtype}" if has_points(value) else f"an array of shape {value.shape}"
+
+
 def is_bytes(value: Any) -> bool:
     """Whether a value has a buffer of bytes."""
     try:
@@ -202,9 +220,10 @@ def add_rings(feature: Any, builder: Builder) -> None:
     """Adds a geometry that is an array of points, or a tuple of such arrays; a ring that is open is closed."""
     rings = feature if isinstance(feature, tuple) else (feature,)
     for ring in rings:
-        if not is_array(ring) or ring.dtype.kind not in "fiu" or ring.ndim != 2 or ring.shape[1] != 2:
-            told = f"an array of shape {ring.shape}" if is_array(ring) else f"a {type(ring).__name__}"
-            raise builder.refused(f"{told} is no polygon: a ring is an array of shape (n, 2)")
+        if not has_points(ring) or ring.dtype.kind not in "fiu":
+            raise builder.refused(f"{told_of(ring)} is no polygon: a ring is an array of shape (n, 2), of numbers")
+        if is_masked(ring):
+            raise builder.refused("an array has masked numbers", 1)
         numbers = ring.astype("<f8", copy=False)
         if ring.dtype.kind in "iu" and (abs(numbers) >= WHOLE).any():
             raise builder.refused("has whole numbers from 2^53 on, of which floating-point numbers have not all", 1)

@@ -424,6 +424,25 @@ def test_wrong_arrays():
         overlay_grid.union([], square)
 
 
+def test_arrays_of_words():
+    """What is wrong with an array is told where its shape is right."""
+    numpy = pytest.importorskip("numpy")
+    square = numpy.array([[0, 0], [4, 0], [4, 4]])
+    with pytest.raises(GeometryError, match="^A: feature 2: an array of type <U21 is no polygon: a ring is an array of shape \\(n, 2\\), of numbers$"):
+        overlay_grid.union([square, square.astype(str)], [])
+
+
+@pytest.mark.parametrize("kind", [int, float])
+def test_masked_arrays(kind):
+    """What is masked has no value, and is not what stands in its place."""
+    numpy = pytest.importorskip("numpy")
+    square = numpy.array([[0, 0], [4, 0], [4, 4]], kind)
+    masked = numpy.ma.array(square, mask=square == 4, fill_value=1)
+    with pytest.raises(GeometryError, match="^B: feature 2, polygon 1: an array has masked numbers$"):
+        overlay_grid.union([], [square, masked], grid=1)
+    assert overlay_grid.union(numpy.ma.array(square), [], grid=1)[0][0].tolist() == [[0, 0], [4, 0], [4, 4], [0, 0]]
+
+
 def test_bytes_in_arrays():
     """A text as an array of bytes is a text."""
     numpy = pytest.importorskip("numpy")

@@ -32,7 +32,7 @@ def printed(*words, **how):
 @pytest.fixture
 def clone(tmp_path):
     """A clone as a gate leaves it, and a call of its release/make."""
-    tree, kit = tmp_path / "clone", tmp_path / "kit"
+    tree, kit = tmp_path / "a clone", tmp_path / "kit"
     subprocess.run(["git", "clone", "-q", TOP, tree], check=True)
     for place, file in BUILT.items():
         (tree / place).parent.mkdir(parents=True, exist_ok=True)
@@ -42,11 +42,13 @@ def clone(tmp_path):
     (kit / "bin/rt").chmod(0o755)
     (kit / "c").symlink_to(Path(os.path.realpath(shutil.which("rt"))).parents[1] / "c")
 
-    def make(log):
+    def make(log, made="made", umask=0o022, **more):
         (tmp_path / "gate.log").write_text(log)
-        words = [tree / "release/make", "--log", tmp_path / "gate.log", tmp_path / "made"]
+        words = [tree / "release/make", "--log", tmp_path / "gate.log", tmp_path / made]
+        # As in a shell: what the tests' own environment says of Python's bytecode isn't said there.
+        own = {name: value for name, value in os.environ.items() if name != "PYTHONDONTWRITEBYTECODE"}
         path = f"{kit / 'bin'}:{os.environ['PATH']}"
-        return subprocess.run(words, env={**os.environ, "PATH": path}, capture_output=True, text=True, check=False)
+        return subprocess.run(words, env={**own, "PATH": path, **more}, capture_output=True, text=True, check=False, umask=umask)
 
     make.tree = tree
     return make
@@ -61,10 +63,37 @@ def test_a_release(clone, tmp_path):
     commit = printed("git", "rev-parse", "HEAD", cwd=clone.tree).strip()
     wanted = [f"commit {commit}", "kit of version", "the gate's last lines:", *PASSED.splitlines()]
     assert (made / "GATE").read_text().splitlines() == wanted
+    names = packed(made)
+    assert not [name for name in names if "__pycache__" in name]
+    for page in ("README.md", "SECURITY.md", "docs/PLANNERS.md", "docs/RULES.md", "docs/picture.svg", "python/README.md"):
+        assert {f"{top}/{page}" for top in (f"overlay-{VERSION}-x86_64-linux", "./usr/share/doc/overlay")} <= set(names)
     is_an_archive(made, tmp_path)
     is_a_package(made)
     is_a_wheel(made, tmp_path)
     is_a_plugin(made)
+
+
+def in_memory():
+    """Temporary files on another file system, where there is one on which programs may run."""
+    there = os.access("/dev/shm", os.W_OK) and not os.statvfs("/dev/shm").f_flag & os.ST_NOEXEC
+    return {"TMPDIR": "/dev/shm"} if there else {}
+
+
+def test_for_everybody(clone, tmp_path):
+    """Whoever makes a release, on whatever file system, and keeps files private: its bytes are the same, and all may read it."""
+    names = {"made": (0o022, {}), "private": (0o077, in_memory())}
+    for name, (umask, more) in names.items():
+        done = clone(PASSED, name, umask, **more)
+        assert done.returncode == 0, done.stderr
+    sums, private = ((tmp_path / name / "SHA256SUMS").read_text() for name in names)
+    assert sums == private
+    assert {file.stat().st_mode & 0o777 for file in (tmp_path / "private").iterdir()} == {0o644}
+
+
+def packed(made):
+    """The names in the archive and in the package."""
+    (archive,), (deb,) = made.glob("*.tar.gz"), made.glob("*.deb")
+    return printed("tar", "-tzf", archive).splitlines() + [line.split()[5] for line in printed("dpkg-deb", "-c", deb).splitlines()]
 
 
 def is_an_archive(made, tmp_path):
@@ -86,6 +115,7 @@ def is_a_package(made):
     deb = made / f"overlay_{VERSION}_amd64.deb"
     assert printed("dpkg-deb", "-f", deb, "Version").strip() == VERSION
     assert "python3-gdal, python3-shapely" in printed("dpkg-deb", "-f", deb, "Depends")
+    assert "which features" in printed("dpkg-deb", "-f", deb, "Description")
     names = {line.split()[5] for line in printed("dpkg-deb", "-c", deb).splitlines()}
     for name in ("bin/overlay", "bin/overlay-gis", "include/overlay.h", "lib/x86_64-linux-gnu/liboverlay.a", "share/man/man1/overlay.1.gz"):
         assert f"./usr/{name}" in names
