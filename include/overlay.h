@@ -28,7 +28,7 @@
 #define OVERLAY_VERSION "1.0.0"
 
 /* The version of the calls that are declared here. Programs that may meet another library compare overlay_version() with it. */
-#define OVERLAY_CALLS_VERSION 4u
+#define OVERLAY_CALLS_VERSION 5u
 
 #ifdef __cplusplus
 extern "C" {
