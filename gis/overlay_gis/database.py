@@ -31,14 +31,35 @@ def is_database(name: str) -> bool:
     return name.lower().startswith(PREFIXES)
 
 
+def quoted_whole(name: str) -> str:
+    return '"' + name.replace('"', '""') + '"'
+
+
 def quoted(table: str) -> str:
     """The name of a table, or schema.table, as SQL has it."""
-    return ".".join('"' + part.replace('"', '""') + '"' for part in table.split(".", 1))
+    return ".".join(map(quoted_whole, table.split(".", 1)))
 
 
-def same(one: str, other: str) -> bool:
-    """Whether two names, with the usual schema or without it, are those of one table."""
-    return one.removeprefix("public.") == other.removeprefix("public.")
+def literal(words: str) -> str:
+    return "'" + words.replace("'", "''") + "'"
+
+
+def identity(dataset: Any, table: str) -> str | None:
+    """What tells whether two names, in two sessions, lead to one table: when the server began, the
+    database and the table's number there; nothing where no table is. The name is quoted."""
+    number = f"to_regclass({literal(table)})::oid"
+    found = answer(dataset, f"SELECT concat_ws(' ', pg_postmaster_start_time(), current_database(), {number}) WHERE {number} > 0")
+    return found if found is None else str(found)
+
+
+def identities(source: Source) -> set[str | None]:
+    """The tables that a layer's name may stand for, if it is one of a database: one with a point is
+    also that of a table in the usual schema."""
+    if source.dataset.GetDriver().ShortName != "PostgreSQL":
+        return set()
+    name = source.layer.GetName()
+    with blamed_on(source.name, source.path):
+        return {identity(source.dataset, words) for words in (quoted(name), quoted_whole(name))}
 
 
 class Database:
@@ -62,10 +83,12 @@ class Database:
         dataset = self.opened()
         if not answer(dataset, "SELECT 1 FROM pg_extension WHERE extname = 'postgis'"):
             raise Refusal(self.name, "has no PostGIS: CREATE EXTENSION postgis")
+        inputs = set().union(*map(identities, self.sources))
         for table in tables:
-            if any(source.path == self.address and same(source.layer.GetName(), table) for source in self.sources):
+            there = identity(dataset, quoted(table))
+            if there and there in inputs:
                 raise Refusal(f"{self.name}{LAYER_MARK}{table}", "is an input")
-            if self.has(dataset, table) and not self.overwrite:
+            if there and not self.overwrite:
                 raise Refusal(
                     self.name,
                     (
@@ -73,10 +96,6 @@ class Database:
                         " another one"
                     ),
                 )
-
-    def has(self, dataset: Any, table: str) -> bool:
-        literal = quoted(table).replace("'", "''")
-        return answer(dataset, f"SELECT to_regclass('{literal}')") is not None
 
     def write(self, held: Drafts, system: osr.SpatialReference | None, tables: Sequence[Table]) -> list[int]:
         """Makes the tables, and answers how many features each has."""
@@ -91,7 +110,7 @@ class Database:
             yield dataset
 
     def made(self, dataset: Any, system: osr.SpatialReference | None, table: Table) -> int:
-        if self.has(dataset, table.name):
+        if identity(dataset, quoted(table.name)):
             # which fails where a view stands on it
             dataset.ExecuteSQL(f"DROP TABLE {quoted(table.name)}")
         made = create(dataset, table.name, system, table, self.name, *OPTIONS)
