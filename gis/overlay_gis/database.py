@@ -22,6 +22,8 @@ PREFIXES = ("pg:", "postgresql://", "postgres://")
 # How the columns of a table are called that aren't fields.
 OPTIONS = ("GEOMETRY_NAME=geom", "FID=fid", "LAUNDER=NO", "SPATIAL_INDEX=GIST")
 
+# The kinds of relations, as the server names them, that DROP TABLE drops.
+TABLES = ("r", "p")
 
 # How long a table that others use is waited for.
 LOCK_SECONDS = 20
@@ -78,8 +80,8 @@ class Database:
             return gdal.OpenEx(address, gdal.OF_VECTOR | gdal.OF_UPDATE, ["PostgreSQL"])
 
     def check(self, tables: Sequence[str]) -> None:
-        """Refuses, before any work is done, a database without PostGIS, and tables that are there
-        without leave to replace them."""
+        """Refuses, before any work is done, a database without PostGIS, tables that are there without
+        leave to replace them, and those that can't be made."""
         dataset = self.opened()
         if not answer(dataset, "SELECT 1 FROM pg_extension WHERE extname = 'postgis'"):
             raise Refusal(self.name, "has no PostGIS: CREATE EXTENSION postgis")
@@ -96,6 +98,24 @@ class Database:
                         " another one"
                     ),
                 )
+            with blamed_on(self.name, self.address):
+                self.refuse_unmakeable(dataset, table)
+
+    def refuse_unmakeable(self, dataset: Any, table: str) -> None:
+        """Refuses a table that this user can't make, or replace what is there by."""
+        named, _, rest = table.partition(".")
+        schema = f"to_regnamespace({literal(quoted_whole(named)) if rest else 'quote_ident(current_schema())'})::oid"
+        if answer(dataset, f"SELECT {schema} > 0") is None:
+            raise Refusal(self.name, f"has no schema {named}: CREATE SCHEMA" if rest else "names no schema for tables")
+        there = f"FROM pg_class WHERE oid = to_regclass({literal(quoted(table))})"
+        if answer(dataset, f"SELECT relkind {there}") not in (None, *TABLES):
+            raise Refusal(self.name, f"{table} is no table: --layer names another one")
+        owner = answer(dataset, f"SELECT pg_get_userbyid(relowner) {there} AND NOT pg_has_role(relowner, 'USAGE')")
+        if owner:
+            raise Refusal(self.name, f"the table {table} belongs to {owner}, and replacing it is up to its owner")
+        user = answer(dataset, f"SELECT current_user WHERE NOT has_schema_privilege({schema}, 'CREATE')")
+        if user:
+            raise Refusal(self.name, f"{user} may create nothing in the schema{f' {named}' if rest else ' of its tables'}")
 
     def write(self, held: Drafts, system: osr.SpatialReference | None, tables: Sequence[Table]) -> list[int]:
         """Makes the tables, and answers how many features each has."""

@@ -14,6 +14,7 @@ from shapely.geometry import box
 
 from conftest import EAST, NORTH, write
 from overlay_gis import database
+from overlay_gis.layers import Source
 from test_geopackage import kept
 from test_kills import stopped  # noqa: F401 a fixture
 from test_room import layer
@@ -169,6 +170,29 @@ def test_what_is_refused(gis, tmp_path, server, address):
     server.said("create database bare")
     answer = gis("run", "union", a, b, "-o", address.replace("dbname=postgres", "dbname=bare"), "--layer", "x")
     assert answer.status == 3 and "has no PostGIS" in answer.err
+
+
+# What is in the way of a table town.x, or of what --layer names, by the statements that put it there.
+IN_THE_WAY = [
+    ("", "no.x", "has no schema no"),
+    ("create view town.x as select 1 as lot", "town.x", "town.x is no table"),
+    ("create materialized view town.x as select 1 as lot", "town.x", "town.x is no table"),
+    ("create table town.x (lot int)", "town.x", "the table town.x belongs to peers, and replacing it is up to its owner"),
+    ("", "town.y", "small may create nothing in the schema town"),
+]
+
+
+@pytest.mark.parametrize("statement, name, told", IN_THE_WAY)
+def test_what_cannot_be_made_is_refused_before_any_work(gis, tmp_path, server, address, monkeypatch, statement, name, told):
+    a, b = layers(tmp_path)
+    server.said("drop role if exists small; create role small login password 'word'")
+    server.said(f"grant usage on schema town to small; {statement}")
+    if "small" in told or "belongs" in told:
+        address = address.replace("user=peers", "user=small").replace(server.environment["PGPASSWORD"], "word")
+    monkeypatch.setattr(Source, "survey", lambda *_: pytest.fail("a layer is read"))
+    answer = gis("run", "union", a, b, "-o", address, "--layer", name, "--overwrite")
+    assert answer.status == 3 and told in answer.err, answer.err
+    server.said("drop owned by small; drop role small")
 
 
 def test_a_view_on_the_table_keeps_it(gis, tmp_path, server, address):
