@@ -1,13 +1,14 @@
 """Values and names for which a format has no room: none is cut, rounded or left out silently."""
 
 import json
+from array import array
 
 import pytest
 from osgeo import ogr
 from shapely.geometry import box
 
-from conftest import read, write
-from overlay_gis import read_back
+from conftest import EAST, NORTH, read, write
+from overlay_gis import output, read_back
 
 
 def layer(path, *rows, apart=10):
@@ -27,6 +28,50 @@ def layer(path, *rows, apart=10):
 
 def dissolved(gis, path, out, by="kept"):
     return gis("dissolve", path, "--by", by, "-o", out, "--overwrite")
+
+
+# A corner of each digit that the grid has, in a metric system and in degrees.
+PLACES = [("EPSG:25832", "0.001", (412000.123, 5654000.457)), ("EPSG:2056", "0.0001", (2600000.1237, 1200000.4571)), ("EPSG:4258", "0.0000001", (7.1234567, 50.7654321))]
+
+
+@pytest.mark.parametrize("ending", ["tab", "mif", "gdb", "gml", "shp", "fgb", "geojson", "sqlite"])
+@pytest.mark.parametrize("srs, unit, corner", PLACES, ids=[srs for srs, _, _ in PLACES])
+def test_corners_come_out_where_they_were(gis, tmp_path, ending, srs, unit, corner):
+    """A file of MapInfo has whole numbers between bounds, of which GDAL's own are centimetres."""
+    x, y = corner
+    a = write(tmp_path / "a.gpkg", [box(x, y, x + 7 * float(unit), y + 3 * float(unit)), box(x + 1, y + 1, x + 2, y + 2)], srs)
+    answer = gis("run", "union", a, a, "-o", f"out.{ending}", "--grid", unit)
+    assert answer.status == 0, answer.err
+    found = min(shape.bounds for shape, _ in read(f"out.{ending}"))
+    assert found == pytest.approx((x, y, x + 7 * float(unit), y + 3 * float(unit)), abs=float(unit) / 100, rel=0)
+
+
+def test_shapes_that_come_out_elsewhere_are_told(gis, tmp_path, monkeypatch):
+    a = write(tmp_path / "a.gpkg", [box(EAST, NORTH, EAST + 1, NORTH + 1), box(EAST + 2.003, NORTH, EAST + 3, NORTH + 1)])
+    monkeypatch.setattr(output, "bounds", lambda *_: ())
+    answer = gis("run", "union", a, a, "-o", "out.tab")
+    told = "from its place: a GeoPackage, whose name ends in .gpkg, has room for it"
+    assert answer.status == 1 and "out.tab: the shape in row number " in answer.err and told in answer.err, answer.err
+    assert not list(tmp_path.glob("out*"))
+
+
+def test_shapes_are_compared_however_a_driver_has_put_the_rows():
+    source = ogr.GetDriverByName("Memory").CreateDataSource("")
+    layer = source.CreateLayer("a")
+    for shape in (box(0, 0, 1, 1), box(5, 5, 6, 6), None):
+        feature = ogr.Feature(layer.GetLayerDefn())
+        feature.SetGeometry(ogr.CreateGeometryFromWkb(shape.wkb) if shape else None)
+        layer.CreateFeature(feature)
+    none, first, second = [float("nan")] * 4, [0, 1, 0, 1], [5, 6, 5, 6]
+
+    def told(*rows):
+        boxes = array("d", [side for row in rows for side in row])
+        return read_back.shape_difference(layer, read_back.Written(len(rows), boxes=boxes), 1.0)
+
+    assert told(first, second, none) is None and told(none, first, second) is None
+    assert told(first, [5, 6, 5, 6.009], none) is None
+    assert told(first, [5, 6, 5, 6.25], none) == "the shape in row number 2 comes out 0.25 from its place"
+    assert told(first, second, first) == "the shape in row number 3 comes out as nothing"
 
 
 # What a file of each ending has no room for, and how that is told.
