@@ -22,7 +22,7 @@ from .faults import Fault, Refusal
 from .gdal_errors import blamed_on, told_as
 from .messages import followed
 from .passwords import hidden, remember
-from .systems import known, same, system_from, system_name
+from .systems import known, names_apart, same, system_from, system_name
 
 
 LAYER_MARK = "|layername="
@@ -251,18 +251,14 @@ def common_system(sources: Sequence[Source], told: str | None = None) -> osr.Spa
     first = systems[0]
     for source, system in zip(sources[1:], systems[1:]):
         if not same(first, system):
-            hint = (
-                "name that of the other by --system"
-                if None in (system, first)
-                else "bring one into the other's, as by ogr2ogr -t_srs"
-            )
-            raise Refusal(
-                source.name,
-                (
-                    f"has {system_name(system)}, and {sources[0].name} has {system_name(first)}:"
-                    f" {hint}"
-                ),
-            )
+            one, other = names_apart(system, first)
+            if None in (system, first):
+                hint = "name that of the other by --system"
+            elif system_name(system) == system_name(first):
+                hint = "where they are one, give both the same, as by ogr2ogr -a_srs"
+            else:
+                hint = "bring one into the other's, as by ogr2ogr -t_srs"
+            raise Refusal(source.name, f"has {one}, and {sources[0].name} has {other}: {hint}")
     return first
 
 

@@ -24,6 +24,7 @@ from .geopackage import Place, Row, filled, place_of
 from .layers import LAYER_MARK, Source
 from .messages import followed, warn
 from .read_back import Written, box_of, differences, shape_difference
+from .systems import names_apart, same
 from .whole import Drafts, Target, blamed, target_of
 
 # Drivers whose files are folders.
@@ -233,13 +234,14 @@ class Output:
         self.made = self.dataset = None
         sys.unraisablehook = told
 
-    def check(self, table: Table, written: Written) -> None:
+    def check(self, system: osr.SpatialReference | None, table: Table, written: Written) -> None:
         """Reads back what a layer of the closed file has."""
         try:
             named = LAYER_MARK + table.name if table.name else ""
             held = Source(str(self.path) + named)  # a layer is there only as long as its source is
             with blamed_on(held.name, held.path):
                 found, unlike = held.layer.GetFeatureCount(), list(differences(held.layer, written))
+                there = held.system() if table.kind != ogr.wkbNone else system
                 moved = shape_difference(held.layer, written, float(table.frame.unit)) if table.frame else None
         except Fault as error:
             raise Fault(self.target.name, f"can't be read back: {error.reason}") from error
@@ -248,6 +250,9 @@ class Output:
                 self.target.name,
                 f"has {found} of the {written.count} features that were written to it",
             )
+        if not same(there, system):
+            one, other = names_apart(there, system)
+            warn(self.target.name, f"its reference system comes out as {one}, and was {other}")
         way = "" if driver_for(self.target).ShortName == PACKAGE else f": {ROOM}"
         if moved:
             raise Fault(self.target.name, f"{moved}{way}")
@@ -290,7 +295,7 @@ def write_into(
         finally:
             output.close()
     for table, written in zip(tables, filled):
-        output.check(table, written)
+        output.check(system, table, written)
     return [written.count for written in filled]
 
 

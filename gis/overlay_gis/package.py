@@ -115,8 +115,8 @@ class Enlarged(Output):
                 self.dataset.DeleteLayer(k)
         super().begin(system, table)
 
-    def check(self, table: Table, written: Written) -> None:
-        super().check(table, written)
+    def check(self, system: osr.SpatialReference | None, table: Table, written: Written) -> None:
+        super().check(system, table, written)
         if state_of(self.target.path) != self.state:
             raise Fault(
                 self.target.name, "was changed meanwhile by another program: nothing was written"

@@ -43,6 +43,12 @@ def system_name(system: osr.SpatialReference | None) -> str:
     )
 
 
+def names_apart(one: osr.SpatialReference | None, other: osr.SpatialReference | None) -> tuple[str, str]:
+    """The names of two systems that aren't the same, though they may be called so."""
+    names = system_name(one), system_name(other)
+    return (f"another definition of {names[1]}", names[1]) if names[0] == names[1] else names
+
+
 def unit_name(system: osr.SpatialReference | None) -> str:
     if system is None:
         return "units"

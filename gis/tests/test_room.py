@@ -46,6 +46,21 @@ def test_corners_come_out_where_they_were(gis, tmp_path, ending, srs, unit, corn
     assert found == pytest.approx((x, y, x + 7 * float(unit), y + 3 * float(unit)), abs=float(unit) / 100, rel=0)
 
 
+@pytest.mark.parametrize("srs, ending, told", [
+    ("EPSG:31467", "tab", "unnamed, and was EPSG:31467"),
+    ("EPSG:25832", "xml", "Transverse Mercator Earth, and was EPSG:25832"),
+    (None, "xml", None),
+    *[(srs, ending, None) for srs in ("EPSG:25832", "EPSG:2056", "EPSG:4326") for ending in ("gpkg", "shp", "geojson", "fgb", "gml", "sqlite")],
+])
+def test_a_system_that_a_format_has_no_room_for_is_told(gis, tmp_path, srs, ending, told):
+    corner = (7, 50) if srs == "EPSG:4326" else (2600000, 1200000)
+    a = write(tmp_path / "a.gpkg", [box(*corner, corner[0] + 1, corner[1] + 1)], srs)
+    answer = gis("run", "union", a, a, "-o", f"out.{ending}")
+    assert answer.status == 0, answer.err
+    warning = "warning: its reference system comes out as "
+    assert f"out.{ending}: {warning}{told}" in answer.err if told else warning not in answer.err, answer.err
+
+
 def test_shapes_that_come_out_elsewhere_are_told(gis, tmp_path, monkeypatch):
     a = write(tmp_path / "a.gpkg", [box(EAST, NORTH, EAST + 1, NORTH + 1), box(EAST + 2.003, NORTH, EAST + 3, NORTH + 1)])
     monkeypatch.setattr(output, "bounds", lambda *_: ())

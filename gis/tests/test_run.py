@@ -219,6 +219,15 @@ def test_systems_have_to_be_one(gis, tmp_path):
     assert gis("run", "union", a, c, "-o", "out.gpkg", "--system", "EPSG:25832").status == 0
 
 
+def test_two_systems_of_one_name_are_told_apart(gis, tmp_path):
+    """A file of MapInfo tells the system of New York in feet that aren't quite those."""
+    a = write(tmp_path / "a.gpkg", [box(980000, 200000, 980004, 200004)], "EPSG:2263")
+    gdal.VectorTranslate(str(tmp_path / "b.tab"), a, format="MapInfo File")
+    answer = gis("run", "union", a, "b.tab", "-o", "out.gpkg")
+    words = f"b.tab: has another definition of EPSG:2263, and {a} has EPSG:2263: where they are one, give both the same"
+    assert answer.status == 3 and words in answer.err, answer.err
+
+
 def test_layers_of_one_file(gis, tmp_path):
     write(tmp_path / "a.gpkg", [box(EAST, NORTH, EAST + 4, NORTH + 4)])
     gdal.VectorTranslate(
