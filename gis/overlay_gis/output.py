@@ -22,9 +22,9 @@ from .frame import Frame
 from .gdal_errors import blamed_on
 from .geopackage import Place, Row, filled, place_of
 from .layers import LAYER_MARK, Source
-from .messages import followed, warn
+from .messages import followed, unheard, warn
 from .read_back import Written, box_of, differences, shape_difference
-from .systems import names_apart, same
+from .systems import is_another, names_apart
 from .whole import Drafts, Target, blamed, target_of
 
 # Drivers whose files are folders.
@@ -250,7 +250,7 @@ class Output:
                 self.target.name,
                 f"has {found} of the {written.count} features that were written to it",
             )
-        if not same(there, system):
+        if is_another(there, system):
             one, other = names_apart(there, system)
             warn(self.target.name, f"its reference system comes out as {one}, and was {other}")
         way = "" if driver_for(self.target).ShortName == PACKAGE else f": {ROOM}"
@@ -297,6 +297,24 @@ def write_into(
     for table, written in zip(tables, filled):
         output.check(system, table, written)
     return [written.count for written in filled]
+
+
+# What a file of a format is tried with: a field of each usual type, and a polygon.
+TRIED = [Column("id", ogr.OFTInteger64), Column("area", ogr.OFTReal), Column("a", ogr.OFTString)]
+SQUARE = ogr.CreateGeometryFromWkt("POLYGON ((0 0, 1 0, 1 1, 0 1, 0 0))")
+
+
+def refuse_without_layers(target: Target) -> None:
+    """Refuses a format that keeps no polygons with fields; a feature is tried."""
+    row = bytes(SQUARE.ExportToWkb(ogr.wkbNDR)), (1, 0.5, "a")
+    try:
+        with unheard(), TemporaryDirectory() as folder:
+            write_into(Path(folder), target, None, [Table(TRIED, [row])])
+    except Refusal:
+        raise
+    except Fault as fault:
+        words = "a file of this format keeps no polygons with fields, as one of .gpkg does"
+        raise Refusal(target.name, f"{words}: {fault.reason}") from fault
 
 
 def refuse_without_rows(target: Target) -> None:

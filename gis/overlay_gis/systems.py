@@ -66,3 +66,11 @@ def same(one: osr.SpatialReference | None, other: osr.SpatialReference | None) -
     if one is None or other is None:
         return one is other
     return bool(one.IsSame(other, ["IGNORE_DATA_AXIS_TO_SRS_AXIS_MAPPING=YES"]))
+
+
+def is_another(found: osr.SpatialReference | None, wanted: osr.SpatialReference | None) -> bool:
+    """Whether a file's system isn't the one that was wanted; where none was, a local one is as good
+    as none."""
+    if wanted is None and found is not None:
+        return not found.IsLocal()
+    return not same(found, wanted)

@@ -9,6 +9,7 @@ from shapely.geometry import box
 
 from conftest import EAST, NORTH, read, write
 from overlay_gis import output, read_back
+from overlay_gis.layers import Source
 
 
 def layer(path, *rows, apart=10):
@@ -49,7 +50,8 @@ def test_corners_come_out_where_they_were(gis, tmp_path, ending, srs, unit, corn
 @pytest.mark.parametrize("srs, ending, told", [
     ("EPSG:31467", "tab", "unnamed, and was EPSG:31467"),
     ("EPSG:25832", "xml", "Transverse Mercator Earth, and was EPSG:25832"),
-    (None, "xml", None),
+    (None, "geojson", "EPSG:4326, and was no reference system"),
+    *[(None, ending, None) for ending in ("xml", "tab", "gpkg", "shp", "fgb")],
     *[(srs, ending, None) for srs in ("EPSG:25832", "EPSG:2056", "EPSG:4326") for ending in ("gpkg", "shp", "geojson", "fgb", "gml", "sqlite")],
 ])
 def test_a_system_that_a_format_has_no_room_for_is_told(gis, tmp_path, srs, ending, told):
@@ -59,6 +61,22 @@ def test_a_system_that_a_format_has_no_room_for_is_told(gis, tmp_path, srs, endi
     assert answer.status == 0, answer.err
     warning = "warning: its reference system comes out as "
     assert f"out.{ending}: {warning}{told}" in answer.err if told else warning not in answer.err, answer.err
+
+
+NO_LAYERS = {
+    "csv": "a file of this format keeps no shapes",
+    "xlsx": "a file of this format keeps no shapes",
+    **dict.fromkeys(("dxf", "dgn", "mvt", "sql", "map", "txt", "ili"), "a file of this format keeps no polygons with fields, as one of .gpkg does: "),
+}
+
+
+@pytest.mark.parametrize("ending, told", NO_LAYERS.items())
+def test_a_format_without_layers_is_refused_before_any_work(gis, tmp_path, monkeypatch, ending, told):
+    a = write(tmp_path / "a.gpkg", [box(EAST, NORTH, EAST + 1, NORTH + 1)])
+    monkeypatch.setattr(Source, "survey", lambda *_: pytest.fail("a layer is read"))
+    answer = gis("run", "union", a, a, "-o", f"out.{ending}")
+    assert answer.status == 3 and answer.err.startswith(f"overlay-gis: out.{ending}: {told}"), answer.err
+    assert len(answer.err.splitlines()) == 1 and not list(tmp_path.glob("out*"))
 
 
 def test_shapes_that_come_out_elsewhere_are_told(gis, tmp_path, monkeypatch):
