@@ -27,6 +27,9 @@ from .systems import known, names_apart, same, system_from, system_name
 
 LAYER_MARK = "|layername="
 
+# The driver whose geometries may be made of fields, and are nothing where these are passed over.
+FROM_FIELDS = "OGR_VRT"
+
 
 @dataclass
 class Box:
@@ -180,7 +183,8 @@ class Source:
             raise Fault(self.name, f"only {read} of {told} features could be read")
 
     def survey(self) -> Survey:
-        parts = [self.looked_at(batch) for batch in self.counted(batches(self.layer))]
+        needed = self.dataset.GetDriver().ShortName == FROM_FIELDS
+        parts = [self.looked_at(batch) for batch in self.counted(batches(self.layer, needed))]
         return Survey(
             np.concatenate([NOTHING.ids, *(part.numbers for part in parts)]),
             np.concatenate([NO_KINDS, *(part.kinds for part in parts)]),
