@@ -57,7 +57,7 @@ def identity(dataset: Any, table: str) -> str | None:
 def identities(source: Source) -> set[str | None]:
     """The tables that a layer's name may stand for, if it is one of a database: one with a point is
     also that of a table in the usual schema."""
-    if source.dataset.GetDriver().ShortName != "PostgreSQL":
+    if not source.is_postgis:
         return set()
     name = source.layer.GetName()
     with blamed_on(source.name, source.path):

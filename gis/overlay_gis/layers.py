@@ -159,6 +159,10 @@ class Source:
             return os.path.splitext(os.path.basename(os.path.normpath(self.path)))[0]
         return str(self.layer.GetName())
 
+    @property
+    def is_postgis(self) -> bool:
+        return bool(self.dataset.GetDriver().ShortName == "PostgreSQL")
+
     def files(self) -> list[str]:
         """Everything that the source is read from, as far as GDAL tells."""
         return [self.path, *(self.dataset.GetFileList() or [])]

@@ -12,7 +12,7 @@ from osgeo import gdal, ogr
 from shapely import wkb
 from shapely.geometry import box
 
-from conftest import EAST, NORTH, write
+from conftest import EAST, NORTH, read, write
 from overlay_gis import database
 from overlay_gis.layers import Source
 from test_geopackage import kept
@@ -100,6 +100,15 @@ def test_a_table_that_is_an_input_is_kept_however_it_is_named(gis, server, addre
     answer = gis("dissolve", named, "-o", address, "--layer", "town.lots", "--overwrite")
     assert answer.status == 3 and answer.err.endswith(": is an input\n"), answer.err
     assert server.said("select lot from town.lots") == "7\n"
+
+
+def test_another_column_of_geometries_is_named_by_its_table(gis, server, address):
+    server.said("create table town.lots (lot int, shape geometry(polygon, 25832), old geometry(polygon, 25832))")
+    server.said(f"insert into town.lots values (7, 'srid=25832;{SQUARE.wkt}', 'srid=25832;{OTHER.buffer(-1, join_style=2).wkt}')")
+    answer = gis("dissolve", f"{address}|layername=town.lots", "-o", "out.gpkg")
+    assert "of which shape is taken, and not old: tables=town.lots(old) names another one\n" in answer.err, answer.err
+    assert gis("dissolve", f"{address} tables=town.lots(old)", "-o", "old.gpkg").status == 0
+    assert [[shape.area for shape, _ in read(name)] for name in ("out.gpkg", "old.gpkg")] == [[100], [64]]
 
 
 def test_a_table_whose_name_has_a_point_is_kept_where_it_is_an_input(gis, server, address):
