@@ -255,7 +255,11 @@ def files_of(sources: Sequence[Source]) -> list[str]:
 def common_system(sources: Sequence[Source], told: str | None = None) -> osr.SpatialReference | None:
     """The one reference system of all layers; `told` is that of layers which name none."""
     given = system_from(told) if told else None
-    systems = [source.system() or given for source in sources]
+    named = [source.system() for source in sources]
+    if given and named[0] and all(named) and not same(given, named[0]):
+        reason = f"{sources[0].name} has {system_name(named[0])}, and the option is for layers that name none"
+        raise Refusal(f"--system {told}", reason)
+    systems = [system or given for system in named]
     first = systems[0]
     for source, system in zip(sources[1:], systems[1:]):
         if not same(first, system):
