@@ -53,7 +53,7 @@ def unit_name(system: osr.SpatialReference | None) -> str:
     if system is None:
         return "units"
     if system.IsGeographic():
-        return "degrees"
+        return "degrees" if system.GetAngularUnitsName() == "degree" else str(system.GetAngularUnitsName())
     return "m" if system.GetLinearUnits() == 1.0 else str(system.GetLinearUnitsName())
 
 

@@ -228,6 +228,12 @@ def test_a_system_that_would_be_passed_over_is_refused(gis, tmp_path):
     assert gis("dissolve", a, "-o", "out.gpkg", "--system", "EPSG:25832").status == 0
 
 
+def test_grads_are_no_degrees(gis, tmp_path):
+    a = write(tmp_path / "a.gpkg", [box(1, 50, 3, 52)], "EPSG:4807")
+    answer = gis("dissolve", a, "-o", "out.gpkg", "--grid", "0.001")
+    assert answer.status == 0 and "grid 0.001 grad, origin" in answer.err and "area 4 square grad in sum" in answer.err, answer.err
+
+
 def test_two_systems_of_one_name_are_told_apart(gis, tmp_path):
     """A file of MapInfo tells the system of New York in feet that aren't quite those."""
     a = write(tmp_path / "a.gpkg", [box(980000, 200000, 980004, 200004)], "EPSG:2263")
