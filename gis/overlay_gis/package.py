@@ -17,7 +17,7 @@ from .layers import LAYER_MARK, Source
 from .messages import during, is_watched, progress
 from .output import Output, Table
 from .read_back import Written
-from .whole import Target, identity
+from .whole import Target, identity, paths_of
 
 # Pages of a GeoPackage that are copied at a time.
 PAGES = 4096
@@ -50,6 +50,15 @@ def same_name(one: str, other: str) -> bool:
     return one.lower() == other.lower()
 
 
+def is_read(target: Target, name: str, is_there: bool, source: Source) -> bool:
+    """Whether a layer of a GeoPackage is one that is read, or may be where the source names the file
+    in another way, as a virtual layer does."""
+    file = identity(target.path)
+    if identity(Path(source.path)) == file:
+        return same_name(name, source.layer.GetName())
+    return is_there and any(identity(path) == file for held in source.files() for path in paths_of(held))
+
+
 def check_layers(target: Target, names: Sequence[str], overwrite: bool, sources: Sequence[Source]) -> None:
     """Refuses names of layers that are there without leave to replace them, those of inputs, and
     those of what is no layer, as a raster."""
@@ -69,8 +78,8 @@ def check_layers(target: Target, names: Sequence[str], overwrite: bool, sources:
                 ),
             )
         for source in sources:
-            if identity(Path(source.path)) == identity(target.path) and same_name(name, source.layer.GetName()):
-                raise Refusal(f"{target.name}{LAYER_MARK}{name}", "is an input")
+            if is_read(target, name, is_layer, source):
+                raise Refusal(f"{target.name}{LAYER_MARK}{name}", "is an input, or a part of one")
 
 
 def state_of(path: Path) -> list[tuple[int, int, int]]:
