@@ -4,6 +4,7 @@ read where they lie."""
 from __future__ import annotations
 
 import ctypes
+from contextlib import suppress
 from dataclasses import dataclass
 from typing import Any, Iterator
 
@@ -96,6 +97,12 @@ def batch_of(numbers: Array, geometries: Array | None, width: np.dtype[Any] | No
     return Batch(ids, data, at[:-1], np.where(present(geometries), at[1:], at[:-1]))
 
 
+def pass_over(layer: ogr.Layer, names: list[str]) -> None:
+    """Has GDAL pass over these fields of a layer; a virtual layer of a source that can't has all."""
+    with suppress(RuntimeError):
+        layer.SetIgnoredFields(names)
+
+
 def batches(layer: ogr.Layer, with_fields: bool = False) -> Iterator[Batch]:
     """All features of a layer, whose fields GDAL passes over unless it needs them for geometries."""
     if not hasattr(layer, "GetArrowStream"):
@@ -105,7 +112,7 @@ def batches(layer: ogr.Layer, with_fields: bool = False) -> Iterator[Batch]:
         )
     definition = layer.GetLayerDefn()
     fields = [definition.GetFieldDefn(k).GetName() for k in range(definition.GetFieldCount())]
-    layer.SetIgnoredFields([] if with_fields else fields)
+    pass_over(layer, [] if with_fields else fields)
     layer.ResetReading()
     stream = layer.GetArrowStream([f"MAX_FEATURES_IN_BATCH={BATCH}"])
     held = stream.GetSchema()  # what it tells is there as long as it is

@@ -16,7 +16,7 @@ import numpy as np
 from osgeo import gdal, ogr, osr
 
 from . import wkb
-from .arrow import Batch, batches
+from .arrow import Batch, batches, pass_over
 from .columns import NOTHING, Bytes, Columns, Floats, Numbers, chained, extents, gathered
 from .faults import Fault, Refusal
 from .gdal_errors import blamed_on, told_as
@@ -224,7 +224,7 @@ class Source:
         """The values of these fields of all features."""
         if not names:
             return [()] * seen.features
-        self.layer.SetIgnoredFields(["OGR_GEOMETRY"])
+        pass_over(self.layer, ["OGR_GEOMETRY"])
         self.layer.ResetReading()
         with blamed_on(self.name, self.path):
             unread: Iterator[ogr.Feature] = iter(self.layer.GetNextFeature, None)

@@ -111,6 +111,18 @@ def test_another_column_of_geometries_is_named_by_its_table(gis, server, address
     assert [[shape.area for shape, _ in read(name)] for name in ("out.gpkg", "old.gpkg")] == [[100], [64]]
 
 
+def test_a_virtual_layer_of_a_table_is_read(gis, tmp_path, server, address):
+    server.said("create table town.lots (lot bigint, raw bytea, shape geometry(polygon, 25832))")
+    server.said(f"insert into town.lots values (4611686018427387905, '\\x00ff', 'srid=25832;{SQUARE.wkt}')")
+    (tmp_path / "lots.vrt").write_text(
+        f'<OGRVRTDataSource><OGRVRTLayer name="lots"><SrcDataSource>{address}</SrcDataSource>'
+        "<SrcLayer>town.lots</SrcLayer></OGRVRTLayer></OGRVRTDataSource>"
+    )
+    answer = gis("faces", "lots.vrt", "-o", "out.gpkg", "--keep-a", "lot")
+    assert answer.status == 0, answer.err
+    assert [(shape.area, row["a_lot"]) for shape, row in read("out.gpkg")] == [(100, 4611686018427387905)]
+
+
 def test_a_table_whose_name_has_a_point_is_kept_where_it_is_an_input(gis, server, address):
     server.said("drop table if exists public.\"a.b\"; create table public.\"a.b\" (lot int, shape geometry(polygon, 25832))")
     answer = gis("dissolve", f"{address}|layername=a.b", "-o", address, "--layer", "public.a.b", "--overwrite")
