@@ -4,13 +4,14 @@ it was."""
 from __future__ import annotations
 
 from contextlib import contextmanager
+from pathlib import Path
 from typing import Any, Iterator, Sequence
 
 from osgeo import gdal, osr
 
 from .faults import Fault, Refusal
 from .gdal_errors import blamed_on
-from .layers import LAYER_MARK, Source
+from .layers import LAYER_MARK, VIRTUAL, Source
 from .messages import followed
 from .output import Table, add, create
 from .passwords import hidden, remember
@@ -64,6 +65,17 @@ def identities(source: Source) -> set[str | None]:
         return {identity(source.dataset, words) for words in (quoted(name), quoted_whole(name))}
 
 
+def may_read_tables(source: Source) -> bool:
+    """Whether a layer may be a virtual one of a table, of which GDAL doesn't tell the name."""
+    if source.dataset.GetDriver().ShortName != VIRTUAL:
+        return False
+    try:
+        text = Path(source.path).read_text(encoding="utf-8", errors="replace").lower()
+    except (OSError, ValueError):
+        return True  # it is in an archive, or the text itself
+    return any(prefix in text for prefix in PREFIXES)
+
+
 class Database:
     """A database in which tables are made."""
 
@@ -90,6 +102,8 @@ class Database:
             there = identity(dataset, quoted(table))
             if there and there in inputs:
                 raise Refusal(f"{self.name}{LAYER_MARK}{table}", "is an input")
+            for source in filter(may_read_tables, self.sources if there else ()):
+                raise Refusal(self.name, f"the table {table} may be what {source.name} reads: --layer names another one")
             if there and not self.overwrite:
                 raise Refusal(
                     self.name,

@@ -28,7 +28,7 @@ from .systems import known, names_apart, same, system_from, system_name
 LAYER_MARK = "|layername="
 
 # The driver whose geometries may be made of fields, and are nothing where these are passed over.
-FROM_FIELDS = "OGR_VRT"
+VIRTUAL = "OGR_VRT"
 
 
 @dataclass
@@ -187,7 +187,7 @@ class Source:
             raise Fault(self.name, f"only {read} of {told} features could be read")
 
     def survey(self) -> Survey:
-        needed = self.dataset.GetDriver().ShortName == FROM_FIELDS
+        needed = self.dataset.GetDriver().ShortName == VIRTUAL
         parts = [self.looked_at(batch) for batch in self.counted(batches(self.layer, needed))]
         return Survey(
             np.concatenate([NOTHING.ids, *(part.numbers for part in parts)]),

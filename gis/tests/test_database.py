@@ -121,6 +121,10 @@ def test_a_virtual_layer_of_a_table_is_read(gis, tmp_path, server, address):
     answer = gis("faces", "lots.vrt", "-o", "out.gpkg", "--keep-a", "lot")
     assert answer.status == 0, answer.err
     assert [(shape.area, row["a_lot"]) for shape, row in read("out.gpkg")] == [(100, 4611686018427387905)]
+    answer = gis("dissolve", "lots.vrt", "-o", address, "--layer", "town.lots", "--overwrite")
+    assert answer.status == 3 and "the table town.lots may be what lots.vrt reads: --layer names another one" in answer.err
+    assert server.said("select lot from town.lots") == "4611686018427387905\n"
+    assert gis("dissolve", "lots.vrt", "-o", address, "--layer", "town.whole").status == 0
 
 
 def test_a_table_whose_name_has_a_point_is_kept_where_it_is_an_input(gis, server, address):
