@@ -45,17 +45,25 @@ def tables_of(target: Target) -> list[str]:
         raise Fault(target.name, f"can't be read: {error}") from error
 
 
+def is_view(target: Target, name: str) -> bool:
+    """Whether a layer of a GeoPackage is a view, which reads others."""
+    with closing(opened(target)) as held:
+        found = held.execute("SELECT type FROM sqlite_master WHERE lower(name) = lower(?)", (name,)).fetchone()
+    return found is not None and found[0] == "view"
+
+
 def same_name(one: str, other: str) -> bool:
     """Whether SQLite takes two names of tables for one."""
     return one.lower() == other.lower()
 
 
 def is_read(target: Target, name: str, is_there: bool, source: Source) -> bool:
-    """Whether a layer of a GeoPackage is one that is read, or may be where the source names the file
-    in another way, as a virtual layer does."""
+    """Whether a layer of a GeoPackage is one that is read, or may be: where the source is a view, or
+    names the file in another way, as a virtual layer does."""
     file = identity(target.path)
     if identity(Path(source.path)) == file:
-        return same_name(name, source.layer.GetName())
+        layer = source.layer.GetName()
+        return same_name(name, layer) or (is_there and is_view(target, layer))
     return is_there and any(identity(path) == file for held in source.files() for path in paths_of(held))
 
 
