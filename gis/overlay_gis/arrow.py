@@ -4,6 +4,7 @@ read where they lie."""
 from __future__ import annotations
 
 import ctypes
+from contextlib import suppress
 from dataclasses import dataclass
 from typing import Any, Iterator
 
@@ -96,21 +97,29 @@ def batch_of(numbers: Array, geometries: Array | None, width: np.dtype[Any] | No
     return Batch(ids, data, at[:-1], np.where(present(geometries), at[1:], at[:-1]))
 
 
-def batches(layer: ogr.Layer) -> Iterator[Batch]:
-    """All features of a layer, without their fields."""
+def pass_over(layer: ogr.Layer, names: list[str]) -> None:
+    """Has GDAL pass over these fields of a layer; a virtual layer of a source that can't has all."""
+    with suppress(RuntimeError):
+        layer.SetIgnoredFields(names)
+
+
+def batches(layer: ogr.Layer, with_fields: bool = False) -> Iterator[Batch]:
+    """All features of a layer, whose fields GDAL passes over unless it needs them for geometries."""
     if not hasattr(layer, "GetArrowStream"):
         raise Fault(
             f"GDAL {gdal.__version__}",
             "is too old: 3.6 is the first that hands features over in batches",
         )
     definition = layer.GetLayerDefn()
-    layer.SetIgnoredFields([definition.GetFieldDefn(k).GetName() for k in range(definition.GetFieldCount())])
+    fields = [definition.GetFieldDefn(k).GetName() for k in range(definition.GetFieldCount())]
+    pass_over(layer, [] if with_fields else fields)
     layer.ResetReading()
     stream = layer.GetArrowStream([f"MAX_FEATURES_IN_BATCH={BATCH}"])
     held = stream.GetSchema()  # what it tells is there as long as it is
     schema = Schema.from_address(held._getPtr())
     formats = [schema.children[k].contents.format for k in range(schema.n_children)]
-    place = next((k for k, name in enumerate(formats) if name in GEOMETRIES), None)
+    first = len(formats) - definition.GetGeomFieldCount()  # before it are the number and the fields
+    place = next((k for k, name in enumerate(formats) if k >= first and name in GEOMETRIES), None)
     width = GEOMETRIES[formats[place]] if place is not None else None
     while (part := stream.GetNextRecordBatch()) is not None:
         array = Array.from_address(part._getPtr())

@@ -4,13 +4,14 @@ it was."""
 from __future__ import annotations
 
 from contextlib import contextmanager
+from pathlib import Path
 from typing import Any, Iterator, Sequence
 
 from osgeo import gdal, osr
 
 from .faults import Fault, Refusal
 from .gdal_errors import blamed_on
-from .layers import LAYER_MARK, Source
+from .layers import LAYER_MARK, VIRTUAL, Source
 from .messages import followed
 from .output import Table, add, create
 from .passwords import hidden, remember
@@ -22,6 +23,8 @@ PREFIXES = ("pg:", "postgresql://", "postgres://")
 # How the columns of a table are called that aren't fields.
 OPTIONS = ("GEOMETRY_NAME=geom", "FID=fid", "LAUNDER=NO", "SPATIAL_INDEX=GIST")
 
+# The kinds of relations, as the server names them, that DROP TABLE drops.
+TABLES = ("r", "p")
 
 # How long a table that others use is waited for.
 LOCK_SECONDS = 20
@@ -31,14 +34,46 @@ def is_database(name: str) -> bool:
     return name.lower().startswith(PREFIXES)
 
 
+def quoted_whole(name: str) -> str:
+    return '"' + name.replace('"', '""') + '"'
+
+
 def quoted(table: str) -> str:
     """The name of a table, or schema.table, as SQL has it."""
-    return ".".join('"' + part.replace('"', '""') + '"' for part in table.split(".", 1))
+    return ".".join(map(quoted_whole, table.split(".", 1)))
 
 
-def same(one: str, other: str) -> bool:
-    """Whether two names, with the usual schema or without it, are those of one table."""
-    return one.removeprefix("public.") == other.removeprefix("public.")
+def literal(words: str) -> str:
+    return "'" + words.replace("'", "''") + "'"
+
+
+def identity(dataset: Any, table: str) -> str | None:
+    """What tells whether two names, in two sessions, lead to one table: when the server began, the
+    database and the table's number there; nothing where no table is. The name is quoted."""
+    number = f"to_regclass({literal(table)})::oid"
+    found = answer(dataset, f"SELECT concat_ws(' ', pg_postmaster_start_time(), current_database(), {number}) WHERE {number} > 0")
+    return found if found is None else str(found)
+
+
+def identities(source: Source) -> set[str | None]:
+    """The tables that a layer's name may stand for, if it is one of a database: one with a point is
+    also that of a table in the usual schema."""
+    if not source.is_postgis:
+        return set()
+    name = source.layer.GetName()
+    with blamed_on(source.name, source.path):
+        return {identity(source.dataset, words) for words in (quoted(name), quoted_whole(name))}
+
+
+def may_read_tables(source: Source) -> bool:
+    """Whether a layer may be a virtual one of a table, of which GDAL doesn't tell the name."""
+    if source.dataset.GetDriver().ShortName != VIRTUAL:
+        return False
+    try:
+        text = Path(source.path).read_text(encoding="utf-8", errors="replace").lower()
+    except (OSError, ValueError):
+        return True  # it is in an archive, or the text itself
+    return any(prefix in text for prefix in PREFIXES)
 
 
 class Database:
@@ -57,15 +92,19 @@ class Database:
             return gdal.OpenEx(address, gdal.OF_VECTOR | gdal.OF_UPDATE, ["PostgreSQL"])
 
     def check(self, tables: Sequence[str]) -> None:
-        """Refuses, before any work is done, a database without PostGIS, and tables that are there
-        without leave to replace them."""
+        """Refuses, before any work is done, a database without PostGIS, tables that are there without
+        leave to replace them, and those that can't be made."""
         dataset = self.opened()
         if not answer(dataset, "SELECT 1 FROM pg_extension WHERE extname = 'postgis'"):
             raise Refusal(self.name, "has no PostGIS: CREATE EXTENSION postgis")
+        inputs = set().union(*map(identities, self.sources))
         for table in tables:
-            if any(source.path == self.address and same(source.layer.GetName(), table) for source in self.sources):
+            there = identity(dataset, quoted(table))
+            if there and there in inputs:
                 raise Refusal(f"{self.name}{LAYER_MARK}{table}", "is an input")
-            if self.has(dataset, table) and not self.overwrite:
+            for source in filter(may_read_tables, self.sources if there else ()):
+                raise Refusal(self.name, f"the table {table} may be what {source.name} reads: --layer names another one")
+            if there and not self.overwrite:
                 raise Refusal(
                     self.name,
                     (
@@ -73,10 +112,24 @@ class Database:
                         " another one"
                     ),
                 )
+            with blamed_on(self.name, self.address):
+                self.refuse_unmakeable(dataset, table)
 
-    def has(self, dataset: Any, table: str) -> bool:
-        literal = quoted(table).replace("'", "''")
-        return answer(dataset, f"SELECT to_regclass('{literal}')") is not None
+    def refuse_unmakeable(self, dataset: Any, table: str) -> None:
+        """Refuses a table that this user can't make, or replace what is there by."""
+        named, _, rest = table.partition(".")
+        schema = f"to_regnamespace({literal(quoted_whole(named)) if rest else 'quote_ident(current_schema())'})::oid"
+        if answer(dataset, f"SELECT {schema} > 0") is None:
+            raise Refusal(self.name, f"has no schema {named}: CREATE SCHEMA" if rest else "names no schema for tables")
+        there = f"FROM pg_class WHERE oid = to_regclass({literal(quoted(table))})"
+        if answer(dataset, f"SELECT relkind {there}") not in (None, *TABLES):
+            raise Refusal(self.name, f"{table} is no table: --layer names another one")
+        owner = answer(dataset, f"SELECT pg_get_userbyid(relowner) {there} AND NOT pg_has_role(relowner, 'USAGE')")
+        if owner:
+            raise Refusal(self.name, f"the table {table} belongs to {owner}, and replacing it is up to its owner")
+        user = answer(dataset, f"SELECT current_user WHERE NOT has_schema_privilege({schema}, 'CREATE')")
+        if user:
+            raise Refusal(self.name, f"{user} may create nothing in the schema{f' {named}' if rest else ' of its tables'}")
 
     def write(self, held: Drafts, system: osr.SpatialReference | None, tables: Sequence[Table]) -> list[int]:
         """Makes the tables, and answers how many features each has."""
@@ -91,7 +144,7 @@ class Database:
             yield dataset
 
     def made(self, dataset: Any, system: osr.SpatialReference | None, table: Table) -> int:
-        if self.has(dataset, table.name):
+        if identity(dataset, quoted(table.name)):
             # which fails where a view stands on it
             dataset.ExecuteSQL(f"DROP TABLE {quoted(table.name)}")
         made = create(dataset, table.name, system, table, self.name, *OPTIONS)

@@ -15,7 +15,7 @@ from osgeo import osr
 from .database import Database, is_database
 from .faults import Refusal
 from .layers import Source, files_of
-from .output import PACKAGE, Table, driver_for, layer_target, write_tables
+from .output import PACKAGE, Table, driver_for, layer_target, refuse_without_layers, write_tables
 from .package import Enlarged, check_layers
 from .whole import Drafts, Target, drafts
 
@@ -74,10 +74,10 @@ class Wanted:
             raise Refusal(self.out, words)
         target = layer_target(self.out, self.overwrite, files)
         several = self.layer or self.append or self.beside
-        if several and driver_for(target).ShortName != PACKAGE:
-            raise Refusal(
-                self.out, "only a GeoPackage takes several layers, or one of another name"
-            )
+        if driver_for(target).ShortName != PACKAGE:
+            if several:
+                raise Refusal(self.out, "only a GeoPackage takes several layers, or one of another name")
+            refuse_without_layers(target)
         return Destination(self.names(target.path.stem if several else ""), partial(write_tables, target))
 
     def enlarged(self, sources: Sequence[Source]) -> Destination:

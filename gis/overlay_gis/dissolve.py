@@ -101,10 +101,10 @@ def table_of(united: United, fields: Sequence[ogr.FieldDefn], frame: Frame, by_p
     if by_parts:
         polygons = row_tables.parts(united.shapes, frame)
         made = ((shape, (*facts[k][0], facts[k][1], area)) for k, shape, area in polygons)
-        return Table(columns, made, ogr.wkbPolygon, frame.boxes(united.shapes.apart()) if plain else None)
+        return Table(columns, made, ogr.wkbPolygon, frame.boxes(united.shapes.apart()) if plain else None, frame=frame)
     wholes = zip(row_tables.shapes(united.shapes, frame), facts, united.twice)
     rows = ((shape if twice else None, (*values, count, frame.area(twice))) for shape, (values, count), twice in wholes)
-    return Table(columns, rows, ogr.wkbMultiPolygon, frame.boxes(united.shapes) if plain else None)
+    return Table(columns, rows, ogr.wkbMultiPolygon, frame.boxes(united.shapes) if plain else None, frame=frame)
 
 
 def main(arguments: Namespace) -> int:

@@ -152,7 +152,8 @@ def found_in(together: CommonGrid, layer: Layer, sizes: Sizes) -> tuple[Rows, Fl
 def table_of(parts: list[Flaws], sizes: Sizes) -> Table:
     """All overlaps and gaps as a layer."""
     boxes = np.concatenate([NO_BOXES, *(part.frame.boxes(part.shapes) for part in parts)])
-    return Table(COLUMNS, (row for part in parts for row in rows_of(part, sizes)), ogr.wkbMultiPolygon, boxes)
+    rows = (row for part in parts for row in rows_of(part, sizes))
+    return Table(COLUMNS, rows, ogr.wkbMultiPolygon, boxes, frame=next((part.frame for part in parts), None))
 
 
 def rows_of(part: Flaws, sizes: Sizes) -> Iterator[Row]:

@@ -101,6 +101,12 @@ class Frame:
         ]
         return np.stack(sides, axis=1)
 
+    def room(self) -> tuple[float, float, float, float]:
+        """Bounds round all of the grid, 10^9 units apart: least x and y, greatest x and y."""
+        half = 500_000_000 * self.unit
+        (x, y) = self.origin
+        return float(x - half), float(y - half), float(x + half), float(y + half)
+
     @cached_property
     def square(self) -> tuple[int, int]:
         """Half a square unit of the grid, in square units of the system, as a fraction."""

@@ -58,7 +58,7 @@ def main(arguments: Namespace) -> int:
     text = text_of(arguments.text)
     if kind_in(text, arguments.text) == EDGES:
         edges = parsing.edge_rows(text, arguments.text)
-        table = Table(EDGE_COLUMNS, edge_rows(edges, frame), ogr.wkbLineString)
+        table = Table(EDGE_COLUMNS, edge_rows(edges, frame), ogr.wkbLineString, frame=frame)
     else:
         result = parsing.polygons_in(text, arguments.text)
         table = run.table_of(result, frame)

@@ -16,16 +16,19 @@ import numpy as np
 from osgeo import gdal, ogr, osr
 
 from . import wkb
-from .arrow import Batch, batches
+from .arrow import Batch, batches, pass_over
 from .columns import NOTHING, Bytes, Columns, Floats, Numbers, chained, extents, gathered
 from .faults import Fault, Refusal
 from .gdal_errors import blamed_on, told_as
 from .messages import followed
 from .passwords import hidden, remember
-from .systems import known, same, system_from, system_name
+from .systems import known, names_apart, same, system_from, system_name
 
 
 LAYER_MARK = "|layername="
+
+# The driver whose geometries may be made of fields, and are nothing where these are passed over.
+VIRTUAL = "OGR_VRT"
 
 
 @dataclass
@@ -156,6 +159,10 @@ class Source:
             return os.path.splitext(os.path.basename(os.path.normpath(self.path)))[0]
         return str(self.layer.GetName())
 
+    @property
+    def is_postgis(self) -> bool:
+        return bool(self.dataset.GetDriver().ShortName == "PostgreSQL")
+
     def files(self) -> list[str]:
         """Everything that the source is read from, as far as GDAL tells."""
         return [self.path, *(self.dataset.GetFileList() or [])]
@@ -180,7 +187,8 @@ class Source:
             raise Fault(self.name, f"only {read} of {told} features could be read")
 
     def survey(self) -> Survey:
-        parts = [self.looked_at(batch) for batch in self.counted(batches(self.layer))]
+        needed = self.dataset.GetDriver().ShortName == VIRTUAL
+        parts = [self.looked_at(batch) for batch in self.counted(batches(self.layer, needed))]
         return Survey(
             np.concatenate([NOTHING.ids, *(part.numbers for part in parts)]),
             np.concatenate([NO_KINDS, *(part.kinds for part in parts)]),
@@ -216,7 +224,7 @@ class Source:
         """The values of these fields of all features."""
         if not names:
             return [()] * seen.features
-        self.layer.SetIgnoredFields(["OGR_GEOMETRY"])
+        pass_over(self.layer, ["OGR_GEOMETRY"])
         self.layer.ResetReading()
         with blamed_on(self.name, self.path):
             unread: Iterator[ogr.Feature] = iter(self.layer.GetNextFeature, None)
@@ -247,22 +255,22 @@ def files_of(sources: Sequence[Source]) -> list[str]:
 def common_system(sources: Sequence[Source], told: str | None = None) -> osr.SpatialReference | None:
     """The one reference system of all layers; `told` is that of layers which name none."""
     given = system_from(told) if told else None
-    systems = [source.system() or given for source in sources]
+    named = [source.system() for source in sources]
+    if given and named[0] and all(named) and not same(given, named[0]):
+        reason = f"{sources[0].name} has {system_name(named[0])}, and the option is for layers that name none"
+        raise Refusal(f"--system {told}", reason)
+    systems = [system or given for system in named]
     first = systems[0]
     for source, system in zip(sources[1:], systems[1:]):
         if not same(first, system):
-            hint = (
-                "name that of the other by --system"
-                if None in (system, first)
-                else "bring one into the other's, as by ogr2ogr -t_srs"
-            )
-            raise Refusal(
-                source.name,
-                (
-                    f"has {system_name(system)}, and {sources[0].name} has {system_name(first)}:"
-                    f" {hint}"
-                ),
-            )
+            one, other = names_apart(system, first)
+            if None in (system, first):
+                hint = "name that of the other by --system"
+            elif system_name(system) == system_name(first):
+                hint = "where they are one, give both the same, as by ogr2ogr -a_srs"
+            else:
+                hint = "bring one into the other's, as by ogr2ogr -t_srs"
+            raise Refusal(source.name, f"has {one}, and {sources[0].name} has {other}: {hint}")
     return first
 
 

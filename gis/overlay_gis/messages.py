@@ -52,6 +52,23 @@ def heard_by(listener: Listener) -> Iterator[None]:
         _listener.reset(token)
 
 
+class Nobody:
+    """Hears what is said of a trial, which is nobody's answer."""
+
+    def line(self, text: str) -> None:
+        pass
+
+    def progress(self, work: str, share: float | None) -> None:
+        pass
+
+
+@contextmanager
+def unheard() -> Iterator[None]:
+    """Within, nothing that is said is told."""
+    with heard_by(Nobody()):
+        yield
+
+
 def tell(text: str) -> None:
     """A line of the answer, on standard output."""
     listener = _listener.get()

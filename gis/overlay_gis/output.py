@@ -4,11 +4,12 @@ from __future__ import annotations
 
 import sqlite3
 import sys
+from array import array
 from dataclasses import dataclass, replace
 from pathlib import Path
 from tempfile import TemporaryDirectory
 from traceback import clear_frames
-from typing import Any, Callable, Iterable, Sequence
+from typing import Any, Callable, Iterable, Iterator, Sequence
 
 import numpy as np
 from osgeo import gdal, ogr, osr
@@ -17,11 +18,13 @@ from . import gdal_state
 from .columns import Floats
 from .faults import Fault, Refusal
 from .fitting import OPTIONS, Put, apart, fitted, putting
+from .frame import Frame
 from .gdal_errors import blamed_on
 from .geopackage import Place, Row, filled, place_of
 from .layers import LAYER_MARK, Source
-from .messages import followed, warn
-from .read_back import Written, differences
+from .messages import followed, unheard, warn
+from .read_back import Written, box_of, differences, shape_difference
+from .systems import is_another, names_apart
 from .whole import Drafts, Target, blamed, target_of
 
 # Drivers whose files are folders.
@@ -29,6 +32,9 @@ FOLDERS = ("OpenFileGDB", "FileGDB")
 
 # Drivers that bring each layer to a system of their own, and so off its grid.
 MOVING = ("GeoJSONSeq", "KML", "LIBKML", "GPX", "MBTiles")
+
+# The driver whose files have whole numbers for coordinates, between bounds that are told.
+BOUNDED = "MapInfo File"
 
 # What is told where a format has none for a value.
 ROOM = "a GeoPackage, whose name ends in .gpkg, has room for it"
@@ -78,15 +84,16 @@ NO_BOXES: Floats = np.zeros((0, 4))
 @dataclass
 class Table:
     """What is written as a layer: its fields and its rows; the kind of its shapes, wkbNone for a
-    table without any; the least and greatest x, and y, of each shape that is there; and its name,
-    or nothing for that of its file. Where no boxes are told, GDAL writes the rows, and so it does
-    with values that are more than numbers and texts."""
+    table without any; the least and greatest x, and y, of each shape that is there; its name, or
+    nothing for that of its file; and the frame of its shapes, if it has any. Where no boxes are
+    told, GDAL writes the rows, and so it does with values that are more than numbers and texts."""
 
     columns: Sequence[Column]
     rows: Iterable[Row]
     kind: int = ogr.wkbPolygon
     boxes: Floats | None = None
     name: str = ""
+    frame: Frame | None = None
 
 
 def layer_target(name: str, overwrite: bool, inputs: Iterable[str]) -> Target:
@@ -114,13 +121,20 @@ class Made:
     puts: Sequence[Put]
 
 
+def bounds(driver: gdal.Driver, table: Table) -> Iterator[str]:
+    """The option for bounds, which a MapInfo file divides into as many parts as it has room for: half
+    a grid unit each. Those of GDAL's own are centimetres in a metric system."""
+    if table.frame and driver.ShortName == BOUNDED:
+        yield f"BOUNDS={','.join(map(repr, table.frame.room()))}"
+
+
 def create(
     layers: Any, name: str, system: osr.SpatialReference | None, table: Table, told: str, *options: str
 ) -> Made:
     """A new layer of a data set that is told by that name, with the table's fields. None of them is
     called as another one, or as the layer's columns that are no fields."""
     driver = layers.GetDriver()
-    asked = [*options, *OPTIONS.get(driver.ShortName, ())]
+    asked = [*options, *OPTIONS.get(driver.ShortName, ()), *bounds(driver, table)]
     layer = layers.CreateLayer(name, None if table.kind == ogr.wkbNone else system, table.kind, asked)
     names = apart([column.name for column in table.columns], (layer.GetFIDColumn(), layer.GetGeometryColumn()))
     fields = []
@@ -139,7 +153,7 @@ def made_in(layer: ogr.Layer, field: ogr.FieldDefn) -> ogr.FieldDefn:
     return field
 
 
-def add(made: Made, geometry: bytes | None, values: Sequence[Any]) -> None:
+def add(made: Made, geometry: bytes | None, values: Sequence[Any]) -> ogr.Feature:
     feature = ogr.Feature(made.layer.GetLayerDefn())
     if geometry is not None:
         feature.SetGeometryDirectly(ogr.CreateGeometryFromWkb(geometry))
@@ -149,6 +163,7 @@ def add(made: Made, geometry: bytes | None, values: Sequence[Any]) -> None:
         else:
             put(feature, k, value)
     made.layer.CreateFeature(feature)
+    return feature
 
 
 class Output:
@@ -200,17 +215,17 @@ class Output:
         grouped = self.dataset.TestCapability(ogr.ODsCTransactions)
         if grouped:
             self.dataset.StartTransaction()
-        written = []
+        written, boxes = [], array("d")
         for geometry, values in rows:
-            self.add(geometry, values)
+            boxes.extend(box_of(self.add(geometry, values)))
             written.append(values)
         if grouped:
             self.dataset.CommitTransaction()
         self.dataset.FlushCache()
-        return Written(len(written), self.made.fields, written)
+        return Written(len(written), self.made.fields, written, boxes)
 
-    def add(self, geometry: bytes | None, values: Sequence[Any]) -> None:
-        add(self.made, geometry, values)
+    def add(self, geometry: bytes | None, values: Sequence[Any]) -> ogr.Feature:
+        return add(self.made, geometry, values)
 
     def close(self) -> None:
         """Closes the file. GDAL's bindings would print what fails here, and can't raise it: a look
@@ -219,13 +234,15 @@ class Output:
         self.made = self.dataset = None
         sys.unraisablehook = told
 
-    def check(self, table: Table, written: Written) -> None:
+    def check(self, system: osr.SpatialReference | None, table: Table, written: Written) -> None:
         """Reads back what a layer of the closed file has."""
         try:
             named = LAYER_MARK + table.name if table.name else ""
             held = Source(str(self.path) + named)  # a layer is there only as long as its source is
             with blamed_on(held.name, held.path):
                 found, unlike = held.layer.GetFeatureCount(), list(differences(held.layer, written))
+                there = held.system() if table.kind != ogr.wkbNone else system
+                moved = shape_difference(held.layer, written, float(table.frame.unit)) if table.frame else None
         except Fault as error:
             raise Fault(self.target.name, f"can't be read back: {error.reason}") from error
         if found != written.count:
@@ -233,9 +250,14 @@ class Output:
                 self.target.name,
                 f"has {found} of the {written.count} features that were written to it",
             )
+        if is_another(there, system):
+            one, other = names_apart(there, system)
+            warn(self.target.name, f"its reference system comes out as {one}, and was {other}")
+        way = "" if driver_for(self.target).ShortName == PACKAGE else f": {ROOM}"
+        if moved:
+            raise Fault(self.target.name, f"{moved}{way}")
         for difference in unlike:
             if not difference.near:
-                way = "" if driver_for(self.target).ShortName == PACKAGE else f": {ROOM}"
                 raise Fault(self.target.name, f"{difference}{way}")
             warn(self.target.name, str(difference))
 
@@ -273,8 +295,26 @@ def write_into(
         finally:
             output.close()
     for table, written in zip(tables, filled):
-        output.check(table, written)
+        output.check(system, table, written)
     return [written.count for written in filled]
+
+
+# What a file of a format is tried with: a field of each usual type, and a polygon.
+TRIED = [Column("id", ogr.OFTInteger64), Column("area", ogr.OFTReal), Column("a", ogr.OFTString)]
+SQUARE = ogr.CreateGeometryFromWkt("POLYGON ((0 0, 1 0, 1 1, 0 1, 0 0))")
+
+
+def refuse_without_layers(target: Target) -> None:
+    """Refuses a format that keeps no polygons with fields; a feature is tried."""
+    row = bytes(SQUARE.ExportToWkb(ogr.wkbNDR)), (1, 0.5, "a")
+    try:
+        with unheard(), TemporaryDirectory() as folder:
+            write_into(Path(folder), target, None, [Table(TRIED, [row])])
+    except Refusal:
+        raise
+    except Fault as fault:
+        words = "a file of this format keeps no polygons with fields, as one of .gpkg does"
+        raise Refusal(target.name, f"{words}: {fault.reason}") from fault
 
 
 def refuse_without_rows(target: Target) -> None:

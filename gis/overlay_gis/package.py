@@ -17,7 +17,7 @@ from .layers import LAYER_MARK, Source
 from .messages import during, is_watched, progress
 from .output import Output, Table
 from .read_back import Written
-from .whole import Target, identity
+from .whole import Target, identity, paths_of
 
 # Pages of a GeoPackage that are copied at a time.
 PAGES = 4096
@@ -45,9 +45,26 @@ def tables_of(target: Target) -> list[str]:
         raise Fault(target.name, f"can't be read: {error}") from error
 
 
+def is_view(target: Target, name: str) -> bool:
+    """Whether a layer of a GeoPackage is a view, which reads others."""
+    with closing(opened(target)) as held:
+        found = held.execute("SELECT type FROM sqlite_master WHERE lower(name) = lower(?)", (name,)).fetchone()
+    return found is not None and found[0] == "view"
+
+
 def same_name(one: str, other: str) -> bool:
     """Whether SQLite takes two names of tables for one."""
     return one.lower() == other.lower()
+
+
+def is_read(target: Target, name: str, is_there: bool, source: Source) -> bool:
+    """Whether a layer of a GeoPackage is one that is read, or may be: where the source is a view, or
+    names the file in another way, as a virtual layer does."""
+    file = identity(target.path)
+    if identity(Path(source.path)) == file:
+        layer = source.layer.GetName()
+        return same_name(name, layer) or (is_there and is_view(target, layer))
+    return is_there and any(identity(path) == file for held in source.files() for path in paths_of(held))
 
 
 def check_layers(target: Target, names: Sequence[str], overwrite: bool, sources: Sequence[Source]) -> None:
@@ -69,8 +86,8 @@ def check_layers(target: Target, names: Sequence[str], overwrite: bool, sources:
                 ),
             )
         for source in sources:
-            if identity(Path(source.path)) == identity(target.path) and same_name(name, source.layer.GetName()):
-                raise Refusal(f"{target.name}{LAYER_MARK}{name}", "is an input")
+            if is_read(target, name, is_layer, source):
+                raise Refusal(f"{target.name}{LAYER_MARK}{name}", "is an input, or a part of one")
 
 
 def state_of(path: Path) -> list[tuple[int, int, int]]:
@@ -115,8 +132,8 @@ class Enlarged(Output):
                 self.dataset.DeleteLayer(k)
         super().begin(system, table)
 
-    def check(self, table: Table, written: Written) -> None:
-        super().check(table, written)
+    def check(self, system: osr.SpatialReference | None, table: Table, written: Written) -> None:
+        super().check(system, table, written)
         if state_of(self.target.path) != self.state:
             raise Fault(
                 self.target.name, "was changed meanwhile by another program: nothing was written"

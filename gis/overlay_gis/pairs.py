@@ -3,6 +3,7 @@
 from __future__ import annotations
 
 from dataclasses import dataclass
+from itertools import pairwise
 from typing import Iterator
 
 import numpy as np
@@ -24,6 +25,11 @@ COLUMNS = [
 ]
 
 
+# How many pairs of features in rows are held at a time: features that lie on many others cover many
+# rows together.
+AT_A_TIME = 1 << 20
+
+
 @dataclass(frozen=True)
 class Pairs:
     """The places of both features in their layers, and twice the common area, in grid units."""
@@ -37,16 +43,33 @@ def pairs_in(rows: Rows) -> Pairs:
     """All pairs of two layers' features that cover a row together, ordered by the first and then
     the second one."""
     a, b = rows.members
-    counts = a.counts * b.counts
-    row = np.repeat(np.arange(len(counts)), counts)
-    inside = np.arange(len(row)) - offsets(counts)[row]
+    width = int(b.places.max(initial=0)) + 1
+    totals = offsets(a.counts * b.counts)
+    cuts = np.unique(np.append(np.searchsorted(totals, np.arange(0, totals[-1], AT_A_TIME)), len(totals) - 1))
+    keys, twice = np.zeros(0, np.int64), np.zeros(0, np.int64)
+    for at, end in pairwise(cuts.tolist()):
+        of_block, row = keys_of(rows, np.arange(at, end), width)
+        keys, twice = summed(np.concatenate((keys, of_block)), np.concatenate((twice, rows.twice[row])))
+    return Pairs(keys // width, keys % width, twice)
+
+
+def keys_of(rows: Rows, block: Numbers, width: int) -> tuple[Numbers, Numbers]:
+    """A number for each pair of features that cover one of some rows together, and that row."""
+    a, b = rows.members
+    counts = (a.counts * b.counts)[block]
+    row = np.repeat(block, counts)
+    inside = np.arange(len(row)) - np.repeat(offsets(counts)[:-1], counts)
     of_b = b.counts[row]
     first, second = a.places[a.starts[row] + inside // of_b], b.places[b.starts[row] + inside % of_b]
-    width = int(second.max(initial=0)) + 1
-    found, where = np.unique(first * width + second, return_inverse=True)
-    twice = np.zeros(len(found), np.int64)
-    np.add.at(twice, where, rows.twice[row])
-    return Pairs(found // width, found % width, twice)
+    return first * width + second, row
+
+
+def summed(keys: Numbers, twice: Numbers) -> tuple[Numbers, Numbers]:
+    """Each key once, ascending, with the sum of its areas."""
+    order = np.argsort(keys, kind="stable")
+    ordered = keys[order]
+    firsts = np.flatnonzero(np.diff(ordered, prepend=-1))
+    return ordered[firsts], np.add.reduceat(twice[order], firsts)
 
 
 def table_of(rows: Rows, ids: tuple[Numbers, Numbers], frame: Frame) -> Table:

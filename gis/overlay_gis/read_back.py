@@ -4,18 +4,24 @@ take, and its driver cuts or rounds them, or leaves them out, without raising it
 from __future__ import annotations
 
 import json
+from array import array
 from collections import Counter
 from dataclasses import dataclass, field
 from datetime import date
-from math import isclose
+from math import isclose, nan
 from typing import Any, Callable, Iterator, Sequence
 
+import numpy as np
 from osgeo import ogr
 
+from .columns import Floats
 from .fitting import LISTS, text_of
 
 # Numbers that are the same to so many parts of themselves have the same 15 digits.
 DIGITS = 1e-14
+
+# How far a shape may come out from its place, in grid units.
+OFF = 0.01
 
 # How OGR tells the zone of a time: one that isn't known, that of the place, or quarters of an hour
 # before or behind UTC.
@@ -27,11 +33,13 @@ SHOWN = 40
 
 @dataclass(frozen=True)
 class Written:
-    """How many rows a layer got; and, where a driver wrote them, its fields and their values."""
+    """How many rows a layer got; and, where a driver wrote them, its fields and their values, and the
+    boxes of all shapes, one after another."""
 
     count: int
     fields: Sequence[ogr.FieldDefn] = ()
     rows: list[Sequence[Any]] = field(default_factory=list)
+    boxes: array[float] = field(default_factory=lambda: array("d"))
 
 
 @dataclass(frozen=True)
@@ -67,6 +75,45 @@ def differences(layer: ogr.Layer, written: Written) -> Iterator[Difference]:
     found = zip(*[[read(feature) for read in reads] for feature in layer]) if reads else ()
     for held, wanted, there in zip(written.fields, zip(*written.rows), found):
         yield from of_field(held, wanted, there)
+
+
+def box_of(feature: ogr.Feature) -> tuple[float, ...]:
+    """The least and greatest x, and y, of a feature's shape; no numbers where it has none."""
+    shape = feature.GetGeometryRef()
+    return (nan,) * 4 if shape is None or shape.IsEmpty() else tuple(shape.GetEnvelope())
+
+
+def shape_difference(layer: ogr.Layer, written: Written, unit: float) -> str | None:
+    """What is wrong with the first shape that isn't where it was written, by more than a small part
+    of a grid unit, if one isn't."""
+    definition = layer.GetLayerDefn()
+    layer.SetIgnoredFields([definition.GetFieldDefn(k).GetName() for k in range(definition.GetFieldCount())])
+    layer.ResetReading()
+    wanted, most = np.array(written.boxes).reshape(-1, 4), OFF * unit
+    found = np.array([box_of(feature) for feature in layer]).reshape(-1, 4) if len(wanted) else wanted
+    if len(wanted) != len(found):
+        return None  # which is told by itself
+    apart = off(wanted, found)
+    if not (apart > most).any() or not (off(in_order(wanted), in_order(found)) > most).any():
+        return None
+    row = int(np.flatnonzero(apart > most)[0])
+    if np.isnan(found[row, 0]):
+        return f"the shape in row number {row + 1} comes out as nothing"
+    return f"the shape in row number {row + 1} comes out {apart[row]:.3g} from its place"
+
+
+def in_order(boxes: Floats) -> Floats:
+    """The same, however a driver has put the rows."""
+    ordered: Floats = boxes[np.lexsort(boxes.T)]
+    return ordered
+
+
+def off(wanted: Floats, found: Floats) -> Floats:
+    """How far each of two boxes is from the other one, at most; infinitely where one of both isn't
+    there."""
+    apart: Floats = np.abs(wanted - found).max(axis=1, initial=0.0)
+    alone = np.isnan(wanted[:, 0]) != np.isnan(found[:, 0])
+    return np.where(alone, np.inf, np.nan_to_num(apart))
 
 
 def of_field(held: ogr.FieldDefn, wanted: Sequence[Any], found: Sequence[Any]) -> Iterator[Difference]:

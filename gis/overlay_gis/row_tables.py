@@ -26,10 +26,10 @@ def table_of(rows: Rows, held: Sequence[Kept], frame: Frame, by_parts: bool = Fa
     if by_parts:
         features = parts(rows.shapes, frame)
         made = ((shape, (*ids[k], area, *values[k])) for k, shape, area in features)
-        return Table(columns, made, ogr.wkbPolygon, boxes_of(frame.boxes(rows.shapes.apart()), held))
+        return Table(columns, made, ogr.wkbPolygon, boxes_of(frame.boxes(rows.shapes.apart()), held), frame=frame)
     wholes = zip(shapes(rows.shapes, frame), ids, rows.twice.tolist(), values)
     made = ((shape, (*numbers, frame.area(twice), *kept)) for shape, numbers, twice, kept in wholes)
-    return Table(columns, made, ogr.wkbMultiPolygon, boxes_of(frame.boxes(rows.shapes), held))
+    return Table(columns, made, ogr.wkbMultiPolygon, boxes_of(frame.boxes(rows.shapes), held), frame=frame)
 
 
 def boxes_of(boxes: Floats, held: Sequence[Kept]) -> Floats | None:

@@ -54,7 +54,7 @@ def table_of(result: Columns[Numbers], frame: Frame) -> Table:
     """The polygons of a result on the grid, each with its number and its area."""
     polygons = zip(encoded(frame.off_grid(result)), result.twice_areas())
     rows = ((polygon, (number, frame.area(twice))) for number, (polygon, twice) in enumerate(polygons, 1))
-    return Table(COLUMNS, rows, ogr.wkbPolygon, frame.boxes(result))
+    return Table(COLUMNS, rows, ogr.wkbPolygon, frame.boxes(result), frame=frame)
 
 
 def answer(both: CommonGrid, operation: str, covered: bool) -> Columns[Numbers]:

@@ -58,10 +58,23 @@ def surveyed(source: Source) -> Survey:
         warn(source.name, "the layer has no features")
     elif bare:
         warn(source.name, f"no geometry, left out: {numbers(bare)}")
+    warn_of_columns(source)
     further = coordinates_left_out(source, seen)
     if further:
         warn(source.name, f"has {further} coordinates, which are left out")
     return seen
+
+
+def warn_of_columns(source: Source) -> None:
+    """Tells of columns of geometries beside the first one, which is taken."""
+    defined = source.layer.GetLayerDefn()
+    taken, *others = [defined.GetGeomFieldDefn(k).GetName() for k in range(defined.GetGeomFieldCount())] or [""]
+    if others:
+        way = f": tables={source.layer.GetName()}({others[0]}) names another one" if source.is_postgis else ""
+        warn(
+            source.name,
+            f"has several columns of geometries, of which {taken} is taken, and not {', '.join(others)}{way}",
+        )
 
 
 def coordinates_left_out(source: Source, seen: Survey) -> str:

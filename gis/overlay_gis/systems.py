@@ -43,11 +43,17 @@ def system_name(system: osr.SpatialReference | None) -> str:
     )
 
 
+def names_apart(one: osr.SpatialReference | None, other: osr.SpatialReference | None) -> tuple[str, str]:
+    """The names of two systems that aren't the same, though they may be called so."""
+    names = system_name(one), system_name(other)
+    return (f"another definition of {names[1]}", names[1]) if names[0] == names[1] else names
+
+
 def unit_name(system: osr.SpatialReference | None) -> str:
     if system is None:
         return "units"
     if system.IsGeographic():
-        return "degrees"
+        return "degrees" if system.GetAngularUnitsName() == "degree" else str(system.GetAngularUnitsName())
     return "m" if system.GetLinearUnits() == 1.0 else str(system.GetLinearUnitsName())
 
 
@@ -60,3 +66,11 @@ def same(one: osr.SpatialReference | None, other: osr.SpatialReference | None) -
     if one is None or other is None:
         return one is other
     return bool(one.IsSame(other, ["IGNORE_DATA_AXIS_TO_SRS_AXIS_MAPPING=YES"]))
+
+
+def is_another(found: osr.SpatialReference | None, wanted: osr.SpatialReference | None) -> bool:
+    """Whether a file's system isn't the one that was wanted; where none was, a local one is as good
+    as none."""
+    if wanted is None and found is not None:
+        return not found.IsLocal()
+    return not same(found, wanted)

@@ -188,13 +188,15 @@ def test_a_folder_is_not_replaced(gis, tmp_path):
     assert (answer.status, answer.err) == (3, "overlay-gis: out.gpkg: is a folder, and no file of this format\n")
 
 
-def test_an_old_index_does_not_outlive_its_shapefile(gis, tmp_path):
-    a = write(tmp_path / "a.gpkg", [SQUARE])
+@pytest.mark.parametrize("out", ["out.shp", "out.dbf"])
+def test_an_old_index_does_not_outlive_its_shapefile(gis, tmp_path, out):
+    """Nor does its reference system."""
+    a = write(tmp_path / "a.gpkg", [SQUARE], srs=None)
     write(tmp_path / "out.shp", parcels(3, 3))
     gdal.OpenEx("out.shp", gdal.OF_UPDATE | gdal.OF_VECTOR).ExecuteSQL("CREATE SPATIAL INDEX ON out")
-    assert Path("out.qix").exists()
-    assert gis("run", "union", a, a, "-o", "out.shp", "--overwrite").status == 0
-    assert not Path("out.qix").exists() and [shape.area for shape, _ in read("out.shp")] == [100]
+    assert Path("out.qix").exists() and Path("out.prj").exists()
+    assert gis("run", "union", a, a, "-o", out, "--overwrite").status == 0
+    assert not Path("out.qix").exists() and not Path("out.prj").exists() and [shape.area for shape, _ in read("out.shp")] == [100]
 
 
 def test_a_linked_output_is_written_where_the_link_leads(gis, tmp_path):

@@ -90,6 +90,39 @@ def test_what_is_refused(gis, plan, tmp_path):
     assert answer.status == 3 and "out.shp: only a GeoPackage takes several layers" in answer.err
 
 
+VIRTUAL = '<OGRVRTDataSource><OGRVRTLayer name="plan"><SrcDataSource relativeToVRT="1">plan.gpkg</SrcDataSource></OGRVRTLayer></OGRVRTDataSource>'
+
+
+@pytest.mark.parametrize("source", ["GPKG:plan.gpkg:plan|layername=plan", "GPKG:{folder}/plan.gpkg:plan|layername=plan", "plan.vrt"])
+def test_a_layer_that_is_read_by_another_name_is_not_replaced(gis, plan, tmp_path, source):
+    """Another layer may be put beside it."""
+    (tmp_path / "plan.vrt").write_text(VIRTUAL)
+    before, source = Path(plan).read_bytes(), source.format(folder=tmp_path)
+    answer = gis("dissolve", source, "-o", plan, "--layer", "plan", "--overwrite")
+    assert answer.status == 3 and answer.err == "overlay-gis: plan.gpkg|layername=plan: is an input, or a part of one\n", answer.err
+    assert Path(plan).read_bytes() == before
+    assert gis("dissolve", source, "-o", plan, "--layer", "c", "--append").status == 0
+
+
+def test_a_layer_that_a_view_reads_is_not_replaced(gis, plan):
+    with sqlite3.connect(plan) as held:
+        held.execute("create view seen as select fid as OGC_FID, geom from plan where fid > 0")
+        held.execute(
+            "insert into gpkg_contents select 'seen', data_type, 'seen', description, last_change, min_x, min_y, max_x, max_y, srs_id"
+            " from gpkg_contents where table_name = 'plan'"
+        )
+        held.execute(
+            "insert into gpkg_geometry_columns select 'seen', column_name, geometry_type_name, srs_id, z, m"
+            " from gpkg_geometry_columns where table_name = 'plan'"
+        )
+    held.close()
+    before = Path(plan).read_bytes()
+    answer = gis("dissolve", f"{plan}|layername=seen", "-o", plan, "--layer", "plan", "--overwrite")
+    assert answer.status == 3 and answer.err == "overlay-gis: plan.gpkg|layername=plan: is an input, or a part of one\n", answer.err
+    assert Path(plan).read_bytes() == before
+    assert gis("dissolve", f"{plan}|layername=seen", "-o", plan, "--layer", "c", "--append").status == 0
+
+
 @pytest.mark.parametrize("name", ["ortho", "Ortho", "gpkg_contents", "rtree_plan_geom"])
 def test_what_is_no_layer_is_not_replaced(gis, plan, name):
     """As a raster."""

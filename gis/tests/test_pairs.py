@@ -9,6 +9,7 @@ from osgeo import gdal, ogr
 from shapely.geometry import box
 
 from conftest import EAST, NORTH, blobs, parcels, read, write
+from overlay_gis import pairs
 from test_faces import heap
 
 
@@ -37,6 +38,20 @@ def test_pairs_in_the_output(gis, tmp_path):
     assert table("out.gpkg", "pairs") == WANTED
     dataset = gdal.OpenEx("out.gpkg")
     assert dataset.GetLayerByName("out").GetFeatureCount() == 9
+
+
+@pytest.mark.parametrize("at_a_time", [1, 50, 1 << 20])
+def test_few_pairs_are_held_at_a_time(gis, tmp_path, monkeypatch, at_a_time):
+    """Twelve strips, each a metre farther: two of them have 20 metres less their distance in common, and
+    each row has up to twelve features of both layers."""
+    a = write(tmp_path / "a.gpkg", [box(EAST + k, NORTH, EAST + k + 20, NORTH + 1) for k in range(12)])
+    held, keys_of = [], pairs.keys_of
+    monkeypatch.setattr(pairs, "AT_A_TIME", at_a_time)
+    monkeypatch.setattr(pairs, "keys_of", lambda *words: held.append(keys_of(*words)) or held[-1])
+    assert gis("faces", a, a, "-o", "out.gpkg", "--pairs", "out.gpkg", "--grid", "1").status == 0
+    common = [(i, j, 20 - abs(i - j)) for i in range(1, 13) for j in range(1, 13)]
+    assert table("out.gpkg", "pairs") == [(i, j, 2 * area, area, area / 20, area / 20) for i, j, area in common]
+    assert max(len(keys) for keys, _ in held) <= at_a_time + 12 * 12
 
 
 def test_pairs_in_a_table_of_their_own(gis, tmp_path):

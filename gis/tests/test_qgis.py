@@ -298,6 +298,39 @@ answer["memory"] = rows(run("faces", INPUT=memory, INPUT_FIELDS=["fid", "Geom"])
     assert answer["memory"] == [["1", "7", "x", 16.0]]
 
 
+def test_values_are_kept_as_qgis_shows_them(process, pyqgis, tmp_path):
+    """Milliseconds, objects and lists, bytes, numbers of 64 bits, nothing and no sign, and two fields
+    of one name but for the case."""
+    corners = [[0, 0], [4, 0], [4, 4], [0, 4], [0, 0]]
+    words = {"moment": "2024-02-29T12:34:56.789", "day": "2024-02-29", "time": "12:30:00.250", "tags": ["x", "é"], "lots": [1, 2**62 + 1]}
+    words |= {"facts": {"x": [1, None]}, "large": 2**62 + 1, "sound": True, "share": 0.1, "none": None, "empty": "", "name": "a", "Name": "b"}
+    fields = [{**words, "other": "x"}, {**words, "moment": "2024-02-29T12:34:56.250"}]
+    shapes = [{"type": "Polygon", "coordinates": [[[x + 8 * k, y] for x, y in corners]]} for k in range(2)]
+    features = [{"type": "Feature", "properties": held, "geometry": shape} for held, shape in zip(fields, shapes)]
+    (tmp_path / "a.geojson").write_text(json.dumps({"type": "FeatureCollection", "features": features}))
+    process("faces", INPUT="a.geojson", INPUT_FIELDS=list(words), OUTPUT="out.gpkg")
+    source = ogr.Open(str(tmp_path / "out.gpkg"))
+    first, second = source.GetLayer(0)
+    shown = {name: first[f"a_{name}"] for name in words if name != "Name"}
+    lists = {name: json.loads(shown.pop(name)) for name in ("tags", "lots", "facts")}
+    assert lists == {name: words[name] for name in lists}
+    assert shown == {**{name: words[name] for name in shown}, "moment": "2024/02/29 12:34:56.789", "day": "2024/02/29", "sound": 1}
+    assert first["a_Name_"] == "b" and second["a_moment"] == "2024/02/29 12:34:56.250"
+    process("dissolve", INPUT="a.geojson", FIELD=["moment", "day"], OUTPUT="days.gpkg")
+    assert [fields["features"] for _, fields in read(tmp_path / "days.gpkg")] == [1, 1]
+    assert pyqgis("""
+from qgis.PyQt.QtCore import QByteArray
+memory = QgsVectorLayer("Polygon?crs=EPSG:25832&field=raw:binary&field=name:string(3)&field=Name_:string", "m", "memory")
+made = QgsFeature(memory.fields())
+made.setGeometry(QgsGeometry.fromWkt("POLYGON ((0 0, 4 0, 4 4, 0 4, 0 0))"))
+made.setAttributes([QByteArray.fromHex(b"00ff"), "abc", None])
+memory.dataProvider().addFeatures([made])
+results = run("faces", INPUT=memory, INPUT_FIELDS=["raw", "name", "Name_"], OUTPUT="out.gpkg")
+(feature,) = QgsVectorLayer(results["OUTPUT"], "rows", "ogr").getFeatures()
+answer = [bytes(feature["a_raw"]).hex(), feature["a_name"], feature["a_Name_"] == NULL, feature.fields().field("a_name").length()]
+""") == ["00ff", "abc", True, 3]
+
+
 def test_a_system_that_was_set_in_qgis(pyqgis, layers, tmp_path):
     bare = write(tmp_path / "bare.gpkg", [square(2, 2)], srs=None)
     answer = pyqgis(f"""

@@ -10,7 +10,7 @@ import numpy as np
 import pytest
 from osgeo import gdal, ogr
 
-from conftest import COMMAND, EAST, NORTH, UTM, blobs, parcels, system, write
+from conftest import COMMAND, EAST, NORTH, UTM, blobs, parcels, read, system, write
 from overlay_gis import wkb
 from overlay_gis.arrow import Batch
 from overlay_gis.faults import Fault
@@ -118,6 +118,36 @@ def test_a_field_of_any_name_is_no_geometry(tmp_path):
     path = write(tmp_path / "a.gpkg", parcels(3, 3)[:2], fields=fields)
     seen = Source(path).survey()
     assert seen.sound.lists() == list(wanted(path)[0].values())
+
+
+TWO_COLUMNS = """<OGRVRTDataSource><OGRVRTLayer name="a"><SrcDataSource>a.csv</SrcDataSource>
+<GeometryField name="now" encoding="WKT" field="one"/><GeometryField name="before" encoding="WKT" field="two"/>
+</OGRVRTLayer></OGRVRTDataSource>"""
+
+
+@pytest.mark.parametrize("words, status", [(("dissolve",), 0), (("check",), 4)], ids=lambda words: str(words))
+def test_a_second_column_of_geometries_is_told(gis, tmp_path, words, status):
+    """The first one is taken: a square and an overlap with it of a half."""
+    squares = [f'"POLYGON (({x} 0,{x + 4} 0,{x + 4} 4,{x} 4,{x} 0))"' for x in (0, 2, 100)]
+    (tmp_path / "a.csv").write_text(f"one,two\n{squares[0]},{squares[2]}\n{squares[1]},{squares[2]}\n")
+    (tmp_path / "a.vrt").write_text(TWO_COLUMNS)
+    answer = gis(*words, "a.vrt", "-o", "out.gpkg")
+    assert answer.status == status, answer.err
+    assert "a.vrt: warning: has several columns of geometries, of which now is taken, and not before\n" in answer.err
+    assert [shape.area for shape, _ in read("out.gpkg")] == [24 if words == ("dissolve",) else 8]
+
+
+def test_geometries_that_a_virtual_layer_makes_of_fields(gis, tmp_path):
+    """Beside numbers of 64 bits, bytes and texts, none of which is taken for them."""
+    (tmp_path / "a.csv").write_text('number,text,shape\n4611686018427387905,x,"POLYGON ((0 0,4 0,4 4,0 4,0 0))"\n')
+    fields = '<Field name="raw" src="text" type="Binary"/><Field name="number" type="Integer64"/><Field name="shape"/>'
+    (tmp_path / "a.vrt").write_text(
+        '<OGRVRTDataSource><OGRVRTLayer name="a"><SrcDataSource>a.csv</SrcDataSource>'
+        f'<GeometryField encoding="WKT" field="shape"/>{fields}</OGRVRTLayer></OGRVRTDataSource>'
+    )
+    answer = gis("faces", "a.vrt", "-o", "out.gpkg", "--keep-a", "number")
+    assert answer.status == 0, answer.err
+    assert [(shape.area, row["a"], row["a_number"]) for shape, row in read("out.gpkg")] == [(16, "1", 4611686018427387905)]
 
 
 def test_a_layer_without_geometries(tmp_path):

@@ -1,13 +1,15 @@
 """Values and names for which a format has no room: none is cut, rounded or left out silently."""
 
 import json
+from array import array
 
 import pytest
 from osgeo import ogr
 from shapely.geometry import box
 
-from conftest import read, write
-from overlay_gis import read_back
+from conftest import EAST, NORTH, read, write
+from overlay_gis import output, read_back
+from overlay_gis.layers import Source
 
 
 def layer(path, *rows, apart=10):
@@ -27,6 +29,82 @@ def layer(path, *rows, apart=10):
 
 def dissolved(gis, path, out, by="kept"):
     return gis("dissolve", path, "--by", by, "-o", out, "--overwrite")
+
+
+# A corner of each digit that the grid has, in a metric system and in degrees.
+PLACES = [("EPSG:25832", "0.001", (412000.123, 5654000.457)), ("EPSG:2056", "0.0001", (2600000.1237, 1200000.4571)), ("EPSG:4258", "0.0000001", (7.1234567, 50.7654321))]
+
+
+@pytest.mark.parametrize("ending", ["tab", "mif", "gdb", "gml", "shp", "fgb", "geojson", "sqlite"])
+@pytest.mark.parametrize("srs, unit, corner", PLACES, ids=[srs for srs, _, _ in PLACES])
+def test_corners_come_out_where_they_were(gis, tmp_path, ending, srs, unit, corner):
+    """A file of MapInfo has whole numbers between bounds, of which GDAL's own are centimetres."""
+    x, y = corner
+    a = write(tmp_path / "a.gpkg", [box(x, y, x + 7 * float(unit), y + 3 * float(unit)), box(x + 1, y + 1, x + 2, y + 2)], srs)
+    answer = gis("run", "union", a, a, "-o", f"out.{ending}", "--grid", unit)
+    assert answer.status == 0, answer.err
+    found = min(shape.bounds for shape, _ in read(f"out.{ending}"))
+    assert found == pytest.approx((x, y, x + 7 * float(unit), y + 3 * float(unit)), abs=float(unit) / 100, rel=0)
+
+
+@pytest.mark.parametrize("srs, ending, told", [
+    ("EPSG:31467", "tab", "unnamed, and was EPSG:31467"),
+    ("EPSG:25832", "xml", "Transverse Mercator Earth, and was EPSG:25832"),
+    (None, "geojson", "EPSG:4326, and was no reference system"),
+    *[(None, ending, None) for ending in ("xml", "tab", "gpkg", "shp", "fgb")],
+    *[(srs, ending, None) for srs in ("EPSG:25832", "EPSG:2056", "EPSG:4326") for ending in ("gpkg", "shp", "geojson", "fgb", "gml", "sqlite")],
+])
+def test_a_system_that_a_format_has_no_room_for_is_told(gis, tmp_path, srs, ending, told):
+    corner = (7, 50) if srs == "EPSG:4326" else (2600000, 1200000)
+    a = write(tmp_path / "a.gpkg", [box(*corner, corner[0] + 1, corner[1] + 1)], srs)
+    answer = gis("run", "union", a, a, "-o", f"out.{ending}")
+    assert answer.status == 0, answer.err
+    warning = "warning: its reference system comes out as "
+    assert f"out.{ending}: {warning}{told}" in answer.err if told else warning not in answer.err, answer.err
+
+
+NO_LAYERS = {
+    "csv": "a file of this format keeps no shapes",
+    "xlsx": "a file of this format keeps no shapes",
+    **dict.fromkeys(("dxf", "dgn", "mvt", "sql", "map", "txt", "ili"), "a file of this format keeps no polygons with fields, as one of .gpkg does: "),
+}
+
+
+@pytest.mark.parametrize("ending, told", NO_LAYERS.items())
+def test_a_format_without_layers_is_refused_before_any_work(gis, tmp_path, monkeypatch, ending, told):
+    a = write(tmp_path / "a.gpkg", [box(EAST, NORTH, EAST + 1, NORTH + 1)])
+    monkeypatch.setattr(Source, "survey", lambda *_: pytest.fail("a layer is read"))
+    answer = gis("run", "union", a, a, "-o", f"out.{ending}")
+    assert answer.status == 3 and answer.err.startswith(f"overlay-gis: out.{ending}: {told}"), answer.err
+    assert len(answer.err.splitlines()) == 1 and not list(tmp_path.glob("out*"))
+
+
+def test_shapes_that_come_out_elsewhere_are_told(gis, tmp_path, monkeypatch):
+    a = write(tmp_path / "a.gpkg", [box(EAST, NORTH, EAST + 1, NORTH + 1), box(EAST + 2.003, NORTH, EAST + 3, NORTH + 1)])
+    monkeypatch.setattr(output, "bounds", lambda *_: ())
+    answer = gis("run", "union", a, a, "-o", "out.tab")
+    told = "from its place: a GeoPackage, whose name ends in .gpkg, has room for it"
+    assert answer.status == 1 and "out.tab: the shape in row number " in answer.err and told in answer.err, answer.err
+    assert not list(tmp_path.glob("out*"))
+
+
+def test_shapes_are_compared_however_a_driver_has_put_the_rows():
+    source = ogr.GetDriverByName("Memory").CreateDataSource("")
+    layer = source.CreateLayer("a")
+    for shape in (box(0, 0, 1, 1), box(5, 5, 6, 6), None):
+        feature = ogr.Feature(layer.GetLayerDefn())
+        feature.SetGeometry(ogr.CreateGeometryFromWkb(shape.wkb) if shape else None)
+        layer.CreateFeature(feature)
+    none, first, second = [float("nan")] * 4, [0, 1, 0, 1], [5, 6, 5, 6]
+
+    def told(*rows):
+        boxes = array("d", [side for row in rows for side in row])
+        return read_back.shape_difference(layer, read_back.Written(len(rows), boxes=boxes), 1.0)
+
+    assert told(first, second, none) is None and told(none, first, second) is None
+    assert told(first, [5, 6, 5, 6.009], none) is None
+    assert told(first, [5, 6, 5, 6.25], none) == "the shape in row number 2 comes out 0.25 from its place"
+    assert told(first, second, first) == "the shape in row number 3 comes out as nothing"
 
 
 # What a file of each ending has no room for, and how that is told.

@@ -219,6 +219,30 @@ def test_systems_have_to_be_one(gis, tmp_path):
     assert gis("run", "union", a, c, "-o", "out.gpkg", "--system", "EPSG:25832").status == 0
 
 
+def test_a_system_that_would_be_passed_over_is_refused(gis, tmp_path):
+    a = write(tmp_path / "a.gpkg", [box(EAST, NORTH, EAST + 4, NORTH + 4)])
+    for words in (("run", "union", a, a), ("faces", a), ("dissolve", a), ("check", a), ("to-grid", a)):
+        answer = gis(*words, "-o", "out.gpkg" if words[0] != "to-grid" else "grid", "--system", "EPSG:4326")
+        told = f"--system EPSG:4326: {a} has EPSG:25832, and the option is for layers that name none"
+        assert answer.status == 3 and answer.err == f"overlay-gis: {told}\n", answer.err
+    assert gis("dissolve", a, "-o", "out.gpkg", "--system", "EPSG:25832").status == 0
+
+
+def test_grads_are_no_degrees(gis, tmp_path):
+    a = write(tmp_path / "a.gpkg", [box(1, 50, 3, 52)], "EPSG:4807")
+    answer = gis("dissolve", a, "-o", "out.gpkg", "--grid", "0.001")
+    assert answer.status == 0 and "grid 0.001 grad, origin" in answer.err and "area 4 square grad in sum" in answer.err, answer.err
+
+
+def test_two_systems_of_one_name_are_told_apart(gis, tmp_path):
+    """A file of MapInfo tells the system of New York in feet that aren't quite those."""
+    a = write(tmp_path / "a.gpkg", [box(980000, 200000, 980004, 200004)], "EPSG:2263")
+    gdal.VectorTranslate(str(tmp_path / "b.tab"), a, format="MapInfo File")
+    answer = gis("run", "union", a, "b.tab", "-o", "out.gpkg")
+    words = f"b.tab: has another definition of EPSG:2263, and {a} has EPSG:2263: where they are one, give both the same"
+    assert answer.status == 3 and words in answer.err, answer.err
+
+
 def test_layers_of_one_file(gis, tmp_path):
     write(tmp_path / "a.gpkg", [box(EAST, NORTH, EAST + 4, NORTH + 4)])
     gdal.VectorTranslate(

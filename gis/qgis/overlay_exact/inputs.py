@@ -9,26 +9,26 @@ from __future__ import annotations
 
 import os
 import re
-from typing import NamedTuple, Sequence
+from pathlib import Path
+from typing import Any, NamedTuple, Sequence
 
+from osgeo import gdal, ogr, osr
 from qgis.core import (
+    QgsCoordinateReferenceSystem,
     QgsFeature,
     QgsFeatureRequest,
-    QgsField,
-    QgsFields,
     QgsMapLayer,
     QgsProcessingContext,
     QgsProcessingException,
     QgsProcessingFeatureSource,
     QgsProcessingFeedback,
     QgsProviderRegistry,
-    QgsVectorFileWriter,
-    QgsWkbTypes,
 )
-from qgis.PyQt.QtCore import QVariant
 
-# The columns of the GeoPackage that no field of a layer is named as.
-NUMBER, SHAPE = "overlay_exact_number", "overlay_exact_shape"
+from .columns import column_of, names_apart, put
+
+# The columns of the GeoPackage that no field of a layer is named as; no reader asks for an index.
+OPTIONS = ["FID=overlay_exact_number", "GEOMETRY_NAME=overlay_exact_shape", "SPATIAL_INDEX=NO"]
 
 # What a layer's name may have in a file's, and how much of it.
 STRANGE = re.compile(r"[^\w .-]")
@@ -61,39 +61,62 @@ class Inputs:
         os.mkdir(os.path.join(self.folder, letter))
         self.count += 1
         self.feedback.setProgressText(f"reading {source.sourceName()}")
-        self.fill(source, [place_of(field, source) for field in fields], name)
-        return Handed(letter, name, fields)
+        places = [place_of(field, source) for field in fields]
+        names = names_apart([source.fields().at(k).name() for k in places])
+        try:
+            self.fill(source, places, names, name)
+        except RuntimeError as error:  # what GDAL raises where another plugin has it raise
+            raise QgsProcessingException(f"{name}: {error}") from error
+        return Handed(letter, name, names)
 
-    def fill(self, source: QgsProcessingFeatureSource, fields: Sequence[int], name: str) -> None:
-        columns = QgsFields()
-        columns.append(QgsField(NUMBER, QVariant.LongLong))
-        for k in fields:
-            columns.append(source.fields().at(k))
-        writer = self.writer(source, columns, name)
-        request = QgsFeatureRequest().setSubsetOfAttributes(list(fields))
+    def fill(self, source: QgsProcessingFeatureSource, places: Sequence[int], names: Sequence[str], name: str) -> None:
+        dataset = ogr.GetDriverByName("GPKG").CreateDataSource(os.path.join(self.folder, name))
+        layer = made(made(dataset, name).CreateLayer(Path(name).stem, system_of(source.sourceCrs()), ogr.wkbUnknown, OPTIONS), name)
+        for k, called in zip(places, names):
+            refuse(layer.CreateField(column_of(source.fields().at(k), called)), name)
+        dataset.StartTransaction()
+        request = QgsFeatureRequest().setSubsetOfAttributes(list(places))
         total = max(source.featureCount(), 1)
         for count, feature in enumerate(source.getFeatures(request, QgsProcessingFeatureSource.FlagSkipGeometryValidityChecks)):
             if self.feedback.isCanceled():
                 break
             self.feedback.setProgress(100 * count / total)
-            made = QgsFeature(columns, feature.id())
-            made.setGeometry(feature.geometry())
-            made.setAttributes([feature.id(), *(feature.attribute(k) for k in fields)])
-            if not writer.addFeature(made):
-                raise QgsProcessingException(f"{name}: feature {feature.id()}: {writer.errorMessage()}")
-        if not writer.flushBuffer():
-            raise QgsProcessingException(f"{name}: {writer.errorMessage()}")
+            refuse(layer.CreateFeature(handed(feature, places, layer, name)), f"{name}: feature {feature.id()}")
+        refuse(dataset.CommitTransaction(), name)
 
-    def writer(self, source: QgsProcessingFeatureSource, columns: QgsFields, name: str) -> QgsVectorFileWriter:
-        options = QgsVectorFileWriter.SaveVectorOptions()
-        options.driverName = "GPKG"
-        options.layerOptions = [f"FID={NUMBER}", f"GEOMETRY_NAME={SHAPE}", "SPATIAL_INDEX=NO"]
-        writer = QgsVectorFileWriter.create(
-            os.path.join(self.folder, name), columns, QgsWkbTypes.Unknown, source.sourceCrs(), self.context.transformContext(), options
-        )
-        if writer.hasError():
-            raise QgsProcessingException(f"{name}: {writer.errorMessage()}")
-        return writer
+
+def handed(feature: QgsFeature, places: Sequence[int], layer: ogr.Layer, name: str) -> ogr.Feature:
+    """A feature of QGIS as one of a layer of the GeoPackage, with its number."""
+    held = ogr.Feature(layer.GetLayerDefn())
+    held.SetFID(feature.id())
+    if feature.hasGeometry():
+        geometry = ogr.CreateGeometryFromWkb(bytes(feature.geometry().asWkb()))
+        held.SetGeometryDirectly(made(geometry, f"{name}: feature {feature.id()}"))
+    for column, k in enumerate(places):
+        put(held, column, feature.attribute(k))
+    return held
+
+
+def system_of(system: QgsCoordinateReferenceSystem) -> osr.SpatialReference | None:
+    """A reference system of QGIS as GDAL has it, with x first; nothing where there is none."""
+    if not system.isValid():
+        return None
+    found = osr.SpatialReference()
+    found.SetFromUserInput(system.toWkt(QgsCoordinateReferenceSystem.WKT_PREFERRED_GDAL))
+    found.SetAxisMappingStrategy(osr.OAMS_TRADITIONAL_GIS_ORDER)
+    return found
+
+
+def made(what: Any, name: str) -> Any:
+    """What GDAL has made, if it has."""
+    refuse(what is None, name)
+    return what
+
+
+def refuse(status: int | bool, name: str) -> None:
+    """Tells what GDAL says, if that isn't that all is well."""
+    if status:
+        raise QgsProcessingException(f"{name}: {gdal.GetLastErrorMsg()}")
 
 
 def place_of(field: str, source: QgsProcessingFeatureSource) -> int:
