@@ -6,7 +6,7 @@ import sys
 import warnings
 from typing import Any, Callable, Dict, List, NamedTuple, Optional, Sequence, Set, Tuple, TypeVar
 
-from ._calls import CALLS, MOST_SEGMENTS, Operation, faces_of, layer_name, text_of
+from ._calls import CALLS, LONGEST, MOST_SEGMENTS, Operation, faces_of, layer_name, text_of
 from ._columns import lines_on, polygons_of
 from ._faults import Refused
 from ._grid import FINEST, FINEST_DEGREES, Frame, Origin, Unit, frame_at, frame_for, joined
@@ -105,7 +105,9 @@ def operation(call: int, a: Any, b: Any, plan: Plan) -> Any:
     if all(map(simple, layers)):
         return by_parity(call, layers, frame, plan)
     if all(layer.covered for layer in layers):
-        return by_texts(call, layers, frame, plan, covered=True)
+        texts = texts_of(layers, frame)
+        if max(map(len, texts)) <= LONGEST:
+            return by_texts(call, layers, texts, frame, plan, covered=True)
     rows = chosen_of(call, layers, frame, plan)
     if rows is None:
         return by_parity(call, layers, frame, plan)
@@ -116,13 +118,17 @@ def by_parity(call: int, layers: Sequence[Given], frame: Frame, plan: Plan) -> A
     """What an operation answers on layers that are read by parity: as columns where neither is a text."""
     first, second = (layer.held for layer in layers)
     if not (isinstance(first, Shapes) and isinstance(second, Shapes)):
-        return by_texts(call, layers, frame, plan, covered=False)
+        return by_texts(call, layers, texts_of(layers, frame), frame, plan, covered=False)
     return answer_of(answerer_of(layers), polygons_of(call, first.on_grid(frame), second.on_grid(frame), plan.side, plan.limit), frame)
 
 
-def by_texts(call: int, layers: Sequence[Given], frame: Frame, plan: Plan, covered: bool) -> Any:
+def texts_of(layers: Sequence[Given], frame: Frame) -> List[bytes]:
+    """The texts of layers on a grid."""
+    return [layer.held.text(frame) for layer in layers]
+
+
+def by_texts(call: int, layers: Sequence[Given], texts: Sequence[bytes], frame: Frame, plan: Plan, covered: bool) -> Any:
     """What an operation answers on the texts of layers, by parity or as they are covered."""
-    texts = [layer.held.text(frame) for layer in layers]
     text = asked(layers, lambda: text_of(call, texts[0], texts[1], plan.side, plan.limit, covered))
     return answerer_of(layers)(text.decode("ascii"), frame)
 
@@ -143,7 +149,7 @@ def faces_on(layers: Sequence[Given], frame: Frame, plan: Plan, numbered: bool =
     shapes = [layer.held for layer in layers if isinstance(layer.held, Shapes)]
     if len(shapes) == len(layers):
         return lines_on([held.features_on_grid(frame) for held in shapes], plan.side, plan.limit, numbered)
-    texts = [layer.held.text(frame) for layer in layers]
+    texts = texts_of(layers, frame)
     return lines_of(asked(layers, lambda: faces_of(texts, plan.side, plan.limit)))
 
 

@@ -15,6 +15,9 @@ from ._rooms import Room, given_back, taken
 SEGMENTS = 1_048_576
 MOST_SEGMENTS = 2**32 - 1
 
+# The longest text, in bytes.
+LONGEST = 268_435_456
+
 # How many layers faces may have, and how many features all rows together.
 LAYERS = 64
 IDS = 268_435_456

@@ -11,7 +11,7 @@ from decimal import Decimal
 import overlay_grid
 import pairs
 import pytest
-from overlay_grid import GeometryError, Operation, Refusal, Refused, _grid, _kinds, _shapes, _uniting
+from overlay_grid import GeometryError, Operation, Refusal, Refused, _asking, _grid, _kinds, _shapes, _uniting
 from test_overlay_grid import PROGRAM
 
 FINEST_IS = "and the finest grid with room for all layers is"
@@ -341,6 +341,16 @@ def test_lists_are_read_as_covered(seed, tmp_path):
     if any(features):
         assert asked(word, *features, grid=1) == want
         assert asked(word, *([wkb_of(multi(feature)) for feature in layer] for layer in features), grid=1) == wkb_of(want)
+
+
+@pytest.mark.parametrize("name", WORKED)
+def test_a_list_of_too_long_a_text(monkeypatch, name):
+    """Its answer is the same, by columns."""
+    squares = [wkb_of(f"MULTIPOLYGON ((({k} 0, {k + 4} 0, {k + 4} 4, {k} 4, {k} 0)))") for k in (0, 2, 9)]
+    others = [wkb_of("MULTIPOLYGON (((3 1, 10 1, 10 3, 3 3, 3 1)))"), wkb_of("MULTIPOLYGON (((5 2, 7 2, 7 6, 5 6, 5 2)))")]
+    answer = asked(name, squares, others, grid=1)
+    monkeypatch.setattr(_asking, "LONGEST", 40)
+    assert asked(name, squares, others, grid=1) == answer
 
 
 def test_a_list_whose_features_overlap_much():
