@@ -21,7 +21,7 @@ from .layers import Kind, Source, Survey, common_system
 from .messages import followed, tell
 from .rings import LEAST_RING, Gridded, opened
 from .rows import Rows
-from .surveys import numbers, warn_of_columns
+from .surveys import look_at_columns, numbers
 from .systems import area_name, unit_name
 
 EXAMPLE = "overlay-gis check parcels.gpkg -o flaws.gpkg --gap-width 0.5"
@@ -160,7 +160,7 @@ def main(arguments: Namespace) -> int:
     place = destination(arguments, [source]) if arguments.out else None
     system = common_system([source], arguments.system)
     seen = look_through(source)
-    warn_of_columns(source)
+    look_at_columns(source)
     if not seen.survey.features:
         seen.find("the layer has no features")
     frame, name = frame_of(source, seen, system, arguments), area_name(system)

@@ -65,6 +65,21 @@ def identities(source: Source) -> set[str | None]:
         return {identity(source.dataset, words) for words in (quoted(name), quoted_whole(name))}
 
 
+def systems_in(source: Source) -> list[str]:
+    """The numbers of the reference systems that a layer's geometries have, if it is one of a database
+    whose column takes any: GDAL tells the first one's as that of all."""
+    if not source.is_postgis:
+        return []
+    name, column = source.layer.GetName(), source.layer.GetGeometryColumn()
+    with blamed_on(source.name, source.path):
+        for words in (quoted(name), quoted_whole(name)):
+            of_column = f"FROM pg_attribute WHERE attrelid = to_regclass({literal(words)}) AND attname = {literal(column)}"
+            if answer(source.dataset, f"SELECT postgis_typmod_srid(atttypmod) {of_column}") == 0:
+                numbers = f"array_agg(DISTINCT ST_SRID({quoted_whole(column)}::geometry)::text)"
+                return list(answer(source.dataset, f"SELECT {numbers} FROM {words} WHERE {quoted_whole(column)} IS NOT NULL") or [])
+    return []
+
+
 def may_read_tables(source: Source) -> bool:
     """Whether a layer may be a virtual one of a table, of which GDAL doesn't tell the name."""
     if source.dataset.GetDriver().ShortName != VIRTUAL:

@@ -8,6 +8,7 @@ from typing import Sequence
 
 from osgeo import ogr
 
+from .database import systems_in
 from .faults import Refusal
 from .layers import Box, Kind, Source, Survey
 from .messages import warn
@@ -58,15 +59,20 @@ def surveyed(source: Source) -> Survey:
         warn(source.name, "the layer has no features")
     elif bare:
         warn(source.name, f"no geometry, left out: {numbers(bare)}")
-    warn_of_columns(source)
+    look_at_columns(source)
     further = coordinates_left_out(source, seen)
     if further:
         warn(source.name, f"has {further} coordinates, which are left out")
     return seen
 
 
-def warn_of_columns(source: Source) -> None:
-    """Tells of columns of geometries beside the first one, which is taken."""
+def look_at_columns(source: Source) -> None:
+    """Refuses geometries of several reference systems in one column, and tells of columns of
+    geometries beside the first one, which is taken."""
+    systems = systems_in(source)
+    if len(systems) > 1:
+        told = ", ".join(systems)
+        raise Refusal(source.name, f"has geometries of several reference systems ({told}): ST_Transform brings them into one")
     defined = source.layer.GetLayerDefn()
     taken, *others = [defined.GetGeomFieldDefn(k).GetName() for k in range(defined.GetGeomFieldCount())] or [""]
     if others:

@@ -111,6 +111,19 @@ def test_another_column_of_geometries_is_named_by_its_table(gis, server, address
     assert [[shape.area for shape, _ in read(name)] for name in ("out.gpkg", "old.gpkg")] == [[100], [64]]
 
 
+@pytest.mark.parametrize("words, status", [(("check",), 4), (("dissolve", "-o", "out.gpkg", "--overwrite"), 0)])
+def test_a_column_of_several_systems(gis, server, address, words, status):
+    server.said("create table town.lots (lot int, shape geometry); create view town.whole as select * from town.lots")
+    server.said(f"insert into town.lots values (1, 'srid=25832;{SQUARE.wkt}'), (2, null), (3, 'srid=25832;{OTHER.wkt}')")
+    for name in ("lots", "whole"):
+        assert gis(words[0], f"{address}|layername=town.{name}", *words[1:]).status == status
+    server.said(f"insert into town.lots values (4, 'srid=25833;{OTHER.wkt}')")
+    for name in ("lots", "whole"):
+        answer = gis(words[0], f"{address}|layername=town.{name}", *words[1:])
+        assert answer.status == 3, answer
+        assert "has geometries of several reference systems (25832, 25833): ST_Transform brings them into one" in answer.err
+
+
 def test_a_virtual_layer_of_a_table_is_read(gis, tmp_path, server, address):
     server.said("create table town.lots (lot bigint, raw bytea, shape geometry(polygon, 25832))")
     server.said(f"insert into town.lots values (4611686018427387905, '\\x00ff', 'srid=25832;{SQUARE.wkt}')")
