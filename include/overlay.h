@@ -1,8 +1,8 @@
 /* Overlay of polygon layers on the integer grid, from memory to memory, in C99 and C++.
  *
  * A layer is a text of POLYGON and MULTIPOLYGON geometries with whole coordinates from -268435456 to 268435456, in grid units,
- * and has at most 268435456 bytes; all layers together have at most 1048576 segments, or as many as a call says. It needs no 0
- * at its end.
+ * and has at most 268435456 bytes; all layers together have at most 1048576 segments, or as many as a call says, and each text
+ * then may have 256 bytes for each of them, up to 4294967295. It needs no 0 at its end.
  *
  * Each call runs on the calling thread alone and keeps nothing, so any number of threads may call at once. It takes memory by
  * malloc, and has let all of it go when it returns, but for what overlay_text and overlay_arrays give to the caller. All that is
@@ -54,7 +54,7 @@ enum overlay_status {
 
 /* Why an input is refused. */
 enum overlay_refusal {
-    OVERLAY_LAYER_TOO_LONG = 0,    /* more than 268435456 bytes */
+    OVERLAY_LAYER_TOO_LONG = 0,    /* more than 268435456 bytes, and than 256 for each segment of a greater limit */
     OVERLAY_SYNTAX = 1,            /* no layer text: detail is the length of its longest front that some layer text begins with */
     OVERLAY_NUMBER_RANGE = 2,      /* a coordinate is out of range: detail is the byte where the first such number begins */
     OVERLAY_SHORT_RING = 3,        /* fewer than four points: detail is the byte where the ring opens */

@@ -6,7 +6,7 @@ import sys
 import warnings
 from typing import Any, Callable, Dict, List, NamedTuple, Optional, Sequence, Set, Tuple, TypeVar
 
-from ._calls import CALLS, LONGEST, MOST_SEGMENTS, Operation, faces_of, layer_name, text_of
+from ._calls import CALLS, MOST_SEGMENTS, Operation, faces_of, layer_name, longest_of, text_of
 from ._columns import lines_on, polygons_of
 from ._faults import Refused
 from ._grid import FINEST, FINEST_DEGREES, Frame, Origin, Unit, frame_at, frame_for, joined
@@ -106,7 +106,7 @@ def operation(call: int, a: Any, b: Any, plan: Plan) -> Any:
         return by_parity(call, layers, frame, plan)
     if all(layer.covered for layer in layers):
         texts = texts_of(layers, frame)
-        if max(map(len, texts)) <= LONGEST:
+        if max(map(len, texts)) <= longest_of(plan.limit):
             return by_texts(call, layers, texts, frame, plan, covered=True)
     rows = chosen_of(call, layers, frame, plan)
     if rows is None:

@@ -15,8 +15,10 @@ from ._rooms import Room, given_back, taken
 SEGMENTS = 1_048_576
 MOST_SEGMENTS = 2**32 - 1
 
-# The longest text, in bytes.
+# The longest text, in bytes: no shorter than this, and so many for each segment of the limit up to the most of all.
 LONGEST = 268_435_456
+BYTES_A_SEGMENT = 256
+MOST_BYTES = 2**32 - 1
 
 # How many layers faces may have, and how many features all rows together.
 LAYERS = 64
@@ -116,6 +118,11 @@ def limit_of(segments: SupportsIndex) -> int:
     if number < 1:
         raise ValueError("the number of segments is below 1")
     return min(number, MOST_SEGMENTS)  # two texts never have as many
+
+
+def longest_of(limit: int) -> int:
+    """How many bytes a text may have, by the most segments."""
+    return min(max(BYTES_A_SEGMENT * limit, LONGEST), MOST_BYTES)
 
 
 def fill(call: int, side: int, limit: int, a: bytes, b: bytes, covered: bool) -> Room:

@@ -349,7 +349,7 @@ def test_a_list_of_too_long_a_text(monkeypatch, name):
     squares = [wkb_of(f"MULTIPOLYGON ((({k} 0, {k + 4} 0, {k + 4} 4, {k} 4, {k} 0)))") for k in (0, 2, 9)]
     others = [wkb_of("MULTIPOLYGON (((3 1, 10 1, 10 3, 3 3, 3 1)))"), wkb_of("MULTIPOLYGON (((5 2, 7 2, 7 6, 5 6, 5 2)))")]
     answer = asked(name, squares, others, grid=1)
-    monkeypatch.setattr(_asking, "LONGEST", 40)
+    monkeypatch.setattr(_asking, "longest_of", lambda limit: 40)
     assert asked(name, squares, others, grid=1) == answer
 
 

@@ -18,18 +18,19 @@ use Rattle.results.specs.declared.text.Report.{Report}
 use Rattle.engine.specs.CoveredRuns.{DeclinesCovered, DeliversCovered, IsCoveredWritten, RunsCovered, StopsCovered, covered_limits}
 use Rattle.layers.specs.FacesRefusals.{IsFacesRefusedAt, bad_layer, bad_tile, bad_workers, too_many, too_many_ids, too_many_tiles}
 use Rattle.layers.specs.FeatureLayers.{MayRound}
+use Rattle.layers.specs.Refusals.{text_limit}
 use Rattle.results.specs.Sinks.{SinkState}
 use Rattle.engine.proofs.FacesRunning.{memory_declines}
-use Rattle.wkt.specs.Refusals.{IsRefused}
+use Rattle.wkt.specs.Refusals.{IsRefusedWithin}
 
 -- a sink that fails is nothing that an input is refused for
 never_write : (limits : FacesLimits) (plan : Plan) (texts : List (List ℕ)) (part : FacesPart) (f : FacesRefusal) → IsFacesRefusedAt limits plan texts part f → f ≢ Usual Write
 never_write limits plan texts part f (bad_tile n) e = cc
 never_write limits plan texts part f (bad_workers a n) e = cc
-never_write limits plan texts part f (bad_layer {fault = h} p b) e = own b.text (subst (λ (x : Fault). IsRefused b.text x) (let k : h ≡ Write = cc in k) b.refused)
+never_write limits plan texts part f (bad_layer {fault = h} p b) e = own (text_limit limits.segments) b.text (subst (λ (x : Fault). IsRefusedWithin (text_limit limits.segments) b.text x) (let k : h ≡ Write = cc in k) b.refused)
   where
-    own : (text : List ℕ) → IsRefused text Write → ⊥
-    own text r = r
+    own : (limit : ℕ) (text : List ℕ) → IsRefusedWithin limit text Write → ⊥
+    own limit text r = r
 never_write limits plan texts part f (too_many p layers h k) e = cc
 never_write limits plan texts part f (too_many_tiles p layers h k grid o m) e = cc
 never_write limits plan texts part f (too_many_ids layers grid r h m) e = cc

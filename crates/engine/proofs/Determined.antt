@@ -29,7 +29,7 @@ use Rattle.engine.proofs.SumsOfTiles.{one_hot, one_records}
 
 -- ---- of two texts
 pub one_layer : (text : List ℕ) (rings others : List Ring) → IsAccepted text rings → IsAccepted text others → rings ≡ others
-one_layer text rings others h k = at_most_one text rings others h.read.layer k.read.layer
+one_layer text rings others h k = at_most_one text rings others h.layer k.layer
 
 pub one_segments_of : (a b : List ℕ) (ss ts : List Seg) → AreSegmentsOf a b ss → AreSegmentsOf a b ts → ss ≡ ts
 one_segments_of a b ss ts h k = one_segments (plain k.rings_a) (plain k.rings_b) ss ts
@@ -76,8 +76,8 @@ tiles_cover limit plan a b cs report h = are_covered h.grid h.rounded.segments (
 pub one_size : {M N : Type 0} (limit limit' : ℕ) (a b : List ℕ) (plan other : Plan) (cs ds : List Counted) (report : Report M) (report' : Report N)
     → ReportsWithin limit plan a b cs report → ReportsWithin limit' other a b ds report' → HaveOneSize report report'
 one_size limit limit' a b plan other cs ds report report' h k = record {
-  segments_a = h.segments_a ∙ ap segment_count (one_layer a h.rings_a k.rings_a h.ready.accepted_a k.ready.accepted_a) ∙ sym k.segments_a;
-  segments_b = h.segments_b ∙ ap segment_count (one_layer b h.rings_b k.rings_b h.ready.accepted_b k.ready.accepted_b) ∙ sym k.segments_b;
+  segments_a = h.segments_a ∙ ap segment_count (one_layer a h.rings_a k.rings_a h.ready.accepted_a.accepted k.ready.accepted_a.accepted) ∙ sym k.segments_a;
+  segments_b = h.segments_b ∙ ap segment_count (one_layer b h.rings_b k.rings_b h.ready.accepted_b.accepted k.ready.accepted_b.accepted) ∙ sym k.segments_b;
   edges = one_counted a b h.grid k.grid cs ds h.tiles k.tiles h.rounded k.rounded (number_prop report.edges report'.edges)
       (λ e. h.edges ∙ ap length e ∙ sym k.edges);
   hot = h.told.hot_is ∙ one_hot h.grid k.grid k.rounded.segments h.tiles k.tiles numbers k.rounded.tiles_are cover (tiles_cover limit' other a b ds report' k) ∙ sym k.told.hot_is;

@@ -4,7 +4,7 @@ use Rattle.std.specs.Prelude.{◌≢◌, Result, Ok, Err, MatchResult}
 use Rattle.geom.specs.declared.fault.Fault.{Fault}
 use Rattle.geom.specs.declared.fault.Fault.TheVariants.{LayerLong, Syntax, NumberRange, RingShort, RingOpen, TooManySegments, BadTile, BadWorkers, TooManyTiles, NotNoded, Memory, Write}
 use Rattle.grid.specs.Tiles.{tile_count}
-use Rattle.wkt.specs.Refusals.{IsRefused}
+use Rattle.wkt.specs.Refusals.{IsRefusedWithin}
 use Rattle.layers.specs.declared.plan.Plan.{Plan}
 use Rattle.layers.specs.declared.faces_fault.FacesFault.{FacesFault}
 use Rattle.layers.specs.declared.faces_fault.FacesPart.{FacesPart}
@@ -18,30 +18,30 @@ use Rattle.engine.specs.Faces.{AreFacesWritten, DeclinesFaces, DeliversFaces, Ru
 use Rattle.layers.specs.FacesRefusals.{IsFacesRefusedAt, bad_layer, bad_tile, bad_workers, too_many, too_many_ids, too_many_tiles}
 use Rattle.layers.specs.FeatureSegments.{all_steps}
 use Rattle.layers.specs.FeatureLayers.{MayRound}
-use Rattle.layers.specs.Refusals.{IsPlanFault}
+use Rattle.layers.specs.Refusals.{IsPlanFault, text_limit}
 use Rattle.results.specs.Sinks.{SinkState}
 use Rattle.layers.proofs.PlanFaults.{faces_plan_refused}
 
 -- ---- how a call without a sink ends
 -- a fault for which no text is refused
 abbrev IsOwnFault : Fault → Type 0
-IsOwnFault fault = (text : List ℕ) → IsRefused text fault → ⊥
+IsOwnFault fault = (limit : ℕ) (text : List ℕ) → IsRefusedWithin limit text fault → ⊥
 
 module _ (limits : FacesLimits) (plan : Plan) (texts : List (List ℕ)) where
   never : (fault : Fault) → IsOwnFault fault → fault ≢ BadTile → fault ≢ BadWorkers → ((n : ℕ) → fault ≢ TooManySegments n) → ((n : ℕ) → fault ≢ TooManyTiles n)
       → (part : FacesPart) (f : FacesRefusal) → IsFacesRefusedAt limits plan texts part f → f ≢ Usual fault
   never fault own t w s g part f (bad_tile n) e = t (let k : BadTile ≡ fault = cc in sym k)
   never fault own t w s g part f (bad_workers a n) e = w (let k : BadWorkers ≡ fault = cc in sym k)
-  never fault own t w s g part f (bad_layer {fault = h} p b) e = own b.text (subst (λ (x : Fault). IsRefused b.text x) (let k : h ≡ fault = cc in k) b.refused)
+  never fault own t w s g part f (bad_layer {fault = h} p b) e = own (text_limit limits.segments) b.text (subst (λ (x : Fault). IsRefusedWithin (text_limit limits.segments) b.text x) (let k : h ≡ fault = cc in k) b.refused)
   never fault own t w s g part f (too_many p layers h k) e = s (length (all_steps layers)) (let k : TooManySegments (length (all_steps layers)) ≡ fault = cc in sym k)
   never fault own t w s g part f (too_many_tiles p layers h k grid o m) e = g (tile_count grid) (let k : TooManyTiles (tile_count grid) ≡ fault = cc in sym k)
   never fault own t w s g part f (too_many_ids layers grid r h m) e = cc
 
   never_memory : (part : FacesPart) (f : FacesRefusal) → IsFacesRefusedAt limits plan texts part f → f ≢ Usual Memory
-  never_memory = never Memory (λ text r. r) (λ e. cc) (λ e. cc) (λ n e. cc) (λ n e. cc)
+  never_memory = never Memory (λ limit text r. r) (λ e. cc) (λ e. cc) (λ n e. cc) (λ n e. cc)
 
   never_write : (part : FacesPart) (f : FacesRefusal) → IsFacesRefusedAt limits plan texts part f → f ≢ Usual Write
-  never_write = never Write (λ text r. r) (λ e. cc) (λ e. cc) (λ n e. cc) (λ n e. cc)
+  never_write = never Write (λ limit text r. r) (λ e. cc) (λ e. cc) (λ n e. cc) (λ n e. cc)
 
   pub refused_declines : (part : FacesPart) (f : FacesRefusal) → IsFacesRefusedAt limits plan texts part f → DeclinesFaces limits plan texts part f
   refused_declines part (Usual Memory) r = absurd (never_memory part (Usual Memory) r refl)

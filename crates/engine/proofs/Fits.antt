@@ -8,12 +8,13 @@ use Rattle.geom.specs.declared.point.Pt.{Pt}
 use Rattle.geom.specs.declared.rect.Rect.{Rect}
 use Rattle.grid.specs.Sides.{IsDefaultSide}
 use Rattle.wkt.specs.LayerText.{Ring}
-use Rattle.wkt.specs.Refusals.{IsAccepted, IsRefused, plain}
+use Rattle.wkt.specs.Refusals.{IsAcceptedWithin, IsRefusedWithin, plain}
 use Rattle.wkt.specs.declared.outline.Outline.{Outline}
 use Rattle.wkt.proofs.Exclusive.{not_both}
 use Rattle.engine.specs.Fitting.{IsFittingSide, IsTooFineOver}
 use Rattle.layers.specs.Grids.{AreBoundsOf, AreJointBounds, IsGridOver}
-use Rattle.layers.specs.Refusals.{HasOutline, IsRefusedAtWithin, too_many_tiles}
+use Rattle.layers.specs.Refusals.{HasOutlineWithin, IsRefusedAtWithin, greatest_text, too_many_tiles}
+use Rattle.layers.proofs.TextLimits.{accepted_at_most}
 use Rattle.layers.specs.declared.plan.Plan.{Plan}
 use Rattle.engine.proofs.Determined.{one_layer}
 use Rattle.engine.proofs.OneRefusal.{grid_over_same}
@@ -21,7 +22,7 @@ use Rattle.engine.proofs.OneRefusal.{grid_over_same}
 abbrev taken : List Ring → List Ring → List (Pt × Pt)
 taken rings_a rings_b = layer_steps (plain rings_a) ++ layer_steps (plain rings_b)
 
-pub fitting : (a b : List ℕ) (m n : Outline) (both : Option Rect) (side : ℕ) → HasOutline a m → HasOutline b n → AreJointBounds m.bounds n.bounds both
+pub fitting : (a b : List ℕ) (m n : Outline) (both : Option Rect) (side : ℕ) → HasOutlineWithin greatest_text a m → HasOutlineWithin greatest_text b n → AreJointBounds m.bounds n.bounds both
     → IsDefaultSide both side → IsFittingSide a b side
 fitting a b m n both side o q joint h = record {
   exponent = h.exponent;
@@ -38,10 +39,10 @@ fitting a b m n both side o q joint h = record {
 
     moved : (t : IsTooFineOver a b side) → AreBoundsOf (taken o.0 q.0) t.is_grid.bounds
     moved t = subst (λ (zs : List (Pt × Pt)). AreBoundsOf zs t.is_grid.bounds)
-        (ap₂ taken (one_layer a t.rings_a o.0 t.accepted_a o.1) (one_layer b t.rings_b q.0 t.accepted_b q.1)) t.is_grid.are_bounds
+        (ap₂ taken (one_layer a t.rings_a o.0 t.accepted_a.accepted o.1.accepted) (one_layer b t.rings_b q.0 t.accepted_b.accepted q.1.accepted)) t.is_grid.are_bounds
 
-never_both : (text : List ℕ) (rings : List Ring) (f : Fault) → IsAccepted text rings → IsRefused text f → ⊥
-never_both text rings f h r = not_both text (plain rings) f (rings, h, refl) r
+never_both : (text : List ℕ) (rings : List Ring) (f : Fault) → IsAcceptedWithin greatest_text text rings → IsRefusedWithin greatest_text text f → ⊥
+never_both text rings f h r = not_both greatest_text text (plain rings) f h.short (rings, h.accepted, refl) r
 
 plain_side : (a b : List ℕ) → ((side : ℕ) → ¬ IsTooFineOver a b side) → IsFittingSide a b 262_144
 plain_side a b never = record {
@@ -53,10 +54,10 @@ plain_side a b never = record {
   least = λ k low high. absurd (omega (arith, low, high));
 }
 
-pub fitting_refused_a : (a b : List ℕ) (f : Fault) → IsRefused a f → IsFittingSide a b 262_144
+pub fitting_refused_a : (a b : List ℕ) (f : Fault) → IsRefusedWithin greatest_text a f → IsFittingSide a b 262_144
 fitting_refused_a a b f r = plain_side a b (λ side t. never_both a t.rings_a f t.accepted_a r)
 
-pub fitting_refused_b : (a b : List ℕ) (f : Fault) → IsRefused b f → IsFittingSide a b 262_144
+pub fitting_refused_b : (a b : List ℕ) (f : Fault) → IsRefusedWithin greatest_text b f → IsFittingSide a b 262_144
 fitting_refused_b a b f r = plain_side a b (λ side t. never_both b t.rings_b f t.accepted_b r)
 
 -- a plan with a fitting side isn't refused for its tiles
@@ -65,5 +66,5 @@ never_too_fine a b side h limit plan e count r = go (TooManyTiles count) refl r
   where
     go : (f : Fault) → f ≡ TooManyTiles count → IsRefusedAtWithin limit plan a b Run f → ⊥
     go f s (too_many_tiles p rings_a rings_b acc_a acc_b few grid is_grid many) =
-        h.few (record { rings_a = rings_a; rings_b = rings_b; accepted_a = acc_a; accepted_b = acc_b; grid = grid; is_grid = subst (λ (k : ℕ). IsGridOver rings_a rings_b k grid) e is_grid; many = many })
+        h.few (record { rings_a = rings_a; rings_b = rings_b; accepted_a = accepted_at_most limit a rings_a acc_a; accepted_b = accepted_at_most limit b rings_b acc_b; grid = grid; is_grid = subst (λ (k : ℕ). IsGridOver rings_a rings_b k grid) e is_grid; many = many })
     go f s r = cc

@@ -64,24 +64,24 @@ number_prop m n = hlevel props
 -- ---- what was checked holds of the rings that are read
 module _ (limit : ℕ) (plan : Plan) (a b : List ℕ) (m n : ℕ) (g : Tiling) (known : ∥ IsCheckedWithin limit plan a b m n g ∥₁) (segments : List Seg) (s : AreSegmentsOf a b segments) where
   at : IsCheckedWithin limit plan a b m n g → IsReadyWithin limit plan a b s.rings_a s.rings_b g
-  at k = subst (λ (x : List Ring). IsReadyWithin limit plan a b x s.rings_b g) (one_layer a k.rings_a s.rings_a k.ready.accepted_a s.accepted_a)
-      (subst (λ (y : List Ring). IsReadyWithin limit plan a b k.rings_a y g) (one_layer b k.rings_b s.rings_b k.ready.accepted_b s.accepted_b) k.ready)
+  at k = subst (λ (x : List Ring). IsReadyWithin limit plan a b x s.rings_b g) (one_layer a k.rings_a s.rings_a k.ready.accepted_a.accepted s.accepted_a)
+      (subst (λ (y : List Ring). IsReadyWithin limit plan a b k.rings_a y g) (one_layer b k.rings_b s.rings_b k.ready.accepted_b.accepted s.accepted_b) k.ready)
 
   pub ready_of : IsReadyWithin limit plan a b s.rings_a s.rings_b g
   ready_of = record {
     planned = ∥∥₁_elim known (plan_prop plan) (λ k. k.ready.planned);
-    accepted_a = s.accepted_a;
-    accepted_b = s.accepted_b;
+    accepted_a = record { short = ∥∥₁_elim known (le_prop _ _) (λ k. k.ready.accepted_a.short); accepted = s.accepted_a };
+    accepted_b = record { short = ∥∥₁_elim known (le_prop _ _) (λ k. k.ready.accepted_b.short); accepted = s.accepted_b };
     few = ∥∥₁_elim known (le_prop _ _) (λ k. (at k).few);
     is_grid = ∥∥₁_elim known (grid_prop s.rings_a s.rings_b plan.side g) (λ k. (at k).is_grid);
     few_tiles = ∥∥₁_elim known (le_prop _ _) (λ k. k.ready.few_tiles);
   }
 
   pub count_a : m ≡ segment_count s.rings_a
-  count_a = ∥∥₁_elim known (number_prop _ _) (λ k. k.count_a ∙ ap segment_count (one_layer a k.rings_a s.rings_a k.ready.accepted_a s.accepted_a))
+  count_a = ∥∥₁_elim known (number_prop _ _) (λ k. k.count_a ∙ ap segment_count (one_layer a k.rings_a s.rings_a k.ready.accepted_a.accepted s.accepted_a))
 
   pub count_b : n ≡ segment_count s.rings_b
-  count_b = ∥∥₁_elim known (number_prop _ _) (λ k. k.count_b ∙ ap segment_count (one_layer b k.rings_b s.rings_b k.ready.accepted_b s.accepted_b))
+  count_b = ∥∥₁_elim known (number_prop _ _) (λ k. k.count_b ∙ ap segment_count (one_layer b k.rings_b s.rings_b k.ready.accepted_b.accepted s.accepted_b))
 
 -- the report of a run, from the numbers of its parts
 pub reported : {M : Type 0} (limit : ℕ) (plan : Plan) (a b : List ℕ) (m n : ℕ) (grid : Tiling) (counted : List Counted) (tiles : List TileNumbers) (report : Report M)

@@ -36,6 +36,7 @@ module _ (limit : ℕ) (plan : Plan) (texts : List (List ℕ)) (n : ℕ) (g : Ti
   pub layers_ready : AreReady limit plan texts layers g
   layers_ready = record {
     planned = ∥∥₁_elim known (plan_prop plan) (λ k. k.1.planned);
+    short = λ j d below. ∥∥₁_elim known (le_prop _ _) (λ k. k.1.short j d below);
     stand = stand;
     few = ∥∥₁_elim known (le_prop _ _) (λ k. (at k).few);
     is_grid = ∥∥₁_elim known (grid_prop layers plan.side g) (λ k. (at k).is_grid);

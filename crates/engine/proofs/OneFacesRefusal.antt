@@ -2,13 +2,15 @@
 use Rattle.std.proofs.Common.{◌≡◌, ◌∙◌, ℕ, zero, suc, ◌<◌, ◌≤◌, List, [], ◌∷◌, length, take, get_or, refl, sym, ap, subst, arith}
 use Rattle.std.proofs.Math.Logic.{∥∥₁_elim}
 use Rattle.std.proofs.Props.{props}
+use Rattle.std.proofs.lemmas.Int.{clamps}
+use Rattle.std.proofs.lemmas.List.{get_or-take, length-take}
 use Rattle.std.proofs.lemmas.Option.{get_or_from_slice_get, slice_get_within}
 use Rattle.geom.specs.declared.fault.Fault.{Fault}
 use Rattle.geom.specs.declared.fault.Fault.TheVariants.{TooManySegments, TooManyTiles}
 use Rattle.geom.specs.declared.point.Pt.{Pt}
 use Rattle.grid.specs.Tiles.{Tiling, most_tiles, tile_count}
 use Rattle.wkt.specs.Features.{StandsForFeatures, all_rings}
-use Rattle.wkt.specs.Refusals.{IsRefused}
+use Rattle.wkt.specs.Refusals.{IsRefusedWithin}
 use Rattle.wkt.proofs.Cuts.{stands_joined}
 use Rattle.wkt.proofs.Exclusive.{not_both, same_refusal}
 use Rattle.layers.specs.declared.plan.Plan.{Plan}
@@ -21,8 +23,9 @@ use Rattle.engine.specs.declared.faces_report.FacesReport.{FacesReport}
 use Rattle.layers.specs.FeatureSegments.{all_features, all_steps}
 use Rattle.engine.specs.Faces.{AreFacesTold, AreFacesWritten, FacesRefusalIsOne, RefusedAreNotWritten, RefusedMayNotRound}
 use Rattle.layers.specs.FacesRefusals.{HaveIds, IsFacesRefusedAt, bad_layer, bad_tile, bad_workers, too_many, too_many_ids, too_many_tiles}
-use Rattle.layers.specs.FeatureLayers.{IsBadLayer, IsGridOverLayers, MayRound, StandForLayers}
+use Rattle.layers.specs.FeatureLayers.{AreReady, IsBadLayer, IsGridOverLayers, MayRound, StandForLayers, StandWithin}
 use Rattle.layers.specs.Grids.{AreBoundsOf}
+use Rattle.layers.specs.Refusals.{text_limit}
 use Rattle.engine.proofs.FaceIds.{ids_of_rows, one_ids}
 use Rattle.engine.proofs.LayersInLimit.{layers_in_limit}
 use Rattle.engine.proofs.LayersKnown.{one_list}
@@ -45,35 +48,41 @@ stands_at (t ∷ ts) [] h m k = absurd h
 stands_at (t ∷ ts) (x ∷ xs) h zero k = (x, h.0)
 stands_at (t ∷ ts) (x ∷ xs) h (suc m) k = stands_at ts xs h.1 m (omega (arith, k))
 
-refused_stands : (text : List ℕ) (f : Fault) (features : List (List (List Pt))) → IsRefused text f → StandsForFeatures text features → ⊥
-refused_stands text f features r h = not_both text (all_rings features) f (stands_joined text features h) r
+refused_stands : (limit : ℕ) (text : List ℕ) (f : Fault) (features : List (List (List Pt))) → IsRefusedWithin limit text f → length text ≤ limit → StandsForFeatures text features → ⊥
+refused_stands limit text f features r short h = not_both limit text (all_rings features) f short (stands_joined text features h) r
 
-module _ (texts : List (List ℕ)) where
-  text_at : (number : ℕ) (f : Fault) (b : IsBadLayer texts number f) → get_or texts number [] ≡ b.text
+module _ (limit : ℕ) (texts : List (List ℕ)) where
+  text_at : (number : ℕ) (f : Fault) (b : IsBadLayer limit texts number f) → get_or texts number [] ≡ b.text
   text_at number f b = get_or_from_slice_get texts number b.text [] b.is_at
 
-  there : (number : ℕ) (f : Fault) → IsBadLayer texts number f → number < length texts
+  there : (number : ℕ) (f : Fault) → IsBadLayer limit texts number f → number < length texts
   there number f b = slice_get_within texts number b.text b.is_at
 
-  bad_stands : (number : ℕ) (f : Fault) (b : IsBadLayer texts number f) → (features : List (List (List Pt))) × StandsForFeatures (get_or texts number []) features → ⊥
-  bad_stands number f b (features, h) = refused_stands b.text f features b.refused (subst (λ (t : List ℕ). StandsForFeatures t features) (text_at number f b) h)
+  bad_stands : (number : ℕ) (f : Fault) (b : IsBadLayer limit texts number f) → length (get_or texts number []) ≤ limit → (features : List (List (List Pt))) × StandsForFeatures (get_or texts number []) features → ⊥
+  bad_stands number f b short (features, h) =
+      let same = text_at number f b in
+      refused_stands limit b.text f features b.refused (subst (λ (t : List ℕ). length t ≤ limit) same short) (subst (λ (t : List ℕ). StandsForFeatures t features) same h)
 
-  bad_accepted : (number : ℕ) (f : Fault) → IsBadLayer texts number f → (layers : List (List (List (List Pt)))) → StandForLayers texts layers → ⊥
-  bad_accepted number f b layers h = bad_stands number f b (stands_at texts layers h number (there number f b))
+  bad_accepted : (number : ℕ) (f : Fault) → IsBadLayer limit texts number f → (layers : List (List (List (List Pt)))) → StandWithin limit texts layers → ⊥
+  bad_accepted number f b layers h = let here = there number f b in bad_stands number f b (h.short number [] here) (stands_at texts layers h.stand number here)
 
-  not_before : (m n : ℕ) (f g : Fault) → IsBadLayer texts m f → IsBadLayer texts n g → m < n → ⊥
-  not_before m n f g b c l = bad_stands m f b (stands_below texts n c.before c.accepted m l (there m f b))
+  not_before : (m n : ℕ) (f g : Fault) → IsBadLayer limit texts m f → IsBadLayer limit texts n g → m < n → ⊥
+  not_before m n f g b c l =
+      let here = there m f b in
+      let first : m < length (take n texts) = omega (arith, clamps, length-take n texts, l, here) in
+      let same : get_or (take n texts) m [] ≡ get_or texts m [] = get_or-take n texts m [] l in
+      bad_stands m f b (subst (λ (t : List ℕ). length t ≤ limit) same (c.accepted.short m [] first)) (stands_below texts n c.before c.accepted.stand m l here)
 
-  same_layer : (m n : ℕ) (f g : Fault) → IsBadLayer texts m f → IsBadLayer texts n g → m ≡ n
+  same_layer : (m n : ℕ) (f g : Fault) → IsBadLayer limit texts m f → IsBadLayer limit texts n g → m ≡ n
   same_layer m n f g b c =
       let below = not_before m n f g b c in
       let above = not_before n m g f c b in
       omega (arith, below, above)
 
-  same_fault : (m n : ℕ) (f g : Fault) → IsBadLayer texts m f → IsBadLayer texts n g → f ≡ g
+  same_fault : (m n : ℕ) (f g : Fault) → IsBadLayer limit texts m f → IsBadLayer limit texts n g → f ≡ g
   same_fault m n f g b c =
       let same : b.text ≡ c.text = sym (text_at m f b) ∙ ap (λ (k : ℕ). get_or texts k []) (same_layer m n f g b c) ∙ text_at n g c in
-      same_refusal c.text f g (subst (λ (t : List ℕ). IsRefused t f) same b.refused) c.refused
+      same_refusal limit c.text f g (subst (λ (t : List ℕ). IsRefusedWithin limit t f) same b.refused) c.refused
 
 -- ---- one refusal
 number_prop : (m n : ℕ) → IsProp (m ≡ n)
@@ -83,6 +92,9 @@ none_prop : IsProp ⊥
 none_prop = hlevel props
 
 module _ (limits : FacesLimits) (plan : Plan) (texts : List (List ℕ)) where
+  within : {layers : List (List (List (List Pt)))} {grid : Tiling} → AreReady limits.segments plan texts layers grid → StandWithin (text_limit limits.segments) texts layers
+  within r = record { short = r.short; stand = r.stand }
+
   counted : (x y : List (List (List (List Pt)))) → StandForLayers texts x → StandForLayers texts y → length (all_steps x) ≡ length (all_steps y)
   counted x y h k = ap (λ (ls : List (List (List (List Pt)))). length (all_steps ls)) (one_list texts x y h k)
 
@@ -112,35 +124,35 @@ module _ (limits : FacesLimits) (plan : Plan) (texts : List (List ℕ)) where
   one p q f g (bad_workers s n) (too_many_ids y t r i l) = absurd (n r.planned.workers)
   one p q f g (bad_layer s b) (bad_tile m) = absurd (m s.side)
   one p q f g (bad_layer s b) (bad_workers t m) = absurd (m s.workers)
-  one p q f g (bad_layer s b) (bad_layer t c) = (ap (λ (n : ℕ). Layer n) (same_layer texts _ _ _ _ b c), ap (λ (x : Fault). Usual x) (same_fault texts _ _ _ _ b c))
-  one p q f g (bad_layer s b) (too_many t y k l) = absurd (bad_accepted texts _ _ b y k)
-  one p q f g (bad_layer s b) (too_many_tiles t y k l i o u) = absurd (bad_accepted texts _ _ b y k)
-  one p q f g (bad_layer s b) (too_many_ids y t r i l) = absurd (bad_accepted texts _ _ b y r.stand)
+  one p q f g (bad_layer s b) (bad_layer t c) = (ap (λ (n : ℕ). Layer n) (same_layer (text_limit limits.segments) texts _ _ _ _ b c), ap (λ (x : Fault). Usual x) (same_fault (text_limit limits.segments) texts _ _ _ _ b c))
+  one p q f g (bad_layer s b) (too_many t y k l) = absurd (bad_accepted (text_limit limits.segments) texts _ _ b y k)
+  one p q f g (bad_layer s b) (too_many_tiles t y k l i o u) = absurd (bad_accepted (text_limit limits.segments) texts _ _ b y k)
+  one p q f g (bad_layer s b) (too_many_ids y t r i l) = absurd (bad_accepted (text_limit limits.segments) texts _ _ b y (within r))
   one p q f g (too_many s x h l) (bad_tile m) = absurd (m s.side)
   one p q f g (too_many s x h l) (bad_workers t m) = absurd (m s.workers)
-  one p q f g (too_many s x h l) (bad_layer t c) = absurd (bad_accepted texts _ _ c x h)
-  one p q f g (too_many s x h l) (too_many t y k m) = (refl, ap (λ (n : ℕ). Usual (TooManySegments n)) (counted x y h k))
-  one p q f g (too_many s x h l) (too_many_tiles t y k m c o u) = absurd (above limits.segments _ _ l m (counted x y h k))
-  one p q f g (too_many s x h l) (too_many_ids y t r i m) = absurd (above limits.segments _ _ l r.few (counted x y h r.stand))
+  one p q f g (too_many s x h l) (bad_layer t c) = absurd (bad_accepted (text_limit limits.segments) texts _ _ c x h)
+  one p q f g (too_many s x h l) (too_many t y k m) = (refl, ap (λ (n : ℕ). Usual (TooManySegments n)) (counted x y h.stand k.stand))
+  one p q f g (too_many s x h l) (too_many_tiles t y k m c o u) = absurd (above limits.segments _ _ l m (counted x y h.stand k.stand))
+  one p q f g (too_many s x h l) (too_many_ids y t r i m) = absurd (above limits.segments _ _ l r.few (counted x y h.stand r.stand))
   one p q f g (too_many_tiles s x h l c o u) (bad_tile m) = absurd (m s.side)
   one p q f g (too_many_tiles s x h l c o u) (bad_workers t m) = absurd (m s.workers)
-  one p q f g (too_many_tiles s x h l c o u) (bad_layer t b) = absurd (bad_accepted texts _ _ b x h)
-  one p q f g (too_many_tiles s x h l c o u) (too_many t y k m) = absurd (above limits.segments _ _ m l (counted y x k h))
-  one p q f g (too_many_tiles s x h l c o u) (too_many_tiles t y k m d z j) = (refl, ap (λ (n : ℕ). Usual (TooManyTiles n)) (tiled x y h k c d o z))
-  one p q f g (too_many_tiles s x h l c o u) (too_many_ids y t r i m) = absurd (above most_tiles _ _ u r.few_tiles (tiled x y h r.stand c t o r.is_grid))
+  one p q f g (too_many_tiles s x h l c o u) (bad_layer t b) = absurd (bad_accepted (text_limit limits.segments) texts _ _ b x h)
+  one p q f g (too_many_tiles s x h l c o u) (too_many t y k m) = absurd (above limits.segments _ _ m l (counted y x k.stand h.stand))
+  one p q f g (too_many_tiles s x h l c o u) (too_many_tiles t y k m d z j) = (refl, ap (λ (n : ℕ). Usual (TooManyTiles n)) (tiled x y h.stand k.stand c d o z))
+  one p q f g (too_many_tiles s x h l c o u) (too_many_ids y t r i m) = absurd (above most_tiles _ _ u r.few_tiles (tiled x y h.stand r.stand c t o r.is_grid))
   one p q f g (too_many_ids x c r i l) (bad_tile m) = absurd (m r.planned.side)
   one p q f g (too_many_ids x c r i l) (bad_workers t m) = absurd (m r.planned.workers)
-  one p q f g (too_many_ids x c r i l) (bad_layer t b) = absurd (bad_accepted texts _ _ b x r.stand)
-  one p q f g (too_many_ids x c r i l) (too_many t y k m) = absurd (above limits.segments _ _ m r.few (counted y x k r.stand))
-  one p q f g (too_many_ids x c r i l) (too_many_tiles t y k m d o u) = absurd (above most_tiles _ _ u r.few_tiles (tiled y x k r.stand d c o r.is_grid))
+  one p q f g (too_many_ids x c r i l) (bad_layer t b) = absurd (bad_accepted (text_limit limits.segments) texts _ _ b x r.stand)
+  one p q f g (too_many_ids x c r i l) (too_many t y k m) = absurd (above limits.segments _ _ m r.few (counted y x k.stand r.stand))
+  one p q f g (too_many_ids x c r i l) (too_many_tiles t y k m d o u) = absurd (above most_tiles _ _ u r.few_tiles (tiled y x k.stand r.stand d c o r.is_grid))
   one p q f g (too_many_ids x c r i l) (too_many_ids y d t j m) = (refl, ap (λ (n : ℕ). TooManyIds n) (ids_same x y r.stand t.stand _ _ i j))
 
   not_rounded : (p : FacesPart) (f : FacesRefusal) → IsFacesRefusedAt limits plan texts p f → MayRound limits.segments plan texts → (ids : ℕ) × (p ≡ Run) × (f ≡ TooManyIds ids)
   not_rounded p f (bad_tile n) (y, g, r) = absurd (n r.planned.side)
   not_rounded p f (bad_workers s n) (y, g, r) = absurd (n r.planned.workers)
-  not_rounded p f (bad_layer s b) (y, g, r) = absurd (bad_accepted texts _ _ b y r.stand)
-  not_rounded p f (too_many s x h l) (y, g, r) = absurd (above limits.segments _ _ l r.few (counted x y h r.stand))
-  not_rounded p f (too_many_tiles s x h l c o u) (y, g, r) = absurd (above most_tiles _ _ u r.few_tiles (tiled x y h r.stand c g o r.is_grid))
+  not_rounded p f (bad_layer s b) (y, g, r) = absurd (bad_accepted (text_limit limits.segments) texts _ _ b y (within r))
+  not_rounded p f (too_many s x h l) (y, g, r) = absurd (above limits.segments _ _ l r.few (counted x y h.stand r.stand))
+  not_rounded p f (too_many_tiles s x h l c o u) (y, g, r) = absurd (above most_tiles _ _ u r.few_tiles (tiled x y h.stand r.stand c g o r.is_grid))
   not_rounded p f (too_many_ids x c r i l) may = (_, refl, refl)
 
   module _ {M : Type 0} (text : List ℕ) (report : FacesReport M) (w : AreFacesWritten limits plan texts text report) where
@@ -154,9 +166,9 @@ module _ (limits : FacesLimits) (plan : Plan) (texts : List (List ℕ)) where
     no_text : (p : FacesPart) (f : FacesRefusal) → IsFacesRefusedAt limits plan texts p f → ⊥
     no_text p f (bad_tile n) = n w.ready.planned.side
     no_text p f (bad_workers s n) = n w.ready.planned.workers
-    no_text p f (bad_layer s b) = bad_accepted texts _ _ b w.layers w.ready.stand
-    no_text p f (too_many s x h l) = above limits.segments _ _ l w.ready.few (counted x w.layers h w.ready.stand)
-    no_text p f (too_many_tiles s x h l c o u) = above most_tiles _ _ u w.ready.few_tiles (tiled x w.layers h w.ready.stand c w.grid o w.ready.is_grid)
+    no_text p f (bad_layer s b) = bad_accepted (text_limit limits.segments) texts _ _ b w.layers (within w.ready)
+    no_text p f (too_many s x h l) = above limits.segments _ _ l w.ready.few (counted x w.layers h.stand w.ready.stand)
+    no_text p f (too_many_tiles s x h l c o u) = above most_tiles _ _ u w.ready.few_tiles (tiled x w.layers h.stand w.ready.stand c w.grid o w.ready.is_grid)
     no_text p f (too_many_ids x c r i l) = ∥∥₁_elim i none_prop (λ j. ∥∥₁_elim w.faces none_prop (λ t. few x r.stand _ j t l))
 
 pub faces_refusal_is_one : FacesRefusalIsOne

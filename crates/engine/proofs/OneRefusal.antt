@@ -13,11 +13,11 @@ use Rattle.geom.proofs.Lists.{contains_in}
 use Rattle.geom.proofs.Numbers.{both_ways}
 use Rattle.grid.specs.Tiles.{IsGridOf, IsOver, Owns, Tiling, most_tiles, steps, tile_count}
 use Rattle.wkt.specs.LayerText.{Ring}
-use Rattle.wkt.specs.Refusals.{IsAccepted, IsRefused, plain}
+use Rattle.wkt.specs.Refusals.{IsAcceptedWithin, IsRefusedWithin, plain}
 use Rattle.wkt.proofs.Exclusive.{not_both, same_refusal}
 use Rattle.engine.specs.Determined.{RefusalIsOneWithin, RefusedMayNotRunWithin}
 use Rattle.layers.specs.Grids.{AreBoundsOf, IsGridOver}
-use Rattle.layers.specs.Refusals.{IsRefusedAtWithin, MayRunWithin, bad_a, bad_b, bad_tile, bad_workers, segment_count, too_many, too_many_tiles}
+use Rattle.layers.specs.Refusals.{IsRefusedAtWithin, MayRunWithin, bad_a, bad_b, bad_tile, bad_workers, segment_count, text_limit, too_many, too_many_tiles}
 use Rattle.layers.specs.declared.plan.Plan.{Plan}
 use Rattle.engine.proofs.Determined.{one_layer}
 
@@ -87,15 +87,15 @@ owns_same (Some r) (Some s) side g f taken h k o p j z w = subst (λ (t : Tiling
 
 -- ---- one refusal
 module _ (limit : ℕ) (plan : Plan) (a b : List ℕ) where
-  taken : (text : List ℕ) (rings : List Ring) (f : Fault) → IsAccepted text rings → IsRefused text f → ⊥
-  taken text rings f h r = not_both text (plain rings) f (rings, h, refl) r
+  taken : (text : List ℕ) (rings : List Ring) (f : Fault) → IsAcceptedWithin (text_limit limit) text rings → IsRefusedWithin (text_limit limit) text f → ⊥
+  taken text rings f h r = not_both (text_limit limit) text (plain rings) f h.short (rings, h.accepted, refl) r
 
-  counted : (x y v w : List Ring) → IsAccepted a x → IsAccepted b y → IsAccepted a v → IsAccepted b w → segment_count x + segment_count y ≡ segment_count v + segment_count w
-  counted x y v w h k m n = ap₂ (λ (i j : List Ring). segment_count i + segment_count j) (one_layer a x v h m) (one_layer b y w k n)
+  counted : (x y v w : List Ring) → IsAcceptedWithin (text_limit limit) a x → IsAcceptedWithin (text_limit limit) b y → IsAcceptedWithin (text_limit limit) a v → IsAcceptedWithin (text_limit limit) b w → segment_count x + segment_count y ≡ segment_count v + segment_count w
+  counted x y v w h k m n = ap₂ (λ (i j : List Ring). segment_count i + segment_count j) (one_layer a x v h.accepted m.accepted) (one_layer b y w k.accepted n.accepted)
 
-  tiled : (x y v w : List Ring) → IsAccepted a x → IsAccepted b y → IsAccepted a v → IsAccepted b w → (g f : Tiling) → IsGridOver x y plan.side g → IsGridOver v w plan.side f → tile_count g ≡ tile_count f
+  tiled : (x y v w : List Ring) → IsAcceptedWithin (text_limit limit) a x → IsAcceptedWithin (text_limit limit) b y → IsAcceptedWithin (text_limit limit) a v → IsAcceptedWithin (text_limit limit) b w → (g f : Tiling) → IsGridOver x y plan.side g → IsGridOver v w plan.side f → tile_count g ≡ tile_count f
   tiled x y v w h k m n g f o p = grid_same o.bounds p.bounds plan.side g f (layer_steps (plain v) ++ layer_steps (plain w))
-      (subst (λ (zs : List (Pt × Pt)). AreBoundsOf zs o.bounds) (ap₂ (λ (i j : List Ring). layer_steps (plain i) ++ layer_steps (plain j)) (one_layer a x v h m) (one_layer b y w k n)) o.are_bounds)
+      (subst (λ (zs : List (Pt × Pt)). AreBoundsOf zs o.bounds) (ap₂ (λ (i j : List Ring). layer_steps (plain i) ++ layer_steps (plain j)) (one_layer a x v h.accepted m.accepted) (one_layer b y w k.accepted n.accepted)) o.are_bounds)
       p.are_bounds o.is_grid p.is_grid
 
   above : (most m n : ℕ) → most < m → n ≤ most → m ≡ n → ⊥
@@ -116,14 +116,14 @@ module _ (limit : ℕ) (plan : Plan) (a b : List ℕ) where
   one p q f g (bad_workers s n) (too_many_tiles t x y h k l i o u) = absurd (n t.workers)
   one p q f g (bad_a s r) (bad_tile m) = absurd (m s.side)
   one p q f g (bad_a s r) (bad_workers t m) = absurd (m s.workers)
-  one p q f g (bad_a s r) (bad_a t i) = (refl, same_refusal a f g r i)
+  one p q f g (bad_a s r) (bad_a t i) = (refl, same_refusal (text_limit limit) a f g r i)
   one p q f g (bad_a s r) (bad_b t x h i) = absurd (taken a x f h r)
   one p q f g (bad_a s r) (too_many t x y h k l) = absurd (taken a x f h r)
   one p q f g (bad_a s r) (too_many_tiles t x y h k l i o u) = absurd (taken a x f h r)
   one p q f g (bad_b s x h r) (bad_tile m) = absurd (m s.side)
   one p q f g (bad_b s x h r) (bad_workers t m) = absurd (m s.workers)
   one p q f g (bad_b s x h r) (bad_a t i) = absurd (taken a x g h i)
-  one p q f g (bad_b s x h r) (bad_b t y k i) = (refl, same_refusal b f g r i)
+  one p q f g (bad_b s x h r) (bad_b t y k i) = (refl, same_refusal (text_limit limit) b f g r i)
   one p q f g (bad_b s x h r) (too_many t v w m k l) = absurd (taken b w f k r)
   one p q f g (bad_b s x h r) (too_many_tiles t v w m k l i o u) = absurd (taken b w f k r)
   one p q f g (too_many s x y h k l) (bad_tile m) = absurd (m s.side)

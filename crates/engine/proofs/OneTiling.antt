@@ -31,7 +31,7 @@ one_tiling M N limit limit' a b plan other cs ds report report' e h k = h.told.t
 
     bounds : AreBoundsOf taken h.ready.is_grid.bounds
     bounds = subst (λ (zs : List (Pt × Pt)). AreBoundsOf zs h.ready.is_grid.bounds)
-        (ap₂ (λ (i j : List Ring). layer_steps (plain i) ++ layer_steps (plain j)) (one_layer a h.rings_a k.rings_a h.ready.accepted_a k.ready.accepted_a) (one_layer b h.rings_b k.rings_b h.ready.accepted_b k.ready.accepted_b)) h.ready.is_grid.are_bounds
+        (ap₂ (λ (i j : List Ring). layer_steps (plain i) ++ layer_steps (plain j)) (one_layer a h.rings_a k.rings_a h.ready.accepted_a.accepted k.ready.accepted_a.accepted) (one_layer b h.rings_b k.rings_b h.ready.accepted_b.accepted k.ready.accepted_b.accepted)) h.ready.is_grid.are_bounds
 
     is_grid : IsGridOf k.ready.is_grid.bounds plan.side k.grid
     is_grid = subst (λ (side : ℕ). IsGridOf k.ready.is_grid.bounds side k.grid) (sym e) k.ready.is_grid.is_grid

@@ -72,8 +72,8 @@ module _ {M : Type 0} (limit : ℕ) (plan : Plan) (a b : List ℕ) (counted : Li
         tiles = h.tiles;
         rounded = record {
           segments = h.rounded.segments;
-          are_segments = subst (λ (p : List (List Pt)). AreSegments p (plain h.rings_b) h.rounded.segments) (one_plain a s.rings_a h.rings_a s.accepted_a h.ready.accepted_a)
-              (subst (λ (p : List (List Pt)). AreSegments (plain s.rings_a) p h.rounded.segments) (one_plain b s.rings_b h.rings_b s.accepted_b h.ready.accepted_b) s.are_segments);
+          are_segments = subst (λ (p : List (List Pt)). AreSegments p (plain h.rings_b) h.rounded.segments) (one_plain a s.rings_a h.rings_a s.accepted_a h.ready.accepted_a.accepted)
+              (subst (λ (p : List (List Pt)). AreSegments (plain s.rings_a) p h.rounded.segments) (one_plain b s.rings_b h.rings_b s.accepted_b h.ready.accepted_b.accepted) s.are_segments);
           rounded = h.rounded.rounded;
           tiles_are = h.rounded.tiles_are;
         };
@@ -83,5 +83,5 @@ module _ {M : Type 0} (limit : ℕ) (plan : Plan) (a b : List ℕ) (counted : Li
 
   pub text_reports : (x y : List (List Pt)) → StandsFor a x → StandsFor b y → ReportsOnRings limit plan x y counted report
   text_reports x y s t =
-      subst (λ (p : List (List Pt)). ReportsOnRings limit plan p y counted report) (one_plain a h.rings_a s.0 h.ready.accepted_a s.1 ∙ s.2)
-      (subst (λ (p : List (List Pt)). ReportsOnRings limit plan (plain h.rings_a) p counted report) (one_plain b h.rings_b t.0 h.ready.accepted_b t.1 ∙ t.2) on_plain)
+      subst (λ (p : List (List Pt)). ReportsOnRings limit plan p y counted report) (one_plain a h.rings_a s.0 h.ready.accepted_a.accepted s.1 ∙ s.2)
+      (subst (λ (p : List (List Pt)). ReportsOnRings limit plan (plain h.rings_a) p counted report) (one_plain b h.rings_b t.0 h.ready.accepted_b.accepted t.1 ∙ t.2) on_plain)

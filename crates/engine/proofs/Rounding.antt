@@ -63,8 +63,8 @@ some_side side h = omega (arith, h)
 
 pub covered : (limit : ℕ) (plan : Plan) (a b : List ℕ) (rings_a rings_b : List Ring) (g : Tiling) (segments : List Seg) → IsReadyWithin limit plan a b rings_a rings_b g → AreSegmentsOf a b segments → HaveTiles g segments
 covered limit plan a b rings_a rings_b g segments h s =
-    let x = one_plain a s.rings_a rings_a s.accepted_a h.accepted_a in
-    let y = one_plain b s.rings_b rings_b s.accepted_b h.accepted_b in
+    let x = one_plain a s.rings_a rings_a s.accepted_a h.accepted_a.accepted in
+    let y = one_plain b s.rings_b rings_b s.accepted_b h.accepted_b.accepted in
     have_tiles h.is_grid.bounds g segments (grid_covers h.is_grid.bounds plan.side g (some_side plan.side h.planned.side.0) h.is_grid.is_grid) (bounds_hold (plain rings_a) (plain rings_b) segments
     (subst (λ (p : List (List Pt)). AreSegments p (plain rings_b) segments) x (subst (λ (p : List (List Pt)). AreSegments (plain s.rings_a) p segments) y s.are_segments))
     h.is_grid.bounds h.is_grid.are_bounds)

@@ -19,9 +19,9 @@ use Rattle.grid.specs.Tiles.{Tiling}
 use Rattle.linking.specs.declared.rounded.TileNumbers.{TileNumbers}
 use Rattle.engine.specs.Rounds.{AreRoundedOver, IsRemade, TellsTiles}
 use Rattle.engine.proofs.Known.{reported}
-use Rattle.layers.specs.Refusals.{IsCheckedWithin, IsRefusedAtWithin, MayRunWithin, bad_a, bad_b, bad_tile, bad_workers, too_many, too_many_tiles}
+use Rattle.layers.specs.Refusals.{IsCheckedWithin, IsRefusedAtWithin, MayRunWithin, bad_a, bad_b, bad_tile, bad_workers, text_limit, too_many, too_many_tiles}
 use Rattle.engine.specs.Runs.{DeclinesWithin, Delivers, ReportsWithin, RunsWithin, StopsWithin}
-use Rattle.wkt.specs.Refusals.{IsRefused}
+use Rattle.wkt.specs.Refusals.{IsRefusedWithin}
 use Rattle.results.specs.Results.{IsWantedText}
 use Rattle.engine.specs.Results.{IsWrittenWithin}
 
@@ -65,16 +65,16 @@ memory_declines limit plan a b part f may is = subst (λ (fault : Fault). Declin
 never_memory : (limit : ℕ) (plan : Plan) (a b : List ℕ) (part : Part) (f : Fault) → IsRefusedAtWithin limit plan a b part f → f ≡ Memory → ⊥
 never_memory limit plan a b part f (bad_tile n) e = cc
 never_memory limit plan a b part f (bad_workers s n) e = cc
-never_memory limit plan a b part f (bad_a p r) e = subst (λ (t : Fault). IsRefused a t) e r
-never_memory limit plan a b part f (bad_b p x h r) e = subst (λ (t : Fault). IsRefused b t) e r
+never_memory limit plan a b part f (bad_a p r) e = subst (λ (t : Fault). IsRefusedWithin (text_limit limit) a t) e r
+never_memory limit plan a b part f (bad_b p x h r) e = subst (λ (t : Fault). IsRefusedWithin (text_limit limit) b t) e r
 never_memory limit plan a b part f (too_many p x y h k l) e = cc
 never_memory limit plan a b part f (too_many_tiles p x y h k l g i m) e = cc
 
 never_write : (limit : ℕ) (plan : Plan) (a b : List ℕ) (part : Part) (f : Fault) → IsRefusedAtWithin limit plan a b part f → f ≡ Write → ⊥
 never_write limit plan a b part f (bad_tile n) e = cc
 never_write limit plan a b part f (bad_workers s n) e = cc
-never_write limit plan a b part f (bad_a p r) e = subst (λ (t : Fault). IsRefused a t) e r
-never_write limit plan a b part f (bad_b p x h r) e = subst (λ (t : Fault). IsRefused b t) e r
+never_write limit plan a b part f (bad_a p r) e = subst (λ (t : Fault). IsRefusedWithin (text_limit limit) a t) e r
+never_write limit plan a b part f (bad_b p x h r) e = subst (λ (t : Fault). IsRefusedWithin (text_limit limit) b t) e r
 never_write limit plan a b part f (too_many p x y h k l) e = cc
 never_write limit plan a b part f (too_many_tiles p x y h k l g i m) e = cc
 

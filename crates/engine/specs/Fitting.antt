@@ -2,19 +2,20 @@
 use Rattle.std.specs.Prelude.{◌≡◌, ◌^◌, ◌<◌, ◌≤◌, ℕ, List}
 use Rattle.grid.specs.Tiles.{IsSide, Tiling, most_tiles, tile_count}
 use Rattle.wkt.specs.LayerText.{Ring}
-use Rattle.wkt.specs.Refusals.{IsAccepted}
+use Rattle.wkt.specs.Refusals.{IsAcceptedWithin}
 use Rattle.geom.specs.declared.point.Pt.{Pt}
 use Rattle.columns.specs.declared.layout.Columns.{Columns}
 use Rattle.layers.specs.ColumnsRefusals.{AreBothAccepted, rings_of}
-use Rattle.layers.specs.FeatureLayers.{IsGridOverLayers, StandForLayers}
+use Rattle.layers.specs.FeatureLayers.{IsGridOverLayers, StandWithin}
 use Rattle.layers.specs.Grids.{IsGridOver, IsGridOverRings}
+use Rattle.layers.specs.Refusals.{greatest_text}
 
 -- the layers are accepted, and this side gives more tiles over them than there may be
 pub record IsTooFineOver (a b : List ℕ) (side : ℕ) : Type 0 where
   pub rings_a : List Ring
   pub rings_b : List Ring
-  pub accepted_a : IsAccepted a rings_a
-  pub accepted_b : IsAccepted b rings_b
+  pub accepted_a : IsAcceptedWithin greatest_text a rings_a
+  pub accepted_b : IsAcceptedWithin greatest_text b rings_b
   pub grid : Tiling
   pub is_grid : IsGridOver rings_a rings_b side grid
   pub many : most_tiles < tile_count grid
@@ -31,7 +32,7 @@ pub record IsFittingSide (a b : List ℕ) (side : ℕ) : Type 0 where
 -- the layers are accepted, and this side gives more tiles over them than there may be
 pub record AreTooFineOver (texts : List (List ℕ)) (side : ℕ) : Type 0 where
   pub layers : List (List (List (List Pt)))
-  pub stand : StandForLayers texts layers
+  pub stand : StandWithin greatest_text texts layers
   pub grid : Tiling
   pub is_grid : IsGridOverLayers layers side grid
   pub many : most_tiles < tile_count grid

@@ -11,7 +11,7 @@ ghost use Rattle.layers.specs.Segments.{AllInLimit};
 ghost use Rattle.engine.specs.Rounds.{AreRoundedOver};
 ghost use Rattle.engine.specs.Results.{IsResultWritten, IsResultWrittenWithin, IsWrittenWithin};
 ghost use Rattle.engine.specs.Runs.{AreEdgesWritten, AreEdgesWrittenWithin, Declines, DeclinesWithin, alone};
-ghost use Rattle.layers.specs.Refusals.{IsReading};
+ghost use Rattle.layers.specs.Refusals.{HasOwnRings};
 
 use crate::cells::{bins_of, cells_of};
 use crate::engine::{Output, or_fault, report_for};
@@ -99,8 +99,8 @@ fn made_alone<A: Allocator + Copy>(
 {
     let plan = Plan { side, workers: 1 };
     check_plan(plan)?;
-    let read_a = read_one(alloc, a);
-    let read_b = read_one(alloc, b);
+    let read_a = read_one(alloc, limits, a);
+    let read_b = read_one(alloc, limits, b);
     match check(a, b, plan, limits, &read_a, &read_b) {
         Ok(checked) => or_fault(by_one(alloc, wanted, &checked, read_a, read_b)),
         Err(fault) => Err(fault),
@@ -115,8 +115,8 @@ fn by_one<A: Allocator + Copy>(
     read_a: Reading<A>,
     read_b: Reading<A>,
 ) -> Result<Output<A>, NoMemory>
-    requires read_a { IsReading checked.now.a.now read_a }
-    requires read_b { IsReading checked.now.b.now read_b }
+    requires read_a { HasOwnRings checked.now.a.now read_a }
+    requires read_b { HasOwnRings checked.now.b.now read_b }
     ensures written { IfOk result (λ m. IsWrittenWithin checked.now.limits.segments wanted checked.now.plan checked.now.a.now checked.now.b.now m.text.items m.report) }
     ensures none_remade { IfOk result (λ m. m.report.remade ≡ 0) }
 {
@@ -133,8 +133,8 @@ fn rounded_alone<A: Allocator + Copy>(
     read_a: Reading<A>,
     read_b: Reading<A>,
 ) -> Result<Noded<A>, NoMemory>
-    requires read_a { IsReading checked.now.a.now read_a }
-    requires read_b { IsReading checked.now.b.now read_b }
+    requires read_a { HasOwnRings checked.now.a.now read_a }
+    requires read_b { HasOwnRings checked.now.b.now read_b }
     ensures rounded { IfOk result (λ n. AreRoundedOver checked.now.a.now checked.now.b.now checked.now.grid n.edges.items n.tiles.items) }
     ensures layers { IfOk result (λ n. ∥ AreLayers n.edges.items ∥₁) }
     ensures none_remade { IfOk result (λ n. n.remade ≡ 0) }

@@ -35,7 +35,7 @@ pub fn run_covered_alone_within<A: Allocator + Copy>(
         return Err(FacesFault::of_run(fault));
     }
     let layers = [a, b];
-    let read = read_layers_alone(alloc, &layers)?;
+    let read = read_layers_alone(alloc, limits_of(limits), &layers)?;
     let checked = match check_layers(&layers, plan, limits_of(limits), &read) {
         Ok(checked) => checked,
         Err(fault) => return Err(fault),

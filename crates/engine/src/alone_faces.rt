@@ -44,7 +44,7 @@ pub fn faces_alone<A: Allocator + Copy>(
     if let Some(fault) = plan_fault(plan) {
         return Err(FacesFault::of_run(fault));
     }
-    let read = read_layers_alone(alloc, layers)?;
+    let read = read_layers_alone(alloc, limits, layers)?;
     let checked = match check_layers(layers, plan, limits, &read) {
         Ok(checked) => checked,
         Err(fault) => return Err(fault),

@@ -54,7 +54,8 @@ pub fn edges<A: Allocator + Copy + Send + Sync, G: Gate + Sync, S: Sink, R: Thre
     edges_within(rt, alloc, a, b, plan, Limits::default(), gate, sink)
 }
 
-/// The same within a limit of segments that is given: too many are more than that.
+/// The same within a limit of segments that is given: too many are more than that, and a layer text may have 256 bytes for each of them
+/// (`layers::text_limit`).
 pub fn edges_within<
     A: Allocator + Copy + Send + Sync,
     G: Gate + Sync,
@@ -96,7 +97,8 @@ pub fn run<A: Allocator + Copy + Send + Sync, G: Gate + Sync, S: Sink, R: Thread
     run_within(rt, alloc, op, a, b, plan, Limits::default(), gate, sink)
 }
 
-/// The same within a limit of segments that is given: too many are more than that.
+/// The same within a limit of segments that is given: too many are more than that, and a layer text may have 256 bytes for each of them
+/// (`layers::text_limit`).
 pub fn run_within<
     A: Allocator + Copy + Send + Sync,
     G: Gate + Sync,
@@ -134,7 +136,7 @@ fn made<A: Allocator + Copy + Send + Sync, G: Gate + Sync, R: Threads + Wait + S
     ensures { MatchResult result (λ m. IsWrittenWithin limits.segments wanted plan a.now b.now m.text m.report) (λ f. DeclinesWithin limits.segments plan a.now b.now f.at f.fault) }
 {
     check_plan(plan)?;
-    let (read_a, read_b) = read_both(rt, alloc, plan.workers, a, b);
+    let (read_a, read_b) = read_both(rt, alloc, limits, plan.workers, a, b);
     let checked = match check(a, b, plan, limits, &read_a, &read_b) {
         Ok(checked) => checked,
         Err(fault) => return Err(fault),

@@ -99,7 +99,7 @@ fn made_faces<A: Allocator + Copy + Send + Sync, G: Gate + Sync, R: Threads + Wa
     if let Some(fault) = plan_fault(plan) {
         return Err(FacesFault::of_run(fault));
     }
-    let read = read_layers(rt, alloc, plan.workers, layers)?;
+    let read = read_layers(rt, alloc, limits, plan.workers, layers)?;
     let checked = match check_layers(layers, plan, limits, &read) {
         Ok(checked) => checked,
         Err(fault) => return Err(fault),

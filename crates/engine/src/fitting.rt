@@ -2,17 +2,17 @@
 
 ghost use Rattle.std.specs.Prelude.{ℕ, ◌≡◌, IfOk, MatchResult, map};
 ghost use Rattle.grid.specs.Tiles.{AreBounds};
-ghost use Rattle.wkt.specs.Refusals.{IsRefused};
+ghost use Rattle.wkt.specs.Refusals.{IsRefusedWithin};
 ghost use Rattle.layers.specs.ColumnsRefusals.{AreColumnsRefused};
 ghost use Rattle.layers.specs.FacesRefusals.{IsFacesRefusedAt};
 ghost use Rattle.engine.specs.Fitting.{IsFittingSide, IsFittingSideOfColumns, IsFittingSideOver};
-ghost use Rattle.layers.specs.Refusals.{HasOutline, IsRefusedAtWithin};
+ghost use Rattle.layers.specs.Refusals.{HasOutlineWithin, IsRefusedAtWithin, greatest_text};
 
 use columns::{Columns, survey};
 use geom::{Fault, Part};
 use grid::{DEFAULT_SIDE, default_side};
 use layers::{ColumnsRefused, FacesLimits, FacesPart, FacesRefusal, Plan, joint_bounds};
-use wkt::{Outline, check_layer};
+use wkt::{Outline, check_layer_within};
 
 /// The side of a tile over two layers, in grid units, where none is given: 262,144, or where that gives too many tiles, the
 /// least power of two that doesn't. So no plan with this side is refused for its tiles, whatever the limit
@@ -53,10 +53,10 @@ pub fn fitting_side_of_columns(a: &Columns<'_>, b: &Columns<'_>) -> u32
     default_side(joint_bounds(first.bounds, second.bounds))
 }
 
-/// The outline of a layer text, where it isn't refused.
+/// The outline of a layer text, where it isn't refused within any limit of bytes.
 fn outline_of(text: &[u8]) -> Result<Outline, Fault>
-    ensures answer { MatchResult result (λ o. HasOutline text.now o) (λ f. IsRefused text.now f) }
+    ensures answer { MatchResult result (λ o. HasOutlineWithin greatest_text text.now o) (λ f. IsRefusedWithin greatest_text text.now f) }
     ensures in_limit { IfOk result (λ o. AreBounds o.bounds) }
 {
-    check_layer(text)
+    check_layer_within(u32::MAX, text)
 }

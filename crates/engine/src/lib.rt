@@ -55,5 +55,6 @@ pub use laws::{
 pub use layers::{
     ColumnsRefused, FacesColumnsRefused, FacesFault, FacesLimits, FacesPart, FacesRefusal,
     LayerSize, Limits, MOST_LAYERS, Plan, faces_line, faces_status, layer_name, line, status,
+    text_limit,
 };
 pub use results::{MemSink, Report, Sink, SinkFault, report_text, result_text, write_all};

@@ -13,7 +13,7 @@ ghost use Rattle.tile_book.specs.Books.{StandInOrder};
 ghost use Rattle.engine.specs.FaceBorders.{AreRoundedBorders};
 ghost use Rattle.layers.specs.Segments.{AllInLimit};
 ghost use Rattle.engine.specs.Rounds.{AreCellBins, AreRoundedOver, IsRemade, TellsTiles};
-ghost use Rattle.layers.specs.Refusals.{IsReading};
+ghost use Rattle.layers.specs.Refusals.{HasOwnRings};
 
 use crate::cell_parts::{bins_in_parts, cells_in_parts};
 use geom::{NoMemory, Seg};
@@ -70,8 +70,8 @@ pub(crate) fn rounded_layers<
     read_b: Reading<A>,
     gate: &G,
 ) -> Result<Noded<A>, NoMemory>
-    requires read_a { IsReading checked.now.a.now read_a }
-    requires read_b { IsReading checked.now.b.now read_b }
+    requires read_a { HasOwnRings checked.now.a.now read_a }
+    requires read_b { HasOwnRings checked.now.b.now read_b }
     ensures rounded { IfOk result (λ n. AreRoundedOver checked.now.a.now checked.now.b.now checked.now.grid n.edges.items n.tiles.items) }
     ensures layers { IfOk result (λ n. ∥ AreLayers n.edges.items ∥₁) }
     ensures remade { IfOk result (λ n. IsRemade n.remade) }

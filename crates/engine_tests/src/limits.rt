@@ -2,6 +2,7 @@
 
 use engine::{
     Limits, MemSink, Plan, edges_alone_within, edges_within, run, run_alone_within, run_within,
+    text_limit,
 };
 use geom::{Fault, NoMemory, Op, RunFault};
 use std::alloc::Global;
@@ -134,4 +135,22 @@ fn takes_as_many_segments_as_the_limit_says(rt: HostRuntime) -> Result<(), Fail>
         );
     }
     Ok(())
+}
+
+/// The most segments, and the most bytes of a text then: 256 for each, but 2^28 at least and 2^32 - 1 at most.
+const TEXT_LIMITS: [(u32, u32); 7] = [
+    (0, 268_435_456),
+    (1_048_576, 268_435_456),
+    (1_048_577, 268_435_712),
+    (10_000_000, 2_560_000_000),
+    (16_777_215, 4_294_967_040),
+    (16_777_216, 4_294_967_295),
+    (4_294_967_295, 4_294_967_295),
+];
+
+#[test]
+fn limits_of_texts(rt: HostRuntime) {
+    for (segments, bytes) in TEXT_LIMITS {
+        assert!(rt; text_limit(segments) == bytes, "{segments}");
+    }
 }

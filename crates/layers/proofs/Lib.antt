@@ -9,3 +9,4 @@ pub mod PlanFaults
 pub mod LayersRefused
 pub mod RefusedColumns
 pub mod ColumnLayers
+pub mod TextLimits

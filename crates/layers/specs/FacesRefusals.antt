@@ -17,8 +17,8 @@ use Rattle.layers.specs.declared.faces_fault.FacesPart.TheVariants.{Layer, Run}
 use Rattle.layers.specs.declared.faces_fault.FacesRefusal.{FacesRefusal}
 use Rattle.layers.specs.declared.faces_fault.FacesRefusal.TheVariants.{Usual, TooManyIds}
 use Rattle.layers.specs.FeatureSegments.{all_features, all_steps}
-use Rattle.layers.specs.FeatureLayers.{AreReady, IsBadLayer, IsGridOverLayers, StandForLayers}
-use Rattle.layers.specs.Refusals.{IsCrew, IsPlan, segment_limit}
+use Rattle.layers.specs.FeatureLayers.{AreReady, IsBadLayer, IsGridOverLayers, StandWithin}
+use Rattle.layers.specs.Refusals.{IsCrew, IsPlan, segment_limit, text_limit}
 use Rattle.cover_law.specs.Rows.{IsRowEdge}
 
 -- the limits where none are given: the most segments of all layers together, and the most features of all rows together
@@ -48,10 +48,10 @@ pub record HaveIds (features : List (List (List Pt))) (ids : ℕ) : Type 0 where
 pub data IsFacesRefusedAt (limits : FacesLimits) (plan : Plan) (texts : List (List ℕ)) : FacesPart → FacesRefusal → Type 0 where
   bad_tile : ¬ IsSide plan.side → IsFacesRefusedAt limits plan texts Run (Usual BadTile)
   bad_workers : IsSide plan.side → ¬ IsCrew plan.workers → IsFacesRefusedAt limits plan texts Run (Usual BadWorkers)
-  bad_layer : {number : ℕ} → {fault : Fault} → IsPlan plan → IsBadLayer texts number fault → IsFacesRefusedAt limits plan texts (Layer number) (Usual fault)
-  too_many : IsPlan plan → (layers : List (List (List (List Pt)))) → StandForLayers texts layers → limits.segments < length (all_steps layers)
+  bad_layer : {number : ℕ} → {fault : Fault} → IsPlan plan → IsBadLayer (text_limit limits.segments) texts number fault → IsFacesRefusedAt limits plan texts (Layer number) (Usual fault)
+  too_many : IsPlan plan → (layers : List (List (List (List Pt)))) → StandWithin (text_limit limits.segments) texts layers → limits.segments < length (all_steps layers)
       → IsFacesRefusedAt limits plan texts Run (Usual (TooManySegments (length (all_steps layers))))
-  too_many_tiles : IsPlan plan → (layers : List (List (List (List Pt)))) → StandForLayers texts layers → length (all_steps layers) ≤ limits.segments
+  too_many_tiles : IsPlan plan → (layers : List (List (List (List Pt)))) → StandWithin (text_limit limits.segments) texts layers → length (all_steps layers) ≤ limits.segments
       → (grid : Tiling) → IsGridOverLayers layers plan.side grid → most_tiles < tile_count grid → IsFacesRefusedAt limits plan texts Run (Usual (TooManyTiles (tile_count grid)))
   too_many_ids : {ids : ℕ} → (layers : List (List (List (List Pt)))) → (grid : Tiling) → AreReady limits.segments plan texts layers grid → ∥ HaveIds (all_features layers) ids ∥₁
       → limits.ids < ids → IsFacesRefusedAt limits plan texts Run (TooManyIds ids)

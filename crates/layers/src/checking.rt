@@ -5,13 +5,13 @@
 //! 3. Both layers together have no more segments than the limit that is given (`check_total`).
 //! 4. The grid over both boxes has few tiles (`grid_over`).
 
-ghost use Rattle.std.specs.Prelude.{◌≡◌, ◌+◌, ◌<◌, ◌≤◌, ◌++◌, IfOk, IsTrue, List, MatchOption, MatchResult, nat_lt};
+ghost use Rattle.std.specs.Prelude.{◌≡◌, ◌+◌, ◌<◌, ◌≤◌, ◌++◌, ℕ, IfErr, IfOk, IsTrue, List, MatchOption, MatchResult, nat_lt};
 ghost use Rattle.geom.specs.declared.segment.Seg.{Seg};
 ghost use Rattle.grid.specs.Tiles.{AreBounds, BoundsHold, IsSide};
 ghost use Rattle.layers.specs.Grids.{AreJointBounds, IsTooFine, IsUsableGrid};
 ghost use Rattle.geom.specs.Fault.{number_of};
-ghost use Rattle.wkt.specs.Refusals.{IsRefused};
-ghost use Rattle.layers.specs.Refusals.{HasOutline, IsCheckedWithin, IsPlan, IsPlanFault, IsReading, IsRefusedAtWithin, IsRefusedPlan, MayRunWithin, part_of};
+ghost use Rattle.wkt.specs.Refusals.{IsRefusedWithin};
+ghost use Rattle.layers.specs.Refusals.{HasOutlineWithin, IsCheckedWithin, IsPlan, IsPlanFault, IsReading, IsRefusedAtWithin, IsRefusedPlan, MayRunWithin, part_of, text_limit};
 
 use crate::plan::{Limits, Plan};
 use geom::{Fault, Part, Rect, RunFault, Source};
@@ -46,8 +46,8 @@ pub fn check<'a, 'b, A: Allocator>(
     read_a: &Reading<A>,
     read_b: &Reading<A>,
 ) -> Result<CheckedInput<'a, 'b>, RunFault>
-    requires read_a { IsReading a.now read_a.now }
-    requires read_b { IsReading b.now read_b.now }
+    requires read_a { IsReading (text_limit limits.segments) a.now read_a.now }
+    requires read_b { IsReading (text_limit limits.segments) b.now read_b.now }
     ensures same { IfOk result (λ c. (c.plan ≡ plan) × (c.limits ≡ limits) × (c.a.now ≡ a.now) × (c.b.now ≡ b.now)) }
     ensures answer { MatchResult result (λ _. MayRunWithin limits.segments plan a.now b.now) (λ f. IsRefusedAtWithin limits.segments plan a.now b.now f.at f.fault) }
 {
@@ -99,9 +99,8 @@ fn outline_of<A: Allocator>(
     reading: &Reading<A>,
     layer: Source,
 ) -> Result<Outline, RunFault>
-    requires { IsReading text.now reading.now }
-    ensures answer { MatchResult result (λ o. HasOutline text.now o) (λ f. (f.at ≡ part_of layer) × IsRefused text.now f.fault) }
-    ensures in_limit { IfOk result (λ o. AreBounds o.bounds) }
+    requires { IfErr reading.now (λ fault. IsTrue (nat_lt (number_of fault) 5)) }
+    ensures answer { (limit : ℕ) → IsReading limit text.now reading.now → MatchResult result (λ o. HasOutlineWithin limit text.now o × AreBounds o.bounds) (λ f. (f.at ≡ part_of layer) × IsRefusedWithin limit text.now f.fault) }
 {
     match reading {
         Ok(read) => Ok(read.outline),

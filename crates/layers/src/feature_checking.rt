@@ -5,7 +5,7 @@
 
 ghost use Rattle.std.specs.Prelude.{◌≡◌, ◌<◌, ◌≤◌, IfOk, MatchResult, map};
 ghost use Rattle.grid.specs.Tiles.{AreBounds, IsSide};
-ghost use Rattle.layers.specs.Refusals.{IsPlan};
+ghost use Rattle.layers.specs.Refusals.{IsPlan, text_limit};
 ghost use Rattle.layers.specs.FacesRefusals.{IsFacesRefusedAt};
 ghost use Rattle.layers.specs.FeatureLayers.{AreCheckedLayers, AreReadLayers, IsFewTiles, MayRound, TellsManyTiles};
 
@@ -37,7 +37,7 @@ pub fn check_layers<'a, 'b, A: Allocator>(
     read: &ReadLayers<A>,
 ) -> Result<CheckedLayers<'a, 'b>, FacesFault>
     requires plan { IsPlan plan }
-    requires read { AreReadLayers (map (λ t. t.now) layers.now) read.now }
+    requires read { AreReadLayers (text_limit limits.segments) (map (λ t. t.now) layers.now) read.now }
     ensures same { IfOk result (λ c. (c.plan ≡ plan) × (c.limits ≡ limits) × (c.layers.now ≡ layers.now)) }
     ensures answer { MatchResult result (λ _. MayRound limits.segments plan (map (λ t. t.now) layers.now)) (λ f. IsFacesRefusedAt limits plan (map (λ t. t.now) layers.now) f.at f.refusal) }
 {

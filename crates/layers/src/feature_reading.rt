@@ -7,15 +7,18 @@
 ghost use Rattle.std.specs.Prelude.{◌≡◌, ◌+◌, ◌*◌, ◌≤◌, [], ◌∷◌, ◌++◌, ℕ, IfOk, IfSome, List, MatchResult, Ok, length, map};
 ghost use Rattle.wkt.specs.Features.{StandsForFeatures};
 ghost use Rattle.layers.specs.FeatureLayers.{AreFeaturesInLimit, AreReadLayers, HaveKept, IsFeatureReading, TellsBadLayer};
+ghost use Rattle.layers.specs.Refusals.{text_limit};
 
 use crate::checking::joint_bounds;
 use crate::faces_fault::{FacesFault, FacesPart, FacesRefusal};
+use crate::faces_limits::FacesLimits;
+use crate::plan::text_limit;
 use geom::{Fault, NoMemory, Rect};
 use hands::worth;
 use std::alloc::Allocator;
 use std::thread::Threads;
 use wkt::{
-    FeatureLayer, OutlinedFeatures, read_features, read_outlined_features,
+    FeatureLayer, OutlinedFeatures, read_features_within, read_outlined_features,
     read_outlined_features_in_parts,
 };
 
@@ -39,7 +42,8 @@ pub struct ReadLayers<A: Allocator> {
 impl<A: Allocator> ReadLayers<A> {
     /// No layers.
     fn none(alloc: A) -> ReadLayers<A>
-        ensures { AreReadLayers [] result }
+        ensures read { (limit : ℕ) → AreReadLayers limit [] result }
+        ensures none { result.segments ≡ 0 }
     {
         ReadLayers {
             segments: 0,
@@ -51,7 +55,7 @@ impl<A: Allocator> ReadLayers<A> {
     /// These and one more.
     fn and(self, next: OutlinedFeatures<A>) -> ReadLayers<A>
         requires { self.segments ≤ 64 * u32.MAX }
-        ensures read { (texts : List (List ℕ)) (text : List ℕ) → AreReadLayers texts self → IsFeatureReading text (Ok next) → AreReadLayers (texts ++ text ∷ []) result }
+        ensures read { (texts : List (List ℕ)) (text : List ℕ) (limit : ℕ) → AreReadLayers limit texts self → IsFeatureReading limit text (Ok next) → AreReadLayers limit (texts ++ text ∷ []) result }
         ensures few { result.segments ≤ self.segments + u32.MAX }
     {
         let ReadLayers {
@@ -82,17 +86,18 @@ fn kept_with<A: Allocator>(
     }
 }
 
-/// Layers that are accepted, or the first one that is refused.
+/// Layers that are accepted within limits, or the first one that is refused.
 pub fn read_layers_alone<A: Allocator + Copy>(
     alloc: A,
+    limits: FacesLimits,
     layers: &[&[u8]],
 ) -> Result<ReadLayers<A>, FacesFault>
     requires { length layers.now ≤ MOST_LAYERS }
-    ensures { MatchResult result (λ r. AreReadLayers (map (λ t. t.now) layers.now) r) (TellsBadLayer (map (λ t. t.now) layers.now)) }
+    ensures { MatchResult result (λ r. AreReadLayers (text_limit limits.segments) (map (λ t. t.now) layers.now) r) (TellsBadLayer (text_limit limits.segments) (map (λ t. t.now) layers.now)) }
 {
     let mut read = ReadLayers::none(alloc);
     for number in 0..layers.len() {
-        match reading_alone(alloc, layers[number]) {
+        match reading_alone(alloc, limits, layers[number]) {
             Ok(next) => read = read.and(next),
             Err(fault) => return Err(layer_fault(number as u8, fault)),
         }
@@ -101,25 +106,26 @@ pub fn read_layers_alone<A: Allocator + Copy>(
 }
 
 /// What is read of a layer text.
-fn reading_alone<A: Allocator + Copy>(alloc: A, text: &[u8]) -> FeatureReading<A>
-    ensures { IsFeatureReading text.now result }
+fn reading_alone<A: Allocator + Copy>(alloc: A, limits: FacesLimits, text: &[u8]) -> FeatureReading<A>
+    ensures { IsFeatureReading (text_limit limits.segments) text.now result }
 {
-    read_outlined_features(alloc, text)
+    read_outlined_features(alloc, text_limit(limits.segments), text)
 }
 
 /// The same as `read_layers_alone`, each in parts by so many workers.
 pub fn read_layers<A: Allocator + Copy + Send + Sync, R: Threads + Sync>(
     rt: &R,
     alloc: A,
+    limits: FacesLimits,
     workers: u32,
     layers: &[&[u8]],
 ) -> Result<ReadLayers<A>, FacesFault>
     requires { length layers.now ≤ MOST_LAYERS }
-    ensures { MatchResult result (λ r. AreReadLayers (map (λ t. t.now) layers.now) r) (TellsBadLayer (map (λ t. t.now) layers.now)) }
+    ensures { MatchResult result (λ r. AreReadLayers (text_limit limits.segments) (map (λ t. t.now) layers.now) r) (TellsBadLayer (text_limit limits.segments) (map (λ t. t.now) layers.now)) }
 {
     let mut read = ReadLayers::none(alloc);
     for number in 0..layers.len() {
-        match reading(rt, alloc, workers, layers[number]) {
+        match reading(rt, alloc, limits, workers, layers[number]) {
             Ok(next) => read = read.and(next),
             Err(fault) => return Err(layer_fault(number as u8, fault)),
         }
@@ -131,13 +137,14 @@ pub fn read_layers<A: Allocator + Copy + Send + Sync, R: Threads + Sync>(
 fn reading<A: Allocator + Copy + Send + Sync, R: Threads + Sync>(
     rt: &R,
     alloc: A,
+    limits: FacesLimits,
     workers: u32,
     text: &[u8],
 ) -> FeatureReading<A>
-    ensures { IsFeatureReading text.now result }
+    ensures { IsFeatureReading (text_limit limits.segments) text.now result }
 {
     let parts = worth::parts(workers, text.len(), worth::BYTES);
-    read_outlined_features_in_parts(rt, alloc, parts, text)
+    read_outlined_features_in_parts(rt, alloc, text_limit(limits.segments), parts, text)
 }
 
 /// What is wrong with the layer of a number.
@@ -163,7 +170,7 @@ pub fn features_of<A: Allocator + Copy>(
 {
     match kept {
         Some(layer) => Ok(layer),
-        None => match read_features(alloc, text) {
+        None => match read_features_within(alloc, u32::MAX, text) {
             Ok(layer) => Ok(layer),
             Err(_) => Err(NoMemory),
         },

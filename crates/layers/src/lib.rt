@@ -36,5 +36,5 @@ pub use fault_line::{line, status};
 pub use feature_checking::{CheckedLayers, check_layers};
 pub use feature_reading::{KeptFeatures, MOST_LAYERS, ReadLayers, read_layers, read_layers_alone};
 pub use feature_segments::{FeatureSegments, LayerSize, segments_of_texts};
-pub use plan::{Limits, Plan};
+pub use plan::{Limits, Plan, text_limit};
 pub use reading::{read_both, read_one, read_segments, read_segments_by_workers};

@@ -6,40 +6,59 @@
 
 ghost use Rattle.std.specs.Prelude.{IfOk};
 ghost use Rattle.layers.specs.Segments.{AllInLimit, AreLayerSegments, AreRingsInLimit, AreSegmentsOf};
-ghost use Rattle.layers.specs.Refusals.{IsReading};
+ghost use Rattle.layers.specs.Refusals.{HasOwnRings, IsReading, text_limit};
 ghost use Rattle.wkt.specs.Refusals.{StandsFor};
 
 use crate::checking::{CheckedInput, Reading};
+use crate::plan::{Limits, text_limit};
 use crate::segments::{layer_segments, segments_of};
 use geom::{Layer, NoMemory, Seg, Source};
 use hands::{join, worth};
 use std::alloc::Allocator;
 use std::thread::Threads;
-use wkt::{OutlinedLayer, read_layer, read_outlined, read_outlined_in_parts};
+use wkt::{OutlinedLayer, read_layer_within, read_outlined, read_outlined_in_parts};
 
 /// A hand for either text.
 const BOTH: usize = 2;
 
-/// What is read of a layer text.
-pub fn read_one<A: Allocator + Copy>(alloc: A, text: &[u8]) -> Reading<A>
-    ensures { IsReading text.now result }
+/// What is read of a layer text within limits.
+pub fn read_one<A: Allocator + Copy>(alloc: A, limits: Limits, text: &[u8]) -> Reading<A>
+    ensures reading { IsReading (text_limit limits.segments) text.now result }
+    ensures rings { HasOwnRings text.now result }
 {
-    read_outlined(alloc, text)
+    read_outlined(alloc, text_limit(limits.segments), text)
+}
+
+/// The same, in so many parts at most.
+fn read_in_parts<A: Allocator + Copy + Send + Sync, R: Threads + Sync>(
+    rt: &R,
+    alloc: A,
+    limits: Limits,
+    parts: usize,
+    text: &[u8],
+) -> Reading<A>
+    ensures reading { IsReading (text_limit limits.segments) text.now result }
+    ensures rings { HasOwnRings text.now result }
+{
+    read_outlined_in_parts(rt, alloc, text_limit(limits.segments), parts, text)
 }
 
 /// What is read of two layer texts: of both at once where that is worth it, each in parts by a half of the workers.
 pub fn read_both<A: Allocator + Copy + Send + Sync, R: Threads + Sync>(
     rt: &R,
     alloc: A,
+    limits: Limits,
     workers: u32,
     a: &[u8],
     b: &[u8],
 ) -> (Reading<A>, Reading<A>)
-    ensures a { IsReading a.now result.0 }
-    ensures b { IsReading b.now result.1 }
+    ensures a { IsReading (text_limit limits.segments) a.now result.0 }
+    ensures b { IsReading (text_limit limits.segments) b.now result.1 }
+    ensures rings_a { HasOwnRings a.now result.0 }
+    ensures rings_b { HasOwnRings b.now result.1 }
 {
     if worth::parts(workers, a.len().saturating_add(b.len()), worth::TEXTS) < 2 {
-        return (read_one(alloc, a), read_one(alloc, b));
+        return (read_one(alloc, limits, a), read_one(alloc, limits, b));
     }
     let half = workers / 2;
     let parts_a = worth::parts(half, a.len(), worth::BYTES);
@@ -47,8 +66,8 @@ pub fn read_both<A: Allocator + Copy + Send + Sync, R: Threads + Sync>(
     join(
         rt,
         BOTH,
-        || read_outlined_in_parts(rt, alloc, parts_a, a),
-        || read_outlined_in_parts(rt, alloc, parts_b, b),
+        || read_in_parts(rt, alloc, limits, parts_a, a),
+        || read_in_parts(rt, alloc, limits, parts_b, b),
     )
 }
 
@@ -58,7 +77,7 @@ fn rings_of<A: Allocator + Copy>(
     text: &[u8],
     reading: Reading<A>,
 ) -> Result<Layer<A>, NoMemory>
-    requires { IsReading text.now reading }
+    requires { HasOwnRings text.now reading }
     ensures answer { IfOk result (λ layer. StandsFor text.now layer) }
     ensures in_limit { IfOk result (λ layer. AreRingsInLimit layer) }
 {
@@ -69,7 +88,7 @@ fn rings_of<A: Allocator + Copy>(
                 ..
             },
         ) => Ok(layer),
-        _ => match read_layer(alloc, text) {
+        _ => match read_layer_within(alloc, u32::MAX, text) {
             Ok(layer) => Ok(layer),
             Err(_) => Err(NoMemory),
         },
@@ -83,8 +102,8 @@ pub fn read_segments<A: Allocator + Copy>(
     read_a: Reading<A>,
     read_b: Reading<A>,
 ) -> Result<Vec<Seg, A>, NoMemory>
-    requires read_a { IsReading checked.now.a.now read_a }
-    requires read_b { IsReading checked.now.b.now read_b }
+    requires read_a { HasOwnRings checked.now.a.now read_a }
+    requires read_b { HasOwnRings checked.now.b.now read_b }
     ensures segments { IfOk result (λ v. AreSegmentsOf checked.now.a.now checked.now.b.now v.items) }
     ensures in_limit { IfOk result (λ v. AllInLimit v.items) }
 {
@@ -102,8 +121,8 @@ pub fn read_segments_by_workers<A: Allocator + Copy + Send + Sync, R: Threads + 
     read_a: Reading<A>,
     read_b: Reading<A>,
 ) -> Result<Vec<Seg, A>, NoMemory>
-    requires read_a { IsReading checked.now.a.now read_a }
-    requires read_b { IsReading checked.now.b.now read_b }
+    requires read_a { HasOwnRings checked.now.a.now read_a }
+    requires read_b { HasOwnRings checked.now.b.now read_b }
     ensures segments { IfOk result (λ v. AreSegmentsOf checked.now.a.now checked.now.b.now v.items) }
     ensures in_limit { IfOk result (λ v. AllInLimit v.items) }
 {
@@ -133,7 +152,7 @@ fn segments_in<A: Allocator + Copy>(
     layer: Source,
     room: usize,
 ) -> Result<Vec<Seg, A>, NoMemory>
-    requires { IsReading text.now reading }
+    requires { HasOwnRings text.now reading }
     ensures segments { IfOk result (λ v. AreLayerSegments layer text.now v.items) }
     ensures in_limit { IfOk result (λ v. AllInLimit v.items) }
 {

@@ -11,7 +11,7 @@ use crate::files::{Files, LoadFault};
 use crate::program::{ANSWERED, show, tell, tell_command_line, tell_file, tell_no_memory};
 use engine::{
     FacesFault, FacesLimits, FacesRefusal, FacesReport, Plan, Sink, faces_line, faces_report_text,
-    faces_status, faces_within, fitting_side_over, layer_name,
+    faces_status, faces_within, fitting_side_over, layer_name, text_limit,
 };
 use geom::{Fault, NoMemory};
 use grid::DEFAULT_SIDE;
@@ -61,7 +61,8 @@ fn answer<R: Threads + Wait + Sync, F: Files, O: Sink, E: Sink>(
     requires few { length asked.now.layers.items ≤ 64 }
     ensures { DoesFaces F.loads O.state E.state files.old files.new out.old out.new err.old err.new asked.now result }
 {
-    let texts = match load_all(alloc, &asked.layers, files) {
+    let longest = text_limit(faces_limits_of(asked.segments).segments);
+    let texts = match load_all(alloc, longest, &asked.layers, files) {
         Ok(texts) => texts,
         Err(unread) => return tell_unread(alloc, unread, err),
     };
@@ -75,14 +76,19 @@ fn answer<R: Threads + Wait + Sync, F: Files, O: Sink, E: Sink>(
     }
 }
 
-/// The bytes of all files, or the first one that isn't read.
-fn load_all<F: Files>(alloc: Global, names: &[&str], files: &mut F) -> Result<Vec<Vec<u8>>, Unread>
+/// The bytes of all files, where a layer text may have so many, or the first one that isn't read.
+fn load_all<F: Files>(
+    alloc: Global,
+    longest: u32,
+    names: &[&str],
+    files: &mut F,
+) -> Result<Vec<Vec<u8>>, Unread>
     requires { length names.now ≤ 64 }
     ensures { MatchResult result (λ texts. AreLoadedInTurn F.loads files.old (map (λ n. n.now) names.now) (map (λ t. t.items) texts.items) files.new) (λ unread. AreNotAllLoaded F.loads files.old (map (λ n. n.now) names.now) unread.number unread.fault files.new) }
 {
     let mut texts = Vec::new(alloc);
     for number in 0..names.len() {
-        if let Err(fault) = load_next(alloc, names[number], files, &mut texts) {
+        if let Err(fault) = load_next(alloc, longest, names[number], files, &mut texts) {
             return Err(Unread {
                 number: number as u8,
                 fault,
@@ -95,13 +101,14 @@ fn load_all<F: Files>(alloc: Global, names: &[&str], files: &mut F) -> Result<Ve
 /// Adds the bytes of one more file.
 fn load_next<F: Files>(
     alloc: Global,
+    longest: u32,
     name: &str,
     files: &mut F,
     texts: &mut Vec<Vec<u8>>,
 ) -> Result<(), LoadFault>
     ensures { MatchResult result (λ _. IsLoadedNext F.loads files.old name.now (map (λ t. t.items) texts.old.items) (map (λ t. t.items) texts.new.items) files.new) (λ fault. IsNotLoadedNext F.loads files.old name.now fault files.new) }
 {
-    let bytes = files.load(alloc, name)?;
+    let bytes = files.load_within(alloc, longest, name)?;
     match texts.push(bytes) {
         Ok(()) => Ok(()),
         Err(_) => Err(LoadFault::Memory),

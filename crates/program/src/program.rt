@@ -11,7 +11,7 @@ use crate::faces_cli::is_for_faces;
 use crate::faces_program::drive_faces;
 use crate::files::{Files, LoadFault};
 use engine::{
-    Limits, Plan, Report, Sink, edges_within, fitting_side, line, report_text, run_within, status,
+    Limits, Plan, Report, Sink, edges_within, fitting_side, line, report_text, run_within, status, text_limit,
     write_all,
 };
 use geom::{Fault, RunFault};
@@ -96,11 +96,12 @@ fn answer<R: Threads + Wait + Sync, F: Files, O: Sink, E: Sink>(
     requires err { (E.state err.old).failed < u64.MAX }
     ensures { Does F.loads O.state E.state files.old files.new out.old out.new err.old err.new asked.now result }
 {
-    let a = match files.load(alloc, asked.a) {
+    let longest = text_limit(limits_of(asked.segments).segments);
+    let a = match files.load_within(alloc, longest, asked.a) {
         Ok(bytes) => bytes,
         Err(fault) => return tell_file(fault, b"overlay: A: cannot read\n", err),
     };
-    let b = match files.load(alloc, asked.b) {
+    let b = match files.load_within(alloc, longest, asked.b) {
         Ok(bytes) => bytes,
         Err(fault) => return tell_file(fault, b"overlay: B: cannot read\n", err),
     };

@@ -16,6 +16,6 @@ option_in : (text : List ℕ) (rings : List (List Pt)) (b : Option Rect) → Sta
 option_in text rings None h k = tt
 option_in text rings (Some r) h k = box_in rings r (stands_in text rings h) k
 
-pub bounds_in : (text : List ℕ) (x : Result Outline Fault) → Answers text x → IfOk x (λ outline. IfSome outline.bounds (λ r. AreInLimit r.lo r.hi))
-bounds_in text (Ok outline) (rings, h, o) = option_in text rings outline.bounds h o.box
-bounds_in text (Err f) h = tt
+pub bounds_in : (limit : ℕ) (text : List ℕ) (x : Result Outline Fault) → Answers limit text x → IfOk x (λ outline. IfSome outline.bounds (λ r. AreInLimit r.lo r.hi))
+bounds_in limit text (Ok outline) (rings, h, o) = option_in text rings outline.bounds h o.box
+bounds_in limit text (Err f) h = tt

@@ -11,13 +11,13 @@ use Rattle.geom.specs.declared.fault.Fault.TheVariants.{LayerLong, Syntax, Numbe
 use Rattle.wkt.specs.declared.reader.Reader.{Reader}
 use Rattle.wkt.specs.declared.reader.Event.{Event}
 use Rattle.wkt.specs.declared.reader.Event.TheVariants.{Nothing, Geometry, Open as Opens, Point as EventPoint, Last, Close as Closes}
-use Rattle.wkt.specs.LayerText.{Point, Ring, IsBroken}
+use Rattle.wkt.specs.LayerText.{Point, Ring, IsBroken, IsLayer}
 use Rattle.wkt.specs.Machine.{class_of, turn, Notes, noted, run, start, may_end}
 use Rattle.wkt.specs.Reading.{u32_max, Idle, ReaderIs, Says, Went}
 use Rattle.geom.specs.Segments.{layer_steps}
 use Rattle.std.proofs.lemmas.Option.{same_Some}
 use Rattle.wkt.specs.Running.{HasRead, HasPassed, Passes}
-use Rattle.wkt.specs.Refusals.{length_limit, all_numbers, first_outside, place_of, is_closed, fault_at, or_else, first_fault, plain, IsRead, HasFault, StandsFor, IsRefused}
+use Rattle.wkt.specs.Refusals.{all_numbers, first_outside, place_of, is_closed, fault_at, or_else, first_fault, plain, HasFault, StandsFor, IsRefusedWithin}
 use Rattle.wkt.specs.Outlines.{IsOutline}
 use Rattle.wkt.specs.Surveying.{Sketch, sketch, Shown, fresh, took, judged}
 use Rattle.wkt.proofs.Sound.{accepted}
@@ -110,9 +110,9 @@ idle_end p m e i = absurd cc
 
 -- ---- the answer
 
--- what is answered of the text
-abbrev pub Answers : List ℕ → Result Outline Fault → Type 0
-Answers text x = MatchResult x (λ outline. (rings : List (List Pt)) × StandsFor text rings × IsOutline rings outline) (λ fault. IsRefused text fault)
+-- what is answered of the text, within a limit of bytes
+abbrev pub Answers : ℕ → List ℕ → Result Outline Fault → Type 0
+Answers limit text x = MatchResult x (λ outline. (rings : List (List Pt)) × StandsFor text rings × IsOutline rings outline) (λ fault. IsRefusedWithin limit text fault)
 
 -- a ring's fault is one of the two
 abbrev OfRing : Fault → Type 0
@@ -133,29 +133,29 @@ of_ring (r ∷ rings) f e =
     let pts : List Pt = map place_of r.points in
     of_first (fault_at r.at pts) (first_fault rings) f (of_tests (nat_lt (length pts) 4) (is_closed pts) r.at f) (of_ring rings f) e
 
-refused : (text : List ℕ) (f : Fault) → OfRing f → HasFault text f → IsRefused text f
-refused text (RingShort o) k h = h
-refused text (RingOpen o) k h = h
-refused text LayerLong (at, inl e) h = absurd cc
-refused text LayerLong (at, inr e) h = absurd cc
-refused text (Syntax o) (at, inl e) h = absurd cc
-refused text (Syntax o) (at, inr e) h = absurd cc
-refused text (NumberRange o) (at, inl e) h = absurd cc
-refused text (NumberRange o) (at, inr e) h = absurd cc
-refused text (TooManySegments n) (at, inl e) h = absurd cc
-refused text (TooManySegments n) (at, inr e) h = absurd cc
-refused text BadTile (at, inl e) h = absurd cc
-refused text BadTile (at, inr e) h = absurd cc
-refused text BadWorkers (at, inl e) h = absurd cc
-refused text BadWorkers (at, inr e) h = absurd cc
-refused text (TooManyTiles n) (at, inl e) h = absurd cc
-refused text (TooManyTiles n) (at, inr e) h = absurd cc
-refused text (NotNoded g k) (at, inl e) h = absurd cc
-refused text (NotNoded g k) (at, inr e) h = absurd cc
-refused text Memory (at, inl e) h = absurd cc
-refused text Memory (at, inr e) h = absurd cc
-refused text Write (at, inl e) h = absurd cc
-refused text Write (at, inr e) h = absurd cc
+refused : (limit : ℕ) (text : List ℕ) (f : Fault) → OfRing f → length text ≤ limit → HasFault text f → IsRefusedWithin limit text f
+refused limit text (RingShort o) k short h = (short, h)
+refused limit text (RingOpen o) k short h = (short, h)
+refused limit text LayerLong (at, inl e) short h = absurd cc
+refused limit text LayerLong (at, inr e) short h = absurd cc
+refused limit text (Syntax o) (at, inl e) short h = absurd cc
+refused limit text (Syntax o) (at, inr e) short h = absurd cc
+refused limit text (NumberRange o) (at, inl e) short h = absurd cc
+refused limit text (NumberRange o) (at, inr e) short h = absurd cc
+refused limit text (TooManySegments n) (at, inl e) short h = absurd cc
+refused limit text (TooManySegments n) (at, inr e) short h = absurd cc
+refused limit text BadTile (at, inl e) short h = absurd cc
+refused limit text BadTile (at, inr e) short h = absurd cc
+refused limit text BadWorkers (at, inl e) short h = absurd cc
+refused limit text BadWorkers (at, inr e) short h = absurd cc
+refused limit text (TooManyTiles n) (at, inl e) short h = absurd cc
+refused limit text (TooManyTiles n) (at, inr e) short h = absurd cc
+refused limit text (NotNoded g k) (at, inl e) short h = absurd cc
+refused limit text (NotNoded g k) (at, inr e) short h = absurd cc
+refused limit text Memory (at, inl e) short h = absurd cc
+refused limit text Memory (at, inr e) short h = absurd cc
+refused limit text Write (at, inl e) short h = absurd cc
+refused limit text Write (at, inr e) short h = absurd cc
 
 outlined : (rings : List Ring) (o : Outline) → first_fault rings ≡ None → length (all_segments rings) ≤ u32_max → sketch o ≡ outline_of (all_segments rings) → IsOutline (plain rings) o
 outlined rings o sound few e =
@@ -166,32 +166,33 @@ outlined rings o sound few e =
       box = box_is (layer_steps (plain rings)) o.bounds (ap (λ (x : Sketch). x.bounds) e ∙ ap box (sym steps));
     }
 
-answered_clean : (text : List ℕ) (s : Shown) (outline : Outline) (rings : List Ring) (at : ℕ) (f : Option Fault) → s.fault ≡ f → sketch outline ≡ s.outline → IsRead text rings → length (all_segments rings) ≤ u32_max → Clean s rings at [] → Answers text (judged None f outline)
-answered_clean text s outline rings at None e sk h few c =
+answered_clean : (limit : ℕ) (text : List ℕ) (s : Shown) (outline : Outline) (rings : List Ring) (at : ℕ) (f : Option Fault) → s.fault ≡ f → sketch outline ≡ s.outline → length text ≤ limit → IsLayer text rings → length (all_segments rings) ≤ u32_max → Clean s rings at []
+    → Answers limit text (judged None f outline)
+answered_clean limit text s outline rings at None e sk short h few c =
     let inside : first_outside (all_numbers rings) ≡ None = ap first_outside (sym (append-nil (all_numbers rings))) ∙ c.inside in
     let sound : first_fault rings ≡ None = sym c.fault ∙ e in
-    (plain rings, (rings, record { read = h; inside = inside; sound = sound }, refl), outlined rings outline sound few (sk ∙ c.outline ∙ ap outline_of (append-nil (all_segments rings))))
-answered_clean text s outline rings at (Some f) e sk h few c =
+    (plain rings, (rings, record { layer = h; inside = inside; sound = sound }, refl), outlined rings outline sound few (sk ∙ c.outline ∙ ap outline_of (append-nil (all_segments rings))))
+answered_clean limit text s outline rings at (Some f) e sk short h few c =
     let inside : first_outside (all_numbers rings) ≡ None = ap first_outside (sym (append-nil (all_numbers rings))) ∙ c.inside in
     let fault : first_fault rings ≡ Some f = sym c.fault ∙ e in
-    refused text f (of_ring rings f fault) (rings, h, inside, fault)
+    refused limit text f (of_ring rings f fault) short (rings, h, inside, fault)
 
-answered : (text : List ℕ) (s : Shown) (outline : Outline) (rings : List Ring) (at : ℕ) (o : Option ℕ) → s.outside ≡ o → sketch outline ≡ s.outline → IsRead text rings → length (all_segments rings) ≤ u32_max → Surveyed s rings at []
-    → Answers text (judged o s.fault outline)
-answered text s outline rings at None out sk h few c =
-    answered_clean text s outline rings at s.fault refl sk h few
+answered : (limit : ℕ) (text : List ℕ) (s : Shown) (outline : Outline) (rings : List Ring) (at : ℕ) (o : Option ℕ) → s.outside ≡ o → sketch outline ≡ s.outline → length text ≤ limit → IsLayer text rings → length (all_segments rings) ≤ u32_max → Surveyed s rings at []
+    → Answers limit text (judged o s.fault outline)
+answered limit text s outline rings at None out sk short h few c =
+    answered_clean limit text s outline rings at s.fault refl sk short h few
     (subst (λ (o : Option ℕ). MatchOption o (Clean s rings at []) (λ o. first_outside (read_numbers rings []) ≡ Some o)) out c)
-answered text s outline rings at (Some k) out sk h few c =
+answered limit text s outline rings at (Some k) out sk short h few c =
     let found : first_outside (read_numbers rings []) ≡ Some k = subst (λ (o : Option ℕ). MatchOption o (Clean s rings at []) (λ o. first_outside (read_numbers rings []) ≡ Some o)) out c in
-    (rings, h, ap first_outside (sym (append-nil (all_numbers rings))) ∙ found)
+    (short, (rings, h, ap first_outside (sym (append-nil (all_numbers rings))) ∙ found))
 
-pub checked_whole : (text : List ℕ) (at : ℕ) (r : Reader) (s : Shown) (outline : Outline) → length text ≤ at → length text ≤ length_limit → Checked text at r s → may_end r.place ≡ true
-    → sketch outline ≡ s.outline → Answers text (judged s.outside s.fault outline)
-checked_whole text at r s outline le small c e sk =
+pub checked_whole : (limit : ℕ) (text : List ℕ) (at : ℕ) (r : Reader) (s : Shown) (outline : Outline) → limit ≤ u32_max → length text ≤ at → length text ≤ limit → Checked text at r s → may_end r.place ≡ true
+    → sketch outline ≡ s.outline → Answers limit text (judged s.outside s.fault outline)
+checked_whole limit text at r s outline fits le small c e sk =
     let m = c.notes in
     let ended : run (length text) start text ≡ Some (record { place = r.place; notes = m }) = c.known.read.on ∙ ap (run (length text) (record { place = r.place; notes = m })) (drop_all at text le) in
     let none : m.points ≡ [] = idle_end r.place m e c.known.read.is.3 in
     let few : length (read_segments m.rings []) ≤ at = subst (λ (ps : List Point). length (read_segments m.rings ps) ≤ at) none c.known.few in
     let few' : length (all_segments m.rings) ≤ at = subst (λ (x : List (Pt × Pt)). length x ≤ at) (append-nil (all_segments m.rings)) few in
-    answered text s outline m.rings m.ring_at s.outside refl sk (record { short = small; layer = accepted text (record { place = r.place; notes = m }) ended e }) (omega (arith, few', c.known.read.within))
+    answered limit text s outline m.rings m.ring_at s.outside refl sk small (accepted text (record { place = r.place; notes = m }) ended e) (omega (arith, few', c.known.read.within, small, fits))
     (subst (λ (ps : List Point). Surveyed s m.rings m.ring_at ps) none c.known.survey)

@@ -134,7 +134,7 @@ collected_checked text at r s g k = record { notes = k.notes; known = k.known }
 
 done : (text : List ℕ) (at : ℕ) (r : Reader) (s : Shown) (g : Gathered) (rings : List Ring) → length text ≤ at → IsAccepted text rings → Collected text at r s g → g.0 ≡ plain rings
 done text at r s g rings le l k =
-    let t = taken text rings l.read.layer in
+    let t = taken text rings l.layer in
     let last : State = record { place = r.place; notes = k.notes } in
     let same : t.0 ≡ last = same_Some t.0 last (sym t.1 ∙ k.known.read.on ∙ ap (run (length text) last) (drop_all at text le)) in
     let end : may_end r.place ≡ true = ap (λ (x : State). may_end x.place) (sym same) ∙ t.2 in
@@ -144,7 +144,7 @@ done text at r s g rings le l k =
     ap (λ (x : Gathered). x.0) (h (ap first_outside (append-nil (all_numbers rings)) ∙ l.inside) l.sound)
 
 -- where the text is accepted, it stands for the rings that were gathered, and the outline is theirs
-pub collected_done : (text : List ℕ) (at : ℕ) (r : Reader) (s : Shown) (g : Gathered) (outline : Outline) → length text ≤ at → Collected text at r s g → Answers text (Ok outline) → StandsFor text g.0 × IsOutline g.0 outline
-collected_done text at r s g outline le k (rings, (written, accepted, e), o) =
+pub collected_done : (limit : ℕ) (text : List ℕ) (at : ℕ) (r : Reader) (s : Shown) (g : Gathered) (outline : Outline) → length text ≤ at → Collected text at r s g → Answers limit text (Ok outline) → StandsFor text g.0 × IsOutline g.0 outline
+collected_done limit text at r s g outline le k (rings, (written, accepted, e), o) =
     let same : plain written ≡ g.0 = sym (done text at r s g written le accepted k) in
     ((written, accepted, same), subst (λ (rs : List (List Pt)). IsOutline rs outline) (sym e ∙ same) o)

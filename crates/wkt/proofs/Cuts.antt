@@ -90,7 +90,7 @@ stands_joined text features (written, h, accepted, e) = (joined written, accepte
 
 pub stands_apart : (text : List ℕ) (rings : List (List Pt)) → StandsFor text rings → (features : List (List (List Pt))) × StandsForFeatures text features × (all_rings features ≡ rings)
 stands_apart text rings (written, accepted, e) =
-    let f = has_features text written accepted.read.layer in
+    let f = has_features text written accepted.layer in
     (map plain f.0, (f.0, f.1, subst (λ x. IsAccepted text x) f.2 accepted, refl), sym (plain_joined f.0) ∙ ap plain (sym f.2) ∙ e)
 
 -- the starts of features, as they are written

@@ -9,7 +9,7 @@ use Rattle.geom.specs.declared.fault.Fault.{Fault}
 use Rattle.geom.specs.declared.fault.Fault.TheVariants.{RingShort, RingOpen}
 use Rattle.geom.specs.Limit.{coordinate_limit, InLimit}
 use Rattle.wkt.specs.LayerText.{Number, Point, Ring, is_space, Spaces, Gap, Word, Digits, IsNumber, IsPoint, More, Listed, IsRing, IsBody, joined, polygon_word, multipolygon_word, empty_word, IsEmpty, IsSingle, IsMulti, IsGeometry, Geometries, IsLayer}
-use Rattle.wkt.specs.Refusals.{place_of, numbers, all_numbers, first_outside, is_closed, fault_at, or_else, first_fault, plain, StandsFor, length_limit}
+use Rattle.wkt.specs.Refusals.{place_of, numbers, all_numbers, first_outside, is_closed, fault_at, or_else, first_fault, plain, StandsFor}
 use Rattle.wkt.specs.Features.{IsFeaturesAt, HasFeatures, StandsForFeatures, all_rings}
 use Rattle.wkt.proofs.Closing.{none_first}
 use Rattle.wkt.proofs.Collections.{front_inside}
@@ -222,9 +222,9 @@ both_features : (t u : List ℕ) (rss sss : List (List Ring)) → HasFeatures t 
 unfolding HasFeatures
 both_features t u rss sss h k = features_then (length t) (length u) (length (t ++ 10 ∷ u)) t rss u sss h k
 
-pub features_parted : (t u : List ℕ) (features more : List (List (List Pt))) → length (t ++ 10 ∷ u) ≤ length_limit → StandsForFeatures t features → StandsForFeatures u more → StandsForFeatures (t ++ 10 ∷ u) (features ++ more)
-features_parted t u features more short (rss, h, a, e) (sss, k, b, f) =
-    (ws.0, ws.1, record { read = record { short = short; layer = layer_of (t ++ 10 ∷ u) ws.0 ws.1 }; inside = inside; sound = sound }, is)
+pub features_parted : (t u : List ℕ) (features more : List (List (List Pt))) → StandsForFeatures t features → StandsForFeatures u more → StandsForFeatures (t ++ 10 ∷ u) (features ++ more)
+features_parted t u features more (rss, h, a, e) (sss, k, b, f) =
+    (ws.0, ws.1, record { layer = layer_of (t ++ 10 ∷ u) ws.0 ws.1; inside = inside; sound = sound }, is)
   where
     ws : (wss : List (List Ring)) × HasFeatures (t ++ 10 ∷ u) wss × Together wss rss sss
     ws = both_features t u rss sss h k
@@ -242,9 +242,9 @@ features_parted t u features more short (rss, h, a, e) (sss, k, b, f) =
     is = plains_are ws.0 ∙ ap (map (map opened)) ws.2 ∙ map-append (map opened) (map (map places) rss) (map (map places) sss)
         ∙ ap (λ x. x ++ map (map opened) (map (map places) sss)) (sym (plains_are rss) ∙ e) ∙ ap (λ x. features ++ x) (sym (plains_are sss) ∙ f)
 
-pub parted : (t u : List ℕ) (rings more : List (List Pt)) → length (t ++ 10 ∷ u) ≤ length_limit → StandsFor t rings → StandsFor u more → StandsFor (t ++ 10 ∷ u) (rings ++ more)
-parted t u rings more short h k =
+pub parted : (t u : List ℕ) (rings more : List (List Pt)) → StandsFor t rings → StandsFor u more → StandsFor (t ++ 10 ∷ u) (rings ++ more)
+parted t u rings more h k =
     let f = stands_apart t rings h in
     let g = stands_apart u more k in
     let is : all_rings (f.0 ++ g.0) ≡ rings ++ more = flat_map-append (λ (x : List (List Pt)). x) f.0 g.0 ∙ ap (λ x. x ++ all_rings g.0) f.2 ∙ ap (λ x. rings ++ x) g.2 in
-    subst (StandsFor (t ++ 10 ∷ u)) is (stands_joined (t ++ 10 ∷ u) (f.0 ++ g.0) (features_parted t u f.0 g.0 short f.1 g.1))
+    subst (StandsFor (t ++ 10 ∷ u)) is (stands_joined (t ++ 10 ∷ u) (f.0 ++ g.0) (features_parted t u f.0 g.0 f.1 g.1))

@@ -110,12 +110,12 @@ featured_step text at end begun r r' r'' s x e lt k w p =
 -- ---- at the end
 
 -- where the text is accepted, it stands for the features that were gathered, and the outline is theirs
-pub featured_done : (text : List ℕ) (at : ℕ) (r : Reader) (s : Shown) (x : Seen) (outline : Outline) → length text ≤ at → Featured text at r s x → Answers text (Ok outline)
+pub featured_done : (limit : ℕ) (text : List ℕ) (at : ℕ) (r : Reader) (s : Shown) (x : Seen) (outline : Outline) → length text ≤ at → Featured text at r s x → Answers limit text (Ok outline)
     → StandsForFeatures text (features_of x.0.0 x.1) × AreCut (features_of x.0.0 x.1) x.0.0 x.1 × IsOutline x.0.0 outline
-featured_done text at r s x outline le k answers =
-    let c = collected_done text at r s x.0 outline le (featured_collected text at r s x k) answers in
+featured_done limit text at r s x outline le k answers =
+    let c = collected_done limit text at r s x.0 outline le (featured_collected text at r s x k) answers in
     let written : List Ring = c.0.0 in
-    let f = has_features text written c.0.1.read.layer in
+    let f = has_features text written c.0.1.layer in
     let t = taken_features text f.0 f.1 in
     let last : State = record { place = r.place; notes = k.notes } in
     let same : t.0 ≡ last = same_Some t.0 last (sym t.1 ∙ k.known.read.on ∙ ap (run (length text) last) (drop_all at text le)) in

@@ -13,17 +13,16 @@ use Rattle.hands.specs.Consecutive.{ArePartsOf}
 use Rattle.wkt.specs.declared.outline.Outline.{Outline}
 use Rattle.wkt.specs.WholeLines.{AreWholeLines}
 use Rattle.wkt.specs.Outlines.{IsOutline, IsOutlined}
-use Rattle.wkt.specs.Refusals.{length_limit}
 use Rattle.hands.proofs.Consecutive.{ascend, each_part, one_more}
 
 -- what texts stand for: a text of two texts, with a line feed between them, for what the first stands for and then what the second does
 abbrev pub Parts : {X : Type 0} → (List ℕ → List X → Type 0) → Type 0
-Parts {X} Stands = (t u : List ℕ) (xs ys : List X) → length (t ++ 10 ∷ u) ≤ length_limit → Stands t xs → Stands u ys → Stands (t ++ 10 ∷ u) (xs ++ ys)
+Parts {X} Stands = (t u : List ℕ) (xs ys : List X) → Stands t xs → Stands u ys → Stands (t ++ 10 ∷ u) (xs ++ ys)
 
 -- what a text and a line feed behind it stand for, and more
-line_behind : {X : Type 0} (Stands : List ℕ → List X → Type 0) → Parts Stands → (text : List ℕ) (from past : ℕ) (xs more : List X) → length text ≤ length_limit → from < past → past ≤ length text → get_or text (past - 1) 0 ≡ 10
+line_behind : {X : Type 0} (Stands : List ℕ → List X → Type 0) → Parts Stands → (text : List ℕ) (from past : ℕ) (xs more : List X) → from < past → past ≤ length text → get_or text (past - 1) 0 ≡ 10
     → Stands (slice_range text from (past - 1)) xs → Stands (drop past text) more → Stands (drop from text) (xs ++ more)
-line_behind Stands parts text from past xs more short some inside ends first rest = subst (λ t. Stands t (xs ++ more)) (sym is) (parts (slice_range text from (past - 1)) (drop past text) xs more within first rest)
+line_behind Stands parts text from past xs more some inside ends first rest = subst (λ t. Stands t (xs ++ more)) (sym is) (parts (slice_range text from (past - 1)) (drop past text) xs more first rest)
   where
     at : drop (past - 1) text ≡ 10 ∷ drop past text
     at = drop_more text (past - 1) 0 (omega (arith, some, inside)) ∙ ap (λ b. b ∷ drop (past - 1 + 1) text) ends ∙ ap (λ n. 10 ∷ drop n text) (omega (arith, some))
@@ -31,31 +30,28 @@ line_behind Stands parts text from past xs more short some inside ends first res
     is : drop from text ≡ slice_range text from (past - 1) ++ 10 ∷ drop past text
     is = drop_split text from (past - 1) (omega (arith, some)) ∙ ap (λ l. slice_range text from (past - 1) ++ l) at
 
-    within : length (slice_range text from (past - 1) ++ 10 ∷ drop past text) ≤ length_limit
-    within = subst (λ (l : List ℕ). length l ≤ length_limit) is (omega (arith, short, length-drop from text))
-
 -- the whole stands for what its parts stand for
 pub lines_from : {X Y : Type 0} (Stands : List ℕ → List X → Type 0) → Parts Stands → (of : Y → List X) (P : List ℕ → Y → Type 0) → ((t : List ℕ) (y : Y) → P t y → Stands t (of y))
-    → (text : List ℕ) (from : ℕ) (ps : List Part) (ys : List Y) → length text ≤ length_limit → from ≤ length text → ArePartsOf from (length text + 1) ps → All (AreWholeLines text) ps
+    → (text : List ℕ) (from : ℕ) (ps : List Part) (ys : List Y) → from ≤ length text → ArePartsOf from (length text + 1) ps → All (AreWholeLines text) ps
     → AllZip (λ (p : Part) y. P (slice_range text p.from (p.past - 1)) y) ps ys → Stands (drop from text) (flat_map of ys)
 unfolding ArePartsOf
-lines_from Stands both of P stands text from [] ys short inside parts lines zip = absurd (omega (arith, inside, parts))
-lines_from Stands both of P stands text from (p ∷ ps) [] short inside parts lines zip = absurd zip
-lines_from Stands both of P stands text from (p ∷ []) (x ∷ (y ∷ ys)) short inside parts lines zip = absurd zip.1
-lines_from Stands both of P stands text from (p ∷ (q ∷ ps)) (x ∷ []) short inside parts lines zip = absurd zip.1
-lines_from Stands both of P stands text from (p ∷ []) (x ∷ []) short inside parts lines zip =
+lines_from Stands both of P stands text from [] ys inside parts lines zip = absurd (omega (arith, inside, parts))
+lines_from Stands both of P stands text from (p ∷ ps) [] inside parts lines zip = absurd zip
+lines_from Stands both of P stands text from (p ∷ []) (x ∷ (y ∷ ys)) inside parts lines zip = absurd zip.1
+lines_from Stands both of P stands text from (p ∷ (q ∷ ps)) (x ∷ []) inside parts lines zip = absurd zip.1
+lines_from Stands both of P stands text from (p ∷ []) (x ∷ []) inside parts lines zip =
     let last : p.past - 1 ≡ length text = omega (arith, parts.2) in
     let is : slice_range text p.from (p.past - 1) ≡ drop from text =
     (λ i. slice_range text (parts.0 i) (last i)) ∙ sym (append-nil (slice_range text from (length text))) ∙ ap (λ l. slice_range text from (length text) ++ l) (sym (drop-length text)) ∙ sym (drop_split text from (length text) inside) in
     subst (λ xs. Stands (drop from text) xs) (sym (append-nil (of x))) (subst (λ t. Stands t (of x)) is (stands (slice_range text p.from (p.past - 1)) x zip.0))
-lines_from Stands both of P stands text from (p ∷ (q ∷ ps)) (x ∷ (y ∷ ys)) short inside parts lines zip =
+lines_from Stands both of P stands text from (p ∷ (q ∷ ps)) (x ∷ (y ∷ ys)) inside parts lines zip =
     let own = All-head (AreWholeLines text) p (q ∷ ps) lines in
     let others = All-tail (AreWholeLines text) p (q ∷ ps) lines in
     let next = All-head (AreWholeLines text) q ps others in
     let before : p.past ≤ length text = omega (arith, next.some, parts.2.0, ascend q.past (length text + 1) ps parts.2.2) in
-    line_behind Stands both text from p.past (of x) (flat_map of (y ∷ ys)) short (omega (arith, parts.0, own.some)) before (own.ends before)
+    line_behind Stands both text from p.past (of x) (flat_map of (y ∷ ys)) (omega (arith, parts.0, own.some)) before (own.ends before)
     (subst (λ n. Stands (slice_range text n (p.past - 1)) (of x)) parts.0 (stands (slice_range text p.from (p.past - 1)) x zip.0))
-    (lines_from Stands both of P stands text p.past (q ∷ ps) (y ∷ ys) short before parts.2 others zip.1)
+    (lines_from Stands both of P stands text p.past (q ∷ ps) (y ∷ ys) before parts.2 others zip.1)
 
 -- what is so of what is read of each part
 pub each_read : {Y : Type 0} (P : List ℕ → Y → Type 0) (Q : Y → Type 0) → ((t : List ℕ) (y : Y) → P t y → Q y) → (text : List ℕ) (ps : List Part) (ys : List Y) → AllZip (λ (p : Part) y. P (slice_range text p.from (p.past - 1)) y) ps ys → All Q ys

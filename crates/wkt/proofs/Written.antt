@@ -20,7 +20,7 @@ use Rattle.geom.specs.Canonical.{Shape, written_rings}
 use Rattle.geom.specs.Words.{pt_words}
 use Rattle.geom.proofs.Integers.{linear}
 use Rattle.geom.proofs.Points.{same_point_refl}
-use Rattle.wkt.specs.Refusals.{IsLayerOf, length_limit, place_of, is_closed, fault_at, or_else, numbers, all_numbers, first_outside, first_fault, plain, StandsFor}
+use Rattle.wkt.specs.Refusals.{IsLayerOf, place_of, is_closed, fault_at, or_else, numbers, all_numbers, first_outside, first_fault, plain, StandsFor}
 use Rattle.wkt.specs.Canonical.{closed, more_of, listed, ring_text, polygon_text, multi_text}
 use Rattle.wkt.specs.Readable.{IsReadable, IsShort, number_limit}
 use Rattle.wkt.proofs.Surveys.{outside_then, last_of-push}
@@ -263,10 +263,10 @@ reads polygons readable = (
   line_read polygons [] ([], tt, refl) (polygons_good polygons (good (written_rings polygons) (of_all IsReadable (written_rings polygons) readable))),
 )
 
-pub reads_again : (polygons : List Shape) → All IsReadable (written_rings polygons) → length (multi_text polygons) ≤ length_limit → All (λ ring. All InLimit ring) (written_rings polygons)
+pub reads_again : (polygons : List Shape) → All IsReadable (written_rings polygons) → All (λ ring. All InLimit ring) (written_rings polygons)
     → StandsFor (multi_text polygons) (written_rings polygons)
-reads_again polygons readable short inside =
+reads_again polygons readable inside =
     let all = good (written_rings polygons) (of_all IsReadable (written_rings polygons) readable) in
     let read = line_read polygons (10 ∷ []) (10 ∷ [], (refl, tt), refl) (polygons_good polygons all) in
     let f = fine read.0 (written_rings polygons) all (of_all (λ ring. All InLimit ring) (written_rings polygons) inside) read.2 in
-    (read.0, record { read = record { short = short; layer = subst (λ (t : List ℕ). IsLayer t read.0) (sym (line_ended polygons)) read.1 }; inside = f.inside; sound = f.sound }, f.points)
+    (read.0, record { layer = subst (λ (t : List ℕ). IsLayer t read.0) (sym (line_ended polygons)) read.1; inside = f.inside; sound = f.sound }, f.points)

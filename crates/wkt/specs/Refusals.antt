@@ -9,7 +9,7 @@ use Rattle.geom.specs.Segments.{same_point}
 use Rattle.wkt.specs.LayerText.{Number, Point, Ring, IsLayer, IsBroken}
 use Rattle.wkt.specs.declared.check.TheConstants.{LENGTH_LIMIT}
 
--- the greatest number of bytes of a layer text
+-- the greatest number of bytes of a layer text, where no limit is given
 abbrev pub length_limit : ℕ
 length_limit = LENGTH_LIMIT
 
@@ -60,16 +60,16 @@ first_fault (r ∷ rs) = or_else (fault_at r.at (map place_of r.points)) (first_
 abbrev pub IsLayerOf : List ℕ → List (List Pt) → Type 0
 IsLayerOf text rings = (written : List Ring) × IsLayer text written × (map (λ r. map place_of r.points) written ≡ rings)
 
--- the text is within the length limit, and is a layer with these rings as they are written
-pub record IsRead (text : List ℕ) (written : List Ring) : Type 0 where
-  pub short : length text ≤ length_limit
-  pub layer : IsLayer text written
-
--- and nothing is wrong with them
+-- the text is a layer with these rings as they are written, and nothing is wrong with them
 pub record IsAccepted (text : List ℕ) (written : List Ring) : Type 0 where
-  pub read : IsRead text written
+  pub layer : IsLayer text written
   pub inside : first_outside (all_numbers written) ≡ None
   pub sound : first_fault written ≡ None
+
+-- and it has no more bytes than the limit
+pub record IsAcceptedWithin (limit : ℕ) (text : List ℕ) (written : List Ring) : Type 0 where
+  pub short : length text ≤ limit
+  pub accepted : IsAccepted text written
 
 -- the points of the rings, without the last of each, which is its first again
 abbrev pub plain : List Ring → List (List Pt)
@@ -81,17 +81,21 @@ StandsFor text rings = (written : List Ring) × IsAccepted text written × (plai
 
 -- a number of the text is outside the coordinate limit, the first one at this offset
 abbrev pub HasOutside : List ℕ → ℕ → Type 0
-HasOutside text o = (written : List Ring) × IsRead text written × (first_outside (all_numbers written) ≡ Some o)
+HasOutside text o = (written : List Ring) × IsLayer text written × (first_outside (all_numbers written) ≡ Some o)
 
 -- all numbers are within the coordinate limit, and the first ring at fault has this fault
 abbrev pub HasFault : List ℕ → Fault → Type 0
-HasFault text f = (written : List Ring) × IsRead text written × (first_outside (all_numbers written) ≡ None) × (first_fault written ≡ Some f)
+HasFault text f = (written : List Ring) × IsLayer text written × (first_outside (all_numbers written) ≡ None) × (first_fault written ≡ Some f)
 
--- the fault that the text is refused for
+-- the fault that the text is refused for, within a limit of bytes
+abbrev pub IsRefusedWithin : ℕ → List ℕ → Fault → Type 0
+IsRefusedWithin limit text LayerLong = limit < length text
+IsRefusedWithin limit text (Syntax o) = (length text ≤ limit) × IsBroken text o
+IsRefusedWithin limit text (NumberRange o) = (length text ≤ limit) × HasOutside text o
+IsRefusedWithin limit text (RingShort o) = (length text ≤ limit) × HasFault text (RingShort o)
+IsRefusedWithin limit text (RingOpen o) = (length text ≤ limit) × HasFault text (RingOpen o)
+IsRefusedWithin limit text _ = ⊥
+
+-- the same where no limit is given
 abbrev pub IsRefused : List ℕ → Fault → Type 0
-IsRefused text LayerLong = length_limit < length text
-IsRefused text (Syntax o) = (length text ≤ length_limit) × IsBroken text o
-IsRefused text (NumberRange o) = HasOutside text o
-IsRefused text (RingShort o) = HasFault text (RingShort o)
-IsRefused text (RingOpen o) = HasFault text (RingOpen o)
-IsRefused text _ = ⊥
+IsRefused text fault = IsRefusedWithin length_limit text fault

@@ -1,9 +1,9 @@
 //! A layer text, checked without memory.
 
-ghost use Rattle.std.specs.Prelude.{List, IfOk, IfSome, MatchResult};
+ghost use Rattle.std.specs.Prelude.{◌≤◌, List, IfOk, IfSome, MatchResult, length};
 ghost use Rattle.geom.specs.Limit.{AreInLimit};
 ghost use Rattle.geom.specs.declared.point.Pt.{Pt};
-ghost use Rattle.wkt.specs.Refusals.{IsRefused, StandsFor};
+ghost use Rattle.wkt.specs.Refusals.{IsRefused, IsRefusedWithin, StandsFor, length_limit};
 ghost use Rattle.wkt.specs.Outlines.{IsOutline};
 
 use crate::outline::Outline;
@@ -11,16 +11,26 @@ use crate::reader::Reader;
 use crate::survey::Survey;
 use geom::Fault;
 
-/// The greatest length of a layer text, in bytes.
-pub const LENGTH_LIMIT: usize = 268_435_456;
+/// The greatest length of a layer text, in bytes, where no limit is given.
+pub const LENGTH_LIMIT: u32 = 268_435_456;
 
 /// The outline of a layer text, or why it is refused: too long, no layer text, a number out of range, or a ring with
 /// too few points or left open, in this order. Takes no memory.
 pub fn check_layer(text: &[u8]) -> Result<Outline, Fault>
     ensures answer { MatchResult result (λ outline. (rings : List (List Pt)) × StandsFor text.now rings × IsOutline rings outline) (λ fault. IsRefused text.now fault) }
+    ensures short { IfOk result (λ _. length text.now ≤ length_limit) }
     ensures in_limit { IfOk result (λ outline. IfSome outline.bounds (λ r. AreInLimit r.lo r.hi)) }
 {
-    if text.len() > LENGTH_LIMIT {
+    check_layer_within(LENGTH_LIMIT, text)
+}
+
+/// The same within a limit of bytes that is given: a longer text is too long.
+pub fn check_layer_within(longest: u32, text: &[u8]) -> Result<Outline, Fault>
+    ensures answer { MatchResult result (λ outline. (rings : List (List Pt)) × StandsFor text.now rings × IsOutline rings outline) (λ fault. IsRefusedWithin longest text.now fault) }
+    ensures short { IfOk result (λ _. length text.now ≤ longest) }
+    ensures in_limit { IfOk result (λ outline. IfSome outline.bounds (λ r. AreInLimit r.lo r.hi)) }
+{
+    if text.len() > longest as usize {
         return Err(Fault::LayerLong);
     }
     let mut reader = Reader::new();

@@ -6,7 +6,6 @@
 
 ghost use Rattle.std.specs.Prelude.{◌≡◌, ◌++◌, ◌+◌, ◌-◌, ◌<◌, ◌≤◌, All, IfOk, OnOk, flat_map, length, map, slice_range};
 ghost use Rattle.wkt.specs.Features.{AreGathered, AreOutlinedFeatures};
-ghost use Rattle.wkt.specs.Refusals.{length_limit};
 
 use crate::feature_layer::FeatureLayer;
 use crate::features::gather_features;
@@ -26,7 +25,7 @@ fn features_of_part<A: Allocator + Copy>(
     requires inside { part.past ≤ length text.now + 1 }
     ensures { IfOk result (AreGathered (slice_range text.now part.from (part.past - 1))) }
 {
-    match gather_features(alloc, &text[part.from..part.past - 1]) {
+    match gather_features(alloc, u32::MAX, &text[part.from..part.past - 1]) {
         Ok(found) => Ok(found),
         Err(_) => Err(Unknown),
     }
@@ -84,7 +83,7 @@ pub fn gathered_features_in_parts<A: Allocator + Copy + Send + Sync, R: Threads 
     parts: usize,
     text: &[u8],
 ) -> Result<(Outline, FeatureLayer<A>), Unknown>
-    requires { length text.now ≤ length_limit }
+    requires { length text.now ≤ u32.MAX }
     ensures { IfOk result (AreGathered text.now) }
 {
     let parts = line_parts(alloc, parts, text)?;

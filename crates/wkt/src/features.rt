@@ -4,19 +4,19 @@
 //!    passes in one go (`FeatureCollector`).
 //! 2. A geometry's start is the number of whole rings there.
 
-ghost use Rattle.std.specs.Prelude.{◌≡◌, ◌⊎◌, List, All, IfOk, IfSome, [], MatchResult, OnOk};
+ghost use Rattle.std.specs.Prelude.{◌≡◌, ◌≤◌, ◌⊎◌, List, All, IfOk, IfSome, [], MatchResult, OnOk, length};
 ghost use Rattle.geom.specs.Limit.{AreInLimit, InLimit};
 ghost use Rattle.geom.specs.declared.point.Pt.{Pt as PtOf};
-ghost use Rattle.wkt.specs.Refusals.{IsRefused, StandsFor};
-ghost use Rattle.wkt.specs.Features.{AreCut, AreGathered, StandsForFeatures, features_of};
+ghost use Rattle.wkt.specs.Refusals.{IsRefused, IsRefusedWithin, StandsFor, length_limit};
+ghost use Rattle.wkt.specs.Features.{AreCut, StandsForFeatures, all_rings, features_of};
 ghost use Rattle.wkt.specs.FeatureCollecting.{begun_if, followed, seen};
 ghost use Rattle.wkt.specs.Outlines.{IsOutline};
 
-use crate::check::{LENGTH_LIMIT, check_layer};
+use crate::check::{LENGTH_LIMIT, check_layer_within};
 use crate::feature_layer::FeatureLayer;
 use crate::feature_lines::gathered_features_in_parts;
 use crate::outline::Outline;
-use crate::read::{Collector, ONE_PASS};
+use crate::read::{Collector, is_read_at_once};
 use crate::reader::{Event, Reader};
 use crate::survey::Survey;
 use geom::{Fault, NoMemory};
@@ -72,14 +72,16 @@ impl<A: Allocator + Copy> FeatureCollector<A> {
     }
 }
 
-/// The outline and the features of a text, or why it is refused; `Memory` as soon as there is none, whatever the text.
+/// The outline and the features of a text, or why it is refused within a limit of bytes; `Memory` as soon as there is none, whatever
+/// the text.
 pub fn gather_features<A: Allocator + Copy>(
     alloc: A,
+    longest: u32,
     text: &[u8],
 ) -> Result<(Outline, FeatureLayer<A>), Fault>
-    ensures { MatchResult result (AreGathered text.now) (λ fault. IsRefused text.now fault ⊎ (fault ≡ Fault.Memory)) }
+    ensures { MatchResult result (λ r. StandsForFeatures text.now r.1 × IsOutline (all_rings r.1) r.0 × (length text.now ≤ longest)) (λ fault. IsRefusedWithin longest text.now fault ⊎ (fault ≡ Fault.Memory)) }
 {
-    if text.len() > LENGTH_LIMIT {
+    if text.len() > longest as usize {
         return Err(Fault::LayerLong);
     }
     let mut reader = Reader::new();
@@ -113,19 +115,21 @@ pub struct OutlinedFeatures<A: Allocator> {
     pub features: Option<FeatureLayer<A>>,
 }
 
-/// The outline of a layer text with its features, or why it is refused, as `check_layer` says. Of a long text, and where
-/// memory runs out, it is the outline alone.
+/// The outline of a layer text with its features, or why it is refused within a limit of bytes, as `check_layer_within` says. Of a
+/// long text, and where memory runs out, it is the outline alone.
 pub fn read_outlined_features<A: Allocator + Copy>(
     alloc: A,
+    longest: u32,
     text: &[u8],
 ) -> Result<OutlinedFeatures<A>, Fault>
-    ensures answer { MatchResult result (λ read. (rings : List (List PtOf)) × StandsFor text.now rings × IsOutline rings read.outline) (λ fault. IsRefused text.now fault) }
+    ensures answer { MatchResult result (λ read. (rings : List (List PtOf)) × StandsFor text.now rings × IsOutline rings read.outline) (λ fault. IsRefusedWithin longest text.now fault) }
+    ensures short { IfOk result (λ _. length text.now ≤ longest) }
     ensures features { IfOk result (λ read. IfSome read.features (λ features. StandsForFeatures text.now features)) }
     ensures bounds_in_limit { IfOk result (λ read. IfSome read.outline.bounds (λ r. AreInLimit r.lo r.hi)) }
     ensures in_limit { IfOk result (λ read. IfSome read.features (λ features. All (λ rings. All (λ ring. All InLimit ring) rings) features)) }
 {
-    if text.len() <= ONE_PASS {
-        match gather_features(alloc, text) {
+    if is_read_at_once(longest, text) {
+        match gather_features(alloc, longest, text) {
             Ok((outline, features)) => {
                 return Ok(OutlinedFeatures {
                     outline,
@@ -138,7 +142,7 @@ pub fn read_outlined_features<A: Allocator + Copy>(
         }
     }
     Ok(OutlinedFeatures {
-        outline: check_layer(text)?,
+        outline: check_layer_within(longest, text)?,
         features: None,
     })
 }
@@ -146,14 +150,28 @@ pub fn read_outlined_features<A: Allocator + Copy>(
 /// The features of a layer text in their order, or why it is refused, as `check_layer` says; `Memory` only on a text that
 /// `check_layer` accepts.
 pub fn read_features<A: Allocator + Copy>(alloc: A, text: &[u8]) -> Result<FeatureLayer<A>, Fault>
-    ensures answer { MatchResult result (λ features. StandsForFeatures text.now features) (λ fault. IsRefused text.now fault ⊎ ((fault ≡ Fault.Memory) × (rings : List (List PtOf)) × StandsFor text.now rings)) }
+    ensures answer { MatchResult result (λ features. StandsForFeatures text.now features) (λ fault. IsRefused text.now fault ⊎ ((fault ≡ Fault.Memory) × (rings : List (List PtOf)) × StandsFor text.now rings × (length text.now ≤ length_limit))) }
+    ensures short { IfOk result (λ _. length text.now ≤ length_limit) }
     ensures in_limit { IfOk result (λ features. All (λ rings. All (λ ring. All InLimit ring) rings) features) }
 {
-    match gather_features(alloc, text) {
+    read_features_within(alloc, LENGTH_LIMIT, text)
+}
+
+/// The same within a limit of bytes that is given.
+pub fn read_features_within<A: Allocator + Copy>(
+    alloc: A,
+    longest: u32,
+    text: &[u8],
+) -> Result<FeatureLayer<A>, Fault>
+    ensures answer { MatchResult result (λ features. StandsForFeatures text.now features) (λ fault. IsRefusedWithin longest text.now fault ⊎ ((fault ≡ Fault.Memory) × (rings : List (List PtOf)) × StandsFor text.now rings × (length text.now ≤ longest))) }
+    ensures short { IfOk result (λ _. length text.now ≤ longest) }
+    ensures in_limit { IfOk result (λ features. All (λ rings. All (λ ring. All InLimit ring) rings) features) }
+{
+    match gather_features(alloc, longest, text) {
         Ok((_, features)) => Ok(features),
         // The text may be at fault behind the place where memory ran out.
         Err(Fault::Memory) => {
-            check_layer(text)?;
+            check_layer_within(longest, text)?;
             Err(Fault::Memory)
         }
         Err(fault) => Err(fault),
@@ -164,15 +182,17 @@ pub fn read_features<A: Allocator + Copy>(alloc: A, text: &[u8]) -> Result<Featu
 pub fn read_outlined_features_in_parts<A: Allocator + Copy + Send + Sync, R: Threads + Sync>(
     rt: &R,
     alloc: A,
+    longest: u32,
     parts: usize,
     text: &[u8],
 ) -> Result<OutlinedFeatures<A>, Fault>
-    ensures answer { MatchResult result (λ read. (rings : List (List PtOf)) × StandsFor text.now rings × IsOutline rings read.outline) (λ fault. IsRefused text.now fault) }
+    ensures answer { MatchResult result (λ read. (rings : List (List PtOf)) × StandsFor text.now rings × IsOutline rings read.outline) (λ fault. IsRefusedWithin longest text.now fault) }
+    ensures short { IfOk result (λ _. length text.now ≤ longest) }
     ensures features { IfOk result (λ read. IfSome read.features (λ features. StandsForFeatures text.now features)) }
     ensures bounds_in_limit { IfOk result (λ read. IfSome read.outline.bounds (λ r. AreInLimit r.lo r.hi)) }
     ensures in_limit { IfOk result (λ read. IfSome read.features (λ features. All (λ rings. All (λ ring. All InLimit ring) rings) features)) }
 {
-    if text.len() <= ONE_PASS {
+    if is_read_at_once(longest, text) {
         if let Ok((outline, features)) = gathered_features_in_parts(rt, alloc, parts, text) {
             return Ok(OutlinedFeatures {
                 outline,
@@ -180,5 +200,5 @@ pub fn read_outlined_features_in_parts<A: Allocator + Copy + Send + Sync, R: Thr
             });
         }
     }
-    read_outlined_features(alloc, text)
+    read_outlined_features(alloc, longest, text)
 }

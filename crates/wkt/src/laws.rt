@@ -1,10 +1,10 @@
 //! Laws of layer texts.
 
-ghost use Rattle.std.specs.Prelude.{◌≡◌, ℕ, List};
+ghost use Rattle.std.specs.Prelude.{◌≡◌, ◌≤◌, ℕ, List, length};
 ghost use Rattle.geom.specs.declared.fault.Fault.{Fault};
 ghost use Rattle.geom.specs.declared.point.Pt.{Pt};
 ghost use Rattle.wkt.specs.LayerText.{IsLayer, Ring};
-ghost use Rattle.wkt.specs.Refusals.{IsRefused, StandsFor};
+ghost use Rattle.wkt.specs.Refusals.{IsRefusedWithin, StandsFor};
 ghost use Rattle.wkt.specs.Features.{StandsForFeatures, all_rings};
 
 /// A text stands for at most one list of rings.
@@ -13,10 +13,10 @@ pub fn one_reading()
     ensures plain { (text : List ℕ) (a b : List (List Pt)) → StandsFor text a → StandsFor text b → a ≡ b }
 {}
 
-/// A text is refused for at most one reason, and for none if it is accepted.
+/// Within a limit a text is refused for at most one reason, and for none if it is accepted.
 pub fn one_refusal()
-    ensures reason { (text : List ℕ) (f g : Fault) → IsRefused text f → IsRefused text g → f ≡ g }
-    ensures accepted { (text : List ℕ) (rings : List (List Pt)) (f : Fault) → StandsFor text rings → IsRefused text f → ⊥ }
+    ensures reason { (limit : ℕ) (text : List ℕ) (f g : Fault) → IsRefusedWithin limit text f → IsRefusedWithin limit text g → f ≡ g }
+    ensures accepted { (limit : ℕ) (text : List ℕ) (rings : List (List Pt)) (f : Fault) → length text ≤ limit → StandsFor text rings → IsRefusedWithin limit text f → ⊥ }
 {}
 
 /// An accepted text has one list of features, and their rings are those that it stands for.

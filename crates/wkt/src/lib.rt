@@ -23,12 +23,15 @@ mod runs;
 mod survey;
 mod write;
 
-pub use check::{LENGTH_LIMIT, check_layer};
+pub use check::{LENGTH_LIMIT, check_layer, check_layer_within};
 pub use feature_layer::FeatureLayer;
 pub use features::{
-    OutlinedFeatures, read_features, read_outlined_features, read_outlined_features_in_parts,
+    OutlinedFeatures, read_features, read_features_within, read_outlined_features,
+    read_outlined_features_in_parts,
 };
 pub use laws::{one_list_of_features, one_reading, one_refusal};
 pub use outline::Outline;
-pub use read::{OutlinedLayer, read_layer, read_outlined, read_outlined_in_parts};
+pub use read::{
+    OutlinedLayer, read_layer, read_layer_within, read_outlined, read_outlined_in_parts,
+};
 pub use write::{push_first_ring, push_line_end, push_next_ring, write_multi};

@@ -9,7 +9,6 @@ ghost use Rattle.std.specs.Prelude.{◌≡◌, ◌+◌, ◌-◌, ◌<◌, ◌≤
 ghost use Rattle.hands.specs.Consecutive.{ArePartsOf};
 ghost use Rattle.wkt.specs.WholeLines.{AreWholeLines};
 ghost use Rattle.wkt.specs.Outlines.{IsGathered, IsOutlined};
-ghost use Rattle.wkt.specs.Refusals.{length_limit};
 
 use crate::outline::Outline;
 use crate::read::gather;
@@ -61,7 +60,7 @@ pub fn line_parts<A: Allocator + Copy>(
     parts: usize,
     text: &[u8],
 ) -> Result<Vec<Part, A>, AllocError>
-    requires { length text.now ≤ length_limit }
+    requires { length text.now ≤ u32.MAX }
     ensures parts { IfOk result (λ v. ArePartsOf 0 (length text.now + 1) v.items) }
     ensures lines { IfOk result (λ v. All (AreWholeLines text.now) v.items) }
 {
@@ -88,7 +87,7 @@ fn gathered_of<A: Allocator + Copy>(
     requires inside { part.past ≤ length text.now + 1 }
     ensures { IfOk result (IsGathered (slice_range text.now part.from (part.past - 1))) }
 {
-    match gather(alloc, &text[part.from..part.past - 1]) {
+    match gather(alloc, u32::MAX, &text[part.from..part.past - 1]) {
         Ok(found) => Ok(found),
         Err(_) => Err(Unknown),
     }
@@ -121,7 +120,7 @@ pub fn gathered_in_parts<A: Allocator + Copy + Send + Sync, R: Threads + Sync>(
     parts: usize,
     text: &[u8],
 ) -> Result<(Outline, Vec<Ring<A>, A>), Unknown>
-    requires { length text.now ≤ length_limit }
+    requires { length text.now ≤ u32.MAX }
     ensures { IfOk result (IsGathered text.now) }
 {
     let parts = line_parts(alloc, parts, text)?;

@@ -1,13 +1,13 @@
 //! A layer text, read into rings.
 
-ghost use Rattle.std.specs.Prelude.{◌≡◌, ◌⊎◌, List, All, IfOk, IfSome, [], MatchResult, OnOk, length};
+ghost use Rattle.std.specs.Prelude.{◌≡◌, ◌≤◌, ◌⊎◌, List, All, IfOk, IfSome, IsTrue, [], MatchResult, OnOk, length};
 ghost use Rattle.geom.specs.Limit.{AreInLimit, InLimit};
 ghost use Rattle.geom.specs.declared.point.Pt.{Pt as PtOf};
-ghost use Rattle.wkt.specs.Refusals.{IsRefused, StandsFor};
+ghost use Rattle.wkt.specs.Refusals.{IsRefused, IsRefusedWithin, StandsFor, length_limit};
 ghost use Rattle.wkt.specs.Collecting.{closed, gathered, point_value, view};
 ghost use Rattle.wkt.specs.Outlines.{IsOutline};
 
-use crate::check::{LENGTH_LIMIT, check_layer};
+use crate::check::{LENGTH_LIMIT, check_layer_within};
 use crate::lines::gathered_in_parts;
 use crate::outline::Outline;
 use crate::reader::{Event, Number, Reader};
@@ -16,9 +16,13 @@ use geom::{Fault, Layer, NoMemory, Pt, Ring};
 use std::alloc::Allocator;
 use std::thread::Threads;
 
-/// The greatest length of a text, in bytes, that is read in the pass that checks it: a longer one may have more points than
-/// there should be room for before it is known not to be refused.
-pub const ONE_PASS: usize = 67_108_864;
+/// Whether a text is read in the pass that checks it, where it may have so many bytes at most: one that is longer than a quarter of these
+/// may have more points than there should be room for before it is known not to be refused.
+pub fn is_read_at_once(longest: u32, text: &[u8]) -> bool
+    ensures { IsTrue result → length text.now ≤ longest }
+{
+    text.len() <= (longest / 4) as usize
+}
 
 /// The point that two numbers write, where both are in range.
 fn point_of(x: Number, y: Number) -> Pt
@@ -103,14 +107,16 @@ impl<A: Allocator + Copy> Collector<A> {
     }
 }
 
-/// The outline and the rings of a text, or why it is refused; `Memory` as soon as there is none, whatever the text.
+/// The outline and the rings of a text, or why it is refused within a limit of bytes; `Memory` as soon as there is none, whatever the
+/// text.
 pub fn gather<A: Allocator + Copy>(
     alloc: A,
+    longest: u32,
     text: &[u8],
 ) -> Result<(Outline, Vec<Ring<A>, A>), Fault>
-    ensures { MatchResult result (λ r. StandsFor text.now r.1.items × IsOutline r.1.items r.0) (λ fault. IsRefused text.now fault ⊎ (fault ≡ Fault.Memory)) }
+    ensures { MatchResult result (λ r. StandsFor text.now r.1.items × IsOutline r.1.items r.0 × (length text.now ≤ longest)) (λ fault. IsRefusedWithin longest text.now fault ⊎ (fault ≡ Fault.Memory)) }
 {
-    if text.len() > LENGTH_LIMIT {
+    if text.len() > longest as usize {
         return Err(Fault::LayerLong);
     }
     let mut reader = Reader::new();
@@ -147,16 +153,21 @@ pub struct OutlinedLayer<A: Allocator> {
     pub layer: Option<Layer<A>>,
 }
 
-/// The outline of a layer text with its rings, or why it is refused, as `check_layer` says. Of a long text, and where memory
-/// runs out, it is the outline alone.
-pub fn read_outlined<A: Allocator + Copy>(alloc: A, text: &[u8]) -> Result<OutlinedLayer<A>, Fault>
-    ensures answer { MatchResult result (λ read. (rings : List (List PtOf)) × StandsFor text.now rings × IsOutline rings read.outline) (λ fault. IsRefused text.now fault) }
+/// The outline of a layer text with its rings, or why it is refused within a limit of bytes, as `check_layer_within` says. Of a long
+/// text, and where memory runs out, it is the outline alone.
+pub fn read_outlined<A: Allocator + Copy>(
+    alloc: A,
+    longest: u32,
+    text: &[u8],
+) -> Result<OutlinedLayer<A>, Fault>
+    ensures answer { MatchResult result (λ read. (rings : List (List PtOf)) × StandsFor text.now rings × IsOutline rings read.outline) (λ fault. IsRefusedWithin longest text.now fault) }
+    ensures short { IfOk result (λ _. length text.now ≤ longest) }
     ensures rings { IfOk result (λ read. IfSome read.layer (λ layer. StandsFor text.now layer)) }
     ensures bounds_in_limit { IfOk result (λ read. IfSome read.outline.bounds (λ r. AreInLimit r.lo r.hi)) }
     ensures in_limit { IfOk result (λ read. IfSome read.layer (λ layer. All (λ ring. All InLimit ring) layer)) }
 {
-    if text.len() <= ONE_PASS {
-        match gather(alloc, text) {
+    if is_read_at_once(longest, text) {
+        match gather(alloc, longest, text) {
             Ok((outline, rings)) => {
                 return Ok(OutlinedLayer {
                     outline,
@@ -169,7 +180,7 @@ pub fn read_outlined<A: Allocator + Copy>(alloc: A, text: &[u8]) -> Result<Outli
         }
     }
     Ok(OutlinedLayer {
-        outline: check_layer(text)?,
+        outline: check_layer_within(longest, text)?,
         layer: None,
     })
 }
@@ -177,14 +188,28 @@ pub fn read_outlined<A: Allocator + Copy>(alloc: A, text: &[u8]) -> Result<Outli
 /// The rings of a layer text in their order, or why it is refused, as `check_layer` says; `Memory` only on a text that
 /// `check_layer` accepts.
 pub fn read_layer<A: Allocator + Copy>(alloc: A, text: &[u8]) -> Result<Layer<A>, Fault>
-    ensures answer { MatchResult result (λ layer. StandsFor text.now layer) (λ fault. IsRefused text.now fault ⊎ ((fault ≡ Fault.Memory) × (rings : List (List PtOf)) × StandsFor text.now rings)) }
+    ensures answer { MatchResult result (λ layer. StandsFor text.now layer) (λ fault. IsRefused text.now fault ⊎ ((fault ≡ Fault.Memory) × (rings : List (List PtOf)) × StandsFor text.now rings × (length text.now ≤ length_limit))) }
+    ensures short { IfOk result (λ _. length text.now ≤ length_limit) }
     ensures in_limit { IfOk result (λ layer. All (λ ring. All InLimit ring) layer) }
 {
-    match gather(alloc, text) {
+    read_layer_within(alloc, LENGTH_LIMIT, text)
+}
+
+/// The same within a limit of bytes that is given.
+pub fn read_layer_within<A: Allocator + Copy>(
+    alloc: A,
+    longest: u32,
+    text: &[u8],
+) -> Result<Layer<A>, Fault>
+    ensures answer { MatchResult result (λ layer. StandsFor text.now layer) (λ fault. IsRefusedWithin longest text.now fault ⊎ ((fault ≡ Fault.Memory) × (rings : List (List PtOf)) × StandsFor text.now rings × (length text.now ≤ longest))) }
+    ensures short { IfOk result (λ _. length text.now ≤ longest) }
+    ensures in_limit { IfOk result (λ layer. All (λ ring. All InLimit ring) layer) }
+{
+    match gather(alloc, longest, text) {
         Ok((_, rings)) => Ok(Layer::new(rings)),
         // The text may be at fault behind the place where memory ran out.
         Err(Fault::Memory) => {
-            check_layer(text)?;
+            check_layer_within(longest, text)?;
             Err(Fault::Memory)
         }
         Err(fault) => Err(fault),
@@ -196,15 +221,17 @@ pub fn read_layer<A: Allocator + Copy>(alloc: A, text: &[u8]) -> Result<Layer<A>
 pub fn read_outlined_in_parts<A: Allocator + Copy + Send + Sync, R: Threads + Sync>(
     rt: &R,
     alloc: A,
+    longest: u32,
     parts: usize,
     text: &[u8],
 ) -> Result<OutlinedLayer<A>, Fault>
-    ensures answer { MatchResult result (λ read. (rings : List (List PtOf)) × StandsFor text.now rings × IsOutline rings read.outline) (λ fault. IsRefused text.now fault) }
+    ensures answer { MatchResult result (λ read. (rings : List (List PtOf)) × StandsFor text.now rings × IsOutline rings read.outline) (λ fault. IsRefusedWithin longest text.now fault) }
+    ensures short { IfOk result (λ _. length text.now ≤ longest) }
     ensures rings { IfOk result (λ read. IfSome read.layer (λ layer. StandsFor text.now layer)) }
     ensures bounds_in_limit { IfOk result (λ read. IfSome read.outline.bounds (λ r. AreInLimit r.lo r.hi)) }
     ensures in_limit { IfOk result (λ read. IfSome read.layer (λ layer. All (λ ring. All InLimit ring) layer)) }
 {
-    if text.len() <= ONE_PASS {
+    if is_read_at_once(longest, text) {
         if let Ok((outline, rings)) = gathered_in_parts(rt, alloc, parts, text) {
             return Ok(OutlinedLayer {
                 outline,
@@ -212,5 +239,5 @@ pub fn read_outlined_in_parts<A: Allocator + Copy + Send + Sync, R: Threads + Sy
             });
         }
     }
-    read_outlined(alloc, text)
+    read_outlined(alloc, longest, text)
 }

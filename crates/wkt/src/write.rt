@@ -7,7 +7,7 @@ ghost use Rattle.geom.specs.Canonical.{written_rings};
 ghost use Rattle.geom.specs.Words.{pt_words};
 ghost use Rattle.wkt.specs.Canonical.{closed, first_ring, line_end, more_of, multi_text, next_ring, polygon_text, ring_text};
 ghost use Rattle.wkt.specs.Readable.{IsReadable, IsShort, number_limit};
-ghost use Rattle.wkt.specs.Refusals.{IsLayerOf, StandsFor, length_limit};
+ghost use Rattle.wkt.specs.Refusals.{IsLayerOf, StandsFor};
 
 use geom::{NoMemory, Polygon, Pt, SimpleRing};
 use itoa::Buffer;
@@ -171,7 +171,7 @@ pub fn write_multi<A: Allocator, B: Allocator>(
 ) -> Result<Vec<u8, A>, NoMemory>
     ensures text { IfOk result (λ text. text.items ≡ multi_text polygons.now) }
     ensures reads { IfOk result (λ text. (line : List ℕ) × (text.items ≡ line ++ 10 ∷ []) × IsLayerOf line (map closed (written_rings polygons.now))) }
-    ensures reads_again { IfOk result (λ text. length text.items ≤ length_limit → All (λ ring. All InLimit ring) (written_rings polygons.now) → StandsFor text.items (written_rings polygons.now)) }
+    ensures reads_again { IfOk result (λ text. All (λ ring. All InLimit ring) (written_rings polygons.now) → StandsFor text.items (written_rings polygons.now)) }
 {
     let Some((first, rest)) = polygons.split_first() else {
         return Ok(Vec::from_slice(alloc, b"MULTIPOLYGON EMPTY\n")?);

@@ -5,7 +5,7 @@ use refusing::Refusing;
 use std::alloc::Global;
 use std::thread::Threads;
 use wkt::{
-    FeatureLayer, OutlinedFeatures, read_features, read_outlined_features,
+    FeatureLayer, LENGTH_LIMIT, OutlinedFeatures, read_features, read_outlined_features,
     read_outlined_features_in_parts,
 };
 
@@ -45,12 +45,12 @@ fn has_features<R: Threads + Sync>(rt: &R, alloc: Global, text: &str, counts: &[
     let Ok(features) = read_features(alloc, text) else {
         return false;
     };
-    if !has_rings(&features, counts) || !is_read(read_outlined_features(alloc, text), counts) {
+    if !has_rings(&features, counts) || !is_read(read_outlined_features(alloc, LENGTH_LIMIT, text), counts) {
         return false;
     }
     for parts in PARTS {
         if !is_read(
-            read_outlined_features_in_parts(rt, alloc, parts, text),
+            read_outlined_features_in_parts(rt, alloc, LENGTH_LIMIT, parts, text),
             counts,
         ) {
             return false;
@@ -63,12 +63,12 @@ fn has_features<R: Threads + Sync>(rt: &R, alloc: Global, text: &str, counts: &[
 fn is_refused<R: Threads + Sync>(rt: &R, alloc: Global, text: &str, fault: Fault) -> bool {
     let text = text.as_bytes();
     for parts in PARTS {
-        if read_outlined_features_in_parts(rt, alloc, parts, text).err() != Some(fault) {
+        if read_outlined_features_in_parts(rt, alloc, LENGTH_LIMIT, parts, text).err() != Some(fault) {
             return false;
         }
     }
     read_features(alloc, text).err() == Some(fault)
-        && read_outlined_features(alloc, text).err() == Some(fault)
+        && read_outlined_features(alloc, LENGTH_LIMIT, text).err() == Some(fault)
 }
 
 /// Four features, of a line each.
@@ -82,7 +82,7 @@ const REQUESTS: u64 = 100;
 fn keeps_features<R: Threads + Sync>(rt: &R, alloc: Global, parts: usize) -> bool {
     for number in 0..REQUESTS {
         let heap = Refusing::new(alloc, number);
-        match read_outlined_features_in_parts(rt, &heap, parts, LINES.as_bytes()) {
+        match read_outlined_features_in_parts(rt, &heap, LENGTH_LIMIT, parts, LINES.as_bytes()) {
             Ok(read) if read.features.is_some() => {}
             _ => return false,
         }

@@ -4,7 +4,7 @@ use geom::{Fault, Pt, Rect};
 use refusing::Refusing;
 use std::alloc::{AllocError, Global};
 use std::thread::Threads;
-use wkt::{Outline, read_outlined_in_parts};
+use wkt::{LENGTH_LIMIT, Outline, read_outlined_in_parts};
 
 const TRIANGLE: &[u8; 31] = b"POLYGON ((0 0, 1 0, 0 1, 0 0))\n";
 
@@ -34,7 +34,7 @@ fn is_read<R: Threads + Sync>(
         return false;
     };
     let bounds = Some(Rect::spanned_by(Pt { x: 0, y: 0 }, Pt { x: reach, y: reach }));
-    let read = read_outlined_in_parts(rt, alloc, parts, &text);
+    let read = read_outlined_in_parts(rt, alloc, LENGTH_LIMIT, parts, &text);
     let found = read.map(|read| (read.outline, read.layer.map(|layer| layer.rings().len())));
     found == Ok((Outline { segments, bounds }, Some(rings)))
 }
@@ -45,7 +45,7 @@ fn is_refused<R: Threads + Sync>(rt: &R, alloc: Global, parts: usize, row: (&str
     let Ok(text) = text_with(alloc, behind) else {
         return false;
     };
-    read_outlined_in_parts(rt, alloc, parts, &text).err() == Some(fault)
+    read_outlined_in_parts(rt, alloc, LENGTH_LIMIT, parts, &text).err() == Some(fault)
 }
 
 /// More requests for memory than to read the triangles takes.
@@ -58,7 +58,7 @@ fn keeps_rings<R: Threads + Sync>(rt: &R, alloc: Global, parts: usize) -> bool {
     };
     for number in 0..REQUESTS {
         let heap = Refusing::new(alloc, number);
-        match read_outlined_in_parts(rt, &heap, parts, &text) {
+        match read_outlined_in_parts(rt, &heap, LENGTH_LIMIT, parts, &text) {
             Ok(read) if read.layer.is_some() => {}
             _ => return false,
         }

@@ -2,7 +2,10 @@
 
 use geom::{Fault, Pt, Rect};
 use std::alloc::{AllocError, Global};
-use wkt::{Outline, check_layer, read_layer, read_outlined};
+use wkt::{
+    LENGTH_LIMIT, Outline, check_layer, check_layer_within, read_layer, read_layer_within,
+    read_outlined,
+};
 
 /// The x and y of the lower left corner and of the upper right one.
 type Corners = (i32, i32, i32, i32);
@@ -20,7 +23,7 @@ fn outline_of(segments: u32, corners: Option<Corners>) -> Outline {
 fn is_read(alloc: Global, text: &str, rings: usize, outline: Outline) -> bool {
     let read = read_layer(alloc, text.as_bytes());
     let found = read.map(|layer| layer.rings().len());
-    let outlined = read_outlined(alloc, text.as_bytes());
+    let outlined = read_outlined(alloc, LENGTH_LIMIT, text.as_bytes());
     let both = outlined.map(|read| (read.outline, read.layer.map(|layer| layer.rings().len())));
     found == Ok(rings)
         && both == Ok((outline, Some(rings)))
@@ -30,7 +33,7 @@ fn is_read(alloc: Global, text: &str, rings: usize, outline: Outline) -> bool {
 /// Whether a text is refused so, where it is checked and where it is read.
 fn is_refused(alloc: Global, text: &str, fault: Fault) -> bool {
     let read = read_layer(alloc, text.as_bytes()).err();
-    let outlined = read_outlined(alloc, text.as_bytes()).err();
+    let outlined = read_outlined(alloc, LENGTH_LIMIT, text.as_bytes()).err();
     read == Some(fault) && outlined == Some(fault) && check_layer(text.as_bytes()) == Err(fault)
 }
 
@@ -237,6 +240,44 @@ fn told_at_limit(
 fn length_limit(rt: HostRuntime) {
     let told = (Err(Fault::LayerLong), Ok(Outline::of_none()));
     assert!(rt; told_at_limit(rt.alloc()) == Ok(told));
+}
+
+/// A square of 35 bytes.
+const SQUARE: &[u8] = b"POLYGON ((0 0, 4 0, 4 4, 0 4, 0 0))";
+
+/// The most bytes that a text may have, whether the square may be read then, and whether its rings are read with its outline: where it is
+/// no longer than a quarter of these.
+const GIVEN_LIMITS: [(u32, bool, bool); 7] = [
+    (0, false, false),
+    (34, false, false),
+    (35, true, false),
+    (139, true, false),
+    (140, true, true),
+    (LENGTH_LIMIT, true, true),
+    (u32::MAX, true, true),
+];
+
+/// What is told of the square within a limit, by each way to read it.
+fn told_within(alloc: Global, longest: u32) -> [Result<u32, Fault>; 3] {
+    [
+        check_layer_within(longest, SQUARE).map(|outline| outline.segments),
+        read_outlined(alloc, longest, SQUARE).map(|read| read.outline.segments),
+        read_layer_within(alloc, longest, SQUARE).map(|layer| match layer.rings() {
+            [ring] => ring.points().len() as u32,
+            _ => 0,
+        }),
+    ]
+}
+
+#[test]
+fn given_limits(rt: HostRuntime) {
+    let alloc = rt.alloc();
+    for (longest, accepted, kept) in GIVEN_LIMITS {
+        let told = if accepted { Ok(4) } else { Err(Fault::LayerLong) };
+        assert!(rt; told_within(alloc, longest) == [told, told, told], "{longest}");
+        let with_rings = read_outlined(alloc, longest, SQUARE).is_ok_and(|read| read.layer.is_some());
+        assert!(rt; with_rings == kept, "{longest}");
+    }
 }
 
 /// Whether a text is a layer of rings with these points.

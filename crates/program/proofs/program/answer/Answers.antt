@@ -6,11 +6,11 @@ pub returns-in-Some : goal.returns-in-Some
 returns-in-Some g c =
     inr (
       c.deref.result.now,
-      c.load.new.self,
+      c.load_within.new.self,
       rw (c.deref.ensures.value) c.in-Ok.ensures.loaded,
       inr (
         c.deref-in-Some.result.now,
-        rw (c.deref-in-Some.ensures.value) c.in-Ok-load.ensures.loaded,
+        rw (c.deref-in-Some.ensures.value) c.in-Ok-load_within.ensures.loaded,
         done_as_covered g.O.Sink.state g.E.Sink.state c.args.out.now c.answer_covered.new.out c.args.err.now c.answer_covered.new.err c.args.asked.now
             c.deref.result.now c.deref-in-Some.result.now c.in-Some.op c.answer_covered.result
             (sym c.operation_covered.ensures ∙ c.in-Some.is) c.answer_covered.ensures,
@@ -21,11 +21,11 @@ pub returns : goal.returns
 returns g c =
     inr (
       c.deref-in-None.result.now,
-      c.load.new.self,
+      c.load_within.new.self,
       rw (c.deref-in-None.ensures.value) c.in-Ok.ensures.loaded,
       inr (
         c.deref-in-None-2.result.now,
-        rw (c.deref-in-None-2.ensures.value) c.in-Ok-load.ensures.loaded,
+        rw (c.deref-in-None-2.ensures.value) c.in-Ok-load_within.ensures.loaded,
         done_by_parity g.O.Sink.state g.E.Sink.state c.args.out.now c.answer_by_parity.new.out c.args.err.now c.answer_by_parity.new.err c.args.asked.now
             c.deref-in-None.result.now c.deref-in-None-2.result.now c.answer_by_parity.result
             (sym c.operation_covered.ensures ∙ c.in-None.is) c.answer_by_parity.ensures,

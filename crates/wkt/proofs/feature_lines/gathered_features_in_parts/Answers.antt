@@ -15,5 +15,5 @@ pub returns : goal.returns
 returns g c =
     let text = c.args.text.now in
     let gathered = c.in_ok-gathered.gathered.items in
-    let stands = lines_from StandsForFeatures features_parted (λ x. x.1) AreGathered (λ t x h. h.0) text 0 c.deref.result.now gathered c.requires (omega arith) (rw c.deref.ensures.value c.in_ok-parts.ensures.parts) (rw c.deref.ensures.value c.in_ok-parts.ensures.lines) c.in_ok-gathered.ensures in
+    let stands = lines_from StandsForFeatures features_parted (λ x. x.1) AreGathered (λ t x h. h.0) text 0 c.deref.result.now gathered (omega arith) (rw c.deref.ensures.value c.in_ok-parts.ensures.parts) (rw c.deref.ensures.value c.in_ok-parts.ensures.lines) c.in_ok-gathered.ensures in
     IfOk-weaker c.features_of_all.result _ _ (λ r all. (rw all.1 stands, all.0)) c.features_of_all.ensures

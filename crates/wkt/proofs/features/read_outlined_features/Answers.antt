@@ -10,7 +10,7 @@ returns-in-Ok-clause-answer g c = (all_rings c.in-Ok.features, stands_joined c.a
 
 pub returns-in-Ok-clause-bounds_in_limit : goal.returns-in-Ok-clause-bounds_in_limit
 returns-in-Ok-clause-bounds_in_limit g c =
-    bounds_in c.args.text.now (Ok c.in-Ok.outline) (all_rings c.in-Ok.features, stands_joined c.args.text.now c.in-Ok.features c.in-Ok.ensures.0, c.in-Ok.ensures.1)
+    bounds_in c.args.longest c.args.text.now (Ok c.in-Ok.outline) (all_rings c.in-Ok.features, stands_joined c.args.text.now c.in-Ok.features c.in-Ok.ensures.0, c.in-Ok.ensures.1)
 
 pub returns-in-Ok-clause-in_limit : goal.returns-in-Ok-clause-in_limit
 returns-in-Ok-clause-in_limit g c = features_in c.args.text.now c.in-Ok.features c.in-Ok.ensures.0

@@ -16,5 +16,5 @@ pub returns : goal.returns
 returns g c =
     let text = c.args.text.now in
     let gathered = c.in_ok-gathered.gathered.items in
-    let stands = lines_from StandsFor parted (λ x. x.1.items) IsGathered (λ t x h. h.0) text 0 c.deref.result.now gathered c.requires (omega arith) (rw c.deref.ensures.value c.in_ok-parts.ensures.parts) (rw c.deref.ensures.value c.in_ok-parts.ensures.lines) c.in_ok-gathered.ensures in
+    let stands = lines_from StandsFor parted (λ x. x.1.items) IsGathered (λ t x h. h.0) text 0 c.deref.result.now gathered (omega arith) (rw c.deref.ensures.value c.in_ok-parts.ensures.parts) (rw c.deref.ensures.value c.in_ok-parts.ensures.lines) c.in_ok-gathered.ensures in
     IfOk-weaker c.gathered_of_all.result _ _ (λ r all. (rw all.1 stands, all.0)) c.gathered_of_all.ensures

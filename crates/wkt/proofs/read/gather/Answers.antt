@@ -1,5 +1,4 @@
-use Rattle.std.proofs.Common.{◌≤◌, ◌+◌, ◌∙◌, length, inl, sym, subst, refl, arith}
-use Rattle.wkt.specs.Refusals.{length_limit}
+use Rattle.std.proofs.Common.{rules, ◌≤◌, ◌+◌, ◌∙◌, length, inl, sym, subst, refl, arith}
 use Rattle.wkt.specs.Surveying.{Shown, shown, judged, took}
 use Rattle.wkt.specs.Collecting.{Gathered, view}
 use Rattle.wkt.proofs.Checks.{Answers, checked_stop, checked_broken, checked_whole}
@@ -8,7 +7,7 @@ use Rattle.wkt.proofs.read.gather.Goals as goal
 
 pub returns-in_default : goal.returns-in_default
 returns-in_default g c =
-    let small : length c.args.text.now ≤ length_limit = omega (arith, c.if-text-gt-LENGTH_LIMIT.false) in
+    let small : length c.args.text.now ≤ c.args.longest = omega (arith, c.if-text-longest.false) in
     let k = collected_checked c.args.text.now c.loop-at.at c.loop-at.reader (shown c.loop-at.survey) (view c.loop-at.collector) c.loop-at.invariant in
     inl (small, checked_stop c.args.text.now c.loop-at.at c.loop-at.reader (shown c.loop-at.survey) c.loop-at-test.true k (c.in_default.ensures c.loop-at.invariant.notes c.loop-at.invariant.known.read.is))
 
@@ -22,22 +21,23 @@ loop-at-preserved g c =
 
 pub returns-then-not-may_end : goal.returns-then-not-may_end
 returns-then-not-may_end g c =
-    let small : length c.args.text.now ≤ length_limit = omega (arith, c.if-text-gt-LENGTH_LIMIT.false) in
+    let small : length c.args.text.now ≤ c.args.longest = omega (arith, c.if-text-longest.false) in
     let k = collected_checked c.args.text.now c.loop-at.at c.loop-at.reader (shown c.loop-at.survey) (view c.loop-at.collector) c.loop-at.invariant in
     inl (small, checked_broken c.args.text.now c.loop-at.at c.loop-at.reader (shown c.loop-at.survey) c.loop-at-test.false k (sym c.may_end.ensures ∙ c.if-not-may_end.true))
 
 pub returns-in-Ok-verdict : goal.returns-in-Ok-verdict
 returns-in-Ok-verdict g c =
-    let small : length c.args.text.now ≤ length_limit = omega (arith, c.if-text-gt-LENGTH_LIMIT.false) in
+    let small : length c.args.text.now ≤ c.args.longest = omega (arith, c.if-text-longest.false) in
     let k = collected_checked c.args.text.now c.loop-at.at c.loop-at.reader (shown c.loop-at.survey) (view c.loop-at.collector) c.loop-at.invariant in
-    let a : Answers c.args.text.now (judged c.loop-at.survey.outside c.loop-at.survey.fault c.loop-at.survey.outline) =
-    checked_whole c.args.text.now c.loop-at.at c.loop-at.reader (shown c.loop-at.survey) c.loop-at.survey.outline c.loop-at-test.false small k (sym c.may_end.ensures ∙ c.if-not-may_end.false) refl in
-    collected_done c.args.text.now c.loop-at.at c.loop-at.reader (shown c.loop-at.survey) (view c.loop-at.collector) _ c.loop-at-test.false c.loop-at.invariant (subst (Answers c.args.text.now) (sym c.in-Ok-verdict.ensures) a)
+    let a : Answers c.args.longest c.args.text.now (judged c.loop-at.survey.outside c.loop-at.survey.fault c.loop-at.survey.outline) =
+    checked_whole c.args.longest c.args.text.now c.loop-at.at c.loop-at.reader (shown c.loop-at.survey) c.loop-at.survey.outline (search rules) c.loop-at-test.false small k (sym c.may_end.ensures ∙ c.if-not-may_end.false) refl in
+    let done = collected_done c.args.longest c.args.text.now c.loop-at.at c.loop-at.reader (shown c.loop-at.survey) (view c.loop-at.collector) _ c.loop-at-test.false c.loop-at.invariant (subst (Answers c.args.longest c.args.text.now) (sym c.in-Ok-verdict.ensures) a) in
+    (done.0, done.1, small)
 
 pub returns-in-Err : goal.returns-in-Err
 returns-in-Err g c =
-    let small : length c.args.text.now ≤ length_limit = omega (arith, c.if-text-gt-LENGTH_LIMIT.false) in
+    let small : length c.args.text.now ≤ c.args.longest = omega (arith, c.if-text-longest.false) in
     let k = collected_checked c.args.text.now c.loop-at.at c.loop-at.reader (shown c.loop-at.survey) (view c.loop-at.collector) c.loop-at.invariant in
-    let a : Answers c.args.text.now (judged c.loop-at.survey.outside c.loop-at.survey.fault c.loop-at.survey.outline) =
-    checked_whole c.args.text.now c.loop-at.at c.loop-at.reader (shown c.loop-at.survey) c.loop-at.survey.outline c.loop-at-test.false small k (sym c.may_end.ensures ∙ c.if-not-may_end.false) refl in
-    inl (subst (Answers c.args.text.now) (sym c.in-Err.ensures) a)
+    let a : Answers c.args.longest c.args.text.now (judged c.loop-at.survey.outside c.loop-at.survey.fault c.loop-at.survey.outline) =
+    checked_whole c.args.longest c.args.text.now c.loop-at.at c.loop-at.reader (shown c.loop-at.survey) c.loop-at.survey.outline (search rules) c.loop-at-test.false small k (sym c.may_end.ensures ∙ c.if-not-may_end.false) refl in
+    inl (subst (Answers c.args.longest c.args.text.now) (sym c.in-Err.ensures) a)

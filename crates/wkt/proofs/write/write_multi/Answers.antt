@@ -4,7 +4,7 @@ use Rattle.geom.specs.declared.point.Pt.{Pt}
 use Rattle.geom.specs.Canonical.{written_rings}
 use Rattle.wkt.specs.Canonical.{closed, multi_text}
 use Rattle.wkt.specs.Readable.{IsReadable}
-use Rattle.wkt.specs.Refusals.{IsLayerOf, StandsFor, length_limit}
+use Rattle.wkt.specs.Refusals.{IsLayerOf, StandsFor}
 use Rattle.wkt.proofs.Written.{reads, reads_again}
 use Rattle.wkt.proofs.Writing.{line_pushed, no_items, rings_first}
 use Rattle.wkt.proofs.Inside.{all_of}
@@ -21,12 +21,11 @@ returns-in_default-clause-reads g c =
     (reads c.args.polygons.now (subst (λ ps. All IsReadable (written_rings ps)) (sym none) (all_of IsReadable [] tt)))
 
 pub returns-in_default-clause-reads_again : goal.returns-in_default-clause-reads_again
-returns-in_default-clause-reads_again g c = λ short inside.
+returns-in_default-clause-reads_again g c = λ inside.
     let none = no_items c.args.polygons.now c.in_default.ensures.cases in
     let text = c.in_ok-from_slice.ensures.items ∙ ap multi_text (sym none) in
     subst (λ (t : List ℕ). StandsFor t (written_rings c.args.polygons.now)) (sym text)
-    (reads_again c.args.polygons.now (subst (λ ps. All IsReadable (written_rings ps)) (sym none) (all_of IsReadable [] tt))
-    (subst (λ (t : List ℕ). length t ≤ length_limit) text short) inside)
+    (reads_again c.args.polygons.now (subst (λ ps. All IsReadable (written_rings ps)) (sym none) (all_of IsReadable [] tt)) inside)
 
 pub returns-clause-text : goal.returns-clause-text
 returns-clause-text g c =
@@ -40,8 +39,8 @@ returns-clause-reads g c =
     subst (λ (t : List ℕ). Reads t (written_rings c.args.polygons.now)) (sym (returns-clause-text g c)) (reads c.args.polygons.now readable)
 
 pub returns-clause-reads_again : goal.returns-clause-reads_again
-returns-clause-reads_again g c = λ short inside.
+returns-clause-reads_again g c = λ inside.
     let text = returns-clause-text g c in
     let readable = subst (λ ps. All IsReadable (written_rings ps)) (sym c.in-Some.ensures.cases.0) (rings_first IsReadable c.in-Some.first.now c.in-Some.rest.now c.in_ok-push_polygon.ensures.readable c.in_ok-push_more_polygons.ensures.readable) in
     subst (λ (t : List ℕ). StandsFor t (written_rings c.args.polygons.now)) (sym text)
-    (reads_again c.args.polygons.now readable (subst (λ (t : List ℕ). length t ≤ length_limit) text short) inside)
+    (reads_again c.args.polygons.now readable inside)

@@ -1,14 +1,13 @@
-use Rattle.std.proofs.Common.{◌∙◌, refl, arith, length, sym, subst, ◌+◌}
+use Rattle.std.proofs.Common.{rules, ◌∙◌, refl, arith, length, sym, subst, ◌+◌}
 use Rattle.std.specs.Prelude.{◌≤◌}
-use Rattle.wkt.specs.Refusals.{length_limit}
 use Rattle.wkt.specs.Surveying.{Shown, shown}
 use Rattle.wkt.proofs.Checks.{Answers, Checked, checked_more, checked_on, checked_stop, checked_broken, checked_whole}
 use Rattle.wkt.proofs.Bounded.{bounds_in}
-use Rattle.wkt.proofs.check.check_layer.Goals as goal
+use Rattle.wkt.proofs.check.check_layer_within.Goals as goal
 
 pub returns-in_default-clause-answer : goal.returns-in_default-clause-answer
 returns-in_default-clause-answer c =
-    let small : length c.args.text.now ≤ length_limit = omega (arith, c.if-text-gt-LENGTH_LIMIT.false) in
+    let small : length c.args.text.now ≤ c.args.longest = omega (arith, c.if-text-longest.false) in
     (small, checked_stop c.args.text.now c.loop-at.at c.loop-at.reader (shown c.loop-at.survey) c.loop-at-test.true c.loop-at.invariant (c.in_default.ensures c.loop-at.invariant.notes c.loop-at.invariant.known.read.is))
 
 pub loop-at-preserved : goal.loop-at-preserved
@@ -19,17 +18,17 @@ loop-at-preserved c =
 
 pub returns-then-not-may_end-clause-answer : goal.returns-then-not-may_end-clause-answer
 returns-then-not-may_end-clause-answer c =
-    let small : length c.args.text.now ≤ length_limit = omega (arith, c.if-text-gt-LENGTH_LIMIT.false) in
+    let small : length c.args.text.now ≤ c.args.longest = omega (arith, c.if-text-longest.false) in
     (small, checked_broken c.args.text.now c.loop-at.at c.loop-at.reader (shown c.loop-at.survey) c.loop-at-test.false c.loop-at.invariant (sym c.may_end.ensures ∙ c.if-not-may_end.true))
 
 pub returns-clause-answer : goal.returns-clause-answer
 returns-clause-answer c =
-    let small : length c.args.text.now ≤ length_limit = omega (arith, c.if-text-gt-LENGTH_LIMIT.false) in
-    subst (Answers c.args.text.now) (sym c.verdict.ensures)
-    (checked_whole c.args.text.now c.loop-at.at c.loop-at.reader (shown c.loop-at.survey) c.loop-at.survey.outline c.loop-at-test.false small c.loop-at.invariant (sym c.may_end.ensures ∙ c.if-not-may_end.false) refl)
+    let small : length c.args.text.now ≤ c.args.longest = omega (arith, c.if-text-longest.false) in
+    subst (Answers c.args.longest c.args.text.now) (sym c.verdict.ensures)
+    (checked_whole c.args.longest c.args.text.now c.loop-at.at c.loop-at.reader (shown c.loop-at.survey) c.loop-at.survey.outline (search rules) c.loop-at-test.false small c.loop-at.invariant (sym c.may_end.ensures ∙ c.if-not-may_end.false) refl)
 
 pub returns-clause-in_limit : goal.returns-clause-in_limit
 returns-clause-in_limit c =
-    let small : length c.args.text.now ≤ length_limit = omega (arith, c.if-text-gt-LENGTH_LIMIT.false) in
-    bounds_in c.args.text.now c.verdict.result (subst (Answers c.args.text.now) (sym c.verdict.ensures)
-    (checked_whole c.args.text.now c.loop-at.at c.loop-at.reader (shown c.loop-at.survey) c.loop-at.survey.outline c.loop-at-test.false small c.loop-at.invariant (sym c.may_end.ensures ∙ c.if-not-may_end.false) refl))
+    let small : length c.args.text.now ≤ c.args.longest = omega (arith, c.if-text-longest.false) in
+    bounds_in c.args.longest c.args.text.now c.verdict.result (subst (Answers c.args.longest c.args.text.now) (sym c.verdict.ensures)
+    (checked_whole c.args.longest c.args.text.now c.loop-at.at c.loop-at.reader (shown c.loop-at.survey) c.loop-at.survey.outline (search rules) c.loop-at-test.false small c.loop-at.invariant (sym c.may_end.ensures ∙ c.if-not-may_end.false) refl))
