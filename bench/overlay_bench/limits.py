@@ -20,7 +20,7 @@ from . import layers, maps, programs
 from .layers import Polygons, Ring, rectangle
 from .programs import Answer, Tried, answer, taken
 
-MOST_SEGMENTS, MOST_BYTES, LIMIT = 1_048_576, 268_435_456, 268_435_456
+MOST_SEGMENTS, MOST_BYTES, BYTES_A_SEGMENT, LIMIT = 1_048_576, 268_435_456, 256, 268_435_456
 MOST_MEGABYTES, FRIENDLY_SEGMENTS = 1024, 100_000
 
 
@@ -153,6 +153,12 @@ def long_texts(place: Place) -> Iterator[Tried]:
     with open(text, "ab") as file:
         file.write(b" ")
     yield "one byte more", place.run("union", nothing, text), refused(b"B: 0 layer too long")
+    yield "one byte more within its limit", place.run("union", nothing, text, "--segments=1048577"), found
+    with open(text, "ab") as file:
+        file.write(b" " * BYTES_A_SEGMENT)
+    yield "one byte more than its limit", place.run("union", nothing, text, "--segments=1048577"), refused(b"B: 0 layer too long")
+    yield "the same of faces", place.run("faces", nothing, text, "--segments=1048577"), refused(b"B: 0 layer too long")
+    yield "the same of covered layers", place.run("union", nothing, text, "--covered", "--segments=1048577"), refused(b"B: 0 layer too long")
     text = place.write("long", b"POLYGON ((", b"0 0, " * 1000, 50_000, b"4 0, 4 4, 0 4, 0 0))")
     yield "50,000,000 repeated points", place.run("union", text, nothing), found
 

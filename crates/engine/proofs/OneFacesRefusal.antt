@@ -142,7 +142,7 @@ module _ (limits : FacesLimits) (plan : Plan) (texts : List (List ℕ)) where
   one p q f g (too_many_tiles s x h l c o u) (too_many_ids y t r i m) = absurd (above most_tiles _ _ u r.few_tiles (tiled x y h.stand r.stand c t o r.is_grid))
   one p q f g (too_many_ids x c r i l) (bad_tile m) = absurd (m r.planned.side)
   one p q f g (too_many_ids x c r i l) (bad_workers t m) = absurd (m r.planned.workers)
-  one p q f g (too_many_ids x c r i l) (bad_layer t b) = absurd (bad_accepted (text_limit limits.segments) texts _ _ b x r.stand)
+  one p q f g (too_many_ids x c r i l) (bad_layer t b) = absurd (bad_accepted (text_limit limits.segments) texts _ _ b x (within r))
   one p q f g (too_many_ids x c r i l) (too_many t y k m) = absurd (above limits.segments _ _ m r.few (counted y x k.stand r.stand))
   one p q f g (too_many_ids x c r i l) (too_many_tiles t y k m d o u) = absurd (above most_tiles _ _ u r.few_tiles (tiled y x k.stand r.stand d c o r.is_grid))
   one p q f g (too_many_ids x c r i l) (too_many_ids y d t j m) = (refl, ap (λ (n : ℕ). TooManyIds n) (ids_same x y r.stand t.stand _ _ i j))

@@ -35,8 +35,9 @@ pub fn run_covered_alone_within<A: Allocator + Copy>(
         return Err(FacesFault::of_run(fault));
     }
     let layers = [a, b];
-    let read = read_layers_alone(alloc, limits_of(limits), &layers)?;
-    let checked = match check_layers(&layers, plan, limits_of(limits), &read) {
+    let limits = limits_of(limits);
+    let read = read_layers_alone(alloc, limits, &layers)?;
+    let checked = match check_layers(&layers, plan, limits, &read) {
         Ok(checked) => checked,
         Err(fault) => return Err(fault),
     };

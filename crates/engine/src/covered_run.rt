@@ -103,8 +103,9 @@ fn made_covered<A: Allocator + Copy + Send + Sync, G: Gate + Sync, R: Threads + 
         return Err(FacesFault::of_run(fault));
     }
     let layers = [a, b];
-    let read = read_layers(rt, alloc, limits_of(limits), plan.workers, &layers)?;
-    let checked = match check_layers(&layers, plan, limits_of(limits), &read) {
+    let limits = limits_of(limits);
+    let read = read_layers(rt, alloc, limits, plan.workers, &layers)?;
+    let checked = match check_layers(&layers, plan, limits, &read) {
         Ok(checked) => checked,
         Err(fault) => return Err(fault),
     };

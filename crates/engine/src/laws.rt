@@ -1,12 +1,12 @@
 //! What the layers determine: each law is the contract of a function with an empty body. Its clauses named `within` say the same
 //! for any two limits of segments: a limit refuses, and changes nothing in an answer.
 
-ghost use Rattle.std.specs.Prelude.{◌≡◌};
+ghost use Rattle.std.specs.Prelude.{◌≡◌, ◌*◌, ℕ, max, min};
 ghost use Rattle.geom.specs.Limit.{coordinate_limit};
 ghost use Rattle.grid.specs.Tiles.{most_tiles};
 ghost use Rattle.wkt.specs.Refusals.{length_limit};
 ghost use Rattle.layers.specs.FacesRefusals.{faces_limits};
-ghost use Rattle.layers.specs.Refusals.{segment_limit};
+ghost use Rattle.layers.specs.Refusals.{segment_limit, text_limit};
 ghost use Rattle.engine.specs.Determined.{EdgesSizesAreOne, EdgesSizesAreOneWithin, EdgesTextIsOne, EdgesTextIsOneWithin, RefusalIsOne, RefusalIsOneWithin, RefusedMayNotRun, RefusedMayNotRunWithin, ResultSizesAreOne, ResultSizesAreOneWithin, ResultTextIsOne, ResultTextIsOneWithin, RunReportsAsEdges, RunReportsAsEdgesWithin, TilesAreOne, TilesAreOneWithin};
 ghost use Rattle.engine.specs.ColumnsLaws.{ColumnsAnswerIsOne, ColumnsRefusalIsOne, ColumnsSizesAreOne, PairIsByColumns, RefusedColumnsMayNotRun, RunIsByColumns};
 ghost use Rattle.engine.specs.ColumnsPairs.{PairsRefusalIsOne, RefusedPairsMayNotRun};
@@ -138,11 +138,13 @@ pub fn run_reports_as_edges<A: Allocator, B: Allocator>()
 {}
 
 /// The limits that the definitions cite, as numbers: a coordinate's greatest absolute value (2 to the 28th), the bytes of a
-/// layer text, the segments of all layers together where no limit is given, the layers of faces, the features in all their rows
-/// together, the sides of tiles in grid units, the default one among them, the tiles, the workers, and the cells that these draw.
+/// layer text where no limit is given and by a limit of segments, the segments of all layers together where no limit is given, the
+/// layers of faces, the features in all their rows together, the sides of tiles in grid units, the default one among them, the tiles,
+/// the workers, and the cells that these draw.
 pub fn limits_are_numbers()
     ensures coordinate { coordinate_limit ≡ 268435456 }
     ensures bytes { length_limit ≡ 268435456 }
+    ensures bytes_within { (segments : ℕ) → text_limit segments ≡ max (min (segments * 256) 4294967295) 268435456 }
     ensures segments { segment_limit ≡ 1048576 }
     ensures layers { MOST_LAYERS ≡ 64 }
     ensures ids { faces_limits.ids ≡ 268435456 }

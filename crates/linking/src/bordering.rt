@@ -24,7 +24,7 @@ ghost use Rattle.linking.specs.Shares.{AreKeysBelow, feature_column_of};
 
 use crate::made::{LinkedAlone, LinkedPieces, link_alone, link_pieces};
 use crate::rounded::TileNumbers;
-use crate::shares::{items_in_order, places_of, sorted_in_parts};
+use crate::shares::{items_in_order, only_list, places_of, sorted_in_parts};
 use crate::tile_piece::{TilePiece, Tiled};
 use cover_law::Border;
 use feature_links::{FeatureLink, borders_of, features_of, odd_links};
@@ -129,7 +129,7 @@ fn odd_alone<A: Allocator + Copy>(
 }
 
 /// Of the links of lists those that occur an odd number of times, in order, by at most so many parts of the columns.
-fn odd_in_parts<R: Threads + Sync, A: Allocator + Copy + Send + Sync>(
+fn odd_of_shares<R: Threads + Sync, A: Allocator + Copy + Send + Sync>(
     rt: &R,
     alloc: A,
     parts: usize,
@@ -142,6 +142,21 @@ fn odd_in_parts<R: Threads + Sync, A: Allocator + Copy + Send + Sync>(
     let odd = odd_in_shares(rt, alloc, &shares)?;
     drop(shares);
     Ok(joined(alloc, odd)?)
+}
+
+/// The same, where a list that is the only one is put in order as it stands.
+fn odd_in_parts<R: Threads + Sync, A: Allocator + Copy + Send + Sync>(
+    rt: &R,
+    alloc: A,
+    parts: usize,
+    lists: Vec<Vec<FeatureLink, A>, A>,
+) -> Result<Vec<FeatureLink, A>, NoMemory>
+    ensures { IfOk result (λ odd. AreOdd (flat_map (λ l. l.items) lists.items) odd.items) }
+{
+    match only_list(lists) {
+        Ok(links) => odd_alone(alloc, links),
+        Err(lists) => odd_of_shares(rt, alloc, parts, lists),
+    }
 }
 
 /// Of the links of shares that are in order those that occur an odd number of times, each share by a hand of its own.

@@ -3,7 +3,8 @@
 //! 1. Each hand takes the links of its share, by the columns of their first ends, from all lists, and sorts them
 //!    (`shares`).
 //! 2. Each hand counts the links of its share (`counted_in_parts`).
-//! 3. The counts of the shares are put behind one another (`counts_in_parts`).
+//! 3. The counts of the shares are put behind one another (`counts_of_shares`). A list that is the only one is sorted and counted as it
+//!    stands (`counts_in_parts`).
 
 ghost use Rattle.std.specs.Prelude.{◌≡◌, ◌+◌, ◌<◌, ◌^◌, ◌++◌, ◌∷◌, [], All, AllPairs, IfOk, IsTrue, OnOk, Some, flat_map, if◌then◌else◌, length, slice_get};
 ghost use Rattle.std.specs.List.Sorted.{IsSorted};
@@ -14,7 +15,7 @@ ghost use Rattle.linking.specs.Orders.{link_order};
 ghost use Rattle.linking.specs.Shares.{AreKeysBelow, column_of};
 
 use crate::link::Link;
-use crate::shares::{items_in_order, places_of, sorted_in_parts};
+use crate::shares::{items_in_order, only_list, places_of, sorted_in_parts};
 use geom::{Counted, Edge, NoMemory, Source};
 use hands::{joined, map_parts};
 use std::alloc::Allocator;
@@ -147,8 +148,24 @@ fn are_few<A: Allocator>(lists: &[Vec<Link, A>]) -> bool
     true
 }
 
-/// Each edge among the links of lists, ascending, with its counts, by at most so many parts of the columns. More links than a
-/// `u32` counts are refused as want of memory.
+/// Each edge among the links of lists, ascending, with its counts, by at most so many parts of the columns.
+fn counts_of_shares<R: Threads + Sync, A: Allocator + Copy + Send + Sync>(
+    rt: &R,
+    alloc: A,
+    parts: usize,
+    lists: Vec<Vec<Link, A>, A>,
+) -> Result<Vec<Counted, A>, NoMemory>
+    requires { length (flat_map (λ l. l.items) lists.items) < 2 ^ 32 }
+    ensures { IfOk result (λ v. AreCounts (flat_map (λ l. l.items) lists.items) v.items) }
+{
+    let shares = sorted_in_parts(rt, alloc, parts, &lists)?;
+    drop(lists);
+    let counted = counted_in_parts(rt, alloc, &shares)?;
+    drop(shares);
+    Ok(joined(alloc, counted)?)
+}
+
+/// The same, where a list that is the only one is counted as it stands. More links than a `u32` counts are refused as want of memory.
 pub fn counts_in_parts<R: Threads + Sync, A: Allocator + Copy + Send + Sync>(
     rt: &R,
     alloc: A,
@@ -161,9 +178,8 @@ pub fn counts_in_parts<R: Threads + Sync, A: Allocator + Copy + Send + Sync>(
     if !are_few(&lists) {
         return Err(NoMemory);
     }
-    let shares = sorted_in_parts(rt, alloc, parts, &lists)?;
-    drop(lists);
-    let counted = counted_in_parts(rt, alloc, &shares)?;
-    drop(shares);
-    Ok(joined(alloc, counted)?)
+    match only_list(lists) {
+        Ok(links) => counts(alloc, room_for(links.len()), links),
+        Err(lists) => counts_of_shares(rt, alloc, parts, lists),
+    }
 }

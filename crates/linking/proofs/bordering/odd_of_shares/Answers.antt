@@ -3,7 +3,7 @@ use Rattle.std.specs.Prelude.{flat_map}
 use Rattle.std.specs.List.Sorted.{IsPermutation}
 use Rattle.feature_links.specs.declared.link.FeatureLink.{FeatureLink}
 use Rattle.linking.proofs.OddParts.{odd_moved}
-use Rattle.linking.proofs.bordering.odd_in_parts.Goals as goal
+use Rattle.linking.proofs.bordering.odd_of_shares.Goals as goal
 
 pub odd_in_shares-requires-clause-sorted : goal.odd_in_shares-requires-clause-sorted
 odd_in_shares-requires-clause-sorted g c = λ κs l. rw c.deref-2.ensures.value c.in_ok-shares.ensures.sorted
