@@ -106,7 +106,11 @@ pub fn read_layers_alone<A: Allocator + Copy>(
 }
 
 /// What is read of a layer text.
-fn reading_alone<A: Allocator + Copy>(alloc: A, limits: FacesLimits, text: &[u8]) -> FeatureReading<A>
+fn reading_alone<A: Allocator + Copy>(
+    alloc: A,
+    limits: FacesLimits,
+    text: &[u8],
+) -> FeatureReading<A>
     ensures { IsFeatureReading (text_limit limits.segments) text.now result }
 {
     read_outlined_features(alloc, text_limit(limits.segments), text)

@@ -11,8 +11,8 @@ use crate::faces_cli::is_for_faces;
 use crate::faces_program::drive_faces;
 use crate::files::{Files, LoadFault};
 use engine::{
-    Limits, Plan, Report, Sink, edges_within, fitting_side, line, report_text, run_within, status, text_limit,
-    write_all,
+    Limits, Plan, Report, Sink, edges_within, fitting_side, line, report_text, run_within, status,
+    text_limit, write_all,
 };
 use geom::{Fault, RunFault};
 use grid::DEFAULT_SIDE;

@@ -1,6 +1,6 @@
 //! Polygons, written as the canonical line.
 
-ghost use Rattle.std.specs.Prelude.{◌≡◌, ◌≤◌, ◌++◌, ◌∷◌, [], ℕ, List, All, IfOk, OnOk, length, map};
+ghost use Rattle.std.specs.Prelude.{◌≡◌, ◌++◌, ◌∷◌, [], ℕ, List, All, IfOk, OnOk, map};
 ghost use Rattle.geom.specs.Limit.{InLimit, IsWithin};
 ghost use Rattle.std.specs.Fmt.{signed_decimal};
 ghost use Rattle.geom.specs.Canonical.{written_rings};

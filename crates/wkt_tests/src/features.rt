@@ -45,7 +45,9 @@ fn has_features<R: Threads + Sync>(rt: &R, alloc: Global, text: &str, counts: &[
     let Ok(features) = read_features(alloc, text) else {
         return false;
     };
-    if !has_rings(&features, counts) || !is_read(read_outlined_features(alloc, LENGTH_LIMIT, text), counts) {
+    if !has_rings(&features, counts)
+        || !is_read(read_outlined_features(alloc, LENGTH_LIMIT, text), counts)
+    {
         return false;
     }
     for parts in PARTS {
@@ -63,7 +65,9 @@ fn has_features<R: Threads + Sync>(rt: &R, alloc: Global, text: &str, counts: &[
 fn is_refused<R: Threads + Sync>(rt: &R, alloc: Global, text: &str, fault: Fault) -> bool {
     let text = text.as_bytes();
     for parts in PARTS {
-        if read_outlined_features_in_parts(rt, alloc, LENGTH_LIMIT, parts, text).err() != Some(fault) {
+        if read_outlined_features_in_parts(rt, alloc, LENGTH_LIMIT, parts, text).err()
+            != Some(fault)
+        {
             return false;
         }
     }

@@ -273,9 +273,18 @@ fn told_within(alloc: Global, longest: u32) -> [Result<u32, Fault>; 3] {
 fn given_limits(rt: HostRuntime) {
     let alloc = rt.alloc();
     for (longest, accepted, kept) in GIVEN_LIMITS {
-        let told = if accepted { Ok(4) } else { Err(Fault::LayerLong) };
-        assert!(rt; told_within(alloc, longest) == [told, told, told], "{longest}");
-        let with_rings = read_outlined(alloc, longest, SQUARE).is_ok_and(|read| read.layer.is_some());
+        let told = if accepted {
+            Ok(4)
+        } else {
+            Err(Fault::LayerLong)
+        };
+        assert!(rt;
+            told_within(alloc, longest) == [told, told, told],
+            "{longest}"
+        );
+        let with_rings = read_outlined(alloc, longest, SQUARE).is_ok_and(|read| read
+            .layer
+            .is_some());
         assert!(rt; with_rings == kept, "{longest}");
     }
 }

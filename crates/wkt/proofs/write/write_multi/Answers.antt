@@ -1,4 +1,4 @@
-use Rattle.std.proofs.Common.{◌≡◌, ◌∙◌, ◌≤◌, ◌++◌, ◌∷◌, List, [], ℕ, ap, length, subst, sym}
+use Rattle.std.proofs.Common.{◌≡◌, ◌∙◌, ◌++◌, ◌∷◌, List, [], ℕ, ap, subst, sym}
 use Rattle.std.specs.Prelude.{All, codes, map}
 use Rattle.geom.specs.declared.point.Pt.{Pt}
 use Rattle.geom.specs.Canonical.{written_rings}
