@@ -8,7 +8,7 @@ import sys
 
 from . import programs, results
 
-NAMES = ("compare", "rows", "texts", "memory", "faults", "workers", "parallel", "repeat", "scarce", "changing", "limits", "hostile", "speed", "faces", "library", "laws", "requests", "kernels", "peers", "capabilities", "bridge", "plot", "sizes", "documents")
+NAMES = ("compare", "rows", "texts", "memory", "faults", "workers", "parallel", "repeat", "scarce", "changing", "limits", "hostile", "speed", "large", "faces", "library", "laws", "requests", "kernels", "peers", "capabilities", "bridge", "plot", "sizes", "documents")
 WITHOUT_PROGRAM = ("laws", "requests", "kernels", "plot", "sizes", "documents")
 
 
