@@ -203,7 +203,7 @@ static void covered_refusals(void) {
     }
 }
 
-/* A layer of one segment more than is allowed, and one of a byte more. */
+/* A layer of one segment more than is allowed, and one of a byte more; where more segments are said, 256 bytes more for each. */
 static void large(void) {
     size_t one = strlen(SQUARE) + 1, count = 262145;
     char *many = malloc(one * count + 1);
@@ -219,13 +219,18 @@ static void large(void) {
     overlay_fill_within(0, SIDE, 1048580, (const uint8_t *)many, one * count, (const uint8_t *)"", 0, room, sizeof room, &answer);
     check(answer.status == OVERLAY_SMALL && answer.length == strlen("MULTIPOLYGON (((0 0, 4 0, 4 4, 0 4, 0 0)))\n"), "as many segments as there are");
     free(many);
-    size_t limit = 268435456;
-    char *blank = malloc(limit + 2);
-    memset(blank, ' ', limit + 1);
+    size_t limit = 268435456, longer = limit + 257;
+    char *blank = malloc(longer);
+    memset(blank, ' ', longer);
     blank[limit + 1] = 0;
     answer = filled(0, SIDE, "", blank, room, sizeof room);
     check(answer.status == OVERLAY_REFUSED && answer.number == OVERLAY_LAYER_TOO_LONG && answer.part == OVERLAY_LAYER_B && !answer.detail, "layer too long");
     check(overlay_words(&answer, words, sizeof words) == 19 && !memcmp(words, "B: 0 layer too long", 19), "words of a long layer");
+    blank[limit + 1] = ' ';
+    overlay_fill_within(0, SIDE, 1048577, (const uint8_t *)"", 0, (const uint8_t *)blank, longer - 1, room, sizeof room, &answer);
+    check(answer.status == OVERLAY_SMALL && answer.length == strlen("MULTIPOLYGON EMPTY\n"), "as long a layer as the segments allow");
+    overlay_fill_within(0, SIDE, 1048577, (const uint8_t *)"", 0, (const uint8_t *)blank, longer, room, sizeof room, &answer);
+    check(answer.status == OVERLAY_REFUSED && answer.number == OVERLAY_LAYER_TOO_LONG && answer.part == OVERLAY_LAYER_B, "a byte longer");
     free(blank);
 }
 
