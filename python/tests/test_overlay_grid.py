@@ -149,6 +149,17 @@ def test_more_segments():
     assert overlay_grid.union(many, "", segments=1048580) == overlay_grid.union(SQUARE, "")
 
 
+def test_longer_texts_where_more_segments_are_said():
+    """256 bytes for each of them."""
+    blank = b" " * (2**28 + 257)
+    with pytest.raises(overlay_grid.Refused) as fault:
+        overlay_grid.union("", blank[:-256])
+    assert (fault.value.number, fault.value.layer) == (Refusal.LAYER_TOO_LONG, "B")
+    with pytest.raises(overlay_grid.Refused):
+        overlay_grid.union("", blank, segments=2**20 + 1)
+    assert overlay_grid.union("", blank[:-1], segments=2**20 + 1) == "MULTIPOLYGON EMPTY\n"
+
+
 def test_numbers_of_numpy():
     numpy = pytest.importorskip("numpy")
     for kind in (numpy.int64, numpy.uint16):
