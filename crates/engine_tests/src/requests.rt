@@ -114,7 +114,7 @@ fn refuses_each_request(rt: HostRuntime) -> Result<(), Fail> {
 
 /// What `run` by one worker may ask for beyond what `run_alone` asks for: the draw, the desk and the hands, and for each stage the
 /// lists of its one part. It asks for just as much in the rows below, so to make a piece again would take more.
-const BEYOND: u64 = 49;
+const BEYOND: u64 = 38;
 
 /// The least number from which on no request that is refused changes the answer of `run_alone`.
 fn least_alone(alloc: Global, row: Row) -> Result<u64, NoMemory> {

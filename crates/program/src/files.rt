@@ -41,7 +41,6 @@ pub trait Files {
         ensures short { IfOk result (λ bytes. length bytes.items ≤ max READ_LIMIT (longest + 1)) }
         ensures loaded { MatchResult result (λ bytes. loads self.old name.now (Ok bytes.items) self.new) (λ fault. loads self.old name.now (Err fault) self.new) }
     {
-        let _ = longest;
         self.load(alloc, name)
     }
 }

@@ -123,3 +123,23 @@ fn takes_more_segments_within_a_greater_limit(rt: HostRuntime) -> Result<(), Fai
     assert!(rt; gives(&rt, rt.alloc(), words.as_slice(), ROOMS, given)?);
     Ok(())
 }
+
+/// Where more segments are asked for, a text of one byte more than usual is answered, whatever is asked of it.
+#[test]
+fn takes_a_longer_text_within_a_greater_limit(rt: HostRuntime) -> Result<(), Fail> {
+    let many = "--segments=1048577";
+    let nothing = Words::Text("MULTIPOLYGON EMPTY\n");
+    for (words, text) in [
+        (["union", "long", "empty", many].as_slice(), nothing),
+        (["edges", "empty", "long", many].as_slice(), Words::Text("")),
+        (["faces", "empty", "long", many].as_slice(), Words::Text("")),
+        (
+            ["union", "long", "empty", "--covered", many].as_slice(),
+            nothing,
+        ),
+    ] {
+        let given = (0, text, Words::Text(""));
+        assert!(rt; gives(&rt, rt.alloc(), words, ROOMS, given)?, "{words:?}");
+    }
+    Ok(())
+}

@@ -1,6 +1,6 @@
 //! Tables of texts that are read, with their answers from outside.
 
-use geom::{Fault, Pt, Rect};
+use geom::{Fault, Layer, Pt, Rect};
 use std::alloc::{AllocError, Global};
 use wkt::{
     LENGTH_LIMIT, Outline, check_layer, check_layer_within, read_layer, read_layer_within,
@@ -257,15 +257,20 @@ const GIVEN_LIMITS: [(u32, bool, bool); 7] = [
     (u32::MAX, true, true),
 ];
 
-/// What is told of the square within a limit, by each way to read it.
-fn told_within(alloc: Global, longest: u32) -> [Result<u32, Fault>; 3] {
+/// How many points the only ring of a layer has.
+fn points_of(layer: &Layer<Global>) -> usize {
+    match layer.rings() {
+        [ring] => ring.points().len(),
+        _ => 0,
+    }
+}
+
+/// What is told of the square within a limit, by each way to read it: it has as many segments as points.
+fn told_within(alloc: Global, longest: u32) -> [Result<usize, Fault>; 3] {
     [
-        check_layer_within(longest, SQUARE).map(|outline| outline.segments),
-        read_outlined(alloc, longest, SQUARE).map(|read| read.outline.segments),
-        read_layer_within(alloc, longest, SQUARE).map(|layer| match layer.rings() {
-            [ring] => ring.points().len() as u32,
-            _ => 0,
-        }),
+        check_layer_within(longest, SQUARE).map(|outline| outline.segments as usize),
+        read_outlined(alloc, longest, SQUARE).map(|read| read.outline.segments as usize),
+        read_layer_within(alloc, longest, SQUARE).map(|layer| points_of(&layer)),
     ]
 }
 
