@@ -113,7 +113,12 @@ class Database:
         if not answer(dataset, "SELECT 1 FROM pg_extension WHERE extname = 'postgis'"):
             raise Refusal(self.name, "has no PostGIS: CREATE EXTENSION postgis")
         inputs = set().union(*map(identities, self.sources))
+        known = [dataset.GetLayer(k).GetName() for k in range(dataset.GetLayerCount())]
         for table in tables:
+            for name in known:
+                if name != table and name.lower() == table.lower():
+                    told = f"has a table {name}, which GDAL takes for {table}: --layer names another one"
+                    raise Refusal(self.name, told)
             there = identity(dataset, quoted(table))
             if there and there in inputs:
                 raise Refusal(f"{self.name}{LAYER_MARK}{table}", "is an input")

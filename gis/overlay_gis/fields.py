@@ -12,6 +12,7 @@ from osgeo import ogr
 from .columns import Numbers
 from .faults import Refusal
 from .fitting import text_of
+from .inexact import refuse_inexact
 from .layers import Source
 from .output import Column
 from .program import LETTERS
@@ -92,6 +93,13 @@ def fields_of(source: Source, names: Sequence[str]) -> list[ogr.FieldDefn]:
         if name not in there:
             raise Refusal(source.name, f"has no field {name}, but {', '.join(there) or 'none'}")
     return [there[name] for name in dict.fromkeys(wanted)]
+
+
+def check_fields(source: Source, names: Sequence[str]) -> None:
+    """Refuses, before any work is done, fields that a layer hasn't, or that don't come out as they
+    are."""
+    for field in fields_of(source, names):
+        refuse_inexact(source, field)
 
 
 def values_in(layer: Layer, fields: Sequence[ogr.FieldDefn]) -> list[tuple[Any, ...]]:

@@ -173,6 +173,94 @@ def test_a_field_called_as_a_column_has_another_name(gis, tmp_path, server, addr
     assert server.said('select fid, fid_, "Geom_", features from town.names order by fid') == "1|7|1|1\n2|5|2|1\n"
 
 
+# Types, values that GDAL takes for others, and values that it has as they are.
+OTHERS = [
+    ("timestamp", "2020-01-02 03:04:05.123456", "2020-01-02 03:04:05.123"),
+    ("timestamptz", "2020-01-02 03:04:05.000001+02", "2020-01-02 03:04:05.5+02"),
+    ("timestamp", "infinity", "9999-12-31 23:59:59"),
+    ("time", "03:04:05.123456", "23:59:59.999"),
+    ("timetz", "03:04:05+02", None),
+    ("date", "0044-03-15 BC", "0001-01-01"),
+    ("numeric", "12345678901234567", "123456789012.34567"),
+    ("numeric", "0.12345678901234567891", "0.1"),
+    ("numeric(40,20)", "0.12345678901234567891", "0.1234567890123456"),
+    ("numeric(25,0)", "9223372036854775808", "9223372036854775807"),
+    ("numeric(5,0)", "NaN", "12345"),
+    ("int[]", "{1,NULL,3}", "{1,2,3}"),
+    ("int[]", "{{1,2},{3,4}}", "{}"),
+    ("int[]", "[0:1]={1,2}", "{-1}"),
+    ("text[]", "{a,NULL}", '{a,"b,c"}'),
+    ("text[]", '{"a\\\\b"}', "{}"),
+    ("text[]", '{"null"}', '{""}'),
+    ("numeric[]", "{1.5,12345678901234567890.5}", "{1.5,2.25}"),
+    ("interval", "1 day", None),
+    ("int4range", "[1,3)", None),
+    ("town.interest", "high", None),
+]
+
+
+@pytest.mark.parametrize("kind, another, same", OTHERS)
+def test_values_that_gdal_takes_for_others_are_refused_before_any_work(gis, server, address, monkeypatch, kind, another, same):
+    server.said("create type town.interest as enum ('low', 'high')")
+    server.said(f"create table town.lots (lot int, kept {kind}, shape geometry(polygon, 25832))")
+    source = f"{address}|layername=town.lots"
+    for value in (None, same):
+        server.said(f"insert into town.lots values (1, {'null' if value is None else database.literal(value)}, 'srid=25832;{SQUARE.wkt}')")
+    out = ("-o", "out.gpkg", "--overwrite")
+    assert gis("faces", source, *out, "--keep-a", "kept").status == 0
+    server.said(f"insert into town.lots values (2, {database.literal(another)}, 'srid=25832;{OTHER.wkt}')")
+    assert gis("faces", source, *out, "--keep-a", "lot").status == 0
+    monkeypatch.setattr(Source, "survey", lambda *_: pytest.fail("a layer is read"))
+    for words in (
+        ("faces", source, "--keep-a", "kept"),
+        ("faces", source, "--by", "kept"),
+        ("run", "union", source, source, "--keep-b", "kept"),
+        ("dissolve", source, "--by", "lot,kept"),
+    ):
+        answer = gis(*words, *out)
+        assert answer.status == 3 and "the field kept has values, as " in answer.err, answer.err
+        assert answer.err.endswith("that GDAL takes for others: a view that has kept::text keeps them\n")
+
+
+def test_a_view_of_texts_keeps_what_gdal_has_not(gis, server, address):
+    server.said("create table town.lots (kept timestamp, shape geometry(polygon, 25832))")
+    server.said(f"insert into town.lots values ('2020-01-02 03:04:05.123456', 'srid=25832;{SQUARE.wkt}')")
+    server.said("create view town.seen as select kept::text, shape from town.lots")
+    assert gis("faces", f"{address}|layername=town.seen", "-o", "out.gpkg", "--keep-a", "kept").status == 0
+    assert [row["a_kept"] for _, row in read("out.gpkg")] == ["2020-01-02 03:04:05.123456"]
+
+
+def test_columns_that_differ_by_case_alone_are_refused(gis, server, address, monkeypatch):
+    """GDAL puts the values of all into the first one."""
+    server.said('create table town.lots ("Owner" text, owner text, lot int, shape geometry(polygon, 25832))')
+    server.said(f"insert into town.lots values ('Ada', 'Grace', 7, 'srid=25832;{SQUARE.wkt}')")
+    source, out = f"{address}|layername=town.lots", ("-o", "out.gpkg", "--overwrite")
+    assert gis("faces", source, *out, "--keep-a", "lot").status == 0
+    assert [row["a_lot"] for _, row in read("out.gpkg")] == [7]
+    with monkeypatch.context() as changed:
+        changed.setattr(Source, "survey", lambda *_: pytest.fail("a layer is read"))
+        answer = gis("faces", source, *out, "--keep-a", "owner")
+    assert answer.status == 3 and answer.err.endswith(
+        "has columns owner and Owner, which GDAL takes for one: a view gives them other names\n"
+    )
+    server.said('alter table town.lots rename lot to "SHAPE"')
+    for words in (("check", source), ("run", "union", source, source, *out)):
+        answer = gis(*words)
+        assert answer.status == 3 and "has columns shape and SHAPE, which GDAL takes for one" in answer.err
+
+
+def test_a_table_that_gdal_takes_for_another_is_refused_before_any_work(gis, tmp_path, server, address, monkeypatch):
+    a, b = layers(tmp_path)
+    assert gis("run", "union", a, b, "-o", address, "--layer", "town.Common").status == 0
+    monkeypatch.setattr(Source, "survey", lambda *_: pytest.fail("a layer is read"))
+    for words in ((), ("--overwrite",)):
+        answer = gis("run", "union", a, b, "-o", address, "--layer", "town.common", *words)
+        assert answer.status == 3 and answer.err.endswith(
+            "has a table town.Common, which GDAL takes for town.common: --layer names another one\n"
+        ), answer.err
+    assert server.said('select area from town."Common"') == "150\n"
+
+
 def test_rows_and_pairs_are_there_together_or_not_at_all(gis, tmp_path, server, address, monkeypatch):
     """Where the file isn't put in place, or the table isn't made for good, neither is there."""
     a, b = layers(tmp_path)
