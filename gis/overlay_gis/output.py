@@ -23,7 +23,7 @@ from .gdal_errors import blamed_on
 from .geopackage import Place, Row, filled, place_of
 from .layers import LAYER_MARK, Source
 from .messages import followed, unheard, warn
-from .read_back import Written, box_of, differences, shape_difference
+from .read_back import Difference, Written, box_of, differences, shape_difference
 from .systems import is_another, names_apart
 from .whole import Drafts, Target, blamed, target_of
 
@@ -166,6 +166,17 @@ def add(made: Made, geometry: bytes | None, values: Sequence[Any]) -> ogr.Featur
     return feature
 
 
+def watched(rows: Iterable[Row], fields: Sequence[ogr.FieldDefn], lost: dict[int, Difference]) -> Iterator[Row]:
+    """The same rows; what SQLite makes of no number, which is no value, is told by the field's place,
+    once for each."""
+    reals = [k for k, held in enumerate(fields) if held.GetType() == ogr.OFTReal]
+    for number, row in enumerate(rows, 1):
+        for k in reals:
+            if row[1][k] != row[1][k] and k not in lost:
+                lost[k] = Difference(fields[k].GetName(), number, row[1][k], None, True)
+        yield row
+
+
 class Output:
     """A target's file that is being written, in a folder that isn't its own yet."""
 
@@ -205,11 +216,15 @@ class Output:
         """Writes all rows of a GeoPackage's layer, whose file GDAL has to close before; what it
         can't make is told here."""
         self.made.layer.SyncToDisk()
+        fields, lost = self.made.fields, dict[int, Difference]()
         self.close()
         try:
-            return filled(self.path, place, rows, NO_BOXES if boxes is None else boxes)
+            count = filled(self.path, place, watched(rows, fields, lost), NO_BOXES if boxes is None else boxes)
         except sqlite3.Error as error:
             raise Fault(self.target.name, f"can't be written: {error}") from error
+        for difference in lost.values():
+            warn(self.target.name, str(difference))
+        return count
 
     def fill_one_by_one(self, rows: Iterable[Row]) -> Written:
         grouped = self.dataset.TestCapability(ogr.ODsCTransactions)

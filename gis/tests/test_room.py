@@ -263,6 +263,22 @@ def test_values_are_compared_as_what_they_are(kinds, wanted, found, row):
 
 
 
+@pytest.mark.parametrize("ending, value", [("gpkg", None), ("sqlite", None), ("geojson", None), ("shp", "nan"), ("fgb", "nan"), ("gml", "nan")])
+@pytest.mark.parametrize("words", [("faces", "--keep-a", "v"), ("dissolve", "--by", "v"), ("dissolve", "--parts", "--by", "v,day")])
+def test_no_number_that_becomes_no_value_is_told(gis, tmp_path, ending, value, words):
+    name = "a_v" if words[0] == "faces" else "v"
+    shapes = [box(EAST + 20 * k, NORTH, EAST + 20 * k + 10, NORTH + 10) for k in range(3)]
+    a = write(tmp_path / "a.fgb", shapes, fields={"v": [1.5, float("nan"), 2.5], "day": ["x", "y", "z"]})
+    answer = gis(words[0], a, *words[1:], "-o", f"out.{ending}")
+    assert answer.status == 0, answer.err
+    shown = {1.5: "1.5", 2.5: "2.5", None: None}
+    found = [shown.get(row[name], "nan") for _, row in read(f"out.{ending}")]
+    row = found.index(value) + 1
+    assert sorted(map(str, found)) == sorted(["1.5", "2.5", str(value)])
+    told = f"out.{ending}: warning: field {name} in row number {row}: nan comes out as nothing\n"
+    assert (told in answer.err) == (value is None) and ("nothing" in answer.err) == (value is None), answer.err
+
+
 def test_lists_of_several_features_are_told_as_json(gis, tmp_path):
     a = layer(tmp_path / "a.geojson", {"tags": ["x"]}, {"tags": ["y", "z"]}, apart=0)
     assert gis("faces", a, "-o", "out.gpkg", "--keep-a", "tags").status == 0
