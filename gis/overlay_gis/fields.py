@@ -4,7 +4,8 @@ from __future__ import annotations
 
 from dataclasses import dataclass
 from itertools import chain, pairwise
-from typing import Any, Sequence
+from math import isfinite
+from typing import Any, Iterable, Sequence
 
 import numpy as np
 from osgeo import ogr
@@ -47,7 +48,7 @@ class Kept:
         mark = f"{self.name}_"
         if self.several:
             return [Column(mark + field.GetName(), ogr.OFTString) for field in self.fields]
-        return [column_of(field, mark) for field in self.fields]
+        return [column_of(field, held, mark) for field, held in zip(self.fields, by_fields(self.fields, self.values))]
 
     def numbers(self, held: Members) -> list[str | None]:
         """For each row the features' numbers as text, if it has any."""
@@ -79,9 +80,28 @@ def is_plain(value: Any) -> bool:
     return value is None or isinstance(value, (int, float))
 
 
-def column_of(field: ogr.FieldDefn, mark: str = "") -> Column:
-    """A field as it is, with a mark before its name."""
-    return Column(mark + field.GetName(), field.GetType(), field.GetSubType(), field.GetWidth(), field.GetPrecision())
+def by_fields(fields: Sequence[ogr.FieldDefn], values: Sequence[tuple[Any, ...]]) -> list[tuple[Any, ...]]:
+    """For each field its values."""
+    return list(zip(*values)) if values else [()] * len(fields)
+
+
+def column_of(field: ogr.FieldDefn, values: Iterable[Any], mark: str = "") -> Column:
+    """A field as it is, with a mark before its name; without its width where that is no bound of its
+    values, as many a format has it."""
+    width, precision = field.GetWidth(), field.GetPrecision()
+    if width and not all(fits(value, width, precision) for value in values):
+        width = precision = 0
+    return Column(mark + field.GetName(), field.GetType(), field.GetSubType(), width, precision)
+
+
+def fits(value: Any, width: int, precision: int) -> bool:
+    """Whether a text has so many signs at most, or a number so many digits, of which some stand behind
+    the point."""
+    if isinstance(value, str):
+        return len(value) <= width
+    if isinstance(value, (int, float)) and isfinite(value):
+        return abs(value) < 10 ** (width - precision) and round(value, precision) == value
+    return True
 
 
 def fields_of(source: Source, names: Sequence[str]) -> list[ogr.FieldDefn]:

@@ -17,7 +17,7 @@ from overlay_gis import database
 from overlay_gis.layers import Source
 from test_geopackage import kept
 from test_kills import stopped  # noqa: F401 a fixture
-from test_room import layer
+from test_room import layer, narrow
 
 sys.path.insert(0, str(Path(__file__).resolve().parents[2] / "bench"))
 
@@ -228,6 +228,11 @@ def test_a_view_of_texts_keeps_what_gdal_has_not(gis, server, address):
     server.said("create view town.seen as select kept::text, shape from town.lots")
     assert gis("faces", f"{address}|layername=town.seen", "-o", "out.gpkg", "--keep-a", "kept").status == 0
     assert [row["a_kept"] for _, row in read("out.gpkg")] == ["2020-01-02 03:04:05.123456"]
+
+
+def test_a_width_that_is_none_is_not_taken_over(gis, tmp_path, server, address):
+    assert gis("dissolve", narrow(tmp_path), "--by", "t,r,n,d", "-o", address, "--layer", "town.wide").status == 0
+    assert server.said("select t, r, n, d from town.wide") == "abcdefgh|1.25625|12345|99.50\n"
 
 
 def test_columns_that_differ_by_case_alone_are_refused(gis, server, address, monkeypatch):

@@ -263,6 +263,26 @@ def test_values_are_compared_as_what_they_are(kinds, wanted, found, row):
 
 
 
+def narrow(tmp_path):
+    """A virtual layer whose fields have less room than their values take: such widths bind nobody."""
+    layer(tmp_path / "wide.geojson", {"t": "abcdefgh", "r": 1.25625, "n": 12345, "d": 99.5})
+    fields = '<Field name="t" type="String" width="3"/><Field name="r" type="Real" width="6" precision="2"/>'
+    fields += '<Field name="n" type="Integer" width="2"/><Field name="d" type="Real" width="6" precision="2"/>'
+    source = f"<SrcDataSource>{tmp_path / 'wide.geojson'}</SrcDataSource><SrcLayer>wide</SrcLayer>"
+    (tmp_path / "a.vrt").write_text(f'<OGRVRTDataSource><OGRVRTLayer name="a">{source}{fields}</OGRVRTLayer></OGRVRTDataSource>')
+    return str(tmp_path / "a.vrt")
+
+
+@pytest.mark.parametrize("words", [("dissolve", "--by"), ("faces", "--by"), ("faces", "--keep-a")])
+@pytest.mark.parametrize("ending", ["gpkg", "shp", "fgb", "tab", "gml"])
+def test_a_width_that_is_none_is_not_taken_over(gis, tmp_path, ending, words):
+    answer = gis(words[0], narrow(tmp_path), words[1], "t,r,n,d", "-o", f"out.{ending}")
+    assert answer.status == 0, answer.err
+    ((_, found),) = read(f"out.{ending}")
+    mark = "" if words[0] == "dissolve" else "a_"
+    assert [found[mark + name] for name in "trnd"] == ["abcdefgh", 1.25625, 12345, 99.5]
+
+
 @pytest.mark.parametrize("ending, value", [("gpkg", None), ("sqlite", None), ("geojson", None), ("shp", "nan"), ("fgb", "nan"), ("gml", "nan")])
 @pytest.mark.parametrize("words", [("faces", "--keep-a", "v"), ("dissolve", "--by", "v"), ("dissolve", "--parts", "--by", "v,day")])
 def test_no_number_that_becomes_no_value_is_told(gis, tmp_path, ending, value, words):
