@@ -107,11 +107,14 @@ def fits(value: Any, width: int, precision: int) -> bool:
 def fields_of(source: Source, names: Sequence[str]) -> list[ogr.FieldDefn]:
     """The fields of a layer that are named; a space at a name's end is no part of it unless a field's
     name has it too."""
-    there = {field.GetName(): field for field in source.fields()}
+    fields = source.fields()
+    there = {field.GetName(): field for field in fields}
     wanted = [name if name in there else name.strip() for name in names]
     for name in wanted:
         if name not in there:
             raise Refusal(source.name, f"has no field {name}, but {', '.join(there) or 'none'}")
+        if sum(field.GetName() == name for field in fields) > 1:
+            raise Refusal(source.name, f"has several fields {name}, of which none can be named alone")
     return [there[name] for name in dict.fromkeys(wanted)]
 
 

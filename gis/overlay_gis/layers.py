@@ -226,10 +226,12 @@ class Source:
             return [()] * seen.features
         pass_over(self.layer, ["OGR_GEOMETRY"])
         self.layer.ResetReading()
+        there = [field.GetName() for field in self.fields()]
+        places = list(map(there.index, names))  # by a name GDAL's bindings look through all fields
         with blamed_on(self.name, self.path):
             unread: Iterator[ogr.Feature] = iter(self.layer.GetNextFeature, None)
             features = followed(unread, f"reading {self.name}", seen.features)
-            read = [(feature.GetFID(), tuple(map(feature.GetField, names))) for feature in features]
+            read = [(feature.GetFID(), tuple(map(feature.GetField, places))) for feature in features]
         if [number for number, _ in read] != seen.numbers.tolist():
             raise Fault(self.name, "was changed while it was read")
         return [values for _, values in read]

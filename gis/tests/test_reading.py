@@ -247,3 +247,11 @@ def test_columns_come_back_from_wkb():
         assert geometry == geometries[0]
     again = wkb.Decoder(batch_of(wkb.collected(list(wkb.encoded(columns)))), refused)
     assert again.columns().lists() == [[[RING, RING]] * 3]
+
+
+def test_a_field_that_is_there_twice_is_not_taken_for_one(gis, tmp_path):
+    (tmp_path / "a.csv").write_text('WKT,n,n,N\n"POLYGON ((0 0, 1 0, 1 1, 0 1, 0 0))",1,2,3\n')
+    answer = gis("dissolve", "a.csv", "--by", "n", "-o", "out.gpkg")
+    assert answer.status == 3 and answer.err == "overlay-gis: a.csv: has several fields n, of which none can be named alone\n"
+    assert gis("dissolve", "a.csv", "--by", "N", "-o", "out.gpkg").status == 0
+    assert [fields["N"] for _, fields in read("out.gpkg")] == ["3"]
