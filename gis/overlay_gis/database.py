@@ -10,6 +10,7 @@ from typing import Any, Iterator, Sequence
 from osgeo import gdal, osr
 
 from .faults import Fault, Refusal
+from .fitting import NAME_BYTES
 from .gdal_errors import blamed_on
 from .layers import LAYER_MARK, VIRTUAL, Source
 from .messages import followed
@@ -25,6 +26,10 @@ OPTIONS = ("GEOMETRY_NAME=geom", "FID=fid", "LAUNDER=NO", "SPATIAL_INDEX=GIST")
 
 # The kinds of relations, as the server names them, that DROP TABLE drops.
 TABLES = ("r", "p")
+
+# How many bytes a table's name may have: the server cuts longer ones, and so that of an index, for
+# which GDAL puts something behind the table's.
+TABLE_BYTES = NAME_BYTES["PostgreSQL"] - 1
 
 # How long a table that others use is waited for.
 LOCK_SECONDS = 20
@@ -115,10 +120,7 @@ class Database:
         inputs = set().union(*map(identities, self.sources))
         known = [dataset.GetLayer(k).GetName() for k in range(dataset.GetLayerCount())]
         for table in tables:
-            for name in known:
-                if name != table and name.lower() == table.lower():
-                    told = f"has a table {name}, which GDAL takes for {table}: --layer names another one"
-                    raise Refusal(self.name, told)
+            self.refuse_misnamed(table, known)
             there = identity(dataset, quoted(table))
             if there and there in inputs:
                 raise Refusal(f"{self.name}{LAYER_MARK}{table}", "is an input")
@@ -134,6 +136,15 @@ class Database:
                 )
             with blamed_on(self.name, self.address):
                 self.refuse_unmakeable(dataset, table)
+
+    def refuse_misnamed(self, table: str, known: Sequence[str]) -> None:
+        """Refuses a name that the server would cut, or that GDAL takes for that of a layer it knows."""
+        for part in table.split(".", 1):
+            if not 0 < len(part.encode()) <= TABLE_BYTES:
+                raise Refusal(self.name, f"a name has 1 to {TABLE_BYTES} bytes, and not {len(part.encode())} as in {table}: --layer names another one")
+        for name in known:
+            if name != table and name.lower() == table.lower():
+                raise Refusal(self.name, f"has a table {name}, which GDAL takes for {table}: --layer names another one")
 
     def refuse_unmakeable(self, dataset: Any, table: str) -> None:
         """Refuses a table that this user can't make, or replace what is there by."""

@@ -17,7 +17,7 @@ from osgeo import gdal, ogr, osr
 from . import gdal_state
 from .columns import Floats
 from .faults import Fault, Refusal
-from .fitting import OPTIONS, Put, apart, fitted, putting
+from .fitting import OPTIONS, OWN_NAMES, Put, apart, fitted, putting, with_room
 from .frame import Frame
 from .gdal_errors import blamed_on
 from .geopackage import Place, Row, filled, place_of
@@ -136,7 +136,8 @@ def create(
     driver = layers.GetDriver()
     asked = [*options, *OPTIONS.get(driver.ShortName, ()), *bounds(driver, table)]
     layer = layers.CreateLayer(name, None if table.kind == ogr.wkbNone else system, table.kind, asked)
-    names = apart([column.name for column in table.columns], (layer.GetFIDColumn(), layer.GetGeometryColumn()))
+    taken = (layer.GetFIDColumn(), layer.GetGeometryColumn(), *OWN_NAMES.get(driver.ShortName, ()))
+    names = apart([with_room(column.name, driver) for column in table.columns], taken)
     fields = []
     for column, called in zip(table.columns, names):
         fields.append(made_in(layer, fitted(replace(column, name=called).defined(), driver)))

@@ -235,6 +235,33 @@ def test_a_width_that_is_none_is_not_taken_over(gis, tmp_path, server, address):
     assert server.said("select t, r, n, d from town.wide") == "abcdefgh|1.25625|12345|99.50\n"
 
 
+def test_names_for_which_the_server_has_no_room(gis, tmp_path, server, address):
+    """It would cut them, and two may be one then."""
+    long, short = "é" * 31, "é" * 28
+    a = layer(tmp_path / "a.geojson", {f"{long}1": 1, f"{long}2": 2, "plain": 3, "xmin": 4})
+    answer = gis("faces", a, "-o", address, "--layer", "town.long", "--keep-a", f"{long}1,{long}2,plain,xmin")
+    assert answer.status == 0 and f"warning: the field a_{long}2 is called a_{short[1:]}_ there\n" in answer.err, answer.err
+    assert server.said(f'select "a_{short[1:]}", "a_{short[1:]}_", a_plain, a_xmin from town.long') == "1|2|3|4\n"
+    answer = gis("dissolve", a, "-o", address, "--layer", "town.own", "--by", "xmin,plain")
+    assert answer.status == 0 and "warning: the field xmin is called xmin_ there\n" in answer.err
+    assert server.said("select xmin_, plain from town.own") == "4|3\n"
+
+
+@pytest.mark.parametrize("name, bytes_of", [(f"town.{'l' * 63}", 63), (f"{'é' * 32}.x", 64), ("town.", 0), (f"town.{'l' * 58}", 64)])
+def test_a_table_whose_name_the_server_would_cut_is_refused_before_any_work(gis, tmp_path, server, address, monkeypatch, name, bytes_of):
+    a, b = layers(tmp_path)
+    monkeypatch.setattr(Source, "survey", lambda *_: pytest.fail("a layer is read"))
+    answer = gis("faces", a, b, "-o", address, "--layer", name, "--pairs", address)
+    assert answer.status == 3 and f"a name has 1 to 62 bytes, and not {bytes_of} as in {name}" in answer.err, answer.err
+
+
+def test_a_table_has_the_longest_name(gis, tmp_path, server, address):
+    a, b = layers(tmp_path)
+    name = f"town.{'l' * 62}"
+    assert gis("run", "union", a, b, "-o", address, "--layer", name).status == 0
+    assert server.said(f"select area from {name}") == "150\n"
+
+
 def test_columns_that_differ_by_case_alone_are_refused(gis, server, address, monkeypatch):
     """GDAL puts the values of all into the first one."""
     server.said('create table town.lots ("Owner" text, owner text, lot int, shape geometry(polygon, 25832))')
