@@ -179,6 +179,10 @@ class Database:
             # which fails where a view stands on it
             dataset.ExecuteSQL(f"DROP TABLE {quoted(table.name)}")
         made = create(dataset, table.name, system, table, self.name, *OPTIONS)
+        for column, held in zip(table.columns, made.fields):
+            if column.unzoned:  # GDAL would have them as of the server's zone
+                way = f"ALTER COLUMN {quoted_whole(held.GetName())} TYPE timestamp"
+                dataset.ExecuteSQL(f"ALTER TABLE {quoted(table.name)} {way}")
         count = 0
         for geometry, values in followed(table.rows, f"writing {table.name}"):
             add(made, geometry, values)

@@ -2,6 +2,7 @@
 
 from __future__ import annotations
 
+import re
 from dataclasses import dataclass
 from itertools import chain, pairwise
 from math import isfinite
@@ -22,6 +23,9 @@ from .rows import Members
 
 # The names of layers in an output.
 NAMES = LETTERS.lower()
+
+# What stands behind a time, as GDAL has it, whose zone is known.
+ZONE = re.compile(r"[+-][0-9:]+$|Z$")
 
 # Between the values of several features that cover one row.
 JOINT = ","
@@ -88,10 +92,11 @@ def by_fields(fields: Sequence[ogr.FieldDefn], values: Sequence[tuple[Any, ...]]
 def column_of(field: ogr.FieldDefn, values: Iterable[Any], mark: str = "") -> Column:
     """A field as it is, with a mark before its name; without its width where that is no bound of its
     values, as many a format has it."""
-    width, precision = field.GetWidth(), field.GetPrecision()
-    if width and not all(fits(value, width, precision) for value in values):
+    width, precision, held = field.GetWidth(), field.GetPrecision(), list(values)
+    if width and not all(fits(value, width, precision) for value in held):
         width = precision = 0
-    return Column(mark + field.GetName(), field.GetType(), field.GetSubType(), width, precision)
+    unzoned = field.GetType() == ogr.OFTDateTime and not any(value and ZONE.search(value) for value in held)
+    return Column(mark + field.GetName(), field.GetType(), field.GetSubType(), width, precision, unzoned)
 
 
 def fits(value: Any, width: int, precision: int) -> bool:

@@ -61,13 +61,15 @@ def driver_for(target: Target) -> gdal.Driver:
 
 @dataclass
 class Column:
-    """A field of a layer that is written: its name and OGR's type."""
+    """A field of a layer that is written: its name and OGR's type; `unzoned`: its times are those of
+    a place that isn't told."""
 
     name: str
     type: int
     subtype: int = ogr.OFSTNone
     width: int = 0
     precision: int = 0
+    unzoned: bool = False
 
     def defined(self) -> ogr.FieldDefn:
         definition = ogr.FieldDefn(self.name, self.type)

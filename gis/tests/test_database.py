@@ -235,6 +235,22 @@ def test_a_width_that_is_none_is_not_taken_over(gis, tmp_path, server, address):
     assert server.said("select t, r, n, d from town.wide") == "abcdefgh|1.25625|12345|99.50\n"
 
 
+@pytest.mark.parametrize("words", [("dissolve", "--by"), ("faces", "--keep-a")])
+def test_times_without_a_zone_get_none(gis, server, address, words):
+    """At half past two there was no time in Berlin that night, and the server would make another one."""
+    server.said("create table town.lots (t timestamp, z timestamptz, shape geometry(polygon, 25832))")
+    server.said("alter database postgres set timezone to 'Europe/Berlin'")
+    times = "'2020-03-29 02:30:00.25', '2020-03-29 03:30:00+02'"
+    server.said(f"insert into town.lots values ({times}, 'srid=25832;{SQUARE.wkt}'), (null, null, 'srid=25832;{OTHER.buffer(-6).wkt}')")
+    answer = gis(words[0], f"{address}|layername=town.lots", words[1], "t,z", "-o", address, "--layer", "town.times")
+    server.said("alter database postgres reset timezone")
+    assert answer.status == 0, answer.err
+    mark = "" if words[0] == "dissolve" else "a_"
+    assert server.said(f"set timezone to 'UTC'; select {mark}t, {mark}z from town.times where {mark}t > '2020-01-01'") == (
+        "2020-03-29 02:30:00.25|2020-03-29 01:30:00+00\n"
+    )
+
+
 def test_names_for_which_the_server_has_no_room(gis, tmp_path, server, address):
     """It would cut them, and two may be one then."""
     long, short = "é" * 31, "é" * 28
