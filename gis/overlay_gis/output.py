@@ -317,6 +317,18 @@ def write_into(
     return [written.count for written in filled]
 
 
+# How names of layers begin that neither GDAL nor SQLite makes in a GeoPackage.
+RESERVED = ("gpkg", "sqlite_")
+
+
+def refuse_reserved(target: Target, names: Sequence[str]) -> None:
+    """Refuses names of layers that no GeoPackage takes; none stands for that of the file."""
+    for name in names:
+        held = name or target.path.stem
+        if held.lower().startswith(RESERVED):
+            raise Refusal(target.name, f"no layer of a GeoPackage may be called {held}: --layer names another one")
+
+
 # What a file of a format is tried with: a field of each usual type, and a polygon.
 TRIED = [Column("id", ogr.OFTInteger64), Column("area", ogr.OFTReal), Column("a", ogr.OFTString)]
 SQUARE = ogr.CreateGeometryFromWkt("POLYGON ((0 0, 1 0, 1 1, 0 1, 0 0))")
