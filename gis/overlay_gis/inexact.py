@@ -1,12 +1,14 @@
-"""Fields of a database that GDAL has otherwise than they are there: they are told before any work
-is done."""
+"""Fields of a database, or of GeoJSON, that GDAL has otherwise than they are there: they are told
+before any work is done."""
 
 from __future__ import annotations
 
-from typing import Callable
+import re
+from typing import Callable, Iterator
 
-from osgeo import ogr
+from osgeo import gdal, ogr
 
+from . import gdal_state
 from .database import answer, literal, quoted, quoted_whole
 from .faults import Refusal
 from .fitting import LISTS
@@ -19,6 +21,15 @@ TEXTS = ("text", "varchar", "bpchar", "name")
 
 # Years that GDAL and all formats have.
 YEARS = "'0001-01-01' AND '9999-12-31 23:59:59.999'"
+
+# Drivers of one form of texts; the types of fields, beside texts of JSON, that may have bounds of
+# whole numbers in the place of greater ones; and times of more digits than GDAL has, which the
+# second driver doesn't tell.
+JSON = ("GeoJSON", "GeoJSONSeq")
+CLAMPED = (ogr.OFTInteger64, ogr.OFTInteger64List)
+BOUNDS = re.compile(r"(9223372036854775807|-9223372036854775808)(?![0-9])")
+FINER = re.compile(r":[0-9]{2}\.[0-9]{3}[0-9]*[1-9]")
+TIMES = (ogr.OFTTime, ogr.OFTDateTime)
 
 NEVER, ALWAYS = "false", "true"
 
@@ -79,16 +90,43 @@ def another(field: ogr.FieldDefn, kind: str) -> str:
 
 def refuse_inexact(source: Source, field: ogr.FieldDefn) -> None:
     """Refuses a field that GDAL takes for another one, or of which it takes a value for another."""
-    if not source.is_postgis:
-        return
-    refuse_confused(source, field.GetName())
     name = source.layer.GetName()
-    for table in (quoted(name), quoted_whole(name)):
-        with blamed_on(source.name, source.path):
-            found = inexact(source, table, field)
-        if found:
-            way = f"a view that has {field.GetName()}::text keeps them"
-            raise Refusal(source.name, f"the field {field.GetName()} has values, as {found}, that GDAL takes for others: {way}")
+    with blamed_on(source.name, source.path):
+        if source.is_postgis:
+            refuse_confused(source, field.GetName())
+            for table in (quoted(name), quoted_whole(name)):
+                refuse(source, field, inexact(source, table, field), f"a view that has {field.GetName()}::text keeps them")
+        elif source.dataset.GetDriver().ShortName in JSON:
+            refuse(source, field, next(clamped(source, field), None), "as texts, in quotes, they are kept")
+            refuse(source, field, next(too_fine(source, field), None), "ogr2ogr -oo DATE_AS_STRING=YES makes texts of them")
+
+
+def refuse(source: Source, field: ogr.FieldDefn, found: str | None, way: str) -> None:
+    if found:
+        raise Refusal(source.name, f"the field {field.GetName()} has values, as {found}, that GDAL takes for others: {way}")
+
+
+def read_again(source: Source, name: str) -> Iterator[str]:
+    """The texts of a field's values, where times are texts as well."""
+    with gdal_state.options({"OGR_GEOJSON_DATE_AS_STRING": "YES"}):
+        dataset = gdal.OpenEx(source.path, gdal.OF_VECTOR | gdal.OF_READONLY)
+        layer = dataset.GetLayerByName(source.layer.GetName())
+        place = layer.GetLayerDefn().GetFieldIndex(name)
+        for feature in layer:
+            yield feature.GetFieldAsString(place)
+
+
+def clamped(source: Source, field: ogr.FieldDefn) -> Iterator[str]:
+    """Bounds of whole numbers of 64 bits that stand for greater ones, or for themselves."""
+    if field.GetType() in CLAMPED or field.GetSubType() == ogr.OFSTJSON:
+        found = map(BOUNDS.search, read_again(source, field.GetName()))
+        yield from (f"{match[0]} or beyond" for match in found if match)
+
+
+def too_fine(source: Source, field: ogr.FieldDefn) -> Iterator[str]:
+    """Times of more than milliseconds."""
+    if field.GetType() in TIMES:
+        yield from filter(FINER.search, read_again(source, field.GetName()))
 
 
 def inexact(source: Source, table: str, field: ogr.FieldDefn) -> str | None:
