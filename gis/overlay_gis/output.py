@@ -6,6 +6,7 @@ import sqlite3
 import sys
 from array import array
 from dataclasses import dataclass, replace
+from decimal import Decimal
 from pathlib import Path
 from tempfile import TemporaryDirectory
 from traceback import clear_frames
@@ -191,7 +192,10 @@ class Output:
         self.begun = False  # whether the file is there
 
     def opened(self) -> Any:
-        return driver_for(self.target).Create(str(self.path), 0, 0, 0, gdal.GDT_Unknown)
+        made = driver_for(self.target).Create(str(self.path), 0, 0, 0, gdal.GDT_Unknown)
+        if made is None:
+            raise Fault(self.target.name, "GDAL makes none, and doesn't say why")
+        return made
 
     def again(self) -> Any:
         """The file that was closed meanwhile."""
@@ -329,17 +333,19 @@ def refuse_reserved(target: Target, names: Sequence[str]) -> None:
             raise Refusal(target.name, f"no layer of a GeoPackage may be called {held}: --layer names another one")
 
 
-# What a file of a format is tried with: a field of each usual type, and a polygon.
+# What a file of a format is tried with: a field of each usual type, and polygons of two sizes.
 TRIED = [Column("id", ogr.OFTInteger64), Column("area", ogr.OFTReal), Column("a", ogr.OFTString)]
-SQUARE = ogr.CreateGeometryFromWkt("POLYGON ((0 0, 1 0, 1 1, 0 1, 0 0))")
+SQUARES = ["POLYGON ((0 0, 1 0, 1 1, 0 1, 0 0))", "POLYGON ((2.003 0, 5 0, 5 7, 2.003 7, 2.003 0))"]
+FRAME = Frame(Decimal("0.001"), (Decimal(0), Decimal(0)), None)
 
 
 def refuse_without_layers(target: Target) -> None:
-    """Refuses a format that keeps no polygons with fields; a feature is tried."""
-    row = bytes(SQUARE.ExportToWkb(ogr.wkbNDR)), (1, 0.5, "a")
+    """Refuses a format that keeps no polygons with fields; two features are tried."""
+    shapes = [bytes(ogr.CreateGeometryFromWkt(words).ExportToWkb(ogr.wkbNDR)) for words in SQUARES]
+    rows = [(shape, (number, 0.5, "a")) for number, shape in enumerate(shapes, 1)]
     try:
         with unheard(), TemporaryDirectory() as folder:
-            write_into(Path(folder), target, None, [Table(TRIED, [row])])
+            write_into(Path(folder), target, None, [Table(TRIED, rows, frame=FRAME)])
     except Refusal:
         raise
     except Fault as fault:

@@ -8,7 +8,7 @@ from osgeo import ogr
 from shapely.geometry import box
 
 from conftest import EAST, NORTH, read, write
-from overlay_gis import output, read_back
+from overlay_gis import destination, output, read_back
 from overlay_gis.layers import Source
 
 
@@ -66,7 +66,7 @@ def test_a_system_that_a_format_has_no_room_for_is_told(gis, tmp_path, srs, endi
 NO_LAYERS = {
     "csv": "a file of this format keeps no shapes",
     "xlsx": "a file of this format keeps no shapes",
-    **dict.fromkeys(("dxf", "dgn", "mvt", "sql", "map", "txt", "ili"), "a file of this format keeps no polygons with fields, as one of .gpkg does: "),
+    **dict.fromkeys(("dxf", "dgn", "mvt", "sql", "map", "txt", "ili", "xtf", "pix", "pdf"), "a file of this format keeps no polygons with fields, as one of .gpkg does: "),
 }
 
 
@@ -82,6 +82,9 @@ def test_a_format_without_layers_is_refused_before_any_work(gis, tmp_path, monke
 def test_shapes_that_come_out_elsewhere_are_told(gis, tmp_path, monkeypatch):
     a = write(tmp_path / "a.gpkg", [box(EAST, NORTH, EAST + 1, NORTH + 1), box(EAST + 2.003, NORTH, EAST + 3, NORTH + 1)])
     monkeypatch.setattr(output, "bounds", lambda *_: ())
+    answer = gis("run", "union", a, a, "-o", "out.tab")
+    assert answer.status == 3 and "0.01 from its place" in answer.err, answer.err  # as two squares tell before
+    monkeypatch.setattr(destination, "refuse_without_layers", lambda *_: None)
     answer = gis("run", "union", a, a, "-o", "out.tab")
     told = "from its place: a GeoPackage, whose name ends in .gpkg, has room for it"
     assert answer.status == 1 and "out.tab: the shape in row number " in answer.err and told in answer.err, answer.err
