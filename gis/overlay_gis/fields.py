@@ -70,6 +70,8 @@ class Kept:
             return [None] * len(self.fields)
         if not self.several:
             return list(self.values[covering[0]])
+        if len(covering) == 1:
+            return [None if value is None else str(text_of(value)) for value in self.values[covering[0]]]
         return [
             JOINT.join("" if value is None else str(text_of(value)) for value in column)
             for column in zip(*(self.values[k] for k in covering))
