@@ -4,17 +4,18 @@ it was."""
 from __future__ import annotations
 
 from contextlib import contextmanager
+from dataclasses import replace
 from pathlib import Path
 from typing import Any, Iterator, Sequence
 
-from osgeo import gdal, osr
+from osgeo import gdal, ogr, osr
 
 from .faults import Fault, Refusal
 from .fitting import NAME_BYTES
 from .gdal_errors import blamed_on
 from .layers import LAYER_MARK, VIRTUAL, Source
 from .messages import followed
-from .output import Table, add, create
+from .output import Column, Table, add, create
 from .passwords import hidden, remember
 from .stopping import go_on
 from .whole import Drafts
@@ -178,6 +179,7 @@ class Database:
         if identity(dataset, quoted(table.name)):
             # which fails where a view stands on it
             dataset.ExecuteSQL(f"DROP TABLE {quoted(table.name)}")
+        table = replace(table, columns=list(map(without_strange, table.columns)))
         made = create(dataset, table.name, system, table, self.name, *OPTIONS)
         for column, held in zip(table.columns, made.fields):
             if column.unzoned:  # GDAL would have them as of the server's zone
@@ -195,6 +197,12 @@ class Database:
                 f"{table.name} has {found} of the {count} features that were written to it",
             )
         return count
+
+
+def without_strange(column: Column) -> Column:
+    """A field of texts of JSON in the place of one of lists from which GDAL would take backslashes, or
+    make no value of a text."""
+    return replace(column, type=ogr.OFTString, subtype=ogr.OFSTJSON) if column.strange else column
 
 
 @contextmanager

@@ -98,7 +98,12 @@ def column_of(field: ogr.FieldDefn, values: Iterable[Any], mark: str = "") -> Co
     if width and not all(fits(value, width, precision) for value in held):
         width = precision = 0
     unzoned = field.GetType() == ogr.OFTDateTime and not any(value and ZONE.search(value) for value in held)
-    return Column(mark + field.GetName(), field.GetType(), field.GetSubType(), width, precision, unzoned)
+    strange = field.GetType() == ogr.OFTStringList and any(map(is_strange, chain.from_iterable(filter(None, held))))
+    return Column(mark + field.GetName(), field.GetType(), field.GetSubType(), width, precision, unzoned, strange)
+
+
+def is_strange(text: str) -> bool:
+    return not text or "\\" in text
 
 
 def fits(value: Any, width: int, precision: int) -> bool:

@@ -63,7 +63,7 @@ def driver_for(target: Target) -> gdal.Driver:
 @dataclass
 class Column:
     """A field of a layer that is written: its name and OGR's type; `unzoned`: its times are those of
-    a place that isn't told."""
+    a place that isn't told; `strange`: its lists have texts of no sign, or with backslashes."""
 
     name: str
     type: int
@@ -71,6 +71,7 @@ class Column:
     width: int = 0
     precision: int = 0
     unzoned: bool = False
+    strange: bool = False
 
     def defined(self) -> ogr.FieldDefn:
         definition = ogr.FieldDefn(self.name, self.type)

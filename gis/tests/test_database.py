@@ -2,6 +2,7 @@
 tests are."""
 
 import glob
+import json
 import os
 import signal
 import sys
@@ -165,6 +166,18 @@ def test_lists_are_kept(gis, tmp_path, server, address):
     a = layer(tmp_path / "a.geojson", {"tags": ["x", "y"], "lots": [1, 2], "shares": [0.5]})
     assert gis("dissolve", a, "--by", "tags,lots,shares", "-o", address, "--layer", "town.lists").status == 0
     assert server.said("select tags, lots, shares from town.lists") == "{x,y}|{1,2}|{0.5}\n"
+
+
+@pytest.mark.parametrize("texts", [["a", ""], ["a\\b"], ["\\"], ['"', "\\N"]])
+def test_lists_of_texts_that_gdal_would_spoil_are_texts_of_json(gis, tmp_path, server, address, texts):
+    a = layer(tmp_path / "a.geojson", {"kept": texts, "plain": ["a,b", 'c"d', "NULL", " {e} "]}, {"kept": ["x"], "plain": None})
+    for verb, option, mark in (("dissolve", "--by", ""), ("faces", "--keep-a", "a_")):
+        assert gis(verb, a, option, "kept,plain", "-o", address, "--layer", "town.texts", "--overwrite").status == 0
+        for row, wanted in ((1, texts), (2, ["x"])):
+            found = server.said(f"select {mark}kept from town.texts where fid = {row}")
+            assert json.loads(found) == wanted
+        plain = f"{mark}plain"
+        assert server.said(f"select array_to_json({plain}) from town.texts where fid = 1") == '["a,b","c\\"d","NULL"," {e} "]\n'
 
 
 def test_a_field_called_as_a_column_has_another_name(gis, tmp_path, server, address):
