@@ -71,7 +71,8 @@ def add_arguments(parser: ArgumentParser) -> None:
         help=(
             "a table, as pairs.csv, of all pairs of a feature of the first layer and one of the"
             " second that have points in common, with twice the common area in grid units, the"
-            " area, and its shares of both features; where TABLE is OUT, its table pairs"
+            " area, and its shares of both features; where TABLE is OUT, its table pairs, or NAME_pairs"
+            " beside --layer NAME"
         ),
     )
     options.add_grid(parser)
