@@ -31,6 +31,13 @@ LAYER_MARK = "|layername="
 VIRTUAL = "OGR_VRT"
 
 
+# What makes all reads of a session in PostgreSQL one.
+STILL = (
+    "SET synchronize_seqscans = off",
+    "SET SESSION CHARACTERISTICS AS TRANSACTION ISOLATION LEVEL REPEATABLE READ, READ ONLY",
+)
+
+
 @dataclass
 class Box:
     """The least upright rectangle round some points; `farthest` is the layer and the feature that
@@ -130,7 +137,17 @@ class Source:
             self.dataset = gdal.OpenEx(self.path, gdal.OF_VECTOR | gdal.OF_READONLY)
         if self.dataset is None:
             raise Fault(self.name, "GDAL can't read it as a vector layer")
+        if self.is_postgis:
+            self.hold_still()
         self.layer = self.chosen()
+
+    def hold_still(self) -> None:
+        """Has a database tell the same rows in the same order each time that they are read: a server
+        begins to read a large table where another reader is, and others may change it meanwhile."""
+        with blamed_on(self.name, self.path):
+            for words in STILL:
+                self.dataset.ExecuteSQL(words)
+            self.dataset.StartTransaction()
 
     def chosen(self) -> ogr.Layer:
         names = [self.dataset.GetLayer(k).GetName() for k in range(self.dataset.GetLayerCount())]

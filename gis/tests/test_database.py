@@ -186,6 +186,39 @@ def test_a_field_called_as_a_column_has_another_name(gis, tmp_path, server, addr
     assert server.said('select fid, fid_, "Geom_", features from town.names order by fid') == "1|7|1|1\n2|5|2|1\n"
 
 
+@pytest.fixture
+def large(server, address):
+    """A table without a key, so large that the server has readers of it share their way."""
+    server.said("create table town.large (n int, filler text, shape geometry(polygon, 25832))")
+    server.said("alter table town.large alter column filler set storage plain")
+    corners = f"{EAST} + k * 10, {NORTH}, {EAST} + k * 10 + 5, {NORTH} + 5"
+    server.said(f"insert into town.large select k, repeat('x', 7000), st_makeenvelope({corners}, 25832) from generate_series(0, 17999) k")
+    return f"{address}|layername=town.large"
+
+
+# What others do while a table is read.
+MEANWHILE = [
+    "begin; declare c cursor for select * from town.large; fetch forward 7000 from c; close c; commit",
+    "delete from town.large where n = 3",
+    "update town.large set n = -n",
+]
+
+
+@pytest.mark.parametrize("words", MEANWHILE)
+def test_values_are_those_of_their_features_whoever_reads_or_changes_the_table(gis, server, large, monkeypatch, words):
+    values = Source.values
+
+    def between(*held):
+        server.said(words)
+        return values(*held)
+
+    monkeypatch.setattr(Source, "values", between)
+    answer = gis("faces", large, "-o", "out.gpkg", "--keep-a", "n")
+    assert answer.status == 0, answer.err
+    found = read("out.gpkg")
+    assert len(found) == 18000 and all(shape.bounds[0] == EAST + 10 * row["a_n"] for shape, row in found)
+
+
 # Types, values that GDAL takes for others, and values that it has as they are.
 OTHERS = [
     ("timestamp", "2020-01-02 03:04:05.123456", "2020-01-02 03:04:05.123"),
