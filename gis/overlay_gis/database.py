@@ -164,7 +164,9 @@ class Database:
             raise Refusal(self.name, f"{user} may create nothing in the schema{f' {named}' if rest else ' of its tables'}")
 
     def write(self, held: Drafts, system: osr.SpatialReference | None, tables: Sequence[Table]) -> list[int]:
-        """Makes the tables, and answers how many features each has."""
+        """Makes the tables, and answers how many features each has; all layers were read before."""
+        for source in self.sources:
+            source.let_go()
         dataset = held.within(self.changed())
         dataset.ExecuteSQL(f"SET LOCAL lock_timeout = '{LOCK_SECONDS}s'")
         return [self.made(dataset, system, table) for table in tables]

@@ -23,6 +23,7 @@ from .gdal_errors import blamed_on, told_as
 from .messages import followed
 from .passwords import hidden, remember
 from .systems import known, names_apart, same, system_from, system_name
+from .whole import paths_of, state_of
 
 
 LAYER_MARK = "|layername="
@@ -139,6 +140,7 @@ class Source:
             raise Fault(self.name, "GDAL can't read it as a vector layer")
         if self.is_postgis:
             self.hold_still()
+        self.state = self.state_of_files()
         self.layer = self.chosen()
 
     def hold_still(self) -> None:
@@ -148,6 +150,12 @@ class Source:
             for words in STILL:
                 self.dataset.ExecuteSQL(words)
             self.dataset.StartTransaction()
+
+    def let_go(self) -> None:
+        """Lets others change what a database tells, after all reads."""
+        if self.is_postgis:
+            with blamed_on(self.name, self.path):
+                self.dataset.RollbackTransaction()
 
     def chosen(self) -> ogr.Layer:
         names = [self.dataset.GetLayer(k).GetName() for k in range(self.dataset.GetLayerCount())]
@@ -183,6 +191,10 @@ class Source:
     def files(self) -> list[str]:
         """Everything that the source is read from, as far as GDAL tells."""
         return [self.path, *(self.dataset.GetFileList() or [])]
+
+    def state_of_files(self) -> list[object]:
+        """What tells whether the source was changed, if it is one of files."""
+        return [state_of(path) for held in self.files() for path in paths_of(held)]
 
     def system(self) -> osr.SpatialReference | None:
         return known(self.layer.GetSpatialRef())
@@ -249,7 +261,7 @@ class Source:
             unread: Iterator[ogr.Feature] = iter(self.layer.GetNextFeature, None)
             features = followed(unread, f"reading {self.name}", seen.features)
             read = [(feature.GetFID(), tuple(map(feature.GetField, places))) for feature in features]
-        if [number for number, _ in read] != seen.numbers.tolist():
+        if [number for number, _ in read] != seen.numbers.tolist() or self.state_of_files() != self.state:
             raise Fault(self.name, "was changed while it was read")
         return [values for _, values in read]
 

@@ -425,6 +425,17 @@ def test_a_view_on_the_table_keeps_it(gis, tmp_path, server, address):
     assert server.said("select area from town.seen") == "50\n"
 
 
+def test_a_table_that_stands_on_an_input_is_replaced(gis, server, address):
+    """Which takes a lock of the input for as long as that is."""
+    server.said("create table town.lots (lot int primary key, shape geometry(polygon, 25832))")
+    server.said(f"insert into town.lots values (7, 'srid=25832;{SQUARE.wkt}')")
+    server.said("create table town.use (lot int references town.lots)")
+    source = f"{address}|layername=town.lots"
+    answer = gis("run", "union", source, source, "-o", address, "--layer", "town.use", "--overwrite")
+    assert answer.status == 0, answer.err
+    assert server.said("select area from town.use") == "100\n"
+
+
 @pytest.mark.parametrize("number", [signal.SIGKILL, signal.SIGTERM], ids=lambda number: number.name)
 def test_a_kill_leaves_the_table_as_it_was(stopped, tmp_path, server, address, number):  # noqa: F811
     a, b = layers(tmp_path)

@@ -288,3 +288,27 @@ def test_values_that_gdal_takes_for_others_are_refused_before_any_work(gis, tmp_
     monkeypatch.setattr(Source, "survey", lambda *_: pytest.fail("a layer is read"))
     answer = gis("faces", f"a.{ending}", "--keep-a", "kept", "-o", "out.gpkg", "--overwrite")
     assert answer.status == 3 and f"a.{ending}: the field kept has values, as {told}, that GDAL takes for others: " in answer.err, answer.err
+
+
+@pytest.mark.parametrize("ending", ["gpkg", "shp", "geojson"])
+def test_a_layer_that_is_changed_between_two_reads_is_told(gis, tmp_path, monkeypatch, ending):
+    """Its fields would be those of other shapes."""
+    shapes = [ogr.CreateGeometryFromWkt(words) for words in TEXTS[:2]]
+    path = tmp_path / f"a.{ending}"
+    write(path, shapes, fields={"n": [1, 2]})
+    assert gis("faces", path, "-o", "out.gpkg", "--keep-a", "n").status == 0
+    values = Source.values
+
+    def between(*held):
+        dataset = gdal.OpenEx(str(path), gdal.OF_VECTOR | gdal.OF_UPDATE)
+        layer = dataset.GetLayer(0)
+        for feature, number in zip(list(layer), (2, 1)):
+            feature["n"] = number
+            layer.SetFeature(feature)
+        del layer, dataset
+        return values(*held)
+
+    monkeypatch.setattr(Source, "values", between)
+    answer = gis("faces", path, "-o", "other.gpkg", "--keep-a", "n")
+    assert answer.status == 1 and answer.err.endswith(f"a.{ending}: was changed while it was read\n"), answer.err
+    assert not (tmp_path / "other.gpkg").exists()
