@@ -34,7 +34,7 @@ VIRTUAL = "OGR_VRT"
 
 # What makes all reads of a session in PostgreSQL one.
 STILL = (
-    "SET synchronize_seqscans = off",
+    "SELECT set_config(name, 'off', false) FROM pg_settings WHERE name = 'synchronize_seqscans'",
     "SET SESSION CHARACTERISTICS AS TRANSACTION ISOLATION LEVEL REPEATABLE READ, READ ONLY",
 )
 
@@ -148,7 +148,10 @@ class Source:
         begins to read a large table where another reader is, and others may change it meanwhile."""
         with blamed_on(self.name, self.path):
             for words in STILL:
-                self.dataset.ExecuteSQL(words)
+                rows = self.dataset.ExecuteSQL(words)
+                if rows is not None:
+                    rows.GetNextFeature()  # which GDAL asks for when it is wanted
+                    self.dataset.ReleaseResultSet(rows)
             self.dataset.StartTransaction()
 
     def let_go(self) -> None:
