@@ -191,6 +191,12 @@ class Source:
     def is_postgis(self) -> bool:
         return bool(self.dataset.GetDriver().ShortName == "PostgreSQL")
 
+    @property
+    def reads_all(self) -> bool:
+        """Whether nothing is passed over: a virtual layer may need it, and a server that is asked for
+        something else may tell rows in another order."""
+        return self.is_postgis or bool(self.dataset.GetDriver().ShortName == VIRTUAL)
+
     def files(self) -> list[str]:
         """Everything that the source is read from, as far as GDAL tells."""
         return [self.path, *(self.dataset.GetFileList() or [])]
@@ -219,8 +225,7 @@ class Source:
             raise Fault(self.name, f"only {read} of {told} features could be read")
 
     def survey(self) -> Survey:
-        needed = self.dataset.GetDriver().ShortName == VIRTUAL
-        parts = [self.looked_at(batch) for batch in self.counted(batches(self.layer, needed))]
+        parts = [self.looked_at(batch) for batch in self.counted(batches(self.layer, self.reads_all))]
         return Survey(
             np.concatenate([NOTHING.ids, *(part.numbers for part in parts)]),
             np.concatenate([NO_KINDS, *(part.kinds for part in parts)]),
@@ -256,7 +261,7 @@ class Source:
         """The values of these fields of all features."""
         if not names:
             return [()] * seen.features
-        pass_over(self.layer, ["OGR_GEOMETRY"])
+        pass_over(self.layer, [] if self.reads_all else ["OGR_GEOMETRY"])
         self.layer.ResetReading()
         there = [field.GetName() for field in self.fields()]
         places = list(map(there.index, names))  # by a name GDAL's bindings look through all fields

@@ -219,6 +219,30 @@ def test_values_are_those_of_their_features_whoever_reads_or_changes_the_table(g
     assert len(found) == 18000 and all(shape.bounds[0] == EAST + 10 * row["a_n"] for shape, row in found)
 
 
+JOINED = "select lot, owner, shape from town.lots left join town.owners using (lot)"
+
+
+@pytest.mark.parametrize("layer_of, field", [("lots", "lot"), ("seen", "lot"), ("seen", "owner")])
+def test_values_are_those_of_their_features_whatever_way_the_server_goes(gis, server, address, layer_of, field):
+    """It reads an index in the place of a table where that has all that is asked for, and leaves out
+    of a view what isn't."""
+    server.said("create table town.lots (lot int, shape geometry(polygon, 25832)); create table town.owners (lot int primary key, owner text)")
+    envelope = f"st_makeenvelope({EAST} + k * 10, {NORTH}, {EAST} + k * 10 + 5, {NORTH} + 5, 25832)"
+    server.said(f"insert into town.lots select k, st_segmentize({envelope}, 0.2) from generate_series(0, 999) k order by k * 37 % 1000")
+    server.said(f"insert into town.owners select k, k from generate_series(0, 999) k; create index on town.lots (lot); create view town.seen as {JOINED}")
+    for way in ("seqscan", "bitmapscan", "hashjoin", "nestloop"):
+        server.said(f"alter role peers set enable_{way} = off")
+    try:
+        assert "Index Only Scan" in server.said("explain select lot from town.lots")
+        assert "Merge" in server.said("explain select lot, owner from town.seen")
+        answer = gis("faces", f"{address}|layername=town.{layer_of}", "-o", "out.gpkg", "--keep-a", field)
+    finally:
+        server.said("alter role peers reset all")
+    assert answer.status == 0, answer.err
+    found = read("out.gpkg")
+    assert len(found) == 1000 and all(shape.bounds[0] == EAST + 10 * int(row[f"a_{field}"]) for shape, row in found)
+
+
 # Types, values that GDAL takes for others, and values that it has as they are.
 OTHERS = [
     ("timestamp", "2020-01-02 03:04:05.123456", "2020-01-02 03:04:05.123"),
