@@ -4,16 +4,18 @@ it was."""
 from __future__ import annotations
 
 from contextlib import contextmanager
+from dataclasses import replace
 from pathlib import Path
 from typing import Any, Iterator, Sequence
 
-from osgeo import gdal, osr
+from osgeo import gdal, ogr, osr
 
 from .faults import Fault, Refusal
+from .fitting import NAME_BYTES
 from .gdal_errors import blamed_on
 from .layers import LAYER_MARK, VIRTUAL, Source
 from .messages import followed
-from .output import Table, add, create
+from .output import Column, Table, add, create
 from .passwords import hidden, remember
 from .stopping import go_on
 from .whole import Drafts
@@ -25,6 +27,10 @@ OPTIONS = ("GEOMETRY_NAME=geom", "FID=fid", "LAUNDER=NO", "SPATIAL_INDEX=GIST")
 
 # The kinds of relations, as the server names them, that DROP TABLE drops.
 TABLES = ("r", "p")
+
+# How many bytes a table's name may have: the server cuts longer ones, and so that of an index, for
+# which GDAL puts something behind the table's.
+TABLE_BYTES = NAME_BYTES["PostgreSQL"] - 1
 
 # How long a table that others use is waited for.
 LOCK_SECONDS = 20
@@ -113,7 +119,9 @@ class Database:
         if not answer(dataset, "SELECT 1 FROM pg_extension WHERE extname = 'postgis'"):
             raise Refusal(self.name, "has no PostGIS: CREATE EXTENSION postgis")
         inputs = set().union(*map(identities, self.sources))
+        known = [dataset.GetLayer(k).GetName() for k in range(dataset.GetLayerCount())]
         for table in tables:
+            self.refuse_misnamed(table, known)
             there = identity(dataset, quoted(table))
             if there and there in inputs:
                 raise Refusal(f"{self.name}{LAYER_MARK}{table}", "is an input")
@@ -129,6 +137,15 @@ class Database:
                 )
             with blamed_on(self.name, self.address):
                 self.refuse_unmakeable(dataset, table)
+
+    def refuse_misnamed(self, table: str, known: Sequence[str]) -> None:
+        """Refuses a name that the server would cut, or that GDAL takes for that of a layer it knows."""
+        for part in table.split(".", 1):
+            if not 0 < len(part.encode()) <= TABLE_BYTES:
+                raise Refusal(self.name, f"a name has 1 to {TABLE_BYTES} bytes, and not {len(part.encode())} as in {table}: --layer names another one")
+        for name in known:
+            if name != table and name.lower() == table.lower():
+                raise Refusal(self.name, f"has a table {name}, which GDAL takes for {table}: --layer names another one")
 
     def refuse_unmakeable(self, dataset: Any, table: str) -> None:
         """Refuses a table that this user can't make, or replace what is there by."""
@@ -147,7 +164,9 @@ class Database:
             raise Refusal(self.name, f"{user} may create nothing in the schema{f' {named}' if rest else ' of its tables'}")
 
     def write(self, held: Drafts, system: osr.SpatialReference | None, tables: Sequence[Table]) -> list[int]:
-        """Makes the tables, and answers how many features each has."""
+        """Makes the tables, and answers how many features each has; all layers were read before."""
+        for source in self.sources:
+            source.let_go()
         dataset = held.within(self.changed())
         dataset.ExecuteSQL(f"SET LOCAL lock_timeout = '{LOCK_SECONDS}s'")
         return [self.made(dataset, system, table) for table in tables]
@@ -162,7 +181,12 @@ class Database:
         if identity(dataset, quoted(table.name)):
             # which fails where a view stands on it
             dataset.ExecuteSQL(f"DROP TABLE {quoted(table.name)}")
+        table = replace(table, columns=list(map(without_strange, table.columns)))
         made = create(dataset, table.name, system, table, self.name, *OPTIONS)
+        for column, held in zip(table.columns, made.fields):
+            if column.unzoned:  # GDAL would have them as of the server's zone
+                way = f"ALTER COLUMN {quoted_whole(held.GetName())} TYPE timestamp"
+                dataset.ExecuteSQL(f"ALTER TABLE {quoted(table.name)} {way}")
         count = 0
         for geometry, values in followed(table.rows, f"writing {table.name}"):
             add(made, geometry, values)
@@ -175,6 +199,12 @@ class Database:
                 f"{table.name} has {found} of the {count} features that were written to it",
             )
         return count
+
+
+def without_strange(column: Column) -> Column:
+    """A field of texts of JSON in the place of one of lists from which GDAL would take backslashes, or
+    make no value of a text."""
+    return replace(column, type=ogr.OFTString, subtype=ogr.OFSTJSON) if column.strange else column
 
 
 @contextmanager

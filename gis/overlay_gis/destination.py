@@ -15,7 +15,7 @@ from osgeo import osr
 from .database import Database, is_database
 from .faults import Refusal
 from .layers import Source, files_of
-from .output import PACKAGE, Table, driver_for, layer_target, refuse_without_layers, write_tables
+from .output import PACKAGE, Table, driver_for, layer_target, refuse_reserved, refuse_without_layers, write_tables
 from .package import Enlarged, check_layers
 from .whole import Drafts, Target, drafts
 
@@ -78,12 +78,16 @@ class Wanted:
             if several:
                 raise Refusal(self.out, "only a GeoPackage takes several layers, or one of another name")
             refuse_without_layers(target)
-        return Destination(self.names(target.path.stem if several else ""), partial(write_tables, target))
+            return Destination(self.names(""), partial(write_tables, target))
+        names = self.names(target.path.stem if several else "")
+        refuse_reserved(target, names)
+        return Destination(names, partial(write_tables, target))
 
     def enlarged(self, sources: Sequence[Source]) -> Destination:
         target = Target(self.out, Path(os.path.realpath(self.out)), True, frozenset())
         names = self.names(target.path.stem)
         check_layers(target, names, self.overwrite, sources)
+        refuse_reserved(target, names)
         return Destination(names, partial(write_tables, target, begun=Enlarged))
 
     def database(self, sources: Sequence[Source]) -> Destination:

@@ -22,7 +22,7 @@ from .columns import Columns, Numbers
 from .common_grid import CommonGrid, brought_together
 from .destination import destination
 from .encodings import check_texts
-from .fields import column_of, fields_of, is_plain, told_apart, values_in
+from .fields import by_fields, check_fields, column_of, fields_of, is_plain, told_apart, values_in
 from .frame import Frame
 from .layers import Source
 from .merging import Groups, merged
@@ -95,7 +95,7 @@ def by_values(together: CommonGrid, fields: Sequence[ogr.FieldDefn]) -> United:
 
 
 def table_of(united: United, fields: Sequence[ogr.FieldDefn], frame: Frame, by_parts: bool) -> Table:
-    columns = [*map(column_of, fields), Column(FEATURES, ogr.OFTInteger64), Column(AREA, ogr.OFTReal)]
+    columns = [*map(column_of, fields, by_fields(fields, united.values)), Column(FEATURES, ogr.OFTInteger64), Column(AREA, ogr.OFTReal)]
     plain = all(map(is_plain, chain.from_iterable(united.values)))
     facts = list(zip(united.values, united.features))
     if by_parts:
@@ -111,6 +111,7 @@ def main(arguments: Namespace) -> int:
     source = Source(arguments.a)
     fields = fields_of(source, arguments.by)
     place = destination(arguments, [source])
+    check_fields(source, arguments.by)
     with brought_together([source], arguments.grid, arguments.origin, arguments.system, arguments.segments) as together:
         united = by_values(together, fields) if fields else all_of(together)
         (layer,) = together.layers

@@ -5,6 +5,7 @@ from __future__ import annotations
 import os
 from argparse import ArgumentParser, Namespace
 from functools import partial
+from itertools import chain
 from pathlib import Path
 from typing import Sequence
 
@@ -13,7 +14,7 @@ from .common_grid import CommonGrid, brought_together
 from .destination import PAIRS, Destination, destination
 from .encodings import check_texts
 from .faults import Refusal
-from .fields import NAMES, Kept, kept
+from .fields import NAMES, Kept, check_fields, kept
 from .layers import Source, files_of
 from .messages import say
 from .options import OfLayer
@@ -70,7 +71,8 @@ def add_arguments(parser: ArgumentParser) -> None:
         help=(
             "a table, as pairs.csv, of all pairs of a feature of the first layer and one of the"
             " second that have points in common, with twice the common area in grid units, the"
-            " area, and its shares of both features; where TABLE is OUT, its table pairs"
+            " area, and its shares of both features; where TABLE is OUT, its table pairs, or NAME_pairs"
+            " beside --layer NAME"
         ),
     )
     options.add_grid(parser)
@@ -144,6 +146,8 @@ def main(arguments: Namespace) -> int:
     sources = [Source(name) for name in arguments.layers]
     place = destination(arguments, sources, beside=[PAIRS] if same_place(arguments) else [])
     apart = pairs_place(arguments, sources)
+    for source, *names in zip(sources, keep, by):
+        check_fields(source, list(chain.from_iterable(names)))
     with brought_together(sources, arguments.grid, arguments.origin, arguments.system, arguments.segments) as together:
         rows, wanted, held = rows_asked(together, keep, by)
         tables = [row_tables.table_of(wanted, held, together.frame, arguments.parts)]

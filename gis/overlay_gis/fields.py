@@ -2,9 +2,11 @@
 
 from __future__ import annotations
 
+import re
 from dataclasses import dataclass
 from itertools import chain, pairwise
-from typing import Any, Sequence
+from math import isfinite
+from typing import Any, Iterable, Sequence
 
 import numpy as np
 from osgeo import ogr
@@ -12,6 +14,7 @@ from osgeo import ogr
 from .columns import Numbers
 from .faults import Refusal
 from .fitting import text_of
+from .inexact import refuse_inexact
 from .layers import Source
 from .output import Column
 from .program import LETTERS
@@ -20,6 +23,9 @@ from .rows import Members
 
 # The names of layers in an output.
 NAMES = LETTERS.lower()
+
+# What stands behind a time, as GDAL has it, whose zone is known.
+ZONE = re.compile(r"[+-][0-9:]+$|Z$")
 
 # Between the values of several features that cover one row.
 JOINT = ","
@@ -46,7 +52,7 @@ class Kept:
         mark = f"{self.name}_"
         if self.several:
             return [Column(mark + field.GetName(), ogr.OFTString) for field in self.fields]
-        return [column_of(field, mark) for field in self.fields]
+        return [column_of(field, held, mark) for field, held in zip(self.fields, by_fields(self.fields, self.values))]
 
     def numbers(self, held: Members) -> list[str | None]:
         """For each row the features' numbers as text, if it has any."""
@@ -64,6 +70,8 @@ class Kept:
             return [None] * len(self.fields)
         if not self.several:
             return list(self.values[covering[0]])
+        if len(covering) == 1:
+            return [None if value is None else str(text_of(value)) for value in self.values[covering[0]]]
         return [
             JOINT.join("" if value is None else str(text_of(value)) for value in column)
             for column in zip(*(self.values[k] for k in covering))
@@ -78,20 +86,55 @@ def is_plain(value: Any) -> bool:
     return value is None or isinstance(value, (int, float))
 
 
-def column_of(field: ogr.FieldDefn, mark: str = "") -> Column:
-    """A field as it is, with a mark before its name."""
-    return Column(mark + field.GetName(), field.GetType(), field.GetSubType(), field.GetWidth(), field.GetPrecision())
+def by_fields(fields: Sequence[ogr.FieldDefn], values: Sequence[tuple[Any, ...]]) -> list[tuple[Any, ...]]:
+    """For each field its values."""
+    return list(zip(*values)) if values else [()] * len(fields)
+
+
+def column_of(field: ogr.FieldDefn, values: Iterable[Any], mark: str = "") -> Column:
+    """A field as it is, with a mark before its name; without its width where that is no bound of its
+    values, as many a format has it."""
+    width, precision, held = field.GetWidth(), field.GetPrecision(), list(values)
+    if width and not all(fits(value, width, precision) for value in held):
+        width = precision = 0
+    unzoned = field.GetType() == ogr.OFTDateTime and not any(value and ZONE.search(value) for value in held)
+    strange = field.GetType() == ogr.OFTStringList and any(map(is_strange, chain.from_iterable(filter(None, held))))
+    return Column(mark + field.GetName(), field.GetType(), field.GetSubType(), width, precision, unzoned, strange)
+
+
+def is_strange(text: str) -> bool:
+    return not text or "\\" in text
+
+
+def fits(value: Any, width: int, precision: int) -> bool:
+    """Whether a text has so many signs at most, or a number so many digits, of which some stand behind
+    the point."""
+    if isinstance(value, str):
+        return len(value) <= width
+    if isinstance(value, (int, float)) and isfinite(value):
+        return abs(value) < 10 ** (width - precision) and round(value, precision) == value
+    return True
 
 
 def fields_of(source: Source, names: Sequence[str]) -> list[ogr.FieldDefn]:
     """The fields of a layer that are named; a space at a name's end is no part of it unless a field's
     name has it too."""
-    there = {field.GetName(): field for field in source.fields()}
+    fields = source.fields()
+    there = {field.GetName(): field for field in fields}
     wanted = [name if name in there else name.strip() for name in names]
     for name in wanted:
         if name not in there:
             raise Refusal(source.name, f"has no field {name}, but {', '.join(there) or 'none'}")
+        if sum(field.GetName() == name for field in fields) > 1:
+            raise Refusal(source.name, f"has several fields {name}, of which none can be named alone")
     return [there[name] for name in dict.fromkeys(wanted)]
+
+
+def check_fields(source: Source, names: Sequence[str]) -> None:
+    """Refuses, before any work is done, fields that a layer hasn't, or that don't come out as they
+    are."""
+    for field in fields_of(source, names):
+        refuse_inexact(source, field)
 
 
 def values_in(layer: Layer, fields: Sequence[ogr.FieldDefn]) -> list[tuple[Any, ...]]:

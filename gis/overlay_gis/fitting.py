@@ -22,6 +22,13 @@ PUTS: dict[int, Put] = {ogr.OFTBinary: ogr.Feature.SetFieldBinaryFromHexString, 
 TEXTS = (ogr.OFTDate, ogr.OFTTime, ogr.OFTDateTime, *PUTS)
 INSTEAD = {ogr.OFTInteger64: ogr.OFTReal, **dict.fromkeys(TEXTS, ogr.OFTString)}
 
+# How many bytes a name may have that a server would cut else, and how many one keeps that has more,
+# so that lines have room behind it.
+NAME_BYTES, SHORTENED = {"PostgreSQL": 63}, 56
+
+# Names of columns that each table of a driver has already, beside those that its layers tell.
+OWN_NAMES = {"PostgreSQL": ("tableoid", "ctid", "xmin", "xmax", "cmin", "cmax")}
+
 # How a driver is to make a layer, where its usual way has no room for all texts.
 OPTIONS = {"ESRI Shapefile": ("ENCODING=UTF-8",), "MapInfo File": ("ENCODING=UTF-8",)}
 
@@ -40,6 +47,12 @@ def fitted(field: ogr.FieldDefn, driver: gdal.Driver) -> ogr.FieldDefn:
 def text_of(value: Any) -> Any:
     """A list as a text of JSON, for a field of texts; others as they are."""
     return json.dumps(value, ensure_ascii=False) if isinstance(value, list) else value
+
+
+def with_room(name: str, driver: gdal.Driver) -> str:
+    """A name, shortened where a driver has no room for it."""
+    held = name.encode()
+    return name if len(held) <= NAME_BYTES.get(driver.ShortName, len(held)) else held[:SHORTENED].decode(errors="ignore")
 
 
 def apart(names: Sequence[str], taken: Iterable[str]) -> list[str]:

@@ -23,12 +23,20 @@ from .gdal_errors import blamed_on, told_as
 from .messages import followed
 from .passwords import hidden, remember
 from .systems import known, names_apart, same, system_from, system_name
+from .whole import paths_of, state_of
 
 
 LAYER_MARK = "|layername="
 
 # The driver whose geometries may be made of fields, and are nothing where these are passed over.
 VIRTUAL = "OGR_VRT"
+
+
+# What makes all reads of a session in PostgreSQL one.
+STILL = (
+    "SELECT set_config(name, 'off', false) FROM pg_settings WHERE name = 'synchronize_seqscans'",
+    "SET SESSION CHARACTERISTICS AS TRANSACTION ISOLATION LEVEL REPEATABLE READ, READ ONLY",
+)
 
 
 @dataclass
@@ -130,7 +138,27 @@ class Source:
             self.dataset = gdal.OpenEx(self.path, gdal.OF_VECTOR | gdal.OF_READONLY)
         if self.dataset is None:
             raise Fault(self.name, "GDAL can't read it as a vector layer")
+        if self.is_postgis:
+            self.hold_still()
+        self.state = self.state_of_files()
         self.layer = self.chosen()
+
+    def hold_still(self) -> None:
+        """Has a database tell the same rows in the same order each time that they are read: a server
+        begins to read a large table where another reader is, and others may change it meanwhile."""
+        with blamed_on(self.name, self.path):
+            for words in STILL:
+                rows = self.dataset.ExecuteSQL(words)
+                if rows is not None:
+                    rows.GetNextFeature()  # which GDAL asks for when it is wanted
+                    self.dataset.ReleaseResultSet(rows)
+            self.dataset.StartTransaction()
+
+    def let_go(self) -> None:
+        """Lets others change what a database tells, after all reads."""
+        if self.is_postgis:
+            with blamed_on(self.name, self.path):
+                self.dataset.RollbackTransaction()
 
     def chosen(self) -> ogr.Layer:
         names = [self.dataset.GetLayer(k).GetName() for k in range(self.dataset.GetLayerCount())]
@@ -163,9 +191,19 @@ class Source:
     def is_postgis(self) -> bool:
         return bool(self.dataset.GetDriver().ShortName == "PostgreSQL")
 
+    @property
+    def reads_all(self) -> bool:
+        """Whether nothing is passed over: a virtual layer may need it, and a server that is asked for
+        something else may tell rows in another order."""
+        return self.is_postgis or bool(self.dataset.GetDriver().ShortName == VIRTUAL)
+
     def files(self) -> list[str]:
         """Everything that the source is read from, as far as GDAL tells."""
         return [self.path, *(self.dataset.GetFileList() or [])]
+
+    def state_of_files(self) -> list[object]:
+        """What tells whether the source was changed, if it is one of files."""
+        return [state_of(path) for held in self.files() for path in paths_of(held)]
 
     def system(self) -> osr.SpatialReference | None:
         return known(self.layer.GetSpatialRef())
@@ -187,8 +225,7 @@ class Source:
             raise Fault(self.name, f"only {read} of {told} features could be read")
 
     def survey(self) -> Survey:
-        needed = self.dataset.GetDriver().ShortName == VIRTUAL
-        parts = [self.looked_at(batch) for batch in self.counted(batches(self.layer, needed))]
+        parts = [self.looked_at(batch) for batch in self.counted(batches(self.layer, self.reads_all))]
         return Survey(
             np.concatenate([NOTHING.ids, *(part.numbers for part in parts)]),
             np.concatenate([NO_KINDS, *(part.kinds for part in parts)]),
@@ -224,13 +261,15 @@ class Source:
         """The values of these fields of all features."""
         if not names:
             return [()] * seen.features
-        pass_over(self.layer, ["OGR_GEOMETRY"])
+        pass_over(self.layer, [] if self.reads_all else ["OGR_GEOMETRY"])
         self.layer.ResetReading()
+        there = [field.GetName() for field in self.fields()]
+        places = list(map(there.index, names))  # by a name GDAL's bindings look through all fields
         with blamed_on(self.name, self.path):
             unread: Iterator[ogr.Feature] = iter(self.layer.GetNextFeature, None)
             features = followed(unread, f"reading {self.name}", seen.features)
-            read = [(feature.GetFID(), tuple(map(feature.GetField, names))) for feature in features]
-        if [number for number, _ in read] != seen.numbers.tolist():
+            read = [(feature.GetFID(), tuple(map(feature.GetField, places))) for feature in features]
+        if [number for number, _ in read] != seen.numbers.tolist() or self.state_of_files() != self.state:
             raise Fault(self.name, "was changed while it was read")
         return [values for _, values in read]
 

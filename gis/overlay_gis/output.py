@@ -6,6 +6,7 @@ import sqlite3
 import sys
 from array import array
 from dataclasses import dataclass, replace
+from decimal import Decimal
 from pathlib import Path
 from tempfile import TemporaryDirectory
 from traceback import clear_frames
@@ -17,13 +18,13 @@ from osgeo import gdal, ogr, osr
 from . import gdal_state
 from .columns import Floats
 from .faults import Fault, Refusal
-from .fitting import OPTIONS, Put, apart, fitted, putting
+from .fitting import OPTIONS, OWN_NAMES, Put, apart, fitted, putting, with_room
 from .frame import Frame
 from .gdal_errors import blamed_on
 from .geopackage import Place, Row, filled, place_of
 from .layers import LAYER_MARK, Source
 from .messages import followed, unheard, warn
-from .read_back import Written, box_of, differences, shape_difference
+from .read_back import Difference, Written, box_of, differences, shape_difference
 from .systems import is_another, names_apart
 from .whole import Drafts, Target, blamed, target_of
 
@@ -61,13 +62,16 @@ def driver_for(target: Target) -> gdal.Driver:
 
 @dataclass
 class Column:
-    """A field of a layer that is written: its name and OGR's type."""
+    """A field of a layer that is written: its name and OGR's type; `unzoned`: its times are those of
+    a place that isn't told; `strange`: its lists have texts of no sign, or with backslashes."""
 
     name: str
     type: int
     subtype: int = ogr.OFSTNone
     width: int = 0
     precision: int = 0
+    unzoned: bool = False
+    strange: bool = False
 
     def defined(self) -> ogr.FieldDefn:
         definition = ogr.FieldDefn(self.name, self.type)
@@ -136,7 +140,8 @@ def create(
     driver = layers.GetDriver()
     asked = [*options, *OPTIONS.get(driver.ShortName, ()), *bounds(driver, table)]
     layer = layers.CreateLayer(name, None if table.kind == ogr.wkbNone else system, table.kind, asked)
-    names = apart([column.name for column in table.columns], (layer.GetFIDColumn(), layer.GetGeometryColumn()))
+    taken = (layer.GetFIDColumn(), layer.GetGeometryColumn(), *OWN_NAMES.get(driver.ShortName, ()))
+    names = apart([with_room(column.name, driver) for column in table.columns], taken)
     fields = []
     for column, called in zip(table.columns, names):
         fields.append(made_in(layer, fitted(replace(column, name=called).defined(), driver)))
@@ -166,6 +171,17 @@ def add(made: Made, geometry: bytes | None, values: Sequence[Any]) -> ogr.Featur
     return feature
 
 
+def watched(rows: Iterable[Row], fields: Sequence[ogr.FieldDefn], lost: dict[int, Difference]) -> Iterator[Row]:
+    """The same rows; what SQLite makes of no number, which is no value, is told by the field's place,
+    once for each."""
+    reals = [k for k, held in enumerate(fields) if held.GetType() == ogr.OFTReal]
+    for number, row in enumerate(rows, 1):
+        for k in reals:
+            if row[1][k] != row[1][k] and k not in lost:
+                lost[k] = Difference(fields[k].GetName(), number, row[1][k], None, True)
+        yield row
+
+
 class Output:
     """A target's file that is being written, in a folder that isn't its own yet."""
 
@@ -177,7 +193,10 @@ class Output:
         self.begun = False  # whether the file is there
 
     def opened(self) -> Any:
-        return driver_for(self.target).Create(str(self.path), 0, 0, 0, gdal.GDT_Unknown)
+        made = driver_for(self.target).Create(str(self.path), 0, 0, 0, gdal.GDT_Unknown)
+        if made is None:
+            raise Fault(self.target.name, "GDAL makes none, and doesn't say why")
+        return made
 
     def again(self) -> Any:
         """The file that was closed meanwhile."""
@@ -205,11 +224,15 @@ class Output:
         """Writes all rows of a GeoPackage's layer, whose file GDAL has to close before; what it
         can't make is told here."""
         self.made.layer.SyncToDisk()
+        fields, lost = self.made.fields, dict[int, Difference]()
         self.close()
         try:
-            return filled(self.path, place, rows, NO_BOXES if boxes is None else boxes)
+            count = filled(self.path, place, watched(rows, fields, lost), NO_BOXES if boxes is None else boxes)
         except sqlite3.Error as error:
             raise Fault(self.target.name, f"can't be written: {error}") from error
+        for difference in lost.values():
+            warn(self.target.name, str(difference))
+        return count
 
     def fill_one_by_one(self, rows: Iterable[Row]) -> Written:
         grouped = self.dataset.TestCapability(ogr.ODsCTransactions)
@@ -299,17 +322,31 @@ def write_into(
     return [written.count for written in filled]
 
 
-# What a file of a format is tried with: a field of each usual type, and a polygon.
+# How names of layers begin that neither GDAL nor SQLite makes in a GeoPackage.
+RESERVED = ("gpkg", "sqlite_")
+
+
+def refuse_reserved(target: Target, names: Sequence[str]) -> None:
+    """Refuses names of layers that no GeoPackage takes; none stands for that of the file."""
+    for name in names:
+        held = name or target.path.stem
+        if held.lower().startswith(RESERVED):
+            raise Refusal(target.name, f"no layer of a GeoPackage may be called {held}: --layer names another one")
+
+
+# What a file of a format is tried with: a field of each usual type, and polygons of two sizes.
 TRIED = [Column("id", ogr.OFTInteger64), Column("area", ogr.OFTReal), Column("a", ogr.OFTString)]
-SQUARE = ogr.CreateGeometryFromWkt("POLYGON ((0 0, 1 0, 1 1, 0 1, 0 0))")
+SQUARES = ["POLYGON ((0 0, 1 0, 1 1, 0 1, 0 0))", "POLYGON ((2.003 0, 5 0, 5 7, 2.003 7, 2.003 0))"]
+FRAME = Frame(Decimal("0.001"), (Decimal(0), Decimal(0)), None)
 
 
 def refuse_without_layers(target: Target) -> None:
-    """Refuses a format that keeps no polygons with fields; a feature is tried."""
-    row = bytes(SQUARE.ExportToWkb(ogr.wkbNDR)), (1, 0.5, "a")
+    """Refuses a format that keeps no polygons with fields; two features are tried."""
+    shapes = [bytes(ogr.CreateGeometryFromWkt(words).ExportToWkb(ogr.wkbNDR)) for words in SQUARES]
+    rows = [(shape, (number, 0.5, "a")) for number, shape in enumerate(shapes, 1)]
     try:
         with unheard(), TemporaryDirectory() as folder:
-            write_into(Path(folder), target, None, [Table(TRIED, [row])])
+            write_into(Path(folder), target, None, [Table(TRIED, rows, frame=FRAME)])
     except Refusal:
         raise
     except Fault as fault:

@@ -17,7 +17,7 @@ from .layers import LAYER_MARK, Source
 from .messages import during, is_watched, progress
 from .output import Output, Table
 from .read_back import Written
-from .whole import Target, identity, paths_of
+from .whole import Target, identity, paths_of, state_of
 
 # Pages of a GeoPackage that are copied at a time.
 PAGES = 4096
@@ -88,14 +88,6 @@ def check_layers(target: Target, names: Sequence[str], overwrite: bool, sources:
         for source in sources:
             if is_read(target, name, is_layer, source):
                 raise Refusal(f"{target.name}{LAYER_MARK}{name}", "is an input, or a part of one")
-
-
-def state_of(path: Path) -> list[tuple[int, int, int]]:
-    """What tells whether a GeoPackage was changed: of the file, and of its journal of what isn't in
-    it yet."""
-    there = [place for place in (path, path.with_name(path.name + "-wal")) if place.exists()]
-    found = [place.stat() for place in there]
-    return [(held.st_ino, held.st_size, held.st_mtime_ns) for held in found if held.st_size]
 
 
 class Enlarged(Output):

@@ -45,7 +45,7 @@ class Written:
 @dataclass(frozen=True)
 class Difference:
     """A field's value that isn't as it was written, in the row of that number; `near`: but for its
-    last digits, or for blanks at its end."""
+    last digits, or for blanks at its end, or no number that came out as no value."""
 
     name: str
     row: int
@@ -130,7 +130,12 @@ def of_field(held: ogr.FieldDefn, wanted: Sequence[Any], found: Sequence[Any]) -
 
 
 def same(one: Any, other: Any) -> bool:
-    return one == other or (is_nothing(one) and is_nothing(other)) or is_same_json(one, other)
+    return one == other or is_same_nothing(one, other) or is_same_json(one, other)
+
+
+def is_same_nothing(one: Any, other: Any) -> bool:
+    """Whether both are nothing, and no number hasn't become no value."""
+    return is_nothing(one) and is_nothing(other) and (one == one or other != other)
 
 
 def is_nothing(value: Any) -> bool:
@@ -156,7 +161,9 @@ def is_same_json(one: Any, other: Any) -> bool:
 
 def near(one: Any, other: Any) -> bool:
     """Whether two values differ by the last digits of a floating-point number at most, or by blanks
-    at the end."""
+    at the end, or are both nothing."""
+    if is_nothing(one) and is_nothing(other):
+        return True
     if isinstance(one, list) and isinstance(other, list):
         return len(one) == len(other) and all(map(near, one, other))
     if isinstance(one, float) and isinstance(other, (int, float)):

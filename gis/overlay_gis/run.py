@@ -15,7 +15,7 @@ from .columns import Columns, Mask, Numbers
 from .common_grid import CommonGrid, brought_together
 from .destination import destination
 from .encodings import check_texts
-from .fields import NAMES, kept
+from .fields import NAMES, check_fields, kept
 from .frame import Frame
 from .layers import Source
 from .messages import say
@@ -89,6 +89,8 @@ def main(arguments: Namespace) -> int:
     sources = [Source(arguments.a), Source(arguments.b)]
     place = destination(arguments, sources)
     asked = (arguments.keep_a, arguments.keep_b)
+    for source, names in zip(sources, asked):
+        check_fields(source, names)
     with brought_together(sources, arguments.grid, arguments.origin, arguments.system, arguments.segments) as both:
         if any(asked):
             table = with_fields(both, arguments.operation, asked)

@@ -295,6 +295,8 @@ def picture(files: list[Shown], title: str | None) -> str:
 
 def main(arguments: Namespace) -> int:
     numbers, files = 0, []
+    if arguments.files.count("-") > 1:
+        raise Refusal("-", "is standard input, which is read once")
     for name in arguments.files:
         file = read(name, numbers)
         numbers += file.kind == LAYERS

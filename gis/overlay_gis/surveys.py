@@ -10,6 +10,7 @@ from osgeo import ogr
 
 from .database import systems_in
 from .faults import Refusal
+from .inexact import refuse_confused
 from .layers import Box, Kind, Source, Survey
 from .messages import warn
 
@@ -75,6 +76,7 @@ def look_at_columns(source: Source) -> None:
         raise Refusal(source.name, f"has geometries of several reference systems ({told}): ST_Transform brings them into one")
     defined = source.layer.GetLayerDefn()
     taken, *others = [defined.GetGeomFieldDefn(k).GetName() for k in range(defined.GetGeomFieldCount())] or [""]
+    refuse_confused(source, taken)
     if others:
         way = f": tables={source.layer.GetName()}({others[0]}) names another one" if source.is_postgis else ""
         warn(

@@ -8,6 +8,7 @@ import re
 from contextlib import AbstractContextManager, ExitStack, contextmanager, suppress
 from dataclasses import dataclass
 from pathlib import Path
+from stat import S_ISREG
 from tempfile import TemporaryDirectory
 from typing import Iterable, Iterator, TypeVar
 
@@ -35,6 +36,16 @@ LONGEST = 4096  # bytes of a path, as Linux has it
 T = TypeVar("T")
 
 Identity = tuple[int, int]  # a file's device and its number there
+
+
+def state_of(path: Path) -> list[tuple[int, int, int]]:
+    """What tells whether a file was changed: of itself, and of its journal of what isn't in it yet, as
+    a GeoPackage may have one."""
+    found = []
+    for place in (str(path), f"{path}-wal"):
+        with suppress(OSError, ValueError):  # it isn't there, or its name is none
+            found.append(os.stat(place))
+    return [(held.st_ino, held.st_size, held.st_mtime_ns) for held in found if held.st_size and S_ISREG(held.st_mode)]
 
 
 @dataclass(frozen=True)

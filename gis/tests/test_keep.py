@@ -49,6 +49,16 @@ def test_fields_of_one_layer_are_enough(gis, tmp_path):
     assert answer.status == 3 and "a.gpkg: has no field rule, but owner, floors" in answer.err
 
 
+def test_no_value_of_one_feature_stays_none_beside_rows_of_several(gis, tmp_path):
+    """Rows of several features make a text of each, in which no value is a text of no sign."""
+    shapes = [box(EAST + x, NORTH, EAST + x + 10, NORTH + 5) for x in (0, 5, 30, 50)]
+    a = write(tmp_path / "a.gpkg", shapes, fields={"owner": ["Ada", None, None, ""], "floors": [1, 2, None, 4]})
+    for words in (("faces", a), ("run", "union", a, a)):
+        assert gis(*words, "-o", "out.gpkg", "--overwrite", "--keep-a", "owner,floors").status == 0
+        found = {row["a"]: (row["a_owner"], row["a_floors"]) for _, row in read("out.gpkg")}
+        assert found == {"1": ("Ada", "1"), "1,2": ("Ada,", "1,2"), "2": (None, "2"), "3": (None, None), "4": ("", "4")}
+
+
 @pytest.mark.parametrize("operation", JUDGE)
 def test_rows_cover_what_the_operation_does(gis, tmp_path, operation):
     first, second = parcels(11, 3), blobs(12, 3)

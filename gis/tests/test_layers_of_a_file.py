@@ -12,6 +12,7 @@ from shapely.geometry import box
 
 from conftest import EAST, NORTH, read, write
 from overlay_gis import package
+from overlay_gis.layers import Source
 from test_kills import BEGUN, CLOSED, FILLED, ON_DISK, stopped  # noqa: F401 a fixture
 
 SQUARE, OTHER = box(EAST, NORTH, EAST + 10, NORTH + 10), box(EAST + 5, NORTH, EAST + 15, NORTH + 10)
@@ -136,14 +137,23 @@ def test_what_is_no_layer_is_not_replaced(gis, plan, name):
     assert Path(plan).read_bytes() == before
 
 
-@pytest.mark.parametrize("name, told", [("sqlite_master", "reserved for internal use"), ("gpkg_layers", "reserved geopackage prefix")])
+@pytest.mark.parametrize("name", ["sqlite_master", "gpkg_layers", "GPKGx", "SQLite_x"])
 @pytest.mark.parametrize("out", ["plan.gpkg", "new.gpkg"])
-def test_a_name_that_no_layer_may_have_is_told_in_gdals_words(gis, plan, name, told, out):
+def test_a_name_that_no_layer_may_have_is_refused_before_any_work(gis, plan, monkeypatch, name, out):
+    """GDAL and SQLite refuse it when all has been computed."""
+    monkeypatch.setattr(Source, "survey", lambda *_: pytest.fail("a layer is read"))
     before = Path(plan).read_bytes()
     answer = gis(*WORDS[:-1], out, "--layer", name, "--append")
-    last = answer.err.splitlines()[-1]
-    assert answer.status == 1 and last.startswith(f"overlay-gis: {out}: ") and told in last, answer.err
+    assert answer.status == 3 and answer.err.splitlines()[-1].startswith(f"overlay-gis: {out}: "), answer.err
+    assert f"{name} already, which is no layer" in answer.err or f"no layer of a GeoPackage may be called {name}: " in answer.err
     assert Path(plan).read_bytes() == before and not Path("new.gpkg").exists()
+    answer = gis(*WORDS[:-1], f"{name}.gpkg")
+    assert answer.status == 3 and f"no layer of a GeoPackage may be called {name}: --layer names another one" in answer.err
+
+
+def test_a_file_may_be_called_as_no_layer_may(gis, plan):
+    assert gis(*WORDS[:-1], "gpkg_x.gpkg", "--layer", "x").status == 0
+    assert [shape.area for shape, _ in read("gpkg_x.gpkg")] == [50]
 
 
 def test_a_new_file_has_the_layer_that_was_named(gis, plan):

@@ -1,6 +1,7 @@
 """Layers as columns: what is read is what OGR's features have, whatever the format and the form of
 their geometries."""
 
+import json
 import random
 import struct
 import subprocess
@@ -247,3 +248,67 @@ def test_columns_come_back_from_wkb():
         assert geometry == geometries[0]
     again = wkb.Decoder(batch_of(wkb.collected(list(wkb.encoded(columns)))), refused)
     assert again.columns().lists() == [[[RING, RING]] * 3]
+
+
+def test_a_field_that_is_there_twice_is_not_taken_for_one(gis, tmp_path):
+    (tmp_path / "a.csv").write_text('WKT,n,n,N\n"POLYGON ((0 0, 1 0, 1 1, 0 1, 0 0))",1,2,3\n')
+    answer = gis("dissolve", "a.csv", "--by", "n", "-o", "out.gpkg")
+    assert answer.status == 3 and answer.err == "overlay-gis: a.csv: has several fields n, of which none can be named alone\n"
+    assert gis("dissolve", "a.csv", "--by", "N", "-o", "out.gpkg").status == 0
+    assert [fields["N"] for _, fields in read("out.gpkg")] == ["3"]
+
+
+# Values of a field in GeoJSON that GDAL takes for others, some that it has as they are, and how the
+# refusal tells them; in lines of GeoJSON it has the first three alone.
+JSON_OTHERS = [
+    (12345678901234567890, 9223372036854775806, "9223372036854775807 or beyond"),
+    (-(2**64), -5, "-9223372036854775808 or beyond"),
+    ([1, 2**64], [1, 2], "9223372036854775807 or beyond"),
+    ({"a": 2**64}, {"a": 1}, "9223372036854775807 or beyond"),
+    ("2020-01-02T03:04:05.123456", "2020-01-02T03:04:05.123000", "2020-01-02T03:04:05.123456"),
+    ("2020-01-02T03:04:05.0001Z", "2020-01-02T03:04:05.001Z", "2020-01-02T03:04:05.0001Z"),
+    ("03:04:05.123456", "03:04:05.5", "03:04:05.123456"),
+]
+
+
+@pytest.mark.parametrize("another, same, told, ending", [*((*case, "geojson") for case in JSON_OTHERS), *((*case, "geojsonl") for case in JSON_OTHERS[:3])])
+def test_values_that_gdal_takes_for_others_are_refused_before_any_work(gis, tmp_path, monkeypatch, another, same, told, ending):
+    corners = [[0, 0], [1, 0], [1, 1], [0, 1], [0, 0]]
+    shape = {"type": "Polygon", "coordinates": [corners]}
+
+    def put(value):
+        features = [{"type": "Feature", "properties": {"kept": held, "plain": 1}, "geometry": shape} for held in (same, None, value)]
+        whole = json.dumps({"type": "FeatureCollection", "features": features})
+        (tmp_path / f"a.{ending}").write_text(whole if ending == "geojson" else "".join(json.dumps(one) + "\n" for one in features))
+
+    put(same)
+    assert gis("dissolve", f"a.{ending}", "--by", "kept", "-o", "out.gpkg", "--overwrite").status == 0
+    put(another)
+    assert gis("dissolve", f"a.{ending}", "--by", "plain", "-o", "out.gpkg", "--overwrite").status == 0
+    monkeypatch.setattr(Source, "survey", lambda *_: pytest.fail("a layer is read"))
+    answer = gis("faces", f"a.{ending}", "--keep-a", "kept", "-o", "out.gpkg", "--overwrite")
+    assert answer.status == 3 and f"a.{ending}: the field kept has values, as {told}, that GDAL takes for others: " in answer.err, answer.err
+
+
+@pytest.mark.parametrize("ending", ["gpkg", "shp", "geojson"])
+def test_a_layer_that_is_changed_between_two_reads_is_told(gis, tmp_path, monkeypatch, ending):
+    """Its fields would be those of other shapes."""
+    shapes = [ogr.CreateGeometryFromWkt(words) for words in TEXTS[:2]]
+    path = tmp_path / f"a.{ending}"
+    write(path, shapes, fields={"n": [1, 2]})
+    assert gis("faces", path, "-o", "out.gpkg", "--keep-a", "n").status == 0
+    values = Source.values
+
+    def between(*held):
+        dataset = gdal.OpenEx(str(path), gdal.OF_VECTOR | gdal.OF_UPDATE)
+        layer = dataset.GetLayer(0)
+        for feature, number in zip(list(layer), (2, 1)):
+            feature["n"] = number
+            layer.SetFeature(feature)
+        del layer, dataset
+        return values(*held)
+
+    monkeypatch.setattr(Source, "values", between)
+    answer = gis("faces", path, "-o", "other.gpkg", "--keep-a", "n")
+    assert answer.status == 1 and answer.err.endswith(f"a.{ending}: was changed while it was read\n"), answer.err
+    assert not (tmp_path / "other.gpkg").exists()

@@ -8,7 +8,7 @@ from osgeo import ogr
 from shapely.geometry import box
 
 from conftest import EAST, NORTH, read, write
-from overlay_gis import output, read_back
+from overlay_gis import destination, output, read_back
 from overlay_gis.layers import Source
 
 
@@ -66,7 +66,7 @@ def test_a_system_that_a_format_has_no_room_for_is_told(gis, tmp_path, srs, endi
 NO_LAYERS = {
     "csv": "a file of this format keeps no shapes",
     "xlsx": "a file of this format keeps no shapes",
-    **dict.fromkeys(("dxf", "dgn", "mvt", "sql", "map", "txt", "ili"), "a file of this format keeps no polygons with fields, as one of .gpkg does: "),
+    **dict.fromkeys(("dxf", "dgn", "mvt", "sql", "map", "txt", "ili", "xtf", "pix", "pdf"), "a file of this format keeps no polygons with fields, as one of .gpkg does: "),
 }
 
 
@@ -82,6 +82,9 @@ def test_a_format_without_layers_is_refused_before_any_work(gis, tmp_path, monke
 def test_shapes_that_come_out_elsewhere_are_told(gis, tmp_path, monkeypatch):
     a = write(tmp_path / "a.gpkg", [box(EAST, NORTH, EAST + 1, NORTH + 1), box(EAST + 2.003, NORTH, EAST + 3, NORTH + 1)])
     monkeypatch.setattr(output, "bounds", lambda *_: ())
+    answer = gis("run", "union", a, a, "-o", "out.tab")
+    assert answer.status == 3 and "0.01 from its place" in answer.err, answer.err  # as two squares tell before
+    monkeypatch.setattr(destination, "refuse_without_layers", lambda *_: None)
     answer = gis("run", "union", a, a, "-o", "out.tab")
     told = "from its place: a GeoPackage, whose name ends in .gpkg, has room for it"
     assert answer.status == 1 and "out.tab: the shape in row number " in answer.err and told in answer.err, answer.err
@@ -261,6 +264,42 @@ def test_values_are_compared_as_what_they_are(kinds, wanted, found, row):
     assert [difference.row for difference in told] == ([row] if row else [])
     assert dataset
 
+
+
+def narrow(tmp_path):
+    """A virtual layer whose fields have less room than their values take: such widths bind nobody."""
+    layer(tmp_path / "wide.geojson", {"t": "abcdefgh", "r": 1.25625, "n": 12345, "d": 99.5})
+    fields = '<Field name="t" type="String" width="3"/><Field name="r" type="Real" width="6" precision="2"/>'
+    fields += '<Field name="n" type="Integer" width="2"/><Field name="d" type="Real" width="6" precision="2"/>'
+    source = f"<SrcDataSource>{tmp_path / 'wide.geojson'}</SrcDataSource><SrcLayer>wide</SrcLayer>"
+    (tmp_path / "a.vrt").write_text(f'<OGRVRTDataSource><OGRVRTLayer name="a">{source}{fields}</OGRVRTLayer></OGRVRTDataSource>')
+    return str(tmp_path / "a.vrt")
+
+
+@pytest.mark.parametrize("words", [("dissolve", "--by"), ("faces", "--by"), ("faces", "--keep-a")])
+@pytest.mark.parametrize("ending", ["gpkg", "shp", "fgb", "tab", "gml"])
+def test_a_width_that_is_none_is_not_taken_over(gis, tmp_path, ending, words):
+    answer = gis(words[0], narrow(tmp_path), words[1], "t,r,n,d", "-o", f"out.{ending}")
+    assert answer.status == 0, answer.err
+    ((_, found),) = read(f"out.{ending}")
+    mark = "" if words[0] == "dissolve" else "a_"
+    assert [found[mark + name] for name in "trnd"] == ["abcdefgh", 1.25625, 12345, 99.5]
+
+
+@pytest.mark.parametrize("ending, value", [("gpkg", None), ("sqlite", None), ("geojson", None), ("shp", "nan"), ("fgb", "nan"), ("gml", "nan")])
+@pytest.mark.parametrize("words", [("faces", "--keep-a", "v"), ("dissolve", "--by", "v"), ("dissolve", "--parts", "--by", "v,day")])
+def test_no_number_that_becomes_no_value_is_told(gis, tmp_path, ending, value, words):
+    name = "a_v" if words[0] == "faces" else "v"
+    shapes = [box(EAST + 20 * k, NORTH, EAST + 20 * k + 10, NORTH + 10) for k in range(3)]
+    a = write(tmp_path / "a.fgb", shapes, fields={"v": [1.5, float("nan"), 2.5], "day": ["x", "y", "z"]})
+    answer = gis(words[0], a, *words[1:], "-o", f"out.{ending}")
+    assert answer.status == 0, answer.err
+    shown = {1.5: "1.5", 2.5: "2.5", None: None}
+    found = [shown.get(row[name], "nan") for _, row in read(f"out.{ending}")]
+    row = found.index(value) + 1
+    assert sorted(map(str, found)) == sorted(["1.5", "2.5", str(value)])
+    told = f"out.{ending}: warning: field {name} in row number {row}: nan comes out as nothing\n"
+    assert (told in answer.err) == (value is None) and ("nothing" in answer.err) == (value is None), answer.err
 
 
 def test_lists_of_several_features_are_told_as_json(gis, tmp_path):

@@ -89,3 +89,10 @@ def test_the_readme_picture_is_drawn_by_it(gis, program, monkeypatch):
     monkeypatch.chdir(SAMPLES)
     monkeypatch.setattr(sys, "stdin", io.StringIO(edges_of(program, "fields.wkt", "flood.wkt")))
     assert gis("show", "fields.wkt", "flood.wkt", "-").out == PICTURE.read_text()
+
+
+def test_standard_input_is_not_drawn_twice(gis):
+    """Its second part would be nothing."""
+    answer = gis("show", "-", "-", "-o", "out.svg")
+    assert answer.status == 3 and answer.err == "overlay-gis: -: is standard input, which is read once\n"
+    assert not Path("out.svg").exists()
