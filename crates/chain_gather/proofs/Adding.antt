@@ -121,10 +121,6 @@ module _ {A : Type 0} (g : Tiling) (segments : List Seg) (held : List (Option (P
   }
 
 -- a tile that was added, where nothing failed
-pub on_ok_both : {T E : Type 0} (r : Result T E) (P Q R : Type 0) → OnOk r P → OnOk r Q → (P → Q → R) → OnOk r R
-on_ok_both (Ok x) P Q R p q f = f p q
-on_ok_both (Err e) P Q R p q f = tt
-
 pub on_ok_all : {T E : Type 0} (r : Result T E) (P Q R S : Type 0) → OnOk r P → OnOk r Q → OnOk r R → (P → Q → R → S) → OnOk r S
 on_ok_all (Ok x) P Q R S p q s f = f p q s
 on_ok_all (Err e) P Q R S p q s f = tt

@@ -23,7 +23,8 @@ use Rattle.routing.specs.Pieces.{IsPartOf, IsPieceOf, IsRecord}
 use Rattle.linking.specs.Ends.{ends_from}
 use Rattle.linking.specs.Gathered.{AreTileNumbers, HasInnerBelow, HasPartsBelow}
 use Rattle.linking.specs.Links.{AreRecords, HasRecords}
-use Rattle.linking.specs.Numbers.{AreNumbersOf, ArePaired, AreTileCounts, IsCountOf}
+use Rattle.linking.specs.Numbers.{AreNumbersOf, ArePaired, AreTileCounts, CountsOne, IsCountOf}
+use Rattle.linking.specs.Shares.{AreInner}
 use Rattle.linking.specs.declared.rounded.TileNumbers.{TileNumbers}
 use Rattle.linking.proofs.EndLaws.{tiles_and_ends}
 use Rattle.linking.proofs.Gathering.{AreCovered, owner_below}
@@ -100,6 +101,11 @@ module _ {X : Type 0} (g : Tiling) (pixel_of : X → Pt) (xs : List X) where
             let s = length-set counts k new in
             let m : get_or counts j n ≡ n = sym (get_or-set_other counts k j new n other) ∙ get_or_from_slice_get (slice_set counts k new) j n n got in
             slice_get-get_or counts j n (omega (arith, w, s)) ∙ ap Some m
+
+-- the same, of the tile that has one more
+pub counted_one : {X : Type 0} (g : Tiling) (pixel_of : X → Pt) (xs : List X) (i : ℕ) (x : X) → i < length xs → x ≡ get_or xs i x → AllPairs (λ x y. x ≢ y) xs → (counts more : List ℕ) → CountsOne g (pixel_of x) counts more
+    → AreTileCounts g pixel_of (take i xs) counts → AreTileCounts g pixel_of (take (i + 1) xs) more
+counted_one g pixel_of xs i x within is once counts more h k = subst (λ (ns : List ℕ). AreTileCounts g pixel_of (take (i + 1) xs) ns) (sym h.new_is) (counted_more g pixel_of xs i h.tile x within is once h.owner counts h.count (h.count + 1) k h.is_at refl)
 
 -- ---- both counts
 pub paired_are : (g : Tiling) (pixels : List Pt) (records : List Record) (hot found : List ℕ) (tiles : List TileNumbers) → AreTileCounts g (λ p. p) pixels hot → AreTileCounts g (λ r. r.pixel) records found → ArePaired hot found tiles → AreNumbersOf g pixels records tiles
@@ -221,9 +227,8 @@ module _ (f g : Tiling) (segments : List Seg) (pixels : List Pt) (found : List R
   pub pixels_once : AllPairs (λ p q. p ≢ q) pixels
   pixels_once = ∥∥₁_elim all (hlevel props) (λ h. h.once)
 
-  -- with those of both ends
-  pub known_records : (r : Record) → Contains (found ++ ends_from 0 segments) r → ∥ IsRecord segments r ∥₁
-  known_records r m = ∥∥₁_map all (λ h. ((tiles_and_ends f segments found cells h.has).exact r).0 m)
+  pub all_inner : AreInner segments found
+  all_inner r m = ∥∥₁_map all (λ h. ((h.has.same r).0 m).0)
 
   module _ (records : List Record) (order : HasRecords segments (found ++ ends_from 0 segments) → AreRecords segments records) where
     records_are : HasPartsBelow f segments (tile_count f) pixels found → AreRecords segments records

@@ -1,8 +1,8 @@
 -- Both ends of segments among the records: which they are, and that with them the records between the ends are all.
-use Rattle.std.proofs.Common.{◌≡◌, ◌⊎◌, inl, inr, ℕ, zero, suc, ◌+◌, ◌-◌, ◌<◌, ◌≤◌, List, [], ◌∷◌, ◌++◌, Less, true, drop, length, take, refl, sym, ap, subst, ◌∙◌, append_assoc, arith, get_or, ⊎_elim, ◌↔◌}
+use Rattle.std.proofs.Common.{◌≡◌, ◌⊎◌, inl, inr, ℕ, zero, suc, ◌+◌, ◌-◌, ◌<◌, ◌≤◌, List, [], ◌∷◌, ◌++◌, Less, true, drop, length, take, refl, sym, ap, subst, ◌∙◌, arith, ⊎_elim, ◌↔◌}
 use Rattle.std.proofs.Math.Seq.{take-add}
 use Rattle.std.proofs.lemmas.Bool.{cases_lt}
-use Rattle.std.proofs.lemmas.List.{append-nil, get_or-drop, length-drop, take_all, take_more}
+use Rattle.std.proofs.lemmas.List.{append-nil, take_all}
 use Rattle.std.proofs.lemmas.List.Elements.{Contains-append_cases, Contains-append_left, Contains-append_right, Contains-push, Contains-push_cases}
 use Rattle.std.proofs.lemmas.Option.{slice_get_within}
 use Rattle.std.specs.Prelude.{AllPairs, Contains, Some, pos, slice_get, slice_range}
@@ -102,35 +102,11 @@ ends_are segments r = (
     itself n = omega arith
 
 -- ---- put between
--- a list with more and more of another one behind it
-module _ (list : List Record) where
-  pub slice_none : (records : List Record) (from : ℕ) → list ≡ list ++ slice_range records from from
-  slice_none records from = sym (ap (λ (n : ℕ). list ++ take n (drop from records)) (none from) ∙ append-nil list)
-    where
-      none : (n : ℕ) → n - n ≡ 0
-      none n = omega arith
-
-  pub slice_more : (old new records : List Record) (from place : ℕ) (r : Record) → from ≤ place → place < length records → r ≡ get_or records place r → old ≡ list ++ slice_range records from place → new ≡ old ++ r ∷ [] → new ≡ list ++ slice_range records from (place + 1)
-  slice_more old new records from place r l below is h e =
-      e ∙ ap (λ (rs : List Record). rs ++ r ∷ []) h ∙ append_assoc list (slice_range records from place) (r ∷ []) ∙ ap (λ (rs : List Record). list ++ rs) (sym more)
-    where
-      at : ℕ
-      at = place - from
-
-      onward : (place + 1) - from ≡ (place - from) + 1
-      onward = omega arith
-
-      back : from + (place - from) ≡ place
-      back = omega arith
-
-      within : (place - from) < length (drop from records)
-      within = let n = length-drop from records in omega arith
-
-      there : get_or (drop from records) (place - from) r ≡ r
-      there = get_or-drop from records (place - from) r ∙ ap (λ (n : ℕ). get_or records n r) back ∙ sym is
-
-      more : slice_range records from (place + 1) ≡ slice_range records from place ++ r ∷ []
-      more = ap (λ (n : ℕ). take n (drop from records)) onward ∙ take_more (drop from records) (place - from) r within ∙ ap (λ (q : Record). take (place - from) (drop from records) ++ q ∷ []) there
+pub slice_none : (list records : List Record) (from : ℕ) → list ≡ list ++ slice_range records from from
+slice_none list records from = sym (ap (λ (n : ℕ). list ++ take n (drop from records)) (none from) ∙ append-nil list)
+  where
+    none : (n : ℕ) → n - n ≡ 0
+    none n = omega arith
 
 -- the records of both ends of one segment
 module _ (segments : List Seg) (number : ℕ) (s : Seg) (at : slice_get segments number ≡ Some s) where
@@ -266,10 +242,6 @@ ends_last segments first number past place records list new l reached or is h = 
         more : (m p n : ℕ) → m < p → p ≤ n → m < n
         more m p n a b = omega arith
 
--- the same, each once
-pub ends_once : (segments : List Seg) (first past : ℕ) (records list new : List Record) → ((r : Record) → Contains new r ↔ Contains list r) → AddsEnds segments first past records list → AddsEnds segments first past records new
-ends_once segments first past records list new same h = record { same = λ r. (λ k. (h.same r).0 ((same r).0 k), λ k. (same r).1 ((h.same r).1 k)) }
-
 -- ---- a share
 pub share_whole : (segments : List Seg) (found records list : List Record) (span : Span) (count first past : ℕ) → count ≡ length segments → ((k : ℕ) → k < count → (first ≤ k) ↔ (is_from span.from (pos k) ≡ true)) → ((k : ℕ) → k < count → (k < past) ↔ (is_below span.below (pos k) ≡ true))
     → AreSortedOnce (within segment_of span found) records → AllPairs (λ r q. record_order r q ≡ Less) list → AddsEnds segments first past records list → AreSortedOnce (within segment_of span (found ++ ends_from 0 segments)) list
@@ -303,7 +275,7 @@ share_whole segments found records list span count first past many from_is past_
         (Contains-append_cases found (ends_from 0 segments) r has))
 
 -- ---- all records
-end_known : (segments : List Seg) (r : Record) → IsEndRecord segments r → IsRecord segments r
+pub end_known : (segments : List Seg) (r : Record) → IsEndRecord segments r → IsRecord segments r
 end_known segments r h = record { s = h.s; is_at = h.is_at; hot = hot_end segments h.s r.pixel (at_contains segments r.segment h.s h.is_at) h.is_end; met = met_end h.s r.pixel h.is_end; steps_are = h.steps_are }
 
 -- the records between the ends in all tiles, and those of both ends, are those of all routes

@@ -3,6 +3,7 @@ pub mod Walk
 pub mod Tally
 pub mod LinkParts
 pub mod LinkedLaws
+pub mod RouteLinks
 pub mod RecordParts
 pub mod Gathering
 pub mod EndLaws

@@ -4,12 +4,13 @@ use Rattle.std.proofs.Math.Logic.{∥∥₁_elim, ∥∥₁_map}
 use Rattle.std.proofs.Props.{props}
 use Rattle.std.proofs.lemmas.Int.{ints}
 use Rattle.std.proofs.lemmas.List.{get_or-append-add, get_or-map, get_or_append_left, length-append, length-map}
-use Rattle.std.proofs.lemmas.List.Elements.{All-contains, Contains-append_cases, Contains-append_left, Contains-append_right, Contains-get_or}
+use Rattle.std.proofs.lemmas.List.Elements.{Contains-append_cases, Contains-append_left, Contains-append_right, Contains-get_or}
 use Rattle.std.proofs.lemmas.List.Sums.{sum_by-append, sum_by-cons}
 use Rattle.std.proofs.lemmas.Option.{get_or_from_slice_get, slice_get-get_or, slice_get_within}
 use Rattle.std.proofs.lemmas.Cmp.{tied_itself}
-use Rattle.std.specs.Prelude.{◌<ℤ◌, All, AllPairs, Contains, count_by, flat_map, map, pos, sum_by}
+use Rattle.std.specs.Prelude.{◌<ℤ◌, All, AllPairs, Contains, None, count_by, flat_map, map, pos, sum_by}
 use Rattle.std.specs.List.{AllZip}
+use Rattle.std.specs.List.Sorted.{IsPermutation}
 use Rattle.geom.specs.declared.point.Pt.{Pt}
 use Rattle.geom.specs.declared.edge.Edge.{Edge}
 use Rattle.geom.specs.declared.segment.Seg.{Seg}
@@ -21,13 +22,15 @@ use Rattle.routing.specs.Pieces.{IsRecord}
 use Rattle.routing.proofs.RecordOrder.{record_total}
 use Rattle.linking.specs.Links.{AreApart, AreNeighbourLinks, ChangesSegment}
 use Rattle.linking.specs.Numbers.{AreTileCounts, IsCountOf}
+use Rattle.linking.specs.declared.span.Share.{Share}
 use Rattle.linking.specs.Orders.{record_order}
-use Rattle.linking.specs.Shares.{AreKeysBelow, AreLinked, AreSums, MayLink, segment_of}
+use Rattle.linking.specs.Shares.{AreKeysBelow, AreLinked, AreOrdered, AreSharesFrom, AreSums, HasLinked, segment_of}
+use Rattle.linking.specs.Spans.{within}
 use Rattle.linking.proofs.Counted.{known_tile, pairs_append}
 use Rattle.linking.proofs.Gathering.{AreCovered, record_before}
 use Rattle.linking.proofs.Walk.{pixels_differ}
 use Rattle.linking.proofs.RecordParts.{neighbour_links_append, pairs_across, pairs_back}
-use Rattle.linking.proofs.ShareLaws.{first_apart, part_pairs, to_flat, zip_all, zip_mapped, zip_weaker}
+use Rattle.linking.proofs.ShareLaws.{all_shared, first_apart, ordered_append, ordered_one, zip_all, zip_append, zip_mapped, zip_weaker}
 
 -- ---- counts of two lists that share no item
 module _ {X : Type 0} (xs ys : List X) (apart : (x y : X) → Contains xs x → Contains ys y → x ≢ y) where
@@ -81,7 +84,7 @@ sum_by_mapped n f [] = refl
 sum_by_mapped n f (x ∷ xs) = sum_by-cons n (f x) (map f xs) ∙ ap (λ (m : ℕ). n (f x) + m) (sum_by_mapped n f xs) ∙ sym (sum_by-cons (λ y. n (f y)) x xs)
 
 -- ---- links of two lists of records, whose segments are apart
-links_append : {M L : Type 0} (link_of : M → Edge → L) (makers : List M) (front back : List Record) (links rest : List L) → AreKeysBelow segment_of front back → AreNeighbourLinks link_of makers front links → AreNeighbourLinks link_of makers back rest → AreNeighbourLinks link_of makers (front ++ back) (links ++ rest)
+pub links_append : {M L : Type 0} (link_of : M → Edge → L) (makers : List M) (front back : List Record) (links rest : List L) → AreKeysBelow segment_of front back → AreNeighbourLinks link_of makers front links → AreNeighbourLinks link_of makers back rest → AreNeighbourLinks link_of makers (front ++ back) (links ++ rest)
 links_append link_of makers [] back links rest apart f b = record {
   few = let n = length-append links rest in let p = f.few in let q = b.few in omega (arith, n, p, q);
   count_is = λ e wanted test pass.
@@ -116,7 +119,7 @@ module _ {K V M L : Type 0} (link_of : M → Edge → L) (makers : List M) (item
   all_links (s ∷ ss) (v ∷ vs) up zip = links_append link_of makers (items_of s) (flat_map items_of ss) (links_of v) (flat_map links_of vs) (first_apart items_of segment_of s ss up) zip.0
       (all_links ss vs (tail_pairs (λ s t. AreKeysBelow segment_of (items_of s) (items_of t)) s ss up) zip.1)
 
-records_differ : (records : List Record) → AllPairs (λ r q. record_order r q ≡ Less) records → AllPairs (λ r q. r ≢ q) records
+pub records_differ : (records : List Record) → AllPairs (λ r q. record_order r q ≡ Less) records → AllPairs (λ r q. r ≢ q) records
 records_differ records up i j d a b e = never_itself (get_or records j d) (subst (λ (q : Record). record_order q (get_or records j d) ≡ Less) e (up i j d a b))
   where
     never_itself : (r : Record) → record_order r r ≡ Less → ⊥
@@ -138,38 +141,47 @@ module _ {K V M L : Type 0} (g : Tiling) (link_of : M → Edge → L) (makers : 
     counts_are = sums_are g (λ r. r.pixel) items_of shares (map counts_of vs) sums once counted h;
   }
 
--- ---- records that may be linked
--- so may those of each share
-pub part_may_link : {K : Type 0} (g : Tiling) (n : ℕ) (items_of : K → List Record) (shares : List K) (k : ℕ) (d : K) → k < length shares → MayLink g n (flat_map items_of shares) → MayLink g n (items_of (get_or shares k d))
-part_may_link g n items_of shares k d l h = record {
-  tiles = each (λ r. HasTile g r.pixel) h.tiles;
-  once = part_pairs items_of (λ r q. r ≢ q) shares k d l h.once;
-  below = each (λ r. r.segment < n) h.below;
-  apart = part_pairs items_of (λ r q. r.segment ≡ q.segment → r.pixel ≢ q.pixel) shares k d l h.apart;
-}
-  where
-    each : (P : Record → Type 0) → All P (flat_map items_of shares) → All P (items_of (get_or shares k d))
-    each P all i r m = All-contains P (flat_map items_of shares) (get_or (items_of (get_or shares k d)) i r) all
-        (to_flat items_of shares (get_or shares k d) (get_or (items_of (get_or shares k d)) i r) (Contains-get_or shares k d l) (Contains-get_or (items_of (get_or shares k d)) i r m))
+-- ---- what was found in shares of all records
+-- so many lists of these, in order, of which each is linked
+pub record AreLinkedInShares {V M L : Type 0} (g : Tiling) (link_of : M → Edge → L) (makers : List M) (links_of : V → List L) (counts_of : V → List ℕ) (found : List Record) (vs : List V) : Type 0 where
+  pub lists : List (List Record)
+  pub ordered : AreOrdered (λ l. l) found lists
+  pub zip : AllZip (λ l v. AreLinked g link_of makers l (links_of v) (counts_of v)) lists vs
+
+module _ {V M L : Type 0} (g : Tiling) (link_of : M → Edge → L) (makers : List M) (links_of : V → List L) (counts_of : V → List ℕ) where
+  abbrev InShares : List Record → List V → Type 0
+  InShares found vs = AreLinkedInShares g link_of makers links_of counts_of found vs
+
+  one_share : (found : List Record) (v : V) → HasLinked g link_of makers found (links_of v) (counts_of v) → InShares found (v ∷ [])
+  one_share found v h = record { lists = h.records ∷ []; ordered = ordered_one (λ l. l) h.records found h.once; zip = (h.linked, tt) }
+
+  shares_append : (found low high : List Record) (front back : List V) → IsPermutation found (low ++ high) → AreKeysBelow segment_of low high → InShares low front → InShares high back → InShares found (front ++ back)
+  shares_append found low high front back moved apart f b = record {
+    lists = f.lists ++ b.lists;
+    ordered = ordered_append (λ l. l) found low high f.lists b.lists moved apart f.ordered b.ordered;
+    zip = zip_append (λ l v. AreLinked g link_of makers l (links_of v) (counts_of v)) f.lists b.lists front back f.zip b.zip;
+  }
+
+  pub shares_linked : (found : List Record) (shares : List Share) (vs : List V) → AreSharesFrom None shares → AllZip (λ s v. HasLinked g link_of makers (within segment_of s.span found) (links_of v) (counts_of v)) shares vs → InShares found vs
+  shares_linked found shares vs all zip = all_shared segment_of InShares shares_append found shares vs all (zip_weaker _ _ (λ s v h. one_share (within segment_of s.span found) v h) shares vs zip)
+
+  module _ (found : List Record) (vs : List V) (h : InShares found vs) where
+    pub share_sizes : All (λ counts. length counts ≡ tile_count g) (map counts_of vs)
+    share_sizes = same_sizes g link_of makers (λ l. l) links_of counts_of h.lists vs h.zip
+
+    pub shares_joined : (links : List L) (sums : List ℕ) → links ≡ flat_map links_of vs → AreSums (tile_count g) (map counts_of vs) sums → HasLinked g link_of makers found links sums
+    shares_joined links sums are k = record {
+      records = flat_map (λ l. l) h.lists;
+      once = h.ordered.sorted;
+      linked = all_linked g link_of makers (λ l. l) links_of counts_of h.lists vs h.zip links sums h.ordered.ascending (records_differ (flat_map (λ l. l) h.lists) h.ordered.sorted.ascending) are k;
+    }
 
 -- ---- records of segments, in order and each once
 module _ (segments : List Seg) (records : List Record) (known : (r : Record) → Contains records r → ∥ IsRecord segments r ∥₁) where
-  records_in : (g : Tiling) → AreCovered g segments → All (λ r. HasTile g r.pixel) records
-  records_in g covered k d l = known_tile g (get_or records k d).pixel (∥∥₁_map (known (get_or records k d) (Contains-get_or records k d l)) (λ h. let m = hot_meets segments (get_or records k d).pixel h.hot in covered.tile m.0 (get_or records k d).pixel m.1 m.2))
+  pub known_tiles : (g : Tiling) → AreCovered g segments → All (λ r. HasTile g r.pixel) records
+  known_tiles g covered k d l = known_tile g (get_or records k d).pixel (∥∥₁_map (known (get_or records k d) (Contains-get_or records k d l)) (λ h. let m = hot_meets segments (get_or records k d).pixel h.hot in covered.tile m.0 (get_or records k d).pixel m.1 m.2))
 
-  links_below : All (λ r. r.segment < length segments) records
-  links_below k d l = ∥∥₁_elim (known (get_or records k d) (Contains-get_or records k d l)) (hlevel props) (λ h. slice_get_within segments (get_or records k d).segment h.s h.is_at)
-
-  module _ (up : AllPairs (λ r q. record_order r q ≡ Less) records) where
-    links_apart : AreApart records
-    links_apart i j d a b e f =
-        ∥∥₁_elim (known (get_or records i d) (Contains-get_or records i d (omega arith))) (hlevel props) (λ u.
-        ∥∥₁_elim (known (get_or records j d) (Contains-get_or records j d b)) (hlevel props) (λ v. pixels_differ segments (get_or records i d) (get_or records j d) u v (record_before segments (get_or records i d) (get_or records j d) u v (up i j d a b)) e f))
-
-    pub known_may_link : (g : Tiling) (n : ℕ) → n ≡ length segments → AreCovered g segments → MayLink g n records
-    known_may_link g n same covered = record {
-      tiles = records_in g covered;
-      once = records_differ records up;
-      below = subst (λ (m : ℕ). All (λ (r : Record). r.segment < m) records) (sym same) links_below;
-      apart = links_apart;
-    }
+  pub known_apart : AllPairs (λ r q. record_order r q ≡ Less) records → AreApart records
+  known_apart up i j d a b e f =
+      ∥∥₁_elim (known (get_or records i d) (Contains-get_or records i d (omega arith))) (hlevel props) (λ u.
+      ∥∥₁_elim (known (get_or records j d) (Contains-get_or records j d b)) (hlevel props) (λ v. pixels_differ segments (get_or records i d) (get_or records j d) u v (record_before segments (get_or records i d) (get_or records j d) u v (up i j d a b)) e f))

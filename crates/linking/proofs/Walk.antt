@@ -24,13 +24,10 @@ use Rattle.routing.specs.declared.record.Record.{Record}
 use Rattle.routing.specs.Steps.{steps_to}
 use Rattle.routing.specs.Pieces.{IsRecord}
 use Rattle.linking.specs.declared.link.Link.{Link}
-use Rattle.linking.specs.Links.{IsRecordBefore, AreRecords, AreApart, AreLinks, AreNeighbourLinks, AreRouteLinks, PassLinks, passes_at, record_pairs, makes, same_edge, is_of, AreCounts, wanted_steps}
+use Rattle.linking.specs.Links.{IsBetween, IsRecordBefore, AreRecords, AreApart, AreLinks, AreNeighbourLinks, AreRouteLinks, PassLinks, passes_at, record_pairs, makes, same_edge, is_of, AreCounts, wanted_steps}
 use Rattle.linking.proofs.Flat.{passes_at_is, routes_from, routes_of_records, count_is}
 
 -- ---- an edge joins the two points that it is between
-abbrev pub IsBetweenPoints : Edge → Pt → Pt → Type 0
-IsBetweenPoints f c d = ((f.p ≡ c) × (f.q ≡ d)) ⊎ ((f.p ≡ d) × (f.q ≡ c))
-
 or_false : (b : Bool) → (b || false) ≡ b
 or_false true = refl
 or_false false = refl
@@ -39,7 +36,7 @@ or_false false = refl
 never_back : (e f : Edge) → (same_point e.p f.q && same_point e.q f.p) ≡ false
 never_back e f = no_true _ (λ h. let a = and_both _ _ h in before_strict f.p f.q f.ordered (subst (λ (q : Pt). IsBefore f.q q) (same_point_true e.q f.p a.1) (subst (λ (p : Pt). IsBefore p e.q) (same_point_true e.p f.q a.0) e.ordered)))
 
-pub joins_is : (e f : Edge) (c d : Pt) → IsBetweenPoints f c d → joins e (c, d) ≡ same_edge e f
+pub joins_is : (e f : Edge) (c d : Pt) → IsBetween f c d → joins e (c, d) ≡ same_edge e f
 joins_is e f c d (inl (a, b)) = rw (← a, ← b, never_back e f) (or_false (same_edge e f))
 joins_is e f c d (inr (a, b)) = rw (← a, ← b, never_back e f) refl
 
@@ -71,7 +68,7 @@ module _ {M L : Type 0} (link_of : M → Edge → L) (makers : List M) (records 
   walk_skip apart = let f : is_made (start, end) ≡ false = rw (⊎_elim (λ p. absurd (apart p.1)) (λ p. p.0) (eqb_tells start.segment end.segment)) refl in let g = no_one (is_made (start, end)) f in let h = made_more in omega arith
 
   -- of the same segment
-  pub walk_push : start.segment ≡ end.segment → (maker : M) → slice_get makers start.segment ≡ Some maker → (f : Edge) → IsBetweenPoints f start.pixel end.pixel → (link : L) → link ≡ link_of maker f → count_by test (list ++ link ∷ []) ≡ count_by is_made (record_pairs (take (i + 1) records))
+  pub walk_push : start.segment ≡ end.segment → (maker : M) → slice_get makers start.segment ≡ Some maker → (f : Edge) → IsBetween f start.pixel end.pixel → (link : L) → link ≡ link_of maker f → count_by test (list ++ link ∷ []) ≡ count_by is_made (record_pairs (take (i + 1) records))
   walk_push same maker at f between link is =
       let own : test link ≡ (same_edge e f && wanted maker) = ap test is ∙ pass maker f in
       let passed : is_made (start, end) ≡ (same_edge e f && wanted maker) = rw (eq-eqb start.segment end.segment same, passes_at_is wanted makers start.segment maker at, joins_is e f start.pixel end.pixel between) refl in

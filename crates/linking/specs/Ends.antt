@@ -1,5 +1,5 @@
 -- The records of both ends of segments, beside those between the ends (own).
-use Rattle.std.specs.Prelude.{◌⊎◌, ◌↔◌, ℕ, ◌+◌, ◌<◌, ◌≤◌, Contains, List, [], ◌∷◌}
+use Rattle.std.specs.Prelude.{◌⊎◌, ◌↔◌, ℕ, ◌+◌, ◌<◌, ◌≤◌, Contains, List, [], ◌∷◌, ◌++◌}
 use Rattle.geom.specs.declared.point.Pt.{Pt}
 use Rattle.geom.specs.declared.segment.Seg.{Seg}
 use Rattle.routing.specs.declared.record.Record.{Record}
@@ -14,6 +14,10 @@ record_of number s c = record { segment = number; steps = steps_to s c; pixel = 
 abbrev pub ends_from : ℕ → List Seg → List Record
 ends_from k [] = []
 ends_from k (s ∷ ss) = record_of k s s.a ∷ record_of k s s.b ∷ ends_from (k + 1) ss
+
+-- the records of a route: that of the first end, those between the ends, that of the last end
+abbrev pub route_of : ℕ → Seg → List Record → List Record
+route_of number s inner = record_of number s s.a ∷ (inner ++ record_of number s s.b ∷ [])
 
 -- r tells an end of a segment from the first number on, before the past one
 pub record IsEndBetween (segments : List Seg) (first past : ℕ) (r : Record) : Type 0 where

@@ -30,6 +30,10 @@ pub record AreRecords (segments : List Seg) (records : List Record) : Type 0 whe
 
 -- ---- links
 
+-- the edge joins the two points, one way or the other
+abbrev pub IsBetween : Edge → Pt → Pt → Type 0
+IsBetween e c d = ((e.p ≡ c) × (e.q ≡ d)) ⊎ ((e.p ≡ d) × (e.q ≡ c))
+
 -- two records of one segment have different pixels
 abbrev pub AreApart : List Record → Type 0
 AreApart records = AllPairs (λ r q. r.segment ≡ q.segment → r.pixel ≢ q.pixel) records

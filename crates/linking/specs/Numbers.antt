@@ -1,5 +1,5 @@
 -- How many hot pixels and how many records lie in each tile of a grid (own).
-use Rattle.std.specs.Prelude.{◌≡◌, ◌≢◌, ◌↔◌, ℕ, AllPairs, Contains, List, Some, length, slice_get}
+use Rattle.std.specs.Prelude.{◌≡◌, ◌≢◌, ◌↔◌, ℕ, ◌+◌, AllPairs, Contains, List, Some, length, slice_get, slice_set}
 use Rattle.geom.specs.declared.point.Pt.{Pt}
 use Rattle.geom.specs.Box.{IsInBox}
 use Rattle.grid.specs.Tiles.{Owns, Tiling, tile_count}
@@ -22,6 +22,14 @@ HasOwned g owned = (p : Pt) → IsInBox owned.rect.lo owned.rect.hi p ↔ Owns g
 pub record AreTileCounts {X : Type 0} (g : Tiling) (pixel_of : X → Pt) (xs : List X) (counts : List ℕ) : Type 0 where
   pub one_each : length counts ≡ tile_count g
   pub each : (k n : ℕ) → slice_get counts k ≡ Some n → IsCountOf xs (λ x. Owns g k (pixel_of x)) n
+
+-- the tile that owns the point has one more
+pub record CountsOne (g : Tiling) (p : Pt) (old new : List ℕ) : Type 0 where
+  pub tile : ℕ
+  pub owner : Owns g tile p
+  pub count : ℕ
+  pub is_at : slice_get old tile ≡ Some count
+  pub new_is : new ≡ slice_set old tile (count + 1)
 
 -- the numbers of each tile are the two counts of its place
 pub record ArePaired (hot records : List ℕ) (tiles : List TileNumbers) : Type 0 where

@@ -1,10 +1,10 @@
 //! Rounded edges: the pieces of all cells in, the edges of the routes out, with their counts in both layers, or with the features whose
 //! border they are.
 //!
-//! 1. Records are shared by spans of segments (`span`, `shares`) and sorted, both ends of each segment are put in (`ends`), and neighbours
-//!    are linked (`linked`).
+//! 1. Records are shared by spans of segments (`span`, `shares`) and sorted; each route, from the first end of its segment by its records to
+//!    the last end, is linked, and its records are counted by tiles (`linked`).
 //! 2. Links are shared by spans of columns, sorted and counted (`counting`), or those of a feature cancelled by twos (`bordering`).
-//! 3. The hot pixels and records of each tile are counted (`numbers`).
+//! 3. The hot pixels of each tile are counted (`numbers`).
 //!
 //! The promise: exactly the definition's rounded edges, ascending, noded, and with even degrees where the segments close. The definitions are
 //! `specs/Gathered` and `specs/Links`.
@@ -12,7 +12,6 @@
 
 mod bordering;
 mod counting;
-mod ends;
 mod keyed;
 mod link;
 mod linked;

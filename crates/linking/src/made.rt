@@ -12,9 +12,7 @@ ghost use Rattle.tile_book.specs.Books.{StandInOrder};
 
 use crate::counting::{counts, counts_in_parts, room_for};
 use crate::link::MakesLinks;
-use crate::linked::{
-    AllLinked, Linked, in_order, link_in_parts, link_share, ordered_in_parts, ordered_share,
-};
+use crate::linked::{AllLinked, Linked, in_order, link_in_parts, link_share};
 use crate::neighbours::links;
 use crate::numbers::{count_by_tile, hot_in_parts, paired};
 use crate::rounded::{Rounded, TileNumbers};
@@ -151,14 +149,12 @@ pub(crate) fn link_pieces<
     ensures links { IfOk result (λ r. ∥ AreRouteLinks M.link_of segments.now makers.now (flat_map (λ l. l.items) r.links.items) ∥₁) }
     ensures tiles { IfOk result (λ r. AreTileNumbers grid.now segments.now (tile_count grid.now) r.tiles.items) }
 {
-    let shares = ordered_in_parts(rt, alloc, parts, &pieces, segments)?;
+    let found = link_in_parts(rt, alloc, parts, grid, &pieces, segments, makers)?;
+    let AllLinked { links, records } = found;
     let pixels = pixels_of(alloc, &pieces)?;
     drop(pieces);
     let hot = hot_in_parts(rt, alloc, parts, grid, &pixels)?;
     drop(pixels);
-    let found = link_in_parts(rt, alloc, grid, makers, &shares)?;
-    drop(shares);
-    let AllLinked { links, records } = found;
     let tiles = paired(alloc, &hot, &records)?;
     Ok(LinkedPieces { links, tiles })
 }
@@ -184,14 +180,12 @@ pub(crate) fn link_alone<M: MakesLinks<L>, L: Copy, T: Tiled, A: Allocator + Cop
     ensures tiles { IfOk result (λ r. AreTileNumbers grid.now segments.now (tile_count grid.now) r.tiles.items) }
 {
     let whole = Share::whole(item_count(&pieces));
-    let records = ordered_share(alloc, &pieces, segments, whole)?;
+    let linked = link_share(alloc, grid, &pieces, segments, makers, whole)?;
+    let Linked { links, records } = linked;
     let pixels = pixels_of(alloc, &pieces)?;
     drop(pieces);
     let hot = count_by_tile(alloc, grid, &pixels)?;
     drop(pixels);
-    let linked = link_share(alloc, grid, makers, &records)?;
-    drop(records);
-    let Linked { links, records } = linked;
     let tiles = paired(alloc, &hot, &records)?;
     Ok(LinkedAlone { links, tiles })
 }

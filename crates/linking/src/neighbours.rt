@@ -1,7 +1,7 @@
 //! Finding the links of sorted records, between neighbours of one segment.
 
-ghost use Rattle.std.specs.Prelude.{◌≡◌, ◌≢◌, ◌<◌, ◌^◌, ◌⊎◌, All, IfOk, length};
-ghost use Rattle.linking.specs.Links.{AreApart, AreLinks, AreNeighbourLinks, AreRecords};
+ghost use Rattle.std.specs.Prelude.{◌≢◌, ◌<◌, ◌^◌, All, IfOk, length};
+ghost use Rattle.linking.specs.Links.{AreApart, AreLinks, AreNeighbourLinks, AreRecords, IsBetween};
 
 use crate::link::{Link, MakesLinks};
 use geom::{Edge, NoMemory, Pt, Seg};
@@ -9,9 +9,10 @@ use routing::Record;
 use std::alloc::Allocator;
 
 /// The edge between two points.
-fn edge_between(c: Pt, d: Pt) -> Edge
+#[inline(always)]
+pub(crate) fn edge_between(c: Pt, d: Pt) -> Edge
     requires { c ≢ d }
-    ensures { ((result.p ≡ c) × (result.q ≡ d)) ⊎ ((result.p ≡ d) × (result.q ≡ c)) }
+    ensures { IsBetween result c d }
 {
     if c < d {
         Edge { p: c, q: d }

@@ -1,48 +1,21 @@
 //! How many hot pixels and how many records each tile of a grid has, wherever they were found.
 //!
-//! 1. The hot pixels are counted in the tiles that own them, and so are the records, by their pixels (`count_by_tile`): most have the tile
-//!    of the one before (`owner_of`).
+//! 1. Points are counted in the tiles that own them (`TileCounts`), of which most have the tile of the one before (`owner_of`): the pixels of
+//!    records as these are linked, and the hot pixels (`count_by_tile`).
 //! 2. Where several hands count, what they found is added tile by tile (`summed`).
 //! 3. Both counts of a tile are its numbers (`paired`).
 
-ghost use Rattle.std.specs.Prelude.{◌≡◌, ◌≢◌, ◌<◌, ◌≤◌, All, AllPairs, IfOk, IfSome, get_or, length, map, slice_range, sum_by};
-ghost use Rattle.geom.specs.declared.point.Pt.{Pt};
-ghost use Rattle.grid.specs.Tiles.{HasTile, Owns};
-ghost use Rattle.linking.specs.Numbers.{ArePaired, AreTileCounts, HasOwned};
+ghost use Rattle.std.specs.Prelude.{◌≡◌, ◌≢◌, ◌<◌, ◌≤◌, All, AllPairs, IfOk, IfSome, OnOk, get_or, length, map, replicate, slice_range, sum_by};
+ghost use Rattle.grid.specs.Tiles.{HasTile, Owns, tile_count};
+ghost use Rattle.linking.specs.Numbers.{ArePaired, AreTileCounts, CountsOne, HasOwned};
 ghost use Rattle.linking.specs.Shares.{AreSums};
 
 use crate::rounded::TileNumbers;
 use geom::{NoMemory, Pt, Rect};
 use grid::Grid;
 use hands::{Part, even_parts, map_parts};
-use routing::Record;
 use std::alloc::Allocator;
 use std::thread::Threads;
-
-/// What has a pixel.
-pub(crate) trait AtPixel {
-    ghost pixel_of: { Self → Pt };
-
-    /// Its pixel.
-    fn pixel(&self) -> Pt
-        ensures { result ≡ pixel_of self.now };
-}
-
-impl AtPixel for Pt {
-    ghost pixel_of = { λ p. p };
-
-    fn pixel(&self) -> Pt {
-        *self
-    }
-}
-
-impl AtPixel for Record {
-    ghost pixel_of = { λ r. r.pixel };
-
-    fn pixel(&self) -> Pt {
-        self.pixel
-    }
-}
 
 /// A tile, and the rectangle of the points that it owns.
 #[derive(Clone, Copy, Debug)]
@@ -71,28 +44,68 @@ fn owner_of(grid: &Grid, last: Option<OwnedRect>, point: Pt) -> OwnedRect
     }
 }
 
-/// How many of some items each tile has. More than a `u32` counts are refused as want of memory.
-pub(crate) fn count_by_tile<X: AtPixel, A: Allocator>(
-    alloc: A,
-    grid: &Grid,
-    items: &[X],
-) -> Result<Vec<u32, A>, NoMemory>
-    requires tiles { All (λ x. HasTile grid.now (X.pixel_of x)) items.now }
-    requires once { AllPairs (λ x y. x ≢ y) items.now }
-    ensures { IfOk result (λ v. AreTileCounts grid.now X.pixel_of items.now v.items) }
-{
-    let mut counts = vec![in alloc; 0u32; grid.tiles() as usize]?;
-    let mut last = None;
-    for item in items {
-        let owned = owner_of(grid, last, item.pixel());
-        last = Some(owned);
+/// How many of the items so far each tile has, and the tile of the last one.
+#[derive(Drop)]
+pub(crate) struct TileCounts<A: Allocator> {
+    counts: Vec<u32, A>,
+    last: Option<OwnedRect>,
+}
+
+impl<A: Allocator> TileCounts<A> {
+    /// The counts of no items.
+    pub fn none(alloc: A, grid: &Grid) -> Result<TileCounts<A>, NoMemory>
+        ensures counts { IfOk result (λ c. c.counts.items ≡ replicate (tile_count grid.now) 0) }
+        ensures last { IfOk result (λ c. IfSome c.last (HasOwned grid.now)) }
+    {
+        Ok(TileCounts {
+            counts: vec![in alloc; 0u32; grid.tiles() as usize]?,
+            last: None,
+        })
+    }
+
+    /// Counts an item at a point. More than a `u32` counts are refused as want of memory.
+    #[inline(always)]
+    pub fn add(&mut self, grid: &Grid, point: Pt) -> Result<(), NoMemory>
+        requires tile { HasTile grid.now point }
+        requires size { length self.now.counts.items ≡ tile_count grid.now }
+        requires last { IfSome self.now.last (HasOwned grid.now) }
+        ensures counted { OnOk result (CountsOne grid.now point self.old.counts.items self.new.counts.items) }
+        ensures last { OnOk result (IfSome self.new.last (HasOwned grid.now)) }
+    {
+        let owned = owner_of(grid, self.last, point);
+        self.last = Some(owned);
         let tile = owned.tile as usize;
-        let Some(count) = counts[tile].checked_add(1) else {
+        let Some(count) = self.counts[tile].checked_add(1) else {
             return Err(NoMemory);
         };
-        counts[tile] = count;
+        self.counts[tile] = count;
+        Ok(())
     }
-    Ok(counts)
+
+    /// How many each tile has.
+    pub fn into_counts(self) -> Vec<u32, A>
+        ensures { result.items ≡ self.counts.items }
+    {
+        let TileCounts { counts, .. } = self;
+        counts
+    }
+}
+
+/// How many of some pixels each tile has. More than a `u32` counts are refused as want of memory.
+pub(crate) fn count_by_tile<A: Allocator>(
+    alloc: A,
+    grid: &Grid,
+    pixels: &[Pt],
+) -> Result<Vec<u32, A>, NoMemory>
+    requires tiles { All (λ p. HasTile grid.now p) pixels.now }
+    requires once { AllPairs (λ p q. p ≢ q) pixels.now }
+    ensures { IfOk result (λ v. AreTileCounts grid.now (λ p. p) pixels.now v.items) }
+{
+    let mut counts = TileCounts::none(alloc, grid)?;
+    for pixel in pixels {
+        counts.add(grid, *pixel)?;
+    }
+    Ok(counts.into_counts())
 }
 
 /// The sum of the counts that lists have of a tile. More than a `u32` counts are refused as want of memory.

@@ -1,5 +1,6 @@
 use Rattle.std.proofs.Common.{◌+◌, arith}
-use Rattle.chain_gather.proofs.Adding.{gathered_held, gathered_made, gathered_as, on_ok_all, on_ok_both}
+use Rattle.chain_gather.proofs.Adding.{gathered_held, gathered_made, gathered_as, on_ok_all}
+use Rattle.linking.proofs.RouteLinks.{on_ok_both}
 use Rattle.chain_gather.proofs.OwnLaws.{own_piece_is}
 use Rattle.chain_gather.proofs.tiles.add_tile.Goals as goal
 

@@ -1,27 +1,34 @@
-use Rattle.std.proofs.Common.{◌≡◌, ℕ, List, ◌∙◌, ◌++◌, ap, flat_map, length, refl, subst, sym}
+use Rattle.std.proofs.Common.{◌≡◌, ℕ, List, ◌∙◌, ◌++◌, ap, flat_map, refl, subst, sym}
 use Rattle.std.proofs.Math.Logic.{∥∥₁_map}
 use Rattle.std.specs.Prelude.{All, AllPairs}
 use Rattle.geom.specs.declared.point.Pt.{Pt}
-use Rattle.geom.specs.declared.segment.Seg.{Seg}
-use Rattle.geom.specs.Limit.{AreInLimit}
 use Rattle.grid.specs.Tiles.{HasTile, Owns}
 use Rattle.routing.specs.declared.record.Record.{Record}
 use Rattle.routing.specs.Pieces.{IsPartOf}
 use Rattle.linking.specs.Ends.{ends_from}
 use Rattle.linking.specs.Links.{AreRecords, HasRecords}
 use Rattle.linking.specs.Numbers.{ArePaired}
-use Rattle.linking.specs.Orders.{AreSortedOnce}
-use Rattle.linking.specs.Shares.{AreLinked}
-use Rattle.linking.proofs.Counted.{all_numbers, all_records, known_parts, known_records, paired_are, pixels_in, pixels_once}
+use Rattle.linking.specs.Shares.{HasLinked}
+use Rattle.linking.proofs.Counted.{all_inner, all_numbers, all_records, known_parts, paired_are, pixels_in, pixels_once}
 use Rattle.linking.proofs.Covering.{are_covered}
 use Rattle.linking.proofs.Gathering.{gathered_are}
-use Rattle.linking.proofs.LinkedLaws.{known_may_link}
 use Rattle.linking.proofs.ShareLaws.{open_span, parts_of_all}
 use Rattle.linking.proofs.Walk.{route_links}
 use Rattle.linking.proofs.made.link_alone.Goals as goal
 
-pub ordered_share-requires : goal.ordered_share-requires
-ordered_share-requires g c = subst (λ (segments : List Seg). All (λ s. AreInLimit s.a s.b) segments) (sym c.requires.segments) g.T.Tiled.in_limit
+pub link_share-requires-clause-inner : goal.link_share-requires-clause-inner
+link_share-requires-clause-inner g c =
+    let cells = c.args.cells.now in
+    let grid = c.args.grid.now in
+    let segments = c.args.segments.now in
+    let pieces = c.args.pieces.items in
+    let all = known_parts cells _ segments _ _ _ _ c.requires.cells c.requires.segments c.requires.one_each (parts_of_all (λ p. p.pixels.items) (λ p. p.records.items) g.T.Tiled.grid g.T.Tiled.segments pieces
+    (λ k p at. subst (λ (n : ℕ). ∥ IsPartOf (Owns g.T.Tiled.grid n) g.T.Tiled.segments p.pixels.items p.records.items ∥₁) (c.requires.in_order k p at) p.exact)) in
+    let found = flat_map (λ p. p.records.items) pieces in
+    let hot = flat_map (λ p. p.pixels.items) pieces in
+    let in_cells = are_covered cells segments c.requires.covered_by_cells in
+    let in_tiles = are_covered grid segments c.requires.covered in
+    rw c.deref-2.ensures.value (all_inner cells grid segments hot found in_cells in_tiles all)
 
 pub count_by_tile-requires-clause-tiles : goal.count_by_tile-requires-clause-tiles
 count_by_tile-requires-clause-tiles g c =
@@ -53,25 +60,8 @@ count_by_tile-requires-clause-once g c =
     let same : c.deref-4.result.now ≡ hot = c.deref-4.ensures.value ∙ c.in_ok-pixels.ensures ∙ ap (flat_map (λ p. p.pixels.items)) c.deref-3.ensures.value in
     subst (λ (ps : List Pt). AllPairs (λ p q. p ≡ q → ⊥) ps) (sym same) (pixels_once cells grid segments hot found in_cells in_tiles all)
 
-pub link_share-requires : goal.link_share-requires
-link_share-requires g c =
-    let cells = c.args.cells.now in
-    let grid = c.args.grid.now in
-    let segments = c.args.segments.now in
-    let pieces = c.args.pieces.items in
-    let all = known_parts cells _ segments _ _ _ _ c.requires.cells c.requires.segments c.requires.one_each (parts_of_all (λ p. p.pixels.items) (λ p. p.records.items) g.T.Tiled.grid g.T.Tiled.segments pieces
-    (λ k p at. subst (λ (n : ℕ). ∥ IsPartOf (Owns g.T.Tiled.grid n) g.T.Tiled.segments p.pixels.items p.records.items ∥₁) (c.requires.in_order k p at) p.exact)) in
-    let found = flat_map (λ p. p.records.items) pieces in
-    let hot = flat_map (λ p. p.pixels.items) pieces in
-    let in_cells = are_covered cells segments c.requires.covered_by_cells in
-    let in_tiles = are_covered grid segments c.requires.covered in
-    let records = c.in_ok-records.records.items in
-    let once = subst (λ (rs : List Record). AreSortedOnce rs records) (open_span c.whole-whole.result.span (flat_map (λ p. p.records.items) c.deref-2.result.now ++ ends_from 0 segments) c.whole-whole.ensures.from c.whole-whole.ensures.below
-    ∙ ap (λ ps. flat_map (λ p. p.records.items) ps ++ ends_from 0 segments) c.deref-2.ensures.value) c.in_ok-records.ensures in
-    rw c.deref-5.ensures.value (known_may_link segments records (λ r has. known_records cells grid segments hot found in_cells in_tiles all r ((once.same r).0 has)) once.ascending grid (length c.args.makers.now) c.requires.one_for_each in_tiles)
-
 pub paired-requires : goal.paired-requires
-paired-requires g c = rw (c.deref-6.ensures.value, c.deref-7.ensures.value) (c.in_ok-hot.ensures.one_each ∙ sym c.in_ok-linked.ensures.linked.counts_are.one_each)
+paired-requires g c = rw (c.deref-5.ensures.value, c.deref-6.ensures.value) (c.in_ok-hot.ensures.one_each ∙ sym c.in_ok-linked.ensures.linked.linked.counts_are.one_each)
 
 pub returns-clause-links : goal.returns-clause-links
 returns-clause-links g c =
@@ -85,12 +75,11 @@ returns-clause-links g c =
     let hot = flat_map (λ p. p.pixels.items) pieces in
     let in_cells = are_covered cells segments c.requires.covered_by_cells in
     let in_tiles = are_covered grid segments c.requires.covered in
-    let records = c.in_ok-records.records.items in
-    let once = subst (λ (rs : List Record). AreSortedOnce rs records) (open_span c.whole-whole.result.span (flat_map (λ p. p.records.items) c.deref-2.result.now ++ ends_from 0 segments) c.whole-whole.ensures.from c.whole-whole.ensures.below
-    ∙ ap (λ ps. flat_map (λ p. p.records.items) ps ++ ends_from 0 segments) c.deref-2.ensures.value) c.in_ok-records.ensures in
-    let order : HasRecords segments (found ++ ends_from 0 segments) → AreRecords segments records = λ has. gathered_are segments (found ++ ends_from 0 segments) records has once in
-    let linked = subst (λ (rs : List Record). AreLinked grid g.M.MakesLinks.link_of c.args.makers.now rs c.in_ok-linked.linked.links.items c.in_ok-linked.linked.records.items) c.deref-5.ensures.value c.in_ok-linked.ensures.linked in
-    ∥∥₁_map (all_records cells grid segments hot found in_cells in_tiles all records order) (λ r. route_links g.M.MakesLinks.link_of segments c.args.makers.now records c.in_ok-linked.linked.links.items c.requires.one_for_each r linked.links_are)
+    let those = found ++ ends_from 0 segments in
+    let linked = subst (λ (rs : List Record). HasLinked grid g.M.MakesLinks.link_of c.args.makers.now rs c.in_ok-linked.linked.links.items c.in_ok-linked.linked.records.items) (open_span c.whole-whole.result.span (flat_map (λ p. p.records.items) c.deref-2.result.now ++ ends_from 0 segments) c.whole-whole.ensures.from c.whole-whole.ensures.below
+    ∙ ap (λ ps. flat_map (λ p. p.records.items) ps ++ ends_from 0 segments) c.deref-2.ensures.value) c.in_ok-linked.ensures.linked in
+    let order : HasRecords segments those → AreRecords segments linked.records = λ has. gathered_are segments those linked.records has linked.once in
+    ∥∥₁_map (all_records cells grid segments hot found in_cells in_tiles all linked.records order) (λ r. route_links g.M.MakesLinks.link_of segments c.args.makers.now linked.records (c.in_ok-linked.linked.links.items) c.requires.one_for_each r linked.linked.links_are)
 
 pub returns-clause-tiles : goal.returns-clause-tiles
 returns-clause-tiles g c =
@@ -105,11 +94,10 @@ returns-clause-tiles g c =
     let in_cells = are_covered cells segments c.requires.covered_by_cells in
     let in_tiles = are_covered grid segments c.requires.covered in
     let same : c.deref-4.result.now ≡ hot = c.deref-4.ensures.value ∙ c.in_ok-pixels.ensures ∙ ap (flat_map (λ p. p.pixels.items)) c.deref-3.ensures.value in
-    let records = c.in_ok-records.records.items in
-    let once = subst (λ (rs : List Record). AreSortedOnce rs records) (open_span c.whole-whole.result.span (flat_map (λ p. p.records.items) c.deref-2.result.now ++ ends_from 0 segments) c.whole-whole.ensures.from c.whole-whole.ensures.below
-    ∙ ap (λ ps. flat_map (λ p. p.records.items) ps ++ ends_from 0 segments) c.deref-2.ensures.value) c.in_ok-records.ensures in
-    let order : HasRecords segments (found ++ ends_from 0 segments) → AreRecords segments records = λ has. gathered_are segments (found ++ ends_from 0 segments) records has once in
-    let linked = subst (λ (rs : List Record). AreLinked grid g.M.MakesLinks.link_of c.args.makers.now rs c.in_ok-linked.linked.links.items c.in_ok-linked.linked.records.items) c.deref-5.ensures.value c.in_ok-linked.ensures.linked in
-    let paired : ArePaired c.in_ok-hot.hot.items c.in_ok-linked.linked.records.items c.in_ok-tiles.tiles.items = subst (λ (x : List ℕ × List ℕ). ArePaired x.0 x.1 c.in_ok-tiles.tiles.items) (λ i. (c.deref-6.ensures.value i, c.deref-7.ensures.value i)) c.in_ok-tiles.ensures in
-    all_numbers cells grid segments hot found in_cells in_tiles all records order c.deref-4.result.now records c.in_ok-tiles.tiles.items same refl
-    (paired_are grid c.deref-4.result.now records c.in_ok-hot.hot.items c.in_ok-linked.linked.records.items c.in_ok-tiles.tiles.items c.in_ok-hot.ensures linked.counts_are paired)
+    let those = found ++ ends_from 0 segments in
+    let linked = subst (λ (rs : List Record). HasLinked grid g.M.MakesLinks.link_of c.args.makers.now rs c.in_ok-linked.linked.links.items c.in_ok-linked.linked.records.items) (open_span c.whole-whole.result.span (flat_map (λ p. p.records.items) c.deref-2.result.now ++ ends_from 0 segments) c.whole-whole.ensures.from c.whole-whole.ensures.below
+    ∙ ap (λ ps. flat_map (λ p. p.records.items) ps ++ ends_from 0 segments) c.deref-2.ensures.value) c.in_ok-linked.ensures.linked in
+    let order : HasRecords segments those → AreRecords segments linked.records = λ has. gathered_are segments those linked.records has linked.once in
+    let paired : ArePaired c.in_ok-hot.hot.items c.in_ok-linked.linked.records.items c.in_ok-tiles.tiles.items = subst (λ (x : List ℕ × List ℕ). ArePaired x.0 x.1 c.in_ok-tiles.tiles.items) (λ i. (c.deref-5.ensures.value i, c.deref-6.ensures.value i)) c.in_ok-tiles.ensures in
+    all_numbers cells grid segments hot found in_cells in_tiles all linked.records order c.deref-4.result.now linked.records c.in_ok-tiles.tiles.items same refl
+    (paired_are grid c.deref-4.result.now linked.records c.in_ok-hot.hot.items c.in_ok-linked.linked.records.items c.in_ok-tiles.tiles.items c.in_ok-hot.ensures linked.linked.counts_are paired)

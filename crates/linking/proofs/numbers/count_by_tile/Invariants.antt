@@ -3,5 +3,5 @@ use Rattle.std.specs.Prelude.{IfSome}
 use Rattle.linking.specs.Numbers.{AreTileCounts, HasOwned}
 use Rattle.linking.proofs.numbers.count_by_tile.Given as goal
 
-abbrev pub invariant-loop-item : goal.invariant-loop-item
-invariant-loop-item g l = AreTileCounts l.grid g.X.AtPixel.pixel_of (take l.item-index l.items) l.counts.items × IfSome l.last (HasOwned l.grid)
+abbrev pub invariant-loop-pixel : goal.invariant-loop-pixel
+invariant-loop-pixel g l = AreTileCounts l.grid (λ p. p) (take l.pixel-index l.pixels) l.counts.counts.items × IfSome l.counts.last (HasOwned l.grid)
