@@ -14,7 +14,7 @@ ghost use Rattle.chain_gather.specs.Gathered.{AreBinsOf, AreGathered, AreTileCan
 
 use crate::own::own_piece;
 use geom::{NoMemory, Seg};
-use grid::{Grid, MOST_TILES};
+use grid::{Grid, MOST_CELLS};
 use linking::{Rounded, TileNumbers, rounded_by_records};
 use routing::{Piece, Record, piece};
 use std::alloc::Allocator;
@@ -49,7 +49,7 @@ impl<A: Allocator> Gathering<A> {
 
     /// Adds a tile whose piece was made anew.
     fn add_anew(&mut self, made: &Piece<A>) -> Result<(), NoMemory>
-        requires { self.old.remade < MOST_TILES }
+        requires { self.old.remade < MOST_CELLS }
         ensures records { OnOk result (self.new.records.items ≡ self.old.records.items ++ made.now.records.items) }
         ensures tiles { OnOk result (self.new.tiles.items ≡ self.old.tiles.items ++ (record { hot = made.now.hot; records = length made.now.records.items }) ∷ []) }
         ensures remade { OnOk result (self.new.remade ≡ self.old.remade + 1) }
@@ -75,7 +75,7 @@ fn add_tile<L: Limited, A: Allocator + Copy>(
     requires limits { All (λ s. AreInLimit s.a s.b) segments.now }
     requires candidates { AreCandidates (Owns grid.now tile) segments.now numbers.now }
     requires near { AreTileCandidates grid.now segments.now tile (candidates_of segments.now numbers.now) }
-    requires few { tile < MOST_TILES }
+    requires few { tile < MOST_CELLS }
     requires before { AreGathered grid.now segments.now book.now.held tile found.old.records.items found.old.tiles.items found.old.remade }
     ensures { OnOk result (AreGathered grid.now segments.now book.now.held (tile + 1) found.new.records.items found.new.tiles.items found.new.remade) }
 {

@@ -9,13 +9,13 @@
 
 ghost use Rattle.std.specs.Prelude.{◌≡◌, ◌++◌, IfOk, List, None, Some};
 ghost use Rattle.geom.specs.declared.segment.Seg.{Seg};
-ghost use Rattle.grid.specs.Tiles.{AreBounds, BoundsHold, CoversBounds};
+ghost use Rattle.grid.specs.Tiles.{AreBounds, BoundsHold, CoversBounds, IsSide};
 ghost use Rattle.linking.specs.Gathered.{HaveTiles};
 ghost use Rattle.layers.specs.Segments.{AllInLimit};
 ghost use Rattle.engine.specs.Rounds.{AreCellBins};
 
 use geom::{NoMemory, Rect, Seg};
-use grid::{GREATEST_SIDE, Grid, KeptBins, MOST_TILES};
+use grid::{GREATEST_SIDE, Grid, KeptBins, LEAST_SIDE, MOST_CELLS};
 use layers::joint_bounds;
 use std::alloc::Allocator;
 
@@ -123,10 +123,7 @@ fn grid_of(bounds: Rect, reach: &Reach, workers: u32) -> Grid
     if lie_in_many(reach, GREATEST_SIDE) {
         return Grid::one_tile(bounds);
     }
-    match Grid::new(Some(bounds), side_over(&bounds, reach, workers)) {
-        Ok(cells) => cells,
-        Err(_) => Grid::one_tile(bounds),
-    }
+    Grid::of_cells(bounds, side_over(&bounds, reach, workers))
 }
 
 /// The segments of each cell, by their boxes.
@@ -180,10 +177,12 @@ fn reach_of(segments: &[Seg]) -> Reach {
 }
 
 /// The side of the cells over a box, a power of two: as fine as is worth it.
-fn side_over(bounds: &Rect, reach: &Reach, workers: u32) -> u32 {
+fn side_over(bounds: &Rect, reach: &Reach, workers: u32) -> u32
+    ensures { IsSide result }
+{
     let mut side = GREATEST_SIDE;
     for _halving in 0..HALVINGS {
-        if is_worth(bounds, reach, workers, side) {
+        if LEAST_SIDE <= side / 2 && is_worth(bounds, reach, workers, side) {
             side /= 2;
         }
     }
@@ -205,7 +204,7 @@ fn doubles_over(reach: &Reach, side: u32) -> u128 {
 
 /// How many cells so many segments are worth at most.
 fn most_cells(segments: u64) -> u64 {
-    (segments / SEGMENTS).min(u64::from(MOST_TILES))
+    (segments / SEGMENTS).min(u64::from(MOST_CELLS))
 }
 
 /// Whether the segments lie in too many cells of this side for any number of workers.

@@ -23,7 +23,7 @@ pub struct FacesReport<A: Allocator> {
     pub rows: u64,
     /// The features of all rows together.
     pub ids: u64,
-    /// The pieces that were made anew, 65,536 at most.
+    /// The pieces of cells that were made anew.
     pub remade: u32,
     /// Each tile's own hot pixels, and its records.
     pub tiles: Vec<(u32, u32), A>,

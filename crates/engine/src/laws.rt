@@ -151,5 +151,5 @@ pub fn limits_are_numbers()
     ensures sides { (LEAST_SIDE ≡ 16) × (DEFAULT_SIDE ≡ 262144) × (GREATEST_SIDE ≡ 33554432) }
     ensures tiles { most_tiles ≡ 65536 }
     ensures workers { MOST_HANDS ≡ 64 }
-    ensures cells { MOST_NUMBERS ≡ 65536 }
+    ensures cells { MOST_NUMBERS ≡ 4194304 }
 {}

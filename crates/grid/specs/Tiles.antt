@@ -8,7 +8,7 @@ use Rattle.geom.specs.declared.point.Pt.{Pt}
 use Rattle.geom.specs.declared.rect.Rect.{Rect}
 use Rattle.geom.specs.declared.segment.Seg.{Seg}
 use Rattle.geom.specs.Box.{IsInBox}
-use Rattle.grid.specs.declared.grid.TheConstants.{GREATEST_SIDE, LEAST_SIDE, MOST_TILES}
+use Rattle.grid.specs.declared.grid.TheConstants.{GREATEST_SIDE, LEAST_SIDE, MOST_CELLS, MOST_TILES}
 
 -- a grid: its least corner, the side of its tiles, and how many columns and rows it has
 pub record Tiling : Type 0 where
@@ -59,6 +59,9 @@ IsSide side = (LEAST_SIDE ≤ side) × (side ≤ GREATEST_SIDE)
 abbrev pub most_tiles : ℕ
 most_tiles = MOST_TILES
 
+abbrev pub most_cells : ℕ
+most_cells = MOST_CELLS
+
 -- the grid of this side that reaches from the least to the greatest corner of the box, or one without tiles
 pub record IsOver (r : Rect) (side : ℕ) (g : Tiling) : Type 0 where
   pub left_is : g.left ≡ r.lo.x
@@ -107,6 +110,6 @@ pub record HasRoom (g : Tiling) : Type 0 where
   pub bottom_near : IsWithin (2 ^ 28) g.bottom
   pub some_side : 0 < g.side
   pub side_small : g.side ≤ 2 ^ 30
-  pub few : tile_count g ≤ most_tiles
+  pub few : tile_count g ≤ most_cells
   pub across : g.columns * g.side ≤ 2 ^ 29 + 2 ^ 26
   pub up : g.rows * g.side ≤ 2 ^ 29 + 2 ^ 26

@@ -1,10 +1,10 @@
 //! The grid of tiles.
 
-ghost use Rattle.std.specs.Prelude.{◌≡◌, ◌↔◌, ◌^◌, ℕ, ℤ, pos, ◌+◌, ◌-◌, ◌*◌, ◌<◌, ◌≤◌, ◌+ℤ◌, ◌≤ℤ◌, ◌<ℤ◌, IfOk, IsTrue, MatchResult, Some};
+ghost use Rattle.std.specs.Prelude.{◌≡◌, ◌↔◌, ◌^◌, ℕ, ℤ, pos, ◌+◌, ◌-◌, ◌*◌, ◌<◌, ◌≤◌, ◌+ℤ◌, ◌≤ℤ◌, ◌<ℤ◌, ◌⊎◌, IfOk, IsTrue, MatchResult, Some};
 ghost use Rattle.geom.specs.Limit.{IsWithin};
 ghost use Rattle.geom.specs.declared.point.Pt.{Pt};
 ghost use Rattle.geom.specs.Box.{IsInBox};
-ghost use Rattle.grid.specs.Tiles.{AreBounds, CoversBounds, HasRoom, HasTile, IsGridOf, IsPlaced, IsRefusal, IsSide, Owns, Tiling, steps, tile_count, tile_left, tile_right};
+ghost use Rattle.grid.specs.Tiles.{AreBounds, CoversBounds, HasRoom, HasTile, IsGridOf, IsOver, IsPlaced, IsRefusal, IsSide, Owns, Tiling, steps, tile_count, tile_left, tile_right};
 
 use geom::{Fault, Pt, Rect};
 use std::marker::Model;
@@ -18,8 +18,11 @@ pub const GREATEST_SIDE: u32 = 33_554_432;
 /// A side that no box within the coordinate limit reaches over.
 const WHOLE_SIDE: u32 = 536_870_913;
 
-/// The greatest number of tiles.
+/// The greatest number of tiles of a plan.
 pub const MOST_TILES: u32 = 65_536;
+
+/// The greatest number of tiles of any grid.
+pub const MOST_CELLS: u32 = 4_194_304;
 
 /// Square tiles of one side over a box, in columns from its left side and rows from its bottom. Tiles are numbered row by
 /// row from 0.
@@ -61,7 +64,20 @@ impl Grid {
                 columns: 0,
                 rows: 0,
             }),
-            Some(r) => grid_over(r, side),
+            Some(r) => grid_over(r, side, MOST_TILES).map_err(Fault::TooManyTiles),
+        }
+    }
+
+    /// The grid of this side over a box, or of one tile where it would have more than `MOST_CELLS`.
+    pub fn of_cells(bounds: Rect, side: u32) -> Grid
+        requires bounds { AreBounds (Some bounds) }
+        requires side { IsSide side }
+        ensures exact { IsOver bounds side result ⊎ ((tile_count result ≡ 1) × (g : Tiling) × IsOver bounds side g × (MOST_CELLS < tile_count g)) }
+        ensures covers { CoversBounds (Some bounds) result }
+    {
+        match grid_over(bounds, side, MOST_CELLS) {
+            Ok(grid) => grid,
+            Err(_) => Grid::one_tile(bounds),
         }
     }
 
@@ -83,7 +99,7 @@ impl Grid {
     /// How many tiles there are.
     pub fn tiles(&self) -> u32
         ensures value { result ≡ tile_count self.now }
-        ensures few { result ≤ MOST_TILES }
+        ensures few { result ≤ MOST_CELLS }
     {
         self.rows * self.columns
     }
@@ -99,7 +115,7 @@ impl Grid {
     pub(crate) fn tiles_in(&self, rows: u32) -> u32
         requires { rows ≤ self.now.rows }
         ensures value { result ≡ rows * self.now.columns }
-        ensures few { result ≤ MOST_TILES }
+        ensures few { result ≤ MOST_CELLS }
     {
         rows * self.columns
     }
@@ -117,7 +133,7 @@ impl Grid {
     pub fn place_of(&self, p: Pt) -> (u32, u32)
         requires { HasTile self.now p }
         ensures placed { IsPlaced self.now p result }
-        ensures few { (result.0 < MOST_TILES) × (result.1 < MOST_TILES) }
+        ensures few { (result.0 < MOST_CELLS) × (result.1 < MOST_CELLS) }
         ensures some_side { 0 < self.now.side }
     {
         let column = steps_to(self.left, p.x, self.side);
@@ -131,7 +147,7 @@ impl Grid {
         requires row { row < self.now.rows }
         ensures value { result ≡ row * self.now.columns + column }
         ensures below { result < tile_count self.now }
-        ensures few { result < MOST_TILES }
+        ensures few { result < MOST_CELLS }
     {
         number_of(self.columns, self.rows, column, row)
     }
@@ -163,18 +179,19 @@ impl Grid {
     }
 }
 
-// The grid over a box.
-fn grid_over(r: Rect, side: u32) -> Result<Grid, Fault>
+// The grid over a box with at most so many tiles, or how many it would have.
+fn grid_over(r: Rect, side: u32, most: u32) -> Result<Grid, u64>
     requires bounds { AreBounds (Some r) }
     requires side { IsSide side }
-    ensures exact { MatchResult result (λ g. IsSide side × IsGridOf (Some r) side g × (tile_count g ≤ MOST_TILES)) (λ e. IsRefusal (Some r) side e) }
+    requires most { most ≤ MOST_CELLS }
+    ensures exact { MatchResult result (λ g. IsOver r side g × (tile_count g ≤ most)) (λ count. (g : Tiling) × IsOver r side g × (count ≡ tile_count g) × (most < count)) }
     ensures covers { IfOk result (λ g. CoversBounds (Some r) g) }
 {
     let columns = steps_over(r.lo.x, r.hi.x, side);
     let rows = steps_over(r.lo.y, r.hi.y, side);
     let tiles = rows * columns;
-    if tiles > u64::from(MOST_TILES) {
-        return Err(Fault::TooManyTiles(tiles));
+    if tiles > u64::from(most) {
+        return Err(tiles);
     }
     Ok(Grid {
         left: r.lo.x,
@@ -189,7 +206,7 @@ fn grid_over(r: Rect, side: u32) -> Result<Grid, Fault>
 fn number_of(columns: u32, rows: u32, column: u32, row: u32) -> u32
     requires column { column < columns }
     requires row { row < rows }
-    requires few { rows * columns ≤ 65536 }
+    requires few { rows * columns ≤ MOST_CELLS }
     ensures value { result ≡ row * columns + column }
     ensures below { result < rows * columns }
 {

@@ -10,7 +10,7 @@ ghost use Rattle.geom.specs.declared.rect.Rect.{Rect};
 ghost use Rattle.grid.specs.Tiles.{HasTile};
 ghost use Rattle.grid.specs.Bins.{AreGiven, AreRowBins, HasPointOf, IsAmong, TileRows, lists_of};
 
-use crate::grid::{Grid, MOST_TILES};
+use crate::grid::{Grid, MOST_CELLS};
 use geom::{NoMemory, Rect};
 use std::alloc::Allocator;
 use std::marker::Model;

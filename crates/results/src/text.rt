@@ -24,7 +24,7 @@ pub struct Report<A: Allocator> {
     pub records: u64,
     /// The rounded edges.
     pub edges: u32,
-    /// The pieces that were made anew, 65,536 at most.
+    /// The pieces of cells that were made anew.
     pub remade: u32,
     /// Each tile's own hot pixels, and its records.
     pub tiles: Vec<(u32, u32), A>,

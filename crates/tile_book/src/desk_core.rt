@@ -54,7 +54,7 @@ impl<A: Allocator> Model for Core<A> {
 }
 
 impl<A: Allocator> Core<A> {
-    /// A new core for the numbers below a limit of at most 65,536, and at most 64 hands. It reserves all that `step` needs.
+    /// A new core for the numbers below a limit of at most `MOST_NUMBERS`, and at most 64 hands. It reserves all that `step` needs.
     pub fn new(alloc: A, limit: u32, hands: u32) -> Result<Core<A>, NoMemory>
     where
         A: Copy,

@@ -13,7 +13,7 @@ use std::alloc::Allocator;
 use std::marker::Model;
 
 /// How many numbers a draw has at most.
-pub const MOST_NUMBERS: u32 = 65_536;
+pub const MOST_NUMBERS: u32 = 4_194_304;
 
 /// How many hands a draw has at most.
 pub const MOST_HANDS: u32 = 64;
@@ -80,7 +80,7 @@ impl Model for Drawn {
 }
 
 impl<A: Allocator> Draw<A> {
-    /// The numbers below a limit of at most 65,536, and 1 to 64 hands, none spent, with nothing drawn.
+    /// The numbers below a limit of at most `MOST_NUMBERS`, and 1 to 64 hands, none spent, with nothing drawn.
     pub fn new(alloc: A, limit: u32, hands: u32) -> Result<(Draw<A>, Vec<Hand, A>), NoMemory>
     where
         A: Copy,

@@ -27,7 +27,7 @@ pub struct FilledBook<P: Numbered, L: Limited, A: Allocator> {
     pub returned: u64,
 }
 
-/// Makes and posts the piece of each number below a limit of at most 65,536, by 1 to 64 workers, one of them in the
+/// Makes and posts the piece of each number below a limit of at most `MOST_NUMBERS`, by 1 to 64 workers, one of them in the
 /// calling thread. It answers `NoMemory` only where a growth was refused, in whichever thread.
 pub fn fill<
     A: Allocator + Copy + Send + Sync,

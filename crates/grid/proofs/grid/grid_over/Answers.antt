@@ -10,13 +10,10 @@ returns-then-tiles-from-clause-exact c =
     let g : FitsSigned w32 r.lo.y = search rules in
     let f' : FitsSigned w32 r.hi.x = search rules in
     let g' : FitsSigned w32 r.hi.y = search rules in (
-      c.requires.side,
-      (
-        record { left = r.lo.x; bottom = r.lo.y; side = c.args.side; columns = c.steps_over-columns.result; rows = c.steps_over-rows.result },
-        record { left_is = refl; bottom_is = refl; side_is = refl; columns_are = simp to_z-of_z at c.steps_over-columns.ensures.value; rows_are = simp to_z-of_z at c.steps_over-rows.ensures.value },
-        refl,
-        omega arith,
-      ),
+      record { left = r.lo.x; bottom = r.lo.y; side = c.args.side; columns = c.steps_over-columns.result; rows = c.steps_over-rows.result },
+      record { left_is = refl; bottom_is = refl; side_is = refl; columns_are = simp to_z-of_z at c.steps_over-columns.ensures.value; rows_are = simp to_z-of_z at c.steps_over-rows.ensures.value },
+      refl,
+      omega arith,
     )
 
 pub invariant_of-result : goal.invariant_of-result

@@ -1,7 +1,7 @@
 use Rattle.std.proofs.Common.{◌≡◌, ◌<◌, ◌≤◌, ◌*◌, ℕ, pos, sym, subst, rules, arith, to_z-of_z, FitsSigned, w32, ◌∙◌}
 use Rattle.std.proofs.lemmas.Nat.{mul-le}
 use Rattle.grid.proofs.Columns.{pos_same, steps_after}
-use Rattle.grid.specs.Tiles.{HasTile, IsPlaced, Owns, Tiling, most_tiles, steps, tile_count}
+use Rattle.grid.specs.Tiles.{HasTile, IsPlaced, Owns, Tiling, most_cells, steps, tile_count}
 use Rattle.geom.specs.declared.point.Pt.{Pt}
 use Rattle.grid.proofs.grid.Grid.place_of.Goals as goal
 
@@ -34,7 +34,7 @@ returns-clause-placed c =
     let g' : FitsSigned w32 c.args.p.y = search rules in
     placed c.args.self.now _ c.args.p c.steps_to-column.result c.steps_to-row.result c.self.view_is c.requires (simp to_z-of_z at c.steps_to-column.ensures) (simp to_z-of_z at c.steps_to-row.ensures)
 
-few : (g : Tiling) (p : Pt) (place : ℕ × ℕ) → tile_count g ≤ most_tiles → IsPlaced g p place → (place.0 < 65536) × (place.1 < 65536)
+few : (g : Tiling) (p : Pt) (place : ℕ × ℕ) → tile_count g ≤ most_cells → IsPlaced g p place → (place.0 < 4194304) × (place.1 < 4194304)
 few g p place h placed =
     let c = placed.in_columns in
     let r = placed.in_rows in
@@ -43,7 +43,7 @@ few g p place h placed =
     (omega (arith, across, h, c), omega (arith, up, h, r))
 
 pub returns-clause-few : goal.returns-clause-few
-returns-clause-few c = few c.args.self.now c.args.p (c.steps_to-column.result, c.steps_to-row.result) (subst (λ (g : Tiling). tile_count g ≤ most_tiles) c.self.view_is c.self.invariant.few) (returns-clause-placed c)
+returns-clause-few c = few c.args.self.now c.args.p (c.steps_to-column.result, c.steps_to-row.result) (subst (λ (g : Tiling). tile_count g ≤ most_cells) c.self.view_is c.self.invariant.few) (returns-clause-placed c)
 
 pub returns-clause-some_side : goal.returns-clause-some_side
 returns-clause-some_side c = subst (λ (g : Tiling). 0 < g.side) c.self.view_is c.self.invariant.some_side
