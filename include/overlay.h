@@ -2,7 +2,7 @@
  *
  * A layer is a text of POLYGON and MULTIPOLYGON geometries with whole coordinates from -268435456 to 268435456, in grid units,
  * and has at most 268435456 bytes; all layers together have at most 1048576 segments, or as many as a call says, and each text
- * then may have 256 bytes for each of them, up to 4294967295. It needs no 0 at its end.
+ * then may have 256 bytes for each of them where that is more, up to 4294967295. It needs no 0 at its end.
  *
  * Each call runs on the calling thread alone and keeps nothing, so any number of threads may call at once. It takes memory by
  * malloc, and has let all of it go when it returns, but for what overlay_text and overlay_arrays give to the caller. All that is

@@ -35,11 +35,11 @@ numbers of each layer's features, and the points as one MULTIPOLYGON text, with 
 
 A layer is a text of POLYGON and MULTIPOLYGON geometries, at most 268435456 bytes long, with whole
 coordinates from -268435456 to 268435456, in grid units. All layers together have at most 1048576
-segments, or as many as --segments says, and each text then 256 bytes for each of them, up to
-4294967295; a million segments take some 170 MB of memory. A layer is read by parity: a point lies in
-it where an odd number of its rings have the point inside, so polygons of one layer that overlap
-cancel each other there; faces reads each feature so, and features never cancel each other. /dev/stdin
-reads a layer from standard input.
+segments, or as many as --segments says, and each text then 256 bytes for each of them where that is
+more, up to 4294967295; a million segments take some 120 MB of memory. A layer is read by parity: a
+point lies in it where an odd number of its rings have the point inside, so polygons of one layer that
+overlap cancel each other there; faces reads each feature so, and features never cancel each other.
+/dev/stdin reads a layer from standard input.
 
 With --covered an operation reads each feature so too, and a point lies in a layer where one of its
 features at least covers it, so that features of one layer that overlap don't cancel each other.
@@ -81,11 +81,11 @@ numbers of each layer's features, and the points as one MULTIPOLYGON text, with 
 
 A layer is a text of POLYGON and MULTIPOLYGON geometries, at most 268435456 bytes long, with whole
 coordinates from -268435456 to 268435456, in grid units. All layers together have at most 1048576
-segments, or as many as --segments says, and each text then 256 bytes for each of them, up to
-4294967295; a million segments take some 170 MB of memory. A layer is read by parity: a point lies in
-it where an odd number of its rings have the point inside, so polygons of one layer that overlap
-cancel each other there; faces reads each feature so, and features never cancel each other. /dev/stdin
-reads a layer from standard input.
+segments, or as many as --segments says, and each text then 256 bytes for each of them where that is
+more, up to 4294967295; a million segments take some 120 MB of memory. A layer is read by parity: a
+point lies in it where an odd number of its rings have the point inside, so polygons of one layer that
+overlap cancel each other there; faces reads each feature so, and features never cancel each other.
+/dev/stdin reads a layer from standard input.
 
 With --covered an operation reads each feature so too, and a point lies in a layer where one of its
 features at least covers it, so that features of one layer that overlap don't cancel each other.
