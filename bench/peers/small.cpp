@@ -1,5 +1,6 @@
 // Small calls of bench/run bridge: small A B [LIBRARY] intersects the polygons of two files, line by line, by Clipper 6, by GEOS
-// (where libgeos-dev is there) and by overlay's library for C, and prints a line `name, microseconds a call, area, how many failed`.
+// (where libgeos-dev is there) and by overlay's library for C, from texts and from columns to the same, and prints a line
+// `name, microseconds a call, area, how many failed`.
 #include "layers.h"
 #include <polyclipping/clipper.hpp>
 #include <cmath>
@@ -89,9 +90,69 @@ static double area_of(const char *text, size_t length) {
     return area / 2;
 }
 
-static int by_overlay(const char *library, const char *first, const char *second) {
-    void *opened = dlopen(library, RTLD_NOW);
-    if (!opened) return std::fprintf(stderr, "%s\n", dlerror()), 1;
+// The polygons of a layer as columns.
+struct Columns {
+    std::vector<int32_t> coordinates;
+    std::vector<uint32_t> rings{0}, places{0};
+
+    explicit Columns(const Layer &layer) {
+        for (auto &feature : layer) {
+            for (size_t k = 0; k <= feature[0].size(); k++) {
+                auto &point = feature[0][k % feature[0].size()];
+                coordinates.insert(coordinates.end(), {(int32_t)point.first, (int32_t)point.second});
+            }
+            rings.push_back(coordinates.size() / 2);
+            places.push_back(places.size());
+        }
+    }
+
+    overlay_columns all() const {
+        return {coordinates.data(), coordinates.size(), rings.data(), rings.size(), places.data(), places.size(), places.data(), places.size()};
+    }
+};
+
+// The area of rings, of which shells turn left and holes right.
+static double area_of(const int32_t *points, const uint32_t *rings, size_t count) {
+    double area = 0;
+    for (size_t ring = 0; ring + 1 < count; ring++) {
+        double x = points[2 * rings[ring]], y = points[2 * rings[ring] + 1];
+        for (size_t k = rings[ring] + 1; k + 1 < rings[ring + 1]; k++)
+            area += (points[2 * k] - x) * (points[2 * k + 3] - y) - (points[2 * k + 2] - x) * (points[2 * k + 1] - y);
+    }
+    return area / 2;
+}
+
+static void by_columns(void *opened, const Layer &a, const Layer &b) {
+    auto fill = (decltype(&overlay_columns_fill))dlsym(opened, "overlay_columns_fill");
+    auto fill_pairs = (decltype(&overlay_pairs_fill))dlsym(opened, "overlay_pairs_fill");
+    Columns first(a), second(b);
+    std::vector<int32_t> points(8 * (first.coordinates.size() + second.coordinates.size()));
+    std::vector<uint32_t> rings(points.size()), polygons(points.size()), features(a.size() + 1);
+    overlay_columns_answer answer;
+    double area = 0, start = processor();
+    overlay_columns all[2] = {first.all(), second.all()};
+    fill_pairs(OVERLAY_INTERSECTION, UINT32_MAX, &all[0], &all[1], points.data(), points.size(), rings.data(), rings.size(), polygons.data(),
+               polygons.size(), features.data(), features.size(), &answer);
+    double seconds = processor() - start;
+    bool is_answered = answer.status == OVERLAY_ANSWERED;
+    told("overlay, by C, columns to columns, in one call", seconds, a.size(), is_answered ? area_of(points.data(), rings.data(), answer.rings) : 0,
+         is_answered ? 0 : (int)a.size());
+    int failed = 0;
+    seconds = 0;
+    for (size_t k = 0; k < a.size(); k++) {
+        Columns one({a[k]}), other({b[k]});
+        overlay_columns pair[2] = {one.all(), other.all()};
+        start = processor();
+        fill(OVERLAY_INTERSECTION, 262144, 1048576, &pair[0], &pair[1], points.data(), points.size(), rings.data(), rings.size(), polygons.data(),
+             polygons.size(), &answer);
+        seconds += processor() - start;
+        failed += answer.status != OVERLAY_ANSWERED;
+        if (answer.status == OVERLAY_ANSWERED) area += area_of(points.data(), rings.data(), answer.rings);
+    }
+    told("overlay, by C, columns to columns", seconds, a.size(), area, failed);
+}
+
+static void by_text(void *opened, const char *first, const char *second) {
     auto fill = (decltype(&overlay_fill))dlsym(opened, "overlay_fill");
     std::vector<std::string> a = lines(first), b = lines(second);
     std::vector<char> room(1 << 16);
@@ -108,7 +169,6 @@ static int by_overlay(const char *library, const char *first, const char *second
         if (answer.status == OVERLAY_ANSWERED) area += area_of(room.data(), answer.length);
     }
     told("overlay, by C, text to text", seconds, a.size(), area, failed);
-    return 0;
 }
 
 int main(int count, char **words) {
@@ -119,5 +179,10 @@ int main(int count, char **words) {
     by_geos(a, b, 0, "GEOS, by C");
     by_geos(a, b, 1, "GEOS, grid 1, by C");
 #endif
-    return count > 3 ? by_overlay(words[3], words[1], words[2]) : 0;
+    if (count < 4) return 0;
+    void *opened = dlopen(words[3], RTLD_NOW);
+    if (!opened) return std::fprintf(stderr, "%s\n", dlerror()), 1;
+    by_columns(opened, a, b);
+    by_text(opened, words[1], words[2]);
+    return 0;
 }
