@@ -174,11 +174,15 @@ def intersection(df1: Any, df2: Any, pairs: Parts) -> Any:
 
 
 def no_pairs(df1: Any, df2: Any) -> Any:
-    """The same columns without a row; the geometries have the first frame's name for them."""
-    name = df1.geometry.name
-    held = df1.iloc[:0].merge(df2.iloc[:0].drop(columns=df2.geometry.name), left_index=True, right_index=True, suffixes=SUFFIXES)
+    """The same columns without a row; the geometries have the first frame's name for them, where
+    no other column has it."""
+    first, second = (without_geometry(df.iloc[:0]) for df in (df1, df2))
+    held = first.merge(second, left_index=True, right_index=True, suffixes=SUFFIXES)
     held[KEYS[0]] = held[KEYS[1]] = None
-    return held[[*held.columns.drop(name), name]]
+    name = GEOMETRY if df1.geometry.name in held.columns else df1.geometry.name
+    held = held.drop(columns=name, errors="ignore")
+    held[name] = series_of([], df1)
+    return module("geopandas").GeoDataFrame(held, geometry=name)
 
 
 def difference(df: Any, own: Parts) -> Any:

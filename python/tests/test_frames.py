@@ -147,6 +147,34 @@ def test_nothing_in_common(how):
     same(overlay_grid.overlay(df1, df2, how=how, grid=1), theirs(df1, df2, how=how))
 
 
+@pytest.mark.parametrize("how", HOWS)
+def test_indexes_of_levels_where_nothing_is_in_common(how):
+    """They have no influence, as where something is in common."""
+    df1, df2 = worked()
+    df2.geometry = df2.geometry.translate(100, 0)
+    want = theirs(df1, df2, how=how)
+    levels = pandas.MultiIndex.from_tuples([(1, "x"), (2, "y")])
+    same(overlay_grid.overlay(df1.set_index(levels), df2, how, grid=1), want)
+    same(overlay_grid.overlay(df1, df2.set_index(levels), how, grid=1), want)
+
+
+@pytest.mark.parametrize("how, count", [("intersection", 0), ("union", 4), ("identity", 2)])
+def test_columns_called_as_geometries_where_nothing_is_in_common(how, count):
+    """A column of the second frame stays where it is called as the first one's geometries, but one
+    called 'geometry' is left out."""
+    df1, df2 = worked()
+    df2.geometry = df2.geometry.translate(100, 0)
+    shape, more = df1.rename_geometry("shape"), df2.assign(shape=["p", "q"])
+    found = overlay_grid.overlay(shape, more, how, grid=1)
+    assert list(found.columns) == ["df1_data", "df2_data", "shape", "geometry"]
+    assert (found.geometry.name, len(found)) == ("geometry", count)
+    more = df2.rename_geometry("shape").assign(geometry=["p", "q"])
+    with pytest.warns(UserWarning, match="^df2: the column 'geometry' is left out"):
+        found = overlay_grid.overlay(df1, more, how, grid=1)
+    assert list(found.columns) == ["df1_data", "df2_data", "geometry"]
+    assert (found.geometry.name, len(found)) == ("geometry", count)
+
+
 def test_common_borders():
     """Triangles with a common border, and lines across it: rows fill the plane, with one area."""
     df1 = geopandas.GeoDataFrame({"a": [1, 2]}, geometry=[Polygon([(0, 0), (9, 0.1), (7, 7.3)]), Polygon([(0, 0), (7, 7.3), (-1, 8)])])
