@@ -90,6 +90,8 @@ def overlay(
             check_valid(df, name)
         if how != "difference":
             check_columns(df, name)
+        if how in ("union", "identity"):
+            check_unique(df, name)
     if how != "difference":
         check_suffixes(df1, df2)
     lines, frame = faces_on(((df1, "df1"), (df2, "df2")), grid, origin)
@@ -129,6 +131,14 @@ def check_columns(df: Any, name: str) -> None:
             raise ValueError(f"{name}: a column is called {key!r}, as one that joins the rows of both frames")
     if GEOMETRY in df.columns and df.geometry.name != GEOMETRY:
         warn(f"{name}: the column {GEOMETRY!r} is left out, as the answer's geometries are called so")
+
+
+def check_unique(df: Any, name: str) -> None:
+    """Refuses two columns of one name, by which pandas puts no rows behind one another."""
+    twice = df.columns[df.columns.duplicated()]
+    if len(twice):
+        words = f"two columns are called {twice[0]!r}, and rows are joined by names"
+        raise ValueError(f"{name}: {words}")
 
 
 def check_suffixes(df1: Any, df2: Any) -> None:

@@ -128,6 +128,25 @@ def test_columns_of_both_with_suffixes(how):
 
 
 @pytest.mark.parametrize("how", HOWS)
+@pytest.mark.parametrize("apart", [0, 100])
+def test_two_columns_of_one_name(how, apart):
+    """They are kept, but where rows of both differences come behind those of the intersection."""
+    df1, df2 = worked()
+    df2.geometry = df2.geometry.translate(apart, 0)
+    twice = geopandas.GeoDataFrame(pandas.concat([df1[["df1_data"]], df1], axis=1))
+    if how in ("union", "identity"):
+        with pytest.raises(ValueError, match="^df1: two columns are called 'df1_data'"):
+            overlay_grid.overlay(twice, df2, how, grid=1)
+        with pytest.raises(ValueError, match="^df2: two columns are called 'df1_data'"):
+            overlay_grid.overlay(df2, twice, how, grid=1)
+    else:
+        want = list(overlay_grid.overlay(df1, df2, how, grid=1).columns)
+        want.insert(want.index("df1_data"), "df1_data")
+        found = overlay_grid.overlay(twice, df2, how, grid=1)
+        assert sorted(found.columns) == sorted(want)
+
+
+@pytest.mark.parametrize("how", HOWS)
 def test_another_column_called_geometry(how):
     """It is left out, as GeoPandas does, and that is told."""
     df1, df2 = worked()
