@@ -164,7 +164,12 @@ def given(layer: Any, name: str) -> Given:
 
 def systems_of(layer: Any) -> Tuple[Any, ...]:
     """The reference system of a frame or a series, which is None where it has none; nothing of other lists."""
-    return (layer.crs,) if hasattr(layer, "crs") else ()
+    return (layer.crs,) if has_system(layer) else ()
+
+
+def has_system(layer: Any) -> bool:
+    """Whether a layer is GeoPandas', and no table with a column that is called crs."""
+    return hasattr(layer, "crs") and hasattr(layer, "to_crs")
 
 
 def list_of(layer: Any, name: str) -> List[Any]:

@@ -8,7 +8,7 @@ from ._asking import Plan, answerer_of, frame_of, layers_of
 from ._columns import pairs_of
 from ._frames import series_of
 from ._grid import Frame
-from ._kinds import Answerer, Given, answer_of, kind_of, shapely_answer, wkb_answer
+from ._kinds import Answerer, Given, answer_of, has_system, kind_of, shapely_answer, wkb_answer
 from ._shapes import Features, Paired, Piece, Repeated, Shapes
 
 
@@ -54,4 +54,4 @@ def told_of(found: Iterable[Piece], answer: Answerer, frame: Frame, many: Any) -
 
 def is_series(layer: Any) -> bool:
     """Whether a layer is a series or a frame of GeoPandas."""
-    return hasattr(layer, "crs") and hasattr(layer, "index")
+    return has_system(layer) and hasattr(layer, "index")

@@ -360,6 +360,17 @@ def test_no_frames():
     assert len(overlay_grid.faces(table)) == 2
 
 
+def test_a_table_with_a_column_of_systems():
+    """A table of pandas has no reference system, whatever its columns are called."""
+    square, other = box(0, 0, 0.0004, 1), box(0, 0, 1, 1)
+    table = pandas.DataFrame({"geometry": [square, other], "crs": ["EPSG:4326", None]})
+    with pytest.warns(UserWarning, match="the grid leaves nothing of 1 of 2 features: 1"):
+        assert [face.ids for face in overlay_grid.faces(table)] == [((2,),)]
+    found = overlay_grid.pairs("intersection", table, other, grid="0.0001")
+    assert type(found) is list and [one.area for one in found] == [square.area, 1]
+    assert overlay_grid.union(table, table).equals(other)
+
+
 @pytest.mark.parametrize("how", HOWS)
 def test_columns_called_as_those_that_join(how):
     """No column is lost or taken for another one."""
