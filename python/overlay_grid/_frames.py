@@ -235,6 +235,7 @@ def dissolve(df: Any, said: Dict[str, Any], grid: Optional[Unit], origin: Option
     """See overlay_grid.dissolve. GeoPandas makes the groups and their values, as it is said, of points that tell the numbers of features."""
     geopandas = module("geopandas")
     check_frame(df, "df")
+    said = without_union(said)
     lines, frame = faces_on(((df, "df"),), grid, origin)
     name, count = df.geometry.name, len(df)
     marked = df.copy()
@@ -249,6 +250,13 @@ def dissolve(df: Any, said: Dict[str, Any], grid: Optional[Unit], origin: Option
             parts.add(group, line.polygons)
     dissolved[name] = series_of(list(map(parts.wkb, range(len(dissolved)))), df).values
     return dissolved
+
+
+def without_union(said: Dict[str, Any]) -> Dict[str, Any]:
+    """What is said but of GeoPandas' own union, which would round the points that tell numbers."""
+    if said.get("grid_size") is not None:
+        raise TypeError("grid_size: features are united on the grid, whose unit `grid` says")
+    return {name: value for name, value in said.items() if name not in ("method", "grid_size")}
 
 
 def numbers_in(marks: Any) -> List[int]:

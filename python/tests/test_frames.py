@@ -400,6 +400,15 @@ PLANS = [
 ]
 
 
+def test_dissolve_says_how_geometries_are_united():
+    """What later GeoPandas' dissolve is told of its own union has no influence, or is refused."""
+    df = geopandas.GeoDataFrame({"k": ["a", "a", "b"]}, geometry=squares((0, 0), (2, 0), (8, 0)))
+    for plan in ({"method": "unary"}, {"method": "coverage", "grid_size": None}):
+        assert overlay_grid.dissolve(df, by="k", grid=1, **plan).area.tolist() == [8, 4]
+    with pytest.raises(TypeError, match="^grid_size: "):
+        overlay_grid.dissolve(df, by="k", grid_size=10)
+
+
 @pytest.mark.parametrize("plan", PLANS, ids=str)
 @pytest.mark.parametrize("seed", range(4))
 def test_dissolve(plan, seed):
