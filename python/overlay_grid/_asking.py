@@ -6,7 +6,16 @@ import sys
 import warnings
 from typing import Any, Callable, Dict, List, NamedTuple, Optional, Sequence, Set, Tuple, TypeVar
 
-from ._calls import CALLS, MOST_SEGMENTS, Operation, faces_of, layer_name, longest_of, text_of
+from ._calls import (
+    CALLS,
+    MOST_SEGMENTS,
+    Operation,
+    faces_of,
+    layer_name,
+    limit_of,
+    longest_of,
+    text_of,
+)
 from ._columns import lines_on, polygons_of
 from ._faults import Refused
 from ._grid import FINEST, FINEST_DEGREES, Frame, Origin, Unit, frame_at, frame_for, joined
@@ -41,7 +50,7 @@ class Plan(NamedTuple):
     @property
     def limit(self) -> int:
         """The most segments, of which there is no number where nothing is said of geometries."""
-        return MOST_SEGMENTS if self.segments is None else self.segments
+        return MOST_SEGMENTS if self.segments is None else limit_of(self.segments)
 
 
 def warn(words: str) -> None:

@@ -6,6 +6,7 @@ import struct
 import subprocess
 import sys
 import tracemalloc
+import warnings
 from decimal import Decimal
 
 import overlay_grid
@@ -326,6 +327,17 @@ def test_limits_of_segments():
         overlay_grid.union(squares, [], segments=7)
     assert fault.value.number == Refusal.TOO_MANY_SEGMENTS and fault.value.count == 8
     assert overlay_grid.union(squares, [], segments=8, grid=0.1) == wkb_of(WORKED["union"])
+
+
+@pytest.mark.parametrize("kind, number", [("uint8", 8), ("int32", 2**24), ("int64", 2**62)])
+def test_limits_of_segments_of_numpy(kind, number):
+    """They are as those of Python, of which no product is too large."""
+    numpy = pytest.importorskip("numpy")
+    squares = [wkb_of(multi(A)), wkb_of(multi(B))]
+    with warnings.catch_warnings():
+        warnings.simplefilter("error")
+        limit = numpy.dtype(kind).type(number)
+        assert overlay_grid.union(squares, [], segments=limit, grid=0.1) == wkb_of(WORKED["union"])
 
 
 @pytest.mark.parametrize("seed", range(80))
