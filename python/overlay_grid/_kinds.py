@@ -144,7 +144,8 @@ def kind_of(value: Any) -> Optional[Answerer]:
         return shapely_answer
     if is_array(value) and value.dtype.kind in "fiu":
         return arrays_answer
-    return arrays_answer if isinstance(value, tuple) and all(map(is_array, value)) else None
+    is_rings = isinstance(value, tuple) and value and all(map(is_array, value))
+    return arrays_answer if is_rings else None
 
 
 def given(layer: Any, name: str) -> Given:

@@ -123,6 +123,15 @@ def test_nothing():
     assert overlay_grid.pairs("union", [None, None], [None, None]) == [[], []]
 
 
+def test_tuples_of_nothing():
+    """A tuple is a list of geometries where it isn't of arrays, also where it has none."""
+    assert overlay_grid.pairs("union", (), ()) == []
+    with pytest.raises(ValueError, match="^A has 0 geometries and B has 1"):
+        overlay_grid.pairs("union", (), [FIRST])
+    assert overlay_grid.union((), FIRST) == FIRST
+    assert overlay_grid.intersection((), FIRST) == NOTHING
+
+
 def test_what_makes_no_pairs():
     for lengths in ((2, 3), (0, 1), (5, 4)):
         with pytest.raises(ValueError, match="^A has %d geometries and B has %d, " % lengths):
