@@ -84,6 +84,9 @@ def test_texts_are_rounded():
     """Halves go upward and to the right: 0.25 is 0.5 on a grid of 0.5, and -0.25 is 0."""
     halves = "POLYGON ((0 0, 2.25 0, 2.2 1.74, -.25 1.75, 0 0))"
     assert overlay_grid.union(halves, "", grid=0.5) == "MULTIPOLYGON (((0 0, 2.5 0, 2 1.5, 0 2, 0 0)))\n"
+    below = "POLYGON ((0 0, 0.15 0, 0.15 0.25, 0 0.25, 0 0))"  # the number next to 0.15 is less
+    want = "MULTIPOLYGON (((0 0, 0.1 0, 0.1 0.3, 0 0.3, 0 0)))\n"
+    assert overlay_grid.union(below, "", grid=0.1) == want
     forms = "polygon((+1E1 0,20.  0,2e+1 1e1,10.0 0))"
     assert overlay_grid.union(forms, "", grid=10) == "MULTIPOLYGON (((10 0, 20 0, 20 10, 10 0)))\n"
     small = "POLYGON ((0 0, 1 0, 0 1, 0 0))"

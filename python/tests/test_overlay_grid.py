@@ -147,6 +147,7 @@ def test_limit_of_segments(word, segments):
 def test_more_segments():
     many = (SQUARE + " ") * 262145
     assert overlay_grid.union(many, "", segments=1048580) == overlay_grid.union(SQUARE, "")
+    assert overlay_grid.union(many, "", grid=1) == overlay_grid.union(SQUARE, "")
 
 
 def test_longer_texts_where_more_segments_are_said():
