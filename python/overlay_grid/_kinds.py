@@ -15,7 +15,7 @@ from . import _wkb
 from ._calls import bytes_of
 from ._faults import GeometryError, Refused
 from ._grid import WHOLE, Frame
-from ._optional import module
+from ._optional import loaded, module
 from ._shapes import POINT, Builder, Placed, Polygons, Shapes, found_in, is_closed, text_of
 from ._texts import Text, placed
 
@@ -97,20 +97,22 @@ class Given(NamedTuple):
 
 def is_geometry(value: Any) -> bool:
     """Whether a value is one of Shapely's geometries; where nobody imported Shapely there are none."""
-    base = sys.modules.get("shapely.geometry.base")
-    return base is not None and isinstance(value, base.BaseGeometry)
+    base = loaded("shapely.geometry.base", "BaseGeometry")
+    return base is not None and isinstance(value, base)
 
 
 def is_array(value: Any) -> bool:
     """Whether a value is an array of numpy's, or like one."""
-    numpy = sys.modules.get("numpy")
-    return numpy is not None and isinstance(value, numpy.ndarray) or hasattr(value, "__array_interface__") and hasattr(value, "dtype")
+    array = loaded("numpy", "ndarray")
+    if array is not None and isinstance(value, array):
+        return True
+    return hasattr(value, "__array_interface__") and hasattr(value, "dtype")
 
 
 def is_masked(array: Any) -> bool:
     """Whether numbers of an array are masked, so that they have no value."""
-    numpy = sys.modules.get("numpy")
-    return numpy is not None and bool(numpy.ma.is_masked(array))
+    masked = loaded("numpy", "ma")
+    return masked is not None and bool(masked.is_masked(array))
 
 
 def has_points(value: Any) -> bool:

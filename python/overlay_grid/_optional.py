@@ -13,8 +13,14 @@ IMPORTED = 1 << 16
 
 
 def module(name: str) -> Any:
-    """A package, which is there."""
-    return sys.modules.get(name) or importlib.import_module(name)
+    """A package, which is there; where another thread is importing it, that is waited for."""
+    return importlib.import_module(name)
+
+
+def loaded(name: str, word: str) -> Any:
+    """What an imported package has by a name; nothing where nobody imported it, or another thread
+    is doing so and hasn't come that far."""
+    return getattr(sys.modules.get(name), word, None)
 
 
 @lru_cache(maxsize=None)
@@ -30,4 +36,4 @@ def numpy_for(count: int) -> Any:
     """numpy for work on so many numbers, or nothing where these are few or it isn't there."""
     if count < MANY:
         return None
-    return sys.modules.get("numpy") or (numpy() if count >= IMPORTED else None)
+    return numpy() if count >= IMPORTED or "numpy" in sys.modules else None

@@ -403,6 +403,35 @@ def test_nothing_else_is_imported():
     assert subprocess.run([sys.executable, "-c", code], capture_output=True, text=True, check=True).stdout == "[]\n"
 
 
+WHILE_IMPORTED = """
+import sys, threading, overlay_grid
+squares, want, faults = [{a!r}] * 60, {a!r}, []
+ended = threading.Event()
+
+def work():
+    while not ended.is_set():
+        try:
+            assert overlay_grid.union(squares, squares, grid=0.1) == want
+        except Exception as fault:
+            faults.append(fault)
+
+thread = threading.Thread(target=work)
+thread.start()
+import {name}
+ended.set()
+thread.join()
+sys.exit(str(faults[0]) if faults else 0)
+"""
+
+
+@pytest.mark.parametrize("name", ["numpy", "shapely.geometry"])
+def test_calls_while_another_thread_imports(name):
+    """A package that isn't whole yet is waited for, or isn't asked for what it hasn't."""
+    pytest.importorskip(name)
+    code = WHILE_IMPORTED.format(a=wkb_of(multi(A)), name=name)
+    assert subprocess.run([sys.executable, "-c", code], capture_output=True, text=True).stderr == ""
+
+
 def rings_of(numpy, text):
     return [tuple(numpy.array(ring) for ring in polygon) for polygon in points_of(text)]
 
