@@ -266,5 +266,5 @@ def no_room_for(reach: float, box: Box) -> str:
 def finest_for(box: Box) -> Decimal:
     """The least of 1, 2 and 5 times a power of ten whose grid has room for a box."""
     extent = max(Fraction(box.right) - Fraction(box.left), Fraction(box.high) - Fraction(box.low))
-    units = (Decimal(f"{factor}e{power}") for power in count(-9) for factor in (1, 2, 5))
+    units = (Decimal(f"{factor}e{power}") for power in count(-DIGITS) for factor in (1, 2, 5))
     return next(unit for unit in units if extent <= (2 * LIMIT - 2) * Fraction(unit))

@@ -94,6 +94,9 @@ def test_limits():
         assert not _grid.frame_for(1, _grid.Box(left, 0.0, left + 2.0**29 + 1, 1.0)).fits(_grid.Box(left, 0.0, left + 2.0**29 + 1, 1.0))
     assert str(_grid.finest_for(_grid.Box(0.0, 0.0, 536870.0, 1.0))) == "0.001"
     assert str(_grid.finest_for(_grid.Box(0.0, 0.0, 536871.0, 1.0))) == "0.002"
+    assert _grid.finest_for(_grid.Box(0.0, 0.0, 0.02, 0.01)) == Decimal("5e-11")
+    assert _grid.finest_for(_grid.Box(0.0, 0.0, 1e-300, 0.0)) == Decimal("2e-309")
+    assert _grid.finest_for(_grid.Box(-1.7e308, 0.0, 1.7e308, 0.0)) == Decimal("1e300")
 
 
 def test_units():
