@@ -77,7 +77,8 @@ __version__ = "1.0.0"
 for _public in (Edge, GeometryError, Operation, OutOfMemory, Refusal, Refused):
     _public.__module__ = __name__
 
-# A layer's text, and the answer's: str, or bytes and what has a buffer of bytes. Bytes may be WKB, too.
+# A layer's text, and the answer's: str, or bytes and what has a buffer of bytes. Bytes may be WKB,
+# too, whose edges and faces are others than those of texts, so that their types tell of str alone.
 Text = TypeVar("Text", str, bytes)
 
 
@@ -387,14 +388,14 @@ def symdifference(
 
 @overload
 def edges(
-    a: Text,
+    a: str,
     b: Union[str, bytes],
     side: Optional[int] = None,
     segments: Optional[int] = None,
     *,
     grid: Optional[Unit] = None,
     origin: Optional[Origin] = None,
-) -> Text: ...
+) -> str: ...
 
 
 @overload
@@ -464,7 +465,12 @@ def faces_text(a: Text, *more: Union[str, bytes], side: Optional[int] = None, se
 
 
 @overload
-def faces(a: Union[str, bytes], *more: Union[str, bytes], side: Optional[int] = None, segments: Optional[int] = None) -> List[Row]: ...
+def faces(
+    a: str,
+    *more: str,
+    side: Optional[int] = None,
+    segments: Optional[int] = None,
+) -> List[Row]: ...
 
 
 @overload

@@ -5,14 +5,32 @@ from __future__ import annotations
 from decimal import Decimal
 from typing import Optional
 
-from overlay_grid import GeometryError, Operation, Refusal, Refused, Row, dissolve, edges, faces, faces_text, overlay, pairs, union
+from overlay_grid import (
+    Edge,
+    Face,
+    GeometryError,
+    Operation,
+    Refusal,
+    Refused,
+    Row,
+    dissolve,
+    edges,
+    faces,
+    faces_text,
+    overlay,
+    pairs,
+    union,
+)
 
 line: str = union("", b"")
 same: bytes = union(b"", "", side=16, segments=10_000_000)
 rows: str = edges("", "")
 lines: bytes = faces_text(b"", "", b"", side=16)
 one_layer: str = faces_text("")
-found: list[Row] = faces("", b"", "", segments=7)
+found: list[Row] = faces("", "", "", segments=7)
+of_bytes: list[Row] = faces("", b"", segments=7)
+of_wkb: list[Face] = faces(b"", b"")
+ends_of_wkb: list[Edge] = edges(b"", b"")
 areas: list[int] = [row.twice_area for row in found]
 ids: list[tuple[tuple[int, ...], ...]] = [row.ids for row in found]
 wkt: list[str] = [row.wkt for row in found]
@@ -58,6 +76,8 @@ no_operation = overlay("union", "", "")  # type: ignore[call-overload]
 no_layer = union("", None)  # type: ignore[call-overload]
 not_a_str: str = faces_text(b"")  # type: ignore[assignment]
 none_of_them = faces()  # type: ignore[call-overload]
+not_faces: list[Face] = faces("", "")  # type: ignore[assignment]
+no_edges: list[Edge] = edges("", b"")  # type: ignore[assignment]
 not_one: bytes = pairs("union", [b""], b"")  # type: ignore[assignment]
 no_pairs = pairs(1, [b""], [b""])  # type: ignore[call-overload]
 no_unit = union("", "", grid=[1])  # type: ignore[call-overload]
