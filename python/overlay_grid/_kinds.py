@@ -166,8 +166,10 @@ def given(layer: Any, name: str) -> Given:
 
 
 def systems_of(layer: Any) -> Tuple[Any, ...]:
-    """The reference system of a frame or a series, which is None where it has none; nothing of other lists."""
-    return (layer.crs,) if has_system(layer) else ()
+    """The reference system of a frame or a series, which is None where it has none; nothing of
+    other lists. A table or a series of pandas may have geometries whose array has a system."""
+    held = layer if has_system(layer) else getattr(getattr(layer, "geometry", layer), "array", None)
+    return (held.crs,) if has_system(held) else ()
 
 
 def has_system(layer: Any) -> bool:

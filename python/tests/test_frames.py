@@ -215,7 +215,16 @@ def test_units():
         assert len(overlay_grid.overlay(fine, other)) == 0
 
 
-@pytest.mark.parametrize("layer", [lambda df: df, lambda df: df.geometry, lambda df: df.geometry.values], ids=["frame", "series", "array"])
+LAYERS = {
+    "frame": lambda df: df,
+    "series": lambda df: df.geometry,
+    "array": lambda df: df.geometry.values,
+    "table": pandas.DataFrame,
+    "column": lambda df: pandas.DataFrame(df)["geometry"],
+}
+
+
+@pytest.mark.parametrize("layer", LAYERS.values(), ids=LAYERS)
 def test_units_of_degrees(layer):
     """Frames and series in degrees have a finer unit by themselves in all calls, and where only one of two tells its system."""
     fine = geopandas.GeoDataFrame({"a": [1]}, geometry=[box(0, 0, 0.0004, 1)], crs="EPSG:4326")
