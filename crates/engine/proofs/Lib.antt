@@ -45,3 +45,4 @@ pub mod OnePairsRefusal
 pub mod BoundedRows
 pub mod FaceColumns
 pub mod OneFaceColumns
+pub mod Measuring

@@ -31,32 +31,28 @@ pub written : {M : Type 0} (limit : ℕ) (wanted : Wanted) (plan : Plan) (a b : 
 written limit Edges plan a b counted text report h reports = record { counted = counted; text_is = h; reports = reports }
 written limit (Apply op) plan a b counted text report h reports = record { counted = counted; result = h; reports = reports }
 
-pub reports_for : {M : Type 0} (limit : ℕ) (wanted : Wanted) (plan : Plan) (a b : List ℕ) (m n : ℕ) (g : Tiling) (counted : List Counted) (tiles : List TileNumbers) (remade : ℕ)
+pub reports_on : {M : Type 0} (limit : ℕ) (plan : Plan) (a b : List ℕ) (m n : ℕ) (g : Tiling) (counted : List Counted) (tiles : List TileNumbers) (remade : ℕ)
     → ∥ IsCheckedWithin limit plan a b m n g ∥₁ → AreRoundedOver a b g counted tiles → IsRemade remade → (r : Result (Report M) NoMemory)
     → IfOk r (λ t. t.segments_a ≡ m) → IfOk r (λ t. t.segments_b ≡ n) → IfOk r (λ t. t.edges ≡ length counted) → IfOk r (λ t. TellsTiles tiles t.hot t.records t.tiles.items) → IfOk r (λ t. t.remade ≡ remade)
-    → IfOk r (λ t. (text : List ℕ) → IsWantedText wanted counted text → IsWrittenWithin limit wanted plan a b text t)
-reports_for limit wanted plan a b m n g counted tiles remade known rounded is (Ok t) in_a in_b edges told made =
-    λ text h. written limit wanted plan a b counted text t h (reported limit plan a b m n g counted tiles t known rounded in_a in_b edges told (rw made is))
-reports_for limit wanted plan a b m n g counted tiles remade known rounded is (Err f) in_a in_b edges told made = tt
+    → IfOk r (ReportsWithin limit plan a b counted)
+reports_on limit plan a b m n g counted tiles remade known rounded is (Ok t) in_a in_b edges told made = reported limit plan a b m n g counted tiles t known rounded in_a in_b edges told (rw made is)
+reports_on limit plan a b m n g counted tiles remade known rounded is (Err f) in_a in_b edges told made = tt
 
 -- of the layers, the plan and the limits that were checked
-module _ {X M : Type 0} (text_of : X → List ℕ) (report_of : X → Report M) where
-  abbrev IsMade : Limits → Wanted → Plan → List ℕ → List ℕ → X → Type 0
-  IsMade limits wanted plan a b made = IsWrittenWithin limits.segments wanted plan a b (text_of made) (report_of made)
+module _ {X : Type 0} (IsMade : Limits → Plan → List ℕ → List ℕ → X → Type 0) where
+  pub checked_made : (limits checked : Limits) (plan other : Plan) (a b a' b' : List ℕ) (made : X)
+      → (other ≡ plan) × (checked ≡ limits) × (a' ≡ a) × (b' ≡ b) → IsMade checked other a' b' made → IsMade limits plan a b made
+  checked_made limits checked plan other a b a' b' made e h =
+      subst (λ (p : Plan). IsMade limits p a b made) e.0 (subst (λ (l : Limits). IsMade l other a b made) e.1
+      (subst (λ (t : List ℕ). IsMade checked other t b made) e.2 (subst (λ (t : List ℕ). IsMade checked other a' t made) e.3 h)))
 
-  pub checked_made : (limits checked : Limits) (wanted : Wanted) (plan other : Plan) (a b a' b' : List ℕ) (made : X)
-      → (other ≡ plan) × (checked ≡ limits) × (a' ≡ a) × (b' ≡ b) → IsMade checked wanted other a' b' made → IsMade limits wanted plan a b made
-  checked_made limits checked wanted plan other a b a' b' made e h =
-      subst (λ (p : Plan). IsMade limits wanted p a b made) e.0 (subst (λ (l : Limits). IsMade l wanted other a b made) e.1
-      (subst (λ (t : List ℕ). IsMade checked wanted other t b made) e.2 (subst (λ (t : List ℕ). IsMade checked wanted other a' t made) e.3 h)))
-
-  pub ends : (limits checked : Limits) (wanted : Wanted) (plan other : Plan) (a b a' b' : List ℕ) (r : Result X NoMemory) (answer : Result X RunFault)
-      → (other ≡ plan) × (checked ≡ limits) × (a' ≡ a) × (b' ≡ b) → MayRunWithin limits.segments plan a b → IfOk r (IsMade checked wanted other a' b')
+  pub ends : (limits checked : Limits) (plan other : Plan) (a b a' b' : List ℕ) (r : Result X NoMemory) (answer : Result X RunFault)
+      → (other ≡ plan) × (checked ≡ limits) × (a' ≡ a) × (b' ≡ b) → MayRunWithin limits.segments plan a b → IfOk r (IsMade checked other a' b')
       → MatchResult answer (λ m. r ≡ Ok m) (λ f. (f.at ≡ Run) × (f.fault ≡ Memory))
-      → MatchResult answer (IsMade limits wanted plan a b) (λ f. DeclinesWithin limits.segments plan a b f.at f.fault)
-  ends limits checked wanted plan other a b a' b' r (Ok made) e may h is =
-      checked_made limits checked wanted plan other a b a' b' made e (subst (λ (t : Result X NoMemory). IfOk t (IsMade checked wanted other a' b')) is h)
-  ends limits checked wanted plan other a b a' b' r (Err f) e may h is = subst (λ (fault : Fault). DeclinesWithin limits.segments plan a b f.at fault) (sym is.1) (is.0, may)
+      → MatchResult answer (IsMade limits plan a b) (λ f. DeclinesWithin limits.segments plan a b f.at f.fault)
+  ends limits checked plan other a b a' b' r (Ok made) e may h is =
+      checked_made limits checked plan other a b a' b' made e (subst (λ (t : Result X NoMemory). IfOk t (IsMade checked other a' b')) is h)
+  ends limits checked plan other a b a' b' r (Err f) e may h is = subst (λ (fault : Fault). DeclinesWithin limits.segments plan a b f.at fault) (sym is.1) (is.0, may)
 
 -- ---- how a call without a sink ends
 pub memory_declines : (limit : ℕ) (plan : Plan) (a b : List ℕ) (part : Part) (f : Fault) → MayRunWithin limit plan a b → (part ≡ Run) × (f ≡ Memory) → DeclinesWithin limit plan a b part f
@@ -93,7 +89,7 @@ refused_declines limit plan a b part (NotNoded e f) r = r
 refused_declines limit plan a b part Write r = r
 
 -- ---- how a call with a sink ends
-pub stops : {S M : Type 0} (limit : ℕ) (state : S → SinkState) (old : S) (plan : Plan) (a b : List ℕ) (IsAnswer : List ℕ → Report M → Type 0) (part : Part) (f : Fault)
+pub stops : {S R : Type 0} (limit : ℕ) (state : S → SinkState) (old : S) (plan : Plan) (a b : List ℕ) (IsAnswer : List ℕ → R → Type 0) (part : Part) (f : Fault)
     → DeclinesWithin limit plan a b part f → StopsWithin limit state old old plan a b IsAnswer part f
 stops limit state old plan a b IsAnswer part Write r = absurd (never_write limit plan a b part Write r refl)
 stops limit state old plan a b IsAnswer part Memory (at, may) = (at, may, refl)

@@ -1,5 +1,5 @@
 -- What a call for an operation on two layers that are columns promises: its columns and report, and what it is refused for (own).
-use Rattle.std.specs.Prelude.{ℕ, List}
+use Rattle.std.specs.Prelude.{◌≡◌, ℕ, List}
 use Rattle.geom.specs.declared.edge.Counted.{Counted}
 use Rattle.geom.specs.declared.fault.Fault.TheVariants.{Memory}
 use Rattle.geom.specs.declared.op.Op.{Op}
@@ -23,6 +23,10 @@ pub record AreColumnsMade {M : Type 0} (limit : ℕ) (op : Op) (plan : Plan) (a 
   pub polygons : List Shape
   pub result : IsResult op counted polygons
   pub columns : AreColumnsOf polygons made.columns
+
+-- an answer by these rounded edges and polygons
+abbrev pub AreColumnsOver : {M : Type 0} → ℕ → Op → Plan → Columns → Columns → List Counted → List Shape → ColumnsOutput M → Type 0
+AreColumnsOver limit op plan a b counted polygons made = (answer : AreColumnsMade limit op plan a b made) × (answer.counted ≡ counted) × (answer.polygons ≡ polygons)
 
 -- a refusal
 abbrev pub DeclinesColumns : ℕ → Plan → Columns → Columns → ColumnsRefused → Type 0

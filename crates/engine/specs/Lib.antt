@@ -12,8 +12,10 @@ pub mod CoveredResults
 pub mod CoveredRuns
 pub mod RingLayers
 pub mod ColumnsRuns
+pub mod Measures
 pub mod ColumnsLaws
 pub mod ColumnsPairs
 pub mod BoundedRows
 pub mod FaceColumns
 pub mod FaceColumnsLaws
+pub mod MeasuresText

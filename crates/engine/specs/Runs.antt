@@ -43,28 +43,28 @@ Delivers old new made r =
     MatchResult r (λ report. (report ≡ made.report) × SentAll old new made.text) (λ f. (f.at ≡ Run) × (f.fault ≡ Write) × SentPart old new made.text)
 
 -- an answer: the sink took the text that goes with the report, and is settled
-pub record AnswersWithin {M : Type 0} (limit : ℕ) (old new : SinkState) (plan : Plan) (a b : List ℕ) (IsAnswer : List ℕ → Report M → Type 0) (report : Report M) : Type 0 where
+pub record AnswersWithin {R : Type 0} (limit : ℕ) (old new : SinkState) (plan : Plan) (a b : List ℕ) (IsAnswer : List ℕ → R → Type 0) (report : R) : Type 0 where
   pub may : MayRunWithin limit plan a b
   pub text : List ℕ
   pub is_answer : IsAnswer text report
   pub sent : SentAll old new text
 
 -- the sink failed, and had taken a beginning of the text of an answer
-pub record FailedToSendWithin {M : Type 0} (limit : ℕ) (old new : SinkState) (plan : Plan) (a b : List ℕ) (IsAnswer : List ℕ → Report M → Type 0) : Type 0 where
+pub record FailedToSendWithin {R : Type 0} (limit : ℕ) (old new : SinkState) (plan : Plan) (a b : List ℕ) (IsAnswer : List ℕ → R → Type 0) : Type 0 where
   pub may : MayRunWithin limit plan a b
   pub text : List ℕ
-  pub report : Report M
+  pub report : R
   pub is_answer : IsAnswer text report
   pub sent : SentPart old new text
 
 -- a refusal: where the sink failed, it took a beginning; otherwise it is as before
-abbrev pub StopsWithin : {S M : Type 0} → ℕ → (S → SinkState) → S → S → Plan → List ℕ → List ℕ → (List ℕ → Report M → Type 0) → Part → Fault → Type 0
+abbrev pub StopsWithin : {S R : Type 0} → ℕ → (S → SinkState) → S → S → Plan → List ℕ → List ℕ → (List ℕ → R → Type 0) → Part → Fault → Type 0
 StopsWithin limit state old new plan a b IsAnswer part Write = (part ≡ Run) × FailedToSendWithin limit (state old) (state new) plan a b IsAnswer
 StopsWithin limit state old new plan a b IsAnswer part Memory = (part ≡ Run) × MayRunWithin limit plan a b × (new ≡ old)
 StopsWithin limit state old new plan a b IsAnswer part fault = IsRefusedAtWithin limit plan a b part fault × (new ≡ old)
 
 -- a run on two layers, whose answers are these
-abbrev pub RunsWithin : {S M : Type 0} → ℕ → (S → SinkState) → S → S → Plan → List ℕ → List ℕ → (List ℕ → Report M → Type 0) → Result (Report M) RunFault → Type 0
+abbrev pub RunsWithin : {S R : Type 0} → ℕ → (S → SinkState) → S → S → Plan → List ℕ → List ℕ → (List ℕ → R → Type 0) → Result R RunFault → Type 0
 RunsWithin limit state old new plan a b IsAnswer r =
     MatchResult r (λ report. AnswersWithin limit (state old) (state new) plan a b IsAnswer report) (λ f. StopsWithin limit state old new plan a b IsAnswer f.at f.fault)
 
@@ -85,7 +85,7 @@ Reports plan a b counted report = ReportsWithin segment_limit plan a b counted r
 abbrev pub AreEdgesWritten : {M : Type 0} → Plan → List ℕ → List ℕ → List ℕ → Report M → Type 0
 AreEdgesWritten plan a b text report = AreEdgesWrittenWithin segment_limit plan a b text report
 
-abbrev pub Runs : {S M : Type 0} → (S → SinkState) → S → S → Plan → List ℕ → List ℕ → (List ℕ → Report M → Type 0) → Result (Report M) RunFault → Type 0
+abbrev pub Runs : {S R : Type 0} → (S → SinkState) → S → S → Plan → List ℕ → List ℕ → (List ℕ → R → Type 0) → Result R RunFault → Type 0
 Runs state old new plan a b IsAnswer r = RunsWithin segment_limit state old new plan a b IsAnswer r
 
 abbrev pub Declines : Plan → List ℕ → List ℕ → Part → Fault → Type 0

@@ -122,12 +122,12 @@ fn by_one<A: Allocator + Copy>(
 {
     let noded = rounded_alone(alloc, checked, read_a, read_b)?;
     let text = text_of(alloc, wanted, &noded.edges)?;
-    let report = report_for(alloc, wanted, checked, &noded)?;
+    let report = report_for(alloc, checked, &noded)?;
     Ok(Output { text, report })
 }
 
 /// The rounded edges of two layers, with the numbers of the tiles.
-fn rounded_alone<A: Allocator + Copy>(
+pub(crate) fn rounded_alone<A: Allocator + Copy>(
     alloc: A,
     checked: &CheckedInput<'_, '_>,
     read_a: Reading<A>,

@@ -55,7 +55,7 @@ fn columns_by_one<A: Allocator + Copy>(
 }
 
 /// The rounded edges of two layers, with the numbers of the tiles.
-fn columns_rounded_alone<A: Allocator + Copy>(
+pub(crate) fn columns_rounded_alone<A: Allocator + Copy>(
     alloc: A,
     a: &Columns<'_>,
     b: &Columns<'_>,

@@ -3,7 +3,7 @@
 ghost use Rattle.std.specs.Prelude.{◌≡◌, ◌≤◌, IfOk, MatchResult, length};
 ghost use Rattle.columns.specs.declared.layout.Columns.{Columns};
 ghost use Rattle.geom.specs.declared.op.Op.{Op};
-ghost use Rattle.engine.specs.ColumnsRuns.{AreColumnsMade};
+ghost use Rattle.engine.specs.ColumnsRuns.{AreColumnsOver};
 ghost use Rattle.layers.specs.ColumnsRefusals.{IsCheckOf, rings_of};
 ghost use Rattle.results.specs.Results.{IsResult};
 ghost use Rattle.engine.specs.RingLayers.{AreRingsRounded};
@@ -33,7 +33,7 @@ pub(crate) fn output_of<A: Allocator + Copy>(
     polygons: &[Polygon<A>],
 ) -> Result<ColumnsOutput<A>, NoMemory>
     requires { length noded.now.tiles.items ≤ MOST_TILES }
-    ensures made { (op : Op) (a b : Columns) → IsCheckOf a b checked.now → AreRingsRounded (rings_of a) (rings_of b) checked.now.grid noded.now.edges.items noded.now.tiles.items → IsRemade noded.now.remade → IsResult op noded.now.edges.items polygons.now → IfOk result (AreColumnsMade checked.now.limits.segments op checked.now.plan a b) }
+    ensures made { (op : Op) (a b : Columns) → IsCheckOf a b checked.now → AreRingsRounded (rings_of a) (rings_of b) checked.now.grid noded.now.edges.items noded.now.tiles.items → IsRemade noded.now.remade → IsResult op noded.now.edges.items polygons.now → IfOk result (AreColumnsOver checked.now.limits.segments op checked.now.plan a b noded.now.edges.items polygons.now) }
     ensures remade { IfOk result (λ m. m.report.remade ≡ noded.now.remade) }
 {
     let columns = columns_of(alloc, polygons)?;

@@ -10,7 +10,7 @@ ghost use Rattle.std.specs.Prelude.{◌≡◌, ◌<◌, ℕ, IfOk, List, MatchRe
 ghost use Rattle.engine.specs.Results.{IsResultWritten, IsResultWrittenWithin, IsWrittenWithin};
 ghost use Rattle.results.specs.Results.{IsWantedText};
 ghost use Rattle.engine.specs.Rounds.{AreRoundedOver, IsRemade};
-ghost use Rattle.engine.specs.Runs.{AreEdgesWritten, AreEdgesWrittenWithin, DeclinesWithin, Delivers, Runs, RunsWithin};
+ghost use Rattle.engine.specs.Runs.{AreEdgesWritten, AreEdgesWrittenWithin, DeclinesWithin, Delivers, ReportsWithin, Runs, RunsWithin};
 
 use crate::rounds::{report_of, rounded_layers};
 use geom::{Fault, NoMemory, Op, Part, RunFault};
@@ -143,20 +143,19 @@ fn made<A: Allocator + Copy + Send + Sync, G: Gate + Sync, R: Threads + Wait + S
     };
     let noded = or_fault(rounded_layers(rt, alloc, &checked, read_a, read_b, gate))?;
     let text = or_fault(text_by_workers(rt, alloc, plan.workers, wanted, &noded.edges))?;
-    let report = or_fault(report_for(alloc, wanted, &checked, &noded))?;
+    let report = or_fault(report_for(alloc, &checked, &noded))?;
     Ok(MadeInParts { text, report })
 }
 
-/// The report that goes with the text that is wanted of two layers, by their rounded edges.
+/// The report on two layers that were checked, by their rounded edges.
 pub(crate) fn report_for<A: Allocator + Copy>(
     alloc: A,
-    wanted: Wanted,
     checked: &CheckedInput<'_, '_>,
     noded: &Noded<A>,
 ) -> Result<Report<A>, NoMemory>
     requires rounded { AreRoundedOver checked.now.a.now checked.now.b.now checked.now.grid noded.now.edges.items noded.now.tiles.items }
     requires remade { IsRemade noded.now.remade }
-    ensures written { IfOk result (λ r. (text : List ℕ) → IsWantedText wanted noded.now.edges.items text → IsWrittenWithin checked.now.limits.segments wanted checked.now.plan checked.now.a.now checked.now.b.now text r) }
+    ensures reports { IfOk result (ReportsWithin checked.now.limits.segments checked.now.plan checked.now.a.now checked.now.b.now noded.now.edges.items) }
     ensures remade { IfOk result (λ r. r.remade ≡ noded.now.remade) }
 {
     report_of(alloc, checked.segments_a, checked.segments_b, noded)
@@ -176,7 +175,10 @@ pub(crate) fn or_fault<M>(made: Result<M, NoMemory>) -> Result<M, RunFault>
 }
 
 /// Sends a text whole, and answers its report.
-fn send<A: Allocator, S: Sink>(made: MadeInParts<A>, sink: &mut S) -> Result<Report<A>, RunFault>
+pub(crate) fn send<A: Allocator, S: Sink>(
+    made: MadeInParts<A>,
+    sink: &mut S,
+) -> Result<Report<A>, RunFault>
     requires { (S.state sink.old).failed < u64.MAX }
     ensures { Delivers (S.state sink.old) (S.state sink.new) made result }
 {

@@ -14,6 +14,7 @@ ghost use Rattle.engine.specs.CoveredRuns.{CoveredTextIsOneWithin};
 ghost use Rattle.engine.specs.FaceColumnsLaws.{FaceColumnsAreOne, FaceColumnsRefusalIsOne, FacesAreByColumns, RefusedFaceColumnsAreNotMade, RefusedMayNotRoundColumns};
 ghost use Rattle.engine.specs.Faces.{FacesRefusalIsOne, FacesTextIsOneWithin, RefusedAreNotWritten, RefusedMayNotRound, WrittenFacesTell};
 ghost use Rattle.engine.specs.Counting.{CountsAreExact, CountsAreExactWithin};
+ghost use Rattle.engine.specs.Measures.{LayerAreaTells, MeasuresAreOne};
 
 use grid::{DEFAULT_SIDE, GREATEST_SIDE, LEAST_SIDE};
 use layers::MOST_LAYERS;
@@ -63,6 +64,16 @@ pub fn run_is_by_columns<A: Allocator, B: Allocator>()
 /// The polygons of each pair of features are those of `run_columns_within` on layers with the rings of just these two features.
 pub fn pair_is_by_columns<A: Allocator, B: Allocator>()
     ensures { PairIsByColumns A B }
+{}
+
+/// The measures of both layers and of a result are determined by the operation and the two layers.
+pub fn measures_are_one<A: Allocator, B: Allocator>()
+    ensures { MeasuresAreOne A B }
+{}
+
+/// The area that is measured of a layer is that of the points where its parity is odd.
+pub fn measures_tell()
+    ensures { LayerAreaTells }
 {}
 
 /// A plan and two layers of columns are refused for one reason, or for none where they are answered.

@@ -17,8 +17,8 @@ mod text;
 mod text_parts;
 
 pub use operation::{
-    Wanted, line_along, line_by_workers, result_polygons, result_polygons_by_workers, result_text,
-    text_by_workers, text_of,
+    Wanted, line_along, line_by_workers, polygons_along, result_polygons,
+    result_polygons_by_workers, result_text, text_by_workers, text_of,
 };
 pub use sink::{MemSink, Sink, SinkFault, write_all, write_parts};
 pub use text::{Report, push_line, push_number, push_tile, report_text};

@@ -124,7 +124,7 @@ pub fn result_polygons_by_workers<A: Allocator + Copy + Send + Sync, R: Threads 
 }
 
 /// The polygons of the result that these directed edges bound.
-fn polygons_along<A: Allocator + Copy>(
+pub fn polygons_along<A: Allocator + Copy>(
     alloc: A,
     directed: &Directed<A>,
 ) -> Result<Vec<Polygon<A>, A>, NoMemory>

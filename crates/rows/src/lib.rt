@@ -24,6 +24,7 @@ mod parts;
 mod row_columns;
 mod runs;
 
+pub use area::twice_area;
 pub use edges::RowEdge;
 pub use grouped::{RowEdges, count_ids, row_edges};
 pub use number_lists::NumberLists;

@@ -1,4 +1,4 @@
-use Rattle.std.proofs.Common.{◌≡◌, ◌∙◌, ap, arith, length, refl}
+use Rattle.std.proofs.Common.{◌∙◌, ap, arith, length, refl}
 use Rattle.std.proofs.lemmas.List.{length_push}
 use Rattle.engine.proofs.InTurn.{in_order_more, in_order_none}
 use Rattle.engine.proofs.alone.in_turn.Goals as goal

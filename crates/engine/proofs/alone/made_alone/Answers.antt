@@ -1,4 +1,5 @@
 use Rattle.std.proofs.Common.{◌≡◌}
+use Rattle.engine.specs.Results.{IsWrittenWithin}
 use Rattle.engine.specs.Runs.{alone}
 use Rattle.engine.proofs.Remade.{made_known}
 use Rattle.std.proofs.lemmas.Result.{err_from_is_err_and}
@@ -9,7 +10,7 @@ pub returns-in-Ok-clause-answer : goal.returns-in-Ok-clause-answer
 returns-in-Ok-clause-answer g c =
     let h = c.in-Ok.ensures in
     let now = c.in-Ok.checked in
-    ends (λ m. m.text.items) (λ m. m.report) c.args.limits now.limits c.args.wanted (alone c.args.side) now.plan c.args.a.now c.args.b.now now.a.now now.b.now c.by_one.result c.or_fault.result h.same h.answer c.by_one.ensures.written c.or_fault.ensures
+    ends (λ l p a b m. IsWrittenWithin l.segments c.args.wanted p a b m.text.items m.report) c.args.limits now.limits (alone c.args.side) now.plan c.args.a.now c.args.b.now now.a.now now.b.now c.by_one.result c.or_fault.result h.same h.answer c.by_one.ensures.written c.or_fault.ensures
 
 pub returns-in-Err-clause-answer : goal.returns-in-Err-clause-answer
 returns-in-Err-clause-answer g c = refused_declines c.args.limits.segments (alone c.args.side) c.args.a.now c.args.b.now c.in-Err.fault.at c.in-Err.fault.fault c.in-Err.ensures.answer

@@ -24,7 +24,8 @@ returns-clause-made g c =
     let polygons = c.in_ok-polygons.polygons.items in
     let on_edges = subst (λ (cs : List Counted). IsResult c.args.op cs polygons) c.deref.ensures.value c.in_ok-polygons.ensures in
     let result = subst (λ (ps : List Shape). IsResult c.args.op noded.edges.items ps) (sym c.deref-2.ensures.value) on_edges in
-    c.output_of.ensures.made c.args.op c.args.a.now c.args.b.now c.requires c.in_ok-noded.ensures.rounded (subst (λ (n : ℕ). IsRemade n) (sym c.in_ok-noded.ensures.none_remade) (omega arith)) result
+    IfOk-weaker c.output_of.result _ _ (λ m h. h.0)
+    (c.output_of.ensures.made c.args.op c.args.a.now c.args.b.now c.requires c.in_ok-noded.ensures.rounded (subst (λ (n : ℕ). IsRemade n) (sym c.in_ok-noded.ensures.none_remade) (omega arith)) result)
 
 pub returns-clause-none_remade : goal.returns-clause-none_remade
 returns-clause-none_remade g c = IfOk-weaker c.output_of.result _ (λ m. m.report.remade ≡ 0) (λ m e. e ∙ c.in_ok-noded.ensures.none_remade) c.output_of.ensures.remade

@@ -1,4 +1,5 @@
 use Rattle.std.proofs.Common.{◌≡◌}
+use Rattle.engine.specs.ColumnsRuns.{AreColumnsMade}
 use Rattle.engine.specs.Runs.{alone}
 use Rattle.engine.proofs.ColumnsRunning.{ends, refused_declines}
 use Rattle.engine.proofs.Remade.{made_known}
@@ -6,7 +7,7 @@ use Rattle.engine.proofs.columns_alone.run_columns_alone_within.Goals as goal
 
 pub returns-in-Ok-clause-answer : goal.returns-in-Ok-clause-answer
 returns-in-Ok-clause-answer g c =
-    ends c.args.limits c.args.op (alone c.args.side) c.args.a.now c.args.b.now c.in-Ok.checked c.columns_by_one.result c.or_refused.result c.in-Ok.ensures.same c.in-Ok.ensures.answer
+    ends (λ limit p made. AreColumnsMade limit c.args.op p c.args.a.now c.args.b.now made) c.args.limits (alone c.args.side) c.args.a.now c.args.b.now c.in-Ok.checked c.columns_by_one.result c.or_refused.result c.in-Ok.ensures.same c.in-Ok.ensures.answer
     c.columns_by_one.ensures.made c.or_refused.ensures
 
 pub returns-in-Err-clause-answer : goal.returns-in-Err-clause-answer

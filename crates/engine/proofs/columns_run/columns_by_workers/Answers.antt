@@ -1,4 +1,5 @@
 use Rattle.std.proofs.Common.{List, arith, subst, sym}
+use Rattle.std.proofs.lemmas.Result.{IfOk-weaker}
 use Rattle.geom.specs.Canonical.{Shape}
 use Rattle.geom.specs.declared.edge.Counted.{Counted}
 use Rattle.points_law.specs.Law.{AreLayers}
@@ -22,4 +23,4 @@ returns g c =
     let polygons = c.in_ok-polygons.polygons.items in
     let on_edges = subst (λ (cs : List Counted). IsResult c.args.op cs polygons) c.deref.ensures.value c.in_ok-polygons.ensures in
     let result = subst (λ (ps : List Shape). IsResult c.args.op noded.edges.items ps) (sym c.deref-2.ensures.value) on_edges in
-    c.output_of.ensures.made c.args.op c.args.a.now c.args.b.now c.requires c.in_ok-noded.ensures.rounded c.in_ok-noded.ensures.remade result
+    IfOk-weaker c.output_of.result _ _ (λ m h. h.0) (c.output_of.ensures.made c.args.op c.args.a.now c.args.b.now c.requires c.in_ok-noded.ensures.rounded c.in_ok-noded.ensures.remade result)

@@ -1,11 +1,14 @@
 use Rattle.std.proofs.Common.{ℕ, List, sym}
 use Rattle.std.proofs.lemmas.Result.{IfOk-at_ok, err_from_is_err_and}
 use Rattle.points_law.specs.Law.{AreLayers}
+use Rattle.layers.specs.declared.plan.Limits.{Limits}
+use Rattle.layers.specs.declared.plan.Plan.{Plan}
 use Rattle.results.specs.declared.text.Report.{Report}
 use Rattle.results.specs.Results.{IsWantedText}
 use Rattle.engine.specs.Results.{IsWrittenWithin}
+use Rattle.engine.specs.Runs.{ReportsWithin}
 use Rattle.results.proofs.Results.{layers_known}
-use Rattle.engine.proofs.Running.{checked_made, memory_declines, refused_declines}
+use Rattle.engine.proofs.Running.{checked_made, memory_declines, refused_declines, written}
 use Rattle.engine.proofs.engine.made.Goals as goal
 
 pub returns-in_err-check_plan : goal.returns-in_err-check_plan
@@ -45,5 +48,6 @@ returns g c =
     let now = c.in-Ok.checked in
     let edges = c.in_ok-noded.noded.edges.items in
     let text = IfOk-at_ok (λ t. IsWantedText wanted edges t) c.in_ok-text.ensures (rw (sym c.deref.ensures.value) c.text_by_workers.ensures) in
-    let report = IfOk-at_ok (λ r. (t : List ℕ) → IsWantedText wanted edges t → IsWrittenWithin now.limits.segments wanted now.plan now.a.now now.b.now t r) c.in_ok-report.ensures c.report_for.ensures.written in
-    checked_made (λ (m : List ℕ × Report g.row.A.Denot). m.0) (λ m. m.1) c.args.limits now.limits wanted c.args.plan now.plan c.args.a.now c.args.b.now now.a.now now.b.now (c.in_ok-text.text, c.in_ok-report.report) c.in-Ok.ensures.same (report c.in_ok-text.text text)
+    let reports = IfOk-at_ok (ReportsWithin now.limits.segments now.plan now.a.now now.b.now edges) c.in_ok-report.ensures c.report_for.ensures.reports in
+    checked_made (λ (l : Limits) (p : Plan) (a b : List ℕ) (m : List ℕ × Report g.row.A.Denot). IsWrittenWithin l.segments wanted p a b m.0 m.1) c.args.limits now.limits c.args.plan now.plan c.args.a.now c.args.b.now now.a.now now.b.now (c.in_ok-text.text, c.in_ok-report.report) c.in-Ok.ensures.same
+    (written now.limits.segments wanted now.plan now.a.now now.b.now edges c.in_ok-text.text c.in_ok-report.report text reports)

@@ -1,6 +1,6 @@
 use Rattle.std.proofs.Common.{arith}
 use Rattle.engine.proofs.Known.{ready_of}
-use Rattle.engine.proofs.Running.{reports_for}
+use Rattle.engine.proofs.Running.{reports_on}
 use Rattle.engine.proofs.engine.report_for.Goals as goal
 
 pub report_of-requires : goal.report_of-requires
@@ -11,9 +11,9 @@ report_of-requires g c =
     let f = (ready_of now.limits.segments now.plan now.a.now now.b.now now.segments_a now.segments_b now.grid now.are_checked rounded.segments rounded.are_segments).few_tiles in
     omega arith
 
-pub returns-clause-written : goal.returns-clause-written
-returns-clause-written g c =
+pub returns-clause-reports : goal.returns-clause-reports
+returns-clause-reports g c =
     let now = c.args.checked.now in
     let told = c.report_of.ensures in
-    reports_for now.limits.segments c.args.wanted now.plan now.a.now now.b.now now.segments_a now.segments_b now.grid c.args.noded.now.edges.items c.args.noded.now.tiles.items c.args.noded.now.remade
+    reports_on now.limits.segments now.plan now.a.now now.b.now now.segments_a now.segments_b now.grid c.args.noded.now.edges.items c.args.noded.now.tiles.items c.args.noded.now.remade
     now.are_checked c.requires.rounded c.requires.remade c.report_of.result told.segments_a told.segments_b told.edges told.tiles told.remade
