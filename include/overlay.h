@@ -28,7 +28,7 @@
 #define OVERLAY_VERSION "1.0.0"
 
 /* The version of the calls that are declared here. Programs that may meet another library compare overlay_version() with it. */
-#define OVERLAY_CALLS_VERSION 5u
+#define OVERLAY_CALLS_VERSION 6u
 
 #ifdef __cplusplus
 extern "C" {
@@ -103,7 +103,7 @@ void overlay_fill(uint32_t call, uint32_t side, const uint8_t *a, size_t a_lengt
                   uint8_t *room, size_t room_length, struct overlay_answer *answer);
 
 /* The same for layers that together have at most so many segments, from 1 to 4294967295. The number has no influence on the text;
- * ten million segments take some 1.6 GB of memory. */
+ * ten million segments of parcels take some 1 GB of memory. */
 void overlay_fill_within(uint32_t call, uint32_t side, uint32_t segments, const uint8_t *a, size_t a_length, const uint8_t *b,
                          size_t b_length, uint8_t *room, size_t room_length, struct overlay_answer *answer);
 
@@ -111,6 +111,27 @@ void overlay_fill_within(uint32_t call, uint32_t side, uint32_t segments, const 
  * a layer and an empty one has all that the layer's geometries cover. OVERLAY_EDGES is OVERLAY_NO_CALL. */
 void overlay_covered_fill(uint32_t call, uint32_t side, uint32_t segments, const uint8_t *a, size_t a_length, const uint8_t *b,
                           size_t b_length, uint8_t *room, size_t room_length, struct overlay_answer *answer);
+
+/* What became of a layer that was rounded with another one. */
+struct overlay_layer_measures {
+    int64_t twice_area; /* twice the area of its points by parity, in squares of the grid */
+    uint64_t steps;     /* how many steps the routes of its segments have: the sum of its counts in the edges */
+};
+
+/* What became of both layers, and the area of the result. Where the status is neither OVERLAY_ANSWERED nor OVERLAY_SMALL all is 0. */
+struct overlay_measures {
+    struct overlay_layer_measures a;
+    struct overlay_layer_measures b;
+    int64_t twice_area; /* twice the area of the result */
+};
+
+/* overlay_fill_within for an operation, which tells areas too; OVERLAY_EDGES is OVERLAY_NO_CALL. A layer whose area by parity isn't the sum of
+ * the areas of its polygons has polygons that overlap or cross themselves, or segments that were bent.
+ *
+ *   measures            where areas and steps go; not null */
+void overlay_measured_fill(uint32_t call, uint32_t side, uint32_t segments, const uint8_t *a, size_t a_length, const uint8_t *b,
+                           size_t b_length, uint8_t *room, size_t room_length, struct overlay_answer *answer,
+                           struct overlay_measures *measures);
 
 /* Tells the length alone (never OVERLAY_SMALL), of the parameters of overlay_fill. The text is made for that and let go, so this takes as
  * long as overlay_fill; to call that first with a room of a guessed size, and again where it was too small, is cheaper. */
@@ -191,6 +212,12 @@ struct overlay_columns_answer {
 void overlay_columns_fill(uint32_t call, uint32_t side, uint32_t segments, const struct overlay_columns *a, const struct overlay_columns *b,
                           int32_t *coordinates, size_t coordinates_length, uint32_t *rings, size_t rings_length, uint32_t *polygons,
                           size_t polygons_length, struct overlay_columns_answer *answer);
+
+/* overlay_columns_fill, which tells areas too, as overlay_measured_fill does. */
+void overlay_measured_columns_fill(uint32_t call, uint32_t side, uint32_t segments, const struct overlay_columns *a,
+                                   const struct overlay_columns *b, int32_t *coordinates, size_t coordinates_length, uint32_t *rings,
+                                   size_t rings_length, uint32_t *polygons, size_t polygons_length, struct overlay_columns_answer *answer,
+                                   struct overlay_measures *measures);
 
 /* Puts the results of an operation on each feature of a layer and the feature with the same number of another layer, which has as many, at
  * the beginning of four rooms, as columns with a feature for each pair: features tells where each result begins among the polygons, and where

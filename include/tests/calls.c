@@ -702,7 +702,7 @@ static void face_columns_memory(void) {
 int main(int count, char **words) {
     if (count == 4)
         return print(words);
-    check(overlay_version() == 5 && OVERLAY_CALLS_VERSION == 5, "the version");
+    check(overlay_version() == 6 && OVERLAY_CALLS_VERSION == 6, "the version");
     names();
     reasons();
     rooms();

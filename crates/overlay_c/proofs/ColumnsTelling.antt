@@ -8,7 +8,7 @@ use Rattle.engine.specs.declared.columns_output.ColumnsOutput.{ColumnsOutput}
 use Rattle.engine.specs.ColumnsRuns.{AreColumnsMade}
 use Rattle.engine.specs.Runs.{alone}
 use Rattle.overlay_c.specs.declared.columns_answer.OverlayColumnsAnswer.{OverlayColumnsAnswer}
-use Rattle.overlay_c.specs.Columns.{AreKept, FailsColumns, FillsColumns, IsColumnsResult, IsPutOrSmall, Lists, filled, lists_of, none_filled, op_from, small}
+use Rattle.overlay_c.specs.Columns.{AreKept, FillsRooms, IsColumnsResult, IsPutOrSmall, Lists, filled, lists_of, none_filled, op_from, small}
 
 module _ (limit call side : ℕ) (a b : Columns) where
   pub columns_result : {M : Type 0} (op : Op) → op_from call ≡ Some op → (made : ColumnsOutput M) → AreColumnsMade limit op (alone side) a b made → IsColumnsResult limit call side a b (lists_of made.columns)
@@ -25,12 +25,13 @@ module _ (limit call side : ℕ) (a b : Columns) where
     columns = record { points = h.columns.have.points; rings = h.columns.have.offsets; polygons = h.columns.offsets };
   }
 
-  put_fills : (c before after : Lists) (answer : OverlayColumnsAnswer) → IsColumnsResult limit call side a b c → IsPutOrSmall c before after answer → FillsColumns limit call side a b before after answer
-  put_fills c before after answer is (inl (h, told)) = subst (λ (w : OverlayColumnsAnswer). FillsColumns limit call side a b before after w) (sym told) (filled c is h)
-  put_fills c before after answer is (inr (few, kept, told)) = subst (λ (w : OverlayColumnsAnswer). FillsColumns limit call side a b before after w) (sym told) (small c is few kept)
+module _ (AreColumns : Lists → Type 0) (IsFailure : OverlayColumnsAnswer → Type 0) where
+  put_fills : (c before after : Lists) (answer : OverlayColumnsAnswer) → AreColumns c → IsPutOrSmall c before after answer → FillsRooms AreColumns IsFailure before after answer
+  put_fills c before after answer is (inl (h, told)) = subst (λ (w : OverlayColumnsAnswer). FillsRooms AreColumns IsFailure before after w) (sym told) (filled c is h)
+  put_fills c before after answer is (inr (few, kept, told)) = subst (λ (w : OverlayColumnsAnswer). FillsRooms AreColumns IsFailure before after w) (sym told) (small c is few kept)
 
   pub fills : {M : Type 0} (made : Result (OwnedColumns M) OverlayColumnsAnswer) (before after : Lists) (answer : OverlayColumnsAnswer)
-      → MatchResult made (λ c. IsColumnsResult limit call side a b (lists_of c)) (λ w. FailsColumns limit call side a b w)
-      → MatchResult made (λ c. IsPutOrSmall (lists_of c) before after answer) (λ told. (answer ≡ told) × AreKept before after) → FillsColumns limit call side a b before after answer
+      → MatchResult made (λ c. AreColumns (lists_of c)) IsFailure
+      → MatchResult made (λ c. IsPutOrSmall (lists_of c) before after answer) (λ told. (answer ≡ told) × AreKept before after) → FillsRooms AreColumns IsFailure before after answer
   fills (Ok c) before after answer is h = put_fills (lists_of c) before after answer is h
-  fills (Err told) before after answer is h = subst (λ (w : OverlayColumnsAnswer). FillsColumns limit call side a b before after w) (sym h.0) (none_filled is h.1)
+  fills (Err told) before after answer is h = subst (λ (w : OverlayColumnsAnswer). FillsRooms AreColumns IsFailure before after w) (sym h.0) (none_filled is h.1)

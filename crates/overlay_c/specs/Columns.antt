@@ -130,8 +130,9 @@ pub record AreKept (before after : Lists) : Type 0 where
 abbrev pub IsPutOrSmall : Lists → Lists → Lists → OverlayColumnsAnswer → Type 0
 IsPutOrSmall c before after answer = (HoldLists c before after × (answer ≡ lengths_answer 0 c)) ⊎ (IsSmallFor c before × AreKept before after × (answer ≡ lengths_answer 4 c))
 
--- how a call that fills rooms ends: only an answer changes them, and nothing behind its columns
-pub data FillsColumns (limit call side : ℕ) (a b : Columns) (before after : Lists) : OverlayColumnsAnswer → Type 0 where
-  filled : (c : Lists) → IsColumnsResult limit call side a b c → HoldLists c before after → FillsColumns limit call side a b before after (lengths_answer 0 c)
-  small : (c : Lists) → IsColumnsResult limit call side a b c → IsSmallFor c before → AreKept before after → FillsColumns limit call side a b before after (lengths_answer 4 c)
-  none_filled : {answer : OverlayColumnsAnswer} → FailsColumns limit call side a b answer → AreKept before after → FillsColumns limit call side a b before after answer
+-- how a call that fills rooms ends, by which columns are asked for and why there may be none: only an answer changes the rooms, and nothing
+-- behind its columns
+pub data FillsRooms (AreColumns : Lists → Type 0) (IsFailure : OverlayColumnsAnswer → Type 0) (before after : Lists) : OverlayColumnsAnswer → Type 0 where
+  filled : (c : Lists) → AreColumns c → HoldLists c before after → FillsRooms AreColumns IsFailure before after (lengths_answer 0 c)
+  small : (c : Lists) → AreColumns c → IsSmallFor c before → AreKept before after → FillsRooms AreColumns IsFailure before after (lengths_answer 4 c)
+  none_filled : {answer : OverlayColumnsAnswer} → IsFailure answer → AreKept before after → FillsRooms AreColumns IsFailure before after answer

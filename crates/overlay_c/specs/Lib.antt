@@ -2,5 +2,6 @@ pub mod Boundary
 pub mod Faces
 pub mod Columns
 pub mod Covered
+pub mod Measured
 pub mod Pairs
 pub mod FacesColumns

@@ -1,7 +1,7 @@
 //! The calls on columns that C sees.
 
 ghost use Rattle.engine.specs.Fitting.{IsFittingSideOfColumns};
-ghost use Rattle.overlay_c.specs.Columns.{FillsColumns, columns_in};
+ghost use Rattle.overlay_c.specs.Columns.{FailsColumns, FillsRooms, IsColumnsResult, columns_in};
 
 use crate::columns_answer::OverlayColumnsAnswer;
 use crate::columns_layer::{OverlayColumns, columns_result, side_of_columns};
@@ -25,7 +25,7 @@ pub extern "C" fn overlay_columns_fill(
     polygons: &mut [u32],
     answer: &mut OverlayColumnsAnswer,
 )
-    ensures { FillsColumns segments call side (columns_in a.now) (columns_in b.now) (record { coordinates = coordinates.old; rings = rings.old; polygons = polygons.old }) (record { coordinates = coordinates.new; rings = rings.new; polygons = polygons.new }) answer.new }
+    ensures { FillsRooms (IsColumnsResult segments call side (columns_in a.now) (columns_in b.now)) (FailsColumns segments call side (columns_in a.now) (columns_in b.now)) (record { coordinates = coordinates.old; rings = rings.old; polygons = polygons.old }) (record { coordinates = coordinates.new; rings = rings.new; polygons = polygons.new }) answer.new }
 {
     let made = columns_result(alloc, call, side, Limits { segments }, a, b);
     *answer = fill_rooms(made, coordinates, rings, polygons);

@@ -1,11 +1,11 @@
 //! The overlay for callers in C (`include/overlay.h`), on the calling thread: layers in memory in, a text or columns in the caller's rooms out.
 //!
 //! 1. Numbers of the call become a plan, and pointers with lengths become layers (`made`, `columns_layer`).
-//! 2. The engine answers (`calls`, `covered_made`, `faces`, `columns_call`, `pairs_call`, `faces_columns`).
+//! 2. The engine answers (`calls`, `covered_made`, `measured`, `faces`, `columns_call`, `pairs_call`, `faces_columns`).
 //! 3. What fits is put into the room (`room`, `columns_rooms`, `face_rooms`); a status, or a refusal's number and place, tells the rest (`answer`, `words`).
 //!
 //! The promise: a status of 0 exactly where the engine answers and the room is large enough, and then the room begins with its text; nothing
-//! behind that changes. The definitions are `specs/Boundary`, `Covered`, `Faces`, `Columns`, `Pairs` and `FacesColumns`.
+//! behind that changes. The definitions are `specs/Boundary`, `Covered`, `Measured`, `Faces`, `Columns`, `Pairs` and `FacesColumns`.
 #![tactic(auto)]
 
 mod answer;
@@ -21,6 +21,8 @@ mod faces_answer;
 mod faces_columns;
 mod faces_columns_call;
 mod made;
+mod measured;
+mod measured_call;
 mod pairs_call;
 mod room;
 mod words;
@@ -37,5 +39,7 @@ pub use face_rooms::OverlayFaceRooms;
 pub use faces::OverlayLayer;
 pub use faces_answer::OverlayFacesAnswer;
 pub use faces_columns_call::{overlay_faces_columns_fill, overlay_faces_columns_side};
+pub use measured::{OverlayLayerMeasures, OverlayMeasures};
+pub use measured_call::{overlay_measured_columns_fill, overlay_measured_fill};
 pub use pairs_call::overlay_pairs_fill;
 pub use words::overlay_words;
