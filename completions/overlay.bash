@@ -13,7 +13,7 @@ _overlay() {
   done
   ((COMP_CWORD == 1)) && commands+=" faces"
   if [[ $word == -* ]]; then
-    COMPREPLY=($(compgen -W "--tile --workers --segments --report --covered --help" -- "$word"))
+    COMPREPLY=($(compgen -W "--tile --workers --segments --report --covered --areas --help" -- "$word"))
   elif ((given)); then
     compopt -o default
     COMPREPLY=()

@@ -15,10 +15,11 @@ use Rattle.layers.specs.declared.faces_limits.FacesLimits.{FacesLimits}
 use Rattle.layers.specs.declared.plan.Plan.{Plan}
 use Rattle.engine.specs.CoveredRuns.{covered_limits}
 use Rattle.engine.specs.Fitting.{IsFittingSide, IsFittingSideOver}
+use Rattle.engine.specs.Runs.{RunsWithin}
 use Rattle.results.specs.Sinks.{SinkState}
 use Rattle.results.specs.declared.text.Report.{Report}
 use Rattle.engine.specs.declared.faces_report.FacesReport.{FacesReport}
-use Rattle.program.specs.Program.{IsChosenSide, IsChosenSideOver, IsFitted, IsFittedOver, RunsCoveredFor, RunsFor, limit_of, plan_of}
+use Rattle.program.specs.Program.{IsChosenSide, IsChosenSideOver, IsFitted, IsFittedOver, RunsCoveredFor, limit_of, plan_of}
 use Rattle.program.specs.FacesProgram.{RunsFacesFor, faces_limits_of, faces_plan_of}
 use Rattle.program.specs.declared.asked.FacesRequest.{FacesRequest}
 use Rattle.program.specs.declared.asked.Request.{Request}
@@ -35,12 +36,13 @@ fitting_chosen_over (Some s) texts side without e h fits = cc
 
 -- with a side for which no layers have too many tiles, a run isn't refused for them
 pub fitted : (given : Option ℕ) (request : Request) (side : ℕ) (a b : List ℕ) → ((limit : ℕ) (plan : Plan) → plan.side ≡ side → (count : ℕ) → ¬ IsRefusedAtWithin limit plan a b Run (TooManyTiles count))
-    → {S M : Type 0} (state : S → SinkState) (old new : S) (r : Result (Report M) RunFault) → RunsFor state old new request side a b r → IsFitted given r
-fitted None request side a b fits state old new (Ok report) h = tt
-fitted None request side a b fits state old new (Err f) h = λ count at is.
+    → {S R : Type 0} (state : S → SinkState) (old new : S) (IsAnswer : List ℕ → R → Type 0) (r : Result R RunFault)
+    → RunsWithin (limit_of request.segments) state old new (plan_of request side) a b IsAnswer r → IsFitted given r
+fitted None request side a b fits state old new IsAnswer (Ok report) h = tt
+fitted None request side a b fits state old new IsAnswer (Err f) h = λ count at is.
     let refused = rw is at h in
     fits (limit_of request.segments) (plan_of request side) refl count (subst (λ (p : Part). IsRefusedAtWithin (limit_of request.segments) (plan_of request side) a b p (TooManyTiles count)) at refused.0)
-fitted (Some s) request side a b fits state old new r h = tt
+fitted (Some s) request side a b fits state old new IsAnswer r h = tt
 
 -- and the same of features
 pub fitted_faces : (given : Option ℕ) (side : ℕ) (texts : List (List ℕ)) → ((limits : FacesLimits) (plan : Plan) → plan.side ≡ side → (count : ℕ) → ¬ IsFacesRefusedAt limits plan texts AllLayers (Usual (TooManyTiles count)))

@@ -16,11 +16,11 @@ use Rattle.program.proofs.Defaults.{IsReadOr, number_in_chain}
 use Rattle.clap.specs.declared.builder.value_parser.ValueParser.TheVariants.{Signed}
 use Rattle.std.specs.Prelude.{pos}
 
--- the place of an argument, by the third letter of its id where that is `v`, and otherwise by the first
+-- the place of an argument, by the third letter of its id where that is `v` or `e`, and otherwise by the first
 abbrev place : Text → ℕ
 place id =
     let n = slice_index id 0 in
-    if slice_index id 2 == 118 then 7 else if n == 99 then 0 else if n == 97 then 1 else if n == 98 then 2 else if n == 116 then 3 else if n == 119 then 4 else if n == 115 then 5 else 6
+    if slice_index id 2 == 118 then 7 else if slice_index id 2 == 101 then 8 else if n == 99 then 0 else if n == 97 then 1 else if n == 98 then 2 else if n == 116 then 3 else if n == 119 then 4 else if n == 115 then 5 else 6
 
 pub letter : (x : Text) (t : Text) → x ≡ t → slice_index x 0 ≡ slice_index t 0
 letter x t e = ap (λ (u : Text). slice_index u 0) e
@@ -38,9 +38,9 @@ own_id id a own some no_h no_v = (
 )
 
 abbrev list_of : (c : Command) → IsOverlayCommand c → List Arg
-list_of c h = h.word ∷ h.a ∷ h.b ∷ h.tile ∷ h.workers ∷ h.segments ∷ h.report ∷ h.covered ∷ []
+list_of c h = h.word ∷ h.a ∷ h.b ∷ h.tile ∷ h.workers ∷ h.segments ∷ h.report ∷ h.covered ∷ h.areas ∷ []
 
-spot : (c : Command) (h : IsOverlayCommand c) (j : ℕ) (e : Arg) → j < 8 → place (slice_index_or (list_of c h) j e).id.now ≡ j
+spot : (c : Command) (h : IsOverlayCommand c) (j : ℕ) (e : Arg) → j < 9 → place (slice_index_or (list_of c h) j e).id.now ≡ j
 spot c h zero e lt = ap place h.is_word.own.id_is
 spot c h (suc zero) e lt = ap place h.is_a.own.id_is
 spot c h (suc (suc zero)) e lt = ap place h.is_b.own.id_is
@@ -49,7 +49,8 @@ spot c h (suc (suc (suc (suc zero)))) e lt = ap place h.is_workers.own.id_is
 spot c h (suc (suc (suc (suc (suc zero))))) e lt = ap place h.is_segments.own.id_is
 spot c h (suc (suc (suc (suc (suc (suc zero)))))) e lt = ap place h.is_report.id_is
 spot c h (suc (suc (suc (suc (suc (suc (suc zero))))))) e lt = ap place h.is_covered.id_is
-spot c h (suc (suc (suc (suc (suc (suc (suc (suc j)))))))) e lt = absurd (omega arith)
+spot c h (suc (suc (suc (suc (suc (suc (suc (suc zero)))))))) e lt = ap place h.is_areas.id_is
+spot c h (suc (suc (suc (suc (suc (suc (suc (suc (suc j))))))))) e lt = absurd (omega arith)
 
 distinct : (c : Command) (h : IsOverlayCommand c) → HasDistinctIds (list_of c h)
 distinct c h j k d e lt lt2 same =
@@ -64,9 +65,10 @@ fits c h (suc (suc (suc (suc zero)))) d lt = own_id _ _ h.is_workers.own (omega 
 fits c h (suc (suc (suc (suc (suc zero))))) d lt = own_id _ _ h.is_segments.own (omega arith) (λ e. absurd (omega arith)) (λ e. absurd (omega arith))
 fits c h (suc (suc (suc (suc (suc (suc zero)))))) d lt = own_id _ _ h.is_report (omega arith) (λ e. absurd (omega arith)) (λ e. absurd (omega arith))
 fits c h (suc (suc (suc (suc (suc (suc (suc zero))))))) d lt = own_id _ _ h.is_covered (omega arith) (λ e. absurd (omega arith)) (λ e. absurd (omega arith))
-fits c h (suc (suc (suc (suc (suc (suc (suc (suc j)))))))) d lt = absurd (omega arith)
+fits c h (suc (suc (suc (suc (suc (suc (suc (suc zero)))))))) d lt = own_id _ _ h.is_areas (omega arith) (λ e. absurd (omega arith)) (λ e. absurd (omega arith))
+fits c h (suc (suc (suc (suc (suc (suc (suc (suc (suc j))))))))) d lt = absurd (omega arith)
 
-number_at : (c : Command) (h : IsOverlayCommand c) (m : ArgMatches) → IsParsedFrom c m → (k : ℕ) → k < 8 → (least : ℕ) (id : Text)
+number_at : (c : Command) (h : IsOverlayCommand c) (m : ArgMatches) → IsParsedFrom c m → (k : ℕ) → k < 9 → (least : ℕ) (id : Text)
     → IsNumberArg least id (slice_index_or (list_of c h) k h.word)
     → IsReadOr (found_of m) (slice_index_or (list_of c h) k h.word) id (Signed (pos least) (pos 4294967295))
 number_at c h m p k lt least id n =
@@ -82,7 +84,7 @@ number_there f id a least wants read = elim read [ inl none ↦ absurd (none.0 w
 
 pub words_there : (c : Command) (h : IsOverlayCommand c) (m : ArgMatches) → IsParsedFrom c m → HasWords (found_of m)
 words_there c h m p =
-    let has = λ (k : ℕ). λ (lt : k < 8). required_in_chain h.start c (list_of c h) k h.word m h.chain h.no_args h.no_groups h.no_globals h.no_negation (fits c h) (distinct c h) lt in
+    let has = λ (k : ℕ). λ (lt : k < 9). required_in_chain h.start c (list_of c h) k h.word m h.chain h.no_args h.no_groups h.no_globals h.no_negation (fits c h) (distinct c h) lt in
     record {
       word = subst (λ (t : Text). is_some (first_value (found_of m) t) ≡ true) h.is_word.own.id_is (has 0 (omega arith) h.is_word.takes_value p);
       a = subst (λ (t : Text). is_some (first_value (found_of m) t) ≡ true) h.is_a.own.id_is (has 1 (omega arith) h.is_a.takes_value p);

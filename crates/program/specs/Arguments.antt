@@ -48,7 +48,8 @@ pub record IsOverlayCommand (c : Command) : Type 0 where
   pub segments : Arg
   pub report : Arg
   pub covered : Arg
-  pub chain : AddsInTurn AddsArg start (word ∷ a ∷ b ∷ tile ∷ workers ∷ segments ∷ report ∷ covered ∷ []) c
+  pub areas : Arg
+  pub chain : AddsInTurn AddsArg start (word ∷ a ∷ b ∷ tile ∷ workers ∷ segments ∷ report ∷ covered ∷ areas ∷ []) c
   pub no_args : args_of start ≡ []
   pub no_groups : groups_of start ≡ []
   pub no_globals : (out-Command start).has_globals ≡ false
@@ -62,6 +63,7 @@ pub record IsOverlayCommand (c : Command) : Type 0 where
   pub is_segments : IsNumberArg 1 (codes "segments") segments
   pub is_report : IsFlagArg (codes "report") report
   pub is_covered : IsFlagArg (codes "covered") covered
+  pub is_areas : IsFlagArg (codes "areas") areas
 
 -- the text of the id, of which a first hyphen is left out, is a number below 2^32
 abbrev pub HasNumber : Found → Text → Type 0

@@ -13,7 +13,7 @@ use Rattle.clap.specs.Matches.{matched_of}
 use Rattle.program.specs.Arguments.{HasNumber, IsFlagArg, IsNumberArg, IsRequired, IsWanted, MayHaveNumber}
 use Rattle.program.specs.CommandLine.{IsGivenNumber, IsHeldNumber, flag_rule, is_set, number_rule, word_rule}
 use Rattle.program.specs.declared.asked.CliFault.{CliFault}
-use Rattle.program.specs.declared.asked.CliFault.TheVariants.{Unknown, CoveredEdges, Help, Refused, Memory}
+use Rattle.program.specs.declared.asked.CliFault.TheVariants.{Unknown, CoveredEdges, AreasElsewhere, Help, Refused, Memory}
 use Rattle.program.specs.declared.asked.FacesRequest.{FacesRequest}
 
 -- the word behind the program's name is `faces`
@@ -95,6 +95,7 @@ IsFacesAskedBy words request = (faces_faults words ≡ []) × IsFacesRequestOf (
 abbrev pub IsFacesRefusalOf : List Text → CliFault → Type 0
 IsFacesRefusalOf words Unknown = ⊥
 IsFacesRefusalOf words CoveredEdges = ⊥
+IsFacesRefusalOf words AreasElsewhere = ⊥
 IsFacesRefusalOf words (Help text) = IsAmong DisplayHelp (faces_faults words)
 IsFacesRefusalOf words (Refused text) = (faces_faults words ≢ []) ⊎ ((faces_faults words ≡ []) × IsManyLayers (faces_held words) (Refused text))
 IsFacesRefusalOf words Memory = Unit {0}

@@ -4,6 +4,9 @@ use Rattle.std.specs.declared.alloc.Global.{Global}
 use Rattle.clap.specs.Words.{Text}
 use Rattle.grid.specs.declared.sides.TheConstants.{DEFAULT_SIDE}
 use Rattle.engine.specs.CoveredRuns.{RunsCovered}
+use Rattle.engine.specs.Measures.{IsMeasuredWithin}
+use Rattle.engine.specs.MeasuresText.{measures_text_of}
+use Rattle.engine.specs.declared.measures.Measured.{Measured}
 use Rattle.layers.specs.FaultWords.{faces_line_of, faces_status_of, line_of, status_of}
 use Rattle.engine.specs.Fitting.{IsFittingSide, IsFittingSideOver}
 use Rattle.geom.specs.declared.fault.Fault.TheVariants.{TooManyTiles}
@@ -20,10 +23,10 @@ use Rattle.layers.specs.declared.faces_fault.FacesFault.{FacesFault}
 use Rattle.layers.specs.declared.faces_fault.FacesPart.TheVariants.{Run as AllLayers}
 use Rattle.layers.specs.declared.faces_fault.FacesRefusal.TheVariants.{Usual}
 use Rattle.results.specs.declared.text.Report.{Report}
-use Rattle.program.specs.CommandLine.{IsAskedBy, IsRefusalOf, operation_covered}
+use Rattle.program.specs.CommandLine.{IsAskedBy, IsRefusalOf, operation_covered, operation_measured}
 use Rattle.program.specs.Loading.{Loads}
 use Rattle.program.specs.declared.asked.CliFault.{CliFault}
-use Rattle.program.specs.declared.asked.CliFault.TheVariants.{Unknown, CoveredEdges, Help, Refused, Memory}
+use Rattle.program.specs.declared.asked.CliFault.TheVariants.{Unknown, CoveredEdges, AreasElsewhere, Help, Refused, Memory}
 use Rattle.program.specs.declared.asked.Command.{Command}
 use Rattle.program.specs.declared.asked.Command.TheVariants.{Edges, Apply}
 use Rattle.program.specs.declared.asked.Request.{Request}
@@ -78,10 +81,15 @@ unknown_line = codes "overlay: unknown command" ++ 10 ∷ []
 abbrev pub covered_line : List ℕ
 covered_line = codes "overlay: --covered goes with union, intersection, difference and symdifference" ++ 10 ∷ []
 
+-- the line where areas of edges, or of an operation on layers that are read as covered, are asked for
+abbrev pub areas_line : List ℕ
+areas_line = codes "overlay: --areas goes with union, intersection, difference and symdifference, without --covered" ++ 10 ∷ []
+
 -- what is said of a command line: help goes to the output, with status 0; all else to the other sink, with status 2, or 1 at want of memory
 abbrev pub TellsLine : {O E : Type 0} → (O → SinkState) → (E → SinkState) → O → O → E → E → CliFault → ℕ → Type 0
 TellsLine out_state err_state out out' err err' Unknown status = (status ≡ 2) × (out' ≡ out) × IsSent (err_state err) (err_state err') unknown_line
 TellsLine out_state err_state out out' err err' CoveredEdges status = (status ≡ 2) × (out' ≡ out) × IsSent (err_state err) (err_state err') covered_line
+TellsLine out_state err_state out out' err err' AreasElsewhere status = (status ≡ 2) × (out' ≡ out) × IsSent (err_state err) (err_state err') areas_line
 TellsLine out_state err_state out out' err err' (Help text) status = (err' ≡ err) × Shows (out_state out) (out_state out') (string_bytes text) status
 TellsLine out_state err_state out out' err err' (Refused text) status = (status ≡ 2) × (out' ≡ out) × IsSent (err_state err) (err_state err') (string_bytes text)
 TellsLine out_state err_state out out' err err' Memory status = (out' ≡ out) × TellsMemory (err_state err) (err_state err') status
@@ -114,7 +122,7 @@ abbrev pub IsChosenSideOver : Option ℕ → List (List ℕ) → ℕ → Type 0
 IsChosenSideOver given texts side = MatchOption given ((side ≡ DEFAULT_SIDE) ⊎ IsFittingSideOver texts side) (λ s. side ≡ s)
 
 -- where no side was given, the run isn't refused for too many tiles
-abbrev pub IsFitted : {M : Type 0} → Option ℕ → Result (Report M) RunFault → Type 0
+abbrev pub IsFitted : {R : Type 0} → Option ℕ → Result R RunFault → Type 0
 IsFitted None r = IfErr r (λ f. (count : ℕ) → f.at ≡ Run → f.fault ≢ TooManyTiles count)
 IsFitted (Some side) r = Unit {0}
 
@@ -126,6 +134,15 @@ IsFittedOver (Some side) r = Unit {0}
 -- a run that a request asks for on two layers
 abbrev pub Performs : {S M : Type 0} → (S → SinkState) → S → S → Request → List ℕ → List ℕ → Result (Report M) RunFault → Type 0
 Performs state old new request a b r = (side : ℕ) × IsChosenSide request.side a b side × RunsFor state old new request side a b r × IsFitted request.side r
+
+-- an operation that a request asks for with its areas, with this side of a tile and within its limit of segments: the text is that of the operation without them
+abbrev pub RunsMeasuredFor : {S M : Type 0} → (S → SinkState) → S → S → Request → Op → ℕ → List ℕ → List ℕ → Result (Measured (Report M)) RunFault → Type 0
+RunsMeasuredFor state old new request op side a b r =
+    RunsWithin (limit_of request.segments) state old new (plan_of request side) a b
+    (λ text m. IsMeasuredWithin (limit_of request.segments) op (plan_of request side) a b text m.answer m.measures) r
+
+abbrev pub PerformsMeasured : {S M : Type 0} → (S → SinkState) → S → S → Request → Op → List ℕ → List ℕ → Result (Measured (Report M)) RunFault → Type 0
+PerformsMeasured state old new request op a b r = (side : ℕ) × IsChosenSide request.side a b side × RunsMeasuredFor state old new request op side a b r × IsFitted request.side r
 
 -- an operation on layers that are read as covered, as a request asks for it, with this side of a tile and within its limit of segments
 abbrev pub RunsCoveredFor : {S M : Type 0} → (S → SinkState) → S → S → Request → Op → ℕ → List ℕ → List ℕ → Result (Report M) FacesFault → Type 0
@@ -147,10 +164,33 @@ abbrev pub TellsCoveredRun : {E M : Type 0} → (E → SinkState) → E → E �
 TellsCoveredRun state err err' wanted r status =
     MatchResult r (λ report. TellsAnswer state err err' wanted report status) (λ fault. TellsFacesFault (state err) (state err') fault status)
 
+-- the text that is told of a measured answer: its report, where one is wanted, and behind it the lines of its measures
+abbrev pub measured_text_of : {M : Type 0} → Bool → Measured (Report M) → List ℕ
+measured_text_of true m = report_of m.answer ++ measures_text_of m.measures
+measured_text_of false m = measures_text_of m.measures
+
+-- it is shown; or memory is wanted for it
+abbrev pub ShowsMeasured : {M : Type 0} → SinkState → SinkState → Bool → Measured (Report M) → ℕ → Type 0
+ShowsMeasured old new wanted m status = Shows old new (measured_text_of wanted m) status ⊎ TellsMemory old new status
+
+abbrev pub TellsMeasuredRun : {E M : Type 0} → (E → SinkState) → E → E → Bool → Result (Measured (Report M)) RunFault → ℕ → Type 0
+TellsMeasuredRun state err err' wanted r status =
+    MatchResult r (λ m. ShowsMeasured (state err) (state err') wanted m status) (λ fault. TellsFault (state err) (state err') fault status)
+
 -- two layers are run by parity, which is told
-abbrev pub DoesByParity : {O E : Type 0} → (O → SinkState) → (E → SinkState) → O → O → E → E → Request → List ℕ → List ℕ → ℕ → Type 0
-DoesByParity out_state err_state out out' err err' request a b status =
+abbrev pub DoesUnmeasured : {O E : Type 0} → (O → SinkState) → (E → SinkState) → O → O → E → E → Request → List ℕ → List ℕ → ℕ → Type 0
+DoesUnmeasured out_state err_state out out' err err' request a b status =
     (r : Result (Report Global) RunFault) × Performs out_state out out' request a b r × TellsRun err_state err err' request.report r status
+
+-- an operation on two layers by parity is run, which is told, and so are its areas
+abbrev pub DoesMeasured : {O E : Type 0} → (O → SinkState) → (E → SinkState) → O → O → E → E → Request → List ℕ → List ℕ → Op → ℕ → Type 0
+DoesMeasured out_state err_state out out' err err' request a b op status =
+    (r : Result (Measured (Report Global)) RunFault) × PerformsMeasured out_state out out' request op a b r × TellsMeasuredRun err_state err err' request.report r status
+
+-- two layers are run by parity, with areas or without
+abbrev pub DoesByParity : {O E : Type 0} → (O → SinkState) → (E → SinkState) → O → O → E → E → Request → List ℕ → List ℕ → ℕ → Type 0
+DoesByParity out_state err_state out out' err err' request a b status = MatchOption (operation_measured request.command request.areas)
+    (DoesUnmeasured out_state err_state out out' err err' request a b status) (λ op. DoesMeasured out_state err_state out out' err err' request a b op status)
 
 -- two layers that are read as covered are run, which is told
 abbrev pub DoesCovered : {O E : Type 0} → (O → SinkState) → (E → SinkState) → O → O → E → E → Request → List ℕ → List ℕ → Op → ℕ → Type 0

@@ -1,7 +1,7 @@
 //! What a command line asks for, and why it may be refused.
 
 ghost use Rattle.std.specs.Prelude.{◌≡◌};
-ghost use Rattle.program.specs.CommandLine.{operation_covered};
+ghost use Rattle.program.specs.CommandLine.{operation_covered, operation_measured};
 
 use geom::Op;
 use std::alloc::{AllocError, AllocFailed, Global};
@@ -34,6 +34,8 @@ pub struct Request<'a> {
     pub report: bool,
     /// Whether a point lies in a layer where one of its features at least covers it, and not by parity.
     pub covered: bool,
+    /// Whether the areas of both layers and of the result are wanted.
+    pub areas: bool,
 }
 
 /// The operation on layers that are read as covered, where that is asked for.
@@ -42,6 +44,16 @@ pub(crate) fn operation_covered(command: Command, covered: bool) -> Option<Op>
 {
     match command {
         Command::Apply(op) if covered => Some(op),
+        _ => None,
+    }
+}
+
+/// The operation whose areas are wanted, where that is asked for.
+pub(crate) fn operation_measured(command: Command, areas: bool) -> Option<Op>
+    ensures { result ≡ operation_measured command areas }
+{
+    match command {
+        Command::Apply(op) if areas => Some(op),
         _ => None,
     }
 }
@@ -70,6 +82,9 @@ pub enum CliFault {
     /// The line is well formed, and asks for edges of layers that are read as covered.
     #[error("--covered goes with union, intersection, difference and symdifference")]
     CoveredEdges,
+    /// The line is well formed, and asks for areas of edges, or of an operation on layers that are read as covered.
+    #[error("--areas goes with union, intersection, difference and symdifference, without --covered")]
+    AreasElsewhere,
     /// Help was asked for; its text.
     #[error("{0}")]
     Help(String),

@@ -34,6 +34,9 @@ pub(crate) const REPORT_HELP: &str = "Prints the numbers of the run to standard 
 const COVERED_HELP: &str =
     "For an operation: a point lies in a layer where one of its features at least covers it";
 
+const AREAS_HELP: &str =
+    "For an operation: prints twice each area, and the steps of the routes, to standard error";
+
 const AFTER: &str =
     "union, intersection, difference and symdifference print the result of that operation on the two
 layers as one MULTIPOLYGON text.
@@ -45,13 +48,17 @@ numbers of each layer's features, and the points as one MULTIPOLYGON text, with 
 A layer is a text of POLYGON and MULTIPOLYGON geometries, at most 268435456 bytes long, with whole
 coordinates from -268435456 to 268435456, in grid units. All layers together have at most 1048576
 segments, or as many as --segments says, and each text then 256 bytes for each of them where that is
-more, up to 4294967295; a million segments take some 120 MB of memory. A layer is read by parity: a
+more, up to 4294967295; a million segments of parcels take some 110 MB. A layer is read by parity: a
 point lies in it where an odd number of its rings have the point inside, so polygons of one layer that
 overlap cancel each other there; faces reads each feature so, and features never cancel each other.
 /dev/stdin reads a layer from standard input.
 
 With --covered an operation reads each feature so too, and a point lies in a layer where one of its
 features at least covers it, so that features of one layer that overlap don't cancel each other.
+
+With --areas an operation without --covered prints two lines to standard error, behind those of
+--report: `area2` with twice the areas of A, of B and of the result after rounding, in squares of the
+grid, and `steps` with the sums of all countA and of all countB that edges prints.
 
 The tiles and the number of threads have no influence on the text. Where no side of a tile is given
 it is 262144, or where that gives more than 65536 tiles the least power of two that doesn't.
@@ -140,7 +147,8 @@ fn parser<'a>(alloc: Global) -> Result<Command<'a>, AllocError>
         .arg(workers_arg(alloc))?
         .arg(number_arg(alloc, "segments", 1, SEGMENTS_HELP))?
         .arg(flag_arg(alloc, "report", REPORT_HELP))?
-        .arg(flag_arg(alloc, "covered", COVERED_HELP))
+        .arg(flag_arg(alloc, "covered", COVERED_HELP))?
+        .arg(flag_arg(alloc, "areas", AREAS_HELP))
 }
 
 /// What the words hold.
@@ -222,6 +230,7 @@ fn request_of<'a>(matches: &ArgMatches<'a>) -> Result<Request<'a>, CliFault>
     let b = word_held(matches, "b");
     let report = flag_held(matches, "report");
     let covered = flag_held(matches, "covered");
+    let areas = flag_held(matches, "areas");
     let side = number_given(matches, "tile");
     let workers = number_held(matches, "workers");
     let segments = number_given(matches, "segments");
@@ -230,6 +239,9 @@ fn request_of<'a>(matches: &ArgMatches<'a>) -> Result<Request<'a>, CliFault>
     };
     if covered && command == asked::Command::Edges {
         return Err(CliFault::CoveredEdges);
+    }
+    if areas && (covered || command == asked::Command::Edges) {
+        return Err(CliFault::AreasElsewhere);
     }
     Ok(Request {
         command,
@@ -240,6 +252,7 @@ fn request_of<'a>(matches: &ArgMatches<'a>) -> Result<Request<'a>, CliFault>
         segments,
         report,
         covered,
+        areas,
     })
 }
 

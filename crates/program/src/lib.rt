@@ -13,6 +13,7 @@ mod covered_program;
 mod faces_cli;
 mod faces_program;
 mod files;
+mod measured_program;
 mod program;
 mod stream;
 

@@ -2,14 +2,15 @@
 
 ghost use Rattle.std.specs.Prelude.{ℕ, ◌≡◌, ◌<◌, IfErr, map};
 ghost use Rattle.program.specs.FacesProgram.{DoesAnyLine};
-ghost use Rattle.program.specs.Program.{Does, DoesByParity, IsSent, limit_of, Performs, RunsFor, Shows, ShowsReport, TellsFault, TellsFile, TellsLine, TellsMemory};
+ghost use Rattle.program.specs.Program.{Does, DoesByParity, DoesUnmeasured, IsSent, limit_of, Performs, RunsFor, Shows, ShowsReport, TellsFault, TellsFile, TellsLine, TellsMemory};
 
-use crate::asked::{CliFault, Command, Request, operation_covered};
+use crate::asked::{CliFault, Command, Request, operation_covered, operation_measured};
 use crate::cli::request;
 use crate::covered_program::answer_covered;
 use crate::faces_cli::is_for_faces;
 use crate::faces_program::drive_faces;
 use crate::files::{Files, LoadFault};
+use crate::measured_program::answer_measured;
 use engine::{
     Limits, Plan, Report, Sink, edges_within, fitting_side, line, report_text, run_within, status,
     text_limit, write_all,
@@ -38,8 +39,12 @@ const NOT_ACCEPTED: u8 = 2;
 const COVERED_EDGES: &[u8] =
     b"overlay: --covered goes with union, intersection, difference and symdifference\n";
 
+/// What is said where areas are asked for, and none are told.
+const AREAS_ELSEWHERE: &[u8] =
+    b"overlay: --areas goes with union, intersection, difference and symdifference, without --covered\n";
+
 /// Does what a command line asks for, of which the first word is the program's name, and answers the exit status. The
-/// text goes to `out`; the line of a fault, the parser's text and the report go to `err`. A fault of the command line
+/// text goes to `out`; the line of a fault, the parser's text, the report and the areas go to `err`. A fault of the command line
 /// comes before one of its command word, then those of file A, file B and the run.
 pub fn drive<R: Threads + Wait + Sync, S: AsStr, F: Files, O: Sink, E: Sink>(
     rt: &R,
@@ -125,6 +130,26 @@ fn answer_by_parity<R: Threads + Wait + Sync, O: Sink, E: Sink>(
     requires err { (E.state err.old).failed < u64.MAX }
     ensures { DoesByParity O.state E.state out.old out.new err.old err.new asked.now a.now b.now result }
 {
+    match operation_measured(asked.command, asked.areas) {
+        Some(op) => answer_measured(rt, alloc, asked, op, a, b, out, err),
+        None => answer_unmeasured(rt, alloc, asked, a, b, out, err),
+    }
+}
+
+/// The same, where no areas are wanted.
+fn answer_unmeasured<R: Threads + Wait + Sync, O: Sink, E: Sink>(
+    rt: &R,
+    alloc: Global,
+    asked: &Request<'_>,
+    a: &[u8],
+    b: &[u8],
+    out: &mut O,
+    err: &mut E,
+) -> u8
+    requires out { (O.state out.old).failed < u64.MAX }
+    requires err { (E.state err.old).failed < u64.MAX }
+    ensures { DoesUnmeasured O.state E.state out.old out.new err.old err.new asked.now a.now b.now result }
+{
     match perform(rt, alloc, asked, a, b, out) {
         Ok(report) if asked.report => show_report(alloc, &report, err),
         Ok(_) => ANSWERED,
@@ -201,6 +226,7 @@ pub(crate) fn tell_command_line<O: Sink, E: Sink>(fault: &CliFault, out: &mut O,
     match fault {
         CliFault::Unknown => tell(err, b"overlay: unknown command\n", NOT_ACCEPTED),
         CliFault::CoveredEdges => tell(err, COVERED_EDGES, NOT_ACCEPTED),
+        CliFault::AreasElsewhere => tell(err, AREAS_ELSEWHERE, NOT_ACCEPTED),
         CliFault::Help(text) => show(out, text.as_bytes()),
         CliFault::Refused(text) => tell(err, text.as_bytes(), NOT_ACCEPTED),
         CliFault::Memory => tell_no_memory(err),
@@ -218,7 +244,7 @@ pub(crate) fn tell_file<E: Sink>(fault: LoadFault, text: &[u8], err: &mut E) -> 
 }
 
 /// Writes a fault's line, and answers its status, or that of want of memory where there is none for the line.
-fn tell_fault<E: Sink>(alloc: Global, fault: &RunFault, err: &mut E) -> u8
+pub(crate) fn tell_fault<E: Sink>(alloc: Global, fault: &RunFault, err: &mut E) -> u8
     requires { (E.state err.old).failed < u64.MAX }
     ensures { TellsFault (E.state err.old) (E.state err.new) fault.now result }
 {

@@ -1,7 +1,7 @@
 //! The program driven over files and sinks in memory.
 
 use engine::MemSink;
-use engine_tests::texts::{OTHER, SQUARE, WHOLE};
+use engine_tests::texts::{BELOW, BOW_TIE, OTHER, SQUARE, WEDGE, WHOLE};
 use geom::NoMemory;
 use program::{Files, LoadFault, READ_LIMIT, drive};
 use std::alloc::{AllocError, Allocator, Global};
@@ -9,7 +9,7 @@ use std::sync::Wait;
 use std::thread::Threads;
 
 /// Files in memory, by name.
-const TEXTS: [(&str, &str); 16] = [
+const TEXTS: [(&str, &str); 19] = [
     ("square", SQUARE),
     ("other", OTHER),
     // Both squares in one layer.
@@ -17,6 +17,9 @@ const TEXTS: [(&str, &str); 16] = [
         "overlap",
         "POLYGON ((0 0, 4 0, 4 4, 0 4, 0 0))\nPOLYGON ((2 2, 6 2, 6 6, 2 6, 2 2))\n",
     ),
+    ("wedge", WEDGE),
+    ("below", BELOW),
+    ("bow tie", BOW_TIE),
     ("nothing", ""),
     ("empty", "polygon empty"),
     ("decimal", "POLYGON ((0 0, 1.5 0, 0 1, 0 0))"),

@@ -3,6 +3,8 @@
 #![tactic(auto)]
 
 #[cfg(test)]
+mod areas;
+#[cfg(test)]
 mod command_lines;
 #[cfg(test)]
 mod covered_layers;

@@ -24,6 +24,7 @@ Options:
       --segments <N>  The most segments of both layers together, 1 to 4294967295 [default: 1048576]
       --report        Prints the numbers of the run to standard error
       --covered       For an operation: a point lies in a layer where one of its features at least covers it
+      --areas         For an operation: prints twice each area, and the steps of the routes, to standard error
   -h, --help          Print help
 
 union, intersection, difference and symdifference print the result of that operation on the two
@@ -36,13 +37,17 @@ numbers of each layer's features, and the points as one MULTIPOLYGON text, with 
 A layer is a text of POLYGON and MULTIPOLYGON geometries, at most 268435456 bytes long, with whole
 coordinates from -268435456 to 268435456, in grid units. All layers together have at most 1048576
 segments, or as many as --segments says, and each text then 256 bytes for each of them where that is
-more, up to 4294967295; a million segments take some 120 MB of memory. A layer is read by parity: a
+more, up to 4294967295; a million segments of parcels take some 110 MB. A layer is read by parity: a
 point lies in it where an odd number of its rings have the point inside, so polygons of one layer that
 overlap cancel each other there; faces reads each feature so, and features never cancel each other.
 /dev/stdin reads a layer from standard input.
 
 With --covered an operation reads each feature so too, and a point lies in a layer where one of its
 features at least covers it, so that features of one layer that overlap don't cancel each other.
+
+With --areas an operation without --covered prints two lines to standard error, behind those of
+--report: `area2` with twice the areas of A, of B and of the result after rounding, in squares of the
+grid, and `steps` with the sums of all countA and of all countB that edges prints.
 
 The tiles and the number of threads have no influence on the text. Where no side of a tile is given
 it is 262144, or where that gives more than 65536 tiles the least power of two that doesn't.
@@ -82,13 +87,17 @@ numbers of each layer's features, and the points as one MULTIPOLYGON text, with 
 A layer is a text of POLYGON and MULTIPOLYGON geometries, at most 268435456 bytes long, with whole
 coordinates from -268435456 to 268435456, in grid units. All layers together have at most 1048576
 segments, or as many as --segments says, and each text then 256 bytes for each of them where that is
-more, up to 4294967295; a million segments take some 120 MB of memory. A layer is read by parity: a
+more, up to 4294967295; a million segments of parcels take some 110 MB. A layer is read by parity: a
 point lies in it where an odd number of its rings have the point inside, so polygons of one layer that
 overlap cancel each other there; faces reads each feature so, and features never cancel each other.
 /dev/stdin reads a layer from standard input.
 
 With --covered an operation reads each feature so too, and a point lies in a layer where one of its
 features at least covers it, so that features of one layer that overlap don't cancel each other.
+
+With --areas an operation without --covered prints two lines to standard error, behind those of
+--report: `area2` with twice the areas of A, of B and of the result after rounding, in squares of the
+grid, and `steps` with the sums of all countA and of all countB that edges prints.
 
 The tiles and the number of threads have no influence on the text. Where no side of a tile is given
 it is 262144, or where that gives more than 65536 tiles the least power of two that doesn't.

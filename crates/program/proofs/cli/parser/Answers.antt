@@ -14,11 +14,12 @@ returns-clause-shape c =
     let five = c.in_ok-arg-5.ensures.shape c.workers_arg.ensures.number.own.local ∙ ap₂ with_rule four c.workers_arg.ensures.rule in
     let six = c.in_ok-arg-6.ensures.shape c.number_arg-2.ensures.number.own.local ∙ ap₂ with_rule five c.number_arg-2.ensures.rule in
     let seven = c.in_ok-arg-7.ensures.shape c.flag_arg.ensures.flag.local ∙ ap₂ with_rule six c.flag_arg.ensures.rule in
-    IfOk-weaker c.arg-8.result _ _ (λ r h. h.shape c.flag_arg-2.ensures.flag.local ∙ ap₂ with_rule seven c.flag_arg-2.ensures.rule) c.arg-8.ensures
+    let eight = c.in_ok-arg-8.ensures.shape c.flag_arg-2.ensures.flag.local ∙ ap₂ with_rule seven c.flag_arg-2.ensures.rule in
+    IfOk-weaker c.arg-9.result _ _ (λ r h. h.shape c.flag_arg-3.ensures.flag.local ∙ ap₂ with_rule eight c.flag_arg-3.ensures.rule) c.arg-9.ensures
 
 pub returns-clause-chain : goal.returns-clause-chain
 returns-clause-chain c =
-    IfOk-weaker c.arg-8.result _ _ (λ r h. record {
+    IfOk-weaker c.arg-9.result _ _ (λ r h. record {
       start = c.described.result;
       word = c.word_arg.result;
       a = c.file_arg.result;
@@ -28,7 +29,8 @@ returns-clause-chain c =
       segments = c.number_arg-2.result;
       report = c.flag_arg.result;
       covered = c.flag_arg-2.result;
-      chain = (_, c.in_ok-arg.ensures, (_, c.in_ok-arg-2.ensures, (_, c.in_ok-arg-3.ensures, (_, c.in_ok-arg-4.ensures, (_, c.in_ok-arg-5.ensures, (_, c.in_ok-arg-6.ensures, (_, c.in_ok-arg-7.ensures, (_, h, refl))))))));
+      areas = c.flag_arg-3.result;
+      chain = (_, c.in_ok-arg.ensures, (_, c.in_ok-arg-2.ensures, (_, c.in_ok-arg-3.ensures, (_, c.in_ok-arg-4.ensures, (_, c.in_ok-arg-5.ensures, (_, c.in_ok-arg-6.ensures, (_, c.in_ok-arg-7.ensures, (_, c.in_ok-arg-8.ensures, (_, h, refl)))))))));
       no_args = c.described.ensures.empty.0;
       no_groups = c.described.ensures.empty.1;
       no_globals = c.described.ensures.local;
@@ -42,4 +44,5 @@ returns-clause-chain c =
       is_segments = c.number_arg-2.ensures.number;
       is_report = c.flag_arg.ensures.flag;
       is_covered = c.flag_arg-2.ensures.flag;
-    }) c.arg-8.ensures
+      is_areas = c.flag_arg-3.ensures.flag;
+    }) c.arg-9.ensures

@@ -11,6 +11,6 @@ returns-in-Err-TooManyTiles g c =
       fitting_chosen c.args.asked.now.side c.args.a.now c.args.b.now c.fitting_side.result c.is_none.result c.is_none.ensures c.if-is_none.true c.fitting_side.ensures.side,
       subst (λ out. RunsFor g.O.Sink.state out c.perform_by-in-Err-TooManyTiles.new.out c.args.asked.now c.fitting_side.result c.args.a.now c.args.b.now c.perform_by-in-Err-TooManyTiles.result)
           same c.perform_by-in-Err-TooManyTiles.ensures.runs,
-      fitted c.args.asked.now.side c.args.asked.now c.fitting_side.result c.args.a.now c.args.b.now c.fitting_side.ensures.fits g.O.Sink.state c.perform_by.new.out c.perform_by-in-Err-TooManyTiles.new.out c.perform_by-in-Err-TooManyTiles.result
+      fitted c.args.asked.now.side c.args.asked.now c.fitting_side.result c.args.a.now c.args.b.now c.fitting_side.ensures.fits g.O.Sink.state c.perform_by.new.out c.perform_by-in-Err-TooManyTiles.new.out _ c.perform_by-in-Err-TooManyTiles.result
           c.perform_by-in-Err-TooManyTiles.ensures.runs,
     )
