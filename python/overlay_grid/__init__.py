@@ -9,7 +9,7 @@ Layers are texts of POLYGON and MULTIPOLYGON geometries with whole coordinates, 
 
 The answer is of the first layer's type. A call runs on the calling thread, and the interpreter's lock is released meanwhile. The
 side of a tile, in grid units, has no influence on the answer; where none is given, one is taken that fits the layers. Both layers
-together may have as many segments as is said, 1,048,576 where nothing is; ten million take some 1.6 GB of memory.
+together may have as many segments as is said, 1,048,576 where nothing is; ten million of parcels take some 1 GB of memory.
 
 Coordinates that aren't whole are brought to a grid whose unit is said, and the answer is brought back:
 
@@ -31,7 +31,7 @@ numbered from 1:
 8 ((1,), (1,)) MULTIPOLYGON (((2 2, 4 2, 4 4, 2 4, 2 2)))
 24 ((), (1,)) MULTIPOLYGON (((2 4, 4 4, 4 2, 6 2, 6 6, 2 6, 2 4)))
 
-An operation on many pairs of geometries is one call, `pairs`.
+An operation on many pairs of geometries is one call, `pairs`. `measured` tells areas beside an answer.
 
 What can't be read is refused: a text by `Refused`, a geometry by `GeometryError`, both of which are ValueErrors and tell the place.
 
@@ -42,17 +42,20 @@ from __future__ import annotations
 
 from typing import Any, Iterable, List, NamedTuple, Optional, Protocol, Sequence, Tuple, TypeVar, Union, overload
 
-from . import _asking, _calls, _edges, _frames, _kinds, _pairs, _rows, _wkb
+from . import _asking, _calls, _edges, _frames, _kinds, _measuring, _pairs, _rows, _wkb
 from ._asking import Plan
 from ._calls import CALLS, Operation
 from ._edges import Edge
 from ._faults import GeometryError, OutOfMemory, Refusal, Refused
 from ._grid import Origin, Unit
+from ._measuring import LayerMeasures, Measured
 
 __all__ = [
     "Edge",
     "Face",
     "GeometryError",
+    "LayerMeasures",
+    "Measured",
     "Operation",
     "OutOfMemory",
     "Refusal",
@@ -65,6 +68,7 @@ __all__ = [
     "faces",
     "faces_text",
     "intersection",
+    "measured",
     "overlay",
     "pairs",
     "symdifference",
@@ -74,7 +78,7 @@ __all__ = [
 __version__ = "1.0.0"
 
 # Exceptions are pickled and told of by the names that users import.
-for _public in (Edge, GeometryError, Operation, OutOfMemory, Refusal, Refused):
+for _public in (Edge, GeometryError, LayerMeasures, Measured, Operation, OutOfMemory, Refusal, Refused):
     _public.__module__ = __name__
 
 # A layer's text, and the answer's: str, or bytes and what has a buffer of bytes. Bytes may be WKB,
@@ -429,6 +433,69 @@ def edges(
     1 0 1 1 1 0
     """
     return _asked(CALLS[Operation.EDGES], a, b, side, segments, grid, origin)
+
+
+@overload
+def measured(
+    operation: Union[Operation, str],
+    a: Text,
+    b: Union[str, bytes],
+    side: Optional[int] = None,
+    segments: Optional[int] = None,
+    *,
+    grid: Optional[Unit] = None,
+    origin: Optional[Origin] = None,
+) -> Measured[Text]: ...
+
+
+@overload
+def measured(
+    operation: Union[Operation, str],
+    a: Layer,
+    b: Layer,
+    side: Optional[int] = None,
+    segments: Optional[int] = None,
+    *,
+    grid: Optional[Unit] = None,
+    origin: Optional[Origin] = None,
+) -> Measured[Any]: ...
+
+
+def measured(
+    operation: Union[Operation, str],
+    a: Any,
+    b: Any,
+    side: Optional[int] = None,
+    segments: Optional[int] = None,
+    *,
+    grid: Optional[Unit] = None,
+    origin: Optional[Origin] = None,
+) -> Measured[Any]:
+    """What an operation answers, with the areas of the result and of both layers after rounding, and how many steps the routes of each
+    layer's segments have.
+
+    >>> squares = "POLYGON ((0 0, 4 0, 4 4, 0 4, 0 0)) POLYGON ((2 0, 6 0, 6 4, 2 4, 2 0))"
+    >>> told = measured("difference", squares, "POLYGON ((0 1, 1 1, 1 2, 0 2, 0 1))")
+    >>> told.result
+    'MULTIPOLYGON (((0 0, 2 0, 2 4, 0 4, 0 2, 1 2, 1 1, 0 1, 0 0)), ((4 0, 6 0, 6 4, 4 4, 4 0)))\\n'
+    >>> told.area, told.a.area, told.b.area
+    (15.0, 16.0, 1.0)
+    >>> told.a.steps, told.b.steps
+    (14, 4)
+
+    Areas are in square units of the coordinates, as numbers next to the exact ones; `twice_area` has them in squares of the grid, exactly.
+    A layer's area is that of the points that it has as it is read. By parity, as here, overlaps cancel: what the polygons have in sum beyond
+    it lies under several of them, but for what rounding took or gave. A list has what any of its geometries covers, and where there are
+    several the faces are computed too. A segment has one step, and one more for each grid point that it is led through on its way, where it
+    meets another border or is bent.
+    """
+    word = Operation(operation)
+    if word is Operation.EDGES:
+        raise ValueError("edges have no areas: the operation is one of union, intersection, difference and symdifference")
+    plan = Plan(side, segments, grid, origin)
+    if grid is None and origin is None and _is_text(a) and _is_text(b):
+        return _measuring.of_texts(CALLS[word], a, b, plan)
+    return _measuring.measured(CALLS[word], a, b, plan)
 
 
 def covered_text(

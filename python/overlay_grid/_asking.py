@@ -20,6 +20,7 @@ from ._columns import lines_on, polygons_of
 from ._faults import Refused
 from ._grid import FINEST, FINEST_DEGREES, Frame, Origin, Unit, frame_at, frame_for, joined
 from ._kinds import Answerer, Given, answer_of, arrays_answer, given, told_at
+from ._library import Measures
 from ._rows import Line, lines_of
 from ._shapes import Polygons, Shapes
 from ._texts import Text
@@ -111,24 +112,30 @@ def operation(call: int, a: Any, b: Any, plan: Plan) -> Any:
     """What an operation answers, of the first layer's kind."""
     layers = layers_of([a, b])
     frame = frame_of(layers, plan)
+    return answer_of(answerer_of(layers), answered(call, layers, frame, plan), frame)
+
+
+def answered(call: int, layers: Sequence[Given], frame: Frame, plan: Plan) -> Polygons:
+    """The polygons that an operation answers on layers, each as it is read."""
     if all(map(simple, layers)):
         return by_parity(call, layers, frame, plan)
     if all(layer.covered for layer in layers):
         texts = texts_of(layers, frame)
         if max(map(len, texts)) <= longest_of(plan.limit):
-            return by_texts(call, layers, texts, frame, plan, covered=True)
-    rows = chosen_of(call, layers, frame, plan)
+            return by_texts(call, layers, texts, plan, covered=True)
+    rows = overlapping(layers, frame, plan)
     if rows is None:
         return by_parity(call, layers, frame, plan)
-    return answer_of(answerer_of(layers), united(rows), frame)
+    return united(row.polygons for row in chosen_of(call, layers, rows))
 
 
-def by_parity(call: int, layers: Sequence[Given], frame: Frame, plan: Plan) -> Any:
-    """What an operation answers on layers that are read by parity: as columns where neither is a text."""
+def by_parity(call: int, layers: Sequence[Given], frame: Frame, plan: Plan, measures: Optional[Measures] = None) -> Polygons:
+    """What an operation answers on layers that are read by parity: as columns where neither is a text. `measures` gets what became of
+    the layers."""
     first, second = (layer.held for layer in layers)
-    if not (isinstance(first, Shapes) and isinstance(second, Shapes)):
-        return by_texts(call, layers, texts_of(layers, frame), frame, plan, covered=False)
-    return answer_of(answerer_of(layers), polygons_of(call, first.on_grid(frame), second.on_grid(frame), plan.side, plan.limit), frame)
+    if isinstance(first, Shapes) and isinstance(second, Shapes):
+        return polygons_of(call, first.on_grid(frame), second.on_grid(frame), plan.side, plan.limit, measures)
+    return by_texts(call, layers, texts_of(layers, frame), plan, measures=measures)
 
 
 def texts_of(layers: Sequence[Given], frame: Frame) -> List[bytes]:
@@ -136,21 +143,30 @@ def texts_of(layers: Sequence[Given], frame: Frame) -> List[bytes]:
     return [layer.held.text(frame) for layer in layers]
 
 
-def by_texts(call: int, layers: Sequence[Given], texts: Sequence[bytes], frame: Frame, plan: Plan, covered: bool) -> Any:
+def by_texts(
+    call: int, layers: Sequence[Given], texts: Sequence[bytes], plan: Plan, covered: bool = False, measures: Optional[Measures] = None
+) -> str:
     """What an operation answers on the texts of layers, by parity or as they are covered."""
-    text = asked(layers, lambda: text_of(call, texts[0], texts[1], plan.side, plan.limit, covered))
-    return answerer_of(layers)(text.decode("ascii"), frame)
+    return asked(layers, lambda: text_of(call, texts[0], texts[1], plan.side, plan.limit, covered, measures)).decode("ascii")
 
 
-def chosen_of(call: int, layers: Sequence[Given], frame: Frame, plan: Plan) -> Optional[List[Polygons]]:
-    """The rows that an operation has on layers of which one is read as covered; nothing where no features of that overlap, so that parity
-    tells the same."""
+def overlapping(layers: Sequence[Given], frame: Frame, plan: Plan) -> Optional[List[Line]]:
+    """The faces of layers of which one is read as covered; nothing where no features of that overlap, so that parity tells the same."""
     rows = faces_on(layers, frame, plan, numbered=False)
     covered = [layer.covered for layer in layers]
-    if not any(len(ids) > 1 for row in rows for ids, read in zip(row.ids, covered) if read):
-        return None
+    return rows if any(len(ids) > 1 for row in rows for ids, read in zip(row.ids, covered) if read) else None
+
+
+def holders_of(row: Line, layers: Sequence[Given]) -> Tuple[bool, bool]:
+    """Which of two layers have the points of a row, each as it is read."""
+    first, second = (bool(ids) if layer.covered else len(ids) % 2 == 1 for ids, layer in zip(row.ids, layers))
+    return first, second
+
+
+def chosen_of(call: int, layers: Sequence[Given], rows: Sequence[Line]) -> List[Line]:
+    """The rows that an operation has."""
     choice = CHOICES[call]
-    return [row.polygons for row in rows if choice(*(bool(ids) if read else len(ids) % 2 == 1 for ids, read in zip(row.ids, covered)))]
+    return [row for row in rows if choice(*holders_of(row, layers))]
 
 
 def faces_on(layers: Sequence[Given], frame: Frame, plan: Plan, numbered: bool = True) -> List[Line]:

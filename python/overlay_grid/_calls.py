@@ -5,10 +5,10 @@ from __future__ import annotations
 import ctypes
 import enum
 from operator import index
-from typing import Optional, Sequence, SupportsIndex, Union
+from typing import Optional, Sequence, SupportsIndex, Tuple, Union
 
 from ._faults import OutOfMemory, Refusal, Refused
-from ._library import ANSWERED, NO_CALL, NO_MEMORY, SMALL, Answer, Layer, library
+from ._library import ANSWERED, NO_CALL, NO_MEMORY, SMALL, Answer, Layer, Measures, library
 from ._rooms import Room, given_back, taken
 
 # How many segments all layers together may have, where nothing is said of texts; and where nothing is said of geometries.
@@ -125,32 +125,49 @@ def longest_of(limit: int) -> int:
     return min(max(BYTES_A_SEGMENT * limit, LONGEST), MOST_BYTES)
 
 
-def fill(call: int, side: int, limit: int, a: bytes, b: bytes, covered: bool) -> Room:
+def places_of(measures: Optional[Measures]) -> Tuple[int, ...]:
+    """Where measures go, for a call that tells them."""
+    return () if measures is None else (ctypes.addressof(measures),)
+
+
+def fill(call: int, side: int, limit: int, a: bytes, b: bytes, covered: bool, measures: Optional[Measures]) -> Room:
     """The room with what the library answers, in which the text is whole where there is one."""
     filled = library.overlay_covered_fill if covered else library.overlay_fill_within
+    if measures is not None:
+        filled = library.overlay_measured_fill
+    more = places_of(measures)
     # a guess: where it is too small, all is made again
     size = 256 + (6 if call == 4 else 2) * (len(a) + len(b))
     while True:
         room = taken(size)
-        filled(call, side, limit, a, len(a), b, len(b), room.place, room.size, room.answer_place)
+        filled(call, side, limit, a, len(a), b, len(b), room.place, room.size, room.answer_place, *more)
         if room.answer.status != SMALL:
             return room
         size = room.answer.length
         given_back(room)
 
 
-def text_of(call: int, a: bytes, b: bytes, side: Optional[int], segments: Optional[int], covered: bool = False) -> bytes:
-    """What an operation answers on two texts, whose geometries don't cancel each other where they are read as covered."""
+def text_of(
+    call: int,
+    a: bytes,
+    b: bytes,
+    side: Optional[int],
+    segments: Optional[int],
+    covered: bool = False,
+    measures: Optional[Measures] = None,
+) -> bytes:
+    """What an operation answers on two texts, whose geometries don't cancel each other where they are read as covered. Where they aren't,
+    `measures` gets what became of the layers."""
     limit = SEGMENTS if segments is None else limit_of(segments)
     tried = side is None and len(a) + len(b) <= TRIED
     if side is None:
         number = SIDE if tried else library.overlay_side(a, len(a), b, len(b))
     else:
         number = side_number(side)
-    room = fill(call, number, limit, a, b, covered)
+    room = fill(call, number, limit, a, b, covered, measures)
     if tried and room.answer.number == Refusal.TOO_MANY_TILES:
         given_back(room)
-        room = fill(call, library.overlay_side(a, len(a), b, len(b)), limit, a, b, covered)
+        room = fill(call, library.overlay_side(a, len(a), b, len(b)), limit, a, b, covered, measures)
     if room.answer.status != ANSWERED:
         raise fault_of(room.answer)
     text = room.text()

@@ -9,9 +9,9 @@ from itertools import repeat
 from operator import add
 from typing import Iterator, List, Optional, Sequence, Tuple, Union
 
-from ._calls import IDS, LAYERS, MOST_SEGMENTS, SEGMENTS, SIDE, fault_of, limit_of, side_number
+from ._calls import IDS, LAYERS, MOST_SEGMENTS, SEGMENTS, SIDE, fault_of, limit_of, places_of, side_number
 from ._faults import OutOfMemory, Refusal, Refused
-from ._library import ANSWERED, SMALL, Answer, Columns, ColumnsAnswer, FacesAnswer, library
+from ._library import ANSWERED, SMALL, Answer, Columns, ColumnsAnswer, FacesAnswer, Measures, library
 from ._rooms import Room, face_lengths_for, face_size, given_back, size_for, size_for_faces, taken
 from ._rows import Line, lines_in
 from ._shapes import Features, Found, Paired, Piece, Rings, Whole, counts_of
@@ -34,26 +34,30 @@ class Passed:
         self.columns = Columns(place or first, count, *offsets.buffer_info(), *whole.buffer_info(), *one.buffer_info())
 
 
-def fill(call: int, side: int, limit: int, a: Passed, b: Passed, points: int) -> Room:
+def fill(call: int, side: int, limit: int, a: Passed, b: Passed, points: int, measures: Optional[Measures]) -> Room:
     """The room with what the library answers, in which the columns are whole where there are any."""
+    filled = library.overlay_columns_fill if measures is None else library.overlay_measured_columns_fill
+    more = places_of(measures)
     while True:
         room = taken(size_for(points))
-        library.overlay_columns_fill(call, side, limit, a.columns, b.columns, *room.columns)
+        filled(call, side, limit, a.columns, b.columns, *room.columns, *more)
         if room.columns_answer.status != SMALL:
             return room
         points = room.columns_answer.coordinates // 2
         given_back(room)
 
 
-def polygons_of(call: int, a: Rings, b: Rings, side: Optional[int], segments: Optional[int]) -> Found:
-    """What an operation answers on the rings of two layers."""
+def polygons_of(
+    call: int, a: Rings, b: Rings, side: Optional[int], segments: Optional[int], measures: Optional[Measures] = None
+) -> Found:
+    """What an operation answers on the rings of two layers; `measures` gets what became of these."""
     limit = SEGMENTS if segments is None else limit_of(segments)
     first, second = Passed(a), Passed(b)
     points = 64 + len(a.coordinates) + len(b.coordinates)  # a guess: where it is too small, all is made again
-    room = fill(call, SIDE if side is None else side_number(side), limit, first, second, points)
+    room = fill(call, SIDE if side is None else side_number(side), limit, first, second, points, measures)
     if side is None and room.columns_answer.number == Refusal.TOO_MANY_TILES:
         given_back(room)
-        room = fill(call, library.overlay_columns_side(first.columns, second.columns), limit, first, second, points)
+        room = fill(call, library.overlay_columns_side(first.columns, second.columns), limit, first, second, points, measures)
     told = room.columns_answer
     if told.status != ANSWERED:
         raise fault_in(told)

@@ -8,7 +8,7 @@ import os
 ANSWERED, NO_MEMORY, NO_CALL, REFUSED, SMALL = range(5)
 
 # The version of the calls that this package makes.
-CALLS = 5
+CALLS = 6
 
 
 class Answer(ctypes.Structure):
@@ -48,6 +48,23 @@ class ColumnsAnswer(ctypes.Structure):
         *((name, ctypes.c_uint64) for name in ("coordinates", "rings", "polygons", "detail")),
         *((name, ctypes.c_uint32) for name in ("status", "number", "part")),
     ]
+
+
+class LayerMeasures(ctypes.Structure):
+    """What became of a layer that was rounded with another one."""
+
+    twice_area: int
+    steps: int
+    _fields_ = [("twice_area", ctypes.c_int64), ("steps", ctypes.c_uint64)]
+
+
+class Measures(ctypes.Structure):
+    """What became of both layers, and twice the area of the result. Where there is no result all is 0."""
+
+    a: LayerMeasures
+    b: LayerMeasures
+    twice_area: int
+    _fields_ = [("a", LayerMeasures), ("b", LayerMeasures), ("twice_area", ctypes.c_int64)]
 
 
 class FacesAnswer(ctypes.Structure):
@@ -90,6 +107,8 @@ def _opened() -> ctypes.CDLL:
     opened.overlay_fill_within.restype = None
     opened.overlay_covered_fill.argtypes = opened.overlay_fill_within.argtypes
     opened.overlay_covered_fill.restype = None
+    opened.overlay_measured_fill.argtypes = [*opened.overlay_fill_within.argtypes, ctypes.c_void_p]
+    opened.overlay_measured_fill.restype = None
     opened.overlay_words.argtypes = [ctypes.POINTER(Answer), *text]
     opened.overlay_words.restype = ctypes.c_size_t
     opened.overlay_side.argtypes = [*text, *text]
@@ -103,6 +122,8 @@ def _opened() -> ctypes.CDLL:
     columns = ctypes.POINTER(Columns)
     opened.overlay_columns_fill.argtypes = [*[ctypes.c_uint32] * 3, columns, columns, *room[:2], *room[:2], *room]
     opened.overlay_columns_fill.restype = None
+    opened.overlay_measured_columns_fill.argtypes = [*opened.overlay_columns_fill.argtypes, ctypes.c_void_p]
+    opened.overlay_measured_columns_fill.restype = None
     opened.overlay_pairs_fill.argtypes = [*[ctypes.c_uint32] * 2, columns, columns, *room[:2] * 3, *room]
     opened.overlay_pairs_fill.restype = None
     opened.overlay_columns_side.argtypes = [columns, columns]

@@ -70,7 +70,7 @@ def test_examples():
     told = [doctest.testmod(part) for part in parts]
     assert not any(one.failed for one in told) and sum(one.attempted for one in told) >= 24
     page = doctest.testfile(os.path.join(os.path.dirname(HERE), "README.md"), module_relative=False)
-    assert page.failed == 0 and page.attempted == 15
+    assert page.failed == 0 and page.attempted == 18
 
 
 def test_no_library(tmp_path):

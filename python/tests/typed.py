@@ -9,6 +9,8 @@ from overlay_grid import (
     Edge,
     Face,
     GeometryError,
+    LayerMeasures,
+    Measured,
     Operation,
     Refusal,
     Refused,
@@ -17,6 +19,7 @@ from overlay_grid import (
     edges,
     faces,
     faces_text,
+    measured,
     overlay,
     pairs,
     union,
@@ -36,6 +39,11 @@ ids: list[tuple[tuple[int, ...], ...]] = [row.ids for row in found]
 wkt: list[str] = [row.wkt for row in found]
 any_of_them: bytes = overlay(Operation.DIFFERENCE, bytearray(), memoryview(b""))
 on_a_grid: str = union("", "", grid=0.1, origin=("412000", Decimal(0)))
+told_of_texts: Measured[str] = measured("union", "", b"", segments=7)
+told_of_bytes: bytes = measured(Operation.UNION, b"", "", 16).result
+of_a_layer: tuple[float, int, int] = told_of_texts.a
+steps: int = told_of_texts.b.steps
+exactly: int = told_of_texts.twice_area + LayerMeasures(0.5, 3, 1).twice_area
 areas_on_it: list[float] = [face.area for face in faces("", b"", grid=0.5)]
 
 
@@ -56,6 +64,7 @@ class Frame:
 of_a_geometry = union(Square(), Square(), grid="0.001")
 of_geometries = union([Square(), None], b"")
 faces_of_geometries = faces([Square()], Square())
+told_of_geometries: float = measured("difference", Square(), [Square()], grid=1).area
 clipped: list[bytes] = pairs(Operation.INTERSECTION, [b"", b""], b"", grid="0.1", origin=(0, 0))
 against_each: list[bytes] = pairs("difference", b"", [Square(), None])
 of_pairs = pairs("union", [Square(), None], (Square(), b""), grid=1)
@@ -78,6 +87,7 @@ not_a_str: str = faces_text(b"")  # type: ignore[assignment]
 none_of_them = faces()  # type: ignore[call-overload]
 not_faces: list[Face] = faces("", "")  # type: ignore[assignment]
 no_edges: list[Edge] = edges("", b"")  # type: ignore[assignment]
+not_told: bytes = measured("union", "", "").result  # type: ignore[assignment]
 not_one: bytes = pairs("union", [b""], b"")  # type: ignore[assignment]
 no_pairs = pairs(1, [b""], [b""])  # type: ignore[call-overload]
 no_unit = union("", "", grid=[1])  # type: ignore[call-overload]
