@@ -5,40 +5,29 @@ from __future__ import annotations
 
 from .common_grid import CommonGrid
 from .messages import say, warn
-from .program import edges_of, result_in
-from .questions import Layer, Question, Questions
+from .questions import Layer, Measures
+from .rings import Gridded
 from .systems import area_name, unit_name
 
 
-def parity(questions: Questions, layer: Layer, union: Question) -> tuple[int, int]:
-    """Twice the area of a layer as it is read, by parity and rounded, and how many segments were
-    bent at most.
+def bent_by(grid: Gridded, bends: int) -> float:
+    """By how much the area of a layer differs at most, where routes have so many bends in all.
 
-    The layer's union with nothing tells how many pixels its segments meet beyond their own ends.
-    Where there is no report, the rounded edges tell it: a segment with so many pixels has one edge
-    less.
+    A route's points lie at most 0.71 from its segment, in their order along it. So the area between
+    them is at most 0.71 times the segment's length, and half of that where there is one bend alone:
+    two bends at least for each whole length. Of segments that two polygons share nothing is told by
+    parity, before and after.
     """
-    text, report = union.answer()
-    twice = sum(result_in(text).twice_areas())
-    if "records" in report:
-        return twice, report["records"] - 2 * layer.grid.segments
-    if twice == layer.grid.twice_area():
-        return twice, 0
-    edges = edges_of(questions.ask("edges", [layer]).answer()[0])
-    return twice, int(edges[:, 4].sum()) - layer.grid.segments
+    return 0.71 * grid.longest((bends + 1) // 2)
 
 
-def tell_change(together: CommonGrid, layer: Layer, union: Question) -> None:
+def tell_change(together: CommonGrid, layer: Layer, measures: Measures) -> None:
     """Tells what moved, and warns where more area than rounding can explain is lost, since a layer
-    is read by parity.
-
-    Bending changes an area by 0.71 times the length of the segments that are bent.
-    """
-    grid, name = layer.grid, layer.source.name
-    twice, bent = parity(together.questions, layer, union)
+    is read by parity."""
+    grid, name, twice = layer.grid, layer.source.name, measures.twice
     area, square = together.frame.area, area_name(together.system)
     before = grid.twice_area()
-    if before != twice and abs(before - twice) > 2 * 0.71 * grid.longest(bent):
+    if before != twice and abs(before - twice) > 2 * bent_by(grid, measures.steps - grid.segments):
         warn(
             name,
             (

@@ -28,7 +28,7 @@ from .layers import Source
 from .merging import Groups, merged
 from .messages import during, say
 from .output import Column, Table
-from .program import FACES
+from .program import COVERED, FACES
 
 EXAMPLE = "overlay-gis dissolve parcels.gpkg --by owner -o owners.gpkg"
 
@@ -69,7 +69,7 @@ class United:
 def all_of(together: CommonGrid) -> United:
     """All features of the layer as one."""
     (layer,) = together.layers
-    found = together.questions.ask("union", [layer], covered=True).result()
+    found = together.questions.ask("union", [layer], COVERED).result()
     shapes = replace(found, features=np.array([0, len(found.polygons) - 1]), ids=np.zeros(1, np.int64))
     return United(shapes, [()], [len(layer.grid.layer.ids)], [sum(found.twice_areas())])
 

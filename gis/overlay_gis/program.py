@@ -18,7 +18,7 @@ from typing import BinaryIO, Sequence
 from .columns import Columns, Numbers
 from .faults import Fault, Refusal
 from .messages import during, waited
-from .parsing import edge_rows, polygons_in
+from .parsing import polygons_in
 from .rows import Rows, rows_in
 from .texts import RESULT, kind_of
 
@@ -49,8 +49,14 @@ LETTERS = "ABCDEFGHIJKLMNOPQRSTUVWXYZ"
 PROGRAM = "overlay"
 DOUBT = "is it the program that it should be?"
 
-# A line of the report, but for those of tiles: a name, and its first number.
-REPORTED = re.compile(r"(?!tile )([a-z]+) (\d{1,20})\b")
+# How layers may be read otherwise, or what is told too, of an operation: features that overlap
+# don't cancel each other; or twice the areas (AREA) and the steps of routes (STEPS).
+COVERED, AREAS = "--covered", "--areas"
+AREA, STEPS = "area2", "steps"
+
+# A line of the report, but for those of tiles: a name, and the numbers behind it.
+REPORTED = re.compile(r"(?!tile )([a-z]+2?)((?: \d{1,20})+)\b")
+Report = dict[str, tuple[int, ...]]
 
 TOP = Path(__file__).resolve().parents[2]
 
@@ -113,13 +119,13 @@ class Asked:
     """The program at work on a command and some texts, whose answer is waited for; at the end of
     the context it has ended."""
 
-    def __init__(self, command: str, *texts: Text, segments: int = 0, covered: bool = False):
+    def __init__(self, command: str, *texts: Text, segments: int = 0, option: str = ""):
         self.command = command
         self.texts = texts
         self.out, self.told = memory("answer"), memory("report")
         words = [located(), command, *(text.path for text in texts), "--report"]
         words += ["--segments", str(segments)] if segments > SEGMENTS else []
-        words += ["--covered"] if covered else []
+        words += [option] if option else []
         files = [text.file.fileno() for text in self.texts]
         try:
             self.process = Popen(words, stdout=self.out, stderr=self.told, pass_fds=files)
@@ -141,7 +147,7 @@ class Asked:
             self.process.wait(seconds)
         return self.process.returncode is not None
 
-    def answer(self) -> tuple[bytes, dict[str, int]]:
+    def answer(self) -> tuple[bytes, Report]:
         """What the program wrote, and the numbers of its report by their names."""
         waited(f"overlay {self.command}", self.ended)
         status = self.process.returncode
@@ -151,17 +157,17 @@ class Asked:
                 told[-1] if told else f"ended with status {status} and no word", status, self.texts
             )
         numbers = (REPORTED.match(line) for line in told)
-        return held(self.out), {found[1]: int(found[2]) for found in numbers if found}
+        return held(self.out), {found[1]: tuple(map(int, found[2].split())) for found in numbers if found}
 
 
 class AskedLibrary:
     """The package for Python in the program's place: it works when it is asked for the answer, and
-    tells of a report the number of rows alone."""
+    tells of a report the number of rows alone, or the areas and the steps."""
 
-    def __init__(self, package: ModuleType, command: str, *texts: Text, segments: int = 0, covered: bool = False):
+    def __init__(self, package: ModuleType, command: str, *texts: Text, segments: int = 0, option: str = ""):
         self.package = package
         self.command = command
-        self.covered = covered
+        self.option = option
         self.texts = texts
         self.plan = {"segments": segments} if segments > SEGMENTS else {}
 
@@ -171,14 +177,17 @@ class AskedLibrary:
     def __exit__(self, *_: object) -> None:
         pass
 
-    def answer(self) -> tuple[bytes, dict[str, int]]:
+    def answer(self) -> tuple[bytes, Report]:
         package = self.package
         try:
             with during(f"overlay {self.command}"):
-                call = getattr(package, call_for(self.command, self.covered))
-                words = [self.command] if self.covered else []
+                call = getattr(package, call_for(self.command, self.option))
+                words = [self.command] if self.option else []
                 answer = call(*words, *(held(text.file) for text in self.texts), **self.plan)
-            return answer, {"rows": answer.count(b"\n")} if self.command == FACES else {}
+            if self.option == AREAS:
+                a, b = answer.a, answer.b
+                return answer.result, {AREA: (a.twice_area, b.twice_area, answer.twice_area), STEPS: (a.steps, b.steps)}
+            return answer, {"rows": (answer.count(b"\n"),)} if self.command == FACES else {}
         except package.Refused as fault:
             mark = f"{fault.layer}: " if fault.layer and not str(fault).startswith(f"{fault.layer}: ") else ""
             raise refusal(mark + str(fault), Refusal.status, self.texts) from fault
@@ -186,23 +195,23 @@ class AskedLibrary:
             raise refusal(str(fault), Fault.status, self.texts) from fault
 
 
-# The package's calls that aren't named as the program's commands are.
-CALLS = {FACES: "faces_text"}
+# The package's calls that aren't named as the program's commands are, and those for all operations
+# with an option.
+CALLS = {FACES: "faces_text", COVERED: "covered_text", AREAS: "measured"}
 
 
-def call_for(command: str, covered: bool) -> str:
-    """The package's call for a command; that for all operations on covered layers is one."""
-    return "covered_text" if covered else CALLS.get(command, command)
+def call_for(command: str, option: str) -> str:
+    """The package's call for a command, or for operations with an option."""
+    return CALLS.get(option or command, command)
 
 
-def asked(command: str, *texts: Text, segments: int = 0, covered: bool = False) -> Asked | AskedLibrary:
+def asked(command: str, *texts: Text, segments: int = 0, option: str = "") -> Asked | AskedLibrary:
     """A command on some texts, at which the program is at work, with room for so many segments; or
-    the package, if it has the call. `covered`: a point lies in a layer where one of its features at
-    least covers it."""
+    the package, if it has the call."""
     package = library()
-    if package is None or not hasattr(package, call_for(command, covered)):
-        return Asked(command, *texts, segments=segments, covered=covered)
-    return AskedLibrary(package, command, *texts, segments=segments, covered=covered)
+    if package is None or not hasattr(package, call_for(command, option)):
+        return Asked(command, *texts, segments=segments, option=option)
+    return AskedLibrary(package, command, *texts, segments=segments, option=option)
 
 
 def refusal(line: str, status: int, texts: Sequence[Text]) -> Fault:
@@ -224,14 +233,6 @@ def result_in(text: bytes) -> Columns[Numbers]:
         with suppress(Refusal):
             return polygons_in(text, PROGRAM)
     raise Fault(PROGRAM, f"its answer is no result: {DOUBT}")
-
-
-def edges_of(text: bytes) -> Numbers:
-    """The edges of what the program answers to `edges`, a row for each."""
-    try:
-        return edge_rows(text, PROGRAM)
-    except Refusal as error:
-        raise Fault(PROGRAM, f"{error.reason}: {DOUBT}") from error
 
 
 def rows_of(text: bytes, layers: int) -> Rows:

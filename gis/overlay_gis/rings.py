@@ -8,7 +8,7 @@ from dataclasses import dataclass, replace
 import numpy as np
 
 from .columns import POINTS, Columns, Floats, Mask, Numbers, offsets
-from .frame import Frame
+from .frame import LIMIT, Frame
 
 # A ring of fewer points, the first one again at its end, covers nothing.
 LEAST_RING = 4
@@ -45,11 +45,13 @@ class Gridded:
         return sum(self.layer.twice_areas())
 
     def longest(self, count: int) -> float:
-        """The length of so many segments, the longest ones."""
-        lengths = np.hypot(*segments(self.layer))
-        if 0 < count < len(lengths):
+        """The length of so many segments that are borders by parity, the longest ones."""
+        if count <= 0:
+            return 0.0
+        lengths = np.hypot(*borders(self.layer))
+        if count < len(lengths):
             lengths.partition(len(lengths) - count)
-        return float(lengths[-count:].sum()) if count > 0 else 0.0
+        return float(lengths[-count:].sum())
 
 
 def opened(layer: Columns[Floats]) -> Mask:
@@ -74,6 +76,22 @@ def segments(layer: Columns[Numbers]) -> tuple[Numbers, Numbers]:
     np.subtract(layer.y[1:], layer.y[:-1], out=up[1:])
     across[layer.firsts] = up[layer.firsts] = 0
     return across, up
+
+
+def borders(layer: Columns[Numbers]) -> tuple[Numbers, Numbers]:
+    """The same of each segment that is there an odd number of times, in either direction. By parity
+    the others are no borders, and rounding makes none of them: all take the same route."""
+    across, up = segments(layer)
+    ends = np.flatnonzero(across | up)
+    points = ((layer.x + LIMIT) << 30) + layer.y + LIMIT
+    pairs = np.stack([points[ends - 1], points[ends]])
+    pairs.sort(axis=0)
+    order = np.lexsort(pairs)
+    found = pairs[:, order]
+    firsts = np.flatnonzero(np.append(True, (found[:, 1:] != found[:, :-1]).any(axis=0))[: len(ends)])
+    odd = np.diff(firsts, append=len(ends)) % 2 == 1
+    kept = ends[order[firsts[odd]]]
+    return across[kept], up[kept]
 
 
 def perimeters(layer: Columns[Numbers]) -> Floats:

@@ -60,13 +60,24 @@ def table_of(result: Columns[Numbers], frame: Frame) -> Table:
 def answer(both: CommonGrid, operation: str, covered: bool) -> Columns[Numbers]:
     """What the program answers, and what became of each layer is told; `covered`: each layer is
     read as all that its features cover."""
-    alone = [(layer, both.questions.ask("union", [layer], covered)) for layer in both.layers if layer.grid.polygons]
-    asked = both.questions.ask(operation, both.layers, covered)
+    return dissolved(both, operation) if covered else by_parity(both, operation)
+
+
+def by_parity(both: CommonGrid, operation: str) -> Columns[Numbers]:
+    """The same of layers that are read by parity."""
+    result, measures = both.questions.ask(operation, both.layers, program.AREAS).measured()
+    for layer, told in zip(both.layers, measures):
+        if layer.grid.polygons:
+            tell_change(both, layer, told)
+    return result
+
+
+def dissolved(both: CommonGrid, operation: str) -> Columns[Numbers]:
+    """The same of layers that are read as all that their features cover."""
+    alone = [(layer, both.questions.ask("union", [layer], program.COVERED)) for layer in both.layers if layer.grid.polygons]
+    asked = both.questions.ask(operation, both.layers, program.COVERED)
     for layer, union in alone:
-        if covered:
-            tell_moves(both, layer, "in sum", sum(union.result().twice_areas()), "united")
-        else:
-            tell_change(both, layer, union)
+        tell_moves(both, layer, "in sum", sum(union.result().twice_areas()), "united")
     return asked.result()
 
 

@@ -17,6 +17,7 @@ from .faults import Fault, Refusal
 from .frame import Frame
 from .layers import Source, Survey, common_system, files_of
 from .messages import say
+from .program import COVERED
 from .rings import Gridded, segments
 from .surveys import box_of, names_of, surveyed
 from .systems import system_from, system_name
@@ -83,7 +84,7 @@ def frame_for(arguments: Namespace, sources: list[Source], surveys: list[Survey]
 def united(source: Source, seen: Survey, grid: Gridded, frame: Frame) -> Columns[Numbers]:
     """All that a layer covers on the grid, as one feature."""
     with alone(source, seen, grid, frame) as layer:
-        polygons = layer.questions.ask("union", layer.layers, covered=True).result()
+        polygons = layer.questions.ask("union", layer.layers, COVERED).result()
         return replace(polygons, features=np.array([0, len(polygons.polygons) - 1]), ids=np.ones(1, np.int64))
 
 

@@ -304,7 +304,7 @@ def test_answers_of_a_program_that_are_none(gis, tmp_path, pretend, script, word
     assert gis("check", a).status == 1
 
 
-def test_nothing_is_the_right_answer_only_for_edges_of_nothing(gis, tmp_path, pretend):
+def test_nothing_is_the_right_answer_only_for_faces_of_nothing(gis, tmp_path, pretend):
     a, none = write(tmp_path / "a.gpkg", [SQUARE]), write(tmp_path / "none.gpkg", [])
     pretend(":\n")
     assert gis("faces", none, none, "-o", "out.gpkg").status == 0

@@ -223,7 +223,7 @@ def test_a_signal_ends_the_program_too(tmp_path, begun, number, name):
     program.write_text(f'#!/bin/sh\ntouch "{begun}/$$"\nexec sleep 600\n')
     program.chmod(0o755)
     command = subprocess.Popen(
-        [sys.executable, COMMAND, "run", "union", "a.gpkg", "b.gpkg", "-o", "out.gpkg"],
+        [sys.executable, COMMAND, "run", "union", "a.gpkg", "b.gpkg", "-o", "out.gpkg", "--dissolve"],
         cwd=tmp_path,
         env={**os.environ, "OVERLAY": str(program), "TMPDIR": str(temporary)},
         stderr=subprocess.PIPE,

@@ -4,7 +4,7 @@ import os
 import subprocess
 import sys
 from pathlib import Path
-from types import ModuleType
+from types import ModuleType, SimpleNamespace
 
 import pytest
 from shapely.affinity import translate
@@ -30,25 +30,30 @@ def stand_in(executable, folder):
     """A package with the calls of `overlay_grid`, by the program."""
     asked = []
 
-    def call(command, *more):
+    def done(command, *more):
         def answer(*texts, segments=1 << 20):
-            asked.append(command)
+            asked.append((command, *more))
             files = [Path(folder, f"layer{k}") for k in range(len(texts))]
             for file, text in zip(files, texts):
                 file.write_bytes(text)
-            done = subprocess.run([executable, command, *files, *more], capture_output=True, check=False)
-            if done.returncode:
-                words = done.stderr.decode().strip().removeprefix("overlay: ")
+            ended = subprocess.run([executable, command, *files, *more], capture_output=True, check=False)
+            if ended.returncode:
+                words = ended.stderr.decode().strip().removeprefix("overlay: ")
                 raise Refused(words, words[0] if words[1] == ":" else None)
-            return done.stdout
+            return ended
 
         return answer
 
+    def measured(command, *texts, **named):
+        ended = done(command, "--areas")(*texts, **named)
+        areas, steps = (list(map(int, line.split()[1:])) for line in ended.stderr.decode().splitlines())
+        a, b = (SimpleNamespace(twice_area=twice, steps=count) for twice, count in zip(areas, steps))
+        return SimpleNamespace(result=ended.stdout, a=a, b=b, twice_area=areas[2])
+
     package = ModuleType("overlay_grid")
-    for command in (*program.OPERATIONS, "edges"):
-        setattr(package, command, call(command))
-    package.faces_text = call("faces")
-    package.covered_text = lambda command, *texts, **named: call(command, "--covered")(*texts, **named)
+    package.measured = measured
+    package.faces_text = lambda *texts, **named: done("faces")(*texts, **named).stdout
+    package.covered_text = lambda command, *texts, **named: done(command, "--covered")(*texts, **named).stdout
     package.Refused, package.OutOfMemory = Refused, OutOfMemory
     return package, asked
 
@@ -119,24 +124,36 @@ OVERLAPPING = [
 ]
 
 
-@pytest.mark.parametrize("unit", ["0.001", "0.25"])
+@pytest.mark.parametrize("unit, up", [("0.001", 0), ("0.25", 0), ("0.25", 900)])
 @pytest.mark.parametrize("shapes_of_a", [*OVERLAPPING, parcels(5, 3), parcels(5, 7)])
-def test_the_same_is_said_as_by_the_program(gis, package, monkeypatch, tmp_path, shapes_of_a, unit):
-    a, b = write(tmp_path / "a.gpkg", shapes_of_a), write(tmp_path / "b.gpkg", blobs(6, 7))
+def test_the_same_is_said_as_by_the_program(gis, package, monkeypatch, tmp_path, shapes_of_a, unit, up):
+    """On a coarse grid another layer may bend so much that small overlaps can't be told from
+    that, where it isn't apart."""
+    a = write(tmp_path / "a.gpkg", shapes_of_a)
+    b = write(tmp_path / "b.gpkg", [translate(shape, 0, up) for shape in blobs(6, 7)])
     by_program = gis("run", "union", a, b, "-o", "out.gpkg", "--overwrite", "--grid", unit)
     monkeypatch.delenv("OVERLAY")
     by_package = gis("run", "union", a, b, "-o", "out.gpkg", "--overwrite", "--grid", unit)
-    assert package[1] and by_package == by_program
-    assert (" by parity, " in by_package.err) == (shapes_of_a in OVERLAPPING)
+    assert package[1] == [("union", "--areas")] and by_package == by_program
+    warned, overlaps = " by parity, " in by_package.err, shapes_of_a in OVERLAPPING
+    assert warned == overlaps or (overlaps and (unit, up) == ("0.25", 0))
+
+
+def test_a_package_that_measures_nothing_leaves_it_to_the_program(gis, package, beside, tmp_path):
+    a, b = write(tmp_path / "a.gpkg", OVERLAPPING[1]), write(tmp_path / "b.gpkg", [])
+    del package[0].measured
+    answer = gis("run", "union", a, b, "-o", "out.gpkg")
+    assert "a.gpkg: warning: its polygons have 200 m² in sum, and 100 by parity, " in answer.err
+    assert answer.status == 0 and not package[1]
 
 
 def test_a_refusal_of_the_package_names_the_layer(gis, package, monkeypatch, tmp_path):
     monkeypatch.delenv("OVERLAY")
 
-    def refuse(a, b):
+    def refuse(operation, a, b):
         raise Refused("B: 1 syntax at 5", "B")
 
-    package[0].union = refuse
+    package[0].measured = refuse
     a, b = write(tmp_path / "a.gpkg", parcels(5, 3)), write(tmp_path / "b.gpkg", blobs(6, 3))
     answer = gis("run", "union", a, b, "-o", tmp_path / "out.gpkg")
     assert answer.status == 3

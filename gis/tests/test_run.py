@@ -429,3 +429,18 @@ def test_formats_that_have_another_system_are_refused(gis, tmp_path, name):
     answer = gis("dissolve", write(tmp_path / "a.gpkg", [box(EAST, NORTH, EAST + 1, NORTH + 1)]), "-o", name)
     assert answer.status == 3 and ".gpkg, .geojson, .shp and .fgb keep that of the layers" in answer.err
     assert answer.err.count("\n") == 1 and not (tmp_path / name).exists()
+
+
+@pytest.mark.parametrize("seed", range(20))
+def test_what_the_other_layer_bends_is_no_overlap(gis, tmp_path, seed):
+    """Triangles apart on a coarse grid, whose borders a layer of many short ones bends: what that wins or loses is never told as an overlap."""
+    rng, first = random.Random(seed), []
+    for k in range(6):
+        corners = [(EAST + 25 * k + rng.randrange(25), NORTH + rng.randrange(25)) for _ in range(3)]
+        first += [Polygon(corners)] if Polygon(corners).area else []
+    second = [Polygon([(EAST + rng.uniform(0, 150), NORTH + rng.uniform(0, 25)) for _ in range(9)]) for _ in range(4)]
+    a, b = write(tmp_path / "a.gpkg", first), write(tmp_path / "b.gpkg", second)
+    answer = gis("run", "union", a, b, "-o", "out.gpkg", "--grid", "1")
+    told = re.search(r"a\.gpkg: 0 of \d+ vertices moved; area ([\d.]+) m² before, and ([\d.]+) after\n", answer.err)
+    assert answer.status == 0 and "a.gpkg: warning" not in answer.err
+    assert float(told[1]) == sum(shape.area for shape in first) != float(told[2])
