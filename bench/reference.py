@@ -1,7 +1,7 @@
 #!/usr/bin/env python3
 """The exact reference of `overlay`: every rule of docs/RULES.md as it is defined, in whole numbers and fractions.
 
-    reference.py COMMAND A B [--tile N] [--workers N] [--report] [--points N]
+    reference.py COMMAND A B [--tile N] [--workers N] [--report] [--areas] [--points N]
 
 The command line, the texts, the faults and the report are the program's; the standard library is enough. Nothing here is fast, and
 nothing is the product's algorithm: all pairs are crossed, every hot pixel is tried on every segment, every edge is asked at
@@ -441,6 +441,11 @@ def result_edges(parities: Parities, operation: Operation) -> list[Edge]:
     return sorted(directed)
 
 
+def twice_area(directed: Iterable[Edge]) -> int:
+    """Twice the area that directed edges bound on their left."""
+    return sum(px * qy - py * qx for (px, py), (qx, qy) in directed)
+
+
 # ---- Rings, holes, polygons
 
 
@@ -664,10 +669,20 @@ class Arranged:
             degrees = Counter(p for e in edges for p in e)
             assert all(degree % 2 == 0 for degree in degrees.values()), "an odd degree"
 
-    def directed(self, command: str) -> list[Edge]:
+    def bounding(self, operation: Operation) -> list[Edge]:
         if self.parities is None:
             self.parities = side_parities(self.counts)
-        return result_edges(self.parities, OPERATIONS[command])
+        return result_edges(self.parities, operation)
+
+    def directed(self, command: str) -> list[Edge]:
+        return self.bounding(OPERATIONS[command])
+
+    def areas(self, command: str) -> str:
+        """Twice the areas of both layers, by parity, and of the result; and how many steps the routes of either layer have."""
+        operations: list[Operation] = [lambda a, b: a, lambda a, b: b, OPERATIONS[command]]
+        areas = [twice_area(self.bounding(operation)) for operation in operations]
+        steps = [sum(len(pixels) - 1 for s, pixels in zip(self.segments, self.routes) if s[2] == layer) for layer in (0, 1)]
+        return "area2 %d %d %d\nsteps %d %d\n" % (*areas, *steps)
 
     def text(self, command: str) -> str:
         if command == "edges":
@@ -711,25 +726,26 @@ def is_on(e: Edge, z: Rational) -> bool:
 
 # ---- The program
 
-USAGE = "usage: reference.py <union|intersection|difference|symdifference|edges> A B [--tile N] [--workers N] [--report] [--points N]\n"
+USAGE = "usage: reference.py <union|intersection|difference|symdifference|edges> A B [--tile N] [--workers N] [--report] [--areas] [--points N]\n"
 
 
 class Refused(Exception):
     """A command line that isn't accepted."""
 
 
-def request(words: Iterable[str]) -> tuple[list[str], dict[str, int], bool]:
+def request(words: Iterable[str]) -> tuple[list[str], dict[str, int], set[str]]:
     numbers: dict[str, int] = {}
     free: list[str] = []
-    report, left, plain = False, list(words), False
+    flags: set[str] = set()
+    left, plain = list(words), False
     while left:
         name = left.pop(0)
         if plain or not name.startswith("-") or name == "-":
             free.append(name)
         elif name == "--":
             plain = True
-        elif name == "--report" and not report:
-            report = True
+        elif name in ("--report", "--areas") and name not in flags:
+            flags.add(name)
         else:
             name, equals, value = name.partition("=")
             if name not in ("--tile", "--workers", "--points") or name in numbers or not (equals or left):
@@ -740,7 +756,9 @@ def request(words: Iterable[str]) -> tuple[list[str], dict[str, int], bool]:
             numbers[name] = int(value)
     if len(free) != 3:
         raise Refused("a command and two files are wanted")
-    return free, numbers, report
+    if "--areas" in flags and free[0] == "edges":
+        raise Refused("edges have no areas")
+    return free, numbers, flags
 
 
 def load(name: str, layer: str) -> bytes:
@@ -753,7 +771,7 @@ def load(name: str, layer: str) -> bytes:
 
 def main(words: list[str]) -> int:
     try:
-        (command, *files), numbers, report = request(words)
+        (command, *files), numbers, flags = request(words)
     except Refused as refused:
         sys.stderr.write("%s\n%s" % (refused, USAGE))
         return 2
@@ -771,8 +789,10 @@ def main(words: list[str]) -> int:
         arranged.try_points(command, numbers.get("--points", 0), random.Random(1))
     sys.stdout.write(arranged.text(command))
     sys.stdout.flush()
-    if report:
+    if "--report" in flags:
         sys.stderr.write(arranged.report(side))
+    if "--areas" in flags:
+        sys.stderr.write(arranged.areas(command))
     return 0
 
 

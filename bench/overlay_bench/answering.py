@@ -19,16 +19,17 @@ from .programs import Answer
 
 @dataclass(frozen=True)
 class Plan:
-    """What one command is run by. Without a side the plan is the default one; workers and report are the program's alone."""
+    """What one command is run by. Without a side the plan is the default one; workers, report and areas are the program's alone."""
 
     command: str
     side: int | None
     workers: int
     report: bool
+    areas: bool = False
 
     def words(self) -> list[str]:
         plan = [] if self.side is None else ["--tile=%d" % self.side, "--workers=%d" % self.workers]
-        return plan + ["--report"] * self.report
+        return plan + ["--report"] * self.report + ["--areas"] * self.areas
 
 
 Texts = tuple[bytes, bytes]

@@ -1,8 +1,8 @@
 """compares the program and the library with references, byte for byte, on generated layers of every kind that hurts
 
 Each pair of layers is run by all five commands, each by a plan of its own drawn at random: a side from 16 to the whole, 1 to 64
-workers, or the default plan, with and without a report. A share of the pairs (--programs) is run by the program, a process for each
-command; the others by the library for Python, without processes (and so without workers and reports). Where a pair is small,
+workers, or the default plan, with and without a report and areas. A share of the pairs (--programs) is run by the program, a process for each
+command; the others by the library for Python, without processes (and so without workers, reports and areas). Where a pair is small,
 statuses and bytes have to be those of the exact reference (bench/reference.py); where it is large, those of the plain program
 (bench/plain). A call that takes too long is told as "over" and is no difference. A pair that differs is kept in bench/out with its
 number, its seed and its commands, cut down to a small one that still differs; the run ends after 20 of them, and the exit status is 1.
@@ -52,8 +52,9 @@ def add_arguments(parser: argparse.ArgumentParser) -> None:
 
 def plan(rng: random.Random, command: str, bounds: reference.Bounds) -> Plan:
     """A plan: where there are too many tiles (seldom) it is refused."""
+    areas = command != "edges" and rng.random() < 0.3
     if rng.random() < 0.1:
-        return Plan(command, None, 4, rng.random() < 0.4)
+        return Plan(command, None, 4, rng.random() < 0.4, areas)
     (left, bottom), (right, top) = bounds or ((0, 0), (16, 16))
     most = 30_000 if rng.random() < 0.1 else 2_000
     least = max(16, int(((right - left) * (top - bottom) / most) ** 0.5) + 1)
@@ -64,13 +65,13 @@ def plan(rng: random.Random, command: str, bounds: reference.Bounds) -> Plan:
     if rng.random() < 0.02:
         side = rng.choice([0, 15, 16, 33_554_432, 33_554_433])
     workers = rng.choice([1, 1, 2, 2, 3, 4, 4, 7, 16, rng.randint(1, 64)]) if rng.random() < 0.99 else rng.choice([0, 65])
-    return Plan(command, side, workers, rng.random() < 0.4)
+    return Plan(command, side, workers, rng.random() < 0.4, areas)
 
 
 def plan_of_map(rng: random.Random, command: str, bounds: reference.Bounds) -> Plan:
     """A plan of 1 to 8 workers; few have a report, which is slow to judge."""
     drawn = plan(rng, command, bounds)
-    return Plan(command, drawn.side, rng.randint(1, MOST_FOR_MAPS), rng.random() < 0.02)
+    return Plan(command, drawn.side, rng.randint(1, MOST_FOR_MAPS), rng.random() < 0.02, drawn.areas)
 
 
 @dataclass
@@ -131,7 +132,7 @@ def bounds_of(polygons: Pair) -> reference.Bounds:
 
 
 def asked_of(asked: Asked, wanted: Plan) -> Plan:
-    """The plan as it is asked for: the library has no workers and no report."""
+    """The plan as it is asked for: the library has no workers, no report and no areas."""
     return wanted if isinstance(asked, answering.Program) else Plan(wanted.command, wanted.side, 4, False)
 
 

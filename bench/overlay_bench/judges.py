@@ -2,6 +2,7 @@
 from __future__ import annotations
 
 import functools
+import re
 import subprocess
 import threading
 from typing import Protocol
@@ -43,8 +44,9 @@ class Exact:
             refuse(arranged, wanted.side, wanted.workers)
         except reference.Fault as fault:
             return Answer(3, b"", fault.line().encode())
-        text = arranged.text(wanted.command)
-        return Answer(0, text.encode(), arranged.report(wanted.side).encode() if wanted.report else b"")
+        told = arranged.report(wanted.side) if wanted.report else ""
+        told += arranged.areas(wanted.command) if wanted.areas else ""
+        return Answer(0, arranged.text(wanted.command).encode(), told.encode())
 
     def agrees(self, wanted: Plan, got: Answer) -> bool:
         return got == self.answer(wanted)
@@ -92,6 +94,15 @@ class Pipe:
             return None
         finally:
             timer.cancel()
+
+
+def area_of(text: bytes) -> int:
+    """Twice the area of a result, whose holes turn the other way."""
+    area = 0
+    for ring in re.findall(rb"[-0-9][-0-9, ]*", text):
+        corners = [(int(x), int(y)) for x, y in map(bytes.split, ring.split(b","))]
+        area += reference.twice_area(zip(corners, corners[1:]))
+    return area
 
 
 class Plain:
@@ -142,7 +153,21 @@ class Plain:
             return got == Answer(3, b"", refused.line().encode())
         if (got.status, got.out) != (0, self.answer(wanted.command)):
             return False
-        return self.is_report(got.err, wanted) if wanted.report else got.err == b""
+        told = got.err
+        if wanted.areas:
+            areas = self.areas(wanted.command)
+            if not told.endswith(areas):
+                return False
+            told = told.removesuffix(areas)
+        return self.is_report(told, wanted) if wanted.report else told == b""
+
+    def areas(self, command: str) -> bytes:
+        """What is told of areas: each layer's is that of the difference and the intersection together, and its steps are counted by the edges."""
+        twice = {name: area_of(self.answer(name) or b"") for name in reference.OPERATIONS}
+        first, second = twice["difference"] + twice["intersection"], twice["union"] - twice["difference"]
+        counts = [line.split()[4:] for line in (self.answer("edges") or b"").splitlines()]
+        steps = tuple(sum(int(count[layer]) for count in counts) for layer in (0, 1))
+        return b"area2 %d %d %d\nsteps %d %d\n" % (first, second, twice[command], *steps)
 
     def is_report(self, text: bytes, wanted: Plan) -> bool:
         """Whether a report has the numbers that are known, and those of its tiles add up."""
