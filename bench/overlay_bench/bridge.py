@@ -6,14 +6,19 @@ The maps are those of `peers`, a town's parcels and zones: `raw` with the usual 
   common    what some parcel and some zone both cover   overlay-gis run intersection --dissolve
   faces     which parcel lies on which zone             overlay-gis faces, beside an intersection pair by pair
   check     which parcels overlap                       overlay-gis check, beside an intersection of neighbours, made valid
+  run       what an odd number of parcels and of zones  overlay-gis run intersection, beside the program on the layers' texts and a
+            cover                                       plain copy of both files by ogr2ogr; of the raw map alone
 
 Each tool reads the layers from files and writes its answer to one, but PostGIS, whose tables are loaded before (`load`) and whose
 answer is a table. Areas of pairs are sums over all pairs; `off` is how far an area is from that of overlay-gis, in millionths of the
 greatest one that overlay-gis tells of the map. Seconds are of the round that took the least of processors, with all that was started;
-ratios are to overlay-gis. The small calls, of 10,000 pairs of polygons of 10 to 50 corners, are measured by overlay's by C.
+ratios are to overlay-gis; MB are the most that one process held. The small calls, of 10,000 pairs of polygons of 10 to 50 corners, are
+measured by overlay's by C.
 
 Needs what `peers` needs, python3-geopandas, libgeos-dev for GEOS by C, and python/build; what isn't there is told. The exit status is 1
-where overlay doesn't answer, or where another area of the valid map, or of the small calls, is off by more than --off.
+where overlay doesn't answer, where another area of the valid map, or of the small calls, is off by more than --off, or where `run` takes
+more than twice what the program does and the copy besides, or more than four times both texts beyond what it holds for a map of 100
+segments.
 """
 from __future__ import annotations
 
@@ -32,12 +37,12 @@ from dataclasses import dataclass
 from . import peer_tools, postgres, programs, shapes, small_calls, town, watching
 from .peer_tools import DEBIAN_PYTHON, PEERS, fault_of
 
-JOBS = ("dissolve", "common", "faces", "check")
+JOBS = ("dissolve", "common", "faces", "check", "run")
 MAPS = ("raw", "valid")
 SCRIPT = os.path.join(PEERS, "bridge.py")
 GIS = os.path.join(programs.ROOT, "gis", "overlay-gis")
 ON_GRID = ("--grid", "1", "--origin", "0,0", "--overwrite")
-HEAD = ("tool", "map", "segments", "job", "answers", "area", "off", "processor s", "clock s", "ratio")
+HEAD = ("tool", "map", "segments", "job", "answers", "area", "off", "processor s", "clock s", "ratio", "MB")
 PAIRS = "select st_intersection(p.geom, q.geom) geom from {0} p join {1} q on {2}st_intersects(p.geom, q.geom)"
 STATEMENTS = {
     "dissolve": "select (st_dump(st_union(geom))).geom from a",
@@ -61,12 +66,14 @@ def add_arguments(parser: argparse.ArgumentParser) -> None:
 
 @dataclass(frozen=True)
 class Done:
-    """Why there is no answer (nothing where there is one), its area, and seconds of processors and on the clock."""
+    """Why there is no answer (nothing where there is one), its area, seconds of processors and on the clock, and the most that one process
+    held (MB; 0 where it isn't measured)."""
 
     fault: str
     area: float
     processor: float
     clock: float
+    memory: float = 0.0
 
 
 @dataclass(frozen=True)
@@ -77,6 +84,14 @@ class Map:
 
     def path(self, name: str) -> str:
         return os.path.join(self.folder, name + ".gpkg")
+
+    def compiled(self) -> str:
+        """Where Python keeps what it compiled, as it does of a package that is installed."""
+        return os.path.join(os.path.dirname(self.folder), "compiled")
+
+    def texts(self) -> list[str]:
+        """The layers as texts, which the raw map has."""
+        return [os.path.join(self.folder, name + ".wkt") for name in "ab"]
 
 
 Tool = Callable[[str, Map, argparse.Namespace], Done]
@@ -98,12 +113,33 @@ def own_area(job: str, path: str) -> float:
 
 def by_overlay(job: str, place: Map, arguments: argparse.Namespace) -> Done:
     a, b, out = (place.path(name) for name in ("a", "b", "out"))
-    asked = {"dissolve": ["dissolve", a], "common": ["run", "intersection", a, b, "--dissolve"], "faces": ["faces", a, b], "check": ["check", a]}
-    environment = {**os.environ, "OVERLAY": os.path.abspath(arguments.program), "PYTHONDONTWRITEBYTECODE": "1"}
+    common = ["run", "intersection", a, b]
+    asked = {"dissolve": ["dissolve", a], "common": [*common, "--dissolve"], "run": common, "faces": ["faces", a, b], "check": ["check", a]}
+    environment = {**os.environ, "OVERLAY": os.path.abspath(arguments.program), "PYTHONPYCACHEPREFIX": place.compiled()}
+    environment.pop("PYTHONDONTWRITEBYTECODE", None)
     words = [GIS, *asked[job], "-o", out, *ON_GRID, "--segments", "4000000"]
     run = watching.watched(words, os.path.join(place.folder, "said"), arguments.seconds, env=environment)
     answers = run.status == 0 or job == "check" and run.status == 4  # 4: it found something
-    return Done("" if answers else fault_of(run), own_area(job, out) if answers else 0.0, run.processor, run.clock)
+    return Done("" if answers else fault_of(run), own_area(job, out) if answers else 0.0, run.processor, run.clock, run.memory)
+
+
+def by_program(job: str, place: Map, arguments: argparse.Namespace) -> Done:
+    """The program on the texts of both layers."""
+    words = [os.path.abspath(arguments.program), "intersection", *place.texts(), "--segments", "4000000"]
+    run = watching.watched(words, os.path.join(place.folder, "said"), arguments.seconds)
+    return Done(fault_of(run), 0.0, run.processor, run.clock, run.memory)
+
+
+def by_copy(job: str, place: Map, arguments: argparse.Namespace) -> Done:
+    """A plain copy of both files."""
+    runs = []
+    for layer in "ab":
+        if os.path.exists(place.path("out")):
+            os.remove(place.path("out"))
+        words = ["ogr2ogr", place.path("out"), place.path(layer)]
+        runs.append(watching.watched(words, os.path.join(place.folder, "said"), arguments.seconds))
+    fault = "".join(filter(None, map(fault_of, runs)))
+    return Done(fault, 0.0, sum(run.processor for run in runs), sum(run.clock for run in runs), max(run.memory for run in runs))
 
 
 def by_script(tool: str) -> Tool:
@@ -114,7 +150,7 @@ def by_script(tool: str) -> Tool:
         done = watching.watched([DEBIAN_PYTHON, SCRIPT, tool, job, place.path("a"), place.path("b"), out], said, arguments.seconds)
         with open(said, encoding="ascii") as file:
             area = re.findall(r"^area (\S+)$", file.read(), re.M)
-        return Done(fault_of(done), float(area[0]) if area else 0.0, done.processor, done.clock)
+        return Done(fault_of(done), float(area[0]) if area else 0.0, done.processor, done.clock, done.memory)
 
     return run
 
@@ -174,12 +210,14 @@ class Table:
             self.ours[name, size, job] = done
             self.greatest[name, size] = max(done.area, self.greatest.get((name, size), 0.0))
         ours, off = self.ours.get((name, size, job)), None
-        told = ["", "", "", "", ""]
+        told = ["", "", "", "", "", ""]
         if not done.fault:
-            if ours and ours.area:
+            if ours and ours.area and done.area:
                 off = 1e6 * (done.area - ours.area) / self.greatest[name, size]
             ratio = "%.2f" % (done.processor / ours.processor) if ours else ""
-            told = ["%.1f" % done.area, "" if off is None else "%+.3f" % off, "%.2f" % done.processor, "%.2f" % done.clock if done.clock else "", ratio]
+            shown = "%.1f" % done.area if done.area else ""
+            clock, memory = ("%.*f" % (digits, taken) if taken else "" for digits, taken in ((2, done.clock), (0, done.memory)))
+            told = [shown, "" if off is None else "%+.3f" % off, "%.2f" % done.processor, clock, ratio, memory]
         self.wrong |= is_ours and bool(done.fault) or name != "raw" and off is not None and abs(off) > self.arguments.off
         cells = [tool, name, str(size), job, done.fault or "yes", *told]
         print("| %s |" % " | ".join(cell.replace("|", "/") for cell in cells), flush=True)
@@ -191,7 +229,7 @@ def maps(folder: str, size: int, names: list[str]) -> dict[str, Map]:
     for place in found.values():
         os.mkdir(place.folder)
     raw = found["raw"]
-    peer_tools.Layers(raw.folder, town.town(size, True)).packages()
+    programs.apart(lambda: peer_tools.Layers(raw.folder, town.town(size, True)).packages())
     if "valid" in names:
         for layer in "ab":
             subprocess.run([DEBIAN_PYTHON, SCRIPT, "valid", raw.path(layer), found["valid"].path(layer)], check=True)
@@ -208,12 +246,24 @@ def least(tool: Tool, job: str, place: Map, arguments: argparse.Namespace) -> Do
     return best
 
 
+def run_is_dear(table: Table, size: int, place: Map, start: float, arguments: argparse.Namespace) -> bool:
+    """Whether `run` on the raw map takes more than it may beside the program and a copy; each has its row. Start is what it holds (MB)
+    for a map of next to nothing."""
+    tools: dict[str, Tool] = {"overlay-gis": by_overlay, "overlay, texts": by_program, "ogr2ogr, both files": by_copy}
+    done = {tool: least(run, "run", place, arguments) for tool, run in tools.items()}
+    for tool, found in done.items():
+        table.show(tool, "raw", size, "run", found)
+    ours, program, copy = done.values()
+    texts = sum(os.path.getsize(path) for path in place.texts()) / 1e6
+    return ours.processor > 2 * program.processor + copy.processor or ours.memory > start + 4 * texts
+
+
 def on_map(table: Table, name: str, size: int, place: Map, tables: Tables | None, arguments: argparse.Namespace) -> None:
     tools: dict[str, Tool] = {"overlay-gis": by_overlay, "Shapely": by_script("shapely"), "geopandas": by_script("geopandas")}
     if tables:
         table.show("PostGIS", name, size, "load", tables.load(place, arguments))
         tools["PostGIS"] = tables.run
-    for job in arguments.jobs:
+    for job in (job for job in arguments.jobs if job != "run"):
         for tool, run in tools.items():
             if (tool, job) != ("geopandas", "check"):  # it has no such call of its own
                 table.show(tool, name, size, job, least(run, job, place, arguments))
@@ -236,8 +286,11 @@ def main(arguments: argparse.Namespace) -> int:
         server = postgres.Server() if has_postgis else None
         try:
             tables = Tables(server.__enter__()) if server else None
+            start = by_overlay("run", maps(folder, 100, ["raw"])["raw"], arguments).memory
             for size in arguments.sizes:
                 for name, place in maps(folder, size, arguments.maps).items():
+                    if name == "raw" and "run" in arguments.jobs:  # first, while this process is small
+                        table.wrong |= run_is_dear(table, size, place, start, arguments)
                     on_map(table, name, size, place, tables, arguments)
         finally:
             if server:

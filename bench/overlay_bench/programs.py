@@ -132,7 +132,7 @@ def keep(folder: str, before: str, texts: Iterable[bytes], names: Iterable[str] 
             file.write(text)
 
 
-def apart(make: Callable[[], None]) -> None:
+def apart(make: Callable[[], object]) -> None:
     """Runs a function in a process of its own: what it takes would else count as memory of programs started later."""
     child = os.fork()
     if child == 0:

@@ -63,12 +63,14 @@ class Threads:
 
 @dataclass(frozen=True)
 class Watched:
-    """How a run ended (None where it took too long), seconds on the clock and of processors, threads at work, and what it said."""
+    """How a run ended (None where it took too long), seconds on the clock and of processors, threads at work, the most that one process
+    held (MB), and what it said."""
 
     status: int | None
     clock: float
     processor: float
     threads: int
+    memory: float
     said: str
 
 
@@ -97,4 +99,4 @@ def watched(words: list[str], output: str, seconds: float, env: Mapping[str, str
         process.returncode = os.waitstatus_to_exitcode(status)
         count = threads.stop()
     with open(output + ".said", encoding="utf-8", errors="replace") as told:
-        return Watched(None if over.is_set() else process.returncode, clock, used.ru_utime + used.ru_stime, count, told.read())
+        return Watched(None if over.is_set() else process.returncode, clock, used.ru_utime + used.ru_stime, count, used.ru_maxrss / 1000, told.read())
