@@ -6,19 +6,24 @@ from __future__ import annotations
 from .common_grid import CommonGrid
 from .messages import say, warn
 from .questions import Layer, Measures
-from .rings import Gridded
+from .rings import Gridded, longest
 from .systems import area_name, unit_name
 
 
-def bent_by(grid: Gridded, bends: int) -> float:
-    """By how much the area of a layer differs at most, where routes have so many bends in all.
+def is_explained(grid: Gridded, bends: int, twice: int) -> bool:
+    """Whether rounding may have changed twice the area of a layer by so much, where routes have so
+    many bends in all.
 
     A route's points lie at most 0.71 from its segment, in their order along it. So the area between
     them is at most 0.71 times the segment's length, and half of that where there is one bend alone:
     two bends at least for each whole length. Of segments that two polygons share nothing is told by
-    parity, before and after.
+    parity, before and after; to find these is dear, and needless where all together are too few.
     """
-    return 0.71 * grid.longest((bends + 1) // 2)
+    count = (bends + 1) // 2
+    return all(
+        twice <= 2 * 0.71 * longest(lengths(), count)
+        for lengths in (grid.lengths, grid.border_lengths)
+    )
 
 
 def tell_change(together: CommonGrid, layer: Layer, measures: Measures) -> None:
@@ -27,7 +32,8 @@ def tell_change(together: CommonGrid, layer: Layer, measures: Measures) -> None:
     grid, name, twice = layer.grid, layer.source.name, measures.twice
     area, square = together.frame.area, area_name(together.system)
     before = grid.twice_area()
-    if before != twice and abs(before - twice) > 2 * bent_by(grid, measures.steps - grid.segments):
+    bends = measures.steps - grid.segments
+    if before != twice and not is_explained(grid, bends, abs(before - twice)):
         warn(
             name,
             (

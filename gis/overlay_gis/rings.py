@@ -44,14 +44,22 @@ class Gridded:
     def twice_area(self) -> int:
         return sum(self.layer.twice_areas())
 
-    def longest(self, count: int) -> float:
-        """The length of so many segments that are borders by parity, the longest ones."""
-        if count <= 0:
-            return 0.0
-        lengths = np.hypot(*borders(self.layer))
-        if count < len(lengths):
-            lengths.partition(len(lengths) - count)
-        return float(lengths[-count:].sum())
+    def lengths(self) -> Floats:
+        """The length of each segment."""
+        return np.hypot(*segments(self.layer))
+
+    def border_lengths(self) -> Floats:
+        """The same of those that are borders by parity."""
+        return np.hypot(*borders(self.layer))
+
+
+def longest(lengths: Floats, count: int) -> float:
+    """The length of so many segments, the longest ones."""
+    if count <= 0:
+        return 0.0
+    if count < len(lengths):
+        lengths = np.partition(lengths, len(lengths) - count)
+    return float(lengths[-count:].sum())
 
 
 def opened(layer: Columns[Floats]) -> Mask:
