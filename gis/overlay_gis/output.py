@@ -132,13 +132,20 @@ def bounds(driver: gdal.Driver, table: Table) -> Iterator[str]:
         yield f"BOUNDS={','.join(map(repr, table.frame.room()))}"
 
 
+def unquoted(driver: gdal.Driver, table: Table) -> Iterator[str]:
+    """The option for a file of CSV that has numbers alone: GDAL puts whole ones between quotes, and
+    reads what stands so as texts."""
+    if driver.ShortName == "CSV" and not any(column.type == ogr.OFTString for column in table.columns):
+        yield "STRING_QUOTING=IF_NEEDED"
+
+
 def create(
     layers: Any, name: str, system: osr.SpatialReference | None, table: Table, told: str, *options: str
 ) -> Made:
     """A new layer of a data set that is told by that name, with the table's fields. None of them is
     called as another one, or as the layer's columns that are no fields."""
     driver = layers.GetDriver()
-    asked = [*options, *OPTIONS.get(driver.ShortName, ()), *bounds(driver, table)]
+    asked = [*options, *OPTIONS.get(driver.ShortName, ()), *bounds(driver, table), *unquoted(driver, table)]
     layer = layers.CreateLayer(name, None if table.kind == ogr.wkbNone else system, table.kind, asked)
     taken = (layer.GetFIDColumn(), layer.GetGeometryColumn(), *OWN_NAMES.get(driver.ShortName, ()))
     names = apart([with_room(column.name, driver) for column in table.columns], taken)

@@ -83,4 +83,9 @@ def lines(rows: Rows, ids: tuple[Numbers, Numbers], frame: Frame) -> Iterator[Ro
     wholes = [rows.areas_of(k, len(numbers))[at] for k, (numbers, at) in enumerate(zip(ids, places))]
     numbers = [known[at].tolist() for known, at in zip(ids, places)]
     for a, b, twice, of_a, of_b in zip(*numbers, pairs.twice.tolist(), *(whole.tolist() for whole in wholes)):
-        yield None, (a, b, twice, frame.area(twice), twice / of_a, twice / of_b)
+        yield None, (a, b, twice, frame.area(twice), share(twice, of_a), share(twice, of_b))
+
+
+def share(part: int, whole: int) -> float:
+    """To as many digits as any format keeps."""
+    return float(f"{part / whole:.15g}")

@@ -61,6 +61,7 @@ def test_pairs_in_a_table_of_their_own(gis, tmp_path):
         head, *lines = csv.reader(file)
     assert head == ["a", "b", "twice_area", "area", "share_a", "share_b"]
     assert [tuple(map(float, line)) for line in lines] == WANTED
+    assert '"' not in Path("pairs.csv").read_text()
     assert gis("faces", a, b, "-o", "out2.shp", "--pairs", "pairs.csv").status == 3
     assert gis("faces", a, b, "-o", "out3.gpkg", "--pairs", "pairs.gpkg", "--grid", "1").status == 0
     assert table("pairs.gpkg", "pairs") == WANTED
