@@ -95,8 +95,8 @@ fn count_alone<A: Allocator>(
     Ok(list)
 }
 
-/// Each edge among the links, ascending, with its counts, with room for so many at first.
-pub(crate) fn counts<A: Allocator + Copy>(
+/// Each edge among the links, ascending, with its counts; at first there is room for so many.
+pub fn counts<A: Allocator + Copy>(
     alloc: A,
     room: usize,
     links: Vec<Link, A>,

@@ -25,7 +25,7 @@ mod span;
 mod tile_piece;
 
 pub use bordering::{RoundedBorders, gather_borders, gather_borders_in_parts};
-pub use counting::counts_in_parts;
+pub use counting::{counts, counts_in_parts};
 pub use keyed::{Keyed, sorted};
 pub use link::Link;
 pub use made::{gather_made, gather_made_in_parts, rounded_by_records};
