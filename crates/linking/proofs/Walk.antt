@@ -1,5 +1,5 @@
 -- The walk from records to links, and from links to the rounded edges.
-use Rattle.std.proofs.Common.{◌≡◌, ◌⊎◌, inl, inr, ℕ, ◌+◌, ◌-◌, ◌<◌, ◌≤◌, ◌^◌, List, [], ◌∷◌, ◌++◌, Bool, true, false, cond, refl, sym, ◌∙◌, ap, arith, subst, length, get_or, take, ⊎_elim}
+use Rattle.std.proofs.Common.{◌≡◌, inl, inr, ℕ, ◌+◌, ◌-◌, ◌<◌, ◌≤◌, ◌^◌, List, [], ◌∷◌, ◌++◌, Bool, true, false, cond, refl, sym, ◌∙◌, ap, arith, subst, length, get_or, take, ⊎_elim}
 use Rattle.std.specs.Prelude.{All, Some, count_by, slice_get, ◌&&◌, ◌||◌, if◌then◌else◌}
 use Rattle.std.proofs.lemmas.List.{take_more}
 use Rattle.std.proofs.lemmas.List.Elements.{Contains-get_or}
@@ -24,7 +24,7 @@ use Rattle.routing.specs.declared.record.Record.{Record}
 use Rattle.routing.specs.Steps.{steps_to}
 use Rattle.routing.specs.Pieces.{IsRecord}
 use Rattle.linking.specs.declared.link.Link.{Link}
-use Rattle.linking.specs.Links.{IsBetween, IsRecordBefore, AreRecords, AreApart, AreLinks, AreNeighbourLinks, AreRouteLinks, PassLinks, passes_at, record_pairs, makes, same_edge, is_of, AreCounts, wanted_steps}
+use Rattle.linking.specs.Links.{IsBetween, IsRecordBefore, AreRecords, AreApart, AreLinks, AreNeighbourLinks, AreRouteLinks, PassLinks, passes_at, record_pairs, makes, same_edge, is_of, layer_link, AreCounts, wanted_steps}
 use Rattle.linking.proofs.Flat.{passes_at_is, routes_from, routes_of_records, count_is}
 
 -- ---- an edge joins the two points that it is between
@@ -102,9 +102,6 @@ route_links link_of segments makers records links size h near = record {
 }
 
 -- ---- links of layers
-abbrev pub layer_link : Seg → Edge → Link
-layer_link s e = record { edge = e; layer = s.layer }
-
 layer_steps_are : (layer : Source) (segments : List Seg) (routes : List (List Pt)) → wanted_steps (λ (s : Seg). same_source s.layer layer) segments routes ≡ route_steps layer segments routes
 layer_steps_are layer [] routes = refl
 layer_steps_are layer (s ∷ ss) [] = refl

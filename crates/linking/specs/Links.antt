@@ -95,6 +95,10 @@ pub record AreRouteLinks {M L : Type 0} (link_of : M → Edge → L) (segments :
   pub are_routes : AreRoutes segments segments routes
   pub count_is : (e : Edge) (wanted : M → Bool) (test : L → Bool) → PassLinks link_of e wanted test → count_by test links ≡ count_by (joins e) (wanted_steps wanted makers routes)
 
+-- a segment makes links of its layer
+abbrev pub layer_link : Seg → Edge → Link
+layer_link s e = record { edge = e; layer = s.layer }
+
 -- the links of features: the owners stand for the segments
 abbrev pub AreFeatureRouteLinks : List Seg → List ℕ → List FeatureLink → Type 0
 AreFeatureRouteLinks segments owners links = AreRouteLinks (λ f e. link_of e f) segments owners links

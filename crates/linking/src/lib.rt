@@ -29,6 +29,7 @@ pub use counting::{counts, counts_in_parts};
 pub use keyed::{Keyed, sorted};
 pub use link::Link;
 pub use made::{gather_made, gather_made_in_parts, rounded_by_records};
+pub use neighbours::links_between;
 pub use noded::{Noded, settled};
 pub use rounded::{Rounded, TileNumbers};
 pub use tile_piece::{LimitedSegments, TilePiece, Tiled};

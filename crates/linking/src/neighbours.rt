@@ -1,7 +1,7 @@
 //! Finding the links of sorted records, between neighbours of one segment.
 
 ghost use Rattle.std.specs.Prelude.{◌≢◌, ◌<◌, ◌^◌, All, IfOk, length};
-ghost use Rattle.linking.specs.Links.{AreApart, AreLinks, AreNeighbourLinks, AreRecords, IsBetween};
+ghost use Rattle.linking.specs.Links.{AreApart, AreLinks, AreNeighbourLinks, AreRecords, IsBetween, layer_link};
 
 use crate::link::{Link, MakesLinks};
 use geom::{Edge, NoMemory, Pt, Seg};
@@ -45,6 +45,22 @@ pub(crate) fn neighbour_links<M: MakesLinks<L>, L: Copy, A: Allocator>(
     Ok(list)
 }
 
+/// The links between neighbours among records of segments. More than a `u32` counts are refused as want of memory.
+pub fn links_between<A: Allocator>(
+    alloc: A,
+    segments: &[Seg],
+    records: &[Record],
+) -> Result<Vec<Link, A>, NoMemory>
+    requires below { All (λ r. r.segment < length segments.now) records.now }
+    requires apart { AreApart records.now }
+    ensures { IfOk result (λ v. AreNeighbourLinks layer_link segments.now records.now v.items × (length v.items < 2 ^ 32)) }
+{
+    if records.len() > u32::MAX as usize {
+        return Err(NoMemory);
+    }
+    neighbour_links(alloc, records.len(), segments, records)
+}
+
 /// The links of the records of all routes. More than a `u32` counts are refused as want of memory.
 pub(crate) fn links<A: Allocator>(
     alloc: A,
@@ -54,8 +70,5 @@ pub(crate) fn links<A: Allocator>(
     requires { ∥ AreRecords segments.now records.now ∥₁ }
     ensures { IfOk result (λ v. ∥ AreLinks segments.now v.items ∥₁) }
 {
-    if records.len() > u32::MAX as usize {
-        return Err(NoMemory);
-    }
-    neighbour_links(alloc, records.len(), segments, records)
+    links_between(alloc, segments, records)
 }
