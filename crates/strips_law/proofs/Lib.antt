@@ -1,0 +1,12 @@
+pub mod Columns
+pub mod Parts
+pub mod Steps
+pub mod Local
+pub mod Last
+pub mod Edges
+pub mod Turned
+pub mod TurnedSteps
+pub mod Rounded
+pub mod Border
+pub mod Bridged
+pub mod Near
