@@ -16,9 +16,9 @@ ratios are to overlay-gis; MB are the most that one process held. The small call
 measured by overlay's by C.
 
 Needs what `peers` needs, python3-geopandas, libgeos-dev for GEOS by C, and python/build; what isn't there is told. The exit status is 1
-where overlay doesn't answer, where another area of the valid map, or of the small calls, is off by more than --off, or where `run` takes
-more than twice what the program does and the copy besides, or more than four times both texts beyond what it holds for a map of 100
-segments.
+where overlay doesn't answer, where another area of the valid map, or of the small calls, is off by more than --off, or where `run` on
+100,000 segments or more takes more than twice what the program and the copy take together, or holds more than four times both texts
+beyond what it holds for a map of 100 segments.
 """
 from __future__ import annotations
 
@@ -41,6 +41,8 @@ JOBS = ("dissolve", "common", "faces", "check", "run")
 MAPS = ("raw", "valid")
 SCRIPT = os.path.join(PEERS, "bridge.py")
 GIS = os.path.join(programs.ROOT, "gis", "overlay-gis")
+# From how many segments on what `run` takes is judged: below, what starts take is most of it.
+LARGE = 100_000
 ON_GRID = ("--grid", "1", "--origin", "0,0", "--overwrite")
 HEAD = ("tool", "map", "segments", "job", "answers", "area", "off", "processor s", "clock s", "ratio", "MB")
 PAIRS = "select st_intersection(p.geom, q.geom) geom from {0} p join {1} q on {2}st_intersects(p.geom, q.geom)"
@@ -255,7 +257,7 @@ def run_is_dear(table: Table, size: int, place: Map, start: float, arguments: ar
         table.show(tool, "raw", size, "run", found)
     ours, program, copy = done.values()
     texts = sum(os.path.getsize(path) for path in place.texts()) / 1e6
-    return ours.processor > 2 * program.processor + copy.processor or ours.memory > start + 4 * texts
+    return size >= LARGE and (ours.processor > 2 * (program.processor + copy.processor) or ours.memory > start + 4 * texts)
 
 
 def on_map(table: Table, name: str, size: int, place: Map, tables: Tables | None, arguments: argparse.Namespace) -> None:
@@ -297,7 +299,7 @@ def main(arguments: argparse.Namespace) -> int:
                 server.__exit__()
         if not has_postgis:
             print("PostGIS is left out: " + peer_tools.PostGis.needs)
-        for row in small_calls.rows(folder, arguments.calls) if arguments.calls else []:
+        for row in small_calls.rows(folder, arguments.calls, arguments.rounds) if arguments.calls else []:
             fault = "%d have no answer" % row.failed if row.failed else ""
             table.show(row.name, "small calls", arguments.calls, "common", Done(fault, row.area, row.seconds, 0.0))
         small_calls.tell_missing()

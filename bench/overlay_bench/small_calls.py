@@ -56,19 +56,25 @@ def compiled() -> str:
     return built
 
 
-def rows(folder: str, count: int) -> list[Row]:
-    """A row for each library, that of overlay by C first where it is there."""
-    files, has_library = write(folder, count), os.path.exists(LIBRARY)
-    calls = [[compiled(), *files, *[LIBRARY] * has_library]] if compiled() else []
+def commands(files: list[str]) -> list[list[str]]:
+    """What makes all calls, by each library that is there."""
+    has_library = os.path.exists(LIBRARY)
+    found = [[compiled(), *files, *[LIBRARY] * has_library]] if compiled() else []
     if has_library:
-        calls.append([DEBIAN_PYTHON, os.path.join(PEERS, "small.py"), "overlay", *files, os.path.dirname(os.path.dirname(LIBRARY))])
-    calls.append([DEBIAN_PYTHON, os.path.join(PEERS, "small.py"), "shapely", *files])
-    found = []
-    for words in calls:
+        found.append([DEBIAN_PYTHON, os.path.join(PEERS, "small.py"), "overlay", *files, os.path.dirname(os.path.dirname(LIBRARY))])
+    return [*found, [DEBIAN_PYTHON, os.path.join(PEERS, "small.py"), "shapely", *files]]
+
+
+def rows(folder: str, count: int, rounds: int) -> list[Row]:
+    """A row for each library, of the round that took the least; that of overlay by C first where it is there."""
+    files = write(folder, count)
+    found: dict[str, Row] = {}
+    for words in commands(files) * rounds:
         for line in subprocess.run(words, capture_output=True, text=True, check=True).stdout.splitlines():
             name, microseconds, area, failed = line.split("\t")
-            found.append(Row(name, float(microseconds) * count / 1e6, float(area), int(failed)))
-    return sorted(found, key=lambda row: row.name != OURS)
+            row = Row(name, float(microseconds) * count / 1e6, float(area), int(failed))
+            found[name] = min(row, found.get(name, row), key=lambda one: one.seconds)
+    return sorted(found.values(), key=lambda row: row.name != OURS)
 
 
 def tell_missing() -> None:
