@@ -62,10 +62,10 @@ split_records k (r ∷ rs) p h = let rest = split_records k rs (tail_pairs IsRec
         rw (e.0, empty) (ap (λ (ys : List Record). r ∷ ys) (rest ∙ ap (λ (ys : List Record). ys ++ later k rs) empty))
 
 -- ---- routes
--- the records of the segments from number k on
-pub record AreFrom (segments : List Seg) (k : ℕ) (rs : List Record) : Type 0 where
+-- the records in the region of the segments from number k on
+pub record AreFrom (In : Pt → Type 0) (segments : List Seg) (k : ℕ) (rs : List Record) : Type 0 where
   pub ascending : AllPairs IsRecordBefore rs
-  pub exact : (r : Record) → Contains rs r ↔ (IsRecord segments r × (k ≤ r.segment))
+  pub exact : (r : Record) → Contains rs r ↔ ((IsRecord segments r × In r.pixel) × (k ≤ r.segment))
 
 own_is : (k : ℕ) (rs : List Record) (r : Record) → Contains (own k rs) r ↔ (Contains rs r × (r.segment ≡ k))
 own_is k rs r = (
@@ -83,8 +83,8 @@ later_is k rs r = (
     clash true e f = cc
     clash false e f = cc
 
-AreFrom-later : (segments : List Seg) (k : ℕ) (rs : List Record) → AreFrom segments k rs → AreFrom segments (suc k) (later k rs)
-AreFrom-later segments k rs h = record {
+pub AreFrom-later : (In : Pt → Type 0) (segments : List Seg) (k : ℕ) (rs : List Record) → AreFrom In segments k rs → AreFrom In segments (suc k) (later k rs)
+AreFrom-later In segments k rs h = record {
   ascending = AllPairs-filter IsRecordBefore (λ r. not (is_own k r)) rs h.ascending;
   exact = λ r. (
     (λ g. let a = (later_is k rs r).0 g in let b = (h.exact r).0 a.0 in (b.0, above r b.1 a.1)),
@@ -101,14 +101,14 @@ AreFrom-later segments k rs h = record {
     apart : (r : Record) → suc k ≤ r.segment → r.segment ≡ k → ⊥
     apart r a b = omega arith
 
-module _ (segments : List Seg) (k : ℕ) (s : Seg) (rs : List Record) (at : slice_get segments k ≡ Some s) (h : AreFrom segments k rs) where
+module _ (In : Pt → Type 0) (segments : List Seg) (k : ℕ) (s : Seg) (rs : List Record) (at : slice_get segments k ≡ Some s) (h : AreFrom In segments k rs) where
   -- what a record of this segment says
-  own_record : (r : Record) → Contains (own k rs) r → (r.segment ≡ k) × IsHot segments r.pixel × Meets s r.pixel × (r.steps ≡ steps_to s r.pixel)
+  own_record : (r : Record) → Contains (own k rs) r → (r.segment ≡ k) × (IsHot segments r.pixel × In r.pixel) × Meets s r.pixel × (r.steps ≡ steps_to s r.pixel)
   own_record r c =
       let a = (own_is k rs r).0 c in
-      let b = ((h.exact r).0 a.0).0 in
+      let (b, inside) = ((h.exact r).0 a.0).0 in
       let t : b.s ≡ s = some_same (subst (λ (n : ℕ). slice_get segments n ≡ Some b.s) a.1 b.is_at) at in
-      (a.1, b.hot, subst (λ (u : Seg). Meets u r.pixel) t b.met, b.steps_are ∙ ap (λ (u : Seg). steps_to u r.pixel) t)
+      (a.1, (b.hot, inside), subst (λ (u : Seg). Meets u r.pixel) t b.met, b.steps_are ∙ ap (λ (u : Seg). steps_to u r.pixel) t)
 
   own_order : (r q : Record) → Contains (own k rs) r → Contains (own k rs) q → IsRecordBefore r q → IsEarlier s r.pixel q.pixel
   own_order r q a b (inl l) = let u = (own_record r a).0 in let v = (own_record q b).0 in absurd (omega arith)
@@ -117,40 +117,47 @@ module _ (segments : List Seg) (k : ℕ) (s : Seg) (rs : List Record) (at : slic
       let (v, vh, vm, vs) = own_record q b in
       earlier_from_steps s r.pixel q.pixel um vm (subst (λ (m : ℕ). m < steps_to s q.pixel) us (subst (λ (n : ℕ). r.steps < n) vs l))
 
-  in_route : (c : Pt) → Contains (route_of k rs) c ↔ (IsHot segments c × Meets s c)
+  pub in_route : (c : Pt) → Contains (route_of k rs) c ↔ (IsHot segments c × Meets s c × In c)
   in_route c = (to, from)
     where
-      to : Contains (route_of k rs) c → IsHot segments c × Meets s c
-      to g = let (r, a, e) = (in_map (λ (r : Record). r.pixel) (own k rs) c).0 g in let (u, uh, um, us) = own_record r a in (subst (λ (p : Pt). IsHot segments p) e uh, subst (λ (p : Pt). Meets s p) e um)
+      to : Contains (route_of k rs) c → IsHot segments c × Meets s c × In c
+      to g = let (r, a, e) = (in_map (λ (r : Record). r.pixel) (own k rs) c).0 g in let (u, (uh, ui), um, us) = own_record r a in (subst (λ (p : Pt). IsHot segments p) e uh, subst (λ (p : Pt). Meets s p) e um, subst In e ui)
 
-      from : IsHot segments c × Meets s c → Contains (route_of k rs) c
-      from (hot, met) =
+      from : IsHot segments c × Meets s c × In c → Contains (route_of k rs) c
+      from (hot, met, inside) =
           let r : Record = record { segment = k; steps = steps_to s c; pixel = c } in
           let is : IsRecord segments r = record { s = s; is_at = at; hot = hot; met = met; steps_are = refl } in
-          (in_map (λ (q : Record). q.pixel) (own k rs) c).1 (r, (own_is k rs r).1 ((h.exact r).1 (is, omega arith), refl), refl)
+          (in_map (λ (q : Record). q.pixel) (own k rs) c).1 (r, (own_is k rs r).1 ((h.exact r).1 ((is, inside), omega arith), refl), refl)
 
-  pub route_is : IsRoute segments s (route_of k rs)
-  route_is = record {
-    exact = in_route;
-    ordered = pairs_map IsRecordBefore (IsEarlier s) (λ r. r.pixel) (own k rs) sorted own_order;
-  }
+  pub route_ordered : AllPairs (IsEarlier s) (route_of k rs)
+  route_ordered = pairs_map IsRecordBefore (IsEarlier s) (λ r. r.pixel) (own k rs) sorted own_order
     where
       sorted : AllPairs IsRecordBefore (own k rs)
       sorted = AllPairs-filter IsRecordBefore (is_own k) rs h.ascending
+
+-- every point is in this region
+abbrev pub Anywhere : Pt → Type 0
+Anywhere c = Unit {0}
+
+pub route_is : (segments : List Seg) (k : ℕ) (s : Seg) (rs : List Record) → slice_get segments k ≡ Some s → AreFrom Anywhere segments k rs → IsRoute segments s (route_of k rs)
+route_is segments k s rs at h = record {
+  exact = λ c. (λ g. let (hot, met, inside) = (in_route Anywhere segments k s rs at h c).0 g in (hot, met), λ g. (in_route Anywhere segments k s rs at h c).1 (g.0, g.1, tt));
+  ordered = route_ordered Anywhere segments k s rs at h;
+}
 
 -- the segments from number k on
 abbrev pub StandFrom : List Seg → ℕ → List Seg → Type 0
 StandFrom segments k ss = (j : ℕ) (s : Seg) → slice_get ss j ≡ Some s → slice_get segments (k + j) ≡ Some s
 
-StandFrom-first : (segments : List Seg) (k : ℕ) (s : Seg) (ss : List Seg) → StandFrom segments k (s ∷ ss) → slice_get segments k ≡ Some s
+pub StandFrom-first : (segments : List Seg) (k : ℕ) (s : Seg) (ss : List Seg) → StandFrom segments k (s ∷ ss) → slice_get segments k ≡ Some s
 StandFrom-first segments k s ss h = let e : k + 0 ≡ k = omega arith in subst (λ (n : ℕ). slice_get segments n ≡ Some s) e (h 0 s refl)
 
-StandFrom-rest : (segments : List Seg) (k : ℕ) (s : Seg) (ss : List Seg) → StandFrom segments k (s ∷ ss) → StandFrom segments (suc k) ss
+pub StandFrom-rest : (segments : List Seg) (k : ℕ) (s : Seg) (ss : List Seg) → StandFrom segments k (s ∷ ss) → StandFrom segments (suc k) ss
 StandFrom-rest segments k s ss h = λ j t at. let e : k + suc j ≡ suc k + j = omega arith in subst (λ (n : ℕ). slice_get segments n ≡ Some t) e (h (suc j) t at)
 
-pub routes_are : (segments : List Seg) (k : ℕ) (ss : List Seg) (rs : List Record) → StandFrom segments k ss → AreFrom segments k rs → AreRoutes segments ss (routes_from k ss rs)
+pub routes_are : (segments : List Seg) (k : ℕ) (ss : List Seg) (rs : List Record) → StandFrom segments k ss → AreFrom Anywhere segments k rs → AreRoutes segments ss (routes_from k ss rs)
 routes_are segments k [] rs st h = none
-routes_are segments k (s ∷ ss) rs st h = next (route_is segments k s rs (StandFrom-first segments k s ss st) h) (routes_are segments (suc k) ss (later k rs) (StandFrom-rest segments k s ss st) (AreFrom-later segments k rs h))
+routes_are segments k (s ∷ ss) rs st h = next (route_is segments k s rs (StandFrom-first segments k s ss st) h) (routes_are segments (suc k) ss (later k rs) (StandFrom-rest segments k s ss st) (AreFrom-later Anywhere segments k rs h))
 
 -- ---- counts
 
@@ -207,18 +214,18 @@ module _ (wanted : ℕ → Bool) (e : Edge) where
     abbrev pub WantedFrom : ℕ → List M → Type 0
     WantedFrom k xs = (j : ℕ) (x : M) → slice_get xs j ≡ Some x → wanted (k + j) ≡ is_wanted x
 
-    flat_count : (segments : List Seg) (k : ℕ) (ss : List Seg) (xs : List M) (rs : List Record) → length xs ≡ length ss → length segments ≡ k + length ss → WantedFrom k xs → AreFrom segments k rs → made rs ≡ count_by (joins e) (wanted_steps is_wanted xs (routes_from k ss rs))
-    flat_count segments k [] (x ∷ xs) rs m n l h = absurd (omega arith)
-    flat_count segments k (s ∷ ss) [] rs m n l h = absurd (omega arith)
-    flat_count segments k [] [] [] m n l h = refl
-    flat_count segments k [] [] (r ∷ rs) m n l h = let a = (h.exact r).0 (here r rs) in let b = slice_get_within segments r.segment a.0.s a.0.is_at in let c = a.1 in absurd (omega arith)
-    flat_count segments k (s ∷ ss) (x ∷ xs) rs m n l h =
+    pub flat_count : (In : Pt → Type 0) (segments : List Seg) (k : ℕ) (ss : List Seg) (xs : List M) (rs : List Record) → length xs ≡ length ss → length segments ≡ k + length ss → WantedFrom k xs → AreFrom In segments k rs → made rs ≡ count_by (joins e) (wanted_steps is_wanted xs (routes_from k ss rs))
+    flat_count In segments k [] (x ∷ xs) rs m n l h = absurd (omega arith)
+    flat_count In segments k (s ∷ ss) [] rs m n l h = absurd (omega arith)
+    flat_count In segments k [] [] [] m n l h = refl
+    flat_count In segments k [] [] (r ∷ rs) m n l h = let a = (h.exact r).0 (here r rs) in let b = slice_get_within segments r.segment a.0.0.s a.0.0.is_at in let c = a.1 in absurd (omega arith)
+    flat_count In segments k (s ∷ ss) (x ∷ xs) rs m n l h =
         let here_wanted : wanted k ≡ is_wanted x = (let e : k + 0 ≡ k = omega arith in subst (λ (m : ℕ). wanted m ≡ is_wanted x) e (l 0 x refl)) in
         let rest_wanted : WantedFrom (suc k) xs = λ j y at. let e : k + suc j ≡ suc k + j = omega arith in subst (λ (m : ℕ). wanted m ≡ is_wanted y) e (l (suc j) y at) in
         let a = split_records k rs h.ascending (λ r g. ((h.exact r).0 g).1) in
         let b = made_append k (own k rs) (later k rs) (λ r g. ((own_is k rs r).0 g).1) (λ r g. ((later_is k rs r).0 g).1) in
         let c = own_made k (is_wanted x) (own k rs) here_wanted (λ r g. ((own_is k rs r).0 g).1) in
-        let d = flat_count segments (suc k) ss xs (later k rs) (omega arith) (omega arith) rest_wanted (AreFrom-later segments k rs h) in
+        let d = flat_count In segments (suc k) ss xs (later k rs) (omega arith) (omega arith) rest_wanted (AreFrom-later In segments k rs h) in
         let t = sum_by-append (λ p. cond (joins e p) 1 0) (if is_wanted x then neighbours (route_of k rs) else []) (wanted_steps is_wanted xs (routes_from (suc k) ss (later k rs))) in
         ap made a ∙ b ∙ ap (λ (m : ℕ). m + made (later k rs)) c ∙ ap (λ (m : ℕ). count_by (joins e) (if is_wanted x then neighbours (route_of k rs) else []) + m) d ∙ sym t
 
@@ -228,8 +235,8 @@ passes_at_is is_wanted makers k x at =
 
 -- the routes that records in order tell, and the number of places where they join an edge
 module _ (segments : List Seg) (records : List Record) (h : AreRecords segments records) where
-  from : AreFrom segments 0 records
-  from = record { ascending = h.ascending; exact = λ r. (λ g. ((h.exact r).0 g, omega arith), λ g. (h.exact r).1 g.0) }
+  from : AreFrom Anywhere segments 0 records
+  from = record { ascending = h.ascending; exact = λ r. (λ g. (((h.exact r).0 g, tt), omega arith), λ g. (h.exact r).1 g.0.0) }
 
   stand : StandFrom segments 0 segments
   stand = λ j s at. let e : j ≡ 0 + j = omega arith in subst (λ (n : ℕ). slice_get segments n ≡ Some s) e at
@@ -238,5 +245,5 @@ module _ (segments : List Seg) (records : List Record) (h : AreRecords segments 
   routes_of_records = routes_are segments 0 segments records stand from
 
   pub count_is : {M : Type 0} (makers : List M) → length makers ≡ length segments → (e : Edge) (is_wanted : M → Bool) → count_by (makes (passes_at is_wanted makers) e) (record_pairs records) ≡ count_by (joins e) (wanted_steps is_wanted makers (routes_from 0 segments records))
-  count_is makers same e is_wanted = flat_count (passes_at is_wanted makers) e is_wanted segments 0 segments makers records same (omega arith)
+  count_is makers same e is_wanted = flat_count (passes_at is_wanted makers) e is_wanted Anywhere segments 0 segments makers records same (omega arith)
       (λ j x at. let n : j ≡ 0 + j = omega arith in passes_at_is is_wanted makers (0 + j) x (subst (λ (n : ℕ). slice_get makers n ≡ Some x) n at)) from

@@ -102,7 +102,7 @@ route_links link_of segments makers records links size h near = record {
 }
 
 -- ---- links of layers
-layer_steps_are : (layer : Source) (segments : List Seg) (routes : List (List Pt)) → wanted_steps (λ (s : Seg). same_source s.layer layer) segments routes ≡ route_steps layer segments routes
+pub layer_steps_are : (layer : Source) (segments : List Seg) (routes : List (List Pt)) → wanted_steps (λ (s : Seg). same_source s.layer layer) segments routes ≡ route_steps layer segments routes
 layer_steps_are layer [] routes = refl
 layer_steps_are layer (s ∷ ss) [] = refl
 layer_steps_are layer (s ∷ ss) (route ∷ routes) = ap (λ (steps : List (Pt × Pt)). (if same_source s.layer layer then neighbours route else []) ++ steps) (layer_steps_are layer ss routes)

@@ -57,7 +57,7 @@ fn add_end<A: Allocator>(
 }
 
 /// Adds the records of the segments of these numbers at those of their ends that lie in a tile.
-fn add_ends<A: Allocator>(
+pub fn add_ends<A: Allocator>(
     records: &mut Vec<Record, A>,
     tile: &Rect,
     segments: &[Seg],

@@ -162,7 +162,7 @@ fn halve<A: Allocator + Copy>(
 
 /// The hot pixels of a tile among the chosen segments, ascending and each once, and the records of these segments at those that are no
 /// ends of them.
-pub(crate) fn found_in<A: Allocator + Copy>(
+pub fn found_in<A: Allocator + Copy>(
     alloc: A,
     tile: &Rect,
     segments: &[Seg],

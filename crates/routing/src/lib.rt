@@ -19,7 +19,8 @@ mod record;
 mod recording;
 mod spread;
 
-pub use finding::{part, piece};
+pub use finding::{add_ends, part, piece};
+pub use halved::found_in;
 pub use met::meets;
 pub use pieces::{Part, Piece};
 pub use record::{Candidate, Record, record_at};
