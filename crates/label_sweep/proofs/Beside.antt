@@ -202,7 +202,7 @@ module _ (es : List Edge) where
 
 -- ---- vertices one after another
 module _ {X : Type 0} where
-  pairs_sliced : (R : X → X → Type 0) (xs : List X) (a b : ℕ) → AllPairs R xs → AllPairs R (slice_range xs a b)
+  pub pairs_sliced : (R : X → X → Type 0) (xs : List X) (a b : ℕ) → AllPairs R xs → AllPairs R (slice_range xs a b)
   pairs_sliced R xs a b h = let P : List X → Type 0 = λ t. AllPairs R t in
       pairs_front R (slice_range xs a b) (drop (b - a) (drop a xs)) (subst P (sym (take-append-drop (b - a) (drop a xs))) (pairs_back R (take a xs) (drop a xs) (subst P (sym (take-append-drop a xs)) h)))
 

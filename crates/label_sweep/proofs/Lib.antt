@@ -18,5 +18,6 @@ pub mod Crossing
 pub mod Chunks
 pub mod Places
 pub mod Borders
+pub mod StripVertices
 pub mod ChangingEdges
 pub mod Parts

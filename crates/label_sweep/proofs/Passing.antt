@@ -26,11 +26,11 @@ use Rattle.label_sweep.specs.declared.parities.Parities.{Parities}
 use Rattle.label_sweep.specs.declared.standing.Spoke.{Spoke}
 use Rattle.label_sweep.specs.declared.standing.StandingEdge.{StandingEdge}
 use Rattle.label_sweep.specs.declared.standing.LabelledEdge.{LabelledEdge}
-use Rattle.label_sweep.specs.Labels.{AreLabelsWithin, BeginsWith, IsLabelled, IsSweptTo, IsSweptUpTo, beyond, labels_from, lowest_of, parities_at, parities_beside, standing_of, stands_from}
+use Rattle.label_sweep.specs.Labels.{AreLabelsUpTo, BeginsWith, IsLabelled, IsSweptTo, IsSweptUpTo, beyond, labels_from, lowest_of, parities_at, parities_beside, standing_of, stands_from}
 use Rattle.label_sweep.specs.Status.{AreFresh, AreSpokes, AreStanding, GoesOn, IsRangeAt, IsSteeper, IsUnder, IsVertexOf, Reaches}
 use Rattle.label_sweep.proofs.Around.{Steeper, under_turn}
 use Rattle.label_sweep.proofs.Labelling.{turn_is_labelled}
-use Rattle.label_sweep.proofs.Members.{all_of_in, in_of_all, in_drop, in_reverse, reverse_in, reverse_cons, map_reverse, within_take, within_drop, within_part, part_in, pairs_of_map}
+use Rattle.label_sweep.proofs.Members.{all_of_in, in_of_all, in_drop, in_reverse, in_take, reverse_in, reverse_cons, map_reverse, within_take, within_drop, within_part, part_in, pairs_of_map}
 use Rattle.label_sweep.proofs.Step.{Pairs, clash, pairs_append}
 use Rattle.label_sweep.proofs.Turning.{edge_at}
 use Rattle.label_sweep.proofs.Words.{first_left_none, left_of_first, pairs_from, pairs_map, pairs_to, search_is_monotone, standing_stays, steeper_of}
@@ -47,6 +47,16 @@ IsAbove v e = side e.p e.q v <ℤ pos 0
 pub vertex_in_limit : (cs : List Counted) → AreLayers cs → (v : Pt) → IsVertexOf (edges_of cs) v → InLimit v
 vertex_in_limit cs h v x = let l = All-contains (λ e. AreInLimit e.p e.q) (edges_of cs) x.edge h.in_limit x.inside in
     ⊎_elim (λ e. subst (λ (w : Pt). InLimit w) (sym e) l.a_in) (λ e. subst (λ (w : Pt). InLimit w) (sym e) l.b_in) x.ends
+
+pub range_in_limit : (cs own : List Counted) → AreLayers cs → (v : Pt) (from next : ℕ) → IsRangeAt cs own v from next → All (λ e. AreInLimit e.p e.q) (edges_of (slice_range own from next))
+range_in_limit cs own h v from next r = all_of_in (λ e. AreInLimit e.p e.q) (edges_of (slice_range own from next)) (λ e i.
+    let c = in_map (λ (c : Counted). c.edge) (slice_range own from next) e i in
+    subst (λ (e : Edge). AreInLimit e.p e.q) c.2 (All-contains (λ e. AreInLimit e.p e.q) (edges_of cs) c.0.edge h.in_limit
+    (in_contains (edges_of cs) c.0.edge (map_in (λ (c : Counted). c.edge) cs c.0 (contains_in cs c.0 ((r.exact c.0).0 (in_contains (slice_range own from next) c.0 c.1)).0)))))
+
+-- and they are among all edges
+pub of_range : (cs own : List Counted) (v : Pt) (from next : ℕ) → IsRangeAt cs own v from next → (ss : List Spoke) → All (λ s. Contains (slice_range own from next) s.one) ss → All (λ s. Contains cs s.one) ss
+of_range cs own v from next r ss inside k d l = ((r.exact (get_or ss k d).one).0 (inside k d l)).0
 
 -- ---- the searches
 module _ (cs : List Counted) (h : AreLayers cs) (v : Pt) (s : List StandingEdge) (u : IsSweptUpTo cs v s) where
@@ -234,8 +244,8 @@ module _ (cs : List Counted) (h : AreLayers cs) (v : Pt) (x : IsVertexOf (edges_
     labels_here = labels cs h v ss a inside left left_begins
 
 -- ---- the labels so far
-module _ (cs : List Counted) (v : Pt) (ss : List Spoke) (a : AreSpokes (edges_of cs) v (map edge_at ss)) (left : Parities) (each : All (IsLabelled cs) (labels_from left ss))
-    (first from next : ℕ) (r : IsRangeAt cs v from next) (old : List LabelledEdge) (g : AreLabelsWithin cs first from old) where
+module _ (cs own : List Counted) (v : Pt) (ss : List Spoke) (a : AreSpokes (edges_of cs) v (map edge_at ss)) (left : Parities) (each : All (IsLabelled cs) (labels_from left ss))
+    (from next : ℕ) (r : IsRangeAt cs own v from next) (inside : All (λ s. Contains (slice_range own from next) s.one) ss) (old : List LabelledEdge) (g : AreLabelsUpTo cs own from old) where
   label_in : (f : Edge) → In f (map edge_at ss) → In f (map (λ (l : LabelledEdge). l.edge) (old ++ labels_from left ss))
   label_in f i = let P : List Edge → Type 0 = λ es. In f es in
       subst P (sym (map-append (λ (l : LabelledEdge). l.edge) old (labels_from left ss))) (in_back (map (λ (l : LabelledEdge). l.edge) old) (map (λ (l : LabelledEdge). l.edge) (labels_from left ss)) f
@@ -245,15 +255,24 @@ module _ (cs : List Counted) (v : Pt) (ss : List Spoke) (a : AreSpokes (edges_of
   old_in f i = let P : List Edge → Type 0 = λ es. In f es in
       subst P (sym (map-append (λ (l : LabelledEdge). l.edge) old (labels_from left ss))) (in_front (map (λ (l : LabelledEdge). l.edge) old) (map (λ (l : LabelledEdge). l.edge) (labels_from left ss)) f i)
 
-  of_counted : (i : ℕ) (d : Counted) → first ≤ i → i < next → In (get_or cs i d).edge (map (λ (l : LabelledEdge). l.edge) (old ++ labels_from left ss))
-  of_counted i d f l = let c = get_or cs i d in ⊎_elim
-      (λ m. old_in c.edge (contains_in (map (λ (l : LabelledEdge). l.edge) old) c.edge (g.all i d f m)))
-      (λ m. let b = (r.exact c).0 (in_contains (slice_range cs from next) c (part_in cs from (next - from) i d m (omega (arith, m, l)) (omega (arith, l, r.within)))) in
+  of_own : (i : ℕ) (d : Counted) → i < next → In (get_or own i d).edge (map (λ (l : LabelledEdge). l.edge) (old ++ labels_from left ss))
+  of_own i d l = let c = get_or own i d in ⊎_elim
+      (λ m. old_in c.edge (contains_in (map (λ (l : LabelledEdge). l.edge) old) c.edge (g.all i d (omega arith) m)))
+      (λ m. let b = (r.exact c).0 (in_contains (slice_range own from next) c (part_in own from (next - from) i d m (omega (arith, m, l)) (omega (arith, l, r.within)))) in
       label_in c.edge (contains_in (map edge_at ss) c.edge ((a.exact c.edge).1 (in_contains (edges_of cs) c.edge (map_in (λ c. c.edge) cs c (contains_in cs c b.0)), b.1))))
       (cases_lt i from)
 
-  pub labelled : AreLabelsWithin cs first next (old ++ labels_from left ss)
+  only_own : (l : LabelledEdge) → In l (labels_from left ss) → Contains (edges_of own) l.edge
+  only_own l i = let P : List Edge → Type 0 = λ es. In l.edge es in
+      let s = in_map edge_at ss l.edge (subst P (labels_edges left ss) (map_in (λ (l : LabelledEdge). l.edge) (labels_from left ss) l i)) in
+      let c = contains_in (slice_range own from next) s.0.one (in_of_all (λ s. Contains (slice_range own from next) s.one) ss inside s.0 s.1) in
+      subst (λ (e : Edge). Contains (edges_of own) e) s.2
+      (in_contains (edges_of own) s.0.one.edge (map_in (λ c. c.edge) own s.0.one (in_drop from own s.0.one (in_take (next - from) (drop from own) s.0.one c))))
+
+  pub labelled : AreLabelsUpTo cs own next (old ++ labels_from left ss)
   labelled = record {
     each = All-append (IsLabelled cs) old (labels_from left ss) g.each each;
-    all = λ i d f l. in_contains (map (λ (l : LabelledEdge). l.edge) (old ++ labels_from left ss)) (get_or cs i d).edge (of_counted i d f l);
+    only = All-append (λ (l : LabelledEdge). Contains (edges_of own) l.edge) old (labels_from left ss) g.only
+        (all_of_in (λ (l : LabelledEdge). Contains (edges_of own) l.edge) (labels_from left ss) only_own);
+    all = λ i d f l. in_contains (map (λ (l : LabelledEdge). l.edge) (old ++ labels_from left ss)) (get_or own i d).edge (of_own i d l);
   }

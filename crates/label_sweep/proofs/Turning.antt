@@ -25,7 +25,7 @@ use Rattle.points_law.proofs.Turn.{steep_p}
 use Rattle.points_law.proofs.Vertex.{slopes}
 use Rattle.label_sweep.specs.declared.standing.Spoke.{Spoke}
 use Rattle.label_sweep.specs.Status.{AreSpokes, IsRangeAt, IsSteeper, is_steeper}
-use Rattle.label_sweep.proofs.Members.{all_of_in, in_drop, in_take, map_pairs}
+use Rattle.label_sweep.proofs.Members.{all_of_in, map_pairs}
 use Rattle.label_sweep.proofs.Steepness.{comes_first, passed, steepness}
 use Rattle.label_sweep.proofs.Words.{turn_is}
 
@@ -49,10 +49,17 @@ tests_as : (f g : Edge) → lt_z (pos 0) (slope f g) ≡ is_steeper f g
 tests_as f g = ap (λ (t : ℤ). lt_z (pos 0) t) (sym (turn_is (run f) (rise f) (run g) (rise g)))
 
 -- ---- the edges that begin at a vertex, as they are listed
-module _ (cs : List Counted) (h : AreLayers cs) (v : Pt) (from next : ℕ) (r : IsRangeAt cs v from next) (ss : List Spoke) (e : map (λ (s : Spoke). s.one) ss ≡ slice_range cs from next) where
+-- those of a range
+pub spokes_inside : (own : List Counted) (from next : ℕ) (ss sorted : List Spoke) → map (λ (s : Spoke). s.one) ss ≡ slice_range own from next → IsPermutation ss sorted
+    → All (λ s. Contains (slice_range own from next) s.one) sorted
+spokes_inside own from next ss sorted e p = let P : List Counted → Type 0 = λ t. (c : Counted) → In c t → Contains (slice_range own from next) c in
+    all_of_in (λ s. Contains (slice_range own from next) s.one) sorted (λ s i. subst P (sym e) (λ c j. in_contains (slice_range own from next) c j) s.one
+    (map_in (λ (s : Spoke). s.one) ss s (contains_in ss s (Contains-permutation sorted ss s (IsPermutation-sym ss sorted p) (in_contains sorted s i)))))
+
+module _ (cs own : List Counted) (h : AreLayers cs) (v : Pt) (from next : ℕ) (r : IsRangeAt cs own v from next) (ss : List Spoke) (e : map (λ (s : Spoke). s.one) ss ≡ slice_range own from next) where
   begins : (s : Spoke) → In s ss → Contains cs s.one × (s.one.edge.p ≡ v)
   begins s i = let P : List Counted → Type 0 = λ t. In s.one t in
-      (r.exact s.one).0 (in_contains (slice_range cs from next) s.one (subst P e (map_in (λ (s : Spoke). s.one) ss s i)))
+      (r.exact s.one).0 (in_contains (slice_range own from next) s.one (subst P e (map_in (λ (s : Spoke). s.one) ss s i)))
 
   edge_in : (c : Counted) → Contains cs c → In c.edge (edges_of cs)
   edge_in c k = map_in (λ c. c.edge) cs c (contains_in cs c k)
@@ -61,16 +68,16 @@ module _ (cs : List Counted) (h : AreLayers cs) (v : Pt) (from next : ℕ) (r : 
   inside k d l = contains_in ss (get_or ss k d) (k, l, get_or_default ss k (get_or ss k d) d l)
 
   length_is : length ss ≡ next - from
-  length_is = sym (length-map ss (λ (s : Spoke). s.one)) ∙ ap length e ∙ length-take-le (next - from) (drop from cs) (omega (arith, length-drop from cs, r.within))
+  length_is = sym (length-map ss (λ (s : Spoke). s.one)) ∙ ap length e ∙ length-take-le (next - from) (drop from own) (omega (arith, length-drop from own, r.within))
 
-  one_at : (k : ℕ) (d : Spoke) → k < length ss → (get_or ss k d).one ≡ get_or cs (from + k) d.one
+  one_at : (k : ℕ) (d : Spoke) → k < length ss → (get_or ss k d).one ≡ get_or own (from + k) d.one
   one_at k d l = sym (get_or-map (λ (s : Spoke). s.one) ss k d d.one l) ∙ ap (λ (t : List Counted). get_or t k d.one) e
-      ∙ get_or-take (next - from) (drop from cs) k d.one (omega (arith, length_is)) ∙ get_or-drop from cs k d.one
+      ∙ get_or-take (next - from) (drop from own) k d.one (omega (arith, length_is)) ∙ get_or-drop from own k d.one
 
   differs : (i j : ℕ) (d : Spoke) → i < j → j < length ss → ¬ ((get_or ss i d).one.edge ≡ (get_or ss j d).one.edge)
   differs i j d l m k =
-      let b : IsEdgeBefore (get_or cs (from + i) d.one).edge (get_or cs (from + j) d.one).edge = h.ascending (from + i) (from + j) d.one (omega arith) (omega (arith, length_is, r.order, r.within)) in
-      let P : Counted → Type 0 = λ c. IsEdgeBefore c.edge (get_or cs (from + j) d.one).edge in
+      let b : IsEdgeBefore (get_or own (from + i) d.one).edge (get_or own (from + j) d.one).edge = r.ascending (from + i) (from + j) d.one (omega arith) (omega (arith, length_is, r.order, r.within)) in
+      let P : Counted → Type 0 = λ c. IsEdgeBefore c.edge (get_or own (from + j) d.one).edge in
       let Q : Counted → Type 0 = λ c. IsEdgeBefore (get_or ss i d).one.edge c.edge in
       let R : Edge → Type 0 = λ g. IsEdgeBefore g (get_or ss j d).one.edge in
       edge_before_itself (get_or ss j d).one.edge (subst R k (subst Q (sym (one_at j d m)) (subst P (sym (one_at i d (omega arith))) b)))
@@ -103,11 +110,8 @@ module _ (cs : List Counted) (h : AreLayers cs) (v : Pt) (from next : ℕ) (r : 
     in_order : AllPairs IsSteeper (map edge_at sorted)
     in_order = map_pairs IsSteeper edge_at sorted steeper_first
 
-    pub spokes_inside : All (λ s. Contains cs s.one) sorted
-    spokes_inside = all_of_in (λ s. Contains cs s.one) sorted (λ s j. (begins s (was s j)).0)
-
     spoke_of : (c : Counted) → Contains cs c → c.edge.p ≡ v → In c (map (λ (s : Spoke). s.one) ss)
-    spoke_of c i b = let P : List Counted → Type 0 = λ t. In c t in subst P (sym e) (contains_in (slice_range cs from next) c ((r.exact c).1 (i, b)))
+    spoke_of c i b = let P : List Counted → Type 0 = λ t. In c t in subst P (sym e) (contains_in (slice_range own from next) c ((r.exact c).1 (i, b)))
 
     sound_after : (f : Edge) → Contains (map edge_at sorted) f → Contains (edges_of cs) f × (f.p ≡ v)
     sound_after f j = let k = in_map edge_at sorted f (contains_in (map edge_at sorted) f j) in let b = begins k.0 (was k.0 k.1) in
@@ -122,6 +126,5 @@ module _ (cs : List Counted) (h : AreLayers cs) (v : Pt) (from next : ℕ) (r : 
     are_spokes = record { exact = λ f. ((λ j. sound_after f j), (λ k. complete_after f k.0 k.1)); order = in_order }
 
 -- ---- each of those that are listed
-pub limit_at : (cs : List Counted) → All (λ (e : Edge). AreInLimit e.p e.q) (edges_of cs) → (from next i : ℕ) (r : Counted) → i < length (slice_range cs from next) → r ≡ get_or (slice_range cs from next) i r → AreInLimit r.edge.p r.edge.q
-limit_at cs h from next i r l e = All-contains (λ f. AreInLimit f.p f.q) (edges_of cs) r.edge h (in_contains (edges_of cs) r.edge
-    (map_in (λ c. c.edge) cs r (in_drop from cs r (in_take (next - from) (drop from cs) r (contains_in (slice_range cs from next) r (i, l, sym e))))))
+pub limit_at : (cs : List Counted) → All (λ (e : Edge). AreInLimit e.p e.q) (edges_of cs) → (i : ℕ) (r : Counted) → i < length cs → r ≡ get_or cs i r → AreInLimit r.edge.p r.edge.q
+limit_at cs h i r l e = All-contains (λ f. AreInLimit f.p f.q) (edges_of cs) r.edge h (in_contains (edges_of cs) r.edge (map_in (λ c. c.edge) cs r (contains_in cs r (i, l, sym e))))

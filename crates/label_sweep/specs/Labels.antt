@@ -16,7 +16,7 @@ use Rattle.geom.specs.Label.{ways}
 use Rattle.label_sweep.specs.declared.parities.Parities.{Parities}
 use Rattle.label_sweep.specs.declared.standing.StandingEdge.{StandingEdge}
 use Rattle.label_sweep.specs.declared.standing.LabelledEdge.{LabelledEdge}
-use Rattle.label_sweep.specs.Status.{AreStanding, AreSpokes, GoesOn, Reaches}
+use Rattle.label_sweep.specs.Status.{AreStanding, AreSpokes, GoesOn, IsRangeAt, IsVertexOf, Reaches}
 use Rattle.points_law.specs.Law.{AreLayers}
 use Rattle.label_sweep.specs.declared.standing.Spoke.{Spoke}
 
@@ -37,10 +37,16 @@ pub record IsLabelled (counted : List Counted) (l : LabelledEdge) : Type 0 where
   pub left : l.left ≡ parities_at counted (left_side l.edge.p l.edge.q)
   pub right : l.right ≡ parities_at counted (right_side l.edge.p l.edge.q)
 
--- edges of the list with the parities at their side points, those from one number to another among them
-pub record AreLabelsWithin (counted : List Counted) (from to : ℕ) (labelled : List LabelledEdge) : Type 0 where
+-- edges with the parities at their side points, which are of `own`, those before a number among them
+pub record AreLabelsUpTo (counted own : List Counted) (to : ℕ) (labelled : List LabelledEdge) : Type 0 where
   pub each : All (IsLabelled counted) labelled
-  pub all : AllWithin (λ c. Contains (map (λ l. l.edge) labelled) c.edge) counted from to
+  pub only : All (λ l. Contains (edges_of own) l.edge) labelled
+  pub all : AllWithin (λ c. Contains (map (λ l. l.edge) labelled) c.edge) own 0 to
+
+-- the edges of `own` with the parities at their side points
+pub record AreLabels (counted own : List Counted) (labelled : List LabelledEdge) : Type 0 where
+  pub each : All (IsLabelled counted) labelled
+  pub exact : (e : Edge) → Contains (map (λ l. l.edge) labelled) e ↔ Contains (edges_of own) e
 
 -- edges of the list with the parities at their side points, those that begin at one of these points among them
 pub record AreLabelsFrom (counted : List Counted) (points : List Pt) (labelled : List LabelledEdge) : Type 0 where
@@ -51,6 +57,13 @@ pub record AreLabelsFrom (counted : List Counted) (points : List Pt) (labelled :
 pub record IsSweptUpTo (counted : List Counted) (v : Pt) (standing : List StandingEdge) : Type 0 where
   pub edges : AreStanding (Reaches (edges_of counted) v) (map (λ s. s.spoke.one.edge) standing)
   pub under : All (λ s. s.under ≡ parities_at counted (right_side s.spoke.one.edge.p s.spoke.one.edge.q)) standing
+
+-- at the vertex v of layers: some of the edges `own` are those that begin there, and what stands reaches it
+pub record IsAt (counted own : List Counted) (v : Pt) (from next : ℕ) (standing : List StandingEdge) : Type 0 where
+  pub layers : AreLayers counted
+  pub vertex : IsVertexOf (edges_of counted) v
+  pub begin : IsRangeAt counted own v from next
+  pub swept : IsSweptUpTo counted v standing
 
 -- after the vertex v: what stands goes on from v, in its order, each with the parities below it
 pub record IsSweptTo (counted : List Counted) (v : Pt) (standing : List StandingEdge) : Type 0 where

@@ -6,3 +6,4 @@ pub mod Laws
 pub mod Labels
 pub mod Changing
 pub mod Swept
+pub mod StripLabels

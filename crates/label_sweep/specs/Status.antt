@@ -3,6 +3,7 @@ use Rattle.std.specs.Prelude.{ℕ, Bool, int_lt, ◌≤◌, length, slice_range,
 use Rattle.geom.specs.declared.point.Pt.{Pt}
 use Rattle.geom.specs.Order.{IsBefore, IsUpTo}
 use Rattle.geom.specs.Determinant.{turn}
+use Rattle.geom.specs.EdgeOrder.{IsEdgeBefore}
 use Rattle.geom.specs.declared.edge.Edge.{Edge}
 use Rattle.geom.specs.declared.edge.Counted.{Counted}
 
@@ -68,8 +69,9 @@ pub record AreVertices (es : List Edge) (vertices : List Pt) : Type 0 where
 abbrev pub AreEnds : List Edge → List Pt → Type 0
 AreEnds es ends = (v : Pt) → Contains ends v ↔ IsVertexOf es v
 
--- those from one number to another are the edges that begin at v
-pub record IsRangeAt (counted : List Counted) (v : Pt) (from to : ℕ) : Type 0 where
+-- of the ascending edges `own` those from one number to another are the edges of the list that begin at v
+pub record IsRangeAt (counted own : List Counted) (v : Pt) (from to : ℕ) : Type 0 where
   pub order : from ≤ to
-  pub within : to ≤ length counted
-  pub exact : (c : Counted) → Contains (slice_range counted from to) c ↔ (Contains counted c × (c.edge.p ≡ v))
+  pub within : to ≤ length own
+  pub ascending : AllPairs (λ c d. IsEdgeBefore c.edge d.edge) own
+  pub exact : (c : Counted) → Contains (slice_range own from to) c ↔ (Contains counted c × (c.edge.p ≡ v))

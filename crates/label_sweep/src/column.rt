@@ -3,12 +3,13 @@
 //!    height in the middle of the column (`CrossingEdge::at`).
 //! 2. They are sorted by exact fractions, the highest first (`crossing`). Noded edges cross a column at different heights.
 
-ghost use Rattle.std.specs.Prelude.{◌≡◌, ◌<ℤ◌, ◌≤ℤ◌, ◌*ℤ◌, ◌++◌, [], ◌∷◌, if◌then◌else◌, All, Contains, IfOk, IsPermutation, IsSortedBy, OnOk, filter, map, pos};
+ghost use Rattle.std.specs.Prelude.{◌≡◌, ◌<ℤ◌, ◌≤ℤ◌, ◌*ℤ◌, ◌++◌, [], ◌∷◌, if◌then◌else◌, All, Contains, IfOk, IsPermutation, IsSortedBy, List, OnOk, filter, map, pos};
 ghost use Rattle.std.specs.Ordering.{is_lt};
 ghost use Rattle.geom.specs.Limit.{AreInLimit};
 ghost use Rattle.geom.specs.Rounded.{edges_of};
+ghost use Rattle.geom.specs.declared.edge.Counted.{Counted};
 ghost use Rattle.points_law.specs.Law.{AreLayers};
-ghost use Rattle.label_sweep.specs.Column.{AreCrossing};
+ghost use Rattle.label_sweep.specs.Column.{AreCrossing, HaveCrossing};
 ghost use Rattle.label_sweep.specs.Heights.{IsMeasured, crosses, is_above};
 
 use crate::standing::Spoke;
@@ -118,14 +119,14 @@ fn spokes_of<A: Allocator + Copy>(
     Ok(spokes)
 }
 
-/// The edges that cross the column on the left of a border, the highest first.
+/// The edges that cross the column on the left of a border, the highest first: of edges that have them all.
 pub fn crossing<A: Allocator + Copy>(
     alloc: A,
     counted: &[Counted],
     border: i32,
 ) -> Result<Vec<Spoke, A>, NoMemory>
-    requires { AreLayers counted.now }
-    ensures crossing { IfOk result (λ spokes. AreCrossing (edges_of counted.now) border (map (λ s. s.one.edge) spokes.items)) }
+    requires { All (λ e. AreInLimit e.p e.q) (edges_of counted.now) }
+    ensures crossing { (all : List Counted) → AreLayers all → HaveCrossing all border counted.now → IfOk result (λ spokes. AreCrossing (edges_of all) border (map (λ s. s.one.edge) spokes.items)) }
     ensures inside { IfOk result (λ spokes. All (λ s. Contains counted.now s.one) spokes.items) }
 {
     let mut crossings = list_crossing(alloc, counted, border)?;

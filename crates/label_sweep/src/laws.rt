@@ -3,6 +3,7 @@
 ghost use Rattle.label_sweep.specs.Changing.{ChangingAreLayers, ChangingBound};
 ghost use Rattle.label_sweep.specs.Laws.{FirstLeft, LeftOfFirst, EndsAreLevel, LeftOfNext, RightIsBeyond, SearchIsMonotone, StandingReaches, StandingStays};
 ghost use Rattle.label_sweep.specs.Labels.{TurnIsLabelled};
+ghost use Rattle.label_sweep.specs.StripLabels.{StripsMakeResult};
 
 /// What begins at a vertex, put in the place of what ends there, keeps the order.
 pub fn standing_stays()
@@ -57,4 +58,9 @@ pub fn changing_are_layers()
 /// They bound the result of all edges.
 pub fn changing_bound()
     ensures { ChangingBound }
+{}
+
+/// The directed edges along the edges of all strips, in order, are those of the result.
+pub fn strips_make_result()
+    ensures { StripsMakeResult }
 {}

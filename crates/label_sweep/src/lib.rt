@@ -5,6 +5,7 @@
 //!    order, with the parities below it (`status`, `turn`).
 //! 3. What bounds the result is directed and brought in order (`directed`).
 //!
+//! A map may be labelled strip by strip, from the edges of each strip and those that come into it (`strip_labels`).
 //! For callers with more than two layers over the same edges, the same sweep tells which edge is beside each (`swept`).
 //!
 //! The promise: exactly the edges that bound the result, each in its direction. The definitions are in `specs`; the laws (`laws`) carry the
@@ -15,6 +16,7 @@ mod changing;
 mod column;
 mod directed;
 mod laws;
+mod one_strip;
 mod overlap;
 mod parities;
 mod pass;
@@ -27,11 +29,14 @@ mod swept;
 mod turn;
 mod vertices;
 
+pub use changing::changing_edges;
 pub use directed::{layer_labels, layer_labels_in_parts};
 pub use laws::{
     changing_are_layers, changing_bound, ends_are_level, first_left, left_of_first, left_of_next,
-    right_is_beyond, search_is_monotone, standing_reaches, standing_stays, turn_is_labelled,
+    right_is_beyond, search_is_monotone, standing_reaches, standing_stays, strips_make_result,
+    turn_is_labelled,
 };
+pub use one_strip::strip_labels;
 pub use overlap::merged;
 pub use shared_vertices::vertices_in_parts;
 pub use strips::strips_of;

@@ -4,22 +4,24 @@
 //!    which are sorted (`in_order`).
 //! 3. The strips' lists become one, sorted where they overlap (`merged`), and looked at once more (`in_order`).
 
-ghost use Rattle.std.specs.Prelude.{◌≡◌, ◌<◌, ◌≤◌, ◌<ℤ◌, All, AllPairs, IfOk, List, get_or, int_le, length, slice_range};
+ghost use Rattle.std.specs.Prelude.{◌≡◌, ◌<◌, ◌≤◌, ◌<ℤ◌, All, AllPairs, IfOk, List, get_or, int_le, length, slice_range, take};
 ghost use Rattle.std.specs.List.{AllWithin};
 ghost use Rattle.geom.specs.Directed.{IsDirectedBefore};
+ghost use Rattle.geom.specs.EdgeOrder.{IsEdgeBefore};
 ghost use Rattle.geom.specs.Order.{IsBefore};
 ghost use Rattle.geom.specs.Rounded.{edges_of};
 ghost use Rattle.geom.specs.declared.edge.Edge.{Edge};
 ghost use Rattle.geom.specs.declared.point.Pt.{Pt};
 ghost use Rattle.hands.specs.Consecutive.{ArePartsOf};
 ghost use Rattle.points_law.specs.Law.{AreLayers};
-ghost use Rattle.label_sweep.specs.Column.{IsStrip};
+ghost use Rattle.label_sweep.specs.Column.{AreLeftOf, IsStrip, IsStripOf};
 ghost use Rattle.label_sweep.specs.Labels.{AreDirectedFrom};
 ghost use Rattle.label_sweep.specs.Status.{AreVertices};
 
 use crate::directed::{directed_edges, in_order};
 use crate::overlap::merged;
 use crate::pass::sweep;
+use crate::vertices::first_of;
 use geom::{Counted, DirectedEdge, NoMemory, Op, Pt};
 use hands::{Part, map_parts};
 use std::alloc::Allocator;
@@ -66,6 +68,32 @@ pub fn strips_of<A: Allocator>(
     Ok(strips)
 }
 
+/// How many edges begin on the left of the vertex with a number, or all edges, behind the last one.
+fn edges_up_to(counted: &[Counted], vertices: &[Pt], number: usize) -> usize
+    requires { AllPairs (λ c d. IsEdgeBefore c.edge d.edge) counted.now }
+    ensures { AreLeftOf counted.now vertices.now number result }
+{
+    if number < vertices.len() {
+        first_of(counted, vertices[number])
+    } else {
+        counted.len()
+    }
+}
+
+/// The numbers of the edges that begin in a strip: those that cross the column before it are among the edges before them.
+pub fn edges_in(counted: &[Counted], vertices: &[Pt], strip: Part) -> Part
+    requires layers { AreLayers counted.now }
+    requires vertices { AreVertices (edges_of counted.now) vertices.now }
+    requires strip { IsStrip (edges_of counted.now) vertices.now strip }
+    ensures order { result.from ≤ result.past }
+    ensures within { result.past ≤ length counted.now }
+    ensures strip { IsStripOf counted.now (take result.from counted.now) (slice_range counted.now result.from result.past) (slice_range vertices.now strip.from strip.past) }
+{
+    let from = edges_up_to(counted, vertices, strip.from);
+    let past = edges_up_to(counted, vertices, strip.past);
+    Part { from, past }
+}
+
 /// The directed edges of the result of an operation along the edges that begin in a strip.
 pub fn strip_edges<A: Allocator + Copy>(
     alloc: A,
@@ -80,7 +108,13 @@ pub fn strip_edges<A: Allocator + Copy>(
     ensures ascending { IfOk result (λ edges. AllPairs IsDirectedBefore edges.items) }
     ensures along { IfOk result (λ edges. AreDirectedFrom op counted.now (slice_range vertices.now strip.from strip.past) edges.items) }
 {
-    let labelled = sweep(alloc, counted, vertices, strip)?;
+    let own = edges_in(counted, vertices, strip);
+    let labelled = sweep(
+        alloc,
+        &counted[..own.from],
+        &counted[own.from..own.past],
+        &vertices[strip.from..strip.past],
+    )?;
     let edges = directed_edges(alloc, &labelled, op)?;
     Ok(in_order(edges))
 }

@@ -13,7 +13,7 @@ ghost use Rattle.label_sweep.specs.Swept.{AreSwept, AreSweptFrom};
 
 use crate::pass::sweep_beside;
 use crate::shared_vertices::vertices_in_parts;
-use crate::strips::strips_of;
+use crate::strips::{edges_in, strips_of};
 use crate::vertices::vertices_of;
 use geom::{Counted, Edge, NoMemory, Pt};
 use hands::{Part, joined, map_parts};
@@ -42,7 +42,7 @@ pub fn swept_edges<A: Allocator + Copy>(
         from: 0,
         past: vertices.len(),
     };
-    sweep_beside(alloc, counted, &vertices, all)
+    strip_beside(alloc, counted, &vertices, all)
 }
 
 /// The same, in at most so many parts at once: 0 is one.
@@ -57,6 +57,27 @@ pub fn swept_edges_in_parts<R: Threads + Sync, A: Allocator + Copy + Send + Sync
 {
     let vertices = vertices_in_parts(rt, alloc, parts, counted)?;
     strips_beside(rt, alloc, parts, counted, &vertices)
+}
+
+/// The edges that begin in a strip, each with the one beside it.
+fn strip_beside<A: Allocator + Copy>(
+    alloc: A,
+    counted: &[Counted],
+    vertices: &[Pt],
+    strip: Part,
+) -> Result<Vec<SweptEdge, A>, NoMemory>
+    requires layers { AreLayers counted.now }
+    requires vertices { AreVertices (edges_of counted.now) vertices.now }
+    requires strip { IsStrip (edges_of counted.now) vertices.now strip }
+    ensures { IfOk result (λ swept. AreSweptFrom (edges_of counted.now) (slice_range vertices.now strip.from strip.past) swept.items) }
+{
+    let own = edges_in(counted, vertices, strip);
+    sweep_beside(
+        alloc,
+        &counted[..own.from],
+        &counted[own.from..own.past],
+        &vertices[strip.from..strip.past],
+    )
 }
 
 /// The edges that begin at these vertices, each with the one beside it, from so many strips at once.
@@ -79,7 +100,7 @@ fn strips_beside<R: Threads + Sync, A: Allocator + Copy + Send + Sync>(
         |strip: Part| -> Result<Vec<SweptEdge, A>, NoMemory>
             requires { AreLayers counted.now × AreVertices (edges_of counted.now) vertices.now × IsStrip (edges_of counted.now) vertices.now strip }
             ensures { IfOk result (λ swept. AreSweptFrom (edges_of counted.entry.now) (slice_range vertices.entry.now strip.from strip.past) swept.items) }
-        { sweep_beside(alloc, counted, vertices, strip) },
+        { strip_beside(alloc, counted, vertices, strip) },
     )?;
     Ok(joined(alloc, lists)?)
 }

@@ -6,9 +6,10 @@
 //! 3. Those that are not upright stand from there on, from the lowest to the steepest (`stand`).
 //! 4. Where no labels are wanted, the first one has that lowest edge beside it, and each further one the one before (`list_beside`).
 
-ghost use Rattle.std.specs.Prelude.{◌≡◌, ◌≤◌, ◌∷◌, [], if◌then◌else◌, int_lt, ◌++◌, All, Contains, OnOk, length, map, reverse, slice_range};
+ghost use Rattle.std.specs.Prelude.{◌≡◌, ◌≤◌, ◌∷◌, [], if◌then◌else◌, int_lt, ◌++◌, All, Contains, List, OnOk, length, map, reverse, slice_range};
 ghost use Rattle.geom.specs.Limit.{AreInLimit};
 ghost use Rattle.geom.specs.Rounded.{edges_of};
+ghost use Rattle.geom.specs.declared.edge.Counted.{Counted};
 ghost use Rattle.points_law.specs.Law.{AreLayers};
 ghost use Rattle.label_sweep.specs.Labels.{labels_from, standing_of, stands_from};
 ghost use Rattle.label_sweep.specs.Status.{AreSpokes, IsRangeAt};
@@ -28,7 +29,7 @@ fn list_spokes<A: Allocator>(
     from: usize,
     next: usize,
 ) -> Result<(), NoMemory>
-    requires in_limit { All (λ e. AreInLimit e.p e.q) (edges_of counted.now) }
+    requires in_limit { All (λ e. AreInLimit e.p e.q) (edges_of (slice_range counted.now from next)) }
     requires order { from ≤ next }
     requires within { next ≤ length counted.now }
     ensures { OnOk result (map (λ s. s.one) spokes.new.items ≡ slice_range counted.now from next) }
@@ -43,17 +44,18 @@ fn list_spokes<A: Allocator>(
 /// The edges that begin at a vertex, those from one number to another, the steepest first.
 pub fn by_turn<A: Allocator>(
     spokes: &mut Vec<Spoke, A>,
-    counted: &[Counted],
+    own: &[Counted],
     from: usize,
     next: usize,
     v: Pt,
 ) -> Result<(), NoMemory>
-    requires layers { AreLayers counted.now }
-    requires begin { IsRangeAt counted.now v from next }
-    ensures spokes { OnOk result (AreSpokes (edges_of counted.now) v (map (λ s. s.one.edge) spokes.new.items)) }
-    ensures inside { OnOk result (All (λ s. Contains counted.now s.one) spokes.new.items) }
+    requires in_limit { All (λ e. AreInLimit e.p e.q) (edges_of (slice_range own.now from next)) }
+    requires order { from ≤ next }
+    requires within { next ≤ length own.now }
+    ensures spokes { (all : List Counted) → AreLayers all → IsRangeAt all own.now v from next → OnOk result (AreSpokes (edges_of all) v (map (λ s. s.one.edge) spokes.new.items)) }
+    ensures inside { OnOk result (All (λ s. Contains (slice_range own.now from next) s.one) spokes.new.items) }
 {
-    list_spokes(spokes, counted, from, next)?;
+    list_spokes(spokes, own, from, next)?;
     sort_by_steepness(spokes);
     Ok(())
 }

@@ -42,7 +42,7 @@ pub fn each_once<A: Allocator>(mut points: Vec<Pt, A>) -> Result<Vec<Pt, A>, NoM
 }
 
 /// Both ends of each edge, of those that are listed one after another only the first.
-fn ends_of<A: Allocator + Copy>(alloc: A, counted: &[Counted]) -> Result<Vec<Pt, A>, NoMemory>
+pub fn ends_of<A: Allocator + Copy>(alloc: A, counted: &[Counted]) -> Result<Vec<Pt, A>, NoMemory>
     ensures { IfOk result (λ ends. AreEnds (edges_of counted.now) ends.items) }
 {
     let mut ends = first_ends(alloc, counted)?;
@@ -171,12 +171,11 @@ fn begins_up_to(one: &Counted, v: Pt) -> bool
 
 /// The number of edges that begin at a vertex or before, where those up to a number begin before.
 pub fn last_of(counted: &[Counted], from: usize, v: Pt) -> usize
-    requires from { from ≤ length counted.now }
-    requires ascending { AllPairs (λ c d. IsEdgeBefore c.edge d.edge) counted.now }
+    requires { from ≤ length counted.now }
     ensures from { from ≤ result }
     ensures within { result ≤ length counted.now }
     ensures begun { AllWithin (λ c. IsUpTo c.edge.p v) counted.now from result }
-    ensures past { AllWithin (λ c. IsBefore v c.edge.p) counted.now result (length counted.now) }
+    ensures past { AllPairs (λ c d. IsEdgeBefore c.edge d.edge) counted.now → AllWithin (λ c. IsBefore v c.edge.p) counted.now result (length counted.now) }
 {
     let mut next = from;
     while next < counted.len() && begins_up_to(&counted[next], v) {

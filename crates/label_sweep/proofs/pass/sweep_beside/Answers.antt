@@ -1,69 +1,69 @@
-use Rattle.std.proofs.Common.{List, [], arith, get_or, subst, sym}
-use Rattle.std.specs.Prelude.{pos, slice_range}
+use Rattle.std.proofs.Common.{arith, get_or, List, [], rules, subst, sym}
+use Rattle.std.proofs.Math.Logic.{∥∥₁_elim, ∥∥₁_map}
+use Rattle.std.proofs.Props.{props}
 use Rattle.std.proofs.lemmas.List.{get_or_default}
 use Rattle.geom.specs.Rounded.{edges_of}
-use Rattle.geom.specs.declared.point.Pt.{Pt}
 use Rattle.label_sweep.specs.declared.swept.SweptEdge.{SweptEdge}
 use Rattle.label_sweep.specs.Chunks.{all_standing}
+use Rattle.label_sweep.specs.Labels.{IsSweptUpTo}
 use Rattle.label_sweep.specs.Swept.{AreSweptFrom}
 use Rattle.label_sweep.proofs.Beside.{before_first, past_one}
-use Rattle.label_sweep.proofs.Borders.{begins}
-use Rattle.label_sweep.proofs.Sweeping.{range, next_one, vertex_at}
+use Rattle.label_sweep.proofs.Ends.{some_are}
+use Rattle.label_sweep.proofs.Parts.{all_sliced}
+use Rattle.label_sweep.proofs.Sweeping.{before_in_limit, begins, here_at, next_one, origin}
 use Rattle.label_sweep.proofs.pass.sweep_beside.Goals as goal
 
-abbrev origin : Pt
-origin = record { x = pos 0; y = pos 0 }
+pub before-requires : goal.before-requires
+before-requires g c = ∥∥₁_elim c.requires (hlevel props) (λ h. before_in_limit h.0 c.args.before.now c.args.own.now c.args.vertices.now h.1 (some_are _ c.if-is_empty.ensures))
 
 pub loop-number-init : goal.loop-number-init
-loop-number-init g c =
-    let strip = c.args.strip in
-    let s = c.requires.strip in
-    let e = c.if-strip.false in
-    let f = c.first_of-next.ensures in (
-      begins c.args.counted.now c.args.vertices.now c.requires.vertices strip.from c.first_of-next.result origin (omega (arith, s.order, s.within, e)) (s.column origin (omega (arith, s.order, e))) f.within f.left f.right _ c.in_ok-line.ensures.swept,
-      rw c.in_ok-swept.ensures.items (before_first (edges_of c.args.counted.now) c.args.vertices.now c.requires.vertices.ascending strip.from),
-      c.in_ok-line.ensures.chunked,
-    )
+loop-number-init g c = (
+  (λ all h. (
+    begins all c.args.before.now c.args.own.now c.args.vertices.now h (all_standing c.in_ok-line.line.standing)
+        (λ u l. subst (λ v. IsSweptUpTo all v (all_standing c.in_ok-line.line.standing)) (get_or_default c.args.vertices.now 0 origin u l) (c.in_ok-line.ensures.swept all (h.first origin l))),
+    rw c.in_ok-swept.ensures.items (before_first (edges_of all) c.args.vertices.now h.ascending 0),
+  )),
+  c.in_ok-line.ensures.chunked,
+  omega arith,
+)
 
-pub last_of-next-requires-clause-from : goal.last_of-next-requires-clause-from
-last_of-next-requires-clause-from g c = c.loop-number.invariant.0.within
+pub last_of-next-requires : goal.last_of-next-requires
+last_of-next-requires g c = c.loop-number.invariant.2
 
-pub pass_beside-requires-clause-vertex : goal.pass_beside-requires-clause-vertex
-pass_beside-requires-clause-vertex g c = vertex_at c.args.counted.now c.args.vertices.now c.requires.vertices c.loop-number.number origin (omega (arith, c.loop-number-test.true, c.requires.strip.within))
-
-pub pass_beside-requires-clause-begin : goal.pass_beside-requires-clause-begin
-pass_beside-requires-clause-begin g c =
+pub pass_beside-requires-clause-here : goal.pass_beside-requires-clause-here
+pass_beside-requires-clause-here g c =
     let l = c.last_of-next.ensures in
-    range c.args.counted.now c.args.vertices.now c.requires.vertices c.loop-number.number c.loop-number.next c.last_of-next.result (all_standing c.loop-number.line.standing) c.loop-number.invariant.0
-    (get_or c.args.vertices.now c.loop-number.number origin) (omega (arith, c.loop-number-test.true, c.requires.strip.within)) (get_or_default c.args.vertices.now c.loop-number.number origin _ (omega (arith, c.loop-number-test.true, c.requires.strip.within))) l.from l.within l.begun l.past
-
-pub pass_beside-requires-clause-swept : goal.pass_beside-requires-clause-swept
-pass_beside-requires-clause-swept g c = c.loop-number.invariant.0.swept origin (omega (arith, c.loop-number-test.true, c.requires.strip.within))
+    ∥∥₁_map c.requires (λ h. (
+      h.0,
+      here_at h.0 c.args.before.now c.args.own.now c.args.vertices.now h.1 c.loop-number.number c.loop-number.next c.last_of-next.result (all_standing c.loop-number.line.standing)
+          (c.loop-number.invariant.0 h.0 h.1).0 (get_or c.args.vertices.now c.loop-number.number origin) (omega (arith, c.loop-number-test.true)) (get_or_default c.args.vertices.now c.loop-number.number origin _ (omega (arith, c.loop-number-test.true)))
+          l.from l.within l.begun (l.past h.1.own_ascends),
+    ))
 
 pub pass_beside-requires-clause-chunked : goal.pass_beside-requires-clause-chunked
-pass_beside-requires-clause-chunked g c = c.loop-number.invariant.2
+pass_beside-requires-clause-chunked g c = c.loop-number.invariant.1
 
 pub loop-number-preserved : goal.loop-number-preserved
 loop-number-preserved g c =
     let l = c.last_of-next.ensures in
-    let k = c.in_ok-pass_beside.ensures in
-    let low = c.loop-number.auto.number in (
-      next_one c.args.counted.now c.args.vertices.now c.requires.vertices c.loop-number.number c.loop-number.next c.last_of-next.result (all_standing c.loop-number.line.standing) c.loop-number.invariant.0
-          (get_or c.args.vertices.now c.loop-number.number origin) (omega (arith, c.loop-number-test.true, c.requires.strip.within)) (get_or_default c.args.vertices.now c.loop-number.number origin _ (omega (arith, c.loop-number-test.true, c.requires.strip.within))) l.from l.within l.begun l.past
-          (all_standing c.pass_beside.new.self.standing) k.swept,
-      past_one (edges_of c.args.counted.now) c.args.vertices.now c.requires.vertices.ascending c.args.strip.from c.loop-number.number origin (omega (arith, low)) (omega (arith, c.loop-number-test.true, c.requires.strip.within))
-          c.loop-number.swept.items c.pass_beside.new.swept.items k.besides c.loop-number.invariant.1,
+    let k = c.in_ok-pass_beside.ensures in (
+      (λ all h.
+          let at = here_at all c.args.before.now c.args.own.now c.args.vertices.now h c.loop-number.number c.loop-number.next c.last_of-next.result (all_standing c.loop-number.line.standing)
+          (c.loop-number.invariant.0 all h).0 (get_or c.args.vertices.now c.loop-number.number origin) (omega (arith, c.loop-number-test.true)) (get_or_default c.args.vertices.now c.loop-number.number origin _ (omega (arith, c.loop-number-test.true)))
+          l.from l.within l.begun (l.past h.own_ascends) in (
+            next_one all c.args.before.now c.args.own.now c.args.vertices.now h c.loop-number.number c.loop-number.next c.last_of-next.result (all_standing c.loop-number.line.standing)
+                (c.loop-number.invariant.0 all h).0 (get_or c.args.vertices.now c.loop-number.number origin) (omega (arith, c.loop-number-test.true)) (get_or_default c.args.vertices.now c.loop-number.number origin _ (omega (arith, c.loop-number-test.true)))
+                l.from l.within l.begun (l.past h.own_ascends) (all_standing c.pass_beside.new.self.standing) (k.swept all at),
+            past_one (edges_of all) c.args.vertices.now h.ascending 0 c.loop-number.number origin (omega arith) (omega (arith, c.loop-number-test.true)) c.loop-number.swept.items c.pass_beside.new.swept.items (k.besides all at) (c.loop-number.invariant.0 all h).1,
+          )),
       k.chunked,
+      l.within,
     )
 
-pub returns-then-strip : goal.returns-then-strip
-returns-then-strip g c =
-    let P : List SweptEdge → Type 0 = AreSweptFrom (edges_of c.args.counted.now) (slice_range c.args.vertices.now c.args.strip.from c.args.strip.past) in
-    subst P (sym c.new.ensures.items) (subst (λ n. AreSweptFrom (edges_of c.args.counted.now) (slice_range c.args.vertices.now c.args.strip.from n) []) c.if-strip.true (before_first (edges_of c.args.counted.now) c.args.vertices.now c.requires.vertices.ascending c.args.strip.from))
+pub returns-then-is_empty : goal.returns-then-is_empty
+returns-then-is_empty g c = λ all h.
+    let P : List SweptEdge → Type 0 = AreSweptFrom (edges_of all) c.args.vertices.now in
+    subst P (sym c.new.ensures.items) (subst (λ ps. AreSweptFrom (edges_of all) ps []) (all_sliced c.args.vertices.now 0 (search rules)) (before_first (edges_of all) c.args.vertices.now h.ascending 0))
 
 pub returns : goal.returns
-returns g c =
-    let low = c.loop-number.auto.number-end in
-    let past = c.loop-number-test.false in
-    let order = c.requires.strip.order in
-    subst (λ n. AreSweptFrom (edges_of c.args.counted.now) (slice_range c.args.vertices.now c.args.strip.from n) c.loop-number.swept.items) (omega (arith, low, past, order)) c.loop-number.invariant.1
+returns g c = λ all h. subst (λ ps. AreSweptFrom (edges_of all) ps c.loop-number.swept.items) (all_sliced c.args.vertices.now c.loop-number.number (omega (arith, c.loop-number.auto.number-end, c.loop-number-test.false))) (c.loop-number.invariant.0 all h).1

@@ -1,15 +1,23 @@
-use Rattle.std.proofs.Common.{List, ap, ◌∙◌, subst}
+use Rattle.std.proofs.Common.{List, ap, ◌∙◌, slice_range, subst, take}
 use Rattle.std.specs.List.{Contains}
 use Rattle.std.specs.Prelude.{◌↔◌}
 use Rattle.geom.specs.declared.directed.DirectedEdge.{DirectedEdge}
 use Rattle.label_sweep.specs.Labels.{directed_of}
+use Rattle.label_sweep.proofs.Sweeping.{labels_from_vertices}
 use Rattle.label_sweep.proofs.strips.strip_edges.Goals as goal
+
+pub sweep-requires : goal.sweep-requires
+sweep-requires g c = ∣ (c.args.counted.now, c.edges_in-own.ensures.strip) ∣₁
 
 pub returns-clause-along : goal.returns-clause-along
 returns-clause-along g c =
+    let cs = c.args.counted.now in
+    let own = c.edges_in-own.result in
+    let is = c.edges_in-own.ensures.strip in
     let all = c.in_order.result.items in
+    let labelled = c.in_ok-labelled.labelled.items in
     record {
-      labelled = c.in_ok-labelled.labelled.items;
-      labels = c.in_ok-labelled.ensures;
+      labelled = labelled;
+      labels = labels_from_vertices cs (take own.from cs) (slice_range cs own.from own.past) (slice_range c.args.vertices.now c.args.strip.from c.args.strip.past) is labelled (c.in_ok-labelled.ensures cs is);
       along = subst (λ (ds : List DirectedEdge). (d : DirectedEdge) → Contains all d ↔ Contains ds d) (c.in_ok-edges.ensures ∙ ap (directed_of c.args.op) c.deref.ensures.value) c.in_order.ensures.same;
     }

@@ -22,7 +22,7 @@ loop-from-preserved g c =
     rw (c.in_ok-push.ensures.items) (
       one_more 0 from (record { from = from; past = past }) c.loop-from.strips.items i.0 refl (omega (arith, order)),
       (λ es a. All-append (IsStrip es vs) c.loop-from.strips.items _ (i.1 es a) (All-cons (IsStrip es vs) (record { from = from; past = past }) []
-          (record { order = omega (arith, order); within = end.within; column = λ u l. begins_column es vs a from u (i.2 u some) }) (All-nil (IsStrip es vs)))),
+          (record { order = omega (arith, order); within = end.within; column = λ u l. begins_column es vs a from u (i.2 u some); next_column = λ u l. begins_column es vs a past u (end.column u l) }) (All-nil (IsStrip es vs)))),
       end.column,
       end.within,
     )

@@ -14,6 +14,6 @@ loop-next-preserved c = (
 )
 
 pub returns-else-begins_up_to-clause-past : goal.returns-else-begins_up_to-clause-past
-returns-else-begins_up_to-clause-past c = let P : Counted → Type 0 = λ t. IsBefore c.args.v t.edge.p in
-    all_past c.args.counted.now c.requires.ascending c.args.v c.loop-next.next c.index-counted-next.result c.loop-next-test.true
+returns-else-begins_up_to-clause-past c ascending = let P : Counted → Type 0 = λ t. IsBefore c.args.v t.edge.p in
+    all_past c.args.counted.now ascending c.args.v c.loop-next.next c.index-counted-next.result c.loop-next-test.true
     (subst P c.index-counted-next.is (c.begins_up_to.ensures.past c.if-begins_up_to.false))
