@@ -1,0 +1,14 @@
+pub mod Keeping
+pub mod Bounding
+pub mod Scattering
+pub mod Columns
+pub mod Finding
+pub mod Parts
+pub mod Nearness
+pub mod Crossing
+pub mod Over
+pub mod Merges
+pub mod Fronts
+pub mod Rounds
+pub mod Messages
+pub mod Turns

@@ -1,0 +1,5 @@
+pub mod Scattered
+pub mod Nearest
+pub mod Records
+pub mod Bridged
+pub mod Merged
