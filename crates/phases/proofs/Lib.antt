@@ -12,3 +12,4 @@ pub mod Fronts
 pub mod Rounds
 pub mod Messages
 pub mod Turns
+pub mod StripLabels

@@ -3,3 +3,4 @@ pub mod Nearest
 pub mod Records
 pub mod Bridged
 pub mod Merged
+pub mod Labels

@@ -8,14 +8,17 @@
 //! 3. From the last strip to the first, what crosses a border is joined to the first hot pixel behind it (`bridging`: `bridge`).
 //! 4. Both together are the rounded edges whose lesser end lies in the strip (`merging`: `edges`).
 //!
-//! `in_turn` does all of it in one process.
+//! 5. Of noded edges, a strip's own and those that come into it from the left tell the directed edges of a result along its own (`labelling`).
+//!
+//! `in_turn` does 1 to 4 in one process, `labels_in_strips` the last.
 //!
 //! The promise: the edges of all strips, one strip behind another, are exactly the rounded edges of all segments, whatever the cuts are, if
-//! only they ascend. The definitions and laws are those of the crate `strips_law`.
+//! only they ascend; and the directed edges along those of all strips are the result's. The definitions and laws are those of the crate `strips_law`.
 #![tactic(auto)]
 
 mod bridging;
 mod in_turn;
+mod labelling;
 mod lines;
 mod merging;
 mod nearest;
@@ -24,6 +27,9 @@ mod strip_records;
 
 pub use bridging::{Bridged, bridge};
 pub use in_turn::edges_in_strips;
+pub use labelling::{
+    changing_of_strip, edges_are_of_strips, edges_of_strip, going_on, labels, labels_in_strips,
+};
 pub use lines::{ascend, scatter, strip_of};
 pub use merging::edges;
 pub use rounding::{RoundedStrip, round};

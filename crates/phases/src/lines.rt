@@ -31,7 +31,7 @@ pub fn strip_of(cuts: &[i32], x: i32) -> usize
 }
 
 /// The strip of a point.
-fn strip_at(cuts: &[i32], p: Pt) -> usize
+pub(crate) fn strip_at(cuts: &[i32], p: Pt) -> usize
     ensures value { result ≡ strip_at cuts.now p }
     ensures within { result ≤ length cuts.now }
 {
