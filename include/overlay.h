@@ -28,7 +28,7 @@
 #define OVERLAY_VERSION "1.0.0"
 
 /* The version of the calls that are declared here. Programs that may meet another library compare overlay_version() with it. */
-#define OVERLAY_CALLS_VERSION 6u
+#define OVERLAY_CALLS_VERSION 7u
 
 #ifdef __cplusplus
 extern "C" {
@@ -47,8 +47,8 @@ enum overlay_call {
 enum overlay_status {
     OVERLAY_ANSWERED = 0,
     OVERLAY_NO_MEMORY = 1,
-    OVERLAY_NO_CALL = 2, /* what to compute is none of the above; or faces of more than 64 layers */
-    OVERLAY_REFUSED = 3, /* a layer, the tile side, or the number of features, segments, tiles or ids is refused */
+    OVERLAY_NO_CALL = 2, /* what to compute is none of the above; faces of more than 64 layers; no such strip, or layer of strips */
+    OVERLAY_REFUSED = 3, /* a layer, the tile side, a list of a strip, or the number of features, segments, tiles or ids is refused */
     OVERLAY_SMALL = 4    /* there is a text, and it doesn't fit into the room */
 };
 
@@ -68,7 +68,9 @@ enum overlay_refusal {
     OVERLAY_FEATURE_OFFSET = 14,     /* of columns: an offset of features falls or passes the end; detail is its number */
     OVERLAY_POLYGON_OFFSET = 15,     /* likewise of polygons */
     OVERLAY_RING_OFFSET = 16,        /* likewise of rings */
-    OVERLAY_UNPAIRED = 17            /* of pairs: a layer has more features than the other; detail is the number of the first one without another */
+    OVERLAY_UNPAIRED = 17,           /* of pairs: a layer has more features than the other; detail is the number of the first one without another */
+    OVERLAY_BAD_ITEM = 18,           /* of strips: an item is none of its list, or isn't behind the one before it; detail is its number there */
+    OVERLAY_CONTRADICTION = 19       /* of strips: lists that contradict each other; detail is the number of the first item that does */
 };
 
 /* What is refused of two layers. Of faces it is the number of a layer, from 0 on, or the count of layers for the run. */
@@ -280,6 +282,112 @@ void overlay_faces_columns_fill(uint32_t side, uint32_t segments, uint64_t ids, 
 /* Returns the tile side for these layers, as overlay_faces_side does for texts. */
 uint32_t overlay_faces_columns_side(const struct overlay_columns *layers, size_t count);
 
+/* A map that is too large for one process is rounded strip by strip, in as many processes as one likes, and with lists of plain structs as the only
+ * messages between them; files, names and checksums are the caller's. Strips are cut out of the plane by columns that ascend, the cuts: strip s has
+ * the columns x of which s cuts are not greater than x, so there is one strip more than cuts. Any cuts give the same edges.
+ *
+ *   1. overlay_strip_scatter   of each part of a layer, for each strip its lines that reach it
+ *   2. overlay_strip_round     of each strip, with all of its lines: the edges inside it, and the lines that cross its borders
+ *   3. overlay_strip_bridge    from the last strip to the first: the edges across the border on the right of each
+ *   4. overlay_strip_edges     of each strip, both as one list
+ *
+ * The lists of 4, one strip behind another, are the edges that overlay_fill tells for OVERLAY_EDGES of the whole layers, in the same order. That
+ * holds where each call had the same cuts, and each list is whole: a call tests what it is handed, but can't know of a line that is missing. */
+
+/* A segment of a layer, its lesser end (by x, then by y) first. */
+struct overlay_line {
+    uint32_t number; /* its place among all segments of both layers */
+    uint32_t layer;  /* 0 the first layer, 1 the second one */
+    int32_t ax, ay;  /* the lesser end, in grid units */
+    int32_t bx, by;
+};
+
+/* A line that crosses a border of a strip, and the pixel of its rounded way in the strip that is nearest to that border. */
+struct overlay_open {
+    uint32_t number;
+    uint32_t layer;
+    uint32_t has_pixel; /* 1, or 0 where it has none in the strip; x and y are then 0 */
+    int32_t x, y;
+};
+
+/* A line that crosses the border on the left of a strip, and the first pixel of its rounded way in that strip or a later one. */
+struct overlay_carried {
+    uint32_t number;
+    int32_t x, y;
+};
+
+/* A rounded edge, its lesser end first, and how many segments of either layer run along it. */
+struct overlay_counted {
+    int32_t px, py;
+    int32_t qx, qy;
+    uint32_t in_a;
+    uint32_t in_b;
+};
+
+/* What a call on a strip answers. All fields are written; those that don't belong to the status are 0. Of all faults the first one is told: of the
+ * cuts, then of the lists in their order, then of what they say of each other. */
+struct overlay_strip_answer {
+    uint64_t first;  /* OVERLAY_ANSWERED, OVERLAY_SMALL: how many items go into the first room of the call */
+    uint64_t second; /* the same of the second one, where it has one */
+    uint64_t third;  /* the same of the third one */
+    uint64_t detail; /* OVERLAY_REFUSED: the number of an item, a point, a ring or an offset, from 0 on */
+    uint32_t status; /* how the call ended: an overlay_status */
+    uint32_t number; /* OVERLAY_REFUSED, OVERLAY_NO_MEMORY: why, an overlay_refusal */
+    uint32_t part;   /* OVERLAY_REFUSED: which list: 0 the first one behind the cuts, 1 the second, 2 the third, OVERLAY_CUTS the cuts */
+};
+
+/* The cuts, as what is refused. */
+#define OVERLAY_CUTS 3
+
+/* Puts the lines of a part of a layer into a room: those that reach the first strip, ascending by their numbers, then those that reach the second
+ * one, and so on. Where one room is too small, or the status is not OVERLAY_ANSWERED, both rooms are as they were; behind the items they are so
+ * always. That holds of the four calls and all their rooms.
+ *
+ *   cuts, cuts_length       the columns at which strips begin; none is less than the one before it
+ *   layer                   0 the first layer, 1 the second one; else OVERLAY_NO_CALL
+ *   first                   the number of the part's first segment; the others are numbered on. Both layers' segments have numbers of their own
+ *   part                    some features of the layer, refused as elsewhere
+ *   lines, lines_length     where the lines go
+ *   strips, strips_length   where the number goes at which each strip's lines begin, and that at which the last one's end: one more than strips
+ *   answer                  where the answer goes; not null. More lines than 4294967295 are OVERLAY_NO_MEMORY */
+void overlay_strip_scatter(const int32_t *cuts, size_t cuts_length, uint32_t layer, uint32_t first, const struct overlay_columns *part,
+                           struct overlay_line *lines, size_t lines_length, uint32_t *strips, size_t strips_length,
+                           struct overlay_strip_answer *answer);
+
+/* Rounds a strip by its lines.
+ *
+ *   strip                 the number of the strip, from 0 on; OVERLAY_NO_CALL where it is greater than that of the cuts
+ *   lines, lines_length   all lines of both layers that reach the strip, and no others, ascending by their numbers
+ *   inner, inner_length   where the edges with both ends in the strip go, ascending
+ *   left, left_length     where the lines go that cross the border on the left of the strip, each with its first pixel in the strip
+ *   right, right_length   where those go that cross the border on its right, each with its last pixel in the strip */
+void overlay_strip_round(const int32_t *cuts, size_t cuts_length, size_t strip, const struct overlay_line *lines, size_t lines_length,
+                         struct overlay_counted *inner, size_t inner_length, struct overlay_open *left, size_t left_length,
+                         struct overlay_open *right, size_t right_length, struct overlay_strip_answer *answer);
+
+/* Bridges the border on the right of a strip.
+ *
+ *   left, left_length         what overlay_strip_round told of the strip
+ *   right, right_length       likewise
+ *   carried, carried_length   what this call told as next of the strip on the right; nothing for the last strip
+ *   across, across_length     where the edges go that begin in the strip and end in a later one, ascending
+ *   next, next_length         where the lines go that cross the border on the left of the strip, each with the first pixel that it has behind it
+ *
+ * OVERLAY_CONTRADICTION: right and carried aren't of the same numbers (part 1), or a line of left that has no pixel isn't in carried (part 0). */
+void overlay_strip_bridge(const struct overlay_open *left, size_t left_length, const struct overlay_open *right, size_t right_length,
+                          const struct overlay_carried *carried, size_t carried_length, struct overlay_counted *across, size_t across_length,
+                          struct overlay_carried *next, size_t next_length, struct overlay_strip_answer *answer);
+
+/* Merges the edges of a strip: those whose lesser end lies in it, ascending.
+ *
+ *   inner, inner_length     what overlay_strip_round told of the strip
+ *   across, across_length   what overlay_strip_bridge told of it
+ *   room, room_length       where the edges go
+ *
+ * OVERLAY_CONTRADICTION: an edge of across is one of inner (part 1). */
+void overlay_strip_edges(const struct overlay_counted *inner, size_t inner_length, const struct overlay_counted *across, size_t across_length,
+                         struct overlay_counted *room, size_t room_length, struct overlay_strip_answer *answer);
+
 /* Puts the words of an answer of two layers without a text at the beginning of a room, as `A: 1 syntax at 16`, without a 0 or a line feed, and
  * returns their length in bytes: 0 where they don't fit, where memory ran out, or where there is nothing to say. Refusals from
  * OVERLAY_TOO_MANY_IDS on have no words, and the part of an answer of faces is no part of two layers: overlay_reason tells why these are refused.
@@ -327,6 +435,8 @@ static inline const char *overlay_reason(uint32_t number) {
     case OVERLAY_POLYGON_OFFSET: return "bad offset of polygons";
     case OVERLAY_RING_OFFSET: return "bad offset of rings";
     case OVERLAY_UNPAIRED: return "feature without another";
+    case OVERLAY_BAD_ITEM: return "bad item";
+    case OVERLAY_CONTRADICTION: return "lists that contradict each other";
     default: return NULL;
     }
 }

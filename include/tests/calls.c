@@ -68,7 +68,8 @@ static void names(void) {
 static void reasons(void) {
     static const char *const WANTED[] = {"layer too long", "syntax", "number out of range", "short ring", "open ring", "too many segments",
                                          "bad tile side", NULL, "too many tiles", NULL, "out of memory", NULL, "too many ids", "coordinate missing",
-                                         "bad offset of features", "bad offset of polygons", "bad offset of rings", "feature without another", NULL};
+                                         "bad offset of features", "bad offset of polygons", "bad offset of rings", "feature without another", "bad item",
+                                         "lists that contradict each other", NULL};
     for (uint32_t number = 0; number < sizeof WANTED / sizeof *WANTED; number++) {
         const char *got = overlay_reason(number);
         check(WANTED[number] ? got && !strcmp(got, WANTED[number]) : !got, "the reason of a refusal");
@@ -702,7 +703,7 @@ static void face_columns_memory(void) {
 int main(int count, char **words) {
     if (count == 4)
         return print(words);
-    check(overlay_version() == 6 && OVERLAY_CALLS_VERSION == 6, "the version");
+    check(overlay_version() == 7 && OVERLAY_CALLS_VERSION == 7, "the version");
     names();
     reasons();
     rooms();

@@ -6,3 +6,9 @@ pub mod MeasuredTelling
 pub mod PairsTelling
 pub mod FacesColumnsTelling
 pub mod FitsLayers
+pub mod StripTelling
+pub mod StripLists
+pub mod StripSearch
+pub mod StripParts
+pub mod StripOnce
+pub mod StripChain

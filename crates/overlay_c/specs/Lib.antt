@@ -5,3 +5,4 @@ pub mod Covered
 pub mod Measured
 pub mod Pairs
 pub mod FacesColumns
+pub mod Strips

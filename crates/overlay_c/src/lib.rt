@@ -2,10 +2,15 @@
 //!
 //! 1. Numbers of the call become a plan, and pointers with lengths become layers (`made`, `columns_layer`).
 //! 2. The engine answers (`calls`, `covered_made`, `measured`, `faces`, `columns_call`, `pairs_call`, `faces_columns`).
-//! 3. What fits is put into the room (`room`, `columns_rooms`, `face_rooms`); a status, or a refusal's number and place, tells the rest (`answer`, `words`).
+//! 3. What fits is put into the room (`room`, `columns_rooms`, `face_rooms`, `strip_answer`); a status, or a refusal's number and place, tells the rest (`answer`, `words`).
+//!
+//! A map that is rounded strip by strip goes through four calls (`strip_scatter`, `strip_round`, `strip_bridge`, `strip_edges`); the lists that pass
+//! from one to the next are the caller's (`strip_items`), and are tested when they come back (`strip_checks`, `strip_contradictions`).
+//! Together they tell the rounded edges of the whole map (`strip_law`).
 //!
 //! The promise: a status of 0 exactly where the engine answers and the room is large enough, and then the room begins with its text; nothing
-//! behind that changes. The definitions are `specs/Boundary`, `Covered`, `Measured`, `Faces`, `Columns`, `Pairs` and `FacesColumns`.
+//! behind that changes. The definitions are `specs/Boundary`, `Covered`, `Measured`, `Faces`, `Columns`, `Pairs`, `FacesColumns` and
+//! `Strips`.
 #![tactic(auto)]
 
 mod answer;
@@ -25,6 +30,16 @@ mod measured;
 mod measured_call;
 mod pairs_call;
 mod room;
+mod strip_answer;
+mod strip_bridge;
+mod strip_checks;
+mod strip_contradictions;
+mod strip_edges;
+mod strip_items;
+mod strip_law;
+mod strip_round;
+mod strip_scatter;
+mod strip_telling;
 mod words;
 
 pub use answer::OverlayAnswer;
@@ -42,4 +57,11 @@ pub use faces_columns_call::{overlay_faces_columns_fill, overlay_faces_columns_s
 pub use measured::{OverlayLayerMeasures, OverlayMeasures};
 pub use measured_call::{overlay_measured_columns_fill, overlay_measured_fill};
 pub use pairs_call::overlay_pairs_fill;
+pub use strip_answer::OverlayStripAnswer;
+pub use strip_bridge::overlay_strip_bridge;
+pub use strip_edges::overlay_strip_edges;
+pub use strip_items::{OverlayCarried, OverlayCounted, OverlayLine, OverlayOpen};
+pub use strip_law::{strips_are_rounded, told_lists_are_one};
+pub use strip_round::overlay_strip_round;
+pub use strip_scatter::overlay_strip_scatter;
 pub use words::overlay_words;

@@ -1,0 +1,12 @@
+use Rattle.std.proofs.Common.{refl}
+use Rattle.overlay_c.specs.Strips.{AreEdgesMerged, FailsEdges, one_list}
+use Rattle.overlay_c.proofs.StripTelling.{none_fills, put_fills}
+use Rattle.overlay_c.proofs.strip_edges.overlay_strip_edges.Goals as goal
+
+pub returns-in-Ok : goal.returns-in-Ok
+returns-in-Ok c = put_fills (AreEdgesMerged c.args.inner.now c.args.across.now) (FailsEdges c.args.inner.now c.args.across.now) (one_list c.args.room.now) (one_list c.put_list.new.room) (one_list c.in-Ok.list.items)
+    c.put_list.result c.in-Ok.ensures (rw (← c.deref.ensures.value) c.put_list.ensures)
+
+pub returns-in-Err : goal.returns-in-Err
+returns-in-Err c = none_fills (AreEdgesMerged c.args.inner.now c.args.across.now) (FailsEdges c.args.inner.now c.args.across.now) (one_list c.args.room.now) (one_list c.args.room.now) c.in-Err.told c.in-Err.told refl
+    c.in-Err.ensures (record { first = refl; second = refl; third = refl })

@@ -1,0 +1,478 @@
+/* The four calls that round a map strip by strip, under the sanitizers: a small map whose lists were worked out by hand; lists, columns and cuts that
+ * are refused, one by one; rooms that are too small, and memory that is refused; and maps by random cuts, whose edges are those of overlay_fill. */
+#include "../overlay.h"
+#include "checking.h"
+
+#include <stdio.h>
+#include <string.h>
+
+enum { ROOM = 4096, MOST_STRIPS = 9, TEXT = 1 << 17 };
+
+#define COUNT(list) (sizeof(list) / sizeof *(list))
+
+static const struct overlay_strip_answer GARBAGE = {9, 9, 9, 9, 9, 9, 9};
+
+static int is_refused(const struct overlay_strip_answer *answer, uint32_t number, uint32_t part, uint64_t detail) {
+    return answer->status == OVERLAY_REFUSED && answer->number == number && answer->part == part && answer->detail == detail && !answer->first
+           && !answer->second && !answer->third;
+}
+
+static int is_short(const struct overlay_strip_answer *answer, uint64_t first, uint64_t second, uint64_t third) {
+    return answer->status == OVERLAY_SMALL && !answer->number && !answer->part && !answer->detail && answer->first == first && answer->second == second
+           && answer->third == third;
+}
+
+/* ---- a map strip by strip */
+
+/* The lists of a strip. */
+struct strip {
+    struct overlay_line lines[ROOM];
+    struct overlay_counted inner[ROOM], across[ROOM], edges[ROOM];
+    struct overlay_open left[ROOM], right[ROOM];
+    struct overlay_carried next[ROOM];
+    size_t line_count, inner_count, across_count, edge_count, left_count, right_count, next_count;
+};
+
+static struct strip strips[MOST_STRIPS];
+static struct overlay_line scattered[ROOM];
+static const struct overlay_carried NOTHING[1];
+
+/* Adds the lines of a layer to the strips that they reach. */
+static int scatter(const int32_t *cuts, size_t count, uint32_t layer, uint32_t first, const struct overlay_columns *part) {
+    uint32_t begins[MOST_STRIPS + 1];
+    struct overlay_strip_answer answer = GARBAGE;
+    overlay_strip_scatter(cuts, count, layer, first, part, scattered, ROOM, begins, MOST_STRIPS + 1, &answer);
+    if (answer.status != OVERLAY_ANSWERED || answer.second != count + 2 || answer.first != begins[count + 1])
+        return 0;
+    for (size_t s = 0; s <= count; s++)
+        for (uint32_t at = begins[s]; at < begins[s + 1]; at++)
+            strips[s].lines[strips[s].line_count++] = scattered[at];
+    return 1;
+}
+
+static int round_strip(const int32_t *cuts, size_t count, size_t s) {
+    struct strip *strip = &strips[s];
+    struct overlay_strip_answer answer = GARBAGE;
+    overlay_strip_round(cuts, count, s, strip->lines, strip->line_count, strip->inner, ROOM, strip->left, ROOM, strip->right, ROOM, &answer);
+    strip->inner_count = (size_t)answer.first;
+    strip->left_count = (size_t)answer.second;
+    strip->right_count = (size_t)answer.third;
+    return answer.status == OVERLAY_ANSWERED;
+}
+
+static int bridge(size_t count, size_t s) {
+    struct strip *strip = &strips[s];
+    const struct overlay_carried *carried = s == count ? NOTHING : strips[s + 1].next;
+    size_t carried_count = s == count ? 0 : strips[s + 1].next_count;
+    struct overlay_strip_answer answer = GARBAGE;
+    overlay_strip_bridge(strip->left, strip->left_count, strip->right, strip->right_count, carried, carried_count, strip->across, ROOM, strip->next, ROOM,
+                         &answer);
+    strip->across_count = (size_t)answer.first;
+    strip->next_count = (size_t)answer.second;
+    return answer.status == OVERLAY_ANSWERED && !answer.third;
+}
+
+static int merge(size_t s) {
+    struct strip *strip = &strips[s];
+    struct overlay_strip_answer answer = GARBAGE;
+    overlay_strip_edges(strip->inner, strip->inner_count, strip->across, strip->across_count, strip->edges, ROOM, &answer);
+    strip->edge_count = (size_t)answer.first;
+    return answer.status == OVERLAY_ANSWERED && !answer.second && !answer.third;
+}
+
+/* All lists of a map; b's segments are numbered behind those of a. */
+static int all_strips(const int32_t *cuts, size_t count, const struct overlay_columns *a, uint32_t segments_of_a, const struct overlay_columns *b) {
+    for (size_t s = 0; s <= count; s++)
+        strips[s].line_count = 0;
+    int done = scatter(cuts, count, 0, 0, a) && scatter(cuts, count, 1, segments_of_a, b);
+    for (size_t s = 0; s <= count && done; s++)
+        done = round_strip(cuts, count, s);
+    for (size_t s = count + 1; s-- > 0 && done;)
+        done = bridge(count, s) && merge(s);
+    return done;
+}
+
+/* The edges of all strips, as overlay_fill tells edges. */
+static size_t edges_text(size_t count, char *text) {
+    size_t length = 0;
+    for (size_t s = 0; s <= count; s++)
+        for (size_t at = 0; at < strips[s].edge_count; at++) {
+            const struct overlay_counted *e = &strips[s].edges[at];
+            length += (size_t)sprintf(text + length, "%d %d %d %d %u %u\n", (int)e->px, (int)e->py, (int)e->qx, (int)e->qy, e->in_a, e->in_b);
+        }
+    return length;
+}
+
+/* ---- a map worked out by hand */
+
+static const int32_t POINTS_A[] = {0, 0, 12, 0, 12, 6, 0, 6, 0, 0, 1, 2, 8, 1, 8, 4, 1, 3, 1, 2};
+static const int32_t POINTS_B[] = {3, -2, 5, -2, 5, 8, 3, 8, 3, -2};
+static const uint32_t RINGS_A[] = {0, 5, 10}, RINGS_B[] = {0, 5}, TWO[] = {0, 2}, ONE[] = {0, 1};
+static const struct overlay_columns A = {POINTS_A, 20, RINGS_A, 3, TWO, 2, ONE, 2};
+static const struct overlay_columns B = {POINTS_B, 10, RINGS_B, 2, ONE, 2, ONE, 2};
+static const int32_t CUTS[] = {4, 6, 8};
+
+static const struct overlay_line LINES_OF_A[] = {
+    {0, 0, 0, 0, 12, 0}, {2, 0, 0, 6, 12, 6}, {3, 0, 0, 0, 0, 6}, {4, 0, 1, 2, 8, 1}, {6, 0, 1, 3, 8, 4}, {7, 0, 1, 2, 1, 3},
+    {0, 0, 0, 0, 12, 0}, {2, 0, 0, 6, 12, 6}, {4, 0, 1, 2, 8, 1}, {6, 0, 1, 3, 8, 4},
+    {0, 0, 0, 0, 12, 0}, {2, 0, 0, 6, 12, 6}, {4, 0, 1, 2, 8, 1}, {6, 0, 1, 3, 8, 4},
+    {0, 0, 0, 0, 12, 0}, {1, 0, 12, 0, 12, 6}, {2, 0, 0, 6, 12, 6}, {4, 0, 1, 2, 8, 1}, {5, 0, 8, 1, 8, 4}, {6, 0, 1, 3, 8, 4},
+};
+static const struct overlay_line LINES_OF_B[] = {
+    {8, 1, 3, -2, 5, -2}, {10, 1, 3, 8, 5, 8}, {11, 1, 3, -2, 3, 8},
+    {8, 1, 3, -2, 5, -2}, {9, 1, 5, -2, 5, 8}, {10, 1, 3, 8, 5, 8},
+};
+static const uint32_t BEGINS_OF_A[] = {0, 6, 10, 14, 20}, BEGINS_OF_B[] = {0, 3, 6, 6, 6};
+
+static const struct overlay_counted INNER_0[] = {
+    {0, 0, 0, 6, 1, 0}, {0, 0, 3, 0, 1, 0}, {0, 6, 3, 6, 1, 0}, {1, 2, 1, 3, 1, 0}, {1, 2, 3, 2, 1, 0}, {1, 3, 3, 3, 1, 0},
+    {3, -2, 3, 0, 0, 1}, {3, 0, 3, 2, 0, 1}, {3, 2, 3, 3, 0, 1}, {3, 3, 3, 6, 0, 1}, {3, 6, 3, 8, 0, 1},
+};
+static const struct overlay_counted INNER_1[] = {{5, -2, 5, 0, 0, 1}, {5, 0, 5, 1, 0, 1}, {5, 1, 5, 4, 0, 1}, {5, 4, 5, 6, 0, 1}, {5, 6, 5, 8, 0, 1}};
+static const struct overlay_counted INNER_3[] = {{8, 1, 8, 4, 1, 0}, {12, 0, 12, 6, 1, 0}};
+static const struct overlay_open RIGHT_0[] = {{0, 0, 1, 3, 0}, {2, 0, 1, 3, 6}, {4, 0, 1, 3, 2}, {6, 0, 1, 3, 3}, {8, 1, 1, 3, -2}, {10, 1, 1, 3, 8}};
+static const struct overlay_open LEFT_1[] = {{0, 0, 1, 5, 0}, {2, 0, 1, 5, 6}, {4, 0, 1, 5, 1}, {6, 0, 1, 5, 4}, {8, 1, 1, 5, -2}, {10, 1, 1, 5, 8}};
+static const struct overlay_open NO_PIXELS[] = {{0, 0, 0, 0, 0}, {2, 0, 0, 0, 0}, {4, 0, 0, 0, 0}, {6, 0, 0, 0, 0}};
+static const struct overlay_open LEFT_3[] = {{0, 0, 1, 12, 0}, {2, 0, 1, 12, 6}, {4, 0, 1, 8, 1}, {6, 0, 1, 8, 4}};
+static const struct overlay_carried FROM_3[] = {{0, 12, 0}, {2, 12, 6}, {4, 8, 1}, {6, 8, 4}};
+static const struct overlay_carried FROM_1[] = {{0, 5, 0}, {2, 5, 6}, {4, 5, 1}, {6, 5, 4}, {8, 5, -2}, {10, 5, 8}};
+static const struct overlay_counted ACROSS_1[] = {{5, 0, 12, 0, 1, 0}, {5, 1, 8, 1, 1, 0}, {5, 4, 8, 4, 1, 0}, {5, 6, 12, 6, 1, 0}};
+static const struct overlay_counted ACROSS_0[] = {{3, -2, 5, -2, 0, 1}, {3, 0, 5, 0, 1, 0}, {3, 2, 5, 1, 1, 0},
+                                                  {3, 3, 5, 4, 1, 0},   {3, 6, 5, 6, 1, 0}, {3, 8, 5, 8, 0, 1}};
+
+#define ARE(got, count, wanted) ((count) == COUNT(wanted) && !memcmp(got, wanted, sizeof(wanted)))
+
+static void lines_by_hand(void) {
+    struct overlay_line lines[32];
+    uint32_t begins[8];
+    struct overlay_strip_answer answer = GARBAGE;
+    overlay_strip_scatter(CUTS, 3, 0, 0, &A, lines, 32, begins, 8, &answer);
+    check(answer.status == OVERLAY_ANSWERED && ARE(lines, answer.first, LINES_OF_A) && ARE(begins, answer.second, BEGINS_OF_A), "lines of the first layer");
+    overlay_strip_scatter(CUTS, 3, 1, 8, &B, lines, 32, begins, 8, &answer);
+    check(answer.status == OVERLAY_ANSWERED && ARE(lines, answer.first, LINES_OF_B) && ARE(begins, answer.second, BEGINS_OF_B), "lines of the second layer");
+}
+
+static void lists_by_hand(void) {
+    check(all_strips(CUTS, 3, &A, 8, &B), "a map strip by strip");
+    check(ARE(strips[0].inner, strips[0].inner_count, INNER_0) && ARE(strips[1].inner, strips[1].inner_count, INNER_1) && !strips[2].inner_count
+              && ARE(strips[3].inner, strips[3].inner_count, INNER_3), "edges inside strips");
+    check(!strips[0].left_count && ARE(strips[1].left, strips[1].left_count, LEFT_1) && ARE(strips[2].left, strips[2].left_count, NO_PIXELS)
+              && ARE(strips[3].left, strips[3].left_count, LEFT_3), "lines over borders on the left");
+    check(ARE(strips[0].right, strips[0].right_count, RIGHT_0) && strips[1].right_count == 4 && !memcmp(strips[1].right, LEFT_1, 4 * sizeof *LEFT_1)
+              && ARE(strips[2].right, strips[2].right_count, NO_PIXELS) && !strips[3].right_count, "lines over borders on the right");
+    check(ARE(strips[3].next, strips[3].next_count, FROM_3) && ARE(strips[2].next, strips[2].next_count, FROM_3)
+              && ARE(strips[1].next, strips[1].next_count, FROM_1) && !strips[0].next_count, "what is carried");
+    check(!strips[3].across_count && !strips[2].across_count && ARE(strips[1].across, strips[1].across_count, ACROSS_1)
+              && ARE(strips[0].across, strips[0].across_count, ACROSS_0), "edges across borders");
+    check(strips[0].edge_count == COUNT(INNER_0) + COUNT(ACROSS_0) && strips[1].edge_count == COUNT(INNER_1) + COUNT(ACROSS_1) && !strips[2].edge_count
+              && ARE(strips[3].edges, strips[3].edge_count, INNER_3), "edges of strips");
+}
+
+/* ---- what is refused */
+
+static void refused_scatter(void) {
+    static const int32_t falling[] = {4, 8, 6}, far[] = {0, 0, 268435457, 0, 12, 6, 0, 6, 0, 0};
+    static const struct overlay_columns open = {POINTS_B, 8, RINGS_B, 2, ONE, 2, ONE, 2}, wide = {far, 10, RINGS_B, 2, ONE, 2, ONE, 2};
+    struct overlay_line lines[32];
+    uint32_t begins[8];
+    struct overlay_strip_answer answer = GARBAGE;
+    overlay_strip_scatter(CUTS, 3, 2, 0, &A, lines, 32, begins, 8, &answer);
+    check(answer.status == OVERLAY_NO_CALL && !answer.number && !answer.detail && !answer.part, "scatter of a third layer");
+    overlay_strip_scatter(falling, 3, 0, 0, &A, lines, 32, begins, 8, &answer);
+    check(is_refused(&answer, OVERLAY_BAD_ITEM, OVERLAY_CUTS, 2), "scatter by cuts that fall");
+    overlay_strip_scatter(CUTS, 3, 0, 0, &open, lines, 32, begins, 8, &answer);
+    check(is_refused(&answer, OVERLAY_RING_OFFSET, 0, 1), "scatter of columns that end early");
+    overlay_strip_scatter(CUTS, 3, 0, 0, &wide, lines, 32, begins, 8, &answer);
+    check(is_refused(&answer, OVERLAY_NUMBER_RANGE, 0, 1), "scatter of a point out of range");
+    overlay_strip_scatter(CUTS, 3, 0, 4294967290u, &A, lines, 32, begins, 8, &answer);
+    check(answer.status == OVERLAY_NO_MEMORY && answer.number == OVERLAY_OUT_OF_MEMORY, "more numbers than there are");
+}
+
+/* Lines of the strip with the columns 4 and 5, and what makes each list none of it. */
+static void refused_round(void) {
+    static const struct overlay_line good[] = {{0, 0, 0, 0, 12, 0}, {2, 0, 0, 6, 12, 6}, {4, 0, 1, 2, 8, 1}};
+    static const struct overlay_line bad[] = {
+        {4, 2, 1, 2, 8, 1},          /* no layer */
+        {2, 0, 1, 2, 8, 1},          /* the number of the line before it */
+        {1, 0, 1, 2, 8, 1},          /* a lesser number */
+        {4, 0, 8, 1, 1, 2},          /* the greater end first */
+        {4, 0, 5, 2, 5, 1},          /* likewise in one column */
+        {4, 0, 5, 2, 5, 2},          /* one point */
+        {4, 0, 1, 2, 3, 1},          /* on the left of the strip */
+        {4, 0, 6, 2, 8, 1},          /* on its right */
+        {4, 0, 1, 268435457, 8, 1},  /* out of range */
+        {4, 0, 1, 2, 8, -268435457}, /* likewise */
+    };
+    static const int32_t falling[] = {4, 3, 8};
+    struct overlay_line lines[3];
+    struct overlay_counted inner[8];
+    struct overlay_open left[8], right[8];
+    struct overlay_strip_answer answer = GARBAGE;
+    overlay_strip_round(CUTS, 3, 1, good, 3, inner, 8, left, 8, right, 8, &answer);
+    check(answer.status == OVERLAY_ANSWERED && answer.first == 0 && answer.second == 3 && answer.third == 3, "good lines");
+    for (size_t at = 0; at < COUNT(bad); at++) {
+        memcpy(lines, good, sizeof lines);
+        lines[2] = bad[at];
+        overlay_strip_round(CUTS, 3, 1, lines, 3, inner, 8, left, 8, right, 8, &answer);
+        check(is_refused(&answer, OVERLAY_BAD_ITEM, 0, 2), "a bad line");
+    }
+    overlay_strip_round(CUTS, 3, 4, good, 3, inner, 8, left, 8, right, 8, &answer);
+    check(answer.status == OVERLAY_NO_CALL && !answer.number, "a strip behind the last one");
+    overlay_strip_round(falling, 3, 1, good, 3, inner, 8, left, 8, right, 8, &answer);
+    check(is_refused(&answer, OVERLAY_BAD_ITEM, OVERLAY_CUTS, 1), "round by cuts that fall");
+}
+
+static struct overlay_strip_answer bridged(const struct overlay_open *left, size_t left_count, const struct overlay_open *right, size_t right_count,
+                                           const struct overlay_carried *carried, size_t carried_count) {
+    struct overlay_counted across[8];
+    struct overlay_carried next[8];
+    struct overlay_strip_answer answer = GARBAGE;
+    overlay_strip_bridge(left, left_count, right, right_count, carried, carried_count, across, 8, next, 8, &answer);
+    return answer;
+}
+
+static void refused_bridge(void) {
+    static const struct overlay_open bad[] = {
+        {6, 2, 1, 5, 4}, /* no layer */
+        {4, 0, 1, 5, 4}, /* the number of the line before it */
+        {3, 0, 1, 5, 4}, /* a lesser number */
+        {6, 0, 2, 5, 4}, /* neither a pixel nor none */
+        {6, 0, 0, 5, 0}, /* none, and still a column */
+        {6, 0, 0, 0, 4}, /* or a row */
+    };
+    struct overlay_open opens[4];
+    struct overlay_carried carried[4];
+    struct overlay_strip_answer answer = bridged(LEFT_1, 6, LEFT_1, 4, FROM_3, 4);
+    check(answer.status == OVERLAY_ANSWERED && answer.first == 4 && answer.second == 6, "good lists at a border");
+    for (size_t at = 0; at < COUNT(bad); at++) {
+        memcpy(opens, LEFT_1, sizeof opens);
+        opens[3] = bad[at];
+        answer = bridged(opens, 4, LEFT_1, 4, FROM_3, 4);
+        check(is_refused(&answer, OVERLAY_BAD_ITEM, 0, 3), "a bad line on the left");
+        answer = bridged(LEFT_1, 4, opens, 4, FROM_3, 4);
+        check(is_refused(&answer, OVERLAY_BAD_ITEM, 1, 3), "a bad line on the right");
+    }
+    memcpy(carried, FROM_3, sizeof carried);
+    carried[1].number = 0;
+    answer = bridged(LEFT_1, 4, LEFT_1, 4, carried, 4);
+    check(is_refused(&answer, OVERLAY_BAD_ITEM, 2, 1), "a number that is carried twice");
+    carried[1].number = 3;
+    answer = bridged(LEFT_1, 4, LEFT_1, 4, carried, 4);
+    check(is_refused(&answer, OVERLAY_CONTRADICTION, 1, 1), "another number is carried");
+    answer = bridged(LEFT_1, 4, LEFT_1, 4, FROM_3, 3);
+    check(is_refused(&answer, OVERLAY_CONTRADICTION, 1, 3), "a number that isn't carried");
+    answer = bridged(LEFT_1, 4, LEFT_1, 3, FROM_3, 4);
+    check(is_refused(&answer, OVERLAY_CONTRADICTION, 1, 3), "a number that is carried alone");
+    answer = bridged(NO_PIXELS, 4, LEFT_1, 4, FROM_3, 4);
+    check(answer.status == OVERLAY_ANSWERED && answer.second == 4, "lines that pass over the strip");
+    answer = bridged(NO_PIXELS, 4, LEFT_1, 3, FROM_3, 3);
+    check(is_refused(&answer, OVERLAY_CONTRADICTION, 0, 3), "a line that passes over the strip, and isn't carried");
+    memcpy(opens, NO_PIXELS, sizeof opens);
+    opens[1].number = 1;
+    answer = bridged(opens, 4, LEFT_1, 4, FROM_3, 4);
+    check(is_refused(&answer, OVERLAY_CONTRADICTION, 0, 1), "another line that passes over the strip, and isn't carried");
+}
+
+static void refused_edges(void) {
+    static const struct overlay_counted bad[] = {
+        {12, 6, 12, 0, 1, 0}, /* the greater end first */
+        {12, 0, 12, 0, 1, 0}, /* one point */
+        {8, 1, 8, 4, 1, 0},   /* the edge before it */
+        {8, 1, 8, 3, 1, 0},   /* a lesser one, by the other end */
+        {8, 0, 12, 9, 1, 0},  /* likewise by its own */
+        {7, 9, 12, 9, 1, 0},  /* likewise by the column */
+    };
+    struct overlay_counted edges[2], room[8];
+    struct overlay_strip_answer answer = GARBAGE;
+    overlay_strip_edges(INNER_3, 2, ACROSS_1, 4, room, 8, &answer);
+    check(answer.status == OVERLAY_ANSWERED && answer.first == 6, "good lists of edges");
+    for (size_t at = 0; at < COUNT(bad); at++) {
+        memcpy(edges, INNER_3, sizeof edges);
+        edges[1] = bad[at];
+        overlay_strip_edges(edges, 2, ACROSS_1, 4, room, 8, &answer);
+        check(is_refused(&answer, OVERLAY_BAD_ITEM, 0, 1), "a bad edge inside");
+        overlay_strip_edges(INNER_1, 5, edges, 2, room, 8, &answer);
+        check(is_refused(&answer, OVERLAY_BAD_ITEM, 1, 1), "a bad edge across");
+    }
+    memcpy(edges, INNER_3, sizeof edges);
+    edges[1].in_b = 7;
+    overlay_strip_edges(INNER_3, 2, edges + 1, 1, room, 8, &answer);
+    check(is_refused(&answer, OVERLAY_CONTRADICTION, 1, 0), "an edge in both lists");
+    overlay_strip_edges(INNER_1, 5, INNER_1 + 4, 1, room, 8, &answer);
+    check(is_refused(&answer, OVERLAY_CONTRADICTION, 1, 0), "the last edge in both lists");
+    overlay_strip_edges(INNER_1, 0, INNER_1, 0, room, 8, &answer);
+    check(answer.status == OVERLAY_ANSWERED && !answer.first, "no edges");
+}
+
+/* ---- rooms and memory */
+
+#define IS_CLEAN(room) is_clean((const uint8_t *)(room), sizeof(room))
+
+static int is_clean(const uint8_t *room, size_t length) {
+    for (size_t at = 0; at < length; at++)
+        if (room[at] != 0x7F)
+            return 0;
+    return 1;
+}
+
+static struct overlay_line line_room[32];
+static uint32_t begin_room[8];
+static struct overlay_counted edge_room[32];
+static struct overlay_open left_room[8], right_room[8];
+static struct overlay_carried next_room[8];
+
+static void spoil_rooms(void) {
+    memset(line_room, 0x7F, sizeof line_room);
+    memset(begin_room, 0x7F, sizeof begin_room);
+    memset(edge_room, 0x7F, sizeof edge_room);
+    memset(left_room, 0x7F, sizeof left_room);
+    memset(right_room, 0x7F, sizeof right_room);
+    memset(next_room, 0x7F, sizeof next_room);
+}
+
+static int are_rooms_clean(void) {
+    return IS_CLEAN(line_room) && IS_CLEAN(begin_room) && IS_CLEAN(edge_room) && IS_CLEAN(left_room) && IS_CLEAN(right_room) && IS_CLEAN(next_room);
+}
+
+/* One of the calls on the map by hand, with rooms of these lengths. */
+static struct overlay_strip_answer called(int call, size_t first, size_t second, size_t third) {
+    struct overlay_strip_answer answer = GARBAGE;
+    spoil_rooms();
+    if (call == 0)
+        overlay_strip_scatter(CUTS, 3, 0, 0, &A, line_room, first, begin_room, second, &answer);
+    else if (call == 1)
+        overlay_strip_round(CUTS, 3, 1, strips[1].lines, strips[1].line_count, edge_room, first, left_room, second, right_room, third, &answer);
+    else if (call == 2)
+        overlay_strip_bridge(LEFT_1, 6, LEFT_1, 4, FROM_3, 4, edge_room, first, next_room, second, &answer);
+    else
+        overlay_strip_edges(INNER_1, 5, ACROSS_1, 4, edge_room, first, &answer);
+    return answer;
+}
+
+/* How many items each room of the calls is to hold. */
+static const size_t WANTED[4][3] = {{20, 5, 0}, {5, 6, 4}, {4, 6, 0}, {9, 0, 0}};
+
+static void small_rooms(void) {
+    for (int call = 0; call < 4; call++) {
+        const size_t *wanted = WANTED[call];
+        for (int room = 0; room < 3; room++) {
+            size_t lengths[3] = {wanted[0], wanted[1], wanted[2]};
+            if (!lengths[room])
+                continue;
+            lengths[room]--;
+            struct overlay_strip_answer answer = called(call, lengths[0], lengths[1], lengths[2]);
+            check(is_short(&answer, wanted[0], wanted[1], wanted[2]) && are_rooms_clean(), "a small room of a strip");
+        }
+        struct overlay_strip_answer answer = called(call, wanted[0], wanted[1], wanted[2]);
+        check(answer.status == OVERLAY_ANSWERED && answer.first == wanted[0] && answer.second == wanted[1] && answer.third == wanted[2],
+              "rooms of a strip that are just large enough");
+        check(is_clean((const uint8_t *)(line_room + 20), sizeof line_room - 20 * sizeof *line_room)
+                  && is_clean((const uint8_t *)(edge_room + 9), sizeof edge_room - 9 * sizeof *edge_room), "nothing behind the items of a strip");
+    }
+}
+
+/* From some request on memory is refused: the rooms are as they were, or all lists are there. */
+static void memory(void) {
+    for (int call = 0; call < 4; call++) {
+        const size_t *wanted = WANTED[call];
+        long refused = 0;
+        for (;; refused++) {
+            granted = refused;
+            struct overlay_strip_answer answer = called(call, wanted[0], wanted[1], wanted[2]);
+            granted = -1;
+            if (answer.status == OVERLAY_ANSWERED)
+                break;
+            check(answer.status == OVERLAY_NO_MEMORY && answer.number == OVERLAY_OUT_OF_MEMORY && !answer.first && !answer.part && are_rooms_clean(),
+                  "a strip without memory");
+            if (refused > 100000)
+                break;
+        }
+        check(refused > 0 && refused < 100000, "memory for a strip was refused");
+        printf("strips, call %d: %ld requests refused in turn\n", call, refused);
+    }
+}
+
+/* ---- any cuts */
+
+static uint64_t state = 20261129;
+
+static uint32_t any(uint32_t below) {
+    state = state * UINT64_C(6364136223846793005) + UINT64_C(1442695040888963407);
+    return (uint32_t)(state >> 33) % below;
+}
+
+/* A layer of rings, as columns of one polygon and as a text. */
+struct layer {
+    int32_t points[512];
+    uint32_t rings[16], polygons[2], features[2];
+    struct overlay_columns columns;
+    char text[8192];
+    uint32_t segments;
+};
+
+static void draw(struct layer *layer, uint32_t rings, uint32_t size) {
+    size_t points = 0, length = (size_t)sprintf(layer->text, "POLYGON (");
+    layer->segments = 0;
+    for (uint32_t ring = 0; ring < rings; ring++) {
+        size_t begin = points, count = 3 + any(6);
+        layer->rings[ring] = (uint32_t)points;
+        for (size_t at = 0; at <= count; at++, points++) {
+            int32_t *point = layer->points + 2 * points;
+            point[0] = at == count ? layer->points[2 * begin] : (int32_t)any(size) - (int32_t)(size / 2);
+            point[1] = at == count ? layer->points[2 * begin + 1] : (int32_t)any(size) - (int32_t)(size / 2);
+            layer->segments += at > 0 && (point[0] != point[-2] || point[1] != point[-1]);
+            length += (size_t)sprintf(layer->text + length, "%s%d %d", at ? ", " : ring ? ", (" : "(", (int)point[0], (int)point[1]);
+        }
+        length += (size_t)sprintf(layer->text + length, ")");
+    }
+    sprintf(layer->text + length, ")");
+    layer->rings[rings] = (uint32_t)points;
+    layer->polygons[0] = layer->features[0] = 0;
+    layer->polygons[1] = rings;
+    layer->features[1] = 1;
+    layer->columns = (struct overlay_columns){layer->points, 2 * points, layer->rings, rings + 1, layer->polygons, 2, layer->features, 2};
+}
+
+static void any_cuts(void) {
+    static const uint32_t SIZES[] = {12, 60, 2000, 536870912};
+    static struct layer a, b;
+    static char text[TEXT], wanted[TEXT];
+    int done = 0, same = 0, maps = 0;
+    for (; maps < 4000; maps++) {
+        uint32_t size = SIZES[maps % COUNT(SIZES)];
+        int32_t cuts[MOST_STRIPS - 1];
+        size_t count = any(MOST_STRIPS);
+        draw(&a, 1 + any(4), size);
+        draw(&b, 1 + any(4), size);
+        for (size_t at = 0; at < count; at++) {
+            size_t place = at;
+            int32_t cut = (int32_t)any(size + 4) - (int32_t)(size / 2) - 2;
+            for (; place > 0 && cuts[place - 1] > cut; place--)
+                cuts[place] = cuts[place - 1];
+            cuts[place] = cut;
+        }
+        struct overlay_answer answer;
+        overlay_fill(OVERLAY_EDGES, 33554432, (const uint8_t *)a.text, strlen(a.text), (const uint8_t *)b.text, strlen(b.text), (uint8_t *)wanted, TEXT, &answer);
+        if (!all_strips(cuts, count, &a.columns, a.segments, &b.columns))
+            continue;
+        done++;
+        size_t length = edges_text(count, text);
+        same += answer.status == OVERLAY_ANSWERED && answer.length == length && !memcmp(text, wanted, length);
+    }
+    check(done == maps, "maps by any cuts");
+    check(same == maps, "the edges of maps by any cuts");
+    printf("strips: the edges of %d maps of %d\n", same, maps);
+}
+
+int main(void) {
+    lines_by_hand();
+    lists_by_hand();
+    refused_scatter();
+    refused_round();
+    refused_bridge();
+    refused_edges();
+    small_rooms();
+    memory();
+    any_cuts();
+    return failures != 0;
+}
