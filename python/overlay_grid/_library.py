@@ -80,6 +80,22 @@ class FacesAnswer(ctypes.Structure):
     ]
 
 
+class StripAnswer(ctypes.Structure):
+    """What a call on a strip answers. Fields that don't belong to the status are 0."""
+
+    first: int
+    second: int
+    third: int
+    detail: int
+    status: int
+    number: int
+    part: int
+    _fields_ = [
+        *((name, ctypes.c_uint64) for name in ("first", "second", "third", "detail")),
+        *((name, ctypes.c_uint32) for name in ("status", "number", "part")),
+    ]
+
+
 class Columns(ctypes.Structure):
     """A layer as columns: where each of them stands, and how many numbers it has."""
 
@@ -132,6 +148,15 @@ def _opened() -> ctypes.CDLL:
     opened.overlay_faces_columns_fill.restype = None
     opened.overlay_faces_columns_side.argtypes = [columns, ctypes.c_size_t]
     opened.overlay_faces_columns_side.restype = ctypes.c_uint32
+    strip, cuts = ctypes.c_void_p, room[:2]
+    opened.overlay_strip_scatter.argtypes = [*cuts, *[ctypes.c_uint32] * 2, columns, *room[:2] * 2, strip]
+    opened.overlay_strip_scatter.restype = None
+    opened.overlay_strip_round.argtypes = [*cuts, ctypes.c_size_t, *room[:2] * 4, strip]
+    opened.overlay_strip_round.restype = None
+    opened.overlay_strip_bridge.argtypes = [*room[:2] * 5, strip]
+    opened.overlay_strip_bridge.restype = None
+    opened.overlay_strip_edges.argtypes = [*room[:2] * 3, strip]
+    opened.overlay_strip_edges.restype = None
     return opened
 
 

@@ -1,0 +1,207 @@
+"""Rounding a map that is too large for one process: strip by strip of columns, in as many processes as one likes.
+
+Strips are cut out of the plane by whole numbers that ascend, the cuts: strip s has the columns x of which s cuts are not greater than x, so
+that there is one strip more than cuts. Any cuts give the same edges. The calls take and answer arrays of numpy whose items are the structs
+of include/overlay.h (`LINE`, `OPEN`, `CARRIED`, `COUNTED`), and these arrays are all that goes from one call to another, or one process to
+another:
+
+1. `scatter`, of each part of a layer: for each strip its lines that reach it
+2. `round_strip`, of each strip with all of its lines: the edges inside it, and the lines that cross its borders
+3. `bridge`, from the last strip to the first: the edges across the border on the right of each
+4. `merge`, of each strip: both as one array
+
+The arrays of 4, one strip behind another, are the edges that `overlay_grid.edges` tells of the whole layers, in the same order. The calls
+test what they are handed, but none can know of a line that is missing. `edges` makes all of these calls, with a file for each array in a
+folder, one after another or by an executor: one of concurrent.futures, or what `Client.get_executor()` of Dask gives, over many machines.
+
+>>> import tempfile
+>>> from overlay_grid import strips
+>>> square = [0, 0, 4, 0, 4, 4, 0, 4, 0, 0]
+>>> with tempfile.TemporaryDirectory() as folder:
+...     for found in strips.edges([strips.Part(0, square, [0, 5])], [2], folder):
+...         print(found[["px", "py", "qx", "qy", "in_a"]].tolist())
+[(0, 0, 0, 4, 1), (0, 0, 4, 0, 1), (0, 4, 4, 4, 1)]
+[(4, 0, 4, 4, 1)]
+"""
+
+from __future__ import annotations
+
+import ctypes
+import os
+from functools import partial
+from itertools import accumulate
+from typing import Any, Iterator, List, NamedTuple, Optional, Sequence, Tuple
+
+from ._library import ANSWERED, NO_MEMORY, SMALL, Columns, StripAnswer, library
+from ._faults import OutOfMemory
+from ._optional import module
+
+numpy: Any = module("numpy")
+
+# A segment, its lesser end (by x, then by y) first; layer 0 is the first one.
+LINE = numpy.dtype([(name, "<u4") for name in ("number", "layer")] + [(name, "<i4") for name in ("ax", "ay", "bx", "by")])
+# A line that crosses a border of a strip, and its pixel in the strip that is nearest to that border, if it has one there.
+OPEN = numpy.dtype([(name, "<u4") for name in ("number", "layer", "has_pixel")] + [(name, "<i4") for name in "xy"])
+# A line that crosses the border on the left of a strip, and its first pixel behind that border.
+CARRIED = numpy.dtype([("number", "<u4"), ("x", "<i4"), ("y", "<i4")])
+# A rounded edge, its lesser end first, and how many segments of either layer run along it.
+COUNTED = numpy.dtype([(name, "<i4") for name in ("px", "py", "qx", "qy")] + [(name, "<u4") for name in ("in_a", "in_b")])
+
+REASONS = {
+    2: "coordinate out of range",
+    3: "ring of fewer than four points",
+    4: "open ring",
+    13: "odd number of coordinates",
+    16: "bad offset of rings",
+    18: "bad item",
+    19: "contradicts another array",
+}
+
+
+class StripError(ValueError):
+    """An array is refused.
+
+    reason: why, in words.
+    array: which one of those that were handed in, from 0; 3 are the cuts.
+    item: the number of its item, from 0; of a part the number of its point, ring or offset.
+    """
+
+    def __init__(self, reason: str, array: int, item: int) -> None:
+        super().__init__(f"array {array}, item {item}: {reason}")
+        self.reason = reason
+        self.array = array
+        self.item = item
+
+    def __reduce__(self) -> Tuple[Any, ...]:
+        return type(self), (self.reason, self.array, self.item)
+
+
+class Part(NamedTuple):
+    """Rings of a layer, 0 or 1: x and y of all points by turns, in grid units, and where each ring begins among the points, and the last
+    one ends. A ring's last point is its first."""
+
+    layer: int
+    coordinates: Any
+    rings: Any
+
+
+class Rounded(NamedTuple):
+    """The edges inside a strip, and the lines that cross the border on its left, and that on its right."""
+
+    inner: Any
+    left: Any
+    right: Any
+
+
+class Bridged(NamedTuple):
+    """The edges from a strip to later ones, and what is carried over the border on its left."""
+
+    across: Any
+    carried: Any
+
+
+def answered(call: Any, given: Sequence[Any], kinds: Sequence[Any], lengths: Sequence[int]) -> List[Any]:
+    """What a call puts into rooms of these kinds. Lengths are a guess: where it is too small, all is made again."""
+    answer = StripAnswer()
+    while True:
+        rooms = [numpy.empty(length, kind) for kind, length in zip(kinds, lengths)]
+        call(*given, *(word for room in rooms for word in passed(room)), ctypes.byref(answer))
+        lengths = (answer.first, answer.second, answer.third)
+        if answer.status != SMALL:
+            break
+    if answer.status == ANSWERED:
+        return [room[:length] for room, length in zip(rooms, lengths)]
+    if answer.status == NO_MEMORY:
+        raise OutOfMemory("memory ran out during the call")
+    raise StripError(REASONS.get(answer.number, "no such strip or layer"), answer.part, answer.detail)
+
+
+def passed(values: Any) -> Tuple[int, int]:
+    return values.ctypes.data, len(values)
+
+
+def of(kind: Any, values: Any) -> Any:
+    """An array as the library takes it, which has to stay where it is meanwhile."""
+    return numpy.ascontiguousarray(values, kind)
+
+
+def scatter(cuts: Any, part: Part, first: int) -> List[Any]:
+    """For each strip the lines of a part of a layer that reach it. The part's segments are numbered from `first` on: give each part as many
+    numbers as it has points, so that no two segments of both layers have one."""
+    borders, coordinates, rings = of("<i4", cuts), of("<i4", part.coordinates), of("<u4", part.rings)
+    whole, one = numpy.array([0, len(rings) - 1], "<u4"), numpy.array([0, 1], "<u4")
+    columns = Columns(*(word for values in (coordinates, rings, whole, one) for word in passed(values)))
+    given = (*passed(borders), part.layer, first, ctypes.byref(columns))
+    lines, begins = answered(library.overlay_strip_scatter, given, (LINE, "<u4"), (len(coordinates), len(borders) + 2))
+    return [lines[at:past] for at, past in zip(begins, begins[1:])]
+
+
+def round_strip(cuts: Any, strip: int, lines: Any) -> Rounded:
+    """What a strip has of all lines that reach it, which ascend by their numbers."""
+    borders, held = of("<i4", cuts), of(LINE, lines)
+    guess = (2 * len(held) + 16, len(held), len(held))
+    return Rounded(*answered(library.overlay_strip_round, (*passed(borders), strip, *passed(held)), (COUNTED, OPEN, OPEN), guess))
+
+
+def bridge(rounded: Rounded, carried: Optional[Any] = None) -> Bridged:
+    """The edges from a strip to later ones, by what is carried over the border on its right; of the last strip nothing is."""
+    left, right, held = of(OPEN, rounded.left), of(OPEN, rounded.right), of(CARRIED, [] if carried is None else carried)
+    given = (*passed(left), *passed(right), *passed(held))
+    return Bridged(*answered(library.overlay_strip_bridge, given, (COUNTED, CARRIED), (len(right), len(left))))
+
+
+def merge(inner: Any, across: Any) -> Any:
+    """All edges whose lesser end lies in a strip, ascending."""
+    first, second = of(COUNTED, inner), of(COUNTED, across)
+    given = (*passed(first), *passed(second))
+    return answered(library.overlay_strip_edges, given, (COUNTED,), (len(first) + len(second),))[0]
+
+
+def put(folder: str, name: str, values: Any) -> None:
+    """Writes an array, so that its file is there whole or not at all: a task that runs twice writes the same one again."""
+    path = os.path.join(folder, name)
+    beside = f"{path}.{os.getpid()}"
+    with open(beside, "wb") as file:
+        numpy.save(file, values, allow_pickle=False)
+    os.replace(beside, path)
+
+
+def got(folder: str, name: str) -> Any:
+    return numpy.load(os.path.join(folder, name), allow_pickle=False)
+
+
+def scattered(folder: str, cuts: Any, number: int, part: Part, first: int) -> None:
+    for strip, lines in enumerate(scatter(cuts, part, first)):
+        put(folder, f"lines.{strip}.{number}", lines)
+
+
+def rounded(folder: str, cuts: Any, parts: int, strip: int) -> None:
+    lines = [got(folder, f"lines.{strip}.{number}") for number in range(parts)]
+    for name, values in round_strip(cuts, strip, numpy.concatenate([*lines, numpy.empty(0, LINE)]))._asdict().items():
+        put(folder, f"{name}.{strip}", values)
+
+
+def bridged(folder: str, strips: int) -> None:
+    carried = None
+    for strip in reversed(range(strips)):
+        across, carried = bridge(Rounded(None, got(folder, f"left.{strip}"), got(folder, f"right.{strip}")), carried)
+        put(folder, f"across.{strip}", across)
+
+
+def merged(folder: str, strip: int) -> Any:
+    return merge(got(folder, f"inner.{strip}"), got(folder, f"across.{strip}"))
+
+
+def edges(parts: Sequence[Part], cuts: Any, folder: str, executor: Optional[Any] = None) -> Iterator[Any]:
+    """The rounded edges of all parts together, an array for each strip, in their order.
+
+    folder: where the files go, which all processes see; they stay there. Nobody else may use it meanwhile.
+    executor: what makes the calls of a step at once, by its `map`; without one they are made one after another.
+    """
+    made = map if executor is None else executor.map
+    strips = len(cuts) + 1
+    firsts = list(accumulate((len(part.coordinates) // 2 for part in parts), initial=0))
+    list(made(partial(scattered, folder, cuts), range(len(parts)), parts, firsts))
+    list(made(partial(rounded, folder, cuts, len(parts)), range(strips)))
+    bridged(folder, strips)
+    yield from made(partial(merged, folder), range(strips))

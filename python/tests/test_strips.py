@@ -1,0 +1,158 @@
+"""Maps by strips: the calls on a worked example, and all strips against the edges of the whole layers."""
+
+import doctest
+import os
+import random
+from concurrent.futures import ProcessPoolExecutor, ThreadPoolExecutor
+
+import pytest
+
+numpy = pytest.importorskip("numpy", reason="no numpy: apt-get install python3-numpy")
+
+import overlay_grid  # noqa: E402
+from overlay_grid import strips  # noqa: E402
+
+# Two rings of the first layer, the second one a hole, and one of the second layer; strip 2 has no point in its columns.
+A = [[(0, 0), (12, 0), (12, 6), (0, 6), (0, 0)], [(1, 2), (8, 1), (8, 4), (1, 3), (1, 2)]]
+B = [[(3, -2), (5, -2), (5, 8), (3, 8), (3, -2)]]
+CUTS = [4, 6, 8]
+
+
+def part_of(layer, rings):
+    offsets = [0]
+    for ring in rings:
+        offsets.append(offsets[-1] + len(ring))
+    return strips.Part(layer, [number for ring in rings for point in ring for number in point], offsets)
+
+
+def text_of(rings):
+    return "\n".join("POLYGON ((%s))" % ", ".join("%d %d" % point for point in ring) for ring in rings)
+
+
+def tuples(found):
+    return [tuple(row) for values in found for row in values.tolist()]
+
+
+def whole(a, b):
+    return [tuple(map(int, line.split())) for line in overlay_grid.edges(text_of(a), text_of(b)).splitlines()]
+
+
+def example():
+    """The lines of each strip of the worked example."""
+    parts = [strips.scatter(CUTS, part_of(0, A), 0), strips.scatter(CUTS, part_of(1, B), 100)]
+    return [numpy.concatenate(lists) for lists in zip(*parts)]
+
+
+def ends(line):
+    return (line["ax"], line["ay"]), (line["bx"], line["by"])
+
+
+def opens(lines, found):
+    """Of each open line its ends and its pixel, if it has one."""
+    of = {line["number"]: ends(line) for line in lines}
+    return {of[one["number"]]: (one["x"], one["y"]) if one["has_pixel"] else None for one in found}
+
+
+def test_the_module_does_as_it_says():
+    told = doctest.testmod(strips)
+    assert told.attempted and not told.failed
+
+
+def test_a_worked_example():
+    lines = example()
+    first, third = (strips.round_strip(CUTS, strip, lines[strip]) for strip in (0, 2))
+    of_a = [((0, 0), (0, 6)), ((0, 0), (3, 0)), ((0, 6), (3, 6)), ((1, 2), (1, 3)), ((1, 2), (3, 2)), ((1, 3), (3, 3))]
+    of_b = [((3, -2), (3, 0)), ((3, 0), (3, 2)), ((3, 2), (3, 3)), ((3, 3), (3, 6)), ((3, 6), (3, 8))]
+    assert tuples([first.inner]) == [(*p, *q, 1, 0) for p, q in of_a] + [(*p, *q, 0, 1) for p, q in of_b]
+    assert len(first.left) == 0
+    assert opens(lines[0], first.right) == {
+        ((0, 0), (12, 0)): (3, 0),
+        ((0, 6), (12, 6)): (3, 6),
+        ((1, 2), (8, 1)): (3, 2),
+        ((1, 3), (8, 4)): (3, 3),
+        ((3, -2), (5, -2)): (3, -2),
+        ((3, 8), (5, 8)): (3, 8),
+    }
+    passing = dict.fromkeys([((0, 0), (12, 0)), ((0, 6), (12, 6)), ((1, 2), (8, 1)), ((1, 3), (8, 4))])
+    assert len(third.inner) == 0 and opens(lines[2], third.left) == opens(lines[2], third.right) == passing
+
+
+def test_borders_of_the_worked_example():
+    lines, carried, across = example(), None, {}
+    for strip in (3, 2, 1, 0):
+        found, carried = strips.bridge(strips.round_strip(CUTS, strip, lines[strip]), carried)
+        across[strip] = tuples([found])
+    assert across[3] == across[2] == [] and len(carried) == 0
+    assert across[1] == [(5, 0, 12, 0, 1, 0), (5, 1, 8, 1, 1, 0), (5, 4, 8, 4, 1, 0), (5, 6, 12, 6, 1, 0)]
+    assert across[0] == [
+        *[(3, -2, 5, -2, 0, 1), (3, 0, 5, 0, 1, 0), (3, 2, 5, 1, 1, 0), (3, 3, 5, 4, 1, 0)],
+        *[(3, 6, 5, 6, 1, 0), (3, 8, 5, 8, 0, 1)],
+    ]
+
+
+def layer(rng, size):
+    """Rings that cross one another and themselves, some of them twice."""
+    found = []
+    for _ in range(rng.randint(0, 5)):
+        ring = [(rng.randint(-size, size), rng.randint(-size, size)) for _ in range(rng.randint(3, 7))]
+        found += [ring + ring[:1]] * rng.choice((1, 1, 2))
+    return found
+
+
+@pytest.mark.parametrize("seed", range(60))
+def test_all_strips_have_the_edges_of_the_whole(seed, tmp_path):
+    rng = random.Random(seed)
+    size = rng.choice((3, 8, 40, 1_000_000))
+    a, b = layer(rng, size), layer(rng, size)
+    cuts = sorted(rng.randint(-size - 1, size + 1) for _ in range(rng.choice((0, 1, 2, 5, 12))))
+    parts = [part_of(0, a[:1]), part_of(1, b), part_of(0, a[1:])]
+    assert tuples(strips.edges(parts, cuts, str(tmp_path))) == whole(a, b)
+
+
+@pytest.mark.parametrize("pool", [ThreadPoolExecutor, ProcessPoolExecutor])
+def test_an_executor_makes_the_same(pool, tmp_path):
+    rng = random.Random("pool")
+    a, b = ([ring for _ in range(12) for ring in layer(rng, 300)] for _ in "ab")
+    with pool(3) as executor:
+        found = strips.edges([part_of(0, a), part_of(1, b)], range(-200, 201, 50), str(tmp_path), executor)
+        assert tuples(found) == whole(a, b)
+    assert not [name for name in os.listdir(tmp_path) if name.endswith(str(os.getpid()))]
+
+
+def test_dask_makes_the_same(tmp_path):
+    distributed = pytest.importorskip("distributed", reason="no Dask: apt-get install python3-distributed")
+    with distributed.LocalCluster(2, threads_per_worker=1, processes=False, dashboard_address=None) as cluster:
+        with distributed.Client(cluster) as client:
+            found = strips.edges([part_of(0, A), part_of(1, B)], CUTS, str(tmp_path), client.get_executor())
+            assert tuples(found) == whole(A, B)
+
+
+def refused(call):
+    with pytest.raises(strips.StripError) as error:
+        call()
+    return error.value.reason, error.value.array, error.value.item
+
+
+def test_refusals():
+    lines = example()[0]
+    good = strips.round_strip(CUTS, 0, lines)
+    turned = lines.copy()
+    turned[0]["ax"], turned[0]["ay"] = 20, 0
+    assert refused(lambda: strips.round_strip(CUTS, 0, lines[::-1])) == ("bad item", 0, 1)
+    assert refused(lambda: strips.round_strip(CUTS, 0, turned)) == ("bad item", 0, 0)
+    assert refused(lambda: strips.round_strip([6, 4], 0, lines)) == ("bad item", 3, 1)
+    assert refused(lambda: strips.bridge(good)) == ("contradicts another array", 1, 0)
+    assert refused(lambda: strips.merge(good.inner, good.inner)) == ("contradicts another array", 1, 0)
+    assert refused(lambda: strips.merge(good.inner[::-1], [])) == ("bad item", 0, 1)
+    assert refused(lambda: strips.scatter(CUTS, strips.Part(0, [0, 0, 4, 0, 4, 4, 1, 1], [0, 4]), 0)) == ("open ring", 0, 0)
+    with pytest.raises(strips.StripError, match="no such strip"):
+        strips.round_strip(CUTS, 4, lines)
+
+
+def test_a_broken_file_is_refused(tmp_path):
+    found = strips.edges([part_of(0, A), part_of(1, B)], CUTS, str(tmp_path))
+    next(found)
+    path = tmp_path / "inner.1"
+    path.write_bytes(path.read_bytes()[:-5])
+    with pytest.raises(ValueError):
+        list(found)
