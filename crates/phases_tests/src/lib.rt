@@ -1,4 +1,4 @@
-//! Tests of rounding by strips: the messages of a worked example, and small layers by several cuts.
+//! Tests of strips: the messages of a worked example, and small layers by several cuts, their rounded edges and the labels of these.
 #![tactic(auto)]
 
 #[cfg(test)]
@@ -7,3 +7,5 @@ mod cases;
 mod example;
 #[cfg(test)]
 mod in_strips;
+#[cfg(test)]
+mod labelled;
