@@ -36,6 +36,22 @@ from ._library import ANSWERED, NO_MEMORY, SMALL, Columns, StripAnswer, library
 from ._faults import OutOfMemory
 from ._optional import module
 
+__all__ = [
+    "CARRIED",
+    "COUNTED",
+    "LINE",
+    "OPEN",
+    "Bridged",
+    "Part",
+    "Rounded",
+    "StripError",
+    "bridge",
+    "edges",
+    "merge",
+    "round_strip",
+    "scatter",
+]
+
 numpy: Any = module("numpy")
 
 # A segment, its lesser end (by x, then by y) first; layer 0 is the first one.
