@@ -1,2 +1,3 @@
 pub mod OneText
 pub mod Fields
+pub mod Line

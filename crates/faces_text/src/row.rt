@@ -7,20 +7,13 @@ ghost use Rattle.std.specs.Prelude.{◌≡◌, ◌++◌, ◌<◌, ◌+◌, ◌-�
 ghost use Rattle.std.specs.Fmt.{signed_decimal};
 ghost use Rattle.cover_law.specs.Areas.{row_area};
 ghost use Rattle.faces_text.specs.Text.{fields_text, is_of_layer, numbers_text, row_text};
+ghost use Rattle.faces_text.specs.Line.{holes_text, polygons_text};
 ghost use Rattle.cover_law.specs.Rows.{Row};
+ghost use Rattle.wkt.specs.Canonical.{multi_text};
 
-use geom::{NoMemory, Polygon};
-use itoa::{Buffer, Integer};
+use geom::{NoMemory, Polygon, SimpleRing};
 use std::alloc::{AllocError, Allocator};
-use wkt::write_multi;
-
-/// Adds a number in decimal digits.
-fn push_number<I: Integer, A: Allocator>(text: &mut Vec<u8, A>, number: I) -> Result<(), AllocError>
-    ensures { OnOk result (text.new.items ≡ text.old.items ++ I.text number) }
-{
-    let mut buffer = Buffer::new();
-    text.extend_from_slice(buffer.format(number).as_bytes())
-}
+use wkt::{push_first_ring, push_line_end, push_next_ring, push_number, write_multi};
 
 /// The number of a feature in its layer, from 1 on, where this is the layer's first one.
 fn number_of(feature: u32, first: u32) -> u64
@@ -97,6 +90,52 @@ fn push_area<A: Allocator>(text: &mut Vec<u8, A>, twice_area: i128) -> Result<()
     push_number(text, twice_area)
 }
 
+/// Adds holes, each behind another ring of its polygon.
+fn push_holes<A: Allocator, B: Allocator>(
+    text: &mut Vec<u8, A>,
+    holes: &[SimpleRing<B>],
+) -> Result<(), NoMemory>
+    ensures { OnOk result (text.new.items ≡ text.old.items ++ holes_text holes.now) }
+{
+    for hole in holes {
+        push_next_ring(text, true, hole)?;
+    }
+    Ok(())
+}
+
+/// Adds polygons, each behind another one.
+fn push_more_polygons<A: Allocator, B: Allocator>(
+    text: &mut Vec<u8, A>,
+    polygons: &[Polygon<B>],
+) -> Result<(), NoMemory>
+    ensures { OnOk result (text.new.items ≡ text.old.items ++ polygons_text polygons.now) }
+{
+    for polygon in polygons {
+        push_next_ring(text, false, polygon.shell())?;
+        push_holes(text, polygon.holes())?;
+    }
+    Ok(())
+}
+
+/// Adds the canonical line of polygons.
+fn push_polygons<A: Allocator + Copy>(
+    alloc: A,
+    text: &mut Vec<u8, A>,
+    polygons: &[Polygon<A>],
+) -> Result<(), NoMemory>
+    ensures { OnOk result (text.new.items ≡ text.old.items ++ multi_text polygons.now) }
+{
+    let Some((first, rest)) = polygons.split_first() else {
+        let line = write_multi(alloc, polygons)?;
+        text.extend_from_slice(&line)?;
+        return Ok(());
+    };
+    push_first_ring(text, first.shell())?;
+    push_holes(text, first.holes())?;
+    push_more_polygons(text, rest)?;
+    push_line_end(text)
+}
+
 /// Adds the line of a row with these features, twice their area in grid units, and their polygons. The counts are the numbers of the layers'
 /// features.
 pub fn push_row<A: Allocator + Copy>(
@@ -114,7 +153,5 @@ pub fn push_row<A: Allocator + Copy>(
     push_area(text, twice_area)?;
     push_fields(text, counts, features)?;
     text.push(b'\t')?;
-    let line = write_multi(alloc, polygons)?;
-    text.extend_from_slice(&line)?;
-    Ok(())
+    push_polygons(alloc, text, polygons)
 }

@@ -21,5 +21,5 @@ pub use operation::{
     result_polygons_by_workers, result_text, text_by_workers, text_of,
 };
 pub use sink::{MemSink, Sink, SinkFault, write_all, write_parts};
-pub use text::{Report, push_line, push_number, push_tile, report_text};
+pub use text::{Report, push_line, push_tile, report_text};
 pub use text_parts::TextParts;

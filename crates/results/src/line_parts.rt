@@ -16,10 +16,7 @@ use hands::{Part, map_parts, parts_of_work};
 use polygonize::ResultRings;
 use std::alloc::Allocator;
 use std::thread::Threads;
-use wkt::{push_first_ring, push_line_end, push_next_ring, write_multi};
-
-/// How many bytes a point has at most, where its coordinates have up to eight digits and a sign.
-const POINT: usize = 21;
+use wkt::{POINT_BYTES, push_first_ring, push_line_end, push_next_ring, write_multi};
 
 /// How many points the rings between two numbers have in their text, where each ends with its first one.
 fn points_between<A: Allocator>(rings: &ResultRings<A>, from: usize, past: usize) -> usize
@@ -45,7 +42,7 @@ fn rings_text<A: Allocator + Copy>(
     requires inside { past ≤ length rings.now }
     ensures { IfOk result (λ text. IsPartOfLine rings.now from past text.items) }
 {
-    let room = points_between(rings, from, past).saturating_mul(POINT);
+    let room = points_between(rings, from, past).saturating_mul(POINT_BYTES);
     let mut text = Vec::with_capacity(alloc, room)?;
     for number in from..past {
         let ring = rings.ring(alloc, number)?;
@@ -93,7 +90,7 @@ fn beginning<A: Allocator + Copy>(
     ensures text { IfOk result (λ text. text ≡ first_ring (told_at rings.now 0).1) }
     ensures readable { IfOk result (λ text. IsReadable (told_at rings.now 0).1) }
 {
-    let mut text = Vec::with_capacity(alloc, rings.points(0).saturating_mul(POINT))?;
+    let mut text = Vec::with_capacity(alloc, rings.points(0).saturating_mul(POINT_BYTES))?;
     push_first_ring(&mut text, &rings.ring(alloc, 0)?)?;
     TextParts::one(alloc, text)
 }

@@ -1,12 +1,12 @@
 //! The texts that the program writes.
 
 ghost use Rattle.std.specs.Prelude.{◌≡◌, ◌++◌, ◌∷◌, [], IfOk, OnOk};
-ghost use Rattle.geom.specs.Words.{pt_words};
 ghost use Rattle.results.specs.Texts.{edge_line, edges_text_of, counts_of, report_of, sizes_of, tile_line, totals_of};
 
-use geom::{Counted, NoMemory, Pt};
-use itoa::{Buffer, Integer};
+use geom::{Counted, NoMemory};
+use itoa::Integer;
 use std::alloc::{AllocError, Allocator};
+use wkt::{push_number, push_point};
 
 // How many bytes the line of an edge has at most, where its ends are of up to six digits and its counts of one.
 const LINE: usize = 32;
@@ -28,26 +28,6 @@ pub struct Report<A: Allocator> {
     pub remade: u32,
     /// Each tile's own hot pixels, and its records.
     pub tiles: Vec<(u32, u32), A>,
-}
-
-/// Adds a number in decimal digits.
-pub fn push_number<I: Integer, A: Allocator>(
-    text: &mut Vec<u8, A>,
-    number: I,
-) -> Result<(), AllocError>
-    ensures { OnOk result (text.new.items ≡ text.old.items ++ I.text number) }
-{
-    let mut buffer = Buffer::new();
-    text.extend_from_slice(buffer.format(number).as_bytes())
-}
-
-/// Adds a point: its coordinates with a blank between them.
-pub fn push_point<A: Allocator>(text: &mut Vec<u8, A>, point: Pt) -> Result<(), AllocError>
-    ensures { OnOk result (text.new.items ≡ text.old.items ++ pt_words point) }
-{
-    push_number(text, point.x)?;
-    text.push(b' ')?;
-    push_number(text, point.y)
 }
 
 fn push_edge<A: Allocator>(text: &mut Vec<u8, A>, counted: Counted) -> Result<(), AllocError>

@@ -1,6 +1,6 @@
 //! The rows: those of parts of their sets at once, with about as many edges in each part, in the order of their features.
 
-ghost use Rattle.std.specs.Prelude.{◌≡◌, ◌<◌, ◌≤◌, ℕ, List, All, AllPairs, IfOk, IsPermutation, length, map, slice_range};
+ghost use Rattle.std.specs.Prelude.{◌≡◌, ◌<◌, ◌≤◌, ℕ, List, All, AllPairs, IfOk, IsPermutation, OnOk, length, map, slice_range};
 ghost use Rattle.std.specs.List.{AllZip};
 ghost use Rattle.cover_law.specs.Areas.{row_area};
 ghost use Rattle.cover_law.specs.Cover.{AreBorders, Bordered};
@@ -15,9 +15,9 @@ use crate::ends::nearly_in_order;
 use crate::grouped::RowEdges;
 use crate::runs::RowSet;
 use cover_sets::Sets;
-use geom::{Directed, DirectedEdge, NoMemory, Polygon};
+use geom::{DirectedEdge, NoMemory, Polygon};
 use hands::{Part, joined, map_parts, parts_of_work};
-use polygonize::polygons;
+use polygonize::polygons_along;
 use std::alloc::Allocator;
 use std::thread::Threads;
 
@@ -30,37 +30,38 @@ pub struct Row<A: Allocator> {
     pub polygons: Vec<Polygon<A>, A>,
 }
 
-/// The directed edges of a set's row.
-fn edges_of_set<A: Allocator>(
-    alloc: A,
+/// Puts the directed edges of a set's row in place of what the list had.
+fn put_edges<A: Allocator>(
+    directed: &mut Vec<DirectedEdge, A>,
     edges: &[RowEdge],
     row_set: RowSet,
-) -> Result<Vec<DirectedEdge, A>, NoMemory>
+) -> Result<(), NoMemory>
     requires some { row_set.from < row_set.to }
     requires within { row_set.to ≤ length edges.now }
-    ensures { IfOk result (λ list. list.items ≡ edges_at edges.now row_set) }
+    ensures { OnOk result (directed.new.items ≡ edges_at edges.now row_set) }
 {
     let run = &edges[row_set.from..row_set.to];
-    let mut list = Vec::with_capacity(alloc, run.len())?;
+    directed.clear();
     for edge in run {
-        list.push(edge.edge)?;
+        directed.push(edge.edge)?;
     }
-    Ok(list)
+    Ok(())
 }
 
-/// The row of a set.
+/// The row of a set. The list is room for its directed edges.
 fn row_of_set<A: Allocator + Copy>(
     alloc: A,
     sets: &Sets<A>,
     edges: &[RowEdge],
     row_set: RowSet,
+    directed: &mut Vec<DirectedEdge, A>,
 ) -> Result<Row<A>, NoMemory>
     requires { IsBound sets.now edges.now row_set }
     ensures { IfOk result (IsRowOf sets.now edges.now row_set) }
 {
-    let directed = edges_of_set(alloc, edges, row_set)?;
-    let twice_area = twice_area(&directed);
-    let polygons = polygons(alloc, &Directed::new(directed))?;
+    put_edges(directed, edges, row_set)?;
+    let twice_area = twice_area(directed);
+    let polygons = polygons_along(alloc, directed)?;
     let mut features = Vec::with_capacity(alloc, sets.size(row_set.set) as usize)?;
     sets.push_features(row_set.set, &mut features)?;
     Ok(Row {
@@ -84,8 +85,9 @@ fn rows_of_part<A: Allocator + Copy>(
     ensures { IfOk result (λ rows. AllZip (IsRowOf sets.now edges.now) (slice_range row_sets.now part.from part.past) rows.items) }
 {
     let mut rows = Vec::with_capacity(alloc, part.past - part.from)?;
+    let mut directed = Vec::new(alloc);
     for place in part.from..part.past {
-        rows.push(row_of_set(alloc, sets, edges, row_sets[place])?)?;
+        rows.push(row_of_set(alloc, sets, edges, row_sets[place], &mut directed)?)?;
     }
     Ok(rows)
 }

@@ -34,4 +34,7 @@ pub use outline::Outline;
 pub use read::{
     OutlinedLayer, read_layer, read_layer_within, read_outlined, read_outlined_in_parts,
 };
-pub use write::{push_first_ring, push_line_end, push_next_ring, write_multi};
+pub use write::{
+    POINT_BYTES, push_first_ring, push_line_end, push_next_ring, push_number, push_point,
+    write_multi,
+};

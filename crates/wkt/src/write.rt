@@ -1,32 +1,33 @@
 //! Polygons, written as the canonical line.
 
 ghost use Rattle.std.specs.Prelude.{◌≡◌, ◌++◌, ◌∷◌, [], ℕ, List, All, IfOk, OnOk, map};
-ghost use Rattle.geom.specs.Limit.{InLimit, IsWithin};
-ghost use Rattle.std.specs.Fmt.{signed_decimal};
+ghost use Rattle.geom.specs.Limit.{InLimit};
 ghost use Rattle.geom.specs.Canonical.{written_rings};
 ghost use Rattle.geom.specs.Words.{pt_words};
 ghost use Rattle.wkt.specs.Canonical.{closed, first_ring, line_end, more_of, multi_text, next_ring, polygon_text, ring_text};
-ghost use Rattle.wkt.specs.Readable.{IsReadable, IsShort, number_limit};
+ghost use Rattle.wkt.specs.Readable.{IsReadable, IsShort};
 ghost use Rattle.wkt.specs.Refusals.{IsLayerOf, StandsFor};
 
 use geom::{NoMemory, Polygon, Pt, SimpleRing};
-use itoa::Buffer;
+use itoa::{Buffer, Integer};
 use std::alloc::{AllocError, Allocator};
 
-// How many bytes a point has at most, where its coordinates have up to eight digits and a sign.
-const POINT: usize = 21;
+/// How many bytes the text of a point has at most, with a comma and a space behind it, where its coordinates have up to eight digits and a sign.
+pub const POINT_BYTES: usize = 21;
 
 /// Adds a number in decimal digits.
-fn push_number<A: Allocator>(text: &mut Vec<u8, A>, number: i32) -> Result<(), AllocError>
-    ensures text { OnOk result (text.new.items ≡ text.old.items ++ signed_decimal number) }
-    ensures short { IsWithin number_limit number }
+pub fn push_number<I: Integer, A: Allocator>(
+    text: &mut Vec<u8, A>,
+    number: I,
+) -> Result<(), AllocError>
+    ensures { OnOk result (text.new.items ≡ text.old.items ++ I.text number) }
 {
     let mut buffer = Buffer::new();
     text.extend_from_slice(buffer.format(number).as_bytes())
 }
 
 /// Adds a point: x, a space, y.
-fn push_point<A: Allocator>(text: &mut Vec<u8, A>, point: Pt) -> Result<(), AllocError>
+pub fn push_point<A: Allocator>(text: &mut Vec<u8, A>, point: Pt) -> Result<(), AllocError>
     ensures text { OnOk result (text.new.items ≡ text.old.items ++ pt_words point) }
     ensures short { OnOk result (IsShort point) }
 {
@@ -160,7 +161,7 @@ fn room_for<A: Allocator>(polygons: &[Polygon<A>]) -> usize {
     for polygon in polygons {
         points = points.saturating_add(points_in(polygon));
     }
-    points.saturating_mul(POINT)
+    points.saturating_mul(POINT_BYTES)
 }
 
 /// The canonical line of a list of polygons, in bytes, with LF at its end. Without it the line is a layer text whose rings

@@ -14,12 +14,12 @@ pub returns : goal.returns
 returns g c =
     let ds = edges_at c.args.edges.now c.args.row_set in
     let made = c.in_ok-polygons.polygons.items in
-    let same : c.new.result ≡ ds = c.new.ensures ∙ c.in_ok-directed.ensures in
+    let same : c.deref-2.result.now ≡ ds = c.deref-2.ensures.value ∙ c.in_ok-put_edges.ensures in
     let each : HaveEachEdge ds made = subst (λ (xs : List DirectedEdge). HaveEachEdge xs made) same c.in_ok-polygons.ensures.each_edge in
     let back : to_z w128 (of_z w128 c.twice_area-twice_area.result) ≡ c.twice_area-twice_area.result = search rules in
     record {
       set_is = c.in_ok-push_features.ensures ∙ ap (λ (xs : List ℕ). xs ++ set_of c.args.sets.now c.args.row_set.set) c.in_ok-features.ensures.items;
       are_polygons = subst (λ (xs : List DirectedEdge). AreNodedEdges xs → HasGroundedRings xs → ArePolygons xs made) same c.in_ok-polygons.ensures.polygons;
       each_edge = each;
-      area_is = back ∙ c.twice_area-twice_area.ensures ∙ ap twice_area (c.deref.ensures.value ∙ c.in_ok-directed.ensures) ∙ sym (polygons_area ds made c.requires.closes.are_directed.ascending each);
+      area_is = back ∙ c.twice_area-twice_area.ensures ∙ ap twice_area (c.deref.ensures.value ∙ c.in_ok-put_edges.ensures) ∙ sym (polygons_area ds made c.requires.closes.are_directed.ascending each);
     }

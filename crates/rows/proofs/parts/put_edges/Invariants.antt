@@ -1,6 +1,6 @@
 use Rattle.std.proofs.Common.{◌≡◌, map, take}
 use Rattle.rows.specs.RowSets.{edge_of}
-use Rattle.rows.proofs.parts.edges_of_set.Given as goal
+use Rattle.rows.proofs.parts.put_edges.Given as goal
 
 abbrev pub invariant-loop-edge : goal.invariant-loop-edge
-invariant-loop-edge g l = l.list.items ≡ map edge_of (take l.edge-index l.run)
+invariant-loop-edge g l = l.directed.items ≡ map edge_of (take l.edge-index l.run)
