@@ -4,6 +4,7 @@ pub mod Walking
 pub mod Cycles
 pub mod CycleRings
 pub mod NextEdge
+pub mod ClosesOnce
 pub mod Permuted
 pub mod Numbers
 pub mod WrittenRings
@@ -14,5 +15,6 @@ pub mod Filtered
 pub mod Sorted
 pub mod Holes
 pub mod Told
-pub mod OneWalk
-pub mod OneRing
+pub mod LoneWalk
+pub mod LoneShells
+pub mod ClosedVertices

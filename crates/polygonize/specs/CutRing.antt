@@ -1,9 +1,7 @@
 -- The rings of cycles, cut at the vertices that they visit twice.
 use Rattle.std.specs.Prelude.{◌+◌, ◌≡◌, ◌↔◌, ℕ, ◌<◌, ◌≤◌, IsTrue, List, [], All, Contains, length, slice_index_or}
 use Rattle.geom.specs.declared.directed.DirectedEdge.{DirectedEdge}
-use Rattle.geom.specs.Directed.{AreDirected}
 use Rattle.geom.specs.Holes.{IsHole}
-use Rattle.geom.specs.Limit.{AreInLimit}
 use Rattle.geom.specs.Rings.{IsCut}
 use Rattle.polygonize.specs.declared.cut_ring.CutRing.{CutRing}
 use Rattle.polygonize.specs.Next.{ring_of}
@@ -13,8 +11,6 @@ use Rattle.polygonize.specs.Written.{ArePlaces, IsSound}
 
 -- cycles of directed edges, and the numbers of the vertices where these start
 pub record AreCyclesOf (ds : List DirectedEdge) (numbers : List ℕ) (cycles : List (List ℕ)) : Type 0 where
-  pub directed : AreDirected ds
-  pub edges_in : All (λ d. AreInLimit d.from d.to) ds
   pub numbered : AreNumbers ds numbers
   pub each : All (ArePlaces ds) cycles
 

@@ -8,6 +8,7 @@ ghost use Rattle.geom.specs.Parity.{covers};
 ghost use Rattle.polygonize.specs.Below.{HasGapRoom, IsAsNear, IsGap, IsGapOf, IsLesserGap, IsLessGap, RunsBelow};
 ghost use Rattle.polygonize.specs.Next.{edge_at};
 
+use crate::closing_edges::ClosingEdges;
 use geom::{DirectedEdge, Edge, Pt};
 
 /// The gap between an edge and a point just left of a vertex above it: (side + rise / 2^64) / run grid units.
@@ -98,16 +99,15 @@ pub fn nearer(best: Option<Gap>, found: Option<Gap>) -> Option<Gap>
 }
 
 /// The gap to the nearest edge below the point just left of v, among those of the given numbers.
-pub fn nearest_among(edges: &[DirectedEdge], numbers: &[usize], v: Pt) -> Option<Gap>
-    requires edges_in { All (λ d. AreInLimit d.from d.to) edges.now }
+pub fn nearest_among(edges: ClosingEdges<'_>, numbers: &[usize], v: Pt) -> Option<Gap>
     requires v_in { InLimit v }
-    requires inside { All (λ k. k < length edges.now) numbers.now }
-    ensures known { IfSome result (λ g. IsGapOf edges.now v g) }
-    ensures near { (k : ℕ) → Contains numbers.now k → IsAsNear (edge_at edges.now k) v result }
+    requires inside { All (λ k. k < length edges.list.now) numbers.now }
+    ensures known { IfSome result (λ g. IsGapOf edges.entry.list.now v g) }
+    ensures near { (k : ℕ) → Contains numbers.now k → IsAsNear (edge_at edges.entry.list.now k) v result }
 {
     let mut best = None;
     for number in numbers {
-        best = nearer(best, gap_below(edges[*number], *number, v));
+        best = nearer(best, gap_below(edges.list[*number], *number, v));
     }
     best
 }

@@ -4,6 +4,7 @@ ghost use Rattle.std.specs.Prelude.{◌↔◌, ◌<◌, ◌≤ℤ◌, ◌<ℤ◌
 ghost use Rattle.geom.specs.Limit.{AreInLimit, InLimit, IsWithin, coordinate_limit};
 ghost use Rattle.polygonize.specs.Column.{AreColumnsOf, HasMeeting, Meets, Spans};
 
+use crate::closing_edges::ClosingEdges;
 use geom::{COORDINATE_LIMIT, DirectedEdge, NoMemory, Pt};
 use std::alloc::Allocator;
 
@@ -61,23 +62,22 @@ pub fn meets(edge: DirectedEdge, columns: Columns) -> bool
 /// Those of the edges that don't span all columns, and meet some of a part of them.
 pub fn meeting<A: Allocator>(
     alloc: A,
-    edges: &[DirectedEdge],
+    edges: ClosingEdges<'_>,
     numbers: &[usize],
     all: Columns,
     part: Columns,
 ) -> Result<Vec<usize, A>, NoMemory>
-    requires edges_in { All (λ d. AreInLimit d.from d.to) edges.now }
-    requires inside { All (λ k. k < length edges.now) numbers.now }
+    requires inside { All (λ k. k < length edges.list.now) numbers.now }
     requires low_in { IsWithin coordinate_limit all.low }
     requires high_in { IsWithin coordinate_limit all.high }
     requires part_low_in { IsWithin coordinate_limit part.low }
     requires part_high_in { IsWithin coordinate_limit part.high }
-    ensures inside { IfOk result (λ found. All (λ k. k < length edges.now) found.items) }
-    ensures complete { IfOk result (λ found. HasMeeting edges.now all part numbers.now found.items) }
+    ensures inside { IfOk result (λ found. All (λ k. k < length edges.entry.list.now) found.items) }
+    ensures complete { IfOk result (λ found. HasMeeting edges.entry.list.now all part numbers.now found.items) }
 {
     let mut found = Vec::new(alloc);
     for number in numbers {
-        let edge = edges[*number];
+        let edge = edges.list[*number];
         if !spans(edge, all) && meets(edge, part) {
             found.push(*number)?;
         }

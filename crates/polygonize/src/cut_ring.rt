@@ -1,18 +1,17 @@
 //! The rings of cycles, cut at the vertices that they visit twice.
 
-ghost use Rattle.std.specs.Prelude.{◌≡◌, ◌<◌, ◌≤◌, All, IfOk, length};
-ghost use Rattle.geom.specs.Directed.{AreDirected};
-ghost use Rattle.geom.specs.Limit.{AreInLimit};
+ghost use Rattle.std.specs.Prelude.{◌≡◌, ◌<◌, ◌≤◌, IfOk, length};
 ghost use Rattle.polygonize.specs.CutRing.{AreCyclesCut, AreCyclesOf, AreHoleNumbers, IsCycleCut};
 ghost use Rattle.polygonize.specs.Number.{AreNumbers};
 ghost use Rattle.polygonize.specs.Written.{ArePlaces};
 
+use crate::closing_edges::ClosingEdges;
 use crate::cut::cut;
 use crate::cycle::Cycle;
 use crate::hole::is_hole;
 use crate::number::vertices_of;
 use crate::piece::first_piece;
-use geom::{DirectedEdge, NoMemory};
+use geom::NoMemory;
 use hands::{Part, joined, map_parts, parts_of_work};
 use std::alloc::Allocator;
 use std::thread::Threads;
@@ -28,17 +27,15 @@ pub struct CutRing<A: Allocator> {
 /// The ring of a cycle, cut. `places` has a place for each number.
 fn cut_ring<A: Allocator + Copy>(
     alloc: A,
-    edges: &[DirectedEdge],
+    edges: ClosingEdges<'_>,
     numbers: &[usize],
     cycle: &[usize],
     places: &mut [usize],
 ) -> Result<CutRing<A>, NoMemory>
-    requires directed { AreDirected edges.now }
-    requires edges_in { All (λ d. AreInLimit d.from d.to) edges.now }
-    requires numbers { AreNumbers edges.now numbers.now }
-    requires cycle { ArePlaces edges.now cycle.now }
-    requires places { length places.old ≡ length edges.now }
-    ensures { IfOk result (λ ring. IsCycleCut edges.now cycle.now ring) }
+    requires numbers { AreNumbers edges.list.now numbers.now }
+    requires cycle { ArePlaces edges.list.now cycle.now }
+    requires places { length places.old ≡ length edges.list.now }
+    ensures { IfOk result (λ ring. IsCycleCut edges.entry.list.now cycle.now ring) }
 {
     let ring = vertices_of(alloc, numbers, cycle)?;
     let is_hole = is_hole(edges, &ring);
@@ -54,18 +51,18 @@ fn cut_ring<A: Allocator + Copy>(
 /// The rings of the cycles from one number to before another one, cut.
 pub fn cut_rings<A: Allocator + Copy>(
     alloc: A,
-    edges: &[DirectedEdge],
+    edges: ClosingEdges<'_>,
     numbers: &[usize],
     cycles: &[Cycle<A>],
     from: usize,
     past: usize,
 ) -> Result<Vec<CutRing<A>, A>, NoMemory>
-    requires cycles { AreCyclesOf edges.now numbers.now cycles.now }
+    requires cycles { AreCyclesOf edges.list.now numbers.now cycles.now }
     requires order { from ≤ past }
     requires inside { past ≤ length cycles.now }
-    ensures { IfOk result (λ rings. AreCyclesCut edges.now cycles.now from past rings.items) }
+    ensures { IfOk result (λ rings. AreCyclesCut edges.entry.list.now cycles.now from past rings.items) }
 {
-    let mut places = vec![in alloc; 0; edges.len()]?;
+    let mut places = vec![in alloc; 0; edges.list.len()]?;
     let mut rings = Vec::with_capacity(alloc, past - from)?;
     for number in from..past {
         let cycle = cycles[number].numbers();
@@ -79,12 +76,12 @@ pub fn cut_rings_in_parts<R: Threads + Sync, A: Allocator + Copy + Send + Sync>(
     rt: &R,
     alloc: A,
     parts: usize,
-    edges: &[DirectedEdge],
+    edges: ClosingEdges<'_>,
     numbers: &[usize],
     cycles: &[Cycle<A>],
 ) -> Result<Vec<CutRing<A>, A>, NoMemory>
-    requires { AreCyclesOf edges.now numbers.now cycles.now }
-    ensures { IfOk result (λ rings. AreCyclesCut edges.now cycles.now 0 (length cycles.now) rings.items) }
+    requires { AreCyclesOf edges.list.now numbers.now cycles.now }
+    ensures { IfOk result (λ rings. AreCyclesCut edges.entry.list.now cycles.now 0 (length cycles.now) rings.items) }
 {
     let all = parts_of_work(
         alloc,
@@ -99,8 +96,8 @@ pub fn cut_rings_in_parts<R: Threads + Sync, A: Allocator + Copy + Send + Sync>(
         alloc,
         &all,
         |part: Part| -> Result<Vec<CutRing<A>, A>, NoMemory>
-            requires { AreCyclesOf edges.now numbers.now cycles.now × (part.from ≤ part.past) × (part.past ≤ length cycles.now) }
-            ensures { IfOk result (λ rings. AreCyclesCut edges.entry.now cycles.entry.now part.from part.past rings.items) }
+            requires { AreCyclesOf edges.list.now numbers.now cycles.now × (part.from ≤ part.past) × (part.past ≤ length cycles.now) }
+            ensures { IfOk result (λ rings. AreCyclesCut edges.entry.list.now cycles.entry.now part.from part.past rings.items) }
         { cut_rings(alloc, edges, numbers, cycles, part.from, part.past) },
     )?;
     Ok(joined(alloc, lists)?)

@@ -2,14 +2,12 @@
 
 ghost use Rattle.std.specs.Prelude.{◌≡◌, ◌↔◌, ◌+◌, ◌<◌, ◌≤◌, All, IsTrue, if◌then◌else◌, int_lt, length, nat_lt, pos, slice_index_or};
 ghost use Rattle.geom.specs.Determinant.{side};
-ghost use Rattle.geom.specs.Directed.{AreDirected};
 ghost use Rattle.geom.specs.Holes.{IsHole};
-ghost use Rattle.geom.specs.Limit.{AreInLimit};
 ghost use Rattle.polygonize.specs.Next.{edge_at, ring_of};
 ghost use Rattle.polygonize.specs.Number.{IsVertex};
 
 use crate::angle::side_of;
-use geom::DirectedEdge;
+use crate::closing_edges::ClosingEdges;
 
 /// The place after another one in a ring of n.
 fn following(n: usize, i: usize) -> usize
@@ -21,23 +19,24 @@ fn following(n: usize, i: usize) -> usize
 }
 
 /// Whether the ring turns to the right at its vertex at the place i: the next edge lies counter-clockwise of the way back.
-fn turns_right(edges: &[DirectedEdge], before: usize, at: usize, after: usize) -> bool
-    requires edges_in { All (λ d. AreInLimit d.from d.to) edges.now }
-    requires before_in { before < length edges.now }
-    requires at_in { at < length edges.now }
-    requires after_in { after < length edges.now }
-    ensures { result ≡ int_lt (pos 0) (side (edge_at edges.now at).from (edge_at edges.now before).from (edge_at edges.now after).from) }
+fn turns_right(edges: ClosingEdges<'_>, before: usize, at: usize, after: usize) -> bool
+    requires before_in { before < length edges.list.now }
+    requires at_in { at < length edges.list.now }
+    requires after_in { after < length edges.list.now }
+    ensures { result ≡ int_lt (pos 0) (side (edge_at edges.entry.list.now at).from (edge_at edges.entry.list.now before).from (edge_at edges.entry.list.now after).from) }
 {
-    side_of(edges[at].from, edges[before].from, edges[after].from) > 0
+    side_of(
+        edges.list[at].from,
+        edges.list[before].from,
+        edges.list[after].from,
+    ) > 0
 }
 
 /// Whether a ring of vertices, begun at its least one, is a hole.
-pub fn is_hole(edges: &[DirectedEdge], ring: &[usize]) -> bool
-    requires directed { AreDirected edges.now }
-    requires edges_in { All (λ d. AreInLimit d.from d.to) edges.now }
-    requires vertices { All (IsVertex edges.now) ring.now }
+pub fn is_hole(edges: ClosingEdges<'_>, ring: &[usize]) -> bool
+    requires vertices { All (IsVertex edges.list.now) ring.now }
     requires least { All (λ k. slice_index_or ring.now 0 0 ≤ k) ring.now }
-    ensures { IsTrue result ↔ IsHole (ring_of edges.now ring.now) }
+    ensures { IsTrue result ↔ IsHole (ring_of edges.entry.list.now ring.now) }
 {
     for i in 0..ring.len() {
         let at = following(ring.len(), i);

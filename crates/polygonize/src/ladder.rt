@@ -13,6 +13,7 @@ ghost use Rattle.polygonize.specs.Ladder.{AreInOrder, AreSpanning, IsLadder, IsU
 ghost use Rattle.polygonize.specs.Next.{edge_at};
 
 use crate::below::{Gap, gap_below, product};
+use crate::closing_edges::ClosingEdges;
 use crate::column::{Columns, spans};
 use geom::{DirectedEdge, Edge, NoMemory, Pt};
 use std::alloc::{AllocError, Allocator};
@@ -67,19 +68,18 @@ fn heights_of(edge: DirectedEdge, columns: Columns) -> Heights
 /// Those of the edges that span the columns.
 fn rungs_of<A: Allocator>(
     alloc: A,
-    edges: &[DirectedEdge],
+    edges: ClosingEdges<'_>,
     numbers: &[usize],
     columns: Columns,
 ) -> Result<Vec<Rung, A>, NoMemory>
-    requires edges_in { All (λ d. AreInLimit d.from d.to) edges.now }
-    requires inside { All (λ k. k < length edges.now) numbers.now }
+    requires inside { All (λ k. k < length edges.list.now) numbers.now }
     requires low_in { IsWithin coordinate_limit columns.low }
     requires high_in { IsWithin coordinate_limit columns.high }
-    ensures { IfOk result (λ rungs. AreSpanning edges.now columns numbers.now (map (λ r. r.number) rungs.items)) }
+    ensures { IfOk result (λ rungs. AreSpanning edges.entry.list.now columns numbers.now (map (λ r. r.number) rungs.items)) }
 {
     let mut rungs = Vec::new(alloc);
     for number in numbers {
-        let edge = edges[*number];
+        let edge = edges.list[*number];
         if spans(edge, columns) {
             let heights = heights_of(edge, columns);
             rungs.push(Rung {
@@ -105,15 +105,14 @@ fn numbers_of<A: Allocator + Copy>(alloc: A, rungs: &[Rung]) -> Result<Vec<usize
 /// Those of the edges that span the columns, as they are sorted by their heights.
 pub fn spanning<A: Allocator + Copy>(
     alloc: A,
-    edges: &[DirectedEdge],
+    edges: ClosingEdges<'_>,
     numbers: &[usize],
     columns: Columns,
 ) -> Result<Vec<usize, A>, NoMemory>
-    requires edges_in { All (λ d. AreInLimit d.from d.to) edges.now }
-    requires inside { All (λ k. k < length edges.now) numbers.now }
+    requires inside { All (λ k. k < length edges.list.now) numbers.now }
     requires low_in { IsWithin coordinate_limit columns.low }
     requires high_in { IsWithin coordinate_limit columns.high }
-    ensures { IfOk result (λ found. AreSpanning edges.now columns numbers.now found.items) }
+    ensures { IfOk result (λ found. AreSpanning edges.entry.list.now columns numbers.now found.items) }
 {
     let mut rungs = rungs_of(alloc, edges, numbers, columns)?;
     rungs.sort_unstable_by_key(|rung| rung.heights);
@@ -152,16 +151,19 @@ fn are_in_order(below: DirectedEdge, above: DirectedEdge, columns: Columns) -> b
 }
 
 /// Whether edges that span the columns stand from low to high there.
-pub fn is_ladder(edges: &[DirectedEdge], numbers: &[usize], columns: Columns) -> bool
-    requires edges_in { All (λ d. AreInLimit d.from d.to) edges.now }
+pub fn is_ladder(edges: ClosingEdges<'_>, numbers: &[usize], columns: Columns) -> bool
     requires low_in { IsWithin coordinate_limit columns.low }
     requires high_in { IsWithin coordinate_limit columns.high }
-    requires inside { All (λ k. k < length edges.now) numbers.now }
-    requires spans { All (λ k. Spans (edge_at edges.now k) columns) numbers.now }
-    ensures { IsTrue result → IsLadder edges.now columns numbers.now }
+    requires inside { All (λ k. k < length edges.list.now) numbers.now }
+    requires spans { All (λ k. Spans (edge_at edges.list.now k) columns) numbers.now }
+    ensures { IsTrue result → IsLadder edges.entry.list.now columns numbers.now }
 {
     for place in 1..numbers.len() {
-        if !are_in_order(edges[numbers[place - 1]], edges[numbers[place]], columns) {
+        if !are_in_order(
+            edges.list[numbers[place - 1]],
+            edges.list[numbers[place]],
+            columns,
+        ) {
             return false;
         }
     }
@@ -169,13 +171,12 @@ pub fn is_ladder(edges: &[DirectedEdge], numbers: &[usize], columns: Columns) ->
 }
 
 /// The gap to the nearest edge of a ladder below the point just left of v.
-pub fn highest_below(edges: &[DirectedEdge], ladder: &[usize], v: Pt) -> Option<Gap>
-    requires edges_in { All (λ d. AreInLimit d.from d.to) edges.now }
+pub fn highest_below(edges: ClosingEdges<'_>, ladder: &[usize], v: Pt) -> Option<Gap>
     requires v_in { InLimit v }
-    requires inside { All (λ k. k < length edges.now) ladder.now }
-    requires order { StandInOrder edges.now v ladder.now }
-    ensures known { IfSome result (λ g. IsGapOf edges.now v g) }
-    ensures near { (k : ℕ) → Contains ladder.now k → IsAsNear (edge_at edges.now k) v result }
+    requires inside { All (λ k. k < length edges.list.now) ladder.now }
+    requires order { StandInOrder edges.list.now v ladder.now }
+    ensures known { IfSome result (λ g. IsGapOf edges.entry.list.now v g) }
+    ensures near { (k : ℕ) → Contains ladder.now k → IsAsNear (edge_at edges.entry.list.now k) v result }
 {
     let mut best = None;
     let mut low = 0;
@@ -183,7 +184,7 @@ pub fn highest_below(edges: &[DirectedEdge], ladder: &[usize], v: Pt) -> Option<
     while low < high {
         let middle = low + (high - low) / 2;
         let number = ladder[middle];
-        let found = gap_below(edges[number], number, v);
+        let found = gap_below(edges.list[number], number, v);
         if found.is_some() {
             best = found;
             low = middle + 1;

@@ -5,13 +5,18 @@
 //! 3. Each hole's owner is the shell of the nearest edge below it (`nearest`, `below`, `hole`).
 //! 4. Rings are written in the canonical order (`written`, `polygon`).
 //!
-//! Few edges that are one ring, which visits no vertex twice, are a polygon without more ado (`one_ring`).
+//! Edges from elsewhere are tested first (`closing`). Few edges whose rings are all shells, and visit no vertex twice, are polygons without more
+//! ado (`lone_shells`).
+//!
+//! What all this stands on, that the edges close and are within the coordinate limit, the edges' type knows (`closing_edges`).
 //!
 //! The promise: where edges meet only at ends and each hole has an edge below it, the polygons of the definition (`ArePolygons` of `geom`).
 #![tactic(auto)]
 
 mod angle;
 mod below;
+mod closing;
+mod closing_edges;
 mod column;
 mod cut;
 mod cut_ring;
@@ -20,9 +25,9 @@ mod hole;
 mod ladder;
 mod leaving;
 mod listing;
+mod lone_shells;
 mod nearest;
 mod number;
-mod one_ring;
 mod piece;
 mod polygon;
 mod result_rings;
@@ -32,5 +37,6 @@ mod stripes;
 mod successor;
 mod written;
 
-pub use polygon::polygons;
+pub use closing::first_open;
+pub use polygon::{polygons, polygons_along};
 pub use result_rings::{ResultRings, rings_in_parts};

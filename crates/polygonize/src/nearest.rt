@@ -11,17 +11,18 @@
 //! at some log n times.
 
 ghost use Rattle.std.specs.Prelude.{◌≡◌, ℕ, ◌<◌, ◌≤◌, All, Contains, IfOk, IfSome, IsTrue, OnOk, length, slice_range};
-ghost use Rattle.geom.specs.Limit.{AreInLimit, InLimit};
+ghost use Rattle.geom.specs.Limit.{InLimit};
 ghost use Rattle.polygonize.specs.Below.{AreGapsBelow, AreKnown, AreNearer, AreNearerSpanning, IsAsNear, IsGapOf};
 ghost use Rattle.polygonize.specs.Column.{AreColumnsOf, IsIn, StandFromLeft};
 ghost use Rattle.polygonize.specs.Ladder.{IsLadder};
 ghost use Rattle.polygonize.specs.Next.{edge_at};
 
 use crate::below::{Gap, nearer, nearest_among};
+use crate::closing_edges::ClosingEdges;
 use crate::column::{Columns, columns_of, meeting};
 use crate::ladder::{highest_below, is_ladder, spanning};
 use crate::short::add_short;
-use geom::{DirectedEdge, NoMemory, Pt};
+use geom::{NoMemory, Pt};
 use hands::{Part, even_parts, joined, map_parts};
 use std::alloc::Allocator;
 use std::thread::Threads;
@@ -31,19 +32,18 @@ const FEW: usize = 4;
 
 /// The gap to the nearest of some edges below the point just left of v, by a binary search where they are a ladder.
 fn nearest_of(
-    edges: &[DirectedEdge],
+    edges: ClosingEdges<'_>,
     numbers: &[usize],
     columns: Columns,
     is_ladder: bool,
     v: Pt,
 ) -> Option<Gap>
-    requires edges_in { All (λ d. AreInLimit d.from d.to) edges.now }
     requires v_in { InLimit v }
-    requires inside { All (λ k. k < length edges.now) numbers.now }
-    requires ladder { IsTrue is_ladder → IsLadder edges.now columns numbers.now }
+    requires inside { All (λ k. k < length edges.list.now) numbers.now }
+    requires ladder { IsTrue is_ladder → IsLadder edges.list.now columns numbers.now }
     requires column { IsTrue is_ladder → IsIn columns v }
-    ensures known { IfSome result (λ g. IsGapOf edges.now v g) }
-    ensures near { (k : ℕ) → Contains numbers.now k → IsAsNear (edge_at edges.now k) v result }
+    ensures known { IfSome result (λ g. IsGapOf edges.entry.list.now v g) }
+    ensures near { (k : ℕ) → Contains numbers.now k → IsAsNear (edge_at edges.entry.list.now k) v result }
 {
     if is_ladder {
         highest_below(edges, numbers, v)
@@ -54,7 +54,7 @@ fn nearest_of(
 
 /// Takes some edges into account, for each of the vertices that are asked for.
 fn add_edges(
-    edges: &[DirectedEdge],
+    edges: ClosingEdges<'_>,
     vertices: &[Pt],
     asked: &[usize],
     numbers: &[usize],
@@ -62,15 +62,14 @@ fn add_edges(
     is_ladder: bool,
     best: &mut [Option<Gap>],
 )
-    requires edges_in { All (λ d. AreInLimit d.from d.to) edges.now }
     requires vertices_in { All InLimit vertices.now }
     requires asked_in { All (λ r. r < length vertices.now) asked.now }
-    requires numbers_in { All (λ k. k < length edges.now) numbers.now }
+    requires numbers_in { All (λ k. k < length edges.list.now) numbers.now }
     requires same_length { length best.old ≡ length vertices.now }
-    requires known { AreKnown edges.now vertices.now best.old }
-    requires ladder { IsTrue is_ladder → IsLadder edges.now columns numbers.now }
+    requires known { AreKnown edges.list.now vertices.now best.old }
+    requires ladder { IsTrue is_ladder → IsLadder edges.list.now columns numbers.now }
     requires columns { IsTrue is_ladder → AreColumnsOf vertices.now asked.now columns }
-    ensures { AreNearer edges.now vertices.now asked.now numbers.now best.old best.new }
+    ensures { AreNearer edges.entry.list.now vertices.now asked.now numbers.now best.old best.new }
 {
     for place in asked {
         let found = nearest_of(edges, numbers, columns, is_ladder, vertices[*place]);
@@ -81,21 +80,20 @@ fn add_edges(
 /// Takes the edges that span the columns into account, for each of the vertices that are asked for.
 fn add_spanning<A: Allocator + Copy>(
     alloc: A,
-    edges: &[DirectedEdge],
+    edges: ClosingEdges<'_>,
     vertices: &[Pt],
     asked: &[usize],
     numbers: &[usize],
     columns: Columns,
     best: &mut [Option<Gap>],
 ) -> Result<(), NoMemory>
-    requires edges_in { All (λ d. AreInLimit d.from d.to) edges.now }
     requires vertices_in { All InLimit vertices.now }
     requires asked_in { All (λ r. r < length vertices.now) asked.now }
-    requires numbers_in { All (λ k. k < length edges.now) numbers.now }
+    requires numbers_in { All (λ k. k < length edges.list.now) numbers.now }
     requires same_length { length best.old ≡ length vertices.now }
-    requires known { AreKnown edges.now vertices.now best.old }
+    requires known { AreKnown edges.list.now vertices.now best.old }
     requires columns { AreColumnsOf vertices.now asked.now columns }
-    ensures { OnOk result (AreNearerSpanning edges.now vertices.now asked.now numbers.now columns best.old best.new) }
+    ensures { OnOk result (AreNearerSpanning edges.entry.list.now vertices.now asked.now numbers.now columns best.old best.new) }
 {
     let ladder = spanning(alloc, edges, numbers, columns)?;
     let ordered = is_ladder(edges, &ladder, columns);
@@ -106,19 +104,18 @@ fn add_spanning<A: Allocator + Copy>(
 /// Takes edges into account, for each of the vertices that are asked for.
 fn add<A: Allocator + Copy>(
     alloc: A,
-    edges: &[DirectedEdge],
+    edges: ClosingEdges<'_>,
     vertices: &[Pt],
     asked: &[usize],
     numbers: &[usize],
     best: &mut [Option<Gap>],
 ) -> Result<(), NoMemory>
-    requires edges_in { All (λ d. AreInLimit d.from d.to) edges.now }
     requires vertices_in { All InLimit vertices.now }
     requires asked_in { All (λ r. r < length vertices.now) asked.now }
-    requires numbers_in { All (λ k. k < length edges.now) numbers.now }
+    requires numbers_in { All (λ k. k < length edges.list.now) numbers.now }
     requires same_length { length best.old ≡ length vertices.now }
-    requires known { AreKnown edges.now vertices.now best.old }
-    ensures { OnOk result (AreNearer edges.now vertices.now asked.now numbers.now best.old best.new) }
+    requires known { AreKnown edges.list.now vertices.now best.old }
+    ensures { OnOk result (AreNearer edges.entry.list.now vertices.now asked.now numbers.now best.old best.new) }
 {
     let columns = columns_of(vertices, asked);
     if asked.len() <= FEW || numbers.is_empty() {
@@ -149,13 +146,12 @@ fn numbers_below<A: Allocator>(alloc: A, bound: usize) -> Result<Vec<usize, A>, 
 /// For each vertex the gap to the nearest edge below the point just left of it.
 pub fn gaps_below<A: Allocator + Copy>(
     alloc: A,
-    edges: &[DirectedEdge],
+    edges: ClosingEdges<'_>,
     vertices: &[Pt],
 ) -> Result<Vec<Option<Gap>, A>, NoMemory>
-    requires edges_in { All (λ d. AreInLimit d.from d.to) edges.now }
     requires vertices_in { All InLimit vertices.now }
     requires from_left { StandFromLeft vertices.now }
-    ensures { IfOk result (λ best. AreGapsBelow edges.now vertices.now best.items) }
+    ensures { IfOk result (λ best. AreGapsBelow edges.entry.list.now vertices.now best.items) }
 {
     if vertices.is_empty() {
         return Ok(Vec::new(alloc));
@@ -172,13 +168,12 @@ pub fn gaps_below_in_parts<R: Threads + Sync, A: Allocator + Copy + Send + Sync>
     rt: &R,
     alloc: A,
     parts: usize,
-    edges: &[DirectedEdge],
+    edges: ClosingEdges<'_>,
     vertices: &[Pt],
 ) -> Result<Vec<Option<Gap>, A>, NoMemory>
-    requires edges_in { All (λ d. AreInLimit d.from d.to) edges.now }
     requires vertices_in { All InLimit vertices.now }
     requires from_left { StandFromLeft vertices.now }
-    ensures { IfOk result (λ best. AreGapsBelow edges.now vertices.now best.items) }
+    ensures { IfOk result (λ best. AreGapsBelow edges.entry.list.now vertices.now best.items) }
 {
     let all = even_parts(alloc, vertices.len(), parts)?;
     let lists = map_parts(
@@ -186,8 +181,8 @@ pub fn gaps_below_in_parts<R: Threads + Sync, A: Allocator + Copy + Send + Sync>
         alloc,
         &all,
         |part: Part| -> Result<Vec<Option<Gap>, A>, NoMemory>
-            requires { All (λ d. AreInLimit d.from d.to) edges.now × All InLimit vertices.now × StandFromLeft vertices.now × (part.from ≤ part.past) × (part.past ≤ length vertices.now) }
-            ensures { IfOk result (λ best. AreGapsBelow edges.entry.now (slice_range vertices.entry.now part.from part.past) best.items) }
+            requires { All InLimit vertices.now × StandFromLeft vertices.now × (part.from ≤ part.past) × (part.past ≤ length vertices.now) }
+            ensures { IfOk result (λ best. AreGapsBelow edges.entry.list.now (slice_range vertices.entry.now part.from part.past) best.items) }
         { gaps_below(alloc, edges, &vertices[part.from..part.past]) },
     )?;
     Ok(joined(alloc, lists)?)

@@ -1,23 +1,22 @@
 //! Numbers of vertices: that of a vertex is the place of the first edge that leaves it, so numbers are ordered as points are.
 
 ghost use Rattle.std.specs.Prelude.{◌≡◌, ◌<◌, All, IfOk, length, map, slice_index};
-ghost use Rattle.geom.specs.Directed.{AreDirected};
 ghost use Rattle.polygonize.specs.Next.{first_vertex, ring_of};
 ghost use Rattle.polygonize.specs.Number.{AreNumbers, IsLastNumber, IsNumber};
 
 use crate::angle::are_same;
+use crate::closing_edges::ClosingEdges;
 use crate::cycle::Cycle;
 use geom::{DirectedEdge, NoMemory, Pt};
 use std::alloc::{AllocError, Allocator};
 
 /// The number of the vertex where the edge at i starts, from that of the edge before it.
-fn number_at(edges: &[DirectedEdge], last: usize, i: usize) -> usize
-    requires directed { AreDirected edges.now }
-    requires inside { i < length edges.now }
-    requires last { IsLastNumber edges.now i last }
-    ensures { IsNumber edges.now i result }
+fn number_at(edges: ClosingEdges<'_>, last: usize, i: usize) -> usize
+    requires inside { i < length edges.list.now }
+    requires last { IsLastNumber edges.list.now i last }
+    ensures { IsNumber edges.entry.list.now i result }
 {
-    if are_same(edges[last].from, edges[i].from) {
+    if are_same(edges.list[last].from, edges.list[i].from) {
         last
     } else {
         i
@@ -27,14 +26,13 @@ fn number_at(edges: &[DirectedEdge], last: usize, i: usize) -> usize
 /// For each edge the number of the vertex where it starts.
 pub fn start_numbers<A: Allocator + Copy>(
     alloc: A,
-    edges: &[DirectedEdge],
+    edges: ClosingEdges<'_>,
 ) -> Result<Vec<usize, A>, NoMemory>
-    requires { AreDirected edges.now }
-    ensures { IfOk result (λ numbers. AreNumbers edges.now numbers.items) }
+    ensures { IfOk result (λ numbers. AreNumbers edges.entry.list.now numbers.items) }
 {
-    let mut numbers = Vec::with_capacity(alloc, edges.len())?;
+    let mut numbers = Vec::with_capacity(alloc, edges.list.len())?;
     let mut last = 0;
-    for i in 0..edges.len() {
+    for i in 0..edges.list.len() {
         last = number_at(edges, last, i);
         numbers.push(last)?;
     }

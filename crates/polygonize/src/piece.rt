@@ -1,14 +1,13 @@
 //! The pieces of a ring as they are written.
 
 ghost use Rattle.std.specs.Prelude.{◌↔◌, ◌<◌, ◌≤◌, All, IsTrue, length, slice_index};
-ghost use Rattle.geom.specs.Limit.{AreInLimit};
 ghost use Rattle.polygonize.specs.Number.{IsVertex};
 ghost use Rattle.polygonize.specs.Piece.{ComesLater, IsFirstAmong};
 ghost use Rattle.polygonize.specs.Written.{IsSound, IsTurned};
 
 use crate::angle::side_of;
+use crate::closing_edges::ClosingEdges;
 use crate::cycle::Cycle;
-use geom::DirectedEdge;
 use std::alloc::Allocator;
 
 /// Where a ring has its least vertex.
@@ -38,29 +37,31 @@ pub fn turned<A: Allocator>(ring: Cycle<A>) -> Cycle<A>
 }
 
 /// Whether a piece comes back to the ring's least vertex, and with a greater angle than another one that does.
-fn comes_later(edges: &[DirectedEdge], least: usize, piece: &[usize], other: &[usize]) -> bool
-    requires edges_in { All (λ d. AreInLimit d.from d.to) edges.now }
-    requires least { IsVertex edges.now least }
-    requires sound { IsSound edges.now piece.now }
-    requires other_sound { IsSound edges.now other.now }
-    ensures { IsTrue result ↔ ComesLater edges.now least piece.now other.now }
+fn comes_later(edges: ClosingEdges<'_>, least: usize, piece: &[usize], other: &[usize]) -> bool
+    requires least { IsVertex edges.list.now least }
+    requires sound { IsSound edges.list.now piece.now }
+    requires other_sound { IsSound edges.list.now other.now }
+    ensures { IsTrue result ↔ ComesLater edges.entry.list.now least piece.now other.now }
 {
     if piece[0] != least {
         return false;
     }
-    let last = edges[piece[piece.len() - 1]].from;
-    let other_last = edges[other[other.len() - 1]].from;
-    other[0] != least || side_of(edges[least].from, other_last, last) > 0
+    let last = edges.list[piece[piece.len() - 1]].from;
+    let other_last = edges.list[other[other.len() - 1]].from;
+    other[0] != least || side_of(edges.list[least].from, other_last, last) > 0
 }
 
 /// Of the pieces of a ring that begin at its least vertex, that which comes back to it with the greatest angle.
-pub fn first_piece<A: Allocator>(edges: &[DirectedEdge], least: usize, pieces: &[Cycle<A>]) -> usize
-    requires edges_in { All (λ d. AreInLimit d.from d.to) edges.now }
-    requires least { IsVertex edges.now least }
+pub fn first_piece<A: Allocator>(
+    edges: ClosingEdges<'_>,
+    least: usize,
+    pieces: &[Cycle<A>],
+) -> usize
+    requires least { IsVertex edges.list.now least }
     requires some { 0 < length pieces.now }
-    requires sound { All (IsSound edges.now) pieces.now }
+    requires sound { All (IsSound edges.list.now) pieces.now }
     ensures inside { result < length pieces.now }
-    ensures first { IsFirstAmong edges.now least pieces.now result }
+    ensures first { IsFirstAmong edges.entry.list.now least pieces.now result }
 {
     let mut best = 0;
     for i in 0..pieces.len() {

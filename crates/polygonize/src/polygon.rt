@@ -9,12 +9,12 @@ ghost use Rattle.geom.specs.NodedEdges.{AreNodedEdges};
 ghost use Rattle.geom.specs.Rings.{Closes};
 ghost use Rattle.polygonize.specs.Grouped.{AreGrouped, BeginsWithShell};
 ghost use Rattle.polygonize.specs.Next.{ring_of};
-ghost use Rattle.polygonize.specs.OneRing.{without_holes};
 ghost use Rattle.polygonize.specs.Placed.{AreAllWritten, points, rings_in, stands_as_hole};
 ghost use Rattle.polygonize.specs.Written.{AreSimple, HaveEdges, IsCanonical, IsSound};
 
+use crate::closing_edges::ClosingEdges;
+use crate::lone_shells::lone_shells;
 use crate::number::points_of;
-use crate::one_ring::one_ring;
 use crate::successor::successors;
 use crate::written::{WrittenRing, written_rings};
 use geom::{Directed, DirectedEdge, NoMemory, Polygon, SimpleRing};
@@ -79,43 +79,28 @@ fn grouped<A: Allocator + Copy>(
 /// The polygons of directed edges by the rings as they are written, in canonical order.
 fn polygons_of<A: Allocator + Copy>(
     alloc: A,
-    edges: &[DirectedEdge],
+    edges: ClosingEdges<'_>,
     mut written: Vec<WrittenRing<A>, A>,
 ) -> Result<Vec<Polygon<A>, A>, NoMemory>
-    requires closes { Closes edges.now }
-    requires edges { HaveEdges edges.now (rings_in written.items) }
-    requires sound { All (IsCanonical edges.now) (rings_in written.items) }
-    requires written { AreNodedEdges edges.now → HasGroundedRings edges.now → AreAllWritten edges.now written.items }
-    ensures polygons { AreNodedEdges edges.now → HasGroundedRings edges.now → IfOk result (λ found. ArePolygons edges.now found.items) }
-    ensures each_edge { IfOk result (λ found. HaveEachEdge edges.now found.items) }
+    requires edges { HaveEdges edges.list.now (rings_in written.items) }
+    requires sound { All (IsCanonical edges.list.now) (rings_in written.items) }
+    requires written { AreNodedEdges edges.list.now → HasGroundedRings edges.list.now → AreAllWritten edges.list.now written.items }
+    ensures polygons { AreNodedEdges edges.entry.list.now → HasGroundedRings edges.entry.list.now → IfOk result (λ found. ArePolygons edges.entry.list.now found.items) }
+    ensures each_edge { IfOk result (λ found. HaveEachEdge edges.entry.list.now found.items) }
     ensures simple { IfOk result (λ found. AreSimple (written_rings found.items)) }
     ensures least { IfOk result (λ found. All (λ ring. IsLeastRotation ring ring) (written_rings found.items)) }
 {
     written.sort_unstable_by_key(|ring| ring.place());
-    grouped(alloc, edges, &written)
-}
-
-/// The polygon of a ring alone.
-fn one_polygon<A: Allocator + Copy>(
-    alloc: A,
-    ring: SimpleRing<A>,
-) -> Result<Vec<Polygon<A>, A>, NoMemory>
-    ensures { IfOk result (λ found. found.items ≡ without_holes ring ∷ []) }
-{
-    let mut polygons = Vec::with_capacity(alloc, 1)?;
-    polygons.push(Polygon::new(ring, Vec::new(alloc)))?;
-    Ok(polygons)
+    grouped(alloc, edges.list, &written)
 }
 
 /// The polygons of directed edges by the cycles of their next edges.
 fn polygons_by_cycles<A: Allocator + Copy>(
     alloc: A,
-    edges: &[DirectedEdge],
+    edges: ClosingEdges<'_>,
 ) -> Result<Vec<Polygon<A>, A>, NoMemory>
-    requires closes { Closes edges.now }
-    requires in_limit { All (λ d. AreInLimit d.from d.to) edges.now }
-    ensures polygons { AreNodedEdges edges.now → HasGroundedRings edges.now → IfOk result (λ found. ArePolygons edges.now found.items) }
-    ensures each_edge { IfOk result (λ found. HaveEachEdge edges.now found.items) }
+    ensures polygons { AreNodedEdges edges.entry.list.now → HasGroundedRings edges.entry.list.now → IfOk result (λ found. ArePolygons edges.entry.list.now found.items) }
+    ensures each_edge { IfOk result (λ found. HaveEachEdge edges.entry.list.now found.items) }
     ensures simple { IfOk result (λ found. AreSimple (written_rings found.items)) }
     ensures least { IfOk result (λ found. All (λ ring. IsLeastRotation ring ring) (written_rings found.items)) }
 {
@@ -129,6 +114,25 @@ fn polygons_by_cycles<A: Allocator + Copy>(
 /// That they are the polygons of the edges has two premises: the edges are noded, so that they meet at ends alone, and the rings are
 /// grounded, so that below each hole lies a nearest edge, which begins further left. The directed edges of an operation's result
 /// close and meet both, by `points_law`.
+pub fn polygons_along<A: Allocator + Copy>(
+    alloc: A,
+    edges: &[DirectedEdge],
+) -> Result<Vec<Polygon<A>, A>, NoMemory>
+    requires closes { Closes edges.now }
+    requires in_limit { All (λ d. AreInLimit d.from d.to) edges.now }
+    ensures polygons { AreNodedEdges edges.now → HasGroundedRings edges.now → IfOk result (λ found. ArePolygons edges.now found.items) }
+    ensures each_edge { IfOk result (λ found. HaveEachEdge edges.now found.items) }
+    ensures simple { IfOk result (λ found. AreSimple (written_rings found.items)) }
+    ensures least { IfOk result (λ found. All (λ ring. IsLeastRotation ring ring) (written_rings found.items)) }
+{
+    let closing = ClosingEdges { list: edges };
+    match lone_shells(alloc, closing)? {
+        Some(shells) => Ok(shells),
+        None => polygons_by_cycles(alloc, closing),
+    }
+}
+
+/// The same of directed edges in their type.
 pub fn polygons<A: Allocator + Copy>(
     alloc: A,
     directed: &Directed<A>,
@@ -140,9 +144,5 @@ pub fn polygons<A: Allocator + Copy>(
     ensures simple { IfOk result (λ found. AreSimple (written_rings found.items)) }
     ensures least { IfOk result (λ found. All (λ ring. IsLeastRotation ring ring) (written_rings found.items)) }
 {
-    let edges = directed.edges();
-    match one_ring(alloc, edges)? {
-        Some(ring) => one_polygon(alloc, ring),
-        None => polygons_by_cycles(alloc, edges),
-    }
+    polygons_along(alloc, directed.edges())
 }

@@ -17,10 +17,11 @@ ghost use Rattle.polygonize.specs.Placed.{AreTables};
 ghost use Rattle.polygonize.specs.Told.{AreToldRings, ring_told, told_at};
 ghost use Rattle.polygonize.specs.Written.{IsSound};
 
+use crate::closing_edges::ClosingEdges;
 use crate::polygon::simple_ring;
 use crate::successor::{successors, successors_in_parts};
 use crate::written::{Tables, WrittenRing, tables_of, written_rings_in_parts};
-use geom::{Directed, DirectedEdge, NoMemory, SimpleRing};
+use geom::{Directed, NoMemory, SimpleRing};
 use hands::join;
 use std::alloc::Allocator;
 use std::marker::Model;
@@ -90,28 +91,27 @@ fn next_and_tables<R: Threads + Sync, A: Allocator + Copy + Send + Sync>(
     rt: &R,
     alloc: A,
     parts: usize,
-    edges: &[DirectedEdge],
+    edges: ClosingEdges<'_>,
 ) -> (Result<Vec<usize, A>, NoMemory>, Result<Tables<A>, NoMemory>)
-    requires closes { Closes edges.now }
-    requires edges_in { All (λ d. AreInLimit d.from d.to) edges.now }
-    ensures next { IfOk result.0 (λ next. AreNext edges.now next.items) }
+    ensures next { IfOk result.0 (λ next. AreNext edges.entry.list.now next.items) }
     ensures one_to_one { IfOk result.0 (λ next. IsOneToOne next.items) }
-    ensures tables { IfOk result.1 (λ t. AreTables edges.now t) }
+    ensures tables { IfOk result.1 (λ t. AreTables edges.entry.list.now t) }
 {
     if parts < BOTH {
         return (successors(alloc, edges), tables_of(alloc, edges));
     }
+    let list = edges.list;
     join(
         rt,
         BOTH,
         || -> Result<Vec<usize, A>, NoMemory>
-            requires { IsSync R.row × IsSend A.row × IsSync A.row × (2 ≤ parts) × Closes edges.now × All (λ d. AreInLimit d.from d.to) edges.now }
-            ensures { IfOk result (λ next. AreNext edges.entry.now next.items × IsOneToOne next.items) }
-        { successors_in_parts(rt, alloc, parts - 1, edges) },
+            requires { IsSync R.row × IsSend A.row × IsSync A.row × (2 ≤ parts) × ∥ Closes list.now ∥₁ × All (λ d. AreInLimit d.from d.to) list.now }
+            ensures { IfOk result (λ next. AreNext list.entry.now next.items × IsOneToOne next.items) }
+        { successors_in_parts(rt, alloc, parts - 1, ClosingEdges { list }) },
         || -> Result<Tables<A>, NoMemory>
-            requires { IsSync A.row × Closes edges.now }
-            ensures { IfOk result (λ t. AreTables edges.entry.now t) }
-        { tables_of(alloc, edges) },
+            requires { IsSync A.row × ∥ Closes list.now ∥₁ × All (λ d. AreInLimit d.from d.to) list.now }
+            ensures { IfOk result (λ t. AreTables list.entry.now t) }
+        { tables_of(alloc, ClosingEdges { list }) },
     )
 }
 
@@ -126,7 +126,9 @@ pub fn rings_in_parts<R: Threads + Sync, A: Allocator + Copy + Send + Sync>(
     requires in_limit { All (λ d. AreInLimit d.from d.to) directed }
     ensures { AreNodedEdges directed → HasGroundedRings directed → IfOk result (λ rings. AreToldRings directed rings) }
 {
-    let edges = directed.edges();
+    let edges = ClosingEdges {
+        list: directed.edges(),
+    };
     let (next, tables) = next_and_tables(rt, alloc, parts, edges);
     let mut written = written_rings_in_parts(rt, alloc, parts, edges, &next?, tables?)?;
     written.sort_unstable_by_key(|ring| ring.place());

@@ -10,6 +10,7 @@ ghost use Rattle.polygonize.specs.Below.{AreKnown, AreNearerWithin, AreTakenBut,
 ghost use Rattle.polygonize.specs.Column.{IsIn, StandFromLeft, StandsOver};
 
 use crate::below::{Gap, gap_below, nearer};
+use crate::closing_edges::ClosingEdges;
 use crate::column::{Columns, meets};
 use geom::{DirectedEdge, NoMemory, Pt};
 use hands::Part;
@@ -87,23 +88,22 @@ fn places_over(vertices: &[Pt], all: Columns, edge: DirectedEdge) -> Option<Part
 
 /// Takes an edge into account, for the vertices of a part.
 fn add_edge(
-    edges: &[DirectedEdge],
+    edges: ClosingEdges<'_>,
     number: usize,
     vertices: &[Pt],
     part: Part,
     best: &mut [Option<Gap>],
 )
-    requires edges_in { All (λ d. AreInLimit d.from d.to) edges.now }
     requires vertices_in { All InLimit vertices.now }
-    requires number_in { number < length edges.now }
+    requires number_in { number < length edges.list.now }
     requires order { part.from ≤ part.past }
     requires part_in { part.past ≤ length vertices.now }
     requires same_length { length best.old ≡ length vertices.now }
-    requires known { AreKnown edges.now vertices.now best.old }
-    ensures { AreNearerWithin edges.now vertices.now number part.from part.past best.old best.new }
+    requires known { AreKnown edges.list.now vertices.now best.old }
+    ensures { AreNearerWithin edges.entry.list.now vertices.now number part.from part.past best.old best.new }
 {
     for place in part.from..part.past {
-        let found = gap_below(edges[number], number, vertices[place]);
+        let found = gap_below(edges.list[number], number, vertices[place]);
         best[place] = nearer(best[place], found);
     }
 }
@@ -111,23 +111,22 @@ fn add_edge(
 /// Takes the edges over few vertices into account, and answers the numbers of the others.
 pub fn add_short<A: Allocator>(
     alloc: A,
-    edges: &[DirectedEdge],
+    edges: ClosingEdges<'_>,
     vertices: &[Pt],
     best: &mut [Option<Gap>],
 ) -> Result<Vec<usize, A>, NoMemory>
-    requires edges_in { All (λ d. AreInLimit d.from d.to) edges.now }
     requires vertices_in { All InLimit vertices.now }
     requires from_left { StandFromLeft vertices.now }
     requires some { 0 < length vertices.now }
     requires same_length { length best.old ≡ length vertices.now }
-    requires known { AreKnown edges.now vertices.now best.old }
-    ensures inside { IfOk result (λ left. All (λ k. k < length edges.now) left.items) }
-    ensures taken { IfOk result (λ left. AreTakenBut edges.now vertices.now (length edges.now) left.items best.old best.new) }
+    requires known { AreKnown edges.list.now vertices.now best.old }
+    ensures inside { IfOk result (λ left. All (λ k. k < length edges.entry.list.now) left.items) }
+    ensures taken { IfOk result (λ left. AreTakenBut edges.entry.list.now vertices.now (length edges.entry.list.now) left.items best.old best.new) }
 {
     let all = all_columns(vertices);
     let mut left = Vec::new(alloc);
-    for number in 0..edges.len() {
-        match places_over(vertices, all, edges[number]) {
+    for number in 0..edges.list.len() {
+        match places_over(vertices, all, edges.list[number]) {
             Some(part) => add_edge(edges, number, vertices, part, best),
             None => left.push(number)?,
         }

@@ -7,11 +7,11 @@
 //! The stripes say where to look, and no more: what they say is checked, and where it is wrong all edges are looked at.
 
 ghost use Rattle.std.specs.Prelude.{◌≡◌, ◌^◌, ◌<◌, ◌≤◌, IsTrue, length};
-ghost use Rattle.geom.specs.Directed.{AreDirected};
 ghost use Rattle.polygonize.specs.Clockwise.{less};
 ghost use Rattle.polygonize.specs.Leaving.{IsFirstAt, IsNoneAfter, IsNoneBefore};
 
 use crate::angle::is_less;
+use crate::closing_edges::ClosingEdges;
 use geom::{DirectedEdge, NoMemory, Pt};
 use std::alloc::Allocator;
 
@@ -92,37 +92,34 @@ fn is_at_lesser(d: &DirectedEdge, v: Pt) -> bool
 }
 
 /// Whether all edges before a place leave lesser vertices.
-fn is_none_before(edges: &[DirectedEdge], v: Pt, place: usize) -> bool
-    requires directed { AreDirected edges.now }
-    requires inside { place ≤ length edges.now }
-    ensures { IsTrue result → IsNoneBefore edges.now v place }
+fn is_none_before(edges: ClosingEdges<'_>, v: Pt, place: usize) -> bool
+    requires { place ≤ length edges.list.now }
+    ensures { IsTrue result → IsNoneBefore edges.entry.list.now v place }
 {
-    place == 0 || is_at_lesser(&edges[place - 1], v)
+    place == 0 || is_at_lesser(&edges.list[place - 1], v)
 }
 
 /// Whether no edge from a place on leaves a lesser vertex.
-fn is_none_after(edges: &[DirectedEdge], v: Pt, place: usize) -> bool
-    requires directed { AreDirected edges.now }
-    requires inside { place ≤ length edges.now }
-    ensures { IsTrue result → IsNoneAfter edges.now v place }
+fn is_none_after(edges: ClosingEdges<'_>, v: Pt, place: usize) -> bool
+    requires { place ≤ length edges.list.now }
+    ensures { IsTrue result → IsNoneAfter edges.entry.list.now v place }
 {
-    place == edges.len() || !is_at_lesser(&edges[place], v)
+    place == edges.list.len() || !is_at_lesser(&edges.list[place], v)
 }
 
 /// The place of the first edge that leaves no lesser vertex, between two places.
-fn first_between(edges: &[DirectedEdge], v: Pt, from: usize, to: usize) -> usize
-    requires directed { AreDirected edges.now }
+fn first_between(edges: ClosingEdges<'_>, v: Pt, from: usize, to: usize) -> usize
     requires order { from ≤ to }
-    requires inside { to ≤ length edges.now }
-    requires before { IsNoneBefore edges.now v from }
-    requires after { IsNoneAfter edges.now v to }
-    ensures { IsFirstAt (λ d. d.from) edges.now v result }
+    requires inside { to ≤ length edges.list.now }
+    requires before { IsNoneBefore edges.list.now v from }
+    requires after { IsNoneAfter edges.list.now v to }
+    ensures { IsFirstAt (λ d. d.from) edges.entry.list.now v result }
 {
     let mut low = from;
     let mut high = to;
     while low < high {
         let middle = low + (high - low) / 2;
-        if is_at_lesser(&edges[middle], v) {
+        if is_at_lesser(&edges.list[middle], v) {
             low = middle + 1;
         } else {
             high = middle;
@@ -132,23 +129,21 @@ fn first_between(edges: &[DirectedEdge], v: Pt, from: usize, to: usize) -> usize
 }
 
 /// The place of the first edge that leaves no lesser vertex, looked for among all.
-pub fn first_leaving(edges: &[DirectedEdge], v: Pt) -> usize
-    requires { AreDirected edges.now }
-    ensures { IsFirstAt (λ d. d.from) edges.now v result }
+pub fn first_leaving(edges: ClosingEdges<'_>, v: Pt) -> usize
+    ensures { IsFirstAt (λ d. d.from) edges.entry.list.now v result }
 {
-    first_between(edges, v, 0, edges.len())
+    first_between(edges, v, 0, edges.list.len())
 }
 
 /// The place of the first edge that leaves no lesser vertex.
-pub fn first_at<A: Allocator + Copy>(edges: &[DirectedEdge], stripes: &Stripes<A>, v: Pt) -> usize
-    requires { AreDirected edges.now }
-    ensures { IsFirstAt (λ d. d.from) edges.now v result }
+pub fn first_at<A: Allocator + Copy>(edges: ClosingEdges<'_>, stripes: &Stripes<A>, v: Pt) -> usize
+    ensures { IsFirstAt (λ d. d.from) edges.entry.list.now v result }
 {
     let stripe = stripes.stripe_of(v);
-    let from = stripes.begin_of(stripe, edges.len());
-    let to = stripes.begin_of(stripe + 1, edges.len());
+    let from = stripes.begin_of(stripe, edges.list.len());
+    let to = stripes.begin_of(stripe + 1, edges.list.len());
     if from <= to
-        && to <= edges.len()
+        && to <= edges.list.len()
         && is_none_before(edges, v, from)
         && is_none_after(edges, v, to)
     {

@@ -1,11 +1,9 @@
 //! The rings of the result as they are written, each with its place in the order of the text.
 
 ghost use Rattle.std.specs.Prelude.{◌≡◌, ◌<◌, ◌≤◌, ◌==◌, ◌||◌, ◌++◌, ◌∷◌, [], None, All, AllPairs, IfOk, IfSome, OnOk, false, is_some, length, not, slice_index_or, true, unwrap_or};
-ghost use Rattle.geom.specs.Directed.{AreDirected};
 ghost use Rattle.geom.specs.Holes.{AreGrounded, HasGroundedRings, IsHole};
-ghost use Rattle.geom.specs.Limit.{AreInLimit};
 ghost use Rattle.geom.specs.NodedEdges.{AreNodedEdges};
-ghost use Rattle.geom.specs.Rings.{AreRings, Closes};
+ghost use Rattle.geom.specs.Rings.{AreRings};
 ghost use Rattle.polygonize.specs.Below.{AreFoundBelow, IsFoundBelow, StandAt};
 ghost use Rattle.polygonize.specs.CutRing.{AreCyclesCut, Ascend, IsCycleCut};
 ghost use Rattle.polygonize.specs.Cycle.{Begins, IsOneToOne};
@@ -15,6 +13,7 @@ ghost use Rattle.polygonize.specs.Placed.{AreAllWritten, AreTables, AreWritten, 
 ghost use Rattle.polygonize.specs.Written.{AreAdded, ArePlaces, HasItsEdges, HaveEdges, IsCanonical, IsRingWritten};
 
 use crate::below::Gap;
+use crate::closing_edges::ClosingEdges;
 use crate::cut_ring::{CutRing, cut_rings, cut_rings_in_parts, holes_among};
 use crate::cycle::Cycle;
 use crate::nearest::{gaps_below, gaps_below_in_parts};
@@ -93,13 +92,12 @@ pub struct Tables<A: Allocator> {
 /// The tables for the rings of directed edges.
 pub fn tables_of<A: Allocator + Copy>(
     alloc: A,
-    edges: &[DirectedEdge],
+    edges: ClosingEdges<'_>,
 ) -> Result<Tables<A>, NoMemory>
-    requires { AreDirected edges.now }
-    ensures { IfOk result (λ t. AreTables edges.now t) }
+    ensures { IfOk result (λ t. AreTables edges.entry.list.now t) }
 {
     let numbers = start_numbers(alloc, edges)?;
-    let shell_of = vec![in alloc; None; edges.len()]?;
+    let shell_of = vec![in alloc; None; edges.list.len()]?;
     Ok(Tables { numbers, shell_of })
 }
 
@@ -210,28 +208,27 @@ fn write_ring<A: Allocator>(
 /// hole.
 fn write_cycles<A: Allocator + Copy>(
     alloc: A,
-    edges: &[DirectedEdge],
+    edges: ClosingEdges<'_>,
     cycles: &[Cycle<A>],
     rings: Vec<CutRing<A>, A>,
     below: &[Option<Gap>],
     shell_of: &mut [Option<Opening>],
 ) -> Result<Vec<WrittenRing<A>, A>, NoMemory>
-    requires closes { Closes edges.now }
-    requires cycles { All (ArePlaces edges.now) cycles.now }
-    requires rings { AreRings edges.now (rings_of edges.now cycles.now) }
-    requires cut { AreCyclesCut edges.now cycles.now 0 (length cycles.now) rings.items }
-    requires shells { length shell_of.old ≡ length edges.now }
-    requires found { AreFoundBelow edges.now cycles.now below.now }
-    requires its_edges { All (HasItsEdges edges.now) cycles.now }
-    ensures written { let rings = rings_of edges.now cycles.now in AreNodedEdges edges.now → AreGrounded edges.now rings → IfOk result (λ written. AreWritten edges.now rings written.items) }
-    ensures edges { IfOk result (λ written. HaveEdges edges.now (rings_in written.items)) }
-    ensures sound { IfOk result (λ written. All (IsCanonical edges.now) (rings_in written.items)) }
+    requires cycles { All (ArePlaces edges.list.now) cycles.now }
+    requires rings { AreRings edges.list.now (rings_of edges.list.now cycles.now) }
+    requires cut { AreCyclesCut edges.list.now cycles.now 0 (length cycles.now) rings.items }
+    requires shells { length shell_of.old ≡ length edges.list.now }
+    requires found { AreFoundBelow edges.list.now cycles.now below.now }
+    requires its_edges { All (HasItsEdges edges.list.now) cycles.now }
+    ensures written { let rings = rings_of edges.entry.list.now cycles.now in AreNodedEdges edges.entry.list.now → AreGrounded edges.entry.list.now rings → IfOk result (λ written. AreWritten edges.entry.list.now rings written.items) }
+    ensures edges { IfOk result (λ written. HaveEdges edges.entry.list.now (rings_in written.items)) }
+    ensures sound { IfOk result (λ written. All (IsCanonical edges.entry.list.now) (rings_in written.items)) }
 {
     let mut written = Vec::with_capacity(alloc, cycles.len())?;
     let mut number = 0;
     for ring in rings {
         write_ring(
-            edges,
+            edges.list,
             cycles[number].numbers(),
             ring,
             below[number],
@@ -265,19 +262,17 @@ fn gaps_of_rings<A: Allocator + Copy>(
 /// For each cycle whose ring is a hole the gap to the nearest edge below it.
 fn edges_below<A: Allocator + Copy>(
     alloc: A,
-    edges: &[DirectedEdge],
+    edges: ClosingEdges<'_>,
     cycles: &[Cycle<A>],
     rings: &[CutRing<A>],
 ) -> Result<Vec<Option<Gap>, A>, NoMemory>
-    requires directed { AreDirected edges.now }
-    requires edges_in { All (λ d. AreInLimit d.from d.to) edges.now }
-    requires cycles { All (ArePlaces edges.now) cycles.now }
+    requires cycles { All (ArePlaces edges.list.now) cycles.now }
     requires ascending { AllPairs Begins cycles.now }
-    requires cut { AreCyclesCut edges.now cycles.now 0 (length cycles.now) rings.now }
-    ensures { IfOk result (λ below. AreFoundBelow edges.now cycles.now below.items) }
+    requires cut { AreCyclesCut edges.list.now cycles.now 0 (length cycles.now) rings.now }
+    ensures { IfOk result (λ below. AreFoundBelow edges.entry.list.now cycles.now below.items) }
 {
     let holes = holes_among(alloc, rings)?;
-    let vertices = first_vertices(alloc, edges, cycles, &holes)?;
+    let vertices = first_vertices(alloc, edges.list, cycles, &holes)?;
     let gaps = gaps_below(alloc, edges, &vertices)?;
     gaps_of_rings(alloc, rings.len(), &holes, &gaps)
 }
@@ -287,19 +282,17 @@ fn edges_below_in_parts<R: Threads + Sync, A: Allocator + Copy + Send + Sync>(
     rt: &R,
     alloc: A,
     parts: usize,
-    edges: &[DirectedEdge],
+    edges: ClosingEdges<'_>,
     cycles: &[Cycle<A>],
     rings: &[CutRing<A>],
 ) -> Result<Vec<Option<Gap>, A>, NoMemory>
-    requires directed { AreDirected edges.now }
-    requires edges_in { All (λ d. AreInLimit d.from d.to) edges.now }
-    requires cycles { All (ArePlaces edges.now) cycles.now }
+    requires cycles { All (ArePlaces edges.list.now) cycles.now }
     requires ascending { AllPairs Begins cycles.now }
-    requires cut { AreCyclesCut edges.now cycles.now 0 (length cycles.now) rings.now }
-    ensures { IfOk result (λ below. AreFoundBelow edges.now cycles.now below.items) }
+    requires cut { AreCyclesCut edges.list.now cycles.now 0 (length cycles.now) rings.now }
+    ensures { IfOk result (λ below. AreFoundBelow edges.entry.list.now cycles.now below.items) }
 {
     let holes = holes_among(alloc, rings)?;
-    let vertices = first_vertices(alloc, edges, cycles, &holes)?;
+    let vertices = first_vertices(alloc, edges.list, cycles, &holes)?;
     let gaps = gaps_below_in_parts(rt, alloc, parts, edges, &vertices)?;
     gaps_of_rings(alloc, rings.len(), &holes, &gaps)
 }
@@ -307,16 +300,14 @@ fn edges_below_in_parts<R: Threads + Sync, A: Allocator + Copy + Send + Sync>(
 /// All rings as they are written, in no order yet, by the next edges.
 pub fn written_rings<A: Allocator + Copy>(
     alloc: A,
-    edges: &[DirectedEdge],
+    edges: ClosingEdges<'_>,
     next: &[usize],
 ) -> Result<Vec<WrittenRing<A>, A>, NoMemory>
-    requires closes { Closes edges.now }
-    requires edges_in { All (λ d. AreInLimit d.from d.to) edges.now }
-    requires next { AreNext edges.now next.now }
+    requires next { AreNext edges.list.now next.now }
     requires one_to_one { IsOneToOne next.now }
-    ensures edges { IfOk result (λ written. HaveEdges edges.now (rings_in written.items)) }
-    ensures sound { IfOk result (λ written. All (IsCanonical edges.now) (rings_in written.items)) }
-    ensures written { AreNodedEdges edges.now → HasGroundedRings edges.now → IfOk result (λ written. AreAllWritten edges.now written.items) }
+    ensures edges { IfOk result (λ written. HaveEdges edges.entry.list.now (rings_in written.items)) }
+    ensures sound { IfOk result (λ written. All (IsCanonical edges.entry.list.now) (rings_in written.items)) }
+    ensures written { AreNodedEdges edges.entry.list.now → HasGroundedRings edges.entry.list.now → IfOk result (λ written. AreAllWritten edges.entry.list.now written.items) }
 {
     let Tables {
         numbers,
@@ -333,18 +324,16 @@ pub fn written_rings_in_parts<R: Threads + Sync, A: Allocator + Copy + Send + Sy
     rt: &R,
     alloc: A,
     parts: usize,
-    edges: &[DirectedEdge],
+    edges: ClosingEdges<'_>,
     next: &[usize],
     tables: Tables<A>,
 ) -> Result<Vec<WrittenRing<A>, A>, NoMemory>
-    requires closes { Closes edges.now }
-    requires edges_in { All (λ d. AreInLimit d.from d.to) edges.now }
-    requires next { AreNext edges.now next.now }
+    requires next { AreNext edges.list.now next.now }
     requires one_to_one { IsOneToOne next.now }
-    requires tables { AreTables edges.now tables }
-    ensures edges { IfOk result (λ written. HaveEdges edges.now (rings_in written.items)) }
-    ensures sound { IfOk result (λ written. All (IsCanonical edges.now) (rings_in written.items)) }
-    ensures written { AreNodedEdges edges.now → HasGroundedRings edges.now → IfOk result (λ written. AreAllWritten edges.now written.items) }
+    requires tables { AreTables edges.list.now tables }
+    ensures edges { IfOk result (λ written. HaveEdges edges.entry.list.now (rings_in written.items)) }
+    ensures sound { IfOk result (λ written. All (IsCanonical edges.entry.list.now) (rings_in written.items)) }
+    ensures written { AreNodedEdges edges.entry.list.now → HasGroundedRings edges.entry.list.now → IfOk result (λ written. AreAllWritten edges.entry.list.now written.items) }
 {
     let Tables {
         numbers,

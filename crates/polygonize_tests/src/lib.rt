@@ -7,6 +7,8 @@ pub mod closing;
 #[cfg(test)]
 mod generated;
 #[cfg(test)]
+mod open_edges;
+#[cfg(test)]
 mod parts;
 #[cfg(test)]
 mod rings;

@@ -1,4 +1,4 @@
-//! Edges that are one ring, of few edges and of about as many as are looked at as one ring; and edges that aren't.
+//! Edges whose rings are shells alone, of few edges and of about as many as are looked at so; and edges of other rings.
 
 use crate::again::{first_lost, gives_again};
 use geom::NoMemory;
@@ -13,7 +13,7 @@ const TEXTS: [&str; 9] = [
     "MULTIPOLYGON (((0 1, 1 1, 1 0, 2 0, 2 1, 3 1, 3 2, 2 2, 2 3, 1 3, 1 2, 0 2, 0 1)))",
     // a spiral, whose walk goes back and forth
     "MULTIPOLYGON (((0 0, 9 0, 9 9, 2 9, 2 4, 5 4, 5 6, 4 6, 4 7, 7 7, 7 2, 0 2, 0 0)))",
-    // two rings apart, the first of fewer edges and of more
+    // two shells apart, the first of fewer edges and of more
     "MULTIPOLYGON (((0 0, 2 0, 0 2, 0 0)), ((5 0, 7 0, 7 2, 5 2, 5 0)))",
     "MULTIPOLYGON (((0 0, 2 0, 2 2, 0 2, 0 0)), ((5 0, 7 0, 5 2, 5 0)))",
     // a shell with a hole apart
@@ -55,7 +55,7 @@ fn rings_by_hand(rt: HostRuntime) {
     assert_eq!(rt; first_lost(rt.alloc(), &TEXTS), None);
 }
 
-/// As many edges as are looked at as one ring, and more.
+/// As many edges as are looked at as shells alone, and more.
 #[test]
 fn long_rings(rt: HostRuntime) {
     let given = (gives_strip(rt.alloc(), 512), gives_strip(rt.alloc(), 513));

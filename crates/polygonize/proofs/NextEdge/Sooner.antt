@@ -1,6 +1,6 @@
 -- Turning clockwise: the test and the relation, and that at most one edge is the next.
-use Rattle.std.proofs.Common.{◌≡◌, ◌≢◌, ◌⊎◌, ℕ, ◌<◌, Bool, true, false, cond, not, List, length, refl, sym, ◌∙◌, ap, subst, inl, inr, arith}
-use Rattle.std.specs.Prelude.{ℤ, pos, ◌<ℤ◌, Contains, ◌&&◌, ◌||◌}
+use Rattle.std.proofs.Common.{◌≡◌, ◌≢◌, ◌⊎◌, ℕ, ◌<◌, ◌≤◌, Bool, true, false, cond, not, List, length, refl, sym, ◌∙◌, ap, subst, inl, inr, arith}
+use Rattle.std.specs.Prelude.{ℤ, pos, ◌<ℤ◌, AllPairs, Contains, ◌&&◌, ◌||◌}
 use Rattle.std.specs.Cmp.{IsStrictWeakOrder}
 use Rattle.std.specs.Prelude.{◌==◌, nat_lt}
 use Rattle.std.proofs.lemmas.Bool.Decides.{nat_tests}
@@ -18,7 +18,8 @@ use Rattle.polygonize.specs.declared.leaving.LeavingEdge.{LeavingEdge}
 use Rattle.polygonize.specs.Clockwise.{less, half, met_before, sooner}
 use Rattle.polygonize.specs.Leaving.{leaves_sooner}
 use Rattle.polygonize.specs.Next.{nothing, edge_at}
-use Rattle.polygonize.proofs.NextEdge.Turns.{less_is, is_less, neither_less, one_way, chain}
+use Rattle.polygonize.proofs.NextEdge.Turns.{Half, half_of, less_is, is_less, neither_less, one_way, chain, sooner_true}
+use Rattle.polygonize.proofs.NextEdge.Turns.Half.{right, left, itself}
 use Rattle.polygonize.proofs.CycleRings.{less_not, less_apart}
 
 -- ---- tests and facts
@@ -65,6 +66,28 @@ pub is_sooner : (v a b : Pt) → IsSooner v a b → sooner v a b ≡ true
 is_sooner v a b (inl h) = order_yes (half v a) (half v b) (side v a b) (half_zero v a h.0) (half_one v b h.1)
 is_sooner v a b (inr (inl h, c)) = level_yes (half v a) (half v b) (side v a b) (half_zero v a h.0 ∙ sym (half_zero v b h.1)) c
 is_sooner v a b (inr (inr h, c)) = level_yes (half v a) (half v b) (side v a b) (half_one v a h.0 ∙ sym (half_one v b h.1)) c
+
+-- of neighbours, none of which is v
+pub sooner_is : (v a b : Pt) → v ≢ a → v ≢ b → sooner v a b ≡ true → IsSooner v a b
+sooner_is v a b n o h = by_halves (half_of v a) (half_of v b) (sooner_true (half v a) (half v b) (side v a b) h)
+  where
+    none : (k l m n : ℕ) → k ≡ m → l ≡ n → n ≤ m → k < l → ⊥
+    none k l m n e f g h = omega arith
+
+    unlike : (k l : ℕ) → k ≡ 1 → l ≡ 0 → k ≡ l → ⊥
+    unlike k l e f g = omega arith
+
+    by_halves : Half v a → Half v b → (half v a < half v b) ⊎ ((half v a ≡ half v b) × (side v a b <ℤ pos 0)) → IsSooner v a b
+    by_halves (itself e g) k m = absurd (n e)
+    by_halves (right p e) (itself f g) m = absurd (o f)
+    by_halves (left p e) (itself f g) m = absurd (o f)
+    by_halves (right p e) (left q f) m = inl (p, q)
+    by_halves (right p e) (right q f) (inl m) = absurd (none (half v a) (half v b) 0 0 e f (omega arith) m)
+    by_halves (right p e) (right q f) (inr m) = inr (inl (p, q), m.1)
+    by_halves (left p e) (left q f) (inl m) = absurd (none (half v a) (half v b) 1 1 e f (omega arith) m)
+    by_halves (left p e) (left q f) (inr m) = inr (inr (p, q), m.1)
+    by_halves (left p e) (right q f) (inl m) = absurd (none (half v a) (half v b) 1 0 e f (omega arith) m)
+    by_halves (left p e) (right q f) (inr m) = absurd (unlike (half v a) (half v b) e f m.0)
 
 pub sooner_not : (v a b : Pt) → IsSooner v a b → ¬ (IsSooner v b a)
 sooner_not v a b h k = false≢true (sym (one_way v a b (is_sooner v a b h)) ∙ is_sooner v b a k)
@@ -182,15 +205,18 @@ leaving_order = record { one_way = reverse; chain = through }
         same_at e = elim (or_less s.at t.at p.0) [ inl n ↦ absurd (no_less t.at u.at q.0 (let P : Pt → Type 0 = λ v. IsBefore t.at v in subst P e n)) | inr f ↦ f ]
 
 -- ---- places of different edges
-pub place_same : (ds : List DirectedEdge) → AreDirected ds → (i j : ℕ) → i < length ds → j < length ds → edge_at ds i ≡ edge_at ds j → i ≡ j
-place_same ds a i j h k e = elim (cases_eq i j) [
+pub one_place : (ds : List DirectedEdge) → AllPairs IsDirectedBefore ds → (i j : ℕ) → i < length ds → j < length ds → edge_at ds i ≡ edge_at ds j → i ≡ j
+one_place ds up i j h k e = elim (cases_eq i j) [
   | inl f ↦ f
   | inr n ↦ elim (cases_lt i j) [
-    | inl l ↦ absurd (clash (edge_at ds i) (edge_at ds j) e (a.ascending i j nothing l k))
-    | inr l ↦ absurd (clash (edge_at ds j) (edge_at ds i) (sym e) (a.ascending j i nothing (omega (arith, l, n)) h))
+    | inl l ↦ absurd (clash (edge_at ds i) (edge_at ds j) e (up i j nothing l k))
+    | inr l ↦ absurd (clash (edge_at ds j) (edge_at ds i) (sym e) (up j i nothing (omega (arith, l, n)) h))
   ]
 ]
   where
     clash : (d e : DirectedEdge) → d ≡ e → ¬ (IsDirectedBefore d e)
     clash d e f (inl h) = less_apart d.from e.from h (ap (λ t. t.from) f)
     clash d e f (inr h) = less_apart d.to e.to h.1 (ap (λ t. t.to) f)
+
+pub place_same : (ds : List DirectedEdge) → AreDirected ds → (i j : ℕ) → i < length ds → j < length ds → edge_at ds i ≡ edge_at ds j → i ≡ j
+place_same ds a = one_place ds a.ascending

@@ -10,8 +10,8 @@ use Rattle.polygonize.proofs.column.meeting.Goals.{then-not-spans+then-meets+in_
 pub loop-number-preserved : goal.loop-number-preserved
 loop-number-preserved g c =
     let at : ℕ → ℕ = λ m. get_or c.args.numbers.now m 0 in
-    let Fit : ℕ → Type 0 = λ k. k < length c.args.edges.now in
-    let Wanted : ℕ → Type 0 = λ k. ¬ (Spans (edge_at c.args.edges.now k) c.args.all) × Meets (edge_at c.args.edges.now k) c.args.part in
+    let Fit : ℕ → Type 0 = λ k. k < length c.args.edges.list.now in
+    let Wanted : ℕ → Type 0 = λ k. ¬ (Spans (edge_at c.args.edges.list.now k) c.args.all) × Meets (edge_at c.args.edges.list.now k) c.args.part in
     let i = c.loop-number.number-index in
     let found = c.loop-number.found.items in
     elim c.if-not-spans.branch [
@@ -23,5 +23,5 @@ loop-number-preserved g c =
     ]
 
 pub returns-clause-complete : goal.returns-clause-complete
-returns-clause-complete g c = by_number (λ k. ¬ (Spans (edge_at c.args.edges.now k) c.args.all) → Meets (edge_at c.args.edges.now k) c.args.part → Contains c.loop-number.found.items k) c.args.numbers.now
+returns-clause-complete g c = by_number (λ k. ¬ (Spans (edge_at c.args.edges.list.now k) c.args.all) → Meets (edge_at c.args.edges.list.now k) c.args.part → Contains c.loop-number.found.items k) c.args.numbers.now
     (λ m h s t. c.loop-number.invariant.wanted m (let n = c.loop-number-test.false in omega (arith, n, h)) (s, t))

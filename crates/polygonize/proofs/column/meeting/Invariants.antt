@@ -5,4 +5,4 @@ use Rattle.polygonize.proofs.Filtered.{KeptSoFar}
 use Rattle.polygonize.proofs.column.meeting.Given as goal
 
 abbrev pub invariant-loop-number : goal.invariant-loop-number
-invariant-loop-number g l = KeptSoFar (λ m. get_or l.numbers m 0) (λ k. k < length l.edges) (λ k. ¬ (Spans (edge_at l.edges k) l.all) × Meets (edge_at l.edges k) l.part) l.number-index l.found.items
+invariant-loop-number g l = KeptSoFar (λ m. get_or l.numbers m 0) (λ k. k < length l.edges.list.now) (λ k. ¬ (Spans (edge_at l.edges.list.now k) l.all) × Meets (edge_at l.edges.list.now k) l.part) l.number-index l.found.items

@@ -6,20 +6,20 @@ use Rattle.polygonize.proofs.WrittenRings.Writing.{cycle_at, of_cycle}
 use Rattle.polygonize.proofs.cut_ring.cut_rings.Goals as goal
 
 pub loop-number-init : goal.loop-number-init
-loop-number-init g c = rw c.in_ok-rings.ensures.items (none_cut c.args.edges.now c.args.cycles.now c.args.from)
+loop-number-init g c = rw c.in_ok-rings.ensures.items (none_cut c.args.edges.list.now c.args.cycles.now c.args.from)
 
 pub cut_ring-requires-clause-cycle : goal.cut_ring-requires-clause-cycle
 cut_ring-requires-clause-cycle g c =
     let inside : c.loop-number.number < length c.args.cycles.now = omega (arith, c.loop-number-test.true, c.requires.inside) in
-    of_cycle (ArePlaces c.args.edges.now) c.args.cycles.now c.loop-number.number c.index-cycles-number.result c.numbers-cycle.result.now inside c.numbers-cycle.ensures c.index-cycles-number.is c.requires.cycles.each
+    of_cycle (ArePlaces c.args.edges.list.now) c.args.cycles.now c.loop-number.number c.index-cycles-number.result c.numbers-cycle.result.now inside c.numbers-cycle.ensures c.index-cycles-number.is c.requires.cycles.each
 
 pub loop-number-preserved : goal.loop-number-preserved
 loop-number-preserved g c =
     let inside : c.loop-number.number < length c.args.cycles.now = omega (arith, c.loop-number-test.true, c.requires.inside) in
-    rw c.in_ok-push.ensures.items (one_cut c.args.edges.now c.args.cycles.now c.args.from c.loop-number.number c.loop-number.rings.items c.in_ok-cut_ring.field-0
-    (subst (λ (cycle : List ℕ). IsCycleCut c.args.edges.now cycle c.in_ok-cut_ring.field-0) (sym (cycle_at c.args.cycles.now c.loop-number.number c.index-cycles-number.result c.numbers-cycle.result.now inside c.numbers-cycle.ensures c.index-cycles-number.is)) c.in_ok-cut_ring.ensures) c.loop-number.invariant)
+    rw c.in_ok-push.ensures.items (one_cut c.args.edges.list.now c.args.cycles.now c.args.from c.loop-number.number c.loop-number.rings.items c.in_ok-cut_ring.field-0
+    (subst (λ (cycle : List ℕ). IsCycleCut c.args.edges.list.now cycle c.in_ok-cut_ring.field-0) (sym (cycle_at c.args.cycles.now c.loop-number.number c.index-cycles-number.result c.numbers-cycle.result.now inside c.numbers-cycle.ensures c.index-cycles-number.is)) c.in_ok-cut_ring.ensures) c.loop-number.invariant)
 
 pub returns : goal.returns
 returns g c =
     let past : c.loop-number.number ≡ c.args.past = omega (arith, c.loop-number-test.false, c.loop-number.auto.number-end c.requires.order) in
-    subst (λ (n : ℕ). AreCyclesCut c.args.edges.now c.args.cycles.now c.args.from n c.loop-number.rings.items) past c.loop-number.invariant
+    subst (λ (n : ℕ). AreCyclesCut c.args.edges.list.now c.args.cycles.now c.args.from n c.loop-number.rings.items) past c.loop-number.invariant

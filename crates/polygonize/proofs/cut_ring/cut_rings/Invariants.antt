@@ -2,4 +2,4 @@ use Rattle.polygonize.specs.CutRing.{AreCyclesCut}
 use Rattle.polygonize.proofs.cut_ring.cut_rings.Given as goal
 
 abbrev pub invariant-loop-number : goal.invariant-loop-number
-invariant-loop-number g l = AreCyclesCut l.edges l.cycles l.from l.number l.rings.items
+invariant-loop-number g l = AreCyclesCut l.edges.list.now l.cycles l.from l.number l.rings.items

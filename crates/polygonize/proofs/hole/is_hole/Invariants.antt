@@ -3,4 +3,4 @@ use Rattle.polygonize.proofs.Holes.{TurnsRight}
 use Rattle.polygonize.proofs.hole.is_hole.Given as goal
 
 abbrev pub invariant-loop-i : goal.invariant-loop-i
-invariant-loop-i l = (m : ℕ) → m < l.i → ¬ (TurnsRight l.edges l.ring m)
+invariant-loop-i l = (m : ℕ) → m < l.i → ¬ (TurnsRight l.edges.list.now l.ring m)

@@ -9,8 +9,8 @@ loop-place-preserved c = λ i h. elim (cases_lt (i + 1) c.loop-place.place) [
   | inl l ↦ c.loop-place.invariant i l
   | inr l ↦ (let a : i ≡ c.loop-place.place - 1 = omega arith in
       let b : i + 1 ≡ c.loop-place.place = omega arith in
-      let P : ℕ → Type 0 = λ t. AreInOrder (edge_at c.args.edges.now (get_or c.args.numbers.now t 0)) (edge_at c.args.edges.now (get_or c.args.numbers.now (i + 1) 0)) c.args.columns in
-      let Q : ℕ → Type 0 = λ t. AreInOrder (edge_at c.args.edges.now (get_or c.args.numbers.now (c.loop-place.place - 1) 0)) (edge_at c.args.edges.now (get_or c.args.numbers.now t 0)) c.args.columns in
+      let P : ℕ → Type 0 = λ t. AreInOrder (edge_at c.args.edges.list.now (get_or c.args.numbers.now t 0)) (edge_at c.args.edges.list.now (get_or c.args.numbers.now (i + 1) 0)) c.args.columns in
+      let Q : ℕ → Type 0 = λ t. AreInOrder (edge_at c.args.edges.list.now (get_or c.args.numbers.now (c.loop-place.place - 1) 0)) (edge_at c.args.edges.list.now (get_or c.args.numbers.now t 0)) c.args.columns in
       subst P (sym a) (subst Q (sym b) (c.are_in_order.ensures c.if-not-are_in_order.false)))
 ]
 

@@ -11,8 +11,8 @@ use Rattle.polygonize.proofs.ladder.rungs_of.Goals.{then-spans+in_ok-push, else-
 pub loop-number-preserved : goal.loop-number-preserved
 loop-number-preserved g c =
     let at : ℕ → ℕ = λ m. get_or c.args.numbers.now m 0 in
-    let Fit : ℕ → Type 0 = λ k. (k < length c.args.edges.now) × Spans (edge_at c.args.edges.now k) c.args.columns in
-    let Wanted : ℕ → Type 0 = λ k. Spans (edge_at c.args.edges.now k) c.args.columns in
+    let Fit : ℕ → Type 0 = λ k. (k < length c.args.edges.list.now) × Spans (edge_at c.args.edges.list.now k) c.args.columns in
+    let Wanted : ℕ → Type 0 = λ k. Spans (edge_at c.args.edges.list.now k) c.args.columns in
     let i = c.loop-number.number-index in
     let number : Rung → ℕ = λ r. r.number in
     let rungs = c.loop-number.rungs.items in
@@ -22,4 +22,4 @@ loop-number-preserved g c =
     ]
 
 pub returns : goal.returns
-returns g c = are_spanning c.args.edges.now c.args.columns c.args.numbers.now (map (λ r. r.number) c.loop-number.rungs.items) c.loop-number.number-index c.loop-number-test.false c.loop-number.invariant
+returns g c = are_spanning c.args.edges.list.now c.args.columns c.args.numbers.now (map (λ r. r.number) c.loop-number.rungs.items) c.loop-number.number-index c.loop-number-test.false c.loop-number.invariant

@@ -5,4 +5,4 @@ use Rattle.polygonize.proofs.Filtered.{KeptSoFar}
 use Rattle.polygonize.proofs.ladder.rungs_of.Given as goal
 
 abbrev pub invariant-loop-number : goal.invariant-loop-number
-invariant-loop-number g l = KeptSoFar (λ m. get_or l.numbers m 0) (λ k. (k < length l.edges) × Spans (edge_at l.edges k) l.columns) (λ k. Spans (edge_at l.edges k) l.columns) l.number-index (map (λ r. r.number) l.rungs.items)
+invariant-loop-number g l = KeptSoFar (λ m. get_or l.numbers m 0) (λ k. (k < length l.edges.list.now) × Spans (edge_at l.edges.list.now k) l.columns) (λ k. Spans (edge_at l.edges.list.now k) l.columns) l.number-index (map (λ r. r.number) l.rungs.items)

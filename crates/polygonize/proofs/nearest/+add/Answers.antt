@@ -14,13 +14,10 @@ add-requires g t c =
       (
         h,
         (
-          c.requires.edges_in,
+          c.requires.vertices_in,
           (
-            c.requires.vertices_in,
-            (
-              subst (λ (xs : List ℕ). All (λ r. r < length c.args.vertices.now) xs) (sym c.split_at.ensures.front) (All-take (λ r. r < length c.args.vertices.now) _ c.args.asked.now c.requires.asked_in),
-              (subst (λ (xs : List ℕ). All (λ k. k < length c.args.edges.now) xs) (sym c.deref.ensures.value) c.in_ok-part.ensures.inside, (c.in_ok-add_spanning.ensures.same_length ∙ c.requires.same_length, c.in_ok-add_spanning.ensures.known)),
-            ),
+            subst (λ (xs : List ℕ). All (λ r. r < length c.args.vertices.now) xs) (sym c.split_at.ensures.front) (All-take (λ r. r < length c.args.vertices.now) _ c.args.asked.now c.requires.asked_in),
+            (subst (λ (xs : List ℕ). All (λ k. k < length c.args.edges.list.now) xs) (sym c.deref.ensures.value) c.in_ok-part.ensures.inside, (c.in_ok-add_spanning.ensures.same_length ∙ c.requires.same_length, c.in_ok-add_spanning.ensures.known)),
           ),
         ),
       ),
@@ -35,13 +32,10 @@ add-requires-2 g t c =
       (
         h,
         (
-          c.requires.edges_in,
+          c.requires.vertices_in,
           (
-            c.requires.vertices_in,
-            (
-              subst (λ (xs : List ℕ). All (λ r. r < length c.args.vertices.now) xs) (sym c.split_at.ensures.back) (All-drop (λ r. r < length c.args.vertices.now) _ c.args.asked.now c.requires.asked_in),
-              (subst (λ (xs : List ℕ). All (λ k. k < length c.args.edges.now) xs) (sym c.deref-2.ensures.value) c.in_ok-rest.ensures.inside, (c.in_ok-add.ensures.same_length ∙ c.in_ok-add_spanning.ensures.same_length ∙ c.requires.same_length, c.in_ok-add.ensures.known)),
-            ),
+            subst (λ (xs : List ℕ). All (λ r. r < length c.args.vertices.now) xs) (sym c.split_at.ensures.back) (All-drop (λ r. r < length c.args.vertices.now) _ c.args.asked.now c.requires.asked_in),
+            (subst (λ (xs : List ℕ). All (λ k. k < length c.args.edges.list.now) xs) (sym c.deref-2.ensures.value) c.in_ok-rest.ensures.inside, (c.in_ok-add.ensures.same_length ∙ c.in_ok-add_spanning.ensures.same_length ∙ c.requires.same_length, c.in_ok-add.ensures.known)),
           ),
         ),
       ),
@@ -49,7 +43,7 @@ add-requires-2 g t c =
 
 pub returns : goal.returns
 returns g t c =
-    let edges = c.args.edges.now in
+    let edges = c.args.edges.list.now in
     let vertices = c.args.vertices.now in
     let first = c.split_at.result.0.now in
     let second = c.split_at.result.1.now in

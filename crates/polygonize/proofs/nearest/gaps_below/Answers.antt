@@ -6,7 +6,7 @@ use Rattle.polygonize.proofs.nearest.gaps_below.Goals as goal
 
 pub add_short-requires-clause-known : goal.add_short-requires-clause-known
 add_short-requires-clause-known g c = let e = c.in_ok-best.ensures.items_if_clones_equal (none_of _ (λ z k. k)) in
-    subst (λ (t : List (Option Gap)). AreKnown c.args.edges.now c.args.vertices.now t) (sym (c.deref_mut.ensures.value ∙ e)) (none_known c.args.edges.now c.args.vertices.now _)
+    subst (λ (t : List (Option Gap)). AreKnown c.args.edges.list.now c.args.vertices.now t) (sym (c.deref_mut.ensures.value ∙ e)) (none_known c.args.edges.list.now c.args.vertices.now _)
 
 pub add-requires-clause-known : goal.add-requires-clause-known
 add-requires-clause-known g c =
@@ -16,7 +16,7 @@ add-requires-clause-known g c =
     let taken = c.in_ok-left.ensures.taken in
     let same : length short ≡ length old = taken.same_length ∙ ap length c.deref_mut.ensures.value in
     let a = c.in_ok-best.best.ok.0 in
-    subst (λ (t : List (Option Gap)). AreKnown c.args.edges.now c.args.vertices.now t) (sym (c.deref_mut-2.ensures.value ∙ written_back n old short (omega (arith, a, same)) same)) taken.known
+    subst (λ (t : List (Option Gap)). AreKnown c.args.edges.list.now c.args.vertices.now t) (sym (c.deref_mut-2.ensures.value ∙ written_back n old short (omega (arith, a, same)) same)) taken.known
 
 pub returns : goal.returns
 returns g c =
@@ -37,5 +37,5 @@ returns g c =
     let nearer = rw (c.deref.ensures.value, c.deref-2.ensures.value, held) at c.in_ok-add.ensures in
     rw (first, second) (record {
       same_length = omega (arith, same, like, a, b);
-      each = found_all c.args.edges.now c.args.vertices.now asked left c.deref_mut.result.now short new c.in_ok-asked.ensures.complete taken nearer;
+      each = found_all c.args.edges.list.now c.args.vertices.now asked left c.deref_mut.result.now short new c.in_ok-asked.ensures.complete taken nearer;
     })

@@ -7,18 +7,18 @@ use Rattle.polygonize.proofs.EdgesBelow.Searching.{nobody_asked, one_asked}
 use Rattle.polygonize.proofs.short.add_edge.Goals as goal
 
 pub loop-place-init : goal.loop-place-init
-loop-place-init c = nobody_asked c.args.edges.now c.args.vertices.now (λ k. k ≡ c.args.number) (λ r. (c.args.part.from ≤ r) × (r < c.args.part.from)) c.args.best.now (λ r h. let a = h.0 in let b = h.1 in omega (arith, a, b)) c.requires.known
+loop-place-init c = nobody_asked c.args.edges.list.now c.args.vertices.now (λ k. k ≡ c.args.number) (λ r. (c.args.part.from ≤ r) × (r < c.args.part.from)) c.args.best.now (λ r h. let a = h.0 in let b = h.1 in omega (arith, a, b)) c.requires.known
 
 pub nearer-requires-clause-best_room : goal.nearer-requires-clause-best_room
-nearer-requires-clause-best_room c = let r = c.loop-place.place in room_of c.args.edges.now (vertex_at c.args.vertices.now r) (best_at c.loop-place.best r) (c.loop-place.invariant.known r)
+nearer-requires-clause-best_room c = let r = c.loop-place.place in room_of c.args.edges.list.now (vertex_at c.args.vertices.now r) (best_at c.loop-place.best r) (c.loop-place.invariant.known r)
 
 pub nearer-requires-clause-found_room : goal.nearer-requires-clause-found_room
 nearer-requires-clause-found_room c = let r = c.loop-place.place in
-    room_of c.args.edges.now (vertex_at c.args.vertices.now r) c.gap_below-found.result (known_itself c.args.edges.now (vertex_at c.args.vertices.now r) c.args.number c.gap_below-found.result c.requires.number_in c.gap_below-found.ensures.number c.gap_below-found.ensures.gap)
+    room_of c.args.edges.list.now (vertex_at c.args.vertices.now r) c.gap_below-found.result (known_itself c.args.edges.list.now (vertex_at c.args.vertices.now r) c.args.number c.gap_below-found.result c.requires.number_in c.gap_below-found.ensures.number c.gap_below-found.ensures.gap)
 
 pub loop-place-preserved : goal.loop-place-preserved
 loop-place-preserved c =
-    let edges = c.args.edges.now in
+    let edges = c.args.edges.list.now in
     let r = c.loop-place.place in
     let v = vertex_at c.args.vertices.now r in
     let from = c.args.part.from in

@@ -6,7 +6,7 @@ use Rattle.polygonize.proofs.short.add_short.Goals.{in-Some, in-None+in_ok-push-
 
 pub loop-number-preserved : goal.loop-number-preserved
 loop-number-preserved g c =
-    let edges = c.args.edges.now in
+    let edges = c.args.edges.list.now in
     let vertices = c.args.vertices.now in
     let n = c.loop-number.number in
     let left = c.loop-number.left.items in

@@ -6,6 +6,7 @@ use Rattle.geom.specs.declared.point.Pt.{Pt}
 use Rattle.geom.specs.Limit.{InLimit}
 use Rattle.polygonize.specs.Below.{AreFoundBelow, StandAt}
 use Rattle.polygonize.specs.Column.{StandFromLeft}
+use Rattle.polygonize.proofs.ClosesOnce.{closes_of}
 use Rattle.polygonize.proofs.EdgesBelow.Searching.{begin_in_limit, below_all}
 use Rattle.polygonize.proofs.EdgesBelow.Short.{begin_from_left}
 use Rattle.polygonize.proofs.WrittenRings.Cuts.{holes_known}
@@ -15,13 +16,13 @@ pub gaps_below-requires-clause-vertices_in : goal.gaps_below-requires-clause-ver
 gaps_below-requires-clause-vertices_in g c =
     let holes = c.in_ok-holes.holes.items in
     let begins = rw c.deref.ensures.value at c.in_ok-vertices.ensures in
-    subst (λ (vs : List Pt). All InLimit vs) (sym (c.deref-2.ensures.value ∙ begins)) (begin_in_limit c.args.edges.now c.args.cycles.now holes c.requires.edges_in c.requires.cycles (λ k d h. let i = c.in_ok-holes.ensures.inside k d h in let r = c.requires.cut.reaches in omega (arith, i, r)))
+    subst (λ (vs : List Pt). All InLimit vs) (sym (c.deref-2.ensures.value ∙ begins)) (begin_in_limit c.args.edges.list.now c.args.cycles.now holes c.args.edges.in_limit c.requires.cycles (λ k d h. let i = c.in_ok-holes.ensures.inside k d h in let r = c.requires.cut.reaches in omega (arith, i, r)))
 
 pub gaps_below-requires-clause-from_left : goal.gaps_below-requires-clause-from_left
 gaps_below-requires-clause-from_left g c =
     let holes = c.in_ok-holes.holes.items in
     let begins = rw c.deref.ensures.value at c.in_ok-vertices.ensures in
-    subst StandFromLeft (sym (c.deref-2.ensures.value ∙ begins)) (begin_from_left c.args.edges.now c.args.cycles.now holes c.requires.directed c.requires.cycles c.requires.ascending c.in_ok-holes.ensures.ascend (λ k d h. let i = c.in_ok-holes.ensures.inside k d h in let r = c.requires.cut.reaches in omega (arith, i, r)))
+    subst StandFromLeft (sym (c.deref-2.ensures.value ∙ begins)) (begin_from_left c.args.edges.list.now c.args.cycles.now holes (closes_of c.args.edges.closes).are_directed c.requires.cycles c.requires.ascending c.in_ok-holes.ensures.ascend (λ k d h. let i = c.in_ok-holes.ensures.inside k d h in let r = c.requires.cut.reaches in omega (arith, i, r)))
 
 pub first_vertices-requires-clause-some : goal.first_vertices-requires-clause-some
 first_vertices-requires-clause-some g c = λ k d h. (c.requires.cycles k d h).some
@@ -31,9 +32,6 @@ first_vertices-requires-clause-edges_inside g c = λ k d h. (c.requires.cycles k
 
 pub first_vertices-requires-clause-inside : goal.first_vertices-requires-clause-inside
 first_vertices-requires-clause-inside g c = rw c.deref.ensures.value (λ k d h. let i = c.in_ok-holes.ensures.inside k d h in let r = c.requires.cut.reaches in omega (arith, i, r))
-
-pub gaps_below-requires-clause-edges_in : goal.gaps_below-requires-clause-edges_in
-gaps_below-requires-clause-edges_in g c = c.requires.edges_in
 
 pub gaps_of_rings-requires-clause-ascend : goal.gaps_of_rings-requires-clause-ascend
 gaps_of_rings-requires-clause-ascend g c = rw c.deref-3.ensures.value c.in_ok-holes.ensures.ascend
@@ -49,7 +47,7 @@ gaps_of_rings-requires-clause-same_length g c =
 
 pub returns : goal.returns
 returns g c =
-    let edges = c.args.edges.now in
+    let edges = c.args.edges.list.now in
     let cycles = c.args.cycles.now in
     let rings = c.args.rings.now in
     let holes = c.in_ok-holes.holes.items in

@@ -1,5 +1,6 @@
 use Rattle.std.proofs.Common.{◌∙◌, arith, sym}
 use Rattle.polygonize.specs.Written.{ArePlaces}
+use Rattle.polygonize.proofs.ClosesOnce.{closes_of}
 use Rattle.polygonize.proofs.WrittenRings.Cuts.{all_taken, cut_at, cycle_inside, taken_next}
 use Rattle.polygonize.proofs.WrittenRings.CyclesWritten.{all_filled, next_filled, nothing_filled}
 use Rattle.polygonize.proofs.WrittenRings.Writing.{all_written, below_cycle, cycle_at, nothing_written, of_cycle, one_written}
@@ -8,21 +9,21 @@ use Rattle.polygonize.proofs.written.write_cycles.Goals as goal
 pub loop-ring-init : goal.loop-ring-init
 loop-ring-init g c = (
   sym c.into_iter-ring-iterator.ensures.into_iter_gives.0,
-  rw c.in_ok-written.ensures.items (nothing_written c.args.edges.now c.args.cycles.now),
-  (λ noded grounded. rw c.in_ok-written.ensures.items (nothing_filled c.args.edges.now c.args.cycles.now c.args.shell_of.now)),
+  rw c.in_ok-written.ensures.items (nothing_written c.args.edges.list.now c.args.cycles.now),
+  (λ noded grounded. rw c.in_ok-written.ensures.items (nothing_filled c.args.edges.list.now c.args.cycles.now c.args.shell_of.now)),
 )
 
 pub bounds-cycles-number : goal.bounds-cycles-number
-bounds-cycles-number g c = cycle_inside c.args.edges.now c.args.cycles.now c.args.rings.items c.loop-ring.number c.in-Some.ring c.next.new.self.rest.items c.requires.cut (c.loop-ring.invariant.0 ∙ c.in-Some.ensures.steps.0)
+bounds-cycles-number g c = cycle_inside c.args.edges.list.now c.args.cycles.now c.args.rings.items c.loop-ring.number c.in-Some.ring c.next.new.self.rest.items c.requires.cut (c.loop-ring.invariant.0 ∙ c.in-Some.ensures.steps.0)
 
 pub offset_bounds-cycles-number : goal.offset_bounds-cycles-number
 offset_bounds-cycles-number g c =
-    let inside = cycle_inside c.args.edges.now c.args.cycles.now c.args.rings.items c.loop-ring.number c.in-Some.ring c.next.new.self.rest.items c.requires.cut (c.loop-ring.invariant.0 ∙ c.in-Some.ensures.steps.0) in
+    let inside = cycle_inside c.args.edges.list.now c.args.cycles.now c.args.rings.items c.loop-ring.number c.in-Some.ring c.next.new.self.rest.items c.requires.cut (c.loop-ring.invariant.0 ∙ c.in-Some.ensures.steps.0) in
     omega (arith, inside)
 
 pub bounds-below-number : goal.bounds-below-number
 bounds-below-number g c =
-    let inside = cycle_inside c.args.edges.now c.args.cycles.now c.args.rings.items c.loop-ring.number c.in-Some.ring c.next.new.self.rest.items c.requires.cut (c.loop-ring.invariant.0 ∙ c.in-Some.ensures.steps.0) in
+    let inside = cycle_inside c.args.edges.list.now c.args.cycles.now c.args.rings.items c.loop-ring.number c.in-Some.ring c.next.new.self.rest.items c.requires.cut (c.loop-ring.invariant.0 ∙ c.in-Some.ensures.steps.0) in
     let l = c.requires.found.same_length in
     omega (arith, inside, l)
 
@@ -31,39 +32,39 @@ write_ring-requires-clause-shells g c = c.loop-ring.auto.shell_of ∙ c.requires
 
 pub write_ring-requires-clause-cycle : goal.write_ring-requires-clause-cycle
 write_ring-requires-clause-cycle g c =
-    let inside = cycle_inside c.args.edges.now c.args.cycles.now c.args.rings.items c.loop-ring.number c.in-Some.ring c.next.new.self.rest.items c.requires.cut (c.loop-ring.invariant.0 ∙ c.in-Some.ensures.steps.0) in
-    of_cycle (ArePlaces c.args.edges.now) c.args.cycles.now c.loop-ring.number c.index-cycles-number.result c.numbers.result.now inside c.numbers.ensures c.index-cycles-number.is c.requires.cycles
+    let inside = cycle_inside c.args.edges.list.now c.args.cycles.now c.args.rings.items c.loop-ring.number c.in-Some.ring c.next.new.self.rest.items c.requires.cut (c.loop-ring.invariant.0 ∙ c.in-Some.ensures.steps.0) in
+    of_cycle (ArePlaces c.args.edges.list.now) c.args.cycles.now c.loop-ring.number c.index-cycles-number.result c.numbers.result.now inside c.numbers.ensures c.index-cycles-number.is c.requires.cycles
 
 pub write_ring-requires-clause-ring : goal.write_ring-requires-clause-ring
 write_ring-requires-clause-ring g c =
     let taken = c.loop-ring.invariant.0 ∙ c.in-Some.ensures.steps.0 in
-    let inside = cycle_inside c.args.edges.now c.args.cycles.now c.args.rings.items c.loop-ring.number c.in-Some.ring c.next.new.self.rest.items c.requires.cut taken in
-    cut_at c.args.edges.now c.args.cycles.now c.args.rings.items c.loop-ring.number c.in-Some.ring c.next.new.self.rest.items c.numbers.result.now c.requires.cut taken
+    let inside = cycle_inside c.args.edges.list.now c.args.cycles.now c.args.rings.items c.loop-ring.number c.in-Some.ring c.next.new.self.rest.items c.requires.cut taken in
+    cut_at c.args.edges.list.now c.args.cycles.now c.args.rings.items c.loop-ring.number c.in-Some.ring c.next.new.self.rest.items c.numbers.result.now c.requires.cut taken
     (cycle_at c.args.cycles.now c.loop-ring.number c.index-cycles-number.result c.numbers.result.now inside c.numbers.ensures c.index-cycles-number.is)
 
 pub write_ring-requires-clause-below : goal.write_ring-requires-clause-below
 write_ring-requires-clause-below g c =
-    let inside = cycle_inside c.args.edges.now c.args.cycles.now c.args.rings.items c.loop-ring.number c.in-Some.ring c.next.new.self.rest.items c.requires.cut (c.loop-ring.invariant.0 ∙ c.in-Some.ensures.steps.0) in
-    below_cycle c.args.edges.now c.args.cycles.now c.args.below.now c.loop-ring.number c.index-cycles-number.result c.numbers.result.now inside c.numbers.ensures c.index-cycles-number.is c.requires.found
+    let inside = cycle_inside c.args.edges.list.now c.args.cycles.now c.args.rings.items c.loop-ring.number c.in-Some.ring c.next.new.self.rest.items c.requires.cut (c.loop-ring.invariant.0 ∙ c.in-Some.ensures.steps.0) in
+    below_cycle c.args.edges.list.now c.args.cycles.now c.args.below.now c.loop-ring.number c.index-cycles-number.result c.numbers.result.now inside c.numbers.ensures c.index-cycles-number.is c.requires.found
 
 pub loop-ring-preserved : goal.loop-ring-preserved
 loop-ring-preserved g c =
     let taken = c.loop-ring.invariant.0 ∙ c.in-Some.ensures.steps.0 in
-    let inside = cycle_inside c.args.edges.now c.args.cycles.now c.args.rings.items c.loop-ring.number c.in-Some.ring c.next.new.self.rest.items c.requires.cut taken in (
+    let inside = cycle_inside c.args.edges.list.now c.args.cycles.now c.args.rings.items c.loop-ring.number c.in-Some.ring c.next.new.self.rest.items c.requires.cut taken in (
       (taken_next c.args.rings.items c.loop-ring.number c.in-Some.ring c.next.new.self.rest.items taken).2,
-      one_written c.args.edges.now c.args.cycles.now c.loop-ring.number c.numbers.result.now _ _ inside (cycle_at c.args.cycles.now c.loop-ring.number c.index-cycles-number.result c.numbers.result.now inside c.numbers.ensures c.index-cycles-number.is) c.in_ok-write_ring.ensures.written c.loop-ring.invariant.1,
-      (λ noded grounded. next_filled c.args.edges.now c.requires.closes noded c.args.cycles.now c.requires.rings grounded c.requires.its_edges c.requires.cycles c.loop-ring.number c.index-cycles-number.result c.numbers.result.now _ _ _ _ inside c.numbers.ensures (sym c.index-cycles-number.is)
+      one_written c.args.edges.list.now c.args.cycles.now c.loop-ring.number c.numbers.result.now _ _ inside (cycle_at c.args.cycles.now c.loop-ring.number c.index-cycles-number.result c.numbers.result.now inside c.numbers.ensures c.index-cycles-number.is) c.in_ok-write_ring.ensures.written c.loop-ring.invariant.1,
+      (λ noded grounded. next_filled c.args.edges.list.now (closes_of c.args.edges.closes) noded c.args.cycles.now c.requires.rings grounded c.requires.its_edges c.requires.cycles c.loop-ring.number c.index-cycles-number.result c.numbers.result.now _ _ _ _ inside c.numbers.ensures (sym c.index-cycles-number.is)
           c.in_ok-write_ring.ensures.placed (c.loop-ring.invariant.2 noded grounded)),
     )
 
 pub returns-clause-edges : goal.returns-clause-edges
-returns-clause-edges g c = let end = all_taken c.args.edges.now c.args.cycles.now c.args.rings.items c.loop-ring.ring-iterator.rest.items c.loop-ring.number c.requires.cut c.loop-ring.invariant.0 (omega (arith, c.in-None.ensures.steps.0, c.loop-ring.ring-iterator.rest.ok.0)) in
-    all_written c.args.edges.now c.args.cycles.now c.loop-ring.number _ c.requires.rings end c.loop-ring.invariant.1
+returns-clause-edges g c = let end = all_taken c.args.edges.list.now c.args.cycles.now c.args.rings.items c.loop-ring.ring-iterator.rest.items c.loop-ring.number c.requires.cut c.loop-ring.invariant.0 (omega (arith, c.in-None.ensures.steps.0, c.loop-ring.ring-iterator.rest.ok.0)) in
+    all_written c.args.edges.list.now c.args.cycles.now c.loop-ring.number _ c.requires.rings end c.loop-ring.invariant.1
 
 pub returns-clause-sound : goal.returns-clause-sound
 returns-clause-sound g c = c.loop-ring.invariant.1.sound
 
 pub returns-clause-written : goal.returns-clause-written
-returns-clause-written g c = λ noded grounded. let end = all_taken c.args.edges.now c.args.cycles.now c.args.rings.items c.loop-ring.ring-iterator.rest.items c.loop-ring.number c.requires.cut c.loop-ring.invariant.0 (omega (arith, c.in-None.ensures.steps.0, c.loop-ring.ring-iterator.rest.ok.0)) in
-    all_filled c.args.edges.now c.args.cycles.now c.loop-ring.number c.loop-ring.shell_of c.loop-ring.written.items c.requires.rings end
-    (all_written c.args.edges.now c.args.cycles.now c.loop-ring.number _ c.requires.rings end c.loop-ring.invariant.1) c.loop-ring.invariant.1.sound (c.loop-ring.invariant.2 noded grounded)
+returns-clause-written g c = λ noded grounded. let end = all_taken c.args.edges.list.now c.args.cycles.now c.args.rings.items c.loop-ring.ring-iterator.rest.items c.loop-ring.number c.requires.cut c.loop-ring.invariant.0 (omega (arith, c.in-None.ensures.steps.0, c.loop-ring.ring-iterator.rest.ok.0)) in
+    all_filled c.args.edges.list.now c.args.cycles.now c.loop-ring.number c.loop-ring.shell_of c.loop-ring.written.items c.requires.rings end
+    (all_written c.args.edges.list.now c.args.cycles.now c.loop-ring.number _ c.requires.rings end c.loop-ring.invariant.1) c.loop-ring.invariant.1.sound (c.loop-ring.invariant.2 noded grounded)

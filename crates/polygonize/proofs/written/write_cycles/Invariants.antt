@@ -8,4 +8,4 @@ use Rattle.polygonize.proofs.WrittenRings.Writing.{Writing}
 use Rattle.polygonize.proofs.written.write_cycles.Given as goal
 
 abbrev pub invariant-loop-ring : goal.invariant-loop-ring
-invariant-loop-ring g l = (drop l.number l.fn.rings.items ≡ l.ring-iterator.rest.items) × Writing l.edges l.cycles l.number (rings_in l.written.items) × (AreNodedEdges l.edges → AreGrounded l.edges (rings_of l.edges l.cycles) → AreFilled l.edges l.cycles l.number l.shell_of l.written.items)
+invariant-loop-ring g l = (drop l.number l.fn.rings.items ≡ l.ring-iterator.rest.items) × Writing l.edges.list.now l.cycles l.number (rings_in l.written.items) × (AreNodedEdges l.edges.list.now → AreGrounded l.edges.list.now (rings_of l.edges.list.now l.cycles) → AreFilled l.edges.list.now l.cycles l.number l.shell_of l.written.items)
