@@ -16,7 +16,7 @@ use geom::{Counted, NoMemory, Pt, Rect, Seg, Source};
 use grid::Grid;
 use lane_tests::Boxes;
 use linking::TileNumbers;
-use routing::{Piece, part, piece};
+use routing::{Piece, found_in, piece};
 use std::alloc::{Allocator, Global};
 use std::marker::Brand;
 use std::sync::Wait;
@@ -270,7 +270,7 @@ fn pieces_of<T: Tiled, A: Allocator + Copy>(
     let mut numbers = Vec::new(alloc);
     for tile in 0..grid.tiles() {
         bins.bin(tile, &mut numbers)?;
-        let found = part(alloc, grid, tile, segments, &numbers)?;
+        let found = found_in(alloc, &grid.rect(tile), segments, &numbers)?;
         pieces.push(TilePiece::of_part(tile, found))?;
     }
     Ok(pieces)

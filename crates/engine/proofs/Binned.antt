@@ -1,11 +1,13 @@
 -- The bins of cells: segment by segment, and as candidates.
-use Rattle.std.proofs.Common.{◌≡◌, ◌+◌, ◌*◌, ◌<◌, ◌∙◌, ℕ, List, [], ◌∷◌, ◌++◌, get_or, length, map, take, refl, sym, ap, subst, ⊎_elim}
+use Rattle.std.proofs.Common.{◌≡◌, ◌+◌, ◌*◌, ◌<◌, ◌∙◌, ℕ, List, [], ◌∷◌, ◌++◌, arith, get_or, length, map, take, refl, sym, ap, subst, ⊎_elim}
 use Rattle.std.proofs.Math.Logic.{∥∥₁_elim}
 use Rattle.std.proofs.Props.{props}
 use Rattle.std.proofs.lemmas.List.{length-map, map-append, map_more}
 use Rattle.std.proofs.lemmas.List.Elements.{Contains-get_or}
+use Rattle.std.proofs.lemmas.Option.{slice_get_within}
 use Rattle.std.specs.Prelude.{Contains}
 use Rattle.geom.specs.Box.{greatest_corner, least_corner}
+use Rattle.geom.specs.declared.point.Pt.{Pt}
 use Rattle.geom.specs.declared.rect.Rect.{Rect}
 use Rattle.geom.specs.declared.segment.Seg.{Seg}
 use Rattle.geom.proofs.Lists.{contains_in, in_contains}
@@ -86,6 +88,14 @@ pub bins_of_all : (g : Tiling) (from past : ℕ) (segments : List Seg) (all : Ti
 bins_of_all g from past segments all bins a grid are = record { grid_is = grid ∙ a.grid_is; boxes = a.boxes; are_boxes = a.are_boxes; are_bins = are a.boxes a.are_bins }
 
 -- ---- as candidates
+
+-- the numbers of all segments
+pub all_candidates : (segments : List Seg) (numbers : List ℕ) → length numbers ≡ length segments → ((k d : ℕ) → k < length segments → get_or numbers k d ≡ k) → (Owned : Pt → Type 0) → AreCandidates Owned segments numbers
+all_candidates segments numbers size each Owned = record {
+  ascending = λ k l. let a = each k 0 (omega (arith, l, size)) in let b = each (k + 1) 0 (omega (arith, l, size)) in omega (arith, a, b);
+  below = λ k d l. let m : k < length segments = omega (arith, l, size) in subst (λ (n : ℕ). n < length segments) (sym (each k d m)) m;
+  complete = λ k s c at met inside. let l = slice_get_within segments k s at in (k, omega (arith, l, size), each k k l);
+}
 
 pub cell_candidates : (g : Tiling) (segments : List Seg) (bins : TileBins) (k : ℕ) (list : List ℕ) → ∥ AreCellBins g segments bins ∥₁ → k < tile_count g → list ≡ get_or bins.bins k [] → AreCandidates (Owns g k) segments list
 cell_candidates g segments bins k list are within e = record {

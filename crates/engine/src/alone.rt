@@ -1,6 +1,6 @@
 //! The engine's calls on the calling thread alone, from memory to memory, for a caller that has no threads to lend.
 
-ghost use Rattle.std.specs.Prelude.{◌≡◌, ◌≤◌, IfOk, MatchResult, length};
+ghost use Rattle.std.specs.Prelude.{ℕ, ◌≡◌, ◌<◌, ◌≤◌, IfOk, MatchResult, get_or, length};
 ghost use Rattle.tile_book.specs.Books.{StandInOrder};
 ghost use Rattle.geom.specs.Rounded.{AreRounded};
 ghost use Rattle.grid.specs.Tiles.{tile_count};
@@ -13,7 +13,7 @@ ghost use Rattle.engine.specs.Results.{IsResultWritten, IsResultWrittenWithin, I
 ghost use Rattle.engine.specs.Runs.{AreEdgesWritten, AreEdgesWrittenWithin, Declines, DeclinesWithin, alone};
 ghost use Rattle.layers.specs.Refusals.{HasOwnRings};
 
-use crate::cells::{bins_of, cells_of};
+use crate::cells::{bins_of, cells_alone};
 use crate::engine::{Output, or_fault, report_for};
 use crate::rounds::Pieces;
 use geom::{NoMemory, Op, RunFault, Seg};
@@ -23,6 +23,7 @@ use linking::{
     LimitedSegments, Noded, RoundedBorders, TilePiece, Tiled, gather_borders, gather_made, settled,
 };
 use results::{Wanted, text_of};
+use routing::found_in;
 use std::alloc::Allocator;
 use std::marker::{Brand, PhantomData};
 use tile_book::{Job, MOST_NUMBERS};
@@ -155,7 +156,7 @@ pub(crate) fn gathered_alone<A: Allocator + Copy>(
     ensures tiles { IfOk result (λ n. AreTileNumbers grid.now segments.now (tile_count grid.now) n.tiles.items) }
     ensures none_remade { IfOk result (λ n. n.remade ≡ 0) }
 {
-    let cells = cells_of(grid, 1, segments);
+    let cells = cells_alone(grid, segments);
     by_cells_alone::<Brand, A>(alloc, grid, &cells, LimitedSegments { list: segments })
 }
 
@@ -193,7 +194,7 @@ pub(crate) fn features_alone<A: Allocator + Copy>(
     ensures tiles { IfOk result (λ r. AreTileNumbers grid.now segments.now (tile_count grid.now) r.tiles.items) }
     ensures none_remade { IfOk result (λ r. r.remade ≡ 0) }
 {
-    let cells = cells_of(grid, 1, segments);
+    let cells = cells_alone(grid, segments);
     let limited = LimitedSegments { list: segments };
     features_by_cells_alone::<Brand, A>(alloc, grid, &cells, limited, owners)
 }
@@ -230,6 +231,9 @@ fn pieces_alone<T: Tiled, A: Allocator + Copy>(
     ensures one_each { IfOk result (λ v. length v.items ≡ tile_count cells.now) }
     ensures in_order { IfOk result (λ v. StandInOrder (λ p. p.number) v.items) }
 {
+    if cells.tiles() == 1 {
+        return one_piece(alloc, cells, limited);
+    }
     let segments = limited.list;
     let bins = bins_of(alloc, cells, segments)?;
     let job: Pieces<T, A> = Pieces {
@@ -239,6 +243,39 @@ fn pieces_alone<T: Tiled, A: Allocator + Copy>(
         of: PhantomData,
     };
     in_turn(alloc, &job, cells.tiles())
+}
+
+/// The piece of the only cell, of all segments. More segments than a `u32` counts are refused as want of memory.
+fn one_piece<T: Tiled, A: Allocator + Copy>(
+    alloc: A,
+    cells: &Grid,
+    limited: LimitedSegments<'_>,
+) -> Result<Vec<TilePiece<T, A>, A>, NoMemory>
+    requires tiled { (cells.now ≡ T.grid) × (limited.list.now ≡ T.segments) }
+    requires one { tile_count cells.now ≡ 1 }
+    ensures one_each { IfOk result (λ v. length v.items ≡ 1) }
+    ensures in_order { IfOk result (λ v. StandInOrder (λ p. p.number) v.items) }
+{
+    let segments = limited.list;
+    if segments.len() > u32::MAX as usize {
+        return Err(NoMemory);
+    }
+    let numbers = numbers_below(alloc, segments.len() as u32)?;
+    let found = found_in(alloc, &cells.rect(0), segments, &numbers)?;
+    let mut pieces = Vec::with_capacity(alloc, 1)?;
+    pieces.push(TilePiece::of_part(0, found))?;
+    Ok(pieces)
+}
+
+/// The numbers below a count.
+fn numbers_below<A: Allocator>(alloc: A, count: u32) -> Result<Vec<u32, A>, NoMemory>
+    ensures { IfOk result (λ v. (length v.items ≡ count) × ((k d : ℕ) → k < count → get_or v.items k d ≡ k)) }
+{
+    let mut numbers = Vec::with_capacity(alloc, count as usize)?;
+    for number in 0..count {
+        numbers.push(number)?;
+    }
+    Ok(numbers)
 }
 
 /// The pieces of the numbers below a limit, made one after another.

@@ -3,6 +3,7 @@
 //! 1. The segments are parted, and the boxes and reaches of all parts are put together (`cells_in_parts`).
 //! 2. The rows of the cells are parted: for each part all segments are gone over, and the bins of its own rows are kept (`bins_of_rows`),
 //!    those of all parts at once. The bins of rows are put behind those of the rows before (`bins_in_parts`).
+//! 3. Both are done in as many parts as the segments are worth (`cells_with_bins`).
 
 ghost use Rattle.std.specs.Prelude.{◌^◌, ◌<◌, ◌≤◌, IfOk, length, slice_range};
 ghost use Rattle.grid.specs.Tiles.{AreBounds, BoundsHold};
@@ -13,12 +14,31 @@ ghost use Rattle.engine.specs.Rounds.{AreCellBins, AreCellRows};
 use crate::cells::{Extent, bins_of, cells_within, extent_of};
 use geom::{NoMemory, Seg};
 use grid::{Grid, KeptBins, RowBins};
-use hands::{Part, even_parts, map_parts};
+use hands::{Part, even_parts, map_parts, worth};
 use std::alloc::Allocator;
 use std::thread::Threads;
 
+/// The cells for workers over segments that a grid covers, with the segments of each.
+pub(crate) fn cells_with_bins<A: Allocator + Copy + Send + Sync, R: Threads + Sync>(
+    rt: &R,
+    alloc: A,
+    grid: &Grid,
+    workers: u32,
+    segments: &[Seg],
+) -> Result<(Grid, KeptBins<A>), NoMemory>
+    requires in_limit { AllInLimit segments.now }
+    requires covered { HaveTiles grid.now segments.now }
+    ensures covered { IfOk result (λ cells. HaveTiles cells.0 segments.now) }
+    ensures bins { IfOk result (λ cells. ∥ AreCellBins cells.0 segments.now cells.1 ∥₁) }
+{
+    let parts = worth::parts(workers, segments.len(), worth::SEGMENTS);
+    let cells = cells_in_parts(rt, alloc, parts, grid, workers, segments)?;
+    let bins = bins_in_parts(rt, alloc, parts, &cells, segments)?;
+    Ok((cells, bins))
+}
+
 /// As `cells_of`, in at most so many parts.
-pub(crate) fn cells_in_parts<A: Allocator + Copy + Send + Sync, R: Threads + Sync>(
+fn cells_in_parts<A: Allocator + Copy + Send + Sync, R: Threads + Sync>(
     rt: &R,
     alloc: A,
     parts: usize,
@@ -63,7 +83,7 @@ fn extent_in_parts<A: Allocator + Copy + Send + Sync, R: Threads + Sync>(
 }
 
 /// As `bins_of`, in at most so many parts.
-pub(crate) fn bins_in_parts<A: Allocator + Copy + Send + Sync, R: Threads + Sync>(
+fn bins_in_parts<A: Allocator + Copy + Send + Sync, R: Threads + Sync>(
     rt: &R,
     alloc: A,
     parts: usize,

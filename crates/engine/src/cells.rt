@@ -6,6 +6,7 @@
 //!    of workers; and if that is so at the greatest side there is but one cell (`grid_of`). So the bins stay in proportion to
 //!    the segments, whatever these are.
 //! 3. Each segment goes to the cells that its box meets (`bins_of`).
+//! 4. The calling thread alone takes one cell for few segments, and needs no bins for one (`cells_alone`; `alone: one_piece`).
 
 ghost use Rattle.std.specs.Prelude.{◌≡◌, ◌++◌, IfOk, List, None, Some};
 ghost use Rattle.geom.specs.declared.segment.Seg.{Seg};
@@ -16,6 +17,7 @@ ghost use Rattle.engine.specs.Rounds.{AreCellBins};
 
 use geom::{NoMemory, Rect, Seg};
 use grid::{GREATEST_SIDE, Grid, KeptBins, LEAST_SIDE, MOST_CELLS};
+use hot_pixel::FEW;
 use layers::joint_bounds;
 use std::alloc::Allocator;
 
@@ -101,6 +103,35 @@ pub(crate) fn cells_within(grid: &Grid, extent: &Extent, workers: u32) -> Grid
         Some(bounds) => grid_of(bounds, &extent.reach, workers),
         None => *grid,
     }
+}
+
+/// The cells for the calling thread alone: one, where segments are so few that all pairs of their lines are crossed.
+pub(crate) fn cells_alone(grid: &Grid, segments: &[Seg]) -> Grid
+    requires in_limit { AllInLimit segments.now }
+    requires covered { HaveTiles grid.now segments.now }
+    ensures { HaveTiles result segments.now }
+{
+    if segments.len() > FEW {
+        return cells_of(grid, 1, segments);
+    }
+    match bounds_of(segments) {
+        Some(bounds) => one_cell(bounds),
+        None => *grid,
+    }
+}
+
+/// One cell over a box, and no wider than that where it has a side.
+fn one_cell(bounds: Rect) -> Grid
+    requires { AreBounds (Some bounds) }
+    ensures { CoversBounds (Some bounds) result }
+{
+    let width = bounds.lo.x.abs_diff(bounds.hi.x);
+    let height = bounds.lo.y.abs_diff(bounds.hi.y);
+    let side = width.max(height).saturating_add(1);
+    if side > GREATEST_SIDE {
+        return Grid::one_tile(bounds);
+    }
+    Grid::of_cells(bounds, side.max(LEAST_SIDE))
 }
 
 /// The box of segments and how far they reach.

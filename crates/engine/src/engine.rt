@@ -2,19 +2,20 @@
 //!
 //! 1. The plan is checked and the layers are read (`read_both`), and what was read is checked (`check`): only here is an input
 //!    refused.
-//! 2. Workers round the layers (`rounded_layers`).
-//! 3. The rounded edges give the text that is wanted (`text_by_workers`), and the report (`report_for`).
+//! 2. The segments of both layers are read (`read_segments_by_workers`), and workers round them (`rounded_segments`).
+//! 3. The rounded edges give the text that is wanted (`text_by_workers`), and the report (`report_for`), in `by_edges`.
 //! 4. Only now is the sink called: it is sent the text whole (`send`).
 
 ghost use Rattle.std.specs.Prelude.{◌≡◌, ◌<◌, ℕ, IfOk, List, MatchResult};
 ghost use Rattle.engine.specs.Results.{IsResultWritten, IsResultWrittenWithin, IsWrittenWithin};
 ghost use Rattle.results.specs.Results.{IsWantedText};
+ghost use Rattle.points_law.specs.Law.{AreLayers};
 ghost use Rattle.engine.specs.Rounds.{AreRoundedOver, IsRemade};
 ghost use Rattle.engine.specs.Runs.{AreEdgesWritten, AreEdgesWrittenWithin, DeclinesWithin, Delivers, ReportsWithin, Runs, RunsWithin};
 
-use crate::rounds::{report_of, rounded_layers};
+use crate::rounds::{report_of, rounded_segments};
 use geom::{Fault, NoMemory, Op, Part, RunFault};
-use layers::{CheckedInput, Limits, Plan, check, check_plan, read_both};
+use layers::{CheckedInput, Limits, Plan, check, check_plan, read_both, read_segments_by_workers};
 use linking::Noded;
 use results::{Report, Sink, TextParts, Wanted, text_by_workers, write_parts};
 use std::alloc::Allocator;
@@ -51,7 +52,9 @@ pub fn edges<A: Allocator + Copy + Send + Sync, G: Gate + Sync, S: Sink, R: Thre
     requires { (S.state sink.old).failed < u64.MAX }
     ensures { Runs S.state sink.old sink.new plan a.now b.now (AreEdgesWritten plan a.now b.now) result }
 {
-    edges_within(rt, alloc, a, b, plan, Limits::default(), gate, sink)
+    let usual = Limits::default();
+    let made = made(rt, alloc, Wanted::Edges, a, b, plan, usual, gate)?;
+    send(made, sink)
 }
 
 /// The same within a limit of segments that is given: too many are more than that, and a layer text may have 256 bytes for each of them
@@ -94,7 +97,9 @@ pub fn run<A: Allocator + Copy + Send + Sync, G: Gate + Sync, S: Sink, R: Thread
     requires { (S.state sink.old).failed < u64.MAX }
     ensures { Runs S.state sink.old sink.new plan a.now b.now (IsResultWritten op plan a.now b.now) result }
 {
-    run_within(rt, alloc, op, a, b, plan, Limits::default(), gate, sink)
+    let usual = Limits::default();
+    let made = made(rt, alloc, Wanted::Apply(op), a, b, plan, usual, gate)?;
+    send(made, sink)
 }
 
 /// The same within a limit of segments that is given: too many are more than that, and a layer text may have 256 bytes for each of them
@@ -141,9 +146,27 @@ fn made<A: Allocator + Copy + Send + Sync, G: Gate + Sync, R: Threads + Wait + S
         Ok(checked) => checked,
         Err(fault) => return Err(fault),
     };
-    let noded = or_fault(rounded_layers(rt, alloc, &checked, read_a, read_b, gate))?;
-    let text = or_fault(text_by_workers(rt, alloc, plan.workers, wanted, &noded.edges))?;
-    let report = or_fault(report_for(alloc, &checked, &noded))?;
+    let read = or_fault(read_segments_by_workers(rt, alloc, &checked, read_a, read_b))?;
+    let noded = or_fault(rounded_segments(rt, alloc, &checked.grid, plan.workers, &read, gate))?;
+    drop(read);
+    or_fault(by_edges(rt, alloc, wanted, &checked, &noded))
+}
+
+/// The same of two layers that were checked, by their rounded edges.
+fn by_edges<A: Allocator + Copy + Send + Sync, R: Threads + Sync>(
+    rt: &R,
+    alloc: A,
+    wanted: Wanted,
+    checked: &CheckedInput<'_, '_>,
+    noded: &Noded<A>,
+) -> Result<MadeInParts<A>, NoMemory>
+    requires rounded { AreRoundedOver checked.now.a.now checked.now.b.now checked.now.grid noded.now.edges.items noded.now.tiles.items }
+    requires layers { ∥ AreLayers noded.now.edges.items ∥₁ }
+    requires remade { IsRemade noded.now.remade }
+    ensures { IfOk result (λ m. IsWrittenWithin checked.now.limits.segments wanted checked.now.plan checked.now.a.now checked.now.b.now m.text m.report) }
+{
+    let text = text_by_workers(rt, alloc, checked.plan.workers, wanted, &noded.edges)?;
+    let report = report_for(alloc, checked, noded)?;
     Ok(MadeInParts { text, report })
 }
 

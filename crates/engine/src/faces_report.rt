@@ -5,8 +5,9 @@ ghost use Rattle.engine.specs.FaceWords.{faces_report_of, faces_sums_of, faces_t
 
 use geom::NoMemory;
 use layers::LayerSize;
-use results::{push_line, push_number, push_tile};
+use results::{push_line, push_tile};
 use std::alloc::{AllocError, Allocator};
+use wkt::push_number;
 
 /// The numbers of a run that made faces.
 #[derive(Debug, Drop)]

@@ -6,8 +6,8 @@ ghost use Rattle.engine.specs.MeasuresText.{areas_line, measures_text_of, steps_
 
 use crate::measures::Measures;
 use geom::NoMemory;
-use results::push_number;
 use std::alloc::{AllocError, Allocator};
+use wkt::push_number;
 
 /// Adds twice an area.
 fn push_area<A: Allocator>(text: &mut Vec<u8, A>, twice_area: i64) -> Result<(), AllocError>

@@ -1,37 +1,34 @@
 //! The rounded edges of two layers, or the borders of features, over the tiles of a grid and by many workers.
 //!
-//! 1. Workers make the pieces of the cells (`cell_pieces`).
-//! 2. These are gathered: edges with their counts in both layers (`rounded_segments`), or edges with the features whose border they are
+//! 1. The segments of each cell are told (`cells_with_bins`).
+//! 2. Workers make the pieces of the cells, each from its segments (`Pieces`, `fill`).
+//! 3. These are gathered: edges with their counts in both layers (`by_cells`), or edges with the features whose border they are
 //!    (`features_by_cells`).
 
 ghost use Rattle.std.specs.Prelude.{◌≡◌, ◌<◌, ◌≤◌, IfOk, length, map, sum_by};
 ghost use Rattle.geom.specs.Rounded.{AreRounded};
 ghost use Rattle.grid.specs.Tiles.{tile_count};
 ghost use Rattle.linking.specs.Gathered.{AreTileNumbers, HaveTiles};
-ghost use Rattle.points_law.specs.Law.{AreLayers};
-ghost use Rattle.tile_book.specs.Books.{StandInOrder};
 ghost use Rattle.engine.specs.FaceBorders.{AreRoundedBorders};
 ghost use Rattle.layers.specs.Segments.{AllInLimit};
-ghost use Rattle.engine.specs.Rounds.{AreCellBins, AreRoundedOver, IsRemade, TellsTiles};
-ghost use Rattle.layers.specs.Refusals.{HasOwnRings};
+ghost use Rattle.engine.specs.Rounds.{AreCellBins, IsRemade, TellsTiles};
 
-use crate::cell_parts::{bins_in_parts, cells_in_parts};
+use crate::cell_parts::cells_with_bins;
 use geom::{NoMemory, Seg};
 use grid::{Grid, KeptBins, MOST_TILES};
 use hands::worth;
-use layers::{CheckedInput, Reading, read_segments_by_workers};
 use linking::{
     LimitedSegments, Noded, RoundedBorders, TileNumbers, TilePiece, Tiled, gather_borders_in_parts,
     gather_made_in_parts, settled,
 };
 use results::Report;
-use routing::part;
+use routing::found_in;
 use std::alloc::Allocator;
 use std::marker::{Brand, PhantomData};
 use std::sync::Wait;
 use std::sync::ledger::Blank;
 use std::thread::Threads;
-use tile_book::{AllPieces, Gate, Job, Limited, MOST_HANDS, Phase, make_all};
+use tile_book::{AllPieces, FilledBook, Gate, Job, Limited, MOST_HANDS, Phase, complete, fill};
 
 /// Makes the piece of each cell from the segments in its bin.
 #[derive(Drop)]
@@ -45,6 +42,22 @@ pub(crate) struct Pieces<'a, T: Tiled, A: Allocator> {
     ghost are_tiled: { (grid.now ≡ T.grid) × (segments.now ≡ T.segments) },
 }
 
+impl<'a, T: Tiled, A: Allocator> Pieces<'a, T, A> {
+    /// Over cells with their bins, of segments, where the type of the pieces knows the cells and the segments.
+    fn over(grid: &'a Grid, bins: &'a KeptBins<A>, limited: LimitedSegments<'a>) -> Pieces<'a, T, A>
+        requires bins { ∥ AreCellBins grid.now limited.list.now bins.now ∥₁ }
+        requires tiled { (grid.now ≡ T.grid) × (limited.list.now ≡ T.segments) }
+        ensures { result.grid.now ≡ grid.now }
+    {
+        Pieces {
+            grid,
+            bins,
+            segments: limited.list,
+            of: PhantomData,
+        }
+    }
+}
+
 impl<T: Tiled, A: Allocator + Copy> Job<A> for Pieces<'_, T, A> {
     type Piece = TilePiece<T, A>;
 
@@ -52,32 +65,9 @@ impl<T: Tiled, A: Allocator + Copy> Job<A> for Pieces<'_, T, A> {
 
     fn piece(&self, alloc: A, number: u32) -> Result<TilePiece<T, A>, NoMemory> {
         let numbers = self.bins.bin(number);
-        let found = part(alloc, self.grid, number, self.segments, numbers)?;
+        let found = found_in(alloc, &self.grid.rect(number), self.segments, numbers)?;
         Ok(TilePiece::of_part(number, found))
     }
-}
-
-/// The rounded edges of two layers, with the numbers of the tiles. The workers call the gate.
-pub(crate) fn rounded_layers<
-    A: Allocator + Copy + Send + Sync,
-    G: Gate + Sync,
-    R: Threads + Wait + Sync,
->(
-    rt: &R,
-    alloc: A,
-    checked: &CheckedInput<'_, '_>,
-    read_a: Reading<A>,
-    read_b: Reading<A>,
-    gate: &G,
-) -> Result<Noded<A>, NoMemory>
-    requires read_a { HasOwnRings checked.now.a.now read_a }
-    requires read_b { HasOwnRings checked.now.b.now read_b }
-    ensures rounded { IfOk result (λ n. AreRoundedOver checked.now.a.now checked.now.b.now checked.now.grid n.edges.items n.tiles.items) }
-    ensures layers { IfOk result (λ n. ∥ AreLayers n.edges.items ∥₁) }
-    ensures remade { IfOk result (λ n. IsRemade n.remade) }
-{
-    let read = read_segments_by_workers(rt, alloc, checked, read_a, read_b)?;
-    rounded_segments(rt, alloc, &checked.grid, checked.plan.workers, &read, gate)
 }
 
 /// The rounded edges of segments, with the numbers of the tiles. The workers call the gate.
@@ -100,11 +90,10 @@ pub(crate) fn rounded_segments<
     ensures tiles { IfOk result (λ n. AreTileNumbers grid.now segments.now (tile_count grid.now) n.tiles.items) }
     ensures remade { IfOk result (λ n. IsRemade n.remade) }
 {
-    let parts = worth::parts(workers, segments.len(), worth::SEGMENTS);
-    let cells = cells_in_parts(rt, alloc, parts, grid, workers, segments)?;
+    let (cells, bins) = cells_with_bins(rt, alloc, grid, workers, segments)?;
     let blank = Blank::new(u64::from(workers));
     let limited = LimitedSegments { list: segments };
-    by_cells::<Brand, Brand, A, G, R>(rt, alloc, blank, grid, &cells, workers, limited, gate)
+    by_cells::<Brand, Brand, A, G, R>(rt, alloc, blank, grid, &cells, bins, workers, limited, gate)
 }
 
 /// The same: the workers make the pieces of the cells, which are gathered. A ledger of its own counts the pieces that are posted, and
@@ -121,6 +110,7 @@ fn by_cells<
     blank: Blank,
     grid: &Grid,
     cells: &Grid,
+    bins: KeptBins<A>,
     workers: u32,
     limited: LimitedSegments<'_>,
     gate: &G,
@@ -128,6 +118,7 @@ fn by_cells<
     requires name { blank.name ≡ L.name }
     requires parts { (blank.parts ≡ L.parts) × (blank.parts ≡ workers) }
     requires limit { tile_count cells.now ≡ L.limit }
+    requires bins { ∥ AreCellBins cells.now limited.list.now bins ∥₁ }
     requires tiled { (cells.now ≡ T.grid) × (limited.list.now ≡ T.segments) }
     requires workers { (0 < workers) × (workers ≤ MOST_HANDS) }
     requires covered_by_cells { HaveTiles cells.now limited.list.now }
@@ -137,9 +128,21 @@ fn by_cells<
     ensures remade { IfOk result (λ n. IsRemade n.remade) }
 {
     let segments = limited.list;
-    let made = cell_pieces::<L, T, A, G, R>(rt, alloc, blank, cells, workers, limited, gate)?;
-    let AllPieces { pieces, remade } = made;
-    let parts = worth::parts(workers, record_count(&pieces, segments), worth::RECORDS);
+    let job = Pieces::<T, A>::over(cells, &bins, limited);
+    let count = cells.tiles();
+    let filled: FilledBook<TilePiece<T, A>, L, A> = fill(
+        rt,
+        alloc,
+        blank,
+        count,
+        workers,
+        &job,
+        Phase::Route,
+        gate,
+    )?;
+    let AllPieces { pieces, remade } = complete(alloc, &job, filled.book)?;
+    drop(bins);
+    let parts = gathering_parts(workers, &pieces, segments);
     let rounded = gather_made_in_parts(rt, alloc, parts, pieces, remade, cells, grid, segments)?;
     Ok(settled(rounded))
 }
@@ -167,12 +170,11 @@ pub(crate) fn rounded_features<
     ensures tiles { IfOk result (λ r. AreTileNumbers grid.now segments.now (tile_count grid.now) r.tiles.items) }
     ensures remade { IfOk result (λ r. IsRemade r.remade) }
 {
-    let parts = worth::parts(workers, segments.len(), worth::SEGMENTS);
-    let cells = cells_in_parts(rt, alloc, parts, grid, workers, segments)?;
+    let (cells, bins) = cells_with_bins(rt, alloc, grid, workers, segments)?;
     let blank = Blank::new(u64::from(workers));
     let limited = LimitedSegments { list: segments };
     features_by_cells::<Brand, Brand, A, G, R>(
-        rt, alloc, blank, grid, &cells, workers, limited, owners, gate,
+        rt, alloc, blank, grid, &cells, bins, workers, limited, owners, gate,
     )
 }
 
@@ -189,6 +191,7 @@ fn features_by_cells<
     blank: Blank,
     grid: &Grid,
     cells: &Grid,
+    bins: KeptBins<A>,
     workers: u32,
     limited: LimitedSegments<'_>,
     owners: &[u32],
@@ -197,6 +200,7 @@ fn features_by_cells<
     requires name { blank.name ≡ L.name }
     requires parts { (blank.parts ≡ L.parts) × (blank.parts ≡ workers) }
     requires limit { tile_count cells.now ≡ L.limit }
+    requires bins { ∥ AreCellBins cells.now limited.list.now bins ∥₁ }
     requires tiled { (cells.now ≡ T.grid) × (limited.list.now ≡ T.segments) }
     requires workers { (0 < workers) × (workers ≤ MOST_HANDS) }
     requires covered_by_cells { HaveTiles cells.now limited.list.now }
@@ -207,68 +211,37 @@ fn features_by_cells<
     ensures remade { IfOk result (λ r. IsRemade r.remade) }
 {
     let segments = limited.list;
-    let made = cell_pieces::<L, T, A, G, R>(rt, alloc, blank, cells, workers, limited, gate)?;
-    let AllPieces { pieces, remade } = made;
-    let parts = worth::parts(workers, record_count(&pieces, segments), worth::RECORDS);
+    let job = Pieces::<T, A>::over(cells, &bins, limited);
+    let count = cells.tiles();
+    let filled: FilledBook<TilePiece<T, A>, L, A> = fill(
+        rt,
+        alloc,
+        blank,
+        count,
+        workers,
+        &job,
+        Phase::Route,
+        gate,
+    )?;
+    let AllPieces { pieces, remade } = complete(alloc, &job, filled.book)?;
+    drop(bins);
+    let parts = gathering_parts(workers, &pieces, segments);
     gather_borders_in_parts(
         rt, alloc, parts, pieces, remade, cells, grid, segments, owners,
     )
 }
 
-/// The pieces of all cells, made by the workers.
-fn cell_pieces<
-    L: Limited + Send + Sync,
-    T: Tiled + Send + Sync,
-    A: Allocator + Copy + Send + Sync,
-    G: Gate + Sync,
-    R: Threads + Wait + Sync,
->(
-    rt: &R,
-    alloc: A,
-    blank: Blank,
-    cells: &Grid,
+/// In how many parts the pieces of segments are gathered: by their records, with those of both ends of each segment.
+fn gathering_parts<T: Tiled, A: Allocator>(
     workers: u32,
-    limited: LimitedSegments<'_>,
-    gate: &G,
-) -> Result<AllPieces<TilePiece<T, A>, A>, NoMemory>
-    requires name { blank.name ≡ L.name }
-    requires parts { (blank.parts ≡ L.parts) × (blank.parts ≡ workers) }
-    requires limit { tile_count cells.now ≡ L.limit }
-    requires tiled { (cells.now ≡ T.grid) × (limited.list.now ≡ T.segments) }
-    requires workers { (0 < workers) × (workers ≤ MOST_HANDS) }
-    requires covered_by_cells { HaveTiles cells.now limited.list.now }
-    ensures one_each { IfOk result (λ all. length all.pieces.items ≡ tile_count cells.now) }
-    ensures in_order { IfOk result (λ all. StandInOrder (λ p. p.number) all.pieces.items) }
-    ensures remade { IfOk result (λ all. IsRemade all.remade) }
-{
-    let segments = limited.list;
-    let parts = worth::parts(workers, segments.len(), worth::SEGMENTS);
-    let bins = bins_in_parts(rt, alloc, parts, cells, segments)?;
-    let job: Pieces<T, A> = Pieces {
-        grid: cells,
-        bins: &bins,
-        segments,
-        of: PhantomData,
-    };
-    make_all::<A, Pieces<T, A>, L, G, R>(
-        rt,
-        alloc,
-        blank,
-        cells.tiles(),
-        workers,
-        &job,
-        Phase::Route,
-        gate,
-    )
-}
-
-/// How many records the pieces of segments have together, with those of both ends of each segment.
-fn record_count<T: Tiled, A: Allocator>(pieces: &[TilePiece<T, A>], segments: &[Seg]) -> usize {
+    pieces: &[TilePiece<T, A>],
+    segments: &[Seg],
+) -> usize {
     let mut count = segments.len().saturating_mul(2);
     for piece in pieces {
         count = count.saturating_add(piece.records.len());
     }
-    count
+    worth::parts(workers, count, worth::RECORDS)
 }
 
 /// The numbers of a run on two layers with so many segments.

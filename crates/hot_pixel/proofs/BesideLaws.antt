@@ -1,18 +1,18 @@
 -- Where nearly all lines run side by side, what the others end at and cross is all that is hot.
-use Rattle.std.proofs.Common.{◌≡◌, ◌⊎◌, inl, inr, ℕ, ◌+◌, ◌<◌, ◌≤◌, List, [], ◌∷◌, ◌++◌, refl, sym, subst, length, get_or, take, ◌↔◌, ⊎_elim}
-use Rattle.std.specs.Prelude.{All, Contains}
-use Rattle.std.proofs.lemmas.List.{take_all}
-use Rattle.std.proofs.lemmas.List.Elements.{All-contains, Contains-get_or, Contains-push, Contains-push_cases}
+use Rattle.std.proofs.Common.{◌≡◌, ◌⊎◌, inl, inr, ℕ, ◌+◌, ◌<◌, ◌≤◌, List, [], ◌∷◌, ◌++◌, refl, sym, ◌∙◌, ap, subst, length, get_or, take, ◌↔◌, ⊎_elim}
+use Rattle.std.specs.Prelude.{Contains, slice_range}
+use Rattle.std.proofs.lemmas.List.{map-append, take_all}
+use Rattle.std.proofs.lemmas.List.Elements.{Contains-append_cases, Contains-append_left, Contains-append_right, Contains-push, Contains-push_cases}
 use Rattle.geom.specs.declared.point.Pt.{Pt}
 use Rattle.geom.specs.declared.rect.Rect.{Rect}
 use Rattle.geom.specs.declared.edge.Edge.{Edge}
 use Rattle.hot_pixel.specs.declared.lines.Line.{Line}
-use Rattle.hot_pixel.specs.Beside.{AreParted, HasBothCrossed, TakePart}
+use Rattle.hot_pixel.specs.Beside.{AreParted, TakePart}
 use Rattle.hot_pixel.specs.Halving.{edges_of, HasEndsToo, HasHot, IsHotFor}
-use Rattle.hot_pixel.specs.Lines.{CrossAt, HasCrossed}
+use Rattle.hot_pixel.specs.Lines.{CrossAt, HasBothCrossed, HasCrossed}
 use Rattle.hot_pixel.specs.Rects.{IsIn}
 use Rattle.hot_pixel.proofs.HalvingLaws.{edge_in, line_at}
-use Rattle.hot_pixel.proofs.ListLaws.{in_push, in_take_more, none_in}
+use Rattle.hot_pixel.proofs.ListLaws.{in_push, in_take_more, none_in, take_parts}
 use Rattle.hot_pixel.proofs.SweepLaws.{cross_turn}
 
 -- ---- lines parted
@@ -45,10 +45,6 @@ module _ (lines : List Line) (i : ℕ) (l : Line) (below : i < length lines) (is
 
 pub parted_all : (lines : List Line) (i : ℕ) (beside others : List Line) → length lines ≤ i → AreParted (take i lines) beside others → AreParted lines beside others
 parted_all lines i beside others past h = subst (λ (ls : List Line). AreParted ls beside others) (take_all i lines past) h
-
--- what holds of all lines holds of both
-pub both_all : (P : Line → Type 0) (lines part : List Line) → ((l : Line) → Contains part l → Contains lines l) → All P lines → All P part
-both_all P lines part among all = λ k d below. All-contains P lines (get_or part k d) all (among (get_or part k d) (Contains-get_or part k d below))
 
 -- ---- those that run side by side make no pixel hot
 module _ (rect : Rect) (lines beside others : List Line) (are : AreParted lines beside others) (none : (c : Pt) → IsIn rect c → IsHotFor (edges_of beside) c → ⊥) where
@@ -92,6 +88,30 @@ both_more rect first second i e old found new below is h g = record {
   where
     more : (x : Edge) → Contains (take (i + 1) first) x ↔ (Contains (take i first) x ⊎ (e ≡ x))
     more x = in_take_more first i e below is x
+
+-- others, crossed with the first lines, and with those behind them up to another place
+pub both_behind : (rect : Rect) (first : List Edge) (lines : List Line) (from past : ℕ) (old found new : List Pt) → from ≤ past → from ≤ length lines → HasBothCrossed rect first (edges_of (take from lines)) old found → HasBothCrossed rect first (edges_of (slice_range lines from past)) found new
+    → HasBothCrossed rect first (edges_of (take past lines)) old new
+both_behind rect first lines from past old found new l within h g = subst (λ (es : List Edge). HasBothCrossed rect first es old new) (sym parts) (record {
+  kept = λ c k. g.kept c (h.kept c k);
+  only = λ c k. ⊎_elim
+      (λ m. ⊎_elim (λ n. inl n) (λ n. inr ((n.0.0, n.0.1, n.0.2, Contains-append_left before few n.0.1 n.0.3, n.0.4), n.1)) (h.only c m))
+      (λ n. inr ((n.0.0, n.0.1, n.0.2, Contains-append_right before few n.0.1 n.0.3, n.0.4), n.1))
+      (g.only c k);
+  all = λ e f c j k a t. ⊎_elim (λ m. g.kept c (h.all e f c j m a t)) (λ m. g.all e f c j m a t) (Contains-append_cases before few f k);
+})
+  where
+    before : List Edge
+    before = edges_of (take from lines)
+
+    few : List Edge
+    few = edges_of (slice_range lines from past)
+
+    parts : edges_of (take past lines) ≡ edges_of (take from lines) ++ edges_of (slice_range lines from past)
+    parts = ap edges_of (take_parts lines from past l within) ∙ map-append (λ (m : Line). m.edge) (take from lines) (slice_range lines from past)
+
+pub both_first : (rect : Rect) (first : List Edge) (old : List Pt) → HasBothCrossed rect first [] old old
+both_first rect first old = record { kept = λ c h. h; only = λ c h. inl h; all = λ e f c h k x t. absurd (none_in f k) }
 
 pub found_beside : (rect : Rect) (lines others : List Line) (mid new : List Pt) → TakePart rect lines others → HasEndsToo rect (edges_of others) [] mid → HasBothCrossed rect (edges_of others) (edges_of lines) mid new → HasHot rect (edges_of lines) [] new
 found_beside rect lines others mid new part h g = record { same = λ c. (to c, from c) }

@@ -5,7 +5,7 @@ use Rattle.std.specs.Prelude.{◌<ℤ◌, ◌≤ℤ◌, All, Contains, IfSome, O
 use Rattle.std.specs.List.Sorted.{IsPermutation}
 use Rattle.std.proofs.lemmas.Int.{ints}
 use Rattle.std.proofs.lemmas.List.{take_all}
-use Rattle.std.proofs.lemmas.List.Elements.{All-contains, Contains-get_or, Contains-push, Contains-push_cases}
+use Rattle.std.proofs.lemmas.List.Elements.{Contains-get_or, Contains-push, Contains-push_cases}
 use Rattle.std.proofs.lemmas.List.Sorted.{Contains-permutation, IsPermutation-sym}
 use Rattle.std.proofs.lemmas.Option.{slice_get_within, slice_get-get_or}
 use Rattle.geom.specs.declared.point.Pt.{Pt}
@@ -296,9 +296,6 @@ module _ (lines : List Line) where
   firsts_all items i kept past h = subst (λ (xs : List Carried). HasOneOfEach lines xs kept) (take_all i items past) h
 
 -- ---- what is kept of a rectangle's lines
-pub kept_all : (P : Line → Type 0) (lines part : List Line) → ((l : Line) → Contains part l → Contains lines l) → All P lines → All P part
-kept_all P lines part among h = λ k d below. All-contains P lines (get_or part k d) h (among (get_or part k d) (Contains-get_or part k d below))
-
 pub keeps_on : (rect : Rect) (lines part rest : List Line) → KeepsCrossings rect lines part → KeepsCrossings rect part rest → KeepsCrossings rect lines rest
 keeps_on rect lines part rest h k = record { among = λ l m. h.among l (k.among l m); crossings = λ c t x. k.crossings c t (h.crossings c t x) }
 

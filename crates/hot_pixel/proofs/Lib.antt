@@ -13,3 +13,4 @@ pub mod BesideLaws
 pub mod WallLaws
 pub mod ReachLaws
 pub mod BoxLaws
+pub mod PairLaws

@@ -1,8 +1,9 @@
 -- Members of lists.
-use Rattle.std.proofs.Common.{map, ◌≡◌, ◌⊎◌, inl, inr, ℕ, zero, suc, ◌+◌, ◌<◌, List, [], ◌∷◌, ◌++◌, Bool, true, false, cond, refl, sym, ◌∙◌, ap, arith, subst, length, get_or, take, ◌↔◌, ⊎_elim}
-use Rattle.std.specs.Prelude.{AllPairs, Contains, filter}
+use Rattle.std.proofs.Common.{map, ◌≡◌, ◌⊎◌, inl, inr, ℕ, zero, suc, ◌+◌, ◌-◌, ◌<◌, ◌≤◌, List, [], ◌∷◌, ◌++◌, Bool, true, false, cond, refl, sym, ◌∙◌, ap, arith, subst, length, get_or, take, drop, ◌↔◌, ⊎_elim}
+use Rattle.std.specs.Prelude.{AllPairs, Contains, filter, slice_range}
+use Rattle.std.proofs.Math.Seq.{take-append-add}
 use Rattle.std.proofs.lemmas.List.Elements.{All-contains, All-filter, All-contains_itself, filter_passes, Contains-push, Contains-push_cases, Contains-append_left, Contains-get_or}
-use Rattle.std.proofs.lemmas.List.{take_more}
+use Rattle.std.proofs.lemmas.List.{length-take-le, take_more, take-append-drop}
 
 module _ {X : Type 0} where
   pub in_cons : (x : X) (xs : List X) (c : X) → Contains xs c → Contains (x ∷ xs) c
@@ -45,6 +46,13 @@ module _ {X : Type 0} where
         (λ h. Contains-push_cases (take i xs) x c (subst (λ (ys : List X). Contains ys c) f h)),
         (λ h. subst (λ (ys : List X). Contains ys c) (sym f) (⊎_elim (λ k. in_push (take i xs) c x k) (λ g. subst (λ (y : X). Contains (take i xs ++ x ∷ []) y) g (Contains-push (take i xs) x)) h)),
       )
+
+  -- the first items, and those behind them up to another place
+  pub take_parts : (xs : List X) (from past : ℕ) → from ≤ past → from ≤ length xs → take past xs ≡ take from xs ++ slice_range xs from past
+  take_parts xs from past l within =
+      let first = take from xs in
+      let rest = drop from xs in
+      ap (λ (t : List X). take past t) (sym (take-append-drop from xs)) ∙ ap (λ n. take n (first ++ rest)) (let e = length-take-le from xs within in omega arith) ∙ take-append-add first rest (past - from)
 
 module _ {X Y : Type 0} (f : X → Y) where
   pub in_map : (xs : List X) (y : Y) → Contains (map f xs) y ↔ ((x : X) × Contains xs x × (f x ≡ y))

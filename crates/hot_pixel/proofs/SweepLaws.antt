@@ -21,7 +21,7 @@ use Rattle.geom.proofs.Along.{Between, meets_box}
 use Rattle.geom.proofs.Pixels.{piece, meets_in}
 use Rattle.hot_pixel.specs.Lines.{IsLine, AreLines, CrossAt, HasPushed, HasEnds, HasCrossed, HasAllCrossed, lines_meet, line_pairs}
 use Rattle.hot_pixel.specs.Rects.{IsIn}
-use Rattle.hot_pixel.proofs.ListLaws.{from_cons, in_cons, here, none_in, in_push, in_take_more, in_filter, head_pair}
+use Rattle.hot_pixel.proofs.ListLaws.{in_cons, here, none_in, in_push, in_take_more, in_filter, head_pair}
 use Rattle.hot_pixel.proofs.HotLaws.{first_meets, second_meets, cross_back}
 use Rattle.hot_pixel.proofs.LineLaws.{segment_of, segment_line, cross_at, count_filter, pairs_push}
 
@@ -82,20 +82,6 @@ module _ (tile : Rect) (e : Edge) (others : List Edge) (i : ℕ) (f : Edge) (old
         (λ n. inr ((f, (more f).1 (inr refl), subst (λ (q : Pt). CrossAt f e q) n.0 at), n.1))
         ((g.same c).0 k);
     all = λ x c k a t. ⊎_elim (λ m. (g.same c).1 (inl (h.all x c m a t))) (λ m. (g.same c).1 (inr (only_p c (subst (λ (y : Edge). CrossAt y e c) (sym m) a), t))) ((more x).0 k);
-  }
-
-  single : (x : Edge) → Contains (f ∷ []) x ↔ (f ≡ x)
-  single x = ((λ k. ⊎_elim (λ m. m) (λ m. absurd (none_in x m)) (from_cons f [] x k)), (λ m. subst (λ (y : Edge). Contains (f ∷ []) y) m (here f [])))
-
-  -- the crossing with f was added
-  pub crossed_one : (new : List Pt) → HasCrossed tile e (f ∷ []) found new → HasCrossed tile e (take (i + 1) others) old new
-  crossed_one new g = record {
-    kept = λ c k. g.kept c (h.kept c k);
-    only = λ c k. ⊎_elim
-        (λ n. ⊎_elim (λ m. inl m) (λ m. inr ((m.0.0, (more m.0.0).1 (inl m.0.1), m.0.2), m.1)) (h.only c n))
-        (λ n. inr ((n.0.0, (more n.0.0).1 (inr ((single n.0.0).0 n.0.1)), n.0.2), n.1))
-        (g.only c k);
-    all = λ x c k a t. ⊎_elim (λ m. g.kept c (h.all x c m a t)) (λ m. g.all x c ((single x).1 m) a t) ((more x).0 k);
   }
 
 -- ---- lines that lie apart, and a line with itself

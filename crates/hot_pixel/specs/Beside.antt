@@ -35,9 +35,3 @@ pub record TakePart (rect : Rect) (lines others : List Line) : Type 0 where
   pub among : (l : Line) → Contains others l → Contains lines l
   pub ends : (c : Pt) → IsIn rect c → IsEndOf (edges_of lines) c → IsEndOf (edges_of others) c
   pub crossings : (e f : Edge) (c : Pt) → IsIn rect c → Contains (edges_of lines) e → Contains (edges_of lines) f → CrossAt e f c → Contains (edges_of others) e ⊎ Contains (edges_of others) f
-
--- new has the points of old, and the crossings of the first edges with the second ones that lie in the rectangle
-pub record HasBothCrossed (rect : Rect) (first second : List Edge) (old new : List Pt) : Type 0 where
-  pub kept : (c : Pt) → Contains old c → Contains new c
-  pub only : (c : Pt) → Contains new c → Contains old c ⊎ (((e : Edge) × (f : Edge) × Contains first e × Contains second f × CrossAt f e c) × IsIn rect c)
-  pub all : (e f : Edge) (c : Pt) → Contains first e → Contains second f → CrossAt f e c → IsIn rect c → Contains new c

@@ -58,3 +58,9 @@ pub record HasAllCrossed (tile : Rect) (lines : List Edge) (old new : List Pt) :
   pub kept : (c : Pt) → Contains old c → Contains new c
   pub only : (c : Pt) → Contains new c → Contains old c ⊎ (((e : Edge) × (f : Edge) × Contains lines e × Contains lines f × CrossAt e f c) × IsIn tile c)
   pub all : (e f : Edge) (c : Pt) → Contains lines e → Contains lines f → CrossAt e f c → IsIn tile c → Contains new c
+
+-- new has the points of old, and the crossings of the first edges with the second ones that lie in the tile
+pub record HasBothCrossed (tile : Rect) (first second : List Edge) (old new : List Pt) : Type 0 where
+  pub kept : (c : Pt) → Contains old c → Contains new c
+  pub only : (c : Pt) → Contains new c → Contains old c ⊎ (((e : Edge) × (f : Edge) × Contains first e × Contains second f × CrossAt f e c) × IsIn tile c)
+  pub all : (e f : Edge) (c : Pt) → Contains first e → Contains second f → CrossAt f e c → IsIn tile c → Contains new c

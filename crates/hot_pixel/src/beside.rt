@@ -7,24 +7,27 @@
 //! 4. If those that are kept are a bundle, the ends of the others are hot, and their crossings with all lines.
 //! 5. Steep lines are looked at by the rows, with x and y exchanged, and so are others where columns won't do.
 
-ghost use Rattle.std.specs.Prelude.{◌≤ℤ◌, All, IfOk, IfSome, IsTrue, OnOk, [], Contains};
+ghost use Rattle.std.specs.Prelude.{◌≡◌, ◌≤◌, ◌≤ℤ◌, IfOk, IfSome, IsTrue, OnOk, [], Contains, length};
 ghost use Rattle.geom.specs.declared.point.Pt.{Pt};
 ghost use Rattle.geom.specs.Limit.{AreInLimit};
-ghost use Rattle.hot_pixel.specs.Beside.{AreAscending, AreInOrder, AreParted, HasBothCrossed, TakePart};
+ghost use Rattle.hot_pixel.specs.Boxes.{boxes_of};
+ghost use Rattle.hot_pixel.specs.Beside.{AreAscending, AreInOrder, AreParted, TakePart};
 ghost use Rattle.hot_pixel.specs.Carriers.{AreCarried};
 ghost use Rattle.hot_pixel.specs.Halving.{HasHot, IsEndOf, edges_of};
+ghost use Rattle.hot_pixel.specs.Lines.{HasBothCrossed};
 ghost use Rattle.hot_pixel.specs.Rects.{IsIn};
 
 use crate::bundle::{Course, is_bundle, runs_through, seen};
 use crate::carrier::{Carried, strand_if_through, x_of};
-use crate::leaf::{FEW, add_ends, cross_with};
+use crate::leaf::{add_ends, cross_near};
 use crate::lines::Line;
+use box_lanes::{Boxes, LANES};
 use geom::{NoMemory, Pt, Rect};
 use std::alloc::Allocator;
 
 /// How many of so many lines are crossed with all at most.
 fn a_few(lines: usize) -> usize {
-    (lines / 8).max(8).min(FEW)
+    (lines / 8).max(8).min(LANES)
 }
 
 /// Some lines, parted into those that may run side by side and the others.
@@ -81,8 +84,7 @@ fn with_strands<A: Allocator>(
     high: i32,
     lines: &[Line],
 ) -> Result<Option<Vec<Carried, A>>, NoMemory>
-    requires lines_in { All (λ l. AreInLimit l.edge.p l.edge.q) lines.now }
-    requires apart { low ≤ℤ high }
+    requires { low ≤ℤ high }
     ensures { IfOk result (λ o. IfSome o (λ v. AreCarried course low high lines.now v.items)) }
 {
     let mut items = Vec::with_capacity(alloc, lines.len())?;
@@ -192,20 +194,51 @@ fn part_at<A: Allocator + Copy>(
     Ok(Parted { beside, others })
 }
 
-/// Adds the crossings of the others with all lines that lie in the rectangle, where the ends of the others there are found.
+/// The boxes of a few lines, in their order.
+fn boxes_of(lines: &[Line]) -> Boxes
+    requires { length lines.now ≤ 32 }
+    ensures { result ≡ boxes_of (edges_of lines.now) }
+{
+    let mut boxes = Boxes::none();
+    for line in lines {
+        boxes.push(&line.edge.bounds());
+    }
+    boxes
+}
+
+/// Adds the crossings of others with a few lines that lie in the rectangle, where the ends of the others there are found.
+fn cross_few<A: Allocator>(
+    rect: &Rect,
+    lines: &[Line],
+    others: &[Line],
+    found: &mut Vec<Pt, A>,
+) -> Result<(), NoMemory>
+    requires few { length lines.now ≤ 32 }
+    requires ends { (c : Pt) → IsEndOf (edges_of others.now) c → IsIn rect.now c → Contains found.old.items c }
+    ensures { OnOk result (HasBothCrossed rect.now (edges_of others.now) (edges_of lines.now) found.old.items found.new.items) }
+{
+    let boxes = boxes_of(lines);
+    for other in others {
+        cross_near(rect, other, lines, &boxes, found)?;
+    }
+    Ok(())
+}
+
+/// The same, however many lines there are.
 fn cross_others<A: Allocator>(
     rect: &Rect,
     lines: &[Line],
     others: &[Line],
     found: &mut Vec<Pt, A>,
 ) -> Result<(), NoMemory>
-    requires lines_in { All (λ l. AreInLimit l.edge.p l.edge.q) lines.now }
-    requires others_in { All (λ l. AreInLimit l.edge.p l.edge.q) others.now }
-    requires ends { (c : Pt) → IsEndOf (edges_of others.now) c → IsIn rect.now c → Contains found.old.items c }
+    requires { (c : Pt) → IsEndOf (edges_of others.now) c → IsIn rect.now c → Contains found.old.items c }
     ensures { OnOk result (HasBothCrossed rect.now (edges_of others.now) (edges_of lines.now) found.old.items found.new.items) }
 {
-    for line in others {
-        cross_with(rect, &line.edge, lines, found)?;
+    let mut from = 0;
+    while from < lines.len() {
+        let past = (from + LANES).min(lines.len());
+        cross_few(rect, &lines[from..past], others, found)?;
+        from = past;
     }
     Ok(())
 }
@@ -217,8 +250,7 @@ fn hot_of_others<A: Allocator>(
     lines: &[Line],
     others: &[Line],
 ) -> Result<Vec<Pt, A>, NoMemory>
-    requires lines_in { All (λ l. AreInLimit l.edge.p l.edge.q) lines.now }
-    requires others { TakePart rect.now lines.now others.now }
+    requires { TakePart rect.now lines.now others.now }
     ensures { IfOk result (λ v. HasHot rect.now (edges_of lines.now) [] v.items) }
 {
     let mut found = Vec::new(alloc);
@@ -234,8 +266,7 @@ fn hot_along<A: Allocator + Copy>(
     rect: &Rect,
     lines: &[Line],
 ) -> Result<Option<Vec<Pt, A>>, NoMemory>
-    requires rect_in { AreInLimit rect.now.lo rect.now.hi }
-    requires lines_in { All (λ l. AreInLimit l.edge.p l.edge.q) lines.now }
+    requires { AreInLimit rect.now.lo rect.now.hi }
     ensures { IfOk result (λ o. IfSome o (λ v. HasHot rect.now (edges_of lines.now) [] v.items)) }
 {
     let low = x_of(course, rect.lo);
@@ -259,18 +290,14 @@ fn hot_along<A: Allocator + Copy>(
 }
 
 /// Whether a line is steeper than the diagonal.
-fn is_steep(line: &Line) -> bool
-    requires { AreInLimit line.now.edge.p line.now.edge.q }
-{
+fn is_steep(line: &Line) -> bool {
     let run = line.edge.p.vector_to(line.edge.q);
     run.dx.abs() < run.dy.abs()
 }
 
 /// The course along which all lines of a rectangle but a few run through, if there is one: the one that is closer to the direction of
 /// a line in the middle, or else the other.
-fn course_of(rect: &Rect, lines: &[Line]) -> Option<Course>
-    requires { All (λ l. AreInLimit l.edge.p l.edge.q) lines.now }
-{
+fn course_of(rect: &Rect, lines: &[Line]) -> Option<Course> {
     let (mut course, mut other) = (Course::Columns, Course::Rows);
     if !lines.is_empty() && is_steep(&lines[lines.len() / 2]) {
         (course, other) = (other, course);
@@ -290,8 +317,7 @@ pub fn hot_beside<A: Allocator + Copy>(
     rect: &Rect,
     lines: &[Line],
 ) -> Result<Option<Vec<Pt, A>>, NoMemory>
-    requires rect_in { AreInLimit rect.now.lo rect.now.hi }
-    requires lines_in { All (λ l. AreInLimit l.edge.p l.edge.q) lines.now }
+    requires { AreInLimit rect.now.lo rect.now.hi }
     ensures { IfOk result (λ o. IfSome o (λ v. HasHot rect.now (edges_of lines.now) [] v.items)) }
 {
     match course_of(rect, lines) {

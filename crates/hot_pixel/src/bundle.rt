@@ -201,7 +201,6 @@ fn strands<A: Allocator>(
     high: i32,
     lines: &[Line],
 ) -> Result<Option<Vec<Strand, A>>, NoMemory>
-    requires lines_in { All (λ l. AreInLimit l.edge.p l.edge.q) lines.now }
     requires through { All (λ l. RunsThroughSeen course low high l.edge) lines.now }
     requires apart { low ≤ℤ high }
     ensures { IfOk result (λ o. IfSome o (λ v. AreStrands course low high lines.now v.items)) }
@@ -238,7 +237,6 @@ fn run_side_by_side<A: Allocator>(
     high: i32,
     lines: &[Line],
 ) -> Result<bool, NoMemory>
-    requires lines_in { All (λ l. AreInLimit l.edge.p l.edge.q) lines.now }
     ensures { IfOk result (λ b. IsTrue b → HasNoHot course low high (edges_of lines.now)) }
 {
     if high < low || !all_run_through(course, low, high, lines) {
@@ -259,8 +257,7 @@ pub fn is_bundle<A: Allocator + Copy>(
     rect: &Rect,
     lines: &[Line],
 ) -> Result<bool, NoMemory>
-    requires rect_in { AreInLimit rect.now.lo rect.now.hi }
-    requires lines_in { All (λ l. AreInLimit l.edge.p l.edge.q) lines.now }
+    requires { AreInLimit rect.now.lo rect.now.hi }
     ensures { IfOk result (λ b. IsTrue b → (c : Pt) → IsIn rect.now c → IsHotFor (edges_of lines.now) c → ⊥) }
 {
     Ok(

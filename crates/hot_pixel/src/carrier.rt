@@ -57,8 +57,7 @@ fn with_strands<A: Allocator>(
     high: i32,
     lines: &[Line],
 ) -> Result<Vec<Carried, A>, NoMemory>
-    requires lines_in { All (λ l. AreInLimit l.edge.p l.edge.q) lines.now }
-    requires apart { low ≤ℤ high }
+    requires { low ≤ℤ high }
     ensures { IfOk result (λ v. AreCarried course low high lines.now v.items) }
 {
     let mut list = Vec::new(alloc);
@@ -121,7 +120,6 @@ fn one_of_each<A: Allocator + Copy>(
     rect: &Rect,
     lines: &[Line],
 ) -> Result<Vec<Line, A>, NoMemory>
-    requires { All (λ l. AreInLimit l.edge.p l.edge.q) lines.now }
     ensures { IfOk result (λ v. KeepsCrossings rect.now lines.now v.items) }
 {
     let low = x_of(course, rect.lo);
@@ -138,7 +136,6 @@ pub(crate) fn one_of_each_carrier<A: Allocator + Copy>(
     rect: &Rect,
     lines: &[Line],
 ) -> Result<Vec<Line, A>, NoMemory>
-    requires { All (λ l. AreInLimit l.edge.p l.edge.q) lines.now }
     ensures { IfOk result (λ v. KeepsCrossings rect.now lines.now v.items) }
 {
     let part = one_of_each(alloc, Course::Columns, rect, lines)?;

@@ -109,8 +109,7 @@ pub fn passing<A: Allocator>(
     rect: &Rect,
     lines: &[Line],
 ) -> Result<Vec<Line, A>, NoMemory>
-    requires rect_in { AreInLimit rect.now.lo rect.now.hi }
-    requires lines_in { All (λ l. AreInLimit l.edge.p l.edge.q) lines.now }
+    requires { AreInLimit rect.now.lo rect.now.hi }
     ensures { IfOk result (λ v. ArePassing rect.now lines.now v.items) }
 {
     let mut part = Vec::with_capacity(alloc, lines.len())?;
@@ -184,7 +183,6 @@ fn rows(rect: &Rect) -> (Rect, Rect)
 fn shared(first: &Rect, second: &Rect, lines: &[Line]) -> usize
     requires first_in { AreInLimit first.now.lo first.now.hi }
     requires second_in { AreInLimit second.now.lo second.now.hi }
-    requires lines_in { All (λ l. AreInLimit l.edge.p l.edge.q) lines.now }
 {
     let step = lines.len() / SAMPLE;
     let mut count = 0;
@@ -204,8 +202,7 @@ fn shared(first: &Rect, second: &Rect, lines: &[Line]) -> usize
 
 /// Two halves of a rectangle, those that have fewer of the lines in common. Only a single pixel has none.
 pub fn cut(rect: &Rect, lines: &[Line]) -> Option<(Rect, Rect)>
-    requires rect_in { AreInLimit rect.now.lo rect.now.hi }
-    requires lines_in { All (λ l. AreInLimit l.edge.p l.edge.q) lines.now }
+    requires { AreInLimit rect.now.lo rect.now.hi }
     ensures { MatchOption result (IsOnePixel rect.now) (λ h. AreHalves rect.now h.0 h.1 × AreInLimit h.0.lo h.0.hi × AreInLimit h.1.lo h.1.hi) }
 {
     if rect.lo.x < rect.hi.x {

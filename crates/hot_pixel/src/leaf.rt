@@ -1,24 +1,25 @@
 //! The hot pixels of a rectangle with few lines, or of a single pixel: by all ends and all pairs, of many lines by the pairs of
-//! one line of each carrier.
+//! one line of each carrier. Boxes are compared by lanes, and only lines whose boxes share a point are crossed.
 
-ghost use Rattle.std.specs.Prelude.{◌≡◌, ◌⊎◌, ◌≤◌, ◌∷◌, [], All, Contains, IsTrue, OnOk, false, length, take, true};
+ghost use Rattle.std.specs.Prelude.{◌≡◌, ◌⊎◌, ◌≤◌, [], Contains, IfOk, IfSome, IsTrue, OnOk, length, take, true};
 ghost use Rattle.geom.specs.declared.point.Pt.{Pt};
-ghost use Rattle.geom.specs.Limit.{AreInLimit};
+ghost use Rattle.geom.specs.declared.rect.Rect.{Rect};
 ghost use Rattle.hot_pixel.specs.Boxes.{boxes_of};
+ghost use Rattle.hot_pixel.specs.Carriers.{KeepsCrossings};
 ghost use Rattle.hot_pixel.specs.Halving.{edges_of, HasEndsToo, HasHot, IsEndOf};
-ghost use Rattle.hot_pixel.specs.Lines.{CrossAt, HasAllCrossed, HasCrossed};
+ghost use Rattle.hot_pixel.specs.Lines.{CrossAt, HasBothCrossed, HasCrossed};
 ghost use Rattle.hot_pixel.specs.Rects.{IsIn};
 
 use crate::carrier::one_of_each_carrier;
 use crate::lines::{Line, on_line};
 use crate::pixels::push_in;
 use box_lanes::{Boxes, LANES, split_first};
-use crossing::{cross, may_meet};
+use crossing::cross;
 use geom::{Edge, NoMemory, Pt, Rect};
 use std::alloc::Allocator;
 
-/// How many lines of a rectangle are few: all pairs of them are crossed, whose boxes are compared by lanes.
-pub const FEW: usize = LANES;
+/// How many lines of a rectangle are few: all pairs of them are crossed.
+pub const FEW: usize = 96;
 
 /// Adds the ends of the lines that lie in the rectangle.
 pub(crate) fn add_ends<A: Allocator>(
@@ -49,65 +50,29 @@ fn have_common_end(e: &Edge, f: &Edge) -> bool
     is_end_of(e.p, f) || is_end_of(e.q, f)
 }
 
-/// Adds the crossing of two lines, if it lies in the rectangle, where the ends of the first one there are found.
-fn cross_pair<A: Allocator>(
+/// Adds the crossings of a line with others that lie in the rectangle, where its ends there are found and the boxes of the others
+/// are told.
+pub(crate) fn cross_near<A: Allocator>(
     rect: &Rect,
-    line: &Edge,
-    other: &Edge,
-    found: &mut Vec<Pt, A>,
-) -> Result<(), NoMemory>
-    requires line_in { AreInLimit line.now.p line.now.q }
-    requires other_in { AreInLimit other.now.p other.now.q }
-    requires ends { (c : Pt) → (line.now.p ≡ c) ⊎ (line.now.q ≡ c) → IsIn rect.now c → Contains found.old.items c }
-    ensures { OnOk result (HasCrossed rect.now line.now (other.now ∷ []) found.old.items found.new.items) }
-{
-    if !have_common_end(line, other) {
-        if let Some(pixel) = cross(&on_line(line), &on_line(other)) {
-            push_in(found, rect, pixel)?;
-        }
-    }
-    Ok(())
-}
-
-/// Adds the crossings of a line with other lines that lie in the rectangle, where its ends there are found.
-pub(crate) fn cross_with<A: Allocator>(
-    rect: &Rect,
-    line: &Edge,
-    others: &[Line],
-    found: &mut Vec<Pt, A>,
-) -> Result<(), NoMemory>
-    requires line_in { AreInLimit line.now.p line.now.q }
-    requires others_in { All (λ l. AreInLimit l.edge.p l.edge.q) others.now }
-    requires ends { (c : Pt) → (line.now.p ≡ c) ⊎ (line.now.q ≡ c) → IsIn rect.now c → Contains found.old.items c }
-    ensures { OnOk result (HasCrossed rect.now line.now (edges_of others.now) found.old.items found.new.items) }
-{
-    let s = on_line(line);
-    for other in others {
-        if may_meet(&s, &on_line(&other.edge)) {
-            cross_pair(rect, line, &other.edge, found)?;
-        }
-    }
-    Ok(())
-}
-
-/// The same, where the boxes of the other lines are told.
-fn cross_near<A: Allocator>(
-    rect: &Rect,
-    line: &Edge,
+    line: &Line,
     others: &[Line],
     boxes: &Boxes,
     found: &mut Vec<Pt, A>,
 ) -> Result<(), NoMemory>
-    requires line_in { AreInLimit line.now.p line.now.q }
-    requires others_in { All (λ l. AreInLimit l.edge.p l.edge.q) others.now }
     requires boxes { boxes.now ≡ boxes_of (edges_of others.now) }
-    requires ends { (c : Pt) → (line.now.p ≡ c) ⊎ (line.now.q ≡ c) → IsIn rect.now c → Contains found.old.items c }
-    ensures { OnOk result (HasCrossed rect.now line.now (edges_of others.now) found.old.items found.new.items) }
+    requires ends { (c : Pt) → (line.now.edge.p ≡ c) ⊎ (line.now.edge.q ≡ c) → IsIn rect.now c → Contains found.old.items c }
+    ensures { OnOk result (HasCrossed rect.now line.now.edge (edges_of others.now) found.old.items found.new.items) }
 {
-    let mut near = boxes.sharing(&line.bounds());
+    let s = on_line(&line.edge);
+    let mut near = boxes.sharing(&line.edge.bounds());
     while near != 0 {
         let (place, rest) = split_first(near);
-        cross_pair(rect, line, &others[place].edge, found)?;
+        let other = &others[place].edge;
+        if !have_common_end(&line.edge, other) {
+            if let Some(pixel) = cross(&s, &on_line(other)) {
+                push_in(found, rect, pixel)?;
+            }
+        }
         near = rest;
     }
     Ok(())
@@ -131,37 +96,15 @@ fn is_found(rect: &Rect, found: &[Pt]) -> bool
     }
 }
 
-/// Adds the crossings of all pairs of lines that lie in the rectangle, where all ends there are found. Where it is one pixel, a
-/// crossing in it is the last one that is looked for.
-fn cross_pairs<A: Allocator>(
+/// Adds the crossings of the first lines, as many as there are lanes, with all lines that lie in the rectangle, where all ends there
+/// are found. Where it is one pixel, a crossing in it is the last one that is looked for.
+fn cross_first<A: Allocator>(
     rect: &Rect,
     lines: &[Line],
     found: &mut Vec<Pt, A>,
 ) -> Result<(), NoMemory>
-    requires lines_in { All (λ l. AreInLimit l.edge.p l.edge.q) lines.now }
-    requires ends { (c : Pt) → IsEndOf (edges_of lines.now) c → IsIn rect.now c → Contains found.old.items c }
-    ensures { OnOk result (HasAllCrossed rect.now (edges_of lines.now) found.old.items found.new.items) }
-{
-    for place in 0..lines.len() {
-        if is_found(rect, found) {
-            return Ok(());
-        }
-        let line = &lines[place];
-        cross_with(rect, &line.edge, earlier(lines, place), found)?;
-    }
-    Ok(())
-}
-
-/// The same, where lines are few.
-fn cross_few<A: Allocator>(
-    rect: &Rect,
-    lines: &[Line],
-    found: &mut Vec<Pt, A>,
-) -> Result<(), NoMemory>
-    requires few { length lines.now ≤ 32 }
-    requires lines_in { All (λ l. AreInLimit l.edge.p l.edge.q) lines.now }
-    requires ends { (c : Pt) → IsEndOf (edges_of lines.now) c → IsIn rect.now c → Contains found.old.items c }
-    ensures { OnOk result (HasAllCrossed rect.now (edges_of lines.now) found.old.items found.new.items) }
+    requires { (c : Pt) → IsEndOf (edges_of lines.now) c → IsIn rect.now c → Contains found.old.items c }
+    ensures { OnOk result (HasBothCrossed rect.now (take 32 (edges_of lines.now)) (edges_of lines.now) found.old.items found.new.items) }
 {
     let mut boxes = Boxes::none();
     for place in 0..lines.len() {
@@ -169,47 +112,58 @@ fn cross_few<A: Allocator>(
             return Ok(());
         }
         let line = &lines[place];
-        cross_near(rect, &line.edge, earlier(lines, place), &boxes, found)?;
-        boxes.push(&line.edge.bounds());
+        cross_near(rect, line, earlier(lines, place.min(LANES)), &boxes, found)?;
+        if place < LANES {
+            boxes.push(&line.edge.bounds());
+        }
     }
     Ok(())
 }
 
-/// Adds the crossings of lines that lie in the rectangle, where all ends there are found. Where lines are many, one of each
-/// carrier is crossed with the others.
-fn add_crossings<A: Allocator + Copy>(
+/// One of each carrier of the lines of a rectangle where these are many. None stands for all of them.
+fn some_of<A: Allocator + Copy>(
     alloc: A,
     rect: &Rect,
     lines: &[Line],
-    found: &mut Vec<Pt, A>,
-) -> Result<(), NoMemory>
-    requires lines_in { All (λ l. AreInLimit l.edge.p l.edge.q) lines.now }
-    requires ends { (c : Pt) → IsEndOf (edges_of lines.now) c → IsIn rect.now c → Contains found.old.items c }
-    ensures { OnOk result (HasAllCrossed rect.now (edges_of lines.now) found.old.items found.new.items) }
+) -> Result<Option<Vec<Line, A>>, NoMemory>
+    ensures { IfOk result (λ o. IfSome o (λ some. KeepsCrossings rect.now lines.now some.items)) }
 {
     if lines.len() <= FEW {
-        return cross_few(rect, lines, found);
+        return Ok(None);
     }
-    if is_found(rect, found) {
-        return Ok(());
-    }
-    let kept = one_of_each_carrier(alloc, rect, lines)?;
-    cross_pairs(rect, &kept, found)?;
-    Ok(())
+    Ok(Some(one_of_each_carrier(alloc, rect, lines)?))
 }
 
-/// Adds the pixels of a rectangle that are hot for its lines, by all ends and the pairs of all lines, or of one line of each
-/// carrier.
-pub fn add_hot<A: Allocator + Copy>(
+/// The lines that are left: some, or all.
+fn left_of<'a, A: Allocator>(lines: &'a [Line], some: &'a Option<Vec<Line, A>>) -> &'a [Line]
+    ensures { (rect : Rect) → IfSome some.now (λ part. KeepsCrossings rect lines.now part.items) → KeepsCrossings rect lines.now result.now }
+{
+    match some {
+        Some(part) => part,
+        None => lines,
+    }
+}
+
+/// The pixels of a rectangle that are hot for its lines, by all ends and the pairs of all lines, or of one line of each carrier.
+pub fn hot_by_pairs<A: Allocator + Copy>(
     alloc: A,
     rect: &Rect,
     lines: &[Line],
-    found: &mut Vec<Pt, A>,
-) -> Result<(), NoMemory>
-    requires { All (λ l. AreInLimit l.edge.p l.edge.q) lines.now }
-    ensures { OnOk result (HasHot rect.now (edges_of lines.now) found.old.items found.new.items) }
+) -> Result<Vec<Pt, A>, NoMemory>
+    ensures { IfOk result (λ v. HasHot rect.now (edges_of lines.now) [] v.items) }
 {
-    add_ends(rect, lines, found)?;
-    add_crossings(alloc, rect, lines, found)?;
-    Ok(())
+    let ends = lines.len().saturating_mul(2);
+    let mut found = Vec::with_capacity(alloc, ends)?;
+    add_ends(rect, lines, &mut found)?;
+    if is_found(rect, &found) {
+        return Ok(found);
+    }
+    let some = some_of(alloc, rect, lines)?;
+    let left = left_of(lines, &some);
+    let mut from = 0;
+    while from < left.len() {
+        cross_first(rect, &left[from..], &mut found)?;
+        from = (from + LANES).min(left.len());
+    }
+    Ok(found)
 }

@@ -29,7 +29,7 @@ pub use beside::hot_beside;
 pub use bundle::is_bundle;
 pub use halving::{cut, passing, within_limit};
 pub use hot::{hot_in, sweep};
-pub use leaf::{FEW, add_hot};
+pub use leaf::{FEW, hot_by_pairs};
 pub use lines::{Line, edge_of, on_line};
 pub use parting::parts;
 pub use pixels::ascending;

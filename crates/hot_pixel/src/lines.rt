@@ -2,6 +2,7 @@
 
 ghost use Rattle.std.specs.Prelude.{ℕ, ◌≡◌, ◌<◌, ◌≤◌, All, AllPairs, IfOk, length};
 ghost use Rattle.geom.specs.declared.segment.Seg.{Seg};
+ghost use Rattle.geom.specs.Limit.{AreInLimit};
 ghost use Rattle.geom.specs.Rounded.{IsEdgeBefore};
 ghost use Rattle.hot_pixel.specs.Candidates.{chosen, meeting_pairs};
 ghost use Rattle.hot_pixel.specs.Lines.{line_pairs, AreEachLine, AreLines, IsLine};
@@ -9,14 +10,15 @@ ghost use Rattle.hot_pixel.specs.Lines.{line_pairs, AreEachLine, AreLines, IsLin
 use geom::{Edge, NoMemory, Seg, Source};
 use std::alloc::Allocator;
 
-/// The line of some segments: the edge with their ends. In a list of segments by lines they stand from the first place on,
-/// up to the one past them.
+/// The line of some segments: the edge with their ends, within the coordinate limit. In a list of segments by lines they stand from
+/// the first place on, up to the one past them.
 #[derive(Clone, Copy, Debug)]
 pub struct Line {
     pub edge: Edge,
     pub first: usize,
     pub past: usize,
     ghost ordered: { first ≤ past },
+    ghost in_limit: { AreInLimit edge.p edge.q },
 }
 
 /// The edge with the ends of a segment.

@@ -100,8 +100,7 @@ fn walls_past(rect: &Rect, lines: &[Edge], is_opposite: bool) -> Option<(Wall, W
 /// Whether walls part off some lines of a rectangle: few may meet pixels behind both, and more than a leaf crosses behind the first
 /// alone.
 fn part_off(rect: &Rect, walls: &(Wall, Wall), lines: &[Line]) -> bool
-    requires rect_in { AreInLimit rect.now.lo rect.now.hi }
-    requires lines_in { All (λ l. AreInLimit l.edge.p l.edge.q) lines.now }
+    requires { AreInLimit rect.now.lo rect.now.hi }
 {
     let share = lines.len() / SHARE;
     let mut first = 0;
@@ -131,7 +130,6 @@ pub(crate) fn walls_parting_off(
     requires some { 0 < length long.now }
     requires rect_in { AreInLimit rect.now.lo rect.now.hi }
     requires long_in { All (λ e. AreInLimit e.p e.q) long.now }
-    requires lines_in { All (λ l. AreInLimit l.edge.p l.edge.q) lines.now }
     ensures { IfSome result (λ w. ArePartition w.0 w.1) }
 {
     let walls = walls_past(rect, long, is_opposite)?;

@@ -65,7 +65,6 @@ fn long_lines<A: Allocator>(
 ) -> Result<Vec<Edge, A>, NoMemory>
     requires first_in { AreInLimit halves.now.0.lo halves.now.0.hi }
     requires second_in { AreInLimit halves.now.1.lo halves.now.1.hi }
-    requires lines_in { All (λ l. AreInLimit l.edge.p l.edge.q) lines.now }
     ensures { IfOk result (λ v. All (λ e. AreInLimit e.p e.q) v.items) }
 {
     let step = lines.len() / SAMPLE;
@@ -145,8 +144,7 @@ pub(crate) fn comes_behind(wall: &Wall, rect: &Rect, line: &Edge) -> bool
 
 /// Whether walls part the lines of a rectangle: few may meet pixels behind both, and many behind each alone.
 fn part_lines(rect: &Rect, walls: &(Wall, Wall), lines: &[Line]) -> bool
-    requires rect_in { AreInLimit rect.now.lo rect.now.hi }
-    requires lines_in { All (λ l. AreInLimit l.edge.p l.edge.q) lines.now }
+    requires { AreInLimit rect.now.lo rect.now.hi }
 {
     let share = lines.len() / SHARE;
     let mut first = 0;
@@ -178,7 +176,6 @@ fn slanted<A: Allocator>(
     requires rect_in { AreInLimit rect.now.lo rect.now.hi }
     requires first_in { AreInLimit halves.now.0.lo halves.now.0.hi }
     requires second_in { AreInLimit halves.now.1.lo halves.now.1.hi }
-    requires lines_in { All (λ l. AreInLimit l.edge.p l.edge.q) lines.now }
     ensures { IfOk result (λ o. IfSome o (λ w. ArePartition w.0 w.1)) }
 {
     let long = long_lines(alloc, rect, halves, lines)?;
@@ -225,8 +222,7 @@ pub fn parts<A: Allocator + Copy>(
     region: &Region<A>,
     lines: &[Line],
 ) -> Result<Option<(Region<A>, Region<A>)>, NoMemory>
-    requires rect_in { AreInLimit region.now.rect.lo region.now.rect.hi }
-    requires lines_in { All (λ l. AreInLimit l.edge.p l.edge.q) lines.now }
+    requires { AreInLimit region.now.rect.lo region.now.rect.hi }
     ensures parts { IfOk result (λ o. IfSome o (λ h. AreParts (IsInside region.now.rect region.now.walls.items) (IsInside h.0.rect h.0.walls.items) (IsInside h.1.rect h.1.walls.items))) }
     ensures first_in { IfOk result (λ o. IfSome o (λ h. AreInLimit h.0.rect.lo h.0.rect.hi)) }
     ensures second_in { IfOk result (λ o. IfSome o (λ h. AreInLimit h.1.rect.lo h.1.rect.hi)) }

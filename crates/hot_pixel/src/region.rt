@@ -140,8 +140,7 @@ fn passing_behind<A: Allocator>(
     wall: &Wall,
     lines: &[Line],
 ) -> Result<Vec<Line, A>, NoMemory>
-    requires rect_in { AreInLimit rect.now.lo rect.now.hi }
-    requires lines_in { All (λ l. AreInLimit l.edge.p l.edge.q) lines.now }
+    requires { AreInLimit rect.now.lo rect.now.hi }
     ensures { IfOk result (λ v. AreReaching (λ c. IsIn rect.now c × IsBehind wall.now c) lines.now v.items) }
 {
     let mut part = Vec::with_capacity(alloc, lines.len())?;
@@ -201,8 +200,7 @@ pub fn reaching<A: Allocator>(
     region: &Region<A>,
     lines: &[Line],
 ) -> Result<Vec<Line, A>, NoMemory>
-    requires rect_in { AreInLimit region.now.rect.lo region.now.rect.hi }
-    requires lines_in { All (λ l. AreInLimit l.edge.p l.edge.q) lines.now }
+    requires { AreInLimit region.now.rect.lo region.now.rect.hi }
     ensures { IfOk result (λ v. AreReaching (IsInside region.now.rect region.now.walls.items) lines.now v.items) }
 {
     match region.walls.last() {

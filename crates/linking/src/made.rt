@@ -151,8 +151,7 @@ pub(crate) fn link_pieces<
 {
     let found = link_in_parts(rt, alloc, parts, grid, &pieces, segments, makers)?;
     let AllLinked { links, records } = found;
-    let pixels = pixels_of(alloc, &pieces)?;
-    drop(pieces);
+    let pixels = pixels_of(alloc, pieces)?;
     let hot = hot_in_parts(rt, alloc, parts, grid, &pixels)?;
     drop(pixels);
     let tiles = paired(alloc, &hot, &records)?;
@@ -182,8 +181,7 @@ pub(crate) fn link_alone<M: MakesLinks<L>, L: Copy, T: Tiled, A: Allocator + Cop
     let whole = Share::whole(item_count(&pieces));
     let linked = link_share(alloc, grid, &pieces, segments, makers, whole)?;
     let Linked { links, records } = linked;
-    let pixels = pixels_of(alloc, &pieces)?;
-    drop(pieces);
+    let pixels = pixels_of(alloc, pieces)?;
     let hot = count_by_tile(alloc, grid, &pixels)?;
     drop(pixels);
     let tiles = paired(alloc, &hot, &records)?;
@@ -200,7 +198,7 @@ fn pixel_count<T: Tiled, A: Allocator>(pieces: &[TilePiece<T, A>]) -> usize {
 }
 
 /// The hot pixels of pieces, in their order.
-fn pixels_of<T: Tiled, A: Allocator>(
+fn listed_pixels<T: Tiled, A: Allocator>(
     alloc: A,
     pieces: &[TilePiece<T, A>],
 ) -> Result<Vec<Pt, A>, NoMemory>
@@ -211,6 +209,25 @@ fn pixels_of<T: Tiled, A: Allocator>(
         pixels.extend_from_slice(&piece.pixels)?;
     }
     Ok(pixels)
+}
+
+/// The hot pixels of pieces, in their order: those of the only one as they stand.
+fn pixels_of<T: Tiled, A: Allocator>(
+    alloc: A,
+    mut pieces: Vec<TilePiece<T, A>, A>,
+) -> Result<Vec<Pt, A>, NoMemory>
+    ensures { IfOk result (λ v. v.items ≡ flat_map (λ p. p.pixels.items) pieces.items) }
+{
+    if pieces.len() != 1 {
+        return listed_pixels(alloc, &pieces);
+    }
+    match pieces.pop() {
+        Some(piece) => {
+            let TilePiece { pixels, .. } = piece;
+            Ok(pixels)
+        }
+        None => Ok(Vec::new(alloc)),
+    }
 }
 
 /// What was gathered, by the rounded edges of segments.

@@ -1,10 +1,9 @@
 -- Pixels outside the box of a line: the line meets none of them.
-use Rattle.std.proofs.Common.{◌≡◌, ◌≢◌, ◌⊎◌, inl, inr, ℕ, ◌+◌, ◌-◌, ◌<◌, ◌≤◌, List, [], ◌∷◌, ◌++◌, sym, ◌∙◌, ap, arith, subst, length, get_or, take, drop, ◌↔◌, ⊎_elim}
+use Rattle.std.proofs.Common.{◌≡◌, ◌≢◌, ◌⊎◌, inl, inr, ℕ, ◌+◌, ◌<◌, ◌≤◌, List, [], ◌∷◌, ◌++◌, sym, ◌∙◌, ap, arith, subst, length, get_or, take, ◌↔◌, ⊎_elim}
 use Rattle.std.specs.Prelude.{Contains, slice_range}
 use Rattle.std.proofs.Math.IntN.{pos}
-use Rattle.std.proofs.Math.Seq.{take-append-add}
 use Rattle.std.proofs.lemmas.Bool.{cases_eq}
-use Rattle.std.proofs.lemmas.List.{get_or-map, get_or_default, length-map, length-take, length-take-le, take_more, take-append-drop, map-append}
+use Rattle.std.proofs.lemmas.List.{get_or-map, get_or_default, length-map, length-take, take_more, map-append}
 use Rattle.std.proofs.lemmas.List.Elements.{Contains-append_left, Contains-append_right, Contains-append_cases}
 use Rattle.std.proofs.lemmas.Nat.Bits.{bit_at-zero}
 use Rattle.geom.specs.declared.point.Pt.{Pt}
@@ -17,8 +16,9 @@ use Rattle.box_lanes.specs.Places.{IsPlace}
 use Rattle.box_lanes.specs.Sides.{Corners, SharesAt}
 use Rattle.hot_pixel.specs.declared.lines.Line.{Line}
 use Rattle.hot_pixel.specs.Halving.{IsMetOn}
+use Rattle.hot_pixel.proofs.ListLaws.{take_parts}
 use Rattle.hot_pixel.proofs.NearLaws.{in_bounds}
-use Rattle.routing.specs.declared.by_line.OnLine.{OnLine}
+use Rattle.routing.specs.declared.on_line.OnLine.{OnLine}
 use Rattle.routing.specs.declared.record.Record.{Record}
 use Rattle.routing.specs.Boxes.{box_of, boxes_of}
 use Rattle.routing.specs.Recording.{AddsAlong, AddsAt, AddsRecordsAt, IsRecordAlong}
@@ -109,13 +109,6 @@ boxes_more pixels i c boxes l is h =
 -- fewer pixels than lanes have fewer boxes
 pub boxes_few : (pixels : List Pt) (i : ℕ) (boxes : List Corners) → i < length pixels → length pixels ≤ 32 → boxes ≡ boxes_of (take i pixels) → length boxes < 32
 boxes_few pixels i boxes l few is = let a = ap length is in let b = length-map (take i pixels) box_of in let d = length-take i pixels in omega arith
-
--- the first pixels, and those behind them up to another place
-take_parts : (pixels : List Pt) (from past : ℕ) → from ≤ past → from ≤ length pixels → take past pixels ≡ take from pixels ++ slice_range pixels from past
-take_parts pixels from past l within =
-    let first = take from pixels in
-    let rest = drop from pixels in
-    ap (λ (t : List Pt). take past t) (sym (take-append-drop from pixels)) ∙ ap (λ n. take n (first ++ rest)) (let e = length-take-le from pixels within in omega arith) ∙ take-append-add first rest (past - from)
 
 -- records at the first pixels, and then at those behind them
 pub records_behind : (segments : List Seg) (table : List OnLine) (lines : List Line) (pixels : List Pt) (from past : ℕ) (old list new : List Record) → from ≤ past → from ≤ length pixels

@@ -15,8 +15,8 @@ use Rattle.geom.specs.OnSegment.{IsOn}
 use Rattle.geom.specs.Pixel.{Point}
 use Rattle.geom.proofs.Edges.{edge_path}
 use Rattle.hot_pixel.proofs.ListLaws.{none_in, in_push, in_take_more}
-use Rattle.routing.specs.declared.by_line.OnLine.{OnLine}
-use Rattle.routing.specs.declared.cutting.Mark.{Mark}
+use Rattle.routing.specs.declared.on_line.OnLine.{OnLine}
+use Rattle.routing.specs.declared.mark.Mark.{Mark}
 use Rattle.routing.specs.Cutting.{AddsPortions, AreAmong, AreCut, AreMarks, IsCutFrom, IsCutPoint, IsEndIn, IsPortion, IsPortionAt, LiesBetween}
 use Rattle.routing.specs.Recording.{IsTable}
 use Rattle.routing.specs.Cutting.IsCutPoint.{start, end, mark}
@@ -41,14 +41,6 @@ among_none marks m h = absurd (none_in m h)
 pub among_more : (marks some : List Mark) (m : Mark) → Contains marks m → AreAmong marks some → AreAmong marks (some ++ m ∷ [])
 among_more marks some m at h n k = ⊎_elim (λ l. h n l) (λ e. subst (λ (x : Mark). Contains marks x) e at) (Contains-push_cases some m n k)
 
-pub marks_limit : (table : List OnLine) (marks : List Mark) → All (λ x. AreInLimit x.edge.p x.edge.q) table → AreMarks table marks → All (λ m. InLimit m.point) marks
-marks_limit table marks limits h = λ k d below. let m = get_or marks k d in end_limit m.point (h m (Contains-get_or marks k d below))
-  where
-    end_limit : (c : Pt) → IsEndIn table c → InLimit c
-    end_limit c e =
-        let l = All-contains (λ (x : OnLine). AreInLimit x.edge.p x.edge.q) table e.x limits e.listed in
-        ⊎_elim (λ s. subst (λ (p : Pt). InLimit p) s l.a_in) (λ s. subst (λ (p : Pt). InLimit p) s l.b_in) e.is_end
-
 -- ---- the portions of one edge, as they are found
 -- list has what old has, and portions of whole; rest, from the start on, is what is left of it
 pub record AddsSome (whole : OnLine) (marks : List Mark) (from : Pt) (old list : List OnLine) : Type 0 where
@@ -63,18 +55,18 @@ pub record AddsSome (whole : OnLine) (marks : List Mark) (from : Pt) (old list :
   pub all : (z : Point) → IsOn whole.edge.p whole.edge.q z → IsOn rest.p rest.q z ⊎ ((y : OnLine) × Contains list y × (y.number ≡ whole.number) × IsOn y.edge.p y.edge.q z)
   pub first : (rest.p ≡ whole.edge.p) ⊎ ((y : OnLine) × Contains list y × (y.edge.p ≡ whole.edge.p))
 
-pub some_none : (whole : OnLine) (marks : List Mark) (old : List OnLine) → AreInLimit whole.edge.p whole.edge.q → AddsSome whole marks whole.edge.p old old
-some_none whole marks old l = record { rest = whole.edge; p_is = refl; within = l; portion = itself whole.edge; p_cut = start refl; q_is = refl; kept = λ y h. h; only = λ y h. inl h; all = λ z on. inl on; first = inl refl }
+pub some_none : (whole : OnLine) (marks : List Mark) (old : List OnLine) → AddsSome whole marks whole.edge.p old old
+some_none whole marks old = record { rest = whole.edge; p_is = refl; within = whole.in_limit; portion = itself whole.edge; p_cut = start refl; q_is = refl; kept = λ y h. h; only = λ y h. inl h; all = λ z on. inl on; first = inl refl }
 
 module _ (whole : OnLine) (marks : List Mark) (from : Pt) (old list : List OnLine) (h : AddsSome whole marks from old list) where
   abbrev pub rest : Edge
   rest = h.rest
 
-  pub some_more : (m : Mark) (f : Edge) (y : OnLine) → Contains marks m → InLimit m.point → LiesBetween f m.point → f.p ≡ from → f.q ≡ whole.edge.q → y.number ≡ whole.number → y.edge.p ≡ from → y.edge.q ≡ m.point → AddsSome whole marks m.point old (list ++ y ∷ [])
-  some_more m f y listed limit between_f f_p f_q numbered starts is_q = record {
+  pub some_more : (m : Mark) (f : Edge) (y : OnLine) → Contains marks m → LiesBetween f m.point → f.p ≡ from → f.q ≡ whole.edge.q → y.number ≡ whole.number → y.edge.p ≡ from → y.edge.q ≡ m.point → AddsSome whole marks m.point old (list ++ y ∷ [])
+  some_more m f y listed between_f f_p f_q numbered starts is_q = record {
     rest = left;
     p_is = refl;
-    within = record { a_in = limit; b_in = h.within.b_in };
+    within = record { a_in = m.in_limit; b_in = h.within.b_in };
     portion = portion_of_portion whole.edge rest left h.portion (last_portion rest m.point between left refl refl);
     p_cut = mark m listed refl;
     q_is = h.q_is;

@@ -281,7 +281,7 @@ pub piece_found : (segments : List Seg) (numbers : List ℕ) (tile : Rect) (pixe
     → HasRecords (candidates_of segments numbers) pixels found → IsSortedOnce record_cmp found records → n ≡ length pixels → IsPiece tile candidates n records
 piece_found segments numbers tile pixels candidates found records n hot e all once is = subst (λ (cs : List Candidate). IsPiece tile cs n records) (sym e) (piece_is segments numbers tile pixels found records hot all once n is)
 
--- ---- what `part` finds
+-- ---- what is found among candidates that leave out no segment is the part of a tile
 pub part_found : (Owned : Pt → Type 0) (segments : List Seg) (numbers : List ℕ) (tile : Rect) (pixels : List Pt) (records : List Record) → ((c : Pt) → IsIn tile c ↔ Owned c) → AreCandidates Owned segments numbers
     → AreOwnedHot (IsIn tile) (chosen segments numbers) pixels → HasInnerRecords (candidates_of segments numbers) pixels records → IsPartOf Owned segments pixels records
 part_found Owned segments numbers tile pixels records same are hot all = record { are_hot = owned; exact = λ r. (to r, from r) }

@@ -30,7 +30,7 @@ use Rattle.hot_pixel.proofs.SweepLaws.{crossing_of, end_in, start_in, start_or_e
 use Rattle.hot_pixel.proofs.LineLaws.{cross_at, segment_of, segment_line}
 use Rattle.hot_pixel.proofs.HalvingLaws.{hot_whole, hot_part, line_at, edge_in, met_on, end_met, first_met}
 use Rattle.hot_pixel.proofs.ListLaws.{none_in, in_push, in_take_more}
-use Rattle.routing.specs.declared.by_line.OnLine.{OnLine}
+use Rattle.routing.specs.declared.on_line.OnLine.{OnLine}
 use Rattle.routing.specs.declared.record.Record.{Record}
 use Rattle.routing.specs.declared.record.Candidate.{Candidate}
 use Rattle.routing.specs.Found.{IsRecordOf, HasInnerRecords}
@@ -196,14 +196,14 @@ module _ (Inside : Pt → Type 0) (lines : List Line) (pixels : List Pt) (hot : 
   hot_met c (inl k) = (k.e, k.listed, end_met k.e c k.is_end)
   hot_met c (inr k) = (k.e, k.e_listed, first_met k.e k.f c k.crosses)
 
-  pub hot_within : All (λ l. AreInLimit l.edge.p l.edge.q) lines → All InLimit pixels
-  hot_within limits = λ k d l. at (get_or pixels k d) (Contains-get_or pixels k d l)
+  pub hot_within : All InLimit pixels
+  hot_within = λ k d l. at (get_or pixels k d) (Contains-get_or pixels k d l)
     where
       at : (c : Pt) → Contains pixels c → InLimit c
       at c m =
           let r = hot_met c (hot_at c m).0 in
           let l = line_at lines r.0 r.1 in
-          line_limit r.0 c (subst (λ (e : Edge). AreInLimit e.p e.q) l.2 (All-contains (λ (x : Line). AreInLimit x.edge.p x.edge.q) lines l.0 limits l.1)) r.2
+          line_limit r.0 c (subst (λ (e : Edge). AreInLimit e.p e.q) l.2 l.0.in_limit) r.2
 
 -- ---- the table
 pub table_none : (segments : List Seg) → IsTable segments [] []
@@ -230,15 +230,10 @@ table_more segments numbers i k s x list l is at on e h = record { only = only; 
         (λ o. (x, Contains-push list x, e ∙ o))
         ((more n).0 m)
 
-pub table_limit : (segments : List Seg) (numbers : List ℕ) (table : List OnLine) → All (λ s. AreInLimit s.a s.b) segments → IsTable segments numbers table → All (λ x. AreInLimit x.edge.p x.edge.q) table
-table_limit segments numbers table limits h = λ k d l.
-    let x = get_or table k d in
-    let r = h.only x (Contains-get_or table k d l) in
-    of_line x.edge r.1.0 r.1.2 (All-contains (λ (s : Seg). AreInLimit s.a s.b) segments r.1.0 limits (at_contains segments x.number r.1.0 r.1.1))
-  where
-    of_line : (e : Edge) (s : Seg) → IsLine e s → AreInLimit s.a s.b → AreInLimit e.p e.q
-    of_line e s (inl (a, b)) l = record { a_in = subst (λ (p : Pt). InLimit p) (sym a) l.a_in; b_in = subst (λ (p : Pt). InLimit p) (sym b) l.b_in }
-    of_line e s (inr (a, b)) l = record { a_in = subst (λ (p : Pt). InLimit p) (sym a) l.b_in; b_in = subst (λ (p : Pt). InLimit p) (sym b) l.a_in }
+-- a line of a segment within the limit
+pub limit_of : (e : Edge) (s : Seg) → IsLine e s → AreInLimit s.a s.b → AreInLimit e.p e.q
+limit_of e s (inl (a, b)) l = record { a_in = subst (λ (p : Pt). InLimit p) (sym a) l.a_in; b_in = subst (λ (p : Pt). InLimit p) (sym b) l.b_in }
+limit_of e s (inr (a, b)) l = record { a_in = subst (λ (p : Pt). InLimit p) (sym a) l.b_in; b_in = subst (λ (p : Pt). InLimit p) (sym b) l.a_in }
 
 -- ---- the lines of the table
 -- the lines of the first places
@@ -442,19 +437,6 @@ module _ (segments : List Seg) (numbers : List ℕ) (table : List OnLine) (lines
   -- ---- limits
   pub entries_below : All (λ x. x.number < length segments) table
   entries_below = λ k d l. let x = get_or table k d in let t = segment_at x (Contains-get_or table k d l) in slice_get_within segments x.number t.s t.is_at
-
-  pub lines_in_limit : All (λ s. AreInLimit s.a s.b) segments → All (λ l. AreInLimit l.edge.p l.edge.q) lines
-  lines_in_limit limits = λ k d b.
-      let l = get_or lines k d in
-      let x = entry_on l.edge (edge_in lines l (Contains-get_or lines k d b)) in
-      let r = is_cut.are_cut.only x.0 x.1 in
-      subst (λ (e : Edge). AreInLimit e.p e.q) x.2 (record { a_in = end_limit x.0.edge.p r.p_end; b_in = end_limit x.0.edge.q r.q_end })
-    where
-      all_limits : All (λ s. AreInLimit s.a s.b) (chosen segments numbers)
-      all_limits = λ k d b. all_chosen (λ s. AreInLimit s.a s.b) segments numbers (λ s h. All-contains (λ (t : Seg). AreInLimit t.a t.b) segments s limits h) (get_or (chosen segments numbers) k d) (Contains-get_or (chosen segments numbers) k d b)
-
-      end_limit : (c : Pt) → IsEndIn is_cut.whole c → InLimit c
-      end_limit c h = hot_limit (chosen segments numbers) c all_limits (end_hot c h)
 
   -- ---- what is found
   module _ (tile part : Rect) (within : IsPartInLimit tile part) where

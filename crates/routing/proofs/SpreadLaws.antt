@@ -15,7 +15,7 @@ use Rattle.hot_pixel.specs.Rects.{IsIn}
 use Rattle.hot_pixel.specs.Walls.{IsInside}
 use Rattle.hot_pixel.proofs.ListLaws.{in_push, in_take_more, none_in}
 use Rattle.geom.specs.declared.segment.Seg.{Seg}
-use Rattle.routing.specs.declared.by_line.OnLine.{OnLine}
+use Rattle.routing.specs.declared.on_line.OnLine.{OnLine}
 use Rattle.routing.specs.declared.record.Record.{Record}
 use Rattle.routing.specs.Recording.{AddsRecordsAt, IsRecordOnOne}
 use Rattle.routing.specs.Spread.{AreThoseIn}

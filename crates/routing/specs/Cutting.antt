@@ -6,8 +6,8 @@ use Rattle.geom.specs.Determinant.{side, turn}
 use Rattle.geom.specs.OnSegment.{IsOn}
 use Rattle.geom.specs.Order.{IsBefore}
 use Rattle.geom.specs.Pixel.{Point}
-use Rattle.routing.specs.declared.by_line.OnLine.{OnLine}
-use Rattle.routing.specs.declared.cutting.Mark.{Mark}
+use Rattle.routing.specs.declared.on_line.OnLine.{OnLine}
+use Rattle.routing.specs.declared.mark.Mark.{Mark}
 
 -- c lies on e, between its ends
 pub record LiesBetween (e : Edge) (c : Pt) : Type 0 where

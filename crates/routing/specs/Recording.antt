@@ -7,7 +7,7 @@ use Rattle.hot_pixel.specs.declared.lines.Line.{Line}
 use Rattle.hot_pixel.specs.Lines.{IsLine}
 use Rattle.hot_pixel.specs.Rects.{IsIn}
 use Rattle.hot_pixel.specs.Halving.{edges_of, IsMetOn, IsHotFor}
-use Rattle.routing.specs.declared.by_line.OnLine.{OnLine}
+use Rattle.routing.specs.declared.on_line.OnLine.{OnLine}
 use Rattle.routing.specs.declared.record.Record.{Record}
 use Rattle.routing.specs.Cutting.{AreCut}
 use Rattle.routing.specs.Pieces.{IsEnd, IsEndRecord}

@@ -8,21 +8,16 @@ ghost use Rattle.std.specs.List.Sorted.{IsPermutation};
 ghost use Rattle.geom.specs.Limit.{AreInLimit};
 ghost use Rattle.routing.specs.Cutting.{AreCut};
 ghost use Rattle.routing.specs.Recording.{IsCutTable, IsTable, AreLinesOf};
+ghost use Rattle.routing.specs.declared.on_line.OnLine.{OnLine};
 
 use crate::cutting::{cut_at, marks_between};
-use geom::{Edge, NoMemory, Rect, Seg};
+use crate::on_line::OnLine;
+use geom::{NoMemory, Rect, Seg};
 use hot_pixel::{Line, edge_of};
 use std::alloc::Allocator;
 
 /// How many segments of a tile are many. Fewer aren't cut: to look for their carriers would cost more than it saves.
 const MANY: usize = 128;
-
-/// A segment's number, with its ends, or those of a portion of it.
-#[derive(Clone, Copy, Debug, PartialEq, Eq, PartialOrd, Ord)]
-pub(crate) struct OnLine {
-    pub edge: Edge,
-    pub number: u32,
-}
 
 /// The segments of these numbers, in the order of the numbers.
 fn each_on_line<A: Allocator>(
@@ -30,7 +25,8 @@ fn each_on_line<A: Allocator>(
     segments: &[Seg],
     numbers: &[u32],
 ) -> Result<Vec<OnLine, A>, NoMemory>
-    requires { All (λ k. k < length segments.now) numbers.now }
+    requires limits { All (λ s. AreInLimit s.a s.b) segments.now }
+    requires below { All (λ k. k < length segments.now) numbers.now }
     ensures { IfOk result (λ v. IsTable segments.now numbers.now v.items) }
 {
     let mut table = Vec::with_capacity(alloc, numbers.len())?;
@@ -49,7 +45,6 @@ fn portions_of<A: Allocator + Copy>(
     tile: &Rect,
     table: Vec<OnLine, A>,
 ) -> Result<Vec<OnLine, A>, NoMemory>
-    requires { All (λ x. AreInLimit x.edge.p x.edge.q) table.items }
     ensures { IfOk result (λ v. AreCut table.items table.items v.items) }
 {
     if table.len() > MANY {

@@ -10,29 +10,12 @@ ghost use Rattle.geom.specs.Determinant.{side};
 ghost use Rattle.geom.specs.Limit.{AreInLimit, InLimit};
 ghost use Rattle.geom.specs.Order.{IsBefore};
 ghost use Rattle.routing.specs.Cutting.{AddsPortions, AreAmong, AreCut, AreMarks, LiesBetween};
-ghost use Rattle.routing.specs.declared.by_line.OnLine.{OnLine};
+ghost use Rattle.routing.specs.declared.on_line.OnLine.{OnLine};
 
-use crate::by_line::OnLine;
+use crate::mark::{Carrier, Mark};
+use crate::on_line::OnLine;
 use geom::{Edge, NoMemory, Pt, Rect};
 use std::alloc::Allocator;
-
-/// A carrier: its direction in lowest terms, whether that goes down, and the determinant of it with the vector to a point from the
-/// origin, which is the same for all points, with whether that is below 0.
-#[derive(Clone, Copy, Debug, PartialEq, Eq, PartialOrd, Ord)]
-pub(crate) struct Carrier {
-    run: u64,
-    rise: u64,
-    goes_down: bool,
-    is_below: bool,
-    side: u64,
-}
-
-/// An end of a segment, on its carrier.
-#[derive(Clone, Copy, Debug, PartialEq, Eq, PartialOrd, Ord)]
-pub(crate) struct Mark {
-    carrier: Carrier,
-    point: Pt,
-}
 
 /// A common divisor of two numbers that aren't both 0: the greatest.
 fn common_divisor(first: u64, second: u64) -> u64
@@ -97,7 +80,6 @@ fn is_again(table: &[OnLine], place: usize) -> bool
 
 /// The ends of the edges of a table, where equal ones stand together, by their carriers and along these.
 fn marks_of<A: Allocator + Copy>(alloc: A, table: &[OnLine]) -> Result<Vec<Mark, A>, NoMemory>
-    requires { All (λ x. AreInLimit x.edge.p x.edge.q) table.now }
     ensures { IfOk result (λ v. AreMarks table.now v.items) }
 {
     let mut marks = Vec::new(alloc);
@@ -205,8 +187,6 @@ fn add_portions<A: Allocator>(
     whole: &OnLine,
     marks: &[Mark],
 ) -> Result<(), NoMemory>
-    requires whole_in { AreInLimit whole.now.edge.p whole.now.edge.q }
-    requires marks_in { All (λ m. InLimit m.point) marks.now }
     ensures { OnOk result (AddsPortions whole.now marks.now portions.old.items portions.new.items) }
 {
     let number = whole.number;
@@ -233,8 +213,7 @@ pub(crate) fn cut_at<A: Allocator>(
     table: &[OnLine],
     marks: &[Mark],
 ) -> Result<Vec<OnLine, A>, NoMemory>
-    requires table_in { All (λ x. AreInLimit x.edge.p x.edge.q) table.now }
-    requires marks_in { AreMarks table.now marks.now }
+    requires { AreMarks table.now marks.now }
     ensures { IfOk result (λ v. AreCut table.now table.now v.items) }
 {
     let mut portions = Vec::new(alloc);
@@ -250,7 +229,6 @@ pub(crate) fn marks_between<A: Allocator + Copy>(
     tile: &Rect,
     table: &[OnLine],
 ) -> Result<Vec<Mark, A>, NoMemory>
-    requires { All (λ x. AreInLimit x.edge.p x.edge.q) table.now }
     ensures { IfOk result (λ v. AreMarks table.now v.items) }
 {
     let ends = marks_of(alloc, table)?;

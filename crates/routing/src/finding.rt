@@ -1,5 +1,4 @@
-//! How a piece is made: the records of its tile, in order, with what they were found among; and a part, without these and in
-//! no order.
+//! How a piece is made: the records of its tile, in order, with what they were found among.
 
 ghost use Rattle.std.specs.Prelude.{◌≡◌, ◌↔◌, ◌<◌, All, IfOk, OnOk, length};
 ghost use Rattle.geom.specs.declared.point.Pt.{Pt};
@@ -7,7 +6,7 @@ ghost use Rattle.geom.specs.Limit.{AreInLimit, InLimit};
 ghost use Rattle.hot_pixel.specs.Rects.{IsIn};
 ghost use Rattle.grid.specs.Tiles.{tile_count, Owns};
 ghost use Rattle.hot_pixel.specs.Candidates.{AreCandidates};
-ghost use Rattle.routing.specs.Pieces.{candidates_of, IsPartOf, IsPieceOf};
+ghost use Rattle.routing.specs.Pieces.{candidates_of, IsPieceOf};
 ghost use Rattle.routing.specs.Recording.{AddsEnds, AddsEndAt};
 
 use crate::halved::found_in;
@@ -110,21 +109,4 @@ pub fn piece<A: Allocator + Copy>(
         hot: pixels.len() as u32,
         records,
     })
-}
-
-/// The hot pixels of a tile and the records of those that segments meet between their ends, found among the segments of these numbers.
-pub fn part<A: Allocator + Copy>(
-    alloc: A,
-    grid: &Grid,
-    number: u32,
-    segments: &[Seg],
-    numbers: &[u32],
-) -> Result<Part<A>, NoMemory>
-    requires number { number < tile_count grid.now }
-    requires limits { All (λ s. AreInLimit s.a s.b) segments.now }
-    requires candidates { AreCandidates (Owns grid.now number) segments.now numbers.now }
-    ensures { IfOk result (λ p. IsPartOf (Owns grid.now number) segments.now p.pixels.items p.records.items) }
-{
-    let tile = grid.rect(number);
-    found_in(alloc, &tile, segments, numbers)
 }

@@ -20,12 +20,13 @@ ghost use Rattle.routing.specs.Found.{HasInnerRecords};
 ghost use Rattle.routing.specs.Pieces.{candidates_of};
 ghost use Rattle.routing.specs.Recording.{AddsRecordsInside};
 
-use crate::by_line::{OnLine, by_line, lines_of};
+use crate::by_line::{by_line, lines_of};
+use crate::on_line::OnLine;
 use crate::pieces::Part;
 use crate::spread::add_spread;
 use geom::{NoMemory, Pt, Rect, Seg};
 use hot_pixel::{
-    FEW, Line, Region, add_hot, ascending, hot_beside, kept, parts, reaching, within_limit,
+    FEW, Line, Region, ascending, hot_beside, hot_by_pairs, kept, parts, reaching, within_limit,
 };
 use std::alloc::Allocator;
 
@@ -47,11 +48,10 @@ fn add_found<A: Allocator + Copy>(
     requires segments_in { All (λ s. AreInLimit s.a s.b) segments.now }
     requires table_in { All (λ x. x.number < length segments.now) table.now }
     requires lines_past { All (λ l. l.past ≤ length table.now) lines.now }
-    requires lines_in { All (λ l. AreInLimit l.edge.p l.edge.q) lines.now }
     ensures pixels { OnOk result (HasHotInside (IsInside region.now.rect region.now.walls.items) (edges_of lines.now) found.old.pixels.items found.new.pixels.items) }
     ensures records { OnOk result (AddsRecordsInside segments.now table.now (IsInside region.now.rect region.now.walls.items) lines.now found.old.records.items found.new.records.items) }
 {
-    let pixels = kept(alloc, &region.walls, ascending(here))?;
+    let mut pixels = kept(alloc, &region.walls, ascending(here))?;
     add_spread(
         alloc,
         &mut found.records,
@@ -61,30 +61,8 @@ fn add_found<A: Allocator + Copy>(
         &pixels,
         DEPTH,
     )?;
-    found.pixels.extend_from_slice(&pixels)?;
+    found.pixels.append(&mut pixels)?;
     Ok(())
-}
-
-/// Adds the pixels of a region that are hot for the lines of its rectangle, by ends and pairs, and the records there.
-fn add_all<A: Allocator + Copy>(
-    alloc: A,
-    segments: &[Seg],
-    table: &[OnLine],
-    region: &Region<A>,
-    lines: &[Line],
-    found: &mut Part<A>,
-) -> Result<(), NoMemory>
-    requires segments_in { All (λ s. AreInLimit s.a s.b) segments.now }
-    requires table_in { All (λ x. x.number < length segments.now) table.now }
-    requires lines_past { All (λ l. l.past ≤ length table.now) lines.now }
-    requires lines_in { All (λ l. AreInLimit l.edge.p l.edge.q) lines.now }
-    ensures pixels { OnOk result (HasHotInside (IsInside region.now.rect region.now.walls.items) (edges_of lines.now) found.old.pixels.items found.new.pixels.items) }
-    ensures records { OnOk result (AddsRecordsInside segments.now table.now (IsInside region.now.rect region.now.walls.items) lines.now found.old.records.items found.new.records.items) }
-{
-    let ends = lines.len().saturating_mul(2);
-    let mut here = Vec::with_capacity(alloc, ends)?;
-    add_hot(alloc, &region.rect, lines, &mut here)?;
-    add_found(alloc, here, segments, table, region, lines, found)
 }
 
 /// The lines that may meet a pixel of a part of a region. None stands for all of them, which so never stand in memory twice.
@@ -93,8 +71,7 @@ pub(crate) fn fewer<A: Allocator>(
     part: &Region<A>,
     lines: &[Line],
 ) -> Result<Option<Vec<Line, A>>, NoMemory>
-    requires part_in { AreInLimit part.now.rect.lo part.now.rect.hi }
-    requires lines_in { All (λ l. AreInLimit l.edge.p l.edge.q) lines.now }
+    requires { AreInLimit part.now.rect.lo part.now.rect.hi }
     ensures { IfOk result (λ f. IfSome f (λ some. AreReaching (IsInside part.now.rect part.now.walls.items) lines.now some.items)) }
 {
     let some = reaching(alloc, part, lines)?;
@@ -132,12 +109,12 @@ fn halve<A: Allocator + Copy>(
     requires table_in { All (λ x. x.number < length segments.now) table.now }
     requires rect_in { AreInLimit region.now.rect.lo region.now.rect.hi }
     requires lines_past { All (λ l. l.past ≤ length table.now) lines.now }
-    requires lines_in { All (λ l. AreInLimit l.edge.p l.edge.q) lines.now }
     ensures pixels { OnOk result (HasHotInside (IsInside region.now.rect region.now.walls.items) (edges_of lines.now) found.old.pixels.items found.new.pixels.items) }
     ensures records { OnOk result (AddsRecordsInside segments.now table.now (IsInside region.now.rect region.now.walls.items) lines.now found.old.records.items found.new.records.items) }
 {
     if depth == 0 || lines.len() <= FEW {
-        return add_all(alloc, segments, table, region, lines, found);
+        let here = hot_by_pairs(alloc, &region.rect, lines)?;
+        return add_found(alloc, here, segments, table, region, lines, found);
     }
     if region.is_empty() {
         return Ok(());
@@ -146,7 +123,10 @@ fn halve<A: Allocator + Copy>(
         return add_found(alloc, here, segments, table, region, lines, found);
     }
     match parts(alloc, region, lines)? {
-        None => add_all(alloc, segments, table, region, lines, found),
+        None => {
+            let here = hot_by_pairs(alloc, &region.rect, lines)?;
+            add_found(alloc, here, segments, table, region, lines, found)
+        }
         Some((first, second)) => {
             let part = fewer(alloc, &first, lines)?;
             let left = left_of(lines, &part);

@@ -12,14 +12,16 @@ mod by_line;
 mod cutting;
 mod finding;
 mod halved;
+mod mark;
 mod met;
+mod on_line;
 mod pieces;
 mod piled;
 mod record;
 mod recording;
 mod spread;
 
-pub use finding::{add_ends, part, piece};
+pub use finding::{add_ends, piece};
 pub use halved::found_in;
 pub use met::meets;
 pub use pieces::{Part, Piece};

@@ -9,7 +9,7 @@ ghost use Rattle.geom.specs.Limit.{AreInLimit, InLimit};
 ghost use Rattle.routing.specs.Pieces.{IsEnd};
 ghost use Rattle.routing.specs.Recording.{AddsAt};
 
-use crate::by_line::OnLine;
+use crate::on_line::OnLine;
 use crate::record::{Record, is_end, record_at};
 use geom::{NoMemory, Pt, Seg};
 use hot_pixel::Line;

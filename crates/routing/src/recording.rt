@@ -8,8 +8,8 @@ ghost use Rattle.geom.specs.Limit.{AreInLimit, InLimit};
 ghost use Rattle.routing.specs.Boxes.{boxes_of};
 ghost use Rattle.routing.specs.Recording.{AddsAlong, AddsAt, AddsRecordsAt};
 
-use crate::by_line::OnLine;
 use crate::met::meets;
+use crate::on_line::OnLine;
 use crate::piled::{add_new_at, is_pile};
 use crate::record::{Record, is_end, record_at};
 use box_lanes::{Boxes, LANES, split_first};
@@ -107,7 +107,6 @@ fn add_along<A: Allocator>(
     requires segments_in { All (λ s. AreInLimit s.a s.b) segments.now }
     requires table_in { All (λ x. x.number < length segments.now) table.now }
     requires line_in { line.now.past ≤ length table.now }
-    requires edge_in { AreInLimit line.now.edge.p line.now.edge.q }
     requires pixels_in { All InLimit pixels.now }
     requires boxes { boxes.now ≡ boxes_of pixels.now }
     ensures { OnOk result (AddsAlong segments.now table.now line.now pixels.now records.old.items records.new.items) }
@@ -137,7 +136,6 @@ fn add_few<A: Allocator>(
     requires segments_in { All (λ s. AreInLimit s.a s.b) segments.now }
     requires table_in { All (λ x. x.number < length segments.now) table.now }
     requires lines_past { All (λ l. l.past ≤ length table.now) lines.now }
-    requires lines_in { All (λ l. AreInLimit l.edge.p l.edge.q) lines.now }
     requires pixels_in { All InLimit pixels.now }
     ensures { OnOk result (AddsRecordsAt segments.now table.now lines.now pixels.now records.old.items records.new.items) }
 {
@@ -159,7 +157,6 @@ pub(crate) fn add_records<A: Allocator>(
     requires segments_in { All (λ s. AreInLimit s.a s.b) segments.now }
     requires table_in { All (λ x. x.number < length segments.now) table.now }
     requires lines_past { All (λ l. l.past ≤ length table.now) lines.now }
-    requires lines_in { All (λ l. AreInLimit l.edge.p l.edge.q) lines.now }
     requires pixels_in { All InLimit pixels.now }
     ensures { OnOk result (AddsRecordsAt segments.now table.now lines.now pixels.now records.old.items records.new.items) }
 {

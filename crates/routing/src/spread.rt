@@ -10,8 +10,8 @@ ghost use Rattle.hot_pixel.specs.Rects.{IsIn};
 ghost use Rattle.routing.specs.Recording.{AddsRecordsAt};
 ghost use Rattle.routing.specs.Spread.{AreThoseIn};
 
-use crate::by_line::OnLine;
 use crate::halved::{fewer, left_of};
+use crate::on_line::OnLine;
 use crate::record::Record;
 use crate::recording::add_records;
 use geom::{NoMemory, Pt, Rect, Seg};
@@ -62,7 +62,6 @@ pub(crate) fn add_spread<A: Allocator + Copy>(
     requires segments_in { All (λ s. AreInLimit s.a s.b) segments.now }
     requires table_in { All (λ x. x.number < length segments.now) table.now }
     requires lines_past { All (λ l. l.past ≤ length table.now) lines.now }
-    requires lines_in { All (λ l. AreInLimit l.edge.p l.edge.q) lines.now }
     requires pixels_in { All InLimit pixels.now }
     ensures { OnOk result (AddsRecordsAt segments.now table.now lines.now pixels.now records.old.items records.new.items) }
 {

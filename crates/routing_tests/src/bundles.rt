@@ -1,8 +1,5 @@
 //! Tests of lines that run side by side through a rectangle, all or nearly all.
 
-ghost use Rattle.std.specs.Prelude.{All, IfOk, IfSome};
-ghost use Rattle.geom.specs.Limit.{AreInLimit};
-
 use crate::shapes::{Ends, point, rectangle};
 use geom::{Edge, NoMemory};
 use hot_pixel::{Line, ascending, hot_beside, is_bundle};
@@ -56,9 +53,7 @@ const BUNDLES: [BundleRow; 9] = [
     ),
 ];
 
-fn line(ends: Ends) -> Option<Line>
-    ensures { IfSome result (λ l. AreInLimit l.edge.p l.edge.q) }
-{
+fn line(ends: Ends) -> Option<Line> {
     let edge = Edge::between(point(ends.0), point(ends.1))?;
     if edge.p.is_in_limit() && edge.q.is_in_limit() {
         Some(Line {
@@ -71,9 +66,7 @@ fn line(ends: Ends) -> Option<Line>
     }
 }
 
-fn lines_of<A: Allocator>(alloc: A, ends: &[Ends]) -> Result<Vec<Line, A>, NoMemory>
-    ensures { IfOk result (λ v. All (λ l. AreInLimit l.edge.p l.edge.q) v.items) }
-{
+fn lines_of<A: Allocator>(alloc: A, ends: &[Ends]) -> Result<Vec<Line, A>, NoMemory> {
     let mut lines = Vec::new(alloc);
     for pair in ends {
         let Some(made) = line(*pair) else {

@@ -1,17 +1,15 @@
 //! Tests of how many rectangles a tile is parted into. Each one asks for memory, so an allocator that refuses the request past a bound
 //! tells whether they are few: as many for each line as there may be, however far the lines reach.
 
-ghost use Rattle.std.specs.Prelude.{◌<◌, All};
+ghost use Rattle.std.specs.Prelude.{◌<◌, All, length};
 ghost use Rattle.geom.specs.Limit.{AreInLimit};
-ghost use Rattle.grid.specs.Tiles.{Owns, tile_count};
-ghost use Rattle.hot_pixel.specs.Candidates.{AreCandidates};
 
 use crate::pieces::all_numbers;
 use crate::shapes::{Ends, rectangle, segments_of};
-use geom::{NoMemory, Seg};
+use geom::{NoMemory, Rect, Seg};
 use grid::Grid;
 use refusing::Refusing;
-use routing::part;
+use routing::found_in;
 use std::alloc::{Allocator, Global};
 
 // How far coordinates reach.
@@ -72,16 +70,15 @@ fn lines<A: Allocator>(alloc: A, kind: Kind, reach: i32) -> Result<Vec<Ends, A>,
 // Whether the pixels of segments are found with ten requests for memory for each.
 fn are_few_rectangles<A: Allocator + Copy>(
     alloc: A,
-    grid: &Grid,
+    tile: &Rect,
     segments: &[Seg],
     numbers: &[u32],
 ) -> bool
-    requires tile { 0 < tile_count grid.now }
     requires limits { All (λ s. AreInLimit s.a s.b) segments.now }
-    requires candidates { AreCandidates (Owns grid.now 0) segments.now numbers.now }
+    requires below { All (λ k. k < length segments.now) numbers.now }
 {
     let heap = Refusing::new(alloc, 10u64.saturating_mul(segments.len() as u64));
-    part(&heap, grid, 0, segments, numbers).is_ok()
+    found_in(&heap, tile, segments, numbers).is_ok()
 }
 
 fn parts_few(alloc: Global, kind: Kind, reach: i32) -> Result<bool, NoMemory> {
@@ -89,7 +86,7 @@ fn parts_few(alloc: Global, kind: Kind, reach: i32) -> Result<bool, NoMemory> {
     let grid = Grid::one_tile(rectangle(((low, low), (reach, reach)))?);
     let segments = segments_of(alloc, &lines(alloc, kind, reach)?)?;
     let numbers = all_numbers(alloc, &grid, 0, &segments)?;
-    Ok(are_few_rectangles(alloc, &grid, &segments, &numbers))
+    Ok(are_few_rectangles(alloc, &grid.rect(0), &segments, &numbers))
 }
 
 // The first reach at which the lines are parted into many rectangles.

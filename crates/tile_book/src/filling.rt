@@ -1,22 +1,22 @@
 //! A whole pass over the numbers below a limit: draw, desk, workers, and the book at the end.
 
-ghost use Rattle.std.specs.Prelude.{◌≡◌, ◌+◌, ◌<◌, ◌≤◌, ℕ, true, All, IfOk, IsSome, None, flat_map, length, slice_index_or, sum, vec_len};
-ghost use Rattle.tile_book.specs.Books.{AreMadeOfBook, IsReplay, KeepsHeld, StandInOrder, pieces};
+ghost use Rattle.std.specs.Prelude.{◌≡◌, ◌+◌, ◌<◌, ◌≤◌, ℕ, [], true, All, IfOk, IsSome, None, flat_map, length, slice_index_or, sum, vec_len};
+ghost use Rattle.tile_book.specs.Books.{IsReplay, KeepsHeld, StandInOrder, pieces};
 ghost use Rattle.tile_book.specs.Growth.{HasGrown};
 
 use crate::book::{Book, Numbered};
-use crate::crew::run_workers;
+use crate::crew::{Seat, seats};
 use crate::desk::{Desk, close};
 use crate::draw::{Draw, Hand, MOST_HANDS, MOST_NUMBERS, finish};
 use crate::gate::{Gate, Phase};
 use crate::job::Job;
 use crate::share::{Limited, Share};
-use crate::worker::WorkOutcome;
+use crate::worker::{WorkOutcome, work};
 use geom::NoMemory;
 use std::alloc::Allocator;
 use std::sync::Wait;
 use std::sync::ledger::Blank;
-use std::thread::Threads;
+use std::thread::{self, Threads};
 
 /// What a whole pass gives.
 #[derive(Drop)]
@@ -28,7 +28,7 @@ pub struct FilledBook<P: Numbered, L: Limited, A: Allocator> {
 }
 
 /// Makes and posts the piece of each number below a limit of at most `MOST_NUMBERS`, by 1 to 64 workers, one of them in the
-/// calling thread. It answers `NoMemory` only where a growth was refused, in whichever thread.
+/// calling thread, each other in a thread of its own. It answers `NoMemory` only where a growth was refused, in whichever thread.
 pub fn fill<
     A: Allocator + Copy + Send + Sync,
     J: Job<A> + Sync,
@@ -58,7 +58,16 @@ where
 {
     let (draw, hands) = Draw::new(alloc, limit, workers)?;
     let (desk, shares) = Desk::new(alloc, blank, limit, workers)?;
-    let ended = run_workers(rt, alloc, job, phase, &draw, hands, &desk, shares, gate)?;
+    let seats = seats(alloc, &draw, hands, shares)?;
+    let worker = |seat: Seat<L>| -> WorkOutcome<L>
+        requires { (seat.hand.draw ≡ draw) × (seat.hand.drawn ≡ []) × (seat.share ≡ 0) × (draw.limit ≤ J.count job.now) }
+        ensures { (result.hand.draw ≡ draw) × HasGrown result }
+    {
+        let Seat { hand, share } = seat;
+        work(rt, alloc, job, phase, &draw, hand, &desk, share, gate)
+    };
+    // A worker whose thread can't be started works in the thread that would have started it, behind that one's own.
+    let ended = thread::map_vec(rt, seats, &worker)?;
     settle(alloc, draw, desk, ended)
 }
 
@@ -69,43 +78,6 @@ pub struct AllPieces<P, A: Allocator> {
     pub pieces: Vec<P, A>,
     /// How many places the book left empty, whose pieces were made anew.
     pub remade: u32,
-}
-
-/// The pieces of all numbers below a limit, in the order of their numbers: those that `fill` holds, and for each place that it
-/// left empty, since a piece came back, a new one.
-pub fn make_all<
-    A: Allocator + Copy + Send + Sync,
-    J: Job<A> + Sync,
-    L: Limited + Send + Sync,
-    G: Gate + Sync,
-    R: Threads + Wait + Sync,
->(
-    rt: &R,
-    alloc: A,
-    blank: Blank,
-    limit: u32,
-    workers: u32,
-    job: &J,
-    phase: Phase,
-    gate: &G,
-) -> Result<AllPieces<J::Piece, A>, NoMemory>
-where
-    J::Piece: Send,
-    requires name { blank.name ≡ L.name }
-    requires parts { (blank.parts ≡ L.parts) × (blank.parts ≡ workers) }
-    requires limit { (limit ≡ L.limit) × (limit ≤ MOST_NUMBERS) }
-    requires workers { (0 < workers) × (workers ≤ MOST_HANDS) }
-    requires count { limit ≤ J.count job.now }
-    ensures one_each { IfOk result (λ all. length all.pieces.items ≡ limit) }
-    ensures in_order { IfOk result (λ all. StandInOrder J.Piece.Numbered.number_of all.pieces.items) }
-    ensures few { IfOk result (λ all. all.remade ≤ limit) }
-    ensures of_a_book { IfOk result (λ all. ∥ AreMadeOfBook J.Piece.Numbered.number_of limit all.pieces.items all.remade ∥₁) }
-{
-    let filled: FilledBook<J::Piece, L, A> = fill(
-        rt, alloc, blank, limit, workers, job, phase, gate,
-    )?;
-    let FilledBook { book, .. } = filled;
-    complete(alloc, job, book)
 }
 
 /// The pieces of a book, each at the place of its number, and a new one for each place that it left empty: `remade` is the

@@ -13,7 +13,7 @@ use std::sync::ledger::Blank;
 use std::thread::Threads;
 use tile_book::{
     Desk, Draw, Gate, Hand, Limited, OpenGate, Phase, Share, WorkOutcome, close, complete, fill,
-    finish, make_all, work,
+    finish, work,
 };
 
 /// What one worker of five numbers leaves: whether its draw is finished, how many pieces came back, and its fault.
@@ -159,7 +159,7 @@ fn makes_all<L: Limited + Send + Sync, R: Threads + Wait + Sync>(
     requires limit { L.limit ≡ 5 }
 {
     let job = Notes { count: 5, room: 5 };
-    let all = make_all::<Global, Notes, L, OpenGate, R>(
+    let filled = fill::<Global, Notes, L, OpenGate, R>(
         rt,
         alloc,
         blank,
@@ -169,6 +169,7 @@ fn makes_all<L: Limited + Send + Sync, R: Threads + Wait + Sync>(
         Phase::Route,
         &OpenGate,
     )?;
+    let all = complete::<Global, Notes, L>(alloc, &job, filled.book)?;
     Ok(all.remade == 0 && are_numbered(&all.pieces, &[0, 1, 2, 3, 4]))
 }
 

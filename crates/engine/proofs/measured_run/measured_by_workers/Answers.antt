@@ -1,26 +1,32 @@
-use Rattle.engine.proofs.Measuring.{known, measured_within, slice_layers}
+use Rattle.std.proofs.Common.{List, arith, subst, sym}
+use Rattle.geom.specs.declared.segment.Seg.{Seg}
+use Rattle.layers.specs.Segments.{AllInLimit}
+use Rattle.engine.proofs.Known.{ready_of}
+use Rattle.engine.proofs.ReadLayers.{read_covered, read_layers, read_rounded}
 use Rattle.engine.proofs.measured_run.measured_by_workers.Goals as goal
 
-pub layer_labels_in_parts-requires-after_bounds : goal.layer_labels_in_parts-requires-after_bounds
-layer_labels_in_parts-requires-after_bounds g c κs within = slice_layers c.in_ok-noded.noded.edges.items c.deref.result.now c.in_ok-noded.ensures.layers c.deref.ensures.value
-
-pub measures_by_workers-requires-clause-layers : goal.measures_by_workers-requires-clause-layers
-measures_by_workers-requires-clause-layers g c κs within = slice_layers c.in_ok-noded.noded.edges.items c.deref-2.result.now c.in_ok-noded.ensures.layers c.deref-2.ensures.value
-
-pub measures_by_workers-requires-clause-in_limit : goal.measures_by_workers-requires-clause-in_limit
-measures_by_workers-requires-clause-in_limit g c κs within = (known c.args.op c.in_ok-noded.noded.edges.items c.deref.result.now c.in_ok-directed.directed c.in_ok-noded.ensures.layers c.deref.ensures.value c.in_ok-directed.ensures).in_limit
-
-pub line_by_workers-requires-clause-closes : goal.line_by_workers-requires-clause-closes
-line_by_workers-requires-clause-closes g c κs within = (known c.args.op c.in_ok-noded.noded.edges.items c.deref.result.now c.in_ok-directed.directed c.in_ok-noded.ensures.layers c.deref.ensures.value c.in_ok-directed.ensures).closes
-
-pub line_by_workers-requires-clause-in_limit : goal.line_by_workers-requires-clause-in_limit
-line_by_workers-requires-clause-in_limit g c κs within = (known c.args.op c.in_ok-noded.noded.edges.items c.deref.result.now c.in_ok-directed.directed c.in_ok-noded.ensures.layers c.deref.ensures.value c.in_ok-directed.ensures).in_limit
-
-pub returns : goal.returns
-returns g c =
+pub rounded_segments-requires-clause-workers : goal.rounded_segments-requires-clause-workers
+rounded_segments-requires-clause-workers g c =
     let now = c.args.checked.now in
-    let edges = c.in_ok-noded.noded.edges.items in
-    let directed = c.in_ok-directed.directed in
-    measured_within now.limits.segments c.args.op now.plan now.a.now now.b.now edges c.deref-2.result.now directed c.in_ok-text.text c.in_ok-report.report c.in_ok-measures.measures
-    (known c.args.op edges c.deref.result.now directed c.in_ok-noded.ensures.layers c.deref.ensures.value c.in_ok-directed.ensures)
-    c.in_ok-text.ensures c.in_ok-report.ensures.reports c.deref-2.ensures.value c.in_ok-measures.ensures.layers c.in_ok-measures.ensures.area
+    let crew = (ready_of now.limits.segments now.plan now.a.now now.b.now now.segments_a now.segments_b now.grid now.are_checked c.in_ok-read.read.items c.in_ok-read.ensures.segments).planned.workers in
+    λ κs l. (omega (arith, crew.low), crew.high)
+
+pub rounded_segments-requires-clause-in_limit : goal.rounded_segments-requires-clause-in_limit
+rounded_segments-requires-clause-in_limit g c =
+    λ κs l. subst (λ (ss : List Seg). AllInLimit ss) (sym c.deref.ensures.value) c.in_ok-read.ensures.in_limit
+
+pub rounded_segments-requires-clause-covered : goal.rounded_segments-requires-clause-covered
+rounded_segments-requires-clause-covered g c =
+    let now = c.args.checked.now in
+    λ κs l. read_covered now.limits.segments now.plan now.a.now now.b.now now.segments_a now.segments_b now.grid now.are_checked c.in_ok-read.read.items c.deref.result.now c.deref.ensures.value c.in_ok-read.ensures.segments
+
+pub measured_by_edges-requires-clause-rounded : goal.measured_by_edges-requires-clause-rounded
+measured_by_edges-requires-clause-rounded g c κs l =
+    let now = c.args.checked.now in
+    let noded = c.in_ok-noded.noded in
+    read_rounded now.a.now now.b.now now.grid c.in_ok-read.read.items c.deref.result.now c.deref.ensures.value c.in_ok-read.ensures.segments noded.edges.items c.in_ok-noded.ensures.rounded noded.tiles.items c.in_ok-noded.ensures.tiles
+
+pub measured_by_edges-requires-clause-layers : goal.measured_by_edges-requires-clause-layers
+measured_by_edges-requires-clause-layers g c κs l =
+    let now = c.args.checked.now in
+    read_layers now.a.now now.b.now now.grid c.in_ok-read.read.items c.deref.result.now c.deref.ensures.value c.in_ok-read.ensures.segments c.in_ok-noded.noded.edges.items c.in_ok-noded.ensures.rounded c.in_ok-read.ensures.in_limit

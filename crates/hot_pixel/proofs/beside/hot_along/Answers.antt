@@ -1,10 +1,9 @@
 use Rattle.std.proofs.Common.{◌≡◌, ◌<◌, ◌^◌, List, subst, sym, w32, to_z, of_z, arith}
 use Rattle.std.proofs.Math.IntN.{ℤ}
-use Rattle.std.specs.Prelude.{◌≤ℤ◌, All, IfSome}
+use Rattle.std.specs.Prelude.{◌≤ℤ◌, IfSome}
 use Rattle.std.proofs.lemmas.Int.{ints}
 use lib.Signed.{mag}
 use Rattle.geom.specs.declared.point.Pt.{Pt}
-use Rattle.geom.specs.Limit.{AreInLimit}
 use Rattle.hot_pixel.specs.declared.lines.Line.{Line}
 use Rattle.hot_pixel.specs.Bundle.{seen_point}
 use Rattle.hot_pixel.specs.declared.carrier.Carried.{Carried}
@@ -12,7 +11,7 @@ use Rattle.hot_pixel.specs.Beside.{AreAscending, TakePart}
 use Rattle.hot_pixel.specs.Carriers.{AreCarried}
 use Rattle.hot_pixel.specs.Halving.{edges_of, IsHotFor}
 use Rattle.hot_pixel.specs.Rects.{IsIn}
-use Rattle.hot_pixel.proofs.BesideLaws.{both_all, others_take_part}
+use Rattle.hot_pixel.proofs.BesideLaws.{others_take_part}
 use Rattle.hot_pixel.proofs.CarrierLaws.{low_to_high}
 use Rattle.hot_pixel.proofs.OrderLaws.{ascending_has_no_hot}
 use Rattle.hot_pixel.proofs.beside.hot_along.Goals as goal
@@ -20,14 +19,11 @@ use Rattle.hot_pixel.proofs.beside.hot_along.Goals as goal
 back : (r x : ℤ) → mag r < 2 ^ 31 → r ≡ x → to_z w32 (of_z w32 r) ≡ x
 back r x h e = omega (arith, ints)
 
-pub with_strands-requires-clause-apart : goal.with_strands-requires-clause-apart
-with_strands-requires-clause-apart g c = subst (λ n. n ≤ℤ to_z w32 (of_z w32 c.x_of-high.result)) (sym (back _ _ c.x_of-low.type_inv c.x_of-low.ensures)) (subst (λ n. (seen_point c.args.course c.args.rect.now.lo).x ≤ℤ n) (sym (back _ _ c.x_of-high.type_inv c.x_of-high.ensures)) (low_to_high c.args.course c.args.rect.now))
+pub with_strands-requires : goal.with_strands-requires
+with_strands-requires g c = subst (λ n. n ≤ℤ to_z w32 (of_z w32 c.x_of-high.result)) (sym (back _ _ c.x_of-low.type_inv c.x_of-low.ensures)) (subst (λ n. (seen_point c.args.course c.args.rect.now.lo).x ≤ℤ n) (sym (back _ _ c.x_of-high.type_inv c.x_of-high.ensures)) (low_to_high c.args.course c.args.rect.now))
 
-pub is_bundle-requires-clause-lines_in : goal.is_bundle-requires-clause-lines_in
-is_bundle-requires-clause-lines_in g c = subst (λ (ls : List Line). All (λ l. AreInLimit l.edge.p l.edge.q) ls) (sym c.deref-4.ensures.value) (both_all (λ l. AreInLimit l.edge.p l.edge.q) c.args.lines.now c.in_ok-parted.parted.beside.items c.in_ok-parted.ensures.beside_among c.requires.lines_in)
-
-pub hot_of_others-requires-clause-others : goal.hot_of_others-requires-clause-others
-hot_of_others-requires-clause-others g c =
+pub hot_of_others-requires : goal.hot_of_others-requires
+hot_of_others-requires g c =
     let rect = c.args.rect.now in
     let none = subst (λ (ls : List Line). (p : Pt) → IsIn rect p → IsHotFor (edges_of ls) p → ⊥) c.deref-4.ensures.value (c.in_ok-is_bundle.ensures c.if-branch.true) in
     subst (λ (ls : List Line). TakePart rect c.args.lines.now ls) (sym c.deref-then-branch.ensures.value) (others_take_part rect c.args.lines.now c.in_ok-parted.parted.beside.items c.in_ok-parted.parted.others.items c.in_ok-parted.ensures none)

@@ -1,6 +1,5 @@
-use Rattle.std.proofs.Common.{List, subst, sym, w32, to_z, of_z, to_z-of_z}
+use Rattle.std.proofs.Common.{List, subst, w32, to_z, of_z, to_z-of_z}
 use Rattle.std.proofs.lemmas.List.{take_all}
-use Rattle.geom.specs.Limit.{AreInLimit}
 use Rattle.hot_pixel.specs.declared.lines.Line.{Line}
 use Rattle.hot_pixel.specs.Bundle.{AreStrands}
 use Rattle.hot_pixel.proofs.BundleLaws.{seen_limit, strands_more}
@@ -9,7 +8,7 @@ use Rattle.hot_pixel.proofs.bundle.strands.Goals as goal
 pub strand_of-strand-requires-clause-line_in : goal.strand_of-strand-requires-clause-line_in
 strand_of-strand-requires-clause-line_in g c =
     let l = c.line-item.result in
-    seen_limit c.args.course l.edge c.seen-edge.result c.seen-edge.ensures (subst (λ (x : Line). AreInLimit x.edge.p x.edge.q) (sym c.line-item.is) (c.requires.lines_in c.loop-line.line-index l c.loop-line-test.true))
+    seen_limit c.args.course l.edge c.seen-edge.result c.seen-edge.ensures l.in_limit
 
 pub loop-line-preserved : goal.loop-line-preserved
 loop-line-preserved g c =

@@ -13,8 +13,8 @@ use Rattle.hot_pixel.proofs.carrier.one_of_each.Goals as goal
 back : (r x : ℤ) → mag r < 2 ^ 31 → r ≡ x → to_z w32 (of_z w32 r) ≡ x
 back r x h e = omega (arith, ints)
 
-pub with_strands-requires-clause-apart : goal.with_strands-requires-clause-apart
-with_strands-requires-clause-apart g c = subst (λ n. n ≤ℤ to_z w32 (of_z w32 c.x_of-high.result)) (sym (back _ _ c.x_of-low.type_inv c.x_of-low.ensures)) (subst (λ n. (seen_point c.args.course c.args.rect.now.lo).x ≤ℤ n) (sym (back _ _ c.x_of-high.type_inv c.x_of-high.ensures)) (low_to_high c.args.course c.args.rect.now))
+pub with_strands-requires : goal.with_strands-requires
+with_strands-requires g c = subst (λ n. n ≤ℤ to_z w32 (of_z w32 c.x_of-high.result)) (sym (back _ _ c.x_of-low.type_inv c.x_of-low.ensures)) (subst (λ n. (seen_point c.args.course c.args.rect.now.lo).x ≤ℤ n) (sym (back _ _ c.x_of-high.type_inv c.x_of-high.ensures)) (low_to_high c.args.course c.args.rect.now))
 
 pub first_of_each-requires : goal.first_of_each-requires
 first_of_each-requires g c =

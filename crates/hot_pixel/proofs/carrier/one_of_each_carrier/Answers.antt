@@ -1,14 +1,9 @@
-use Rattle.std.proofs.Common.{List, subst, sym}
-use Rattle.std.specs.Prelude.{All}
+use Rattle.std.proofs.Common.{List, subst}
 use Rattle.std.proofs.lemmas.Result.{IfOk-weaker}
-use Rattle.geom.specs.Limit.{AreInLimit}
 use Rattle.hot_pixel.specs.declared.lines.Line.{Line}
 use Rattle.hot_pixel.specs.Carriers.{KeepsCrossings}
-use Rattle.hot_pixel.proofs.CarrierLaws.{kept_all, keeps_on}
+use Rattle.hot_pixel.proofs.CarrierLaws.{keeps_on}
 use Rattle.hot_pixel.proofs.carrier.one_of_each_carrier.Goals as goal
-
-pub one_of_each-requires-2 : goal.one_of_each-requires-2
-one_of_each-requires-2 g c = subst (λ (ls : List Line). All (λ l. AreInLimit l.edge.p l.edge.q) ls) (sym c.deref.ensures.value) (kept_all (λ l. AreInLimit l.edge.p l.edge.q) c.args.lines.now c.in_ok-part.part.items c.in_ok-part.ensures.among c.requires)
 
 pub returns : goal.returns
 returns g c =

@@ -1,8 +1,6 @@
-use Rattle.std.proofs.Common.{sym, subst}
 use Rattle.std.proofs.lemmas.List.Elements.{All-push}
 use Rattle.geom.specs.declared.edge.Edge.{Edge}
 use Rattle.geom.specs.Limit.{AreInLimit}
-use Rattle.hot_pixel.specs.declared.lines.Line.{Line}
 use Rattle.hot_pixel.proofs.parting.long_lines.Goals as goal
 use Rattle.hot_pixel.proofs.parting.long_lines.Goals.{then-k-step+then-is_long+in_ok-push, then-k-step+else-is_long, else-k-step}
 
@@ -10,8 +8,7 @@ pub loop-k-preserved : goal.loop-k-preserved
 loop-k-preserved g c = elim c.if-k-step.branch [
   | then-k-step+then-is_long+in_ok-push w ↦
       let line = w.index-lines-k.result in
-      let limit = subst (λ (l : Line). AreInLimit l.edge.p l.edge.q) (sym w.index-lines-k.is) (c.requires.lines_in _ line w.if-k-step.true) in
-      rw (w.long-is, w.in_ok-push.ensures.items) (All-push (λ (e : Edge). AreInLimit e.p e.q) c.loop-k.long.items line.edge c.loop-k.invariant limit)
+      rw (w.long-is, w.in_ok-push.ensures.items) (All-push (λ (e : Edge). AreInLimit e.p e.q) c.loop-k.long.items line.edge c.loop-k.invariant line.in_limit)
   | then-k-step+else-is_long w ↦ rw w.long-is c.loop-k.invariant
   | else-k-step w ↦ rw w.long-is c.loop-k.invariant
 ]

@@ -1,11 +1,5 @@
 use Rattle.routing.proofs.CuttingLaws.{cut_sorted, table_sorted}
-use Rattle.routing.proofs.RecordingLaws.{table_limit}
 use Rattle.routing.proofs.by_line.by_line.Goals as goal
-
-pub portions_of-requires : goal.portions_of-requires
-portions_of-requires g c =
-    let table = table_sorted c.args.segments.now c.args.numbers.now c.in_ok-entries.entries.items c.in_order-whole.result.items c.in_order-whole.ensures c.in_ok-entries.ensures in
-    table_limit c.args.segments.now c.args.numbers.now c.in_order-whole.result.items c.requires.limits table
 
 pub returns : goal.returns
 returns g c =

@@ -1,6 +1,6 @@
 use Rattle.std.proofs.Common.{ℕ, ◌≡◌, ◌<◌, ◌≤◌, ◌-◌, Some, length}
 use Rattle.std.specs.Prelude.{slice_get}
-use Rattle.routing.specs.declared.by_line.OnLine.{OnLine}
+use Rattle.routing.specs.declared.on_line.OnLine.{OnLine}
 use Rattle.routing.proofs.by_line.past_of.Given as goal
 
 abbrev pub invariant-loop-past : goal.invariant-loop-past

@@ -1,5 +1,5 @@
 use Rattle.std.proofs.Common.{ap, sym}
-use Rattle.routing.specs.declared.by_line.OnLine.{OnLine}
+use Rattle.routing.specs.declared.on_line.OnLine.{OnLine}
 use Rattle.routing.proofs.CuttingLaws.{marks_none, marks_sorted}
 use Rattle.routing.proofs.cutting.marks_of.Goals as goal
 use Rattle.routing.proofs.cutting.marks_of.Goals.{then-not-is_again+in_ok-push_ends, else-not-is_again}

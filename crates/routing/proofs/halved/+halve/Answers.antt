@@ -22,7 +22,7 @@ halve-requires g t c =
             c.requires.table_in,
             (
               within,
-              (part_all (λ l. l.past ≤ length c.args.table.now) (IsInside first.rect first.walls.items) c.args.lines.now _ are c.requires.lines_past, part_all (λ l. AreInLimit l.edge.p l.edge.q) (IsInside first.rect first.walls.items) c.args.lines.now _ are c.requires.lines_in),
+              part_all (λ l. l.past ≤ length c.args.table.now) (IsInside first.rect first.walls.items) c.args.lines.now _ are c.requires.lines_past,
             ),
           ),
         ),
@@ -44,7 +44,7 @@ halve-requires-in-Some-2 g t c =
             c.requires.table_in,
             (
               within,
-              (part_all (λ l. l.past ≤ length c.args.table.now) (IsInside second.rect second.walls.items) c.args.lines.now _ are c.requires.lines_past, part_all (λ l. AreInLimit l.edge.p l.edge.q) (IsInside second.rect second.walls.items) c.args.lines.now _ are c.requires.lines_in),
+              part_all (λ l. l.past ≤ length c.args.table.now) (IsInside second.rect second.walls.items) c.args.lines.now _ are c.requires.lines_past,
             ),
           ),
         ),

@@ -19,7 +19,7 @@ hot_here rect walls lines here sorted some h same k = hot_kept rect walls (edges
 pub kept-requires : goal.kept-requires
 kept-requires g c =
     let rect = c.args.region.now.rect in
-    hot_within (IsIn rect) c.args.lines.now c.ascending.result.items (hot_same (IsIn rect) (edges_of c.args.lines.now) [] c.args.here.items c.ascending.result.items c.ascending.ensures.same c.requires.here) c.requires.lines_in
+    hot_within (IsIn rect) c.args.lines.now c.ascending.result.items (hot_same (IsIn rect) (edges_of c.args.lines.now) [] c.args.here.items c.ascending.result.items c.ascending.ensures.same c.requires.here)
 
 pub add_spread-requires-clause-pixels_in : goal.add_spread-requires-clause-pixels_in
 add_spread-requires-clause-pixels_in g c =
@@ -27,7 +27,7 @@ add_spread-requires-clause-pixels_in g c =
     let pixels = c.in_ok-pixels.pixels.items in
     let some = subst (λ (ws : List Wall). AreKept ws c.ascending.result.items pixels) c.deref.ensures.value c.in_ok-pixels.ensures in
     let hot = hot_here region.rect region.walls.items c.args.lines.now c.args.here.items c.ascending.result.items pixels c.requires.here c.ascending.ensures.same some in
-    subst (λ (ps : List Pt). All InLimit ps) (sym c.deref-2.ensures.value) (hot_within (IsInside region.rect region.walls.items) c.args.lines.now pixels hot c.requires.lines_in)
+    subst (λ (ps : List Pt). All InLimit ps) (sym c.deref-2.ensures.value) (hot_within (IsInside region.rect region.walls.items) c.args.lines.now pixels hot)
 
 pub returns-clause-pixels : goal.returns-clause-pixels
 returns-clause-pixels g c =
@@ -35,7 +35,7 @@ returns-clause-pixels g c =
     let pixels = c.in_ok-pixels.pixels.items in
     let some = subst (λ (ws : List Wall). AreKept ws c.ascending.result.items pixels) c.deref.ensures.value c.in_ok-pixels.ensures in
     let hot = hot_here region.rect region.walls.items c.args.lines.now c.args.here.items c.ascending.result.items pixels c.requires.here c.ascending.ensures.same some in
-    hot_added (IsInside region.rect region.walls.items) c.args.lines.now pixels hot c.args.found.now.pixels.items _ (c.in_ok-extend_from_slice.ensures.items ∙ ap (λ (ps : List Pt). c.args.found.now.pixels.items ++ ps) c.deref-3.ensures.value)
+    hot_added (IsInside region.rect region.walls.items) c.args.lines.now pixels hot c.args.found.now.pixels.items _ c.in_ok-append.ensures.items
 
 pub returns-clause-records : goal.returns-clause-records
 returns-clause-records g c =

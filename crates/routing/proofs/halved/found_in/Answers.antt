@@ -9,12 +9,12 @@ use Rattle.hot_pixel.specs.Halving.{edges_of, HasHot}
 use Rattle.hot_pixel.proofs.CandidateLaws.{all_chosen}
 use Rattle.hot_pixel.proofs.HalvingLaws.{tile_none}
 use Rattle.hot_pixel.proofs.ListLaws.{none_in}
-use Rattle.routing.specs.declared.by_line.OnLine.{OnLine}
+use Rattle.routing.specs.declared.on_line.OnLine.{OnLine}
 use Rattle.hot_pixel.specs.Rects.{IsIn}
 use Rattle.hot_pixel.specs.Walls.{IsInside}
 use Rattle.hot_pixel.proofs.WallLaws.{hot_open, inside_open}
 use Rattle.routing.specs.Recording.{AddsRecordsInside, AreLinesOf}
-use Rattle.routing.proofs.RecordingLaws.{entries_below, lines_in_limit, no_records, records_same, tile_hot, tile_records}
+use Rattle.routing.proofs.RecordingLaws.{entries_below, no_records, records_same, tile_hot, tile_records}
 use Rattle.routing.proofs.halved.found_in.Goals as goal
 
 pub returns-in-None-clause-pixels : goal.returns-in-None-clause-pixels
@@ -33,11 +33,6 @@ pub halve-requires-clause-lines_past : goal.halve-requires-clause-lines_past
 halve-requires-clause-lines_past g c =
     let are = subst (λ (xs : List OnLine). AreLinesOf xs c.in_ok-lines.lines.items) (c.deref.ensures.value ∙ sym c.deref-in-Some.ensures.value) c.in_ok-lines.ensures in
     subst (λ (ls : List Line). All (λ l. l.past ≤ length c.deref-in-Some.result.now) ls) (sym c.deref-in-Some-2.ensures.value) are.within
-
-pub halve-requires-clause-lines_in : goal.halve-requires-clause-lines_in
-halve-requires-clause-lines_in g c =
-    let are = subst (λ (xs : List OnLine). AreLinesOf xs c.in_ok-lines.lines.items) c.deref.ensures.value c.in_ok-lines.ensures in
-    subst (λ (ls : List Line). All (λ l. AreInLimit l.edge.p l.edge.q) ls) (sym c.deref-in-Some-2.ensures.value) (lines_in_limit c.args.segments.now c.args.numbers.now c.in_ok-table.table.items c.in_ok-lines.lines.items c.in_ok-table.ensures are c.requires.limits)
 
 pub returns-clause-pixels : goal.returns-clause-pixels
 returns-clause-pixels g c =

@@ -2,7 +2,7 @@ use Rattle.std.proofs.Common.{◌≤◌, List, length, subst, sym, arith}
 use Rattle.std.specs.Prelude.{All, Contains}
 use Rattle.geom.specs.declared.point.Pt.{Pt}
 use Rattle.geom.specs.declared.rect.Rect.{Rect}
-use Rattle.geom.specs.Limit.{AreInLimit, InLimit}
+use Rattle.geom.specs.Limit.{InLimit}
 use Rattle.hot_pixel.specs.Rects.{IsIn}
 use Rattle.hot_pixel.specs.Walls.{IsInside}
 use Rattle.hot_pixel.proofs.HalvingLaws.{part_all}
@@ -10,20 +10,10 @@ use Rattle.routing.specs.Recording.{AddsRecordsAt}
 use Rattle.routing.proofs.SpreadLaws.{on_ok, spread_unite, spread_whole, those_limited}
 use Rattle.routing.proofs.spread.+add_spread.Goals as goal
 
-pub cut-requires-clause-lines_in : goal.cut-requires-clause-lines_in
-cut-requires-clause-lines_in g t c =
-    let whole = c.open-whole.result in
-    part_all (λ l. AreInLimit l.edge.p l.edge.q) (IsInside whole.rect whole.walls.items) c.args.lines.now _ (c.left_of-left.ensures whole.rect whole.walls.items c.in_ok-part.ensures) c.requires.lines_in
-
 pub add_records-requires-in-None-clause-lines_past : goal.add_records-requires-in-None-clause-lines_past
 add_records-requires-in-None-clause-lines_past g t c =
     let whole = c.open-whole.result in
     part_all (λ l. l.past ≤ length c.args.table.now) (IsInside whole.rect whole.walls.items) c.args.lines.now _ (c.left_of-left.ensures whole.rect whole.walls.items c.in_ok-part.ensures) c.requires.lines_past
-
-pub add_records-requires-in-None-clause-lines_in : goal.add_records-requires-in-None-clause-lines_in
-add_records-requires-in-None-clause-lines_in g t c =
-    let whole = c.open-whole.result in
-    part_all (λ l. AreInLimit l.edge.p l.edge.q) (IsInside whole.rect whole.walls.items) c.args.lines.now _ (c.left_of-left.ensures whole.rect whole.walls.items c.in_ok-part.ensures) c.requires.lines_in
 
 pub returns-in-None : goal.returns-in-None
 returns-in-None g t c =
@@ -46,10 +36,7 @@ add_spread-requires g t c =
             c.requires.table_in,
             (
               part_all (λ l. l.past ≤ length c.args.table.now) (IsInside whole.rect whole.walls.items) c.args.lines.now _ are c.requires.lines_past,
-              (
-                part_all (λ l. AreInLimit l.edge.p l.edge.q) (IsInside whole.rect whole.walls.items) c.args.lines.now _ are c.requires.lines_in,
-                subst (λ (ps : List Pt). All InLimit ps) (sym c.deref.ensures.value) (those_limited c.in-Some.first c.args.pixels.now c.in_ok-some-in-Some.some.items c.in_ok-some-in-Some.ensures c.requires.pixels_in),
-              ),
+              subst (λ (ps : List Pt). All InLimit ps) (sym c.deref.ensures.value) (those_limited c.in-Some.first c.args.pixels.now c.in_ok-some-in-Some.some.items c.in_ok-some-in-Some.ensures c.requires.pixels_in),
             ),
           ),
         ),
@@ -70,10 +57,7 @@ add_spread-requires-in-Some g t c =
             c.requires.table_in,
             (
               part_all (λ l. l.past ≤ length c.args.table.now) (IsInside whole.rect whole.walls.items) c.args.lines.now _ are c.requires.lines_past,
-              (
-                part_all (λ l. AreInLimit l.edge.p l.edge.q) (IsInside whole.rect whole.walls.items) c.args.lines.now _ are c.requires.lines_in,
-                subst (λ (ps : List Pt). All InLimit ps) (sym c.deref-in-Some.ensures.value) (those_limited c.in-Some.second c.args.pixels.now c.in_ok-rest-in-Some.rest.items c.in_ok-rest-in-Some.ensures c.requires.pixels_in),
-              ),
+              subst (λ (ps : List Pt). All InLimit ps) (sym c.deref-in-Some.ensures.value) (those_limited c.in-Some.second c.args.pixels.now c.in_ok-rest-in-Some.rest.items c.in_ok-rest-in-Some.ensures c.requires.pixels_in),
             ),
           ),
         ),
