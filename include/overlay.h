@@ -28,7 +28,7 @@
 #define OVERLAY_VERSION "1.0.0"
 
 /* The version of the calls that are declared here. Programs that may meet another library compare overlay_version() with it. */
-#define OVERLAY_CALLS_VERSION 7u
+#define OVERLAY_CALLS_VERSION 8u
 
 #ifdef __cplusplus
 extern "C" {
@@ -69,8 +69,8 @@ enum overlay_refusal {
     OVERLAY_POLYGON_OFFSET = 15,     /* likewise of polygons */
     OVERLAY_RING_OFFSET = 16,        /* likewise of rings */
     OVERLAY_UNPAIRED = 17,           /* of pairs: a layer has more features than the other; detail is the number of the first one without another */
-    OVERLAY_BAD_ITEM = 18,           /* of strips: an item is none of its list, or isn't behind the one before it; detail is its number there */
-    OVERLAY_CONTRADICTION = 19       /* of strips: lists that contradict each other; detail is the number of the first item that does */
+    OVERLAY_BAD_ITEM = 18,           /* of strips, edges: an item is none of its list, or isn't behind the one before it; detail is its number there */
+    OVERLAY_CONTRADICTION = 19       /* of strips: lists that contradict each other; of edges: they don't close; detail is the number of the first such item */
 };
 
 /* What is refused of two layers. Of faces it is the number of a layer, from 0 on, or the count of layers for the run. */
@@ -291,8 +291,15 @@ uint32_t overlay_faces_columns_side(const struct overlay_columns *layers, size_t
  *   3. overlay_strip_bridge    from the last strip to the first: the edges across the border on the right of each
  *   4. overlay_strip_edges     of each strip, both as one list
  *
- * The lists of 4, one strip behind another, are the edges that overlay_fill tells for OVERLAY_EDGES of the whole layers, in the same order. That
- * holds where each call had the same cuts, and each list is whole: a call tests what it is handed, but can't know of a line that is missing. */
+ * The lists of 4, one strip behind another, are the edges that overlay_fill tells for OVERLAY_EDGES of the whole layers, in the same order. The
+ * edges of an operation's result, as directed, are told by strips too, from the first to the last:
+ *
+ *   5. overlay_strip_labels     of each strip, of its edges of 4 and those that come in from the left: the directed edges along its own
+ *   6. overlay_strip_going_on   of the same, the edges that come into the next strip; nothing comes into the first one
+ *
+ * The lists of 5 together have each edge of the rings that overlay_columns_fill makes of the whole layers, once. Edges with even counts in both
+ * layers bound no result: they may be left out of all lists of 4 before. All that holds where each call had the same cuts, and each list is whole: a
+ * call tests what it is handed, but can't know of a line that is missing. */
 
 /* A segment of a layer, its lesser end (by x, then by y) first. */
 struct overlay_line {
@@ -324,6 +331,12 @@ struct overlay_counted {
     uint32_t in_b;
 };
 
+/* An edge of a result, directed so that the result lies on its left. */
+struct overlay_directed {
+    int32_t ax, ay; /* where it begins, in grid units */
+    int32_t bx, by; /* where it ends */
+};
+
 /* What a call on a strip answers. All fields are written; those that don't belong to the status are 0. Of all faults the first one is told: of the
  * cuts, then of the lists in their order, then of what they say of each other. */
 struct overlay_strip_answer {
@@ -341,7 +354,7 @@ struct overlay_strip_answer {
 
 /* Puts the lines of a part of a layer into a room: those that reach the first strip, ascending by their numbers, then those that reach the second
  * one, and so on. Where one room is too small, or the status is not OVERLAY_ANSWERED, both rooms are as they were; behind the items they are so
- * always. That holds of the four calls and all their rooms.
+ * always. That holds of the calls on strips and all their rooms.
  *
  *   cuts, cuts_length       the columns at which strips begin; none is less than the one before it
  *   layer                   0 the first layer, 1 the second one; else OVERLAY_NO_CALL
@@ -387,6 +400,42 @@ void overlay_strip_bridge(const struct overlay_open *left, size_t left_length, c
  * OVERLAY_CONTRADICTION: an edge of across is one of inner (part 1). */
 void overlay_strip_edges(const struct overlay_counted *inner, size_t inner_length, const struct overlay_counted *across, size_t across_length,
                          struct overlay_counted *room, size_t room_length, struct overlay_strip_answer *answer);
+
+/* Labels a strip: puts the directed edges of an operation's result along its own edges into a room, ascending by start, then by end.
+ *
+ *   call                        what to compute: an overlay_call, but for OVERLAY_EDGES
+ *   crossing, crossing_length   what overlay_strip_going_on told of the strip on the left; nothing for the first strip
+ *   own, own_length             what overlay_strip_edges told of the strip
+ *   room, room_length           where the directed edges go
+ *
+ * OVERLAY_CONTRADICTION: an edge of crossing doesn't begin on the left of all edges of own (part 0). Lists that cross one another aren't refused,
+ * and are answered by directed edges that say nothing. */
+void overlay_strip_labels(uint32_t call, const struct overlay_counted *crossing, size_t crossing_length, const struct overlay_counted *own,
+                          size_t own_length, struct overlay_directed *room, size_t room_length, struct overlay_strip_answer *answer);
+
+/* Puts the edges that come into the next strip into a room, ascending: of those that come into a strip, and of its own, those that end behind it.
+ *
+ *   strip                       the number of the strip, from 0 on; OVERLAY_NO_CALL where it is greater than that of the cuts
+ *   crossing, crossing_length   as of overlay_strip_labels
+ *   own, own_length             likewise
+ *   room, room_length           where the edges go */
+void overlay_strip_going_on(const int32_t *cuts, size_t cuts_length, size_t strip, const struct overlay_counted *crossing, size_t crossing_length,
+                            const struct overlay_counted *own, size_t own_length, struct overlay_counted *room, size_t room_length,
+                            struct overlay_strip_answer *answer);
+
+/* Puts the polygons of directed edges, as columns, at the beginning of three rooms, and tells their lengths, as overlay_columns_fill does. The edges
+ * of all strips, brought in order, get the polygons of the result that overlay_columns_fill tells. Edges from anywhere else get rings that
+ * have each edge once, visit no point twice and begin at their least one; they are polygons where the edges meet only at ends.
+ *
+ *   directed, directed_length   the edges, ascending by ax, ay, bx and by
+ *   coordinates, rings, polygons, and their lengths   where the columns go, and how many numbers there may be written; they don't overlap
+ *   answer                      where the answer goes; not null
+ *
+ * OVERLAY_BAD_ITEM: an edge is out of range or a point alone, or isn't behind the one before it. OVERLAY_CONTRADICTION: the edges don't close where
+ * the edge starts or ends: of the edges at a point two run in one direction or one runs both ways, or behind one that arrives, clockwise, none leaves.
+ * detail is the first such edge. */
+void overlay_polygons(const struct overlay_directed *directed, size_t directed_length, int32_t *coordinates, size_t coordinates_length,
+                      uint32_t *rings, size_t rings_length, uint32_t *polygons, size_t polygons_length, struct overlay_columns_answer *answer);
 
 /* Puts the words of an answer of two layers without a text at the beginning of a room, as `A: 1 syntax at 16`, without a 0 or a line feed, and
  * returns their length in bytes: 0 where they don't fit, where memory ran out, or where there is nothing to say. Refusals from

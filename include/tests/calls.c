@@ -703,7 +703,7 @@ static void face_columns_memory(void) {
 int main(int count, char **words) {
     if (count == 4)
         return print(words);
-    check(overlay_version() == 7 && OVERLAY_CALLS_VERSION == 7, "the version");
+    check(overlay_version() == 8 && OVERLAY_CALLS_VERSION == 8, "the version");
     names();
     reasons();
     rooms();

@@ -1,9 +1,11 @@
-/* The four calls that round a map strip by strip, under the sanitizers: a small map whose lists were worked out by hand; lists, columns and cuts that
- * are refused, one by one; rooms that are too small, and memory that is refused; and maps by random cuts, whose edges are those of overlay_fill. */
+/* The calls that round and label a map strip by strip, under the sanitizers: a small map whose lists were worked out by hand; lists, columns and cuts that
+ * are refused, one by one; rooms that are too small, and memory that is refused; maps by random cuts, whose edges are those of overlay_fill, and whose
+ * directed edges those of the rings of overlay_columns_fill; and lists of edges that cross one another. */
 #include "../overlay.h"
 #include "checking.h"
 
 #include <stdio.h>
+#include <stdlib.h>
 #include <string.h>
 
 enum { ROOM = 4096, MOST_STRIPS = 9, TEXT = 1 << 17 };
@@ -30,7 +32,9 @@ struct strip {
     struct overlay_counted inner[ROOM], across[ROOM], edges[ROOM];
     struct overlay_open left[ROOM], right[ROOM];
     struct overlay_carried next[ROOM];
-    size_t line_count, inner_count, across_count, edge_count, left_count, right_count, next_count;
+    struct overlay_counted crossing[ROOM];
+    struct overlay_directed directed[ROOM];
+    size_t line_count, inner_count, across_count, edge_count, left_count, right_count, next_count, crossing_count, directed_count;
 };
 
 static struct strip strips[MOST_STRIPS];
@@ -92,6 +96,29 @@ static int all_strips(const int32_t *cuts, size_t count, const struct overlay_co
     return done;
 }
 
+/* The directed edges of all strips, and what goes on from each to the next one. */
+static int all_labels(uint32_t call, const int32_t *cuts, size_t count) {
+    static struct overlay_counted behind[ROOM];
+    struct overlay_strip_answer answer = GARBAGE;
+    strips[0].crossing_count = 0;
+    for (size_t s = 0; s <= count; s++) {
+        struct strip *strip = &strips[s];
+        struct overlay_counted *next = s == count ? behind : strips[s + 1].crossing;
+        overlay_strip_labels(call, strip->crossing, strip->crossing_count, strip->edges, strip->edge_count, strip->directed, ROOM, &answer);
+        if (answer.status != OVERLAY_ANSWERED || answer.second || answer.third)
+            return 0;
+        strip->directed_count = (size_t)answer.first;
+        overlay_strip_going_on(cuts, count, s, strip->crossing, strip->crossing_count, strip->edges, strip->edge_count, next, ROOM, &answer);
+        if (answer.status != OVERLAY_ANSWERED || answer.second || answer.third)
+            return 0;
+        if (s < count)
+            strips[s + 1].crossing_count = (size_t)answer.first;
+        else if (answer.first)
+            return 0;
+    }
+    return 1;
+}
+
 /* The edges of all strips, as overlay_fill tells edges. */
 static size_t edges_text(size_t count, char *text) {
     size_t length = 0;
@@ -140,6 +167,12 @@ static const struct overlay_counted ACROSS_1[] = {{5, 0, 12, 0, 1, 0}, {5, 1, 8,
 static const struct overlay_counted ACROSS_0[] = {{3, -2, 5, -2, 0, 1}, {3, 0, 5, 0, 1, 0}, {3, 2, 5, 1, 1, 0},
                                                   {3, 3, 5, 4, 1, 0},   {3, 6, 5, 6, 1, 0}, {3, 8, 5, 8, 0, 1}};
 
+static const struct overlay_directed BOTH_0[] = {{3, 0, 5, 0}, {3, 2, 3, 0}, {3, 3, 5, 4}, {3, 6, 3, 3}, {5, 1, 3, 2}, {5, 6, 3, 6}};
+static const struct overlay_directed BOTH_1[] = {{5, 0, 5, 1}, {5, 4, 5, 6}};
+static const struct overlay_directed WITHOUT_0[] = {{0, 0, 3, 0}, {0, 6, 0, 0}, {1, 2, 1, 3}, {1, 3, 3, 3}, {3, 0, 3, 2}, {3, 2, 1, 2}, {3, 3, 3, 6}, {3, 6, 0, 6}};
+static const struct overlay_directed WITHOUT_1[] = {{5, 0, 12, 0}, {5, 1, 5, 0}, {5, 4, 8, 4}, {5, 6, 5, 4}, {8, 1, 5, 1}, {12, 6, 5, 6}};
+static const struct overlay_directed WITHOUT_3[] = {{8, 4, 8, 1}, {12, 0, 12, 6}};
+
 #define ARE(got, count, wanted) ((count) == COUNT(wanted) && !memcmp(got, wanted, sizeof(wanted)))
 
 static void lines_by_hand(void) {
@@ -166,6 +199,18 @@ static void lists_by_hand(void) {
               && ARE(strips[0].across, strips[0].across_count, ACROSS_0), "edges across borders");
     check(strips[0].edge_count == COUNT(INNER_0) + COUNT(ACROSS_0) && strips[1].edge_count == COUNT(INNER_1) + COUNT(ACROSS_1) && !strips[2].edge_count
               && ARE(strips[3].edges, strips[3].edge_count, INNER_3), "edges of strips");
+}
+
+static void labels_by_hand(void) {
+    check(all_labels(OVERLAY_INTERSECTION, CUTS, 3), "an intersection strip by strip");
+    check(ARE(strips[0].directed, strips[0].directed_count, BOTH_0) && ARE(strips[1].directed, strips[1].directed_count, BOTH_1)
+              && !strips[2].directed_count && !strips[3].directed_count, "directed edges of an intersection");
+    check(!strips[0].crossing_count && ARE(strips[1].crossing, strips[1].crossing_count, ACROSS_0)
+              && ARE(strips[2].crossing, strips[2].crossing_count, ACROSS_1) && ARE(strips[3].crossing, strips[3].crossing_count, ACROSS_1),
+          "edges that go on");
+    check(all_labels(OVERLAY_DIFFERENCE, CUTS, 3), "a difference strip by strip");
+    check(ARE(strips[0].directed, strips[0].directed_count, WITHOUT_0) && ARE(strips[1].directed, strips[1].directed_count, WITHOUT_1)
+              && !strips[2].directed_count && ARE(strips[3].directed, strips[3].directed_count, WITHOUT_3), "directed edges of a difference");
 }
 
 /* ---- what is refused */
@@ -304,6 +349,91 @@ static void refused_edges(void) {
     check(answer.status == OVERLAY_ANSWERED && !answer.first, "no edges");
 }
 
+static struct overlay_strip_answer labelled(uint32_t call, const struct overlay_counted *crossing, size_t crossing_count, const struct overlay_counted *own,
+                                            size_t own_count) {
+    struct overlay_directed room[8];
+    struct overlay_strip_answer answer = GARBAGE;
+    overlay_strip_labels(call, crossing, crossing_count, own, own_count, room, 8, &answer);
+    return answer;
+}
+
+/* Of the map by hand, the edges that come into the last strip are ACROSS_1, and INNER_3 are its own. */
+static void refused_labels(void) {
+    static const struct overlay_counted bad[] = {
+        {12, 6, 12, 0, 1, 0},         /* the greater end first */
+        {12, 0, 12, 0, 1, 0},         /* one point */
+        {8, 1, 8, 4, 1, 0},           /* the edge before it */
+        {8, 1, 8, 3, 1, 0},           /* a lesser one */
+        {12, 0, 268435457, 6, 1, 0},  /* out of range */
+        {12, -268435457, 12, 6, 1, 0} /* likewise */
+    };
+    static const struct overlay_counted late[] = {{5, 0, 12, 0, 1, 0}, {8, 0, 12, 6, 1, 0}};
+    struct overlay_counted edges[2];
+    struct overlay_strip_answer answer = labelled(OVERLAY_DIFFERENCE, ACROSS_1, 4, INNER_3, 2);
+    check(answer.status == OVERLAY_ANSWERED && answer.first == 2, "good lists of a strip");
+    for (size_t at = 0; at < COUNT(bad); at++) {
+        memcpy(edges, INNER_3, sizeof edges);
+        edges[1] = bad[at];
+        answer = labelled(OVERLAY_DIFFERENCE, edges, 2, INNER_3, 2);
+        check(is_refused(&answer, OVERLAY_BAD_ITEM, 0, 1), "a bad edge that comes in");
+        answer = labelled(OVERLAY_DIFFERENCE, ACROSS_1, 4, edges, 2);
+        check(is_refused(&answer, OVERLAY_BAD_ITEM, 1, 1), "a bad edge of a strip");
+    }
+    answer = labelled(OVERLAY_DIFFERENCE, late, 2, INNER_3, 2);
+    check(is_refused(&answer, OVERLAY_CONTRADICTION, 0, 1), "an edge that comes in from the strip itself");
+    answer = labelled(OVERLAY_DIFFERENCE, late, 2, INNER_3, 0);
+    check(answer.status == OVERLAY_ANSWERED && !answer.first, "a strip without edges");
+    for (uint32_t call = 4; call < 6; call++) {
+        answer = labelled(call, ACROSS_1, 4, INNER_3, 2);
+        check(answer.status == OVERLAY_NO_CALL && !answer.number && !answer.part && !answer.detail, "labels for no operation");
+    }
+}
+
+static struct overlay_strip_answer gone_on(size_t strip, const struct overlay_counted *crossing, size_t crossing_count, const struct overlay_counted *own,
+                                           size_t own_count) {
+    struct overlay_counted room[8];
+    struct overlay_strip_answer answer = GARBAGE;
+    overlay_strip_going_on(CUTS, 3, strip, crossing, crossing_count, own, own_count, room, 8, &answer);
+    return answer;
+}
+
+/* Strip 1 has the columns 4 and 5. */
+static void refused_going_on(void) {
+    static const struct overlay_counted crossing[] = {{3, 0, 5, 0, 1, 0}, {3, 2, 4, 1, 1, 0}}, own[] = {{4, 1, 9, 1, 1, 0}, {5, 0, 6, 0, 1, 0}};
+    static const struct overlay_counted strange[] = {
+        {3, 2, 3, 3, 1, 0}, /* ends before the strip */
+        {4, 1, 5, 1, 1, 0}, /* begins in it */
+        {3, 0, 5, 0, 1, 0}, /* the edge before it */
+        {5, 1, 3, 2, 1, 0}, /* the greater end first */
+    };
+    static const struct overlay_counted alien[] = {
+        {6, 0, 7, 0, 1, 0}, /* begins behind the strip */
+        {3, 9, 5, 0, 1, 0}, /* or before it */
+        {4, 1, 9, 1, 1, 0}, /* the edge before it */
+        {5, 0, 5, 0, 1, 0}, /* one point */
+    };
+    static const int32_t falling[] = {4, 3, 8};
+    struct overlay_counted edges[2], room[8];
+    struct overlay_strip_answer answer = gone_on(1, crossing, 2, own, 2);
+    check(answer.status == OVERLAY_ANSWERED && answer.first == 2, "good lists that go on");
+    for (size_t at = 0; at < COUNT(strange); at++) {
+        memcpy(edges, crossing, sizeof edges);
+        edges[1] = strange[at];
+        answer = gone_on(1, edges, 2, own, 2);
+        check(is_refused(&answer, OVERLAY_BAD_ITEM, 0, 1), "an edge that doesn't come in");
+    }
+    for (size_t at = 0; at < COUNT(alien); at++) {
+        memcpy(edges, own, sizeof edges);
+        edges[1] = alien[at];
+        answer = gone_on(1, crossing, 2, edges, 2);
+        check(is_refused(&answer, OVERLAY_BAD_ITEM, 1, 1), "an edge of another strip");
+    }
+    answer = gone_on(4, crossing, 0, own, 0);
+    check(answer.status == OVERLAY_NO_CALL && !answer.number, "nothing goes on from a strip behind the last one");
+    overlay_strip_going_on(falling, 3, 1, crossing, 2, own, 2, room, 8, &answer);
+    check(is_refused(&answer, OVERLAY_BAD_ITEM, OVERLAY_CUTS, 1), "going on by cuts that fall");
+}
+
 /* ---- rooms and memory */
 
 #define IS_CLEAN(room) is_clean((const uint8_t *)(room), sizeof(room))
@@ -320,6 +450,7 @@ static uint32_t begin_room[8];
 static struct overlay_counted edge_room[32];
 static struct overlay_open left_room[8], right_room[8];
 static struct overlay_carried next_room[8];
+static struct overlay_directed directed_room[16];
 
 static void spoil_rooms(void) {
     memset(line_room, 0x7F, sizeof line_room);
@@ -328,10 +459,12 @@ static void spoil_rooms(void) {
     memset(left_room, 0x7F, sizeof left_room);
     memset(right_room, 0x7F, sizeof right_room);
     memset(next_room, 0x7F, sizeof next_room);
+    memset(directed_room, 0x7F, sizeof directed_room);
 }
 
 static int are_rooms_clean(void) {
-    return IS_CLEAN(line_room) && IS_CLEAN(begin_room) && IS_CLEAN(edge_room) && IS_CLEAN(left_room) && IS_CLEAN(right_room) && IS_CLEAN(next_room);
+    return IS_CLEAN(line_room) && IS_CLEAN(begin_room) && IS_CLEAN(edge_room) && IS_CLEAN(left_room) && IS_CLEAN(right_room) && IS_CLEAN(next_room)
+           && IS_CLEAN(directed_room);
 }
 
 /* One of the calls on the map by hand, with rooms of these lengths. */
@@ -344,16 +477,22 @@ static struct overlay_strip_answer called(int call, size_t first, size_t second,
         overlay_strip_round(CUTS, 3, 1, strips[1].lines, strips[1].line_count, edge_room, first, left_room, second, right_room, third, &answer);
     else if (call == 2)
         overlay_strip_bridge(LEFT_1, 6, LEFT_1, 4, FROM_3, 4, edge_room, first, next_room, second, &answer);
-    else
+    else if (call == 3)
         overlay_strip_edges(INNER_1, 5, ACROSS_1, 4, edge_room, first, &answer);
+    else if (call == 4)
+        overlay_strip_labels(OVERLAY_DIFFERENCE, strips[1].crossing, strips[1].crossing_count, strips[1].edges, strips[1].edge_count, directed_room, first, &answer);
+    else
+        overlay_strip_going_on(CUTS, 3, 1, strips[1].crossing, strips[1].crossing_count, strips[1].edges, strips[1].edge_count, edge_room, first, &answer);
     return answer;
 }
 
 /* How many items each room of the calls is to hold. */
-static const size_t WANTED[4][3] = {{20, 5, 0}, {5, 6, 4}, {4, 6, 0}, {9, 0, 0}};
+enum { CALLS = 6 };
+
+static const size_t WANTED[CALLS][3] = {{20, 5, 0}, {5, 6, 4}, {4, 6, 0}, {9, 0, 0}, {6, 0, 0}, {4, 0, 0}};
 
 static void small_rooms(void) {
-    for (int call = 0; call < 4; call++) {
+    for (int call = 0; call < CALLS; call++) {
         const size_t *wanted = WANTED[call];
         for (int room = 0; room < 3; room++) {
             size_t lengths[3] = {wanted[0], wanted[1], wanted[2]};
@@ -367,13 +506,14 @@ static void small_rooms(void) {
         check(answer.status == OVERLAY_ANSWERED && answer.first == wanted[0] && answer.second == wanted[1] && answer.third == wanted[2],
               "rooms of a strip that are just large enough");
         check(is_clean((const uint8_t *)(line_room + 20), sizeof line_room - 20 * sizeof *line_room)
-                  && is_clean((const uint8_t *)(edge_room + 9), sizeof edge_room - 9 * sizeof *edge_room), "nothing behind the items of a strip");
+                  && is_clean((const uint8_t *)(edge_room + 9), sizeof edge_room - 9 * sizeof *edge_room)
+                  && is_clean((const uint8_t *)(directed_room + 6), sizeof directed_room - 6 * sizeof *directed_room), "nothing behind the items of a strip");
     }
 }
 
 /* From some request on memory is refused: the rooms are as they were, or all lists are there. */
 static void memory(void) {
-    for (int call = 0; call < 4; call++) {
+    for (int call = 0; call < CALLS; call++) {
         const size_t *wanted = WANTED[call];
         long refused = 0;
         for (;; refused++) {
@@ -433,11 +573,43 @@ static void draw(struct layer *layer, uint32_t rings, uint32_t size) {
     layer->columns = (struct overlay_columns){layer->points, 2 * points, layer->rings, rings + 1, layer->polygons, 2, layer->features, 2};
 }
 
+static int by_ends(const void *one, const void *other) {
+    const struct overlay_directed *d = (const struct overlay_directed *)one, *e = (const struct overlay_directed *)other;
+    if (d->ax != e->ax)
+        return d->ax < e->ax ? -1 : 1;
+    if (d->ay != e->ay)
+        return d->ay < e->ay ? -1 : 1;
+    if (d->bx != e->bx)
+        return d->bx < e->bx ? -1 : 1;
+    return (d->by > e->by) - (d->by < e->by);
+}
+
+/* Whether the directed edges of all strips are those of the rings of a result. */
+static int have_edges_of_rings(uint32_t call, size_t count, const struct overlay_columns *a, const struct overlay_columns *b) {
+    static int32_t points[4 * ROOM];
+    static uint32_t rings[ROOM], polygons[ROOM];
+    static struct overlay_directed told[ROOM], wanted[ROOM];
+    struct overlay_columns_answer answer;
+    size_t told_count = 0, wanted_count = 0;
+    overlay_columns_fill(call, 33554432, OVERLAY_SEGMENTS, a, b, points, 4 * ROOM, rings, ROOM, polygons, ROOM, &answer);
+    if (answer.status != OVERLAY_ANSWERED)
+        return 0;
+    for (size_t ring = 0; ring + 1 < answer.rings; ring++)
+        for (size_t at = rings[ring]; at + 1 < rings[ring + 1] && wanted_count < ROOM; at++)
+            memcpy(&wanted[wanted_count++], points + 2 * at, sizeof *wanted);
+    for (size_t s = 0; s <= count; s++)
+        for (size_t at = 0; at < strips[s].directed_count && told_count < ROOM; at++)
+            told[told_count++] = strips[s].directed[at];
+    qsort(told, told_count, sizeof *told, by_ends);
+    qsort(wanted, wanted_count, sizeof *wanted, by_ends);
+    return told_count == wanted_count && !memcmp(told, wanted, told_count * sizeof *told);
+}
+
 static void any_cuts(void) {
     static const uint32_t SIZES[] = {12, 60, 2000, 536870912};
     static struct layer a, b;
     static char text[TEXT], wanted[TEXT];
-    int done = 0, same = 0, maps = 0;
+    int done = 0, same = 0, results = 0, maps = 0;
     for (; maps < 4000; maps++) {
         uint32_t size = SIZES[maps % COUNT(SIZES)];
         int32_t cuts[MOST_STRIPS - 1];
@@ -458,10 +630,69 @@ static void any_cuts(void) {
         done++;
         size_t length = edges_text(count, text);
         same += answer.status == OVERLAY_ANSWERED && answer.length == length && !memcmp(text, wanted, length);
+        uint32_t call = (uint32_t)maps / COUNT(SIZES) % 4;
+        results += all_labels(call, cuts, count) && have_edges_of_rings(call, count, &a.columns, &b.columns);
     }
     check(done == maps, "maps by any cuts");
     check(same == maps, "the edges of maps by any cuts");
-    printf("strips: the edges of %d maps of %d\n", same, maps);
+    check(results == maps, "the directed edges of results by any cuts");
+    printf("strips: the edges of %d maps of %d, the directed edges of %d results\n", same, maps, results);
+}
+
+/* ---- edges that are no map's */
+
+static int by_counted_ends(const void *one, const void *other) {
+    const struct overlay_counted *d = (const struct overlay_counted *)one, *e = (const struct overlay_counted *)other;
+    if (d->px != e->px)
+        return d->px < e->px ? -1 : 1;
+    if (d->py != e->py)
+        return d->py < e->py ? -1 : 1;
+    if (d->qx != e->qx)
+        return d->qx < e->qx ? -1 : 1;
+    return (d->qy > e->qy) - (d->qy < e->qy);
+}
+
+/* Draws ascending edges that begin in some columns, whatever they cross. */
+static size_t draw_edges(struct overlay_counted *edges, size_t count, int32_t begin, uint32_t columns, uint32_t size) {
+    size_t kept = 0;
+    for (size_t at = 0; at < count; at++) {
+        int32_t px = begin + (int32_t)any(columns), py = (int32_t)any(size), dx = (int32_t)any(size), dy = (int32_t)any(2 * size) - (int32_t)size;
+        if (dx || dy > 0)
+            edges[kept++] = (struct overlay_counted){px, py, px + dx, py + dy, any(4), any(4)};
+    }
+    qsort(edges, kept, sizeof *edges, by_counted_ends);
+    count = kept;
+    kept = 0;
+    for (size_t at = 0; at < count; at++)
+        if (!kept || by_counted_ends(&edges[kept - 1], &edges[at]))
+            edges[kept++] = edges[at];
+    return kept;
+}
+
+/* Such edges are answered, by directed edges along those of the strip that ascend. */
+static void no_maps(void) {
+    static struct overlay_counted crossing[1024], own[1024];
+    static struct overlay_directed directed[2048];
+    int answered = 0, strange = 0, ascending = 0, tries = 0;
+    for (; tries < 30000; tries++) {
+        size_t many = tries % 100 ? 12 : 1000;
+        uint32_t size = tries % 3 ? 8 : 1000;
+        size_t crossing_count = draw_edges(crossing, any((uint32_t)many), -5, 5, size), own_count = draw_edges(own, any((uint32_t)many), 0, 1 + any(size), size);
+        struct overlay_strip_answer answer = GARBAGE;
+        overlay_strip_labels(any(4), crossing, crossing_count, own, own_count, directed, 2048, &answer);
+        answered += answer.status == OVERLAY_ANSWERED;
+        size_t at = 1;
+        while (at < answer.first && by_ends(&directed[at - 1], &directed[at]) < 0)
+            at++;
+        ascending += answer.status == OVERLAY_ANSWERED && at >= answer.first;
+        if (own_count) {
+            own[any((uint32_t)own_count)] = (struct overlay_counted){(int32_t)any(16) - 8, (int32_t)any(16) - 8, (int32_t)any(16) - 8, (int32_t)any(16) - 8, any(9), any(9)};
+            overlay_strip_labels(any(6), crossing, crossing_count, own, own_count, directed, 2048, &answer);
+        }
+        strange += answer.status != OVERLAY_ANSWERED && answer.status != OVERLAY_REFUSED && answer.status != OVERLAY_NO_CALL;
+    }
+    check(answered == tries && ascending == tries && !strange, "edges that are no map's");
+    printf("strips: %d lists of edges that are no map's were answered of %d\n", answered, tries);
 }
 
 int main(void) {
@@ -470,9 +701,13 @@ int main(void) {
     refused_scatter();
     refused_round();
     refused_bridge();
+    labels_by_hand();
     refused_edges();
+    refused_labels();
+    refused_going_on();
     small_rooms();
     memory();
     any_cuts();
+    no_maps();
     return failures != 0;
 }

@@ -21,3 +21,4 @@ pub mod Borders
 pub mod StripVertices
 pub mod ChangingEdges
 pub mod Parts
+pub mod Limits

@@ -13,7 +13,7 @@ use Rattle.geom.proofs.Tests.{le_yes}
 use Rattle.label_sweep.specs.declared.standing.StandingEdge.{StandingEdge}
 use Rattle.std.proofs.lemmas.Bool.{cases_lt}
 use Rattle.label_sweep.specs.declared.status.Place.{Place}
-use Rattle.label_sweep.specs.Chunks.{AreChunks, IsPlace, joined, number_of, opens}
+use Rattle.label_sweep.specs.Chunks.{AreChunks, IsPlace, LiesWithin, joined, number_of, opens}
 use Rattle.label_sweep.specs.Labels.{lowest_of}
 use Rattle.label_sweep.proofs.Chunks.{all_after, all_before, before_more, before_order, behind, cut_filled, cut_joined, cut_some, drop_joined, exchanged, exchanged_filled, exchanged_some, filled_at, first_of, inside, none_after, passed_before}
 
@@ -105,7 +105,7 @@ module _ {A : Type 0} where
           omega (arith, a, b, e, f, o)
 
   -- ---- changes
-  pub replaced : (chunks : List (Vec StandingEdge A)) (low high : Place) (b c y : Vec StandingEdge A) (fresh rest : List StandingEdge) → low.chunk ≤ high.chunk → IsPlace chunks low → IsPlace chunks high
+  pub replaced : (chunks : List (Vec StandingEdge A)) (low high : Place) (b c y : Vec StandingEdge A) (fresh rest : List StandingEdge) → low.chunk ≤ high.chunk → LiesWithin chunks low → LiesWithin chunks high
       → b ≡ get_or chunks low.chunk b → c ≡ get_or chunks high.chunk c → y.items ≡ take low.within b.items ++ fresh ++ rest → rest ≡ drop high.within c.items
       → joined (take (low.chunk + 1) (set chunks low.chunk y) ++ drop (high.chunk + 1) (set chunks low.chunk y)) ≡ take (number_of chunks low) (joined chunks) ++ fresh ++ drop (number_of chunks high) (joined chunks)
   replaced chunks low high b c y fresh rest o l h e g made left =
@@ -139,7 +139,7 @@ module _ {A : Type 0} where
           let all = ap length made in
           omega (arith, a, w, long, longer, taken, all)
 
-  pub overwritten : (chunks : List (Vec StandingEdge A)) (low high : Place) (b y : Vec StandingEdge A) (fresh : List StandingEdge) → low.chunk ≡ high.chunk → IsPlace chunks low → IsPlace chunks high
+  pub overwritten : (chunks : List (Vec StandingEdge A)) (low high : Place) (b y : Vec StandingEdge A) (fresh : List StandingEdge) → low.chunk ≡ high.chunk → LiesWithin chunks low → LiesWithin chunks high
       → b ≡ get_or chunks low.chunk b → y.items ≡ take low.within b.items ++ fresh ++ drop high.within b.items → joined (set chunks low.chunk y) ≡ take (number_of chunks low) (joined chunks) ++ fresh ++ drop (number_of chunks high) (joined chunks)
   overwritten chunks low high b y fresh s l h e made =
       let all : List (Vec StandingEdge A) = set chunks low.chunk y in

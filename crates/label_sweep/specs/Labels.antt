@@ -16,6 +16,8 @@ use Rattle.geom.specs.Label.{ways}
 use Rattle.label_sweep.specs.declared.parities.Parities.{Parities}
 use Rattle.label_sweep.specs.declared.standing.StandingEdge.{StandingEdge}
 use Rattle.label_sweep.specs.declared.standing.LabelledEdge.{LabelledEdge}
+use Rattle.label_sweep.specs.declared.status.Status.{Status}
+use Rattle.label_sweep.specs.Chunks.{AreChunks, all_standing}
 use Rattle.label_sweep.specs.Status.{AreStanding, AreSpokes, GoesOn, IsRangeAt, IsVertexOf, Reaches}
 use Rattle.points_law.specs.Law.{AreLayers}
 use Rattle.label_sweep.specs.declared.standing.Spoke.{Spoke}
@@ -64,6 +66,11 @@ pub record IsAt (counted own : List Counted) (v : Pt) (from next : ℕ) (standin
   pub vertex : IsVertexOf (edges_of counted) v
   pub begin : IsRangeAt counted own v from next
   pub swept : IsSweptUpTo counted v standing
+
+-- it is there, and what stands is kept in chunks
+pub record IsSweepAt {A : Type 0} (counted own : List Counted) (v : Pt) (from next : ℕ) (status : Status A) : Type 0 where
+  pub at : IsAt counted own v from next (all_standing status)
+  pub chunked : AreChunks status.chunks.items
 
 -- after the vertex v: what stands goes on from v, in its order, each with the parities below it
 pub record IsSweptTo (counted : List Counted) (v : Pt) (standing : List StandingEdge) : Type 0 where

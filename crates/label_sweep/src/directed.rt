@@ -36,7 +36,7 @@ pub fn directed_edges<A: Allocator + Copy>(
 ) -> Result<Vec<DirectedEdge, A>, NoMemory>
     ensures { IfOk result (λ edges. edges.items ≡ directed_of op labelled.now) }
 {
-    let mut edges = Vec::new(alloc);
+    let mut edges = Vec::with_capacity(alloc, labelled.len())?;
     for one in labelled {
         add_directions(&mut edges, one.edge, one.directions(op))?;
     }

@@ -2,12 +2,13 @@
 //! 1. The vertices in the strip's columns are listed, from the first column in which an edge begins to the last one (`strip_vertices`).
 //! 2. The strip is swept, from the edges that come into it (`sweep`), for the directed edges, which are sorted (`in_order`).
 
-ghost use Rattle.std.specs.Prelude.{◌≡◌, ◌++◌, [], ◌∷◌, if◌then◌else◌, AllPairs, IfOk, List, OnOk, filter};
+ghost use Rattle.std.specs.Prelude.{◌≡◌, ◌++◌, [], ◌∷◌, if◌then◌else◌, All, AllPairs, IfOk, List, OnOk, filter};
 ghost use Rattle.geom.specs.Directed.{IsDirectedBefore};
+ghost use Rattle.geom.specs.Limit.{AreInLimit};
 ghost use Rattle.geom.specs.Rounded.{edges_of};
 ghost use Rattle.geom.specs.declared.edge.Counted.{Counted};
 ghost use Rattle.label_sweep.specs.Column.{IsStripOf};
-ghost use Rattle.label_sweep.specs.Status.{AreVertices};
+ghost use Rattle.label_sweep.specs.Status.{AreVertices, IsVertexOf};
 ghost use Rattle.label_sweep.specs.StripLabels.{AreResultEdgesAlong, AreStripEdges, lies_in};
 
 use crate::directed::{directed_edges, in_order};
@@ -81,7 +82,8 @@ fn strip_vertices<A: Allocator + Copy>(
     crossing: &[Counted],
     own: &[Counted],
 ) -> Result<Vec<Pt, A>, NoMemory>
-    ensures { (all : List Counted) → AreStripEdges all crossing.now own.now → IfOk result (λ vertices. IsStripOf all crossing.now own.now vertices.items) }
+    ensures ends { IfOk result (λ vertices. All (IsVertexOf (edges_of (crossing.now ++ own.now))) vertices.items) }
+    ensures strip { (all : List Counted) → AreStripEdges all crossing.now own.now → IfOk result (λ vertices. IsStripOf all crossing.now own.now vertices.items) }
 {
     if own.is_empty() {
         return Ok(Vec::new(alloc));
@@ -97,14 +99,15 @@ fn strip_vertices<A: Allocator + Copy>(
 
 /// The directed edges of the result of an operation along the edges whose lesser end lies in a strip of columns, `own`, ascending by start,
 /// then by end. Of all other edges those that come into the strip are needed, `crossing`: their lesser end lies on the left of the strip, and
-/// their greater end in it or on its right.
+/// their greater end in it or on its right. Of lists that are no strip's the answer says nothing.
 pub fn strip_labels<A: Allocator + Copy>(
     alloc: A,
     crossing: &[Counted],
     own: &[Counted],
     op: Op,
 ) -> Result<Vec<DirectedEdge, A>, NoMemory>
-    requires { ∥ ((all : List Counted) × AreStripEdges all crossing.now own.now) ∥₁ }
+    requires crossing_in { All (λ e. AreInLimit e.p e.q) (edges_of crossing.now) }
+    requires own_in { All (λ e. AreInLimit e.p e.q) (edges_of own.now) }
     ensures ascending { IfOk result (λ edges. AllPairs IsDirectedBefore edges.items) }
     ensures along { (all : List Counted) → AreStripEdges all crossing.now own.now → IfOk result (λ edges. AreResultEdgesAlong op all own.now edges.items) }
 {

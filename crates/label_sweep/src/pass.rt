@@ -3,15 +3,15 @@
 //! listed with the edge beside each (`SweepLine::pass_beside`, `sweep_beside`). Of all edges, which contracts alone know, a strip needs
 //! those that begin in it and those that cross the column.
 
-ghost use Rattle.std.specs.Prelude.{ℕ, ◌≡◌, ◌++◌, [], ◌∷◌, All, AllPairs, Contains, IfOk, List, OnOk, false, map, reverse, slice_range};
-ghost use Rattle.geom.specs.Limit.{AreInLimit};
+ghost use Rattle.std.specs.Prelude.{ℕ, ◌≡◌, ◌<◌, ◌≤◌, ◌++◌, [], ◌∷◌, All, AllPairs, Contains, IfOk, List, OnOk, false, length, map, reverse, slice_range};
+ghost use Rattle.geom.specs.Limit.{AreInLimit, InLimit};
 ghost use Rattle.geom.specs.Order.{IsBefore};
 ghost use Rattle.geom.specs.Rounded.{edges_of};
 ghost use Rattle.geom.specs.declared.edge.Counted.{Counted};
 ghost use Rattle.geom.specs.declared.point.Pt.{Pt};
 ghost use Rattle.label_sweep.specs.Chunks.{AreChunks, all_standing};
 ghost use Rattle.label_sweep.specs.Column.{BeginsStrip, IsStripOf};
-ghost use Rattle.label_sweep.specs.Labels.{AreLabels, AreLabelsUpTo, IsAt, IsLabelled, IsSweptTo, IsSweptUpTo, edge_beside, labels_from, parities_beside, stands_from};
+ghost use Rattle.label_sweep.specs.Labels.{AreLabels, AreLabelsUpTo, IsAt, IsLabelled, IsSweepAt, IsSweptTo, IsSweptUpTo, edge_beside, labels_from, parities_beside, stands_from};
 ghost use Rattle.label_sweep.specs.Status.{AreSpokes};
 ghost use Rattle.label_sweep.specs.Swept.{AreSweptFrom, besides_from};
 
@@ -86,16 +86,20 @@ impl<A: Allocator + Copy> SweepLine<A> {
         next: usize,
         v: Pt,
     ) -> Result<Option<StandingEdge>, NoMemory>
-        requires here { ∥ ((all : List Counted) × IsAt all own.now v from next (all_standing self.old.standing)) ∥₁ }
-        requires chunked { AreChunks self.old.standing.chunks.items }
-        ensures chunked { OnOk result (AreChunks self.new.standing.chunks.items) }
-        ensures swept { (all : List Counted) → IsAt all own.now v from next (all_standing self.old.standing) → OnOk result (IsSweptTo all v (all_standing self.new.standing)) }
-        ensures spokes { (all : List Counted) → IsAt all own.now v from next (all_standing self.old.standing)
+        requires v_in { InLimit v }
+        requires own_in { All (λ e. AreInLimit e.p e.q) (edges_of (slice_range own.now from next)) }
+        requires order { from ≤ next }
+        requires within { next ≤ length own.now }
+        requires some { 0 < length self.old.standing.chunks.items }
+        ensures some { OnOk result (0 < length self.new.standing.chunks.items) }
+        ensures chunked { (all : List Counted) → IsSweepAt all own.now v from next self.old.standing → OnOk result (AreChunks self.new.standing.chunks.items) }
+        ensures swept { (all : List Counted) → IsSweepAt all own.now v from next self.old.standing → OnOk result (IsSweptTo all v (all_standing self.new.standing)) }
+        ensures spokes { (all : List Counted) → IsSweepAt all own.now v from next self.old.standing
             → OnOk result (AreSpokes (edges_of all) v (map (λ s. s.one.edge) self.new.spokes.items)) }
         ensures inside { OnOk result (All (λ s. Contains (slice_range own.now from next) s.one) self.new.spokes.items) }
-        ensures labels { (all : List Counted) → IsAt all own.now v from next (all_standing self.old.standing)
+        ensures labels { (all : List Counted) → IsSweepAt all own.now v from next self.old.standing
             → IfOk result (λ lowest. All (IsLabelled all) (labels_from (parities_beside lowest) self.new.spokes.items)) }
-        ensures besides { (all : List Counted) → IsAt all own.now v from next (all_standing self.old.standing)
+        ensures besides { (all : List Counted) → IsSweepAt all own.now v from next self.old.standing
             → IfOk result (λ lowest. AreSweptFrom (edges_of all) (v ∷ []) (besides_from (edge_beside lowest) self.new.spokes.items)) }
     {
         let low = self.standing.first_not_below(v);
@@ -117,11 +121,15 @@ impl<A: Allocator + Copy> SweepLine<A> {
         v: Pt,
         labelled: &mut Vec<LabelledEdge, A>,
     ) -> Result<(), NoMemory>
-        requires here { ∥ ((all : List Counted) × IsAt all own.now v from next (all_standing self.old.standing)) ∥₁ }
-        requires chunked { AreChunks self.old.standing.chunks.items }
-        ensures chunked { OnOk result (AreChunks self.new.standing.chunks.items) }
-        ensures swept { (all : List Counted) → IsAt all own.now v from next (all_standing self.old.standing) → OnOk result (IsSweptTo all v (all_standing self.new.standing)) }
-        ensures labelled { (all : List Counted) → IsAt all own.now v from next (all_standing self.old.standing)
+        requires v_in { InLimit v }
+        requires own_in { All (λ e. AreInLimit e.p e.q) (edges_of (slice_range own.now from next)) }
+        requires order { from ≤ next }
+        requires within { next ≤ length own.now }
+        requires some { 0 < length self.old.standing.chunks.items }
+        ensures some { OnOk result (0 < length self.new.standing.chunks.items) }
+        ensures chunked { (all : List Counted) → IsSweepAt all own.now v from next self.old.standing → OnOk result (AreChunks self.new.standing.chunks.items) }
+        ensures swept { (all : List Counted) → IsSweepAt all own.now v from next self.old.standing → OnOk result (IsSweptTo all v (all_standing self.new.standing)) }
+        ensures labelled { (all : List Counted) → IsSweepAt all own.now v from next self.old.standing
             → OnOk result (AreLabelsUpTo all own.now from labelled.old.items → AreLabelsUpTo all own.now next labelled.new.items) }
     {
         let lowest = self.turn(own, from, next, v)?;
@@ -152,14 +160,17 @@ impl<A: Allocator + Copy> SweepLine<A> {
     }
 }
 
-/// The labels of the edges of a strip, with edges among which are those that cross the column before it.
+/// The labels of the edges of a strip, with edges among which are those that cross the column before it. Edges that are no strip's have labels
+/// that say nothing.
 pub fn sweep<A: Allocator + Copy>(
     alloc: A,
     before: &[Counted],
     own: &[Counted],
     vertices: &[Pt],
 ) -> Result<Vec<LabelledEdge, A>, NoMemory>
-    requires { ∥ ((all : List Counted) × IsStripOf all before.now own.now vertices.now) ∥₁ }
+    requires before_in { All (λ e. AreInLimit e.p e.q) (edges_of before.now) }
+    requires own_in { All (λ e. AreInLimit e.p e.q) (edges_of own.now) }
+    requires vertices_in { All InLimit vertices.now }
     ensures { (all : List Counted) → IsStripOf all before.now own.now vertices.now → IfOk result (λ labelled. AreLabels all own.now labelled.items) }
 {
     if vertices.is_empty() {

@@ -9,7 +9,7 @@ ghost use Rattle.std.specs.List.{AllWithin, HoldsAt};
 ghost use Rattle.std.specs.List.Sorted.{IsPartitionedBy};
 ghost use Rattle.geom.specs.Limit.{InLimit};
 ghost use Rattle.geom.specs.Determinant.{side};
-ghost use Rattle.label_sweep.specs.Chunks.{AreChunks, IsPlace, all_standing, joined, number_of, opens};
+ghost use Rattle.label_sweep.specs.Chunks.{AreChunks, IsPlace, IsPlaceBetween, LiesWithin, all_standing, joined, number_of, opens};
 ghost use Rattle.label_sweep.specs.Labels.{edge_beside, lowest_of, parities_beside};
 
 use crate::parities::Parities;
@@ -86,30 +86,26 @@ impl<A: Allocator + Copy> Status<A> {
         })
     }
 
-    /// The place behind the edges below a vertex.
+    /// The place behind the edges below a vertex, where these are the first ones.
     pub fn first_not_below(&self, v: Pt) -> Place
         requires v_in { InLimit v }
-        requires chunked { AreChunks self.now.chunks.items }
-        requires parted { IsPartitionedBy (λ s. int_lt (pos 0) (side s.spoke.one.edge.p s.spoke.one.edge.q v)) (all_standing self.now) }
-        ensures place { IsPlace self.now.chunks.items result }
-        ensures within { number_of self.now.chunks.items result ≤ length (all_standing self.now) }
-        ensures below { AllWithin (λ s. pos 0 <ℤ side s.spoke.one.edge.p s.spoke.one.edge.q v) (all_standing self.now) 0 (number_of self.now.chunks.items result) }
-        ensures rest { AllWithin (λ s. side s.spoke.one.edge.p s.spoke.one.edge.q v ≤ℤ pos 0) (all_standing self.now) (number_of self.now.chunks.items result) (length (all_standing self.now)) }
+        requires some { 0 < length self.now.chunks.items }
+        ensures inside { LiesWithin self.now.chunks.items result }
+        ensures between { AreChunks self.now.chunks.items → IsPartitionedBy (λ s. int_lt (pos 0) (side s.spoke.one.edge.p s.spoke.one.edge.q v)) (all_standing self.now)
+            → IsPlaceBetween (λ s. pos 0 <ℤ side s.spoke.one.edge.p s.spoke.one.edge.q v) (λ s. side s.spoke.one.edge.p s.spoke.one.edge.q v ≤ℤ pos 0) self.now.chunks.items result }
     {
         self.place(v, 1)
     }
 
-    /// The place behind the edges that are not above a vertex, from that behind those below it. Few edges end at most vertices.
+    /// The place behind the edges that are not above a vertex, where these are the first ones, from that behind those below it. Few edges end
+    /// at most vertices.
     pub fn first_above(&self, v: Pt, low: Place) -> Place
         requires v_in { InLimit v }
-        requires chunked { AreChunks self.now.chunks.items }
-        requires parted { IsPartitionedBy (λ s. int_le (pos 0) (side s.spoke.one.edge.p s.spoke.one.edge.q v)) (all_standing self.now) }
-        requires low { IsPlace self.now.chunks.items low }
-        requires below { AllWithin (λ s. pos 0 <ℤ side s.spoke.one.edge.p s.spoke.one.edge.q v) (all_standing self.now) 0 (number_of self.now.chunks.items low) }
-        ensures place { IsPlace self.now.chunks.items result }
-        ensures within { number_of self.now.chunks.items result ≤ length (all_standing self.now) }
-        ensures rest { AllWithin (λ s. pos 0 ≤ℤ side s.spoke.one.edge.p s.spoke.one.edge.q v) (all_standing self.now) 0 (number_of self.now.chunks.items result) }
-        ensures above { AllWithin (λ s. side s.spoke.one.edge.p s.spoke.one.edge.q v <ℤ pos 0) (all_standing self.now) (number_of self.now.chunks.items result) (length (all_standing self.now)) }
+        requires low { LiesWithin self.now.chunks.items low }
+        ensures inside { LiesWithin self.now.chunks.items result }
+        ensures between { AreChunks self.now.chunks.items → IsPartitionedBy (λ s. int_le (pos 0) (side s.spoke.one.edge.p s.spoke.one.edge.q v)) (all_standing self.now)
+            → IsPlaceBetween (λ s. pos 0 <ℤ side s.spoke.one.edge.p s.spoke.one.edge.q v) (λ s. side s.spoke.one.edge.p s.spoke.one.edge.q v ≤ℤ pos 0) self.now.chunks.items low
+            → IsPlaceBetween (λ s. pos 0 ≤ℤ side s.spoke.one.edge.p s.spoke.one.edge.q v) (λ s. side s.spoke.one.edge.p s.spoke.one.edge.q v <ℤ pos 0) self.now.chunks.items result }
     {
         let chunk = &self.chunks[low.chunk];
         let within = level_end(chunk, low.within, v);
@@ -123,15 +119,13 @@ impl<A: Allocator + Copy> Status<A> {
         }
     }
 
-    /// The place behind the edges to which a vertex lies at least so far on the left.
+    /// The place behind the edges to which a vertex lies at least so far on the left, where these are the first ones.
     fn place(&self, v: Pt, bound: i64) -> Place
         requires v_in { InLimit v }
-        requires chunked { AreChunks self.now.chunks.items }
-        requires parted { IsPartitionedBy (λ s. int_le bound (side s.spoke.one.edge.p s.spoke.one.edge.q v)) (all_standing self.now) }
-        ensures place { IsPlace self.now.chunks.items result }
-        ensures within { number_of self.now.chunks.items result ≤ length (all_standing self.now) }
-        ensures before { AllWithin (λ s. bound ≤ℤ side s.spoke.one.edge.p s.spoke.one.edge.q v) (all_standing self.now) 0 (number_of self.now.chunks.items result) }
-        ensures rest { AllWithin (λ s. side s.spoke.one.edge.p s.spoke.one.edge.q v <ℤ bound) (all_standing self.now) (number_of self.now.chunks.items result) (length (all_standing self.now)) }
+        requires some { 0 < length self.now.chunks.items }
+        ensures inside { LiesWithin self.now.chunks.items result }
+        ensures between { AreChunks self.now.chunks.items → IsPartitionedBy (λ s. int_le bound (side s.spoke.one.edge.p s.spoke.one.edge.q v)) (all_standing self.now)
+            → IsPlaceBetween (λ s. bound ≤ℤ side s.spoke.one.edge.p s.spoke.one.edge.q v) (λ s. side s.spoke.one.edge.p s.spoke.one.edge.q v <ℤ bound) self.now.chunks.items result }
     {
         let chunk = self.chunks[1..].partition_point(
             |chunk: &Vec<StandingEdge, A>| -> bool
@@ -150,9 +144,8 @@ impl<A: Allocator + Copy> Status<A> {
 
     /// The lowest of the edges from a place on, if there is one.
     pub fn lowest_from(&self, place: Place) -> Option<StandingEdge>
-        requires chunked { AreChunks self.now.chunks.items }
-        requires place { IsPlace self.now.chunks.items place }
-        ensures { result ≡ lowest_of (drop (number_of self.now.chunks.items place) (all_standing self.now)) }
+        requires { LiesWithin self.now.chunks.items place }
+        ensures { AreChunks self.now.chunks.items → result ≡ lowest_of (drop (number_of self.now.chunks.items place) (all_standing self.now)) }
     {
         let chunk = &self.chunks[place.chunk];
         if place.within < chunk.len() {
@@ -164,20 +157,19 @@ impl<A: Allocator + Copy> Status<A> {
         }
     }
 
-    /// Puts these edges in the place of those from one place to another.
+    /// Puts these edges in the place of those from one place to another. There stays a first chunk, wherever these places are.
     pub fn replace(
         &mut self,
         low: Place,
         high: Place,
         fresh: &[StandingEdge],
     ) -> Result<(), NoMemory>
-        requires chunked { AreChunks self.old.chunks.items }
-        requires low { IsPlace self.old.chunks.items low }
-        requires high { IsPlace self.old.chunks.items high }
-        requires order { low.chunk ≤ high.chunk }
-        ensures all { OnOk result (all_standing self.new
+        requires low { LiesWithin self.old.chunks.items low }
+        requires high { LiesWithin self.old.chunks.items high }
+        ensures some { OnOk result (0 < length self.new.chunks.items) }
+        ensures all { low.chunk ≤ high.chunk → OnOk result (all_standing self.new
             ≡ take (number_of self.old.chunks.items low) (all_standing self.old) ++ fresh.now ++ drop (number_of self.old.chunks.items high) (all_standing self.old)) }
-        ensures chunked { OnOk result (AreChunks self.new.chunks.items) }
+        ensures chunked { AreChunks self.old.chunks.items → IsPlace self.old.chunks.items low → low.chunk ≤ high.chunk → OnOk result (AreChunks self.new.chunks.items) }
     {
         if low.chunk == high.chunk && is_so_far(low.within, high.within, fresh.len()) {
             overwrite(&mut self.chunks[low.chunk], low.within, high.within, fresh);
@@ -229,15 +221,16 @@ fn refill<A: Allocator>(
     Ok(())
 }
 
-/// Drops the chunks from one number to another.
+/// Drops the chunks from one number to another, or none, where the other one is less.
 fn drop_chunks<A: Allocator + Copy>(
     chunks: &mut Vec<Vec<StandingEdge, A>, A>,
     from: usize,
     to: usize,
 ) -> Result<(), NoMemory>
-    requires order { from ≤ to }
-    requires within { to ≤ vec_len chunks.old }
-    ensures { OnOk result (chunks.new.items ≡ take from chunks.old.items ++ drop to chunks.old.items) }
+    requires from { from ≤ vec_len chunks.old }
+    requires to { to ≤ vec_len chunks.old }
+    ensures dropped { from ≤ to → OnOk result (chunks.new.items ≡ take from chunks.old.items ++ drop to chunks.old.items) }
+    ensures kept { OnOk result (from ≤ vec_len chunks.new) }
 {
     if from < to {
         let mut rest = chunks.split_off(to)?;
@@ -252,10 +245,10 @@ fn split<A: Allocator + Copy>(
     chunks: &mut Vec<Vec<StandingEdge, A>, A>,
     at: usize,
 ) -> Result<(), NoMemory>
-    requires inside { at < vec_len chunks.old }
-    requires chunked { AreChunks chunks.old.items }
+    requires { at < vec_len chunks.old }
+    ensures inside { OnOk result (at < vec_len chunks.new) }
     ensures all { OnOk result (joined chunks.new.items ≡ joined chunks.old.items) }
-    ensures chunked { OnOk result (AreChunks chunks.new.items) }
+    ensures chunked { AreChunks chunks.old.items → OnOk result (AreChunks chunks.new.items) }
     ensures small { OnOk result (HoldsAt (λ c. length c.items ≤ 256) chunks.new.items at) }
 {
     while chunks[at].len() > LIMIT {
@@ -272,11 +265,10 @@ fn split_once<A: Allocator + Copy>(
     keep: usize,
 ) -> Result<(), NoMemory>
     requires inside { at < vec_len chunks.old }
-    requires chunked { AreChunks chunks.old.items }
     requires some { 0 < keep }
     requires others { HoldsAt (λ c. keep < length c.items) chunks.old.items at }
     ensures all { OnOk result (joined chunks.new.items ≡ joined chunks.old.items) }
-    ensures chunked { OnOk result (AreChunks chunks.new.items) }
+    ensures chunked { AreChunks chunks.old.items → OnOk result (AreChunks chunks.new.items) }
     ensures inside { OnOk result (at < vec_len chunks.new) }
     ensures kept { OnOk result (HoldsAt (λ c. length c.items ≡ keep) chunks.new.items at) }
 {

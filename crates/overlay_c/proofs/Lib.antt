@@ -12,3 +12,6 @@ pub mod StripSearch
 pub mod StripParts
 pub mod StripOnce
 pub mod StripChain
+pub mod StripEdges
+pub mod StripsLabelled
+pub mod PolygonsTelling

@@ -6,3 +6,5 @@ pub mod Measured
 pub mod Pairs
 pub mod FacesColumns
 pub mod Strips
+pub mod StripLabels
+pub mod Polygons

@@ -6,11 +6,14 @@
 //!
 //! A map that is rounded strip by strip goes through four calls (`strip_scatter`, `strip_round`, `strip_bridge`, `strip_edges`); the lists that pass
 //! from one to the next are the caller's (`strip_items`), and are tested when they come back (`strip_checks`, `strip_contradictions`).
-//! Together they tell the rounded edges of the whole map (`strip_law`).
+//! Together they tell the rounded edges of the whole map (`strip_law`). Two more calls tell the directed edges of a result along them
+//! (`strip_labels`, `strip_going_on`, `strip_labels_checks`), all of them (`strip_law`).
+//!
+//! Directed edges from outside are tested, and get their polygons where they close (`polygons_call`, `polygons_made`, `polygons_checks`).
 //!
 //! The promise: a status of 0 exactly where the engine answers and the room is large enough, and then the room begins with its text; nothing
-//! behind that changes. The definitions are `specs/Boundary`, `Covered`, `Measured`, `Faces`, `Columns`, `Pairs`, `FacesColumns` and
-//! `Strips`.
+//! behind that changes. The definitions are `specs/Boundary`, `Covered`, `Measured`, `Faces`, `Columns`, `Pairs`, `FacesColumns`,
+//! `Strips`, `StripLabels` and `Polygons`.
 #![tactic(auto)]
 
 mod answer;
@@ -29,13 +32,20 @@ mod made;
 mod measured;
 mod measured_call;
 mod pairs_call;
+mod polygons_call;
+mod polygons_checks;
+mod polygons_law;
+mod polygons_made;
 mod room;
 mod strip_answer;
 mod strip_bridge;
 mod strip_checks;
 mod strip_contradictions;
 mod strip_edges;
+mod strip_going_on;
 mod strip_items;
+mod strip_labels;
+mod strip_labels_checks;
 mod strip_law;
 mod strip_round;
 mod strip_scatter;
@@ -57,11 +67,15 @@ pub use faces_columns_call::{overlay_faces_columns_fill, overlay_faces_columns_s
 pub use measured::{OverlayLayerMeasures, OverlayMeasures};
 pub use measured_call::{overlay_measured_columns_fill, overlay_measured_fill};
 pub use pairs_call::overlay_pairs_fill;
+pub use polygons_call::overlay_polygons;
+pub use polygons_law::results_have_polygons;
 pub use strip_answer::OverlayStripAnswer;
 pub use strip_bridge::overlay_strip_bridge;
 pub use strip_edges::overlay_strip_edges;
-pub use strip_items::{OverlayCarried, OverlayCounted, OverlayLine, OverlayOpen};
-pub use strip_law::{strips_are_rounded, told_lists_are_one};
+pub use strip_going_on::overlay_strip_going_on;
+pub use strip_items::{OverlayCarried, OverlayCounted, OverlayDirected, OverlayLine, OverlayOpen};
+pub use strip_labels::overlay_strip_labels;
+pub use strip_law::{strips_are_labelled, strips_are_rounded, told_lists_are_one};
 pub use strip_round::overlay_strip_round;
 pub use strip_scatter::overlay_strip_scatter;
 pub use words::overlay_words;

@@ -27,7 +27,7 @@ pub struct OverlayStripAnswer {
     pub third: u64,
     /// The number of the item at fault in its list, or of the point, ring or offset in its column.
     pub detail: u64,
-    /// 0 answered, 1 out of memory, 2 no such strip or layer, 3 refused, 4 a room is too small.
+    /// 0 answered, 1 out of memory, 2 no such strip, layer or operation, 3 refused, 4 a room is too small.
     pub status: u32,
     /// The refusal's number: 2 to 4, 13 to 16, 18 or 19, or 10 where memory ran out.
     pub number: u32,
@@ -50,7 +50,7 @@ pub fn told_of_strip(status: u32, number: u32, part: u32, detail: u64) -> Overla
     }
 }
 
-/// The answer where there is no such strip or layer.
+/// The answer where there is no such strip, layer or operation.
 pub fn no_strip() -> OverlayStripAnswer
     ensures { result ≡ told_of_strip 2 0 0 0 }
 {

@@ -11,7 +11,7 @@ use geom::Pt;
 use phases::strip_of;
 
 /// Whether a point is less than another one.
-fn is_before(p: Pt, q: Pt) -> bool
+pub fn is_before(p: Pt, q: Pt) -> bool
     ensures { MatchBool result (IsBefore p q) (¬ (IsBefore p q)) }
 {
     p.x < q.x || (p.x == q.x && p.y < q.y)
@@ -52,7 +52,7 @@ fn is_in_limit(item: OverlayLine) -> bool
 }
 
 /// The strip of a point.
-fn strip_at(cuts: &[i32], p: Pt) -> usize
+pub fn strip_at(cuts: &[i32], p: Pt) -> usize
     ensures { result ≡ strip_at cuts.now p }
 {
     strip_of(cuts, p.x)

@@ -52,6 +52,16 @@ pub struct OverlayCounted {
     pub in_b: u32,
 }
 
+/// An edge of a result, directed so that the result lies on its left: from its first end to its second.
+#[repr(C)]
+#[derive(Clone, Copy)]
+pub struct OverlayDirected {
+    pub ax: i32,
+    pub ay: i32,
+    pub bx: i32,
+    pub by: i32,
+}
+
 impl OverlayLine {
     /// The line's lesser end.
     pub fn start(self) -> Pt

@@ -1,5 +1,6 @@
-//! The promise of the four calls together, as the contracts of functions with empty bodies. No data goes through them.
+//! The promise of the calls together, as the contracts of functions with empty bodies. No data goes through them.
 
+ghost use Rattle.overlay_c.specs.StripLabels.{StripsAreLabelled};
 ghost use Rattle.overlay_c.specs.Strips.{IsToldOfOne, StripsAreRounded, told_carried, told_counted, told_line, told_open};
 
 /// No two lists are told alike: what one call tells, the next one reads.
@@ -13,4 +14,9 @@ pub fn told_lists_are_one()
 /// The edges that the calls tell of all strips, one behind another, are the rounded edges of the segments, whatever the cuts are.
 pub fn strips_are_rounded()
     ensures { StripsAreRounded }
+{}
+
+/// The directed edges that the calls tell of all strips of layers are those of the operation's result, whatever the cuts are.
+pub fn strips_are_labelled()
+    ensures { StripsAreLabelled }
 {}

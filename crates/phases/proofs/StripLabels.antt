@@ -1,6 +1,6 @@
 -- The edges that tell the labels of a strip, and the directed edges of one strip after another.
 use Rattle.std.proofs.Common.{◌≡◌, inl, inr, ⊎_elim, ℕ, zero, suc, ◌+◌, ◌<◌, Bool, true, List, [], ◌∷◌, ◌++◌, Some, append_assoc, cond, length, get_or, take, refl, sym, ap, ◌∙◌, subst, arith}
-use Rattle.std.specs.List.{AllPairs, Contains, filter}
+use Rattle.std.specs.List.{All, AllPairs, Contains, filter}
 use Rattle.std.specs.Prelude.{◌↔◌, flat_map, slice_get}
 use Rattle.std.proofs.Math.IntN.{ℤ}
 use Rattle.std.proofs.lemmas.Bool.{cases_eq, eq-eqb, eqb-true, lt-ltb, ltb-true}
@@ -14,6 +14,7 @@ use Rattle.geom.specs.declared.edge.Counted.{Counted}
 use Rattle.geom.specs.declared.directed.DirectedEdge.{DirectedEdge}
 use Rattle.geom.specs.Directed.{AreResultEdges, IsDirectedBefore}
 use Rattle.geom.specs.EdgeOrder.{IsEdgeBefore}
+use Rattle.geom.specs.Limit.{AreInLimit}
 use Rattle.geom.specs.Rounded.{edges_of}
 use Rattle.geom.proofs.Edges.{before_by_cases}
 use Rattle.geom.proofs.Lists.{In, contains_in, in_append, in_back, in_contains, in_front, in_map, map_in, some_same}
@@ -22,6 +23,7 @@ use Rattle.points_law.specs.Law.{AreLayers}
 use Rattle.label_sweep.specs.Changing.{changes}
 use Rattle.label_sweep.specs.StripLabels.{AreResultEdgesAlong, AreStripEdges, IsResultEdgeAlong}
 use Rattle.label_sweep.proofs.Crossing.{in_filter}
+use Rattle.label_sweep.proofs.Limits.{some_in_limit}
 use Rattle.label_sweep.proofs.Members.{all_of_in}
 use Rattle.strips_law.specs.Strips.{strip_at, strip_of}
 use Rattle.strips_law.proofs.Columns.{strips_grow, within_cuts}
@@ -125,6 +127,13 @@ module _ (cuts : List ℤ) (strip : ℕ) (counted crossing own : List Counted) (
       ]),
     );
   }
+
+  -- all of them are within the limit
+  pub crossing_in_limit : All (λ (e : Edge). AreInLimit e.p e.q) (edges_of crossing)
+  crossing_in_limit = some_in_limit counted crossing t.layers.in_limit (λ c i. contains_in counted c ((t.crossing_are.exact c).0 (in_contains crossing c i)).0)
+
+  pub own_in_limit : All (λ (e : Edge). AreInLimit e.p e.q) (edges_of own)
+  own_in_limit = some_in_limit counted own t.layers.in_limit (λ c i. contains_in counted c ((t.own_are.exact c).0 (in_contains own c i)).0)
 
   -- with the edges that come into the strip they are a strip's
   pub strip_edges : AreStripEdges counted crossing own

@@ -6,10 +6,12 @@
 //!
 //! `labels_in_strips` does it for all strips in turn.
 
-ghost use Rattle.std.specs.Prelude.{◌≡◌, ◌↔◌, ◌+◌, ◌++◌, [], ◌∷◌, if◌then◌else◌, ℕ, ℤ, AllPairs, Contains, IfOk, List, OnOk, filter};
+ghost use Rattle.std.specs.Prelude.{◌≡◌, ◌↔◌, ◌+◌, ◌++◌, [], ◌∷◌, if◌then◌else◌, ℕ, ℤ, All, AllPairs, Contains, IfOk, List, OnOk, filter};
 ghost use Rattle.geom.specs.Directed.{AreResultEdges, IsDirectedBefore};
 ghost use Rattle.geom.specs.declared.directed.DirectedEdge.{DirectedEdge};
 ghost use Rattle.geom.specs.declared.edge.Counted.{Counted};
+ghost use Rattle.geom.specs.Limit.{AreInLimit};
+ghost use Rattle.geom.specs.Rounded.{edges_of};
 ghost use Rattle.points_law.specs.Law.{AreLayers};
 ghost use Rattle.label_sweep.specs.Changing.{changes};
 ghost use Rattle.label_sweep.specs.StripLabels.{AreResultEdgesAlong};
@@ -113,14 +115,15 @@ pub fn going_on<A: Allocator>(
 }
 
 /// The directed edges of the result of an operation along the edges whose lesser end lies in a strip, `own`, of these and of those that come
-/// into the strip, `crossing`: ascending by start, then by end.
+/// into the strip, `crossing`: ascending by start, then by end. Of lists that are no strip's the answer says nothing.
 pub fn labels<A: Allocator + Copy>(
     alloc: A,
     crossing: &[Counted],
     own: &[Counted],
     op: Op,
 ) -> Result<Vec<DirectedEdge, A>, NoMemory>
-    requires { ∥ ((counted : List Counted) × ((cuts : List ℤ) × ((strip : ℕ) × TellLabels counted cuts strip crossing.now own.now))) ∥₁ }
+    requires crossing_in { All (λ e. AreInLimit e.p e.q) (edges_of crossing.now) }
+    requires own_in { All (λ e. AreInLimit e.p e.q) (edges_of own.now) }
     ensures ascending { IfOk result (λ edges. AllPairs IsDirectedBefore edges.items) }
     ensures along { (counted : List Counted) (cuts : List ℤ) (strip : ℕ) → TellLabels counted cuts strip crossing.now own.now
         → IfOk result (λ edges. AreResultEdgesAlong op counted own.now edges.items) }

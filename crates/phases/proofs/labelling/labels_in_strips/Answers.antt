@@ -5,7 +5,7 @@ use Rattle.geom.specs.declared.edge.Counted.{Counted}
 use Rattle.label_sweep.specs.Changing.{changes}
 use Rattle.label_sweep.proofs.ChangingEdges.{changing_are_layers, changing_bound}
 use Rattle.phases.specs.Labels.{AreOfStrip, AreResultEdgesBefore}
-use Rattle.phases.proofs.StripLabels.{all_edges, none_before, none_come, one_more, tell}
+use Rattle.phases.proofs.StripLabels.{all_edges, crossing_in_limit, none_before, none_come, one_more, own_in_limit, tell}
 use Rattle.phases.proofs.labelling.labels_in_strips.Goals as goal
 
 pub loop-strip-init : goal.loop-strip-init
@@ -19,17 +19,12 @@ labels-requires g c =
     let strip = c.loop-strip.strip in
     let P : List Counted → Type 0 = AreOfStrip cuts strip counted in
     let mine = c.in_ok-own.ensures counted cuts strip (subst P (sym c.deref.ensures.value) (c.in_ok-here.ensures c.requires)) in
-    ∣ (
-      filter changes counted,
-      (
-        cuts,
-        (
-          strip,
-          tell (filter changes counted) cuts strip (changing_are_layers counted c.requires) c.loop-strip.crossing.items c.in_ok-own.own.items
-              c.deref-in-loop-strip.result.now c.deref-in-loop-strip-2.result.now c.loop-strip.invariant.1 mine c.deref-in-loop-strip.ensures.value c.deref-in-loop-strip-2.ensures.value,
-        ),
-      ),
-    ) ∣₁
+    let t = tell (filter changes counted) cuts strip (changing_are_layers counted c.requires) c.loop-strip.crossing.items c.in_ok-own.own.items
+    c.deref-in-loop-strip.result.now c.deref-in-loop-strip-2.result.now c.loop-strip.invariant.1 mine c.deref-in-loop-strip.ensures.value c.deref-in-loop-strip-2.ensures.value in
+    record {
+      crossing_in = crossing_in_limit cuts strip (filter changes counted) c.deref-in-loop-strip.result.now c.deref-in-loop-strip-2.result.now t;
+      own_in = own_in_limit cuts strip (filter changes counted) c.deref-in-loop-strip.result.now c.deref-in-loop-strip-2.result.now t;
+    }
 
 pub loop-strip-preserved : goal.loop-strip-preserved
 loop-strip-preserved g c =

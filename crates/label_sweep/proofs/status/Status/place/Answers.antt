@@ -1,5 +1,6 @@
 use Rattle.std.proofs.Common.{rules, ◌≡◌, ◌-◌, ◌<◌, ◌≤◌, Bool, true, false, int_le, List, drop, length, take, sym, ap, ◌∙◌, subst}
 use Rattle.std.specs.List.Sorted.{IsPartitionedBy, IsPartitionPoint}
+use Rattle.std.proofs.lemmas.List.Elements.{at_read}
 use Rattle.std.proofs.lemmas.List.Sorted.{IsPartitionPoint-from_clause}
 use Rattle.std.specs.declared.vec.Vec.{Vec}
 use Rattle.geom.specs.Determinant.{side}
@@ -10,8 +11,22 @@ use Rattle.label_sweep.proofs.Chunks.{chunks_parted, slice_from, within_parted}
 use Rattle.label_sweep.proofs.Places.{chunk_inside, found}
 use Rattle.label_sweep.proofs.status.Status.place.Goals as goal
 
-pub returns : goal.returns
-returns g c =
+pub returns-clause-inside : goal.returns-clause-inside
+returns-clause-inside g c =
+    let chunks = c.args.self.now.chunks.items in
+    let k = c.partition_point-chunk.result in
+    let w = c.partition_point-within.result in
+    let row = take (length c.deref.result.now - 1) (drop 1 c.deref.result.now) in
+    let same : row ≡ drop 1 chunks = slice_from 1 c.deref.result.now ∙ ap (λ t. drop 1 t) c.deref.ensures.value in
+    let R : List (Vec StandingEdge g.row.A.Denot) → Type 0 = λ t. k ≤ length t in
+    let h : k < length chunks = chunk_inside chunks k c.requires.some (subst R same c.partition_point-chunk.ensures.bound) in
+    record {
+      chunk = h;
+      within = at_read chunks (λ (d : Vec StandingEdge g.row.A.Denot). w ≤ length d.items) k c.index.result.now h c.index.ensures (rw c.deref-2.ensures.value at c.partition_point-within.ensures.bound);
+    }
+
+pub returns-clause-between : goal.returns-clause-between
+returns-clause-between g c chunked parted =
     let p : StandingEdge → Bool = λ s. int_le c.args.bound (side s.spoke.one.edge.p s.spoke.one.edge.q c.args.v) in
     let chunks = c.args.self.now.chunks.items in
     let k = c.partition_point-chunk.result in
@@ -23,16 +38,16 @@ returns g c =
     let Q : List (Vec StandingEdge g.row.A.Denot) → Type 0 = λ t. IsPartitionPoint (λ y. q y ≡ true) (λ y. q y ≡ false) t k in
     let R : List (Vec StandingEdge g.row.A.Denot) → Type 0 = λ t. k ≤ length t in
     let of_chunks = subst Q same (IsPartitionPoint-from_clause q row k c.partition_point-chunk.ensures.partitioned
-    (subst P (sym same) (chunks_parted (λ (d : Vec StandingEdge g.row.A.Denot). d.items) p chunks c.requires.parted c.requires.chunked.filled)) (λ a r f k. search rules)) in
-    let h : k < length chunks = chunk_inside chunks k c.requires.chunked.some (subst R same c.partition_point-chunk.ensures.bound) in
+    (subst P (sym same) (chunks_parted (λ (d : Vec StandingEdge g.row.A.Denot). d.items) p chunks parted chunked.filled)) (λ a r f k. search rules)) in
+    let h : k < length chunks = chunk_inside chunks k c.requires.some (subst R same c.partition_point-chunk.ensures.bound) in
     let here = c.index.result.now in
     let of_edges = IsPartitionPoint-from_clause p c.deref-2.result.now w c.partition_point-within.ensures.partitioned
-    (rw c.deref-2.ensures.value (within_parted (λ (d : Vec StandingEdge g.row.A.Denot). d.items) p chunks c.requires.parted c.requires.chunked.filled k here h c.index.ensures)) (λ a r f k. search rules) in
-    let all = found p chunks c.requires.parted c.requires.chunked k w here h c.index.ensures of_chunks.0 of_chunks.1
+    (rw c.deref-2.ensures.value (within_parted (λ (d : Vec StandingEdge g.row.A.Denot). d.items) p chunks parted chunked.filled k here h c.index.ensures)) (λ a r f k. search rules) in
+    let all = found p chunks parted chunked k w here h c.index.ensures of_chunks.0 of_chunks.1
     (rw c.deref-2.ensures.value at c.partition_point-within.ensures.bound) (rw c.deref-2.ensures.value at of_edges.0) (rw c.deref-2.ensures.value at of_edges.1) in
     record {
       place = all.place;
       within = all.within;
       before = λ i d l m. le_told _ _ (all.before i d l m);
-      rest = λ i d l m. le_untold _ _ (all.rest i d l m);
+      behind = λ i d l m. le_untold _ _ (all.rest i d l m);
     }

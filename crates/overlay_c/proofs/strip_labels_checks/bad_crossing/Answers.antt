@@ -1,0 +1,7 @@
+use Rattle.overlay_c.specs.Strips.{IsCountedBefore}
+use Rattle.overlay_c.specs.StripLabels.{ComesIn}
+use Rattle.overlay_c.proofs.StripSearch.{more_in_place}
+use Rattle.overlay_c.proofs.strip_labels_checks.bad_crossing.Goals as goal
+
+pub loop-place-preserved : goal.loop-place-preserved
+loop-place-preserved c = more_in_place (ComesIn c.args.cuts.now c.args.strip) IsCountedBefore c.args.items.now c.loop-place.place c.loop-place.invariant c.if-not-is_crossing_in_place.ensures
