@@ -8,7 +8,7 @@ import os
 ANSWERED, NO_MEMORY, NO_CALL, REFUSED, SMALL = range(5)
 
 # The version of the calls that this package makes.
-CALLS = 7
+CALLS = 8
 
 
 class Answer(ctypes.Structure):
@@ -157,6 +157,12 @@ def _opened() -> ctypes.CDLL:
     opened.overlay_strip_bridge.restype = None
     opened.overlay_strip_edges.argtypes = [*room[:2] * 3, strip]
     opened.overlay_strip_edges.restype = None
+    opened.overlay_strip_labels.argtypes = [ctypes.c_uint32, *room[:2] * 3, strip]
+    opened.overlay_strip_labels.restype = None
+    opened.overlay_strip_going_on.argtypes = [*cuts, ctypes.c_size_t, *room[:2] * 3, strip]
+    opened.overlay_strip_going_on.restype = None
+    opened.overlay_polygons.argtypes = [*room[:2] * 4, ctypes.c_void_p]
+    opened.overlay_polygons.restype = None
     return opened
 
 

@@ -1,20 +1,28 @@
-"""Rounding a map that is too large for one process: strip by strip of columns, in as many processes as one likes.
+"""Rounding and labelling a map that is too large for one process: strip by strip of columns, in as many processes as one likes.
 
 Strips are cut out of the plane by whole numbers that ascend, the cuts: strip s has the columns x of which s cuts are not greater than x, so
 that there is one strip more than cuts. Any cuts give the same edges. The calls take and answer arrays of numpy whose items are the structs
-of include/overlay.h (`LINE`, `OPEN`, `CARRIED`, `COUNTED`), and these arrays are all that goes from one call to another, or one process to
-another:
+of include/overlay.h (`LINE`, `OPEN`, `CARRIED`, `COUNTED`, `DIRECTED`), and these arrays are all that goes from one call to another, or one
+process to another:
 
 1. `scatter`, of each part of a layer: for each strip its lines that reach it
 2. `round_strip`, of each strip with all of its lines: the edges inside it, and the lines that cross its borders
 3. `bridge`, from the last strip to the first: the edges across the border on the right of each
 4. `merge`, of each strip: both as one array
 
-The arrays of 4, one strip behind another, are the edges that `overlay_grid.edges` tells of the whole layers, in the same order. The calls
-test what they are handed, but none can know of a line that is missing. `edges` makes all of these calls, with a file for each array in a
-folder, one after another or by an executor: one of concurrent.futures, or what `Client.get_executor()` of Dask gives, over many machines.
+The arrays of 4, one strip behind another, are the edges that `overlay_grid.edges` tells of the whole layers, in the same order. What
+bounds the result of an operation is told by strips, too, from the first strip on:
+
+5. `labels`, of each strip: the directed edges along its own edges, by these and those that come in from the left
+6. `going_on`, of the same: the edges that come into the next strip
+
+The arrays of 5 together have each edge of the rings of the whole layers' result, once. The calls test what they are handed, but none can
+know of a line that is missing. `edges` makes the first four calls for all strips, and `directed_edges` all six, with a file for each array
+in a folder, one after another or by an executor: one of concurrent.futures, or what `Client.get_executor()` of Dask gives, over many
+machines.
 
 >>> import tempfile
+>>> import overlay_grid
 >>> from overlay_grid import strips
 >>> square = [0, 0, 4, 0, 4, 4, 0, 4, 0, 0]
 >>> with tempfile.TemporaryDirectory() as folder:
@@ -22,6 +30,13 @@ folder, one after another or by an executor: one of concurrent.futures, or what 
 ...         print(found[["px", "py", "qx", "qy", "in_a"]].tolist())
 [(0, 0, 0, 4, 1), (0, 0, 4, 0, 1), (0, 4, 4, 4, 1)]
 [(4, 0, 4, 4, 1)]
+>>> triangle = [1, 1, 3, 1, 3, 3, 1, 1]
+>>> with tempfile.TemporaryDirectory() as folder:
+...     parts = [strips.Part(0, square, [0, 5]), strips.Part(1, triangle, [0, 4])]
+...     for found in strips.directed_edges(overlay_grid.Operation.INTERSECTION, parts, [2], folder):
+...         print(found.tolist())
+[(1, 1, 3, 1), (3, 3, 1, 1)]
+[(3, 1, 3, 3)]
 """
 
 from __future__ import annotations
@@ -32,22 +47,29 @@ from functools import partial
 from itertools import accumulate
 from typing import Any, Iterator, List, NamedTuple, Optional, Sequence, Tuple
 
-from ._library import ANSWERED, NO_MEMORY, SMALL, Columns, StripAnswer, library
+from ._calls import CALLS, Operation
+from ._library import ANSWERED, NO_MEMORY, SMALL, Columns, ColumnsAnswer, StripAnswer, library
 from ._faults import OutOfMemory
 from ._optional import module
 
 __all__ = [
     "CARRIED",
     "COUNTED",
+    "DIRECTED",
     "LINE",
     "OPEN",
     "Bridged",
     "Part",
+    "Polygons",
     "Rounded",
     "StripError",
     "bridge",
+    "directed_edges",
     "edges",
+    "going_on",
+    "labels",
     "merge",
+    "polygons",
     "round_strip",
     "scatter",
 ]
@@ -62,6 +84,8 @@ OPEN = numpy.dtype([(name, "<u4") for name in ("number", "layer", "has_pixel")] 
 CARRIED = numpy.dtype([("number", "<u4"), ("x", "<i4"), ("y", "<i4")])
 # A rounded edge, its lesser end first, and how many segments of either layer run along it.
 COUNTED = numpy.dtype([(name, "<i4") for name in ("px", "py", "qx", "qy")] + [(name, "<u4") for name in ("in_a", "in_b")])
+# An edge of a result, from a to b: the result lies on its left.
+DIRECTED = numpy.dtype([(name, "<i4") for name in ("ax", "ay", "bx", "by")])
 
 REASONS = {
     2: "coordinate out of range",
@@ -116,6 +140,16 @@ class Bridged(NamedTuple):
     carried: Any
 
 
+class Polygons(NamedTuple):
+    """Polygons as columns, in the layout of GeoArrow: x and y of all points by turns, in grid units, where each ring begins among the points, and
+    where each polygon begins among the rings, and the last ones end. A ring's last point is its first, and a polygon's shell stands before its
+    holes."""
+
+    coordinates: Any
+    rings: Any
+    polygons: Any
+
+
 def answered(call: Any, given: Sequence[Any], kinds: Sequence[Any], lengths: Sequence[int]) -> List[Any]:
     """What a call puts into rooms of these kinds. Lengths are a guess: where it is too small, all is made again."""
     answer = StripAnswer()
@@ -129,7 +163,7 @@ def answered(call: Any, given: Sequence[Any], kinds: Sequence[Any], lengths: Seq
         return [room[:length] for room, length in zip(rooms, lengths)]
     if answer.status == NO_MEMORY:
         raise OutOfMemory("memory ran out during the call")
-    raise StripError(REASONS.get(answer.number, "no such strip or layer"), answer.part, answer.detail)
+    raise StripError(REASONS.get(answer.number, "no such strip, layer or operation"), answer.part, answer.detail)
 
 
 def passed(values: Any) -> Tuple[int, int]:
@@ -173,6 +207,41 @@ def merge(inner: Any, across: Any) -> Any:
     return answered(library.overlay_strip_edges, given, (COUNTED,), (len(first) + len(second),))[0]
 
 
+def changing(found: Any) -> Any:
+    """Of edges those with an odd count in some layer. Labels need no others."""
+    return found[(found["in_a"] | found["in_b"]) % 2 == 1]
+
+
+def labels(operation: Operation, own: Any, crossing: Optional[Any] = None) -> Any:
+    """The directed edges of the result of an operation along a strip's own edges, ascending by start, then by end, by these edges and those
+    that come into the strip; nothing comes into the first one."""
+    mine, held = of(COUNTED, own), of(COUNTED, [] if crossing is None else crossing)
+    given = (CALLS[operation], *passed(held), *passed(mine))
+    return answered(library.overlay_strip_labels, given, (DIRECTED,), (len(mine),))[0]
+
+
+def going_on(cuts: Any, strip: int, own: Any, crossing: Optional[Any] = None) -> Any:
+    """The edges that come into the strip behind this one: of its own, and of those that come into it, those that end behind it."""
+    borders, mine, held = of("<i4", cuts), of(COUNTED, own), of(COUNTED, [] if crossing is None else crossing)
+    given = (*passed(borders), strip, *passed(held), *passed(mine))
+    return answered(library.overlay_strip_going_on, given, (COUNTED,), (len(mine) + len(held),))[0]
+
+
+def polygons(directed: Any) -> Polygons:
+    """The polygons of directed edges (`DIRECTED`), which ascend: of those of all strips, brought in order, the polygons of the result."""
+    held, answer = of(DIRECTED, directed), ColumnsAnswer()
+    most = len(held) // 3  # rings: each has three edges or more
+    found = Polygons(numpy.empty(2 * (len(held) + most), "<i4"), numpy.empty(most + 1, "<u4"), numpy.empty(most + 1, "<u4"))
+    library.overlay_polygons(*passed(held), *(word for room in found for word in passed(room)), ctypes.byref(answer))
+    if answer.status == NO_MEMORY:
+        raise OutOfMemory("memory ran out during the call")
+    if answer.status != ANSWERED:
+        reason = "edges that don't close" if answer.number == 19 else REASONS[answer.number]
+        raise StripError(reason, answer.part, answer.detail)
+    lengths = (answer.coordinates, answer.rings, answer.polygons)
+    return Polygons(*(room[:length] for room, length in zip(found, lengths)))
+
+
 def put(folder: str, name: str, values: Any) -> None:
     """Writes an array, so that its file is there whole or not at all: a task that runs twice writes the same one again."""
     path = os.path.join(folder, name)
@@ -208,6 +277,29 @@ def merged(folder: str, strip: int) -> Any:
     return merge(got(folder, f"inner.{strip}"), got(folder, f"across.{strip}"))
 
 
+def kept(folder: str, strip: int) -> None:
+    put(folder, f"own.{strip}", changing(merged(folder, strip)))
+
+
+def gone_on(folder: str, cuts: Any) -> None:
+    crossing = numpy.empty(0, COUNTED)
+    for strip in range(len(cuts) + 1):
+        put(folder, f"crossing.{strip}", crossing)
+        crossing = going_on(cuts, strip, got(folder, f"own.{strip}"), crossing)
+
+
+def labelled(operation: Operation, folder: str, strip: int) -> Any:
+    return labels(operation, got(folder, f"own.{strip}"), got(folder, f"crossing.{strip}"))
+
+
+def round_all(parts: Sequence[Part], cuts: Any, folder: str, made: Any) -> None:
+    """Writes what `merge` needs of each strip."""
+    firsts = list(accumulate((len(part.coordinates) // 2 for part in parts), initial=0))
+    list(made(partial(scattered, folder, cuts), range(len(parts)), parts, firsts))
+    list(made(partial(rounded, folder, cuts, len(parts)), range(len(cuts) + 1)))
+    bridged(folder, len(cuts) + 1)
+
+
 def edges(parts: Sequence[Part], cuts: Any, folder: str, executor: Optional[Any] = None) -> Iterator[Any]:
     """The rounded edges of all parts together, an array for each strip, in their order.
 
@@ -215,9 +307,20 @@ def edges(parts: Sequence[Part], cuts: Any, folder: str, executor: Optional[Any]
     executor: what makes the calls of a step at once, by its `map`; without one they are made one after another.
     """
     made = map if executor is None else executor.map
-    strips = len(cuts) + 1
-    firsts = list(accumulate((len(part.coordinates) // 2 for part in parts), initial=0))
-    list(made(partial(scattered, folder, cuts), range(len(parts)), parts, firsts))
-    list(made(partial(rounded, folder, cuts, len(parts)), range(strips)))
-    bridged(folder, strips)
-    yield from made(partial(merged, folder), range(strips))
+    round_all(parts, cuts, folder, made)
+    yield from made(partial(merged, folder), range(len(cuts) + 1))
+
+
+def directed_edges(
+    operation: Operation, parts: Sequence[Part], cuts: Any, folder: str, executor: Optional[Any] = None
+) -> Iterator[Any]:
+    """The directed edges of the result of an operation on both layers, an array for each strip: those along its own edges, ascending by start,
+    then by end.
+
+    folder, executor: as of `edges`.
+    """
+    made = map if executor is None else executor.map
+    round_all(parts, cuts, folder, made)
+    list(made(partial(kept, folder), range(len(cuts) + 1)))
+    gone_on(folder, cuts)
+    yield from made(partial(labelled, operation, folder), range(len(cuts) + 1))

@@ -1,8 +1,9 @@
-"""Maps by strips: the calls on a worked example, and all strips against the edges of the whole layers."""
+"""Maps by strips: the calls on a worked example, and all strips against the edges and the results of the whole layers."""
 
 import doctest
 import os
 import random
+import re
 from concurrent.futures import ProcessPoolExecutor, ThreadPoolExecutor
 
 import pytest
@@ -10,7 +11,7 @@ import pytest
 numpy = pytest.importorskip("numpy", reason="no numpy: apt-get install python3-numpy")
 
 import overlay_grid  # noqa: E402
-from overlay_grid import strips  # noqa: E402
+from overlay_grid import Operation, strips  # noqa: E402
 
 # Two rings of the first layer, the second one a hole, and one of the second layer; strip 2 has no point in its columns.
 A = [[(0, 0), (12, 0), (12, 6), (0, 6), (0, 0)], [(1, 2), (8, 1), (8, 4), (1, 3), (1, 2)]]
@@ -35,6 +36,15 @@ def tuples(found):
 
 def whole(a, b):
     return [tuple(map(int, line.split())) for line in overlay_grid.edges(text_of(a), text_of(b)).splitlines()]
+
+
+def rings(operation, a, b):
+    """The directed edges of the rings of the whole layers' result."""
+    found = []
+    for ring in re.findall(r"\(([^()]+)\)", overlay_grid.overlay(operation, text_of(a), text_of(b))):
+        points = [tuple(map(int, point.split())) for point in ring.split(",")]
+        found += [(*p, *q) for p, q in zip(points, points[1:])]
+    return sorted(found)
 
 
 def example():
@@ -90,6 +100,24 @@ def test_borders_of_the_worked_example():
     ]
 
 
+def test_labels_of_the_worked_example(tmp_path):
+    parts = [part_of(0, A), part_of(1, B)]
+    found = [values.tolist() for values in strips.directed_edges(Operation.DIFFERENCE, parts, CUTS, str(tmp_path))]
+    assert found == [
+        [(0, 0, 3, 0), (0, 6, 0, 0), (1, 2, 1, 3), (1, 3, 3, 3), (3, 0, 3, 2), (3, 2, 1, 2), (3, 3, 3, 6), (3, 6, 0, 6)],
+        [(5, 0, 12, 0), (5, 1, 5, 0), (5, 4, 8, 4), (5, 6, 5, 4), (8, 1, 5, 1), (12, 6, 5, 6)],
+        [],
+        [(8, 4, 8, 1), (12, 0, 12, 6)],
+    ]
+    edges = list(strips.edges(parts, CUTS, str(tmp_path)))
+    second = strips.going_on(CUTS, 0, edges[0])
+    third = strips.going_on(CUTS, 1, edges[1], second)
+    assert tuples([second]) == [edge for edge in tuples([edges[0]]) if edge[2] == 5]
+    assert tuples([third]) == [(5, 0, 12, 0, 1, 0), (5, 1, 8, 1, 1, 0), (5, 4, 8, 4, 1, 0), (5, 6, 12, 6, 1, 0)]
+    assert tuples([strips.labels(Operation.INTERSECTION, edges[1], second)]) == [(5, 0, 5, 1), (5, 4, 5, 6)]
+    assert len(strips.going_on(CUTS, 3, edges[3], strips.going_on(CUTS, 2, edges[2], third))) == 0
+
+
 def layer(rng, size):
     """Rings that cross one another and themselves, some of them twice."""
     found = []
@@ -109,6 +137,18 @@ def test_all_strips_have_the_edges_of_the_whole(seed, tmp_path):
     assert tuples(strips.edges(parts, cuts, str(tmp_path))) == whole(a, b)
 
 
+@pytest.mark.parametrize("seed", range(60))
+def test_all_strips_have_the_result_of_the_whole(seed, tmp_path):
+    rng = random.Random(f"labels {seed}")
+    size = rng.choice((3, 8, 40, 1_000_000))
+    a, b = layer(rng, size), layer(rng, size)
+    cuts = sorted(rng.randint(-size - 1, size + 1) for _ in range(rng.choice((0, 1, 2, 5, 12))))
+    for operation in (Operation.UNION, Operation.INTERSECTION, Operation.DIFFERENCE, Operation.SYMDIFFERENCE):
+        found = list(strips.directed_edges(operation, [part_of(0, a), part_of(1, b)], cuts, str(tmp_path)))
+        assert all(values.tolist() == sorted(values.tolist()) for values in found)
+        assert sorted(tuples(found)) == rings(operation, a, b)
+
+
 @pytest.mark.parametrize("pool", [ThreadPoolExecutor, ProcessPoolExecutor])
 def test_an_executor_makes_the_same(pool, tmp_path):
     rng = random.Random("pool")
@@ -116,6 +156,8 @@ def test_an_executor_makes_the_same(pool, tmp_path):
     with pool(3) as executor:
         found = strips.edges([part_of(0, a), part_of(1, b)], range(-200, 201, 50), str(tmp_path), executor)
         assert tuples(found) == whole(a, b)
+        directed = strips.directed_edges(Operation.UNION, [part_of(0, a), part_of(1, b)], range(-200, 201, 50), str(tmp_path), executor)
+        assert sorted(tuples(directed)) == rings(Operation.UNION, a, b)
     assert not [name for name in os.listdir(tmp_path) if name.endswith(str(os.getpid()))]
 
 
@@ -145,8 +187,19 @@ def test_refusals():
     assert refused(lambda: strips.merge(good.inner, good.inner)) == ("contradicts another array", 1, 0)
     assert refused(lambda: strips.merge(good.inner[::-1], [])) == ("bad item", 0, 1)
     assert refused(lambda: strips.scatter(CUTS, strips.Part(0, [0, 0, 4, 0, 4, 4, 1, 1], [0, 4]), 0)) == ("open ring", 0, 0)
-    with pytest.raises(strips.StripError, match="no such strip"):
-        strips.round_strip(CUTS, 4, lines)
+    assert refused(lambda: strips.labels(Operation.UNION, good.inner[::-1])) == ("bad item", 1, 1)
+    assert refused(lambda: strips.labels(Operation.UNION, [], good.inner[::-1])) == ("bad item", 0, 1)
+    assert refused(lambda: strips.labels(Operation.UNION, good.inner, good.inner)) == ("contradicts another array", 0, 0)
+    assert refused(lambda: strips.going_on(CUTS, 1, good.inner)) == ("bad item", 1, 0)
+    assert refused(lambda: strips.going_on(CUTS, 0, [], good.inner)) == ("bad item", 0, 0)
+    assert refused(lambda: strips.going_on([6, 4], 0, [])) == ("bad item", 3, 1)
+    for call in (
+        lambda: strips.round_strip(CUTS, 4, lines),
+        lambda: strips.going_on(CUTS, 4, []),
+        lambda: strips.labels(Operation.EDGES, []),
+    ):
+        with pytest.raises(strips.StripError, match="no such strip, layer or operation"):
+            call()
 
 
 def test_a_broken_file_is_refused(tmp_path):
