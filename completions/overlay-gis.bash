@@ -6,7 +6,8 @@ _overlay_gis() {
   if [[ $word == = ]]; then word=; elif [[ $before == = ]]; then before=${COMP_WORDS[COMP_CWORD-2]}; fi
   case $before in
     --grid) COMPREPLY=($(compgen -W "0.0001 0.001 0.01 0.1 1" -- "$word")); return ;;
-    --origin | --system | --title | --keep | --keep-a | --keep-b | --by | --layer | --segments | --gap-width | --gap-area | --sliver-width) return ;;
+    --engine) COMPREPLY=($(compgen -W "dask" -- "$word")); return ;;
+    --origin | --system | --title | --scheduler | --memory | --workers | --keep | --keep-a | --keep-b | --by | --layer | --segments | --gap-width | --gap-area | --sliver-width) return ;;
   esac
   # An operation is offered once, and where no file is wanted.
   [[ $verb == run && $before != -o && $before != --out ]] || operations=
@@ -14,7 +15,7 @@ _overlay_gis() {
     [[ " $operations " == *" ${COMP_WORDS[k]} "* ]] && operations=
   done
   case $verb in
-    run) options="$out --dissolve --keep-a --keep-b $grid $most" ;;
+    run) options="$out --dissolve --keep-a --keep-b $grid $most --engine --scheduler --dir --memory --workers" ;;
     faces) options="$out --parts --keep-a --keep-b --keep --by --pairs $grid $most" ;;
     dissolve) options="$out --by --parts $grid $most" ;;
     check) options="$out --gap-width --gap-area --sliver-width $grid $most" ;;

@@ -165,7 +165,7 @@ def main(arguments: Namespace) -> int:
         seen.find("the layer has no features")
     frame, name = frame_of(source, seen, system, arguments), area_name(system)
     sizes = options.sizes(arguments, usual_sizes(system))
-    held = covered(source, seen, frame, sizes, arguments.segments) if frame and len(seen.survey.sound.ids) else None
+    held = covered(source, seen, frame, sizes, options.segments(arguments)) if frame and len(seen.survey.sound.ids) else None
     for words in held.findings(unit_name(system), name, sizes) if held else ():
         seen.find(words)
     for words in seen.findings:

@@ -36,17 +36,33 @@ def on_grid(seen: Survey, frame: Frame) -> Gridded:
     return gridded(seen.sound.among(seen.numbers, seen.kinds == Kind.SOUND), seen.area(), frame)
 
 
+@dataclass(frozen=True)
+class Losses:
+    """Features of rings that had to be closed or left out, and some of those that the grid leaves
+    nothing of; how many these are, and how many features there are at all."""
+
+    closed: Sequence[int]
+    dropped: Sequence[int]
+    gone: Sequence[int]
+    count: int
+    features: int
+
+
 def warn_of_losses(source: Source, grid: Gridded) -> None:
     """Tells of rings that had to be closed or left out, and of features that the grid leaves nothing
     of."""
-    if grid.closed:
-        warn(source.name, f"rings were open, and closed: {numbers(grid.closed)}")
-    if grid.dropped:
-        warn(source.name, f"rings of less than four points were left out: {numbers(grid.dropped)}")
     gone = vanished(grid.layer)
-    if gone:
-        count = f"{len(gone):,} of {len(grid.layer.ids):,} features"
-        warn(source.name, f"{count} cover nothing on this grid: {numbers(gone)}")
+    tell_losses(source.name, Losses(grid.closed, grid.dropped, gone, len(gone), len(grid.layer.ids)))
+
+
+def tell_losses(name: str, losses: Losses) -> None:
+    if losses.closed:
+        warn(name, f"rings were open, and closed: {numbers(losses.closed)}")
+    if losses.dropped:
+        warn(name, f"rings of less than four points were left out: {numbers(losses.dropped)}")
+    if losses.count:
+        count = f"{losses.count:,} of {losses.features:,} features"
+        warn(name, f"{count} cover nothing on this grid: {numbers(losses.gone)}")
 
 
 def refuse_many(sources: Sequence[Source], grids: Sequence[Gridded], most: int) -> None:

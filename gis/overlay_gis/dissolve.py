@@ -112,7 +112,7 @@ def main(arguments: Namespace) -> int:
     fields = fields_of(source, arguments.by)
     place = destination(arguments, [source])
     check_fields(source, arguments.by)
-    with brought_together([source], arguments.grid, arguments.origin, arguments.system, arguments.segments) as together:
+    with brought_together([source], arguments.grid, arguments.origin, arguments.system, options.segments(arguments)) as together:
         united = by_values(together, fields) if fields else all_of(together)
         (layer,) = together.layers
         if layer.grid.polygons:

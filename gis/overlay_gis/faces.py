@@ -148,7 +148,7 @@ def main(arguments: Namespace) -> int:
     apart = pairs_place(arguments, sources)
     for source, *names in zip(sources, keep, by):
         check_fields(source, list(chain.from_iterable(names)))
-    with brought_together(sources, arguments.grid, arguments.origin, arguments.system, arguments.segments) as together:
+    with brought_together(sources, arguments.grid, arguments.origin, arguments.system, options.segments(arguments)) as together:
         rows, wanted, held = rows_asked(together, keep, by)
         tables = [row_tables.table_of(wanted, held, together.frame, arguments.parts)]
         if arguments.pairs:

@@ -19,6 +19,9 @@ T = TypeVar("T")
 PATIENCE = 1.0
 PAUSE = 0.2
 
+# Signs of a bar.
+WIDTH = 30
+
 CONTROL = re.compile(r"[\x00-\x1f\x7f-\x9f\u2028\u2029]")
 
 
@@ -116,6 +119,17 @@ def progress(work: str, share: float | None = None, count: int | None = None) ->
         return
     far = f": {100 * share:.0f}%" if share is not None else f": {count:,}" if count is not None else ""
     print(f"\r{shown(work + far)}\x1b[K", end="", file=sys.stderr, flush=True)
+
+
+def bar(work: str, done: int, total: int) -> None:
+    """Shows how many parts of a work are done, where somebody hears it; no work clears the line."""
+    listener = _listener.get()
+    if listener and work:
+        listener.progress(shown(work), done / total)
+    elif not listener and sys.stderr.isatty():
+        filled = WIDTH * done // total if total else 0
+        text = f"{shown(work)} [{'#' * filled}{'.' * (WIDTH - filled)}] {done} of {total}" if work else ""
+        print(f"\r{text}\x1b[K", end="", file=sys.stderr, flush=True)
 
 
 def followed(

@@ -79,7 +79,7 @@ def add_output(parser: ArgumentParser, words: str, required: bool = True) -> Non
 
 def refuse_beside(arguments: Namespace, names: Sequence[str], reason: str) -> None:
     """Refuses options of these names that are given and would be passed over."""
-    given = [f"--{name}" for name in names if getattr(arguments, name)]
+    given = [f"--{name.replace('_', '-')}" for name in names if getattr(arguments, name)]
     if given:
         raise Refusal(" and ".join(given), reason)
 
@@ -120,8 +120,67 @@ def add_segments(parser: ArgumentParser) -> None:
         "--segments",
         metavar="N",
         type=count,
-        default=SEGMENTS,
         help=f"the most segments of all layers together (default: {SEGMENTS})",
+    )
+
+
+def segments(arguments: Namespace) -> int:
+    """The most segments of all layers together that were asked for, or as many as usual."""
+    return arguments.segments or SEGMENTS
+
+
+# Bytes of each unit in which memory is told.
+UNITS = {"B": 1, "KB": 10**3, "MB": 10**6, "GB": 10**9, "TB": 10**12}
+MEMORY = re.compile(r"(\d+(?:\.\d+)?) *([KMGT]?B)", re.IGNORECASE)
+
+
+def memory(text: str) -> int:
+    """A number of bytes as it was asked for."""
+    found = MEMORY.fullmatch(text)
+    if not found or not int(float(found[1]) * UNITS[found[2].upper()]):
+        raise ArgumentTypeError(f"{text} is no size of memory, as 2GB or 500MB")
+    return int(float(found[1]) * UNITS[found[2].upper()])
+
+
+# What --engine names, and the options that go with it alone.
+ENGINE, OF_ENGINE = "dask", ("scheduler", "dir", "memory", "workers")
+
+
+def add_engine(parser: ArgumentParser) -> None:
+    parser.add_argument(
+        "--engine",
+        choices=[ENGINE],
+        help=(
+            "for maps that no process can hold: by strips of the map, of which workers of Dask do many at"
+            " once; of two layers of GeoPackages, read by parity"
+        ),
+    )
+    parser.add_argument(
+        "--scheduler",
+        metavar="ADDRESS",
+        type=text,
+        help="with --engine: Dask's scheduler, as tcp://host:8786 (default: one of this machine)",
+    )
+    parser.add_argument(
+        "--dir",
+        metavar="FOLDER",
+        type=text,
+        help=(
+            "with --engine: a folder for what goes from one worker to another, which all of them see; the"
+            " same command goes on from there if it was stopped (default: one beside OUT)"
+        ),
+    )
+    parser.add_argument(
+        "--memory",
+        metavar="SIZE",
+        type=memory,
+        help="with --engine: how much memory a worker may take, as 2GB (default: what is free)",
+    )
+    parser.add_argument(
+        "--workers",
+        metavar="N",
+        type=count,
+        help="with --engine: how many workers of this machine there are (default: one for each processor)",
     )
 
 

@@ -81,6 +81,9 @@ class Column:
         return definition
 
 
+# The fields of the polygons of an answer.
+POLYGONS = [Column("id", ogr.OFTInteger64), Column("area", ogr.OFTReal)]
+
 # There is no box where there is no geometry.
 NO_BOXES: Floats = np.zeros((0, 4))
 

@@ -19,12 +19,10 @@ from .fields import NAMES, check_fields, kept
 from .frame import Frame
 from .layers import Source
 from .messages import say
-from .output import Column, Table
+from .output import POLYGONS, Table
 from .wkb import encoded
 
 EXAMPLE = "overlay-gis run intersection parcels.gpkg zones.gpkg -o common.gpkg"
-
-COLUMNS = [Column("id", ogr.OFTInteger64), Column("area", ogr.OFTReal)]
 
 # Which rows of faces an operation has, by whether each layer covers them.
 CHOICES: dict[str, Callable[[Mask, Mask], Mask]] = {
@@ -48,13 +46,14 @@ def add_arguments(parser: ArgumentParser) -> None:
     )
     options.add_grid(parser)
     options.add_segments(parser)
+    options.add_engine(parser)
 
 
 def table_of(result: Columns[Numbers], frame: Frame) -> Table:
     """The polygons of a result on the grid, each with its number and its area."""
     polygons = zip(encoded(frame.off_grid(result)), result.twice_areas())
     rows = ((polygon, (number, frame.area(twice))) for number, (polygon, twice) in enumerate(polygons, 1))
-    return Table(COLUMNS, rows, ogr.wkbPolygon, frame.boxes(result), frame=frame)
+    return Table(POLYGONS, rows, ogr.wkbPolygon, frame.boxes(result), frame=frame)
 
 
 def answer(both: CommonGrid, operation: str, covered: bool) -> Columns[Numbers]:
@@ -97,12 +96,20 @@ def with_fields(both: CommonGrid, operation: str, asked: Sequence[Sequence[str]]
 
 
 def main(arguments: Namespace) -> int:
+    if not arguments.engine:
+        options.refuse_beside(arguments, options.OF_ENGINE, "goes with --engine dask")
     sources = [Source(arguments.a), Source(arguments.b)]
     place = destination(arguments, sources)
+    if arguments.engine:
+        from . import by_strips  # which takes its time to be there
+
+        count = by_strips.answer(by_strips.wanted(arguments, sources), place)
+        say(f"{arguments.out}: {count:,} polygons")
+        return 0
     asked = (arguments.keep_a, arguments.keep_b)
     for source, names in zip(sources, asked):
         check_fields(source, names)
-    with brought_together(sources, arguments.grid, arguments.origin, arguments.system, arguments.segments) as both:
+    with brought_together(sources, arguments.grid, arguments.origin, arguments.system, options.segments(arguments)) as both:
         if any(asked):
             table = with_fields(both, arguments.operation, asked)
         else:

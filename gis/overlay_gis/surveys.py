@@ -3,6 +3,7 @@ warned of or refused."""
 
 from __future__ import annotations
 
+from dataclasses import dataclass
 from functools import reduce
 from typing import Sequence
 
@@ -35,36 +36,55 @@ def box_of(sources: Sequence[Source], surveys: Sequence[Survey]) -> Box | None:
     return reduce(Box.joined, there) if there else None
 
 
+@dataclass(frozen=True)
+class Found:
+    """What is told of a layer: how many features it has; those that are no place, no polygon, or
+    without a geometry; what the first one is that is no polygon; and whether a point has more than x
+    and y."""
+
+    features: int
+    unbound: Sequence[int]
+    strange: Sequence[int]
+    bare: Sequence[int]
+    names: Sequence[str]
+    deep: bool
+
+
 def surveyed(source: Source) -> Survey:
     """A pass over a layer that warns of what is left out, and refuses what is no polygon or no
     place."""
     seen = source.survey()
     unbound, strange, bare = (seen.of(kind) for kind in (Kind.UNBOUND, Kind.STRANGE, Kind.BARE))
-    if unbound:
+    tell_found(source, Found(seen.features, unbound, strange, bare, seen.names, seen.deep))
+    return seen
+
+
+def tell_found(source: Source, seen: Found) -> None:
+    """Warns of what is left out of a layer, and refuses what is no polygon or no place."""
+    if seen.unbound:
         raise Refusal(
             source.name,
             (
-                f"feature {unbound[0]} has a coordinate that is no finite number: mend or remove"
+                f"feature {seen.unbound[0]} has a coordinate that is no finite number: mend or remove"
                 " the feature"
             ),
         )
-    if strange:
+    if seen.strange:
         raise Refusal(
             source.name,
             (
-                f"{numbers(strange)} is no polygon but {seen.names[0]}; overlay-gis check lists all"
+                f"{numbers(seen.strange)} is no polygon but {seen.names[0]}; overlay-gis check lists all"
                 " such"
             ),
         )
     if not seen.features:
         warn(source.name, "the layer has no features")
-    elif bare:
-        warn(source.name, f"no geometry, left out: {numbers(bare)}")
+    elif seen.bare:
+        warn(source.name, f"no geometry, left out: {numbers(seen.bare)}")
     look_at_columns(source)
-    further = coordinates_left_out(source, seen)
+    further = coordinates_left_out(source, seen.deep)
     if further:
         warn(source.name, f"has {further} coordinates, which are left out")
-    return seen
 
 
 def look_at_columns(source: Source) -> None:
@@ -85,9 +105,9 @@ def look_at_columns(source: Source) -> None:
         )
 
 
-def coordinates_left_out(source: Source, seen: Survey) -> str:
+def coordinates_left_out(source: Source, deep: bool) -> str:
     """The names of the coordinates beside x and y that the layer says to have, or that its points may
     have; nothing where there are none."""
     kind = source.layer.GetGeomType()
     declared = [name for name, has in (("Z", ogr.GT_HasZ), ("M", ogr.GT_HasM)) if has(kind)]
-    return " and ".join(declared) or ("Z or M" if seen.deep else "")
+    return " and ".join(declared) or ("Z or M" if deep else "")
