@@ -141,16 +141,16 @@ ordered_put lows highs n l h a b room f g o old = rw (to_z-of_z f, to_z-of_z g) 
 })
 
 module _ (ls bs rs ts : List ℤ) (n : ℕ) (l b r t : ℤ) (room : n < 32) (l_long : length ls ≡ 32) (b_long : length bs ≡ 32) (r_long : length rs ≡ 32) (t_long : length ts ≡ 32) where
-  abbrev new : Corners
+  abbrev pub new : Corners
   new = (record { x = l; y = b }, record { x = r; y = t })
 
-  same_at : (k : ℕ) → k ≢ n → corners_at (set ls n l) (set bs n b) (set rs n r) (set ts n t) k ≡ corners_at ls bs rs ts k
+  pub same_at : (k : ℕ) → k ≢ n → corners_at (set ls n l) (set bs n b) (set rs n r) (set ts n t) k ≡ corners_at ls bs rs ts k
   same_at k e = λ i. (
     record { x = get_or-set_other ls n k l (pos 0) e i; y = get_or-set_other bs n k b (pos 0) e i },
     record { x = get_or-set_other rs n k r (pos 0) e i; y = get_or-set_other ts n k t (pos 0) e i },
   )
 
-  new_at : corners_at (set ls n l) (set bs n b) (set rs n r) (set ts n t) n ≡ new
+  pub new_at : corners_at (set ls n l) (set bs n b) (set rs n r) (set ts n t) n ≡ new
   new_at = λ i. (
     record { x = get_or-set_same ls n l (pos 0) (omega arith) i; y = get_or-set_same bs n b (pos 0) (omega arith) i },
     record { x = get_or-set_same rs n r (pos 0) (omega arith) i; y = get_or-set_same ts n t (pos 0) (omega arith) i },

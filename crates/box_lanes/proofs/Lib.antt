@@ -1,3 +1,4 @@
 pub mod PlaceLaws
 pub mod LaneLaws
 pub mod BoxLaws
+pub mod HullLaws

@@ -1,5 +1,5 @@
 -- Boxes by columns of their sides.
-use Rattle.std.specs.Prelude.{ℕ, ℤ, pos, ◌<◌, ◌≤ℤ◌, Bool, ◌||◌, List, length, map, get_or, int_lt, FitsSigned}
+use Rattle.std.specs.Prelude.{ℕ, ℤ, pos, ◌≡◌, ◌≢◌, ◌<◌, ◌≤ℤ◌, Bool, ◌||◌, List, None, Option, Some, length, map, get_or, int_lt, FitsSigned}
 use Rattle.std.specs.Int.{w32}
 use Rattle.std.specs.List.{range_with_len}
 use lib.Lanes.{mask_l}
@@ -29,6 +29,18 @@ pub record IsColumn (xs : List ℤ) : Type 0 where
 -- at the first n places no box lies the wrong way round
 pub record AreOrdered (lows highs : List ℤ) (n : ℕ) : Type 0 where
   pub ordered : (k : ℕ) → k < n → get_or lows k (pos 0) ≤ℤ get_or highs k (pos 0)
+
+-- the box lies in the rectangle
+pub record LiesWithin (hull : Rect) (c : Corners) : Type 0 where
+  pub left : hull.lo.x ≤ℤ c.0.x
+  pub bottom : hull.lo.y ≤ℤ c.0.y
+  pub right : c.1.x ≤ℤ hull.hi.x
+  pub top : c.1.y ≤ℤ hull.hi.y
+
+-- the hull has the boxes at the first n places; none stands for the hull of no box
+pub record AreHeld (hull : Option Rect) (ls bs rs ts : List ℤ) (n : ℕ) : Type 0 where
+  pub some : 0 < n → hull ≢ None
+  pub held : (k : ℕ) (h : Rect) → k < n → hull ≡ Some h → LiesWithin h (corners_at ls bs rs ts k)
 
 -- the box of number k shares a point with the rectangle
 pub record SharesAt (boxes : List Corners) (rect : Rect) (k : ℕ) : Type 0 where

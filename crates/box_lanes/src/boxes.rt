@@ -1,8 +1,10 @@
-//! Closed boxes with a lane for each, and which of them share a point with a rectangle.
+//! Closed boxes with a lane for each, and which of them share a point with a rectangle: none, where their hull shares none.
 
-ghost use Rattle.std.specs.Prelude.{ℕ, ◌≡◌, ◌↔◌, ◌+◌, ◌<◌, ◌≤◌, ◌++◌, ◌∷◌, List, [], length};
+ghost use Rattle.std.specs.Prelude.{ℕ, ◌≡◌, ◌↔◌, ◌+◌, ◌<◌, ◌≤◌, ◌++◌, ◌∷◌, List, None, Option, Some, [], IsTrue, length};
 ghost use Rattle.box_lanes.specs.Places.{IsPlace};
-ghost use Rattle.box_lanes.specs.Sides.{AreOrdered, Corners, IsColumn, SharesAt, boxes_of, corners, corners_at, is_beside, sixteen};
+ghost use Rattle.geom.specs.Box.{ShareAPoint};
+ghost use Rattle.geom.specs.declared.rect.Rect.{Rect};
+ghost use Rattle.box_lanes.specs.Sides.{AreHeld, AreOrdered, Corners, IsColumn, LiesWithin, SharesAt, boxes_of, corners, corners_at, is_beside, sixteen};
 
 use geom::Rect;
 use std::marker::Model;
@@ -22,6 +24,7 @@ pub struct Boxes {
     right: [i32; LANES],
     top: [i32; LANES],
     count: usize,
+    hull: Option<Rect>,
     ghost few: { count ≤ 32 },
     ghost lefts: { IsColumn left },
     ghost bottoms: { IsColumn bottom },
@@ -29,6 +32,7 @@ pub struct Boxes {
     ghost tops: { IsColumn top },
     ghost wide: { AreOrdered left right count },
     ghost high: { AreOrdered bottom top count },
+    ghost held: { AreHeld hull left bottom right top count },
 }
 
 impl Model for Boxes {
@@ -48,6 +52,7 @@ impl Boxes {
             right: [0; LANES],
             top: [0; LANES],
             count: 0,
+            hull: None,
         }
     }
 
@@ -60,6 +65,7 @@ impl Boxes {
         self.bottom[self.count] = rect.lo.y;
         self.right[self.count] = rect.hi.x;
         self.top[self.count] = rect.hi.y;
+        self.hull = Some(widened(self.hull, rect));
         self.count += 1;
     }
 
@@ -67,6 +73,9 @@ impl Boxes {
     pub fn sharing(&self, rect: &Rect) -> u64
         ensures { (k : ℕ) → IsPlace result k ↔ SharesAt self.now rect.now k }
     {
+        if misses(self.hull, rect) {
+            return 0;
+        }
         let some = ones(self.count);
         let first = beside(&self.left, &self.bottom, &self.right, &self.top, 0, rect);
         if self.count <= HALF {
@@ -74,6 +83,29 @@ impl Boxes {
         }
         let second = beside(&self.left, &self.bottom, &self.right, &self.top, HALF, rect);
         some & !(first + (second << 16))
+    }
+}
+
+/// A hull that holds a box too; of a box alone where there is none.
+#[inline(always)]
+fn widened(hull: Option<Rect>, rect: &Rect) -> Rect
+    ensures added { LiesWithin result (corners rect.now) }
+    ensures held { (h : Rect) (c : Corners) → hull ≡ Some h → LiesWithin h c → LiesWithin result c }
+{
+    match hull {
+        None => *rect,
+        Some(hull) => hull.with(rect.lo).with(rect.hi),
+    }
+}
+
+/// Whether a rectangle shares no point with a hull, or there is none.
+#[inline(always)]
+fn misses(hull: Option<Rect>, rect: &Rect) -> bool
+    ensures { (h : Rect) → IsTrue result → hull ≡ Some h → ¬ (ShareAPoint h.lo h.hi rect.now.lo rect.now.hi) }
+{
+    match hull {
+        None => true,
+        Some(hull) => !hull.shares_point(rect),
     }
 }
 

@@ -112,9 +112,12 @@ fn refuses_each_request(rt: HostRuntime) -> Result<(), Fail> {
     Ok(())
 }
 
-/// What `run` by one worker may ask for beyond what `run_alone` asks for: the draw, the desk and the hands, and for each stage the
-/// lists of its one part. It asks for just as much in the rows below, so to make a piece again would take more.
+/// What `run` by one worker may ask for beyond what `run_alone` asks for: the draw, the desk and the hands, the bins, and for each stage
+/// the lists of its one part. It asks for nearly as much in the rows below, so to make a piece again would take more.
 const BEYOND: u64 = 38;
+
+/// What it may ask for beyond that for each cell but the first: `run_alone` takes one cell for few segments.
+const BEYOND_FOR_A_CELL: u64 = 5;
 
 /// The least number from which on no request that is refused changes the answer of `run_alone`.
 fn least_alone(alloc: Global, row: Row) -> Result<u64, NoMemory> {
@@ -147,21 +150,24 @@ fn least_of_run<R: Threads + Wait + Sync>(
     Ok(least)
 }
 
-/// Whether `run` asks for more than `run_alone`, and for no more than that beyond it.
+/// Whether `run` over so many cells asks for more than `run_alone`, and for no more than that beyond it.
 fn makes_none_again<R: Threads + Wait + Sync>(
     rt: &R,
     alloc: Global,
     row: Row,
+    cells: u64,
 ) -> Result<bool, NoMemory> {
     let alone = least_alone(alloc, row)?;
     let run = least_of_run(rt, alloc, row)?;
-    Ok(0 < alone && alone < run && run <= alone.wrapping_add(BEYOND))
+    let others = cells.saturating_sub(1);
+    let beyond = BEYOND.saturating_add(BEYOND_FOR_A_CELL.saturating_mul(others));
+    Ok(0 < alone && alone < run && run <= alone.saturating_add(beyond))
 }
 
 #[test]
 fn makes_no_piece_again(rt: HostRuntime) -> Result<(), Fail> {
-    for row in [ROWS[0], ROWS[4]] {
-        assert!(rt; makes_none_again(&rt, rt.alloc(), row)?, "{row:?}");
+    for (row, cells) in [(ROWS[0], 1), (ROWS[4], 4)] {
+        assert!(rt; makes_none_again(&rt, rt.alloc(), row, cells)?, "{row:?}");
     }
     Ok(())
 }

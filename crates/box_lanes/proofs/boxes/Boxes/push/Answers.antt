@@ -2,10 +2,11 @@ use Rattle.std.proofs.Common.{ap, ◌∙◌, ◌+◌, ◌++◌, ◌∷◌, [], a
 use Rattle.std.proofs.Math.ListN.{set}
 use Rattle.box_lanes.specs.Sides.{boxes_of, corners}
 use Rattle.box_lanes.proofs.BoxLaws.{box_count, column_put, ordered_put, put_box}
+use Rattle.box_lanes.proofs.HullLaws.{held_more}
 use Rattle.box_lanes.proofs.boxes.Boxes.push.Goals as goal
 
-pub invariant_of-self-inside-5 : goal.invariant_of-self-inside-5
-invariant_of-self-inside-5 c =
+pub invariant_of-self-inside : goal.invariant_of-self-inside
+invariant_of-self-inside c =
     let s = c.self.inside in
     let r = c.args.rect.now in
     let fx : FitsSigned w32 r.hi.x = search rules in
@@ -27,7 +28,10 @@ invariant_of-self-inside-5 c =
                 ordered_put _ _ _ _ _ c.self.told.0 c.self.told.2 (omega (arith, c.requires, room, count)) gx fx r.wide s.wide,
                 (
                   ordered_put _ _ _ _ _ c.self.told.1 c.self.told.3 (omega (arith, c.requires, room, count)) gy fy r.high s.high,
-                  tt,
+                  (
+                    held_more _ _ _ _ _ _ _ r (omega (arith, c.requires, room, count)) c.self.told.0 c.self.told.1 c.self.told.2 c.self.told.3 gx gy fx fy s.held c.widened.ensures.added c.widened.ensures.held,
+                    tt,
+                  ),
                 ),
               ),
             ),
