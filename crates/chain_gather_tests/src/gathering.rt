@@ -264,13 +264,12 @@ fn pieces_of<T: Tiled, A: Allocator + Copy>(
     ensures one_each { IfOk result (λ v. length v.items ≡ tile_count grid.now) }
     ensures in_order { IfOk result (λ v. StandInOrder (λ p. p.number) v.items) }
 {
-    let segments = limited.list;
-    let bins = bins_of(alloc, grid, segments)?;
+    let bins = bins_of(alloc, grid, limited.list)?;
     let mut pieces = Vec::new(alloc);
     let mut numbers = Vec::new(alloc);
     for tile in 0..grid.tiles() {
         bins.bin(tile, &mut numbers)?;
-        let found = found_in(alloc, &grid.rect(tile), segments, &numbers)?;
+        let found = found_in(alloc, &grid.rect(tile), limited, &numbers)?;
         pieces.push(TilePiece::of_part(tile, found))?;
     }
     Ok(pieces)

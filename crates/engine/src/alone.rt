@@ -256,12 +256,11 @@ fn one_piece<T: Tiled, A: Allocator + Copy>(
     ensures one_each { IfOk result (λ v. length v.items ≡ 1) }
     ensures in_order { IfOk result (λ v. StandInOrder (λ p. p.number) v.items) }
 {
-    let segments = limited.list;
-    if segments.len() > u32::MAX as usize {
+    if limited.list.len() > u32::MAX as usize {
         return Err(NoMemory);
     }
-    let numbers = numbers_below(alloc, segments.len() as u32)?;
-    let found = found_in(alloc, &cells.rect(0), segments, &numbers)?;
+    let numbers = numbers_below(alloc, limited.list.len() as u32)?;
+    let found = found_in(alloc, &cells.rect(0), limited, &numbers)?;
     let mut pieces = Vec::with_capacity(alloc, 1)?;
     pieces.push(TilePiece::of_part(0, found))?;
     Ok(pieces)

@@ -65,7 +65,10 @@ impl<T: Tiled, A: Allocator + Copy> Job<A> for Pieces<'_, T, A> {
 
     fn piece(&self, alloc: A, number: u32) -> Result<TilePiece<T, A>, NoMemory> {
         let numbers = self.bins.bin(number);
-        let found = found_in(alloc, &self.grid.rect(number), self.segments, numbers)?;
+        let limited = LimitedSegments {
+            list: self.segments,
+        };
+        let found = found_in(alloc, &self.grid.rect(number), limited, numbers)?;
         Ok(TilePiece::of_part(number, found))
     }
 }

@@ -32,4 +32,5 @@ pub use made::{gather_made, gather_made_in_parts, rounded_by_records};
 pub use neighbours::links_between;
 pub use noded::{Noded, settled};
 pub use rounded::{Rounded, TileNumbers};
-pub use tile_piece::{LimitedSegments, TilePiece, Tiled};
+pub use routing::LimitedSegments;
+pub use tile_piece::{TilePiece, Tiled};

@@ -7,7 +7,7 @@ ghost use Rattle.geom.specs.Limit.{AreInLimit};
 ghost use Rattle.grid.specs.Tiles.{Owns, Tiling};
 ghost use Rattle.routing.specs.Pieces.{IsPartOf};
 
-use geom::{Pt, Seg};
+use geom::Pt;
 use routing::{Part, Record};
 use std::alloc::Allocator;
 use std::marker::{Brand, PhantomData};
@@ -28,13 +28,6 @@ impl Tiled for Brand {
     ghost segments = { [] };
 
     ghost in_limit = { All-nil (λ s. AreInLimit s.a s.b) };
-}
-
-/// Segments within the coordinate limit, which a piece's type may know.
-#[derive(Clone, Copy)]
-pub struct LimitedSegments<'a> {
-    pub list: &'a [Seg],
-    ghost in_limit: { All (λ s. AreInLimit s.a s.b) list.now },
 }
 
 /// What the routes of all segments have in one cell: its number, its hot pixels, and the records of those that segments meet

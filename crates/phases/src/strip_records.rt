@@ -10,7 +10,7 @@ ghost use Rattle.phases.specs.Records.{AreRecordsIn};
 
 use crate::lines::cut_at;
 use geom::{NoMemory, Pt, Rect, Seg};
-use routing::{Part, Record, add_ends, found_in};
+use routing::{LimitedSegments, Part, Record, add_ends, found_in};
 use std::alloc::Allocator;
 use strips_law::Line;
 
@@ -107,21 +107,20 @@ fn part_in(cuts: &[i32], strip: usize, bounds: Rect) -> Option<Rect>
 fn records_in<A: Allocator + Copy>(
     alloc: A,
     tile: &Rect,
-    segments: &[Seg],
+    limited: LimitedSegments<'_>,
 ) -> Result<Vec<Record, A>, NoMemory>
-    requires { All (λ s. AreInLimit s.a s.b) segments.now }
-    ensures { IfOk result (λ v. AreRecordsIn (IsIn tile.now) segments.now v.items) }
+    ensures { IfOk result (λ v. AreRecordsIn (IsIn tile.now) limited.entry.list.now v.items) }
 {
-    if segments.len() > u32::MAX as usize {
+    if limited.list.len() > u32::MAX as usize {
         return Err(NoMemory);
     }
-    let numbers = numbers_below(alloc, segments.len() as u32)?;
+    let numbers = numbers_below(alloc, limited.list.len() as u32)?;
     let Part {
         pixels,
         mut records,
-    } = found_in(alloc, tile, segments, &numbers)?;
+    } = found_in(alloc, tile, limited, &numbers)?;
     drop(pixels);
-    add_ends(&mut records, tile, segments, &numbers)?;
+    add_ends(&mut records, tile, limited, &numbers)?;
     records.sort_unstable();
     records.dedup();
     Ok(records)
@@ -141,6 +140,6 @@ pub(crate) fn strip_records<A: Allocator + Copy>(
 {
     match part_in(cuts, strip, box_of(segments)) {
         None => Ok(Vec::new(alloc)),
-        Some(tile) => records_in(alloc, &tile, segments),
+        Some(tile) => records_in(alloc, &tile, LimitedSegments { list: segments }),
     }
 }

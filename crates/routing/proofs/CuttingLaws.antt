@@ -1,16 +1,16 @@
 -- Segments that are cut: their marks, their portions, and what these have of hot pixels and records.
 use Rattle.std.proofs.Common.{◌≡◌, ◌⊎◌, inl, inr, ℕ, ◌+◌, ◌<◌, List, [], ◌∷◌, ◌++◌, Bool, refl, sym, ◌∙◌, ap, subst, length, get_or, take, ◌↔◌, ⊎_elim}
-use Rattle.std.specs.Prelude.{All, Contains}
+use Rattle.std.specs.Prelude.{Contains}
 use Rattle.std.specs.List.Retain.{IsFiltered, DiffersFromLast}
 use Rattle.std.specs.List.Sorted.{IsPermutation}
 use Rattle.std.proofs.lemmas.List.Filters.{dedup_is}
 use Rattle.std.proofs.lemmas.List.Kept.{Contains-from_dedup}
-use Rattle.std.proofs.lemmas.List.Elements.{All-contains, Contains-push, Contains-push_cases, Contains-get_or}
+use Rattle.std.proofs.lemmas.List.Elements.{Contains-push, Contains-push_cases}
 use Rattle.std.proofs.lemmas.List.Sorted.{Contains-permutation, IsPermutation-sym}
 use Rattle.geom.specs.declared.point.Pt.{Pt}
 use Rattle.geom.specs.declared.segment.Seg.{Seg}
 use Rattle.geom.specs.declared.edge.Edge.{Edge}
-use Rattle.geom.specs.Limit.{AreInLimit, InLimit}
+use Rattle.geom.specs.Limit.{AreInLimit}
 use Rattle.geom.specs.OnSegment.{IsOn}
 use Rattle.geom.specs.Pixel.{Point}
 use Rattle.geom.proofs.Edges.{edge_path}

@@ -4,7 +4,7 @@ use Rattle.std.proofs.Math.IntN.{pos}
 use Rattle.std.specs.Prelude.{All, AllPairs, Contains, Some, slice_get}
 use Rattle.std.proofs.lemmas.Bool.{cases_lt}
 use Rattle.std.proofs.lemmas.Option.{slice_get-get_or, get_or_from_slice_get, slice_get_within}
-use Rattle.std.proofs.lemmas.List.Elements.{All-contains, Contains-push, Contains-push_cases, Contains-get_or, Contains-append_left, Contains-append_right, Contains-append_cases}
+use Rattle.std.proofs.lemmas.List.Elements.{Contains-push, Contains-push_cases, Contains-get_or, Contains-append_left, Contains-append_right, Contains-append_cases}
 use Rattle.geom.specs.declared.point.Pt.{Pt}
 use Rattle.geom.specs.declared.rect.Rect.{Rect}
 use Rattle.geom.specs.declared.edge.Edge.{Edge}
@@ -25,7 +25,7 @@ use Rattle.hot_pixel.specs.Candidates.{chosen, AreOwnedHot}
 use Rattle.hot_pixel.specs.Lines.{IsLine, CrossAt}
 use Rattle.hot_pixel.specs.Halving.{edges_of, IsEndOf, IsMetOn, IsHotFor, HasHot, HasHotInside, AreParts, AreReaching, IsPartInLimit}
 use Rattle.hot_pixel.proofs.HotLaws.{hot_limit, met_limit}
-use Rattle.hot_pixel.proofs.CandidateLaws.{all_chosen, at_contains, in_chosen}
+use Rattle.hot_pixel.proofs.CandidateLaws.{in_chosen}
 use Rattle.hot_pixel.proofs.SweepLaws.{crossing_of, end_in, start_in, start_or_end}
 use Rattle.hot_pixel.proofs.LineLaws.{cross_at, segment_of, segment_line}
 use Rattle.hot_pixel.proofs.HalvingLaws.{hot_whole, hot_part, line_at, edge_in, met_on, end_met, first_met}

@@ -5,14 +5,14 @@
 
 ghost use Rattle.std.specs.Prelude.{ℕ, ◌≡◌, ◌+◌, ◌<◌, ◌≤◌, All, IfOk, Some, length, slice_get};
 ghost use Rattle.std.specs.List.Sorted.{IsPermutation};
-ghost use Rattle.geom.specs.Limit.{AreInLimit};
 ghost use Rattle.routing.specs.Cutting.{AreCut};
 ghost use Rattle.routing.specs.Recording.{IsCutTable, IsTable, AreLinesOf};
 ghost use Rattle.routing.specs.declared.on_line.OnLine.{OnLine};
 
 use crate::cutting::{cut_at, marks_between};
+use crate::limited::LimitedSegments;
 use crate::on_line::OnLine;
-use geom::{NoMemory, Rect, Seg};
+use geom::{NoMemory, Rect};
 use hot_pixel::{Line, edge_of};
 use std::alloc::Allocator;
 
@@ -22,17 +22,16 @@ const MANY: usize = 128;
 /// The segments of these numbers, in the order of the numbers.
 fn each_on_line<A: Allocator>(
     alloc: A,
-    segments: &[Seg],
+    limited: LimitedSegments<'_>,
     numbers: &[u32],
 ) -> Result<Vec<OnLine, A>, NoMemory>
-    requires limits { All (λ s. AreInLimit s.a s.b) segments.now }
-    requires below { All (λ k. k < length segments.now) numbers.now }
-    ensures { IfOk result (λ v. IsTable segments.now numbers.now v.items) }
+    requires { All (λ k. k < length limited.list.now) numbers.now }
+    ensures { IfOk result (λ v. IsTable limited.entry.list.now numbers.now v.items) }
 {
     let mut table = Vec::with_capacity(alloc, numbers.len())?;
     for number in numbers {
         table.push(OnLine {
-            edge: edge_of(&segments[*number as usize]),
+            edge: edge_of(&limited.list[*number as usize]),
             number: *number,
         })?;
     }
@@ -70,14 +69,13 @@ fn in_order<A: Allocator + Copy>(table: Vec<OnLine, A>) -> Vec<OnLine, A>
 pub(crate) fn by_line<A: Allocator + Copy>(
     alloc: A,
     tile: &Rect,
-    segments: &[Seg],
+    limited: LimitedSegments<'_>,
     numbers: &[u32],
 ) -> Result<Vec<OnLine, A>, NoMemory>
-    requires limits { All (λ s. AreInLimit s.a s.b) segments.now }
-    requires below { All (λ k. k < length segments.now) numbers.now }
-    ensures { IfOk result (λ v. IsCutTable segments.now numbers.now v.items) }
+    requires { All (λ k. k < length limited.list.now) numbers.now }
+    ensures { IfOk result (λ v. IsCutTable limited.entry.list.now numbers.now v.items) }
 {
-    let entries = each_on_line(alloc, segments, numbers)?;
+    let entries = each_on_line(alloc, limited, numbers)?;
     let whole = in_order(entries);
     let table = portions_of(alloc, tile, whole)?;
     Ok(in_order(table))

@@ -10,6 +10,7 @@ ghost use Rattle.routing.specs.Pieces.{candidates_of, IsPieceOf};
 ghost use Rattle.routing.specs.Recording.{AddsEnds, AddsEndAt};
 
 use crate::halved::found_in;
+use crate::limited::LimitedSegments;
 use crate::pieces::{Part, Piece};
 use crate::record::{Candidate, Record, record_at};
 use geom::{NoMemory, Pt, Rect, Seg};
@@ -39,19 +40,18 @@ fn candidates_of<A: Allocator>(
 fn add_end<A: Allocator>(
     records: &mut Vec<Record, A>,
     tile: &Rect,
-    segments: &[Seg],
+    limited: LimitedSegments<'_>,
     number: u32,
     pixel: Pt,
 ) -> Result<(), NoMemory>
-    requires limits { All (λ s. AreInLimit s.a s.b) segments.now }
-    requires below { number < length segments.now }
+    requires below { number < length limited.list.now }
     requires pixel_in { InLimit pixel }
-    ensures { OnOk result (AddsEndAt tile.now segments.now number pixel records.old.items records.new.items) }
+    ensures { OnOk result (AddsEndAt tile.now limited.entry.list.now number pixel records.old.items records.new.items) }
 {
     if !tile.holds(pixel) {
         return Ok(());
     }
-    records.push(record_at(segments, number, pixel))?;
+    records.push(record_at(limited.list, number, pixel))?;
     Ok(())
 }
 
@@ -59,17 +59,16 @@ fn add_end<A: Allocator>(
 pub fn add_ends<A: Allocator>(
     records: &mut Vec<Record, A>,
     tile: &Rect,
-    segments: &[Seg],
+    limited: LimitedSegments<'_>,
     numbers: &[u32],
 ) -> Result<(), NoMemory>
-    requires limits { All (λ s. AreInLimit s.a s.b) segments.now }
-    requires below { All (λ k. k < length segments.now) numbers.now }
-    ensures { OnOk result (AddsEnds tile.now segments.now numbers.now records.old.items records.new.items) }
+    requires { All (λ k. k < length limited.list.now) numbers.now }
+    ensures { OnOk result (AddsEnds tile.now limited.entry.list.now numbers.now records.old.items records.new.items) }
 {
     for number in numbers {
-        let s = segments[*number as usize];
-        add_end(records, tile, segments, *number, s.a)?;
-        add_end(records, tile, segments, *number, s.b)?;
+        let s = limited.list[*number as usize];
+        add_end(records, tile, limited, *number, s.a)?;
+        add_end(records, tile, limited, *number, s.b)?;
     }
     Ok(())
 }
@@ -90,12 +89,13 @@ pub fn piece<A: Allocator + Copy>(
     ensures candidates { IfOk result (λ p. p.candidates.items ≡ candidates_of segments.now numbers.now) }
     ensures exact { IfOk result (λ p. IsPieceOf (Owns grid.now number) segments.now p.hot p.records.items) }
 {
+    let limited = LimitedSegments { list: segments };
     let tile = grid.rect(number);
     let Part {
         pixels,
         mut records,
-    } = found_in(alloc, &tile, segments, numbers)?;
-    add_ends(&mut records, &tile, segments, numbers)?;
+    } = found_in(alloc, &tile, limited, numbers)?;
+    add_ends(&mut records, &tile, limited, numbers)?;
     let candidates = candidates_of(alloc, segments, numbers)?;
     records.sort_unstable();
     records.dedup();

@@ -21,10 +21,10 @@ ghost use Rattle.routing.specs.Pieces.{candidates_of};
 ghost use Rattle.routing.specs.Recording.{AddsRecordsInside};
 
 use crate::by_line::{by_line, lines_of};
-use crate::on_line::OnLine;
+use crate::limited::{LimitedSegments, LinedSegments};
 use crate::pieces::Part;
 use crate::spread::add_spread;
-use geom::{NoMemory, Pt, Rect, Seg};
+use geom::{NoMemory, Pt, Rect};
 use hot_pixel::{
     FEW, Line, Region, ascending, hot_beside, hot_by_pairs, kept, parts, reaching, within_limit,
 };
@@ -38,29 +38,18 @@ const DEPTH: u32 = 122;
 fn add_found<A: Allocator + Copy>(
     alloc: A,
     here: Vec<Pt, A>,
-    segments: &[Seg],
-    table: &[OnLine],
+    lined: &LinedSegments<'_>,
     region: &Region<A>,
     lines: &[Line],
     found: &mut Part<A>,
 ) -> Result<(), NoMemory>
     requires here { HasHot region.now.rect (edges_of lines.now) [] here.items }
-    requires segments_in { All (λ s. AreInLimit s.a s.b) segments.now }
-    requires table_in { All (λ x. x.number < length segments.now) table.now }
-    requires lines_past { All (λ l. l.past ≤ length table.now) lines.now }
+    requires lines_past { All (λ l. l.past ≤ length lined.now.table.now) lines.now }
     ensures pixels { OnOk result (HasHotInside (IsInside region.now.rect region.now.walls.items) (edges_of lines.now) found.old.pixels.items found.new.pixels.items) }
-    ensures records { OnOk result (AddsRecordsInside segments.now table.now (IsInside region.now.rect region.now.walls.items) lines.now found.old.records.items found.new.records.items) }
+    ensures records { OnOk result (AddsRecordsInside lined.now.segments.now lined.now.table.now (IsInside region.now.rect region.now.walls.items) lines.now found.old.records.items found.new.records.items) }
 {
     let mut pixels = kept(alloc, &region.walls, ascending(here))?;
-    add_spread(
-        alloc,
-        &mut found.records,
-        segments,
-        table,
-        lines,
-        &pixels,
-        DEPTH,
-    )?;
+    add_spread(alloc, &mut found.records, lined, lines, &pixels, DEPTH)?;
     found.pixels.append(&mut pixels)?;
     Ok(())
 }
@@ -98,43 +87,40 @@ pub(crate) fn left_of<'a, A: Allocator>(
 /// do, these are found at once; else it is parted, and each part is left with those that may meet its pixels.
 fn halve<A: Allocator + Copy>(
     alloc: A,
-    segments: &[Seg],
-    table: &[OnLine],
+    lined: &LinedSegments<'_>,
     region: &Region<A>,
     lines: &[Line],
     depth: u32,
     found: &mut Part<A>,
 ) -> Result<(), NoMemory>
-    requires segments_in { All (λ s. AreInLimit s.a s.b) segments.now }
-    requires table_in { All (λ x. x.number < length segments.now) table.now }
     requires rect_in { AreInLimit region.now.rect.lo region.now.rect.hi }
-    requires lines_past { All (λ l. l.past ≤ length table.now) lines.now }
+    requires lines_past { All (λ l. l.past ≤ length lined.now.table.now) lines.now }
     ensures pixels { OnOk result (HasHotInside (IsInside region.now.rect region.now.walls.items) (edges_of lines.now) found.old.pixels.items found.new.pixels.items) }
-    ensures records { OnOk result (AddsRecordsInside segments.now table.now (IsInside region.now.rect region.now.walls.items) lines.now found.old.records.items found.new.records.items) }
+    ensures records { OnOk result (AddsRecordsInside lined.now.segments.now lined.now.table.now (IsInside region.now.rect region.now.walls.items) lines.now found.old.records.items found.new.records.items) }
 {
     if depth == 0 || lines.len() <= FEW {
         let here = hot_by_pairs(alloc, &region.rect, lines)?;
-        return add_found(alloc, here, segments, table, region, lines, found);
+        return add_found(alloc, here, lined, region, lines, found);
     }
     if region.is_empty() {
         return Ok(());
     }
     if let Some(here) = hot_beside(alloc, &region.rect, lines)? {
-        return add_found(alloc, here, segments, table, region, lines, found);
+        return add_found(alloc, here, lined, region, lines, found);
     }
     match parts(alloc, region, lines)? {
         None => {
             let here = hot_by_pairs(alloc, &region.rect, lines)?;
-            add_found(alloc, here, segments, table, region, lines, found)
+            add_found(alloc, here, lined, region, lines, found)
         }
         Some((first, second)) => {
             let part = fewer(alloc, &first, lines)?;
             let left = left_of(lines, &part);
-            halve(alloc, segments, table, &first, left, depth - 1, found)?;
+            halve(alloc, lined, &first, left, depth - 1, found)?;
             drop(part);
             let rest = fewer(alloc, &second, lines)?;
             let left = left_of(lines, &rest);
-            halve(alloc, segments, table, &second, left, depth - 1, found)?;
+            halve(alloc, lined, &second, left, depth - 1, found)?;
             Ok(())
         }
     }
@@ -145,15 +131,14 @@ fn halve<A: Allocator + Copy>(
 pub fn found_in<A: Allocator + Copy>(
     alloc: A,
     tile: &Rect,
-    segments: &[Seg],
+    limited: LimitedSegments<'_>,
     numbers: &[u32],
 ) -> Result<Part<A>, NoMemory>
-    requires limits { All (λ s. AreInLimit s.a s.b) segments.now }
-    requires below { All (λ k. k < length segments.now) numbers.now }
-    ensures pixels { IfOk result (λ f. AreOwnedHot (IsIn tile.now) (chosen segments.now numbers.now) f.pixels.items) }
-    ensures records { IfOk result (λ f. HasInnerRecords (candidates_of segments.now numbers.now) f.pixels.items f.records.items) }
+    requires { All (λ k. k < length limited.list.now) numbers.now }
+    ensures pixels { IfOk result (λ f. AreOwnedHot (IsIn tile.now) (chosen limited.entry.list.now numbers.now) f.pixels.items) }
+    ensures records { IfOk result (λ f. HasInnerRecords (candidates_of limited.entry.list.now numbers.now) f.pixels.items f.records.items) }
 {
-    let table = by_line(alloc, tile, segments, numbers)?;
+    let table = by_line(alloc, tile, limited, numbers)?;
     let lines = lines_of(alloc, &table)?;
     let mut found = Part {
         pixels: Vec::new(alloc),
@@ -163,7 +148,11 @@ pub fn found_in<A: Allocator + Copy>(
         None => Ok(found),
         Some(part) => {
             let whole = Region::open(alloc, part);
-            halve(alloc, segments, &table, &whole, &lines, DEPTH, &mut found)?;
+            let lined = LinedSegments {
+                segments: limited.list,
+                table: &table,
+            };
+            halve(alloc, &lined, &whole, &lines, DEPTH, &mut found)?;
             Ok(Part {
                 pixels: ascending(found.pixels),
                 records: found.records,

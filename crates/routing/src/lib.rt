@@ -12,6 +12,7 @@ mod by_line;
 mod cutting;
 mod finding;
 mod halved;
+mod limited;
 mod mark;
 mod met;
 mod on_line;
@@ -23,6 +24,7 @@ mod spread;
 
 pub use finding::{add_ends, piece};
 pub use halved::found_in;
+pub use limited::LimitedSegments;
 pub use met::meets;
 pub use pieces::{Part, Piece};
 pub use record::{Candidate, Record, record_at};

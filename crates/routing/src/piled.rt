@@ -4,12 +4,12 @@
 //! 2. The records of the line before stand last. Those of a line and a pixel are looked for among them, in the order of the segments,
 //!    and only those that are not found there and tell no ends are added.
 
-ghost use Rattle.std.specs.Prelude.{◌⊎◌, ◌<◌, ◌≤◌, All, Contains, IsTrue, MatchBool, OnOk, length};
-ghost use Rattle.geom.specs.Limit.{AreInLimit, InLimit};
+ghost use Rattle.std.specs.Prelude.{◌⊎◌, ◌≤◌, Contains, IsTrue, MatchBool, OnOk, length};
+ghost use Rattle.geom.specs.Limit.{InLimit};
 ghost use Rattle.routing.specs.Pieces.{IsEnd};
 ghost use Rattle.routing.specs.Recording.{AddsAt};
 
-use crate::on_line::OnLine;
+use crate::limited::LinedSegments;
 use crate::record::{Record, is_end, record_at};
 use geom::{NoMemory, Pt, Seg};
 use hot_pixel::Line;
@@ -65,23 +65,20 @@ fn is_new(records: &[Record], place: usize, s: &Seg, wanted: &Record) -> bool
 #[inline(never)]
 pub(crate) fn add_new_at<A: Allocator>(
     records: &mut Vec<Record, A>,
-    segments: &[Seg],
-    table: &[OnLine],
+    lined: &LinedSegments<'_>,
     line: &Line,
     pixel: Pt,
 ) -> Result<(), NoMemory>
-    requires segments_in { All (λ s. AreInLimit s.a s.b) segments.now }
-    requires table_in { All (λ x. x.number < length segments.now) table.now }
-    requires line_in { line.now.past ≤ length table.now }
+    requires line_in { line.now.past ≤ length lined.now.table.now }
     requires pixel_in { InLimit pixel }
-    ensures { OnOk result (AddsAt segments.now table.now line.now.first line.now.past pixel records.old.items records.new.items) }
+    ensures { OnOk result (AddsAt lined.now.segments.now lined.now.table.now line.now.first line.now.past pixel records.old.items records.new.items) }
 {
     let mut told = last_at(records, pixel, (line.past - line.first).saturating_mul(2));
     for place in line.first..line.past {
-        let number = table[place].number;
-        let record = record_at(segments, number, pixel);
+        let number = lined.table[place].number;
+        let record = record_at(lined.segments, number, pixel);
         told = past_lesser(records, told, &record);
-        if is_new(records, told, &segments[number as usize], &record) {
+        if is_new(records, told, &lined.segments[number as usize], &record) {
             records.push(record)?;
         }
     }

@@ -11,10 +11,10 @@ ghost use Rattle.routing.specs.Recording.{AddsRecordsAt};
 ghost use Rattle.routing.specs.Spread.{AreThoseIn};
 
 use crate::halved::{fewer, left_of};
-use crate::on_line::OnLine;
+use crate::limited::LinedSegments;
 use crate::record::Record;
 use crate::recording::add_records;
-use geom::{NoMemory, Pt, Rect, Seg};
+use geom::{NoMemory, Pt, Rect};
 use hot_pixel::{FEW, Line, Region, cut};
 use std::alloc::Allocator;
 
@@ -53,32 +53,29 @@ fn within<A: Allocator>(alloc: A, rect: &Rect, pixels: &[Pt]) -> Result<Vec<Pt, 
 pub(crate) fn add_spread<A: Allocator + Copy>(
     alloc: A,
     records: &mut Vec<Record, A>,
-    segments: &[Seg],
-    table: &[OnLine],
+    lined: &LinedSegments<'_>,
     lines: &[Line],
     pixels: &[Pt],
     depth: u32,
 ) -> Result<(), NoMemory>
-    requires segments_in { All (λ s. AreInLimit s.a s.b) segments.now }
-    requires table_in { All (λ x. x.number < length segments.now) table.now }
-    requires lines_past { All (λ l. l.past ≤ length table.now) lines.now }
+    requires lines_past { All (λ l. l.past ≤ length lined.now.table.now) lines.now }
     requires pixels_in { All InLimit pixels.now }
-    ensures { OnOk result (AddsRecordsAt segments.now table.now lines.now pixels.now records.old.items records.new.items) }
+    ensures { OnOk result (AddsRecordsAt lined.now.segments.now lined.now.table.now lines.now pixels.now records.old.items records.new.items) }
 {
     if depth == 0 || lines.len() <= FEW || pixels.len() <= A_FEW {
-        return add_records(records, segments, table, lines, pixels);
+        return add_records(records, lined, lines, pixels);
     }
     let whole = Region::open(alloc, box_of(pixels));
     let part = fewer(alloc, &whole, lines)?;
     let left = left_of(lines, &part);
     match cut(&whole.rect, left) {
-        None => add_records(records, segments, table, left, pixels),
+        None => add_records(records, lined, left, pixels),
         Some((first, second)) => {
             let some = within(alloc, &first, pixels)?;
-            add_spread(alloc, records, segments, table, left, &some, depth - 1)?;
+            add_spread(alloc, records, lined, left, &some, depth - 1)?;
             drop(some);
             let rest = within(alloc, &second, pixels)?;
-            add_spread(alloc, records, segments, table, left, &rest, depth - 1)?;
+            add_spread(alloc, records, lined, left, &rest, depth - 1)?;
             Ok(())
         }
     }

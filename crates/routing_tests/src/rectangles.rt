@@ -2,14 +2,13 @@
 //! tells whether they are few: as many for each line as there may be, however far the lines reach.
 
 ghost use Rattle.std.specs.Prelude.{◌<◌, All, length};
-ghost use Rattle.geom.specs.Limit.{AreInLimit};
 
 use crate::pieces::all_numbers;
 use crate::shapes::{Ends, rectangle, segments_of};
-use geom::{NoMemory, Rect, Seg};
+use geom::{NoMemory, Rect};
 use grid::Grid;
 use refusing::Refusing;
-use routing::found_in;
+use routing::{LimitedSegments, found_in};
 use std::alloc::{Allocator, Global};
 
 // How far coordinates reach.
@@ -71,14 +70,13 @@ fn lines<A: Allocator>(alloc: A, kind: Kind, reach: i32) -> Result<Vec<Ends, A>,
 fn are_few_rectangles<A: Allocator + Copy>(
     alloc: A,
     tile: &Rect,
-    segments: &[Seg],
+    limited: LimitedSegments<'_>,
     numbers: &[u32],
 ) -> bool
-    requires limits { All (λ s. AreInLimit s.a s.b) segments.now }
-    requires below { All (λ k. k < length segments.now) numbers.now }
+    requires { All (λ k. k < length limited.list.now) numbers.now }
 {
-    let heap = Refusing::new(alloc, 10u64.saturating_mul(segments.len() as u64));
-    found_in(&heap, tile, segments, numbers).is_ok()
+    let heap = Refusing::new(alloc, 10u64.saturating_mul(limited.list.len() as u64));
+    found_in(&heap, tile, limited, numbers).is_ok()
 }
 
 fn parts_few(alloc: Global, kind: Kind, reach: i32) -> Result<bool, NoMemory> {
@@ -86,7 +84,8 @@ fn parts_few(alloc: Global, kind: Kind, reach: i32) -> Result<bool, NoMemory> {
     let grid = Grid::one_tile(rectangle(((low, low), (reach, reach)))?);
     let segments = segments_of(alloc, &lines(alloc, kind, reach)?)?;
     let numbers = all_numbers(alloc, &grid, 0, &segments)?;
-    Ok(are_few_rectangles(alloc, &grid.rect(0), &segments, &numbers))
+    let limited = LimitedSegments { list: &segments };
+    Ok(are_few_rectangles(alloc, &grid.rect(0), limited, &numbers))
 }
 
 // The first reach at which the lines are parted into many rectangles.

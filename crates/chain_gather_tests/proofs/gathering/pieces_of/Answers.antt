@@ -9,8 +9,8 @@ use Rattle.linking.specs.declared.tile_piece.TilePiece.{TilePiece}
 use Rattle.chain_gather.proofs.Near.{near_by_bin}
 use Rattle.chain_gather_tests.proofs.gathering.pieces_of.Goals as goal
 
-pub found_in-requires-clause-below : goal.found_in-requires-clause-below
-found_in-requires-clause-below g c = (near_by_bin c.args.grid.now c.args.limited.list.now c.in_ok-bins.bins c.loop-tile.tile c.bin.new.out.items c.deref.result.now c.in_ok-bins.ensures c.in_ok-bin.ensures.ok c.deref.ensures.value).0.below
+pub found_in-requires : goal.found_in-requires
+found_in-requires g c = (near_by_bin c.args.grid.now c.args.limited.list.now c.in_ok-bins.bins c.loop-tile.tile c.bin.new.out.items c.deref.result.now c.in_ok-bins.ensures c.in_ok-bin.ensures.ok c.deref.ensures.value).0.below
 
 pub of_part-requires : goal.of_part-requires
 of_part-requires g c =

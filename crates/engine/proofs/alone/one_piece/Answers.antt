@@ -7,8 +7,8 @@ use Rattle.routing.proofs.PieceLaws.{part_found}
 use Rattle.engine.proofs.Binned.{all_candidates}
 use Rattle.engine.proofs.alone.one_piece.Goals as goal
 
-pub found_in-requires-clause-below : goal.found_in-requires-clause-below
-found_in-requires-clause-below g c =
+pub found_in-requires : goal.found_in-requires
+found_in-requires g c =
     let cells = c.args.cells.now in
     let segments = c.args.limited.list.now in
     let numbers = c.in_ok-numbers.numbers.items in

@@ -5,13 +5,13 @@ use Rattle.routing.proofs.PieceLaws.{all_found, piece_found, piece_of_all}
 use Rattle.routing.proofs.finding.piece.Goals as goal
 
 pub found_in-requires : goal.found_in-requires
-found_in-requires g c = record { limits = c.requires.limits; below = c.requires.candidates.below }
+found_in-requires g c = c.requires.candidates.below
 
 pub candidates_of-requires : goal.candidates_of-requires
 candidates_of-requires g c = c.requires.candidates.below
 
 pub add_ends-requires : goal.add_ends-requires
-add_ends-requires g c = record { limits = c.requires.limits; below = c.requires.candidates.below }
+add_ends-requires g c = c.requires.candidates.below
 
 pub invariant_of-result : goal.invariant_of-result
 invariant_of-result g c =

@@ -17,14 +17,8 @@ halve-requires g t c =
       (
         h,
         (
-          c.requires.segments_in,
-          (
-            c.requires.table_in,
-            (
-              within,
-              part_all (λ l. l.past ≤ length c.args.table.now) (IsInside first.rect first.walls.items) c.args.lines.now _ are c.requires.lines_past,
-            ),
-          ),
+          within,
+          part_all (λ l. l.past ≤ length c.args.lined.now.table.now) (IsInside first.rect first.walls.items) c.args.lines.now _ are c.requires.lines_past,
         ),
       ),
     )
@@ -39,14 +33,8 @@ halve-requires-in-Some-2 g t c =
       (
         h,
         (
-          c.requires.segments_in,
-          (
-            c.requires.table_in,
-            (
-              within,
-              part_all (λ l. l.past ≤ length c.args.table.now) (IsInside second.rect second.walls.items) c.args.lines.now _ are c.requires.lines_past,
-            ),
-          ),
+          within,
+          part_all (λ l. l.past ≤ length c.args.lined.now.table.now) (IsInside second.rect second.walls.items) c.args.lines.now _ are c.requires.lines_past,
         ),
       ),
     )
@@ -66,5 +54,5 @@ returns-in_ok-halve-in-Some-2-2-clause-records g t c =
     let first = c.in-Some-2.first in
     let second = c.in-Some-2.second in
     let parts = subst (λ o. IfSome o (λ h. AreParts (IsInside region.rect region.walls.items) (IsInside h.0.rect h.0.walls.items) (IsInside h.1.rect h.1.walls.items))) c.in-Some-2.is c.in_ok-parts.ensures.parts in
-    records_unite c.args.segments.now c.args.table.now (IsInside region.rect region.walls.items) (IsInside first.rect first.walls.items) (IsInside second.rect second.walls.items) c.args.lines.now _ _ c.args.found.now.records.items c.halve.new.found.records.items c.halve-in-Some-2.new.found.records.items parts
+    records_unite c.args.lined.now.segments.now c.args.lined.now.table.now (IsInside region.rect region.walls.items) (IsInside first.rect first.walls.items) (IsInside second.rect second.walls.items) c.args.lines.now _ _ c.args.found.now.records.items c.halve.new.found.records.items c.halve-in-Some-2.new.found.records.items parts
     (c.left_of-left.ensures first.rect first.walls.items c.in_ok-part-in-Some-2.ensures) (c.left_of-left-in-Some-2.ensures second.rect second.walls.items c.in_ok-rest-in-Some-2.ensures) c.in_ok-halve-in-Some-2.ensures.records c.in_ok-halve-in-Some-2-2.ensures.records

@@ -1,4 +1,4 @@
-use Rattle.std.proofs.Common.{List, [], subst, sym, ◌∙◌, ap, ◌++◌, ◌↔◌}
+use Rattle.std.proofs.Common.{List, [], subst, sym, ◌↔◌}
 use Rattle.std.specs.Prelude.{All, Contains}
 use Rattle.geom.specs.declared.point.Pt.{Pt}
 use Rattle.geom.specs.declared.rect.Rect.{Rect}
@@ -43,4 +43,4 @@ returns-clause-records g c =
     let pixels = c.in_ok-pixels.pixels.items in
     let some = subst (λ (ws : List Wall). AreKept ws c.ascending.result.items pixels) c.deref.ensures.value c.in_ok-pixels.ensures in
     let hot = hot_here region.rect region.walls.items c.args.lines.now c.args.here.items c.ascending.result.items pixels c.requires.here c.ascending.ensures.same some in
-    records_all (IsInside region.rect region.walls.items) c.args.lines.now pixels hot c.args.segments.now c.args.table.now c.args.found.now.records.items _ (subst (λ (ps : List Pt). AddsRecordsAt c.args.segments.now c.args.table.now c.args.lines.now ps c.args.found.now.records.items c.add_spread.new.records.items) c.deref-2.ensures.value c.in_ok-add_spread.ensures)
+    records_all (IsInside region.rect region.walls.items) c.args.lines.now pixels hot c.args.lined.now.segments.now c.args.lined.now.table.now c.args.found.now.records.items _ (subst (λ (ps : List Pt). AddsRecordsAt c.args.lined.now.segments.now c.args.lined.now.table.now c.args.lines.now ps c.args.found.now.records.items c.add_spread.new.records.items) c.deref-2.ensures.value c.in_ok-add_spread.ensures)

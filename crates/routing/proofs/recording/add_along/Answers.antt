@@ -9,7 +9,7 @@ use Rattle.routing.proofs.recording.add_along.Goals as goal
 use Rattle.routing.proofs.recording.add_along.Goals.{else-not-ends_each-via-else-not-ends_each, else-not-ends_each-via-then-not-ends_each+else-meets}
 
 pub loop-near-init : goal.loop-near-init
-loop-near-init g c = but_near c.args.segments.now c.args.table.now c.args.line.now c.args.pixels.now c.args.records.now.items c.bounds.result c.sharing-near.result c.bounds.ensures.lo c.bounds.ensures.hi (rw c.requires.boxes at c.sharing-near.ensures)
+loop-near-init g c = but_near c.args.lined.now.segments.now c.args.lined.now.table.now c.args.line.now c.args.pixels.now c.args.records.now.items c.bounds.result c.sharing-near.result c.bounds.ensures.lo c.bounds.ensures.hi (rw c.requires.boxes at c.sharing-near.ensures)
 
 pub loop-near-preserved-in_ok-add_met : goal.loop-near-preserved-in_ok-add_met
 loop-near-preserved-in_ok-add_met g c =
@@ -22,7 +22,7 @@ loop-near-preserved-in_ok-add_met g c =
     let blank : Pt = record { x = pos 0; y = pos 0 } in
     let pixel = get_or pixels place blank in
     let is = get_or_default pixels place blank pixel (c.loop-near.invariant.within place c.split_first-place.ensures.first) in
-    but_met c.args.segments.now c.args.table.now line pixels c.args.records.now.items near c.split_first-place.result.1 place pixel c.loop-near.records.items is c.split_first-place.ensures.first c.split_first-place.ensures.others c.loop-near.invariant
+    but_met c.args.lined.now.segments.now c.args.lined.now.table.now line pixels c.args.records.now.items near c.split_first-place.result.1 place pixel c.loop-near.records.items is c.split_first-place.ensures.first c.split_first-place.ensures.others c.loop-near.invariant
     c.add_met.new.records.items (met_on line.edge s pixel on (c.meets.ensures.0 c.if-meets.true)) c.in_ok-add_met.ensures
 
 pub loop-near-preserved : goal.loop-near-preserved
@@ -39,12 +39,12 @@ loop-near-preserved g c =
     let args = c.args in
     elim c.else-not-ends_each.branch [
       | else-not-ends_each-via-then-not-ends_each+else-meets w ↦
-          but_missed args.segments.now args.table.now line pixels args.records.now.items near c.split_first-place.result.1 place pixel c.loop-near.records.items is c.split_first-place.ensures.first c.split_first-place.ensures.others c.loop-near.invariant
+          but_missed args.lined.now.segments.now args.lined.now.table.now line pixels args.records.now.items near c.split_first-place.result.1 place pixel c.loop-near.records.items is c.split_first-place.ensures.first c.split_first-place.ensures.others c.loop-near.invariant
           (λ h. let e = w.meets.ensures.1 (h.meets s on) in let f = w.if-meets.false in cc)
       | else-not-ends_each-via-else-not-ends_each w ↦
-          but_added args.segments.now args.table.now line pixels args.records.now.items near c.split_first-place.result.1 place pixel c.loop-near.records.items is c.split_first-place.ensures.first c.split_first-place.ensures.others c.loop-near.invariant
+          but_added args.lined.now.segments.now args.lined.now.table.now line pixels args.records.now.items near c.split_first-place.result.1 place pixel c.loop-near.records.items is c.split_first-place.ensures.first c.split_first-place.ensures.others c.loop-near.invariant
           (c.ends_each.ensures (let f = w.if-not-ends_each.false in cc) c.loop-near.records.items)
     ]
 
 pub returns : goal.returns
-returns g c = but_none c.args.segments.now c.args.table.now c.args.line.now c.args.pixels.now c.args.records.now.items c.loop-near.records.items (subst (λ (n : ℕ). AddsAlongBut c.args.segments.now c.args.table.now c.args.line.now c.args.pixels.now n c.args.records.now.items c.loop-near.records.items) c.loop-near-test.false c.loop-near.invariant)
+returns g c = but_none c.args.lined.now.segments.now c.args.lined.now.table.now c.args.line.now c.args.pixels.now c.args.records.now.items c.loop-near.records.items (subst (λ (n : ℕ). AddsAlongBut c.args.lined.now.segments.now c.args.lined.now.table.now c.args.line.now c.args.pixels.now n c.args.records.now.items c.loop-near.records.items) c.loop-near-test.false c.loop-near.invariant)

@@ -13,14 +13,14 @@ use Rattle.routing.proofs.spread.+add_spread.Goals as goal
 pub add_records-requires-in-None-clause-lines_past : goal.add_records-requires-in-None-clause-lines_past
 add_records-requires-in-None-clause-lines_past g t c =
     let whole = c.open-whole.result in
-    part_all (λ l. l.past ≤ length c.args.table.now) (IsInside whole.rect whole.walls.items) c.args.lines.now _ (c.left_of-left.ensures whole.rect whole.walls.items c.in_ok-part.ensures) c.requires.lines_past
+    part_all (λ l. l.past ≤ length c.args.lined.now.table.now) (IsInside whole.rect whole.walls.items) c.args.lines.now _ (c.left_of-left.ensures whole.rect whole.walls.items c.in_ok-part.ensures) c.requires.lines_past
 
 pub returns-in-None : goal.returns-in-None
 returns-in-None g t c =
     let whole = c.open-whole.result in
     let are = c.left_of-left.ensures whole.rect whole.walls.items c.in_ok-part.ensures in
     let in_rect = subst (λ (r : Rect). (p : Pt) → Contains c.args.pixels.now p → IsIn r p) (sym c.open-whole.ensures.rect) c.box_of.ensures.all in
-    on_ok c.add_records-in-None.result (spread_whole c.args.segments.now c.args.table.now whole.rect whole.walls.items c.args.lines.now c.left_of-left.result.now c.args.pixels.now in_rect c.open-whole.ensures.walls are c.args.records.now.items _) c.add_records-in-None.ensures
+    on_ok c.add_records-in-None.result (spread_whole c.args.lined.now.segments.now c.args.lined.now.table.now whole.rect whole.walls.items c.args.lines.now c.left_of-left.result.now c.args.pixels.now in_rect c.open-whole.ensures.walls are c.args.records.now.items _) c.add_records-in-None.ensures
 
 pub add_spread-requires : goal.add_spread-requires
 add_spread-requires g t c =
@@ -31,14 +31,8 @@ add_spread-requires g t c =
       (
         h,
         (
-          c.requires.segments_in,
-          (
-            c.requires.table_in,
-            (
-              part_all (λ l. l.past ≤ length c.args.table.now) (IsInside whole.rect whole.walls.items) c.args.lines.now _ are c.requires.lines_past,
-              subst (λ (ps : List Pt). All InLimit ps) (sym c.deref.ensures.value) (those_limited c.in-Some.first c.args.pixels.now c.in_ok-some-in-Some.some.items c.in_ok-some-in-Some.ensures c.requires.pixels_in),
-            ),
-          ),
+          part_all (λ l. l.past ≤ length c.args.lined.now.table.now) (IsInside whole.rect whole.walls.items) c.args.lines.now _ are c.requires.lines_past,
+          subst (λ (ps : List Pt). All InLimit ps) (sym c.deref.ensures.value) (those_limited c.in-Some.first c.args.pixels.now c.in_ok-some-in-Some.some.items c.in_ok-some-in-Some.ensures c.requires.pixels_in),
         ),
       ),
     )
@@ -52,14 +46,8 @@ add_spread-requires-in-Some g t c =
       (
         h,
         (
-          c.requires.segments_in,
-          (
-            c.requires.table_in,
-            (
-              part_all (λ l. l.past ≤ length c.args.table.now) (IsInside whole.rect whole.walls.items) c.args.lines.now _ are c.requires.lines_past,
-              subst (λ (ps : List Pt). All InLimit ps) (sym c.deref-in-Some.ensures.value) (those_limited c.in-Some.second c.args.pixels.now c.in_ok-rest-in-Some.rest.items c.in_ok-rest-in-Some.ensures c.requires.pixels_in),
-            ),
-          ),
+          part_all (λ l. l.past ≤ length c.args.lined.now.table.now) (IsInside whole.rect whole.walls.items) c.args.lines.now _ are c.requires.lines_past,
+          subst (λ (ps : List Pt). All InLimit ps) (sym c.deref-in-Some.ensures.value) (those_limited c.in-Some.second c.args.pixels.now c.in_ok-rest-in-Some.rest.items c.in_ok-rest-in-Some.ensures c.requires.pixels_in),
         ),
       ),
     )
@@ -67,8 +55,8 @@ add_spread-requires-in-Some g t c =
 pub returns : goal.returns
 returns g t c =
     let whole = c.open-whole.result in
-    let segments = c.args.segments.now in
-    let table = c.args.table.now in
+    let segments = c.args.lined.now.segments.now in
+    let table = c.args.lined.now.table.now in
     let left = c.left_of-left.result.now in
     let are = c.left_of-left.ensures whole.rect whole.walls.items c.in_ok-part.ensures in
     let in_rect = subst (λ (r : Rect). (p : Pt) → Contains c.args.pixels.now p → IsIn r p) (sym c.open-whole.ensures.rect) c.box_of.ensures.all in

@@ -1,4 +1,4 @@
 use Rattle.routing_tests.proofs.rectangles.parts_few.Goals as goal
 
-pub are_few_rectangles-requires-clause-below : goal.are_few_rectangles-requires-clause-below
-are_few_rectangles-requires-clause-below c = rw (c.deref-3.ensures.value, c.deref-4.ensures.value) (rw c.deref-2.ensures.value at c.in_ok-numbers.ensures.below)
+pub are_few_rectangles-requires : goal.are_few_rectangles-requires
+are_few_rectangles-requires c = rw (c.deref-3.ensures.value, c.deref-4.ensures.value) (rw c.deref-2.ensures.value at c.in_ok-numbers.ensures.below)

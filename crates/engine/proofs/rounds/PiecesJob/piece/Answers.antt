@@ -6,8 +6,8 @@ use Rattle.routing.proofs.PieceLaws.{part_found}
 use Rattle.engine.proofs.Binned.{cell_candidates}
 use Rattle.engine.proofs.rounds.PiecesJob.piece.Goals as goal
 
-pub found_in-requires-clause-below : goal.found_in-requires-clause-below
-found_in-requires-clause-below g c =
+pub found_in-requires : goal.found_in-requires
+found_in-requires g c =
     let job = c.args.self.now in
     (cell_candidates job.grid.now job.segments.now job.bins.now c.args.number c.bin-numbers.result.now job.are_bins c.requires c.bin-numbers.ensures).below
 
