@@ -234,12 +234,11 @@ fn pieces_alone<T: Tiled, A: Allocator + Copy>(
     if cells.tiles() == 1 {
         return one_piece(alloc, cells, limited);
     }
-    let segments = limited.list;
-    let bins = bins_of(alloc, cells, segments)?;
+    let bins = bins_of(alloc, cells, limited.list)?;
     let job: Pieces<T, A> = Pieces {
         grid: cells,
         bins: &bins,
-        segments,
+        limited,
         of: PhantomData,
     };
     in_turn(alloc, &job, cells.tiles())

@@ -35,11 +35,10 @@ use tile_book::{AllPieces, FilledBook, Gate, Job, Limited, MOST_HANDS, Phase, co
 pub(crate) struct Pieces<'a, T: Tiled, A: Allocator> {
     pub grid: &'a Grid,
     pub bins: &'a KeptBins<A>,
-    pub segments: &'a [Seg],
+    pub limited: LimitedSegments<'a>,
     pub of: PhantomData<T>,
-    ghost in_limit: { AllInLimit segments.now },
-    ghost are_bins: { ∥ AreCellBins grid.now segments.now bins.now ∥₁ },
-    ghost are_tiled: { (grid.now ≡ T.grid) × (segments.now ≡ T.segments) },
+    ghost are_bins: { ∥ AreCellBins grid.now limited.list.now bins.now ∥₁ },
+    ghost are_tiled: { (grid.now ≡ T.grid) × (limited.list.now ≡ T.segments) },
 }
 
 impl<'a, T: Tiled, A: Allocator> Pieces<'a, T, A> {
@@ -52,7 +51,7 @@ impl<'a, T: Tiled, A: Allocator> Pieces<'a, T, A> {
         Pieces {
             grid,
             bins,
-            segments: limited.list,
+            limited,
             of: PhantomData,
         }
     }
@@ -65,10 +64,7 @@ impl<T: Tiled, A: Allocator + Copy> Job<A> for Pieces<'_, T, A> {
 
     fn piece(&self, alloc: A, number: u32) -> Result<TilePiece<T, A>, NoMemory> {
         let numbers = self.bins.bin(number);
-        let limited = LimitedSegments {
-            list: self.segments,
-        };
-        let found = found_in(alloc, &self.grid.rect(number), limited, numbers)?;
+        let found = found_in(alloc, &self.grid.rect(number), self.limited, numbers)?;
         Ok(TilePiece::of_part(number, found))
     }
 }
