@@ -7,7 +7,7 @@ use crate::answer::{NO_CALL, detail};
 use columns::{ColumnsFault, OwnedColumns};
 use engine::ColumnsRefused;
 use geom::Fault;
-use std::alloc::Global;
+use std::alloc::Allocator;
 
 /// What a call on columns answers. What doesn't belong to its status is 0.
 #[repr(C)]
@@ -30,7 +30,7 @@ pub struct OverlayColumnsAnswer {
 }
 
 /// The answer that there are these columns.
-pub fn lengths_of(status: u32, columns: &OwnedColumns<Global>) -> OverlayColumnsAnswer
+pub fn lengths_of<A: Allocator>(status: u32, columns: &OwnedColumns<A>) -> OverlayColumnsAnswer
     ensures { result ≡ lengths_answer status (lists_of columns.now) }
 {
     OverlayColumnsAnswer {

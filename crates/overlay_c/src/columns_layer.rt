@@ -8,7 +8,7 @@ use crate::columns_answer::{OverlayColumnsAnswer, answer_of_columns, no_such_cal
 use columns::{Columns, OwnedColumns, Points};
 use engine::{ColumnsOutput, Limits, fitting_side_of_columns, run_columns_alone_within};
 use geom::Op;
-use std::alloc::Global;
+use std::alloc::Allocator;
 
 /// A layer as columns of coordinates and offsets.
 #[repr(C)]
@@ -50,14 +50,14 @@ pub fn columns_from<'a>(layer: &OverlayColumns<'a>) -> Columns<'a>
 }
 
 /// The columns of the result within a limit of segments, or the answer where there are none.
-pub fn columns_result(
-    alloc: Global,
+pub fn columns_result<A: Allocator + Copy>(
+    alloc: A,
     call: u32,
     side: u32,
     limits: Limits,
     a: &OverlayColumns<'_>,
     b: &OverlayColumns<'_>,
-) -> Result<OwnedColumns<Global>, OverlayColumnsAnswer>
+) -> Result<OwnedColumns<A>, OverlayColumnsAnswer>
     ensures { MatchResult result (λ c. IsColumnsResult limits.segments call side (columns_in a.now) (columns_in b.now) (lists_of c)) (λ answer. FailsColumns limits.segments call side (columns_in a.now) (columns_in b.now) answer) }
 {
     let Some(op) = op_of(call) else {

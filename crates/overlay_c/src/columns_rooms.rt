@@ -6,11 +6,11 @@ ghost use Rattle.overlay_c.specs.Columns.{AreKept, HoldsItems, IsPutOrSmall, lis
 use crate::answer::{ANSWERED, SMALL};
 use crate::columns_answer::{OverlayColumnsAnswer, lengths_of};
 use columns::OwnedColumns;
-use std::alloc::Global;
+use std::alloc::Allocator;
 
 /// Puts columns that were made at the beginning of three rooms, where all of them fit.
-pub fn fill_rooms(
-    made: Result<OwnedColumns<Global>, OverlayColumnsAnswer>,
+pub fn fill_rooms<A: Allocator>(
+    made: Result<OwnedColumns<A>, OverlayColumnsAnswer>,
     coordinates: &mut [i32],
     rings: &mut [u32],
     polygons: &mut [u32],
@@ -24,8 +24,8 @@ pub fn fill_rooms(
 }
 
 /// Puts columns at the beginning of three rooms, where all of them fit.
-pub fn put_columns(
-    columns: &OwnedColumns<Global>,
+pub fn put_columns<A: Allocator>(
+    columns: &OwnedColumns<A>,
     coordinates: &mut [i32],
     rings: &mut [u32],
     polygons: &mut [u32],

@@ -10,7 +10,7 @@
 
 ghost use Rattle.std.specs.Prelude.{◌<◌, ◌≤◌, All, IfOk, IfSome, List, OnOk, [], length};
 ghost use Rattle.geom.specs.declared.rect.Rect.{Rect};
-ghost use Rattle.geom.specs.Limit.{AreInLimit, InLimit};
+ghost use Rattle.geom.specs.Limit.{AreInLimit};
 ghost use Rattle.hot_pixel.specs.declared.wall.Wall.{Wall};
 ghost use Rattle.hot_pixel.specs.Candidates.{chosen, AreOwnedHot};
 ghost use Rattle.hot_pixel.specs.Halving.{edges_of, AreReaching, HasHot, HasHotInside};

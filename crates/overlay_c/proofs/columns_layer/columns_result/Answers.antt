@@ -8,12 +8,12 @@ use Rattle.overlay_c.proofs.Telling.{none_of}
 use Rattle.overlay_c.proofs.columns_layer.columns_result.Goals as goal
 
 pub returns-in_default : goal.returns-in_default
-returns-in_default c =
+returns-in_default g c =
     subst (λ (w : OverlayColumnsAnswer). FailsColumns c.args.limits.segments c.args.call c.args.side (columns_in c.args.a.now) (columns_in c.args.b.now) w) (sym c.no_such_call.ensures)
     (no_call (sym c.op_of.ensures ∙ none_of c.op_of.result c.in_default.not-Some))
 
 pub returns : goal.returns
-returns c =
+returns g c =
     let limit = c.args.limits.segments in
     let refused = c.in-Err.refused in
     let first = columns_in c.args.a.now in
