@@ -94,17 +94,27 @@ if __name__ == "__main__":  # which its workers aren't
 STOPPED = [("read", signal.SIGKILL), ("round", signal.SIGKILL), ("labels", signal.SIGKILL), ("round", signal.SIGTERM), ("labels", signal.SIGINT)]
 
 
+def stopped(command, phase, number):
+    """A run that got a signal as soon as the phase's first file was there, what it said, and its
+    workers. One that was done by then is begun once more."""
+    for _ in range(5):
+        process = subprocess.Popen(command, stderr=subprocess.PIPE, text=True)
+        assert until(lambda: begun("files", phase) or process.poll() is not None)
+        children = workers_of(psutil.Process(process.pid)) if process.poll() is None else []
+        process.send_signal(number)
+        said = process.communicate(timeout=60)[1]
+        if not Path("many.gpkg").exists():
+            return process, said, children
+        Path("many.gpkg").unlink()
+    raise AssertionError("each run was done before its signal")
+
+
 @pytest.mark.parametrize("phase, number", STOPPED, ids=lambda held: str(getattr(held, "name", held)))
 def test_a_run_that_is_killed_goes_on(gis, town, tmp_path, phase, number):
     script = tmp_path / "small.py"
     script.write_text(SMALL.format(gis=str(Path(COMMAND).parent)))
     more = ("--engine", "dask", "--workers", "2", "--dir", "files")
-    process = subprocess.Popen([sys.executable, str(script), *words(town, "many.gpkg", *more)], stderr=subprocess.PIPE, text=True)
-    assert until(lambda: begun("files", phase) or process.poll() is not None)
-    children = workers_of(psutil.Process(process.pid)) if process.poll() is None else []
-    process.send_signal(number)
-    said = process.communicate(timeout=60)[1]
-    assert not Path("many.gpkg").exists(), said
+    process, said, children = stopped([sys.executable, str(script), *words(town, "many.gpkg", *more)], phase, number)
     assert until(lambda: not any(child.is_running() and child.status() != psutil.STATUS_ZOMBIE for child in children), 30)
     if number != signal.SIGKILL:
         assert "stopped by" in said.splitlines()[-1] and process.returncode == 1
