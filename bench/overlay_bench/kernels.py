@@ -21,7 +21,7 @@ from . import layers, programs
 from .layers import Polygons
 
 KERNELS = {
-    "crossings": ("geom", "lane_tests", "tiling", "crossing", "tile_book", "hot_pixel", "routing"),
+    "crossings": ("geom", "lane_tests", "tiling", "crossing", "tile_book", "box_lanes", "hot_region", "hot_pixel", "routing"),
     "lanes": ("geom", "lane_tests", "tiling"),
     "reading": ("geom", "wkt"),
 }

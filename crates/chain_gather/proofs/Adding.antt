@@ -9,7 +9,7 @@ use Rattle.std.proofs.lemmas.List.Elements.{Contains-push, Contains-push_cases, 
 use Rattle.std.proofs.lemmas.List.Quantifiers.{all_pairs_push}
 use Rattle.geom.specs.declared.segment.Seg.{Seg}
 use Rattle.grid.specs.Tiles.{Tiling, Owns}
-use Rattle.hot_pixel.proofs.ListLaws.{none_in, in_push}
+use Rattle.hot_region.proofs.ListLaws.{none_in, in_push}
 use Rattle.routing.specs.declared.record.Record.{Record}
 use Rattle.routing.specs.declared.pieces.Piece.{Piece}
 use Rattle.routing.specs.Pieces.{IsPieceOf}

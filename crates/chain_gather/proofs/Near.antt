@@ -12,8 +12,8 @@ use Rattle.grid.specs.Tiles.{Tiling, Owns}
 use Rattle.tiling.specs.Index.{AreIndexed}
 use Rattle.grid.specs.Bins.{IsBin}
 use Rattle.tiling.specs.Bins.{Binned}
-use Rattle.hot_pixel.specs.Candidates.{AreCandidates}
-use Rattle.hot_pixel.proofs.ListLaws.{in_cons, from_cons, here, none_in, head_pair, tail_pairs, pairs_cons}
+use Rattle.hot_region.specs.Candidates.{AreCandidates}
+use Rattle.hot_region.proofs.ListLaws.{in_cons, from_cons, here, none_in, head_pair, tail_pairs, pairs_cons}
 use Rattle.routing.specs.declared.record.Candidate.{Candidate}
 use Rattle.routing.specs.Pieces.{candidates_of}
 use Rattle.routing.proofs.PieceLaws.{in_candidates}

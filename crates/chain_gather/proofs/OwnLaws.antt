@@ -9,7 +9,7 @@ use Rattle.geom.specs.Box.{IsInBox}
 use Rattle.geom.specs.Segments.{same_point}
 use Rattle.geom.proofs.Points.{both_and, same_point_of}
 use Rattle.grid.specs.Tiles.{Tiling, Owns}
-use Rattle.hot_pixel.specs.Candidates.{AreCandidates}
+use Rattle.hot_region.specs.Candidates.{AreCandidates}
 use Rattle.routing.specs.declared.record.Candidate.{Candidate}
 use Rattle.routing.specs.declared.pieces.Piece.{Piece}
 use Rattle.routing.specs.Pieces.{candidates_of, IsPieceOf}

@@ -8,7 +8,7 @@ use Rattle.geom.specs.Box.{IsInBox, greatest_corner, least_corner}
 use Rattle.grid.specs.Tiles.{Tiling, Owns}
 use Rattle.tiling.specs.Index.{AreIndexed}
 use Rattle.tiling.specs.Bins.{Binned}
-use Rattle.hot_pixel.specs.Rects.{IsIn}
+use Rattle.hot_region.specs.Rects.{IsIn}
 use Rattle.routing.specs.declared.record.Record.{Record}
 use Rattle.routing.specs.declared.record.Candidate.{Candidate}
 use Rattle.routing.specs.declared.pieces.Piece.{Piece}

@@ -7,7 +7,7 @@ ghost use Rattle.geom.specs.declared.segment.Source.{Source};
 ghost use Rattle.geom.specs.Rounded.{AreRounded, HasEvenDegrees, edges_of, odd_edges};
 ghost use Rattle.geom.specs.Segments.{AreClosed};
 ghost use Rattle.grid.specs.Tiles.{tile_count, Owns};
-ghost use Rattle.hot_pixel.specs.Candidates.{AreCandidates};
+ghost use Rattle.hot_region.specs.Candidates.{AreCandidates};
 ghost use Rattle.routing.specs.Pieces.{candidates_of};
 ghost use Rattle.linking.specs.Gathered.{AreTileNumbers, HaveTiles};
 ghost use Rattle.chain_gather.specs.Gathered.{AreBinsOf, AreGathered, AreTileCandidates, HoldsOwn, IsCountBelow};

@@ -13,6 +13,7 @@ use crate::inside::directions;
 use cover_law::Border;
 use cover_sets::Covers;
 use geom::{DirectedEdge, NoMemory, Op, add_directions};
+use label_sweep::in_order;
 use std::alloc::Allocator;
 
 /// All edges in their directions.
@@ -37,16 +38,6 @@ fn directed_edges<A: Allocator + Copy>(
         add_directions(&mut list, borders[number].edge, way)?;
     }
     Ok(list)
-}
-
-/// Directed edges in their order, each once.
-fn in_order<A: Allocator>(mut edges: Vec<DirectedEdge, A>) -> Vec<DirectedEdge, A>
-    ensures ascending { AllPairs IsDirectedBefore result.items }
-    ensures same { (d : DirectedEdge) → Contains result.items d ↔ Contains edges.items d }
-{
-    edges.sort_unstable();
-    edges.dedup();
-    edges
 }
 
 /// The directed edges of the result of an operation on two layers that are read as covered, ascending by start, then by end. `covers` has the

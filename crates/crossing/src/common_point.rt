@@ -7,7 +7,7 @@ ghost use Rattle.geom.specs.Pixel.{nearest};
 ghost use Rattle.geom.specs.declared.point.Pt.{Pt};
 ghost use Rattle.crossing.specs.Crossing.{CrossesAt};
 
-use geom::{Pt, RationalPoint, Seg};
+use geom::{Pt, RationalPoint, Seg, wide_product};
 
 /// The pixel of the common point of two segments, unless they are parallel or have none.
 pub fn cross(s: &Seg, t: &Seg) -> Option<Pt>
@@ -101,13 +101,6 @@ fn numerator_at(start: i32, end: i32, det: i64, e: i64) -> i128
     let first = wide_product(det, i64::from(start));
     let rest = wide_product(e, difference(end, start));
     first + rest
-}
-
-/// The product of two numbers, in twice their width.
-fn wide_product(x: i64, y: i64) -> i128
-    ensures { result ≡ x *ℤ y }
-{
-    i128::from(x) * i128::from(y)
 }
 
 /// The difference of two coordinates.

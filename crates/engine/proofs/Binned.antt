@@ -13,7 +13,7 @@ use Rattle.geom.specs.declared.segment.Seg.{Seg}
 use Rattle.geom.proofs.Lists.{contains_in, in_contains}
 use Rattle.grid.specs.Bins.{AreBins, AreRowBins, IsBin, TileBins, TileRows}
 use Rattle.grid.specs.Tiles.{HasTile, Owns, Tiling, tile_count}
-use Rattle.hot_pixel.specs.Candidates.{AreCandidates}
+use Rattle.hot_region.specs.Candidates.{AreCandidates}
 use Rattle.linking.specs.Gathered.{AreBoxesOf, HaveTiles, box_corners, corners}
 use Rattle.linking.proofs.Boxes.{in_same_box, into_bin, member, out_of_bin}
 use Rattle.linking.proofs.Near.{bin_candidates, has_hi, has_lo}
@@ -90,13 +90,6 @@ bins_of_all g from past segments all bins a grid are = record { grid_is = grid �
 -- ---- as candidates
 
 -- the numbers of all segments
-pub all_candidates : (segments : List Seg) (numbers : List ℕ) → length numbers ≡ length segments → ((k d : ℕ) → k < length segments → get_or numbers k d ≡ k) → (Owned : Pt → Type 0) → AreCandidates Owned segments numbers
-all_candidates segments numbers size each Owned = record {
-  ascending = λ k l. let a = each k 0 (omega (arith, l, size)) in let b = each (k + 1) 0 (omega (arith, l, size)) in omega (arith, a, b);
-  below = λ k d l. let m : k < length segments = omega (arith, l, size) in subst (λ (n : ℕ). n < length segments) (sym (each k d m)) m;
-  complete = λ k s c at met inside. let l = slice_get_within segments k s at in (k, omega (arith, l, size), each k k l);
-}
-
 pub cell_candidates : (g : Tiling) (segments : List Seg) (bins : TileBins) (k : ℕ) (list : List ℕ) → ∥ AreCellBins g segments bins ∥₁ → k < tile_count g → list ≡ get_or bins.bins k [] → AreCandidates (Owns g k) segments list
 cell_candidates g segments bins k list are within e = record {
   ascending = ∥∥₁_elim are (hlevel props) (λ h. (at h).ascending);

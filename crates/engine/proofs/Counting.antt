@@ -10,7 +10,7 @@ use Rattle.geom.specs.Hot.{IsHot}
 use Rattle.geom.proofs.Lists.{Distinct, In, contains_in, in_contains}
 use Rattle.linking.proofs.Gathering.{AreCovered}
 use Rattle.linking.proofs.Parts.{IsPart}
-use Rattle.hot_pixel.proofs.ListLaws.{in_map, pairs_cons, pairs_map}
+use Rattle.hot_region.proofs.ListLaws.{in_map, pairs_cons, pairs_map}
 use Rattle.routing.specs.declared.record.Record.{Record}
 use Rattle.routing.specs.Pieces.{IsRecord}
 use Rattle.routing.specs.Steps.{steps_to}

@@ -19,7 +19,7 @@ use Rattle.geom.specs.Operations.{holds}
 use Rattle.geom.specs.Parity.{parity}
 use Rattle.geom.specs.Rings.{Closes}
 use Rattle.geom.specs.Rounded.{HasEvenDegrees, IsEdgeBefore, edges_of, is_odd, odd_edges}
-use Rattle.hot_pixel.proofs.ListLaws.{pairs_map}
+use Rattle.hot_region.proofs.ListLaws.{pairs_map}
 use Rattle.points_law.specs.Law.{AreLayers}
 use Rattle.points_law.proofs.OneResult.{one_directed}
 use Rattle.points_law.proofs.RoundVertex.{closes}

@@ -17,7 +17,7 @@ use Rattle.geom.proofs.Orders.{before_itself}
 use Rattle.geom.proofs.RouteLaws.{order_by_earlier}
 use Rattle.grid.specs.Tiles.{Owns, Tiling, tile_count}
 use Rattle.grid.proofs.Columns.{owner_is}
-use Rattle.hot_pixel.proofs.HotLaws.{hot_meets}
+use Rattle.hot_region.proofs.HotLaws.{hot_meets}
 use Rattle.routing.specs.declared.record.Record.{Record}
 use Rattle.routing.specs.Pieces.{IsAlong, IsPieceOf, IsRecord}
 use Rattle.linking.specs.Gathered.{AreTileNumbers}

@@ -1,6 +1,6 @@
 //! The engine's calls on the calling thread alone, from memory to memory, for a caller that has no threads to lend.
 
-ghost use Rattle.std.specs.Prelude.{ℕ, ◌≡◌, ◌<◌, ◌≤◌, IfOk, MatchResult, get_or, length};
+ghost use Rattle.std.specs.Prelude.{◌≡◌, ◌<◌, ◌≤◌, IfOk, MatchResult, length};
 ghost use Rattle.tile_book.specs.Books.{StandInOrder};
 ghost use Rattle.geom.specs.Rounded.{AreRounded};
 ghost use Rattle.grid.specs.Tiles.{tile_count};
@@ -255,25 +255,11 @@ fn one_piece<T: Tiled, A: Allocator + Copy>(
     ensures one_each { IfOk result (λ v. length v.items ≡ 1) }
     ensures in_order { IfOk result (λ v. StandInOrder (λ p. p.number) v.items) }
 {
-    if limited.list.len() > u32::MAX as usize {
-        return Err(NoMemory);
-    }
-    let numbers = numbers_below(alloc, limited.list.len() as u32)?;
+    let numbers = limited.numbers(alloc)?;
     let found = found_in(alloc, &cells.rect(0), limited, &numbers)?;
     let mut pieces = Vec::with_capacity(alloc, 1)?;
     pieces.push(TilePiece::of_part(0, found))?;
     Ok(pieces)
-}
-
-/// The numbers below a count.
-fn numbers_below<A: Allocator>(alloc: A, count: u32) -> Result<Vec<u32, A>, NoMemory>
-    ensures { IfOk result (λ v. (length v.items ≡ count) × ((k d : ℕ) → k < count → get_or v.items k d ≡ k)) }
-{
-    let mut numbers = Vec::with_capacity(alloc, count as usize)?;
-    for number in 0..count {
-        numbers.push(number)?;
-    }
-    Ok(numbers)
 }
 
 /// The pieces of the numbers below a limit, made one after another.

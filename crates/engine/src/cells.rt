@@ -17,7 +17,7 @@ ghost use Rattle.engine.specs.Rounds.{AreCellBins};
 
 use geom::{NoMemory, Rect, Seg};
 use grid::{GREATEST_SIDE, Grid, KeptBins, LEAST_SIDE, MOST_CELLS};
-use hot_pixel::FEW;
+use hot_region::FEW;
 use layers::joint_bounds;
 use std::alloc::Allocator;
 

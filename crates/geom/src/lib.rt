@@ -33,5 +33,5 @@ pub use rational::RationalPoint;
 pub use rect::Rect;
 pub use ring::{Layer, Polygon, Ring, SimpleRing};
 pub use segment::{Seg, Source};
-pub use vector::Vector;
+pub use vector::{Vector, wide_product};
 pub use ways::add_directions;

@@ -1,6 +1,6 @@
 //! Vectors between points, and their determinants.
 
-ghost use Rattle.std.specs.Prelude.{◌≡◌, ◌^◌};
+ghost use Rattle.std.specs.Prelude.{◌≡◌, ◌^◌, ◌*ℤ◌};
 ghost use Rattle.geom.specs.Limit.{IsWithin};
 ghost use Rattle.geom.specs.Determinant.{determinant};
 
@@ -23,4 +23,11 @@ impl Vector {
         let second = self.dy * other.dx;
         first - second
     }
+}
+
+/// The product of two numbers, in twice their width.
+pub fn wide_product(x: i64, y: i64) -> i128
+    ensures { result ≡ x *ℤ y }
+{
+    i128::from(x) * i128::from(y)
 }

@@ -1,16 +1,2 @@
-pub mod ListLaws
-pub mod HotLaws
-pub mod LineLaws
+pub mod PairCounts
 pub mod SweepLaws
-pub mod CandidateLaws
-pub mod HalvingLaws
-pub mod NearLaws
-pub mod OrderLaws
-pub mod BundleLaws
-pub mod EndLaws
-pub mod CarrierLaws
-pub mod BesideLaws
-pub mod WallLaws
-pub mod ReachLaws
-pub mod BoxLaws
-pub mod PairLaws

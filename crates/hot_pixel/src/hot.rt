@@ -3,7 +3,8 @@
 ghost use Rattle.std.specs.Prelude.{◌≡◌, ◌+◌, ◌<◌, ◌≤◌, All, IfOk};
 ghost use Rattle.geom.specs.Limit.{AreInLimit};
 ghost use Rattle.grid.specs.Tiles.{tile_count, Owns};
-ghost use Rattle.hot_pixel.specs.Candidates.{chosen, meeting_pairs, AreCandidates, AreOwnedHot};
+ghost use Rattle.hot_region.specs.Candidates.{chosen, AreCandidates, AreOwnedHot};
+ghost use Rattle.hot_pixel.specs.Pairs.{meeting_pairs};
 
 use crate::tile_sweep::sweep_tile;
 use geom::{NoMemory, Pt, Seg};

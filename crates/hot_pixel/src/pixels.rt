@@ -1,31 +1,17 @@
-//! Lists of the pixels that a tile owns.
+//! The ends and the crossings of lines that lie in a tile.
 
-ghost use Rattle.std.specs.Prelude.{◌≡◌, ◌↔◌, ◌+◌, ◌≤◌, ◌≤ℤ◌, All, AllPairs, Contains, IfOk, IfSome, IsTrue, OnOk, Some, count_by};
-ghost use Rattle.geom.specs.declared.point.Pt.{Pt};
+ghost use Rattle.std.specs.Prelude.{◌+◌, ◌≤◌, All, IfOk, OnOk, count_by};
 ghost use Rattle.geom.specs.Limit.{AreInLimit};
-ghost use Rattle.geom.specs.Order.{IsBefore};
-ghost use Rattle.hot_pixel.specs.Lines.{lines_meet, CrossAt, HasCrossed, HasEnds, HasPushed};
+ghost use Rattle.hot_region.specs.Lines.{HasCrossed};
+ghost use Rattle.hot_pixel.specs.Pairs.{lines_meet};
+ghost use Rattle.hot_pixel.specs.SegmentLines.{HasEnds};
 
-use crate::lines::on_line;
 use crossing::{cross, may_meet};
 use geom::{Edge, NoMemory, Pt, Rect};
 use grid::Count;
+use hot_region::{on_line, push_in};
 use std::alloc::Allocator;
 use std::sync::ledger::Ledger;
-
-/// Adds a pixel, if the tile has it.
-pub(crate) fn push_in<A: Allocator>(
-    found: &mut Vec<Pt, A>,
-    tile: &Rect,
-    pixel: Pt,
-) -> Result<(), NoMemory>
-    ensures { OnOk result (HasPushed tile.now pixel found.old.items found.new.items) }
-{
-    if tile.holds(pixel) {
-        found.push(pixel)?;
-    }
-    Ok(())
-}
 
 /// The ends of the lines that lie in the tile.
 pub(crate) fn ends_in<A: Allocator>(
@@ -41,16 +27,6 @@ pub(crate) fn ends_in<A: Allocator>(
         push_in(&mut found, tile, line.q)?;
     }
     Ok(found)
-}
-
-/// The same pixels, ascending and each once.
-pub fn ascending<A: Allocator>(mut pixels: Vec<Pt, A>) -> Vec<Pt, A>
-    ensures order { AllPairs IsBefore result.items }
-    ensures same { (c : Pt) → Contains result.items c ↔ Contains pixels.items c }
-{
-    pixels.sort_unstable();
-    pixels.dedup();
-    pixels
 }
 
 /// Adds the crossings of a line with other lines that lie in the tile. It ticks at each ask of `cross`.

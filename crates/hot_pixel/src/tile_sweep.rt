@@ -3,14 +3,16 @@
 ghost use Rattle.std.specs.Prelude.{◌≡◌, ◌+◌, ◌<◌, ◌≤◌, All, AllPairs, IfOk, OnOk, filter, int_le, length};
 ghost use Rattle.geom.specs.Limit.{AreInLimit};
 ghost use Rattle.geom.specs.Rounded.{IsEdgeBefore};
-ghost use Rattle.hot_pixel.specs.Rects.{IsIn};
-ghost use Rattle.hot_pixel.specs.Candidates.{chosen, meeting_pairs, AreOwnedHot};
-ghost use Rattle.hot_pixel.specs.Lines.{line_pairs, HasAllCrossed};
+ghost use Rattle.hot_region.specs.Rects.{IsIn};
+ghost use Rattle.hot_region.specs.Candidates.{chosen, AreOwnedHot};
+ghost use Rattle.hot_region.specs.Lines.{HasAllCrossed};
+ghost use Rattle.hot_pixel.specs.Pairs.{line_pairs, meeting_pairs};
 
 use crate::lines::lines;
-use crate::pixels::{ascending, cross_all, ends_in};
+use crate::pixels::{cross_all, ends_in};
 use geom::{Edge, NoMemory, Pt, Rect, Seg};
 use grid::Count;
+use hot_region::ascending;
 use std::alloc::Allocator;
 use std::sync::ledger::Ledger;
 

@@ -13,7 +13,7 @@ ghost use Rattle.label_sweep.specs.Column.{AreCrossing, HaveCrossing};
 ghost use Rattle.label_sweep.specs.Heights.{IsMeasured, crosses, is_above};
 
 use crate::standing::Spoke;
-use geom::{Counted, NoMemory, Pt};
+use geom::{Counted, NoMemory, Pt, wide_product};
 use std::alloc::Allocator;
 use std::cmp::Ordering;
 
@@ -44,13 +44,6 @@ impl CrossingEdge {
             run: along.dx,
         }
     }
-}
-
-/// The product of two numbers, in twice their width.
-fn wide_product(x: i64, y: i64) -> i128
-    ensures { result ≡ x *ℤ y }
-{
-    i128::from(x) * i128::from(y)
 }
 
 /// By height, the highest first.

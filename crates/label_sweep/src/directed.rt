@@ -43,7 +43,7 @@ pub fn directed_edges<A: Allocator + Copy>(
     Ok(edges)
 }
 
-/// Directed edges in their order, each once: a look at each where they ascend.
+/// Directed edges by their starts, then by their ends, each once: a look at each where they ascend.
 pub fn in_order<A: Allocator>(mut edges: Vec<DirectedEdge, A>) -> Vec<DirectedEdge, A>
     ensures ascending { AllPairs IsDirectedBefore result.items }
     ensures same { (d : DirectedEdge) → Contains result.items d ↔ Contains edges.items d }

@@ -30,7 +30,7 @@ mod turn;
 mod vertices;
 
 pub use changing::changing_edges;
-pub use directed::{layer_labels, layer_labels_in_parts};
+pub use directed::{in_order, layer_labels, layer_labels_in_parts};
 pub use laws::{
     changing_are_layers, changing_bound, ends_are_level, first_left, left_of_first, left_of_next,
     right_is_beyond, search_is_monotone, standing_reaches, standing_stays, strips_make_result,

@@ -25,7 +25,7 @@ use Rattle.feature_links.specs.declared.link.FeatureLink.{FeatureLink}
 use Rattle.feature_links.specs.Groups.{AreFeatureLinks, AreGroups, link_of}
 use Rattle.feature_links.specs.Odd.{AreOdd, same_link}
 use Rattle.feature_links.proofs.GroupLaws.{groups_are_borders, is_below, some_first}
-use Rattle.hot_pixel.proofs.ListLaws.{pairs_map}
+use Rattle.hot_region.proofs.ListLaws.{pairs_map}
 use Rattle.linking.specs.Links.{AreFeatureRouteLinks, same_edge, wanted_steps}
 use Rattle.linking.proofs.Ordering.{Ordered, ordered}
 use Rattle.linking.proofs.OddParts.{odd_occurs}

@@ -16,8 +16,8 @@ use Rattle.geom.proofs.Lists.{contains_in, in_contains, some_same}
 use Rattle.geom.proofs.Orders.{before_itself}
 use Rattle.grid.specs.Tiles.{HasTile, Owns, Tiling, steps, tile_count}
 use Rattle.grid.proofs.Columns.{owner_is, pos_same}
-use Rattle.hot_pixel.proofs.HotLaws.{hot_meets}
-use Rattle.hot_pixel.proofs.ListLaws.{head_pair, here as first, in_cons, in_push, in_take_more, none_in, pairs_cons, tail_pairs}
+use Rattle.hot_region.proofs.HotLaws.{hot_meets}
+use Rattle.hot_region.proofs.ListLaws.{head_pair, here as first, in_cons, in_push, in_take_more, none_in, pairs_cons, tail_pairs}
 use Rattle.routing.specs.declared.record.Record.{Record}
 use Rattle.routing.specs.Pieces.{IsPartOf, IsPieceOf, IsRecord}
 use Rattle.linking.specs.Ends.{ends_from}

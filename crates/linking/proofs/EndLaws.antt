@@ -11,9 +11,9 @@ use Rattle.geom.specs.declared.segment.Seg.{Seg}
 use Rattle.geom.proofs.Lists.{some_same}
 use Rattle.geom.proofs.Points.{and_both}
 use Rattle.grid.specs.Tiles.{Tiling, tile_count}
-use Rattle.hot_pixel.proofs.CandidateLaws.{at_contains}
-use Rattle.hot_pixel.proofs.HotLaws.{hot_meets}
-use Rattle.hot_pixel.proofs.ListLaws.{from_cons, here, in_cons, in_filter, in_push, none_in}
+use Rattle.hot_region.proofs.CandidateLaws.{at_contains}
+use Rattle.hot_region.proofs.HotLaws.{hot_meets}
+use Rattle.hot_region.proofs.ListLaws.{from_cons, here, in_cons, in_filter, in_push, none_in}
 use Rattle.routing.specs.declared.record.Record.{Record}
 use Rattle.routing.specs.Pieces.{IsEnd, IsEndRecord, IsRecord}
 use Rattle.routing.specs.Recording.{IsRecordAt}

@@ -18,7 +18,7 @@ use Rattle.geom.specs.Route.{Meets, IsEarlier, IsRoute, AreRoutes}
 use Rattle.geom.specs.Route.AreRoutes.{none, next}
 use Rattle.geom.specs.Rounded.{joins}
 use Rattle.geom.proofs.Lists.{some_same}
-use Rattle.hot_pixel.proofs.ListLaws.{in_cons, here, in_filter, in_map, head_pair, tail_pairs, pairs_map, filter_none, no_one}
+use Rattle.hot_region.proofs.ListLaws.{in_cons, here, in_filter, in_map, head_pair, tail_pairs, pairs_map, filter_none, no_one}
 use Rattle.routing.specs.declared.record.Record.{Record}
 use Rattle.routing.specs.Steps.{steps_to}
 use Rattle.routing.specs.Pieces.{IsRecord}

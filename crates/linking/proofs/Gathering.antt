@@ -9,9 +9,9 @@ use Rattle.geom.specs.declared.point.Pt.{Pt}
 use Rattle.geom.specs.declared.segment.Seg.{Seg}
 use Rattle.geom.specs.Route.{Meets}
 use Rattle.grid.specs.Tiles.{Tiling, Owns, HasTile, tile_count}
-use Rattle.hot_pixel.proofs.ListLaws.{none_in}
+use Rattle.hot_region.proofs.ListLaws.{none_in}
 use Rattle.geom.proofs.Lists.{some_same}
-use Rattle.hot_pixel.proofs.HotLaws.{hot_meets}
+use Rattle.hot_region.proofs.HotLaws.{hot_meets}
 use Rattle.routing.specs.declared.record.Record.{Record}
 use Rattle.routing.specs.Steps.{steps_to}
 use Rattle.routing.specs.Pieces.{IsRecord, IsPieceOf}

@@ -18,7 +18,7 @@ use Rattle.linking.specs.declared.link.Link.{Link}
 use Rattle.linking.specs.Links.{AreCounts, AreInOrder, GoBefore, count_links, is_of}
 use Rattle.linking.specs.Orders.{link_order}
 use Rattle.linking.specs.Shares.{AreKeysBelow, column_of}
-use Rattle.hot_pixel.proofs.ListLaws.{tail_pairs}
+use Rattle.hot_region.proofs.ListLaws.{tail_pairs}
 use Rattle.linking.proofs.Counted.{pairs_append}
 use Rattle.linking.proofs.ShareLaws.{first_apart}
 use Rattle.linking.proofs.Tally.{IsExact, link_total, linked, no_counts, sorted_edges}

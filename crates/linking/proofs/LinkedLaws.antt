@@ -15,8 +15,8 @@ use Rattle.geom.specs.declared.point.Pt.{Pt}
 use Rattle.geom.specs.declared.edge.Edge.{Edge}
 use Rattle.geom.specs.declared.segment.Seg.{Seg}
 use Rattle.grid.specs.Tiles.{HasTile, Owns, Tiling, tile_count}
-use Rattle.hot_pixel.proofs.HotLaws.{hot_meets}
-use Rattle.hot_pixel.proofs.ListLaws.{none_in, tail_pairs}
+use Rattle.hot_region.proofs.HotLaws.{hot_meets}
+use Rattle.hot_region.proofs.ListLaws.{none_in, tail_pairs}
 use Rattle.routing.specs.declared.record.Record.{Record}
 use Rattle.routing.specs.Pieces.{IsRecord}
 use Rattle.routing.proofs.RecordOrder.{record_total}

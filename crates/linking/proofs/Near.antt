@@ -8,7 +8,7 @@ use Rattle.geom.proofs.Meaning.{met_pixels_are_in_bounds}
 use Rattle.geom.proofs.Numbers.{itself}
 use Rattle.grid.specs.Tiles.{Tiling, Owns}
 use Rattle.grid.specs.Bins.{IsBin}
-use Rattle.hot_pixel.specs.Candidates.{AreCandidates}
+use Rattle.hot_region.specs.Candidates.{AreCandidates}
 use Rattle.linking.specs.Gathered.{AreBoxesOf, box_corners}
 use Rattle.linking.proofs.Boxes.{below_bin, into_bin}
 

@@ -20,7 +20,7 @@ use Rattle.cover_law.proofs.InRow.{some_odd}
 use Rattle.feature_links.specs.declared.link.FeatureLink.{FeatureLink}
 use Rattle.feature_links.specs.Odd.{AreInOrder, AreOdd, IsLinkBefore, same_link}
 use Rattle.feature_links.proofs.OddLaws.{link_path, none_odd, same_true}
-use Rattle.hot_pixel.proofs.ListLaws.{tail_pairs}
+use Rattle.hot_region.proofs.ListLaws.{tail_pairs}
 use Rattle.linking.specs.Orders.{feature_link_order}
 use Rattle.linking.specs.Shares.{AreKeysBelow, feature_column_of}
 use Rattle.linking.proofs.Counted.{pairs_append}

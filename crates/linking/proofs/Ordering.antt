@@ -13,7 +13,7 @@ use Rattle.geom.proofs.Edges.PtOrder.{before, equal, after}
 use Rattle.geom.proofs.ListOrder.{pairs_head, pairs_tail}
 use Rattle.geom.proofs.Lists.{In, contains_in, in_contains, some_same}
 use Rattle.geom.proofs.Orders.{before_itself, before_trans}
-use Rattle.hot_pixel.proofs.ListLaws.{none_in, pairs_cons}
+use Rattle.hot_region.proofs.ListLaws.{none_in, pairs_cons}
 use Rattle.routing.specs.declared.record.Record.{Record}
 use Rattle.routing.specs.Pieces.{IsAlong, IsPieceOf, IsRecord}
 use Rattle.routing.specs.Steps.{steps_to}

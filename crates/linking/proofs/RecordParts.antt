@@ -7,7 +7,7 @@ use Rattle.std.proofs.lemmas.Bool.Decides.{eqb_tells}
 use Rattle.std.proofs.lemmas.List.{get_or-append-add, get_or_append_left, length-append}
 use Rattle.std.proofs.lemmas.List.Sums.{sum_by-append, sum_by-cons}
 use Rattle.geom.specs.declared.edge.Edge.{Edge}
-use Rattle.hot_pixel.proofs.ListLaws.{no_one}
+use Rattle.hot_region.proofs.ListLaws.{no_one}
 use Rattle.routing.specs.declared.record.Record.{Record}
 use Rattle.linking.specs.Links.{AreNeighbourLinks, ChangesSegment, makes, passes_at, record_pairs}
 

@@ -23,7 +23,7 @@ use Rattle.geom.proofs.Lists.{some_same}
 use Rattle.geom.proofs.Meaning.{met_pixels_are_in_bounds}
 use Rattle.geom.proofs.Points.{and_both}
 use Rattle.grid.specs.Tiles.{Tiling, tile_count}
-use Rattle.hot_pixel.proofs.ListLaws.{from_cons, in_filter, none_in, pairs_cons}
+use Rattle.hot_region.proofs.ListLaws.{from_cons, in_filter, none_in, pairs_cons}
 use Rattle.routing.specs.declared.record.Record.{Record}
 use Rattle.routing.specs.Pieces.{IsEnd, IsEndRecord, IsInnerRecord, IsRecord}
 use Rattle.routing.specs.Recording.{IsRecordAt}

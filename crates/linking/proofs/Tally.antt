@@ -19,7 +19,7 @@ use Rattle.geom.specs.declared.edge.Counted.{Counted}
 use Rattle.geom.specs.Segments.{same_source}
 use Rattle.geom.specs.Rounded.{IsEdgeBefore}
 use Rattle.geom.proofs.Points.{and_both, same_point_refl}
-use Rattle.hot_pixel.proofs.ListLaws.{in_cons, here, none_in, in_push, in_take_more, no_one, no_true}
+use Rattle.hot_region.proofs.ListLaws.{in_cons, here, none_in, in_push, in_take_more, no_one, no_true}
 use Rattle.linking.specs.Orders.{layer_number, link_order}
 use Rattle.geom.proofs.Orders.{edge_cmp, edge_total, edge_ranks, edge_before_itself, edge_before_trans, same_edge_true}
 use Rattle.linking.specs.declared.link.Link.{Link}

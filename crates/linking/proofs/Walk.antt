@@ -19,7 +19,7 @@ use Rattle.geom.specs.Rounded.{AreRounded, joins, route_steps}
 use Rattle.geom.proofs.Points.{and_both, same_point_true}
 use Rattle.geom.proofs.Edges.{before_strict}
 use Rattle.geom.proofs.Lists.{some_same}
-use Rattle.hot_pixel.proofs.ListLaws.{no_one, no_true}
+use Rattle.hot_region.proofs.ListLaws.{no_one, no_true}
 use Rattle.routing.specs.declared.record.Record.{Record}
 use Rattle.routing.specs.Steps.{steps_to}
 use Rattle.routing.specs.Pieces.{IsRecord}

@@ -14,8 +14,8 @@ use Rattle.geom.specs.Limit.{AreInLimit}
 use Rattle.geom.specs.EdgeOrder.{IsEdgeBefore}
 use Rattle.geom.specs.Rounded.{edges_of}
 use Rattle.grid.specs.Tiles.{Tiling, Owns}
-use Rattle.hot_pixel.specs.Rects.{IsIn}
-use Rattle.hot_pixel.proofs.ListLaws.{in_cons, from_cons, here, none_in, head_pair, tail_pairs, pairs_cons, in_map}
+use Rattle.hot_region.specs.Rects.{IsIn}
+use Rattle.hot_region.proofs.ListLaws.{in_cons, from_cons, here, none_in, head_pair, tail_pairs, pairs_cons, in_map}
 use Rattle.noding_test.specs.Verdicts.{common_corner, chosen_edges, AreNear, IsOwnBad, IsLeastPair}
 use Rattle.noding_test.proofs.VerdictLaws.{corner_is_common}
 

@@ -12,7 +12,7 @@ use Rattle.geom.specs.Box.{IsInBox}
 use Rattle.geom.specs.Rounded.{edges_of}
 use Rattle.geom.proofs.Points.{both_and, same_point_of}
 use Rattle.grid.specs.Tiles.{Tiling, Owns}
-use Rattle.hot_pixel.specs.Rects.{IsIn}
+use Rattle.hot_region.specs.Rects.{IsIn}
 use Rattle.linking.proofs.Boxes.{in_same_box}
 use Rattle.chain_gather.proofs.Near.{one_rect}
 use Rattle.chain_gather.proofs.OwnLaws.{same_rect}

@@ -10,7 +10,7 @@ use Rattle.geom.specs.Box.{IsInBox, greatest_corner, least_corner}
 use Rattle.geom.specs.Noded.{IsLeastBad, IsPairBefore}
 use Rattle.tiling.specs.Bins.{Binned}
 use Rattle.grid.specs.Tiles.{Tiling, Owns, HasTile}
-use Rattle.hot_pixel.specs.Rects.{IsIn}
+use Rattle.hot_region.specs.Rects.{IsIn}
 use Rattle.linking.specs.Gathered.{AreBoxesBy}
 use Rattle.chain_gather.specs.Gathered.{AreBinsBy}
 use Rattle.linking.specs.declared.rounded.Rounded.{Rounded}

@@ -7,7 +7,7 @@ ghost use Rattle.geom.specs.EdgeOrder.{IsEdgeBefore};
 ghost use Rattle.geom.specs.Noded.{IsBad};
 ghost use Rattle.geom.specs.Rounded.{edges_of};
 ghost use Rattle.grid.specs.Tiles.{tile_count, Owns};
-ghost use Rattle.hot_pixel.specs.Rects.{IsIn};
+ghost use Rattle.hot_region.specs.Rects.{IsIn};
 ghost use Rattle.noding_test.specs.Verdicts.{chosen_edges, common_corner, AreNear, IsLeastPair, IsOwnBad};
 ghost use Rattle.noding_test.specs.Search.{IsFirstPartner};
 

@@ -1,6 +1,6 @@
 //! Verdicts: the least bad pair of edges of a tile.
 
-ghost use Rattle.hot_pixel.specs.Rects.{IsIn};
+ghost use Rattle.hot_region.specs.Rects.{IsIn};
 ghost use Rattle.noding_test.specs.Verdicts.{IsLeastPair, IsOwnBad};
 
 use geom::{Edge, Rect};

@@ -14,9 +14,9 @@ use Rattle.geom.specs.Route.{Meets}
 use Rattle.geom.proofs.Lists.{count-cons}
 use Rattle.geom.proofs.Meaning.{met_pixels_are_in_bounds}
 use Rattle.geom.proofs.Tests.{le_told, le_untold}
-use Rattle.hot_pixel.proofs.ListLaws.{head_pair, tail_pairs}
+use Rattle.hot_region.proofs.ListLaws.{head_pair, tail_pairs}
 use Rattle.grid.specs.Tiles.{BoundsHold}
-use Rattle.hot_pixel.specs.Rects.{IsIn}
+use Rattle.hot_region.specs.Rects.{IsIn}
 use Rattle.linking.proofs.Covering.{inside}
 use Rattle.strips_law.specs.Strips.{crosses, strip_at, strip_of}
 use Rattle.strips_law.proofs.Columns.{within_cuts}

@@ -8,29 +8,19 @@ use Rattle.geom.specs.declared.rect.Rect.{Rect}
 use Rattle.geom.specs.declared.segment.Seg.{Seg}
 use Rattle.geom.specs.Route.{Meets}
 use Rattle.geom.proofs.Orders.{IsSortedOnce}
-use Rattle.hot_pixel.specs.Candidates.{AreCandidates, AreOwnedHot, chosen}
-use Rattle.hot_pixel.specs.Rects.{IsIn}
-use Rattle.hot_pixel.proofs.ListLaws.{none_in}
+use Rattle.hot_region.specs.Candidates.{AreCandidates, AreOwnedHot, chosen}
+use Rattle.hot_region.specs.Rects.{IsIn}
+use Rattle.hot_region.proofs.ListLaws.{none_in}
 use Rattle.routing.specs.declared.record.Record.{Record}
 use Rattle.routing.specs.Found.{HasInnerRecords}
-use Rattle.routing.specs.Pieces.{IsPieceOf, IsRecord, candidates_of}
+use Rattle.routing.specs.Pieces.{AreAllNumbers, IsPieceOf, IsRecord, candidates_of}
 use Rattle.routing.specs.Recording.{AddsEnds}
-use Rattle.routing.proofs.PieceLaws.{all_found, piece_found, piece_of_all}
+use Rattle.routing.proofs.PieceLaws.{all_candidates, all_found, piece_found, piece_of_all}
 use Rattle.routing.proofs.RecordOrder.{record_cmp}
 use Rattle.linking.proofs.Gathering.{record_before}
 use Rattle.phases.specs.Records.{AreRecordsIn}
 
-module _ (segments : List Seg) (numbers : List ℕ) (size : length numbers ≡ length segments) (each : (k d : ℕ) → k < length segments → get_or numbers k d ≡ k) where
-  pub all_below : All (λ k. k < length segments) numbers
-  all_below k d l = let m : k < length segments = omega (arith, l, size) in subst (λ (n : ℕ). n < length segments) (sym (each k d m)) m
-
-  all_candidates : (In : Pt → Type 0) → AreCandidates In segments numbers
-  all_candidates In = record {
-    ascending = λ k l. let a = each k 0 (omega (arith, l, size)) in let b = each (k + 1) 0 (omega (arith, l, size)) in omega (arith, a, b);
-    below = all_below;
-    complete = λ k s c at met inside. let l = slice_get_within segments k s at in (k, omega (arith, l, size), each k k l);
-  }
-
+module _ (segments : List Seg) (numbers : List ℕ) (are : AreAllNumbers segments numbers) where
   pub records_found : (tile : Rect) (pixels : List Pt) (inner found records : List Record) → AreOwnedHot (IsIn tile) (chosen segments numbers) pixels → HasInnerRecords (candidates_of segments numbers) pixels inner → AddsEnds tile segments numbers inner found
       → IsSortedOnce record_cmp found records → AreRecordsIn (IsIn tile) segments records
   records_found tile pixels inner found records hot has ends once = record {
@@ -39,7 +29,7 @@ module _ (segments : List Seg) (numbers : List ℕ) (size : length numbers ≡ l
   }
     where
       piece : IsPieceOf (IsIn tile) segments (length pixels) records
-      piece = piece_of_all (IsIn tile) segments numbers tile (candidates_of segments numbers) (length pixels) records (λ c. (λ h. h, λ h. h)) (all_candidates (IsIn tile)) refl
+      piece = piece_of_all (IsIn tile) segments numbers tile (candidates_of segments numbers) (length pixels) records (λ c. (λ h. h, λ h. h)) (all_candidates segments numbers are (IsIn tile)) refl
           (piece_found segments numbers tile pixels (candidates_of segments numbers) found records (length pixels) hot refl (all_found segments numbers tile pixels inner found hot has ends) once refl)
 
       known : (i : ℕ) (d : Record) → i < length records → IsRecord segments (get_or records i d)

@@ -10,7 +10,7 @@ use Rattle.geom.specs.declared.edge.Counted.{Counted}
 use Rattle.geom.specs.declared.edge.Edge.{Edge}
 use Rattle.geom.specs.EdgeOrder.{IsEdgeBefore}
 use Rattle.geom.proofs.Orders.{edge_before_trans, edge_cmp, edge_ranks}
-use Rattle.hot_pixel.proofs.ListLaws.{in_push, in_take_more, none_in}
+use Rattle.hot_region.proofs.ListLaws.{in_push, in_take_more, none_in}
 use Rattle.linking.proofs.Counted.{pairs_append}
 use Rattle.phases.specs.Merged.{AreAscending, AreMerged, AreOthers}
 

@@ -5,7 +5,7 @@ use Rattle.std.proofs.lemmas.Bool.{cases_eq}
 use Rattle.std.proofs.lemmas.List.{get_or-replicate, get_or-set_other, get_or-set_same, length-replicate, length-set}
 use Rattle.std.proofs.lemmas.List.Elements.{Contains-push, Contains-push_cases}
 use Rattle.std.proofs.lemmas.Option.{get_or_from_slice_get, slice_get-get_or, slice_get_within}
-use Rattle.hot_pixel.proofs.ListLaws.{in_push, none_in}
+use Rattle.hot_region.proofs.ListLaws.{in_push, none_in}
 use Rattle.routing.specs.declared.record.Record.{Record}
 use Rattle.phases.specs.Nearest.{AreNearest, IsAsNear, IsNearest}
 use Rattle.phases.specs.declared.nearest.Side.{Side}

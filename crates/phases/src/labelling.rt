@@ -19,7 +19,7 @@ ghost use Rattle.phases.specs.Labels.{AreOfStrip, ComeInto, EdgesAreOfStrips, Te
 
 use crate::lines::strip_at;
 use geom::{Counted, DirectedEdge, NoMemory, Op};
-use label_sweep::{changing_edges, strip_labels};
+use label_sweep::{changing_edges, in_order, strip_labels};
 use std::alloc::Allocator;
 
 /// Whether an edge begins in a strip.
@@ -129,16 +129,6 @@ pub fn labels<A: Allocator + Copy>(
         → IfOk result (λ edges. AreResultEdgesAlong op counted own.now edges.items) }
 {
     strip_labels(alloc, crossing, own, op)
-}
-
-/// Directed edges in their order, each once.
-fn in_order<A: Allocator>(mut edges: Vec<DirectedEdge, A>) -> Vec<DirectedEdge, A>
-    ensures ascending { AllPairs IsDirectedBefore result.items }
-    ensures same { (d : DirectedEdge) → Contains result.items d ↔ Contains edges.items d }
-{
-    edges.sort_unstable();
-    edges.dedup();
-    edges
 }
 
 /// The directed edges of the result of an operation, strip by strip, whatever the cuts are.

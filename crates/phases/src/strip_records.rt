@@ -4,7 +4,7 @@ ghost use Rattle.std.specs.Prelude.{◌≡◌, ◌↔◌, ◌<◌, ◌≤◌, �
 ghost use Rattle.geom.specs.declared.point.Pt.{Pt};
 ghost use Rattle.geom.specs.Limit.{AreInLimit};
 ghost use Rattle.grid.specs.Tiles.{AreBounds, BoundsHold};
-ghost use Rattle.hot_pixel.specs.Rects.{IsIn};
+ghost use Rattle.hot_region.specs.Rects.{IsIn};
 ghost use Rattle.strips_law.specs.Strips.{IsInStrip, segments_of, strip_at, strip_of};
 ghost use Rattle.phases.specs.Records.{AreRecordsIn};
 
@@ -40,17 +40,6 @@ fn box_of(segments: &[Seg]) -> Rect
         bounds = bounds.with(s.a).with(s.b);
     }
     bounds
-}
-
-/// The numbers below a count.
-fn numbers_below<A: Allocator>(alloc: A, count: u32) -> Result<Vec<u32, A>, NoMemory>
-    ensures { IfOk result (λ v. (length v.items ≡ count) × ((k d : ℕ) → k < count → get_or v.items k d ≡ k)) }
-{
-    let mut numbers = Vec::with_capacity(alloc, count as usize)?;
-    for number in 0..count {
-        numbers.push(number)?;
-    }
-    Ok(numbers)
 }
 
 /// The first column of a box in a strip or behind it.
@@ -111,10 +100,7 @@ fn records_in<A: Allocator + Copy>(
 ) -> Result<Vec<Record, A>, NoMemory>
     ensures { IfOk result (λ v. AreRecordsIn (IsIn tile.now) limited.entry.list.now v.items) }
 {
-    if limited.list.len() > u32::MAX as usize {
-        return Err(NoMemory);
-    }
-    let numbers = numbers_below(alloc, limited.list.len() as u32)?;
+    let numbers = limited.numbers(alloc)?;
     let Part {
         pixels,
         mut records,

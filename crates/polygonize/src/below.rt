@@ -9,7 +9,7 @@ ghost use Rattle.polygonize.specs.Below.{HasGapRoom, IsAsNear, IsGap, IsGapOf, I
 ghost use Rattle.polygonize.specs.Next.{edge_at};
 
 use crate::closing_edges::ClosingEdges;
-use geom::{DirectedEdge, Edge, Pt};
+use geom::{DirectedEdge, Edge, Pt, wide_product};
 
 /// The gap between an edge and a point just left of a vertex above it: (side + rise / 2^64) / run grid units.
 #[derive(Clone, Copy)]
@@ -61,28 +61,21 @@ pub fn gap_below(edge: DirectedEdge, number: usize, v: Pt) -> Option<Gap>
     })
 }
 
-/// The product of two numbers of 64 bits.
-pub fn product(a: i64, b: i64) -> i128
-    ensures { result ≡ a *ℤ b }
-{
-    i128::from(a) * i128::from(b)
-}
-
 /// Whether the point is nearer to the first edge than to the second.
 fn is_nearer(e: Gap, f: Gap) -> bool
     requires e_room { HasGapRoom e }
     requires f_room { HasGapRoom f }
     ensures { IsTrue result ↔ IsLessGap e f }
 {
-    let first = product(e.side, f.run);
-    let second = product(f.side, e.run);
+    let first = wide_product(e.side, f.run);
+    let second = wide_product(f.side, e.run);
     if first < second {
         return true;
     }
     if second < first {
         return false;
     }
-    product(e.rise, f.run) < product(f.rise, e.run)
+    wide_product(e.rise, f.run) < wide_product(f.rise, e.run)
 }
 
 /// The lesser of two gaps, the first one of equal ones.

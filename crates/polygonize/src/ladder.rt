@@ -12,10 +12,10 @@ ghost use Rattle.polygonize.specs.Column.{Spans};
 ghost use Rattle.polygonize.specs.Ladder.{AreInOrder, AreSpanning, IsLadder, IsUnder, StandInOrder};
 ghost use Rattle.polygonize.specs.Next.{edge_at};
 
-use crate::below::{Gap, gap_below, product};
+use crate::below::{Gap, gap_below};
 use crate::closing_edges::ClosingEdges;
 use crate::column::{Columns, spans};
-use geom::{DirectedEdge, Edge, NoMemory, Pt};
+use geom::{DirectedEdge, Edge, NoMemory, Pt, wide_product};
 use std::alloc::{AllocError, Allocator};
 
 /// By so much heights are multiplied before they are rounded down: two that differ, of edges within the limit, differ by
@@ -127,8 +127,8 @@ fn is_under(e: &Edge, f: &Edge, column: i32) -> bool
     ensures { IsTrue result ↔ IsUnder e.now f.now column }
 {
     let point = Pt { x: column, y: 0 };
-    let first = product(f.side(point), e.p.vector_to(e.q).dx);
-    let second = product(e.side(point), f.p.vector_to(f.q).dx);
+    let first = wide_product(f.side(point), e.p.vector_to(e.q).dx);
+    let second = wide_product(e.side(point), f.p.vector_to(f.q).dx);
     first <= second
 }
 

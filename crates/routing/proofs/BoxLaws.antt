@@ -14,10 +14,10 @@ use Rattle.geom.proofs.Integers.{linear}
 use Rattle.geom.proofs.Numbers.{once_from, once_to}
 use Rattle.box_lanes.specs.Places.{IsPlace}
 use Rattle.box_lanes.specs.Sides.{Corners, SharesAt}
-use Rattle.hot_pixel.specs.declared.lines.Line.{Line}
-use Rattle.hot_pixel.specs.Halving.{IsMetOn}
-use Rattle.hot_pixel.proofs.ListLaws.{take_parts}
-use Rattle.hot_pixel.proofs.NearLaws.{in_bounds}
+use Rattle.hot_region.specs.declared.lines.Line.{Line}
+use Rattle.hot_region.specs.Halving.{IsMetOn}
+use Rattle.hot_region.proofs.ListLaws.{take_parts}
+use Rattle.hot_region.proofs.NearLaws.{in_bounds}
 use Rattle.routing.specs.declared.on_line.OnLine.{OnLine}
 use Rattle.routing.specs.declared.record.Record.{Record}
 use Rattle.routing.specs.Boxes.{box_of, boxes_of}

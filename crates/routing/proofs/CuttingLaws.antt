@@ -14,7 +14,7 @@ use Rattle.geom.specs.Limit.{AreInLimit}
 use Rattle.geom.specs.OnSegment.{IsOn}
 use Rattle.geom.specs.Pixel.{Point}
 use Rattle.geom.proofs.Edges.{edge_path}
-use Rattle.hot_pixel.proofs.ListLaws.{none_in, in_push, in_take_more}
+use Rattle.hot_region.proofs.ListLaws.{none_in, in_push, in_take_more}
 use Rattle.routing.specs.declared.on_line.OnLine.{OnLine}
 use Rattle.routing.specs.declared.mark.Mark.{Mark}
 use Rattle.routing.specs.Cutting.{AddsPortions, AreAmong, AreCut, AreMarks, IsCutFrom, IsCutPoint, IsEndIn, IsPortion, IsPortionAt, LiesBetween}

@@ -3,6 +3,7 @@ use Rattle.std.proofs.Common.{◌≡◌, ◌⊎◌, inl, inr, ℕ, ◌+◌, ◌<
 use Rattle.std.specs.Prelude.{Contains, Option, Some, None, slice_get}
 use Rattle.std.proofs.lemmas.List.{take_more}
 use Rattle.std.proofs.lemmas.List.Elements.{Contains-get_or, Contains-push, Contains-push_cases, filter_map-append}
+use Rattle.std.proofs.lemmas.Option.{slice_get_within}
 use Rattle.std.proofs.lemmas.Cmp.{tied_itself}
 use Rattle.geom.specs.declared.point.Pt.{Pt}
 use Rattle.geom.specs.declared.rect.Rect.{Rect}
@@ -10,22 +11,32 @@ use Rattle.geom.specs.declared.segment.Seg.{Seg}
 use Rattle.geom.specs.Hot.{IsHot}
 use Rattle.geom.specs.Hot.IsHot.{start, end}
 use Rattle.geom.specs.Route.{Meets, IsEarlier}
-use Rattle.hot_pixel.specs.Rects.{IsIn}
-use Rattle.hot_pixel.specs.Candidates.{chosen, AreCandidates, AreOwnedHot}
-use Rattle.hot_pixel.proofs.HotLaws.{meets_start, meets_end}
-use Rattle.hot_pixel.proofs.ListLaws.{in_cons, in_push, in_take_more, from_cons, here, none_in}
+use Rattle.hot_region.specs.Rects.{IsIn}
+use Rattle.hot_region.specs.Candidates.{chosen, AreCandidates, AreOwnedHot}
+use Rattle.hot_region.proofs.HotLaws.{meets_start, meets_end}
+use Rattle.hot_region.proofs.ListLaws.{in_cons, in_push, in_take_more, from_cons, here, none_in}
 use Rattle.geom.proofs.Orders.{IsSortedOnce}
 use Rattle.geom.proofs.Same.{Same, decide_same, whole_path}
 use Rattle.geom.proofs.Lists.{some_same}
-use Rattle.hot_pixel.proofs.CandidateLaws.{in_chosen, owned_of_all, owned_by, hot_of_candidates, hot_from_candidates}
+use Rattle.hot_region.proofs.CandidateLaws.{in_chosen, owned_of_all, owned_by, hot_of_candidates, hot_from_candidates}
 use Rattle.routing.specs.declared.record.Record.{Record}
 use Rattle.routing.specs.declared.record.Candidate.{Candidate}
 use Rattle.routing.specs.Steps.{steps_to}
 use Rattle.routing.specs.Found.{HasInnerRecords, HasRecords, IsRecordOf}
 use Rattle.routing.specs.Recording.{AddsEndAt, AddsEnds, IsRecordAt}
-use Rattle.routing.specs.Pieces.{candidate_at, candidates_of, segments_of, IsEnd, IsEndRecord, IsInnerRecord, IsRecord, IsAlong, IsPartOf, IsPieceOf, IsRecordIn, IsAlongIn, IsPiece}
+use Rattle.routing.specs.Pieces.{AreAllNumbers, candidate_at, candidates_of, segments_of, IsEnd, IsEndRecord, IsInnerRecord, IsRecord, IsAlong, IsPartOf, IsPieceOf, IsRecordIn, IsAlongIn, IsPiece}
 use Rattle.routing.proofs.StepLaws.{earlier_from_steps, same_from_steps}
 use Rattle.routing.proofs.RecordOrder.{record_cmp, record_total, record_less}
+
+-- ---- the numbers of all segments
+pub all_candidates : (segments : List Seg) (numbers : List ℕ) → AreAllNumbers segments numbers → (Owned : Pt → Type 0) → AreCandidates Owned segments numbers
+all_candidates segments numbers are Owned =
+    let size = are.size in
+    record {
+      ascending = λ k l. let a = are.each k 0 (omega (arith, l, size)) in let b = are.each (k + 1) 0 (omega (arith, l, size)) in omega (arith, a, b);
+      below = λ k d l. let m : k < length segments = omega (arith, l, size) in subst (λ (n : ℕ). n < length segments) (sym (are.each k d m)) m;
+      complete = λ k s c at met inside. let l = slice_get_within segments k s at in (k, omega (arith, l, size), are.each k k l);
+    }
 
 -- ---- candidates by their numbers
 pub candidates_more : (segments : List Seg) (numbers : List ℕ) (i k : ℕ) (s : Seg) → i < length numbers → k ≡ get_or numbers i k → slice_get segments k ≡ Some s

@@ -19,17 +19,17 @@ use Rattle.geom.specs.Pixel.{Point, pixel}
 use Rattle.geom.proofs.Integers.{linear, expand}
 use Rattle.geom.proofs.Meaning.{on_turned}
 use Rattle.geom.proofs.Lists.{some_same}
-use Rattle.hot_pixel.specs.Rects.{IsIn}
-use Rattle.hot_pixel.specs.declared.lines.Line.{Line}
-use Rattle.hot_pixel.specs.Candidates.{chosen, AreOwnedHot}
-use Rattle.hot_pixel.specs.Lines.{IsLine, CrossAt}
-use Rattle.hot_pixel.specs.Halving.{edges_of, IsEndOf, IsMetOn, IsHotFor, HasHot, HasHotInside, AreParts, AreReaching, IsPartInLimit}
-use Rattle.hot_pixel.proofs.HotLaws.{hot_limit, met_limit}
-use Rattle.hot_pixel.proofs.CandidateLaws.{in_chosen}
-use Rattle.hot_pixel.proofs.SweepLaws.{crossing_of, end_in, start_in, start_or_end}
-use Rattle.hot_pixel.proofs.LineLaws.{cross_at, segment_of, segment_line}
-use Rattle.hot_pixel.proofs.HalvingLaws.{hot_whole, hot_part, line_at, edge_in, met_on, end_met, first_met}
-use Rattle.hot_pixel.proofs.ListLaws.{none_in, in_push, in_take_more}
+use Rattle.hot_region.specs.Rects.{IsIn}
+use Rattle.hot_region.specs.declared.lines.Line.{Line}
+use Rattle.hot_region.specs.Candidates.{chosen, AreOwnedHot}
+use Rattle.hot_region.specs.Lines.{IsLine, CrossAt}
+use Rattle.hot_region.specs.Halving.{edges_of, IsEndOf, IsMetOn, IsHotFor, HasHot, HasHotInside, AreParts, AreReaching, IsPartInLimit}
+use Rattle.hot_region.proofs.HotLaws.{hot_limit, met_limit}
+use Rattle.hot_region.proofs.CandidateLaws.{in_chosen}
+use Rattle.hot_region.proofs.CrossingLaws.{crossing_of, end_in, start_in, start_or_end}
+use Rattle.hot_region.proofs.LineLaws.{cross_at, segment_of, segment_line}
+use Rattle.hot_region.proofs.HalvingLaws.{hot_whole, hot_part, line_at, edge_in, met_on, end_met, first_met}
+use Rattle.hot_region.proofs.ListLaws.{none_in, in_push, in_take_more}
 use Rattle.routing.specs.declared.on_line.OnLine.{OnLine}
 use Rattle.routing.specs.declared.record.Record.{Record}
 use Rattle.routing.specs.declared.record.Candidate.{Candidate}

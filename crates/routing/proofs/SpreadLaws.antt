@@ -8,12 +8,12 @@ use Rattle.geom.specs.Box.{greatest_corner, least_corner}
 use Rattle.geom.specs.Limit.{AreInLimit, InLimit, IsWithin, coordinate_limit}
 use Rattle.geom.specs.declared.point.Pt.{Pt}
 use Rattle.geom.specs.declared.rect.Rect.{Rect}
-use Rattle.hot_pixel.specs.declared.lines.Line.{Line}
-use Rattle.hot_pixel.specs.declared.wall.Wall.{Wall}
-use Rattle.hot_pixel.specs.Halving.{AreHalves, AreReaching}
-use Rattle.hot_pixel.specs.Rects.{IsIn}
-use Rattle.hot_pixel.specs.Walls.{IsInside}
-use Rattle.hot_pixel.proofs.ListLaws.{in_push, in_take_more, none_in}
+use Rattle.hot_region.specs.declared.lines.Line.{Line}
+use Rattle.hot_region.specs.declared.wall.Wall.{Wall}
+use Rattle.hot_region.specs.Halving.{AreHalves, AreReaching}
+use Rattle.hot_region.specs.Rects.{IsIn}
+use Rattle.hot_region.specs.Walls.{IsInside}
+use Rattle.hot_region.proofs.ListLaws.{in_push, in_take_more, none_in}
 use Rattle.geom.specs.declared.segment.Seg.{Seg}
 use Rattle.routing.specs.declared.on_line.OnLine.{OnLine}
 use Rattle.routing.specs.declared.record.Record.{Record}

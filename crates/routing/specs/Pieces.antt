@@ -1,5 +1,5 @@
 -- Pieces: what the routes have in one tile (own).
-use Rattle.std.specs.Prelude.{◌≡◌, ◌⊎◌, ◌↔◌, ℕ, ◌<◌, AllPairs, Contains, List, Option, Some, length, map, slice_get}
+use Rattle.std.specs.Prelude.{◌≡◌, ◌⊎◌, ◌↔◌, ℕ, ◌<◌, AllPairs, Contains, List, Option, Some, get_or, length, map, slice_get}
 use Rattle.std.specs.Option.{option_map}
 use Rattle.std.specs.List.{filter_map}
 use Rattle.geom.specs.declared.point.Pt.{Pt}
@@ -7,13 +7,18 @@ use Rattle.geom.specs.declared.rect.Rect.{Rect}
 use Rattle.geom.specs.declared.segment.Seg.{Seg}
 use Rattle.geom.specs.Hot.{IsHot}
 use Rattle.geom.specs.Route.{Meets, IsEarlier}
-use Rattle.hot_pixel.specs.Rects.{IsIn}
-use Rattle.hot_pixel.specs.Candidates.{AreOwnedHot}
+use Rattle.hot_region.specs.Rects.{IsIn}
+use Rattle.hot_region.specs.Candidates.{AreOwnedHot}
 use Rattle.routing.specs.declared.record.Record.{Record}
 use Rattle.routing.specs.declared.record.Candidate.{Candidate}
 use Rattle.routing.specs.Steps.{steps_to}
 
 -- ---- of all segments
+
+-- the numbers of all segments, in their order
+pub record AreAllNumbers (segments : List Seg) (numbers : List ℕ) : Type 0 where
+  pub size : length numbers ≡ length segments
+  pub each : (k d : ℕ) → k < length segments → get_or numbers k d ≡ k
 
 -- c is an end of s
 abbrev pub IsEnd : Seg → Pt → Type 0

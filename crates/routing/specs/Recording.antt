@@ -3,10 +3,10 @@ use Rattle.std.specs.Prelude.{◌≡◌, ◌⊎◌, ◌↔◌, ℕ, ◌<◌, ◌
 use Rattle.geom.specs.declared.point.Pt.{Pt}
 use Rattle.geom.specs.declared.rect.Rect.{Rect}
 use Rattle.geom.specs.declared.segment.Seg.{Seg}
-use Rattle.hot_pixel.specs.declared.lines.Line.{Line}
-use Rattle.hot_pixel.specs.Lines.{IsLine}
-use Rattle.hot_pixel.specs.Rects.{IsIn}
-use Rattle.hot_pixel.specs.Halving.{edges_of, IsMetOn, IsHotFor}
+use Rattle.hot_region.specs.declared.lines.Line.{Line}
+use Rattle.hot_region.specs.Lines.{IsLine}
+use Rattle.hot_region.specs.Rects.{IsIn}
+use Rattle.hot_region.specs.Halving.{edges_of, IsMetOn, IsHotFor}
 use Rattle.routing.specs.declared.on_line.OnLine.{OnLine}
 use Rattle.routing.specs.declared.record.Record.{Record}
 use Rattle.routing.specs.Cutting.{AreCut}

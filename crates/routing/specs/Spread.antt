@@ -2,7 +2,7 @@
 use Rattle.std.specs.Prelude.{◌↔◌, Contains, List}
 use Rattle.geom.specs.declared.point.Pt.{Pt}
 use Rattle.geom.specs.declared.rect.Rect.{Rect}
-use Rattle.hot_pixel.specs.Rects.{IsIn}
+use Rattle.hot_region.specs.Rects.{IsIn}
 
 -- some are those of the pixels that lie in the rectangle
 pub record AreThoseIn (rect : Rect) (pixels some : List Pt) : Type 0 where

@@ -13,7 +13,7 @@ use crate::cutting::{cut_at, marks_between};
 use crate::limited::LimitedSegments;
 use crate::on_line::OnLine;
 use geom::{NoMemory, Rect};
-use hot_pixel::{Line, edge_of};
+use hot_region::{Line, edge_of};
 use std::alloc::Allocator;
 
 /// How many segments of a tile are many. Fewer aren't cut: to look for their carriers would cost more than it saves.

@@ -3,9 +3,9 @@
 ghost use Rattle.std.specs.Prelude.{◌≡◌, ◌↔◌, ◌<◌, All, IfOk, OnOk, length};
 ghost use Rattle.geom.specs.declared.point.Pt.{Pt};
 ghost use Rattle.geom.specs.Limit.{AreInLimit, InLimit};
-ghost use Rattle.hot_pixel.specs.Rects.{IsIn};
+ghost use Rattle.hot_region.specs.Rects.{IsIn};
 ghost use Rattle.grid.specs.Tiles.{tile_count, Owns};
-ghost use Rattle.hot_pixel.specs.Candidates.{AreCandidates};
+ghost use Rattle.hot_region.specs.Candidates.{AreCandidates};
 ghost use Rattle.routing.specs.Pieces.{candidates_of, IsPieceOf};
 ghost use Rattle.routing.specs.Recording.{AddsEnds, AddsEndAt};
 

@@ -2,8 +2,8 @@
 //!
 //! 1. Where segments are many they are cut into portions, of which no two overlap on one carrier (`by_line`). These are the lines.
 //! 2. A region, at first the tile, with many lines that run side by side in its rectangle is left: it has no hot pixel. Where nearly
-//!    all do, the others are crossed with all lines (`hot_pixel: hot_beside`).
-//! 3. Another one with many lines is parted (`hot_pixel: parts`), and each part is left with the lines that may meet its pixels.
+//!    all do, the others are crossed with all lines (`hot_region: hot_beside`).
+//! 3. Another one with many lines is parted (`hot_region: parts`), and each part is left with the lines that may meet its pixels.
 //! 4. Where few are left, or one pixel, all pairs are crossed; in a pixel with many lines those of one line of each carrier.
 //! 5. Each line is tested on the hot pixels that were found there (`recording`); where both are many, on those that it comes near
 //!    (`spread`). Where it meets one, each segment on the line has a record.
@@ -11,11 +11,11 @@
 ghost use Rattle.std.specs.Prelude.{◌<◌, ◌≤◌, All, IfOk, IfSome, List, OnOk, [], length};
 ghost use Rattle.geom.specs.declared.rect.Rect.{Rect};
 ghost use Rattle.geom.specs.Limit.{AreInLimit};
-ghost use Rattle.hot_pixel.specs.declared.wall.Wall.{Wall};
-ghost use Rattle.hot_pixel.specs.Candidates.{chosen, AreOwnedHot};
-ghost use Rattle.hot_pixel.specs.Halving.{edges_of, AreReaching, HasHot, HasHotInside};
-ghost use Rattle.hot_pixel.specs.Rects.{IsIn};
-ghost use Rattle.hot_pixel.specs.Walls.{IsInside};
+ghost use Rattle.hot_region.specs.declared.wall.Wall.{Wall};
+ghost use Rattle.hot_region.specs.Candidates.{chosen, AreOwnedHot};
+ghost use Rattle.hot_region.specs.Halving.{edges_of, AreReaching, HasHot, HasHotInside};
+ghost use Rattle.hot_region.specs.Rects.{IsIn};
+ghost use Rattle.hot_region.specs.Walls.{IsInside};
 ghost use Rattle.routing.specs.Found.{HasInnerRecords};
 ghost use Rattle.routing.specs.Pieces.{candidates_of};
 ghost use Rattle.routing.specs.Recording.{AddsRecordsInside};
@@ -25,13 +25,13 @@ use crate::limited::{LimitedSegments, LinedSegments};
 use crate::pieces::Part;
 use crate::spread::add_spread;
 use geom::{NoMemory, Pt, Rect};
-use hot_pixel::{
+use hot_region::{
     FEW, Line, Region, ascending, hot_beside, hot_by_pairs, kept, parts, reaching, within_limit,
 };
 use std::alloc::Allocator;
 
 /// How often a region is parted at most. Within the coordinate limit a single pixel is left after 60 halvings of its rectangle, but
-/// that once by columns and once by rows a part may be larger than a half (`hot_pixel: parts`); and it has 60 walls at most.
+/// that once by columns and once by rows a part may be larger than a half (`hot_region: parts`); and it has 60 walls at most.
 const DEPTH: u32 = 122;
 
 /// Adds those of the pixels that are hot for the lines of a rectangle that lie in a region of it, and the records there.

@@ -12,7 +12,7 @@ ghost use Rattle.routing.specs.Recording.{AddsAt};
 use crate::limited::LinedSegments;
 use crate::record::{Record, is_end, record_at};
 use geom::{NoMemory, Pt, Seg};
-use hot_pixel::Line;
+use hot_region::Line;
 use std::alloc::Allocator;
 
 /// How many segments on one line are a pile.

@@ -14,7 +14,7 @@ use crate::piled::{add_new_at, is_pile};
 use crate::record::{Record, is_end, record_at};
 use box_lanes::{Boxes, LANES, split_first};
 use geom::{NoMemory, Pt, Rect};
-use hot_pixel::{Line, on_line};
+use hot_region::{Line, on_line};
 use std::alloc::Allocator;
 
 /// Adds the record of each segment on a line at a pixel that is no end of it.

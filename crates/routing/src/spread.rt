@@ -6,7 +6,7 @@
 ghost use Rattle.std.specs.Prelude.{◌<◌, ◌≤◌, All, Contains, IfOk, OnOk, length};
 ghost use Rattle.geom.specs.declared.point.Pt.{Pt};
 ghost use Rattle.geom.specs.Limit.{AreInLimit, InLimit};
-ghost use Rattle.hot_pixel.specs.Rects.{IsIn};
+ghost use Rattle.hot_region.specs.Rects.{IsIn};
 ghost use Rattle.routing.specs.Recording.{AddsRecordsAt};
 ghost use Rattle.routing.specs.Spread.{AreThoseIn};
 
@@ -15,7 +15,7 @@ use crate::limited::LinedSegments;
 use crate::record::Record;
 use crate::recording::add_records;
 use geom::{NoMemory, Pt, Rect};
-use hot_pixel::{FEW, Line, Region, cut};
+use hot_region::{FEW, Line, Region, cut};
 use std::alloc::Allocator;
 
 /// How many pixels are tested on each line, however many lines there are.

@@ -2,7 +2,7 @@
 
 use crate::shapes::{Ends, point, rectangle};
 use geom::{Edge, NoMemory};
-use hot_pixel::{Line, ascending, hot_beside, is_bundle};
+use hot_region::{Line, ascending, hot_beside, is_bundle};
 use std::alloc::Allocator;
 
 // Two corners of a rectangle, two lines, and whether these are a bundle there.

@@ -3,7 +3,7 @@
 ghost use Rattle.std.specs.Prelude.{◌≡◌, ◌<◌, All, IfOk};
 ghost use Rattle.geom.specs.Limit.{AreInLimit};
 ghost use Rattle.grid.specs.Tiles.{Owns, tile_count};
-ghost use Rattle.hot_pixel.specs.Candidates.{AreCandidates};
+ghost use Rattle.hot_region.specs.Candidates.{AreCandidates};
 
 use crate::shapes::{Ends, rectangle, segments_of};
 use geom::{NoMemory, Pt, Seg};

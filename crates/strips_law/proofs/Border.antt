@@ -5,7 +5,7 @@ use Rattle.std.specs.Prelude.{◌<◌, ℤ, AllPairs, Contains, if◌then◌else
 use Rattle.geom.specs.declared.point.Pt.{Pt}
 use Rattle.geom.specs.declared.segment.Seg.{Seg}
 use Rattle.geom.proofs.Lists.{In, contains_in, in_append, in_back, in_contains, in_front}
-use Rattle.hot_pixel.proofs.ListLaws.{head_pair, pairs_cons, tail_pairs}
+use Rattle.hot_region.proofs.ListLaws.{head_pair, pairs_cons, tail_pairs}
 use Rattle.strips_law.specs.declared.line.Line.{Line}
 use Rattle.strips_law.specs.Strips.{at_border, crosses}
 use Rattle.strips_law.proofs.Parts.{RoutesIn}

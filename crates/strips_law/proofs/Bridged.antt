@@ -15,8 +15,8 @@ use Rattle.geom.specs.Rounded.{joins}
 use Rattle.geom.specs.Segments.{neighbours, same_source}
 use Rattle.geom.proofs.Lists.{In, contains_in, in_append, in_contains, in_map, map_in, some_passes}
 use Rattle.geom.proofs.Steps.{joined}
-use Rattle.hot_pixel.proofs.HotLaws.{meets_end}
-use Rattle.hot_pixel.proofs.ListLaws.{here, none_in}
+use Rattle.hot_region.proofs.HotLaws.{meets_end}
+use Rattle.hot_region.proofs.ListLaws.{here, none_in}
 use Rattle.strips_law.specs.declared.line.Line.{Line}
 use Rattle.strips_law.specs.declared.line.Open.{Open}
 use Rattle.strips_law.specs.declared.line.Carried.{Carried}

@@ -14,7 +14,7 @@ use Rattle.geom.specs.Rounded.{joins}
 use Rattle.geom.specs.Segments.{neighbours, same_source}
 use Rattle.geom.proofs.Lists.{In, in_append, some_passes}
 use Rattle.geom.proofs.Steps.{joined}
-use Rattle.hot_pixel.proofs.ListLaws.{here, in_cons, none_in}
+use Rattle.hot_region.proofs.ListLaws.{here, in_cons, none_in}
 use Rattle.strips_law.specs.declared.line.Line.{Line}
 use Rattle.strips_law.specs.declared.line.Open.{Open}
 use Rattle.strips_law.specs.Law.{EdgesOfStrip, NoEdgeIsBoth}

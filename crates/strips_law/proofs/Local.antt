@@ -11,8 +11,8 @@ use Rattle.geom.specs.Hot.{IsHot}
 use Rattle.geom.specs.Order.{IsBefore}
 use Rattle.geom.specs.Route.{Meets}
 use Rattle.geom.specs.Segments.{neighbours, same_source}
-use Rattle.hot_pixel.proofs.HotLaws.{hot_lines}
-use Rattle.hot_pixel.proofs.ListLaws.{in_filter, in_map}
+use Rattle.hot_region.proofs.HotLaws.{hot_lines}
+use Rattle.hot_region.proofs.ListLaws.{in_filter, in_map}
 use Rattle.strips_law.specs.declared.line.Line.{Line}
 use Rattle.strips_law.specs.Law.{StripIsLocal}
 use Rattle.strips_law.specs.Strips.{AreCountsOf, IsInStrip, at_border, crosses, line_steps, lines_in, reaches, segments_of, strip_at, with_first, with_last}

@@ -16,7 +16,7 @@ use Rattle.geom.specs.Route.AreRoutes.{none, next}
 use Rattle.geom.proofs.Pixels.{meets_in, piece}
 use Rattle.geom.proofs.RouteLaws.{earlier_in}
 use Rattle.geom.proofs.Routes.{not_both}
-use Rattle.hot_pixel.proofs.ListLaws.{from_cons, head_pair, here, in_cons, none_in, tail_pairs}
+use Rattle.hot_region.proofs.ListLaws.{from_cons, head_pair, here, in_cons, none_in, tail_pairs}
 use Rattle.strips_law.specs.declared.line.Line.{Line}
 use Rattle.strips_law.specs.Strips.{AreCountsOf, AreOrdered, AreRoutesIn, IsFrom, IsInStrip, IsRouteIn, line_steps, segments_of, strip_at}
 use Rattle.strips_law.proofs.Edges.{edge_in, one_is_made}

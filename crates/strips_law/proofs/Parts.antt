@@ -13,7 +13,7 @@ use Rattle.geom.specs.Route.{IsEarlier, Meets}
 use Rattle.geom.proofs.Pixels.{meets_in, piece}
 use Rattle.geom.proofs.RouteLaws.{earlier_in}
 use Rattle.geom.proofs.Routes.{not_both}
-use Rattle.hot_pixel.proofs.ListLaws.{from_cons, head_pair, here, in_cons, in_filter, none_in, pairs_cons, tail_pairs}
+use Rattle.hot_region.proofs.ListLaws.{from_cons, head_pair, here, in_cons, in_filter, none_in, pairs_cons, tail_pairs}
 use Rattle.strips_law.specs.declared.line.Line.{Line}
 use Rattle.strips_law.specs.Strips.{IsFrom, IsInStrip, IsRouteIn, strip_at}
 use Rattle.strips_law.proofs.Columns.{earlier_by_strip}

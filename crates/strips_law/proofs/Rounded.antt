@@ -15,8 +15,8 @@ use Rattle.geom.specs.Rounded.{route_steps}
 use Rattle.geom.specs.Route.{AreRoutes, IsRoute}
 use Rattle.geom.specs.Route.AreRoutes.{none, next}
 use Rattle.geom.specs.Segments.{neighbours, same_source}
-use Rattle.hot_pixel.proofs.HotLaws.{HasEndsOf, hot_lines, met_line}
-use Rattle.hot_pixel.proofs.ListLaws.{from_cons, here, in_cons, none_in, pairs_cons}
+use Rattle.hot_region.proofs.HotLaws.{HasEndsOf, hot_lines, met_line}
+use Rattle.hot_region.proofs.ListLaws.{from_cons, here, in_cons, none_in, pairs_cons}
 use Rattle.strips_law.specs.declared.line.Line.{Line}
 use Rattle.strips_law.specs.Law.{LinesAreOrdered, LinesFollow, StripsAreRounded}
 use Rattle.strips_law.specs.Strips.{AreEdgesOf, AreLinesFrom, IsFrom, IsOriented, IsRouteIn, line_steps, reaches, segments_of}

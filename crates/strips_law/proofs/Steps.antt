@@ -10,7 +10,7 @@ use Rattle.geom.specs.Rounded.{joins}
 use Rattle.geom.specs.Segments.{neighbours, same_source}
 use Rattle.geom.proofs.Lists.{count-cons}
 use Rattle.geom.proofs.Steps.{joined}
-use Rattle.hot_pixel.proofs.ListLaws.{here, in_cons}
+use Rattle.hot_region.proofs.ListLaws.{here, in_cons}
 use Rattle.strips_law.specs.declared.line.Line.{Line}
 use Rattle.strips_law.specs.Strips.{IsFrom, IsInStrip, IsRouteIn, line_steps, step_over, strip_at}
 use Rattle.strips_law.proofs.Parts.{RoutesIn, each_with}

@@ -1,8 +1,8 @@
 use Rattle.std.proofs.lemmas.Result.{IfOk-weaker}
-use Rattle.hot_pixel.specs.Rects.{IsIn}
+use Rattle.hot_region.specs.Rects.{IsIn}
 use Rattle.grid.specs.Tiles.{Owns}
-use Rattle.hot_pixel.specs.Candidates.{chosen}
-use Rattle.hot_pixel.proofs.CandidateLaws.{owned_by, owned_of_all}
+use Rattle.hot_region.specs.Candidates.{chosen}
+use Rattle.hot_region.proofs.CandidateLaws.{owned_by, owned_of_all}
 use Rattle.hot_pixel.proofs.hot.sweep.Goals as goal
 
 pub sweep_tile-requires : goal.sweep_tile-requires

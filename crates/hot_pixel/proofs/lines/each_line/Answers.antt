@@ -2,9 +2,9 @@ use Rattle.std.proofs.Common.{◌≡◌, ℕ, List, refl, subst, length, get_or,
 use Rattle.std.specs.Prelude.{slice_get}
 use Rattle.std.proofs.lemmas.List.{get_or_default, take_all}
 use Rattle.std.proofs.lemmas.Option.{slice_get_read}
-use Rattle.hot_pixel.specs.Candidates.{chosen}
-use Rattle.hot_pixel.specs.Lines.{AreEachLine}
-use Rattle.hot_pixel.proofs.LineLaws.{chosen_more, each_push}
+use Rattle.hot_region.specs.Candidates.{chosen}
+use Rattle.hot_pixel.specs.SegmentLines.{AreEachLine}
+use Rattle.hot_pixel.proofs.PairCounts.{chosen_more, each_push}
 use Rattle.hot_pixel.proofs.lines.each_line.Goals as goal
 
 pub loop-number-preserved : goal.loop-number-preserved

@@ -1,6 +1,6 @@
 use Rattle.std.proofs.Common.{take}
-use Rattle.hot_pixel.specs.Candidates.{chosen}
-use Rattle.hot_pixel.specs.Lines.{AreEachLine}
+use Rattle.hot_region.specs.Candidates.{chosen}
+use Rattle.hot_pixel.specs.SegmentLines.{AreEachLine}
 use Rattle.hot_pixel.proofs.lines.each_line.Given as goal
 
 abbrev pub invariant-loop-number : goal.invariant-loop-number

@@ -1,7 +1,7 @@
 use Rattle.std.proofs.Common.{[], arith}
 use Rattle.std.specs.List.Retain.{DiffersFromLast}
 use Rattle.geom.proofs.Orders.{edges_once, edges_ascending, same_edge}
-use Rattle.hot_pixel.proofs.LineLaws.{lines_are, pairs_each, pairs_fewer}
+use Rattle.hot_pixel.proofs.PairCounts.{lines_are, pairs_each, pairs_fewer}
 use Rattle.hot_pixel.proofs.lines.lines.Goals as goal
 
 pub returns : goal.returns

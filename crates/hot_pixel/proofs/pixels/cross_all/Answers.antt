@@ -1,7 +1,9 @@
 use Rattle.std.proofs.Common.{ℕ, ◌+◌, ◌≤◌, arith, ◌≡◌, ◌∙◌, inl, refl, sym, true, Some}
-use Rattle.hot_pixel.specs.Lines.{IsLine, lines_meet}
-use Rattle.hot_pixel.proofs.LineLaws.{meet_lines}
-use Rattle.hot_pixel.proofs.SweepLaws.{crossed_skip, crossed_push, pair_found, pair_none, pair_apart, cost_meets, cost_skips, cost_all}
+use Rattle.hot_region.specs.Lines.{IsLine}
+use Rattle.hot_pixel.specs.Pairs.{lines_meet}
+use Rattle.hot_pixel.proofs.PairCounts.{meet_lines}
+use Rattle.hot_region.proofs.CrossingLaws.{crossed_skip, crossed_push, pair_found, pair_none}
+use Rattle.hot_pixel.proofs.SweepLaws.{pair_apart, cost_meets, cost_skips, cost_all}
 use Rattle.hot_pixel.proofs.pixels.cross_all.Goals as goal
 use Rattle.hot_pixel.proofs.pixels.cross_all.Goals.{then-may_meet+in-Some+in_ok-push_in, then-may_meet+in_default, else-may_meet}
 

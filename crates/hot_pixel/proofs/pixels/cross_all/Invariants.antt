@@ -1,6 +1,7 @@
 use Rattle.std.proofs.Common.{take, ◌+◌, ◌≤◌}
 use Rattle.std.specs.Prelude.{count_by}
-use Rattle.hot_pixel.specs.Lines.{HasCrossed, lines_meet}
+use Rattle.hot_region.specs.Lines.{HasCrossed}
+use Rattle.hot_pixel.specs.Pairs.{lines_meet}
 use Rattle.hot_pixel.proofs.pixels.cross_all.Given as goal
 
 abbrev pub invariant-loop-other : goal.invariant-loop-other

@@ -1,7 +1,7 @@
 use Rattle.std.proofs.Common.{List, subst}
 use Rattle.std.proofs.lemmas.List.{take_all}
 use Rattle.geom.specs.declared.edge.Edge.{Edge}
-use Rattle.hot_pixel.specs.Lines.{HasEnds}
+use Rattle.hot_pixel.specs.SegmentLines.{HasEnds}
 use Rattle.hot_pixel.proofs.SweepLaws.{ends_none, ends_more}
 use Rattle.hot_pixel.proofs.pixels.ends_in.Goals as goal
 

@@ -1,5 +1,5 @@
 use Rattle.std.proofs.Common.{take}
-use Rattle.hot_pixel.specs.Lines.{HasEnds}
+use Rattle.hot_pixel.specs.SegmentLines.{HasEnds}
 use Rattle.hot_pixel.proofs.pixels.ends_in.Given as goal
 
 abbrev pub invariant-loop-line : goal.invariant-loop-line

@@ -3,8 +3,10 @@ use Rattle.std.specs.Prelude.{All, count_by}
 use Rattle.std.proofs.lemmas.List.{take_all}
 use Rattle.geom.specs.declared.edge.Edge.{Edge}
 use Rattle.geom.specs.Limit.{AreInLimit}
-use Rattle.hot_pixel.specs.Lines.{HasCrossed, HasAllCrossed, line_pairs, lines_meet}
-use Rattle.hot_pixel.proofs.SweepLaws.{active_none, all_none, active_more, all_more, ticks_more, kept_all, pairs_take}
+use Rattle.hot_region.specs.Lines.{HasCrossed, HasAllCrossed}
+use Rattle.hot_pixel.specs.Pairs.{line_pairs, lines_meet}
+use Rattle.hot_region.proofs.CrossingLaws.{all_none}
+use Rattle.hot_pixel.proofs.SweepLaws.{active_none, active_more, all_more, ticks_more, kept_all, pairs_take}
 use Rattle.hot_pixel.proofs.tile_sweep.cross_lines.Goals as goal
 
 onward : {k m n : ℕ} → k ≤ m → m ≤ n → k ≤ n

@@ -1,5 +1,6 @@
 use Rattle.std.proofs.Common.{take, ◌+◌, ◌≤◌}
-use Rattle.hot_pixel.specs.Lines.{HasAllCrossed, line_pairs}
+use Rattle.hot_region.specs.Lines.{HasAllCrossed}
+use Rattle.hot_pixel.specs.Pairs.{line_pairs}
 use Rattle.hot_pixel.proofs.SweepLaws.{AreActive}
 use Rattle.hot_pixel.proofs.tile_sweep.cross_lines.Given as goal
 

@@ -4,9 +4,11 @@ use Rattle.std.proofs.lemmas.List.Elements.{All-contains}
 use Rattle.geom.specs.declared.edge.Edge.{Edge}
 use Rattle.geom.specs.declared.segment.Seg.{Seg}
 use Rattle.geom.specs.Limit.{AreInLimit}
-use Rattle.hot_pixel.specs.Candidates.{chosen}
-use Rattle.hot_pixel.specs.Lines.{HasEnds, HasAllCrossed, line_pairs}
-use Rattle.hot_pixel.proofs.CandidateLaws.{all_chosen}
+use Rattle.hot_region.specs.Candidates.{chosen}
+use Rattle.hot_region.specs.Lines.{HasAllCrossed}
+use Rattle.hot_pixel.specs.Pairs.{line_pairs}
+use Rattle.hot_pixel.specs.SegmentLines.{HasEnds}
+use Rattle.hot_region.proofs.CandidateLaws.{all_chosen}
 use Rattle.hot_pixel.proofs.SweepLaws.{found_hot, lines_limit}
 use Rattle.hot_pixel.proofs.tile_sweep.sweep_tile.Goals as goal
 

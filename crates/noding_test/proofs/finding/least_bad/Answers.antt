@@ -1,7 +1,7 @@
 use Rattle.std.proofs.Common.{◌≡◌, Some, arith, length, refl}
 use Rattle.std.specs.Prelude.{slice_get}
 use Rattle.std.proofs.lemmas.Option.{slice_get_read}
-use Rattle.hot_pixel.specs.Rects.{IsIn}
+use Rattle.hot_region.specs.Rects.{IsIn}
 use Rattle.noding_test.proofs.VerdictLaws.{none_bad, first_bad}
 use Rattle.noding_test.proofs.finding.least_bad.Goals as goal
 

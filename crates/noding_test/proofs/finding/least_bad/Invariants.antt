@@ -1,5 +1,5 @@
 use Rattle.std.proofs.Common.{ℕ, ◌<◌, length}
-use Rattle.hot_pixel.specs.Rects.{IsIn}
+use Rattle.hot_region.specs.Rects.{IsIn}
 use Rattle.noding_test.specs.Search.{NoneBadTo}
 use Rattle.noding_test.proofs.finding.least_bad.Given as goal
 

@@ -5,7 +5,7 @@ use Rattle.geom.specs.declared.edge.Edge.{Edge}
 use Rattle.geom.specs.Limit.{AreInLimit}
 use Rattle.geom.specs.Noded.{IsBad}
 use Rattle.geom.proofs.Lists.{some_same}
-use Rattle.hot_pixel.specs.Rects.{IsIn}
+use Rattle.hot_region.specs.Rects.{IsIn}
 use Rattle.noding_test.specs.Verdicts.{common_corner}
 use Rattle.noding_test.proofs.VerdictLaws.{none_beyond, none_more}
 use Rattle.noding_test.proofs.finding.partner.Goals as goal

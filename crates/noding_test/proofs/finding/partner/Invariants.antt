@@ -1,4 +1,4 @@
-use Rattle.hot_pixel.specs.Rects.{IsIn}
+use Rattle.hot_region.specs.Rects.{IsIn}
 use Rattle.noding_test.specs.Search.{NoneBadTo}
 use Rattle.noding_test.proofs.finding.partner.Given as goal
 

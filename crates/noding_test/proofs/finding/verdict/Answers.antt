@@ -3,7 +3,7 @@ use Rattle.std.specs.Prelude.{All, AllPairs}
 use Rattle.geom.specs.declared.edge.Edge.{Edge}
 use Rattle.geom.specs.EdgeOrder.{IsEdgeBefore}
 use Rattle.geom.specs.Limit.{AreInLimit}
-use Rattle.hot_pixel.specs.Rects.{IsIn}
+use Rattle.hot_region.specs.Rects.{IsIn}
 use Rattle.noding_test.specs.Verdicts.{IsLeastPair, IsOwnBad}
 use Rattle.noding_test.proofs.NearEdges.{chosen_ascend, chosen_limits, least_by, same_bad}
 use Rattle.noding_test.proofs.finding.verdict.Goals as goal

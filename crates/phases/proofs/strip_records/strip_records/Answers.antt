@@ -1,5 +1,5 @@
 use Rattle.std.proofs.lemmas.Result.{IfOk-weaker}
-use Rattle.hot_pixel.specs.Rects.{IsIn}
+use Rattle.hot_region.specs.Rects.{IsIn}
 use Rattle.strips_law.specs.Strips.{IsInStrip}
 use Rattle.phases.proofs.Columns.{met_in}
 use Rattle.phases.proofs.Finding.{none_there, records_there}

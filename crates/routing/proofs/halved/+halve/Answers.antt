@@ -1,9 +1,9 @@
 use Rattle.std.proofs.Common.{◌≤◌, arith, length, subst}
 use Rattle.std.specs.Prelude.{IfSome}
 use Rattle.geom.specs.Limit.{AreInLimit}
-use Rattle.hot_pixel.specs.Halving.{AreParts}
-use Rattle.hot_pixel.specs.Walls.{IsInside}
-use Rattle.hot_pixel.proofs.HalvingLaws.{part_all, parts_unite}
+use Rattle.hot_region.specs.Halving.{AreParts}
+use Rattle.hot_region.specs.Walls.{IsInside}
+use Rattle.hot_region.proofs.HalvingLaws.{part_all, parts_unite}
 use Rattle.routing.proofs.RecordingLaws.{records_unite}
 use Rattle.routing.proofs.halved.+halve.Goals as goal
 

@@ -3,12 +3,12 @@ use Rattle.std.specs.Prelude.{All, Contains}
 use Rattle.geom.specs.declared.point.Pt.{Pt}
 use Rattle.geom.specs.declared.rect.Rect.{Rect}
 use Rattle.geom.specs.Limit.{InLimit}
-use Rattle.hot_pixel.specs.declared.lines.Line.{Line}
-use Rattle.hot_pixel.specs.declared.wall.Wall.{Wall}
-use Rattle.hot_pixel.specs.Halving.{edges_of, HasHot, HasHotInside}
-use Rattle.hot_pixel.specs.Rects.{IsIn}
-use Rattle.hot_pixel.specs.Walls.{AreKept, IsInside}
-use Rattle.hot_pixel.proofs.WallLaws.{hot_kept, hot_same}
+use Rattle.hot_region.specs.declared.lines.Line.{Line}
+use Rattle.hot_region.specs.declared.wall.Wall.{Wall}
+use Rattle.hot_region.specs.Halving.{edges_of, HasHot, HasHotInside}
+use Rattle.hot_region.specs.Rects.{IsIn}
+use Rattle.hot_region.specs.Walls.{AreKept, IsInside}
+use Rattle.hot_region.proofs.WallLaws.{hot_kept, hot_same}
 use Rattle.routing.specs.Recording.{AddsRecordsAt}
 use Rattle.routing.proofs.RecordingLaws.{records_all, hot_added, hot_within}
 use Rattle.routing.proofs.halved.add_found.Goals as goal

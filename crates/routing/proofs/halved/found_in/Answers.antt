@@ -3,16 +3,16 @@ use Rattle.std.specs.Prelude.{All}
 use Rattle.std.proofs.lemmas.List.Elements.{All-contains}
 use Rattle.geom.specs.declared.segment.Seg.{Seg}
 use Rattle.geom.specs.Limit.{AreInLimit}
-use Rattle.hot_pixel.specs.declared.lines.Line.{Line}
-use Rattle.hot_pixel.specs.Candidates.{chosen}
-use Rattle.hot_pixel.specs.Halving.{edges_of, HasHot}
-use Rattle.hot_pixel.proofs.CandidateLaws.{all_chosen}
-use Rattle.hot_pixel.proofs.HalvingLaws.{tile_none}
-use Rattle.hot_pixel.proofs.ListLaws.{none_in}
+use Rattle.hot_region.specs.declared.lines.Line.{Line}
+use Rattle.hot_region.specs.Candidates.{chosen}
+use Rattle.hot_region.specs.Halving.{edges_of, HasHot}
+use Rattle.hot_region.proofs.CandidateLaws.{all_chosen}
+use Rattle.hot_region.proofs.HalvingLaws.{tile_none}
+use Rattle.hot_region.proofs.ListLaws.{none_in}
 use Rattle.routing.specs.declared.on_line.OnLine.{OnLine}
-use Rattle.hot_pixel.specs.Rects.{IsIn}
-use Rattle.hot_pixel.specs.Walls.{IsInside}
-use Rattle.hot_pixel.proofs.WallLaws.{hot_open, inside_open}
+use Rattle.hot_region.specs.Rects.{IsIn}
+use Rattle.hot_region.specs.Walls.{IsInside}
+use Rattle.hot_region.proofs.WallLaws.{hot_open, inside_open}
 use Rattle.routing.specs.Recording.{AddsRecordsInside, AreLinesOf}
 use Rattle.routing.proofs.RecordingLaws.{entries_below, no_records, records_same, tile_hot, tile_records}
 use Rattle.routing.proofs.halved.found_in.Goals as goal

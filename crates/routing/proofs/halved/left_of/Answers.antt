@@ -1,8 +1,8 @@
 use Rattle.std.proofs.Common.{List, subst, sym}
 use Rattle.std.specs.Prelude.{IfSome}
-use Rattle.hot_pixel.specs.declared.lines.Line.{Line}
-use Rattle.hot_pixel.specs.Halving.{AreReaching}
-use Rattle.hot_pixel.specs.Walls.{IsInside}
+use Rattle.hot_region.specs.declared.lines.Line.{Line}
+use Rattle.hot_region.specs.Halving.{AreReaching}
+use Rattle.hot_region.specs.Walls.{IsInside}
 use Rattle.routing.proofs.halved.left_of.Goals as goal
 
 pub returns-in-Some : goal.returns-in-Some

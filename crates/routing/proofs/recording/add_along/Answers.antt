@@ -2,8 +2,8 @@ use Rattle.std.proofs.Common.{inl, sym, subst, ℕ, get_or}
 use Rattle.std.proofs.Math.IntN.{pos}
 use Rattle.std.proofs.lemmas.List.{get_or_default}
 use Rattle.geom.specs.declared.point.Pt.{Pt}
-use Rattle.hot_pixel.specs.Lines.{IsLine}
-use Rattle.hot_pixel.proofs.HalvingLaws.{met_on}
+use Rattle.hot_region.specs.Lines.{IsLine}
+use Rattle.hot_region.proofs.HalvingLaws.{met_on}
 use Rattle.routing.proofs.BoxLaws.{AddsAlongBut, but_added, but_met, but_missed, but_near, but_none}
 use Rattle.routing.proofs.recording.add_along.Goals as goal
 use Rattle.routing.proofs.recording.add_along.Goals.{else-not-ends_each-via-else-not-ends_each, else-not-ends_each-via-then-not-ends_each+else-meets}

@@ -1,6 +1,6 @@
 use Rattle.std.proofs.Common.{List, subst}
 use Rattle.std.proofs.lemmas.List.{take_all}
-use Rattle.hot_pixel.specs.declared.lines.Line.{Line}
+use Rattle.hot_region.specs.declared.lines.Line.{Line}
 use Rattle.routing.specs.Recording.{AddsRecordsAt}
 use Rattle.routing.proofs.RecordingLaws.{lines_none, lines_more}
 use Rattle.routing.proofs.recording.add_few.Goals as goal

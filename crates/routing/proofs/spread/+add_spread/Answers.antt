@@ -3,9 +3,9 @@ use Rattle.std.specs.Prelude.{All, Contains}
 use Rattle.geom.specs.declared.point.Pt.{Pt}
 use Rattle.geom.specs.declared.rect.Rect.{Rect}
 use Rattle.geom.specs.Limit.{InLimit}
-use Rattle.hot_pixel.specs.Rects.{IsIn}
-use Rattle.hot_pixel.specs.Walls.{IsInside}
-use Rattle.hot_pixel.proofs.HalvingLaws.{part_all}
+use Rattle.hot_region.specs.Rects.{IsIn}
+use Rattle.hot_region.specs.Walls.{IsInside}
+use Rattle.hot_region.proofs.HalvingLaws.{part_all}
 use Rattle.routing.specs.Recording.{AddsRecordsAt}
 use Rattle.routing.proofs.SpreadLaws.{on_ok, spread_unite, spread_whole, those_limited}
 use Rattle.routing.proofs.spread.+add_spread.Goals as goal

@@ -3,7 +3,7 @@ use Rattle.std.specs.Prelude.{Contains}
 use Rattle.std.proofs.Math.IntN.{pos}
 use Rattle.std.proofs.lemmas.List.{get_or_default, take_all}
 use Rattle.geom.specs.declared.point.Pt.{Pt}
-use Rattle.hot_pixel.specs.Rects.{IsIn}
+use Rattle.hot_region.specs.Rects.{IsIn}
 use Rattle.routing.proofs.SpreadLaws.{holds_more, holds_none}
 use Rattle.routing.proofs.spread.box_of.Goals as goal
 

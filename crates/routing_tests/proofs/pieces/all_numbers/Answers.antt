@@ -6,7 +6,7 @@ use Rattle.std.proofs.lemmas.Option.{slice_get_within}
 use Rattle.geom.specs.declared.point.Pt.{Pt}
 use Rattle.geom.specs.declared.segment.Seg.{Seg}
 use Rattle.grid.specs.Tiles.{Owns}
-use Rattle.hot_pixel.specs.Candidates.{AreCandidates}
+use Rattle.hot_region.specs.Candidates.{AreCandidates}
 use Rattle.routing_tests.proofs.pieces.all_numbers.Goals as goal
 
 abbrev AreFirst : List ℕ → ℕ → Type 0

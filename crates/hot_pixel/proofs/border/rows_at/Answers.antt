@@ -1,7 +1,0 @@
-use Rattle.std.proofs.Common.{refl, arith}
-use Rattle.std.proofs.lemmas.Int.{ints}
-use Rattle.hot_pixel.proofs.HalvingLaws.{halves_by_y}
-use Rattle.hot_pixel.proofs.border.rows_at.Goals as goal
-
-pub returns-clause-halves : goal.returns-clause-halves
-returns-clause-halves c = halves_by_y c.args.rect.now _ _ c.args.y refl refl (omega (arith, ints)) (omega (arith, ints)) (omega (arith, ints)) (omega (arith, ints)) refl refl (omega (arith, ints)) (omega (arith, ints))

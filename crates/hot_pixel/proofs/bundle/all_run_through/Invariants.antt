@@ -1,7 +1,0 @@
-use Rattle.std.proofs.Common.{take}
-use Rattle.std.specs.Prelude.{All}
-use Rattle.hot_pixel.specs.Bundle.{RunsThroughSeen}
-use Rattle.hot_pixel.proofs.bundle.all_run_through.Given as goal
-
-abbrev pub invariant-loop-line : goal.invariant-loop-line
-invariant-loop-line l = All (λ x. RunsThroughSeen l.course l.low l.high x.edge) (take l.line-index l.lines)

@@ -1,6 +1,0 @@
-use Rattle.std.proofs.Common.{take}
-use Rattle.hot_pixel.specs.Bundle.{AreStrands}
-use Rattle.hot_pixel.proofs.bundle.strands.Given as goal
-
-abbrev pub invariant-loop-line : goal.invariant-loop-line
-invariant-loop-line g l = AreStrands l.fn.course l.fn.low l.fn.high (take l.line-index l.lines) l.list.items

@@ -1,5 +1,0 @@
-use Rattle.hot_pixel.proofs.CarrierLaws.{AreCarriedUpTo}
-use Rattle.hot_pixel.proofs.carrier.with_strands.Given as goal
-
-abbrev pub invariant-loop-place : goal.invariant-loop-place
-invariant-loop-place g l = AreCarriedUpTo l.fn.course l.fn.low l.fn.high l.lines l.place l.list.items

@@ -1,0 +1,24 @@
+use Rattle.std.proofs.Common.{refl, subst, sym, w32, to_z, of_z, to_z-of_z, arith}
+use Rattle.std.specs.Prelude.{IfSome}
+use Rattle.hot_region.specs.declared.lines.Line.{Line}
+use Rattle.hot_region.specs.Bundle.{IsStrandSeen}
+use Rattle.hot_region.proofs.CarrierLaws.{carried_all, carried_more}
+use Rattle.hot_region.proofs.beside.with_strands.Goals as goal
+use Rattle.hot_region.proofs.beside.with_strands.Goals.{then-crosses_last+else-crossed-most, else-crosses_last}
+
+pub loop-place-preserved : goal.loop-place-preserved
+loop-place-preserved g c =
+    let low = to_z w32 (of_z w32 c.args.low) in
+    let high = to_z w32 (of_z w32 c.args.high) in
+    let l = c.index-lines-place.result in
+    let inv = c.loop-place.invariant in
+    let strand = subst (λ (x : Line). IfSome c.strand_if_through-strand.result (λ s. IsStrandSeen c.args.course low high x.edge s)) (sym c.index-lines-place.is) c.strand_if_through-strand.ensures in (
+      rw c.in_ok-push.ensures.items (carried_more c.args.course low high c.args.lines.now c.loop-place.place c.loop-place.items.items l _ c.loop-place-test.true c.index-lines-place.is refl strand inv.0),
+      elim c.if-crosses_last.branch [
+        | then-crosses_last+else-crossed-most w ↦ rw w.crossed-is (omega (arith, inv.1, w.if-crossed-most.false))
+        | else-crosses_last w ↦ rw w.crossed-is inv.1
+      ],
+    )
+
+pub returns : goal.returns
+returns g c = rw (to_z-of_z c.ranges.low, to_z-of_z c.ranges.high) at (carried_all c.args.course (to_z w32 (of_z w32 c.args.low)) (to_z w32 (of_z w32 c.args.high)) c.args.lines.now c.loop-place.place c.loop-place.items.items c.loop-place-test.false c.loop-place.invariant.0)
