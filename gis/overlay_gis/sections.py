@@ -159,10 +159,15 @@ class Folder:
         except FileNotFoundError as error:
             raise Spoiled(name, "isn't there") from error
 
-    def note(self, name: str) -> Any:
-        """What a file's maker has to tell; nothing where the file isn't there, or isn't of this plan."""
-        with suppress(Spoiled), self.opened(name) as file:
+    def told(self, name: str) -> Any:
+        """What a file's maker has to tell."""
+        with self.opened(name) as file:
             return self.table(file, name).note
+
+    def note(self, name: str) -> Any:
+        """The same; nothing where the file isn't there, or isn't of this plan."""
+        with suppress(Spoiled):
+            return self.told(name)
         return None
 
     def got(self, name: str, *keys: str) -> list[Values]:

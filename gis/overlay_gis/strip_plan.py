@@ -28,7 +28,7 @@ SAMPLE = 512
 
 # Bytes that the tasks take, as measured: any of them; for each segment that reaches a strip; and the
 # last one, for each edge of the answer.
-BASE, LINE, EDGE = 120 << 20, 400, 150
+BASE, LINE, EDGE = 120 << 20, 400, 115
 
 # How many segments a strip has if there is room for them: fewer would be more work in all, more would
 # leave some workers without any.

@@ -13,7 +13,9 @@ proved library; it may run on any machine that sees the folder, twice, or at onc
 
 from __future__ import annotations
 
+import ctypes
 import time
+from contextlib import suppress
 from functools import partial
 from typing import Any, Callable, NamedTuple
 
@@ -220,15 +222,32 @@ def of_layer(edges: Values, name: str) -> Values:
 
 
 def polygons(work: Work, _: int) -> Made:
-    plan, pieces = planned(work), []
-    waiting = np.empty(0, strips().DIRECTED)
-    for strip in range(plan.strips):
-        here, later = work.held.got(f"labels.{strip}", "here", "later")
-        now = np.searchsorted(plan.cuts, waiting["ax"], "right") == strip
-        pieces.append(in_order(np.concatenate([here, waiting[now]])))
-        waiting = np.concatenate([waiting[~now], later])
-    coordinates, rings, starts = strips().polygons(np.concatenate(pieces))
+    """Nothing else but the edges is held while the library makes their polygons."""
+    directed = all_edges(work)
+    give_back()
+    coordinates, rings, starts = strips().polygons(directed)
     return {"polygons": len(starts) - 1}, {"coordinates": coordinates, "rings": rings, "polygons": starts}
+
+
+def all_edges(work: Work) -> Values:
+    """The directed edges of all strips, in order."""
+    plan = planned(work)
+    names = [f"labels.{strip}" for strip in range(plan.strips)]
+    found = np.empty(sum(work.held.told(name)["edges"] for name in names), strips().DIRECTED)
+    waiting, at = found[:0], 0
+    for strip, name in enumerate(names):
+        here, later = work.held.got(name, "here", "later")
+        now = np.searchsorted(plan.cuts, waiting["ax"], "right") == strip
+        past = at + len(here) + np.count_nonzero(now)
+        found[at:past] = in_order(np.concatenate([here, waiting[now]]))
+        waiting, at = np.concatenate([waiting[~now], later]), past
+    return found[:at]
+
+
+def give_back() -> None:
+    """Gives memory that earlier tasks have left free back to the system, where C's library can."""
+    with suppress(AttributeError):
+        ctypes.CDLL(None).malloc_trim(0)
 
 
 def in_order(directed: Values) -> Values:

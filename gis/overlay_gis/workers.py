@@ -20,6 +20,7 @@ from .messages import PAUSE, bar
 from .strip_library import strips
 from .strip_plan import Work
 from .strip_tasks import DONE, REFUSED, SPOILED, Outcome, Step, carried_out, folder_of, needs, steps
+from .worker_start import leave_out_needless, told_packages
 
 DASK = "dask"
 
@@ -122,6 +123,18 @@ def clients(scheduler: str | None, count: int) -> Iterator[Any]:
 
 
 @contextmanager
+def lean() -> Iterator[None]:
+    """Within, a run tells Dask of the same packages as its workers do: else it is warned of them."""
+    told = told_packages()
+    held = list(told)
+    leave_out_needless()
+    try:
+        yield
+    finally:
+        told[:] = held
+
+
+@contextmanager
 def own_cluster(package: ModuleType, count: int) -> Iterator[Any]:
     """A scheduler and workers on this machine, to which nobody else has access where Python can make
     certificates."""
@@ -130,7 +143,7 @@ def own_cluster(package: ModuleType, count: int) -> Iterator[Any]:
         security = package.Security.temporary()
     config = importlib.import_module(DASK).config
     quiet = config.set({BEFORE: {**config.get(BEFORE), **QUIET}})
-    with quiet, TemporaryDirectory(prefix="overlay-gis-") as space:
+    with quiet, lean(), TemporaryDirectory(prefix="overlay-gis-") as space:
         cluster = package.LocalCluster(
             n_workers=count,
             threads_per_worker=1,
