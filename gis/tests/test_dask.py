@@ -1,14 +1,15 @@
 """`--engine dask` by processes of Dask: workers that are killed in every phase, a run that is killed,
-and a scheduler that others started."""
+and a scheduler that others started. What is killed dies where the test says, however busy the
+machine is: see `marking_worker`."""
 
 import os
-import random
 import signal
 import subprocess
 import sys
-import threading
 import time
+from contextlib import contextmanager
 from pathlib import Path
+from types import SimpleNamespace
 
 import pytest
 
@@ -21,14 +22,32 @@ sys.path.append(str(Path(COMMAND).parents[1] / "python"))
 pytest.importorskip("overlay_grid.strips", reason="no library: python/build")
 distributed = pytest.importorskip("distributed", reason="no Dask: apt-get install python3-distributed")
 psutil = pytest.importorskip("psutil", reason="no psutil: apt-get install python3-psutil")
+import marking_worker  # noqa: E402
+
+
+MOST, PART = 80, 4000
 
 
 @pytest.fixture
 def town(tmp_path, monkeypatch):
-    """Two layers, of which there are many parts and strips."""
-    monkeypatch.setattr(by_strips, "most_lines", lambda _: 40)
-    monkeypatch.setattr(by_strips, "PART", 2000)
-    return write(tmp_path / "a.gpkg", parcels(1, 3, 10)), write(tmp_path / "b.gpkg", blobs(2, 3, 8))
+    """Two layers, of which there are some parts and strips."""
+    monkeypatch.setattr(by_strips, "most_lines", lambda _: MOST)
+    monkeypatch.setattr(by_strips, "PART", PART)
+    return write(tmp_path / "a.gpkg", parcels(1, 3)), write(tmp_path / "b.gpkg", blobs(2, 3))
+
+
+@pytest.fixture
+def of_workers(tmp_path, monkeypatch):
+    """Has workers do what a test wants in these phases, and answers the folder with their marks."""
+
+    def put(what, *phases):
+        marks = tmp_path / "marks"
+        marks.mkdir()
+        for name, value in zip(marking_worker.NAMES, (what, " ".join(phases), str(marks))):
+            monkeypatch.setenv(name, value)
+        return marks
+
+    return put
 
 
 def words(town, out, *more):
@@ -40,6 +59,7 @@ def begun(folder, phase):
 
 
 def until(there, seconds=300):
+    """Whether it is there before far more time has passed than it takes."""
     end = time.monotonic() + seconds
     while not there() and time.monotonic() < end:
         time.sleep(0.01)
@@ -59,33 +79,24 @@ def test_workers_of_this_machine(gis, town):
     assert not list(Path().glob(".overlay-gis-*")) and not Path("dask-worker-space").exists()
 
 
-@pytest.mark.parametrize("phase", strip_tasks.PHASES)
-def test_workers_are_killed_in_every_phase(gis, town, phase):
-    """One after another, as soon as the phase's first file is there."""
-    rng, killed = random.Random(phase), []
-
-    def kill():
-        if until(lambda: begun("files", phase) or Path("many.gpkg").exists()):
-            for worker in rng.sample(workers_of(psutil.Process()), 2):
-                worker.kill()
-                killed.append(worker.pid)
-                time.sleep(0.3)
-
-    thread = threading.Thread(target=kill)
-    thread.start()
-    answer = gis(*words(town, "many.gpkg", "--engine", "dask", "--workers", "3", "--dir", "files"))
-    thread.join()
-    assert answer.status == 0 and killed, answer.err
+def test_a_worker_is_killed_in_every_phase(gis, town, of_workers, monkeypatch):
+    """By SIGKILL: as it begins a task, while it writes, or when it has written."""
+    marks = of_workers("dying", *strip_tasks.PHASES)
+    monkeypatch.setattr(workers, "START", marking_worker.__file__)
+    answer = gis(*words(town, "many.gpkg", "--engine", "dask", "--workers", "3"))
+    assert answer.status == 0, answer.err
+    assert sorted(path.name for path in marks.iterdir()) == sorted(strip_tasks.PHASES)
     assert not [line for line in answer.err.splitlines() if not line.startswith("overlay-gis: ")], answer.err
     assert gis(*words(town, "one.gpkg")).status == 0
     assert rows("one.gpkg") == rows("many.gpkg")
 
 
-SMALL = """
+SMALL = f"""
 import sys
-sys.path.insert(0, {gis!r})
-from overlay_gis import by_strips, cli
-by_strips.most_lines, by_strips.PART = lambda _: 40, 2000
+sys.path.insert(0, {str(Path(COMMAND).parent)!r})
+from overlay_gis import by_strips, cli, workers
+by_strips.most_lines, by_strips.PART = lambda _: {MOST}, {PART}
+workers.START = {marking_worker.__file__!r}
 if __name__ == "__main__":  # which its workers aren't
     sys.exit(cli.main(sys.argv[1:]))
 """
@@ -94,34 +105,51 @@ if __name__ == "__main__":  # which its workers aren't
 STOPPED = [("read", signal.SIGKILL), ("round", signal.SIGKILL), ("labels", signal.SIGKILL), ("round", signal.SIGTERM), ("labels", signal.SIGINT)]
 
 
-def stopped(command, phase, number):
-    """A run that got a signal as soon as the phase's first file was there, what it said, and its
-    workers. One that was done by then is begun once more."""
-    for _ in range(5):
-        process = subprocess.Popen(command, stderr=subprocess.PIPE, text=True)
-        assert until(lambda: begun("files", phase) or process.poll() is not None)
-        children = workers_of(psutil.Process(process.pid)) if process.poll() is None else []
-        process.send_signal(number)
-        said = process.communicate(timeout=60)[1]
-        if not Path("many.gpkg").exists():
-            return process, said, children
-        Path("many.gpkg").unlink()
-    raise AssertionError("each run was done before its signal")
+@contextmanager
+def begun_elsewhere(folder, *words):
+    """A run in a process of its own, which doesn't outlive the test."""
+    script = folder / "small.py"
+    script.write_text(SMALL)
+    surroundings = {**os.environ, "TMPDIR": str(folder)}
+    process = subprocess.Popen([sys.executable, str(script), *words], stderr=subprocess.PIPE, text=True, env=surroundings)
+    try:
+        yield process
+    finally:
+        process.kill()
+        process.communicate()
+
+
+def files():
+    """What tasks have made, by name, each with what tells it from one that was made again."""
+    return {path.name: path.stat().st_ino for phase in strip_tasks.PHASES for path in Path("files").glob(f"*/{phase}.*")}
+
+
+def ended(process):
+    return not process.is_running() or process.status() == psutil.STATUS_ZOMBIE
 
 
 @pytest.mark.parametrize("phase, number", STOPPED, ids=lambda held: str(getattr(held, "name", held)))
-def test_a_run_that_is_killed_goes_on(gis, town, tmp_path, phase, number):
-    script = tmp_path / "small.py"
-    script.write_text(SMALL.format(gis=str(Path(COMMAND).parent)))
-    more = ("--engine", "dask", "--workers", "2", "--dir", "files")
-    process, said, children = stopped([sys.executable, str(script), *words(town, "many.gpkg", *more)], phase, number)
-    assert until(lambda: not any(child.is_running() and child.status() != psutil.STATUS_ZOMBIE for child in children), 30)
-    if number != signal.SIGKILL:
+def test_a_run_that_is_killed_goes_on(gis, town, tmp_path, of_workers, monkeypatch, phase, number):
+    """With one task of the phase done, and others waiting, so that none is done before its signal."""
+    marks = of_workers("waiting", phase)
+    parted = words(town, "many.gpkg", "--engine", "dask", "--dir", "files")
+    with begun_elsewhere(tmp_path, *parted, "--workers", "2") as process:
+        assert until(lambda: begun("files", phase) and (marks / "waits").exists() or process.poll() is not None)
+        assert process.poll() is None, process.communicate()
+        children = workers_of(psutil.Process(process.pid))
+        process.send_signal(number)
+        said = process.communicate(timeout=300)[1]
+    assert children and until(lambda: all(map(ended, children)))
+    if number == signal.SIGKILL:
+        assert process.returncode == -number
+    else:
         assert "stopped by" in said.splitlines()[-1] and process.returncode == 1
-    left = {path.name: path.stat().st_ino for path in Path("files").glob("*/*.*") if not path.name.startswith(".")}
-    assert left
-    answer = gis(*words(town, "many.gpkg", *more))
+    left = files()
+    assert len([name for name in left if name.startswith(f"{phase}.")]) == 1
+    monkeypatch.setattr(by_strips, "shutil", SimpleNamespace(rmtree=lambda *_, **__: None))
+    answer = gis(*parted, "--workers", "1")
     assert answer.status == 0 and "goes on from the files there" in answer.err, answer.err
+    assert left.items() <= files().items()
     assert gis(*words(town, "one.gpkg")).status == 0
     assert rows("one.gpkg") == rows("many.gpkg")
 
@@ -135,15 +163,17 @@ def scheduler(tmp_path):
     place = tmp_path / "scheduler.json"
     begun = [subprocess.Popen(["dask-scheduler", "--host", "127.0.0.1", "--port", "0", "--dashboard-address", "127.0.0.1:0", "--scheduler-file", str(place)], env=surroundings, cwd=tmp_path, stderr=subprocess.DEVNULL)]
     try:
-        assert until(place.exists, 60)
-        worker = ["dask-worker", "--scheduler-file", str(place), "--nthreads", "1", "--dashboard-address", "127.0.0.1:0"]
+        assert until(place.exists)
+        worker = ["dask-worker", "--scheduler-file", str(place), "--nthreads", "1", "--dashboard-address", "127.0.0.1:0", "--local-directory", str(tmp_path)]
         begun += [subprocess.Popen(worker, env=surroundings, cwd=tmp_path, stderr=subprocess.DEVNULL) for _ in range(2)]
-        yield distributed.Client(scheduler_file=str(place), set_as_default=False).scheduler.address
+        with distributed.Client(scheduler_file=str(place), timeout=300, set_as_default=False) as client:
+            client.wait_for_workers(2, 300)
+            yield client.scheduler.address
     finally:
         for process in begun:
-            process.terminate()
+            process.kill()
         for process in begun:
-            process.wait(30)
+            process.wait()
 
 
 def test_workers_that_others_started(gis, town, scheduler):
