@@ -189,8 +189,9 @@ def of_layer(work: Work, notes: Sequence[Any], layer: int) -> list[Any]:
 
 def planned(asked: Wanted, work: Work, survey: Survey, memory: int) -> Work:
     """Work by strips that fit into so many bytes, which is told."""
-    strips = survey.strips(most_lines(memory))
     segments = sum(note["points"] - note["rings"] for note in survey.notes)
+    most = most_lines(memory, segments)
+    strips = survey.strips(most)
     task, last = BASE + LINE * strips.most, BASE + EDGE * segments
     say(
         f"{len(work.reading.parts):,} parts, {len(strips.cuts) + 1:,} strips of about {strips.most:,} segments at most;"
@@ -198,7 +199,7 @@ def planned(asked: Wanted, work: Work, survey: Survey, memory: int) -> Work:
         f" which has all edges of the answer, {last // MEGABYTE:,} if these are as many as there are segments"
     )
     names = names_of(asked.sources)
-    if strips.most > 2 * most_lines(memory):
+    if strips.most > 2 * most:
         warn(names, f"about {strips.most:,} of {segments:,} segments reach one strip: they span the map, and narrower strips don't help")
     for told, bytes_ in (("a strip", task), ("the last task", last)):
         if bytes_ > memory:

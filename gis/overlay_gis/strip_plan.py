@@ -30,9 +30,9 @@ SAMPLE = 512
 # last one, for each edge of the answer.
 BASE, LINE, EDGE = 120 << 20, 400, 115
 
-# How many segments a strip has if there is room for them: fewer would be more work in all, more would
-# leave some workers without any.
-USUAL = 100_000
+# How many segments a strip has at least and at most, if there is room for them, and how many strips a
+# map has between: fewer segments would be more work in all, more would leave some workers without any.
+FEW, MANY, STRIPS = 100_000, 400_000, 24
 
 
 class Part(NamedTuple):
@@ -120,9 +120,10 @@ def grid_of(frame: Frame) -> tuple[str, str, str]:
     return str(frame.unit), str(x), str(y)
 
 
-def most_lines(memory: int) -> int:
-    """How many segments a strip may have where a task may take so many bytes."""
-    return max(1, min(USUAL, (memory - BASE) // LINE))
+def most_lines(memory: int, segments: int) -> int:
+    """How many segments a strip may have, of so many in all, where a task may take so many bytes."""
+    wanted = min(max(segments // STRIPS, FEW), MANY)
+    return max(1, min(wanted, (memory - BASE) // LINE))
 
 
 def chosen(begins: Numbers, ends: Numbers, weights: Floats, most: float) -> Strips:

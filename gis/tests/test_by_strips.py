@@ -50,7 +50,7 @@ def in_turn(monkeypatch):
     monkeypatch.setattr(by_strips, "clients", lambda *_: nullcontext(None))
 
     def put(segments, size):
-        monkeypatch.setattr(by_strips, "most_lines", lambda _: segments)
+        monkeypatch.setattr(by_strips, "most_lines", lambda *_: segments)
         monkeypatch.setattr(by_strips, "PART", size)
 
     return put
@@ -205,6 +205,17 @@ def test_parts_have_each_feature_once(tmp_path):
         read = [held.part(*part).survey().numbers.tolist() for part in parts]
         assert read == found
     assert ranges.ranges(ranges.input_of(Source(write(tmp_path / "b.gpkg", [], None))), "geom", 9) == []
+
+
+@pytest.mark.parametrize("memory, segments, most", [
+    (10**9, 10**6, 100_000),  # ten strips
+    (10**9, 4_800_000, 200_000),  # 24 of them
+    (10**9, 10**8, 400_000),
+    (200_000_000, 10**8, 185_427),  # what 120 * 2^20 bytes leave, at 400 a segment
+    (10**6, 10**8, 1),
+])
+def test_segments_of_a_strip(memory, segments, most):
+    assert strip_plan.most_lines(memory, segments) == most
 
 
 def test_strips_are_chosen_by_what_reaches_them():

@@ -31,7 +31,7 @@ MOST, PART = 80, 4000
 @pytest.fixture
 def town(tmp_path, monkeypatch):
     """Two layers, of which there are some parts and strips."""
-    monkeypatch.setattr(by_strips, "most_lines", lambda _: MOST)
+    monkeypatch.setattr(by_strips, "most_lines", lambda *_: MOST)
     monkeypatch.setattr(by_strips, "PART", PART)
     return write(tmp_path / "a.gpkg", parcels(1, 3)), write(tmp_path / "b.gpkg", blobs(2, 3))
 
@@ -95,7 +95,7 @@ SMALL = f"""
 import sys
 sys.path.insert(0, {str(Path(COMMAND).parent)!r})
 from overlay_gis import by_strips, cli, workers
-by_strips.most_lines, by_strips.PART = lambda _: {MOST}, {PART}
+by_strips.most_lines, by_strips.PART = lambda *_: {MOST}, {PART}
 workers.START = {marking_worker.__file__!r}
 if __name__ == "__main__":  # which its workers aren't
     sys.exit(cli.main(sys.argv[1:]))
