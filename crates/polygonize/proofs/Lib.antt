@@ -18,3 +18,4 @@ pub mod Told
 pub mod LoneWalk
 pub mod LoneShells
 pub mod ClosedVertices
+pub mod PlacesBelow

@@ -108,6 +108,21 @@ pub record AreGapsBelow (ds : List DirectedEdge) (vertices : List Pt) (best : Li
   pub same_length : length best ≡ length vertices
   pub each : (r : ℕ) → r < length vertices → IsFoundBelow ds (vertex_at vertices r) (best_at best r)
 
+-- the place of the edge of a gap
+abbrev pub place_of : Option Gap → Option ℕ
+place_of None = None
+place_of (Some g) = Some g.number
+
+-- below v, of the edges, the one at the place is a nearest one, or none lies there
+abbrev pub IsEdgeBelow : List DirectedEdge → Pt → Option ℕ → Type 0
+IsEdgeBelow ds v None = (e : Edge) → ¬ (LiesBelow ds (left_of v) e)
+IsEdgeBelow ds v (Some k) = (k < length ds) × IsNearestBelow ds (left_of v) (edge_at ds k)
+
+-- each place is that of a nearest edge below its vertex
+pub record AreEdgesBelow (ds : List DirectedEdge) (vertices : List Pt) (below : List (Option ℕ)) : Type 0 where
+  pub same_length : length below ≡ length vertices
+  pub each : (r : ℕ) → r < length vertices → IsEdgeBelow ds (vertex_at vertices r) (slice_index_or below r None)
+
 -- the gaps stand in a list at the given numbers
 abbrev pub StandAt : List ℕ → List (Option Gap) → List (Option Gap) → Type 0
 StandAt numbers gaps best = (k : ℕ) → k < length numbers → best_at best (slice_index_or numbers k 0) ≡ best_at gaps k

@@ -8,7 +8,7 @@ ghost use Rattle.geom.specs.Parity.{covers};
 ghost use Rattle.polygonize.specs.Below.{HasGapRoom, IsAsNear, IsGap, IsGapOf, IsLesserGap, IsLessGap, RunsBelow};
 ghost use Rattle.polygonize.specs.Next.{edge_at};
 
-use crate::closing_edges::ClosingEdges;
+use crate::limited_edges::LimitedEdges;
 use geom::{DirectedEdge, Edge, Pt, wide_product};
 
 /// The gap between an edge and a point just left of a vertex above it: (side + rise / 2^64) / run grid units.
@@ -92,7 +92,7 @@ pub fn nearer(best: Option<Gap>, found: Option<Gap>) -> Option<Gap>
 }
 
 /// The gap to the nearest edge below the point just left of v, among those of the given numbers.
-pub fn nearest_among(edges: ClosingEdges<'_>, numbers: &[usize], v: Pt) -> Option<Gap>
+pub fn nearest_among(edges: LimitedEdges<'_>, numbers: &[usize], v: Pt) -> Option<Gap>
     requires v_in { InLimit v }
     requires inside { All (λ k. k < length edges.list.now) numbers.now }
     ensures known { IfSome result (λ g. IsGapOf edges.entry.list.now v g) }

@@ -4,7 +4,7 @@ ghost use Rattle.std.specs.Prelude.{◌↔◌, ◌<◌, ◌≤ℤ◌, ◌<ℤ◌
 ghost use Rattle.geom.specs.Limit.{AreInLimit, InLimit, IsWithin, coordinate_limit};
 ghost use Rattle.polygonize.specs.Column.{AreColumnsOf, HasMeeting, Meets, Spans};
 
-use crate::closing_edges::ClosingEdges;
+use crate::limited_edges::LimitedEdges;
 use geom::{COORDINATE_LIMIT, DirectedEdge, NoMemory, Pt};
 use std::alloc::Allocator;
 
@@ -62,7 +62,7 @@ pub fn meets(edge: DirectedEdge, columns: Columns) -> bool
 /// Those of the edges that don't span all columns, and meet some of a part of them.
 pub fn meeting<A: Allocator>(
     alloc: A,
-    edges: ClosingEdges<'_>,
+    edges: LimitedEdges<'_>,
     numbers: &[usize],
     all: Columns,
     part: Columns,

@@ -13,8 +13,8 @@ ghost use Rattle.polygonize.specs.Ladder.{AreInOrder, AreSpanning, IsLadder, IsU
 ghost use Rattle.polygonize.specs.Next.{edge_at};
 
 use crate::below::{Gap, gap_below};
-use crate::closing_edges::ClosingEdges;
 use crate::column::{Columns, spans};
+use crate::limited_edges::LimitedEdges;
 use geom::{DirectedEdge, Edge, NoMemory, Pt, wide_product};
 use std::alloc::{AllocError, Allocator};
 
@@ -68,7 +68,7 @@ fn heights_of(edge: DirectedEdge, columns: Columns) -> Heights
 /// Those of the edges that span the columns.
 fn rungs_of<A: Allocator>(
     alloc: A,
-    edges: ClosingEdges<'_>,
+    edges: LimitedEdges<'_>,
     numbers: &[usize],
     columns: Columns,
 ) -> Result<Vec<Rung, A>, NoMemory>
@@ -105,7 +105,7 @@ fn numbers_of<A: Allocator + Copy>(alloc: A, rungs: &[Rung]) -> Result<Vec<usize
 /// Those of the edges that span the columns, as they are sorted by their heights.
 pub fn spanning<A: Allocator + Copy>(
     alloc: A,
-    edges: ClosingEdges<'_>,
+    edges: LimitedEdges<'_>,
     numbers: &[usize],
     columns: Columns,
 ) -> Result<Vec<usize, A>, NoMemory>
@@ -151,7 +151,7 @@ fn are_in_order(below: DirectedEdge, above: DirectedEdge, columns: Columns) -> b
 }
 
 /// Whether edges that span the columns stand from low to high there.
-pub fn is_ladder(edges: ClosingEdges<'_>, numbers: &[usize], columns: Columns) -> bool
+pub fn is_ladder(edges: LimitedEdges<'_>, numbers: &[usize], columns: Columns) -> bool
     requires low_in { IsWithin coordinate_limit columns.low }
     requires high_in { IsWithin coordinate_limit columns.high }
     requires inside { All (λ k. k < length edges.list.now) numbers.now }
@@ -171,7 +171,7 @@ pub fn is_ladder(edges: ClosingEdges<'_>, numbers: &[usize], columns: Columns) -
 }
 
 /// The gap to the nearest edge of a ladder below the point just left of v.
-pub fn highest_below(edges: ClosingEdges<'_>, ladder: &[usize], v: Pt) -> Option<Gap>
+pub fn highest_below(edges: LimitedEdges<'_>, ladder: &[usize], v: Pt) -> Option<Gap>
     requires v_in { InLimit v }
     requires inside { All (λ k. k < length edges.list.now) ladder.now }
     requires order { StandInOrder edges.list.now v ladder.now }

@@ -8,7 +8,8 @@
 //! Edges from elsewhere are tested first (`closing`). Few edges whose rings are all shells, and visit no vertex twice, are polygons without more
 //! ado (`lone_shells`).
 //!
-//! What all this stands on, that the edges close and are within the coordinate limit, the edges' type knows (`closing_edges`).
+//! What all this stands on, that the edges close and are within the coordinate limit, the edges' type knows (`closing_edges`; `limited_edges`
+//! for the search for edges below, which takes any edges: `edges_below`).
 //!
 //! The promise: where edges meet only at ends and each hole has an edge below it, the polygons of the definition (`ArePolygons` of `geom`).
 #![tactic(auto)]
@@ -24,6 +25,7 @@ mod cycle;
 mod hole;
 mod ladder;
 mod leaving;
+mod limited_edges;
 mod listing;
 mod lone_shells;
 mod nearest;
@@ -38,5 +40,6 @@ mod successor;
 mod written;
 
 pub use closing::first_open;
+pub use nearest::edges_below;
 pub use polygon::{polygons, polygons_along};
 pub use result_rings::{ResultRings, rings_in_parts};

@@ -10,19 +10,19 @@
 //! The vertices stand from left to right, so that an edge spans or ends in few of the parts at each depth, and is looked
 //! at some log n times.
 
-ghost use Rattle.std.specs.Prelude.{◌≡◌, ℕ, ◌<◌, ◌≤◌, All, Contains, IfOk, IfSome, IsTrue, OnOk, length, slice_range};
-ghost use Rattle.geom.specs.Limit.{InLimit};
-ghost use Rattle.polygonize.specs.Below.{AreGapsBelow, AreKnown, AreNearer, AreNearerSpanning, IsAsNear, IsGapOf};
+ghost use Rattle.std.specs.Prelude.{◌≡◌, ℕ, ◌<◌, ◌≤◌, All, Contains, IfOk, IfSome, IsTrue, OnOk, length, map, slice_range};
+ghost use Rattle.geom.specs.Limit.{AreInLimit, InLimit};
+ghost use Rattle.polygonize.specs.Below.{AreEdgesBelow, AreGapsBelow, AreKnown, AreNearer, AreNearerSpanning, IsAsNear, IsGapOf, place_of};
 ghost use Rattle.polygonize.specs.Column.{AreColumnsOf, IsIn, StandFromLeft};
 ghost use Rattle.polygonize.specs.Ladder.{IsLadder};
 ghost use Rattle.polygonize.specs.Next.{edge_at};
 
 use crate::below::{Gap, nearer, nearest_among};
-use crate::closing_edges::ClosingEdges;
 use crate::column::{Columns, columns_of, meeting};
 use crate::ladder::{highest_below, is_ladder, spanning};
+use crate::limited_edges::LimitedEdges;
 use crate::short::add_short;
-use geom::{NoMemory, Pt};
+use geom::{DirectedEdge, NoMemory, Pt};
 use hands::{Part, even_parts, joined, map_parts};
 use std::alloc::Allocator;
 use std::thread::Threads;
@@ -32,7 +32,7 @@ const FEW: usize = 4;
 
 /// The gap to the nearest of some edges below the point just left of v, by a binary search where they are a ladder.
 fn nearest_of(
-    edges: ClosingEdges<'_>,
+    edges: LimitedEdges<'_>,
     numbers: &[usize],
     columns: Columns,
     is_ladder: bool,
@@ -54,7 +54,7 @@ fn nearest_of(
 
 /// Takes some edges into account, for each of the vertices that are asked for.
 fn add_edges(
-    edges: ClosingEdges<'_>,
+    edges: LimitedEdges<'_>,
     vertices: &[Pt],
     asked: &[usize],
     numbers: &[usize],
@@ -80,7 +80,7 @@ fn add_edges(
 /// Takes the edges that span the columns into account, for each of the vertices that are asked for.
 fn add_spanning<A: Allocator + Copy>(
     alloc: A,
-    edges: ClosingEdges<'_>,
+    edges: LimitedEdges<'_>,
     vertices: &[Pt],
     asked: &[usize],
     numbers: &[usize],
@@ -104,7 +104,7 @@ fn add_spanning<A: Allocator + Copy>(
 /// Takes edges into account, for each of the vertices that are asked for.
 fn add<A: Allocator + Copy>(
     alloc: A,
-    edges: ClosingEdges<'_>,
+    edges: LimitedEdges<'_>,
     vertices: &[Pt],
     asked: &[usize],
     numbers: &[usize],
@@ -143,10 +143,31 @@ fn numbers_below<A: Allocator>(alloc: A, bound: usize) -> Result<Vec<usize, A>, 
     Ok(all)
 }
 
+/// The place of the edge of a gap.
+fn place_of(gap: Option<Gap>) -> Option<usize>
+    ensures { result ≡ place_of gap }
+{
+    Some(gap?.number)
+}
+
+/// The places of the edges of gaps.
+fn places_of<A: Allocator>(
+    alloc: A,
+    gaps: &[Option<Gap>],
+) -> Result<Vec<Option<usize>, A>, NoMemory>
+    ensures { IfOk result (λ places. places.items ≡ map place_of gaps.now) }
+{
+    let mut places = Vec::with_capacity(alloc, gaps.len())?;
+    for gap in gaps {
+        places.push(place_of(*gap))?;
+    }
+    Ok(places)
+}
+
 /// For each vertex the gap to the nearest edge below the point just left of it.
 pub fn gaps_below<A: Allocator + Copy>(
     alloc: A,
-    edges: ClosingEdges<'_>,
+    edges: LimitedEdges<'_>,
     vertices: &[Pt],
 ) -> Result<Vec<Option<Gap>, A>, NoMemory>
     requires vertices_in { All InLimit vertices.now }
@@ -163,12 +184,27 @@ pub fn gaps_below<A: Allocator + Copy>(
     Ok(best)
 }
 
+/// For each vertex, of which none stands left of the one before it, the place of a nearest edge below the point just left of it.
+pub fn edges_below<A: Allocator + Copy>(
+    alloc: A,
+    edges: &[DirectedEdge],
+    vertices: &[Pt],
+) -> Result<Vec<Option<usize>, A>, NoMemory>
+    requires edges_in { All (λ d. AreInLimit d.from d.to) edges.now }
+    requires vertices_in { All InLimit vertices.now }
+    requires from_left { StandFromLeft vertices.now }
+    ensures { IfOk result (λ below. AreEdgesBelow edges.now vertices.now below.items) }
+{
+    let gaps = gaps_below(alloc, LimitedEdges { list: edges }, vertices)?;
+    places_of(alloc, &gaps)
+}
+
 /// The same in so many parts.
 pub fn gaps_below_in_parts<R: Threads + Sync, A: Allocator + Copy + Send + Sync>(
     rt: &R,
     alloc: A,
     parts: usize,
-    edges: ClosingEdges<'_>,
+    edges: LimitedEdges<'_>,
     vertices: &[Pt],
 ) -> Result<Vec<Option<Gap>, A>, NoMemory>
     requires vertices_in { All InLimit vertices.now }

@@ -10,8 +10,8 @@ ghost use Rattle.polygonize.specs.Below.{AreKnown, AreNearerWithin, AreTakenBut,
 ghost use Rattle.polygonize.specs.Column.{IsIn, StandFromLeft, StandsOver};
 
 use crate::below::{Gap, gap_below, nearer};
-use crate::closing_edges::ClosingEdges;
 use crate::column::{Columns, meets};
+use crate::limited_edges::LimitedEdges;
 use geom::{DirectedEdge, NoMemory, Pt};
 use hands::Part;
 use std::alloc::Allocator;
@@ -88,7 +88,7 @@ fn places_over(vertices: &[Pt], all: Columns, edge: DirectedEdge) -> Option<Part
 
 /// Takes an edge into account, for the vertices of a part.
 fn add_edge(
-    edges: ClosingEdges<'_>,
+    edges: LimitedEdges<'_>,
     number: usize,
     vertices: &[Pt],
     part: Part,
@@ -111,7 +111,7 @@ fn add_edge(
 /// Takes the edges over few vertices into account, and answers the numbers of the others.
 pub fn add_short<A: Allocator>(
     alloc: A,
-    edges: ClosingEdges<'_>,
+    edges: LimitedEdges<'_>,
     vertices: &[Pt],
     best: &mut [Option<Gap>],
 ) -> Result<Vec<usize, A>, NoMemory>

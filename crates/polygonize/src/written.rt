@@ -273,7 +273,7 @@ fn edges_below<A: Allocator + Copy>(
 {
     let holes = holes_among(alloc, rings)?;
     let vertices = first_vertices(alloc, edges.list, cycles, &holes)?;
-    let gaps = gaps_below(alloc, edges, &vertices)?;
+    let gaps = gaps_below(alloc, edges.limited(), &vertices)?;
     gaps_of_rings(alloc, rings.len(), &holes, &gaps)
 }
 
@@ -293,7 +293,7 @@ fn edges_below_in_parts<R: Threads + Sync, A: Allocator + Copy + Send + Sync>(
 {
     let holes = holes_among(alloc, rings)?;
     let vertices = first_vertices(alloc, edges.list, cycles, &holes)?;
-    let gaps = gaps_below_in_parts(rt, alloc, parts, edges, &vertices)?;
+    let gaps = gaps_below_in_parts(rt, alloc, parts, edges.limited(), &vertices)?;
     gaps_of_rings(alloc, rings.len(), &holes, &gaps)
 }
 

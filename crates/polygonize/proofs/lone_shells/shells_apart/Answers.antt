@@ -1,4 +1,4 @@
-use Rattle.std.proofs.Common.{◌<◌, ◌∙◌, arith, length, ap, sym}
+use Rattle.std.proofs.Common.{◌∙◌, arith, length, ap, sym}
 use Rattle.std.proofs.lemmas.List.{with_items_is}
 use Rattle.polygonize.proofs.ClosesOnce.{closes_of}
 use Rattle.polygonize.proofs.LoneWalk.{all_lone, lone_canonical, lone_closed, lone_length, none_lone, one_more_lone, seen_lone}

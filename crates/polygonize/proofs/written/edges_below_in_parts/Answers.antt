@@ -42,7 +42,7 @@ gaps_of_rings-requires-clause-inside g c = rw c.deref-3.ensures.value c.in_ok-ho
 pub gaps_of_rings-requires-clause-same_length : goal.gaps_of_rings-requires-clause-same_length
 gaps_of_rings-requires-clause-same_length g c =
     let begins = rw c.deref.ensures.value at c.in_ok-vertices.ensures in
-    let found = rw c.deref-2.ensures.value at c.in_ok-gaps.ensures in
+    let found = rw (c.limited.ensures, c.deref-2.ensures.value) at c.in_ok-gaps.ensures in
     rw (c.deref-3.ensures.value, c.deref-4.ensures.value) (found.same_length ∙ ap length begins ∙ length-map _ _)
 
 pub returns : goal.returns
@@ -53,7 +53,7 @@ returns g c =
     let holes = c.in_ok-holes.holes.items in
     let gaps = c.in_ok-gaps.gaps.items in
     let begins = rw c.deref.ensures.value at c.in_ok-vertices.ensures in
-    let found = rw c.deref-2.ensures.value at c.in_ok-gaps.ensures in
+    let found = rw (c.limited.ensures, c.deref-2.ensures.value) at c.in_ok-gaps.ensures in
     IfOk-weaker c.gaps_of_rings.result (λ below. (length below.items ≡ length rings) × StandAt holes gaps below.items) (λ below. AreFoundBelow edges cycles below.items)
     (λ below h. below_all edges cycles c.in_ok-vertices.vertices.items holes gaps below.items begins (holes_known edges cycles rings holes c.requires.cut c.in_ok-holes.ensures) found (let l = h.0 in let r = c.requires.cut.reaches in omega (arith, l, r)) h.1)
     (rw (c.deref-3.ensures.value, c.deref-4.ensures.value) at c.gaps_of_rings.ensures)
