@@ -17,10 +17,10 @@ ghost use Rattle.label_sweep.specs.Changing.{changes};
 ghost use Rattle.label_sweep.specs.StripLabels.{AreResultEdgesAlong};
 ghost use Rattle.phases.specs.Labels.{AreOfStrip, ComeInto, EdgesAreOfStrips, TellLabels, begins_in, goes_on};
 
-use crate::lines::strip_at;
 use geom::{Counted, DirectedEdge, NoMemory, Op};
 use label_sweep::{changing_edges, in_order, strip_labels};
 use std::alloc::Allocator;
+use strips_law::strip_at;
 
 /// Whether an edge begins in a strip.
 fn begins_in(cuts: &[i32], strip: usize, one: &Counted) -> bool

@@ -30,7 +30,7 @@ pub use in_turn::edges_in_strips;
 pub use labelling::{
     changing_of_strip, edges_are_of_strips, edges_of_strip, going_on, labels, labels_in_strips,
 };
-pub use lines::{ascend, scatter, strip_of};
+pub use lines::{ascend, scatter};
 pub use merging::edges;
 pub use rounding::{RoundedStrip, round};
 pub use strips_law::{Carried, Line, Open};

@@ -1,12 +1,12 @@
 //! Strips of columns, and the lines that reach them.
 
 ghost use Rattle.std.specs.Prelude.{◌≡◌, ◌≤◌, ◌<◌, ◌≤ℤ◌, ◌+◌, ℕ, AllPairs, IfOk, IsTrue, List, OnOk, get_or, length, pos, []};
-ghost use Rattle.strips_law.specs.Strips.{AreLinesFrom, IsOriented, crosses, strip_at, strip_of};
+ghost use Rattle.strips_law.specs.Strips.{AreLinesFrom, IsOriented, crosses};
 ghost use Rattle.phases.specs.Scattered.{AddsLine, AreByStrip, lists_of};
 
-use geom::{NoMemory, Pt, Seg};
+use geom::{NoMemory, Seg};
 use std::alloc::Allocator;
-use strips_law::Line;
+use strips_law::{Line, strip_at};
 
 /// Whether cuts ascend.
 pub fn ascend(cuts: &[i32]) -> bool
@@ -20,22 +20,6 @@ pub fn ascend(cuts: &[i32]) -> bool
         greatest = *cut;
     }
     true
-}
-
-/// The strip of a column: how many of the cuts are not past it.
-pub fn strip_of(cuts: &[i32], x: i32) -> usize
-    ensures value { result ≡ strip_of cuts.now x }
-    ensures within { result ≤ length cuts.now }
-{
-    cuts.iter().filter(|cut| **cut <= x).count()
-}
-
-/// The strip of a point.
-pub(crate) fn strip_at(cuts: &[i32], p: Pt) -> usize
-    ensures value { result ≡ strip_at cuts.now p }
-    ensures within { result ≤ length cuts.now }
-{
-    strip_of(cuts, p.x)
 }
 
 /// The cut at a place.

@@ -9,14 +9,16 @@
 //! 5. Those of all strips are the rounded edges (`strips_are_rounded`).
 //!
 //! The promise: any list of cuts gives the same rounded edges. The definitions are `specs/Strips`; the data of which they speak, that passes
-//! from phase to phase, stands in `line`.
+//! from phase to phase, stands in `line`, and `strip` has the calls that tell strips.
 #![tactic(auto)]
 
 ghost use Rattle.strips_law.specs.Law.{EdgesOfStrip, LastStrip, LinesAreOrdered, LinesFollow, NoEdgeIsBoth, StripIsLocal, StripsAreBridged, StripsAreRounded};
 
 mod line;
+mod strip;
 
 pub use line::{Carried, Line, Open};
+pub use strip::{strip_at, strip_of};
 
 /// The lines of segments stand in order.
 pub fn lines_are_ordered()
