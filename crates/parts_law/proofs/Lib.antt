@@ -1,0 +1,12 @@
+pub mod Membership
+pub mod Parts
+pub mod NearestBelow
+pub mod HoleCorners
+pub mod Bounds
+pub mod ClosedApart
+pub mod Merged
+pub mod Rings
+pub mod Polygons
+pub mod AboveNearest
+pub mod ResultBounds
+pub mod Ranges

@@ -1,0 +1,4 @@
+pub mod Bounds
+pub mod Ties
+pub mod Apart
+pub mod Law
