@@ -91,7 +91,8 @@ fn write_polygon<A: Allocator + Copy>(
     Ok(())
 }
 
-fn write_polygons<A: Allocator + Copy>(
+/// Writes polygons.
+pub fn write_polygons<A: Allocator + Copy>(
     out: &mut String<A>,
     polygons: &[Polygon<A>],
 ) -> Result<(), NoMemory> {

@@ -1,4 +1,4 @@
-//! Tests of rings and polygons: the edges of a canonical text give the text again.
+//! Tests of rings and polygons: the edges of a canonical text give the text again, also by strips.
 #![tactic(auto)]
 
 #[cfg(test)]
@@ -6,6 +6,8 @@ mod again;
 pub mod closing;
 #[cfg(test)]
 mod generated;
+#[cfg(test)]
+mod in_strips;
 #[cfg(test)]
 mod open_edges;
 #[cfg(test)]

@@ -1,0 +1,16 @@
+pub mod Roots
+pub mod RootsInLoops
+pub mod ClassesLinked
+pub mod StripsLists
+pub mod StripsPolygons
+pub mod StripsLeft
+pub mod StripsLaw
+pub mod InTurn
+pub mod TiesLinks
+pub mod TiesRightward
+pub mod TiesRuns
+pub mod TiesFound
+pub mod PartingEdges
+pub mod PartingPicked
+pub mod OpenRoots
+pub mod OpenClasses
