@@ -28,7 +28,7 @@
 #define OVERLAY_VERSION "1.0.0"
 
 /* The version of the calls that are declared here. Programs that may meet another library compare overlay_version() with it. */
-#define OVERLAY_CALLS_VERSION 8u
+#define OVERLAY_CALLS_VERSION 9u
 
 #ifdef __cplusplus
 extern "C" {
@@ -297,9 +297,15 @@ uint32_t overlay_faces_columns_side(const struct overlay_columns *layers, size_t
  *   5. overlay_strip_labels     of each strip, of its edges of 4 and those that come in from the left: the directed edges along its own
  *   6. overlay_strip_going_on   of the same, the edges that come into the next strip; nothing comes into the first one
  *
- * The lists of 5 together have each edge of the rings that overlay_columns_fill makes of the whole layers, once. Edges with even counts in both
- * layers bound no result: they may be left out of all lists of 4 before. All that holds where each call had the same cuts, and each list is whole: a
- * call tests what it is handed, but can't know of a line that is missing. */
+ * The lists of 5 together have each edge of the rings that overlay_columns_fill makes of the whole layers, once. Their polygons are told by ranges of
+ * strips that lie side by side: first narrow ones, then those of two that touch, up to that of all strips.
+ *
+ *   7. overlay_strip_closed   of a range, of the directed edges that have a column of it: the closed ones, and those that wait for a wider range
+ *   8. overlay_polygons       of the closed ones of each range, the polygons
+ *
+ * The polygons of all ranges, ordered by the points of their shells, are those that overlay_columns_fill makes. Edges with even counts in both layers
+ * bound no result: they may be left out of all lists of 4 before. All that holds where each call had the same cuts, and each list is whole: a call
+ * tests what it is handed, but can't know of a line that is missing. */
 
 /* A segment of a layer, its lesser end (by x, then by y) first. */
 struct overlay_line {
@@ -422,6 +428,25 @@ void overlay_strip_labels(uint32_t call, const struct overlay_counted *crossing,
 void overlay_strip_going_on(const int32_t *cuts, size_t cuts_length, size_t strip, const struct overlay_counted *crossing, size_t crossing_length,
                             const struct overlay_counted *own, size_t own_length, struct overlay_counted *room, size_t room_length,
                             struct overlay_strip_answer *answer);
+
+/* Parts the directed edges that a range of strips knows, which are all those of a result that have a column of it: puts the closed ones into one
+ * room, and into another one those open ones that begin in the range, both ascending. An edge is open in a range if it goes over a border of it, or
+ * is tied to one that does, by edges that the range knows: edges that meet at a point are tied, and those of a hole to the edge below its leftmost
+ * point, so that the edges of one polygon are. Closed edges have polygons of their own, by overlay_polygons, and these are polygons of the result.
+ * The open ones of two ranges that touch, with those edges that come into the first one from the left, are what the range of both knows then; in the
+ * range of all strips none is open.
+ *
+ *   first, past               the range: the strips from first to before past; OVERLAY_NO_CALL where these are none, or some behind the last one
+ *   known, known_length       the edges, ascending by ax, ay, bx and by
+ *   closed, closed_length     where the closed edges go
+ *   waiting, waiting_length   where the open edges go whose lesser end lies in the range
+ *
+ * OVERLAY_BAD_ITEM: an edge is out of range or a point alone, has no column of the range (its lesser end lies in strip past or a later one, or its
+ * greater end in a strip before first), or isn't behind the one before it. Edges that cross one another, or run along one another, aren't refused,
+ * and are answered by lists that say nothing. */
+void overlay_strip_closed(const int32_t *cuts, size_t cuts_length, size_t first, size_t past, const struct overlay_directed *known,
+                          size_t known_length, struct overlay_directed *closed, size_t closed_length, struct overlay_directed *waiting,
+                          size_t waiting_length, struct overlay_strip_answer *answer);
 
 /* Puts the polygons of directed edges, as columns, at the beginning of three rooms, and tells their lengths, as overlay_columns_fill does. The edges
  * of all strips, brought in order, get the polygons of the result that overlay_columns_fill tells. Edges from anywhere else get rings that

@@ -24,6 +24,17 @@ static int is_short(const struct overlay_strip_answer *answer, uint64_t first, u
            && answer->third == third;
 }
 
+static int by_ends(const void *one, const void *other) {
+    const struct overlay_directed *d = (const struct overlay_directed *)one, *e = (const struct overlay_directed *)other;
+    if (d->ax != e->ax)
+        return d->ax < e->ax ? -1 : 1;
+    if (d->ay != e->ay)
+        return d->ay < e->ay ? -1 : 1;
+    if (d->bx != e->bx)
+        return d->bx < e->bx ? -1 : 1;
+    return (d->by > e->by) - (d->by < e->by);
+}
+
 /* ---- a map strip by strip */
 
 /* The lists of a strip. */
@@ -211,6 +222,76 @@ static void labels_by_hand(void) {
     check(all_labels(OVERLAY_DIFFERENCE, CUTS, 3), "a difference strip by strip");
     check(ARE(strips[0].directed, strips[0].directed_count, WITHOUT_0) && ARE(strips[1].directed, strips[1].directed_count, WITHOUT_1)
               && !strips[2].directed_count && ARE(strips[3].directed, strips[3].directed_count, WITHOUT_3), "directed edges of a difference");
+}
+
+/* ---- ranges of strips worked out by hand */
+
+/* Strips 0 to 2 have the columns up to 9, 10 to 19, and the others. In strip 0 a square, and one in a hole of a rectangle that reaches into strip 1; there
+ * another square, and a triangle that touches the rectangle; and a rectangle below, which has columns of all strips. */
+static const int32_t BORDERS[] = {10, 20};
+static const struct overlay_directed ALL[] = {
+    {1, 1, 3, 1},     {1, 3, 1, 1},     {2, -8, 25, -8},  {2, -2, 2, -8},   {3, 1, 3, 3},     {3, 3, 1, 3},     {5, 0, 15, 0},
+    {5, 10, 5, 0},    {6, 2, 6, 8},     {6, 8, 9, 8},     {7, 4, 8, 4},     {7, 5, 7, 4},     {8, 4, 8, 5},     {8, 5, 7, 5},
+    {9, 2, 6, 2},     {9, 8, 9, 2},     {12, 12, 14, 12}, {12, 14, 12, 12}, {14, 12, 14, 14}, {14, 14, 12, 14}, {15, 0, 15, 10},
+    {15, 10, 5, 10},  {15, 10, 17, 12}, {15, 14, 15, 10}, {17, 12, 15, 14}, {25, -8, 25, -2}, {25, -2, 2, -2},
+};
+static const struct overlay_directed KNOWN_0[] = {
+    {1, 1, 3, 1}, {1, 3, 1, 1}, {2, -8, 25, -8}, {2, -2, 2, -8}, {3, 1, 3, 3}, {3, 3, 1, 3}, {5, 0, 15, 0}, {5, 10, 5, 0}, {6, 2, 6, 8},
+    {6, 8, 9, 8}, {7, 4, 8, 4}, {7, 5, 7, 4},    {8, 4, 8, 5},   {8, 5, 7, 5}, {9, 2, 6, 2}, {9, 8, 9, 2},  {15, 10, 5, 10}, {25, -2, 2, -2},
+};
+static const struct overlay_directed KNOWN_1[] = {
+    {2, -8, 25, -8}, {5, 0, 15, 0},   {12, 12, 14, 12}, {12, 14, 12, 12}, {14, 12, 14, 14}, {14, 14, 12, 14},
+    {15, 0, 15, 10}, {15, 10, 5, 10}, {15, 10, 17, 12}, {15, 14, 15, 10}, {17, 12, 15, 14}, {25, -2, 2, -2},
+};
+static const struct overlay_directed KNOWN_2[] = {{2, -8, 25, -8}, {25, -8, 25, -2}, {25, -2, 2, -2}};
+static const struct overlay_directed CLOSED_0[] = {{1, 1, 3, 1}, {1, 3, 1, 1}, {3, 1, 3, 3}, {3, 3, 1, 3},
+                                                   {7, 4, 8, 4}, {7, 5, 7, 4}, {8, 4, 8, 5}, {8, 5, 7, 5}};
+static const struct overlay_directed WAITING_0[] = {{2, -8, 25, -8}, {2, -2, 2, -8}, {5, 0, 15, 0}, {5, 10, 5, 0},   {6, 2, 6, 8},
+                                                    {6, 8, 9, 8},    {9, 2, 6, 2},   {9, 8, 9, 2},  {15, 10, 5, 10}, {25, -2, 2, -2}};
+static const struct overlay_directed CLOSED_1[] = {{12, 12, 14, 12}, {12, 14, 12, 12}, {14, 12, 14, 14}, {14, 14, 12, 14}};
+static const struct overlay_directed WAITING_1[] = {{15, 0, 15, 10}, {15, 10, 17, 12}, {15, 14, 15, 10}, {17, 12, 15, 14}};
+static const struct overlay_directed WAITING_2[] = {{25, -8, 25, -2}};
+static const struct overlay_directed CLOSED_BOTH[] = {{5, 0, 15, 0},   {5, 10, 5, 0},    {6, 2, 6, 8},     {6, 8, 9, 8},     {9, 2, 6, 2},    {9, 8, 9, 2},
+                                                      {15, 0, 15, 10}, {15, 10, 5, 10},  {15, 10, 17, 12}, {15, 14, 15, 10}, {17, 12, 15, 14}};
+static const struct overlay_directed WAITING_BOTH[] = {{2, -8, 25, -8}, {2, -2, 2, -8}, {25, -2, 2, -2}};
+static const struct overlay_directed CLOSED_LAST[] = {{2, -8, 25, -8}, {2, -2, 2, -8}, {25, -8, 25, -2}, {25, -2, 2, -2}};
+
+static struct overlay_directed closed_room[32], waiting_room[32];
+
+static struct overlay_strip_answer parted(size_t first, size_t past, const struct overlay_directed *known, size_t count) {
+    struct overlay_strip_answer answer = GARBAGE;
+    overlay_strip_closed(BORDERS, 2, first, past, known, count, closed_room, 32, waiting_room, 32, &answer);
+    return answer;
+}
+
+#define IS_PARTED(answer, closed, waiting) \
+    ((answer).status == OVERLAY_ANSWERED && !(answer).third && ARE(closed_room, (answer).first, closed) && ARE(waiting_room, (answer).second, waiting))
+
+/* Two lists as one, ascending. */
+static size_t both(const struct overlay_directed *one, size_t count, const struct overlay_directed *other, size_t other_count,
+                   struct overlay_directed *room) {
+    memcpy(room, one, count * sizeof *one);
+    memcpy(room + count, other, other_count * sizeof *other);
+    qsort(room, count + other_count, sizeof *room, by_ends);
+    return count + other_count;
+}
+
+static void ranges_by_hand(void) {
+    struct overlay_directed known[32];
+    struct overlay_strip_answer answer = parted(0, 1, KNOWN_0, COUNT(KNOWN_0));
+    check(IS_PARTED(answer, CLOSED_0, WAITING_0), "what is closed in the first strip");
+    answer = parted(1, 2, KNOWN_1, COUNT(KNOWN_1));
+    check(IS_PARTED(answer, CLOSED_1, WAITING_1), "what is closed in the second strip");
+    answer = parted(2, 3, KNOWN_2, COUNT(KNOWN_2));
+    check(answer.status == OVERLAY_ANSWERED && !answer.first && ARE(waiting_room, answer.second, WAITING_2), "what is closed in the last strip");
+    answer = parted(0, 2, known, both(WAITING_0, COUNT(WAITING_0), WAITING_1, COUNT(WAITING_1), known));
+    check(IS_PARTED(answer, CLOSED_BOTH, WAITING_BOTH), "what is closed in two strips");
+    answer = parted(0, 3, known, both(WAITING_BOTH, COUNT(WAITING_BOTH), WAITING_2, COUNT(WAITING_2), known));
+    check(answer.status == OVERLAY_ANSWERED && ARE(closed_room, answer.first, CLOSED_LAST) && !answer.second, "what is closed in all strips");
+    answer = parted(0, 3, ALL, COUNT(ALL));
+    check(answer.status == OVERLAY_ANSWERED && ARE(closed_room, answer.first, ALL) && !answer.second, "all edges in all strips");
+    answer = parted(1, 3, ALL, 0);
+    check(answer.status == OVERLAY_ANSWERED && !answer.first && !answer.second, "no edges in two strips");
 }
 
 /* ---- what is refused */
@@ -434,6 +515,49 @@ static void refused_going_on(void) {
     check(is_refused(&answer, OVERLAY_BAD_ITEM, OVERLAY_CUTS, 1), "going on by cuts that fall");
 }
 
+/* Strip 1 has the columns 10 to 19. */
+static void refused_closed(void) {
+    static const struct overlay_directed good[] = {{5, 0, 15, 0}, {5, 1, 15, 1}, {15, 10, 5, 10}};
+    static const struct overlay_directed kept[] = {{9, 3, 10, 3}, {10, 3, 9, 3}, {19, 3, 20, 3}, {20, 3, 19, 3}};
+    static const struct overlay_directed bad[] = {
+        {6, 3, 9, 3},           /* on the left of the strip */
+        {9, 3, 6, 3},           /* likewise, to the left */
+        {20, 3, 25, 3},         /* on its right */
+        {25, 3, 20, 3},         /* likewise, to the left */
+        {5, 1, 15, 1},          /* the edge before it */
+        {5, 1, 15, 0},          /* a lesser one, by the other end */
+        {5, 0, 15, 9},          /* likewise by the start */
+        {4, 9, 15, 9},          /* likewise by the column */
+        {15, 10, 15, 10},       /* one point */
+        {15, 10, 5, 268435457}, /* out of range */
+        {15, 10, -268435457, 9} /* likewise */
+    };
+    static const size_t none[][2] = {{1, 1}, {2, 1}, {0, 0}, {0, 4}, {3, 3}, {3, 4}, {(size_t)-1, 1}, {1, (size_t)-1}};
+    static const int32_t falling[] = {20, 10};
+    struct overlay_directed edges[3];
+    struct overlay_strip_answer answer = parted(1, 2, good, 3);
+    check(answer.status == OVERLAY_ANSWERED && !answer.first && !answer.second, "good edges of a range");
+    memcpy(edges, good, sizeof edges);
+    for (size_t at = 0; at < COUNT(kept); at++) {
+        edges[2] = kept[at];
+        answer = parted(1, 2, edges, 3);
+        check(answer.status == OVERLAY_ANSWERED, "an edge with one column of a range");
+    }
+    for (size_t at = 0; at < COUNT(bad); at++) {
+        edges[2] = bad[at];
+        answer = parted(1, 2, edges, 3);
+        check(is_refused(&answer, OVERLAY_BAD_ITEM, 0, 2), "a bad edge of a range");
+    }
+    for (size_t at = 0; at < COUNT(none); at++) {
+        answer = parted(none[at][0], none[at][1], good, 3);
+        check(answer.status == OVERLAY_NO_CALL && !answer.number && !answer.part && !answer.detail, "no such strips");
+    }
+    overlay_strip_closed(falling, 2, 1, 2, good, 3, closed_room, 32, waiting_room, 32, &answer);
+    check(is_refused(&answer, OVERLAY_BAD_ITEM, OVERLAY_CUTS, 1), "a range of cuts that fall");
+    overlay_strip_closed(falling, 2, 1, 1, good, 3, closed_room, 32, waiting_room, 32, &answer);
+    check(answer.status == OVERLAY_NO_CALL, "no strips of cuts that fall");
+}
+
 /* ---- rooms and memory */
 
 #define IS_CLEAN(room) is_clean((const uint8_t *)(room), sizeof(room))
@@ -460,11 +584,13 @@ static void spoil_rooms(void) {
     memset(right_room, 0x7F, sizeof right_room);
     memset(next_room, 0x7F, sizeof next_room);
     memset(directed_room, 0x7F, sizeof directed_room);
+    memset(closed_room, 0x7F, sizeof closed_room);
+    memset(waiting_room, 0x7F, sizeof waiting_room);
 }
 
 static int are_rooms_clean(void) {
     return IS_CLEAN(line_room) && IS_CLEAN(begin_room) && IS_CLEAN(edge_room) && IS_CLEAN(left_room) && IS_CLEAN(right_room) && IS_CLEAN(next_room)
-           && IS_CLEAN(directed_room);
+           && IS_CLEAN(directed_room) && IS_CLEAN(closed_room) && IS_CLEAN(waiting_room);
 }
 
 /* One of the calls on the map by hand, with rooms of these lengths. */
@@ -481,15 +607,17 @@ static struct overlay_strip_answer called(int call, size_t first, size_t second,
         overlay_strip_edges(INNER_1, 5, ACROSS_1, 4, edge_room, first, &answer);
     else if (call == 4)
         overlay_strip_labels(OVERLAY_DIFFERENCE, strips[1].crossing, strips[1].crossing_count, strips[1].edges, strips[1].edge_count, directed_room, first, &answer);
-    else
+    else if (call == 5)
         overlay_strip_going_on(CUTS, 3, 1, strips[1].crossing, strips[1].crossing_count, strips[1].edges, strips[1].edge_count, edge_room, first, &answer);
+    else
+        overlay_strip_closed(BORDERS, 2, 0, 1, KNOWN_0, COUNT(KNOWN_0), closed_room, first, waiting_room, second, &answer);
     return answer;
 }
 
 /* How many items each room of the calls is to hold. */
-enum { CALLS = 6 };
+enum { CALLS = 7 };
 
-static const size_t WANTED[CALLS][3] = {{20, 5, 0}, {5, 6, 4}, {4, 6, 0}, {9, 0, 0}, {6, 0, 0}, {4, 0, 0}};
+static const size_t WANTED[CALLS][3] = {{20, 5, 0}, {5, 6, 4}, {4, 6, 0}, {9, 0, 0}, {6, 0, 0}, {4, 0, 0}, {8, 10, 0}};
 
 static void small_rooms(void) {
     for (int call = 0; call < CALLS; call++) {
@@ -507,7 +635,9 @@ static void small_rooms(void) {
               "rooms of a strip that are just large enough");
         check(is_clean((const uint8_t *)(line_room + 20), sizeof line_room - 20 * sizeof *line_room)
                   && is_clean((const uint8_t *)(edge_room + 9), sizeof edge_room - 9 * sizeof *edge_room)
-                  && is_clean((const uint8_t *)(directed_room + 6), sizeof directed_room - 6 * sizeof *directed_room), "nothing behind the items of a strip");
+                  && is_clean((const uint8_t *)(directed_room + 6), sizeof directed_room - 6 * sizeof *directed_room)
+                  && is_clean((const uint8_t *)(closed_room + 8), sizeof closed_room - 8 * sizeof *closed_room)
+                  && is_clean((const uint8_t *)(waiting_room + 10), sizeof waiting_room - 10 * sizeof *waiting_room), "nothing behind the items of a strip");
     }
 }
 
@@ -573,28 +703,19 @@ static void draw(struct layer *layer, uint32_t rings, uint32_t size) {
     layer->columns = (struct overlay_columns){layer->points, 2 * points, layer->rings, rings + 1, layer->polygons, 2, layer->features, 2};
 }
 
-static int by_ends(const void *one, const void *other) {
-    const struct overlay_directed *d = (const struct overlay_directed *)one, *e = (const struct overlay_directed *)other;
-    if (d->ax != e->ax)
-        return d->ax < e->ax ? -1 : 1;
-    if (d->ay != e->ay)
-        return d->ay < e->ay ? -1 : 1;
-    if (d->bx != e->bx)
-        return d->bx < e->bx ? -1 : 1;
-    return (d->by > e->by) - (d->by < e->by);
-}
+/* A result as columns, of the whole layers. */
+static int32_t points[4 * ROOM];
+static uint32_t rings[ROOM], polygons[ROOM];
+static struct overlay_columns_answer result;
 
 /* Whether the directed edges of all strips are those of the rings of a result. */
 static int have_edges_of_rings(uint32_t call, size_t count, const struct overlay_columns *a, const struct overlay_columns *b) {
-    static int32_t points[4 * ROOM];
-    static uint32_t rings[ROOM], polygons[ROOM];
     static struct overlay_directed told[ROOM], wanted[ROOM];
-    struct overlay_columns_answer answer;
     size_t told_count = 0, wanted_count = 0;
-    overlay_columns_fill(call, 33554432, OVERLAY_SEGMENTS, a, b, points, 4 * ROOM, rings, ROOM, polygons, ROOM, &answer);
-    if (answer.status != OVERLAY_ANSWERED)
+    overlay_columns_fill(call, 33554432, OVERLAY_SEGMENTS, a, b, points, 4 * ROOM, rings, ROOM, polygons, ROOM, &result);
+    if (result.status != OVERLAY_ANSWERED)
         return 0;
-    for (size_t ring = 0; ring + 1 < answer.rings; ring++)
+    for (size_t ring = 0; ring + 1 < result.rings; ring++)
         for (size_t at = rings[ring]; at + 1 < rings[ring + 1] && wanted_count < ROOM; at++)
             memcpy(&wanted[wanted_count++], points + 2 * at, sizeof *wanted);
     for (size_t s = 0; s <= count; s++)
@@ -605,11 +726,118 @@ static int have_edges_of_rings(uint32_t call, size_t count, const struct overlay
     return told_count == wanted_count && !memcmp(told, wanted, told_count * sizeof *told);
 }
 
+/* A range of strips, and the edges that wait for a wider one. */
+struct range {
+    size_t first, past, count;
+    struct overlay_directed waiting[ROOM];
+};
+
+/* The polygons of all ranges: the points of each, and how many points each of its rings has. */
+struct polygon {
+    const int32_t *points;
+    const uint32_t *rings;
+    size_t length, ring_count;
+};
+
+static int32_t found_points[4 * ROOM];
+static uint32_t found_rings[ROOM];
+static struct polygon found[ROOM];
+static size_t found_length, found_ring_count, found_count;
+
+static int by_points(const void *one, const void *other) {
+    const struct polygon *d = (const struct polygon *)one, *e = (const struct polygon *)other;
+    for (size_t at = 0; at < d->length && at < e->length; at++)
+        if (d->points[at] != e->points[at])
+            return d->points[at] < e->points[at] ? -1 : 1;
+    return (d->length > e->length) - (d->length < e->length);
+}
+
+static int find_polygons(const struct overlay_directed *closed, size_t count) {
+    static int32_t ring_points[4 * ROOM];
+    static uint32_t begins[ROOM], parts[ROOM];
+    struct overlay_columns_answer answer;
+    overlay_polygons(closed, count, ring_points, 4 * ROOM, begins, ROOM, parts, ROOM, &answer);
+    if (answer.status != OVERLAY_ANSWERED)
+        return 0;
+    for (size_t part = 0; part + 1 < answer.polygons; part++) {
+        size_t first = begins[parts[part]], past = begins[parts[part + 1]];
+        found[found_count++] = (struct polygon){found_points + found_length, found_rings + found_ring_count, 2 * (past - first),
+                                                parts[part + 1] - parts[part]};
+        memcpy(found_points + found_length, ring_points + 2 * first, 2 * (past - first) * sizeof *ring_points);
+        found_length += 2 * (past - first);
+        for (size_t ring = parts[part]; ring < parts[part + 1]; ring++)
+            found_rings[found_ring_count++] = begins[ring + 1] - begins[ring];
+    }
+    return 1;
+}
+
+/* Whether these polygons, by the points of their shells, are those of the result. */
+static int are_of_result(void) {
+    size_t at = 0, ring_at = 0;
+    qsort(found, found_count, sizeof *found, by_points);
+    int same = found_count + 1 == result.polygons && found_ring_count + 1 == result.rings && found_length == result.coordinates;
+    for (size_t k = 0; k < found_count && same; k++) {
+        same = polygons[k + 1] - polygons[k] == found[k].ring_count && !memcmp(points + at, found[k].points, found[k].length * sizeof *points);
+        for (size_t ring = 0; ring < found[k].ring_count; ring++, ring_at++)
+            same = same && rings[ring_at + 1] - rings[ring_at] == found[k].rings[ring];
+        at += found[k].length;
+    }
+    return same;
+}
+
+/* Adds those of some edges that have a column of the strip or of a later one. */
+static size_t add_reaching(const int32_t *cuts, size_t strip, const struct overlay_directed *edges, size_t edge_count, struct overlay_directed *known,
+                           size_t count) {
+    for (size_t at = 0; at < edge_count; at++)
+        if (!strip || cuts[strip - 1] <= edges[at].ax || cuts[strip - 1] <= edges[at].bx)
+            known[count++] = edges[at];
+    return count;
+}
+
+static int part_range(const int32_t *cuts, size_t cut_count, struct range *range, struct overlay_directed *known, size_t count) {
+    static struct overlay_directed closed[ROOM];
+    struct overlay_strip_answer answer = GARBAGE;
+    qsort(known, count, sizeof *known, by_ends);
+    overlay_strip_closed(cuts, cut_count, range->first, range->past, known, count, closed, ROOM, range->waiting, ROOM, &answer);
+    range->count = (size_t)answer.second;
+    return answer.status == OVERLAY_ANSWERED && !answer.third && find_polygons(closed, (size_t)answer.first);
+}
+
+/* Whether ranges of the strips, any two that touch brought together until there is one, have the polygons of the result. */
+static int have_polygons_of_result(const int32_t *cuts, size_t cut_count) {
+    static struct range held[MOST_STRIPS];
+    static struct overlay_directed known[ROOM];
+    struct range *ranges[MOST_STRIPS];
+    size_t range_count = cut_count + 1;
+    int done = 1;
+    found_length = found_ring_count = found_count = 0;
+    for (size_t s = 0; s < range_count && done; s++) {
+        size_t count = 0;
+        for (size_t k = 0; k <= s; k++)
+            count = add_reaching(cuts, s, strips[k].directed, strips[k].directed_count, known, count);
+        ranges[s] = &held[s];
+        held[s].first = s;
+        held[s].past = s + 1;
+        done = part_range(cuts, cut_count, ranges[s], known, count);
+    }
+    while (range_count > 1 && done) {
+        size_t at = any((uint32_t)range_count - 1), count = 0;
+        for (size_t k = 0; k <= at + 1; k++)
+            count = add_reaching(cuts, ranges[at]->first, ranges[k]->waiting, ranges[k]->count, known, count);
+        ranges[at]->past = ranges[at + 1]->past;
+        done = part_range(cuts, cut_count, ranges[at], known, count);
+        range_count--;
+        for (size_t k = at + 1; k < range_count; k++)
+            ranges[k] = ranges[k + 1];
+    }
+    return done && !ranges[0]->count && are_of_result();
+}
+
 static void any_cuts(void) {
     static const uint32_t SIZES[] = {12, 60, 2000, 536870912};
     static struct layer a, b;
     static char text[TEXT], wanted[TEXT];
-    int done = 0, same = 0, results = 0, maps = 0;
+    int done = 0, same = 0, results = 0, by_ranges = 0, maps = 0;
     for (; maps < 4000; maps++) {
         uint32_t size = SIZES[maps % COUNT(SIZES)];
         int32_t cuts[MOST_STRIPS - 1];
@@ -631,12 +859,15 @@ static void any_cuts(void) {
         size_t length = edges_text(count, text);
         same += answer.status == OVERLAY_ANSWERED && answer.length == length && !memcmp(text, wanted, length);
         uint32_t call = (uint32_t)maps / COUNT(SIZES) % 4;
-        results += all_labels(call, cuts, count) && have_edges_of_rings(call, count, &a.columns, &b.columns);
+        int labelled_all = all_labels(call, cuts, count) && have_edges_of_rings(call, count, &a.columns, &b.columns);
+        results += labelled_all;
+        by_ranges += labelled_all && have_polygons_of_result(cuts, count);
     }
     check(done == maps, "maps by any cuts");
     check(same == maps, "the edges of maps by any cuts");
     check(results == maps, "the directed edges of results by any cuts");
-    printf("strips: the edges of %d maps of %d, the directed edges of %d results\n", same, maps, results);
+    check(by_ranges == maps, "the polygons of results by any ranges");
+    printf("strips: the edges of %d maps of %d, the directed edges of %d results, the polygons of %d by ranges\n", same, maps, results, by_ranges);
 }
 
 /* ---- edges that are no map's */
@@ -705,6 +936,8 @@ int main(void) {
     refused_edges();
     refused_labels();
     refused_going_on();
+    ranges_by_hand();
+    refused_closed();
     small_rooms();
     memory();
     any_cuts();

@@ -8,7 +8,7 @@ import os
 ANSWERED, NO_MEMORY, NO_CALL, REFUSED, SMALL = range(5)
 
 # The version of the calls that this package makes.
-CALLS = 8
+CALLS = 9
 
 
 class Answer(ctypes.Structure):
@@ -161,6 +161,8 @@ def _opened() -> ctypes.CDLL:
     opened.overlay_strip_labels.restype = None
     opened.overlay_strip_going_on.argtypes = [*cuts, ctypes.c_size_t, *room[:2] * 3, strip]
     opened.overlay_strip_going_on.restype = None
+    opened.overlay_strip_closed.argtypes = [*cuts, *[ctypes.c_size_t] * 2, *room[:2] * 3, strip]
+    opened.overlay_strip_closed.restype = None
     opened.overlay_polygons.argtypes = [*room[:2] * 4, ctypes.c_void_p]
     opened.overlay_polygons.restype = None
     return opened

@@ -16,10 +16,18 @@ bounds the result of an operation is told by strips, too, from the first strip o
 5. `labels`, of each strip: the directed edges along its own edges, by these and those that come in from the left
 6. `going_on`, of the same: the edges that come into the next strip
 
-The arrays of 5 together have each edge of the rings of the whole layers' result, once. The calls test what they are handed, but none can
-know of a line that is missing. `edges` makes the first four calls for all strips, and `directed_edges` all six, with a file for each array
-in a folder, one after another or by an executor: one of concurrent.futures, or what `Client.get_executor()` of Dask gives, over many
-machines.
+The arrays of 5 together have each edge of the rings of the whole layers' result, once. Its polygons are made by ranges of strips, first of
+one strip each, and then of two that touch, until one has all strips:
+
+7. `closed`, of each range with the directed edges that have a column of it: those that no other strip has to do with, and the open ones
+8. `polygons`, of what is closed there
+
+A wider range has what comes into its first strip, and what is open in both of its ranges. All polygons together, in the order of their
+first edges, are the result's.
+
+The calls test what they are handed, but none can know of a line that is missing. `edges` makes the first four calls for all strips, and
+`directed_edges` the first six, with a file for each array in a folder, one after another or by an executor: one of concurrent.futures, or
+what `Client.get_executor()` of Dask gives, over many machines.
 
 >>> import tempfile
 >>> import overlay_grid
@@ -37,6 +45,12 @@ machines.
 ...         print(found.tolist())
 [(1, 1, 3, 1), (3, 3, 1, 1)]
 [(3, 1, 3, 3)]
+>>> two = [(0, 0, 1, 0), (0, 1, 0, 0), (0, 5, 3, 5), (0, 6, 0, 5), (1, 0, 0, 1), (3, 5, 0, 6)]  # the edges of two triangles
+>>> found = strips.closed([2], 0, 1, two)
+>>> found.closed.tolist()
+[(0, 0, 1, 0), (0, 1, 0, 0), (1, 0, 0, 1)]
+>>> strips.polygons(strips.closed([2], 0, 2, found.open).closed).coordinates.tolist()
+[0, 5, 3, 5, 0, 6, 0, 5]
 """
 
 from __future__ import annotations
@@ -59,11 +73,13 @@ __all__ = [
     "LINE",
     "OPEN",
     "Bridged",
+    "Closed",
     "Part",
     "Polygons",
     "Rounded",
     "StripError",
     "bridge",
+    "closed",
     "directed_edges",
     "edges",
     "going_on",
@@ -138,6 +154,13 @@ class Bridged(NamedTuple):
 
     across: Any
     carried: Any
+
+
+class Closed(NamedTuple):
+    """Of the directed edges of a range of strips those that are closed there, and the open ones whose lesser end lies there."""
+
+    closed: Any
+    open: Any
 
 
 class Polygons(NamedTuple):
@@ -227,8 +250,17 @@ def going_on(cuts: Any, strip: int, own: Any, crossing: Optional[Any] = None) ->
     return answered(library.overlay_strip_going_on, given, (COUNTED,), (len(mine) + len(held),))[0]
 
 
+def closed(cuts: Any, first: int, past: int, known: Any) -> Closed:
+    """Parts directed edges (`DIRECTED`), which ascend: all those with a column of the strips from `first` to before `past`. One that has a
+    column of another strip, too, is open, and so is each that is tied to an open one: edges that leave one vertex, one that leaves the end
+    of the other, or one that is the nearest below the start of the other where both go to the right. What is closed closes by itself."""
+    borders, held = of("<i4", cuts), of(DIRECTED, known)
+    given = (*passed(borders), first, past, *passed(held))
+    return Closed(*answered(library.overlay_strip_closed, given, (DIRECTED, DIRECTED), (len(held), len(held))))
+
+
 def polygons(directed: Any) -> Polygons:
-    """The polygons of directed edges (`DIRECTED`), which ascend: of those of all strips, brought in order, the polygons of the result."""
+    """The polygons of directed edges (`DIRECTED`), which ascend: of those of all strips, brought in order, or of what is `closed`."""
     held, answer = of(DIRECTED, directed), ColumnsAnswer()
     most = len(held) // 3  # rings: each has three edges or more
     found = Polygons(numpy.empty(2 * (len(held) + most), "<i4"), numpy.empty(most + 1, "<u4"), numpy.empty(most + 1, "<u4"))

@@ -10,6 +10,7 @@ import pytest
 
 numpy = pytest.importorskip("numpy", reason="no numpy: apt-get install python3-numpy")
 
+import closed_by_definition as by_definition  # noqa: E402
 import overlay_grid  # noqa: E402
 from overlay_grid import Operation, strips  # noqa: E402
 
@@ -118,6 +119,11 @@ def test_labels_of_the_worked_example(tmp_path):
     assert len(strips.going_on(CUTS, 3, edges[3], strips.going_on(CUTS, 2, edges[2], third))) == 0
 
 
+def square(x, y, side):
+    """Counter-clockwise, from the least corner and back."""
+    return [(x, y), (x + side, y), (x + side, y + side), (x, y + side), (x, y)]
+
+
 def layer(rng, size):
     """Rings that cross one another and themselves, some of them twice."""
     found = []
@@ -147,6 +153,80 @@ def test_all_strips_have_the_result_of_the_whole(seed, tmp_path):
         found = list(strips.directed_edges(operation, [part_of(0, a), part_of(1, b)], cuts, str(tmp_path)))
         assert all(values.tolist() == sorted(values.tolist()) for values in found)
         assert sorted(tuples(found)) == rings(operation, a, b)
+
+
+def strips_of(cuts, edge):
+    """The strips of an edge's lesser end and of its greater one."""
+    return [by_definition.strip_at(cuts, end[0]) for end in by_definition.ends(edge)]
+
+
+def known_to(cuts, first, past, edges):
+    """Of directed edges those with a column of the strips from one to before another one."""
+    held = [(edge, *strips_of(cuts, edge)) for edge in sorted(edges)]
+    return [edge for edge, begins, ends in held if begins < past and first <= ends]
+
+
+def polygons_of(edges):
+    """Polygons of directed edges, each a list of rings."""
+    coordinates, offsets, polygons = (values.tolist() for values in strips.polygons(numpy.array(edges, strips.DIRECTED)))
+    points = list(zip(coordinates[::2], coordinates[1::2]))
+    found = [points[at:past] for at, past in zip(offsets, offsets[1:])]
+    return [found[at:past] for at, past in zip(polygons, polygons[1:])]
+
+
+def closed_in_turn(rng, cuts, directed):
+    """All polygons, by ranges of strips that grow together by chance; each call of `closed` is judged."""
+    own = [[edge for edge in directed if strips_of(cuts, edge)[0] == strip] for strip in range(len(cuts) + 1)]
+    spans, made = [(strip, strip + 1, edges) for strip, edges in enumerate(own)], []
+    waiting = list(range(len(spans)))
+    while waiting:
+        at = waiting.pop(rng.randrange(len(waiting)))
+        first, past, edges = spans[at]
+        coming = [edge for edge in directed if strips_of(cuts, edge)[0] < first <= strips_of(cuts, edge)[1]]
+        known = sorted(coming + edges)
+        found = strips.closed(cuts, first, past, numpy.array(known, strips.DIRECTED))
+        closed, still = (tuples([values]) for values in found)
+        assert (closed, still) == by_definition.closed(cuts, first, past, known)
+        assert closed == [edge for edge in known_to(cuts, first, past, directed) if edge in set(closed)]
+        made += polygons_of(closed)
+        spans[at] = first, past, still
+        if not waiting and len(spans) > 1:
+            cut = rng.randrange(len(spans) - 1)
+            spans[cut : cut + 2] = [(spans[cut][0], spans[cut + 1][1], spans[cut][2] + spans[cut + 1][2])]
+            waiting = [cut]
+    assert spans[0][2] == []
+    return sorted(made)
+
+
+@pytest.mark.parametrize("seed", range(60))
+def test_ranges_of_strips_have_the_polygons_of_the_whole(seed, tmp_path):
+    rng = random.Random(f"polygons {seed}")
+    size = rng.choice((3, 8, 40, 1_000_000))
+    a, b = layer(rng, size), layer(rng, size)
+    cuts = sorted(rng.randint(-size - 1, size + 1) for _ in range(rng.choice((0, 1, 2, 5, 12))))
+    for operation in (Operation.UNION, Operation.SYMDIFFERENCE):
+        directed = sorted(tuples(strips.directed_edges(operation, [part_of(0, a), part_of(1, b)], cuts, str(tmp_path))))
+        assert closed_in_turn(rng, cuts, directed) == polygons_of(directed)
+
+
+# A frame with an island in its hole, which is closed by itself, a frame in the island's hole, and a square apart.
+FRAMES = [square(0, 0, 20), square(2, 2, 16)[::-1], square(4, 4, 8), square(6, 6, 4)[::-1], square(7, 7, 2), square(30, 0, 5)]
+
+
+def test_what_is_closed_where():
+    edges = sorted((*p, *q) for ring in FRAMES for p, q in zip(ring, ring[1:]))
+    outer, holes, island, hole, inner, apart = ([(*p, *q) for p, q in zip(ring, ring[1:])] for ring in FRAMES)
+
+    def parted(cuts, first, past):
+        known = known_to(cuts, first, past, edges)
+        return tuple(tuples([values]) for values in strips.closed(cuts, first, past, numpy.array(known, strips.DIRECTED)))
+
+    assert parted([25], 0, 1) == (sorted(outer + holes + island + hole + inner), [])
+    assert parted([25], 1, 2) == (sorted(apart), [])
+    # below where the island begins lies a border of the hole that goes to the left, which is no tie
+    assert parted([15], 0, 1) == (sorted(island + hole + inner), sorted(set(outer + holes) - {(20, 0, 20, 20), (18, 18, 18, 2)}))
+    assert parted([5, 25], 1, 2)[0] == sorted(inner)
+    assert parted([5, 25], 0, 2) == (sorted(outer + holes + island + hole + inner), [])
 
 
 @pytest.mark.parametrize("pool", [ThreadPoolExecutor, ProcessPoolExecutor])
@@ -193,7 +273,13 @@ def test_refusals():
     assert refused(lambda: strips.going_on(CUTS, 1, good.inner)) == ("bad item", 1, 0)
     assert refused(lambda: strips.going_on(CUTS, 0, [], good.inner)) == ("bad item", 0, 0)
     assert refused(lambda: strips.going_on([6, 4], 0, [])) == ("bad item", 3, 1)
+    known = numpy.array([(0, 0, 1, 0), (0, 1, 0, 0), (1, 0, 0, 1)], strips.DIRECTED)
+    assert refused(lambda: strips.closed(CUTS, 0, 1, known[::-1])) == ("bad item", 0, 1)
+    assert refused(lambda: strips.closed(CUTS, 1, 2, known)) == ("bad item", 0, 0)
+    assert refused(lambda: strips.closed([6, 4], 0, 1, known)) == ("bad item", 3, 1)
     for call in (
+        lambda: strips.closed(CUTS, 0, 5, known),
+        lambda: strips.closed(CUTS, 1, 1, known),
         lambda: strips.round_strip(CUTS, 4, lines),
         lambda: strips.going_on(CUTS, 4, []),
         lambda: strips.labels(Operation.EDGES, []),

@@ -15,3 +15,4 @@ pub mod StripChain
 pub mod StripEdges
 pub mod StripsLabelled
 pub mod PolygonsTelling
+pub mod StripClosed

@@ -8,3 +8,4 @@ pub mod FacesColumns
 pub mod Strips
 pub mod StripLabels
 pub mod Polygons
+pub mod StripClosed

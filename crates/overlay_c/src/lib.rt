@@ -9,11 +9,13 @@
 //! Together they tell the rounded edges of the whole map (`strip_law`). Two more calls tell the directed edges of a result along them
 //! (`strip_labels`, `strip_going_on`, `strip_labels_checks`), all of them (`strip_law`).
 //!
-//! Directed edges from outside are tested, and get their polygons where they close (`polygons_call`, `polygons_made`, `polygons_checks`).
+//! Directed edges from outside are tested, and get their polygons where they close (`polygons_call`, `polygons_made`, `polygons_checks`). One more
+//! call parts those that a range of strips knows into what is closed there, which has polygons of its own, and what is open (`strip_closed`,
+//! `strip_closed_checks`).
 //!
 //! The promise: a status of 0 exactly where the engine answers and the room is large enough, and then the room begins with its text; nothing
 //! behind that changes. The definitions are `specs/Boundary`, `Covered`, `Measured`, `Faces`, `Columns`, `Pairs`, `FacesColumns`,
-//! `Strips`, `StripLabels` and `Polygons`.
+//! `Strips`, `StripLabels`, `Polygons` and `StripClosed`.
 #![tactic(auto)]
 
 mod answer;
@@ -40,6 +42,8 @@ mod room;
 mod strip_answer;
 mod strip_bridge;
 mod strip_checks;
+mod strip_closed;
+mod strip_closed_checks;
 mod strip_contradictions;
 mod strip_edges;
 mod strip_going_on;
@@ -71,6 +75,7 @@ pub use polygons_call::overlay_polygons;
 pub use polygons_law::results_have_polygons;
 pub use strip_answer::OverlayStripAnswer;
 pub use strip_bridge::overlay_strip_bridge;
+pub use strip_closed::overlay_strip_closed;
 pub use strip_edges::overlay_strip_edges;
 pub use strip_going_on::overlay_strip_going_on;
 pub use strip_items::{OverlayCarried, OverlayCounted, OverlayDirected, OverlayLine, OverlayOpen};

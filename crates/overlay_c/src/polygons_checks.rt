@@ -26,14 +26,14 @@ pub fn directed_edge(item: OverlayDirected) -> DirectedEdge
 }
 
 /// Whether an edge is less than another one.
-fn is_directed_before(d: DirectedEdge, e: DirectedEdge) -> bool
+pub fn is_directed_before(d: DirectedEdge, e: DirectedEdge) -> bool
     ensures { MatchBool result (IsDirectedBefore d e) (¬ (IsDirectedBefore d e)) }
 {
     is_before(d.from, e.from) || (d.from == e.from && is_before(d.to, e.to))
 }
 
 /// Whether an edge is within the limit, and no point alone.
-fn is_proper(d: DirectedEdge) -> bool
+pub fn is_proper(d: DirectedEdge) -> bool
     ensures { MatchBool result (IsProper d) (¬ (IsProper d)) }
 {
     d.from.is_in_limit() && d.to.is_in_limit() && d.from != d.to

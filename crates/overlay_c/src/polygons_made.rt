@@ -36,7 +36,10 @@ fn no_memory() -> OverlayColumnsAnswer
 }
 
 /// The edges that C sees so.
-fn directed_edges(alloc: Global, items: &[OverlayDirected]) -> Result<Vec<DirectedEdge>, NoMemory>
+pub fn directed_edges(
+    alloc: Global,
+    items: &[OverlayDirected],
+) -> Result<Vec<DirectedEdge>, NoMemory>
     ensures { IfOk result (λ v. v.items ≡ directed_edges items.now) }
 {
     let mut edges = Vec::with_capacity(alloc, items.len())?;

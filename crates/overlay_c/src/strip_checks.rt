@@ -3,12 +3,11 @@
 ghost use Rattle.std.specs.Prelude.{◌≡◌, ◌<◌, MatchBool, MatchOption, length};
 ghost use Rattle.geom.specs.Limit.{AreInLimit};
 ghost use Rattle.geom.specs.Order.{IsBefore};
-ghost use Rattle.strips_law.specs.Strips.{strip_at};
 ghost use Rattle.overlay_c.specs.Strips.{AreInPlace, IsCarried, IsCarriedBefore, IsCounted, IsCountedBefore, IsCut, IsCutBefore, IsFirstBad, IsInPlace, IsLine, IsLineBefore, IsOpen, IsOpenBefore, IsStripLine, IsWithinStrip, line_end, line_start};
 
 use crate::strip_items::{OverlayCarried, OverlayCounted, OverlayLine, OverlayOpen};
 use geom::Pt;
-use phases::strip_of;
+use strips_law::strip_at;
 
 /// Whether a point is less than another one.
 pub fn is_before(p: Pt, q: Pt) -> bool
@@ -49,13 +48,6 @@ fn is_in_limit(item: OverlayLine) -> bool
     ensures { MatchBool result (AreInLimit (line_start item) (line_end item)) (¬ (AreInLimit (line_start item) (line_end item))) }
 {
     item.start().is_in_limit() && item.end().is_in_limit()
-}
-
-/// The strip of a point.
-pub fn strip_at(cuts: &[i32], p: Pt) -> usize
-    ensures { result ≡ strip_at cuts.now p }
-{
-    strip_of(cuts, p.x)
 }
 
 /// Whether a line has a column of a strip.

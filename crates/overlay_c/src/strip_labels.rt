@@ -29,7 +29,7 @@ fn told_directed(edge: DirectedEdge) -> OverlayDirected
 }
 
 /// Directed edges, as C sees them.
-fn told_directed_all(
+pub fn told_directed_all(
     alloc: Global,
     edges: &[DirectedEdge],
 ) -> Result<Vec<OverlayDirected>, NoMemory>

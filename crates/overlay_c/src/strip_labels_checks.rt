@@ -6,8 +6,9 @@ ghost use Rattle.strips_law.specs.Strips.{strip_at};
 ghost use Rattle.overlay_c.specs.Strips.{AnyOrder, AreInPlace, IsCounted, IsCountedBefore, IsFirstBad, IsInPlace, counted_end, counted_start};
 ghost use Rattle.overlay_c.specs.StripLabels.{BeginsLeft, ComesIn, CrossesInto, IsLimited, IsOwn};
 
-use crate::strip_checks::{is_before, is_counted_before, strip_at};
+use crate::strip_checks::{is_before, is_counted_before};
 use crate::strip_items::OverlayCounted;
+use strips_law::strip_at;
 
 /// Whether an edge has its lesser end first.
 fn is_ordered(item: OverlayCounted) -> bool

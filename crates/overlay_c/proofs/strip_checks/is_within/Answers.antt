@@ -9,8 +9,8 @@ pub returns-then-strip_at-strip : goal.returns-then-strip_at-strip
 returns-then-strip_at-strip c =
     let cuts = c.args.cuts.now in
     let strip = c.args.strip in
-    let first : c.strip_at.result ≡ strip_at cuts (line_start c.args.item) = c.strip_at.ensures ∙ ap (λ (p : Pt). strip_at cuts p) c.start.ensures in
-    let last : c.strip_at-then-strip_at-strip.result ≡ strip_at cuts (line_end c.args.item) = c.strip_at-then-strip_at-strip.ensures ∙ ap (λ (p : Pt). strip_at cuts p) c.end.ensures in
+    let first : c.strip_at.result ≡ strip_at cuts (line_start c.args.item) = c.strip_at.ensures.value ∙ ap (λ (p : Pt). strip_at cuts p) c.start.ensures in
+    let last : c.strip_at-then-strip_at-strip.result ≡ strip_at cuts (line_end c.args.item) = c.strip_at-then-strip_at-strip.ensures.value ∙ ap (λ (p : Pt). strip_at cuts p) c.end.ensures in
     cases_from_iff {P = IsWithinStrip cuts strip c.args.item} (
       λ e. record {
         begins = subst (λ (n : ℕ). n ≤ strip) first c.if-strip_at-strip.true;
