@@ -10,7 +10,7 @@ from contextlib import contextmanager
 from dataclasses import dataclass
 from functools import reduce
 from pathlib import Path
-from tempfile import TemporaryDirectory, gettempdir
+from tempfile import TemporaryDirectory, TemporaryFile, gettempdir
 from typing import Any, Iterator, Mapping, Sequence
 
 import numpy as np
@@ -19,7 +19,7 @@ from osgeo import ogr, osr
 from . import frame as frames
 from . import options
 from .changes import explains, longest_of, moves_told, warn_of_parity
-from .columns import BLOCK, Columns, Numbers
+from .columns import Columns, Floats, Numbers
 from .common_grid import Losses, tell_losses
 from .database import is_database
 from .destination import Destination
@@ -27,23 +27,24 @@ from .faults import Fault, Refusal
 from .frame import Frame
 from .layers import Box, Kind, Source, common_system
 from .messages import during, say, warn
-from .output import POLYGONS, Table
+from .output import NO_BOXES, POLYGONS, Table
 from .ranges import input_of, ranges
 from .rings import Moves
-from .sections import Spoiled, Values
+from .sections import Spoiled
 from .strip_measures import longest
 from .strip_plan import BASE, EDGE, LINE, PART, Part, Plan, Reading, Strips, Work, chosen, grid_of, most_lines
-from .strip_tasks import READ, Step
+from .strip_polygons import Polygons
+from .strip_tasks import READ, Step, steps
 from .surveys import Found, names_of, tell_found
 from .systems import area_name
 from .wkb import encoded
 from .workers import Crew, clients
 
-# The phases that need no plan; those behind which segments are known; and those behind which all
-# edges of the answer are.
+# The phases behind which segments are known; those behind which all edges of the answer are; and
+# those behind which its polygons are.
 SCATTERED = (READ, "scatter")
 LABELLED = (*SCATTERED, "round", "bridge", "edges", "come", "labels")
-ALL = (*LABELLED, "polygons")
+ALL = (*LABELLED, "reach", "close", "join", "write")
 
 # One segment more than can be numbered.
 MOST = 1 << 32
@@ -192,18 +193,20 @@ def planned(asked: Wanted, work: Work, survey: Survey, memory: int) -> Work:
     segments = sum(note["points"] - note["rings"] for note in survey.notes)
     most = most_lines(memory, segments)
     strips = survey.strips(most)
-    task, last = BASE + LINE * strips.most, BASE + EDGE * segments
+    task, ring = BASE + LINE * strips.most, BASE + EDGE * segments
+    joins = (
+        "; joins of strips have edges of rings over borders alone, and would take"
+        f" {ring // MEGABYTE:,} if one ring had as many as there are segments"
+    )
     say(
         f"{len(work.reading.parts):,} parts, {len(strips.cuts) + 1:,} strips of about {strips.most:,} segments at most;"
-        f" {memory // MEGABYTE:,} MB for a task, of which strips take about {task // MEGABYTE:,}, and the last one,"
-        f" which has all edges of the answer, {last // MEGABYTE:,} if these are as many as there are segments"
+        f" {memory // MEGABYTE:,} MB for a task, of which strips take about {task // MEGABYTE:,}{joins if strips.cuts else ''}"
     )
     names = names_of(asked.sources)
     if strips.most > 2 * most:
         warn(names, f"about {strips.most:,} of {segments:,} segments reach one strip: they span the map, and narrower strips don't help")
-    for told, bytes_ in (("a strip", task), ("the last task", last)):
-        if bytes_ > memory:
-            warn(names, f"{told} may take more than --memory, about {bytes_ // MEGABYTE:,} MB")
+    if task > memory:
+        warn(names, f"a strip may take more than --memory, about {task // MEGABYTE:,} MB")
     plan = Plan(work.reading, asked.operation, grid_of(survey.frame), strips.cuts, survey.firsts(names))
     return Work(work.folder, work.reading, plan)
 
@@ -247,34 +250,37 @@ def moves_of(notes: Sequence[Any]) -> Moves:
     return Moves(sum(vertices), sum(moved), sum(ways) / max(1, sum(moved)), max(greatest))
 
 
-def polygons_made(crew: Crew, work: Work) -> list[Values]:
-    """The polygons of the answer, where they lie: coordinates, and where rings and polygons begin."""
+def blocks(work: Work) -> Iterator[Columns[Numbers]]:
+    """The polygons of the answer in order, each a feature with its number, some at a time."""
+    before = 0
+    for step in steps(work, "write"):
+        made = Polygons(*work.held.lying(step.file, *Polygons._fields))
+        for block in made.blocks():
+            yield block.features(before)
+            before += block.total
+
+
+def boxes_made(crew: Crew, work: Work, frame: Frame) -> Floats:
+    """The boxes of the answer's polygons, which are all made then. They lie in a file without a name, for
+    as long as they are looked at."""
     while True:
         crew.notes(work, ALL)
-        try:
-            return work.held.lying("polygons.0", "coordinates", "rings", "polygons")
-        except Spoiled as spoiled:
-            crew.remove(work, {spoiled.name: spoiled.reason})
+        with TemporaryFile(dir=work.folder) as file:
+            try:
+                file.writelines(frame.boxes(block).data for block in blocks(work))
+            except Spoiled as spoiled:
+                crew.remove(work, {spoiled.name: spoiled.reason})
+                continue
+            size = file.tell()
+            file.flush()
+            return np.memmap(file, np.float64, "r").reshape(-1, 4) if size else NO_BOXES
 
 
-def blocks(made: Sequence[Values]) -> Iterator[Columns[Numbers]]:
-    """Polygons in order, each a feature with its number, some at a time."""
-    coordinates, rings, polygons = made
-    for at in range(0, len(polygons) - 1, BLOCK):
-        of_rings = polygons[at : at + BLOCK + 1].astype(np.int64)
-        of_points = rings[of_rings[0] : of_rings[-1] + 1].astype(np.int64)
-        points = coordinates[2 * of_points[0] : 2 * of_points[-1]].astype(np.int64)
-        count = len(of_rings) - 1
-        starts = (of_points - of_points[0], of_rings - of_rings[0])
-        yield Columns(points[0::2], points[1::2], *starts, np.arange(count + 1), at + np.arange(1, count + 1))
-
-
-def table_of(made: Sequence[Values], frame: Frame) -> Table:
-    """Polygons, each with its number and its area."""
-    boxes = np.concatenate([np.zeros((0, 4)), *(frame.boxes(block) for block in blocks(made))])
+def table_of(work: Work, boxes: Floats, frame: Frame) -> Table:
+    """The polygons of the answer, each with its number and its area."""
 
     def rows() -> Iterator[tuple[bytes, tuple[int, float]]]:
-        for block in blocks(made):
+        for block in blocks(work):
             for polygon, number, twice in zip(encoded(frame.off_grid(block)), block.ids.tolist(), block.twice_areas()):
                 yield polygon, (number, frame.area(twice))
 
@@ -289,14 +295,13 @@ def answered(crew: Crew, asked: Wanted, work: Work, place: Destination) -> int:
     work = planned(asked, work, survey, asked.memory or free)
     warn_of_losses(asked, work, survey, of_phase(crew.notes(work, SCATTERED), "scatter"))
     tell_changes(asked, work, survey, crew.notes(work, LABELLED), common)
-    most = crew.most
-    made = polygons_made(crew, work)
+    boxes = boxes_made(crew, work, survey.frame)
     again = f"; {crew.made_again:,} files were made again" if crew.made_again else ""
-    say(
-        f"workers took up to {most // MEGABYTE:,} MB, the last task {crew.most // MEGABYTE:,}, and all"
-        f" {crew.seconds:,.1f} s of processors{again}"
-    )
-    (count,) = place.write(common, table_of(made, survey.frame))
+    say(f"workers took up to {crew.most // MEGABYTE:,} MB, and all {crew.seconds:,.1f} s of processors{again}")
+    try:
+        (count,) = place.write(common, table_of(work, boxes, survey.frame))
+    except Spoiled as spoiled:
+        raise Fault(work.held.place(spoiled.name), f"{spoiled.reason}, while it was read") from spoiled
     return count
 
 

@@ -10,13 +10,14 @@ from __future__ import annotations
 import sqlite3
 from contextlib import closing
 from dataclasses import dataclass
+from itertools import chain
 from pathlib import Path
 from typing import Any, Iterable, Iterator, Sequence
 
 import numpy as np
 from osgeo import ogr
 
-from .columns import Floats
+from .columns import BLOCK, Floats
 
 # The types of fields whose values SQLite takes as they are.
 TYPES = (ogr.OFTString, ogr.OFTInteger, ogr.OFTInteger64, ogr.OFTReal)
@@ -93,6 +94,15 @@ def laid_aside(held: sqlite3.Connection, table: str) -> list[str]:
 def headed(held: sqlite3.Connection, place: Place, boxes: Floats) -> Iterator[memoryview]:
     """What stands before the geometries."""
     (system,) = held.execute("SELECT srs_id FROM gpkg_geometry_columns WHERE table_name = ?", (place.table,)).fetchone()
+    return chain.from_iterable(heads_of(int(system), part) for part in parts_of(boxes))
+
+
+def parts_of(boxes: Floats) -> Iterator[Floats]:
+    """Some boxes at a time, which may lie in a file."""
+    return (boxes[at : at + BLOCK] for at in range(0, len(boxes), BLOCK))
+
+
+def heads_of(system: int, boxes: Floats) -> Iterator[memoryview]:
     heads = np.zeros(len(boxes), HEAD)
     heads["magic"], heads["flags"], heads["system"], heads["box"] = MAGIC, BOXED, system, boxes
     text, width = memoryview(heads.tobytes()), HEAD.itemsize
@@ -111,8 +121,8 @@ def numbered(rows: Iterable[Row], heads: Iterator[memoryview] | None) -> Iterato
 def enter(held: sqlite3.Connection, place: Place, boxes: Floats) -> None:
     """Puts all geometries into the layer's index, and tells the box round them."""
     there = f"SELECT {quoted(place.number)} FROM {quoted(place.table)} WHERE {quoted(place.geometry)} IS NOT NULL"
-    numbers = [number for (number,) in held.execute(there)]
-    entries = zip(numbers, *boxes.T.tolist())
+    sides = chain.from_iterable(part.tolist() for part in parts_of(boxes))
+    entries = ((*number, *box) for number, box in zip(held.execute(there), sides))
     held.executemany(f"INSERT INTO {quoted(place.index)} VALUES (?, ?, ?, ?, ?)", entries)
     (left, _, low, _), (_, right, _, high) = boxes.min(axis=0).tolist(), boxes.max(axis=0).tolist()
     words = "min_x = ?, min_y = ?, max_x = ?, max_y = ?, last_change = strftime('%Y-%m-%dT%H:%M:%fZ', 'now')"

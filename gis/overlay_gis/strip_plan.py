@@ -6,7 +6,7 @@ from __future__ import annotations
 import json
 from dataclasses import asdict, dataclass
 from decimal import Decimal
-from functools import cached_property
+from functools import cached_property, lru_cache
 from typing import NamedTuple
 
 import numpy as np
@@ -18,7 +18,7 @@ from .ranges import Input
 from .sections import Folder, digest_of
 
 # A form of the files of tasks; those of another one are refused.
-FORM = 1
+FORM = 2
 
 # How many bytes of features a part has.
 PART = 8 << 20
@@ -26,8 +26,8 @@ PART = 8 << 20
 # How many segments of each part are looked at when strips are chosen.
 SAMPLE = 512
 
-# Bytes that the tasks take, as measured: any of them; for each segment that reaches a strip; and the
-# last one, for each edge of the answer.
+# Bytes that the tasks take, as measured: any of them; for each segment that reaches a strip; and what
+# joins strips, for each edge that is open there.
 BASE, LINE, EDGE = 120 << 20, 400, 115
 
 # How many segments a strip has at least and at most, if there is room for them, and how many strips a
@@ -113,6 +113,30 @@ class Strips(NamedTuple):
     cuts: tuple[int, ...]
     most: int
     all: int
+
+
+class Span(NamedTuple):
+    """Strips side by side, from the first one to before another one: a strip, or two spans, whose
+    numbers are told."""
+
+    first: int
+    past: int
+    halves: tuple[int, ...] = ()
+
+
+@lru_cache(maxsize=8)
+def spans_of(strips: int) -> tuple[Span, ...]:
+    """A span for each strip, then those that join two, level by level: each stands behind its halves, and
+    the last one has all strips."""
+    found = [Span(strip, strip + 1) for strip in range(strips)]
+    level = list(range(strips))
+    while len(level) > 1:
+        joined = []
+        for one, other in zip(level[0::2], level[1::2]):
+            joined.append(len(found))
+            found.append(Span(found[one].first, found[other].past, (one, other)))
+        level = joined + level[2 * len(joined) :]
+    return tuple(found)
 
 
 def grid_of(frame: Frame) -> tuple[str, str, str]:

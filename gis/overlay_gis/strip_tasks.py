@@ -8,21 +8,22 @@ proved library; it may run on any machine that sees the folder, twice, or at onc
     edges      round, bridge                       -> edges that begin in a strip, but for those that bound nothing
     come       come, edges of the strip before     -> edges that come into a strip from the left
     labels     come, edges                         -> directed edges of the answer along those of a strip
-    polygons   labels of all strips                -> the polygons of the answer
+    reach      reach, labels of the strip before   -> directed edges that come into a strip from the left
+    close      reach, labels                       -> polygons that are closed in a strip, edges that are open
+    join       reach, close or join of both halves -> the same of two spans as one, up to that of all strips
+    write      close, join of all that have it     -> polygons that begin in a strip, in their order
 """
 
 from __future__ import annotations
 
-import ctypes
 import time
-from contextlib import suppress
 from functools import partial
 from typing import Any, Callable, NamedTuple
 
 import numpy as np
 
 from . import gdal_state
-from .columns import Columns
+from .columns import Columns, Mask
 from .faults import Fault, Refusal
 from .layers import Kind
 from .messages import unheard
@@ -30,7 +31,8 @@ from .rings import gridded
 from .sections import Folder, Spoiled, Values
 from .strip_library import operation, strips
 from .strip_measures import borders, by_class, lengths_of, twice_area
-from .strip_plan import Plan, Work, sampled
+from .strip_plan import Plan, Span, Work, sampled, spans_of
+from .strip_polygons import Polygons, merged
 from .surveys import NAMED
 from .vanishing import vanished
 
@@ -208,8 +210,7 @@ def labels(work: Work, strip: int) -> Made:
     found = strips().labels(operation(plan.operation), own, coming)
     alone = (strips().labels(operation("union"), of_layer(own, name), of_layer(coming, name)) for name in COUNTS)
     twice = list(map(twice_area, alone))
-    here = np.searchsorted(plan.cuts, found["ax"], "right") == strip
-    return {"edges": len(found), "twice": twice}, {"here": found[here], "later": found[~here]}
+    return {"edges": len(found), "twice": twice}, {"directed": found, "over": found[are_over(work, strip, found)]}
 
 
 def of_layer(edges: Values, name: str) -> Values:
@@ -221,39 +222,73 @@ def of_layer(edges: Values, name: str) -> Values:
     return found
 
 
-def polygons(work: Work, _: int) -> Made:
-    """Nothing else but the edges is held while the library makes their polygons."""
-    directed = all_edges(work)
-    give_back()
-    coordinates, rings, starts = strips().polygons(directed)
-    return {"polygons": len(starts) - 1}, {"coordinates": coordinates, "rings": rings, "polygons": starts}
+def reach(work: Work, strip: int) -> Made:
+    """The first strip has none."""
+    found = np.empty(0, strips().DIRECTED)
+    if strip:
+        (coming,), (over,) = work.held.got(f"reach.{strip - 1}", "reach"), work.held.got(f"labels.{strip - 1}", "over")
+        found = np.concatenate([coming[are_over(work, strip - 1, coming)], over])
+    return {"edges": len(found)}, {"reach": found}
 
 
-def all_edges(work: Work) -> Values:
-    """The directed edges of all strips, in order."""
-    plan = planned(work)
-    names = [f"labels.{strip}" for strip in range(plan.strips)]
-    found = np.empty(sum(work.held.told(name)["edges"] for name in names), strips().DIRECTED)
-    waiting, at = found[:0], 0
-    for strip, name in enumerate(names):
-        here, later = work.held.got(name, "here", "later")
-        now = np.searchsorted(plan.cuts, waiting["ax"], "right") == strip
-        past = at + len(here) + np.count_nonzero(now)
-        found[at:past] = in_order(np.concatenate([here, waiting[now]]))
-        waiting, at = np.concatenate([waiting[~now], later]), past
-    return found[:at]
+def are_over(work: Work, strip: int, directed: Values) -> Mask:
+    """Which edges go over the border on the right of a strip."""
+    found: Mask = np.searchsorted(planned(work).cuts, np.maximum(directed["ax"], directed["bx"]), "right") > strip
+    return found
 
 
-def give_back() -> None:
-    """Gives memory that earlier tasks have left free back to the system, where C's library can."""
-    with suppress(AttributeError):
-        ctypes.CDLL(None).malloc_trim(0)
+def known_to(work: Work, strip: int, *own: tuple[Step, str]) -> Values:
+    """Directed edges in order: those that come into a strip, and others, which begin there or later, by
+    the tasks that have told them."""
+    parts = (work.held.got(step.file, key)[0] for step, key in ((Step("reach", strip), "reach"), *own))
+    return in_order(np.concatenate(list(parts)))
 
 
 def in_order(directed: Values) -> Values:
     """Directed edges by their starts, then by their ends."""
     found: Values = directed[np.lexsort([directed[name] for name in ("by", "bx", "ay", "ax")])]
     return found
+
+
+def close(work: Work, strip: int) -> Made:
+    return closed(work, Span(strip, strip + 1), (Step("labels", strip), "directed"))
+
+
+def join(work: Work, number: int) -> Made:
+    span = span_of(work, number)
+    return closed(work, span, *((step_of(work, half), "open") for half in span.halves))
+
+
+def span_of(work: Work, number: int) -> Span:
+    """What a join has."""
+    strip_count = planned(work).strips
+    return spans_of(strip_count)[strip_count + number]
+
+
+def step_of(work: Work, number: int) -> Step:
+    """What closes the edges of the span with this number."""
+    strip_count = planned(work).strips
+    return Step("close", number) if number < strip_count else Step("join", number - strip_count)
+
+
+def closed(work: Work, span: Span, *own: tuple[Step, str]) -> Made:
+    """Of the edges that a span knows: the polygons of the closed ones, for each strip those whose first
+    vertex lies there, and the open ones."""
+    cuts = planned(work).cuts
+    edges, still_open = strips().closed(cuts, span.first, span.past, known_to(work, span.first, *own))
+    made = Polygons(*strips().polygons(edges))
+    note = {"edges": len(edges), "polygons": made.total, "open": len(still_open)}
+    arrays = {}
+    for strip, held in enumerate(made.parted(cuts[span.first : span.past - 1]), span.first):
+        arrays.update({f"{key}.{strip}": values for key, values in held._asdict().items()})
+    return note, {**arrays, "open": still_open}
+
+
+def write(work: Work, strip: int) -> Made:
+    keys = [f"{key}.{strip}" for key in Polygons._fields]
+    made = [Polygons(*work.held.got(step.file, *keys)) for step in needs(work, Step("write", strip))]
+    found = merged(made)
+    return {"polygons": found.total}, found._asdict()
 
 
 # Of an edge how often each layer has it.
@@ -268,7 +303,10 @@ PHASES: dict[str, Callable[[Work, int], Made]] = {
     "edges": edges,
     "come": come,
     "labels": labels,
-    "polygons": polygons,
+    "reach": reach,
+    "close": close,
+    "join": join,
+    "write": write,
 }
 
 
@@ -284,20 +322,28 @@ def needs(work: Work, step: Step) -> list[Step]:
         return [Step("round", number)] + ([] if last else [Step("bridge", number + 1)])
     if phase == "edges":
         return [Step("round", number), Step("bridge", number)]
-    if phase == "come":
-        return [Step("come", number - 1), Step("edges", number - 1)] if number else []
+    if phase in ("come", "reach"):
+        own = {"come": "edges", "reach": "labels"}[phase]
+        return [Step(phase, number - 1), Step(own, number - 1)] if number else []
     if phase == "labels":
         return [Step("come", number), Step("edges", number)]
-    if phase == "polygons":
-        return [Step("labels", strip) for strip in range(planned(work).strips)]
+    if phase == "close":
+        return [Step("reach", number), Step("labels", number)]
+    if phase == "join":
+        span = span_of(work, number)
+        return [Step("reach", span.first), *(step_of(work, half) for half in span.halves)]
+    if phase == "write":
+        spans = spans_of(planned(work).strips)
+        return [step_of(work, k) for k, span in enumerate(spans) if span.first <= number < span.past]
     return []
 
 
 def steps(work: Work, phase: str) -> list[Step]:
-    """The tasks of a phase, in the order in which they are wanted."""
-    if phase == "polygons":
-        return [Step(phase, 0)]
+    """The tasks of a phase, in the order in which they are wanted: none needs a later one."""
     if phase in (READ, "scatter"):
         return [Step(phase, number) for number in range(len(work.reading.parts))]
-    found = [Step(phase, strip) for strip in range(planned(work).strips)]
-    return found if phase in ("come", "labels") else found[::-1]
+    count = planned(work).strips
+    if phase == "join":
+        return [Step(phase, number) for number in range(count - 1)]
+    found = [Step(phase, strip) for strip in range(count)]
+    return found[::-1] if phase in ("round", "bridge", "edges") else found

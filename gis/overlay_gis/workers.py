@@ -58,7 +58,10 @@ TOLD = {
     "edges": "merging edges",
     "come": "crossing borders",
     "labels": "labelling edges",
-    "polygons": "making polygons",
+    "reach": "following edges",
+    "close": "making polygons",
+    "join": "joining strips",
+    "write": "ordering polygons",
 }
 
 
@@ -86,8 +89,8 @@ def looked(path: str, dask_worker: Any) -> Seen:
     """What a worker tells, where it has a file of that path to see."""
     lacks = ""
     try:
-        if not all(hasattr(strips(), call) for call in ("labels", "going_on", "polygons")):
-            lacks = "overlay_grid is too old: it has no labels of strips"
+        if not all(hasattr(strips(), call) for call in ("labels", "going_on", "polygons", "closed")):
+            lacks = "overlay_grid is too old: it has no polygons of strips"
     except Fault as fault:
         lacks = str(fault)
     return Seen(__version__, lacks, os.path.isfile(path), free_memory(), dask_worker.state.nthreads)

@@ -7,6 +7,7 @@ import random
 import re
 import sqlite3
 import sys
+import tracemalloc
 from contextlib import closing, nullcontext
 from pathlib import Path
 
@@ -15,7 +16,7 @@ import pytest
 from osgeo import ogr
 
 from conftest import COMMAND, EAST, NORTH, blobs, parcels, read, write
-from overlay_gis import by_strips, options, ranges, strip_library, strip_measures, strip_plan, strip_tasks, workers
+from overlay_gis import by_strips, destination, geopackage, options, ranges, strip_library, strip_measures, strip_plan, strip_polygons, strip_tasks, workers
 from overlay_gis.faults import Fault
 from overlay_gis.layers import Source
 from overlay_gis.sections import Folder, Spoiled
@@ -41,6 +42,15 @@ class InTurn(workers.Crew):
             before = [ended[other] for other in strip_tasks.needs(work, step) if other in ended]
             ended[step] = strip_tasks.carried_out(work, step, *before)
             yield ended[step]
+
+    def notes(self, work, phases):
+        InTurn.noted = super().notes(work, phases)
+        return InTurn.noted
+
+    @staticmethod
+    def told(key, phase):
+        """What the tasks of a phase have told of something, in their order."""
+        return [note[key] for step, note in sorted(InTurn.noted.items()) if step.phase == phase]
 
 
 @pytest.fixture
@@ -129,7 +139,25 @@ def walk(rng, reach):
     return [[ring]]
 
 
-KINDS = [soup, soup, soup, board, slivers, star, nested, copies, comb, islands, walk]
+def lakes(rng, reach):
+    """Frames in frames, wide or high ones, which touch at corners or not, and islands between them."""
+    made = []
+    for k in range(rng.randint(1, 8)):
+        far, wide, high = 8 * k + rng.randint(2, 8), rng.choice([1, 9]), rng.choice([1, 2])
+        x, y, right, top = -far * wide, -far * high, far * wide, far * high
+        outer, inner = ([(x + d, y + d), (right - d, y + d), (right - d, top - d), (x + d, top - d)] for d in (0, rng.randint(1, 2)))
+        made += [[outer, inner], [square(rng.randint(x, right), rng.randint(y, top), rng.randint(1, 3))]]
+    return made
+
+
+def chain(rng, reach):
+    """Diamonds whose corners touch, some of them hollow."""
+    half, count = rng.randint(2, 6), rng.randint(2, 20)
+    diamonds = [[(x - half, 0), (x, -half), (x + half, 0), (x, half)] for x in range(0, 2 * half * count, 2 * half)]
+    return [[ring, [(a, b) for a, b in square(ring[1][0], 0, 1)]] if rng.random() < 0.4 else [ring] for ring in diamonds if rng.random() < 0.9]
+
+
+KINDS = [soup, soup, soup, board, slivers, star, nested, copies, comb, islands, walk, lakes, lakes, chain]
 REACHES = [2, 3, 5, 8, 15, 40, 300, 1 << 14, LIMIT]
 
 
@@ -159,7 +187,7 @@ def both(gis, tmp_path, operation, a, b, *words):
     return parted
 
 
-@pytest.mark.parametrize("seed", range(60))
+@pytest.mark.parametrize("seed", range(80))
 def test_hostile_maps(gis, tmp_path, in_turn, monkeypatch, seed):
     rng = random.Random(seed)
     a, b = layer(tmp_path / "a.gpkg", rng), layer(tmp_path / "b.gpkg", rng)
@@ -174,7 +202,119 @@ def test_hostile_maps(gis, tmp_path, in_turn, monkeypatch, seed):
         return strip_plan.Strips(tuple(sorted(cuts)), 1, 1)
 
     monkeypatch.setattr(by_strips, "chosen", chosen)
+    for module, name in ((strip_polygons, "BLOCK"), (strip_polygons, "POINTS"), (geopackage, "BLOCK")):
+        monkeypatch.setattr(module, name, rng.choice([1, 9, 1 << 15]))
     both(gis, tmp_path, rng.choice(OPERATIONS), a, b, "--grid", "1", "--origin", "0,0")
+    assert InTurn.told("open", "join" if count else "close")[-1] == 0
+
+
+@pytest.fixture
+def cut(in_turn, monkeypatch):
+    """Strips that begin at these columns."""
+
+    def put(*columns):
+        in_turn(1, 1 << 20)
+        monkeypatch.setattr(by_strips, "chosen", lambda *_: strip_plan.Strips(columns, 1, 1))
+
+    return put
+
+
+def test_polygons_are_closed_in_strips_and_where_these_are_joined(gis, tmp_path, cut):
+    """Of four strips and a fifth one: joins 0 and 1 have two each, join 2 these four, join 3 all."""
+    frame = [[(-5, -5), (60, -5), (60, 99), (-5, 99)], [(-3, -3), (58, -3), (58, 97), (-3, 97)]]
+    lake = [square(12, 50, 15), square(14, 52, 11)]  # over the border at 20, with islands in strips 1 and 2 and over the border
+    held = [square(1, 1, 3), square(8, 10, 1), square(45, 1, 2), square(15, 54, 2), square(21, 54, 2), square(18, 58, 4), square(33, 70, 4)]
+    over = [square(8, 0, 4), square(8, 20, 4), square(28, 60, 4), square(18, 40, 4), square(38, 80, 4), square(25, 30, 19)]
+    a = write(tmp_path / "a.gpkg", [geometry(rings) for rings in [frame, lake, *([ring] for ring in held)]], None)
+    b = write(tmp_path / "b.gpkg", [geometry([ring]) for ring in over], None)
+    cut(10, 20, 30, 40)
+    both(gis, tmp_path, "union", a, b, "--grid", "1", "--origin", "0,0")
+    assert InTurn.told("polygons", "close") == [2, 1, 1, 1, 1]
+    assert InTurn.told("polygons", "join") == [2, 1, 3, 3]
+    assert InTurn.told("polygons", "write") == [5, 4, 3, 2, 1]
+    assert InTurn.told("open", "join")[-1] == 0
+
+
+def test_spans_are_joined_two_by_two():
+    for count in range(1, 70):
+        spans = strip_plan.spans_of(count)
+        assert [(span.first, span.past) for span in spans[:count]] == [(strip, strip + 1) for strip in range(count)]
+        assert len(spans) == 2 * count - 1 and spans[-1][:2] == (0, count)
+        for number, span in enumerate(spans[count:], count):
+            one, other = (spans[half] for half in span.halves)
+            assert max(span.halves) < number and (span.first, one.past, span.past) == (one.first, other.first, other.past)
+        assert sorted(half for span in spans for half in span.halves) == list(range(2 * count - 2))
+        for strip in range(count):
+            assert sum(span.first <= strip < span.past for span in spans) <= 1 + math.ceil(math.log2(count))
+
+
+def of_lists(polygons):
+    """Polygons that are lists of rings, as tasks have them."""
+    rings = [ring for polygon in polygons for ring in polygon]
+    offsets = [np.cumsum([0, *map(len, parts)]).astype("<u4") for parts in (rings, polygons)]
+    return strip_polygons.Polygons(np.array([number for ring in rings for point in ring for number in point], "<i4"), *offsets)
+
+
+def lists_of(held):
+    points = list(zip(held.coordinates[0::2].tolist(), held.coordinates[1::2].tolist()))
+    rings = [points[at:past] for at, past in zip(held.rings, held.rings[1:])]
+    return [rings[at:past] for at, past in zip(held.polygons, held.polygons[1:])]
+
+
+@pytest.mark.parametrize("seed", range(20))
+def test_polygons_come_in_one_order(monkeypatch, seed):
+    """By their shells' first points, then by the second ones; whatever has made them, and however they are parted."""
+    rng = random.Random(seed)
+    edges = rng.sample([(x, y, a, b) for x in range(4) for y in range(3) for a in range(3) for b in range(3)], rng.choice([0, 1, 5, 60]))
+    polygons = [[[edge[:2], edge[2:]] + [(9, k)] * rng.randint(1, 3)] + [[(k, 0), (0, k)]] * rng.randint(0, 2) for k, edge in enumerate(edges)]
+    parts = [[] for _ in range(rng.randint(1, 5))]
+    for polygon in polygons:
+        rng.choice(parts).append(polygon)
+    ordered = sorted(polygons, key=lambda polygon: polygon[0][:2])
+    found = strip_polygons.merged([of_lists(sorted(part, key=lambda polygon: polygon[0][:2])) for part in parts])
+    assert lists_of(found) == ordered
+    cuts = sorted(rng.randint(-1, 4) for _ in range(rng.randint(0, 5)))
+    by_strip = [lists_of(part) for part in found.parted(cuts)]
+    assert by_strip == [[polygon for polygon in ordered if np.searchsorted(cuts, polygon[0][0][0], "right") == k] for k in range(len(cuts) + 1)]
+    monkeypatch.setattr(strip_polygons, "BLOCK", rng.choice([1, 3, 1000]))
+    monkeypatch.setattr(strip_polygons, "POINTS", rng.choice([1, 9, 1000]))
+    blocks = list(found.blocks())
+    assert [polygon for block in blocks for polygon in lists_of(block)] == ordered
+    assert all(block.total == 1 or block.total <= strip_polygons.BLOCK and block.rings[-1] <= strip_polygons.POINTS for block in blocks)
+
+
+def measured(most, key, call):
+    """The same call; the most that Python and numpy held at once while it was made is put there."""
+
+    def made(*given):
+        tracemalloc.start()
+        try:
+            return call(*given)
+        finally:
+            most[key] = max(most.get(key, 0), tracemalloc.get_traced_memory()[1])
+            tracemalloc.stop()
+
+    return made
+
+
+def test_memory_does_not_grow_with_the_answer(gis, tmp_path, in_turn, monkeypatch):
+    """Neither that of a task nor that of the run itself."""
+    most, phases, write_all = [{}, {}], dict(strip_tasks.PHASES), destination.Destination.write
+    for module in (strip_polygons, geopackage):
+        monkeypatch.setattr(module, "BLOCK", 200)
+    for held, columns in zip(most, (30, 120)):
+        squares = [geometry([square(10 * x + y % 7, 10 * y, 5)]) for x in range(columns) for y in range(50)]
+        a, b = write(tmp_path / "a.gpkg", squares, None), write(tmp_path / "b.gpkg", squares[:1], None)
+        in_turn(1600, 1 << 16)
+        for phase in ("reach", "close", "join", "write"):
+            monkeypatch.setitem(strip_tasks.PHASES, phase, measured(held, phase, phases[phase]))
+        monkeypatch.setattr(destination.Destination, "write", measured(held, "run", write_all))
+        answer = gis("run", "union", a, b, "-o", "many.gpkg", "--overwrite", "--engine", "dask", "--grid", "1")
+        assert answer.status == 0 and f"{50 * columns:,} polygons" in answer.err, answer.err
+        for path in (a, b):
+            os.remove(path)
+    few, many = most
+    assert min(many.values()) > 0 and all(many[key] < 1.5 * few[key] + 10_000 for key in few), most
 
 
 @pytest.mark.parametrize("operation", OPERATIONS)
@@ -347,7 +487,7 @@ def test_spoiled_files_are_made_again(gis, town, in_turn, kept, phase):
             for path in held[later]:
                 path.unlink()
         at = len(held[phase]) // 2
-        for path in held[phase][:at] + held[phase][at + 1 :] if phase in ("bridge", "come") else []:
+        for path in held[phase][:at] + held[phase][at + 1 :] if phase in ("bridge", "come", "reach", "join") else []:
             path.unlink()  # of these each reads the one before
         change(held[phase][at])
         answer = run(gis, town, "--dir", "files")
@@ -355,6 +495,22 @@ def test_spoiled_files_are_made_again(gis, town, in_turn, kept, phase):
         assert rows("out.gpkg") == wanted
         # what the head of a file doesn't tell is found by who reads it
         assert ("1 files were made again" in answer.err) == (spoil == "data"), answer.err
+
+
+def test_a_file_that_is_spoiled_while_the_answer_is_written_is_a_fault(gis, town, in_turn, monkeypatch):
+    """It was read before, for the boxes of its polygons."""
+    in_turn(20, 700)
+    made = by_strips.boxes_made
+
+    def spoiling(crew, work, frame):
+        boxes = made(crew, work, frame)
+        flipped(Path(work.held.place("write.1")), -1)
+        return boxes
+
+    monkeypatch.setattr(by_strips, "boxes_made", spoiling)
+    answer = run(gis, town, "--dir", "files")
+    assert answer.status == 1 and not os.path.exists("out.gpkg")
+    assert answer.err.splitlines()[-1].endswith("/write.1: was changed in polygons, while it was read"), answer.err
 
 
 def test_a_file_that_is_spoiled_each_time_is_a_fault(gis, town, in_turn, monkeypatch):

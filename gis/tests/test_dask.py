@@ -14,7 +14,7 @@ from types import SimpleNamespace
 import pytest
 
 from conftest import COMMAND, blobs, parcels, write
-from overlay_gis import by_strips, messages, strip_tasks, workers
+from overlay_gis import by_strips, messages, strip_library, strip_tasks, workers
 from overlay_gis.faults import Fault
 from test_by_strips import rows, told
 
@@ -102,7 +102,7 @@ if __name__ == "__main__":  # which its workers aren't
 """
 
 
-STOPPED = [("read", signal.SIGKILL), ("round", signal.SIGKILL), ("labels", signal.SIGKILL), ("round", signal.SIGTERM), ("labels", signal.SIGINT)]
+STOPPED = [("read", signal.SIGKILL), ("round", signal.SIGKILL), ("labels", signal.SIGKILL), ("round", signal.SIGTERM), ("labels", signal.SIGINT), ("close", signal.SIGKILL), ("join", signal.SIGTERM), ("write", signal.SIGKILL)]
 
 
 @contextmanager
@@ -209,6 +209,15 @@ def test_workers_that_can_not_help(seen, reason):
     with pytest.raises(Fault) as error:
         workers.Crew(Client()).look("/x")
     assert str(error.value).startswith(f"worker tcp://b:2: {reason}")
+
+
+def test_a_library_without_the_calls_of_strips_is_told(monkeypatch, tmp_path):
+    worker = SimpleNamespace(state=SimpleNamespace(nthreads=1))
+    assert workers.looked(str(tmp_path), worker).lacks == ""
+    for call in ("labels", "going_on", "closed", "polygons"):
+        with monkeypatch.context() as changed:
+            changed.delattr(strip_library.strips(), call)
+            assert workers.looked(str(tmp_path), worker).lacks == "overlay_grid is too old: it has no polygons of strips"
 
 
 def test_a_terminal_has_a_bar_a_phase(gis, town, monkeypatch):

@@ -90,7 +90,10 @@ def test_a_file_is_as_gdal_writes_it(both_ways, program, tmp_path, words, srs):
     assert ours["wrong"] == [("ok",)]
 
 
-def test_many_rows_are_as_gdal_writes_them(both_ways, program, tmp_path):
+@pytest.mark.parametrize("size", [7, geopackage.BLOCK])
+def test_many_rows_are_as_gdal_writes_them(both_ways, program, tmp_path, monkeypatch, size):
+    """However many boxes are worked on at a time."""
+    monkeypatch.setattr(geopackage, "BLOCK", size)
     write(tmp_path / "a.gpkg", parcels(1, 3, 60))
     ours, gdals, _ = both_ways("out.gpkg", "faces", "a.gpkg")
     assert ours == gdals and len(ours["rtree_out_geom"]) > 3600
