@@ -23,7 +23,7 @@ LEMMA = re.compile(r"(?:proofs/)?([A-Z]\w*)\.(\w+)")
 OF_CODE = ("CONTRACTS.md", "MAP.md", "PROOFS.md")
 # How many words a document may have at most.
 MOST_WORDS = {
-    "README.md": 1200, "docs/CHECKING.md": 1200, "docs/CONTRACTS.md": 2890, "docs/DECISIONS.md": 2640, "docs/PROOFS.md": 5620,
+    "README.md": 1200, "docs/CHECKING.md": 1200, "docs/CONTRACTS.md": 2960, "docs/DECISIONS.md": 2690, "docs/PROOFS.md": 5810,
 }
 MOST_COLUMNS = 100
 # What stays on one line: a word, what is quoted, a link.
