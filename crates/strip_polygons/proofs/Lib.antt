@@ -14,3 +14,6 @@ pub mod PartingEdges
 pub mod PartingPicked
 pub mod OpenRoots
 pub mod OpenClasses
+pub mod RangesLeft
+pub mod RangesLaw
+pub mod RangesInOrder

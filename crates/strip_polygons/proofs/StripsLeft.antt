@@ -21,7 +21,7 @@ use Rattle.strip_polygons.specs.Strips.{AreLeft, AreMet, BeginsIn}
 use Rattle.strip_polygons.proofs.StripsLists.{Kept, kept}
 
 -- ---- strips
-strip_within : (cuts : List ℤ) (p : Pt) → strip_at cuts p ≤ length cuts
+pub strip_within : (cuts : List ℤ) (p : Pt) → strip_at cuts p ≤ length cuts
 strip_within cuts p = count_by-le-length (λ c. int_le c p.x) cuts
 
 -- an edge begins in one strip
@@ -29,7 +29,7 @@ one_begin : (cuts : List ℤ) (d : DirectedEdge) (e f : Edge) → RunsAlong d e 
 one_begin cuts d e f r s = ap (λ (t : Edge). strip_at cuts t.p) (one_run d e f r s)
 
 -- a directed edge runs along an edge
-edge_along : (directed : List DirectedEdge) → AreDirected directed → (d : DirectedEdge) → Contains directed d → (e : Edge) × RunsAlong d e
+pub edge_along : (directed : List DirectedEdge) → AreDirected directed → (d : DirectedEdge) → Contains directed d → (e : Edge) × RunsAlong d e
 edge_along directed a d i = by_order (pt_order d.from d.to)
   where
     by_order : PtOrder d.from d.to → (e : Edge) × RunsAlong d e
@@ -44,7 +44,7 @@ before_or_in : (k n : ℕ) → k < n + 1 → (k < n) ⊎ (k ≡ n)
 before_or_in k n h = ⊎_elim (λ (l : k < n). inl l) (λ (l : n ≤ k). inr (omega arith)) (cases_lt k n)
 
 -- where ties lead to an edge, there is one
-led : (known : List DirectedEdge) (P : DirectedEdge → Type 0) (d : DirectedEdge) → LeadsTo known P d → (e : DirectedEdge) × P e
+pub led : (known : List DirectedEdge) (P : DirectedEdge → Type 0) (d : DirectedEdge) → LeadsTo known P d → (e : DirectedEdge) × P e
 led known P d (here i h) = (d, h)
 led known P d (on i t l) = led known P _ l
 

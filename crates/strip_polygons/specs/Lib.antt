@@ -1,3 +1,4 @@
 pub mod Classes
 pub mod Parting
 pub mod Strips
+pub mod Ranges

@@ -8,13 +8,15 @@
 //! 3. What is closed has polygons of its own. What is open and begins in the range goes on: a range of two that touch knows it of both, until one
 //!    has all strips, where nothing is open. `in_turn` does so from the first strip on.
 //!
-//! The promise: the polygons that are closed in all ranges are those of all edges (`parts_law`).
+//! The promise: the polygons that are closed in all ranges are in order those of all edges, whatever the ranges are (`ranges_law`, by `parts_law`).
 #![tactic(auto)]
 
 mod classes;
 mod in_turn;
 mod parting;
+mod ranges_law;
 mod ties;
 
 pub use in_turn::polygons_in_strips;
 pub use parting::{Parts, parted};
+pub use ranges_law::{ranges_have_polygons, strips_have_polygons};
