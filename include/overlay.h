@@ -28,7 +28,7 @@
 #define OVERLAY_VERSION "1.0.0"
 
 /* The version of the calls that are declared here. Programs that may meet another library compare overlay_version() with it. */
-#define OVERLAY_CALLS_VERSION 9u
+#define OVERLAY_CALLS_VERSION 10u
 
 #ifdef __cplusplus
 extern "C" {
@@ -70,7 +70,7 @@ enum overlay_refusal {
     OVERLAY_RING_OFFSET = 16,        /* likewise of rings */
     OVERLAY_UNPAIRED = 17,           /* of pairs: a layer has more features than the other; detail is the number of the first one without another */
     OVERLAY_BAD_ITEM = 18,           /* of strips, edges: an item is none of its list, or isn't behind the one before it; detail is its number there */
-    OVERLAY_CONTRADICTION = 19       /* of strips: lists that contradict each other; of edges: they don't close; detail is the number of the first such item */
+    OVERLAY_CONTRADICTION = 19       /* lists of strips that contradict each other, edges that don't close, polygons of one shell; detail is such an item's number */
 };
 
 /* What is refused of two layers. Of faces it is the number of a layer, from 0 on, or the count of layers for the run. */
@@ -302,8 +302,9 @@ uint32_t overlay_faces_columns_side(const struct overlay_columns *layers, size_t
  *
  *   7. overlay_strip_closed   of a range, of the directed edges that have a column of it: the closed ones, and those that wait for a wider range
  *   8. overlay_polygons       of the closed ones of each range, the polygons
+ *   9. overlay_strip_write    of the polygons of all ranges, those whose first point lies in a strip, in order
  *
- * The polygons of all ranges, ordered by the points of their shells, are those that overlay_columns_fill makes. Edges with even counts in both layers
+ * The polygons of 9, one strip behind another, are those that overlay_columns_fill makes, in the same order. Edges with even counts in both layers
  * bound no result: they may be left out of all lists of 4 before. All that holds where each call had the same cuts, and each list is whole: a call
  * tests what it is handed, but can't know of a line that is missing. */
 
@@ -461,6 +462,22 @@ void overlay_strip_closed(const int32_t *cuts, size_t cuts_length, size_t first,
  * detail is the first such edge. */
 void overlay_polygons(const struct overlay_directed *directed, size_t directed_length, int32_t *coordinates, size_t coordinates_length,
                       uint32_t *rings, size_t rings_length, uint32_t *polygons, size_t polygons_length, struct overlay_columns_answer *answer);
+
+/* Puts polygons in order, as columns, at the beginning of three rooms, and tells their lengths, as overlay_polygons does. Where the shells of two first
+ * differ, the one with the lesser point (by x, then by y) goes first; a shell goes before those that begin with all of its points. What several calls
+ * of overlay_polygons told is handed in as one list: the columns of one behind those of another, with offsets that go on. Offsets may begin anywhere,
+ * and there may be none; what no polygon reaches isn't told.
+ *
+ *   made_coordinates, made_rings, made_polygons, and their lengths   the columns: each ring has a point, and each polygon a ring
+ *   coordinates, rings, polygons, and their lengths                  where the columns go, as of overlay_polygons; they overlap none of the others
+ *   answer                                                           where the answer goes; not null
+ *
+ * OVERLAY_COORDINATE_MISSING: an x has no y. OVERLAY_RING_OFFSET, OVERLAY_POLYGON_OFFSET: an offset isn't greater than the one before it, or passes
+ * the end of the next column; detail is its number, from 0 on. OVERLAY_CONTRADICTION: two polygons have one shell; detail is the number of one of them.
+ * Whether a ring's last point is its first, and what rings share, isn't tested; a shell's last point has no say in the order. */
+void overlay_strip_write(const int32_t *made_coordinates, size_t made_coordinates_length, const uint32_t *made_rings, size_t made_rings_length,
+                         const uint32_t *made_polygons, size_t made_polygons_length, int32_t *coordinates, size_t coordinates_length, uint32_t *rings,
+                         size_t rings_length, uint32_t *polygons, size_t polygons_length, struct overlay_columns_answer *answer);
 
 /* Puts the words of an answer of two layers without a text at the beginning of a room, as `A: 1 syntax at 16`, without a 0 or a line feed, and
  * returns their length in bytes: 0 where they don't fit, where memory ran out, or where there is nothing to say. Refusals from

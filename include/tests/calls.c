@@ -703,7 +703,7 @@ static void face_columns_memory(void) {
 int main(int count, char **words) {
     if (count == 4)
         return print(words);
-    check(overlay_version() == 9 && OVERLAY_CALLS_VERSION == 9, "the version");
+    check(overlay_version() == 10 && OVERLAY_CALLS_VERSION == 10, "the version");
     names();
     reasons();
     rooms();

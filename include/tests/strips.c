@@ -1,6 +1,7 @@
 /* The calls that round and label a map strip by strip, under the sanitizers: a small map whose lists were worked out by hand; lists, columns and cuts that
- * are refused, one by one; rooms that are too small, and memory that is refused; maps by random cuts, whose edges are those of overlay_fill, and whose
- * directed edges those of the rings of overlay_columns_fill; and lists of edges that cross one another. */
+ * are refused, one by one; rooms that are too small, and memory that is refused; maps by random cuts, whose edges are those of overlay_fill, whose
+ * directed edges those of the rings of overlay_columns_fill, and whose polygons, strip by strip, those of this call; and lists of edges that cross one
+ * another. */
 #include "../overlay.h"
 #include "checking.h"
 
@@ -662,6 +663,168 @@ static void memory(void) {
     }
 }
 
+/* ---- polygons in order */
+
+/* A square with a hole, and a triangle; and of another list three triangles: the points of one begin the square's shell, and one has its first point. */
+static const int32_t MADE_POINTS[] = {
+    0, 0, 8, 0, 8, 8, 0, 8, 0, 0, 2, 2, 2, 4, 4, 4, 2, 2, 5, 20, 7, 20, 6, 22, 5, 20,
+    0, 0, 8, 0, 8, 8, 0, 0, -3, 7, -1, 7, -2, 9, -3, 7, 0, 0, 3, -9, 6, -9, 0, 0,
+};
+static const uint32_t MADE_RINGS[] = {0, 5, 9, 13, 17, 21, 25}, MADE_POLYGONS[] = {0, 2, 3, 4, 5, 6};
+static const struct overlay_columns MADE = {MADE_POINTS, COUNT(MADE_POINTS), MADE_RINGS, COUNT(MADE_RINGS), MADE_POLYGONS, COUNT(MADE_POLYGONS), NULL, 0};
+static const int32_t WRITTEN_POINTS[] = {
+    -3, 7, -1, 7, -2, 9, -3, 7, 0, 0, 3, -9, 6, -9, 0, 0, 0, 0, 8, 0, 8, 8, 0, 0,
+    0, 0, 8, 0, 8, 8, 0, 8, 0, 0, 2, 2, 2, 4, 4, 4, 2, 2, 5, 20, 7, 20, 6, 22, 5, 20,
+};
+static const uint32_t WRITTEN_RINGS[] = {0, 4, 8, 12, 17, 21, 25}, WRITTEN_POLYGONS[] = {0, 1, 2, 3, 5, 6};
+/* The first triangle of either list, by offsets of polygons or of rings alone. */
+static const uint32_t SOME_POLYGONS[] = {2, 3, 4}, LAST_RINGS[] = {9, 13, 17}, SOME_RINGS[] = {0, 4, 8}, EACH[] = {0, 1, 2};
+static const int32_t SOME_POINTS[] = {0, 0, 8, 0, 8, 8, 0, 0, 5, 20, 7, 20, 6, 22, 5, 20};
+/* The first shell begins with all points of the second one but its last, by which it would go first. */
+static const int32_t LONGER_POINTS[] = {4, 4, 0, 0, 3, 0, 1, 1, 4, 4, 4, 4, 0, 0, 3, 0, 4, 4};
+static const int32_t FRONT_POINTS[] = {4, 4, 0, 0, 3, 0, 4, 4, 4, 4, 0, 0, 3, 0, 1, 1, 4, 4};
+static const uint32_t LONGER_RINGS[] = {0, 5, 9}, FRONT_RINGS[] = {0, 4, 9};
+
+static int32_t points_room[64];
+static uint32_t rings_room[16], polygons_room[16];
+
+static struct overlay_columns_answer written(const struct overlay_columns *made, size_t first, size_t second, size_t third) {
+    struct overlay_columns_answer answer = {9, 9, 9, 9, 9, 9, 9};
+    memset(points_room, 0x7F, sizeof points_room);
+    memset(rings_room, 0x7F, sizeof rings_room);
+    memset(polygons_room, 0x7F, sizeof polygons_room);
+    overlay_strip_write(made->coordinates, made->coordinates_length, made->rings, made->rings_length, made->polygons, made->polygons_length, points_room,
+                        first, rings_room, second, polygons_room, third, &answer);
+    return answer;
+}
+
+/* Whether the rooms are as they were behind so many numbers. */
+static int is_nothing_behind(size_t first, size_t second, size_t third) {
+    return is_clean((const uint8_t *)(points_room + first), sizeof points_room - first * sizeof *points_room)
+           && is_clean((const uint8_t *)(rings_room + second), sizeof rings_room - second * sizeof *rings_room)
+           && is_clean((const uint8_t *)(polygons_room + third), sizeof polygons_room - third * sizeof *polygons_room);
+}
+
+#define ARE_WRITTEN(answer, numbers, begins, parts) \
+    ((answer).status == OVERLAY_ANSWERED && !(answer).number && !(answer).part && !(answer).detail && ARE(points_room, (answer).coordinates, numbers) \
+     && ARE(rings_room, (answer).rings, begins) && ARE(polygons_room, (answer).polygons, parts) \
+     && is_nothing_behind((answer).coordinates, (answer).rings, (answer).polygons))
+
+static int is_unwritten(const struct overlay_columns_answer *answer, uint32_t number, uint64_t detail) {
+    return answer->status == OVERLAY_REFUSED && answer->number == number && answer->detail == detail && !answer->part && !answer->coordinates
+           && !answer->rings && !answer->polygons && is_nothing_behind(0, 0, 0);
+}
+
+static void order_by_hand(void) {
+    static const struct overlay_columns again = {
+        WRITTEN_POINTS, COUNT(WRITTEN_POINTS), WRITTEN_RINGS, COUNT(WRITTEN_RINGS), WRITTEN_POLYGONS, COUNT(WRITTEN_POLYGONS), NULL, 0,
+    };
+    static const struct overlay_columns some = {MADE_POINTS, COUNT(MADE_POINTS), MADE_RINGS, COUNT(MADE_RINGS), SOME_POLYGONS, 3, NULL, 0};
+    static const struct overlay_columns last = {MADE_POINTS, COUNT(MADE_POINTS), LAST_RINGS, 3, EACH, 3, NULL, 0};
+    static const struct overlay_columns longer = {LONGER_POINTS, COUNT(LONGER_POINTS), LONGER_RINGS, 3, EACH, 3, NULL, 0};
+    static const uint32_t zero[] = {0}, five[] = {5};
+    static const struct overlay_columns none[] = {
+        {MADE_POINTS, 0, zero, 1, zero, 1, NULL, 0}, {MADE_POINTS, 0, zero, 0, zero, 0, NULL, 0}, {MADE_POINTS, 0, zero, 0, zero, 1, NULL, 0},
+        {MADE_POINTS, COUNT(MADE_POINTS), MADE_RINGS, COUNT(MADE_RINGS), five, 1, NULL, 0},
+        {MADE_POINTS, COUNT(MADE_POINTS), five, 1, zero, 1, NULL, 0},
+    };
+    struct overlay_columns_answer answer = written(&MADE, 64, 16, 16);
+    check(ARE_WRITTEN(answer, WRITTEN_POINTS, WRITTEN_RINGS, WRITTEN_POLYGONS), "the polygons of two lists in order");
+    answer = written(&again, 64, 16, 16);
+    check(ARE_WRITTEN(answer, WRITTEN_POINTS, WRITTEN_RINGS, WRITTEN_POLYGONS), "polygons that are in order");
+    answer = written(&some, 64, 16, 16);
+    check(ARE_WRITTEN(answer, SOME_POINTS, SOME_RINGS, EACH), "some of the polygons");
+    answer = written(&last, 64, 16, 16);
+    check(ARE_WRITTEN(answer, SOME_POINTS, SOME_RINGS, EACH), "the polygons of some of the rings");
+    answer = written(&longer, 64, 16, 16);
+    check(ARE_WRITTEN(answer, FRONT_POINTS, FRONT_RINGS, EACH), "a shell's last point has no say");
+    for (size_t at = 0; at < COUNT(none); at++) {
+        answer = written(&none[at], 0, 1, 1);
+        check(answer.status == OVERLAY_ANSWERED && !answer.coordinates && ARE(rings_room, answer.rings, zero) && ARE(polygons_room, answer.polygons, zero)
+                  && is_nothing_behind(0, 1, 1), "no polygons");
+    }
+}
+
+/* Three triangles, the first and the last of which are the same; and a hole of the last one, which is the second one. */
+static const int32_t TWICE_POINTS[] = {0, 0, 4, 0, 0, 4, 0, 0, 1, 1, 2, 1, 1, 2, 1, 1, 0, 0, 4, 0, 0, 4, 0, 0, 1, 1, 2, 1, 1, 2, 1, 1};
+static const uint32_t TWICE_RINGS[] = {0, 4, 8, 12, 16}, TWICE_POLYGONS[] = {0, 1, 2, 4};
+
+/* Offsets with a bad one at each place in turn. */
+static void refused_offsets(uint32_t number, const uint32_t *good, size_t count, struct overlay_columns *made, const uint32_t **offsets) {
+    uint32_t bad[16], past = good[count - 1] + 1;
+    *offsets = bad;
+    for (size_t at = 0; at < count; at++) {
+        memcpy(bad, good, count * sizeof *bad);
+        for (int kind = 0; kind < 4; kind++) {
+            if (kind < 2 && at < (size_t)kind + 1)
+                continue;
+            bad[at] = kind == 0 ? bad[at - 1] : kind == 1 ? bad[at - 1] - 1 : kind == 2 ? past : UINT32_MAX;
+            struct overlay_columns_answer answer = written(made, 64, 16, 16);
+            check(is_unwritten(&answer, number, at), "a bad offset");
+        }
+    }
+}
+
+static void refused_order(void) {
+    static const uint32_t one[] = {0, 1}, zero[] = {0};
+    struct overlay_columns made = MADE;
+    refused_offsets(OVERLAY_RING_OFFSET, MADE_RINGS, COUNT(MADE_RINGS), &made, &made.rings);
+    made = MADE;
+    refused_offsets(OVERLAY_POLYGON_OFFSET, MADE_POLYGONS, COUNT(MADE_POLYGONS), &made, &made.polygons);
+    made = MADE;
+    made.coordinates_length--;
+    struct overlay_columns_answer answer = written(&made, 64, 16, 16);
+    check(is_unwritten(&answer, OVERLAY_COORDINATE_MISSING, 0), "an x without its y, and an offset of rings that passes the end");
+    made.coordinates_length--;
+    made.polygons = MADE_RINGS;
+    made.polygons_length = COUNT(MADE_RINGS);
+    answer = written(&made, 64, 16, 16);
+    check(is_unwritten(&answer, OVERLAY_RING_OFFSET, COUNT(MADE_RINGS) - 1), "likewise, and one of polygons");
+    for (size_t length = 0; length < 2; length++) {
+        made = (struct overlay_columns){MADE_POINTS, COUNT(MADE_POINTS), zero, length, one, 2, NULL, 0};
+        answer = written(&made, 64, 16, 16);
+        check(is_unwritten(&answer, OVERLAY_POLYGON_OFFSET, 1), "a polygon where there are no rings");
+        made = (struct overlay_columns){MADE_POINTS, COUNT(MADE_POINTS), zero, length, one + 1, 1, NULL, 0};
+        answer = written(&made, 64, 16, 16);
+        check(is_unwritten(&answer, OVERLAY_POLYGON_OFFSET, 0), "an offset where there are no rings");
+    }
+    made = (struct overlay_columns){TWICE_POINTS, COUNT(TWICE_POINTS), TWICE_RINGS, COUNT(TWICE_RINGS), TWICE_POLYGONS, COUNT(TWICE_POLYGONS), NULL, 0};
+    answer = written(&made, 64, 16, 16);
+    check(is_unwritten(&answer, OVERLAY_CONTRADICTION, 0) || is_unwritten(&answer, OVERLAY_CONTRADICTION, 2), "a shell twice");
+    made.polygons_length--;
+    answer = written(&made, 64, 16, 16);
+    check(answer.status == OVERLAY_ANSWERED && answer.polygons == 3, "a shell once");
+}
+
+static void small_order(void) {
+    const size_t wanted[3] = {COUNT(WRITTEN_POINTS), COUNT(WRITTEN_RINGS), COUNT(WRITTEN_POLYGONS)};
+    for (int room = 0; room < 3; room++)
+        for (int empty = 0; empty < 2; empty++) {
+            size_t lengths[3] = {wanted[0], wanted[1], wanted[2]};
+            lengths[room] = empty ? 0 : lengths[room] - 1;
+            struct overlay_columns_answer answer = written(&MADE, lengths[0], lengths[1], lengths[2]);
+            check(answer.status == OVERLAY_SMALL && answer.coordinates == wanted[0] && answer.rings == wanted[1] && answer.polygons == wanted[2]
+                      && !answer.number && !answer.part && !answer.detail && is_nothing_behind(0, 0, 0), "a small room for polygons in order");
+        }
+    struct overlay_columns_answer answer = written(&MADE, wanted[0], wanted[1], wanted[2]);
+    check(ARE_WRITTEN(answer, WRITTEN_POINTS, WRITTEN_RINGS, WRITTEN_POLYGONS), "rooms for polygons in order that are just large enough");
+}
+
+static void memory_for_order(void) {
+    long refused = 0;
+    for (; refused < 100000; refused++) {
+        granted = refused;
+        struct overlay_columns_answer answer = written(&MADE, 64, 16, 16);
+        granted = -1;
+        if (answer.status == OVERLAY_ANSWERED)
+            break;
+        check(answer.status == OVERLAY_NO_MEMORY && answer.number == OVERLAY_OUT_OF_MEMORY && answer.part == OVERLAY_RUN && !answer.detail
+                  && !answer.coordinates && !answer.rings && !answer.polygons && is_nothing_behind(0, 0, 0), "an order without memory");
+    }
+    check(refused > 0 && refused < 100000, "memory for an order was refused");
+    printf("strips, polygons in order: %ld requests refused in turn\n", refused);
+}
+
 /* ---- any cuts */
 
 static uint64_t state = 20261129;
@@ -744,14 +907,6 @@ static uint32_t found_rings[ROOM];
 static struct polygon found[ROOM];
 static size_t found_length, found_ring_count, found_count;
 
-static int by_points(const void *one, const void *other) {
-    const struct polygon *d = (const struct polygon *)one, *e = (const struct polygon *)other;
-    for (size_t at = 0; at < d->length && at < e->length; at++)
-        if (d->points[at] != e->points[at])
-            return d->points[at] < e->points[at] ? -1 : 1;
-    return (d->length > e->length) - (d->length < e->length);
-}
-
 static int find_polygons(const struct overlay_directed *closed, size_t count) {
     static int32_t ring_points[4 * ROOM];
     static uint32_t begins[ROOM], parts[ROOM];
@@ -771,18 +926,57 @@ static int find_polygons(const struct overlay_directed *closed, size_t count) {
     return 1;
 }
 
-/* Whether these polygons, by the points of their shells, are those of the result. */
-static int are_of_result(void) {
-    size_t at = 0, ring_at = 0;
-    qsort(found, found_count, sizeof *found, by_points);
-    int same = found_count + 1 == result.polygons && found_ring_count + 1 == result.rings && found_length == result.coordinates;
-    for (size_t k = 0; k < found_count && same; k++) {
-        same = polygons[k + 1] - polygons[k] == found[k].ring_count && !memcmp(points + at, found[k].points, found[k].length * sizeof *points);
-        for (size_t ring = 0; ring < found[k].ring_count; ring++, ring_at++)
-            same = same && rings[ring_at + 1] - rings[ring_at] == found[k].rings[ring];
-        at += found[k].length;
+static size_t strip_at(const int32_t *cuts, size_t cut_count, int32_t x) {
+    size_t strip = 0;
+    while (strip < cut_count && cuts[strip] <= x)
+        strip++;
+    return strip;
+}
+
+/* Those of the polygons that begin in a strip, as they were found. */
+static struct overlay_columns found_in(const int32_t *cuts, size_t cut_count, size_t strip) {
+    static int32_t made_points[4 * ROOM];
+    static uint32_t begins[ROOM], parts[ROOM];
+    size_t length = 0, ring_count = 0, count = 0;
+    begins[0] = parts[0] = 0;
+    for (const struct polygon *one = found; one < found + found_count; one++) {
+        if (strip_at(cuts, cut_count, one->points[0]) != strip)
+            continue;
+        memcpy(made_points + length, one->points, one->length * sizeof *made_points);
+        length += one->length;
+        for (size_t ring = 0; ring < one->ring_count; ring++, ring_count++)
+            begins[ring_count + 1] = begins[ring_count] + one->rings[ring];
+        parts[++count] = (uint32_t)ring_count;
     }
-    return same;
+    return (struct overlay_columns){made_points, length, begins, ring_count + 1, parts, count + 1, NULL, 0};
+}
+
+/* Whether these polygons, brought in order strip by strip, are those of the result, one strip behind another. */
+static int are_of_result(const int32_t *cuts, size_t cut_count) {
+    static int32_t told_points[4 * ROOM];
+    static uint32_t begins[ROOM], parts[ROOM];
+    size_t at = 0, ring_at = 0, part_at = 0;
+    if (found_length != result.coordinates || found_ring_count + 1 != result.rings || found_count + 1 != result.polygons)
+        return 0;
+    for (size_t s = 0; s <= cut_count; s++) {
+        struct overlay_columns made = found_in(cuts, cut_count, s);
+        struct overlay_columns_answer answer;
+        overlay_strip_write(made.coordinates, made.coordinates_length, made.rings, made.rings_length, made.polygons, made.polygons_length, told_points,
+                            4 * ROOM, begins, ROOM, parts, ROOM, &answer);
+        if (answer.status != OVERLAY_ANSWERED || answer.coordinates != made.coordinates_length || answer.rings != made.rings_length
+            || answer.polygons != made.polygons_length || memcmp(told_points, points + at, made.coordinates_length * sizeof *points))
+            return 0;
+        for (size_t ring = 0; ring < made.rings_length; ring++)
+            if (begins[ring] + at / 2 != rings[ring_at + ring])
+                return 0;
+        for (size_t part = 0; part < made.polygons_length; part++)
+            if (parts[part] + ring_at != polygons[part_at + part])
+                return 0;
+        at += made.coordinates_length;
+        ring_at += made.rings_length - 1;
+        part_at += made.polygons_length - 1;
+    }
+    return 1;
 }
 
 /* Adds those of some edges that have a column of the strip or of a later one. */
@@ -830,7 +1024,7 @@ static int have_polygons_of_result(const int32_t *cuts, size_t cut_count) {
         for (size_t k = at + 1; k < range_count; k++)
             ranges[k] = ranges[k + 1];
     }
-    return done && !ranges[0]->count && are_of_result();
+    return done && !ranges[0]->count && are_of_result(cuts, cut_count);
 }
 
 static void any_cuts(void) {
@@ -940,6 +1134,10 @@ int main(void) {
     refused_closed();
     small_rooms();
     memory();
+    order_by_hand();
+    refused_order();
+    small_order();
+    memory_for_order();
     any_cuts();
     no_maps();
     return failures != 0;

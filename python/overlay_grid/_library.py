@@ -8,7 +8,7 @@ import os
 ANSWERED, NO_MEMORY, NO_CALL, REFUSED, SMALL = range(5)
 
 # The version of the calls that this package makes.
-CALLS = 9
+CALLS = 10
 
 
 class Answer(ctypes.Structure):
@@ -165,6 +165,8 @@ def _opened() -> ctypes.CDLL:
     opened.overlay_strip_closed.restype = None
     opened.overlay_polygons.argtypes = [*room[:2] * 4, ctypes.c_void_p]
     opened.overlay_polygons.restype = None
+    opened.overlay_strip_write.argtypes = [*room[:2] * 6, ctypes.c_void_p]
+    opened.overlay_strip_write.restype = None
     return opened
 
 

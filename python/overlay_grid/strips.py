@@ -21,9 +21,10 @@ one strip each, and then of two that touch, until one has all strips:
 
 7. `closed`, of each range with the directed edges that have a column of it: those that no other strip has to do with, and the open ones
 8. `polygons`, of what is closed there
+9. `written`, of the polygons of all ranges, those that begin in a strip: the same in order
 
-A wider range has what comes into its first strip, and what is open in both of its ranges. All polygons together, in the order of their
-first edges, are the result's.
+A wider range has what comes into its first strip, and what is open in both of its ranges. The polygons of 9, one strip behind another, are
+the result's, in their order.
 
 The calls test what they are handed, but none can know of a line that is missing. `edges` makes the first four calls for all strips, and
 `directed_edges` the first six, with a file for each array in a folder, one after another or by an executor: one of concurrent.futures, or
@@ -49,8 +50,11 @@ what `Client.get_executor()` of Dask gives, over many machines.
 >>> found = strips.closed([2], 0, 1, two)
 >>> found.closed.tolist()
 [(0, 0, 1, 0), (0, 1, 0, 0), (1, 0, 0, 1)]
->>> strips.polygons(strips.closed([2], 0, 2, found.open).closed).coordinates.tolist()
+>>> later = strips.polygons(strips.closed([2], 0, 2, found.open).closed)
+>>> later.coordinates.tolist()
 [0, 5, 3, 5, 0, 6, 0, 5]
+>>> strips.written([later, strips.polygons(found.closed)]).coordinates.tolist()
+[0, 0, 1, 0, 0, 1, 0, 0, 0, 5, 3, 5, 0, 6, 0, 5]
 """
 
 from __future__ import annotations
@@ -88,6 +92,7 @@ __all__ = [
     "polygons",
     "round_strip",
     "scatter",
+    "written",
 ]
 
 numpy: Any = module("numpy")
@@ -108,6 +113,7 @@ REASONS = {
     3: "ring of fewer than four points",
     4: "open ring",
     13: "odd number of coordinates",
+    15: "bad offset of polygons",
     16: "bad offset of rings",
     18: "bad item",
     19: "contradicts another array",
@@ -119,7 +125,7 @@ class StripError(ValueError):
 
     reason: why, in words.
     array: which one of those that were handed in, from 0; 3 are the cuts.
-    item: the number of its item, from 0; of a part the number of its point, ring or offset.
+    item: the number of its item, from 0; of a part the number of its point, ring or offset, and of polygons that of one or of an offset.
     """
 
     def __init__(self, reason: str, array: int, item: int) -> None:
@@ -261,17 +267,50 @@ def closed(cuts: Any, first: int, past: int, known: Any) -> Closed:
 
 def polygons(directed: Any) -> Polygons:
     """The polygons of directed edges (`DIRECTED`), which ascend: of those of all strips, brought in order, or of what is `closed`."""
-    held, answer = of(DIRECTED, directed), ColumnsAnswer()
+    held = of(DIRECTED, directed)
     most = len(held) // 3  # rings: each has three edges or more
-    found = Polygons(numpy.empty(2 * (len(held) + most), "<i4"), numpy.empty(most + 1, "<u4"), numpy.empty(most + 1, "<u4"))
-    library.overlay_polygons(*passed(held), *(word for room in found for word in passed(room)), ctypes.byref(answer))
+    rooms = Polygons(numpy.empty(2 * (len(held) + most), "<i4"), numpy.empty(most + 1, "<u4"), numpy.empty(most + 1, "<u4"))
+    return filled(library.overlay_polygons, [held], rooms, "edges that don't close")
+
+
+def written(parts: Sequence[Polygons]) -> Polygons:
+    """The polygons of several ranges together, in the order of their first vertices: of those that begin in a strip, or of all of them. No two
+    have one shell. What is refused is told by its number in the columns of all parts, one behind another."""
+    held = [Polygons(of("<i4", part.coordinates), of("<u4", part.rings), of("<u4", part.polygons)) for part in parts]
+    if any(len(part.coordinates) % 2 for part in held):
+        raise StripError(REASONS[13], 0, 0)
+    given = Polygons(
+        numpy.concatenate([numpy.empty(0, "<i4"), *(part.coordinates for part in held)]),
+        joined([part.rings for part in held], [len(part.coordinates) // 2 for part in held], REASONS[16]),
+        joined([part.polygons for part in held], [len(part.rings) - 1 for part in held], REASONS[15]),
+    )
+    return filled(library.overlay_strip_write, given, Polygons(*map(numpy.empty_like, given)), "shell of another polygon")
+
+
+def joined(offsets: Sequence[Any], counts: Sequence[int], reason: str) -> Any:
+    """The offsets of several parts as those of one. Those of a part begin at 0, and end at its count."""
+    found, place, before = [numpy.zeros(1, "<u4")], 0, 0
+    for held, count in zip(offsets, counts):
+        if len(held) == 0 or held[0] != 0:
+            raise StripError(reason, 0, place)
+        place += len(held) - 1
+        if held[-1] != count:
+            raise StripError(reason, 0, place)
+        found.append(held[1:].astype("<i8") + before)
+        before += count
+    return of("<u4", numpy.concatenate(found))
+
+
+def filled(call: Any, given: Sequence[Any], rooms: Polygons, contradiction: str) -> Polygons:
+    """What a call puts into rooms for polygons, which are large enough."""
+    answer = ColumnsAnswer()
+    call(*(word for values in (*given, *rooms) for word in passed(values)), ctypes.byref(answer))
     if answer.status == NO_MEMORY:
         raise OutOfMemory("memory ran out during the call")
     if answer.status != ANSWERED:
-        reason = "edges that don't close" if answer.number == 19 else REASONS[answer.number]
-        raise StripError(reason, answer.part, answer.detail)
+        raise StripError(contradiction if answer.number == 19 else REASONS[answer.number], answer.part, answer.detail)
     lengths = (answer.coordinates, answer.rings, answer.polygons)
-    return Polygons(*(room[:length] for room, length in zip(found, lengths)))
+    return Polygons(*(room[:length] for room, length in zip(rooms, lengths)))
 
 
 def put(folder: str, name: str, values: Any) -> None:

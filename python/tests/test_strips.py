@@ -1,10 +1,11 @@
-"""Maps by strips: the calls on a worked example, and all strips against the edges and the results of the whole layers."""
+"""Maps by strips: the calls on a worked example, and all strips against the edges and the results of the whole layers, up to their texts."""
 
 import doctest
 import os
 import random
 import re
 from concurrent.futures import ProcessPoolExecutor, ThreadPoolExecutor
+from itertools import accumulate
 
 import pytest
 
@@ -166,16 +167,30 @@ def known_to(cuts, first, past, edges):
     return [edge for edge, begins, ends in held if begins < past and first <= ends]
 
 
-def polygons_of(edges):
-    """Polygons of directed edges, each a list of rings."""
-    coordinates, offsets, polygons = (values.tolist() for values in strips.polygons(numpy.array(edges, strips.DIRECTED)))
+def lists_of(found):
+    """Polygons as lists of rings."""
+    coordinates, offsets, polygons = (values.tolist() for values in found)
     points = list(zip(coordinates[::2], coordinates[1::2]))
-    found = [points[at:past] for at, past in zip(offsets, offsets[1:])]
-    return [found[at:past] for at, past in zip(polygons, polygons[1:])]
+    rings = [points[at:past] for at, past in zip(offsets, offsets[1:])]
+    return [rings[at:past] for at, past in zip(polygons, polygons[1:])]
+
+
+def of_lists(polygons):
+    """Lists of rings as polygons."""
+    rings = [ring for polygon in polygons for ring in polygon]
+    offsets = [list(accumulate(map(len, lists), initial=0)) for lists in (rings, polygons)]
+    return strips.Polygons([number for ring in rings for point in ring for number in point], *offsets)
+
+
+def of_text(text):
+    """The polygons of a MULTIPOLYGON, as lists of rings."""
+    polygons = re.findall(r"\((\([^()]+\)(?:, \([^()]+\))*)\)", text)
+    rings = [re.findall(r"\(([^()]+)\)", polygon) for polygon in polygons]
+    return [[[tuple(map(int, point.split())) for point in ring.split(",")] for ring in polygon] for polygon in rings]
 
 
 def closed_in_turn(rng, cuts, directed):
-    """All polygons, by ranges of strips that grow together by chance; each call of `closed` is judged."""
+    """All polygons, by ranges of strips that grow together by chance, for each range; each call of `closed` is judged."""
     own = [[edge for edge in directed if strips_of(cuts, edge)[0] == strip] for strip in range(len(cuts) + 1)]
     spans, made = [(strip, strip + 1, edges) for strip, edges in enumerate(own)], []
     waiting = list(range(len(spans)))
@@ -188,14 +203,19 @@ def closed_in_turn(rng, cuts, directed):
         closed, still = (tuples([values]) for values in found)
         assert (closed, still) == by_definition.closed(cuts, first, past, known)
         assert closed == [edge for edge in known_to(cuts, first, past, directed) if edge in set(closed)]
-        made += polygons_of(closed)
+        made.append(strips.polygons(numpy.array(closed, strips.DIRECTED)))
         spans[at] = first, past, still
         if not waiting and len(spans) > 1:
             cut = rng.randrange(len(spans) - 1)
             spans[cut : cut + 2] = [(spans[cut][0], spans[cut + 1][1], spans[cut][2] + spans[cut + 1][2])]
             waiting = [cut]
     assert spans[0][2] == []
-    return sorted(made)
+    return made
+
+
+def begin_in(cuts, strip, polygons):
+    """Those of the polygons whose first vertex lies in a strip."""
+    return of_lists([polygon for polygon in lists_of(polygons) if by_definition.strip_at(cuts, polygon[0][0][0]) == strip])
 
 
 @pytest.mark.parametrize("seed", range(60))
@@ -206,7 +226,13 @@ def test_ranges_of_strips_have_the_polygons_of_the_whole(seed, tmp_path):
     cuts = sorted(rng.randint(-size - 1, size + 1) for _ in range(rng.choice((0, 1, 2, 5, 12))))
     for operation in (Operation.UNION, Operation.SYMDIFFERENCE):
         directed = sorted(tuples(strips.directed_edges(operation, [part_of(0, a), part_of(1, b)], cuts, str(tmp_path))))
-        assert closed_in_turn(rng, cuts, directed) == polygons_of(directed)
+        wanted = of_text(overlay_grid.overlay(operation, text_of(a), text_of(b)))
+        assert lists_of(strips.polygons(numpy.array(directed, strips.DIRECTED))) == wanted
+        made = closed_in_turn(rng, cuts, directed)
+        rng.shuffle(made)
+        assert lists_of(strips.written(made)) == wanted
+        by_strip = [strips.written([begin_in(cuts, strip, part) for part in made]) for strip in range(len(cuts) + 1)]
+        assert [polygon for found in by_strip for polygon in lists_of(found)] == wanted
 
 
 # A frame with an island in its hole, which is closed by itself, a frame in the island's hole, and a square apart.
@@ -227,6 +253,63 @@ def test_what_is_closed_where():
     assert parted([15], 0, 1) == (sorted(island + hole + inner), sorted(set(outer + holes) - {(20, 0, 20, 20), (18, 18, 18, 2)}))
     assert parted([5, 25], 1, 2)[0] == sorted(inner)
     assert parted([5, 25], 0, 2) == (sorted(outer + holes + island + hole + inner), [])
+
+
+# Polygons as the program orders them: two begin at one vertex, and one lies in another one's hole.
+ORDERED = (
+    "MULTIPOLYGON (((-9 4, -7 4, -8 6, -9 4)), ((0 0, 5 -5, 5 -2, 0 0)), ((0 0, 5 2, 5 5, 0 0)), "
+    "((0 9, 8 9, 8 17, 0 17, 0 9), (2 11, 2 15, 6 15, 6 11, 2 11)), ((3 12, 5 12, 4 14, 3 12)), ((9 0, 11 0, 10 2, 9 0)))\n"
+)
+
+
+@pytest.mark.parametrize("seed", range(30))
+def test_written_polygons_have_the_order_of_the_text(seed):
+    rng = random.Random(f"written {seed}")
+    wanted = of_text(ORDERED)
+    assert len(wanted) == 6 and overlay_grid.union(ORDERED, "") == ORDERED
+    shuffled, parts = rng.sample(wanted, len(wanted)), [[] for _ in range(rng.randint(1, 4))]
+    for polygon in shuffled:
+        rng.choice(parts).append(polygon)
+    found = strips.written(list(map(of_lists, parts)))
+    assert lists_of(found) == wanted
+    assert [values.dtype.str for values in found] == ["<i4", "<u4", "<u4"]
+    assert lists_of(strips.written([found])) == wanted
+
+
+def test_no_polygons_are_written():
+    for parts in ([], [of_lists([])], [of_lists([]), of_lists([])]):
+        assert [values.tolist() for values in strips.written(parts)] == [[], [0], [0]]
+
+
+def test_a_shell_goes_before_those_that_begin_as_it_does():
+    front, longer = [(0, 0), (4, 0), (4, 4), (0, 0)], [(0, 0), (4, 0), (4, 4), (0, 4), (0, 0)]
+    hole = [(1, 1), (1, 2), (2, 2), (1, 1)]
+    assert lists_of(strips.written([of_lists([[longer]]), of_lists([[front, hole]])])) == [[front, hole], [longer]]
+
+
+def test_polygons_that_are_not_written():
+    one, other = of_lists([[square(0, 0, 4)], [square(9, 9, 1)]]), of_lists([[square(0, 0, 2), square(5, 5, 1)]])
+    twice = refused(lambda: strips.written([one, of_lists([[square(0, 0, 4), square(1, 1, 1)]])]))
+    assert twice in [("shell of another polygon", 0, number) for number in (0, 2)]
+    for column, values, reason, item in (
+        ("coordinates", other.coordinates[:-1], "odd number of coordinates", 0),
+        ("rings", [0, 0, 10], "bad offset of rings", 3),
+        ("rings", [0, 10, 10], "bad offset of rings", 4),
+        ("rings", [0, 12, 10], "bad offset of rings", 3),
+        ("rings", [0, 5, 9], "bad offset of rings", 4),
+        ("rings", [0, 5, 11], "bad offset of rings", 4),
+        ("rings", [1, 5, 10], "bad offset of rings", 2),
+        ("rings", [], "bad offset of rings", 2),
+        ("polygons", [0, 0, 2], "bad offset of polygons", 3),
+        ("polygons", [0, 2, 1, 2], "bad offset of polygons", 4),
+        ("polygons", [0, 1], "bad offset of polygons", 3),
+        ("polygons", [0, 3], "bad offset of polygons", 3),
+        ("polygons", [1, 2], "bad offset of polygons", 2),
+        ("polygons", [], "bad offset of polygons", 2),
+    ):
+        bad = other._replace(**{column: values})
+        assert refused(lambda: strips.written([one, bad])) == (reason, 0, item), values
+        assert refused(lambda: strips.written([one, bad, bad]))[0] == reason
 
 
 @pytest.mark.parametrize("pool", [ThreadPoolExecutor, ProcessPoolExecutor])

@@ -16,3 +16,5 @@ pub mod StripEdges
 pub mod StripsLabelled
 pub mod PolygonsTelling
 pub mod StripClosed
+pub mod StripWrite
+pub mod StripsWritten

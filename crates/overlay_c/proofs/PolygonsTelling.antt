@@ -1,5 +1,5 @@
 -- From the test of directed edges, and the polygons along them, to what the call tells; and what it tells of those of a result.
-use Rattle.std.proofs.Common.{◌≡◌, ◌<◌, ◌∙◌, ◌-◌, inl, inr, ℕ, List, arith, get_or, length, map, refl, subst, sym}
+use Rattle.std.proofs.Common.{◌≡◌, ◌<◌, ◌∙◌, ◌-◌, inl, inr, ℕ, List, arith, get_or, length, refl, subst, sym}
 use Rattle.std.specs.Prelude.{All, AllPairs, Contains, Err, IfOk, Ok, Result}
 use Rattle.std.proofs.lemmas.List.{get_or-map, length-map}
 use Rattle.std.proofs.lemmas.List.Elements.{All-map, Contains-get_or}
@@ -30,7 +30,6 @@ use Rattle.overlay_c.specs.declared.strip_items.OverlayDirected.{OverlayDirected
 use Rattle.overlay_c.specs.Columns.{AreListsOf, Lists, lists_of, refused_answer}
 use Rattle.overlay_c.specs.Polygons.{AreDirectedItems, ArePolygonColumns, ArePolygonsAlong, FailsPolygons, IsDirectedItem, IsDirectedItemBefore, IsProper, ResultsHavePolygons, directed_edge, directed_edges}
 use Rattle.overlay_c.specs.Polygons.FailsPolygons.{bad_edge, no_memory, open_edge}
-use Rattle.overlay_c.specs.Strips.{IsInPlace}
 use Rattle.overlay_c.proofs.StripLists.{all_pairs, each_item}
 
 -- ---- what is in place

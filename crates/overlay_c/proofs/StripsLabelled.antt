@@ -1,16 +1,14 @@
 -- The calls for all strips, from the first one to the last, tell the directed edges of a result.
-use Rattle.std.proofs.Common.{◌≡◌, ◌⊎◌, inl, inr, ⊎_elim, ◌+◌, ◌<◌, ◌≤◌, ◌++◌, ◌∷◌, ◌∙◌, [], ℕ, List, ap, arith, length, map, refl, subst, sym}
+use Rattle.std.proofs.Common.{◌≡◌, ◌⊎◌, inl, inr, ⊎_elim, ◌+◌, ◌≤◌, ◌++◌, ◌∷◌, ◌∙◌, [], ℕ, List, ap, arith, length, map, refl, subst, sym}
 use Rattle.std.proofs.Math.IntN.{ℤ}
 use Rattle.std.specs.Prelude.{◌↔◌, AllPairs, Contains, Some, true}
 use Rattle.std.proofs.lemmas.Bool.{cases_eq}
 use Rattle.geom.specs.declared.op.Op.{Op}
-use Rattle.geom.specs.declared.point.Pt.{Pt}
 use Rattle.geom.specs.declared.edge.Edge.{Edge}
 use Rattle.geom.specs.declared.edge.Counted.{Counted}
 use Rattle.geom.specs.declared.directed.DirectedEdge.{DirectedEdge}
-use Rattle.geom.specs.Directed.{IsResultEdge, RunsAlong}
+use Rattle.geom.specs.Directed.{RunsAlong}
 use Rattle.geom.specs.ResultEdges.{is_result_edge}
-use Rattle.geom.specs.EdgeOrder.{IsEdgeBefore}
 use Rattle.geom.specs.Rounded.{edges_of}
 use Rattle.geom.proofs.Lists.{In, contains_in, in_append, in_back, in_contains, in_front, in_map, map_in, some_same}
 use Rattle.points_law.specs.Law.{AreLayers}

@@ -9,3 +9,4 @@ pub mod Strips
 pub mod StripLabels
 pub mod Polygons
 pub mod StripClosed
+pub mod StripWrite

@@ -16,7 +16,7 @@ use engine::{FacesLimits, Limits, fitting_side};
 use std::alloc::Global;
 
 /// The version of these calls and of what they answer.
-const VERSION: u32 = 9;
+const VERSION: u32 = 10;
 
 /// How many bytes the text takes: that of an operation (0 union, 1 intersection, 2 difference, 3 symmetric difference) on
 /// two layer texts, or of their rounded edges (4), over tiles of this side. The text is made for that, and let go.

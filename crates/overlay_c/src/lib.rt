@@ -11,11 +11,12 @@
 //!
 //! Directed edges from outside are tested, and get their polygons where they close (`polygons_call`, `polygons_made`, `polygons_checks`). One more
 //! call parts those that a range of strips knows into what is closed there, which has polygons of its own, and what is open (`strip_closed`,
-//! `strip_closed_checks`).
+//! `strip_closed_checks`), and another one brings polygons of several ranges in order (`strip_write`). Together they tell the result of the whole map
+//! (`strip_law`).
 //!
 //! The promise: a status of 0 exactly where the engine answers and the room is large enough, and then the room begins with its text; nothing
 //! behind that changes. The definitions are `specs/Boundary`, `Covered`, `Measured`, `Faces`, `Columns`, `Pairs`, `FacesColumns`,
-//! `Strips`, `StripLabels`, `Polygons` and `StripClosed`.
+//! `Strips`, `StripLabels`, `Polygons`, `StripClosed` and `StripWrite`.
 #![tactic(auto)]
 
 mod answer;
@@ -54,6 +55,7 @@ mod strip_law;
 mod strip_round;
 mod strip_scatter;
 mod strip_telling;
+mod strip_write;
 mod words;
 
 pub use answer::OverlayAnswer;
@@ -80,7 +82,10 @@ pub use strip_edges::overlay_strip_edges;
 pub use strip_going_on::overlay_strip_going_on;
 pub use strip_items::{OverlayCarried, OverlayCounted, OverlayDirected, OverlayLine, OverlayOpen};
 pub use strip_labels::overlay_strip_labels;
-pub use strip_law::{strips_are_labelled, strips_are_rounded, told_lists_are_one};
+pub use strip_law::{
+    strips_are_labelled, strips_are_rounded, strips_are_written, told_lists_are_one,
+};
 pub use strip_round::overlay_strip_round;
 pub use strip_scatter::overlay_strip_scatter;
+pub use strip_write::overlay_strip_write;
 pub use words::overlay_words;

@@ -29,7 +29,7 @@ fn open_edge(place: usize) -> OverlayColumnsAnswer
 }
 
 /// The answer where memory ran out.
-fn no_memory() -> OverlayColumnsAnswer
+pub fn no_memory() -> OverlayColumnsAnswer
     ensures { result ≡ refused_answer 1 10 2 0 }
 {
     told(1, 10, 2, 0)

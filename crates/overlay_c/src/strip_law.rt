@@ -1,6 +1,7 @@
 //! The promise of the calls together, as the contracts of functions with empty bodies. No data goes through them.
 
 ghost use Rattle.overlay_c.specs.StripLabels.{StripsAreLabelled};
+ghost use Rattle.overlay_c.specs.StripWrite.{StripsAreWritten};
 ghost use Rattle.overlay_c.specs.Strips.{IsToldOfOne, StripsAreRounded, told_carried, told_counted, told_line, told_open};
 
 /// No two lists are told alike: what one call tells, the next one reads.
@@ -19,4 +20,9 @@ pub fn strips_are_rounded()
 /// The directed edges that the calls tell of all strips of layers are those of the operation's result, whatever the cuts are.
 pub fn strips_are_labelled()
     ensures { StripsAreLabelled }
+{}
+
+/// The polygons that the calls tell of all strips, one strip behind another, are those of the operation's result, whatever the cuts and the ranges are.
+pub fn strips_are_written()
+    ensures { StripsAreWritten }
 {}
