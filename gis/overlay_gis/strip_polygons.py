@@ -7,7 +7,7 @@ from typing import Iterator, NamedTuple, Sequence
 
 import numpy as np
 
-from .columns import BLOCK, POINTS, Columns, Numbers, offsets
+from .columns import BLOCK, POINTS, Columns, Numbers
 from .sections import Values
 
 
@@ -57,31 +57,3 @@ class Polygons(NamedTuple):
         points, rings, polygons = (values.astype(np.int64) for values in self)
         ids = np.arange(self.total + 1)
         return Columns(points[0::2], points[1::2], rings, polygons, ids, before + ids[1:])
-
-    def first_edges(self) -> Values:
-        """Of each the first two points of its shell, which no other one has."""
-        firsts = self.points[:-1].astype(np.int64)[:, None]
-        found: Values = self.coordinates[2 * firsts + np.arange(4)]
-        return found
-
-    def ordered(self, order: Values) -> Polygons:
-        """The same in another order."""
-        rings, polygons = taken(self.polygons, order)
-        points, starts = taken(self.rings, rings)
-        return Polygons(self.coordinates.reshape(-1, 2)[points].ravel(), starts, polygons)
-
-
-def taken(starts: Values, order: Values) -> tuple[Numbers, Numbers]:
-    """Of things in another order: the places of their items, which lay from each start to the next, and
-    where they begin then."""
-    held = starts.astype(np.int64)
-    begins = offsets(np.diff(held)[order])
-    return np.arange(begins[-1]) + np.repeat(held[order] - begins[:-1], np.diff(begins)), begins
-
-
-def merged(parts: Sequence[Polygons]) -> Polygons:
-    """The polygons of several, in the order of them all."""
-    coordinates = np.concatenate([part.coordinates for part in parts])
-    rings = offsets(np.concatenate([np.diff(part.rings) for part in parts]))
-    found = Polygons(coordinates, rings, offsets(np.concatenate([np.diff(part.polygons) for part in parts])))
-    return found.ordered(np.lexsort(found.first_edges().T[::-1]))

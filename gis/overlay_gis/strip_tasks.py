@@ -32,7 +32,7 @@ from .sections import Folder, Spoiled, Values
 from .strip_library import operation, strips
 from .strip_measures import borders, by_class, lengths_of, twice_area
 from .strip_plan import Plan, Span, Work, sampled, spans_of
-from .strip_polygons import Polygons, merged
+from .strip_polygons import Polygons
 from .surveys import NAMED
 from .vanishing import vanished
 
@@ -287,7 +287,7 @@ def closed(work: Work, span: Span, *own: tuple[Step, str]) -> Made:
 def write(work: Work, strip: int) -> Made:
     keys = [f"{key}.{strip}" for key in Polygons._fields]
     made = [Polygons(*work.held.got(step.file, *keys)) for step in needs(work, Step("write", strip))]
-    found = merged(made)
+    found = Polygons(*strips().written(made))
     return {"polygons": found.total}, found._asdict()
 
 

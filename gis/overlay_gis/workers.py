@@ -89,7 +89,7 @@ def looked(path: str, dask_worker: Any) -> Seen:
     """What a worker tells, where it has a file of that path to see."""
     lacks = ""
     try:
-        if not all(hasattr(strips(), call) for call in ("labels", "going_on", "polygons", "closed")):
+        if not all(hasattr(strips(), call) for call in ("labels", "going_on", "polygons", "closed", "written")):
             lacks = "overlay_grid is too old: it has no polygons of strips"
     except Fault as fault:
         lacks = str(fault)

@@ -271,7 +271,7 @@ def test_polygons_come_in_one_order(monkeypatch, seed):
     for polygon in polygons:
         rng.choice(parts).append(polygon)
     ordered = sorted(polygons, key=lambda polygon: polygon[0][:2])
-    found = strip_polygons.merged([of_lists(sorted(part, key=lambda polygon: polygon[0][:2])) for part in parts])
+    found = strip_polygons.Polygons(*strips.written(list(map(of_lists, parts))))
     assert lists_of(found) == ordered
     cuts = sorted(rng.randint(-1, 4) for _ in range(rng.randint(0, 5)))
     by_strip = [lists_of(part) for part in found.parted(cuts)]

@@ -214,7 +214,7 @@ def test_workers_that_can_not_help(seen, reason):
 def test_a_library_without_the_calls_of_strips_is_told(monkeypatch, tmp_path):
     worker = SimpleNamespace(state=SimpleNamespace(nthreads=1))
     assert workers.looked(str(tmp_path), worker).lacks == ""
-    for call in ("labels", "going_on", "closed", "polygons"):
+    for call in ("labels", "going_on", "closed", "polygons", "written"):
         with monkeypatch.context() as changed:
             changed.delattr(strip_library.strips(), call)
             assert workers.looked(str(tmp_path), worker).lacks == "overlay_grid is too old: it has no polygons of strips"
