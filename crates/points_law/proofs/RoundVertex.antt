@@ -32,8 +32,9 @@ use Rattle.points_law.proofs.Choices.{Even, is, covers, parity}
 use Rattle.points_law.proofs.ResultOfChoices.{Edges}
 use Rattle.points_law.proofs.Even.{by_test, is_same, is_refl, clash}
 use Rattle.points_law.proofs.Meet.{slope}
+use Rattle.points_law.proofs.Vertex.{Vertex}
 use Rattle.points_law.proofs.Next.{NoneBetween}
-use Rattle.points_law.proofs.HoleVertex.{hole_left, hole_inside}
+use Rattle.points_law.proofs.HoleVertex.{NoneFromLeft, hole_left, hole_inside}
 use Rattle.points_law.proofs.Layers.{and_is, in_result_of, edges_of_layers, result_is_even, holds_where_odd}
 use Rattle.points_law.proofs.Spokes.{Joins, spoke, joins_ends, one_edge, not_loop, comes_in, slope_out, between_of}
 use Rattle.points_law.proofs.FirstMet.{none_between}
@@ -111,7 +112,7 @@ module _ (op : Op) (cs : List Counted) (h : AreLayers cs) (directed : List Direc
     bounds = both_sides (holds_at op cs (left_side d.from d.to)) (holds_at op cs (right_side d.from d.to)) (holds_where_odd op cs h (left_side d.from d.to) ∙ b.inside) (holds_where_odd op cs h (right_side d.from d.to) ∙ b.outside);
   }
 
-  exact : (d : DirectedEdge) → Contains directed d ↔ Bounds es r d
+  pub exact : (d : DirectedEdge) → Contains directed d ↔ Bounds es r d
   exact d = (λ c. to_bounds d ((R.exact d).0 c), λ b. (R.exact d).1 (from_bounds d b))
 
   pub closes : Closes directed
@@ -156,15 +157,20 @@ module _ (op : Op) (cs : List Counted) (h : AreLayers cs) (directed : List Direc
         (λ q. d (one_edge v u arrived.edge f arrived.joins (subst (λ x. Joins v x f) q s.joins)))
         (λ q. d' (one_edge v w linked.edge f linked.joins (subst (λ x. Joins v x f) q s.joins)))))
 
-    odd_there : parity r es (left_of v) ≡ true
+    pub odd_there : parity r es (left_of v) ≡ true
     odd_there = hole_inside es all_edges r even v arrived.edge linked.edge arrived.rounded linked.rounded (sym first_edge.0) (sym next_edge.0) steep none arrived.after
 
     holds_there : holds_at op cs (left_of v) ≡ true
     holds_there = holds_where_odd op cs h (left_of v) ∙ odd_there
 
-    nearest : NearestOf es r v es
-    nearest = nearest_below es all_edges r v even (record { edge = arrived.edge; inside = arrived.rounded; ends = inl (sym first_edge.0) })
-        (hole_left es all_edges r v arrived.edge linked.edge arrived.rounded linked.rounded (sym first_edge.0) (sym next_edge.0) steep none) odd_there
+    pub at_vertex : Vertex es v
+    at_vertex = record { edge = arrived.edge; inside = arrived.rounded; ends = inl (sym first_edge.0) }
+
+    pub from_left : NoneFromLeft r es v
+    from_left = hole_left es all_edges r v arrived.edge linked.edge arrived.rounded linked.rounded (sym first_edge.0) (sym next_edge.0) steep none
+
+    pub nearest : NearestOf es r v es
+    nearest = nearest_below es all_edges r v even at_vertex from_left odd_there
 
   -- what lies below a point is one of the chosen edges
   joins_run : (d : DirectedEdge) (e : Edge) → RunsAlong d e → Joins d.to d.from e
@@ -177,7 +183,7 @@ module _ (op : Op) (cs : List Counted) (h : AreLayers cs) (directed : List Direc
       let q : a.edge ≡ e = one_edge b.edge.to b.edge.from a.edge e a.joins (joins_run b.edge e b.runs) in
       (subst (λ (x : Edge). In x es) q a.rounded, subst (λ (x : Edge). r x ≡ true) q a.chosen)
 
-  below : (v : Pt) (m : NearestOf es r v es) (d : DirectedEdge) → Contains directed d → RunsAlong d m.edge → IsNearestBelow directed (left_of v) d
+  pub below : (v : Pt) (m : NearestOf es r v es) (d : DirectedEdge) → Contains directed d → RunsAlong d m.edge → IsNearestBelow directed (left_of v) d
   below v m d c k = record {
     inside = c;
     edge = m.edge;
