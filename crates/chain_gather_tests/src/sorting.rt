@@ -2,7 +2,7 @@
 
 use crate::gathering::{Ends, point};
 use geom::{Counted, Edge, NoMemory, Source};
-use linking::{Link, counts_in_parts, sorted};
+use linking::{InOrder, Link, counts_in_parts, sorted};
 use routing::Record;
 use std::alloc::Global;
 use std::thread::Threads;
@@ -164,8 +164,8 @@ fn counts_links<R: Threads + Sync>(
     step: u32,
 ) -> Result<bool, NoMemory> {
     let mut lists = Vec::new(alloc);
-    lists.push(each_edge(alloc, Source::B, step)?)?;
-    lists.push(each_edge(alloc, Source::A, step)?)?;
+    lists.push(InOrder::of(each_edge(alloc, Source::B, step)?))?;
+    lists.push(InOrder::of(each_edge(alloc, Source::A, step)?))?;
     let counted = counts_in_parts(rt, alloc, parts, lists)?;
     Ok(are_each_once_in_both(&counted))
 }
@@ -221,7 +221,7 @@ fn counts_few<R: Threads + Sync>(
 ) -> Result<bool, NoMemory> {
     let mut lists = Vec::new(alloc);
     for list in links {
-        lists.push(links_of(alloc, list)?)?;
+        lists.push(InOrder::of(links_of(alloc, list)?))?;
     }
     let counted = counts_in_parts(rt, alloc, parts, lists)?;
     Ok(are_counted(&counted, expected))

@@ -16,5 +16,6 @@ pub mod Counted
 pub mod SpanLaws
 pub mod Slices
 pub mod ShareLaws
+pub mod SortedLaws
 pub mod OddParts
 pub mod BorderLaws

@@ -1,10 +1,12 @@
 -- Links that are sorted: their parts, and the counts of these behind one another.
-use Rattle.std.proofs.Common.{◌≡◌, inl, inr, ℕ, zero, suc, ◌+◌, ◌<◌, List, [], ◌∷◌, ◌++◌, cond, refl, sym, ◌∙◌, arith, subst, ⊎_elim}
+use Rattle.std.proofs.Common.{◌≡◌, inl, inr, ℕ, zero, suc, ◌+◌, ◌<◌, List, ◌++◌, cond, refl, sym, ◌∙◌, arith, subst, ⊎_elim}
 use Rattle.std.proofs.lemmas.Int.{ints}
-use Rattle.std.specs.Prelude.{◌<ℤ◌, AllPairs, Contains, flat_map}
+use Rattle.std.specs.Prelude.{◌<ℤ◌, Contains, None, flat_map}
 use Rattle.std.specs.List.{AllZip}
 use Rattle.std.specs.List.Sorted.{IsPermutation, IsSorted}
 use Rattle.std.proofs.lemmas.Bool.{cases_lt}
+use Rattle.std.proofs.lemmas.Grind.{flat_map-append}
+use Rattle.std.proofs.lemmas.List.{append-nil}
 use Rattle.std.proofs.lemmas.List.Elements.{Contains-append_cases, Contains-append_left, Contains-append_right}
 use Rattle.std.proofs.lemmas.List.Sorted.{sum_by-IsPermutation}
 use Rattle.std.proofs.lemmas.List.Sums.{sum_by-append}
@@ -17,11 +19,12 @@ use Rattle.geom.proofs.Orders.{edge_before_itself}
 use Rattle.linking.specs.declared.link.Link.{Link}
 use Rattle.linking.specs.Links.{AreCounts, AreInOrder, GoBefore, count_links, is_of}
 use Rattle.linking.specs.Orders.{link_order}
-use Rattle.linking.specs.Shares.{AreKeysBelow, column_of}
-use Rattle.hot_region.proofs.ListLaws.{tail_pairs}
+use Rattle.linking.specs.Shares.{AreKeysBelow, AreSharesFrom, column_of}
+use Rattle.linking.specs.Spans.{within}
+use Rattle.linking.specs.declared.span.Share.{Share}
 use Rattle.linking.proofs.Counted.{pairs_append}
-use Rattle.linking.proofs.ShareLaws.{first_apart}
-use Rattle.linking.proofs.Tally.{IsExact, link_total, linked, no_counts, sorted_edges}
+use Rattle.linking.proofs.ShareLaws.{all_shared, zip_weaker}
+use Rattle.linking.proofs.Tally.{IsExact, link_total, linked, sorted_edges}
 
 pub sorted_in_order : (links : List Link) → IsSorted link_order links → AreInOrder links
 sorted_in_order links up i j d l k = sorted_edges link_order link_total (λ l m. (_, refl)) links up i j d (omega arith) k
@@ -112,10 +115,14 @@ counts_moved links sorted cs moved h = record {
     same e layer = sym (sum_by-IsPermutation (λ m. cond (is_of e layer m) 1 0) links sorted moved)
 
 -- the counts of shares, one behind another
-module _ {S V : Type 0} (links_of : S → List Link) (counts_of : V → List Counted) where
-  pub all_counts : (shares : List S) (vs : List V) → AllPairs (λ s t. AreKeysBelow column_of (links_of s) (links_of t)) shares → AllZip (λ s v. AreCounts (links_of s) (counts_of v)) shares vs → AreCounts (flat_map links_of shares) (flat_map counts_of vs)
-  all_counts [] [] up zip = no_counts [] refl
-  all_counts [] (v ∷ vs) up zip = absurd zip
-  all_counts (s ∷ ss) [] up zip = absurd zip
-  all_counts (s ∷ ss) (v ∷ vs) up zip = counts_append (links_of s) (flat_map links_of ss) (counts_of v) (flat_map counts_of vs) (parted_columns (links_of s) (flat_map links_of ss) (first_apart links_of column_of s ss up)) zip.0
-      (all_counts ss vs (tail_pairs (λ s t. AreKeysBelow column_of (links_of s) (links_of t)) s ss up) zip.1)
+module _ {V : Type 0} (counts_of : V → List Counted) where
+  abbrev HaveCounts : List Link → List V → Type 0
+  HaveCounts found vs = AreCounts found (flat_map counts_of vs)
+
+  both_counts : (found low high : List Link) (front behind : List V) → IsPermutation found (low ++ high) → AreKeysBelow column_of low high → HaveCounts low front → HaveCounts high behind → HaveCounts found (front ++ behind)
+  both_counts found low high front behind moved apart f b = subst (λ (cs : List Counted). AreCounts found cs) (sym (flat_map-append counts_of front behind))
+      (counts_moved found (low ++ high) (flat_map counts_of front ++ flat_map counts_of behind) moved (counts_append low high (flat_map counts_of front) (flat_map counts_of behind) (parted_columns low high apart) f b))
+
+  pub shared_counts : (found : List Link) (shares : List Share) (vs : List V) → AreSharesFrom None shares → AllZip (λ s v. AreCounts (within column_of s.span found) (counts_of v)) shares vs → AreCounts found (flat_map counts_of vs)
+  shared_counts found shares vs all zip = all_shared column_of HaveCounts both_counts found shares vs all
+      (zip_weaker _ _ (λ s v h. subst (λ (cs : List Counted). AreCounts (within column_of s.span found) cs) (sym (append-nil (counts_of v))) h) shares vs zip)

@@ -5,6 +5,7 @@ use Rattle.std.proofs.Props.{props}
 use Rattle.std.proofs.lemmas.Int.{ints}
 use Rattle.std.proofs.lemmas.List.{get_or-append-add, get_or-map, get_or_append_left, length-append, length-map}
 use Rattle.std.proofs.lemmas.List.Elements.{Contains-append_cases, Contains-append_left, Contains-append_right, Contains-get_or}
+use Rattle.std.proofs.lemmas.List.Sorted.{length_permutation, sum_by-IsPermutation}
 use Rattle.std.proofs.lemmas.List.Sums.{sum_by-append, sum_by-cons}
 use Rattle.std.proofs.lemmas.Option.{get_or_from_slice_get, slice_get-get_or, slice_get_within}
 use Rattle.std.proofs.lemmas.Cmp.{tied_itself}
@@ -24,7 +25,7 @@ use Rattle.linking.specs.Links.{AreApart, AreNeighbourLinks, ChangesSegment}
 use Rattle.linking.specs.Numbers.{AreTileCounts, IsCountOf}
 use Rattle.linking.specs.declared.span.Share.{Share}
 use Rattle.linking.specs.Orders.{record_order}
-use Rattle.linking.specs.Shares.{AreKeysBelow, AreLinked, AreOrdered, AreSharesFrom, AreSums, HasLinked, segment_of}
+use Rattle.linking.specs.Shares.{AreKeysBelow, AreLinked, AreOrdered, AreSharesFrom, AreSums, HasLinked, HasRoutes, segment_of}
 use Rattle.linking.specs.Spans.{within}
 use Rattle.linking.proofs.Counted.{known_tile, pairs_append}
 use Rattle.linking.proofs.Gathering.{AreCovered, record_before}
@@ -109,6 +110,20 @@ links_append link_of makers (r ∷ rs) back links rest apart f b = neighbour_lin
         let below : pos x.segment <ℤ pos y.segment = apart x y (Contains-get_or (r ∷ rs) i d within) (Contains-get_or back 0 d some) in
         let same : x.segment ≡ y.segment = sym (ap (λ (q : Record). q.segment) a) ∙ e ∙ ap (λ (q : Record). q.segment) b in
         omega (arith, ints, below, same)
+
+-- ---- links in another order
+module _ {M L : Type 0} (g : Tiling) (link_of : M → Edge → L) (makers : List M) (links sorted : List L) (counts : List ℕ) (moved : IsPermutation links sorted) where
+  linked_moved : (records : List Record) → AreLinked g link_of makers records links counts → AreLinked g link_of makers records sorted counts
+  linked_moved records h = record {
+    links_are = record {
+      few = let n = length_permutation links sorted moved in let f = h.links_are.few in omega (arith, n, f);
+      count_is = λ e wanted test pass. sum_by-IsPermutation (λ m. cond (test m) 1 0) links sorted moved ∙ h.links_are.count_is e wanted test pass;
+    };
+    counts_are = h.counts_are;
+  }
+
+  pub routes_moved : (segments : List Seg) (first past : ℕ) (inner : List Record) → HasRoutes g link_of segments makers first past inner links counts → HasRoutes g link_of segments makers first past inner sorted counts
+  routes_moved segments first past inner h = record { records = h.records; ascending = h.ascending; has = h.has; linked = linked_moved h.records h.linked }
 
 -- ---- links of shares, one behind another
 module _ {K V M L : Type 0} (link_of : M → Edge → L) (makers : List M) (items_of : K → List Record) (links_of : V → List L) where

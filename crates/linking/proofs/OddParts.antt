@@ -1,13 +1,15 @@
 -- Links that occur an odd number of times: those of parts behind one another, and of links in another order.
-use Rattle.std.proofs.Common.{◌≡◌, ◌⊎◌, inl, inr, ◌<◌, List, [], ◌∷◌, ◌++◌, Bool, true, false, Ordering, Less, Equal, Greater, cond, get_or, refl, sym, ap, ◌∙◌, arith, subst, ⊎_elim}
+use Rattle.std.proofs.Common.{◌≡◌, ◌⊎◌, inl, inr, ◌<◌, List, ◌++◌, Bool, true, false, Ordering, Less, Equal, Greater, cond, get_or, refl, sym, ap, ◌∙◌, arith, subst, ⊎_elim}
 use Rattle.std.proofs.lemmas.Cmp.{nat_cmp_total, on_total, ranked, then_total}
+use Rattle.std.proofs.lemmas.Grind.{flat_map-append}
+use Rattle.std.proofs.lemmas.List.{append-nil}
 use Rattle.std.proofs.lemmas.List.Elements.{Contains-append_cases, Contains-append_left, Contains-append_right}
 use Rattle.std.proofs.lemmas.List.Sorted.{ranks_by, sorted_far, sum_by-IsPermutation}
 use Rattle.std.specs.Cmp.{IsTotalOrder}
 use Rattle.std.specs.List.{AllZip}
 use Rattle.std.specs.List.Sorted.{IsPermutation, IsSorted}
 use Rattle.std.specs.Ordering.{MatchOrdering, is_lt, nat_cmp, ordering_then}
-use Rattle.std.specs.Prelude.{AllPairs, Contains, count_by, flat_map}
+use Rattle.std.specs.Prelude.{Contains, None, count_by, flat_map}
 use Rattle.geom.specs.EdgeOrder.{IsEdgeBefore}
 use Rattle.geom.specs.Rounded.{is_odd}
 use Rattle.geom.proofs.Lists.{In, in_contains}
@@ -19,13 +21,14 @@ use Rattle.points_law.proofs.Layers.{odd_is}
 use Rattle.cover_law.proofs.InRow.{some_odd}
 use Rattle.feature_links.specs.declared.link.FeatureLink.{FeatureLink}
 use Rattle.feature_links.specs.Odd.{AreInOrder, AreOdd, IsLinkBefore, same_link}
-use Rattle.feature_links.proofs.OddLaws.{link_path, none_odd, same_true}
-use Rattle.hot_region.proofs.ListLaws.{tail_pairs}
+use Rattle.feature_links.proofs.OddLaws.{link_path, same_true}
 use Rattle.linking.specs.Orders.{feature_link_order}
-use Rattle.linking.specs.Shares.{AreKeysBelow, feature_column_of}
+use Rattle.linking.specs.Shares.{AreKeysBelow, AreSharesFrom, feature_column_of}
+use Rattle.linking.specs.Spans.{within}
+use Rattle.linking.specs.declared.span.Share.{Share}
 use Rattle.linking.proofs.Counted.{pairs_append}
 use Rattle.linking.proofs.LinkParts.{left_of}
-use Rattle.linking.proofs.ShareLaws.{first_apart}
+use Rattle.linking.proofs.ShareLaws.{all_shared, zip_weaker}
 
 none_left : (a b : Bool) → a ≡ true → b ≡ false → a ⊕ b ≡ true
 none_left a b h k = grind arith
@@ -103,10 +106,15 @@ features_in_order links up i j d l k = judge (get_or links i d) (get_or links j 
 
 -- ---- shares
 -- what is left of shares, one behind another
-module _ {S V : Type 0} (links_of : S → List FeatureLink) (odd_of : V → List FeatureLink) where
-  pub all_odd : (shares : List S) (vs : List V) → AllPairs (λ s t. AreKeysBelow feature_column_of (links_of s) (links_of t)) shares → AllZip (λ s v. AreOdd (links_of s) (odd_of v)) shares vs → AreOdd (flat_map links_of shares) (flat_map odd_of vs)
-  all_odd [] [] up zip = none_odd
-  all_odd [] (v ∷ vs) up zip = absurd zip
-  all_odd (s ∷ ss) [] up zip = absurd zip
-  all_odd (s ∷ ss) (v ∷ vs) up zip = odd_append (links_of s) (flat_map links_of ss) (odd_of v) (flat_map odd_of vs) (λ l m i j. left_of l.edge m.edge (first_apart links_of feature_column_of s ss up l m i j)) zip.0
-      (all_odd ss vs (tail_pairs (λ s t. AreKeysBelow feature_column_of (links_of s) (links_of t)) s ss up) zip.1)
+module _ {V : Type 0} (odd_of : V → List FeatureLink) where
+  abbrev HaveOdd : List FeatureLink → List V → Type 0
+  HaveOdd found vs = AreOdd found (flat_map odd_of vs)
+
+  both_odd : (found low high : List FeatureLink) (front behind : List V) → IsPermutation found (low ++ high) → AreKeysBelow feature_column_of low high → HaveOdd low front → HaveOdd high behind → HaveOdd found (front ++ behind)
+  both_odd found low high front behind moved apart f b = subst (λ (ls : List FeatureLink). AreOdd found ls) (sym (flat_map-append odd_of front behind))
+      (odd_moved found (low ++ high) (flat_map odd_of front ++ flat_map odd_of behind) moved
+      (odd_append low high (flat_map odd_of front) (flat_map odd_of behind) (λ l m i j. left_of l.edge m.edge (apart l m i j)) f b))
+
+  pub shared_odd : (found : List FeatureLink) (shares : List Share) (vs : List V) → AreSharesFrom None shares → AllZip (λ s v. AreOdd (within feature_column_of s.span found) (odd_of v)) shares vs → AreOdd found (flat_map odd_of vs)
+  shared_odd found shares vs all zip = all_shared feature_column_of HaveOdd both_odd found shares vs all
+      (zip_weaker _ _ (λ s v h. subst (λ (ls : List FeatureLink). AreOdd (within feature_column_of s.span found) ls) (sym (append-nil (odd_of v))) h) shares vs zip)

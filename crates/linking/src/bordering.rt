@@ -1,13 +1,11 @@
 //! The borders of features: the pieces of all cells in, the rounded edges that are the border of some feature out, with these features.
 //!
 //! 1. The records are linked as for layers, but that the owner of a segment makes the links of its route (`made`).
-//! 2. Each hand takes the links of its share, by the columns of their first ends, from all lists, and sorts them (`shares`); a thread that
-//!    is alone sorts all of them (`odd_alone`).
-//! 3. Each hand keeps of each link that occurs an odd number of times one (`odd_in_shares`).
+//! 2. Each hand merges the links of a share, by the columns of their first ends, from all lists (`shares`).
+//! 3. It keeps of each link that occurs an odd number of times one (`odd_in_shares`).
 //! 4. What is left is one list: its runs are the edges, and its features are one list for all of them (`borders_by_links`).
 
-ghost use Rattle.std.specs.Prelude.{◌≡◌, ◌<◌, ◌≤◌, ℕ, All, AllPairs, IfOk, List, Some, flat_map, length, map, slice_get, true};
-ghost use Rattle.std.specs.List.Sorted.{IsSorted};
+ghost use Rattle.std.specs.Prelude.{◌≡◌, ◌<◌, ◌≤◌, ℕ, All, AllPairs, IfOk, List, flat_map, length, map, true};
 ghost use Rattle.geom.specs.Limit.{AreInLimit};
 ghost use Rattle.geom.specs.Noded.{IsNoded};
 ghost use Rattle.grid.specs.Tiles.{tile_count};
@@ -19,12 +17,14 @@ ghost use Rattle.feature_links.specs.declared.link.FeatureLink.{FeatureLink};
 ghost use Rattle.feature_links.specs.Odd.{AreOdd};
 ghost use Rattle.linking.specs.Gathered.{AreTileNumbers, HaveTiles};
 ghost use Rattle.linking.specs.Links.{AreFeatureRouteLinks};
-ghost use Rattle.linking.specs.Orders.{feature_link_order};
-ghost use Rattle.linking.specs.Shares.{AreKeysBelow, feature_column_of};
+ghost use Rattle.linking.specs.Shares.{feature_column_of};
+ghost use Rattle.linking.specs.Spans.{within};
 
 use crate::made::{LinkedAlone, LinkedPieces, link_alone, link_pieces};
+use crate::ordered::InOrder;
 use crate::rounded::TileNumbers;
-use crate::shares::{items_in_order, only_list, places_of, sorted_in_parts};
+use crate::shares::{merged, only_list, shares_to_merge};
+use crate::span::Share;
 use crate::tile_piece::{TilePiece, Tiled};
 use cover_law::Border;
 use feature_links::{FeatureLink, borders_of, features_of, odd_links};
@@ -74,7 +74,7 @@ pub fn gather_borders<T: Tiled, A: Allocator + Copy>(
 {
     let found = link_alone(alloc, pieces, cells, grid, segments, owners)?;
     let LinkedAlone { links, tiles } = found;
-    let odd = odd_alone(alloc, links)?;
+    let odd = odd_in_order(alloc, &links)?;
     borders_by_links(alloc, segments, owners, &odd, tiles, remade)
 }
 
@@ -117,68 +117,66 @@ pub fn gather_borders_in_parts<
     borders_by_links(alloc, segments, owners, &odd, tiles, remade)
 }
 
-/// Of links those that occur an odd number of times, in order.
-fn odd_alone<A: Allocator + Copy>(
+/// Of links in order those that occur an odd number of times, in order.
+fn odd_in_order<A: Allocator>(
     alloc: A,
-    links: Vec<FeatureLink, A>,
+    links: &InOrder<FeatureLink, A>,
 ) -> Result<Vec<FeatureLink, A>, NoMemory>
-    ensures { IfOk result (λ odd. AreOdd links.items odd.items) }
+    ensures { IfOk result (λ odd. AreOdd links.now.items.items odd.items) }
 {
-    let links = items_in_order(links);
-    odd_links(alloc, &links)
+    odd_links(alloc, &links.items)
 }
 
-/// Of the links of lists those that occur an odd number of times, in order, by at most so many parts of the columns.
-fn odd_of_shares<R: Threads + Sync, A: Allocator + Copy + Send + Sync>(
+/// Of the links of lists those that occur an odd number of times, in order, in shares, about so many or more, each by a hand of its own.
+fn odd_in_shares<R: Threads + Sync, A: Allocator + Copy + Send + Sync>(
     rt: &R,
     alloc: A,
     parts: usize,
-    lists: Vec<Vec<FeatureLink, A>, A>,
-) -> Result<Vec<FeatureLink, A>, NoMemory>
-    ensures { IfOk result (λ odd. AreOdd (flat_map (λ l. l.items) lists.items) odd.items) }
+    lists: &[InOrder<FeatureLink, A>],
+) -> Result<Vec<Vec<FeatureLink, A>, A>, NoMemory>
+    ensures { IfOk result (λ v. AreOdd (flat_map (λ l. l.items.items) lists.now) (flat_map (λ l. l.items) v.items)) }
 {
-    let shares = sorted_in_parts(rt, alloc, parts, &lists)?;
+    let shares = shares_to_merge(alloc, parts, lists)?;
+    map_parts(
+        rt,
+        alloc,
+        &shares,
+        |share: Share| -> Result<Vec<FeatureLink, A>, NoMemory>
+            ensures { IfOk result (λ v. AreOdd (within feature_column_of share.span (flat_map (λ l. l.items.items) lists.entry.now)) v.items) }
+        {
+            let links = merged(alloc, lists, share)?;
+            odd_in_order(alloc, &links)
+        },
+    )
+}
+
+/// Of the links of lists those that occur an odd number of times, in order.
+fn odd_of_lists<R: Threads + Sync, A: Allocator + Copy + Send + Sync>(
+    rt: &R,
+    alloc: A,
+    parts: usize,
+    lists: Vec<InOrder<FeatureLink, A>, A>,
+) -> Result<Vec<FeatureLink, A>, NoMemory>
+    ensures { IfOk result (λ odd. AreOdd (flat_map (λ l. l.items.items) lists.items) odd.items) }
+{
+    let odd = odd_in_shares(rt, alloc, parts, &lists)?;
     drop(lists);
-    let odd = odd_in_shares(rt, alloc, &shares)?;
-    drop(shares);
     Ok(joined(alloc, odd)?)
 }
 
-/// The same, where a list that is the only one is put in order as it stands.
+/// The same, where a list that is the only one is taken as it stands.
 fn odd_in_parts<R: Threads + Sync, A: Allocator + Copy + Send + Sync>(
     rt: &R,
     alloc: A,
     parts: usize,
-    lists: Vec<Vec<FeatureLink, A>, A>,
+    lists: Vec<InOrder<FeatureLink, A>, A>,
 ) -> Result<Vec<FeatureLink, A>, NoMemory>
-    ensures { IfOk result (λ odd. AreOdd (flat_map (λ l. l.items) lists.items) odd.items) }
+    ensures { IfOk result (λ odd. AreOdd (flat_map (λ l. l.items.items) lists.items) odd.items) }
 {
     match only_list(lists) {
-        Ok(links) => odd_alone(alloc, links),
-        Err(lists) => odd_of_shares(rt, alloc, parts, lists),
+        Ok(links) => odd_in_order(alloc, &links),
+        Err(lists) => odd_of_lists(rt, alloc, parts, lists),
     }
-}
-
-/// Of the links of shares that are in order those that occur an odd number of times, each share by a hand of its own.
-fn odd_in_shares<R: Threads + Sync, A: Allocator + Copy + Send + Sync>(
-    rt: &R,
-    alloc: A,
-    shares: &[Vec<FeatureLink, A>],
-) -> Result<Vec<Vec<FeatureLink, A>, A>, NoMemory>
-    requires sorted { All (λ s. IsSorted feature_link_order s.items) shares.now }
-    requires ascending { AllPairs (λ s t. AreKeysBelow feature_column_of s.items t.items) shares.now }
-    ensures { IfOk result (λ v. AreOdd (flat_map (λ s. s.items) shares.now) (flat_map (λ l. l.items) v.items)) }
-{
-    let places = places_of(alloc, shares.len())?;
-    map_parts(
-        rt,
-        alloc,
-        &places,
-        |place: usize| -> Result<Vec<FeatureLink, A>, NoMemory>
-            requires { (place < length shares.now) × All (λ s. IsSorted feature_link_order s.items) shares.now }
-            ensures { IfOk result (λ v. (s : _) → slice_get shares.entry.now place ≡ Some s → AreOdd s.items v.items) }
-        { odd_links(alloc, &shares[place]) },
-    )
 }
 
 /// What was gathered, by those of the links of all routes that occur an odd number of times.

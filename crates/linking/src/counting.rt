@@ -1,30 +1,25 @@
 //! How often each edge is a link, counted by one hand or by several.
 //!
-//! 1. Each hand takes the links of its share, by the columns of their first ends, from all lists, and sorts them
-//!    (`shares`).
-//! 2. Each hand counts the links of its share (`counted_in_parts`).
-//! 3. The counts of the shares are put behind one another (`counts_of_shares`). A list that is the only one is sorted and counted as it
-//!    stands (`counts_in_parts`).
+//! 1. The links stand in lists, each in order. All columns of their first ends are cut into the spans of shares (`shares`).
+//! 2. Each hand merges the links of a share from all lists, and counts them (`counted_in_shares`).
+//! 3. The counts of the shares are put behind one another (`counts_of_lists`). A list that is the only one is counted as it stands
+//!    (`counts_in_parts`).
 
-ghost use Rattle.std.specs.Prelude.{◌≡◌, ◌+◌, ◌<◌, ◌^◌, ◌++◌, ◌∷◌, [], All, AllPairs, IfOk, IsTrue, OnOk, Some, flat_map, if◌then◌else◌, length, slice_get};
-ghost use Rattle.std.specs.List.Sorted.{IsSorted};
+ghost use Rattle.std.specs.Prelude.{◌≡◌, ◌+◌, ◌<◌, ◌^◌, ◌++◌, ◌∷◌, [], IfOk, IsTrue, OnOk, flat_map, if◌then◌else◌, length};
 ghost use Rattle.geom.specs.declared.segment.Source.{Source};
 ghost use Rattle.geom.specs.Segments.{same_source};
 ghost use Rattle.linking.specs.Links.{AreCounts, AreInOrder};
-ghost use Rattle.linking.specs.Orders.{link_order};
-ghost use Rattle.linking.specs.Shares.{AreKeysBelow, column_of};
+ghost use Rattle.linking.specs.Shares.{column_of};
+ghost use Rattle.linking.specs.Spans.{within};
 
 use crate::link::Link;
-use crate::shares::{items_in_order, only_list, places_of, sorted_in_parts};
+use crate::ordered::InOrder;
+use crate::shares::{merged, only_list, shares_to_merge};
+use crate::span::Share;
 use geom::{Counted, Edge, NoMemory, Source};
 use hands::{joined, map_parts};
 use std::alloc::Allocator;
 use std::thread::Threads;
-
-/// Room for the edges of so many links: two segments share an edge in a map.
-pub(crate) fn room_for(links: usize) -> usize {
-    links / 2
-}
 
 /// An edge that isn't counted yet.
 fn uncounted(edge: Edge) -> Counted
@@ -69,17 +64,14 @@ fn add_counted<A: Allocator>(list: &mut Vec<Counted, A>, counted: Counted) -> Re
     Ok(())
 }
 
-/// Each edge among links that are sorted, ascending, with its counts, with room for so many at first.
-fn count_alone<A: Allocator>(
-    alloc: A,
-    room: usize,
-    links: &[Link],
-) -> Result<Vec<Counted, A>, NoMemory>
+/// Each edge among links that are sorted, ascending, with its counts.
+fn count_sorted<A: Allocator>(alloc: A, links: &[Link]) -> Result<Vec<Counted, A>, NoMemory>
     requires in_order { AreInOrder links.now }
     requires short { length links.now < 2 ^ 32 }
     ensures { IfOk result (λ v. AreCounts links.now v.items) }
 {
-    let mut list = Vec::with_capacity(alloc, room)?;
+    // Two segments share an edge in a map.
+    let mut list = Vec::with_capacity(alloc, links.len() / 2)?;
     let Some(first) = links.first() else {
         return Ok(list);
     };
@@ -95,73 +87,81 @@ fn count_alone<A: Allocator>(
     Ok(list)
 }
 
-/// Each edge among the links, ascending, with its counts; at first there is room for so many.
+/// Each edge among links in order, ascending, with its counts.
+pub(crate) fn counts_in_order<A: Allocator>(
+    alloc: A,
+    links: &InOrder<Link, A>,
+) -> Result<Vec<Counted, A>, NoMemory>
+    requires short { length links.now.items.items < 2 ^ 32 }
+    ensures { IfOk result (λ v. AreCounts links.now.items.items v.items) }
+{
+    count_sorted(alloc, &links.items)
+}
+
+/// Each edge among the links, ascending, with its counts.
 pub fn counts<A: Allocator + Copy>(
     alloc: A,
-    room: usize,
     links: Vec<Link, A>,
 ) -> Result<Vec<Counted, A>, NoMemory>
     requires short { length links.items < 2 ^ 32 }
     ensures { IfOk result (λ v. AreCounts links.items v.items) }
 {
-    let links = items_in_order(links);
-    count_alone(alloc, room, &links)
+    let links = InOrder::of(links);
+    counts_in_order(alloc, &links)
 }
 
-/// The counts of shares whose links are in order, each by a hand of its own.
-fn counted_in_parts<R: Threads + Sync, A: Allocator + Copy + Send + Sync>(
+/// The counts of shares of the links of lists, about so many or more, each by a hand of its own.
+fn counted_in_shares<R: Threads + Sync, A: Allocator + Copy + Send + Sync>(
     rt: &R,
     alloc: A,
-    shares: &[Vec<Link, A>],
+    parts: usize,
+    lists: &[InOrder<Link, A>],
 ) -> Result<Vec<Vec<Counted, A>, A>, NoMemory>
-    requires short { length (flat_map (λ s. s.items) shares.now) < 2 ^ 32 }
-    requires sorted { All (λ s. IsSorted link_order s.items) shares.now }
-    requires ascending { AllPairs (λ s t. AreKeysBelow column_of s.items t.items) shares.now }
-    ensures { IfOk result (λ v. AreCounts (flat_map (λ s. s.items) shares.now) (flat_map (λ l. l.items) v.items)) }
+    requires { length (flat_map (λ l. l.items.items) lists.now) < 2 ^ 32 }
+    ensures { IfOk result (λ v. AreCounts (flat_map (λ l. l.items.items) lists.now) (flat_map (λ l. l.items) v.items)) }
 {
-    let places = places_of(alloc, shares.len())?;
+    let shares = shares_to_merge(alloc, parts, lists)?;
     map_parts(
         rt,
         alloc,
-        &places,
-        |place: usize| -> Result<Vec<Counted, A>, NoMemory>
-            requires { (place < length shares.now) × (length (flat_map (λ s. s.items) shares.now) < 2 ^ 32) × All (λ s. IsSorted link_order s.items) shares.now }
-            ensures { IfOk result (λ v. (s : _) → slice_get shares.entry.now place ≡ Some s → AreCounts s.items v.items) }
+        &shares,
+        |share: Share| -> Result<Vec<Counted, A>, NoMemory>
+            requires { length (flat_map (λ l. l.items.items) lists.now) < 2 ^ 32 }
+            ensures { IfOk result (λ v. AreCounts (within column_of share.span (flat_map (λ l. l.items.items) lists.entry.now)) v.items) }
         {
-            let links = &shares[place];
-            count_alone(alloc, room_for(links.len()), links)
+            let links = merged(alloc, lists, share)?;
+            counts_in_order(alloc, &links)
         },
     )
 }
 
 /// Whether a `u32` counts the links of all lists.
-fn are_few<A: Allocator>(lists: &[Vec<Link, A>]) -> bool
-    ensures { IsTrue result → length (flat_map (λ l. l.items) lists.now) < 2 ^ 32 }
+fn are_few<A: Allocator>(lists: &[InOrder<Link, A>]) -> bool
+    ensures { IsTrue result → length (flat_map (λ l. l.items.items) lists.now) < 2 ^ 32 }
 {
     let mut left = u32::MAX as usize;
     for list in lists {
-        if list.len() > left {
+        let links = list.items.len();
+        if links > left {
             return false;
         }
-        left -= list.len();
+        left -= links;
     }
     true
 }
 
-/// Each edge among the links of lists, ascending, with its counts, by at most so many parts of the columns.
-fn counts_of_shares<R: Threads + Sync, A: Allocator + Copy + Send + Sync>(
+/// Each edge among the links of lists, ascending, with its counts.
+fn counts_of_lists<R: Threads + Sync, A: Allocator + Copy + Send + Sync>(
     rt: &R,
     alloc: A,
     parts: usize,
-    lists: Vec<Vec<Link, A>, A>,
+    lists: Vec<InOrder<Link, A>, A>,
 ) -> Result<Vec<Counted, A>, NoMemory>
-    requires { length (flat_map (λ l. l.items) lists.items) < 2 ^ 32 }
-    ensures { IfOk result (λ v. AreCounts (flat_map (λ l. l.items) lists.items) v.items) }
+    requires { length (flat_map (λ l. l.items.items) lists.items) < 2 ^ 32 }
+    ensures { IfOk result (λ v. AreCounts (flat_map (λ l. l.items.items) lists.items) v.items) }
 {
-    let shares = sorted_in_parts(rt, alloc, parts, &lists)?;
+    let counted = counted_in_shares(rt, alloc, parts, &lists)?;
     drop(lists);
-    let counted = counted_in_parts(rt, alloc, &shares)?;
-    drop(shares);
     Ok(joined(alloc, counted)?)
 }
 
@@ -170,16 +170,16 @@ pub fn counts_in_parts<R: Threads + Sync, A: Allocator + Copy + Send + Sync>(
     rt: &R,
     alloc: A,
     parts: usize,
-    lists: Vec<Vec<Link, A>, A>,
+    lists: Vec<InOrder<Link, A>, A>,
 ) -> Result<Vec<Counted, A>, NoMemory>
-    ensures short { IfOk result (λ v. length (flat_map (λ l. l.items) lists.items) < 2 ^ 32) }
-    ensures counts { IfOk result (λ v. AreCounts (flat_map (λ l. l.items) lists.items) v.items) }
+    ensures short { IfOk result (λ v. length (flat_map (λ l. l.items.items) lists.items) < 2 ^ 32) }
+    ensures counts { IfOk result (λ v. AreCounts (flat_map (λ l. l.items.items) lists.items) v.items) }
 {
     if !are_few(&lists) {
         return Err(NoMemory);
     }
     match only_list(lists) {
-        Ok(links) => counts(alloc, room_for(links.len()), links),
-        Err(lists) => counts_of_shares(rt, alloc, parts, lists),
+        Ok(links) => counts_in_order(alloc, &links),
+        Err(lists) => counts_of_lists(rt, alloc, parts, lists),
     }
 }

@@ -3,7 +3,8 @@
 //!
 //! 1. Records are shared by spans of segments (`span`, `shares`) and sorted; each route, from the first end of its segment by its records to
 //!    the last end, is linked, and its records are counted by tiles (`linked`).
-//! 2. Links are shared by spans of columns, sorted and counted (`counting`), or those of a feature cancelled by twos (`bordering`).
+//! 2. The links of each hand are sorted (`ordered`), merged by spans of columns (`shares`) and counted (`counting`), or those of a feature
+//!    cancelled by twos (`bordering`).
 //! 3. The hot pixels of each tile are counted (`numbers`).
 //!
 //! The promise: exactly the definition's rounded edges, ascending, noded, and with even degrees where the segments close. The definitions are
@@ -19,6 +20,7 @@ mod made;
 mod neighbours;
 mod noded;
 mod numbers;
+mod ordered;
 mod rounded;
 mod shares;
 mod span;
@@ -31,6 +33,7 @@ pub use link::Link;
 pub use made::{gather_made, gather_made_in_parts, rounded_by_records};
 pub use neighbours::links_between;
 pub use noded::{Noded, settled};
+pub use ordered::{InOrder, Ordered};
 pub use rounded::{Rounded, TileNumbers};
 pub use routing::LimitedSegments;
 pub use tile_piece::{TilePiece, Tiled};

@@ -2,7 +2,7 @@
 //!
 //! 1. Each hand takes the records of its share from all pieces and sorts them (`link_share`).
 //! 2. It goes over its segments, each with the records between its ends, which stand next (`link_routes`, `past_number`).
-//! 3. Of each route it links neighbours and counts the records by their tiles (`add_route`).
+//! 3. Of each route it links neighbours and counts the records by their tiles (`add_route`), and it sorts its links.
 //! 4. The lists of links stand in the order of the shares, and the counts of each tile are added (`link_in_parts`).
 
 ghost use Rattle.std.specs.Prelude.{◌≡◌, ◌≢◌, ◌<◌, ◌≤◌, ◌^◌, ◌++◌, ◌∷◌, [], All, AllPairs, IfOk, IfSome, OnOk, flat_map, get_or, length, map};
@@ -23,6 +23,7 @@ use crate::keyed::sorted;
 use crate::link::MakesLinks;
 use crate::neighbours::edge_between;
 use crate::numbers::{TileCounts, summed};
+use crate::ordered::{InOrder, Ordered};
 use crate::shares::{shares_of_records, taken};
 use crate::span::Share;
 use crate::tile_piece::{TilePiece, Tiled};
@@ -33,17 +34,17 @@ use routing::Record;
 use std::alloc::Allocator;
 use std::thread::Threads;
 
-/// The links of a share of the segments, and how many of the records each tile has.
+/// The links of a share of the segments, in order, and how many of the records each tile has.
 #[derive(Drop)]
-pub(crate) struct Linked<L: Copy, A: Allocator> {
-    pub links: Vec<L, A>,
+pub(crate) struct Linked<L: Ordered + Copy, A: Allocator> {
+    pub links: InOrder<L, A>,
     pub records: Vec<u32, A>,
 }
 
 /// The links of all segments, in a list for each share, and how many of the records each tile has.
 #[derive(Drop)]
-pub(crate) struct AllLinked<L: Copy, A: Allocator> {
-    pub links: Vec<Vec<L, A>, A>,
+pub(crate) struct AllLinked<L: Ordered + Copy, A: Allocator> {
+    pub links: Vec<InOrder<L, A>, A>,
     pub records: Vec<u32, A>,
 }
 
@@ -130,7 +131,7 @@ fn past_number(records: &[Record], from: usize, number: u32) -> usize
 }
 
 /// What is found in the routes of the segments from a number on, up to another one, whose records between the ends are in order.
-fn link_routes<M: MakesLinks<L>, L: Copy, A: Allocator + Copy>(
+fn link_routes<M: MakesLinks<L>, L: Ordered + Copy, A: Allocator + Copy>(
     alloc: A,
     grid: &Grid,
     segments: &[Seg],
@@ -145,7 +146,7 @@ fn link_routes<M: MakesLinks<L>, L: Copy, A: Allocator + Copy>(
     requires inner { AreInner segments.now records.now }
     requires ascending { AllPairs (λ r q. record_order r q ≡ Less) records.now }
     requires within { All (λ r. (first ≤ r.segment) × (r.segment < past)) records.now }
-    ensures { IfOk result (λ f. HasRoutes grid.now M.link_of segments.now makers.now first past records.now f.links.items f.records.items) }
+    ensures { IfOk result (λ f. HasRoutes grid.now M.link_of segments.now makers.now first past records.now f.links.items.items f.records.items) }
 {
     let room = records
         .len()
@@ -163,13 +164,13 @@ fn link_routes<M: MakesLinks<L>, L: Copy, A: Allocator + Copy>(
     }
     let Linking { links, counts } = linking;
     Ok(Linked {
-        links,
+        links: InOrder::of(links),
         records: counts.into_counts(),
     })
 }
 
 /// What is found in one share of the segments. More segments or links than a `u32` counts are refused as want of memory.
-pub(crate) fn link_share<M: MakesLinks<L>, L: Copy, T: Tiled, A: Allocator + Copy>(
+pub(crate) fn link_share<M: MakesLinks<L>, L: Ordered + Copy, T: Tiled, A: Allocator + Copy>(
     alloc: A,
     grid: &Grid,
     pieces: &[TilePiece<T, A>],
@@ -180,8 +181,8 @@ pub(crate) fn link_share<M: MakesLinks<L>, L: Copy, T: Tiled, A: Allocator + Cop
     requires one_for_each { length makers.now ≡ length segments.now }
     requires covered { HaveTiles grid.now segments.now }
     requires inner { AreInner segments.now (flat_map (λ p. p.records.items) pieces.now) }
-    ensures linked { IfOk result (λ f. HasLinked grid.now M.link_of makers.now (within segment_of share.span (flat_map (λ p. p.records.items) pieces.now ++ ends_from 0 segments.now)) f.links.items f.records.items) }
-    ensures short { IfOk result (λ f. length f.links.items < 2 ^ 32) }
+    ensures linked { IfOk result (λ f. HasLinked grid.now M.link_of makers.now (within segment_of share.span (flat_map (λ p. p.records.items) pieces.now ++ ends_from 0 segments.now)) f.links.items.items f.records.items) }
+    ensures short { IfOk result (λ f. length f.links.items.items < 2 ^ 32) }
 {
     if segments.len() > u32::MAX as usize {
         return Err(NoMemory);
@@ -192,18 +193,18 @@ pub(crate) fn link_share<M: MakesLinks<L>, L: Copy, T: Tiled, A: Allocator + Cop
     let found = taken(alloc, pieces, share)?;
     let records = in_order(found);
     let linked = link_routes(alloc, grid, segments, makers, first, past, &records)?;
-    if linked.links.len() > u32::MAX as usize {
+    if linked.links.items.len() > u32::MAX as usize {
         return Err(NoMemory);
     }
     Ok(linked)
 }
 
 /// The links of shares, and the counts of these, apart.
-fn parted<L: Copy, A: Allocator + Copy>(
+fn parted<L: Ordered + Copy, A: Allocator + Copy>(
     alloc: A,
     found: Vec<Linked<L, A>, A>,
-) -> Result<(Vec<Vec<L, A>, A>, Vec<Vec<u32, A>, A>), NoMemory>
-    ensures links { IfOk result (λ r. flat_map (λ l. l.items) r.0.items ≡ flat_map (λ f. f.links.items) found.items) }
+) -> Result<(Vec<InOrder<L, A>, A>, Vec<Vec<u32, A>, A>), NoMemory>
+    ensures links { IfOk result (λ r. flat_map (λ l. l.items.items) r.0.items ≡ flat_map (λ f. f.links.items.items) found.items) }
     ensures records { IfOk result (λ r. map (λ l. l.items) r.1.items ≡ map (λ f. f.records.items) found.items) }
 {
     let mut lists = Vec::with_capacity(alloc, found.len())?;
@@ -219,7 +220,7 @@ fn parted<L: Copy, A: Allocator + Copy>(
 /// What is found in at most so many shares of the segments, each by a hand of its own.
 pub(crate) fn link_in_parts<
     M: MakesLinks<L> + Sync,
-    L: Copy + Send + Sync,
+    L: Ordered + Copy + Send + Sync,
     T: Tiled + Sync,
     A: Allocator + Copy + Send + Sync,
     R: Threads + Sync,
@@ -235,7 +236,7 @@ pub(crate) fn link_in_parts<
     requires one_for_each { length makers.now ≡ length segments.now }
     requires covered { HaveTiles grid.now segments.now }
     requires inner { AreInner segments.now (flat_map (λ p. p.records.items) pieces.now) }
-    ensures { IfOk result (λ f. HasLinked grid.now M.link_of makers.now (flat_map (λ p. p.records.items) pieces.now ++ ends_from 0 segments.now) (flat_map (λ l. l.items) f.links.items) f.records.items) }
+    ensures { IfOk result (λ f. HasLinked grid.now M.link_of makers.now (flat_map (λ p. p.records.items) pieces.now ++ ends_from 0 segments.now) (flat_map (λ l. l.items.items) f.links.items) f.records.items) }
 {
     let shares = shares_of_records(alloc, parts, pieces, segments.len())?;
     let found = map_parts(
@@ -244,7 +245,7 @@ pub(crate) fn link_in_parts<
         &shares,
         |share: Share| -> Result<Linked<L, A>, NoMemory>
             requires { (length makers.now ≡ length segments.now) × HaveTiles grid.now segments.now × AreInner segments.now (flat_map (λ p. p.records.items) pieces.now) }
-            ensures { IfOk result (λ f. HasLinked grid.entry.now M.link_of makers.entry.now (within segment_of share.span (flat_map (λ p. p.records.items) pieces.entry.now ++ ends_from 0 segments.entry.now)) f.links.items f.records.items) }
+            ensures { IfOk result (λ f. HasLinked grid.entry.now M.link_of makers.entry.now (within segment_of share.span (flat_map (λ p. p.records.items) pieces.entry.now ++ ends_from 0 segments.entry.now)) f.links.items.items f.records.items) }
         { link_share(alloc, grid, pieces, segments, makers, share) },
     )?;
     let (links, counts) = parted(alloc, found)?;

@@ -10,11 +10,12 @@ ghost use Rattle.linking.specs.Gathered.{AreTileNumbers, HaveTiles};
 ghost use Rattle.linking.specs.Links.{AreRouteLinks, HasRecords};
 ghost use Rattle.tile_book.specs.Books.{StandInOrder};
 
-use crate::counting::{counts, counts_in_parts, room_for};
+use crate::counting::{counts, counts_in_order, counts_in_parts};
 use crate::link::MakesLinks;
 use crate::linked::{AllLinked, Linked, in_order, link_in_parts, link_share};
 use crate::neighbours::links;
 use crate::numbers::{count_by_tile, hot_in_parts, paired};
+use crate::ordered::{InOrder, Ordered};
 use crate::rounded::{Rounded, TileNumbers};
 use crate::shares::item_count;
 use crate::span::Share;
@@ -25,17 +26,17 @@ use routing::Record;
 use std::alloc::Allocator;
 use std::thread::Threads;
 
-/// The links of all routes, in lists, and each tile's numbers.
+/// The links of all routes, in lists, each in order, and each tile's numbers.
 #[derive(Drop)]
-pub(crate) struct LinkedPieces<L: Copy, A: Allocator> {
-    pub links: Vec<Vec<L, A>, A>,
+pub(crate) struct LinkedPieces<L: Ordered + Copy, A: Allocator> {
+    pub links: Vec<InOrder<L, A>, A>,
     pub tiles: Vec<TileNumbers, A>,
 }
 
 /// The links of all routes in one list, and each tile's numbers.
 #[derive(Drop)]
-pub(crate) struct LinkedAlone<L: Copy, A: Allocator> {
-    pub links: Vec<L, A>,
+pub(crate) struct LinkedAlone<L: Ordered + Copy, A: Allocator> {
+    pub links: InOrder<L, A>,
     pub tiles: Vec<TileNumbers, A>,
 }
 
@@ -58,7 +59,7 @@ pub fn rounded_by_records<A: Allocator + Copy>(
     let records = in_order(records);
     let list = links(alloc, segments, &records)?;
     drop(records);
-    let edges = counts(alloc, room_for(list.len()), list)?;
+    let edges = counts(alloc, list)?;
     Ok(rounded_of(segments, edges, tiles, remade))
 }
 
@@ -89,7 +90,7 @@ pub fn gather_made<T: Tiled, A: Allocator + Copy>(
 {
     let found = link_alone(alloc, pieces, cells, grid, segments, segments)?;
     let LinkedAlone { links, tiles } = found;
-    let edges = counts(alloc, room_for(links.len()), links)?;
+    let edges = counts_in_order(alloc, &links)?;
     Ok(rounded_of(segments, edges, tiles, remade))
 }
 
@@ -125,7 +126,7 @@ pub fn gather_made_in_parts<T: Tiled + Sync, A: Allocator + Copy + Send + Sync, 
 /// The links of the pieces of all cells, made by what stands for the segments, and each tile's numbers, in at most so many parts.
 pub(crate) fn link_pieces<
     M: MakesLinks<L> + Sync,
-    L: Copy + Send + Sync,
+    L: Ordered + Copy + Send + Sync,
     T: Tiled + Sync,
     A: Allocator + Copy + Send + Sync,
     R: Threads + Sync,
@@ -146,7 +147,7 @@ pub(crate) fn link_pieces<
     requires one_each { length pieces.items ≡ tile_count cells.now }
     requires in_order { StandInOrder (λ p. p.number) pieces.items }
     requires one_for_each { length makers.now ≡ length segments.now }
-    ensures links { IfOk result (λ r. ∥ AreRouteLinks M.link_of segments.now makers.now (flat_map (λ l. l.items) r.links.items) ∥₁) }
+    ensures links { IfOk result (λ r. ∥ AreRouteLinks M.link_of segments.now makers.now (flat_map (λ l. l.items.items) r.links.items) ∥₁) }
     ensures tiles { IfOk result (λ r. AreTileNumbers grid.now segments.now (tile_count grid.now) r.tiles.items) }
 {
     let found = link_in_parts(rt, alloc, parts, grid, &pieces, segments, makers)?;
@@ -159,7 +160,7 @@ pub(crate) fn link_pieces<
 }
 
 /// As `link_pieces`, by the calling thread.
-pub(crate) fn link_alone<M: MakesLinks<L>, L: Copy, T: Tiled, A: Allocator + Copy>(
+pub(crate) fn link_alone<M: MakesLinks<L>, L: Ordered + Copy, T: Tiled, A: Allocator + Copy>(
     alloc: A,
     pieces: Vec<TilePiece<T, A>, A>,
     cells: &Grid,
@@ -174,8 +175,8 @@ pub(crate) fn link_alone<M: MakesLinks<L>, L: Copy, T: Tiled, A: Allocator + Cop
     requires one_each { length pieces.items ≡ tile_count cells.now }
     requires in_order { StandInOrder (λ p. p.number) pieces.items }
     requires one_for_each { length makers.now ≡ length segments.now }
-    ensures links { IfOk result (λ r. ∥ AreRouteLinks M.link_of segments.now makers.now r.links.items ∥₁) }
-    ensures short { IfOk result (λ r. length r.links.items < 2 ^ 32) }
+    ensures links { IfOk result (λ r. ∥ AreRouteLinks M.link_of segments.now makers.now r.links.items.items ∥₁) }
+    ensures short { IfOk result (λ r. length r.links.items.items < 2 ^ 32) }
     ensures tiles { IfOk result (λ r. AreTileNumbers grid.now segments.now (tile_count grid.now) r.tiles.items) }
 {
     let whole = Share::whole(item_count(&pieces));

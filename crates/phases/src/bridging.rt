@@ -116,7 +116,7 @@ pub fn bridge<A: Allocator + Copy>(
     if links.len() > u32::MAX as usize {
         return Err(NoMemory);
     }
-    let across = counts(alloc, links.len() / 2, links)?;
+    let across = counts(alloc, links)?;
     let carried = carried_on(alloc, left, carried)?;
     Ok(Bridged { across, carried })
 }

@@ -84,6 +84,6 @@ pub fn round<A: Allocator + Copy>(
     drop(lasts);
     let links = links_between(alloc, &near, &records)?;
     drop(records);
-    let inner = counts(alloc, links.len() / 2, links)?;
+    let inner = counts(alloc, links)?;
     Ok(RoundedStrip { inner, left, right })
 }

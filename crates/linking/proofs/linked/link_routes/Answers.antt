@@ -5,7 +5,7 @@ use Rattle.linking.specs.Ends.{route_of}
 use Rattle.linking.specs.Orders.{record_order}
 use Rattle.linking.specs.Shares.{AreInner}
 use Rattle.linking.proofs.Covering.{are_covered}
-use Rattle.linking.proofs.LinkedLaws.{known_apart, known_tiles}
+use Rattle.linking.proofs.LinkedLaws.{known_apart, known_tiles, routes_moved}
 use Rattle.linking.proofs.RouteLinks.{last_linked, none_linked, own, route_known, route_linked, route_up}
 use Rattle.linking.proofs.Slices.{slice_has, slice_pairs}
 use Rattle.linking.proofs.linked.link_routes.Goals as goal
@@ -73,6 +73,12 @@ loop-number-preserved g c =
 
 pub returns : goal.returns
 returns g c =
+    let grid = c.args.grid.now in
+    let link_of = g.M.MakesLinks.link_of in
+    let segments = c.args.segments.now in
+    let makers = c.args.makers.now in
+    let records = c.args.records.now in
     let reached = c.loop-number-test.false in
-    rw c.into_counts.ensures (last_linked c.args.grid.now g.M.MakesLinks.link_of c.args.segments.now c.args.makers.now c.args.first c.args.records.now c.requires.ascending c.args.past c.loop-number.number c.loop-number.place _ _ (omega (arith, reached)) c.loop-number.invariant.2
-    (λ k d l. (c.requires.within k d l).1) c.loop-number.invariant.0)
+    routes_moved grid link_of makers _ c.of.result.items.items _ c.of.ensures segments c.args.first c.args.past records
+    (rw c.into_counts.ensures (last_linked grid link_of segments makers c.args.first records c.requires.ascending c.args.past c.loop-number.number c.loop-number.place _ _ (omega (arith, reached)) c.loop-number.invariant.2
+    (λ k d l. (c.requires.within k d l).1) c.loop-number.invariant.0))

@@ -2,12 +2,12 @@ use Rattle.std.proofs.Math.Logic.{∥∥₁_map}
 use Rattle.linking.proofs.Walk.{links_are, rounded_are}
 use Rattle.linking.proofs.made.gather_made.Goals as goal
 
-pub counts-requires : goal.counts-requires
-counts-requires g c = record { short = c.in_ok-found.ensures.short }
+pub counts_in_order-requires : goal.counts_in_order-requires
+counts_in_order-requires g c = record { short = c.in_ok-found.ensures.short }
 
 pub rounded_of-requires : goal.rounded_of-requires
 rounded_of-requires g c =
     let segments = c.args.segments.now in
-    let links = c.in_ok-found.found.links.items in
+    let links = c.in_ok-found.found.links.items.items in
     let edges = c.in_ok-edges.edges.items in
     ∥∥₁_map c.in_ok-found.ensures.links (λ r. rounded_are segments links edges (links_are segments links r c.in_ok-found.ensures.short) c.in_ok-edges.ensures)

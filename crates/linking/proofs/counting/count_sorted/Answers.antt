@@ -1,7 +1,7 @@
 use Rattle.std.proofs.Common.{sym, arith, ◌+◌, ◌<◌, ◌^◌, ◌≡◌}
 use Rattle.linking.proofs.Tally.{IsAt, IsTally, ascending_in_order, ne_apart, ne_same, IsTally-none, IsTally-next, IsTally-more, tally_small, counts_are}
-use Rattle.linking.proofs.counting.count_alone.Goals as goal
-use Rattle.linking.proofs.counting.count_alone.Goals.{then-ne+in_ok-add_counted, else-ne}
+use Rattle.linking.proofs.counting.count_sorted.Goals as goal
+use Rattle.linking.proofs.counting.count_sorted.Goals.{then-ne+in_ok-add_counted, else-ne}
 
 pub and_one-current-requires : goal.and_one-current-requires
 and_one-current-requires g c =
