@@ -1,15 +1,13 @@
 -- What is within the limit: of edges within it, some of them, their ends, and what is of layers.
 use Rattle.std.proofs.Common.{⊎_elim, ℕ, ◌-◌, List, ◌++◌, drop, subst, sym, take}
-use Rattle.std.specs.List.{All, Contains}
+use Rattle.std.specs.List.{All}
 use Rattle.std.specs.Prelude.{slice_range}
-use Rattle.std.proofs.lemmas.List.Elements.{All-contains}
 use Rattle.geom.specs.declared.point.Pt.{Pt}
 use Rattle.geom.specs.declared.edge.Edge.{Edge}
 use Rattle.geom.specs.declared.edge.Counted.{Counted}
 use Rattle.geom.specs.Limit.{AreInLimit, InLimit}
 use Rattle.geom.specs.Rounded.{edges_of}
-use Rattle.geom.proofs.Lists.{In, contains_in, in_append, in_contains, in_map, map_in}
-use Rattle.points_law.specs.Law.{AreLayers}
+use Rattle.geom.proofs.Lists.{In, contains_in, in_append, in_map, map_in}
 use Rattle.label_sweep.specs.Column.{IsStripOf}
 use Rattle.label_sweep.specs.Status.{IsVertexOf}
 use Rattle.label_sweep.proofs.Members.{all_of_in, in_drop, in_of_all, in_take}

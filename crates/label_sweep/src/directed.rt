@@ -53,6 +53,15 @@ pub fn in_order<A: Allocator>(mut edges: Vec<DirectedEdge, A>) -> Vec<DirectedEd
     edges
 }
 
+/// The same of edges in whatever order.
+pub fn sorted_once<A: Allocator + Copy>(edges: Vec<DirectedEdge, A>) -> Vec<DirectedEdge, A>
+    ensures ascending { AllPairs IsDirectedBefore result.items }
+    ensures same { (d : DirectedEdge) → Contains result.items d ↔ Contains edges.items d }
+{
+    let edges = range_sort::sorted(edges, |edge: &DirectedEdge| i64::from(edge.from.x));
+    in_order(edges)
+}
+
 /// The directed edges of the result of an operation, by a sweep over all edges.
 fn swept<A: Allocator + Copy>(
     alloc: A,

@@ -1,6 +1,6 @@
 //! The directed edges of a result along the edges of one strip of columns, for maps that are labelled strip by strip:
 //! 1. The vertices in the strip's columns are listed, from the first column in which an edge begins to the last one (`strip_vertices`).
-//! 2. The strip is swept, from the edges that come into it (`sweep`), for the directed edges, which are sorted (`in_order`).
+//! 2. The strip is swept, from the edges that come into it (`sweep`), for the directed edges, which are sorted (`sorted_once`).
 
 ghost use Rattle.std.specs.Prelude.{◌≡◌, ◌++◌, [], ◌∷◌, if◌then◌else◌, All, AllPairs, IfOk, List, OnOk, filter};
 ghost use Rattle.geom.specs.Directed.{IsDirectedBefore};
@@ -11,7 +11,7 @@ ghost use Rattle.label_sweep.specs.Column.{IsStripOf};
 ghost use Rattle.label_sweep.specs.Status.{AreVertices, IsVertexOf};
 ghost use Rattle.label_sweep.specs.StripLabels.{AreResultEdgesAlong, AreStripEdges, lies_in};
 
-use crate::directed::{directed_edges, in_order};
+use crate::directed::{directed_edges, sorted_once};
 use crate::pass::sweep;
 use crate::vertices::{each_once, ends_of};
 use geom::{Counted, DirectedEdge, NoMemory, Op, Pt};
@@ -114,5 +114,5 @@ pub fn strip_labels<A: Allocator + Copy>(
     let vertices = strip_vertices(alloc, crossing, own)?;
     let labelled = sweep(alloc, crossing, own, &vertices)?;
     let edges = directed_edges(alloc, &labelled, op)?;
-    Ok(in_order(edges))
+    Ok(sorted_once(edges))
 }

@@ -1,7 +1,7 @@
 //! The sweep in strips, each by a hand of its own:
 //! 1. The vertices are cut where a column ends, into a strip for each hand (`strips_of`).
 //! 2. A strip is swept from the edges that cross the column before it (`sweep`), for the directed edges along those that begin in it,
-//!    which are sorted (`in_order`).
+//!    which are sorted (`sorted_once`).
 //! 3. The strips' lists become one, sorted where they overlap (`merged`), and looked at once more (`in_order`).
 
 ghost use Rattle.std.specs.Prelude.{◌≡◌, ◌<◌, ◌≤◌, ◌<ℤ◌, All, AllPairs, IfOk, List, get_or, int_le, length, slice_range, take};
@@ -18,7 +18,7 @@ ghost use Rattle.label_sweep.specs.Column.{AreLeftOf, IsStrip, IsStripOf};
 ghost use Rattle.label_sweep.specs.Labels.{AreDirectedFrom};
 ghost use Rattle.label_sweep.specs.Status.{AreVertices};
 
-use crate::directed::{directed_edges, in_order};
+use crate::directed::{directed_edges, in_order, sorted_once};
 use crate::overlap::merged;
 use crate::pass::sweep;
 use crate::vertices::first_of;
@@ -116,7 +116,7 @@ pub fn strip_edges<A: Allocator + Copy>(
         &vertices[strip.from..strip.past],
     )?;
     let edges = directed_edges(alloc, &labelled, op)?;
-    Ok(in_order(edges))
+    Ok(sorted_once(edges))
 }
 
 /// The directed edges of the result of an operation, from so many strips at once.

@@ -19,6 +19,6 @@ pub returns-clause-along : goal.returns-clause-along
 returns-clause-along g c = λ all h.
     let P : List Pt → Type 0 = IsStripOf all c.args.crossing.now c.args.own.now in
     let is = subst P (sym c.deref.ensures.value) (c.in_ok-vertices.ensures.strip all h) in
-    let edges = c.in_order.result.items in
-    edges_along c.args.op all c.args.own.now c.in_ok-labelled.labelled.items (c.in_ok-labelled.ensures all is) edges c.in_order.ensures.ascending
-    (subst (λ (ds : List DirectedEdge). (d : DirectedEdge) → Contains edges d ↔ Contains ds d) (c.in_ok-edges.ensures ∙ ap (directed_of c.args.op) c.deref-2.ensures.value) c.in_order.ensures.same)
+    let edges = c.sorted_once.result.items in
+    edges_along c.args.op all c.args.own.now c.in_ok-labelled.labelled.items (c.in_ok-labelled.ensures all is) edges c.sorted_once.ensures.ascending
+    (subst (λ (ds : List DirectedEdge). (d : DirectedEdge) → Contains edges d ↔ Contains ds d) (c.in_ok-edges.ensures ∙ ap (directed_of c.args.op) c.deref-2.ensures.value) c.sorted_once.ensures.same)

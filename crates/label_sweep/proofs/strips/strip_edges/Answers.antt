@@ -22,10 +22,10 @@ returns-clause-along g c =
     let cs = c.args.counted.now in
     let own = c.edges_in-own.result in
     let is = c.edges_in-own.ensures.strip in
-    let all = c.in_order.result.items in
+    let all = c.sorted_once.result.items in
     let labelled = c.in_ok-labelled.labelled.items in
     record {
       labelled = labelled;
       labels = labels_from_vertices cs (take own.from cs) (slice_range cs own.from own.past) (slice_range c.args.vertices.now c.args.strip.from c.args.strip.past) is labelled (c.in_ok-labelled.ensures cs is);
-      along = subst (λ (ds : List DirectedEdge). (d : DirectedEdge) → Contains all d ↔ Contains ds d) (c.in_ok-edges.ensures ∙ ap (directed_of c.args.op) c.deref.ensures.value) c.in_order.ensures.same;
+      along = subst (λ (ds : List DirectedEdge). (d : DirectedEdge) → Contains all d ↔ Contains ds d) (c.in_ok-edges.ensures ∙ ap (directed_of c.args.op) c.deref.ensures.value) c.sorted_once.ensures.same;
     }
