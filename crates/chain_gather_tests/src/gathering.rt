@@ -12,6 +12,7 @@ use bumpalo::Bump;
 use chain_gather::{
     LimitedSegments, Rounded, TilePiece, Tiled, gather, gather_made, gather_made_in_parts,
 };
+use distinct::Copies;
 use geom::{Counted, NoMemory, Pt, Rect, Seg, Source};
 use grid::Grid;
 use lane_tests::Boxes;
@@ -290,10 +291,13 @@ fn gathered_made<T: Tiled + Sync, R: Threads + Sync>(
     requires covered { HaveTiles grid.now limited.list.now }
 {
     let segments = limited.list;
+    let copies = vec![in alloc; Copies::one(Source::A); segments.len()]?;
     let pieces: Vec<TilePiece<T, Global>> = pieces_of(alloc, cells, limited)?;
     match parts {
-        None => gather_made(alloc, pieces, 0, cells, grid, segments),
-        Some(parts) => { gather_made_in_parts(rt, alloc, parts, pieces, 0, cells, grid, segments) }
+        None => gather_made(alloc, pieces, 0, cells, grid, segments, &copies),
+        Some(parts) => gather_made_in_parts(
+            rt, alloc, parts, pieces, 0, cells, grid, segments, &copies,
+        ),
     }
 }
 

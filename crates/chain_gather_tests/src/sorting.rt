@@ -1,6 +1,7 @@
 //! Tests of the sort of records, and of counting links in one part and in several.
 
 use crate::gathering::{Ends, point};
+use distinct::Copies;
 use geom::{Counted, Edge, NoMemory, Source};
 use linking::{InOrder, Link, counts_in_parts, sorted};
 use routing::Record;
@@ -143,7 +144,10 @@ fn each_edge(alloc: Global, layer: Source, step: u32) -> Result<Vec<Link, Global
         let Some(edge) = Edge::between(point((x, 0)), point((x, 1))) else {
             return Err(NoMemory);
         };
-        list.push(Link { edge, layer })?;
+        list.push(Link {
+            edge,
+            copies: Copies::one(layer),
+        })?;
     }
     Ok(list)
 }
@@ -193,7 +197,7 @@ fn links_of(alloc: Global, links: &[(Ends, Source)]) -> Result<Vec<Link, Global>
         };
         list.push(Link {
             edge,
-            layer: *layer,
+            copies: Copies::one(*layer),
         })?;
     }
     Ok(list)

@@ -1,13 +1,15 @@
 -- How many items lie in each tile, counted one after another, and what these counts are.
-use Rattle.std.proofs.Common.{◌≡◌, ◌≢◌, ◌⊎◌, inl, inr, ℕ, ◌+◌, ◌*◌, ◌<◌, List, [], ◌∷◌, ◌++◌, length, get_or, take, refl, sym, ap, subst, ◌∙◌, arith, ⊎_elim, ◌↔◌}
+use Rattle.std.proofs.Common.{◌≡◌, ◌≢◌, ◌⊎◌, inl, inr, ℕ, zero, suc, ◌+◌, ◌*◌, ◌<◌, List, [], ◌∷◌, ◌++◌, length, get_or, map, take, refl, sym, ap, subst, ◌∙◌, arith, ⊎_elim, ◌↔◌}
 use Rattle.std.proofs.Math.Logic.{∥∥₁_elim, ∥∥₁_map}
 use Rattle.std.proofs.Props.{props}
 use Rattle.std.proofs.lemmas.Bool.{cases_eq, cases_lt}
-use Rattle.std.proofs.lemmas.List.{get_or-replicate, get_or-set_other, get_or-set_same, get_or-take, length-replicate, length-set, length-take, length_push}
+use Rattle.std.proofs.Math.ListN.{get_or-map}
+use Rattle.std.proofs.lemmas.List.{get_or-replicate, get_or-set_other, get_or-set_same, get_or-take, get_or_default, length-map, length-replicate, length-set, length-take}
 use Rattle.std.proofs.lemmas.List.Elements.{Contains-append_cases, Contains-append_left, Contains-append_right, Contains-get_or, Contains-push, Contains-push_cases}
 use Rattle.std.proofs.lemmas.List.Quantifiers.{all_pairs_push}
+use Rattle.std.proofs.lemmas.List.Sums.{sum_by_push}
 use Rattle.std.proofs.lemmas.Option.{get_or_from_slice_get, slice_get-get_or, slice_get_within}
-use Rattle.std.specs.Prelude.{ℤ, pos, negsuc, All, AllPairs, Contains, Some, replicate, slice_get, slice_set}
+use Rattle.std.specs.Prelude.{ℤ, pos, negsuc, All, AllPairs, Contains, Some, replicate, slice_get, slice_set, sum_by}
 use Rattle.geom.specs.declared.point.Pt.{Pt}
 use Rattle.geom.specs.declared.segment.Seg.{Seg}
 use Rattle.geom.specs.Hot.{IsHot}
@@ -21,19 +23,19 @@ use Rattle.hot_region.proofs.ListLaws.{head_pair, here as first, in_cons, in_pus
 use Rattle.routing.specs.declared.record.Record.{Record}
 use Rattle.routing.specs.Pieces.{IsPartOf, IsPieceOf, IsRecord}
 use Rattle.linking.specs.Ends.{ends_from}
-use Rattle.linking.specs.Gathered.{AreTileNumbers, HasInnerBelow, HasPartsBelow}
-use Rattle.linking.specs.Links.{AreRecords, HasRecords}
-use Rattle.linking.specs.Numbers.{AreNumbersOf, ArePaired, AreTileCounts, CountsOne, IsCountOf}
+use Rattle.linking.specs.Gathered.{AreTileNumbers, AreTileNumbersBy, HasInnerBelow, HasPartsBelow}
+use Rattle.linking.specs.Links.{AreRecords, HasRecords, times_at}
+use Rattle.linking.specs.Numbers.{AreNumbersOf, ArePaired, AreTileCounts, CountsMore, IsCountOf}
 use Rattle.linking.specs.Shares.{AreInner}
 use Rattle.linking.specs.declared.rounded.TileNumbers.{TileNumbers}
 use Rattle.linking.proofs.EndLaws.{tiles_and_ends}
 use Rattle.linking.proofs.Gathering.{AreCovered, owner_below}
 use Rattle.linking.proofs.Ordering.{piece_of}
-use Rattle.linking.proofs.Parts.{IsPart, distinct_from}
+use Rattle.linking.proofs.Parts.{IsPart, distinct_from, sum_of_ones}
 
 -- ---- one item after another
-module _ {X : Type 0} (g : Tiling) (pixel_of : X → Pt) (xs : List X) where
-  pub counted_none : (counts : List ℕ) → counts ≡ replicate (tile_count g) 0 → AreTileCounts g pixel_of (take 0 xs) counts
+module _ {X : Type 0} (g : Tiling) (pixel_of : X → Pt) (weight : X → ℕ) (xs : List X) where
+  pub counted_none : (counts : List ℕ) → counts ≡ replicate (tile_count g) 0 → AreTileCounts g pixel_of weight (take 0 xs) counts
   counted_none counts e = record {
     one_each = ap length e ∙ length-replicate (tile_count g) 0;
     each = λ k m at. record { those = []; once = λ i j d a b. absurd (omega (arith, b)); exact = λ x. ((λ h. absurd (none_in x h)), (λ h. absurd (none_in x h.0))); number_is = zero_at k m at };
@@ -57,7 +59,7 @@ module _ {X : Type 0} (g : Tiling) (pixel_of : X → Pt) (xs : List X) where
         same_default : get_or xs i x ≡ get_or xs i y
         same_default = some_same (slice_get-get_or xs i x within) (slice_get-get_or xs i y within)
 
-    here : (old : ℕ) → IsCountOf (take i xs) (λ y. Owns g k (pixel_of y)) old → IsCountOf (take (i + 1) xs) (λ y. Owns g k (pixel_of y)) (old + 1)
+    here : (old : ℕ) → IsCountOf weight (take i xs) (λ y. Owns g k (pixel_of y)) old → IsCountOf weight (take (i + 1) xs) (λ y. Owns g k (pixel_of y)) (old + weight x)
     here old h = record {
       those = h.those ++ x ∷ [];
       once = all_pairs_push (λ y z. y ≢ z) h.those x h.once (λ m d l. fresh (get_or h.those m d) ((h.exact (get_or h.those m d)).0 (Contains-get_or h.those m d l)).0);
@@ -65,10 +67,10 @@ module _ {X : Type 0} (g : Tiling) (pixel_of : X → Pt) (xs : List X) where
         (λ c. ⊎_elim (λ m. let a = (h.exact y).0 m in ((in_take_more xs i x within is y).1 (inl a.0), a.1)) (λ e. ((in_take_more xs i x within is y).1 (inr e), subst (λ (z : X). Owns g k (pixel_of z)) e owner)) (Contains-push_cases h.those x y c)),
         (λ c. ⊎_elim (λ m. in_push h.those y x ((h.exact y).1 (m, c.1))) (λ e. subst (λ (z : X). Contains (h.those ++ x ∷ []) z) e (Contains-push h.those x)) ((in_take_more xs i x within is y).0 c.0)),
       );
-      number_is = let a = h.number_is in let b = length_push h.those x in omega (arith, a, b);
+      number_is = let a = h.number_is in let b = sum_by_push weight h.those x in omega (arith, a, b);
     }
 
-    elsewhere : (j n : ℕ) → ¬ (j ≡ k) → IsCountOf (take i xs) (λ y. Owns g j (pixel_of y)) n → IsCountOf (take (i + 1) xs) (λ y. Owns g j (pixel_of y)) n
+    elsewhere : (j n : ℕ) → ¬ (j ≡ k) → IsCountOf weight (take i xs) (λ y. Owns g j (pixel_of y)) n → IsCountOf weight (take (i + 1) xs) (λ y. Owns g j (pixel_of y)) n
     elsewhere j n other h = record {
       those = h.those;
       once = h.once;
@@ -79,12 +81,12 @@ module _ {X : Type 0} (g : Tiling) (pixel_of : X → Pt) (xs : List X) where
       number_is = h.number_is;
     }
 
-    pub counted_more : (counts : List ℕ) (old new : ℕ) → AreTileCounts g pixel_of (take i xs) counts → slice_get counts k ≡ Some old → new ≡ old + 1 → AreTileCounts g pixel_of (take (i + 1) xs) (slice_set counts k new)
+    pub counted_more : (counts : List ℕ) (old new : ℕ) → AreTileCounts g pixel_of weight (take i xs) counts → slice_get counts k ≡ Some old → new ≡ old + weight x → AreTileCounts g pixel_of weight (take (i + 1) xs) (slice_set counts k new)
     counted_more counts old new h at e = record {
       one_each = length-set counts k new ∙ h.one_each;
       each = λ j n got. elim (cases_eq j k) [
-        | inl same ↦ subst (λ (t : ℕ). IsCountOf (take (i + 1) xs) (λ y. Owns g t (pixel_of y)) n) (sym same)
-            (subst (λ (t : ℕ). IsCountOf (take (i + 1) xs) (λ y. Owns g k (pixel_of y)) t) (sym e ∙ set_here n (subst (λ (t : ℕ). slice_get (slice_set counts k new) t ≡ Some n) same got)) (here old (h.each k old at)))
+        | inl same ↦ subst (λ (t : ℕ). IsCountOf weight (take (i + 1) xs) (λ y. Owns g t (pixel_of y)) n) (sym same)
+            (subst (λ (t : ℕ). IsCountOf weight (take (i + 1) xs) (λ y. Owns g k (pixel_of y)) t) (sym e ∙ set_here n (subst (λ (t : ℕ). slice_get (slice_set counts k new) t ≡ Some n) same got)) (here old (h.each k old at)))
         | inr other ↦ elsewhere j n other (h.each j n (set_there j n other got))
       ];
     }
@@ -102,14 +104,15 @@ module _ {X : Type 0} (g : Tiling) (pixel_of : X → Pt) (xs : List X) where
             let m : get_or counts j n ≡ n = sym (get_or-set_other counts k j new n other) ∙ get_or_from_slice_get (slice_set counts k new) j n n got in
             slice_get-get_or counts j n (omega (arith, w, s)) ∙ ap Some m
 
--- the same, of the tile that has one more
-pub counted_one : {X : Type 0} (g : Tiling) (pixel_of : X → Pt) (xs : List X) (i : ℕ) (x : X) → i < length xs → x ≡ get_or xs i x → AllPairs (λ x y. x ≢ y) xs → (counts more : List ℕ) → CountsOne g (pixel_of x) counts more
-    → AreTileCounts g pixel_of (take i xs) counts → AreTileCounts g pixel_of (take (i + 1) xs) more
-counted_one g pixel_of xs i x within is once counts more h k = subst (λ (ns : List ℕ). AreTileCounts g pixel_of (take (i + 1) xs) ns) (sym h.new_is) (counted_more g pixel_of xs i h.tile x within is once h.owner counts h.count (h.count + 1) k h.is_at refl)
+-- the same, of the tile that has so many more
+pub counted_one : {X : Type 0} (g : Tiling) (pixel_of : X → Pt) (weight : X → ℕ) (xs : List X) (i : ℕ) (x : X) → i < length xs → x ≡ get_or xs i x → AllPairs (λ x y. x ≢ y) xs → (counts more : List ℕ) (times : ℕ) → times ≡ weight x → CountsMore g (pixel_of x) times counts more
+    → AreTileCounts g pixel_of weight (take i xs) counts → AreTileCounts g pixel_of weight (take (i + 1) xs) more
+counted_one g pixel_of weight xs i x within is once counts more times same h k =
+    subst (λ (ns : List ℕ). AreTileCounts g pixel_of weight (take (i + 1) xs) ns) (sym h.new_is) (counted_more g pixel_of weight xs i h.tile x within is once h.owner counts h.count (h.count + times) k h.is_at (ap (λ (n : ℕ). h.count + n) same))
 
 -- ---- both counts
-pub paired_are : (g : Tiling) (pixels : List Pt) (records : List Record) (hot found : List ℕ) (tiles : List TileNumbers) → AreTileCounts g (λ p. p) pixels hot → AreTileCounts g (λ r. r.pixel) records found → ArePaired hot found tiles → AreNumbersOf g pixels records tiles
-paired_are g pixels records hot found tiles h k p = record {
+pub paired_are : (g : Tiling) (pixels : List Pt) (weight : Record → ℕ) (records : List Record) (hot found : List ℕ) (tiles : List TileNumbers) → AreTileCounts g (λ p. p) (λ p. 1) pixels hot → AreTileCounts g (λ r. r.pixel) weight records found → ArePaired hot found tiles → AreNumbersOf g pixels weight records tiles
+paired_are g pixels weight records hot found tiles h k p = record {
   one_each = p.one_each ∙ h.one_each;
   each = λ j n at. let a = p.each j n at in (h.each j n.hot a.0, k.each j n.records a.1);
 }
@@ -169,25 +172,51 @@ parts_more g segments k pixels more_pixels records more_records h p = record { o
     once : AllPairs (λ c e. c ≢ e) (pixels ++ more_pixels)
     once = pairs_append (λ c e. c ≢ e) pixels more_pixels h.once (λ i j d a b e. before_itself (get_or more_pixels i d) (subst (λ (q : Pt). IsBefore (get_or more_pixels i d) q) (sym e) (p.are_hot.ascending i j d a b))) apart
 
--- ---- the numbers of the tiles of a grid
-module _ (g : Tiling) (segments : List Seg) (pixels : List Pt) (records : List Record) (hot : (p : Pt) → Contains pixels p ↔ IsHot segments p) (are : AreRecords segments records) where
-  pub numbers_are : (tiles : List TileNumbers) → AreNumbersOf g pixels records tiles → AreTileNumbers g segments (tile_count g) tiles
-  numbers_are tiles h = record { one_each = h.one_each; each = λ k n at. ∣ told k n (h.each k n at) ∣₁ }
-    where
-      part : {X : Type 0} (Is Owned : X → Type 0) (xs : List X) (n : ℕ) → ((x : X) → Contains xs x ↔ Is x) → IsCountOf xs Owned n → IsPart Is Owned n
-      part Is Owned xs n exact c = record {
-        those = c.those;
-        distinct = distinct_from (λ x y. x ≢ y) c.those c.once (λ x i no. no refl);
-        is = λ x i. (exact x).0 ((c.exact x).0 (in_contains c.those x i)).0;
-        owned = λ x i. ((c.exact x).0 (in_contains c.those x i)).1;
-        all = λ x i o. contains_in c.those x ((c.exact x).1 ((exact x).1 i, o));
-        number_is = c.number_is;
-      }
+-- ---- how often the records of a segment count
+pub times_at_is : {M : Type 0} (times_of : M → ℕ) (makers : List M) (k : ℕ) (maker : M) → slice_get makers k ≡ Some maker → times_at times_of makers k ≡ times_of maker
+times_at_is times_of makers k maker at =
+    get_or_default (map times_of makers) k 0 (times_of maker) (rw (length-map makers times_of) (slice_get_within makers k maker at)) ∙ get_or-map times_of makers k maker ∙ ap times_of (get_or_from_slice_get makers k maker maker at)
 
-      told : (k : ℕ) (n : TileNumbers) → IsCountOf pixels (Owns g k) n.hot × IsCountOf records (λ r. Owns g k r.pixel) n.records → (list : List Record) × IsPieceOf (Owns g k) segments n.hot list × (n.records ≡ length list)
-      told k n (a, b) =
-          let p = piece_of segments (Owns g k) n.hot n.records (part (IsHot segments) (Owns g k) pixels n.hot hot a) (part (IsRecord segments) (λ r. Owns g k r.pixel) records n.records are.exact b) in
-          (p.records, p.is_piece, p.count_is)
+module _ {M : Type 0} (times_of : M → ℕ) (one : (maker : M) → times_of maker ≡ 1) where
+  times_one : (makers : List M) (k : ℕ) → k < length makers → times_at times_of makers k ≡ 1
+  times_one [] k l = absurd (omega arith)
+  times_one (maker ∷ makers) zero l = one maker
+  times_one (maker ∷ makers) (suc k) l = times_one makers k (omega arith)
+
+  -- where each counts once
+  pub numbers_once : (g : Tiling) (segments : List Seg) (makers : List M) (limit : ℕ) (tiles : List TileNumbers) → length makers ≡ length segments → AreTileNumbersBy times_of g segments makers limit tiles → AreTileNumbers g segments limit tiles
+  numbers_once g segments makers limit tiles size h = record { one_each = h.one_each; each = λ k n at. ∥∥₁_elim (h.each k n at) (hlevel props) (λ (records, piece, is). ∣ (records, piece, is ∙ lone k n.hot records piece) ∣₁) }
+    where
+      lone : (k hot : ℕ) (records : List Record) → IsPieceOf (Owns g k) segments hot records → sum_by (λ r. times_at times_of makers r.segment) records ≡ length records
+      lone k hot records piece = sum_of_ones (λ r. times_at times_of makers r.segment) records (λ r i.
+          let is = ((piece.exact r).0 (in_contains records r i)).0 in
+          let l = slice_get_within segments r.segment is.s is.is_at in
+          times_one makers r.segment (omega (arith, size, l)))
+
+-- ---- the numbers of the tiles of a grid
+module _ {M : Type 0} (times_of : M → ℕ) (makers : List M) where
+  abbrev weight_of : Record → ℕ
+  weight_of r = times_at times_of makers r.segment
+
+  module _ (g : Tiling) (segments : List Seg) (pixels : List Pt) (records : List Record) (hot : (p : Pt) → Contains pixels p ↔ IsHot segments p) (are : AreRecords segments records) where
+    pub numbers_are : (tiles : List TileNumbers) → AreNumbersOf g pixels (λ r. times_at times_of makers r.segment) records tiles → AreTileNumbersBy times_of g segments makers (tile_count g) tiles
+    numbers_are tiles h = record { one_each = h.one_each; each = λ k n at. ∣ told k n (h.each k n at) ∣₁ }
+      where
+        part : {X : Type 0} (weight : X → ℕ) (Is Owned : X → Type 0) (xs : List X) (n : ℕ) → ((x : X) → Contains xs x ↔ Is x) → (c : IsCountOf weight xs Owned n) → IsPart Is Owned (length c.those)
+        part weight Is Owned xs n exact c = record {
+          those = c.those;
+          distinct = distinct_from (λ x y. x ≢ y) c.those c.once (λ x i no. no refl);
+          is = λ x i. (exact x).0 ((c.exact x).0 (in_contains c.those x i)).0;
+          owned = λ x i. ((c.exact x).0 (in_contains c.those x i)).1;
+          all = λ x i o. contains_in c.those x ((c.exact x).1 ((exact x).1 i, o));
+          number_is = refl;
+        }
+
+        told : (k : ℕ) (n : TileNumbers) → IsCountOf (λ p. 1) pixels (Owns g k) n.hot × IsCountOf weight_of records (λ r. Owns g k r.pixel) n.records → (list : List Record) × IsPieceOf (Owns g k) segments n.hot list × (n.records ≡ sum_by (λ r. times_at times_of makers r.segment) list)
+        told k n (a, b) =
+            let hot_is : length a.those ≡ n.hot = sym (a.number_is ∙ sum_of_ones (λ p. 1) a.those (λ p i. refl)) in
+            let p = piece_of segments (Owns g k) (length a.those) (length b.those) (part (λ p. 1) (IsHot segments) (Owns g k) pixels n.hot hot a) (part weight_of (IsRecord segments) (λ r. Owns g k r.pixel) records n.records are.exact b) in
+            (p.records, subst (λ (m : ℕ). IsPieceOf (Owns g k) segments m p.records) hot_is p.is_piece, b.number_is ∙ p.sum_is weight_of)
 
 -- ---- what is known of the pieces' items, though not of which pieces
 column_of : (z : ℤ) → ((n : ℕ) × (z ≡ pos n)) ⊎ ((n : ℕ) → z ≡ pos n → ⊥)
@@ -237,8 +266,8 @@ module _ (f g : Tiling) (segments : List Seg) (pixels : List Pt) (found : List R
     pub all_records : ∥ AreRecords segments records ∥₁
     all_records = ∥∥₁_map all records_are
 
-    pub all_numbers : (ps : List Pt) (rs : List Record) (told : List TileNumbers) → ps ≡ pixels → rs ≡ records → AreNumbersOf g ps rs told → AreTileNumbers g segments (tile_count g) told
-    all_numbers ps rs told d e h = let n = subst (λ (x : List Pt × List Record). AreNumbersOf g x.0 x.1 told) (λ i. (d i, e i)) h in record {
+    pub all_numbers : {M : Type 0} (times_of : M → ℕ) (makers : List M) (ps : List Pt) (rs : List Record) (told : List TileNumbers) → ps ≡ pixels → rs ≡ records → AreNumbersOf g ps (λ r. times_at times_of makers r.segment) rs told → AreTileNumbersBy times_of g segments makers (tile_count g) told
+    all_numbers times_of makers ps rs told d e h = let n = subst (λ (x : List Pt × List Record). AreNumbersOf g x.0 (λ r. times_at times_of makers r.segment) x.1 told) (λ i. (d i, e i)) h in record {
       one_each = n.one_each;
-      each = λ k m at. ∥∥₁_elim all (hlevel props) (λ a. (numbers_are g segments pixels records (hot_are a) (records_are a) told n).each k m at);
+      each = λ k m at. ∥∥₁_elim all (hlevel props) (λ a. (numbers_are times_of makers g segments pixels records (hot_are a) (records_are a) told n).each k m at);
     }

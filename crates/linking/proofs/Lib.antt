@@ -1,4 +1,6 @@
 pub mod Flat
+pub mod Weighed
+pub mod CopyLinks
 pub mod Walk
 pub mod Tally
 pub mod LinkParts
@@ -19,3 +21,4 @@ pub mod ShareLaws
 pub mod SortedLaws
 pub mod OddParts
 pub mod BorderLaws
+pub mod CopyNumbers

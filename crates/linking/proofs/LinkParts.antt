@@ -1,5 +1,5 @@
 -- Links that are sorted: their parts, and the counts of these behind one another.
-use Rattle.std.proofs.Common.{◌≡◌, inl, inr, ℕ, zero, suc, ◌+◌, ◌<◌, List, ◌++◌, cond, refl, sym, ◌∙◌, arith, subst, ⊎_elim}
+use Rattle.std.proofs.Common.{◌≡◌, inl, inr, ℕ, zero, suc, ◌+◌, ◌<◌, List, ◌++◌, refl, sym, ◌∙◌, arith, subst, ⊎_elim}
 use Rattle.std.proofs.lemmas.Int.{ints}
 use Rattle.std.specs.Prelude.{◌<ℤ◌, Contains, None, flat_map}
 use Rattle.std.specs.List.{AllZip}
@@ -17,7 +17,7 @@ use Rattle.geom.specs.declared.edge.Counted.{Counted}
 use Rattle.geom.specs.Rounded.{IsEdgeBefore}
 use Rattle.geom.proofs.Orders.{edge_before_itself}
 use Rattle.linking.specs.declared.link.Link.{Link}
-use Rattle.linking.specs.Links.{AreCounts, AreInOrder, GoBefore, count_links, is_of}
+use Rattle.linking.specs.Links.{AreCounts, AreInOrder, GoBefore, copies_of, count_links}
 use Rattle.linking.specs.Orders.{link_order}
 use Rattle.linking.specs.Shares.{AreKeysBelow, AreSharesFrom, column_of}
 use Rattle.linking.specs.Spans.{within}
@@ -43,7 +43,7 @@ module _ (front back : List Link) (cs ds : List Counted) (parted : GoBefore fron
   total links e = count_links e A links + count_links e B links
 
   both : (e : Edge) (layer : Source) → count_links e layer (front ++ back) ≡ count_links e layer front + count_links e layer back
-  both e layer = sum_by-append (λ m. cond (is_of e layer m) 1 0) front back
+  both e layer = sum_by-append (copies_of e layer) front back
 
   -- no edge has links in both parts
   in_one : (e : Edge) → 0 < total front e → 0 < total back e → ⊥
@@ -112,7 +112,7 @@ counts_moved links sorted cs moved h = record {
 }
   where
     same : (e : Edge) (layer : Source) → count_links e layer links ≡ count_links e layer sorted
-    same e layer = sym (sum_by-IsPermutation (λ m. cond (is_of e layer m) 1 0) links sorted moved)
+    same e layer = sym (sum_by-IsPermutation (copies_of e layer) links sorted moved)
 
 -- the counts of shares, one behind another
 module _ {V : Type 0} (counts_of : V → List Counted) where

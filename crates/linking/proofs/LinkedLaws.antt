@@ -21,7 +21,7 @@ use Rattle.hot_region.proofs.ListLaws.{none_in, tail_pairs}
 use Rattle.routing.specs.declared.record.Record.{Record}
 use Rattle.routing.specs.Pieces.{IsRecord}
 use Rattle.routing.proofs.RecordOrder.{record_total}
-use Rattle.linking.specs.Links.{AreApart, AreNeighbourLinks, ChangesSegment}
+use Rattle.linking.specs.Links.{AreApart, AreNeighbourLinks, ChangesSegment, times_at}
 use Rattle.linking.specs.Numbers.{AreTileCounts, IsCountOf}
 use Rattle.linking.specs.declared.span.Share.{Share}
 use Rattle.linking.specs.Orders.{record_order}
@@ -34,8 +34,8 @@ use Rattle.linking.proofs.RecordParts.{neighbour_links_append, pairs_across, pai
 use Rattle.linking.proofs.ShareLaws.{all_shared, first_apart, ordered_append, ordered_one, zip_all, zip_append, zip_mapped, zip_weaker}
 
 -- ---- counts of two lists that share no item
-module _ {X : Type 0} (xs ys : List X) (apart : (x y : X) → Contains xs x → Contains ys y → x ≢ y) where
-  pub count_append : (P : X → Type 0) (m n : ℕ) → IsCountOf xs P m → IsCountOf ys P n → IsCountOf (xs ++ ys) P (m + n)
+module _ {X : Type 0} (weight : X → ℕ) (xs ys : List X) (apart : (x y : X) → Contains xs x → Contains ys y → x ≢ y) where
+  pub count_append : (P : X → Type 0) (m n : ℕ) → IsCountOf weight xs P m → IsCountOf weight ys P n → IsCountOf weight (xs ++ ys) P (m + n)
   count_append P m n h k = record {
     those = h.those ++ k.those;
     once = pairs_append (λ x y. x ≢ y) h.those k.those h.once k.once (λ x y a b. apart x y ((h.exact x).0 a).0 ((k.exact y).0 b).0);
@@ -47,15 +47,15 @@ module _ {X : Type 0} (xs ys : List X) (apart : (x y : X) → Contains xs x → 
           (λ i. Contains-append_left h.those k.those x ((h.exact x).1 (i, c.1)))
           (λ i. Contains-append_right h.those k.those x ((k.exact x).1 (i, c.1))) (Contains-append_cases xs ys x c.0)),
     );
-    number_is = let l = length-append h.those k.those in let a = h.number_is in let b = k.number_is in omega (arith, l, a, b);
+    number_is = let l = sum_by-append weight h.those k.those in let a = h.number_is in let b = k.number_is in omega (arith, l, a, b);
   }
 
 -- ---- the counts of lists that share no item, added
-module _ {S X : Type 0} (g : Tiling) (pixel_of : X → Pt) (items_of : S → List X) where
+module _ {S X : Type 0} (g : Tiling) (pixel_of : X → Pt) (weight : X → ℕ) (items_of : S → List X) where
   abbrev pub AreCounted : List S → List (List ℕ) → Type 0
-  AreCounted shares lists = AllZip (λ s counts. AreTileCounts g pixel_of (items_of s) counts) shares lists
+  AreCounted shares lists = AllZip (λ s counts. AreTileCounts g pixel_of weight (items_of s) counts) shares lists
 
-  each_sum : (k : ℕ) → k < tile_count g → (shares : List S) (lists : List (List ℕ)) → AllPairs (λ x y. x ≢ y) (flat_map items_of shares) → AreCounted shares lists → IsCountOf (flat_map items_of shares) (λ x. Owns g k (pixel_of x)) (sum_by (λ counts. get_or counts k 0) lists)
+  each_sum : (k : ℕ) → k < tile_count g → (shares : List S) (lists : List (List ℕ)) → AllPairs (λ x y. x ≢ y) (flat_map items_of shares) → AreCounted shares lists → IsCountOf weight (flat_map items_of shares) (λ x. Owns g k (pixel_of x)) (sum_by (λ counts. get_or counts k 0) lists)
   each_sum k l [] [] once zip = record { those = []; once = once; exact = λ x. (λ h. absurd (none_in x h), λ h. absurd (none_in x h.0)); number_is = refl }
   each_sum k l [] (c ∷ cs) once zip = absurd zip
   each_sum k l (s ∷ ss) [] once zip = absurd zip
@@ -63,17 +63,17 @@ module _ {S X : Type 0} (g : Tiling) (pixel_of : X → Pt) (items_of : S → Lis
       let size = zip.0.one_each in
       let front = zip.0.each k (get_or c k 0) (slice_get-get_or c k 0 (omega (arith, l, size))) in
       let back = each_sum k l ss cs (pairs_back (λ x y. x ≢ y) (items_of s) (flat_map items_of ss) once) zip.1 in
-      subst (λ (n : ℕ). IsCountOf (items_of s ++ flat_map items_of ss) (λ x. Owns g k (pixel_of x)) n) (sym (sum_by-cons (λ counts. get_or counts k 0) c cs))
-      (count_append (items_of s) (flat_map items_of ss) (pairs_across (λ x y. x ≢ y) (items_of s) (flat_map items_of ss) once) (λ x. Owns g k (pixel_of x)) (get_or c k 0) (sum_by (λ counts. get_or counts k 0) cs) front back)
+      subst (λ (n : ℕ). IsCountOf weight (items_of s ++ flat_map items_of ss) (λ x. Owns g k (pixel_of x)) n) (sym (sum_by-cons (λ counts. get_or counts k 0) c cs))
+      (count_append weight (items_of s) (flat_map items_of ss) (pairs_across (λ x y. x ≢ y) (items_of s) (flat_map items_of ss) once) (λ x. Owns g k (pixel_of x)) (get_or c k 0) (sum_by (λ counts. get_or counts k 0) cs) front back)
 
-  pub sums_are : (shares : List S) (lists : List (List ℕ)) (sums : List ℕ) → AllPairs (λ x y. x ≢ y) (flat_map items_of shares) → AreCounted shares lists → AreSums (tile_count g) lists sums → AreTileCounts g pixel_of (flat_map items_of shares) sums
+  pub sums_are : (shares : List S) (lists : List (List ℕ)) (sums : List ℕ) → AllPairs (λ x y. x ≢ y) (flat_map items_of shares) → AreCounted shares lists → AreSums (tile_count g) lists sums → AreTileCounts g pixel_of weight (flat_map items_of shares) sums
   sums_are shares lists sums once zip h = record {
     one_each = h.one_each;
     each = λ k n at.
         let w = slice_get_within sums k n at in
         let size = h.one_each in
         let l : k < tile_count g = omega (arith, w, size) in
-        subst (λ (m : ℕ). IsCountOf (flat_map items_of shares) (λ x. Owns g k (pixel_of x)) m) (sym (h.each k l) ∙ get_or_from_slice_get sums k n 0 at) (each_sum k l shares lists once zip);
+        subst (λ (m : ℕ). IsCountOf weight (flat_map items_of shares) (λ x. Owns g k (pixel_of x)) m) (sym (h.each k l) ∙ get_or_from_slice_get sums k n 0 at) (each_sum k l shares lists once zip);
   }
 
 -- what lists have, taken out of them
@@ -112,8 +112,8 @@ links_append link_of makers (r ∷ rs) back links rest apart f b = neighbour_lin
         omega (arith, ints, below, same)
 
 -- ---- links in another order
-module _ {M L : Type 0} (g : Tiling) (link_of : M → Edge → L) (makers : List M) (links sorted : List L) (counts : List ℕ) (moved : IsPermutation links sorted) where
-  linked_moved : (records : List Record) → AreLinked g link_of makers records links counts → AreLinked g link_of makers records sorted counts
+module _ {M L : Type 0} (g : Tiling) (link_of : M → Edge → L) (times_of : M → ℕ) (makers : List M) (links sorted : List L) (counts : List ℕ) (moved : IsPermutation links sorted) where
+  linked_moved : (records : List Record) → AreLinked g link_of times_of makers records links counts → AreLinked g link_of times_of makers records sorted counts
   linked_moved records h = record {
     links_are = record {
       few = let n = length_permutation links sorted moved in let f = h.links_are.few in omega (arith, n, f);
@@ -122,7 +122,7 @@ module _ {M L : Type 0} (g : Tiling) (link_of : M → Edge → L) (makers : List
     counts_are = h.counts_are;
   }
 
-  pub routes_moved : (segments : List Seg) (first past : ℕ) (inner : List Record) → HasRoutes g link_of segments makers first past inner links counts → HasRoutes g link_of segments makers first past inner sorted counts
+  pub routes_moved : (segments : List Seg) (first past : ℕ) (inner : List Record) → HasRoutes g link_of times_of segments makers first past inner links counts → HasRoutes g link_of times_of segments makers first past inner sorted counts
   routes_moved segments first past inner h = record { records = h.records; ascending = h.ascending; has = h.has; linked = linked_moved h.records h.linked }
 
 -- ---- links of shares, one behind another
@@ -141,54 +141,54 @@ records_differ records up i j d a b e = never_itself (get_or records j d) (subst
     never_itself r l = let o : record_order r r ≡ Equal = tied_itself record_total r in absurd (cc)
 
 -- what was found in shares of records
-module _ {K V M L : Type 0} (g : Tiling) (link_of : M → Edge → L) (makers : List M) (items_of : K → List Record) (links_of : V → List L) (counts_of : V → List ℕ) (shares : List K) (vs : List V)
-    (zip : AllZip (λ s v. AreLinked g link_of makers (items_of s) (links_of v) (counts_of v)) shares vs) where
-  counted : AllZip (λ s counts. AreTileCounts g (λ r. r.pixel) (items_of s) counts) shares (map counts_of vs)
-  counted = zip_mapped (λ s counts. AreTileCounts g (λ r. r.pixel) (items_of s) counts) counts_of shares vs (zip_weaker _ _ (λ s v h. h.counts_are) shares vs zip)
+module _ {K V M L : Type 0} (g : Tiling) (link_of : M → Edge → L) (times_of : M → ℕ) (makers : List M) (items_of : K → List Record) (links_of : V → List L) (counts_of : V → List ℕ) (shares : List K) (vs : List V)
+    (zip : AllZip (λ s v. AreLinked g link_of times_of makers (items_of s) (links_of v) (counts_of v)) shares vs) where
+  counted : AllZip (λ s counts. AreTileCounts g (λ r. r.pixel) (λ r. times_at times_of makers r.segment) (items_of s) counts) shares (map counts_of vs)
+  counted = zip_mapped (λ s counts. AreTileCounts g (λ r. r.pixel) (λ r. times_at times_of makers r.segment) (items_of s) counts) counts_of shares vs (zip_weaker _ _ (λ s v h. h.counts_are) shares vs zip)
 
   pub same_sizes : All (λ counts. length counts ≡ tile_count g) (map counts_of vs)
   same_sizes = zip_all (λ counts. length counts ≡ tile_count g) shares (map counts_of vs) (zip_weaker _ _ (λ s counts h. h.one_each) shares (map counts_of vs) counted)
 
   pub all_linked : (links : List L) (sums : List ℕ) → AllPairs (λ s t. AreKeysBelow segment_of (items_of s) (items_of t)) shares → AllPairs (λ r q. r ≢ q) (flat_map items_of shares)
-      → links ≡ flat_map links_of vs → AreSums (tile_count g) (map counts_of vs) sums → AreLinked g link_of makers (flat_map items_of shares) links sums
+      → links ≡ flat_map links_of vs → AreSums (tile_count g) (map counts_of vs) sums → AreLinked g link_of times_of makers (flat_map items_of shares) links sums
   all_linked links sums up once are h = record {
     links_are = subst (λ (ls : List L). AreNeighbourLinks link_of makers (flat_map items_of shares) ls) (sym are) (all_links link_of makers items_of links_of shares vs up (zip_weaker _ _ (λ s v h. h.links_are) shares vs zip));
-    counts_are = sums_are g (λ r. r.pixel) items_of shares (map counts_of vs) sums once counted h;
+    counts_are = sums_are g (λ r. r.pixel) (λ r. times_at times_of makers r.segment) items_of shares (map counts_of vs) sums once counted h;
   }
 
 -- ---- what was found in shares of all records
 -- so many lists of these, in order, of which each is linked
-pub record AreLinkedInShares {V M L : Type 0} (g : Tiling) (link_of : M → Edge → L) (makers : List M) (links_of : V → List L) (counts_of : V → List ℕ) (found : List Record) (vs : List V) : Type 0 where
+pub record AreLinkedInShares {V M L : Type 0} (g : Tiling) (link_of : M → Edge → L) (times_of : M → ℕ) (makers : List M) (links_of : V → List L) (counts_of : V → List ℕ) (found : List Record) (vs : List V) : Type 0 where
   pub lists : List (List Record)
   pub ordered : AreOrdered (λ l. l) found lists
-  pub zip : AllZip (λ l v. AreLinked g link_of makers l (links_of v) (counts_of v)) lists vs
+  pub zip : AllZip (λ l v. AreLinked g link_of times_of makers l (links_of v) (counts_of v)) lists vs
 
-module _ {V M L : Type 0} (g : Tiling) (link_of : M → Edge → L) (makers : List M) (links_of : V → List L) (counts_of : V → List ℕ) where
+module _ {V M L : Type 0} (g : Tiling) (link_of : M → Edge → L) (times_of : M → ℕ) (makers : List M) (links_of : V → List L) (counts_of : V → List ℕ) where
   abbrev InShares : List Record → List V → Type 0
-  InShares found vs = AreLinkedInShares g link_of makers links_of counts_of found vs
+  InShares found vs = AreLinkedInShares g link_of times_of makers links_of counts_of found vs
 
-  one_share : (found : List Record) (v : V) → HasLinked g link_of makers found (links_of v) (counts_of v) → InShares found (v ∷ [])
+  one_share : (found : List Record) (v : V) → HasLinked g link_of times_of makers found (links_of v) (counts_of v) → InShares found (v ∷ [])
   one_share found v h = record { lists = h.records ∷ []; ordered = ordered_one (λ l. l) h.records found h.once; zip = (h.linked, tt) }
 
   shares_append : (found low high : List Record) (front back : List V) → IsPermutation found (low ++ high) → AreKeysBelow segment_of low high → InShares low front → InShares high back → InShares found (front ++ back)
   shares_append found low high front back moved apart f b = record {
     lists = f.lists ++ b.lists;
     ordered = ordered_append (λ l. l) found low high f.lists b.lists moved apart f.ordered b.ordered;
-    zip = zip_append (λ l v. AreLinked g link_of makers l (links_of v) (counts_of v)) f.lists b.lists front back f.zip b.zip;
+    zip = zip_append (λ l v. AreLinked g link_of times_of makers l (links_of v) (counts_of v)) f.lists b.lists front back f.zip b.zip;
   }
 
-  pub shares_linked : (found : List Record) (shares : List Share) (vs : List V) → AreSharesFrom None shares → AllZip (λ s v. HasLinked g link_of makers (within segment_of s.span found) (links_of v) (counts_of v)) shares vs → InShares found vs
+  pub shares_linked : (found : List Record) (shares : List Share) (vs : List V) → AreSharesFrom None shares → AllZip (λ s v. HasLinked g link_of times_of makers (within segment_of s.span found) (links_of v) (counts_of v)) shares vs → InShares found vs
   shares_linked found shares vs all zip = all_shared segment_of InShares shares_append found shares vs all (zip_weaker _ _ (λ s v h. one_share (within segment_of s.span found) v h) shares vs zip)
 
   module _ (found : List Record) (vs : List V) (h : InShares found vs) where
     pub share_sizes : All (λ counts. length counts ≡ tile_count g) (map counts_of vs)
-    share_sizes = same_sizes g link_of makers (λ l. l) links_of counts_of h.lists vs h.zip
+    share_sizes = same_sizes g link_of times_of makers (λ l. l) links_of counts_of h.lists vs h.zip
 
-    pub shares_joined : (links : List L) (sums : List ℕ) → links ≡ flat_map links_of vs → AreSums (tile_count g) (map counts_of vs) sums → HasLinked g link_of makers found links sums
+    pub shares_joined : (links : List L) (sums : List ℕ) → links ≡ flat_map links_of vs → AreSums (tile_count g) (map counts_of vs) sums → HasLinked g link_of times_of makers found links sums
     shares_joined links sums are k = record {
       records = flat_map (λ l. l) h.lists;
       once = h.ordered.sorted;
-      linked = all_linked g link_of makers (λ l. l) links_of counts_of h.lists vs h.zip links sums h.ordered.ascending (records_differ (flat_map (λ l. l) h.lists) h.ordered.sorted.ascending) are k;
+      linked = all_linked g link_of times_of makers (λ l. l) links_of counts_of h.lists vs h.zip links sums h.ordered.ascending (records_differ (flat_map (λ l. l) h.lists) h.ordered.sorted.ascending) are k;
     }
 
 -- ---- records of segments, in order and each once

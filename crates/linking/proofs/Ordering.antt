@@ -2,7 +2,7 @@
 use Rattle.std.proofs.Common.{◌≡◌, ◌⊎◌, inl, inr, ℕ, ◌<◌, ◌≤◌, List, [], ◌∷◌, length, get_or, refl, sym, ap, subst, ◌∙◌, arith, ⊎_elim}
 use Rattle.std.proofs.lemmas.Bool.{cases_lt}
 use Rattle.std.proofs.lemmas.List.Elements.{Contains-get_or}
-use Rattle.std.specs.Prelude.{AllPairs, Some, slice_get}
+use Rattle.std.specs.Prelude.{AllPairs, Some, slice_get, sum_by}
 use Rattle.geom.specs.declared.point.Pt.{Pt}
 use Rattle.geom.specs.declared.segment.Seg.{Seg}
 use Rattle.geom.specs.Hot.{IsHot}
@@ -19,7 +19,7 @@ use Rattle.routing.specs.Pieces.{IsAlong, IsPieceOf, IsRecord}
 use Rattle.routing.specs.Steps.{steps_to}
 use Rattle.routing.proofs.StepLaws.{earlier_from_steps, same_from_steps}
 use Rattle.linking.specs.Links.{IsRecordBefore}
-use Rattle.linking.proofs.Parts.{IsPart, distinct_from, same_length}
+use Rattle.linking.proofs.Parts.{IsPart, distinct_from, same_length, same_sum}
 
 -- ---- a list of different elements has an ascending one of the same
 pub record Ordered {X : Type 0} (R : X → X → Type 0) (xs : List X) : Type 0 where
@@ -135,12 +135,13 @@ module _ (segments : List Seg) where
       told (equal e) = inr (inl e)
       told (after l) = inr (inr l)
 
-  pub record Piece (Owned : Pt → Type 0) (hot count : ℕ) : Type 0 where
+  -- a tile's piece, with the records that were found in it, whatever they weigh
+  pub record Piece (Owned : Pt → Type 0) (hot : ℕ) (found : List Record) : Type 0 where
     pub records : List Record
     pub is_piece : IsPieceOf Owned segments hot records
-    pub count_is : count ≡ length records
+    pub sum_is : (weight : Record → ℕ) → sum_by weight found ≡ sum_by weight records
 
-  pub piece_of : (Owned : Pt → Type 0) (hot count : ℕ) → IsPart (IsHot segments) Owned hot → IsPart (IsRecord segments) (λ r. Owned r.pixel) count → Piece Owned hot count
+  pub piece_of : (Owned : Pt → Type 0) (hot count : ℕ) → IsPart (IsHot segments) Owned hot → (q : IsPart (IsRecord segments) (λ r. Owned r.pixel) count) → Piece Owned hot q.those
   piece_of Owned hot count p q = record {
     records = records.those;
     is_piece = record {
@@ -159,7 +160,7 @@ module _ (segments : List Seg) where
         (λ (h, o). in_contains records.those r (records.from r (q.all r h o))),
       );
     };
-    count_is = q.number_is ∙ same_length q.those records.those q.distinct (distinct_from IsRecordBefore records.those records.ascending (λ x i h. never_before x h)) records.from records.to;
+    sum_is = λ weight. same_sum weight q.those records.those q.distinct (distinct_from IsRecordBefore records.those records.ascending (λ x i h. never_before x h)) records.from records.to;
   }
     where
       pixels : Ordered IsBefore p.those

@@ -32,13 +32,13 @@ use Rattle.routing.proofs.PieceLaws.{met_end}
 use Rattle.routing.proofs.RecordOrder.{record_less}
 use Rattle.routing.proofs.StepLaws.{same_from_steps}
 use Rattle.linking.specs.Ends.{record_of, route_of}
-use Rattle.linking.specs.Links.{AreApart, AreNeighbourLinks, IsBetween}
-use Rattle.linking.specs.Numbers.{AreTileCounts, CountsOne}
+use Rattle.linking.specs.Links.{AreApart, AreNeighbourLinks, IsBetween, times_at}
+use Rattle.linking.specs.Numbers.{AreTileCounts, CountsMore}
 use Rattle.linking.specs.Orders.{AreSortedOnce, record_order}
 use Rattle.linking.specs.Shares.{AddsRoute, AreInner, AreLinked, HasRoutes, segment_of}
 use Rattle.linking.specs.Spans.{is_below, is_from, is_in, within}
 use Rattle.linking.specs.declared.span.Span.{Span}
-use Rattle.linking.proofs.Counted.{counted_none, counted_one, pairs_append}
+use Rattle.linking.proofs.Counted.{counted_none, counted_one, pairs_append, times_at_is}
 use Rattle.linking.proofs.EndLaws.{end_known, ends_last, ends_more, ends_none, slice_none}
 use Rattle.linking.proofs.LinkedLaws.{links_append, records_differ}
 use Rattle.linking.proofs.ShareLaws.{segment_before}
@@ -139,12 +139,12 @@ module _ (segments : List Seg) (number : ℕ) (s : Seg) (at : slice_get segments
         whole = step_before (record_of number s s.a) (record_of number s s.b) refl (after_first s s.b (met_end s s.b (inr refl)) s.proper)
 
 -- ---- one more record that is linked
-pub counts_size : (g : Tiling) (p : Pt) (counts more : List ℕ) → CountsOne g p counts more → length more ≡ length counts
-counts_size g p counts more h = ap length h.new_is ∙ length-set counts h.tile (h.count + 1)
+pub counts_size : (g : Tiling) (p : Pt) (times : ℕ) (counts more : List ℕ) → CountsMore g p times counts more → length more ≡ length counts
+counts_size g p times counts more h = ap length h.new_is ∙ length-set counts h.tile (h.count + times)
 
-module _ {M L : Type 0} (g : Tiling) (link_of : M → Edge → L) (makers : List M) (records : List Record) (once : AllPairs (λ r q. r ≢ q) records) (i : ℕ) (end : Record) (high : i < length records) (end_is : end ≡ get_or records i end) where
+module _ {M L : Type 0} (g : Tiling) (link_of : M → Edge → L) (times_of : M → ℕ) (makers : List M) (records : List Record) (once : AllPairs (λ r q. r ≢ q) records) (i : ℕ) (end : Record) (high : i < length records) (end_is : end ≡ get_or records i end) where
   pub linked_step : (start : Record) → 1 ≤ i → start ≡ get_or records (i - 1) start → start.segment ≡ end.segment → (maker : M) → slice_get makers start.segment ≡ Some maker → (edge : Edge) → IsBetween edge start.pixel end.pixel → (links more_links : List L) (counts more_counts : List ℕ)
-      → more_links ≡ links ++ link_of maker edge ∷ [] → CountsOne g end.pixel counts more_counts → AreLinked g link_of makers (take i records) links counts → AreLinked g link_of makers (take (i + 1) records) more_links more_counts
+      → more_links ≡ links ++ link_of maker edge ∷ [] → CountsMore g end.pixel (times_of maker) counts more_counts → AreLinked g link_of times_of makers (take i records) links counts → AreLinked g link_of times_of makers (take (i + 1) records) more_links more_counts
   linked_step start low start_is same maker at edge between links more_links counts more_counts is one h = record {
     links_are = subst (λ (ls : List L). AreNeighbourLinks link_of makers (take (i + 1) records) ls) (sym is) (record {
       few =
@@ -155,15 +155,15 @@ module _ {M L : Type 0} (g : Tiling) (link_of : M → Edge → L) (makers : List
           omega (arith, a, b, c, d);
       count_is = λ e wanted test pass. walk_push link_of makers records links i start end low high start_is end_is e wanted test pass (h.links_are.count_is e wanted test pass) same maker at edge between (link_of maker edge) refl;
     });
-    counts_are = counted_one g (λ r. r.pixel) records i end high end_is once counts more_counts one h.counts_are;
+    counts_are = counted_one g (λ r. r.pixel) (λ r. times_at times_of makers r.segment) records i end high end_is once counts more_counts (times_of maker) (sym (times_at_is times_of makers end.segment maker (ap (slice_get makers) (sym same) ∙ at))) one h.counts_are;
   }
 
 -- ---- a route that is linked behind others
 -- what is linked once so many of the route's records are
-abbrev pub IsLinkedTo : {M L : Type 0} → Tiling → (M → Edge → L) → List M → ℕ → Seg → List Record → ℕ → List L → List ℕ → List L → List ℕ → Type 0
-IsLinkedTo g link_of makers number s inner n links counts more_links more_counts =
-    (before : List Record) → All (λ r. r.segment < number) before → AllPairs (λ r q. record_order r q ≡ Less) (before ++ route_of number s inner) → AreLinked g link_of makers before links counts
-    → AreLinked g link_of makers (take (length before + n) (before ++ route_of number s inner)) more_links more_counts
+abbrev pub IsLinkedTo : {M L : Type 0} → Tiling → (M → Edge → L) → (M → ℕ) → List M → ℕ → Seg → List Record → ℕ → List L → List ℕ → List L → List ℕ → Type 0
+IsLinkedTo g link_of times_of makers number s inner n links counts more_links more_counts =
+    (before : List Record) → All (λ r. r.segment < number) before → AllPairs (λ r q. record_order r q ≡ Less) (before ++ route_of number s inner) → AreLinked g link_of times_of makers before links counts
+    → AreLinked g link_of times_of makers (take (length before + n) (before ++ route_of number s inner)) more_links more_counts
 
 -- the records of a route by their places
 module _ (number : ℕ) (s : Seg) (inner : List Record) where
@@ -182,7 +182,7 @@ module _ (number : ℕ) (s : Seg) (inner : List Record) where
       next : (n m : ℕ) → n ≡ m → suc (m + 0) ≡ n + 1
       next n m e = omega (arith, e)
 
-module _ {M L : Type 0} (g : Tiling) (link_of : M → Edge → L) (makers : List M) (number : ℕ) (s : Seg) (inner : List Record) (own : All (λ r. r.segment ≡ number) inner) where
+module _ {M L : Type 0} (g : Tiling) (link_of : M → Edge → L) (times_of : M → ℕ) (makers : List M) (number : ℕ) (s : Seg) (inner : List Record) (own : All (λ r. r.segment ≡ number) inner) where
   abbrev first : Record
   first = record_of number s s.a
 
@@ -190,7 +190,7 @@ module _ {M L : Type 0} (g : Tiling) (link_of : M → Edge → L) (makers : List
   route = route_of number s inner
 
   abbrev IsTo : ℕ → List L → List ℕ → List L → List ℕ → Type 0
-  IsTo n links counts more_links more_counts = IsLinkedTo g link_of makers number s inner n links counts more_links more_counts
+  IsTo n links counts more_links more_counts = IsLinkedTo g link_of times_of makers number s inner n links counts more_links more_counts
 
   pub route_own : All (λ r. r.segment ≡ number) route
   route_own = All-cons (λ (r : Record). r.segment ≡ number) first (inner ++ record_of number s s.b ∷ []) refl (All-push (λ (r : Record). r.segment ≡ number) inner (record_of number s s.b) own refl)
@@ -198,11 +198,11 @@ module _ {M L : Type 0} (g : Tiling) (link_of : M → Edge → L) (makers : List
   of_route : (k : ℕ) (d : Record) → k < length route → (get_or route k d).segment ≡ number
   of_route k d l = route_own k d l
 
-  pub first_linked : (links : List L) (counts more_counts : List ℕ) → CountsOne g s.a counts more_counts → IsTo 1 links counts links more_counts
-  first_linked links counts more_counts one before below up h = record {
+  pub first_linked : (maker : M) → slice_get makers number ≡ Some maker → (links : List L) (counts more_counts : List ℕ) → CountsMore g s.a (times_of maker) counts more_counts → IsTo 1 links counts links more_counts
+  first_linked maker at links counts more_counts one before below up h = record {
     links_are = subst (λ (x : List Record × List L). AreNeighbourLinks link_of makers x.0 x.1) (λ j. (sym one_more j, append-nil links j)) (links_append link_of makers before (first ∷ []) links [] apart h.links_are (record { few = omega arith; count_is = λ e wanted test pass. refl }));
-    counts_are = counted_one g (λ r. r.pixel) (before ++ route) (length before) first within first_is (records_differ (before ++ route) up) counts more_counts one
-        (subst (λ (rs : List Record). AreTileCounts g (λ (r : Record). r.pixel) rs counts) (sym (take-append_seam before route)) h.counts_are);
+    counts_are = counted_one g (λ r. r.pixel) (λ r. times_at times_of makers r.segment) (before ++ route) (length before) first within first_is (records_differ (before ++ route) up) counts more_counts (times_of maker) (sym (times_at_is times_of makers number maker at)) one
+        (subst (λ (rs : List Record). AreTileCounts g (λ (r : Record). r.pixel) (λ r. times_at times_of makers r.segment) rs counts) (sym (take-append_seam before route)) h.counts_are);
   }
     where
       one_more : take (length before + 1) (before ++ route) ≡ before ++ first ∷ []
@@ -237,13 +237,13 @@ module _ {M L : Type 0} (g : Tiling) (link_of : M → Edge → L) (makers : List
     pub pixels_apart : AreApart route → c ≢ e
     pixels_apart apart same = apart n (n + 1) first (omega arith) more (of_route n first less ∙ sym (of_route (n + 1) first more)) (sym c_is ∙ same ∙ e_is)
 
-    pub next_linked : (edge : Edge) (maker : M) → slice_get makers number ≡ Some maker → IsBetween edge c e → (links old_links more_links : List L) (counts old_counts more_counts : List ℕ) → more_links ≡ old_links ++ link_of maker edge ∷ [] → CountsOne g e old_counts more_counts
+    pub next_linked : (edge : Edge) (maker : M) → slice_get makers number ≡ Some maker → IsBetween edge c e → (links old_links more_links : List L) (counts old_counts more_counts : List ℕ) → more_links ≡ old_links ++ link_of maker edge ∷ [] → CountsMore g e (times_of maker) old_counts more_counts
         → IsTo (n + 1) links counts old_links old_counts → IsTo (n + 1 + 1) links counts more_links more_counts
     next_linked edge maker at between links old_links more_links counts old_counts more_counts is one h before below up k =
-        subst (λ (m : ℕ). AreLinked g link_of makers (take m (before ++ route)) more_links more_counts) (onward (length before) n)
-        (linked_step g link_of makers (before ++ route) (records_differ (before ++ route) up) (length before + (n + 1)) end high end_is start (low (length before) n) start_is (of_route n first less ∙ sym (of_route (n + 1) first more)) maker
+        subst (λ (m : ℕ). AreLinked g link_of times_of makers (take m (before ++ route)) more_links more_counts) (onward (length before) n)
+        (linked_step g link_of times_of makers (before ++ route) (records_differ (before ++ route) up) (length before + (n + 1)) end high end_is start (low (length before) n) start_is (of_route n first less ∙ sym (of_route (n + 1) first more)) maker
         (ap (slice_get makers) (of_route n first less) ∙ at) edge (subst (λ (x : Pt × Pt). IsBetween edge x.0 x.1) (λ j. (c_is j, e_is j)) between) old_links more_links old_counts more_counts is
-        (subst (λ (p : Pt). CountsOne g p old_counts more_counts) e_is one) (h before below up k))
+        (subst (λ (p : Pt). CountsMore g p (times_of maker) old_counts more_counts) e_is one) (h before below up k))
       where
         onward : (b m : ℕ) → (b + (m + 1)) + 1 ≡ b + (m + 1 + 1)
         onward b m = omega arith
@@ -263,24 +263,24 @@ module _ {M L : Type 0} (g : Tiling) (link_of : M → Edge → L) (makers : List
         start_is : start ≡ get_or (before ++ route) ((length before + (n + 1)) - 1) start
         start_is = sym (subst (λ (m : ℕ). get_or (before ++ route) m start ≡ start) (back (length before) n) (get_or-append-add before route n start ∙ get_or_default route n start first less))
 
-  pub all_linked_to : (links more_links : List L) (counts more_counts : List ℕ) → IsTo (length route) links counts more_links more_counts → AddsRoute g link_of makers number route links counts more_links more_counts
-  all_linked_to links more_links counts more_counts h before below up k = subst (λ (rs : List Record). AreLinked g link_of makers rs more_links more_counts) whole (h before below up k)
+  pub all_linked_to : (links more_links : List L) (counts more_counts : List ℕ) → IsTo (length route) links counts more_links more_counts → AddsRoute g link_of times_of makers number route links counts more_links more_counts
+  all_linked_to links more_links counts more_counts h before below up k = subst (λ (rs : List Record). AreLinked g link_of times_of makers rs more_links more_counts) whole (h before below up k)
     where
       whole : take (length before + length route) (before ++ route) ≡ before ++ route
       whole = take_all (length before + length route) (before ++ route) (let l = length-append before route in omega (arith, l))
 
 -- ---- the routes of one segment after another
 -- what is linked of the segments from the first on, below a number, whose records stand before a place
-pub record IsLinkedBelow {M L : Type 0} (g : Tiling) (link_of : M → Edge → L) (segments : List Seg) (makers : List M) (first : ℕ) (inner : List Record) (number place : ℕ) (links : List L) (counts : List ℕ) : Type 0 where
+pub record IsLinkedBelow {M L : Type 0} (g : Tiling) (link_of : M → Edge → L) (times_of : M → ℕ) (segments : List Seg) (makers : List M) (first : ℕ) (inner : List Record) (number place : ℕ) (links : List L) (counts : List ℕ) : Type 0 where
   pub within : place ≤ length inner
   pub from : first ≤ number
   pub before : AllWithin (λ r. r.segment < number) inner 0 place
   pub behind : AllWithin (λ r. number ≤ r.segment) inner place (length inner)
-  pub routes : HasRoutes g link_of segments makers first number (take place inner) links counts
+  pub routes : HasRoutes g link_of times_of segments makers first number (take place inner) links counts
 
-module _ {M L : Type 0} (g : Tiling) (link_of : M → Edge → L) (segments : List Seg) (makers : List M) (first : ℕ) (inner : List Record) (up : AllPairs (λ r q. record_order r q ≡ Less) inner) where
+module _ {M L : Type 0} (g : Tiling) (link_of : M → Edge → L) (times_of : M → ℕ) (segments : List Seg) (makers : List M) (first : ℕ) (inner : List Record) (up : AllPairs (λ r q. record_order r q ≡ Less) inner) where
   abbrev IsLinked : ℕ → ℕ → List L → List ℕ → Type 0
-  IsLinked number place links counts = IsLinkedBelow g link_of segments makers first inner number place links counts
+  IsLinked number place links counts = IsLinkedBelow g link_of times_of segments makers first inner number place links counts
 
   pub none_linked : (counts : List ℕ) → counts ≡ replicate (tile_count g) 0 → All (λ r. first ≤ r.segment) inner → IsLinked first 0 [] counts
   none_linked counts e h = record {
@@ -292,7 +292,7 @@ module _ {M L : Type 0} (g : Tiling) (link_of : M → Edge → L) (segments : Li
       records = [];
       ascending = λ i j d a b. absurd (omega (arith, b));
       has = ends_none segments first inner;
-      linked = record { links_are = record { few = omega arith; count_is = λ e wanted test pass. refl }; counts_are = counted_none g (λ r. r.pixel) inner counts e };
+      linked = record { links_are = record { few = omega arith; count_is = λ e wanted test pass. refl }; counts_are = counted_none g (λ r. r.pixel) (λ r. times_at times_of makers r.segment) inner counts e };
     };
   }
 
@@ -301,7 +301,7 @@ module _ {M L : Type 0} (g : Tiling) (link_of : M → Edge → L) (segments : Li
     own = slice_all inner place next within (λ (r : Record). r.segment ≡ number) (λ k d l m. let a = up_to k d l m in let b = h.behind k d l (omega (arith, m, within)) in omega (arith, a, b))
 
     module _ (past : (d : Record) → next < length inner → number < (get_or inner next d).segment) (known : AreInner segments inner) (s : Seg) (at : slice_get segments number ≡ Some s) where
-      pub route_linked : (more_links : List L) (more_counts : List ℕ) → AddsRoute g link_of makers number (route_of number s (slice_range inner place next)) links counts more_links more_counts → IsLinked (number + 1) next more_links more_counts
+      pub route_linked : (more_links : List L) (more_counts : List ℕ) → AddsRoute g link_of times_of makers number (route_of number s (slice_range inner place next)) links counts more_links more_counts → IsLinked (number + 1) next more_links more_counts
       route_linked more_links more_counts added = record {
         within = within;
         from = let f = h.from in omega (arith, f);
@@ -356,9 +356,9 @@ module _ {M L : Type 0} (g : Tiling) (link_of : M → Edge → L) (segments : Li
           ascending : AllPairs (λ r q. record_order r q ≡ Less) (earlier ++ route)
           ascending = pairs_append (λ r q. record_order r q ≡ Less) earlier route h.routes.ascending
               (route_up segments number s at (slice_range inner place next) (λ r k. known r (slice_has inner place next within r k)) own (slice_pairs inner (λ r q. record_order r q ≡ Less) place next up))
-              (λ r q k m. segment_before r q (let a = is_below r k in let b = All-contains (λ (p : Record). p.segment ≡ number) route q (route_own g link_of makers number s (slice_range inner place next) own) m in omega (arith, ints, a, b)))
+              (λ r q k m. segment_before r q (let a = is_below r k in let b = All-contains (λ (p : Record). p.segment ≡ number) route q (route_own g link_of times_of makers number s (slice_range inner place next) own) m in omega (arith, ints, a, b)))
 
-  pub last_linked : (past number place : ℕ) (links : List L) (counts : List ℕ) → past ≤ number → (number ≤ past) ⊎ (number ≡ first) → All (λ r. r.segment < past) inner → IsLinked number place links counts → HasRoutes g link_of segments makers first past inner links counts
+  pub last_linked : (past number place : ℕ) (links : List L) (counts : List ℕ) → past ≤ number → (number ≤ past) ⊎ (number ≡ first) → All (λ r. r.segment < past) inner → IsLinked number place links counts → HasRoutes g link_of times_of segments makers first past inner links counts
   last_linked past number place links counts reached or all h = record {
     records = h.routes.records;
     ascending = h.routes.ascending;

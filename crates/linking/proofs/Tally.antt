@@ -1,6 +1,6 @@
 -- Counting links that are sorted.
 use Rattle.std.proofs.Common.{◌≡◌, ◌⊎◌, inl, inr, ℕ, zero, suc, ◌+◌, ◌<◌, ◌≤◌, List, [], ◌∷◌, ◌++◌, Bool, true, false, cond, Ordering, Less, Equal, Greater, refl, sym, ◌∙◌, ap, arith, subst, length, get_or, take, ⊎_elim}
-use Rattle.std.specs.Prelude.{AllPairs, Contains, count_by, ◌&&◌, not}
+use Rattle.std.specs.Prelude.{AllPairs, Contains, not, sum_by}
 use Rattle.std.specs.Cmp.{IsTotalOrder}
 use Rattle.std.specs.List.Sorted.{IsSorted}
 use Rattle.std.specs.Ordering.{ordering_then, MatchOrdering, is_lt}
@@ -8,22 +8,21 @@ use Rattle.std.proofs.lemmas.Bool.{cases_lt}
 use Rattle.std.proofs.lemmas.List.{get_or_default, take_all, take_more}
 use Rattle.std.proofs.lemmas.List.Elements.{Contains-get_or, Contains-push, Contains-push_cases}
 use Rattle.std.proofs.lemmas.List.Quantifiers.{all_pairs_push}
-use Rattle.std.proofs.lemmas.List.Sums.{sum_by-cons, sum_by_push, count_by-le-length}
-use Rattle.std.proofs.lemmas.List.{length-take}
+use Rattle.std.proofs.lemmas.List.Sums.{sum_by-cons, sum_by_push}
 use Rattle.std.proofs.lemmas.List.Sorted.{sorted_far, ranks_by}
 use Rattle.std.proofs.lemmas.Cmp.{nat_cmp_total, on_total, then_total}
 use Rattle.geom.specs.declared.segment.Source.{Source}
 use Rattle.geom.specs.declared.segment.Source.TheVariants.{A, B}
 use Rattle.geom.specs.declared.edge.Edge.{Edge}
 use Rattle.geom.specs.declared.edge.Counted.{Counted}
-use Rattle.geom.specs.Segments.{same_source}
 use Rattle.geom.specs.Rounded.{IsEdgeBefore}
-use Rattle.geom.proofs.Points.{and_both, same_point_refl}
-use Rattle.hot_region.proofs.ListLaws.{in_cons, here, none_in, in_push, in_take_more, no_one, no_true}
-use Rattle.linking.specs.Orders.{layer_number, link_order}
+use Rattle.geom.proofs.Points.{same_point_refl}
+use Rattle.hot_region.proofs.ListLaws.{in_cons, here, none_in, in_push, in_take_more, no_true}
+use Rattle.linking.specs.Orders.{link_order}
 use Rattle.geom.proofs.Orders.{edge_cmp, edge_total, edge_ranks, edge_before_itself, edge_before_trans, same_edge_true}
+use Rattle.distinct.specs.Copies.{copies_in}
 use Rattle.linking.specs.declared.link.Link.{Link}
-use Rattle.linking.specs.Links.{same_edge, is_of, count_links, AreCounts, AreInOrder}
+use Rattle.linking.specs.Links.{same_edge, copies_of, count_links, AreCounts, AreInOrder}
 
 -- the k-th link
 pub record IsAt {X : Type 0} (xs : List X) (k : ℕ) (x : X) : Type 0 where
@@ -53,30 +52,37 @@ other_edge : (e f : Edge) → (e ≡ f → ⊥) → same_edge e f ≡ false
 other_edge e f h = no_true (same_edge e f) (λ k. h (same_edge_true e f k))
 
 -- ---- a count that grows by one link
-count_push : (e : Edge) (layer : Source) (links : List Link) (l : Link) → count_links e layer (links ++ l ∷ []) ≡ count_links e layer links + cond (is_of e layer l) 1 0
-count_push e layer links l = sum_by_push (λ m. cond (is_of e layer m) 1 0) links l
+count_push : (e : Edge) (layer : Source) (links : List Link) (l : Link) → count_links e layer (links ++ l ∷ []) ≡ count_links e layer links + copies_of e layer l
+count_push e layer links l = sum_by_push (copies_of e layer) links l
 
 count_other : (e : Edge) (layer : Source) (links : List Link) (l : Link) → (e ≡ l.edge → ⊥) → count_links e layer (links ++ l ∷ []) ≡ count_links e layer links
-count_other e layer links l h = let a = count_push e layer links l in let b = no_one (is_of e layer l) (rw (other_edge e l.edge h) refl) in omega arith
+count_other e layer links l h = let a = count_push e layer links l in let b : copies_of e layer l ≡ 0 = rw (other_edge e l.edge h) refl in omega arith
 
-count_same : (e : Edge) (layer : Source) (links : List Link) (l : Link) → e ≡ l.edge → count_links e layer (links ++ l ∷ []) ≡ count_links e layer links + cond (same_source l.layer layer) 1 0
-count_same e layer links l h = count_push e layer links l ∙ ap (λ (b : Bool). count_links e layer links + cond (b && same_source l.layer layer) 1 0) (subst (λ (f : Edge). same_edge e f ≡ true) h (edge_refl e))
+count_same : (e : Edge) (layer : Source) (links : List Link) (l : Link) → e ≡ l.edge → count_links e layer (links ++ l ∷ []) ≡ count_links e layer links + copies_in layer l.copies
+count_same e layer links l h = count_push e layer links l ∙ ap (λ (b : Bool). count_links e layer links + cond b (copies_in layer l.copies) 0) (subst (λ (f : Edge). same_edge e f ≡ true) h (edge_refl e))
 
--- a count above 0 has a link
-pub count_has : {X : Type 0} (p : X → Bool) (xs : List X) → 0 < count_by p xs → (x : X) × Contains xs x × (p x ≡ true)
-count_has p [] h = absurd (omega arith)
-count_has {X = X} p (x ∷ xs) h = by_test (count_has p xs) (p x) refl
+-- a sum above 0 has a term above 0
+pub sum_has : {X : Type 0} (f : X → ℕ) (xs : List X) → 0 < sum_by f xs → (x : X) × Contains xs x × (0 < f x)
+sum_has f [] h = absurd (omega arith)
+sum_has {X = X} f (x ∷ xs) h = elim (cases_lt 0 (f x)) [
+  | inl some ↦ (x, here x xs, some)
+  | inr none ↦ let c = sum_by-cons f x xs in let (y, k, more) = sum_has f xs (omega arith) in (y, in_cons x xs y k, more)
+]
+
+-- a link that has copies of the edge is of the edge
+of_edge : (e : Edge) (layer : Source) (l : Link) → 0 < copies_of e layer l → e ≡ l.edge
+of_edge e layer l h = by_test (same_edge e l.edge) refl
   where
-    by_test : (0 < count_by p xs → (y : X) × Contains xs y × (p y ≡ true)) → (b : Bool) → p x ≡ b → (y : X) × Contains (x ∷ xs) y × (p y ≡ true)
-    by_test rest true e = (x, here x xs, e)
-    by_test rest false e = let c = sum_by-cons (λ y. cond {A = ℕ} (p y) 1 0) x xs in let d = no_one (p x) e in let (y, k, f) = rest (omega arith) in (y, in_cons x xs y k, f)
+    by_test : (b : Bool) → same_edge e l.edge ≡ b → e ≡ l.edge
+    by_test true is = same_edge_true e l.edge is
+    by_test false is = let none : copies_of e layer l ≡ 0 = rw is refl in absurd (omega arith)
 
 -- an edge with a count has a link
 pub linked : (links : List Link) (e : Edge) → 0 < count_links e A links + count_links e B links → (m : Link) × Contains links m × (e ≡ m.edge)
 linked links e p = by_count (count_links e A links) refl
   where
     found : (layer : Source) → 0 < count_links e layer links → (m : Link) × Contains links m × (e ≡ m.edge)
-    found layer q = let (m, k, is) = count_has (is_of e layer) links q in (m, k, same_edge_true e m.edge (and_both _ _ is).0)
+    found layer q = let (m, k, some) = sum_has (copies_of e layer) links q in (m, k, of_edge e layer m some)
 
     by_count : (n : ℕ) → count_links e A links ≡ n → (m : Link) × Contains links m × (e ≡ m.edge)
     by_count zero is = found B (omega arith)
@@ -105,7 +111,7 @@ AreAscending links = (i j : ℕ) (l m : Link) → i ≤ j → IsAt links i l →
 
 -- the order of links is total
 pub link_total : IsTotalOrder link_order
-link_total = then_total (on_total (λ (l : Link). l.edge) edge_total) (on_total (λ (l : Link). layer_number l.layer) nat_cmp_total)
+link_total = then_total (on_total (λ (l : Link). l.edge) edge_total) (then_total (on_total (λ (l : Link). l.copies.in_a) nat_cmp_total) (on_total (λ (l : Link). l.copies.in_b) nat_cmp_total))
 
 pub ascending_in_order : (links : List Link) → AreInOrder links → AreAscending links
 ascending_in_order links up i j l m h at at' = elim (cases_lt i j) [
@@ -159,7 +165,7 @@ module _ (links : List Link) (i : ℕ) (list : List Counted) (current next : Cou
       (λ f. apart (f ∙ e)) (h.known l k)
 
   no_count : (layer : Source) → count_links x.edge layer (take i links) ≡ 0
-  no_count layer = zero_count (count_links x.edge layer (take i links)) (λ p. let (l, c, e) = count_has (is_of x.edge layer) (take i links) p in absent l c (sym (same_edge_true x.edge l.edge (and_both _ _ e).0)))
+  no_count layer = zero_count (count_links x.edge layer (take i links)) (λ p. let (l, c, some) = sum_has (copies_of x.edge layer) (take i links) p in absent l c (sym (of_edge x.edge layer l some)))
     where
       zero_count : (n : ℕ) → (0 < n → ⊥) → n ≡ 0
       zero_count zero f = refl
@@ -178,7 +184,7 @@ module _ (links : List Link) (i : ℕ) (list : List Counted) (current next : Cou
 
 -- one more link of the current edge
 module _ (links : List Link) (i : ℕ) (list : List Counted) (current more : Counted) (x : Link) (below : i < length links) (item : x ≡ get_or links i x) (h : IsTally links i list current) (same : current.edge ≡ x.edge) (kept : more.edge ≡ current.edge)
-    (one_a : more.in_a ≡ current.in_a + cond (same_source x.layer A) 1 0) (one_b : more.in_b ≡ current.in_b + cond (same_source x.layer B) 1 0) where
+    (more_a : more.in_a ≡ current.in_a + x.copies.in_a) (more_b : more.in_b ≡ current.in_b + x.copies.in_b) where
   longer : take (i + 1) links ≡ take i links ++ x ∷ []
   longer = take_more links i x below ∙ ap (λ (m : Link). take i links ++ m ∷ []) (sym item)
 
@@ -187,12 +193,8 @@ module _ (links : List Link) (i : ℕ) (list : List Counted) (current more : Cou
       let other : c.edge ≡ x.edge → ⊥ = λ e. edge_before_itself x.edge (subst (λ (f : Edge). IsEdgeBefore f x.edge) e (subst (λ (f : Edge). IsEdgeBefore c.edge f) same (h.below c m))) in
       rw longer (count_other c.edge A (take i links) x other ∙ a, count_other c.edge B (take i links) x other ∙ b, p)
 
-  grown : (layer : Source) → count_links more.edge layer (take (i + 1) links) ≡ count_links current.edge layer (take i links) + cond (same_source x.layer layer) 1 0
+  grown : (layer : Source) → count_links more.edge layer (take (i + 1) links) ≡ count_links current.edge layer (take i links) + copies_in layer x.copies
   grown layer = ap (λ (f : Edge). count_links f layer (take (i + 1) links)) kept ∙ ap (λ (ls : List Link). count_links current.edge layer ls) longer ∙ count_same current.edge layer (take i links) x same
-
-  begun : (l : Source) → 0 < cond (same_source l A) 1 0 + cond (same_source l B) 1 0
-  begun A = omega arith
-  begun B = omega arith
 
   pub IsTally-more : IsTally links (i + 1) list more × HasBegun links (i + 1) more
   IsTally-more = (
@@ -200,20 +202,13 @@ module _ (links : List Link) (i : ℕ) (list : List Counted) (current more : Cou
       ascending = h.ascending;
       below = λ c m. subst (λ (f : Edge). IsEdgeBefore c.edge f) (sym kept) (h.below c m);
       counted = λ c m. still c m (h.counted c m);
-      in_a = grown A ∙ ap (λ (n : ℕ). n + cond (same_source x.layer A) 1 0) h.in_a ∙ sym one_a;
-      in_b = grown B ∙ ap (λ (n : ℕ). n + cond (same_source x.layer B) 1 0) h.in_b ∙ sym one_b;
+      in_a = grown A ∙ ap (λ (n : ℕ). n + x.copies.in_a) h.in_a ∙ sym more_a;
+      in_b = grown B ∙ ap (λ (n : ℕ). n + x.copies.in_b) h.in_b ∙ sym more_b;
       known = λ l k. ⊎_elim (λ m. ⊎_elim (λ r. inl r) (λ e. inr (kept ∙ e)) (h.known l m)) (λ e. inr (kept ∙ same ∙ ap (λ (m : Link). m.edge) e)) ((in_take_more links i x below item l).0 k);
       ahead = λ j l k a. subst (λ (f : Edge). IsUpTo f l.edge) (sym kept) (h.ahead j l (omega arith) a);
     },
-    inr (let b = begun x.layer in omega arith),
+    inr (let some = x.copies.some in omega arith),
   )
-
--- the counts are small
-pub tally_small : (links : List Link) (i : ℕ) (list : List Counted) (current : Counted) → IsTally links i list current → (current.in_a ≤ i) × (current.in_b ≤ i)
-tally_small links i list current h = (small A current.in_a h.in_a, small B current.in_b h.in_b)
-  where
-    small : (layer : Source) (n : ℕ) → count_links current.edge layer (take i links) ≡ n → n ≤ i
-    small layer n e = let a = count_by-le-length (is_of current.edge layer) (take i links) in let b = length-take i links in omega arith
 
 -- all are counted
 pub counts_are : (sorted : List Link) (i : ℕ) (list : List Counted) (current : Counted) → length sorted ≤ i → 0 < length sorted → IsTally sorted i list current → HasBegun sorted i current → AreCounts sorted (list ++ current ∷ [])

@@ -24,7 +24,8 @@ use Rattle.routing.specs.declared.record.Record.{Record}
 use Rattle.routing.specs.Steps.{steps_to}
 use Rattle.routing.specs.Pieces.{IsRecord}
 use Rattle.linking.specs.declared.link.Link.{Link}
-use Rattle.linking.specs.Links.{IsBetween, IsRecordBefore, AreRecords, AreApart, AreLinks, AreNeighbourLinks, AreRouteLinks, PassLinks, passes_at, record_pairs, makes, same_edge, is_of, layer_link, AreCounts, wanted_steps}
+use Rattle.linking.specs.Links.{IsBetween, IsRecordBefore, AreRecords, AreApart, AreLinks, AreNeighbourLinks, AreRouteLinks, PassLinks, passes_at, record_pairs, makes, same_edge, layer_link, AreCounts, wanted_steps}
+use Rattle.linking.proofs.CopyLinks.{layer_count}
 use Rattle.linking.proofs.Flat.{passes_at_is, routes_from, routes_of_records, count_is}
 
 -- ---- an edge joins the two points that it is between
@@ -112,7 +113,7 @@ links_are segments links h few = record {
   few = few;
   routes = h.routes;
   are_routes = h.are_routes;
-  count_is = λ e layer. h.count_is e (λ (s : Seg). same_source s.layer layer) (is_of e layer) (λ s f. refl) ∙ ap (count_by (joins e)) (layer_steps_are layer segments h.routes);
+  count_is = λ e layer. layer_count e layer links (λ wanted. count_by (joins e) (wanted_steps wanted segments h.routes)) (λ wanted test pass. h.count_is e wanted test pass) ∙ ap (count_by (joins e)) (layer_steps_are layer segments h.routes);
 }
 
 -- the counts of the links are those of the edges

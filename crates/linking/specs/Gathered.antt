@@ -1,5 +1,5 @@
 -- What is gathered from the tiles of a grid (own).
-use Rattle.std.specs.Prelude.{◌≡◌, ◌≢◌, ◌↔◌, ℕ, ◌<◌, List, AllPairs, Contains, Some, length, map, slice_get}
+use Rattle.std.specs.Prelude.{◌≡◌, ◌≢◌, ◌↔◌, ℕ, ◌<◌, List, AllPairs, Contains, Some, length, map, slice_get, sum_by}
 use Rattle.geom.specs.declared.point.Pt.{Pt}
 use Rattle.geom.specs.declared.rect.Rect.{Rect}
 use Rattle.geom.specs.declared.segment.Seg.{Seg}
@@ -8,6 +8,7 @@ use Rattle.geom.specs.Box.{IsInBox, greatest_corner, least_corner}
 use Rattle.grid.specs.Tiles.{Tiling, Owns, HasTile}
 use Rattle.routing.specs.declared.record.Record.{Record}
 use Rattle.routing.specs.Pieces.{IsInnerRecord, IsRecord, IsPieceOf}
+use Rattle.linking.specs.Links.{times_at}
 use Rattle.linking.specs.declared.rounded.TileNumbers.{TileNumbers}
 
 -- ---- what a caller hands in
@@ -36,6 +37,11 @@ HaveTiles g segments = (s : Seg) (p : Pt) → Contains segments s → IsInBox (l
 pub record AreTileNumbers (g : Tiling) (segments : List Seg) (limit : ℕ) (tiles : List TileNumbers) : Type 0 where
   pub one_each : length tiles ≡ limit
   pub each : (k : ℕ) (n : TileNumbers) → slice_get tiles k ≡ Some n → ∥ ((records : List Record) × IsPieceOf (Owns g k) segments n.hot records × (n.records ≡ length records)) ∥₁
+
+-- the same, where each record counts as often as what stands for its segment says
+pub record AreTileNumbersBy {M : Type 0} (times_of : M → ℕ) (g : Tiling) (segments : List Seg) (makers : List M) (limit : ℕ) (tiles : List TileNumbers) : Type 0 where
+  pub one_each : length tiles ≡ limit
+  pub each : (k : ℕ) (n : TileNumbers) → slice_get tiles k ≡ Some n → ∥ ((records : List Record) × IsPieceOf (Owns g k) segments n.hot records × (n.records ≡ sum_by (λ r. times_at times_of makers r.segment) records)) ∥₁
 
 -- the records of the tiles below k
 pub record HasTilesBelow (g : Tiling) (segments : List Seg) (k : ℕ) (list : List Record) : Type 0 where

@@ -1,16 +1,18 @@
 -- Records of all segments in order, links between neighbours of one segment, and how often each edge is a link (own).
-use Rattle.std.specs.Prelude.{◌≡◌, ◌≢◌, ◌⊎◌, ◌↔◌, ℕ, ◌+◌, ◌-◌, ◌<◌, ◌≤◌, ◌^◌, ◌==◌, Bool, false, ◌&&◌, List, [], ◌∷◌, ◌++◌, AllPairs, Contains, count_by, get_or, if◌then◌else◌, length, map, slice_index_or}
+use Rattle.std.specs.Prelude.{◌≡◌, ◌≢◌, ◌⊎◌, ◌↔◌, ℕ, ◌+◌, ◌-◌, ◌<◌, ◌≤◌, ◌^◌, ◌==◌, Bool, false, ◌&&◌, List, [], ◌∷◌, ◌++◌, AllPairs, Contains, count_by, get_or, if◌then◌else◌, length, map, slice_index_or, sum_by}
 use Rattle.geom.specs.declared.point.Pt.{Pt}
 use Rattle.geom.specs.declared.segment.Source.{Source}
 use Rattle.geom.specs.declared.segment.Source.TheVariants.{A, B}
 use Rattle.geom.specs.declared.segment.Seg.{Seg}
 use Rattle.geom.specs.declared.edge.Edge.{Edge}
 use Rattle.geom.specs.declared.edge.Counted.{Counted}
-use Rattle.geom.specs.Segments.{neighbours, same_point, same_source}
+use Rattle.geom.specs.Segments.{neighbours, same_point}
 use Rattle.geom.specs.Rounded.{IsEdgeBefore, count, joins}
 use Rattle.geom.specs.Route.{AreRoutes}
 use Rattle.routing.specs.declared.record.Record.{Record}
 use Rattle.routing.specs.Pieces.{IsRecord}
+use Rattle.distinct.specs.Copies.{copies_in, one_in}
+use Rattle.distinct.specs.declared.copies.Copies.{Copies}
 use Rattle.feature_links.specs.declared.link.FeatureLink.{FeatureLink}
 use Rattle.feature_links.specs.Groups.{link_of}
 use Rattle.linking.specs.declared.link.Link.{Link}
@@ -41,12 +43,12 @@ AreApart records = AllPairs (λ r q. r.segment ≡ q.segment → r.pixel ≢ q.p
 abbrev pub same_edge : Edge → Edge → Bool
 same_edge e f = same_point e.p f.p && same_point e.q f.q
 
--- the link is of the edge and the layer
-abbrev pub is_of : Edge → Source → Link → Bool
-is_of e layer link = same_edge e link.edge && same_source link.layer layer
+-- how many copies of the edge in the layer the link has
+abbrev pub copies_of : Edge → Source → Link → ℕ
+copies_of e layer link = if same_edge e link.edge then copies_in layer link.copies else 0
 
 abbrev pub count_links : Edge → Source → List Link → ℕ
-count_links e layer links = count_by (is_of e layer) links
+count_links e layer links = sum_by (copies_of e layer) links
 
 -- the pairs of neighbours
 abbrev pub record_pairs : List Record → List (Record × Record)
@@ -57,6 +59,10 @@ record_pairs (r ∷ q ∷ rs) = (r, q) ∷ record_pairs (q ∷ rs)
 -- what makes the links of the k-th segment passes
 abbrev pub passes_at : {M : Type 0} → (M → Bool) → List M → ℕ → Bool
 passes_at wanted makers k = slice_index_or (map wanted makers) k false
+
+-- how many segments that stands for which makes the links of the k-th one
+abbrev pub times_at : {M : Type 0} → (M → ℕ) → List M → ℕ → ℕ
+times_at times_of makers k = slice_index_or (map times_of makers) k 0
 
 -- the pair is a link of the edge, of a wanted segment
 abbrev pub makes : (ℕ → Bool) → Edge → Record × Record → Bool
@@ -95,9 +101,13 @@ pub record AreRouteLinks {M L : Type 0} (link_of : M → Edge → L) (segments :
   pub are_routes : AreRoutes segments segments routes
   pub count_is : (e : Edge) (wanted : M → Bool) (test : L → Bool) → PassLinks link_of e wanted test → count_by test links ≡ count_by (joins e) (wanted_steps wanted makers routes)
 
+-- copies make links with them
+abbrev pub copies_link : Copies → Edge → Link
+copies_link c e = record { edge = e; copies = c }
+
 -- a segment makes links of its layer
 abbrev pub layer_link : Seg → Edge → Link
-layer_link s e = record { edge = e; layer = s.layer }
+layer_link s e = copies_link (one_in s.layer) e
 
 -- the links of features: the owners stand for the segments
 abbrev pub AreFeatureRouteLinks : List Seg → List ℕ → List FeatureLink → Type 0

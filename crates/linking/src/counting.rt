@@ -1,13 +1,11 @@
-//! How often each edge is a link, counted by one hand or by several.
+//! How often each edge is a link, with its copies, counted by one hand or by several.
 //!
 //! 1. The links stand in lists, each in order. All columns of their first ends are cut into the spans of shares (`shares`).
 //! 2. Each hand merges the links of a share from all lists, and counts them (`counted_in_shares`).
 //! 3. The counts of the shares are put behind one another (`counts_of_lists`). A list that is the only one is counted as it stands
 //!    (`counts_in_parts`).
 
-ghost use Rattle.std.specs.Prelude.{◌≡◌, ◌+◌, ◌<◌, ◌^◌, ◌++◌, ◌∷◌, [], IfOk, IsTrue, OnOk, flat_map, if◌then◌else◌, length};
-ghost use Rattle.geom.specs.declared.segment.Source.{Source};
-ghost use Rattle.geom.specs.Segments.{same_source};
+ghost use Rattle.std.specs.Prelude.{◌≡◌, ◌+◌, ◌<◌, ◌^◌, ◌++◌, ◌∷◌, [], IfOk, IsTrue, OnOk, flat_map, length};
 ghost use Rattle.linking.specs.Links.{AreCounts, AreInOrder};
 ghost use Rattle.linking.specs.Shares.{column_of};
 ghost use Rattle.linking.specs.Spans.{within};
@@ -16,7 +14,8 @@ use crate::link::Link;
 use crate::ordered::InOrder;
 use crate::shares::{merged, only_list, shares_to_merge};
 use crate::span::Share;
-use geom::{Counted, Edge, NoMemory, Source};
+use distinct::Copies;
+use geom::{Counted, Edge, NoMemory};
 use hands::{joined, map_parts};
 use std::alloc::Allocator;
 use std::thread::Threads;
@@ -34,25 +33,19 @@ fn uncounted(edge: Edge) -> Counted
     }
 }
 
-/// The same with one more in a layer.
-fn and_one(counted: Counted, layer: Source) -> Counted
-    requires room_a { counted.in_a + 1 < 2 ^ 32 }
-    requires room_b { counted.in_b + 1 < 2 ^ 32 }
-    ensures edge { result.edge ≡ counted.edge }
-    ensures in_a { result.in_a ≡ counted.in_a + (if same_source layer Source.A then 1 else 0) }
-    ensures in_b { result.in_b ≡ counted.in_b + (if same_source layer Source.B then 1 else 0) }
+/// The same with more copies. More than a `u32` counts are refused as want of memory.
+fn with_copies(counted: Counted, copies: Copies) -> Result<Counted, NoMemory>
+    ensures { IfOk result (λ c. (c.edge ≡ counted.edge) × (c.in_a ≡ counted.in_a + copies.in_a) × (c.in_b ≡ counted.in_b + copies.in_b)) }
 {
-    match layer {
-        Source::A => Counted {
+    let in_a = counted.in_a.checked_add(u32::from(copies.in_a));
+    let in_b = counted.in_b.checked_add(u32::from(copies.in_b));
+    match (in_a, in_b) {
+        (Some(in_a), Some(in_b)) => Ok(Counted {
             edge: counted.edge,
-            in_a: counted.in_a + 1,
-            in_b: counted.in_b,
-        },
-        Source::B => Counted {
-            edge: counted.edge,
-            in_a: counted.in_a,
-            in_b: counted.in_b + 1,
-        },
+            in_a,
+            in_b,
+        }),
+        _ => Err(NoMemory),
     }
 }
 
@@ -81,7 +74,7 @@ fn count_sorted<A: Allocator>(alloc: A, links: &[Link]) -> Result<Vec<Counted, A
             add_counted(&mut list, current)?;
             current = uncounted(link.edge);
         }
-        current = and_one(current, link.layer);
+        current = with_copies(current, link.copies)?;
     }
     add_counted(&mut list, current)?;
     Ok(list)

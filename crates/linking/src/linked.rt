@@ -14,7 +14,7 @@ ghost use Rattle.routing.specs.declared.record.Record.{Record};
 ghost use Rattle.linking.specs.Ends.{ends_from, route_of};
 ghost use Rattle.linking.specs.Gathered.{HaveTiles};
 ghost use Rattle.linking.specs.Links.{AreApart, IsBetween};
-ghost use Rattle.linking.specs.Numbers.{CountsOne, HasOwned};
+ghost use Rattle.linking.specs.Numbers.{CountsMore, HasOwned};
 ghost use Rattle.linking.specs.Orders.{AreSortedOnce, record_order};
 ghost use Rattle.linking.specs.Shares.{AddsRoute, AreInner, HasLinked, HasRoutes, segment_of};
 ghost use Rattle.linking.specs.Spans.{within};
@@ -64,7 +64,7 @@ pub(crate) fn in_order<A: Allocator + Copy>(records: Vec<Record, A>) -> Vec<Reco
     records
 }
 
-/// Adds the link from a pixel of a route to the next one, and counts the record of that.
+/// Adds the link from a pixel of a route to the next one, and counts the record of that, as often as the maker says.
 #[inline(always)]
 fn add_step<M: MakesLinks<L>, L: Copy, A: Allocator>(
     linking: &mut Linking<L, A>,
@@ -78,11 +78,11 @@ fn add_step<M: MakesLinks<L>, L: Copy, A: Allocator>(
     requires size { length linking.now.counts.counts.items ≡ tile_count grid.now }
     requires last { IfSome linking.now.counts.last (HasOwned grid.now) }
     ensures link { OnOk result ((edge : Edge) × IsBetween edge from to × (linking.new.links.items ≡ linking.old.links.items ++ M.link_of maker.now edge ∷ [])) }
-    ensures counted { OnOk result (CountsOne grid.now to linking.old.counts.counts.items linking.new.counts.counts.items) }
+    ensures counted { OnOk result (CountsMore grid.now to (M.times_of maker.now) linking.old.counts.counts.items linking.new.counts.counts.items) }
     ensures last { OnOk result (IfSome linking.new.counts.last (HasOwned grid.now)) }
 {
     linking.links.push(maker.link(edge_between(from, to)))?;
-    linking.counts.add(grid, to)
+    linking.counts.add(grid, to, maker.times())
 }
 
 /// Adds the links of a segment's route, and counts its records: those of its ends, and those between them, which are in order.
@@ -101,12 +101,12 @@ fn add_route<M: MakesLinks<L>, L: Copy, A: Allocator>(
     requires tiles { All (λ r. HasTile grid.now r.pixel) (route_of number s inner.now) }
     requires size { length linking.now.counts.counts.items ≡ tile_count grid.now }
     requires last { IfSome linking.now.counts.last (HasOwned grid.now) }
-    ensures route { OnOk result (AddsRoute grid.now M.link_of makers.now number (route_of number s inner.now) linking.old.links.items linking.old.counts.counts.items linking.new.links.items linking.new.counts.counts.items) }
+    ensures route { OnOk result (AddsRoute grid.now M.link_of M.times_of makers.now number (route_of number s inner.now) linking.old.links.items linking.old.counts.counts.items linking.new.links.items linking.new.counts.counts.items) }
     ensures last { OnOk result (IfSome linking.new.counts.last (HasOwned grid.now)) }
 {
     let maker = &makers[number as usize];
     let mut last = s.a;
-    linking.counts.add(grid, last)?;
+    linking.counts.add(grid, last, maker.times())?;
     for record in inner {
         add_step(linking, grid, maker, last, record.pixel)?;
         last = record.pixel;
@@ -146,7 +146,7 @@ fn link_routes<M: MakesLinks<L>, L: Ordered + Copy, A: Allocator + Copy>(
     requires inner { AreInner segments.now records.now }
     requires ascending { AllPairs (λ r q. record_order r q ≡ Less) records.now }
     requires within { All (λ r. (first ≤ r.segment) × (r.segment < past)) records.now }
-    ensures { IfOk result (λ f. HasRoutes grid.now M.link_of segments.now makers.now first past records.now f.links.items.items f.records.items) }
+    ensures { IfOk result (λ f. HasRoutes grid.now M.link_of M.times_of segments.now makers.now first past records.now f.links.items.items f.records.items) }
 {
     let room = records
         .len()
@@ -181,7 +181,7 @@ pub(crate) fn link_share<M: MakesLinks<L>, L: Ordered + Copy, T: Tiled, A: Alloc
     requires one_for_each { length makers.now ≡ length segments.now }
     requires covered { HaveTiles grid.now segments.now }
     requires inner { AreInner segments.now (flat_map (λ p. p.records.items) pieces.now) }
-    ensures linked { IfOk result (λ f. HasLinked grid.now M.link_of makers.now (within segment_of share.span (flat_map (λ p. p.records.items) pieces.now ++ ends_from 0 segments.now)) f.links.items.items f.records.items) }
+    ensures linked { IfOk result (λ f. HasLinked grid.now M.link_of M.times_of makers.now (within segment_of share.span (flat_map (λ p. p.records.items) pieces.now ++ ends_from 0 segments.now)) f.links.items.items f.records.items) }
     ensures short { IfOk result (λ f. length f.links.items.items < 2 ^ 32) }
 {
     if segments.len() > u32::MAX as usize {
@@ -236,7 +236,7 @@ pub(crate) fn link_in_parts<
     requires one_for_each { length makers.now ≡ length segments.now }
     requires covered { HaveTiles grid.now segments.now }
     requires inner { AreInner segments.now (flat_map (λ p. p.records.items) pieces.now) }
-    ensures { IfOk result (λ f. HasLinked grid.now M.link_of makers.now (flat_map (λ p. p.records.items) pieces.now ++ ends_from 0 segments.now) (flat_map (λ l. l.items.items) f.links.items) f.records.items) }
+    ensures { IfOk result (λ f. HasLinked grid.now M.link_of M.times_of makers.now (flat_map (λ p. p.records.items) pieces.now ++ ends_from 0 segments.now) (flat_map (λ l. l.items.items) f.links.items) f.records.items) }
 {
     let shares = shares_of_records(alloc, parts, pieces, segments.len())?;
     let found = map_parts(
@@ -245,7 +245,7 @@ pub(crate) fn link_in_parts<
         &shares,
         |share: Share| -> Result<Linked<L, A>, NoMemory>
             requires { (length makers.now ≡ length segments.now) × HaveTiles grid.now segments.now × AreInner segments.now (flat_map (λ p. p.records.items) pieces.now) }
-            ensures { IfOk result (λ f. HasLinked grid.entry.now M.link_of makers.entry.now (within segment_of share.span (flat_map (λ p. p.records.items) pieces.entry.now ++ ends_from 0 segments.entry.now)) f.links.items.items f.records.items) }
+            ensures { IfOk result (λ f. HasLinked grid.entry.now M.link_of M.times_of makers.entry.now (within segment_of share.span (flat_map (λ p. p.records.items) pieces.entry.now ++ ends_from 0 segments.entry.now)) f.links.items.items f.records.items) }
         { link_share(alloc, grid, pieces, segments, makers, share) },
     )?;
     let (links, counts) = parted(alloc, found)?;

@@ -6,7 +6,8 @@ ghost use Rattle.geom.specs.declared.segment.Source.{Source};
 ghost use Rattle.geom.specs.Rounded.{AreRounded, HasEvenDegrees, edges_of, odd_edges};
 ghost use Rattle.geom.specs.Segments.{AreClosed};
 ghost use Rattle.grid.specs.Tiles.{tile_count};
-ghost use Rattle.linking.specs.Gathered.{AreTileNumbers, HaveTiles};
+ghost use Rattle.distinct.specs.Copies.{AreCopiesRounded, all_copies};
+ghost use Rattle.linking.specs.Gathered.{AreTileNumbersBy, HaveTiles};
 ghost use Rattle.linking.specs.Links.{AreRouteLinks, HasRecords};
 ghost use Rattle.tile_book.specs.Books.{StandInOrder};
 
@@ -20,6 +21,7 @@ use crate::rounded::{Rounded, TileNumbers};
 use crate::shares::item_count;
 use crate::span::Share;
 use crate::tile_piece::{TilePiece, Tiled};
+use distinct::Copies;
 use geom::{Counted, NoMemory, Pt, Seg};
 use grid::Grid;
 use routing::Record;
@@ -63,11 +65,10 @@ pub fn rounded_by_records<A: Allocator + Copy>(
     Ok(rounded_of(segments, edges, tiles, remade))
 }
 
-/// The rounded edges of the segments, ascending with their counts, and each tile's numbers, of the pieces of all cells in their
-/// order, which are known to be those of the segments over these cells: nothing is binned, compared or made anew. Where the
-/// segments of a layer close, every point is an end of an even number of the edges that its count has odd. The cells needn't be
-/// the tiles of the grid, whose numbers are counted from what the pieces have. More records than a `u32` counts are refused as
-/// want of memory.
+/// The rounded edges of segments, each as often as it has copies, ascending with their counts, and each tile's numbers, of the pieces of
+/// all cells in their order, which are known to be those of the segments over these cells: nothing is binned, compared or made anew. The
+/// cells needn't be the tiles of the grid, whose numbers are counted from what the pieces have. More records than a `u32` counts are
+/// refused as want of memory.
 pub fn gather_made<T: Tiled, A: Allocator + Copy>(
     alloc: A,
     pieces: Vec<TilePiece<T, A>, A>,
@@ -75,6 +76,7 @@ pub fn gather_made<T: Tiled, A: Allocator + Copy>(
     cells: &Grid,
     grid: &Grid,
     segments: &[Seg],
+    copies: &[Copies],
 ) -> Result<Rounded<A>, NoMemory>
     requires cells { cells.now ≡ T.grid }
     requires segments { segments.now ≡ T.segments }
@@ -82,16 +84,15 @@ pub fn gather_made<T: Tiled, A: Allocator + Copy>(
     requires covered { HaveTiles grid.now segments.now }
     requires one_each { length pieces.items ≡ tile_count cells.now }
     requires in_order { StandInOrder (λ p. p.number) pieces.items }
-    ensures rounded { IfOk result (λ r. ∥ AreRounded segments.now r.edges.items ∥₁) }
-    ensures noded { IfOk result (λ r. IsNoded (edges_of r.edges.items)) }
-    ensures even { IfOk result (λ r. (layer : Source) → AreClosed layer segments.now → HasEvenDegrees (odd_edges layer r.edges.items)) }
-    ensures tiles { IfOk result (λ r. AreTileNumbers grid.now segments.now (tile_count grid.now) r.tiles.items) }
+    requires copies { length copies.now ≡ length segments.now }
+    ensures rounded { IfOk result (λ r. ∥ AreCopiesRounded segments.now copies.now r.edges.items ∥₁) }
+    ensures tiles { IfOk result (λ r. AreTileNumbersBy all_copies grid.now segments.now copies.now (tile_count grid.now) r.tiles.items) }
     ensures remade { IfOk result (λ r. r.remade ≡ remade) }
 {
-    let found = link_alone(alloc, pieces, cells, grid, segments, segments)?;
+    let found = link_alone(alloc, pieces, cells, grid, segments, copies)?;
     let LinkedAlone { links, tiles } = found;
     let edges = counts_in_order(alloc, &links)?;
-    Ok(rounded_of(segments, edges, tiles, remade))
+    Ok(rounded_of_copies(segments, copies, edges, tiles, remade))
 }
 
 /// As `gather_made`, in at most so many parts, each in a thread of its own.
@@ -104,6 +105,7 @@ pub fn gather_made_in_parts<T: Tiled + Sync, A: Allocator + Copy + Send + Sync, 
     cells: &Grid,
     grid: &Grid,
     segments: &[Seg],
+    copies: &[Copies],
 ) -> Result<Rounded<A>, NoMemory>
     requires cells { cells.now ≡ T.grid }
     requires segments { segments.now ≡ T.segments }
@@ -111,16 +113,15 @@ pub fn gather_made_in_parts<T: Tiled + Sync, A: Allocator + Copy + Send + Sync, 
     requires covered { HaveTiles grid.now segments.now }
     requires one_each { length pieces.items ≡ tile_count cells.now }
     requires in_order { StandInOrder (λ p. p.number) pieces.items }
-    ensures rounded { IfOk result (λ r. ∥ AreRounded segments.now r.edges.items ∥₁) }
-    ensures noded { IfOk result (λ r. IsNoded (edges_of r.edges.items)) }
-    ensures even { IfOk result (λ r. (layer : Source) → AreClosed layer segments.now → HasEvenDegrees (odd_edges layer r.edges.items)) }
-    ensures tiles { IfOk result (λ r. AreTileNumbers grid.now segments.now (tile_count grid.now) r.tiles.items) }
+    requires copies { length copies.now ≡ length segments.now }
+    ensures rounded { IfOk result (λ r. ∥ AreCopiesRounded segments.now copies.now r.edges.items ∥₁) }
+    ensures tiles { IfOk result (λ r. AreTileNumbersBy all_copies grid.now segments.now copies.now (tile_count grid.now) r.tiles.items) }
     ensures remade { IfOk result (λ r. r.remade ≡ remade) }
 {
-    let found = link_pieces(rt, alloc, parts, pieces, cells, grid, segments, segments)?;
+    let found = link_pieces(rt, alloc, parts, pieces, cells, grid, segments, copies)?;
     let LinkedPieces { links, tiles } = found;
     let edges = counts_in_parts(rt, alloc, parts, links)?;
-    Ok(rounded_of(segments, edges, tiles, remade))
+    Ok(rounded_of_copies(segments, copies, edges, tiles, remade))
 }
 
 /// The links of the pieces of all cells, made by what stands for the segments, and each tile's numbers, in at most so many parts.
@@ -148,7 +149,7 @@ pub(crate) fn link_pieces<
     requires in_order { StandInOrder (λ p. p.number) pieces.items }
     requires one_for_each { length makers.now ≡ length segments.now }
     ensures links { IfOk result (λ r. ∥ AreRouteLinks M.link_of segments.now makers.now (flat_map (λ l. l.items.items) r.links.items) ∥₁) }
-    ensures tiles { IfOk result (λ r. AreTileNumbers grid.now segments.now (tile_count grid.now) r.tiles.items) }
+    ensures tiles { IfOk result (λ r. AreTileNumbersBy M.times_of grid.now segments.now makers.now (tile_count grid.now) r.tiles.items) }
 {
     let found = link_in_parts(rt, alloc, parts, grid, &pieces, segments, makers)?;
     let AllLinked { links, records } = found;
@@ -177,7 +178,7 @@ pub(crate) fn link_alone<M: MakesLinks<L>, L: Ordered + Copy, T: Tiled, A: Alloc
     requires one_for_each { length makers.now ≡ length segments.now }
     ensures links { IfOk result (λ r. ∥ AreRouteLinks M.link_of segments.now makers.now r.links.items.items ∥₁) }
     ensures short { IfOk result (λ r. length r.links.items.items < 2 ^ 32) }
-    ensures tiles { IfOk result (λ r. AreTileNumbers grid.now segments.now (tile_count grid.now) r.tiles.items) }
+    ensures tiles { IfOk result (λ r. AreTileNumbersBy M.times_of grid.now segments.now makers.now (tile_count grid.now) r.tiles.items) }
 {
     let whole = Share::whole(item_count(&pieces));
     let linked = link_share(alloc, grid, &pieces, segments, makers, whole)?;
@@ -242,6 +243,26 @@ fn rounded_of<A: Allocator>(
     ensures rounded { ∥ AreRounded segments.now result.edges.items ∥₁ }
     ensures noded { IsNoded (edges_of result.edges.items) }
     ensures even { (layer : Source) → AreClosed layer segments.now → HasEvenDegrees (odd_edges layer result.edges.items) }
+    ensures tiles { result.tiles.items ≡ tiles.items }
+    ensures remade { result.remade ≡ remade }
+{
+    Rounded {
+        edges,
+        tiles,
+        remade,
+    }
+}
+
+/// What was gathered, by the rounded edges of segments with copies.
+fn rounded_of_copies<A: Allocator>(
+    segments: &[Seg],
+    copies: &[Copies],
+    edges: Vec<Counted, A>,
+    tiles: Vec<TileNumbers, A>,
+    remade: u32,
+) -> Rounded<A>
+    requires { ∥ AreCopiesRounded segments.now copies.now edges.items ∥₁ }
+    ensures edges { result.edges.items ≡ edges.items }
     ensures tiles { result.tiles.items ≡ tiles.items }
     ensures remade { result.remade ≡ remade }
 {

@@ -7,7 +7,7 @@
 
 ghost use Rattle.std.specs.Prelude.{◌≡◌, ◌≢◌, ◌<◌, ◌≤◌, All, AllPairs, IfOk, IfSome, OnOk, get_or, length, map, replicate, slice_range, sum_by};
 ghost use Rattle.grid.specs.Tiles.{HasTile, Owns, tile_count};
-ghost use Rattle.linking.specs.Numbers.{ArePaired, AreTileCounts, CountsOne, HasOwned};
+ghost use Rattle.linking.specs.Numbers.{ArePaired, AreTileCounts, CountsMore, HasOwned};
 ghost use Rattle.linking.specs.Shares.{AreSums};
 
 use crate::rounded::TileNumbers;
@@ -63,19 +63,19 @@ impl<A: Allocator> TileCounts<A> {
         })
     }
 
-    /// Counts an item at a point. More than a `u32` counts are refused as want of memory.
+    /// Counts an item at a point so many times. More than a `u32` counts are refused as want of memory.
     #[inline(always)]
-    pub fn add(&mut self, grid: &Grid, point: Pt) -> Result<(), NoMemory>
+    pub fn add(&mut self, grid: &Grid, point: Pt, times: u32) -> Result<(), NoMemory>
         requires tile { HasTile grid.now point }
         requires size { length self.now.counts.items ≡ tile_count grid.now }
         requires last { IfSome self.now.last (HasOwned grid.now) }
-        ensures counted { OnOk result (CountsOne grid.now point self.old.counts.items self.new.counts.items) }
+        ensures counted { OnOk result (CountsMore grid.now point times self.old.counts.items self.new.counts.items) }
         ensures last { OnOk result (IfSome self.new.last (HasOwned grid.now)) }
     {
         let owned = owner_of(grid, self.last, point);
         self.last = Some(owned);
         let tile = owned.tile as usize;
-        let Some(count) = self.counts[tile].checked_add(1) else {
+        let Some(count) = self.counts[tile].checked_add(times) else {
             return Err(NoMemory);
         };
         self.counts[tile] = count;
@@ -99,11 +99,11 @@ pub(crate) fn count_by_tile<A: Allocator>(
 ) -> Result<Vec<u32, A>, NoMemory>
     requires tiles { All (λ p. HasTile grid.now p) pixels.now }
     requires once { AllPairs (λ p q. p ≢ q) pixels.now }
-    ensures { IfOk result (λ v. AreTileCounts grid.now (λ p. p) pixels.now v.items) }
+    ensures { IfOk result (λ v. AreTileCounts grid.now (λ p. p) (λ p. 1) pixels.now v.items) }
 {
     let mut counts = TileCounts::none(alloc, grid)?;
     for pixel in pixels {
-        counts.add(grid, *pixel)?;
+        counts.add(grid, *pixel, 1)?;
     }
     Ok(counts.into_counts())
 }
@@ -150,7 +150,7 @@ pub(crate) fn hot_in_parts<A: Allocator + Copy + Send + Sync, R: Threads + Sync>
 ) -> Result<Vec<u32, A>, NoMemory>
     requires tiles { All (λ p. HasTile grid.now p) pixels.now }
     requires once { AllPairs (λ p q. p ≢ q) pixels.now }
-    ensures { IfOk result (λ v. AreTileCounts grid.now (λ p. p) pixels.now v.items) }
+    ensures { IfOk result (λ v. AreTileCounts grid.now (λ p. p) (λ p. 1) pixels.now v.items) }
 {
     let cuts = even_parts(alloc, pixels.len(), parts)?;
     let lists = map_parts(
@@ -159,7 +159,7 @@ pub(crate) fn hot_in_parts<A: Allocator + Copy + Send + Sync, R: Threads + Sync>
         &cuts,
         |part: Part| -> Result<Vec<u32, A>, NoMemory>
             requires { (part.from ≤ part.past) × (part.past ≤ length pixels.now) × All (λ p. HasTile grid.now p) pixels.now × AllPairs (λ p q. p ≢ q) pixels.now }
-            ensures { IfOk result (λ v. AreTileCounts grid.entry.now (λ p. p) (slice_range pixels.entry.now part.from part.past) v.items) }
+            ensures { IfOk result (λ v. AreTileCounts grid.entry.now (λ p. p) (λ p. 1) (slice_range pixels.entry.now part.from part.past) v.items) }
         { count_by_tile(alloc, grid, &pixels[part.from..part.past]) },
     )?;
     summed(alloc, grid.tiles() as usize, &lists)

@@ -1,14 +1,13 @@
 //! Lists in an order that definitions know.
 
-ghost use Rattle.std.proofs.Common.{ap, refl, rules, sym};
-ghost use Rattle.std.specs.Cmp.Rules.{comparing};
+ghost use Rattle.std.proofs.Common.{ap, refl, sym};
 ghost use Rattle.std.specs.Cmp.{int_cmp_is};
 ghost use Rattle.std.specs.Ordering.{int_cmp, nat_cmp, ordering_then};
 ghost use Rattle.std.specs.Prelude.{◌≡◌, ◌<ℤ◌};
 ghost use Rattle.std.specs.declared.cmp.Ordering.{Ordering};
 ghost use Rattle.std.specs.declared.cmp.Ordering.TheVariants.{Less};
 ghost use Rattle.std.specs.List.Sorted.{IsPermutation, IsSorted};
-ghost use Rattle.linking.specs.Orders.{feature_link_order, layer_number, link_order, point_order};
+ghost use Rattle.linking.specs.Orders.{copies_order, feature_link_order, link_order, point_order};
 
 use crate::keyed::{Keyed, sorted};
 use crate::link::Link;
@@ -27,9 +26,9 @@ pub trait Ordered: Ord + Keyed {
 impl Ordered for Link {
     ghost order = { link_order };
 
-    ghost order_is = { Prim.search (comparing, rules) };
+    ghost order_is = { λ l m. refl };
 
-    ghost by_key = { λ l m h. sym (ap (λ (o : Ordering). ordering_then (ordering_then (ordering_then o (int_cmp l.edge.p.y m.edge.p.y)) (point_order l.edge.q m.edge.q)) (nat_cmp (layer_number l.layer) (layer_number m.layer))) (int_cmp_is l.edge.p.x m.edge.p.x Less h)) };
+    ghost by_key = { λ l m h. sym (ap (λ (o : Ordering). ordering_then (ordering_then (ordering_then o (int_cmp l.edge.p.y m.edge.p.y)) (point_order l.edge.q m.edge.q)) (copies_order l.copies m.copies)) (int_cmp_is l.edge.p.x m.edge.p.x Less h)) };
 }
 
 impl Ordered for FeatureLink {

@@ -1,8 +1,8 @@
 -- Steps over a border, read in order, and the links that they make.
 use Rattle.std.proofs.Common.{◌≡◌, ◌≢◌, ℕ, zero, suc, ◌+◌, ◌<◌, ◌≤◌, inl, inr, List, [], ◌∷◌, ◌++◌, Bool, true, false, cond, refl, sym, ap, ◌∙◌, append-nil, append_assoc, arith, subst, length, get_or, take}
-use Rattle.std.specs.Prelude.{◌&&◌, AllPairs, Contains, IfSome, MatchOption, None, Option, Some, count_by, nat_lt}
+use Rattle.std.specs.Prelude.{AllPairs, Contains, IfSome, MatchOption, None, Option, Some, count_by, nat_lt}
 use Rattle.std.specs.List.{AllZip}
-use Rattle.std.proofs.lemmas.Bool.{and_right, cases_lt, cases_order, ltb-false, ltb-true}
+use Rattle.std.proofs.lemmas.Bool.{cases_lt, cases_order, ltb-false, ltb-true}
 use Rattle.std.proofs.lemmas.List.{length-take, take_all}
 use Rattle.std.proofs.lemmas.List.Elements.{Contains-get_or}
 use Rattle.std.proofs.lemmas.List.Sums.{sum_by-append, sum_by_push}
@@ -13,7 +13,9 @@ use Rattle.geom.specs.Rounded.{joins}
 use Rattle.geom.specs.Segments.{same_source}
 use Rattle.geom.proofs.Lists.{some_same}
 use Rattle.linking.specs.declared.link.Link.{Link}
-use Rattle.linking.specs.Links.{IsBetween, count_links, is_of, same_edge}
+use Rattle.distinct.specs.Copies.{copies_in, one_in}
+use Rattle.linking.specs.Links.{IsBetween, copies_of, count_links, same_edge}
+use Rattle.linking.proofs.CopyLinks.{one_copy}
 use Rattle.linking.proofs.Walk.{joins_is}
 use Rattle.strips_law.specs.declared.line.Open.{Open}
 use Rattle.strips_law.specs.declared.line.Carried.{Carried}
@@ -67,25 +69,25 @@ module _ (right : List Open) (carried : List Carried) (i : ℕ) (o : Open) (c : 
       nothing true = omega arith
       nothing false = omega arith
 
-  pub link_more : (p : Pt) (f : Edge) → o.near ≡ Some p → IsBetween f p c.pixel → count_links e layer (links ++ (record { edge = f; layer = o.layer }) ∷ []) ≡ count_by (joins e) (steps_over layer (take (i + 1) right) (take (i + 1) carried))
+  pub link_more : (p : Pt) (f : Edge) → o.near ≡ Some p → IsBetween f p c.pixel → count_links e layer (links ++ (record { edge = f; copies = one_in o.layer }) ∷ []) ≡ count_by (joins e) (steps_over layer (take (i + 1) right) (take (i + 1) carried))
   link_more p f some between =
-      sum_by_push (λ (m : Link). cond {A = ℕ} (is_of e layer m) 1 0) links (record { edge = f; layer = o.layer })
-      ∙ ap (λ (n : ℕ). count_links e layer links + n) (one (same_source o.layer layer))
+      sum_by_push (copies_of e layer) links (record { edge = f; copies = one_in o.layer })
+      ∙ ap (λ (n : ℕ). count_links e layer links + n) (one (same_source o.layer layer) (one_copy layer o.layer))
       ∙ sym (steps_more ∙ ap (λ (n : Option Pt). count_links e layer links + count_by (joins e) (cond (same_source o.layer layer) (step_over n c.pixel) [])) some)
     where
-      whole : (b : Bool) → (b && true) ≡ b
-      whole true = refl
-      whole false = refl
+      nothing : (b : Bool) → cond {A = ℕ} b 0 0 ≡ 0
+      nothing true = refl
+      nothing false = refl
 
-      one : (b : Bool) → cond {A = ℕ} (same_edge e f && b) 1 0 ≡ count_by (joins e) (cond b ((p, c.pixel) ∷ []) [])
-      one true = ap (λ (b : Bool). cond {A = ℕ} b 1 0) (whole (same_edge e f) ∙ sym (joins_is e f p c.pixel between)) ∙ plain (cond (joins e (p, c.pixel)) 1 0)
+      one : (b : Bool) → copies_in layer (one_in o.layer) ≡ cond {A = ℕ} b 1 0 → cond {A = ℕ} (same_edge e f) (copies_in layer (one_in o.layer)) 0 ≡ count_by (joins e) (cond b ((p, c.pixel) ∷ []) [])
+      one true is = ap (λ (n : ℕ). cond {A = ℕ} (same_edge e f) n 0) is ∙ ap (λ (b : Bool). cond {A = ℕ} b 1 0) (sym (joins_is e f p c.pixel between)) ∙ plain (cond (joins e (p, c.pixel)) 1 0)
         where
           plain : (n : ℕ) → n ≡ 0 + n
           plain n = omega arith
-      one false = ap (λ (b : Bool). cond {A = ℕ} b 1 0) (and_right (same_edge e f) false refl)
+      one false is = ap (λ (n : ℕ). cond {A = ℕ} (same_edge e f) n 0) is ∙ nothing (same_edge e f)
 
   -- by the link that is made of it
-  pub linked_more : AreApart right carried → (made : Option Link) → (o.near ≡ None → made ≡ None) → ((p : Pt) → o.near ≡ Some p → p ≢ c.pixel → (f : Edge) × IsBetween f p c.pixel × (made ≡ Some (record { edge = f; layer = o.layer })))
+  pub linked_more : AreApart right carried → (made : Option Link) → (o.near ≡ None → made ≡ None) → ((p : Pt) → o.near ≡ Some p → p ≢ c.pixel → (f : Edge) × IsBetween f p c.pixel × (made ≡ Some (record { edge = f; copies = one_in o.layer })))
       → ((l : Link) → made ≡ Some l → count_links e layer (links ++ l ∷ []) ≡ count_by (joins e) (steps_over layer (take (i + 1) right) (take (i + 1) carried)))
       × (made ≡ None → count_links e layer links ≡ count_by (joins e) (steps_over layer (take (i + 1) right) (take (i + 1) carried)))
   linked_more apart made none some = by_near o.near refl
@@ -100,7 +102,7 @@ module _ (right : List Open) (carried : List Carried) (i : ℕ) (o : Open) (c : 
       by_near (Some p) h =
           let (f, between, is) = some p h (subst (λ (n : Option Pt). IfSome n (λ q. q ≢ c.pixel)) h differs) in (
             λ l k. subst (λ (m : Link). count_links e layer (links ++ m ∷ []) ≡ count_by (joins e) (steps_over layer (take (i + 1) right) (take (i + 1) carried))) (some_same is k) (link_more p f h between),
-            λ k. let n : None ≡ Some (record { edge = f; layer = o.layer }) = sym k ∙ is in absurd (cc),
+            λ k. let n : None ≡ Some (record { edge = f; copies = one_in o.layer }) = sym k ∙ is in absurd (cc),
           )
 
 pub steps_end : (layer : Source) (os : List Open) (cs : List Carried) (i : ℕ) → length os ≤ i → length cs ≤ i → steps_over layer (take i os) (take i cs) ≡ steps_over layer os cs

@@ -2,7 +2,7 @@
 use Rattle.std.proofs.Common.{◌≡◌, ℕ, suc, ◌+◌, ◌<◌, List, [], ◌∷◌, refl, sym, ap, ◌∙◌, subst, arith, length}
 use Rattle.std.proofs.lemmas.List.{length-map}
 use Rattle.std.proofs.lemmas.Option.{slice_get_within}
-use Rattle.std.specs.Prelude.{All, Some, count_by, get_or, slice_get}
+use Rattle.std.specs.Prelude.{All, Bool, Some, count_by, get_or, slice_get}
 use Rattle.std.specs.List.{AllZip}
 use Rattle.std.proofs.lemmas.List.Elements.{Contains-get_or}
 use Rattle.geom.specs.declared.point.Pt.{Pt}
@@ -12,10 +12,10 @@ use Rattle.geom.specs.declared.segment.Source.TheVariants.{A, B}
 use Rattle.geom.specs.declared.edge.Counted.{Counted}
 use Rattle.geom.specs.declared.edge.Edge.{Edge}
 use Rattle.geom.specs.Rounded.{joins}
-use Rattle.geom.specs.Segments.{same_source}
 use Rattle.routing.specs.declared.record.Record.{Record}
 use Rattle.linking.specs.declared.link.Link.{Link}
-use Rattle.linking.specs.Links.{AreApart, AreCounts, AreNeighbourLinks, count_links, is_of, layer_link}
+use Rattle.linking.specs.Links.{AreApart, AreCounts, AreNeighbourLinks, PassLinks, count_links, layer_link, wanted_steps}
+use Rattle.linking.proofs.CopyLinks.{layer_count}
 use Rattle.linking.proofs.Flat.{AreFrom, AreFrom-later, StandFrom, StandFrom-first, StandFrom-rest, flat_count, in_route, passes_at_is, route_ordered, routes_from}
 use Rattle.linking.proofs.Walk.{layer_steps_are, pixels_differ}
 use Rattle.strips_law.specs.declared.line.Line.{Line}
@@ -59,10 +59,14 @@ module _ (In : Pt → Type 0) (lines : List Line) (records : List Record) (are :
   module _ (links : List Link) (near : AreNeighbourLinks layer_link (segments_of lines) records links) where
     same_count : (e : Edge) (layer : Source) → count_links e layer links ≡ count_by (joins e) (line_steps layer lines parts)
     same_count e layer =
-        near.count_is e (λ (s : Seg). same_source s.layer layer) (is_of e layer) (λ s f. refl)
-        ∙ flat_count _ e (λ (s : Seg). same_source s.layer layer) In (segments_of lines) 0 (segments_of lines) (segments_of lines) records refl (omega arith)
-        (λ j s at. passes_at_is (λ (s : Seg). same_source s.layer layer) (segments_of lines) (0 + j) s (let n : j ≡ 0 + j = omega arith in subst (λ (n : ℕ). slice_get (segments_of lines) n ≡ Some s) n at)) from
+        layer_count e layer links (λ wanted. count_by (joins e) (wanted_steps wanted (segments_of lines) parts)) wanted_count
         ∙ ap (count_by (joins e)) (layer_steps_are layer (segments_of lines) parts)
+      where
+        wanted_count : (wanted : Seg → Bool) (test : Link → Bool) → PassLinks layer_link e wanted test → count_by test links ≡ count_by (joins e) (wanted_steps wanted (segments_of lines) parts)
+        wanted_count wanted test pass =
+            near.count_is e wanted test pass
+            ∙ flat_count _ e wanted In (segments_of lines) 0 (segments_of lines) (segments_of lines) records refl (omega arith)
+            (λ j s at. passes_at_is wanted (segments_of lines) (0 + j) s (let n : j ≡ 0 + j = omega arith in subst (λ (n : ℕ). slice_get (segments_of lines) n ≡ Some s) n at)) from
 
     pub inner_is : (inner : List Counted) → AreCounts links inner → AreCountsOf (line_steps A lines parts) (line_steps B lines parts) inner
     inner_is inner counts = record {

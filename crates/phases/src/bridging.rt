@@ -7,12 +7,14 @@ ghost use Rattle.geom.specs.declared.edge.Counted.{Counted};
 ghost use Rattle.geom.specs.declared.edge.Edge.{Edge};
 ghost use Rattle.geom.specs.declared.segment.Source.{Source};
 ghost use Rattle.geom.specs.Rounded.{joins};
+ghost use Rattle.distinct.specs.Copies.{one_in};
 ghost use Rattle.linking.specs.Links.{IsBetween, count_links};
 ghost use Rattle.strips_law.specs.declared.line.Carried.{Carried};
 ghost use Rattle.strips_law.specs.declared.line.Line.{Line};
 ghost use Rattle.strips_law.specs.Strips.{AreAcross, AreCarried, AreOrdered, CarriesOn, IsRoundedStrip, steps_over};
 ghost use Rattle.phases.specs.Bridged.{AreApart, ArePassing};
 
+use distinct::Copies;
 use geom::{Counted, Edge, NoMemory, Pt};
 use linking::{Link, counts};
 use std::alloc::Allocator;
@@ -29,13 +31,13 @@ pub struct Bridged<A: Allocator> {
 /// The step of a line over a border: from the last pixel before it, where there is one in the strip, to the first one behind it.
 fn link_over(line: Open, there: Carried) -> Option<Link>
     ensures none { line.near ≡ None → result ≡ None }
-    ensures some { (p : Pt) → line.near ≡ Some p → p ≢ there.pixel → (edge : Edge) × IsBetween edge p there.pixel × (result ≡ Some (record { edge = edge; layer = line.layer })) }
+    ensures some { (p : Pt) → line.near ≡ Some p → p ≢ there.pixel → (edge : Edge) × IsBetween edge p there.pixel × (result ≡ Some (record { edge = edge; copies = one_in line.layer })) }
 {
     let pixel = line.near?;
     let edge = Edge::between(pixel, there.pixel)?;
     Some(Link {
         edge,
-        layer: line.layer,
+        copies: Copies::one(line.layer),
     })
 }
 

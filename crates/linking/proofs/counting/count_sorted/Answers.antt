@@ -1,19 +1,7 @@
-use Rattle.std.proofs.Common.{sym, arith, ◌+◌, ◌<◌, ◌^◌, ◌≡◌}
-use Rattle.linking.proofs.Tally.{IsAt, IsTally, ascending_in_order, ne_apart, ne_same, IsTally-none, IsTally-next, IsTally-more, tally_small, counts_are}
+use Rattle.std.proofs.Common.{sym, ◌≡◌}
+use Rattle.linking.proofs.Tally.{IsAt, IsTally, ascending_in_order, ne_apart, ne_same, IsTally-none, IsTally-next, IsTally-more, counts_are}
 use Rattle.linking.proofs.counting.count_sorted.Goals as goal
 use Rattle.linking.proofs.counting.count_sorted.Goals.{then-ne+in_ok-add_counted, else-ne}
-
-pub and_one-current-requires : goal.and_one-current-requires
-and_one-current-requires g c =
-    let links = c.args.links.now in
-    let i = c.loop-link.link-index in
-    let short = c.requires.short in
-    let below = c.loop-link-test.true in
-    let small : (c.if-ne.current.in_a + 1 < 2 ^ 32) × (c.if-ne.current.in_b + 1 < 2 ^ 32) = elim c.if-ne.branch [
-      | then-ne+in_ok-add_counted w ↦ rw w.current-is (let a = w.uncounted-current-then-ne.ensures.in_a in let b = w.uncounted-current-then-ne.ensures.in_b in (omega arith, omega arith))
-      | else-ne w ↦ rw w.current-is (let t = tally_small links i c.loop-link.list.items c.loop-link.current c.loop-link.invariant.0 in (omega arith, omega arith))
-    ] in
-    record { room_a = small.0; room_b = small.1 }
 
 pub loop-link-init : goal.loop-link-init
 loop-link-init g c =
@@ -38,7 +26,7 @@ loop-link-preserved g c =
       )
       | else-ne w ↦ rw (w.list-is, w.current-is) (c.loop-link.invariant.0, ne_same c.loop-link.current.edge x.edge c.ne.result c.ne.ensures w.if-ne.false)
     ] in
-    IsTally-more links i c.if-ne.list.items c.if-ne.current c.and_one-current.result x c.loop-link-test.true c.link-item.is ready.0 ready.1 c.and_one-current.ensures.edge c.and_one-current.ensures.in_a c.and_one-current.ensures.in_b
+    IsTally-more links i c.if-ne.list.items c.if-ne.current c.in_ok-current.current x c.loop-link-test.true c.link-item.is ready.0 ready.1 c.in_ok-current.ensures.0 c.in_ok-current.ensures.1 c.in_ok-current.ensures.2
 
 pub returns : goal.returns
 returns g c =

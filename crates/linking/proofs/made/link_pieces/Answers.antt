@@ -6,7 +6,7 @@ use Rattle.grid.specs.Tiles.{HasTile, Owns}
 use Rattle.routing.specs.declared.record.Record.{Record}
 use Rattle.routing.specs.Pieces.{IsPartOf}
 use Rattle.linking.specs.Ends.{ends_from}
-use Rattle.linking.specs.Links.{AreRecords, HasRecords}
+use Rattle.linking.specs.Links.{AreRecords, HasRecords, times_at}
 use Rattle.linking.specs.Numbers.{ArePaired}
 use Rattle.linking.specs.Shares.{HasLinked}
 use Rattle.linking.proofs.Counted.{all_inner, all_numbers, all_records, known_parts, paired_are, pixels_in, pixels_once}
@@ -76,7 +76,7 @@ returns-clause-links g c =
     let in_cells = are_covered cells segments c.requires.covered_by_cells in
     let in_tiles = are_covered grid segments c.requires.covered in
     let those = found ++ ends_from 0 segments in
-    let linked = subst (λ (rs : List Record). HasLinked grid g.M.MakesLinks.link_of c.args.makers.now (rs ++ ends_from 0 segments) (flat_map (λ l. l.items.items) c.in_ok-found.found.links.items) c.in_ok-found.found.records.items) (ap (flat_map (λ p. p.records.items)) c.deref.ensures.value) c.in_ok-found.ensures in
+    let linked = subst (λ (rs : List Record). HasLinked grid g.M.MakesLinks.link_of g.M.MakesLinks.times_of c.args.makers.now (rs ++ ends_from 0 segments) (flat_map (λ l. l.items.items) c.in_ok-found.found.links.items) c.in_ok-found.found.records.items) (ap (flat_map (λ p. p.records.items)) c.deref.ensures.value) c.in_ok-found.ensures in
     let order : HasRecords segments those → AreRecords segments linked.records = λ has. gathered_are segments those linked.records has linked.once in
     ∥∥₁_map (all_records cells grid segments hot found in_cells in_tiles all linked.records order) (λ r. route_links g.M.MakesLinks.link_of segments c.args.makers.now linked.records (flat_map (λ l. l.items.items) c.in_ok-found.found.links.items) c.requires.one_for_each r linked.linked.links_are)
 
@@ -94,8 +94,8 @@ returns-clause-tiles g c =
     let in_tiles = are_covered grid segments c.requires.covered in
     let same : c.deref-2.result.now ≡ hot = c.deref-2.ensures.value ∙ c.in_ok-pixels.ensures in
     let those = found ++ ends_from 0 segments in
-    let linked = subst (λ (rs : List Record). HasLinked grid g.M.MakesLinks.link_of c.args.makers.now (rs ++ ends_from 0 segments) (flat_map (λ l. l.items.items) c.in_ok-found.found.links.items) c.in_ok-found.found.records.items) (ap (flat_map (λ p. p.records.items)) c.deref.ensures.value) c.in_ok-found.ensures in
+    let linked = subst (λ (rs : List Record). HasLinked grid g.M.MakesLinks.link_of g.M.MakesLinks.times_of c.args.makers.now (rs ++ ends_from 0 segments) (flat_map (λ l. l.items.items) c.in_ok-found.found.links.items) c.in_ok-found.found.records.items) (ap (flat_map (λ p. p.records.items)) c.deref.ensures.value) c.in_ok-found.ensures in
     let order : HasRecords segments those → AreRecords segments linked.records = λ has. gathered_are segments those linked.records has linked.once in
     let paired : ArePaired c.in_ok-hot.hot.items c.in_ok-found.found.records.items c.in_ok-tiles.tiles.items = subst (λ (x : List ℕ × List ℕ). ArePaired x.0 x.1 c.in_ok-tiles.tiles.items) (λ i. (c.deref-3.ensures.value i, c.deref-4.ensures.value i)) c.in_ok-tiles.ensures in
-    all_numbers cells grid segments hot found in_cells in_tiles all linked.records order c.deref-2.result.now linked.records c.in_ok-tiles.tiles.items same refl
-    (paired_are grid c.deref-2.result.now linked.records c.in_ok-hot.hot.items c.in_ok-found.found.records.items c.in_ok-tiles.tiles.items c.in_ok-hot.ensures linked.linked.counts_are paired)
+    all_numbers cells grid segments hot found in_cells in_tiles all linked.records order g.M.MakesLinks.times_of c.args.makers.now c.deref-2.result.now linked.records c.in_ok-tiles.tiles.items same refl
+    (paired_are grid c.deref-2.result.now (λ r. times_at g.M.MakesLinks.times_of c.args.makers.now r.segment) linked.records c.in_ok-hot.hot.items c.in_ok-found.found.records.items c.in_ok-tiles.tiles.items c.in_ok-hot.ensures linked.linked.counts_are paired)

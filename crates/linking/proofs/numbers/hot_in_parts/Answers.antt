@@ -31,7 +31,7 @@ returns g c =
     let lists = c.in_ok-lists.lists.items in
     let whole = slices_whole pixels cuts (subst (λ (ps : List Part). ArePartsOf 0 (length pixels) ps) (sym c.deref.ensures.value) c.in_ok-cuts.ensures) in
     let once = subst (λ (ps : List Pt). AllPairs (λ p q. p ≡ q → ⊥) ps) (sym whole) c.requires.once in
-    let zip = zip_mapped (λ (p : Part) counts. AreTileCounts grid (λ p. p) (slice_range pixels p.from p.past) counts) (λ l. l.items) cuts lists c.in_ok-lists.ensures in
-    IfOk-weaker c.summed.result _ _ (λ v h. subst (λ (ps : List Pt). AreTileCounts grid (λ p. p) ps v.items) whole
-    (sums_are grid (λ p. p) (λ (p : Part). slice_range pixels p.from p.past) cuts (map (λ l. l.items) lists) v.items once zip
+    let zip = zip_mapped (λ (p : Part) counts. AreTileCounts grid (λ p. p) (λ p. 1) (slice_range pixels p.from p.past) counts) (λ l. l.items) cuts lists c.in_ok-lists.ensures in
+    IfOk-weaker c.summed.result _ _ (λ v h. subst (λ (ps : List Pt). AreTileCounts grid (λ p. p) (λ p. 1) ps v.items) whole
+    (sums_are grid (λ p. p) (λ p. 1) (λ (p : Part). slice_range pixels p.from p.past) cuts (map (λ l. l.items) lists) v.items once zip
     (subst (λ (x : ℕ × List (List ℕ)). AreSums x.0 x.1 v.items) (λ i. (c.tiles.ensures.value i, ap (map (λ l. l.items)) c.deref-2.ensures.value i)) h))) c.summed.ensures
