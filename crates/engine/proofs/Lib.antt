@@ -1,5 +1,6 @@
 pub mod Binned
 pub mod Rounding
+pub mod Copied
 pub mod ReadLayers
 pub mod Running
 pub mod SumsOfTiles

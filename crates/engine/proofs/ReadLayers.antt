@@ -1,5 +1,5 @@
 -- What rounding asks of the segments that were read of two checked layers, and what it gives.
-use Rattle.std.proofs.Common.{◌≡◌, ℕ, List, subst, sym}
+use Rattle.std.proofs.Common.{ℕ, List}
 use Rattle.geom.specs.Rounded.{AreRounded}
 use Rattle.geom.specs.declared.edge.Counted.{Counted}
 use Rattle.geom.specs.declared.segment.Seg.{Seg}
@@ -14,25 +14,16 @@ use Rattle.engine.specs.Rounds.{AreRoundedOver}
 use Rattle.engine.proofs.Known.{ready_of}
 use Rattle.engine.proofs.Rounding.{covered, layers_of}
 
--- `given` is the slice of the segments that were read
-module _ (limit : ℕ) (plan : Plan) (a b : List ℕ) (m n : ℕ) (g : Tiling) (known : ∥ IsCheckedWithin limit plan a b m n g ∥₁) (read given : List Seg) (is : given ≡ read) (s : AreSegmentsOf a b read) where
+module _ (limit : ℕ) (plan : Plan) (a b : List ℕ) (m n : ℕ) (g : Tiling) (known : ∥ IsCheckedWithin limit plan a b m n g ∥₁) (read : List Seg) (s : AreSegmentsOf a b read) where
   -- the tiles have every point of the boxes
-  pub read_covered : HaveTiles g given
-  read_covered = subst (λ (ss : List Seg). HaveTiles g ss) (sym is) (covered limit plan a b s.rings_a s.rings_b g read (ready_of limit plan a b m n g known read s) s)
+  pub read_covered : HaveTiles g read
+  read_covered = covered limit plan a b s.rings_a s.rings_b g read (ready_of limit plan a b m n g known read s) s
 
-module _ (a b : List ℕ) (g : Tiling) (read given : List Seg) (is : given ≡ read) (s : AreSegmentsOf a b read) (counted : List Counted) (rounded : ∥ AreRounded given counted ∥₁) where
-  known_rounded : ∥ AreRounded read counted ∥₁
-  known_rounded = subst (λ (ss : List Seg). ∥ AreRounded ss counted ∥₁) is rounded
-
+module _ (a b : List ℕ) (g : Tiling) (read : List Seg) (s : AreSegmentsOf a b read) (counted : List Counted) (rounded : ∥ AreRounded read counted ∥₁) where
   -- the rounded edges are those of the layers
-  pub read_rounded : (tiles : List TileNumbers) → AreTileNumbers g given (tile_count g) tiles → AreRoundedOver a b g counted tiles
-  read_rounded tiles are = record {
-    segments = read;
-    are_segments = s;
-    rounded = known_rounded;
-    tiles_are = subst (λ (ss : List Seg). AreTileNumbers g ss (tile_count g) tiles) is are;
-  }
+  pub read_rounded : (tiles : List TileNumbers) → AreTileNumbers g read (tile_count g) tiles → AreRoundedOver a b g counted tiles
+  read_rounded tiles are = record { segments = read; are_segments = s; rounded = rounded; tiles_are = are }
 
   -- and close
   pub read_layers : AllInLimit read → ∥ AreLayers counted ∥₁
-  read_layers limits = layers_of a b read counted s limits known_rounded
+  read_layers limits = layers_of a b read counted s limits rounded

@@ -4,7 +4,8 @@ ghost use Rattle.std.specs.Prelude.{◌≡◌, ◌<◌, ◌≤◌, IfOk, MatchRe
 ghost use Rattle.tile_book.specs.Books.{StandInOrder};
 ghost use Rattle.geom.specs.Rounded.{AreRounded};
 ghost use Rattle.grid.specs.Tiles.{tile_count};
-ghost use Rattle.linking.specs.Gathered.{AreTileNumbers, HaveTiles};
+ghost use Rattle.distinct.specs.Copies.{AreCopiesRounded, all_copies};
+ghost use Rattle.linking.specs.Gathered.{AreTileNumbers, AreTileNumbersBy, HaveTiles};
 ghost use Rattle.points_law.specs.Law.{AreLayers};
 ghost use Rattle.engine.specs.FaceBorders.{AreRoundedBorders};
 ghost use Rattle.layers.specs.Segments.{AllInLimit};
@@ -16,11 +17,13 @@ ghost use Rattle.layers.specs.Refusals.{HasOwnRings};
 use crate::cells::{bins_of, cells_alone};
 use crate::engine::{Output, or_fault, report_for};
 use crate::rounds::Pieces;
+use distinct::{Copies, distinct};
 use geom::{NoMemory, Op, RunFault, Seg};
 use grid::Grid;
 use layers::{CheckedInput, Limits, Plan, Reading, check, check_plan, read_one, read_segments};
 use linking::{
-    LimitedSegments, Noded, RoundedBorders, TilePiece, Tiled, gather_borders, gather_made, settled,
+    LimitedSegments, Noded, Rounded, RoundedBorders, TilePiece, Tiled, gather_borders, gather_made,
+    settled,
 };
 use results::{Wanted, text_of};
 use routing::found_in;
@@ -141,23 +144,44 @@ pub(crate) fn rounded_alone<A: Allocator + Copy>(
     ensures none_remade { IfOk result (λ n. n.remade ≡ 0) }
 {
     let segments = read_segments(alloc, checked, read_a, read_b)?;
-    gathered_alone(alloc, &checked.grid, &segments)
+    gathered_alone(alloc, &checked.grid, segments)
 }
 
 /// The rounded edges of segments.
 pub(crate) fn gathered_alone<A: Allocator + Copy>(
     alloc: A,
     grid: &Grid,
-    segments: &[Seg],
+    segments: Vec<Seg, A>,
 ) -> Result<Noded<A>, NoMemory>
-    requires in_limit { AllInLimit segments.now }
-    requires covered { HaveTiles grid.now segments.now }
-    ensures rounded { IfOk result (λ n. ∥ AreRounded segments.now n.edges.items ∥₁) }
-    ensures tiles { IfOk result (λ n. AreTileNumbers grid.now segments.now (tile_count grid.now) n.tiles.items) }
+    requires in_limit { AllInLimit segments.items }
+    requires covered { HaveTiles grid.now segments.items }
+    ensures rounded { IfOk result (λ n. ∥ AreRounded segments.items n.edges.items ∥₁) }
+    ensures tiles { IfOk result (λ n. AreTileNumbers grid.now segments.items (tile_count grid.now) n.tiles.items) }
     ensures none_remade { IfOk result (λ n. n.remade ≡ 0) }
 {
+    let kept = distinct(alloc, &segments)?;
+    drop(segments);
+    let rounded = copies_alone(alloc, grid, &kept.segments, &kept.copies)?;
+    Ok(settled(rounded))
+}
+
+/// The rounded edges of segments with copies.
+fn copies_alone<A: Allocator + Copy>(
+    alloc: A,
+    grid: &Grid,
+    segments: &[Seg],
+    copies: &[Copies],
+) -> Result<Rounded<A>, NoMemory>
+    requires in_limit { AllInLimit segments.now }
+    requires covered { HaveTiles grid.now segments.now }
+    requires copies { length copies.now ≡ length segments.now }
+    ensures rounded { IfOk result (λ r. ∥ AreCopiesRounded segments.now copies.now r.edges.items ∥₁) }
+    ensures tiles { IfOk result (λ r. AreTileNumbersBy all_copies grid.now segments.now copies.now (tile_count grid.now) r.tiles.items) }
+    ensures none_remade { IfOk result (λ r. r.remade ≡ 0) }
+{
     let cells = cells_alone(grid, segments);
-    by_cells_alone::<Brand, A>(alloc, grid, &cells, LimitedSegments { list: segments })
+    let limited = LimitedSegments { list: segments };
+    by_cells_alone::<Brand, A>(alloc, grid, &cells, limited, copies)
 }
 
 /// The same, where the type of the pieces knows the cells and the segments.
@@ -166,18 +190,19 @@ fn by_cells_alone<T: Tiled, A: Allocator + Copy>(
     grid: &Grid,
     cells: &Grid,
     limited: LimitedSegments<'_>,
-) -> Result<Noded<A>, NoMemory>
+    copies: &[Copies],
+) -> Result<Rounded<A>, NoMemory>
     requires tiled { (cells.now ≡ T.grid) × (limited.list.now ≡ T.segments) }
     requires covered_by_cells { HaveTiles cells.now limited.list.now }
     requires covered { HaveTiles grid.now limited.list.now }
-    ensures rounded { IfOk result (λ n. ∥ AreRounded limited.entry.list.now n.edges.items ∥₁) }
-    ensures tiles { IfOk result (λ n. AreTileNumbers grid.now limited.entry.list.now (tile_count grid.now) n.tiles.items) }
-    ensures none_remade { IfOk result (λ n. n.remade ≡ 0) }
+    requires copies { length copies.now ≡ length limited.list.now }
+    ensures rounded { IfOk result (λ r. ∥ AreCopiesRounded limited.entry.list.now copies.now r.edges.items ∥₁) }
+    ensures tiles { IfOk result (λ r. AreTileNumbersBy all_copies grid.now limited.entry.list.now copies.now (tile_count grid.now) r.tiles.items) }
+    ensures none_remade { IfOk result (λ r. r.remade ≡ 0) }
 {
     let segments = limited.list;
     let pieces = pieces_alone::<T, A>(alloc, cells, limited)?;
-    let rounded = gather_made(alloc, pieces, 0, cells, grid, segments)?;
-    Ok(settled(rounded))
+    gather_made(alloc, pieces, 0, cells, grid, segments, copies)
 }
 
 /// The rounded edges that are the border of some feature, with the numbers of the tiles: owners are the features of the segments.

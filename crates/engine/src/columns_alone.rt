@@ -67,5 +67,5 @@ pub(crate) fn columns_rounded_alone<A: Allocator + Copy>(
     ensures none_remade { IfOk result (λ n. n.remade ≡ 0) }
 {
     let segments = columns_segments(alloc, a, b, checked)?;
-    gathered_alone(alloc, &checked.grid, &segments)
+    gathered_alone(alloc, &checked.grid, segments)
 }

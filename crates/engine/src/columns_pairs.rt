@@ -156,7 +156,8 @@ fn pair_polygons<A: Allocator + Copy>(
     ensures { IfOk result (λ p. IsResultOfRings op (plain (get_or (feature_rings_in a.now) feature [])) (plain (get_or (feature_rings_in b.now) feature [])) p.items) }
 {
     let segments = pair_segments(alloc, a, b, feature)?;
-    let noded = gathered_alone(alloc, &one_tile_over(&segments), &segments)?;
+    let grid = one_tile_over(&segments);
+    let noded = gathered_alone(alloc, &grid, segments)?;
     result_polygons(alloc, &noded.edges, op)
 }
 

@@ -89,7 +89,7 @@ fn rounded_columns<A: Allocator + Copy + Send + Sync, G: Gate + Sync, R: Threads
         alloc,
         &checked.grid,
         checked.plan.workers,
-        &segments,
+        segments,
         gate,
     )
 }

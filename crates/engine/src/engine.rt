@@ -147,8 +147,7 @@ fn made<A: Allocator + Copy + Send + Sync, G: Gate + Sync, R: Threads + Wait + S
         Err(fault) => return Err(fault),
     };
     let read = or_fault(read_segments_by_workers(rt, alloc, &checked, read_a, read_b))?;
-    let noded = or_fault(rounded_segments(rt, alloc, &checked.grid, plan.workers, &read, gate))?;
-    drop(read);
+    let noded = or_fault(rounded_segments(rt, alloc, &checked.grid, plan.workers, read, gate))?;
     or_fault(by_edges(rt, alloc, wanted, &checked, &noded))
 }
 

@@ -95,8 +95,7 @@ fn measured_by_workers<A: Allocator + Copy + Send + Sync, G: Gate + Sync, R: Thr
 {
     let read = read_segments_by_workers(rt, alloc, checked, read_a, read_b)?;
     let workers = checked.plan.workers;
-    let noded = rounded_segments(rt, alloc, &checked.grid, workers, &read, gate)?;
-    drop(read);
+    let noded = rounded_segments(rt, alloc, &checked.grid, workers, read, gate)?;
     measured_by_edges(rt, alloc, op, checked, &noded)
 }
 

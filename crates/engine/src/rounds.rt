@@ -1,25 +1,28 @@
 //! The rounded edges of two layers, or the borders of features, over the tiles of a grid and by many workers.
 //!
-//! 1. The segments of each cell are told (`cells_with_bins`).
-//! 2. Workers make the pieces of the cells, each from its segments (`Pieces`, `fill`).
-//! 3. These are gathered: edges with their counts in both layers (`by_cells`), or edges with the features whose border they are
+//! 1. Of segments with the same ends one is kept, with its copies (`rounded_segments`); those of features are all kept.
+//! 2. The segments of each cell are told (`cells_with_bins`).
+//! 3. Workers make the pieces of the cells, each from its segments (`Pieces`, `fill`).
+//! 4. These are gathered: edges with their counts in both layers (`by_cells`), or edges with the features whose border they are
 //!    (`features_by_cells`).
 
 ghost use Rattle.std.specs.Prelude.{◌≡◌, ◌<◌, ◌≤◌, IfOk, length, map, sum_by};
 ghost use Rattle.geom.specs.Rounded.{AreRounded};
 ghost use Rattle.grid.specs.Tiles.{tile_count};
-ghost use Rattle.linking.specs.Gathered.{AreTileNumbers, HaveTiles};
+ghost use Rattle.distinct.specs.Copies.{AreCopiesRounded, all_copies};
+ghost use Rattle.linking.specs.Gathered.{AreTileNumbers, AreTileNumbersBy, HaveTiles};
 ghost use Rattle.engine.specs.FaceBorders.{AreRoundedBorders};
 ghost use Rattle.layers.specs.Segments.{AllInLimit};
 ghost use Rattle.engine.specs.Rounds.{AreCellBins, IsRemade, TellsTiles};
 
 use crate::cell_parts::cells_with_bins;
+use distinct::{Copies, distinct_in_parts};
 use geom::{NoMemory, Seg};
 use grid::{Grid, KeptBins, MOST_TILES};
 use hands::worth;
 use linking::{
-    LimitedSegments, Noded, RoundedBorders, TileNumbers, TilePiece, Tiled, gather_borders_in_parts,
-    gather_made_in_parts, settled,
+    LimitedSegments, Noded, Rounded, RoundedBorders, TileNumbers, TilePiece, Tiled,
+    gather_borders_in_parts, gather_made_in_parts, settled,
 };
 use results::Report;
 use routing::found_in;
@@ -79,20 +82,47 @@ pub(crate) fn rounded_segments<
     alloc: A,
     grid: &Grid,
     workers: u32,
-    segments: &[Seg],
+    segments: Vec<Seg, A>,
     gate: &G,
 ) -> Result<Noded<A>, NoMemory>
     requires workers { (0 < workers) × (workers ≤ MOST_HANDS) }
+    requires in_limit { AllInLimit segments.items }
+    requires covered { HaveTiles grid.now segments.items }
+    ensures rounded { IfOk result (λ n. ∥ AreRounded segments.items n.edges.items ∥₁) }
+    ensures tiles { IfOk result (λ n. AreTileNumbers grid.now segments.items (tile_count grid.now) n.tiles.items) }
+    ensures remade { IfOk result (λ n. IsRemade n.remade) }
+{
+    let parts = worth::parts(workers, segments.len(), worth::SEGMENTS);
+    let kept = distinct_in_parts(rt, alloc, parts, &segments)?;
+    drop(segments);
+    let rounded = rounded_copies(rt, alloc, grid, workers, &kept.segments, &kept.copies, gate)?;
+    Ok(settled(rounded))
+}
+
+/// The rounded edges of segments with copies, with the numbers of the tiles. The workers call the gate.
+fn rounded_copies<A: Allocator + Copy + Send + Sync, G: Gate + Sync, R: Threads + Wait + Sync>(
+    rt: &R,
+    alloc: A,
+    grid: &Grid,
+    workers: u32,
+    segments: &[Seg],
+    copies: &[Copies],
+    gate: &G,
+) -> Result<Rounded<A>, NoMemory>
+    requires workers { (0 < workers) × (workers ≤ MOST_HANDS) }
     requires in_limit { AllInLimit segments.now }
     requires covered { HaveTiles grid.now segments.now }
-    ensures rounded { IfOk result (λ n. ∥ AreRounded segments.now n.edges.items ∥₁) }
-    ensures tiles { IfOk result (λ n. AreTileNumbers grid.now segments.now (tile_count grid.now) n.tiles.items) }
-    ensures remade { IfOk result (λ n. IsRemade n.remade) }
+    requires copies { length copies.now ≡ length segments.now }
+    ensures rounded { IfOk result (λ r. ∥ AreCopiesRounded segments.now copies.now r.edges.items ∥₁) }
+    ensures tiles { IfOk result (λ r. AreTileNumbersBy all_copies grid.now segments.now copies.now (tile_count grid.now) r.tiles.items) }
+    ensures remade { IfOk result (λ r. IsRemade r.remade) }
 {
     let (cells, bins) = cells_with_bins(rt, alloc, grid, workers, segments)?;
     let blank = Blank::new(u64::from(workers));
     let limited = LimitedSegments { list: segments };
-    by_cells::<Brand, Brand, A, G, R>(rt, alloc, blank, grid, &cells, bins, workers, limited, gate)
+    by_cells::<Brand, Brand, A, G, R>(
+        rt, alloc, blank, grid, &cells, bins, workers, limited, copies, gate,
+    )
 }
 
 /// The same: the workers make the pieces of the cells, which are gathered. A ledger of its own counts the pieces that are posted, and
@@ -112,8 +142,9 @@ fn by_cells<
     bins: KeptBins<A>,
     workers: u32,
     limited: LimitedSegments<'_>,
+    copies: &[Copies],
     gate: &G,
-) -> Result<Noded<A>, NoMemory>
+) -> Result<Rounded<A>, NoMemory>
     requires name { blank.name ≡ L.name }
     requires parts { (blank.parts ≡ L.parts) × (blank.parts ≡ workers) }
     requires limit { tile_count cells.now ≡ L.limit }
@@ -122,9 +153,10 @@ fn by_cells<
     requires workers { (0 < workers) × (workers ≤ MOST_HANDS) }
     requires covered_by_cells { HaveTiles cells.now limited.list.now }
     requires covered { HaveTiles grid.now limited.list.now }
-    ensures rounded { IfOk result (λ n. ∥ AreRounded limited.entry.list.now n.edges.items ∥₁) }
-    ensures tiles { IfOk result (λ n. AreTileNumbers grid.now limited.entry.list.now (tile_count grid.now) n.tiles.items) }
-    ensures remade { IfOk result (λ n. IsRemade n.remade) }
+    requires copies { length copies.now ≡ length limited.list.now }
+    ensures rounded { IfOk result (λ r. ∥ AreCopiesRounded limited.entry.list.now copies.now r.edges.items ∥₁) }
+    ensures tiles { IfOk result (λ r. AreTileNumbersBy all_copies grid.now limited.entry.list.now copies.now (tile_count grid.now) r.tiles.items) }
+    ensures remade { IfOk result (λ r. IsRemade r.remade) }
 {
     let segments = limited.list;
     let job = Pieces::<T, A>::over(cells, &bins, limited);
@@ -142,8 +174,9 @@ fn by_cells<
     let AllPieces { pieces, remade } = complete(alloc, &job, filled.book)?;
     drop(bins);
     let parts = gathering_parts(workers, &pieces, segments);
-    let rounded = gather_made_in_parts(rt, alloc, parts, pieces, remade, cells, grid, segments)?;
-    Ok(settled(rounded))
+    gather_made_in_parts(
+        rt, alloc, parts, pieces, remade, cells, grid, segments, copies,
+    )
 }
 
 /// The rounded edges that are the border of some feature, with the numbers of the tiles: owners are the features of the segments. The

@@ -1,10 +1,4 @@
-use Rattle.std.proofs.Common.{List, subst, sym}
 use Rattle.std.proofs.lemmas.Result.{IfOk-weaker}
-use Rattle.geom.specs.declared.segment.Seg.{Seg}
-use Rattle.geom.specs.Rounded.{AreRounded}
-use Rattle.linking.specs.Gathered.{AreTileNumbers, HaveTiles}
-use Rattle.grid.specs.Tiles.{tile_count}
-use Rattle.layers.specs.Segments.{AllInLimit}
 use Rattle.engine.proofs.Rounding.{covered, layers_of}
 use Rattle.results.proofs.Answering.{if_both}
 use Rattle.engine.proofs.Known.{ready_of}
@@ -17,28 +11,20 @@ gathered_alone-requires g c =
     let s = c.in_ok-segments.ensures.segments in
     let ready = ready_of now.limits.segments now.plan now.a.now now.b.now now.segments_a now.segments_b now.grid now.are_checked segments s in
     record {
-      in_limit = subst (λ (ss : List Seg). AllInLimit ss) (sym c.deref.ensures.value) c.in_ok-segments.ensures.in_limit;
-      covered = subst (λ (ss : List Seg). HaveTiles c.args.checked.now.grid ss) (sym c.deref.ensures.value)
-          (covered now.limits.segments now.plan now.a.now now.b.now s.rings_a s.rings_b now.grid segments ready s);
+      in_limit = c.in_ok-segments.ensures.in_limit;
+      covered = covered now.limits.segments now.plan now.a.now now.b.now s.rings_a s.rings_b now.grid segments ready s;
     }
 
 pub returns-clause-rounded : goal.returns-clause-rounded
 returns-clause-rounded g c =
     let segments = c.in_ok-segments.segments.items in
-    let grid = c.args.checked.now.grid in
     if_both c.gathered_alone.result _ _ _
-    (λ n r t. record {
-      segments = segments;
-      are_segments = c.in_ok-segments.ensures.segments;
-      rounded = subst (λ (ss : List Seg). ∥ AreRounded ss n.edges.items ∥₁) c.deref.ensures.value r;
-      tiles_are = subst (λ (ss : List Seg). AreTileNumbers grid ss (tile_count grid) n.tiles.items) c.deref.ensures.value t;
-    })
+    (λ n r t. record { segments = segments; are_segments = c.in_ok-segments.ensures.segments; rounded = r; tiles_are = t })
     c.gathered_alone.ensures.rounded c.gathered_alone.ensures.tiles
 
 pub returns-clause-layers : goal.returns-clause-layers
 returns-clause-layers g c =
     let segments = c.in_ok-segments.segments.items in
     IfOk-weaker c.gathered_alone.result _ _
-    (λ n r. layers_of c.args.checked.now.a.now c.args.checked.now.b.now segments n.edges.items c.in_ok-segments.ensures.segments c.in_ok-segments.ensures.in_limit
-    (subst (λ (ss : List Seg). ∥ AreRounded ss n.edges.items ∥₁) c.deref.ensures.value r))
+    (λ n r. layers_of c.args.checked.now.a.now c.args.checked.now.b.now segments n.edges.items c.in_ok-segments.ensures.segments c.in_ok-segments.ensures.in_limit r)
     c.gathered_alone.ensures.rounded

@@ -1,11 +1,6 @@
-use Rattle.std.proofs.Common.{List, subst, sym, arith}
+use Rattle.std.proofs.Common.{arith}
 use Rattle.std.proofs.lemmas.Result.{IfOk-weaker}
-use Rattle.geom.specs.declared.segment.Seg.{Seg}
-use Rattle.geom.specs.Rounded.{AreRounded}
-use Rattle.linking.specs.Gathered.{AreTileNumbers, HaveTiles}
-use Rattle.grid.specs.Tiles.{tile_count}
 use Rattle.layers.specs.ColumnsRefusals.{rings_of}
-use Rattle.layers.specs.Segments.{AllInLimit}
 use Rattle.engine.proofs.RingLayers.{rings_covered}
 use Rattle.results.proofs.Answering.{if_both}
 use Rattle.engine.proofs.Rounding.{layers_of_rings}
@@ -18,32 +13,24 @@ rounded_segments-requires-clause-workers g c =
 
 pub rounded_segments-requires-clause-in_limit : goal.rounded_segments-requires-clause-in_limit
 rounded_segments-requires-clause-in_limit g c =
-    λ κs l. subst (λ (ss : List Seg). AllInLimit ss) (sym c.deref.ensures.value) c.in_ok-segments.ensures.in_limit
+    λ κs l. c.in_ok-segments.ensures.in_limit
 
 pub rounded_segments-requires-clause-covered : goal.rounded_segments-requires-clause-covered
 rounded_segments-requires-clause-covered g c =
     let now = c.args.checked.now in
     let segments = c.in_ok-segments.segments.items in
-    λ κs l. subst (λ (ss : List Seg). HaveTiles now.grid ss) (sym c.deref.ensures.value)
-    (rings_covered now.limits.segments now.plan (rings_of c.args.a.now) (rings_of c.args.b.now) now.grid segments c.requires.ready.ready c.in_ok-segments.ensures.segments)
+    λ κs l. rings_covered now.limits.segments now.plan (rings_of c.args.a.now) (rings_of c.args.b.now) now.grid segments c.requires.ready.ready c.in_ok-segments.ensures.segments
 
 pub returns-clause-rounded : goal.returns-clause-rounded
 returns-clause-rounded g c =
     let segments = c.in_ok-segments.segments.items in
-    let grid = c.args.checked.now.grid in
     if_both c.rounded_segments.result _ _ _
-    (λ n r t. record {
-      segments = segments;
-      are_segments = c.in_ok-segments.ensures.segments;
-      rounded = subst (λ (ss : List Seg). ∥ AreRounded ss n.edges.items ∥₁) c.deref.ensures.value r;
-      tiles_are = subst (λ (ss : List Seg). AreTileNumbers grid ss (tile_count grid) n.tiles.items) c.deref.ensures.value t;
-    })
+    (λ n r t. record { segments = segments; are_segments = c.in_ok-segments.ensures.segments; rounded = r; tiles_are = t })
     c.rounded_segments.ensures.rounded c.rounded_segments.ensures.tiles
 
 pub returns-clause-layers : goal.returns-clause-layers
 returns-clause-layers g c =
     let segments = c.in_ok-segments.segments.items in
     IfOk-weaker c.rounded_segments.result _ _
-    (λ n r. layers_of_rings (rings_of c.args.a.now) (rings_of c.args.b.now) segments n.edges.items c.in_ok-segments.ensures.segments c.in_ok-segments.ensures.in_limit
-    (subst (λ (ss : List Seg). ∥ AreRounded ss n.edges.items ∥₁) c.deref.ensures.value r))
+    (λ n r. layers_of_rings (rings_of c.args.a.now) (rings_of c.args.b.now) segments n.edges.items c.in_ok-segments.ensures.segments c.in_ok-segments.ensures.in_limit r)
     c.rounded_segments.ensures.rounded

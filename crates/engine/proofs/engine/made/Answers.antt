@@ -1,7 +1,6 @@
-use Rattle.std.proofs.Common.{List, subst, sym, arith}
+use Rattle.std.proofs.Common.{arith}
 use Rattle.std.proofs.lemmas.Result.{IfOk-at_ok, err_from_is_err_and}
 use Rattle.geom.specs.Rounded.{AreRounded}
-use Rattle.geom.specs.declared.segment.Seg.{Seg}
 use Rattle.grid.specs.Tiles.{tile_count}
 use Rattle.linking.specs.Gathered.{AreTileNumbers}
 use Rattle.layers.specs.Segments.{AllInLimit, AreSegmentsOf}
@@ -38,33 +37,32 @@ rounded_segments-requires-clause-workers g c =
     λ κs l. (omega (arith, crew.low), crew.high)
 
 pub rounded_segments-requires-clause-in_limit : goal.rounded_segments-requires-clause-in_limit
-rounded_segments-requires-clause-in_limit g c = λ κs l. subst (λ (ss : List Seg). AllInLimit ss) (sym c.deref.ensures.value)
-    (IfOk-at_ok (λ v. AllInLimit v.items) c.in_ok-read.ensures c.read_segments_by_workers.ensures.in_limit)
+rounded_segments-requires-clause-in_limit g c = λ κs l. IfOk-at_ok (λ v. AllInLimit v.items) c.in_ok-read.ensures c.read_segments_by_workers.ensures.in_limit
 
 pub rounded_segments-requires-clause-covered : goal.rounded_segments-requires-clause-covered
 rounded_segments-requires-clause-covered g c =
     let now = c.in-Ok.checked in
-    λ κs l. read_covered now.limits.segments now.plan now.a.now now.b.now now.segments_a now.segments_b now.grid now.are_checked c.in_ok-read.read.items c.deref.result.now c.deref.ensures.value
+    λ κs l. read_covered now.limits.segments now.plan now.a.now now.b.now now.segments_a now.segments_b now.grid now.are_checked c.in_ok-read.read.items
     (IfOk-at_ok (λ v. AreSegmentsOf now.a.now now.b.now v.items) c.in_ok-read.ensures c.read_segments_by_workers.ensures.segments)
 
 pub by_edges-requires-clause-rounded : goal.by_edges-requires-clause-rounded
 by_edges-requires-clause-rounded g c κs l =
     let now = c.in-Ok.checked in
     let noded = c.in_ok-noded.noded in
-    let given = c.deref.result.now in
+    let read = c.in_ok-read.read.items in
     let segments = IfOk-at_ok (λ v. AreSegmentsOf now.a.now now.b.now v.items) c.in_ok-read.ensures c.read_segments_by_workers.ensures.segments in
-    let rounded = IfOk-at_ok (λ n. ∥ AreRounded given n.edges.items ∥₁) c.in_ok-noded.ensures c.rounded_segments.ensures.rounded in
-    let tiles = IfOk-at_ok (λ n. AreTileNumbers now.grid given (tile_count now.grid) n.tiles.items) c.in_ok-noded.ensures c.rounded_segments.ensures.tiles in
-    read_rounded now.a.now now.b.now now.grid c.in_ok-read.read.items given c.deref.ensures.value segments noded.edges.items rounded noded.tiles.items tiles
+    let rounded = IfOk-at_ok (λ n. ∥ AreRounded read n.edges.items ∥₁) c.in_ok-noded.ensures c.rounded_segments.ensures.rounded in
+    let tiles = IfOk-at_ok (λ n. AreTileNumbers now.grid read (tile_count now.grid) n.tiles.items) c.in_ok-noded.ensures c.rounded_segments.ensures.tiles in
+    read_rounded now.a.now now.b.now now.grid read segments noded.edges.items rounded noded.tiles.items tiles
 
 pub by_edges-requires-clause-layers : goal.by_edges-requires-clause-layers
 by_edges-requires-clause-layers g c κs l =
     let now = c.in-Ok.checked in
-    let given = c.deref.result.now in
+    let read = c.in_ok-read.read.items in
     let segments = IfOk-at_ok (λ v. AreSegmentsOf now.a.now now.b.now v.items) c.in_ok-read.ensures c.read_segments_by_workers.ensures.segments in
     let in_limit = IfOk-at_ok (λ v. AllInLimit v.items) c.in_ok-read.ensures c.read_segments_by_workers.ensures.in_limit in
-    let rounded = IfOk-at_ok (λ n. ∥ AreRounded given n.edges.items ∥₁) c.in_ok-noded.ensures c.rounded_segments.ensures.rounded in
-    read_layers now.a.now now.b.now now.grid c.in_ok-read.read.items given c.deref.ensures.value segments c.in_ok-noded.noded.edges.items rounded in_limit
+    let rounded = IfOk-at_ok (λ n. ∥ AreRounded read n.edges.items ∥₁) c.in_ok-noded.ensures c.rounded_segments.ensures.rounded in
+    read_layers now.a.now now.b.now now.grid read segments c.in_ok-noded.noded.edges.items rounded in_limit
 
 pub by_edges-requires-clause-remade : goal.by_edges-requires-clause-remade
 by_edges-requires-clause-remade g c κs l = IfOk-at_ok (λ n. IsRemade n.remade) c.in_ok-noded.ensures c.rounded_segments.ensures.remade

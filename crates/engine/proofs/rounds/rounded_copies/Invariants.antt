@@ -1,5 +1,5 @@
 use Rattle.grid.specs.Tiles.{tile_count}
-use Rattle.engine.proofs.rounds.rounded_segments.Given as goal
+use Rattle.engine.proofs.rounds.rounded_copies.Given as goal
 
 abbrev pub ghosts-by_cells-L-Ledger : goal.ghosts-by_cells-L-Ledger
 ghosts-by_cells-L-Ledger g a = record { name = a.blank.name; parts = a.blank.parts }
