@@ -7,7 +7,7 @@ ghost use Rattle.geom.specs.declared.rect.Rect.{Rect};
 ghost use Rattle.hot_region.specs.Boxes.{boxes_of};
 ghost use Rattle.hot_region.specs.Carriers.{KeepsCrossings};
 ghost use Rattle.hot_region.specs.Halving.{edges_of, HasEndsToo, HasHot, IsEndOf};
-ghost use Rattle.hot_region.specs.Lines.{CrossAt, HasBothCrossed, HasCrossed};
+ghost use Rattle.hot_region.specs.Lines.{CrossAt, HasBothCrossed, HasCrossed, HasPushed};
 ghost use Rattle.hot_region.specs.Rects.{IsIn};
 
 use crate::carrier::one_of_each_carrier;
@@ -21,6 +21,28 @@ use std::alloc::Allocator;
 /// How many lines of a rectangle are few: all pairs of them are crossed.
 pub const FEW: usize = 96;
 
+/// Whether a pixel is one of the last two of a list.
+fn is_last_of(found: &[Pt], pixel: Pt) -> bool
+    ensures { IsTrue result → Contains found.now pixel }
+{
+    for place in found.len().saturating_sub(2)..found.len() {
+        if found[place] == pixel {
+            return true;
+        }
+    }
+    false
+}
+
+/// Adds an end of a line, if the rectangle has it and it wasn't just added: lines that follow one another have a common end.
+fn push_end<A: Allocator>(found: &mut Vec<Pt, A>, rect: &Rect, end: Pt) -> Result<(), NoMemory>
+    ensures { OnOk result (HasPushed rect.now end found.old.items found.new.items) }
+{
+    if is_last_of(found, end) {
+        return Ok(());
+    }
+    push_in(found, rect, end)
+}
+
 /// Adds the ends of the lines that lie in the rectangle.
 pub(crate) fn add_ends<A: Allocator>(
     rect: &Rect,
@@ -30,8 +52,8 @@ pub(crate) fn add_ends<A: Allocator>(
     ensures { OnOk result (HasEndsToo rect.now (edges_of lines.now) found.old.items found.new.items) }
 {
     for line in lines {
-        push_in(found, rect, line.edge.p)?;
-        push_in(found, rect, line.edge.q)?;
+        push_end(found, rect, line.edge.p)?;
+        push_end(found, rect, line.edge.q)?;
     }
     Ok(())
 }

@@ -13,7 +13,7 @@ loop-line-preserved g c =
     let lines = c.args.lines.now in
     let i = c.loop-line.line-index in
     let l = c.line-item.result in
-    add_ends_more c.args.rect.now (edges_of lines) i l.edge c.args.found.now.items c.loop-line.found.items c.push_in.new.found.items c.push_in-in-loop-line.new.found.items (edge_below lines i c.loop-line-test.true) (edge_at lines i l c.line-item.is) c.loop-line.invariant c.in_ok-push_in.ensures c.in_ok-push_in-2.ensures
+    add_ends_more c.args.rect.now (edges_of lines) i l.edge c.args.found.now.items c.loop-line.found.items c.push_end.new.found.items c.push_end-in-loop-line.new.found.items (edge_below lines i c.loop-line-test.true) (edge_at lines i l c.line-item.is) c.loop-line.invariant c.in_ok-push_end.ensures c.in_ok-push_end-2.ensures
 
 pub returns : goal.returns
 returns g c =
