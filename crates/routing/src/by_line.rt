@@ -1,7 +1,10 @@
 //! Segments by their lines: those with the same ends stand together, whatever their direction and layer.
 //!
-//! 1. The segments are brought in order by their ends (`in_order`).
-//! 2. Many are cut where they overlap on one carrier, and their portions are brought in order likewise (`portions_of`).
+//! 1. Few segments of which hardly any have the same ends stay as they are (`are_apart`).
+//! 2. Others are brought in order by their ends (`in_order`), cut where they overlap on one carrier, and their portions are brought in
+//!    order likewise (`portions_of`).
+//!
+//! That those with the same ends stand together saves work, and no more: each of them has a line where they don't.
 
 ghost use Rattle.std.specs.Prelude.{ℕ, ◌≡◌, ◌+◌, ◌<◌, ◌≤◌, All, IfOk, Some, length, slice_get};
 ghost use Rattle.std.specs.List.Sorted.{IsPermutation};
@@ -12,12 +15,23 @@ ghost use Rattle.routing.specs.declared.on_line.OnLine.{OnLine};
 use crate::cutting::{cut_at, marks_between};
 use crate::limited::LimitedSegments;
 use crate::on_line::OnLine;
-use geom::{NoMemory, Rect};
+use geom::{Edge, NoMemory, Pt, Rect};
 use hot_region::{Line, edge_of};
 use std::alloc::Allocator;
 
 /// How many segments of a tile are many. Fewer aren't cut: to look for their carriers would cost more than it saves.
-const MANY: usize = 128;
+const MANY: usize = 256;
+
+/// How many words of 64 bits tell which ends were seen.
+const WORDS: usize = 32;
+
+/// One in how many of a few segments may have ends that were seen before.
+const SHARE: usize = 4;
+
+/// Odd factors, whose products are far apart for ends that are near each other.
+const COLUMNS: (u64, u64) = (0x9E37_79B9_7F4A_7C15, 0xA24B_AED4_963E_E407);
+
+const ROWS: (u64, u64) = (0xD1B5_4A32_D192_ED03, 0x9FB2_1C65_1E98_DF25);
 
 /// The segments of these numbers, in the order of the numbers.
 fn each_on_line<A: Allocator>(
@@ -36,6 +50,32 @@ fn each_on_line<A: Allocator>(
         })?;
     }
     Ok(table)
+}
+
+/// A number of a point, by a factor for its column and one for its row.
+fn number_of(point: Pt, column: u64, row: u64) -> u64 {
+    let by_column = u64::from(point.x.cast_unsigned()).wrapping_mul(column);
+    by_column.wrapping_add(u64::from(point.y.cast_unsigned()).wrapping_mul(row))
+}
+
+/// A number that few edges have in common.
+fn mixed(edge: &Edge) -> u64 {
+    let first = number_of(edge.p, COLUMNS.0, ROWS.0);
+    first.wrapping_add(number_of(edge.q, COLUMNS.1, ROWS.1))
+}
+
+/// Whether hardly any of the edges of a table are equal, as their numbers tell.
+fn are_apart(table: &[OnLine]) -> bool {
+    let mut seen = [0u64; WORDS];
+    let mut again = 0usize;
+    for entry in table {
+        let number = mixed(&entry.edge);
+        let word = (number >> 59) as usize % WORDS;
+        let bit = 1 << (number >> 53 & 63);
+        again = again.saturating_add(usize::from(seen[word] & bit != 0));
+        seen[word] |= bit;
+    }
+    again <= table.len() / SHARE
 }
 
 /// The edges of a table, cut where they are many.
@@ -76,6 +116,9 @@ pub(crate) fn by_line<A: Allocator + Copy>(
     ensures { IfOk result (λ v. IsCutTable limited.entry.list.now numbers.now v.items) }
 {
     let entries = each_on_line(alloc, limited, numbers)?;
+    if entries.len() <= MANY && are_apart(&entries) {
+        return Ok(entries);
+    }
     let whole = in_order(entries);
     let table = portions_of(alloc, tile, whole)?;
     Ok(in_order(table))
