@@ -1,9 +1,10 @@
 -- What is kept of segments, and more of it.
-use Rattle.std.proofs.Common.{◌≡◌, ℕ, zero, suc, ◌+◌, ◌*◌, ◌<◌, List, [], ◌∷◌, ◌++◌, Bool, true, false, cond, refl, sym, ◌∙◌, ap, arith, subst, length, get_or, drop, append_assoc, ⊎_elim, flat_map, length-append}
+use Rattle.std.proofs.Common.{◌≡◌, ℕ, zero, suc, ◌+◌, ◌*◌, ◌<◌, List, [], ◌∷◌, ◌++◌, Bool, true, false, cond, refl, sym, ◌∙◌, ap, arith, subst, length, get_or, take, drop, append_assoc, ⊎_elim, flat_map, length-append}
 use Rattle.std.proofs.Math.ListN.{set, length-set}
 use Rattle.std.specs.List.{AllZip}
 use Rattle.std.specs.Prelude.{slice_range}
-use Rattle.std.proofs.lemmas.List.{append-nil, drop_all}
+use Rattle.std.proofs.lemmas.List.{append-nil, drop_all, drop-set-lt, get_or-drop, length-drop, take_more, take_more_set}
+use Rattle.std.proofs.lemmas.Grind.{drop_more_same}
 use Rattle.std.proofs.lemmas.List.Folds.{drop_split}
 use Rattle.std.proofs.lemmas.List.Elements.{Contains-append_cases, Contains-append_left, Contains-append_right}
 use Rattle.std.proofs.lemmas.List.Sums.{sum_by-append, sum_by_push}
@@ -14,6 +15,7 @@ use Rattle.geom.specs.Segments.{same_source}
 use Rattle.hands.specs.declared.part.Part.{Part}
 use Rattle.hands.specs.Consecutive.{ArePartsOf}
 use Rattle.distinct.specs.Copies.{AreCopies, HaveSameEnds, copies_in, sum_of_copies}
+use Rattle.distinct.specs.Kept.{AreKeptOf}
 use Rattle.distinct.specs.declared.copies.Copies.{Copies}
 
 -- how much a segment of a layer counts in a layer
@@ -128,3 +130,41 @@ module _ (s : Seg) where
       grown : (layer : Source) → copies_in layer more ≡ copies_in layer c + one_of s.layer layer
       grown A = in_a
       grown B = in_b
+
+-- ---- a list that is gone through, whose kept segments stand in its first places
+module _ (all segments : List Seg) (place : ℕ) (copies : List Copies) (s : Seg) (within : place < length segments) (is : s ≡ get_or segments place s) (h : AreKeptOf all place segments copies) where
+  one_more : take (place + 1) all ≡ take place all ++ s ∷ []
+  one_more = take_more all place s below ∙ ap (λ (t : Seg). take place all ++ t ∷ []) (sym same)
+    where
+      below : place < length all
+      below = let a = length-drop place segments in let b = length-drop place all in let e = ap (λ (l : List Seg). length l) h.rest in omega arith
+
+      here : place ≡ place + 0
+      here = omega arith
+
+      same : s ≡ get_or all place s
+      same =
+          is ∙ ap (λ (n : ℕ). get_or segments n s) here ∙ sym (get_or-drop place segments 0 s) ∙ ap (λ (l : List Seg). get_or l 0 s) h.rest ∙ get_or-drop place all 0 s
+          ∙ ap (λ (n : ℕ). get_or all n s) (sym here)
+
+  -- the segment at the place counts as a copy of a kept one
+  pub kept_added : (more : List Copies) → length more ≡ length copies → AreCopies (take place all ++ s ∷ []) (take (length copies) segments) more → AreKeptOf all (place + 1) segments more
+  kept_added more len added = record {
+    few = let f = h.few in omega arith;
+    kept = subst (λ (x : List Seg × ℕ). AreCopies x.0 (take x.1 segments) more) (λ i. (sym one_more i, sym len i)) added;
+    rest = drop_more_same segments all place h.rest;
+  }
+
+  -- the segment at the place is kept
+  pub kept_pushed : (c : Copies) → c.in_a ≡ one_of s.layer A → c.in_b ≡ one_of s.layer B → AreKeptOf all (place + 1) (set segments (length copies) s) (copies ++ c ∷ [])
+  kept_pushed c in_a in_b = record {
+    few = let f = h.few in omega (arith, len);
+    kept = subst (λ (x : List Seg × List Seg). AreCopies x.0 x.1 (copies ++ c ∷ [])) (λ i. (sym one_more i, sym kept i)) (copies_push s (take place all) (take (length copies) segments) copies c in_a in_b h.kept);
+    rest = drop-set-lt (place + 1) segments (length copies) s (let f = h.few in omega arith) ∙ drop_more_same segments all place h.rest;
+  }
+    where
+      len : length (copies ++ c ∷ []) ≡ length copies + 1
+      len = length-append copies (c ∷ [])
+
+      kept : take (length (copies ++ c ∷ [])) (set segments (length copies) s) ≡ take (length copies) segments ++ s ∷ []
+      kept = ap (λ (n : ℕ). take n (set segments (length copies) s)) len ∙ take_more_set segments (length copies) s (let f = h.few in omega arith)

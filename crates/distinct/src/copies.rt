@@ -1,8 +1,6 @@
 //! How many segments of each layer have the same ends.
 
-ghost use Rattle.std.specs.Prelude.{◌≡◌, ◌+◌, ◌<◌, MatchOption, ⊤, if◌then◌else◌};
-ghost use Rattle.geom.specs.declared.segment.Source.TheVariants.{A, B};
-ghost use Rattle.geom.specs.Segments.{same_source};
+ghost use Rattle.std.specs.Prelude.{◌+◌, ◌<◌};
 
 use geom::Source;
 
@@ -15,6 +13,11 @@ pub struct Copies {
 }
 
 impl Copies {
+    ghost use Rattle.std.specs.Prelude.{◌≡◌, ◌+◌, MatchOption, if◌then◌else◌};
+    ghost use Rattle.geom.specs.declared.segment.Source.TheVariants.{A, B};
+    ghost use Rattle.geom.specs.Segments.{same_source};
+    ghost use Rattle.distinct.specs.Copies.{copies_in};
+
     /// One segment of a layer.
     pub fn one(layer: Source) -> Copies
         ensures in_a { result.in_a ≡ (if same_source layer A then 1 else 0) }
@@ -28,7 +31,7 @@ impl Copies {
 
     /// With one more in a layer, where a `u16` counts it.
     pub fn with_one(self, layer: Source) -> Option<Copies>
-        ensures { MatchOption result ⊤ (λ c. (c.in_a ≡ self.in_a + (if same_source layer A then 1 else 0)) × (c.in_b ≡ self.in_b + (if same_source layer B then 1 else 0))) }
+        ensures { MatchOption result (copies_in layer self ≡ u16.MAX) (λ c. (c.in_a ≡ self.in_a + (if same_source layer A then 1 else 0)) × (c.in_b ≡ self.in_b + (if same_source layer B then 1 else 0))) }
     {
         match layer {
             Source::A => Some(Copies {

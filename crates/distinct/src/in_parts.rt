@@ -16,9 +16,9 @@ pub fn distinct_in_parts<A: Allocator + Copy + Send + Sync, R: Threads + Sync>(
     rt: &R,
     alloc: A,
     parts: usize,
-    segments: &[Seg],
+    segments: Vec<Seg, A>,
 ) -> Result<Distinct<A>, NoMemory>
-    ensures { IfOk result (λ d. AreCopies segments.now d.segments.items d.copies.items) }
+    ensures { IfOk result (λ d. AreCopies segments.items d.segments.items d.copies.items) }
 {
     if parts < 2 {
         return distinct(alloc, segments);
@@ -29,10 +29,16 @@ pub fn distinct_in_parts<A: Allocator + Copy + Send + Sync, R: Threads + Sync>(
         alloc,
         &cuts,
         |part: Part| -> Result<Distinct<A>, NoMemory>
-            requires { (part.from ≤ part.past) × (part.past ≤ length segments.now) }
-            ensures { IfOk result (λ d. AreCopies (slice_range segments.entry.now part.from part.past) d.segments.items d.copies.items) }
-        { distinct(alloc, &segments[part.from..part.past]) },
+            requires { (part.from ≤ part.past) × (part.past ≤ length segments.items) }
+            ensures { IfOk result (λ d. AreCopies (slice_range segments.items part.from part.past) d.segments.items d.copies.items) }
+        {
+            distinct(
+                alloc,
+                Vec::from_slice(alloc, &segments[part.from..part.past])?,
+            )
+        },
     )?;
+    drop(segments);
     let (segments, copies) = parted(alloc, found)?;
     Ok(Distinct {
         segments: joined(alloc, segments)?,

@@ -88,11 +88,22 @@ fn are_kept(found: &Distinct<Global>, expected: &[(Ends, u16, u16)]) -> bool {
 fn keeps_few(alloc: Global) -> Result<bool, NoMemory> {
     for (rows, expected) in FEW {
         let segments = segments_of(alloc, rows)?;
-        if !are_kept(&distinct(alloc, &segments)?, expected) {
+        if !are_kept(&distinct(alloc, segments)?, expected) {
             return Ok(false);
         }
     }
     Ok(true)
+}
+
+// What is kept of one segment more than a count holds.
+fn keeps_past_a_full_count(alloc: Global) -> Result<bool, NoMemory> {
+    let ends = ((0, 0), (3, 1));
+    let mut list = Vec::new(alloc);
+    for _ in 0..65_536u32 {
+        add(&mut list, ends, Source::B)?;
+    }
+    let expected = [(ends, 0, 65_535), (ends, 0, 1)];
+    Ok(are_kept(&distinct(alloc, list)?, &expected))
 }
 
 // The four sides of the parcel with this lower left corner.
@@ -121,7 +132,7 @@ fn kept_of_parcels<R: Threads + Sync>(
     parts: usize,
 ) -> Result<(usize, usize), NoMemory> {
     let segments = parcels(alloc)?;
-    let found = distinct_in_parts(rt, alloc, parts, &segments)?;
+    let found = distinct_in_parts(rt, alloc, parts, segments)?;
     let mut copies = 0usize;
     for more in &found.copies {
         copies = copies.saturating_add(more.all() as usize);
@@ -132,6 +143,11 @@ fn kept_of_parcels<R: Threads + Sync>(
 #[test]
 fn few_segments_are_kept_once(rt: HostRuntime) {
     assert_eq!(rt; keeps_few(rt.alloc()), Ok(true));
+}
+
+#[test]
+fn a_full_count_begins_another(rt: HostRuntime) {
+    assert_eq!(rt; keeps_past_a_full_count(rt.alloc()), Ok(true));
 }
 
 // The borders of rows of different parts are kept twice, and a table forgets few.

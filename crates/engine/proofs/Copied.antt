@@ -18,10 +18,10 @@ use Rattle.linking.specs.declared.rounded.TileNumbers.{TileNumbers}
 use Rattle.linking.proofs.CopyNumbers.{numbers_of_copies}
 use Rattle.layers.specs.Segments.{AllInLimit}
 
--- `all`, `list` and `times` are the slices of the segments, of the kept ones and of their copies
-module _ (segments all kept list : List Seg) (copies times : List Copies) (all_is : all ≡ segments) (list_is : list ≡ kept) (times_is : times ≡ copies) (given : AreCopies all kept copies) where
+-- `list` and `times` are the slices of the kept segments and of their copies
+module _ (segments kept list : List Seg) (copies times : List Copies) (list_is : list ≡ kept) (times_is : times ≡ copies) (given : AreCopies segments kept copies) where
   are : AreCopies segments list times
-  are = subst (λ (cs : List Copies). AreCopies segments list cs) (sym times_is) (subst (λ (ss : List Seg). AreCopies segments ss copies) (sym list_is) (subst (λ (ss : List Seg). AreCopies ss kept copies) all_is given))
+  are = subst (λ (cs : List Copies). AreCopies segments list cs) (sym times_is) (subst (λ (ss : List Seg). AreCopies segments ss copies) (sym list_is) given)
 
   pub kept_in_limit : AllInLimit segments → AllInLimit list
   kept_in_limit limits k d l = All-contains (λ (s : Seg). AreInLimit s.a s.b) segments (get_or list k d) limits (are.among (get_or list k d) (Contains-get_or list k d l))

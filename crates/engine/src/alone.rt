@@ -159,8 +159,7 @@ pub(crate) fn gathered_alone<A: Allocator + Copy>(
     ensures tiles { IfOk result (λ n. AreTileNumbers grid.now segments.items (tile_count grid.now) n.tiles.items) }
     ensures none_remade { IfOk result (λ n. n.remade ≡ 0) }
 {
-    let kept = distinct(alloc, &segments)?;
-    drop(segments);
+    let kept = distinct(alloc, segments)?;
     let rounded = copies_alone(alloc, grid, &kept.segments, &kept.copies)?;
     Ok(settled(rounded))
 }

@@ -93,8 +93,7 @@ pub(crate) fn rounded_segments<
     ensures remade { IfOk result (λ n. IsRemade n.remade) }
 {
     let parts = worth::parts(workers, segments.len(), worth::SEGMENTS);
-    let kept = distinct_in_parts(rt, alloc, parts, &segments)?;
-    drop(segments);
+    let kept = distinct_in_parts(rt, alloc, parts, segments)?;
     let rounded = rounded_copies(rt, alloc, grid, workers, &kept.segments, &kept.copies, gate)?;
     Ok(settled(rounded))
 }

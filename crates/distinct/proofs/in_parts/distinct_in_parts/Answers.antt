@@ -1,4 +1,4 @@
-use Rattle.std.proofs.Common.{◌≤◌, ◌∙◌, length}
+use Rattle.std.proofs.Common.{◌≤◌, ◌∙◌, ℕ, length, subst}
 use Rattle.hands.specs.declared.part.Part.{Part}
 use Rattle.hands.specs.Consecutive.{ArePartsOf}
 use Rattle.hands.proofs.Consecutive.{each_part}
@@ -8,13 +8,15 @@ use Rattle.distinct.proofs.in_parts.distinct_in_parts.Goals as goal
 pub map_parts-requires-after_bounds : goal.map_parts-requires-after_bounds
 map_parts-requires-after_bounds g c κs within =
     let ps = c.deref.result.now in
-    let past = length c.args.segments.now in
-    let parts : ArePartsOf 0 past ps = rw c.deref.ensures.value c.in_ok-cuts.ensures in
+    let past = length c.args.segments.items in
+    let cut : ArePartsOf 0 c.len.result ps = rw c.deref.ensures.value c.in_ok-cuts.ensures in
+    let parts : ArePartsOf 0 past ps = subst (λ (n : ℕ). ArePartsOf 0 n ps) (c.len.ensures ∙ c.args.segments.ok.0) cut in
     each_part (λ (p : Part). (p.from ≤ p.past) × (p.past ≤ past)) 0 past ps parts (λ p low order high. (order, high))
 
 pub returns : goal.returns
 returns g c =
     let ps = c.deref.result.now in
-    let parts : ArePartsOf 0 (length c.args.segments.now) ps = rw c.deref.ensures.value c.in_ok-cuts.ensures in
-    copies_whole c.args.segments.now (λ d. d.segments.items) (λ d. d.copies.items) ps c.in_ok-found.found.items _ _ parts c.in_ok-found.ensures
+    let cut : ArePartsOf 0 c.len.result ps = rw c.deref.ensures.value c.in_ok-cuts.ensures in
+    let parts : ArePartsOf 0 (length c.args.segments.items) ps = subst (λ (n : ℕ). ArePartsOf 0 n ps) (c.len.ensures ∙ c.args.segments.ok.0) cut in
+    copies_whole c.args.segments.items (λ d. d.segments.items) (λ d. d.copies.items) ps c.in_ok-found.found.items _ _ parts c.in_ok-found.ensures
     (c.in_ok-joined.ensures ∙ c.in_ok-segments.ensures.segments) (c.in_ok-joined-2.ensures ∙ c.in_ok-segments.ensures.copies)

@@ -3,22 +3,22 @@ use Rattle.engine.proofs.alone.gathered_alone.Goals as goal
 
 pub copies_alone-requires-clause-in_limit : goal.copies_alone-requires-clause-in_limit
 copies_alone-requires-clause-in_limit g c =
-    kept_in_limit c.args.segments.items _ _ _ _ _ c.deref.ensures.value c.deref-2.ensures.value c.deref-3.ensures.value c.in_ok-kept.ensures c.requires.in_limit
+    kept_in_limit c.args.segments.items _ _ _ _ c.deref.ensures.value c.deref-2.ensures.value c.in_ok-kept.ensures c.requires.in_limit
 
 pub copies_alone-requires-clause-covered : goal.copies_alone-requires-clause-covered
 copies_alone-requires-clause-covered g c =
-    kept_covered c.args.segments.items _ _ _ _ _ c.deref.ensures.value c.deref-2.ensures.value c.deref-3.ensures.value c.in_ok-kept.ensures c.args.grid.now c.requires.covered
+    kept_covered c.args.segments.items _ _ _ _ c.deref.ensures.value c.deref-2.ensures.value c.in_ok-kept.ensures c.args.grid.now c.requires.covered
 
 pub settled-requires : goal.settled-requires
 settled-requires g c =
-    all_noded c.args.segments.items _ _ _ _ _ c.deref.ensures.value c.deref-2.ensures.value c.deref-3.ensures.value c.in_ok-kept.ensures c.in_ok-rounded.rounded.edges.items c.in_ok-rounded.ensures.rounded
+    all_noded c.args.segments.items _ _ _ _ c.deref.ensures.value c.deref-2.ensures.value c.in_ok-kept.ensures c.in_ok-rounded.rounded.edges.items c.in_ok-rounded.ensures.rounded
 
 pub returns-clause-rounded : goal.returns-clause-rounded
 returns-clause-rounded g c =
     let edges = c.in_ok-rounded.rounded.edges.items in
-    rw c.settled.ensures.edges (all_rounded c.args.segments.items _ _ _ _ _ c.deref.ensures.value c.deref-2.ensures.value c.deref-3.ensures.value c.in_ok-kept.ensures edges c.in_ok-rounded.ensures.rounded)
+    rw c.settled.ensures.edges (all_rounded c.args.segments.items _ _ _ _ c.deref.ensures.value c.deref-2.ensures.value c.in_ok-kept.ensures edges c.in_ok-rounded.ensures.rounded)
 
 pub returns-clause-tiles : goal.returns-clause-tiles
 returns-clause-tiles g c =
     let tiles = c.in_ok-rounded.rounded.tiles.items in
-    rw c.settled.ensures.tiles (all_numbers c.args.segments.items _ _ _ _ _ c.deref.ensures.value c.deref-2.ensures.value c.deref-3.ensures.value c.in_ok-kept.ensures c.args.grid.now tiles c.in_ok-rounded.ensures.tiles)
+    rw c.settled.ensures.tiles (all_numbers c.args.segments.items _ _ _ _ c.deref.ensures.value c.deref-2.ensures.value c.in_ok-kept.ensures c.args.grid.now tiles c.in_ok-rounded.ensures.tiles)
