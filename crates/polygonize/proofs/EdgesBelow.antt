@@ -5,3 +5,4 @@ pub mod Columns
 pub mod Ladders
 pub mod Searching
 pub mod Short
+pub mod Floors

@@ -1,5 +1,6 @@
 -- The nearest edge below a point.
-use Rattle.std.specs.Prelude.{◌≡◌, ◌⊎◌, ◌^◌, ◌<◌, ◌≤◌, ◌+ℤ◌, ◌*ℤ◌, ◌≤ℤ◌, ◌<ℤ◌, ℕ, ℤ, pos, true, List, [], Contains, Option, Some, None, IfSome, MatchOption, length, slice_index_or}
+use Rattle.std.specs.Int.{int_max, int_min}
+use Rattle.std.specs.Prelude.{◌≡◌, ◌⊎◌, ◌^◌, ◌<◌, ◌≤◌, ◌+ℤ◌, ◌*ℤ◌, ◌≤ℤ◌, ◌<ℤ◌, ℕ, ℤ, pos, true, List, [], Contains, Option, Some, None, IfSome, MatchOption, length, neg_ℤ, slice_index_or}
 use Rattle.geom.specs.declared.directed.DirectedEdge.{DirectedEdge}
 use Rattle.geom.specs.declared.edge.Edge.{Edge}
 use Rattle.geom.specs.declared.point.Pt.{Pt}
@@ -73,6 +74,35 @@ best_at best r = slice_index_or best r None
 -- each gap is that of an edge below its vertex
 abbrev pub AreKnown : List DirectedEdge → List Pt → List (Option Gap) → Type 0
 AreKnown ds vertices best = (r : ℕ) → IfSome (best_at best r) (λ g. IsGapOf ds (vertex_at vertices r) g)
+
+-- ---- floors
+
+-- the row of an edge's lowest point
+abbrev pub lowest_row : DirectedEdge → ℤ
+lowest_row d = int_min d.from.y d.to.y
+
+-- the row of its highest point
+abbrev pub highest_row : DirectedEdge → ℤ
+highest_row d = int_max d.from.y d.to.y
+
+-- the least row of 32 bits
+abbrev pub least_row : ℤ
+least_row = neg_ℤ (pos (2 ^ 31))
+
+-- no point of the edge of a gap lies below its floor; where there is no gap, the floor is the least row
+abbrev pub IsFloor : List DirectedEdge → Option Gap → ℤ → Type 0
+IsFloor ds None floor = floor ≡ least_row
+IsFloor ds (Some g) floor = (least_row ≤ℤ floor) × (floor ≤ℤ lowest_row (edge_at ds g.number))
+
+abbrev pub floor_at : List ℤ → ℕ → ℤ
+floor_at floors r = slice_index_or floors r (pos 0)
+
+-- each gap has a floor
+pub record AreFloors (ds : List DirectedEdge) (best : List (Option Gap)) (floors : List ℤ) : Type 0 where
+  pub same_length : length floors ≡ length best
+  pub each : (r : ℕ) → r < length best → IsFloor ds (best_at best r) (floor_at floors r)
+
+-- ---- what edges do to gaps
 
 -- no gap grows, and those of the vertices for which Asked holds are now at most those of the edges for which P holds
 pub record AreNearerFor (ds : List DirectedEdge) (vertices : List Pt) (Asked P : ℕ → Type 0) (old new : List (Option Gap)) : Type 0 where

@@ -36,7 +36,7 @@ pub fn cut<A: Allocator + Copy>(
     requires { All (λ v. v < length place.old) ring.now }
     ensures { IfOk result (λ pieces. IsCut ring.now pieces.items) }
 {
-    let mut pieces = Vec::new(alloc);
+    let mut pieces = Vec::with_capacity(alloc, 1)?;
     let mut stack = Vec::with_capacity(alloc, ring.len())?;
     for v in ring {
         if let Some(at) = place_on(&stack, place, *v) {

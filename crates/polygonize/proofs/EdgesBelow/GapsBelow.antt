@@ -38,7 +38,7 @@ test_less a b h = grind (arith, ints)
 pub test_at_most : (a b : ℤ) → a ≤ℤ b → le_z a b ≡ true
 test_at_most a b h = grind (arith, ints)
 
-not_less : (a b : ℤ) → lt_z a b ≡ false → b ≤ℤ a
+pub not_less : (a b : ℤ) → lt_z a b ≡ false → b ≤ℤ a
 not_less a b h = omega (arith, ints)
 
 -- the tests of `covers` at a point just left of x, on an edge from p to q

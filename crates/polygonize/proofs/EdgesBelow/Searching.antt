@@ -66,6 +66,18 @@ module _ (ds : List DirectedEdge) (vertices : List Pt) (P : ℕ → Type 0) wher
       ];
     }
 
+  -- where the gap is as near already
+  pub one_passed : (Asked Next : ℕ → Type 0) (place : ℕ) (old best : List (Option Gap)) → ((r : ℕ) → Next r → Asked r ⊎ (r ≡ place)) → ((k : ℕ) → P k → IsAsNear (edge_at ds k) (vertex_at vertices place) (best_at best place)) → AreNearerFor ds vertices Asked P old best → AreNearerFor ds vertices Next P old best
+  one_passed Asked Next place old best then near s = record {
+    same_length = s.same_length;
+    known = s.known;
+    kept = s.kept;
+    near = λ r n k p. elim (then r n) [
+      | inl a ↦ s.near r a k p
+      | inr same ↦ (let R : ℕ → Type 0 = λ t. IsAsNear (edge_at ds k) (vertex_at vertices t) (best_at best t) in subst R (sym same) (near k p))
+    ];
+  }
+
 -- the place is one of the first n that are asked for
 abbrev pub IsOneOfFirst : List ℕ → ℕ → ℕ → Type 0
 IsOneOfFirst asked n r = (m : ℕ) × (m < n) × (get_or asked m 0 ≡ r)

@@ -5,7 +5,7 @@ use Rattle.polygonize.proofs.cut.cut.Goals as goal
 use Rattle.polygonize.proofs.cut.cut.Goals.{in-Some+in_ok-piece+in_ok-push, in_default}
 
 pub loop-v-init : goal.loop-v-init
-loop-v-init g c = rw (c.in_ok-stack.ensures.items, c.new-pieces.ensures.items) (cutting_none c.args.ring.now c.args.place.now)
+loop-v-init g c = rw (c.in_ok-stack.ensures.items, c.in_ok-pieces.ensures.items) (cutting_none c.args.ring.now c.args.place.now)
 
 pub loop-v-preserved : goal.loop-v-preserved
 loop-v-preserved g c =
