@@ -91,6 +91,9 @@ fn swept_in_parts<R: Threads + Sync, A: Allocator + Copy + Send + Sync>(
     requires { AreLayers counted.now }
     ensures { IfOk result (λ directed. AreResultEdges op counted.now directed) }
 {
+    if parts < 2 {
+        return swept(alloc, counted, op);
+    }
     let vertices = vertices_in_parts(rt, alloc, parts, counted)?;
     let edges = edges_in_parts(rt, alloc, parts, counted, &vertices, op)?;
     Ok(Directed::new(edges))

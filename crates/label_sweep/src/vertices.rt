@@ -16,7 +16,7 @@ use geom::{Counted, NoMemory, Pt};
 use std::alloc::Allocator;
 
 /// How many places the table of first ends has at most.
-const MOST_PLACES: usize = 16_384;
+const MOST_PLACES: usize = 65_536;
 
 /// How many places of the table an edge is worth.
 const PLACES: usize = 4;

@@ -1,6 +1,6 @@
 use Rattle.std.proofs.Common.{◌≤◌}
 use Rattle.label_sweep.proofs.changing.most_change.Given as goal
 
--- no more than there were edges
-abbrev pub invariant-loop-one : goal.invariant-loop-one
-invariant-loop-one l = l.changing ≤ l.one-index
+-- no more than were looked at
+abbrev pub invariant-loop-number : goal.invariant-loop-number
+invariant-loop-number l = l.changing ≤ l.number
