@@ -63,8 +63,7 @@ fn count_sorted<A: Allocator>(alloc: A, links: &[Link]) -> Result<Vec<Counted, A
     requires short { length links.now < 2 ^ 32 }
     ensures { IfOk result (λ v. AreCounts links.now v.items) }
 {
-    // Two segments share an edge in a map.
-    let mut list = Vec::with_capacity(alloc, links.len() / 2)?;
+    let mut list = Vec::with_capacity(alloc, links.len())?;
     let Some(first) = links.first() else {
         return Ok(list);
     };

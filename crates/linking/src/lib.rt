@@ -7,8 +7,9 @@
 //!    cancelled by twos (`bordering`).
 //! 3. The hot pixels of each tile are counted (`numbers`).
 //!
-//! The promise: exactly the definition's rounded edges, ascending, noded, and with even degrees where the segments close. The definitions are
-//! `specs/Gathered` and `specs/Links`.
+//! The promise: exactly the definition's rounded edges, ascending; of segments with copies, by their copies (`made`). Of segments without
+//! copies and of features they are noded, and even round each point where the segments close. The definitions are `specs/Gathered` and
+//! `specs/Links`.
 #![tactic(auto)]
 
 mod bordering;
