@@ -8,8 +8,8 @@ import sys
 
 from . import programs, results
 
-NAMES = ("compare", "rows", "texts", "memory", "faults", "workers", "parallel", "repeat", "scarce", "changing", "limits", "hostile", "speed", "large", "strips", "faces", "library", "laws", "requests", "kernels", "peers", "capabilities", "bridge", "plot", "sizes", "documents")
-WITHOUT_PROGRAM = ("laws", "requests", "strips", "kernels", "plot", "sizes", "documents")
+NAMES = ("compare", "rows", "texts", "memory", "faults", "workers", "parallel", "repeat", "scarce", "changing", "limits", "hostile", "speed", "large", "strips", "faces", "library", "laws", "requests", "kernels", "unproved", "peers", "capabilities", "bridge", "plot", "sizes", "documents")
+WITHOUT_PROGRAM = ("laws", "requests", "strips", "kernels", "unproved", "plot", "sizes", "documents")
 
 
 def main() -> int:
