@@ -1,34 +1,10 @@
-//! `itoa`, digit by digit.
-pub trait Integer: Copy {
-    fn put(self, text: &mut [u8; 40]) -> usize;
-}
+//! `itoa`, by std's own digits.
+use ::std::fmt::Display;
+use ::std::io::Write;
 
-macro_rules! integers {
-    ($($kind:ty)*) => {$(
-        impl Integer for $kind {
-            #[inline(always)]
-            fn put(self, text: &mut [u8; 40]) -> usize {
-                let mut rest = (self as i128).unsigned_abs();
-                let mut at = text.len();
-                loop {
-                    at -= 1;
-                    text[at] = b'0' + (rest % 10) as u8;
-                    rest /= 10;
-                    if rest == 0 {
-                        break;
-                    }
-                }
-                if (self as i128) < 0 {
-                    at -= 1;
-                    text[at] = b'-';
-                }
-                at
-            }
-        }
-    )*};
-}
+pub trait Integer: Copy + Display {}
 
-integers!(i32 i64 i128 u32 u64 usize);
+impl<I: Copy + Display> Integer for I {}
 
 pub struct Buffer([u8; 40]);
 
@@ -38,7 +14,10 @@ impl Buffer {
     }
 
     pub fn format<I: Integer>(&mut self, number: I) -> &str {
-        let at = number.put(&mut self.0);
-        ::std::str::from_utf8(&self.0[at..]).unwrap()
+        let mut rest = &mut self.0[..];
+        write!(rest, "{number}").unwrap();
+        let left = rest.len();
+        let count = self.0.len() - left;
+        ::std::str::from_utf8(&self.0[..count]).unwrap()
     }
 }
