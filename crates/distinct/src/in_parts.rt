@@ -38,10 +38,9 @@ pub fn distinct_in_parts<A: Allocator + Copy + Send + Sync, R: Threads + Sync>(
             )
         },
     )?;
-    drop(segments);
-    let (segments, copies) = parted(alloc, found)?;
+    let (kept, copies) = parted(alloc, found)?;
     Ok(Distinct {
-        segments: joined(alloc, segments)?,
+        segments: joined(alloc, kept)?,
         copies: joined(alloc, copies)?,
     })
 }

@@ -19,4 +19,4 @@ returns g c =
     let cut : ArePartsOf 0 c.len.result ps = rw c.deref.ensures.value c.in_ok-cuts.ensures in
     let parts : ArePartsOf 0 (length c.args.segments.items) ps = subst (λ (n : ℕ). ArePartsOf 0 n ps) (c.len.ensures ∙ c.args.segments.ok.0) cut in
     copies_whole c.args.segments.items (λ d. d.segments.items) (λ d. d.copies.items) ps c.in_ok-found.found.items _ _ parts c.in_ok-found.ensures
-    (c.in_ok-joined.ensures ∙ c.in_ok-segments.ensures.segments) (c.in_ok-joined-2.ensures ∙ c.in_ok-segments.ensures.copies)
+    (c.in_ok-joined.ensures ∙ c.in_ok-kept.ensures.segments) (c.in_ok-joined-2.ensures ∙ c.in_ok-kept.ensures.copies)
