@@ -1,10 +1,10 @@
 -- How many items lie in each tile, counted one after another, and what these counts are.
-use Rattle.std.proofs.Common.{◌≡◌, ◌≢◌, ◌⊎◌, inl, inr, ℕ, zero, suc, ◌+◌, ◌*◌, ◌<◌, List, [], ◌∷◌, ◌++◌, length, get_or, map, take, refl, sym, ap, subst, ◌∙◌, arith, ⊎_elim, ◌↔◌}
+use Rattle.std.proofs.Common.{◌≡◌, ◌≢◌, ◌⊎◌, inl, inr, ℕ, zero, suc, ◌+◌, ◌*◌, ◌<◌, ◌≤◌, List, [], ◌∷◌, ◌++◌, length, get_or, map, take, refl, sym, ap, subst, ◌∙◌, arith, ⊎_elim, ◌↔◌}
 use Rattle.std.proofs.Math.Logic.{∥∥₁_elim, ∥∥₁_map}
 use Rattle.std.proofs.Props.{props}
 use Rattle.std.proofs.lemmas.Bool.{cases_eq, cases_lt}
 use Rattle.std.proofs.Math.ListN.{get_or-map}
-use Rattle.std.proofs.lemmas.List.{get_or-replicate, get_or-set_other, get_or-set_same, get_or-take, get_or_default, length-map, length-replicate, length-set, length-take}
+use Rattle.std.proofs.lemmas.List.{get_or-append-add, get_or-replicate, get_or-set_other, get_or-set_same, get_or-take, get_or_default, length-append, length-map, length-replicate, length-set, length-take, take_all, take_at}
 use Rattle.std.proofs.lemmas.List.Elements.{Contains-append_cases, Contains-append_left, Contains-append_right, Contains-get_or, Contains-push, Contains-push_cases}
 use Rattle.std.proofs.lemmas.List.Quantifiers.{all_pairs_push}
 use Rattle.std.proofs.lemmas.List.Sums.{sum_by_push}
@@ -109,6 +109,27 @@ pub counted_one : {X : Type 0} (g : Tiling) (pixel_of : X → Pt) (weight : X �
     → AreTileCounts g pixel_of weight (take i xs) counts → AreTileCounts g pixel_of weight (take (i + 1) xs) more
 counted_one g pixel_of weight xs i x within is once counts more times same h k =
     subst (λ (ns : List ℕ). AreTileCounts g pixel_of weight (take (i + 1) xs) ns) (sym h.new_is) (counted_more g pixel_of weight xs i h.tile x within is once h.owner counts h.count (h.count + times) k h.is_at (ap (λ (n : ℕ). h.count + n) same))
+
+-- ---- points behind those that are counted
+module _ (g : Tiling) (points : List Pt) (old : List ℕ) where
+  -- whatever was counted is counted with the first i points behind it
+  abbrev pub AreCountedTo : ℕ → List ℕ → Type 0
+  AreCountedTo i counts = (done : List Pt) → AllPairs (λ p q. p ≢ q) (done ++ points) → AreTileCounts g (λ p. p) (λ p. 1) done old → AreTileCounts g (λ p. p) (λ p. 1) (take (length done + i) (done ++ points)) counts
+
+  pub counted_to_none : AreCountedTo 0 old
+  counted_to_none done once h = subst (λ (ps : List Pt). AreTileCounts g (λ p. p) (λ p. 1) ps old) (sym (take_at done points (length done + 0) (omega arith))) h
+
+  pub counted_to_more : (i : ℕ) (p : Pt) → i < length points → p ≡ get_or points i p → (counts more : List ℕ) → CountsMore g p 1 counts more → AreCountedTo i counts → AreCountedTo (i + 1) more
+  counted_to_more i p within is counts more one counted done once h =
+      let size = length-append done points in
+      let next : length done + i + 1 ≡ length done + (i + 1) = omega arith in
+      subst (λ (n : ℕ). AreTileCounts g (λ p. p) (λ p. 1) (take n (done ++ points)) more) next
+      (counted_one g (λ p. p) (λ p. 1) (done ++ points) (length done + i) p (omega (arith, within, size)) (is ∙ sym (get_or-append-add done points i p)) once counts more 1 refl one (counted done once h))
+
+  pub counted_to_all : (i : ℕ) → length points ≤ i → (counts : List ℕ) → AreCountedTo i counts → (done : List Pt) → AllPairs (λ p q. p ≢ q) (done ++ points) → AreTileCounts g (λ p. p) (λ p. 1) done old → AreTileCounts g (λ p. p) (λ p. 1) (done ++ points) counts
+  counted_to_all i past counts counted done once h =
+      let size = length-append done points in
+      subst (λ (ps : List Pt). AreTileCounts g (λ p. p) (λ p. 1) ps counts) (take_all (length done + i) (done ++ points) (omega (arith, past, size))) (counted done once h)
 
 -- ---- both counts
 pub paired_are : (g : Tiling) (pixels : List Pt) (weight : Record → ℕ) (records : List Record) (hot found : List ℕ) (tiles : List TileNumbers) → AreTileCounts g (λ p. p) (λ p. 1) pixels hot → AreTileCounts g (λ r. r.pixel) weight records found → ArePaired hot found tiles → AreNumbersOf g pixels weight records tiles

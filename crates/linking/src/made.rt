@@ -1,6 +1,6 @@
 //! Gathering the pieces of all cells.
 
-ghost use Rattle.std.specs.Prelude.{◌≡◌, ◌<◌, ◌^◌, All, IfOk, flat_map, length};
+ghost use Rattle.std.specs.Prelude.{◌≡◌, ◌<◌, ◌^◌, IfOk, flat_map, length};
 ghost use Rattle.geom.specs.Noded.{IsNoded};
 ghost use Rattle.geom.specs.declared.segment.Source.{Source};
 ghost use Rattle.geom.specs.Rounded.{AreRounded, HasEvenDegrees, edges_of, odd_edges};
@@ -22,7 +22,7 @@ use crate::shares::item_count;
 use crate::span::Share;
 use crate::tile_piece::{TilePiece, Tiled};
 use distinct::Copies;
-use geom::{Counted, NoMemory, Pt, Seg};
+use geom::{Counted, NoMemory, Seg};
 use grid::Grid;
 use routing::Record;
 use std::alloc::Allocator;
@@ -153,9 +153,8 @@ pub(crate) fn link_pieces<
 {
     let found = link_in_parts(rt, alloc, parts, grid, &pieces, segments, makers)?;
     let AllLinked { links, records } = found;
-    let pixels = pixels_of(alloc, pieces)?;
-    let hot = hot_in_parts(rt, alloc, parts, grid, &pixels)?;
-    drop(pixels);
+    let hot = hot_in_parts(rt, alloc, parts, grid, &pieces)?;
+    drop(pieces);
     let tiles = paired(alloc, &hot, &records)?;
     Ok(LinkedPieces { links, tiles })
 }
@@ -183,53 +182,10 @@ pub(crate) fn link_alone<M: MakesLinks<L>, L: Ordered + Copy, T: Tiled, A: Alloc
     let whole = Share::whole(item_count(&pieces));
     let linked = link_share(alloc, grid, &pieces, segments, makers, whole)?;
     let Linked { links, records } = linked;
-    let pixels = pixels_of(alloc, pieces)?;
-    let hot = count_by_tile(alloc, grid, &pixels)?;
-    drop(pixels);
+    let hot = count_by_tile(alloc, grid, &pieces)?;
+    drop(pieces);
     let tiles = paired(alloc, &hot, &records)?;
     Ok(LinkedAlone { links, tiles })
-}
-
-/// How many hot pixels pieces have together.
-fn pixel_count<T: Tiled, A: Allocator>(pieces: &[TilePiece<T, A>]) -> usize {
-    let mut count = 0usize;
-    for piece in pieces {
-        count = count.saturating_add(piece.pixels.len());
-    }
-    count
-}
-
-/// The hot pixels of pieces, in their order.
-fn listed_pixels<T: Tiled, A: Allocator>(
-    alloc: A,
-    pieces: &[TilePiece<T, A>],
-) -> Result<Vec<Pt, A>, NoMemory>
-    ensures { IfOk result (λ v. v.items ≡ flat_map (λ p. p.pixels.items) pieces.now) }
-{
-    let mut pixels = Vec::with_capacity(alloc, pixel_count(pieces))?;
-    for piece in pieces {
-        pixels.extend_from_slice(&piece.pixels)?;
-    }
-    Ok(pixels)
-}
-
-/// The hot pixels of pieces, in their order: those of the only one as they stand.
-fn pixels_of<T: Tiled, A: Allocator>(
-    alloc: A,
-    mut pieces: Vec<TilePiece<T, A>, A>,
-) -> Result<Vec<Pt, A>, NoMemory>
-    ensures { IfOk result (λ v. v.items ≡ flat_map (λ p. p.pixels.items) pieces.items) }
-{
-    if pieces.len() != 1 {
-        return listed_pixels(alloc, &pieces);
-    }
-    match pieces.pop() {
-        Some(piece) => {
-            let TilePiece { pixels, .. } = piece;
-            Ok(pixels)
-        }
-        None => Ok(Vec::new(alloc)),
-    }
 }
 
 /// What was gathered, by the rounded edges of segments.

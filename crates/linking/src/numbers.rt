@@ -5,12 +5,14 @@
 //! 2. Where several hands count, what they found is added tile by tile (`summed`).
 //! 3. Both counts of a tile are its numbers (`paired`).
 
-ghost use Rattle.std.specs.Prelude.{◌≡◌, ◌≢◌, ◌<◌, ◌≤◌, All, AllPairs, IfOk, IfSome, OnOk, get_or, length, map, replicate, slice_range, sum_by};
+ghost use Rattle.std.specs.Prelude.{◌≡◌, ◌≢◌, ◌<◌, ◌≤◌, ◌++◌, All, AllPairs, IfOk, IfSome, List, OnOk, flat_map, get_or, length, map, replicate, slice_range, sum_by};
+ghost use Rattle.geom.specs.declared.point.Pt.{Pt};
 ghost use Rattle.grid.specs.Tiles.{HasTile, Owns, tile_count};
 ghost use Rattle.linking.specs.Numbers.{ArePaired, AreTileCounts, CountsMore, HasOwned};
 ghost use Rattle.linking.specs.Shares.{AreSums};
 
 use crate::rounded::TileNumbers;
+use crate::tile_piece::{TilePiece, Tiled};
 use geom::{NoMemory, Pt, Rect};
 use grid::Grid;
 use hands::{Part, even_parts, map_parts};
@@ -91,19 +93,39 @@ impl<A: Allocator> TileCounts<A> {
     }
 }
 
-/// How many of some pixels each tile has. More than a `u32` counts are refused as want of memory.
-pub(crate) fn count_by_tile<A: Allocator>(
-    alloc: A,
+/// Counts each of some hot pixels once. More than a `u32` counts are refused as want of memory.
+fn count_pixels<A: Allocator>(
+    counts: &mut TileCounts<A>,
     grid: &Grid,
     pixels: &[Pt],
-) -> Result<Vec<u32, A>, NoMemory>
+) -> Result<(), NoMemory>
     requires tiles { All (λ p. HasTile grid.now p) pixels.now }
-    requires once { AllPairs (λ p q. p ≢ q) pixels.now }
-    ensures { IfOk result (λ v. AreTileCounts grid.now (λ p. p) (λ p. 1) pixels.now v.items) }
+    requires size { length counts.old.counts.items ≡ tile_count grid.now }
+    requires last { IfSome counts.old.last (HasOwned grid.now) }
+    ensures counted { OnOk result ((done : List Pt) → AllPairs (λ p q. p ≢ q) (done ++ pixels.now)
+        → AreTileCounts grid.now (λ p. p) (λ p. 1) done counts.old.counts.items → AreTileCounts grid.now (λ p. p) (λ p. 1) (done ++ pixels.now) counts.new.counts.items) }
+    ensures size { OnOk result (length counts.new.counts.items ≡ tile_count grid.now) }
+    ensures last { OnOk result (IfSome counts.new.last (HasOwned grid.now)) }
 {
-    let mut counts = TileCounts::none(alloc, grid)?;
     for pixel in pixels {
         counts.add(grid, *pixel, 1)?;
+    }
+    Ok(())
+}
+
+/// How many of the hot pixels of pieces each tile has. More than a `u32` counts are refused as want of memory.
+pub(crate) fn count_by_tile<T: Tiled, A: Allocator>(
+    alloc: A,
+    grid: &Grid,
+    pieces: &[TilePiece<T, A>],
+) -> Result<Vec<u32, A>, NoMemory>
+    requires tiles { All (λ p. HasTile grid.now p) (flat_map (λ p. p.pixels.items) pieces.now) }
+    requires once { AllPairs (λ p q. p ≢ q) (flat_map (λ p. p.pixels.items) pieces.now) }
+    ensures { IfOk result (λ v. AreTileCounts grid.now (λ p. p) (λ p. 1) (flat_map (λ p. p.pixels.items) pieces.now) v.items) }
+{
+    let mut counts = TileCounts::none(alloc, grid)?;
+    for piece in pieces {
+        count_pixels(&mut counts, grid, &piece.pixels)?;
     }
     Ok(counts.into_counts())
 }
@@ -139,28 +161,28 @@ pub(crate) fn summed<A: Allocator + Copy>(
     Ok(sums)
 }
 
-/// How many of the hot pixels each tile has, counted in so many even parts. More than a `u32` counts are refused as want of
-/// memory.
-pub(crate) fn hot_in_parts<A: Allocator + Copy + Send + Sync, R: Threads + Sync>(
+/// How many of the hot pixels of pieces each tile has, counted in so many even parts of the pieces. More than a `u32` counts are refused
+/// as want of memory.
+pub(crate) fn hot_in_parts<T: Tiled + Sync, A: Allocator + Copy + Send + Sync, R: Threads + Sync>(
     rt: &R,
     alloc: A,
     parts: usize,
     grid: &Grid,
-    pixels: &[Pt],
+    pieces: &[TilePiece<T, A>],
 ) -> Result<Vec<u32, A>, NoMemory>
-    requires tiles { All (λ p. HasTile grid.now p) pixels.now }
-    requires once { AllPairs (λ p q. p ≢ q) pixels.now }
-    ensures { IfOk result (λ v. AreTileCounts grid.now (λ p. p) (λ p. 1) pixels.now v.items) }
+    requires tiles { All (λ p. HasTile grid.now p) (flat_map (λ p. p.pixels.items) pieces.now) }
+    requires once { AllPairs (λ p q. p ≢ q) (flat_map (λ p. p.pixels.items) pieces.now) }
+    ensures { IfOk result (λ v. AreTileCounts grid.now (λ p. p) (λ p. 1) (flat_map (λ p. p.pixels.items) pieces.now) v.items) }
 {
-    let cuts = even_parts(alloc, pixels.len(), parts)?;
+    let cuts = even_parts(alloc, pieces.len(), parts)?;
     let lists = map_parts(
         rt,
         alloc,
         &cuts,
         |part: Part| -> Result<Vec<u32, A>, NoMemory>
-            requires { (part.from ≤ part.past) × (part.past ≤ length pixels.now) × All (λ p. HasTile grid.now p) pixels.now × AllPairs (λ p q. p ≢ q) pixels.now }
-            ensures { IfOk result (λ v. AreTileCounts grid.entry.now (λ p. p) (λ p. 1) (slice_range pixels.entry.now part.from part.past) v.items) }
-        { count_by_tile(alloc, grid, &pixels[part.from..part.past]) },
+            requires { (part.from ≤ part.past) × (part.past ≤ length pieces.now) × All (λ p. HasTile grid.now p) (flat_map (λ p. p.pixels.items) pieces.now) × AllPairs (λ p q. p ≢ q) (flat_map (λ p. p.pixels.items) pieces.now) }
+            ensures { IfOk result (λ v. AreTileCounts grid.entry.now (λ p. p) (λ p. 1) (flat_map (λ p. p.pixels.items) (slice_range pieces.entry.now part.from part.past)) v.items) }
+        { count_by_tile(alloc, grid, &pieces[part.from..part.past]) },
     )?;
     summed(alloc, grid.tiles() as usize, &lists)
 }

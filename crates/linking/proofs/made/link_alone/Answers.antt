@@ -42,7 +42,7 @@ count_by_tile-requires-clause-tiles g c =
     let hot = flat_map (λ p. p.pixels.items) pieces in
     let in_cells = are_covered cells segments c.requires.covered_by_cells in
     let in_tiles = are_covered grid segments c.requires.covered in
-    let same : c.deref-3.result.now ≡ hot = c.deref-3.ensures.value ∙ c.in_ok-pixels.ensures in
+    let same = ap (flat_map (λ p. p.pixels.items)) c.deref-3.ensures.value in
     subst (λ (ps : List Pt). All (λ p. HasTile grid p) ps) (sym same) (pixels_in cells grid segments hot found in_cells in_tiles all)
 
 pub count_by_tile-requires-clause-once : goal.count_by_tile-requires-clause-once
@@ -57,7 +57,7 @@ count_by_tile-requires-clause-once g c =
     let hot = flat_map (λ p. p.pixels.items) pieces in
     let in_cells = are_covered cells segments c.requires.covered_by_cells in
     let in_tiles = are_covered grid segments c.requires.covered in
-    let same : c.deref-3.result.now ≡ hot = c.deref-3.ensures.value ∙ c.in_ok-pixels.ensures in
+    let same = ap (flat_map (λ p. p.pixels.items)) c.deref-3.ensures.value in
     subst (λ (ps : List Pt). AllPairs (λ p q. p ≡ q → ⊥) ps) (sym same) (pixels_once cells grid segments hot found in_cells in_tiles all)
 
 pub paired-requires : goal.paired-requires
@@ -93,11 +93,11 @@ returns-clause-tiles g c =
     let hot = flat_map (λ p. p.pixels.items) pieces in
     let in_cells = are_covered cells segments c.requires.covered_by_cells in
     let in_tiles = are_covered grid segments c.requires.covered in
-    let same : c.deref-3.result.now ≡ hot = c.deref-3.ensures.value ∙ c.in_ok-pixels.ensures in
+    let same = ap (flat_map (λ p. p.pixels.items)) c.deref-3.ensures.value in
     let those = found ++ ends_from 0 segments in
     let linked = subst (λ (rs : List Record). HasLinked grid g.M.MakesLinks.link_of g.M.MakesLinks.times_of c.args.makers.now rs c.in_ok-linked.linked.links.items.items c.in_ok-linked.linked.records.items) (open_span c.whole-whole.result.span (flat_map (λ p. p.records.items) c.deref-2.result.now ++ ends_from 0 segments) c.whole-whole.ensures.from c.whole-whole.ensures.below
     ∙ ap (λ ps. flat_map (λ p. p.records.items) ps ++ ends_from 0 segments) c.deref-2.ensures.value) c.in_ok-linked.ensures.linked in
     let order : HasRecords segments those → AreRecords segments linked.records = λ has. gathered_are segments those linked.records has linked.once in
     let paired : ArePaired c.in_ok-hot.hot.items c.in_ok-linked.linked.records.items c.in_ok-tiles.tiles.items = subst (λ (x : List ℕ × List ℕ). ArePaired x.0 x.1 c.in_ok-tiles.tiles.items) (λ i. (c.deref-4.ensures.value i, c.deref-5.ensures.value i)) c.in_ok-tiles.ensures in
-    all_numbers cells grid segments hot found in_cells in_tiles all linked.records order g.M.MakesLinks.times_of c.args.makers.now c.deref-3.result.now linked.records c.in_ok-tiles.tiles.items same refl
-    (paired_are grid c.deref-3.result.now (λ r. times_at g.M.MakesLinks.times_of c.args.makers.now r.segment) linked.records c.in_ok-hot.hot.items c.in_ok-linked.linked.records.items c.in_ok-tiles.tiles.items c.in_ok-hot.ensures linked.linked.counts_are paired)
+    all_numbers cells grid segments hot found in_cells in_tiles all linked.records order g.M.MakesLinks.times_of c.args.makers.now (flat_map (λ p. p.pixels.items) c.deref-3.result.now) linked.records c.in_ok-tiles.tiles.items same refl
+    (paired_are grid (flat_map (λ p. p.pixels.items) c.deref-3.result.now) (λ r. times_at g.M.MakesLinks.times_of c.args.makers.now r.segment) linked.records c.in_ok-hot.hot.items c.in_ok-linked.linked.records.items c.in_ok-tiles.tiles.items c.in_ok-hot.ensures linked.linked.counts_are paired)
