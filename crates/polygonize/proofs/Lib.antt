@@ -8,6 +8,7 @@ pub mod ClosesOnce
 pub mod Permuted
 pub mod Numbers
 pub mod WrittenRings
+pub mod RingNumbers
 pub mod TextOrder
 pub mod EdgesBelow
 pub mod Least

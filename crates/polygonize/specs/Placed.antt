@@ -1,5 +1,5 @@
 -- The rings of the text with their places, in no order yet.
-use Rattle.std.specs.Prelude.{◌≡◌, ◌↔◌, ℕ, Bool, false, List, All, Contains, length, map, slice_index}
+use Rattle.std.specs.Prelude.{◌≡◌, ◌↔◌, ℕ, Bool, false, List, All, Contains, map, slice_index}
 use Rattle.geom.specs.declared.point.Pt.{Pt}
 use Rattle.geom.specs.declared.directed.DirectedEdge.{DirectedEdge}
 use Rattle.geom.specs.Canonical.{IsFirstPiece, IsPieceOf}
@@ -8,19 +8,12 @@ use Rattle.geom.specs.ListOrder.{IsLeastRotation}
 use Rattle.geom.specs.Rings.{AreRings, IsCut}
 use Rattle.polygonize.specs.declared.written.Opening.{Opening}
 use Rattle.polygonize.specs.declared.written.Place.{Place}
-use Rattle.polygonize.specs.declared.written.Tables.{Tables}
 use Rattle.polygonize.specs.Next.{ring_of}
-use Rattle.polygonize.specs.Number.{AreNumbers}
 use Rattle.polygonize.specs.Written.{HaveEdges, IsCanonical}
 
 -- the first two numbers of a ring
 abbrev pub opening_of : List ℕ → Opening
 opening_of ring = record { first = slice_index ring 0; second = slice_index ring 1 }
-
--- the numbers of the vertices where the edges start, and room for as many shells
-pub record AreTables {M : Type 0} (ds : List DirectedEdge) (tables : Tables M) : Type 0 where
-  pub numbers : AreNumbers ds tables.numbers.items
-  pub shells : length tables.shell_of.items ≡ length ds
 
 -- a ring of vertex numbers and its place in the text
 pub record PlacedRing : Type 0 where

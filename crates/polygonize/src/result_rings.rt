@@ -1,6 +1,6 @@
 //! The rings of a result in the order of its text, made in parts, for a caller who doesn't need them together.
 //!
-//! 1. The next edges are looked for in all parts but one; beside them tables are made (`next_and_tables`).
+//! 1. The next edges are looked for in all parts but one; beside them the vertices are numbered (`next_and_numbers`).
 //! 2. The rings are cut in all parts, and so are the edges below holes looked for (`written_rings_in_parts`).
 //! 3. The points of a ring are made when they are asked for (`ResultRings::ring`).
 
@@ -13,14 +13,15 @@ ghost use Rattle.geom.specs.Rings.{Closes};
 ghost use Rattle.geom.specs.declared.point.Pt.{Pt};
 ghost use Rattle.polygonize.specs.Cycle.{IsOneToOne};
 ghost use Rattle.polygonize.specs.Next.{AreNext};
-ghost use Rattle.polygonize.specs.Placed.{AreTables};
+ghost use Rattle.polygonize.specs.Number.{AreNumbers};
 ghost use Rattle.polygonize.specs.Told.{AreToldRings, ring_told, told_at};
 ghost use Rattle.polygonize.specs.Written.{IsSound};
 
 use crate::closing_edges::ClosingEdges;
+use crate::number::start_numbers;
 use crate::polygon::simple_ring;
 use crate::successor::{successors, successors_in_parts};
-use crate::written::{Tables, WrittenRing, tables_of, written_rings_in_parts};
+use crate::written::{WrittenRing, written_rings_in_parts};
 use geom::{Directed, NoMemory, SimpleRing};
 use hands::join;
 use std::alloc::Allocator;
@@ -86,19 +87,22 @@ impl<A: Allocator> ResultRings<A> {
     }
 }
 
-/// The next edges in all parts but one, and beside them the tables that the rings are written by.
-fn next_and_tables<R: Threads + Sync, A: Allocator + Copy + Send + Sync>(
+/// The next edges in all parts but one, and beside them the numbers of the vertices where the edges start.
+fn next_and_numbers<R: Threads + Sync, A: Allocator + Copy + Send + Sync>(
     rt: &R,
     alloc: A,
     parts: usize,
     edges: ClosingEdges<'_>,
-) -> (Result<Vec<usize, A>, NoMemory>, Result<Tables<A>, NoMemory>)
+) -> (
+    Result<Vec<usize, A>, NoMemory>,
+    Result<Vec<usize, A>, NoMemory>,
+)
     ensures next { IfOk result.0 (λ next. AreNext edges.entry.list.now next.items) }
     ensures one_to_one { IfOk result.0 (λ next. IsOneToOne next.items) }
-    ensures tables { IfOk result.1 (λ t. AreTables edges.entry.list.now t) }
+    ensures numbers { IfOk result.1 (λ numbers. AreNumbers edges.entry.list.now numbers.items) }
 {
     if parts < BOTH {
-        return (successors(alloc, edges), tables_of(alloc, edges));
+        return (successors(alloc, edges), start_numbers(alloc, edges));
     }
     let list = edges.list;
     join(
@@ -108,10 +112,10 @@ fn next_and_tables<R: Threads + Sync, A: Allocator + Copy + Send + Sync>(
             requires { IsSync R.row × IsSend A.row × IsSync A.row × (2 ≤ parts) × ∥ Closes list.now ∥₁ × All (λ d. AreInLimit d.from d.to) list.now }
             ensures { IfOk result (λ next. AreNext list.entry.now next.items × IsOneToOne next.items) }
         { successors_in_parts(rt, alloc, parts - 1, ClosingEdges { list }) },
-        || -> Result<Tables<A>, NoMemory>
+        || -> Result<Vec<usize, A>, NoMemory>
             requires { IsSync A.row × ∥ Closes list.now ∥₁ × All (λ d. AreInLimit d.from d.to) list.now }
-            ensures { IfOk result (λ t. AreTables list.entry.now t) }
-        { tables_of(alloc, ClosingEdges { list }) },
+            ensures { IfOk result (λ numbers. AreNumbers list.entry.now numbers.items) }
+        { start_numbers(alloc, ClosingEdges { list }) },
     )
 }
 
@@ -129,8 +133,8 @@ pub fn rings_in_parts<R: Threads + Sync, A: Allocator + Copy + Send + Sync>(
     let edges = ClosingEdges {
         list: directed.edges(),
     };
-    let (next, tables) = next_and_tables(rt, alloc, parts, edges);
-    let mut written = written_rings_in_parts(rt, alloc, parts, edges, &next?, tables?)?;
+    let (next, numbers) = next_and_numbers(rt, alloc, parts, edges);
+    let mut written = written_rings_in_parts(rt, alloc, parts, edges, &next?, numbers?)?;
     written.sort_unstable_by_key(|ring| ring.place());
     Ok(ResultRings { directed, written })
 }

@@ -1,9 +1,10 @@
-//! The rings of directed edges, as lists of the edges' places.
+//! The rings of directed edges, as lists of the edges' places, and the number of each edge's ring.
 
-ghost use Rattle.std.specs.Prelude.{All, AllPairs, IfOk};
+ghost use Rattle.std.specs.Prelude.{◌<◌, All, AllPairs, IfOk, length};
 ghost use Rattle.geom.specs.Rings.{AreRings};
 ghost use Rattle.polygonize.specs.Cycle.{Begins, IsOneToOne};
 ghost use Rattle.polygonize.specs.Next.{AreNext, rings_of};
+ghost use Rattle.polygonize.specs.RingNumbers.{AreApart, AreRingNumbers, IsNumbered};
 ghost use Rattle.polygonize.specs.Written.{ArePlaces, HasItsEdges};
 
 use crate::closing_edges::ClosingEdges;
@@ -25,4 +26,31 @@ pub fn ring_places<A: Allocator + Copy>(
     ensures ascending { IfOk result (λ found. AllPairs Begins found.items) }
 {
     cycles(alloc, next)
+}
+
+/// Gives the edges of a ring its number.
+fn number_ring(ring_at: &mut [usize], cycle: &[usize], number: usize)
+    requires { All (λ k. k < length ring_at.old) cycle.now }
+    ensures { IsNumbered cycle.now number ring_at.old ring_at.new }
+{
+    for place in cycle {
+        ring_at[*place] = number;
+    }
+}
+
+/// For each of so many edges the number of its ring.
+pub fn ring_numbers<A: Allocator + Copy>(
+    alloc: A,
+    edges: usize,
+    cycles: &[Cycle<A>],
+) -> Result<Vec<usize, A>, NoMemory>
+    requires inside { All (λ c. All (λ k. k < edges) c) cycles.now }
+    requires apart { AreApart cycles.now }
+    ensures { IfOk result (λ ring_at. AreRingNumbers edges cycles.now ring_at.items) }
+{
+    let mut ring_at = vec![in alloc; cycles.len(); edges]?;
+    for number in 0..cycles.len() {
+        number_ring(&mut ring_at, cycles[number].numbers(), number);
+    }
+    Ok(ring_at)
 }

@@ -8,8 +8,10 @@ ghost use Rattle.polygonize.specs.Below.{AreFoundBelow, IsFoundBelow, StandAt};
 ghost use Rattle.polygonize.specs.CutRing.{AreCyclesCut, Ascend, IsCycleCut};
 ghost use Rattle.polygonize.specs.Cycle.{Begins, IsOneToOne};
 ghost use Rattle.polygonize.specs.Next.{AreNext, edge_at, ring_of, rings_of};
-ghost use Rattle.polygonize.specs.Owning.{ArePiecesWritten, IsRingPlaced, KeepsShell, kept_for};
-ghost use Rattle.polygonize.specs.Placed.{AreAllWritten, AreTables, AreWritten, opening_of, rings_in};
+ghost use Rattle.polygonize.specs.Number.{AreNumbers};
+ghost use Rattle.polygonize.specs.Owning.{ArePiecesWritten, IsRingPlaced, kept_for};
+ghost use Rattle.polygonize.specs.Placed.{AreAllWritten, AreWritten, opening_of, rings_in};
+ghost use Rattle.polygonize.specs.RingNumbers.{AreRingNumbers, IsRingOf, kept_by};
 ghost use Rattle.polygonize.specs.Written.{AreAdded, ArePlaces, HasItsEdges, HaveEdges, IsCanonical, IsRingWritten};
 
 use crate::below::Gap;
@@ -19,7 +21,7 @@ use crate::cycle::Cycle;
 use crate::nearest::{gaps_below, gaps_below_in_parts};
 use crate::number::{first_vertices, start_numbers};
 use crate::piece::turned;
-use crate::ring::ring_places;
+use crate::ring::{ring_numbers, ring_places};
 use geom::{DirectedEdge, NoMemory};
 use std::alloc::Allocator;
 use std::marker::Model;
@@ -82,25 +84,6 @@ impl<A: Allocator> WrittenRing<A> {
     }
 }
 
-/// What rings are written by: for each edge the number of the vertex where it starts, and room for the shell of its polygon.
-#[derive(Drop)]
-pub struct Tables<A: Allocator> {
-    numbers: Vec<usize, A>,
-    shell_of: Vec<Option<Opening>, A>,
-}
-
-/// The tables for the rings of directed edges.
-pub fn tables_of<A: Allocator + Copy>(
-    alloc: A,
-    edges: ClosingEdges<'_>,
-) -> Result<Tables<A>, NoMemory>
-    ensures { IfOk result (λ t. AreTables edges.entry.list.now t) }
-{
-    let numbers = start_numbers(alloc, edges)?;
-    let shell_of = vec![in alloc; None; edges.list.len()]?;
-    Ok(Tables { numbers, shell_of })
-}
-
 /// The shell that is given, or else the first piece.
 fn shell_of_pieces(owner: Option<Opening>, first: &[usize]) -> Opening
     requires { 2 ≤ length first.now }
@@ -161,46 +144,45 @@ fn write_pieces<A: Allocator>(
 }
 
 /// The shell of the ring's polygon, where the ring is a hole and the ring of the edge below it was written.
-fn owner_of(is_hole: bool, below: Option<Gap>, shell_of: &[Option<Opening>]) -> Option<Opening>
-    requires { is_hole ≡ true → IfSome below (λ g. g.number < length shell_of.now) }
+fn owner_of(
+    is_hole: bool,
+    below: Option<Gap>,
+    ring_at: &[usize],
+    shells: &[Option<Opening>],
+) -> Option<Opening>
+    requires { is_hole ≡ true → IfSome below (λ g. g.number < length ring_at.now) }
     ensures shell { is_hole ≡ false → result ≡ None }
-    ensures hole { is_hole ≡ true → result ≡ kept_for below shell_of.now }
+    ensures hole { is_hole ≡ true → result ≡ kept_for below (kept_by ring_at.now shells.now) }
 {
     if !is_hole {
         return None;
     }
-    shell_of[below?.number]
+    *shells.get(ring_at[below?.number])?
 }
 
-/// Keeps the shell of the polygon for each edge of a ring.
-fn keep_shell(shell_of: &mut [Option<Opening>], cycle: &[usize], shell: Opening)
-    requires { All (λ k. k < length shell_of.old) cycle.now }
-    ensures { KeepsShell cycle.now shell shell_of.old shell_of.new }
-{
-    for place in cycle {
-        shell_of[*place] = Some(shell);
-    }
-}
-
-/// Writes the pieces of the ring of these edges.
+/// Writes the pieces of the ring of these edges, and keeps the shell of its polygon.
 fn write_ring<A: Allocator>(
     edges: &[DirectedEdge],
     cycle: &[usize],
+    number: usize,
     ring: CutRing<A>,
     below: Option<Gap>,
-    shell_of: &mut [Option<Opening>],
+    ring_at: &[usize],
+    shells: &mut [Option<Opening>],
     written: &mut Vec<WrittenRing<A>, A>,
 ) -> Result<(), NoMemory>
     requires cycle { ArePlaces edges.now cycle.now }
     requires ring { IsCycleCut edges.now cycle.now ring }
-    requires shells { length shell_of.old ≡ length edges.now }
+    requires number { number < length shells.old }
+    requires numbered { IsRingOf ring_at.now cycle.now number }
+    requires one_each { length ring_at.now ≡ length edges.now }
     requires below { IsHole (ring_of edges.now cycle.now) → IsFoundBelow edges.now (edge_at edges.now (slice_index_or cycle.now 0 0)).from below }
     ensures written { OnOk result (IsRingWritten edges.now cycle.now (rings_in written.old.items) (rings_in written.new.items)) }
-    ensures placed { OnOk result (IsRingPlaced edges.now cycle.now shell_of.old shell_of.new written.old.items written.new.items) }
+    ensures placed { OnOk result (IsRingPlaced edges.now cycle.now (kept_by ring_at.now shells.old) (kept_by ring_at.now shells.new) written.old.items written.new.items) }
 {
-    let owner = owner_of(ring.is_hole, below, shell_of);
+    let owner = owner_of(ring.is_hole, below, ring_at, shells);
     let shell = write_pieces(ring, owner, written)?;
-    keep_shell(shell_of, cycle, shell);
+    shells[number] = Some(shell);
     Ok(())
 }
 
@@ -210,14 +192,14 @@ fn write_cycles<A: Allocator + Copy>(
     alloc: A,
     edges: ClosingEdges<'_>,
     cycles: &[Cycle<A>],
+    ring_at: &[usize],
     rings: Vec<CutRing<A>, A>,
     below: &[Option<Gap>],
-    shell_of: &mut [Option<Opening>],
 ) -> Result<Vec<WrittenRing<A>, A>, NoMemory>
     requires cycles { All (ArePlaces edges.list.now) cycles.now }
     requires rings { AreRings edges.list.now (rings_of edges.list.now cycles.now) }
     requires cut { AreCyclesCut edges.list.now cycles.now 0 (length cycles.now) rings.items }
-    requires shells { length shell_of.old ≡ length edges.list.now }
+    requires numbers { AreRingNumbers (length edges.list.now) cycles.now ring_at.now }
     requires found { AreFoundBelow edges.list.now cycles.now below.now }
     requires its_edges { All (HasItsEdges edges.list.now) cycles.now }
     ensures written { let rings = rings_of edges.entry.list.now cycles.now in AreNodedEdges edges.entry.list.now → AreGrounded edges.entry.list.now rings → IfOk result (λ written. AreWritten edges.entry.list.now rings written.items) }
@@ -225,14 +207,17 @@ fn write_cycles<A: Allocator + Copy>(
     ensures sound { IfOk result (λ written. All (IsCanonical edges.entry.list.now) (rings_in written.items)) }
 {
     let mut written = Vec::with_capacity(alloc, cycles.len())?;
+    let mut shells = vec![in alloc; None; cycles.len()]?;
     let mut number = 0;
     for ring in rings {
         write_ring(
             edges.list,
             cycles[number].numbers(),
+            number,
             ring,
             below[number],
-            shell_of,
+            ring_at,
+            &mut shells,
             &mut written,
         )?;
         number += 1;
@@ -309,38 +294,36 @@ pub fn written_rings<A: Allocator + Copy>(
     ensures sound { IfOk result (λ written. All (IsCanonical edges.entry.list.now) (rings_in written.items)) }
     ensures written { AreNodedEdges edges.entry.list.now → HasGroundedRings edges.entry.list.now → IfOk result (λ written. AreAllWritten edges.entry.list.now written.items) }
 {
-    let Tables {
-        numbers,
-        mut shell_of,
-    } = tables_of(alloc, edges)?;
+    let numbers = start_numbers(alloc, edges)?;
     let cycles = ring_places(alloc, edges, next)?;
     let rings = cut_rings(alloc, edges, &numbers, &cycles, 0, cycles.len())?;
+    drop(numbers);
     let below = edges_below(alloc, edges, &cycles, &rings)?;
-    write_cycles(alloc, edges, &cycles, rings, &below, &mut shell_of)
+    let ring_at = ring_numbers(alloc, edges.list.len(), &cycles)?;
+    write_cycles(alloc, edges, &cycles, &ring_at, rings, &below)
 }
 
-/// The same by tables that are there already: the rings are cut in so many parts, and the edges below holes are looked for in as many.
+/// The same by the numbers of vertices, which are there already: the rings are cut in so many parts, and the edges below holes are looked
+/// for in as many.
 pub fn written_rings_in_parts<R: Threads + Sync, A: Allocator + Copy + Send + Sync>(
     rt: &R,
     alloc: A,
     parts: usize,
     edges: ClosingEdges<'_>,
     next: &[usize],
-    tables: Tables<A>,
+    numbers: Vec<usize, A>,
 ) -> Result<Vec<WrittenRing<A>, A>, NoMemory>
     requires next { AreNext edges.list.now next.now }
     requires one_to_one { IsOneToOne next.now }
-    requires tables { AreTables edges.list.now tables }
+    requires numbers { AreNumbers edges.list.now numbers.items }
     ensures edges { IfOk result (λ written. HaveEdges edges.entry.list.now (rings_in written.items)) }
     ensures sound { IfOk result (λ written. All (IsCanonical edges.entry.list.now) (rings_in written.items)) }
     ensures written { AreNodedEdges edges.entry.list.now → HasGroundedRings edges.entry.list.now → IfOk result (λ written. AreAllWritten edges.entry.list.now written.items) }
 {
-    let Tables {
-        numbers,
-        mut shell_of,
-    } = tables;
     let cycles = ring_places(alloc, edges, next)?;
     let rings = cut_rings_in_parts(rt, alloc, parts, edges, &numbers, &cycles)?;
+    drop(numbers);
     let below = edges_below_in_parts(rt, alloc, parts, edges, &cycles, &rings)?;
-    write_cycles(alloc, edges, &cycles, rings, &below, &mut shell_of)
+    let ring_at = ring_numbers(alloc, edges.list.len(), &cycles)?;
+    write_cycles(alloc, edges, &cycles, &ring_at, rings, &below)
 }

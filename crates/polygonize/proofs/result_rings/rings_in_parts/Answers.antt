@@ -32,4 +32,4 @@ returns g c = λ noded grounded.
 
 pub written_rings_in_parts-requires-clause-one_to_one : goal.written_rings_in_parts-requires-clause-one_to_one
 written_rings_in_parts-requires-clause-one_to_one g c = λ κs l.
-    subst IsOneToOne (sym c.deref.ensures.value) (subst (λ r. IfOk r (λ next. IsOneToOne next.items)) c.in_ok-next.was c.next_and_tables-next.ensures.one_to_one)
+    subst IsOneToOne (sym c.deref.ensures.value) (subst (λ r. IfOk r (λ next. IsOneToOne next.items)) c.in_ok-next.was c.next_and_numbers-next.ensures.one_to_one)
