@@ -158,7 +158,7 @@ fn one_line<A: Allocator + Copy>(alloc: A, directed: &Directed<A>) -> Result<Tex
     TextParts::one(alloc, line)
 }
 
-/// The same line, made by several workers at once where that is worth it.
+/// The same line, ring by ring where there are many edges, by several workers at once.
 pub fn line_by_workers<A: Allocator + Copy + Send + Sync, R: Threads + Sync>(
     rt: &R,
     alloc: A,
@@ -169,10 +169,10 @@ pub fn line_by_workers<A: Allocator + Copy + Send + Sync, R: Threads + Sync>(
     requires in_limit { All (λ d. AreInLimit d.from d.to) directed }
     ensures { IfOk result (λ text. (op : Op) (counted : List Counted) → AreLayers counted → AreResultEdges op counted directed → IsResultText op counted text) }
 {
-    let parts = worth::parts(workers, directed.edges().len(), worth::DIRECTED);
-    if parts < 2 {
+    if directed.edges().len() < worth::DIRECTED {
         return one_line(alloc, &directed);
     }
+    let parts = worth::parts(workers, directed.edges().len(), worth::DIRECTED);
     let rings = rings_in_parts(rt, alloc, parts, directed)?;
     line_in_parts(rt, alloc, parts, &rings)
 }
