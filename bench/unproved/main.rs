@@ -83,19 +83,24 @@ fn main() {
     let is_asked = |name: &str| options.iter().any(|word| word == name);
     let texts: ::std::vec::Vec<_> = words[1..].iter().map(|file| ::std::fs::read(file).unwrap()).collect();
     let layers: ::std::vec::Vec<&[u8]> = texts.iter().map(|text| text.as_slice()).collect();
-    let side = number("--tile=").unwrap_or_else(|| engine::fitting_side_over(&layers));
-    let plan = Plan {
-        side,
-        workers: number("--workers=").unwrap_or(1),
-    };
+    let side: Option<u32> = number("--tile=");
+    let workers = number("--workers=").unwrap_or(1);
     let (usual, reports) = (Limits::default(), is_asked("--report"));
-    let (said, status) = match (operation(&words[0]), layers.as_slice()) {
-        (Some(op), [a, b]) if is_asked("--covered") => covered(op, a, b, plan),
-        (Some(op), [a, b]) if is_asked("--areas") => measured(op, a, b, plan, reports),
-        (Some(op), [a, b]) => words_of(engine::run_within(&(), Global, op, a, b, plan, usual, &OpenGate, &mut Output)),
-        (None, [a, b]) if words[0] == "edges" => words_of(engine::edges_within(&(), Global, a, b, plan, usual, &OpenGate, &mut Output)),
-        _ => faces(&layers, plan),
+    let answer = |side| {
+        let plan = Plan { side, workers };
+        match (operation(&words[0]), layers.as_slice()) {
+            (Some(op), [a, b]) if is_asked("--covered") => covered(op, a, b, plan),
+            (Some(op), [a, b]) if is_asked("--areas") => measured(op, a, b, plan, reports),
+            (Some(op), [a, b]) => words_of(engine::run_within(&(), Global, op, a, b, plan, usual, &OpenGate, &mut Output)),
+            (None, [a, b]) if words[0] == "edges" => words_of(engine::edges_within(&(), Global, a, b, plan, usual, &OpenGate, &mut Output)),
+            _ => faces(&layers, plan),
+        }
     };
+    let (mut said, mut status) = answer(side.unwrap_or(grid::DEFAULT_SIDE));
+    // What is refused may want a greater side, as the program knows.
+    if status != 0 && side.is_none() {
+        (said, status) = answer(engine::fitting_side_over(&layers));
+    }
     if status != 0 || reports || is_asked("--areas") {
         ::std::io::Write::write_all(&mut ::std::io::stderr(), &said).unwrap();
     }
