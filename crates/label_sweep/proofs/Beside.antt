@@ -148,12 +148,12 @@ module _ {X : Type 0} (R : X → X → Type 0) where
   pairs_back [] ys h = h
   pairs_back (x ∷ xs) ys h = pairs_back xs ys (pairs_tail R x (xs ++ ys) h)
 
-  pairs_across : (xs ys : List X) → AllPairs R (xs ++ ys) → (x y : X) → In x xs → In y ys → R x y
+  pub pairs_across : (xs ys : List X) → AllPairs R (xs ++ ys) → (x y : X) → In x xs → In y ys → R x y
   pairs_across [] ys h x y i j = absurd i
   pairs_across (z ∷ xs) ys h x y (inl e) j = subst (λ t. R t y) e (pairs_head R z (xs ++ ys) h y (in_back xs ys y j))
   pairs_across (z ∷ xs) ys h x y (inr i) j = pairs_across xs ys (pairs_tail R z (xs ++ ys) h) x y i j
 
-  pairs_joined : (xs ys : List X) → AllPairs R xs → AllPairs R ys → ((x y : X) → In x xs → In y ys → R x y) → AllPairs R (xs ++ ys)
+  pub pairs_joined : (xs ys : List X) → AllPairs R xs → AllPairs R ys → ((x y : X) → In x xs → In y ys → R x y) → AllPairs R (xs ++ ys)
   pairs_joined [] ys h k across = k
   pairs_joined (x ∷ xs) ys h k across = AllPairs-cons R x (xs ++ ys)
       (all_of_in (R x) (xs ++ ys) (λ y i. ⊎_elim (λ j. pairs_head R x xs h y j) (λ j. across x y (inl refl) j) (in_append xs ys y i)))
@@ -206,7 +206,7 @@ module _ {X : Type 0} where
   pairs_sliced R xs a b h = let P : List X → Type 0 = λ t. AllPairs R t in
       pairs_front R (slice_range xs a b) (drop (b - a) (drop a xs)) (subst P (sym (take-append-drop (b - a) (drop a xs))) (pairs_back R (take a xs) (drop a xs) (subst P (sym (take-append-drop a xs)) h)))
 
-  slice_more : (xs : List X) (a n : ℕ) (d : X) → a ≤ n → n < length xs → slice_range xs a (n + 1) ≡ slice_range xs a n ++ (get_or xs n d ∷ [])
+  pub slice_more : (xs : List X) (a n : ℕ) (d : X) → a ≤ n → n < length xs → slice_range xs a (n + 1) ≡ slice_range xs a n ++ (get_or xs n d ∷ [])
   slice_more xs a n d o l = slice_behind xs a n (n + 1) o (omega arith) ∙ ap (λ t. slice_range xs a n ++ t) (ap (λ k. take k (drop n xs)) (one n) ∙ ap (λ t. take 1 t) (drop-cons xs n d l))
     where
       one : (n : ℕ) → (n + 1) - n ≡ 1

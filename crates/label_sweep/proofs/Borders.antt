@@ -10,9 +10,6 @@ use Rattle.std.proofs.lemmas.List.{get_or_default, get_or-drop, get_or-take}
 use Rattle.geom.specs.declared.point.Pt.{Pt}
 use Rattle.geom.specs.declared.edge.Edge.{Edge}
 use Rattle.geom.specs.declared.edge.Counted.{Counted}
-use Rattle.geom.specs.declared.op.Op.{Op}
-use Rattle.geom.specs.declared.directed.DirectedEdge.{DirectedEdge}
-use Rattle.geom.specs.Directed.{AreResultEdges, IsDirectedBefore}
 use Rattle.geom.specs.EdgeOrder.{IsEdgeBefore}
 use Rattle.geom.specs.Limit.{IsWithin, coordinate_limit}
 use Rattle.geom.specs.Order.{IsBefore}
@@ -23,9 +20,7 @@ use Rattle.geom.proofs.Tests.{le_told, le_untold, le_yes, lt_told, lt_yes}
 use Rattle.hands.specs.declared.part.Part.{Part}
 use Rattle.points_law.specs.Law.{AreLayers}
 use Rattle.label_sweep.specs.Column.{AreLeftOf, BeginsColumn, BeginsStrip, HaveCrossing, IsStrip, IsStripOf}
-use Rattle.label_sweep.specs.Labels.{AreDirectedFrom}
 use Rattle.label_sweep.specs.Status.{AreVertices, IsVertexOf}
-use Rattle.label_sweep.proofs.Directing.{result_edges}
 use Rattle.label_sweep.proofs.Beside.{pairs_sliced}
 use Rattle.label_sweep.proofs.Sweeping.{origin}
 use Rattle.label_sweep.proofs.Members.{all_of_in, in_drop, in_take, part_in, within_part}
@@ -297,7 +292,3 @@ module _ (cs : List Counted) (h : AreLayers cs) (vs : List Pt) (a : AreVertices 
     where
       all_of_it : (n : ℕ) → n - 0 ≡ n
       all_of_it n = omega arith
-
--- ---- all of them
-pub all_edges : (op : Op) (cs : List Counted) (vs : List Pt) → AreVertices (edges_of cs) vs → (es : List DirectedEdge) → AllPairs IsDirectedBefore es → AreDirectedFrom op cs vs es → AreResultEdges op cs es
-all_edges op cs vs a es = result_edges op cs vs (λ e i. (a.exact e.p).1 (record { edge = e; inside = i; ends = inl refl })) es

@@ -1,11 +1,12 @@
 -- Lists joined from chunks: the place of an index, what a search by the first elements of the chunks finds, and edits.
-use Rattle.std.proofs.Common.{◌≡◌, ⊎_elim, ℕ, zero, suc, ◌+◌, ◌-◌, ◌<◌, ◌≤◌, Bool, true, false, List, [], ◌∷◌, ◌++◌, length, get_or, set, take, drop, refl, sym, ap, ◌∙◌, subst, arith, append_assoc}
+use Rattle.std.proofs.Common.{◌≡◌, ◌≢◌, ◌⊎◌, inl, inr, ⊎_elim, ℕ, zero, suc, ◌+◌, ◌-◌, ◌<◌, ◌≤◌, Bool, true, false, List, [], ◌∷◌, ◌++◌, length, get_or, min, set, take, drop, refl, sym, ap, ◌∙◌, subst, arith, append_assoc}
 use Rattle.std.specs.List.{All, AllWithin, HoldsAt, flat_map}
 use Rattle.std.specs.List.Sorted.{IsPartitionedBy}
 use Rattle.label_sweep.specs.Chunks.{opens}
-use Rattle.std.proofs.Math.Seq.{take-append-add, drop-append-add, take-suc-set}
+use Rattle.std.specs.Prelude.{slice_range}
+use Rattle.std.proofs.Math.Seq.{take-add, take-append-add, drop-append-add, take-suc-set}
 use Rattle.std.proofs.lemmas.Bool.{cases_lt}
-use Rattle.std.proofs.lemmas.List.{append-nil, drop-append-le, drop-set-lt, length-append, length-drop, take-append-le, take_all}
+use Rattle.std.proofs.lemmas.List.{append-nil, drop-append-le, drop-drop, drop-set-lt, length-append, length-drop, take-append-le, take_all}
 use Rattle.std.proofs.lemmas.List.Concat.{flat_map-append, get_or-flat_map}
 use Rattle.std.proofs.lemmas.List.Elements.{All-append, All-cons, All-drop, All-nil, All-set, All-take}
 use Rattle.std.proofs.lemmas.List.Folds.{length-flat_map-take}
@@ -242,3 +243,106 @@ module _ {X Y : Type 0} (f : Y → List X) where
   cut_some [] j y z h = absurd (omega arith)
   cut_some (c ∷ cs) zero y z h = omega arith
   cut_some (c ∷ cs) (suc j) y z h = omega arith
+
+-- ---- parts of a list, and of its chunks
+part_joins : {X : Type 0} (xs : List X) (a b c : ℕ) → a ≤ b → b ≤ c → slice_range xs a b ++ slice_range xs b c ≡ slice_range xs a c
+part_joins xs a b c l m =
+    let n : ℕ = b - a in
+    let k : ℕ = c - b in
+    let to : b ≡ a + n = omega arith in
+    let all : n + k ≡ c - a = omega arith in
+    ap (λ i. take n (drop a xs) ++ take k (drop i xs)) to ∙ ap (λ t. take n (drop a xs) ++ take k t) (sym (drop-drop n a xs)) ∙ sym (take-add n k (drop a xs)) ∙ ap (λ i. take i (drop a xs)) all
+
+part_empty : {X : Type 0} (xs : List X) (a b : ℕ) → b ≤ a → slice_range xs a b ≡ []
+part_empty xs a b l = let none : b - a ≡ 0 = omega arith in ap (λ i. take i (drop a xs)) none
+
+module _ {X Y : Type 0} (f : Y → List X) where
+  part_joined : (cs : List Y) (k a b : ℕ) (c : Y) → k < length cs → c ≡ get_or cs k c → a ≤ b → b ≤ length (f c) → slice_range (f c) a b ≡ slice_range (flat_map f cs) (before f cs k + a) (before f cs k + b)
+  part_joined cs k a b c h is l m =
+      let P : Y → Type 0 = λ y. a ≤ length (f y) in
+      let left = length-drop a (f c) in
+      let far : b - a ≡ (before f cs k + b) - (before f cs k + a) = omega arith in
+      let rest : List X = flat_map f (drop (suc k) cs) in
+      sym (take-append-le (b - a) (drop a (f c)) rest (omega (arith, left, m)))
+      ∙ ap (λ y. take (b - a) (drop a (f y) ++ rest)) is
+      ∙ ap (take (b - a)) (sym (drop_joined f cs k a c h (subst P is (omega (arith, l, m)))))
+      ∙ ap (λ i. take i (drop (before f cs k + a) (flat_map f cs))) far
+
+  -- from an item of chunk i up to one of chunk j
+  module _ (cs : List Y) (i m j n : ℕ) (o : i ≤ j) (h : j < length cs) (first : HoldsAt (λ c. m ≤ length (f c)) cs i) (last : HoldsAt (λ c. n ≤ length (f c)) cs j) (order : before f cs i + m ≤ before f cs j + n) where
+    -- what is listed of the chunks before one
+    abbrev pub listed : ℕ → List X
+    listed k = slice_range (flat_map f cs) (before f cs i + m) (min (before f cs k) (before f cs j + n))
+
+    pub listed_all : (k : ℕ) → k ≡ j + 1 → listed k ≡ slice_range (flat_map f cs) (before f cs i + m) (before f cs j + n)
+    listed_all k e =
+        let d : Y = first_of cs (omega (arith, h)) in
+        let past : before f cs k ≡ before f cs (suc j) = (let s : k ≡ suc j = omega (arith, e) in ap (before f cs) s) in
+        let more = before_more f cs j d h in
+        let inside = last d in
+        let to : min (before f cs k) (before f cs j + n) ≡ before f cs j + n = omega (arith, past, more, inside) in
+        ap (slice_range (flat_map f cs) (before f cs i + m)) to
+
+    module _ (k : ℕ) (c : Y) (from : i ≤ k) (to : k ≤ j) (is : c ≡ get_or cs k c) (a b : ℕ) (starts : ((k ≡ i) × (a ≡ m)) ⊎ ((k ≢ i) × (a ≡ 0))) (ends : ((k ≡ j) × (b ≡ n)) ⊎ ((k ≢ j) × (b ≡ length (f c)))) where
+      in_chunk : b ≤ length (f c)
+      in_chunk = elim ends [
+        | inl e ↦ (let P : Y → Type 0 = λ y. n ≤ length (f y) in let Q : ℕ → Type 0 = λ t. n ≤ length (f (get_or cs t c)) in let l = subst P (sym is) (subst Q (sym e.0) (last c)) in omega (arith, l, e.1))
+        | inr e ↦ omega (arith, e.1)
+      ]
+
+      -- where chunk k is listed to
+      reach : min (before f cs (k + 1)) (before f cs j + n) ≡ before f cs k + b
+      reach =
+          let next : before f cs (k + 1) ≡ before f cs (suc k) = (let s : k + 1 ≡ suc k = omega arith in ap (before f cs) s) in
+          let more = before_more f cs k c (omega (arith, to, h)) in
+          let size : length (f (get_or cs k c)) ≡ length (f c) = ap (λ y. length (f y)) (sym is) in
+          elim ends [
+            | inl e ↦ (let same = ap (before f cs) e.0 in let l = in_chunk in omega (arith, next, more, size, same, e.1, l))
+            | inr e ↦ (let later = before_order f cs (suc k) j (omega (arith, to, e.0)) in omega (arith, next, more, size, later, e.1))
+          ]
+
+      pub listed_more : listed k ++ slice_range (f c) (min a b) b ≡ listed (k + 1)
+      listed_more = elim starts [ inl e ↦ here e.0 e.1 | inr e ↦ there e.0 e.1 ]
+        where
+          size : length (f (get_or cs k c)) ≡ length (f c)
+          size = ap (λ y. length (f y)) (sym is)
+
+          whole : List X
+          whole = flat_map f cs
+
+          here : k ≡ i → a ≡ m → listed k ++ slice_range (f c) (min a b) b ≡ listed (k + 1)
+          here e g =
+              let same = ap (before f cs) e in
+              let r = reach in
+              let up = in_order e in
+              let at : min a b ≡ m = omega (arith, g, up) in
+              let start : before f cs k + m ≡ before f cs i + m = omega (arith, same) in
+              ap (λ t. t ++ slice_range (f c) (min a b) b) (part_empty whole (before f cs i + m) (min (before f cs k) (before f cs j + n)) (omega (arith, same)))
+              ∙ ap (λ t. slice_range (f c) t b) at ∙ part_joined cs k m b c (omega (arith, to, h)) is up in_chunk
+              ∙ ap (λ t. slice_range whole t (before f cs k + b)) start ∙ ap (slice_range whole (before f cs i + m)) (sym r)
+            where
+              in_order : k ≡ i → m ≤ b
+              in_order e =
+                  let P : Y → Type 0 = λ y. m ≤ length (f y) in
+                  let Q : ℕ → Type 0 = λ t. m ≤ length (f (get_or cs t c)) in
+                  let l = subst P (sym is) (subst Q (sym e) (first c)) in
+                  let same = ap (before f cs) e in
+                  elim ends [
+                    | inl g ↦ (let to_last = ap (before f cs) g.0 in omega (arith, order, same, to_last, g.1))
+                    | inr g ↦ omega (arith, l, g.1)
+                  ]
+
+          there : k ≢ i → a ≡ 0 → listed k ++ slice_range (f c) (min a b) b ≡ listed (k + 1)
+          there ne g =
+              let d : Y = first_of cs (omega (arith, h)) in
+              let first_more = before_more f cs i d (omega (arith, o, h)) in
+              let in_first = first d in
+              let earlier = before_order f cs (suc i) k (omega (arith, from, ne)) in
+              let later = before_order f cs k j to in
+              let r = reach in
+              let at : min a b ≡ 0 = omega (arith, g) in
+              let begin : min (before f cs k) (before f cs j + n) ≡ before f cs k = omega (arith, later) in
+              let zero_more : before f cs k + 0 ≡ before f cs k = omega arith in
+              ap (λ t. slice_range whole (before f cs i + m) t ++ slice_range (f c) (min a b) b) begin
+              ∙ ap (λ t. slice_range whole (before f cs i + m) (before f cs k) ++ t) (ap (λ t. slice_range (f c) t b) at ∙ part_joined cs k 0 b c (omega (arith, to, h)) is (omega arith) in_chunk ∙ ap (λ t. slice_range whole t (before f cs k + b)) zero_more)
+              ∙ part_joins whole (before f cs i + m) (before f cs k) (before f cs k + b) (omega (arith, first_more, in_first, earlier)) (omega arith) ∙ ap (slice_range whole (before f cs i + m)) (sym r)

@@ -22,7 +22,7 @@ use Rattle.points_law.proofs.Choices.{◌⊕◌, ◌∧∧◌, Noded, Even, pari
 use Rattle.points_law.proofs.ResultOfChoices.{Edges}
 use Rattle.points_law.proofs.Sums.{par_cong, par_xor, par_none}
 use Rattle.points_law.proofs.Even.{same, same_is, same_refl, not_true, once}
-use Rattle.points_law.proofs.Column.{cv, ab, cv_low, cv_high, one_above, not_above_itself, differ, among}
+use Rattle.points_law.proofs.Column.{cv, ab, cv_low, cv_high, not_above_itself, differ, among}
 use Rattle.points_law.proofs.Turn.{sloping_left, sloping_right}
 use Rattle.points_law.proofs.Layers.{edges_in}
 use Rattle.label_sweep.specs.declared.parities.Parities.{Parities}
@@ -33,23 +33,12 @@ use Rattle.label_sweep.specs.Column.{AreCrossing, BeginsColumn, Crosses}
 use Rattle.label_sweep.specs.Labels.{BeginsWith, IsLabelled, IsSweptUpTo, beyond, labels_from, parities_at, standing_of, stands_from}
 use Rattle.label_sweep.specs.Status.{AreStanding, IsUnder, Reaches}
 use Rattle.label_sweep.proofs.Labelling.{Chained, labelled}
-use Rattle.label_sweep.proofs.Members.{all_of_in, in_of_all, in_reverse, reverse_in, reverse_cons, map_reverse}
-use Rattle.label_sweep.proofs.Passing.{edge_of}
-use Rattle.label_sweep.proofs.Step.{Pairs, pairs_across, pairs_append, pairs_right}
+use Rattle.label_sweep.proofs.Members.{all_of_in, in_of_all, in_reverse, map_reverse, pairs_of_map, reverse_in}
+use Rattle.label_sweep.proofs.Passing.{Apart, edge_of, stand_is, turned}
+use Rattle.label_sweep.proofs.Step.{Pairs, pairs_across, pairs_right}
 use Rattle.label_sweep.proofs.Turning.{edge_at}
-use Rattle.label_sweep.proofs.West.{ab_of, none_term, other_term, own_term}
-use Rattle.label_sweep.proofs.Words.{choice, even, layer, pairs_from, pairs_to}
-
--- ---- of two edges in a column one is above the other
-after_first : (s t : Bool) → s ⊕ t ≡ true → s ≡ true → t ≡ false
-after_first s t h i = grind arith
-
-not_both : (b : Bool) → b ≡ true → b ≡ false → ⊥
-not_both b h i = grind arith
-
-not_above : (es : List Edge) → Noded es → (k : ℤ) (e f : Edge) → In e es → In f es → cv e k ≡ true → cv f k ≡ true → ab e f k ≡ true → ab f e k ≡ false
-not_above es n k e f i j c d u = after_first (ab e f k) (ab f e k)
-    (one_above f e k (n f e j i (λ q. not_both (ab e e k) (let P : Edge → Type 0 = λ g. ab e g k ≡ true in subst P q u) (not_above_itself e k))) d c) u
+use Rattle.label_sweep.proofs.West.{ab_of, none_term, not_above, not_both, other_term, own_term}
+use Rattle.label_sweep.proofs.Words.{choice, even, layer, pairs_from, pairs_map, pairs_to}
 
 -- the edges that cover the column from k to k + 1, from high to low
 record Column (es : List Edge) (k : ℤ) (crossing : List Edge) : Type 0 where
@@ -182,19 +171,13 @@ module _ (es : List Edge) (v : Pt) (b : BeginsColumn es v) where
       before : e.q.x <ℤ v.x → IsBefore e.q v
       before l = record { column = weak e.q.x v.x l; row = λ q. absurd (not_same e.q.x v.x l q) }
 
-  turned : (crossing : List Edge) → Pairs (λ e f. IsUnder f e) crossing → Pairs IsUnder (reverse crossing)
-  turned [] p = tt
-  turned (e ∷ crossing) p = let P : List Edge → Type 0 = λ fs. Pairs IsUnder fs in
-      subst P (sym (reverse_cons e crossing)) (pairs_append IsUnder (reverse crossing) (e ∷ []) (turned crossing p.1) ((λ f i. absurd i), tt)
-      (λ f g i j. ⊎_elim (λ q. subst (λ (w : Edge). IsUnder f w) q (p.0 f (in_reverse crossing f i))) (λ k. absurd k) j))
-
   standing : (crossing : List Edge) → AreCrossing es v.x crossing → AreStanding (Reaches es v) (reverse crossing)
   standing crossing a = record {
     exact = λ e. (
       (λ i. reaches e ((a.exact e).0 (in_contains crossing e (in_reverse crossing e (contains_in (reverse crossing) e i))))),
       (λ r. in_contains (reverse crossing) e (reverse_in crossing e (contains_in crossing e ((a.exact e).1 (reached e r))))),
     );
-    order = pairs_to IsUnder (reverse crossing) (turned crossing (pairs_from (λ e f. IsUnder f e) crossing a.order));
+    order = pairs_to IsUnder (reverse crossing) (turned IsUnder crossing (pairs_from (λ e f. IsUnder f e) crossing a.order));
   }
 
 -- ---- the column of the edges that cross it
@@ -259,11 +242,22 @@ module _ (cs : List Counted) (h : AreLayers cs) (v : Pt) (b : BeginsColumn (edge
       (λ t i. under_right cs none ss (in_of_all (IsLabelled cs) (labels_from none ss) l) t
       (let P : List StandingEdge → Type 0 = λ ts. In t ts in subst P (all_stand none ss slopes) (in_reverse (stands_from none ss) t i)))
 
+  apart : AllPairs Apart (map edge_at ss) → AllPairs (λ s t. Apart (edge_of s) (edge_of t)) (reverse (stands_from none ss))
+  apart d = let P : List Edge → Type 0 = λ es. AllPairs Apart es in
+      pairs_of_map Apart edge_of (reverse (stands_from none ss)) (subst P (sym edges_reversed) (pairs_to Apart (reverse (map edge_at ss))
+      (turned Apart (map edge_at ss) (pairs_map Apart (λ e f. Apart f e) (λ e f n q. n (sym q)) (map edge_at ss) (pairs_from Apart (map edge_at ss) d)))))
+
+  inside_all : All (λ s. Contains cs s.one) ss → All (λ t. Contains cs t.spoke.one) (reverse (stands_from none ss))
+  inside_all inside = all_of_in (λ t. Contains cs t.spoke.one) (reverse (stands_from none ss))
+      (λ t i. in_of_all (λ s. Contains cs s.one) ss inside t.spoke (stand_is none ss t (in_reverse (stands_from none ss) t i)).0)
+
 pub column_is_swept : (cs : List Counted) → AreLayers cs → (v : Pt) → BeginsColumn (edges_of cs) v → (ss : List Spoke)
     → AreCrossing (edges_of cs) v.x (map (λ s. s.one.edge) ss) → All (λ s. Contains cs s.one) ss
     → IsSweptUpTo cs v (reverse (stands_from (record { a = false; b = false }) ss))
 column_is_swept cs h v b ss a inside = record {
   edges = let P : List Edge → Type 0 = λ es. AreStanding (Reaches (edges_of cs) v) es in
       subst P (sym (edges_reversed cs h v b ss a)) (standing (edges_of cs) v b (map edge_at ss) a);
+  once = apart cs h v b ss a a.distinct;
+  inside = inside_all cs h v b ss a inside;
   under = under_all cs h v b ss a (labels cs h v b ss a a.distinct inside);
 }

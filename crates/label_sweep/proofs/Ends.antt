@@ -43,7 +43,7 @@ are_vertices es ends vs are s = record {
   exact = λ v. ((λ c. (are v).0 ((s.same v).0 c)), (λ x. (s.same v).1 ((are v).1 x)));
 }
 
-edge_among : (cs : List Counted) (c : Counted) → Contains cs c → Contains (edges_of cs) c.edge
+pub edge_among : (cs : List Counted) (c : Counted) → Contains cs c → Contains (edges_of cs) c.edge
 edge_among cs c h = in_contains (edges_of cs) c.edge (map_in (λ (t : Counted). t.edge) cs c (contains_in cs c h))
 
 first_is_vertex : (cs : List Counted) (c : Counted) → Contains cs c → IsVertexOf (edges_of cs) c.edge.p

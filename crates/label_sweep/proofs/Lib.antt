@@ -3,16 +3,21 @@ pub mod West
 pub mod Step
 pub mod Around
 pub mod Words
+pub mod Straight
 pub mod Labelling
 pub mod Members
 pub mod Ends
+pub mod Merging
 pub mod Steepness
 pub mod Turning
 pub mod Passing
+pub mod Plain
 pub mod Beside
 pub mod Columns
 pub mod Sweeping
 pub mod Directing
+pub mod LeavingEdges
+pub mod LeavingStrips
 pub mod Heights
 pub mod Crossing
 pub mod Chunks
@@ -22,3 +27,5 @@ pub mod StripVertices
 pub mod ChangingEdges
 pub mod Parts
 pub mod Limits
+pub mod KeptOnce
+pub mod Slots

@@ -1,5 +1,5 @@
--- What is within the limit: of edges within it, some of them, their ends, and what is of layers.
-use Rattle.std.proofs.Common.{⊎_elim, ℕ, ◌-◌, List, ◌++◌, drop, subst, sym, take}
+-- What is within the limit: of edges within it, some of them, and their ends.
+use Rattle.std.proofs.Common.{⊎_elim, ℕ, ◌-◌, List, ◌++◌, drop, subst, sym}
 use Rattle.std.specs.List.{All}
 use Rattle.std.specs.Prelude.{slice_range}
 use Rattle.geom.specs.declared.point.Pt.{Pt}
@@ -8,10 +8,8 @@ use Rattle.geom.specs.declared.edge.Counted.{Counted}
 use Rattle.geom.specs.Limit.{AreInLimit, InLimit}
 use Rattle.geom.specs.Rounded.{edges_of}
 use Rattle.geom.proofs.Lists.{In, contains_in, in_append, in_map, map_in}
-use Rattle.label_sweep.specs.Column.{IsStripOf}
 use Rattle.label_sweep.specs.Status.{IsVertexOf}
 use Rattle.label_sweep.proofs.Members.{all_of_in, in_drop, in_of_all, in_take}
-use Rattle.label_sweep.proofs.Passing.{vertex_in_limit}
 
 -- all of these edges
 abbrev pub AllInLimit : List Counted → Type 0
@@ -27,15 +25,8 @@ some_in_limit cs some h of = all_of_in (λ (e : Edge). AreInLimit e.p e.q) (edge
     let c = in_map (λ (c : Counted). c.edge) some e i in
     subst (λ (e : Edge). AreInLimit e.p e.q) c.2 (one_in_limit cs h c.0.edge (map_in (λ (c : Counted). c.edge) cs c.0 (of c.0 c.1))))
 
-pub first_in_limit : (cs : List Counted) → AllInLimit cs → (n : ℕ) → AllInLimit (take n cs)
-first_in_limit cs h n = some_in_limit cs (take n cs) h (λ c i. in_take n cs c i)
-
 pub slice_in_limit : (cs : List Counted) → AllInLimit cs → (from next : ℕ) → AllInLimit (slice_range cs from next)
 slice_in_limit cs h from next = some_in_limit cs (slice_range cs from next) h (λ c i. in_drop from cs c (in_take (next - from) (drop from cs) c i))
-
--- the vertices of a strip of layers
-pub strip_in_limit : (cs before own : List Counted) (vs : List Pt) → IsStripOf cs before own vs → All InLimit vs
-strip_in_limit cs before own vs a = all_of_in InLimit vs (λ v i. vertex_in_limit cs a.layers v (in_of_all (IsVertexOf (edges_of cs)) vs a.only v i))
 
 -- the ends of edges of two lists
 pub ends_in_limit : (cs ds : List Counted) → AllInLimit cs → AllInLimit ds → (vs : List Pt) → All (IsVertexOf (edges_of (cs ++ ds))) vs → All InLimit vs

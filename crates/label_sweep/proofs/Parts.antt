@@ -1,23 +1,18 @@
--- What the parts of a list give, one behind another: the vertices of some edges, and the directed edges from some vertices.
-use Rattle.std.proofs.Common.{◌≡◌, ⊎_elim, ℕ, zero, suc, ◌+◌, ◌-◌, ◌≤◌, List, [], ◌∷◌, ◌++◌, map, length, take, drop, flat_map, refl, sym, ap, ◌∙◌, subst, arith, append_assoc}
+-- What the parts of a list give, one behind another, such as the ends of some edges.
+use Rattle.std.proofs.Common.{◌≡◌, ⊎_elim, ℕ, zero, suc, ◌+◌, ◌-◌, ◌≤◌, List, [], ◌∷◌, ◌++◌, length, take, drop, flat_map, refl, sym, ap, ◌∙◌, subst, arith}
 use Rattle.std.specs.List.{AllZip, Contains}
-use Rattle.std.specs.Prelude.{slice_range, ◌↔◌}
+use Rattle.std.specs.Prelude.{slice_range}
 use Rattle.std.proofs.lemmas.List.{map-append, take_all}
-use Rattle.std.proofs.lemmas.List.Elements.{All-append, All-nil, Contains-append_cases, Contains-append_left, Contains-append_right}
+use Rattle.std.proofs.lemmas.List.Elements.{Contains-append_cases, Contains-append_left, Contains-append_right}
 use Rattle.std.specs.List.Sorted.{IsPermutation}
 use Rattle.std.proofs.lemmas.List.Sorted.{Contains-permutation, IsPermutation-sym}
-use Rattle.geom.specs.declared.op.Op.{Op}
 use Rattle.geom.specs.declared.point.Pt.{Pt}
 use Rattle.geom.specs.declared.edge.Edge.{Edge}
 use Rattle.geom.specs.declared.edge.Counted.{Counted}
-use Rattle.geom.specs.declared.directed.DirectedEdge.{DirectedEdge}
-use Rattle.geom.specs.Label.{ways}
 use Rattle.geom.specs.Rounded.{edges_of}
 use Rattle.hands.specs.declared.part.Part.{Part}
 use Rattle.hands.specs.Consecutive.{ArePartsOf}
 use Rattle.hands.proofs.Consecutive.{behind_one_another}
-use Rattle.label_sweep.specs.declared.standing.LabelledEdge.{LabelledEdge}
-use Rattle.label_sweep.specs.Labels.{AreDirectedFrom, IsLabelled, directed_of, directions_of}
 use Rattle.label_sweep.specs.Status.{AreEnds, IsVertexOf}
 
 -- ---- slices
@@ -82,45 +77,3 @@ more_ends cs ds vs ws a b v = (
 
 pub same_ends : (es : List Edge) (vs ws : List Pt) → IsPermutation vs ws → AreEnds es vs → AreEnds es ws
 same_ends es vs ws p a v = ((λ i. (a v).0 (Contains-permutation ws vs v (IsPermutation-sym vs ws p) i)), (λ x. Contains-permutation vs ws v p ((a v).1 x)))
-
--- ---- the directed edges from two parts of the vertices
-module _ (op : Op) (cs : List Counted) where
-  directed_append : (ls ms : List LabelledEdge) → directed_of op (ls ++ ms) ≡ directed_of op ls ++ directed_of op ms
-  directed_append [] ms = refl
-  directed_append (l ∷ ls) ms = ap (λ t. ways l.edge (directions_of op l) ++ t) (directed_append ls ms) ∙ sym (append_assoc (ways l.edge (directions_of op l)) (directed_of op ls) (directed_of op ms))
-
-  pub none_directed : AreDirectedFrom op cs [] []
-  none_directed = record { labelled = []; labels = record { each = All-nil (IsLabelled cs); all = λ e i j. absurd (omega (arith, j.1)) }; along = λ d. ((λ i. i), (λ i. i)) }
-
-  pub more_directed : (ps qs : List Pt) (es fs : List DirectedEdge) → AreDirectedFrom op cs ps es → AreDirectedFrom op cs qs fs → AreDirectedFrom op cs (ps ++ qs) (es ++ fs)
-  more_directed ps qs es fs d e = record {
-    labelled = d.labelled ++ e.labelled;
-    labels = record {
-      each = All-append (IsLabelled cs) d.labelled e.labelled d.labels.each e.labels.each;
-      all = λ f i j. subst (λ (t : List Edge). Contains t f) (sym (map-append edge_of d.labelled e.labelled)) (⊎_elim
-          (λ k. Contains-append_left (map edge_of d.labelled) (map edge_of e.labelled) f (d.labels.all f i k))
-          (λ k. Contains-append_right (map edge_of d.labelled) (map edge_of e.labelled) f (e.labels.all f i k))
-          (Contains-append_cases ps qs f.p j));
-    };
-    along = λ b. (
-      (λ i. subst (λ (t : List DirectedEdge). Contains t b) (sym (directed_append d.labelled e.labelled)) (⊎_elim
-          (λ j. Contains-append_left (directed_of op d.labelled) (directed_of op e.labelled) b ((d.along b).0 j))
-          (λ j. Contains-append_right (directed_of op d.labelled) (directed_of op e.labelled) b ((e.along b).0 j))
-          (Contains-append_cases es fs b i))),
-      (λ i. ⊎_elim
-          (λ j. Contains-append_left es fs b ((d.along b).1 j))
-          (λ j. Contains-append_right es fs b ((e.along b).1 j))
-          (Contains-append_cases (directed_of op d.labelled) (directed_of op e.labelled) b (subst (λ (t : List DirectedEdge). Contains t b) (directed_append d.labelled e.labelled) i))),
-    );
-  }
-    where
-      edge_of : LabelledEdge → Edge
-      edge_of l = l.edge
-
-  -- in another order, each once
-  pub same_directed : (ps : List Pt) (es fs gs : List DirectedEdge) → IsPermutation es fs → ((d : DirectedEdge) → Contains gs d ↔ Contains fs d) → AreDirectedFrom op cs ps es → AreDirectedFrom op cs ps gs
-  same_directed ps es fs gs p same a = record {
-    labelled = a.labelled;
-    labels = a.labels;
-    along = λ d. ((λ i. (a.along d).0 (Contains-permutation fs es d (IsPermutation-sym es fs p) ((same d).0 i))), (λ i. (same d).1 (Contains-permutation es fs d p ((a.along d).1 i))));
-  }

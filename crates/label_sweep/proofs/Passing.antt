@@ -3,7 +3,7 @@ use Rattle.std.proofs.Common.{◌≡◌, inl, inr, ⊎_elim, ℕ, ◌+◌, ◌-�
 use Rattle.std.specs.List.{All, AllWithin, AllPairs, Contains}
 use Rattle.std.specs.List.Sorted.{IsPartitionedBy}
 use Rattle.std.specs.Prelude.{pos, ◌<ℤ◌, ◌≤ℤ◌, slice_range}
-use Rattle.std.proofs.Math.IntN.{ℤ}
+use Rattle.std.proofs.Math.IntN.{ℤ, ◌-ℤ◌, ◌*ℤ◌}
 use Rattle.std.proofs.lemmas.Bool.{cases_lt}
 use Rattle.std.proofs.lemmas.Int.{ints}
 use Rattle.std.proofs.lemmas.List.{map-append, take-append-drop}
@@ -16,24 +16,28 @@ use Rattle.geom.specs.declared.edge.Edge.{Edge}
 use Rattle.geom.specs.declared.edge.Counted.{Counted}
 use Rattle.geom.specs.Determinant.{side}
 use Rattle.geom.specs.Limit.{AreInLimit, InLimit}
+use Rattle.geom.specs.Order.{IsBefore, IsUpTo}
 use Rattle.geom.specs.Parity.{parity}
 use Rattle.geom.specs.ResultEdges.{left_side, right_side}
 use Rattle.geom.specs.Rounded.{edges_of, odd_edges}
+use Rattle.geom.proofs.Integers.{expand, linear}
 use Rattle.geom.proofs.Lists.{In, in_contains, contains_in, in_map, map_in, in_append, in_front, in_back}
+use Rattle.geom.proofs.Numbers.{never_negative, zero_is_nonneg, zero_is_not_positive}
+use Rattle.geom.proofs.Orders.{before_itself}
 use Rattle.geom.proofs.Tests.{lt_told, lt_yes}
 use Rattle.points_law.specs.Law.{AreLayers}
 use Rattle.label_sweep.specs.declared.parities.Parities.{Parities}
 use Rattle.label_sweep.specs.declared.standing.Spoke.{Spoke}
 use Rattle.label_sweep.specs.declared.standing.StandingEdge.{StandingEdge}
 use Rattle.label_sweep.specs.declared.standing.LabelledEdge.{LabelledEdge}
-use Rattle.label_sweep.specs.Labels.{AreLabelsUpTo, BeginsWith, IsLabelled, IsSweptTo, IsSweptUpTo, beyond, labels_from, lowest_of, parities_at, parities_beside, standing_of, stands_from}
+use Rattle.label_sweep.specs.Labels.{AreEnded, AreLabelsUpTo, BeginsWith, IsLabelled, IsSweptTo, IsSweptUpTo, beyond, labels_from, lowest_of, parities_at, parities_beside, standing_of, stands_from}
 use Rattle.label_sweep.specs.Status.{AreFresh, AreSpokes, AreStanding, GoesOn, IsRangeAt, IsSteeper, IsUnder, IsVertexOf, Reaches}
-use Rattle.label_sweep.proofs.Around.{Steeper, under_turn}
+use Rattle.label_sweep.proofs.Around.{Steeper, not_steeper, under_turn}
 use Rattle.label_sweep.proofs.Labelling.{turn_is_labelled}
-use Rattle.label_sweep.proofs.Members.{all_of_in, in_of_all, in_drop, in_reverse, in_take, reverse_in, reverse_cons, map_reverse, within_take, within_drop, within_part, part_in, pairs_of_map}
-use Rattle.label_sweep.proofs.Step.{Pairs, clash, pairs_append}
+use Rattle.label_sweep.proofs.Members.{all_of_in, in_of_all, in_drop, in_reverse, in_take, reverse_in, reverse_cons, map_pairs, map_reverse, within_take, within_drop, within_part, part_in, pairs_of_map}
+use Rattle.label_sweep.proofs.Step.{Pairs, clash, pairs_across, pairs_append, pairs_left, pairs_right}
 use Rattle.label_sweep.proofs.Turning.{edge_at}
-use Rattle.label_sweep.proofs.Words.{first_left_none, left_of_first, pairs_from, pairs_map, pairs_to, search_is_monotone, standing_stays, steeper_of}
+use Rattle.label_sweep.proofs.Words.{ends_are_level, first_left_none, left_of_first, pairs_from, pairs_map, pairs_to, search_is_monotone, standing_stays, steeper_of}
 
 abbrev pub edge_of : StandingEdge → Edge
 edge_of s = s.spoke.one.edge
@@ -43,6 +47,10 @@ IsBelow v e = pos 0 <ℤ side e.p e.q v
 
 abbrev IsAbove : Pt → Edge → Type 0
 IsAbove v e = side e.p e.q v <ℤ pos 0
+
+-- they are different
+abbrev pub Apart : Edge → Edge → Type 0
+Apart e f = ¬ (e ≡ f)
 
 pub vertex_in_limit : (cs : List Counted) → AreLayers cs → (v : Pt) → IsVertexOf (edges_of cs) v → InLimit v
 vertex_in_limit cs h v x = let l = All-contains (λ e. AreInLimit e.p e.q) (edges_of cs) x.edge h.in_limit x.inside in
@@ -79,18 +87,25 @@ low_first v (t ∷ s) low high l a b = not_more (λ m. clash _ (a high t (omega 
     not_more n = omega arith
 
 -- ---- those that begin at v
-module _ (cs : List Counted) (h : AreLayers cs) (v : Pt) (ss : List Spoke) (a : AreSpokes (edges_of cs) v (map edge_at ss)) (inside : All (λ s. Contains cs s.one) ss) (left : Parities) where
-  -- each of those that stand is one that begins, and not upright
-  stand_is : (at : Parities) (ks : List Spoke) (t : StandingEdge) → In t (stands_from at ks) → In t.spoke ks × (int_lt t.spoke.one.edge.p.x t.spoke.one.edge.q.x ≡ true)
-  stand_is at [] t i = absurd i
-  stand_is at (k ∷ ks) t i = ⊎_elim (λ j. one (int_lt k.one.edge.p.x k.one.edge.q.x) refl j) (λ j. let r = stand_is (beyond at k.one) ks t j in (inr r.0, r.1))
-      (in_append (cond (int_lt k.one.edge.p.x k.one.edge.q.x) (standing_of k (beyond at k.one) ∷ []) []) (stands_from (beyond at k.one) ks) t i)
-    where
-      one : (b : Bool) → int_lt k.one.edge.p.x k.one.edge.q.x ≡ b → In t (cond b (standing_of k (beyond at k.one) ∷ []) []) → In t.spoke (k ∷ ks) × (int_lt t.spoke.one.edge.p.x t.spoke.one.edge.q.x ≡ true)
-      one true e (inl j) = let P : StandingEdge → Type 0 = λ t. In t.spoke (k ∷ ks) × (int_lt t.spoke.one.edge.p.x t.spoke.one.edge.q.x ≡ true) in subst P j (inl refl, e)
-      one true e (inr j) = absurd j
-      one false e j = absurd j
+-- each of those that stand is one that begins, and not upright
+pub stand_is : (at : Parities) (ks : List Spoke) (t : StandingEdge) → In t (stands_from at ks) → In t.spoke ks × (int_lt t.spoke.one.edge.p.x t.spoke.one.edge.q.x ≡ true)
+stand_is at [] t i = absurd i
+stand_is at (k ∷ ks) t i = ⊎_elim (λ j. one (int_lt k.one.edge.p.x k.one.edge.q.x) refl j) (λ j. let r = stand_is (beyond at k.one) ks t j in (inr r.0, r.1))
+    (in_append (cond (int_lt k.one.edge.p.x k.one.edge.q.x) (standing_of k (beyond at k.one) ∷ []) []) (stands_from (beyond at k.one) ks) t i)
+  where
+    one : (b : Bool) → int_lt k.one.edge.p.x k.one.edge.q.x ≡ b → In t (cond b (standing_of k (beyond at k.one) ∷ []) []) → In t.spoke (k ∷ ks) × (int_lt t.spoke.one.edge.p.x t.spoke.one.edge.q.x ≡ true)
+    one true e (inl j) = let P : StandingEdge → Type 0 = λ t. In t.spoke (k ∷ ks) × (int_lt t.spoke.one.edge.p.x t.spoke.one.edge.q.x ≡ true) in subst P j (inl refl, e)
+    one true e (inr j) = absurd j
+    one false e j = absurd j
 
+-- turned round
+pub turned : (R : Edge → Edge → Type 0) (es : List Edge) → Pairs (λ f g. R g f) es → Pairs R (reverse es)
+turned R [] p = tt
+turned R (e ∷ es) p = let P : List Edge → Type 0 = λ fs. Pairs R fs in
+    subst P (sym (reverse_cons e es)) (pairs_append R (reverse es) (e ∷ []) (turned R es p.1) ((λ f i. absurd i), tt)
+    (λ f g i j. ⊎_elim (λ q. subst (λ (w : Edge). R f w) q (p.0 f (in_reverse es f i))) (λ k. absurd k) j))
+
+module _ (cs : List Counted) (h : AreLayers cs) (v : Pt) (ss : List Spoke) (a : AreSpokes (edges_of cs) v (map edge_at ss)) (inside : All (λ s. Contains cs s.one) ss) (left : Parities) where
   is_stand : (at : Parities) (ks : List Spoke) (k : Spoke) → In k ks → int_lt k.one.edge.p.x k.one.edge.q.x ≡ true → In k.one.edge (map edge_of (stands_from at ks))
   is_stand at [] k i l = absurd i
   is_stand at (m ∷ ks) k (inl e) l = one (int_lt m.one.edge.p.x m.one.edge.q.x) (let P : Spoke → Type 0 = λ t. int_lt t.one.edge.p.x t.one.edge.q.x ≡ true in subst P (sym e) l)
@@ -118,33 +133,39 @@ module _ (cs : List Counted) (h : AreLayers cs) (v : Pt) (ss : List Spoke) (a : 
       (reverse_in (map edge_of (stands_from left ss)) e (subst (λ (f : Edge). In f (map edge_of (stands_from left ss))) k.2 (is_stand left ss k.0 k.1 (subst P (sym k.2) (lt_yes e.p.x e.q.x l)))))
 
   -- ---- their order
-  over_pairs : (at : Parities) (ks : List Spoke) → ((k : Spoke) → In k ks → k.one.edge.p ≡ v) → Pairs Steeper (map edge_at ks) → Pairs (λ f g. IsUnder g f) (map edge_of (stands_from at ks))
-  over_pairs at [] b p = tt
-  over_pairs at (k ∷ ks) b p = one (over_pairs (beyond at k.one) ks (λ m i. b m (inr i)) p.1) (int_lt k.one.edge.p.x k.one.edge.q.x)
+  over_pairs : (R : Edge → Edge → Type 0) → ((e f : Edge) → e.p ≡ f.p → Steeper f e → R e f) → (at : Parities) (ks : List Spoke) → ((k : Spoke) → In k ks → k.one.edge.p ≡ v)
+      → Pairs Steeper (map edge_at ks) → Pairs (λ f g. R g f) (map edge_of (stands_from at ks))
+  over_pairs R r at [] b p = tt
+  over_pairs R r at (k ∷ ks) b p = one (over_pairs R r (beyond at k.one) ks (λ m i. b m (inr i)) p.1) (int_lt k.one.edge.p.x k.one.edge.q.x)
     where
-      under : (e : Edge) → In e (map edge_of (stands_from (beyond at k.one) ks)) → IsUnder e k.one.edge
+      under : (e : Edge) → In e (map edge_of (stands_from (beyond at k.one) ks)) → R e k.one.edge
       under e i = let t = in_map edge_of (stands_from (beyond at k.one) ks) e i in let m = stand_is (beyond at k.one) ks t.0 t.1 in
-          subst (λ (e : Edge). IsUnder e k.one.edge) t.2
-          (under_turn t.0.spoke.one.edge k.one.edge (b t.0.spoke (inr m.0) ∙ sym (b k (inl refl))) (p.0 t.0.spoke.one.edge (map_in edge_at ks t.0.spoke m.0)))
+          subst (λ (e : Edge). R e k.one.edge) t.2
+          (r t.0.spoke.one.edge k.one.edge (b t.0.spoke (inr m.0) ∙ sym (b k (inl refl))) (p.0 t.0.spoke.one.edge (map_in edge_at ks t.0.spoke m.0)))
 
-      one : Pairs (λ f g. IsUnder g f) (map edge_of (stands_from (beyond at k.one) ks)) → (t : Bool) → Pairs (λ f g. IsUnder g f) (map edge_of (cond t (standing_of k (beyond at k.one) ∷ []) [] ++ stands_from (beyond at k.one) ks))
+      one : Pairs (λ f g. R g f) (map edge_of (stands_from (beyond at k.one) ks)) → (t : Bool) → Pairs (λ f g. R g f) (map edge_of (cond t (standing_of k (beyond at k.one) ∷ []) [] ++ stands_from (beyond at k.one) ks))
       one r true = (under, r)
       one r false = r
 
-  turned : (es : List Edge) → Pairs (λ f g. IsUnder g f) es → Pairs IsUnder (reverse es)
-  turned [] p = tt
-  turned (e ∷ es) p = let P : List Edge → Type 0 = λ fs. Pairs IsUnder fs in
-      subst P (sym (reverse_cons e es)) (pairs_append IsUnder (reverse es) (e ∷ []) (turned es p.1) ((λ f i. absurd i), tt)
-      (λ f g i j. ⊎_elim (λ q. subst (λ (w : Edge). IsUnder f w) q (p.0 f (in_reverse es f i))) (λ k. absurd k) j))
+  -- what holds of each and a steeper one, from the lowest to the steepest
+  fresh_pairs : (R : Edge → Edge → Type 0) → ((e f : Edge) → e.p ≡ f.p → Steeper f e → R e f) → Pairs R (map edge_of (reverse (stands_from left ss)))
+  fresh_pairs R r = let P : List Edge → Type 0 = λ es. Pairs R es in
+      subst P (sym (map_reverse edge_of (stands_from left ss)))
+      (turned R (map edge_of (stands_from left ss))
+      (over_pairs R r left ss (λ k i. (spoke_begins k i).1) (pairs_map IsSteeper Steeper steeper_of (map edge_at ss) (pairs_from IsSteeper (map edge_at ss) a.order))))
 
   pub are_fresh : AreFresh (edges_of cs) v (map edge_of (reverse (stands_from left ss)))
   are_fresh = record {
     exact = λ e. ((λ c. sound e (contains_in (map edge_of (reverse (stands_from left ss))) e c)), (λ c. in_contains (map edge_of (reverse (stands_from left ss))) e (complete e c.0 c.1 c.2)));
-    order = let P : List Edge → Type 0 = λ es. AllPairs IsUnder es in
-        subst P (sym (map_reverse edge_of (stands_from left ss)))
-        (pairs_to IsUnder (reverse (map edge_of (stands_from left ss))) (turned (map edge_of (stands_from left ss))
-        (over_pairs left ss (λ k i. (spoke_begins k i).1) (pairs_map IsSteeper Steeper steeper_of (map edge_at ss) (pairs_from IsSteeper (map edge_at ss) a.order)))));
+    order = pairs_to IsUnder (map edge_of (reverse (stands_from left ss))) (fresh_pairs IsUnder under_turn);
   }
+
+  pub fresh_apart : Pairs Apart (map edge_of (reverse (stands_from left ss)))
+  fresh_apart = fresh_pairs Apart (λ e f b t q. not_steeper f e (sym q) t)
+
+  pub fresh_inside : All (λ t. Contains cs t.spoke.one) (reverse (stands_from left ss))
+  fresh_inside = all_of_in (λ t. Contains cs t.spoke.one) (reverse (stands_from left ss))
+      (λ t i. in_of_all (λ s. Contains cs s.one) ss inside t.spoke (stand_is left ss t (in_reverse (stands_from left ss) t i)).0)
 
   -- ---- their parities
   module _ (b : BeginsWith cs left (map edge_at ss)) where
@@ -166,11 +187,14 @@ module _ (cs : List Counted) (h : AreLayers cs) (v : Pt) (ss : List Spoke) (a : 
     fresh_under = all_of_in (λ t. t.under ≡ parities_at cs (right_side t.spoke.one.edge.p t.spoke.one.edge.q)) (reverse (stands_from left ss))
         (λ t i. under_label left ss (in_of_all (IsLabelled cs) (labels_from left ss) labels) t (in_reverse (stands_from left ss) t i))
 
-labels_edges : (at : Parities) (ks : List Spoke) → map (λ (l : LabelledEdge). l.edge) (labels_from at ks) ≡ map edge_at ks
+pub labels_edges : (at : Parities) (ks : List Spoke) → map (λ (l : LabelledEdge). l.edge) (labels_from at ks) ≡ map edge_at ks
 labels_edges at [] = refl
 labels_edges at (k ∷ ks) = ap (λ t. k.one.edge ∷ t) (labels_edges (beyond at k.one) ks)
 
 -- ---- the whole step
+pub level_there : (a b : ℤ) → a *ℤ b -ℤ b *ℤ a ≡ pos 0
+level_there a b = simp expand (omega (arith, linear))
+
 module _ (cs : List Counted) (h : AreLayers cs) (v : Pt) (x : IsVertexOf (edges_of cs) v) (s : List StandingEdge) (u : IsSweptUpTo cs v s) (low high : ℕ) (order : low ≤ high)
     (is_low : AllWithin (λ t. pos 0 <ℤ side t.spoke.one.edge.p t.spoke.one.edge.q v) s 0 low)
     (not_low : AllWithin (λ t. side t.spoke.one.edge.p t.spoke.one.edge.q v ≤ℤ pos 0) s low (length s))
@@ -201,6 +225,51 @@ module _ (cs : List Counted) (h : AreLayers cs) (v : Pt) (x : IsVertexOf (edges_
   pub high_all : All (λ e. side e.p e.q v <ℤ pos 0) (map edge_of (drop high s))
   high_all = All-map (λ (e : Edge). side e.p e.q v <ℤ pos 0) edge_of (drop high s) (all_of_in (λ t. IsAbove v (edge_of t)) (drop high s) (λ t i. within_drop (λ (t : StandingEdge). IsAbove v (edge_of t)) s high is_high t i))
 
+  -- ---- those that end at v
+  old_apart : Pairs Apart (map edge_of (take low s) ++ (map edge_of (slice_range s low high) ++ map edge_of (drop high s)))
+  old_apart = let P : List Edge → Type 0 = λ es. Pairs Apart es in subst P cut (pairs_from Apart (map edge_of s) (map_pairs Apart edge_of s u.once))
+
+  reached : (e : Edge) → In e (map edge_of (take low s) ++ (map edge_of (slice_range s low high) ++ map edge_of (drop high s))) → Reaches (edges_of cs) v e
+  reached e i = (standing_parts.exact e).0 (in_contains (map edge_of (take low s) ++ (map edge_of (slice_range s low high) ++ map edge_of (drop high s))) e i)
+
+  ended_ends : (e : Edge) → In e (map edge_of (slice_range s low high)) → Contains (edges_of cs) e × (e.p.x <ℤ e.q.x) × (e.q ≡ v)
+  ended_ends e i = let r = reached e (in_back (map edge_of (take low s)) (map edge_of (slice_range s low high) ++ map edge_of (drop high s)) e (in_front (map edge_of (slice_range s low high)) (map edge_of (drop high s)) e i)) in
+      (r.inside, r.slopes, ends_are_level cs h v x e r (in_of_all (λ (e : Edge). side e.p e.q v ≡ pos 0) (map edge_of (slice_range s low high)) mid_all e i))
+
+  ends_reach : (e : Edge) → Contains (edges_of cs) e → e.p.x <ℤ e.q.x → e.q ≡ v → Reaches (edges_of cs) v e
+  ends_reach e i l q = record {
+    inside = i;
+    slopes = l;
+    begun = subst (λ (w : Pt). IsBefore e.p w) q e.ordered;
+    lasts = λ b. before_itself v (subst (λ (w : Pt). IsBefore w v) q b);
+  }
+
+  ends_ended : (e : Edge) → Contains (edges_of cs) e → e.p.x <ℤ e.q.x → e.q ≡ v → In e (map edge_of (slice_range s low high))
+  ends_ended e i l q = ⊎_elim
+      (λ j. absurd (zero_is_not_positive (side e.p e.q v) level (in_of_all (λ (e : Edge). pos 0 <ℤ side e.p e.q v) (map edge_of (take low s)) low_all e j)))
+      (λ j. ⊎_elim (λ k. k)
+      (λ k. absurd (never_negative (side e.p e.q v) (zero_is_nonneg (side e.p e.q v) level) (in_of_all (λ (e : Edge). side e.p e.q v <ℤ pos 0) (map edge_of (drop high s)) high_all e k)))
+      (in_append (map edge_of (slice_range s low high)) (map edge_of (drop high s)) e j))
+      (in_append (map edge_of (take low s)) (map edge_of (slice_range s low high) ++ map edge_of (drop high s)) e
+      (contains_in (map edge_of (take low s) ++ (map edge_of (slice_range s low high) ++ map edge_of (drop high s))) e ((standing_parts.exact e).1 (ends_reach e i l q))))
+    where
+      level : side e.p e.q v ≡ pos 0
+      level = subst (λ (w : Pt). side e.p e.q w ≡ pos 0) q (level_there (e.q.x -ℤ e.p.x) (e.q.y -ℤ e.p.y))
+
+  pub ended : AreEnded cs v (slice_range s low high)
+  ended = record {
+    exact = λ e. (
+      (λ i. ended_ends e (contains_in (map edge_of (slice_range s low high)) e i)),
+      (λ i. in_contains (map edge_of (slice_range s low high)) e (ends_ended e i.0 i.1 i.2)),
+    );
+    inside = All-take (λ t. Contains cs t.spoke.one) (high - low) (drop low s) (All-drop (λ t. Contains cs t.spoke.one) low s u.inside);
+    under = All-take (λ t. t.under ≡ parities_at cs (right_side t.spoke.one.edge.p t.spoke.one.edge.q)) (high - low) (drop low s)
+        (All-drop (λ t. t.under ≡ parities_at cs (right_side t.spoke.one.edge.p t.spoke.one.edge.q)) low s u.under);
+  }
+
+  pub have_ended : All (λ t. IsUpTo t.spoke.one.edge.q v) (slice_range s low high)
+  have_ended = all_of_in (λ t. IsUpTo t.spoke.one.edge.q v) (slice_range s low high) (λ t i. inl (ended_ends (edge_of t) (map_in edge_of (slice_range s low high) t i)).2)
+
   under_of : (t : StandingEdge) → In t s → t.under ≡ parities_at cs (right_side (edge_of t).p (edge_of t).q)
   under_of = in_of_all (λ t. t.under ≡ parities_at cs (right_side (edge_of t).p (edge_of t).q)) s u.under
 
@@ -230,9 +299,30 @@ module _ (cs : List Counted) (h : AreLayers cs) (v : Pt) (x : IsVertexOf (edges_
     joined = map-append edge_of (take low s ++ reverse (stands_from left ss)) (drop high s) ∙ ap (λ t. t ++ map edge_of (drop high s)) (map-append edge_of (take low s) (reverse (stands_from left ss)))
         ∙ append_assoc (map edge_of (take low s)) (map edge_of (reverse (stands_from left ss))) (map edge_of (drop high s))
 
+    -- what came to v is none of what begins there
+    not_fresh : (e f : Edge) → Reaches (edges_of cs) v e → In f (map edge_of (reverse (stands_from left ss))) → Apart e f
+    not_fresh e f r i q = let k = ((are_fresh cs h v ss a inside left).exact f).0 (in_contains (map edge_of (reverse (stands_from left ss))) f i) in
+        before_itself v (subst (λ (w : Pt). IsBefore w v) (ap (λ (g : Edge). g.p) q ∙ k.2) r.begun)
+
+    each_once : Pairs Apart (map edge_of (take low s) ++ (map edge_of (reverse (stands_from left ss)) ++ map edge_of (drop high s)))
+    each_once = let lows = map edge_of (take low s) in
+        let mids = map edge_of (slice_range s low high) in
+        let highs = map edge_of (drop high s) in
+        let fresh = map edge_of (reverse (stands_from left ss)) in
+        pairs_append Apart lows (fresh ++ highs) (pairs_left Apart lows (mids ++ highs) old_apart)
+        (pairs_append Apart fresh highs (fresh_apart cs h v ss a inside left) (pairs_right Apart mids highs (pairs_right Apart lows (mids ++ highs) old_apart))
+        (λ f e i j q. not_fresh e f (reached e (in_back lows (mids ++ highs) e (in_back mids highs e j))) i (sym q)))
+        (λ e f i j. ⊎_elim (λ k. not_fresh e f (reached e (in_front lows (mids ++ highs) e i)) k)
+        (λ k. pairs_across Apart lows (mids ++ highs) old_apart e f i (in_back mids highs f k)) (in_append fresh highs f j))
+
     pub swept : IsSweptTo cs v (take low s ++ reverse (stands_from left ss) ++ drop high s)
     swept = record {
       edges = let P : List Edge → Type 0 = λ es. AreStanding (GoesOn (edges_of cs) v) es in subst P (sym joined) stays;
+      once = let P : List Edge → Type 0 = λ es. AllPairs Apart es in
+          pairs_of_map Apart edge_of (take low s ++ reverse (stands_from left ss) ++ drop high s) (subst P (sym joined) (pairs_to Apart _ each_once));
+      inside = All-append (λ t. Contains cs t.spoke.one) (take low s ++ reverse (stands_from left ss)) (drop high s)
+          (All-append (λ t. Contains cs t.spoke.one) (take low s) (reverse (stands_from left ss)) (All-take (λ t. Contains cs t.spoke.one) low s u.inside) (fresh_inside cs h v ss a inside left))
+          (All-drop (λ t. Contains cs t.spoke.one) high s u.inside);
       under = All-append (λ t. t.under ≡ parities_at cs (right_side t.spoke.one.edge.p t.spoke.one.edge.q)) (take low s ++ reverse (stands_from left ss)) (drop high s)
           (All-append (λ t. t.under ≡ parities_at cs (right_side t.spoke.one.edge.p t.spoke.one.edge.q)) (take low s) (reverse (stands_from left ss))
           (All-take (λ t. t.under ≡ parities_at cs (right_side t.spoke.one.edge.p t.spoke.one.edge.q)) low s u.under)

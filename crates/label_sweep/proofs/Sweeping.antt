@@ -16,7 +16,7 @@ use Rattle.geom.proofs.Orders.{before_itself, before_trans}
 use Rattle.label_sweep.specs.declared.standing.StandingEdge.{StandingEdge}
 use Rattle.label_sweep.specs.declared.standing.LabelledEdge.{LabelledEdge}
 use Rattle.label_sweep.specs.Column.{IsStripOf}
-use Rattle.label_sweep.specs.Labels.{AreLabels, AreLabelsFrom, AreLabelsUpTo, IsAt, IsLabelled, IsSweptTo, IsSweptUpTo}
+use Rattle.label_sweep.specs.Labels.{AreLabels, AreLabelsUpTo, IsAt, IsLabelled, IsSweptTo, IsSweptUpTo}
 use Rattle.label_sweep.specs.Status.{IsVertexOf}
 use Rattle.label_sweep.proofs.Ends.{after_upto}
 use Rattle.label_sweep.proofs.Members.{all_of_in, in_of_all, part_in, within_part}
@@ -58,7 +58,7 @@ module _ (cs before own : List Counted) (vs : List Pt) (a : IsStripOf cs before 
   -- ---- the edges that begin at a vertex
   module _ (k from next : ℕ) (standing : List StandingEdge) (s : IsSwept cs own vs k from standing) (v : Pt) (here : k < length vs) (is : v ≡ get_or vs k v)
       (order : from ≤ next) (within : next ≤ length own) (begun : AllWithin (λ c. IsUpTo c.edge.p v) own from next) (past : AllWithin (λ c. IsBefore v c.edge.p) own next (length own)) where
-    v_in : Contains vs v
+    pub v_in : Contains vs v
     v_in = (k, here, sym is)
 
     at_or_after : (c : Counted) (i : ℕ) → from ≤ i → i < length own → get_or own i c ≡ c → IsUpTo v c.edge.p
@@ -109,7 +109,7 @@ module _ (cs before own : List Counted) (vs : List Pt) (a : IsStripOf cs before 
 
     -- ---- to the next vertex
     module _ (fresh : List StandingEdge) (g : IsSweptTo cs v fresh) where
-      after_here : (j : ℕ) (u : Pt) → k + 1 ≤ j → j < length vs → IsBefore v (get_or vs j u)
+      pub after_here : (j : ℕ) (u : Pt) → k + 1 ≤ j → j < length vs → IsBefore v (get_or vs j u)
       after_here j u l m = let P : Pt → Type 0 = λ w. IsBefore w (get_or vs j u) in
           subst P (get_or_default vs k u v here ∙ sym is) (a.ascending k j u (omega arith) m)
 
@@ -120,7 +120,7 @@ module _ (cs before own : List Counted) (vs : List Pt) (a : IsStripOf cs before 
           through p (inl e) = subst (λ (q : Pt). IsBefore q w) (sym e) b
           through p (inr c) = before_trans p v w c b
 
-      no_other : (u : Pt) (l : k + 1 < length vs) (w : Pt) → IsVertexOf (edges_of cs) w → IsBefore v w → IsBefore w (get_or vs (k + 1) u) → ⊥
+      pub no_other : (u : Pt) (l : k + 1 < length vs) (w : Pt) → IsVertexOf (edges_of cs) w → IsBefore v w → IsBefore w (get_or vs (k + 1) u) → ⊥
       no_other u l w x b c = before_itself w (after_upto w (get_or vs (k + 1) u) w c (number_upto (k + 1) u l w w_in (λ j m n e. clash j m n e)))
         where
           w_in : Contains vs w
@@ -140,7 +140,7 @@ module _ (cs before own : List Counted) (vs : List Pt) (a : IsStripOf cs before 
           | inl q ↦ subst (λ (p : Pt). IsBefore p (get_or own i d).edge.p) (is ∙ get_or_default vs k v u here ∙ ap (λ z. get_or vs z u) (sym q)) (past i d l m)
           | inr q ↦ s.past i d (omega arith) m j u (omega arith)
         ];
-        swept = λ u l. record { edges = standing_reaches (edges_of cs) v (get_or vs (k + 1) u) (after_here (k + 1) u (omega arith) l) (λ w x b c. no_other u l w x b c) (map (λ s. s.spoke.one.edge) fresh) g.edges; under = g.under };
+        swept = λ u l. record { edges = standing_reaches (edges_of cs) v (get_or vs (k + 1) u) (after_here (k + 1) u (omega arith) l) (λ w x b c. no_other u l w x b c) (map (λ s. s.spoke.one.edge) fresh) g.edges; once = g.once; inside = g.inside; under = g.under };
       }
 
   -- ---- before the first vertex, and behind the last one
@@ -185,14 +185,3 @@ module _ (cs before own : List Counted) (vs : List Pt) (a : IsStripOf cs before 
       let n = All-contains (Contains cs) before c.0 b.crossing.inside (in_contains before c.0 c.1) in
       subst (λ (e : Edge). AreInLimit e.p e.q) c.2 (All-contains (λ (e : Edge). AreInLimit e.p e.q) (edges_of cs) c.0.edge a.layers.in_limit
       (in_contains (edges_of cs) c.0.edge (map_in (λ (c : Counted). c.edge) cs c.0 (contains_in cs c.0 n)))))
-
-  -- ---- its labels are those of the edges that begin at its vertices
-  pub labels_from_vertices : (labelled : List LabelledEdge) → AreLabels cs own labelled → AreLabelsFrom cs vs labelled
-  labels_from_vertices labelled l = record {
-    each = l.each;
-    all = λ f i j. let c = in_map (λ (c : Counted). c.edge) cs f (contains_in (edges_of cs) f i) in
-        let P : Edge → Type 0 = λ g. Contains (map (λ (l : LabelledEdge). l.edge) labelled) g in
-        let Q : Edge → Type 0 = λ g. Contains vs g.p in
-        let k = (a.own_is c.0).1 (in_contains cs c.0 c.1, subst Q (sym c.2) j) in
-        subst P c.2 ((l.exact c.0.edge).1 (in_contains (edges_of own) c.0.edge (map_in (λ (c : Counted). c.edge) own c.0 (contains_in own c.0 k))));
-  }

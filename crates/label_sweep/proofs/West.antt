@@ -19,7 +19,7 @@ use Rattle.points_law.proofs.Meet.{off, slope, gap}
 use Rattle.points_law.proofs.Sums.{par_cong, par_xor, par_none}
 use Rattle.points_law.proofs.Even.{both_ways, is_same, is_refl, same, same_is, same_refl, not_true, once}
 use Rattle.points_law.proofs.Sign.{twice, not_zero, stays_up}
-use Rattle.points_law.proofs.Column.{cv, ab, cv_low, cv_high, cv_run, differ, no_root, among, not_above_itself}
+use Rattle.points_law.proofs.Column.{cv, ab, cv_low, cv_high, cv_run, differ, no_root, among, not_above_itself, one_above}
 use Rattle.points_law.proofs.Vertex.{over_pt, higher, west, slopes, EndsAt, Vertex, vertex_end, on_sloping, back_low, back_high}
 use Rattle.points_law.proofs.Turn.{sloping_right, turned_p, at_p, crossing, before, itself_flat}
 use Rattle.points_law.proofs.Heights.{is_positive}
@@ -45,6 +45,17 @@ ab_of f g v m i j u = is_positive (twice (slope g f) (gap g f) (v.x -ℤ pos 1))
     (subst (λ (t : ℤ). pos 0 ≤ℤ t) (rise_is g f (v.x -ℤ pos 1 +ℤ pos 1))
     (subst (λ (t : ℤ). pos 0 ≤ℤ rise_over g f t) (sym (back v.x)) (u v.x (below_successor f.p.x v.x (cv_low f _ i)) (past_predecessor v.x f.q.x (cv_high f _ i)) (below_successor g.p.x v.x (cv_low g _ j)) (past_predecessor v.x g.q.x (cv_high g _ j)))))
     (not_zero (slope g f) (gap g f) (v.x -ℤ pos 1) (no_root f g (v.x -ℤ pos 1) m i j)))
+
+-- ---- of two edges in a column one is above the other
+after_first : (s t : Bool) → s ⊕ t ≡ true → s ≡ true → t ≡ false
+after_first s t h i = grind arith
+
+pub not_both : (b : Bool) → b ≡ true → b ≡ false → ⊥
+not_both b h i = grind arith
+
+pub not_above : (es : List Edge) → Noded es → (k : ℤ) (e f : Edge) → In e es → In f es → cv e k ≡ true → cv f k ≡ true → ab e f k ≡ true → ab f e k ≡ false
+not_above es n k e f i j c d u = after_first (ab e f k) (ab f e k)
+    (one_above f e k (n f e j i (λ q. not_both (ab e e k) (let P : Edge → Type 0 = λ g. ab e g k ≡ true in subst P q u) (not_above_itself e k))) d c) u
 
 lifts : (re rf se sf oe of x y : ℤ) → re *ℤ ((sf *ℤ x +ℤ of) -ℤ rf *ℤ y) ≡ ((re *ℤ sf -ℤ rf *ℤ se) *ℤ x +ℤ (re *ℤ of -ℤ rf *ℤ oe) *ℤ pos 1) +ℤ rf *ℤ ((se *ℤ x +ℤ oe) -ℤ re *ℤ y)
 lifts re rf se sf oe of x y = simp expand (omega (arith, linear))
@@ -95,7 +106,7 @@ west_none es a v n = par_cong (λ g. a g ∧∧ (cv g (v.x -ℤ pos 1) ∧∧ hi
     (λ g i. none_term (a g) (cv g (v.x -ℤ pos 1)) (higher g v) (λ c u. n g i c (lt_z_told (pos 0) (over_pt g v) u))) ∙ par_none es
 
 -- ---- turning from straight up, clockwise, over the edges that begin at v
-stay : (x y : Bool) → y ≡ false → x ⊕ y ≡ x
+pub stay : (x y : Bool) → y ≡ false → x ⊕ y ≡ x
 stay x y h = grind arith
 
 -- nothing that begins at g.p is steeper than g

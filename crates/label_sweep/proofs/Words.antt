@@ -89,7 +89,7 @@ standing_to es v s h = record {
   order = pairs_to IsUnder s h.order;
 }
 
-vertex_of : (es : List Edge) (v : Pt) → IsVertexOf es v → Vertex es v
+pub vertex_of : (es : List Edge) (v : Pt) → IsVertexOf es v → Vertex es v
 vertex_of es v h = record { edge = h.edge; inside = contains_in es h.edge h.inside; ends = h.ends }
 
 all_of : (P : Edge → Type 0) (xs : List Edge) → All P xs → (x : Edge) → In x xs → P x
@@ -135,7 +135,7 @@ turn_is rf sf rg sg = simp expand (omega (arith, linear))
 pub steeper_of : (f g : Edge) → IsSteeper f g → Steeper f g
 steeper_of f g h = subst (λ (t : ℤ). pos 0 <ℤ t) (turn_is (run f) (rise f) (run g) (rise g)) h
 
-spokes_of : (es : List Edge) (v : Pt) (s : List Edge) → AreSpokes es v s → Spokes es v s
+pub spokes_of : (es : List Edge) (v : Pt) (s : List Edge) → AreSpokes es v s → Spokes es v s
 spokes_of es v s h = record {
   sound = λ e i. let k = (h.exact e).0 (in_contains s e i) in (contains_in es e k.0, k.1);
   complete = λ e i b. contains_in s e ((h.exact e).1 (in_contains es e i, b));

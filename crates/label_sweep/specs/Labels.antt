@@ -1,5 +1,5 @@
 -- The labels that a sweep gives (own).
-use Rattle.std.specs.Prelude.{false, ◌≡◌, ◌&&◌, ◌++◌, int_lt, ℕ, Bool, List, [], ◌∷◌, Option, None, Some, All, Contains, ◌↔◌, if◌then◌else◌, map, not}
+use Rattle.std.specs.Prelude.{false, ◌≡◌, ◌&&◌, ◌++◌, int_lt, ℕ, Bool, List, [], ◌∷◌, Option, None, Some, All, AllPairs, Contains, ◌↔◌, ◌<ℤ◌, if◌then◌else◌, map, not}
 use Rattle.std.specs.List.{AllWithin}
 use Rattle.geom.specs.declared.edge.Edge.{Edge}
 use Rattle.geom.specs.declared.edge.Counted.{Counted}
@@ -17,7 +17,7 @@ use Rattle.label_sweep.specs.declared.parities.Parities.{Parities}
 use Rattle.label_sweep.specs.declared.standing.StandingEdge.{StandingEdge}
 use Rattle.label_sweep.specs.declared.standing.LabelledEdge.{LabelledEdge}
 use Rattle.label_sweep.specs.declared.status.Status.{Status}
-use Rattle.label_sweep.specs.Chunks.{AreChunks, all_standing}
+use Rattle.label_sweep.specs.Slots.{IsKept, all_standing}
 use Rattle.label_sweep.specs.Status.{AreStanding, AreSpokes, GoesOn, IsRangeAt, IsVertexOf, Reaches}
 use Rattle.points_law.specs.Law.{AreLayers}
 use Rattle.label_sweep.specs.declared.standing.Spoke.{Spoke}
@@ -50,14 +50,11 @@ pub record AreLabels (counted own : List Counted) (labelled : List LabelledEdge)
   pub each : All (IsLabelled counted) labelled
   pub exact : (e : Edge) → Contains (map (λ l. l.edge) labelled) e ↔ Contains (edges_of own) e
 
--- edges of the list with the parities at their side points, those that begin at one of these points among them
-pub record AreLabelsFrom (counted : List Counted) (points : List Pt) (labelled : List LabelledEdge) : Type 0 where
-  pub each : All (IsLabelled counted) labelled
-  pub all : (e : Edge) → Contains (edges_of counted) e → Contains points e.p → Contains (map (λ l. l.edge) labelled) e
-
--- before the vertex v: what stands reaches v, in its order, each with the parities below it
+-- before the vertex v: what stands reaches v, in its order, each edge once, with the parities below it
 pub record IsSweptUpTo (counted : List Counted) (v : Pt) (standing : List StandingEdge) : Type 0 where
   pub edges : AreStanding (Reaches (edges_of counted) v) (map (λ s. s.spoke.one.edge) standing)
+  pub once : AllPairs (λ s t. ¬ (s.spoke.one.edge ≡ t.spoke.one.edge)) standing
+  pub inside : All (λ s. Contains counted s.spoke.one) standing
   pub under : All (λ s. s.under ≡ parities_at counted (right_side s.spoke.one.edge.p s.spoke.one.edge.q)) standing
 
 -- at the vertex v of layers: some of the edges `own` are those that begin there, and what stands reaches it
@@ -67,14 +64,16 @@ pub record IsAt (counted own : List Counted) (v : Pt) (from next : ℕ) (standin
   pub begin : IsRangeAt counted own v from next
   pub swept : IsSweptUpTo counted v standing
 
--- it is there, and what stands is kept in chunks
+-- it is there, and what stands is kept in slots
 pub record IsSweepAt {A : Type 0} (counted own : List Counted) (v : Pt) (from next : ℕ) (status : Status A) : Type 0 where
   pub at : IsAt counted own v from next (all_standing status)
-  pub chunked : AreChunks status.chunks.items
+  pub kept : IsKept status
 
--- after the vertex v: what stands goes on from v, in its order, each with the parities below it
+-- after the vertex v: what stands goes on from v, in its order, each edge once, with the parities below it
 pub record IsSweptTo (counted : List Counted) (v : Pt) (standing : List StandingEdge) : Type 0 where
   pub edges : AreStanding (GoesOn (edges_of counted) v) (map (λ s. s.spoke.one.edge) standing)
+  pub once : AllPairs (λ s t. ¬ (s.spoke.one.edge ≡ t.spoke.one.edge)) standing
+  pub inside : All (λ s. Contains counted s.spoke.one) standing
   pub under : All (λ s. s.under ≡ parities_at counted (right_side s.spoke.one.edge.p s.spoke.one.edge.q)) standing
 
 -- the labels of the edges that begin at one vertex, one after another, where these are the parities on the left of the first
@@ -105,12 +104,6 @@ abbrev pub directed_of : Op → List LabelledEdge → List DirectedEdge
 directed_of op [] = []
 directed_of op (l ∷ ls) = ways l.edge (directions_of op l) ++ directed_of op ls
 
--- along such labelled edges, the directed edges of the result
-pub record AreDirectedFrom (op : Op) (counted : List Counted) (points : List Pt) (directed : List DirectedEdge) : Type 0 where
-  pub labelled : List LabelledEdge
-  pub labels : AreLabelsFrom counted points labelled
-  pub along : (d : DirectedEdge) → Contains directed d ↔ Contains (directed_of op labelled) d
-
 -- the lowest of these
 abbrev pub lowest_of : List StandingEdge → Option StandingEdge
 lowest_of [] = None
@@ -133,3 +126,13 @@ standing_of s under = record { spoke = s; under = under }
 abbrev pub stands_from : Parities → List Spoke → List StandingEdge
 stands_from at [] = []
 stands_from at (s ∷ ss) = (if int_lt s.one.edge.p.x s.one.edge.q.x then standing_of s (beyond at s.one) ∷ [] else []) ++ stands_from (beyond at s.one) ss
+
+-- the labels of an edge that stands
+abbrev pub labelled_of : StandingEdge → LabelledEdge
+labelled_of s = record { edge = s.spoke.one.edge; left = beyond s.under s.spoke.one; right = s.under }
+
+-- the edges that end at v and are not upright, with the parities below them
+pub record AreEnded (counted : List Counted) (v : Pt) (ended : List StandingEdge) : Type 0 where
+  pub exact : (e : Edge) → Contains (map (λ s. s.spoke.one.edge) ended) e ↔ (Contains (edges_of counted) e × (e.p.x <ℤ e.q.x) × (e.q ≡ v))
+  pub inside : All (λ s. Contains counted s.spoke.one) ended
+  pub under : All (λ s. s.under ≡ parities_at counted (right_side s.spoke.one.edge.p s.spoke.one.edge.q)) ended

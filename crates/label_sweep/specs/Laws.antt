@@ -61,3 +61,16 @@ StandingReaches = (edges : List Edge) (v w : Pt) → IsBefore v w → ((u : Pt) 
 abbrev pub RightIsBeyond : Type 0
 RightIsBeyond = (counted : List Counted) → AreLayers counted → (c : Counted) → Contains counted c
     → parities_at counted (right_side c.edge.p c.edge.q) ≡ beyond (parities_at counted (left_side c.edge.p c.edge.q)) c
+
+-- the highest edge that ends at v has on its left the parities on the left of the first edge that begins there
+abbrev pub LeftOfEnd : Type 0
+LeftOfEnd = (counted : List Counted) → AreLayers counted → (v : Pt) (e : Edge) → Contains (edges_of counted) e → e.p.x <ℤ e.q.x → e.q ≡ v
+    → ((f : Edge) → Contains (edges_of counted) f → f.p.x <ℤ f.q.x → f.q ≡ v → IsUnder f e)
+    → (k : Edge) (rest : List Edge) → AreSpokes (edges_of counted) v (k ∷ rest)
+    → parities_at counted (left_side k.p k.q) ≡ parities_at counted (left_side e.p e.q)
+
+-- an upright edge begins at the vertex before its end
+abbrev pub UprightIsNext : Type 0
+UprightIsNext = (counted : List Counted) → AreLayers counted → (v w : Pt) → IsVertexOf (edges_of counted) v → IsBefore v w
+    → ((u : Pt) → IsVertexOf (edges_of counted) u → IsBefore v u → IsBefore u w → ⊥)
+    → (e : Edge) → Contains (edges_of counted) e → e.p.x ≡ e.q.x → e.q ≡ w → e.p ≡ v

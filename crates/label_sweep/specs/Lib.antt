@@ -2,6 +2,8 @@ pub mod Status
 pub mod Column
 pub mod Heights
 pub mod Chunks
+pub mod Slots
+pub mod Leaving
 pub mod Laws
 pub mod Labels
 pub mod Changing

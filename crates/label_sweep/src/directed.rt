@@ -7,10 +7,9 @@ ghost use Rattle.points_law.specs.Law.{AreLayers};
 ghost use Rattle.label_sweep.specs.Labels.{directed_of, directions_of};
 
 use crate::changing::{changing_edges, most_change};
-use crate::shared_vertices::vertices_in_parts;
+use crate::second_ends::{second_ends, second_ends_in_parts, vertices_by_ends};
 use crate::standing::LabelledEdge;
 use crate::strips::{edges_in_parts, strip_edges};
-use crate::vertices::vertices_of;
 use geom::{Counted, Directed, DirectedEdge, NoMemory, Op, add_directions};
 use hands::Part;
 use std::alloc::Allocator;
@@ -19,7 +18,7 @@ use std::thread::Threads;
 impl LabelledEdge {
     /// Whether the edge bounds the result as directed from its first end to its second, and whether as directed back: the
     /// operation holds on its left and not on its right.
-    fn directions(&self, op: Op) -> (bool, bool)
+    pub fn directions(&self, op: Op) -> (bool, bool)
         ensures { result ≡ directions_of op self.now }
     {
         let left = op.holds(self.left.a, self.left.b);
@@ -43,13 +42,21 @@ pub fn directed_edges<A: Allocator + Copy>(
     Ok(edges)
 }
 
-/// Directed edges by their starts, then by their ends, each once: a look at each where they ascend.
+/// Puts directed edges in order, by their starts, then by their ends, each once: a look at each where they ascend.
+pub fn put_in_order<A: Allocator>(edges: &mut Vec<DirectedEdge, A>)
+    ensures ascending { AllPairs IsDirectedBefore edges.new.items }
+    ensures same { (d : DirectedEdge) → Contains edges.new.items d ↔ Contains edges.old.items d }
+{
+    edges.sort_unstable();
+    edges.dedup();
+}
+
+/// The same, of a list that is handed on.
 pub fn in_order<A: Allocator>(mut edges: Vec<DirectedEdge, A>) -> Vec<DirectedEdge, A>
     ensures ascending { AllPairs IsDirectedBefore result.items }
     ensures same { (d : DirectedEdge) → Contains result.items d ↔ Contains edges.items d }
 {
-    edges.sort_unstable();
-    edges.dedup();
+    put_in_order(&mut edges);
     edges
 }
 
@@ -71,10 +78,12 @@ fn swept<A: Allocator + Copy>(
     requires { AreLayers counted.now }
     ensures { IfOk result (λ directed. AreResultEdges op counted.now directed) }
 {
-    let vertices = vertices_of(alloc, counted)?;
+    let ends = second_ends(alloc, counted)?;
+    let vertices = vertices_by_ends(alloc, counted, &ends)?;
+    drop(ends);
     let all = Part {
         from: 0,
-        past: vertices.len(),
+        past: vertices.points.len(),
     };
     let edges = strip_edges(alloc, counted, &vertices, all, op)?;
     Ok(Directed::new(edges))
@@ -94,7 +103,9 @@ fn swept_in_parts<R: Threads + Sync, A: Allocator + Copy + Send + Sync>(
     if parts < 2 {
         return swept(alloc, counted, op);
     }
-    let vertices = vertices_in_parts(rt, alloc, parts, counted)?;
+    let ends = second_ends_in_parts(rt, alloc, parts, counted)?;
+    let vertices = vertices_by_ends(alloc, counted, &ends)?;
+    drop(ends);
     let edges = edges_in_parts(rt, alloc, parts, counted, &vertices, op)?;
     Ok(Directed::new(edges))
 }

@@ -1,7 +1,7 @@
 //! The laws of the sweep: each is the contract of a function with an empty body.
 
 ghost use Rattle.label_sweep.specs.Changing.{ChangingAreLayers, ChangingBound};
-ghost use Rattle.label_sweep.specs.Laws.{FirstLeft, LeftOfFirst, EndsAreLevel, LeftOfNext, RightIsBeyond, SearchIsMonotone, StandingReaches, StandingStays};
+ghost use Rattle.label_sweep.specs.Laws.{FirstLeft, LeftOfEnd, LeftOfFirst, EndsAreLevel, LeftOfNext, RightIsBeyond, SearchIsMonotone, StandingReaches, StandingStays, UprightIsNext};
 ghost use Rattle.label_sweep.specs.Labels.{TurnIsLabelled};
 ghost use Rattle.label_sweep.specs.StripLabels.{StripsMakeResult};
 
@@ -38,6 +38,16 @@ pub fn ends_are_level()
 /// From one vertex to the next nothing changes.
 pub fn standing_reaches()
     ensures { StandingReaches }
+{}
+
+/// The highest edge that ends at a vertex and the first that begins there have the same parities on their left.
+pub fn left_of_end()
+    ensures { LeftOfEnd }
+{}
+
+/// An upright edge begins at the vertex before its end.
+pub fn upright_is_next()
+    ensures { UprightIsNext }
 {}
 
 /// Across an edge the parities change in the layers in which it is odd.

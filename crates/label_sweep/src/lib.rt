@@ -1,11 +1,11 @@
 //! Labels: noded edges of even degrees in, the directed edges out that bound the result of an operation.
 //!
-//! 1. Edges that change no parity are left out (`changing`), and vertices are listed (`vertices`).
+//! 1. Edges that change no parity are left out (`changing`), and vertices are listed (`second_ends`).
 //! 2. Each strip of vertices is swept from the edges that cross the column before it (`column`, `pass`): what stands over a vertex is kept in
 //!    order, with the parities below it (`status`, `turn`).
-//! 3. What bounds the result is directed and brought in order (`directed`).
+//! 3. What bounds the result and leaves a vertex is directed, vertex by vertex (`leaving`).
 //!
-//! A map may be labelled strip by strip, from the edges of each strip and those that come into it (`strip_labels`).
+//! A map may be labelled strip by strip, from the edges of each strip and those that come into it (`strip_labels`, `directed`).
 //! For callers with more than two layers over the same edges, the same sweep tells which edge is beside each (`swept`).
 //!
 //! The promise: exactly the edges that bound the result, each in its direction. The definitions are in `specs`; the laws (`laws`) carry the
@@ -16,11 +16,13 @@ mod changing;
 mod column;
 mod directed;
 mod laws;
+mod leaving;
 mod one_strip;
 mod overlap;
 mod parities;
 mod pass;
 mod place;
+mod second_ends;
 mod shared_vertices;
 mod standing;
 mod status;

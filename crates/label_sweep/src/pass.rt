@@ -9,9 +9,9 @@ ghost use Rattle.geom.specs.Order.{IsBefore};
 ghost use Rattle.geom.specs.Rounded.{edges_of};
 ghost use Rattle.geom.specs.declared.edge.Counted.{Counted};
 ghost use Rattle.geom.specs.declared.point.Pt.{Pt};
-ghost use Rattle.label_sweep.specs.Chunks.{AreChunks, all_standing};
+ghost use Rattle.label_sweep.specs.Slots.{HaveEnded, IsKept, all_standing};
 ghost use Rattle.label_sweep.specs.Column.{BeginsStrip, IsStripOf};
-ghost use Rattle.label_sweep.specs.Labels.{AreLabels, AreLabelsUpTo, IsAt, IsLabelled, IsSweepAt, IsSweptTo, IsSweptUpTo, edge_beside, labels_from, parities_beside, stands_from};
+ghost use Rattle.label_sweep.specs.Labels.{AreEnded, AreLabels, AreLabelsUpTo, IsAt, IsLabelled, IsSweepAt, IsSweptTo, IsSweptUpTo, edge_beside, labels_from, parities_beside, stands_from};
 ghost use Rattle.label_sweep.specs.Status.{AreSpokes};
 ghost use Rattle.label_sweep.specs.Swept.{AreSweptFrom, besides_from};
 
@@ -25,32 +25,37 @@ use crate::vertices::last_of;
 use geom::{Counted, NoMemory, Pt};
 use std::alloc::Allocator;
 
-/// The sweep at a vertex.
+/// The sweep at a vertex: the edges that stand, and of the last vertex those that begin there, the steepest first, those of them that stand
+/// from there on, and those that ended there and are not upright.
 #[derive(Drop)]
-struct SweepLine<A: Allocator> {
-    standing: Status<A>,
-    spokes: Vec<Spoke, A>,
-    fresh: Vec<StandingEdge, A>,
+pub struct SweepLine<A: Allocator> {
+    pub standing: Status<A>,
+    pub spokes: Vec<Spoke, A>,
+    pub fresh: Vec<StandingEdge, A>,
+    pub ended: Vec<StandingEdge, A>,
 }
 
 impl<A: Allocator + Copy> SweepLine<A> {
     /// Before the first vertex.
     fn new(alloc: A) -> Result<SweepLine<A>, NoMemory>
         ensures standing { IfOk result (λ line. all_standing line.standing ≡ []) }
-        ensures chunked { IfOk result (λ line. AreChunks line.standing.chunks.items) }
+        ensures kept { IfOk result (λ line. IsKept line.standing) }
+        ensures free { IfOk result (λ line. line.standing.free.items ≡ []) }
     {
         Ok(SweepLine {
             standing: Status::new(alloc)?,
             spokes: Vec::new(alloc),
             fresh: Vec::new(alloc),
+            ended: Vec::new(alloc),
         })
     }
 
     /// Before a vertex that begins a column: with the edges that cross the column on its left, of edges that have them all.
-    fn before(alloc: A, counted: &[Counted], v: Pt) -> Result<SweepLine<A>, NoMemory>
+    pub fn before(alloc: A, counted: &[Counted], v: Pt) -> Result<SweepLine<A>, NoMemory>
         requires { All (λ e. AreInLimit e.p e.q) (edges_of counted.now) }
         ensures swept { (all : List Counted) → BeginsStrip all counted.now v → IfOk result (λ line. IsSweptUpTo all v (all_standing line.standing)) }
-        ensures chunked { IfOk result (λ line. AreChunks line.standing.chunks.items) }
+        ensures kept { IfOk result (λ line. IsKept line.standing) }
+        ensures free { (w : Pt) → IfOk result (λ line. HaveEnded w line.standing) }
     {
         let mut line = SweepLine::new(alloc)?;
         let spokes = crossing(alloc, counted, v.x)?;
@@ -61,9 +66,11 @@ impl<A: Allocator + Copy> SweepLine<A> {
     /// Lets edges stand where nothing does, from the highest to the lowest, with no parity above them.
     fn fill(&mut self, spokes: &[Spoke]) -> Result<(), NoMemory>
         requires empty { all_standing self.old.standing ≡ [] }
-        requires chunked { AreChunks self.old.standing.chunks.items }
+        requires kept { IsKept self.old.standing }
+        requires free { self.old.standing.free.items ≡ [] }
         ensures standing { OnOk result (all_standing self.new.standing ≡ reverse (stands_from (record { a = false; b = false }) spokes.now)) }
-        ensures chunked { OnOk result (AreChunks self.new.standing.chunks.items) }
+        ensures kept { OnOk result (IsKept self.new.standing) }
+        ensures free { (v : Pt) → OnOk result (HaveEnded v self.new.standing) }
     {
         let none = Parities { a: false, b: false };
         stand(spokes, none, &mut self.fresh)?;
@@ -71,15 +78,16 @@ impl<A: Allocator + Copy> SweepLine<A> {
             chunk: 0,
             within: 0,
         };
-        self.standing.replace(start, start, &self.fresh)?;
+        self.standing
+            .replace(start, start, &self.fresh, &mut self.ended)?;
         Ok(())
     }
 
     /// At a vertex: takes the edges that begin there, which are those from one number to another, by turning, and lets them stand in the
-    /// place of those that end there. Answers the lowest edge above the vertex, if there is one. Inlined, since labels read no more of that
+    /// place of those that end there, which are listed. Answers the lowest edge above the vertex, if there is one. Inlined, since labels read no more of that
     /// edge than the parities below it.
     #[inline(always)]
-    fn turn(
+    pub fn turn(
         &mut self,
         own: &[Counted],
         from: usize,
@@ -92,8 +100,10 @@ impl<A: Allocator + Copy> SweepLine<A> {
         requires within { next ≤ length own.now }
         requires some { 0 < length self.old.standing.chunks.items }
         ensures some { OnOk result (0 < length self.new.standing.chunks.items) }
-        ensures chunked { (all : List Counted) → IsSweepAt all own.now v from next self.old.standing → OnOk result (AreChunks self.new.standing.chunks.items) }
+        ensures kept { (all : List Counted) → IsSweepAt all own.now v from next self.old.standing → OnOk result (IsKept self.new.standing) }
         ensures swept { (all : List Counted) → IsSweepAt all own.now v from next self.old.standing → OnOk result (IsSweptTo all v (all_standing self.new.standing)) }
+        ensures ended { (all : List Counted) → IsSweepAt all own.now v from next self.old.standing → OnOk result (AreEnded all v self.new.ended.items) }
+        ensures free { (all : List Counted) → IsSweepAt all own.now v from next self.old.standing → HaveEnded v self.old.standing → OnOk result (HaveEnded v self.new.standing) }
         ensures spokes { (all : List Counted) → IsSweepAt all own.now v from next self.old.standing
             → OnOk result (AreSpokes (edges_of all) v (map (λ s. s.one.edge) self.new.spokes.items)) }
         ensures inside { OnOk result (All (λ s. Contains (slice_range own.now from next) s.one) self.new.spokes.items) }
@@ -108,7 +118,8 @@ impl<A: Allocator + Copy> SweepLine<A> {
         let left = parities_beside(lowest);
         by_turn(&mut self.spokes, own, from, next, v)?;
         stand(&self.spokes, left, &mut self.fresh)?;
-        self.standing.replace(low, high, &self.fresh)?;
+        self.standing
+            .replace(low, high, &self.fresh, &mut self.ended)?;
         Ok(lowest)
     }
 
@@ -127,7 +138,7 @@ impl<A: Allocator + Copy> SweepLine<A> {
         requires within { next ≤ length own.now }
         requires some { 0 < length self.old.standing.chunks.items }
         ensures some { OnOk result (0 < length self.new.standing.chunks.items) }
-        ensures chunked { (all : List Counted) → IsSweepAt all own.now v from next self.old.standing → OnOk result (AreChunks self.new.standing.chunks.items) }
+        ensures kept { (all : List Counted) → IsSweepAt all own.now v from next self.old.standing → OnOk result (IsKept self.new.standing) }
         ensures swept { (all : List Counted) → IsSweepAt all own.now v from next self.old.standing → OnOk result (IsSweptTo all v (all_standing self.new.standing)) }
         ensures labelled { (all : List Counted) → IsSweepAt all own.now v from next self.old.standing
             → OnOk result (AreLabelsUpTo all own.now from labelled.old.items → AreLabelsUpTo all own.now next labelled.new.items) }
@@ -147,8 +158,8 @@ impl<A: Allocator + Copy> SweepLine<A> {
         swept: &mut Vec<SweptEdge, A>,
     ) -> Result<(), NoMemory>
         requires here { ∥ ((all : List Counted) × IsAt all own.now v from next (all_standing self.old.standing)) ∥₁ }
-        requires chunked { AreChunks self.old.standing.chunks.items }
-        ensures chunked { OnOk result (AreChunks self.new.standing.chunks.items) }
+        requires kept { IsKept self.old.standing }
+        ensures kept { OnOk result (IsKept self.new.standing) }
         ensures swept { (all : List Counted) → IsAt all own.now v from next (all_standing self.old.standing) → OnOk result (IsSweptTo all v (all_standing self.new.standing)) }
         ensures besides { (all : List Counted) → IsAt all own.now v from next (all_standing self.old.standing)
             → OnOk result ((points : List Pt) → AllPairs IsBefore (points ++ v ∷ []) → AreSweptFrom (edges_of all) points swept.old.items

@@ -1,12 +1,10 @@
 //! The sweep in strips, each by a hand of its own:
 //! 1. The vertices are cut where a column ends, into a strip for each hand (`strips_of`).
-//! 2. A strip is swept from the edges that cross the column before it (`sweep`), for the directed edges along those that begin in it,
-//!    which are sorted (`sorted_once`).
-//! 3. The strips' lists become one, sorted where they overlap (`merged`), and looked at once more (`in_order`).
+//! 2. A strip is swept from the edges that cross the column before it (`sweep_leaving`), for the directed edges that leave its vertices.
+//! 3. The strips' lists stand behind one another.
 
 ghost use Rattle.std.specs.Prelude.{◌≡◌, ◌<◌, ◌≤◌, ◌<ℤ◌, All, AllPairs, IfOk, List, get_or, int_le, length, slice_range, take};
 ghost use Rattle.std.specs.List.{AllWithin};
-ghost use Rattle.geom.specs.Directed.{IsDirectedBefore};
 ghost use Rattle.geom.specs.EdgeOrder.{IsEdgeBefore};
 ghost use Rattle.geom.specs.Order.{IsBefore};
 ghost use Rattle.geom.specs.Rounded.{edges_of};
@@ -15,15 +13,14 @@ ghost use Rattle.geom.specs.declared.point.Pt.{Pt};
 ghost use Rattle.hands.specs.Consecutive.{ArePartsOf};
 ghost use Rattle.points_law.specs.Law.{AreLayers};
 ghost use Rattle.label_sweep.specs.Column.{AreLeftOf, IsStrip, IsStripOf};
-ghost use Rattle.label_sweep.specs.Labels.{AreDirectedFrom};
+ghost use Rattle.label_sweep.specs.Leaving.{AreLeaving, TellOnce};
 ghost use Rattle.label_sweep.specs.Status.{AreVertices};
 
-use crate::directed::{directed_edges, in_order, sorted_once};
-use crate::overlap::merged;
-use crate::pass::sweep;
+use crate::leaving::sweep_leaving;
+use crate::second_ends::Vertices;
 use crate::vertices::first_of;
 use geom::{Counted, DirectedEdge, NoMemory, Op, Pt};
-use hands::{Part, map_parts};
+use hands::{Part, joined, map_parts};
 use std::alloc::Allocator;
 use std::thread::Threads;
 
@@ -94,29 +91,29 @@ pub fn edges_in(counted: &[Counted], vertices: &[Pt], strip: Part) -> Part
     Part { from, past }
 }
 
-/// The directed edges of the result of an operation along the edges that begin in a strip.
+/// The directed edges of the result of an operation that leave the vertices of a strip.
 pub fn strip_edges<A: Allocator + Copy>(
     alloc: A,
     counted: &[Counted],
-    vertices: &[Pt],
+    vertices: &Vertices<A>,
     strip: Part,
     op: Op,
 ) -> Result<Vec<DirectedEdge, A>, NoMemory>
     requires layers { AreLayers counted.now }
-    requires vertices { AreVertices (edges_of counted.now) vertices.now }
-    requires strip { IsStrip (edges_of counted.now) vertices.now strip }
-    ensures ascending { IfOk result (λ edges. AllPairs IsDirectedBefore edges.items) }
-    ensures along { IfOk result (λ edges. AreDirectedFrom op counted.now (slice_range vertices.now strip.from strip.past) edges.items) }
+    requires vertices { AreVertices (edges_of counted.now) vertices.now.points.items }
+    requires once { TellOnce (edges_of counted.now) vertices.now.points.items vertices.now.one_ends.items }
+    requires strip { IsStrip (edges_of counted.now) vertices.now.points.items strip }
+    ensures { IfOk result (λ edges. AreLeaving op counted.now (slice_range vertices.now.points.items strip.from strip.past) edges.items) }
 {
-    let own = edges_in(counted, vertices, strip);
-    let labelled = sweep(
+    let own = edges_in(counted, &vertices.points, strip);
+    sweep_leaving(
         alloc,
         &counted[..own.from],
         &counted[own.from..own.past],
-        &vertices[strip.from..strip.past],
-    )?;
-    let edges = directed_edges(alloc, &labelled, op)?;
-    Ok(sorted_once(edges))
+        &vertices.points[strip.from..strip.past],
+        &vertices.one_ends[strip.from..strip.past],
+        op,
+    )
 }
 
 /// The directed edges of the result of an operation, from so many strips at once.
@@ -125,24 +122,24 @@ pub fn edges_in_parts<R: Threads + Sync, A: Allocator + Copy + Send + Sync>(
     alloc: A,
     parts: usize,
     counted: &[Counted],
-    vertices: &[Pt],
+    vertices: &Vertices<A>,
     op: Op,
 ) -> Result<Vec<DirectedEdge, A>, NoMemory>
     requires layers { AreLayers counted.now }
-    requires vertices { AreVertices (edges_of counted.now) vertices.now }
-    ensures ascending { IfOk result (λ edges. AllPairs IsDirectedBefore edges.items) }
-    ensures along { IfOk result (λ edges. AreDirectedFrom op counted.now vertices.now edges.items) }
+    requires vertices { AreVertices (edges_of counted.now) vertices.now.points.items }
+    requires once { TellOnce (edges_of counted.now) vertices.now.points.items vertices.now.one_ends.items }
+    ensures { IfOk result (λ edges. AreLeaving op counted.now vertices.now.points.items edges.items) }
 {
-    let strips = strips_of(alloc, vertices, parts)?;
+    let strips = strips_of(alloc, &vertices.points, parts)?;
     let lists = map_parts(
         rt,
         alloc,
         &strips,
         |strip: Part| -> Result<Vec<DirectedEdge, A>, NoMemory>
-            requires { AreLayers counted.now × AreVertices (edges_of counted.now) vertices.now × IsStrip (edges_of counted.now) vertices.now strip }
-            ensures { IfOk result (λ edges. AreDirectedFrom op counted.entry.now (slice_range vertices.entry.now strip.from strip.past) edges.items) }
+            requires { AreLayers counted.now × AreVertices (edges_of counted.now) vertices.now.points.items
+                × TellOnce (edges_of counted.now) vertices.now.points.items vertices.now.one_ends.items × IsStrip (edges_of counted.now) vertices.now.points.items strip }
+            ensures { IfOk result (λ edges. AreLeaving op counted.entry.now (slice_range vertices.entry.now.points.items strip.from strip.past) edges.items) }
         { strip_edges(alloc, counted, vertices, strip, op) },
     )?;
-    let edges = merged(alloc, lists)?;
-    Ok(in_order(edges))
+    Ok(joined(alloc, lists)?)
 }

@@ -80,7 +80,7 @@ fn first_ends<A: Allocator + Copy>(alloc: A, counted: &[Counted]) -> Result<Vec<
 }
 
 /// A point's place in a table with so many: neighbours have different ones.
-fn place_of(v: Pt, places: usize) -> usize {
+pub fn place_of(v: Pt, places: usize) -> usize {
     let by_column = v.x.cast_unsigned().wrapping_mul(0x9E37_79B1);
     let by_row = v.y.cast_unsigned().wrapping_mul(0x85EB_CA77);
     let mixed = u64::from(by_column.wrapping_add(by_row));

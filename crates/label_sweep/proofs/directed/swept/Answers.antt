@@ -1,24 +1,27 @@
-use Rattle.std.proofs.Common.{◌∙◌, refl, subst, sym}
+use Rattle.std.proofs.Common.{◌∙◌, refl, subst}
 use Rattle.geom.specs.Rounded.{edges_of}
 use Rattle.geom.proofs.Listing.{are_directed}
-use Rattle.label_sweep.specs.Labels.{AreDirectedFrom}
-use Rattle.label_sweep.proofs.Borders.{all_edges, whole}
+use Rattle.label_sweep.specs.Leaving.{AreLeaving}
+use Rattle.label_sweep.proofs.Borders.{whole}
+use Rattle.label_sweep.proofs.LeavingStrips.{all_leaving}
 use Rattle.label_sweep.proofs.Parts.{all_sliced}
 use Rattle.label_sweep.proofs.directed.swept.Goals as goal
 
 pub strip_edges-requires-clause-strip : goal.strip_edges-requires-clause-strip
-strip_edges-requires-clause-strip g c = whole (edges_of c.args.counted.now) c.deref.result.now (rw c.deref.ensures.value c.in_ok-vertices.ensures) _ refl (c.len.ensures ∙ sym c.deref.ensures.len)
+strip_edges-requires-clause-strip g c = whole (edges_of c.args.counted.now) c.in_ok-vertices.vertices.points.items c.in_ok-vertices.ensures.points _ refl (c.len.ensures ∙ c.in_ok-vertices.vertices.points.ok.0)
 
 pub new-requires : goal.new-requires
 new-requires g c =
+    let op = c.args.op in
     let cs = c.args.counted.now in
+    let points = c.in_ok-vertices.vertices.points.items in
     let es = c.in_ok-edges.edges.items in
-    are_directed c.args.op cs es (all_edges c.args.op cs c.deref.result.now (rw c.deref.ensures.value c.in_ok-vertices.ensures) es c.in_ok-edges.ensures.ascending
-    (subst (λ ps. AreDirectedFrom c.args.op cs ps es) (all_sliced c.deref.result.now _ (c.len.ensures ∙ sym c.deref.ensures.len)) c.in_ok-edges.ensures.along))
+    are_directed op cs es (all_leaving op cs points c.in_ok-vertices.ensures.points es (subst (λ ps. AreLeaving op cs ps es) (all_sliced points _ (c.len.ensures ∙ c.in_ok-vertices.vertices.points.ok.0)) c.in_ok-edges.ensures))
 
 pub returns : goal.returns
 returns g c =
+    let op = c.args.op in
     let cs = c.args.counted.now in
+    let points = c.in_ok-vertices.vertices.points.items in
     let es = c.in_ok-edges.edges.items in
-    rw c.new.ensures (all_edges c.args.op cs c.deref.result.now (rw c.deref.ensures.value c.in_ok-vertices.ensures) es c.in_ok-edges.ensures.ascending
-    (subst (λ ps. AreDirectedFrom c.args.op cs ps es) (all_sliced c.deref.result.now _ (c.len.ensures ∙ sym c.deref.ensures.len)) c.in_ok-edges.ensures.along))
+    rw c.new.ensures (all_leaving op cs points c.in_ok-vertices.ensures.points es (subst (λ ps. AreLeaving op cs ps es) (all_sliced points _ (c.len.ensures ∙ c.in_ok-vertices.vertices.points.ok.0)) c.in_ok-edges.ensures))

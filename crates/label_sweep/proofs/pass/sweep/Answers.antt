@@ -2,8 +2,8 @@ use Rattle.std.proofs.Common.{arith, get_or, rules, subst}
 use Rattle.std.proofs.lemmas.List.{get_or_default}
 use Rattle.geom.specs.declared.point.Pt.{Pt}
 use Rattle.geom.specs.Limit.{InLimit}
-use Rattle.label_sweep.specs.Chunks.{all_standing}
 use Rattle.label_sweep.specs.Labels.{IsSweptUpTo}
+use Rattle.label_sweep.specs.Slots.{all_standing}
 use Rattle.label_sweep.proofs.Limits.{slice_in_limit}
 use Rattle.label_sweep.proofs.Sweeping.{all_labelled, begins, here_at, next_one, none_labelled, origin, up_to_none}
 use Rattle.label_sweep.proofs.pass.sweep.Goals as goal
@@ -14,9 +14,9 @@ loop-number-init g c = (
     begins all c.args.before.now c.args.own.now c.args.vertices.now h (all_standing c.in_ok-line.line.standing)
         (λ u l. subst (λ v. IsSweptUpTo all v (all_standing c.in_ok-line.line.standing)) (get_or_default c.args.vertices.now 0 origin u l) (c.in_ok-line.ensures.swept all (h.first origin l))),
     rw c.in_ok-labelled.ensures.items (up_to_none all c.args.own.now),
-    c.in_ok-line.ensures.chunked,
+    c.in_ok-line.ensures.kept,
   )),
-  c.in_ok-line.ensures.chunked.some,
+  c.in_ok-line.ensures.kept.chunked.some,
   omega arith,
 )
 
@@ -41,9 +41,9 @@ loop-number-preserved g c =
           l.from l.within l.begun (l.past h.own_ascends) in (
             next_one all c.args.before.now c.args.own.now c.args.vertices.now h c.loop-number.number c.loop-number.next c.last_of-next.result (all_standing c.loop-number.line.standing)
                 (c.loop-number.invariant.0 all h).0 (get_or c.args.vertices.now c.loop-number.number origin) (omega (arith, c.loop-number-test.true)) (get_or_default c.args.vertices.now c.loop-number.number origin _ (omega (arith, c.loop-number-test.true)))
-                l.from l.within l.begun (l.past h.own_ascends) (all_standing c.pass.new.self.standing) (k.swept all (record { at = at; chunked = (c.loop-number.invariant.0 all h).2 })),
-            k.labelled all (record { at = at; chunked = (c.loop-number.invariant.0 all h).2 }) (c.loop-number.invariant.0 all h).1,
-            k.chunked all (record { at = at; chunked = (c.loop-number.invariant.0 all h).2 }),
+                l.from l.within l.begun (l.past h.own_ascends) (all_standing c.pass.new.self.standing) (k.swept all (record { at = at; kept = (c.loop-number.invariant.0 all h).2 })),
+            k.labelled all (record { at = at; kept = (c.loop-number.invariant.0 all h).2 }) (c.loop-number.invariant.0 all h).1,
+            k.kept all (record { at = at; kept = (c.loop-number.invariant.0 all h).2 }),
           )),
       k.some,
       l.within,

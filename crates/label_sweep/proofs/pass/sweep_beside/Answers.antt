@@ -4,8 +4,8 @@ use Rattle.std.proofs.Props.{props}
 use Rattle.std.proofs.lemmas.List.{get_or_default}
 use Rattle.geom.specs.Rounded.{edges_of}
 use Rattle.label_sweep.specs.declared.swept.SweptEdge.{SweptEdge}
-use Rattle.label_sweep.specs.Chunks.{all_standing}
 use Rattle.label_sweep.specs.Labels.{IsSweptUpTo}
+use Rattle.label_sweep.specs.Slots.{all_standing}
 use Rattle.label_sweep.specs.Swept.{AreSweptFrom}
 use Rattle.label_sweep.proofs.Beside.{before_first, past_one}
 use Rattle.label_sweep.proofs.Ends.{some_are}
@@ -23,7 +23,7 @@ loop-number-init g c = (
         (λ u l. subst (λ v. IsSweptUpTo all v (all_standing c.in_ok-line.line.standing)) (get_or_default c.args.vertices.now 0 origin u l) (c.in_ok-line.ensures.swept all (h.first origin l))),
     rw c.in_ok-swept.ensures.items (before_first (edges_of all) c.args.vertices.now h.ascending 0),
   )),
-  c.in_ok-line.ensures.chunked,
+  c.in_ok-line.ensures.kept,
   omega arith,
 )
 
@@ -40,8 +40,8 @@ pass_beside-requires-clause-here g c =
           l.from l.within l.begun (l.past h.1.own_ascends),
     ))
 
-pub pass_beside-requires-clause-chunked : goal.pass_beside-requires-clause-chunked
-pass_beside-requires-clause-chunked g c = c.loop-number.invariant.1
+pub pass_beside-requires-clause-kept : goal.pass_beside-requires-clause-kept
+pass_beside-requires-clause-kept g c = c.loop-number.invariant.1
 
 pub loop-number-preserved : goal.loop-number-preserved
 loop-number-preserved g c =
@@ -56,7 +56,7 @@ loop-number-preserved g c =
                 l.from l.within l.begun (l.past h.own_ascends) (all_standing c.pass_beside.new.self.standing) (k.swept all at),
             past_one (edges_of all) c.args.vertices.now h.ascending 0 c.loop-number.number origin (omega arith) (omega (arith, c.loop-number-test.true)) c.loop-number.swept.items c.pass_beside.new.swept.items (k.besides all at) (c.loop-number.invariant.0 all h).1,
           )),
-      k.chunked,
+      k.kept,
       l.within,
     )
 

@@ -1,12 +1,11 @@
 use Rattle.std.proofs.Common.{ℕ, length, ap, arith}
 use Rattle.std.specs.declared.vec.Vec.{Vec}
-use Rattle.label_sweep.specs.declared.standing.StandingEdge.{StandingEdge}
 use Rattle.label_sweep.proofs.Chunks.{size_is}
 use Rattle.label_sweep.proofs.status.split.Goals as goal
 
 pub loop-chunks-smaller : goal.loop-chunks-smaller
 loop-chunks-smaller g c =
-    let n : Vec StandingEdge g.row.A.Denot → ℕ = λ v. length v.items in
+    let n : Vec ℕ g.row.A.Denot → ℕ = λ v. length v.items in
     let d = c.index-in-loop-chunks.result.now in
     let e = c.index.result.now in
     let a = size_is n c.loop-chunks.chunks.items c.args.at d c.loop-chunks.invariant.0 in
