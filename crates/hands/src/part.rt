@@ -38,8 +38,13 @@ pub fn joined<T: Drop, A: Allocator>(
 ) -> Result<Vec<T, A>, AllocError>
     ensures { IfOk result (λ v. v.items ≡ flat_map (λ l. l.items) lists.items) }
 {
-    let mut all = Vec::with_capacity(alloc, items_of(&lists))?;
-    for mut list in lists {
+    let room = items_of(&lists);
+    let mut rest = lists.into_iter();
+    let Some(mut all) = rest.next() else {
+        return Ok(Vec::new(alloc));
+    };
+    all.reserve_exact(room.saturating_sub(all.len()))?;
+    for mut list in rest {
         all.append(&mut list)?;
     }
     Ok(all)
