@@ -1,6 +1,6 @@
 -- Edges with the edge beside each: those that begin at one vertex, and lists of them behind one another.
-use Rattle.std.proofs.Common.{◌≡◌, inl, inr, ⊎_elim, ℕ, ◌+◌, ◌-◌, ◌<◌, ◌≤◌, List, [], ◌∷◌, ◌++◌, Option, None, Some, map, length, get_or, drop, flat_map, take, refl, sym, ap, ◌∙◌, subst, arith, append_assoc}
-use Rattle.std.specs.List.{All, AllPairs, AllWithin, AllZip, Contains}
+use Rattle.std.proofs.Common.{◌≡◌, inl, inr, ⊎_elim, ℕ, ◌+◌, ◌-◌, ◌<◌, ◌≤◌, List, [], ◌∷◌, ◌++◌, Option, None, Some, map, length, get_or, drop, take, refl, sym, ap, ◌∙◌, subst, arith, append_assoc}
+use Rattle.std.specs.List.{All, AllPairs, AllWithin, Contains}
 use Rattle.std.specs.Prelude.{pos, ◌<ℤ◌, ◌≤ℤ◌, slice_range}
 use Rattle.std.proofs.Math.Seq.{drop-cons}
 use Rattle.std.proofs.lemmas.List.{map-append, take-append-drop}
@@ -17,17 +17,15 @@ use Rattle.geom.specs.ResultEdges.{left_side}
 use Rattle.geom.specs.Rounded.{edges_of, odd_edges}
 use Rattle.geom.proofs.Lists.{In, contains_in, in_append, in_back, in_contains, in_front, map_in, some_same}
 use Rattle.geom.proofs.ListOrder.{pairs_head, pairs_tail}
-use Rattle.hands.specs.Consecutive.{ArePartsOf}
-use Rattle.hands.specs.declared.part.Part.{Part}
 use Rattle.points_law.specs.Law.{AreLayers}
 use Rattle.label_sweep.specs.declared.standing.Spoke.{Spoke}
 use Rattle.label_sweep.specs.declared.standing.StandingEdge.{StandingEdge}
 use Rattle.label_sweep.specs.declared.swept.SweptEdge.{SweptEdge}
 use Rattle.label_sweep.specs.Labels.{IsSweptUpTo, edge_beside, lowest_of}
-use Rattle.label_sweep.specs.Status.{AreSpokes, AreStanding, AreVertices, IsVertexOf, Reaches}
-use Rattle.label_sweep.specs.Swept.{AreBehind, AreSwept, AreSweptFrom, IsBehind, IsBeside, besides_from, parity_beside}
+use Rattle.label_sweep.specs.Status.{AreSpokes, AreStanding, IsVertexOf, Reaches}
+use Rattle.label_sweep.specs.Swept.{AreBehind, AreSweptFrom, IsBehind, IsBeside, besides_from, parity_beside}
 use Rattle.label_sweep.proofs.Members.{all_of_in, in_drop, in_of_all}
-use Rattle.label_sweep.proofs.Parts.{none_sliced, of_slices, slice_behind}
+use Rattle.label_sweep.proofs.Parts.{none_sliced, slice_behind}
 use Rattle.label_sweep.proofs.Passing.{edge_of, high_all, low_all, mid_all, standing_parts}
 use Rattle.label_sweep.proofs.Turning.{edge_at}
 use Rattle.label_sweep.proofs.Words.{first_left_none, left_of_first, left_of_next}
@@ -167,7 +165,7 @@ module _ (es : List Edge) where
       no_edge : (t : SweptEdge) → None ≡ Some t → ⊥
       no_edge t e = let q = e in cc
 
-  behind_joined : (before : Option SweptEdge) (xs ys : List SweptEdge) → AreBehind es before xs → AreBehind es None ys → AreBehind es before (xs ++ ys)
+  pub behind_joined : (before : Option SweptEdge) (xs ys : List SweptEdge) → AreBehind es before xs → AreBehind es None ys → AreBehind es before (xs ++ ys)
   behind_joined before [] ys h k = behind_any before ys k
   behind_joined before (x ∷ xs) ys h k = (h.0, behind_joined (Some x) xs ys h.1 k)
 
@@ -221,26 +219,3 @@ module _ (es : List Edge) (vs : List Pt) (ascending : AllPairs IsBefore vs) wher
       → AreSweptFrom es (slice_range vs from n) old → AreSweptFrom es (slice_range vs from (n + 1)) new
   past_one from n d o l old new more h = let e = slice_more vs from n d o l in
       subst (λ ps. AreSweptFrom es ps new) (sym e) (more (slice_range vs from n) (subst (λ ps. AllPairs IsBefore ps) e (pairs_sliced IsBefore vs from (n + 1) ascending)) h)
-
--- by parts of them
-pub swept_slices : {V : Type 0} (items : V → List SweptEdge) (es : List Edge) (vs : List Pt) → AllPairs IsBefore vs → (ps : List Part) (lists : List V) → ArePartsOf 0 (length vs) ps
-    → AllZip (λ (p : Part) v. AreSweptFrom es (slice_range vs p.from p.past) (items v)) ps lists → AreSweptFrom es vs (flat_map items lists)
-swept_slices items es vs ascending ps lists parts zip =
-    of_slices items (λ points ss. AllPairs IsBefore points → AreSweptFrom es points ss) (λ o. no_swept es)
-    (λ points more ss rest h k o. more_swept es points more ss rest o (h (pairs_front IsBefore points more o)) (k (pairs_back IsBefore points more o)))
-    vs ps lists parts (all_zipped (λ (p : Part) v. AreSweptFrom es (slice_range vs p.from p.past) (items v)) (λ (p : Part) v. AllPairs IsBefore (slice_range vs p.from p.past) → AreSweptFrom es (slice_range vs p.from p.past) (items v)) (λ p v h o. h) ps lists zip) ascending
-  where
-    all_zipped : {X Y : Type 0} (P Q : X → Y → Type 0) → ((x : X) (y : Y) → P x y → Q x y) → (xs : List X) (ys : List Y) → AllZip P xs ys → AllZip Q xs ys
-    all_zipped P Q f [] [] h = h
-    all_zipped P Q f [] (y ∷ ys) h = h
-    all_zipped P Q f (x ∷ xs) [] h = h
-    all_zipped P Q f (x ∷ xs) (y ∷ ys) h = (f x y h.0, all_zipped P Q f xs ys h.1)
-
--- all of them
-pub all_swept : (es : List Edge) (vs : List Pt) → AreVertices es vs → (ss : List SweptEdge) → AreSweptFrom es vs ss → AreSwept es ss
-all_swept es vs a ss h = record {
-  each = h.each;
-  all = λ e i. h.all e i ((a.exact e.p).1 (record { edge = e; inside = i; ends = inl refl }));
-  upward = h.upward;
-  behind = h.behind;
-}

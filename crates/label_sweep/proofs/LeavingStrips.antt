@@ -1,65 +1,64 @@
--- The directed edges of a result that leave vertices, by strips of them: those of strips behind one another, and those that leave all vertices.
-use Rattle.std.proofs.Common.{◌≡◌, ◌⊎◌, ◌==◌, inl, inr, ⊎_elim, ℕ, ◌+◌, ◌-◌, ◌<◌, ◌≤◌, Bool, false, List, [], ◌++◌, drop, flat_map, get_or, length, refl, sym, ap, ◌∙◌, subst, arith}
-use Rattle.std.specs.List.{AllPairs, AllZip, count_by}
-use Rattle.std.specs.Prelude.{slice_range}
-use Rattle.std.proofs.lemmas.List.{get_or-drop, get_or-take, length-drop, length-take-le}
+-- The directed edges of a result that leave the vertices in strips of columns: those of strips behind one another, and those of all columns.
+use Rattle.std.proofs.Common.{◌≡◌, ◌⊎◌, inl, inr, ⊎_elim, ℕ, ◌≤◌, List, [], ◌++◌, flat_map, length, ap, arith}
+use Rattle.std.specs.List.{All, AllZip}
+use Rattle.std.proofs.lemmas.List.Elements.{Contains-append_cases, Contains-append_left, Contains-append_right}
 use Rattle.geom.specs.declared.op.Op.{Op}
-use Rattle.geom.specs.declared.point.Pt.{Pt}
-use Rattle.geom.specs.declared.edge.Edge.{Edge}
 use Rattle.geom.specs.declared.edge.Counted.{Counted}
 use Rattle.geom.specs.declared.directed.DirectedEdge.{DirectedEdge}
-use Rattle.geom.specs.Directed.{AreResultEdges, IsResultEdge}
-use Rattle.geom.specs.Order.{IsBefore}
-use Rattle.geom.specs.Rounded.{edges_of}
-use Rattle.geom.specs.Segments.{same_point}
+use Rattle.geom.specs.Directed.{AreResultEdges, IsDirectedBefore, IsResultEdge}
+use Rattle.geom.proofs.Edges.{before_by_cases}
+use Rattle.geom.proofs.Lists.{In, in_contains}
 use Rattle.hands.specs.declared.part.Part.{Part}
 use Rattle.hands.specs.Consecutive.{ArePartsOf}
-use Rattle.hands.proofs.Consecutive.{behind_one_another}
-use Rattle.label_sweep.specs.Leaving.{AreLeaving, TellOnce}
-use Rattle.label_sweep.specs.Status.{AreVertices}
-use Rattle.label_sweep.proofs.Beside.{pairs_sliced}
-use Rattle.label_sweep.proofs.LeavingEdges.{more_leaving, no_leaving}
-use Rattle.label_sweep.proofs.Parts.{all_sliced, none_sliced, slice_behind}
+use Rattle.points_law.specs.Law.{AreLayers}
+use Rattle.label_sweep.specs.Column.{IsStrip, LiesBetween, OpensColumn}
+use Rattle.label_sweep.specs.Leaving.{AreLeavingBetween}
+use Rattle.label_sweep.proofs.Beside.{pairs_joined}
+use Rattle.label_sweep.proofs.Between.{all_between, between_behind, between_cases, between_front, front_is_left, none_between, of_strips}
 
--- ---- the flags of some of the vertices
-module _ {X : Type 0} (xs : List X) (from past : ℕ) (order : from ≤ past) (within : past ≤ length xs) where
-  length_sliced : length (slice_range xs from past) ≡ past - from
-  length_sliced = length-take-le (past - from) (drop from xs) (omega (arith, length-drop from xs, within))
+module _ (op : Op) (cs : List Counted) where
+  -- ---- strips behind one another
+  -- none leaves a point in no columns
+  pub none_leave : (a : ℕ) → AreLeavingBetween op cs a a []
+  none_leave a = record {
+    ascending = λ i j d l m. absurd (omega (arith, m));
+    exact = λ d. ((λ i. absurd (omega (arith, i.1))), (λ r. absurd (none_between cs a d.from r.1)));
+  }
 
-  get_or_sliced : (k : ℕ) (d : X) → k < past - from → get_or (slice_range xs from past) k d ≡ get_or xs (from + k) d
-  get_or_sliced k d l = get_or-take (past - from) (drop from xs) k d l ∙ get_or-drop from xs k d
+  -- those that leave points in the front, and then those that leave points in the back, leave points in both
+  both_leave : (a b c : ℕ) (xs ys : List DirectedEdge) → a ≤ b → b ≤ c → OpensColumn cs b → OpensColumn cs c → AreLeavingBetween op cs a b xs → AreLeavingBetween op cs b c ys → AreLeavingBetween op cs a c (xs ++ ys)
+  both_leave a b c xs ys low high opens next_opens front back = record {
+    ascending = pairs_joined IsDirectedBefore xs ys front.ascending back.ascending
+        (λ d e i j. inl (before_by_cases d.from e.from (inl (front_is_left cs a b c d.from e.from (leaves a b xs front d i) (leaves b c ys back e j)))));
+    exact = λ d. (
+      (λ i. ⊎_elim
+          (λ j. let r = (front.exact d).0 j in (r.0, between_front cs a b c low high d.from next_opens r.1))
+          (λ j. let r = (back.exact d).0 j in (r.0, between_behind cs a b c low high d.from opens r.1))
+          (Contains-append_cases xs ys d i)),
+      (λ r. ⊎_elim
+          (λ h. Contains-append_left xs ys d ((front.exact d).1 (r.0, h)))
+          (λ h. Contains-append_right xs ys d ((back.exact d).1 (r.0, h)))
+          (between_cases cs a b c low high d.from r.1)),
+    );
+  }
+    where
+      leaves : (a b : ℕ) (ds : List DirectedEdge) → AreLeavingBetween op cs a b ds → (d : DirectedEdge) → In d ds → LiesBetween cs a b d.from
+      leaves a b ds h d i = ((h.exact d).0 (in_contains ds d i)).1
 
-pub told_sliced : (es : List Edge) (vs : List Pt) (flags : List Bool) → TellOnce es vs flags → (from past : ℕ) → from ≤ past → past ≤ length vs → TellOnce es (slice_range vs from past) (slice_range flags from past)
-told_sliced es vs flags t from past order within = record {
-  long = length_sliced flags from past order flags_within ∙ sym (length_sliced vs from past order within);
-  once = λ k u l. let m : k < past - from = omega (arith, l, length_sliced vs from past order within) in
-      get_or_sliced flags from past order flags_within k false m ∙ t.once (from + k) u (inside k m)
-      ∙ ap (λ (v : Pt). count_by (λ (e : Edge). same_point e.q v) es == 1) (sym (get_or_sliced vs from past order within k u m));
-}
-  where
-    flags_within : past ≤ length flags
-    flags_within = omega (arith, t.long, within)
+  -- those of all strips
+  pub leaving_strips : {V : Type 0} (items : V → List DirectedEdge) (ps : List Part) (lists : List V) → ArePartsOf 0 (length cs) ps → All (IsStrip cs) ps
+      → AllZip (λ (p : Part) v. AreLeavingBetween op cs p.from p.past (items v)) ps lists → AreLeavingBetween op cs 0 (length cs) (flat_map items lists)
+  leaving_strips items = of_strips items cs (AreLeavingBetween op cs) none_leave both_leave
 
-    inside : (k : ℕ) → k < past - from → from + k < length vs
-    inside k m = omega (arith, m, within)
-
--- ---- strips behind one another
-pub leaving_slices : {V : Type 0} (items : V → List DirectedEdge) (op : Op) (cs : List Counted) (vs : List Pt) → AllPairs IsBefore vs → (ps : List Part) (lists : List V) → ArePartsOf 0 (length vs) ps
-    → AllZip (λ (p : Part) v. AreLeaving op cs (slice_range vs p.from p.past) (items v)) ps lists → AreLeaving op cs vs (flat_map items lists)
-leaving_slices items op cs vs ascending ps lists parts zip = subst (λ t. AreLeaving op cs t (flat_map items lists)) (all_sliced vs (length vs) refl)
-    (behind_one_another items (λ a b ds. AreLeaving op cs (slice_range vs a b) ds)
-    (λ a. subst (λ t. AreLeaving op cs t []) (sym (none_sliced vs a)) (no_leaving op cs))
-    (λ a b c ds more low high h k. let e = slice_behind vs a b c low high in
-    subst (λ t. AreLeaving op cs t (ds ++ more)) (sym e)
-    (more_leaving op cs (slice_range vs a b) (slice_range vs b c) ds more (subst (λ t. AllPairs IsBefore t) e (pairs_sliced IsBefore vs a c ascending)) h k))
-    0 (length vs) ps lists parts zip)
-
--- ---- those that leave all vertices are all
-pub all_leaving : (op : Op) (cs : List Counted) (vs : List Pt) → AreVertices (edges_of cs) vs → (ds : List DirectedEdge) → AreLeaving op cs vs ds → AreResultEdges op cs ds
-all_leaving op cs vs a ds h = record {
-  ascending = h.ascending;
-  exact = λ d. ((λ i. ((h.exact d).0 i).0), (λ r. (h.exact d).1 (r, (a.exact d.from).1 (record { edge = r.edge; inside = r.rounded; ends = starts d r }))));
-}
-  where
-    starts : (d : DirectedEdge) (r : IsResultEdge op cs d) → (d.from ≡ r.edge.p) ⊎ (d.from ≡ r.edge.q)
-    starts d r = ⊎_elim (λ e. inl (ap (λ (t : DirectedEdge). t.from) e)) (λ e. inr (ap (λ (t : DirectedEdge). t.from) e)) r.runs
+  -- ---- those that leave points in all columns are all
+  pub all_leaving : AreLayers cs → (ds : List DirectedEdge) → AreLeavingBetween op cs 0 (length cs) ds → AreResultEdges op cs ds
+  all_leaving layers ds h = record {
+    ascending = h.ascending;
+    exact = λ d. (
+      (λ i. ((h.exact d).0 i).0),
+      (λ r. (h.exact d).1 (r, all_between cs layers.ascending d.from (record { edge = r.edge; inside = r.rounded; ends = starts d r }))),
+    );
+  }
+    where
+      starts : (d : DirectedEdge) (r : IsResultEdge op cs d) → (d.from ≡ r.edge.p) ⊎ (d.from ≡ r.edge.q)
+      starts d r = ⊎_elim (λ e. inl (ap (λ (t : DirectedEdge). t.from) e)) (λ e. inr (ap (λ (t : DirectedEdge). t.from) e)) r.runs

@@ -8,12 +8,18 @@ pub mod Labelling
 pub mod Members
 pub mod Ends
 pub mod Merging
+pub mod StripEnds
 pub mod Steepness
 pub mod Turning
 pub mod Passing
 pub mod Plain
+pub mod TwoEnd
+pub mod PairOfEdges
+pub mod EndingsTold
 pub mod Beside
 pub mod Columns
+pub mod Between
+pub mod SweptStrips
 pub mod Sweeping
 pub mod Directing
 pub mod LeavingEdges
@@ -23,6 +29,7 @@ pub mod Crossing
 pub mod Chunks
 pub mod Places
 pub mod Borders
+pub mod ColumnStrips
 pub mod StripVertices
 pub mod ChangingEdges
 pub mod Parts

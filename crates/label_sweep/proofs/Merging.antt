@@ -1,31 +1,25 @@
--- The second ends of edges, sorted, and the vertices by a merge of them with the first ends.
-use Rattle.std.proofs.Common.{◌≡◌, ◌⊎◌, ◌==◌, inl, inr, ⊎_elim, ℕ, zero, suc, Bool, true, false, cond, ◌+◌, ◌-◌, ◌<◌, ◌≤◌, List, [], ◌∷◌, ◌++◌, map, length, get_or, refl, sym, ap, ◌∙◌, subst, arith, Ordering, Less, Equal, Greater}
+-- Sorted second ends, and a merge of them with the first ends of edges.
+use Rattle.std.proofs.Common.{◌≡◌, ◌⊎◌, inl, inr, ⊎_elim, ℕ, zero, suc, Bool, true, false, cond, ◌+◌, ◌-◌, ◌<◌, ◌≤◌, List, [], ◌∷◌, ◌++◌, map, length, get_or, refl, sym, ap, ◌∙◌, subst, arith, Ordering, Less, Equal, Greater}
 use Rattle.std.specs.Ordering.{is_lt, ord_min, MatchOrdering}
 use Rattle.std.specs.List.{All, AllWithin, AllPairs, Contains, count_by}
-use Rattle.std.specs.List.Sorted.{IsPermutation, IsSorted}
-use Rattle.std.proofs.lemmas.Bool.{cases_lt, eqb-true}
-use Rattle.std.proofs.lemmas.List.{get_or_append_left, get_or_default, get_or_push, length_push, map-append}
+use Rattle.std.specs.List.Sorted.{IsSorted}
+use Rattle.std.proofs.lemmas.Bool.{cases_lt}
+use Rattle.std.proofs.lemmas.List.{get_or_append_left, get_or_default, get_or_push, length_push}
 use Rattle.std.proofs.lemmas.List.Elements.{All-append, All-cons, All-contains, All-nil, Contains-append_left, Contains-push}
 use Rattle.std.proofs.lemmas.List.Quantifiers.{all_pairs_push}
-use Rattle.std.proofs.lemmas.List.Sorted.{Contains-permutation, IsPermutation-append, IsPermutation-refl, IsPermutation-sym, ranks_by, sorted_far, sum_by-IsPermutation}
+use Rattle.std.proofs.lemmas.List.Sorted.{ranks_by, sorted_far}
 use Rattle.geom.specs.declared.point.Pt.{Pt}
-use Rattle.geom.specs.declared.edge.Edge.{Edge}
 use Rattle.geom.specs.declared.edge.Counted.{Counted}
 use Rattle.geom.specs.Order.{IsBefore, IsUpTo}
-use Rattle.geom.specs.Rounded.{edges_of}
 use Rattle.geom.specs.Segments.{same_point}
 use Rattle.geom.specs.EdgeOrder.{IsEdgeBefore}
-use Rattle.geom.proofs.Edges.{before_strict}
-use Rattle.geom.proofs.Lists.{In, contains_in, in_contains, in_map, map_in, count-cons, counts_some}
+use Rattle.geom.proofs.Lists.{contains_in, in_contains, in_map, map_in, count-cons}
 use Rattle.geom.proofs.Orders.{before_itself, pt_cmp, pt_ranks, pt_total}
 use Rattle.geom.proofs.Points.{same_point_of, same_point_true}
-use Rattle.label_sweep.proofs.Ends.{after_upto, edge_among, le_cases, starts_upto}
-use Rattle.label_sweep.specs.Leaving.{EndsOnce, TellOnce}
-use Rattle.label_sweep.specs.Status.{AreVertices, IsVertexOf}
-
--- the second ends of edges
-abbrev pub seconds : List Counted → List Pt
-seconds cs = map (λ c. c.edge.q) cs
+use Rattle.label_sweep.proofs.Ends.{after_upto, le_cases, starts_upto}
+use Rattle.label_sweep.specs.declared.second_ends.Ending.{Ending}
+use Rattle.label_sweep.specs.declared.second_ends.Ending.TheVariants.{Other}
+use Rattle.label_sweep.specs.Endings.{AreMerged, ending_of}
 
 -- ---- sorted points
 not_less : (p q : Pt) (o : Ordering) → MatchOrdering o (IsBefore q p) (q ≡ p) (IsBefore p q) → is_lt o ≡ false → IsUpTo p q
@@ -37,15 +31,7 @@ pub up_to_pairs : (ps : List Pt) → IsSorted pt_cmp ps → AllPairs IsUpTo ps
 up_to_pairs ps s i j d l m = not_less (get_or ps i d) (get_or ps j d) (pt_cmp (get_or ps j d) (get_or ps i d)) (pt_ranks (get_or ps j d) (get_or ps i d))
     (sorted_far (λ p q. is_lt (pt_cmp p q)) (ranks_by pt_total (λ p. p)) ps s i j d (omega (arith, l)) m)
 
--- ---- second ends of parts
-pub no_seconds : IsPermutation (seconds []) []
-no_seconds = IsPermutation-refl []
-
-pub more_seconds : (cs ds : List Counted) (ps qs : List Pt) → IsPermutation (seconds cs) ps → IsPermutation (seconds ds) qs → IsPermutation (seconds (cs ++ ds)) (ps ++ qs)
-more_seconds cs ds ps qs h k = subst (λ t. IsPermutation t (ps ++ qs)) (sym (map-append (λ c. c.edge.q) cs ds)) (IsPermutation-append (seconds cs) ps (seconds ds) qs h k)
-
--- ---- where ends lie
-pub upto_later : (ps : List Pt) → AllPairs IsUpTo ps → (n k : ℕ) (d : Pt) → n ≤ k → k < length ps → IsUpTo (get_or ps n d) (get_or ps k d)
+upto_later : (ps : List Pt) → AllPairs IsUpTo ps → (n k : ℕ) (d : Pt) → n ≤ k → k < length ps → IsUpTo (get_or ps n d) (get_or ps k d)
 upto_later ps a n k d l m = ⊎_elim
     (λ s. a n k d s m)
     (λ e. inl (ap (λ t. get_or ps t d) e))
@@ -58,61 +44,36 @@ ends_past ps a v n r h b k d l m = after_upto v (get_or ps n d) (get_or ps k d) 
     here : IsBefore v (get_or ps n d)
     here = let P : Pt → Type 0 = λ t. IsBefore v t in subst P (get_or_default ps n r d h) b
 
--- the lesser of two points is up to the first
-lesser_upto : (p q : Pt) (o : Ordering) → MatchOrdering o (IsBefore q p) (q ≡ p) (IsBefore p q) → IsUpTo (cond (is_lt o) q p) p
-lesser_upto p q Less h = inr h
-lesser_upto p q Equal h = inl refl
-lesser_upto p q Greater h = inl refl
+-- ---- the lesser of two points
+upto_first : (p q : Pt) (o : Ordering) → MatchOrdering o (IsBefore q p) (q ≡ p) (IsBefore p q) → IsUpTo (cond (is_lt o) q p) p
+upto_first p q Less h = inr h
+upto_first p q Equal h = inl refl
+upto_first p q Greater h = inl refl
 
-pub lesser : (p q : Pt) → IsUpTo (ord_min pt_cmp p q) p
-lesser p q = lesser_upto p q (pt_cmp q p) (pt_ranks q p)
+upto_second : (p q : Pt) (o : Ordering) → MatchOrdering o (IsBefore q p) (q ≡ p) (IsBefore p q) → IsUpTo (cond (is_lt o) q p) q
+upto_second p q Less h = inl refl
+upto_second p q Equal h = inl (sym h)
+upto_second p q Greater h = inr h
 
--- ---- how many second ends are a point
+one_of : (p q : Pt) (second : Bool) → (cond second q p ≡ q) ⊎ (cond second q p ≡ p)
+one_of p q true = inl refl
+one_of p q false = inr refl
+
+-- it is up to the first
+pub lesser_first : (p q v : Pt) → v ≡ ord_min pt_cmp p q → IsUpTo v p
+lesser_first p q v e = let P : Pt → Type 0 = λ t. IsUpTo t p in subst P (sym e) (upto_first p q (pt_cmp q p) (pt_ranks q p))
+
+-- and up to the second
+pub lesser_second : (p q v : Pt) → v ≡ ord_min pt_cmp p q → IsUpTo v q
+lesser_second p q v e = let P : Pt → Type 0 = λ t. IsUpTo t q in subst P (sym e) (upto_second p q (pt_cmp q p) (pt_ranks q p))
+
+-- and one of them
+pub lesser_either : (p q v : Pt) → v ≡ ord_min pt_cmp p q → (v ≡ q) ⊎ (v ≡ p)
+lesser_either p q v e = ⊎_elim (λ h. inl (e ∙ h)) (λ h. inr (e ∙ h)) (one_of p q (is_lt (pt_cmp q p)))
+
+-- ---- how many ends are a point
 abbrev ends_at : Pt → List Pt → ℕ
 ends_at v ps = count_by (λ p. same_point p v) ps
-
-abbrev as_one : Bool → ℕ
-as_one b = cond b 1 0
-
-counts_as : {a b : Bool} → a ≡ b → as_one a ≡ as_one b
-counts_as e = ap as_one e
-
--- a first point that is v and one more make two
-two_ends : (v p : Pt) (ps : List Pt) → p ≡ v → In v ps → ends_at v (p ∷ ps) ≤ 1 → ⊥
-two_ends v p ps e i l =
-    let more = counts_some (λ q. same_point q v) ps v i (same_point_of v v refl) in
-    let first = counts_as (same_point_of p v e) in
-    omega (arith, count-cons (λ q. same_point q v) p ps, first, more, l)
-
-second_in : (cs : List Counted) (e : Edge) (v : Pt) → In e (edges_of cs) → e.q ≡ v → In v (seconds cs)
-second_in cs e v i h =
-    let k = in_map (λ (c : Counted). c.edge) cs e i in
-    subst (λ (t : Pt). In t (seconds cs)) (ap (λ (t : Edge). t.q) k.2 ∙ h) (map_in (λ (c : Counted). c.edge.q) cs k.0 k.1)
-
-fewer : (b : Bool) (n : ℕ) → cond b 1 0 + n ≤ 1 → n ≤ 1
-fewer true n h = omega arith
-fewer false n h = omega (arith, h)
-
--- where just one second end is v, at most one edge ends there
-one_edge : (cs : List Counted) (v : Pt) → ends_at v (seconds cs) ≤ 1 → (e f : Edge) → In e (edges_of cs) → In f (edges_of cs) → e.q ≡ v → f.q ≡ v → e ≡ f
-one_edge [] v l e f i j h k = absurd i
-one_edge (c ∷ cs) v l e f (inl p) (inl q) h k = sym p ∙ q
-one_edge (c ∷ cs) v l e f (inl p) (inr j) h k = absurd (two_ends v c.edge.q (seconds cs) (ap (λ (t : Edge). t.q) p ∙ h) (second_in cs f v j k) l)
-one_edge (c ∷ cs) v l e f (inr i) (inl q) h k = absurd (two_ends v c.edge.q (seconds cs) (ap (λ (t : Edge). t.q) q ∙ k) (second_in cs e v i h) l)
-one_edge (c ∷ cs) v l e f (inr i) (inr j) h k =
-    one_edge cs v (fewer (same_point c.edge.q v) (ends_at v (seconds cs)) (subst (λ (n : ℕ). n ≤ 1) (count-cons (λ p. same_point p v) c.edge.q (seconds cs)) l)) e f i j h k
-
-pub edges_ending : (cs : List Counted) (v : Pt) → count_by (λ (e : Edge). same_point e.q v) (edges_of cs) ≡ ends_at v (seconds cs)
-edges_ending [] v = refl
-edges_ending (c ∷ cs) v = count-cons (λ (e : Edge). same_point e.q v) c.edge (edges_of cs) ∙ ap {B = ℕ} (λ n. cond (same_point c.edge.q v) 1 0 + n) (edges_ending cs v) ∙ sym (count-cons (λ p. same_point p v) c.edge.q (seconds cs))
-
--- where just one edge ends, at most one does
-once_of : (cs : List Counted) (v : Pt) → count_by (λ (e : Edge). same_point e.q v) (edges_of cs) ≡ 1 → EndsOnce (edges_of cs) v
-once_of cs v h e f i j = one_edge cs v (omega (arith, edges_ending cs v, h)) e f (contains_in (edges_of cs) e i) (contains_in (edges_of cs) f j)
-
--- where a flag is set, at most one does
-pub once_told : (cs : List Counted) (vs : List Pt) (flags : List Bool) → TellOnce (edges_of cs) vs flags → (k : ℕ) (u : Pt) → k < length vs → get_or flags k false ≡ true → EndsOnce (edges_of cs) (get_or vs k u)
-once_told cs vs flags t k u l e = let v = get_or vs k u in once_of cs v (eqb-true (count_by (λ (f : Edge). same_point f.q v) (edges_of cs)) 1 (sym (t.once k u l) ∙ e))
 
 not_yes : (b : Bool) → (b ≡ true → ⊥) → b ≡ false
 not_yes true h = absurd (h refl)
@@ -120,6 +81,12 @@ not_yes false h = refl
 
 differs : (p q : Pt) → (p ≡ q → ⊥) → same_point p q ≡ false
 differs p q h = not_yes (same_point p q) (λ t. h (same_point_true p q t))
+
+abbrev as_one : Bool → ℕ
+as_one b = cond b 1 0
+
+counts_as : {a b : Bool} → a ≡ b → as_one a ≡ as_one b
+counts_as e = ap as_one e
 
 -- in a list that passes from one number to another, and nowhere else, so many pass
 count_between : {X : Type 0} (p : X → Bool) (xs : List X) (a b : ℕ) → a ≤ b → b ≤ length xs → AllWithin (λ x. p x ≡ false) xs 0 a → AllWithin (λ x. p x ≡ true) xs a b → AllWithin (λ x. p x ≡ false) xs b (length xs) → count_by p xs ≡ b - a
@@ -133,8 +100,16 @@ count_between p (x ∷ xs) (suc a) (suc b) o l before here after = count-cons p 
     (λ k d f m. before (suc k) d (omega arith) (omega (arith, m))) (λ k d f m. here (suc k) d (omega (arith, f)) (omega (arith, m))) (λ k d f m. after (suc k) d (omega (arith, f)) (omega (arith, m))) in omega (arith, none, rest))
 
 -- ---- the merge
--- the edges and second ends before two numbers are merged into vertices, each before all edges and ends that are left
-pub record AreMerged (cs : List Counted) (ends points : List Pt) (flags : List Bool) (next past : ℕ) : Type 0 where
+-- the first ends of edges
+abbrev firsts : List Counted → List Pt
+firsts cs = map (λ c. c.edge.p) cs
+
+-- a point is a first end of an edge, or one of the ends
+abbrev IsAmong : List Counted → List Pt → Pt → Type 0
+IsAmong cs ends v = Contains (firsts cs) v ⊎ Contains ends v
+
+-- the edges and ends before two numbers are merged into points, each before all edges and ends that are left
+pub record AreMergedTo (cs : List Counted) (ends points : List Pt) (endings : List Ending) (next past : ℕ) : Type 0 where
   pub next_within : next ≤ length cs
   pub past_within : past ≤ length ends
   pub ascending : AllPairs IsBefore points
@@ -142,11 +117,12 @@ pub record AreMerged (cs : List Counted) (ends points : List Pt) (flags : List B
   pub ends_left : All (λ u. AllWithin (λ q. IsBefore u q) ends past (length ends)) points
   pub begun : AllWithin (λ c. Contains points c.edge.p) cs 0 next
   pub ended : AllWithin (Contains points) ends 0 past
-  pub vertices : All (IsVertexOf (edges_of cs)) points
-  pub told : TellOnce (edges_of cs) points flags
+  pub among : All (IsAmong cs ends) points
+  pub long : length endings ≡ length points
+  pub each : (k : ℕ) (u : Pt) → k < length points → get_or endings k Other ≡ ending_of (ends_at (get_or points k u) ends)
 
-pub none_merged : (cs : List Counted) (ends points : List Pt) (flags : List Bool) → points ≡ [] → flags ≡ [] → AreMerged cs ends points flags 0 0
-none_merged cs ends points flags none unflagged = subst (λ ps. AreMerged cs ends ps flags 0 0) (sym none) (subst (λ bs. AreMerged cs ends [] bs 0 0) (sym unflagged) (record {
+pub none_merged : (cs : List Counted) (ends points : List Pt) (endings : List Ending) → points ≡ [] → endings ≡ [] → AreMergedTo cs ends points endings 0 0
+none_merged cs ends points endings none untold = subst (λ ps. AreMergedTo cs ends ps endings 0 0) (sym none) (subst (λ ts. AreMergedTo cs ends [] ts 0 0) (sym untold) (record {
   next_within = omega arith;
   past_within = omega arith;
   ascending = λ i j d l m. absurd (omega (arith, m));
@@ -154,8 +130,9 @@ none_merged cs ends points flags none unflagged = subst (λ ps. AreMerged cs end
   ends_left = All-nil (λ u. AllWithin (λ q. IsBefore u q) ends 0 (length ends));
   begun = λ k d l m. absurd (omega (arith, m));
   ended = λ k d l m. absurd (omega (arith, m));
-  vertices = All-nil (IsVertexOf (edges_of cs));
-  told = record { long = refl; once = λ k u l. absurd (omega (arith, l)) };
+  among = All-nil (IsAmong cs ends);
+  long = refl;
+  each = λ k u l. absurd (omega (arith, l));
 }))
 
 -- a point up to another and the other way round is it
@@ -172,17 +149,14 @@ item_of : {X : Type 0} (xs : List X) (n : ℕ) → n < length xs → X
 item_of [] n l = absurd (omega (arith, l))
 item_of (x ∷ xs) n l = x
 
-end_is_vertex : (cs : List Counted) (v : Pt) → Contains (seconds cs) v → IsVertexOf (edges_of cs) v
-end_is_vertex cs v h =
-    let k = in_map (λ (c : Counted). c.edge.q) cs v (contains_in (seconds cs) v h) in
-    record { edge = k.0.edge; inside = edge_among cs k.0 (in_contains cs k.0 k.1); ends = inr (sym k.2) }
+first_among : (cs : List Counted) (c : Counted) → Contains cs c → Contains (firsts cs) c.edge.p
+first_among cs c h = in_contains (firsts cs) c.edge.p (map_in (λ (t : Counted). t.edge.p) cs c (contains_in cs c h))
 
--- the step to the vertex v, which is the lesser of the first end of the next edge and the next second end; the numbers behind it are next' and past'
-pub record IsStep (cs : List Counted) (ends : List Pt) (next past : ℕ) (end v : Pt) (next' past' : ℕ) : Type 0 where
-  pub at_end : (d : Pt) → get_or ends past d ≡ end
-  pub upto_end : IsUpTo v end
+-- the step to the point v, which is the lesser of the first end of the next edge and the next end; the numbers behind it are next' and past'
+pub record IsStep (cs : List Counted) (ends : List Pt) (next past : ℕ) (v : Pt) (next' past' : ℕ) : Type 0 where
+  pub upto_end : (d : Pt) → past < length ends → IsUpTo v (get_or ends past d)
   pub upto_edge : (c : Counted) → next < length cs → IsUpTo v (get_or cs next c).edge.p
-  pub either : (v ≡ end) ⊎ ((next < length cs) × ((c : Counted) → v ≡ (get_or cs next c).edge.p))
+  pub either : ((past < length ends) × ((d : Pt) → v ≡ get_or ends past d)) ⊎ ((next < length cs) × ((c : Counted) → v ≡ (get_or cs next c).edge.p))
   pub next_later : next ≤ next'
   pub next_inside : next' ≤ length cs
   pub begun : AllWithin (λ c. IsUpTo c.edge.p v) cs next next'
@@ -192,12 +166,23 @@ pub record IsStep (cs : List Counted) (ends : List Pt) (next past : ℕ) (end v 
   pub ended : AllWithin (λ q. IsUpTo q v) ends past past'
   pub others_past : AllWithin (λ q. IsBefore v q) ends past' (length ends)
 
-module _ (cs : List Counted) (ends points : List Pt) (flags : List Bool) (next past : ℕ) (ascending : AllPairs (λ c d. IsEdgeBefore c.edge d.edge) cs) (moved : IsPermutation (seconds cs) ends) (sorted : AllPairs IsUpTo ends)
-    (m : AreMerged cs ends points flags next past) (some : past < length ends) (end v : Pt) (next' past' : ℕ) (step : IsStep cs ends next past end v next' past') where
+module _ (cs : List Counted) (ends : List Pt) (next past : ℕ) (v : Pt) (next' past' : ℕ) (step : IsStep cs ends next past v next' past') where
+  -- an edge or an end is passed
+  further : (next < next') ⊎ (past < past')
+  further = ⊎_elim
+      (λ e. inr (⊎_elim (λ s. s) (λ s. absurd (before_itself v (let P : Pt → Type 0 = λ t. IsBefore v t in subst P (sym (e.1 v)) (step.others_past past v (omega (arith, s)) e.0)))) (le_cases past past' step.past_later)))
+      (λ e. inl (⊎_elim (λ s. s) (λ s. absurd (before_itself v (let c = item_of cs next e.0 in let P : Pt → Type 0 = λ t. IsBefore v t in subst P (sym (e.1 c)) (step.edges_past next c (omega (arith, s)) e.0)))) (le_cases next next' step.next_later)))
+      step.either
+
+  pub fewer_left : (length cs - next') + (length ends - past') < (length cs - next) + (length ends - past)
+  fewer_left = ⊎_elim (λ s. omega (arith, s, step.next_inside, step.past_later, step.past_inside)) (λ s. omega (arith, s, step.next_later, step.next_inside, step.past_inside)) further
+
+module _ (cs : List Counted) (ends points : List Pt) (endings : List Ending) (next past : ℕ) (ascending : AllPairs (λ c d. IsEdgeBefore c.edge d.edge) cs) (sorted : AllPairs IsUpTo ends)
+    (m : AreMergedTo cs ends points endings next past) (v : Pt) (next' past' : ℕ) (step : IsStep cs ends next past v next' past') where
   -- the points before v
   before_v : All (λ u. IsBefore u v) points
   before_v k d l = ⊎_elim
-      (λ e. let P : Pt → Type 0 = λ t. IsBefore (get_or points k d) t in subst P (step.at_end d ∙ sym e) (m.ends_left k d l past d (omega arith) some))
+      (λ e. let P : Pt → Type 0 = λ t. IsBefore (get_or points k d) t in subst P (sym (e.1 d)) (m.ends_left k d l past d (omega arith) e.0))
       (λ e. let P : Pt → Type 0 = λ t. IsBefore (get_or points k d) t in let c = item_of cs next e.0 in subst P (sym (e.1 c)) (m.edges_left k d l next c (omega arith) e.0))
       step.either
 
@@ -213,52 +198,36 @@ module _ (cs : List Counted) (ends points : List Pt) (flags : List Bool) (next p
       (le_cases next k l)))
 
   ends_are : AllWithin (λ q. q ≡ v) ends past past'
-  ends_are k d l h =
-      let P : Pt → Type 0 = λ t. IsUpTo v t in
-      upto_same (get_or ends k d) v (step.ended k d l h) (upto_trans v (get_or ends past d) (get_or ends k d)
-      (subst P (sym (step.at_end d)) step.upto_end) (upto_later ends sorted past k d l (omega (arith, h, step.past_inside))))
+  ends_are k d l h = upto_same (get_or ends k d) v (step.ended k d l h) (upto_trans v (get_or ends past d) (get_or ends k d)
+      (step.upto_end d (omega (arith, l, h, step.past_inside)))
+      (upto_later ends sorted past k d l (omega (arith, h, step.past_inside))))
 
-  v_is_vertex : IsVertexOf (edges_of cs) v
-  v_is_vertex = ⊎_elim
-      (λ e. end_is_vertex cs v (Contains-permutation ends (seconds cs) v (IsPermutation-sym (seconds cs) ends moved) (past, some, step.at_end v ∙ sym e)))
-      (λ e. let c = get_or cs next (item_of cs next e.0) in record { edge = c.edge; inside = edge_among cs c (next, e.0, get_or_default cs next c (item_of cs next e.0) e.0); ends = inl (e.1 (item_of cs next e.0)) })
+  v_among : IsAmong cs ends v
+  v_among = ⊎_elim
+      (λ e. inr (past, e.0, sym (e.1 v)))
+      (λ e. let r = item_of cs next e.0 in let c = get_or cs next r in let P : Pt → Type 0 = Contains (firsts cs) in
+      inl (subst P (sym (e.1 r)) (first_among cs c (next, e.0, get_or_default cs next c r e.0))))
       step.either
 
-  -- so many edges end at v
-  ending : count_by (λ (e : Edge). same_point e.q v) (edges_of cs) ≡ past' - past
-  ending = edges_ending cs v ∙ sym same
-      ∙ count_between (λ q. same_point q v) ends past past' step.past_later step.past_inside
+  -- so many ends are v
+  ending : ends_at v ends ≡ past' - past
+  ending = count_between (λ q. same_point q v) ends past past' step.past_later step.past_inside
       (λ k d l h. differs (get_or ends k d) v (λ e. before_itself v (let P : Pt → Type 0 = λ t. IsBefore t v in subst P e (ends_before k d l h))))
       (λ k d l h. same_point_of (get_or ends k d) v (ends_are k d l h))
       (λ k d l h. differs (get_or ends k d) v (λ e. before_itself v (let P : Pt → Type 0 = λ t. IsBefore v t in subst P e (step.others_past k d l h))))
+
+  still_each : (k : ℕ) (u : Pt) → k < length (points ++ v ∷ []) → get_or (endings ++ ending_of (past' - past) ∷ []) k Other ≡ ending_of (ends_at (get_or (points ++ v ∷ []) k u) ends)
+  still_each k u l = ⊎_elim
+      (λ h. get_or_append_left endings (ending_of (past' - past) ∷ []) Other k (omega (arith, h, m.long)) ∙ m.each k u h ∙ ap ending_at (sym (get_or_append_left points (v ∷ []) u k h)))
+      (λ h. let at : length points ≡ k = omega (arith, h, l, length_push points v) in get_or_push endings (ending_of (past' - past)) Other k (m.long ∙ at)
+      ∙ ap ending_of (sym ending) ∙ ap ending_at (sym (get_or_push points v u k at)))
+      (cases_lt k (length points))
     where
-      same : ends_at v ends ≡ ends_at v (seconds cs)
-      same = sum_by-IsPermutation (λ p. cond (same_point p v) 1 0) (seconds cs) ends moved
+      ending_at : Pt → Ending
+      ending_at w = ending_of (ends_at w ends)
 
-  further : (next < next') ⊎ (past < past')
-  further = ⊎_elim
-      (λ e. inr (⊎_elim (λ s. s) (λ s. absurd (before_itself v (let P : Pt → Type 0 = λ t. IsBefore v t in subst P (step.at_end v ∙ sym e) (step.others_past past v (omega (arith, s)) some)))) (le_cases past past' step.past_later)))
-      (λ e. inl (⊎_elim (λ s. s) (λ s. absurd (before_itself v (let c = item_of cs next e.0 in let P : Pt → Type 0 = λ t. IsBefore v t in subst P (sym (e.1 c)) (step.edges_past next c (omega (arith, s)) e.0)))) (le_cases next next' step.next_later)))
-      step.either
-
-  pub fewer_left : (length cs - next') + (length ends - past') < (length cs - next) + (length ends - past)
-  fewer_left = ⊎_elim (λ s. omega (arith, s, step.next_inside, step.past_later, step.past_inside)) (λ s. omega (arith, s, step.next_later, step.next_inside, step.past_inside)) further
-
-  still_told : TellOnce (edges_of cs) (points ++ v ∷ []) (flags ++ (past' - past == 1) ∷ [])
-  still_told = record {
-    long = length_push flags (past' - past == 1) ∙ ap (λ n. n + 1) m.told.long ∙ sym (length_push points v);
-    once = λ k u l. ⊎_elim
-        (λ h. get_or_append_left flags ((past' - past == 1) ∷ []) false k (omega (arith, h, m.told.long)) ∙ m.told.once k u h ∙ ap ends_once (sym (get_or_append_left points (v ∷ []) u k h)))
-        (λ h. let at : length points ≡ k = omega (arith, h, l, length_push points v) in get_or_push flags (past' - past == 1) false k (m.told.long ∙ at)
-        ∙ ap (λ n. n == 1) (sym ending) ∙ ap ends_once (sym (get_or_push points v u k at)))
-        (cases_lt k (length points));
-  }
-    where
-      ends_once : Pt → Bool
-      ends_once w = count_by (λ (e : Edge). same_point e.q w) (edges_of cs) == 1
-
-  pub more_merged : (more : List Pt) (next_flags : List Bool) → more ≡ points ++ v ∷ [] → next_flags ≡ flags ++ (past' - past == 1) ∷ [] → AreMerged cs ends more next_flags next' past'
-  more_merged more next_flags are flagged = subst (λ ps. AreMerged cs ends ps next_flags next' past') (sym are) (subst (λ bs. AreMerged cs ends (points ++ v ∷ []) bs next' past') (sym flagged) (record {
+  pub more_merged : (more : List Pt) (told : List Ending) → more ≡ points ++ v ∷ [] → told ≡ endings ++ ending_of (past' - past) ∷ [] → AreMergedTo cs ends more told next' past'
+  more_merged more told are tell = subst (λ ps. AreMergedTo cs ends ps told next' past') (sym are) (subst (λ ts. AreMergedTo cs ends (points ++ v ∷ []) ts next' past') (sym tell) (record {
     next_within = step.next_inside;
     past_within = step.past_inside;
     ascending = all_pairs_push IsBefore points v m.ascending before_v;
@@ -274,38 +243,27 @@ module _ (cs : List Counted) (ends points : List Pt) (flags : List Bool) (next p
         (λ s. Contains-append_left points (v ∷ []) (get_or ends k d) (m.ended k d l s))
         (λ s. let P : Pt → Type 0 = Contains (points ++ v ∷ []) in subst P (sym (ends_are k d s h)) (Contains-push points v))
         (cases_lt k past);
-    vertices = All-append (IsVertexOf (edges_of cs)) points (v ∷ []) m.vertices (All-cons (IsVertexOf (edges_of cs)) v [] v_is_vertex (All-nil (IsVertexOf (edges_of cs))));
-    told = still_told;
+    among = All-append (IsAmong cs ends) points (v ∷ []) m.among (All-cons (IsAmong cs ends) v [] v_among (All-nil (IsAmong cs ends)));
+    long = length_push endings (ending_of (past' - past)) ∙ ap (λ n. n + 1) m.long ∙ sym (length_push points v);
+    each = still_each;
   }))
 
--- once all second ends are merged, all edges have begun
-pub all_merged : (cs : List Counted) (ends points : List Pt) (flags : List Bool) (next past : ℕ) → IsPermutation (seconds cs) ends → AreMerged cs ends points flags next past → length ends ≤ past → AreVertices (edges_of cs) points
-all_merged cs ends points flags next past moved m end = record {
+-- once no edge and no end is left, all are merged
+pub all_merged : (cs : List Counted) (ends points : List Pt) (endings : List Ending) (next past : ℕ) → AreMergedTo cs ends points endings next past → length cs ≤ next → length ends ≤ past → AreMerged (firsts cs) ends points endings
+all_merged cs ends points endings next past m begun ended = record {
   ascending = m.ascending;
-  exact = λ v. ((λ h. All-contains (IsVertexOf (edges_of cs)) points v m.vertices h), there v);
+  exact = λ v. ((λ h. All-contains (IsAmong cs ends) points v m.among h), ⊎_elim (first v) (end v));
+  long = m.long;
+  each = m.each;
 }
   where
-    second : (c : Counted) → In c cs → Contains points c.edge.q
-    second c i =
-        let h = Contains-permutation (seconds cs) ends c.edge.q moved (in_contains (seconds cs) c.edge.q (map_in (λ (t : Counted). t.edge.q) cs c i)) in
-        let P : Pt → Type 0 = Contains points in
-        subst P h.2 (m.ended h.0 c.edge.q (omega arith) (omega (arith, h.1, end)))
-
-    first : (c : Counted) → In c cs → Contains points c.edge.p
-    first c i =
-        let h = in_contains cs c i in
+    first : (v : Pt) → Contains (firsts cs) v → Contains points v
+    first v i =
+        let k = in_map (λ (t : Counted). t.edge.p) cs v (contains_in (firsts cs) v i) in
+        let h = in_contains cs k.0 k.1 in
         let P : Counted → Type 0 = λ t. Contains points t.edge.p in
-        let Q : Counted → Type 0 = λ t. IsBefore c.edge.q t.edge.p in
-        ⊎_elim
-        (λ s. subst P h.2 (m.begun h.0 c (omega arith) s))
-        (λ s. absurd (before_strict c.edge.p c.edge.q c.edge.ordered (subst Q h.2 (All-contains (λ u. AllWithin (λ (t : Counted). IsBefore u t.edge.p) cs next (length cs)) points c.edge.q m.edges_left (second c i) h.0 c s h.1))))
-        (cases_lt h.0 next)
+        let Q : Pt → Type 0 = Contains points in
+        subst Q k.2 (subst P h.2 (m.begun h.0 k.0 (omega arith) (omega (arith, h.1, begun))))
 
-    there : (v : Pt) → IsVertexOf (edges_of cs) v → Contains points v
-    there v x =
-        let k = in_map (λ (t : Counted). t.edge) cs x.edge (contains_in (edges_of cs) x.edge x.inside) in
-        let P : Pt → Type 0 = Contains points in
-        ⊎_elim
-        (λ e. subst P (ap (λ (t : Edge). t.p) k.2 ∙ sym e) (first k.0 k.1))
-        (λ e. subst P (ap (λ (t : Edge). t.q) k.2 ∙ sym e) (second k.0 k.1))
-        x.ends
+    end : (v : Pt) → Contains ends v → Contains points v
+    end v h = let P : Pt → Type 0 = Contains points in subst P h.2 (m.ended h.0 v (omega arith) (omega (arith, h.1, ended)))

@@ -1,18 +1,13 @@
--- What the parts of a list give, one behind another, such as the ends of some edges.
-use Rattle.std.proofs.Common.{◌≡◌, ⊎_elim, ℕ, zero, suc, ◌+◌, ◌-◌, ◌≤◌, List, [], ◌∷◌, ◌++◌, length, take, drop, flat_map, refl, sym, ap, ◌∙◌, subst, arith}
-use Rattle.std.specs.List.{AllZip, Contains}
+-- The parts of a list, one behind another, and the ends of the edges of two parts.
+use Rattle.std.proofs.Common.{◌≡◌, ⊎_elim, ℕ, zero, suc, ◌+◌, ◌-◌, ◌≤◌, List, [], ◌∷◌, ◌++◌, length, take, drop, refl, sym, ap, ◌∙◌, subst, arith}
+use Rattle.std.specs.List.{Contains}
 use Rattle.std.specs.Prelude.{slice_range}
 use Rattle.std.proofs.lemmas.List.{map-append, take_all}
 use Rattle.std.proofs.lemmas.List.Elements.{Contains-append_cases, Contains-append_left, Contains-append_right}
-use Rattle.std.specs.List.Sorted.{IsPermutation}
-use Rattle.std.proofs.lemmas.List.Sorted.{Contains-permutation, IsPermutation-sym}
 use Rattle.geom.specs.declared.point.Pt.{Pt}
 use Rattle.geom.specs.declared.edge.Edge.{Edge}
 use Rattle.geom.specs.declared.edge.Counted.{Counted}
 use Rattle.geom.specs.Rounded.{edges_of}
-use Rattle.hands.specs.declared.part.Part.{Part}
-use Rattle.hands.specs.Consecutive.{ArePartsOf}
-use Rattle.hands.proofs.Consecutive.{behind_one_another}
 use Rattle.label_sweep.specs.Status.{AreEnds, IsVertexOf}
 
 -- ---- slices
@@ -44,19 +39,7 @@ module _ {X : Type 0} where
   pub all_sliced : (xs : List X) (n : ℕ) → n ≡ length xs → slice_range xs 0 n ≡ xs
   all_sliced xs n e = take_all (n - 0) xs (omega (arith, e))
 
--- what holds of no items, and of those of two lists one behind another, holds of all items by their parts
-pub of_slices : {X Y V : Type 0} (items : V → List Y) (Holds : List X → List Y → Type 0) → Holds [] [] → ((xs more : List X) (ys rest : List Y) → Holds xs ys → Holds more rest → Holds (xs ++ more) (ys ++ rest))
-    → (xs : List X) (ps : List Part) (vs : List V) → ArePartsOf 0 (length xs) ps → AllZip (λ (p : Part) v. Holds (slice_range xs p.from p.past) (items v)) ps vs → Holds xs (flat_map items vs)
-of_slices items Holds none both xs ps vs parts zip = subst (λ t. Holds t (flat_map items vs)) (all_sliced xs (length xs) refl)
-    (behind_one_another items (λ a b ys. Holds (slice_range xs a b) ys)
-    (λ a. subst (λ t. Holds t []) (sym (none_sliced xs a)) none)
-    (λ a b c ys rest low high h i. subst (λ t. Holds t (ys ++ rest)) (sym (slice_behind xs a b c low high)) (both (slice_range xs a b) (slice_range xs b c) ys rest h i))
-    0 (length xs) ps vs parts zip)
-
 -- ---- the ends of two parts of the edges
-pub no_ends : AreEnds (edges_of []) []
-no_ends v = ((λ i. absurd (omega (arith, i.1))), (λ x. absurd (omega (arith, x.inside.1))))
-
 pub more_ends : (cs ds : List Counted) (vs ws : List Pt) → AreEnds (edges_of cs) vs → AreEnds (edges_of ds) ws → AreEnds (edges_of (cs ++ ds)) (vs ++ ws)
 more_ends cs ds vs ws a b v = (
   (λ h. ⊎_elim (λ i. of_front ((a v).0 i)) (λ i. of_back ((b v).0 i)) (Contains-append_cases vs ws v h)),
@@ -74,6 +57,3 @@ more_ends cs ds vs ws a b v = (
 
     of_back : IsVertexOf (edges_of ds) v → IsVertexOf (edges_of (cs ++ ds)) v
     of_back x = record { edge = x.edge; inside = subst (λ (es : List Edge). Contains es x.edge) (sym parts) (Contains-append_right (edges_of cs) (edges_of ds) x.edge x.inside); ends = x.ends }
-
-pub same_ends : (es : List Edge) (vs ws : List Pt) → IsPermutation vs ws → AreEnds es vs → AreEnds es ws
-same_ends es vs ws p a v = ((λ i. (a v).0 (Contains-permutation ws vs v (IsPermutation-sym vs ws p) i)), (λ x. Contains-permutation vs ws v p ((a v).1 x)))

@@ -30,7 +30,8 @@ use Rattle.label_sweep.specs.declared.standing.LabelledEdge.{LabelledEdge}
 use Rattle.label_sweep.specs.declared.status.Status.{Status}
 use Rattle.label_sweep.specs.Chunks.{AreChunks, joined}
 use Rattle.label_sweep.specs.Labels.{AreEnded, IsLabelled, IsSweptTo, IsSweptUpTo, beyond, labelled_of, labels_from, parities_at, xor}
-use Rattle.label_sweep.specs.Leaving.{AreAround, EndsOnce, HaveUpright, HaveUprightTo, IsPast, IsReadyAt}
+use Rattle.label_sweep.specs.Endings.{EndsOnce}
+use Rattle.label_sweep.specs.Leaving.{AreAround, HaveUpright, HaveUprightTo, IsPast, IsReadyAt}
 use Rattle.label_sweep.specs.Slots.{HaveEnded, IsKept, all_standing, in_slot, nowhere, numbers}
 use Rattle.label_sweep.specs.Status.{AreFresh, AreSpokes, AreStanding, GoesOn, IsRangeAt, IsSteeper, IsUnder, IsVertexOf, Reaches}
 use Rattle.label_sweep.proofs.Members.{all_of_in, in_of_all, pairs_of_map}
@@ -125,13 +126,13 @@ module _ (cs own : List Counted) (v : Pt) (from : ℕ) (r : IsRangeAt cs own v f
   }
 
 -- ---- the one edge that ends there, and what stands below and above it
-level_at_end : (e : Edge) (v : Pt) → e.q ≡ v → side e.p e.q v ≡ pos 0
+pub level_at_end : (e : Edge) (v : Pt) → e.q ≡ v → side e.p e.q v ≡ pos 0
 level_at_end e v h = subst (λ (w : Pt). side e.p e.q w ≡ pos 0) h (level_there (e.q.x -ℤ e.p.x) (e.q.y -ℤ e.p.y))
 
-from_zero : (x : ℤ) → pos 0 ≤ℤ x → ¬ (x ≡ pos 0) → pos 0 <ℤ x
+pub from_zero : (x : ℤ) → pos 0 ≤ℤ x → ¬ (x ≡ pos 0) → pos 0 <ℤ x
 from_zero x h n = omega (arith, ints)
 
-not_from_zero : (x : ℤ) → ¬ (pos 0 <ℤ x) → ¬ (x ≡ pos 0) → x <ℤ pos 0
+pub not_from_zero : (x : ℤ) → ¬ (pos 0 <ℤ x) → ¬ (x ≡ pos 0) → x <ℤ pos 0
 not_from_zero x h n = by_sign x (λ l. l) (λ e. absurd (n e)) (λ l. absurd (h l))
 
 at_most : (x : ℤ) → x ≡ pos 0 → pos 0 ≤ℤ x
@@ -209,11 +210,11 @@ module _ (cs : List Counted) (h : AreLayers cs) (v : Pt) (x : IsVertexOf (edges_
 
 -- ---- the slots
 module _ (slots : List StandingEdge) (n : ℕ) (inside : n < length slots) (k : StandingEdge) where
-  others_stay : (ns : List ℕ) → ¬ (In n ns) → map (in_slot (set slots n k)) ns ≡ map (in_slot slots) ns
+  pub others_stay : (ns : List ℕ) → ¬ (In n ns) → map (in_slot (set slots n k)) ns ≡ map (in_slot slots) ns
   others_stay [] h = refl
   others_stay (m ∷ ns) h = ap (λ t. t ∷ map (in_slot (set slots n k)) ns) (get_or-set_other slots n m k nowhere (λ e. h (inl e))) ∙ ap (λ t. in_slot slots m ∷ t) (others_stay ns (λ i. h (inr i)))
 
-  one_changes : (before behind : List ℕ) → ¬ (In n before) → ¬ (In n behind) → map (in_slot (set slots n k)) (before ++ (n ∷ behind)) ≡ map (in_slot slots) before ++ (k ∷ map (in_slot slots) behind)
+  pub one_changes : (before behind : List ℕ) → ¬ (In n before) → ¬ (In n behind) → map (in_slot (set slots n k)) (before ++ (n ∷ behind)) ≡ map (in_slot slots) before ++ (k ∷ map (in_slot slots) behind)
   one_changes before behind h i = map-append (in_slot (set slots n k)) before (n ∷ behind)
       ∙ ap (λ t. t ++ (in_slot (set slots n k) n ∷ map (in_slot (set slots n k)) behind)) (others_stay before h)
       ∙ ap (λ t. map (in_slot slots) before ++ (t ∷ map (in_slot (set slots n k)) behind)) (get_or-set_same slots n k nowhere inside)
@@ -226,6 +227,10 @@ one_stands status kept v free n l ends = ⊎_elim (λ i. i)
     (λ i. absurd (before_itself v (subst (λ (w : Pt). IsBefore w v) ends (in_of_all (λ i. IsBefore (in_slot status.slots.items i).spoke.one.edge.q v) status.free.items free n i))))
     (in_append (numbers status) status.free.items n (contains_in (numbers status ++ status.free.items) n (kept.all n l)))
 
+-- those that have ended before v have ended at v or before
+pub ended_before : {A : Type 0} (v : Pt) (status : Status A) → All (λ i. IsBefore (in_slot status.slots.items i).spoke.one.edge.q v) status.free.items → HaveEnded v status
+ended_before v status h = λ k d l. inr (h k d l)
+
 module _ {A : Type 0} (old changed : Status A) (n : ℕ) (k : StandingEdge) (chunks : changed.chunks ≡ old.chunks) (free : changed.free ≡ old.free) (slots : changed.slots.items ≡ set old.slots.items n k)
     (kept : IsKept old) (inside : n < length old.slots.items) (a : IsAround n (numbers old)) where
   abbrev stand : List ℕ → List StandingEdge
@@ -235,10 +240,10 @@ module _ {A : Type 0} (old changed : Status A) (n : ℕ) (k : StandingEdge) (chu
   apart = let P : List ℕ → Type 0 = λ ns. AllPairs (λ i j. ¬ (i ≡ j)) ns in
       subst P (ap (λ t. t ++ old.free.items) a.is ∙ append_assoc a.before (n ∷ a.behind) old.free.items) kept.apart
 
-  not_before : ¬ (In n a.before)
+  pub not_before : ¬ (In n a.before)
   not_before i = pairs_before (λ i j. ¬ (i ≡ j)) a.before (a.behind ++ old.free.items) n apart n i refl
 
-  not_behind : ¬ (In n (a.behind ++ old.free.items))
+  pub not_behind : ¬ (In n (a.behind ++ old.free.items))
   not_behind i = pairs_behind (λ i j. ¬ (i ≡ j)) a.before (a.behind ++ old.free.items) n apart n i refl
 
   pub stood : all_standing old ≡ stand a.before ++ (in_slot old.slots.items n ∷ stand a.behind)
@@ -251,7 +256,7 @@ module _ {A : Type 0} (old changed : Status A) (n : ℕ) (k : StandingEdge) (chu
   same_numbers : numbers changed ++ changed.free.items ≡ numbers old ++ old.free.items
   same_numbers = ap (λ t. joined t.items ++ changed.free.items) chunks ∙ ap (λ t. numbers old ++ t.items) free
 
-  same_length : length changed.slots.items ≡ length old.slots.items
+  pub same_length : length changed.slots.items ≡ length old.slots.items
   same_length = ap length slots ∙ length-set old.slots.items n k
 
   pub kept_on : IsKept changed
@@ -262,7 +267,7 @@ module _ {A : Type 0} (old changed : Status A) (n : ℕ) (k : StandingEdge) (chu
     all = λ i l. subst (λ (t : List ℕ). Contains t i) (sym same_numbers) (kept.all i (subst (λ (m : ℕ). i < m) same_length l));
   }
 
-  pub ended_on : (v : Pt) → All (λ i. IsBefore (in_slot old.slots.items i).spoke.one.edge.q v) old.free.items → HaveEnded v changed
+  pub ended_on : (v : Pt) → HaveEnded v old → HaveEnded v changed
   ended_on v ends = subst (λ t. All (λ i. IsUpTo (in_slot changed.slots.items i).spoke.one.edge.q v) t.items) (sym free)
       (subst (λ (t : List StandingEdge). All (λ i. IsUpTo (in_slot t i).spoke.one.edge.q v) old.free.items) (sym slots)
       (all_of_in (λ i. IsUpTo (in_slot (set old.slots.items n k) i).spoke.one.edge.q v) old.free.items ended))
@@ -270,7 +275,7 @@ module _ {A : Type 0} (old changed : Status A) (n : ℕ) (k : StandingEdge) (chu
       ended : (i : ℕ) → In i old.free.items → IsUpTo (in_slot (set old.slots.items n k) i).spoke.one.edge.q v
       ended i j = subst (λ (s : StandingEdge). IsUpTo s.spoke.one.edge.q v)
           (sym (get_or-set_other old.slots.items n i k nowhere (λ e. not_behind (in_back a.behind old.free.items n (subst (λ (m : ℕ). In m old.free.items) e j)))))
-          (inr (in_of_all (λ i. IsBefore (in_slot old.slots.items i).spoke.one.edge.q v) old.free.items ends i j))
+          (in_of_all (λ i. IsUpTo (in_slot old.slots.items i).spoke.one.edge.q v) old.free.items ends i j)
 
 -- ---- the labels
 xor_twice : (a b : Bool) → xor (xor a b) b ≡ a
@@ -400,7 +405,7 @@ module _ {A : Type 0} (cs own : List Counted) (v : Pt) (from : ℕ) (old : Statu
         (subst (λ (d : Counted). AreFresh (edges_of cs) v (d.edge ∷ [])) (sym one) (one_fresh cs own v from begin c is slopes))
         (subst (λ (d : Counted). k.under ≡ parities_at cs (right_side d.edge.p d.edge.q)) (sym one) (under ∙ right_is cs own h v from begin once c is slopes s s_inside s_reaches.slopes ends s_under)));
     kept = kept_on old changed n k chunks free slots r.at.kept inside around;
-    free = ended_on old changed n k chunks free slots r.at.kept inside around v r.free;
+    free = ended_on old changed n k chunks free slots r.at.kept inside around v (ended_before v old r.free);
     upright = no_upright cs own h v from begin once c is slopes s s_inside s_reaches.slopes ends s_under;
   }
     where
@@ -408,15 +413,16 @@ module _ {A : Type 0} (cs own : List Counted) (v : Pt) (from : ℕ) (old : Statu
       b = begins cs own v from begin c is
 
 -- ---- at any vertex, by turning
-pub ended_before : {A : Type 0} (v : Pt) (status : Status A) → All (λ i. IsBefore (in_slot status.slots.items i).spoke.one.edge.q v) status.free.items → HaveEnded v status
-ended_before v status h = λ k d l. inr (h k d l)
+-- the labels of the edges that begin there are listed
+pub begun_listed : (none now : List LabelledEdge) (at left : Parities) (ks ss : List Spoke) → none ≡ [] → now ≡ none ++ labels_from at ks → at ≡ left → ks ≡ ss → now ≡ labels_from left ss
+begun_listed none now at left ks ss h i j k = i ∙ ap (λ t. t ++ labels_from at ks) h ∙ ap (λ t. labels_from t ks) j ∙ ap (labels_from left) k
 
 ended_edges : (ss : List StandingEdge) → map (λ (l : LabelledEdge). l.edge) (map labelled_of ss) ≡ map edge_of ss
 ended_edges [] = refl
 ended_edges (s ∷ ss) = ap (λ t. edge_of s ∷ t) (ended_edges ss)
 
 module _ (cs : List Counted) (v : Pt) (left : Parities) (ss : List Spoke) (a : AreSpokes (edges_of cs) v (map edge_at ss)) (labels : All (IsLabelled cs) (labels_from left ss)) where
-  begun_in : (e : Edge) → Contains (edges_of cs) e → e.p ≡ v → Contains (map (λ (l : LabelledEdge). l.edge) (labels_from left ss)) e
+  pub begun_in : (e : Edge) → Contains (edges_of cs) e → e.p ≡ v → Contains (map (λ (l : LabelledEdge). l.edge) (labels_from left ss)) e
   begun_in e i b = subst (λ (es : List Edge). Contains es e) (sym (labels_edges left ss)) ((a.exact e).1 (i, b))
 
   pub upright_turned : HaveUpright cs v (labels_from left ss)

@@ -27,19 +27,30 @@ pub record AreCrossing (es : List Edge) (x : ℤ) (crossing : List Edge) : Type 
 abbrev pub BeginsColumn : List Edge → Pt → Type 0
 BeginsColumn es v = (u : Pt) → IsVertexOf es u → IsBefore u v → u.x <ℤ v.x
 
--- some vertices after one another, the first of which begins a column, as does the one behind them
-pub record IsStrip (es : List Edge) (vertices : List Pt) (strip : Part) : Type 0 where
-  pub order : strip.from ≤ strip.past
-  pub within : strip.past ≤ length vertices
-  pub column : (u : Pt) → strip.from < strip.past → BeginsColumn es (get_or vertices strip.from u)
-  pub next_column : (u : Pt) → strip.past < length vertices → BeginsColumn es (get_or vertices strip.past u)
+-- v lies in the column where the edge with a number begins, or on its right
+abbrev pub IsFromEdge : List Counted → ℕ → Pt → Type 0
+IsFromEdge counted n v = (n < length counted) × ((c : Counted) → (get_or counted n c).edge.p.x ≤ℤ v.x)
 
--- so many edges begin on the left of the vertex with this number, and all edges where there is none
-pub record AreLeftOf (counted : List Counted) (vertices : List Pt) (number n : ℕ) : Type 0 where
-  pub within : n ≤ length counted
-  pub left : (u : Pt) → number < length vertices → AllWithin (λ c. c.edge.p.x <ℤ (get_or vertices number u).x) counted 0 n
-  pub right : (u : Pt) → number < length vertices → AllWithin (λ c. (get_or vertices number u).x ≤ℤ c.edge.p.x) counted n (length counted)
-  pub past : length vertices ≤ number → n ≡ length counted
+-- v lies in the columns from that of one edge to before that of another one, or in all from there on, where there is no other one
+pub record LiesBetween (counted : List Counted) (from past : ℕ) (v : Pt) : Type 0 where
+  pub from_edge : IsFromEdge counted from v
+  pub to_edge : (c : Counted) → past < length counted → v.x <ℤ (get_or counted past c).edge.p.x
+
+-- the edges before the one with a number begin on the left of its column
+abbrev pub OpensColumn : List Counted → ℕ → Type 0
+OpensColumn counted n = (c : Counted) → n < length counted → AllWithin (λ d. d.edge.p.x <ℤ (get_or counted n c).edge.p.x) counted 0 n
+
+-- some edges after one another, the first of which opens a column, as does the one behind them
+pub record IsStrip (counted : List Counted) (strip : Part) : Type 0 where
+  pub order : strip.from ≤ strip.past
+  pub within : strip.past ≤ length counted
+  pub column : OpensColumn counted strip.from
+  pub next_column : OpensColumn counted strip.past
+
+-- the vertices in a strip's columns, ascending
+pub record AreVerticesBetween (counted : List Counted) (from past : ℕ) (vertices : List Pt) : Type 0 where
+  pub ascending : AllPairs IsBefore vertices
+  pub exact : (v : Pt) → Contains vertices v ↔ (IsVertexOf (edges_of counted) v × LiesBetween counted from past v)
 
 -- some edges of the list, ascending, with all that cross the column on the left of x
 pub record HaveCrossing (counted : List Counted) (x : ℤ) (some : List Counted) : Type 0 where

@@ -1,5 +1,5 @@
 -- The directed edges of a result that leave vertices (own).
-use Rattle.std.specs.Prelude.{ℕ, Bool, false, ◌≡◌, ◌⊎◌, ◌↔◌, ◌<◌, ◌&&◌, ◌++◌, List, [], ◌∷◌, All, AllPairs, Contains, ◌==◌, count_by, get_or, if◌then◌else◌, length, map}
+use Rattle.std.specs.Prelude.{ℕ, ◌≡◌, ◌⊎◌, ◌↔◌, ◌<◌, ◌&&◌, ◌++◌, List, [], ◌∷◌, All, AllPairs, Contains, if◌then◌else◌, length, map}
 use Rattle.geom.specs.declared.op.Op.{Op}
 use Rattle.geom.specs.declared.point.Pt.{Pt}
 use Rattle.geom.specs.declared.edge.Edge.{Edge}
@@ -9,8 +9,10 @@ use Rattle.geom.specs.Directed.{IsDirectedBefore, IsResultEdge, from_to}
 use Rattle.geom.specs.Order.{IsBefore}
 use Rattle.geom.specs.Rounded.{edges_of}
 use Rattle.geom.specs.Segments.{same_point}
+use Rattle.label_sweep.specs.declared.leaving.Seated.{Seated}
 use Rattle.label_sweep.specs.declared.standing.LabelledEdge.{LabelledEdge}
 use Rattle.label_sweep.specs.declared.status.Status.{Status}
+use Rattle.label_sweep.specs.Column.{LiesBetween}
 use Rattle.label_sweep.specs.Labels.{IsLabelled, IsSweepAt, IsSweptTo, directions_of}
 use Rattle.label_sweep.specs.Slots.{HaveEnded, IsKept, all_standing, in_slot}
 
@@ -19,14 +21,10 @@ pub record AreLeaving (op : Op) (counted : List Counted) (points : List Pt) (dir
   pub ascending : AllPairs IsDirectedBefore directed
   pub exact : (d : DirectedEdge) → Contains directed d ↔ (IsResultEdge op counted d × Contains points d.from)
 
--- at most one edge ends at v
-abbrev pub EndsOnce : List Edge → Pt → Type 0
-EndsOnce es v = (e f : Edge) → Contains es e → Contains es f → e.q ≡ v → f.q ≡ v → e ≡ f
-
--- for each vertex a flag, whether just one edge ends there
-pub record TellOnce (es : List Edge) (vertices : List Pt) (flags : List Bool) : Type 0 where
-  pub long : length flags ≡ length vertices
-  pub once : (k : ℕ) (u : Pt) → k < length vertices → get_or flags k false ≡ (count_by (λ e. same_point e.q (get_or vertices k u)) es == 1)
+-- those that leave points in a strip of columns, ascending
+pub record AreLeavingBetween (op : Op) (counted : List Counted) (from past : ℕ) (directed : List DirectedEdge) : Type 0 where
+  pub ascending : AllPairs IsDirectedBefore directed
+  pub exact : (d : DirectedEdge) → Contains directed d ↔ (IsResultEdge op counted d × LiesBetween counted from past d.from)
 
 -- labelled edges, those that have v as an end among them
 pub record AreAround (counted : List Counted) (v : Pt) (around : List LabelledEdge) : Type 0 where
@@ -47,6 +45,12 @@ pub record HaveUpright (counted : List Counted) (v : Pt) (labelled : List Labell
 pub record HaveUprightTo (counted : List Counted) (v : Pt) (labelled : List LabelledEdge) : Type 0 where
   pub each : All (IsLabelled counted) labelled
   pub all : (e : Edge) → Contains (edges_of counted) e → e.p.x ≡ e.q.x → e.q ≡ v → Contains (map (λ l. l.edge) labelled) e
+
+-- an edge in a slot that ends at v
+pub record IsSeatedTo {A : Type 0} (status : Status A) (v : Pt) (s : Seated) : Type 0 where
+  pub inside : s.number < length status.slots.items
+  pub there : in_slot status.slots.items s.number ≡ s.one
+  pub ends : s.one.spoke.one.edge.q ≡ v
 
 -- before the vertex v of layers: the sweep is there, the edges that free slots had have ended before v, and the upright edges that end at v are labelled
 pub record IsReadyAt {A : Type 0} (counted own : List Counted) (v : Pt) (from next : ℕ) (status : Status A) (began : List LabelledEdge) : Type 0 where

@@ -1,5 +1,6 @@
 pub mod Status
 pub mod Column
+pub mod Endings
 pub mod Heights
 pub mod Chunks
 pub mod Slots

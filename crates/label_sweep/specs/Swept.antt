@@ -1,5 +1,5 @@
 -- The edge beside each edge of a sweep (own): what lies on the left of the one lies on the right of the other.
-use Rattle.std.specs.Prelude.{◌≡◌, ◌⊎◌, Bool, false, List, [], ◌∷◌, Option, None, Some, All, AllPairs, Contains, map}
+use Rattle.std.specs.Prelude.{ℕ, ◌≡◌, ◌⊎◌, Bool, false, List, [], ◌∷◌, Option, None, Some, All, AllPairs, Contains, map}
 use Rattle.geom.specs.declared.point.Pt.{Pt}
 use Rattle.geom.specs.declared.segment.Source.{Source}
 use Rattle.geom.specs.declared.edge.Edge.{Edge}
@@ -10,6 +10,7 @@ use Rattle.geom.specs.ResultEdges.{left_side, right_side}
 use Rattle.geom.specs.Rounded.{edges_of, odd_edges}
 use Rattle.label_sweep.specs.declared.standing.Spoke.{Spoke}
 use Rattle.label_sweep.specs.declared.swept.SweptEdge.{SweptEdge}
+use Rattle.label_sweep.specs.Column.{LiesBetween}
 use Rattle.points_law.specs.Law.{AreLayers}
 
 -- the parity on the right of an edge, or none where there is no edge
@@ -46,6 +47,14 @@ pub record AreSweptFrom (es : List Edge) (points : List Pt) (swept : List SweptE
   pub only : All (λ s. Contains points s.edge.p) swept
   pub upward : AllPairs (λ s t. IsUpTo s.edge.p t.edge.p) swept
   pub behind : AreBehind es None swept
+
+-- those that begin in a strip of columns
+pub record AreSweptBetween (counted : List Counted) (from past : ℕ) (swept : List SweptEdge) : Type 0 where
+  pub each : All (IsBeside (edges_of counted)) swept
+  pub all : (e : Edge) → Contains (edges_of counted) e → LiesBetween counted from past e.p → Contains (map (λ s. s.edge) swept) e
+  pub only : All (λ s. LiesBetween counted from past s.edge.p) swept
+  pub upward : AllPairs (λ s t. IsUpTo s.edge.p t.edge.p) swept
+  pub behind : AreBehind (edges_of counted) None swept
 
 -- the edges that begin at one vertex, one after another, where this is the one beside the first
 abbrev pub besides_from : Option Edge → List Spoke → List SweptEdge

@@ -7,7 +7,6 @@ ghost use Rattle.points_law.specs.Law.{AreLayers};
 ghost use Rattle.label_sweep.specs.Labels.{directed_of, directions_of};
 
 use crate::changing::{changing_edges, most_change};
-use crate::second_ends::{second_ends, second_ends_in_parts, vertices_by_ends};
 use crate::standing::LabelledEdge;
 use crate::strips::{edges_in_parts, strip_edges};
 use geom::{Counted, Directed, DirectedEdge, NoMemory, Op, add_directions};
@@ -78,18 +77,15 @@ fn swept<A: Allocator + Copy>(
     requires { AreLayers counted.now }
     ensures { IfOk result (λ directed. AreResultEdges op counted.now directed) }
 {
-    let ends = second_ends(alloc, counted)?;
-    let vertices = vertices_by_ends(alloc, counted, &ends)?;
-    drop(ends);
     let all = Part {
         from: 0,
-        past: vertices.points.len(),
+        past: counted.len(),
     };
-    let edges = strip_edges(alloc, counted, &vertices, all, op)?;
+    let edges = strip_edges(alloc, counted, all, op)?;
     Ok(Directed::new(edges))
 }
 
-/// The same, by so many parts of the edges and of the vertices.
+/// The same, in so many strips.
 fn swept_in_parts<R: Threads + Sync, A: Allocator + Copy + Send + Sync>(
     rt: &R,
     alloc: A,
@@ -100,13 +96,7 @@ fn swept_in_parts<R: Threads + Sync, A: Allocator + Copy + Send + Sync>(
     requires { AreLayers counted.now }
     ensures { IfOk result (λ directed. AreResultEdges op counted.now directed) }
 {
-    if parts < 2 {
-        return swept(alloc, counted, op);
-    }
-    let ends = second_ends_in_parts(rt, alloc, parts, counted)?;
-    let vertices = vertices_by_ends(alloc, counted, &ends)?;
-    drop(ends);
-    let edges = edges_in_parts(rt, alloc, parts, counted, &vertices, op)?;
+    let edges = edges_in_parts(rt, alloc, parts, counted, op)?;
     Ok(Directed::new(edges))
 }
 

@@ -1,10 +1,11 @@
 //! The directed edges of a result that leave the vertices of a strip, in order: the sweep of `pass`, where most vertices are plain.
 //! 1. At a plain vertex one edge ends, and one begins that is not upright. The one takes the other's slot, and what lies on its left is what
-//!    lies on the other's left (`pass_on`). The slot is told by a table of the ends of what stands (`Hints`); where that doesn't know it, and at
-//!    all other vertices, the sweep turns (`turn`).
+//!    lies on the other's left (`pass_on`). Where two edges end and two begin, as at a crossing, so do the lower ones and the upper ones
+//!    (`pass_both`). The slots are told by a table of the ends of what stands (`Hints`); where that doesn't know them, and at all other vertices,
+//!    the sweep turns (`turn`).
 //! 2. The labels of the edges that begin or end at the vertex tell which directed edges leave it, and those are sorted (`leave`).
 
-ghost use Rattle.std.specs.Prelude.{◌≡◌, ◌+◌, ◌++◌, ◌∷◌, [], ◌<ℤ◌, All, AllPairs, IfOk, List, OnOk, false, get_or, true, flat_map, length, map};
+ghost use Rattle.std.specs.Prelude.{◌≡◌, ◌+◌, ◌++◌, ◌∷◌, [], ◌<ℤ◌, All, AllPairs, IfOk, IfSome, List, None, OnOk, Some, false, get_or, true, flat_map, length, map};
 ghost use Rattle.geom.specs.Limit.{AreInLimit};
 ghost use Rattle.geom.specs.Order.{IsBefore};
 ghost use Rattle.geom.specs.Rounded.{edges_of};
@@ -13,14 +14,19 @@ ghost use Rattle.geom.specs.declared.point.Pt.{Pt};
 ghost use Rattle.points_law.specs.Law.{AreLayers};
 ghost use Rattle.label_sweep.specs.Column.{BeginsStrip, IsStripOf};
 ghost use Rattle.label_sweep.specs.Labels.{IsSweptUpTo, labelled_of};
-ghost use Rattle.label_sweep.specs.Leaving.{AreAround, AreLeaving, EndsOnce, IsPast, IsReadyAt, TellOnce, leaving_of};
+ghost use Rattle.label_sweep.specs.Endings.{EndsOnce, EndsTwice, IsEnding, TellEndings};
+ghost use Rattle.label_sweep.specs.Leaving.{AreAround, AreLeaving, IsPast, IsReadyAt, IsSeatedTo, leaving_of};
 ghost use Rattle.label_sweep.specs.Slots.{IsKept, all_standing};
+ghost use Rattle.label_sweep.specs.Status.{IsSteeper};
+ghost use Rattle.label_sweep.specs.declared.leaving.Seated.{Seated};
 
 use crate::directed::put_in_order;
 use crate::pass::SweepLine;
+use crate::place::is_steeper;
+use crate::second_ends::Ending;
 use crate::standing::{LabelledEdge, Spoke, StandingEdge};
 use crate::status::parities_beside;
-use crate::turn::label;
+use crate::turn::{by_turn, label, stand};
 use crate::vertices::{last_of, place_of};
 use geom::{Counted, DirectedEdge, NoMemory, Op, Pt};
 use std::alloc::Allocator;
@@ -44,34 +50,45 @@ impl StandingEdge {
     }
 }
 
-/// A slot in which an edge may stand that ends at a point.
+/// The slots that were noted last for a place of a table.
+#[derive(Clone, Copy, Debug)]
+struct Noted {
+    last: u32,
+    before: u32,
+}
+
+/// Slots in which edges may stand that end at a point: two for each place of a table, which is cost alone.
 #[derive(Drop)]
 struct Hints<A: Allocator> {
-    slots: Vec<u32, A>,
+    places: Vec<Noted, A>,
 }
 
 impl<A: Allocator + Copy> Hints<A> {
     /// No slots, for so many edges.
     fn new(alloc: A, edges: usize) -> Result<Hints<A>, NoMemory> {
         let places = edges.saturating_mul(PLACES).min(MOST_PLACES);
+        let none = Noted { last: 0, before: 0 };
         Ok(Hints {
-            slots: vec![in alloc; 0u32; places]?,
+            places: vec![in alloc; none; places]?,
         })
     }
 
-    /// The slot that was noted last for the point's place in the table, or the first one.
-    fn slot(&self, v: Pt) -> u32 {
-        match self.slots.get(place_of(v, self.slots.len())) {
-            Some(number) => *number,
-            None => 0,
+    /// The slots that were noted last for the point's place in the table, or the first one.
+    fn slots(&self, v: Pt) -> Noted {
+        match self.places.get(place_of(v, self.places.len())) {
+            Some(noted) => *noted,
+            None => Noted { last: 0, before: 0 },
         }
     }
 
     /// Notes the slot of an edge that ends at a point.
     fn note(&mut self, v: Pt, number: u32) {
-        let place = place_of(v, self.slots.len());
-        if let Some(slot) = self.slots.get_mut(place) {
-            *slot = number;
+        let place = place_of(v, self.places.len());
+        if let Some(noted) = self.places.get_mut(place) {
+            *noted = Noted {
+                last: number,
+                before: noted.last,
+            };
         }
     }
 
@@ -81,6 +98,13 @@ impl<A: Allocator + Copy> Hints<A> {
             self.note(one.spoke.one.edge.q, *number);
         }
     }
+}
+
+/// An edge that stands, and the number of its slot.
+#[derive(Clone, Copy, Debug)]
+struct Seated {
+    number: u32,
+    one: StandingEdge,
 }
 
 /// Adds the directed edges along a labelled edge that bound the result and leave a vertex.
@@ -183,7 +207,7 @@ impl<A: Allocator + Copy> LeavingSweep<A> {
         ensures not_yet { IfOk result (λ done. done ≡ false → (self.new.line ≡ self.old.line) × (self.new.began ≡ self.old.began)) }
     {
         let one = own[from];
-        let number = self.hints.slot(v);
+        let number = self.hints.slots(v).last;
         let Some(old) = self.line.standing.slot(number) else {
             return Ok(false);
         };
@@ -208,6 +232,71 @@ impl<A: Allocator + Copy> LeavingSweep<A> {
         Ok(true)
     }
 
+    /// The two slots whose edges end at a vertex, that of the lower one first, where they are known.
+    fn ended_pair(&self, v: Pt) -> Option<(Seated, Seated)>
+        ensures lower { (low high : Seated) → result ≡ Some (low, high) → IsSeatedTo self.now.line.standing v low }
+        ensures upper { (low high : Seated) → result ≡ Some (low, high) → IsSeatedTo self.now.line.standing v high }
+        ensures order { (low high : Seated) → result ≡ Some (low, high) → IsSteeper low.one.spoke.one.edge high.one.spoke.one.edge }
+    {
+        let noted = self.hints.slots(v);
+        let one = self.ended(noted.last, v)?;
+        let other = self.ended(noted.before, v)?;
+        if is_steeper(&one.one.spoke, &other.one.spoke) {
+            Some((one, other))
+        } else if is_steeper(&other.one.spoke, &one.one.spoke) {
+            Some((other, one))
+        } else {
+            None
+        }
+    }
+
+    /// The edge in a slot, where it ends at a vertex.
+    fn ended(&self, number: u32, v: Pt) -> Option<Seated>
+        ensures { IfSome result (IsSeatedTo self.now.line.standing v) }
+    {
+        let one = self.line.standing.slot(number)?;
+        if one.spoke.one.edge.q == v {
+            Some(Seated { number, one })
+        } else {
+            None
+        }
+    }
+
+    /// At a vertex where two edges begin, and at most two end: lets the lower one that begins stand in the slot of the lower one that ends, and the
+    /// upper one in that of the upper one, if both slots are known and no edge that begins is upright. Answers whether it does.
+    fn pass_both(&mut self, own: &[Counted], from: usize, v: Pt) -> Result<bool, NoMemory>
+        requires here { ∥ ((all : List Counted) × IsReadyAt all own.now v from (from + 2) self.old.line.standing self.old.began.items) ∥₁ }
+        ensures past { (all : List Counted) → IsReadyAt all own.now v from (from + 2) self.old.line.standing self.old.began.items → EndsTwice (edges_of all) v
+            → IfOk result (λ done. done ≡ true → IsPast all v self.new.line.standing self.new.began.items) }
+        ensures around { (all : List Counted) → IsReadyAt all own.now v from (from + 2) self.old.line.standing self.old.began.items → EndsTwice (edges_of all) v
+            → IfOk result (λ done. done ≡ true → AreAround all v self.new.around.items) }
+        ensures standing { IfOk result (λ done. done ≡ false → self.new.line.standing ≡ self.old.line.standing) }
+        ensures began { IfOk result (λ done. done ≡ false → self.new.began ≡ self.old.began) }
+    {
+        let Some((low, high)) = self.ended_pair(v) else {
+            return Ok(false);
+        };
+        by_turn(&mut self.line.spokes, own, from, from + 2, v)?;
+        let left = high.one.labelled().left;
+        stand(&self.line.spokes, left, &mut self.line.fresh)?;
+        if self.line.fresh.len() != 2 {
+            return Ok(false);
+        }
+        self.line.standing.pass_on(low.number, self.line.fresh[0]);
+        self.line.standing.pass_on(high.number, self.line.fresh[1]);
+        self.hints
+            .note(self.line.fresh[0].spoke.one.edge.q, low.number);
+        self.hints
+            .note(self.line.fresh[1].spoke.one.edge.q, high.number);
+        self.began.clear();
+        label(&self.line.spokes, left, &mut self.began)?;
+        self.around.clear();
+        self.around.push(low.one.labelled())?;
+        self.around.push(high.one.labelled())?;
+        self.around.extend_from_slice(&self.began)?;
+        Ok(true)
+    }
+
     /// At any vertex: turns, and labels the edges that begin or end there.
     fn turn(&mut self, own: &[Counted], from: usize, next: usize, v: Pt) -> Result<(), NoMemory>
         requires here { ∥ ((all : List Counted) × IsReadyAt all own.now v from next self.old.line.standing self.old.began.items) ∥₁ }
@@ -227,25 +316,30 @@ impl<A: Allocator + Copy> LeavingSweep<A> {
         Ok(())
     }
 
-    /// Past a vertex, of which it is known whether at most one edge ends there.
+    /// Past a vertex, of which it is known how many edges end there.
     fn pass(
         &mut self,
         own: &[Counted],
         from: usize,
         next: usize,
         v: Pt,
-        one_ends: bool,
+        ending: Ending,
     ) -> Result<(), NoMemory>
         requires here { ∥ ((all : List Counted) × IsReadyAt all own.now v from next self.old.line.standing self.old.began.items) ∥₁ }
-        ensures past { (all : List Counted) → IsReadyAt all own.now v from next self.old.line.standing self.old.began.items → (one_ends ≡ true → EndsOnce (edges_of all) v)
+        ensures past { (all : List Counted) → IsReadyAt all own.now v from next self.old.line.standing self.old.began.items → IsEnding (edges_of all) v ending
             → OnOk result (IsPast all v self.new.line.standing self.new.began.items) }
-        ensures around { (all : List Counted) → IsReadyAt all own.now v from next self.old.line.standing self.old.began.items → (one_ends ≡ true → EndsOnce (edges_of all) v)
+        ensures around { (all : List Counted) → IsReadyAt all own.now v from next self.old.line.standing self.old.began.items → IsEnding (edges_of all) v ending
             → OnOk result (AreAround all v self.new.around.items) }
     {
-        if one_ends && next - from == 1 && self.pass_on(own, from, v)? {
-            return Ok(());
+        let passed = match (ending, next - from) {
+            (Ending::One, 1) => self.pass_on(own, from, v)?,
+            (Ending::Two, 2) => self.pass_both(own, from, v)?,
+            _ => false,
+        };
+        if !passed {
+            self.turn(own, from, next, v)?;
         }
-        self.turn(own, from, next, v)
+        Ok(())
     }
 }
 
@@ -267,17 +361,17 @@ fn leave<A: Allocator>(
 }
 
 /// The directed edges of the result of an operation that leave the vertices of a strip, in order, with edges among which are those that cross
-/// the column before it, and a flag for each vertex whether at most one edge ends there.
+/// the column before it, and for each vertex how many edges end there.
 pub fn sweep_leaving<A: Allocator + Copy>(
     alloc: A,
     before: &[Counted],
     own: &[Counted],
     vertices: &[Pt],
-    one_ends: &[bool],
+    endings: &[Ending],
     op: Op,
 ) -> Result<Vec<DirectedEdge, A>, NoMemory>
-    requires { ∥ ((all : List Counted) × IsStripOf all before.now own.now vertices.now × TellOnce (edges_of all) vertices.now one_ends.now) ∥₁ }
-    ensures { (all : List Counted) → IsStripOf all before.now own.now vertices.now → TellOnce (edges_of all) vertices.now one_ends.now
+    requires { ∥ ((all : List Counted) × IsStripOf all before.now own.now vertices.now × TellEndings (edges_of all) vertices.now endings.now) ∥₁ }
+    ensures { (all : List Counted) → IsStripOf all before.now own.now vertices.now → TellEndings (edges_of all) vertices.now endings.now
         → IfOk result (λ edges. AreLeaving op all vertices.now edges.items) }
 {
     if vertices.is_empty() {
@@ -291,7 +385,7 @@ pub fn sweep_leaving<A: Allocator + Copy>(
         let v = vertices[number];
         let from = next;
         next = last_of(own, from, v);
-        sweep.pass(own, from, next, v, one_ends[number])?;
+        sweep.pass(own, from, next, v, endings[number])?;
         leave(&mut edges, &mut here, &sweep.around, v, op)?;
     }
     Ok(edges)

@@ -1,8 +1,8 @@
 //! Labels: noded edges of even degrees in, the directed edges out that bound the result of an operation.
 //!
-//! 1. Edges that change no parity are left out (`changing`), and vertices are listed (`second_ends`).
-//! 2. Each strip of vertices is swept from the edges that cross the column before it (`column`, `pass`): what stands over a vertex is kept in
-//!    order, with the parities below it (`status`, `turn`).
+//! 1. Edges that change no parity are left out (`changing`), and the others are cut into strips of columns (`strips`).
+//! 2. The vertices in a strip (`second_ends`) are swept from the edges that cross the column before it (`column`, `pass`): what stands over a
+//!    vertex is kept in order, with the parities below it (`status`, `turn`).
 //! 3. What bounds the result and leaves a vertex is directed, vertex by vertex (`leaving`).
 //!
 //! A map may be labelled strip by strip, from the edges of each strip and those that come into it (`strip_labels`, `directed`).
@@ -18,12 +18,10 @@ mod directed;
 mod laws;
 mod leaving;
 mod one_strip;
-mod overlap;
 mod parities;
 mod pass;
 mod place;
 mod second_ends;
-mod shared_vertices;
 mod standing;
 mod status;
 mod strips;
@@ -39,7 +37,5 @@ pub use laws::{
     turn_is_labelled,
 };
 pub use one_strip::strip_labels;
-pub use overlap::merged;
-pub use shared_vertices::vertices_in_parts;
 pub use strips::strips_of;
 pub use swept::{SweptEdge, swept_edges, swept_edges_in_parts};

@@ -23,11 +23,18 @@ fn steeper(one: &Edge, other: &Edge) -> i64
         .determinant(one.p.vector_to(one.q))
 }
 
+/// Whether the first of two edges is the steeper one.
+pub fn is_steeper(one: &Spoke, other: &Spoke) -> bool
+    ensures { result ≡ is_steeper one.now.one.edge other.now.one.edge }
+{
+    steeper(&one.one.edge, &other.one.edge) > 0
+}
+
 /// By steepness, the steepest first, upright edges before all others.
 fn by_steepness(one: &Spoke, other: &Spoke) -> Ordering
     ensures { is_lt result ≡ is_steeper one.now.one.edge other.now.one.edge }
 {
-    if steeper(&one.one.edge, &other.one.edge) > 0 {
+    if is_steeper(one, other) {
         Ordering::Less
     } else {
         Ordering::Greater

@@ -1,69 +1,131 @@
-//! The vertices in order, each with a flag whether just one edge ends there:
-//! 1. The second ends of the edges are listed and sorted (`second_ends`), by several hands in parts (`second_ends_in_parts`).
-//! 2. They are merged with the first ends, in whose order the edges stand (`vertices_by_ends`).
+//! The vertices in a strip of columns, in order, each with how many edges end there:
+//! 1. The second ends that lie in the strip are listed and sorted: those of the edges that begin in it or before (`second_ends`).
+//! 2. They are merged with the first ends of the edges that begin in it, in whose order these stand (`merged_ends`).
 
-ghost use Rattle.std.specs.Prelude.{◌≡◌, ◌⊎◌, ◌≤◌, ◌<◌, AllPairs, IfOk, false, get_or, length, map, slice_range, true};
+ghost use Rattle.std.specs.Prelude.{◌≡◌, ◌++◌, ◌∷◌, [], ◌⊎◌, ◌↔◌, ◌≤◌, ◌<◌, All, AllPairs, IfOk, IsTrue, OnOk, count_by, false, filter, get_or, if◌then◌else◌, length, map, true};
 ghost use Rattle.std.specs.List.{AllWithin};
-ghost use Rattle.std.specs.List.Sorted.{IsPermutation};
+ghost use Rattle.geom.specs.EdgeOrder.{IsEdgeBefore};
 ghost use Rattle.geom.specs.Order.{IsBefore, IsUpTo};
 ghost use Rattle.geom.specs.Rounded.{edges_of};
+ghost use Rattle.geom.specs.Segments.{same_point};
 ghost use Rattle.geom.specs.declared.edge.Counted.{Counted};
+ghost use Rattle.geom.specs.declared.point.Pt.{Pt};
 ghost use Rattle.points_law.specs.Law.{AreLayers};
-ghost use Rattle.label_sweep.specs.Leaving.{TellOnce};
-ghost use Rattle.label_sweep.specs.Status.{AreVertices};
+ghost use Rattle.label_sweep.specs.Column.{AreVerticesBetween, IsStrip, LiesBetween};
+ghost use Rattle.label_sweep.specs.Endings.{AreMerged, TellEndings, are_of, ending_of};
 
-use crate::overlap::merged;
 use crate::vertices::last_of;
 use geom::{Counted, NoMemory, Pt};
-use hands::{Part, even_parts, map_parts};
+use hands::Part;
 use std::alloc::Allocator;
-use std::thread::Threads;
 
-/// The vertices, ascending, and of each whether just one edge ends there.
+/// How many edges end at a vertex, as far as the sweep tells it apart.
+#[derive(Clone, Copy, Debug, PartialEq, Eq)]
+pub enum Ending {
+    One,
+    Two,
+    Other,
+}
+
+impl Ending {
+    /// That of so many edges.
+    fn of(count: usize) -> Ending
+        ensures { result ≡ ending_of count }
+    {
+        match count {
+            1 => Ending::One,
+            2 => Ending::Two,
+            _ => Ending::Other,
+        }
+    }
+}
+
+/// Vertices, ascending, each with how many edges end there.
 #[derive(Drop)]
 pub struct Vertices<A: Allocator> {
     pub points: Vec<Pt, A>,
-    pub one_ends: Vec<bool, A>,
+    pub endings: Vec<Ending, A>,
 }
 
-/// The second ends of edges, ascending, each as often as edges end there.
-pub fn second_ends<A: Allocator + Copy>(
-    alloc: A,
-    counted: &[Counted],
-) -> Result<Vec<Pt, A>, NoMemory>
-    ensures permutation { IfOk result (λ ends. IsPermutation (map (λ c. c.edge.q) counted.now) ends.items) }
-    ensures sorted { IfOk result (λ ends. AllPairs IsUpTo ends.items) }
-{
-    let mut ends = Vec::with_capacity(alloc, counted.len())?;
-    for one in counted {
-        ends.push(one.edge.q)?;
+/// The columns from one to before another one, or all from there on.
+#[derive(Clone, Copy, Debug)]
+struct Columns {
+    from: i32,
+    past: Option<i32>,
+}
+
+impl Columns {
+    /// Those of a strip.
+    fn of(counted: &[Counted], strip: Part) -> Columns
+        requires { strip.from < length counted.now }
+        ensures { (v : Pt) → IsTrue (are_of result v) ↔ LiesBetween counted.now strip.from strip.past v }
+    {
+        Columns {
+            from: counted[strip.from].edge.p.x,
+            past: counted.get(strip.past).map(|one| one.edge.p.x),
+        }
     }
-    Ok(range_sort::sorted(ends, |end: &Pt| i64::from(end.x)))
+
+    /// Whether one of them is a point's.
+    fn are_of(self, v: Pt) -> bool
+        ensures { result ≡ are_of self v }
+    {
+        self.from <= v.x
+            && match self.past {
+                Some(past) => v.x < past,
+                None => true,
+            }
+    }
 }
 
-/// The same, by so many parts of the edges.
-pub fn second_ends_in_parts<R: Threads + Sync, A: Allocator + Copy + Send + Sync>(
-    rt: &R,
-    alloc: A,
-    parts: usize,
-    counted: &[Counted],
-) -> Result<Vec<Pt, A>, NoMemory>
-    ensures permutation { IfOk result (λ ends. IsPermutation (map (λ c. c.edge.q) counted.now) ends.items) }
-    ensures sorted { IfOk result (λ ends. AllPairs IsUpTo ends.items) }
+/// Adds a second end, if it lies in the columns.
+fn add_end<A: Allocator>(ends: &mut Vec<Pt, A>, columns: Columns, end: Pt) -> Result<(), NoMemory>
+    ensures { OnOk result (ends.new.items ≡ ends.old.items ++ (if are_of columns end then end ∷ [] else [])) }
 {
-    let parts = even_parts(alloc, counted.len(), parts)?;
-    let lists = map_parts(
-        rt,
-        alloc,
-        &parts,
-        |part: Part| -> Result<Vec<Pt, A>, NoMemory>
-            requires { (part.from ≤ part.past) × (part.past ≤ length counted.now) }
-            ensures { IfOk result (λ ends. IsPermutation (map (λ c. c.edge.q) (slice_range counted.entry.now part.from part.past)) ends.items) }
-        { second_ends(alloc, &counted[part.from..part.past]) },
-    )?;
-    let mut ends = merged(alloc, lists)?;
-    ends.sort()?;
+    if columns.are_of(end) {
+        ends.push(end)?;
+    }
+    Ok(())
+}
+
+/// The second ends in the columns, as they are listed.
+fn list_ends<A: Allocator>(
+    alloc: A,
+    counted: &[Counted],
+    columns: Columns,
+    room: usize,
+) -> Result<Vec<Pt, A>, NoMemory>
+    ensures { IfOk result (λ ends. ends.items ≡ filter (are_of columns) (map (λ c. c.edge.q) counted.now)) }
+{
+    let mut ends = Vec::with_capacity(alloc, room)?;
+    for one in counted {
+        add_end(&mut ends, columns, one.edge.q)?;
+    }
     Ok(ends)
+}
+
+/// The second ends in a strip, ascending, each as often as edges end there.
+fn second_ends<A: Allocator + Copy>(
+    alloc: A,
+    counted: &[Counted],
+    strip: Part,
+) -> Result<Vec<Pt, A>, NoMemory>
+    requires layers { AreLayers counted.now }
+    requires strip { IsStrip counted.now strip }
+    requires some { strip.from < length counted.now }
+    ensures sorted { IfOk result (λ ends. AllPairs IsUpTo ends.items) }
+    ensures between { IfOk result (λ ends. All (LiesBetween counted.now strip.from strip.past) ends.items) }
+    ensures each { (v : Pt) → LiesBetween counted.now strip.from strip.past v
+        → IfOk result (λ ends. count_by (λ q. same_point q v) ends.items ≡ count_by (λ e. same_point e.q v) (edges_of counted.now)) }
+{
+    let columns = Columns::of(counted, strip);
+    let ends = list_ends(
+        alloc,
+        &counted[..strip.past],
+        columns,
+        strip.past - strip.from,
+    )?;
+    Ok(range_sort::sorted(ends, |end: &Pt| i64::from(end.x)))
 }
 
 /// Whether an end lies at a vertex or before.
@@ -89,41 +151,58 @@ fn last_end(ends: &[Pt], from: usize, v: Pt) -> usize
     past
 }
 
-/// The next vertex: the lesser of the next second end and the first end of the next edge, if there is one.
-fn next_vertex(counted: &[Counted], next: usize, end: Pt) -> Pt
-    ensures end { IsUpTo result end }
-    ensures edge { (c : Counted) → next < length counted.now → IsUpTo result (get_or counted.now next c).edge.p }
-    ensures either { (result ≡ end) ⊎ ((next < length counted.now) × ((c : Counted) → result ≡ (get_or counted.now next c).edge.p)) }
+/// The next vertex: the lesser of the next second end and the first end of the next edge, of which there is one at least.
+fn next_vertex(own: &[Counted], next: usize, ends: &[Pt], past: usize) -> Pt
+    requires { (next < length own.now) ⊎ (past < length ends.now) }
+    ensures end { (d : Pt) → past < length ends.now → IsUpTo result (get_or ends.now past d) }
+    ensures edge { (c : Counted) → next < length own.now → IsUpTo result (get_or own.now next c).edge.p }
+    ensures either { ((past < length ends.now) × ((d : Pt) → result ≡ get_or ends.now past d)) ⊎ ((next < length own.now) × ((c : Counted) → result ≡ (get_or own.now next c).edge.p)) }
 {
-    if next < counted.len() {
-        counted[next].edge.p.min(end)
+    if next >= own.len() {
+        ends[past]
+    } else if past >= ends.len() {
+        own[next].edge.p
     } else {
-        end
+        own[next].edge.p.min(ends[past])
     }
 }
 
-/// The vertices of edges whose second ends are these.
-pub fn vertices_by_ends<A: Allocator + Copy>(
+/// The first ends of edges, and second ends, each point once, and how often it is among the second ends.
+fn merged_ends<A: Allocator + Copy>(
     alloc: A,
-    counted: &[Counted],
+    own: &[Counted],
     ends: &[Pt],
 ) -> Result<Vertices<A>, NoMemory>
-    requires layers { AreLayers counted.now }
-    requires ends { IsPermutation (map (λ c. c.edge.q) counted.now) ends.now }
+    requires ascending { AllPairs (λ c d. IsEdgeBefore c.edge d.edge) own.now }
     requires sorted { AllPairs IsUpTo ends.now }
-    ensures points { IfOk result (λ vertices. AreVertices (edges_of counted.now) vertices.points.items) }
-    ensures once { IfOk result (λ vertices. TellOnce (edges_of counted.now) vertices.points.items vertices.one_ends.items) }
+    ensures { IfOk result (λ vertices. AreMerged (map (λ c. c.edge.p) own.now) ends.now vertices.points.items vertices.endings.items) }
 {
-    let mut points = Vec::with_capacity(alloc, counted.len())?;
-    let mut one_ends = Vec::with_capacity(alloc, counted.len())?;
+    let mut points = Vec::with_capacity(alloc, own.len())?;
+    let mut endings = Vec::with_capacity(alloc, own.len())?;
     let (mut next, mut past) = (0, 0);
-    while past < ends.len() {
-        let v = next_vertex(counted, next, ends[past]);
+    while next < own.len() || past < ends.len() {
+        let v = next_vertex(own, next, ends, past);
         let ended = past;
-        next = last_of(counted, next, v);
+        next = last_of(own, next, v);
         past = last_end(ends, past, v);
         points.push(v)?;
-        one_ends.push(past - ended == 1)?;
+        endings.push(Ending::of(past - ended))?;
     }
-    Ok(Vertices { points, one_ends })
+    Ok(Vertices { points, endings })
+}
+
+/// The vertices in a strip of layers.
+pub fn vertices_in<A: Allocator + Copy>(
+    alloc: A,
+    counted: &[Counted],
+    strip: Part,
+) -> Result<Vertices<A>, NoMemory>
+    requires layers { AreLayers counted.now }
+    requires strip { IsStrip counted.now strip }
+    requires some { strip.from < length counted.now }
+    ensures points { IfOk result (λ vertices. AreVerticesBetween counted.now strip.from strip.past vertices.points.items) }
+    ensures endings { IfOk result (λ vertices. TellEndings (edges_of counted.now) vertices.points.items vertices.endings.items) }
+{
+    let ends = second_ends(alloc, counted, strip)?;
+    merged_ends(alloc, &counted[strip.from..strip.past], &ends)
 }

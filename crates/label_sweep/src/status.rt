@@ -195,7 +195,9 @@ impl<A: Allocator + Copy> Status<A> {
     }
 
     /// The numbers of the slots of those edges that came last.
-    pub fn seated(&self) -> &[u32] {
+    pub fn seated(&self) -> &[u32]
+        ensures { result.now ≡ self.now.seated.items }
+    {
         &self.seated
     }
 

@@ -1,21 +1,19 @@
 //! Each edge with the one beside it: what lies on the left of an edge lies on the right of the one beside it, whatever layers the edges
 //! have. So what changes across each edge can be followed from edge to edge, with no sweep for it.
-//! 1. Each strip of vertices is swept from the edges that cross the column before it (`sweep_beside`). Of the edges that begin at a vertex,
+//! 1. The vertices in each strip of columns are swept from the edges that cross the column before it (`sweep_beside`). Of the edges that begin at a vertex,
 //!    the first has the lowest edge above the vertex beside it, and each further one the one before (`turn: list_beside`).
 //! 2. The strips' lists stand behind one another.
 
-ghost use Rattle.std.specs.Prelude.{IfOk, slice_range};
+ghost use Rattle.std.specs.Prelude.{IfOk};
 ghost use Rattle.geom.specs.Rounded.{edges_of};
 ghost use Rattle.points_law.specs.Law.{AreLayers};
 ghost use Rattle.label_sweep.specs.Column.{IsStrip};
-ghost use Rattle.label_sweep.specs.Status.{AreVertices};
-ghost use Rattle.label_sweep.specs.Swept.{AreSwept, AreSweptFrom};
+ghost use Rattle.label_sweep.specs.Swept.{AreSwept, AreSweptBetween};
 
 use crate::pass::sweep_beside;
-use crate::shared_vertices::vertices_in_parts;
-use crate::strips::{edges_in, strips_of};
-use crate::vertices::vertices_of;
-use geom::{Counted, Edge, NoMemory, Pt};
+use crate::second_ends::vertices_in;
+use crate::strips::strips_of;
+use geom::{Counted, Edge, NoMemory};
 use hands::{Part, joined, map_parts};
 use std::alloc::Allocator;
 use std::thread::Threads;
@@ -37,15 +35,14 @@ pub fn swept_edges<A: Allocator + Copy>(
     requires { AreLayers counted.now }
     ensures { IfOk result (λ swept. AreSwept (edges_of counted.now) swept.items) }
 {
-    let vertices = vertices_of(alloc, counted)?;
     let all = Part {
         from: 0,
-        past: vertices.len(),
+        past: counted.len(),
     };
-    strip_beside(alloc, counted, &vertices, all)
+    strip_beside(alloc, counted, all)
 }
 
-/// The same, in at most so many parts at once: 0 is one.
+/// The same, in at most so many strips at once: 0 is one.
 pub fn swept_edges_in_parts<R: Threads + Sync, A: Allocator + Copy + Send + Sync>(
     rt: &R,
     alloc: A,
@@ -55,52 +52,37 @@ pub fn swept_edges_in_parts<R: Threads + Sync, A: Allocator + Copy + Send + Sync
     requires { AreLayers counted.now }
     ensures { IfOk result (λ swept. AreSwept (edges_of counted.now) swept.items) }
 {
-    let vertices = vertices_in_parts(rt, alloc, parts, counted)?;
-    strips_beside(rt, alloc, parts, counted, &vertices)
+    let strips = strips_of(alloc, counted, parts)?;
+    let lists = map_parts(
+        rt,
+        alloc,
+        &strips,
+        |strip: Part| -> Result<Vec<SweptEdge, A>, NoMemory>
+            requires { AreLayers counted.now × IsStrip counted.now strip }
+            ensures { IfOk result (λ swept. AreSweptBetween counted.entry.now strip.from strip.past swept.items) }
+        { strip_beside(alloc, counted, strip) },
+    )?;
+    Ok(joined(alloc, lists)?)
 }
 
 /// The edges that begin in a strip, each with the one beside it.
 fn strip_beside<A: Allocator + Copy>(
     alloc: A,
     counted: &[Counted],
-    vertices: &[Pt],
     strip: Part,
 ) -> Result<Vec<SweptEdge, A>, NoMemory>
     requires layers { AreLayers counted.now }
-    requires vertices { AreVertices (edges_of counted.now) vertices.now }
-    requires strip { IsStrip (edges_of counted.now) vertices.now strip }
-    ensures { IfOk result (λ swept. AreSweptFrom (edges_of counted.now) (slice_range vertices.now strip.from strip.past) swept.items) }
+    requires strip { IsStrip counted.now strip }
+    ensures { IfOk result (λ swept. AreSweptBetween counted.now strip.from strip.past swept.items) }
 {
-    let own = edges_in(counted, vertices, strip);
+    if strip.from == counted.len() {
+        return Ok(Vec::new(alloc));
+    }
+    let vertices = vertices_in(alloc, counted, strip)?;
     sweep_beside(
         alloc,
-        &counted[..own.from],
-        &counted[own.from..own.past],
-        &vertices[strip.from..strip.past],
+        &counted[..strip.from],
+        &counted[strip.from..strip.past],
+        &vertices.points,
     )
-}
-
-/// The edges that begin at these vertices, each with the one beside it, from so many strips at once.
-fn strips_beside<R: Threads + Sync, A: Allocator + Copy + Send + Sync>(
-    rt: &R,
-    alloc: A,
-    parts: usize,
-    counted: &[Counted],
-    vertices: &[Pt],
-) -> Result<Vec<SweptEdge, A>, NoMemory>
-    requires layers { AreLayers counted.now }
-    requires vertices { AreVertices (edges_of counted.now) vertices.now }
-    ensures { IfOk result (λ swept. AreSweptFrom (edges_of counted.now) vertices.now swept.items) }
-{
-    let strips = strips_of(alloc, vertices, parts)?;
-    let lists = map_parts(
-        rt,
-        alloc,
-        &strips,
-        |strip: Part| -> Result<Vec<SweptEdge, A>, NoMemory>
-            requires { AreLayers counted.now × AreVertices (edges_of counted.now) vertices.now × IsStrip (edges_of counted.now) vertices.now strip }
-            ensures { IfOk result (λ swept. AreSweptFrom (edges_of counted.entry.now) (slice_range vertices.entry.now strip.from strip.past) swept.items) }
-        { strip_beside(alloc, counted, vertices, strip) },
-    )?;
-    Ok(joined(alloc, lists)?)
 }

@@ -4,7 +4,7 @@
 //!    few are (`add_second_ends`).
 //! 3. The list is sorted, by a sort that keeps the run of the first ends, and rid of repeats (`each_once`).
 
-ghost use Rattle.std.specs.Prelude.{◌≡◌, ◌<◌, ◌≤◌, ◌<ℤ◌, ◌≤ℤ◌, ◌⊎◌, All, AllPairs, Contains, IfOk, List, OnOk, false, int_lt, length, true};
+ghost use Rattle.std.specs.Prelude.{◌≡◌, ◌≤◌, ◌⊎◌, All, AllPairs, Contains, IfOk, List, OnOk, false, length, true};
 ghost use Rattle.std.specs.List.{AllWithin};
 ghost use Rattle.geom.specs.EdgeOrder.{IsEdgeBefore};
 ghost use Rattle.geom.specs.Order.{IsBefore, IsUpTo};
@@ -20,17 +20,6 @@ const MOST_PLACES: usize = 65_536;
 
 /// How many places of the table an edge is worth.
 const PLACES: usize = 4;
-
-/// The ends of the edges, each once, ascending.
-pub fn vertices_of<A: Allocator + Copy>(
-    alloc: A,
-    counted: &[Counted],
-) -> Result<Vec<Pt, A>, NoMemory>
-    ensures { IfOk result (λ vertices. AreVertices (edges_of counted.now) vertices.items) }
-{
-    let ends = ends_of(alloc, counted)?;
-    each_once(ends)
-}
 
 /// Points in their order, each once: a look at each where they ascend.
 pub fn each_once<A: Allocator>(mut points: Vec<Pt, A>) -> Result<Vec<Pt, A>, NoMemory>
@@ -142,23 +131,6 @@ fn add_second_ends<A: Allocator>(
         hold(held, counted[number].edge.p);
     }
     Ok(())
-}
-
-/// Whether a point lies on the left of a vertex.
-fn is_left(p: Pt, v: Pt) -> bool
-    ensures { result ≡ int_lt p.x v.x }
-{
-    p.x < v.x
-}
-
-/// The number of edges that begin on the left of a vertex.
-pub fn first_of(counted: &[Counted], v: Pt) -> usize
-    requires { AllPairs (λ c d. IsEdgeBefore c.edge d.edge) counted.now }
-    ensures within { result ≤ length counted.now }
-    ensures left { AllWithin (λ c. c.edge.p.x <ℤ v.x) counted.now 0 result }
-    ensures right { AllWithin (λ c. v.x ≤ℤ c.edge.p.x) counted.now result (length counted.now) }
-{
-    counted.partition_point(|one| is_left(one.edge.p, v))
 }
 
 /// Whether an edge begins at a vertex or before.

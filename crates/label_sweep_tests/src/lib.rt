@@ -1,4 +1,4 @@
-//! Tests of strips, of lists that become one, and of the edge beside each edge.
+//! Tests of strips, and of the edge beside each edge.
 #![tactic(auto)]
 
 #[cfg(test)]

@@ -6,10 +6,10 @@ pub new-requires : goal.new-requires
 new-requires g c =
     let cs = c.args.counted.now in
     let es = c.in_ok-edges.edges.items in
-    are_directed c.args.op cs es (all_leaving c.args.op cs c.in_ok-vertices.vertices.points.items c.in_ok-vertices.ensures.points es c.in_ok-edges.ensures)
+    are_directed c.args.op cs es (all_leaving c.args.op cs c.requires es c.in_ok-edges.ensures)
 
 pub returns : goal.returns
 returns g c =
     let cs = c.args.counted.now in
     let es = c.in_ok-edges.edges.items in
-    rw c.new.ensures (all_leaving c.args.op cs c.in_ok-vertices.vertices.points.items c.in_ok-vertices.ensures.points es c.in_ok-edges.ensures)
+    rw c.new.ensures (all_leaving c.args.op cs c.requires es c.in_ok-edges.ensures)

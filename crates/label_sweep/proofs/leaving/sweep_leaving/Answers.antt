@@ -2,12 +2,14 @@ use Rattle.std.proofs.Common.{[], arith, rules, subst}
 use Rattle.std.proofs.Math.Logic.{∥∥₁_elim, ∥∥₁_map}
 use Rattle.std.proofs.Props.{props}
 use Rattle.std.proofs.lemmas.List.{get_or_default}
+use Rattle.geom.specs.Rounded.{edges_of}
+use Rattle.label_sweep.specs.declared.second_ends.Ending.TheVariants.{One}
 use Rattle.label_sweep.specs.Labels.{IsSweptUpTo}
 use Rattle.label_sweep.specs.Leaving.{AreLeaving}
 use Rattle.label_sweep.specs.Slots.{all_standing}
+use Rattle.label_sweep.proofs.EndingsTold.{ending_told}
 use Rattle.label_sweep.proofs.Ends.{some_are}
 use Rattle.label_sweep.proofs.LeavingEdges.{leaving_one, no_leaving, ready_at, ready_first, ready_next}
-use Rattle.label_sweep.proofs.Merging.{once_told}
 use Rattle.label_sweep.proofs.Parts.{all_sliced}
 use Rattle.label_sweep.proofs.Sweeping.{before_in_limit, origin}
 use Rattle.label_sweep.proofs.leaving.sweep_leaving.Goals as goal
@@ -26,8 +28,8 @@ loop-number-init g c = (
   omega arith,
 )
 
-pub bounds-one_ends-number : goal.bounds-one_ends-number
-bounds-one_ends-number g c = ∥∥₁_elim c.requires (hlevel props) (λ h. let t = h.2.long in omega (arith, t, c.loop-number-test.true))
+pub bounds-endings-number : goal.bounds-endings-number
+bounds-endings-number g c = ∥∥₁_elim c.requires (hlevel props) (λ h. let t = h.2.long in omega (arith, t, c.loop-number-test.true))
 
 pub last_of-next-requires : goal.last_of-next-requires
 last_of-next-requires g c = c.loop-number.invariant.1
@@ -52,11 +54,11 @@ loop-number-preserved g c =
           let before = c.loop-number.invariant.0 all h t in
           let at = ready_at all c.args.before.now c.args.own.now vs h n c.loop-number.next c.last_of-next.result c.loop-number.sweep.line.standing c.loop-number.sweep.began.items
           before.0 c.loop-number-test.true l.from l.within l.begun (l.past h.own_ascends) in
-          let once = once_told all vs c.args.one_ends.now t n origin c.loop-number-test.true in (
+          let ending = ending_told (edges_of all) vs c.args.endings.now t n origin One c.loop-number-test.true in (
             ready_next all c.args.before.now c.args.own.now vs h n c.loop-number.next c.last_of-next.result c.loop-number.sweep.line.standing c.loop-number.sweep.began.items
-                before.0 c.loop-number-test.true l.from l.within l.begun (l.past h.own_ascends) c.pass.new.self.line.standing c.pass.new.self.began.items (c.in_ok-pass.ensures.past all at once),
+                before.0 c.loop-number-test.true l.from l.within l.begun (l.past h.own_ascends) c.pass.new.self.line.standing c.pass.new.self.began.items (c.in_ok-pass.ensures.past all at ending),
             leaving_one c.args.op all vs h.ascending n origin c.loop-number-test.true c.loop-number.edges.items c.leave.new.edges.items
-                (c.in_ok-leave.ensures all h.layers (rw c.deref.ensures.value (c.in_ok-pass.ensures.around all at once))) before.1,
+                (c.in_ok-leave.ensures all h.layers (rw c.deref.ensures.value (c.in_ok-pass.ensures.around all at ending))) before.1,
           )),
       l.within,
     )

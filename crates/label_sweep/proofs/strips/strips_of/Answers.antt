@@ -3,15 +3,15 @@ use Rattle.std.proofs.lemmas.Int.{clamps}
 use Rattle.std.proofs.lemmas.List.Elements.{All-append, All-cons, All-nil}
 use Rattle.hands.proofs.Consecutive.{no_parts, one_more, whole}
 use Rattle.label_sweep.specs.Column.{IsStrip}
-use Rattle.label_sweep.proofs.Borders.{begins_column}
+use Rattle.label_sweep.proofs.Between.{first_opens}
 use Rattle.label_sweep.proofs.strips.strips_of.Goals as goal
 
 pub loop-from-init : goal.loop-from-init
-loop-from-init g c = rw (c.new-strips.ensures.items) (no_parts 0, (λ es a. All-nil (IsStrip es c.args.vertices.now)), (λ u l k d low high. absurd (omega (arith, high))), omega arith)
+loop-from-init g c = rw (c.new-strips.ensures.items) (no_parts 0, All-nil (IsStrip c.args.counted.now), first_opens c.args.counted.now, omega arith)
 
 pub loop-from-preserved : goal.loop-from-preserved
 loop-from-preserved g c =
-    let vs = c.args.vertices.now in
+    let cs = c.args.counted.now in
     let from = c.loop-from.from in
     let past = c.column_end-past.result in
     let i = c.loop-from.invariant in
@@ -21,8 +21,8 @@ loop-from-preserved g c =
     let order : from < past = omega (arith, clamps, some, further) in
     rw (c.in_ok-push.ensures.items) (
       one_more 0 from (record { from = from; past = past }) c.loop-from.strips.items i.0 refl (omega (arith, order)),
-      (λ es a. All-append (IsStrip es vs) c.loop-from.strips.items _ (i.1 es a) (All-cons (IsStrip es vs) (record { from = from; past = past }) []
-          (record { order = omega (arith, order); within = end.within; column = λ u l. begins_column es vs a from u (i.2 u some); next_column = λ u l. begins_column es vs a past u (end.column u l) }) (All-nil (IsStrip es vs)))),
+      All-append (IsStrip cs) c.loop-from.strips.items _ i.1
+          (All-cons (IsStrip cs) (record { from = from; past = past }) [] (record { order = omega (arith, order); within = end.within; column = i.2; next_column = end.column }) (All-nil (IsStrip cs))),
       end.column,
       end.within,
     )

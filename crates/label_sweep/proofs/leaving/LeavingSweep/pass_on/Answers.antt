@@ -43,7 +43,7 @@ pub returns-clause-past : goal.returns-clause-past
 returns-clause-past g c all r once done =
     let old = c.args.self.now.line.standing in
     let d = c.index-own-from.result in
-    let n = c.slot-number.result in
+    let n = c.slots-number.result.last in
     let s = c.in-Some.old in
     let at : (n < length old.slots.items) × (in_slot old.slots.items n ≡ s) = c.slot.ensures.some s c.in-Some.is in
     rw c.clear.ensures.items
@@ -63,7 +63,7 @@ pub returns-clause-around : goal.returns-clause-around
 returns-clause-around g c all r once done =
     let old = c.args.self.now.line.standing in
     let d = c.index-own-from.result in
-    let n = c.slot-number.result in
+    let n = c.slots-number.result.last in
     let s = c.in-Some.old in
     let at : (n < length old.slots.items) × (in_slot old.slots.items n ≡ s) = c.slot.ensures.some s c.in-Some.is in
     let now = both_listed s d c.labelled-ended.result c.beyond-under.result c.clear-2.new.self.items c.push.new.self.items c.push-2.new.self.items

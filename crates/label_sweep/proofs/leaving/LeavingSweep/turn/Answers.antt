@@ -1,13 +1,11 @@
 use Rattle.std.proofs.Common.{◌≡◌, ◌++◌, [], ◌∙◌, List, ap, map}
 use Rattle.std.proofs.Math.Logic.{∥∥₁_elim}
 use Rattle.std.proofs.Props.{props}
-use Rattle.label_sweep.specs.declared.parities.Parities.{Parities}
 use Rattle.label_sweep.specs.declared.standing.LabelledEdge.{LabelledEdge}
-use Rattle.label_sweep.specs.declared.standing.Spoke.{Spoke}
 use Rattle.label_sweep.specs.declared.standing.StandingEdge.{StandingEdge}
 use Rattle.label_sweep.specs.Labels.{labelled_of, labels_from, parities_beside}
 use Rattle.label_sweep.proofs.Passing.{range_in_limit, vertex_in_limit}
-use Rattle.label_sweep.proofs.Plain.{around_turned, ended_before, upright_turned}
+use Rattle.label_sweep.proofs.Plain.{around_turned, begun_listed, ended_before, upright_turned}
 use Rattle.label_sweep.proofs.leaving.LeavingSweep.turn.Goals as goal
 
 pub turn-requires : goal.turn-requires
@@ -18,10 +16,6 @@ turn-requires g c = record {
   within = ∥∥₁_elim c.requires.here (hlevel props) (λ h. h.1.at.at.begin.within);
   some = ∥∥₁_elim c.requires.here (hlevel props) (λ h. h.1.at.kept.chunked.some);
 }
-
--- the labels of the edges that begin there are listed
-begun_listed : (none now : List LabelledEdge) (at left : Parities) (ks ss : List Spoke) → none ≡ [] → now ≡ none ++ labels_from at ks → at ≡ left → ks ≡ ss → now ≡ labels_from left ss
-begun_listed none now at left ks ss h i j k = i ∙ ap (λ t. t ++ labels_from at ks) h ∙ ap (λ t. labels_from t ks) j ∙ ap (labels_from left) k
 
 -- behind those of the edges that end there
 all_listed : (none one two three old began : List LabelledEdge) (listed ended : List StandingEdge) (upright fresh : List LabelledEdge) → none ≡ [] → one ≡ none ++ map labelled_of listed → listed ≡ ended → two ≡ one ++ upright → upright ≡ old
