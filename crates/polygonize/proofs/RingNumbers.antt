@@ -41,9 +41,6 @@ pub record RingsNumbered (cycles : List (List ℕ)) (n : ℕ) (numbers : List �
   pub has : (r : ℕ) → r < n → (k : ℕ) → Contains (get_or cycles r []) k → get_or numbers k 0 ≡ r
   pub only : (k : ℕ) → k < length numbers → (get_or numbers k 0 ≡ length cycles) ⊎ Contains (get_or cycles (get_or numbers k 0) []) k
 
-pub none_numbered : (cycles : List (List ℕ)) (edges : ℕ) (numbers : List ℕ) → ((k : ℕ) → k < length numbers → get_or numbers k 0 ≡ length cycles) → RingsNumbered cycles 0 numbers
-none_numbered cycles edges numbers all = record { has = λ r h. absurd (omega arith); only = λ k h. inl (all k h) }
-
 pub one_more_numbered : (cycles : List (List ℕ)) (n : ℕ) (old new : List ℕ) → AreApart cycles → n < length cycles → length new ≡ length old → IsNumbered (get_or cycles n []) n old new → RingsNumbered cycles n old → RingsNumbered cycles (n + 1) new
 one_more_numbered cycles n old new apart low len w f = record { has = has; only = only }
   where
