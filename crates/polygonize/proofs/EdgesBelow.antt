@@ -6,3 +6,4 @@ pub mod Ladders
 pub mod Searching
 pub mod Short
 pub mod Floors
+pub mod Reaching

@@ -1,6 +1,7 @@
 -- The nearest edge below a point.
 use Rattle.std.specs.Int.{int_max, int_min}
-use Rattle.std.specs.Prelude.{◌≡◌, ◌⊎◌, ◌^◌, ◌<◌, ◌≤◌, ◌+ℤ◌, ◌*ℤ◌, ◌≤ℤ◌, ◌<ℤ◌, ℕ, ℤ, pos, true, List, [], Contains, Option, Some, None, IfSome, MatchOption, length, neg_ℤ, slice_index_or}
+use Rattle.std.specs.Prelude.{◌≡◌, ◌⊎◌, ◌+◌, ◌^◌, ◌<◌, ◌≤◌, ◌+ℤ◌, ◌*ℤ◌, ◌≤ℤ◌, ◌<ℤ◌, ℕ, ℤ, pos, true, List, [], Contains, Option, Some, None, IfSome, MatchOption, length, neg_ℤ, slice_index_or}
+use Rattle.box_lanes.specs.Sides.{IsColumn}
 use Rattle.geom.specs.declared.directed.DirectedEdge.{DirectedEdge}
 use Rattle.geom.specs.declared.edge.Edge.{Edge}
 use Rattle.geom.specs.declared.point.Pt.{Pt}
@@ -97,9 +98,10 @@ IsFloor ds (Some g) floor = (least_row ≤ℤ floor) × (floor ≤ℤ lowest_row
 abbrev pub floor_at : List ℤ → ℕ → ℤ
 floor_at floors r = slice_index_or floors r (pos 0)
 
--- each gap has a floor
+-- each gap has a floor, and sixteen numbers more stand behind them
 pub record AreFloors (ds : List DirectedEdge) (best : List (Option Gap)) (floors : List ℤ) : Type 0 where
-  pub same_length : length floors ≡ length best
+  pub room : length floors ≡ length best + 16
+  pub column : IsColumn floors
   pub each : (r : ℕ) → r < length best → IsFloor ds (best_at best r) (floor_at floors r)
 
 -- ---- what edges do to gaps

@@ -1,7 +1,7 @@
 //! Where the edges that leave a vertex begin among all, which stand by the vertices that they leave.
 //!
-//! 1. The abscissas are cut into stripes, about one for each two edges, and for each stripe it is noted where its edges begin
-//!    (`Stripes::of`).
+//! 1. The abscissas are cut into stripes, about one for each two items, and for each stripe it is noted where its items begin
+//!    (`Stripes::of`), which are edges by the vertices that they leave, or vertices.
 //! 2. The place is looked for between the beginning of the vertex's stripe and that of the next one (`first_at`).
 //!
 //! The stripes say where to look, and no more: what they say is checked, and where it is wrong all edges are looked at.
@@ -15,7 +15,7 @@ use crate::closing_edges::ClosingEdges;
 use geom::{DirectedEdge, NoMemory, Pt};
 use std::alloc::Allocator;
 
-/// Stripes of abscissas from the least one on, each of a power of two; and where the edges begin in each, or right of it.
+/// Stripes of abscissas from the least one on, each of a power of two; and where the items begin in each, or right of it.
 #[derive(Debug, Drop)]
 pub struct Stripes<A: Allocator> {
     least: i32,
@@ -23,32 +23,37 @@ pub struct Stripes<A: Allocator> {
     begins: Vec<usize, A>,
 }
 
-/// How many bits of a span aren't told by its stripes, of which there are at most as many as edges.
-fn bits_below(span: u32, edges: usize) -> u32
+/// How many bits of a span aren't told by its stripes, of which there are at most as many as items.
+fn bits_below(span: u32, items: usize) -> u32
     ensures { result < 32 }
 {
     let bits = u32::BITS - span.leading_zeros();
-    bits.saturating_sub(usize::BITS - (edges / 2).leading_zeros())
+    bits.saturating_sub(usize::BITS - (items / 2).leading_zeros())
         .min(31)
 }
 
 impl<A: Allocator + Copy> Stripes<A> {
-    /// The stripes of the vertices of edges in their order.
-    pub fn of(alloc: A, edges: &[DirectedEdge]) -> Result<Stripes<A>, NoMemory> {
-        let mut stripes = Stripes::over(alloc, edges)?;
-        for place in 0..edges.len() {
-            stripes.note(edges[place].from, place)?;
+    /// The stripes of items in the order of their vertices.
+    pub fn of<T, F: Fn(&T) -> Pt>(alloc: A, items: &[T], vertex: F) -> Result<Stripes<A>, NoMemory>
+        requires { F.IsAlwaysCallable vertex }
+    {
+        let mut stripes = Stripes::over(alloc, items, &vertex)?;
+        for place in 0..items.len() {
+            stripes.note(vertex(&items[place]), place)?;
         }
         Ok(stripes)
     }
 
     /// Stripes as wide as they have to be, without their beginnings.
-    fn over(alloc: A, edges: &[DirectedEdge]) -> Result<Stripes<A>, NoMemory> {
-        let begins = Vec::with_capacity(alloc, edges.len())?;
-        let (least, bits) = match (edges.first(), edges.last()) {
+    fn over<T, F: Fn(&T) -> Pt>(alloc: A, items: &[T], vertex: &F) -> Result<Stripes<A>, NoMemory>
+        requires { F.IsAlwaysCallable vertex.now }
+    {
+        let begins = Vec::with_capacity(alloc, items.len())?;
+        let (least, bits) = match (items.first(), items.last()) {
             (Some(first), Some(last)) => {
-                let span = last.from.x.abs_diff(first.from.x);
-                (first.from.x, bits_below(span, edges.len()))
+                let least = vertex(first).x;
+                let span = vertex(last).x.abs_diff(least);
+                (least, bits_below(span, items.len()))
             }
             _ => (0, 0),
         };
@@ -59,29 +64,34 @@ impl<A: Allocator + Copy> Stripes<A> {
         })
     }
 
-    /// The stripe of a vertex.
-    fn stripe_of(&self, v: Pt) -> usize
+    /// The stripe of a column.
+    fn stripe_of(&self, column: i32) -> usize
         ensures { result < 2 ^ 32 }
     {
-        v.x.abs_diff(self.least).wrapping_shr(self.bits) as usize
+        column.abs_diff(self.least).wrapping_shr(self.bits) as usize
     }
 
-    /// Notes that an edge leaves a vertex, for its stripe and the empty ones before it.
+    /// Notes that an item's vertex is this one, for its stripe and the empty ones before it.
     fn note(&mut self, v: Pt, place: usize) -> Result<(), NoMemory> {
-        let stripe = self.stripe_of(v);
+        let stripe = self.stripe_of(v.x);
         if self.begins.len() <= stripe {
             self.begins.resize(stripe + 1, place)?;
         }
         Ok(())
     }
 
-    /// Where the edges of a stripe begin; behind all others where none does.
-    fn begin_of(&self, stripe: usize, edges: usize) -> usize {
+    /// Where the items of a stripe begin; behind all others where none does.
+    fn begin_of(&self, stripe: usize, items: usize) -> usize {
         if stripe < self.begins.len() {
             self.begins[stripe]
         } else {
-            edges
+            items
         }
+    }
+
+    /// Where the items in the stripe of a column begin, of so many, as the stripes say it.
+    pub fn begin_at(&self, column: i32, items: usize) -> usize {
+        self.begin_of(self.stripe_of(column), items)
     }
 }
 
@@ -139,7 +149,7 @@ pub fn first_leaving(edges: ClosingEdges<'_>, v: Pt) -> usize
 pub fn first_at<A: Allocator + Copy>(edges: ClosingEdges<'_>, stripes: &Stripes<A>, v: Pt) -> usize
     ensures { IsFirstAt (λ d. d.from) edges.entry.list.now v result }
 {
-    let stripe = stripes.stripe_of(v);
+    let stripe = stripes.stripe_of(v.x);
     let from = stripes.begin_of(stripe, edges.list.len());
     let to = stripes.begin_of(stripe + 1, edges.list.len());
     if from <= to

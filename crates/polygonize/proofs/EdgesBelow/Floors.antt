@@ -1,10 +1,12 @@
 -- The floors of vertices: an edge that lies at or above a vertex, or at or below its floor, isn't nearer.
-use Rattle.std.proofs.Common.{◌≡◌, ℕ, ◌<◌, ◌^◌, inl, inr, refl, sym, ◌∙◌, ap, subst, Option, Some, None, List, [], ◌∷◌, length, set, replicate, arith, true, w32, to_z, of_z, to_z-of_z, FitsSigned}
+use Rattle.std.proofs.Common.{◌≡◌, ℕ, ◌+◌, ◌<◌, ◌^◌, inl, inr, refl, sym, ◌∙◌, ap, subst, Option, Some, None, List, [], ◌∷◌, length, set, replicate, arith, true, w32, to_z, of_z, to_z-of_z, FitsSigned}
 use Rattle.std.specs.Int.{int_max, int_min}
 use Rattle.std.specs.Prelude.{All, IfSome, ℤ, pos, ◌+ℤ◌, ◌-ℤ◌, ◌*ℤ◌, ◌<ℤ◌, ◌≤ℤ◌}
 use Rattle.std.proofs.lemmas.Int.{ints, int_max_is, int_min_is}
-use Rattle.std.proofs.lemmas.Bool.{cases_eq}
-use Rattle.std.proofs.lemmas.List.{get_or-replicate, get_or-set_same, get_or-set_other, length-set, length-replicate}
+use Rattle.std.proofs.lemmas.Bool.{cases_eq, cases_lt}
+use Rattle.std.proofs.lemmas.List.{get_or-replicate, get_or_past, get_or-set_same, get_or-set_other, length-set, length-replicate}
+use Rattle.box_lanes.specs.Sides.{IsColumn}
+use Rattle.box_lanes.proofs.BoxLaws.{column_put}
 use Rattle.geom.specs.declared.point.Pt.{Pt}
 use Rattle.geom.specs.declared.edge.Edge.{Edge}
 use Rattle.geom.specs.declared.directed.DirectedEdge.{DirectedEdge}
@@ -19,6 +21,7 @@ use Rattle.geom.proofs.Doubling.{back}
 use Rattle.geom.proofs.Numbers.{from_same, gap_is, itself, weak}
 use Rattle.polygonize.specs.Below.{AreFloors, AreKnown, IsAsNear, IsFloor, IsGapOf, best_at, floor_at, gap_height, highest_row, least_row, lowest_row, vertex_at}
 use Rattle.polygonize.specs.Next.{edge_at, nothing}
+use Rattle.polygonize.specs.Reaching.{IsLengthened}
 use Rattle.polygonize.specs.declared.below.Gap.{Gap}
 use Rattle.polygonize.proofs.EdgesBelow.GapsBelow.{over_is, run_right}
 use Rattle.polygonize.proofs.EdgesBelow.Nearness.{nothing_below}
@@ -152,12 +155,15 @@ inside_of ds v None h = tt
 inside_of ds v (Some g) h = h.inside
 
 -- one gap is set, and a floor of it
-pub floors_set : (ds : List DirectedEdge) (best : List (Option Gap)) (floors : List ℤ) (place : ℕ) (least : Option Gap) (floor : ℤ) → place < length best → IsFloor ds (best_at (set best place least) place) floor → AreFloors ds best floors → AreFloors ds (set best place least) (set floors place floor)
-floors_set ds best floors place least floor within is f = record {
-  same_length = length-set floors place floor ∙ f.same_length ∙ sym (length-set best place least);
+pub floors_set : (ds : List DirectedEdge) (best : List (Option Gap)) (floors : List ℤ) (place : ℕ) (least : Option Gap) (floor : ℤ)
+    → place < length best → FitsSigned w32 floor → IsFloor ds (best_at (set best place least) place) floor → AreFloors ds best floors
+    → AreFloors ds (set best place least) (set floors place floor)
+floors_set ds best floors place least floor within fits is f = record {
+  room = length-set floors place floor ∙ f.room ∙ ap (λ n. n + 16) (sym (length-set best place least));
+  column = rw (to_z-of_z fits) at (column_put floors place floor f.column fits);
   each = λ r h. elim (cases_eq r place) [
     | inl same ↦ subst (λ (t : ℕ). IsFloor ds (best_at (set best place least) t) (floor_at (set floors place floor) t)) (sym same)
-        (subst (λ (z : ℤ). IsFloor ds (best_at (set best place least) place) z) (sym (get_or-set_same floors place floor (pos 0) (let e = f.same_length in omega (arith, e, within)))) is)
+        (subst (λ (z : ℤ). IsFloor ds (best_at (set best place least) place) z) (sym (get_or-set_same floors place floor (pos 0) (let e = f.room in omega (arith, e, within)))) is)
     | inr other ↦ subst (λ (g : Option Gap). IsFloor ds g (floor_at (set floors place floor) r)) (sym (get_or-set_other best place r least None other))
         (subst (λ (z : ℤ). IsFloor ds (best_at best r) z) (sym (get_or-set_other floors place r floor (pos 0) other)) (f.each r (let e = length-set best place least in omega (arith, e, h))))
   ];
@@ -171,8 +177,23 @@ least_is_floor : (ds : List DirectedEdge) (best : Option Gap) → All (λ d. Are
 least_is_floor ds None l i = refl
 least_is_floor ds (Some g) l i = let m = edges_within ds g.number l i in let w = least_within _ _ (lowest_row (edge_at ds g.number)) refl m.a_in.y_in m.b_in.y_in in (itself least_row, from_least _ w)
 
-pub first_floors : (ds : List DirectedEdge) (vertices : List Pt) (best : List (Option Gap)) (n : ℕ) → n ≡ length best → All (λ d. AreInLimit d.from d.to) ds → AreKnown ds vertices best → AreFloors ds best (replicate n least_row)
-first_floors ds vertices best n e l k = record {
-  same_length = length-replicate n least_row ∙ e;
-  each = λ r h. subst (λ (z : ℤ). IsFloor ds (best_at best r) z) (sym (get_or-replicate n r least_row (pos 0) (omega (arith, e, h)))) (least_is_floor ds (best_at best r) l (inside_of ds (vertex_at vertices r) (best_at best r) (k r)));
+fits_least : FitsSigned w32 least_row
+fits_least = record { sfits = omega arith }
+
+column_least : (n : ℕ) → IsColumn (replicate n least_row)
+column_least n = record {
+  fits = λ k. elim (cases_lt k n) [
+    | inl l ↦ rw (get_or-replicate n k least_row (pos 0) l) fits_least
+    | inr l ↦ rw (get_or_past (replicate n least_row) k (pos 0) (omega (arith, length-replicate n least_row))) (record { sfits = omega arith })
+  ];
+}
+
+-- so many least rows, and numbers behind them
+pub first_floors : (ds : List DirectedEdge) (vertices : List Pt) (best : List (Option Gap)) (n : ℕ) (floors : List ℤ) → n ≡ length best
+    → All (λ d. AreInLimit d.from d.to) ds → AreKnown ds vertices best → IsLengthened (replicate n least_row) floors → AreFloors ds best floors
+first_floors ds vertices best n floors e l k m = let many = length-replicate n least_row in record {
+  room = m.room ∙ ap (λ n. n + 16) (many ∙ e);
+  column = m.column (column_least n);
+  each = λ r h. subst (λ (z : ℤ). IsFloor ds (best_at best r) z) (sym (m.kept r (omega (arith, e, h, many)) ∙ get_or-replicate n r least_row (pos 0) (omega (arith, e, h))))
+      (least_is_floor ds (best_at best r) l (inside_of ds (vertex_at vertices r) (best_at best r) (k r)));
 }

@@ -1,27 +1,35 @@
 -- The nearest edges below many vertices, by parts of the vertices and of the edges.
-use Rattle.std.proofs.Common.{◌≡◌, ◌≢◌, ◌⊎◌, ℕ, zero, suc, [], ◌+◌, ◌-◌, ◌<◌, ◌≤◌, inl, inr, refl, sym, ◌∙◌, ap, subst, Option, Some, None, List, ◌++◌, ◌∷◌, length, get_or, set, map, take, drop, replicate, flat_map, arith, length-append}
-use Rattle.std.specs.Prelude.{All, Contains, IfSome, ℤ, ◌*ℤ◌, ◌≤ℤ◌, slice_range}
+use Rattle.std.proofs.Common.{◌≡◌, ◌≢◌, ◌⊎◌, ℕ, zero, suc, [], ◌+◌, ◌-◌, ◌<◌, ◌≤◌, inl, inr, refl, sym, ◌∙◌, ap, subst, Option, Some, None, List, ◌++◌, ◌∷◌, length, get_or, set, map, take, drop, replicate, flat_map, arith, length-append, ◌↔◌, Bool, true, false, cond, ◌&&◌}
+use Rattle.std.specs.Prelude.{All, Contains, IfSome, ℤ, ◌*ℤ◌, ◌≤ℤ◌, slice_range, int_lt}
 use Rattle.std.specs.List.{AllZip}
 use Rattle.std.proofs.lemmas.Bool.{cases_eq, cases_lt}
+use Rattle.std.proofs.lemmas.Int.{ints}
+use Rattle.std.proofs.lemmas.Nat.Bits.{bit_at-zero}
 use Rattle.std.proofs.lemmas.List.{get_or-set_same, get_or-set_other, get_or_default, get_or_past, get_or-map, get_or_append_left, length-map, length-set, append-nil, drop-drop, drop_all, take_all}
 use Rattle.std.proofs.Math.Seq.{get_or-append_right, take-add}
 use Rattle.std.proofs.lemmas.List.Elements.{All-contains, All-map, Contains-append_cases, Contains-get_or}
+use Rattle.box_lanes.specs.Places.{IsPlace}
+use Rattle.box_lanes.specs.Sides.{sixteen}
+use Rattle.box_lanes.proofs.LaneLaws.{sixteen_bit}
 use Rattle.geom.specs.declared.point.Pt.{Pt}
 use Rattle.geom.specs.declared.edge.Edge.{Edge}
 use Rattle.geom.specs.declared.directed.DirectedEdge.{DirectedEdge}
 use Rattle.geom.specs.Directed.{RunsAlong}
 use Rattle.geom.specs.Limit.{AreInLimit, InLimit}
 use Rattle.geom.specs.Holes.{IsHole, LiesBelow, height, left_of, run_of}
-use Rattle.polygonize.specs.Below.{AreFoundBelow, AreGapsBelow, AreKnown, AreNearer, AreNearerFor, AreNearerSpanning, AreTakenBut, IsAsNear, IsFoundBelow, IsGapOf, IsLesserGap, RunsBelow, StandAt, best_at, gap_height, vertex_at}
+use Rattle.polygonize.specs.Below.{AreFoundBelow, AreGapsBelow, AreKnown, AreNearer, AreNearerFor, AreNearerSpanning, AreNearerWithin, AreTakenBut, IsAsNear, IsFloor, IsFoundBelow, IsGapOf, IsLesserGap, RunsBelow, StandAt, best_at, gap_height, highest_row, lowest_row, vertex_at}
 use Rattle.polygonize.specs.Column.{AreColumnsOf, IsIn, Meets, Spans}
 use Rattle.polygonize.specs.Next.{edge_at, first_vertex, nothing, ring_of}
+use Rattle.polygonize.specs.Reaching.{reaches}
 use Rattle.polygonize.specs.declared.below.Gap.{Gap}
 use Rattle.polygonize.specs.declared.column.Columns.{Columns}
+use Rattle.polygonize.specs.declared.short.Rows.{Rows}
 use Rattle.polygonize.specs.Written.{ArePlaces}
 use Rattle.hands.specs.declared.part.Part.{Part}
 use Rattle.hands.specs.Consecutive.{ArePartsOf}
 use Rattle.hands.proofs.Consecutive.{behind_one_another}
 use Rattle.polygonize.proofs.EdgesBelow.Columns.{below_meets, meets_or_not, spans_or_not}
+use Rattle.polygonize.proofs.EdgesBelow.Floors.{near_above, near_below}
 use Rattle.polygonize.proofs.EdgesBelow.Nearness.{known_lesser, near_first, near_second, nothing_below}
 
 -- ---- one vertex after another
@@ -66,17 +74,84 @@ module _ (ds : List DirectedEdge) (vertices : List Pt) (P : ℕ → Type 0) wher
       ];
     }
 
-  -- where the gap is as near already
-  pub one_passed : (Asked Next : ℕ → Type 0) (place : ℕ) (old best : List (Option Gap)) → ((r : ℕ) → Next r → Asked r ⊎ (r ≡ place)) → ((k : ℕ) → P k → IsAsNear (edge_at ds k) (vertex_at vertices place) (best_at best place)) → AreNearerFor ds vertices Asked P old best → AreNearerFor ds vertices Next P old best
-  one_passed Asked Next place old best then near s = record {
-    same_length = s.same_length;
-    known = s.known;
-    kept = s.kept;
+  -- some vertices after others
+  pub then_asked : (First Second Asked : ℕ → Type 0) (old one two : List (Option Gap)) → ((r : ℕ) → Asked r → First r ⊎ Second r)
+      → AreNearerFor ds vertices First P old one → AreNearerFor ds vertices Second P one two → AreNearerFor ds vertices Asked P old two
+  then_asked First Second Asked old one two then a b = record {
+    same_length = b.same_length ∙ a.same_length;
+    known = b.known;
+    kept = λ r d h. b.kept r d (a.kept r d h);
     near = λ r n k p. elim (then r n) [
-      | inl a ↦ s.near r a k p
-      | inr same ↦ (let R : ℕ → Type 0 = λ t. IsAsNear (edge_at ds k) (vertex_at vertices t) (best_at best t) in subst R (sym same) (near k p))
+      | inl f ↦ b.kept r (edge_at ds k) (a.near r f k p)
+      | inr f ↦ b.near r f k p
     ];
   }
+
+-- ---- sixteen vertices, by bits
+
+-- no gap grows, and each of the sixteen vertices from one place on, but before another one, is left, by its bit, or its gap is now at most that of the edge
+pub record AreNearerBut (ds : List DirectedEdge) (vertices : List Pt) (number at past left : ℕ) (old best : List (Option Gap)) : Type 0 where
+  pub nearer : AreNearerFor ds vertices (λ r. ⊥) (λ k. k ≡ number) old best
+  pub others : (k : ℕ) → k < 16 → at + k < past → IsPlace left k ⊎ IsAsNear (edge_at ds number) (vertex_at vertices (at + k)) (best_at best (at + k))
+
+module _ (ds : List DirectedEdge) (vertices : List Pt) (number at past : ℕ) (old best : List (Option Gap)) where
+  -- one bit after another
+  pub but_added : (left rest lane : ℕ) (now : List (Option Gap)) → ((k : ℕ) → IsPlace rest k ↔ (IsPlace left k × (k ≢ lane)))
+      → AreNearerWithin ds vertices number (at + lane) (at + lane + 1) best now → AreNearerBut ds vertices number at past left old best
+      → AreNearerBut ds vertices number at past rest old now
+  but_added left rest lane now others a s = record {
+    nearer = then_asked ds vertices (λ k. k ≡ number) (λ r. ⊥) (λ r. (at + lane ≤ r) × (r < at + lane + 1)) (λ r. ⊥) old best now (λ r e. inl e) s.nearer a;
+    others = λ k l h. elim (s.others k l h) [
+      | inl p ↦ elim (cases_eq k lane) [
+        | inl same ↦ inr (subst (λ (m : ℕ). IsAsNear (edge_at ds number) (vertex_at vertices (at + m)) (best_at now (at + m))) (sym same)
+            (a.near (at + lane) (omega arith, omega arith) number refl))
+        | inr other ↦ inl ((others k).1 (p, other))
+      ]
+      | inr n ↦ inr (a.kept (at + k) (edge_at ds number) n)
+    ];
+  }
+
+  -- no bit is left
+  pub but_none : AreNearerBut ds vertices number at past 0 old best → AreNearerFor ds vertices (λ r. (at ≤ r) × (r < at + 16) × (r < past)) (λ k. k ≡ number) old best
+  but_none s = record {
+    same_length = s.nearer.same_length;
+    known = s.nearer.known;
+    kept = s.nearer.kept;
+    near = λ r h k e. (
+        let from = h.0 in
+        let is : at + (r - at) ≡ r = omega (arith, from) in
+        elim (s.others (r - at) (let l = h.1 in omega (arith, l)) (let l = h.2 in omega (arith, is, l))) [
+          | inl p ↦ absurd (let b = p.bit in let z = bit_at-zero (r - at) in omega (arith, b, z))
+          | inr n ↦ subst (λ (m : ℕ). IsAsNear (edge_at ds m) (vertex_at vertices r) (best_at best r)) (sym e)
+              (subst (λ (m : ℕ). IsAsNear (edge_at ds number) (vertex_at vertices m) (best_at best m)) is n)
+        ]);
+  }
+
+one_untold : (a b : Bool) → a && b ≡ false → (a ≡ false) ⊎ (b ≡ false)
+one_untold true b e = inr e
+one_untold false b e = inl refl
+
+-- an edge that doesn't reach a vertex isn't below it, or isn't nearer
+pub near_unreached : (ds : List DirectedEdge) (d : DirectedEdge) (v : Pt) (best : Option Gap) (rows : Rows) (high floor : ℤ) → AreInLimit d.from d.to → IfSome best (IsGapOf ds v)
+    → IsFloor ds best floor → rows.low ≡ lowest_row d → rows.high ≡ highest_row d → high ≡ v.y → reaches rows high floor ≡ false → IsAsNear d v best
+near_unreached ds d v best rows high floor l known is e f g untold = elim (one_untold (int_lt rows.low high) (int_lt floor rows.high) untold) [
+  | inl h ↦ near_above d v best (let t = lt_untold rows.low high h in omega (arith, ints, e, g, t))
+  | inr h ↦ near_below ds d v best floor l known is (let t = lt_untold floor rows.high h in omega (arith, ints, f, t))
+]
+  where
+    lt_untold : (a b : ℤ) → int_lt a b ≡ false → b ≤ℤ a
+    lt_untold a b h = omega (arith, ints)
+
+bit_told : (bit : ℕ) (b : Bool) → bit ≡ cond b 1 0 → (bit ≡ 1) ⊎ (b ≡ false)
+bit_told bit true e = inl e
+bit_told bit false e = inr refl
+
+-- the bit of a test is set, or the test says no
+pub reached_or : (p : ℕ → Bool) (at k : ℕ) → k < 16 → IsPlace (sixteen p at) k ⊎ (p (at + k) ≡ false)
+reached_or p at k l = elim (bit_told _ (p (at + k)) (sixteen_bit p at k l)) [
+  | inl b ↦ inl (record { bit = b })
+  | inr b ↦ inr b
+]
 
 -- the place is one of the first n that are asked for
 abbrev pub IsOneOfFirst : List ℕ → ℕ → ℕ → Type 0

@@ -7,13 +7,19 @@ use Rattle.polygonize.proofs.EdgesBelow.Short.{parted}
 use Rattle.polygonize.proofs.short.first_past.Goals as goal
 
 pub returns-clause-before : goal.returns-clause-before
-returns-clause-before c =
+returns-clause-before g c =
     let column = c.args.column in
-    let point = IsPartitionPoint-from_clause (λ (v : Pt). int_le v.x column) c.args.vertices.now c.partition_point.result c.partition_point.ensures.partitioned (parted c.args.vertices.now c.requires.from_left column) (λ a r f k. search rules) in
+    let vertices = c.args.vertices.now in
+    let found = c.partition_point.ensures.partitioned in
+    let parts = parted vertices c.requires.from_left column in
+    let point = IsPartitionPoint-from_clause (λ (v : Pt). int_le v.x column) vertices c.partition_point.result found parts (λ a r f k. search rules) in
     λ r h. le_told _ column (point.0 r nothing.from (omega arith) h)
 
 pub returns-clause-past : goal.returns-clause-past
-returns-clause-past c =
+returns-clause-past g c =
     let column = c.args.column in
-    let point = IsPartitionPoint-from_clause (λ (v : Pt). int_le v.x column) c.args.vertices.now c.partition_point.result c.partition_point.ensures.partitioned (parted c.args.vertices.now c.requires.from_left column) (λ a r f k. search rules) in
+    let vertices = c.args.vertices.now in
+    let found = c.partition_point.ensures.partitioned in
+    let parts = parted vertices c.requires.from_left column in
+    let point = IsPartitionPoint-from_clause (λ (v : Pt). int_le v.x column) vertices c.partition_point.result found parts (λ a r f k. search rules) in
     λ r l m. le_untold _ column (point.1 r nothing.from l m)

@@ -3,21 +3,21 @@ use Rattle.polygonize.proofs.EdgesBelow.Short.{greatest_within, least_within, st
 use Rattle.polygonize.proofs.short.places_over.Goals as goal
 
 pub first_past-from-requires-clause-column_in : goal.first_past-from-requires-clause-column_in
-first_past-from-requires-clause-column_in c =
+first_past-from-requires-clause-column_in g c =
     let a = back c.args.edge.from.x c.requires.edge_in.a_in.x_in in
     let b = back c.args.edge.to.x c.requires.edge_in.b_in.x_in in
     let m = least_within _ _ c.min.result (rw (a, b) at c.min.ensures.value) c.requires.edge_in.a_in.x_in c.requires.edge_in.b_in.x_in in
     rw (back c.min.result m) m
 
 pub first_past_near-requires-clause-column_in : goal.first_past_near-requires-clause-column_in
-first_past_near-requires-clause-column_in c =
+first_past_near-requires-clause-column_in g c =
     let a = back c.args.edge.from.x c.requires.edge_in.a_in.x_in in
     let b = back c.args.edge.to.x c.requires.edge_in.b_in.x_in in
     let m = greatest_within _ _ c.max.result (rw (a, b) at c.max.ensures.value) c.requires.edge_in.a_in.x_in c.requires.edge_in.b_in.x_in in
     rw (back c.max.result m) m
 
 pub returns : goal.returns
-returns c =
+returns g c =
     let edge = c.args.edge in
     let a = back edge.from.x c.requires.edge_in.a_in.x_in in
     let b = back edge.to.x c.requires.edge_in.b_in.x_in in
@@ -28,4 +28,4 @@ returns c =
     (rw (back c.max.result (greatest_within _ _ c.max.result high c.requires.edge_in.a_in.x_in c.requires.edge_in.b_in.x_in)) at c.in_ok-past.ensures.past)
 
 pub returns-then-not-meets : goal.returns-then-not-meets
-returns-then-not-meets c = stands_over_none c.args.edge c.args.vertices.now c.args.all c.requires.each (λ m. let a = c.meets.ensures.1 m in let b = c.if-not-meets.true in cc)
+returns-then-not-meets g c = stands_over_none c.args.edge c.args.vertices.now c.args.all c.requires.each (λ m. let a = c.meets.ensures.1 m in let b = c.if-not-meets.true in cc)
