@@ -4,7 +4,6 @@ use Rattle.std.specs.List.{All, AllPairs, AllWithin, Contains}
 use Rattle.std.specs.Prelude.{pos, ◌<ℤ◌, ◌≤ℤ◌, slice_range}
 use Rattle.std.proofs.Math.Seq.{drop-cons}
 use Rattle.std.proofs.lemmas.List.{map-append, take-append-drop}
-use Rattle.std.proofs.lemmas.List.Kept.{AllPairs-cons}
 use Rattle.std.proofs.lemmas.List.Elements.{All-append, All-cons, All-nil, Contains-append_cases, Contains-append_left, Contains-append_right}
 use Rattle.geom.specs.declared.point.Pt.{Pt}
 use Rattle.geom.specs.declared.segment.Source.{Source}
@@ -15,8 +14,7 @@ use Rattle.geom.specs.Order.{IsBefore, IsUpTo}
 use Rattle.geom.specs.Parity.{parity}
 use Rattle.geom.specs.ResultEdges.{left_side}
 use Rattle.geom.specs.Rounded.{edges_of, odd_edges}
-use Rattle.geom.proofs.Lists.{In, contains_in, in_append, in_back, in_contains, in_front, map_in, some_same}
-use Rattle.geom.proofs.ListOrder.{pairs_head, pairs_tail}
+use Rattle.geom.proofs.Lists.{In, contains_in, in_back, in_contains, map_in, some_same}
 use Rattle.points_law.specs.Law.{AreLayers}
 use Rattle.label_sweep.specs.declared.standing.Spoke.{Spoke}
 use Rattle.label_sweep.specs.declared.standing.StandingEdge.{StandingEdge}
@@ -24,7 +22,7 @@ use Rattle.label_sweep.specs.declared.swept.SweptEdge.{SweptEdge}
 use Rattle.label_sweep.specs.Labels.{IsSweptUpTo, edge_beside, lowest_of}
 use Rattle.label_sweep.specs.Status.{AreSpokes, AreStanding, IsVertexOf, Reaches}
 use Rattle.label_sweep.specs.Swept.{AreBehind, AreSweptFrom, IsBehind, IsBeside, besides_from, parity_beside}
-use Rattle.label_sweep.proofs.Members.{all_of_in, in_drop, in_of_all}
+use Rattle.label_sweep.proofs.Members.{all_of_in, in_drop, in_of_all, pairs_across, pairs_back, pairs_front, pairs_joined}
 use Rattle.label_sweep.proofs.Parts.{none_sliced, slice_behind}
 use Rattle.label_sweep.proofs.Passing.{edge_of, high_all, low_all, mid_all, standing_parts}
 use Rattle.label_sweep.proofs.Turning.{edge_at}
@@ -137,26 +135,6 @@ module _ (cs : List Counted) (h : AreLayers cs) (v : Pt) (x : IsVertexOf (edges_
       (lowest_begins (edges_of cs) v (drop high s) reaches))
 
 -- ---- lists behind one another
-module _ {X : Type 0} (R : X → X → Type 0) where
-  pub pairs_front : (xs ys : List X) → AllPairs R (xs ++ ys) → AllPairs R xs
-  pairs_front [] ys h = λ i j d l m. absurd (omega (arith, m))
-  pairs_front (x ∷ xs) ys h = AllPairs-cons R x xs (all_of_in (R x) xs (λ y i. pairs_head R x (xs ++ ys) h y (in_front xs ys y i))) (pairs_front xs ys (pairs_tail R x (xs ++ ys) h))
-
-  pub pairs_back : (xs ys : List X) → AllPairs R (xs ++ ys) → AllPairs R ys
-  pairs_back [] ys h = h
-  pairs_back (x ∷ xs) ys h = pairs_back xs ys (pairs_tail R x (xs ++ ys) h)
-
-  pub pairs_across : (xs ys : List X) → AllPairs R (xs ++ ys) → (x y : X) → In x xs → In y ys → R x y
-  pairs_across [] ys h x y i j = absurd i
-  pairs_across (z ∷ xs) ys h x y (inl e) j = subst (λ t. R t y) e (pairs_head R z (xs ++ ys) h y (in_back xs ys y j))
-  pairs_across (z ∷ xs) ys h x y (inr i) j = pairs_across xs ys (pairs_tail R z (xs ++ ys) h) x y i j
-
-  pub pairs_joined : (xs ys : List X) → AllPairs R xs → AllPairs R ys → ((x y : X) → In x xs → In y ys → R x y) → AllPairs R (xs ++ ys)
-  pairs_joined [] ys h k across = k
-  pairs_joined (x ∷ xs) ys h k across = AllPairs-cons R x (xs ++ ys)
-      (all_of_in (R x) (xs ++ ys) (λ y i. ⊎_elim (λ j. pairs_head R x xs h y j) (λ j. across x y (inl refl) j) (in_append xs ys y i)))
-      (pairs_joined xs ys (pairs_tail R x xs h) k (λ y z i j. across y z (inr i) j))
-
 module _ (es : List Edge) where
   behind_any : (before : Option SweptEdge) (ss : List SweptEdge) → AreBehind es None ss → AreBehind es before ss
   behind_any before [] h = tt

@@ -4,7 +4,7 @@ use Rattle.std.specs.List.{All, AllPairs, AllZip, Contains}
 use Rattle.std.specs.Prelude.{◌<ℤ◌, ◌≤ℤ◌}
 use Rattle.std.proofs.Math.IntN.{ℤ}
 use Rattle.std.proofs.lemmas.Bool.{cases_lt}
-use Rattle.std.proofs.lemmas.Int.{by_lt_z, ints}
+use Rattle.std.proofs.lemmas.Int.{by_lt_z}
 use Rattle.std.proofs.lemmas.List.{get_or_default}
 use Rattle.std.proofs.lemmas.List.Elements.{All-head, All-tail}
 use Rattle.geom.specs.declared.point.Pt.{Pt}
@@ -17,18 +17,10 @@ use Rattle.geom.proofs.Numbers.{itself, le_le, lt_le, weak}
 use Rattle.hands.specs.declared.part.Part.{Part}
 use Rattle.hands.specs.Consecutive.{ArePartsOf}
 use Rattle.hands.proofs.Consecutive.{behind_one_another}
-use Rattle.label_sweep.proofs.Borders.{edge_not_right}
+use Rattle.label_sweep.proofs.Borders.{clash, edge_not_right}
+use Rattle.label_sweep.proofs.Members.{some_item}
 use Rattle.label_sweep.specs.Column.{IsStrip, LiesBetween, OpensColumn}
 use Rattle.label_sweep.specs.Status.{IsVertexOf}
-
--- ---- columns
-clash : {x y : ℤ} → x ≤ℤ y → y <ℤ x → ⊥
-clash l m = omega (arith, ints, l, m)
-
--- there is an edge with a number, if there are more than that
-edge_of : (cs : List Counted) (n : ℕ) → n < length cs → Counted
-edge_of [] n l = absurd (omega (arith, l))
-edge_of (c ∷ cs) n l = c
 
 -- ---- strips behind one another
 module _ (cs : List Counted) where
@@ -41,7 +33,7 @@ module _ (cs : List Counted) where
 
   -- no point lies in no columns
   pub none_between : (n : ℕ) (v : Pt) → LiesBetween cs n n v → ⊥
-  none_between n v h = let l = h.from_edge.0 in let c = edge_of cs n l in clash (h.from_edge.1 c) (h.to_edge c l)
+  none_between n v h = let l = h.from_edge.0 in let c = some_item cs n l in clash (h.to_edge c l) (h.from_edge.1 c)
 
   -- where a column opens, no edge before begins in a later one
   pub opens_after : (a b : ℕ) → a ≤ b → OpensColumn cs b → (c : Counted) → b < length cs → column a c ≤ℤ column b c
@@ -73,13 +65,13 @@ module _ (cs : List Counted) where
     between_cases h = ⊎_elim inside (λ m. inl (record { from_edge = h.from_edge; to_edge = λ d l. absurd (omega (arith, l, m)) })) (cases_lt b (length cs))
       where
         inside : b < length cs → LiesBetween cs a b v ⊎ LiesBetween cs b c v
-        inside l = let e = edge_of cs b l in by_lt_z v.x (column b e)
+        inside l = let e = some_item cs b l in by_lt_z v.x (column b e)
             (λ m. inl (record { from_edge = h.from_edge; to_edge = λ d k. subst (λ x. v.x <ℤ x) (same_column b e d l) m }))
             (λ m. inr (record { from_edge = (l, λ d. subst (λ x. x ≤ℤ v.x) (same_column b e d l) m); to_edge = h.to_edge }))
 
   -- what lies in the front lies on the left of what lies in the back
   pub front_is_left : (a b c : ℕ) (u v : Pt) → LiesBetween cs a b u → LiesBetween cs b c v → u.x <ℤ v.x
-  front_is_left a b c u v h k = let l = k.from_edge.0 in let e = edge_of cs b l in lt_le _ _ _ (h.to_edge e l) (k.from_edge.1 e)
+  front_is_left a b c u v h k = let l = k.from_edge.0 in let e = some_item cs b l in lt_le _ _ _ (h.to_edge e l) (k.from_edge.1 e)
 
   -- the first column opens, and so does what is behind the last one
   pub first_opens : OpensColumn cs 0

@@ -11,6 +11,7 @@ use Rattle.std.proofs.lemmas.List.Concat.{flat_map-append, get_or-flat_map}
 use Rattle.std.proofs.lemmas.List.Elements.{All-append, All-cons, All-drop, All-nil, All-set, All-take}
 use Rattle.std.proofs.lemmas.List.Folds.{length-flat_map-take}
 use Rattle.points_law.proofs.Even.{not_true}
+use Rattle.label_sweep.proofs.Members.{some_item}
 
 positive : (n : ℕ) → (n ≡ 0 → ⊥) → 0 < n
 positive zero h = absurd (h refl)
@@ -19,10 +20,6 @@ positive (suc n) h = omega arith
 not_both : (b : Bool) → b ≡ true → b ≡ false → ⊥
 not_both true h k = absurd (let t = k in cc)
 not_both false h k = absurd (let t = h in cc)
-
-pub first_of : {X : Type 0} (xs : List X) → 0 < length xs → X
-first_of [] h = absurd (omega arith)
-first_of (x ∷ xs) h = x
 
 opens_first : {X : Type 0} (p : X → Bool) (xs : List X) (d : X) → 0 < length xs → opens p xs ≡ p (get_or xs 0 d)
 opens_first p [] d h = absurd (omega arith)
@@ -135,7 +132,7 @@ module _ {X Y : Type 0} (f : Y → List X) where
               let same : get_or cs (suc j) c ≡ c = ap (λ i. get_or cs i c) (sym e) ∙ sym is in
               let P : Y → Type 0 = λ y. 0 < length (f y) in
               let some : 0 < length (f c) = subst P same (filled_at cs filled j c n) in
-              let x : X = first_of (f c) some in
+              let x : X = some_item (f c) 0 some in
               not_both (p (get_or (f c) 0 x)) (sym (opens_first p (f c) x some) ∙ ap (λ y. opens p (f y)) (sym same ∙ sym (after_one cs j c)) ∙ low j c (omega arith) (omega (arith, e)))
               (flat 0 x (omega (arith, z)) some)
 
@@ -276,7 +273,7 @@ module _ {X Y : Type 0} (f : Y → List X) where
 
     pub listed_all : (k : ℕ) → k ≡ j + 1 → listed k ≡ slice_range (flat_map f cs) (before f cs i + m) (before f cs j + n)
     listed_all k e =
-        let d : Y = first_of cs (omega (arith, h)) in
+        let d : Y = some_item cs j h in
         let past : before f cs k ≡ before f cs (suc j) = (let s : k ≡ suc j = omega (arith, e) in ap (before f cs) s) in
         let more = before_more f cs j d h in
         let inside = last d in
@@ -334,7 +331,7 @@ module _ {X Y : Type 0} (f : Y → List X) where
 
           there : k ≢ i → a ≡ 0 → listed k ++ slice_range (f c) (min a b) b ≡ listed (k + 1)
           there ne g =
-              let d : Y = first_of cs (omega (arith, h)) in
+              let d : Y = some_item cs j h in
               let first_more = before_more f cs i d (omega (arith, o, h)) in
               let in_first = first d in
               let earlier = before_order f cs (suc i) k (omega (arith, from, ne)) in

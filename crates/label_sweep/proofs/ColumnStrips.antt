@@ -1,5 +1,5 @@
 -- Strips of columns: which vertices lie in one, and which edges begin there.
-use Rattle.std.proofs.Common.{◌≡◌, ◌⊎◌, inl, inr, ⊎_elim, ℕ, ◌-◌, ◌<◌, ◌≤◌, List, [], ◌∷◌, length, get_or, take, refl, ap, ◌∙◌, subst, arith}
+use Rattle.std.proofs.Common.{◌≡◌, ◌⊎◌, inl, inr, ⊎_elim, ℕ, ◌-◌, ◌<◌, ◌≤◌, List, length, get_or, take, refl, ap, ◌∙◌, subst, arith}
 use Rattle.std.specs.List.{AllPairs, Contains}
 use Rattle.std.specs.Prelude.{slice_range, ◌<ℤ◌, ◌≤ℤ◌}
 use Rattle.std.proofs.Math.IntN.{ℤ}
@@ -24,12 +24,8 @@ use Rattle.label_sweep.specs.Leaving.{AreLeaving, AreLeavingBetween}
 use Rattle.label_sweep.specs.Status.{IsVertexOf}
 use Rattle.label_sweep.specs.Swept.{AreSweptBetween, AreSweptFrom}
 use Rattle.label_sweep.proofs.Beside.{pairs_sliced}
-use Rattle.label_sweep.proofs.Borders.{edge_not_right}
-use Rattle.label_sweep.proofs.Members.{all_of_in, in_take, part_in, take_in, within_part}
-
-some_item : {X : Type 0} (xs : List X) (n : ℕ) → n < length xs → X
-some_item [] n l = absurd (omega (arith, l))
-some_item (x ∷ xs) n l = x
+use Rattle.label_sweep.proofs.Borders.{clash, edge_not_right}
+use Rattle.label_sweep.proofs.Members.{all_of_in, in_take, part_in, some_item, take_in, within_part}
 
 through : {x y z : ℤ} → x ≤ℤ y → y <ℤ z → x <ℤ z
 through l m = omega (arith, ints, l, m)
@@ -39,9 +35,6 @@ short_of l m = omega (arith, ints, l, m)
 
 up_to : {x y z : ℤ} → x ≤ℤ y → y ≤ℤ z → x ≤ℤ z
 up_to l m = omega (arith, ints, l, m)
-
-clash : {x y : ℤ} → x <ℤ y → y ≤ℤ x → ⊥
-clash l m = omega (arith, ints, l, m)
 
 no_less : {m n : ℕ} → (m < n → ⊥) → n ≤ m
 no_less h = omega arith

@@ -1,5 +1,5 @@
 -- A status is kept in one way at most, so that it can be told from a type that knows it.
-use Rattle.std.proofs.Common.{◌≡◌, inl, inr, ⊎_elim, ℕ, ◌<◌, List, ◌++◌, length, sym, ◌∙◌, arith}
+use Rattle.std.proofs.Common.{◌≡◌, inl, inr, ⊎_elim, ℕ, ◌<◌, List, ◌++◌, length, get_or, sym, ◌∙◌, arith}
 use Rattle.std.specs.List.{All, AllPairs, Contains}
 use Rattle.std.proofs.Props.{props}
 use Rattle.std.proofs.lemmas.Bool.{cases_eq, cases_lt}
@@ -7,14 +7,6 @@ use mathlib.Core.HLevel.{is_prop→PathP, Π_prop}
 use Rattle.label_sweep.specs.declared.status.Status.{Status}
 use Rattle.label_sweep.specs.Chunks.{AreChunks}
 use Rattle.label_sweep.specs.Slots.{IsKept, numbers}
-
--- what is there, with its facts
-there_prop : {X : Type 0} {B C : X → Type 0} → ((x : X) → IsProp (B x)) → ((x : X) → IsProp (C x)) → (s t : (x : X) × B x × C x) → s.0 ≡ t.0 → s ≡ t
-there_prop {X} {B} {C} b c s t p = λ i. (
-  p i,
-  is_prop→PathP (λ j. B (p j)) (λ j. b (p j)) s.1 t.1 i,
-  is_prop→PathP (λ j. C (p j)) (λ j. c (p j)) s.2 t.2 i,
-)
 
 -- a number has one place among different ones
 module _ (xs : List ℕ) (a : AllPairs (λ i j. ¬ (i ≡ j)) xs) (x : ℕ) where
@@ -25,7 +17,11 @@ module _ (xs : List ℕ) (a : AllPairs (λ i j. ¬ (i ≡ j)) xs) (x : ℕ) wher
   ]
 
   contains_prop : IsProp (Contains xs x)
-  contains_prop s t = there_prop (λ k. hlevel props) (λ k. hlevel props) s t (one_place s t)
+  contains_prop s t = let p = one_place s t in λ i. (
+    p i,
+    is_prop→PathP (λ j. p j < length xs) (λ j. hlevel props) s.1 t.1 i,
+    is_prop→PathP (λ j. get_or xs (p j) x ≡ x) (λ j. hlevel props) s.2 t.2 i,
+  )
 
 pub kept_prop : {A : Type 0} (status : Status A) → IsProp (IsKept status)
 kept_prop status s t = λ i. record {

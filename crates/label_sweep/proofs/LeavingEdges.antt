@@ -29,9 +29,9 @@ use Rattle.label_sweep.specs.Labels.{IsLabelled, IsSweptUpTo, directions_of}
 use Rattle.label_sweep.specs.Leaving.{AreAround, AreLeaving, HaveUprightTo, IsPast, IsReadyAt, leaving_of}
 use Rattle.label_sweep.specs.Slots.{IsKept, all_standing, in_slot}
 use Rattle.label_sweep.specs.Status.{IsVertexOf}
-use Rattle.label_sweep.proofs.Beside.{pairs_across, pairs_joined, pairs_sliced, slice_more}
+use Rattle.label_sweep.proofs.Beside.{pairs_sliced, slice_more}
 use Rattle.label_sweep.proofs.Directing.{way_of}
-use Rattle.label_sweep.proofs.Members.{in_of_all}
+use Rattle.label_sweep.proofs.Members.{in_of_all, pairs_across, pairs_joined}
 use Rattle.label_sweep.proofs.Straight.{upright_is_next}
 use Rattle.label_sweep.proofs.Sweeping.{IsSwept, after_here, begins, here_at, next_one, no_other, origin}
 

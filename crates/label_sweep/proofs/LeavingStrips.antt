@@ -13,8 +13,8 @@ use Rattle.hands.specs.Consecutive.{ArePartsOf}
 use Rattle.points_law.specs.Law.{AreLayers}
 use Rattle.label_sweep.specs.Column.{IsStrip, LiesBetween, OpensColumn}
 use Rattle.label_sweep.specs.Leaving.{AreLeavingBetween}
-use Rattle.label_sweep.proofs.Beside.{pairs_joined}
 use Rattle.label_sweep.proofs.Between.{all_between, between_behind, between_cases, between_front, front_is_left, none_between, of_strips}
+use Rattle.label_sweep.proofs.Members.{pairs_joined}
 
 module _ (op : Op) (cs : List Counted) where
   -- ---- strips behind one another

@@ -1,10 +1,12 @@
--- Members of parts of lists, by recursion.
+-- Members and pairs of parts of lists, by recursion.
 use Rattle.std.proofs.Common.{◌≡◌, ◌⊎◌, inl, inr, ⊎_elim, ℕ, zero, suc, ◌+◌, ◌<◌, ◌≤◌, List, [], ◌∷◌, ◌++◌, map, length, get_or, take, drop, reverse, refl, sym, ap, ◌∙◌, subst, arith}
 use Rattle.std.specs.List.{All, AllPairs, AllWithin}
 use Rattle.std.proofs.lemmas.List.{get_or-map, length-map, reverse-append, map-append, take-append-drop}
 use Rattle.std.proofs.lemmas.List.Elements.{All-nil, All-cons, All-contains}
+use Rattle.std.proofs.lemmas.List.Kept.{AllPairs-cons}
 use Rattle.std.proofs.lemmas.List.Sorted.{Contains-permutation, IsPermutation-reverse, IsPermutation-sym}
-use Rattle.geom.proofs.Lists.{In, in_contains, contains_in, in_front, in_back}
+use Rattle.geom.proofs.Lists.{In, in_contains, contains_in, in_append, in_front, in_back}
+use Rattle.geom.proofs.ListOrder.{pairs_head, pairs_tail}
 
 module _ {X : Type 0} where
   pub all_of_in : (P : X → Type 0) (xs : List X) → ((x : X) → In x xs → P x) → All P xs
@@ -22,6 +24,11 @@ module _ {X : Type 0} where
 
   pub reverse_cons : (x : X) (xs : List X) → reverse (x ∷ xs) ≡ reverse xs ++ (x ∷ [])
   reverse_cons x xs = reverse-append (x ∷ []) xs
+
+  -- some item of a list that has a place
+  pub some_item : (xs : List X) (n : ℕ) → n < length xs → X
+  some_item [] n l = absurd (omega (arith, l))
+  some_item (x ∷ xs) n l = x
 
   -- ---- parts
   pub in_take : (n : ℕ) (xs : List X) (x : X) → In x (take n xs) → In x xs
@@ -80,7 +87,28 @@ pub map_reverse : {X Y : Type 0} (f : X → Y) (xs : List X) → map f (reverse 
 map_reverse f [] = refl
 map_reverse f (x ∷ xs) = ap (map f) (reverse_cons x xs) ∙ map-append f (reverse xs) (x ∷ []) ∙ ap (λ t. t ++ (f x ∷ [])) (map_reverse f xs) ∙ sym (reverse_cons (f x) (map f xs))
 
--- pairs of what a function gives
+-- ---- pairs of a list's two parts
+module _ {X : Type 0} (R : X → X → Type 0) where
+  pub pairs_front : (xs ys : List X) → AllPairs R (xs ++ ys) → AllPairs R xs
+  pairs_front [] ys h = λ i j d l m. absurd (omega (arith, m))
+  pairs_front (x ∷ xs) ys h = AllPairs-cons R x xs (all_of_in (R x) xs (λ y i. pairs_head R x (xs ++ ys) h y (in_front xs ys y i))) (pairs_front xs ys (pairs_tail R x (xs ++ ys) h))
+
+  pub pairs_back : (xs ys : List X) → AllPairs R (xs ++ ys) → AllPairs R ys
+  pairs_back [] ys h = h
+  pairs_back (x ∷ xs) ys h = pairs_back xs ys (pairs_tail R x (xs ++ ys) h)
+
+  pub pairs_across : (xs ys : List X) → AllPairs R (xs ++ ys) → (x y : X) → In x xs → In y ys → R x y
+  pairs_across [] ys h x y i j = absurd i
+  pairs_across (z ∷ xs) ys h x y (inl e) j = subst (λ t. R t y) e (pairs_head R z (xs ++ ys) h y (in_back xs ys y j))
+  pairs_across (z ∷ xs) ys h x y (inr i) j = pairs_across xs ys (pairs_tail R z (xs ++ ys) h) x y i j
+
+  pub pairs_joined : (xs ys : List X) → AllPairs R xs → AllPairs R ys → ((x y : X) → In x xs → In y ys → R x y) → AllPairs R (xs ++ ys)
+  pairs_joined [] ys h k across = k
+  pairs_joined (x ∷ xs) ys h k across = AllPairs-cons R x (xs ++ ys)
+      (all_of_in (R x) (xs ++ ys) (λ y i. ⊎_elim (λ j. pairs_head R x xs h y j) (λ j. across x y (inl refl) j) (in_append xs ys y i)))
+      (pairs_joined xs ys (pairs_tail R x xs h) k (λ y z i j. across y z (inr i) j))
+
+-- ---- pairs of what a function gives
 pub pairs_of_map : {X Y : Type 0} (R : Y → Y → Type 0) (f : X → Y) (xs : List X) → AllPairs R (map f xs) → AllPairs (λ x y. R (f x) (f y)) xs
 pairs_of_map {X} {Y} R f xs a i j d l m = subst (λ (t : Y). R t (f (get_or xs j d))) (at i (omega arith)) (subst (λ (t : Y). R (get_or (map f xs) i (f d)) t) (at j m) (a i j (f d) l (omega (arith, length-map xs f))))
   where

@@ -17,6 +17,7 @@ use Rattle.geom.proofs.Lists.{contains_in, in_contains, in_map, map_in, count-co
 use Rattle.geom.proofs.Orders.{before_itself, pt_cmp, pt_ranks, pt_total}
 use Rattle.geom.proofs.Points.{same_point_of, same_point_true}
 use Rattle.label_sweep.proofs.Ends.{after_upto, le_cases, starts_upto}
+use Rattle.label_sweep.proofs.Members.{some_item}
 use Rattle.label_sweep.specs.declared.second_ends.Ending.{Ending}
 use Rattle.label_sweep.specs.declared.second_ends.Ending.TheVariants.{Other}
 use Rattle.label_sweep.specs.Endings.{AreMerged, ending_of}
@@ -144,11 +145,6 @@ upto_trans : (p q r : Pt) → IsUpTo p q → IsUpTo q r → IsUpTo p r
 upto_trans p q r (inl e) k = let P : Pt → Type 0 = λ t. IsUpTo t r in subst P (sym e) k
 upto_trans p q r (inr h) k = inr (after_upto p q r h k)
 
--- an item of a list that has a place
-item_of : {X : Type 0} (xs : List X) (n : ℕ) → n < length xs → X
-item_of [] n l = absurd (omega (arith, l))
-item_of (x ∷ xs) n l = x
-
 first_among : (cs : List Counted) (c : Counted) → Contains cs c → Contains (firsts cs) c.edge.p
 first_among cs c h = in_contains (firsts cs) c.edge.p (map_in (λ (t : Counted). t.edge.p) cs c (contains_in cs c h))
 
@@ -171,7 +167,7 @@ module _ (cs : List Counted) (ends : List Pt) (next past : ℕ) (v : Pt) (next' 
   further : (next < next') ⊎ (past < past')
   further = ⊎_elim
       (λ e. inr (⊎_elim (λ s. s) (λ s. absurd (before_itself v (let P : Pt → Type 0 = λ t. IsBefore v t in subst P (sym (e.1 v)) (step.others_past past v (omega (arith, s)) e.0)))) (le_cases past past' step.past_later)))
-      (λ e. inl (⊎_elim (λ s. s) (λ s. absurd (before_itself v (let c = item_of cs next e.0 in let P : Pt → Type 0 = λ t. IsBefore v t in subst P (sym (e.1 c)) (step.edges_past next c (omega (arith, s)) e.0)))) (le_cases next next' step.next_later)))
+      (λ e. inl (⊎_elim (λ s. s) (λ s. absurd (before_itself v (let c = some_item cs next e.0 in let P : Pt → Type 0 = λ t. IsBefore v t in subst P (sym (e.1 c)) (step.edges_past next c (omega (arith, s)) e.0)))) (le_cases next next' step.next_later)))
       step.either
 
   pub fewer_left : (length cs - next') + (length ends - past') < (length cs - next) + (length ends - past)
@@ -183,7 +179,7 @@ module _ (cs : List Counted) (ends points : List Pt) (endings : List Ending) (ne
   before_v : All (λ u. IsBefore u v) points
   before_v k d l = ⊎_elim
       (λ e. let P : Pt → Type 0 = λ t. IsBefore (get_or points k d) t in subst P (sym (e.1 d)) (m.ends_left k d l past d (omega arith) e.0))
-      (λ e. let P : Pt → Type 0 = λ t. IsBefore (get_or points k d) t in let c = item_of cs next e.0 in subst P (sym (e.1 c)) (m.edges_left k d l next c (omega arith) e.0))
+      (λ e. let P : Pt → Type 0 = λ t. IsBefore (get_or points k d) t in let c = some_item cs next e.0 in subst P (sym (e.1 c)) (m.edges_left k d l next c (omega arith) e.0))
       step.either
 
   ends_before : AllWithin (λ q. IsBefore q v) ends 0 past
@@ -205,7 +201,7 @@ module _ (cs : List Counted) (ends points : List Pt) (endings : List Ending) (ne
   v_among : IsAmong cs ends v
   v_among = ⊎_elim
       (λ e. inr (past, e.0, sym (e.1 v)))
-      (λ e. let r = item_of cs next e.0 in let c = get_or cs next r in let P : Pt → Type 0 = Contains (firsts cs) in
+      (λ e. let r = some_item cs next e.0 in let c = get_or cs next r in let P : Pt → Type 0 = Contains (firsts cs) in
       inl (subst P (sym (e.1 r)) (first_among cs c (next, e.0, get_or_default cs next c r e.0))))
       step.either
 

@@ -13,7 +13,8 @@ use Rattle.geom.proofs.Tests.{le_yes}
 use Rattle.std.proofs.lemmas.Bool.{cases_lt}
 use Rattle.label_sweep.specs.declared.status.Place.{Place}
 use Rattle.label_sweep.specs.Chunks.{AreChunks, IsPlace, LiesWithin, joined, number_of, opens}
-use Rattle.label_sweep.proofs.Chunks.{all_after, all_before, before_more, before_order, behind, cut_filled, cut_joined, cut_some, drop_joined, exchanged, exchanged_filled, exchanged_some, filled_at, first_of, inside, none_after, passed_before}
+use Rattle.label_sweep.proofs.Chunks.{all_after, all_before, before_more, before_order, behind, cut_filled, cut_joined, cut_some, drop_joined, exchanged, exchanged_filled, exchanged_some, filled_at, inside, none_after, passed_before}
+use Rattle.label_sweep.proofs.Members.{some_item}
 
 -- what a search finds
 pub record IsFound {X A : Type 0} (p : X → Bool) (chunks : List (Vec X A)) (at : Place) : Type 0 where
@@ -97,7 +98,7 @@ module _ {X A : Type 0} where
     where
       clash : high.chunk < low.chunk → ⊥
       clash m =
-          let d = first_of chunks are.some in
+          let d = some_item chunks 0 are.some in
           let a = l.behind_first (omega (arith, m)) in
           let b = h.within d in
           let e = before_more (λ (c : Vec X A). c.items) chunks high.chunk d h.chunk in

@@ -34,7 +34,7 @@ use Rattle.label_sweep.specs.Endings.{EndsOnce}
 use Rattle.label_sweep.specs.Leaving.{AreAround, HaveUpright, HaveUprightTo, IsPast, IsReadyAt}
 use Rattle.label_sweep.specs.Slots.{HaveEnded, IsKept, all_standing, in_slot, nowhere, numbers}
 use Rattle.label_sweep.specs.Status.{AreFresh, AreSpokes, AreStanding, GoesOn, IsRangeAt, IsSteeper, IsUnder, IsVertexOf, Reaches}
-use Rattle.label_sweep.proofs.Members.{all_of_in, in_of_all, pairs_of_map}
+use Rattle.label_sweep.proofs.Members.{all_of_in, in_of_all, pairs_across, pairs_back, pairs_of_map}
 use Rattle.label_sweep.proofs.Passing.{edge_of, labels_edges, level_there}
 use Rattle.label_sweep.proofs.Straight.{left_of_end}
 use Rattle.label_sweep.proofs.Turning.{edge_at}
@@ -53,13 +53,10 @@ around_item (y ∷ ys) x (inr i) = let r = around_item ys x i in record { before
 
 module _ {X : Type 0} (R : X → X → Type 0) where
   pub pairs_before : (xs ys : List X) (x : X) → AllPairs R (xs ++ (x ∷ ys)) → (y : X) → In y xs → R y x
-  pairs_before [] ys x h y i = absurd i
-  pairs_before (z ∷ xs) ys x h y (inl e) = subst (λ (t : X). R t x) e (pairs_head R z (xs ++ (x ∷ ys)) h x (in_back xs (x ∷ ys) x (inl refl)))
-  pairs_before (z ∷ xs) ys x h y (inr i) = pairs_before xs ys x (pairs_tail R z (xs ++ (x ∷ ys)) h) y i
+  pairs_before xs ys x h y i = pairs_across R xs (x ∷ ys) h y x i (inl refl)
 
   pub pairs_behind : (xs ys : List X) (x : X) → AllPairs R (xs ++ (x ∷ ys)) → (y : X) → In y ys → R x y
-  pairs_behind [] ys x h y i = pairs_head R x ys h y i
-  pairs_behind (z ∷ xs) ys x h y i = pairs_behind xs ys x (pairs_tail R z (xs ++ (x ∷ ys)) h) y i
+  pairs_behind xs ys x h = pairs_head R x ys (pairs_back R xs (x ∷ ys) h)
 
   -- another item in its place
   pub pairs_with : (xs ys : List X) (x z : X) → AllPairs R (xs ++ (x ∷ ys)) → ((y : X) → In y xs → R y z) → ((y : X) → In y ys → R z y) → AllPairs R (xs ++ (z ∷ ys))

@@ -25,6 +25,7 @@ use Rattle.label_sweep.specs.declared.second_ends.Ending.{Ending}
 use Rattle.label_sweep.specs.Column.{AreVerticesBetween, IsStrip, LiesBetween}
 use Rattle.label_sweep.specs.Endings.{AreMerged, TellEndings, are_of, ending_of, is_left_of}
 use Rattle.label_sweep.specs.Status.{IsVertexOf}
+use Rattle.label_sweep.proofs.Borders.{clash}
 use Rattle.label_sweep.proofs.Ends.{edge_among, le_cases, starts_upto}
 use Rattle.label_sweep.proofs.Members.{part_in, within_drop, within_part}
 
@@ -45,9 +46,6 @@ edges_ending v es = count_by (λ e. same_point e.q v) es
 -- ---- columns
 le_same : {x : ℤ} → x ≤ℤ x
 le_same {x} = omega (arith, ints)
-
-clash : {x y : ℤ} → x <ℤ y → y ≤ℤ x → ⊥
-clash l m = omega (arith, ints, l, m)
 
 not_back : {v x p q : ℤ} → v <ℤ x → x ≤ℤ p → p ≤ℤ q → q ≡ v → ⊥
 not_back l m n e = omega (arith, ints, l, m, n, e)

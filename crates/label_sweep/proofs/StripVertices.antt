@@ -19,7 +19,7 @@ use Rattle.geom.proofs.Tests.{le_told, le_yes}
 use Rattle.label_sweep.specs.Column.{BeginsStrip, HaveCrossing, IsStripOf}
 use Rattle.label_sweep.specs.Status.{AreVertices, IsVertexOf}
 use Rattle.label_sweep.specs.StripLabels.{AreStripEdges, lies_in}
-use Rattle.label_sweep.proofs.Borders.{edge_not_right}
+use Rattle.label_sweep.proofs.Borders.{clash, edge_not_right}
 use Rattle.label_sweep.proofs.Crossing.{in_filter}
 use Rattle.label_sweep.proofs.Members.{all_of_in, in_of_all}
 
@@ -202,9 +202,6 @@ module _ (all crossing own : List Counted) (h : AreStripEdges all crossing own) 
 
         into_strip : (c : Counted) → x ≤ℤ c.edge.q.x → h.strip ≤ h.strip_of c.edge.q.x
         into_strip c n = let r = h.rises x c.edge.q.x n in omega (arith, r, at_x)
-
-        clash : {r s : ℤ} → r <ℤ s → s ≤ℤ r → ⊥
-        clash m n = omega (arith, ints, m, n)
 
         weaker : {r s : ℤ} → r <ℤ s → r ≤ℤ s
         weaker m = omega (arith, ints, m)

@@ -16,9 +16,9 @@ use Rattle.hands.specs.declared.part.Part.{Part}
 use Rattle.label_sweep.specs.declared.swept.SweptEdge.{SweptEdge}
 use Rattle.label_sweep.specs.Column.{IsStrip, LiesBetween, OpensColumn}
 use Rattle.label_sweep.specs.Swept.{AreSwept, AreSweptBetween, IsBeside}
-use Rattle.label_sweep.proofs.Beside.{behind_joined, pairs_joined}
+use Rattle.label_sweep.proofs.Beside.{behind_joined}
 use Rattle.label_sweep.proofs.Between.{all_between, between_behind, between_cases, between_front, front_is_left, none_between, of_strips}
-use Rattle.label_sweep.proofs.Members.{in_of_all}
+use Rattle.label_sweep.proofs.Members.{in_of_all, pairs_joined}
 
 -- what lies on the left comes before
 left_is_before : (p q : Pt) → p.x <ℤ q.x → IsBefore p q

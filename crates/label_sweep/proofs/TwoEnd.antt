@@ -23,7 +23,7 @@ use Rattle.label_sweep.specs.Endings.{EndsTwice}
 use Rattle.label_sweep.specs.Labels.{IsSweptUpTo}
 use Rattle.label_sweep.specs.Status.{IsSteeper, IsUnder, IsVertexOf, Reaches, rise_over}
 use Rattle.label_sweep.proofs.Around.{Steeper, not_steeper}
-use Rattle.label_sweep.proofs.Members.{all_of_in, pairs_of_map}
+use Rattle.label_sweep.proofs.Members.{all_of_in, pairs_across, pairs_back, pairs_of_map}
 use Rattle.label_sweep.proofs.Passing.{edge_of}
 use Rattle.label_sweep.proofs.Plain.{from_zero, level_at_end, not_from_zero}
 use Rattle.label_sweep.proofs.Words.{ends_are_level, search_is_monotone, steeper_of}
@@ -60,17 +60,6 @@ not_under_steeper : (e f : Edge) → e.q ≡ f.q → e.p.x <ℤ e.q.x → f.p.x 
 not_under_steeper e f h i j s u = never_both (run e) (rise e) (run f) (rise f) s
     (subst (λ (t : ℤ). pos 0 ≤ℤ t) (rise_to_end f e (sym h) (f.q.x -ℤ pos 1) ∙ ap (λ (t : ℤ). t *ℤ slope f e) (one_left f.q.x) ∙ once_left (slope f e))
     (u (f.q.x -ℤ pos 1) (up_to_one f.p.x f.q.x j) (one_is_less f.q.x) (up_to_one e.p.x f.q.x (subst (λ (w : Pt). e.p.x <ℤ w.x) h i)) (subst (λ (w : Pt). (f.q.x -ℤ pos 1) ≤ℤ w.x) (sym h) (one_is_less f.q.x))))
-
--- ---- pairs of a list's two parts
-module _ {X : Type 0} (R : X → X → Type 0) where
-  across : (xs ys : List X) → AllPairs R (xs ++ ys) → (x y : X) → In x xs → In y ys → R x y
-  across [] ys h x y i j = absurd i
-  across (z ∷ xs) ys h x y (inl e) j = subst (λ (t : X). R t y) e (pairs_head R z (xs ++ ys) h y (in_back xs ys y j))
-  across (z ∷ xs) ys h x y (inr i) j = across xs ys (pairs_tail R z (xs ++ ys) h) x y i j
-
-  behind : (xs ys : List X) → AllPairs R (xs ++ ys) → AllPairs R ys
-  behind [] ys h = h
-  behind (z ∷ xs) ys h = behind xs ys (pairs_tail R z (xs ++ ys) h)
 
 -- ---- signs
 no_sign : (x : ℤ) → pos 0 ≤ℤ x → ¬ (pos 0 <ℤ x) → x ≡ pos 0
@@ -140,12 +129,12 @@ module _ (cs : List Counted) (h : AreLayers cs) (v : Pt) (x : IsVertexOf (edges_
   module _ (low rest : List StandingEdge) (e : all ≡ low ++ (lower ∷ rest)) where
     upper_behind : In upper rest
     upper_behind = ⊎_elim
-        (λ i. absurd (not_upper_under (across Goes low (lower ∷ rest) (order_of (low ++ (lower ∷ rest)) e) upper lower i (inl refl)).under))
+        (λ i. absurd (not_upper_under (pairs_across Goes low (lower ∷ rest) (order_of (low ++ (lower ∷ rest)) e) upper lower i (inl refl)).under))
         (⊎_elim (λ k. absurd (differ (ap edge_of k))) (λ i. i))
         (in_append low (lower ∷ rest) upper (subst (λ (xs : List StandingEdge). In upper xs) e u_in))
 
     lower_first : AllPairs Goes (lower ∷ rest)
-    lower_first = behind Goes low (lower ∷ rest) (order_of (low ++ (lower ∷ rest)) e)
+    lower_first = pairs_back Goes low (lower ∷ rest) (order_of (low ++ (lower ∷ rest)) e)
 
   none_between : (t : StandingEdge) → In t all → Goes lower t → Goes t upper → ⊥
   none_between t i g k = ⊎_elim g.apart (λ q. k.apart (sym q)) (is_level t i (no_sign (side (edge_of t).p (edge_of t).q v) (k.up_to_end u_ends) (g.from_end l_ends)))
@@ -166,15 +155,15 @@ module _ (cs : List Counted) (h : AreLayers cs) (v : Pt) (x : IsVertexOf (edges_
     order = order_of (low ++ (lower ∷ (upper ∷ high))) e
 
     from_lower : AllPairs Goes (lower ∷ (upper ∷ high))
-    from_lower = behind Goes low (lower ∷ (upper ∷ high)) order
+    from_lower = pairs_back Goes low (lower ∷ (upper ∷ high)) order
 
     stands : (t : StandingEdge) → In t (low ++ (lower ∷ (upper ∷ high))) → In t all
     stands t i = subst (λ (xs : List StandingEdge). In t xs) (sym e) i
 
     pub below : (t : StandingEdge) → In t low → pos 0 <ℤ side (edge_of t).p (edge_of t).q v
     below t i =
-        let g = across Goes low (lower ∷ (upper ∷ high)) order t lower i (inl refl) in
-        let k = across Goes low (lower ∷ (upper ∷ high)) order t upper i (inr (inl refl)) in
+        let g = pairs_across Goes low (lower ∷ (upper ∷ high)) order t lower i (inl refl) in
+        let k = pairs_across Goes low (lower ∷ (upper ∷ high)) order t upper i (inr (inl refl)) in
         from_zero (side (edge_of t).p (edge_of t).q v) (g.up_to_end l_ends)
         (λ z. ⊎_elim (λ q. g.apart (sym q)) (λ q. k.apart (sym q)) (is_level t (stands t (in_front low (lower ∷ (upper ∷ high)) t i)) z))
 

@@ -17,7 +17,7 @@ is_left_of (Some past) x = int_lt x past
 abbrev pub are_of : Columns → Pt → Bool
 are_of columns v = int_le columns.from v.x && is_left_of columns.past v.x
 
--- so many edges end
+-- the kind of ending where that many edges end
 abbrev pub ending_of : ℕ → Ending
 ending_of n = if n == 1 then One else if n == 2 then Two else Other
 

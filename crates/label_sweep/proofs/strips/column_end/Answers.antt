@@ -4,17 +4,14 @@ use Rattle.std.specs.List.Sorted.{IsPartitionedBy}
 use Rattle.std.specs.Prelude.{◌<ℤ◌}
 use Rattle.std.proofs.Math.IntN.{ℤ}
 use Rattle.std.proofs.lemmas.Bool.{cases_lt}
-use Rattle.std.proofs.lemmas.Int.{ints}
 use Rattle.std.proofs.lemmas.List.Sorted.{IsPartitionPoint-from_clause}
 use Rattle.geom.specs.declared.edge.Counted.{Counted}
 use Rattle.geom.specs.EdgeOrder.{IsEdgeBefore}
 use Rattle.geom.proofs.Numbers.{le_le, le_lt}
+use Rattle.geom.proofs.Orders.{clash_same}
 use Rattle.geom.proofs.Tests.{le_told, le_untold, le_yes}
 use Rattle.label_sweep.proofs.Borders.{edge_not_right}
 use Rattle.label_sweep.proofs.strips.column_end.Goals as goal
-
-clash : {x : ℤ} → x <ℤ x → ⊥
-clash l = omega (arith, ints, l)
 
 -- whether an edge begins in the border's column or before
 abbrev is_up_to : ℤ → Counted → Bool
@@ -32,7 +29,7 @@ module _ (border : ℤ) (cs : List Counted) where
   module _ (end : ℕ) (upto : AllWithin (λ c. is_up_to border c ≡ true) cs 0 end) (past : AllWithin (λ c. is_up_to border c ≡ false) cs end (length cs)) where
     -- an edge that begins in it stands before its end
     before_end : (n : ℕ) (c : Counted) → n < length cs → (get_or cs n c).edge.p.x ≡ border → n < end
-    before_end n c l e = no_more (λ k. clash (subst (λ x. border <ℤ x) e (le_untold _ _ (past n c k l))))
+    before_end n c l e = no_more (λ k. clash_same (le_untold _ _ (past n c k l)) (sym e))
       where
         no_more : (end ≤ n → ⊥) → n < end
         no_more h = omega arith
