@@ -10,7 +10,7 @@
 //! reaches a vertex where it has points below the vertex's row and above its floor: elsewhere it isn't below, or isn't nearer. Sixteen
 //! vertices are told at once, by lanes.
 
-ghost use Rattle.std.specs.Prelude.{◌≡◌, ◌↔◌, ◌⊎◌, ℕ, ◌+◌, ◌-◌, ◌<◌, ◌≤◌, ◌≤ℤ◌, ◌<ℤ◌, All, IfOk, IfSome, IsTrue, OnOk, get_or, int_le, length, pos};
+ghost use Rattle.std.specs.Prelude.{◌≡◌, ◌⊎◌, ℕ, ◌+◌, ◌<◌, ◌≤◌, ◌≤ℤ◌, ◌<ℤ◌, All, IfOk, IfSome, IsTrue, OnOk, get_or, int_le, length, pos};
 ghost use Rattle.box_lanes.specs.Places.{IsPlace};
 ghost use Rattle.box_lanes.specs.Sides.{IsColumn, sixteen};
 ghost use Rattle.geom.specs.Limit.{AreInLimit, InLimit, IsWithin, coordinate_limit};
