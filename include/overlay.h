@@ -105,7 +105,7 @@ void overlay_fill(uint32_t call, uint32_t side, const uint8_t *a, size_t a_lengt
                   uint8_t *room, size_t room_length, struct overlay_answer *answer);
 
 /* The same for layers that together have at most so many segments, from 1 to 4294967295. The number has no influence on the text;
- * ten million segments of parcels take some 1 GB of memory. */
+ * ten million segments of parcels take the program some 740 MB of memory. */
 void overlay_fill_within(uint32_t call, uint32_t side, uint32_t segments, const uint8_t *a, size_t a_length, const uint8_t *b,
                          size_t b_length, uint8_t *room, size_t room_length, struct overlay_answer *answer);
 

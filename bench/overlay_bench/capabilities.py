@@ -24,7 +24,8 @@ from .peer_tools import Absent, Compiled, Geos, Overlay, PostGis, Qgis, Tool
 HEAD = ("tool", "version", "asked", "has", "command", "seen")
 FACES = ("faces of two layers", "faces of three layers")
 FILES = ("WKT", "GeoJSON", "Shapefile", "GeoPackage")
-OTHERS = ("decimals", "lines", "grid", "program", "library")
+GRID = "grid"
+OTHERS = ("decimals", "lines", GRID, "program", "library")
 YES, NO, NEITHER = "yes", "no", "?"
 GEOMETRIES = {
     "a": "POLYGON ((0 0, 4 0, 4 4, 0 4, 0 0))",

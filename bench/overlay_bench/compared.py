@@ -92,9 +92,11 @@ def cells(tool: str, rows: dict[str, list[Row]]) -> list[str]:
     ratio = common_of(own).get("ratio", "")
     time = ("1" if tool == "overlay" else "%.1f" % number(ratio)) if ratio else "–"
     name = own[-1]["version"].partition(", ")[0]
-    rounded = rounding(common_of(own), common_of(grid))
+    found = has(tool, own[-1]["version"])
+    # the rows on a grid may be the library's below the tool, which can't be asked for it
+    rounded = rounding(common_of(own), {} if found.get(capabilities.GRID) == capabilities.NO else common_of(grid))
     measured = [PROVED + rounded if tool == "overlay" else rounded, on_raw_map(own, valid), order, threads, time]
-    return ["**%s**" % name if tool == "overlay" else name, *measured, *besides(has(tool, own[-1]["version"]))]
+    return ["**%s**" % name if tool == "overlay" else name, *measured, *besides(found)]
 
 
 def not_run(found: dict[str, list[Row]]) -> list[list[str]]:

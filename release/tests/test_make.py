@@ -65,7 +65,7 @@ def test_a_release(clone, tmp_path):
     assert (made / "GATE").read_text().splitlines() == wanted
     names = packed(made)
     assert not [name for name in names if "__pycache__" in name]
-    for page in ("README.md", "SECURITY.md", "docs/PLANNERS.md", "docs/RULES.md", "docs/picture.svg", "python/README.md"):
+    for page in ("README.md", "SECURITY.md", "docs/PLANNERS.md", "docs/town.svg", "docs/MAP.md", "docs/RULES.md", "docs/picture.svg", "python/README.md"):
         assert {f"{top}/{page}" for top in (f"overlay-{VERSION}-x86_64-linux", "./usr/share/doc/overlay")} <= set(names)
     is_an_archive(made, tmp_path)
     is_a_package(made)
