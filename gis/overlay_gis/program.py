@@ -8,19 +8,24 @@ import os
 import re
 import shutil
 import sys
+from concurrent.futures import Future, wait
 from contextlib import suppress
 from dataclasses import dataclass
+from functools import partial
 from pathlib import Path
 from subprocess import Popen, TimeoutExpired
+from threading import Thread
 from types import ModuleType
-from typing import BinaryIO, Sequence
+from typing import Any, BinaryIO, Callable, Sequence, TypeVar
 
 from .columns import Columns, Numbers
 from .faults import Fault, Refusal
-from .messages import during, waited
+from .messages import waited
 from .parsing import polygons_in
 from .rows import Rows, rows_in
 from .texts import RESULT, kind_of
+
+T = TypeVar("T")
 
 OPERATIONS = ("union", "intersection", "difference", "symdifference")
 FACES = "faces"
@@ -111,8 +116,13 @@ def memory(name: str) -> BinaryIO:
 
 
 def held(file: BinaryIO) -> bytes:
-    """All that a file of the memory has."""
-    return os.pread(file.fileno(), os.fstat(file.fileno()).st_size, 0)
+    """All that a file of the memory has, of which Linux gives less than 2 GiB at a time."""
+    number, at, parts = file.fileno(), 0, []
+    size = os.fstat(number).st_size
+    while part := os.pread(number, size - at, at):
+        parts.append(part)
+        at += len(part)
+    return b"".join(parts)
 
 
 class Asked:
@@ -160,6 +170,27 @@ class Asked:
         return held(self.out), {found[1]: tuple(map(int, found[2].split())) for found in numbers if found}
 
 
+def aside(call: Callable[[], T]) -> Future[T]:
+    """What a call will answer or raise that is made in a thread of its own, where it keeps no
+    signal from who waits. It goes on where nobody waits any more, to the end of the process at
+    most."""
+    made: Future[T] = Future()
+
+    def work() -> None:
+        try:
+            answer = call()
+        except BaseException as error:
+            made.set_exception(error)
+        else:
+            made.set_result(answer)
+
+    try:
+        Thread(target=work, daemon=True).start()
+    except RuntimeError:  # no more threads may be started
+        work()
+    return made
+
+
 class AskedLibrary:
     """The package for Python in the program's place: it works when it is asked for the answer, and
     tells of a report the number of rows alone, or the areas and the steps."""
@@ -177,13 +208,19 @@ class AskedLibrary:
     def __exit__(self, *_: object) -> None:
         pass
 
+    def called(self) -> Any:
+        """What the package's call answers. It gets the texts as bytes, since their files are closed
+        where nobody waits any more."""
+        call = getattr(self.package, call_for(self.command, self.option))
+        words = [self.command] if self.option else []
+        made = aside(partial(call, *words, *(held(text.file) for text in self.texts), **self.plan))
+        waited(f"overlay {self.command}", lambda seconds: bool(wait([made], seconds).done))
+        return made.result()
+
     def answer(self) -> tuple[bytes, Report]:
         package = self.package
         try:
-            with during(f"overlay {self.command}"):
-                call = getattr(package, call_for(self.command, self.option))
-                words = [self.command] if self.option else []
-                answer = call(*words, *(held(text.file) for text in self.texts), **self.plan)
+            answer = self.called()
             if self.option == AREAS:
                 a, b = answer.a, answer.b
                 return answer.result, {AREA: (a.twice_area, b.twice_area, answer.twice_area), STEPS: (a.steps, b.steps)}

@@ -1,8 +1,11 @@
 """run and faces by the package for Python, where it is there: the same files as by the program."""
 
 import os
+import signal
 import subprocess
 import sys
+import threading
+import time
 from pathlib import Path
 from types import ModuleType, SimpleNamespace
 
@@ -10,8 +13,8 @@ import pytest
 from shapely.affinity import translate
 from shapely.geometry import box
 
-from conftest import EAST, NORTH, blobs, parcels, read, write
-from overlay_gis import program
+from conftest import COMMAND, EAST, NORTH, blobs, parcels, read, write
+from overlay_gis import calls, program
 
 
 class Refused(ValueError):
@@ -158,3 +161,75 @@ def test_a_refusal_of_the_package_names_the_layer(gis, package, monkeypatch, tmp
     answer = gis("run", "union", a, b, "-o", tmp_path / "out.gpkg")
     assert answer.status == 3
     assert "syntax at 5" in answer.err
+
+
+# A package whose call takes a minute, in which its thread heeds no signal, as in one of ctypes.
+SLOW = """
+import signal, time
+from pathlib import Path
+
+class Refused(ValueError): pass
+class OutOfMemory(MemoryError): pass
+
+def measured(operation, a, b):
+    signal.pthread_sigmask(signal.SIG_BLOCK, [signal.SIGINT, signal.SIGTERM])
+    Path("begun").touch()
+    time.sleep(60)
+"""
+
+
+@pytest.mark.parametrize("number, name", [(signal.SIGINT, "Ctrl-C"), (signal.SIGTERM, "SIGTERM")])
+def test_a_signal_does_not_wait_for_the_package(tmp_path, number, name):
+    write(tmp_path / "a.gpkg", parcels(5, 3))
+    write(tmp_path / "b.gpkg", blobs(6, 3))
+    (tmp_path / "overlay_grid.py").write_text(SLOW)
+    environment = {**os.environ, "PYTHONPATH": str(tmp_path)}
+    del environment["OVERLAY"]
+    command = subprocess.Popen(
+        [sys.executable, COMMAND, "run", "union", "a.gpkg", "b.gpkg", "-o", "out.gpkg"],
+        cwd=tmp_path,
+        env=environment,
+        stderr=subprocess.PIPE,
+        text=True,
+        preexec_fn=lambda: signal.signal(number, signal.SIG_DFL),
+    )
+    try:
+        while not (tmp_path / "begun").exists():
+            assert command.poll() is None
+            time.sleep(0.01)
+        command.send_signal(number)
+        said = command.communicate(timeout=300)[1]
+    finally:
+        command.kill()
+    assert command.returncode == 1
+    assert said.splitlines()[-1] == f"overlay-gis: stopped by {name}: no file was written or changed"
+    assert "Traceback" not in said and not (tmp_path / "out.gpkg").exists()
+
+
+def test_a_call_is_cancelled_while_the_package_works(package, monkeypatch, tmp_path):
+    monkeypatch.delenv("OVERLAY")
+    monkeypatch.chdir(tmp_path)
+    begun, cancelled = threading.Event(), threading.Event()
+
+    def measured(operation, a, b):
+        begun.set()
+        assert cancelled.wait(60), "nobody is heard while it works"
+
+    package[0].measured = measured
+    a, b = write(tmp_path / "a.gpkg", parcels(5, 3)), write(tmp_path / "b.gpkg", blobs(6, 3))
+    with pytest.raises(calls.Cancelled):
+        calls.call(["run", "union", a, b, "-o", "out.gpkg"], progress=lambda work, share: not begun.is_set())
+    cancelled.set()
+    assert not list(tmp_path.glob("out*")) and not list(tmp_path.glob(".overlay*"))
+
+
+def test_a_package_is_asked_where_no_thread_may_begin(gis, package, monkeypatch, tmp_path):
+    monkeypatch.delenv("OVERLAY")
+
+    def start(thread):
+        raise RuntimeError("can't start new thread")
+
+    monkeypatch.setattr(program.Thread, "start", start)
+    a, b = write(tmp_path / "a.gpkg", parcels(5, 3)), write(tmp_path / "b.gpkg", blobs(6, 3))
+    assert gis("run", "union", a, b, "-o", "out.gpkg").status == 0
+    assert package[1] == [("union", "--areas")] and read("out.gpkg")

@@ -96,6 +96,14 @@ def test_a_long_answer_and_a_long_report(pretend):
         assert asked.answer()[0] == bytes(3_000_000)
 
 
+def test_a_text_comes_whole_where_reads_give_little(monkeypatch):
+    """As Linux does, which gives less than 2 GiB at a time."""
+    words, pread = bytes(range(256)) * 5, os.pread
+    held = text(words)
+    monkeypatch.setattr(os, "pread", lambda number, size, at: pread(number, min(size, 7), at))
+    assert program.held(held.file) == words and program.held(text(b"").file) == b""
+
+
 def test_the_program_ends_with_the_context(pretend):
     pretend("exec sleep 600\n")
     with pytest.raises(KeyError), program.Asked("union", text(b""), text(b"")) as asked:
