@@ -52,6 +52,12 @@ class Parser(ArgumentParser):
     def error(self, message: str) -> NoReturn:
         super().error(messages.shown(message))
 
+    def print_help(self, file: Any = None) -> None:
+        if file is None:
+            messages.put(self.format_help())
+        else:
+            super().print_help(file)
+
 
 class VerbParser(Parser):
     """Reads what stands behind a verb, of whose words it knows when it is asked."""
@@ -139,7 +145,7 @@ def answered(arguments: Namespace) -> int:
     except BrokenPipeError:
         raise
     except OSError as error:
-        raise Fault(error.filename or "a temporary file", error.strerror) from error
+        raise Fault(error.filename or "a temporary file", error.strerror or error) from error
     except MemoryError as error:
         raise OutOfMemory() from error
 
@@ -156,5 +162,5 @@ def main(words: list[str] | None = None) -> int:
         sys.stderr.close()
         return FAILED
     except Stopped as signal:
-        messages.say(f"stopped by {signal}: no file was written or changed")
+        messages.say(f"stopped by {signal}: no output was written or changed")
         return FAILED

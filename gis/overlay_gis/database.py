@@ -13,6 +13,7 @@ from osgeo import gdal, ogr, osr
 from .faults import Fault, Refusal
 from .fitting import NAME_BYTES
 from .gdal_errors import blamed_on
+from .geopackage import quoted as quoted_whole
 from .layers import LAYER_MARK, VIRTUAL, Source
 from .messages import followed
 from .output import Column, Table, add, create
@@ -38,10 +39,6 @@ LOCK_SECONDS = 20
 
 def is_database(name: str) -> bool:
     return name.lower().startswith(PREFIXES)
-
-
-def quoted_whole(name: str) -> str:
-    return '"' + name.replace('"', '""') + '"'
 
 
 def quoted(table: str) -> str:

@@ -13,6 +13,7 @@ from dataclasses import dataclass
 from decimal import Decimal, InvalidOperation
 from fractions import Fraction
 from functools import cached_property
+from math import inf
 
 import numpy as np
 from osgeo import osr
@@ -113,9 +114,13 @@ class Frame:
         return (Fraction(self.unit) ** 2 / 2).as_integer_ratio()
 
     def area(self, twice: int) -> float:
-        """The area, in square units of the system, of twice so many square units of the grid."""
+        """The area, in square units of the system, of twice so many square units of the grid; inf
+        where it is too large for a floating-point number."""
         p, q = self.square
-        return twice * p / q
+        try:
+            return twice * p / q
+        except OverflowError:
+            return inf if twice > 0 else -inf
 
     def told(self, system: osr.SpatialReference | None) -> str:
         """The frame, and what rounding means in it, in one line."""

@@ -57,6 +57,11 @@ def place_of(layer: ogr.Layer) -> Place | None:
     return Place(layer.GetName(), layer.GetFIDColumn(), layer.GetGeometryColumn(), names)
 
 
+def connected(path: Path) -> sqlite3.Connection:
+    """The file of a GeoPackage, for reading what has been committed, whoever has it open."""
+    return sqlite3.connect(f"{path.as_uri()}?mode=ro", uri=True)
+
+
 def quoted(name: str) -> str:
     return '"' + name.replace('"', '""') + '"'
 

@@ -9,10 +9,11 @@ from typing import Callable, Iterator
 from osgeo import gdal, ogr
 
 from . import gdal_state
-from .database import answer, literal, quoted, quoted_whole
+from .database import answer, literal, quoted
 from .faults import Refusal
 from .fitting import LISTS
 from .gdal_errors import blamed_on
+from .geopackage import quoted as quoted_whole
 from .layers import Source
 
 # Types, as the server calls them, whose values GDAL has as they are.

@@ -3,10 +3,11 @@ text tells a password, and none has a control character, which a name in a stran
 
 from __future__ import annotations
 
+import os
 import re
 import sys
 import time
-from contextlib import contextmanager
+from contextlib import contextmanager, suppress
 from contextvars import ContextVar
 from typing import Callable, Iterable, Iterator, Protocol, TypeVar
 
@@ -82,15 +83,24 @@ def tell(text: str) -> None:
 
 
 def put(text: str) -> None:
-    """Writes a text to standard output."""
+    """Writes a text to standard output, at once: what failed at the end would be told by Python."""
     if sys.stdout is None:
         raise Fault("standard output", "is closed")
     try:
         sys.stdout.write(text)
+        sys.stdout.flush()
     except BrokenPipeError:
+        lead_nowhere()
         raise
     except OSError as error:
+        lead_nowhere()
         raise Fault("standard output", error.strerror) from error
+
+
+def lead_nowhere() -> None:
+    """Leads standard output to nowhere: what it still holds would fail again at the end."""
+    with suppress(OSError), open(os.devnull, "wb") as nowhere:
+        os.dup2(nowhere.fileno(), sys.stdout.fileno())
 
 
 def say(text: str) -> None:

@@ -13,6 +13,7 @@ from osgeo import gdal, osr
 
 from .faults import Fault, Refusal
 from .gdal_errors import told_as
+from .geopackage import connected
 from .layers import LAYER_MARK, Source
 from .messages import during, is_watched, progress
 from .output import Output, Table
@@ -31,15 +32,10 @@ def layers_of(target: Target) -> list[str]:
         return [dataset.GetLayer(k).GetName() for k in range(dataset.GetLayerCount())]
 
 
-def opened(target: Target) -> sqlite3.Connection:
-    """The file of a GeoPackage, for reading what has been committed, whoever has it open."""
-    return sqlite3.connect(f"{target.path.as_uri()}?mode=ro", uri=True)
-
-
 def tables_of(target: Target) -> list[str]:
     """The names of everything that SQLite has in the file of a GeoPackage."""
     try:
-        with closing(opened(target)) as held:
+        with closing(connected(target.path)) as held:
             return [name for (name,) in held.execute("SELECT name FROM sqlite_master")]
     except sqlite3.Error as error:
         raise Fault(target.name, f"can't be read: {error}") from error
@@ -47,7 +43,7 @@ def tables_of(target: Target) -> list[str]:
 
 def is_view(target: Target, name: str) -> bool:
     """Whether a layer of a GeoPackage is a view, which reads others."""
-    with closing(opened(target)) as held:
+    with closing(connected(target.path)) as held:
         found = held.execute("SELECT type FROM sqlite_master WHERE lower(name) = lower(?)", (name,)).fetchone()
     return found is not None and found[0] == "view"
 
@@ -107,7 +103,7 @@ class Enlarged(Output):
         return gdal.OpenEx(str(self.path), gdal.OF_VECTOR | gdal.OF_UPDATE, ["GPKG"])
 
     def copy(self) -> None:
-        with closing(opened(self.target)) as held, closing(sqlite3.connect(self.path)) as copied:
+        with closing(connected(self.target.path)) as held, closing(sqlite3.connect(self.path)) as copied:
             held.backup(copied, pages=PAGES, progress=self.tell_copied, sleep=0)
             copied.execute("PRAGMA journal_mode = DELETE")
         shutil.copymode(self.target.path, self.path)

@@ -13,7 +13,7 @@ import numpy as np
 
 from .faults import Fault, Refusal
 from .gdal_errors import blamed_on
-from .geopackage import quoted
+from .geopackage import connected, quoted
 from .layers import LAYER_MARK, Source
 from .output import PACKAGE
 from .whole import state_of
@@ -70,14 +70,12 @@ def input_of(source: Source) -> Input:
     return held
 
 
-def connected(held: Input) -> sqlite3.Connection:
-    """The file, for reading what has been committed, whoever has it open."""
-    return sqlite3.connect(f"{Path(held.path).as_uri()}?mode=ro", uri=True)
-
-
 def is_table(held: Input) -> bool:
-    with closing(connected(held)) as package:
-        found = package.execute("SELECT type FROM sqlite_master WHERE name = ?", (held.layer,)).fetchone()
+    try:
+        with closing(connected(Path(held.path))) as package:
+            found = package.execute("SELECT type FROM sqlite_master WHERE name = ?", (held.layer,)).fetchone()
+    except sqlite3.Error as error:
+        raise Fault(held.name, f"can't be read: {error}") from error
     return found is not None and found[0] == "table"
 
 
@@ -85,7 +83,7 @@ def sizes(held: Input, geometry: str) -> Iterator[tuple[np.ndarray, np.ndarray]]
     """The numbers of all features, ascending, and how many bytes each takes, some at a time."""
     length = f"ifnull(length({quoted(geometry)}), 0)" if geometry else "0"
     words = f"SELECT {quoted(held.column)}, {length} FROM {quoted(held.layer)} ORDER BY 1"
-    with closing(connected(held)) as package:
+    with closing(connected(Path(held.path))) as package:
         cursor = package.execute(words)
         while rows := cursor.fetchmany(FEATURES):
             found = np.array(rows, np.int64)

@@ -24,6 +24,7 @@ from typing import Callable
 import numpy as np
 
 from .columns import POINTS, Floats, Mask, Numbers
+from .faults import Refusal
 
 # 8 ε.
 SHARE = 2.0**-50
@@ -99,7 +100,10 @@ class Axis:
     def place(self, number: int) -> float:
         """The floating-point number next to the exact coordinate of a grid point."""
         p, e, q = self.ratio
-        return (number * p + e) / q
+        try:
+            return (number * p + e) / q
+        except OverflowError as error:
+            raise Refusal("the grid", f"its coordinate {number} stands for a place beyond all floating-point numbers") from error
 
     def placed(self, numbers: Numbers) -> Floats:
         """The same for many: a quotient of whole numbers up to 2^53 is rounded once, as it is

@@ -18,7 +18,6 @@ from contextlib import suppress
 from dataclasses import dataclass
 from hashlib import blake2b
 from io import BufferedReader
-from pathlib import Path
 from struct import Struct
 from tempfile import NamedTemporaryFile
 from typing import Any, Iterator, Mapping
@@ -185,9 +184,6 @@ class Folder:
     def remove(self, name: str) -> None:
         with suppress(FileNotFoundError):
             os.unlink(self.place(name))
-
-    def names(self) -> Iterator[str]:
-        return (path.name for path in Path(self.path).iterdir())
 
 
 def array_of(file: BufferedReader, name: str, table: Table, key: str) -> Values:

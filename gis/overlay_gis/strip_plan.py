@@ -107,12 +107,10 @@ class Work:
 
 
 class Strips(NamedTuple):
-    """The columns at which strips begin, how many segments reach the strip that most do, and how many
-    all strips together."""
+    """The columns at which strips begin, and how many segments reach the strip that most do."""
 
     cuts: tuple[int, ...]
     most: int
-    all: int
 
 
 class Span(NamedTuple):
@@ -170,7 +168,7 @@ def chosen(begins: Numbers, ends: Numbers, weights: Floats, most: float) -> Stri
             counts.append(coming + inside)
             first, coming = k, float(begun[k] - ended[np.searchsorted(ends, begins[k], "left")])
     counts.append(coming + float(begun[-1] - begun[first]))
-    return Strips(tuple(cuts), round(max(counts)), round(sum(counts)))
+    return Strips(tuple(cuts), round(max(counts)))
 
 
 def sampled(x: Floats, rings: Numbers, number: int) -> Floats:

@@ -144,7 +144,11 @@ class Decoder:
         self.by_gdal = by_gdal
         self.simple, self.points = plain(batch.data, batch.starts, batch.ends)
         self.strange: list[int] = []
+        self.added: list[bytes] = []  # what GDAL made, which stands behind the batch's own bytes
+        self.end = len(batch.data)
         self.walked = {int(k): self.walk(int(k)) for k in np.flatnonzero(~self.simple & (batch.ends > batch.starts))}
+        if self.added:
+            self.data = np.concatenate((batch.data, np.frombuffer(b"".join(self.added), np.uint8)))
 
     def walk(self, k: int) -> list[list[Ring]]:
         """The rings of the polygons of a feature."""
@@ -157,8 +161,9 @@ class Decoder:
         if lines is None:
             self.strange.append(k)
             return []
-        base = len(self.data)
-        self.data = np.concatenate((self.data, np.frombuffer(lines, np.uint8)))
+        base = self.end
+        self.added.append(lines)
+        self.end += len(lines)
         return polygons_at(memoryview(lines), base)
 
     def merged(self, held: Mask, of_simple: Numbers | int, of_walked: Sequence[int]) -> Numbers:

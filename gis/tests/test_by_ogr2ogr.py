@@ -10,7 +10,7 @@ from osgeo import gdal, ogr
 from shapely.geometry import box
 from shapely.ops import unary_union
 
-from conftest import EAST, NORTH, blobs, parcels, read, write
+from conftest import EAST, NORTH, blobs, parcels, read, system, write
 
 TOP = Path(__file__).resolve().parents[2]
 PLACE = {"GRID": "0.001", "X": str(EAST), "Y": str(NORTH)}
@@ -51,6 +51,16 @@ def test_an_empty_result_is_an_empty_layer(tmp_path, ending):
     layer = held.GetLayer(0)
     assert layer.GetFeatureCount() == 0 and layer.GetSpatialRef().GetAuthorityCode(None) == "25832"
     assert layer.GetGeomType() in (ogr.wkbPolygon, ogr.wkbUnknown)
+
+
+def test_the_result_has_the_system_of_the_layer_that_was_read(tmp_path):
+    a, out = write(tmp_path / "a.gpkg", [SQUARE]), tmp_path / "out.gpkg"
+    held = gdal.OpenEx(a, gdal.OF_VECTOR | gdal.OF_UPDATE)
+    held.CreateLayer("later", system("EPSG:4326"))
+    del held
+    assert by_ogr2ogr("union", a, write(tmp_path / "b.gpkg", [SQUARE]), out).returncode == 0
+    held = gdal.OpenEx(str(out))
+    assert held.GetLayer(0).GetSpatialRef().GetAuthorityCode(None) == "25832"
 
 
 def at_home(wkt):

@@ -116,15 +116,31 @@ CLOSED = {
     "check a.gpkg 2>&-": (0, ""),
     "check a.gpkg >&- 2>&-": (1, ""),
     "check a.gpkg <&-": (0, ""),
+    "check a.gpkg >/dev/full": (1, "overlay-gis: standard output: No space left on device\n"),
+    "show t.wkt >/dev/full": (1, "overlay-gis: standard output: No space left on device\n"),
+    "check --help >/dev/full": (1, "overlay-gis: standard output: No space left on device\n"),
 }
+
+# As it is where nobody asks for other: what is written is held until there is much of it.
+USUAL = {name: value for name, value in os.environ.items() if name != "PYTHONUNBUFFERED"}
 
 
 @pytest.mark.parametrize("words", CLOSED)
 def test_standard_streams_that_are_closed(tmp_path, program, words):
     write(tmp_path / "a.gpkg", [box(EAST, NORTH, EAST + 2, NORTH + 2)])
     (tmp_path / "t.wkt").write_text("POLYGON ((0 0, 1 0, 0 1, 0 0))")
-    done = subprocess.run(f"{COMMAND} {words}", shell=True, cwd=tmp_path, capture_output=True, text=True, check=False)
+    done = subprocess.run(f"{COMMAND} {words}", shell=True, cwd=tmp_path, env=USUAL, capture_output=True, text=True, check=False)
     assert (done.returncode, done.stderr) == CLOSED[words]
+
+
+@pytest.mark.parametrize("words", [("check", "a.gpkg"), ("--help",)])
+def test_a_pipe_that_nobody_reads(tmp_path, words):
+    write(tmp_path / "a.gpkg", [box(EAST, NORTH, EAST + 2, NORTH + 2)])
+    ours, theirs = os.pipe()
+    os.close(ours)
+    done = subprocess.run([COMMAND, *words], cwd=tmp_path, env=USUAL, stdout=theirs, stderr=subprocess.PIPE, check=False)
+    os.close(theirs)
+    assert (done.returncode, done.stderr) == (1, b"")
 
 
 def test_the_manual_page_tells_what_the_program_knows(program):

@@ -6,6 +6,7 @@ import shutil
 import subprocess
 import sys
 from decimal import Decimal
+from math import inf
 from pathlib import Path
 
 import pytest
@@ -69,6 +70,43 @@ def test_a_finite_area_is_not_asked_for(gis, tmp_path):
     a = spoiled("x.geojson", "1e200", 2)
     answer = gis("run", "union", a, a, "-o", "out.gpkg", "--grid", "1e192")
     assert answer.status == 0
+
+
+@pytest.mark.parametrize("words", [("run", "union", "a.gpkg", "a.gpkg"), ("faces", "a.gpkg", "a.gpkg"), ("dissolve", "a.gpkg")], ids=lambda words: words[0])
+def test_an_area_that_is_too_large_is_inf(gis, tmp_path, words):
+    write(tmp_path / "a.gpkg", [box(0, 0, 1e200, 1e200)], None)
+    answer = gis(*words, "-o", "out.gpkg", "--grid", "1e192")
+    assert answer.status == 0, answer.err
+    assert [fields["area"] for _, fields in read("out.gpkg")] == [inf]
+
+
+def test_check_tells_an_area_that_is_too_large(gis, tmp_path):
+    answer = gis("check", write(tmp_path / "a.gpkg", [box(0, 0, 1e200, 1e200)], None), "--grid", "1e192")
+    assert "areas inf square units in sum, inf by parity" in answer.out, answer.out + answer.err
+
+
+@pytest.mark.parametrize(
+    "held, status",
+    [
+        ('{"grid": "1e200", "origin": ["0", "0"], "system": null}', 0),
+        ('{"grid": "1e308", "origin": ["0", "0"], "system": null}', 3),
+        ('{"grid": "1", "origin": ["1e350", "0"], "system": null}', 3),
+    ],
+)
+def test_frames_beyond_floating_point_numbers(gis, held, status):
+    Path("t.wkt").write_text("POLYGON ((0 0, 4 0, 4 4, 0 0))")
+    Path("frame.json").write_text(held)
+    answer = gis("from-grid", "t.wkt", "-o", "out.gpkg")
+    assert answer.status == status and answer.err.count("\n") == 1, answer.err
+    if status:
+        assert answer.err.startswith("overlay-gis: the grid: ") and not Path("out.gpkg").exists()
+
+
+def test_a_unit_whose_points_are_no_floating_point_numbers(gis, tmp_path):
+    a = write(tmp_path / "a.gpkg", [box(0, 0, 1.5e308, 1.5e308)], None)
+    answer = gis("run", "union", a, a, "-o", "out.gpkg", "--grid", "1e308")
+    assert answer.status == 3 and answer.err.splitlines()[-1].startswith("overlay-gis: the grid: "), answer.err
+    assert not Path("out.gpkg").exists()
 
 
 @pytest.mark.parametrize("words", VERBS, ids=lambda words: words[0] + words[-1][:3])

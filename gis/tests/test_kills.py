@@ -99,7 +99,7 @@ def test_a_kill_while_it_writes(stopped, tmp_path, ending, place, number):
         return
     name = "Ctrl-C" if number == signal.SIGINT else number.name
     assert answer.status == 1
-    assert answer.err.splitlines()[-1] == f"overlay-gis: stopped by {name}: no file was written or changed"
+    assert answer.err.splitlines()[-1] == f"overlay-gis: stopped by {name}: no output was written or changed"
     assert not list(tmp_path.glob(".*"))
 
 
@@ -163,7 +163,7 @@ def test_a_kill_while_two_files_are_written(stopped, tmp_path, place, number):
     answer = stopped(place, number, *words, "--overwrite")
     assert parts("out.gpkg") == old and Path("pairs.csv").read_text() == "old"
     if number != signal.SIGKILL:
-        assert answer.status == 1 and "no file was written or changed" in answer.err
+        assert answer.status == 1 and "no output was written or changed" in answer.err
         assert not list(tmp_path.glob(".*"))
 
 
@@ -239,6 +239,6 @@ def test_a_signal_ends_the_program_too(tmp_path, begun, number, name):
     finally:
         command.kill()
     assert command.returncode == 1
-    assert said.splitlines()[-1] == f"overlay-gis: stopped by {name}: no file was written or changed"
+    assert said.splitlines()[-1] == f"overlay-gis: stopped by {name}: no output was written or changed"
     assert "Traceback" not in said and not list(temporary.iterdir()) and not (tmp_path / "out.gpkg").exists()
     assert not any(map(running, numbers_in(begun)))

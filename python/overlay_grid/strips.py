@@ -61,6 +61,8 @@ from __future__ import annotations
 
 import ctypes
 import os
+import secrets
+from contextlib import suppress
 from functools import partial
 from itertools import accumulate
 from typing import Any, Iterator, List, NamedTuple, Optional, Sequence, Tuple
@@ -315,11 +317,15 @@ def filled(call: Any, given: Sequence[Any], rooms: Polygons, contradiction: str)
 
 def put(folder: str, name: str, values: Any) -> None:
     """Writes an array, so that its file is there whole or not at all: a task that runs twice writes the same one again."""
-    path = os.path.join(folder, name)
-    beside = f"{path}.{os.getpid()}"
-    with open(beside, "wb") as file:
-        numpy.save(file, values, allow_pickle=False)
-    os.replace(beside, path)
+    beside = os.path.join(folder, f".{name}.{secrets.token_hex(8)}.partial")  # processes of two containers may have one number
+    try:
+        with open(beside, "xb") as file:
+            numpy.save(file, values, allow_pickle=False)
+        os.replace(beside, os.path.join(folder, name))
+    except BaseException:
+        with suppress(OSError):
+            os.unlink(beside)
+        raise
 
 
 def got(folder: str, name: str) -> Any:

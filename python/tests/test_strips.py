@@ -321,7 +321,28 @@ def test_an_executor_makes_the_same(pool, tmp_path):
         assert tuples(found) == whole(a, b)
         directed = strips.directed_edges(Operation.UNION, [part_of(0, a), part_of(1, b)], range(-200, 201, 50), str(tmp_path), executor)
         assert sorted(tuples(directed)) == rings(Operation.UNION, a, b)
-    assert not [name for name in os.listdir(tmp_path) if name.endswith(str(os.getpid()))]
+    assert not [name for name in os.listdir(tmp_path) if name.startswith(".")]
+
+
+def test_a_file_is_there_whole_or_not_at_all(tmp_path, monkeypatch):
+    """Beside it nothing stays, and no two processes write into one file, even where they have one number."""
+    held, opened = numpy.arange(5), []
+    monkeypatch.setattr(os, "getpid", lambda: 7)
+    replaced = os.replace
+    monkeypatch.setattr(os, "replace", lambda source, place: (opened.append(source), replaced(source, place)))
+    for _ in range(2):
+        strips.put(str(tmp_path), "own.0", held)
+    assert os.listdir(tmp_path) == ["own.0"] and strips.got(str(tmp_path), "own.0").tolist() == held.tolist()
+    assert len(set(opened)) == 2
+
+    def full(file, values, allow_pickle):
+        file.write(b"half")
+        raise OSError(28, "No space left on device")
+
+    monkeypatch.setattr(numpy, "save", full)
+    with pytest.raises(OSError):
+        strips.put(str(tmp_path), "own.1", held)
+    assert os.listdir(tmp_path) == ["own.0"]
 
 
 def test_dask_makes_the_same(tmp_path):
