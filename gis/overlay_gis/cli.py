@@ -43,7 +43,8 @@ NEGATIVE = re.compile(r"-\.?[0-9]")
 STATUSES = """exit status: 0 answered, 1 a file, the program or an output failed, 2 the command line is not
 accepted, 3 the input is refused, 4 check found something
 
-The program is what OVERLAY names, else `overlay` on the path, else what stands beside this tool."""
+The program is what OVERLAY names. Where it names none, the package overlay_grid is asked in its place,
+if it is there; else the program is `overlay` on the path, or what stands beside this tool."""
 
 
 class Parser(ArgumentParser):
