@@ -4,8 +4,9 @@ Each pair of layers is run by all five commands, each by a plan of its own drawn
 workers, or the default plan, with and without a report and areas. A share of the pairs (--programs) is run by the program, a process for each
 command; the others by the library for Python, without processes (and so without workers, reports and areas). Where a pair is small,
 statuses and bytes have to be those of the exact reference (bench/reference.py); where it is large, those of the plain program
-(bench/plain). A call that takes too long is told as "over" and is no difference. A pair that differs is kept in bench/out with its
-number, its seed and its commands, cut down to a small one that still differs; the run ends after 20 of them, and the exit status is 1.
+(bench/plain). A call that takes too long is told as "over", and is a difference where the pair is small. A pair that differs is kept in
+bench/out with its number, its seed and its commands, cut down to a small one that still differs; the run ends after 20 of them, and the
+exit status is 1.
 
 With --maps the pairs are maps of so many segments a layer, by 1 to 8 workers, and the plain program alone judges them. With --in-turn
 each pair is run by one command, in turn, in place of all five.
@@ -146,7 +147,7 @@ class Bench:
         return Plain if large or self.arguments.judge == "plain" else Exact
 
     def wrong(self, texts: Texts, plans: Sequence[Plan], found: Case) -> tuple[list[Plan], list[Plan]]:
-        """The plans whose answers are not the judge's, and those for which one of both took too long."""
+        """The plans whose answers are not the judge's, and those for which one of both took too long; a program that does on a small pair hangs."""
         judge: Judge = self.judge(found.large)(texts)
         wrong: list[Plan] = []
         over: list[Plan] = []
@@ -154,6 +155,7 @@ class Bench:
             got = found.asked.answer(texts, wanted)
             if got.status is None:
                 over.append(wanted)
+                wrong += [] if found.large else [wanted]
             elif not judge.agrees(wanted, got):
                 (over if judge.is_silent() else wrong).append(wanted)
         return wrong, over
@@ -172,7 +174,8 @@ class Bench:
         made = case(number, self.arguments, self.tested)
         folder = self.write(made, made.plans)
         told = ["%s ended its process: %s, %s" % (named(made), "over" if how.is_over() else how, os.path.relpath(folder))]
-        return Outcome(made.asked.name, self.judge(made.large).name, len(made.plans), int(not how.is_over()), int(how.is_over()), told)
+        is_wrong = not (how.is_over() and made.large)
+        return Outcome(made.asked.name, self.judge(made.large).name, len(made.plans), int(is_wrong), int(how.is_over()), told)
 
     def write(self, made: Case, wanted: Sequence[Plan]) -> str:
         """A folder of bench/out with a pair, and how to run it again."""

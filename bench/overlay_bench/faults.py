@@ -25,6 +25,7 @@ COMMON = b"MULTIPOLYGON (((2 2, 4 2, 4 4, 2 4, 2 2)))\n"
 COMMON_REPORT = b"segments 4 4\nhot 10\nrecords 20\nedges 12\ntiles 1\nremade 0\ntile 0 10 20\n"
 WRITE_FAILED, MEMORY = b"overlay: 11 write failed\n", b"overlay: 10 out of memory\n"
 SIDE = "--tile=262144"
+SECONDS = 60.0
 
 
 def add_arguments(parser: argparse.ArgumentParser) -> None:
@@ -42,6 +43,7 @@ class Place:
         for name, text in texts.items():
             with open(self.path(name), "wb") as file:
                 file.write(text)
+        self.rows_union = b"MULTIPOLYGON (" + b", ".join(b"((%d 0, %d 0, %d 5, %d 5, %d 0))" % (x, x + 5, x + 5, x, x) for x in range(0, 4000, 10)) + b")\n"
         self.rows_edges = b"".join(
             b"%d 0 %d 5 1 0\n%d 0 %d 0 1 0\n%d 5 %d 5 1 0\n%d 0 %d 5 1 0\n" % (x, x, x, x + 5, x, x + 5, x + 5, x + 5) for x in range(0, 4000, 10))
 
@@ -156,10 +158,11 @@ def pipes(place: Place) -> Iterator[Tried]:
         with open(place.path("rows"), "rb") as source, open(place.path("pipe"), "wb") as pipe:
             pipe.write(source.read())
 
-    feeder = threading.Thread(target=feed)
+    feeder = threading.Thread(target=feed, daemon=True)
     feeder.start()
     yield "a named pipe", place.run("edges", "pipe", "empty"), Answer(0, place.rows_edges, b"")
-    feeder.join()
+    feeder.join(SECONDS)
+    yield "the other end of a named pipe", feeder.is_alive(), False
 
 
 @check
@@ -239,7 +242,7 @@ def reads(place: Place) -> Iterator[Tried]:
 @check
 def memory_and_threads(place: Place) -> Iterator[Tried]:
     yield "no memory at all", place.with_calls("edges", "square", "corner", REFUSE_MALLOC=(0, errno.ENOMEM)), Answer(1, b"", MEMORY)
-    for command, expected in (("edges", Answer(0, place.rows_edges, b"")), ("union", place.run("union", "rows", "empty", "--tile=64"))):
+    for command, expected in (("edges", Answer(0, place.rows_edges, b"")), ("union", Answer(0, place.rows_union, b""))):
         for number in (0, 1, 2, 3):
             got = place.with_calls(command, "rows", "empty", "--tile=64", REFUSE_THREAD=(number, errno.EAGAIN))
             yield "a thread that can't be started", got, expected

@@ -114,9 +114,11 @@ class Refusing:
         """The answer where this request is refused."""
         return self.answer(words, REFUSE_MALLOC="%d %d" % (number, errno.ENOMEM))
 
-    def refuse_each(self, words: Sequence[str], again: bool = False) -> int:
+    def refuse_each(self, words: Sequence[str], status: int = 0, again: bool = False) -> int:
         """Refuses each request, and tells how many; with `again` each refused run is followed by one with memory."""
         right, requests = self.counted(words)
+        if right.status != status or not requests:
+            self.wrong.append((words, "nothing", "%d requests, %s" % (requests, right)))
         allowed = [right, OUT_OF_MEMORY] + [Answer(1, right.out, OUT_OF_MEMORY.err)] * ("--report" in words)
         for number in range(1, requests + 1):
             got = self.without(words, number)
@@ -151,17 +153,19 @@ def written(folder: str, name: str, texts: Iterable[str]) -> list[str]:
     return files
 
 
-def runs(folder: str, pairs: Mapping[str, tuple[str, str]], workers: Sequence[int]) -> Iterator[tuple[int, list[str]]]:
-    """The command lines: every pair by all commands, and some that fail before a run."""
+def runs(folder: str, pairs: Mapping[str, tuple[str, str]], workers: Sequence[int]) -> Iterator[tuple[int, int, list[str]]]:
+    """The command lines, by so many workers and with a status: every pair by all commands, and some that fail before a run."""
     for name, texts in pairs.items():
-        files = written(folder, name, texts)
+        # The last pair reaches so far that it would have too many tiles of 16.
+        files, tile = written(folder, name, texts), "--tile=%d" % (1024 if name == "many" else 16)
         for command in COMMANDS:
             for number in workers:
-                yield number, [command, *files, "--tile=16", "--workers=%d" % number]
-        yield workers[-1], ["union", *files, "--tile=16", "--workers=%d" % workers[-1], "--report"]
-        yield workers[-1], ["difference", *files]
+                yield number, 0, [command, *files, tile, "--workers=%d" % number]
+        yield workers[-1], 0, ["union", *files, tile, "--workers=%d" % workers[-1], "--report"]
+        yield workers[-1], 0, ["difference", *files]
     missing = os.path.join(folder, "none")
-    yield from ((1, words) for words in (["--help"], ["edges", programs.__file__, files[0]], ["xor", *files], ["edges", missing, missing], ["edges"]))
+    yield from ((1, *line) for line in (
+        (0, ["--help"]), (3, ["edges", programs.__file__, files[0]]), (2, ["xor", *files]), (1, ["edges", missing, missing]), (2, ["edges"])))
 
 
 def refuse_rows(refusing: Refusing, folder: str) -> tuple[int, int]:
@@ -179,11 +183,11 @@ def refuse_runs(refusing: Refusing, folder: str, arguments: argparse.Namespace) 
     """All command lines: how many, and how many requests."""
     pairs = {name: PAIRS[name] for name in FEW} if arguments.short else dict(PAIRS, many=many_segments(arguments.segments or 200))
     lines, requests = 0, 0
-    for workers, words in runs(folder, pairs, (1, 4) if arguments.short else (1, 2, 4)):
+    for workers, status, words in runs(folder, pairs, (1, 4) if arguments.short else (1, 2, 4)):
         lines += 1
         if words[0] in COMMANDS and not os.path.basename(words[-1]).startswith("none"):
             refusing.refuse_threads(words, workers)
-        requests += refusing.refuse_each(words)
+        requests += refusing.refuse_each(words, status)
     return lines, requests
 
 
@@ -215,6 +219,12 @@ def made_lines(folder: str, arguments: argparse.Namespace) -> Iterator[Line]:
         yield made_line(folder, "%s, %d segments" % (kind, segments), "union", [layers.text_of([*first, *second]), SQUARE])
 
 
+def judge_counted(counts: endurance.Counts, wanted: Line, right: Answer, requests: int) -> None:
+    """Counts a fault where the line itself fails, or has no request that could be refused."""
+    if right.status != 0 or not requests:
+        counts.judge(right, False, False, "no request of %s" % " ".join(wanted.words), wanted.files)
+
+
 def refuse_parts(refusing: Refusing, wanted: Line, arguments: argparse.Namespace) -> int:
     """The same requests in copies of a run, part by part; 1 where one went wrong."""
     right, start, done = refusing.answer(wanted.words), time.monotonic(), arguments.first
@@ -222,6 +232,7 @@ def refuse_parts(refusing: Refusing, wanted: Line, arguments: argparse.Namespace
     while done < arguments.parts and not (arguments.minutes and time.monotonic() - start > 60 * arguments.minutes):
         requests = turns.refuse([refusing.program, *wanted.words], right, wanted.files, done, arguments.parts, counts)
         done += 1
+    judge_counted(counts, wanted, right, requests)
     counts.about = "parts %d to %d of %d of %d requests of %s, workers by turns" % (arguments.first, done - 1, arguments.parts, requests, wanted.what)
     return counts.end()
 
@@ -231,6 +242,7 @@ def refuse_line(refusing: Refusing, wanted: Line, arguments: argparse.Namespace)
     right, requests = refusing.counted(wanted.words)
     most = min(arguments.requests or requests, requests)
     counts = endurance.Counts("memory", "%d requests of %s" % (requests, wanted.what))
+    judge_counted(counts, wanted, right, requests)
     for number in (1 + k * requests // most for k in range(most)):
         got = refusing.without(wanted.words, number)
         counts.judge(got, got == right, got == OUT_OF_MEMORY, "request %d of %s" % (number, " ".join(wanted.words)), wanted.files)

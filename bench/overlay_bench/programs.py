@@ -53,6 +53,10 @@ def answer(
         process.kill()
         out, err = process.communicate()
         return Answer(None, out, err)
+    except BaseException:  # this process is to end, and that one with it
+        process.kill()
+        process.wait()
+        raise
 
 
 @dataclass(frozen=True)
@@ -65,26 +69,39 @@ class Taken:
     memory: float
 
 
+def waited(process: subprocess.Popen[bytes], seconds: float) -> tuple[bool, resource.struct_rusage]:
+    """Waits for a process, at most for these seconds: whether it was ended then, and what it used."""
+    over = threading.Event()
+
+    def end() -> None:
+        over.set()
+        os.kill(process.pid, signal.SIGKILL)
+
+    timer = threading.Timer(seconds, end)
+    timer.daemon = True
+    timer.start()
+    try:
+        _, status, used = os.wait4(process.pid, 0)
+    except BaseException:  # this process is to end, and that one with it
+        process.kill()
+        process.wait()
+        raise
+    finally:
+        timer.cancel()
+    process.returncode = os.waitstatus_to_exitcode(status)
+    return over.is_set(), used
+
+
 def taken(words: Sequence[str], output: str, seconds: float, errors: str = os.devnull, processor: int | None = None) -> Taken:
     """Measures a run whose standard output, and whose errors, go to files. It may be given so many whole processor seconds too."""
     limit = None if processor is None else lambda: resource.setrlimit(resource.RLIMIT_CPU, (processor, processor))
     with open(output, "wb") as out, open(errors, "wb") as err:
         start = time.monotonic()
         process = subprocess.Popen(words, stdout=out, stderr=err, preexec_fn=limit)
-        over = threading.Event()
-
-        def end() -> None:
-            over.set()
-            os.kill(process.pid, signal.SIGKILL)
-
-        timer = threading.Timer(seconds, end)
-        timer.start()
-        _, status, used = os.wait4(process.pid, 0)
-        timer.cancel()
+        is_over, used = waited(process, seconds)
         clock = time.monotonic() - start
-        process.returncode = os.waitstatus_to_exitcode(status)
     seconds_used = used.ru_utime + used.ru_stime
-    is_over = over.is_set() or processor is not None and process.returncode < 0 and seconds_used >= 0.9 * processor
+    is_over = is_over or processor is not None and process.returncode < 0 and seconds_used >= 0.9 * processor
     return Taken(None if is_over else process.returncode, clock, seconds_used, used.ru_maxrss / 1024)
 
 

@@ -64,7 +64,7 @@ def latest(name: str, keys: Sequence[str]) -> list[dict[str, str]]:
         return []
     with open(path, encoding="utf-8") as file:
         head, *lines = (line.rstrip("\n").split("\t") for line in file)
-    rows = [dict(zip(reversed(head), reversed(line + [""] * (len(head) - len(line))))) for line in lines]  # of columns of one name the first
+    rows = [dict(zip(reversed(head), reversed((line + [""] * len(head))[:len(head)]))) for line in lines]  # of columns of one name the first, and no note behind the last
     found: dict[tuple[str, ...], dict[str, str]] = {}
     for row in rows:
         values = tuple(row[key] for key in keys)

@@ -38,7 +38,7 @@ def add_arguments(parser: argparse.ArgumentParser) -> None:
     parser.add_argument("--large", type=float, default=0.1, help="the share of large pairs; 0 needs no rustc")
     parser.add_argument("--points", type=int, default=10, help="random points of each small pair")
     parser.add_argument("--parts", type=int, default=3, help="how often the features are parted in two layers")
-    parser.add_argument("--seconds", type=float, default=60, help="after which a call is over")
+    parser.add_argument("--seconds", type=float, default=60, help="after which a call is over, which of a small pair is a difference")
 
 
 @dataclass(frozen=True)
@@ -138,10 +138,11 @@ class Bench:
         return Answer(0, faces.text().encode(), faces.report(plan.side).encode() if plan.report else b"")
 
     def by_plain(self, made: Case, texts: Sequence[bytes]) -> Answer | None:
-        """What the plain program answers to a large one."""
+        """What the plain program answers to a large one, in time."""
         if made.spelling % 40 == 0:
             return None
-        return self.ask(programs.plain(), ["faces"], texts)
+        told = self.ask(programs.plain(), ["faces"], texts)
+        return None if told.status is None else told
 
     def parted(self, made: Case, texts: Sequence[bytes], text: bytes) -> bool:
         """Whether `edges` of the features in two random layers agree with the rows."""
@@ -152,6 +153,8 @@ class Bench:
             chosen = {number for number in range(len(features)) if rng.random() < 0.5}
             halves = [[rings for number, rings in enumerate(features) if (number in chosen) == first] for first in (True, False)]
             told = self.ask(self.arguments.program, ["edges", "--segments=4000000"], [written(half) for half in halves])
+            if told.status is None and made.large:
+                continue
             odd: set[Edge] = set()
             changing: set[Edge] = set()
             for line in told.out.splitlines():
@@ -166,11 +169,11 @@ class Bench:
         return True
 
     def wrong(self, made: Case, layers: list[Features] | None = None) -> str | None:
-        """Why a case differs; nothing where it doesn't, or where the call took too long."""
+        """Why a case differs; nothing where it doesn't, or where a large one took too long."""
         texts = made.texts(layers)
         got = self.ask(self.arguments.program, ["faces", *made.plan.words()], texts)
         if got.status is None:
-            return None
+            return None if made.large else "took more than %g s" % self.arguments.seconds
         wanted = self.by_plain(made, texts) if made.large else self.judged(made, texts)
         if wanted is not None and got != wanted:
             return "is %s, and not %s" % (got, wanted)

@@ -14,6 +14,8 @@ from typing import Generic, TypeVar
 Thing = TypeVar("Thing")
 Result = TypeVar("Result")
 FORK = multiprocessing.get_context("fork")
+# What a process is given to end its programs and to take its folders away.
+SECONDS = 10.0
 
 
 def add_arguments(parser: argparse.ArgumentParser, things: str, count: int) -> None:
@@ -52,6 +54,7 @@ class Hand(Generic[Thing, Result]):
 
     def run(self, numbers: Sequence[Thing], telling: Connection) -> None:
         signal.signal(signal.SIGINT, signal.SIG_IGN)
+        signal.signal(signal.SIGTERM, lambda number, frame: sys.exit(1))
         for number in numbers:
             telling.send(self.work(number))
 
@@ -67,6 +70,12 @@ class Hand(Generic[Thing, Result]):
         if isinstance(result, Ended) and self.done < len(self.numbers):
             self.start()
         return number, result
+
+    def end(self) -> None:
+        """Waits for the process, which was told to end; a call into a library doesn't hear it."""
+        self.process.join(SECONDS)
+        self.process.kill()
+        self.process.join()
 
     def is_done(self) -> bool:
         return self.done == len(self.numbers)
@@ -92,3 +101,5 @@ def results(work: Callable[[Thing], Result], numbers: Sequence[Thing], jobs: int
     finally:
         for hand in hands:
             hand.process.terminate()
+        for hand in hands:
+            hand.end()

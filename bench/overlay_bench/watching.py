@@ -2,13 +2,13 @@
 from __future__ import annotations
 
 import glob
-import os
-import signal
 import subprocess
 import threading
 import time
 from collections.abc import Mapping
 from dataclasses import dataclass
+
+from .programs import waited
 
 # So many looks a second.
 LOOKS = 100
@@ -79,24 +79,9 @@ def watched(words: list[str], output: str, seconds: float, env: Mapping[str, str
     with open(output, "wb") as out, open(output + ".said", "wb") as said:
         start = time.monotonic()
         process = subprocess.Popen(words, stdin=subprocess.DEVNULL, stdout=out, stderr=said, env=env)
-        threads, over = Threads(process.pid), threading.Event()
-
-        def end() -> None:
-            over.set()
-            os.kill(process.pid, signal.SIGKILL)
-
-        timer = threading.Timer(seconds, end)
-        timer.start()
-        try:
-            _, status, used = os.wait4(process.pid, 0)
-        except BaseException:  # this process is to end, and that one with it
-            process.kill()
-            process.wait()
-            raise
-        finally:
-            timer.cancel()
+        threads = Threads(process.pid)
+        is_over, used = waited(process, seconds)
         clock = time.monotonic() - start
-        process.returncode = os.waitstatus_to_exitcode(status)
         count = threads.stop()
     with open(output + ".said", encoding="utf-8", errors="replace") as told:
-        return Watched(None if over.is_set() else process.returncode, clock, used.ru_utime + used.ru_stime, count, used.ru_maxrss / 1000, told.read())
+        return Watched(None if is_over else process.returncode, clock, used.ru_utime + used.ru_stime, count, used.ru_maxrss / 1000, told.read())

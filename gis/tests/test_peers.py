@@ -229,6 +229,12 @@ def test_the_last_row_counts_and_the_first_of_two_columns(tmp_path, monkeypatch)
     assert results.latest("none", ("kind",)) == []
 
 
+def test_a_note_behind_a_row_shifts_nothing(tmp_path, monkeypatch):
+    monkeypatch.setattr(results, "FOLDER", str(tmp_path))
+    results.append("some", ["kind", "ratio"], [[*"abcd", "flower", "2", "more than expected"], [*"abcd", "coast"]])
+    assert [(row["kind"], row["ratio"]) for row in results.latest("some", ("kind",))] == [("flower", "2"), ("coast", "")]
+
+
 def test_the_drawing_is_the_same_and_has_each_series(tmp_path, monkeypatch):
     monkeypatch.setattr(results, "FOLDER", str(tmp_path))
     assert plot.picture().count("not recorded") == 2

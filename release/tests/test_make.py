@@ -11,7 +11,9 @@ from pathlib import Path
 import pytest
 
 TOP = Path(__file__).resolve().parents[2]
-PASSED = "rt: ok; handles allowed: Threads, Wait\n345 passed, 0 failed\n"
+VERDICT = "rt: ok; handles allowed: Threads, Wait\n345 passed, 0 failed\n"
+# The tests behind the verdict speak, too, and then it is told once more.
+PASSED = VERDICT + "31 passed in 5.60s\n" + VERDICT
 BUILT = {
     "crates/overlay/out/overlay": Path(os.environ.get("OVERLAY") or TOP / "crates/overlay/out/overlay"),
     "crates/overlay_c/out/liboverlay_c.a": TOP / "crates/overlay_c/out/liboverlay_c.a",
@@ -41,9 +43,10 @@ def clone(tmp_path):
     (kit / "bin/rt").write_text("#!/bin/sh\necho kit of $1\n")
     (kit / "bin/rt").chmod(0o755)
     (kit / "c").symlink_to(Path(os.path.realpath(shutil.which("rt"))).parents[1] / "c")
+    commit = printed("git", "rev-parse", "HEAD", cwd=tree)
 
-    def make(log, made="made", umask=0o022, **more):
-        (tmp_path / "gate.log").write_text(log)
+    def make(log, made="made", umask=0o022, begun=f"commit {commit}", **more):
+        (tmp_path / "gate.log").write_text(begun + log)
         words = [tree / "release/make", "--log", tmp_path / "gate.log", tmp_path / made]
         # As in a shell: what the tests' own environment says of Python's bytecode isn't said there.
         own = {name: value for name, value in os.environ.items() if name != "PYTHONDONTWRITEBYTECODE"}
@@ -163,13 +166,20 @@ def test_the_lines_that_are_tried():
     [
         ("", "doesn't say that the gate passed"),
         ("344 passed, 1 failed\n", "doesn't say"),
-        (PASSED + "1 failed, 145 passed in 5.60s\n", "failed"),
-        (PASSED + "gis/tests: NOT RUN: ..\n", "didn't run"),
+        ("1 failed, 145 passed in 5.60s\n" + PASSED, "failed"),
+        ("gis/tests: NOT RUN: ..\n" + PASSED, "didn't run"),
+        (VERDICT + "31 passed in 5.60s\n", "ends before the gate does"),
     ],
 )
 def test_a_gate_that_did_not_pass(clone, tmp_path, log, words):
     done = clone(log)
     assert done.returncode == 1 and words in done.stderr and not (tmp_path / "made").exists()
+
+
+@pytest.mark.parametrize("begun", ["", f"commit {'0' * 40}\n", "commit \n"])
+def test_a_log_of_another_commit(clone, tmp_path, begun):
+    done = clone(PASSED, begun=begun)
+    assert done.returncode == 1 and "isn't of commit" in done.stderr and not (tmp_path / "made").exists()
 
 
 def test_a_clone_with_changes(clone, tmp_path):
