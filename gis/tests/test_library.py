@@ -202,7 +202,7 @@ def test_a_signal_does_not_wait_for_the_package(tmp_path, number, name):
     finally:
         command.kill()
     assert command.returncode == 1
-    assert said.splitlines()[-1] == f"overlay-gis: stopped by {name}: no file was written or changed"
+    assert said.splitlines()[-1] == f"overlay-gis: stopped by {name}: no output was written or changed"
     assert "Traceback" not in said and not (tmp_path / "out.gpkg").exists()
 
 
