@@ -199,7 +199,7 @@ def test_hostile_maps(gis, tmp_path, in_turn, monkeypatch, seed):
         low, high = int(min(begins, default=0)), int(max(ends, default=0))
         columns = [*begins.tolist(), *ends.tolist(), 0]
         cuts = [rng.choice([rng.choice(columns) + rng.randint(-1, 1), rng.randint(low, high + 1)]) for _ in range(count)]
-        return strip_plan.Strips(tuple(sorted(cuts)), 1, 1)
+        return strip_plan.Strips(tuple(sorted(cuts)), 1)
 
     monkeypatch.setattr(by_strips, "chosen", chosen)
     for module, name in ((strip_polygons, "BLOCK"), (strip_polygons, "POINTS"), (geopackage, "BLOCK")):
@@ -214,7 +214,7 @@ def cut(in_turn, monkeypatch):
 
     def put(*columns):
         in_turn(1, 1 << 20)
-        monkeypatch.setattr(by_strips, "chosen", lambda *_: strip_plan.Strips(columns, 1, 1))
+        monkeypatch.setattr(by_strips, "chosen", lambda *_: strip_plan.Strips(columns, 1))
 
     return put
 
