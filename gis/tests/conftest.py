@@ -4,9 +4,13 @@ from __future__ import annotations
 
 import os
 import random
+import signal
+import subprocess
 import sys
+import time
 from dataclasses import dataclass
 from pathlib import Path
+from typing import Callable
 
 import pytest
 from osgeo import gdal, ogr, osr
@@ -174,6 +178,28 @@ def begun(tmp_path):
 
 def numbers_in(folder: Path) -> list[int]:
     return [int(path.name) for path in folder.iterdir()]
+
+
+def said_when_stopped(folder: Path, more: list[str], environment: dict[str, str], number: int, is_at_work: Callable[[], bool]) -> str:
+    """What a union of a.gpkg and b.gpkg says where a signal comes while it is at work."""
+    command = subprocess.Popen(
+        [sys.executable, COMMAND, "run", "union", "a.gpkg", "b.gpkg", "-o", "out.gpkg", *more],
+        cwd=folder,
+        env=environment,
+        stderr=subprocess.PIPE,
+        text=True,
+        preexec_fn=lambda: signal.signal(number, signal.SIG_DFL),
+    )
+    try:
+        while not is_at_work():
+            assert command.poll() is None
+            time.sleep(0.01)
+        command.send_signal(number)
+        said = command.communicate(timeout=300)[1]
+    finally:
+        command.kill()
+    assert command.returncode == 1
+    return said
 
 
 @pytest.fixture

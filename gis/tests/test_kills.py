@@ -3,16 +3,13 @@ looks whole."""
 
 import os
 import signal
-import subprocess
-import sys
-import time
 from pathlib import Path
 
 import pytest
 from osgeo import gdal
 from shapely.geometry import box
 
-from conftest import COMMAND, EAST, NORTH, Answer, numbers_in, read, running, write
+from conftest import EAST, NORTH, Answer, numbers_in, read, running, said_when_stopped, write
 from overlay_gis import cli, gdal_state, geopackage, output, whole
 
 FORMATS = ["gpkg", "shp", "geojson", "fgb"]
@@ -222,23 +219,8 @@ def test_a_signal_ends_the_program_too(tmp_path, begun, number, name):
     temporary.mkdir()
     program.write_text(f'#!/bin/sh\ntouch "{begun}/$$"\nexec sleep 600\n')
     program.chmod(0o755)
-    command = subprocess.Popen(
-        [sys.executable, COMMAND, "run", "union", "a.gpkg", "b.gpkg", "-o", "out.gpkg", "--dissolve"],
-        cwd=tmp_path,
-        env={**os.environ, "OVERLAY": str(program), "TMPDIR": str(temporary)},
-        stderr=subprocess.PIPE,
-        text=True,
-        preexec_fn=lambda: signal.signal(number, signal.SIG_DFL),
-    )
-    try:
-        while len(numbers_in(begun)) < 3:
-            assert command.poll() is None
-            time.sleep(0.01)
-        command.send_signal(number)
-        said = command.communicate(timeout=300)[1]
-    finally:
-        command.kill()
-    assert command.returncode == 1
+    environment = {**os.environ, "OVERLAY": str(program), "TMPDIR": str(temporary)}
+    said = said_when_stopped(tmp_path, ["--dissolve"], environment, number, lambda: len(numbers_in(begun)) == 3)
     assert said.splitlines()[-1] == f"overlay-gis: stopped by {name}: no output was written or changed"
     assert "Traceback" not in said and not list(temporary.iterdir()) and not (tmp_path / "out.gpkg").exists()
     assert not any(map(running, numbers_in(begun)))

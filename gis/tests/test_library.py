@@ -5,7 +5,6 @@ import signal
 import subprocess
 import sys
 import threading
-import time
 from pathlib import Path
 from types import ModuleType, SimpleNamespace
 
@@ -13,7 +12,7 @@ import pytest
 from shapely.affinity import translate
 from shapely.geometry import box
 
-from conftest import COMMAND, EAST, NORTH, blobs, parcels, read, write
+from conftest import EAST, NORTH, blobs, parcels, read, said_when_stopped, write
 from overlay_gis import calls, program
 
 
@@ -185,23 +184,7 @@ def test_a_signal_does_not_wait_for_the_package(tmp_path, number, name):
     (tmp_path / "overlay_grid.py").write_text(SLOW)
     environment = {**os.environ, "PYTHONPATH": str(tmp_path)}
     del environment["OVERLAY"]
-    command = subprocess.Popen(
-        [sys.executable, COMMAND, "run", "union", "a.gpkg", "b.gpkg", "-o", "out.gpkg"],
-        cwd=tmp_path,
-        env=environment,
-        stderr=subprocess.PIPE,
-        text=True,
-        preexec_fn=lambda: signal.signal(number, signal.SIG_DFL),
-    )
-    try:
-        while not (tmp_path / "begun").exists():
-            assert command.poll() is None
-            time.sleep(0.01)
-        command.send_signal(number)
-        said = command.communicate(timeout=300)[1]
-    finally:
-        command.kill()
-    assert command.returncode == 1
+    said = said_when_stopped(tmp_path, [], environment, number, lambda: (tmp_path / "begun").exists())
     assert said.splitlines()[-1] == f"overlay-gis: stopped by {name}: no output was written or changed"
     assert "Traceback" not in said and not (tmp_path / "out.gpkg").exists()
 
