@@ -91,9 +91,6 @@ steps_from_column low x side k s h =
 pub width_is : (low x a b : ℤ) → FitsSigned w32 low → FitsSigned w32 x → low ≤ℤ x → a ≡ to_z w32 (of_z w32 x) → b ≡ to_z w32 (of_z w32 low) → pos (nat_abs (to_z w64 (of_z w64 (to_z w64 (of_z w64 a) -ℤ to_z w64 (of_z w64 b))))) ≡ x -ℤ low
 width_is low x a b f g h e d = omega (arith, ints)
 
-pub same_quotient : (w s t : ℕ) → s ≡ t → w / s ≡ w / t
-same_quotient w s t e = rw e refl
-
 -- ---- rows of columns
 later_row : (rows columns row column row' column' : ℕ) → column < columns → row * columns + column ≡ row' * columns + column' → row < row' → ⊥
 later_row rows columns row column row' column' h e l =

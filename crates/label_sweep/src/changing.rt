@@ -39,7 +39,7 @@ pub fn changing_edges<A: Allocator>(
 }
 
 /// One in so many edges is looked at to tell whether most change a parity.
-const SAMPLE: usize = 16;
+const SAMPLE: usize = 64;
 
 /// Whether so few edges change no parity that to leave them out isn't worth a list of the others, as a sample tells.
 pub fn most_change(counted: &[Counted]) -> bool {
