@@ -8,18 +8,19 @@ ghost use Rattle.std.specs.Prelude.{◌≡◌, ◌≢◌, ◌<◌, ℕ, None, Al
 ghost use Rattle.geom.specs.Rings.{IsCut};
 ghost use Rattle.polygonize.specs.Stack.{AreStacked};
 
+use crate::counting::counted;
 use crate::cycle::Cycle;
 use geom::NoMemory;
 use std::alloc::Allocator;
 
 /// Where a vertex stands on the stack, if it does.
-fn place_on(stack: &[usize], place: &[usize], vertex: usize) -> Option<usize>
+fn place_on(stack: &[u32], place: &[u32], vertex: u32) -> Option<usize>
     requires stacked { AreStacked stack.now place.now }
     requires inside { vertex < length place.now }
     ensures some { IfSome result (λ at. (at < length stack.now) × (slice_index stack.now at ≡ vertex)) }
     ensures none { result ≡ None → (k : ℕ) → k < length stack.now → slice_index stack.now k ≢ vertex }
 {
-    let at = place[vertex];
+    let at = place[vertex as usize] as usize;
     if at < stack.len() && stack[at] == vertex {
         Some(at)
     } else {
@@ -30,8 +31,8 @@ fn place_on(stack: &[usize], place: &[usize], vertex: usize) -> Option<usize>
 /// The pieces. `place` has a place for each number.
 pub fn cut<A: Allocator + Copy>(
     alloc: A,
-    ring: &[usize],
-    place: &mut [usize],
+    ring: &[u32],
+    place: &mut [u32],
 ) -> Result<Vec<Cycle<A>, A>, NoMemory>
     requires { All (λ v. v < length place.old) ring.now }
     ensures { IfOk result (λ pieces. IsCut ring.now pieces.items) }
@@ -44,7 +45,7 @@ pub fn cut<A: Allocator + Copy>(
             stack.truncate(at);
             pieces.push(Cycle::new(piece))?;
         }
-        place[*v] = stack.len();
+        place[*v as usize] = counted(stack.len())?;
         stack.push(*v)?;
     }
     pieces.push(Cycle::new(stack))?;

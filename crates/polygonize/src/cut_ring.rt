@@ -28,9 +28,9 @@ pub struct CutRing<A: Allocator> {
 fn cut_ring<A: Allocator + Copy>(
     alloc: A,
     edges: ClosingEdges<'_>,
-    numbers: &[usize],
-    cycle: &[usize],
-    places: &mut [usize],
+    numbers: &[u32],
+    cycle: &[u32],
+    places: &mut [u32],
 ) -> Result<CutRing<A>, NoMemory>
     requires numbers { AreNumbers edges.list.now numbers.now }
     requires cycle { ArePlaces edges.list.now cycle.now }
@@ -52,7 +52,7 @@ fn cut_ring<A: Allocator + Copy>(
 pub fn cut_rings<A: Allocator + Copy>(
     alloc: A,
     edges: ClosingEdges<'_>,
-    numbers: &[usize],
+    numbers: &[u32],
     cycles: &[Cycle<A>],
     from: usize,
     past: usize,
@@ -77,7 +77,7 @@ pub fn cut_rings_in_parts<R: Threads + Sync, A: Allocator + Copy + Send + Sync>(
     alloc: A,
     parts: usize,
     edges: ClosingEdges<'_>,
-    numbers: &[usize],
+    numbers: &[u32],
     cycles: &[Cycle<A>],
 ) -> Result<Vec<CutRing<A>, A>, NoMemory>
     requires { AreCyclesOf edges.list.now numbers.now cycles.now }

@@ -3,6 +3,7 @@
 ghost use Rattle.std.specs.Prelude.{◌≡◌, ◌<◌, ℕ, List, All, IfOk, OnOk, length};
 ghost use Rattle.polygonize.specs.Cycle.{IsOneToOne, IsClosed, IsUnseen, Walked, AreCycles};
 
+use crate::counting::counted;
 use geom::NoMemory;
 use std::alloc::Allocator;
 use std::marker::Model;
@@ -10,7 +11,7 @@ use std::marker::Model;
 /// A cycle by numbers: those of its edges, or of the first edges that leave its vertices.
 #[derive(Debug, Drop)]
 pub struct Cycle<A: Allocator> {
-    numbers: Vec<usize, A>,
+    numbers: Vec<u32, A>,
 }
 
 impl<A: Allocator> Model for Cycle<A> {
@@ -21,21 +22,21 @@ impl<A: Allocator> Model for Cycle<A> {
 
 impl<A: Allocator> Cycle<A> {
     /// The cycle of these numbers.
-    pub fn new(numbers: Vec<usize, A>) -> Cycle<A>
+    pub fn new(numbers: Vec<u32, A>) -> Cycle<A>
         ensures { result ≡ numbers.items }
     {
         Cycle { numbers }
     }
 
     /// The numbers in their order.
-    pub fn numbers(&self) -> &[usize]
+    pub fn numbers(&self) -> &[u32]
         ensures { result.now ≡ self.now }
     {
         &self.numbers
     }
 
     /// The numbers in their order, to be changed.
-    pub fn into_numbers(self) -> Vec<usize, A>
+    pub fn into_numbers(self) -> Vec<u32, A>
         ensures { result.items ≡ self }
     {
         let Cycle { numbers } = self;
@@ -45,10 +46,10 @@ impl<A: Allocator> Cycle<A> {
 
 /// Walks the cycle of `start`, begun there, in place of what the list had. What it passes is marked as seen.
 fn walk<A: Allocator>(
-    next: &[usize],
+    next: &[u32],
     seen: &mut [bool],
     start: usize,
-    cycle: &mut Vec<usize, A>,
+    cycle: &mut Vec<u32, A>,
 ) -> Result<(), NoMemory>
     requires same_length { length seen.old ≡ length next.now }
     requires in_range { All (λ k. k < length next.now) next.now }
@@ -60,18 +61,18 @@ fn walk<A: Allocator>(
 {
     cycle.clear();
     seen[start] = true;
-    cycle.push(start)?;
+    cycle.push(counted(start)?)?;
     let mut at = next[start];
-    while at != start {
-        seen[at] = true;
+    while at as usize != start {
+        seen[at as usize] = true;
         cycle.push(at)?;
-        at = next[at];
+        at = next[at as usize];
     }
     Ok(())
 }
 
 /// The cycles, each begun at its least number, in the order of these.
-pub fn cycles<A: Allocator + Copy>(alloc: A, next: &[usize]) -> Result<Vec<Cycle<A>, A>, NoMemory>
+pub fn cycles<A: Allocator + Copy>(alloc: A, next: &[u32]) -> Result<Vec<Cycle<A>, A>, NoMemory>
     requires in_range { All (λ k. k < length next.now) next.now }
     requires one_to_one { IsOneToOne next.now }
     ensures { IfOk result (λ found. AreCycles next.now found.items) }

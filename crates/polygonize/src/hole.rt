@@ -19,21 +19,21 @@ fn following(n: usize, i: usize) -> usize
 }
 
 /// Whether the ring turns to the right at its vertex at the place i: the next edge lies counter-clockwise of the way back.
-fn turns_right(edges: ClosingEdges<'_>, before: usize, at: usize, after: usize) -> bool
+fn turns_right(edges: ClosingEdges<'_>, before: u32, at: u32, after: u32) -> bool
     requires before_in { before < length edges.list.now }
     requires at_in { at < length edges.list.now }
     requires after_in { after < length edges.list.now }
     ensures { result ≡ int_lt (pos 0) (side (edge_at edges.entry.list.now at).from (edge_at edges.entry.list.now before).from (edge_at edges.entry.list.now after).from) }
 {
     side_of(
-        edges.list[at].from,
-        edges.list[before].from,
-        edges.list[after].from,
+        edges.list[at as usize].from,
+        edges.list[before as usize].from,
+        edges.list[after as usize].from,
     ) > 0
 }
 
 /// Whether a ring of vertices, begun at its least one, is a hole.
-pub fn is_hole(edges: ClosingEdges<'_>, ring: &[usize]) -> bool
+pub fn is_hole(edges: ClosingEdges<'_>, ring: &[u32]) -> bool
     requires vertices { All (IsVertex edges.list.now) ring.now }
     requires least { All (λ k. slice_index_or ring.now 0 0 ≤ k) ring.now }
     ensures { IsTrue result ↔ IsHole (ring_of edges.entry.list.now ring.now) }

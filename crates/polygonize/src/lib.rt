@@ -11,6 +11,8 @@
 //! What all this stands on, that the edges close and are within the coordinate limit, the edges' type knows (`closing_edges`; `limited_edges`
 //! for the search for edges below, which takes any edges: `edges_below`).
 //!
+//! Places of edges and numbers of vertices and rings are kept in 32 bits (`counting`).
+//!
 //! The promise: where edges meet only at ends and each hole has an edge below it, the polygons of the definition (`ArePolygons` of `geom`).
 #![tactic(auto)]
 
@@ -19,6 +21,7 @@ mod below;
 mod closing;
 mod closing_edges;
 mod column;
+mod counting;
 mod cut;
 mod cut_ring;
 mod cycle;

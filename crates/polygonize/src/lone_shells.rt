@@ -14,6 +14,7 @@ ghost use Rattle.polygonize.specs.Written.{IsCanonical};
 
 use crate::angle::are_same;
 use crate::closing_edges::ClosingEdges;
+use crate::counting::counted;
 use crate::hole::is_hole;
 use crate::polygon::simple_ring;
 use crate::stripes::first_leaving;
@@ -52,7 +53,7 @@ fn walk<A: Allocator>(
     edges: ClosingEdges<'_>,
     seen: &mut [bool],
     start: usize,
-    cycle: &mut Vec<usize, A>,
+    cycle: &mut Vec<u32, A>,
 ) -> Result<(), NoMemory>
     requires apart { LeaveApart edges.list.now }
     requires same_length { length seen.old ≡ length edges.list.now }
@@ -63,11 +64,11 @@ fn walk<A: Allocator>(
 {
     cycle.clear();
     seen[start] = true;
-    cycle.push(start)?;
+    cycle.push(counted(start)?)?;
     let mut at = place_after(edges, start);
     while at != start {
         seen[at] = true;
-        cycle.push(at)?;
+        cycle.push(counted(at)?)?;
         at = place_after(edges, at);
     }
     Ok(())
@@ -77,7 +78,7 @@ fn walk<A: Allocator>(
 fn shell_of<A: Allocator + Copy>(
     alloc: A,
     edges: ClosingEdges<'_>,
-    cycle: &[usize],
+    cycle: &[u32],
 ) -> Result<Option<Polygon<A>>, NoMemory>
     requires { 3 ≤ length cycle.now → IsCanonical edges.list.now cycle.now }
     ensures { IfOk result (λ found. IfSome found (IsLoneShell edges.entry.list.now cycle.now)) }

@@ -6,6 +6,7 @@ ghost use Rattle.polygonize.specs.Number.{AreNumbers, IsLastNumber, IsNumber};
 
 use crate::angle::are_same;
 use crate::closing_edges::ClosingEdges;
+use crate::counting::counted;
 use crate::cycle::Cycle;
 use geom::{DirectedEdge, NoMemory, Pt};
 use std::alloc::{AllocError, Allocator};
@@ -27,14 +28,14 @@ fn number_at(edges: ClosingEdges<'_>, last: usize, i: usize) -> usize
 pub fn start_numbers<A: Allocator + Copy>(
     alloc: A,
     edges: ClosingEdges<'_>,
-) -> Result<Vec<usize, A>, NoMemory>
+) -> Result<Vec<u32, A>, NoMemory>
     ensures { IfOk result (λ numbers. AreNumbers edges.entry.list.now numbers.items) }
 {
     let mut numbers = Vec::with_capacity(alloc, edges.list.len())?;
     let mut last = 0;
     for i in 0..edges.list.len() {
         last = number_at(edges, last, i);
-        numbers.push(last)?;
+        numbers.push(counted(last)?)?;
     }
     Ok(numbers)
 }
@@ -42,15 +43,15 @@ pub fn start_numbers<A: Allocator + Copy>(
 /// The vertices of a cycle of edges, by their numbers.
 pub fn vertices_of<A: Allocator + Copy>(
     alloc: A,
-    numbers: &[usize],
-    cycle: &[usize],
-) -> Result<Vec<usize, A>, NoMemory>
+    numbers: &[u32],
+    cycle: &[u32],
+) -> Result<Vec<u32, A>, NoMemory>
     requires { All (λ k. k < length numbers.now) cycle.now }
     ensures { IfOk result (λ ring. ring.items ≡ map (λ k. slice_index numbers.now k) cycle.now) }
 {
-    let vertices: Result<Vec<usize, A>, AllocError> = cycle
+    let vertices: Result<Vec<u32, A>, AllocError> = cycle
         .iter()
-        .map(|place| numbers[*place])
+        .map(|place| numbers[*place as usize])
         .collect(alloc);
     Ok(vertices?)
 }
@@ -59,14 +60,14 @@ pub fn vertices_of<A: Allocator + Copy>(
 pub fn points_of<A: Allocator + Copy>(
     alloc: A,
     edges: &[DirectedEdge],
-    ring: &[usize],
+    ring: &[u32],
 ) -> Result<Vec<Pt, A>, NoMemory>
     requires { All (λ k. k < length edges.now) ring.now }
     ensures { IfOk result (λ points. points.items ≡ ring_of edges.now ring.now) }
 {
     let points: Result<Vec<Pt, A>, AllocError> = ring
         .iter()
-        .map(|vertex| edges[*vertex].from)
+        .map(|vertex| edges[*vertex as usize].from)
         .collect(alloc);
     Ok(points?)
 }
@@ -85,7 +86,7 @@ pub fn first_vertices<A: Allocator + Copy>(
 {
     let mut vertices = Vec::with_capacity(alloc, numbers.len())?;
     for number in numbers {
-        vertices.push(edges[cycles[*number].numbers()[0]].from)?;
+        vertices.push(edges[cycles[*number].numbers()[0] as usize].from)?;
     }
     Ok(vertices)
 }

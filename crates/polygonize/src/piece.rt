@@ -11,7 +11,7 @@ use crate::cycle::Cycle;
 use std::alloc::Allocator;
 
 /// Where a ring has its least vertex.
-fn least_place(ring: &[usize]) -> usize
+fn least_place(ring: &[u32]) -> usize
     requires { 0 < length ring.now }
     ensures inside { result < length ring.now }
     ensures least { All (λ k. slice_index ring.now result ≤ k) ring.now }
@@ -37,7 +37,7 @@ pub fn turned<A: Allocator>(ring: Cycle<A>) -> Cycle<A>
 }
 
 /// Whether a piece comes back to the ring's least vertex, and with a greater angle than another one that does.
-fn comes_later(edges: ClosingEdges<'_>, least: usize, piece: &[usize], other: &[usize]) -> bool
+fn comes_later(edges: ClosingEdges<'_>, least: u32, piece: &[u32], other: &[u32]) -> bool
     requires least { IsVertex edges.list.now least }
     requires sound { IsSound edges.list.now piece.now }
     requires other_sound { IsSound edges.list.now other.now }
@@ -46,17 +46,13 @@ fn comes_later(edges: ClosingEdges<'_>, least: usize, piece: &[usize], other: &[
     if piece[0] != least {
         return false;
     }
-    let last = edges.list[piece[piece.len() - 1]].from;
-    let other_last = edges.list[other[other.len() - 1]].from;
-    other[0] != least || side_of(edges.list[least].from, other_last, last) > 0
+    let last = edges.list[piece[piece.len() - 1] as usize].from;
+    let other_last = edges.list[other[other.len() - 1] as usize].from;
+    other[0] != least || side_of(edges.list[least as usize].from, other_last, last) > 0
 }
 
 /// Of the pieces of a ring that begin at its least vertex, that which comes back to it with the greatest angle.
-pub fn first_piece<A: Allocator>(
-    edges: ClosingEdges<'_>,
-    least: usize,
-    pieces: &[Cycle<A>],
-) -> usize
+pub fn first_piece<A: Allocator>(edges: ClosingEdges<'_>, least: u32, pieces: &[Cycle<A>]) -> usize
     requires least { IsVertex edges.list.now least }
     requires some { 0 < length pieces.now }
     requires sound { All (IsSound edges.list.now) pieces.now }

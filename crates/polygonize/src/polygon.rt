@@ -24,7 +24,7 @@ use std::alloc::Allocator;
 pub fn simple_ring<A: Allocator + Copy>(
     alloc: A,
     edges: &[DirectedEdge],
-    ring: &[usize],
+    ring: &[u32],
 ) -> Result<SimpleRing<A>, NoMemory>
     requires { IsSound edges.now ring.now }
     ensures { IfOk result (λ points. points ≡ ring_of edges.now ring.now) }

@@ -93,10 +93,7 @@ fn next_and_numbers<R: Threads + Sync, A: Allocator + Copy + Send + Sync>(
     alloc: A,
     parts: usize,
     edges: ClosingEdges<'_>,
-) -> (
-    Result<Vec<usize, A>, NoMemory>,
-    Result<Vec<usize, A>, NoMemory>,
-)
+) -> (Result<Vec<u32, A>, NoMemory>, Result<Vec<u32, A>, NoMemory>)
     ensures next { IfOk result.0 (λ next. AreNext edges.entry.list.now next.items) }
     ensures one_to_one { IfOk result.0 (λ next. IsOneToOne next.items) }
     ensures numbers { IfOk result.1 (λ numbers. AreNumbers edges.entry.list.now numbers.items) }
@@ -108,11 +105,11 @@ fn next_and_numbers<R: Threads + Sync, A: Allocator + Copy + Send + Sync>(
     join(
         rt,
         BOTH,
-        || -> Result<Vec<usize, A>, NoMemory>
+        || -> Result<Vec<u32, A>, NoMemory>
             requires { IsSync R.row × IsSend A.row × IsSync A.row × (2 ≤ parts) × ∥ Closes list.now ∥₁ × All (λ d. AreInLimit d.from d.to) list.now }
             ensures { IfOk result (λ next. AreNext list.entry.now next.items × IsOneToOne next.items) }
         { successors_in_parts(rt, alloc, parts - 1, ClosingEdges { list }) },
-        || -> Result<Vec<usize, A>, NoMemory>
+        || -> Result<Vec<u32, A>, NoMemory>
             requires { IsSync A.row × ∥ Closes list.now ∥₁ × All (λ d. AreInLimit d.from d.to) list.now }
             ensures { IfOk result (λ numbers. AreNumbers list.entry.now numbers.items) }
         { start_numbers(alloc, ClosingEdges { list }) },

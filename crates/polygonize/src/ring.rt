@@ -8,6 +8,7 @@ ghost use Rattle.polygonize.specs.RingNumbers.{AreApart, AreRingNumbers, IsNumbe
 ghost use Rattle.polygonize.specs.Written.{ArePlaces, HasItsEdges};
 
 use crate::closing_edges::ClosingEdges;
+use crate::counting::counted;
 use crate::cycle::{Cycle, cycles};
 use geom::NoMemory;
 use std::alloc::Allocator;
@@ -16,7 +17,7 @@ use std::alloc::Allocator;
 pub fn ring_places<A: Allocator + Copy>(
     alloc: A,
     edges: ClosingEdges<'_>,
-    next: &[usize],
+    next: &[u32],
 ) -> Result<Vec<Cycle<A>, A>, NoMemory>
     requires next { AreNext edges.list.now next.now }
     requires one_to_one { IsOneToOne next.now }
@@ -29,12 +30,12 @@ pub fn ring_places<A: Allocator + Copy>(
 }
 
 /// Gives the edges of a ring its number.
-fn number_ring(ring_at: &mut [usize], cycle: &[usize], number: usize)
+fn number_ring(ring_at: &mut [u32], cycle: &[u32], number: u32)
     requires { All (λ k. k < length ring_at.old) cycle.now }
     ensures { IsNumbered cycle.now number ring_at.old ring_at.new }
 {
     for place in cycle {
-        ring_at[*place] = number;
+        ring_at[*place as usize] = number;
     }
 }
 
@@ -43,14 +44,15 @@ pub fn ring_numbers<A: Allocator + Copy>(
     alloc: A,
     edges: usize,
     cycles: &[Cycle<A>],
-) -> Result<Vec<usize, A>, NoMemory>
+) -> Result<Vec<u32, A>, NoMemory>
     requires inside { All (λ c. All (λ k. k < edges) c) cycles.now }
     requires apart { AreApart cycles.now }
     ensures { IfOk result (λ ring_at. AreRingNumbers edges cycles.now ring_at.items) }
 {
-    let mut ring_at = vec![in alloc; cycles.len(); edges]?;
+    let mut ring_at = vec![in alloc; counted(cycles.len())?; edges]?;
     for number in 0..cycles.len() {
-        number_ring(&mut ring_at, cycles[number].numbers(), number);
+        let short = counted(number)?;
+        number_ring(&mut ring_at, cycles[number].numbers(), short);
     }
     Ok(ring_at)
 }

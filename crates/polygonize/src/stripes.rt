@@ -12,6 +12,7 @@ ghost use Rattle.polygonize.specs.Leaving.{IsFirstAt, IsNoneAfter, IsNoneBefore}
 
 use crate::angle::is_less;
 use crate::closing_edges::ClosingEdges;
+use crate::counting::counted;
 use geom::{DirectedEdge, NoMemory, Pt};
 use std::alloc::Allocator;
 
@@ -20,7 +21,7 @@ use std::alloc::Allocator;
 pub struct Stripes<A: Allocator> {
     least: i32,
     bits: u32,
-    begins: Vec<usize, A>,
+    begins: Vec<u32, A>,
 }
 
 /// How many bits of a span aren't told by its stripes, of which there are at most as many as items.
@@ -75,7 +76,7 @@ impl<A: Allocator + Copy> Stripes<A> {
     fn note(&mut self, v: Pt, place: usize) -> Result<(), NoMemory> {
         let stripe = self.stripe_of(v.x);
         if self.begins.len() <= stripe {
-            self.begins.resize(stripe + 1, place)?;
+            self.begins.resize(stripe + 1, counted(place)?)?;
         }
         Ok(())
     }
@@ -83,7 +84,7 @@ impl<A: Allocator + Copy> Stripes<A> {
     /// Where the items of a stripe begin; behind all others where none does.
     fn begin_of(&self, stripe: usize, items: usize) -> usize {
         if stripe < self.begins.len() {
-            self.begins[stripe]
+            self.begins[stripe] as usize
         } else {
             items
         }

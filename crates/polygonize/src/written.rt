@@ -30,12 +30,12 @@ use std::thread::Threads;
 /// The first two vertices of a ring, which tell it from all others: they are an edge's.
 #[derive(Clone, Copy, Debug, PartialEq, Eq, PartialOrd, Ord)]
 pub struct Opening {
-    first: usize,
-    second: usize,
+    first: u32,
+    second: u32,
 }
 
 impl Opening {
-    fn of(ring: &[usize]) -> Opening
+    fn of(ring: &[u32]) -> Opening
         requires { 2 ≤ length ring.now }
         ensures { result ≡ opening_of ring.now }
     {
@@ -85,7 +85,7 @@ impl<A: Allocator> WrittenRing<A> {
 }
 
 /// The shell that is given, or else the first piece.
-fn shell_of_pieces(owner: Option<Opening>, first: &[usize]) -> Opening
+fn shell_of_pieces(owner: Option<Opening>, first: &[u32]) -> Opening
     requires { 2 ≤ length first.now }
     ensures { result ≡ unwrap_or owner (opening_of first.now) }
 {
@@ -147,7 +147,7 @@ fn write_pieces<A: Allocator>(
 fn owner_of(
     is_hole: bool,
     below: Option<Gap>,
-    ring_at: &[usize],
+    ring_at: &[u32],
     shells: &[Option<Opening>],
 ) -> Option<Opening>
     requires { is_hole ≡ true → IfSome below (λ g. g.number < length ring_at.now) }
@@ -157,17 +157,17 @@ fn owner_of(
     if !is_hole {
         return None;
     }
-    *shells.get(ring_at[below?.number])?
+    *shells.get(ring_at[below?.number] as usize)?
 }
 
 /// Writes the pieces of the ring of these edges, and keeps the shell of its polygon.
 fn write_ring<A: Allocator>(
     edges: &[DirectedEdge],
-    cycle: &[usize],
+    cycle: &[u32],
     number: usize,
     ring: CutRing<A>,
     below: Option<Gap>,
-    ring_at: &[usize],
+    ring_at: &[u32],
     shells: &mut [Option<Opening>],
     written: &mut Vec<WrittenRing<A>, A>,
 ) -> Result<(), NoMemory>
@@ -192,7 +192,7 @@ fn write_cycles<A: Allocator + Copy>(
     alloc: A,
     edges: ClosingEdges<'_>,
     cycles: &[Cycle<A>],
-    ring_at: &[usize],
+    ring_at: &[u32],
     rings: Vec<CutRing<A>, A>,
     below: &[Option<Gap>],
 ) -> Result<Vec<WrittenRing<A>, A>, NoMemory>
@@ -286,7 +286,7 @@ fn edges_below_in_parts<R: Threads + Sync, A: Allocator + Copy + Send + Sync>(
 pub fn written_rings<A: Allocator + Copy>(
     alloc: A,
     edges: ClosingEdges<'_>,
-    next: &[usize],
+    next: &[u32],
 ) -> Result<Vec<WrittenRing<A>, A>, NoMemory>
     requires next { AreNext edges.list.now next.now }
     requires one_to_one { IsOneToOne next.now }
@@ -310,8 +310,8 @@ pub fn written_rings_in_parts<R: Threads + Sync, A: Allocator + Copy + Send + Sy
     alloc: A,
     parts: usize,
     edges: ClosingEdges<'_>,
-    next: &[usize],
-    numbers: Vec<usize, A>,
+    next: &[u32],
+    numbers: Vec<u32, A>,
 ) -> Result<Vec<WrittenRing<A>, A>, NoMemory>
     requires next { AreNext edges.list.now next.now }
     requires one_to_one { IsOneToOne next.now }

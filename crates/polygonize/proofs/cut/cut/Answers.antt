@@ -20,7 +20,7 @@ loop-v-preserved g c =
     ] in
     let inside = c.requires c.loop-v.v-index 0 c.loop-v-test.true in
     let len = c.len.ensures ∙ c.match-place_on.stack.ok.0 in
-    rw (c.in_ok-push-2.ensures.items, len) (cutting_push c.args.ring.now c.loop-v.v-index c.match-place_on.stack.items c.loop-v.place c.match-place_on.pieces.items v c.loop-v-test.true is (rw c.loop-v.auto.place inside) ready.free ready.cutting)
+    rw (c.in_ok-push-2.ensures.items, c.in_ok-place.ensures, len) (cutting_push c.args.ring.now c.loop-v.v-index c.match-place_on.stack.items c.loop-v.place c.match-place_on.pieces.items v c.loop-v-test.true is (rw c.loop-v.auto.place inside) ready.free ready.cutting)
 
 pub returns : goal.returns
 returns g c = rw (c.in_ok-push-3.ensures.items, c.new-2.ensures) (cutting_all c.args.ring.now c.loop-v.v-index c.loop-v.stack.items c.loop-v.place c.loop-v.pieces.items c.loop-v-test.false c.loop-v.invariant)

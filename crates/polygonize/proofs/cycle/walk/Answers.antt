@@ -3,7 +3,7 @@ use Rattle.polygonize.proofs.Walking.{begun, onward, ended, fewer}
 use Rattle.polygonize.proofs.cycle.walk.Goals as goal
 
 pub loop-at-init : goal.loop-at-init
-loop-at-init g c = rw c.in_ok-push.ensures.items (rw c.clear.ensures.items
+loop-at-init g c = rw (c.in_ok-push.ensures.items, c.in_ok-counted.ensures) (rw c.clear.ensures.items
     (begun c.args.next.now c.args.seen.now c.args.start c.requires.same_length c.requires.in_range c.requires.one_to_one c.requires.closed c.requires.inside c.requires.unseen))
 
 pub loop-at-smaller : goal.loop-at-smaller
