@@ -15,6 +15,7 @@ Rings and polygons stand in the order of the program's results.
 
 from __future__ import annotations
 
+from bisect import bisect_left
 from dataclasses import dataclass
 from itertools import chain
 from typing import Iterable, Iterator, Sequence
@@ -29,7 +30,8 @@ from .program import DOUBT, PROGRAM
 # added.
 LEAST, BITS = 1 << 28, 30
 
-Way = tuple[int, int]
+# Whether a way goes to the left or straight down, whether it is upright, and its slope.
+Way = tuple[bool, bool, int]
 
 
 @dataclass(frozen=True)
@@ -135,33 +137,24 @@ def followers(edges: Edges, x: Numbers, y: Numbers) -> Numbers:
     found, ends = np.searchsorted(keys, wanted), np.searchsorted(keys, wanted, "right")
     if (found == ends).any():
         raise Fault(PROGRAM, f"its rows have a border that ends nowhere: {DOUBT}")
-
-    def way(at: int, to: int) -> Way:
-        return int(x[to] - x[at]), int(y[to] - y[at])
-
+    # for the first edge of several that leave a vertex, all of them, by their ways
+    turning: dict[int, list[tuple[Way, int]]] = {}
     for k in np.flatnonzero(ends - found > 1).tolist():
-        at = edges.second[k]
-        choices = range(int(found[k]), int(ends[k]))
-        ways = [way(at, edges.second[choice]) for choice in choices]
-        found[k] = choices[first_clockwise(way(at, edges.first[k]), ways)]
+        at, first = int(edges.second[k]), int(found[k])
+        if first not in turning:
+            choices = range(first, int(ends[k]))
+            turning[first] = sorted((way(x, y, at, int(edges.second[choice])), choice) for choice in choices)
+        ways = turning[first]
+        found[k] = ways[bisect_left(ways, (way(x, y, at, int(edges.first[k])), -1)) - 1][1]
     return found
 
 
-def turn(one: Way, other: Way) -> int:
-    """Above 0 where the second way lies counter-clockwise of the first one, by less than a half
-    turn."""
-    return one[0] * other[1] - one[1] * other[0]
-
-
-def first_clockwise(back: Way, ways: Sequence[Way]) -> int:
-    """The place of the way that is met first when turning clockwise from another one, which is none
-    of them."""
-    best = 0
-    for k, way in enumerate(ways):
-        sides = [(side > 0) - (side < 0) for side in (turn(back, way), turn(back, ways[best]))]
-        if sides[0] < sides[1] or (sides[0] == sides[1] and turn(way, ways[best]) < 0):
-            best = k
-    return best
+def way(x: Numbers, y: Numbers, at: int, to: int) -> Way:
+    """The way from a point to another one; ways ascend as they turn counter-clockwise from straight
+    down, which comes last."""
+    across, up = int(x[to] - x[at]), int(y[to] - y[at])
+    # slopes of two ways differ by more than 1 of these parts
+    return (across, up) < (0, 0), across == 0, (up << 2 * BITS) // across if across else 0
 
 
 def cycles(following: Sequence[int]) -> Iterator[list[int]]:

@@ -2,6 +2,7 @@
 is the same to the byte."""
 
 import random
+import time
 
 import pytest
 from osgeo import gdal, ogr
@@ -166,6 +167,22 @@ def test_cells_of_groups_are_united_as_shapely_does(seed):
         wanted = unary_union([box(i, j, i + 1, j + 1) for (i, j), group in zip(cells, chosen) if group == number])
         assert found.is_valid and found.symmetric_difference(wanted).area == 0
         assert len(polygons) == (len(getattr(wanted, "geoms", [wanted])) if wanted.area else 0)
+
+
+def test_many_petals_at_one_vertex():
+    """Petals, and holes of their shapes, are united in seconds, and both together have no border
+    between them."""
+    count = 10_000
+    petals = [[[(0, 0), (1, 2 * k), (1, 2 * k + 1), (0, 0)]] for k in range(count)]
+    holes = [petal[::-1] for (petal,) in petals]
+    shell = [(-1, -1), (2, -1), (2, 2 * count), (-1, 2 * count), (-1, -1)]
+    rows = columns.np.arange(count + 1)
+    groups = columns.np.append(columns.np.zeros(count, int), 1)
+    both = merging.Groups(columns.np.append(rows, rows), columns.np.append(groups, rows * 0 + 2), 3)
+    began = time.process_time()
+    found = merging.merged(columns.of_polygons([*petals, [shell, *holes]]), both)
+    assert time.process_time() - began < 10
+    assert found.lists() == [petals, [[shell, *holes]], [[shell]]]
 
 
 def test_layers_without_features(gis, tmp_path):
