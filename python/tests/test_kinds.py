@@ -5,6 +5,7 @@ import re
 import struct
 import subprocess
 import sys
+import time
 import tracemalloc
 import warnings
 from decimal import Decimal
@@ -391,6 +392,25 @@ def test_united_rows(seed):
     assert united(row for row in rows if len(row.ids[0]) % 2 or len(row.ids[1]) % 2) == overlay_grid.union(a, b)
     assert united(row for row in rows if len(row.ids[0]) % 2 and len(row.ids[1]) % 2) == overlay_grid.intersection(a, b)
     assert united(row for row in rows if len(row.ids[0]) % 2 > len(row.ids[1]) % 2) == overlay_grid.difference(a, b)
+
+
+def test_rows_with_many_petals_at_one_vertex():
+    """Petals, and holes of their shapes, are united in seconds, and both together have no border between them."""
+    count = 10_000
+    petals = [f"(0 0, 1 {2 * k}, 1 {2 * k + 1}, 0 0)" for k in range(count)]
+    holes = [f"(0 0, 1 {2 * k + 1}, 1 {2 * k}, 0 0)" for k in range(count)]
+    shell = f"(-1 -1, 2 -1, 2 {2 * count}, -1 {2 * count}, -1 -1)"
+    flower = f"MULTIPOLYGON ({', '.join(f'({petal})' for petal in petals)})\n"
+    rest = f"MULTIPOLYGON (({', '.join([shell, *holes])}))\n"
+    began = time.process_time()
+    assert _shapes.text_of(_uniting.united(f"MULTIPOLYGON (({petal}))\n" for petal in petals)) == flower
+    assert _shapes.text_of(_uniting.united([rest])) == rest
+    assert _shapes.text_of(_uniting.united([flower, rest])) == f"MULTIPOLYGON (({shell}))\n"
+    assert time.process_time() - began < 10
+
+
+def test_no_rows_unite_to_nothing():
+    assert _shapes.text_of(_uniting.united([])) == _shapes.text_of(_uniting.united(["MULTIPOLYGON EMPTY\n"])) == "MULTIPOLYGON EMPTY\n"
 
 
 def test_nothing_else_is_imported():
