@@ -106,67 +106,61 @@ class Columns(ctypes.Structure):
     ]
 
 
+_number, _size, _place = ctypes.c_uint32, ctypes.c_size_t, ctypes.c_void_p
+_text, _list = (ctypes.c_char_p, _size), (_place, _size)
+_layers, _columns = (ctypes.POINTER(Layer), _size), ctypes.POINTER(Columns)
+_limits = (_number, _number, ctypes.c_uint64)
+_texts_filled = (*[_number] * 3, *_text * 2, *_list, _place)
+_columns_filled = (*[_number] * 3, _columns, _columns, *_list * 3, _place)
+
+# What each call takes, and what those return that return something.
+_TAKEN = {
+    "overlay_fill_within": _texts_filled,
+    "overlay_covered_fill": _texts_filled,
+    "overlay_measured_fill": (*_texts_filled, _place),
+    "overlay_words": (ctypes.POINTER(Answer), *_text),
+    "overlay_side": _text * 2,
+    "overlay_faces_fill": (*_limits, *_layers, *_list, _place),
+    "overlay_faces_side": _layers,
+    "overlay_columns_fill": _columns_filled,
+    "overlay_measured_columns_fill": (*_columns_filled, _place),
+    "overlay_pairs_fill": (_number, _number, _columns, _columns, *_list * 4, _place),
+    "overlay_columns_side": (_columns, _columns),
+    "overlay_faces_columns_fill": (*_limits, _columns, _size, _place, _place),
+    "overlay_faces_columns_side": (_columns, _size),
+    "overlay_strip_scatter": (*_list, _number, _number, _columns, *_list * 2, _place),
+    "overlay_strip_round": (*_list, _size, *_list * 4, _place),
+    "overlay_strip_bridge": (*_list * 5, _place),
+    "overlay_strip_edges": (*_list * 3, _place),
+    "overlay_strip_labels": (_number, *_list * 3, _place),
+    "overlay_strip_going_on": (*_list, _size, *_list * 3, _place),
+    "overlay_strip_closed": (*_list, _size, _size, *_list * 3, _place),
+    "overlay_polygons": (*_list * 4, _place),
+    "overlay_strip_write": (*_list * 6, _place),
+}
+_RETURNED = {
+    "overlay_words": _size,
+    "overlay_side": _number,
+    "overlay_faces_side": _number,
+    "overlay_columns_side": _number,
+    "overlay_faces_columns_side": _number,
+}
+
+
 def _opened() -> ctypes.CDLL:
     path = os.path.join(os.path.dirname(os.path.abspath(__file__)), "liboverlay.so")
     try:
         opened = ctypes.CDLL(path)
         opened.overlay_version.argtypes = []
-        opened.overlay_version.restype = ctypes.c_uint32
+        opened.overlay_version.restype = _number
         version = opened.overlay_version()
     except (OSError, AttributeError) as error:
         raise ImportError(f"{error} (a wheel is for x86-64 Linux; from the sources python/build makes the library)", path=path) from error
     if version != CALLS:
         raise ImportError(f"{path} has version {version} of the calls, and {CALLS} is wanted", path=path)
-    text = [ctypes.c_char_p, ctypes.c_size_t]
-    room = [ctypes.c_void_p, ctypes.c_size_t, ctypes.c_void_p]
-    opened.overlay_fill_within.argtypes = [*[ctypes.c_uint32] * 3, *text, *text, *room]
-    opened.overlay_fill_within.restype = None
-    opened.overlay_covered_fill.argtypes = opened.overlay_fill_within.argtypes
-    opened.overlay_covered_fill.restype = None
-    opened.overlay_measured_fill.argtypes = [*opened.overlay_fill_within.argtypes, ctypes.c_void_p]
-    opened.overlay_measured_fill.restype = None
-    opened.overlay_words.argtypes = [ctypes.POINTER(Answer), *text]
-    opened.overlay_words.restype = ctypes.c_size_t
-    opened.overlay_side.argtypes = [*text, *text]
-    opened.overlay_side.restype = ctypes.c_uint32
-    layers = (ctypes.POINTER(Layer), ctypes.c_size_t)
-    limits = (ctypes.c_uint32, ctypes.c_uint32, ctypes.c_uint64)
-    opened.overlay_faces_fill.argtypes = [*limits, *layers, *room]
-    opened.overlay_faces_fill.restype = None
-    opened.overlay_faces_side.argtypes = [*layers]
-    opened.overlay_faces_side.restype = ctypes.c_uint32
-    columns = ctypes.POINTER(Columns)
-    opened.overlay_columns_fill.argtypes = [*[ctypes.c_uint32] * 3, columns, columns, *room[:2], *room[:2], *room]
-    opened.overlay_columns_fill.restype = None
-    opened.overlay_measured_columns_fill.argtypes = [*opened.overlay_columns_fill.argtypes, ctypes.c_void_p]
-    opened.overlay_measured_columns_fill.restype = None
-    opened.overlay_pairs_fill.argtypes = [*[ctypes.c_uint32] * 2, columns, columns, *room[:2] * 3, *room]
-    opened.overlay_pairs_fill.restype = None
-    opened.overlay_columns_side.argtypes = [columns, columns]
-    opened.overlay_columns_side.restype = ctypes.c_uint32
-    opened.overlay_faces_columns_fill.argtypes = [*limits, columns, ctypes.c_size_t, ctypes.c_void_p, ctypes.c_void_p]
-    opened.overlay_faces_columns_fill.restype = None
-    opened.overlay_faces_columns_side.argtypes = [columns, ctypes.c_size_t]
-    opened.overlay_faces_columns_side.restype = ctypes.c_uint32
-    strip, cuts = ctypes.c_void_p, room[:2]
-    opened.overlay_strip_scatter.argtypes = [*cuts, *[ctypes.c_uint32] * 2, columns, *room[:2] * 2, strip]
-    opened.overlay_strip_scatter.restype = None
-    opened.overlay_strip_round.argtypes = [*cuts, ctypes.c_size_t, *room[:2] * 4, strip]
-    opened.overlay_strip_round.restype = None
-    opened.overlay_strip_bridge.argtypes = [*room[:2] * 5, strip]
-    opened.overlay_strip_bridge.restype = None
-    opened.overlay_strip_edges.argtypes = [*room[:2] * 3, strip]
-    opened.overlay_strip_edges.restype = None
-    opened.overlay_strip_labels.argtypes = [ctypes.c_uint32, *room[:2] * 3, strip]
-    opened.overlay_strip_labels.restype = None
-    opened.overlay_strip_going_on.argtypes = [*cuts, ctypes.c_size_t, *room[:2] * 3, strip]
-    opened.overlay_strip_going_on.restype = None
-    opened.overlay_strip_closed.argtypes = [*cuts, *[ctypes.c_size_t] * 2, *room[:2] * 3, strip]
-    opened.overlay_strip_closed.restype = None
-    opened.overlay_polygons.argtypes = [*room[:2] * 4, ctypes.c_void_p]
-    opened.overlay_polygons.restype = None
-    opened.overlay_strip_write.argtypes = [*room[:2] * 6, ctypes.c_void_p]
-    opened.overlay_strip_write.restype = None
+    for name, taken in _TAKEN.items():
+        call = getattr(opened, name)
+        call.argtypes, call.restype = taken, _RETURNED.get(name)
     return opened
 
 
