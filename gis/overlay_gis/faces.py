@@ -53,6 +53,13 @@ def add_arguments(parser: ArgumentParser) -> None:
         default=[],
         help="fields of any layer, as c:owner,share; may be given several times",
     )
+    add_by(parser)
+    add_pairs(parser)
+    options.add_grid(parser)
+    options.add_segments(parser)
+
+
+def add_by(parser: ArgumentParser) -> None:
     parser.add_argument(
         "--by",
         metavar="[NAME:]FIELD,..",
@@ -64,6 +71,9 @@ def add_arguments(parser: ArgumentParser) -> None:
             f" layer or of that one, as b:rule; may be given several times; {options.IN_QUOTES}"
         ),
     )
+
+
+def add_pairs(parser: ArgumentParser) -> None:
     parser.add_argument(
         "--pairs",
         metavar="TABLE",
@@ -75,8 +85,6 @@ def add_arguments(parser: ArgumentParser) -> None:
             " beside --layer NAME"
         ),
     )
-    options.add_grid(parser)
-    options.add_segments(parser)
 
 
 def named(arguments: Namespace, option: str, given: Sequence[OfLayer]) -> list[list[str]]:

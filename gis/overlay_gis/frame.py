@@ -256,20 +256,26 @@ def chosen(
     asked = unit or max(default, finest)
     at = origin or origin_for(box, asked)
     if not fits(box, asked, at):
-        if origin and fits(box, asked, origin_for(box, asked)):
-            raise Refusal(
-                name,
-                (
-                    "points lie off the limits of the grid, 2^28 units from the origin: without"
-                    " --origin, one that fits is chosen"
-                ),
-            )
-        raise Refusal(
-            name,
-            f"the grid {plain(asked)} has no room for all layers, which is 2^29 units each way: "
-            f"the finest that fits is --grid {plain(finest)}",
-        )
+        raise no_room(name, box, asked, origin is not None, finest)
     return Frame(asked, at, held)
+
+
+def no_room(name: str, box: Box, asked: Decimal, has_origin: bool, finest: Decimal) -> Refusal:
+    """The refusal of a unit, or of an origin that was asked for, where the grid has no room for a
+    box."""
+    if has_origin and fits(box, asked, origin_for(box, asked)):
+        return Refusal(
+            name,
+            (
+                "points lie off the limits of the grid, 2^28 units from the origin: without"
+                " --origin, one that fits is chosen"
+            ),
+        )
+    return Refusal(
+        name,
+        f"the grid {plain(asked)} has no room for all layers, which is 2^29 units each way: "
+        f"the finest that fits is --grid {plain(finest)}",
+    )
 
 
 def code_of(system: osr.SpatialReference | None) -> str | None:
