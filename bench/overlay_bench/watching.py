@@ -13,6 +13,9 @@ from .programs import waited
 # So many looks a second.
 LOOKS = 100
 
+# Bytes: what Linux counts memory in, and what it is told in.
+KIB, MB = 1024, 1_000_000
+
 
 def tree(process: int) -> list[int]:
     """A process and all below it that are there."""
@@ -84,4 +87,4 @@ def watched(words: list[str], output: str, seconds: float, env: Mapping[str, str
         clock = time.monotonic() - start
         count = threads.stop()
     with open(output + ".said", encoding="utf-8", errors="replace") as told:
-        return Watched(None if is_over else process.returncode, clock, used.ru_utime + used.ru_stime, count, used.ru_maxrss / 1000, told.read())
+        return Watched(None if is_over else process.returncode, clock, used.ru_utime + used.ru_stime, count, used.ru_maxrss * KIB / MB, told.read())
