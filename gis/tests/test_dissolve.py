@@ -2,16 +2,22 @@
 is the same to the byte."""
 
 import random
+import sys
 import time
+from pathlib import Path
 
+import numpy as np
 import pytest
 from osgeo import gdal, ogr
 from shapely.geometry import MultiPolygon, Polygon, box
 from shapely.ops import unary_union
 
-from conftest import EAST, NORTH, parcels, read, write
+from conftest import COMMAND, EAST, NORTH, parcels, read, write
 from overlay_gis import columns, merging
+from overlay_gis.strip_polygons import Polygons
 from test_faces import heap
+
+sys.path.append(str(Path(COMMAND).parents[1] / "python"))
 
 
 def squares(*corners):
@@ -152,21 +158,45 @@ def test_rows_by_values_of_features_that_overlap(gis, tmp_path):
         assert answer.status == 3 and told in answer.err
 
 
+def cells_in_groups(seed, count=4):
+    """Cells of a square, and for each the number of a group, of which the last one has holes."""
+    rng = random.Random(seed)
+    side = rng.randint(2, 9)
+    cells = [(i, j) for i in range(side) for j in range(side)]
+    return cells, [min(rng.randrange(3 * count), count - 1) for _ in cells]
+
+
+def united_cells(cells, chosen, count=4):
+    shapes = columns.of_polygons([[[(i, j), (i + 1, j), (i + 1, j + 1), (i, j + 1), (i, j)]] for i, j in cells])
+    return merging.merged(shapes, merging.Groups(np.arange(len(cells)), np.array(chosen), count)).lists()
+
+
 @pytest.mark.parametrize("seed", range(60))
 def test_cells_of_groups_are_united_as_shapely_does(seed):
     """Cells that meet in points, holes in holes, and holes that touch one another or their
     shell."""
-    rng = random.Random(seed)
-    side = rng.randint(2, 9)
-    cells = [(i, j) for i in range(side) for j in range(side)]
-    chosen = [rng.randrange(4) for _ in cells]
-    shapes = columns.of_polygons([[[(i, j), (i + 1, j), (i + 1, j + 1), (i, j + 1), (i, j)]] for i, j in cells])
-    groups = merging.Groups(columns.np.arange(len(cells)), columns.np.array(chosen), 4)
-    for number, polygons in enumerate(merging.merged(shapes, groups).lists()):
+    cells, chosen = cells_in_groups(seed)
+    for number, polygons in enumerate(united_cells(cells, chosen)):
         found = MultiPolygon([Polygon(shell, holes) for shell, *holes in polygons])
         wanted = unary_union([box(i, j, i + 1, j + 1) for (i, j), group in zip(cells, chosen) if group == number])
         assert found.is_valid and found.symmetric_difference(wanted).area == 0
         assert len(polygons) == (len(getattr(wanted, "geoms", [wanted])) if wanted.area else 0)
+
+
+@pytest.mark.parametrize("seed", range(60))
+def test_cells_of_groups_are_united_as_the_proved_call_does(seed):
+    """Rings and polygons are the same, in the same order."""
+    strips = pytest.importorskip("overlay_grid.strips", reason="no library: python/build")
+    cells, chosen = cells_in_groups(seed)
+    for number, polygons in enumerate(united_cells(cells, chosen)):
+        edges = {
+            side
+            for (i, j), group in zip(cells, chosen)
+            for side in ((i, j, i + 1, j), (i + 1, j, i + 1, j + 1), (i + 1, j + 1, i, j + 1), (i, j + 1, i, j))
+            if group == number
+        }
+        made = strips.polygons(sorted(side for side in edges if (*side[2:], *side[:2]) not in edges))
+        assert Polygons(*made).features(0).lists() == [[polygon] for polygon in polygons]
 
 
 def test_many_petals_at_one_vertex():
@@ -176,9 +206,9 @@ def test_many_petals_at_one_vertex():
     petals = [[[(0, 0), (1, 2 * k), (1, 2 * k + 1), (0, 0)]] for k in range(count)]
     holes = [petal[::-1] for (petal,) in petals]
     shell = [(-1, -1), (2, -1), (2, 2 * count), (-1, 2 * count), (-1, -1)]
-    rows = columns.np.arange(count + 1)
-    groups = columns.np.append(columns.np.zeros(count, int), 1)
-    both = merging.Groups(columns.np.append(rows, rows), columns.np.append(groups, rows * 0 + 2), 3)
+    rows = np.arange(count + 1)
+    groups = np.append(np.zeros(count, int), 1)
+    both = merging.Groups(np.append(rows, rows), np.append(groups, rows * 0 + 2), 3)
     began = time.process_time()
     found = merging.merged(columns.of_polygons([*petals, [shell, *holes]]), both)
     assert time.process_time() - began < 10
