@@ -18,8 +18,8 @@ from contextlib import suppress
 from dataclasses import dataclass
 from hashlib import blake2b
 from io import BufferedReader
+from secrets import token_hex
 from struct import Struct
-from tempfile import NamedTemporaryFile
 from typing import Any, Iterator, Mapping
 
 import numpy as np
@@ -115,19 +115,19 @@ class Folder:
             at += values.nbytes
         text = json.dumps({"name": name, "note": note, "sections": table}).encode()
         text += b" " * (-(HEAD.size + len(text)) % ALIGNED)
-        file = NamedTemporaryFile(dir=self.path, prefix=f".{name}.", suffix=".partial", delete=False)
+        beside = self.place(f".{name}.{token_hex(8)}.partial")  # processes of two machines may have one number
         try:
-            with file:
+            with open(beside, "xb") as file:
                 file.write(HEAD.pack(MAGIC, len(text), digest_of(self.plan.encode(), text)))
                 file.write(text)
                 base = file.tell()
                 for key, values in held.items():
                     file.write(bytes(base + table[key][2] - file.tell()))
                     file.write(bytes_of(values))
-            os.replace(file.name, self.place(name))
+            os.replace(beside, self.place(name))
         except BaseException:
             with suppress(OSError):
-                os.unlink(file.name)
+                os.unlink(beside)
             raise
 
     def table(self, file: BufferedReader, name: str) -> Table:

@@ -464,6 +464,18 @@ def test_a_write_that_fails_leaves_nothing(tmp_path, monkeypatch):
     assert not list(tmp_path.iterdir())
 
 
+def test_a_file_has_the_mode_of_others(tmp_path):
+    """The mask of whoever runs a task tells who may read it: other workers may be other users."""
+    folder = Folder(str(tmp_path), "plan")
+    for mask in (0o022, 0o077, 0o002):
+        before = os.umask(mask)
+        try:
+            folder.put("edges.3", {}, **ARRAYS)
+        finally:
+            os.umask(before)
+        assert (tmp_path / "edges.3").stat().st_mode & 0o777 == 0o666 & ~mask
+
+
 @pytest.fixture
 def town(tmp_path):
     return write(tmp_path / "a.gpkg", parcels(1, 3)), write(tmp_path / "b.gpkg", blobs(2, 3))
