@@ -18,7 +18,7 @@ from .ranges import Input
 from .sections import Folder, digest_of
 
 # A form of the files of tasks; those of another one are refused.
-FORM = 2
+FORM = 3
 
 # How many bytes of features a part has.
 PART = 8 << 20

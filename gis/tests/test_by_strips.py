@@ -7,6 +7,7 @@ import random
 import re
 import sqlite3
 import sys
+import time
 import tracemalloc
 from contextlib import closing, nullcontext
 from pathlib import Path
@@ -474,6 +475,45 @@ def test_a_file_has_the_mode_of_others(tmp_path):
         finally:
             os.umask(before)
         assert (tmp_path / "edges.3").stat().st_mode & 0o777 == 0o666 & ~mask
+
+
+def test_one_array_of_many_is_found_in_no_time(tmp_path):
+    """A task of a strip reads the files of all parts, which have an array for each strip."""
+    folder, count = Folder(str(tmp_path), "plan"), 20_000
+    folder.put("scatter.0", {}, **{str(strip): np.arange(strip % 5) for strip in range(count)})
+    began = time.process_time()
+    for strip in range(0, count, 20):
+        assert folder.got("scatter.0", str(strip))[0].tolist() == list(range(strip % 5))
+    assert time.process_time() - began < 5
+
+
+def test_an_array_that_is_read_where_it_lies_takes_no_memory(tmp_path):
+    folder = Folder(str(tmp_path), "plan")
+    folder.put("write.0", {}, coordinates=np.arange(4 << 20))
+    tracemalloc.start()
+    (found,) = folder.lying("write.0", "coordinates")
+    _, most = tracemalloc.get_traced_memory()
+    tracemalloc.stop()
+    assert most < found.nbytes / 4 and found[-1] == (4 << 20) - 1
+
+
+def test_no_changed_bit_is_believed(tmp_path):
+    """What is read is as it was written, or it is refused, wherever a bit of the file has changed."""
+    folder, path = Folder(str(tmp_path), "plan"), tmp_path / "edges.3"
+    arrays = {"lines": np.arange(5), "none": np.zeros(0, "<i4"), "more": np.arange(7.0)}
+    folder.put("edges.3", {}, **arrays)
+    refused = 0
+    for place in range(path.stat().st_size):
+        flipped(path, place)
+        for key, wanted in arrays.items():
+            for read in (folder.got, folder.lying):
+                try:
+                    (found,) = read("edges.3", key)
+                    assert found.dtype == wanted.dtype and found.tolist() == wanted.tolist()
+                except Spoiled:
+                    refused += 1
+        flipped(path, place)
+    assert refused > 1000
 
 
 @pytest.fixture
