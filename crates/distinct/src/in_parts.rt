@@ -1,15 +1,65 @@
 //! The same by several hands.
+//!
+//! 1. Each hand looks whether a part of the segments has two with the same ends (`are_apart`). Where none has, they are kept as they stand
+//!    (`each_alone`), and no list is copied.
+//! 2. Else each hand keeps those of a part, and the parts are put behind one another.
 
-ghost use Rattle.std.specs.Prelude.{◌≡◌, ◌≤◌, IfOk, flat_map, length, map, slice_range};
+ghost use Rattle.std.specs.Prelude.{◌≡◌, ◌≤◌, All, IfOk, flat_map, length, map, slice_range};
 ghost use Rattle.distinct.specs.Copies.{AreCopies};
 
 use crate::copies::Copies;
-use crate::keeping::distinct;
+use crate::keeping::{distinct, have_same_ends};
 use crate::kept::Distinct;
+use crate::table::{Table, ends_of};
 use geom::{NoMemory, Seg};
 use hands::{Part, even_parts, joined, map_parts};
 use std::alloc::Allocator;
 use std::thread::Threads;
+
+/// Whether no segment has the same ends as one before it, as far as a table of so many tells. It is cost alone.
+fn are_apart<A: Allocator>(alloc: A, segments: &[Seg]) -> Result<bool, NoMemory> {
+    let mut table = Table::for_segments(alloc, segments.len())?;
+    for place in 0..segments.len() {
+        let ends = ends_of(&segments[place]);
+        let told = table.told(ends);
+        if told < place && have_same_ends(&segments[told], &segments[place]) {
+            return Ok(false);
+        }
+        table.tell(ends, place);
+    }
+    Ok(true)
+}
+
+/// The same of each part by a hand of its own.
+fn are_parts_apart<A: Allocator + Copy + Send + Sync, R: Threads + Sync>(
+    rt: &R,
+    alloc: A,
+    cuts: &[Part],
+    segments: &[Seg],
+) -> Result<bool, NoMemory>
+    requires { All (λ part. (part.from ≤ part.past) × (part.past ≤ length segments.now)) cuts.now }
+{
+    let apart = map_parts(
+        rt,
+        alloc,
+        cuts,
+        |part: Part| -> Result<bool, NoMemory>
+            requires { (part.from ≤ part.past) × (part.past ≤ length segments.now) }
+        { are_apart(alloc, &segments[part.from..part.past]) },
+    )?;
+    Ok(apart.iter().all(|one: &bool| *one))
+}
+
+/// Segments as they stand, each by itself.
+fn each_alone<A: Allocator + Copy>(alloc: A, segments: Vec<Seg, A>) -> Result<Distinct<A>, NoMemory>
+    ensures { IfOk result (λ d. AreCopies segments.items d.segments.items d.copies.items) }
+{
+    let mut copies = Vec::with_capacity(alloc, segments.len())?;
+    for place in 0..segments.len() {
+        copies.push(Copies::one(segments[place].layer))?;
+    }
+    Ok(Distinct { segments, copies })
+}
 
 /// As `distinct`, in at most so many parts, each by a hand of its own: those of the parts stand behind one another.
 pub fn distinct_in_parts<A: Allocator + Copy + Send + Sync, R: Threads + Sync>(
@@ -24,6 +74,9 @@ pub fn distinct_in_parts<A: Allocator + Copy + Send + Sync, R: Threads + Sync>(
         return distinct(alloc, segments);
     }
     let cuts = even_parts(alloc, segments.len(), parts)?;
+    if are_parts_apart(rt, alloc, &cuts, &segments)? {
+        return each_alone(alloc, segments);
+    }
     let found = map_parts(
         rt,
         alloc,

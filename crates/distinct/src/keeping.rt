@@ -80,7 +80,7 @@ fn add_copy(segments: &[Seg], copies: &mut [Copies], place: usize, s: &Seg) -> b
 
 /// Whether two segments have the same ends, one way or the other.
 #[inline(always)]
-fn have_same_ends(s: &Seg, t: &Seg) -> bool
+pub(crate) fn have_same_ends(s: &Seg, t: &Seg) -> bool
     ensures { IsTrue result → HaveSameEnds s.now t.now }
 {
     if s.a == t.a && s.b == t.b {

@@ -45,6 +45,22 @@ const FEW: [(&[(Ends, Source)], &[(Ends, u16, u16)]); 5] = [
     ),
 ];
 
+// Segments of both layers of which no two have the same ends, and what is kept of them.
+const APART: (&[(Ends, Source)], &[(Ends, u16, u16)]) = (
+    &[
+        (((0, 0), (2, 0)), Source::A),
+        (((2, 0), (2, 2)), Source::B),
+        (((2, 2), (0, 0)), Source::A),
+        (((-1, -1), (1, 1)), Source::B),
+    ],
+    &[
+        (((0, 0), (2, 0)), 1, 0),
+        (((2, 0), (2, 2)), 0, 1),
+        (((2, 2), (0, 0)), 1, 0),
+        (((-1, -1), (1, 1)), 0, 1),
+    ],
+);
+
 // A square map of so many rows of so many parcels.
 const ROWS: i32 = 40;
 
@@ -95,6 +111,18 @@ fn keeps_few(alloc: Global) -> Result<bool, NoMemory> {
     Ok(true)
 }
 
+// Whether segments apart are all kept, in so many parts.
+fn keeps_those_apart<R: Threads + Sync>(
+    rt: &R,
+    alloc: Global,
+    parts: usize,
+) -> Result<bool, NoMemory> {
+    let (rows, expected) = APART;
+    let segments = segments_of(alloc, rows)?;
+    let found = distinct_in_parts(rt, alloc, parts, segments)?;
+    Ok(are_kept(&found, expected))
+}
+
 // What is kept of one segment more than a count holds.
 fn keeps_past_a_full_count(alloc: Global) -> Result<bool, NoMemory> {
     let ends = ((0, 0), (3, 1));
@@ -143,6 +171,17 @@ fn kept_of_parcels<R: Threads + Sync>(
 #[test]
 fn few_segments_are_kept_once(rt: HostRuntime) {
     assert_eq!(rt; keeps_few(rt.alloc()), Ok(true));
+}
+
+#[test]
+fn segments_apart_are_all_kept(rt: HostRuntime) {
+    for parts in [1, 2, 3, 4] {
+        assert_eq!(rt;
+            keeps_those_apart(&rt, rt.alloc(), parts),
+            Ok(true),
+            "{parts}"
+        );
+    }
 }
 
 #[test]
