@@ -1,8 +1,9 @@
 -- What the reader passes from byte to byte, and in one go.
-use Rattle.std.proofs.Common.{lit<, [], ◌≡◌, ℕ, suc, ◌+◌, ◌-◌, ◌<◌, ◌≤◌, Bool, true, false, List, ◌∷◌, length, get_or, drop, Option, Some, refl, sym, ap, subst, ◌∙◌, arith, length-drop}
-use Rattle.std.specs.Prelude.{option_and_then, option_map}
+use Rattle.std.proofs.Common.{lit<, [], ◌≡◌, ℕ, suc, ◌+◌, ◌-◌, ◌*◌, ◌^◌, ◌<◌, ◌≤◌, Bool, true, false, List, ◌∷◌, length, get_or, drop, Option, Some, None, refl, sym, ap, subst, ◌∙◌, arith, length-drop}
+use Rattle.std.specs.Prelude.{IfSome, option_and_then, option_map, min}
 use Rattle.std.proofs.Math.Seq.{drop-cons}
 use Rattle.std.proofs.Math.Numerals.{add-one}
+use Rattle.std.proofs.Math.Nat.{pow-suc, pow-le-pow_right}
 use Rattle.wkt.specs.declared.places.Place.{Place}
 use Rattle.wkt.specs.declared.places.Place.TheVariants.{Between, Keyword, KeywordGap, Ended, BeforeRing, BeforePoint, MinusX, DigitsX, BeforeY, MinusY, DigitsY, AfterRing}
 use Rattle.wkt.specs.declared.places.Class.{Class}
@@ -12,8 +13,8 @@ use Rattle.wkt.specs.declared.reader.Reader.{Reader}
 use Rattle.wkt.specs.declared.reader.Event.{Event}
 use Rattle.wkt.specs.declared.reader.Event.TheVariants.{Nothing, Geometry}
 use Rattle.wkt.specs.Machine.{class_of, turn, Notes, started, noted, step, run, start, is_multi_after}
-use Rattle.wkt.specs.Reading.{with_digit, number_next, x_next, event_of, begins_geometry, ReaderIs, Says, Went}
-use Rattle.wkt.specs.Running.{HasRead, HasPassed, Passes, before, behind_minus, behind_digit, reader_at, PassesSpaces, PassesDigits, PassesNumber, Stands}
+use Rattle.wkt.specs.Reading.{u32_max, with_digit, number_next, x_next, event_of, begins_geometry, ReaderIs, Says, Went}
+use Rattle.wkt.specs.Running.{HasRead, HasPassed, Passes, before, behind_minus, behind_digit, reader_at, PassesSpaces, PassesDigits, PassesNumber, PassesSecond, Stands}
 use Rattle.wkt.proofs.Fronts.{goes_on, noted_multi}
 use Rattle.wkt.proofs.Steps.{went}
 
@@ -160,6 +161,36 @@ digits_more text at end d n l p lt is = λ second multi x.
     passes_then text at end (end + 1) (reader_at (behind_digit second) multi x n) (reader_at (behind_digit second) multi x l) (reader_at (behind_digit second) multi x (with_digit l d))
     (p second multi x) (digit text end d lt is second multi x l)
 
+-- ---- few digits
+
+-- a number of one digit more stays below the next power of ten
+pub few_more : (k m d : ℕ) → m < 10 ^ (k + 1) → d < 10 → m * 10 + d < 10 ^ (k + 1 + 1)
+few_more k m d lt small =
+    let e : 10 ^ (k + 1 + 1) ≡ 10 ^ (k + 1) * 10 = ap (λ (n : ℕ). 10 ^ n) (add-one (k + 1)) ∙ pow-suc 10 (k + 1) in
+    omega (arith, e, lt, small)
+
+-- nine digits fit
+pub few_fit : (k m d : ℕ) → k < 8 → m < 10 ^ (k + 1) → d < 10 → m * 10 + d < u32_max
+few_fit k m d few lt small =
+    let le : 10 ^ (k + 1 + 1) ≤ 1000000000 = pow-le-pow_right (lit< tt) {j = 9} (omega (arith, few)) in
+    omega (arith, le, few_more k m d lt small)
+
+few_plain : (m d : ℕ) → m * 10 + d < u32_max → min (min (m * 10) u32_max + d) u32_max ≡ m * 10 + d
+few_plain m d lt = omega (arith, lt)
+
+pub digits_begin : (text : List ℕ) (at : ℕ) (n : Numeral) → at ≤ length text → PassesDigits text at (at + 0) n n
+digits_begin text at n le =
+    let here : at ≡ at + 0 = omega arith in
+    subst (λ (j : ℕ). PassesDigits text at j n n) here (digits_none text at n le)
+
+pub digits_few : (text : List ℕ) (at k d m : ℕ) (n : Numeral) → PassesDigits text at (at + k) n (record n { magnitude = m }) → at + k < length text → class_of (get_or text (at + k) 0) ≡ Digit d → m * 10 + d < u32_max
+    → PassesDigits text at (at + (k + 1)) n (record n { magnitude = m * 10 + d })
+digits_few text at k d m n p lt is fits =
+    let ends : at + k + 1 ≡ at + (k + 1) = omega arith in
+    let more : PassesDigits text at (at + k + 1) n (record n { magnitude = min (min (m * 10) u32_max + d) u32_max }) = digits_more text at (at + k) d n (record n { magnitude = m }) p lt is in
+    subst (λ (j : ℕ). PassesDigits text at j n (record n { magnitude = m * 10 + d })) ends
+    (subst (λ (v : ℕ). PassesDigits text at (at + k + 1) n (record n { magnitude = v })) (few_plain m d fits) more)
+
 pub positive : (text : List ℕ) (at end d : ℕ) (read : Numeral) → at < length text → class_of (get_or text at 0) ≡ Digit d → PassesDigits text (at + 1) end (record { at = at; negative = false; magnitude = d }) read → PassesNumber text at end read
 positive text at end d read lt is p = λ second multi x n.
     passes_then text at (at + 1) end (reader_at (before second) multi x n) (reader_at (behind_digit second) multi x (record { at = at; negative = false; magnitude = d })) (reader_at (behind_digit second) multi x read)
@@ -188,6 +219,11 @@ pub before_first : (text : List ℕ) (at from : ℕ) (r : Reader) → r.place �
 before_first text at from r e f =
     subst (λ (p : Place). Passes text at from false (reader_at p r.multi r.x r.number) (reader_at p r.multi r.x r.number)) (sym e) (f false r.multi r.x r.number)
 
+-- before its second number
+pub second_here : (text : List ℕ) (at end : ℕ) (r : Reader) (read : Numeral) → r.place ≡ BeforeY → PassesNumber text at end read → Passes text at end false r (reader_at DigitsY r.multi r.x read)
+second_here text at end r read e g =
+    subst (λ (p : Place). Passes text at end false (reader_at p r.multi r.x r.number) (reader_at DigitsY r.multi r.x read)) (sym e) (g true r.multi r.x r.number)
+
 -- behind the gap
 pub before_second : (text : List ℕ) (at from : ℕ) (r : Reader) → r.place ≡ DigitsX → at < length text → class_of (get_or text at 0) ≡ Space → PassesSpaces text (at + 1) from → Passes text at from false r (reader_at BeforeY r.multi r.number r.number)
 before_second text at from r e lt is f =
@@ -200,6 +236,11 @@ pub second_number : (text : List ℕ) (at from end : ℕ) (r : Reader) (read : N
     → Passes text at end false r (reader_at DigitsY r.multi r.number read)
 second_number text at from end r read e lt is f g =
     passes_then text at from end r (reader_at BeforeY r.multi r.number r.number) (reader_at DigitsY r.multi r.number read) (before_second text at from r e lt is f) (g true r.multi r.number r.number)
+
+-- the second number behind one byte of white space, if there is one
+pub second_read : (text : List ℕ) (at most : ℕ) (o : Option (Numeral × ℕ)) → at < length text → class_of (get_or text at 0) ≡ Space → IfSome o (λ found. PassesNumber text (at + 1) found.1 found.0 × (found.1 ≤ most)) → IfSome o (λ found. PassesSecond text at found.1 found.0)
+second_read text at most None lt is g = g
+second_read text at most (Some found) lt is g = λ multi x n. second_number text at (at + 1) found.1 (reader_at DigitsX multi x n) found.0 refl lt is (spaces_none text (at + 1) (omega (arith, lt))) g.0
 
 -- ---- from a polygon's last ring to the next polygon's first
 

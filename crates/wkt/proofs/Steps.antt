@@ -13,7 +13,7 @@ use Rattle.wkt.specs.declared.reader.Reader.{Reader}
 use Rattle.wkt.specs.declared.reader.Event.TheVariants.{Point as EventPoint, Last}
 use Rattle.wkt.specs.LayerText.{multipolygon_word, empty_word}
 use Rattle.wkt.specs.Machine.{class_of, turn, opened, closed, Notes, signed, number, started, with_geometry, noted, is_multi_after}
-use Rattle.wkt.specs.Reading.{u32_max, number_next, x_next, event_of, begins_geometry, IsNumeralOf, IsNumeralFor, Idle, ReaderIs, Says, Went}
+use Rattle.wkt.specs.Reading.{u32_max, number_next, x_next, event_of, kind_of, event_as, begins_geometry, IsNumeralOf, IsNumeralFor, Idle, ReaderIs, Says, Went}
 use Rattle.wkt.proofs.Bytes.{IsKind, kinds}
 use Rattle.wkt.proofs.Fronts.{noted_multi}
 
@@ -193,3 +193,22 @@ pub went_close : (at byte : ℕ) (old : Reader) (m : Notes) → old.place ≡ Di
 went_close at byte old m e f r =
     subst (λ (p : Place). Went at byte old m (event_of p Close old.x old.number) (record { place = AfterRing; multi = is_multi_after p Close old.multi; x = x_next p Close old.x old.number; number = number_next p Close at old.number })) e
     (went at byte Close old m AfterRing (sym (ap class_of f)) (sym (ap (λ (p : Place). turn p Close old.multi) e)) r)
+
+-- an event has the numbers that the reader has behind it
+pub event_behind : (at : ℕ) (p : Place) (k : Class) (x n : Numeral) → event_of p k x n ≡ event_as (kind_of p k) (x_next p k x n) (number_next p k at n)
+event_behind at BeforePoint Minus x n = refl
+event_behind at BeforeY Minus x n = refl
+event_behind at BeforePoint (Digit d) x n = refl
+event_behind at BeforeY (Digit d) x n = refl
+event_behind at MinusX (Digit d) x n = refl
+event_behind at MinusY (Digit d) x n = refl
+event_behind at DigitsX (Digit d) x n = refl
+event_behind at DigitsY (Digit d) x n = refl
+event_behind at DigitsX Space x n = refl
+event_behind at Between (Letter l) x n = refl
+event_behind at BeforeRing Open x n = refl
+event_behind at DigitsY Space x n = refl
+event_behind at DigitsY Comma x n = refl
+event_behind at DigitsY Close x n = refl
+event_behind at AfterPoint Close x n = refl
+event_behind at p k x n = refl

@@ -9,6 +9,8 @@ use Rattle.wkt.specs.declared.reader.Number.{Number as Numeral}
 use Rattle.wkt.specs.declared.reader.Reader.{Reader}
 use Rattle.wkt.specs.declared.reader.Event.{Event}
 use Rattle.wkt.specs.declared.reader.Event.TheVariants.{Nothing, Geometry, Open as Opens, Point as EventPoint, Last, Close as Closes}
+use Rattle.wkt.specs.declared.reader.Kind.{Kind}
+use Rattle.wkt.specs.declared.reader.Kind.TheVariants.{Nothing as KindNothing, Geometry as KindGeometry, Open as KindOpen, Point as KindPoint, Last as KindLast, Close as KindClose}
 use Rattle.wkt.specs.LayerText.{Number, Point}
 use Rattle.wkt.specs.Machine.{class_of, turn, Notes, signed, with_ring, started, noted}
 
@@ -45,6 +47,24 @@ event_of DigitsY Comma x y = EventPoint x y
 event_of DigitsY Close x y = Last x y
 event_of AfterPoint Close x y = Closes
 event_of p k x y = Nothing
+
+-- the kind of that event, and the event of a kind with these numbers
+abbrev pub kind_of : Place → Class → Kind
+kind_of Between (Letter c) = KindGeometry
+kind_of BeforeRing Open = KindOpen
+kind_of DigitsY Space = KindPoint
+kind_of DigitsY Comma = KindPoint
+kind_of DigitsY Close = KindLast
+kind_of AfterPoint Close = KindClose
+kind_of p k = KindNothing
+
+abbrev pub event_as : Kind → Numeral → Numeral → Event
+event_as KindNothing x y = Nothing
+event_as KindGeometry x y = Geometry
+event_as KindOpen x y = Opens
+event_as KindPoint x y = EventPoint x y
+event_as KindLast x y = Last x y
+event_as KindClose x y = Closes
 
 -- whether a geometry begins
 abbrev pub begins_geometry : Event → Bool

@@ -61,3 +61,7 @@ PassesDigits text at end number longer = (second multi : Bool) (x : Numeral) →
 -- a reader before a number passes these bytes as this number
 abbrev pub PassesNumber : List ℕ → ℕ → ℕ → Numeral → Type 0
 PassesNumber text at end read = (second multi : Bool) (x number : Numeral) → Passes text at end false (reader_at (before second) multi x number) (reader_at (behind_digit second) multi x read)
+
+-- a reader behind a point's first number passes these bytes as white space and this number, its second
+abbrev pub PassesSecond : List ℕ → ℕ → ℕ → Numeral → Type 0
+PassesSecond text at end read = (multi : Bool) (x number : Numeral) → Passes text at end false (reader_at DigitsX multi x number) (reader_at DigitsY multi number read)

@@ -1,12 +1,12 @@
 //! A reader of layer texts, byte by byte.
 
-ghost use Rattle.std.specs.Prelude.{◌≡◌, ◌+◌, ◌*◌, ◌≤◌, ℕ, false, length, min};
+ghost use Rattle.std.specs.Prelude.{◌≡◌, ◌+◌, ◌*◌, ◌≤◌, ℕ, false, length, min, option_map};
 ghost use Rattle.wkt.specs.Machine.{Notes, start, may_end};
-ghost use Rattle.wkt.specs.Reading.{ReaderIs, Stepped, begins_geometry, number_next, x_next, event_of, u32_max, value_of, with_digit};
+ghost use Rattle.wkt.specs.Reading.{ReaderIs, Stepped, begins_geometry, number_next, x_next, event_as, kind_of, u32_max, value_of, with_digit};
 ghost use Rattle.wkt.specs.Running.{Passes};
 
 use crate::places::{Class, Place};
-use crate::runs::{behind_spaces, number, stands};
+use crate::runs::{NUMBER_ROOM, behind_space, number, number_behind_space, stands};
 use geom::COORDINATE_LIMIT;
 
 /// A number as it is written, and the offset of its first byte.
@@ -45,7 +45,7 @@ impl Number {
 
 /// The magnitude with one digit more.
 #[inline(always)]
-pub fn longer(magnitude: u32, digit: u8) -> u32
+fn longer(magnitude: u32, digit: u8) -> u32
     ensures { result ≡ min (min (magnitude * 10) u32_max + digit) u32_max }
 {
     // No saturation where none can be: it takes longer.
@@ -57,6 +57,9 @@ pub fn longer(magnitude: u32, digit: u8) -> u32
             .saturating_add(u32::from(digit))
     }
 }
+
+/// The most bytes of a point that is passed at once: a space and a number, twice.
+const POINT_ROOM: usize = 22;
 
 /// What stands between the rings of most polygons.
 const NEXT_POLYGON: [u8; 11] = *b")\nPOLYGON (";
@@ -83,6 +86,34 @@ impl Event {
         ensures { result ≡ begins_geometry self }
     {
         matches!(self, Event::Geometry)
+    }
+}
+
+/// An event without its numbers.
+#[derive(Clone, Copy, Debug, PartialEq, Eq)]
+enum Kind {
+    Nothing,
+    Geometry,
+    Open,
+    Point,
+    Last,
+    Close,
+}
+
+impl Kind {
+    /// The event of this kind, with these numbers where it has any.
+    #[inline(always)]
+    fn event(self, x: Number, y: Number) -> Event
+        ensures { result ≡ event_as self x y }
+    {
+        match self {
+            Kind::Nothing => Event::Nothing,
+            Kind::Geometry => Event::Geometry,
+            Kind::Open => Event::Open,
+            Kind::Point => Event::Point(x, y),
+            Kind::Last => Event::Last(x, y),
+            Kind::Close => Event::Close,
+        }
     }
 }
 
@@ -146,18 +177,27 @@ impl Reader {
                 return Some(Event::Last(self.x, self.number));
             }
         }
+        let kind = self.step_anywhere(at, byte)?;
+        Some(kind.event(self.x, self.number))
+    }
+
+    /// The same wherever the reader stands, but for the numbers of the event, which are the reader's own. It is no part of the loops that
+    /// read: these then keep what most points need in registers.
+    #[inline(never)]
+    fn step_anywhere(&mut self, at: usize, byte: u8) -> Option<Kind>
+        ensures { (m : Notes) → ReaderIs self.old m → Stepped at byte self.old m (option_map (λ kind. event_as kind self.new.x self.new.number) result) self.new }
+    {
         let class = Class::of(byte);
         let place = self.place;
         let next = place.turn(class, self.multi)?;
-        let event = place.event(class, self.x, self.number);
         self.multi = place.is_multi_after(class, self.multi);
         self.x = place.x_after(class, self.x, self.number);
         self.number = place.number_after(class, at, self.number);
         self.place = next;
-        Some(event)
+        Some(place.kind(class))
     }
 
-    /// Passes what completes nothing and is quickly told: before a point, the point without its end; behind the last ring of
+    /// Passes what completes nothing and is quickly told: before a point, the point without its end, or before its second number, this; behind the last ring of
     /// a polygon, the way to the next polygon's first.
     #[inline(always)]
     pub fn pass(&mut self, text: &[u8], at: usize) -> Passed
@@ -171,6 +211,12 @@ impl Reader {
                     begun: false,
                 }
             }
+            Place::BeforeY => {
+                Passed {
+                    at: self.pass_second(text, at),
+                    begun: false,
+                }
+            }
             Place::AfterRing => self.pass_to_polygon(text, at),
             _ => Passed { at, begun: false },
         }
@@ -178,7 +224,7 @@ impl Reader {
 
     /// Behind a ring, passes the end of its polygon and the next one as far as its first ring, if they stand there as in
     /// most texts; else nothing.
-    #[inline(always)]
+    #[inline(never)]
     fn pass_to_polygon(&mut self, text: &[u8], at: usize) -> Passed
         requires within { at ≤ length text.now }
         requires place { self.old.place ≡ Place.AfterRing }
@@ -194,44 +240,52 @@ impl Reader {
         }
     }
 
-    /// Before a point, passes the point without its end, as far as it stands there; elsewhere nothing. The offset behind
-    /// it.
-    #[inline(always)]
+    /// Before a point, passes the point without its end, or its first number, or the space before it, as far as they stand
+    /// there as in most texts and the text goes on far enough. The offset behind them.
+    #[inline(never)]
     fn pass_point(&mut self, text: &[u8], at: usize) -> usize
-        requires { at ≤ length text.now }
-        ensures { Passes text.now at result false self.old self.new }
-    {
-        let Place::BeforePoint = self.place else {
-            return at;
-        };
-        let from = behind_spaces(text, at);
-        let Some((x, end)) = number(text, from) else {
-            return from;
-        };
-        self.number = x;
-        self.place = Place::DigitsX;
-        self.pass_second(text, end)
-    }
-
-    /// Behind a point's first number, passes the gap and the second number, as far as they stand there. The offset behind
-    /// them.
-    #[inline(always)]
-    fn pass_second(&mut self, text: &[u8], at: usize) -> usize
         requires within { at ≤ length text.now }
-        requires place { self.old.place ≡ Place.DigitsX }
+        requires place { self.old.place ≡ Place.BeforePoint }
         ensures { Passes text.now at result false self.old self.new }
     {
-        if at >= text.len() {
+        if text.len() - at < POINT_ROOM {
             return at;
         }
-        let Class::Space = Class::of(text[at]) else {
-            return at;
-        };
-        self.x = self.number;
-        self.place = Place::BeforeY;
-        let from = behind_spaces(text, at + 1);
-        let Some((y, end)) = number(text, from) else {
+        let from = behind_space(text, at);
+        let Some((x, gap)) = number(text, from) else {
             return from;
+        };
+        // Field by field, since a whole number is copied with its padding.
+        let Some((y, end)) = number_behind_space(text, gap) else {
+            self.number.at = x.at;
+            self.number.negative = x.negative;
+            self.number.magnitude = x.magnitude;
+            self.place = Place::DigitsX;
+            return gap;
+        };
+        self.x.at = x.at;
+        self.x.negative = x.negative;
+        self.x.magnitude = x.magnitude;
+        self.number.at = y.at;
+        self.number.negative = y.negative;
+        self.number.magnitude = y.magnitude;
+        self.place = Place::DigitsY;
+        end
+    }
+
+    /// Behind another gap than a space, passes a point's second number, if it stands there and the text goes on far enough. The
+    /// offset behind it.
+    #[inline(never)]
+    fn pass_second(&mut self, text: &[u8], at: usize) -> usize
+        requires within { at ≤ length text.now }
+        requires place { self.old.place ≡ Place.BeforeY }
+        ensures { Passes text.now at result false self.old self.new }
+    {
+        if text.len() - at < NUMBER_ROOM {
+            return at;
+        }
+        let Some((y, end)) = number(text, at) else {
+            return at;
         };
         self.number = y;
         self.place = Place::DigitsY;
@@ -284,16 +338,16 @@ impl Place {
 
     /// What one byte more completes.
     #[inline(always)]
-    fn event(self, class: Class, x: Number, y: Number) -> Event
-        ensures { result ≡ event_of self class x y }
+    fn kind(self, class: Class) -> Kind
+        ensures { result ≡ kind_of self class }
     {
         match (self, class) {
-            (Place::Between, Class::Letter(_)) => Event::Geometry,
-            (Place::BeforeRing, Class::Open) => Event::Open,
-            (Place::DigitsY, Class::Space | Class::Comma) => Event::Point(x, y),
-            (Place::DigitsY, Class::Close) => Event::Last(x, y),
-            (Place::AfterPoint, Class::Close) => Event::Close,
-            _ => Event::Nothing,
+            (Place::Between, Class::Letter(_)) => Kind::Geometry,
+            (Place::BeforeRing, Class::Open) => Kind::Open,
+            (Place::DigitsY, Class::Space | Class::Comma) => Kind::Point,
+            (Place::DigitsY, Class::Close) => Kind::Last,
+            (Place::AfterPoint, Class::Close) => Kind::Close,
+            _ => Kind::Nothing,
         }
     }
 }

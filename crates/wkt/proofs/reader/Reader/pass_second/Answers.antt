@@ -1,14 +1,11 @@
-use Rattle.std.proofs.Common.{true, sym, arith}
-use Rattle.wkt.proofs.Passing.{before_second, second_number}
+use Rattle.wkt.proofs.Passing.{passes_none, second_here}
 use Rattle.wkt.proofs.reader.Reader.pass_second.Goals as goal
 
-pub number-requires : goal.number-requires
-number-requires c = (c.behind_spaces-from.ensures true c.args.self.now.multi c.args.self.now.x c.args.self.now.number).within
+pub returns-then-text-at-lt-NUMBER_ROOM : goal.returns-then-text-at-lt-NUMBER_ROOM
+returns-then-text-at-lt-NUMBER_ROOM c = passes_none c.args.text.now c.args.at c.args.self.now c.requires.within
 
-pub returns-in_default-number : goal.returns-in_default-number
-returns-in_default-number c =
-    before_second c.args.text.now c.args.at c.behind_spaces-from.result c.args.self.now c.requires.place (omega (arith, c.if-at-text.false)) (sym c.in-Space.ensures) c.behind_spaces-from.ensures
+pub returns-in_default : goal.returns-in_default
+returns-in_default c = passes_none c.args.text.now c.args.at c.args.self.now c.requires.within
 
 pub returns : goal.returns
-returns c =
-    second_number c.args.text.now c.args.at c.behind_spaces-from.result c.in-Some.end c.args.self.now c.in-Some.y c.requires.place (omega (arith, c.if-at-text.false)) (sym c.in-Space.ensures) c.behind_spaces-from.ensures c.in-Some.ensures
+returns c = second_here c.args.text.now c.args.at c.in-Some.end c.args.self.now c.in-Some.y c.requires.place c.in-Some.ensures.0

@@ -1,9 +1,0 @@
-use Rattle.std.proofs.Common.{◌-◌, ◌≤◌, length}
-use Rattle.wkt.specs.Running.{PassesSpaces}
-use Rattle.wkt.proofs.runs.behind_spaces.Given as goal
-
-abbrev pub decreases-loop-end : goal.decreases-loop-end
-decreases-loop-end l = length l.text - l.end
-
-abbrev pub invariant-loop-end : goal.invariant-loop-end
-invariant-loop-end l = (l.end ≤ length l.text) × PassesSpaces l.text l.at l.end
