@@ -197,8 +197,8 @@ impl Reader {
         Some(place.kind(class))
     }
 
-    /// Passes what completes nothing and is quickly told: before a point, the point without its end, or before its second number, this; behind the last ring of
-    /// a polygon, the way to the next polygon's first.
+    /// Passes what completes nothing and is quickly told: before a point, the point without its end; before its second number, this; behind
+    /// the last ring of a polygon, the way to the next polygon's first.
     #[inline(always)]
     pub fn pass(&mut self, text: &[u8], at: usize) -> Passed
         requires { at ≤ length text.now }
