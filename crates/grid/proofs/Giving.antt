@@ -103,12 +103,12 @@ module _ (width : ℕ) (columns rows : ℕ × ℕ) (row first last : ℕ) (past 
 pub row_none : (width : ℕ) (columns rows : ℕ × ℕ) (number : ℕ) (lists : List (List ℕ)) → AreGiven (IsBelow width columns rows rows.0) number lists lists
 row_none width columns rows number lists = given_none (IsBelow width columns rows rows.0) number lists (λ k (h, l). let b = h.bottom in absurd (omega (arith, b, l)))
 
-pub given_same : (P Q : ℕ → Type 0) (number : ℕ) (old new : List (List ℕ)) → ((k : ℕ) → P k ↔ Q k) → AreGiven P number old new → AreGiven Q number old new
-given_same P Q number old new same h = record { same = h.same; given = λ k l q. h.given k l ((same k).1 q); kept = λ k l none. h.kept k l (λ p. none ((same k).0 p)) }
+pub given_same : (P Q : ℕ → Type 0) (number : ℕ) (old new : List (List ℕ)) → ((k : ℕ) → k < length old → P k ↔ Q k) → AreGiven P number old new → AreGiven Q number old new
+given_same P Q number old new same h = record { same = h.same; given = λ k l q. h.given k l ((same k l).1 q); kept = λ k l none. h.kept k l (λ p. none ((same k l).0 p)) }
 
 pub rows_all : (width : ℕ) (columns rows : ℕ × ℕ) (row number : ℕ) (old new : List (List ℕ)) → rows.1 ≤ row → AreGiven (IsBelow width columns rows row) number old new → AreGiven (IsAmong width columns rows) number old new
 rows_all width columns rows row number old new past =
-    given_same (IsBelow width columns rows row) (IsAmong width columns rows) number old new (λ k. (λ (h, l). h, λ h. (h, let t = h.top in omega (arith, t, past))))
+    given_same (IsBelow width columns rows row) (IsAmong width columns rows) number old new (λ k _. (λ (h, l). h, λ h. (h, let t = h.top in omega (arith, t, past))))
 
 -- ---- the tiles that a box meets
 

@@ -1,6 +1,6 @@
 //! The grid of tiles.
 
-ghost use Rattle.std.specs.Prelude.{◌≡◌, ◌↔◌, ◌^◌, ℕ, ℤ, pos, ◌+◌, ◌-◌, ◌*◌, ◌/◌, ◌<◌, ◌≤◌, ◌+ℤ◌, ◌≤ℤ◌, ◌<ℤ◌, ◌⊎◌, IfOk, IsTrue, MatchResult, Some};
+ghost use Rattle.std.specs.Prelude.{◌≡◌, ◌↔◌, ◌^◌, ℕ, pos, ◌+◌, ◌-◌, ◌*◌, ◌/◌, ◌<◌, ◌≤◌, ◌+ℤ◌, ◌≤ℤ◌, ◌⊎◌, IfOk, MatchResult, Some};
 ghost use Rattle.geom.specs.Limit.{IsWithin};
 ghost use Rattle.geom.specs.declared.point.Pt.{Pt};
 ghost use Rattle.geom.specs.Box.{IsInBox};
@@ -120,13 +120,13 @@ impl Grid {
         rows * self.columns
     }
 
-    /// Whether a coordinate is less than those of a row, or of the one past the last.
-    pub(crate) fn is_below(&self, y: i32, row: u32) -> bool
-        ensures value { IsTrue result ↔ (y <ℤ (self.now.bottom +ℤ pos (row * self.now.side))) }
+    /// Where a row begins on the ordinate axis, in grid units; of the one past the last, where the rows end.
+    pub(crate) fn row_start(&self, row: u32) -> i64
+        ensures value { result ≡ self.now.bottom +ℤ pos (row * self.now.side) }
         ensures some_side { 0 < self.now.side }
     {
         let up = (u64::from(row) * u64::from(self.side)) as i64;
-        i64::from(y) - i64::from(self.bottom) < up
+        i64::from(self.bottom) + up
     }
 
     /// The column and the row of a point.

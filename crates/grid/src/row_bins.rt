@@ -1,11 +1,13 @@
 //! The boxes that meet each tile in some of a grid's rows, kept tile by tile.
 //!
 //! 1. At first no tile has a box (`RowBins::new`).
-//! 2. A box that may meet these rows goes to the tiles from that of its least corner to that of its greatest, as far as they are
-//!    in these rows (`RowBins::add`), row by row (`add_rows`).
-//! 3. The bins of the rows that follow are put behind (`RowBins::joined`).
+//! 2. A box that lies below these rows or above them goes to no tile (`RowBins::is_beside`). Where these are few of many rows,
+//!    most boxes are such, so two comparisons tell it.
+//! 3. Any other goes to the tiles from that of its least corner to that of its greatest, as far as they are in these rows
+//!    (`RowBins::give`): at once where that is one tile, else row by row (`add_rows`).
+//! 4. The bins of the rows that follow are put behind (`RowBins::joined`).
 
-ghost use Rattle.std.specs.Prelude.{◌≡◌, ◌<◌, ◌≤◌, ◌+◌, ◌-◌, ◌*◌, ◌++◌, ◌∷◌, ℕ, [], IfOk, IsTrue, List, OnOk, get_or, length};
+ghost use Rattle.std.specs.Prelude.{◌≡◌, ◌↔◌, ◌⊎◌, ◌<◌, ◌≤◌, ◌+◌, ◌-◌, ◌*◌, ◌+ℤ◌, ◌<ℤ◌, ◌≤ℤ◌, ◌++◌, ◌∷◌, ℕ, pos, [], IfOk, IsTrue, List, OnOk, get_or, length};
 ghost use Rattle.geom.specs.declared.rect.Rect.{Rect};
 ghost use Rattle.grid.specs.Tiles.{HasTile};
 ghost use Rattle.grid.specs.Bins.{AreGiven, AreRowBins, HasPointOf, IsAmong, TileRows, lists_of};
@@ -22,6 +24,10 @@ pub struct RowBins<A: Allocator> {
     grid: Grid,
     from: u32,
     past: u32,
+    /// Where these rows begin on the ordinate axis, in grid units.
+    low: i64,
+    /// Where these rows end: the first ordinate above them, in grid units.
+    high: i64,
     count: u32,
     bins: Vec<Vec<u32, A>, A>,
 }
@@ -31,7 +37,7 @@ impl<A: Allocator> Model for RowBins<A> {
 
     ghost view = { λ b. record { grid = b.grid; from = b.from; past = b.past; count = b.count; bins = lists_of b.bins.items } };
 
-    ghost invariant = { λ b. (b.from ≤ b.past) × (b.past ≤ b.grid.rows) × (length b.bins.items ≡ (b.past - b.from) * b.grid.columns) };
+    ghost invariant = { λ b. (b.from ≤ b.past) × (b.past ≤ b.grid.rows) × (length b.bins.items ≡ (b.past - b.from) * b.grid.columns) × (0 < b.grid.side) × (b.low ≡ b.grid.bottom +ℤ pos (b.from * b.grid.side)) × (b.high ≡ b.grid.bottom +ℤ pos (b.past * b.grid.side)) };
 }
 
 impl<A: Allocator + Copy> RowBins<A> {
@@ -53,6 +59,8 @@ impl<A: Allocator + Copy> RowBins<A> {
             grid: *grid,
             from,
             past,
+            low: grid.row_start(from),
+            high: grid.row_start(past),
             count: 0,
             bins,
         })
@@ -61,6 +69,7 @@ impl<A: Allocator + Copy> RowBins<A> {
 
 impl<A: Allocator> RowBins<A> {
     /// Adds a box, of the next number. After an `Err` the bins are of no use.
+    #[inline(always)]
     pub fn add(&mut self, rect: Rect) -> Result<(), NoMemory>
         requires lo { HasTile self.old.grid rect.lo }
         requires hi { HasTile self.old.grid rect.hi }
@@ -77,8 +86,29 @@ impl<A: Allocator> RowBins<A> {
         if self.is_beside(&rect) {
             return Ok(());
         }
+        self.give(&rect, number)
+    }
+
+    /// Gives a number to the tiles in these rows that a box meets; the box lies neither below these rows nor above them.
+    #[inline(never)]
+    fn give(&mut self, rect: &Rect, number: u32) -> Result<(), NoMemory>
+        requires lo { HasTile self.old.grid rect.now.lo }
+        requires hi { HasTile self.old.grid rect.now.hi }
+        requires not_below { (self.old.grid.bottom +ℤ pos (self.old.from * self.old.grid.side)) ≤ℤ rect.now.hi.y }
+        requires not_above { rect.now.lo.y <ℤ (self.old.grid.bottom +ℤ pos (self.old.past * self.old.grid.side)) }
+        ensures grid { self.new.grid ≡ self.old.grid }
+        ensures from { self.new.from ≡ self.old.from }
+        ensures past { self.new.past ≡ self.old.past }
+        ensures count { self.new.count ≡ self.old.count }
+        ensures given { OnOk result (AreGiven (λ k. HasPointOf self.old.grid (self.old.from * self.old.grid.columns + k) rect.now) number self.old.bins self.new.bins) }
+    {
         let lo = self.grid.place_of(rect.lo);
         let hi = self.grid.place_of(rect.hi);
+        if lo == hi {
+            let tile = self.grid.tile_at(lo.0, lo.1 - self.from);
+            self.bins[tile as usize].push(number)?;
+            return Ok(());
+        }
         let first = lo.1.saturating_sub(self.from);
         let past = (hi.1 + 1)
             .saturating_sub(self.from)
@@ -108,16 +138,20 @@ impl<A: Allocator> RowBins<A> {
             grid: self.grid,
             from: self.from,
             past: next.past,
+            low: self.low,
+            high: next.high,
             count: self.count,
             bins,
         })
     }
 
     /// Whether a box lies below these rows or above them.
+    #[inline(always)]
     fn is_beside(&self, rect: &Rect) -> bool
-        ensures { IsTrue result → (k : ℕ) → k < (self.now.past - self.now.from) * self.now.grid.columns → ¬ HasPointOf self.now.grid (self.now.from * self.now.grid.columns + k) rect.now }
+        ensures value { IsTrue result ↔ ((rect.now.hi.y <ℤ (self.now.grid.bottom +ℤ pos (self.now.from * self.now.grid.side))) ⊎ ((self.now.grid.bottom +ℤ pos (self.now.past * self.now.grid.side)) ≤ℤ rect.now.lo.y)) }
+        ensures some_side { 0 < self.now.grid.side }
     {
-        self.grid.is_below(rect.hi.y, self.from) || !self.grid.is_below(rect.lo.y, self.past)
+        i64::from(rect.hi.y) < self.low || i64::from(rect.lo.y) >= self.high
     }
 
     /// The bin of a tile, of this number from the first in these rows on.

@@ -13,5 +13,5 @@ loop-tile-preserved g c =
 pub returns : goal.returns
 returns g c = record {
   given = given_same (λ k. (c.args.from ≤ k) × (k < c.loop-tile.tile)) (λ k. (c.args.from ≤ k) × (k < c.args.to)) c.args.number (lists_of c.args.bins.now) (lists_of c.loop-tile.bins)
-      (λ k. (λ (l, m). (l, omega arith), λ (l, m). (l, omega arith))) c.loop-tile.invariant;
+      (λ k _. (λ (l, m). (l, omega arith), λ (l, m). (l, omega arith))) c.loop-tile.invariant;
 }
