@@ -1,5 +1,5 @@
 -- What is kept of segments, and more of it.
-use Rattle.std.proofs.Common.{◌≡◌, ℕ, zero, suc, ◌+◌, ◌*◌, ◌<◌, List, [], ◌∷◌, ◌++◌, Bool, true, false, cond, refl, sym, ◌∙◌, ap, arith, subst, length, get_or, take, drop, append_assoc, ⊎_elim, flat_map, length-append}
+use Rattle.std.proofs.Common.{◌≡◌, ℕ, zero, suc, ◌+◌, ◌*◌, ◌<◌, List, [], ◌∷◌, ◌++◌, Bool, true, false, cond, refl, sym, ◌∙◌, ap, arith, subst, length, get_or, take, drop, append_assoc, ⊎_elim, flat_map, length-append, map, Option, Some, IfSome}
 use Rattle.std.proofs.Math.ListN.{set, length-set}
 use Rattle.std.specs.List.{AllZip}
 use Rattle.std.specs.Prelude.{slice_range}
@@ -168,3 +168,24 @@ module _ (all segments : List Seg) (place : ℕ) (copies : List Copies) (s : Seg
 
       kept : take (length (copies ++ c ∷ [])) (set segments (length copies) s) ≡ take (length copies) segments ++ s ∷ []
       kept = ap (λ (n : ℕ). take n (set segments (length copies) s)) len ∙ take_more_set segments (length copies) s (let f = h.few in omega arith)
+
+-- ---- what is there for each part
+pub zip_some : {P V : Type 0} (Holds : P → V → Type 0) (ps : List P) (vs : List V) → AllZip (λ p o. IfSome o (Holds p)) ps (map Some vs) → AllZip Holds ps vs
+zip_some Holds [] [] h = h
+zip_some Holds [] (v ∷ vs) h = absurd h
+zip_some Holds (p ∷ ps) [] h = absurd h
+zip_some Holds (p ∷ ps) (v ∷ vs) h = (h.0, zip_some Holds ps vs h.1)
+
+module _ (segments : List Seg) where
+  -- segments of which each is alone in its part, with the copies of the parts
+  pub copies_alone : {V : Type 0} (copies_of : V → List Copies) (ps : List Part) (vs : List V) (found : List (Option V)) → ArePartsOf 0 (length segments) ps
+      → AllZip (λ p o. IfSome o (λ v. AreCopies (part_of segments p) (part_of segments p) (copies_of v))) ps found → map Some vs ≡ found → AreCopies segments segments (flat_map copies_of vs)
+  copies_alone {V} copies_of ps vs found parts h there = subst (λ (x : List Seg × List Seg). AreCopies x.0 x.1 (flat_map copies_of vs)) (λ i. (parts_whole segments ps parts i, parts_whole segments ps parts i))
+      (flat_alone ps vs (zip_some (λ p v. AreCopies (part_of segments p) (part_of segments p) (copies_of v)) ps vs (subst (λ l. AllZip (λ p o. IfSome o (λ v. AreCopies (part_of segments p) (part_of segments p) (copies_of v))) ps l) (sym there) h)))
+    where
+      flat_alone : (ps : List Part) (vs : List V) → AllZip (λ p v. AreCopies (part_of segments p) (part_of segments p) (copies_of v)) ps vs → AreCopies (flat_map (part_of segments) ps) (flat_map (part_of segments) ps) (flat_map copies_of vs)
+      flat_alone [] [] h = copies_none
+      flat_alone [] (v ∷ vs) h = absurd h
+      flat_alone (p ∷ ps) [] h = absurd h
+      flat_alone (p ∷ ps) (v ∷ vs) h =
+          copies_append (part_of segments p) (flat_map (part_of segments) ps) (part_of segments p) (flat_map (part_of segments) ps) (copies_of v) (flat_map copies_of vs) h.0 (flat_alone ps vs h.1)

@@ -1,10 +1,11 @@
 //! The same by several hands.
 //!
-//! 1. Each hand looks whether a part of the segments has two with the same ends (`are_apart`). Where none has, they are kept as they stand
-//!    (`each_alone`), and no list is copied.
+//! 1. Each hand looks whether a part of the segments has two with the same ends, and counts each by itself (`copies_apart`). Where none has,
+//!    they are kept as they stand, and no list of segments is copied.
 //! 2. Else each hand keeps those of a part, and the parts are put behind one another.
 
-ghost use Rattle.std.specs.Prelude.{◌≡◌, ◌≤◌, All, IfOk, flat_map, length, map, slice_range};
+ghost use Rattle.std.specs.Prelude.{◌≡◌, ◌≤◌, IfOk, IfSome, Some, flat_map, length, map, slice_range};
+ghost use Rattle.hands.specs.Consecutive.{ArePartsOf};
 ghost use Rattle.distinct.specs.Copies.{AreCopies};
 
 use crate::copies::Copies;
@@ -16,49 +17,64 @@ use hands::{Part, even_parts, joined, map_parts};
 use std::alloc::Allocator;
 use std::thread::Threads;
 
-/// Whether no segment has the same ends as one before it, as far as a table of so many tells. It is cost alone.
-fn are_apart<A: Allocator>(alloc: A, segments: &[Seg]) -> Result<bool, NoMemory> {
+/// The copies of segments as they stand, each by itself; none where two have the same ends, as far as a table of so many tells.
+fn copies_apart<A: Allocator + Copy>(
+    alloc: A,
+    segments: &[Seg],
+) -> Result<Option<Vec<Copies, A>>, NoMemory>
+    ensures { IfOk result (λ found. IfSome found (λ copies. AreCopies segments.now segments.now copies.items)) }
+{
     let mut table = Table::for_segments(alloc, segments.len())?;
+    let mut copies = Vec::with_capacity(alloc, segments.len())?;
     for place in 0..segments.len() {
         let ends = ends_of(&segments[place]);
         let told = table.told(ends);
         if told < place && have_same_ends(&segments[told], &segments[place]) {
-            return Ok(false);
+            return Ok(None);
         }
         table.tell(ends, place);
+        copies.push(Copies::one(segments[place].layer))?;
     }
-    Ok(true)
+    Ok(Some(copies))
 }
 
-/// The same of each part by a hand of its own.
-fn are_parts_apart<A: Allocator + Copy + Send + Sync, R: Threads + Sync>(
+/// The lists; none where one of them isn't there.
+fn all_there<A: Allocator>(
+    alloc: A,
+    found: Vec<Option<Vec<Copies, A>>, A>,
+) -> Result<Option<Vec<Vec<Copies, A>, A>>, NoMemory>
+    ensures { IfOk result (λ all. IfSome all (λ lists. map Some lists.items ≡ found.items)) }
+{
+    let mut lists = Vec::with_capacity(alloc, found.len())?;
+    for one in found {
+        let Some(list) = one else {
+            return Ok(None);
+        };
+        lists.push(list)?;
+    }
+    Ok(Some(lists))
+}
+
+/// The copies of segments that are all apart in their parts, each part's by a hand of its own.
+fn copies_in_parts<A: Allocator + Copy + Send + Sync, R: Threads + Sync>(
     rt: &R,
     alloc: A,
     cuts: &[Part],
     segments: &[Seg],
-) -> Result<bool, NoMemory>
-    requires { All (λ part. (part.from ≤ part.past) × (part.past ≤ length segments.now)) cuts.now }
+) -> Result<Option<Vec<Vec<Copies, A>, A>>, NoMemory>
+    requires { ArePartsOf 0 (length segments.now) cuts.now }
+    ensures { IfOk result (λ found. IfSome found (λ lists. AreCopies segments.now segments.now (flat_map (λ l. l.items) lists.items))) }
 {
-    let apart = map_parts(
+    let found = map_parts(
         rt,
         alloc,
         cuts,
-        |part: Part| -> Result<bool, NoMemory>
+        |part: Part| -> Result<Option<Vec<Copies, A>>, NoMemory>
             requires { (part.from ≤ part.past) × (part.past ≤ length segments.now) }
-        { are_apart(alloc, &segments[part.from..part.past]) },
+            ensures { IfOk result (λ found. IfSome found (λ copies. AreCopies (slice_range segments.entry.now part.from part.past) (slice_range segments.entry.now part.from part.past) copies.items)) }
+        { copies_apart(alloc, &segments[part.from..part.past]) },
     )?;
-    Ok(apart.iter().all(|one: &bool| *one))
-}
-
-/// Segments as they stand, each by itself.
-fn each_alone<A: Allocator + Copy>(alloc: A, segments: Vec<Seg, A>) -> Result<Distinct<A>, NoMemory>
-    ensures { IfOk result (λ d. AreCopies segments.items d.segments.items d.copies.items) }
-{
-    let mut copies = Vec::with_capacity(alloc, segments.len())?;
-    for place in 0..segments.len() {
-        copies.push(Copies::one(segments[place].layer))?;
-    }
-    Ok(Distinct { segments, copies })
+    all_there(alloc, found)
 }
 
 /// As `distinct`, in at most so many parts, each by a hand of its own: those of the parts stand behind one another.
@@ -74,8 +90,11 @@ pub fn distinct_in_parts<A: Allocator + Copy + Send + Sync, R: Threads + Sync>(
         return distinct(alloc, segments);
     }
     let cuts = even_parts(alloc, segments.len(), parts)?;
-    if are_parts_apart(rt, alloc, &cuts, &segments)? {
-        return each_alone(alloc, segments);
+    if let Some(copies) = copies_in_parts(rt, alloc, &cuts, &segments)? {
+        return Ok(Distinct {
+            segments,
+            copies: joined(alloc, copies)?,
+        });
     }
     let found = map_parts(
         rt,

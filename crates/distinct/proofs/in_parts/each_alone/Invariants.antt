@@ -1,7 +1,0 @@
-use Rattle.std.proofs.Common.{take}
-use Rattle.distinct.specs.Copies.{AreCopies}
-use Rattle.distinct.proofs.in_parts.each_alone.Given as goal
-
--- the segments so far, each by itself
-abbrev pub invariant-loop-place : goal.invariant-loop-place
-invariant-loop-place g l = AreCopies (take l.place l.fn.segments.items) (take l.place l.fn.segments.items) l.copies.items
