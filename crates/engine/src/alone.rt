@@ -125,8 +125,9 @@ fn by_one<A: Allocator + Copy>(
     ensures none_remade { IfOk result (λ m. m.report.remade ≡ 0) }
 {
     let noded = rounded_alone(alloc, checked, read_a, read_b)?;
-    let text = text_of(alloc, wanted, &noded.edges)?;
     let report = report_for(alloc, checked, &noded)?;
+    let Noded { edges, .. } = noded;
+    let text = text_of(alloc, wanted, edges)?;
     Ok(Output { text, report })
 }
 

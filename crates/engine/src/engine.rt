@@ -148,7 +148,7 @@ fn made<A: Allocator + Copy + Send + Sync, G: Gate + Sync, R: Threads + Wait + S
     };
     let read = or_fault(read_segments_by_workers(rt, alloc, &checked, read_a, read_b))?;
     let noded = or_fault(rounded_segments(rt, alloc, &checked.grid, plan.workers, read, gate))?;
-    or_fault(by_edges(rt, alloc, wanted, &checked, &noded))
+    or_fault(by_edges(rt, alloc, wanted, &checked, noded))
 }
 
 /// The same of two layers that were checked, by their rounded edges.
@@ -157,15 +157,16 @@ fn by_edges<A: Allocator + Copy + Send + Sync, R: Threads + Sync>(
     alloc: A,
     wanted: Wanted,
     checked: &CheckedInput<'_, '_>,
-    noded: &Noded<A>,
+    noded: Noded<A>,
 ) -> Result<MadeInParts<A>, NoMemory>
-    requires rounded { AreRoundedOver checked.now.a.now checked.now.b.now checked.now.grid noded.now.edges.items noded.now.tiles.items }
-    requires layers { ∥ AreLayers noded.now.edges.items ∥₁ }
-    requires remade { IsRemade noded.now.remade }
+    requires rounded { AreRoundedOver checked.now.a.now checked.now.b.now checked.now.grid noded.edges.items noded.tiles.items }
+    requires layers { ∥ AreLayers noded.edges.items ∥₁ }
+    requires remade { IsRemade noded.remade }
     ensures { IfOk result (λ m. IsWrittenWithin checked.now.limits.segments wanted checked.now.plan checked.now.a.now checked.now.b.now m.text m.report) }
 {
-    let text = text_by_workers(rt, alloc, checked.plan.workers, wanted, &noded.edges)?;
-    let report = report_for(alloc, checked, noded)?;
+    let report = report_for(alloc, checked, &noded)?;
+    let Noded { edges, .. } = noded;
+    let text = text_by_workers(rt, alloc, checked.plan.workers, wanted, edges)?;
     Ok(MadeInParts { text, report })
 }
 

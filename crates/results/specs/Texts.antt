@@ -3,7 +3,6 @@ use Rattle.std.specs.Prelude.{ℕ, suc, List, [], ◌∷◌, ◌++◌, codes, le
 use Rattle.std.specs.List.{flat_map}
 use Rattle.std.specs.Fmt.{decimal}
 use Rattle.geom.specs.Words.{edge_words}
-use Rattle.geom.specs.declared.fault.Part.TheVariants.{A}
 use Rattle.geom.specs.declared.edge.Counted.{Counted}
 use Rattle.results.specs.declared.text.Report.{Report}
 

@@ -29,18 +29,18 @@ pub enum Wanted {
     Apply(Op),
 }
 
-/// The text that is wanted of two rounded layers, by their rounded edges.
+/// The text that is wanted of two rounded layers, by their rounded edges, which are let go as soon as they are labelled.
 pub fn text_of<A: Allocator + Copy>(
     alloc: A,
     wanted: Wanted,
-    counted: &[Counted],
+    counted: Vec<Counted, A>,
 ) -> Result<Vec<u8, A>, NoMemory>
-    requires { AreLayers counted.now }
-    ensures { IfOk result (λ text. IsWantedText wanted counted.now text.items) }
+    requires { AreLayers counted.items }
+    ensures { IfOk result (λ text. IsWantedText wanted counted.items text.items) }
 {
     match wanted {
-        Wanted::Edges => edges_text(alloc, counted),
-        Wanted::Apply(op) => result_text(alloc, counted, op),
+        Wanted::Edges => edges_text(alloc, &counted),
+        Wanted::Apply(op) => result_text_of(alloc, counted, op),
     }
 }
 
@@ -50,15 +50,15 @@ pub fn text_by_workers<A: Allocator + Copy + Send + Sync, R: Threads + Sync>(
     alloc: A,
     workers: u32,
     wanted: Wanted,
-    counted: &[Counted],
+    counted: Vec<Counted, A>,
 ) -> Result<TextParts<A>, NoMemory>
-    requires layers { AreLayers counted.now }
-    ensures { IfOk result (λ text. IsWantedText wanted counted.now text) }
+    requires layers { AreLayers counted.items }
+    ensures { IfOk result (λ text. IsWantedText wanted counted.items text) }
 {
     match wanted {
         Wanted::Edges => {
             let parts = worth::parts(workers, counted.len(), worth::LINES);
-            edges_text_in_parts(rt, alloc, parts, counted)
+            edges_text_in_parts(rt, alloc, parts, &counted)
         }
         Wanted::Apply(op) => result_text_by_workers(rt, alloc, workers, counted, op),
     }
@@ -78,19 +78,34 @@ pub fn result_text<A: Allocator + Copy>(
     line_along(alloc, &directed)
 }
 
-/// The same line, made by several workers at once.
+/// The same line, of edges that are let go once they are labelled.
+fn result_text_of<A: Allocator + Copy>(
+    alloc: A,
+    counted: Vec<Counted, A>,
+    op: Op,
+) -> Result<Vec<u8, A>, NoMemory>
+    requires { AreLayers counted.items }
+    ensures { IfOk result (λ text. IsResultText op counted.items text.items) }
+{
+    let directed = layer_labels(alloc, &counted, op)?;
+    drop(counted);
+    line_along(alloc, &directed)
+}
+
+/// The same, made by several workers at once.
 fn result_text_by_workers<A: Allocator + Copy + Send + Sync, R: Threads + Sync>(
     rt: &R,
     alloc: A,
     workers: u32,
-    counted: &[Counted],
+    counted: Vec<Counted, A>,
     op: Op,
 ) -> Result<TextParts<A>, NoMemory>
-    requires { AreLayers counted.now }
-    ensures { IfOk result (λ text. IsResultText op counted.now text) }
+    requires { AreLayers counted.items }
+    ensures { IfOk result (λ text. IsResultText op counted.items text) }
 {
     let parts = worth::parts(workers, counted.len(), worth::EDGES);
-    let directed = layer_labels_in_parts(rt, alloc, parts, counted, op)?;
+    let directed = layer_labels_in_parts(rt, alloc, parts, &counted, op)?;
+    drop(counted);
     line_by_workers(rt, alloc, workers, directed)
 }
 
