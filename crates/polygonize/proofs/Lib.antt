@@ -2,6 +2,7 @@ pub mod Lists
 pub mod RingPieces
 pub mod Walking
 pub mod Cycles
+pub mod NumberedWalk
 pub mod CycleRings
 pub mod NextEdge
 pub mod ClosesOnce
@@ -9,6 +10,7 @@ pub mod Permuted
 pub mod Numbers
 pub mod WrittenRings
 pub mod RingNumbers
+pub mod NumberedCycles
 pub mod TextOrder
 pub mod EdgesBelow
 pub mod Least

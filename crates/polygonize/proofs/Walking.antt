@@ -59,6 +59,15 @@ member_push (j ∷ is) k i (inr m) = further (member_push is k i m)
     further (inl x) = inl (inr x)
     further (inr y) = inr y
 
+pub member_last : (is : List ℕ) (k : ℕ) → Member (is ++ k ∷ []) k
+member_last [] k = inl refl
+member_last (j ∷ is) k = inr (member_last is k)
+
+pub member_front : (is : List ℕ) (k i : ℕ) → Member is i → Member (is ++ k ∷ []) i
+member_front [] k i m = absurd m
+member_front (j ∷ is) k i (inl e) = inl e
+member_front (j ∷ is) k i (inr m) = inr (member_front is k i m)
+
 pub no_twice_push : (is : List ℕ) (k : ℕ) → NoTwice is → ¬ (Member is k) → NoTwice (is ++ k ∷ [])
 no_twice_push [] k d n = ((λ m. m), tt)
 no_twice_push (j ∷ is) k d n = (other, no_twice_push is k d.1 (λ m. n (inr m)))
@@ -139,15 +148,6 @@ onward next old seen start at cycle range one away w = record {
 
     in_seen : at < length seen
     in_seen = omega (arith, at_bound, len)
-
-    member_last : (is : List ℕ) (k : ℕ) → Member (is ++ k ∷ []) k
-    member_last [] k = inl refl
-    member_last (j ∷ is) k = inr (member_last is k)
-
-    member_front : (is : List ℕ) (k i : ℕ) → Member is i → Member (is ++ k ∷ []) i
-    member_front [] k i m = absurd m
-    member_front (j ∷ is) k i (inl e) = inl e
-    member_front (j ∷ is) k i (inr m) = inr (member_front is k i m)
 
     -- what comes before the next number is the last one, which wasn't seen
     was : ComesAfterSeen next seen (get_or next at 0) → ⊥

@@ -1,6 +1,7 @@
 -- Cycles of a map on the numbers below a bound, given as a list.
-use Rattle.std.specs.Prelude.{◌≡◌, ◌⊎◌, ℕ, zero, suc, ◌<◌, ◌≤◌, Bool, true, false, List, [], ◌∷◌, length, slice_index, slice_index_or, All, AllPairs, flat_map, IsPermutation}
+use Rattle.std.specs.Prelude.{◌≡◌, ◌==◌, ◌⊎◌, ℕ, zero, suc, ◌<◌, ◌≤◌, Bool, true, false, not, List, [], ◌∷◌, length, map, slice_index, slice_index_or, slice_range, All, AllPairs, flat_map, IsPermutation}
 use Rattle.geom.specs.Rings.{around}
+use Rattle.hands.specs.declared.part.Part.{Part}
 
 abbrev pub IsOneToOne : List ℕ → Type 0
 IsOneToOne next = (i j : ℕ) → i < length next → j < length next → slice_index next i ≡ slice_index next j → i ≡ j
@@ -10,6 +11,10 @@ IsSeen seen i = slice_index_or seen i false ≡ true
 
 abbrev pub IsUnseen : List Bool → ℕ → Type 0
 IsUnseen seen i = slice_index_or seen i false ≡ false
+
+-- seen is what has a number other than the one for none
+abbrev pub seen_of : ℕ → List ℕ → List Bool
+seen_of none cycle_at = map (λ r. not (r == none)) cycle_at
 
 -- i is seen and j comes after it
 pub record ComesAfterSeen (next : List ℕ) (seen : List Bool) (j : ℕ) : Type 0 where
@@ -51,6 +56,14 @@ pub record Walked (next : List ℕ) (old new : List Bool) (start : ℕ) (cycle :
   pub keeps : (i : ℕ) → IsSeen old i → IsSeen new i
   pub marked : (i : ℕ) → Member cycle i → IsSeen new i
   pub closed : IsClosed next new
+
+-- the part is one of the list
+abbrev pub IsPartOf : List ℕ → Part → Type 0
+IsPartOf numbers part = (part.from ≤ part.past) × (part.past ≤ length numbers)
+
+-- the lists that stand in these parts of a list
+abbrev pub lists_in : List ℕ → List Part → List (List ℕ)
+lists_in numbers parts = map (λ part. slice_range numbers part.from part.past) parts
 
 -- begun at its least number
 abbrev pub IsLeastFirst : List ℕ → Type 0

@@ -7,9 +7,9 @@ ghost use Rattle.polygonize.specs.Written.{ArePlaces};
 
 use crate::closing_edges::ClosingEdges;
 use crate::cut::cut;
-use crate::cycle::Cycle;
+use crate::cycle::{Cycle, Cycles};
 use crate::hole::is_hole;
-use crate::number::vertices_of;
+use crate::number::list_vertices;
 use crate::piece::first_piece;
 use geom::NoMemory;
 use hands::{Part, joined, map_parts, parts_of_work};
@@ -24,12 +24,13 @@ pub struct CutRing<A: Allocator> {
     pub pieces: Vec<Cycle<A>, A>,
 }
 
-/// The ring of a cycle, cut. `places` has a place for each number.
+/// The ring of a cycle, cut. `ring` takes its vertices in place of what it had, and `places` has a place for each number.
 fn cut_ring<A: Allocator + Copy>(
     alloc: A,
     edges: ClosingEdges<'_>,
     numbers: &[u32],
     cycle: &[u32],
+    ring: &mut Vec<u32, A>,
     places: &mut [u32],
 ) -> Result<CutRing<A>, NoMemory>
     requires numbers { AreNumbers edges.list.now numbers.now }
@@ -37,9 +38,9 @@ fn cut_ring<A: Allocator + Copy>(
     requires places { length places.old ≡ length edges.list.now }
     ensures { IfOk result (λ ring. IsCycleCut edges.entry.list.now cycle.now ring) }
 {
-    let ring = vertices_of(alloc, numbers, cycle)?;
-    let is_hole = is_hole(edges, &ring);
-    let pieces = cut(alloc, &ring, places)?;
+    list_vertices(ring, numbers, cycle)?;
+    let is_hole = is_hole(edges, ring);
+    let pieces = cut(alloc, ring, places)?;
     let first = first_piece(edges, ring[0], &pieces);
     Ok(CutRing {
         is_hole,
@@ -53,7 +54,7 @@ pub fn cut_rings<A: Allocator + Copy>(
     alloc: A,
     edges: ClosingEdges<'_>,
     numbers: &[u32],
-    cycles: &[Cycle<A>],
+    cycles: &Cycles<A>,
     from: usize,
     past: usize,
 ) -> Result<Vec<CutRing<A>, A>, NoMemory>
@@ -64,9 +65,10 @@ pub fn cut_rings<A: Allocator + Copy>(
 {
     let mut places = vec![in alloc; 0; edges.list.len()]?;
     let mut rings = Vec::with_capacity(alloc, past - from)?;
+    let mut ring = Vec::new(alloc);
     for number in from..past {
-        let cycle = cycles[number].numbers();
-        rings.push(cut_ring(alloc, edges, numbers, cycle, &mut places)?)?;
+        let cycle = cycles.numbers(number);
+        rings.push(cut_ring(alloc, edges, numbers, cycle, &mut ring, &mut places)?)?;
     }
     Ok(rings)
 }
@@ -78,18 +80,18 @@ pub fn cut_rings_in_parts<R: Threads + Sync, A: Allocator + Copy + Send + Sync>(
     parts: usize,
     edges: ClosingEdges<'_>,
     numbers: &[u32],
-    cycles: &[Cycle<A>],
+    cycles: &Cycles<A>,
 ) -> Result<Vec<CutRing<A>, A>, NoMemory>
     requires { AreCyclesOf edges.list.now numbers.now cycles.now }
     ensures { IfOk result (λ rings. AreCyclesCut edges.entry.list.now cycles.now 0 (length cycles.now) rings.items) }
 {
     let all = parts_of_work(
         alloc,
-        cycles.len(),
+        cycles.count(),
         parts,
         |number: usize| -> usize
             requires { number < length cycles.now }
-        { cycles[number].numbers().len() },
+        { cycles.numbers(number).len() },
     )?;
     let lists = map_parts(
         rt,

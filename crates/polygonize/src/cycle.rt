@@ -1,10 +1,15 @@
-//! The cycles of a one-to-one map on the numbers below a bound.
+//! The cycles of a one-to-one map on the numbers below a bound, and the number of each number's cycle.
+//!
+//! 1. From each number that has no cycle yet, its cycle is walked until it comes back (`walk`). What is passed gets the cycle's number.
+//! 2. The cycles stand one behind another in one list (`Cycles`).
 
-ghost use Rattle.std.specs.Prelude.{◌≡◌, ◌<◌, ℕ, List, All, IfOk, OnOk, length};
-ghost use Rattle.polygonize.specs.Cycle.{IsOneToOne, IsClosed, IsUnseen, Walked, AreCycles};
+ghost use Rattle.std.specs.Prelude.{◌≡◌, ◌<◌, ℕ, List, [], All, IfOk, OnOk, length, slice_index_or};
+ghost use Rattle.polygonize.specs.Cycle.{IsOneToOne, IsClosed, IsPartOf, IsUnseen, AreCycles, lists_in, seen_of};
+ghost use Rattle.polygonize.specs.RingNumbers.{AreRingNumbers, IsNumberedWalk};
 
 use crate::counting::counted;
 use geom::NoMemory;
+use hands::Part;
 use std::alloc::Allocator;
 use std::marker::Model;
 
@@ -44,47 +49,94 @@ impl<A: Allocator> Cycle<A> {
     }
 }
 
-/// Walks the cycle of `start`, begun there, in place of what the list had. What it passes is marked as seen.
+/// Cycles by numbers, one behind another in one list.
+#[derive(Drop)]
+pub struct Cycles<A: Allocator> {
+    numbers: Vec<u32, A>,
+    parts: Vec<Part, A>,
+}
+
+impl<A: Allocator> Model for Cycles<A> {
+    ghost Value = { List (List ℕ) };
+
+    ghost view = { λ c. lists_in c.numbers.items c.parts.items };
+
+    ghost invariant = { λ c. All (IsPartOf c.numbers.items) c.parts.items };
+}
+
+impl<A: Allocator> Cycles<A> {
+    /// How many cycles there are.
+    pub fn count(&self) -> usize
+        ensures { result ≡ length self.now }
+    {
+        self.parts.len()
+    }
+
+    /// The numbers of a cycle in their order.
+    pub fn numbers(&self, cycle: usize) -> &[u32]
+        requires { cycle < length self.now }
+        ensures { result.now ≡ slice_index_or self.now cycle [] }
+    {
+        let part = self.parts[cycle];
+        &self.numbers[part.from..part.past]
+    }
+}
+
+/// Cycles, and for each number that of its cycle.
+#[derive(Drop)]
+pub struct NumberedCycles<A: Allocator> {
+    pub cycles: Cycles<A>,
+    pub cycle_at: Vec<u32, A>,
+}
+
+/// Walks the cycle of `start`, begun there, behind what the list has. What it passes gets the number of the cycle.
 fn walk<A: Allocator>(
     next: &[u32],
-    seen: &mut [bool],
+    cycle_at: &mut [u32],
     start: usize,
-    cycle: &mut Vec<u32, A>,
+    number: u32,
+    numbers: &mut Vec<u32, A>,
 ) -> Result<(), NoMemory>
-    requires same_length { length seen.old ≡ length next.now }
+    requires same_length { length cycle_at.old ≡ length next.now }
     requires in_range { All (λ k. k < length next.now) next.now }
     requires one_to_one { IsOneToOne next.now }
-    requires closed { IsClosed next.now seen.old }
+    requires closed { IsClosed next.now (seen_of (length next.now) cycle_at.old) }
     requires inside { start < length next.now }
-    requires unseen { IsUnseen seen.old start }
-    ensures { OnOk result (Walked next.now seen.old seen.new start cycle.new.items) }
+    requires unseen { IsUnseen (seen_of (length next.now) cycle_at.old) start }
+    requires number { number < length next.now }
+    ensures { OnOk result (IsNumberedWalk next.now cycle_at.old cycle_at.new start number numbers.old.items numbers.new.items) }
 {
-    cycle.clear();
-    seen[start] = true;
-    cycle.push(counted(start)?)?;
+    cycle_at[start] = number;
+    numbers.push(counted(start)?)?;
     let mut at = next[start];
     while at as usize != start {
-        seen[at as usize] = true;
-        cycle.push(at)?;
+        cycle_at[at as usize] = number;
+        numbers.push(at)?;
         at = next[at as usize];
     }
     Ok(())
 }
 
-/// The cycles, each begun at its least number, in the order of these.
-pub fn cycles<A: Allocator + Copy>(alloc: A, next: &[u32]) -> Result<Vec<Cycle<A>, A>, NoMemory>
+/// The cycles, each begun at its least number, in the order of these, and for each number that of its cycle.
+pub fn cycles_of<A: Allocator + Copy>(alloc: A, next: &[u32]) -> Result<NumberedCycles<A>, NoMemory>
     requires in_range { All (λ k. k < length next.now) next.now }
     requires one_to_one { IsOneToOne next.now }
-    ensures { IfOk result (λ found. AreCycles next.now found.items) }
+    ensures cycles { IfOk result (λ found. AreCycles next.now found.cycles) }
+    ensures numbers { IfOk result (λ found. AreRingNumbers (length next.now) found.cycles found.cycle_at.items) }
 {
-    let mut seen = vec![in alloc; false; next.len()]?;
-    let mut cycles = Vec::new(alloc);
-    let mut cycle = Vec::with_capacity(alloc, next.len())?;
+    let none = counted(next.len())?;
+    let mut cycle_at = vec![in alloc; none; next.len()]?;
+    let mut numbers = Vec::with_capacity(alloc, next.len())?;
+    let mut parts = Vec::new(alloc);
     for start in 0..next.len() {
-        if !seen[start] {
-            walk(next, &mut seen, start, &mut cycle)?;
-            cycles.push(Cycle::new(Vec::from_slice(alloc, &cycle)?))?;
+        if cycle_at[start] == none {
+            let from = numbers.len();
+            let number = counted(parts.len())?;
+            walk(next, &mut cycle_at, start, number, &mut numbers)?;
+            let past = numbers.len();
+            parts.push(Part { from, past })?;
         }
     }
-    Ok(cycles)
+    let cycles = Cycles { numbers, parts };
+    Ok(NumberedCycles { cycles, cycle_at })
 }

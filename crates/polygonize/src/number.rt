@@ -1,13 +1,13 @@
 //! Numbers of vertices: that of a vertex is the place of the first edge that leaves it, so numbers are ordered as points are.
 
-ghost use Rattle.std.specs.Prelude.{◌≡◌, ◌<◌, All, IfOk, length, map, slice_index};
+ghost use Rattle.std.specs.Prelude.{◌≡◌, ◌<◌, All, IfOk, OnOk, length, map, slice_index};
 ghost use Rattle.polygonize.specs.Next.{first_vertex, ring_of};
 ghost use Rattle.polygonize.specs.Number.{AreNumbers, IsLastNumber, IsNumber};
 
 use crate::angle::are_same;
 use crate::closing_edges::ClosingEdges;
 use crate::counting::counted;
-use crate::cycle::Cycle;
+use crate::cycle::Cycles;
 use geom::{DirectedEdge, NoMemory, Pt};
 use std::alloc::{AllocError, Allocator};
 
@@ -40,20 +40,20 @@ pub fn start_numbers<A: Allocator + Copy>(
     Ok(numbers)
 }
 
-/// The vertices of a cycle of edges, by their numbers.
-pub fn vertices_of<A: Allocator + Copy>(
-    alloc: A,
+/// Lists the vertices of a cycle of edges, by their numbers.
+pub fn list_vertices<A: Allocator>(
+    ring: &mut Vec<u32, A>,
     numbers: &[u32],
     cycle: &[u32],
-) -> Result<Vec<u32, A>, NoMemory>
+) -> Result<(), NoMemory>
     requires { All (λ k. k < length numbers.now) cycle.now }
-    ensures { IfOk result (λ ring. ring.items ≡ map (λ k. slice_index numbers.now k) cycle.now) }
+    ensures { OnOk result (ring.new.items ≡ map (λ k. slice_index numbers.now k) cycle.now) }
 {
-    let vertices: Result<Vec<u32, A>, AllocError> = cycle
-        .iter()
-        .map(|place| numbers[*place as usize])
-        .collect(alloc);
-    Ok(vertices?)
+    ring.clear();
+    for place in cycle {
+        ring.push(numbers[*place as usize])?;
+    }
+    Ok(())
 }
 
 /// The points of a ring of vertices.
@@ -76,7 +76,7 @@ pub fn points_of<A: Allocator + Copy>(
 pub fn first_vertices<A: Allocator + Copy>(
     alloc: A,
     edges: &[DirectedEdge],
-    cycles: &[Cycle<A>],
+    cycles: &Cycles<A>,
     numbers: &[usize],
 ) -> Result<Vec<Pt, A>, NoMemory>
     requires some { All (λ c. 0 < length c) cycles.now }
@@ -86,7 +86,7 @@ pub fn first_vertices<A: Allocator + Copy>(
 {
     let mut vertices = Vec::with_capacity(alloc, numbers.len())?;
     for number in numbers {
-        vertices.push(edges[cycles[*number].numbers()[0] as usize].from)?;
+        vertices.push(edges[cycles.numbers(*number)[0] as usize].from)?;
     }
     Ok(vertices)
 }

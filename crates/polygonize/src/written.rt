@@ -17,11 +17,11 @@ ghost use Rattle.polygonize.specs.Written.{AreAdded, ArePlaces, HasItsEdges, Hav
 use crate::below::Gap;
 use crate::closing_edges::ClosingEdges;
 use crate::cut_ring::{CutRing, cut_rings, cut_rings_in_parts, holes_among};
-use crate::cycle::Cycle;
+use crate::cycle::{Cycle, Cycles, NumberedCycles};
 use crate::nearest::{gaps_below, gaps_below_in_parts};
 use crate::number::{first_vertices, start_numbers};
 use crate::piece::turned;
-use crate::ring::{ring_numbers, ring_places};
+use crate::ring::ring_places;
 use geom::{DirectedEdge, NoMemory};
 use std::alloc::Allocator;
 use std::marker::Model;
@@ -191,7 +191,7 @@ fn write_ring<A: Allocator>(
 fn write_cycles<A: Allocator + Copy>(
     alloc: A,
     edges: ClosingEdges<'_>,
-    cycles: &[Cycle<A>],
+    cycles: &Cycles<A>,
     ring_at: &[u32],
     rings: Vec<CutRing<A>, A>,
     below: &[Option<Gap>],
@@ -206,13 +206,13 @@ fn write_cycles<A: Allocator + Copy>(
     ensures edges { IfOk result (λ written. HaveEdges edges.entry.list.now (rings_in written.items)) }
     ensures sound { IfOk result (λ written. All (IsCanonical edges.entry.list.now) (rings_in written.items)) }
 {
-    let mut written = Vec::with_capacity(alloc, cycles.len())?;
-    let mut shells = vec![in alloc; None; cycles.len()]?;
+    let mut written = Vec::with_capacity(alloc, cycles.count())?;
+    let mut shells = vec![in alloc; None; cycles.count()]?;
     let mut number = 0;
     for ring in rings {
         write_ring(
             edges.list,
-            cycles[number].numbers(),
+            cycles.numbers(number),
             number,
             ring,
             below[number],
@@ -248,7 +248,7 @@ fn gaps_of_rings<A: Allocator + Copy>(
 fn edges_below<A: Allocator + Copy>(
     alloc: A,
     edges: ClosingEdges<'_>,
-    cycles: &[Cycle<A>],
+    cycles: &Cycles<A>,
     rings: &[CutRing<A>],
 ) -> Result<Vec<Option<Gap>, A>, NoMemory>
     requires cycles { All (ArePlaces edges.list.now) cycles.now }
@@ -268,7 +268,7 @@ fn edges_below_in_parts<R: Threads + Sync, A: Allocator + Copy + Send + Sync>(
     alloc: A,
     parts: usize,
     edges: ClosingEdges<'_>,
-    cycles: &[Cycle<A>],
+    cycles: &Cycles<A>,
     rings: &[CutRing<A>],
 ) -> Result<Vec<Option<Gap>, A>, NoMemory>
     requires cycles { All (ArePlaces edges.list.now) cycles.now }
@@ -295,12 +295,11 @@ pub fn written_rings<A: Allocator + Copy>(
     ensures written { AreNodedEdges edges.entry.list.now → HasGroundedRings edges.entry.list.now → IfOk result (λ written. AreAllWritten edges.entry.list.now written.items) }
 {
     let numbers = start_numbers(alloc, edges)?;
-    let cycles = ring_places(alloc, edges, next)?;
-    let rings = cut_rings(alloc, edges, &numbers, &cycles, 0, cycles.len())?;
+    let NumberedCycles { cycles, cycle_at } = ring_places(alloc, edges, next)?;
+    let rings = cut_rings(alloc, edges, &numbers, &cycles, 0, cycles.count())?;
     drop(numbers);
     let below = edges_below(alloc, edges, &cycles, &rings)?;
-    let ring_at = ring_numbers(alloc, edges.list.len(), &cycles)?;
-    write_cycles(alloc, edges, &cycles, &ring_at, rings, &below)
+    write_cycles(alloc, edges, &cycles, &cycle_at, rings, &below)
 }
 
 /// The same by the numbers of vertices, which are there already: the rings are cut in so many parts, and the edges below holes are looked
@@ -320,10 +319,9 @@ pub fn written_rings_in_parts<R: Threads + Sync, A: Allocator + Copy + Send + Sy
     ensures sound { IfOk result (λ written. All (IsCanonical edges.entry.list.now) (rings_in written.items)) }
     ensures written { AreNodedEdges edges.entry.list.now → HasGroundedRings edges.entry.list.now → IfOk result (λ written. AreAllWritten edges.entry.list.now written.items) }
 {
-    let cycles = ring_places(alloc, edges, next)?;
+    let NumberedCycles { cycles, cycle_at } = ring_places(alloc, edges, next)?;
     let rings = cut_rings_in_parts(rt, alloc, parts, edges, &numbers, &cycles)?;
     drop(numbers);
     let below = edges_below_in_parts(rt, alloc, parts, edges, &cycles, &rings)?;
-    let ring_at = ring_numbers(alloc, edges.list.len(), &cycles)?;
-    write_cycles(alloc, edges, &cycles, &ring_at, rings, &below)
+    write_cycles(alloc, edges, &cycles, &cycle_at, rings, &below)
 }

@@ -2,7 +2,7 @@
 use Rattle.std.proofs.Common.{◌≡◌, ◌⊎◌, ℕ, ◌+◌, ◌<◌, ◌≤◌, Bool, List, [], ◌∷◌, ◌++◌, length, map, get_or, refl, sym, ◌∙◌, ap, subst, inl, inr, arith, Option, Some, None}
 use Rattle.std.specs.Prelude.{All, Contains, flat_map, is_some, unwrap_or}
 use Rattle.std.proofs.lemmas.Bool.{cases_eq, cases_lt}
-use Rattle.std.proofs.lemmas.List.{get_or-map, get_or_default, length-map}
+use Rattle.std.proofs.lemmas.List.{get_or-map, length-map}
 use Rattle.std.proofs.lemmas.List.Elements.{All-contains, All-contains_itself, All-get_or, All-weaker, Contains-get_or}
 use Rattle.geom.specs.declared.point.Pt.{Pt}
 use Rattle.geom.specs.declared.directed.DirectedEdge.{DirectedEdge}
@@ -240,10 +240,10 @@ module _ (ds : List DirectedEdge) (closes : Closes ds) (noded : AreNodedEdges ds
 
 -- ---- the loop over the cycles
 pub next_filled : (ds : List DirectedEdge) → Closes ds → AreNodedEdges ds → (cycles : List (List ℕ)) → AreRings ds (rings_of ds cycles) → AreGrounded ds (rings_of ds cycles) → All (HasItsEdges ds) cycles → All (ArePlaces ds) cycles
-    → (i : ℕ) (v cycle : List ℕ) (shells_old shells_new : List (Option Opening)) (old new : List PlacedRing) → i < length cycles → cycle ≡ v → get_or cycles i v ≡ v → IsRingPlaced ds cycle shells_old shells_new old new
+    → (i : ℕ) (cycle : List ℕ) (shells_old shells_new : List (Option Opening)) (old new : List PlacedRing) → i < length cycles → cycle ≡ get_or cycles i [] → IsRingPlaced ds cycle shells_old shells_new old new
     → AreFilled ds cycles i shells_old old → AreFilled ds cycles (i + 1) shells_new new
-next_filled ds c n cycles are grounded e p i v cycle so sn old new low k h r f = filled ds c n cycles are grounded e (All-weaker (ArePlaces ds) (λ c. All (λ k. k < length ds) c) (λ c q. q.inside) cycles p)
-    i low so sn old new f (let P : List ℕ → Type 0 = λ t. IsRingPlaced ds t so sn old new in subst P (k ∙ sym h ∙ get_or_default cycles i v [] low) r)
+next_filled ds c n cycles are grounded e p i cycle so sn old new low k r f = filled ds c n cycles are grounded e (All-weaker (ArePlaces ds) (λ c. All (λ k. k < length ds) c) (λ c q. q.inside) cycles p)
+    i low so sn old new f (let P : List ℕ → Type 0 = λ t. IsRingPlaced ds t so sn old new in subst P k r)
 
 pub all_filled : (ds : List DirectedEdge) (cycles : List (List ℕ)) (i : ℕ) (shell_of : List (Option Opening)) (ws : List PlacedRing) → AreRings ds (rings_of ds cycles) → length cycles ≤ i → HaveEdges ds (rings_in ws) → All (IsCanonical ds) (rings_in ws)
     → AreFilled ds cycles i shell_of ws → AreWritten ds (rings_of ds cycles) ws

@@ -1,7 +1,7 @@
 -- The written rings have the edges of the cycles so far, each once.
 use Rattle.std.proofs.Common.{◌≡◌, ℕ, suc, ◌+◌, ◌<◌, ◌≤◌, List, [], ◌∷◌, ◌++◌, length, get_or, map, take, refl, sym, ◌∙◌, ap, subst, arith, add-one, inl, inr, Bool, true, false, cond, Option, None, Some}
 use Rattle.std.specs.Prelude.{◌↔◌, All, Contains, IfSome, IsPermutation, IsTrue, flat_map, sum_by, count_by}
-use Rattle.std.proofs.lemmas.List.{map-append, append-nil, get_or_default, get_or-map, length-map, take_all}
+use Rattle.std.proofs.lemmas.List.{map-append, append-nil, get_or-map, length-map, take_all}
 use Rattle.std.proofs.lemmas.List.Elements.{All-nil, All-cons, All-head, All-tail, All-append, All-map, All-weaker, Contains-get_or}
 use Rattle.std.proofs.lemmas.List.Concat.{flat_map-append}
 use Rattle.std.proofs.lemmas.List.Sums.{sum_by-append, sum_by-cons}
@@ -252,12 +252,10 @@ cycle_cut ds numbers cycle ring cut_ring a n p e c h i f = record {
   is_first = f;
 }
 
-pub cycle_at : (cycles : List (List ℕ)) (i : ℕ) (v cycle : List ℕ) → i < length cycles → cycle ≡ v → v ≡ get_or cycles i v → get_or cycles i [] ≡ cycle
-cycle_at cycles i v cycle h e k = get_or_default cycles i [] v h ∙ sym k ∙ sym e
+-- ---- the cycle at a place
+pub of_cycle : (P : List ℕ → Type 0) (cycles : List (List ℕ)) (i : ℕ) (cycle : List ℕ) → i < length cycles → cycle ≡ get_or cycles i [] → All P cycles → P cycle
+of_cycle P cycles i cycle h e a = subst P (sym e) (a i [] h)
 
-pub of_cycle : (P : List ℕ → Type 0) (cycles : List (List ℕ)) (i : ℕ) (v cycle : List ℕ) → i < length cycles → cycle ≡ v → v ≡ get_or cycles i v → All P cycles → P cycle
-of_cycle P cycles i v cycle h e k a = subst P (sym k ∙ sym e) (a i v h)
-
-pub below_cycle : (ds : List DirectedEdge) (cycles : List (List ℕ)) (below : List (Option Gap)) (i : ℕ) (v cycle : List ℕ) → i < length cycles → cycle ≡ v → v ≡ get_or cycles i v → AreFoundBelow ds cycles below
+pub below_cycle : (ds : List DirectedEdge) (cycles : List (List ℕ)) (below : List (Option Gap)) (i : ℕ) (cycle : List ℕ) → i < length cycles → cycle ≡ get_or cycles i [] → AreFoundBelow ds cycles below
     → IsHole (ring_of ds cycle) → IsFoundBelow ds (edge_at ds (get_or cycle 0 0)).from (get_or below i None)
-below_cycle ds cycles below i v cycle h e k a = subst (λ (t : List ℕ). IsHole (ring_of ds t) → IsFoundBelow ds (edge_at ds (get_or t 0 0)).from (get_or below i None)) (cycle_at cycles i v cycle h e k) (a.each i h)
+below_cycle ds cycles below i cycle h e a = subst (λ (t : List ℕ). IsHole (ring_of ds t) → IsFoundBelow ds (edge_at ds (get_or t 0 0)).from (get_or below i None)) (sym e) (a.each i h)

@@ -11,8 +11,7 @@ loop-number-preserved g c =
     let r : ℕ = get_or numbers i 0 in
     let inside = c.requires.inside i 0 c.loop-number-test.true in
     let begins = c.requires.edges_inside r [] inside 0 0 (c.requires.some r [] inside) in
-    let cycle = c.numbers.ensures ∙ c.index-cycles-number.is ∙ get_or_default c.args.cycles.now r c.index-cycles-number.result [] inside in
-    rw (c.in_ok-push.ensures.items, c.loop-number.invariant, map_more (first_vertex c.args.edges.now c.args.cycles.now) numbers i 0 c.loop-number-test.true, cycle)
+    rw (c.in_ok-push.ensures.items, c.loop-number.invariant, map_more (first_vertex c.args.edges.now c.args.cycles.now) numbers i 0 c.loop-number-test.true, c.numbers.ensures)
     (ap (λ (d : DirectedEdge). map (first_vertex c.args.edges.now c.args.cycles.now) (take i numbers) ++ d.from ∷ []) (get_or_default c.args.edges.now _ _ nothing begins))
 
 pub returns : goal.returns

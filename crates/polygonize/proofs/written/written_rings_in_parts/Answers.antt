@@ -1,36 +1,13 @@
 use Rattle.std.proofs.lemmas.Result.{IfOk-weaker}
 use Rattle.polygonize.specs.Next.{rings_of}
 use Rattle.polygonize.specs.Placed.{AreAllWritten, AreWritten}
-use Rattle.polygonize.proofs.ClosesOnce.{closes_of}
-use Rattle.polygonize.proofs.RingNumbers.{rings_apart}
 use Rattle.polygonize.proofs.written.written_rings_in_parts.Goals as goal
 
 pub returns-clause-written : goal.returns-clause-written
 returns-clause-written g c = λ noded grounded.
-    let rings = rings_of c.args.edges.list.now c.in_ok-cycles.cycles.items in
+    let rings = rings_of c.args.edges.list.now c.in_ok-cycles.field-0.cycles in
     IfOk-weaker c.write_cycles.result (λ found. AreWritten c.args.edges.list.now rings found.items) (λ found. AreAllWritten c.args.edges.list.now found.items) (λ found h. (rings, h))
-    ((rw c.deref-6.ensures.value at c.write_cycles.ensures.written) noded (grounded rings c.in_ok-cycles.ensures.rings))
-
-pub edges_below_in_parts-requires-clause-cycles : goal.edges_below_in_parts-requires-clause-cycles
-edges_below_in_parts-requires-clause-cycles g c κs within = rw c.deref-3.ensures.value c.in_ok-cycles.ensures.places
-
-pub edges_below_in_parts-requires-clause-cut : goal.edges_below_in_parts-requires-clause-cut
-edges_below_in_parts-requires-clause-cut g c κs within = rw (c.deref-3.ensures.value, c.deref-4.ensures.value) (rw c.deref-2.ensures.value at c.in_ok-rings.ensures)
-
-pub write_cycles-requires-clause-cycles : goal.write_cycles-requires-clause-cycles
-write_cycles-requires-clause-cycles g c = rw c.deref-6.ensures.value c.in_ok-cycles.ensures.places
-
-pub write_cycles-requires-clause-rings : goal.write_cycles-requires-clause-rings
-write_cycles-requires-clause-rings g c = rw c.deref-6.ensures.value c.in_ok-cycles.ensures.rings
-
-pub write_cycles-requires-clause-cut : goal.write_cycles-requires-clause-cut
-write_cycles-requires-clause-cut g c = rw c.deref-6.ensures.value (rw c.deref-2.ensures.value at c.in_ok-rings.ensures)
-
-pub write_cycles-requires-clause-found : goal.write_cycles-requires-clause-found
-write_cycles-requires-clause-found g c = rw (c.deref-6.ensures.value, c.deref-8.ensures.value) (rw c.deref-3.ensures.value at c.in_ok-below.ensures)
-
-pub write_cycles-requires-clause-its_edges : goal.write_cycles-requires-clause-its_edges
-write_cycles-requires-clause-its_edges g c = rw c.deref-6.ensures.value c.in_ok-cycles.ensures.edges
+    (c.write_cycles.ensures.written noded (grounded rings c.in_ok-cycles.ensures.rings))
 
 pub returns-clause-edges : goal.returns-clause-edges
 returns-clause-edges g c = c.write_cycles.ensures.edges
@@ -38,8 +15,26 @@ returns-clause-edges g c = c.write_cycles.ensures.edges
 pub returns-clause-sound : goal.returns-clause-sound
 returns-clause-sound g c = c.write_cycles.ensures.sound
 
-pub ring_numbers-requires-clause-apart : goal.ring_numbers-requires-clause-apart
-ring_numbers-requires-clause-apart g c = rw c.deref-5.ensures.value (rings_apart c.args.edges.list.now (closes_of c.args.edges.closes) c.in_ok-cycles.cycles.items c.in_ok-cycles.ensures.rings c.in_ok-cycles.ensures.edges)
+pub write_cycles-requires-clause-cycles : goal.write_cycles-requires-clause-cycles
+write_cycles-requires-clause-cycles g c = c.in_ok-cycles.ensures.places
+
+pub write_cycles-requires-clause-rings : goal.write_cycles-requires-clause-rings
+write_cycles-requires-clause-rings g c = c.in_ok-cycles.ensures.rings
+
+pub write_cycles-requires-clause-cut : goal.write_cycles-requires-clause-cut
+write_cycles-requires-clause-cut g c = c.in_ok-rings.ensures
 
 pub write_cycles-requires-clause-numbers : goal.write_cycles-requires-clause-numbers
-write_cycles-requires-clause-numbers g c = rw (c.deref-6.ensures.value, c.deref-7.ensures.value) (rw c.deref-5.ensures.value at c.in_ok-ring_at.ensures)
+write_cycles-requires-clause-numbers g c = rw c.deref-3.ensures.value c.in_ok-cycles.ensures.numbers
+
+pub write_cycles-requires-clause-found : goal.write_cycles-requires-clause-found
+write_cycles-requires-clause-found g c = rw c.deref-4.ensures.value c.in_ok-below.ensures
+
+pub write_cycles-requires-clause-its_edges : goal.write_cycles-requires-clause-its_edges
+write_cycles-requires-clause-its_edges g c = c.in_ok-cycles.ensures.edges
+
+pub edges_below_in_parts-requires-clause-cycles : goal.edges_below_in_parts-requires-clause-cycles
+edges_below_in_parts-requires-clause-cycles g c κs within = c.in_ok-cycles.ensures.places
+
+pub edges_below_in_parts-requires-clause-cut : goal.edges_below_in_parts-requires-clause-cut
+edges_below_in_parts-requires-clause-cut g c κs within = rw c.deref-2.ensures.value c.in_ok-rings.ensures
