@@ -1,13 +1,13 @@
 -- All cycles, one behind another in one list, and the number of each number's cycle.
-use Rattle.std.proofs.Common.{◌≡◌, ◌≢◌, ◌==◌, ℕ, zero, suc, ◌+◌, ◌-◌, ◌<◌, ◌≤◌, Bool, false, not, List, [], ◌∷◌, ◌++◌, length, map, get_or, replicate, take, drop, refl, sym, ◌∙◌, ap, subst, arith, add-one}
+use Rattle.std.proofs.Common.{◌≡◌, ◌≢◌, ◌==◌, ℕ, zero, suc, ◌+◌, ◌-◌, ◌<◌, ◌≤◌, Bool, false, not, List, [], ◌∷◌, ◌++◌, length, get_or, replicate, take, drop, refl, sym, ◌∙◌, ap, subst, arith, add-one}
 use Rattle.std.specs.Prelude.{All, Contains, slice_range}
 use Rattle.std.proofs.lemmas.Bool.Decides.{nat_tests}
-use Rattle.std.proofs.lemmas.List.{drop-append-le, get_or_default, length-append, length-drop, length-map, length-replicate, map-append, take-append-le, take_all}
+use Rattle.std.proofs.lemmas.List.{drop-append-le, get_or_default, length-append, length-drop, length-map, map-append, take-append-le, take_all}
 use Rattle.std.proofs.lemmas.List.Elements.{All-contains, All-head, All-nil, All-push, All-tail, All-weaker}
 use Rattle.std.proofs.Math.Seq.{drop-append_seam}
 use Rattle.geom.proofs.Lists.{contains_in}
 use Rattle.hands.specs.declared.part.Part.{Part}
-use Rattle.polygonize.specs.Cycle.{AreCycles, IsClosed, IsPartOf, IsSeen, lists_in, seen_of}
+use Rattle.polygonize.specs.Cycle.{AreCycles, IsPartOf, IsSeen, lists_in, seen_of}
 use Rattle.polygonize.specs.RingNumbers.{AreRingNumbers, IsNumbered, IsNumberedWalk}
 use Rattle.polygonize.proofs.Cycles.{Found, all_found, in_member, none_found, one_more_found, seen_already}
 use Rattle.polygonize.proofs.NumberedWalk.{number_of_unseen, seen_by_number, seen_length}

@@ -1,4 +1,4 @@
-use Rattle.std.proofs.Common.{length, subst, ℕ}
+use Rattle.std.proofs.Common.{subst, ℕ}
 use Rattle.std.specs.Prelude.{All, AllPairs, IfOk}
 use Rattle.std.proofs.lemmas.List.Elements.{All-weaker}
 use Rattle.std.proofs.lemmas.Result.{IfOk-weaker}
