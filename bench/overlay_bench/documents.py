@@ -1,9 +1,10 @@
-"""tells what the documents name and the repository doesn't have: paths, lemmas, calls and definitions, lemma files of geom that PROOFS leaves out, documents and lines longer than they may be, and what is made of bench/results and isn't the same any more
+"""reports what the documents name and the repository doesn't have: paths, lemmas, calls and definitions, lemma files of geom that PROOFS leaves out, lines longer than they may be, and what is made of bench/results or of the sources and isn't the same any more
 
 Whatever stands between backquotes in a text of Markdown is looked at. A path stands below the root or below a crate, with or without its
 ending; `File.lemma` is a lemma of a file of that name; in CONTRACTS, MAP and PROOFS each longer word has to stand somewhere in crates/.
 A line of Markdown has at most 100 columns, but for tables, code, and what can't be broken: a link, a path, what is quoted.
-README's table of other tools is made of peers.tsv and capabilities.tsv, and docs/speed.svg of peers.tsv and speed.tsv: `--write` makes both anew.
+README's table of other tools is made of peers.tsv and capabilities.tsv, docs/speed.svg of peers.tsv and speed.tsv, and docs/BELIEVED.md of the
+sources: `--write` makes them anew.
 The exit status is 1 where something is missing.
 """
 from __future__ import annotations
@@ -14,17 +15,13 @@ import os
 import re
 from collections.abc import Iterator
 
-from . import compared, plot, programs
+from . import believed, compared, plot, programs
 
 QUOTED = re.compile(r"`([^`\n]+)`")
 PATH = re.compile(r"[\w.*-]*(/[\w.*-]+)+/?")
 LEMMA = re.compile(r"(?:proofs/)?([A-Z]\w*)\.(\w+)")
 # Documents in which each longer word is one of the code.
 OF_CODE = ("CONTRACTS.md", "MAP.md", "PROOFS.md")
-# How many words a document may have at most.
-MOST_WORDS = {
-    "README.md": 1200, "docs/CHECKING.md": 1200, "docs/CONTRACTS.md": 2960, "docs/DECISIONS.md": 2690, "docs/PROOFS.md": 5810,
-}
 MOST_COLUMNS = 100
 # What stays on one line: a word, what is quoted, a link.
 UNBROKEN = re.compile(r"(?:`[^`]*`|\[[^]]*\]\([^)]*\)|[^\s`[]|[`[])+")
@@ -34,7 +31,7 @@ COMPARED = re.compile(r"(?<=\n## Compared\n)((?:(?:[^|#\n].*)?\n)*)(?:\|.*\n)+")
 
 
 def add_arguments(parser: argparse.ArgumentParser) -> None:
-    parser.add_argument("--write", action="store_true", help="makes README's table of other tools and docs/speed.svg anew")
+    parser.add_argument("--write", action="store_true", help="makes README's table of other tools, docs/speed.svg and docs/BELIEVED.md anew")
 
 
 def text_of(path: str) -> str:
@@ -94,15 +91,16 @@ def unlisted() -> list[str]:
     return [name for name in sorted(names) if name != "Lib" and "`%s`" % name not in listed]
 
 
-def made_of_results() -> Iterator[tuple[str, str]]:
-    """What is made of recorded results: each file, and its text as it should be."""
+def made() -> Iterator[tuple[str, str]]:
+    """What is made of recorded results or of the sources: each file, and its text as it should be."""
     table = "".join(line + "\n" for line in compared.table())
     yield "README.md", COMPARED.sub(lambda found: found[1] + table, text_of("README.md"))
     yield os.path.relpath(plot.PICTURE), plot.picture()
+    yield believed.PAGE, believed.page()
 
 
 def write() -> None:
-    for path, wanted in made_of_results():
+    for path, wanted in made():
         with open(path, "w", encoding="utf-8") as file:
             file.write(wanted)
 
@@ -112,10 +110,10 @@ def main(arguments: argparse.Namespace) -> int:
     if arguments.write:
         write()
     sources, wrong = Sources(), 0
-    for path, wanted in made_of_results():
+    for path, wanted in made():
         if not os.path.exists(path) or text_of(path) != wanted:
             wrong += 1
-            print("%s isn't what bench/results says: bench/run documents --write" % path)
+            print("%s isn't as it is made: bench/run documents --write" % path)
     documents = sorted(glob.glob("**/*.md", recursive=True) + glob.glob(".github/**/*.md", recursive=True))
     for document in documents:
         for name in missing(document, sources):
@@ -124,11 +122,6 @@ def main(arguments: argparse.Namespace) -> int:
         for number in long_lines(document):
             wrong += 1
             print("%s: line %d has more than %d columns" % (document, number, MOST_COLUMNS))
-    for document, most in MOST_WORDS.items():
-        words = len(text_of(document).split())
-        if words > most:
-            wrong += 1
-            print("%s: %d words, %d at most" % (document, words, most))
     for name in unlisted():
         wrong += 1
         print("docs/PROOFS.md: %s of crates/geom/proofs isn't listed" % name)
