@@ -149,6 +149,8 @@ def answered(arguments: Namespace) -> int:
         raise Fault(error.filename or "a temporary file", error.strerror or error) from error
     except MemoryError as error:
         raise OutOfMemory() from error
+    except SystemError as error:  # which GDAL's bindings raise where a broken file gives them no text
+        raise Fault("GDAL", f"can't say what it read: {error.__cause__ or error}") from error
 
 
 def main(words: list[str] | None = None) -> int:

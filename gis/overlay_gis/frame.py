@@ -108,6 +108,10 @@ class Frame:
         (x, y) = self.origin
         return float(x - half), float(y - half), float(x + half), float(y + half)
 
+    def digits(self) -> int:
+        """How many digits behind the point the coordinates of the grid's points have at most."""
+        return max(0, *(-int(number.normalize().as_tuple().exponent) for number in (self.unit, *self.origin)))
+
     @cached_property
     def square(self) -> tuple[int, int]:
         """Half a square unit of the grid, in square units of the system, as a fraction."""

@@ -13,6 +13,7 @@ from typing import Callable, Iterable, Iterator, Protocol, TypeVar
 
 from .faults import Fault
 from .passwords import hidden
+from .stopping import look
 
 T = TypeVar("T")
 
@@ -145,19 +146,19 @@ def bar(work: str, done: int, total: int) -> None:
 def followed(
     items: Iterable[T], label: str, total: int | None = None, size: Callable[[T], int] = lambda _: 1
 ) -> Iterator[T]:
-    """The same items. Where somebody hears it and they take long, it says how far they are; `size`
-    is how much an item is."""
-    if not is_watched():
-        yield from items
-        return
+    """The same items, as long as no signal ends the command. Where somebody hears it and they take
+    long, it says how far they are; `size` is how much an item is."""
+    watched = is_watched()
     due = time.monotonic() + PATIENCE
     told, done = False, 0
     for item in items:
-        now = time.monotonic()
-        if now >= due:
-            progress(label, done / total if total else None, done)
-            due, told = now + PAUSE, True
-        done += size(item)
+        look()
+        if watched:
+            now = time.monotonic()
+            if now >= due:
+                progress(label, done / total if total else None, done)
+                due, told = now + PAUSE, True
+            done += size(item)
         yield item
     if told:
         progress("")
@@ -165,7 +166,9 @@ def followed(
 
 @contextmanager
 def during(label: str) -> Iterator[None]:
-    """Where somebody hears it, says what is done as long as it is done."""
+    """Where somebody hears it, says what is done as long as it is done; no signal has ended the
+    command before."""
+    look()
     told = is_watched()
     if told:
         progress(label)

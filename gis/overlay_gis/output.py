@@ -25,6 +25,7 @@ from .geopackage import Place, Row, filled, place_of
 from .layers import LAYER_MARK, Source
 from .messages import followed, unheard, warn
 from .read_back import Difference, Written, box_of, differences, shape_difference
+from .stopping import look
 from .systems import is_another, names_apart
 from .whole import Drafts, Target, blamed, target_of
 
@@ -135,6 +136,12 @@ def bounds(driver: gdal.Driver, table: Table) -> Iterator[str]:
         yield f"BOUNDS={','.join(map(repr, table.frame.room()))}"
 
 
+def digits(driver: gdal.Driver, table: Table) -> Iterator[str]:
+    """The option for GeoJSON to write as many digits behind the point as the grid's points have."""
+    if table.frame and driver.ShortName == "GeoJSON":
+        yield f"COORDINATE_PRECISION={table.frame.digits()}"
+
+
 def unquoted(driver: gdal.Driver, table: Table) -> Iterator[str]:
     """The option for a file of CSV that has numbers alone: GDAL puts whole ones between quotes, and
     reads what stands so as texts."""
@@ -148,7 +155,7 @@ def create(
     """A new layer of a data set that is told by that name, with the table's fields. None of them is
     called as another one, or as the layer's columns that are no fields."""
     driver = layers.GetDriver()
-    asked = [*options, *OPTIONS.get(driver.ShortName, ()), *bounds(driver, table), *unquoted(driver, table)]
+    asked = [*options, *OPTIONS.get(driver.ShortName, ()), *bounds(driver, table), *digits(driver, table), *unquoted(driver, table)]
     layer = layers.CreateLayer(name, None if table.kind == ogr.wkbNone else system, table.kind, asked)
     taken = (layer.GetFIDColumn(), layer.GetGeometryColumn(), *OWN_NAMES.get(driver.ShortName, ()))
     names = apart([with_room(column.name, driver) for column in table.columns], taken)
@@ -266,6 +273,7 @@ class Output:
         told, sys.unraisablehook = sys.unraisablehook, lambda _: None
         self.made = self.dataset = None
         sys.unraisablehook = told
+        look()
 
     def check(self, system: osr.SpatialReference | None, table: Table, written: Written) -> None:
         """Reads back what a layer of the closed file has."""

@@ -1,12 +1,20 @@
 """Signals that end a command. They are raised as an exception, so that what was begun is tidied
-away."""
+away.
+
+Python drops an exception that is raised while an object is let go. So a signal is kept, too, and
+whoever does a part of a long work looks whether one came.
+"""
 
 from __future__ import annotations
 
 import signal
+import sys
 from contextlib import contextmanager
 from types import FrameType
-from typing import Iterator
+from typing import TYPE_CHECKING, Iterator
+
+if TYPE_CHECKING:
+    from sys import UnraisableHookArgs
 
 SIGNALS = (signal.SIGINT, signal.SIGTERM, signal.SIGHUP)
 
@@ -16,53 +24,66 @@ class Stopped(BaseException):
 
 
 _ours = False  # whether signals are this command's; another program that calls it keeps its own
-# the signals that came where none may be raised; nothing where one may
-_waiting: list[int] | None = None
+_came: int | None = None  # the first signal that asked the command to end
+_held = False  # whether a signal that comes now is raised later
 
 
 def stop(number: int, _: FrameType | None) -> None:
-    if _waiting is not None:
-        _waiting.append(number)
-        return
-    go_on()  # a second signal would disturb the tidying
-    raise Stopped("Ctrl-C" if number == signal.SIGINT else signal.Signals(number).name)
+    """Keeps the first signal, and raises it; a second one would disturb the tidying."""
+    global _came
+    if _came is None:
+        _came = number
+        if not _held:
+            look()
+
+
+def look() -> None:
+    """Raises `Stopped` if a signal came that asks the command to end."""
+    if _came is not None:
+        raise Stopped("Ctrl-C" if _came == signal.SIGINT else signal.Signals(_came).name)
 
 
 @contextmanager
 def unbroken() -> Iterator[None]:
     """A signal that comes within is raised at the end, so that what is begun here can be known to
     whoever tidies it away."""
-    global _waiting
-    if not _ours:
-        yield
-        return
-    _waiting = []
+    global _held
+    _held = True
     try:
         yield
     finally:
-        came, _waiting = _waiting, None
-    if came:
-        stop(came[0], None)
+        _held = False
+    look()
 
 
 def go_on() -> None:
-    """From here on no signal of these stops the command."""
+    """From here on no signal of these stops the command; one that came before does."""
     for number in SIGNALS if _ours else ():
         signal.signal(number, signal.SIG_IGN)
+    look()
+
+
+def unraised(told: UnraisableHookArgs) -> None:
+    """Says nothing of a signal that was raised where Python drops exceptions: it is kept."""
+    if told.exc_type is not Stopped:
+        sys.__unraisablehook__(told)
 
 
 @contextmanager
 def stoppable() -> Iterator[None]:
     """The signals raise `Stopped`, but for those that were ignored already, as by nohup."""
-    global _ours
+    global _ours, _came
     held = {number: signal.getsignal(number) for number in SIGNALS}
-    _ours = True
+    hook, sys.unraisablehook = sys.unraisablehook, unraised
+    _ours, _came = True, None
     try:
         for number, handler in held.items():
             if handler is not signal.SIG_IGN:
                 signal.signal(number, stop)
         yield
+        look()
     finally:
-        _ours = False
+        _ours, _came = False, None
+        sys.unraisablehook = hook
         for number, handler in held.items():
             signal.signal(number, handler)

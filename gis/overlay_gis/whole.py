@@ -9,10 +9,10 @@ from contextlib import AbstractContextManager, ExitStack, contextmanager, suppre
 from dataclasses import dataclass
 from pathlib import Path
 from stat import S_ISREG
-from tempfile import TemporaryDirectory
 from typing import Iterable, Iterator, TypeVar
 
 from .faults import Fault, Refusal
+from .scratch import scratch
 from .stopping import go_on
 
 # What the file of that ending may have beside it: parts of its format, and what readers would take
@@ -130,10 +130,9 @@ class Drafts:
     def folder(self, target: Target) -> Path:
         """A folder for everything that an output consists of."""
         try:
-            made = TemporaryDirectory(prefix=".overlay-gis-", suffix=".partial", dir=target.path.parent)
+            folder = self.folders.enter_context(scratch(target.path.parent))
         except OSError as error:
             raise Fault(target.name, f"can't be written beside: {error.strerror}") from error
-        folder = Path(self.folders.enter_context(made))
         self.made.append((folder, target))
         return folder
 
@@ -152,7 +151,7 @@ def drafts() -> Iterator[Drafts]:
     """Outputs that are put in place at the end, all of them or none.
 
     Until then what is there is as it was. The folders go whatever happens, but for a kill that no
-    program hears of: that leaves them, hidden and with `partial` in their names.
+    program hears of: that leaves them to the next run.
     """
     with ExitStack() as folders, ExitStack() as last:
         held = Drafts(folders, last, [], [])

@@ -17,6 +17,7 @@ from typing import Any, Iterator, Mapping, NamedTuple, Sequence
 from . import __version__
 from .faults import Fault, Refusal
 from .messages import PAUSE, bar
+from .stopping import look
 from .strip_library import strips
 from .strip_plan import Work
 from .strip_tasks import DONE, REFUSED, SPOILED, Outcome, Step, carried_out, folder_of, needs, steps
@@ -229,6 +230,7 @@ class Crew:
         waiting = len(futures)
         try:
             while waiting:
+                look()
                 tell(left, totals)
                 found = []
                 for future in drained(ended):
