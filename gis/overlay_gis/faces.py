@@ -7,7 +7,7 @@ from argparse import ArgumentParser, Namespace
 from functools import partial
 from itertools import chain
 from pathlib import Path
-from typing import Sequence
+from typing import NamedTuple, Sequence
 
 from . import by_values, options, pairs, row_tables
 from .common_grid import CommonGrid, brought_together
@@ -81,8 +81,8 @@ def add_pairs(parser: ArgumentParser) -> None:
         help=(
             "a table, as pairs.csv, of all pairs of a feature of the first layer and one of the"
             " second that have points in common, with twice the common area in grid units, the"
-            " area, and its shares of both features; where TABLE is OUT, its table pairs, or NAME_pairs"
-            " beside --layer NAME"
+            " area, its shares of both features, and the fields that --keep and --by name; where TABLE"
+            " is OUT, its table pairs, or NAME_pairs beside --layer NAME"
         ),
     )
 
@@ -132,19 +132,27 @@ def same_place(arguments: Namespace) -> bool:
     return bool(arguments.pairs) and os.path.realpath(arguments.pairs) == os.path.realpath(arguments.out)
 
 
-def rows_asked(together: CommonGrid, keep: Sequence[list[str]], by: Sequence[list[str]]) -> tuple[Rows, Rows, list[Kept]]:
-    """The rows of features; those that are asked for, by values where fields are named; and what is
-    kept of each layer."""
+class Found(NamedTuple):
+    """The rows of features with the fields that are named of each layer, and the rows that are asked
+    for, by values where `--by` names fields, with what is kept of each layer."""
+
+    of_features: Rows
+    fields: list[Kept]
+    rows: Rows
+    kept: list[Kept]
+
+
+def rows_asked(together: CommonGrid, keep: Sequence[list[str]], by: Sequence[list[str]]) -> Found:
     question = together.questions.ask(FACES, together.layers)
     held = [kept(*of_one) for of_one in zip(together.layers, NAMES, keep)]
     values = [kept(layer, name, fields) if fields else None for layer, name, fields in zip(together.layers, NAMES, by)]
     for layer, *of_layer in zip(together.layers, held, values):
         for taken in filter(None, of_layer):
             check_texts(layer, taken.fields, taken.values)
-    rows = question.rows()
+    rows, fields = question.rows(), [of_layer or layer for of_layer, layer in zip(values, held)]
     if not any(values):
-        return rows, rows, held
-    return rows, *by_values.united(rows, held, values)
+        return Found(rows, fields, rows, held)
+    return Found(rows, fields, *by_values.united(rows, held, values))
 
 
 def main(arguments: Namespace) -> int:
@@ -157,11 +165,11 @@ def main(arguments: Namespace) -> int:
     for source, *names in zip(sources, keep, by):
         check_fields(source, list(chain.from_iterable(names)))
     with brought_together(sources, arguments.grid, arguments.origin, arguments.system, options.segments(arguments)) as together:
-        rows, wanted, held = rows_asked(together, keep, by)
-        tables = [row_tables.table_of(wanted, held, together.frame, arguments.parts)]
+        found = rows_asked(together, keep, by)
+        tables = [row_tables.table_of(found.rows, found.kept, together.frame, arguments.parts)]
         if arguments.pairs:
             first, second = (layer.grid.layer.ids for layer in together.layers)
-            tables.append(pairs.table_of(rows, (first, second), together.frame))
+            tables.append(pairs.table_of(found.of_features, (first, second), found.fields, together.frame))
         with drafts() as outputs:
             counts = place.draft(outputs, together.system, *tables)
             if apart:

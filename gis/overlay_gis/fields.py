@@ -46,13 +46,15 @@ class Kept:
         """Whether all values are numbers and texts."""
         return all(map(is_plain, chain.from_iterable(self.values)))
 
+    def typed(self) -> list[Column]:
+        """The fields that are kept, as the layer has them."""
+        return [column_of(field, held, f"{self.name}_") for field, held in zip(self.fields, by_fields(self.fields, self.values))]
+
     def columns(self) -> list[Column]:
-        """The fields that are kept; they are texts where several features of the layer cover one
-        row."""
-        mark = f"{self.name}_"
+        """The same for rows; they are texts where several features of the layer cover one row."""
         if self.several:
-            return [Column(mark + field.GetName(), ogr.OFTString) for field in self.fields]
-        return [column_of(field, held, mark) for field, held in zip(self.fields, by_fields(self.fields, self.values))]
+            return [Column(f"{self.name}_{field.GetName()}", ogr.OFTString) for field in self.fields]
+        return self.typed()
 
     def numbers(self, held: Members) -> list[str | None]:
         """For each row the features' numbers as text, if it has any."""

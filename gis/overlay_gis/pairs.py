@@ -3,13 +3,14 @@
 from __future__ import annotations
 
 from dataclasses import dataclass
-from itertools import pairwise
-from typing import Iterator
+from itertools import pairwise, repeat
+from typing import Iterator, Sequence
 
 import numpy as np
 from osgeo import ogr
 
 from .columns import Numbers, offsets
+from .fields import Kept
 from .frame import Frame
 from .geopackage import Row
 from .output import NO_BOXES, Column, Table
@@ -72,18 +73,23 @@ def summed(keys: Numbers, twice: Numbers) -> tuple[Numbers, Numbers]:
     return ordered[firsts], np.add.reduceat(twice[order], firsts)
 
 
-def table_of(rows: Rows, ids: tuple[Numbers, Numbers], frame: Frame) -> Table:
-    """The table of pairs of two layers, whose features have these numbers."""
-    return Table(COLUMNS, lines(rows, ids, frame), ogr.wkbNone, NO_BOXES)
+def table_of(rows: Rows, ids: tuple[Numbers, Numbers], held: Sequence[Kept], frame: Frame) -> Table:
+    """The table of pairs of two layers, whose features have these numbers. A pair has one feature of
+    either layer, so the fields that are kept have the layers' types."""
+    columns = [*COLUMNS, *(column for layer in held for column in layer.typed())]
+    boxes = NO_BOXES if all(layer.is_plain() for layer in held) else None
+    return Table(columns, lines(rows, ids, held, frame), ogr.wkbNone, boxes)
 
 
-def lines(rows: Rows, ids: tuple[Numbers, Numbers], frame: Frame) -> Iterator[Row]:
+def lines(rows: Rows, ids: tuple[Numbers, Numbers], held: Sequence[Kept], frame: Frame) -> Iterator[Row]:
     pairs = pairs_in(rows)
     places = (pairs.first, pairs.second)
     wholes = [rows.areas_of(k, len(numbers))[at] for k, (numbers, at) in enumerate(zip(ids, places))]
     numbers = [known[at].tolist() for known, at in zip(ids, places)]
-    for a, b, twice, of_a, of_b in zip(*numbers, pairs.twice.tolist(), *(whole.tolist() for whole in wholes)):
-        yield None, (a, b, twice, frame.area(twice), share(twice, of_a), share(twice, of_b))
+    kept = [[layer.values[k] for k in at.tolist()] if layer.fields else repeat(()) for layer, at in zip(held, places)]
+    areas = (pairs.twice.tolist(), *(whole.tolist() for whole in wholes))
+    for a, b, twice, of_a, of_b, values_a, values_b in zip(*numbers, *areas, *kept):
+        yield None, (a, b, twice, frame.area(twice), share(twice, of_a), share(twice, of_b), *values_a, *values_b)
 
 
 def share(part: int, whole: int) -> float:

@@ -128,3 +128,46 @@ def test_rows_and_pairs_are_there_together_or_not_at_all(gis, tmp_path, monkeypa
     assert not list(tmp_path.glob(".*"))
     assert gis("faces", a, b, "-o", "out.gpkg", "--pairs", "pairs.csv", "--overwrite").status == 0
     assert len(read("out.gpkg")) and (tmp_path / "pairs.csv").read_text().startswith("a,b,")
+
+
+def with_fields(path, shapes, rows):
+    """A layer with the fields number, a whole one, and note, a text."""
+    write(path, shapes)
+    dataset = ogr.Open(str(path), 1)
+    layer = dataset.GetLayer(0)
+    layer.CreateField(ogr.FieldDefn("number", ogr.OFTInteger64))
+    layer.CreateField(ogr.FieldDefn("note", ogr.OFTString))
+    for fid, values in enumerate(rows, 1):
+        feature = layer.GetFeature(fid)
+        for name, value in zip(("number", "note"), values):
+            if value is not None:
+                feature.SetField(name, value)
+        layer.SetFeature(feature)
+    return path
+
+
+@pytest.mark.parametrize("overlaps", [False, True])
+def test_fields_of_pairs_have_the_types_of_their_layers(gis, tmp_path, overlaps):
+    """Whether features of one layer overlap or not: a pair has one of either."""
+    at = lambda x, w: box(EAST + x, NORTH, EAST + x + w, NORTH + 10)  # noqa: E731
+    a = with_fields(tmp_path / "a.gpkg", [at(0, 10), at(5 if overlaps else 10, 10)], [(7, "x,y"), (None, None)])
+    b = with_fields(tmp_path / "b.gpkg", [at(0, 20)], [(9, "z")])
+    words = ("faces", a, b, "-o", "out.gpkg", "--keep-a", "number,note", "--keep-b", "number", "--pairs", "out.gpkg", "--grid", "1")
+    assert gis(*words).status == 0
+    dataset = gdal.OpenEx("out.gpkg")
+    definition = dataset.GetLayerByName("pairs").GetLayerDefn()
+    fields = {definition.GetFieldDefn(k).GetName(): definition.GetFieldDefn(k).GetTypeName() for k in range(6, 9)}
+    assert fields == {"a_number": "Integer64", "a_note": "String", "b_number": "Integer64"}
+    assert [row[6:] for row in table("out.gpkg", "pairs")] == [(7, "x,y", 9), (None, None, 9)]
+
+
+def test_pairs_have_the_fields_by_which_rows_are_united(gis, tmp_path):
+    at = lambda x, w: box(EAST + x, NORTH, EAST + x + w, NORTH + 10)  # noqa: E731
+    a = with_fields(tmp_path / "a.gpkg", [at(0, 10), at(10, 10)], [(7, "x"), (8, "x")])
+    b = with_fields(tmp_path / "b.gpkg", [at(0, 20)], [(9, "z")])
+    assert gis("faces", a, b, "-o", "out.gpkg", "--by", "a:note", "--pairs", "pairs.csv", "--grid", "1").status == 0
+    with open("pairs.csv", newline="", encoding="utf-8") as file:
+        head, *lines = csv.reader(file)
+    assert head == ["a", "b", "twice_area", "area", "share_a", "share_b", "a_note"]
+    assert lines == [["1", "1", "200", "100", "1", "0.5", "x"], ["2", "1", "200", "100", "1", "0.5", "x"]]
+    assert [fields["area"] for _, fields in read("out.gpkg")] == [200.0]
