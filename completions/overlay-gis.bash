@@ -15,7 +15,7 @@ _overlay_gis() {
     [[ " $operations " == *" ${COMP_WORDS[k]} "* ]] && operations=
   done
   case $verb in
-    run) options="$out --dissolve --keep-a --keep-b $grid $most --engine --scheduler --dir --memory --workers" ;;
+    run) options="$out --parity --keep-a --keep-b $grid $most --engine --scheduler --dir --memory --workers" ;;
     faces) options="$out --parts --keep-a --keep-b --keep --by --pairs $grid $most" ;;
     dissolve) options="$out --by --parts $grid $most" ;;
     check) options="$out --gap-width --gap-area --sliver-width $grid $most" ;;

@@ -3,7 +3,7 @@
 The maps are those of `peers`, a town's parcels and zones: `raw` with the usual dirt, `valid` the same with each feature made valid.
 
   dissolve  what some parcel covers                     overlay-gis dissolve
-  common    what some parcel and some zone both cover   overlay-gis run intersection --dissolve
+  common    what some parcel and some zone both cover   overlay-gis run intersection
   faces     which parcel lies on which zone             overlay-gis faces, beside an intersection pair by pair
   check     which parcels overlap                       overlay-gis check, beside an intersection of neighbours, made valid
   run       what an odd number of parcels and of zones  overlay-gis run intersection, beside the program on the layers' texts and a
@@ -116,7 +116,7 @@ def own_area(job: str, path: str) -> float:
 def by_overlay(job: str, place: Map, arguments: argparse.Namespace) -> Done:
     a, b, out = (place.path(name) for name in ("a", "b", "out"))
     common = ["run", "intersection", a, b]
-    asked = {"dissolve": ["dissolve", a], "common": [*common, "--dissolve"], "run": common, "faces": ["faces", a, b], "check": ["check", a]}
+    asked = {"dissolve": ["dissolve", a], "common": common, "run": [*common, "--parity"], "faces": ["faces", a, b], "check": ["check", a]}
     environment = {**os.environ, "OVERLAY": os.path.abspath(arguments.program), "PYTHONPYCACHEPREFIX": place.compiled()}
     environment.pop("PYTHONDONTWRITEBYTECODE", None)
     words = [GIS, *asked[job], "-o", out, *ON_GRID, "--segments", "4000000"]

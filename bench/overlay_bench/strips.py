@@ -105,7 +105,7 @@ def polygons_in(file: str) -> int:
 def run(arguments: argparse.Namespace, operation: str, files: list[str], output: str, *words: str) -> tuple[Taken, str]:
     """A run of overlay-gis on the grid of whole coordinates, and what it tells."""
     told = output + ".told"
-    asked = [GIS, "run", operation, *files, "-o", output, "--overwrite", "--grid", "1", "--origin", "0,0", *words]
+    asked = [GIS, "run", operation, *files, "-o", output, "--overwrite", "--parity", "--grid", "1", "--origin", "0,0", *words]
     found = taken(asked, os.devnull, arguments.seconds, told)
     with open(told, encoding="utf-8") as text:
         return found, text.read()

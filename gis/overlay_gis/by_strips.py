@@ -10,7 +10,7 @@ from contextlib import contextmanager
 from dataclasses import dataclass
 from functools import reduce
 from pathlib import Path
-from tempfile import TemporaryDirectory, TemporaryFile, gettempdir
+from tempfile import TemporaryFile, gettempdir
 from typing import Any, Iterator, Mapping, Sequence
 
 import numpy as np
@@ -30,6 +30,7 @@ from .messages import during, say, warn
 from .output import NO_BOXES, POLYGONS, Table
 from .ranges import input_of, ranges
 from .rings import Moves
+from .scratch import scratch
 from .sections import Spoiled
 from .strip_measures import longest
 from .strip_plan import BASE, EDGE, LINE, PART, Part, Plan, Reading, Strips, Work, chosen, grid_of, most_lines
@@ -72,6 +73,8 @@ class Wanted:
 
 def wanted(arguments: Namespace, sources: Sequence[Source]) -> Wanted:
     """What the arguments of `run` ask for."""
+    if not arguments.parity:
+        raise Refusal("--engine dask", "reads layers by parity alone, and goes with --parity")
     options.refuse_beside(arguments, ("dissolve", "keep_a", "keep_b", "segments"), "isn't there for --engine dask")
     if arguments.scheduler and not arguments.dir:
         raise Refusal("--scheduler", "goes with --dir, which names a folder that all its workers see")
@@ -97,8 +100,8 @@ def folder_for(asked: Wanted, reading: Reading) -> Iterator[str]:
     """A folder for the files of this run: one of its own in the folder that was named, which stays if
     the run doesn't end well, so that the next one goes on from there; or one beside the output."""
     if asked.folder is None:
-        with TemporaryDirectory(prefix=".overlay-gis-", suffix=".partial", dir=asked.beside) as made:
-            yield made
+        with scratch(Path(asked.beside)) as made:
+            yield str(made)
         return
     folder = os.path.join(os.path.abspath(asked.folder), f"overlay-gis-{reading.number[:16]}")
     os.makedirs(folder, exist_ok=True)

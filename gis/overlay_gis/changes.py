@@ -54,7 +54,7 @@ def warn_of_parity(frame: Frame, system: osr.SpatialReference | None, name: str,
         (
             f"its polygons have {frame.area(before):,.10g} {square} in sum, and"
             f" {frame.area(after):,.10g} by parity, which is how they are read: polygons overlap or"
-            " cross themselves (overlay-gis check finds them, --dissolve unites them)"
+            " cross themselves (overlay-gis check finds them; without --parity they are united)"
         ),
     )
 

@@ -4,7 +4,7 @@ from __future__ import annotations
 
 import csv
 import re
-from argparse import ArgumentParser, ArgumentTypeError, Namespace
+from argparse import SUPPRESS, ArgumentParser, ArgumentTypeError, Namespace
 from dataclasses import replace
 from typing import NamedTuple, Sequence
 
@@ -152,7 +152,7 @@ def add_engine(parser: ArgumentParser) -> None:
         choices=[ENGINE],
         help=(
             "for maps that no process can hold: by strips of the map, of which workers of Dask do many at"
-            " once; of two layers of GeoPackages, read by parity"
+            " once; of two layers of GeoPackages, with --parity"
         ),
     )
     parser.add_argument(
@@ -193,6 +193,20 @@ def add_dissolve(parser: ArgumentParser) -> None:
             " overlaps don't cancel"
         ),
     )
+
+
+def add_reading(parser: ArgumentParser) -> None:
+    """How a layer is read; `--dissolve` asks for what is usual, as it did before it was."""
+    reading = parser.add_mutually_exclusive_group()
+    reading.add_argument(
+        "--parity",
+        action="store_true",
+        help=(
+            "takes a point to lie in a layer where an odd number of its features cover it, so that"
+            " where two overlap is outside (default: where one of them at least covers it)"
+        ),
+    )
+    reading.add_argument("--dissolve", action="store_true", help=SUPPRESS)
 
 
 def add_parts(parser: ArgumentParser) -> None:

@@ -39,7 +39,7 @@ def add_arguments(parser: ArgumentParser) -> None:
     options.add_output(
         parser, "the file for the result; its ending names its format, as .gpkg, .shp, .geojson"
     )
-    options.add_dissolve(parser)
+    options.add_reading(parser)
     options.add_keep(
         parser,
         "; with it, or with --keep-b, the result is the rows of faces that the operation has",
@@ -56,14 +56,9 @@ def table_of(result: Columns[Numbers], frame: Frame) -> Table:
     return Table(POLYGONS, rows, ogr.wkbPolygon, frame.boxes(result), frame=frame)
 
 
-def answer(both: CommonGrid, operation: str, covered: bool) -> Columns[Numbers]:
-    """What the program answers, and what became of each layer is told; `covered`: each layer is
-    read as all that its features cover."""
-    return dissolved(both, operation) if covered else by_parity(both, operation)
-
-
 def by_parity(both: CommonGrid, operation: str) -> Columns[Numbers]:
-    """The same of layers that are read by parity."""
+    """What the program answers of layers that are read by parity; and reports what became of each
+    layer."""
     result, measures = both.questions.ask(operation, both.layers, program.AREAS).measured()
     for layer, told in zip(both.layers, measures):
         if layer.grid.polygons:
@@ -71,8 +66,9 @@ def by_parity(both: CommonGrid, operation: str) -> Columns[Numbers]:
     return result
 
 
-def dissolved(both: CommonGrid, operation: str) -> Columns[Numbers]:
-    """The same of layers that are read as all that their features cover."""
+def by_cover(both: CommonGrid, operation: str) -> Columns[Numbers]:
+    """What the program answers of layers that are read as all that their features cover; and reports
+    what became of each layer."""
     alone = [(layer, both.questions.ask("union", [layer], program.COVERED)) for layer in both.layers if layer.grid.polygons]
     asked = both.questions.ask(operation, both.layers, program.COVERED)
     for layer, union in alone:
@@ -106,6 +102,8 @@ def main(arguments: Namespace) -> int:
         count = by_strips.answer(by_strips.wanted(arguments, sources), place)
         say(f"{arguments.out}: {count:,} polygons")
         return 0
+    if arguments.parity:
+        options.refuse_beside(arguments, ("keep_a", "keep_b"), "takes features as they cover, and not by parity")
     asked = (arguments.keep_a, arguments.keep_b)
     for source, names in zip(sources, asked):
         check_fields(source, names)
@@ -113,8 +111,8 @@ def main(arguments: Namespace) -> int:
         if any(asked):
             table = with_fields(both, arguments.operation, asked)
         else:
-            result = answer(both, arguments.operation, arguments.dissolve)
-            table = table_of(result, both.frame)
+            answer = by_parity if arguments.parity else by_cover
+            table = table_of(answer(both, arguments.operation), both.frame)
         (count,) = place.write(both.system, table)
     say(f"{arguments.out}: {count:,} {'rows' if any(asked) else 'polygons'}")
     return 0

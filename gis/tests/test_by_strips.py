@@ -180,8 +180,8 @@ def told(answer):
 
 def both(gis, tmp_path, operation, a, b, *words):
     """The answers of the single program and by strips, which are the same."""
-    single = gis("run", operation, a, b, "-o", "one.gpkg", "--overwrite", *words)
-    parted = gis("run", operation, a, b, "-o", "many.gpkg", "--overwrite", "--engine", "dask", *words)
+    single = gis("run", operation, a, b, "-o", "one.gpkg", "--overwrite", "--parity", *words)
+    parted = gis("run", operation, a, b, "-o", "many.gpkg", "--overwrite", "--parity", "--engine", "dask", *words)
     assert single.status == parted.status == 0, (single.err, parted.err)
     assert rows("one.gpkg") == rows("many.gpkg")
     assert [line.replace("many.gpkg", "one.gpkg") for line in told(parted)] == told(single)
@@ -310,7 +310,7 @@ def test_memory_does_not_grow_with_the_answer(gis, tmp_path, in_turn, monkeypatc
         for phase in ("reach", "close", "join", "write"):
             monkeypatch.setitem(strip_tasks.PHASES, phase, measured(held, phase, phases[phase]))
         monkeypatch.setattr(destination.Destination, "write", measured(held, "run", write_all))
-        answer = gis("run", "union", a, b, "-o", "many.gpkg", "--overwrite", "--engine", "dask", "--grid", "1")
+        answer = gis("run", "union", a, b, "-o", "many.gpkg", "--overwrite", "--parity", "--engine", "dask", "--grid", "1")
         assert answer.status == 0 and f"{50 * columns:,} polygons" in answer.err, answer.err
         for path in (a, b):
             os.remove(path)
@@ -522,7 +522,7 @@ def town(tmp_path):
 
 
 def run(gis, town, *words):
-    return gis("run", "union", *town, "-o", "out.gpkg", "--overwrite", "--engine", "dask", *words)
+    return gis("run", "union", *town, "-o", "out.gpkg", "--overwrite", "--parity", "--engine", "dask", *words)
 
 
 def files_of(folder):
@@ -633,7 +633,7 @@ def test_a_run_goes_on_where_it_was_stopped(gis, town, in_turn, monkeypatch, pha
 def test_another_operation_has_files_of_its_own(gis, town, in_turn, kept):
     in_turn(20, 700)
     for operation in OPERATIONS:
-        words = ("run", operation, *town, "--overwrite", "-o")
+        words = ("run", operation, *town, "--overwrite", "--parity", "-o")
         assert gis(*words, "one.gpkg").status == gis(*words, "many.gpkg", "--engine", "dask", "--dir", "files").status == 0
         assert rows("one.gpkg") == rows("many.gpkg")
     assert len(list(Path("files").iterdir())) == 4
@@ -671,11 +671,11 @@ def test_a_full_disk_is_told(gis, town, in_turn, monkeypatch):
 
 
 REFUSED = [
-    (["--engine", "dask", "--dissolve"], "--dissolve: isn't there for --engine dask"),
-    (["--engine", "dask", "--keep-a", "x", "--segments", "9"], "--keep-a and --segments: isn't there for --engine dask"),
+    (["--engine", "dask"], "--engine dask: reads layers by parity alone, and goes with --parity"),
+    (["--parity", "--engine", "dask", "--keep-a", "x", "--segments", "9"], "--keep-a and --segments: isn't there for --engine dask"),
     (["--dir", "x", "--memory", "2GB"], "--dir and --memory: goes with --engine dask"),
-    (["--engine", "dask", "--scheduler", "tcp://localhost:1"], "--scheduler: goes with --dir, which names a folder that all its workers see"),
-    (["--engine", "dask", "--scheduler", "tcp://localhost:1", "--dir", "x", "--workers", "2"], "--workers: is for workers of this machine, and not beside --scheduler"),
+    (["--parity", "--engine", "dask", "--scheduler", "tcp://localhost:1"], "--scheduler: goes with --dir, which names a folder that all its workers see"),
+    (["--parity", "--engine", "dask", "--scheduler", "tcp://localhost:1", "--dir", "x", "--workers", "2"], "--workers: is for workers of this machine, and not beside --scheduler"),
 ]
 
 
@@ -720,7 +720,7 @@ def test_layers_are_refused_as_ever(gis, tmp_path, in_turn):
     strange = [[geometry([square(EAST, NORTH, 1)]), line, line], [geometry([[(EAST, NORTH), (float("nan"), 1), (EAST, 3)]])]]
     far = [geometry([[(0, 0), (1e9, 0), (1e9, 1e9)]])]
     for shapes, more in ((strange[0], ()), (strange[1], ()), (far, ()), (far, ("--grid", "0.001"))):
-        words = ("run", "union", write(tmp_path / "a.gpkg", shapes), b, "-o", "out.gpkg", *more)
+        words = ("run", "union", write(tmp_path / "a.gpkg", shapes), b, "-o", "out.gpkg", "--parity", *more)
         single, parted = gis(*words), gis(*words, "--engine", "dask")
         assert single.status == parted.status == 3 and single.err == parted.err
         os.remove(tmp_path / "a.gpkg")

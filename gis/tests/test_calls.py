@@ -67,7 +67,7 @@ def test_a_call_is_cancelled_while_the_program_works(layers, begun, pretend):
     def call():
         try:
             return calls.call(
-                ["run", "union", a, b, "-o", "out.gpkg", "--dissolve"],
+                ["run", "union", a, b, "-o", "out.gpkg"],
                 progress=lambda work, share: len(numbers_in(begun)) < 3,
             )
         except calls.Cancelled:

@@ -61,7 +61,7 @@ def test_two_bends_may_change_nearly_as_much_as_is_reckoned(gis, tmp_path):
     ]
     first, second, bent = ([translate(Polygon(ring), EAST, NORTH) for ring in layer] for layer in layers)
     a, b = write(tmp_path / "a.gpkg", first), write(tmp_path / "b.gpkg", second)
-    answer = gis("run", "difference", a, b, "-o", "out.gpkg", "--grid", "1", "--origin", f"{EAST},{NORTH}")
+    answer = gis("run", "difference", a, b, "-o", "out.gpkg", "--parity", "--grid", "1", "--origin", f"{EAST},{NORTH}")
     before, after = first[0].area, bent[0].area
     assert f"a.gpkg: 0 of 3 vertices moved; area {before:,g} m² before, and {after:,.10g} after\n" in answer.err
     assert "warning" not in answer.err and 0.6 * hypot(159, 142) < after - before < 0.71 * hypot(159, 142)
@@ -73,7 +73,7 @@ def test_an_overlap_is_told_though_the_other_layer_bends_much(gis, tmp_path):
     clean = write(tmp_path / "clean.gpkg", parcels(5, 7))
     shapes = [translate(shape, k * 0.7, k * 0.9) for shape in blobs(6, 7) for k in range(9)]
     b = write(tmp_path / "b.gpkg", shapes)
-    answer = gis("run", "intersection", a, b, "-o", "out.gpkg", "--grid", "0.001")
+    answer = gis("run", "intersection", a, b, "-o", "out.gpkg", "--parity", "--grid", "0.001")
     assert answer.status == 0 and "a.gpkg: warning: its polygons have " in answer.err
-    answer = gis("run", "intersection", clean, b, "-o", "out.gpkg", "--grid", "0.001", "--overwrite")
+    answer = gis("run", "intersection", clean, b, "-o", "out.gpkg", "--parity", "--grid", "0.001", "--overwrite")
     assert answer.status == 0 and "clean.gpkg: warning" not in answer.err

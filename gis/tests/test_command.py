@@ -1,5 +1,6 @@
 """The command itself: help, versions, statuses, and the pages and completions beside it."""
 
+import argparse
 import os
 import pty
 import re
@@ -22,7 +23,8 @@ PAGE = (TOP / "docs" / "overlay.1").read_text().replace("\\-", "-")
 def options_of(verb):
     told = cli.parser()._subparsers._group_actions[0].choices[verb]
     told.learn(cli.verb_of(verb))
-    return {word for action in told._actions for word in action.option_strings if word.startswith("--")}
+    offered = (action for action in told._actions if action.help != argparse.SUPPRESS)
+    return {word for action in offered for word in action.option_strings if word.startswith("--")}
 
 
 @pytest.mark.parametrize("verb", cli.VERBS)
@@ -204,8 +206,8 @@ def test_bash_offers_words_where_they_stand():
     """The program takes `faces` before all other words alone, and overlay-gis an operation behind options."""
     assert completed("overlay", "--tile", "16", "") == OPERATIONS | {"edges"}
     assert completed("overlay", "faces", "") == completed("overlay", "--report", "union", "") == set()
-    assert completed("overlay-gis", "run", "--dissolve", "") == completed("overlay-gis", "run", "-o", "x.gpkg", "") == OPERATIONS
-    for words in (["-o", ""], ["--out", "=", "u"], ["union", ""], ["--dissolve", "union", "u"]):
+    assert completed("overlay-gis", "run", "--parity", "") == completed("overlay-gis", "run", "-o", "x.gpkg", "") == OPERATIONS
+    for words in (["-o", ""], ["--out", "=", "u"], ["union", ""], ["--parity", "union", "u"]):
         assert completed("overlay-gis", "run", *words) == set()
 
 
@@ -288,7 +290,7 @@ def test_a_package_that_is_not_there_is_told(tmp_path, program):
     """Shapely is asked for by the verb alone that needs it."""
     a = write(tmp_path / "a.gpkg", [box(EAST, NORTH, EAST + 2, NORTH + 2)])
     (tmp_path / "shapely.py").write_text("raise ModuleNotFoundError('none', name='shapely')\n")
-    runs = (["run", "union", a, a, "-o", "out.gpkg"], ["run", "union", a, a, "-o", "all.gpkg", "--dissolve"], ["faces", a, a, "-o", "f.gpkg"])
+    runs = (["run", "union", a, a, "-o", "out.gpkg"], ["run", "union", a, a, "-o", "all.gpkg", "--parity"], ["faces", a, a, "-o", "f.gpkg"])
     for words, status in (*((words, 0) for words in runs), (["check", a], 1)):
         done = subprocess.run(
             [sys.executable, COMMAND, *words],

@@ -51,7 +51,7 @@ def of_workers(tmp_path, monkeypatch):
 
 
 def words(town, out, *more):
-    return ["run", "symdifference", *town, "-o", out, "--overwrite", *more]
+    return ["run", "symdifference", *town, "-o", out, "--overwrite", "--parity", *more]
 
 
 def begun(folder, phase):

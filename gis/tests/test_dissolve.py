@@ -104,7 +104,7 @@ def test_one_value_is_what_the_program_unites(gis, tmp_path, digits, unit):
     ((by_value, _),) = dissolved(gis, a, "--by", "all", "--grid", unit)
     ((by_program, _),) = dissolved(gis, a, "--grid", unit)
     assert by_value.wkb == by_program.wkb
-    assert gis("run", "union", a, b, "-o", "union.gpkg", "--dissolve", "--grid", unit).status == 0
+    assert gis("run", "union", a, b, "-o", "union.gpkg", "--grid", unit).status == 0
     assert [part.wkb for part in by_value.geoms] == [shape.wkb for shape, _ in read("union.gpkg")]
 
 

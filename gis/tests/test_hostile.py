@@ -38,7 +38,7 @@ def spoiled(path, value, at):
 
 VERBS = [
     ("run", "union", "x.geojson", "b.geojson"),
-    ("run", "union", "x.geojson", "b.geojson", "--dissolve"),
+    ("run", "union", "x.geojson", "b.geojson", "--parity"),
     ("faces", "x.geojson", "b.geojson"),
     ("dissolve", "x.geojson"),
     ("to-grid", "x.geojson"),
@@ -376,7 +376,7 @@ def test_system_names_that_of_a_geopackage_without_one(gis, tmp_path, number):
 def test_two_layers_without_a_system_have_units(gis, tmp_path, number):
     a = without_a_system(write(tmp_path / "a.gpkg", [SQUARE]), number)
     answer = gis("run", "union", a, a, "-o", "out.gpkg")
-    assert answer.status == 0 and "grid 0.001 units" in answer.err and "area 100 square units before" in answer.err
+    assert answer.status == 0 and "grid 0.001 units" in answer.err and "area 100 square units in sum" in answer.err
 
 
 @pytest.mark.parametrize("words", [("run", "union"), ("faces",)], ids=lambda words: words[0])

@@ -65,7 +65,7 @@ def test_rows_cover_what_the_operation_does(gis, tmp_path, operation):
     a = write(tmp_path / "a.gpkg", first, fields={"n": list(range(len(first)))})
     b = write(tmp_path / "b.gpkg", second, fields={"n": list(range(len(second)))})
     assert gis("run", operation, a, b, "-o", "rows.gpkg", "--keep-a", "n", "--keep-b", "n").status == 0
-    assert gis("run", operation, a, b, "-o", "all.gpkg", "--dissolve").status == 0
+    assert gis("run", operation, a, b, "-o", "all.gpkg").status == 0
     rows, whole = read("rows.gpkg"), unary_union([shape for shape, _ in read("all.gpkg")])
     assert unary_union([shape for shape, _ in rows]).symmetric_difference(whole).area < 1e-6
     for shape, fields in rows:

@@ -220,7 +220,7 @@ def test_a_signal_ends_the_program_too(tmp_path, begun, number, name):
     program.write_text(f'#!/bin/sh\ntouch "{begun}/$$"\nexec sleep 600\n')
     program.chmod(0o755)
     environment = {**os.environ, "OVERLAY": str(program), "TMPDIR": str(temporary)}
-    said = said_when_stopped(tmp_path, ["--dissolve"], environment, number, lambda: len(numbers_in(begun)) == 3)
+    said = said_when_stopped(tmp_path, [], environment, number, lambda: len(numbers_in(begun)) == 3)
     assert said.splitlines()[-1] == f"overlay-gis: stopped by {name}: no output was written or changed"
     assert "Traceback" not in said and not list(temporary.iterdir()) and not (tmp_path / "out.gpkg").exists()
     assert not any(map(running, numbers_in(begun)))

@@ -77,7 +77,7 @@ def shapes(path):
     [
         (("run", "intersection"), ()),
         (("run", "union"), ()),
-        (("run", "union"), ("--dissolve",)),
+        (("run", "union"), ("--parity",)),
         (("faces",), ()),
         (("faces",), ("--parts",)),
     ],
@@ -107,7 +107,7 @@ def test_layers_that_are_read_as_covered(gis, package, beside, tmp_path, has_cal
     if not has_call:
         del package[0].covered_text
     a, b = write(tmp_path / "a.gpkg", OVERLAPPING[1]), write(tmp_path / "b.gpkg", [])
-    assert gis("run", "union", a, b, "-o", "out.gpkg", "--dissolve").status == 0
+    assert gis("run", "union", a, b, "-o", "out.gpkg").status == 0
     assert [fields["area"] for _, fields in read("out.gpkg")] == [150.0] and bool(package[1]) == has_call
 
 
@@ -133,9 +133,9 @@ def test_the_same_is_said_as_by_the_program(gis, package, monkeypatch, tmp_path,
     that, where it isn't apart."""
     a = write(tmp_path / "a.gpkg", shapes_of_a)
     b = write(tmp_path / "b.gpkg", [translate(shape, 0, up) for shape in blobs(6, 7)])
-    by_program = gis("run", "union", a, b, "-o", "out.gpkg", "--overwrite", "--grid", unit)
+    by_program = gis("run", "union", a, b, "-o", "out.gpkg", "--overwrite", "--parity", "--grid", unit)
     monkeypatch.delenv("OVERLAY")
-    by_package = gis("run", "union", a, b, "-o", "out.gpkg", "--overwrite", "--grid", unit)
+    by_package = gis("run", "union", a, b, "-o", "out.gpkg", "--overwrite", "--parity", "--grid", unit)
     assert package[1] == [("union", "--areas")] and by_package == by_program
     warned, overlaps = " by parity, " in by_package.err, shapes_of_a in OVERLAPPING
     assert warned == overlaps or (overlaps and (unit, up) == ("0.25", 0))
@@ -144,7 +144,7 @@ def test_the_same_is_said_as_by_the_program(gis, package, monkeypatch, tmp_path,
 def test_a_package_that_measures_nothing_leaves_it_to_the_program(gis, package, beside, tmp_path):
     a, b = write(tmp_path / "a.gpkg", OVERLAPPING[1]), write(tmp_path / "b.gpkg", [])
     del package[0].measured
-    answer = gis("run", "union", a, b, "-o", "out.gpkg")
+    answer = gis("run", "union", a, b, "-o", "out.gpkg", "--parity")
     assert "a.gpkg: warning: its polygons have 200 m² in sum, and 100 by parity, " in answer.err
     assert answer.status == 0 and not package[1]
 
@@ -157,7 +157,7 @@ def test_a_refusal_of_the_package_names_the_layer(gis, package, monkeypatch, tmp
 
     package[0].measured = refuse
     a, b = write(tmp_path / "a.gpkg", parcels(5, 3)), write(tmp_path / "b.gpkg", blobs(6, 3))
-    answer = gis("run", "union", a, b, "-o", tmp_path / "out.gpkg")
+    answer = gis("run", "union", a, b, "-o", tmp_path / "out.gpkg", "--parity")
     assert answer.status == 3
     assert "syntax at 5" in answer.err
 
@@ -184,7 +184,7 @@ def test_a_signal_does_not_wait_for_the_package(tmp_path, number, name):
     (tmp_path / "overlay_grid.py").write_text(SLOW)
     environment = {**os.environ, "PYTHONPATH": str(tmp_path)}
     del environment["OVERLAY"]
-    said = said_when_stopped(tmp_path, [], environment, number, lambda: (tmp_path / "begun").exists())
+    said = said_when_stopped(tmp_path, ["--parity"], environment, number, lambda: (tmp_path / "begun").exists())
     assert said.splitlines()[-1] == f"overlay-gis: stopped by {name}: no output was written or changed"
     assert "Traceback" not in said and not (tmp_path / "out.gpkg").exists()
 
@@ -201,7 +201,7 @@ def test_a_call_is_cancelled_while_the_package_works(package, monkeypatch, tmp_p
     package[0].measured = measured
     a, b = write(tmp_path / "a.gpkg", parcels(5, 3)), write(tmp_path / "b.gpkg", blobs(6, 3))
     with pytest.raises(calls.Cancelled):
-        calls.call(["run", "union", a, b, "-o", "out.gpkg"], progress=lambda work, share: not begun.is_set())
+        calls.call(["run", "union", a, b, "-o", "out.gpkg", "--parity"], progress=lambda work, share: not begun.is_set())
     cancelled.set()
     assert not list(tmp_path.glob("out*")) and not list(tmp_path.glob(".overlay*"))
 
@@ -214,5 +214,5 @@ def test_a_package_is_asked_where_no_thread_may_begin(gis, package, monkeypatch,
 
     monkeypatch.setattr(program.Thread, "start", start)
     a, b = write(tmp_path / "a.gpkg", parcels(5, 3)), write(tmp_path / "b.gpkg", blobs(6, 3))
-    assert gis("run", "union", a, b, "-o", "out.gpkg").status == 0
+    assert gis("run", "union", a, b, "-o", "out.gpkg", "--parity").status == 0
     assert package[1] == [("union", "--areas")] and read("out.gpkg")

@@ -32,7 +32,7 @@ def test_an_answer_and_what_is_united_are_computed_at_once(gis, tmp_path, begun,
         f"{waiting(begun, 3)}"
         "echo 'MULTIPOLYGON (((0 0, 10000 0, 10000 10000, 0 10000, 0 0)))'\n"
     )
-    assert gis("run", "union", a, b, "-o", "out.gpkg", "--dissolve").status == 0
+    assert gis("run", "union", a, b, "-o", "out.gpkg").status == 0
     assert len(numbers_in(begun)) == 3
 
 
@@ -44,7 +44,7 @@ def test_an_answer_and_both_areas_are_one_run(gis, tmp_path, pretend):
         "echo 'MULTIPOLYGON (((0 0, 10000 0, 10000 10000, 0 10000, 0 0)))'\n"
         "printf 'segments 4 8\\nrecords 24\\ntile 0 4 24\\narea2 199999998 0 200000000\\nsteps 5 8\\n' >&2\n"
     )
-    answer = gis("run", "union", a, b, "-o", "out.gpkg", "--segments", "2000000")
+    answer = gis("run", "union", a, b, "-o", "out.gpkg", "--parity", "--segments", "2000000")
     assert Path("asked").read_text() == "union --report --areas  5\n"
     told = answer.err.splitlines()[1:-1]
     assert told[0] == f"overlay-gis: {a}: 0 of 4 vertices moved; area 100 m² before, and 99.999999 after"
@@ -60,7 +60,7 @@ def test_an_answer_and_both_areas_are_one_run(gis, tmp_path, pretend):
 def test_a_report_without_areas_is_not_believed(gis, tmp_path, pretend, report):
     a = write(tmp_path / "a.gpkg", [SQUARE])
     pretend(f"echo 'MULTIPOLYGON EMPTY'\nprintf '{report}\\n' >&2\n")
-    answer = gis("run", "difference", a, a, "-o", "out.gpkg")
+    answer = gis("run", "difference", a, a, "-o", "out.gpkg", "--parity")
     assert answer.status == 1 and not Path("out.gpkg").exists()
     assert "overlay: its report doesn't tell the areas of two layers: is it the program" in answer.err
 
@@ -68,7 +68,7 @@ def test_a_report_without_areas_is_not_believed(gis, tmp_path, pretend, report):
 def test_a_program_that_knows_no_areas(gis, tmp_path, pretend):
     a = write(tmp_path / "a.gpkg", [SQUARE])
     pretend("echo 'overlay: unexpected --areas' >&2\nexit 2\n")
-    answer = gis("run", "difference", a, a, "-o", "out.gpkg")
+    answer = gis("run", "difference", a, a, "-o", "out.gpkg", "--parity")
     assert answer.status == 1 and answer.err.endswith("overlay says: unexpected --areas\n")
 
 
@@ -77,7 +77,7 @@ def test_texts_are_no_files_of_a_folder(gis, tmp_path, pretend, monkeypatch):
     monkeypatch.setenv("TMPDIR", str(tmp_path / "none"))
     script = f'readlink "$2" "$3" >>"{tmp_path}/names"\ncat "$2" "$2" >>"{tmp_path}/texts"\n'
     pretend(script + 'echo "MULTIPOLYGON EMPTY"\nprintf "area2 0 0 0\\nsteps 4 0\\n" >&2\n')
-    assert gis("run", "union", a, b, "-o", "out.gpkg", "--origin", f"{EAST},{NORTH}").status == 0
+    assert gis("run", "union", a, b, "-o", "out.gpkg", "--parity", "--origin", f"{EAST},{NORTH}").status == 0
     assert all(name.startswith("/memfd:") for name in Path("names").read_text().splitlines())
     line = "POLYGON ((10000 0, 10000 10000, 0 10000, 0 0, 10000 0))\n"
     assert Path("texts").read_text() == line * 2
@@ -116,7 +116,7 @@ def test_a_refusal_ends_the_runs_that_go_on(gis, tmp_path, begun, pretend):
     a = write(tmp_path / "a.gpkg", [SQUARE])
     refusing = f'{waiting(begun, 1)}echo "overlay: A: 1 syntax at 3" >&2\nexit 3\n'
     pretend(f'if [ "$1" = union ]; then\n{refusing}fi\ntouch "{begun}/$$"\nexec sleep 600\n')
-    assert gis("run", "difference", a, a, "-o", "out.gpkg", "--dissolve").status == 3
+    assert gis("run", "difference", a, a, "-o", "out.gpkg").status == 3
     (number,) = numbers_in(begun)
     assert not running(number)
 

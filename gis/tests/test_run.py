@@ -71,7 +71,7 @@ def test_what_moved_is_told(gis, tmp_path, digits, unit):
     points = [point for part in parts for ring in (part.exterior, *part.interiors) for point in ring.coords[1:]]
     ways = [hypot(*(at - round(at / size) * size for at in point)) for point in points]
     moved = [way for way in ways if way > 1e-7]
-    line = r"a\.gpkg: ([\d,]+) of ([\d,]+) vertices moved(.*); area ([\d.,]+) m² before, and ([\d.,]+) after\n"
+    line = r"a\.gpkg: ([\d,]+) of ([\d,]+) vertices moved(.*); area ([\d.,]+) m² in sum, and ([\d.,]+) united\n"
     told = re.search(line, answer.err)
     count, vertices, before, after = (float(told[k].replace(",", "")) for k in (1, 2, 4, 5))
     assert (count, vertices) == (len(moved), len(points))
@@ -121,11 +121,11 @@ def test_a_grid_that_is_too_fine_is_refused(gis, tmp_path):
 def test_overlaps_are_told_and_united(gis, tmp_path):
     first = [box(EAST, NORTH, EAST + 10, NORTH + 10), box(EAST + 5, NORTH, EAST + 15, NORTH + 10)]
     a, b = write(tmp_path / "a.gpkg", first), write(tmp_path / "b.gpkg", [])
-    answer = gis("run", "union", a, b, "-o", "out.gpkg")
+    answer = gis("run", "union", a, b, "-o", "out.gpkg", "--parity")
     assert answer.status == 0
     assert "a.gpkg: warning: its polygons have 200 m² in sum, and 100 by parity" in answer.err
     assert sum(shape.area for shape, _ in read("out.gpkg")) == pytest.approx(100)
-    answer = gis("run", "union", a, b, "-o", "out.gpkg", "--dissolve", "--overwrite")
+    answer = gis("run", "union", a, b, "-o", "out.gpkg", "--overwrite")
     assert "by parity" not in answer.err and "area 200 m² in sum, and 150 united" in answer.err
     assert [fields["area"] for _, fields in read("out.gpkg")] == [150]
 
@@ -137,7 +137,7 @@ def test_layers_that_overlap_are_united_before_an_operation(gis, tmp_path, opera
         corners = [(EAST + rng.randrange(60), NORTH + rng.randrange(60)) for _ in range(14)]
         layers.append([box(x, y, x + rng.randint(5, 20), y + rng.randint(5, 20)) for x, y in corners])
     a, b = (write(tmp_path / f"{name}.gpkg", shapes) for name, shapes in zip("ab", layers))
-    answer = gis("run", operation, a, b, "-o", "out.gpkg", "--dissolve", "--grid", "0.01")
+    answer = gis("run", operation, a, b, "-o", "out.gpkg", "--grid", "0.01")
     assert answer.status == 0 and "warning" not in answer.err
     first, second = map(unary_union, layers)
     wanted = getattr(first, JUDGE[operation])(second)
@@ -152,7 +152,7 @@ def test_a_small_overlap_among_many_parcels_is_told(gis, tmp_path):
         box(EAST + 10, NORTH + 10, EAST + 10.5, NORTH + 10.5)
     ]
     a, b = write(tmp_path / "a.gpkg", first), write(tmp_path / "b.gpkg", [box(EAST, NORTH, EAST + 1, NORTH + 1)])
-    assert "a.gpkg: warning: its polygons have" in gis("run", "union", a, b, "-o", "out.gpkg").err
+    assert "a.gpkg: warning: its polygons have" in gis("run", "union", a, b, "-o", "out.gpkg", "--parity").err
 
 
 def test_empty_layers(gis, tmp_path):
@@ -354,7 +354,7 @@ def test_borders_nearly_on_one_another(gis, tmp_path):
     first = parcels(51, 7)
     second = [translate(shape, rng.uniform(-2e-3, 2e-3), rng.uniform(-2e-3, 2e-3)) for shape in first[:18]]
     a, b = write(tmp_path / "a.gpkg", first), write(tmp_path / "b.gpkg", second)
-    assert gis("run", "intersection", a, b, "-o", "out.gpkg", "--grid", "0.01", "--dissolve").status == 0
+    assert gis("run", "intersection", a, b, "-o", "out.gpkg", "--grid", "0.01").status == 0
     wanted, result = unary_union(first).intersection(unary_union(second)), read("out.gpkg")
     assert all(shape.is_valid for shape, _ in result)
     assert abs(sum(shape.area for shape, _ in result) - wanted.area) <= 0.0142 * (perimeter(first) + perimeter(second))
@@ -372,7 +372,7 @@ def test_a_star_of_thin_polygons(gis, tmp_path):
         ]
     )
     a, b = write(tmp_path / "a.gpkg", [star]), write(tmp_path / "b.gpkg", [])
-    answer = gis("run", "union", a, b, "-o", "out.gpkg")
+    answer = gis("run", "union", a, b, "-o", "out.gpkg", "--parity")
     assert answer.status == 0 and "overlap or cross themselves" in answer.err
     assert all(shape.is_valid for shape, _ in read("out.gpkg"))
 
@@ -420,7 +420,7 @@ def test_open_rings_are_closed_and_short_ones_left_out(gis, tmp_path):
     assert answer.status == 0 and [shape.area for shape, _ in read("out.gpkg")] == [16]
     assert "a.gpkg: warning: rings were open, and closed: feature 1" in answer.err
     assert "a.gpkg: warning: rings of less than four points were left out: feature 2" in answer.err
-    answer = gis("run", "union", a, b, "-o", "out.gpkg", "--dissolve", "--overwrite")
+    answer = gis("run", "union", a, b, "-o", "out.gpkg", "--overwrite")
     assert answer.status == 0 and [shape.area for shape, _ in read("out.gpkg")] == [16]
 
 
@@ -440,7 +440,7 @@ def test_what_the_other_layer_bends_is_no_overlap(gis, tmp_path, seed):
         first += [Polygon(corners)] if Polygon(corners).area else []
     second = [Polygon([(EAST + rng.uniform(0, 150), NORTH + rng.uniform(0, 25)) for _ in range(9)]) for _ in range(4)]
     a, b = write(tmp_path / "a.gpkg", first), write(tmp_path / "b.gpkg", second)
-    answer = gis("run", "union", a, b, "-o", "out.gpkg", "--grid", "1")
+    answer = gis("run", "union", a, b, "-o", "out.gpkg", "--parity", "--grid", "1")
     told = re.search(r"a\.gpkg: 0 of \d+ vertices moved; area ([\d.]+) m² before, and ([\d.]+) after\n", answer.err)
     assert answer.status == 0 and "a.gpkg: warning" not in answer.err
     assert float(told[1]) == sum(shape.area for shape in first) != float(told[2])

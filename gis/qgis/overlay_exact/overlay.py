@@ -43,5 +43,5 @@ class Overlay(VerbAlgorithm):
 
     def words(self, call: Call) -> list[str]:
         layers = [call.hand(INPUT, INPUT_FIELDS), call.hand(OVERLAY, OVERLAY_FIELDS)]
-        covered = ["--dissolve"] if call.truth(COVERED) else []
-        return ["run", list(OPERATIONS)[call.choice(OPERATION)], *words_of(layers), *covered]
+        reading = [] if call.truth(COVERED) else ["--parity"]
+        return ["run", list(OPERATIONS)[call.choice(OPERATION)], *words_of(layers), *reading]
