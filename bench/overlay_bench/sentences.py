@@ -17,8 +17,8 @@ MOST_WORDS = 30
 SHOWN_WORDS = 8
 
 FENCE = re.compile(r"\s*(```|~~~)")
-ITEM = re.compile(r"\s*(?:[-*+]|\d+[.)])\s+(?:\[[ x]\]\s+)?")
-HEADING = re.compile(r"#+\s+")
+ITEM = re.compile(r"^\s*(?:[-*+]|\d+[.)])\s+(?:\[[ x]\]\s+)?")
+HEADING = re.compile(r"^#+\s+")
 RULE = re.compile(r"[\s|:*_-]+$")
 CODE_INDENT = "    "
 
