@@ -155,10 +155,10 @@ def test_the_lines_that_are_tried():
     """release/try runs README's lines as they stand there, so these have to be there."""
     begun = [line.split()[0] for line in blocks("Install")[0].splitlines()]
     assert begun == ["apt-get", "tar", "python3"]
-    assert all(line.startswith("    overlay-gis ") for line in blocks("A planner's first answer")[0].splitlines())
-    python, c = blocks("A programmer's first call")
-    assert python.startswith("    import overlay_grid\n") and c.startswith('    #include "overlay.h"\n')
-    assert "`cc use.c $(pkg-config --cflags --libs overlay)`" in (TOP / "README.md").read_text()
+    planner, python, *_ = blocks("Try it")
+    assert all(line.startswith("    overlay-gis ") for line in planner.splitlines())
+    assert python.startswith("    import overlay_grid\n")
+    assert "`cc example.c $(pkg-config --cflags --libs overlay)`" in (TOP / "README.md").read_text()
 
 
 @pytest.mark.parametrize(
