@@ -17,6 +17,9 @@ PREFIX, SUFFIX = ".overlay-gis-", ".partial"
 # Seconds for which a folder counts as new: whoever made it may not have locked it yet.
 NEW = 60
 
+# Where parts of an old output lie while new ones take their places.
+REPLACED = "replaced"
+
 
 @contextmanager
 def locked(folder: Path) -> Iterator[bool]:
@@ -35,10 +38,11 @@ def locked(folder: Path) -> Iterator[bool]:
 
 
 def sweep(place: Path) -> None:
-    """Takes away the folders there whose runs have ended without doing so, and all that they hold."""
+    """Takes away the folders there whose runs have ended without doing so, but none that holds parts
+    of an old output: a kill while parts change places leaves them nowhere else."""
     for left in place.glob(f"{PREFIX}*{SUFFIX}"):
         with suppress(OSError):
-            if time.time() - left.stat().st_mtime > NEW:
+            if time.time() - left.stat().st_mtime > NEW and not any((left / REPLACED).glob("*")):
                 with locked(left) as has_ended:
                     if has_ended:
                         shutil.rmtree(left, ignore_errors=True)

@@ -12,7 +12,7 @@ from stat import S_ISREG
 from typing import Iterable, Iterator, TypeVar
 
 from .faults import Fault, Refusal
-from .scratch import scratch
+from .scratch import REPLACED, scratch
 from .stopping import go_on
 
 # What the file of that ending may have beside it: parts of its format, and what readers would take
@@ -210,7 +210,7 @@ def moves(folder: Path, target: Target, in_one_step: bool) -> dict[Path, Path]:
     if in_one_step and places == [target.path] and not target.path.is_dir() and set(stale) <= {target.path}:
         return dict(zip(parts, places))
     stale.sort(key=lambda place: place != target.path)
-    aside = folder / "replaced"
+    aside = folder / REPLACED
     aside.mkdir()
     return {**{old: aside / old.name for old in stale}, **dict(zip(parts, places))}
 

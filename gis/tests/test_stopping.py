@@ -112,16 +112,18 @@ def held(folder):
 
 
 def test_what_killed_runs_left_goes(gis, tmp_path):
-    """But no folder of a run that goes on, which has its lock, and none that is new."""
+    """But no folder of a run that goes on, which has its lock, none that is new, and none with parts of
+    an old output."""
     a = write(tmp_path / "a.gpkg", [box(EAST, NORTH, EAST + 1, NORTH + 1)])
-    left, going_on, new, other = (tmp_path / name for name in (".overlay-gis-x.partial", ".overlay-gis-y.partial", ".overlay-gis-z.partial", ".other.partial"))
-    for folder in (left, going_on, new, other):
-        folder.mkdir()
+    left, going_on, new, old, other = (tmp_path / f".{name}.partial" for name in ("overlay-gis-x", "overlay-gis-y", "overlay-gis-z", "overlay-gis-o", "other"))
+    for folder in (left, going_on, new, old, other):
+        (folder / "replaced").mkdir(parents=True)
         (folder / "out.gpkg").write_bytes(b"half")
-    for folder in (left, going_on, other):
+    (old / "replaced" / "out.shp").write_bytes(b"old")
+    for folder in (left, going_on, old, other):
         os.utime(folder, (time.time() - 3600,) * 2)
     with held(going_on):
         assert gis("dissolve", a, "-o", "out.gpkg").status == 0
     assert len(read("out.gpkg")) == 1
-    assert sorted(path.name for path in tmp_path.glob(".*")) == sorted(folder.name for folder in (going_on, new, other))
+    assert sorted(path.name for path in tmp_path.glob(".*")) == sorted(folder.name for folder in (going_on, new, old, other))
     assert (going_on / "out.gpkg").read_bytes() == b"half"
