@@ -75,7 +75,7 @@ def wanted(arguments: Namespace, sources: Sequence[Source]) -> Wanted:
     """What the arguments of `run` ask for."""
     if not arguments.parity:
         raise Refusal("--engine dask", "reads layers by parity alone, and goes with --parity")
-    options.refuse_beside(arguments, ("dissolve", "keep_a", "keep_b", "segments"), "isn't there for --engine dask")
+    options.refuse_beside(arguments, ("keep_a", "keep_b", "polygons_only", "segments"), "isn't there for --engine dask")
     if arguments.scheduler and not arguments.dir:
         raise Refusal("--scheduler", "goes with --dir, which names a folder that all its workers see")
     if arguments.scheduler and arguments.workers:

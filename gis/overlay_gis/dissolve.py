@@ -51,6 +51,7 @@ def add_arguments(parser: ArgumentParser) -> None:
     )
     options.add_output(parser, "the file for the united features")
     options.add_parts(parser)
+    options.add_polygons_only(parser)
     options.add_grid(parser)
     options.add_segments(parser)
 
@@ -108,7 +109,7 @@ def table_of(united: United, fields: Sequence[ogr.FieldDefn], frame: Frame, by_p
 
 
 def main(arguments: Namespace) -> int:
-    source = Source(arguments.a)
+    source = Source(arguments.a, arguments.polygons_only)
     fields = fields_of(source, arguments.by)
     place = destination(arguments, [source])
     check_fields(source, arguments.by)

@@ -44,6 +44,7 @@ def add_arguments(parser: ArgumentParser) -> None:
         ),
     )
     options.add_parts(parser)
+    options.add_polygons_only(parser)
     options.add_keep(parser)
     parser.add_argument(
         "--keep",
@@ -159,7 +160,7 @@ def main(arguments: Namespace) -> int:
     keep, by = fields_asked(arguments)
     if arguments.pairs and len(arguments.layers) != 2:
         raise Refusal("--pairs", f"are those of two layers, and {len(arguments.layers)} are named")
-    sources = [Source(name) for name in arguments.layers]
+    sources = [Source(name, arguments.polygons_only) for name in arguments.layers]
     place = destination(arguments, sources, beside=[PAIRS] if same_place(arguments) else [])
     apart = pairs_place(arguments, sources)
     for source, *names in zip(sources, keep, by):

@@ -28,6 +28,9 @@ from .whole import paths_of, state_of
 
 LAYER_MARK = "|layername="
 
+# How the name of an archive ends that GDAL looks into.
+ARCHIVE = ".zip"
+
 # The driver whose geometries may be made of fields, and are nothing where these are passed over.
 VIRTUAL = "OGR_VRT"
 
@@ -127,14 +130,24 @@ def areas(held: Columns[Floats]) -> Floats:
     return np.where(shells[filled], sizes, -sizes)
 
 
-class Source:
-    """A layer that is open for reading."""
+def unpacked(path: str) -> str:
+    """The name by which GDAL opens a file; one of an archive that no driver takes as a whole."""
+    is_archive = path.lower().endswith(ARCHIVE) and os.path.isfile(path)
+    return f"/vsizip/{path}" if is_archive and gdal.IdentifyDriverEx(path, gdal.OF_VECTOR) is None else path
 
-    def __init__(self, name: str):
+
+class Source:
+    """A layer that is open for reading. With `polygons_only`, features that are no polygons are left
+    out, and of collections their polygons alone are taken; `mixed` has the numbers of these."""
+
+    def __init__(self, name: str, polygons_only: bool = False):
         self.path, _, self.wanted = name.partition(LAYER_MARK)
         remember(self.path)
         self.name = hidden(self.path)
+        self.polygons_only = polygons_only
+        self.mixed: list[int] = []
         with blamed_on(self.name, self.path):
+            self.path = unpacked(self.path)
             self.dataset = gdal.OpenEx(self.path, gdal.OF_VECTOR | gdal.OF_READONLY)
         if self.dataset is None:
             raise Fault(self.name, "GDAL can't read it as a vector layer")
@@ -255,6 +268,8 @@ class Source:
         none."""
         geometry = self.geometry(batch, k)
         held = NO_POLYGON if geometry.IsEmpty() else lines_of(geometry)
+        if held is None and self.polygons_only and (held := polygons_within(geometry)):
+            self.mixed.append(int(batch.numbers[k]))
         return None if held is None else bytes(held.ExportToWkb(ogr.wkbNDR))
 
     def values(self, names: Sequence[str], seen: Survey) -> list[tuple[Any, ...]]:
@@ -311,6 +326,28 @@ def common_system(sources: Sequence[Source], told: str | None = None) -> osr.Spa
                 hint = "bring one into the other's, as by ogr2ogr -t_srs"
             raise Refusal(source.name, f"has {one}, and {sources[0].name} has {other}: {hint}")
     return first
+
+
+def polygons_within(geometry: ogr.Geometry) -> ogr.Geometry | None:
+    """The polygons of a collection, and of collections in it; nothing where it has none."""
+    if ogr.GT_Flatten(geometry.GetGeometryType()) != ogr.wkbGeometryCollection:
+        return None
+    found = ogr.Geometry(ogr.wkbMultiPolygon)
+    for k in range(geometry.GetGeometryCount()):
+        part = geometry.GetGeometryRef(k)
+        held = lines_of(part)
+        if held is None:
+            held = polygons_within(part)
+        for polygon in [] if held is None else polygons_of(held):
+            found.AddGeometry(polygon)
+    return None if found.IsEmpty() else found
+
+
+def polygons_of(geometry: ogr.Geometry) -> list[ogr.Geometry]:
+    """The polygons of a polygon or a multipolygon."""
+    if ogr.GT_Flatten(geometry.GetGeometryType()) == ogr.wkbPolygon:
+        return [geometry]
+    return [geometry.GetGeometryRef(k) for k in range(geometry.GetGeometryCount())]
 
 
 FLAT = (ogr.wkbPolygon, ogr.wkbMultiPolygon)

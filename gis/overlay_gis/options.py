@@ -77,6 +77,17 @@ def add_output(parser: ArgumentParser, words: str, required: bool = True) -> Non
     )
 
 
+def add_polygons_only(parser: ArgumentParser) -> None:
+    parser.add_argument(
+        "--polygons-only",
+        action="store_true",
+        help=(
+            "leaves out features that are no polygons, and takes of collections their polygons; a"
+            " warning names them (default: such a layer is refused)"
+        ),
+    )
+
+
 def refuse_beside(arguments: Namespace, names: Sequence[str], reason: str) -> None:
     """Refuses options of these names that are given and would be passed over."""
     given = [f"--{name.replace('_', '-')}" for name in names if getattr(arguments, name)]

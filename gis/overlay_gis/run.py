@@ -40,6 +40,7 @@ def add_arguments(parser: ArgumentParser) -> None:
         parser, "the file for the result; its ending names its format, as .gpkg, .shp, .geojson"
     )
     options.add_reading(parser)
+    options.add_polygons_only(parser)
     options.add_keep(
         parser,
         "; with it, or with --keep-b, the result is the rows of faces that the operation has",
@@ -94,7 +95,7 @@ def with_fields(both: CommonGrid, operation: str, asked: Sequence[Sequence[str]]
 def main(arguments: Namespace) -> int:
     if not arguments.engine:
         options.refuse_beside(arguments, options.OF_ENGINE, "goes with --engine dask")
-    sources = [Source(arguments.a), Source(arguments.b)]
+    sources = [Source(name, arguments.polygons_only) for name in (arguments.a, arguments.b)]
     place = destination(arguments, sources)
     if arguments.engine:
         from . import by_strips  # which takes its time to be there

@@ -69,18 +69,23 @@ def tell_found(source: Source, seen: Found) -> None:
                 " the feature"
             ),
         )
-    if seen.strange:
+    if seen.strange and not source.polygons_only:
+        is_one = len(seen.strange) == 1
         raise Refusal(
             source.name,
             (
-                f"{numbers(seen.strange)} is no polygon but {seen.names[0]}; overlay-gis check lists all"
-                " such"
+                f"{numbers(seen.strange)} {'is no polygon' if is_one else 'are no polygons'} but {seen.names[0]};"
+                f" --polygons-only leaves {'it' if is_one else 'them'} out, and overlay-gis check lists all such"
             ),
         )
     if not seen.features:
         warn(source.name, "the layer has no features")
     elif seen.bare:
         warn(source.name, f"no geometry, left out: {numbers(seen.bare)}")
+    if seen.strange:
+        warn(source.name, f"no polygon, left out: {numbers(seen.strange)}")
+    if source.mixed:
+        warn(source.name, f"a collection, of which the polygons are taken: {numbers(source.mixed)}")
     look_at_columns(source)
     further = coordinates_left_out(source, seen.deep)
     if further:

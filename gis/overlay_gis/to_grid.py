@@ -56,6 +56,7 @@ def add_arguments(parser: ArgumentParser) -> None:
     )
     options.add_grid(parser)
     options.add_dissolve(parser)
+    options.add_polygons_only(parser)
 
 
 def frame_for(arguments: Namespace, sources: list[Source], surveys: list[Survey]) -> Frame:
@@ -96,7 +97,7 @@ def file_name(source: Source) -> str:
 def main(arguments: Namespace) -> int:
     if arguments.frame:
         options.refuse_beside(arguments, ("grid", "origin"), "the frame that --frame names has its own")
-    sources = [Source(name) for name in arguments.layers]
+    sources = [Source(name, arguments.polygons_only) for name in arguments.layers]
     names = [file_name(source) for source in sources]
     if len(set(names)) < len(names):
         raise Refusal(names_of(sources), "would be written under one name")
