@@ -18,7 +18,7 @@ _overlay_gis() {
     run) options="$out --parity --polygons-only --keep-a --keep-b $grid $most --engine --scheduler --dir --memory --workers" ;;
     faces) options="$out --parts --polygons-only --keep-a --keep-b --keep --by --pairs $grid $most" ;;
     dissolve) options="$out --by --parts --polygons-only $grid $most" ;;
-    check) options="$out --gap-width --gap-area --sliver-width $grid $most" ;;
+    check) options="$out --json --gap-width --gap-area --sliver-width $grid $most" ;;
     to-grid) options="--out --frame --dissolve --polygons-only $grid" ;;
     from-grid) options="$out --frame" ;;
     show) options="--out --title" ;;

@@ -13,9 +13,9 @@ from osgeo import ogr
 ogr.UseExceptions()
 HERE = os.path.dirname(os.path.abspath(__file__))
 COLOURS = {"flood plain": "#2f6db5", "water reserve": "#7d4aa8", "nature reserve": "#3c8d4e", "road strip": "#c8642a"}
-FLAWS = {"overlap": "#c0392b", "gap": "#d9a300", "sliver": "#c0392b"}
+FLAWS = {"overlap": "#c0392b", "double": "#c0392b", "gap": "#d9a300", "sliver": "#c0392b", "crosses itself": "#7d4aa8"}
 PAPER, LAND, INK = "#fff", "#f4f1e8", "#555"
-WIDE, EDGE, PANEL, WORDS = 860, 10, 206, 18
+WIDE, EDGE, PANEL, WORDS = 860, 10, 164, 18
 
 
 def rows(path):
@@ -104,6 +104,8 @@ def close_up(rings, number):
 
 def told(row):
     """What a flaw is, in a few words."""
+    if row["area"] is None:
+        return "%s %s" % (row["first"], row["kind"]), ""
     features = "" if row["first"] is None else " of %s and %s" % (row["first"], row["second"])
     return row["kind"] + features, "%.2f m\u00b2, %.2f m wide" % (row["area"], row["width"])
 

@@ -5,7 +5,7 @@ from __future__ import annotations
 from argparse import ArgumentParser, Namespace
 from collections import defaultdict
 from dataclasses import dataclass, field
-from typing import Iterator
+from typing import Iterator, Sequence
 
 from osgeo import osr
 
@@ -15,13 +15,15 @@ from .columns import Columns, Floats
 from .common_grid import alone, on_grid, warn_of_losses
 from .destination import destination
 from .faults import FOUND, Refusal
-from .flaws import SLIVER, Flaws, Sizes, found_in, kind_of, table_of, usual_sizes
+from .findings import BARE, CROSSES, INVALID, LAYER, OPEN, SHORT, STRANGE, UNBOUND, Finding, Units, as_json, table_of, table_without_shapes
+from .flaws import Flaws, Sizes, found_in, usual_sizes
 from .frame import Frame
 from .layers import Kind, Source, Survey, common_system
 from .messages import followed, tell
+from .output import Table
 from .rings import LEAST_RING, Gridded, opened
 from .rows import Rows
-from .surveys import look_at_columns, numbers
+from .surveys import look_at_columns
 from .systems import area_name, unit_name
 
 EXAMPLE = "overlay-gis check parcels.gpkg -o flaws.gpkg --gap-width 0.5"
@@ -31,11 +33,12 @@ def add_arguments(parser: ArgumentParser) -> None:
     options.add_output(
         parser,
         (
-            "a file for overlaps and gaps, each with its kind (overlap, gap or sliver), area and"
-            " width, and the numbers of the features that overlap: first, second, and all of them"
+            "a file with a row for each finding: its kind, the numbers of its features (first, second,"
+            " and all of them), its area and width where it is an overlap or a gap, and the finding in words"
         ),
         required=False,
     )
+    parser.add_argument("--json", action="store_true", help="prints all findings as one line of JSON, in place of a line for each")
     options.add_sizes(parser)
     options.add_grid(parser)
     options.add_segments(parser)
@@ -43,13 +46,13 @@ def add_arguments(parser: ArgumentParser) -> None:
 
 @dataclass
 class Checked:
-    """What a pass over a layer tells, and a line for each thing that is wrong."""
+    """What a pass over a layer tells, and each thing that is wrong."""
 
     survey: Survey
-    findings: list[str] = field(default_factory=list)
+    findings: list[Finding] = field(default_factory=list)
 
-    def find(self, words: str) -> None:
-        self.findings.append(words)
+    def find(self, kind: str, words: str, *ids: int) -> None:
+        self.findings.append(Finding(kind, ids, words))
 
     @property
     def readable(self) -> bool:
@@ -57,18 +60,26 @@ class Checked:
         return not self.survey.of(Kind.STRANGE) and not self.survey.of(Kind.UNBOUND)
 
 
-def ring_findings(layer: Columns[Floats]) -> dict[int, list[str]]:
+Fault = tuple[str, str]  # a kind of finding, and words
+
+
+def ring_faults(layer: Columns[Floats]) -> dict[int, list[Fault]]:
     """What is wrong with the rings of features, by the features' numbers."""
     found = defaultdict(list)
     ids, is_open = layer.ring_ids().tolist(), opened(layer)
     for k in (is_open | (layer.lengths < LEAST_RING)).nonzero()[0].tolist():
         last = layer.rings[k + 1] - 1
         found[ids[k]].append(
-            f"a ring is open at {layer.x[last]:.12g} {layer.y[last]:.12g}"
+            (OPEN, f"a ring is open at {layer.x[last]:.12g} {layer.y[last]:.12g}")
             if is_open[k]
-            else "a ring has less than four points"
+            else (SHORT, "a ring has less than four points")
         )
     return found
+
+
+def shape_faults(words: str | None) -> list[Fault]:
+    """What GEOS finds wrong with a shape, in its words."""
+    return [(CROSSES if "Self-intersection" in words else INVALID, words)] if words else []
 
 
 def look_through(source: Source) -> Checked:
@@ -78,20 +89,20 @@ def look_through(source: Source) -> Checked:
 
     seen = Checked(source.survey())
     survey = seen.survey
-    names, geometries, faults = iter(survey.names), features_of(survey.sound), ring_findings(survey.sound)
+    names, geometries, faults = iter(survey.names), features_of(survey.sound), ring_faults(survey.sound)
     features = zip(survey.numbers.tolist(), survey.kinds.tolist())
     for number, kind in followed(features, f"looking through {source.name}", survey.features):
         if kind == Kind.BARE:
-            told = ["no geometry"]
+            told = [(BARE, "no geometry")]
         elif kind == Kind.STRANGE:
-            told = [f"{next(names)} is no polygon"]
+            told = [(STRANGE, f"{next(names)} is no polygon")]
         elif kind == Kind.UNBOUND:
-            told = ["a coordinate is no finite number"]
+            told = [(UNBOUND, "a coordinate is no finite number")]
         else:
             geometry = next(geometries)
-            told = faults.get(number) or [words for words in [fault_of(geometry)] if words]
-        for words in told:
-            seen.find(f"feature {number}: {words}")
+            told = faults.get(number) or shape_faults(fault_of(geometry))
+        for fault in told:
+            seen.find(*fault, number)
     return seen
 
 
@@ -110,18 +121,15 @@ class Covered:
         parity."""
         return self.frame.area(self.grid.twice_area()), self.frame.area(self.rows.within(self.rows.counts % 2 == 1))
 
-    def findings(self, unit: str, square: str, sizes: Sizes) -> Iterator[str]:
-        """A line for each overlap and gap that isn't narrower than a grid unit."""
+    def findings(self, units: Units) -> Iterator[Finding]:
+        """Each overlap and gap that isn't narrower than a grid unit."""
         for flaws in (self.overlaps, self.gaps):
-            for flaw in flaws.chosen(~flaws.thin).each():
-                x, y = flaw.at
-                told = f"{named(flaw.ids)}: overlap by" if flaw.ids else f"gap at {x:.12g} {y:.12g}:"
-                narrow = (
-                    f", a sliver {flaw.width:,.3g} {unit} wide"
-                    if kind_of(flaw, sizes) == SLIVER
-                    else ""
-                )
-                yield f"{told} {flaw.area:,.6g} {square}{narrow}"
+            yield from map(units.finding, flaws.chosen(~flaws.thin).each())
+
+
+    def table(self, alone: Sequence[Finding], units: Units) -> Table:
+        """All that was found, with what is wrong with each feature alone, as a layer."""
+        return table_of(alone, self.grid.layer, [self.overlaps, self.gaps], self.frame, units)
 
 
 def covered(source: Source, seen: Checked, frame: Frame, sizes: Sizes, most: int) -> Covered | None:
@@ -130,7 +138,7 @@ def covered(source: Source, seen: Checked, frame: Frame, sizes: Sizes, most: int
     grid = on_grid(seen.survey, frame)
     warn_of_losses(source, grid)
     if grid.segments > most:
-        seen.find(f"{grid.segments:,} segments, and the limit of all layers together is {most:,}")
+        seen.find(LAYER, f"{grid.segments:,} segments, and the limit of all layers together is {most:,}")
     if not grid.polygons:
         return None
     with alone(source, seen.survey, grid, frame) as together:
@@ -139,17 +147,13 @@ def covered(source: Source, seen: Checked, frame: Frame, sizes: Sizes, most: int
         return Covered(grid, rows, frame, overlaps, gaps)
 
 
-def named(ids: list[int]) -> str:
-    return f"features {ids[0]} and {ids[1]}" if len(ids) == 2 else numbers(ids)
-
-
 def frame_of(source: Source, seen: Checked, system: osr.SpatialReference | None, arguments: Namespace) -> Frame | None:
     """The frame that a run would choose for this layer alone; what is off its limits is found."""
     asked = frames.asked_for(arguments.grid, arguments.origin)
     try:
         return frames.chosen(source.name, seen.survey.box(source.name), system, *asked)
     except Refusal as refusal:
-        seen.find(refusal.reason)
+        seen.find(LAYER, refusal.reason)
         return None
 
 
@@ -162,18 +166,26 @@ def main(arguments: Namespace) -> int:
     seen = look_through(source)
     look_at_columns(source)
     if not seen.survey.features:
-        seen.find("the layer has no features")
-    frame, name = frame_of(source, seen, system, arguments), area_name(system)
-    sizes = options.sizes(arguments, usual_sizes(system))
-    held = covered(source, seen, frame, sizes, options.segments(arguments)) if frame and len(seen.survey.sound.ids) else None
-    for words in held.findings(unit_name(system), name, sizes) if held else ():
-        seen.find(words)
-    for words in seen.findings:
-        tell(f"{source.name}: {words}")
-    tell(f"{source.name}: {', '.join(summary(seen, held, name))}")
+        seen.find(LAYER, "the layer has no features")
+    frame = frame_of(source, seen, system, arguments)
+    units = Units(unit_name(system), area_name(system), options.sizes(arguments, usual_sizes(system)))
+    held = covered(source, seen, frame, units.sizes, options.segments(arguments)) if frame and len(seen.survey.sound.ids) else None
+    alone = list(seen.findings)
+    seen.findings += held.findings(units) if held else ()
+    if arguments.json:
+        tell(as_json(source.name, seen.survey.features, seen.findings, areas(seen, held)))
+    else:
+        for finding in seen.findings:
+            tell(f"{source.name}: {finding.line()}")
+        tell(f"{source.name}: {', '.join(summary(seen, held, units.square))}")
     if place:
-        place.write(system, table_of([held.overlaps, held.gaps] if held else [], sizes))
+        place.write(system, held.table(alone, units) if held else table_without_shapes(alone))
     return FOUND if seen.findings else 0
+
+
+def areas(seen: Checked, held: Covered | None) -> dict[str, float]:
+    """The areas of a layer of which all could be read."""
+    return dict(zip(("sum", "parity"), held.areas())) if held and seen.readable else {}
 
 
 def summary(seen: Checked, held: Covered | None, name: str) -> Iterator[str]:
@@ -182,6 +194,5 @@ def summary(seen: Checked, held: Covered | None, name: str) -> Iterator[str]:
     for flaws, kind in ((held.overlaps, "overlaps"), (held.gaps, "gaps")) if held else ():
         if thin := int(flaws.thin.sum()):
             yield f"{thin:,} {kind} narrower than a grid unit"
-    if held and seen.readable:
-        sums, parity = held.areas()
-        yield f"areas {sums:,.10g} {name} in sum, {parity:,.10g} by parity"
+    if told := areas(seen, held):
+        yield f"areas {told['sum']:,.10g} {name} in sum, {told['parity']:,.10g} by parity"

@@ -1,6 +1,6 @@
 """What a layer that should cover its area once doesn't: overlaps, and gaps.
 
-An overlap is a row of several features. A gap is a part of the plane that all features together
+An overlap is a row of several features, and a double one that has all that each of them covers. A gap is a part of the plane that all features together
 enclose and leave open. The width of either is twice its area divided by the length of its border,
 which of a long strip is the strip's width.
 """
@@ -13,30 +13,17 @@ from itertools import pairwise
 from typing import Iterator
 
 import numpy as np
-from osgeo import ogr, osr
+from osgeo import osr
 
 from .columns import Columns, Floats, GridPolygon, Mask, Numbers, of_polygons
 from .common_grid import CommonGrid
 from .frame import LIMIT, Frame
-from .geopackage import Row
-from .output import NO_BOXES, Column, Table
 from .program import FACES
 from .questions import Layer
 from .rings import perimeters
-from .row_tables import shapes
 from .rows import Rows
 
-OVERLAP, GAP, SLIVER = "overlap", "gap", "sliver"
-
-COLUMNS = [
-    Column("kind", ogr.OFTString),
-    Column("first", ogr.OFTInteger64),
-    Column("second", ogr.OFTInteger64),
-    Column("area", ogr.OFTReal),
-    Column("width", ogr.OFTReal),
-    Column("features", ogr.OFTString),
-]
-
+OVERLAP, DOUBLE, GAP, SLIVER = "overlap", "double", "gap", "sliver"
 
 @dataclass(frozen=True)
 class Sizes:
@@ -56,10 +43,11 @@ def usual_sizes(system: osr.SpatialReference | None) -> Sizes:
 
 @dataclass(frozen=True)
 class Flaw:
-    """An overlap of features of these numbers, or a gap where there are none; a point of its
-    border, its area and its width."""
+    """An overlap of features of these numbers, or a gap where there are none; whether it has all that
+    each of them covers; a point of its border, its area and its width."""
 
     ids: list[int]
+    double: bool
     at: tuple[float, float]
     area: float
     width: float
@@ -68,12 +56,13 @@ class Flaw:
 @dataclass(frozen=True)
 class Flaws:
     """Overlaps or gaps of a layer on the grid, each a feature of `shapes`, with twice their areas;
-    and the numbers of the features that overlap in each, none for gaps."""
+    the numbers of the features that overlap in each, none for gaps; and which are doubles."""
 
     frame: Frame
     shapes: Columns[Numbers]
     twice: Numbers
     ids: list[list[int]]
+    double: Mask
 
     @cached_property
     def widths(self) -> Floats:
@@ -87,16 +76,19 @@ class Flaws:
 
     def chosen(self, kept: Mask) -> Flaws:
         places = np.flatnonzero(kept).tolist()
-        return Flaws(self.frame, self.shapes.of_features(kept), self.twice[kept], [self.ids[k] for k in places])
+        return Flaws(self.frame, self.shapes.of_features(kept), self.twice[kept], [self.ids[k] for k in places], self.double[kept])
 
     def each(self) -> Iterator[Flaw]:
         unit, firsts = float(self.frame.unit), self.shapes.feature_points()[:-1]
         points = zip(self.shapes.x[firsts].tolist(), self.shapes.y[firsts].tolist())
-        for ids, point, twice, width in zip(self.ids, points, self.twice.tolist(), self.widths.tolist()):
-            yield Flaw(ids, self.frame.placed(*point), self.frame.area(twice), width * unit)
+        sizes = zip(self.twice.tolist(), self.widths.tolist())
+        for ids, double, point, (twice, width) in zip(self.ids, self.double.tolist(), points, sizes):
+            yield Flaw(ids, double, self.frame.placed(*point), self.frame.area(twice), width * unit)
 
 
 def kind_of(flaw: Flaw, sizes: Sizes) -> str:
+    if flaw.double:
+        return DOUBLE
     if flaw.width < sizes.sliver_width:
         return SLIVER
     return OVERLAP if flaw.ids else GAP
@@ -107,7 +99,10 @@ def overlaps(rows: Rows, ids: Numbers, frame: Frame) -> Flaws:
     several = rows.chosen(rows.counts > 1)
     (held,) = several.members
     starts = held.starts.tolist()
-    return Flaws(frame, several.shapes, several.twice, [ids[held.places[at:end]].tolist() for at, end in pairwise(starts)])
+    numbers = [ids[held.places[at:end]].tolist() for at, end in pairwise(starts)]
+    wholes = rows.areas_of(0, len(ids))[held.places]
+    double = np.maximum.reduceat(wholes, held.starts[:-1]) == several.twice if len(wholes) else np.zeros(0, bool)
+    return Flaws(frame, several.shapes, several.twice, numbers, double)
 
 
 def box_round(layer: Columns[Numbers]) -> GridPolygon:
@@ -134,7 +129,7 @@ def meets(polygons: Columns[Numbers], box: GridPolygon) -> Mask:
 def gaps(beyond: Columns[Numbers], box: GridPolygon, frame: Frame, sizes: Sizes) -> Flaws:
     """The gaps of a layer, of which the box has these polygons beyond it."""
     inside = beyond.of_features(~meets(beyond, box))
-    found = Flaws(frame, inside, np.array(inside.twice_areas(), np.int64), [[] for _ in inside.ids])
+    found = Flaws(frame, inside, np.array(inside.twice_areas(), np.int64), [[] for _ in inside.ids], np.zeros(len(inside.ids), bool))
     unit = float(frame.unit)
     small = found.twice * (unit * unit / 2) < sizes.gap_area
     return found.chosen(small | (found.widths * unit < sizes.gap_width))
@@ -147,17 +142,3 @@ def found_in(together: CommonGrid, layer: Layer, sizes: Sizes) -> tuple[Rows, Fl
     beyond = together.questions.beyond(of_polygons([box]), layer)
     rows = question.rows()
     return rows, overlaps(rows, layer.grid.layer.ids, frame), gaps(beyond.result(), box, frame, sizes)
-
-
-def table_of(parts: list[Flaws], sizes: Sizes) -> Table:
-    """All overlaps and gaps as a layer."""
-    boxes = np.concatenate([NO_BOXES, *(part.frame.boxes(part.shapes) for part in parts)])
-    rows = (row for part in parts for row in rows_of(part, sizes))
-    return Table(COLUMNS, rows, ogr.wkbMultiPolygon, boxes, frame=next((part.frame for part in parts), None))
-
-
-def rows_of(part: Flaws, sizes: Sizes) -> Iterator[Row]:
-    for shape, flaw in zip(shapes(part.shapes, part.frame), part.each()):
-        first, second = flaw.ids[:2] or (None, None)
-        features = ",".join(map(str, flaw.ids)) or None
-        yield shape, (kind_of(flaw, sizes), first, second, flaw.area, flaw.width, features)

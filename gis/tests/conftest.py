@@ -67,12 +67,15 @@ def write(
     return str(path)
 
 
-def read(path: str | Path) -> list[tuple[BaseGeometry, dict]]:
-    """The shapes and the fields of a layer file's features."""
+def read(path: str | Path) -> list[tuple[BaseGeometry | None, dict]]:
+    """The shapes, where there are such, and the fields of a layer file's features."""
     dataset = gdal.OpenEx(str(path), gdal.OF_VECTOR)
-    return [
-        (wkb.loads(bytes(feature.GetGeometryRef().ExportToWkb())), feature.items()) for feature in dataset.GetLayer(0)
-    ]
+    return [(shape_of(feature), feature.items()) for feature in dataset.GetLayer(0)]
+
+
+def shape_of(feature: ogr.Feature) -> BaseGeometry | None:
+    geometry = feature.GetGeometryRef()
+    return None if geometry is None else wkb.loads(bytes(geometry.ExportToWkb()))
 
 
 def corner(rng: random.Random, x: float, y: float, by: float, digits: int) -> tuple[float, float]:

@@ -40,7 +40,7 @@ def test_lines_progress_and_status(layers, capfd, program):
     assert calls.call(["run", "union", a, b, "-o", "out.gpkg"], lines.append, heard) == 0
     assert lines[-1] == "out.gpkg: 1 polygons" and "overlay union" in works and len(read("out.gpkg")) == 1
     assert in_a_thread(lambda: calls.call(["check", b], lines.append)) == 4
-    assert lines[-2].endswith("b.gpkg: features 1 and 2: overlap by 100 m²")
+    assert lines[-2].endswith("b.gpkg: features 1 and 2: the same area of 100 m²")
     assert [signal.getsignal(number) for number in (signal.SIGINT, signal.SIGTERM)] == handlers
     assert capfd.readouterr() == ("", "")
 

@@ -1,5 +1,7 @@
 """check: what is wrong with a layer, and nothing where nothing is."""
 
+import json
+
 import pytest
 from osgeo import ogr
 from shapely.geometry import LineString, Polygon, box
@@ -66,14 +68,41 @@ def test_an_overlap_of_several_features(gis, tmp_path):
         "features 1, 3, 4: overlap by 50 m²",
         "4 features, 3 findings, areas 300 m² in sum, 100 by parity",
     ]
-    found = [(fields["first"], fields["second"], fields["features"], shape.area) for shape, fields in read("overlaps.gpkg")]
-    assert found == [(1, 3, "1,3", 50), (1, 3, "1,3,4", 50)]
+    found = [(fields["kind"], fields["first"], fields["second"], fields["features"], shape and shape.area) for shape, fields in read("overlaps.gpkg")]
+    assert found == [("no geometry", 2, None, "2", None), ("overlap", 1, 3, "1,3", 50), ("overlap", 1, 3, "1,3,4", 50)]
+
+
+def test_each_finding_is_a_row(gis, tmp_path):
+    """A square that is there twice, one three times, a bow tie, no geometry; in a GeoPackage and as JSON."""
+    bow = Polygon([(EAST + 50, NORTH), (EAST + 54, NORTH + 4), (EAST + 54, NORTH), (EAST + 50, NORTH + 4), (EAST + 50, NORTH)])
+    third = box(EAST + 30, NORTH, EAST + 33, NORTH + 3)
+    a = write(tmp_path / "a.gpkg", [SQUARE, None, SQUARE, third, bow, third, third])
+    status, lines = checked(gis, a, "-o", "found.gpkg", "--json", "--grid", "1")
+    wanted = [
+        ("no geometry", [2], None, None, "feature 2: no geometry"),
+        ("crosses itself", [5], None, None, f"feature 5: Self-intersection[{EAST + 52} {NORTH + 2}]"),
+        ("double", [1, 3], 100.0, 5.0, "features 1 and 3: the same area of 100 m²"),
+        ("double", [4, 6, 7], 9.0, 1.5, "features 4, 6, 7: the same area of 9 m²"),
+    ]
+    (line,) = lines
+    told = json.loads(line)
+    assert status == 4 and (told["features"], told["areas"]) == (7, {"sum": 227.0, "parity": 17.0})
+    assert [(one["kind"], one["features"], one.get("area"), one["finding"]) for one in told["findings"]] == [(kind, ids, area, words) for kind, ids, area, _, words in wanted]
+    rows = [(fields["kind"], fields["features"], fields["area"], fields["width"], fields["finding"]) for _, fields in read("found.gpkg")]
+    assert rows == [(kind, ",".join(map(str, ids)), area, width, words) for kind, ids, area, width, words in wanted]
+    assert [None if shape is None else shape.bounds[0] - EAST for shape, _ in read("found.gpkg")] == [None, 50, 0, 30]
+
+
+def test_a_layer_without_polygons_has_rows_without_shapes(gis, tmp_path):
+    a = write(tmp_path / "a.gpkg", [None, LineString([(EAST, NORTH), (EAST + 4, NORTH)])])
+    assert checked(gis, a, "-o", "found.gpkg")[0] == 4
+    assert [(shape, fields["kind"], fields["first"]) for shape, fields in read("found.gpkg")] == [(None, "no geometry", 1), (None, "no polygon", 2)]
 
 
 def test_overlaps_of_the_features_that_are_sound(gis, tmp_path):
     shapes = [SQUARE, LineString([(EAST, NORTH), (EAST + 4, NORTH)]), SQUARE]
     status, lines = checked(gis, write(tmp_path / "a.gpkg", shapes))
-    assert status == 4 and "features 1 and 3: overlap by 100 m²" in lines[1] and lines[2].endswith("3 features, 2 findings")
+    assert status == 4 and "features 1 and 3: the same area of 100 m²" in lines[1] and lines[2].endswith("3 features, 2 findings")
 
 
 @pytest.mark.parametrize(

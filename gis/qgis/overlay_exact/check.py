@@ -29,12 +29,12 @@ class Check(VerbAlgorithm):
     STATUSES = (0, FOUND)
     TEXTS = {**SIZES, **TEXTS}
     HELP = (
-        "Which features of a layer overlap, and where gaps are between them: a row for each set of "
-        "features that cover some points together, with their numbers, and for each gap, which is "
-        "a hole of all features together that is narrow or small. The field kind tells overlap, "
-        "gap or sliver; a width is twice the area divided by the length of the border."
-        "\n\nThe log tells these and what else is wrong with the layer: features without a "
-        "geometry, rings that are open or cross themselves, points off the limits."
+        "What is wrong with a layer: a row for each set of features that overlap, with their "
+        "numbers, for each gap, which is a hole of all features together that is narrow or small, "
+        "and for each feature that is wrong by itself: without a geometry, with a ring that is open "
+        "or crosses itself. The field kind is overlap, double, gap, sliver and so on, and finding "
+        "has the words; a width is twice the area divided by the length of the border."
+        "\n\nThe log lists these, and points off the limits."
     )
 
     def initAlgorithm(self, configuration: Any = None) -> None:
