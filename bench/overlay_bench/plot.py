@@ -1,9 +1,9 @@
 """draws docs/speed.svg from bench/results: time against size for each kind of map, and for other tools beside overlay
 
 On the left what `bench/run --record speed` measured (`union` by one worker), on the right what `bench/run --record peers` did (`common`
-on the clean map): processor seconds against segments, both by powers of ten. The latest row of each kind, tool and size counts. The
-drawing has no date and no chance in it: the same tables give the same bytes. With `--by PROGRAM` it also draws docs/picture.svg and
-docs/fill-rules.svg, from what that program answers.
+on the clean map): processor seconds against segments, both by powers of ten. The latest row of each kind and size counts, and of
+tools the last run, so that no line of theirs joins different programs. The drawing has no date and no chance in it: the same tables give
+the same bytes. With `--by PROGRAM` it also draws docs/picture.svg and docs/fill-rules.svg, from what that program answers.
 """
 from __future__ import annotations
 
@@ -57,7 +57,7 @@ def kinds() -> list[Series]:
 
 
 def tools() -> list[Series]:
-    rows = [row for row in results.latest("peers", ("tool", "map", "segments", "job")) if (row["map"], row["job"]) == ("clean", "common")]
+    rows = [row for row in results.last_run("peers", ("tool", "map", "segments", "job")) if (row["map"], row["job"]) == ("clean", "common")]
     rows = [row for row in rows if row["answers"] == "yes" and ("," not in row["tool"])]
     return series(rows, "tool", "processor s", lambda name: "ours" if name == "overlay" else "peer")
 
