@@ -13,7 +13,7 @@ import os
 from collections.abc import Callable
 from dataclasses import dataclass
 
-from . import programs, results, rule_pictures
+from . import compared, peer_tools, programs, results, rule_pictures
 from .maps import HARD
 
 PICTURE = os.path.join(programs.ROOT, "docs", "speed.svg")
@@ -58,7 +58,8 @@ def kinds() -> list[Series]:
 
 def tools() -> list[Series]:
     rows = [row for row in results.last_run("peers", ("tool", "map", "segments", "job")) if (row["map"], row["job"]) == ("clean", "common")]
-    rows = [row for row in rows if row["answers"] == "yes" and ("," not in row["tool"])]
+    rows = [row for row in rows if row["answers"] == "yes" and "," not in row["tool"] and row["tool"] != peer_tools.Faces.name]
+    rows = [{**row, "processor s": "%.3f" % compared.without_start(row)} for row in rows]
     return series(rows, "tool", "processor s", lambda name: "ours" if name == "overlay" else "peer")
 
 

@@ -18,8 +18,9 @@ PANEL, TITLE, GAP, EDGE, LINE = 270, 30, 16, 10, 20
 
 # Two layers of one polygon each, whose crossings lie beside the grid's points.
 LAYERS = ("POLYGON ((1 1, 9 0, 12 7, 4 10, 1 1))", "POLYGON ((0 4, 7 2, 13 5, 8 6, 10 11, 3 7, 0 4))")
-# One layer of two polygons: a star that crosses itself, and a square over a part of it.
-OVERLAPPING = "POLYGON ((11 21, 5 2, 21 14, 1 14, 17 2, 11 21))\nPOLYGON ((12 8, 25 8, 25 21, 12 21, 12 8))"
+# One layer of two polygons: a star that crosses itself, and a square over a part of it; so large that rounding isn't seen.
+OVERLAPPING = "POLYGON ((440 860, 200 100, 840 580, 40 580, 680 100, 440 860))\nPOLYGON ((480 340, 1000 340, 1000 860, 480 860, 480 340))"
+MARGIN = 20
 
 Point = tuple[float, float]
 Edge = tuple[Point, Point]
@@ -143,7 +144,8 @@ def fill_rules(program: str) -> str:
     layer = shapes.of_lines(OVERLAPPING)
     even_odd, covered = (shapes.of_lines(answer(program, "union", (OVERLAPPING, ""), *words)) for words in ((), ("--covered",)))
     rows = [line.split("\t") for line in answer(program, "faces", (OVERLAPPING,)).splitlines()]
-    corner = (max(x for edge in outline(layer) for x, _ in edge), max(y for edge in outline(layer) for _, y in edge))
+    points = [point for edge in outline(layer) for point in edge]
+    corner = (MARGIN + max(x for x, _ in points), MARGIN + max(y for _, y in points))
     by_parity, by_cover, by_faces = panels(corner)
     colours = {"1": FIRST, "2": SECOND, "1,2": BOTH}
     drawn = [by_parity.title("overlay union: the even-odd rule"), by_cover.title("overlay union --covered"), by_faces.title("overlay faces")]
