@@ -104,5 +104,5 @@ def table() -> list[str]:
     lines = [cells(tool, run, ours) for tool in run if not tool.endswith(VALID) and tool != peer_tools.Faces.name]
     lines.sort(key=lambda row: not row[0].startswith("**"))
     size = max((number(row["segments"]) for rows in run.values() for row in rows), default=0)
-    head, *rest = ["|%s|" % " | ".join(line) for line in (["%s segments a layer" % format(int(size), ","), *HEAD], *lines, *not_run(found))]
+    head, *rest = ["|%s|" % "|".join(line) for line in (["%s segments a layer" % format(int(size), ","), *HEAD], *lines, *not_run(found))]
     return [head, "|---" * (1 + len(HEAD)) + "|", *rest]
