@@ -8,7 +8,7 @@ import sys
 
 from . import programs, results
 
-NAMES = ("compare", "rows", "texts", "memory", "faults", "workers", "parallel", "repeat", "scarce", "changing", "limits", "hostile", "speed", "large", "strips", "faces", "library", "laws", "requests", "kernels", "unproved", "peers", "capabilities", "bridge", "plot", "sizes", "believed", "documents")
+NAMES = ("compare", "rows", "texts", "memory", "faults", "workers", "parallel", "repeat", "scarce", "changing", "limits", "hostile", "speed", "large", "strips", "faces", "library", "laws", "requests", "kernels", "unproved", "peers", "capabilities", "bridge", "unrepaired", "plot", "sizes", "believed", "documents")
 WITHOUT_PROGRAM = ("laws", "requests", "strips", "kernels", "unproved", "plot", "sizes", "believed", "documents")
 
 

@@ -1,11 +1,11 @@
-"""asks the tools that README compares for faces with their features, files, decimals, lines, a grid, a program, a library
+"""asks the tools that `peers` runs for faces with their features, files, decimals, lines, a grid, a program, a library
 
 Each question is a command of a shell, told as it was run, in a folder with three squares (a, b and c, of which each lies on the one
 before), a triangle t that crosses a between points of the grid, a square `half` with decimals, and a line: as WKT, as CSV with a column of
 WKT, as GeoJSON, Shapefile and GeoPackage. What the output has says `yes`, how, or `no`; `seen` is its line that says so. PostGIS runs in a
 server of its own, as for `peers`, whose help tells what has to be installed; a tool that isn't there is told and left out. `cgal_asked` and
 `clipper_asked` are programs of bench/peers, compiled here (CGAL's in three minutes). The exit status is 1 where an output says neither.
-README's last columns are of the last run that was recorded (`--record`), so that should be one of all tools.
+A run that is recorded (`--record`) should be one of all tools.
 """
 from __future__ import annotations
 

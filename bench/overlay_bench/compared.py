@@ -1,17 +1,15 @@
-"""README's table of other tools: the largest maps of the last run that bench/results/peers.tsv has, and what the last run of capabilities.tsv tells of the same versions."""
+"""README's table of other tools: the largest maps of the last run that bench/results/peers.tsv has."""
 from __future__ import annotations
 
 import re
 
-from . import capabilities, noding, peer_tools, results
+from . import peer_tools, results
 
-HEAD = ("rounding", "raw map", "reordered", "threads", "time", "faces with sources", "files", "lacks")
-# A tool's rows on a grid, and with its layers made valid, tell more of the same tool.
-GRID, VALID = ", grid 1", ", made valid"
-SHAPES = ("same bytes", "same polygons", "other points")
+HEAD = ("raw map", "1 and 4 threads", "timed", "CPU time", "from text to text")
+# What a tool answers with its layers made valid stands in the tool's own row.
+VALID = ", made valid"
 NOT_RUN = "not run: "
-# What overlay's rounding is beside what a run shows: README, What is proved.
-PROVED = "exact, "
+NONE = "–"
 
 Row = dict[str, str]
 
@@ -39,16 +37,16 @@ def on_raw_map(rows: list[Row], valid: list[Row]) -> str:
     off = max((number(row["area off"]) for row in raw), key=abs, default=0.0)
     if faults:
         late = re.match(peer_tools.OVER + r" within (\d+) ", faults[0])
-        found = "no answer in %s s" % late[1] if late else "stops"
+        found = "no answer in %s s" % late[1] if late else "error"
     elif not raw:
-        return "–"
+        return NONE
     elif abs(off) > 1:
         found = "%s %.2g%% of the area" % ("loses" if off < 0 else "adds", abs(off) / 10_000)
     else:
-        found = "answers"
-    if found == "answers" or not answers(valid):
+        found = "right area"
+    if found == "right area" or not answers(valid):
         return found
-    return "made valid, answers" if found == "stops" else found + "; made valid, answers"
+    return found + "; right area if made valid first"
 
 
 def common_of(rows: list[Row]) -> Row:
@@ -56,56 +54,44 @@ def common_of(rows: list[Row]) -> Row:
     return next((row for row in rows if (row["map"], row["job"], row["answers"]) == ("clean", "common", "yes")), {})
 
 
-def rounding(own: Row, grid: Row) -> str:
-    """What the points of an answer are, also where the tool is asked for a grid."""
-    points, asked = own.get("points", ""), grid.get("points", "")
-    if points == noding.DECIMALS:
-        return asked + ", if asked" if asked else "none"
-    return points or "–"
+def without_start(row: Row) -> float:
+    """The processor seconds of a row without those of the start."""
+    return number(row.get("processor s", "")) - number(row.get("start s", ""))
 
 
-def has(tool: str, version: str) -> dict[str, str]:
-    """What a tool of this version has of what was asked, each by its words."""
-    rows = results.last_run("capabilities", ("tool", "asked"))
-    return {row["asked"]: row["has"] for row in rows if (row["tool"], row["version"]) == (tool, version)}
+def ratio(seconds: float, ours: float) -> str:
+    return "%.1f" % (seconds / ours) if seconds and ours else NONE
 
 
-def besides(found: dict[str, str]) -> list[str]:
-    """What a tool answers of faces, which files it reads, and what it lacks."""
-    if not found:
-        return ["–"] * 3
-    two, three = (found.get(asked, capabilities.NO) for asked in capabilities.FACES)
-    faces = three if three != capabilities.NO else two if two == capabilities.NO else "two layers"
-    files = [name for name in capabilities.FILES if found.get(name) == capabilities.YES]
-    lacked = [name for name in capabilities.OTHERS if found.get(name) == capabilities.NO]
-    # a name of a tool's own, which stands without its backquotes in a recorded cell
-    faces = re.sub(r"^by (\S+)$", r"by `\1`", faces)
-    return [faces, "all" if len(files) == len(capabilities.FILES) else ", ".join(files) or "none", ", ".join(lacked) or "none"]
+def threads(tool: str, own: Row) -> str:
+    """Whether one thread writes the bytes of several."""
+    if not own:
+        return NONE
+    return own["1 and N threads"] or ("1 thread" if number(own["threads"]) <= 1 else NONE)
 
 
-def cells(tool: str, rows: dict[str, list[Row]]) -> list[str]:
-    own, grid, valid = rows[tool], rows.get(tool + GRID, []), rows.get(tool + VALID, [])
-    done = [row for row in own + valid if row["answers"] == "yes"]
-    kept = [row[what] for row in done for what in ("again", "other order") if row[what] and not row[what].startswith(peer_tools.OVER)]
-    order = max(kept, key=lambda word: SHAPES.index(word) if word in SHAPES else len(SHAPES), default="–")
-    threads = max((row["threads"] for row in done if row["threads"]), key=number, default="–")
-    ratio = common_of(own).get("ratio", "")
-    time = ("1" if tool == "overlay" else "%.1f" % number(ratio)) if ratio else "–"
-    name = own[-1]["version"].partition(", ")[0]
-    found = has(tool, own[-1]["version"])
-    # the rows on a grid may be the library's below the tool, which can't be asked for it
-    rounded = rounding(common_of(own), {} if found.get(capabilities.GRID) == capabilities.NO else common_of(grid))
-    measured = [PROVED + rounded if tool == "overlay" else rounded, on_raw_map(own, valid), order, threads, time]
-    return ["**%s**" % name if tool == "overlay" else name, *measured, *besides(found)]
+def named(tool: str, version: str) -> str:
+    """The tool's version, and how it was asked."""
+    name, _, asked = tool.partition(", ")
+    found = version.partition(", ")[0] + (", " + asked if asked else "")
+    return "**%s**" % found if name == "overlay" else found
+
+
+def cells(tool: str, rows: dict[str, list[Row]], ours: float) -> list[str]:
+    found = rows[tool]
+    own = common_of(found)
+    whole = without_start(own) if own.get("timed") == peer_tools.TEXTS else number(own.get("text to text s", ""))
+    raw = on_raw_map(found, rows.get(tool + VALID, []))
+    return [named(tool, found[-1]["version"]), raw, threads(tool, own), own.get("timed", NONE), ratio(without_start(own), ours), ratio(whole, ours)]
 
 
 def not_run(found: dict[str, list[Row]]) -> list[list[str]]:
     """The tools that weren't there, by the reasons."""
     reasons: dict[str, list[str]] = {}
     for tool, rows in found.items():
-        if rows[-1]["answers"].startswith(NOT_RUN) and not tool.endswith((GRID, VALID)) and tool != peer_tools.Faces.name:
+        if rows[-1]["answers"].startswith(NOT_RUN) and not tool.endswith(VALID) and tool != peer_tools.Faces.name:
             reasons.setdefault(re.split("[:,] ", rows[-1]["answers"].removeprefix(NOT_RUN))[0], []).append(tool)
-    return [[", ".join(tools), NOT_RUN + reason] for reason, tools in reasons.items()]
+    return [[", ".join(tools), NOT_RUN + reason, *[NONE] * (len(HEAD) - 1)] for reason, tools in reasons.items()]
 
 
 def table() -> list[str]:
@@ -114,8 +100,9 @@ def table() -> list[str]:
     for row in results.last_run("peers", ("tool", "map", "segments", "job")):
         found.setdefault(row["tool"], []).append(row)
     run = {tool: largest(rows) for tool, rows in found.items() if not rows[-1]["answers"].startswith(NOT_RUN)}
-    lines = [cells(tool, run) for tool in run if not tool.endswith((GRID, VALID)) and tool != peer_tools.Faces.name]
+    ours = without_start(common_of(run.get(peer_tools.Overlay.name, [])))
+    lines = [cells(tool, run, ours) for tool in run if not tool.endswith(VALID) and tool != peer_tools.Faces.name]
     lines.sort(key=lambda row: not row[0].startswith("**"))
     size = max((number(row["segments"]) for rows in run.values() for row in rows), default=0)
-    head, *rest = ["|%s|" % " | ".join(line) for line in (["%s segments" % format(int(size), ","), *HEAD], *lines, *not_run(found))]
+    head, *rest = ["|%s|" % "|".join(line) for line in (["%s segments a layer" % format(int(size), ","), *HEAD], *lines, *not_run(found))]
     return [head, "|---" * (1 + len(HEAD)) + "|", *rest]

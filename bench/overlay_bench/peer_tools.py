@@ -17,6 +17,9 @@ from .town import Feature
 PEERS = os.path.join(programs.BENCH, "peers")
 DEBIAN_PYTHON = "/usr/bin/python3"
 OVER = "no answer"
+# What a tool's processor seconds are of.
+OPERATION, TEXTS, FILES = "operation alone", "text to text", "file to file"
+ONE_WORKER = "overlay, 1 worker"
 
 
 class Layers:
@@ -55,13 +58,15 @@ class Layers:
 
 @dataclass(frozen=True)
 class Run:
-    """Why there is no answer (nothing where there is one), seconds of processors and on the clock, threads at work, and the answer's lines."""
+    """Why there is no answer (nothing where there is one), seconds of processors and on the clock, threads at work, the answer's lines, and
+    the processor seconds from text to text, where a tool reports these beside those of the operation."""
 
     fault: str
     processor: float = 0.0
     clock: float = 0.0
     threads: int = 0
     text: str = ""
+    whole: float | None = None
 
 
 def words_of(said: str) -> str:
@@ -83,7 +88,7 @@ def fault_of(run: watching.Watched) -> str:
 
 
 class Tool:
-    name, needs = "", ""
+    name, needs, timed = "", "", OPERATION
     words: tuple[str, ...] = ()
 
     def missing(self) -> str:
@@ -103,16 +108,19 @@ class Tool:
         """A program that prints its answer, and tells the processor seconds of the operation alone, or else all of it counts."""
         output = os.path.join(layers.folder, "out")
         run = watching.watched(words, output, seconds)
-        told = re.findall(r"^processor ([0-9.]+)$", run.said, re.M)
+        told, whole = (re.findall(r"^%s ([0-9.]+)$" % word, run.said, re.M) for word in ("processor", "whole"))
         with open(output, encoding="ascii") as file:
-            return Run(fault_of(run), float(told[-1]) if told else run.processor, run.clock, run.threads, file.read())
+            taken = float(told[-1]) if told else run.processor
+            return Run(fault_of(run), taken, run.clock, run.threads, file.read(), float(whole[-1]) if whole else None)
 
 
 class Overlay(Tool):
-    name, needs = "overlay", "the built program"
+    name, needs, timed = "overlay", "the built program", TEXTS
 
-    def __init__(self, program: str):
-        self.program = program
+    def __init__(self, program: str, workers: int = 4):
+        self.program, self.words = program, ("--workers=%d" % workers,)
+        if workers == 1:
+            self.name = ONE_WORKER
 
     def version(self) -> str:
         with open(os.path.join(programs.ROOT, "VERSION"), encoding="ascii") as file:
@@ -121,13 +129,13 @@ class Overlay(Tool):
     def run(self, job: str, layers: Layers, seconds: float) -> Run:
         first, second = layers.files
         words = ["intersection", first, second] if job == "common" else ["union", first, layers.nothing]
-        return self.of_program([self.program, *words], layers, seconds)
+        return self.of_program([self.program, *words, *self.words], layers, seconds)
 
 
 class Faces(Tool):
     """The faces of both layers with what covers each, or of the first one alone; of these the exact areas."""
 
-    name, needs = "overlay-gis faces", "python3-gdal python3-shapely gdal-bin"
+    name, needs, timed = "overlay-gis faces", "python3-gdal python3-shapely gdal-bin", FILES
 
     def __init__(self, program: str):
         self.program = program
@@ -250,7 +258,7 @@ class PostGis(Tool):
 class Qgis(Tool):
     """Algorithms by qgis_process, from file to file, one start each."""
 
-    needs = "qgis gdal-bin"
+    needs, timed = "qgis gdal-bin", FILES
 
     def __init__(self, name: str, makes_valid: bool = False):
         self.name, self.makes_valid = name, makes_valid
@@ -303,7 +311,7 @@ class Qgis(Tool):
 
 
 class Absent(Tool):
-    """A tool that Debian 12 has no package of."""
+    """A tool that Debian has no package of."""
 
     def __init__(self, name: str, why: str):
         self.name, self.needs = name, why
@@ -317,6 +325,7 @@ def peers() -> list[Tool]:
         Geos("Shapely"),
         Geos("Shapely, grid 1", "1"),
         Geos("Shapely, made valid", "0", "made-valid"),
+        Geos("Shapely, coverage", "0", "coverage"),
         PostGis("PostGIS", "st_union(geom)", "st_intersection({a}, {b})"),
         PostGis("PostGIS, grid 1", "st_union(geom, 1)", "st_intersection({a}, {b}, 1)"),
         PostGis("PostGIS, made valid", "st_union(st_makevalid(geom))", "st_intersection({a}, {b})"),
@@ -324,6 +333,6 @@ def peers() -> list[Tool]:
         Qgis("QGIS, made valid", True),
         Compiled("CGAL", "cgal", "CGAL/Polygon_set_2.h", "libcgal-dev", "-lgmp", "-lmpfr"),
         Compiled("Clipper 6", "clipper", "polyclipping/clipper.hpp", "libpolyclipping-dev", "-lpolyclipping"),
-        Absent("mapshaper", "no package in Debian 12: it comes by npm alone"),
-        Absent("Clipper2", "no package in Debian 12, which has Clipper 6"),
+        Absent("mapshaper", "no package in Debian: it comes by npm alone"),
+        Absent("Clipper2", "no package in Debian, which has Clipper 6"),
     ]

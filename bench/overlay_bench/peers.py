@@ -9,15 +9,17 @@ itself). Two jobs: `dissolve` is the area that some parcel covers, `common` what
                each. overlay reads a layer by parity, so it is held against the faces that an odd number of features covers
   again        a second run on the same files: the same bytes, the same polygons otherwise written, or other points
   other order  the same with the features of both layers in another order
-  processor s  of the operation alone, without reading and writing, by the least of the rounds. overlay, overlay-gis and QGIS: of all
-               runs, from files to files, with what starts take (QGIS some two seconds, three times for `common`, five where the layers are
-               made valid); PostGIS: of the session
+  processor s  by the least of the rounds, of what `timed` says; PostGIS: of the session
   clock s      of the whole run, as processor seconds are
-  ratio        processor seconds to overlay's in this run
+  ratio        processor seconds, less those of the start, to overlay's in this run
   threads      at work at once, in a tenth of the run at least
   points       of the answer: decimals; or whole, and noded (edges share ends alone), or with how many crossings
+  timed        the operation alone, without reading and writing; or from text to text (overlay), or from file to file (overlay-gis, QGIS)
+  start s      the least processor seconds of the same job on layers without a feature, where the whole run is timed
+  text to text s  of tools whose operation alone is timed: with reading and writing texts, without the interpreter's start
+  1 and N threads  whether one worker writes the bytes of several; nothing where a tool has one thread
 
-PostgreSQL is started for this by a user that isn't root, on a free port of this machine, in a temporary folder, and ended. What isn't
+The rounds of all tools are run in turns, so that other work on the machine meets all of them. PostgreSQL is started for this by a user that isn't root, on a free port of this machine, in a temporary folder, and ended. What isn't
 there is told and left out: apt-get install python3-shapely python3-gdal gdal-bin postgresql postgis postgresql-15-postgis-3 qgis g++
 libcgal-dev libpolyclipping-dev. The exit status is 1 where overlay doesn't answer, or has another area or other bytes than it may, or
 edges that cross. README's table is of the last run that was recorded (`--record`), so that should be one of all tools.
@@ -26,21 +28,25 @@ from __future__ import annotations
 
 import argparse
 import contextlib
+import itertools
 import os
 import signal
 import subprocess
 import sys
 import tempfile
-from dataclasses import dataclass, replace
+from dataclasses import dataclass
 
 from . import noding, shapes, town
-from .peer_tools import OVER, Faces, Layers, Overlay, Run, Tool, peers, words_of
+from .peer_tools import ONE_WORKER, OPERATION, OVER, Faces, Layers, Overlay, Run, Tool, peers, words_of
 
 JOBS = ("dissolve", "common")
 # A job that takes so many seconds is run twice at most on the same files.
 SLOW = 30
 MAPS = {"clean": False, "raw": True}
-HEAD = ("tool", "version", "map", "segments", "job", "answers", "area off", "again", "other order", "processor s", "clock s", "ratio", "threads", "points")
+HEAD = (
+    "tool", "version", "map", "segments", "job", "answers", "area off", "again", "other order", "processor s", "clock s", "ratio", "threads", "points",
+    "timed", "start s", "text to text s", "1 and N threads",
+)
 
 
 def add_arguments(parser: argparse.ArgumentParser) -> None:
@@ -87,6 +93,8 @@ class Row:
     job: str
     runs: list[Run]
     other: Run | None
+    start: float = 0.0
+    by_threads: str = ""
 
     def off(self, known: Exact | None) -> float | None:
         """The area against the exact one, in millionths."""
@@ -113,14 +121,57 @@ class Row:
         taken: list[float] = [getattr(run, what) for run in self.runs]
         return min(taken)
 
+    def processor(self) -> float:
+        """Processor seconds without those of the start."""
+        return max(self.least("processor") - self.start, 0.0)
 
-def row_of(tool: Tool, version: str, name: str, size: int, job: str, layers: Layers, other: Layers, arguments: argparse.Namespace) -> Row:
-    runs = [tool.run(job, layers, arguments.seconds)]
-    if runs[0].fault:
-        return Row(tool, version, name, size, job, runs, None)
-    rounds = min(arguments.rounds, 2) if runs[0].clock > SLOW else arguments.rounds
-    runs += [tool.run(job, layers, arguments.seconds) for _ in range(rounds - 1)]
-    return Row(tool, version, name, size, job, runs, tool.run(job, other, arguments.seconds))
+    def from_text_to_text(self) -> str:
+        taken = [run.whole for run in self.runs if run.whole is not None]
+        return "%.3f" % min(taken) if taken else ""
+
+
+def start_of(tool: Tool, job: str, layers: Layers, arguments: argparse.Namespace) -> float:
+    """The least processor seconds of a job on layers without a feature; nothing of a tool whose operation alone is timed."""
+    if tool.timed == OPERATION:
+        return 0.0
+    runs = [tool.run(job, layers, arguments.seconds) for _ in range(arguments.rounds)]
+    return min((run.processor for run in runs if not run.fault), default=0.0)
+
+
+class Rows:
+    """The rows of one map, a row a tool and job, whose rounds are run in turns."""
+
+    def __init__(self, name: str, size: int, versions: dict[str, str], arguments: argparse.Namespace):
+        self.name, self.size, self.versions, self.arguments = name, size, versions, arguments
+        self.found: dict[tuple[str, str], Row] = {}
+
+    def first(self, tool: Tool, job: str, layers: Layers, other: Layers, nothing: Layers) -> Row:
+        """The first run of a job, and that on the other order; a job isn't tried where the one before took too long."""
+        about = (tool, self.versions[tool.name], self.name, self.size, job)
+        before = [row for (of_tool, _), row in self.found.items() if of_tool == tool.name and row.is_over()]
+        if before:
+            return Row(*about, before[0].runs, None)
+        run = tool.run(job, layers, self.arguments.seconds)
+        if run.fault:
+            return Row(*about, [run], None)
+        return Row(*about, [run], tool.run(job, other, self.arguments.seconds), start_of(tool, job, nothing, self.arguments))
+
+    def once_more(self, tool: Tool, job: str, layers: Layers) -> None:
+        """One more run of a job that has an answer; a slow one has two at most."""
+        row = self.found[tool.name, job]
+        if not row.runs[0].fault and (len(row.runs) < 2 or row.runs[0].clock <= SLOW):
+            row.runs.append(tool.run(job, layers, self.arguments.seconds))
+
+    def run(self, tools: list[Tool], layers: Layers, other: Layers, nothing: Layers) -> list[Row]:
+        each = [(tool, job) for tool in tools for job in JOBS]
+        for tool, job in each:
+            self.found[tool.name, job] = self.first(tool, job, layers, other, nothing)
+        for tool, job in (self.arguments.rounds - 1) * each:
+            self.once_more(tool, job, layers)
+        for job in JOBS:
+            one, several = (self.found[name, job] for name in (ONE_WORKER, Overlay.name))
+            several.by_threads = same(one.runs[0].text, several.runs[0].text)
+        return list(self.found.values())
 
 
 class Table:
@@ -135,20 +186,21 @@ class Table:
         fault, off = row.runs[0].fault, row.off(known)
         times = ["", "", ""]
         if self.times and not fault:
-            processor = row.least("processor")
-            if isinstance(row.tool, Overlay):
-                self.ours[row.map, row.size, row.job] = processor
+            if row.tool.name == Overlay.name:
+                self.ours[row.map, row.size, row.job] = row.processor()
             ours = self.ours.get((row.map, row.size, row.job))
-            times = ["%.3f" % processor, "%.3f" % row.least("clock"), "%.2f" % (processor / ours) if ours else ""]
+            times = ["%.3f" % row.least("processor"), "%.3f" % row.least("clock"), "%.2f" % (row.processor() / ours) if ours else ""]
         threads = "" if fault else str(max(run.threads for run in row.runs))
         told = [fault or "yes", "" if off is None else "%+.3f" % off, row.again(), row.in_other_order(), *times, threads, row.points()]
+        start = "%.3f" % row.start if self.times and row.start else ""
+        told += [row.tool.timed, start, row.from_text_to_text() if self.times else "", row.by_threads]
         cells = [row.tool.name, row.version, row.map, str(row.size), row.job, *told]
         print("| %s |" % " | ".join(cell.replace("|", "/") for cell in cells), flush=True)
         if isinstance(row.tool, Overlay):
             self.wrong |= bool(fault) or off not in (None, 0.0) or {row.again(), row.in_other_order()} != {"same bytes"} or row.points() != noding.NODED
 
     def skip(self, tool: Tool, why: str) -> None:
-        print("| %s |" % " | ".join([tool.name, "", "", "", "", "not run: " + why, *[""] * 8]), flush=True)
+        print("| %s |" % " | ".join([tool.name, "", "", "", "", "not run: " + why, *[""] * 12]), flush=True)
 
     def versions(self, tools: list[Tool]) -> dict[str, str]:
         """The versions of those that start; the others are told."""
@@ -168,9 +220,16 @@ def faces_row(tool: Faces, version: str, name: str, size: int, job: str, layers:
     times = ["", ""]
     if table.times and not runs[0].fault:
         times = ["%.3f" % min(getattr(run, what) for run in runs) for what in ("processor", "clock")]
-    told = [runs[0].fault or "yes", "", again, "", *times, "", str(max(run.threads for run in runs)), ""]
+    told = [runs[0].fault or "yes", "", again, "", *times, "", str(max(run.threads for run in runs)), "", tool.timed, "", "", ""]
     print("| %s |" % " | ".join([tool.name, version, name, str(size), job, *told]), flush=True)
     return None if runs[0].fault else exact(runs[0].text, job)
+
+
+def place_in(folder: str, name: str) -> str:
+    """A new folder in another one."""
+    place = os.path.join(folder, name)
+    os.mkdir(place)
+    return place
 
 
 def main(arguments: argparse.Namespace) -> int:
@@ -180,28 +239,19 @@ def main(arguments: argparse.Namespace) -> int:
     for tool in [tool for tool in tools if tool.missing()]:
         table.skip(tool, tool.missing())
     with tempfile.TemporaryDirectory() as folder, contextlib.ExitStack() as ends:
-        faces, overlay = Faces(arguments.program), Overlay(arguments.program)
+        faces, ours = Faces(arguments.program), [Overlay(arguments.program), Overlay(arguments.program, 1)]
         there = [tool for tool in tools if not tool.missing()]
         for tool in there:
             ends.callback(tool.end)
-        versions = table.versions([overlay, *there])
-        there = [tool for tool in there if tool.name in versions]
+        versions = table.versions([*ours, *there])
+        there = [*ours, *(tool for tool in there if tool.name in versions)]
         if faces.missing():
             table.skip(faces, faces.missing())
-        for size in arguments.sizes:
-            for name in arguments.maps:
-                places = [os.path.join(folder, "%s-%d-%s" % (name, size, order)) for order in ("given", "other")]
-                for place in places:
-                    os.mkdir(place)
-                layers = Layers(places[0], town.town(size, MAPS[name]))
-                other = layers.shuffled(places[1])
-                known = {job: None if faces.missing() else faces_row(faces, faces.version(), name, size, job, layers, arguments, table) for job in JOBS}
-                for tool in [overlay, *there]:
-                    rows: list[Row] = []
-                    for job in JOBS:
-                        if any(row.is_over() for row in rows):
-                            rows.append(replace(rows[0], job=job))
-                        else:
-                            rows.append(row_of(tool, versions[tool.name], name, size, job, layers, other, arguments))
-                        table.show(rows[-1], known[job])
+        nothing = Layers(place_in(folder, "nothing"), ([], []))
+        for size, name in itertools.product(arguments.sizes, arguments.maps):
+            given, other = (place_in(folder, "%s-%d-%s" % (name, size, order)) for order in ("given", "other"))
+            layers = Layers(given, town.town(size, MAPS[name]))
+            known = {job: None if faces.missing() else faces_row(faces, faces.version(), name, size, job, layers, arguments, table) for job in JOBS}
+            for row in Rows(name, size, versions, arguments).run(there, layers, layers.shuffled(other), nothing):
+                table.show(row, known[row.job])
     return int(table.wrong)

@@ -1,8 +1,9 @@
 """draws docs/speed.svg from bench/results: time against size for each kind of map, and for other tools beside overlay
 
 On the left what `bench/run --record speed` measured (`union` by one worker), on the right what `bench/run --record peers` did (`common`
-on the clean map): processor seconds against segments, both by powers of ten. The latest row of each kind, tool and size counts. The
-drawing has no date and no chance in it: the same tables give the same bytes.
+on the clean map): processor seconds against segments, both by powers of ten. The latest row of each kind and size counts, and of
+tools the last run, so that no line of theirs joins different programs. The drawing has no date and no chance in it: the same tables give
+the same bytes. With `--by PROGRAM` it also draws docs/picture.svg and docs/fill-rules.svg, from what that program answers.
 """
 from __future__ import annotations
 
@@ -12,7 +13,7 @@ import os
 from collections.abc import Callable
 from dataclasses import dataclass
 
-from . import programs, results
+from . import compared, peer_tools, programs, results, rule_pictures
 from .maps import HARD
 
 PICTURE = os.path.join(programs.ROOT, "docs", "speed.svg")
@@ -30,6 +31,7 @@ class Series:
 
 def add_arguments(parser: argparse.ArgumentParser) -> None:
     parser.add_argument("--output", default=PICTURE)
+    parser.add_argument("--by", metavar="PROGRAM", help="also draws the pictures of the rules, by this program")
 
 
 def number(text: str) -> float | None:
@@ -55,8 +57,9 @@ def kinds() -> list[Series]:
 
 
 def tools() -> list[Series]:
-    rows = [row for row in results.latest("peers", ("tool", "map", "segments", "job")) if (row["map"], row["job"]) == ("clean", "common")]
-    rows = [row for row in rows if row["answers"] == "yes" and ("," not in row["tool"])]
+    rows = [row for row in results.last_run("peers", ("tool", "map", "segments", "job")) if (row["map"], row["job"]) == ("clean", "common")]
+    rows = [row for row in rows if row["answers"] == "yes" and "," not in row["tool"] and row["tool"] != peer_tools.Faces.name]
+    rows = [{**row, "processor s": "%.3f" % compared.without_start(row)} for row in rows]
     return series(rows, "tool", "processor s", lambda name: "ours" if name == "overlay" else "peer")
 
 
@@ -131,5 +134,7 @@ def main(arguments: argparse.Namespace) -> int:
     drawn = picture()
     with open(arguments.output, "w", encoding="utf-8") as file:
         file.write(drawn)
-    print("%s: %d bytes" % (os.path.relpath(arguments.output), len(drawn.encode())))
+    made = [arguments.output, *(rule_pictures.write(arguments.by) if arguments.by else [])]
+    for path in made:
+        print("%s: %d bytes" % (os.path.relpath(path), os.path.getsize(path)))
     return 0

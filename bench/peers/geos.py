@@ -1,8 +1,9 @@
 #!/usr/bin/python3
-"""A job of bench/run peers by GEOS, as Shapely calls it: geos.py dissolve|common A B [GRID [made-valid]]
+"""A job of bench/run peers by GEOS, as Shapely calls it: geos.py dissolve|common A B [GRID [made-valid|coverage]]
 
-Prints each polygon of the answer as WKB in hexadecimal digits, and at last on standard error the processor seconds of the operation alone.
-With a grid above 0 GEOS rounds onto it: by Shapely's own words since version 2, before that by the calls of the C library."""
+Prints each polygon of the answer as WKB in hexadecimal digits, and at last on standard error the processor seconds of the operation alone,
+and those from text to text, without the interpreter's start. With a grid above 0 GEOS rounds onto it: by Shapely's own words since version
+2, before that by the calls of the C library. `coverage` unites by `coverage_union_all`, which takes a layer to have no overlaps."""
 from __future__ import annotations
 
 import ctypes
@@ -38,7 +39,9 @@ def on_grid_before_2(name: str, grid: float, *geometries: BaseGeometry) -> BaseG
     return geom_factory(found)
 
 
-def union(geometries: Sequence[BaseGeometry], grid: float) -> BaseGeometry:
+def union(geometries: Sequence[BaseGeometry], grid: float, is_coverage: bool = False) -> BaseGeometry:
+    if is_coverage:
+        return shapely.coverage_union_all(geometries)
     if not grid:
         return unary_union(geometries)
     if hasattr(shapely, "union_all"):
@@ -57,20 +60,24 @@ def common(first: BaseGeometry, second: BaseGeometry, grid: float) -> BaseGeomet
 def main() -> None:
     job, *files = sys.argv[1:4]
     grid = float(sys.argv[4]) if len(sys.argv) > 4 else 0.0
+    is_coverage = sys.argv[5:] == ["coverage"]
+    begun = time.process_time()
     layers = [read(path) for path in files]
     start = time.process_time()
     try:
-        if sys.argv[5:]:
+        if sys.argv[5:] == ["made-valid"]:
             layers = [[polygon if polygon.is_valid else make_valid(polygon) for polygon in layer] for layer in layers]
-        found = union(layers[0], grid)
+        found = union(layers[0], grid, is_coverage)
         if job == "common":
-            found = common(found, union(layers[1], grid), grid)
+            found = common(found, union(layers[1], grid, is_coverage), grid)
     except Exception as error:
         sys.exit("%s: %s" % (type(error).__name__, error))
     seconds = time.process_time() - start
+    text = wkt.dumps(found, rounding_precision=-1)
+    whole = time.process_time() - begun
     for part in getattr(found, "geoms", [found]):
         print(wkb.dumps(part, hex=True))
-    print("processor %.6f" % seconds, file=sys.stderr)
+    print("processor %.6f\nwhole %.6f\n%d bytes of text" % (seconds, whole, len(text)), file=sys.stderr)
 
 
 if sys.argv[1:] == ["--version"]:

@@ -43,7 +43,9 @@ def version(tool: str) -> str:
         import geopandas
 
         return "GeoPandas %s" % geopandas.__version__
-    return "Shapely %s, GEOS %s" % (shapely.__version__, ".".join(map(str, shapely.geos.geos_version)))
+    from shapely.geos import geos_version
+
+    return "Shapely %s, GEOS %s" % (shapely.__version__, ".".join(map(str, geos_version)))
 
 
 def main() -> None:

@@ -11,7 +11,7 @@ import pytest
 
 SVG = "{http://www.w3.org/2000/svg}"
 SAMPLES = Path(__file__).resolve().parents[2] / "samples"
-PICTURE = SAMPLES.parent / "docs" / "picture.svg"
+PICTURE = Path(__file__).with_name("fields-and-flood.svg")
 
 
 def drawn(text):
@@ -85,7 +85,7 @@ def test_no_file(gis):
     assert gis("show", "none.wkt").err == "overlay-gis: none.wkt: No such file or directory\n"
 
 
-def test_the_readme_picture_is_drawn_by_it(gis, program, monkeypatch):
+def test_the_picture_of_a_sample_is_drawn_by_it(gis, program, monkeypatch):
     monkeypatch.chdir(SAMPLES)
     monkeypatch.setattr(sys, "stdin", io.StringIO(edges_of(program, "fields.wkt", "flood.wkt")))
     assert gis("show", "fields.wkt", "flood.wkt", "-").out == PICTURE.read_text()
