@@ -1,7 +1,7 @@
 """runs the program at its limits, one past them, and on layers that were hard once, at full size
 
-Limits: segments, tiles, workers, coordinates, lengths of texts; each is answered, and refused one past it. Two million different
-segments, within a limit as great, have answers that are known. The hard layers are run by the default plan: seconds on the clock, memory and bytes stand beside what may be expected, which is ten times what
+Limits: segments, tiles, workers, coordinates, lengths of texts; each is answered, and refused one past it. Within greater limits two
+million different segments, and a text longer than 2^28 bytes, have answers that are known. The hard layers are run by the default plan: seconds on the clock, memory and bytes stand beside what may be expected, which is ten times what
 friendly layers (parcels) take for as many records, and 1 GB. The exit status is 1 where a limit is answered otherwise, or
 where a layer takes more than that.
 """
@@ -174,6 +174,21 @@ def long_texts(place: Place) -> Iterator[Tried]:
     yield "50,000,000 repeated points", place.run("union", text, nothing), found
 
 
+def far_texts(place: Place) -> Iterator[Tried]:
+    """A text longer than one may be by the usual limit, of two squares: a corner of the first one is repeated nearly up to that limit,
+    where blanks begin; the second one stands behind these, past the limit."""
+    corner, lower, upper = b"100000000 100000000, ", b"100000004 100000000, ", b"100000004 100000004, 100000000 100000004, 100000000 100000000))"
+    second = b"((100000006 100000000, 100000009 100000000, 100000009 100000003, 100000006 100000003, 100000006 100000000))"
+    times = MOST_BYTES // len(corner) // 1000 - 1
+    nothing, far = place.write("nothing", b""), place.write("far", b"POLYGON ((", corner * 1000, times, corner + lower + upper + b" " * 100_000 + b"POLYGON " + second)
+    shapes = b"((" + corner + lower + upper, second
+    union, faces = b"MULTIPOLYGON (%b, %b)\n" % shapes, b"32\t\t1\tMULTIPOLYGON (%b)\n18\t\t2\tMULTIPOLYGON (%b)\n" % shapes
+    for layer, text, words in ((b"A", union, ("union", far, nothing)), (b"B", union, ("union", nothing, far)), (b"B", faces, ("faces", nothing, far))):
+        yield "a text past the usual limit", place.run(*words, "--segments=1100000"), Answer(0, text, b"")
+        yield "the same by the usual limit", place.run(*words), refused(layer + b": 0 layer too long")
+    os.remove(far)
+
+
 def at_places(shape: Sequence[tuple[int, int]]) -> Iterator[str]:
     """A polygon of this shape, which is at most 3 wide, at each place of the lattice."""
     ring = "((" + ", ".join("{%d} {%d}" % (x, 4 + y) for x, y in (*shape, shape[0])) + "))"
@@ -278,7 +293,7 @@ def main(arguments: argparse.Namespace) -> int:
     tried, wrong = 0, 0
     with tempfile.TemporaryDirectory() as folder:
         place = Place(arguments.program, folder)
-        for found in (limits, long_texts, millions):
+        for found in (limits, long_texts, far_texts, millions):
             if not is_asked(arguments, found.__name__):
                 continue
             for name, got, expected in found(place):
