@@ -91,14 +91,17 @@ def command_lines(place: Place) -> Iterator[Tried]:
     yield "help with a report", place.run("--help", "--report"), helped
     for word in ("Union", "UNION", "", "xor", "union "):
         yield "unknown command", place.run(word, "square", "corner"), Answer(2, b"", b"overlay: unknown command\n")
-    lines: list[tuple[str, ...]] = [(), ("edges",), ("edges", "square"), ("edges", "square", "corner", "corner"), ("xor", "square"), ("edges", "square", "corner", "--nothing"),
-             ("edges", "square", "corner", "--report", "--report")]
-    lines += [("edges", "square", "corner", "--tile=" + side) for side in ("", "x", "-1", "1.5", "4294967296", " 16", "0x10")]
-    lines += [("edges", "square", "corner", "--workers=" + number) for number in ("", "x", "-1", "4294967296")]
-    lines += [("edges", "square", "corner", "--tile"), ("edges", "square", "corner", "--tile=16", "--tile=16")]
-    for words in lines:
+    missing, plain = b"required arguments", ("edges", "square", "corner")
+    lines: list[tuple[tuple[str, ...], bytes]] = [((), missing), (("edges",), missing), (("edges", "square"), missing), (("xor", "square"), missing)]
+    lines += [((*plain, "corner"), b"'corner'"), ((*plain, "--nothing"), b"'--nothing'"), ((*plain, "--report", "--report"), b"'--report'")]
+    lines += [((*plain, "--tile=" + side), b"--tile") for side in ("", "x", "-1", "1.5", "4294967296", " 16", "0x10")]
+    lines += [((*plain, "--workers=" + number), b"--workers") for number in ("", "x", "-1", "4294967296")]
+    lines += [((*plain, "--tile"), b"--tile"), ((*plain, "--tile=16", "--tile=16"), b"--tile")]
+    for words, reason in lines:
         got = place.run(*words)
-        yield " ".join(words), (got.status, got.out, got.err[:7], got.err.count(b"overlay: unknown")), (2, b"", b"error: ", 0)
+        # What isn't accepted stands in the parser's first paragraph: the usage, which comes behind it, names all there is.
+        told = got.err.partition(b"Usage:")[0]
+        yield " ".join(words), (got.status, got.out, told[:7], reason in told, got.err.count(b"overlay: unknown")), (2, b"", b"error: ", True, 0)
     yield "a word that is not UTF-8", place.run("edges", b"\xff", "corner"), Answer(2, b"", b"overlay: a word is not UTF-8\n")
     yield "options first", place.run("--tile", "+262144", "--report", "intersection", "square", "corner"), Answer(0, COMMON, COMMON_REPORT)
 

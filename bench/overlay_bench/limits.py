@@ -1,7 +1,7 @@
 """runs the program at its limits, one past them, and on layers that were hard once, at full size
 
-Limits: segments, tiles, workers, coordinates, lengths of texts; each is answered, and refused one past it. The hard layers
-are run by the default plan: seconds on the clock, memory and bytes stand beside what may be expected, which is ten times what
+Limits: segments, tiles, workers, coordinates, lengths of texts; each is answered, and refused one past it. Within greater limits two
+million different segments, and a text longer than 2^28 bytes, have answers that are known. The hard layers are run by the default plan: seconds on the clock, memory and bytes stand beside what may be expected, which is ten times what
 friendly layers (parcels) take for as many records, and 1 GB. The exit status is 1 where a limit is answered otherwise, or
 where a layer takes more than that.
 """
@@ -23,11 +23,22 @@ from .programs import Answer, Tried, answer, taken
 MOST_SEGMENTS, MOST_BYTES, BYTES_A_SEGMENT, LIMIT = 1_048_576, 268_435_456, 256, 268_435_456
 MOST_MEGABYTES, FRIENDLY_SEGMENTS = 1024, 100_000
 
+# Two squares, the second of which lies over the upper right corner of the first; their union, and the parts that they cover alone and both.
+LOWER, UPPER = ((0, 0), (2, 0), (2, 2), (0, 2)), ((1, 1), (3, 1), (3, 3), (1, 3))
+UNITED = ((0, 0), (2, 0), (2, 1), (3, 1), (3, 3), (1, 3), (1, 2), (0, 2))
+LOWER_ALONE, BOTH, UPPER_ALONE = ((0, 0), (2, 0), (2, 1), (1, 1), (1, 2), (0, 2)), ((1, 1), (2, 1), (2, 2), (1, 2)), ((1, 2), (2, 2), (2, 1), (3, 1), (3, 3), (1, 3))
+# How many such squares stand apart in a lattice, a column behind another: two million segments, no two with the same ends.
+COUPLES, ROWS, STEP = 250_000, 500, 5
+
 
 def add_arguments(parser: argparse.ArgumentParser) -> None:
-    parser.add_argument("--only", default="", help="those whose names have this word")
+    parser.add_argument("--only", nargs="+", default=[""], metavar="WORD", help="those whose names have one of these words")
     parser.add_argument("--seconds", type=float, default=120, help="after which a run is over")
     parser.add_argument("--commands", nargs="+", default=("edges", "union"), choices=programs.COMMANDS)
+
+
+def is_asked(arguments: argparse.Namespace, name: str) -> bool:
+    return any(word in name for word in arguments.only)
 
 
 def around(radius: float, turned: Iterable[float]) -> Ring:
@@ -163,6 +174,51 @@ def long_texts(place: Place) -> Iterator[Tried]:
     yield "50,000,000 repeated points", place.run("union", text, nothing), found
 
 
+def far_texts(place: Place) -> Iterator[Tried]:
+    """A text longer than one may be by the usual limit, of two squares: a corner of the first one is repeated nearly up to that limit,
+    where blanks begin; the second one stands behind these, past the limit."""
+    corner, lower, upper = b"100000000 100000000, ", b"100000004 100000000, ", b"100000004 100000004, 100000000 100000004, 100000000 100000000))"
+    second = b"((100000006 100000000, 100000009 100000000, 100000009 100000003, 100000006 100000003, 100000006 100000000))"
+    times = MOST_BYTES // len(corner) // 1000 - 1
+    nothing, far = place.write("nothing", b""), place.write("far", b"POLYGON ((", corner * 1000, times, corner + lower + upper + b" " * 100_000 + b"POLYGON " + second)
+    shapes = b"((" + corner + lower + upper, second
+    union, faces = b"MULTIPOLYGON (%b, %b)\n" % shapes, b"32\t\t1\tMULTIPOLYGON (%b)\n18\t\t2\tMULTIPOLYGON (%b)\n" % shapes
+    for layer, text, words in ((b"A", union, ("union", far, nothing)), (b"B", union, ("union", nothing, far)), (b"B", faces, ("faces", nothing, far))):
+        yield "a text past the usual limit", place.run(*words, "--segments=1100000"), Answer(0, text, b"")
+        yield "the same by the usual limit", place.run(*words), refused(layer + b": 0 layer too long")
+    os.remove(far)
+
+
+def at_places(shape: Sequence[tuple[int, int]]) -> Iterator[str]:
+    """A polygon of this shape, which is at most 3 wide, at each place of the lattice."""
+    ring = "((" + ", ".join("{%d} {%d}" % (x, 4 + y) for x, y in (*shape, shape[0])) + "))"
+    for k in range(COUPLES):
+        x, y = STEP * (k // ROWS), STEP * (k % ROWS)
+        yield ring.format(*range(x, x + 4), *range(y, y + 4))
+
+
+def rows_of_faces() -> Iterator[str]:
+    """The rows of the lattice's faces: of each place what the lower square covers alone, and both; then what the upper ones cover alone."""
+    for k, (alone, both) in enumerate(zip(at_places(LOWER_ALONE), at_places(BOTH)), 1):
+        yield f"6\t{k}\t\tMULTIPOLYGON ({alone})\n2\t{k}\t{k}\tMULTIPOLYGON ({both})\n"
+    for k, alone in enumerate(at_places(UPPER_ALONE), 1):
+        yield f"6\t\t{k}\tMULTIPOLYGON ({alone})\n"
+
+
+def millions(place: Place) -> Iterator[Tried]:
+    """The union and the faces of two million different segments, against texts that are made with them."""
+    files = [place.write(name, "".join(f"POLYGON {ring}\n" for ring in at_places(shape)).encode()) for name, shape in (("lower", LOWER), ("upper", UPPER))]
+    united = ("MULTIPOLYGON (" + ", ".join(at_places(UNITED)) + ")\n").encode()
+    # Twice the areas, and of each square six steps: two of its sides are crossed.
+    areas = b"area2 %d %d %d\nsteps %d %d\n" % tuple(COUPLES * each for each in (8, 8, 14, 6, 6))
+    asks = ("union", "", united, b""), ("union", "--areas", united, areas), ("union", "--covered", united, b""), ("faces", "", "".join(rows_of_faces()).encode(), b"")
+    for command, option, text, told in asks:
+        words = [command, *files, *filter(None, [option]), "--segments=2000000"]
+        # The texts are long: what differs is told by the answer's beginning alone.
+        got = place.run(*words)
+        yield " ".join(words[:1] + words[3:]), (got.status, got.err, got.out == text, got.out[:200]), (0, told, True, text[:200])
+
+
 class Friendly:
     """What parcels take for each record."""
 
@@ -221,7 +277,7 @@ def hard_row(arguments: argparse.Namespace, friendly: Friendly, name: str, comma
 
 def hard(arguments: argparse.Namespace, folder: str) -> bool:
     """Prints a row for each command on hard layers; whether one takes more than may be expected."""
-    names = [name for name in (*HARD, *MAPS) if arguments.only in name]
+    names = [name for name in (*HARD, *MAPS) if is_asked(arguments, name)]
     if not names:
         return False
     friendly, files, wrong = Friendly(arguments.program, folder, arguments.commands), [os.path.join(folder, name) for name in ("h.wkt", "i.wkt")], False
@@ -237,8 +293,8 @@ def main(arguments: argparse.Namespace) -> int:
     tried, wrong = 0, 0
     with tempfile.TemporaryDirectory() as folder:
         place = Place(arguments.program, folder)
-        for found in (limits, long_texts):
-            if arguments.only not in found.__name__:
+        for found in (limits, long_texts, far_texts, millions):
+            if not is_asked(arguments, found.__name__):
                 continue
             for name, got, expected in found(place):
                 tried += 1

@@ -2,7 +2,8 @@
 
 What contracts say is left out of the sources, and each crate becomes a module of one Rust program. Files of `bench/unproved` stand for
 Rattle's std (`kit.rs`), for `itoa`, and for what needs its ledgers and its `rayon`; the program takes files, `--workers=N`, `--tile=SIDE`,
-`--report`, `--areas` and `--covered`, and is no answer to trust: it is for comparing bytes and times. It needs `rustc`, whose lanes are unstable still.
+`--segments=N`, `--report`, `--areas` and `--covered`, and is no answer to trust: it is for comparing bytes and times. It needs `rustc`, whose lanes are
+unstable still.
 """
 from __future__ import annotations
 

@@ -1,4 +1,4 @@
-//! The commands on files of texts, by the engine's calls: COMMAND A [B ..] [--workers=N] [--tile=SIDE] [--report] [--areas] [--covered].
+//! The commands on files of texts, by the engine's calls: COMMAND A [B ..] [--workers=N] [--tile=SIDE] [--segments=N] [--report] [--areas] [--covered].
 
 use engine::{FacesFault, FacesLimits, Limits, Plan, Report};
 use geom::{Op, RunFault};
@@ -43,8 +43,8 @@ fn words_of(report: Result<Report<Global>, RunFault>) -> Said {
     }
 }
 
-fn measured(op: Op, a: &[u8], b: &[u8], plan: Plan, reports: bool) -> Said {
-    match engine::run_measured_within(&(), Global, op, a, b, plan, Limits::default(), &OpenGate, &mut Output) {
+fn measured(op: Op, a: &[u8], b: &[u8], plan: Plan, limits: Limits, reports: bool) -> Said {
+    match engine::run_measured_within(&(), Global, op, a, b, plan, limits, &OpenGate, &mut Output) {
         Ok(told) => {
             let mut text = Vec::new(Global);
             if reports {
@@ -62,13 +62,14 @@ fn refused(fault: FacesFault) -> Said {
     (engine::faces_line(Global, &fault).unwrap(), engine::faces_status(&fault))
 }
 
-fn covered(op: Op, a: &[u8], b: &[u8], plan: Plan) -> Said {
-    let told = engine::run_covered_within(&(), Global, op, a, b, plan, Limits::default(), &OpenGate, &mut Output);
+fn covered(op: Op, a: &[u8], b: &[u8], plan: Plan, limits: Limits) -> Said {
+    let told = engine::run_covered_within(&(), Global, op, a, b, plan, limits, &OpenGate, &mut Output);
     told.map_or_else(refused, |report| words_of(Ok(report)))
 }
 
-fn faces(layers: &[&[u8]], plan: Plan) -> Said {
-    let told = engine::faces_within(&(), Global, layers, plan, FacesLimits::default(), &OpenGate, &mut Output);
+fn faces(layers: &[&[u8]], plan: Plan, limits: Limits) -> Said {
+    let limits = FacesLimits { segments: limits.segments, ..FacesLimits::default() };
+    let told = engine::faces_within(&(), Global, layers, plan, limits, &OpenGate, &mut Output);
     told.map_or_else(refused, |report| (engine::faces_report_text(Global, &report).unwrap(), 0))
 }
 
@@ -85,15 +86,16 @@ fn main() {
     let layers: ::std::vec::Vec<&[u8]> = texts.iter().map(|text| text.as_slice()).collect();
     let side: Option<u32> = number("--tile=");
     let workers = number("--workers=").unwrap_or(1);
-    let (usual, reports) = (Limits::default(), is_asked("--report"));
+    let limits = number("--segments=").map_or(Limits::default(), |segments| Limits { segments });
+    let reports = is_asked("--report");
     let answer = |side| {
         let plan = Plan { side, workers };
         match (operation(&words[0]), layers.as_slice()) {
-            (Some(op), [a, b]) if is_asked("--covered") => covered(op, a, b, plan),
-            (Some(op), [a, b]) if is_asked("--areas") => measured(op, a, b, plan, reports),
-            (Some(op), [a, b]) => words_of(engine::run_within(&(), Global, op, a, b, plan, usual, &OpenGate, &mut Output)),
-            (None, [a, b]) if words[0] == "edges" => words_of(engine::edges_within(&(), Global, a, b, plan, usual, &OpenGate, &mut Output)),
-            _ => faces(&layers, plan),
+            (Some(op), [a, b]) if is_asked("--covered") => covered(op, a, b, plan, limits),
+            (Some(op), [a, b]) if is_asked("--areas") => measured(op, a, b, plan, limits, reports),
+            (Some(op), [a, b]) => words_of(engine::run_within(&(), Global, op, a, b, plan, limits, &OpenGate, &mut Output)),
+            (None, [a, b]) if words[0] == "edges" => words_of(engine::edges_within(&(), Global, a, b, plan, limits, &OpenGate, &mut Output)),
+            _ => faces(&layers, plan, limits),
         }
     };
     let (mut said, mut status) = answer(side.unwrap_or(grid::DEFAULT_SIDE));
