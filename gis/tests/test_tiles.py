@@ -6,7 +6,10 @@ import gzip
 import json
 import os
 import signal
+import sqlite3
 import struct
+import subprocess
+import sys
 import time
 from pathlib import Path
 
@@ -15,7 +18,7 @@ import pytest
 from osgeo import gdal
 from shapely.geometry import Polygon, box
 
-from conftest import UTM, write
+from conftest import COMMAND, numbers_in, running, write
 from overlay_gis import whole
 from overlay_gis.columns import of_polygons
 from overlay_gis.rows import Members
@@ -47,9 +50,9 @@ def shapes_of(pieces) -> dict:
     return {piece.number: piece.polygons for piece in pieces}
 
 
-def write_land(tmp_path, name="land", shapes=LAND, **more) -> str:
+def write_land(tmp_path, stem="land", shapes=LAND, **more) -> str:
     fields = {"number": list(range(len(shapes))), **more}
-    return write(tmp_path / f"{name}.gpkg", shapes, WEB, fields)
+    return write(tmp_path / f"{stem}.gpkg", shapes, WEB, fields)
 
 
 def contents(path) -> dict[str, bytes]:
@@ -311,7 +314,233 @@ def test_a_tile_made_alone_is_the_same(gis, tmp_path):
         reach = box(corner[0] - 70 * unit, corner[1] - (EXTENT + 70) * unit, corner[0] + (EXTENT + 70) * unit, corner[1] + 70 * unit)
         near = [shape if box(*shape.bounds).intersects(reach) else None for shape in LAND]
         assert 0 < sum(shape is not None for shape in near) < len(near)
+        (tmp_path / "near.gpkg").unlink(missing_ok=True)
         write_land(tmp_path, "near", near)
-        assert gis("tiles", "near.gpkg|layername=near", "-o", "one.mbtiles", "--overwrite", "--zooms", "9", "--only", str(tile)).status == 0
-        ((found, data),) = tiles_of("one.mbtiles")
+        out = f"{tile.x}-{tile.y}.mbtiles"
+        assert gis("tiles", "near.gpkg", "-o", out, "--zooms", "9", "--only", str(tile)).status == 0
+        ((found, data),) = tiles_of(out)
         assert found == tile and gzip.decompress(data).replace(b"near", b"land") == gzip.decompress(held[tile])
+
+
+# Tiles put into a file that is there.
+
+
+def changed_land(tmp_path) -> str:
+    """The land with a corner of one feature moved, another value, and a feature less."""
+    shapes = list(LAND)
+    shapes[8] = Polygon([(x + 900, y) if k == 3 else (x, y) for k, (x, y) in enumerate(shapes[8].exterior.coords)])
+    shapes[30] = None
+    names = ["old"] * len(LAND)
+    names[21] = "new"
+    return write_land(tmp_path, "now/land", shapes, name=names)
+
+
+@pytest.mark.parametrize("name", FILES)
+def test_tiles_that_differ_are_put_into_the_file(gis, tmp_path, monkeypatch, name):
+    """It is then what it is when all of it is made anew; of whole zooms only what differs is made."""
+    (tmp_path / "now").mkdir()
+    old, new = write_land(tmp_path, name=["old"] * len(LAND)), changed_land(tmp_path)
+    words = ["--zooms", "6-9", "--full", "8", "--keep", "number,name"]
+    assert gis("tiles", old, "-o", name, *words).status == 0
+    (tmp_path / "all").mkdir()
+    assert gis("tiles", new, "-o", f"all/{name}", *words).status == 0
+    assert contents(name) != [data for data in contents(f"all/{name}").values()]
+    answer = gis("tiles", new, "-o", name, *words, "--changed", old)
+    assert answer.status == 0 and "3 features differ" in answer.err
+    assert list(contents(name).values()) == list(contents(f"all/{name}").values())
+    told = {line.split()[2]: int(line.split()[3]) for line in answer.err.splitlines() if " zoom " in line}
+    count = sum(tile.zoom == 9 for tile, _ in archives.tiles_in(Path(name)))
+    assert 0 < told["9:"] <= count / 2
+
+
+def test_named_tiles_are_put_into_the_file(gis, tmp_path):
+    (tmp_path / "now").mkdir()
+    old, new = write_land(tmp_path, name=["old"] * len(LAND)), changed_land(tmp_path)
+    words = ["--zooms", "7-9", "--keep", "number,name"]
+    assert gis("tiles", old, "-o", "out.mbtiles", *words).status == 0
+    assert gis("tiles", new, "-o", "all.mbtiles", *words).status == 0
+    before, after = (dict(tiles_of(name)) for name in ("out.mbtiles", "all.mbtiles"))
+    first, second = [tile for tile in sorted(before) if before[tile] != after.get(tile)][::4][:2]
+    assert gis("tiles", new, "-o", "out.mbtiles", *words, "--only", f"{first},{second}").status == 0
+    assert dict(tiles_of("out.mbtiles")) == {**before, first: after[first], second: after[second]}
+
+
+def test_tiles_of_other_options_are_not_mixed(gis, tmp_path):
+    a = write_land(tmp_path)
+    assert gis("tiles", a, "-o", "out.mbtiles", "--zooms", "6-7").status == 0
+    old = contents("out.mbtiles")
+    for words, said in ((["--buffer", "32"], "another buffer, 64, and not 32"), (["--keep", "number"], "another fields, [[]], and not [['number']]"), (["--simplify", "2"], "another simplify, 4.0, and not 2.0")):
+        answer = gis("tiles", a, "-o", "out.mbtiles", "--zooms", "6-7", "--only", "6/33/21", *words)
+        assert answer.status == 3 and f"out.mbtiles: was made with {said}" in answer.err
+    sqlite3.connect("plain.mbtiles").execute("CREATE TABLE metadata (name text, value text)")
+    answer = gis("tiles", a, "-o", "plain.mbtiles", "--zooms", "6-7", "--only", "6/33/21")
+    assert answer.status == 3 and "plain.mbtiles: doesn't tell by which options it was made" in answer.err
+    assert contents("out.mbtiles") == old
+
+
+# Refusals.
+
+WORDS = {
+    ("--zooms", "7-6"): "argument --zooms: 7-6 is no zoom or range of zooms from 0 to 22, as 6-14",
+    ("--zooms", "23"): "argument --zooms: 23 is no zoom",
+    ("--zooms", "x"): "argument --zooms: x is no zoom",
+    ("--buffer", "2048"): "argument --buffer: 2048 is no whole number from 0 to 2047",
+    ("--buffer", "-1"): "argument --buffer: -1 is no whole number",
+    ("--simplify", "-1"): "argument --simplify: a size is 0 or above, not -1",
+    ("--small", "x"): "argument --small: x is no number",
+    ("--full", "23"): "argument --full: 23 is no zoom",
+    ("--ids", "some"): "argument --ids: invalid choice: 'some'",
+    ("--only", "6/64/0"): "argument --only: 6/64/0 names no tiles as ZOOM/COLUMN/ROW,..",
+    ("--only", "6/1"): "argument --only: 6/1 names no tiles",
+    ("--tile-limit", "much"): "argument --tile-limit: much is no size of memory",
+    ("--workers", "0"): "argument --workers: 0 is no whole number from 1",
+}
+
+
+@pytest.mark.parametrize("words", WORDS, ids=lambda words: " ".join(words))
+def test_options_that_are_not_accepted(gis, words):
+    answer = gis("tiles", "a.gpkg", "-o", "out.mbtiles", "--zooms", "6", *words)
+    assert answer.status == 2 and WORDS[words] in answer.err
+
+
+REFUSED = {
+    "--keep number --by name": "--by a:name: its features have these values alone",
+    "--keep c:number": "--keep c:number: there is no layer c",
+    "--keep owner": "land.gpkg: has no field owner, but number, name",
+    "--only 9/0/0": "--only: names a tile of a zoom that isn't among 6-7",
+    "--only 6/33/21 --changed land.gpkg": "--only: names tiles, and --changed finds them",
+    "--changed land.gpkg": "out.mbtiles: isn't there: --changed makes",
+    "--by name --changed land.gpkg": "--changed: goes by the numbers of features",
+    "--tile-limit 900B": "tile 7/67/43: has 3,835 bytes, above --tile-limit, which is 900",
+    "--segments 100": "land.gpkg: more than 100 segments",
+}
+
+
+@pytest.mark.parametrize("words", REFUSED)
+def test_what_is_refused_by_name(gis, tmp_path, words):
+    write_land(tmp_path, name=["x"] * len(LAND))
+    answer = gis("tiles", "land.gpkg", "-o", "out.mbtiles", "--zooms", "6-7", *words.split())
+    assert answer.status == 3 and answer.err.splitlines()[-1].startswith(f"overlay-gis: {REFUSED[words]}"), answer.err
+    assert not Path("out.mbtiles").exists() and not list(tmp_path.glob(".*"))
+
+
+def test_a_tile_limit_that_is_none(gis, tmp_path):
+    a = write_land(tmp_path)
+    for size in ("none", "1MB"):
+        assert gis("tiles", a, "-o", "out.mbtiles", "--overwrite", "--zooms", "6", "--tile-limit", size).status == 0
+
+
+@pytest.mark.parametrize(
+    "shape, srs",
+    [
+        (box(0, 80, 10, 86), "EPSG:4326"),
+        (box(0, -90, 10, 0), "EPSG:4326"),
+        (box(170, 0, 181, 10), "EPSG:4326"),
+        (box(170, 0, 180, 10).union(box(-190, 0, -185, 1)), "EPSG:4326"),
+        (box(0, 0, HALF + 1, 10), WEB),
+        (box(0, -HALF - 1, 1, 0), WEB),
+    ],
+)
+def test_what_lies_beyond_web_mercator(gis, tmp_path, shape, srs):
+    write(tmp_path / "a.gpkg", [box(0, 0, 1, 1), shape], srs)
+    answer = gis("tiles", "a.gpkg", "-o", "out.mbtiles", "--zooms", "3")
+    assert answer.status == 3, answer.err
+    assert answer.err == "overlay-gis: a.gpkg: feature 2 lies beyond web mercator's square, which reaches from 180 degrees W to E and from 85.0511 S to N: cut it\n"
+
+
+def test_what_goes_over_the_180th_meridian(gis, tmp_path):
+    """In a system whose coordinates go on there: PROJ has the points on the other side of the square."""
+    write(tmp_path / "a.gpkg", [box(600_000, 8_000_000, 700_000, 8_100_000), box(800_000, 8_000_000, 900_000, 8_100_000)], "EPSG:32760")
+    answer = gis("tiles", "a.gpkg", "-o", "out.mbtiles", "--zooms", "3")
+    assert answer.status == 3 and answer.err.startswith("overlay-gis: a.gpkg: feature 2 goes over the 180th meridian"), answer.err
+    write(tmp_path / "b.gpkg", [box(-180, -10, 180, 10)], "EPSG:4326")
+    assert len(made(gis, "b.gpkg", "--zooms", "3")) == 8 * 2
+
+
+def test_outputs_that_are_refused(gis, tmp_path):
+    a = write_land(tmp_path)
+    (tmp_path / "home").mkdir()
+    (tmp_path / "home" / "letter.txt").write_text("dear")
+    (tmp_path / "b").mkdir()
+    write_land(tmp_path, "b/land")
+    for out, words, said in (
+        ("out.gpkg", [], "out.gpkg: tiles go to a file whose name ends in .mbtiles or .pmtiles, or to a folder without an ending"),
+        ("home", ["--overwrite"], "home: is there, and is no folder that has tiles alone"),
+        ("land.gpkg", ["--overwrite"], "land.gpkg: is an input"),
+        ("out.mbtiles", ["b/land.gpkg"], "would be layers of one name"),
+    ):
+        answer = gis("tiles", a, *words, "-o", out, "--zooms", "6")
+        assert answer.status == 3 and said in answer.err, answer.err
+    assert (tmp_path / "home" / "letter.txt").read_text() == "dear"
+    assert gis("tiles", a, "-o", "out", "--zooms", "6").status == 0
+    assert "out: is there already; --overwrite replaces it" in gis("tiles", a, "-o", "out", "--zooms", "6").err
+    assert gis("tiles", a, "-o", "out", "--zooms", "5", "--overwrite").status == 0
+    assert [path.name for path in Path("out").iterdir() if path.is_dir()] == ["5"]
+
+
+# Stops.
+
+
+@pytest.mark.parametrize("number", [signal.SIGKILL, signal.SIGTERM], ids=lambda number: number.name)
+@pytest.mark.parametrize("place", [(archives, "write", True), (archives, "write", False), (whole, "go_on", True)], ids=["cut", "written", "on-disk"])
+@pytest.mark.parametrize("name", FILES)
+def test_a_run_that_is_stopped_leaves_what_was_there(stopped, tmp_path, name, place, number):  # noqa: F811
+    a = write_land(tmp_path, shapes=LAND[:4])
+    words = ["tiles", a, "-o", name, "--zooms", "5"]
+    answer = stopped(place, number, *words)
+    assert not list(tmp_path.glob("out*")), answer.err
+    (tmp_path / "out").mkdir()
+    Path("out/metadata.json").write_text("{}")
+    for held in FILES[:2]:
+        Path(held).write_bytes(b"old")
+    old = contents(name)
+    answer = stopped(place, number, *words, "--overwrite")
+    assert contents(name) == old and answer.status == (-signal.SIGKILL if number == signal.SIGKILL else 1)
+    if number == signal.SIGTERM:
+        assert answer.err.splitlines()[-1] == "overlay-gis: stopped by SIGTERM: no output was written or changed"
+        assert not list(tmp_path.glob(".*"))
+
+
+@pytest.mark.parametrize("workers", ["1", "2"])
+def test_a_program_that_fails_leaves_what_was_there(gis, tmp_path, pretend, workers):
+    a = write_land(tmp_path)
+    Path("out.mbtiles").write_bytes(b"old")
+    pretend("echo 'overlay: 10 too large' >&2; exit 1")
+    answer = gis("tiles", a, "-o", "out.mbtiles", "--overwrite", "--zooms", "8", "--simplify", "0", "--small", "0", "--workers", workers)
+    assert answer.status == 1 and "zoom 8: overlay says" in answer.err or "overlay: overlay says" in answer.err
+    assert contents("out.mbtiles") == {"out.mbtiles": b"old"} and not list(tmp_path.glob(".*"))
+
+
+@pytest.mark.parametrize("way", ["worker", "command"])
+def test_a_worker_that_is_killed_and_a_command_that_is(tmp_path, program, way):
+    """Where a worker is lost the command says so; where the command is, no worker goes on for long."""
+    a = write_land(tmp_path)
+    begun = tmp_path / "begun"
+    begun.mkdir()
+    slow = tmp_path / "slow"
+    slow.write_text(f'#!/bin/sh\ntouch "{begun}/$PPID"\nsleep 2\nexec "{program}" "$@"\n')
+    slow.chmod(0o755)
+    words = [sys.executable, COMMAND, "tiles", a, "-o", "out.mbtiles", "--zooms", "11", "--workers", "2", "--simplify", "0", "--small", "0"]
+    command = subprocess.Popen(words, cwd=tmp_path, env={**os.environ, "OVERLAY": str(slow)}, stderr=subprocess.PIPE, text=True)
+    try:
+        while len(numbers_in(begun)) < 2:
+            assert command.poll() is None
+            time.sleep(0.01)
+        first, second = numbers_in(begun)
+        if way == "worker":
+            os.kill(first, signal.SIGKILL)
+            said = command.communicate(timeout=300)[1]
+            assert command.returncode == 1 and "a worker: ended before its time" in said
+        else:
+            command.send_signal(signal.SIGTERM)
+            said = command.communicate(timeout=300)[1]
+            assert command.returncode == 1 and said.endswith("stopped by SIGTERM: no output was written or changed\n")
+        for number in (first, second):
+            for _ in range(300):
+                if not running(number):
+                    break
+                time.sleep(0.1)
+            assert not running(number)
+    finally:
+        command.kill()
+    assert not list(tmp_path.glob("out*")) and not list(tmp_path.glob(".*"))

@@ -2,6 +2,7 @@
 
 from __future__ import annotations
 
+import math
 from dataclasses import dataclass
 from itertools import compress
 from typing import Any, Sequence
@@ -9,7 +10,7 @@ from typing import Any, Sequence
 import numpy as np
 from osgeo import ogr, osr
 
-from ..columns import Columns, Floats, Numbers, extents
+from ..columns import Columns, Floats, Numbers, gathered
 from ..common_grid import Losses, tell_losses
 from ..encodings import WAYS, is_known
 from ..faults import Refusal
@@ -27,6 +28,9 @@ WEB = "EPSG:3857"
 
 # How far beyond the square a point may lie, in metres, which reckoning with angles may bring about.
 SLACK = 0.001
+
+# The same of longitudes, in the units of their system.
+SLACK_OF_ANGLES = 1e-9
 
 
 @dataclass(frozen=True)
@@ -116,16 +120,38 @@ def in_web(source: Source, layer: Columns[Floats], told: str | None) -> Columns[
     system, web = source.system() or (system_from(told) if told else None), system_from(WEB)
     if system is None:
         raise Refusal(source.name, "names no reference system: name it by --system, as EPSG:25832")
-    made = layer if same(system, web) else transformed(layer, system, web, f"{source.name}, {system_name(system)}")
-    there = np.diff(made.feature_points()) > 0
-    starts = made.feature_points()[:-1][there]
-    for at in (made.x, made.y):
-        least, most = extents(at, starts)
-        beyond = np.flatnonzero(~((least >= -HALF - SLACK) & (most <= HALF + SLACK)))
-        if len(beyond):
-            number = made.ids[there][beyond[0]]
-            raise Refusal(source.name, f"feature {number} lies beyond web mercator's square, which reaches from 180 degrees W to E and from 85.0511 S to N: cut it")
+    if same(system, web):
+        refuse_beyond(source, layer, layer.x, HALF + SLACK)
+        made = layer
+    else:
+        made = transformed(layer, system, web, f"{source.name}, {system_name(system)}")
+        if system.IsGeographic():
+            refuse_beyond(source, layer, layer.x, math.pi / system.GetAngularUnits() + SLACK_OF_ANGLES)
+        else:
+            refuse_long(source, made)
+        refuse_beyond(source, made, made.x, HALF + SLACK)
+    refuse_beyond(source, made, made.y, HALF + SLACK)
     return made
+
+
+def refuse_beyond(source: Source, layer: Columns[Floats], at: Floats, most: float) -> None:
+    """Refuses a layer with a coordinate, of these along one axis, that is no number up to the most."""
+    beyond = np.flatnonzero(gathered(~(abs(at) <= most), layer.feature_points()))
+    if len(beyond):
+        words = "lies beyond web mercator's square, which reaches from 180 degrees W to E and from 85.0511 S to N: cut it"
+        raise Refusal(source.name, f"feature {layer.ids[beyond[0]]} {words}")
+
+
+def refuse_long(source: Source, layer: Columns[Floats]) -> None:
+    """Refuses a layer with a side longer than half of the square. PROJ brings what lies beyond one edge of
+    the square to the other one, so that a side over the edge becomes as long."""
+    sides = np.zeros(len(layer.x), bool)
+    sides[1:] = abs(layer.x[1:] - layer.x[:-1]) > HALF
+    sides[layer.firsts] = False
+    beyond = np.flatnonzero(gathered(sides, layer.feature_points()))
+    if len(beyond):
+        words = "goes over the 180th meridian, or has a side as long as half of the equator: cut it there"
+        raise Refusal(source.name, f"feature {layer.ids[beyond[0]]} {words}")
 
 
 def transformed(layer: Columns[Floats], system: osr.SpatialReference, web: osr.SpatialReference, name: str) -> Columns[Floats]:
