@@ -5,29 +5,32 @@ from __future__ import annotations
 import gzip
 import json
 import os
+import re
 import signal
 import sqlite3
 import struct
 import subprocess
 import sys
 import time
+from argparse import ArgumentParser
 from pathlib import Path
 
 import numpy as np
 import pytest
-from osgeo import gdal
+from osgeo import gdal, ogr
 from shapely.geometry import Polygon, box
 
 from conftest import COMMAND, numbers_in, running, write
 from overlay_gis import whole
 from overlay_gis.columns import of_polygons
 from overlay_gis.rows import Members
-from overlay_gis.tiles import archives, levels, simplifying, small
+from overlay_gis.tiles import add_arguments, archives, levels, simplifying, small
 from overlay_gis.tiles.world import EXTENT, HALF, Tile
 from test_kills import stopped  # noqa: F401 a fixture
 from test_tiles_judge import LAND, WEB, tiles_of
 from test_tiles_reading import decoded
 
+TOP = Path(COMMAND).parents[1]
 FILES = ["out.mbtiles", "out.pmtiles", "out"]
 ZOOM = 8
 UNIT = 2 * HALF / (EXTENT << ZOOM)
@@ -544,3 +547,62 @@ def test_a_worker_that_is_killed_and_a_command_that_is(tmp_path, program, way):
     finally:
         command.kill()
     assert not list(tmp_path.glob("out*")) and not list(tmp_path.glob(".*"))
+
+
+def test_borders_are_whole_where_shapes_would_still_overlap(program, monkeypatch):
+    """Here after a first look, at which no border has got a point back."""
+    monkeypatch.setattr(simplifying, "TRIES", 1)
+    islets = [[(x, 48), (x + 10, 48), (x + 10, 49), (x, 49)] for x in (90, 100)]
+    wavy = [(300, 0), (400, 1), (500, 0), (500, 50), (300, 50)]
+    assert corners_left([LAND_WITH_BAY], *([ring] for ring in (*islets, wavy)))[3] == [set(wavy)]
+    assert corners_left([wavy]) == [[set(wavy) - {(400, 1)}]]
+
+
+def test_a_layer_without_features(gis, tmp_path):
+    a = write(tmp_path / "a.gpkg", [], WEB)
+    for name in FILES:
+        assert gis("tiles", a, "-o", name, "--zooms", "6-7").status == 0
+        assert list(archives.tiles_in(Path(name))) == []
+
+
+def test_rings_that_are_open_or_too_short_are_told(gis, tmp_path):
+    rings = ["(0 0, 9000 0, 9000 9000, 0 9000)", "(0 0, 9000 0, 0 0)"]
+    a = write(tmp_path / "a.gpkg", [ogr.CreateGeometryFromWkt(f"POLYGON ({ring})") for ring in rings], WEB)
+    answer = gis("tiles", a, "-o", "out.mbtiles", "--zooms", "9")
+    assert answer.status == 0 and "rings were open, and closed: feature 1" in answer.err
+    assert "rings of less than four points were left out: feature 2" in answer.err and "1 of 2 features vanished" in answer.err
+
+
+def test_a_great_layer_at_a_great_zoom(gis, tmp_path):
+    """Whole zooms are cut block by block, so a town has room at zoom 22; a simplified one needs room for
+    all of it together."""
+    a = write(tmp_path / "a.gpkg", [units(0, 0, 30, 30), units(EXTENT * 100, 0, EXTENT * 100 + 30, 30)], WEB)
+    words = [a, "-o", "out.mbtiles", "--overwrite", "--zooms", "21-22", "--only", "22/2097152/1310720"]
+    assert gis("tiles", *words, "--simplify", "0", "--small", "0").status == 0
+    ((_, data),) = tiles_of("out.mbtiles")
+    ((piece,),) = decoded(data).values()
+    assert piece.number == 1 and piece.shape().equals(box(0, 0, EXTENT + 64, EXTENT + 64))
+    Path("out.mbtiles").unlink()
+    answer = gis("tiles", *words[:-2], "--only", "21/1048576/655360")
+    assert answer.status == 3 and "zoom 21: a feature reaches beyond the limits of this zoom's grid" in answer.err
+
+
+PAGE = (TOP / "docs" / "TILES.md").read_text()
+
+
+def test_the_page_has_what_its_example_says(gis, tmp_path):
+    """But for the bytes, which another PROJ or zlib may make others."""
+    (tmp_path / "samples").symlink_to(TOP / "samples")
+    block = PAGE.partition("## An example\n")[2].partition("\n## ")[0].replace("\\\n", " ")
+    (command,) = re.findall(r"^    overlay-gis (.*)$", block, re.M)
+    answer = gis(*command.split())
+    assert answer.status == 0
+    said, told = (re.findall(r"zoom \d+: .* vanished", text) for text in (answer.err, block))
+    assert said == told and len(told) == 7
+
+
+def test_the_page_has_all_options():
+    parser = ArgumentParser()
+    add_arguments(parser)
+    words = {word for action in parser._actions for word in action.option_strings} - {"-h", "--help", "--out"}
+    assert words == set(re.findall(r"(?<=[`\s])--?[a-z-]+", PAGE.partition("## Options\n\n")[2].partition("\n\n")[0]))

@@ -41,9 +41,10 @@ class Wanted(NamedTuple):
 
 def coarse(level: Level, wanted: Wanted) -> Level:
     """The same level with less detail."""
-    left, top, right, bottom = (int(at(side, initial=0)) for at, side in zip((np.min, np.min, np.max, np.max), level.boxes))
-    x, y = (left + right) // 2, (top + bottom) // 2
-    name = f"zoom {level.zoom}"
+    if not len(level.shapes.ids):
+        return level
+    name, (left, top, right, bottom) = f"zoom {level.zoom}", level.boxes
+    x, y = (int(left.min()) + int(right.max())) // 2, (int(top.min()) + int(bottom.max())) // 2
     rows = rows_for(name, moved(level.shapes, -x, -y))
     owners, shapes = of_equal_features(rows.shapes, composed(rows.members[0], level.owners))
     if wanted.small:
