@@ -7,6 +7,8 @@ _overlay_gis() {
   case $before in
     --grid) COMPREPLY=($(compgen -W "0.0001 0.001 0.01 0.1 1" -- "$word")); return ;;
     --engine) COMPREPLY=($(compgen -W "dask" -- "$word")); return ;;
+    --ids) COMPREPLY=($(compgen -W "numbers none" -- "$word")); return ;;
+    --zooms | --buffer | --simplify | --small | --full | --only | --tile-limit) return ;;
     --origin | --system | --title | --scheduler | --memory | --workers | --keep | --keep-a | --keep-b | --by | --layer | --segments | --gap-width | --gap-area | --sliver-width) return ;;
   esac
   # An operation is offered once, and where no file is wanted.
@@ -19,6 +21,7 @@ _overlay_gis() {
     faces) options="$out --parts --polygons-only --keep-a --keep-b --keep --by --pairs $grid $most" ;;
     dissolve) options="$out --by --parts --polygons-only $grid $most" ;;
     check) options="$out --json --gap-width --gap-area --sliver-width $grid $most" ;;
+    tiles) options="--out --overwrite --zooms --keep --by --ids --buffer --simplify --small --full --only --changed --tile-limit --system $most --workers" ;;
     to-grid) options="--out --frame --dissolve --polygons-only $grid" ;;
     from-grid) options="$out --frame" ;;
     show) options="--out --title" ;;
@@ -28,7 +31,7 @@ _overlay_gis() {
   if [[ $word == -* ]]; then
     COMPREPLY=($(compgen -W "$options --help" -- "$word"))
   elif ((COMP_CWORD == 1)); then
-    COMPREPLY=($(compgen -W "run faces dissolve check to-grid from-grid show explain" -- "$word"))
+    COMPREPLY=($(compgen -W "run faces dissolve check tiles to-grid from-grid show explain" -- "$word"))
   elif [[ $operations ]]; then
     COMPREPLY=($(compgen -W "$operations" -- "$word"))
   else

@@ -30,6 +30,7 @@ VERBS = {
         "tells what is wrong with a layer: failed reads, invalid rings, points off the limits,"
         " overlaps, gaps, slivers"
     ),
+    "tiles": "makes vector tiles of layers, whose polygons are valid and share their borders",
     "to-grid": "writes layers as texts on the integer grid, with a frame that leads back",
     "from-grid": "writes a result, a layer text or an edges text of the grid as a layer",
     "show": "draws layers, edges texts and results of the grid over one another",
