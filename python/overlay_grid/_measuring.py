@@ -3,10 +3,11 @@
 from __future__ import annotations
 
 from dataclasses import dataclass
-from typing import Any, Callable, Generic, NamedTuple, Sequence, TypeVar, Union
+from typing import Any, Callable, Generic, NamedTuple, Optional, Sequence, TypeVar, Union
 
 from ._asking import Plan, answerer_of, by_parity, cancel, chosen_of, frame_of, layers_of, overlap, overlapping
 from ._calls import bytes_of, faces_of, text_of
+from ._drawing import html_of, named, svg_of
 from ._kinds import answer_of
 from ._library import Measures
 from ._reading import is_covered
@@ -30,7 +31,7 @@ class LayerMeasures(NamedTuple):
 @dataclass(frozen=True)
 class Measured(Generic[Result]):
     """The result of an operation, what became of each layer, and the result's area: in square units of the coordinates, and twice, in
-    squares of the grid, exactly."""
+    squares of the grid, exactly. Notebooks draw it."""
 
     result: Result
     a: LayerMeasures
@@ -38,6 +39,11 @@ class Measured(Generic[Result]):
     area: float
     twice_area: int
 
+    def _repr_svg_(self) -> Optional[str]:
+        return svg_of(self.result)
+
+    def _repr_html_(self) -> str:
+        return html_of(self.result, f"area {self.area}", *named([f"area {layer.area}" for layer in (self.a, self.b)]))
 
 
 def told(result: Any, measures: Measures, area: Callable[[int], float]) -> Measured[Any]:
